@@ -1,0 +1,33 @@
+use borrow.Author.Needs.{needs}
+use Rattle.wire.proofs.signed64.Statement.{statement}
+use Rattle.wire.proofs.signed64.Tie as tie
+use Rattle.wire.proofs.signed64.Reads as reads
+use Rattle.wire.proofs.signed64.Lts as lts
+
+-- src/lib.rt:164:16
+cast-result : tie.Need-cast-result
+cast-result c = search needs
+
+-- src/lib.rt:164:9
+returns : tie.Need-returns
+returns c = ?
+
+-- src/lib.rt:166:12
+sub-result : tie.Need-sub-result
+sub-result c = search needs
+
+-- src/lib.rt:166:11
+cast-result-2 : tie.Need-cast-result-2
+cast-result-2 c = search needs
+
+-- src/lib.rt:166:5
+sub-result-2 : tie.Need-sub-result-2
+sub-result-2 c = ?
+
+-- src/lib.rt:160:1
+returns-2 : tie.Need-returns-2
+returns-2 c = ?
+
+pub signed64-spec : {M : Type 1} → statement M
+signed64-spec =
+    tie.close (tie.spec cast-result returns sub-result cast-result-2 sub-result-2 returns-2)
