@@ -1,0 +1,80 @@
+use borrow.Author.Needs.{needs}
+use Rattle.network_message.proofs.Tallies.{listed-step, listed-done, total-next, positive-next}
+use Rattle.network_message.specs.Payload.{total, positive, listed, configuredSizes}
+use Rattle.wire.proofs.Reading.{lacks, holds, room}
+use Rattle.wire.specs.Number.{le}
+use borrow.Author.Tests.{leb-false}
+use denote.Ref.{now}
+use lib.Dec.{ltb}
+use lib.Seq.{take-all, length-take-le}
+use lib.ListN.{length, take, getD}
+use mathlib.Core.List.{List}
+use mathlib.Core.Bool.{Bool, _&&_, and-assoc, and-true}
+use mathlib.Core.Path.{_≡_, refl}
+use native.Mathlib.Nat.{le-refl}
+use native.Mathlib.Omega.{arith}
+use Prim.Native.Nat.{ℕ, _*_, _+_, _-_, _≤_, _<_}
+use Rattle.network_message.specs.Envelope.{answerIdentity, answerTimes, answerHeader, answerNetworkMessage}
+use Rattle.network_message.specs.Payload.{answerPayload}
+use Rattle.network_message.specs.Header.{answerClass, answerPayloadHeader, answerPromoted}
+use Rattle.network_message.specs.Group.{answerGroup}
+use Rattle.network_message.specs.Publisher.{answerPublisher}
+use Rattle.network_message.specs.Flags.{answerByte, answerFlags}
+use Rattle.wire.specs.Optional.{answerOptional16, answerOptional32, answerOptionalI64}
+use Rattle.wire.specs.Items.{answer8, answer16, answer32, answer64, answerRun, answerGuid, answerLength}
+use Rattle.wire.proofs.Reading.{told}
+use borrow.Author.Tests.{not-true, not-false, eq-eqb, ne-eqb, le-leb, lt-leb, lt-ltb, le-ltb}
+use mathlib.Core.Path.{sym, _∙_, ap}
+-- `network_message::payload::tally_listed` meets its contract.
+-- Assumes nothing.
+use Rattle.network_message.proofs.payload.tally_listed.Statement.{statement}
+use Rattle.network_message.proofs.payload.tally_listed.Tie as tie
+
+abbrev Inv-loop : tie.InvT-loop
+Inv-loop s at n p₀ left₀ sum₀ each₀ p left sum each =
+    (left ≤ n) × (p + 2 * left ≡ at + 2 * n) × (at + 2 * n ≤ length s) × (n ≤ 255) × (sum + total (listed left s p) ≡ total (listed n s at)) × ((each && positive (listed left s p)) ≡ positive (listed n s at)) × (sum + 65535 * left ≤ 65535 * n)
+
+abbrev μ-loop : tie.MeasureT-loop
+μ-loop s at n p₀ left₀ sum₀ each₀ p left sum each = left
+
+loop-holds : tie.Need-loop-holds Inv-loop μ-loop
+loop-holds c =
+    (le-refl _, refl, c .before .pre .0, c .before .pre .1, omega arith, refl, omega arith)
+
+size-at-requires : tie.Need-size-at-requires Inv-loop μ-loop
+size-at-requires c κs = search needs
+
+add-sum : tie.Need-add-sum Inv-loop μ-loop
+add-sum c = search needs
+
+add-p : tie.Need-add-p Inv-loop μ-loop
+add-p c = search needs
+
+sub-left : tie.Need-sub-left Inv-loop μ-loop
+sub-left c = search needs
+
+loop-less : tie.Need-loop-less Inv-loop μ-loop
+loop-less c = search needs
+
+loop-again : tie.Need-loop-again Inv-loop μ-loop
+loop-again c =
+    let s = now (c .before .before .before .before .args .s) in let l = c .before .before .loop in let e = listed-step (l .left) s (l .p) (c .before .loop-test .taken) in let z = c .size-at .result in (omega arith, omega arith, omega arith, omega arith, omega (arith, ap total e, c .size-at .ensures .0, l .inv .4), ap (λ (k : ℕ). (l .each && ltb 0 k) && positive (listed (l .left - 1) s (l .p + 2))) (c .size-at .ensures .0) ∙ and-assoc (l .each) (ltb 0 (le 2 s (l .p))) (positive (listed (l .left - 1) s (l .p + 2))) ∙ ap (λ (x : List ℕ). l .each && positive x) (sym e) ∙ l .inv .5, omega arith)
+
+returns : tie.Need-returns Inv-loop μ-loop
+returns c =
+    let s = now (c .before .before .before .args .s) in let l = c .before .loop in let e = listed-done (l .left) s (l .p) (c .loop-test .left) in (omega (arith, ap total e, l .inv .4), sym (and-true (l .each)) ∙ ap (λ (x : List ℕ). l .each && positive x) (sym e) ∙ l .inv .5, omega arith)
+
+pub tally-listed-spec : {M : Type 1} → statement M
+tally-listed-spec =
+    tie.close
+    (tie.spec
+    Inv-loop
+    μ-loop
+    loop-holds
+    size-at-requires
+    add-sum
+    add-p
+    sub-left
+    loop-less
+    loop-again
+    returns)
