@@ -1,3 +1,34 @@
+use Rattle.network_message.proofs.Messages.{none-past, pass-step, pass-stop, message-counted}
+use Rattle.network_message.specs.Payload.{answerStep, answerMessage, messageAt, passAt}
+use Rattle.wire.specs.Answer.{got, refused, andThen}
+use lib.Seq.{getD-take}
+use Rattle.network_message.proofs.Tallies.{size-is, size-there}
+use Rattle.network_message.proofs.Tallies.{listed-step, listed-done, total-next, positive-next}
+use Rattle.network_message.specs.Payload.{total, positive, listed, configuredSizes}
+use Rattle.wire.proofs.Reading.{lacks, holds, room}
+use Rattle.wire.specs.Number.{le}
+use borrow.Author.Tests.{leb-false}
+use denote.Ref.{now}
+use lib.Dec.{ltb}
+use lib.Seq.{take-all, length-take-le}
+use lib.ListN.{length, take, getD}
+use mathlib.Core.List.{List}
+use mathlib.Core.Bool.{Bool, _&&_, and-assoc, and-true}
+use mathlib.Core.Path.{_≡_, refl}
+use native.Mathlib.Nat.{le-refl}
+use native.Mathlib.Omega.{arith}
+use Prim.Native.Nat.{ℕ, _*_, _+_, _-_, _≤_, _<_}
+use Rattle.network_message.specs.Envelope.{answerIdentity, answerTimes, answerHeader, answerNetworkMessage}
+use Rattle.network_message.specs.Payload.{answerPayload}
+use Rattle.network_message.specs.Header.{answerClass, answerPayloadHeader, answerPromoted}
+use Rattle.network_message.specs.Group.{answerGroup}
+use Rattle.network_message.specs.Publisher.{answerPublisher}
+use Rattle.network_message.specs.Flags.{answerByte, answerFlags}
+use Rattle.wire.specs.Optional.{answerOptional16, answerOptional32, answerOptionalI64}
+use Rattle.wire.specs.Items.{answer8, answer16, answer32, answer64, answerRun, answerGuid, answerLength}
+use Rattle.wire.proofs.Reading.{told}
+use borrow.Author.Tests.{not-true, not-false, eq-eqb, ne-eqb, le-leb, lt-leb, lt-ltb, le-ltb}
+use mathlib.Core.Path.{sym, _∙_, ap}
 use borrow.Author.Needs.{needs}
 use Rattle.network_message.proofs.payload.listed_size.Statement.{statement}
 use Rattle.network_message.proofs.payload.listed_size.Tie as tie
@@ -7,7 +38,8 @@ use Rattle.network_message.proofs.payload.size_at.Reads as size-at-read
 
 -- src/payload.rt:200:9
 returns : tie.Need-returns
-returns c = ?
+returns c =
+    rw (lt-leb (c .before .before .args .p + 2 * c .before .before .args .k + 2) (length (now (c .before .before .args .s))) (omega arith))
 
 -- src/payload.rt:202:9
 sub-if2 : tie.Need-sub-if2
@@ -15,7 +47,8 @@ sub-if2 c = search needs
 
 -- src/payload.rt:203:9
 returns-2 : tie.Need-returns-2
-returns-2 c = ?
+returns-2 c =
+    rw (lt-leb (c .before .before .before .args .p + 2 * c .before .before .before .args .k + 2) (length (now (c .before .before .before .args .s))) (omega arith))
 
 -- src/payload.rt:205:20
 mul-size-at : tie.Need-mul-size-at
@@ -31,7 +64,8 @@ size-at-requires c κs = search needs
 
 -- src/payload.rt:196:1
 returns-3 : tie.Need-returns-3
-returns-3 c = ?
+returns-3 c =
+    rw (le-leb (c .before .before .before .before .args .p + 2 * c .before .before .before .before .args .k + 2) (length (now (c .before .before .before .before .args .s))) (omega arith)) (c .size-at .ensures .0)
 
 pub listed-size-spec : {M : Type 1} → statement M
 listed-size-spec =
