@@ -1,26 +1,23 @@
 -- Laws of walking over the messages of a payload, and the theorem that the messages of an accepted payload tile it.
 -- Assumes nothing.
+-- past a list's end there is 0
 use mathlib.Core.Path.{_≡_, refl, ap, sym, _∙_}
-use mathlib.Core.Bool.{Bool, true, false, cond, _&&_}
+use mathlib.Core.Bool.{Bool, true, false}
 use mathlib.Core.List.{List, [], _∷_}
-use mathlib.Core.Logic.{_⊎_, inl, inr, ⊎-elim}
-use Prim.Native.Nat.{ℕ, zero, suc, _+_, _*_, _-_, _≤_, _<_}
+use Prim.Native.Nat.{ℕ, zero, suc, _+_, _-_, _≤_, _<_}
 use native.Mathlib.Nat.{not-suc-le-zero}
 use native.Mathlib.Numerals.{add-one}
 use native.Mathlib.Omega.{arith}
-use borrow.Author.Tests.{le-leb, lt-leb, leb-true, leb-false, eqb-true, ltb-true}
-use lib.Dec.{leb, ltb, eqb}
+use borrow.Author.Tests.{le-leb, lt-leb, leb-true, leb-false}
+use lib.Dec.{leb}
 use lib.ListN.{length, take, getD}
-use Rattle.wire.specs.Number.{le}
-use Rattle.wire.specs.Answer.{Answer, got, refused, item, run, andThen}
-use Rattle.wire.proofs.Reading.{got-value, got-next, not-got, invert}
-use Rattle.network_message.specs.Payload.{total, positive, listed, configuredSizes, sizeOf, valueOr0, messageAt, passAt, nthAt}
+use Rattle.wire.specs.Answer.{got, refused, run}
+use Rattle.wire.proofs.Reading.{not-got}
+use Rattle.network_message.specs.Payload.{total, sizeOf, messageAt, passAt}
 use Rattle.network_message.proofs.Tallies.{total-next}
-use Rattle.network_message.specs.declared.payload.Sizes.{Sizes}
 use Rattle.network_message.specs.declared.payload.Payload.{Payload}
 use Rattle.network_message.specs.declared.payload.MessagePlace.{MessagePlace}
 
--- past a list's end there is 0
 pub none-past : (xs : List ℕ) (k : ℕ) → length xs ≤ k → getD xs k 0 ≡ 0
 none-past [] k h = refl
 none-past (x ∷ xs) zero h = absurd (not-suc-le-zero h)
@@ -84,11 +81,12 @@ before-all [] (suc k) h = absurd (not-suc-le-zero h)
 before-all (x ∷ zs) zero h = omega arith
 before-all (x ∷ zs) (suc k) h = omega (arith, before-all zs k (omega arith))
 
--- What "tile" says of a payload whose messages have the sizes zs: each stands where those before it end, and the last ends
--- where the datagram ends.
+-- What "tile" says of a payload whose messages have the sizes zs: each stands where those before it end and has at least a
+-- byte, and the last ends where the datagram ends.
 pub record Tiles (p : Payload) (sizes s zs : List ℕ) : Type 0 where
   pub many : length zs ≡ p .count
   pub whole : p .first + total zs ≡ length s
+  pub some : (k : ℕ) → k < length zs → 0 < getD zs k 0
   pub here : (k : ℕ) → k < length zs → sizeOf (p .sizes) sizes k s (p .first + before zs k) ≡ getD zs k 0
 
 module _ {p : Payload} {sizes s zs : List ℕ} (t : Tiles p sizes s zs) where

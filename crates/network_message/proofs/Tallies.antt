@@ -1,7 +1,8 @@
 -- Laws of lists of sizes: one size more, from the front and from the back.
 -- Assumes nothing.
+-- the sizes of a list on the wire, one after the other
 use mathlib.Core.Path.{_≡_, refl, ap, sym, _∙_}
-use mathlib.Core.Bool.{Bool, true, false, _&&_, and-assoc, and-true}
+use mathlib.Core.Bool.{Bool, _&&_, and-assoc, and-true}
 use mathlib.Core.List.{List, [], _∷_, _++_}
 use Prim.Native.Nat.{ℕ, zero, suc, _+_, _-_, _≤_, _<_}
 use native.Mathlib.Nat.{not-suc-le-zero}
@@ -16,7 +17,6 @@ use Rattle.wire.specs.Answer.{item, got, refused}
 use Rattle.wire.proofs.Reading.{got-value, not-got}
 use Rattle.network_message.specs.Payload.{total, positive, listed}
 
--- the sizes of a list on the wire, one after the other
 pub listed-step : (left : ℕ) (s : List ℕ) (p : ℕ) → 0 < left → listed left s p ≡ le 2 s p ∷ listed (left - 1) s (p + 2)
 listed-step zero s p h = absurd (not-suc-le-zero h)
 listed-step (suc n) s p h = rw sub-one

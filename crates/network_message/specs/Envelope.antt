@@ -1,14 +1,15 @@
 -- The NetworkMessage whole (document 01, "The envelope").
 use Prim.Native.Nat.{ℕ}
 use mathlib.Core.Bool.{Bool, cond}
-use mathlib.Core.List.{List}
-use lib.ListN.{length}
+use mathlib.Core.List.{List, []}
+use lib.ListN.{length, take, drop}
 use lib.Dec.{ltb}
-use Rattle.wire.specs.Answer.{Answer, got, refused, Reader, here, pure, _>>=_}
+use Rattle.wire.specs.Answer.{Answer, got, refused, Reader, here, pure, andThen, _>>=_}
 use Rattle.wire.specs.Optional.{optionalI64, picosecondsAt}
 use Rattle.network_message.specs.declared.flags.Flags.{Flags}
 use Rattle.network_message.specs.declared.header.PayloadHeader.{PayloadHeader}
 use Rattle.network_message.specs.declared.payload.Payload.{Payload}
+use Rattle.network_message.specs.declared.payload.MessagePlace.{MessagePlace}
 use Rattle.network_message.specs.declared.envelope.Identity.{Identity}
 use Rattle.network_message.specs.declared.envelope.IdentityRead.{IdentityRead}
 use Rattle.network_message.specs.declared.envelope.Times.{Times}
@@ -21,7 +22,7 @@ use Rattle.network_message.specs.Flags.{flagsAt}
 use Rattle.network_message.specs.Publisher.{publisherAt}
 use Rattle.network_message.specs.Group.{groupAt}
 use Rattle.network_message.specs.Header.{classAt, payloadHeaderAt, promotedAt}
-use Rattle.network_message.specs.Payload.{configuredSizes, payloadAt}
+use Rattle.network_message.specs.Payload.{configuredSizes, payloadAt, nthAt}
 
 -- what is read: the envelope, where its variable parts end, and where its messages stand
 pub record Header : Type 0 where
@@ -69,7 +70,7 @@ envelopeOf f i p t =
       «payload_header» = p;
       timestamp = t .timestamp;
       picoseconds = t .picoseconds;
-      promoted = t .promoted
+      promoted = t .promoted;
     }
 
 -- what stands between the flags and the payload
@@ -92,6 +93,15 @@ bodyAt f sizes = do
 -- "A datagram above 65,535 bytes is 10 before all else."
 abbrev pub networkMessageAt : List ℕ → List ℕ → Answer NetworkMessage
 networkMessageAt sizes s = cond (ltb 65535 (length s)) (refused 10 0) ((flagsAt >>= λ f. bodyAt f sizes) s 0)
+
+-- where message k of a datagram stands: the datagram's own refusal first, then 10 for a k past the last
+abbrev pub messagePlaceAt : List ℕ → ℕ → List ℕ → Answer MessagePlace
+messagePlaceAt sizes k s = andThen (networkMessageAt sizes s) (λ m first. nthAt (m .payload) sizes k s (m .payload .first))
+
+-- "Each data set message is handed on as its own part of the datagram": nothing where it is refused
+abbrev pub messageBytes : Answer MessagePlace → List ℕ → List ℕ
+messageBytes (got m next) s = take (m .length) (drop (m .offset) s)
+messageBytes (refused n place) s = []
 
 -- what the answers of the code say
 

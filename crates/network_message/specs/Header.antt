@@ -1,9 +1,12 @@
 -- DataSetClassId, PayloadHeader and promoted fields (document 01, "The envelope").
-use Prim.Native.Nat.{ℕ, _*_}
+use Prim.Native.Nat.{ℕ, _*_, _+_, _-_}
 use mathlib.Core.Bool.{Bool, cond}
-use lib.Dec.{eqb}
+use mathlib.Core.List.{List}
+use lib.Dec.{eqb, leb}
+use lib.ListN.{length, take, getD}
 use Rattle.wire.specs.Items.{guid}
 use Rattle.wire.specs.Answer.{Answer, got, refused, Reader, item, ruled, run, whenOn, pure, _>>=_, _>>_}
+use Rattle.wire.specs.declared.optional.Optional16.{Optional16}
 use Rattle.network_message.specs.declared.header.ClassId.{ClassId}
 use Rattle.network_message.specs.declared.header.ClassRead.{ClassRead}
 use Rattle.network_message.specs.declared.header.PayloadHeader.{PayloadHeader}
@@ -40,6 +43,25 @@ promotedAt on messages =
       n ← ruled 2 (sizeRule messages)
       run n
       pure (Promoted.Size n)
+
+-- the k-th of n ids that end at a position
+abbrev pub idOf : Answer ℕ → Optional16
+idOf (got v next) = Optional16.Is v
+idOf (refused n place) = Optional16.Absent
+
+abbrev pub listedId : ℕ → ℕ → ℕ → List ℕ → Optional16
+listedId n end k s = cond (leb n k) Optional16.Absent (idOf (item 2 s (end - 2 * n + 2 * k)))
+
+-- the k-th of the configured writers, of which the first 16 count
+abbrev pub configuredId : List ℕ → ℕ → Optional16
+configuredId ids k = cond (leb (length (take 16 ids)) k) Optional16.Absent (Optional16.Is (getD ids k 0))
+
+-- the DataSetWriterId of message k: its id in the PayloadHeader, which ends at a position; without a PayloadHeader "the
+-- configured writers apply in order"
+abbrev pub writerIdOf : PayloadHeader → ℕ → List ℕ → ℕ → List ℕ → Optional16
+writerIdOf PayloadHeader.Absent end ids k s = configuredId ids k
+writerIdOf (PayloadHeader.Ids n) end ids k s = listedId n end k s
+writerIdOf (PayloadHeader.Chunk w) end ids k s = Optional16.Is w
 
 -- what the answers of the code say
 

@@ -45,8 +45,8 @@ abbrev pub listedAt : ℕ → Reader Payload
 listedAt n s at =
     andThen (run (2 * n) s at)
     (λ _ next.
-      cond (positive (listed n s at) && eqb (next + total (listed n s at)) (length s))
-      (got (payloadOf n (Sizes.Listed at) next) next) (refused 6 at))
+    cond (positive (listed n s at) && eqb (next + total (listed n s at)) (length s))
+    (got (payloadOf n (Sizes.Listed at) next) next) (refused 6 at))
 
 -- "a sum unequal to the rest is 6", at the payload's first byte
 abbrev pub sizedAt : ℕ → ℕ → Reader Payload

@@ -1,13 +1,37 @@
 // The NetworkMessage: its envelope, from byte 0 to the payload, and where its messages stand.
-use crate::flags::{Flags, FlagsRead, read_flags};
-use crate::group::{GroupHeader, GroupRead, read_group};
-use crate::header::{ClassId, ClassRead, PayloadHeader, PayloadHeaderRead, Promoted, PromotedRead};
-use crate::header::{read_class_id, read_payload_header, read_promoted};
-use crate::payload::{Payload, PayloadRead, read_payload, writers};
-use crate::publisher::{PublisherId, PublisherRead, read_publisher};
-use wire::optional::{Optional16, Optional16Read, OptionalI64, OptionalI64Read, read_optional_i64, read_picoseconds};
+use crate::flags::Flags;
+use crate::flags::FlagsRead;
+use crate::flags::read_flags;
+use crate::group::GroupHeader;
+use crate::group::GroupRead;
+use crate::group::read_group;
+use crate::header::ClassId;
+use crate::header::ClassRead;
+use crate::header::PayloadHeader;
+use crate::header::PayloadHeaderRead;
+use crate::header::Promoted;
+use crate::header::PromotedRead;
+use crate::header::read_class_id;
+use crate::header::read_payload_header;
+use crate::header::read_promoted;
+use crate::payload::MessageRead;
+use crate::payload::Payload;
+use crate::payload::PayloadRead;
+use crate::payload::nth;
+use crate::payload::read_payload;
+use crate::payload::writers;
+use crate::publisher::PublisherId;
+use crate::publisher::PublisherRead;
+use crate::publisher::read_publisher;
+use wire::optional::Optional16;
+use wire::optional::Optional16Read;
+use wire::optional::OptionalI64;
+use wire::optional::OptionalI64Read;
+use wire::optional::read_optional_i64;
+use wire::optional::read_picoseconds;
 ghost use mathlib.Core.Path.{_≡_};
-ghost use Rattle.network_message.specs.Envelope.{identityAt, timesAt, messagesOf, headerAt, envelopeOf, bodyAt, networkMessageAt};
+ghost use Rattle.network_message.specs.Envelope.{identityAt, timesAt, messagesOf, headerAt, envelopeOf, bodyAt, networkMessageAt, messagePlaceAt, messageBytes};
+ghost use Rattle.network_message.specs.Payload.{answerMessage};
 ghost use Rattle.network_message.specs.Envelope.{answerIdentity, answerTimes, answerHeader, answerNetworkMessage};
 
 // PublisherId, DataSetClassId and group header, and where the PublisherId ends.
@@ -69,7 +93,11 @@ fn read_identity(s: &[u8], flags: Flags, at: usize) -> IdentityRead
 {
     match read_publisher(s, flags.publisher, flags.kind, at) {
         PublisherRead::Refused(n, place) => IdentityRead::Refused(n, place),
-        PublisherRead::Is(publisher, publisher_end) => match read_class_id(s, flags.class_id, publisher_end) {
+        PublisherRead::Is(publisher, publisher_end) => match read_class_id(
+            s,
+            flags.class_id,
+            publisher_end,
+        ) {
             ClassRead::Refused(n, place) => IdentityRead::Refused(n, place),
             ClassRead::Is(class_id, at) => match read_group(s, flags.group, at) {
                 GroupRead::Refused(n, place) => IdentityRead::Refused(n, place),
@@ -94,7 +122,12 @@ fn read_times(s: &[u8], flags: Flags, messages: usize, at: usize) -> TimesRead
         OptionalI64Read::Refused(n, place) => TimesRead::Refused(n, place),
         OptionalI64Read::Is(timestamp, at) => match read_picoseconds(s, flags.picoseconds, at) {
             Optional16Read::Refused(n, place) => TimesRead::Refused(n, place),
-            Optional16Read::Is(picoseconds, at) => match read_promoted(s, flags.promoted, messages, at) {
+            Optional16Read::Is(picoseconds, at) => match read_promoted(
+                s,
+                flags.promoted,
+                messages,
+                at,
+            ) {
                 PromotedRead::Refused(n, place) => TimesRead::Refused(n, place),
                 PromotedRead::Is(promoted, at) => TimesRead::Is(
                     Times {
@@ -149,7 +182,12 @@ fn read_header(s: &[u8], flags: Flags, configured: usize, at: usize) -> HeaderRe
 {
     match read_identity(s, flags, at) {
         IdentityRead::Refused(n, place) => HeaderRead::Refused(n, place),
-        IdentityRead::Is(i, at) => match read_payload_header(s, flags.payload_header, flags.chunk, at) {
+        IdentityRead::Is(i, at) => match read_payload_header(
+            s,
+            flags.payload_header,
+            flags.chunk,
+            at,
+        ) {
             PayloadHeaderRead::Refused(n, place) => HeaderRead::Refused(n, place),
             PayloadHeaderRead::Is(header, payload_header_end) => match read_times(
                 s,
@@ -196,5 +234,25 @@ pub fn read(s: &[u8], sizes: &[u16]) -> NetworkMessageRead
     match read_flags(s) {
         FlagsRead::Refused(n, place) => NetworkMessageRead::Refused(n, place),
         FlagsRead::Is(flags, at) => read_body(s, flags, sizes, at),
+    }
+}
+
+// Where message k of a datagram stands.
+pub fn message_place(s: &[u8], sizes: &[u16], k: usize) -> MessageRead
+    ensures { λ r. ⌜ answerMessage r ≡ messagePlaceAt (now (sizes .entry)) k (now (s .entry)) ⌝ }
+{
+    match read(s, sizes) {
+        NetworkMessageRead::Refused(n, place) => MessageRead::Refused(n, place),
+        NetworkMessageRead::Is(_, _, payload) => nth(s, payload, sizes, k),
+    }
+}
+
+// Message k as its own part of the datagram; empty where `message_place` refuses.
+pub fn message<'a>(s: &'a [u8], sizes: &[u16], k: usize) -> &'a [u8]
+    ensures { λ r. ⌜ now r ≡ messageBytes (messagePlaceAt (now (sizes .entry)) k (now (s .entry))) (now (s .entry)) ⌝ }
+{
+    match message_place(s, sizes, k) {
+        MessageRead::Refused(_, _) => wire::part::part(s, 0, 0),
+        MessageRead::Is(m, _) => wire::part::part(s, m.offset, m.length),
     }
 }

@@ -1,6 +1,12 @@
 // The group header.
-use wire::optional::{Optional16, Optional16Read, Optional32, Optional32Read, read_optional16, read_optional32};
-use wire::{Item16, Item8};
+use wire::Item8;
+use wire::Item16;
+use wire::optional::Optional16;
+use wire::optional::Optional16Read;
+use wire::optional::Optional32;
+use wire::optional::Optional32Read;
+use wire::optional::read_optional16;
+use wire::optional::read_optional32;
 ghost use mathlib.Core.Path.{_≡_};
 ghost use Rattle.wire.specs.Optional.{answerOptional16};
 ghost use Rattle.network_message.specs.Group.{numberAt, groupFieldsAt, groupAt, answerGroup};

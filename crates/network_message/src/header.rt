@@ -1,7 +1,14 @@
 // DataSetClassId, PayloadHeader and promoted fields.
-use wire::{Guid, Item16, Item8, ItemGuid, Run};
+use crate::payload::rest_size;
+use crate::payload::writers;
+use wire::Guid;
+use wire::Item8;
+use wire::Item16;
+use wire::ItemGuid;
+use wire::Run;
+use wire::optional::Optional16;
 ghost use mathlib.Core.Path.{_≡_};
-ghost use Rattle.network_message.specs.Header.{classAt, payloadHeaderAt, idsAt, promotedAt};
+ghost use Rattle.network_message.specs.Header.{classAt, payloadHeaderAt, idsAt, promotedAt, writerIdOf, listedId, configuredId};
 ghost use Rattle.network_message.specs.Header.{answerClass, answerPayloadHeader, answerPromoted};
 
 // A DataSetClassId.
@@ -98,4 +105,39 @@ pub fn read_promoted(s: &[u8], on: bool, messages: usize, at: usize) -> Promoted
         return PromotedRead::Refused(1, start);
     };
     PromotedRead::Is(Promoted::Size(size), next)
+}
+
+// The k-th of n DataSetWriterIds that end at a position.
+fn listed_id(s: &[u8], n: u8, end: usize, k: usize) -> Optional16
+    ensures { λ r. ⌜ r ≡ listedId n end k (now (s .entry)) ⌝ }
+{
+    let count = n as usize;
+    if count <= k {
+        return Optional16::Absent;
+    }
+    let Item16::Is(v, _) = wire::read16(s, rest_size(end, 2 * count) + 2 * k) else {
+        return Optional16::Absent;
+    };
+    Optional16::Is(v)
+}
+
+// The k-th configured DataSetWriterId.
+fn configured_id(ids: &[u16], k: usize) -> Optional16
+    ensures { λ r. ⌜ r ≡ configuredId (now (ids .entry)) k ⌝ }
+{
+    if writers(ids) <= k {
+        return Optional16::Absent;
+    }
+    Optional16::Is(ids[k])
+}
+
+// The DataSetWriterId of message k: the k-th of a PayloadHeader that ends at a position, or of the configured writers.
+pub fn writer_id(s: &[u8], header: PayloadHeader, end: usize, ids: &[u16], k: usize) -> Optional16
+    ensures { λ r. ⌜ r ≡ writerIdOf header end (now (ids .entry)) k (now (s .entry)) ⌝ }
+{
+    match header {
+        PayloadHeader::Absent => configured_id(ids, k),
+        PayloadHeader::Ids(n) => listed_id(s, n, end, k),
+        PayloadHeader::Chunk(w) => Optional16::Is(w),
+    }
 }

@@ -1,6 +1,7 @@
 // The payload: where its DataSetMessages stand.
 use crate::header::PayloadHeader;
-use wire::{Item16, Run};
+use wire::Item16;
+use wire::Run;
 ghost use mathlib.Core.Path.{_≡_};
 ghost use Prim.Native.Nat.{_+_, _*_, _-_, _≤_};
 ghost use lib.ListN.{length, take, getD};
@@ -61,7 +62,10 @@ fn tally_listed(s: &[u8], at: usize, n: usize) -> Tally
         p = p + 2;
         left = left - 1;
     }
-    Tally { total: sum, positive: each }
+    Tally {
+        total: sum,
+        positive: each,
+    }
 }
 
 // The first n configured sizes.
@@ -78,14 +82,21 @@ fn tally_configured(sizes: &[u16], n: usize) -> Tally
         each = each & (0 < z);
         i = i + 1;
     }
-    Tally { total: sum, positive: each }
+    Tally {
+        total: sum,
+        positive: each,
+    }
 }
 
 fn rest(s: &[u8], at: usize) -> PayloadRead
     ensures { λ r. ⌜ answerPayload r ≡ restAt (now (s .entry)) at ⌝ }
 {
     if at < s.len() {
-        return PayloadRead::Is(Payload { count: 1, sizes: Sizes::Rest, first: at });
+        return PayloadRead::Is(Payload {
+            count: 1,
+            sizes: Sizes::Rest,
+            first: at,
+        });
     }
     PayloadRead::Refused(1, at)
 }
@@ -105,7 +116,11 @@ fn listed_sizes(s: &[u8], n: u8, at: usize) -> PayloadRead
     if t.total != s.len() - first {
         return PayloadRead::Refused(6, at);
     }
-    PayloadRead::Is(Payload { count, sizes: Sizes::Listed(at), first })
+    PayloadRead::Is(Payload {
+        count,
+        sizes: Sizes::Listed(at),
+        first,
+    })
 }
 
 // How many of the configured writers count.
@@ -128,7 +143,11 @@ fn sized(s: &[u8], n: usize, total: usize, at: usize) -> PayloadRead
     if total != s.len() - at {
         return PayloadRead::Refused(6, at);
     }
-    PayloadRead::Is(Payload { count: n, sizes: Sizes::Configured, first: at })
+    PayloadRead::Is(Payload {
+        count: n,
+        sizes: Sizes::Configured,
+        first: at,
+    })
 }
 
 fn configured_sizes(s: &[u8], sizes: &[u16], at: usize) -> PayloadRead
@@ -149,7 +168,13 @@ fn configured_sizes(s: &[u8], sizes: &[u16], at: usize) -> PayloadRead
 }
 
 // The payload after a payload header.
-pub fn read_payload(s: &[u8], chunk: bool, header: PayloadHeader, sizes: &[u16], at: usize) -> PayloadRead
+pub fn read_payload(
+    s: &[u8],
+    chunk: bool,
+    header: PayloadHeader,
+    sizes: &[u16],
+    at: usize,
+) -> PayloadRead
     ensures { λ r. ⌜ answerPayload r ≡ payloadAt chunk header (now (sizes .entry)) (now (s .entry)) at ⌝ }
 {
     match header {
@@ -165,7 +190,11 @@ pub fn read_payload(s: &[u8], chunk: bool, header: PayloadHeader, sizes: &[u16],
             }
             listed_sizes(s, n, at)
         }
-        PayloadHeader::Chunk(_) => PayloadRead::Is(Payload { count: 0, sizes: Sizes::Rest, first: at }),
+        PayloadHeader::Chunk(_) => PayloadRead::Is(Payload {
+            count: 0,
+            sizes: Sizes::Rest,
+            first: at,
+        }),
     }
 }
 
@@ -215,8 +244,8 @@ fn configured_size(sizes: &[u16], k: usize) -> usize
     sizes[k] as usize
 }
 
-// The rest of a slice of this length from a position on.
-fn rest_size(len: usize, at: usize) -> usize
+// How much of a slice of this length is left from a position on.
+pub fn rest_size(len: usize, at: usize) -> usize
     ensures { λ r. ⌜ r ≡ len - at ⌝ }
 {
     if len < at {
@@ -247,7 +276,14 @@ fn message_at(s: &[u8], p: Payload, sizes: &[u16], k: usize, at: usize) -> Messa
     let Run::To(next) = wire::skip(s, at, length) else {
         return MessageRead::Refused(1, at);
     };
-    MessageRead::Is(MessagePlace { index: k, offset: at, length }, next)
+    MessageRead::Is(
+        MessagePlace {
+            index: k,
+            offset: at,
+            length,
+        },
+        next,
+    )
 }
 
 impl MessageCursor {
@@ -258,13 +294,19 @@ impl MessageCursor {
         let k = self.index;
         match message_at(s, p, sizes, k, self.at) {
             MessageRead::Refused(n, place) => MessageStep::Refused(n, place),
-            MessageRead::Is(m, next) => MessageStep::Is(m, MessageCursor { index: k + 1, at: next }),
+            MessageRead::Is(m, next) => MessageStep::Is(
+                m,
+                MessageCursor {
+                    index: k + 1,
+                    at: next,
+                },
+            ),
         }
     }
 }
 
 // Message k of a payload, found from the start of the first.
-fn nth(s: &[u8], p: Payload, sizes: &[u16], k: usize) -> MessageRead
+pub fn nth(s: &[u8], p: Payload, sizes: &[u16], k: usize) -> MessageRead
     ensures { λ r. ⌜ answerMessage r ≡ nthAt p (now (sizes .entry)) k (now (s .entry)) (p .first) ⌝ }
 {
     let mut at = p.first;

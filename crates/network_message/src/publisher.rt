@@ -1,5 +1,11 @@
 // The PublisherId.
-use wire::{Item16, Item32, Item64, Item8, ItemLength, Length, Run};
+use wire::Item8;
+use wire::Item16;
+use wire::Item32;
+use wire::Item64;
+use wire::ItemLength;
+use wire::Length;
+use wire::Run;
 ghost use mathlib.Core.Path.{_≡_};
 ghost use Rattle.network_message.specs.Publisher.{stringOf, stringAt, publisherAt, answerPublisher};
 

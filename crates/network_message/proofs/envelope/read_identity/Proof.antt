@@ -9,33 +9,6 @@ use Rattle.wire.proofs.Reading.{told}
 use Rattle.network_message.proofs.envelope.read_identity.Statement.{statement}
 use Rattle.network_message.proofs.envelope.read_identity.Tie as tie
 
-read-publisher-requires : tie.Need-read-publisher-requires
-read-publisher-requires c κs = search needs
-
-enum-known-n : tie.Need-enum-known-n
-enum-known-n c = search needs
-
-enum-known-publisher : tie.Need-enum-known-publisher
-enum-known-publisher c = search needs
-
-read-class-id-requires : tie.Need-read-class-id-requires
-read-class-id-requires c κs = search needs
-
-enum-known-n-2 : tie.Need-enum-known-n-2
-enum-known-n-2 c = search needs
-
-enum-known-class-id : tie.Need-enum-known-class-id
-enum-known-class-id c = search needs
-
-read-group-requires : tie.Need-read-group-requires
-read-group-requires c κs = search needs
-
-enum-known-n-3 : tie.Need-enum-known-n-3
-enum-known-n-3 c = search needs
-
-enum-known-group : tie.Need-enum-known-group
-enum-known-group c = search needs
-
 returns : tie.Need-returns
 returns c =
     rw (sym (told answerPublisher (c .before .before .before .read-publisher .ensures) (c .before .n .given .1)))
@@ -56,15 +29,15 @@ pub read-identity-spec : {M : Type 1} → statement M
 read-identity-spec =
     tie.close
     (tie.spec
-    read-publisher-requires
-    enum-known-n
-    enum-known-publisher
-    read-class-id-requires
-    enum-known-n-2
-    enum-known-class-id
-    read-group-requires
-    enum-known-n-3
-    enum-known-group
+    (λ c κs. search needs)
+    (λ c. search needs)
+    (λ c. search needs)
+    (λ c κs. search needs)
+    (λ c. search needs)
+    (λ c. search needs)
+    (λ c κs. search needs)
+    (λ c. search needs)
+    (λ c. search needs)
     returns
     returns-2
     returns-3

@@ -8,33 +8,6 @@ use Rattle.wire.proofs.Reading.{told}
 use Rattle.network_message.proofs.envelope.read_times.Statement.{statement}
 use Rattle.network_message.proofs.envelope.read_times.Tie as tie
 
-read-optional-i64-requires : tie.Need-read-optional-i64-requires
-read-optional-i64-requires c κs = search needs
-
-enum-known-n : tie.Need-enum-known-n
-enum-known-n c = search needs
-
-enum-known-timestamp : tie.Need-enum-known-timestamp
-enum-known-timestamp c = search needs
-
-read-picoseconds-requires : tie.Need-read-picoseconds-requires
-read-picoseconds-requires c κs = search needs
-
-enum-known-n-2 : tie.Need-enum-known-n-2
-enum-known-n-2 c = search needs
-
-enum-known-picoseconds : tie.Need-enum-known-picoseconds
-enum-known-picoseconds c = search needs
-
-read-promoted-requires : tie.Need-read-promoted-requires
-read-promoted-requires c κs = search needs
-
-enum-known-n-3 : tie.Need-enum-known-n-3
-enum-known-n-3 c = search needs
-
-enum-known-promoted : tie.Need-enum-known-promoted
-enum-known-promoted c = search needs
-
 returns : tie.Need-returns
 returns c =
     rw (sym (told answerOptionalI64 (c .before .before .before .read-optional-i64 .ensures) (c .before .n .given .1)))
@@ -55,15 +28,15 @@ pub read-times-spec : {M : Type 1} → statement M
 read-times-spec =
     tie.close
     (tie.spec
-    read-optional-i64-requires
-    enum-known-n
-    enum-known-timestamp
-    read-picoseconds-requires
-    enum-known-n-2
-    enum-known-picoseconds
-    read-promoted-requires
-    enum-known-n-3
-    enum-known-promoted
+    (λ c κs. search needs)
+    (λ c. search needs)
+    (λ c. search needs)
+    (λ c κs. search needs)
+    (λ c. search needs)
+    (λ c. search needs)
+    (λ c κs. search needs)
+    (λ c. search needs)
+    (λ c. search needs)
     returns
     returns-2
     returns-3

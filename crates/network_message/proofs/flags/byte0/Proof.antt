@@ -8,21 +8,9 @@ use Rattle.wire.proofs.Reading.{told}
 use Rattle.network_message.proofs.flags.byte0.Statement.{statement}
 use Rattle.network_message.proofs.flags.byte0.Tie as tie
 
-read8-requires : tie.Need-read8-requires
-read8-requires c κs = search needs
-
-enum-known-b : tie.Need-enum-known-b
-enum-known-b c = search needs
-
-enum-told : tie.Need-enum-told
-enum-told c = search needs
-
 returns : tie.Need-returns
 returns c =
     rw (sym (told (answer8 0) (c .before .before .read8 .ensures) (c .enum-told .given .1)))
-
-byte0-rule-requires : tie.Need-byte0-rule-requires
-byte0-rule-requires c κs = search needs
 
 returns-2 : tie.Need-returns-2
 returns-2 c =
@@ -36,10 +24,10 @@ pub byte0-spec : {M : Type 1} → statement M
 byte0-spec =
     tie.close
     (tie.spec
-    read8-requires
-    enum-known-b
-    enum-told
+    (λ c κs. search needs)
+    (λ c. search needs)
+    (λ c. search needs)
     returns
-    byte0-rule-requires
+    (λ c κs. search needs)
     returns-2
     returns-3)

@@ -11,21 +11,9 @@ use Rattle.network_message.proofs.flags.extended1.Tie as tie
 returns : tie.Need-returns
 returns c = rw (not-true (c .before .before .args .on) (c .if1 .taken))
 
-read8-requires : tie.Need-read8-requires
-read8-requires c κs = search needs
-
-enum-known-e : tie.Need-enum-known-e
-enum-known-e c = search needs
-
-enum-told : tie.Need-enum-told
-enum-told c = search needs
-
 returns-2 : tie.Need-returns-2
 returns-2 c =
     rw (not-false (c .before .before .before .before .before .args .on) (c .before .before .before .if1 .left), sym (told (answer8 (c .before .before .before .before .before .args .at)) (c .before .before .read8 .ensures) (c .enum-told .given .1)))
-
-extended1-rule-requires : tie.Need-extended1-rule-requires
-extended1-rule-requires c κs = search needs
 
 returns-3 : tie.Need-returns-3
 returns-3 c =
@@ -40,10 +28,10 @@ extended1-spec =
     tie.close
     (tie.spec
     returns
-    read8-requires
-    enum-known-e
-    enum-told
+    (λ c κs. search needs)
+    (λ c. search needs)
+    (λ c. search needs)
     returns-2
-    extended1-rule-requires
+    (λ c κs. search needs)
     returns-3
     returns-4)

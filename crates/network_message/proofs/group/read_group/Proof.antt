@@ -11,15 +11,6 @@ use Rattle.network_message.proofs.group.read_group.Tie as tie
 returns : tie.Need-returns
 returns c = rw (not-true (c .before .before .args .on) (c .if1 .taken))
 
-read8-requires : tie.Need-read8-requires
-read8-requires c κs = search needs
-
-enum-known-flags : tie.Need-enum-known-flags
-enum-known-flags c = search needs
-
-enum-told : tie.Need-enum-told
-enum-told c = search needs
-
 returns-2 : tie.Need-returns-2
 returns-2 c =
     rw (not-false (c .before .before .before .before .before .args .on) (c .before .before .before .if1 .left), sym (told (answer8 (c .before .before .before .before .before .args .at)) (c .before .before .read8 .ensures) (c .enum-told .given .1)))
@@ -27,9 +18,6 @@ returns-2 c =
 returns-3 : tie.Need-returns-3
 returns-3 c =
     rw (not-false (c .before .before .before .before .before .before .before .args .on) (c .before .before .before .before .before .if1 .left), sym (told (answer8 (c .before .before .before .before .before .before .before .args .at)) (c .before .before .before .before .read8 .ensures) (c .before .before .flags .given .1)), le-leb _ _ (c .if2 .taken))
-
-group-fields-requires : tie.Need-group-fields-requires
-group-fields-requires c κs = search needs
 
 returns-4 : tie.Need-returns-4
 returns-4 c =
@@ -40,10 +28,10 @@ read-group-spec =
     tie.close
     (tie.spec
     returns
-    read8-requires
-    enum-known-flags
-    enum-told
+    (λ c κs. search needs)
+    (λ c. search needs)
+    (λ c. search needs)
     returns-2
     returns-3
-    group-fields-requires
+    (λ c κs. search needs)
     returns-4)

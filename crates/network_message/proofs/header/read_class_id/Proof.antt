@@ -11,15 +11,6 @@ use Rattle.network_message.proofs.header.read_class_id.Tie as tie
 returns : tie.Need-returns
 returns c = rw (not-true (c .before .before .args .on) (c .if1 .taken))
 
-read-guid-requires : tie.Need-read-guid-requires
-read-guid-requires c κs = search needs
-
-enum-known-v : tie.Need-enum-known-v
-enum-known-v c = search needs
-
-enum-told : tie.Need-enum-told
-enum-told c = search needs
-
 returns-2 : tie.Need-returns-2
 returns-2 c =
     rw (not-false (c .before .before .before .before .before .args .on) (c .before .before .before .if1 .left), sym (told (answerGuid (c .before .before .before .before .before .args .at)) (c .before .before .read-guid .ensures) (c .enum-told .given .1)))
@@ -30,4 +21,4 @@ returns-3 c =
 
 pub read-class-id-spec : {M : Type 1} → statement M
 read-class-id-spec =
-    tie.close (tie.spec returns read-guid-requires enum-known-v enum-told returns-2 returns-3)
+    tie.close (tie.spec returns (λ c κs. search needs) (λ c. search needs) (λ c. search needs) returns-2 returns-3)

@@ -11,15 +11,6 @@ use Rattle.network_message.proofs.header.read_payload_header.Tie as tie
 returns : tie.Need-returns
 returns c = rw (not-true (c .before .before .args .on) (c .if1 .taken))
 
-read16-requires : tie.Need-read16-requires
-read16-requires c κs = search needs
-
-enum-known-v : tie.Need-enum-known-v
-enum-known-v c = search needs
-
-enum-told : tie.Need-enum-told
-enum-told c = search needs
-
 returns-2 : tie.Need-returns-2
 returns-2 c =
     rw (not-false (c .before .before .before .before .before .before .args .on) (c .before .before .before .before .if1 .left), c .before .before .before .if2 .taken, sym (told (answer16 (c .before .before .before .before .before .before .args .at)) (c .before .before .read16 .ensures) (c .enum-told .given .1)))
@@ -27,9 +18,6 @@ returns-2 c =
 returns-3 : tie.Need-returns-3
 returns-3 c =
     rw (not-false (c .before .before .before .before .before .before .before .args .on) (c .before .before .before .before .before .if1 .left), c .before .before .before .before .if2 .taken, sym (told (answer16 (c .before .before .before .before .before .before .before .args .at)) (c .before .before .before .read16 .ensures) (c .before .v .given .1)))
-
-ids-requires : tie.Need-ids-requires
-ids-requires c κs = search needs
 
 returns-4 : tie.Need-returns-4
 returns-4 c =
@@ -40,10 +28,10 @@ read-payload-header-spec =
     tie.close
     (tie.spec
     returns
-    read16-requires
-    enum-known-v
-    enum-told
+    (λ c κs. search needs)
+    (λ c. search needs)
+    (λ c. search needs)
     returns-2
     returns-3
-    ids-requires
+    (λ c κs. search needs)
     returns-4)

@@ -1,32 +1,18 @@
-use borrow.Author.Needs.{needs}
-use Rattle.network_message.proofs.Tallies.{listed-step, listed-done, total-next, positive-next}
-use Rattle.network_message.specs.Payload.{total, positive, listed, configuredSizes}
-use Rattle.wire.proofs.Reading.{lacks, holds, room}
-use Rattle.wire.specs.Number.{le}
-use borrow.Author.Tests.{leb-false}
-use denote.Ref.{now}
-use lib.Dec.{ltb}
-use lib.Seq.{take-all, length-take-le}
-use lib.ListN.{length, take, getD}
-use mathlib.Core.List.{List}
-use mathlib.Core.Bool.{Bool, _&&_, and-assoc, and-true}
-use mathlib.Core.Path.{_≡_, refl}
-use native.Mathlib.Nat.{le-refl}
-use native.Mathlib.Omega.{arith}
-use Prim.Native.Nat.{ℕ, _*_, _+_, _-_, _≤_, _<_}
-use Rattle.network_message.specs.Envelope.{answerIdentity, answerTimes, answerHeader, answerNetworkMessage}
-use Rattle.network_message.specs.Payload.{answerPayload}
-use Rattle.network_message.specs.Header.{answerClass, answerPayloadHeader, answerPromoted}
-use Rattle.network_message.specs.Group.{answerGroup}
-use Rattle.network_message.specs.Publisher.{answerPublisher}
-use Rattle.network_message.specs.Flags.{answerByte, answerFlags}
-use Rattle.wire.specs.Optional.{answerOptional16, answerOptional32, answerOptionalI64}
-use Rattle.wire.specs.Items.{answer8, answer16, answer32, answer64, answerRun, answerGuid, answerLength}
-use Rattle.wire.proofs.Reading.{told}
-use borrow.Author.Tests.{not-true, not-false, eq-eqb, ne-eqb, le-leb, lt-leb, lt-ltb, le-ltb}
-use mathlib.Core.Path.{sym, _∙_, ap}
 -- `network_message::payload::tally_listed` meets its contract.
 -- Assumes nothing.
+use borrow.Author.Needs.{needs}
+use denote.Ref.{now}
+use lib.Dec.{ltb}
+use lib.ListN.{length}
+use mathlib.Core.List.{List}
+use mathlib.Core.Bool.{_&&_, and-assoc, and-true}
+use mathlib.Core.Path.{_≡_, refl, sym, _∙_, ap}
+use native.Mathlib.Nat.{le-refl}
+use native.Mathlib.Omega.{arith}
+use Prim.Native.Nat.{ℕ, _*_, _+_, _-_, _≤_}
+use Rattle.network_message.proofs.Tallies.{listed-step, listed-done}
+use Rattle.network_message.specs.Payload.{total, positive, listed}
+use Rattle.wire.specs.Number.{le}
 use Rattle.network_message.proofs.payload.tally_listed.Statement.{statement}
 use Rattle.network_message.proofs.payload.tally_listed.Tie as tie
 
@@ -40,21 +26,6 @@ abbrev μ-loop : tie.MeasureT-loop
 loop-holds : tie.Need-loop-holds Inv-loop μ-loop
 loop-holds c =
     (le-refl _, refl, c .before .pre .0, c .before .pre .1, omega arith, refl, omega arith)
-
-size-at-requires : tie.Need-size-at-requires Inv-loop μ-loop
-size-at-requires c κs = search needs
-
-add-sum : tie.Need-add-sum Inv-loop μ-loop
-add-sum c = search needs
-
-add-p : tie.Need-add-p Inv-loop μ-loop
-add-p c = search needs
-
-sub-left : tie.Need-sub-left Inv-loop μ-loop
-sub-left c = search needs
-
-loop-less : tie.Need-loop-less Inv-loop μ-loop
-loop-less c = search needs
 
 loop-again : tie.Need-loop-again Inv-loop μ-loop
 loop-again c =
@@ -71,10 +42,10 @@ tally-listed-spec =
     Inv-loop
     μ-loop
     loop-holds
-    size-at-requires
-    add-sum
-    add-p
-    sub-left
-    loop-less
+    (λ c κs. search needs)
+    (λ c. search needs)
+    (λ c. search needs)
+    (λ c. search needs)
+    (λ c. search needs)
     loop-again
     returns)

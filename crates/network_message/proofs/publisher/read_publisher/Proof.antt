@@ -11,15 +11,6 @@ use Rattle.network_message.proofs.publisher.read_publisher.Tie as tie
 returns : tie.Need-returns
 returns c = rw (not-true (c .before .before .args .on) (c .if1 .taken))
 
-read8-requires : tie.Need-read8-requires
-read8-requires c κs = search needs
-
-enum-known-v : tie.Need-enum-known-v
-enum-known-v c = search needs
-
-enum-told : tie.Need-enum-told
-enum-told c = search needs
-
 returns-2 : tie.Need-returns-2
 returns-2 c =
     rw (not-false (c .before .before .before .before .before .before .args .on) (c .before .before .before .before .if1 .left), eq-eqb _ _ (c .before .before .before .if2 .taken), sym (told (answer8 (c .before .before .before .before .before .before .args .at)) (c .before .before .read8 .ensures) (c .enum-told .given .1)))
@@ -27,15 +18,6 @@ returns-2 c =
 returns-3 : tie.Need-returns-3
 returns-3 c =
     rw (not-false (c .before .before .before .before .before .before .before .args .on) (c .before .before .before .before .before .if1 .left), eq-eqb _ _ (c .before .before .before .before .if2 .taken), sym (told (answer8 (c .before .before .before .before .before .before .before .args .at)) (c .before .before .before .read8 .ensures) (c .before .v .given .1)))
-
-read16-requires : tie.Need-read16-requires
-read16-requires c κs = search needs
-
-enum-known-v-2 : tie.Need-enum-known-v-2
-enum-known-v-2 c = search needs
-
-enum-told-2 : tie.Need-enum-told-2
-enum-told-2 c = search needs
 
 returns-4 : tie.Need-returns-4
 returns-4 c =
@@ -45,15 +27,6 @@ returns-5 : tie.Need-returns-5
 returns-5 c =
     rw (not-false (c .before .before .before .before .before .before .before .before .args .on) (c .before .before .before .before .before .before .if1 .left), ne-eqb _ _ (c .before .before .before .before .before .if2 .left), eq-eqb _ _ (c .before .before .before .before .if3 .taken), sym (told (answer16 (c .before .before .before .before .before .before .before .before .args .at)) (c .before .before .before .read16 .ensures) (c .before .v2 .given .1)))
 
-read32-requires : tie.Need-read32-requires
-read32-requires c κs = search needs
-
-enum-known-v-3 : tie.Need-enum-known-v-3
-enum-known-v-3 c = search needs
-
-enum-told-3 : tie.Need-enum-told-3
-enum-told-3 c = search needs
-
 returns-6 : tie.Need-returns-6
 returns-6 c =
     rw (not-false (c .before .before .before .before .before .before .before .before .args .on) (c .before .before .before .before .before .before .if1 .left), ne-eqb _ _ (c .before .before .before .before .before .if2 .left), ne-eqb _ _ (c .before .before .before .before .if3 .left), eq-eqb _ _ (c .before .before .before .if4 .taken), sym (told (answer32 (c .before .before .before .before .before .before .before .before .args .at)) (c .before .before .read32 .ensures) (c .enum-told3 .given .1)))
@@ -62,15 +35,6 @@ returns-7 : tie.Need-returns-7
 returns-7 c =
     rw (not-false (c .before .before .before .before .before .before .before .before .before .args .on) (c .before .before .before .before .before .before .before .if1 .left), ne-eqb _ _ (c .before .before .before .before .before .before .if2 .left), ne-eqb _ _ (c .before .before .before .before .before .if3 .left), eq-eqb _ _ (c .before .before .before .before .if4 .taken), sym (told (answer32 (c .before .before .before .before .before .before .before .before .before .args .at)) (c .before .before .before .read32 .ensures) (c .before .v3 .given .1)))
 
-read64-requires : tie.Need-read64-requires
-read64-requires c κs = search needs
-
-enum-known-v-4 : tie.Need-enum-known-v-4
-enum-known-v-4 c = search needs
-
-enum-told-4 : tie.Need-enum-told-4
-enum-told-4 c = search needs
-
 returns-8 : tie.Need-returns-8
 returns-8 c =
     rw (not-false (c .before .before .before .before .before .before .before .before .before .args .on) (c .before .before .before .before .before .before .before .if1 .left), ne-eqb _ _ (c .before .before .before .before .before .before .if2 .left), ne-eqb _ _ (c .before .before .before .before .before .if3 .left), ne-eqb _ _ (c .before .before .before .before .if4 .left), eq-eqb _ _ (c .before .before .before .if5 .taken), sym (told (answer64 (c .before .before .before .before .before .before .before .before .before .args .at)) (c .before .before .read64 .ensures) (c .enum-told4 .given .1)))
@@ -78,9 +42,6 @@ returns-8 c =
 returns-9 : tie.Need-returns-9
 returns-9 c =
     rw (not-false (c .before .before .before .before .before .before .before .before .before .before .args .on) (c .before .before .before .before .before .before .before .before .if1 .left), ne-eqb _ _ (c .before .before .before .before .before .before .before .if2 .left), ne-eqb _ _ (c .before .before .before .before .before .before .if3 .left), ne-eqb _ _ (c .before .before .before .before .before .if4 .left), eq-eqb _ _ (c .before .before .before .before .if5 .taken), sym (told (answer64 (c .before .before .before .before .before .before .before .before .before .before .args .at)) (c .before .before .before .read64 .ensures) (c .before .v4 .given .1)))
-
-string-id-requires : tie.Need-string-id-requires
-string-id-requires c κs = search needs
 
 returns-10 : tie.Need-returns-10
 returns-10 c =
@@ -91,25 +52,25 @@ read-publisher-spec =
     tie.close
     (tie.spec
     returns
-    read8-requires
-    enum-known-v
-    enum-told
+    (λ c κs. search needs)
+    (λ c. search needs)
+    (λ c. search needs)
     returns-2
     returns-3
-    read16-requires
-    enum-known-v-2
-    enum-told-2
+    (λ c κs. search needs)
+    (λ c. search needs)
+    (λ c. search needs)
     returns-4
     returns-5
-    read32-requires
-    enum-known-v-3
-    enum-told-3
+    (λ c κs. search needs)
+    (λ c. search needs)
+    (λ c. search needs)
     returns-6
     returns-7
-    read64-requires
-    enum-known-v-4
-    enum-told-4
+    (λ c κs. search needs)
+    (λ c. search needs)
+    (λ c. search needs)
     returns-8
     returns-9
-    string-id-requires
+    (λ c κs. search needs)
     returns-10)
