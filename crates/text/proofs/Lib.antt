@@ -1,0 +1,4 @@
+pub mod Lists
+pub mod Digits
+pub mod Numerals
+pub mod Putting
