@@ -1,0 +1,157 @@
+-- Measuring a value is steady: its answer lies within the slice, depends on the bytes measured only, and moves with them.
+-- Assumes nothing.
+use mathlib.Core.Path.{_≡_, refl, subst}
+use mathlib.Core.Bool.{Bool, true, false, cond}
+use mathlib.Core.List.{List, _++_}
+use Prim.Native.Nat.{ℕ, zero, suc, _+_, _*_, _-_, _<_, _≤_}
+use native.Mathlib.Nat.{le-refl, le-add-right}
+use native.Mathlib.Omega.{arith}
+use lib.Dec.{eqb, leb}
+use lib.ListN.{length, getD, take, drop}
+use borrow.Author.Tests.{leb-true, leb-false}
+use Rattle.wire.specs.Number.{le}
+use Rattle.wire.specs.Answer.{Answer, got, refused, Reader, _>>=_, ruled, bit}
+use Rattle.wire.specs.declared.Length.{Length}
+use Rattle.value.specs.Width.{widthOf, fixed}
+use Rattle.value.specs.Plain.{passing, bytes, afterLength, byLength, string, plain, plainValue, plainValues}
+use Rattle.value.specs.Value.{measure, typeOf, isArray, variantRule, scalar, elements, array, variantOf, maskRule, parts, dataValueOf, valueOf, tooDeep, valueAt, rawAt}
+use Rattle.value.specs.declared.Shape.{Shape}
+use Rattle.value.specs.declared.Measure.{Measure}
+use Rattle.value.proofs.Places.{movedBy, end-of, within-refused, local, append, append-refused, take-refused, cut, after, placed, alone}
+use Rattle.value.proofs.Steady.{Ends, Steady, Onward, steadily, refusing, pure-steady, refuse-steady, item-steady, length-item-steady, run-steady, onward-steady, bind-steady, then-steady, cond-steady, when-steady, each-steady, ruled-ends, ruled-steady, taking-ends, then-ends}
+
+pub passing-steady : {A : Type 0} {r : Reader A} → Steady r → Steady (passing r)
+passing-steady f = then-steady f (pure-steady tt)
+
+pub bytes-steady : (n : ℕ) → Steady (bytes n)
+bytes-steady n = passing-steady (run-steady n)
+
+pub by-length-steady : {A : Type 0} {null : Reader A} {counted : ℕ → Reader A} → Steady null → ((n : ℕ) → Steady (counted n)) → Steady (byLength null counted)
+by-length-steady {A} {null} {counted} f h = onward-steady length-item-steady onward
+  where
+    onward : (l : Length) → Onward (λ p. afterLength null counted p l)
+    onward Length.Null = steadily f
+    onward (Length.Of n) = steadily (h n)
+    onward Length.Negative = refusing 5 (omega arith)
+
+pub string-steady : Steady string
+unfolding string
+string-steady = by-length-steady (pure-steady tt) bytes-steady
+
+pub plain-value-steady : (t : ℕ) → Steady (plainValue t)
+unfolding plainValue
+plain-value-steady t = cond-steady (fixed t) (bytes-steady (widthOf t)) string-steady
+
+pub plain-values-steady : (t n : ℕ) → Steady (plainValues t n)
+unfolding plainValues
+plain-values-steady t n = cond-steady (fixed t) (bytes-steady (n * widthOf t)) (each-steady string-steady n)
+
+pub parts-steady : (m : ℕ) → Steady (parts m)
+unfolding parts
+parts-steady m =
+    then-steady (when-steady (bit 2 m) tt (bytes-steady 4))
+    (then-steady (when-steady (bit 4 m) tt (bytes-steady 8))
+    (then-steady (when-steady (bit 16 m) tt (bytes-steady 2))
+    (then-steady (when-steady (bit 8 m) tt (bytes-steady 8))
+    (when-steady (bit 32 m) tt (bytes-steady 2)))))
+
+module _ (nested : ℕ → Reader Measure) (h : (t : ℕ) → Steady (nested t)) where
+  scalar-steady : (t : ℕ) → Steady (scalar nested t)
+  unfolding scalar
+  scalar-steady t = then-steady (cond-steady (plain t) (plain-value-steady t) (passing-steady (h t))) (pure-steady (measure t Shape.Scalar))
+
+  elements-steady : (t n : ℕ) → Steady (elements nested t n)
+  unfolding elements
+  elements-steady t n = cond-steady (plain t) (plain-values-steady t n) (each-steady (h t) n)
+
+  array-steady : (t : ℕ) → Steady (array nested t)
+  unfolding array
+  array-steady t = by-length-steady (pure-steady (measure t Shape.NullArray)) λ n. then-steady (elements-steady t n) (pure-steady (measure t (Shape.Array n)))
+
+  after-first : (b : ℕ) → Steady (variantOf nested b)
+  after-first b =
+      cond-steady (eqb (typeOf b) 0) (pure-steady (measure 0 Shape.Scalar))
+      (cond-steady (isArray b) (array-steady (typeOf b)) (scalar-steady (typeOf b)))
+
+  after-mask : (m : ℕ) → Steady (dataValueOf nested m)
+  after-mask m =
+      then-steady (when-steady (bit 1 m) tt (passing-steady (h 24)))
+      (then-steady (parts-steady m) (pure-steady (measure 23 Shape.Scalar)))
+
+too-deep-steady : Steady tooDeep
+too-deep-steady = onward-steady (item-steady 1) (λ b. refusing 9 (omega arith))
+
+pub value-steady : (levels t : ℕ) → Steady (valueAt levels t)
+unfolding valueAt
+value-steady zero t = too-deep-steady
+value-steady (suc levels) t =
+    let h : (t : ℕ) → Steady (valueAt levels t) = value-steady levels in
+    cond-steady (eqb t 23)
+    (bind-steady (ruled-steady 1 maskRule) (after-mask (valueAt levels) h))
+    (bind-steady (ruled-steady 1 variantRule) (after-first (valueAt levels) h))
+
+-- an accepted value takes at least a byte
+
+cond-ends : {A : Type 0} (b : Bool) (x y : Reader A) (s : List ℕ) (at : ℕ) {p lo hi : ℕ} → Ends p lo hi (x s at) → Ends p lo hi (y s at) → Ends p lo hi (cond b x y s at)
+cond-ends true x y s at f h = f
+cond-ends false x y s at f h = h
+
+value-ends : (levels t : ℕ) (s : List ℕ) (at hi : ℕ) → at ≤ hi → length s ≤ hi → Ends at (at + 1) hi (valueAt levels t s at)
+unfolding valueAt
+value-ends zero t s at hi l u = then-ends (λ b. refusing 9 (omega arith)) s (le-add-right at 1) u (taking-ends 1 (le 1) s at hi l u)
+value-ends (suc levels) t s at hi l u =
+    let h : (t : ℕ) → Steady (valueAt levels t) = value-steady levels in
+    cond-ends (eqb t 23) (ruled 1 maskRule >>= dataValueOf (valueAt levels)) (ruled 1 variantRule >>= variantOf (valueAt levels)) s at
+    (then-ends (λ m. steadily (after-mask (valueAt levels) h m)) s (le-add-right at 1) u (ruled-ends 1 maskRule s at hi l u))
+    (then-ends (λ b. steadily (after-first (valueAt levels) h b)) s (le-add-right at 1) u (ruled-ends 1 variantRule s at hi l u))
+
+-- a fixed-width element of RawData is steady too
+pub raw-steady : (t : ℕ) → Steady (rawAt t)
+raw-steady t = cond-steady (fixed t) (then-steady (bytes-steady (widthOf t)) (pure-steady (measure t Shape.Scalar))) (refuse-steady 4 (omega arith))
+
+-- Measuring a value at any level, in the words of the crates above.
+
+module _ (levels t : ℕ) where
+  -- the end lies after the start and within the slice
+  pub value-within : (s : List ℕ) (at : ℕ) {e : ℕ} {m : Measure} → valueAt levels t s at ≡ got m e → (at < e) × (e ≤ length s)
+  value-within s at {e} {m} q = go (leb at (length s)) refl
+    where
+      ends : (hi : ℕ) → at ≤ hi → length s ≤ hi → (at + 1 ≤ e) × (e ≤ hi)
+      ends hi l u = end-of (subst (Ends at (at + 1) hi) q (value-ends levels t s at hi l u))
+      go : (b : Bool) → leb at (length s) ≡ b → (at < e) × (e ≤ length s)
+      go true h = let w = ends (length s) (leb-true at (length s) h) (le-refl (length s)) in (omega arith, omega arith)
+      go false h = let l : length s < at = leb-false at (length s) h in let w = ends at (le-refl at) (omega arith) in absurd (omega arith)
+
+  -- a refusal's place lies there too, and its number is not 0
+  pub value-place : (s : List ℕ) (at : ℕ) {n place : ℕ} → at ≤ length s → valueAt levels t s at ≡ refused n place → (1 ≤ n) × (at ≤ place) × (place ≤ length s)
+  value-place s at h q = within-refused (value-steady levels t) s at h q
+
+  -- it depends on the bytes up to its end only
+  pub value-local : (n : ℕ) (s s′ : List ℕ) → n ≤ length s → n ≤ length s′ → ((i : ℕ) → i < n → getD s′ i 0 ≡ getD s i 0)
+      → (at : ℕ) {e : ℕ} {m : Measure} → valueAt levels t s at ≡ got m e → e ≤ n → valueAt levels t s′ at ≡ got m e
+  value-local = local (value-steady levels t)
+
+  pub value-append : (s post : List ℕ) (at : ℕ) {e : ℕ} {m : Measure} → valueAt levels t s at ≡ got m e → valueAt levels t (s ++ post) at ≡ got m e
+  value-append = append (value-steady levels t)
+
+  pub value-cut : (s post : List ℕ) (at : ℕ) {e : ℕ} {m : Measure} → valueAt levels t (s ++ post) at ≡ got m e → e ≤ length s → valueAt levels t s at ≡ got m e
+  value-cut = cut (value-steady levels t)
+
+  -- a refusal that is not 1 stays, whatever stands after the slice
+  pub value-append-refused : (s post : List ℕ) (at : ℕ) {n place : ℕ} → valueAt levels t s at ≡ refused n place → (n ≡ 1 → ⊥) → valueAt levels t (s ++ post) at ≡ refused n place
+  value-append-refused = append-refused (value-steady levels t)
+
+  pub value-take-refused : (k : ℕ) (s : List ℕ) → k ≤ length s → (at : ℕ) {n place : ℕ} → valueAt levels t (take k s) at ≡ refused n place → (n ≡ 1 → ⊥) → valueAt levels t s at ≡ refused n place
+  value-take-refused = take-refused (value-steady levels t)
+
+  -- a slice that starts in the middle moves the answer, refused or not
+  pub value-after : (pre s : List ℕ) (at : ℕ) → valueAt levels t (pre ++ s) (length pre + at) ≡ movedBy (length pre) (valueAt levels t s at)
+  value-after = after (value-steady levels t)
+
+  -- a value's bytes, cut out, are that value
+  pub value-part : (s : List ℕ) (at : ℕ) {e : ℕ} {m : Measure} → valueAt levels t s at ≡ got m e → valueAt levels t (take (e - at) (drop at s)) 0 ≡ got m (e - at)
+  value-part s at q = let w = value-within s at q in let l : at ≤ length s = omega arith in alone (value-steady levels t) s at l q
+
+  -- and so they are between others
+  pub value-placed : (pre v post : List ℕ) {e : ℕ} {m : Measure} → valueAt levels t v 0 ≡ got m e → valueAt levels t (pre ++ (v ++ post)) (length pre) ≡ got m (length pre + e)
+  value-placed = placed (value-steady levels t)

@@ -1,0 +1,112 @@
+-- Document 01, "Values": what measuring a Variant, a DataValue or a RawData element at a position of a slice answers.
+use Prim.Native.Nat.{ℕ, zero, suc, _%_}
+use mathlib.Core.List.{List, [], _∷_}
+use mathlib.Core.Bool.{Bool, cond, not, _&&_, _||_}
+use lib.Dec.{eqb}
+use Rattle.wire.specs.Answer.{Answer, got, refused, Reader, andThen, _>>=_, _>>_, pure, refuse, item, ruled, whenOn, each, bit}
+use Rattle.value.specs.Width.{among, widthOf, fixed}
+use Rattle.value.specs.Plain.{passing, bytes, byLength, plain, plainValue, plainValues}
+use Rattle.value.specs.declared.Shape.{Shape}
+use Rattle.value.specs.declared.Measure.{Measure}
+use Rattle.value.specs.declared.Measured.{Measured}
+
+abbrev pub answerMeasured : Measured → Answer Measure
+answerMeasured (Measured.Is m next) = got m next
+answerMeasured (Measured.Refused n place) = refused n place
+
+-- a value of type t and of a shape
+abbrev pub measure : ℕ → Shape → Measure
+measure t c = record { kind = t; shape = c }
+
+-- "A Variant's first byte: bits 0-5 type, bit 7 array, bit 6 dimensions."
+abbrev pub typeOf : ℕ → ℕ
+typeOf b = b % 64
+
+abbrev pub isArray : ℕ → Bool
+isArray b = bit 128 b
+
+abbrev pub hasDimensions : ℕ → Bool
+hasDimensions b = bit 64 b
+
+-- the types taken: null, the plain ones, DataValue and Variant
+abbrev pub taken : ℕ → Bool
+taken t = among t (0 ∷ 23 ∷ 24 ∷ []) || plain t
+
+-- "Bit 6 without bit 7 is 3; bit 6 is 4. Type 0 is null, one byte; with bit 7 it is 3. 24 (Variant) only as array,
+-- else 3. All other types are 4."
+unfoldable pub variantRule : ℕ → ℕ
+variantRule b =
+    cond (hasDimensions b && not (isArray b)) 3
+    (cond (hasDimensions b) 4
+    (cond (eqb (typeOf b) 0 && isArray b) 3
+    (cond (eqb (typeOf b) 24 && not (isArray b)) 3
+    (cond (taken (typeOf b)) 0 4))))
+
+-- Below, `nested t` reads a value of type t (23 a DataValue, 24 a Variant) inside this one, one level deeper.
+
+-- what follows the first byte of a scalar of type t
+unfoldable pub scalar : (ℕ → Reader Measure) → ℕ → Reader Measure
+scalar nested t = do
+    cond (plain t) (plainValue t) (passing (nested t))
+    pure (measure t Shape.Scalar)
+
+-- n elements of type t
+unfoldable pub elements : (ℕ → Reader Measure) → ℕ → ℕ → Reader (Unit {0})
+elements nested t n = cond (plain t) (plainValues t n) (each (nested t) n)
+
+-- what follows the first byte of an array of type t: its element count, then the elements
+unfoldable pub array : (ℕ → Reader Measure) → ℕ → Reader Measure
+array nested t = byLength (pure (measure t Shape.NullArray)) λ n. do
+    elements nested t n
+    pure (measure t (Shape.Array n))
+
+-- what follows a Variant's first byte b: "Type 0 is null, one byte"
+abbrev pub variantOf : (ℕ → Reader Measure) → ℕ → Reader Measure
+variantOf nested b =
+    cond (eqb (typeOf b) 0) (pure (measure 0 Shape.Scalar))
+    (cond (isArray b) (array nested (typeOf b)) (scalar nested (typeOf b)))
+
+-- "mask, bits 6 or 7 set is 3"
+abbrev pub maskRule : ℕ → ℕ
+maskRule m = cond (bit 64 m || bit 128 m) 3 0
+
+-- after the mask's Variant by bit "1 status 4, 2 source time 8, 4 source picoseconds 2, 3 server time 8,
+-- 5 server picoseconds 2"
+unfoldable pub parts : ℕ → Reader (Unit {0})
+parts m = do
+    whenOn (bit 2 m) tt (bytes 4)
+    whenOn (bit 4 m) tt (bytes 8)
+    whenOn (bit 16 m) tt (bytes 2)
+    whenOn (bit 8 m) tt (bytes 8)
+    whenOn (bit 32 m) tt (bytes 2)
+
+-- what follows a DataValue's mask m: "then by bit 0 a Variant" and the other parts
+abbrev pub dataValueOf : (ℕ → Reader Measure) → ℕ → Reader Measure
+dataValueOf nested m = do
+    whenOn (bit 1 m) tt (passing (nested 24))
+    parts m
+    pure (measure 23 Shape.Scalar)
+
+-- a DataValue where t is 23, else a Variant
+abbrev pub valueOf : (ℕ → Reader Measure) → ℕ → Reader Measure
+valueOf nested t = cond (eqb t 23) (ruled 1 maskRule >>= dataValueOf nested) (ruled 1 variantRule >>= variantOf nested)
+
+-- "at 101 its first byte is 9, tested right after 1"
+abbrev pub tooDeep : Reader Measure
+tooDeep s at = andThen (item 1 s at) (λ b next. refused 9 at)
+
+-- a value of type t with so many levels left: "a Variant or DataValue inside another lies one level deeper"
+unfoldable pub valueAt : ℕ → ℕ → Reader Measure
+valueAt zero t = tooDeep
+valueAt (suc levels) t = valueOf (valueAt levels) t
+
+-- "The field's own value is level 1" of 100
+abbrev pub variantAt : Reader Measure
+variantAt = valueAt 100 24
+
+abbrev pub dataValueAt : Reader Measure
+dataValueAt = valueAt 100 23
+
+-- a fixed-width element of type t, as in RawData; any other type is not taken there
+abbrev pub rawAt : ℕ → Reader Measure
+rawAt t = cond (fixed t) (bytes (widthOf t) >> pure (measure t Shape.Scalar)) (refuse 4)

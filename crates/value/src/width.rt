@@ -1,0 +1,44 @@
+// The widths of the fixed types.
+ghost use mathlib.Core.Path.{_≡_};
+ghost use Prim.Native.Nat.{_≤_};
+ghost use Rattle.value.specs.Width.{widthOf};
+
+// From the number of a built-in type to its width in bytes; 0 where the type is not fixed.
+const WIDTHS: [usize; 26] = [
+    0,
+    1,
+    1,
+    1,
+    2,
+    2,
+    4,
+    4,
+    8,
+    8,
+    4,
+    8,
+    0,
+    8,
+    16,
+    0,
+    0,
+    0,
+    0,
+    4,
+    0,
+    0,
+    0,
+    0,
+    0,
+    0,
+];
+
+// The width of a fixed type, 0 for any other number.
+pub fn width(t: u8) -> usize
+    ensures { λ r. ⌜ (r ≡ widthOf t) × (r ≤ 16) ⌝ }
+{
+    if 26 <= t {
+        return 0;
+    }
+    WIDTHS[t as usize]
+}
