@@ -2,3 +2,4 @@ pub mod Lists
 pub mod Digits
 pub mod Numerals
 pub mod Putting
+pub mod Back

@@ -1,7 +1,7 @@
 -- The decimal text of a number: its digits one by one, its value, and that reading it gives the number back.
 -- Assumes nothing.
-use mathlib.Core.Path.{_≡_, refl, sym, _∙_, ap}
-use mathlib.Core.Bool.{Bool, true, false, cond, _&&_}
+use mathlib.Core.Path.{_≡_, refl, _∙_, ap}
+use mathlib.Core.Bool.{true}
 use mathlib.Core.List.{List, [], _∷_, _++_}
 use mathlib.Core.Logic.{⊎-elim}
 use mathlib.Core.Option.{some}
@@ -9,7 +9,7 @@ use Prim.Native.Nat.{ℕ, zero, suc, _+_, _*_, _-_, _/_, _%_, _^_, _≤_, _<_}
 use native.Mathlib.Nat.{pow-suc}
 use native.Mathlib.Omega.{arith}
 use borrow.Author.Tests.{lt-ltb, le-ltb, ltb-true, ltb-false, le-leb, ne-eqb}
-use lib.Dec.{ltb, leb, eqb}
+use lib.Dec.{ltb}
 use lib.ListN.{length, length-append}
 use Rattle.text.specs.Decimal.{isDigit, allDigits, valueFrom, valueOf, plain, decimalOf, digitsText, decimalText}
 use Rattle.text.proofs.Lists.{cases, and-left, and-right}
@@ -101,7 +101,7 @@ decimal-length (suc k) n h =
     ⊎-elim
     (λ e. rw (decimal-one n (ltb-true n 10 e)) (omega arith))
     (λ e. let b : 10 ≤ n = ltb-false n 10 e in
-      rw (decimal-more n b) (omega (arith, length-append (decimalText (n / 10)) ((48 + n % 10) ∷ []), decimal-length k (n / 10) (tenth n (10 ^ suc k) (rw (pow-suc 10 (suc k)) at h)))))
+    rw (decimal-more n b) (omega (arith, length-append (decimalText (n / 10)) ((48 + n % 10) ∷ []), decimal-length k (n / 10) (tenth n (10 ^ suc k) (rw (pow-suc 10 (suc k)) at h)))))
     (cases (ltb n 10))
   where
     tenth : (n p : ℕ) → n < p * 10 → n / 10 < p

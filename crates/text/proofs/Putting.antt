@@ -4,17 +4,18 @@ use mathlib.Core.Path.{_≡_, refl, sym, _∙_, ap}
 use mathlib.Core.Bool.{Bool, true, false, not, _&&_}
 use mathlib.Core.List.{List, [], _∷_, _++_}
 use mathlib.Core.Logic.{⊎-elim}
-use Prim.Native.Nat.{ℕ, zero, suc, _+_, _*_, _-_, _/_, _%_, _≤_, _<_}
-use native.Mathlib.Nat.{add-assoc, add-suc, suc-add}
-use native.Mathlib.Numerals.{add-one}
+use Prim.Native.Nat.{ℕ, suc, _+_, _*_, _-_, _/_, _%_, _≤_, _<_}
 use native.Mathlib.Omega.{arith}
-use borrow.Author.Tests.{leb-true, leb-false, eqb-false, not-true}
+use borrow.Author.Tests.{le-leb, lt-leb, leb-true, leb-false, eqb-false, eq-eqb, ne-eqb, not-true}
 use lib.Dec.{leb, eqb}
 use lib.ListN.{length, drop, getD, set, length-append}
 use lib.Seq.{sets, set-comm}
+use Rattle.wire.specs.Store.{Stored}
+use Rattle.wire.proofs.Reading.{lacks, room}
 use Rattle.wire.proofs.Stores.{sets-append}
 use Rattle.text.specs.Decimal.{decimalText}
-use Rattle.text.specs.Hex.{hexDigit, hexText, hexValue, allHex, hexBytes}
+use Rattle.text.specs.Hex.{hexDigit, hexText, hexValue, allHex, hexBytes, hexNext, hexAfter}
+use Rattle.text.specs.declared.hex.Hex.the-variants.{To, Not}
 use Rattle.text.proofs.Lists.{cases, and-left, and-right, at-next, at-end}
 use Rattle.text.proofs.Numerals.{decimal-one, decimal-more}
 
@@ -83,3 +84,50 @@ module _ (s : List ℕ) (i : ℕ) (h : i < length s) (v : allHex (drop i s) ≡ 
 
   pub hex-rest : allHex (drop (i + 1) s) ≡ true
   hex-rest = and-right (not (eqb (hexValue (getD s i 0)) 16)) (allHex (drop (i + 1) s)) here
+
+-- what a put function did: nothing where the text does not fit, else all of it
+pub stored-none : (t l : List ℕ) (at : ℕ) → leb (at + length t) (length l) ≡ false → Stored t l at l at
+stored-none t l at e = record { stored = rw e; after = rw e }
+
+pub stored-all : (t l m : List ℕ) (at next : ℕ) → leb (at + length t) (length l) ≡ true → m ≡ sets l at t → next ≡ at + length t → Stored t l at m next
+stored-all t l m at next e v n = record { stored = rw e v; after = rw e n }
+
+pub hex-length : (s : List ℕ) → length (hexText s) ≡ 2 * length s
+hex-length [] = refl
+hex-length (x ∷ s) = omega (arith, hex-length s)
+
+pub bytes-length : (s : List ℕ) → length (hexBytes s) ≡ length s / 2
+bytes-length [] = refl
+bytes-length (x ∷ []) = refl
+bytes-length (x ∷ y ∷ s) = omega (arith, bytes-length s)
+
+-- bytes put as hex: no room for as many bytes again, or for twice as many, or all stored. (b is the answer of `wire::has`.)
+module _ (s l : List ℕ) (at : ℕ) (b : Bool) where
+  pub hex-none : (k : ℕ) → k ≤ 2 * length s → b ≡ leb (at + k) (length l) → not b ≡ true → Stored (hexText s) l at l at
+  hex-none k h e t =
+      let f : length l < at + k = leb-false (at + k) (length l) (lacks b (at + k) (length l) e t) in
+      stored-none (hexText s) l at (lt-leb (at + length (hexText s)) (length l) (omega (arith, hex-length s)))
+
+  module _ (e : b ≡ leb (at + length s + length s) (length l)) (t : not b ≡ false) where
+    pub hex-room : at + 2 * length s ≤ length l
+    hex-room = omega (arith, room b (at + length s + length s) (length l) e t)
+
+    pub hex-put : (m : List ℕ) → m ≡ sets l at (hexText s) → Stored (hexText s) l at m (at + length s + length s)
+    hex-put m v =
+        stored-all (hexText s) l m at (at + length s + length s) (le-leb (at + length (hexText s)) (length l) (omega (arith, hex-length s, hex-room))) v (omega (arith, hex-length s))
+
+-- the ways out of reading hex: an odd number of digits, another byte, no room, and all read
+module _ (l : List ℕ) (at : ℕ) (s : List ℕ) where
+  pub hex-odd : length s % 2 ≡ 1 → (Not ≡ hexNext l at s) × (l ≡ hexAfter l at s)
+  hex-odd o = (rw (eq-eqb _ _ o), rw (eq-eqb _ _ o))
+
+  module _ (o : length s % 2 ≡ 1 → ⊥) where
+    pub hex-other : allHex s ≡ false → (Not ≡ hexNext l at s) × (l ≡ hexAfter l at s)
+    hex-other a = (rw (ne-eqb _ _ o, a), rw (ne-eqb _ _ o, a))
+
+    module _ (a : allHex s ≡ true) where
+      pub hex-no-room : leb (at + length s / 2) (length l) ≡ false → (To at ≡ hexNext l at s) × (l ≡ hexAfter l at s)
+      hex-no-room r = (rw (ne-eqb _ _ o, a, bytes-length s, r), rw (ne-eqb _ _ o, a, bytes-length s, r))
+
+      pub hex-read : (m : List ℕ) → leb (at + length s / 2) (length l) ≡ true → m ≡ sets l at (hexBytes s) → (To (at + length s / 2) ≡ hexNext l at s) × (m ≡ hexAfter l at s)
+      hex-read m r e = (rw (ne-eqb _ _ o, a, bytes-length s, r), rw (ne-eqb _ _ o, a, bytes-length s, r) e)

@@ -1,8 +1,8 @@
 -- "Decimals without leading zeros", as bytes.
-use Prim.Native.Nat.{ℕ, zero, suc, _+_, _*_, _-_, _/_, _%_}
 use mathlib.Core.Bool.{Bool, true, false, cond, _&&_, not}
 use mathlib.Core.List.{List, [], _∷_, _++_}
 use mathlib.Core.Option.{Option, none, some}
+use Prim.Native.Nat.{ℕ, zero, suc, _+_, _*_, _-_, _/_, _%_}
 use lib.Dec.{eqb, ltb, leb}
 use lib.ListN.{drop}
 use Rattle.text.specs.Words.{indexOf, contains, upTo}

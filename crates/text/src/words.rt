@@ -1,6 +1,7 @@
-// Where a byte stands, and how a text goes on at a position.
+// Where a byte stands, how a text goes on at a position, and texts put as they are.
 ghost use mathlib.Core.Path.{_≡_};
 ghost use lib.ListN.{drop};
+ghost use Rattle.wire.specs.Store.{Stored};
 ghost use Rattle.text.specs.Words.{indexOf, startsWith};
 
 // The place of the first byte `b`, or the length where there is none.
@@ -32,4 +33,15 @@ pub fn starts_with(s: &[u8], at: usize, word: &[u8]) -> bool
         i += 1;
     }
     true
+}
+
+// A text, put as it is.
+pub fn put_bytes(out: &mut [u8], at: usize, text: &[u8]) -> usize
+    ensures { λ r. ⌜ Stored (now (text .entry)) (now (out .entry)) at (now (out .exit)) r ⌝ }
+{
+    if !wire::has(out.len(), at, text.len()) {
+        return at;
+    }
+    wire::store::put_run(out, at, text);
+    at + text.len()
 }

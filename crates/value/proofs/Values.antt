@@ -118,6 +118,7 @@ module _ (levels t : ℕ) where
     where
       ends : (hi : ℕ) → at ≤ hi → length s ≤ hi → (at + 1 ≤ e) × (e ≤ hi)
       ends hi l u = end-of (subst (Ends at (at + 1) hi) q (value-ends levels t s at hi l u))
+
       go : (b : Bool) → leb at (length s) ≡ b → (at < e) × (e ≤ length s)
       go true h = let w = ends (length s) (leb-true at (length s) h) (le-refl (length s)) in (omega arith, omega arith)
       go false h = let l : length s < at = leb-false at (length s) h in let w = ends at (le-refl at) (omega arith) in absurd (omega arith)

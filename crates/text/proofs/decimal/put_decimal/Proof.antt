@@ -1,48 +1,40 @@
+-- `text::decimal::put_decimal` meets its contract: nothing where there is no room, else all digits.
+-- Assumes nothing.
+use mathlib.Core.Path.{sym, _∙_, ap}
+use Prim.Native.Nat.{_+_}
+use native.Mathlib.Omega.{arith}
 use borrow.Author.Needs.{needs}
+use lib.ListN.{length}
+use lib.Dec.{leb}
+use Rattle.text.proofs.Putting.{stored-none, stored-all}
+use Rattle.wire.proofs.Reading.{lacks, holds, room}
 use Rattle.text.proofs.decimal.put_decimal.Statement.{statement}
 use Rattle.text.proofs.decimal.put_decimal.Tie as tie
-use Rattle.text.proofs.decimal.put_decimal.Reads as reads
-use Rattle.text.proofs.decimal.put_decimal.Lts as lts
-use Rattle.text.proofs.decimal.count_digits.Reads as count-digits-reads
-use Rattle.text.proofs.decimal.store_digits.Reads as store-digits-reads
-use Rattle.wire.proofs.has.Reads as has-reads
 
--- src/decimal.rt:104:9
-count-digits-requires : tie.Need-count-digits-requires
-count-digits-requires c κs = search needs
-
--- src/decimal.rt:105:9
-has-requires : tie.Need-has-requires
-has-requires c κs = search needs
-
--- src/decimal.rt:106:9
 returns : tie.Need-returns
-returns c = ?
+returns c =
+    stored-none _ _ _ (ap (λ k. leb (c .before .before .before .before .args .at + k) (length (c .before .before .before .before .args .out .now))) (sym (c .before .before .count-digits .ensures)) ∙ lacks (c .before .has .result) (c .before .before .before .before .args .at + c .before .before .count-digits .result) (length (c .before .before .before .before .args .out .now)) (c .before .has .ensures) (c .if1 .taken))
 
--- src/decimal.rt:108:5
 store-digits-requires : tie.Need-store-digits-requires
-store-digits-requires c κs = ?
+store-digits-requires c κs =
+    (room (c .before .before .has .result) (c .before .before .before .before .before .args .at + c .before .before .before .count-digits .result) (length (c .before .before .before .before .before .args .out .now)) (c .before .before .has .ensures) (c .before .if1 .left), c .before .before .before .count-digits .ensures)
 
--- src/decimal.rt:109:5
 add-result : tie.Need-add-result
-add-result c = ?
+add-result c =
+    omega (arith, room (c .before .before .before .before .before .has .result) (c .before .before .before .before .before .before .before .before .args .at + c .before .before .before .before .before .before .count-digits .result) (length (c .before .before .before .before .before .before .before .before .args .out .now)) (c .before .before .before .before .before .has .ensures) (c .before .before .before .before .if1 .left))
 
--- src/decimal.rt:101:1
-same-length : tie.Need-same-length
-same-length c = search needs
-
--- src/decimal.rt:101:1
 returns-2 : tie.Need-returns-2
-returns-2 c = ?
+returns-2 c =
+    stored-all _ _ _ _ _ (ap (λ k. leb (c .before .before .before .before .before .before .before .before .args .at + k) (length (c .before .before .before .before .before .before .before .before .args .out .now))) (sym (c .before .before .before .before .before .before .count-digits .ensures)) ∙ holds (c .before .before .before .before .before .has .result) (c .before .before .before .before .before .before .before .before .args .at + c .before .before .before .before .before .before .count-digits .result) (length (c .before .before .before .before .before .before .before .before .args .out .now)) (c .before .before .before .before .before .has .ensures) (c .before .before .before .before .if1 .left)) (c .before .before .store-digits .ensures) (ap (λ k. c .before .before .before .before .before .before .before .before .args .at + k) (c .before .before .before .before .before .before .count-digits .ensures))
 
 pub put-decimal-spec : {M : Type 1} → statement M
 put-decimal-spec =
     tie.close
     (tie.spec
-    count-digits-requires
-    has-requires
+    (λ c κs. search needs)
+    (λ c κs. search needs)
     returns
     store-digits-requires
     add-result
-    same-length
+    (λ c. search needs)
     returns-2)

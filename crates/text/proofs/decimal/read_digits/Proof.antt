@@ -1,16 +1,15 @@
-use Rattle.text.proofs.Digits.{scan, scan-is, digit-low, digit-high, turn-end, turn-other, turn-above, turn-digit, turn-none}
-use Rattle.text.specs.Decimal.{digitsAt}
-use lib.ListN.{length, drop, getD}
+-- `text::decimal::read_digits` meets its contract: what is left gives the same answer, read on from the number so far.
+-- Assumes nothing.
+use mathlib.Core.Path.{_≡_, sym, _∙_}
+use Prim.Native.Nat.{_≤_, _-_}
+use native.Mathlib.Omega.{arith}
 use borrow.Author.Tests.{not-true, not-false}
 use borrow.Author.Needs.{needs}
-use native.Mathlib.Omega.{arith}
-use Prim.Native.Nat.{_≤_, _+_, _*_, _-_}
-use mathlib.Core.Path.{_≡_, sym, _∙_}
+use lib.ListN.{length, drop, getD}
+use Rattle.text.proofs.Digits.{scan, scan-is, digit-low, digit-high, turn-end, turn-other, turn-above, turn-digit, turn-none}
+use Rattle.text.specs.Decimal.{digitsAt}
 use Rattle.text.proofs.decimal.read_digits.Statement.{statement}
 use Rattle.text.proofs.decimal.read_digits.Tie as tie
-use Rattle.text.proofs.decimal.read_digits.Reads as reads
-use Rattle.text.proofs.decimal.read_digits.Lts as lts
-use Rattle.text.proofs.decimal.is_digit.Reads as is-digit-reads
 
 abbrev Inv-loop : tie.InvT-loop
 Inv-loop s at end limit n₀ i₀ n i = (n ≤ limit) × (scan limit end n i (drop i s) ≡ digitsAt limit end s at)
@@ -18,83 +17,62 @@ Inv-loop s at end limit n₀ i₀ n i = (n ≤ limit) × (scan limit end n i (dr
 abbrev μ-loop : tie.MeasureT-loop
 μ-loop s at end limit n₀ i₀ n i = length s - i
 
--- src/decimal.rt:23:5
 loop-holds : tie.Need-loop-holds Inv-loop μ-loop
 loop-holds c =
     (omega arith, scan-is (c .before .args .limit) (c .before .args .end) 0 (c .before .args .at) (drop (c .before .args .at) (c .before .args .s .now)) (omega arith))
 
--- src/decimal.rt:24:17
 shared-slice-read-b : tie.Need-shared-slice-read-b Inv-loop μ-loop
 shared-slice-read-b c = omega arith
 
--- src/decimal.rt:26:35
 add-t13 : tie.Need-add-t13 Inv-loop μ-loop
 add-t13 c = omega arith
 
--- src/decimal.rt:26:13
 returns : tie.Need-returns Inv-loop μ-loop
 returns c =
     turn-end _ _ _ _ _ _ (c .before .before .loop-test .taken) (c .before .before .before .loop .inv .1) (c .if1 .taken)
 
--- src/decimal.rt:28:13
-is-digit-requires : tie.Need-is-digit-requires Inv-loop μ-loop
-is-digit-requires c κs = search needs
-
--- src/decimal.rt:29:13
 returns-2 : tie.Need-returns-2 Inv-loop μ-loop
 returns-2 c =
     turn-other _ _ _ _ _ _ (c .before .before .before .before .loop-test .taken) (c .before .before .before .before .before .loop .inv .1) (c .before .before .if1 .left) (sym (c .before .is-digit .ensures) ∙ not-true _ (c .if2 .taken))
 
--- src/decimal.rt:32:13
 returns-3 : tie.Need-returns-3 Inv-loop μ-loop
 returns-3 c =
     turn-above _ _ _ _ _ _ (c .before .before .before .before .before .loop-test .taken) (c .before .before .before .before .before .before .loop .inv .1) (c .before .before .before .if1 .left) (sym (c .before .before .is-digit .ensures) ∙ not-false _ (c .before .if2 .left)) (omega arith)
 
--- src/decimal.rt:34:18
 sub-d : tie.Need-sub-d Inv-loop μ-loop
 sub-d c =
     omega (arith, digit-low (getD (c .before .before .before .before .before .before .before .before .args .s .now) (c .before .before .before .before .before .before .loop .i) 0) (sym (c .before .before .is-digit .ensures) ∙ not-false _ (c .before .if2 .left)))
 
--- src/decimal.rt:34:17
 cast-d : tie.Need-cast-d Inv-loop μ-loop
 cast-d c =
     omega (arith, digit-high (getD (c .before .before .before .before .before .before .before .before .args .s .now) (c .before .before .before .before .before .before .loop .i) 0) (sym (c .before .before .is-digit .ensures) ∙ not-false _ (c .before .if2 .left)))
 
--- src/decimal.rt:35:20
 mul-if4 : tie.Need-mul-if4 Inv-loop μ-loop
 mul-if4 c = omega arith
 
--- src/decimal.rt:35:12
 sub-if4 : tie.Need-sub-if4 Inv-loop μ-loop
 sub-if4 c = omega arith
 
--- src/decimal.rt:36:13
 returns-4 : tie.Need-returns-4 Inv-loop μ-loop
 returns-4 c =
     turn-above _ _ _ _ _ _ (c .before .before .before .before .before .before .loop-test .taken) (c .before .before .before .before .before .before .before .loop .inv .1) (c .before .before .before .before .if1 .left) (sym (c .before .before .before .is-digit .ensures) ∙ not-false _ (c .before .before .if2 .left)) (omega arith)
 
--- src/decimal.rt:38:13
 mul-n : tie.Need-mul-n Inv-loop μ-loop
 mul-n c = omega arith
 
--- src/decimal.rt:38:13
 add-n : tie.Need-add-n Inv-loop μ-loop
 add-n c = omega arith
 
--- src/decimal.rt:39:9
 add-i : tie.Need-add-i Inv-loop μ-loop
 add-i c = omega arith
 
--- src/decimal.rt:23:5
 loop-less : tie.Need-loop-less Inv-loop μ-loop
 loop-less c = omega arith
 
--- src/decimal.rt:23:5
 loop-again : tie.Need-loop-again Inv-loop μ-loop
 loop-again c =
     (omega arith, turn-digit _ _ _ _ _ _ (c .before .before .before .before .before .before .loop-test .taken) (c .before .before .before .before .before .before .before .loop .inv .1) (c .before .before .before .before .if1 .left) (sym (c .before .before .before .is-digit .ensures) ∙ not-false _ (c .before .before .if2 .left)) (omega arith))
 
--- src/decimal.rt:18:1
 returns-5 : tie.Need-returns-5 Inv-loop μ-loop
 returns-5 c = turn-none _ _ _ _ _ _ (c .loop-test .left) (c .before .loop .inv .1)
 
@@ -108,7 +86,7 @@ read-digits-spec =
     shared-slice-read-b
     add-t13
     returns
-    is-digit-requires
+    (λ c κs. search needs)
     returns-2
     returns-3
     sub-d

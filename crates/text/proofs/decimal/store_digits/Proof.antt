@@ -1,15 +1,14 @@
-use Rattle.text.proofs.Putting.{length-one, length-more, digit-stored, digit-last}
-use Rattle.text.specs.Decimal.{decimalText}
+-- `text::decimal::store_digits` meets its contract: storing the digits of the number left gives the same buffer.
+-- Assumes nothing.
+use mathlib.Core.Path.{_≡_, refl}
+use Prim.Native.Nat.{_≤_}
+use native.Mathlib.Omega.{arith}
 use lib.Seq.{sets}
 use lib.ListN.{length, length-set}
-use borrow.Author.Needs.{needs}
-use native.Mathlib.Omega.{arith}
-use Prim.Native.Nat.{_≤_, _+_}
-use mathlib.Core.Path.{_≡_, refl}
+use Rattle.text.proofs.Putting.{length-one, length-more, digit-stored, digit-last}
+use Rattle.text.specs.Decimal.{decimalText}
 use Rattle.text.proofs.decimal.store_digits.Statement.{statement}
 use Rattle.text.proofs.decimal.store_digits.Tie as tie
-use Rattle.text.proofs.decimal.store_digits.Reads as reads
-use Rattle.text.proofs.decimal.store_digits.Lts as lts
 
 abbrev Inv-loop : tie.InvT-loop
 Inv-loop out₀ at n k m₀ i₀ out m i =
@@ -18,56 +17,43 @@ Inv-loop out₀ at n k m₀ i₀ out m i =
 abbrev μ-loop : tie.MeasureT-loop
 μ-loop out₀ at n k m₀ i₀ out m i = m
 
--- src/decimal.rt:92:5
 loop-holds : tie.Need-loop-holds Inv-loop μ-loop
 loop-holds c = (omega arith, (c .pre .1, (refl, refl)))
 
--- src/decimal.rt:93:9
 sub-i : tie.Need-sub-i Inv-loop μ-loop
 sub-i c = omega (arith, length-more (c .before .loop .m) (c .loop-test .taken))
 
--- src/decimal.rt:94:28
 cast-out : tie.Need-cast-out Inv-loop μ-loop
 cast-out c = omega arith
 
--- src/decimal.rt:94:23
 add-out : tie.Need-add-out Inv-loop μ-loop
 add-out c = omega arith
 
--- src/decimal.rt:94:13
 add-out-2 : tie.Need-add-out-2 Inv-loop μ-loop
 add-out-2 c = omega arith
 
--- src/decimal.rt:94:9
 slice-write-out : tie.Need-slice-write-out Inv-loop μ-loop
 slice-write-out c = omega (arith, length-more (c .before .loop .m) (c .loop-test .taken))
 
--- src/decimal.rt:92:5
 loop-less : tie.Need-loop-less Inv-loop μ-loop
 loop-less c = omega arith
 
--- src/decimal.rt:92:5
 loop-again : tie.Need-loop-again Inv-loop μ-loop
 loop-again c =
     (omega arith, (omega (arith, length-more (c .before .loop .m) (c .loop-test .taken)), (simp length-set (c .before .loop .inv .1 .1 .0), digit-stored _ _ _ _ _ (c .loop-test .taken) (c .before .loop .inv .1 .0) (c .before .loop .inv .1 .1 .1))))
 
--- src/decimal.rt:97:20
 cast-out-2 : tie.Need-cast-out-2 Inv-loop μ-loop
 cast-out-2 c = omega arith
 
--- src/decimal.rt:97:15
 add-out-3 : tie.Need-add-out-3 Inv-loop μ-loop
 add-out-3 c = omega arith
 
--- src/decimal.rt:97:5
 slice-write-out-2 : tie.Need-slice-write-out-2 Inv-loop μ-loop
 slice-write-out-2 c = omega (arith, length-one (c .before .loop .m) (c .loop-test .left))
 
--- src/decimal.rt:86:1
 same-length : tie.Need-same-length Inv-loop μ-loop
 same-length c = simp length-set (c .before .loop .inv .1 .1 .0)
 
--- src/decimal.rt:86:1
 returns : tie.Need-returns Inv-loop μ-loop
 returns c =
     digit-last _ _ _ _ (c .loop-test .left) (c .before .loop .inv .1 .1 .1)

@@ -1,16 +1,15 @@
-use Rattle.text.proofs.Lists.{at-next, at-end}
-use Rattle.text.specs.Hex.{allHex}
-use lib.ListN.{length, drop}
+-- `text::hex::all_hex` meets its contract: what is left gives the same answer.
+-- Assumes nothing.
+use mathlib.Core.Path.{_≡_, refl, sym, _∙_}
+use Prim.Native.Nat.{_≤_, _-_}
+use native.Mathlib.Omega.{arith}
 use borrow.Author.Tests.{eq-eqb, ne-eqb}
 use borrow.Author.Needs.{needs}
-use native.Mathlib.Omega.{arith}
-use Prim.Native.Nat.{_≤_, _-_}
-use mathlib.Core.Path.{_≡_, refl, sym, _∙_}
+use lib.ListN.{length, drop}
+use Rattle.text.proofs.Lists.{at-next, at-end}
+use Rattle.text.specs.Hex.{allHex}
 use Rattle.text.proofs.hex.all_hex.Statement.{statement}
 use Rattle.text.proofs.hex.all_hex.Tie as tie
-use Rattle.text.proofs.hex.all_hex.Reads as reads
-use Rattle.text.proofs.hex.all_hex.Lts as lts
-use Rattle.text.proofs.hex.value.Reads as value-reads
 
 abbrev Inv-loop : tie.InvT-loop
 Inv-loop s i₀ i = (i ≤ length s) × (allHex (drop i s) ≡ allHex s)
@@ -18,37 +17,26 @@ Inv-loop s i₀ i = (i ≤ length s) × (allHex (drop i s) ≡ allHex s)
 abbrev μ-loop : tie.MeasureT-loop
 μ-loop s i₀ i = length s - i
 
--- src/hex.rt:78:5
 loop-holds : tie.Need-loop-holds Inv-loop μ-loop
 loop-holds c = (omega arith, refl)
 
--- src/hex.rt:79:18
 shared-slice-read-value : tie.Need-shared-slice-read-value Inv-loop μ-loop
 shared-slice-read-value c = omega arith
 
--- src/hex.rt:79:12
-value-requires : tie.Need-value-requires Inv-loop μ-loop
-value-requires c κs = search needs
-
--- src/hex.rt:80:13
 returns : tie.Need-returns Inv-loop μ-loop
 returns c =
     rw (at-next _ _ (c .before .before .before .loop-test .taken), eq-eqb _ _ (sym (c .before .value .ensures .0) ∙ c .if1 .taken)) at (c .before .before .before .before .loop .inv .1)
 
--- src/hex.rt:82:9
 add-i : tie.Need-add-i Inv-loop μ-loop
 add-i c = omega arith
 
--- src/hex.rt:78:5
 loop-less : tie.Need-loop-less Inv-loop μ-loop
 loop-less c = omega arith
 
--- src/hex.rt:78:5
 loop-again : tie.Need-loop-again Inv-loop μ-loop
 loop-again c =
     (omega arith, rw (at-next _ _ (c .before .before .before .loop-test .taken), ← c .before .value .ensures .0, ne-eqb _ _ (c .if1 .left)) at (c .before .before .before .before .loop .inv .1))
 
--- src/hex.rt:74:1
 returns-2 : tie.Need-returns-2 Inv-loop μ-loop
 returns-2 c = rw (at-end _ _ (c .loop-test .left)) at (c .before .loop .inv .1)
 
@@ -60,7 +48,7 @@ all-hex-spec =
     μ-loop
     loop-holds
     shared-slice-read-value
-    value-requires
+    (λ c κs. search needs)
     returns
     add-i
     loop-less

@@ -1,58 +1,50 @@
+-- `text::hex::read_hex` meets its contract: the tests that led to each `return`, and what `store_bytes` stores.
+-- Assumes nothing.
+use mathlib.Core.Path.{sym, _∙_}
+use Prim.Native.Nat.{_+_, _/_}
+use native.Mathlib.Omega.{arith}
+use borrow.Author.Tests.{not-true, not-false}
 use borrow.Author.Needs.{needs}
+use lib.ListN.{length}
+use Rattle.text.proofs.Putting.{hex-odd, hex-other, hex-no-room, hex-read}
+use Rattle.wire.proofs.Reading.{lacks, holds, room}
 use Rattle.text.proofs.hex.read_hex.Statement.{statement}
 use Rattle.text.proofs.hex.read_hex.Tie as tie
-use Rattle.text.proofs.hex.read_hex.Reads as reads
-use Rattle.text.proofs.hex.read_hex.Lts as lts
-use Rattle.text.proofs.hex.all_hex.Reads as all-hex-reads
-use Rattle.text.proofs.hex.store_bytes.Reads as store-bytes-reads
-use Rattle.wire.proofs.has.Reads as has-reads
 
--- src/hex.rt:106:9
 returns : tie.Need-returns
-returns c = ?
+returns c =
+    hex-odd (c .before .before .before .args .out .now) (c .before .before .before .args .at) (c .before .before .before .args .s .now) (c .if1 .taken)
 
--- src/hex.rt:108:9
-all-hex-requires : tie.Need-all-hex-requires
-all-hex-requires c κs = search needs
-
--- src/hex.rt:109:9
 returns-2 : tie.Need-returns-2
-returns-2 c = ?
+returns-2 c =
+    hex-other (c .before .before .before .before .before .args .out .now) (c .before .before .before .before .before .args .at) (c .before .before .before .before .before .args .s .now) (c .before .before .if1 .left) (sym (c .before .all-hex .ensures) ∙ not-true _ (c .if2 .taken))
 
--- src/hex.rt:112:9
-has-requires : tie.Need-has-requires
-has-requires c κs = search needs
-
--- src/hex.rt:113:9
 returns-3 : tie.Need-returns-3
-returns-3 c = ?
+returns-3 c =
+    hex-no-room (c .before .before .before .before .before .before .before .args .out .now) (c .before .before .before .before .before .before .before .args .at) (c .before .before .before .before .before .before .before .args .s .now) (c .before .before .before .before .if1 .left) (sym (c .before .before .before .all-hex .ensures) ∙ not-false _ (c .before .before .if2 .left)) (lacks (c .before .has .result) (c .before .before .before .before .before .before .before .args .at + length (c .before .before .before .before .before .before .before .args .s .now) / 2) (length (c .before .before .before .before .before .before .before .args .out .now)) (c .before .has .ensures) (c .if3 .taken))
 
--- src/hex.rt:115:5
 store-bytes-requires : tie.Need-store-bytes-requires
-store-bytes-requires c κs = ?
+store-bytes-requires c κs =
+    (room (c .before .before .has .result) (c .before .before .before .before .before .before .before .before .args .at + length (c .before .before .before .before .before .before .before .before .args .s .now) / 2) (length (c .before .before .before .before .before .before .before .before .args .out .now)) (c .before .before .has .ensures) (c .before .if3 .left), sym (c .before .before .before .before .all-hex .ensures) ∙ not-false _ (c .before .before .before .if2 .left))
 
--- src/hex.rt:116:13
 add-t6 : tie.Need-add-t6
-add-t6 c = ?
+add-t6 c =
+    omega (arith, room (c .before .before .before .before .before .has .result) (c .before .before .before .before .before .before .before .before .before .before .before .args .at + length (c .before .before .before .before .before .before .before .before .before .before .before .args .s .now) / 2) (length (c .before .before .before .before .before .before .before .before .before .before .before .args .out .now)) (c .before .before .before .before .before .has .ensures) (c .before .before .before .before .if3 .left))
 
--- src/hex.rt:102:1
-same-length : tie.Need-same-length
-same-length c = search needs
-
--- src/hex.rt:102:1
 returns-4 : tie.Need-returns-4
-returns-4 c = ?
+returns-4 c =
+    hex-read (c .before .before .before .before .before .before .before .before .before .before .before .args .out .now) (c .before .before .before .before .before .before .before .before .before .before .before .args .at) (c .before .before .before .before .before .before .before .before .before .before .before .args .s .now) (c .before .before .before .before .before .before .before .before .if1 .left) (sym (c .before .before .before .before .before .before .before .all-hex .ensures) ∙ not-false _ (c .before .before .before .before .before .before .if2 .left)) _ (holds (c .before .before .before .before .before .has .result) (c .before .before .before .before .before .before .before .before .before .before .before .args .at + length (c .before .before .before .before .before .before .before .before .before .before .before .args .s .now) / 2) (length (c .before .before .before .before .before .before .before .before .before .before .before .args .out .now)) (c .before .before .before .before .before .has .ensures) (c .before .before .before .before .if3 .left)) (c .before .before .store-bytes .ensures)
 
 pub read-hex-spec : {M : Type 1} → statement M
 read-hex-spec =
     tie.close
     (tie.spec
     returns
-    all-hex-requires
+    (λ c κs. search needs)
     returns-2
-    has-requires
+    (λ c κs. search needs)
     returns-3
     store-bytes-requires
     add-t6
-    same-length
+    (λ c. search needs)
     returns-4)
