@@ -3,11 +3,14 @@
 -- two tests are equal where each follows from the other
 use mathlib.Core.Path.{_≡_, refl, ap, sym, _∙_}
 use mathlib.Core.Bool.{Bool, true, false, not}
-use Prim.Native.Nat.{ℕ, _≤_}
+use Prim.Native.Nat.{ℕ, _+_, _≤_}
 use native.Mathlib.Omega.{arith}
 use lib.Dec.{leb}
+use lib.ListN.{length}
+use mathlib.Core.List.{List}
 use borrow.Author.Tests.{leb-true, le-leb, not-true, not-false}
-use Rattle.wire.specs.Answer.{Answer, got, refused, andThen}
+use Rattle.wire.specs.Answer.{Answer, got, refused, andThen, item, signedItem}
+use Rattle.wire.specs.Number.{signed}
 
 pub leb-same : (a b c d : ℕ) → (a ≤ b → c ≤ d) → (c ≤ d → a ≤ b) → leb a b ≡ leb c d
 leb-same a b c d f g = go (leb a b) refl (leb c d) refl
@@ -47,3 +50,11 @@ not-got e = let z : _≡_ {A = ℕ} 0 1 = cc in omega arith
 pub invert : {A B : Type 0} (a : Answer A) (k : A → ℕ → Answer B) {y : B} {z : ℕ} → andThen a k ≡ got y z → (x : A) × (n : ℕ) × (a ≡ got x n) × (k x n ≡ got y z)
 invert (got x n) k h = (x, n, refl, h)
 invert (refused n p) k h = absurd (not-got h)
+
+-- a signed item is the item with the signed number that it stands for
+pub signed-is : (w : ℕ) (s : List ℕ) (at : ℕ) → signedItem w s at ≡ andThen (item w s at) (λ v next. got (signed w v) next)
+signed-is w s at = go (leb (at + w) (length s)) refl
+  where
+    go : (b : Bool) → leb (at + w) (length s) ≡ b → signedItem w s at ≡ andThen (item w s at) (λ v next. got (signed w v) next)
+    go true e = rw e
+    go false e = rw e
