@@ -1,0 +1,5 @@
+pub mod Lists
+pub mod Digits
+pub mod Numerals
+pub mod Putting
+pub mod Back
