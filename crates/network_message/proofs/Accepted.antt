@@ -1,22 +1,23 @@
 -- The messages of an accepted payload tile it exactly.
 -- Assumes nothing.
 -- the sizes of the messages of an accepted payload
+use Prim.Native.Nat.{ℕ, zero, suc, _+_, _*_, _-_, _≤_, _<_}
 use mathlib.Core.Path.{_≡_, refl, ap, sym, _∙_}
 use mathlib.Core.Bool.{Bool, true, false, cond, _&&_}
 use mathlib.Core.List.{List, [], _∷_}
-use Prim.Native.Nat.{ℕ, zero, suc, _+_, _*_, _-_, _≤_, _<_}
 use native.Mathlib.Nat.{not-suc-le-zero}
 use native.Mathlib.Omega.{arith}
-use borrow.Author.Tests.{le-leb, leb-true, eqb-true, ltb-true}
 use lib.Dec.{leb, ltb, eqb}
 use lib.ListN.{length, getD}
-use Rattle.wire.specs.Number.{le}
-use Rattle.wire.specs.Answer.{got, refused, item}
-use Rattle.wire.proofs.Reading.{got-value, not-got}
+use borrow.Author.Tests.{le-leb, leb-true, eqb-true, ltb-true}
 use Rattle.network_message.specs.Payload.{total, positive, listed, configuredSizes, payloadOf, restAt, listedAt, sizedAt, configuredAt, payloadAt, valueOr0}
 use Rattle.network_message.specs.declared.header.PayloadHeader.{PayloadHeader}
 use Rattle.network_message.specs.declared.payload.Sizes.{Sizes}
 use Rattle.network_message.specs.declared.payload.Payload.{Payload}
+use Rattle.wire.specs.Number.{le}
+use Rattle.wire.specs.Answer.{got, refused, item}
+use Rattle.wire.proofs.Reading.{got-value, not-got}
+use Rattle.network_message.proofs.Tallies.{and-left, and-right}
 use Rattle.network_message.proofs.Messages.{Tiles}
 
 abbrev pub Tiled : Payload → List ℕ → List ℕ → Type 0
@@ -52,15 +53,6 @@ listed-at (suc n) s at (suc k) h =
     listed-at n s (at + 2) k (omega arith) ∙ ap (λ (j : ℕ). le 2 s j) e
 
 -- each of the sizes is at least 1
-and-left : (a b : Bool) → (a && b) ≡ true → a ≡ true
-and-left true b e = refl
-and-left false b e = e
-
-and-right : (a b : Bool) → (a && b) ≡ true → b ≡ true
-and-right true b e = e
-and-right false true e = refl
-and-right false false e = e
-
 positive-at : (zs : List ℕ) → positive zs ≡ true → (k : ℕ) → k < length zs → 0 < getD zs k 0
 positive-at [] e k h = absurd (not-suc-le-zero h)
 positive-at (x ∷ zs) e zero h = ltb-true 0 x (and-left (ltb 0 x) (positive zs) e)

@@ -1,22 +1,22 @@
 -- Laws of walking over the messages of a payload, and the theorem that the messages of an accepted payload tile it.
 -- Assumes nothing.
 -- past a list's end there is 0
+use Prim.Native.Nat.{ℕ, zero, suc, _+_, _-_, _≤_, _<_}
 use mathlib.Core.Path.{_≡_, refl, ap, sym, _∙_}
 use mathlib.Core.Bool.{Bool, true, false}
 use mathlib.Core.List.{List, [], _∷_}
-use Prim.Native.Nat.{ℕ, zero, suc, _+_, _-_, _≤_, _<_}
 use native.Mathlib.Nat.{not-suc-le-zero}
 use native.Mathlib.Numerals.{add-one}
 use native.Mathlib.Omega.{arith}
-use borrow.Author.Tests.{le-leb, lt-leb, leb-true, leb-false}
 use lib.Dec.{leb}
 use lib.ListN.{length, take, getD}
-use Rattle.wire.specs.Answer.{got, refused, run}
-use Rattle.wire.proofs.Reading.{not-got}
+use borrow.Author.Tests.{le-leb, lt-leb, leb-true, leb-false}
 use Rattle.network_message.specs.Payload.{total, sizeOf, messageAt, passAt}
-use Rattle.network_message.proofs.Tallies.{total-next}
 use Rattle.network_message.specs.declared.payload.Payload.{Payload}
 use Rattle.network_message.specs.declared.payload.MessagePlace.{MessagePlace}
+use Rattle.wire.specs.Answer.{got, refused, run}
+use Rattle.wire.proofs.Reading.{not-got}
+use Rattle.network_message.proofs.Tallies.{total-next}
 
 pub none-past : (xs : List ℕ) (k : ℕ) → length xs ≤ k → getD xs k 0 ≡ 0
 none-past [] k h = refl

@@ -4,3 +4,4 @@ pub mod Group
 pub mod Header
 pub mod Payload
 pub mod Envelope
+pub mod PublisherRecord

@@ -5,3 +5,4 @@ pub mod group;
 pub mod header;
 pub mod payload;
 pub mod publisher;
+pub mod publisher_record;

@@ -1,7 +1,7 @@
 -- `network_message::envelope::message` meets its contract.
 -- Assumes nothing.
-use mathlib.Core.Path.{sym}
 use Prim.Native.Nat.{_-_}
+use mathlib.Core.Path.{sym}
 use borrow.Author.Needs.{needs}
 use Rattle.network_message.specs.Payload.{answerMessage}
 use Rattle.wire.proofs.Reading.{told}

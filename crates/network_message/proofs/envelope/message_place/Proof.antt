@@ -1,10 +1,10 @@
 -- `network_message::envelope::message_place` meets its contract.
 -- Assumes nothing.
-use mathlib.Core.Path.{sym}
 use Prim.Native.Nat.{_-_}
+use mathlib.Core.Path.{sym}
 use borrow.Author.Needs.{needs}
-use Rattle.wire.proofs.Reading.{told}
 use Rattle.network_message.specs.Envelope.{answerNetworkMessage}
+use Rattle.wire.proofs.Reading.{told}
 use Rattle.network_message.proofs.envelope.message_place.Statement.{statement}
 use Rattle.network_message.proofs.envelope.message_place.Tie as tie
 

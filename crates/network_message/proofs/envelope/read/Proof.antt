@@ -1,7 +1,7 @@
 -- `network_message::envelope::read` meets its contract.
 -- Assumes nothing.
-use borrow.Author.Tests.{lt-ltb, le-ltb}
 use mathlib.Core.Path.{sym}
+use borrow.Author.Tests.{lt-ltb, le-ltb}
 use borrow.Author.Needs.{needs}
 use Rattle.network_message.specs.Flags.{answerFlags}
 use Rattle.wire.proofs.Reading.{told}

@@ -1,7 +1,7 @@
 -- `network_message::group::message_number` meets its contract.
 -- Assumes nothing.
-use borrow.Author.Tests.{not-true, not-false, eq-eqb, ne-eqb}
 use mathlib.Core.Path.{sym}
+use borrow.Author.Tests.{not-true, not-false, eq-eqb, ne-eqb}
 use borrow.Author.Needs.{needs}
 use Rattle.wire.specs.Items.{answer16}
 use Rattle.wire.proofs.Reading.{told}

@@ -1,7 +1,7 @@
 -- `network_message::group::read_group` meets its contract.
 -- Assumes nothing.
-use borrow.Author.Tests.{not-true, not-false, le-leb, lt-leb}
 use mathlib.Core.Path.{sym}
+use borrow.Author.Tests.{not-true, not-false, le-leb, lt-leb}
 use borrow.Author.Needs.{needs}
 use Rattle.wire.specs.Items.{answer8}
 use Rattle.wire.proofs.Reading.{told}

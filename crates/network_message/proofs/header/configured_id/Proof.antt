@@ -1,8 +1,8 @@
 -- `network_message::header::configured_id` meets its contract.
 -- Assumes nothing.
-use borrow.Author.Tests.{le-leb, lt-leb}
-use mathlib.Core.Path.{sym}
 use Prim.Native.Nat.{_-_}
+use mathlib.Core.Path.{sym}
+use borrow.Author.Tests.{le-leb, lt-leb}
 use borrow.Author.Needs.{needs}
 use Rattle.network_message.proofs.header.configured_id.Statement.{statement}
 use Rattle.network_message.proofs.header.configured_id.Tie as tie

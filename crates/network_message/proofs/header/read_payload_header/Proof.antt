@@ -1,7 +1,7 @@
 -- `network_message::header::read_payload_header` meets its contract.
 -- Assumes nothing.
-use borrow.Author.Tests.{not-true, not-false}
 use mathlib.Core.Path.{sym}
+use borrow.Author.Tests.{not-true, not-false}
 use borrow.Author.Needs.{needs}
 use Rattle.wire.specs.Items.{answer16}
 use Rattle.wire.proofs.Reading.{told}

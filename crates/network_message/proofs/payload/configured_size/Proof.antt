@@ -1,14 +1,14 @@
 -- `network_message::payload::configured_size` meets its contract.
 -- Assumes nothing.
-use lib.Seq.{getD-take}
-use denote.Ref.{now}
-use lib.ListN.{length}
+use Prim.Native.Nat.{_-_, _≤_, _<_}
 use mathlib.Core.Path.{sym}
 use native.Mathlib.Omega.{arith}
-use Prim.Native.Nat.{_-_, _≤_, _<_}
+use denote.Ref.{now}
+use lib.Seq.{getD-take}
+use lib.ListN.{length}
 use borrow.Author.Needs.{needs}
-use Rattle.network_message.proofs.Messages.{none-past}
 use Rattle.network_message.specs.Payload.{configuredSizes}
+use Rattle.network_message.proofs.Messages.{none-past}
 use Rattle.network_message.proofs.payload.configured_size.Statement.{statement}
 use Rattle.network_message.proofs.payload.configured_size.Tie as tie
 

@@ -1,8 +1,8 @@
 -- `network_message::payload::configured_sizes` meets its contract.
 -- Assumes nothing.
-use borrow.Author.Tests.{eq-eqb, ne-eqb}
-use mathlib.Core.Path.{sym, _∙_, ap}
 use Prim.Native.Nat.{_-_}
+use mathlib.Core.Path.{sym, _∙_, ap}
+use borrow.Author.Tests.{eq-eqb, ne-eqb}
 use borrow.Author.Needs.{needs}
 use Rattle.network_message.specs.Payload.{total, positive}
 use Rattle.network_message.proofs.payload.configured_sizes.Statement.{statement}

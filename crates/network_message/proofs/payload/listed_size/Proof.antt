@@ -1,10 +1,10 @@
 -- `network_message::payload::listed_size` meets its contract.
 -- Assumes nothing.
-use borrow.Author.Tests.{le-leb, lt-leb}
+use Prim.Native.Nat.{_*_, _+_, _-_}
+use native.Mathlib.Omega.{arith}
 use denote.Ref.{now}
 use lib.ListN.{length}
-use native.Mathlib.Omega.{arith}
-use Prim.Native.Nat.{_*_, _+_, _-_}
+use borrow.Author.Tests.{le-leb, lt-leb}
 use borrow.Author.Needs.{needs}
 use Rattle.network_message.proofs.payload.listed_size.Statement.{statement}
 use Rattle.network_message.proofs.payload.listed_size.Tie as tie

@@ -1,11 +1,11 @@
 -- `network_message::payload::listed_sizes` meets its contract.
 -- Assumes nothing.
-use borrow.Author.Tests.{not-true, not-false, eq-eqb, ne-eqb}
-use denote.Ref.{now}
-use lib.ListN.{length}
+use Prim.Native.Nat.{_*_, _+_, _-_}
 use mathlib.Core.Path.{_≡_, sym, _∙_}
 use native.Mathlib.Omega.{arith}
-use Prim.Native.Nat.{_*_, _+_, _-_}
+use denote.Ref.{now}
+use lib.ListN.{length}
+use borrow.Author.Tests.{not-true, not-false, eq-eqb, ne-eqb}
 use borrow.Author.Needs.{needs}
 use Rattle.network_message.specs.Payload.{total, positive, listed}
 use Rattle.wire.proofs.Reading.{lacks, holds, room}

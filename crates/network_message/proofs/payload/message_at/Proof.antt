@@ -1,8 +1,8 @@
 -- `network_message::payload::message_at` meets its contract.
 -- Assumes nothing.
-use borrow.Author.Tests.{le-leb, lt-leb}
-use mathlib.Core.Path.{sym}
 use Prim.Native.Nat.{_-_}
+use mathlib.Core.Path.{sym}
+use borrow.Author.Tests.{le-leb, lt-leb}
 use borrow.Author.Needs.{needs}
 use Rattle.wire.proofs.Reading.{told}
 use Rattle.wire.specs.Items.{answerRun}

@@ -1,12 +1,12 @@
 -- `network_message::payload::nth` meets its contract.
 -- Assumes nothing.
-use borrow.Author.Needs.{needs}
-use denote.Ref.{now}
+use Prim.Native.Nat.{_-_, _≤_}
 use mathlib.Core.Path.{_≡_, sym, ap}
 use native.Mathlib.Omega.{arith}
-use Prim.Native.Nat.{_-_, _≤_}
-use Rattle.network_message.proofs.Messages.{pass-none, pass-step, pass-stop}
+use denote.Ref.{now}
+use borrow.Author.Needs.{needs}
 use Rattle.network_message.specs.Payload.{answerMessage, messageAt, passAt}
+use Rattle.network_message.proofs.Messages.{pass-none, pass-step, pass-stop}
 use Rattle.wire.specs.Answer.{got, andThen}
 use Rattle.wire.proofs.Reading.{told}
 use Rattle.network_message.proofs.payload.nth.Statement.{statement}

@@ -1,7 +1,7 @@
 -- `network_message::payload::read_payload` meets its contract.
 -- Assumes nothing.
-use borrow.Author.Tests.{le-leb, lt-leb}
 use Prim.Native.Nat.{_-_}
+use borrow.Author.Tests.{le-leb, lt-leb}
 use borrow.Author.Needs.{needs}
 use Rattle.network_message.proofs.payload.read_payload.Statement.{statement}
 use Rattle.network_message.proofs.payload.read_payload.Tie as tie

@@ -1,9 +1,9 @@
 -- `network_message::payload::size_at` meets its contract.
 -- Assumes nothing.
-use denote.Ref.{now}
+use Prim.Native.Nat.{_-_}
 use mathlib.Core.Path.{sym}
 use native.Mathlib.Omega.{arith}
-use Prim.Native.Nat.{_-_}
+use denote.Ref.{now}
 use borrow.Author.Needs.{needs}
 use Rattle.network_message.proofs.Tallies.{size-is, size-there}
 use Rattle.wire.proofs.Reading.{told}

@@ -1,11 +1,11 @@
 -- `network_message::payload::sized` meets its contract.
 -- Assumes nothing.
-use borrow.Author.Tests.{leb-false, eq-eqb, ne-eqb}
-use denote.Ref.{now}
-use lib.ListN.{length}
+use Prim.Native.Nat.{_+_, _-_}
 use mathlib.Core.Path.{_≡_}
 use native.Mathlib.Omega.{arith}
-use Prim.Native.Nat.{_+_, _-_}
+use denote.Ref.{now}
+use lib.ListN.{length}
+use borrow.Author.Tests.{leb-false, eq-eqb, ne-eqb}
 use borrow.Author.Needs.{needs}
 use Rattle.network_message.specs.Payload.{total}
 use Rattle.wire.proofs.Reading.{lacks, room}

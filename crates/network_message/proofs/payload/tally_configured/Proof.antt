@@ -1,15 +1,15 @@
 -- `network_message::payload::tally_configured` meets its contract.
 -- Assumes nothing.
-use borrow.Author.Needs.{needs}
-use denote.Ref.{now}
-use lib.Dec.{ltb}
-use lib.ListN.{length, take, getD}
+use Prim.Native.Nat.{ℕ, _*_, _-_, _≤_, _<_}
 use mathlib.Core.Bool.{Bool, _&&_}
 use mathlib.Core.Path.{_≡_, refl, sym, _∙_, ap}
 use native.Mathlib.Omega.{arith}
-use Prim.Native.Nat.{ℕ, _*_, _-_, _≤_, _<_}
-use Rattle.network_message.proofs.Tallies.{total-next, positive-next}
+use denote.Ref.{now}
+use lib.Dec.{ltb}
+use lib.ListN.{length, take, getD}
+use borrow.Author.Needs.{needs}
 use Rattle.network_message.specs.Payload.{total, positive}
+use Rattle.network_message.proofs.Tallies.{total-next, positive-next}
 use Rattle.network_message.proofs.payload.tally_configured.Statement.{statement}
 use Rattle.network_message.proofs.payload.tally_configured.Tie as tie
 

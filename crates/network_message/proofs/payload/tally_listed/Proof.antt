@@ -1,17 +1,17 @@
 -- `network_message::payload::tally_listed` meets its contract.
 -- Assumes nothing.
-use borrow.Author.Needs.{needs}
-use denote.Ref.{now}
-use lib.Dec.{ltb}
-use lib.ListN.{length}
+use Prim.Native.Nat.{ℕ, _*_, _+_, _-_, _≤_}
 use mathlib.Core.List.{List}
 use mathlib.Core.Bool.{_&&_, and-assoc, and-true}
 use mathlib.Core.Path.{_≡_, refl, sym, _∙_, ap}
 use native.Mathlib.Nat.{le-refl}
 use native.Mathlib.Omega.{arith}
-use Prim.Native.Nat.{ℕ, _*_, _+_, _-_, _≤_}
-use Rattle.network_message.proofs.Tallies.{listed-step, listed-done}
+use denote.Ref.{now}
+use lib.Dec.{ltb}
+use lib.ListN.{length}
+use borrow.Author.Needs.{needs}
 use Rattle.network_message.specs.Payload.{total, positive, listed}
+use Rattle.network_message.proofs.Tallies.{listed-step, listed-done}
 use Rattle.wire.specs.Number.{le}
 use Rattle.network_message.proofs.payload.tally_listed.Statement.{statement}
 use Rattle.network_message.proofs.payload.tally_listed.Tie as tie

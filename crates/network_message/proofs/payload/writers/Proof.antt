@@ -1,12 +1,12 @@
 -- `network_message::payload::writers` meets its contract.
 -- Assumes nothing.
-use denote.Ref.{now}
-use lib.Seq.{take-all, length-take-le}
-use lib.ListN.{length}
+use Prim.Native.Nat.{_-_, _≤_}
 use mathlib.Core.Path.{refl, sym, _∙_, ap}
 use native.Mathlib.Nat.{le-refl}
 use native.Mathlib.Omega.{arith}
-use Prim.Native.Nat.{_-_, _≤_}
+use denote.Ref.{now}
+use lib.Seq.{take-all, length-take-le}
+use lib.ListN.{length}
 use Rattle.network_message.proofs.payload.writers.Statement.{statement}
 use Rattle.network_message.proofs.payload.writers.Tie as tie
 

@@ -1,7 +1,7 @@
 -- `network_message::publisher::string_of` meets its contract.
 -- Assumes nothing.
-use borrow.Author.Tests.{le-leb, lt-leb}
 use mathlib.Core.Path.{sym}
+use borrow.Author.Tests.{le-leb, lt-leb}
 use borrow.Author.Needs.{needs}
 use Rattle.wire.specs.Items.{answerRun}
 use Rattle.wire.proofs.Reading.{told}

@@ -1,12 +1,12 @@
 -- `network_message::payload::MessageCursor::step` meets its contract.
 -- Assumes nothing.
-use denote.Ref.{now}
+use Prim.Native.Nat.{_-_}
 use mathlib.Core.Path.{sym}
 use native.Mathlib.Omega.{arith}
-use Prim.Native.Nat.{_-_}
+use denote.Ref.{now}
 use borrow.Author.Needs.{needs}
-use Rattle.network_message.proofs.Messages.{message-counted}
 use Rattle.network_message.specs.Payload.{answerMessage}
+use Rattle.network_message.proofs.Messages.{message-counted}
 use Rattle.wire.proofs.Reading.{told}
 use Rattle.network_message.proofs.payload.MessageCursor.step.Statement.{statement}
 use Rattle.network_message.proofs.payload.MessageCursor.step.Tie as tie
