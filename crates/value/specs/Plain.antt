@@ -6,7 +6,7 @@ use Rattle.wire.specs.Answer.{Answer, got, refused, Reader, andThen, _>>=_, _>>
 use Rattle.wire.specs.Items.{lengthItem}
 use Rattle.wire.specs.declared.Length.{Length}
 use Rattle.value.specs.Width.{among, widthOf, fixed}
-use Rattle.value.specs.declared.Reached.{Reached}
+use Rattle.value.specs.declared.plain.Reached.{Reached}
 
 abbrev pub answerReached : Reached → Answer (Unit {0})
 answerReached (Reached.To next) = got tt next
