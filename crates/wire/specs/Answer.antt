@@ -23,12 +23,10 @@ andThen (got a next) k = k a next
 andThen (refused n place) k = refused n place
 
 infixl 10 _>>=_
-
 abbrev pub _>>=_ : {A B : Type 0} → Reader A → (A → Reader B) → Reader B
 _>>=_ r k s at = andThen (r s at) (λ a next. k a s next)
 
 infixl 10 _>>_
-
 abbrev pub _>>_ : {A B : Type 0} → Reader A → Reader B → Reader B
 _>>_ r k s at = andThen (r s at) (λ a next. k s next)
 

@@ -1,5 +1,6 @@
 // Numbers and runs of bytes stored into a lent buffer. What does not fit as a whole is not stored at all.
-use crate::{Guid, has};
+use crate::Guid;
+use crate::has;
 ghost use mathlib.Core.Path.{_≡_};
 ghost use Prim.Native.Nat.{_+_, _≤_};
 ghost use mathlib.Core.List.{_++_};

@@ -1,23 +1,25 @@
+-- `wire::length_of` meets its contract.
+-- Assumes nothing.
+use mir.ValLaws.{toZ-ofZ}
+use mir.Syntax.{w32}
+use Rattle.wire.proofs.Numbers.{null-is, negative-is, of-is, of-casts}
 use Rattle.wire.proofs.length_of.Statement.{statement}
 use Rattle.wire.proofs.length_of.Tie as tie
-use Rattle.wire.proofs.length_of.Reads as reads
-use Rattle.wire.proofs.length_of.Lts as lts
 
--- src/lib.rt:213:9
 returns : tie.Need-returns
-returns c = ?
+returns c = null-is (c .before .args .n) (c .before .fits .n) (c .if1 .taken)
 
--- src/lib.rt:216:9
 returns-2 : tie.Need-returns-2
-returns-2 c = ?
+returns-2 c =
+    negative-is (c .before .before .args .n) (c .before .before .fits .n) (c .before .if1 .left) (rw (toZ-ofZ w32 _ (c .before .before .fits .n)) at (c .if2 .taken))
 
--- src/lib.rt:218:16
 cast-t3 : tie.Need-cast-t3
-cast-t3 c = ?
+cast-t3 c =
+    rw (toZ-ofZ w32 _ (c .before .before .fits .n)) (of-casts (c .before .before .args .n) (c .before .before .fits .n) (rw (toZ-ofZ w32 _ (c .before .before .fits .n)) at (c .if2 .left)))
 
--- src/lib.rt:209:1
 returns-3 : tie.Need-returns-3
-returns-3 c = ?
+returns-3 c =
+    rw (toZ-ofZ w32 _ (c .before .before .fits .n)) (of-is (c .before .before .args .n) (rw (toZ-ofZ w32 _ (c .before .before .fits .n)) at (c .if2 .left)))
 
 pub length-of-spec : {M : Type 1} → statement M
 length-of-spec = tie.close (tie.spec returns returns-2 cast-t3 returns-3)

@@ -1,35 +1,17 @@
+-- `wire::number4` meets its contract.
+-- Assumes nothing.
+use denote.Ref.{now}
+use native.Mathlib.Omega.{arith}
 use borrow.Author.Needs.{needs}
+use Rattle.wire.proofs.Numbers.{split}
 use Rattle.wire.proofs.number4.Statement.{statement}
 use Rattle.wire.proofs.number4.Tie as tie
-use Rattle.wire.proofs.number4.Reads as reads
-use Rattle.wire.proofs.number4.Lts as lts
-use Rattle.wire.proofs.number2.Reads as number2-reads
 
--- src/lib.rt:104:5
-number2-requires : tie.Need-number2-requires
-number2-requires c κs = search needs
-
--- src/lib.rt:104:41
-add-number2 : tie.Need-add-number2
-add-number2 c = search needs
-
--- src/lib.rt:104:30
-number2-requires-2 : tie.Need-number2-requires-2
-number2-requires-2 c κs = search needs
-
--- src/lib.rt:104:22
-mul-result : tie.Need-mul-result
-mul-result c = search needs
-
--- src/lib.rt:104:5
-add-result : tie.Need-add-result
-add-result c = search needs
-
--- src/lib.rt:100:1
 returns : tie.Need-returns
-returns c = ?
+returns c =
+    (omega (arith, split 2 2 (now (c .before .before .before .args .s)) (c .before .before .before .args .at)), omega arith)
 
 pub number4-spec : {M : Type 1} → statement M
 number4-spec =
     tie.close
-    (tie.spec number2-requires add-number2 number2-requires-2 mul-result add-result returns)
+    (tie.spec (λ c κs. search needs) (λ c. search needs) (λ c κs. search needs) (λ c. search needs) (λ c. search needs) returns)

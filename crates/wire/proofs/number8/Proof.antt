@@ -1,35 +1,17 @@
+-- `wire::number8` meets its contract.
+-- Assumes nothing.
+use denote.Ref.{now}
+use native.Mathlib.Omega.{arith}
 use borrow.Author.Needs.{needs}
+use Rattle.wire.proofs.Numbers.{split}
 use Rattle.wire.proofs.number8.Statement.{statement}
 use Rattle.wire.proofs.number8.Tie as tie
-use Rattle.wire.proofs.number8.Reads as reads
-use Rattle.wire.proofs.number8.Lts as lts
-use Rattle.wire.proofs.number4.Reads as number4-reads
 
--- src/lib.rt:111:5
-number4-requires : tie.Need-number4-requires
-number4-requires c κs = search needs
-
--- src/lib.rt:111:46
-add-number4 : tie.Need-add-number4
-add-number4 c = search needs
-
--- src/lib.rt:111:35
-number4-requires-2 : tie.Need-number4-requires-2
-number4-requires-2 c κs = search needs
-
--- src/lib.rt:111:22
-mul-result : tie.Need-mul-result
-mul-result c = search needs
-
--- src/lib.rt:111:5
-add-result : tie.Need-add-result
-add-result c = search needs
-
--- src/lib.rt:107:1
 returns : tie.Need-returns
-returns c = ?
+returns c =
+    (omega (arith, split 4 4 (now (c .before .before .before .args .s)) (c .before .before .before .args .at)), omega arith)
 
 pub number8-spec : {M : Type 1} → statement M
 number8-spec =
     tie.close
-    (tie.spec number4-requires add-number4 number4-requires-2 mul-result add-result returns)
+    (tie.spec (λ c κs. search needs) (λ c. search needs) (λ c κs. search needs) (λ c. search needs) (λ c. search needs) returns)

@@ -1,30 +1,29 @@
+-- `wire::read64` meets its contract.
+-- Assumes nothing.
+use denote.Ref.{now}
+use Prim.Native.Nat.{_+_}
+use lib.ListN.{length}
+use native.Mathlib.Omega.{arith}
 use borrow.Author.Needs.{needs}
+use Rattle.wire.proofs.Reading.{lacks, holds, room}
 use Rattle.wire.proofs.read64.Statement.{statement}
 use Rattle.wire.proofs.read64.Tie as tie
-use Rattle.wire.proofs.read64.Reads as reads
-use Rattle.wire.proofs.read64.Lts as lts
-use Rattle.wire.proofs.has.Reads as has-reads
-use Rattle.wire.proofs.number8.Reads as number8-reads
 
--- src/lib.rt:144:9
-has-requires : tie.Need-has-requires
-has-requires c κs = search needs
-
--- src/lib.rt:145:9
 returns : tie.Need-returns
-returns c = ?
+returns c =
+    rw (lacks (c .before .has .result) (c .before .before .before .args .at + 8) (length (now (c .before .before .before .args .s))) (c .before .has .ensures) (c .if1 .taken))
 
--- src/lib.rt:147:16
 number8-requires : tie.Need-number8-requires
-number8-requires c κs = ?
+number8-requires c κs =
+    room (c .before .has .result) (c .before .before .before .args .at + 8) (length (now (c .before .before .before .args .s))) (c .before .has .ensures) (c .if1 .left)
 
--- src/lib.rt:147:32
 add-t4 : tie.Need-add-t4
-add-t4 c = ?
+add-t4 c =
+    omega (arith, room (c .before .before .has .result) (c .before .before .before .before .args .at + 8) (length (now (c .before .before .before .before .args .s))) (c .before .before .has .ensures) (c .before .if1 .left))
 
--- src/lib.rt:141:1
 returns-2 : tie.Need-returns-2
-returns-2 c = ?
+returns-2 c =
+    rw (holds (c .before .before .has .result) (c .before .before .before .before .args .at + 8) (length (now (c .before .before .before .before .args .s))) (c .before .before .has .ensures) (c .before .if1 .left), c .number8 .ensures .0)
 
 pub read64-spec : {M : Type 1} → statement M
-read64-spec = tie.close (tie.spec has-requires returns number8-requires add-t4 returns-2)
+read64-spec = tie.close (tie.spec (λ c κs. search needs) returns number8-requires add-t4 returns-2)

@@ -1,34 +1,29 @@
+-- `wire::read8` meets its contract.
+-- Assumes nothing.
+use denote.Ref.{now}
+use Prim.Native.Nat.{_+_}
+use lib.ListN.{length}
+use native.Mathlib.Omega.{arith}
 use borrow.Author.Needs.{needs}
+use Rattle.wire.proofs.Reading.{lacks, holds, room}
 use Rattle.wire.proofs.read8.Statement.{statement}
 use Rattle.wire.proofs.read8.Tie as tie
-use Rattle.wire.proofs.read8.Reads as reads
-use Rattle.wire.proofs.read8.Lts as lts
-use Rattle.wire.proofs.has.Reads as has-reads
-use Rattle.wire.proofs.number1.Reads as number1-reads
 
--- src/lib.rt:117:9
-has-requires : tie.Need-has-requires
-has-requires c κs = search needs
-
--- src/lib.rt:118:9
 returns : tie.Need-returns
-returns c = ?
+returns c =
+    rw (lacks (c .before .has .result) (c .before .before .before .args .at + 1) (length (now (c .before .before .before .args .s))) (c .before .has .ensures) (c .if1 .taken))
 
--- src/lib.rt:120:15
 number1-requires : tie.Need-number1-requires
-number1-requires c κs = ?
+number1-requires c κs =
+    room (c .before .has .result) (c .before .before .before .args .at + 1) (length (now (c .before .before .before .args .s))) (c .before .has .ensures) (c .if1 .left)
 
--- src/lib.rt:120:15
-cast-t7 : tie.Need-cast-t7
-cast-t7 c = search needs
-
--- src/lib.rt:120:37
 add-t4 : tie.Need-add-t4
-add-t4 c = ?
+add-t4 c =
+    omega (arith, room (c .before .before .has .result) (c .before .before .before .before .args .at + 1) (length (now (c .before .before .before .before .args .s))) (c .before .before .has .ensures) (c .before .if1 .left))
 
--- src/lib.rt:114:1
 returns-2 : tie.Need-returns-2
-returns-2 c = ?
+returns-2 c =
+    rw (holds (c .before .before .has .result) (c .before .before .before .before .args .at + 1) (length (now (c .before .before .before .before .args .s))) (c .before .before .has .ensures) (c .before .if1 .left), c .number1 .ensures .0)
 
 pub read8-spec : {M : Type 1} → statement M
-read8-spec = tie.close (tie.spec has-requires returns number1-requires cast-t7 add-t4 returns-2)
+read8-spec = tie.close (tie.spec (λ c κs. search needs) returns number1-requires (λ c. search needs) add-t4 returns-2)

@@ -1,44 +1,43 @@
+-- `wire::read_guid` meets its contract.
+-- Assumes nothing.
+use denote.Ref.{now}
+use Prim.Native.Nat.{_+_}
+use lib.ListN.{length}
+use native.Mathlib.Omega.{arith}
 use borrow.Author.Needs.{needs}
+use Rattle.wire.proofs.Reading.{lacks, holds, room}
 use Rattle.wire.proofs.read_guid.Statement.{statement}
 use Rattle.wire.proofs.read_guid.Tie as tie
-use Rattle.wire.proofs.read_guid.Reads as reads
-use Rattle.wire.proofs.read_guid.Lts as lts
-use Rattle.wire.proofs.has.Reads as has-reads
-use Rattle.wire.proofs.number8.Reads as number8-reads
 
--- src/lib.rt:200:9
-has-requires : tie.Need-has-requires
-has-requires c κs = search needs
-
--- src/lib.rt:201:9
 returns : tie.Need-returns
-returns c = ?
+returns c =
+    rw (lacks (c .before .has .result) (c .before .before .before .args .at + 16) (length (now (c .before .before .before .args .s))) (c .before .has .ensures) (c .if1 .taken))
 
--- src/lib.rt:203:9
 number8-requires : tie.Need-number8-requires
-number8-requires c κs = ?
+number8-requires c κs =
+    omega (arith, room (c .before .has .result) (c .before .before .before .args .at + 16) (length (now (c .before .before .before .args .s))) (c .before .has .ensures) (c .if1 .left))
 
--- src/lib.rt:204:27
 add-number8 : tie.Need-add-number8
-add-number8 c = ?
+add-number8 c =
+    omega (arith, room (c .before .before .has .result) (c .before .before .before .before .args .at + 16) (length (now (c .before .before .before .before .args .s))) (c .before .before .has .ensures) (c .before .if1 .left))
 
--- src/lib.rt:204:9
 number8-requires-2 : tie.Need-number8-requires-2
-number8-requires-2 c κs = ?
+number8-requires-2 c κs =
+    omega (arith, room (c .before .before .has .result) (c .before .before .before .before .args .at + 16) (length (now (c .before .before .before .before .args .s))) (c .before .before .has .ensures) (c .before .if1 .left))
 
--- src/lib.rt:205:38
 add-t6 : tie.Need-add-t6
-add-t6 c = ?
+add-t6 c =
+    omega (arith, room (c .before .before .before .has .result) (c .before .before .before .before .before .args .at + 16) (length (now (c .before .before .before .before .before .args .s))) (c .before .before .before .has .ensures) (c .before .before .if1 .left))
 
--- src/lib.rt:197:1
 returns-2 : tie.Need-returns-2
-returns-2 c = ?
+returns-2 c =
+    rw (holds (c .before .before .before .has .result) (c .before .before .before .before .before .args .at + 16) (length (now (c .before .before .before .before .before .args .s))) (c .before .before .before .has .ensures) (c .before .before .if1 .left), c .before .number8 .ensures .0, c .number82 .ensures .0)
 
 pub read-guid-spec : {M : Type 1} → statement M
 read-guid-spec =
     tie.close
     (tie.spec
-    has-requires
+    (λ c κs. search needs)
     returns
     number8-requires
     add-number8

@@ -1,36 +1,34 @@
+-- `wire::read_i64` meets its contract.
+-- Assumes nothing.
+use mir.ValLaws.{toZ-ofZ}
+use mir.Syntax.{w64}
+use denote.Ref.{now}
+use Prim.Native.Nat.{_+_}
+use lib.ListN.{length}
+use mathlib.Core.Path.{_∙_, ap}
+use native.Mathlib.Omega.{arith}
 use borrow.Author.Needs.{needs}
+use Rattle.wire.specs.Number.{signed}
+use Rattle.wire.proofs.Reading.{lacks, holds, room}
 use Rattle.wire.proofs.read_i64.Statement.{statement}
 use Rattle.wire.proofs.read_i64.Tie as tie
-use Rattle.wire.proofs.read_i64.Reads as reads
-use Rattle.wire.proofs.read_i64.Lts as lts
-use Rattle.wire.proofs.has.Reads as has-reads
-use Rattle.wire.proofs.number8.Reads as number8-reads
-use Rattle.wire.proofs.signed64.Reads as signed64-reads
 
--- src/lib.rt:181:9
-has-requires : tie.Need-has-requires
-has-requires c κs = search needs
-
--- src/lib.rt:182:9
 returns : tie.Need-returns
-returns c = ?
+returns c =
+    rw (lacks (c .before .has .result) (c .before .before .before .args .at + 8) (length (now (c .before .before .before .args .s))) (c .before .has .ensures) (c .if1 .taken))
 
--- src/lib.rt:184:26
 number8-requires : tie.Need-number8-requires
-number8-requires c κs = ?
+number8-requires c κs =
+    room (c .before .has .result) (c .before .before .before .args .at + 8) (length (now (c .before .before .before .args .s))) (c .before .has .ensures) (c .if1 .left)
 
--- src/lib.rt:184:17
-signed64-requires : tie.Need-signed64-requires
-signed64-requires c κs = search needs
-
--- src/lib.rt:184:43
 add-t4 : tie.Need-add-t4
-add-t4 c = ?
+add-t4 c =
+    omega (arith, room (c .before .before .before .has .result) (c .before .before .before .before .before .args .at + 8) (length (now (c .before .before .before .before .before .args .s))) (c .before .before .before .has .ensures) (c .before .before .if1 .left))
 
--- src/lib.rt:178:1
 returns-2 : tie.Need-returns-2
-returns-2 c = ?
+returns-2 c =
+    rw (holds (c .before .before .before .has .result) (c .before .before .before .before .before .args .at + 8) (length (now (c .before .before .before .before .before .args .s))) (c .before .before .before .has .ensures) (c .before .before .if1 .left), toZ-ofZ w64 _ (record { sfits = c .signed64 .ok }) ∙ c .signed64 .ensures ∙ ap (signed 8) (c .before .number8 .ensures .0))
 
 pub read-i64-spec : {M : Type 1} → statement M
 read-i64-spec =
-    tie.close (tie.spec has-requires returns number8-requires signed64-requires add-t4 returns-2)
+    tie.close (tie.spec (λ c κs. search needs) returns number8-requires (λ c κs. search needs) add-t4 returns-2)

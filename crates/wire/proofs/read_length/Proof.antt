@@ -1,54 +1,44 @@
+-- `wire::read_length` meets its contract.
+-- Assumes nothing.
+use mir.ValLaws.{toZ-ofZ}
+use mir.Syntax.{w32}
+use denote.Ref.{now}
+use Prim.Native.Nat.{_+_}
+use lib.ListN.{length}
+use mathlib.Core.Path.{_∙_, ap}
+use native.Mathlib.Omega.{arith}
 use borrow.Author.Needs.{needs}
+use Rattle.wire.specs.Items.{lengthOf}
+use Rattle.wire.specs.Number.{signed}
+use Rattle.wire.proofs.Reading.{lacks, holds, room}
 use Rattle.wire.proofs.read_length.Statement.{statement}
 use Rattle.wire.proofs.read_length.Tie as tie
-use Rattle.wire.proofs.read_length.Reads as reads
-use Rattle.wire.proofs.read_length.Lts as lts
-use Rattle.wire.proofs.has.Reads as has-reads
-use Rattle.wire.proofs.length_of.Reads as length-of-reads
-use Rattle.wire.proofs.number4.Reads as number4-reads
-use Rattle.wire.proofs.signed32.Reads as signed32-reads
 
--- src/lib.rt:224:9
-has-requires : tie.Need-has-requires
-has-requires c κs = search needs
-
--- src/lib.rt:225:9
 returns : tie.Need-returns
-returns c = ?
+returns c =
+    rw (lacks (c .before .has .result) (c .before .before .before .args .at + 4) (length (now (c .before .before .before .args .s))) (c .before .has .ensures) (c .if1 .taken))
 
--- src/lib.rt:227:39
 number4-requires : tie.Need-number4-requires
-number4-requires c κs = ?
+number4-requires c κs =
+    room (c .before .has .result) (c .before .before .before .args .at + 4) (length (now (c .before .before .before .args .s))) (c .before .has .ensures) (c .if1 .left)
 
--- src/lib.rt:227:39
-cast-signed32 : tie.Need-cast-signed32
-cast-signed32 c = search needs
-
--- src/lib.rt:227:30
-signed32-requires : tie.Need-signed32-requires
-signed32-requires c κs = search needs
-
--- src/lib.rt:227:20
-length-of-requires : tie.Need-length-of-requires
-length-of-requires c κs = search needs
-
--- src/lib.rt:227:64
 add-t4 : tie.Need-add-t4
-add-t4 c = ?
+add-t4 c =
+    omega (arith, room (c .before .before .before .before .has .result) (c .before .before .before .before .before .before .args .at + 4) (length (now (c .before .before .before .before .before .before .args .s))) (c .before .before .before .before .has .ensures) (c .before .before .before .if1 .left))
 
--- src/lib.rt:221:1
 returns-2 : tie.Need-returns-2
-returns-2 c = ?
+returns-2 c =
+    rw (holds (c .before .before .before .before .has .result) (c .before .before .before .before .before .before .args .at + 4) (length (now (c .before .before .before .before .before .before .args .s))) (c .before .before .before .before .has .ensures) (c .before .before .before .if1 .left), c .length-of .ensures ∙ ap lengthOf (toZ-ofZ w32 _ (record { sfits = c .before .signed32 .ok }) ∙ c .before .signed32 .ensures ∙ ap (signed 4) (c .before .before .number4 .ensures .0)))
 
 pub read-length-spec : {M : Type 1} → statement M
 read-length-spec =
     tie.close
     (tie.spec
-    has-requires
+    (λ c κs. search needs)
     returns
     number4-requires
-    cast-signed32
-    signed32-requires
-    length-of-requires
+    (λ c. search needs)
+    (λ c κs. search needs)
+    (λ c κs. search needs)
     add-t4
     returns-2)

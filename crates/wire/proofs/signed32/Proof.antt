@@ -1,33 +1,26 @@
+-- `wire::signed32` meets its contract.
+-- Assumes nothing.
+use mir.ValLaws.{toZ-ofZ}
+use mir.Syntax.{w32}
+use mathlib.Core.Path.{_∙_}
+use Prim.Native.Nat.{_-_, _^_, _<_}
+use native.Mathlib.Omega.{arith}
+use borrow.Author.Tests.{lt-ltb, le-ltb}
 use borrow.Author.Needs.{needs}
+use Rattle.wire.proofs.Numbers.{minus-one, minus-one-fits}
 use Rattle.wire.proofs.signed32.Statement.{statement}
 use Rattle.wire.proofs.signed32.Tie as tie
-use Rattle.wire.proofs.signed32.Reads as reads
-use Rattle.wire.proofs.signed32.Lts as lts
 
--- src/lib.rt:155:16
-cast-result : tie.Need-cast-result
-cast-result c = search needs
-
--- src/lib.rt:155:9
 returns : tie.Need-returns
-returns c = ?
+returns c = simp (lt-ltb _ _ (c .if1 .taken))
 
--- src/lib.rt:157:12
-sub-result : tie.Need-sub-result
-sub-result c = search needs
-
--- src/lib.rt:157:11
-cast-result-2 : tie.Need-cast-result-2
-cast-result-2 c = search needs
-
--- src/lib.rt:157:5
 sub-result-2 : tie.Need-sub-result-2
-sub-result-2 c = ?
+sub-result-2 c = minus-one-fits w32 (4294967295 - c .before .args .n) (omega arith)
 
--- src/lib.rt:151:1
 returns-2 : tie.Need-returns-2
-returns-2 c = ?
+returns-2 c =
+    let h : 4294967295 - c .before .args .n < 2 ^ 31 = omega arith in toZ-ofZ w32 _ (minus-one-fits w32 (4294967295 - c .before .args .n) h) ∙ minus-one w32 (4294967295 - c .before .args .n) h ∙ simp (le-ltb _ _ (c .if1 .left))
 
 pub signed32-spec : {M : Type 1} → statement M
 signed32-spec =
-    tie.close (tie.spec cast-result returns sub-result cast-result-2 sub-result-2 returns-2)
+    tie.close (tie.spec (λ c. search needs) returns (λ c. search needs) (λ c. search needs) sub-result-2 returns-2)

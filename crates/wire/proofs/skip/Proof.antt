@@ -1,25 +1,25 @@
+-- `wire::skip` meets its contract.
+-- Assumes nothing.
+use denote.Ref.{now}
+use Prim.Native.Nat.{_+_}
+use lib.ListN.{length}
+use native.Mathlib.Omega.{arith}
 use borrow.Author.Needs.{needs}
+use Rattle.wire.proofs.Reading.{lacks, holds, room}
 use Rattle.wire.proofs.skip.Statement.{statement}
 use Rattle.wire.proofs.skip.Tie as tie
-use Rattle.wire.proofs.skip.Reads as reads
-use Rattle.wire.proofs.skip.Lts as lts
-use Rattle.wire.proofs.has.Reads as has-reads
 
--- src/lib.rt:191:9
-has-requires : tie.Need-has-requires
-has-requires c κs = search needs
-
--- src/lib.rt:192:9
 returns : tie.Need-returns
-returns c = ?
+returns c =
+    rw (lacks (c .before .has .result) (c .before .before .before .args .at + c .before .before .before .args .n) (length (now (c .before .before .before .args .s))) (c .before .has .ensures) (c .if1 .taken))
 
--- src/lib.rt:194:13
 add-t5 : tie.Need-add-t5
-add-t5 c = ?
+add-t5 c =
+    omega (arith, room (c .before .has .result) (c .before .before .before .args .at + c .before .before .before .args .n) (length (now (c .before .before .before .args .s))) (c .before .has .ensures) (c .if1 .left))
 
--- src/lib.rt:188:1
 returns-2 : tie.Need-returns-2
-returns-2 c = ?
+returns-2 c =
+    rw (holds (c .before .has .result) (c .before .before .before .args .at + c .before .before .before .args .n) (length (now (c .before .before .before .args .s))) (c .before .has .ensures) (c .if1 .left))
 
 pub skip-spec : {M : Type 1} → statement M
-skip-spec = tie.close (tie.spec has-requires returns add-t5 returns-2)
+skip-spec = tie.close (tie.spec (λ c κs. search needs) returns add-t5 returns-2)

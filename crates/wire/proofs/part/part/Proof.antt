@@ -1,80 +1,43 @@
+-- `wire::part::part` meets its contract.
+-- Assumes nothing.
+use lib.Seq.{take-all, take-nil}
+use lib.ListN.{length, take, drop, drop-of-length-le, length-drop}
+use denote.Ref.{now}
+use Prim.Native.Nat.{ℕ, _-_}
+use mathlib.Core.Path.{sym, ap, _∙_}
+use native.Mathlib.Nat.{add-sub-cancel-left}
+use native.Mathlib.Omega.{arith}
 use borrow.Author.Needs.{needs}
 use Rattle.wire.proofs.part.part.Statement.{statement}
 use Rattle.wire.proofs.part.part.Tie as tie
-use Rattle.wire.proofs.part.part.Reads as reads
-use Rattle.wire.proofs.part.part.Lts as lts
 
--- src/part.rt:20:16
-sub-result : tie.Need-sub-result
-sub-result c = search needs
-
--- src/part.rt:20:16
-part-result-start : tie.Need-part-result-start
-part-result-start c = search needs
-
--- src/part.rt:20:16
-part-result-end : tie.Need-part-result-end
-part-result-end c = search needs
-
--- src/part.rt:20:9
 returns : tie.Need-returns
-returns c = ?
+returns c =
+    sym (ap (take (c .before .before .args .n)) (drop-of-length-le (now (c .before .before .args .s)) (c .before .if1 .taken)) ∙ take-nil (c .before .before .args .n))
 
--- src/part.rt:22:8
-sub-if2 : tie.Need-sub-if2
-sub-if2 c = search needs
-
--- src/part.rt:23:16
-sub-result-2 : tie.Need-sub-result-2
-sub-result-2 c = search needs
-
--- src/part.rt:23:16
-part-result-start-2 : tie.Need-part-result-start-2
-part-result-start-2 c = search needs
-
--- src/part.rt:23:16
-part-result-end-2 : tie.Need-part-result-end-2
-part-result-end-2 c = search needs
-
--- src/part.rt:23:9
 returns-2 : tie.Need-returns-2
-returns-2 c = ?
+returns-2 c =
+    take-all (length (now (c .before .before .before .args .s)) - c .before .before .before .args .at) (drop (c .before .before .before .args .at) (now (c .before .before .before .args .s))) (omega (arith, length-drop (c .before .before .before .args .at) (now (c .before .before .before .args .s)))) ∙ sym (take-all (c .before .before .before .args .n) (drop (c .before .before .before .args .at) (now (c .before .before .before .args .s))) (omega (arith, length-drop (c .before .before .before .args .at) (now (c .before .before .before .args .s)))))
 
--- src/part.rt:25:15
-add-end : tie.Need-add-end
-add-end c = search needs
-
--- src/part.rt:26:5
-sub-result-3 : tie.Need-sub-result-3
-sub-result-3 c = search needs
-
--- src/part.rt:26:5
-part-result-start-3 : tie.Need-part-result-start-3
-part-result-start-3 c = search needs
-
--- src/part.rt:26:5
-part-result-end-3 : tie.Need-part-result-end-3
-part-result-end-3 c = search needs
-
--- src/part.rt:16:1
 returns-3 : tie.Need-returns-3
-returns-3 c = ?
+returns-3 c =
+    ap (λ (k : ℕ). take k (drop (c .before .before .before .args .at) (now (c .before .before .before .args .s)))) (add-sub-cancel-left (c .before .before .before .args .at) (c .before .before .before .args .n))
 
 pub part-spec : {M : Type 1} → statement M
 part-spec =
     tie.close
     (tie.spec
-    sub-result
-    part-result-start
-    part-result-end
+    (λ c. search needs)
+    (λ c. search needs)
+    (λ c. search needs)
     returns
-    sub-if2
-    sub-result-2
-    part-result-start-2
-    part-result-end-2
+    (λ c. search needs)
+    (λ c. search needs)
+    (λ c. search needs)
+    (λ c. search needs)
     returns-2
-    add-end
-    sub-result-3
-    part-result-start-3
-    part-result-end-3
+    (λ c. search needs)
+    (λ c. search needs)
+    (λ c. search needs)
+    (λ c. search needs)
     returns-3)

@@ -1,50 +1,32 @@
+-- `wire::part::tail` meets its contract.
+-- Assumes nothing.
+use lib.Seq.{take-all}
+use lib.ListN.{length, drop, drop-of-length-le, length-drop}
+use denote.Ref.{now}
+use Prim.Native.Nat.{_-_}
+use mathlib.Core.Path.{sym}
+use native.Mathlib.Omega.{arith}
 use borrow.Author.Needs.{needs}
 use Rattle.wire.proofs.part.tail.Statement.{statement}
 use Rattle.wire.proofs.part.tail.Tie as tie
-use Rattle.wire.proofs.part.tail.Reads as reads
-use Rattle.wire.proofs.part.tail.Lts as lts
 
--- src/part.rt:10:16
-sub-result : tie.Need-sub-result
-sub-result c = search needs
-
--- src/part.rt:10:16
-part-result-start : tie.Need-part-result-start
-part-result-start c = search needs
-
--- src/part.rt:10:16
-part-result-end : tie.Need-part-result-end
-part-result-end c = search needs
-
--- src/part.rt:10:9
 returns : tie.Need-returns
-returns c = ?
+returns c =
+    sym (drop-of-length-le (now (c .before .before .args .s)) (c .before .if1 .taken))
 
--- src/part.rt:12:5
-sub-result-2 : tie.Need-sub-result-2
-sub-result-2 c = search needs
-
--- src/part.rt:12:5
-part-result-start-2 : tie.Need-part-result-start-2
-part-result-start-2 c = search needs
-
--- src/part.rt:12:5
-part-result-end-2 : tie.Need-part-result-end-2
-part-result-end-2 c = search needs
-
--- src/part.rt:6:1
 returns-2 : tie.Need-returns-2
-returns-2 c = ?
+returns-2 c =
+    take-all (length (now (c .before .before .args .s)) - c .before .before .args .at) (drop (c .before .before .args .at) (now (c .before .before .args .s))) (omega (arith, length-drop (c .before .before .args .at) (now (c .before .before .args .s))))
 
 pub tail-spec : {M : Type 1} → statement M
 tail-spec =
     tie.close
     (tie.spec
-    sub-result
-    part-result-start
-    part-result-end
+    (λ c. search needs)
+    (λ c. search needs)
+    (λ c. search needs)
     returns
-    sub-result-2
-    part-result-start-2
-    part-result-end-2
+    (λ c. search needs)
+    (λ c. search needs)
+    (λ c. search needs)
     returns-2)

@@ -1,49 +1,51 @@
+-- `wire::store::copy_in` meets its contract.
+-- Assumes nothing.
+use lib.Seq.{sets}
+use denote.Ref.{now}
+use mathlib.Core.List.{List}
+use lib.ListN.{length, take, getD, set, length-set}
+use mathlib.Core.Path.{_≡_, refl, ap, _∙_}
+use Prim.Native.Nat.{ℕ, _≤_, _<_, _+_, _-_}
+use native.Mathlib.Omega.{arith}
+use Rattle.wire.proofs.Stores.{run-step, run-all}
 use Rattle.wire.proofs.store.copy_in.Statement.{statement}
 use Rattle.wire.proofs.store.copy_in.Tie as tie
-use Rattle.wire.proofs.store.copy_in.Reads as reads
-use Rattle.wire.proofs.store.copy_in.Lts as lts
 
 abbrev Inv-loop : tie.InvT-loop
-Inv-loop out₀ at src i₀ out i = ?
+Inv-loop out₀ at src i₀ out i =
+    (i ≤ length src) × (at + length src ≤ length out₀) × (length out ≡ length out₀) × (out ≡ sets out₀ at (take i src))
 
 abbrev μ-loop : tie.MeasureT-loop
-μ-loop out₀ at src i₀ out i = ?
+μ-loop out₀ at src i₀ out i = length src - i
 
--- src/store.rt:107:5
 loop-holds : tie.Need-loop-holds Inv-loop μ-loop
-loop-holds c = ?
+loop-holds c = (omega arith, c .pre, refl, refl)
 
--- src/store.rt:108:23
 shared-slice-read-out : tie.Need-shared-slice-read-out Inv-loop μ-loop
-shared-slice-read-out c = ?
+shared-slice-read-out c = omega arith
 
--- src/store.rt:108:13
 add-out : tie.Need-add-out Inv-loop μ-loop
-add-out c = ?
+add-out c = omega arith
 
--- src/store.rt:108:9
 slice-write-out : tie.Need-slice-write-out Inv-loop μ-loop
-slice-write-out c = ?
+slice-write-out c = omega arith
 
--- src/store.rt:109:9
 add-i : tie.Need-add-i Inv-loop μ-loop
-add-i c = ?
+add-i c = omega arith
 
--- src/store.rt:107:5
 loop-less : tie.Need-loop-less Inv-loop μ-loop
-loop-less c = ?
+loop-less c = omega arith
 
--- src/store.rt:107:5
 loop-again : tie.Need-loop-again Inv-loop μ-loop
-loop-again c = ?
+loop-again c =
+    let h : c .before .before .loop .i < length (now (c .before .before .before .args .src)) = omega arith in (omega arith, omega arith, omega (arith, length-set (c .before .before .loop .out) (c .before .before .before .args .at + c .before .before .loop .i) (getD (now (c .before .before .before .args .src)) (c .before .before .loop .i) 0)), ap (λ (l : List ℕ). set l (c .before .before .before .args .at + c .before .before .loop .i) (getD (now (c .before .before .before .args .src)) (c .before .before .loop .i) 0)) (c .before .before .loop .inv .3) ∙ run-step (now (c .before .before .before .args .src)) (now (c .before .before .before .args .out)) (c .before .before .before .args .at) (c .before .before .loop .i) h)
 
--- src/store.rt:102:1
 same-length : tie.Need-same-length Inv-loop μ-loop
-same-length c = ?
+same-length c = omega arith
 
--- src/store.rt:102:1
 returns : tie.Need-returns Inv-loop μ-loop
-returns c = ?
+returns c =
+    c .before .loop .inv .3 ∙ run-all (now (c .before .before .args .src)) (now (c .before .before .args .out)) (c .before .before .args .at) (c .before .loop .i) (omega arith)
 
 pub copy-in-spec : {M : Type 1} → statement M
 copy-in-spec =

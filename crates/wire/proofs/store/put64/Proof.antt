@@ -1,30 +1,25 @@
+-- `wire::store::put64` meets its contract.
+-- Assumes nothing.
+use denote.Ref.{now}
+use borrow.Author.Tests.{leb-true}
+use mathlib.Core.Path.{_∙_, sym}
 use borrow.Author.Needs.{needs}
+use Rattle.wire.proofs.Stores.{laid-fits, laid-none}
+use Rattle.wire.specs.Number.{leBytes}
 use Rattle.wire.proofs.store.put64.Statement.{statement}
 use Rattle.wire.proofs.store.put64.Tie as tie
-use Rattle.wire.proofs.store.put64.Reads as reads
-use Rattle.wire.proofs.store.put64.Lts as lts
-use Rattle.wire.proofs.has.Reads as has-reads
-use Rattle.wire.proofs.store.store8.Reads as store8-reads
 
--- src/store.rt:70:8
-has-requires : tie.Need-has-requires
-has-requires c κs = search needs
-
--- src/store.rt:71:9
 store8-requires : tie.Need-store8-requires
-store8-requires c κs = ?
+store8-requires c κs =
+    leb-true _ _ (sym (c .before .before .has .ensures) ∙ c .before .if1 .taken)
 
--- src/store.rt:67:1
-same-length : tie.Need-same-length
-same-length c = search needs
-
--- src/store.rt:67:1
 returns : tie.Need-returns
-returns c = ?
+returns c =
+    c .before .before .store8 .ensures ∙ laid-fits (now (c .before .before .before .before .before .before .before .args .out)) (c .before .before .before .before .before .before .before .args .at) (leBytes 8 (c .before .before .before .before .before .before .before .args .v)) (sym (c .before .before .before .before .before .has .ensures) ∙ c .before .before .before .before .if1 .taken)
 
--- src/store.rt:67:1
 returns-2 : tie.Need-returns-2
-returns-2 c = ?
+returns-2 c =
+    laid-none (now (c .before .before .before .args .out)) (c .before .before .before .args .at) (leBytes 8 (c .before .before .before .args .v)) (sym (c .before .has .ensures) ∙ c .if1 .left)
 
 pub put64-spec : {M : Type 1} → statement M
-put64-spec = tie.close (tie.spec has-requires store8-requires same-length returns returns-2)
+put64-spec = tie.close (tie.spec (λ c κs. search needs) store8-requires (λ c. search needs) returns returns-2)

@@ -1,30 +1,25 @@
+-- `wire::store::put8` meets its contract.
+-- Assumes nothing.
+use denote.Ref.{now}
+use borrow.Author.Tests.{leb-true}
+use mathlib.Core.Path.{_∙_, sym}
 use borrow.Author.Needs.{needs}
+use Rattle.wire.proofs.Stores.{laid-fits, laid-none}
+use Rattle.wire.specs.Number.{leBytes}
 use Rattle.wire.proofs.store.put8.Statement.{statement}
 use Rattle.wire.proofs.store.put8.Tie as tie
-use Rattle.wire.proofs.store.put8.Reads as reads
-use Rattle.wire.proofs.store.put8.Lts as lts
-use Rattle.wire.proofs.has.Reads as has-reads
-use Rattle.wire.proofs.store.store1.Reads as store1-reads
 
--- src/store.rt:46:8
-has-requires : tie.Need-has-requires
-has-requires c κs = search needs
-
--- src/store.rt:47:9
 store1-requires : tie.Need-store1-requires
-store1-requires c κs = ?
+store1-requires c κs =
+    leb-true _ _ (sym (c .before .before .has .ensures) ∙ c .before .if1 .taken)
 
--- src/store.rt:43:1
-same-length : tie.Need-same-length
-same-length c = search needs
-
--- src/store.rt:43:1
 returns : tie.Need-returns
-returns c = ?
+returns c =
+    c .before .before .store1 .ensures ∙ laid-fits (now (c .before .before .before .before .before .before .before .args .out)) (c .before .before .before .before .before .before .before .args .at) (leBytes 1 (c .before .before .before .before .before .before .before .args .v)) (sym (c .before .before .before .before .before .has .ensures) ∙ c .before .before .before .before .if1 .taken)
 
--- src/store.rt:43:1
 returns-2 : tie.Need-returns-2
-returns-2 c = ?
+returns-2 c =
+    laid-none (now (c .before .before .before .args .out)) (c .before .before .before .args .at) (leBytes 1 (c .before .before .before .args .v)) (sym (c .before .has .ensures) ∙ c .if1 .left)
 
 pub put8-spec : {M : Type 1} → statement M
-put8-spec = tie.close (tie.spec has-requires store1-requires same-length returns returns-2)
+put8-spec = tie.close (tie.spec (λ c κs. search needs) store1-requires (λ c. search needs) returns returns-2)

@@ -1,47 +1,47 @@
+-- `wire::store::put_guid` meets its contract.
+-- Assumes nothing.
+use denote.Ref.{now}
+use Prim.Native.Nat.{ℕ, _+_, _≤_}
+use lib.Seq.{sets}
+use lib.ListN.{length}
+use borrow.Author.Tests.{leb-true}
+use mathlib.Core.List.{List}
+use mathlib.Core.Path.{ap, _∙_, sym}
 use borrow.Author.Needs.{needs}
+use Rattle.wire.proofs.Stores.{laid-fits, laid-none, sets-append}
+use Rattle.wire.specs.Items.{guidBytes}
+use Rattle.wire.specs.Number.{leBytes}
 use Rattle.wire.proofs.store.put_guid.Statement.{statement}
 use Rattle.wire.proofs.store.put_guid.Tie as tie
-use Rattle.wire.proofs.store.put_guid.Reads as reads
-use Rattle.wire.proofs.store.put_guid.Lts as lts
-use Rattle.wire.proofs.has.Reads as has-reads
-use Rattle.wire.proofs.store.store8.Reads as store8-reads
 
--- src/store.rt:95:8
-has-requires : tie.Need-has-requires
-has-requires c κs = search needs
-
--- src/store.rt:96:9
 store8-requires : tie.Need-store8-requires
-store8-requires c κs = ?
+store8-requires c κs =
+    let h : c .before .before .before .before .args .at + 16 ≤ length (now (c .before .before .before .before .args .out)) = leb-true _ _ (sym (c .before .before .has .ensures) ∙ c .before .if1 .taken) in search needs
 
--- src/store.rt:97:21
 add-store8 : tie.Need-add-store8
-add-store8 c = ?
+add-store8 c =
+    let h : c .before .before .before .before .before .before .before .before .args .at + 16 ≤ length (now (c .before .before .before .before .before .before .before .before .args .out)) = leb-true _ _ (sym (c .before .before .before .before .before .before .has .ensures) ∙ c .before .before .before .before .before .if1 .taken) in search needs
 
--- src/store.rt:97:9
 store8-requires-2 : tie.Need-store8-requires-2
-store8-requires-2 c κs = ?
+store8-requires-2 c κs =
+    let h : c .before .before .before .before .before .before .before .before .args .at + 16 ≤ length (now (c .before .before .before .before .before .before .before .before .args .out)) = leb-true _ _ (sym (c .before .before .before .before .before .before .has .ensures) ∙ c .before .before .before .before .before .if1 .taken) in search needs
 
--- src/store.rt:92:1
-same-length : tie.Need-same-length
-same-length c = search needs
-
--- src/store.rt:92:1
 returns : tie.Need-returns
-returns c = ?
+returns c =
+    c .before .before .store82 .ensures ∙ ap (λ (l : List ℕ). sets l (c .before .before .before .before .before .before .before .before .before .before .before .args .at + 8) (leBytes 8 (c .before .before .before .before .before .before .before .before .before .before .before .args .v .high))) (c .before .before .before .before .before .before .store8 .ensures) ∙ sets-append (leBytes 8 (c .before .before .before .before .before .before .before .before .before .before .before .args .v .low)) (leBytes 8 (c .before .before .before .before .before .before .before .before .before .before .before .args .v .high)) (now (c .before .before .before .before .before .before .before .before .before .before .before .args .out)) (c .before .before .before .before .before .before .before .before .before .before .before .args .at) ∙ laid-fits (now (c .before .before .before .before .before .before .before .before .before .before .before .args .out)) (c .before .before .before .before .before .before .before .before .before .before .before .args .at) (guidBytes (c .before .before .before .before .before .before .before .before .before .before .before .args .v)) (sym (c .before .before .before .before .before .before .before .before .before .has .ensures) ∙ c .before .before .before .before .before .before .before .before .if1 .taken)
 
--- src/store.rt:92:1
 returns-2 : tie.Need-returns-2
-returns-2 c = ?
+returns-2 c =
+    laid-none (now (c .before .before .before .args .out)) (c .before .before .before .args .at) (guidBytes (c .before .before .before .args .v)) (sym (c .before .has .ensures) ∙ c .if1 .left)
 
 pub put-guid-spec : {M : Type 1} → statement M
 put-guid-spec =
     tie.close
     (tie.spec
-    has-requires
+    (λ c κs. search needs)
     store8-requires
     add-store8
     store8-requires-2
-    same-length
+    (λ c. search needs)
     returns
     returns-2)

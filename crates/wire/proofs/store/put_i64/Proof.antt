@@ -1,26 +1,20 @@
+-- `wire::store::put_i64` meets its contract.
+-- Assumes nothing.
+use mir.ValLaws.{toZ-ofZ}
+use mir.Syntax.{w64}
+use lib.IntN.{ℤ}
+use denote.Ref.{now}
+use Prim.Native.Nat.{ℕ}
+use mathlib.Core.Path.{ap, _∙_}
 use borrow.Author.Needs.{needs}
+use Rattle.wire.specs.Number.{unsigned, leBytes}
+use Rattle.wire.specs.Store.{laid}
 use Rattle.wire.proofs.store.put_i64.Statement.{statement}
 use Rattle.wire.proofs.store.put_i64.Tie as tie
-use Rattle.wire.proofs.store.put_i64.Reads as reads
-use Rattle.wire.proofs.store.put_i64.Lts as lts
-use Rattle.wire.proofs.store.put64.Reads as put64-reads
-use Rattle.wire.proofs.store.unsigned64.Reads as unsigned64-reads
 
--- src/store.rt:89:20
-unsigned64-requires : tie.Need-unsigned64-requires
-unsigned64-requires c κs = search needs
-
--- src/store.rt:89:5
-put64-requires : tie.Need-put64-requires
-put64-requires c κs = search needs
-
--- src/store.rt:86:1
-same-length : tie.Need-same-length
-same-length c = search needs
-
--- src/store.rt:86:1
 returns : tie.Need-returns
-returns c = ?
+returns c =
+    c .before .before .put64 .ensures ∙ ap (λ (n : ℕ). laid (now (c .before .before .before .before .before .before .args .out)) (c .before .before .before .before .before .before .args .at) (leBytes 8 n)) (c .before .before .before .unsigned64 .ensures) ∙ ap (λ (z : ℤ). laid (now (c .before .before .before .before .before .before .args .out)) (c .before .before .before .before .before .before .args .at) (leBytes 8 (unsigned 8 z))) (toZ-ofZ w64 _ (c .before .before .before .before .before .before .fits .v))
 
 pub put-i64-spec : {M : Type 1} → statement M
-put-i64-spec = tie.close (tie.spec unsigned64-requires put64-requires same-length returns)
+put-i64-spec = tie.close (tie.spec (λ c κs. search needs) (λ c κs. search needs) (λ c. search needs) returns)

@@ -1,29 +1,19 @@
+-- `wire::store::store4` meets its contract.
+-- Assumes nothing.
+use lib.Seq.{sets}
+use denote.Ref.{now}
+use Prim.Native.Nat.{ℕ, _+_, _/_, _^_}
+use mathlib.Core.List.{List}
+use mathlib.Core.Path.{_∙_, ap}
 use borrow.Author.Needs.{needs}
+use Rattle.wire.proofs.Stores.{sets-split}
+use Rattle.wire.specs.Number.{leBytes}
 use Rattle.wire.proofs.store.store4.Statement.{statement}
 use Rattle.wire.proofs.store.store4.Tie as tie
-use Rattle.wire.proofs.store.store4.Reads as reads
-use Rattle.wire.proofs.store.store4.Lts as lts
-use Rattle.wire.proofs.store.store2.Reads as store2-reads
 
--- src/store.rt:31:5
-store2-requires : tie.Need-store2-requires
-store2-requires c κs = search needs
-
--- src/store.rt:32:17
-add-store2 : tie.Need-add-store2
-add-store2 c = search needs
-
--- src/store.rt:32:5
-store2-requires-2 : tie.Need-store2-requires-2
-store2-requires-2 c κs = search needs
-
--- src/store.rt:27:1
-same-length : tie.Need-same-length
-same-length c = search needs
-
--- src/store.rt:27:1
 returns : tie.Need-returns
-returns c = ?
+returns c =
+    c .before .before .store22 .ensures ∙ ap (λ (l : List ℕ). sets l (c .before .before .before .before .before .before .before .before .before .args .at + 2) (leBytes 2 (c .before .before .before .before .before .before .before .before .before .args .v / 256 ^ 2))) (c .before .before .before .before .before .before .store2 .ensures) ∙ sets-split 2 2 (c .before .before .before .before .before .before .before .before .before .args .v) (now (c .before .before .before .before .before .before .before .before .before .args .out)) (c .before .before .before .before .before .before .before .before .before .args .at)
 
 pub store4-spec : {M : Type 1} → statement M
-store4-spec = tie.close (tie.spec store2-requires add-store2 store2-requires-2 same-length returns)
+store4-spec = tie.close (tie.spec (λ c κs. search needs) (λ c. search needs) (λ c κs. search needs) (λ c. search needs) returns)

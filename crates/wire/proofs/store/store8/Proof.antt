@@ -1,29 +1,19 @@
+-- `wire::store::store8` meets its contract.
+-- Assumes nothing.
+use lib.Seq.{sets}
+use denote.Ref.{now}
+use Prim.Native.Nat.{ℕ, _+_, _/_, _^_}
+use mathlib.Core.List.{List}
+use mathlib.Core.Path.{_∙_, ap}
 use borrow.Author.Needs.{needs}
+use Rattle.wire.proofs.Stores.{sets-split}
+use Rattle.wire.specs.Number.{leBytes}
 use Rattle.wire.proofs.store.store8.Statement.{statement}
 use Rattle.wire.proofs.store.store8.Tie as tie
-use Rattle.wire.proofs.store.store8.Reads as reads
-use Rattle.wire.proofs.store.store8.Lts as lts
-use Rattle.wire.proofs.store.store4.Reads as store4-reads
 
--- src/store.rt:39:5
-store4-requires : tie.Need-store4-requires
-store4-requires c κs = search needs
-
--- src/store.rt:40:17
-add-store4 : tie.Need-add-store4
-add-store4 c = search needs
-
--- src/store.rt:40:5
-store4-requires-2 : tie.Need-store4-requires-2
-store4-requires-2 c κs = search needs
-
--- src/store.rt:35:1
-same-length : tie.Need-same-length
-same-length c = search needs
-
--- src/store.rt:35:1
 returns : tie.Need-returns
-returns c = ?
+returns c =
+    c .before .before .store42 .ensures ∙ ap (λ (l : List ℕ). sets l (c .before .before .before .before .before .before .before .before .before .args .at + 4) (leBytes 4 (c .before .before .before .before .before .before .before .before .before .args .v / 256 ^ 4))) (c .before .before .before .before .before .before .store4 .ensures) ∙ sets-split 4 4 (c .before .before .before .before .before .before .before .before .before .args .v) (now (c .before .before .before .before .before .before .before .before .before .args .out)) (c .before .before .before .before .before .before .before .before .before .args .at)
 
 pub store8-spec : {M : Type 1} → statement M
-store8-spec = tie.close (tie.spec store4-requires add-store4 store4-requires-2 same-length returns)
+store8-spec = tie.close (tie.spec (λ c κs. search needs) (λ c. search needs) (λ c κs. search needs) (λ c. search needs) returns)

@@ -1,0 +1,28 @@
+-- `wire::optional::read_optional_i64` meets its contract.
+-- Assumes nothing.
+use borrow.Author.Tests.{not-true, not-false}
+use denote.Ref.{now}
+use mir.ValLaws.{toZ-ofZ}
+use mir.Syntax.{w64}
+use mathlib.Core.Path.{sym, _∙_}
+use borrow.Author.Needs.{needs}
+use Rattle.wire.proofs.Reading.{told, signed-is}
+use Rattle.wire.specs.Items.{answer64}
+use Rattle.wire.proofs.optional.read_optional_i64.Statement.{statement}
+use Rattle.wire.proofs.optional.read_optional_i64.Tie as tie
+
+returns : tie.Need-returns
+returns c = rw (not-true (c .before .before .args .on) (c .if1 .taken))
+
+returns-2 : tie.Need-returns-2
+returns-2 c =
+    rw (not-false (c .before .before .before .before .before .args .on) (c .before .before .before .if1 .left), signed-is 8 (now (c .before .before .before .before .before .args .s)) (c .before .before .before .before .before .args .at), sym (told (answer64 (c .before .before .before .before .before .args .at)) (c .before .before .read64 .ensures) (c .enum-told .given .1)))
+
+returns-3 : tie.Need-returns-3
+returns-3 c =
+    rw (not-false (c .before .before .before .before .before .before .before .args .on) (c .before .before .before .before .before .if1 .left), signed-is 8 (now (c .before .before .before .before .before .before .before .args .s)) (c .before .before .before .before .before .before .before .args .at), sym (told (answer64 (c .before .before .before .before .before .before .before .args .at)) (c .before .before .before .before .read64 .ensures) (c .before .before .v .given .1)), toZ-ofZ w64 _ (record { sfits = c .signed64 .ok }) ∙ c .signed64 .ensures)
+
+pub read-optional-i64-spec : {M : Type 1} → statement M
+read-optional-i64-spec =
+    tie.close
+    (tie.spec returns (λ c κs. search needs) (λ c. search needs) (λ c. search needs) returns-2 (λ c κs. search needs) returns-3)

@@ -1,0 +1,104 @@
+// Items that a flag announces: absent where the flag is off.
+use crate::Item16;
+use crate::Item32;
+use crate::Item64;
+use crate::read16;
+use crate::read32;
+use crate::read64;
+use crate::signed64;
+ghost use mathlib.Core.Path.{_≡_};
+ghost use Rattle.wire.specs.Optional.{optional16, optional32, optionalI64, picosecondsRule, picosecondsAt};
+ghost use Rattle.wire.specs.Optional.{answerOptional16, answerOptional32, answerOptionalI64};
+
+pub enum Optional16 {
+    Absent,
+    Is(u16),
+}
+
+pub enum Optional16Read {
+    Is(Optional16, usize),
+    Refused(u8, usize),
+}
+
+pub enum Optional32 {
+    Absent,
+    Is(u32),
+}
+
+pub enum Optional32Read {
+    Is(Optional32, usize),
+    Refused(u8, usize),
+}
+
+pub enum OptionalI64 {
+    Absent,
+    Is(i64),
+}
+
+pub enum OptionalI64Read {
+    Is(OptionalI64, usize),
+    Refused(u8, usize),
+}
+
+pub fn read_optional16(s: &[u8], on: bool, at: usize) -> Optional16Read
+    ensures { λ r. ⌜ answerOptional16 r ≡ optional16 on (now (s .entry)) at ⌝ }
+{
+    if !on {
+        return Optional16Read::Is(Optional16::Absent, at);
+    }
+    let Item16::Is(v, next) = read16(s, at) else {
+        return Optional16Read::Refused(1, at);
+    };
+    Optional16Read::Is(Optional16::Is(v), next)
+}
+
+pub fn read_optional32(s: &[u8], on: bool, at: usize) -> Optional32Read
+    ensures { λ r. ⌜ answerOptional32 r ≡ optional32 on (now (s .entry)) at ⌝ }
+{
+    if !on {
+        return Optional32Read::Is(Optional32::Absent, at);
+    }
+    let Item32::Is(v, next) = read32(s, at) else {
+        return Optional32Read::Refused(1, at);
+    };
+    Optional32Read::Is(Optional32::Is(v), next)
+}
+
+// A timestamp, a signed number of 8 bytes.
+pub fn read_optional_i64(s: &[u8], on: bool, at: usize) -> OptionalI64Read
+    ensures { λ r. ⌜ answerOptionalI64 r ≡ optionalI64 on (now (s .entry)) at ⌝ }
+{
+    if !on {
+        return OptionalI64Read::Is(OptionalI64::Absent, at);
+    }
+    let Item64::Is(v, next) = read64(s, at) else {
+        return OptionalI64Read::Refused(1, at);
+    };
+    OptionalI64Read::Is(OptionalI64::Is(signed64(v)), next)
+}
+
+// The number of the rule that picoseconds break, or 0.
+pub fn picoseconds_rule(v: u16) -> u8
+    ensures { λ r. ⌜ r ≡ picosecondsRule v ⌝ }
+{
+    if 10000 <= v {
+        return 3;
+    }
+    0
+}
+
+pub fn read_picoseconds(s: &[u8], on: bool, at: usize) -> Optional16Read
+    ensures { λ r. ⌜ answerOptional16 r ≡ picosecondsAt on (now (s .entry)) at ⌝ }
+{
+    if !on {
+        return Optional16Read::Is(Optional16::Absent, at);
+    }
+    let Item16::Is(v, next) = read16(s, at) else {
+        return Optional16Read::Refused(1, at);
+    };
+    let n = picoseconds_rule(v);
+    if n != 0 {
+        return Optional16Read::Refused(n, at);
+    }
+    Optional16Read::Is(Optional16::Is(v), next)
+}
