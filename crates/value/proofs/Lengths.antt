@@ -6,7 +6,7 @@ use mathlib.Core.List.{List}
 use Prim.Native.Nat.{ℕ, zero, suc, _+_, _-_, _<_, _^_}
 use borrow.Author.Tests.{ltb-true}
 use lib.Dec.{ltb, leb}
-use lib.IntN.{ℤ, pos, negsuc}
+use lib.IntN.{pos, negsuc}
 use lib.ListN.{length}
 use Rattle.wire.specs.Number.{le, signed}
 use Rattle.wire.specs.Answer.{Answer, got, refused}
@@ -36,6 +36,7 @@ small k next = go (ltb k 2147483648) refl
     below : (m : ℕ) → Small (got (lengthOf (negsuc m)) next)
     below zero = null
     below (suc m) = negative
+
     go : (b : Bool) → ltb k 2147483648 ≡ b → Small (got (lengthOf (cond b (pos k) (negsuc (4294967295 - k)))) next)
     go true e = counts (ltb-true _ _ e)
     go false e = below (4294967295 - k)

@@ -12,9 +12,9 @@ use Rattle.value.specs.declared.head.Head.{Head}
 -- the values inside, by `nested`, then a DataValue's parts
 abbrev pub inside : (ℕ → Reader Measure) → Inside → Reader Measure
 inside nested i = do
-    each (nested (i .inner)) (i .count)
-    parts (i .mask)
-    pure (i .found)
+  each (nested (i .inner)) (i .count)
+  parts (i .mask)
+  pure (i .found)
 
 abbrev pub finish : (ℕ → Reader Measure) → List ℕ → Head → Answer Measure
 finish nested s (Head.Done m) = answerMeasured m

@@ -1,7 +1,16 @@
 // What a value's own items say, before any value inside it is measured.
-use crate::plain::{is_plain, plain_value, plain_values};
-use crate::{Measure, Measured, Shape, measured_to};
-use wire::{Item8, ItemLength, Length, read8, read_length};
+use crate::Measure;
+use crate::Measured;
+use crate::Shape;
+use crate::measured_to;
+use crate::plain::is_plain;
+use crate::plain::plain_value;
+use crate::plain::plain_values;
+use wire::Item8;
+use wire::ItemLength;
+use wire::Length;
+use wire::read_length;
+use wire::read8;
 ghost use mathlib.Core.Path.{_≡_};
 ghost use mathlib.Core.List.{List};
 ghost use Prim.Native.Nat.{ℕ, _<_};
@@ -62,11 +71,20 @@ fn variant_rule(b: u8) -> u8
 fn scalar_head(s: &[u8], at: usize, t: u8) -> Head
     ensures { λ h. ⌜ ((nested : ℕ → Reader Measure) → finish nested (now (s .entry)) h ≡ scalar nested t (now (s .entry)) at) ⌝ }
 {
-    let found = Measure { kind: t, shape: Shape::Scalar };
+    let found = Measure {
+        kind: t,
+        shape: Shape::Scalar,
+    };
     if is_plain(t) {
         return Head::Done(measured_to(plain_value(s, at, t), found));
     }
-    Head::Holds(Inside { from: at, count: 1, inner: t, mask: 0, found })
+    Head::Holds(Inside {
+        from: at,
+        count: 1,
+        inner: t,
+        mask: 0,
+        found,
+    })
 }
 
 // The n elements of an array of type t.
@@ -74,25 +92,39 @@ fn elements_head(s: &[u8], at: usize, t: u8, n: usize) -> Head
     requires { ⌜ n < 2147483648 ⌝ }
     ensures { λ h. ⌜ ((nested : ℕ → Reader Measure) → finish nested (now (s .entry)) h ≡ arrayOf nested t n (now (s .entry)) at) ⌝ }
 {
-    let found = Measure { kind: t, shape: Shape::Array(n) };
+    let found = Measure {
+        kind: t,
+        shape: Shape::Array(n),
+    };
     if is_plain(t) {
         return Head::Done(measured_to(plain_values(s, at, t, n), found));
     }
-    Head::Holds(Inside { from: at, count: n, inner: t, mask: 0, found })
+    Head::Holds(Inside {
+        from: at,
+        count: n,
+        inner: t,
+        mask: 0,
+        found,
+    })
 }
 
 // What follows the first byte of an array of type t.
 fn array_head(s: &[u8], at: usize, t: u8) -> Head
     ensures { λ h. ⌜ ((nested : ℕ → Reader Measure) → finish nested (now (s .entry)) h ≡ array nested t (now (s .entry)) at) ⌝ }
 {
-    let r = read_length(s, at);
-    match r {
-        ItemLength::Is(l, next) => match l {
-            Length::Null => Head::Done(Measured::Is(Measure { kind: t, shape: Shape::NullArray }, next)),
-            Length::Of(n) => elements_head(s, next, t, n),
-            Length::Negative => Head::Done(Measured::Refused(5, at)),
-        },
-        ItemLength::Short => Head::Done(Measured::Refused(1, at)),
+    let ItemLength::Is(l, next) = read_length(s, at) else {
+        return Head::Done(Measured::Refused(1, at));
+    };
+    match l {
+        Length::Null => Head::Done(Measured::Is(
+            Measure {
+                kind: t,
+                shape: Shape::NullArray,
+            },
+            next,
+        )),
+        Length::Of(n) => elements_head(s, next, t, n),
+        Length::Negative => Head::Done(Measured::Refused(5, at)),
     }
 }
 
@@ -106,7 +138,13 @@ fn variant_head(s: &[u8], at: usize, next: usize, b: u8) -> Head
     }
     let t = b % 64;
     if t == 0 {
-        return Head::Done(Measured::Is(Measure { kind: 0, shape: Shape::Scalar }, next));
+        return Head::Done(Measured::Is(
+            Measure {
+                kind: 0,
+                shape: Shape::Scalar,
+            },
+            next,
+        ));
     }
     if b / 128 % 2 == 1 {
         return array_head(s, next, t);
@@ -121,22 +159,28 @@ fn data_value_head(at: usize, next: usize, m: u8) -> Head
     if (m / 64 % 2 == 1) | (m / 128 % 2 == 1) {
         return Head::Done(Measured::Refused(3, at));
     }
-    let found = Measure { kind: 23, shape: Shape::Scalar };
-    Head::Holds(Inside { from: next, count: (m % 2) as usize, inner: 24, mask: m, found })
+    let found = Measure {
+        kind: 23,
+        shape: Shape::Scalar,
+    };
+    Head::Holds(Inside {
+        from: next,
+        count: (m % 2) as usize,
+        inner: 24,
+        mask: m,
+        found,
+    })
 }
 
 // A DataValue where t is 23, else a Variant.
 pub(crate) fn head_at(s: &[u8], at: usize, t: u8) -> Head
     ensures { λ h. ⌜ ((nested : ℕ → Reader Measure) → finish nested (now (s .entry)) h ≡ valueOf nested t (now (s .entry)) at) ⌝ }
 {
-    let r = read8(s, at);
-    match r {
-        Item8::Is(b, next) => {
-            if t == 23 {
-                return data_value_head(at, next, b);
-            }
-            variant_head(s, at, next, b)
-        }
-        Item8::Short => Head::Done(Measured::Refused(1, at)),
+    let Item8::Is(b, next) = read8(s, at) else {
+        return Head::Done(Measured::Refused(1, at));
+    };
+    if t == 23 {
+        return data_value_head(at, next, b);
     }
+    variant_head(s, at, next, b)
 }

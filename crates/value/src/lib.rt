@@ -3,8 +3,10 @@ pub mod head;
 pub mod plain;
 pub mod width;
 
-use head::{Head, head_at};
-use plain::{Reached, bytes_at};
+use head::Head;
+use head::head_at;
+use plain::Reached;
+use plain::bytes_at;
 use width::width;
 use wire::has;
 ghost use mathlib.Core.Path.{_≡_};
@@ -131,7 +133,10 @@ pub fn measure_raw(s: &[u8], at: usize, t: u8) -> Measured
 {
     let w = width(t);
     if 0 < w {
-        let found = Measure { kind: t, shape: Shape::Scalar };
+        let found = Measure {
+            kind: t,
+            shape: Shape::Scalar,
+        };
         return measured_to(bytes_at(s, at, w), found);
     }
     Measured::Refused(4, at)

@@ -1,6 +1,9 @@
 // Values that hold no other value: of fixed width, or with their length first.
 use crate::width::width;
-use wire::{ItemLength, Length, has, read_length};
+use wire::ItemLength;
+use wire::Length;
+use wire::has;
+use wire::read_length;
 ghost use mathlib.Core.Path.{_≡_};
 ghost use Prim.Native.Nat.{_<_};
 ghost use Rattle.wire.specs.Answer.{each};
@@ -26,14 +29,13 @@ pub(crate) fn bytes_at(s: &[u8], at: usize, n: usize) -> Reached
 fn string_at(s: &[u8], at: usize) -> Reached
     ensures { λ r. ⌜ answerReached r ≡ string (now (s .entry)) at ⌝ }
 {
-    let r = read_length(s, at);
-    match r {
-        ItemLength::Is(l, next) => match l {
-            Length::Null => Reached::To(next),
-            Length::Of(n) => bytes_at(s, next, n),
-            Length::Negative => Reached::Refused(5, at),
-        },
-        ItemLength::Short => Reached::Refused(1, at),
+    let ItemLength::Is(l, next) = read_length(s, at) else {
+        return Reached::Refused(1, at);
+    };
+    match l {
+        Length::Null => Reached::To(next),
+        Length::Of(n) => bytes_at(s, next, n),
+        Length::Negative => Reached::Refused(5, at),
     }
 }
 

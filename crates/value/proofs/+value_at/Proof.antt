@@ -1,13 +1,14 @@
+-- `value::value_at` meets its contract.
+-- Assumes nothing.
 use mathlib.Core.Path.{_≡_, sym, _∙_}
 use borrow.Author.Needs.{needs}
 use denote.Ref.{now}
-use Prim.Native.Nat.{_-_}
+use Prim.Native.Nat.{_-_, ℕ, _<_}
 use Rattle.wire.specs.Answer.{each}
 use Rattle.wire.proofs.Reading.{told}
 use Rattle.value.specs.Value.{answerMeasured, valueAt}
 use Rattle.value.proofs.Each.{each-done, each-step, each-stop}
 use Rattle.value.proofs.Heads.{no-level, by-head, inside-refused, inside-ends}
-use Prim.Native.Nat.{ℕ, _<_}
 use borrow.Fn.Kinds.{In}
 use borrow.Fn.PlainCycle.{Measures, is, falls, and}
 use Rattle.value.proofs.value_at.Reads as value-at
@@ -39,48 +40,15 @@ value-at-Inv-loop s at levels t i inner p₀ left₀ p left = each (valueAt (lev
 abbrev value-at-μ-loop : value-at-lts.MeasureT-loop
 value-at-μ-loop s at levels t i inner p₀ left₀ p left = left
 
-value-at-too-deep-requires : (t : ℕ) → value-at-lts.Need-too-deep-requires (value-at-claims t) (value-at-at t) value-at.Post value-at-Inv-loop value-at-μ-loop
-value-at-too-deep-requires t c κs = search needs
-
 value-at-returns : (t : ℕ) → value-at-lts.Need-returns (value-at-claims t) (value-at-at t) value-at.Post value-at-Inv-loop value-at-μ-loop
 value-at-returns t c =
     let a = c .before .before .before .args in
     c .too-deep .ensures ∙ no-level (a .levels) (a .t) (now (a .s)) (a .at) (c .before .if1 .taken)
 
-value-at-head-at-requires : (t : ℕ) → value-at-lts.Need-head-at-requires (value-at-claims t) (value-at-at t) value-at.Post value-at-Inv-loop value-at-μ-loop
-value-at-head-at-requires t c κs = search needs
-
-value-at-enum-known-h : (t : ℕ) → value-at-lts.Need-enum-known-h (value-at-claims t) (value-at-at t) value-at.Post value-at-Inv-loop value-at-μ-loop
-value-at-enum-known-h t c = search needs
-
-value-at-enum-known-h-2 : (t : ℕ) → value-at-lts.Need-enum-known-h-2 (value-at-claims t) (value-at-at t) value-at.Post value-at-Inv-loop value-at-μ-loop
-value-at-enum-known-h-2 t c = search needs
-
-value-at-loop-holds : (t : ℕ) → value-at-lts.Need-loop-holds (value-at-claims t) (value-at-at t) value-at.Post value-at-Inv-loop value-at-μ-loop
-value-at-loop-holds t c = search needs
-
-value-at-sub-value-at : (t : ℕ) → value-at-lts.Need-sub-value-at (value-at-claims t) (value-at-at t) value-at.Post value-at-Inv-loop value-at-μ-loop
-value-at-sub-value-at t c = search needs
-
-value-at-value-at-requires : (t : ℕ) → value-at-lts.Need-value-at-requires (value-at-claims t) (value-at-at t) value-at.Post value-at-Inv-loop value-at-μ-loop
-value-at-value-at-requires t c κs = search needs
-
-value-at-enum-known-m : (t : ℕ) → value-at-lts.Need-enum-known-m (value-at-claims t) (value-at-at t) value-at.Post value-at-Inv-loop value-at-μ-loop
-value-at-enum-known-m t c = search needs
-
-value-at-sub-left : (t : ℕ) → value-at-lts.Need-sub-left (value-at-claims t) (value-at-at t) value-at.Post value-at-Inv-loop value-at-μ-loop
-value-at-sub-left t c = search needs
-
-value-at-loop-less : (t : ℕ) → value-at-lts.Need-loop-less (value-at-claims t) (value-at-at t) value-at.Post value-at-Inv-loop value-at-μ-loop
-value-at-loop-less t c = search needs
-
 value-at-loop-again : (t : ℕ) → value-at-lts.Need-loop-again (value-at-claims t) (value-at-at t) value-at.Post value-at-Inv-loop value-at-μ-loop
 value-at-loop-again t c =
     let l = c .before .before .before .before .before .loop in
     l .inv ∙ each-step (valueAt _ _) _ (l .left) (l .p) (c .before .before .before .before .loop-test .taken) (sym (told answerMeasured (c .before .before .before .value-at .ensures) (c .before .m .given .1)))
-
-value-at-enum-known-m-2 : (t : ℕ) → value-at-lts.Need-enum-known-m-2 (value-at-claims t) (value-at-at t) value-at.Post value-at-Inv-loop value-at-μ-loop
-value-at-enum-known-m-2 t c = search needs
 
 value-at-returns-2 : (t : ℕ) → value-at-lts.Need-returns-2 (value-at-claims t) (value-at-at t) value-at.Post value-at-Inv-loop value-at-μ-loop
 value-at-returns-2 t c =
@@ -89,12 +57,6 @@ value-at-returns-2 t c =
     inside-refused (valueAt (a .levels - 1)) (now (a .s)) (c .before .before .before .before .before .before .before .h2 .given .0 .0)
     (l .inv ∙ each-stop (valueAt _ _) _ (l .left) (l .p) (c .before .before .before .before .loop-test .taken) (sym (told answerMeasured (c .before .before .before .value-at .ensures) (c .before .m2 .given .1))))
     ∙ by-head (a .levels) (a .t) (now (a .s)) (a .at) (c .before .before .before .before .before .before .before .before .before .before .if1 .left) (c .before .before .before .before .before .before .before .before .before .head-at .ensures (valueAt (a .levels - 1))) (c .before .before .before .before .before .before .before .h2 .given .1)
-
-value-at-parts-at-requires : (t : ℕ) → value-at-lts.Need-parts-at-requires (value-at-claims t) (value-at-at t) value-at.Post value-at-Inv-loop value-at-μ-loop
-value-at-parts-at-requires t c κs = search needs
-
-value-at-measured-to-requires : (t : ℕ) → value-at-lts.Need-measured-to-requires (value-at-claims t) (value-at-at t) value-at.Post value-at-Inv-loop value-at-μ-loop
-value-at-measured-to-requires t c κs = search needs
 
 value-at-returns-3 : (t : ℕ) → value-at-lts.Need-returns-3 (value-at-claims t) (value-at-at t) value-at.Post value-at-Inv-loop value-at-μ-loop
 value-at-returns-3 t c =
@@ -115,21 +77,21 @@ pub +value-at-spec : {M : Type 1} → statement M
     value-at.Post
     value-at-Inv-loop
     value-at-μ-loop
-    (value-at-too-deep-requires t)
+    (λ c κs. search needs)
     (value-at-returns t)
-    (value-at-head-at-requires t)
-    (value-at-enum-known-h t)
-    (value-at-enum-known-h-2 t)
-    (value-at-loop-holds t)
-    (value-at-sub-value-at t)
-    (value-at-value-at-requires t)
-    (value-at-enum-known-m t)
-    (value-at-sub-left t)
-    (value-at-loop-less t)
+    (λ c κs. search needs)
+    (λ c. search needs)
+    (λ c. search needs)
+    (λ c. search needs)
+    (λ c. search needs)
+    (λ c κs. search needs)
+    (λ c. search needs)
+    (λ c. search needs)
+    (λ c. search needs)
     (value-at-loop-again t)
-    (value-at-enum-known-m-2 t)
+    (λ c. search needs)
     (value-at-returns-2 t)
-    (value-at-parts-at-requires t)
-    (value-at-measured-to-requires t)
+    (λ c κs. search needs)
+    (λ c κs. search needs)
     (value-at-returns-3 t)
     (value-at-returns-4 t)
