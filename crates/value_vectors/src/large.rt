@@ -1,5 +1,6 @@
 // Values that lie deep inside others, and a long walk.
-use crate::report::variant;
+use crate::report::line;
+use value::measure_variant;
 use wire::part::part;
 ghost use Prim.Native.Nat.{_<_};
 
@@ -14,7 +15,7 @@ fn deep(name: &[u8], pattern: &[u8; 10], n: usize, last: u8, len: usize)
         i += 1;
     }
     s[n] = last;
-    variant(name, part(&s, 0, len), 0);
+    line(name, measure_variant(part(&s, 0, len), 0));
 }
 
 // Arrays of one Variant, and DataValues in Variants in DataValues.
@@ -55,6 +56,6 @@ pub fn walk() {
         s[i] = walk_byte(i);
         i += 1;
     }
-    variant(b"60000 bytes", &s, 0);
-    variant(b"59999 bytes", part(&s, 0, 59999), 0);
+    line(b"60000 bytes", measure_variant(&s, 0));
+    line(b"59999 bytes", measure_variant(part(&s, 0, 59999), 0));
 }

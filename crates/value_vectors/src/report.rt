@@ -1,4 +1,4 @@
-// What measuring answers, one line for each vector.
+// What measuring answers: type, element count (`-` for a scalar, -1 for a null array) and end, or `bad`, number and place.
 use libc::STDOUT_FILENO;
 use value::Measured;
 use value::Shape;
@@ -36,21 +36,10 @@ pub fn show(m: Measured) {
     }
 }
 
-// A Variant, a DataValue and an element of RawData.
-pub fn variant(name: &[u8], s: &[u8], at: usize) {
-    put(name);
-    show(value::measure_variant(s, at));
-    put(b"\n");
-}
-
-pub fn data_value(name: &[u8], s: &[u8], at: usize) {
-    put(name);
-    show(value::measure_data_value(s, at));
-    put(b"\n");
-}
-
-pub fn raw(name: &[u8], s: &[u8], at: usize, t: u8) {
-    put(name);
-    show(value::measure_raw(s, at, t));
+// The words, and what measuring answers.
+pub fn line(words: &[u8], m: Measured) {
+    put(words);
+    put(b":");
+    show(m);
     put(b"\n");
 }
