@@ -15,30 +15,16 @@ use Rattle.text.specs.Decimal.{isDigit, allDigits, decimalAt, decimalTex
 use Rattle.text.specs.Hex.{hexDigit, hexText, hexValue, allHex, hexBytes, hexOf}
 use Rattle.text.specs.declared.decimal.Decimal.the-variants.{Is}
 use Rattle.text.proofs.Lists.{cases, and-left, and-right}
+use Rattle.text.proofs.Parts.{digits-contain, digits-place, digits-before}
 use Rattle.text.proofs.Numerals.{decimal-all-digits, decimal-back}
 use Rattle.text.proofs.Putting.{hex-length}
 
--- digits, and a byte that is none after them
-module _ (end : ℕ) (n : isDigit end ≡ false) (rest : List ℕ) where
-  apart : (d : ℕ) → isDigit d ≡ true → eqb d end ≡ false
-  apart d e = ne-eqb d end (λ q. true≢false (sym e ∙ ap isDigit q ∙ n))
-
-  ended : (t : List ℕ) → allDigits t ≡ true → contains end (t ++ end ∷ rest) ≡ true
-  ended [] a = rw (eq-eqb end end refl)
-  ended (d ∷ t) a = rw (apart d (and-left (isDigit d) (allDigits t) a)) (ended t (and-right (isDigit d) (allDigits t) a))
-
-  place : (t : List ℕ) → allDigits t ≡ true → indexOf end (t ++ end ∷ rest) ≡ length t
-  place [] a = rw (eq-eqb end end refl)
-  place (d ∷ t) a = rw (apart d (and-left (isDigit d) (allDigits t) a)) (ap suc (place t (and-right (isDigit d) (allDigits t) a)))
-
-  before : (t : List ℕ) → allDigits t ≡ true → upTo end (t ++ end ∷ rest) ≡ t
-  before [] a = rw (eq-eqb end end refl)
-  before (d ∷ t) a = rw (apart d (and-left (isDigit d) (allDigits t) a)) (ap (λ (u : List ℕ). d ∷ u) (before t (and-right (isDigit d) (allDigits t) a)))
-
-  -- a decimal that was put, and a byte that is no digit after it: read up to that byte, it gives the number
-  pub decimal-read-back : (limit m : ℕ) (s : List ℕ) (at : ℕ) → m ≤ limit → drop at s ≡ decimalText m ++ end ∷ rest → decimalAt limit end s at ≡ Is m (at + length (decimalText m) + 1)
-  decimal-read-back limit m s at h e =
-      rw (e, ended (decimalText m) (decimal-all-digits m), before (decimalText m) (decimal-all-digits m), place (decimalText m) (decimal-all-digits m), decimal-back limit m h)
+-- a decimal that was put, and a byte that is no digit after it: read up to that byte, it gives the number
+pub decimal-read-back : (end : ℕ) (rest : List ℕ) (limit n : ℕ) (s : List ℕ) (at : ℕ) → isDigit end ≡ false → n ≤ limit → drop at s ≡ decimalText n ++ end ∷ rest
+    → decimalAt limit end s at ≡ Is n (at + length (decimalText n) + 1)
+decimal-read-back end rest limit n s at d h e =
+    let a : allDigits (decimalText n) ≡ true = decimal-all-digits n in
+    rw (e, digits-contain end d rest (decimalText n) a, digits-before end d rest (decimalText n) a, digits-place end d rest (decimalText n) a, decimal-back limit n h)
 
 -- a hex digit has its number
 digit-back : (v : ℕ) → v < 16 → hexValue (hexDigit v) ≡ v

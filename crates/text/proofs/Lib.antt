@@ -1,4 +1,5 @@
 pub mod Lists
+pub mod Parts
 pub mod Digits
 pub mod Numerals
 pub mod Putting
