@@ -21,19 +21,19 @@ pub part-after : (pre s : List ℕ) → Part (length pre) (length s) s (pre ++ s
 part-after pre s = record { first = le-refl (length s); second = simp length-append (le-refl (length pre + length s)); same = λ i h. getD-append-add pre s i 0 }
 
 pub part-front : (s post : List ℕ) → Part 0 (length s) s (s ++ post)
-part-front s post = record
-  { first = le-refl (length s)
-  ; second = simp length-append (omega arith)
-  ; same = λ i h. ap (λ (x : ℕ). getD (s ++ post) x 0) (zero-add i) ∙ List·getD-append s post 0 i h
-  }
+part-front s post = record {
+  first = le-refl (length s);
+  second = simp length-append (omega arith);
+  same = λ i h. ap (λ (x : ℕ). getD (s ++ post) x 0) (zero-add i) ∙ List·getD-append s post 0 i h;
+}
 
 pub part-take : (n : ℕ) (s : List ℕ) → n ≤ length s → Part 0 (length (take n s)) (take n s) s
 part-take n s h =
     let l : length (take n s) ≡ n = length-take-le n s h in
-    record
-    { first = le-refl (length (take n s))
-    ; second = omega arith
-    ; same = λ i k. ap (λ (x : ℕ). getD s x 0) (zero-add i) ∙ sym (getD-take n s i 0 (omega arith))
+    record {
+      first = le-refl (length (take n s));
+      second = omega arith;
+      same = λ i k. ap (λ (x : ℕ). getD s x 0) (zero-add i) ∙ sym (getD-take n s i 0 (omega arith));
     }
 
 -- what `Follows` tells of the second answer
@@ -133,9 +133,9 @@ module _ {A : Type 0} {r : Reader A} (f : Steady r) where
       let w = within s at h q in
       let n : length (take at s) ≡ at = length-take-le at s h in
       let x : r (take at s ++ drop at s) (length (take at s) + 0) ≡ got a e =
-          ap (λ (y : List ℕ). r y (length (take at s) + 0)) (take-append-drop at s) ∙ ap (r s) (add-zero (length (take at s)) ∙ n) ∙ q in
+      ap (λ (y : List ℕ). r y (length (take at s) + 0)) (take-append-drop at s) ∙ ap (r s) (add-zero (length (take at s)) ∙ n) ∙ q in
       let y : r (drop at s) 0 ≡ got a (e - at) =
-          unmoved at e a (r (drop at s) 0) (ap (λ (y : ℕ). movedBy y (r (drop at s) 0)) (sym n) ∙ sym (after (take at s) (drop at s) 0) ∙ x) in
+      unmoved at e a (r (drop at s) 0) (ap (λ (y : ℕ). movedBy y (r (drop at s) 0)) (sym n) ∙ sym (after (take at s) (drop at s) 0) ∙ x) in
       let l : e - at ≤ length (drop at s) = simp length-drop (omega arith) in
       let m : length (take (e - at) (drop at s)) ≡ e - at = length-take-le (e - at) (drop at s) l in
       cut (take (e - at) (drop at s)) (drop (e - at) (drop at s)) 0

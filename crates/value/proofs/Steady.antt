@@ -80,6 +80,7 @@ taking-steady {A} w f local =
         let g : (j : ℕ) → j < w → getD s′ (q + j) 0 ≡ getD s (at + j) 0 = λ j l. ap (λ (x : ℕ). getD s′ x 0) (omega arith) ∙ part .same (at + j) (omega arith) in
         subst (λ (x : A). Follows d n (length s) (length s′) (got (f s at) (at + w)) (got x (q + w))) (sym (local s s′ at q g)) (moved (omega arith))
     both d n s s′ part at q e h false i = let k : n < at + w = leb-false _ _ i in past k h
+
     go : (d n : ℕ) (s s′ : List ℕ) → Part d n s s′ → (at q : ℕ) → q ≡ d + at
         → (b b′ : Bool) → leb (at + w) (length s) ≡ b → leb (q + w) (length s′) ≡ b′
         → Follows d n (length s) (length s′) (cond b (got (f s at) (at + w)) (refused 1 at)) (cond b′ (got (f s′ q) (q + w)) (refused 1 q))
@@ -96,6 +97,7 @@ taking-steady {A} w f local =
         let k : n ≤ length s = part .first in
         short (omega arith)
     go d n s s′ part at q e false false i j = stays e
+
     walk : (d n : ℕ) (s s′ : List ℕ) → Part d n s s′ → (at q : ℕ) → q ≡ d + at → Follows d n (length s) (length s′) (taking w f s at) (taking w f s′ q)
     walk d n s s′ part at q e = go d n s s′ part at q e (leb (at + w) (length s)) (leb (q + w) (length s′)) refl refl
 
@@ -104,7 +106,7 @@ le-local zero s s′ at q h = refl
 le-local (suc w) s s′ at q h =
     let b : getD s′ q 0 ≡ getD s at 0 = ap (λ (x : ℕ). getD s′ x 0) (sym (add-zero q)) ∙ h 0 (omega arith) ∙ ap (λ (x : ℕ). getD s x 0) (add-zero at) in
     let g : (i : ℕ) → i < w → getD s′ (q + 1 + i) 0 ≡ getD s (at + 1 + i) 0 =
-        λ i l. ap (λ (x : ℕ). getD s′ x 0) (omega arith) ∙ h (suc i) (omega arith) ∙ ap (λ (x : ℕ). getD s x 0) (omega arith) in
+    λ i l. ap (λ (x : ℕ). getD s′ x 0) (omega arith) ∙ h (suc i) (omega arith) ∙ ap (λ (x : ℕ). getD s x 0) (omega arith) in
     ap (λ (x : ℕ). x + 256 * le w s′ (q + 1)) b ∙ ap (λ (x : ℕ). getD s at 0 + 256 * x) (le-local w s s′ (at + 1) (q + 1) g)
 
 pub item-steady : (w : ℕ) → Steady (item w)
@@ -129,17 +131,17 @@ pub record Onward {A : Type 0} (k : ℕ → Reader A) : Type 0 where
 
 -- a steady reader, wherever the item stood
 pub steadily : {A : Type 0} {r : Reader A} → Steady r → Onward (λ p. r)
-steadily f = record
-  { within = λ s p at hi l u v. ends-from l (le-refl at) (f .within s at hi u v)
-  ; follows = λ d n s s′ part p p′ at q i e. f .follows d n s s′ part at q e
-  }
+steadily f = record {
+  within = λ s p at hi l u v. ends-from l (le-refl at) (f .within s at hi u v);
+  follows = λ d n s s′ part p p′ at q i e. f .follows d n s s′ part at q e;
+}
 
 -- a refusal of the item
 pub refusing : {A : Type 0} (n : ℕ) → 1 ≤ n → Onward {A = A} (λ p s at. refused n p)
-refusing n h = record
-  { within = λ s p at hi l u v. stopped h (le-refl p) (le-trans l u)
-  ; follows = λ d n s s′ part p p′ at q i e. stays i
-  }
+refusing n h = record {
+  within = λ s p at hi l u v. stopped h (le-refl p) (le-trans l u);
+  follows = λ d n s s′ part p p′ at q i e. stays i;
+}
 
 pub cond-onward : {A : Type 0} (b : Bool) {x y : ℕ → Reader A} → (b ≡ true → Onward x) → (b ≡ false → Onward y) → Onward (λ p s at. cond b (x p s at) (y p s at))
 cond-onward true f h = f refl
@@ -166,10 +168,10 @@ module _ {A B : Type 0} {k : A → ℕ → Reader B} (h : (a : A) → Onward (k 
   then-follows d n s′ part at q e m (lost l) = lost l
 
 pub onward-steady : {A B : Type 0} {r : Reader A} {k : A → ℕ → Reader B} → Steady r → ((a : A) → Onward (k a)) → Steady (λ s at. andThen (r s at) (λ a next. k a at s next))
-onward-steady f h = record
-  { within = λ s at hi l u. then-ends h s (le-refl at) u (f .within s at hi l u)
-  ; follows = λ d n s s′ part at q e. then-follows h s d n s′ part at q e (f .within s at (at + length s) (le-add-right at (length s)) (le-add-left (length s) at)) (f .follows d n s s′ part at q e)
-  }
+onward-steady f h = record {
+  within = λ s at hi l u. then-ends h s (le-refl at) u (f .within s at hi l u);
+  follows = λ d n s s′ part at q e. then-follows h s d n s′ part at q e (f .within s at (at + length s) (le-add-right at (length s)) (le-add-left (length s) at)) (f .follows d n s s′ part at q e);
+}
 
 le-of-ne-zero : (n : ℕ) → (n ≡ 0 → ⊥) → 1 ≤ n
 le-of-ne-zero n h = omega arith

@@ -10,11 +10,11 @@ use lib.Dec.{eqb, leb}
 use lib.ListN.{length, getD, take, drop}
 use borrow.Author.Tests.{leb-true, leb-false}
 use Rattle.wire.specs.Number.{le}
-use Rattle.wire.specs.Answer.{Answer, got, refused, Reader, _>>=_, ruled, bit}
+use Rattle.wire.specs.Answer.{got, refused, Reader, _>>=_, ruled, bit}
 use Rattle.wire.specs.declared.Length.{Length}
 use Rattle.value.specs.Width.{widthOf, fixed}
 use Rattle.value.specs.Plain.{passing, bytes, afterLength, byLength, string, plain, plainValue, plainValues}
-use Rattle.value.specs.Value.{measure, typeOf, isArray, variantRule, scalar, elements, array, variantOf, maskRule, parts, dataValueOf, valueOf, tooDeep, valueAt, rawAt}
+use Rattle.value.specs.Value.{measure, typeOf, isArray, variantRule, scalar, elements, array, variantOf, maskRule, parts, dataValueOf, tooDeep, valueAt, rawAt}
 use Rattle.value.specs.declared.Shape.{Shape}
 use Rattle.value.specs.declared.Measure.{Measure}
 use Rattle.value.proofs.Places.{movedBy, end-of, within-refused, local, append, append-refused, take-refused, cut, after, placed, alone}
@@ -118,6 +118,7 @@ module _ (levels t : ℕ) where
     where
       ends : (hi : ℕ) → at ≤ hi → length s ≤ hi → (at + 1 ≤ e) × (e ≤ hi)
       ends hi l u = end-of (subst (Ends at (at + 1) hi) q (value-ends levels t s at hi l u))
+
       go : (b : Bool) → leb at (length s) ≡ b → (at < e) × (e ≤ length s)
       go true h = let w = ends (length s) (leb-true at (length s) h) (le-refl (length s)) in (omega arith, omega arith)
       go false h = let l : length s < at = leb-false at (length s) h in let w = ends at (le-refl at) (omega arith) in absurd (omega arith)

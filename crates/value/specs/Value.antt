@@ -1,6 +1,6 @@
 -- Document 01, "Values": what measuring a Variant, a DataValue or a RawData element at a position of a slice answers.
 use Prim.Native.Nat.{ℕ, zero, suc, _%_}
-use mathlib.Core.List.{List, [], _∷_}
+use mathlib.Core.List.{[], _∷_}
 use mathlib.Core.Bool.{Bool, cond, not, _&&_, _||_}
 use lib.Dec.{eqb}
 use Rattle.wire.specs.Answer.{Answer, got, refused, Reader, andThen, _>>=_, _>>_, pure, refuse, item, ruled, whenOn, each, bit}
@@ -47,18 +47,22 @@ variantRule b =
 -- what follows the first byte of a scalar of type t
 unfoldable pub scalar : (ℕ → Reader Measure) → ℕ → Reader Measure
 scalar nested t = do
-    cond (plain t) (plainValue t) (passing (nested t))
-    pure (measure t Shape.Scalar)
+  cond (plain t) (plainValue t) (passing (nested t))
+  pure (measure t Shape.Scalar)
 
 -- n elements of type t
 unfoldable pub elements : (ℕ → Reader Measure) → ℕ → ℕ → Reader (Unit {0})
 elements nested t n = cond (plain t) (plainValues t n) (each (nested t) n)
 
+-- an array of type t after its count n
+abbrev pub arrayOf : (ℕ → Reader Measure) → ℕ → ℕ → Reader Measure
+arrayOf nested t n = do
+  elements nested t n
+  pure (measure t (Shape.Array n))
+
 -- what follows the first byte of an array of type t: its element count, then the elements
 unfoldable pub array : (ℕ → Reader Measure) → ℕ → Reader Measure
-array nested t = byLength (pure (measure t Shape.NullArray)) λ n. do
-    elements nested t n
-    pure (measure t (Shape.Array n))
+array nested t = byLength (pure (measure t Shape.NullArray)) (arrayOf nested t)
 
 -- what follows a Variant's first byte b: "Type 0 is null, one byte"
 abbrev pub variantOf : (ℕ → Reader Measure) → ℕ → Reader Measure
@@ -74,18 +78,18 @@ maskRule m = cond (bit 64 m || bit 128 m) 3 0
 -- 5 server picoseconds 2"
 unfoldable pub parts : ℕ → Reader (Unit {0})
 parts m = do
-    whenOn (bit 2 m) tt (bytes 4)
-    whenOn (bit 4 m) tt (bytes 8)
-    whenOn (bit 16 m) tt (bytes 2)
-    whenOn (bit 8 m) tt (bytes 8)
-    whenOn (bit 32 m) tt (bytes 2)
+  whenOn (bit 2 m) tt (bytes 4)
+  whenOn (bit 4 m) tt (bytes 8)
+  whenOn (bit 16 m) tt (bytes 2)
+  whenOn (bit 8 m) tt (bytes 8)
+  whenOn (bit 32 m) tt (bytes 2)
 
 -- what follows a DataValue's mask m: "then by bit 0 a Variant" and the other parts
 abbrev pub dataValueOf : (ℕ → Reader Measure) → ℕ → Reader Measure
 dataValueOf nested m = do
-    whenOn (bit 1 m) tt (passing (nested 24))
-    parts m
-    pure (measure 23 Shape.Scalar)
+  whenOn (bit 1 m) tt (passing (nested 24))
+  parts m
+  pure (measure 23 Shape.Scalar)
 
 -- a DataValue where t is 23, else a Variant
 abbrev pub valueOf : (ℕ → Reader Measure) → ℕ → Reader Measure
