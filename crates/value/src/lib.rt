@@ -1,6 +1,6 @@
-// Encoded values of Part 6: a Variant or a DataValue, measured at a position of a slice.
-pub mod head;
-pub mod plain;
+// Encoded values of Part 6, measured at a position of a slice: a Variant, a DataValue, an element of RawData.
+mod head;
+mod plain;
 pub mod width;
 
 use head::Head;
@@ -97,7 +97,7 @@ fn value_at(s: &[u8], at: usize, levels: usize, t: u8) -> Measured
                 match m {
                     Measured::Is(_, end) => {
                         p = end;
-                        left = left - 1;
+                        left -= 1;
                     }
                     Measured::Refused(number, place) => {
                         return Measured::Refused(number, place);
@@ -111,7 +111,7 @@ fn value_at(s: &[u8], at: usize, levels: usize, t: u8) -> Measured
 }
 
 // The levels of a field's own value and the values inside it.
-pub const LEVELS: usize = 100;
+const LEVELS: usize = 100;
 
 // A Variant at a position.
 pub fn measure_variant(s: &[u8], at: usize) -> Measured

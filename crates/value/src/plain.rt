@@ -50,7 +50,7 @@ fn strings_at(s: &[u8], at: usize, n: usize) -> Reached
         match r {
             Reached::To(e) => {
                 p = e;
-                left = left - 1;
+                left -= 1;
             }
             Reached::Refused(number, place) => {
                 return Reached::Refused(number, place);
