@@ -64,10 +64,7 @@ fn strings_at(s: &[u8], at: usize, n: usize) -> Reached
 pub(crate) fn is_plain(t: u8) -> bool
     ensures { λ r. ⌜ r ≡ plain t ⌝ }
 {
-    if 0 < width(t) {
-        return true;
-    }
-    (t == 12) | (t == 15)
+    ((1 <= t) & (t <= 15)) | (t == 19)
 }
 
 // One value of a plain type.
