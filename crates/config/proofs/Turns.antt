@@ -4,18 +4,18 @@ use mathlib.Core.Path.{_≡_, refl, sym, _∙_, ap}
 use mathlib.Core.Bool.{Bool, true, false, cond, not, _||_, true≢false, false≢true, or-true}
 use mathlib.Core.List.{List, [], _∷_}
 use mathlib.Core.Logic.{⊎-elim}
-use Prim.Native.Nat.{ℕ, suc, _+_, _≤_, _<_}
+use Prim.Native.Nat.{ℕ, _+_, _≤_, _<_}
 use native.Mathlib.Nat.{suc-add}
 use native.Mathlib.Omega.{arith}
 use borrow.Author.Tests.{leb-false}
 use lib.Dec.{eqb, leb}
-use lib.ListN.{length, take, drop, getD, length-drop}
+use lib.ListN.{length, drop, getD, length-drop}
 use lib.Seq.{drop-drop}
 use Rattle.text.specs.Words.{contains, indexOf, upTo, past}
 use Rattle.text.proofs.Lists.{cases, at-next, at-end}
 use Rattle.text.proofs.Parts.{contains-place}
 use Rattle.config.specs.Line.{Says, writer, field, bad, saysOf, asLine, lineAt}
-use Rattle.config.specs.Config.{TextLine, ended, unended, onto, linesOf, lineSays, emptyConfig, isNew, permits, with, accepted, badLine, readLines, configOf}
+use Rattle.config.specs.Config.{ended, unended, linesOf, emptyConfig, isNew, permits, with, accepted, badLine, readLines, configOf}
 use Rattle.config.specs.declared.Config.{Config}
 use Rattle.config.specs.declared.ConfigRead.{ConfigRead}
 use Rattle.config.specs.declared.line.Line.{Line}

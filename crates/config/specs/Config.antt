@@ -1,8 +1,8 @@
 -- The configuration text, document 01: lines as in `Line`; "At most 16 writers, 64 fields in all, ids distinct; else 16, as is a last line without newline."
 -- The number 16 comes with the line, counted from 1.
-use Prim.Native.Nat.{ℕ, _+_}
-use mathlib.Core.Bool.{Bool, true, false, cond, not, _||_}
+use mathlib.Core.Bool.{Bool, false, cond, not, _||_}
 use mathlib.Core.List.{List, [], _∷_}
+use Prim.Native.Nat.{ℕ, _+_}
 use lib.Dec.{eqb, leb}
 use lib.ListN.{take, set, replicate}
 use Rattle.text.specs.Words.{contains}

@@ -1,6 +1,6 @@
 // The configuration: document 01, "Configuration and listing". Its text is read into a record of arrays; what the
 // configuration says of a writer is asked of the record's arrays, lent as slices.
-pub mod line;
+mod line;
 pub mod writers;
 
 use line::Line;
