@@ -1,7 +1,7 @@
 -- The lines of a text are the text: joined again they give it back, and none of them has a newline in it. And what is accepted keeps the limits.
 -- Assumes nothing.
 use mathlib.Core.Path.{_≡_, refl, sym, _∙_, ap}
-use mathlib.Core.Bool.{Bool, true, false, cond}
+use mathlib.Core.Bool.{Bool, true, false}
 use mathlib.Core.List.{List, [], _∷_, _++_}
 use Prim.Native.Nat.{ℕ, _+_, _≤_}
 use native.Mathlib.Omega.{arith}
@@ -9,7 +9,7 @@ use borrow.Author.Tests.{eqb-true}
 use lib.Dec.{eqb}
 use Rattle.text.specs.Words.{contains}
 use Rattle.config.specs.Line.{Says, writer, field, bad}
-use Rattle.config.specs.Config.{TextLine, ended, unended, onto, linesOf, lineSays, emptyConfig, permits, with, badLine, readLines, configOf}
+use Rattle.config.specs.Config.{TextLine, ended, unended, onto, linesOf, lineSays, emptyConfig, mayFollow, with, readLines, configOf}
 use Rattle.config.specs.declared.Config.{Config}
 use Rattle.config.proofs.Turns.{new-within, field-within}
 
@@ -55,16 +55,16 @@ lines-clean (b ∷ t) = step (eqb b 10) refl (lines-clean t)
 abbrev Within : Config → Type 0
 Within c = (c .writers ≤ 16) × (c .fields ≤ 64)
 
-with-within : (c : Config) (y : Says) → Within c → permits c y ≡ true → Within (with c y)
+with-within : (c : Config) (y : Says) → Within c → mayFollow c y ≡ true → Within (with c y)
 with-within c (writer id size) w p = (omega (arith, new-within (c .ids) (c .writers) id p), w .1)
 with-within c (field t) w p = (w .0, omega (arith, field-within c p))
 with-within c bad w p = w
 
 lines-within : (ls : List TextLine) (c : Config) (n : ℕ) → Within c → Within (readLines c n ls .config)
 lines-within [] c n w = w
-lines-within (l ∷ ls) c n w = step (permits c (lineSays l)) refl (λ p. lines-within ls (with c (lineSays l)) (n + 1) (with-within c (lineSays l) w p))
+lines-within (l ∷ ls) c n w = step (mayFollow c (lineSays l)) refl (λ p. lines-within ls (with c (lineSays l)) (n + 1) (with-within c (lineSays l) w p))
   where
-    step : (x : Bool) → permits c (lineSays l) ≡ x → (permits c (lineSays l) ≡ true → Within (readLines (with c (lineSays l)) (n + 1) ls .config)) → Within (readLines c n (l ∷ ls) .config)
+    step : (x : Bool) → mayFollow c (lineSays l) ≡ x → (mayFollow c (lineSays l) ≡ true → Within (readLines (with c (lineSays l)) (n + 1) ls .config)) → Within (readLines c n (l ∷ ls) .config)
     step true p h = rw p (h p)
     step false p h = rw p (omega arith, omega arith)
 

@@ -68,11 +68,16 @@ abbrev pub saysOf : List ℕ → Says
 saysOf line =
     cond (startsWith line writerWord) (writerRest (drop 7 line)) (cond (startsWith line fieldWord) (fieldRest (drop 6 line)) bad)
 
--- as the code answers it, with the position after the newline
+-- as the code answers it, with the position after the newline; and back
 abbrev pub asLine : Says → ℕ → Line
 asLine (writer id size) next = Writer id size next
 asLine (field t) next = Field t next
 asLine bad next = Bad
+
+abbrev pub saysIn : Line → Says
+saysIn (Writer id size next) = writer id size
+saysIn (Field t next) = field t
+saysIn Bad = bad
 
 -- a text up to its first newline, read as `f` says; without newline it is no line
 abbrev pub lineBy : (List ℕ → Says) → List ℕ → ℕ → Line
