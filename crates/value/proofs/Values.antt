@@ -10,11 +10,11 @@ use lib.Dec.{eqb, leb}
 use lib.ListN.{length, getD, take, drop}
 use borrow.Author.Tests.{leb-true, leb-false}
 use Rattle.wire.specs.Number.{le}
-use Rattle.wire.specs.Answer.{Answer, got, refused, Reader, _>>=_, ruled, bit}
+use Rattle.wire.specs.Answer.{got, refused, Reader, _>>=_, ruled, bit}
 use Rattle.wire.specs.declared.Length.{Length}
 use Rattle.value.specs.Width.{widthOf, fixed}
 use Rattle.value.specs.Plain.{passing, bytes, afterLength, byLength, string, plain, plainValue, plainValues}
-use Rattle.value.specs.Value.{measure, typeOf, isArray, variantRule, scalar, elements, array, variantOf, maskRule, parts, dataValueOf, valueOf, tooDeep, valueAt, rawAt}
+use Rattle.value.specs.Value.{measure, typeOf, isArray, variantRule, scalar, elements, array, variantOf, maskRule, parts, dataValueOf, tooDeep, valueAt, rawAt}
 use Rattle.value.specs.declared.Shape.{Shape}
 use Rattle.value.specs.declared.Measure.{Measure}
 use Rattle.value.proofs.Places.{movedBy, end-of, within-refused, local, append, append-refused, take-refused, cut, after, placed, alone}

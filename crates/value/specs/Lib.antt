@@ -1,3 +1,4 @@
 pub mod Width
 pub mod Plain
 pub mod Value
+pub mod Head

@@ -1,12 +1,12 @@
 -- Document 01, "Values": the values that hold no other value.
 use Prim.Native.Nat.{ℕ, _*_}
-use mathlib.Core.List.{List, [], _∷_}
+use mathlib.Core.List.{[], _∷_}
 use mathlib.Core.Bool.{Bool, cond, _||_}
-use Rattle.wire.specs.Answer.{Answer, got, refused, Reader, andThen, _>>=_, _>>_, pure, run, each}
+use Rattle.wire.specs.Answer.{Answer, got, refused, Reader, andThen, _>>_, pure, run, each}
 use Rattle.wire.specs.Items.{lengthItem}
 use Rattle.wire.specs.declared.Length.{Length}
 use Rattle.value.specs.Width.{among, widthOf, fixed}
-use Rattle.value.specs.declared.Reached.{Reached}
+use Rattle.value.specs.declared.plain.Reached.{Reached}
 
 abbrev pub answerReached : Reached → Answer (Unit {0})
 answerReached (Reached.To next) = got tt next

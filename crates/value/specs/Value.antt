@@ -1,6 +1,6 @@
 -- Document 01, "Values": what measuring a Variant, a DataValue or a RawData element at a position of a slice answers.
 use Prim.Native.Nat.{ℕ, zero, suc, _%_}
-use mathlib.Core.List.{List, [], _∷_}
+use mathlib.Core.List.{[], _∷_}
 use mathlib.Core.Bool.{Bool, cond, not, _&&_, _||_}
 use lib.Dec.{eqb}
 use Rattle.wire.specs.Answer.{Answer, got, refused, Reader, andThen, _>>=_, _>>_, pure, refuse, item, ruled, whenOn, each, bit}
@@ -54,11 +54,15 @@ scalar nested t = do
 unfoldable pub elements : (ℕ → Reader Measure) → ℕ → ℕ → Reader (Unit {0})
 elements nested t n = cond (plain t) (plainValues t n) (each (nested t) n)
 
--- what follows the first byte of an array of type t: its element count, then the elements
-unfoldable pub array : (ℕ → Reader Measure) → ℕ → Reader Measure
-array nested t = byLength (pure (measure t Shape.NullArray)) λ n. do
+-- an array of type t after its count n
+abbrev pub arrayOf : (ℕ → Reader Measure) → ℕ → ℕ → Reader Measure
+arrayOf nested t n = do
   elements nested t n
   pure (measure t (Shape.Array n))
+
+-- what follows the first byte of an array of type t: its element count, then the elements
+unfoldable pub array : (ℕ → Reader Measure) → ℕ → Reader Measure
+array nested t = byLength (pure (measure t Shape.NullArray)) (arrayOf nested t)
 
 -- what follows a Variant's first byte b: "Type 0 is null, one byte"
 abbrev pub variantOf : (ℕ → Reader Measure) → ℕ → Reader Measure

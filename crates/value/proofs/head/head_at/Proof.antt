@@ -1,0 +1,33 @@
+-- `value::head::head_at` meets its contract.
+-- Assumes nothing.
+use Rattle.value.proofs.Heads.{told-byte, told-no-byte, head-short}
+use borrow.Author.Tests.{eq-eqb, ne-eqb}
+use denote.Ref.{now}
+use borrow.Author.Needs.{needs}
+use Rattle.value.proofs.head.head_at.Statement.{statement}
+use Rattle.value.proofs.head.head_at.Tie as tie
+
+returns : tie.Need-returns
+returns c =
+    λ nested. head-short nested (c .before .before .before .before .args .t) (now (c .before .before .before .before .args .s)) (c .before .before .before .before .args .at) (told-no-byte (c .before .before .before .before .args .at) (c .before .before .read8 .ensures) (c .enum-told .given .1))
+
+returns-2 : tie.Need-returns-2
+returns-2 c =
+    λ nested. rw (eq-eqb _ _ (c .before .if1 .taken), told-byte (c .before .before .before .before .before .before .before .args .at) (c .before .before .before .before .before .read8 .ensures) (c .before .before .before .b .given .1)) (c .data-value-head .ensures nested (now (c .before .before .before .before .before .before .before .args .s)))
+
+returns-3 : tie.Need-returns-3
+returns-3 c =
+    λ nested. rw (ne-eqb _ _ (c .before .if1 .left), told-byte (c .before .before .before .before .before .before .before .args .at) (c .before .before .before .before .before .read8 .ensures) (c .before .before .before .b .given .1)) (c .variant-head .ensures nested)
+
+pub head-at-spec : {M : Type 1} → statement M
+head-at-spec =
+    tie.close
+    (tie.spec
+    (λ c κs. search needs)
+    (λ c. search needs)
+    (λ c. search needs)
+    returns
+    (λ c κs. search needs)
+    returns-2
+    (λ c κs. search needs)
+    returns-3)

@@ -1,0 +1,25 @@
+-- `value::plain::bytes_at` meets its contract.
+-- Assumes nothing.
+use Prim.Native.Nat.{_+_, _≤_}
+use denote.Ref.{now}
+use lib.ListN.{length}
+use borrow.Author.Tests.{leb-true}
+use native.Mathlib.Omega.{arith}
+use mathlib.Core.Path.{sym, _∙_}
+use borrow.Author.Needs.{needs}
+use Rattle.value.proofs.plain.bytes_at.Statement.{statement}
+use Rattle.value.proofs.plain.bytes_at.Tie as tie
+
+add-t6 : tie.Need-add-t6
+add-t6 c =
+    let h : c .before .before .before .args .at + c .before .before .before .args .n ≤ length (now (c .before .before .before .args .s)) = leb-true (c .before .before .before .args .at + c .before .before .before .args .n) (length (now (c .before .before .before .args .s))) (sym (c .before .has .ensures) ∙ c .if1 .taken) in
+    omega arith
+
+returns : tie.Need-returns
+returns c = rw (sym (c .before .has .ensures) ∙ c .if1 .taken)
+
+returns-2 : tie.Need-returns-2
+returns-2 c = rw (sym (c .before .has .ensures) ∙ c .if1 .left)
+
+pub bytes-at-spec : {M : Type 1} → statement M
+bytes-at-spec = tie.close (tie.spec (λ c κs. search needs) add-t6 returns returns-2)

@@ -1,0 +1,94 @@
+// Values that hold no other value: of fixed width, or with their length first.
+use crate::width::width;
+use wire::ItemLength;
+use wire::Length;
+use wire::has;
+use wire::read_length;
+ghost use mathlib.Core.Path.{_≡_};
+ghost use Prim.Native.Nat.{_<_};
+ghost use Rattle.wire.specs.Answer.{each};
+ghost use Rattle.value.specs.Plain.{answerReached, bytes, string, plain, plainValue, plainValues};
+
+// The position after what was passed over, or the number and place of its refusal.
+pub(crate) enum Reached {
+    To(usize),
+    Refused(u8, usize),
+}
+
+// n bytes, one item.
+pub(crate) fn bytes_at(s: &[u8], at: usize, n: usize) -> Reached
+    ensures { λ r. ⌜ answerReached r ≡ bytes n (now (s .entry)) at ⌝ }
+{
+    if has(s.len(), at, n) {
+        return Reached::To(at + n);
+    }
+    Reached::Refused(1, at)
+}
+
+// A String or ByteString: its length, then its bytes.
+fn string_at(s: &[u8], at: usize) -> Reached
+    ensures { λ r. ⌜ answerReached r ≡ string (now (s .entry)) at ⌝ }
+{
+    let ItemLength::Is(l, next) = read_length(s, at) else {
+        return Reached::Refused(1, at);
+    };
+    match l {
+        Length::Null => Reached::To(next),
+        Length::Of(n) => bytes_at(s, next, n),
+        Length::Negative => Reached::Refused(5, at),
+    }
+}
+
+// n Strings or ByteStrings, one after the other.
+fn strings_at(s: &[u8], at: usize, n: usize) -> Reached
+    ensures { λ r. ⌜ answerReached r ≡ each string n (now (s .entry)) at ⌝ }
+{
+    let mut p = at;
+    let mut left = n;
+    while 0 < left {
+        let r = string_at(s, p);
+        match r {
+            Reached::To(e) => {
+                p = e;
+                left -= 1;
+            }
+            Reached::Refused(number, place) => {
+                return Reached::Refused(number, place);
+            }
+        }
+    }
+    Reached::To(p)
+}
+
+// Whether a type's values hold no other value.
+pub(crate) fn is_plain(t: u8) -> bool
+    ensures { λ r. ⌜ r ≡ plain t ⌝ }
+{
+    if 0 < width(t) {
+        return true;
+    }
+    (t == 12) | (t == 15)
+}
+
+// One value of a plain type.
+pub(crate) fn plain_value(s: &[u8], at: usize, t: u8) -> Reached
+    ensures { λ r. ⌜ answerReached r ≡ plainValue t (now (s .entry)) at ⌝ }
+{
+    let w = width(t);
+    if 0 < w {
+        return bytes_at(s, at, w);
+    }
+    string_at(s, at)
+}
+
+// n of them. A count is below 2^31.
+pub(crate) fn plain_values(s: &[u8], at: usize, t: u8, n: usize) -> Reached
+    requires { ⌜ n < 2147483648 ⌝ }
+    ensures { λ r. ⌜ answerReached r ≡ plainValues t n (now (s .entry)) at ⌝ }
+{
+    let w = width(t);
+    if 0 < w {
+        return bytes_at(s, at, n * w);
+    }
+    strings_at(s, at, n)
+}
