@@ -71,3 +71,12 @@ answerField (FieldRead.Refused n place) = refused n place
 abbrev pub answerStep : FieldStep → Answer Stepped
 answerStep (FieldStep.Is f c) = got (record { field = f; cursor = c }) (c .at)
 answerStep (FieldStep.Refused n place) = refused n place
+
+-- the cursor after k steps
+unfoldable pub walkAt : Cursor → List ℕ → ℕ → List ℕ → Answer Cursor
+walkAt c types zero s = got c (c .at)
+walkAt c types (suc k) s = andThen (walkAt c types k s) (λ d _. andThen (stepAt d types s) (λ x next. got (x .cursor) next))
+
+-- the cursor c, before field k, which starts at q
+abbrev pub before : Cursor → ℕ → ℕ → Cursor
+before c k q = record { encoding = c .encoding; delta = c .delta; next = k; count = c .count; at = q }
