@@ -1,26 +1,26 @@
 -- The walk with the cursor and the reading of the whole message agree, field by field; a field that is accepted is never empty.
 -- Assumes nothing.
+use Prim.Native.Nat.{ℕ, zero, suc, _+_, _-_, _≤_, _<_}
 use mathlib.Core.Path.{_≡_, refl, ap, sym, _∙_}
 use mathlib.Core.Bool.{Bool, true, false, cond}
 use mathlib.Core.List.{List}
-use Prim.Native.Nat.{ℕ, zero, suc, _+_, _-_, _≤_, _<_}
 use native.Mathlib.Nat.{add-zero, zero-add, add-suc, suc-add}
 use native.Mathlib.Numerals.{add-one}
 use native.Mathlib.Omega.{arith}
-use borrow.Author.Tests.{le-leb, lt-leb, leb-true, leb-false, le-ltb, ltb-true}
 use lib.Dec.{leb, ltb}
 use lib.ListN.{length, getD}
+use borrow.Author.Tests.{le-leb, lt-leb, leb-true, leb-false, le-ltb, ltb-true}
+use Rattle.dataset_message.specs.Fields.{encodedAt, indexAt, fieldAt, fieldsAt, stepAt, walkAt, before, Stepped}
+use Rattle.dataset_message.specs.Message.{nthAt}
+use Rattle.dataset_message.specs.declared.flags.Encoding.{Encoding}
+use Rattle.dataset_message.specs.declared.fields.Field.{Field}
+use Rattle.dataset_message.specs.declared.fields.Cursor.{Cursor}
 use Rattle.wire.specs.Answer.{Answer, got, refused, item, run, andThen}
 use Rattle.wire.proofs.Reading.{got-value, got-next, not-got, invert}
 use Rattle.value.specs.Width.{widthOf, fixed}
 use Rattle.value.specs.Value.{rawAt}
 use Rattle.value.specs.declared.Measure.{Measure}
 use Rattle.value.proofs.Values.{value-within}
-use Rattle.dataset_message.specs.declared.flags.Encoding.{Encoding}
-use Rattle.dataset_message.specs.declared.fields.Field.{Field}
-use Rattle.dataset_message.specs.declared.fields.Cursor.{Cursor}
-use Rattle.dataset_message.specs.Fields.{encodedAt, indexAt, fieldAt, fieldsAt, stepAt, walkAt, before, Stepped}
-use Rattle.dataset_message.specs.Message.{nthAt}
 
 -- an item that was read lies within the slice
 item-within : (w : ℕ) (s : List ℕ) (at v e : ℕ) → item w s at ≡ got v e → (at + w ≤ length s) × (e ≡ at + w)
@@ -164,7 +164,7 @@ walk-agrees c types s e z h k l =
       inside = field-inside (c .delta) (c .encoding) types k s (a .0) (a .1) (b .0) (a .3);
       walked = walk-is c types s k (a .0) (omega arith) z (a .2);
       stepped = step-is c types s k (a .0) (b .0) (a .1) l (a .3);
-      looked-up = rw (lt-leb (c .count) k l, a .2, a .3)
+      looked-up = rw (lt-leb (c .count) k l, a .2, a .3);
     }
 
 -- and a step after the last is 10

@@ -48,7 +48,7 @@ flagsOf b f =
       major = bit 32 b;
       minor = bit 64 b;
       timestamp = bit 16 f;
-      picoseconds = bit 32 f
+      picoseconds = bit 32 f;
     }
 
 -- a message is valid, or "with bit 0 off the answer is "not valid"; nothing after it is read"
@@ -60,8 +60,8 @@ abbrev pub flagsAt : Reader (Valid Flags)
 flagsAt s at =
     andThen (item 1 s at)
     (λ b next.
-      cond (eqb (b % 2) 0) (got notValid next)
-      (cond (eqb (flags1Rule b) 0) (andThen (flags2At b s next) (λ f z. got (valid (flagsOf b f)) z)) (refused (flags1Rule b) at)))
+    cond (eqb (b % 2) 0) (got notValid next)
+    (cond (eqb (flags1Rule b) 0) (andThen (flags2At b s next) (λ f z. got (valid (flagsOf b f)) z)) (refused (flags1Rule b) at)))
 
 abbrev pub answerByte : FlagByte → Answer ℕ
 answerByte (FlagByte.Is v next) = got v next

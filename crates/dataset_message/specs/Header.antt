@@ -36,7 +36,7 @@ headerOf f t v =
       picoseconds = t .picoseconds;
       status = v .status;
       major = v .major;
-      minor = v .minor
+      minor = v .minor;
     }
 
 abbrev pub bodyAt : Flags → Reader (Valid Header)

@@ -1,7 +1,12 @@
 // The fields of a DataSetMessage, one after the other.
 use crate::flags::Encoding;
-use value::{Measured, Shape, measure_data_value, measure_raw, measure_variant};
-use wire::{Item16, Reached};
+use value::Measured;
+use value::Shape;
+use value::measure_data_value;
+use value::measure_raw;
+use value::measure_variant;
+use wire::Item16;
+use wire::Reached;
 ghost use mathlib.Core.Path.{_≡_};
 ghost use lib.ListN.{getD};
 ghost use Rattle.wire.specs.Items.{answerReached};
@@ -78,7 +83,14 @@ fn index(s: &[u8], delta: bool, k: usize, at: usize) -> IndexRead
 }
 
 // Field k, which starts at a position.
-pub fn read_field(s: &[u8], encoding: Encoding, delta: bool, types: &[u8], k: usize, at: usize) -> FieldRead
+pub fn read_field(
+    s: &[u8],
+    encoding: Encoding,
+    delta: bool,
+    types: &[u8],
+    k: usize,
+    at: usize,
+) -> FieldRead
     ensures { λ r. ⌜ answerField r ≡ fieldAt delta encoding (now (types .entry)) k (now (s .entry)) at ⌝ }
 {
     match index(s, delta, k, at) {
@@ -133,7 +145,14 @@ impl Cursor {
 }
 
 // The first count fields, from the start of the first.
-pub fn pass_fields(s: &[u8], encoding: Encoding, delta: bool, types: &[u8], count: usize, at: usize) -> Reached
+pub fn pass_fields(
+    s: &[u8],
+    encoding: Encoding,
+    delta: bool,
+    types: &[u8],
+    count: usize,
+    at: usize,
+) -> Reached
     ensures { λ r. ⌜ answerReached r ≡ fieldsAt delta encoding (now (types .entry)) count 0 (now (s .entry)) at ⌝ }
 {
     let mut p = at;

@@ -1,7 +1,19 @@
 // The header of a DataSetMessage, after its flags.
-use crate::flags::{Encoding, Flags, FlagsRead, Kind, read_flags};
-use wire::optional::{Optional16, Optional16Read, Optional32, Optional32Read, OptionalI64, OptionalI64Read};
-use wire::optional::{read_optional16, read_optional32, read_optional_i64, read_picoseconds};
+use crate::flags::Encoding;
+use crate::flags::Flags;
+use crate::flags::FlagsRead;
+use crate::flags::Kind;
+use crate::flags::read_flags;
+use wire::optional::Optional16;
+use wire::optional::Optional16Read;
+use wire::optional::Optional32;
+use wire::optional::Optional32Read;
+use wire::optional::OptionalI64;
+use wire::optional::OptionalI64Read;
+use wire::optional::read_optional_i64;
+use wire::optional::read_optional16;
+use wire::optional::read_optional32;
+use wire::optional::read_picoseconds;
 ghost use mathlib.Core.Path.{_≡_};
 ghost use Rattle.dataset_message.specs.Header.{timesAt, versionsAt, headerOf, bodyAt, headerAt};
 ghost use Rattle.dataset_message.specs.Header.{answerTimes, answerVersions, answerHeader};
@@ -76,7 +88,14 @@ fn read_versions(s: &[u8], flags: Flags, at: usize) -> VersionsRead
             Optional32Read::Refused(n, place) => VersionsRead::Refused(n, place),
             Optional32Read::Is(major, at) => match read_optional32(s, flags.minor, at) {
                 Optional32Read::Refused(n, place) => VersionsRead::Refused(n, place),
-                Optional32Read::Is(minor, at) => VersionsRead::Is(Versions { status, major, minor }, at),
+                Optional32Read::Is(minor, at) => VersionsRead::Is(
+                    Versions {
+                        status,
+                        major,
+                        minor,
+                    },
+                    at,
+                ),
             },
         },
     }

@@ -1,8 +1,16 @@
 // A DataSetMessage read whole, and field k of it.
-use crate::fields::{Cursor, FieldRead, padding, pass_fields, read_field};
-use crate::flags::{Encoding, Kind};
-use crate::header::{Header, HeaderRead, read_header};
-use wire::{Item16, Reached};
+use crate::fields::Cursor;
+use crate::fields::FieldRead;
+use crate::fields::padding;
+use crate::fields::pass_fields;
+use crate::fields::read_field;
+use crate::flags::Encoding;
+use crate::flags::Kind;
+use crate::header::Header;
+use crate::header::HeaderRead;
+use crate::header::read_header;
+use wire::Item16;
+use wire::Reached;
 ghost use mathlib.Core.Path.{_≡_};
 ghost use Rattle.dataset_message.specs.Fields.{answerField};
 ghost use Rattle.dataset_message.specs.Message.{isDelta, isRaw, countedAt, countAt, endAt, bodyAt, messageAt, fieldPlaceAt, fieldBytes, nthAt};
