@@ -1,0 +1,106 @@
+// The configuration: document 01, "Configuration and listing". Its text is read into a record of arrays; what the
+// configuration says of a writer is asked of the record's arrays, lent as slices.
+pub mod line;
+pub mod writers;
+
+use line::Line;
+use line::read_line;
+use writers::first;
+use writers::has_writer;
+ghost use mathlib.Core.Path.{_≡_};
+ghost use Prim.Native.Nat.{_≤_};
+ghost use Rattle.config.specs.Config.{emptyConfig, badLine, isNew, configOf};
+
+// The writers in order: each with its id, its size (0 where it has none) and how many fields stand before its own;
+// and the types of all fields. Only the first `writers` and the first `fields` entries say something.
+pub struct Config {
+    pub writers: usize,
+    pub fields: usize,
+    pub ids: [u16; 16],
+    pub sizes: [u16; 16],
+    pub starts: [u8; 16],
+    pub types: [u8; 64],
+}
+
+// Number 0 and the configuration; or 16, the line from 1 and the empty configuration.
+pub struct ConfigRead {
+    pub number: u8,
+    pub place: usize,
+    pub config: Config,
+}
+
+// The configuration of an empty text.
+pub fn empty() -> Config
+    ensures { λ r. ⌜ r ≡ emptyConfig ⌝ }
+{
+    Config {
+        writers: 0,
+        fields: 0,
+        ids: [0u16; 16],
+        sizes: [0u16; 16],
+        starts: [0u8; 16],
+        types: [0u8; 64],
+    }
+}
+
+fn bad_line(line: usize) -> ConfigRead
+    ensures { λ r. ⌜ r ≡ badLine line ⌝ }
+{
+    ConfigRead {
+        number: 16,
+        place: line,
+        config: empty(),
+    }
+}
+
+// May a writer with this id come after the first n?
+fn is_new(ids: &[u16], n: usize, id: u16) -> bool
+    ensures { λ r. ⌜ r ≡ isNew (now (ids .entry)) n id ⌝ }
+{
+    if 16 <= n {
+        return false;
+    }
+    !has_writer(first(ids, n), id)
+}
+
+// A text's configuration, or its first bad line.
+pub fn read_config(s: &[u8]) -> ConfigRead
+    ensures { λ r. ⌜ r ≡ configOf (now (s .entry)) ⌝ }
+{
+    let mut config = empty();
+    let mut line: usize = 1;
+    let mut at: usize = 0;
+    while at < s.len() {
+        match read_line(s, at) {
+            Line::Writer(id, size, next) => {
+                let n = config.writers;
+                if !is_new(&config.ids, n, id) {
+                    return bad_line(line);
+                }
+                config.ids[n] = id;
+                config.sizes[n] = size;
+                config.starts[n] = config.fields as u8;
+                config.writers = n + 1;
+                at = next;
+            }
+            Line::Field(kind, next) => {
+                let n = config.fields;
+                if (config.writers == 0) | (64 <= n) {
+                    return bad_line(line);
+                }
+                config.types[n] = kind;
+                config.fields = n + 1;
+                at = next;
+            }
+            Line::Bad => {
+                return bad_line(line);
+            }
+        }
+        line += 1;
+    }
+    ConfigRead {
+        number: 0,
+        place: 0,
+        config,
+    }
+}

@@ -1,0 +1,29 @@
+-- `network_message::envelope::message` meets its contract.
+-- Assumes nothing.
+use Prim.Native.Nat.{_-_}
+use mathlib.Core.Path.{sym}
+use borrow.Author.Needs.{needs}
+use Rattle.network_message.specs.Payload.{answerMessage}
+use Rattle.wire.proofs.Reading.{told}
+use Rattle.network_message.proofs.envelope.message.Statement.{statement}
+use Rattle.network_message.proofs.envelope.message.Tie as tie
+
+returns : tie.Need-returns
+returns c =
+    rw (sym (told answerMessage (c .before .before .before .message-place .ensures) (c .before .enum-told .given .1))) (c .part .ensures)
+
+returns-2 : tie.Need-returns-2
+returns-2 c =
+    rw (sym (told answerMessage (c .before .before .before .before .message-place .ensures) (c .before .before .m .given .1))) (c .part2 .ensures)
+
+pub message-spec : {M : Type 1} → statement M
+message-spec =
+    tie.close
+    (tie.spec
+    (λ c κs. search needs)
+    (λ c. search needs)
+    (λ c κs. search needs)
+    (λ c. search needs)
+    (λ c κs. search needs)
+    returns
+    returns-2)

@@ -1,0 +1,22 @@
+-- `network_message::envelope::message_place` meets its contract.
+-- Assumes nothing.
+use Prim.Native.Nat.{_-_}
+use mathlib.Core.Path.{sym}
+use borrow.Author.Needs.{needs}
+use Rattle.network_message.specs.Envelope.{answerNetworkMessage}
+use Rattle.wire.proofs.Reading.{told}
+use Rattle.network_message.proofs.envelope.message_place.Statement.{statement}
+use Rattle.network_message.proofs.envelope.message_place.Tie as tie
+
+returns : tie.Need-returns
+returns c =
+    rw (sym (told answerNetworkMessage (c .before .before .before .read .ensures) (c .before .n .given .1)))
+
+returns-2 : tie.Need-returns-2
+returns-2 c =
+    rw (sym (told answerNetworkMessage (c .before .before .before .before .read .ensures) (c .before .before .payload .given .1))) (c .nth .ensures)
+
+pub message-place-spec : {M : Type 1} → statement M
+message-place-spec =
+    tie.close
+    (tie.spec (λ c κs. search needs) (λ c. search needs) (λ c. search needs) (λ c κs. search needs) returns returns-2)

@@ -1,0 +1,52 @@
+-- `network_message::payload::nth` meets its contract.
+-- Assumes nothing.
+use Prim.Native.Nat.{_-_, _≤_}
+use mathlib.Core.Path.{_≡_, sym, ap}
+use native.Mathlib.Omega.{arith}
+use denote.Ref.{now}
+use borrow.Author.Needs.{needs}
+use Rattle.network_message.specs.Payload.{answerMessage, messageAt, passAt}
+use Rattle.network_message.proofs.Messages.{pass-none, pass-step, pass-stop}
+use Rattle.wire.specs.Answer.{got, andThen}
+use Rattle.wire.proofs.Reading.{told}
+use Rattle.network_message.proofs.payload.nth.Statement.{statement}
+use Rattle.network_message.proofs.payload.nth.Tie as tie
+
+abbrev Inv-loop : tie.InvT-loop
+Inv-loop s p sizes k at₀ i₀ at i = (i ≤ k) × (passAt p sizes i s (p .first) ≡ got tt at)
+
+abbrev μ-loop : tie.MeasureT-loop
+μ-loop s p sizes k at₀ i₀ at i = k - i
+
+loop-holds : tie.Need-loop-holds Inv-loop μ-loop
+loop-holds c =
+    (omega arith, pass-none (c .before .before .args .p) (now (c .before .before .args .sizes)) (now (c .before .before .args .s)) (c .before .before .args .p .first))
+
+returns : tie.Need-returns Inv-loop μ-loop
+returns c =
+    sym (ap (λ r. andThen r (λ _ q. messageAt (c .before .before .before .before .before .before .before .before .args .p) (now (c .before .before .before .before .before .before .before .before .args .sizes)) (c .before .before .before .before .before .before .before .before .args .k) (now (c .before .before .before .before .before .before .before .before .args .s)) q)) (pass-stop (c .before .before .before .before .before .before .before .before .args .p) (now (c .before .before .before .before .before .before .before .before .args .sizes)) (now (c .before .before .before .before .before .before .before .before .args .s)) (c .before .before .before .before .before .before .before .before .args .p .first) (c .before .before .before .before .before .loop .i) (c .before .before .before .before .before .before .before .before .args .k) (c .before .before .before .before .before .loop .at) _ _ (c .before .before .before .before .loop-test .taken) (c .before .before .before .before .before .loop .inv .1) (sym (told answerMessage (c .before .before .before .message-at .ensures) (c .before .n .given .1)))))
+
+loop-again : tie.Need-loop-again Inv-loop μ-loop
+loop-again c =
+    (omega arith, pass-step (c .before .before .before .before .before .before .before .before .args .p) (now (c .before .before .before .before .before .before .before .before .args .sizes)) (now (c .before .before .before .before .before .before .before .before .args .s)) (c .before .before .before .before .before .before .before .before .args .p .first) (c .before .before .before .before .before .loop .i) (c .before .before .before .before .before .loop .at) _ _ (c .before .before .before .before .before .loop .inv .1) (sym (told answerMessage (c .before .before .before .message-at .ensures) (c .before .next .given .1))))
+
+returns-2 : tie.Need-returns-2 Inv-loop μ-loop
+returns-2 c =
+    (let e : c .before .before .loop .i ≡ c .before .before .before .before .before .args .k = omega arith in rw (sym e, c .before .before .loop .inv .1) (rw e (c .message-at2 .ensures)))
+
+pub nth-spec : {M : Type 1} → statement M
+nth-spec =
+    tie.close
+    (tie.spec
+    Inv-loop
+    μ-loop
+    loop-holds
+    (λ c κs. search needs)
+    (λ c. search needs)
+    returns
+    (λ c. search needs)
+    (λ c. search needs)
+    (λ c. search needs)
+    loop-again
+    (λ c κs. search needs)
+    returns-2)

@@ -1,0 +1,24 @@
+-- `network_message::payload::size_at` meets its contract.
+-- Assumes nothing.
+use Prim.Native.Nat.{_-_}
+use mathlib.Core.Path.{sym}
+use native.Mathlib.Omega.{arith}
+use denote.Ref.{now}
+use borrow.Author.Needs.{needs}
+use Rattle.network_message.proofs.Tallies.{size-is, size-there}
+use Rattle.wire.proofs.Reading.{told}
+use Rattle.wire.specs.Items.{answer16}
+use Rattle.network_message.proofs.payload.size_at.Statement.{statement}
+use Rattle.network_message.proofs.payload.size_at.Tie as tie
+
+returns : tie.Need-returns
+returns c =
+    (size-is (now (c .before .before .before .before .before .args .s)) (c .before .before .before .before .before .args .at) _ _ (c .before .before .before .before .before .pre) (sym (told (answer16 (c .before .before .before .before .before .args .at)) (c .before .before .before .read16 .ensures) (c .before .v .given .1))), omega arith)
+
+returns-2 : tie.Need-returns-2
+returns-2 c =
+    absurd (size-there (now (c .before .before .before .before .args .s)) (c .before .before .before .before .args .at) _ _ (c .before .before .before .before .pre) (sym (told (answer16 (c .before .before .before .before .args .at)) (c .before .before .read16 .ensures) (c .enum-told .given .1))))
+
+pub size-at-spec : {M : Type 1} → statement M
+size-at-spec =
+    tie.close (tie.spec (λ c κs. search needs) (λ c. search needs) (λ c. search needs) (λ c. search needs) returns returns-2)

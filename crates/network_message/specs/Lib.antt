@@ -1,0 +1,7 @@
+pub mod Flags
+pub mod Publisher
+pub mod Group
+pub mod Header
+pub mod Payload
+pub mod Envelope
+pub mod PublisherRecord

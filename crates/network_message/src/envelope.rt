@@ -1,0 +1,258 @@
+// The NetworkMessage: its envelope, from byte 0 to the payload, and where its messages stand.
+use crate::flags::Flags;
+use crate::flags::FlagsRead;
+use crate::flags::read_flags;
+use crate::group::GroupHeader;
+use crate::group::GroupRead;
+use crate::group::read_group;
+use crate::header::ClassId;
+use crate::header::ClassRead;
+use crate::header::PayloadHeader;
+use crate::header::PayloadHeaderRead;
+use crate::header::Promoted;
+use crate::header::PromotedRead;
+use crate::header::read_class_id;
+use crate::header::read_payload_header;
+use crate::header::read_promoted;
+use crate::payload::MessageRead;
+use crate::payload::Payload;
+use crate::payload::PayloadRead;
+use crate::payload::nth;
+use crate::payload::read_payload;
+use crate::payload::writers;
+use crate::publisher::PublisherId;
+use crate::publisher::PublisherRead;
+use crate::publisher::read_publisher;
+use wire::optional::Optional16;
+use wire::optional::Optional16Read;
+use wire::optional::OptionalI64;
+use wire::optional::OptionalI64Read;
+use wire::optional::read_optional_i64;
+use wire::optional::read_picoseconds;
+ghost use mathlib.Core.Path.{_≡_};
+ghost use Rattle.network_message.specs.Envelope.{identityAt, timesAt, messagesOf, headerAt, envelopeOf, bodyAt, networkMessageAt, messagePlaceAt, messageBytes};
+ghost use Rattle.network_message.specs.Payload.{answerMessage};
+ghost use Rattle.network_message.specs.Envelope.{answerIdentity, answerTimes, answerHeader, answerNetworkMessage};
+
+// PublisherId, DataSetClassId and group header, and where the PublisherId ends.
+pub struct Identity {
+    pub publisher: PublisherId,
+    pub publisher_end: usize,
+    pub class_id: ClassId,
+    pub group: GroupHeader,
+}
+
+pub enum IdentityRead {
+    Is(Identity, usize),
+    Refused(u8, usize),
+}
+
+pub struct Times {
+    pub timestamp: OptionalI64,
+    pub picoseconds: Optional16,
+    pub promoted: Promoted,
+}
+
+pub enum TimesRead {
+    Is(Times, usize),
+    Refused(u8, usize),
+}
+
+// An envelope, without the bytes of its variable parts.
+pub struct Envelope {
+    pub publisher: PublisherId,
+    pub class_id: ClassId,
+    pub group: GroupHeader,
+    pub chunk: bool,
+    pub payload_header: PayloadHeader,
+    pub timestamp: OptionalI64,
+    pub picoseconds: Optional16,
+    pub promoted: Promoted,
+}
+
+// Where the variable parts end: a string PublisherId, the ids of the PayloadHeader, and the promoted fields, where the payload starts.
+pub struct Places {
+    pub publisher_end: usize,
+    pub payload_header_end: usize,
+    pub payload: usize,
+}
+
+pub enum HeaderRead {
+    Is(Envelope, Places),
+    Refused(u8, usize),
+}
+
+// A NetworkMessage: its envelope, where its variable parts end, and where its messages stand.
+pub enum NetworkMessageRead {
+    Is(Envelope, Places, Payload),
+    Refused(u8, usize),
+}
+
+fn read_identity(s: &[u8], flags: Flags, at: usize) -> IdentityRead
+    ensures { λ r. ⌜ answerIdentity r ≡ identityAt flags (now (s .entry)) at ⌝ }
+{
+    match read_publisher(s, flags.publisher, flags.kind, at) {
+        PublisherRead::Refused(n, place) => IdentityRead::Refused(n, place),
+        PublisherRead::Is(publisher, publisher_end) => match read_class_id(
+            s,
+            flags.class_id,
+            publisher_end,
+        ) {
+            ClassRead::Refused(n, place) => IdentityRead::Refused(n, place),
+            ClassRead::Is(class_id, at) => match read_group(s, flags.group, at) {
+                GroupRead::Refused(n, place) => IdentityRead::Refused(n, place),
+                GroupRead::Is(group, at) => IdentityRead::Is(
+                    Identity {
+                        publisher,
+                        publisher_end,
+                        class_id,
+                        group,
+                    },
+                    at,
+                ),
+            },
+        },
+    }
+}
+
+fn read_times(s: &[u8], flags: Flags, messages: usize, at: usize) -> TimesRead
+    ensures { λ r. ⌜ answerTimes r ≡ timesAt flags messages (now (s .entry)) at ⌝ }
+{
+    match read_optional_i64(s, flags.timestamp, at) {
+        OptionalI64Read::Refused(n, place) => TimesRead::Refused(n, place),
+        OptionalI64Read::Is(timestamp, at) => match read_picoseconds(s, flags.picoseconds, at) {
+            Optional16Read::Refused(n, place) => TimesRead::Refused(n, place),
+            Optional16Read::Is(picoseconds, at) => match read_promoted(
+                s,
+                flags.promoted,
+                messages,
+                at,
+            ) {
+                PromotedRead::Refused(n, place) => TimesRead::Refused(n, place),
+                PromotedRead::Is(promoted, at) => TimesRead::Is(
+                    Times {
+                        timestamp,
+                        picoseconds,
+                        promoted,
+                    },
+                    at,
+                ),
+            },
+        },
+    }
+}
+
+// The number of messages for the promoted fields: a chunk counts as one, without a PayloadHeader the configured writers count.
+pub fn messages_of(chunk: bool, header: PayloadHeader, configured: usize) -> usize
+    ensures { λ r. ⌜ r ≡ messagesOf chunk header configured ⌝ }
+{
+    if chunk {
+        return 1;
+    }
+    match header {
+        PayloadHeader::Absent => configured,
+        PayloadHeader::Ids(n) => n as usize,
+        PayloadHeader::Chunk(_) => 1,
+    }
+}
+
+fn envelope_of(flags: Flags, i: Identity, header: PayloadHeader, t: Times) -> Envelope
+    ensures { λ r. ⌜ r ≡ envelopeOf flags i header t ⌝ }
+{
+    let publisher = i.publisher;
+    let class_id = i.class_id;
+    let group = i.group;
+    let timestamp = t.timestamp;
+    let picoseconds = t.picoseconds;
+    let promoted = t.promoted;
+    Envelope {
+        publisher,
+        class_id,
+        group,
+        chunk: flags.chunk,
+        payload_header: header,
+        timestamp,
+        picoseconds,
+        promoted,
+    }
+}
+
+fn read_header(s: &[u8], flags: Flags, configured: usize, at: usize) -> HeaderRead
+    ensures { λ r. ⌜ answerHeader r ≡ headerAt flags configured (now (s .entry)) at ⌝ }
+{
+    match read_identity(s, flags, at) {
+        IdentityRead::Refused(n, place) => HeaderRead::Refused(n, place),
+        IdentityRead::Is(i, at) => match read_payload_header(
+            s,
+            flags.payload_header,
+            flags.chunk,
+            at,
+        ) {
+            PayloadHeaderRead::Refused(n, place) => HeaderRead::Refused(n, place),
+            PayloadHeaderRead::Is(header, payload_header_end) => match read_times(
+                s,
+                flags,
+                messages_of(flags.chunk, header, configured),
+                payload_header_end,
+            ) {
+                TimesRead::Refused(n, place) => HeaderRead::Refused(n, place),
+                TimesRead::Is(t, at) => HeaderRead::Is(
+                    envelope_of(flags, i, header, t),
+                    Places {
+                        publisher_end: i.publisher_end,
+                        payload_header_end,
+                        payload: at,
+                    },
+                ),
+            },
+        },
+    }
+}
+
+fn read_body(s: &[u8], flags: Flags, sizes: &[u16], at: usize) -> NetworkMessageRead
+    ensures { λ r. ⌜ answerNetworkMessage r ≡ bodyAt flags (now (sizes .entry)) (now (s .entry)) at ⌝ }
+{
+    match read_header(s, flags, writers(sizes), at) {
+        HeaderRead::Refused(n, place) => NetworkMessageRead::Refused(n, place),
+        HeaderRead::Is(envelope, places) => {
+            let header = envelope.payload_header;
+            match read_payload(s, envelope.chunk, header, sizes, places.payload) {
+                PayloadRead::Refused(n, place) => NetworkMessageRead::Refused(n, place),
+                PayloadRead::Is(payload) => NetworkMessageRead::Is(envelope, places, payload),
+            }
+        }
+    }
+}
+
+// A datagram under the sizes of the configured writers, 0 for none; of these the first 16 count.
+pub fn read(s: &[u8], sizes: &[u16]) -> NetworkMessageRead
+    ensures { λ r. ⌜ answerNetworkMessage r ≡ networkMessageAt (now (sizes .entry)) (now (s .entry)) ⌝ }
+{
+    if 65535 < s.len() {
+        return NetworkMessageRead::Refused(10, 0);
+    }
+    match read_flags(s) {
+        FlagsRead::Refused(n, place) => NetworkMessageRead::Refused(n, place),
+        FlagsRead::Is(flags, at) => read_body(s, flags, sizes, at),
+    }
+}
+
+// Where message k of a datagram stands.
+pub fn message_place(s: &[u8], sizes: &[u16], k: usize) -> MessageRead
+    ensures { λ r. ⌜ answerMessage r ≡ messagePlaceAt (now (sizes .entry)) k (now (s .entry)) ⌝ }
+{
+    match read(s, sizes) {
+        NetworkMessageRead::Refused(n, place) => MessageRead::Refused(n, place),
+        NetworkMessageRead::Is(_, _, payload) => nth(s, payload, sizes, k),
+    }
+}
+
+// Message k as its own part of the datagram; empty where `message_place` refuses.
+pub fn message<'a>(s: &'a [u8], sizes: &[u16], k: usize) -> &'a [u8]
+    ensures { λ r. ⌜ now r ≡ messageBytes (messagePlaceAt (now (sizes .entry)) k (now (s .entry))) (now (s .entry)) ⌝ }
+{
+    match message_place(s, sizes, k) {
+        MessageRead::Refused(_, _) => wire::part::part(s, 0, 0),
+        MessageRead::Is(m, _) => wire::part::part(s, m.offset, m.length),
+    }
+}

@@ -1,0 +1,326 @@
+// The payload: where its DataSetMessages stand.
+use crate::header::PayloadHeader;
+use wire::Item16;
+use wire::Run;
+ghost use mathlib.Core.Path.{_≡_};
+ghost use Prim.Native.Nat.{_+_, _*_, _-_, _≤_};
+ghost use lib.ListN.{length, take, getD};
+ghost use Rattle.wire.specs.Number.{le};
+ghost use Rattle.wire.specs.Answer.{item};
+ghost use Rattle.network_message.specs.Payload.{total, positive, listed, configuredSizes, restAt, listedAt, sizedAt, configuredAt, payloadAt};
+ghost use Rattle.network_message.specs.Payload.{sizeOf, valueOr0, messageAt, nthAt, stepAt, answerPayload, answerStep, answerMessage};
+
+// Where a message's size stands: it takes the rest, its size is in the list at a position, or it is configured.
+pub enum Sizes {
+    Rest,
+    Listed(usize),
+    Configured,
+}
+
+// The messages of a payload: how many, where their sizes stand, and where the first starts.
+pub struct Payload {
+    pub count: usize,
+    pub sizes: Sizes,
+    pub first: usize,
+}
+
+pub enum PayloadRead {
+    Is(Payload),
+    Refused(u8, usize),
+}
+
+// The sum of some sizes, and whether each is at least 1.
+struct Tally {
+    total: usize,
+    positive: bool,
+}
+
+// The size at a position.
+fn size_at(s: &[u8], at: usize) -> usize
+    requires { ⌜ at + 2 ≤ length (now s) ⌝ }
+    ensures { λ r. ⌜ (r ≡ le 2 (now (s .entry)) at) × (r ≤ 65535) ⌝ }
+{
+    match wire::read16(s, at) {
+        Item16::Is(v, _) => v as usize,
+        Item16::Short => 0,
+    }
+}
+
+// The n sizes from a position.
+fn tally_listed(s: &[u8], at: usize, n: usize) -> Tally
+    requires { ⌜ (at + 2 * n ≤ length (now s)) × (n ≤ 255) ⌝ }
+    ensures { λ r. ⌜ (r .total ≡ total (listed n (now (s .entry)) at)) × (r .positive ≡ positive (listed n (now (s .entry)) at)) × (r .total ≤ 65535 * n) ⌝ }
+{
+    let mut p = at;
+    let mut left = n;
+    let mut sum = 0;
+    let mut each = true;
+    while 0 < left {
+        let z = size_at(s, p);
+        sum = sum + z;
+        each = each & (0 < z);
+        p = p + 2;
+        left = left - 1;
+    }
+    Tally {
+        total: sum,
+        positive: each,
+    }
+}
+
+// The first n configured sizes.
+fn tally_configured(sizes: &[u16], n: usize) -> Tally
+    requires { ⌜ (n ≤ length (now sizes)) × (n ≤ 16) ⌝ }
+    ensures { λ r. ⌜ (r .total ≡ total (take n (now (sizes .entry)))) × (r .positive ≡ positive (take n (now (sizes .entry)))) × (r .total ≤ 65535 * n) ⌝ }
+{
+    let mut i = 0;
+    let mut sum = 0;
+    let mut each = true;
+    while i < n {
+        let z = sizes[i] as usize;
+        sum = sum + z;
+        each = each & (0 < z);
+        i = i + 1;
+    }
+    Tally {
+        total: sum,
+        positive: each,
+    }
+}
+
+fn rest(s: &[u8], at: usize) -> PayloadRead
+    ensures { λ r. ⌜ answerPayload r ≡ restAt (now (s .entry)) at ⌝ }
+{
+    if at < s.len() {
+        return PayloadRead::Is(Payload {
+            count: 1,
+            sizes: Sizes::Rest,
+            first: at,
+        });
+    }
+    PayloadRead::Refused(1, at)
+}
+
+fn listed_sizes(s: &[u8], n: u8, at: usize) -> PayloadRead
+    ensures { λ r. ⌜ answerPayload r ≡ listedAt n (now (s .entry)) at ⌝ }
+{
+    let count = n as usize;
+    if !wire::has(s.len(), at, 2 * count) {
+        return PayloadRead::Refused(1, at);
+    }
+    let t = tally_listed(s, at, count);
+    if !t.positive {
+        return PayloadRead::Refused(6, at);
+    }
+    let first = at + 2 * count;
+    if t.total != s.len() - first {
+        return PayloadRead::Refused(6, at);
+    }
+    PayloadRead::Is(Payload {
+        count,
+        sizes: Sizes::Listed(at),
+        first,
+    })
+}
+
+// How many of the configured writers count.
+pub fn writers(sizes: &[u16]) -> usize
+    ensures { λ r. ⌜ (r ≡ length (configuredSizes (now (sizes .entry)))) × (r ≤ 16) × (r ≤ length (now (sizes .entry))) × (take r (now (sizes .entry)) ≡ configuredSizes (now (sizes .entry))) ⌝ }
+{
+    if sizes.len() <= 16 {
+        return sizes.len();
+    }
+    16
+}
+
+// Configured sizes of this total that are all given, of n writers.
+fn sized(s: &[u8], n: usize, total: usize, at: usize) -> PayloadRead
+    ensures { λ r. ⌜ answerPayload r ≡ sizedAt n total (now (s .entry)) at ⌝ }
+{
+    if !wire::has(s.len(), at, total) {
+        return PayloadRead::Refused(6, at);
+    }
+    if total != s.len() - at {
+        return PayloadRead::Refused(6, at);
+    }
+    PayloadRead::Is(Payload {
+        count: n,
+        sizes: Sizes::Configured,
+        first: at,
+    })
+}
+
+fn configured_sizes(s: &[u8], sizes: &[u16], at: usize) -> PayloadRead
+    ensures { λ r. ⌜ answerPayload r ≡ configuredAt (configuredSizes (now (sizes .entry))) (now (s .entry)) at ⌝ }
+{
+    let n = writers(sizes);
+    if n == 0 {
+        return PayloadRead::Refused(8, 0);
+    }
+    let t = tally_configured(sizes, n);
+    if t.positive {
+        return sized(s, n, t.total, at);
+    }
+    if n == 1 {
+        return rest(s, at);
+    }
+    PayloadRead::Refused(8, 0)
+}
+
+// The payload after a payload header.
+pub fn read_payload(
+    s: &[u8],
+    chunk: bool,
+    header: PayloadHeader,
+    sizes: &[u16],
+    at: usize,
+) -> PayloadRead
+    ensures { λ r. ⌜ answerPayload r ≡ payloadAt chunk header (now (sizes .entry)) (now (s .entry)) at ⌝ }
+{
+    match header {
+        PayloadHeader::Absent => {
+            if chunk {
+                return PayloadRead::Refused(8, 0);
+            }
+            configured_sizes(s, sizes, at)
+        }
+        PayloadHeader::Ids(n) => {
+            if n <= 1 {
+                return rest(s, at);
+            }
+            listed_sizes(s, n, at)
+        }
+        PayloadHeader::Chunk(_) => PayloadRead::Is(Payload {
+            count: 0,
+            sizes: Sizes::Rest,
+            first: at,
+        }),
+    }
+}
+
+// Where a DataSetMessage stands in the datagram.
+pub struct MessagePlace {
+    pub index: usize,
+    pub offset: usize,
+    pub length: usize,
+}
+
+pub enum MessageRead {
+    Is(MessagePlace, usize),
+    Refused(u8, usize),
+}
+
+// A cursor over the messages: the number of the next one, and where it starts.
+pub struct MessageCursor {
+    pub index: usize,
+    pub at: usize,
+}
+
+pub enum MessageStep {
+    Is(MessagePlace, MessageCursor),
+    Refused(u8, usize),
+}
+
+// The k-th size of the list at p, 0 where it does not fit.
+fn listed_size(s: &[u8], p: usize, k: usize) -> usize
+    ensures { λ r. ⌜ r ≡ valueOr0 (item 2 (now (s .entry)) (p + 2 * k)) ⌝ }
+{
+    if s.len() < p {
+        return 0;
+    }
+    if (s.len() - p) / 2 <= k {
+        return 0;
+    }
+    size_at(s, p + 2 * k)
+}
+
+// The k-th configured size, 0 where there is none.
+fn configured_size(sizes: &[u16], k: usize) -> usize
+    ensures { λ r. ⌜ r ≡ getD (configuredSizes (now (sizes .entry))) k 0 ⌝ }
+{
+    if writers(sizes) <= k {
+        return 0;
+    }
+    sizes[k] as usize
+}
+
+// How much of a slice of this length is left from a position on.
+pub fn rest_size(len: usize, at: usize) -> usize
+    ensures { λ r. ⌜ r ≡ len - at ⌝ }
+{
+    if len < at {
+        return 0;
+    }
+    len - at
+}
+
+fn message_size(s: &[u8], kind: Sizes, sizes: &[u16], k: usize, at: usize) -> usize
+    ensures { λ r. ⌜ r ≡ sizeOf kind (now (sizes .entry)) k (now (s .entry)) at ⌝ }
+{
+    match kind {
+        Sizes::Rest => rest_size(s.len(), at),
+        Sizes::Listed(p) => listed_size(s, p, k),
+        Sizes::Configured => configured_size(sizes, k),
+    }
+}
+
+// Message k of a payload, which starts at a position.
+fn message_at(s: &[u8], p: Payload, sizes: &[u16], k: usize, at: usize) -> MessageRead
+    ensures { λ r. ⌜ answerMessage r ≡ messageAt p (now (sizes .entry)) k (now (s .entry)) at ⌝ }
+{
+    if p.count <= k {
+        return MessageRead::Refused(10, 0);
+    }
+    let kind = p.sizes;
+    let length = message_size(s, kind, sizes, k, at);
+    let Run::To(next) = wire::skip(s, at, length) else {
+        return MessageRead::Refused(1, at);
+    };
+    MessageRead::Is(
+        MessagePlace {
+            index: k,
+            offset: at,
+            length,
+        },
+        next,
+    )
+}
+
+impl MessageCursor {
+    // The message that the cursor stands before, and the cursor before the next one.
+    pub fn step(self, s: &[u8], p: Payload, sizes: &[u16]) -> MessageStep
+        ensures { λ r. ⌜ answerStep r ≡ stepAt p (now (sizes .entry)) self (now (s .entry)) ⌝ }
+    {
+        let k = self.index;
+        match message_at(s, p, sizes, k, self.at) {
+            MessageRead::Refused(n, place) => MessageStep::Refused(n, place),
+            MessageRead::Is(m, next) => MessageStep::Is(
+                m,
+                MessageCursor {
+                    index: k + 1,
+                    at: next,
+                },
+            ),
+        }
+    }
+}
+
+// Message k of a payload, found from the start of the first.
+pub fn nth(s: &[u8], p: Payload, sizes: &[u16], k: usize) -> MessageRead
+    ensures { λ r. ⌜ answerMessage r ≡ nthAt p (now (sizes .entry)) k (now (s .entry)) (p .first) ⌝ }
+{
+    let mut at = p.first;
+    let mut i = 0;
+    while i < k {
+        match message_at(s, p, sizes, i, at) {
+            MessageRead::Refused(n, place) => {
+                return MessageRead::Refused(n, place);
+            }
+            MessageRead::Is(_, next) => {
+                at = next;
+            }
+        }
+        i = i + 1;
+    }
+    message_at(s, p, sizes, k, at)
+}

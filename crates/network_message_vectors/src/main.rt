@@ -1,0 +1,120 @@
+// Datagrams of document 01's section "The envelope", of Annex A's header layouts, and of each refusal at each place. A line of
+// standard input has a letter for the configured writers, a space, the datagram in hex, a space and words. It is written again with
+// the PublisherId and each message as writer id, offset and length, or with `bad`, number and place.
+mod report;
+
+use libc::STDIN_FILENO;
+use network_message::envelope::NetworkMessageRead;
+use network_message::envelope::message;
+use network_message::envelope::read;
+use network_message::header::PayloadHeader;
+use network_message::header::writer_id;
+use network_message::payload::MessageCursor;
+use network_message::payload::MessagePlace;
+use network_message::payload::MessageStep;
+use network_message::payload::Payload;
+use report::number;
+use report::optional;
+use report::publisher;
+use report::put;
+use report::refused;
+use text::hex::read_hex;
+use text::words::find;
+use wire::part::part;
+use wire::part::tail;
+
+// What is said of one message: its writer id and its place. Its part of the datagram has its length.
+fn show_message(s: &[u8], header: PayloadHeader, end: usize, sizes: &[u16], m: MessagePlace) {
+    put(b",");
+    optional(writer_id(s, header, end, &[7, 9], m.index));
+    number(m.offset);
+    number(message(s, sizes, m.index).len());
+}
+
+fn show_messages(s: &[u8], header: PayloadHeader, end: usize, sizes: &[u16], p: Payload) {
+    let mut cursor = MessageCursor {
+        index: 0,
+        at: p.first,
+    };
+    let mut left = p.count;
+    while 0 < left {
+        match cursor.step(s, p, sizes) {
+            MessageStep::Refused(n, place) => refused(n, place),
+            MessageStep::Is(m, next) => {
+                show_message(s, header, end, sizes, m);
+                cursor = next;
+            }
+        }
+        left = left - 1;
+    }
+}
+
+fn show(s: &[u8], sizes: &[u16]) {
+    match read(s, sizes) {
+        NetworkMessageRead::Refused(n, place) => refused(n, place),
+        NetworkMessageRead::Is(envelope, places, p) => {
+            let id = envelope.publisher;
+            publisher(id);
+            number(p.count);
+            let header = envelope.payload_header;
+            show_messages(s, header, places.payload_header_end, sizes, p);
+        }
+    }
+}
+
+// `-`: no writer; `r`: one writer that takes the rest; `s`: two of sizes 3 and 2; `u`: two, of which one has no size.
+fn configured(letter: u8, s: &[u8]) {
+    if letter == b'-' {
+        show(s, &[]);
+    }
+    if letter == b'r' {
+        show(s, &[0]);
+    }
+    if letter == b's' {
+        show(s, &[3, 2]);
+    }
+    if letter == b'u' {
+        show(s, &[3, 0]);
+    }
+}
+
+fn vector(text: &[u8]) {
+    put(text);
+    put(b":");
+    let digits = tail(text, 2);
+    let n = find(digits, b' ');
+    let mut s = [0u8; 128];
+    read_hex(&mut s, 0, part(digits, 0, n));
+    if 0 < text.len() {
+        configured(text[0], part(&s, 0, n / 2));
+    }
+    put(b"\n");
+}
+
+fn vectors(text: &[u8]) {
+    let mut start: usize = 0;
+    let mut end: usize = 0;
+    while end < text.len() {
+        if text[end] == b'\n' {
+            vector(part(text, start, end - start));
+            start = end + 1;
+        }
+        end += 1;
+    }
+}
+
+fn large() {
+    let s = [0u8; 65536];
+    put(b"65,536 bytes:");
+    show(&s, &[]);
+    put(b"\n65,535 bytes:");
+    show(part(&s, 0, 65535), &[]);
+    put(b"\n");
+}
+
+fn main() {
+    let mut text = [0u8; 16384];
+    let n = io::read_full(STDIN_FILENO, &mut text);
+    vectors(part(&text, 0, n));
+    large();
+}

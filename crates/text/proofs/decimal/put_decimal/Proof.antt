@@ -1,0 +1,40 @@
+-- `text::decimal::put_decimal` meets its contract: nothing where there is no room, else all digits.
+-- Assumes nothing.
+use mathlib.Core.Path.{sym, _∙_, ap}
+use Prim.Native.Nat.{_+_}
+use native.Mathlib.Omega.{arith}
+use borrow.Author.Needs.{needs}
+use lib.ListN.{length}
+use lib.Dec.{leb}
+use Rattle.text.proofs.Putting.{stored-none, stored-all}
+use Rattle.wire.proofs.Reading.{lacks, holds, room}
+use Rattle.text.proofs.decimal.put_decimal.Statement.{statement}
+use Rattle.text.proofs.decimal.put_decimal.Tie as tie
+
+returns : tie.Need-returns
+returns c =
+    stored-none _ _ _ (ap (λ k. leb (c .before .before .before .before .args .at + k) (length (c .before .before .before .before .args .out .now))) (sym (c .before .before .count-digits .ensures)) ∙ lacks (c .before .has .result) (c .before .before .before .before .args .at + c .before .before .count-digits .result) (length (c .before .before .before .before .args .out .now)) (c .before .has .ensures) (c .if1 .taken))
+
+store-digits-requires : tie.Need-store-digits-requires
+store-digits-requires c κs =
+    (room (c .before .before .has .result) (c .before .before .before .before .before .args .at + c .before .before .before .count-digits .result) (length (c .before .before .before .before .before .args .out .now)) (c .before .before .has .ensures) (c .before .if1 .left), c .before .before .before .count-digits .ensures)
+
+add-result : tie.Need-add-result
+add-result c =
+    omega (arith, room (c .before .before .before .before .before .has .result) (c .before .before .before .before .before .before .before .before .args .at + c .before .before .before .before .before .before .count-digits .result) (length (c .before .before .before .before .before .before .before .before .args .out .now)) (c .before .before .before .before .before .has .ensures) (c .before .before .before .before .if1 .left))
+
+returns-2 : tie.Need-returns-2
+returns-2 c =
+    stored-all _ _ _ _ _ (ap (λ k. leb (c .before .before .before .before .before .before .before .before .args .at + k) (length (c .before .before .before .before .before .before .before .before .args .out .now))) (sym (c .before .before .before .before .before .before .count-digits .ensures)) ∙ holds (c .before .before .before .before .before .has .result) (c .before .before .before .before .before .before .before .before .args .at + c .before .before .before .before .before .before .count-digits .result) (length (c .before .before .before .before .before .before .before .before .args .out .now)) (c .before .before .before .before .before .has .ensures) (c .before .before .before .before .if1 .left)) (c .before .before .store-digits .ensures) (ap (λ k. c .before .before .before .before .before .before .before .before .args .at + k) (c .before .before .before .before .before .before .count-digits .ensures))
+
+pub put-decimal-spec : {M : Type 1} → statement M
+put-decimal-spec =
+    tie.close
+    (tie.spec
+    (λ c κs. search needs)
+    (λ c κs. search needs)
+    returns
+    store-digits-requires
+    add-result
+    (λ c. search needs)
+    returns-2)
