@@ -5,9 +5,8 @@ use wire::Length;
 use wire::has;
 use wire::read_length;
 ghost use mathlib.Core.Path.{_≡_};
-ghost use Prim.Native.Nat.{_<_};
 ghost use Rattle.wire.specs.Answer.{each};
-ghost use Rattle.value.specs.Plain.{answerReached, bytes, string, plain, plainValue, plainValues};
+ghost use Rattle.value.specs.Plain.{answerReached, bytes, string, plain, plainValue};
 
 // The position after what was passed over, or the number and place of its refusal.
 pub(crate) enum Reached {
@@ -40,7 +39,7 @@ fn string_at(s: &[u8], at: usize) -> Reached
 }
 
 // n Strings or ByteStrings, one after the other.
-fn strings_at(s: &[u8], at: usize, n: usize) -> Reached
+pub(crate) fn strings_at(s: &[u8], at: usize, n: usize) -> Reached
     ensures { λ r. ⌜ answerReached r ≡ each string n (now (s .entry)) at ⌝ }
 {
     let mut p = at;
@@ -76,16 +75,4 @@ pub(crate) fn plain_value(s: &[u8], at: usize, t: u8) -> Reached
         return bytes_at(s, at, w);
     }
     string_at(s, at)
-}
-
-// n of them. A count is below 2^31.
-pub(crate) fn plain_values(s: &[u8], at: usize, t: u8, n: usize) -> Reached
-    requires { ⌜ n < 2147483648 ⌝ }
-    ensures { λ r. ⌜ answerReached r ≡ plainValues t n (now (s .entry)) at ⌝ }
-{
-    let w = width(t);
-    if 0 < w {
-        return bytes_at(s, at, n * w);
-    }
-    strings_at(s, at, n)
 }

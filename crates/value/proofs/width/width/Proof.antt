@@ -17,14 +17,16 @@ returns c = (past (c .before .args .t) (c .if1 .taken), search needs)
 cast-result : tie.Need-cast-result
 unfolding right widthOf
 cast-result c =
+    let a = c .before .args in
     let table : List ℕ = lts.m11 reads.Pre reads.Post (c .before) .1 .1 .1 .0 in
-    omega (arith, entry table tt (c .before .args .t) (c .if1 .left) .1)
+    omega (arith, entry table tt (a .t) (c .if1 .left) .1)
 
 returns-2 : tie.Need-returns-2
 unfolding right widthOf
 returns-2 c =
+    let a = c .before .args in
     let table : List ℕ = lts.m11 reads.Pre reads.Post (c .before) .1 .1 .1 .0 in
-    entry table tt (c .before .args .t) (c .if1 .left)
+    entry table tt (a .t) (c .if1 .left)
 
 pub width-spec : {M : Type 1} → statement M
 width-spec = tie.close (tie.spec returns (λ c. search needs) cast-result returns-2)

@@ -1,4 +1,4 @@
--- `value::plain::plain_values` meets its contract.
+-- `value::head::plain_values` meets its contract.
 -- Assumes nothing.
 use native.Mathlib.Nat.{mul-le-mul-left}
 use native.Mathlib.Omega.{arith}
@@ -7,8 +7,8 @@ use lib.Dec.{ltb}
 use borrow.Author.Tests.{lt-ltb, le-ltb}
 use mathlib.Core.Path.{sym, ap, _∙_}
 use borrow.Author.Needs.{needs}
-use Rattle.value.proofs.plain.plain_values.Statement.{statement}
-use Rattle.value.proofs.plain.plain_values.Tie as tie
+use Rattle.value.proofs.head.plain_values.Statement.{statement}
+use Rattle.value.proofs.head.plain_values.Tie as tie
 
 mul-bytes-at : tie.Need-mul-bytes-at
 mul-bytes-at c =
