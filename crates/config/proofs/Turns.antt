@@ -12,7 +12,8 @@ use lib.Dec.{eqb, leb, ltb}
 use lib.ListN.{length, drop, getD, length-drop}
 use lib.Seq.{drop-drop}
 use Rattle.text.specs.Words.{contains, indexOf, upTo, past}
-use Rattle.text.proofs.Lists.{and-right, cases, at-next, at-end}
+use Rattle.wire.proofs.Facts.{and-right, cases}
+use Rattle.text.proofs.Lists.{at-next, at-end}
 use Rattle.text.proofs.Parts.{contains-place}
 use Rattle.config.specs.Line.{Says, writer, field, bad, saysOf, asLine, saysIn, lineAt}
 use Rattle.config.specs.Config.{ended, unended, linesOf, emptyConfig, isNew, mayFollow, with, accepted, badLine, readLines, configOf}

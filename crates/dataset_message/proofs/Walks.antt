@@ -1,9 +1,9 @@
 -- Walking over fields and over padding: the end, one turn, and a refusal.
 -- Assumes nothing.
 use Prim.Native.Nat.{ℕ, zero, suc, _+_, _-_, _≤_, _<_}
-use mathlib.Core.Path.{_≡_, refl, ap, sym, _∙_}
+use mathlib.Core.Path.{_≡_, refl}
 use mathlib.Core.Bool.{Bool}
-use mathlib.Core.List.{List, [], _∷_}
+use mathlib.Core.List.{List}
 use native.Mathlib.Nat.{not-suc-le-zero}
 use native.Mathlib.Numerals.{sub-one}
 use native.Mathlib.Omega.{arith}
@@ -13,12 +13,6 @@ use Rattle.dataset_message.specs.Fields.{fieldAt, fieldsAt, zerosAt, pad
 use Rattle.dataset_message.specs.declared.flags.Encoding.{Encoding}
 use Rattle.dataset_message.specs.declared.fields.Field.{Field}
 use Rattle.wire.specs.Answer.{got, refused}
-
--- past a list's end there is 0
-pub none-past : (xs : List ℕ) (k : ℕ) → length xs ≤ k → getD xs k 0 ≡ 0
-none-past [] k h = refl
-none-past (x ∷ xs) zero h = absurd (not-suc-le-zero h)
-none-past (x ∷ xs) (suc k) h = none-past xs k (omega arith)
 
 module _ (delta : Bool) (encoding : Encoding) (types s : List ℕ) where
   pub fields-done : (left k p : ℕ) → left ≤ 0 → fieldsAt delta encoding types left k s p ≡ got tt p

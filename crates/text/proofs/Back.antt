@@ -13,7 +13,7 @@ use lib.ListN.{length, drop}
 use Rattle.text.specs.Decimal.{isDigit, allDigits, decimalAt, decimalText}
 use Rattle.text.specs.Hex.{hexDigit, hexText, hexValue, allHex, hexBytes, hexOf}
 use Rattle.text.specs.declared.decimal.Decimal.the-variants.{Is}
-use Rattle.text.proofs.Lists.{cases}
+use Rattle.wire.proofs.Facts.{cases}
 use Rattle.text.proofs.Parts.{digits-contain, digits-place, digits-before}
 use Rattle.text.proofs.Numerals.{decimal-all-digits, decimal-back}
 use Rattle.text.proofs.Putting.{hex-length}

@@ -15,7 +15,8 @@ use Rattle.text.specs.Words.{contains, indexOf, upTo, past, startsWith}
 use Rattle.text.specs.Decimal.{isDigit, allDigits, plain, valueOf, decimalOf, placed, endedBy}
 use Rattle.text.specs.declared.decimal.Decimal.{Decimal}
 use Rattle.text.specs.declared.decimal.Decimal.the-variants.{Is, Not}
-use Rattle.text.proofs.Lists.{cases, either-way, and-left, and-right}
+use Rattle.wire.proofs.Facts.{cases, and-left, and-right}
+use Rattle.text.proofs.Lists.{either-way}
 
 -- a byte that a text contains stands before the text's end
 pub contains-place : (x : ℕ) (t : List ℕ) → contains x t ≡ true → indexOf x t < length t

@@ -10,7 +10,7 @@ use lib.Dec.{T, eqb, leb, ltb, eqb→eq, leb→le, ltb→lt}
 use lib.ListN.{length, getD}
 use Rattle.value.specs.Width.{among, widthOf}
 use Rattle.value.specs.Plain.{plain}
-use Rattle.value.proofs.Table.{every, at, below, and-left, and-right}
+use Rattle.wire.proofs.Table.{every, at, below, and-left, and-right}
 
 -- an entry x at the place k is the width of type k, and at most 16
 unfoldable pub right : ℕ → ℕ → Bool

@@ -2,17 +2,13 @@
 use crate::width::width;
 use wire::ItemLength;
 use wire::Length;
+use wire::Reached;
 use wire::has;
 use wire::read_length;
 ghost use mathlib.Core.Path.{_≡_};
 ghost use Rattle.wire.specs.Answer.{each};
-ghost use Rattle.value.specs.Plain.{answerReached, bytes, string, plain, plainValue};
-
-// The position after what was passed over, or the number and place of its refusal.
-pub(crate) enum Reached {
-    To(usize),
-    Refused(u8, usize),
-}
+ghost use Rattle.wire.specs.Items.{answerReached};
+ghost use Rattle.value.specs.Plain.{bytes, string, plain, plainValue};
 
 // n bytes, one item.
 pub(crate) fn bytes_at(s: &[u8], at: usize, n: usize) -> Reached

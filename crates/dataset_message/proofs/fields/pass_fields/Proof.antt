@@ -1,26 +1,15 @@
--- `dataset_message::fields::pass_fields` meets its contract. Assumes nothing.
-use Prim.Native.Nat.{ℕ, _+_, _-_, _≤_, _<_}
-use mathlib.Core.List.{List}
-use mathlib.Core.Path.{_≡_, refl, sym, _∙_, ap}
+-- `dataset_message::fields::pass_fields` meets its contract.
+-- Assumes nothing.
+use Prim.Native.Nat.{_+_, _-_}
+use mathlib.Core.Path.{_≡_, refl, sym, _∙_}
 use native.Mathlib.Omega.{arith}
 use denote.Ref.{now}
-use lib.ListN.{length, getD}
-use borrow.Author.Tests.{not-true, not-false, eq-eqb, ne-eqb, le-leb, lt-leb, lt-ltb, le-ltb}
 use borrow.Author.Needs.{needs}
-use Rattle.dataset_message.specs.Message.{answerCount, answerMessage}
-use Rattle.dataset_message.specs.Fields.{fieldsAt, paddingAt, answerIndex, answerField, answerStep}
-use Rattle.dataset_message.specs.Header.{answerTimes, answerVersions, answerHeader}
-use Rattle.dataset_message.specs.Flags.{answerByte, answerFlags}
-use Rattle.dataset_message.proofs.Walks.{none-past, fields-done, fields-step, fields-stop, padding-done, padding-step, padding-stop}
-use Rattle.value.specs.Value.{answerMeasured}
-use Rattle.wire.specs.Optional.{answerOptional16, answerOptional32, answerOptionalI64}
-use Rattle.wire.specs.Items.{answer8, answer16, answerReached}
+use Rattle.dataset_message.specs.Fields.{fieldsAt, answerField}
+use Rattle.dataset_message.proofs.Walks.{fields-done, fields-step, fields-stop}
 use Rattle.wire.proofs.Reading.{told}
 use Rattle.dataset_message.proofs.fields.pass_fields.Statement.{statement}
 use Rattle.dataset_message.proofs.fields.pass_fields.Tie as tie
-use Rattle.dataset_message.proofs.fields.pass_fields.Reads as reads
-use Rattle.dataset_message.proofs.fields.pass_fields.Lts as lts
-use Rattle.dataset_message.proofs.fields.read_field.Reads as read-field-reads
 
 abbrev Inv-loop : tie.InvT-loop
 Inv-loop s encoding delta types count at p₀ k₀ left₀ p k left =
@@ -29,21 +18,17 @@ Inv-loop s encoding delta types count at p₀ k₀ left₀ p k left =
 abbrev μ-loop : tie.MeasureT-loop
 μ-loop s encoding delta types count at p₀ k₀ left₀ p k left = left
 
--- src/fields.rt:142:5
 loop-holds : tie.Need-loop-holds Inv-loop μ-loop
 loop-holds c = (refl, omega arith)
 
--- src/fields.rt:145:17
 returns : tie.Need-returns Inv-loop μ-loop
 returns c =
     sym (c .before .before .before .before .before .loop .inv .0 ∙ fields-stop (c .before .before .before .before .before .before .before .before .args .delta) (c .before .before .before .before .before .before .before .before .args .encoding) (now (c .before .before .before .before .before .before .before .before .args .types)) (now (c .before .before .before .before .before .before .before .before .args .s)) (c .before .before .before .before .before .loop .left) (c .before .before .before .before .before .loop .k) (c .before .before .before .before .before .loop .p) _ _ (c .before .before .before .before .loop-test .taken) (sym (told answerField (c .before .before .before .read-field .ensures) (c .before .n .given .1))))
 
--- src/fields.rt:142:5
 loop-again : tie.Need-loop-again Inv-loop μ-loop
 loop-again c =
     (c .before .before .before .before .before .loop .inv .0 ∙ fields-step (c .before .before .before .before .before .before .before .before .args .delta) (c .before .before .before .before .before .before .before .before .args .encoding) (now (c .before .before .before .before .before .before .before .before .args .types)) (now (c .before .before .before .before .before .before .before .before .args .s)) (c .before .before .before .before .before .loop .left) (c .before .before .before .before .before .loop .k) (c .before .before .before .before .before .loop .p) _ _ (c .before .before .before .before .loop-test .taken) (sym (told answerField (c .before .before .before .read-field .ensures) (c .before .end .given .1))), omega arith)
 
--- src/fields.rt:136:1
 returns-2 : tie.Need-returns-2 Inv-loop μ-loop
 returns-2 c =
     sym (c .before .loop .inv .0 ∙ fields-done (c .before .before .before .before .args .delta) (c .before .before .before .before .args .encoding) (now (c .before .before .before .before .args .types)) (now (c .before .before .before .before .args .s)) (c .before .loop .left) (c .before .loop .k) (c .before .loop .p) (c .loop-test .left))

@@ -1,40 +1,22 @@
--- `dataset_message::fields::read_field` meets its contract. Assumes nothing.
-use Prim.Native.Nat.{ℕ, _+_, _-_, _≤_, _<_}
-use mathlib.Core.List.{List}
-use mathlib.Core.Path.{_≡_, refl, sym, _∙_, ap}
-use native.Mathlib.Omega.{arith}
-use denote.Ref.{now}
-use lib.ListN.{length, getD}
-use borrow.Author.Tests.{not-true, not-false, eq-eqb, ne-eqb, le-leb, lt-leb, lt-ltb, le-ltb}
+-- `dataset_message::fields::read_field` meets its contract.
+-- Assumes nothing.
+use Prim.Native.Nat.{_-_}
+use mathlib.Core.Path.{sym}
 use borrow.Author.Needs.{needs}
-use Rattle.dataset_message.specs.Message.{answerCount, answerMessage}
-use Rattle.dataset_message.specs.Fields.{fieldsAt, paddingAt, answerIndex, answerField, answerStep}
-use Rattle.dataset_message.specs.Header.{answerTimes, answerVersions, answerHeader}
-use Rattle.dataset_message.specs.Flags.{answerByte, answerFlags}
-use Rattle.dataset_message.proofs.Walks.{none-past, fields-done, fields-step, fields-stop, padding-done, padding-step, padding-stop}
+use Rattle.dataset_message.specs.Fields.{answerIndex}
 use Rattle.value.specs.Value.{answerMeasured}
-use Rattle.wire.specs.Optional.{answerOptional16, answerOptional32, answerOptionalI64}
-use Rattle.wire.specs.Items.{answer8, answer16, answerReached}
 use Rattle.wire.proofs.Reading.{told}
 use Rattle.dataset_message.proofs.fields.read_field.Statement.{statement}
 use Rattle.dataset_message.proofs.fields.read_field.Tie as tie
-use Rattle.dataset_message.proofs.fields.read_field.Reads as reads
-use Rattle.dataset_message.proofs.fields.read_field.Lts as lts
-use Rattle.dataset_message.proofs.fields.encoded.Reads as encoded-reads
-use Rattle.dataset_message.proofs.fields.index.Reads as index-reads
-use Rattle.wire.proofs.left.Reads as left-reads
 
--- src/fields.rt:81:1
 returns : tie.Need-returns
 returns c =
     rw (sym (told answerIndex (c .before .before .before .index .ensures) (c .before .n .given .1)))
 
--- src/fields.rt:81:1
 returns-2 : tie.Need-returns-2
 returns-2 c =
     rw (sym (told answerIndex (c .before .before .before .before .before .before .before .index .ensures) (c .before .before .before .before .before .index2 .given .1)), sym (told answerMeasured (c .before .before .before .encoded .ensures) (c .before .n2 .given .1)))
 
--- src/fields.rt:81:1
 returns-3 : tie.Need-returns-3
 returns-3 c =
     rw (sym (told answerIndex (c .before .before .before .before .before .before .before .before .index .ensures) (c .before .before .before .before .before .before .index2 .given .1)), sym (told answerMeasured (c .before .before .before .before .encoded .ensures) (c .before .before .m .given .1)), c .left .ensures)

@@ -1,35 +1,16 @@
--- `dataset_message::flags::encoding_of` meets its contract. Assumes nothing.
-use Prim.Native.Nat.{ℕ, _+_, _-_, _≤_, _<_}
-use mathlib.Core.List.{List}
-use mathlib.Core.Path.{_≡_, refl, sym, _∙_, ap}
-use native.Mathlib.Omega.{arith}
-use denote.Ref.{now}
-use lib.ListN.{length, getD}
-use borrow.Author.Tests.{not-true, not-false, eq-eqb, ne-eqb, le-leb, lt-leb, lt-ltb, le-ltb}
-use borrow.Author.Needs.{needs}
-use Rattle.dataset_message.specs.Message.{answerCount, answerMessage}
-use Rattle.dataset_message.specs.Fields.{fieldsAt, paddingAt, answerIndex, answerField, answerStep}
-use Rattle.dataset_message.specs.Header.{answerTimes, answerVersions, answerHeader}
-use Rattle.dataset_message.specs.Flags.{answerByte, answerFlags}
-use Rattle.dataset_message.proofs.Walks.{none-past, fields-done, fields-step, fields-stop, padding-done, padding-step, padding-stop}
-use Rattle.value.specs.Value.{answerMeasured}
-use Rattle.wire.specs.Optional.{answerOptional16, answerOptional32, answerOptionalI64}
-use Rattle.wire.specs.Items.{answer8, answer16, answerReached}
-use Rattle.wire.proofs.Reading.{told}
+-- `dataset_message::flags::encoding_of` meets its contract.
+-- Assumes nothing.
+use Prim.Native.Nat.{_-_}
+use borrow.Author.Tests.{eq-eqb, ne-eqb}
 use Rattle.dataset_message.proofs.flags.encoding_of.Statement.{statement}
 use Rattle.dataset_message.proofs.flags.encoding_of.Tie as tie
-use Rattle.dataset_message.proofs.flags.encoding_of.Reads as reads
-use Rattle.dataset_message.proofs.flags.encoding_of.Lts as lts
 
--- src/flags.rt:48:9
 returns : tie.Need-returns
 returns c = rw (eq-eqb _ _ (c .if1 .taken))
 
--- src/flags.rt:51:9
 returns-2 : tie.Need-returns-2
 returns-2 c = rw (ne-eqb _ _ (c .before .if1 .left), eq-eqb _ _ (c .if2 .taken))
 
--- src/flags.rt:43:1
 returns-3 : tie.Need-returns-3
 returns-3 c = rw (ne-eqb _ _ (c .before .if1 .left), ne-eqb _ _ (c .if2 .left))
 

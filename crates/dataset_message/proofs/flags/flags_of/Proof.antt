@@ -1,29 +1,10 @@
--- `dataset_message::flags::flags_of` meets its contract. Assumes nothing.
-use Prim.Native.Nat.{ℕ, _+_, _-_, _≤_, _<_}
-use mathlib.Core.List.{List}
-use mathlib.Core.Path.{_≡_, refl, sym, _∙_, ap}
-use native.Mathlib.Omega.{arith}
-use denote.Ref.{now}
-use lib.ListN.{length, getD}
-use borrow.Author.Tests.{not-true, not-false, eq-eqb, ne-eqb, le-leb, lt-leb, lt-ltb, le-ltb}
+-- `dataset_message::flags::flags_of` meets its contract.
+-- Assumes nothing.
+use Prim.Native.Nat.{_-_}
 use borrow.Author.Needs.{needs}
-use Rattle.dataset_message.specs.Message.{answerCount, answerMessage}
-use Rattle.dataset_message.specs.Fields.{fieldsAt, paddingAt, answerIndex, answerField, answerStep}
-use Rattle.dataset_message.specs.Header.{answerTimes, answerVersions, answerHeader}
-use Rattle.dataset_message.specs.Flags.{answerByte, answerFlags}
-use Rattle.dataset_message.proofs.Walks.{none-past, fields-done, fields-step, fields-stop, padding-done, padding-step, padding-stop}
-use Rattle.value.specs.Value.{answerMeasured}
-use Rattle.wire.specs.Optional.{answerOptional16, answerOptional32, answerOptionalI64}
-use Rattle.wire.specs.Items.{answer8, answer16, answerReached}
-use Rattle.wire.proofs.Reading.{told}
 use Rattle.dataset_message.proofs.flags.flags_of.Statement.{statement}
 use Rattle.dataset_message.proofs.flags.flags_of.Tie as tie
-use Rattle.dataset_message.proofs.flags.flags_of.Reads as reads
-use Rattle.dataset_message.proofs.flags.flags_of.Lts as lts
-use Rattle.dataset_message.proofs.flags.encoding_of.Reads as encoding-of-reads
-use Rattle.dataset_message.proofs.flags.kind_of.Reads as kind-of-reads
 
--- src/flags.rt:119:1
 returns : tie.Need-returns
 returns c = rw (c .before .encoding-of .ensures, c .kind-of .ensures)
 

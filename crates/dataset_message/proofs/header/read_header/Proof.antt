@@ -1,39 +1,21 @@
--- `dataset_message::header::read_header` meets its contract. Assumes nothing.
-use Prim.Native.Nat.{ℕ, _+_, _-_, _≤_, _<_}
-use mathlib.Core.List.{List}
-use mathlib.Core.Path.{_≡_, refl, sym, _∙_, ap}
-use native.Mathlib.Omega.{arith}
-use denote.Ref.{now}
-use lib.ListN.{length, getD}
-use borrow.Author.Tests.{not-true, not-false, eq-eqb, ne-eqb, le-leb, lt-leb, lt-ltb, le-ltb}
+-- `dataset_message::header::read_header` meets its contract.
+-- Assumes nothing.
+use Prim.Native.Nat.{_-_}
+use mathlib.Core.Path.{sym}
 use borrow.Author.Needs.{needs}
-use Rattle.dataset_message.specs.Message.{answerCount, answerMessage}
-use Rattle.dataset_message.specs.Fields.{fieldsAt, paddingAt, answerIndex, answerField, answerStep}
-use Rattle.dataset_message.specs.Header.{answerTimes, answerVersions, answerHeader}
-use Rattle.dataset_message.specs.Flags.{answerByte, answerFlags}
-use Rattle.dataset_message.proofs.Walks.{none-past, fields-done, fields-step, fields-stop, padding-done, padding-step, padding-stop}
-use Rattle.value.specs.Value.{answerMeasured}
-use Rattle.wire.specs.Optional.{answerOptional16, answerOptional32, answerOptionalI64}
-use Rattle.wire.specs.Items.{answer8, answer16, answerReached}
+use Rattle.dataset_message.specs.Flags.{answerFlags}
 use Rattle.wire.proofs.Reading.{told}
 use Rattle.dataset_message.proofs.header.read_header.Statement.{statement}
 use Rattle.dataset_message.proofs.header.read_header.Tie as tie
-use Rattle.dataset_message.proofs.header.read_header.Reads as reads
-use Rattle.dataset_message.proofs.header.read_header.Lts as lts
-use Rattle.dataset_message.proofs.flags.read_flags.Reads as read-flags-reads
-use Rattle.dataset_message.proofs.header.read_body.Reads as read-body-reads
 
--- src/header.rt:121:1
 returns : tie.Need-returns
 returns c =
     rw (sym (told answerFlags (c .before .before .before .read-flags .ensures) (c .before .next .given .1)))
 
--- src/header.rt:121:1
 returns-2 : tie.Need-returns-2
 returns-2 c =
     rw (sym (told answerFlags (c .before .before .before .read-flags .ensures) (c .before .n .given .1)))
 
--- src/header.rt:121:1
 returns-3 : tie.Need-returns-3
 returns-3 c =
     rw (sym (told answerFlags (c .before .before .before .before .read-flags .ensures) (c .before .before .flags .given .1))) (c .read-body .ensures)

@@ -1,44 +1,25 @@
--- `dataset_message::header::read_versions` meets its contract. Assumes nothing.
-use Prim.Native.Nat.{ℕ, _+_, _-_, _≤_, _<_}
-use mathlib.Core.List.{List}
-use mathlib.Core.Path.{_≡_, refl, sym, _∙_, ap}
-use native.Mathlib.Omega.{arith}
-use denote.Ref.{now}
-use lib.ListN.{length, getD}
-use borrow.Author.Tests.{not-true, not-false, eq-eqb, ne-eqb, le-leb, lt-leb, lt-ltb, le-ltb}
+-- `dataset_message::header::read_versions` meets its contract.
+-- Assumes nothing.
+use Prim.Native.Nat.{_-_}
+use mathlib.Core.Path.{sym}
 use borrow.Author.Needs.{needs}
-use Rattle.dataset_message.specs.Message.{answerCount, answerMessage}
-use Rattle.dataset_message.specs.Fields.{fieldsAt, paddingAt, answerIndex, answerField, answerStep}
-use Rattle.dataset_message.specs.Header.{answerTimes, answerVersions, answerHeader}
-use Rattle.dataset_message.specs.Flags.{answerByte, answerFlags}
-use Rattle.dataset_message.proofs.Walks.{none-past, fields-done, fields-step, fields-stop, padding-done, padding-step, padding-stop}
-use Rattle.value.specs.Value.{answerMeasured}
-use Rattle.wire.specs.Optional.{answerOptional16, answerOptional32, answerOptionalI64}
-use Rattle.wire.specs.Items.{answer8, answer16, answerReached}
+use Rattle.wire.specs.Optional.{answerOptional16, answerOptional32}
 use Rattle.wire.proofs.Reading.{told}
 use Rattle.dataset_message.proofs.header.read_versions.Statement.{statement}
 use Rattle.dataset_message.proofs.header.read_versions.Tie as tie
-use Rattle.dataset_message.proofs.header.read_versions.Reads as reads
-use Rattle.dataset_message.proofs.header.read_versions.Lts as lts
-use Rattle.wire.proofs.optional.read_optional16.Reads as read-optional16-reads
-use Rattle.wire.proofs.optional.read_optional32.Reads as read-optional32-reads
 
--- src/header.rt:70:1
 returns : tie.Need-returns
 returns c =
     rw (sym (told answerOptional16 (c .before .before .before .read-optional16 .ensures) (c .before .n .given .1)))
 
--- src/header.rt:70:1
 returns-2 : tie.Need-returns-2
 returns-2 c =
     rw (sym (told answerOptional16 (c .before .before .before .before .before .before .before .read-optional16 .ensures) (c .before .before .before .before .before .status .given .1)), sym (told answerOptional32 (c .before .before .before .read-optional32 .ensures) (c .before .n2 .given .1)))
 
--- src/header.rt:70:1
 returns-3 : tie.Need-returns-3
 returns-3 c =
     rw (sym (told answerOptional16 (c .before .before .before .before .before .before .before .before .before .before .before .read-optional16 .ensures) (c .before .before .before .before .before .before .before .before .before .status .given .1)), sym (told answerOptional32 (c .before .before .before .before .before .before .before .read-optional32 .ensures) (c .before .before .before .before .before .major .given .1)), sym (told answerOptional32 (c .before .before .before .read-optional322 .ensures) (c .before .n3 .given .1)))
 
--- src/header.rt:70:1
 returns-4 : tie.Need-returns-4
 returns-4 c =
     rw (sym (told answerOptional16 (c .before .before .before .before .before .before .before .before .before .before .before .read-optional16 .ensures) (c .before .before .before .before .before .before .before .before .before .status .given .1)), sym (told answerOptional32 (c .before .before .before .before .before .before .before .read-optional32 .ensures) (c .before .before .before .before .before .major .given .1)), sym (told answerOptional32 (c .before .before .before .read-optional322 .ensures) (c .before .minor .given .1)))

@@ -1,34 +1,17 @@
--- `dataset_message::message::field` meets its contract. Assumes nothing.
-use Prim.Native.Nat.{ℕ, _+_, _-_, _≤_, _<_}
-use mathlib.Core.List.{List}
-use mathlib.Core.Path.{_≡_, refl, sym, _∙_, ap}
-use native.Mathlib.Omega.{arith}
-use denote.Ref.{now}
-use lib.ListN.{length, getD}
-use borrow.Author.Tests.{not-true, not-false, eq-eqb, ne-eqb, le-leb, lt-leb, lt-ltb, le-ltb}
+-- `dataset_message::message::field` meets its contract.
+-- Assumes nothing.
+use Prim.Native.Nat.{_-_}
+use mathlib.Core.Path.{sym}
 use borrow.Author.Needs.{needs}
-use Rattle.dataset_message.specs.Message.{answerCount, answerMessage}
-use Rattle.dataset_message.specs.Fields.{fieldsAt, paddingAt, answerIndex, answerField, answerStep}
-use Rattle.dataset_message.specs.Header.{answerTimes, answerVersions, answerHeader}
-use Rattle.dataset_message.specs.Flags.{answerByte, answerFlags}
-use Rattle.dataset_message.proofs.Walks.{none-past, fields-done, fields-step, fields-stop, padding-done, padding-step, padding-stop}
-use Rattle.value.specs.Value.{answerMeasured}
-use Rattle.wire.specs.Optional.{answerOptional16, answerOptional32, answerOptionalI64}
-use Rattle.wire.specs.Items.{answer8, answer16, answerReached}
+use Rattle.dataset_message.specs.Fields.{answerField}
 use Rattle.wire.proofs.Reading.{told}
 use Rattle.dataset_message.proofs.message.field.Statement.{statement}
 use Rattle.dataset_message.proofs.message.field.Tie as tie
-use Rattle.dataset_message.proofs.message.field.Reads as reads
-use Rattle.dataset_message.proofs.message.field.Lts as lts
-use Rattle.dataset_message.proofs.message.field_place.Reads as field-place-reads
-use Rattle.wire.proofs.part.part.Reads as part-reads
 
--- src/message.rt:149:1
 returns : tie.Need-returns
 returns c =
     rw (sym (told answerField (c .before .before .before .field-place .ensures) (c .before .enum-told .given .1))) (c .part .ensures)
 
--- src/message.rt:149:1
 returns-2 : tie.Need-returns-2
 returns-2 c =
     rw (sym (told answerField (c .before .before .before .before .field-place .ensures) (c .before .before .f .given .1))) (c .part2 .ensures)

@@ -7,8 +7,8 @@ use native.Mathlib.Omega.{arith}
 use native.Mathlib.Nat.{le-refl, le-add-right, zero-add, add-zero}
 use lib.ListN.{length, getD, take, drop, length-append, length-drop, take-append-drop, List·getD-append}
 use lib.Seq.{getD-append-add, length-take-le, getD-take}
 use Rattle.wire.specs.Answer.{Answer, got, refused, Reader}
-use Rattle.value.proofs.Steady.{Ends, Part, Follows, Steady}
+use Rattle.wire.proofs.Steady.{Ends, Part, Follows, Steady}
 
 -- an answer, moved by d
 abbrev pub movedBy : {A : Type 0} → ℕ → Answer A → Answer A
