@@ -1,34 +1,30 @@
--- `value_vectors::large::walk` is safe and ends.
+-- `value_vectors::deep` is safe and ends.
 -- Assumes nothing.
 use borrow.Author.Needs.{needs}
 use lib.ListN.{length}
 use mathlib.Core.Path.{_≡_}
 use Prim.Native.Nat.{_≤_, _-_}
-use Rattle.value_vectors.proofs.large.walk.Statement.{statement}
-use Rattle.value_vectors.proofs.large.walk.Tie as tie
+use Rattle.value_vectors.proofs.deep.Statement.{statement}
+use Rattle.value_vectors.proofs.deep.Tie as tie
 
 abbrev Inv-loop : tie.InvT-loop
-Inv-loop s₀ i₀ t3 t4 s i = (i ≤ 60000) × (length s ≡ 60000)
+Inv-loop name pattern n last len s₀ i₀ s i = (i ≤ n) × (length s ≡ 512)
 
 abbrev μ-loop : tie.MeasureT-loop
-μ-loop s₀ i₀ t3 t4 s i = 60000 - i
+μ-loop name pattern n last len s₀ i₀ s i = n - i
 
-pub walk-spec : {M : Type 1} → statement M
-walk-spec =
+pub deep-spec : {M : Type 1} → statement M
+deep-spec =
     tie.close
     (tie.spec
     Inv-loop
     μ-loop
     (λ c. search needs)
-    (λ c κs. search needs)
     (λ c. search needs)
     (λ c. search needs)
     (λ c. search needs)
     (λ c. search needs)
     (λ c. search needs)
-    (λ c. search needs)
-    (λ c κs. search needs)
-    (λ c κs. search needs)
     (λ c. search needs)
     (λ c. search needs)
     (λ c κs. search needs)

@@ -1,31 +1,25 @@
--- `value_vectors::input::decode` is safe and ends.
+-- `value_vectors::walk` is safe and ends.
 -- Assumes nothing.
 use borrow.Author.Needs.{needs}
 use lib.ListN.{length}
 use mathlib.Core.Path.{_≡_}
 use Prim.Native.Nat.{_≤_, _-_}
-use Rattle.value_vectors.proofs.input.decode.Statement.{statement}
-use Rattle.value_vectors.proofs.input.decode.Tie as tie
+use Rattle.value_vectors.proofs.walk.Statement.{statement}
+use Rattle.value_vectors.proofs.walk.Tie as tie
 
 abbrev Inv-loop : tie.InvT-loop
-Inv-loop text s₀ i₀ s i = (i ≤ 64) × (length s ≡ 64)
+Inv-loop s₀ i₀ t3 t4 s i = (i ≤ 60000) × (length s ≡ 60000)
 
 abbrev μ-loop : tie.MeasureT-loop
-μ-loop text s₀ i₀ s i = 64 - i
+μ-loop s₀ i₀ t3 t4 s i = 60000 - i
 
-pub decode-spec : {M : Type 1} → statement M
-decode-spec =
+pub walk-spec : {M : Type 1} → statement M
+walk-spec =
     tie.close
     (tie.spec
     Inv-loop
     μ-loop
     (λ c. search needs)
-    (λ c. search needs)
-    (λ c κs. search needs)
-    (λ c κs. search needs)
-    (λ c. search needs)
-    (λ c. search needs)
-    (λ c κs. search needs)
     (λ c κs. search needs)
     (λ c. search needs)
     (λ c. search needs)
@@ -33,4 +27,11 @@ decode-spec =
     (λ c. search needs)
     (λ c. search needs)
     (λ c. search needs)
+    (λ c κs. search needs)
+    (λ c κs. search needs)
+    (λ c. search needs)
+    (λ c. search needs)
+    (λ c κs. search needs)
+    (λ c κs. search needs)
+    (λ c κs. search needs)
     (λ c. search needs))

@@ -1,10 +1,10 @@
--- `value_vectors::input::word_length` is safe and ends.
+-- `value_vectors::word_length` is safe and ends.
 -- Assumes nothing.
 use borrow.Author.Needs.{needs}
 use lib.ListN.{length}
 use Prim.Native.Nat.{_≤_, _-_}
-use Rattle.value_vectors.proofs.input.word_length.Statement.{statement}
-use Rattle.value_vectors.proofs.input.word_length.Tie as tie
+use Rattle.value_vectors.proofs.word_length.Statement.{statement}
+use Rattle.value_vectors.proofs.word_length.Tie as tie
 
 abbrev Inv-loop : tie.InvT-loop
 Inv-loop text i₀ i = i ≤ length text
