@@ -1,17 +1,16 @@
 -- What is asked of a configuration's lists.
 -- Assumes nothing.
-use mathlib.Core.Path.{_≡_, refl, sym, _∙_, ap}
+use mathlib.Core.Path.{_≡_, refl, sym, _∙_}
 use mathlib.Core.Bool.{Bool, true, false}
 use mathlib.Core.List.{List, [], _∷_}
-use mathlib.Core.Logic.{⊎-elim}
-use Prim.Native.Nat.{ℕ, zero, suc, _+_, _*_, _-_, _≤_, _<_}
+use Prim.Native.Nat.{ℕ, zero, suc, _+_, _-_, _≤_, _<_}
 use native.Mathlib.Omega.{arith}
 use borrow.Author.Tests.{lt-ltb, le-ltb}
-use lib.Dec.{eqb, ltb}
-use lib.ListN.{length, take, drop, getD, drop-of-length-le, length-drop, List·getD-eq-default}
+use lib.Dec.{ltb}
+use lib.ListN.{length, take, drop, getD, length-drop, List·getD-eq-default}
 use lib.Seq.{take-all, take-nil, drop-length}
 use Rattle.text.specs.Words.{contains, indexOf}
-use Rattle.text.proofs.Lists.{cases, at-next, at-end}
+use Rattle.text.proofs.Lists.{at-next, at-end}
 use Rattle.text.proofs.Parts.{contains-place, lacks-place}
 use Rattle.config.specs.Writers.{startOf, fieldsOf, total}
 

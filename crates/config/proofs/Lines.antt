@@ -5,22 +5,21 @@ use mathlib.Core.Bool.{Bool, true, false, cond, _&&_, false≢true, and-true}
 use mathlib.Core.List.{List, [], _∷_, _++_}
 use mathlib.Core.Logic.{⊎-elim}
 use mathlib.Core.Option.{Option, none, some}
-use Prim.Native.Nat.{ℕ, suc, _+_, _≤_, _<_}
+use Prim.Native.Nat.{ℕ, suc, _+_, _≤_}
 use native.Mathlib.Nat.{le-of-lt, pos-of-ne-zero}
 use native.Mathlib.Omega.{arith}
 use borrow.Author.Tests.{eq-eqb, ne-eqb, lt-ltb}
-use lib.Dec.{eqb, ltb}
-use lib.ListN.{length, take, drop, length-append, length-drop}
+use lib.Dec.{eqb}
+use lib.ListN.{length, drop, length-append, length-drop}
 use lib.Seq.{drop-drop, drop-append-add, length-take-le}
 use Rattle.text.specs.Words.{contains, indexOf, upTo, past, startsWith}
 use Rattle.text.specs.Decimal.{allDigits, decimalOf, decimalAt, endedBy}
-use Rattle.text.specs.declared.decimal.Decimal.{Decimal}
 use Rattle.text.specs.declared.decimal.Decimal.the-variants.{Is, Not}
-use Rattle.text.proofs.Lists.{cases, either-way, and-left, and-right}
+use Rattle.wire.proofs.Facts.{cases}
+use Rattle.text.proofs.Lists.{either-way}
 use Rattle.text.proofs.Parts.{Taken, part-taken, part-refused, before-end, no-decimal, parted, decimal-is, starts-is, starts-not, contains-place, through-contains, through-place, through-upTo, digits-contain, digits-place, digits-before}
 use Rattle.value.specs.Width.{widthOf}
-use Rattle.config.specs.Line.{Says, writer, field, bad, isDash, positive, sizeOf, writerOf, writerRest, fieldRest, writerWord, fieldWord, saysOf, asLine, lineBy, restAt, lineAt, sizeAt}
-use Rattle.config.specs.declared.line.Line.{Line}
+use Rattle.config.specs.Line.{bad, isDash, positive, sizeOf, writerOf, writerRest, fieldRest, writerWord, fieldWord, saysOf, asLine, lineBy, restAt, lineAt, sizeAt}
 use Rattle.config.specs.declared.line.Line.the-variants.{Writer, Field, Bad}
 
 -- `-` and the newline

@@ -1,21 +1,22 @@
 -- The lines of a text, one after the other: what a turn of `read_config`'s loop needs.
 -- Assumes nothing.
 use mathlib.Core.Path.{_≡_, refl, sym, _∙_, ap}
-use mathlib.Core.Bool.{Bool, true, false, cond, not, _||_, true≢false, false≢true, or-true}
+use mathlib.Core.Bool.{Bool, true, false, cond, not, true≢false, false≢true}
 use mathlib.Core.List.{List, [], _∷_}
 use mathlib.Core.Logic.{⊎-elim}
-use Prim.Native.Nat.{ℕ, suc, _+_, _≤_, _<_}
+use Prim.Native.Nat.{ℕ, _+_, _≤_, _<_}
 use native.Mathlib.Nat.{suc-add}
 use native.Mathlib.Omega.{arith}
-use borrow.Author.Tests.{leb-false}
-use lib.Dec.{eqb, leb}
-use lib.ListN.{length, take, drop, getD, length-drop}
+use borrow.Author.Tests.{leb-false, ltb-true, not-true, not-false}
+use lib.Dec.{eqb, leb, ltb}
+use lib.ListN.{length, drop, getD, length-drop}
 use lib.Seq.{drop-drop}
 use Rattle.text.specs.Words.{contains, indexOf, upTo, past}
-use Rattle.text.proofs.Lists.{cases, at-next, at-end}
+use Rattle.wire.proofs.Facts.{and-right, cases}
+use Rattle.text.proofs.Lists.{at-next, at-end}
 use Rattle.text.proofs.Parts.{contains-place}
-use Rattle.config.specs.Line.{Says, writer, field, bad, saysOf, asLine, lineAt}
-use Rattle.config.specs.Config.{TextLine, ended, unended, onto, linesOf, lineSays, emptyConfig, isNew, permits, with, accepted, badLine, readLines, configOf}
+use Rattle.config.specs.Line.{Says, writer, field, bad, saysOf, asLine, saysIn, lineAt}
+use Rattle.config.specs.Config.{ended, unended, linesOf, emptyConfig, isNew, mayFollow, with, accepted, badLine, readLines, configOf}
 use Rattle.config.specs.declared.Config.{Config}
 use Rattle.config.specs.declared.ConfigRead.{ConfigRead}
 use Rattle.config.specs.declared.line.Line.{Line}
@@ -93,13 +94,13 @@ module _ (s : List ℕ) (at : ℕ) (y : Says) (next : ℕ) (was : LineWas s at y
       drop-drop (indexOf 10 (drop at s) + 1) at s ∙ ap (λ (j : ℕ). drop j s) k
 
   module _ (c : Config) (n : ℕ) (r : ConfigRead) (v : readLines c n (linesOf (drop at s)) ≡ r) where
-    turned : cond (permits c y) (readLines (with c y) (n + 1) (linesOf (drop next s))) (badLine n) ≡ r
+    turned : cond (mayFollow c y) (readLines (with c y) (n + 1) (linesOf (drop next s))) (badLine n) ≡ r
     turned = rw (lines-next (drop at s) (was .there), was .line, rest) at v
 
-    turn-refused : permits c y ≡ false → badLine n ≡ r
+    turn-refused : mayFollow c y ≡ false → badLine n ≡ r
     turn-refused p = rw p at turned
 
-    turn-taken : permits c y ≡ true → readLines (with c y) (n + 1) (linesOf (drop next s)) ≡ r
+    turn-taken : mayFollow c y ≡ true → readLines (with c y) (n + 1) (linesOf (drop next s)) ≡ r
     turn-taken p = rw p at turned
 
 -- a turn with a bad line, and the end
@@ -134,41 +135,57 @@ new-within ids n id e = go (leb 16 n) refl
     go true h = let z : false ≡ true = rw h at e in absurd (false≢true z)
     go false h = leb-false 16 n h
 
-pub field-within : (c : Config) → permits c (field 0) ≡ true → c .fields < 64
-field-within c e = go (leb 64 (c .fields)) refl
-  where
-    go : (b : Bool) → leb 64 (c .fields) ≡ b → c .fields < 64
-    go true h = let z : not (eqb (c .writers) 0 || true) ≡ true = rw h at e in absurd (false≢true (sym (ap not (or-true (eqb (c .writers) 0))) ∙ z))
-    go false h = leb-false 64 (c .fields) h
+pub field-within : (c : Config) → mayFollow c (field 0) ≡ true → c .fields < 64
+field-within c e = ltb-true (c .fields) 64 (and-right (not (eqb (c .writers) 0)) (ltb (c .fields) 64) e)
 
--- a turn: a line that is refused, and one that is taken
+-- a turn. r is the line that was read, and b the answer of `permitted`
 module _ (s : List ℕ) (c : Config) (n at : ℕ) (h : Held s c n at) where
-  held-next : (y : Says) (next : ℕ) → LineWas s at y next → permits c y ≡ true → with c y .fields ≤ 64 → Held s (with c y) (n + 1) next
+  pub held-last : length s ≤ at → accepted c ≡ configOf s
+  held-last l = all-read s at c n (configOf s) (h .1 .1 .1) l
+
+  held-next : (y : Says) (next : ℕ) → LineWas s at y next → mayFollow c y ≡ true → with c y .fields ≤ 64 → Held s (with c y) (n + 1) next
   held-next y next was p f =
       (next-within s at y next was, (omega (arith, h .1 .0, next-later s at y next was), (f, turn-taken s at y next was c n (configOf s) (h .1 .1 .1) p)))
 
-  module _ (id size next : ℕ) (e : lineAt s at ≡ Writer id size next) where
-    pub writer-refused : isNew (c .ids) (c .writers) id ≡ false → badLine n ≡ configOf s
-    writer-refused p = turn-refused s at (writer id size) next (writer-was s at id size next e) c n (configOf s) (h .1 .1 .1) p
+  module _ (r : Line) (e : r ≡ lineAt s at) where
+    pub held-bad : at < length s → r ≡ Bad → badLine n ≡ configOf s
+    held-bad l q = turn-bad s at c n (configOf s) (h .1 .1 .1) l (sym e ∙ q)
 
-    pub writer-taken : isNew (c .ids) (c .writers) id ≡ true → Held s (with c (writer id size)) (n + 1) next
-    writer-taken p = held-next (writer id size) next (writer-was s at id size next e) p (h .1 .1 .0)
+    module _ (b : Bool) (p : b ≡ mayFollow c (saysIn r)) where
+      pub held-refused : at < length s → not b ≡ true → badLine n ≡ configOf s
+      held-refused l t = go r e (sym p ∙ not-true b t)
+        where
+          go : (r : Line) → r ≡ lineAt s at → mayFollow c (saysIn r) ≡ false → badLine n ≡ configOf s
+          go (Writer id size next) e q = turn-refused s at (writer id size) next (writer-was s at id size next (sym e)) c n (configOf s) (h .1 .1 .1) q
+          go (Field kind next) e q = turn-refused s at (field kind) next (field-was s at kind next (sym e)) c n (configOf s) (h .1 .1 .1) q
+          go Bad e q = turn-bad s at c n (configOf s) (h .1 .1 .1) l (sym e)
 
-    pub writer-later : at < next
-    writer-later = next-later s at (writer id size) next (writer-was s at id size next e)
+      module _ (t : not b ≡ false) where
+        may : (x : Line) → r ≡ x → mayFollow c (saysIn x) ≡ true
+        may x q = ap (λ (z : Line). mayFollow c (saysIn z)) (sym q) ∙ sym p ∙ not-false b t
 
-  module _ (kind next : ℕ) (e : lineAt s at ≡ Field kind next) where
-    pub field-refused : permits c (field kind) ≡ false → badLine n ≡ configOf s
-    field-refused p = turn-refused s at (field kind) next (field-was s at kind next e) c n (configOf s) (h .1 .1 .1) p
+        module _ (id size next : ℕ) (q : r ≡ Writer id size next) where
+          was-writer : LineWas s at (writer id size) next
+          was-writer = writer-was s at id size next (sym e ∙ q)
 
-    pub field-taken : permits c (field kind) ≡ true → Held s (with c (field kind)) (n + 1) next
-    field-taken p = held-next (field kind) next (field-was s at kind next e) p (omega (arith, field-within c p))
+          pub writer-fits : c .writers < 16
+          writer-fits = new-within (c .ids) (c .writers) id (may (Writer id size next) q)
 
-    pub field-later : at < next
-    field-later = next-later s at (field kind) next (field-was s at kind next e)
+          pub held-writer : Held s (with c (writer id size)) (n + 1) next
+          held-writer = held-next (writer id size) next was-writer (may (Writer id size next) q) (h .1 .1 .0)
 
-  pub bad-refused : at < length s → lineAt s at ≡ Bad → badLine n ≡ configOf s
-  bad-refused l e = turn-bad s at c n (configOf s) (h .1 .1 .1) l e
+          pub writer-later : at < next
+          writer-later = next-later s at (writer id size) next was-writer
 
-  pub held-last : length s ≤ at → accepted c ≡ configOf s
-  held-last l = all-read s at c n (configOf s) (h .1 .1 .1) l
+        module _ (kind next : ℕ) (q : r ≡ Field kind next) where
+          was-field : LineWas s at (field kind) next
+          was-field = field-was s at kind next (sym e ∙ q)
+
+          pub field-fits : c .fields < 64
+          field-fits = field-within c (may (Field kind next) q)
+
+          pub held-field : Held s (with c (field kind)) (n + 1) next
+          held-field = held-next (field kind) next was-field (may (Field kind next) q) (omega (arith, field-fits))
+
+          pub field-later : at < next
+          field-later = next-later s at (field kind) next was-field

@@ -1,9 +1,9 @@
 -- The configuration text, document 01: lines as in `Line`; "At most 16 writers, 64 fields in all, ids distinct; else 16, as is a last line without newline."
 -- The number 16 comes with the line, counted from 1.
-use Prim.Native.Nat.{ℕ, _+_}
-use mathlib.Core.Bool.{Bool, true, false, cond, not, _||_}
+use mathlib.Core.Bool.{Bool, false, cond, not, _&&_}
 use mathlib.Core.List.{List, [], _∷_}
-use lib.Dec.{eqb, leb}
+use Prim.Native.Nat.{ℕ, _+_}
+use lib.Dec.{eqb, leb, ltb}
 use lib.ListN.{take, set, replicate}
 use Rattle.text.specs.Words.{contains}
 use Rattle.config.specs.Line.{Says, writer, field, bad, newline, saysOf}
@@ -36,11 +36,14 @@ emptyConfig = record { writers = 0; fields = 0; ids = replicate 16 0; sizes = re
 abbrev pub isNew : List ℕ → ℕ → ℕ → Bool
 isNew ids n id = cond (leb 16 n) false (not (contains id (take n ids)))
 
--- whether a line may stand after those that made the configuration: a field needs a writer above it, and is at most the 64th
-abbrev pub permits : Config → Says → Bool
-permits c (writer id size) = isNew (c .ids) (c .writers) id
-permits c (field t) = not (eqb (c .writers) 0 || leb 64 (c .fields))
-permits c bad = false
+-- whether a line may come after so many writers, with these ids, and so many fields: a field needs a writer above it, and is at most the 64th
+abbrev pub permits : List ℕ → ℕ → ℕ → Says → Bool
+permits ids writers fields (writer id size) = isNew ids writers id
+permits ids writers fields (field t) = not (eqb writers 0) && ltb fields 64
+permits ids writers fields bad = false
+
+abbrev pub mayFollow : Config → Says → Bool
+mayFollow c y = permits (c .ids) (c .writers) (c .fields) y
 
 -- the configuration with what the line says: one writer more, whose fields come after those so far; one field more
 abbrev pub with : Config → Says → Config
@@ -72,7 +75,7 @@ badLine n = record { number = 16; place = n; config = emptyConfig }
 -- the lines in order, from line n: the first one that is not permitted is answered
 abbrev pub readLines : Config → ℕ → List TextLine → ConfigRead
 readLines c n [] = accepted c
-readLines c n (l ∷ ls) = cond (permits c (lineSays l)) (readLines (with c (lineSays l)) (n + 1) ls) (badLine n)
+readLines c n (l ∷ ls) = cond (mayFollow c (lineSays l)) (readLines (with c (lineSays l)) (n + 1) ls) (badLine n)
 
 -- a text's configuration, or its first bad line
 unfoldable pub configOf : List ℕ → ConfigRead

@@ -1,9 +1,9 @@
 -- A line of the configuration text, document 01: "Tab-parted lines, each ended by a newline, decimals without leading zeros. A line begins with one of the
 -- fixed words: `writer`, id (0 to 65,535), size (`-` or 1 to 65,535); `field`, a fixed type's number, for the writer above."
-use Prim.Native.Nat.{ℕ, _+_}
-use mathlib.Core.Bool.{Bool, true, false, cond}
+use mathlib.Core.Bool.{Bool, false, cond}
 use mathlib.Core.List.{List, [], _∷_}
 use mathlib.Core.Option.{Option, none, some}
+use Prim.Native.Nat.{ℕ, _+_}
 use lib.Dec.{eqb}
 use lib.ListN.{drop}
 use Rattle.text.specs.Words.{indexOf, contains, upTo, past, startsWith}
@@ -68,11 +68,16 @@ abbrev pub saysOf : List ℕ → Says
 saysOf line =
     cond (startsWith line writerWord) (writerRest (drop 7 line)) (cond (startsWith line fieldWord) (fieldRest (drop 6 line)) bad)
 
--- as the code answers it, with the position after the newline
+-- as the code answers it, with the position after the newline; and back
 abbrev pub asLine : Says → ℕ → Line
 asLine (writer id size) next = Writer id size next
 asLine (field t) next = Field t next
 asLine bad next = Bad
+
+abbrev pub saysIn : Line → Says
+saysIn (Writer id size next) = writer id size
+saysIn (Field t next) = field t
+saysIn Bad = bad
 
 -- a text up to its first newline, read as `f` says; without newline it is no line
 abbrev pub lineBy : (List ℕ → Says) → List ℕ → ℕ → Line

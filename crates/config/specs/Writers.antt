@@ -1,8 +1,8 @@
 -- What a configuration says of its writers: their ids, sizes and starts in order, and the types of all fields. A size of 0 is none; a writer's start is
 -- how many fields stand before its own.
-use Prim.Native.Nat.{ℕ, _+_, _-_}
 use mathlib.Core.Bool.{Bool, cond, not}
 use mathlib.Core.List.{List, [], _∷_}
+use Prim.Native.Nat.{ℕ, _+_, _-_}
 use lib.Dec.{ltb}
 use lib.ListN.{length, getD, take, drop}
 use Rattle.text.specs.Words.{indexOf, contains}

@@ -1,6 +1,6 @@
 // The configuration: document 01, "Configuration and listing". Its text is read into a record of arrays; what the
 // configuration says of a writer is asked of the record's arrays, lent as slices.
-pub mod line;
+mod line;
 pub mod writers;
 
 use line::Line;
@@ -9,7 +9,8 @@ use writers::first;
 use writers::has_writer;
 ghost use mathlib.Core.Path.{_≡_};
 ghost use Prim.Native.Nat.{_≤_};
-ghost use Rattle.config.specs.Config.{emptyConfig, badLine, isNew, configOf};
+ghost use Rattle.config.specs.Line.{saysIn};
+ghost use Rattle.config.specs.Config.{emptyConfig, badLine, isNew, permits, configOf};
 
 // The writers in order: each with its id, its size (0 where it has none) and how many fields stand before its own;
 // and the types of all fields. Only the first `writers` and the first `fields` entries say something.
@@ -63,20 +64,32 @@ fn is_new(ids: &[u16], n: usize, id: u16) -> bool
     !has_writer(first(ids, n), id)
 }
 
+// May the line come after so many writers, with these ids, and so many fields?
+fn permitted(ids: &[u16], writers: usize, fields: usize, line: Line) -> bool
+    ensures { λ r. ⌜ r ≡ permits (now (ids .entry)) writers fields (saysIn line) ⌝ }
+{
+    match line {
+        Line::Writer(id, _, _) => is_new(ids, writers, id),
+        Line::Field(_, _) => (writers != 0) & (fields < 64),
+        Line::Bad => false,
+    }
+}
+
 // A text's configuration, or its first bad line.
 pub fn read_config(s: &[u8]) -> ConfigRead
     ensures { λ r. ⌜ r ≡ configOf (now (s .entry)) ⌝ }
 {
     let mut config = empty();
-    let mut line: usize = 1;
+    let mut number: usize = 1;
     let mut at: usize = 0;
     while at < s.len() {
-        match read_line(s, at) {
+        let line = read_line(s, at);
+        if !permitted(&config.ids, config.writers, config.fields, line) {
+            return bad_line(number);
+        }
+        match line {
             Line::Writer(id, size, next) => {
                 let n = config.writers;
-                if !is_new(&config.ids, n, id) {
-                    return bad_line(line);
-                }
                 config.ids[n] = id;
                 config.sizes[n] = size;
                 config.starts[n] = config.fields as u8;
@@ -85,18 +98,13 @@ pub fn read_config(s: &[u8]) -> ConfigRead
             }
             Line::Field(kind, next) => {
                 let n = config.fields;
-                if (config.writers == 0) | (64 <= n) {
-                    return bad_line(line);
-                }
                 config.types[n] = kind;
                 config.fields = n + 1;
                 at = next;
             }
-            Line::Bad => {
-                return bad_line(line);
-            }
+            Line::Bad => return bad_line(number),
         }
-        line += 1;
+        number += 1;
     }
     ConfigRead {
         number: 0,

@@ -1,6 +1,5 @@
 -- The messages of an accepted payload tile it exactly.
 -- Assumes nothing.
--- the sizes of the messages of an accepted payload
 use Prim.Native.Nat.{ℕ, zero, suc, _+_, _*_, _-_, _≤_, _<_}
 use mathlib.Core.Path.{_≡_, refl, ap, sym, _∙_}
 use mathlib.Core.Bool.{Bool, true, false, cond, _&&_}
@@ -17,9 +16,10 @@ use Rattle.network_message.specs.declared.payload.Payload.{Payload}
 use Rattle.wire.specs.Number.{le}
 use Rattle.wire.specs.Answer.{got, refused, item}
 use Rattle.wire.proofs.Reading.{got-value, not-got}
-use Rattle.network_message.proofs.Tallies.{and-left, and-right}
+use Rattle.wire.proofs.Facts.{and-left, and-right}
 use Rattle.network_message.proofs.Messages.{Tiles}
 
+-- the sizes of the messages of an accepted payload
 abbrev pub Tiled : Payload → List ℕ → List ℕ → Type 0
 Tiled p sizes s = (zs : List ℕ) × Tiles p sizes s zs
 

@@ -9,7 +9,7 @@ use borrow.Author.Tests.{eq-eqb, ne-eqb, eqb-true}
 use Rattle.network_message.specs.PublisherRecord.{Publisher, sameText, samePublisher}
 use Rattle.network_message.specs.declared.publisher.PublisherId.{PublisherId}
 use Rattle.network_message.specs.declared.publisher_record.PublisherRecord.{PublisherRecord}
-use Rattle.network_message.proofs.Tallies.{and-left, and-right}
+use Rattle.wire.proofs.Facts.{and-left, and-right}
 
 same-text-true : (a b : List ℕ) → sameText a b ≡ true → a ≡ b
 unfolding sameText

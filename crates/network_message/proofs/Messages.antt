@@ -1,6 +1,5 @@
 -- Laws of walking over the messages of a payload, and the theorem that the messages of an accepted payload tile it.
 -- Assumes nothing.
--- past a list's end there is 0
 use Prim.Native.Nat.{ℕ, zero, suc, _+_, _-_, _≤_, _<_}
 use mathlib.Core.Path.{_≡_, refl, ap, sym, _∙_}
 use mathlib.Core.Bool.{Bool, true, false}
@@ -17,11 +16,6 @@ use Rattle.network_message.specs.declared.payload.MessagePlace.{MessageP
 use Rattle.wire.specs.Answer.{got, refused, run}
 use Rattle.wire.proofs.Reading.{not-got}
 use Rattle.network_message.proofs.Tallies.{total-next}
-
-pub none-past : (xs : List ℕ) (k : ℕ) → length xs ≤ k → getD xs k 0 ≡ 0
-none-past [] k h = refl
-none-past (x ∷ xs) zero h = absurd (not-suc-le-zero h)
-none-past (x ∷ xs) (suc k) h = none-past xs k (omega arith)
 
 module _ (p : Payload) (sizes s : List ℕ) (at : ℕ) where
   pub pass-none : passAt p sizes 0 s at ≡ got tt at

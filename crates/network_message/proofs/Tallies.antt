@@ -1,9 +1,8 @@
 -- Laws of lists of sizes: one size more, from the front and from the back.
 -- Assumes nothing.
--- the sizes of a list on the wire, one after the other
 use Prim.Native.Nat.{ℕ, zero, suc, _+_, _-_, _≤_, _<_}
 use mathlib.Core.Path.{_≡_, refl, ap, sym, _∙_}
-use mathlib.Core.Bool.{Bool, true, false, _&&_, and-assoc, and-true}
+use mathlib.Core.Bool.{Bool, _&&_, and-assoc, and-true}
 use mathlib.Core.List.{List, [], _∷_, _++_}
 use native.Mathlib.Nat.{not-suc-le-zero}
 use native.Mathlib.Numerals.{sub-one, add-one}
@@ -17,6 +16,7 @@ use Rattle.wire.specs.Number.{le}
 use Rattle.wire.specs.Answer.{item, got, refused}
 use Rattle.wire.proofs.Reading.{got-value, not-got}
 
+-- the sizes of a list on the wire, one after the other
 pub listed-step : (left : ℕ) (s : List ℕ) (p : ℕ) → 0 < left → listed left s p ≡ le 2 s p ∷ listed (left - 1) s (p + 2)
 listed-step zero s p h = absurd (not-suc-le-zero h)
 listed-step (suc n) s p h = rw sub-one
@@ -50,13 +50,3 @@ size-is s at v n h e = sym (got-value (rw (le-leb (at + 2) (length s) h) at e))
 
 pub size-there : (s : List ℕ) (at n p : ℕ) → at + 2 ≤ length s → item 2 s at ≡ refused n p → ⊥
 size-there s at n p h e = not-got (sym (rw (le-leb (at + 2) (length s) h) at e))
-
--- both parts of a test
-pub and-left : (a b : Bool) → (a && b) ≡ true → a ≡ true
-and-left true b e = refl
-and-left false b e = e
-
-pub and-right : (a b : Bool) → (a && b) ≡ true → b ≡ true
-and-right true b e = e
-and-right false true e = refl
-and-right false false e = e

@@ -1,5 +1,4 @@
 // DataSetClassId, PayloadHeader and promoted fields.
-use crate::payload::rest_size;
 use crate::payload::writers;
 use wire::Guid;
 use wire::Item8;
@@ -115,7 +114,7 @@ fn listed_id(s: &[u8], n: u8, end: usize, k: usize) -> Optional16
     if count <= k {
         return Optional16::Absent;
     }
-    let Item16::Is(v, _) = wire::read16(s, rest_size(end, 2 * count) + 2 * k) else {
+    let Item16::Is(v, _) = wire::read16(s, wire::left(end, 2 * count) + 2 * k) else {
         return Optional16::Absent;
     };
     Optional16::Is(v)

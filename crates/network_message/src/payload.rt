@@ -3,7 +3,7 @@ use crate::header::PayloadHeader;
 use wire::Item16;
 use wire::Run;
 ghost use mathlib.Core.Path.{_≡_};
-ghost use Prim.Native.Nat.{_+_, _*_, _-_, _≤_};
+ghost use Prim.Native.Nat.{_+_, _*_, _≤_};
 ghost use lib.ListN.{length, take, getD};
 ghost use Rattle.wire.specs.Number.{le};
 ghost use Rattle.wire.specs.Answer.{item};
@@ -244,21 +244,11 @@ fn configured_size(sizes: &[u16], k: usize) -> usize
     sizes[k] as usize
 }
 
-// How much of a slice of this length is left from a position on.
-pub fn rest_size(len: usize, at: usize) -> usize
-    ensures { λ r. ⌜ r ≡ len - at ⌝ }
-{
-    if len < at {
-        return 0;
-    }
-    len - at
-}
-
 fn message_size(s: &[u8], kind: Sizes, sizes: &[u16], k: usize, at: usize) -> usize
     ensures { λ r. ⌜ r ≡ sizeOf kind (now (sizes .entry)) k (now (s .entry)) at ⌝ }
 {
     match kind {
-        Sizes::Rest => rest_size(s.len(), at),
+        Sizes::Rest => wire::left(s.len(), at),
         Sizes::Listed(p) => listed_size(s, p, k),
         Sizes::Configured => configured_size(sizes, k),
     }

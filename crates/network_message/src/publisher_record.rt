@@ -1,5 +1,4 @@
 // A PublisherId by value with the bytes of a string, for records that outlive the datagram, and its equality.
-use crate::payload::rest_size;
 use crate::publisher::PublisherId;
 use wire::part::part;
 use wire::store::put_run;
@@ -100,6 +99,6 @@ pub fn publisher_record(s: &[u8], id: PublisherId, end: usize) -> PublisherRecor
 {
     let mut text = [0u8; 64];
     let n = text_length(id);
-    put_run(&mut text, 0, part(s, rest_size(end, n), n));
+    put_run(&mut text, 0, part(s, wire::left(end, n), n));
     PublisherRecord { id, text }
 }

@@ -1,9 +1,8 @@
 // Datagrams of document 01's section "The envelope", of Annex A's header layouts, and of each refusal at each place. A line of
 // standard input has a letter for the configured writers, a space, the datagram in hex, a space and words. It is written again with
 // the PublisherId and each message as writer id, offset and length, or with `bad`, number and place.
-mod report;
-
 use libc::STDIN_FILENO;
+use libc::STDOUT_FILENO;
 use network_message::envelope::NetworkMessageRead;
 use network_message::envelope::message;
 use network_message::envelope::read;
@@ -13,15 +12,66 @@ use network_message::payload::MessageCursor;
 use network_message::payload::MessagePlace;
 use network_message::payload::MessageStep;
 use network_message::payload::Payload;
-use report::number;
-use report::optional;
-use report::publisher;
-use report::put;
-use report::refused;
+use network_message::publisher::PublisherId;
 use text::hex::read_hex;
 use text::words::find;
+use wire::optional::Optional16;
 use wire::part::part;
 use wire::part::tail;
+
+fn put(text: &[u8]) {
+    io::write_all(STDOUT_FILENO, text);
+}
+
+fn number(n: usize) {
+    put(b" ");
+    io::print_decimal(STDOUT_FILENO, n as u64);
+}
+
+fn refused(n: u8, place: usize) {
+    put(b" bad");
+    number(n as usize);
+    number(place);
+}
+
+fn optional(x: Optional16) {
+    match x {
+        Optional16::Absent => put(b" -"),
+        Optional16::Is(v) => number(v as usize),
+    }
+}
+
+fn wide_number(n: u64) {
+    put(b" ");
+    io::print_decimal(STDOUT_FILENO, n);
+}
+
+// The id's type and its number; of a string its length.
+fn publisher(id: PublisherId) {
+    match id {
+        PublisherId::Absent => put(b" -"),
+        PublisherId::Byte(v) => {
+            put(b" u8");
+            number(v as usize);
+        }
+        PublisherId::UInt16(v) => {
+            put(b" u16");
+            number(v as usize);
+        }
+        PublisherId::UInt32(v) => {
+            put(b" u32");
+            wide_number(v as u64);
+        }
+        PublisherId::UInt64(v) => {
+            put(b" u64");
+            wide_number(v);
+        }
+        PublisherId::Text(n) => {
+            put(b" str");
+            number(n);
+        }
+    }
+}
 
 // What is said of one message: its writer id and its place. Its part of the datagram has its length.
 fn show_message(s: &[u8], header: PayloadHeader, end: usize, sizes: &[u16], m: MessagePlace) {

@@ -1,7 +1,7 @@
 -- Document 01, "Newness": d = (received - 1 - last) modulo 65,536. Below 16,384 newer, above 49,152 old or same, else invalid.
 -- The record of the last number is lent and changed in place, by "newer" only; before any number, each is newer.
-use Prim.Native.Nat.{ℕ, _+_, _-_, _%_}
 use mathlib.Core.Bool.{true, false, cond}
+use Prim.Native.Nat.{ℕ, _+_, _-_, _%_}
 use lib.Dec.{ltb}
 use Rattle.sequence.specs.declared.Newness.{Newness}
 use Rattle.sequence.specs.declared.Newness.the-variants.{Newer, OldOrSame, Invalid}

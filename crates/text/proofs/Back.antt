@@ -1,20 +1,19 @@
 -- What was put is read back: a decimal up to the byte that ends it, and hex.
 -- Assumes nothing.
-use mathlib.Core.Path.{_≡_, refl, sym, _∙_, ap}
-use mathlib.Core.Bool.{true, false, true≢false}
+use mathlib.Core.Path.{_≡_, refl}
+use mathlib.Core.Bool.{true, false}
 use mathlib.Core.List.{List, [], _∷_, _++_}
 use mathlib.Core.Logic.{⊎-elim}
 use mathlib.Core.Option.{some}
-use Prim.Native.Nat.{ℕ, suc, _+_, _*_, _-_, _/_, _%_, _≤_, _<_}
+use Prim.Native.Nat.{ℕ, _+_, _*_, _-_, _/_, _%_, _≤_, _<_}
 use native.Mathlib.Omega.{arith}
-use borrow.Author.Tests.{eq-eqb, ne-eqb, le-ltb, le-leb, lt-leb, ltb-true, ltb-false}
-use lib.Dec.{eqb, ltb}
+use borrow.Author.Tests.{ne-eqb, le-ltb, le-leb, lt-leb, ltb-true, ltb-false}
+use lib.Dec.{ltb}
 use lib.ListN.{length, drop}
-use Rattle.text.specs.Words.{contains, indexOf, upTo}
 use Rattle.text.specs.Decimal.{isDigit, allDigits, decimalAt, decimalText}
 use Rattle.text.specs.Hex.{hexDigit, hexText, hexValue, allHex, hexBytes, hexOf}
 use Rattle.text.specs.declared.decimal.Decimal.the-variants.{Is}
-use Rattle.text.proofs.Lists.{cases, and-left, and-right}
+use Rattle.wire.proofs.Facts.{cases}
 use Rattle.text.proofs.Parts.{digits-contain, digits-place, digits-before}
 use Rattle.text.proofs.Numerals.{decimal-all-digits, decimal-back}
 use Rattle.text.proofs.Putting.{hex-length}

@@ -13,7 +13,8 @@ use Rattle.text.specs.Words.{contains, indexOf, upTo}
 use Rattle.text.specs.Decimal.{isDigit, allDigits, valueFrom, digitsFrom, digitsAt, decimalAt, plain, placed, endedBy}
 use Rattle.text.specs.declared.decimal.Decimal.{Decimal}
 use Rattle.text.specs.declared.decimal.Decimal.the-variants.{Is, Not}
-use Rattle.text.proofs.Lists.{either-way, and-left, and-right, at-next, at-end}
+use Rattle.wire.proofs.Facts.{and-left, and-right}
+use Rattle.text.proofs.Lists.{either-way, at-next, at-end}
 
 pub grows : (n : ℕ) (ds : List ℕ) → n ≤ valueFrom n ds
 grows n [] = omega arith

@@ -12,7 +12,7 @@ use borrow.Author.Tests.{lt-ltb, le-ltb, ltb-true, ltb-false, le-leb, ne-eqb}
 use lib.Dec.{ltb}
 use lib.ListN.{length, length-append}
 use Rattle.text.specs.Decimal.{isDigit, allDigits, valueFrom, valueOf, plain, decimalOf, digitsText, decimalText}
-use Rattle.text.proofs.Lists.{cases, and-left, and-right}
+use Rattle.wire.proofs.Facts.{cases, and-left, and-right}
 
 -- any bound above n gives the same digits
 same-digits : (k m n : ℕ) → n < k → n < m → digitsText k n ≡ digitsText m n

@@ -3,7 +3,7 @@
 use mathlib.Core.Path.{_≡_, refl, sym, _∙_, ap}
 use mathlib.Core.Bool.{Bool, true, false, cond, true≢false, false≢true, or-true, and-false}
 use mathlib.Core.List.{List, [], _∷_, _++_, append-nil}
-use mathlib.Core.Logic.{_⊎_, inl, inr, ⊎-elim}
+use mathlib.Core.Logic.{_⊎_, ⊎-elim}
 use mathlib.Core.Option.{Option, none, some}
 use Prim.Native.Nat.{ℕ, zero, suc, _+_, _≤_, _<_}
 use native.Mathlib.Nat.{add-zero, zero-add, suc-add}
@@ -12,10 +12,11 @@ use borrow.Author.Tests.{eq-eqb, ne-eqb, eqb-true, leb-true}
 use lib.Dec.{eqb, leb}
 use lib.ListN.{length, take, drop}
 use Rattle.text.specs.Words.{contains, indexOf, upTo, past, startsWith}
-use Rattle.text.specs.Decimal.{isDigit, allDigits, plain, valueOf, digitsOf, decimalOf, placed, endedBy}
+use Rattle.text.specs.Decimal.{isDigit, allDigits, plain, valueOf, decimalOf, placed, endedBy}
 use Rattle.text.specs.declared.decimal.Decimal.{Decimal}
 use Rattle.text.specs.declared.decimal.Decimal.the-variants.{Is, Not}
-use Rattle.text.proofs.Lists.{cases, either-way, and-left, and-right}
+use Rattle.wire.proofs.Facts.{cases, and-left, and-right}
+use Rattle.text.proofs.Lists.{either-way}
 
 -- a byte that a text contains stands before the text's end
 pub contains-place : (x : ℕ) (t : List ℕ) → contains x t ≡ true → indexOf x t < length t

@@ -16,7 +16,8 @@ use Rattle.wire.proofs.Stores.{sets-append}
 use Rattle.text.specs.Decimal.{decimalText}
 use Rattle.text.specs.Hex.{hexDigit, hexText, hexValue, allHex, hexBytes, hexNext, hexAfter}
 use Rattle.text.specs.declared.hex.Hex.the-variants.{To, Not}
-use Rattle.text.proofs.Lists.{cases, and-left, and-right, at-next, at-end}
+use Rattle.wire.proofs.Facts.{cases, and-left, and-right}
+use Rattle.text.proofs.Lists.{at-next, at-end}
 use Rattle.text.proofs.Numerals.{decimal-one, decimal-more}
 
 -- one byte stored behind a run, before it or after it

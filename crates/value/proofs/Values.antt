@@ -17,8 +17,8 @@ use Rattle.value.specs.Plain.{passing, bytes, afterLength, byLength, str
 use Rattle.value.specs.Value.{measure, typeOf, isArray, variantRule, scalar, elements, array, variantOf, maskRule, parts, dataValueOf, tooDeep, valueAt, rawAt}
 use Rattle.value.specs.declared.Shape.{Shape}
 use Rattle.value.specs.declared.Measure.{Measure}
-use Rattle.value.proofs.Places.{movedBy, end-of, within-refused, local, append, append-refused, take-refused, cut, after, placed, alone}
-use Rattle.value.proofs.Steady.{Ends, Steady, Onward, steadily, refusing, pure-steady, refuse-steady, item-steady, length-item-steady, run-steady, onward-steady, bind-steady, then-steady, cond-steady, when-steady, each-steady, ruled-ends, ruled-steady, taking-ends, then-ends}
+use Rattle.wire.proofs.Places.{movedBy, end-of, within-refused, local, append, append-refused, take-refused, cut, after, placed, alone}
+use Rattle.wire.proofs.Steady.{Ends, Steady, Onward, steadily, refusing, pure-steady, refuse-steady, item-steady, length-item-steady, run-steady, onward-steady, bind-steady, then-steady, cond-steady, when-steady, each-steady, ruled-ends, ruled-steady, taking-ends, then-ends}
 
 pub passing-steady : {A : Type 0} {r : Reader A} → Steady r → Steady (passing r)
 passing-steady f = then-steady f (pure-steady tt)

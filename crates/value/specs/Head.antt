@@ -3,7 +3,7 @@ use Prim.Native.Nat.{ℕ}
 use mathlib.Core.Bool.{cond}
 use mathlib.Core.List.{List}
 use lib.Dec.{eqb}
-use Rattle.wire.specs.Answer.{Answer, got, refused, Reader, andThen, _>>=_, _>>_, pure, each}
+use Rattle.wire.specs.Answer.{Answer, got, refused, Reader, andThen, _>>_, pure, each}
 use Rattle.value.specs.Value.{answerMeasured, parts}
 use Rattle.value.specs.declared.Measure.{Measure}
 use Rattle.value.specs.declared.head.Inside.{Inside}

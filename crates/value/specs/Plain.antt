@@ -2,15 +2,10 @@
 use Prim.Native.Nat.{ℕ, _*_}
 use mathlib.Core.List.{[], _∷_}
 use mathlib.Core.Bool.{Bool, cond, _||_}
-use Rattle.wire.specs.Answer.{Answer, got, refused, Reader, andThen, _>>_, pure, run, each}
+use Rattle.wire.specs.Answer.{refused, Reader, andThen, _>>_, pure, run, each}
 use Rattle.wire.specs.Items.{lengthItem}
 use Rattle.wire.specs.declared.Length.{Length}
 use Rattle.value.specs.Width.{among, widthOf, fixed}
-use Rattle.value.specs.declared.plain.Reached.{Reached}
-
-abbrev pub answerReached : Reached → Answer (Unit {0})
-answerReached (Reached.To next) = got tt next
-answerReached (Reached.Refused n place) = refused n place
 
 -- what r reads, passed over
 abbrev pub passing : {A : Type 0} → Reader A → Reader (Unit {0})

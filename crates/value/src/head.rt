@@ -3,18 +3,23 @@ use crate::Measure;
 use crate::Measured;
 use crate::Shape;
 use crate::measured_to;
+use crate::plain::bytes_at;
 use crate::plain::is_plain;
 use crate::plain::plain_value;
-use crate::plain::plain_values;
+use crate::plain::strings_at;
+use crate::width::width;
 use wire::Item8;
 use wire::ItemLength;
 use wire::Length;
+use wire::Reached;
 use wire::read_length;
 use wire::read8;
 ghost use mathlib.Core.Path.{_≡_};
 ghost use mathlib.Core.List.{List};
 ghost use Prim.Native.Nat.{ℕ, _<_};
 ghost use Rattle.wire.specs.Answer.{Reader};
+ghost use Rattle.wire.specs.Items.{answerReached};
+ghost use Rattle.value.specs.Plain.{plainValues};
 ghost use Rattle.value.specs.Value.{taken, variantRule, maskRule, scalar, arrayOf, array, variantOf, dataValueOf, valueOf};
 ghost use Rattle.value.specs.Head.{finish, judged};
 
@@ -85,6 +90,18 @@ fn scalar_head(s: &[u8], at: usize, t: u8) -> Head
         mask: 0,
         found,
     })
+}
+
+// n values of a plain type. A count is below 2^31.
+fn plain_values(s: &[u8], at: usize, t: u8, n: usize) -> Reached
+    requires { ⌜ n < 2147483648 ⌝ }
+    ensures { λ r. ⌜ answerReached r ≡ plainValues t n (now (s .entry)) at ⌝ }
+{
+    let w = width(t);
+    if 0 < w {
+        return bytes_at(s, at, n * w);
+    }
+    strings_at(s, at, n)
 }
 
 // The n elements of an array of type t.

@@ -5,13 +5,14 @@ pub mod width;
 
 use head::Head;
 use head::head_at;
-use plain::Reached;
 use plain::bytes_at;
 use width::width;
+use wire::Reached;
 use wire::has;
 ghost use mathlib.Core.Path.{_≡_};
 ghost use Rattle.wire.specs.Answer.{got, andThen, whenOn};
-ghost use Rattle.value.specs.Plain.{answerReached, bytes};
+ghost use Rattle.wire.specs.Items.{answerReached};
+ghost use Rattle.value.specs.Plain.{bytes};
 ghost use Rattle.value.specs.Value.{answerMeasured, parts, tooDeep, valueAt, variantAt, dataValueAt, rawAt};
 
 // A scalar, a null array, or an array with its element count.

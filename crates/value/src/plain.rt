@@ -2,18 +2,13 @@
 use crate::width::width;
 use wire::ItemLength;
 use wire::Length;
+use wire::Reached;
 use wire::has;
 use wire::read_length;
 ghost use mathlib.Core.Path.{_≡_};
-ghost use Prim.Native.Nat.{_<_};
 ghost use Rattle.wire.specs.Answer.{each};
-ghost use Rattle.value.specs.Plain.{answerReached, bytes, string, plain, plainValue, plainValues};
-
-// The position after what was passed over, or the number and place of its refusal.
-pub(crate) enum Reached {
-    To(usize),
-    Refused(u8, usize),
-}
+ghost use Rattle.wire.specs.Items.{answerReached};
+ghost use Rattle.value.specs.Plain.{bytes, string, plain, plainValue};
 
 // n bytes, one item.
 pub(crate) fn bytes_at(s: &[u8], at: usize, n: usize) -> Reached
@@ -40,7 +35,7 @@ fn string_at(s: &[u8], at: usize) -> Reached
 }
 
 // n Strings or ByteStrings, one after the other.
-fn strings_at(s: &[u8], at: usize, n: usize) -> Reached
+pub(crate) fn strings_at(s: &[u8], at: usize, n: usize) -> Reached
     ensures { λ r. ⌜ answerReached r ≡ each string n (now (s .entry)) at ⌝ }
 {
     let mut p = at;
@@ -64,10 +59,7 @@ fn strings_at(s: &[u8], at: usize, n: usize) -> Reached
 pub(crate) fn is_plain(t: u8) -> bool
     ensures { λ r. ⌜ r ≡ plain t ⌝ }
 {
-    if 0 < width(t) {
-        return true;
-    }
-    (t == 12) | (t == 15)
+    ((1 <= t) & (t <= 15)) | (t == 19)
 }
 
 // One value of a plain type.
@@ -79,16 +71,4 @@ pub(crate) fn plain_value(s: &[u8], at: usize, t: u8) -> Reached
         return bytes_at(s, at, w);
     }
     string_at(s, at)
-}
-
-// n of them. A count is below 2^31.
-pub(crate) fn plain_values(s: &[u8], at: usize, t: u8, n: usize) -> Reached
-    requires { ⌜ n < 2147483648 ⌝ }
-    ensures { λ r. ⌜ answerReached r ≡ plainValues t n (now (s .entry)) at ⌝ }
-{
-    let w = width(t);
-    if 0 < w {
-        return bytes_at(s, at, n * w);
-    }
-    strings_at(s, at, n)
 }

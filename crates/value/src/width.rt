@@ -4,7 +4,7 @@ ghost use Prim.Native.Nat.{_≤_};
 ghost use Rattle.value.specs.Width.{widthOf};
 
 // From the number of a built-in type to its width in bytes; 0 where the type is not fixed.
-const WIDTHS: [usize; 26] = [
+const WIDTHS: [u8; 26] = [
     0,
     1,
     1,
@@ -40,5 +40,5 @@ pub fn width(t: u8) -> usize
     if 26 <= t {
         return 0;
     }
-    WIDTHS[t as usize]
+    WIDTHS[t as usize] as usize
 }

@@ -1,3 +1,8 @@
+pub mod Facts
 pub mod Numbers
 pub mod Reading
+pub mod Steady
+pub mod Places
+pub mod Each
 pub mod Stores
+pub mod Table

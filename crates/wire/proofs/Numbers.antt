@@ -1,6 +1,5 @@
 -- Laws of little-endian numbers, over the width, and of the signed numbers that they stand for.
 -- Assumes nothing.
--- a number of a + b bytes is the low a bytes and 256^a times the b bytes after them
 use mathlib.Core.Path.{_≡_, refl, ap, sym, _∙_, subst}
 use mathlib.Core.List.{List, _++_}
 use mathlib.Core.Bool.{Bool, true, false}
@@ -19,6 +18,7 @@ use Rattle.wire.specs.Number.{le, leBytes, signed, unsigned}
 use Rattle.wire.specs.Items.{lengthOf}
 use Rattle.wire.specs.declared.Length.{Length}
 
+-- a number of a + b bytes is the low a bytes and 256^a times the b bytes after them
 pub split : (a b : ℕ) (s : List ℕ) (at : ℕ) → le (a + b) s at ≡ le a s at + 256 ^ a * le b s (at + a)
 split zero b s at = simp (zero-add, add-zero, one-mul)
 split (suc a) b s at =

@@ -1,6 +1,5 @@
 -- Laws of the test whether an item fits, and of answers.
 -- Assumes nothing.
--- two tests are equal where each follows from the other
 use mathlib.Core.Path.{_≡_, refl, ap, sym, _∙_}
 use mathlib.Core.Bool.{Bool, true, false, not}
 use Prim.Native.Nat.{ℕ, _+_, _≤_}
@@ -12,6 +11,7 @@ use borrow.Author.Tests.{leb-true, le-leb, not-true, not-false}
 use Rattle.wire.specs.Answer.{Answer, got, refused, andThen, item, signedItem}
 use Rattle.wire.specs.Number.{signed}
 
+-- two tests are equal where each follows from the other
 pub leb-same : (a b c d : ℕ) → (a ≤ b → c ≤ d) → (c ≤ d → a ≤ b) → leb a b ≡ leb c d
 leb-same a b c d f g = go (leb a b) refl (leb c d) refl
   where

@@ -1,6 +1,5 @@
 -- Laws of runs of bytes stored into a buffer.
 -- Assumes nothing.
--- two runs, one after the other
 use mathlib.Core.Path.{_≡_, ap, sym, _∙_}
 use mathlib.Core.List.{List, [], _∷_, _++_}
 use mathlib.Core.Bool.{true, false}
@@ -14,6 +13,7 @@ use Rattle.wire.specs.Number.{leBytes}
 use Rattle.wire.specs.Store.{laid}
 use Rattle.wire.proofs.Numbers.{split-bytes, length-leBytes}
 
+-- two runs, one after the other
 pub sets-append : (x y l : List ℕ) (i : ℕ) → sets (sets l i x) (i + length x) y ≡ sets l i (x ++ y)
 sets-append [] y l i = rw add-zero
 sets-append (a ∷ x) y l i =

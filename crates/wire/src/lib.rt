@@ -5,7 +5,7 @@ pub mod part;
 pub mod store;
 
 ghost use mathlib.Core.Path.{_≡_};
-ghost use Prim.Native.Nat.{_+_, _≤_, _<_, _^_};
+ghost use Prim.Native.Nat.{_+_, _-_, _≤_, _<_, _^_};
 ghost use lib.ListN.{length};
 ghost use lib.Dec.{leb};
 ghost use Rattle.wire.specs.Number.{le, signed, unsigned};
@@ -50,6 +50,12 @@ pub enum Run {
     Short,
 }
 
+// The position after what was passed over, or the number and place of its refusal.
+pub enum Reached {
+    To(usize),
+    Refused(u8, usize),
+}
+
 // 16 bytes, as two numbers of 8.
 pub struct Guid {
     pub low: u64,
@@ -81,6 +87,16 @@ pub fn has(len: usize, at: usize, n: usize) -> bool
         return n <= len - at;
     }
     false
+}
+
+// How many bytes are left from a position on in a slice that is len bytes long.
+pub fn left(len: usize, at: usize) -> usize
+    ensures { λ r. ⌜ r ≡ len - at ⌝ }
+{
+    if len < at {
+        return 0;
+    }
+    len - at
 }
 
 // The numbers of the 1, 2, 4 and 8 bytes from a position.

@@ -1,12 +1,8 @@
--- `network_message_vectors::show_messages` is safe and ends. Assumes nothing.
+-- `network_message_vectors::show_messages` is safe and ends.
+-- Assumes nothing.
 use borrow.Author.Needs.{needs}
 use Rattle.network_message_vectors.proofs.show_messages.Statement.{statement}
 use Rattle.network_message_vectors.proofs.show_messages.Tie as tie
-use Rattle.network_message_vectors.proofs.show_messages.Reads as reads
-use Rattle.network_message_vectors.proofs.show_messages.Lts as lts
-use Rattle.network_message.proofs.payload.MessageCursor.step.Reads as step-reads
-use Rattle.network_message_vectors.proofs.report.refused.Reads as refused-reads
-use Rattle.network_message_vectors.proofs.show_message.Reads as show-message-reads
 
 abbrev Inv-loop : tie.InvT-loop
 Inv-loop s header end sizes p cursor₀ left₀ cursor left = Unit {0}

@@ -1,14 +1,11 @@
--- `network_message_vectors::vectors` is safe and ends. Assumes nothing.
+-- `network_message_vectors::vectors` is safe and ends.
+-- Assumes nothing.
 use Prim.Native.Nat.{_≤_, _-_}
 use mathlib.Core.Logic.{⊎-elim}
 use lib.ListN.{length}
 use borrow.Author.Needs.{needs}
 use Rattle.network_message_vectors.proofs.vectors.Statement.{statement}
 use Rattle.network_message_vectors.proofs.vectors.Tie as tie
-use Rattle.network_message_vectors.proofs.vectors.Reads as reads
-use Rattle.network_message_vectors.proofs.vectors.Lts as lts
-use Rattle.network_message_vectors.proofs.vector.Reads as vector-reads
-use Rattle.wire.proofs.part.part.Reads as part-reads
 
 abbrev Inv-loop : tie.InvT-loop
 Inv-loop text start₀ end₀ start end = (start ≤ end) × (end ≤ length text)
@@ -16,7 +13,6 @@ Inv-loop text start₀ end₀ start end = (start ≤ end) × (end ≤ length tex
 abbrev μ-loop : tie.MeasureT-loop
 μ-loop text start₀ end₀ start end = length text - end
 
--- src/main.rt:83:5
 loop-again : tie.Need-loop-again Inv-loop μ-loop
 loop-again c = ⊎-elim (λ w. search needs) (λ w. search needs) (c .if1 .came)
 

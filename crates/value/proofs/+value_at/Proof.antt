@@ -7,7 +7,7 @@ use Prim.Native.Nat.{_-_, ℕ, _<_}
 use Rattle.wire.specs.Answer.{each}
 use Rattle.wire.proofs.Reading.{told}
 use Rattle.value.specs.Value.{answerMeasured, valueAt}
-use Rattle.value.proofs.Each.{each-done, each-step, each-stop}
+use Rattle.wire.proofs.Each.{each-done, each-step, each-stop}
 use Rattle.value.proofs.Heads.{no-level, by-head, inside-refused, inside-ends}
 use borrow.Fn.Kinds.{In}
 use borrow.Fn.PlainCycle.{Measures, is, falls, and}

@@ -1,7 +1,7 @@
 -- `value::part_if` meets its contract.
 -- Assumes nothing.
 use Rattle.value.proofs.Heads.{then-none}
-use Rattle.value.specs.Plain.{answerReached}
+use Rattle.wire.specs.Items.{answerReached}
 use borrow.Author.Needs.{needs}
 use Rattle.value.proofs.part_if.Statement.{statement}
 use Rattle.value.proofs.part_if.Tie as tie

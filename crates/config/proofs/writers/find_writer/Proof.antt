@@ -1,13 +1,13 @@
+-- `config::writers::find_writer` meets its contract: what is left to search gives the same answer, counted from `i`.
+-- Assumes nothing.
+use mathlib.Core.Path.{_≡_}
+use Prim.Native.Nat.{_≤_, _+_, _-_}
+use native.Mathlib.Omega.{arith}
+use lib.ListN.{length, drop}
 use Rattle.text.proofs.Lists.{find-hit, find-miss, find-end}
 use Rattle.text.specs.Words.{indexOf}
-use lib.ListN.{length, drop}
-use native.Mathlib.Omega.{arith}
-use Prim.Native.Nat.{_≤_, _+_, _-_}
-use mathlib.Core.Path.{_≡_}
 use Rattle.config.proofs.writers.find_writer.Statement.{statement}
 use Rattle.config.proofs.writers.find_writer.Tie as tie
-use Rattle.config.proofs.writers.find_writer.Reads as reads
-use Rattle.config.proofs.writers.find_writer.Lts as lts
 
 abbrev Inv-loop : tie.InvT-loop
 Inv-loop ids id i₀ i = (i ≤ length ids) × (i + indexOf id (drop i ids) ≡ indexOf id ids)
@@ -15,37 +15,29 @@ Inv-loop ids id i₀ i = (i ≤ length ids) × (i + indexOf id (drop i ids) ≡ 
 abbrev μ-loop : tie.MeasureT-loop
 μ-loop ids id i₀ i = length ids - i
 
--- src/writers.rt:45:5
 loop-holds : tie.Need-loop-holds Inv-loop μ-loop
 loop-holds c = omega arith
 
--- src/writers.rt:46:12
 mul-if1 : tie.Need-mul-if1 Inv-loop μ-loop
 mul-if1 c = omega arith
 
--- src/writers.rt:46:12
 shared-slice-read-if1 : tie.Need-shared-slice-read-if1 Inv-loop μ-loop
 shared-slice-read-if1 c = omega arith
 
--- src/writers.rt:47:13
 returns : tie.Need-returns Inv-loop μ-loop
 returns c =
     find-hit _ _ _ (c .before .before .loop-test .taken) (c .before .before .before .loop .inv .1) (c .if1 .taken)
 
--- src/writers.rt:49:9
 add-i : tie.Need-add-i Inv-loop μ-loop
 add-i c = omega arith
 
--- src/writers.rt:45:5
 loop-less : tie.Need-loop-less Inv-loop μ-loop
 loop-less c = omega arith
 
--- src/writers.rt:45:5
 loop-again : tie.Need-loop-again Inv-loop μ-loop
 loop-again c =
     (omega arith, find-miss _ _ _ (c .before .before .loop-test .taken) (c .before .before .before .loop .inv .1) (c .if1 .left))
 
--- src/writers.rt:41:1
 returns-2 : tie.Need-returns-2 Inv-loop μ-loop
 returns-2 c = find-end _ _ _ (c .loop-test .left) (c .before .loop .inv .1)
 

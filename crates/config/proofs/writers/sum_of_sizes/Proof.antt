@@ -1,16 +1,15 @@
-use Rattle.config.proofs.Asked.{sum-next, sum-all}
-use Rattle.config.specs.Writers.{total}
-use lib.ListN.{length, take, drop, length-take}
-use borrow.Author.Needs.{needs}
+-- `config::writers::sum_of_sizes` meets its contract: the sum so far and that of the sizes left are all.
+-- Assumes nothing.
+use mathlib.Core.Path.{_≡_, _∙_, ap}
+use Prim.Native.Nat.{_≤_, _+_, _*_, _-_}
 use native.Mathlib.Omega.{arith}
 use native.Mathlib.Nat.{zero-add}
-use Prim.Native.Nat.{_≤_, _+_, _*_, _-_}
-use mathlib.Core.Path.{_≡_, _∙_, ap}
+use borrow.Author.Needs.{needs}
+use lib.ListN.{length, take, drop, length-take}
+use Rattle.config.proofs.Asked.{sum-next, sum-all}
+use Rattle.config.specs.Writers.{total}
 use Rattle.config.proofs.writers.sum_of_sizes.Statement.{statement}
 use Rattle.config.proofs.writers.sum_of_sizes.Tie as tie
-use Rattle.config.proofs.writers.sum_of_sizes.Reads as reads
-use Rattle.config.proofs.writers.sum_of_sizes.Lts as lts
-use Rattle.config.proofs.writers.first.Reads as first-reads
 
 abbrev Inv-loop : tie.InvT-loop
 Inv-loop sizes list sum₀ i₀ sum i =
@@ -19,47 +18,34 @@ Inv-loop sizes list sum₀ i₀ sum i =
 abbrev μ-loop : tie.MeasureT-loop
 μ-loop sizes list sum₀ i₀ sum i = length list - i
 
--- src/writers.rt:99:9
-first-requires : tie.Need-first-requires Inv-loop μ-loop
-first-requires c κs = search needs
-
--- src/writers.rt:102:5
 loop-holds : tie.Need-loop-holds Inv-loop μ-loop
 loop-holds c =
     (omega arith, (omega (arith, ap length (c .first .ensures), length-take 16 (c .before .before .args .sizes .now)), (omega arith, zero-add _ ∙ ap total (c .first .ensures))))
 
--- src/writers.rt:103:16
 mul-sum : tie.Need-mul-sum Inv-loop μ-loop
 mul-sum c = omega arith
 
--- src/writers.rt:103:16
 shared-slice-read-sum : tie.Need-shared-slice-read-sum Inv-loop μ-loop
 shared-slice-read-sum c = omega arith
 
--- src/writers.rt:103:16
 cast-sum : tie.Need-cast-sum Inv-loop μ-loop
 cast-sum c =
     omega (arith, c .shared-slice-known2 .given (c .before .before .loop .i))
 
--- src/writers.rt:103:9
 add-sum : tie.Need-add-sum Inv-loop μ-loop
 add-sum c =
     omega (arith, c .shared-slice-known2 .given (c .before .before .loop .i))
 
--- src/writers.rt:104:9
 add-i : tie.Need-add-i Inv-loop μ-loop
 add-i c = omega arith
 
--- src/writers.rt:102:5
 loop-less : tie.Need-loop-less Inv-loop μ-loop
 loop-less c = omega arith
 
--- src/writers.rt:102:5
 loop-again : tie.Need-loop-again Inv-loop μ-loop
 loop-again c =
     (omega arith, (c .before .before .loop .inv .1 .0, (omega (arith, c .shared-slice-known2 .given (c .before .before .loop .i)), sum-next _ _ _ _ (c .before .loop-test .taken) (c .before .before .loop .inv .1 .1 .1))))
 
--- src/writers.rt:96:1
 returns : tie.Need-returns Inv-loop μ-loop
 returns c =
     (sum-all _ _ _ _ (c .loop-test .left) (c .before .loop .inv .1 .1 .1), omega arith)
@@ -70,7 +56,7 @@ sum-of-sizes-spec =
     (tie.spec
     Inv-loop
     μ-loop
-    first-requires
+    (λ c κs. search needs)
     loop-holds
     mul-sum
     shared-slice-read-sum

@@ -14,11 +14,11 @@ returns c = rw (le-leb _ _ (c .if1 .taken))
 
 returns-2 : tie.Need-returns-2
 returns-2 c =
-    rw (lt-leb _ _ (c .before .before .before .before .if1 .left), sym (c .before .before .before .rest-size .ensures), sym (told (answer16 (c .before .before .before .rest-size .result + 2 * c .before .before .before .before .before .before .args .k)) (c .before .before .read16 .ensures) (c .enum-told .given .1)))
+    rw (lt-leb _ _ (c .before .before .before .before .if1 .left), sym (c .before .before .before .left .ensures), sym (told (answer16 (c .before .before .before .left .result + 2 * c .before .before .before .before .before .before .args .k)) (c .before .before .read16 .ensures) (c .enum-told .given .1)))
 
 returns-3 : tie.Need-returns-3
 returns-3 c =
-    rw (lt-leb _ _ (c .before .before .before .before .before .if1 .left), sym (c .before .before .before .before .rest-size .ensures), sym (told (answer16 (c .before .before .before .before .rest-size .result + 2 * c .before .before .before .before .before .before .before .args .k)) (c .before .before .before .read16 .ensures) (c .before .v .given .1)))
+    rw (lt-leb _ _ (c .before .before .before .before .before .if1 .left), sym (c .before .before .before .before .left .ensures), sym (told (answer16 (c .before .before .before .before .left .result + 2 * c .before .before .before .before .before .before .before .args .k)) (c .before .before .before .read16 .ensures) (c .before .v .given .1)))
 
 pub listed-id-spec : {M : Type 1} → statement M
 listed-id-spec =

@@ -8,7 +8,7 @@ use lib.Seq.{getD-take}
 use lib.ListN.{length}
 use borrow.Author.Needs.{needs}
 use Rattle.network_message.specs.Payload.{configuredSizes}
-use Rattle.network_message.proofs.Messages.{none-past}
+use Rattle.wire.proofs.Facts.{none-past}
 use Rattle.network_message.proofs.payload.configured_size.Statement.{statement}
 use Rattle.network_message.proofs.payload.configured_size.Tie as tie
 

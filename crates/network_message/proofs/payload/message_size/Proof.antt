@@ -6,7 +6,7 @@ use Rattle.network_message.proofs.payload.message_size.Statement.{state
 use Rattle.network_message.proofs.payload.message_size.Tie as tie
 
 returns : tie.Need-returns
-returns c = rw (c .before .enum-told .given .1) (c .rest-size .ensures)
+returns c = rw (c .before .enum-told .given .1) (c .left .ensures)
 
 returns-2 : tie.Need-returns-2
 returns-2 c = rw (c .before .before .kind .given .1) (c .listed-size .ensures)

@@ -1,4 +1,5 @@
--- `network_message::publisher_record::publisher_fits` meets its contract. Assumes nothing.
+-- `network_message::publisher_record::publisher_fits` meets its contract.
+-- Assumes nothing.
 use Prim.Native.Nat.{ℕ}
 use mathlib.Core.Path.{ap}
 use lib.Dec.{leb}
@@ -6,11 +7,7 @@ use borrow.Author.Needs.{needs}
 use Rattle.network_message.specs.PublisherRecord.{publisherFits}
 use Rattle.network_message.proofs.publisher_record.publisher_fits.Statement.{statement}
 use Rattle.network_message.proofs.publisher_record.publisher_fits.Tie as tie
-use Rattle.network_message.proofs.publisher_record.publisher_fits.Reads as reads
-use Rattle.network_message.proofs.publisher_record.publisher_fits.Lts as lts
-use Rattle.network_message.proofs.publisher_record.text_length.Reads as text-length-reads
 
--- src/publisher_record.rt:90:1
 returns : tie.Need-returns
 unfolding publisherFits
 returns c = ap (λ (n : ℕ). leb n 64) (c .text-length .ensures)

@@ -1,26 +1,18 @@
--- `network_message::publisher_record::publisher_record` meets its contract. Assumes nothing.
+-- `network_message::publisher_record::publisher_record` meets its contract.
+-- Assumes nothing.
 use Prim.Native.Nat.{ℕ, _-_}
-use mathlib.Core.List.{List}
-use mathlib.Core.Path.{_≡_, ap, _∙_}
+use mathlib.Core.Path.{ap, _∙_}
 use denote.Ref.{now}
 use lib.ListN.{take, drop, replicate}
 use borrow.Author.Needs.{needs}
-use Rattle.network_message.specs.PublisherRecord.{lengthOf, recordAt}
 use Rattle.network_message.proofs.Equality.{record-is}
 use Rattle.wire.specs.Store.{laid}
 use Rattle.network_message.proofs.publisher_record.publisher_record.Statement.{statement}
 use Rattle.network_message.proofs.publisher_record.publisher_record.Tie as tie
-use Rattle.network_message.proofs.publisher_record.publisher_record.Reads as reads
-use Rattle.network_message.proofs.publisher_record.publisher_record.Lts as lts
-use Rattle.network_message.proofs.payload.rest_size.Reads as rest-size-reads
-use Rattle.network_message.proofs.publisher_record.text_length.Reads as text-length-reads
-use Rattle.wire.proofs.part.part.Reads as part-reads
-use Rattle.wire.proofs.store.put_run.Reads as put-run-reads
 
--- src/publisher_record.rt:98:1
 returns : tie.Need-returns
 returns c =
-    record-is (c .before .before .before .before .before .before .before .args .id) (c .before .put-run .ensures ∙ ap (laid (replicate 64 0) 0) (c .before .before .part .ensures ∙ ap (λ (k : ℕ). take (c .before .before .before .before .before .text-length .result) (drop k (now (c .before .before .before .before .before .before .before .args .s)))) (c .before .before .before .rest-size .ensures) ∙ ap (λ (n : ℕ). take n (drop (c .before .before .before .before .before .before .before .args .end - n) (now (c .before .before .before .before .before .before .before .args .s)))) (c .before .before .before .before .before .text-length .ensures)))
+    record-is (c .before .before .before .before .before .before .before .args .id) (c .before .put-run .ensures ∙ ap (laid (replicate 64 0) 0) (c .before .before .part .ensures ∙ ap (λ (k : ℕ). take (c .before .before .before .before .before .text-length .result) (drop k (now (c .before .before .before .before .before .before .before .args .s)))) (c .before .before .before .left .ensures) ∙ ap (λ (n : ℕ). take n (drop (c .before .before .before .before .before .before .before .args .end - n) (now (c .before .before .before .before .before .before .before .args .s)))) (c .before .before .before .before .before .text-length .ensures)))
 
 pub publisher-record-spec : {M : Type 1} → statement M
 publisher-record-spec =

@@ -1,6 +1,6 @@
--- `network_message::publisher_record::same_publisher` meets its contract. Assumes nothing.
+-- `network_message::publisher_record::same_publisher` meets its contract.
+-- Assumes nothing.
 use Prim.Native.Nat.{ℕ}
-use mathlib.Core.List.{List}
 use mathlib.Core.Path.{sym, _∙_, ap, ap₂}
 use lib.ListN.{take}
 use borrow.Author.Needs.{needs}
@@ -8,25 +8,15 @@ use Rattle.network_message.specs.PublisherRecord.{publisherOf, sameText}
 use Rattle.network_message.proofs.Equality.{same-publisher-code, same-publisher-value, same-publisher-text}
 use Rattle.network_message.proofs.publisher_record.same_publisher.Statement.{statement}
 use Rattle.network_message.proofs.publisher_record.same_publisher.Tie as tie
-use Rattle.network_message.proofs.publisher_record.same_publisher.Reads as reads
-use Rattle.network_message.proofs.publisher_record.same_publisher.Lts as lts
-use Rattle.network_message.proofs.publisher_record.code.Reads as code-reads
-use Rattle.network_message.proofs.publisher_record.same_text.Reads as same-text-reads
-use Rattle.network_message.proofs.publisher_record.text_length.Reads as text-length-reads
-use Rattle.network_message.proofs.publisher_record.value.Reads as value-reads
-use Rattle.wire.proofs.part.part.Reads as part-reads
 
--- src/publisher_record.rt:79:9
 returns : tie.Need-returns
 returns c =
     sym (same-publisher-code (publisherOf (c .before .before .before .args .a)) (publisherOf (c .before .before .before .args .b)) (λ e. c .if1 .taken (c .before .before .code .ensures ∙ e ∙ sym (c .before .code2 .ensures))))
 
--- src/publisher_record.rt:82:9
 returns-2 : tie.Need-returns-2
 returns-2 c =
     sym (same-publisher-value (publisherOf (c .before .before .before .before .before .before .args .a)) (publisherOf (c .before .before .before .before .before .before .args .b)) (sym (c .before .before .before .before .before .code .ensures) ∙ c .before .before .before .if1 .left ∙ c .before .before .before .before .code2 .ensures) (λ e. c .if2 .taken (c .before .before .value .ensures ∙ e ∙ sym (c .before .value2 .ensures))))
 
--- src/publisher_record.rt:73:1
 returns-3 : tie.Need-returns-3
 returns-3 c =
     c .same-text .ensures ∙ ap₂ sameText (c .before .before .before .before .part .ensures ∙ ap (λ (n : ℕ). take n (c .before .before .before .before .before .before .before .before .before .before .before .before .before .before .before .args .a .text)) (c .before .before .before .before .before .text-length .ensures)) (c .before .part2 .ensures ∙ ap (λ (n : ℕ). take n (c .before .before .before .before .before .before .before .before .before .before .before .before .before .before .before .args .b .text)) (c .before .before .text-length2 .ensures)) ∙ sym (same-publisher-text (publisherOf (c .before .before .before .before .before .before .before .before .before .before .before .before .before .before .before .args .a)) (publisherOf (c .before .before .before .before .before .before .before .before .before .before .before .before .before .before .before .args .b)) (sym (c .before .before .before .before .before .before .before .before .before .before .before .before .before .before .code .ensures) ∙ c .before .before .before .before .before .before .before .before .before .before .before .before .if1 .left ∙ c .before .before .before .before .before .before .before .before .before .before .before .before .before .code2 .ensures) (sym (c .before .before .before .before .before .before .before .before .before .before .before .value .ensures) ∙ c .before .before .before .before .before .before .before .before .before .if2 .left ∙ c .before .before .before .before .before .before .before .before .before .before .value2 .ensures))

@@ -1,4 +1,5 @@
--- `network_message::publisher_record::same_text` meets its contract. Assumes nothing.
+-- `network_message::publisher_record::same_text` meets its contract.
+-- Assumes nothing.
 use Prim.Native.Nat.{ℕ, _-_, _≤_, _<_}
 use mathlib.Core.List.{List}
 use mathlib.Core.Path.{_≡_, ap, sym}
@@ -8,9 +9,9 @@ use lib.Seq.{ext-getD}
 use lib.ListN.{length, getD}
 use borrow.Author.Needs.{needs}
 use borrow.Author.Count.{below-more}
-use Rattle.network_message.proofs.Equality
 use Rattle.network_message.proofs.publisher_record.same_text.Statement.{statement}
 use Rattle.network_message.proofs.publisher_record.same_text.Tie as tie
+use Rattle.network_message.proofs.Equality
 
 abbrev Inv-loop : tie.InvT-loop
 Inv-loop a b i₀ i = (i ≤ length a) × ((k : ℕ) → k < i → getD a k 0 ≡ getD b k 0)

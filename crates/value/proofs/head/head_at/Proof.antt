@@ -9,15 +9,18 @@ use Rattle.value.proofs.head.head_at.Tie as tie
 
 returns : tie.Need-returns
 returns c =
-    λ nested. head-short nested (c .before .before .before .before .args .t) (now (c .before .before .before .before .args .s)) (c .before .before .before .before .args .at) (told-no-byte (c .before .before .before .before .args .at) (c .before .before .read8 .ensures) (c .enum-told .given .1))
+    let a = c .before .before .before .before .args in
+    λ nested. head-short nested (a .t) (now (a .s)) (a .at) (told-no-byte (a .at) (c .before .before .read8 .ensures) (c .enum-told .given .1))
 
 returns-2 : tie.Need-returns-2
 returns-2 c =
-    λ nested. rw (eq-eqb _ _ (c .before .if1 .taken), told-byte (c .before .before .before .before .before .before .before .args .at) (c .before .before .before .before .before .read8 .ensures) (c .before .before .before .b .given .1)) (c .data-value-head .ensures nested (now (c .before .before .before .before .before .before .before .args .s)))
+    let a = c .before .before .before .before .before .before .before .args in
+    λ nested. rw (eq-eqb _ _ (c .before .if1 .taken), told-byte (a .at) (c .before .before .before .before .before .read8 .ensures) (c .before .before .before .b .given .1)) (c .data-value-head .ensures nested (now (a .s)))
 
 returns-3 : tie.Need-returns-3
 returns-3 c =
-    λ nested. rw (ne-eqb _ _ (c .before .if1 .left), told-byte (c .before .before .before .before .before .before .before .args .at) (c .before .before .before .before .before .read8 .ensures) (c .before .before .before .b .given .1)) (c .variant-head .ensures nested)
+    let a = c .before .before .before .before .before .before .before .args in
+    λ nested. rw (ne-eqb _ _ (c .before .if1 .left), told-byte (a .at) (c .before .before .before .before .before .read8 .ensures) (c .before .before .before .b .given .1)) (c .variant-head .ensures nested)
 
 pub head-at-spec : {M : Type 1} → statement M
 head-at-spec =

@@ -12,7 +12,8 @@ use Rattle.value.proofs.plain.bytes_at.Tie as tie
 
 add-t6 : tie.Need-add-t6
 add-t6 c =
-    let h : c .before .before .before .args .at + c .before .before .before .args .n ≤ length (now (c .before .before .before .args .s)) = leb-true (c .before .before .before .args .at + c .before .before .before .args .n) (length (now (c .before .before .before .args .s))) (sym (c .before .has .ensures) ∙ c .if1 .taken) in
+    let a = c .before .before .before .args in
+    let h : a .at + a .n ≤ length (now (a .s)) = leb-true (a .at + a .n) (length (now (a .s))) (sym (c .before .has .ensures) ∙ c .if1 .taken) in
     omega arith
 
 returns : tie.Need-returns

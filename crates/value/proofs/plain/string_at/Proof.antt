@@ -9,22 +9,26 @@ use Rattle.value.proofs.plain.string_at.Tie as tie
 returns : tie.Need-returns
 unfolding string
 returns c =
-    rw (told-short (c .before .before .before .before .args .at) (c .before .before .read-length .ensures) (c .enum-told .given .1))
+    let a = c .before .before .before .before .args in
+    rw (told-short (a .at) (c .before .before .read-length .ensures) (c .enum-told .given .1))
 
 returns-2 : tie.Need-returns-2
 unfolding string
 returns-2 c =
-    rw (told-length (c .before .before .before .before .before .before .before .args .at) (c .before .before .before .before .before .read-length .ensures) (c .before .before .before .l .given .1) (c .enum-told2 .given .1))
+    let a = c .before .before .before .before .before .before .before .args in
+    rw (told-length (a .at) (c .before .before .before .before .before .read-length .ensures) (c .before .before .before .l .given .1) (c .enum-told2 .given .1))
 
 returns-3 : tie.Need-returns-3
 unfolding string
 returns-3 c =
-    rw (told-length (c .before .before .before .before .before .before .before .before .before .args .at) (c .before .before .before .before .before .before .before .read-length .ensures) (c .before .before .before .before .before .l .given .1) (c .before .before .l2 .given .1)) (c .bytes-at .ensures)
+    let a = c .before .before .before .before .before .before .before .before .before .args in
+    rw (told-length (a .at) (c .before .before .before .before .before .before .before .read-length .ensures) (c .before .before .before .before .before .l .given .1) (c .before .before .l2 .given .1)) (c .bytes-at .ensures)
 
 returns-4 : tie.Need-returns-4
 unfolding string
 returns-4 c =
-    rw (told-length (c .before .before .before .before .before .before .before .args .at) (c .before .before .before .before .before .read-length .ensures) (c .before .before .before .l .given .1) (c .enum-told3 .given .1))
+    let a = c .before .before .before .before .before .before .before .args in
+    rw (told-length (a .at) (c .before .before .before .before .before .read-length .ensures) (c .before .before .before .l .given .1) (c .enum-told3 .given .1))
 
 pub string-at-spec : {M : Type 1} → statement M
 string-at-spec =

@@ -1,8 +1,9 @@
 -- `value::plain::strings_at` meets its contract.
 -- Assumes nothing.
 use borrow.Author.Needs.{needs}
-use Rattle.value.proofs.Each.{each-done, each-step, each-stop}
-use Rattle.value.specs.Plain.{answerReached, string}
+use Rattle.wire.proofs.Each.{each-done, each-step, each-stop}
+use Rattle.wire.specs.Items.{answerReached}
+use Rattle.value.specs.Plain.{string}
 use Rattle.wire.proofs.Reading.{told}
 use Rattle.wire.specs.Answer.{each}
 use mathlib.Core.Path.{_≡_, sym, _∙_}

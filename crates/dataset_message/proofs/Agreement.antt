@@ -1,0 +1,172 @@
+-- The walk with the cursor and the reading of the whole message agree, field by field; a field that is accepted is never empty.
+-- Assumes nothing.
+use Prim.Native.Nat.{ℕ, zero, suc, _+_, _-_, _≤_, _<_}
+use mathlib.Core.Path.{_≡_, refl, ap, sym, _∙_}
+use mathlib.Core.Bool.{Bool, true, false}
+use mathlib.Core.List.{List}
+use native.Mathlib.Nat.{add-zero, zero-add}
+use native.Mathlib.Numerals.{add-one}
+use native.Mathlib.Omega.{arith}
+use lib.Dec.{leb}
+use lib.ListN.{length, getD}
+use borrow.Author.Tests.{le-leb, lt-leb, leb-true, leb-false, le-ltb, ltb-true}
+use Rattle.dataset_message.specs.Fields.{encodedAt, indexAt, fieldAt, fieldsAt, stepAt, walkAt, before}
+use Rattle.dataset_message.specs.Message.{nthAt}
+use Rattle.dataset_message.specs.declared.flags.Encoding.{Encoding}
+use Rattle.dataset_message.specs.declared.fields.Field.{Field}
+use Rattle.dataset_message.specs.declared.fields.Cursor.{Cursor}
+use Rattle.wire.specs.Answer.{Answer, got, refused, item, andThen}
+use Rattle.wire.proofs.Reading.{got-value, got-next, not-got, invert}
+use Rattle.value.specs.Width.{widthOf, fixed}
+use Rattle.value.specs.Value.{rawAt}
+use Rattle.value.specs.declared.Measure.{Measure}
+use Rattle.value.proofs.Values.{value-within}
+
+-- an item that was read lies within the slice
+item-within : (w : ℕ) (s : List ℕ) (at v e : ℕ) → item w s at ≡ got v e → (at + w ≤ length s) × (e ≡ at + w)
+item-within w s at v e q = go (leb (at + w) (length s)) refl
+  where
+    go : (b : Bool) → leb (at + w) (length s) ≡ b → (at + w ≤ length s) × (e ≡ at + w)
+    go true t = (leb-true (at + w) (length s) t, sym (got-next (rw t at q)))
+    go false t = absurd (not-got (rw t at q))
+
+raw-within : (t : ℕ) (s : List ℕ) (at e : ℕ) (m : Measure) → rawAt t s at ≡ got m e → (at < e) × (e ≤ length s)
+raw-within t s at e m q = go (fixed t) refl (leb (at + widthOf t) (length s)) refl
+  where
+    go : (f : Bool) → fixed t ≡ f → (b : Bool) → leb (at + widthOf t) (length s) ≡ b → (at < e) × (e ≤ length s)
+    go true u true v =
+        let w : 0 < widthOf t = ltb-true 0 (widthOf t) u in
+        let n : at + widthOf t ≡ e = got-next (rw (u, v) at q) in
+        let l : at + widthOf t ≤ length s = leb-true (at + widthOf t) (length s) v in
+        (omega arith, omega arith)
+    go true u false v = absurd (not-got (rw (u, v) at q))
+    go false u b v = absurd (not-got (rw u at q))
+
+encoded-within : (encoding : Encoding) (types : List ℕ) (k : ℕ) (s : List ℕ) (at e : ℕ) (m : Measure) → encodedAt encoding types k s at ≡ got m e → (at < e) × (e ≤ length s)
+encoded-within Encoding.Variant types k s at e m q = value-within 100 24 s at q
+encoded-within Encoding.RawData types k s at e m q = raw-within (getD types k 0) s at e m q
+encoded-within Encoding.DataValue types k s at e m q = value-within 100 23 s at q
+
+-- where an accepted field starts and ends, and that its value has at least a byte
+pub record Inside (s : List ℕ) (q : ℕ) (f : Field) (e : ℕ) : Type 0 where
+  pub starts : q ≤ length s
+  pub ends : e ≤ length s
+  pub some : 0 < f .length
+  pub value : f .offset + f .length ≡ e
+
+index-within : (delta : Bool) (k : ℕ) (s : List ℕ) (q i o : ℕ) → indexAt delta k s q ≡ got i o → q ≤ o
+index-within true k s q i o e = let w = item-within 2 s q i o e in omega arith
+index-within false k s q i o e = let n : q ≡ o = got-next e in omega arith
+
+pub field-inside : (delta : Bool) (encoding : Encoding) (types : List ℕ) (k : ℕ) (s : List ℕ) (q : ℕ) (f : Field) (e : ℕ) → fieldAt delta encoding types k s q ≡ got f e → Inside s q f e
+field-inside delta encoding types k s q f e h =
+    let a = invert (indexAt delta k s q) (λ i o. _) h in
+    let b = invert (encodedAt encoding types k s (a .1)) (λ m z. _) (a .3) in
+    let w = encoded-within encoding types k s (a .1) (b .1) (b .0) (b .2) in
+    let i = index-within delta k s q (a .0) (a .1) (a .2) in
+    let n : b .1 ≡ e = got-next (b .3) in
+    let o : a .1 ≡ f .offset = ap (λ (x : Field). x .offset) (got-value (b .3)) in
+    let l : b .1 - a .1 ≡ f .length = ap (λ (x : Field). x .length) (got-value (b .3)) in
+    record { starts = omega arith; ends = omega arith; some = omega arith; value = omega arith }
+
+abbrev done : ℕ → Answer (Unit {0})
+done z = got tt z
+
+module _ (delta : Bool) (encoding : Encoding) (types s : List ℕ) where
+  -- the last of n + 1 fields comes after the first n
+  fields-snoc : (n k p : ℕ) → fieldsAt delta encoding types (suc n) k s p
+      ≡ andThen (fieldsAt delta encoding types n k s p) (λ _ q. andThen (fieldAt delta encoding types (k + n) s q) (λ _ r. done r))
+  unfolding fieldsAt
+  fields-snoc zero k p = ap (λ (j : ℕ). andThen (fieldAt delta encoding types j s p) (λ _ r. done r)) (sym (add-zero k))
+  fields-snoc (suc n) k p = go (fieldAt delta encoding types k s p) (λ r. fields-snoc n (k + 1) r)
+    where
+      same : (r : ℕ) → andThen (fieldsAt delta encoding types n (k + 1) s r) (λ _ q. andThen (fieldAt delta encoding types (k + 1 + n) s q) (λ _ z. done z))
+          ≡ andThen (fieldsAt delta encoding types n (k + 1) s r) (λ _ q. andThen (fieldAt delta encoding types (k + suc n) s q) (λ _ z. done z))
+      same r = let e : k + 1 + n ≡ k + suc n = omega arith in ap (λ (j : ℕ). andThen (fieldsAt delta encoding types n (k + 1) s r) (λ _ q. andThen (fieldAt delta encoding types j s q) (λ _ z. done z))) e
+
+      go : (x : Answer Field) → ((r : ℕ) → fieldsAt delta encoding types (suc n) (k + 1) s r ≡ andThen (fieldsAt delta encoding types n (k + 1) s r) (λ _ q. andThen (fieldAt delta encoding types (k + 1 + n) s q) (λ _ z. done z)))
+          → andThen x (λ _ r. fieldsAt delta encoding types (suc n) (k + 1) s r)
+          ≡ andThen (andThen x (λ _ r. fieldsAt delta encoding types n (k + 1) s r)) (λ _ q. andThen (fieldAt delta encoding types (k + suc n) s q) (λ _ z. done z))
+      go (got f r) ih = ih r ∙ same r
+      go (refused m z) ih = refl
+
+-- an accepted field at the end of some, taken apart
+snoc-got : (x : Answer (Unit {0})) (g : ℕ → Answer Field) (e : ℕ) → andThen x (λ _ q. andThen (g q) (λ _ r. done r)) ≡ got tt e
+    → (q : ℕ) × (f : Field) × (x ≡ got tt q) × (g q ≡ got f e)
+snoc-got x g e h =
+    let a = invert x (λ _ q. andThen (g q) (λ _ r. done r)) h in
+    let b = invert (g (a .1)) (λ _ r. done r) (a .3) in
+    (a .1, b .0, a .2, b .2 ∙ ap (λ (n : ℕ). got (b .0) n) (got-next (b .3)))
+
+start-is : (c : Cursor) (types s : List ℕ) (q : ℕ) → c .next ≡ 0 → fieldsAt (c .delta) (c .encoding) types zero 0 s (c .at) ≡ got tt q → got c (c .at) ≡ got (before c zero q) q
+unfolding fieldsAt
+start-is c types s q z h =
+    let e : c .at ≡ q = got-next h in
+    λ i. got (record { encoding = c .encoding; delta = c .delta; next = z i; count = c .count; at = e i }) (e i)
+
+-- Of a cursor c before its first field whose fields are accepted, ending at e, what the walk gives.
+module _ (c : Cursor) (types s : List ℕ) where
+  abbrev passed : ℕ → Answer (Unit {0})
+  passed n = fieldsAt (c .delta) (c .encoding) types n 0 s (c .at)
+
+  abbrev field : ℕ → ℕ → Answer Field
+  field k q = fieldAt (c .delta) (c .encoding) types k s q
+
+  last-field : (n e : ℕ) → passed (suc n) ≡ got tt e → (q : ℕ) × (f : Field) × (passed n ≡ got tt q) × (field n q ≡ got f e)
+  last-field n e h =
+      snoc-got (passed n) (field n) e
+      (ap (λ (j : ℕ). andThen (passed n) (λ _ q. andThen (field j q) (λ _ r. done r))) (sym (zero-add n)) ∙ sym (fields-snoc (c .delta) (c .encoding) types s n 0 (c .at)) ∙ h)
+
+  -- one step, at a field that is accepted
+  pub step-is : (k q e : ℕ) (f : Field) → k < c .count → field k q ≡ got f e → stepAt (before c k q) types s ≡ got (record { field = f; cursor = before c (k + 1) e }) e
+  step-is k q e f l h =
+      let i = field-inside (c .delta) (c .encoding) types k s q f e h in
+      rw (le-ltb (length s) q (i .starts), lt-leb (c .count) k l, h)
+
+  -- k steps
+  pub walk-is : (k q : ℕ) → k ≤ c .count → c .next ≡ 0 → passed k ≡ got tt q → walkAt c types k s ≡ got (before c k q) q
+  unfolding walkAt
+  walk-is zero q l z h = start-is c types s q z h
+  walk-is (suc k) q l z h =
+      let a = last-field k q h in
+      rw (walk-is k (a .0) (omega arith) z (a .2), step-is k (a .0) q (a .1) l (a .3)) (ap (λ (j : ℕ). got (before c j q) q) (add-one k))
+
+  -- every field below one that is passed is passed too
+  pub passed-below : (n e k : ℕ) → k ≤ n → passed n ≡ got tt e → (q : ℕ) × (passed k ≡ got tt q)
+  passed-below zero e k l h = let z : k ≡ zero = omega arith in (e, ap passed z ∙ h)
+  passed-below (suc n) e k l h = go (λ m. let a = last-field n e h in passed-below n (a .0) k m (a .2)) (leb k n) refl
+    where
+      go : (k ≤ n → (q : ℕ) × (passed k ≡ got tt q)) → (b : Bool) → leb k n ≡ b → (q : ℕ) × (passed k ≡ got tt q)
+      go ih true t = ih (leb-true k n t)
+      go ih false t = let m : n < k = leb-false k n t in let z : k ≡ suc n = omega arith in (e, ap passed z ∙ h)
+
+-- What the walk from the cursor c says of field k, beside what lookup says of it: it starts at `at` and is `place`; the cursor is
+-- before it after k steps, steps over it to `end`, and lookup gives the same place.
+pub record Agrees (c : Cursor) (types s : List ℕ) (k : ℕ) : Type 0 where
+  pub at : ℕ
+  pub end : ℕ
+  pub place : Field
+  pub inside : Inside s at place end
+  pub walked : walkAt c types k s ≡ got (before c k at) at
+  pub stepped : stepAt (before c k at) types s ≡ got (record { field = place; cursor = before c (k + 1) end }) end
+  pub looked-up : nthAt c types k s ≡ got place end
+
+-- Stepping through all fields visits exactly the fields that reading the whole message accepts, in their order.
+pub walk-agrees : (c : Cursor) (types s : List ℕ) (e : ℕ) → c .next ≡ 0 → fieldsAt (c .delta) (c .encoding) types (c .count) 0 s (c .at) ≡ got tt e
+    → (k : ℕ) → k < c .count → Agrees c types s k
+walk-agrees c types s e z h k l =
+    let b = passed-below c types s (c .count) e (suc k) l h in
+    let a = last-field c types s k (b .0) (b .1) in
+    record {
+      at = a .0;
+      end = b .0;
+      place = a .1;
+      inside = field-inside (c .delta) (c .encoding) types k s (a .0) (a .1) (b .0) (a .3);
+      walked = walk-is c types s k (a .0) (omega arith) z (a .2);
+      stepped = step-is c types s k (a .0) (b .0) (a .1) l (a .3);
+      looked-up = rw (lt-leb (c .count) k l, a .2, a .3);
+    }
+
+-- and a step after the last is 10
+pub walk-ends : (c : Cursor) (types s : List ℕ) (q : ℕ) → q ≤ length s → stepAt (before c (c .count) q) types s ≡ refused 10 0
+walk-ends c types s q h = rw (le-ltb (length s) q h, le-leb (c .count) (c .count) (omega arith))

@@ -1,0 +1,34 @@
+-- `dataset_message::message::read` meets its contract.
+-- Assumes nothing.
+use Prim.Native.Nat.{_-_}
+use mathlib.Core.Path.{sym}
+use borrow.Author.Needs.{needs}
+use Rattle.dataset_message.specs.Header.{answerHeader}
+use Rattle.wire.proofs.Reading.{told}
+use Rattle.dataset_message.proofs.message.read.Statement.{statement}
+use Rattle.dataset_message.proofs.message.read.Tie as tie
+
+returns : tie.Need-returns
+returns c =
+    rw (sym (told answerHeader (c .before .before .read-header .ensures) (c .enum-told .given .1)))
+
+returns-2 : tie.Need-returns-2
+returns-2 c =
+    rw (sym (told answerHeader (c .before .before .before .read-header .ensures) (c .before .n .given .1)))
+
+returns-3 : tie.Need-returns-3
+returns-3 c =
+    rw (sym (told answerHeader (c .before .before .before .before .read-header .ensures) (c .before .before .header .given .1))) (c .read-body .ensures)
+
+pub read-spec : {M : Type 1} → statement M
+read-spec =
+    tie.close
+    (tie.spec
+    (λ c κs. search needs)
+    (λ c. search needs)
+    (λ c. search needs)
+    (λ c. search needs)
+    (λ c κs. search needs)
+    returns
+    returns-2
+    returns-3)

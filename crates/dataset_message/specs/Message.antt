@@ -1,0 +1,95 @@
+-- A DataSetMessage whole (document 01, "The DataSetMessage"), and looking a field up ("Values").
+use Prim.Native.Nat.{ℕ}
+use mathlib.Core.Bool.{Bool, true, false, cond}
+use mathlib.Core.List.{List, []}
+use lib.Dec.{leb, eqb}
+use lib.ListN.{length, take, drop}
+use Rattle.wire.specs.Answer.{Answer, got, refused, Reader, item, andThen}
+use Rattle.dataset_message.specs.declared.flags.Encoding.{Encoding}
+use Rattle.dataset_message.specs.declared.flags.Kind.{Kind}
+use Rattle.dataset_message.specs.declared.header.Header.{Header}
+use Rattle.dataset_message.specs.declared.fields.Field.{Field}
+use Rattle.dataset_message.specs.declared.fields.Cursor.{Cursor}
+use Rattle.dataset_message.specs.declared.message.MessageRead.{MessageRead}
+use Rattle.dataset_message.specs.declared.message.CountRead.{CountRead}
+use Rattle.dataset_message.specs.Flags.{Valid, notValid, valid}
+use Rattle.dataset_message.specs.Header.{headerAt}
+use Rattle.dataset_message.specs.Fields.{fieldAt, fieldsAt, paddingAt}
+
+abbrev pub isDelta : Kind → Bool
+isDelta Kind.Key = false
+isDelta Kind.Delta = true
+isDelta Kind.Event = false
+isDelta Kind.KeepAlive = false
+
+abbrev pub isRaw : Encoding → Bool
+isRaw Encoding.Variant = false
+isRaw Encoding.RawData = true
+isRaw Encoding.DataValue = false
+
+-- "FieldCount 2 and the fields; RawData has no count, its fields are the configured ones (none: 8)"
+abbrev pub countedAt : Bool → List ℕ → Reader ℕ
+countedAt raw types s at = cond raw (cond (eqb (length types) 0) (refused 8 0) (got (length types) at)) (item 2 s at)
+
+-- "A key frame with nothing left is a heartbeat. Else key and event: FieldCount ..; Delta: FieldCount"; a keep alive has no fields
+abbrev pub countAt : Kind → Bool → List ℕ → Reader ℕ
+countAt Kind.Key raw types s at = cond (leb (length s) at) (got 0 at) (countedAt raw types s at)
+countAt Kind.Delta raw types s at = countedAt false types s at
+countAt Kind.Event raw types s at = countedAt raw types s at
+countAt Kind.KeepAlive raw types s at = got 0 at
+
+-- what is read of a valid message: its header, the cursor before its first field, and where its last field ends
+pub record Message : Type 0 where
+  pub header : Header
+  pub cursor : Cursor
+  pub end : ℕ
+
+-- the fields from the cursor on, and "After the last field, or a keep alive's header, only zero bytes may remain"
+abbrev pub endAt : Header → Cursor → List ℕ → List ℕ → Answer (Valid Message)
+endAt h c types s =
+    andThen (fieldsAt (c .delta) (c .encoding) types (c .count) 0 s (c .at))
+    (λ _ end. andThen (paddingAt s end) (λ _ z. got (valid (record { header = h; cursor = c; end = end })) end))
+
+-- what follows the header
+abbrev pub bodyAt : Header → List ℕ → Reader (Valid Message)
+bodyAt h types s at =
+    andThen (countAt (h .kind) (isRaw (h .encoding)) types s at)
+    (λ n first. endAt h (record { encoding = h .encoding; delta = isDelta (h .kind); next = 0; count = n; at = first }) types s)
+
+abbrev pub afterHeader : Valid Header → List ℕ → Reader (Valid Message)
+afterHeader notValid types s at = got notValid 0
+afterHeader (valid h) types s at = bodyAt h types s at
+
+-- a message alone, with the configured field types of its writer; of one not valid nothing more is read
+abbrev pub messageAt : List ℕ → List ℕ → Answer (Valid Message)
+messageAt types s = andThen (headerAt s 0) (λ h at. afterHeader h types s at)
+
+-- field k from the cursor before the first: "k at or past the count .. is 10"
+abbrev pub nthAt : Cursor → List ℕ → ℕ → List ℕ → Answer Field
+nthAt c types k s =
+    cond (leb (c .count) k) (refused 10 0)
+    (andThen (fieldsAt (c .delta) (c .encoding) types k 0 s (c .at)) (λ _ at. fieldAt (c .delta) (c .encoding) types k s at))
+
+-- "Lookup reads the whole message first; its fault comes before 10, and one not valid has no fields."
+abbrev pub ofMessage : Valid Message → List ℕ → ℕ → List ℕ → Answer Field
+ofMessage notValid types k s = refused 10 0
+ofMessage (valid m) types k s = nthAt (m .cursor) types k s
+
+abbrev pub fieldPlaceAt : List ℕ → ℕ → List ℕ → Answer Field
+fieldPlaceAt types k s = andThen (messageAt types s) (λ m _. ofMessage m types k s)
+
+-- "A field's encoded bytes are answered as that part of the lent datagram itself": nothing where it is refused
+abbrev pub fieldBytes : Answer Field → List ℕ → List ℕ
+fieldBytes (got f next) s = take (f .length) (drop (f .offset) s)
+fieldBytes (refused n place) s = []
+
+-- what the answers of the code say
+
+abbrev pub answerCount : CountRead → Answer ℕ
+answerCount (CountRead.Is n next) = got n next
+answerCount (CountRead.Refused n place) = refused n place
+
+abbrev pub answerMessage : MessageRead → Answer (Valid Message)
+answerMessage MessageRead.NotValid = got notValid 0
+answerMessage (MessageRead.Is h c end) = got (valid (record { header = h; cursor = c; end = end })) end
+answerMessage (MessageRead.Refused n place) = refused n place

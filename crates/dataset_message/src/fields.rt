@@ -1,0 +1,188 @@
+// The fields of a DataSetMessage, one after the other.
+use crate::flags::Encoding;
+use value::Measured;
+use value::Shape;
+use value::measure_data_value;
+use value::measure_raw;
+use value::measure_variant;
+use wire::Item16;
+use wire::Reached;
+ghost use mathlib.Core.Path.{_≡_};
+ghost use lib.ListN.{getD};
+ghost use Rattle.wire.specs.Items.{answerReached};
+ghost use Rattle.value.specs.Value.{answerMeasured};
+ghost use Rattle.dataset_message.specs.Fields.{encodedAt, indexAt, fieldAt, fieldsAt, stepAt, zerosAt, paddingAt};
+ghost use Rattle.dataset_message.specs.Fields.{answerIndex, answerField, answerStep};
+
+// Where a field stands: its index (a delta's own), type number and shape, and its value's offset and length.
+pub struct Field {
+    pub index: usize,
+    pub kind: u8,
+    pub shape: Shape,
+    pub offset: usize,
+    pub length: usize,
+}
+
+pub enum FieldRead {
+    Is(Field, usize),
+    Refused(u8, usize),
+}
+
+// A cursor over the fields: how they are encoded and whether each has an index of its own, which field is next of how many, and
+// the byte where it starts.
+pub struct Cursor {
+    pub encoding: Encoding,
+    pub delta: bool,
+    pub next: usize,
+    pub count: usize,
+    pub at: usize,
+}
+
+pub enum FieldStep {
+    Is(Field, Cursor),
+    Refused(u8, usize),
+}
+
+pub enum IndexRead {
+    Is(usize, usize),
+    Refused(u8, usize),
+}
+
+// The type number of field k, 0 where none is configured.
+fn type_of(types: &[u8], k: usize) -> u8
+    ensures { λ r. ⌜ r ≡ getD (now (types .entry)) k 0 ⌝ }
+{
+    if types.len() <= k {
+        return 0;
+    }
+    types[k]
+}
+
+// The value of field k.
+fn encoded(s: &[u8], encoding: Encoding, types: &[u8], k: usize, at: usize) -> Measured
+    ensures { λ r. ⌜ answerMeasured r ≡ encodedAt encoding (now (types .entry)) k (now (s .entry)) at ⌝ }
+{
+    match encoding {
+        Encoding::Variant => measure_variant(s, at),
+        Encoding::RawData => measure_raw(s, at, type_of(types, k)),
+        Encoding::DataValue => measure_data_value(s, at),
+    }
+}
+
+// The index of field k: a delta's own, else k.
+fn index(s: &[u8], delta: bool, k: usize, at: usize) -> IndexRead
+    ensures { λ r. ⌜ answerIndex r ≡ indexAt delta k (now (s .entry)) at ⌝ }
+{
+    if !delta {
+        return IndexRead::Is(k, at);
+    }
+    let Item16::Is(v, next) = wire::read16(s, at) else {
+        return IndexRead::Refused(1, at);
+    };
+    IndexRead::Is(v as usize, next)
+}
+
+// Field k, which starts at a position.
+pub fn read_field(
+    s: &[u8],
+    encoding: Encoding,
+    delta: bool,
+    types: &[u8],
+    k: usize,
+    at: usize,
+) -> FieldRead
+    ensures { λ r. ⌜ answerField r ≡ fieldAt delta encoding (now (types .entry)) k (now (s .entry)) at ⌝ }
+{
+    match index(s, delta, k, at) {
+        IndexRead::Refused(n, place) => FieldRead::Refused(n, place),
+        IndexRead::Is(index, offset) => match encoded(s, encoding, types, k, offset) {
+            Measured::Refused(n, place) => FieldRead::Refused(n, place),
+            Measured::Is(m, end) => {
+                let shape = m.shape;
+                FieldRead::Is(
+                    Field {
+                        index,
+                        kind: m.kind,
+                        shape,
+                        offset,
+                        length: wire::left(end, offset),
+                    },
+                    end,
+                )
+            }
+        },
+    }
+}
+
+impl Cursor {
+    // The field that the cursor stands before, and the cursor before the next one.
+    pub fn step(self, s: &[u8], types: &[u8]) -> FieldStep
+        ensures { λ r. ⌜ answerStep r ≡ stepAt self (now (types .entry)) (now (s .entry)) ⌝ }
+    {
+        let at = self.at;
+        if s.len() < at {
+            return FieldStep::Refused(1, at);
+        }
+        let k = self.next;
+        if self.count <= k {
+            return FieldStep::Refused(10, 0);
+        }
+        let encoding = self.encoding;
+        match read_field(s, encoding, self.delta, types, k, at) {
+            FieldRead::Refused(n, place) => FieldStep::Refused(n, place),
+            FieldRead::Is(field, end) => FieldStep::Is(
+                field,
+                Cursor {
+                    encoding,
+                    delta: self.delta,
+                    next: k + 1,
+                    count: self.count,
+                    at: end,
+                },
+            ),
+        }
+    }
+}
+
+// The first count fields, from the start of the first.
+pub fn pass_fields(
+    s: &[u8],
+    encoding: Encoding,
+    delta: bool,
+    types: &[u8],
+    count: usize,
+    at: usize,
+) -> Reached
+    ensures { λ r. ⌜ answerReached r ≡ fieldsAt delta encoding (now (types .entry)) count 0 (now (s .entry)) at ⌝ }
+{
+    let mut p = at;
+    let mut k = 0;
+    let mut left = count;
+    while 0 < left {
+        match read_field(s, encoding, delta, types, k, p) {
+            FieldRead::Refused(n, place) => {
+                return Reached::Refused(n, place);
+            }
+            FieldRead::Is(_, end) => {
+                p = end;
+            }
+        }
+        k = k + 1;
+        left = left - 1;
+    }
+    Reached::To(p)
+}
+
+// Only zero bytes may remain from a position on.
+pub fn padding(s: &[u8], at: usize) -> Reached
+    ensures { λ r. ⌜ answerReached r ≡ paddingAt (now (s .entry)) at ⌝ }
+{
+    let mut p = at;
+    while p < s.len() {
+        if s[p] != 0 {
+            return Reached::Refused(7, p);
+        }
+        p = p + 1;
+    }
+    Reached::To(p)
+}

@@ -1,0 +1,164 @@
+// A DataSetMessage read whole, and field k of it.
+use crate::fields::Cursor;
+use crate::fields::FieldRead;
+use crate::fields::padding;
+use crate::fields::pass_fields;
+use crate::fields::read_field;
+use crate::flags::Encoding;
+use crate::flags::Kind;
+use crate::header::Header;
+use crate::header::HeaderRead;
+use crate::header::read_header;
+use wire::Item16;
+use wire::Reached;
+ghost use mathlib.Core.Path.{_≡_};
+ghost use Rattle.dataset_message.specs.Fields.{answerField};
+ghost use Rattle.dataset_message.specs.Message.{isDelta, isRaw, countedAt, countAt, endAt, bodyAt, messageAt, fieldPlaceAt, fieldBytes, nthAt};
+ghost use Rattle.dataset_message.specs.Message.{answerCount, answerMessage};
+
+// A message that is not valid, or its header, the cursor before its first field, and where its last field ends; what follows is
+// padding.
+pub enum MessageRead {
+    NotValid,
+    Is(Header, Cursor, usize),
+    Refused(u8, usize),
+}
+
+// How many fields a message has, and where the first starts.
+pub enum CountRead {
+    Is(usize, usize),
+    Refused(u8, usize),
+}
+
+fn is_delta(kind: Kind) -> bool
+    ensures { λ r. ⌜ r ≡ isDelta kind ⌝ }
+{
+    match kind {
+        Kind::Key => false,
+        Kind::Delta => true,
+        Kind::Event => false,
+        Kind::KeepAlive => false,
+    }
+}
+
+// FieldCount, or in RawData the number of configured fields.
+fn counted(s: &[u8], raw: bool, types: &[u8], at: usize) -> CountRead
+    ensures { λ r. ⌜ answerCount r ≡ countedAt raw (now (types .entry)) (now (s .entry)) at ⌝ }
+{
+    if raw {
+        if types.len() == 0 {
+            return CountRead::Refused(8, 0);
+        }
+        return CountRead::Is(types.len(), at);
+    }
+    let Item16::Is(n, next) = wire::read16(s, at) else {
+        return CountRead::Refused(1, at);
+    };
+    CountRead::Is(n as usize, next)
+}
+
+fn is_raw(encoding: Encoding) -> bool
+    ensures { λ r. ⌜ r ≡ isRaw encoding ⌝ }
+{
+    match encoding {
+        Encoding::Variant => false,
+        Encoding::RawData => true,
+        Encoding::DataValue => false,
+    }
+}
+
+fn count(s: &[u8], kind: Kind, raw: bool, types: &[u8], at: usize) -> CountRead
+    ensures { λ r. ⌜ answerCount r ≡ countAt kind raw (now (types .entry)) (now (s .entry)) at ⌝ }
+{
+    match kind {
+        Kind::Key => {
+            if s.len() <= at {
+                return CountRead::Is(0, at);
+            }
+            counted(s, raw, types, at)
+        }
+        Kind::Delta => counted(s, false, types, at),
+        Kind::Event => counted(s, raw, types, at),
+        Kind::KeepAlive => CountRead::Is(0, at),
+    }
+}
+
+// The fields from the cursor on, and the padding after them.
+fn finish(s: &[u8], header: Header, cursor: Cursor, types: &[u8]) -> MessageRead
+    ensures { λ r. ⌜ answerMessage r ≡ endAt header cursor (now (types .entry)) (now (s .entry)) ⌝ }
+{
+    let encoding = cursor.encoding;
+    match pass_fields(s, encoding, cursor.delta, types, cursor.count, cursor.at) {
+        Reached::Refused(n, place) => MessageRead::Refused(n, place),
+        Reached::To(end) => match padding(s, end) {
+            Reached::Refused(n, place) => MessageRead::Refused(n, place),
+            Reached::To(_) => MessageRead::Is(header, cursor, end),
+        },
+    }
+}
+
+fn read_body(s: &[u8], header: Header, types: &[u8], at: usize) -> MessageRead
+    ensures { λ r. ⌜ answerMessage r ≡ bodyAt header (now (types .entry)) (now (s .entry)) at ⌝ }
+{
+    let kind = header.kind;
+    let encoding = header.encoding;
+    match count(s, kind, is_raw(encoding), types, at) {
+        CountRead::Refused(n, place) => MessageRead::Refused(n, place),
+        CountRead::Is(n, first) => {
+            let cursor = Cursor {
+                encoding,
+                delta: is_delta(kind),
+                next: 0,
+                count: n,
+                at: first,
+            };
+            finish(s, header, cursor, types)
+        }
+    }
+}
+
+// A message alone, with the configured field types of its writer.
+pub fn read(s: &[u8], types: &[u8]) -> MessageRead
+    ensures { λ r. ⌜ answerMessage r ≡ messageAt (now (types .entry)) (now (s .entry)) ⌝ }
+{
+    match read_header(s) {
+        HeaderRead::NotValid(_) => MessageRead::NotValid,
+        HeaderRead::Refused(n, place) => MessageRead::Refused(n, place),
+        HeaderRead::Is(header, at) => read_body(s, header, types, at),
+    }
+}
+
+// Field k from the cursor before the first field.
+fn nth(s: &[u8], cursor: Cursor, types: &[u8], k: usize) -> FieldRead
+    ensures { λ r. ⌜ answerField r ≡ nthAt cursor (now (types .entry)) k (now (s .entry)) ⌝ }
+{
+    if cursor.count <= k {
+        return FieldRead::Refused(10, 0);
+    }
+    let encoding = cursor.encoding;
+    match pass_fields(s, encoding, cursor.delta, types, k, cursor.at) {
+        Reached::Refused(n, place) => FieldRead::Refused(n, place),
+        Reached::To(at) => read_field(s, encoding, cursor.delta, types, k, at),
+    }
+}
+
+// What field k of a message is: the message's fault first; 10 for a k past the last.
+pub fn field_place(s: &[u8], types: &[u8], k: usize) -> FieldRead
+    ensures { λ r. ⌜ answerField r ≡ fieldPlaceAt (now (types .entry)) k (now (s .entry)) ⌝ }
+{
+    match read(s, types) {
+        MessageRead::NotValid => FieldRead::Refused(10, 0),
+        MessageRead::Refused(n, place) => FieldRead::Refused(n, place),
+        MessageRead::Is(_, cursor, _) => nth(s, cursor, types, k),
+    }
+}
+
+// The encoded bytes of field k as that part of the message; empty where `field_place` refuses.
+pub fn field<'a>(s: &'a [u8], types: &[u8], k: usize) -> &'a [u8]
+    ensures { λ r. ⌜ now r ≡ fieldBytes (fieldPlaceAt (now (types .entry)) k (now (s .entry))) (now (s .entry)) ⌝ }
+{
+    match field_place(s, types, k) {
+        FieldRead::Refused(_, _) => wire::part::part(s, 0, 0),
+        FieldRead::Is(f, _) => wire::part::part(s, f.offset, f.length),
+    }
+}
