@@ -10,8 +10,11 @@ use native.Mathlib.Omega.{arith}
 use lib.Dec.{leb}
 use lib.ListN.{length, getD}
 use borrow.Author.Tests.{le-leb, lt-leb, leb-true, leb-false, le-ltb, ltb-true}
-use Rattle.dataset_message.specs.Fields.{encodedAt, indexAt, fieldAt, fieldsAt, stepAt, walkAt, before}
-use Rattle.dataset_message.specs.Message.{nthAt}
+use Rattle.dataset_message.specs.Fields.{encodedAt, indexAt, fieldAt, fieldsAt, paddingAt, stepAt, walkAt, before}
+use Rattle.dataset_message.specs.declared.header.Header.{Header}
+use Rattle.dataset_message.specs.Flags.{Valid, notValid, valid}
+use Rattle.dataset_message.specs.Header.{headerAt}
+use Rattle.dataset_message.specs.Message.{Message, isDelta, isRaw, countAt, endAt, bodyAt, afterHeader, messageAt, nthAt}
 use Rattle.dataset_message.specs.declared.flags.Encoding.{Encoding}
 use Rattle.dataset_message.specs.declared.fields.Field.{Field}
 use Rattle.dataset_message.specs.declared.fields.Cursor.{Cursor}
@@ -170,3 +173,39 @@ walk-agrees c types s e z h k l =
 -- and a step after the last is 10
 pub walk-ends : (c : Cursor) (types s : List ℕ) (q : ℕ) → q ≤ length s → stepAt (before c (c .count) q) types s ≡ refused 10 0
 walk-ends c types s q h = rw (le-ltb (length s) q h, le-leb (c .count) (c .count) (omega arith))
+
+-- What an accepted message tells of its fields: they were passed from the cursor's byte to `end`, and the cursor is before the first.
+pub record Read (types s : List ℕ) (m : Message) : Type 0 where
+  pub first : m .cursor .next ≡ 0
+  pub passed : fieldsAt (m .cursor .delta) (m .cursor .encoding) types (m .cursor .count) 0 s (m .cursor .at) ≡ got tt (m .end)
+
+end-read : (h : Header) (c : Cursor) (types s : List ℕ) (m : Message) (e : ℕ) → c .next ≡ 0 → endAt h c types s ≡ got (valid m) e → Read types s m
+end-read h c types s m e z q =
+    let a = invert (fieldsAt (c .delta) (c .encoding) types (c .count) 0 s (c .at)) (λ _ n. _) q in
+    let b = invert (paddingAt s (a .1)) (λ _ y. _) (a .3) in
+    let v : valid (record { header = h; cursor = c; end = a .1 }) ≡ valid m = got-value (b .3) in
+    let n : _≡_ {A = Message} (record { header = h; cursor = c; end = a .1 }) m = cc in
+    rw (sym n) (record { first = z; passed = a .2 })
+
+body-read : (h : Header) (types s : List ℕ) (at : ℕ) (m : Message) (e : ℕ) → bodyAt h types s at ≡ got (valid m) e → Read types s m
+body-read h types s at m e q =
+    let a = invert (countAt (h .kind) (isRaw (h .encoding)) types s at) (λ n first. _) q in
+    end-read h (record { encoding = h .encoding; delta = isDelta (h .kind); next = 0; count = a .0; at = a .1 }) types s m e refl (a .3)
+
+header-read : (v : Valid Header) (types s : List ℕ) (at : ℕ) (m : Message) (e : ℕ) → afterHeader v types s at ≡ got (valid m) e → Read types s m
+header-read notValid types s at m e q =
+    let v : _≡_ {A = Valid Message} notValid (valid m) = got-value q in
+    let z : _≡_ {A = ℕ} 0 1 = cc in
+    absurd (omega arith)
+header-read (valid h) types s at m e q = body-read h types s at m e q
+
+pub message-read : (types s : List ℕ) (m : Message) (e : ℕ) → messageAt types s ≡ got (valid m) e → Read types s m
+message-read types s m e q =
+    let a = invert (headerAt s 0) (λ v at. _) q in
+    header-read (a .0) types s (a .1) m e (a .3)
+
+-- The walk over an accepted message visits exactly its fields, in their order, and lookup gives the same places.
+pub message-agrees : (types s : List ℕ) (m : Message) (e : ℕ) → messageAt types s ≡ got (valid m) e → (k : ℕ) → k < m .cursor .count → Agrees (m .cursor) types s k
+message-agrees types s m e q k l =
+    let r = message-read types s m e q in
+    walk-agrees (m .cursor) types s (m .end) (r .first) (r .passed) k l

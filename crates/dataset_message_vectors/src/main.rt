@@ -188,9 +188,67 @@ fn vectors(text: &[u8]) {
     }
 }
 
+// What is said of the first n bytes of document 01's message.
+fn prefix(s: &[u8], n: usize) {
+    put(b"the first");
+    number(n);
+    put(b":");
+    show(part(s, 0, n), &[]);
+    put(b"\n");
+}
+
+fn prefixes() {
+    let s = b"\x09\x05\x00\x02\x00\x05\x03\x00\x0a\x00\x00\x00\x3f";
+    prefix(s, 0);
+    prefix(s, 1);
+    prefix(s, 2);
+    prefix(s, 3);
+    prefix(s, 4);
+    prefix(s, 5);
+    prefix(s, 6);
+    prefix(s, 7);
+    prefix(s, 8);
+    prefix(s, 9);
+    prefix(s, 12);
+    prefix(s, 13);
+}
+
+// How many fields a message has, and where the last ends.
+fn count_fields(words: &[u8], s: &[u8], types: &[u8]) {
+    put(words);
+    match read(s, types) {
+        MessageRead::NotValid => put(b" invalid"),
+        MessageRead::Refused(n, place) => refused(n, place),
+        MessageRead::Is(_, cursor, end) => {
+            number(cursor.count);
+            number(end);
+        }
+    }
+    put(b"\n");
+}
+
+fn large() {
+    let types = [5u8; 64];
+    let mut raw = [0u8; 129];
+    raw[0] = 3;
+    count_fields(b"64 elements of RawData:", &raw, &types);
+    count_fields(b"64 elements and a byte less:", part(&raw, 0, 128), &types);
+    let mut padded = [0u8; 60003];
+    padded[0] = 1;
+    count_fields(b"60,000 bytes of padding:", &padded, &[]);
+    padded[60002] = 1;
+    count_fields(
+        b"60,000 bytes of padding, the last of them 1:",
+        &padded,
+        &[],
+    );
+}
+
 fn main() {
     let mut text = [0u8; 16384];
     let n = io::read_full(STDIN_FILENO, &mut text);
     vectors(part(&text, 0, n));
     lookups();
+    prefixes();
+    large();
 }

@@ -5,11 +5,13 @@ use libc::STDIN_FILENO;
 use libc::STDOUT_FILENO;
 use network_message::envelope::NetworkMessageRead;
 use network_message::envelope::message;
+use network_message::envelope::message_place;
 use network_message::envelope::read;
 use network_message::header::PayloadHeader;
 use network_message::header::writer_id;
 use network_message::payload::MessageCursor;
 use network_message::payload::MessagePlace;
+use network_message::payload::MessageRead;
 use network_message::payload::MessageStep;
 use network_message::payload::Payload;
 use network_message::publisher::PublisherId;
@@ -162,9 +164,69 @@ fn large() {
     put(b"\n");
 }
 
+// What is said of the first n bytes of document 01's datagram.
+fn prefix(s: &[u8], n: usize) {
+    put(b"the first");
+    number(n);
+    put(b":");
+    show(part(s, 0, n), &[]);
+    put(b"\n");
+}
+
+fn prefixes() {
+    let s = b"\xd1\x01\x67\x12\x01\x15\x00\x09\x05\x00\x02\x00\x05\x03\x00\x0a\x00\x00\x00\x3f";
+    prefix(s, 0);
+    prefix(s, 1);
+    prefix(s, 2);
+    prefix(s, 3);
+    prefix(s, 4);
+    prefix(s, 5);
+    prefix(s, 6);
+    prefix(s, 7);
+    prefix(s, 8);
+    prefix(s, 19);
+    prefix(s, 20);
+}
+
+// 255 messages of a byte each.
+fn full() -> [u8; 1277] {
+    let mut s = [0u8; 1277];
+    s[0] = 65;
+    s[1] = 255;
+    let mut i: usize = 0;
+    while i < 255 {
+        s[512 + 2 * i] = 1;
+        i += 1;
+    }
+    s
+}
+
+fn place(words: &[u8], s: &[u8], k: usize) {
+    put(words);
+    match message_place(s, &[], k) {
+        MessageRead::Refused(n, place) => refused(n, place),
+        MessageRead::Is(m, next) => {
+            number(m.offset);
+            number(m.length);
+            number(next);
+        }
+    }
+    put(b"\n");
+}
+
+fn many() {
+    let s = full();
+    place(b"message 0 of 255:", &s, 0);
+    place(b"message 254 of 255:", &s, 254);
+    place(b"message 255 of 255:", &s, 255);
+    place(b"255 sizes above the rest:", part(&s, 0, 1276), 0);
+}
+
 fn main() {
     let mut text = [0u8; 16384];
     let n = io::read_full(STDIN_FILENO, &mut text);
     vectors(part(&text, 0, n));
     large();
+    prefixes();
+    many();
 }
