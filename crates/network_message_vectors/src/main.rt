@@ -15,6 +15,9 @@ use network_message::payload::MessageRead;
 use network_message::payload::MessageStep;
 use network_message::payload::Payload;
 use network_message::publisher::PublisherId;
+use network_message::publisher_record::PublisherRecord;
+use network_message::publisher_record::publisher_record;
+use network_message::publisher_record::same_publisher;
 use text::hex::read_hex;
 use text::words::find;
 use wire::optional::Optional16;
@@ -222,6 +225,58 @@ fn many() {
     place(b"255 sizes above the rest:", part(&s, 0, 1276), 0);
 }
 
+// The PublisherId of a datagram under one writer that takes the rest, kept by value; absent where it is refused.
+fn kept(s: &[u8]) -> PublisherRecord {
+    match read(s, &[0]) {
+        NetworkMessageRead::Refused(_, _) => publisher_record(s, PublisherId::Absent, 0),
+        NetworkMessageRead::Is(envelope, places, _) => {
+            let id = envelope.publisher;
+            publisher_record(s, id, places.publisher_end)
+        }
+    }
+}
+
+fn compare(words: &[u8], a: &[u8], b: &[u8]) {
+    put(words);
+    if same_publisher(kept(a), kept(b)) {
+        put(b" equal\n");
+    } else {
+        put(b" other\n");
+    }
+}
+
+fn publishers() {
+    compare(b"Byte 5 and Byte 5:", b"\x11\x05\x00", b"\x11\x05\xff");
+    compare(b"Byte 5 and Byte 6:", b"\x11\x05\x00", b"\x11\x06\x00");
+    compare(
+        b"Byte 5 and UInt16 5:",
+        b"\x11\x05\x00",
+        b"\x91\x01\x05\x00\x00",
+    );
+    compare(b"both absent:", b"\x01\x00", b"\x81\x05\x00");
+    compare(b"absent and Byte 0:", b"\x01\x00", b"\x11\x00\x00");
+    compare(
+        b"absent and an empty string:",
+        b"\x01\x00",
+        b"\x91\x04\x00\x00\x00\x00\x00",
+    );
+    compare(
+        b"abc and abc:",
+        b"\x91\x04\x03\x00\x00\x00abc\x00",
+        b"\x91\x04\x03\x00\x00\x00abc\x01",
+    );
+    compare(
+        b"abc and abd:",
+        b"\x91\x04\x03\x00\x00\x00abc\x00",
+        b"\x91\x04\x03\x00\x00\x00abd\x00",
+    );
+    compare(
+        b"abc and ab:",
+        b"\x91\x04\x03\x00\x00\x00abc\x00",
+        b"\x91\x04\x02\x00\x00\x00abc",
+    );
+}
+
 fn main() {
     let mut text = [0u8; 16384];
     let n = io::read_full(STDIN_FILENO, &mut text);
@@ -229,4 +284,5 @@ fn main() {
     large();
     prefixes();
     many();
+    publishers();
 }
