@@ -1,0 +1,5 @@
+pub mod Cases
+pub mod ViewLaws
+pub mod MarkLaws
+pub mod AreaLaws
+pub mod SameLaws

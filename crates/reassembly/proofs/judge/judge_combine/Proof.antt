@@ -1,0 +1,84 @@
+use borrow.Author.Needs.{needs}
+use Rattle.reassembly.proofs.judge.judge_combine.Statement.{statement}
+use Rattle.reassembly.proofs.judge.judge_combine.Tie as tie
+use Rattle.reassembly.proofs.judge.judge_combine.Reads as reads
+use Rattle.reassembly.proofs.judge.judge_combine.Lts as lts
+use Rattle.reassembly.proofs.areas.clash_covered.Reads as clash-covered-reads
+use Rattle.reassembly.proofs.judge.admit.Reads as admit-reads
+use Rattle.reassembly.proofs.judge.unless_clash.Reads as unless-clash-reads
+use Rattle.reassembly.proofs.record.is_sound.Reads as is-sound-reads
+
+-- src/judge.rt:82:9
+is-sound-requires : tie.Need-is-sound-requires
+is-sound-requires c κs = search needs
+
+-- src/judge.rt:83:9
+returns : tie.Need-returns
+returns c = ?
+
+-- src/judge.rt:85:9
+is-sound-requires-2 : tie.Need-is-sound-requires-2
+is-sound-requires-2 c κs = search needs
+
+-- src/judge.rt:86:9
+returns-2 : tie.Need-returns-2
+returns-2 c = ?
+
+-- src/judge.rt:89:9
+returns-3 : tie.Need-returns-3
+returns-3 c = ?
+
+-- src/judge.rt:92:11
+admit-requires : tie.Need-admit-requires
+admit-requires c κs = search needs
+
+-- src/judge.rt:93:28
+enum-known-n : tie.Need-enum-known-n
+enum-known-n c = search needs
+
+-- src/judge.rt:94:29
+enum-told : tie.Need-enum-told
+enum-told c = search needs
+
+-- src/judge.rt:95:41
+enum-told-2 : tie.Need-enum-told-2
+enum-told-2 c = search needs
+
+-- src/judge.rt:95:41
+clash-covered-requires : tie.Need-clash-covered-requires
+clash-covered-requires c κs = ?
+
+-- src/judge.rt:95:28
+unless-clash-requires : tie.Need-unless-clash-requires
+unless-clash-requires c κs = search needs
+
+-- src/judge.rt:72:1
+returns-4 : tie.Need-returns-4
+returns-4 c = ?
+
+-- src/judge.rt:72:1
+returns-5 : tie.Need-returns-5
+returns-5 c = ?
+
+-- src/judge.rt:72:1
+returns-6 : tie.Need-returns-6
+returns-6 c = ?
+
+pub judge-combine-spec : {M : Type 1} → statement M
+judge-combine-spec =
+    tie.close
+    (tie.spec
+    is-sound-requires
+    returns
+    is-sound-requires-2
+    returns-2
+    returns-3
+    admit-requires
+    enum-known-n
+    enum-told
+    enum-told-2
+    clash-covered-requires
+    unless-clash-requires
+    returns-4
+    returns-5
+    returns-6)

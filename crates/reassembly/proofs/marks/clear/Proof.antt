@@ -1,0 +1,59 @@
+-- `marks::clear` meets its contract. The invariant: the first i marks are 0, and the rest are as they came.
+-- Assumes nothing.
+use Prim.Native.Nat.{_-_, _≤_}
+use native.Mathlib.Omega.{arith}
+use mathlib.Core.Path.{_≡_, refl, ap, _∙_}
+use mathlib.Core.List.{_++_, append-nil}
+use denote.Ref.{now}
+use lib.ListN.{length, drop, replicate, length-set, set, drop-of-length-le}
+use borrow.Author.Fill.{fill-none, fill-more}
+use Rattle.reassembly.specs.Marks.{cleared}
+use Rattle.reassembly.proofs.marks.clear.Statement.{statement}
+use Rattle.reassembly.proofs.marks.clear.Tie as tie
+
+abbrev Inv-loop : tie.InvT-loop
+Inv-loop marks₀ i₀ marks i = (i ≤ length marks₀) × (length marks ≡ length marks₀) × (marks ≡ replicate i 0 ++ drop i marks₀)
+
+abbrev μ-loop : tie.MeasureT-loop
+μ-loop marks₀ i₀ marks i = length marks₀ - i
+
+loop-holds : tie.Need-loop-holds Inv-loop μ-loop
+loop-holds c = (omega arith, refl, fill-none _ 0)
+
+slice-write-marks : tie.Need-slice-write-marks Inv-loop μ-loop
+slice-write-marks c = omega arith
+
+add-i : tie.Need-add-i Inv-loop μ-loop
+add-i c = omega arith
+
+loop-less : tie.Need-loop-less Inv-loop μ-loop
+loop-less c = omega arith
+
+loop-again : tie.Need-loop-again Inv-loop μ-loop
+loop-again c =
+    (omega arith, simp length-set (c .before .loop .inv .1), rw (c .before .loop .inv .2) (fill-more (c .before .loop .i) 0 (c .before .before .args .marks .now) (omega arith)))
+
+same-length : tie.Need-same-length Inv-loop μ-loop
+same-length c = c .before .loop .inv .1
+
+returns : tie.Need-returns Inv-loop μ-loop
+unfolding cleared
+returns c =
+    let l = c .before .loop in
+    let m = now (c .before .before .args .marks) in
+    let e : l .i ≡ length m = omega arith in
+    l .inv .2 ∙ rw (drop-of-length-le m {i = l .i} (omega arith), append-nil, e)
+
+pub clear-spec : {M : Type 1} → statement M
+clear-spec =
+    tie.close
+    (tie.spec
+    Inv-loop
+    μ-loop
+    loop-holds
+    slice-write-marks
+    add-i
+    loop-less
+    loop-again
+    same-length
+    returns)
