@@ -3,3 +3,4 @@ pub mod ViewLaws
 pub mod MarkLaws
 pub mod AreaLaws
 pub mod SameLaws
+pub mod JudgeLaws

@@ -1,6 +1,7 @@
 -- A partial: its record and its two areas, and when it is sound.
 use Prim.Native.Nat.{ℕ}
-use mathlib.Core.Bool.{Bool, not, _&&_, _||_}
+use mathlib.Core.Bool.{Bool, true, not, _&&_, _||_}
+use mathlib.Core.Path.{_≡_}
 use mathlib.Core.List.{List}
 use lib.ListN.{length}
 use lib.Dec.{leb, eqb}
@@ -43,3 +44,7 @@ soundBy r n k =
 
 abbrev pub sound : Partial → Bool
 sound s = soundBy (s .rec) (length (s .payload)) (length (s .marks))
+
+-- what the laws ask of a partial
+pub record Good (s : Partial) : Type 0 where
+  pub is-sound : sound s ≡ true

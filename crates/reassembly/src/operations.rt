@@ -47,9 +47,10 @@ pub fn take_in(
     }
     let c = read.chunk;
     let m = c.message;
+    let end = c.offset + bytes.len();
     let next = begin(rec, marks, m);
     store_data(payload, c.offset, bytes);
-    mark_range(marks, c.offset, c.offset + bytes.len());
+    mark_range(marks, c.offset, end);
     Outcome { verdict, rec: next }
 }
 

@@ -1,3 +1,14 @@
+use Rattle.reassembly.proofs.JudgeLaws.{admitted, reading-unsound, reading-refused, reading-admits, data-room, reading-same}
+use Rattle.reassembly.specs.declared.verdict.Verdict.the-variants.{Done, Refused}
+use Rattle.reassembly.specs.declared.judge.Admission.{Admission}
+use Rattle.reassembly.specs.Judge.{viewOf}
+use Rattle.reassembly.specs.ChunkRead.{readingOf}
+use Rattle.reassembly.specs.Record.{partial}
+use Rattle.reassembly.specs.Views.{clash, dataView}
+use borrow.Author.Tests.{not-true, not-false}
+use denote.Ref.{now}
+use mathlib.Core.Bool.{Bool, cond}
+use mathlib.Core.Path.{_≡_, sym, ap, _∙_}
 use borrow.Author.Needs.{needs}
 use Rattle.reassembly.proofs.judge.judge_reading.Statement.{statement}
 use Rattle.reassembly.proofs.judge.judge_reading.Tie as tie
@@ -15,7 +26,10 @@ is-sound-requires c κs = search needs
 
 -- src/judge.rt:56:9
 returns : tie.Need-returns
-returns c = ?
+returns c =
+    let a = c .before .before .before .before .before .args in
+    let s = partial (a .rec) (now (a .payload)) (now (a .marks)) in
+    sym (reading-unsound s (readingOf (a .read) (now (a .bytes))) (sym (c .before .is-sound .ensures) ∙ not-true _ (c .if1 .taken)))
 
 -- src/judge.rt:58:9
 read-fault-requires : tie.Need-read-fault-requires
@@ -27,7 +41,10 @@ enum-told c = search needs
 
 -- src/judge.rt:60:9
 returns-2 : tie.Need-returns-2
-returns-2 c = ?
+returns-2 c =
+    let a = c .before .before .before .before .before .before .before .before .args in
+    let s = partial (a .rec) (now (a .payload)) (now (a .marks)) in
+    c .enum-told .given .1 ∙ sym (reading-refused s (a .read) (now (a .bytes)) (sym (c .before .before .before .before .is-sound .ensures) ∙ not-false _ (c .before .before .before .if1 .left)) _ _ (sym (c .before .before .read-fault .ensures) ∙ c .enum-told .given .1))
 
 enum-told-2 : tie.Need-enum-told-2
 enum-told-2 c = search needs
@@ -50,7 +67,10 @@ enum-told-4 c = search needs
 
 -- src/judge.rt:67:41
 clash-data-requires : tie.Need-clash-data-requires
-clash-data-requires c κs = ?
+clash-data-requires c κs =
+    let a = c .before .before .before .before .before .before .before .before .before .before .before .before .before .args in
+    let s = partial (a .rec) (now (a .payload)) (now (a .marks)) in
+    data-room s (a .read) (now (a .bytes)) (sym (c .before .before .before .before .before .before .before .before .before .is-sound .ensures) ∙ not-false _ (c .before .before .before .before .before .before .before .before .if1 .left)) (sym (c .before .before .before .before .before .before .before .read-fault .ensures) ∙ c .before .before .before .before .before .enum-told2 .given .1) (sym (c .before .before .admit .ensures) ∙ c .enum-told4 .given .1)
 
 -- src/judge.rt:67:28
 unless-clash-requires : tie.Need-unless-clash-requires
@@ -58,15 +78,29 @@ unless-clash-requires c κs = search needs
 
 -- src/judge.rt:46:1
 returns-3 : tie.Need-returns-3
-returns-3 c = ?
+returns-3 c =
+    let a = c .before .before .before .before .before .before .before .before .before .before .before .before .before .before .args in
+    let d = now (a .bytes) in
+    let s = partial (a .rec) (now (a .payload)) (now (a .marks)) in
+    sym (reading-admits s (a .read) d (sym (c .before .before .before .before .before .before .before .before .before .before .is-sound .ensures) ∙ not-false _ (c .before .before .before .before .before .before .before .before .before .if1 .left)) (sym (c .before .before .before .before .before .before .before .before .read-fault .ensures) ∙ c .before .before .before .before .before .before .enum-told2 .given .1)
+    ∙ ap (λ (x : Admission). admitted x (clash (a .rec .message .total) (viewOf s) (dataView (a .read .chunk .offset) d))) (sym (c .before .before .before .admit .ensures) ∙ c .before .n .given .1))
 
 -- src/judge.rt:46:1
 returns-4 : tie.Need-returns-4
-returns-4 c = ?
+returns-4 c =
+    let a = c .before .before .before .before .before .before .before .before .before .before .before .before .before .args in
+    let d = now (a .bytes) in
+    let s = partial (a .rec) (now (a .payload)) (now (a .marks)) in
+    sym (reading-admits s (a .read) d (sym (c .before .before .before .before .before .before .before .before .before .is-sound .ensures) ∙ not-false _ (c .before .before .before .before .before .before .before .before .if1 .left)) (sym (c .before .before .before .before .before .before .before .read-fault .ensures) ∙ c .before .before .before .before .before .enum-told2 .given .1)
+    ∙ ap (λ (x : Admission). admitted x (clash (a .rec .message .total) (viewOf s) (dataView (a .read .chunk .offset) d))) (sym (c .before .before .admit .ensures) ∙ c .enum-told3 .given .1))
 
 -- src/judge.rt:46:1
 returns-5 : tie.Need-returns-5
-returns-5 c = ?
+returns-5 c =
+    let a = c .before .before .before .before .before .before .before .before .before .before .before .before .before .before .before .args in
+    let s = partial (a .rec) (now (a .payload)) (now (a .marks)) in
+    c .unless-clash .ensures ∙ ap (λ (b : Bool). cond b (Refused 14 0) Done) (c .before .clash-data .ensures)
+    ∙ sym (reading-same s (a .read) (now (a .bytes)) (sym (c .before .before .before .before .before .before .before .before .before .before .before .is-sound .ensures) ∙ not-false _ (c .before .before .before .before .before .before .before .before .before .before .if1 .left)) (sym (c .before .before .before .before .before .before .before .before .before .read-fault .ensures) ∙ c .before .before .before .before .before .before .before .enum-told2 .given .1) (sym (c .before .before .before .before .admit .ensures) ∙ c .before .before .enum-told4 .given .1))
 
 pub judge-reading-spec : {M : Type 1} → statement M
 judge-reading-spec =

@@ -1,3 +1,10 @@
+use Rattle.reassembly.proofs.JudgeLaws.{sound-total, hand-sound, hand-started}
+use Rattle.reassembly.specs.Operations.{handOut}
+use Rattle.reassembly.specs.Record.{partial}
+use lib.Seq.{length-take-le}
+use lib.ListN.{length}
+use denote.Ref.{now}
+use mathlib.Core.Path.{_≡_, sym, _∙_}
 use borrow.Author.Needs.{needs}
 use Rattle.reassembly.proofs.operations.hand_out.Statement.{statement}
 use Rattle.reassembly.proofs.operations.hand_out.Tie as tie
@@ -19,18 +26,26 @@ slice-aggregate-result c = search needs
 
 -- src/operations.rt:125:9
 returns : tie.Need-returns
-returns c = ?
+unfolding handOut
+returns c =
+    rw (sym (c .before .before .before .hand-out-verdict .ensures) ∙ c .before .enum-told .given .1)
 
 enum-told-2 : tie.Need-enum-told-2
 enum-told-2 c = search needs
 
 -- src/operations.rt:129:5
 slice-aggregate-result-2 : tie.Need-slice-aggregate-result-2
-slice-aggregate-result-2 c = ?
+slice-aggregate-result-2 c =
+    let a = c .before .before .before .before .before .before .before .args in
+    let s = partial (a .rec) (now (a .payload)) (now (a .marks)) in
+    let e = sym (c .before .before .before .before .hand-out-verdict .ensures) ∙ c .before .before .enum-told2 .given .1 in
+    sym (length-take-le (a .rec .message .total) (now (a .payload)) (sound-total (a .rec) (length (now (a .payload))) (length (now (a .marks))) (hand-sound s e) (hand-started s e)))
 
 -- src/operations.rt:121:1
 returns-2 : tie.Need-returns-2
-returns-2 c = ?
+unfolding handOut
+returns-2 c =
+    rw (sym (c .before .before .before .before .hand-out-verdict .ensures) ∙ c .before .before .enum-told2 .given .1)
 
 pub hand-out-spec : {M : Type 1} → statement M
 hand-out-spec =

@@ -1,3 +1,7 @@
+use Rattle.reassembly.proofs.JudgeLaws.{hand-refused, hand-no, hand-yes}
+use Rattle.reassembly.specs.Record.{partial}
+use denote.Ref.{now}
+use mathlib.Core.Path.{_≡_, sym, _∙_}
 use borrow.Author.Needs.{needs}
 use Rattle.reassembly.proofs.operations.hand_out_verdict.Statement.{statement}
 use Rattle.reassembly.proofs.operations.hand_out_verdict.Tie as tie
@@ -23,15 +27,21 @@ enum-known-n c = search needs
 
 -- src/operations.rt:110:1
 returns : tie.Need-returns
-returns c = ?
+returns c =
+    let a = c .before .before .before .before .before .args in
+    sym (hand-yes (partial (a .rec) (now (a .payload)) (now (a .marks))) (sym (c .before .before .ask-complete .ensures) ∙ c .enum-told .given .1))
 
 -- src/operations.rt:110:1
 returns-2 : tie.Need-returns-2
-returns-2 c = ?
+returns-2 c =
+    let a = c .before .before .before .before .before .args in
+    sym (hand-no (partial (a .rec) (now (a .payload)) (now (a .marks))) (sym (c .before .before .ask-complete .ensures) ∙ c .enum-told2 .given .1))
 
 -- src/operations.rt:110:1
 returns-3 : tie.Need-returns-3
-returns-3 c = ?
+returns-3 c =
+    let a = c .before .before .before .before .before .before .args in
+    sym (hand-refused (partial (a .rec) (now (a .payload)) (now (a .marks))) _ _ (sym (c .before .before .before .ask-complete .ensures) ∙ c .before .n .given .1))
 
 pub hand-out-verdict-spec : {M : Type 1} → statement M
 hand-out-verdict-spec =
