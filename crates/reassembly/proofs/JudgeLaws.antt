@@ -155,7 +155,7 @@ pub meet-free : (k m : Identity) (w v : View) → meet (held k w) m v ≡ Done �
 meet-free k m w v e =
     by-bool _ (clash (k .total) w v) (λ t. absurd (refused-done 14 0 (rw (meet-same k m w v e, t) at e))) (λ t. t)
 
-length-begun : (r : PartialRecord) (m n : List ℕ) → n ≡ begunMarks r m → length n ≡ length m
+pub length-begun : (r : PartialRecord) (m n : List ℕ) → n ≡ begunMarks r m → length n ≡ length m
 length-begun r m n e = ap length e ∙ by-bool _ (r .started) (λ t. rw t) (λ t. rw t (length-cleared m))
 
 -- ---- taking in

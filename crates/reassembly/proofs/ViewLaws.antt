@@ -12,7 +12,7 @@ use lib.ListN.{length, getD, set, length-set}
 use lib.Seq.{ext-getD, getD-set-same, getD-set-other}
 use lib.Dec.{ltb, leb, eqb}
 use borrow.Author.Tests.{lt-ltb, le-ltb, le-leb, lt-leb, eq-eqb, eqb-true, not-false}
-use Rattle.reassembly.specs.Views.{View, tab, anyBelow, allBelow, isSome, has, onlyIf, inRange, dataView, joined, differs, clash, full, laid}
+use Rattle.reassembly.specs.Views.{View, tab, anyBelow, allBelow, isSome, has, onlyIf, inRange, dataView, nowhere, joined, differs, clash, full, laid}
 use Rattle.reassembly.proofs.Cases.{by-bool, by-eq, by-lt}
 
 -- ---- lists by their elements
@@ -208,3 +208,7 @@ pub first-known : (o : Option ℕ) (x : ℕ) → differs o (some x) ≡ false �
 unfolding orElse
 first-known (some y) x e = ap some (eqb-true y x (not-false (eqb y x) e))
 first-known none x e = refl
+
+pub joined-nowhere : (v : View) → joined nowhere v ≡ v
+unfolding orElse
+joined-nowhere v = refl

@@ -5,12 +5,12 @@ use mathlib.Core.List.{List}
 use mathlib.Core.Path.{_≡_}
 use lib.ListN.{length}
 use lib.Dec.{leb}
-use Rattle.reassembly.specs.Views.{View, dataView}
+use Rattle.reassembly.specs.Views.{View, has, dataView}
 use Rattle.reassembly.specs.Areas.{markedView}
 use Rattle.reassembly.specs.Record.{Partial, identityOf, sameMessage, sound}
 use Rattle.reassembly.specs.ChunkRead.{Reading}
 use Rattle.reassembly.specs.ChunkRead.Reading.{chunk, refusal}
-use Rattle.reassembly.specs.Machine.{State, judgeState}
+use Rattle.reassembly.specs.Machine.{State, viewIn, judgeState}
 use Rattle.reassembly.specs.Machine.State.{idle, held}
 use Rattle.reassembly.specs.declared.judge.Admission.{Admission}
 use Rattle.reassembly.specs.declared.judge.Admission.the-variants as A
@@ -26,6 +26,10 @@ viewOf s = markedView (s .rec .message .total) (s .payload) (s .marks)
 -- a partial not started covers no byte, whatever its record and marks say
 abbrev pub stateOf : Partial → State
 stateOf s = cond (s .rec .started) (held (identityOf (s .rec .message)) (viewOf s)) idle
+
+-- whether byte i is covered
+abbrev pub covered : Partial → ℕ → Bool
+covered s i = has (viewIn (stateOf s)) i
 
 -- started partials are equal if records, covered places and the bytes there agree; all not started are equal
 abbrev pub Equal : Partial → Partial → Type 0

@@ -8,3 +8,4 @@ pub mod Machine
 pub mod Judge
 pub mod Operations
 pub mod History
+pub mod Combining
