@@ -10,7 +10,7 @@ use lib.ListN.{length, getD}
 use lib.Seq.{ext-getD}
 use Rattle.reassembly.specs.Views.{View, isSome, dataView, differs, clash, joined, nowhere, bytesOf}
 use Rattle.reassembly.specs.Record.{Identity, Partial, sound}
-use Rattle.reassembly.specs.ChunkRead.{Reading, readingOf}
+use Rattle.reassembly.specs.ChunkRead.{Reading, readingOf, ProperReading}
 use Rattle.reassembly.specs.ChunkRead.Reading.{chunk, refusal}
 use Rattle.reassembly.specs.Machine.{State, viewIn, judge, judgeState, accept, acceptState, complete}
 use Rattle.reassembly.specs.Machine.State.{idle, held}
@@ -23,7 +23,7 @@ use Rattle.reassembly.proofs.Cases.{by-bool, by-lt}
 use Rattle.reassembly.proofs.ViewLaws.{length-tab, getD-tab, full-some, none-clash, data-above, first-known, differs-none}
 use Rattle.reassembly.proofs.AreaLaws.{marked-above}
 use Rattle.reassembly.proofs.SameLaws.{same-message-true}
-use Rattle.reassembly.proofs.JudgeLaws.{refused-done, judge-meets, meet-same, meet-free, ProperReading, reading-proper}
+use Rattle.reassembly.proofs.JudgeLaws.{refused-done, judge-meets, meet-same, meet-free, reading-proper}
 use Rattle.reassembly.proofs.StateLaws.{Bounded}
 
 pub bounded : (s : Partial) → Bounded (stateOf s)

@@ -14,7 +14,7 @@ use Rattle.reassembly.specs.Marks.{marksFor, cleared, markAll}
 use Rattle.reassembly.specs.Areas.{markedView}
 use Rattle.reassembly.specs.Publisher.{publisherFits}
 use Rattle.reassembly.specs.Record.{Identity, identityOf, Partial, partial, soundBy, sound, Good}
-use Rattle.reassembly.specs.ChunkRead.{Reading, readingOf}
+use Rattle.reassembly.specs.ChunkRead.{Reading, readingOf, ProperReading}
 use Rattle.reassembly.specs.ChunkRead.Reading.{chunk, refusal}
 use Rattle.reassembly.specs.Machine.{State, judge, judgeState, accept, acceptState, complete}
 use Rattle.reassembly.specs.Machine.State.{idle, held}
@@ -47,12 +47,8 @@ fit-sound r n k e f =
     (or-true (not (r .started)))
 
 -- ---- bytes put into a good partial
-module _ (m : Message) (v : View) (s : Partial) (ok : Good s) (fit : Fit m (length (s .payload))) where
-  put-lengths : (length (put m v s .payload) ≡ length (s .payload)) × (length (put m v s .marks) ≡ length (s .marks))
-  unfolding put
-  put-lengths = (length-laid v (s .payload), length-markAll (has v) (begunMarks (s .rec) (s .marks)) ∙ JudgeLaws.length-begun (s .rec) (s .marks) _ refl)
-
-  put-started : s .rec .started ≡ true → put m v s ≡ partial (s .rec) (laid v (s .payload)) (markAll (has v) (s .marks))
+module _ (m : Message) (v : View) (s : Partial) where
+  pub put-started : s .rec .started ≡ true → put m v s ≡ partial (s .rec) (laid v (s .payload)) (markAll (has v) (s .marks))
   unfolding put
   put-started e = rw e
 
@@ -60,11 +56,16 @@ module _ (m : Message) (v : View) (s : Partial) (ok : Good s) (fit : Fit m (leng
   unfolding put
   put-idle e = rw e
 
+module _ (m : Message) (v : View) (s : Partial) (ok : Good s) (fit : Fit m (length (s .payload))) where
+  put-lengths : (length (put m v s .payload) ≡ length (s .payload)) × (length (put m v s .marks) ≡ length (s .marks))
+  unfolding put
+  put-lengths = (length-laid v (s .payload), length-markAll (has v) (begunMarks (s .rec) (s .marks)) ∙ JudgeLaws.length-begun (s .rec) (s .marks) _ refl)
+
   pub put-good : Good (put m v s)
   put-good = record {
     is-sound = by-bool _ (s .rec .started)
-        (λ e. rw (put-started e, length-laid v (s .payload), length-markAll (has v) (s .marks)) (ok .is-sound))
-        (λ e. rw (put-idle e, length-laid v (s .payload), length-markAll (has v) (cleared (s .marks)), length-cleared (s .marks))
+        (λ e. rw (put-started m v s e, length-laid v (s .payload), length-markAll (has v) (s .marks)) (ok .is-sound))
+        (λ e. rw (put-idle m v s e, length-laid v (s .payload), length-markAll (has v) (cleared (s .marks)), length-cleared (s .marks))
         (fit-sound (record { started = true; message = m }) (length (s .payload)) (length (s .marks)) (JudgeLaws.sound-lengths (s .rec) _ _ (ok .is-sound)) fit));
   }
 
@@ -77,7 +78,7 @@ module _ (m : Message) (v : View) (s : Partial) (ok : Good s) (fit : Fit m (leng
       let met₁ = JudgeLaws.judge-meets (length (s .payload)) (held k (viewOf s)) (identityOf m) v (rw e at met) in
       let same : t ≡ m .total = ap (λ (x : Identity). x .total) (same-message-true k (identityOf m) (JudgeLaws.meet-same k (identityOf m) (viewOf s) v met₁)) in
       let u : t ≤ length (s .payload) = JudgeLaws.sound-total (s .rec) _ _ (ok .is-sound) e in
-      rw (put-started e, e)
+      rw (put-started m v s e, e)
       (ap (held k) (view-put t v (s .payload) (s .marks) u (JudgeLaws.sound-marks (s .rec) _ _ (ok .is-sound) t u) (λ i h. above i (omega arith)) (JudgeLaws.meet-free k (identityOf m) (viewOf s) v met₁))))
       (λ e.
       let t = m .total in
@@ -85,7 +86,7 @@ module _ (m : Message) (v : View) (s : Partial) (ok : Good s) (fit : Fit m (leng
       let none-held : markedView t (s .payload) z ≡ nowhere = cleared-nowhere t (s .payload) (s .marks) in
       let free : clash t (markedView t (s .payload) z) v ≡ false = rw none-held (clash-none t nowhere v (λ i h. refl)) in
       let room : marksFor t ≤ length z = rw (length-cleared (s .marks)) (JudgeLaws.sound-marks (s .rec) _ _ (ok .is-sound) t (fit .room)) in
-      rw (put-idle e, e)
+      rw (put-idle m v s e, e)
       (ap (held (identityOf m)) (view-put t v (s .payload) z (fit .room) room above free ∙ ap (λ (w : View). joined w v) none-held ∙ joined-nowhere v)))
 
 -- ---- a step that brings t, judged by v
@@ -112,7 +113,7 @@ module _ (s : Partial) (ok : Good s) (x : Step) (v : Verdict) (t : State) where
 
 module _ (s : Partial) (ok : Good s) where
   -- ---- taking in
-  pub take-stepped : (x : Reading) → JudgeLaws.ProperReading x → Stepped s (takeIn s x) (readingVerdict (length (s .payload)) (stateOf s) x) (alone x)
+  pub take-stepped : (x : Reading) → ProperReading x → Stepped s (takeIn s x) (readingVerdict (length (s .payload)) (stateOf s) x) (alone x)
   take-stepped (refusal k p) o =
       step-refused s ok _ _ _ k p
       (JudgeLaws.take-refused s (refusal k p) k p (JudgeLaws.reading-judged s (refusal k p) (ok .is-sound))) refl

@@ -12,7 +12,7 @@ use Rattle.reassembly.specs.Marks.{marksFor, markAll, markedBelow, allMa
 use Rattle.reassembly.specs.Areas.{markedView}
 use Rattle.reassembly.specs.Publisher.{publisherFits}
 use Rattle.reassembly.specs.Record.{Identity, identityOf, sameMessage, Partial, partial, soundBy, sound}
-use Rattle.reassembly.specs.ChunkRead.{Reading, chunkFault, readFault, readingBy, readingOf}
+use Rattle.reassembly.specs.ChunkRead.{Reading, chunkFault, readFault, readingOf, Proper, ProperReading}
 use Rattle.reassembly.specs.ChunkRead.Reading.{chunk, refusal}
 use Rattle.reassembly.specs.Machine.{State, judge, judgeState, meet}
 use Rattle.reassembly.specs.Machine.State.{idle, held}
@@ -58,16 +58,7 @@ module _ (r : PartialRecord) (n k : ℕ) (e : soundBy r n k ≡ true) where
   pub sound-marks : (t : ℕ) → t ≤ n → marksFor t ≤ k
   sound-marks t h = let l = sound-lengths in omega (arith, marks-mono t n h)
 
--- ---- a chunk that was read and has no fault of its own
-pub record Proper (m : Message) (at n : ℕ) : Type 0 where
-  pub publisher : publisherFits (m .publisher) ≡ true
-  pub some : 1 ≤ m .total
-  pub fits : at + n ≤ m .total
-
-abbrev pub ProperReading : Reading → Type 0
-ProperReading (chunk m at d) = Proper m at (length d)
-ProperReading (refusal n p) = Unit {0}
-
+-- ---- a chunk with no fault of its own
 six-zero : _≡_ {A = ℕ} 6 0 → ⊥
 six-zero e = omega arith
 

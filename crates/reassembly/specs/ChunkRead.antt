@@ -1,6 +1,7 @@
 -- A chunk as it was read from a datagram.
-use Prim.Native.Nat.{ℕ, _+_}
-use mathlib.Core.Bool.{cond}
+use Prim.Native.Nat.{ℕ, _+_, _≤_}
+use mathlib.Core.Bool.{true, cond}
+use mathlib.Core.Path.{_≡_}
 use mathlib.Core.List.{List}
 use lib.ListN.{length}
 use lib.Dec.{leb, eqb}
@@ -39,3 +40,13 @@ readingBy (Refused n p) c d = refusal n p
 
 abbrev pub readingOf : ChunkRead → List ℕ → Reading
 readingOf r d = readingBy (readFault r (length d)) (r .chunk) d
+
+-- what a chunk with no fault of its own tells: at is its offset, n the length of its data
+pub record Proper (m : Message) (at n : ℕ) : Type 0 where
+  pub publisher : publisherFits (m .publisher) ≡ true
+  pub some : 1 ≤ m .total
+  pub fits : at + n ≤ m .total
+
+abbrev pub ProperReading : Reading → Type 0
+ProperReading (chunk m at d) = Proper m at (length d)
+ProperReading (refusal n p) = Unit {0}

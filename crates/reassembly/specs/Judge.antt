@@ -1,6 +1,6 @@
 -- What a partial covers, and what each operation answers.
-use Prim.Native.Nat.{ℕ}
-use mathlib.Core.Bool.{Bool, cond, _&&_}
+use Prim.Native.Nat.{ℕ, _<_}
+use mathlib.Core.Bool.{Bool, true, cond, _&&_}
 use mathlib.Core.List.{List}
 use mathlib.Core.Path.{_≡_}
 use lib.ListN.{length}
@@ -30,6 +30,10 @@ stateOf s = cond (s .rec .started) (held (identityOf (s .rec .message)) (viewOf 
 -- whether byte i is covered
 abbrev pub covered : Partial → ℕ → Bool
 covered s i = has (viewIn (stateOf s)) i
+
+-- complete: started, and covered at every byte below total
+abbrev pub Complete : Partial → Type 0
+Complete s = (s .rec .started ≡ true) × ((i : ℕ) → i < s .rec .message .total → covered s i ≡ true)
 
 -- started partials are equal if records, covered places and the bytes there agree; all not started are equal
 abbrev pub Equal : Partial → Partial → Type 0
