@@ -11,3 +11,4 @@ pub mod Following
 pub mod Bringing
 pub mod Combining
 pub mod Demand3
+pub mod Edges

@@ -1,0 +1,70 @@
+// Histories of partials combined.
+use crate::show::{areas, ask, blank, chunk, combine, combine_from, emptied, fresh, hand_out, message, ours, started, take, text, with_record};
+
+// Two parts that overlap and agree, in either order.
+pub fn either_order() {
+    text(b"combining in either order\n");
+    let a = take(blank(46, 0), chunk(ours(5), 0), b"abc");
+    let b = take(blank(95, 0), chunk(ours(5), 2), b"cd");
+    let ab = combine(a, b);
+    areas(ab);
+    let ba = combine(b, a);
+    areas(ba);
+    ask(ab);
+    ask(ba);
+    let same = combine(ab, ba);
+    areas(same);
+    hand_out(take(same, chunk(ours(5), 4), b"e"));
+}
+
+// 14 by a byte that both cover, 13 by the message, in either order.
+pub fn disagreeing() {
+    text(b"disagreeing\n");
+    let a = take(blank(46, 0), chunk(ours(5), 0), b"abc");
+    let b = take(blank(95, 0), chunk(ours(5), 2), b"xd");
+    areas(combine(a, b));
+    areas(combine(b, a));
+    let c = take(emptied(b), chunk(message(21, 8, 5), 3), b"d");
+    areas(combine(a, c));
+    areas(combine(c, a));
+}
+
+// A source not started changes nothing, whatever its record and marks say.
+pub fn not_started() {
+    text(b"a source not started\n");
+    let source = with_record(blank(97, 1), fresh(message(1, 1, 9)));
+    let a = combine(blank(46, 5), source);
+    ask(a);
+    areas(a);
+    let b = take(a, chunk(ours(3), 0), b"x");
+    areas(combine(b, source));
+}
+
+// A target not started takes the record over, with every mark cleared, also where the source covers nothing.
+pub fn takes_over() {
+    text(b"taking over\n");
+    let from = [97u8; 3];
+    let none = [0u8, 9, 2];
+    let some = [1u8, 7, 1];
+    let source = started(ours(3));
+    let a = combine_from(blank(46, 5), source, &from, &none);
+    areas(a);
+    ask(a);
+    let b = take(a, chunk(message(1, 1, 4), 0), b"x");
+    let c = combine_from(b, source, &from, &some);
+    areas(c);
+    hand_out(take(c, chunk(ours(3), 1), b"b"));
+}
+
+// Three parts in either grouping; then two of three disagree.
+pub fn groupings() {
+    text(b"groupings\n");
+    let a = take(blank(46, 0), chunk(ours(4), 0), b"ab");
+    let b = take(blank(95, 0), chunk(ours(4), 1), b"bc");
+    let c = take(blank(45, 0), chunk(ours(4), 2), b"cd");
+    hand_out(combine(combine(a, b), c));
+    hand_out(combine(a, combine(b, c)));
+    let d = take(blank(45, 0), chunk(ours(4), 0), b"x");
+    combine(combine(a, b), d);
+    combine(a, combine(b, d));
+}

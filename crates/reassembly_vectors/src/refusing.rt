@@ -1,0 +1,134 @@
+// Histories of refusals: each leaves the record and both areas as they were.
+use crate::show::{Part, areas, ask, blank, chunk, combine, combine_from, completeness, emptied, fresh, hand_out, message, ours, published, started, take, text, verdict, with_record};
+use reassembly::{Chunk, ChunkRead, IdType, Message, PublisherId};
+
+// Another writer, number or total is another message.
+pub fn other_message() {
+    text(b"another message\n");
+    let a = take(blank(46, 0), chunk(ours(3), 0), b"ab");
+    let b = take(a, chunk(message(22, 7, 3), 2), b"c");
+    let c = take(b, chunk(message(21, 8, 3), 2), b"c");
+    let d = take(c, chunk(ours(4), 2), b"cd");
+    let e = take(d, chunk(message(22, 7, 3), 0), b"x");
+    areas(e);
+    ask(e);
+    let f = take(e, chunk(ours(3), 2), b"c");
+    hand_out(f);
+}
+
+// Message 7 of writer 21, of total 3, by a publisher.
+fn by(kind: IdType, number: u64, letter: u8, len: usize) -> Message {
+    let publisher = PublisherId {
+        kind,
+        number,
+        text: [letter; 64],
+        len,
+    };
+    published(publisher, 21, 7, 3)
+}
+
+// Ids are equal only if type and content are, or both are absent. What an id does not use is no content.
+pub fn other_publisher() {
+    text(b"another publisher\n");
+    let a = take(blank(46, 0), chunk(by(IdType::UInt16, 4711, 120, 9), 0), b"a");
+    take(a, chunk(by(IdType::UInt32, 4711, 0, 0), 0), b"a");
+    take(a, chunk(by(IdType::UInt16, 4712, 0, 0), 0), b"a");
+    take(a, chunk(by(IdType::Absent, 4711, 0, 0), 0), b"a");
+    take(a, chunk(by(IdType::UInt16, 4711, 0, 0), 0), b"a");
+    let b = take(emptied(a), chunk(by(IdType::Text, 1, 120, 2), 0), b"a");
+    take(b, chunk(by(IdType::Text, 1, 120, 3), 0), b"a");
+    take(b, chunk(by(IdType::Text, 1, 121, 2), 0), b"a");
+    take(b, chunk(by(IdType::Text, 2, 120, 2), 0), b"a");
+    let c = take(emptied(b), chunk(by(IdType::Absent, 1, 120, 2), 0), b"a");
+    take(c, chunk(by(IdType::Absent, 2, 0, 0), 0), b"a");
+    take(c, chunk(by(IdType::Text, 1, 120, 0), 0), b"a");
+}
+
+// Total above the area is 11, before 13; as long as the area it fits.
+pub fn no_room() {
+    text(b"no room\n");
+    let a = take(blank(46, 7), chunk(ours(9), 0), b"ab");
+    areas(a);
+    let b = take(a, chunk(ours(8), 0), b"ab");
+    let c = take(b, chunk(message(22, 7, 9), 0), b"xy");
+    let d = take(c, chunk(message(22, 7, 8), 0), b"xy");
+    let large = [1u8; 9];
+    let e = combine_from(d, started(message(22, 7, 9)), &large, &large);
+    areas(e);
+}
+
+// A reading's own refusal is handed on, by its number and place, after 12.
+pub fn as_read() {
+    text(b"refused as read\n");
+    let message = ours(2);
+    let chunk = Chunk { message, offset: 0 };
+    let read = ChunkRead {
+        number: 7,
+        place: 40,
+        chunk,
+    };
+    let a = take(blank(46, 7), read, b"ab");
+    ask(a);
+    areas(a);
+    take(with_record(a, started(ours(9))), read, b"ab");
+}
+
+// A made-up chunk that no reading gives is refused by its own number, at 0.
+pub fn made_up() {
+    text(b"made-up chunks\n");
+    let a = blank(46, 7);
+    let a = take(a, chunk(ours(0), 0), b"a");
+    let a = take(a, chunk(ours(16385), 0), b"a");
+    let a = take(a, chunk(ours(16384), 0), b"a");
+    let a = take(a, chunk(ours(2), 0), b"");
+    let a = take(a, chunk(ours(2), 0), b"abc");
+    let a = take(a, chunk(ours(2), 2), b"a");
+    let a = take(a, chunk(ours(2), 18446744073709551615), b"a");
+    let a = take(a, chunk(by(IdType::Text, 0, 120, 65), 0), b"a");
+    areas(a);
+}
+
+fn all_calls(part: Part) {
+    take(part, chunk(ours(2), 0), b"ab");
+    ask(part);
+    hand_out(part);
+    combine(part, part);
+}
+
+// 12 comes before all else. Not started, each record is sound over areas of equal length.
+pub fn unsound() {
+    text(b"unsound\n");
+    let a = blank(46, 1);
+    all_calls(with_record(a, started(ours(0))));
+    all_calls(with_record(a, started(ours(9))));
+    all_calls(with_record(a, started(by(IdType::Text, 0, 120, 65))));
+    ask(with_record(a, fresh(ours(9))));
+    ask(with_record(a, fresh(by(IdType::Text, 0, 120, 65))));
+    ask(emptied(with_record(a, started(ours(9)))));
+    ask(with_record(a, started(by(IdType::Text, 0, 120, 64))));
+    ask(with_record(a, started(ours(8))));
+}
+
+// Areas of unequal length, also where nothing is started.
+pub fn unequal() {
+    text(b"areas of unequal length\n");
+    let mut payload = [46u8; 3];
+    let mut marks = [1u8; 2];
+    let rec = fresh(ours(2));
+    let out = reassembly::take_in(rec, &mut payload, &mut marks, chunk(ours(2), 0), b"ab");
+    let v = out.verdict;
+    verdict(v);
+    completeness(reassembly::ask_complete(rec, &payload, &marks));
+    verdict(reassembly::hand_out_verdict(rec, &payload, &marks));
+}
+
+// A source that is unsound, started or not.
+pub fn unsound_source() {
+    text(b"an unsound source\n");
+    let from = [97u8; 3];
+    let short = [1u8; 2];
+    let a = combine_from(blank(46, 1), fresh(ours(2)), &from, &short);
+    areas(a);
+    let b = combine_from(blank(46, 1), started(ours(4)), &from, &from);
+    areas(b);
+}

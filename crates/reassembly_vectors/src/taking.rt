@@ -1,0 +1,89 @@
+// Histories of chunks taken in.
+use crate::show::{areas, ask, blank, chunk, completeness, emptied, fresh, hand_out, message, number, ours, started, take, text, verdict, with_record};
+
+// Total 5, chunks at 0 and 2 of 3 bytes, agreeing at 2.
+pub fn r1() {
+    text(b"R1\n");
+    let a = take(blank(46, 1), chunk(ours(5), 0), b"abc");
+    ask(a);
+    let b = take(a, chunk(ours(5), 2), b"cde");
+    ask(b);
+    hand_out(b);
+    areas(b);
+}
+
+// The same, disagreeing at 2: nothing changes.
+pub fn r2() {
+    text(b"R2\n");
+    let a = take(blank(46, 1), chunk(ours(5), 0), b"abc");
+    let b = take(a, chunk(ours(5), 2), b"xde");
+    ask(b);
+    hand_out(b);
+    areas(b);
+}
+
+// A hole's bytes are no content: they neither complete the payload nor clash.
+pub fn hole() {
+    text(b"hole\n");
+    let a = take(blank(48, 0), chunk(ours(6), 4), b"ef");
+    let b = take(a, chunk(ours(6), 0), b"ab");
+    areas(b);
+    ask(b);
+    hand_out(b);
+    let c = take(b, chunk(ours(6), 1), b"bcde");
+    ask(c);
+    hand_out(c);
+    let d = take(c, chunk(ours(6), 0), b"abcdef");
+    ask(d);
+}
+
+// A mark that is neither 0 nor 1 means not covered, and only the marks of stored bytes change.
+pub fn strange_marks() {
+    text(b"strange marks\n");
+    let mut a = with_record(blank(120, 7), started(ours(4)));
+    a.marks[0] = 1;
+    a.marks[1] = 2;
+    a.marks[2] = 0;
+    a.marks[3] = 255;
+    ask(a);
+    let b = take(a, chunk(ours(4), 1), b"bc");
+    areas(b);
+    let c = take(b, chunk(ours(4), 0), b"a");
+    ask(c);
+    let d = take(c, chunk(ours(4), 3), b"d");
+    ask(d);
+    hand_out(d);
+    areas(d);
+}
+
+// Emptying changes no area; what comes next starts with cleared marks.
+pub fn reuse() {
+    text(b"emptying and reuse\n");
+    let a = take(blank(46, 5), chunk(ours(2), 0), b"ab");
+    hand_out(a);
+    let e = emptied(a);
+    ask(e);
+    hand_out(e);
+    areas(e);
+    let b = take(e, chunk(message(9, 8, 4), 1), b"yz");
+    areas(b);
+    ask(b);
+    let c = take(b, chunk(ours(2), 0), b"ab");
+    let d = take(emptied(emptied(c)), chunk(ours(2), 0), b"ab");
+    hand_out(d);
+}
+
+// A chunk's total may be 16,384; a started partial of a larger total is sound.
+pub fn large() {
+    text(b"large\n");
+    let mut payload = [46u8; 16385];
+    let mut marks = [1u8; 16385];
+    let whole = started(ours(16385));
+    completeness(reassembly::ask_complete(whole, &payload, &marks));
+    let part = reassembly::hand_out(whole, &payload, &marks);
+    number(part.len());
+    text(b"\n");
+    let out = reassembly::take_in(fresh(ours(1)), &mut payload, &mut marks, chunk(ours(16384), 16383), b"a");
+    let v = out.verdict;
+    verdict(v);
+}
