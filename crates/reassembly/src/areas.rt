@@ -14,7 +14,8 @@ pub(crate) fn store_data(payload: &mut [u8], offset: usize, bytes: &[u8])
 {
     let mut j = 0;
     while j < bytes.len() {
-        payload[offset + j] = bytes[j];
+        let at = offset + j;
+        payload[at] = bytes[j];
         j += 1;
     }
 }

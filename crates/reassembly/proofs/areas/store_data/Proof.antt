@@ -27,19 +27,19 @@ loop-holds c =
     let d = now (a .bytes) in
     (omega arith, refl, laid-start (dataView at d) (now (a .payload)) (at + 0) (λ i h. data-below at d i (omega arith)))
 
--- src/areas.rt:17:31
+-- src/areas.rt:17:18
+add-at : tie.Need-add-at Inv-loop μ-loop
+add-at c = omega arith
+
+-- src/areas.rt:18:23
 shared-slice-read-payload : tie.Need-shared-slice-read-payload Inv-loop μ-loop
 shared-slice-read-payload c = omega arith
 
--- src/areas.rt:17:17
-add-payload : tie.Need-add-payload Inv-loop μ-loop
-add-payload c = omega arith
-
--- src/areas.rt:17:9
+-- src/areas.rt:18:9
 slice-write-payload : tie.Need-slice-write-payload Inv-loop μ-loop
 slice-write-payload c = omega arith
 
--- src/areas.rt:18:9
+-- src/areas.rt:19:9
 add-j : tie.Need-add-j Inv-loop μ-loop
 add-j c = omega arith
 
@@ -81,8 +81,8 @@ store-data-spec =
     Inv-loop
     μ-loop
     loop-holds
+    add-at
     shared-slice-read-payload
-    add-payload
     slice-write-payload
     add-j
     loop-less
