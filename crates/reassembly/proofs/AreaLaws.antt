@@ -1,5 +1,5 @@
 -- Laws of what two areas cover: what a view laid into them makes of it, and what is handed out of a full one. Assumes nothing.
-use Prim.Native.Nat.{ℕ, _+_, _-_, _≤_, _<_}
+use Prim.Native.Nat.{ℕ, _+_, _≤_, _<_}
 use mathlib.Core.Path.{_≡_, refl, sym, ap, ap₂, _∙_, fun-ext}
 use mathlib.Core.Bool.{Bool, true, false, cond, false≢true}
 use mathlib.Core.List.{List}
@@ -7,11 +7,11 @@ use mathlib.Core.Option.{Option, some, none, orElse, Option·getD}
 use native.Mathlib.Omega.{arith}
 use lib.ListN.{length, getD, take}
 use lib.Seq.{ext-getD, getD-take, length-take-le}
-use Rattle.reassembly.specs.Views.{View, anyBelow, isSome, has, onlyIf, dataView, nowhere, joined, differs, clash, full, bytesOf, laid}
+use Rattle.reassembly.specs.Views.{View, isSome, has, onlyIf, dataView, nowhere, joined, differs, clash, full, bytesOf, laid}
 use Rattle.reassembly.specs.Marks.{marksFor, marked, cleared, markAll, markedBelow, allMarked}
 use Rattle.reassembly.specs.Areas.{markedView}
-use Rattle.reassembly.proofs.Cases.{by-bool, by-lt}
-use Rattle.reassembly.proofs.ViewLaws.{length-tab, getD-tab, length-laid, getD-laid, has-only, has-data, data-at, any-ext, all-ext, none-clash, clash-data, differsAt, full-some, first-none, first-known}
+use Rattle.reassembly.proofs.Cases.{by-lt}
+use Rattle.reassembly.proofs.ViewLaws.{length-tab, getD-tab, length-laid, getD-laid, has-only, data-at, any-ext, all-ext, none-clash, clash-data, differsAt, full-some, first-none, first-known}
 use Rattle.reassembly.proofs.MarkLaws.{marked-is, marked-past, marked-on, marked-off, marked-cleared, marks-self}
 
 pub marked-below : (total : ℕ) (p m : List ℕ) (i : ℕ) → i < total → markedView total p m i ≡ onlyIf (marked m i) (getD p i 0)

@@ -1,14 +1,14 @@
 -- What the plain machine keeps is what was brought since the last emptying. Assumes nothing.
-use Prim.Native.Nat.{ℕ, _≤_, _<_}
+use Prim.Native.Nat.{ℕ, _<_}
 use mathlib.Core.Path.{_≡_, refl, sym, ap, _∙_}
 use mathlib.Core.Logic.{_↔_, _⊎_, inl, inr, ⊎-elim}
-use mathlib.Core.Bool.{Bool, true, false, cond, false≢true}
+use mathlib.Core.Bool.{true, false, false≢true}
 use mathlib.Core.List.{List, [], _∷_}
 use mathlib.Core.Option.{Option, some, none, orElse, Option·getD, Option·none-ne-some}
 use native.Mathlib.Omega.{arith}
 use lib.ListN.{length, getD}
 use lib.Seq.{ext-getD}
-use Rattle.reassembly.specs.Views.{View, isSome, dataView, differs, clash, joined, nowhere, bytesOf}
+use Rattle.reassembly.specs.Views.{View, isSome, differs, clash, joined, nowhere, bytesOf}
 use Rattle.reassembly.specs.Record.{Identity, Partial, sound}
 use Rattle.reassembly.specs.ChunkRead.{Reading, readingOf, ProperReading}
 use Rattle.reassembly.specs.ChunkRead.Reading.{chunk, refusal}

@@ -1,24 +1,22 @@
 -- Two good partials of equal room combined: by their states alone. Assumes nothing.
-use Prim.Native.Nat.{ℕ, _≤_}
+use Prim.Native.Nat.{_≤_}
 use mathlib.Core.Path.{_≡_, refl, sym, ap, _∙_}
-use mathlib.Core.Bool.{Bool, true, false, _||_, false≢true, true≢false}
+use mathlib.Core.Bool.{Bool, true, false, _||_, true≢false}
 use native.Mathlib.Omega.{arith}
 use lib.ListN.{length}
-use lib.Dec.{leb}
 use borrow.Author.Tests.{le-leb}
-use Rattle.reassembly.specs.Record.{Partial, sound, Good}
+use Rattle.reassembly.specs.Record.{Partial, Good}
 use Rattle.reassembly.specs.Machine.{State, between, acceptState}
 use Rattle.reassembly.specs.Judge.{stateOf, judgeCombine}
 use Rattle.reassembly.specs.Operations.{combine}
-use Rattle.reassembly.specs.History.{verdictOf, ifAccepted}
-use Rattle.reassembly.specs.History.Call.{Combine}
+use Rattle.reassembly.specs.History.{ifAccepted}
 use Rattle.reassembly.specs.Combining.{isRefused, onDone, disagree, someDisagree, EqualRoom, leftVerdict, leftResult, rightVerdict, rightResult}
 use Rattle.reassembly.specs.declared.verdict.Verdict.{Verdict}
 use Rattle.reassembly.specs.declared.verdict.Verdict.the-variants.{Done, Refused}
 use Rattle.reassembly.proofs.Cases.{by-bool}
 use Rattle.reassembly.proofs.JudgeLaws.{refused-done, sound-total, combine-judged}
 use Rattle.reassembly.proofs.StateLaws
-use Rattle.reassembly.proofs.Following.{Stepped, source-verdict, combine-stepped}
+use Rattle.reassembly.proofs.Following.{source-verdict, combine-stepped}
 use Rattle.reassembly.proofs.Bringing.{bounded}
 
 module _ (a b : Partial) (ga : Good a) where

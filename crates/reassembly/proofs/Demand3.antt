@@ -1,27 +1,26 @@
 -- Demand 3. Each theorem speaks of the definitions that the contracts of src/operations.rt cite. Assumes nothing.
-use Prim.Native.Nat.{ℕ, _+_, _≤_, _<_}
+use Prim.Native.Nat.{ℕ, _≤_}
 use mathlib.Core.Path.{_≡_, refl, sym, ap, ap₂, _∙_}
 use mathlib.Core.Logic.{_↔_}
-use mathlib.Core.Bool.{Bool, true, false, cond, _&&_, false≢true}
+use mathlib.Core.Bool.{Bool, true, false, cond, false≢true}
 use mathlib.Core.List.{List, [], _∷_}
 use mathlib.Core.Option.{some}
 use native.Mathlib.Omega.{arith}
-use lib.ListN.{length, take, replicate, length-replicate}
+use lib.ListN.{length, replicate, length-replicate}
 use lib.Seq.{length-take-le}
 use borrow.Author.Tests.{le-leb, eq-eqb}
-use Rattle.reassembly.specs.Views.{View, has, dataView, laid}
-use Rattle.reassembly.specs.Marks.{marksFor, markAll, markedBelow}
-use Rattle.reassembly.specs.Record.{Identity, identityOf, Partial, partial, soundBy, sound, Good}
+use Rattle.reassembly.specs.Views.{View, dataView}
+use Rattle.reassembly.specs.Marks.{marksFor}
+use Rattle.reassembly.specs.Record.{Partial, partial, soundBy, Good}
 use Rattle.reassembly.specs.ChunkRead.{Reading, Proper}
-use Rattle.reassembly.specs.ChunkRead.Reading.{chunk, refusal}
+use Rattle.reassembly.specs.ChunkRead.Reading.{chunk}
 use Rattle.reassembly.specs.Machine.{State, viewIn, judgeState, between, acceptState, complete}
 use Rattle.reassembly.specs.Machine.State.{idle, held}
-use Rattle.reassembly.specs.Judge.{viewOf, stateOf, covered, Complete, Equal, alone, readingVerdict, judgeReading, judgeCombine}
+use Rattle.reassembly.specs.Judge.{viewOf, stateOf, Complete, Equal, alone, judgeReading, judgeCombine}
 use Rattle.reassembly.specs.Operations.{Step, stepBy, put, putReading, takeIn, combine, yesNo, askComplete, judgeHandOut, handOut}
-use Rattle.reassembly.specs.History.{Call, Reply, replies, final, keeps, machineReplies, machineFinal, brought, Brings, AllOf, ifAccepted, leaves}
+use Rattle.reassembly.specs.History.{Call, replies, final, machineReplies, machineFinal, brought, Brings, AllOf, ifAccepted, leaves}
 use Rattle.reassembly.specs.Combining.{isRefused, someDisagree, EqualRoom, leftVerdict, leftResult, rightVerdict, rightResult}
 use Rattle.reassembly.specs.declared.record.Message.{Message}
-use Rattle.reassembly.specs.declared.verdict.Completeness.{Completeness}
 use Rattle.reassembly.specs.declared.verdict.Completeness.the-variants as C
 use Rattle.reassembly.specs.declared.verdict.Verdict.{Verdict}
 use Rattle.reassembly.specs.declared.verdict.Verdict.the-variants.{Done, Refused}

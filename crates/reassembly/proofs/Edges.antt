@@ -2,7 +2,7 @@
 use Prim.Native.Nat.{ℕ}
 use mathlib.Core.Path.{_≡_, refl}
 use mathlib.Core.Bool.{true, false}
-use mathlib.Core.List.{List, [], _∷_}
+use mathlib.Core.List.{[], _∷_}
 use mathlib.Core.Option.{orElse}
 use Rattle.reassembly.specs.Views.{laid, dataView, clash, full}
 use Rattle.reassembly.specs.Marks.{marksFor, capacity, marked, markAt, cleared, markAll}

@@ -1,25 +1,24 @@
 -- Each call on a good partial answers as the plain machine does, and leaves a good partial that is equal to what the machine keeps.
 -- Assumes nothing.
-use Prim.Native.Nat.{ℕ, _+_, _≤_, _<_}
-use mathlib.Core.Path.{_≡_, refl, sym, ap, ap₂, _∙_}
-use mathlib.Core.Bool.{Bool, true, false, cond, not, _||_, or-true, false≢true}
-use mathlib.Core.List.{List, []}
+use Prim.Native.Nat.{ℕ, _≤_}
+use mathlib.Core.Path.{_≡_, refl, sym, ap, _∙_}
+use mathlib.Core.Bool.{Bool, true, false, cond, not, or-true, false≢true}
+use mathlib.Core.List.{List}
 use mathlib.Core.Option.{none}
 use native.Mathlib.Omega.{arith}
 use lib.ListN.{length}
-use lib.Dec.{leb, eqb}
 use borrow.Author.Tests.{le-leb, eq-eqb}
 use Rattle.reassembly.specs.Views.{View, clash, full, has, dataView, joined, nowhere, laid}
 use Rattle.reassembly.specs.Marks.{marksFor, cleared, markAll}
 use Rattle.reassembly.specs.Areas.{markedView}
 use Rattle.reassembly.specs.Publisher.{publisherFits}
-use Rattle.reassembly.specs.Record.{Identity, identityOf, Partial, partial, soundBy, sound, Good}
+use Rattle.reassembly.specs.Record.{Identity, identityOf, Partial, partial, soundBy, Good}
 use Rattle.reassembly.specs.ChunkRead.{Reading, readingOf, ProperReading}
 use Rattle.reassembly.specs.ChunkRead.Reading.{chunk, refusal}
-use Rattle.reassembly.specs.Machine.{State, judge, judgeState, accept, acceptState, complete}
+use Rattle.reassembly.specs.Machine.{State, judge, accept, acceptState, complete}
 use Rattle.reassembly.specs.Machine.State.{idle, held}
 use Rattle.reassembly.specs.Judge.{viewOf, stateOf, alone, readingVerdict, judgeReading, judgeCombine}
-use Rattle.reassembly.specs.Operations.{Step, begun, begunMarks, put, takeIn, combine, emptied, yesNo, askComplete, handOutBy, judgeHandOut, ifDone, handOut}
+use Rattle.reassembly.specs.Operations.{Step, begunMarks, put, takeIn, combine, emptied, yesNo, askComplete, handOutBy, judgeHandOut, handOut}
 use Rattle.reassembly.specs.History.{Call, replyOf, saidOf, said, handedOf, answers, leaves, verdictOf, whole, says, ifAccepted, keeps}
 use Rattle.reassembly.specs.History.Call.{Empty, Take, Combine, Ask, HandOut}
 use Rattle.reassembly.specs.declared.chunk_read.ChunkRead.{ChunkRead}
@@ -29,7 +28,7 @@ use Rattle.reassembly.specs.declared.verdict.Verdict.{Verdict}
 use Rattle.reassembly.specs.declared.verdict.Verdict.the-variants.{Done, Refused}
 use Rattle.reassembly.proofs.Cases.{by-bool}
 use Rattle.reassembly.proofs.ViewLaws.{length-laid, data-above, clash-none, joined-nowhere}
-use Rattle.reassembly.proofs.MarkLaws.{marks-mono, length-cleared, length-markAll}
+use Rattle.reassembly.proofs.MarkLaws.{length-cleared, length-markAll}
 use Rattle.reassembly.proofs.AreaLaws.{marked-above, cleared-nowhere, view-put, full-bytes}
 use Rattle.reassembly.proofs.SameLaws.{same-message-true}
 use Rattle.reassembly.proofs.JudgeLaws

@@ -1,23 +1,23 @@
 -- One law for each way out of a judgement, and what an accepted call tells. Assumes nothing.
-use Prim.Native.Nat.{ℕ, _+_, _≤_, _<_}
+use Prim.Native.Nat.{ℕ, _+_, _≤_}
 use mathlib.Core.Path.{_≡_, refl, sym, ap, _∙_}
-use mathlib.Core.Bool.{Bool, true, false, cond, not, _&&_, _||_}
+use mathlib.Core.Bool.{Bool, true, false, cond, _&&_}
 use mathlib.Core.List.{List}
 use native.Mathlib.Omega.{arith}
 use lib.ListN.{length}
 use lib.Dec.{leb, eqb}
 use borrow.Author.Tests.{le-leb, leb-true, eqb-true, eqb-false}
-use Rattle.reassembly.specs.Views.{View, dataView, inRange, clash, has, laid}
+use Rattle.reassembly.specs.Views.{View, dataView, inRange, clash, laid}
 use Rattle.reassembly.specs.Marks.{marksFor, markAll, markedBelow, allMarked}
 use Rattle.reassembly.specs.Areas.{markedView}
 use Rattle.reassembly.specs.Publisher.{publisherFits}
 use Rattle.reassembly.specs.Record.{Identity, identityOf, sameMessage, Partial, partial, soundBy, sound}
 use Rattle.reassembly.specs.ChunkRead.{Reading, chunkFault, readFault, readingOf, Proper, ProperReading}
-use Rattle.reassembly.specs.ChunkRead.Reading.{chunk, refusal}
+use Rattle.reassembly.specs.ChunkRead.Reading.{chunk}
 use Rattle.reassembly.specs.Machine.{State, judge, judgeState, meet}
-use Rattle.reassembly.specs.Machine.State.{idle, held}
-use Rattle.reassembly.specs.Judge.{viewOf, stateOf, admissionOf, alone, readingVerdict, judgeReading, judgeCombine}
-use Rattle.reassembly.specs.Operations.{Step, stepBy, begun, begunMarks, put, putReading, takeIn, combine, yesNo, askComplete, judgeHandOut, handOutBy}
+use Rattle.reassembly.specs.Machine.State.{held}
+use Rattle.reassembly.specs.Judge.{viewOf, stateOf, admissionOf, readingVerdict, judgeReading, judgeCombine}
+use Rattle.reassembly.specs.Operations.{begun, begunMarks, put, putReading, takeIn, combine, yesNo, askComplete, judgeHandOut}
 use Rattle.reassembly.specs.declared.chunk_read.Chunk.{Chunk}
 use Rattle.reassembly.specs.declared.chunk_read.ChunkRead.{ChunkRead}
 use Rattle.reassembly.specs.declared.judge.Admission.{Admission}

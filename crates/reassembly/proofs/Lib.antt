@@ -7,7 +7,6 @@ pub mod JudgeLaws
 pub mod JoinLaws
 pub mod StateLaws
 pub mod Following
-
 pub mod Bringing
 pub mod Combining
 pub mod Demand3

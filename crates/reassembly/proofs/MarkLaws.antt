@@ -1,16 +1,16 @@
 -- Laws of the marks. Those down to `mark-chosen` are all that other files use of how a mark is held. Assumes nothing.
 use Prim.Native.Nat.{ℕ, zero, suc, _+_, _≤_, _<_}
 use mathlib.Core.Path.{_≡_, refl, sym, ap, _∙_}
-use mathlib.Core.Bool.{Bool, true, false, cond, _&&_, and-false, false≢true}
+use mathlib.Core.Bool.{Bool, true, false, cond, and-false, false≢true}
 use mathlib.Core.List.{List}
 use native.Mathlib.Nat.{not-suc-le-zero}
 use native.Mathlib.Numerals.{add-one}
 use native.Mathlib.Omega.{arith}
 use lib.ListN.{length, getD, set, replicate, length-set, getD-replicate, length-replicate, List·getD-eq-default}
 use lib.Seq.{set-getD, getD-set-same, getD-set-other}
-use lib.Dec.{eqb, leb}
+use lib.Dec.{leb}
 use borrow.Author.Tests.{lt-ltb, le-ltb, le-leb, lt-leb, eqb-true}
-use Rattle.reassembly.specs.Views.{inRange, allBelow}
+use Rattle.reassembly.specs.Views.{inRange}
 use Rattle.reassembly.specs.Marks.{marksFor, capacity, marked, markAt, cleared, markIf, markUpTo, markAll, markedBelow, allMarked}
 use Rattle.reassembly.proofs.Cases.{by-bool, by-eq, by-lt}
 use Rattle.reassembly.proofs.ViewLaws.{all-every, all-but}

@@ -1,13 +1,13 @@
 -- The combining laws of the plain machine's states: order, sameness, grouping. Assumes nothing.
-use Prim.Native.Nat.{ℕ, _≤_, _<_}
+use Prim.Native.Nat.{ℕ, _≤_}
 use mathlib.Core.Path.{_≡_, refl, sym, ap, ap₂, _∙_, fun-ext}
-use mathlib.Core.Bool.{Bool, true, false, cond}
+use mathlib.Core.Bool.{false}
 use mathlib.Core.Option.{none}
-use Rattle.reassembly.specs.Views.{View, clash, differs}
+use Rattle.reassembly.specs.Views.{clash, differs}
 use Rattle.reassembly.specs.Record.{Identity, sameMessage}
-use Rattle.reassembly.specs.Machine.{State, meet, between, accept, acceptState}
+use Rattle.reassembly.specs.Machine.{State, between, acceptState}
 use Rattle.reassembly.specs.Machine.State.{idle, held}
-use Rattle.reassembly.specs.declared.verdict.Verdict.the-variants.{Done, Refused}
+use Rattle.reassembly.specs.declared.verdict.Verdict.the-variants.{Done}
 use Rattle.reassembly.proofs.Cases.{by-bool, by-lt}
 use Rattle.reassembly.proofs.ViewLaws.{clash-none, none-clash}
 use Rattle.reassembly.proofs.JoinLaws.{clash-comm, differs-refl, differs-comm, first-comm, first-assoc, differs-first, differs-left, differs-right}

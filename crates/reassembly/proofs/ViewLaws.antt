@@ -1,17 +1,17 @@
 -- Laws of views and of lists that a view is laid into. A loop that lays a view in from low offsets to high ones keeps the equation
 -- `payload ≡ laid (upTo i v) payload₀`: `laid-start`, `laid-step` and `laid-end` are its steps. Assumes nothing.
 use Prim.Native.Nat.{ℕ, zero, suc, _+_, _-_, _≤_, _<_}
-use mathlib.Core.Path.{_≡_, refl, sym, ap, ap₂, _∙_, fun-ext}
+use mathlib.Core.Path.{_≡_, refl, sym, ap, _∙_, fun-ext}
 use mathlib.Core.Bool.{Bool, true, false, cond, not, _&&_, _||_, or-true, and-false, false≢true, true≢false}
-use mathlib.Core.List.{List, [], _∷_}
+use mathlib.Core.List.{List}
 use mathlib.Core.Option.{Option, some, none, orElse, Option·getD}
 use native.Mathlib.Nat.{le-of-suc-le-suc, not-suc-le-zero}
 use native.Mathlib.Numerals.{add-one}
 use native.Mathlib.Omega.{arith}
 use lib.ListN.{length, getD, set, length-set}
 use lib.Seq.{ext-getD, getD-set-same, getD-set-other}
-use lib.Dec.{ltb, leb, eqb}
-use borrow.Author.Tests.{lt-ltb, le-ltb, le-leb, lt-leb, eq-eqb, eqb-true, not-false}
+use lib.Dec.{ltb, eqb}
+use borrow.Author.Tests.{lt-ltb, le-ltb, le-leb, lt-leb, eqb-true, not-false}
 use Rattle.reassembly.specs.Views.{View, tab, anyBelow, allBelow, isSome, has, onlyIf, inRange, dataView, nowhere, joined, differs, clash, full, laid}
 use Rattle.reassembly.proofs.Cases.{by-bool, by-eq, by-lt}
 

@@ -1,5 +1,4 @@
 -- What the laws of combining speak of.
-use Prim.Native.Nat.{ℕ}
 use mathlib.Core.Bool.{Bool, true, false, _||_}
 use mathlib.Core.Path.{_≡_}
 use lib.ListN.{length}

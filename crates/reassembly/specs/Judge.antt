@@ -1,7 +1,6 @@
 -- What a partial covers, and what each operation answers.
 use Prim.Native.Nat.{ℕ, _<_}
 use mathlib.Core.Bool.{Bool, true, cond, _&&_}
-use mathlib.Core.List.{List}
 use mathlib.Core.Path.{_≡_}
 use lib.ListN.{length}
 use lib.Dec.{leb}
@@ -17,7 +16,7 @@ use Rattle.reassembly.specs.declared.judge.Admission.the-variants as A
 use Rattle.reassembly.specs.declared.record.Message.{Message}
 use Rattle.reassembly.specs.declared.record.PartialRecord.{PartialRecord}
 use Rattle.reassembly.specs.declared.verdict.Verdict.{Verdict}
-use Rattle.reassembly.specs.declared.verdict.Verdict.the-variants.{Done, Refused}
+use Rattle.reassembly.specs.declared.verdict.Verdict.the-variants.{Refused}
 
 -- in a started partial a byte below total is covered exactly if its mark is 1
 abbrev pub viewOf : Partial → View

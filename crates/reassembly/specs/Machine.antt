@@ -1,9 +1,9 @@
 -- The plain machine of document 01: what it keeps, and how it answers. It knows no areas and no marks.
 use Prim.Native.Nat.{ℕ}
-use mathlib.Core.Bool.{Bool, true, false, cond}
+use mathlib.Core.Bool.{Bool, false, cond}
 use lib.Dec.{leb}
 use Rattle.reassembly.specs.Views.{View, clash, full, joined, nowhere}
-use Rattle.reassembly.specs.Record.{Identity, identityOf, sameMessage}
+use Rattle.reassembly.specs.Record.{Identity, sameMessage}
 use Rattle.reassembly.specs.declared.verdict.Verdict.{Verdict}
 use Rattle.reassembly.specs.declared.verdict.Verdict.the-variants.{Done, Refused}
 

@@ -5,7 +5,8 @@ ghost use lib.ListN.{length};
 ghost use Rattle.reassembly.specs.Views.{dataView, laid, differs, onlyIf, clash};
 ghost use Rattle.reassembly.specs.Marks.{marksFor};
 ghost use Rattle.reassembly.specs.Areas.{markedView};
-use crate::marks::{choose, is_marked};
+use crate::marks::choose;
+use crate::marks::is_marked;
 
 // Stores a chunk's bytes at their offset.
 pub(crate) fn store_data(payload: &mut [u8], offset: usize, bytes: &[u8])
@@ -73,7 +74,8 @@ pub(crate) fn clash_covered(
             payload[i],
             is_marked(from_marks, i),
             from[i],
-        ) | found;
+        )
+            | found;
         i += 1;
     }
     found

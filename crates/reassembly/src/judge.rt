@@ -5,9 +5,14 @@ ghost use Rattle.reassembly.specs.declared.verdict.Verdict.the-variants.
 ghost use Rattle.reassembly.specs.Record.{partial};
 ghost use Rattle.reassembly.specs.ChunkRead.{readingOf};
 ghost use Rattle.reassembly.specs.Judge.{admissionOf, judgeReading, judgeCombine};
-use crate::areas::{clash_covered, clash_data};
-use crate::chunk_read::{ChunkRead, read_fault};
-use crate::record::{Message, PartialRecord, is_sound, same_message};
+use crate::areas::clash_covered;
+use crate::areas::clash_data;
+use crate::chunk_read::ChunkRead;
+use crate::chunk_read::read_fault;
+use crate::record::Message;
+use crate::record::PartialRecord;
+use crate::record::is_sound;
+use crate::record::same_message;
 use crate::verdict::Verdict;
 
 // Whether a partial admits bytes of a message: no, by its number; into a fresh partial; or beside what it holds of the same message.

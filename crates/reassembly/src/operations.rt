@@ -4,12 +4,20 @@ ghost use mathlib.Core.Bool.{cond};
 ghost use Rattle.reassembly.specs.Record.{partial};
 ghost use Rattle.reassembly.specs.ChunkRead.{readingOf};
 ghost use Rattle.reassembly.specs.Operations.{stepOf, begun, begunMarks, takeIn, combine, emptied, askComplete, judgeHandOut, handOut};
-use crate::areas::{store_covered, store_data};
+use crate::areas::store_covered;
+use crate::areas::store_data;
 use crate::chunk_read::ChunkRead;
-use crate::judge::{judge_combine, judge_reading};
-use crate::marks::{all_marked, clear, mark_marked, mark_range};
-use crate::record::{Message, PartialRecord, is_sound};
-use crate::verdict::{Completeness, Verdict};
+use crate::judge::judge_combine;
+use crate::judge::judge_reading;
+use crate::marks::all_marked;
+use crate::marks::clear;
+use crate::marks::mark_marked;
+use crate::marks::mark_range;
+use crate::record::Message;
+use crate::record::PartialRecord;
+use crate::record::is_sound;
+use crate::verdict::Completeness;
+use crate::verdict::Verdict;
 
 // An answer, and the record afterwards.
 pub struct Outcome {

@@ -2,7 +2,9 @@
 ghost use mathlib.Core.Path.{_≡_};
 ghost use Rattle.reassembly.specs.Record.{identityOf, sameMessage, soundBy};
 use crate::marks::marks_for;
-use crate::publisher::{PublisherId, publisher_fits, same_publisher};
+use crate::publisher::PublisherId;
+use crate::publisher::publisher_fits;
+use crate::publisher::same_publisher;
 
 // Which message: publisher, DataSetWriterId, MessageSequenceNumber and TotalSize.
 pub struct Message {

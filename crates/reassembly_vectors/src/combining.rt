@@ -1,5 +1,19 @@
 // Histories of partials combined.
-use crate::show::{areas, ask, blank, chunk, combine, combine_from, emptied, fresh, hand_out, message, ours, started, take, text, with_record};
+use crate::show::areas;
+use crate::show::ask;
+use crate::show::blank;
+use crate::show::chunk;
+use crate::show::combine;
+use crate::show::combine_from;
+use crate::show::emptied;
+use crate::show::fresh;
+use crate::show::hand_out;
+use crate::show::message;
+use crate::show::ours;
+use crate::show::started;
+use crate::show::take;
+use crate::show::text;
+use crate::show::with_record;
 
 // Two parts that overlap and agree, in either order.
 pub fn either_order() {

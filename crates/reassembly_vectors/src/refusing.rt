@@ -1,6 +1,28 @@
 // Histories of refusals: each leaves the record and both areas as they were.
-use crate::show::{Part, areas, ask, blank, chunk, combine, combine_from, completeness, emptied, fresh, hand_out, message, ours, published, started, take, text, verdict, with_record};
-use reassembly::{Chunk, ChunkRead, IdType, Message, PublisherId};
+use crate::show::Part;
+use crate::show::areas;
+use crate::show::ask;
+use crate::show::blank;
+use crate::show::chunk;
+use crate::show::combine;
+use crate::show::combine_from;
+use crate::show::completeness;
+use crate::show::emptied;
+use crate::show::fresh;
+use crate::show::hand_out;
+use crate::show::message;
+use crate::show::ours;
+use crate::show::published;
+use crate::show::started;
+use crate::show::take;
+use crate::show::text;
+use crate::show::verdict;
+use crate::show::with_record;
+use reassembly::Chunk;
+use reassembly::ChunkRead;
+use reassembly::IdType;
+use reassembly::Message;
+use reassembly::PublisherId;
 
 // Another writer, number or total is another message.
 pub fn other_message() {
@@ -30,7 +52,11 @@ fn by(kind: IdType, number: u64, letter: u8, len: usize) -> Message {
 // Ids are equal only if type and content are, or both are absent. What an id does not use is no content.
 pub fn other_publisher() {
     text(b"another publisher\n");
-    let a = take(blank(46, 0), chunk(by(IdType::UInt16, 4711, 120, 9), 0), b"a");
+    let a = take(
+        blank(46, 0),
+        chunk(by(IdType::UInt16, 4711, 120, 9), 0),
+        b"a",
+    );
     take(a, chunk(by(IdType::UInt32, 4711, 0, 0), 0), b"a");
     take(a, chunk(by(IdType::UInt16, 4712, 0, 0), 0), b"a");
     take(a, chunk(by(IdType::Absent, 4711, 0, 0), 0), b"a");

@@ -1,6 +1,13 @@
 // What every history is made of: messages, chunks and partials with areas of 8 bytes, and each call with its answer written.
 use libc::STDOUT_FILENO;
-use reassembly::{Chunk, ChunkRead, Completeness, IdType, Message, PartialRecord, PublisherId, Verdict};
+use reassembly::Chunk;
+use reassembly::ChunkRead;
+use reassembly::Completeness;
+use reassembly::IdType;
+use reassembly::Message;
+use reassembly::PartialRecord;
+use reassembly::PublisherId;
+use reassembly::Verdict;
 
 pub struct Part {
     pub rec: PartialRecord,

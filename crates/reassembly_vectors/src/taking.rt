@@ -1,5 +1,20 @@
 // Histories of chunks taken in.
-use crate::show::{areas, ask, blank, chunk, completeness, emptied, fresh, hand_out, message, number, ours, started, take, text, verdict, with_record};
+use crate::show::areas;
+use crate::show::ask;
+use crate::show::blank;
+use crate::show::chunk;
+use crate::show::completeness;
+use crate::show::emptied;
+use crate::show::fresh;
+use crate::show::hand_out;
+use crate::show::message;
+use crate::show::number;
+use crate::show::ours;
+use crate::show::started;
+use crate::show::take;
+use crate::show::text;
+use crate::show::verdict;
+use crate::show::with_record;
 
 // Total 5, chunks at 0 and 2 of 3 bytes, agreeing at 2.
 pub fn r1() {
@@ -83,7 +98,13 @@ pub fn large() {
     let part = reassembly::hand_out(whole, &payload, &marks);
     number(part.len());
     text(b"\n");
-    let out = reassembly::take_in(fresh(ours(1)), &mut payload, &mut marks, chunk(ours(16384), 16383), b"a");
+    let out = reassembly::take_in(
+        fresh(ours(1)),
+        &mut payload,
+        &mut marks,
+        chunk(ours(16384), 16383),
+        b"a",
+    );
     let v = out.verdict;
     verdict(v);
 }

@@ -2,19 +2,15 @@ use Rattle.reassembly.proofs.AreaLaws.{clash-step-marked}
 use Rattle.reassembly.proofs.MarkLaws.{marks-room}
 use Rattle.reassembly.proofs.ViewLaws.{any-step}
 use Rattle.reassembly.specs.Areas.{markedView}
-use Rattle.reassembly.specs.Views.{View, anyBelow, onlyIf, differs, clash}
-use lib.ListN.{length, getD}
+use Rattle.reassembly.specs.Views.{anyBelow, onlyIf, differs, clash}
+use lib.ListN.{getD}
 use denote.Ref.{now}
 use native.Mathlib.Omega.{arith}
 use mathlib.Core.Bool.{Bool, _||_}
 use mathlib.Core.Path.{_≡_, refl, sym, ap, ap₂, _∙_}
-use Prim.Native.Nat.{ℕ, _+_, _-_, _≤_, _<_}
+use Prim.Native.Nat.{ℕ, _-_, _≤_}
 use Rattle.reassembly.proofs.areas.clash_covered.Statement.{statement}
 use Rattle.reassembly.proofs.areas.clash_covered.Tie as tie
-use Rattle.reassembly.proofs.areas.clash_covered.Reads as reads
-use Rattle.reassembly.proofs.areas.clash_covered.Lts as lts
-use Rattle.reassembly.proofs.areas.differ.Reads as differ-reads
-use Rattle.reassembly.proofs.marks.is_marked.Reads as is-marked-reads
 
 abbrev Inv-loop : tie.InvT-loop
 Inv-loop payload marks total from from-marks found₀ i₀ found i =
@@ -23,41 +19,32 @@ Inv-loop payload marks total from from-marks found₀ i₀ found i =
 abbrev μ-loop : tie.MeasureT-loop
 μ-loop payload marks total from from-marks found₀ i₀ found i = total - i
 
--- src/areas.rt:69:5
 loop-holds : tie.Need-loop-holds Inv-loop μ-loop
 loop-holds c = (omega arith, refl)
 
--- src/areas.rt:71:13
 is-marked-requires : tie.Need-is-marked-requires Inv-loop μ-loop
 is-marked-requires c κs =
     let a = c .before .before .before .before .before .before .args in marks-room (a .total) (c .before .loop .i) (now (a .marks)) (omega arith) (omega arith)
 
--- src/areas.rt:72:13
 shared-slice-read-differ : tie.Need-shared-slice-read-differ Inv-loop μ-loop
 shared-slice-read-differ c = omega arith
 
--- src/areas.rt:73:13
 is-marked-requires-2 : tie.Need-is-marked-requires-2 Inv-loop μ-loop
 is-marked-requires-2 c κs =
     let a = c .before .before .before .before .before .before .before .before .args in marks-room (a .total) (c .before .before .before .loop .i) (now (a .from-marks)) (omega arith) (omega arith)
 
--- src/areas.rt:74:13
 shared-slice-read-differ-2 : tie.Need-shared-slice-read-differ-2 Inv-loop μ-loop
 shared-slice-read-differ-2 c = omega arith
 
--- src/areas.rt:70:17
 differ-requires : tie.Need-differ-requires Inv-loop μ-loop
 differ-requires c κs = tt
 
--- src/areas.rt:76:9
 add-i : tie.Need-add-i Inv-loop μ-loop
 add-i c = omega arith
 
--- src/areas.rt:69:5
 loop-less : tie.Need-loop-less Inv-loop μ-loop
 loop-less c = omega arith
 
--- src/areas.rt:69:5
 loop-again : tie.Need-loop-again Inv-loop μ-loop
 loop-again c =
     let a = c .before .before .before .before .before .before .before .before .before .before .before .args in
@@ -67,11 +54,10 @@ loop-again c =
     let q = now (a .from) in
     let n = now (a .from-marks) in
     let test = c .differ .ensures
-        ∙ ap₂ (λ (b c : Bool). differs (onlyIf b (getD p (l .i) 0)) (onlyIf c (getD q (l .i) 0))) (c .before .before .before .before .is-marked .ensures) (c .before .before .is-marked2 .ensures)
-        ∙ sym (clash-step-marked (a .total) p m q n (l .i) (omega arith)) in
+    ∙ ap₂ (λ (b c : Bool). differs (onlyIf b (getD p (l .i) 0)) (onlyIf c (getD q (l .i) 0))) (c .before .before .before .before .is-marked .ensures) (c .before .before .is-marked2 .ensures)
+    ∙ sym (clash-step-marked (a .total) p m q n (l .i) (omega arith)) in
     (omega arith, ap₂ _||_ test (l .inv .1) ∙ sym (any-step (l .i) (λ k. differs (markedView (a .total) p m k) (markedView (a .total) q n k))))
 
--- src/areas.rt:57:1
 returns : tie.Need-returns Inv-loop μ-loop
 unfolding clash
 returns c =

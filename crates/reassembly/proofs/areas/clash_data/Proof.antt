@@ -9,13 +9,9 @@ use native.Mathlib.Omega.{arith}
 use mathlib.Core.Option.{some}
 use mathlib.Core.Bool.{Bool, _||_}
 use mathlib.Core.Path.{_≡_, refl, sym, ap, ap₂, _∙_}
-use Prim.Native.Nat.{ℕ, _+_, _-_, _≤_, _<_}
+use Prim.Native.Nat.{ℕ, _+_, _-_, _≤_}
 use Rattle.reassembly.proofs.areas.clash_data.Statement.{statement}
 use Rattle.reassembly.proofs.areas.clash_data.Tie as tie
-use Rattle.reassembly.proofs.areas.clash_data.Reads as reads
-use Rattle.reassembly.proofs.areas.clash_data.Lts as lts
-use Rattle.reassembly.proofs.areas.differ.Reads as differ-reads
-use Rattle.reassembly.proofs.marks.is_marked.Reads as is-marked-reads
 
 abbrev Inv-loop : tie.InvT-loop
 Inv-loop payload marks offset bytes found₀ j₀ found j =
@@ -24,41 +20,32 @@ Inv-loop payload marks offset bytes found₀ j₀ found j =
 abbrev μ-loop : tie.MeasureT-loop
 μ-loop payload marks offset bytes found₀ j₀ found j = length bytes - j
 
--- src/areas.rt:48:5
 loop-holds : tie.Need-loop-holds Inv-loop μ-loop
 loop-holds c = (omega arith, refl)
 
--- src/areas.rt:49:18
 add-at : tie.Need-add-at Inv-loop μ-loop
 add-at c = omega arith
 
--- src/areas.rt:50:24
 is-marked-requires : tie.Need-is-marked-requires Inv-loop μ-loop
 is-marked-requires c κs =
     let a = c .before .before .before .before .before .args in
     marks-room (a .offset + length (now (a .bytes))) (a .offset + c .before .loop .j) (now (a .marks)) (omega arith) (omega arith)
 
--- src/areas.rt:50:46
 shared-slice-read-differ : tie.Need-shared-slice-read-differ Inv-loop μ-loop
 shared-slice-read-differ c = omega arith
 
--- src/areas.rt:50:65
 shared-slice-read-differ-2 : tie.Need-shared-slice-read-differ-2 Inv-loop μ-loop
 shared-slice-read-differ-2 c = omega arith
 
--- src/areas.rt:50:17
 differ-requires : tie.Need-differ-requires Inv-loop μ-loop
 differ-requires c κs = tt
 
--- src/areas.rt:51:9
 add-j : tie.Need-add-j Inv-loop μ-loop
 add-j c = omega arith
 
--- src/areas.rt:48:5
 loop-less : tie.Need-loop-less Inv-loop μ-loop
 loop-less c = omega arith
 
--- src/areas.rt:48:5
 loop-again : tie.Need-loop-again Inv-loop μ-loop
 loop-again c =
     let a = c .before .before .before .before .before .before .before .before .before .args in
@@ -68,11 +55,10 @@ loop-again c =
     let p = now (a .payload) in
     let m = now (a .marks) in
     let test = c .differ .ensures
-        ∙ ap (λ (b : Bool). differs (onlyIf b (getD p (at + l .j) 0)) (some (getD d (l .j) 0))) (c .before .before .before .is-marked .ensures)
-        ∙ sym (clash-step-data (at + length d) p m at d (l .j) (omega arith) (omega arith)) in
+    ∙ ap (λ (b : Bool). differs (onlyIf b (getD p (at + l .j) 0)) (some (getD d (l .j) 0))) (c .before .before .before .is-marked .ensures)
+    ∙ sym (clash-step-data (at + length d) p m at d (l .j) (omega arith) (omega arith)) in
     (omega arith, ap₂ _||_ test (l .inv .1) ∙ sym (any-step (l .j) (differsAt (markedView (at + length d) p m) at d)))
 
--- src/areas.rt:42:1
 returns : tie.Need-returns Inv-loop μ-loop
 returns c =
     let a = c .before .before .before .before .before .args in

@@ -9,14 +9,10 @@ use denote.Ref.{now}
 use native.Mathlib.Omega.{arith}
 use mathlib.Core.List.{List}
 use mathlib.Core.Bool.{Bool, cond}
-use mathlib.Core.Path.{_≡_, refl, sym, ap, _∙_}
-use Prim.Native.Nat.{ℕ, _+_, _-_, _≤_, _<_}
+use mathlib.Core.Path.{_≡_, refl, ap, _∙_}
+use Prim.Native.Nat.{ℕ, _-_, _≤_}
 use Rattle.reassembly.proofs.areas.store_covered.Statement.{statement}
 use Rattle.reassembly.proofs.areas.store_covered.Tie as tie
-use Rattle.reassembly.proofs.areas.store_covered.Reads as reads
-use Rattle.reassembly.proofs.areas.store_covered.Lts as lts
-use Rattle.reassembly.proofs.marks.choose.Reads as choose-reads
-use Rattle.reassembly.proofs.marks.is_marked.Reads as is-marked-reads
 
 abbrev Inv-loop : tie.InvT-loop
 Inv-loop payload₀ total from from-marks i₀ payload i =
@@ -25,41 +21,32 @@ Inv-loop payload₀ total from from-marks i₀ payload i =
 abbrev μ-loop : tie.MeasureT-loop
 μ-loop payload₀ total from from-marks i₀ payload i = total - i
 
--- src/areas.rt:28:5
 loop-holds : tie.Need-loop-holds Inv-loop μ-loop
 loop-holds c =
     let a = c .before .before .before .args in (omega arith, refl, laid-start (markedView (a .total) (now (a .from)) (now (a .from-marks))) (now (a .payload)) 0 (λ i h. absurd (omega arith)))
 
--- src/areas.rt:29:29
 is-marked-requires : tie.Need-is-marked-requires Inv-loop μ-loop
 is-marked-requires c κs =
     let a = c .before .before .before .before .before .args in marks-room (a .total) (c .before .loop .i) (now (a .from-marks)) (omega arith) (omega arith)
 
--- src/areas.rt:29:55
 shared-slice-read-choose : tie.Need-shared-slice-read-choose Inv-loop μ-loop
 shared-slice-read-choose c = omega arith
 
--- src/areas.rt:29:64
 slice-read-choose : tie.Need-slice-read-choose Inv-loop μ-loop
 slice-read-choose c = omega arith
 
--- src/areas.rt:29:22
 choose-requires : tie.Need-choose-requires Inv-loop μ-loop
 choose-requires c κs = tt
 
--- src/areas.rt:29:9
 slice-write-payload : tie.Need-slice-write-payload Inv-loop μ-loop
 slice-write-payload c = omega arith
 
--- src/areas.rt:30:9
 add-i : tie.Need-add-i Inv-loop μ-loop
 add-i c = omega arith
 
--- src/areas.rt:28:5
 loop-less : tie.Need-loop-less Inv-loop μ-loop
 loop-less c = omega arith
 
--- src/areas.rt:28:5
 loop-again : tie.Need-loop-again Inv-loop μ-loop
 loop-again c =
     let a = c .before .before .before .before .before .before .before .before .before .args in
@@ -67,20 +54,18 @@ loop-again c =
     let p = now (a .payload) in
     let v = markedView (a .total) (now (a .from)) (now (a .from-marks)) in
     let byte = c .choose .ensures
-        ∙ ap (λ (b : Bool). cond b (getD (now (a .from)) (l .i) 0) (getD (l .payload) (l .i) 0)) (c .before .before .before .is-marked .ensures)
-        ∙ chosen (a .total) (now (a .from)) (now (a .from-marks)) (l .i) (getD (l .payload) (l .i) 0) (omega arith)
-        ∙ ap (λ (q : List ℕ). Option·getD (v (l .i)) (getD q (l .i) 0)) (l .inv .2)
-        ∙ ap (Option·getD (v (l .i))) (laid-at v p (l .i) (omega arith)) in (
+    ∙ ap (λ (b : Bool). cond b (getD (now (a .from)) (l .i) 0) (getD (l .payload) (l .i) 0)) (c .before .before .before .is-marked .ensures)
+    ∙ chosen (a .total) (now (a .from)) (now (a .from-marks)) (l .i) (getD (l .payload) (l .i) 0) (omega arith)
+    ∙ ap (λ (q : List ℕ). Option·getD (v (l .i)) (getD q (l .i) 0)) (l .inv .2)
+    ∙ ap (Option·getD (v (l .i))) (laid-at v p (l .i) (omega arith)) in (
       omega arith,
       simp length-set (l .inv .1),
       rw (l .inv .2) (laid-step v p (l .i) _ (omega arith) byte),
     )
 
--- src/areas.rt:23:1
 same-length : tie.Need-same-length Inv-loop μ-loop
 same-length c = c .before .loop .inv .1
 
--- src/areas.rt:23:1
 returns : tie.Need-returns Inv-loop μ-loop
 returns c =
     let a = c .before .before .before .before .before .args in

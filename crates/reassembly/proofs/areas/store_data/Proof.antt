@@ -4,13 +4,11 @@ use lib.ListN.{length, getD, length-set}
 use denote.Ref.{now}
 use native.Mathlib.Omega.{arith}
 use native.Mathlib.Nat.{add-assoc}
-use mathlib.Core.Option.{Option, none, Option·getD}
+use mathlib.Core.Option.{Option, Option·getD}
 use mathlib.Core.Path.{_≡_, refl, sym, ap, _∙_}
-use Prim.Native.Nat.{ℕ, _+_, _-_, _≤_, _<_}
+use Prim.Native.Nat.{ℕ, _+_, _-_, _≤_}
 use Rattle.reassembly.proofs.areas.store_data.Statement.{statement}
 use Rattle.reassembly.proofs.areas.store_data.Tie as tie
-use Rattle.reassembly.proofs.areas.store_data.Reads as reads
-use Rattle.reassembly.proofs.areas.store_data.Lts as lts
 
 abbrev Inv-loop : tie.InvT-loop
 Inv-loop payload₀ offset bytes j₀ payload j =
@@ -19,7 +17,6 @@ Inv-loop payload₀ offset bytes j₀ payload j =
 abbrev μ-loop : tie.MeasureT-loop
 μ-loop payload₀ offset bytes j₀ payload j = length bytes - j
 
--- src/areas.rt:16:5
 loop-holds : tie.Need-loop-holds Inv-loop μ-loop
 loop-holds c =
     let a = c .args in
@@ -27,27 +24,21 @@ loop-holds c =
     let d = now (a .bytes) in
     (omega arith, refl, laid-start (dataView at d) (now (a .payload)) (at + 0) (λ i h. data-below at d i (omega arith)))
 
--- src/areas.rt:17:18
 add-at : tie.Need-add-at Inv-loop μ-loop
 add-at c = omega arith
 
--- src/areas.rt:18:23
 shared-slice-read-payload : tie.Need-shared-slice-read-payload Inv-loop μ-loop
 shared-slice-read-payload c = omega arith
 
--- src/areas.rt:18:9
 slice-write-payload : tie.Need-slice-write-payload Inv-loop μ-loop
 slice-write-payload c = omega arith
 
--- src/areas.rt:19:9
 add-j : tie.Need-add-j Inv-loop μ-loop
 add-j c = omega arith
 
--- src/areas.rt:16:5
 loop-less : tie.Need-loop-less Inv-loop μ-loop
 loop-less c = omega arith
 
--- src/areas.rt:16:5
 loop-again : tie.Need-loop-again Inv-loop μ-loop
 loop-again c =
     let a = c .before .before .before .args in
@@ -61,11 +52,9 @@ loop-again c =
       rw (l .inv .2, ← add-assoc) (laid-step (dataView (a .offset) (now (a .bytes))) (now (a .payload)) (a .offset + l .j) (getD (now (a .bytes)) (l .j) 0) (omega arith) (sym byte)),
     )
 
--- src/areas.rt:11:1
 same-length : tie.Need-same-length Inv-loop μ-loop
 same-length c = c .before .loop .inv .1
 
--- src/areas.rt:11:1
 returns : tie.Need-returns Inv-loop μ-loop
 returns c =
     let a = c .before .before .args in

@@ -4,14 +4,11 @@ use borrow.Author.Tests.{not-true, not-false}
 use borrow.Author.Count.{below-more}
 use denote.Ref.{now}
 use native.Mathlib.Omega.{arith}
-use mathlib.Core.Bool.{true, false}
+use mathlib.Core.Bool.{true}
 use mathlib.Core.Path.{_≡_, sym, _∙_}
 use Prim.Native.Nat.{ℕ, _-_, _≤_, _<_}
 use Rattle.reassembly.proofs.marks.all_marked.Statement.{statement}
 use Rattle.reassembly.proofs.marks.all_marked.Tie as tie
-use Rattle.reassembly.proofs.marks.all_marked.Reads as reads
-use Rattle.reassembly.proofs.marks.all_marked.Lts as lts
-use Rattle.reassembly.proofs.marks.is_marked.Reads as is-marked-reads
 
 abbrev Inv-loop : tie.InvT-loop
 Inv-loop marks n i₀ i = (i ≤ n) × ((k : ℕ) → k < i → marked marks k ≡ true)
@@ -19,36 +16,29 @@ Inv-loop marks n i₀ i = (i ≤ n) × ((k : ℕ) → k < i → marked marks k �
 abbrev μ-loop : tie.MeasureT-loop
 μ-loop marks n i₀ i = n - i
 
--- src/marks.rt:80:5
 loop-holds : tie.Need-loop-holds Inv-loop μ-loop
 loop-holds c = (omega arith, λ k h. absurd (omega arith))
 
--- src/marks.rt:81:13
 is-marked-requires : tie.Need-is-marked-requires Inv-loop μ-loop
 is-marked-requires c κs =
     let a = c .before .before .before .args in marks-room (a .n) (c .before .loop .i) (now (a .marks)) (omega arith) (omega arith)
 
--- src/marks.rt:82:13
 returns : tie.Need-returns Inv-loop μ-loop
 returns c =
     let a = c .before .before .before .before .before .args in
     sym (all-marked-no (a .n) (now (a .marks)) (c .before .before .before .loop .i) (omega arith) (sym (c .before .is-marked .ensures) ∙ not-true _ (c .if1 .taken)))
 
--- src/marks.rt:84:9
 add-i : tie.Need-add-i Inv-loop μ-loop
 add-i c = omega arith
 
--- src/marks.rt:80:5
 loop-less : tie.Need-loop-less Inv-loop μ-loop
 loop-less c = omega arith
 
--- src/marks.rt:80:5
 loop-again : tie.Need-loop-again Inv-loop μ-loop
 loop-again c =
     let l = c .before .before .before .loop in
     (omega arith, below-more _ (l .i) (l .inv .1) (sym (c .before .is-marked .ensures) ∙ not-false _ (c .if1 .left)))
 
--- src/marks.rt:75:1
 returns-2 : tie.Need-returns-2 Inv-loop μ-loop
 returns-2 c =
     let a = c .before .before .before .args in

@@ -2,10 +2,10 @@
 -- Assumes nothing.
 use Prim.Native.Nat.{_-_, _≤_}
 use native.Mathlib.Omega.{arith}
-use mathlib.Core.Path.{_≡_, refl, ap, _∙_}
+use mathlib.Core.Path.{_≡_, refl, _∙_}
 use mathlib.Core.List.{_++_, append-nil}
 use denote.Ref.{now}
-use lib.ListN.{length, drop, replicate, length-set, set, drop-of-length-le}
+use lib.ListN.{length, drop, replicate, length-set, drop-of-length-le}
 use borrow.Author.Fill.{fill-none, fill-more}
 use Rattle.reassembly.specs.Marks.{cleared}
 use Rattle.reassembly.proofs.marks.clear.Statement.{statement}

@@ -2,15 +2,11 @@ use Rattle.reassembly.specs.Marks.{capacity, marked}
 use mathlib.Core.Path.{refl}
 use Rattle.reassembly.proofs.marks.is_marked.Statement.{statement}
 use Rattle.reassembly.proofs.marks.is_marked.Tie as tie
-use Rattle.reassembly.proofs.marks.is_marked.Reads as reads
-use Rattle.reassembly.proofs.marks.is_marked.Lts as lts
 
--- src/marks.rt:21:5
 shared-slice-read-result : tie.Need-shared-slice-read-result
 unfolding capacity
 shared-slice-read-result c = c .before .pre
 
--- src/marks.rt:17:1
 returns : tie.Need-returns
 unfolding marked
 returns c = refl

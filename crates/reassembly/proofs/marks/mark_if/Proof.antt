@@ -6,33 +6,19 @@ use lib.ListN.{set}
 use borrow.Author.Needs.{needs}
 use Rattle.reassembly.proofs.marks.mark_if.Statement.{statement}
 use Rattle.reassembly.proofs.marks.mark_if.Tie as tie
-use Rattle.reassembly.proofs.marks.mark_if.Reads as reads
-use Rattle.reassembly.proofs.marks.mark_if.Lts as lts
-use Rattle.reassembly.proofs.marks.choose.Reads as choose-reads
 
--- src/marks.rt:36:30
 slice-read-choose : tie.Need-slice-read-choose
 unfolding capacity
 slice-read-choose c = c .before .before .pre
 
--- src/marks.rt:36:16
-choose-requires : tie.Need-choose-requires
-choose-requires c κs = search needs
-
--- src/marks.rt:36:5
 slice-write-marks : tie.Need-slice-write-marks
 unfolding capacity
 slice-write-marks c = c .before .before .before .pre
 
--- src/marks.rt:32:1
-same-length : tie.Need-same-length
-same-length c = search needs
-
--- src/marks.rt:32:1
 returns : tie.Need-returns
 returns c =
     let a = c .before .before .before .args in ap (set (now (a .marks)) (a .i)) (c .choose .ensures) ∙ mark-chosen (a .on) (a .i) (now (a .marks))
 
 pub mark-if-spec : {M : Type 1} → statement M
 mark-if-spec =
-    tie.close (tie.spec slice-read-choose choose-requires slice-write-marks same-length returns)
+    tie.close (tie.spec slice-read-choose (λ c κs. search needs) slice-write-marks (λ c. search needs) returns)

@@ -4,15 +4,11 @@ use Rattle.reassembly.specs.Marks.{marked, markIf, markUpTo, markedBelow
 use lib.ListN.{length}
 use denote.Ref.{now}
 use native.Mathlib.Omega.{arith}
-use mathlib.Core.Bool.{Bool, true, false}
+use mathlib.Core.Bool.{Bool}
 use mathlib.Core.Path.{_≡_, refl, sym, ap, ap₂, _∙_}
-use Prim.Native.Nat.{ℕ, _+_, _-_, _≤_, _<_}
+use Prim.Native.Nat.{ℕ, _-_, _≤_}
 use Rattle.reassembly.proofs.marks.mark_marked.Statement.{statement}
 use Rattle.reassembly.proofs.marks.mark_marked.Tie as tie
-use Rattle.reassembly.proofs.marks.mark_marked.Reads as reads
-use Rattle.reassembly.proofs.marks.mark_marked.Lts as lts
-use Rattle.reassembly.proofs.marks.is_marked.Reads as is-marked-reads
-use Rattle.reassembly.proofs.marks.mark_if.Reads as mark-if-reads
 
 abbrev Inv-loop : tie.InvT-loop
 Inv-loop marks₀ n other i₀ marks i =
@@ -21,29 +17,23 @@ Inv-loop marks₀ n other i₀ marks i =
 abbrev μ-loop : tie.MeasureT-loop
 μ-loop marks₀ n other i₀ marks i = n - i
 
--- src/marks.rt:68:5
 loop-holds : tie.Need-loop-holds Inv-loop μ-loop
 loop-holds c = (omega arith, refl, refl)
 
--- src/marks.rt:69:27
 is-marked-requires : tie.Need-is-marked-requires Inv-loop μ-loop
 is-marked-requires c κs =
     let a = c .before .before .before .before .before .args in marks-room (a .n) (c .before .before .loop .i) (now (a .other)) (omega arith) (omega arith)
 
--- src/marks.rt:69:9
 mark-if-requires : tie.Need-mark-if-requires Inv-loop μ-loop
 mark-if-requires c κs =
     let a = c .before .before .before .before .before .before .args in let l = c .before .before .before .loop in marks-room (a .n) (l .i) (l .marks) (omega arith) (omega arith)
 
--- src/marks.rt:70:9
 add-i : tie.Need-add-i Inv-loop μ-loop
 add-i c = omega arith
 
--- src/marks.rt:68:5
 loop-less : tie.Need-loop-less Inv-loop μ-loop
 loop-less c = omega arith
 
--- src/marks.rt:68:5
 loop-again : tie.Need-loop-again Inv-loop μ-loop
 loop-again c =
     let a = c .before .before .before .before .before .before .before .before .before .args in
@@ -52,14 +42,12 @@ loop-again c =
       omega arith,
       ap length (c .before .before .mark-if .ensures) ∙ length-markIf (c .before .before .before .is-marked .result) (l .i) (l .marks) ∙ l .inv .1,
       c .before .before .mark-if .ensures ∙ ap₂ (λ (b : Bool) (m : List ℕ). markIf b (l .i) m) (c .before .before .before .is-marked .ensures) (l .inv .2)
-      ∙ sym (marks-step (l .i) (marked o (l .i)) (markedBelow (a .n) o) (now (a .marks)) (marked-is (a .n) o (l .i) (omega arith))),
+          ∙ sym (marks-step (l .i) (marked o (l .i)) (markedBelow (a .n) o) (now (a .marks)) (marked-is (a .n) o (l .i) (omega arith))),
     )
 
--- src/marks.rt:63:1
 same-length : tie.Need-same-length Inv-loop μ-loop
 same-length c = c .before .loop .inv .1
 
--- src/marks.rt:63:1
 returns : tie.Need-returns Inv-loop μ-loop
 returns c =
     let a = c .before .before .before .before .args in

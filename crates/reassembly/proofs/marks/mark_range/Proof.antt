@@ -6,12 +6,9 @@ use denote.Ref.{now}
 use native.Mathlib.Omega.{arith}
 use mathlib.Core.Bool.{true}
 use mathlib.Core.Path.{_≡_, refl, sym, ap, _∙_}
-use Prim.Native.Nat.{ℕ, _-_, _≤_, _<_}
+use Prim.Native.Nat.{_-_, _≤_}
 use Rattle.reassembly.proofs.marks.mark_range.Statement.{statement}
 use Rattle.reassembly.proofs.marks.mark_range.Tie as tie
-use Rattle.reassembly.proofs.marks.mark_range.Reads as reads
-use Rattle.reassembly.proofs.marks.mark_range.Lts as lts
-use Rattle.reassembly.proofs.marks.mark_if.Reads as mark-if-reads
 
 abbrev Inv-loop : tie.InvT-loop
 Inv-loop marks₀ start end i₀ marks i =
@@ -20,25 +17,20 @@ Inv-loop marks₀ start end i₀ marks i =
 abbrev μ-loop : tie.MeasureT-loop
 μ-loop marks₀ start end i₀ marks i = end - i
 
--- src/marks.rt:56:5
 loop-holds : tie.Need-loop-holds Inv-loop μ-loop
 loop-holds c =
     let a = c .before .args in (omega arith, omega arith, refl, sym (marks-start (a .start) (inRange (a .start) (a .end)) (now (a .marks)) (λ i h. range-below (a .start) (a .end) i h)))
 
--- src/marks.rt:57:9
 mark-if-requires : tie.Need-mark-if-requires Inv-loop μ-loop
 mark-if-requires c κs =
     let a = c .before .before .before .before .args in let l = c .before .before .loop in marks-room (a .end) (l .i) (l .marks) (omega arith) (omega arith)
 
--- src/marks.rt:58:9
 add-i : tie.Need-add-i Inv-loop μ-loop
 add-i c = omega arith
 
--- src/marks.rt:56:5
 loop-less : tie.Need-loop-less Inv-loop μ-loop
 loop-less c = omega arith
 
--- src/marks.rt:56:5
 loop-again : tie.Need-loop-again Inv-loop μ-loop
 loop-again c =
     let a = c .before .before .before .before .before .before .before .args in
@@ -47,14 +39,12 @@ loop-again c =
       omega arith,
       ap length (c .before .before .mark-if .ensures) ∙ length-markIf true (l .i) (l .marks) ∙ l .inv .2,
       c .before .before .mark-if .ensures ∙ ap (markIf true (l .i)) (l .inv .3)
-      ∙ sym (marks-step (l .i) true (inRange (a .start) (a .end)) (now (a .marks)) (range-in (a .start) (a .end) (l .i) (omega arith) (omega arith))),
+          ∙ sym (marks-step (l .i) true (inRange (a .start) (a .end)) (now (a .marks)) (range-in (a .start) (a .end) (l .i) (omega arith) (omega arith))),
     )
 
--- src/marks.rt:51:1
 same-length : tie.Need-same-length Inv-loop μ-loop
 same-length c = c .before .loop .inv .2
 
--- src/marks.rt:51:1
 returns : tie.Need-returns Inv-loop μ-loop
 returns c =
     let a = c .before .before .before .args in

@@ -2,10 +2,7 @@ use Rattle.reassembly.specs.Marks.{marksFor}
 use mathlib.Core.Path.{refl}
 use Rattle.reassembly.proofs.marks.marks_for.Statement.{statement}
 use Rattle.reassembly.proofs.marks.marks_for.Tie as tie
-use Rattle.reassembly.proofs.marks.marks_for.Reads as reads
-use Rattle.reassembly.proofs.marks.marks_for.Lts as lts
 
--- src/marks.rt:10:1
 returns : tie.Need-returns
 unfolding marksFor
 returns c = refl

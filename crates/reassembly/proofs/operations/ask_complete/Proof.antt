@@ -4,45 +4,32 @@ use borrow.Author.Tests.{not-true, not-false}
 use lib.ListN.{length}
 use denote.Ref.{now}
 use mathlib.Core.Bool.{true, false}
-use mathlib.Core.Path.{_≡_, sym, _∙_}
+use mathlib.Core.Path.{sym, _∙_}
 use borrow.Author.Needs.{needs}
 use Rattle.reassembly.proofs.operations.ask_complete.Statement.{statement}
 use Rattle.reassembly.proofs.operations.ask_complete.Tie as tie
-use Rattle.reassembly.proofs.operations.ask_complete.Reads as reads
-use Rattle.reassembly.proofs.operations.ask_complete.Lts as lts
-use Rattle.reassembly.proofs.marks.all_marked.Reads as all-marked-reads
-use Rattle.reassembly.proofs.record.is_sound.Reads as is-sound-reads
 
--- src/operations.rt:96:9
-is-sound-requires : tie.Need-is-sound-requires
-is-sound-requires c κs = search needs
-
--- src/operations.rt:97:9
 returns : tie.Need-returns
 returns c =
     let a = c .before .before .before .before .args in
     sym (ask-unsound (partial (a .rec) (now (a .payload)) (now (a .marks))) (sym (c .before .is-sound .ensures) ∙ not-true _ (c .if1 .taken)))
 
--- src/operations.rt:100:9
 returns-2 : tie.Need-returns-2
 returns-2 c =
     let a = c .before .before .before .before .before .before .args in
     sym (ask-idle (partial (a .rec) (now (a .payload)) (now (a .marks))) (sym (c .before .before .before .is-sound .ensures) ∙ not-false _ (c .before .before .if1 .left)) (not-true _ (c .if2 .taken)))
 
--- src/operations.rt:103:8
 all-marked-requires : tie.Need-all-marked-requires
 all-marked-requires c κs =
     let a = c .before .before .before .before .before .before .before .args in
     let ok = sym (c .before .before .before .before .is-sound .ensures) ∙ not-false _ (c .before .before .before .if1 .left) in
     sound-marks (a .rec) (length (now (a .payload))) (length (now (a .marks))) ok (a .rec .message .total) (sound-total (a .rec) (length (now (a .payload))) (length (now (a .marks))) ok (not-false _ (c .before .if2 .left)))
 
--- src/operations.rt:104:9
 returns-3 : tie.Need-returns-3
 returns-3 c =
     let a = c .before .before .before .before .before .before .before .before .before .args in
     sym (ask-held (partial (a .rec) (now (a .payload)) (now (a .marks))) (sym (c .before .before .before .before .before .before .is-sound .ensures) ∙ not-false _ (c .before .before .before .before .before .if1 .left)) (not-false _ (c .before .before .before .if2 .left)) true (sym (c .before .all-marked .ensures) ∙ c .if3 .taken))
 
--- src/operations.rt:93:1
 returns-4 : tie.Need-returns-4
 returns-4 c =
     let a = c .before .before .before .before .before .before .before .before .before .args in
@@ -51,4 +38,4 @@ returns-4 c =
 pub ask-complete-spec : {M : Type 1} → statement M
 ask-complete-spec =
     tie.close
-    (tie.spec is-sound-requires returns returns-2 all-marked-requires returns-3 returns-4)
+    (tie.spec (λ c κs. search needs) returns returns-2 all-marked-requires returns-3 returns-4)

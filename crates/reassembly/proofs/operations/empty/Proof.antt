@@ -2,10 +2,7 @@ use Rattle.reassembly.specs.Operations.{emptied}
 use mathlib.Core.Path.{refl}
 use Rattle.reassembly.proofs.operations.empty.Statement.{statement}
 use Rattle.reassembly.proofs.operations.empty.Tie as tie
-use Rattle.reassembly.proofs.operations.empty.Reads as reads
-use Rattle.reassembly.proofs.operations.empty.Lts as lts
 
--- src/operations.rt:82:1
 returns : tie.Need-returns
 unfolding emptied
 returns c = refl

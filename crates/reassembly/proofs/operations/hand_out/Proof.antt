@@ -4,36 +4,16 @@ use Rattle.reassembly.specs.Record.{partial}
 use lib.Seq.{length-take-le}
 use lib.ListN.{length}
 use denote.Ref.{now}
-use mathlib.Core.Path.{_≡_, sym, _∙_}
+use mathlib.Core.Path.{sym, _∙_}
 use borrow.Author.Needs.{needs}
 use Rattle.reassembly.proofs.operations.hand_out.Statement.{statement}
 use Rattle.reassembly.proofs.operations.hand_out.Tie as tie
-use Rattle.reassembly.proofs.operations.hand_out.Reads as reads
-use Rattle.reassembly.proofs.operations.hand_out.Lts as lts
-use Rattle.reassembly.proofs.operations.hand_out_verdict.Reads as hand-out-verdict-reads
 
--- src/operations.rt:124:37
-hand-out-verdict-requires : tie.Need-hand-out-verdict-requires
-hand-out-verdict-requires c κs = search needs
-
--- src/operations.rt:125:16
-enum-told : tie.Need-enum-told
-enum-told c = search needs
-
--- src/operations.rt:125:9
-slice-aggregate-result : tie.Need-slice-aggregate-result
-slice-aggregate-result c = search needs
-
--- src/operations.rt:125:9
 returns : tie.Need-returns
 unfolding handOut
 returns c =
     rw (sym (c .before .before .before .hand-out-verdict .ensures) ∙ c .before .enum-told .given .1)
 
-enum-told-2 : tie.Need-enum-told-2
-enum-told-2 c = search needs
-
--- src/operations.rt:129:5
 slice-aggregate-result-2 : tie.Need-slice-aggregate-result-2
 slice-aggregate-result-2 c =
     let a = c .before .before .before .before .before .before .before .args in
@@ -41,7 +21,6 @@ slice-aggregate-result-2 c =
     let e = sym (c .before .before .before .before .hand-out-verdict .ensures) ∙ c .before .before .enum-told2 .given .1 in
     sym (length-take-le (a .rec .message .total) (now (a .payload)) (sound-total (a .rec) (length (now (a .payload))) (length (now (a .marks))) (hand-sound s e) (hand-started s e)))
 
--- src/operations.rt:121:1
 returns-2 : tie.Need-returns-2
 unfolding handOut
 returns-2 c =
@@ -51,10 +30,10 @@ pub hand-out-spec : {M : Type 1} → statement M
 hand-out-spec =
     tie.close
     (tie.spec
-    hand-out-verdict-requires
-    enum-told
-    slice-aggregate-result
+    (λ c κs. search needs)
+    (λ c. search needs)
+    (λ c. search needs)
     returns
-    enum-told-2
+    (λ c. search needs)
     slice-aggregate-result-2
     returns-2)

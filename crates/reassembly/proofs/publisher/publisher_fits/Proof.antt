@@ -2,59 +2,27 @@ use Rattle.reassembly.specs.Publisher.{publisherFits}
 use borrow.Author.Needs.{needs}
 use Rattle.reassembly.proofs.publisher.publisher_fits.Statement.{statement}
 use Rattle.reassembly.proofs.publisher.publisher_fits.Tie as tie
-use Rattle.reassembly.proofs.publisher.publisher_fits.Reads as reads
-use Rattle.reassembly.proofs.publisher.publisher_fits.Lts as lts
 
--- src/publisher.rt:107:27
-enum-told : tie.Need-enum-told
-enum-told c = search needs
-
--- src/publisher.rt:108:25
-enum-told-2 : tie.Need-enum-told-2
-enum-told-2 c = search needs
-
--- src/publisher.rt:109:27
-enum-told-3 : tie.Need-enum-told-3
-enum-told-3 c = search needs
-
--- src/publisher.rt:110:27
-enum-told-4 : tie.Need-enum-told-4
-enum-told-4 c = search needs
-
--- src/publisher.rt:111:27
-enum-told-5 : tie.Need-enum-told-5
-enum-told-5 c = search needs
-
--- src/publisher.rt:112:25
-enum-told-6 : tie.Need-enum-told-6
-enum-told-6 c = search needs
-
--- src/publisher.rt:102:1
 returns : tie.Need-returns
 unfolding publisherFits
 returns c = rw (c .enum-told .given .1)
 
--- src/publisher.rt:102:1
 returns-2 : tie.Need-returns-2
 unfolding publisherFits
 returns-2 c = rw (c .enum-told2 .given .1)
 
--- src/publisher.rt:102:1
 returns-3 : tie.Need-returns-3
 unfolding publisherFits
 returns-3 c = rw (c .enum-told3 .given .1)
 
--- src/publisher.rt:102:1
 returns-4 : tie.Need-returns-4
 unfolding publisherFits
 returns-4 c = rw (c .enum-told4 .given .1)
 
--- src/publisher.rt:102:1
 returns-5 : tie.Need-returns-5
 unfolding publisherFits
 returns-5 c = rw (c .enum-told5 .given .1)
 
--- src/publisher.rt:102:1
 returns-6 : tie.Need-returns-6
 unfolding publisherFits
 returns-6 c = rw (c .before .enum-told6 .given .1)
@@ -63,12 +31,12 @@ pub publisher-fits-spec : {M : Type 1} → statement M
 publisher-fits-spec =
     tie.close
     (tie.spec
-    enum-told
-    enum-told-2
-    enum-told-3
-    enum-told-4
-    enum-told-5
-    enum-told-6
+    (λ c. search needs)
+    (λ c. search needs)
+    (λ c. search needs)
+    (λ c. search needs)
+    (λ c. search needs)
+    (λ c. search needs)
     returns
     returns-2
     returns-3

@@ -1,37 +1,26 @@
 use Rattle.reassembly.proofs.SameLaws.{same-message-total}
 use Rattle.reassembly.specs.Record.{identityOf, sameMessage}
 use borrow.Author.Tests.{eq-eqb, ne-eqb, not-true, not-false}
-use mathlib.Core.Path.{_≡_, sym, _∙_}
+use mathlib.Core.Path.{sym, _∙_}
 use borrow.Author.Needs.{needs}
 use Rattle.reassembly.proofs.record.same_message.Statement.{statement}
 use Rattle.reassembly.proofs.record.same_message.Tie as tie
-use Rattle.reassembly.proofs.record.same_message.Reads as reads
-use Rattle.reassembly.proofs.record.same_message.Lts as lts
-use Rattle.reassembly.proofs.publisher.same_publisher.Reads as same-publisher-reads
 
--- src/record.rt:27:9
-same-publisher-requires : tie.Need-same-publisher-requires
-same-publisher-requires c κs = search needs
-
--- src/record.rt:28:9
 returns : tie.Need-returns
 unfolding sameMessage
 returns c =
     simp (sym (c .before .same-publisher .ensures) ∙ not-true _ (c .if1 .taken))
 
--- src/record.rt:31:9
 returns-2 : tie.Need-returns-2
 unfolding sameMessage
 returns-2 c =
     simp (sym (c .before .before .before .before .same-publisher .ensures) ∙ not-false _ (c .before .before .before .if1 .left), ne-eqb _ _ (c .if2 .taken))
 
--- src/record.rt:34:9
 returns-3 : tie.Need-returns-3
 unfolding sameMessage
 returns-3 c =
     simp (sym (c .before .before .before .before .before .before .before .same-publisher .ensures) ∙ not-false _ (c .before .before .before .before .before .before .if1 .left), eq-eqb _ _ (c .before .before .before .if2 .left), ne-eqb _ _ (c .if3 .taken))
 
--- src/record.rt:22:1
 returns-4 : tie.Need-returns-4
 returns-4 c =
     let a = c .before .before .before .before .before .before .before .before .before .before .before .before .args in
@@ -39,4 +28,4 @@ returns-4 c =
 
 pub same-message-spec : {M : Type 1} → statement M
 same-message-spec =
-    tie.close (tie.spec same-publisher-requires returns returns-2 returns-3 returns-4)
+    tie.close (tie.spec (λ c κs. search needs) returns returns-2 returns-3 returns-4)
