@@ -10,9 +10,9 @@ use Rattle.reassembly.specs.Machine.State.{idle, held}
 use Rattle.reassembly.specs.declared.verdict.Verdict.the-variants.{Done}
 use Rattle.reassembly.proofs.Cases.{by-bool, by-lt}
 use Rattle.reassembly.proofs.ViewLaws.{clash-none, none-clash}
-use Rattle.reassembly.proofs.JoinLaws.{clash-comm, differs-refl, differs-comm, first-comm, first-assoc, differs-first, differs-left, differs-right}
 use Rattle.reassembly.proofs.SameLaws.{same-message-true, same-message-yes, same-message-comm}
 use Rattle.reassembly.proofs.JudgeLaws.{meet-same, meet-free}
+use Rattle.reassembly.proofs.JoinLaws.{clash-comm, differs-refl, differs-comm, first-comm, first-assoc, differs-first, differs-left, differs-right}
 
 -- no byte at or above total
 abbrev pub Bounded : State → Type 0

@@ -1,14 +1,16 @@
-use Rattle.reassembly.proofs.AreaLaws.{clash-step-marked}
-use Rattle.reassembly.proofs.MarkLaws.{marks-room}
-use Rattle.reassembly.proofs.ViewLaws.{any-step}
-use Rattle.reassembly.specs.Areas.{markedView}
-use Rattle.reassembly.specs.Views.{anyBelow, onlyIf, differs, clash}
-use lib.ListN.{getD}
-use denote.Ref.{now}
-use native.Mathlib.Omega.{arith}
+-- `reassembly::areas::clash_covered` meets its contract. Assumes nothing.
+use Prim.Native.Nat.{ℕ, _-_, _≤_}
 use mathlib.Core.Bool.{Bool, _||_}
 use mathlib.Core.Path.{_≡_, refl, sym, ap, ap₂, _∙_}
-use Prim.Native.Nat.{ℕ, _-_, _≤_}
+use native.Mathlib.Omega.{arith}
+use denote.Ref.{now}
+use lib.ListN.{getD}
+use borrow.Author.Needs.{needs}
+use Rattle.reassembly.specs.Views.{anyBelow, onlyIf, differs, clash}
+use Rattle.reassembly.specs.Areas.{markedView}
+use Rattle.reassembly.proofs.ViewLaws.{any-step}
+use Rattle.reassembly.proofs.MarkLaws.{marks-room}
+use Rattle.reassembly.proofs.AreaLaws.{clash-step-marked}
 use Rattle.reassembly.proofs.areas.clash_covered.Statement.{statement}
 use Rattle.reassembly.proofs.areas.clash_covered.Tie as tie
 
@@ -26,24 +28,9 @@ is-marked-requires : tie.Need-is-marked-requires Inv-loop μ-loop
 is-marked-requires c κs =
     let a = c .before .before .before .before .before .before .args in marks-room (a .total) (c .before .loop .i) (now (a .marks)) (omega arith) (omega arith)
 
-shared-slice-read-differ : tie.Need-shared-slice-read-differ Inv-loop μ-loop
-shared-slice-read-differ c = omega arith
-
 is-marked-requires-2 : tie.Need-is-marked-requires-2 Inv-loop μ-loop
 is-marked-requires-2 c κs =
     let a = c .before .before .before .before .before .before .before .before .args in marks-room (a .total) (c .before .before .before .loop .i) (now (a .from-marks)) (omega arith) (omega arith)
-
-shared-slice-read-differ-2 : tie.Need-shared-slice-read-differ-2 Inv-loop μ-loop
-shared-slice-read-differ-2 c = omega arith
-
-differ-requires : tie.Need-differ-requires Inv-loop μ-loop
-differ-requires c κs = tt
-
-add-i : tie.Need-add-i Inv-loop μ-loop
-add-i c = omega arith
-
-loop-less : tie.Need-loop-less Inv-loop μ-loop
-loop-less c = omega arith
 
 loop-again : tie.Need-loop-again Inv-loop μ-loop
 loop-again c =
@@ -74,11 +61,11 @@ clash-covered-spec =
     μ-loop
     loop-holds
     is-marked-requires
-    shared-slice-read-differ
+    (λ c. search needs)
     is-marked-requires-2
-    shared-slice-read-differ-2
-    differ-requires
-    add-i
-    loop-less
+    (λ c. search needs)
+    (λ c κs. search needs)
+    (λ c. search needs)
+    (λ c. search needs)
     loop-again
     returns)

@@ -1,15 +1,17 @@
-use Rattle.reassembly.proofs.AreaLaws.{clash-step-data}
-use Rattle.reassembly.proofs.MarkLaws.{marks-room}
-use Rattle.reassembly.proofs.ViewLaws.{any-step, clash-data, differsAt}
-use Rattle.reassembly.specs.Areas.{markedView}
-use Rattle.reassembly.specs.Views.{anyBelow, onlyIf, differs}
-use lib.ListN.{length, getD}
-use denote.Ref.{now}
-use native.Mathlib.Omega.{arith}
+-- `reassembly::areas::clash_data` meets its contract. Assumes nothing.
+use Prim.Native.Nat.{ℕ, _+_, _-_, _≤_}
 use mathlib.Core.Option.{some}
 use mathlib.Core.Bool.{Bool, _||_}
 use mathlib.Core.Path.{_≡_, refl, sym, ap, ap₂, _∙_}
-use Prim.Native.Nat.{ℕ, _+_, _-_, _≤_}
+use native.Mathlib.Omega.{arith}
+use denote.Ref.{now}
+use lib.ListN.{length, getD}
+use borrow.Author.Needs.{needs}
+use Rattle.reassembly.specs.Views.{anyBelow, onlyIf, differs}
+use Rattle.reassembly.specs.Areas.{markedView}
+use Rattle.reassembly.proofs.ViewLaws.{any-step, clash-data, differsAt}
+use Rattle.reassembly.proofs.MarkLaws.{marks-room}
+use Rattle.reassembly.proofs.AreaLaws.{clash-step-data}
 use Rattle.reassembly.proofs.areas.clash_data.Statement.{statement}
 use Rattle.reassembly.proofs.areas.clash_data.Tie as tie
 
@@ -23,28 +25,10 @@ abbrev μ-loop : tie.MeasureT-loop
 loop-holds : tie.Need-loop-holds Inv-loop μ-loop
 loop-holds c = (omega arith, refl)
 
-add-at : tie.Need-add-at Inv-loop μ-loop
-add-at c = omega arith
-
 is-marked-requires : tie.Need-is-marked-requires Inv-loop μ-loop
 is-marked-requires c κs =
     let a = c .before .before .before .before .before .args in
     marks-room (a .offset + length (now (a .bytes))) (a .offset + c .before .loop .j) (now (a .marks)) (omega arith) (omega arith)
-
-shared-slice-read-differ : tie.Need-shared-slice-read-differ Inv-loop μ-loop
-shared-slice-read-differ c = omega arith
-
-shared-slice-read-differ-2 : tie.Need-shared-slice-read-differ-2 Inv-loop μ-loop
-shared-slice-read-differ-2 c = omega arith
-
-differ-requires : tie.Need-differ-requires Inv-loop μ-loop
-differ-requires c κs = tt
-
-add-j : tie.Need-add-j Inv-loop μ-loop
-add-j c = omega arith
-
-loop-less : tie.Need-loop-less Inv-loop μ-loop
-loop-less c = omega arith
 
 loop-again : tie.Need-loop-again Inv-loop μ-loop
 loop-again c =
@@ -76,12 +60,12 @@ clash-data-spec =
     Inv-loop
     μ-loop
     loop-holds
-    add-at
+    (λ c. search needs)
     is-marked-requires
-    shared-slice-read-differ
-    shared-slice-read-differ-2
-    differ-requires
-    add-j
-    loop-less
+    (λ c. search needs)
+    (λ c. search needs)
+    (λ c κs. search needs)
+    (λ c. search needs)
+    (λ c. search needs)
     loop-again
     returns)

@@ -1,3 +1,4 @@
+-- `reassembly::areas::differ` meets its contract. Assumes nothing.
 use Rattle.reassembly.proofs.ViewLaws.{differs-known}
 use Rattle.reassembly.proofs.areas.differ.Statement.{statement}
 use Rattle.reassembly.proofs.areas.differ.Tie as tie

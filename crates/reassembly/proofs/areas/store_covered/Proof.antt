@@ -1,16 +1,18 @@
+-- `reassembly::areas::store_covered` meets its contract. Assumes nothing.
+use Prim.Native.Nat.{ℕ, _-_, _≤_}
 use mathlib.Core.Option.{Option·getD}
-use Rattle.reassembly.proofs.AreaLaws.{marked-above, chosen}
-use Rattle.reassembly.proofs.MarkLaws.{marks-room}
-use Rattle.reassembly.proofs.ViewLaws.{upTo, laid-start, laid-step, laid-end, laid-at}
-use Rattle.reassembly.specs.Areas.{markedView}
-use Rattle.reassembly.specs.Views.{laid}
-use lib.ListN.{length, getD, length-set}
-use denote.Ref.{now}
-use native.Mathlib.Omega.{arith}
 use mathlib.Core.List.{List}
 use mathlib.Core.Bool.{Bool, cond}
 use mathlib.Core.Path.{_≡_, refl, ap, _∙_}
-use Prim.Native.Nat.{ℕ, _-_, _≤_}
+use native.Mathlib.Omega.{arith}
+use denote.Ref.{now}
+use lib.ListN.{length, getD, length-set}
+use borrow.Author.Needs.{needs}
+use Rattle.reassembly.specs.Views.{laid}
+use Rattle.reassembly.specs.Areas.{markedView}
+use Rattle.reassembly.proofs.ViewLaws.{upTo, laid-start, laid-step, laid-end, laid-at}
+use Rattle.reassembly.proofs.MarkLaws.{marks-room}
+use Rattle.reassembly.proofs.AreaLaws.{marked-above, chosen}
 use Rattle.reassembly.proofs.areas.store_covered.Statement.{statement}
 use Rattle.reassembly.proofs.areas.store_covered.Tie as tie
 
@@ -28,24 +30,6 @@ loop-holds c =
 is-marked-requires : tie.Need-is-marked-requires Inv-loop μ-loop
 is-marked-requires c κs =
     let a = c .before .before .before .before .before .args in marks-room (a .total) (c .before .loop .i) (now (a .from-marks)) (omega arith) (omega arith)
-
-shared-slice-read-choose : tie.Need-shared-slice-read-choose Inv-loop μ-loop
-shared-slice-read-choose c = omega arith
-
-slice-read-choose : tie.Need-slice-read-choose Inv-loop μ-loop
-slice-read-choose c = omega arith
-
-choose-requires : tie.Need-choose-requires Inv-loop μ-loop
-choose-requires c κs = tt
-
-slice-write-payload : tie.Need-slice-write-payload Inv-loop μ-loop
-slice-write-payload c = omega arith
-
-add-i : tie.Need-add-i Inv-loop μ-loop
-add-i c = omega arith
-
-loop-less : tie.Need-loop-less Inv-loop μ-loop
-loop-less c = omega arith
 
 loop-again : tie.Need-loop-again Inv-loop μ-loop
 loop-again c =
@@ -80,12 +64,12 @@ store-covered-spec =
     μ-loop
     loop-holds
     is-marked-requires
-    shared-slice-read-choose
-    slice-read-choose
-    choose-requires
-    slice-write-payload
-    add-i
-    loop-less
+    (λ c. search needs)
+    (λ c. search needs)
+    (λ c κs. search needs)
+    (λ c. search needs)
+    (λ c. search needs)
+    (λ c. search needs)
     loop-again
     same-length
     returns)

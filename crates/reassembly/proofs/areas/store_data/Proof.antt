@@ -1,12 +1,14 @@
-use Rattle.reassembly.proofs.ViewLaws.{upTo, laid-start, laid-step, laid-end, data-at, data-below, data-above}
-use Rattle.reassembly.specs.Views.{dataView, laid}
-use lib.ListN.{length, getD, length-set}
-use denote.Ref.{now}
-use native.Mathlib.Omega.{arith}
-use native.Mathlib.Nat.{add-assoc}
+-- `reassembly::areas::store_data` meets its contract. Assumes nothing.
+use Prim.Native.Nat.{ℕ, _+_, _-_, _≤_}
 use mathlib.Core.Option.{Option, Option·getD}
 use mathlib.Core.Path.{_≡_, refl, sym, ap, _∙_}
-use Prim.Native.Nat.{ℕ, _+_, _-_, _≤_}
+use native.Mathlib.Omega.{arith}
+use native.Mathlib.Nat.{add-assoc}
+use denote.Ref.{now}
+use lib.ListN.{length, getD, length-set}
+use borrow.Author.Needs.{needs}
+use Rattle.reassembly.specs.Views.{dataView, laid}
+use Rattle.reassembly.proofs.ViewLaws.{upTo, laid-start, laid-step, laid-end, data-at, data-below, data-above}
 use Rattle.reassembly.proofs.areas.store_data.Statement.{statement}
 use Rattle.reassembly.proofs.areas.store_data.Tie as tie
 
@@ -23,21 +25,6 @@ loop-holds c =
     let at = a .offset in
     let d = now (a .bytes) in
     (omega arith, refl, laid-start (dataView at d) (now (a .payload)) (at + 0) (λ i h. data-below at d i (omega arith)))
-
-add-at : tie.Need-add-at Inv-loop μ-loop
-add-at c = omega arith
-
-shared-slice-read-payload : tie.Need-shared-slice-read-payload Inv-loop μ-loop
-shared-slice-read-payload c = omega arith
-
-slice-write-payload : tie.Need-slice-write-payload Inv-loop μ-loop
-slice-write-payload c = omega arith
-
-add-j : tie.Need-add-j Inv-loop μ-loop
-add-j c = omega arith
-
-loop-less : tie.Need-loop-less Inv-loop μ-loop
-loop-less c = omega arith
 
 loop-again : tie.Need-loop-again Inv-loop μ-loop
 loop-again c =
@@ -70,11 +57,11 @@ store-data-spec =
     Inv-loop
     μ-loop
     loop-holds
-    add-at
-    shared-slice-read-payload
-    slice-write-payload
-    add-j
-    loop-less
+    (λ c. search needs)
+    (λ c. search needs)
+    (λ c. search needs)
+    (λ c. search needs)
+    (λ c. search needs)
     loop-again
     same-length
     returns)

@@ -1,9 +1,10 @@
-use Rattle.reassembly.specs.ChunkRead.{chunkFault}
-use borrow.Author.Tests.{le-leb, lt-leb, eq-eqb, ne-eqb, not-true, not-false}
-use native.Mathlib.Omega.{arith}
-use mathlib.Core.Path.{sym, _∙_}
+-- `reassembly::chunk_read::chunk_fault` meets its contract. Assumes nothing.
 use Prim.Native.Nat.{_+_}
+use mathlib.Core.Path.{sym, _∙_}
+use native.Mathlib.Omega.{arith}
+use borrow.Author.Tests.{le-leb, lt-leb, eq-eqb, ne-eqb, not-true, not-false}
 use borrow.Author.Needs.{needs}
+use Rattle.reassembly.specs.ChunkRead.{chunkFault}
 use Rattle.reassembly.proofs.chunk_read.chunk_fault.Statement.{statement}
 use Rattle.reassembly.proofs.chunk_read.chunk_fault.Tie as tie
 

@@ -1,7 +1,8 @@
-use Rattle.reassembly.specs.ChunkRead.{readFault}
-use borrow.Author.Tests.{eq-eqb, ne-eqb}
+-- `reassembly::chunk_read::read_fault` meets its contract. Assumes nothing.
 use mathlib.Core.Path.{sym}
+use borrow.Author.Tests.{eq-eqb, ne-eqb}
 use borrow.Author.Needs.{needs}
+use Rattle.reassembly.specs.ChunkRead.{readFault}
 use Rattle.reassembly.proofs.chunk_read.read_fault.Statement.{statement}
 use Rattle.reassembly.proofs.chunk_read.read_fault.Tie as tie
 

@@ -1,7 +1,8 @@
-use Rattle.reassembly.specs.Judge.{admissionOf}
-use borrow.Author.Tests.{le-leb, lt-leb, not-true, not-false}
+-- `reassembly::judge::admit` meets its contract. Assumes nothing.
 use mathlib.Core.Path.{sym, _∙_}
+use borrow.Author.Tests.{le-leb, lt-leb, not-true, not-false}
 use borrow.Author.Needs.{needs}
+use Rattle.reassembly.specs.Judge.{admissionOf}
 use Rattle.reassembly.proofs.judge.admit.Statement.{statement}
 use Rattle.reassembly.proofs.judge.admit.Tie as tie
 

@@ -1,14 +1,15 @@
-use Rattle.reassembly.proofs.JudgeLaws.{admitted, combine-unsound, combine-source-unsound, combine-idle, combine-admits, covered-room, combine-same}
-use Rattle.reassembly.specs.declared.verdict.Verdict.the-variants.{Done, Refused}
-use Rattle.reassembly.specs.declared.judge.Admission.{Admission}
-use Rattle.reassembly.specs.Judge.{viewOf}
-use Rattle.reassembly.specs.Record.{partial}
-use Rattle.reassembly.specs.Views.{clash}
-use borrow.Author.Tests.{not-true, not-false}
-use denote.Ref.{now}
+-- `reassembly::judge::judge_combine` meets its contract. Assumes nothing.
 use mathlib.Core.Bool.{Bool, cond}
 use mathlib.Core.Path.{sym, ap, _∙_}
+use denote.Ref.{now}
+use borrow.Author.Tests.{not-true, not-false}
 use borrow.Author.Needs.{needs}
+use Rattle.reassembly.specs.Views.{clash}
+use Rattle.reassembly.specs.Record.{partial}
+use Rattle.reassembly.specs.Judge.{viewOf}
+use Rattle.reassembly.specs.declared.verdict.Verdict.the-variants.{Done, Refused}
+use Rattle.reassembly.specs.declared.judge.Admission.{Admission}
+use Rattle.reassembly.proofs.JudgeLaws.{admitted, combine-unsound, combine-source-unsound, combine-idle, combine-admits, covered-room, combine-same}
 use Rattle.reassembly.proofs.judge.judge_combine.Statement.{statement}
 use Rattle.reassembly.proofs.judge.judge_combine.Tie as tie
 

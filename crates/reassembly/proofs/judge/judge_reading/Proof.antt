@@ -1,15 +1,16 @@
-use Rattle.reassembly.proofs.JudgeLaws.{admitted, reading-unsound, reading-refused, reading-admits, data-room, reading-same}
-use Rattle.reassembly.specs.declared.verdict.Verdict.the-variants.{Done, Refused}
-use Rattle.reassembly.specs.declared.judge.Admission.{Admission}
-use Rattle.reassembly.specs.Judge.{viewOf}
-use Rattle.reassembly.specs.ChunkRead.{readingOf}
-use Rattle.reassembly.specs.Record.{partial}
-use Rattle.reassembly.specs.Views.{clash, dataView}
-use borrow.Author.Tests.{not-true, not-false}
-use denote.Ref.{now}
+-- `reassembly::judge::judge_reading` meets its contract. Assumes nothing.
 use mathlib.Core.Bool.{Bool, cond}
 use mathlib.Core.Path.{sym, ap, _∙_}
+use denote.Ref.{now}
+use borrow.Author.Tests.{not-true, not-false}
 use borrow.Author.Needs.{needs}
+use Rattle.reassembly.specs.Views.{clash, dataView}
+use Rattle.reassembly.specs.Record.{partial}
+use Rattle.reassembly.specs.ChunkRead.{readingOf}
+use Rattle.reassembly.specs.Judge.{viewOf}
+use Rattle.reassembly.specs.declared.verdict.Verdict.the-variants.{Done, Refused}
+use Rattle.reassembly.specs.declared.judge.Admission.{Admission}
+use Rattle.reassembly.proofs.JudgeLaws.{admitted, reading-unsound, reading-refused, reading-admits, data-room, reading-same}
 use Rattle.reassembly.proofs.judge.judge_reading.Statement.{statement}
 use Rattle.reassembly.proofs.judge.judge_reading.Tie as tie
 

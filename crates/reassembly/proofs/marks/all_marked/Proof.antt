@@ -1,12 +1,14 @@
-use Rattle.reassembly.proofs.MarkLaws.{marks-room, all-marked-yes, all-marked-no}
-use Rattle.reassembly.specs.Marks.{marked}
-use borrow.Author.Tests.{not-true, not-false}
-use borrow.Author.Count.{below-more}
-use denote.Ref.{now}
-use native.Mathlib.Omega.{arith}
+-- `reassembly::marks::all_marked` meets its contract. Assumes nothing.
+use Prim.Native.Nat.{ℕ, _-_, _≤_, _<_}
 use mathlib.Core.Bool.{true}
 use mathlib.Core.Path.{_≡_, sym, _∙_}
-use Prim.Native.Nat.{ℕ, _-_, _≤_, _<_}
+use native.Mathlib.Omega.{arith}
+use denote.Ref.{now}
+use borrow.Author.Needs.{needs}
+use borrow.Author.Tests.{not-true, not-false}
+use borrow.Author.Count.{below-more}
+use Rattle.reassembly.specs.Marks.{marked}
+use Rattle.reassembly.proofs.MarkLaws.{marks-room, all-marked-yes, all-marked-no}
 use Rattle.reassembly.proofs.marks.all_marked.Statement.{statement}
 use Rattle.reassembly.proofs.marks.all_marked.Tie as tie
 
@@ -28,12 +30,6 @@ returns c =
     let a = c .before .before .before .before .before .args in
     sym (all-marked-no (a .n) (now (a .marks)) (c .before .before .before .loop .i) (omega arith) (sym (c .before .is-marked .ensures) ∙ not-true _ (c .if1 .taken)))
 
-add-i : tie.Need-add-i Inv-loop μ-loop
-add-i c = omega arith
-
-loop-less : tie.Need-loop-less Inv-loop μ-loop
-loop-less c = omega arith
-
 loop-again : tie.Need-loop-again Inv-loop μ-loop
 loop-again c =
     let l = c .before .before .before .loop in
@@ -53,7 +49,7 @@ all-marked-spec =
     loop-holds
     is-marked-requires
     returns
-    add-i
-    loop-less
+    (λ c. search needs)
+    (λ c. search needs)
     loop-again
     returns-2)

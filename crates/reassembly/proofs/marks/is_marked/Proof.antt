@@ -1,5 +1,6 @@
-use Rattle.reassembly.specs.Marks.{capacity, marked}
+-- `reassembly::marks::is_marked` meets its contract. Assumes nothing.
 use mathlib.Core.Path.{refl}
+use Rattle.reassembly.specs.Marks.{capacity, marked}
 use Rattle.reassembly.proofs.marks.is_marked.Statement.{statement}
 use Rattle.reassembly.proofs.marks.is_marked.Tie as tie
 

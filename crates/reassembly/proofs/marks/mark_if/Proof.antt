@@ -1,9 +1,10 @@
-use Rattle.reassembly.proofs.MarkLaws.{mark-chosen}
-use Rattle.reassembly.specs.Marks.{capacity}
-use denote.Ref.{now}
+-- `reassembly::marks::mark_if` meets its contract. Assumes nothing.
 use mathlib.Core.Path.{ap, _∙_}
+use denote.Ref.{now}
 use lib.ListN.{set}
 use borrow.Author.Needs.{needs}
+use Rattle.reassembly.specs.Marks.{capacity}
+use Rattle.reassembly.proofs.MarkLaws.{mark-chosen}
 use Rattle.reassembly.proofs.marks.mark_if.Statement.{statement}
 use Rattle.reassembly.proofs.marks.mark_if.Tie as tie
 

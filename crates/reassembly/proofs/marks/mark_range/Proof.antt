@@ -1,12 +1,14 @@
-use Rattle.reassembly.proofs.MarkLaws.{marks-room, length-markIf, marks-start, marks-step, marks-end, range-below, range-in, range-above}
-use Rattle.reassembly.specs.Marks.{markIf, markUpTo}
-use Rattle.reassembly.specs.Views.{inRange}
-use lib.ListN.{length}
-use denote.Ref.{now}
-use native.Mathlib.Omega.{arith}
+-- `reassembly::marks::mark_range` meets its contract. Assumes nothing.
+use Prim.Native.Nat.{_-_, _≤_}
 use mathlib.Core.Bool.{true}
 use mathlib.Core.Path.{_≡_, refl, sym, ap, _∙_}
-use Prim.Native.Nat.{_-_, _≤_}
+use native.Mathlib.Omega.{arith}
+use denote.Ref.{now}
+use lib.ListN.{length}
+use borrow.Author.Needs.{needs}
+use Rattle.reassembly.specs.Views.{inRange}
+use Rattle.reassembly.specs.Marks.{markIf, markUpTo}
+use Rattle.reassembly.proofs.MarkLaws.{marks-room, length-markIf, marks-start, marks-step, marks-end, range-below, range-in, range-above}
 use Rattle.reassembly.proofs.marks.mark_range.Statement.{statement}
 use Rattle.reassembly.proofs.marks.mark_range.Tie as tie
 
@@ -24,12 +26,6 @@ loop-holds c =
 mark-if-requires : tie.Need-mark-if-requires Inv-loop μ-loop
 mark-if-requires c κs =
     let a = c .before .before .before .before .args in let l = c .before .before .loop in marks-room (a .end) (l .i) (l .marks) (omega arith) (omega arith)
-
-add-i : tie.Need-add-i Inv-loop μ-loop
-add-i c = omega arith
-
-loop-less : tie.Need-loop-less Inv-loop μ-loop
-loop-less c = omega arith
 
 loop-again : tie.Need-loop-again Inv-loop μ-loop
 loop-again c =
@@ -59,8 +55,8 @@ mark-range-spec =
     μ-loop
     loop-holds
     mark-if-requires
-    add-i
-    loop-less
+    (λ c. search needs)
+    (λ c. search needs)
     loop-again
     same-length
     returns)

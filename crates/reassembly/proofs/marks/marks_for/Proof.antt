@@ -1,5 +1,6 @@
-use Rattle.reassembly.specs.Marks.{marksFor}
+-- `reassembly::marks::marks_for` meets its contract. Assumes nothing.
 use mathlib.Core.Path.{refl}
+use Rattle.reassembly.specs.Marks.{marksFor}
 use Rattle.reassembly.proofs.marks.marks_for.Statement.{statement}
 use Rattle.reassembly.proofs.marks.marks_for.Tie as tie
 

@@ -1,11 +1,12 @@
-use Rattle.reassembly.proofs.JudgeLaws.{sound-total, sound-marks, ask-unsound, ask-idle, ask-held}
-use Rattle.reassembly.specs.Record.{partial}
-use borrow.Author.Tests.{not-true, not-false}
-use lib.ListN.{length}
-use denote.Ref.{now}
+-- `reassembly::operations::ask_complete` meets its contract. Assumes nothing.
 use mathlib.Core.Bool.{true, false}
 use mathlib.Core.Path.{sym, _∙_}
+use denote.Ref.{now}
+use lib.ListN.{length}
+use borrow.Author.Tests.{not-true, not-false}
 use borrow.Author.Needs.{needs}
+use Rattle.reassembly.specs.Record.{partial}
+use Rattle.reassembly.proofs.JudgeLaws.{sound-total, sound-marks, ask-unsound, ask-idle, ask-held}
 use Rattle.reassembly.proofs.operations.ask_complete.Statement.{statement}
 use Rattle.reassembly.proofs.operations.ask_complete.Tie as tie
 

@@ -1,3 +1,4 @@
+-- `reassembly::operations::begin` meets its contract. Assumes nothing.
 use borrow.Author.Needs.{needs}
 use Rattle.reassembly.proofs.operations.begin.Statement.{statement}
 use Rattle.reassembly.proofs.operations.begin.Tie as tie

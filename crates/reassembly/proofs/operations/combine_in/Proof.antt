@@ -1,10 +1,11 @@
-use Rattle.reassembly.proofs.JudgeLaws.{combine-refused, combine-done-idle, combined-room, combined-marks, combined}
-use Rattle.reassembly.specs.declared.verdict.Verdict.{Verdict}
-use Rattle.reassembly.specs.Record.{partial}
-use borrow.Author.Tests.{not-true, not-false}
-use denote.Ref.{now}
+-- `reassembly::operations::combine_in` meets its contract. Assumes nothing.
 use mathlib.Core.Path.{sym, ap, _∙_}
+use denote.Ref.{now}
+use borrow.Author.Tests.{not-true, not-false}
 use borrow.Author.Needs.{needs}
+use Rattle.reassembly.specs.Record.{partial}
+use Rattle.reassembly.specs.declared.verdict.Verdict.{Verdict}
+use Rattle.reassembly.proofs.JudgeLaws.{combine-refused, combine-done-idle, combined-room, combined-marks, combined}
 use Rattle.reassembly.proofs.operations.combine_in.Statement.{statement}
 use Rattle.reassembly.proofs.operations.combine_in.Tie as tie
 

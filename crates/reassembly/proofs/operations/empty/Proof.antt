@@ -1,5 +1,6 @@
-use Rattle.reassembly.specs.Operations.{emptied}
+-- `reassembly::operations::empty` meets its contract. Assumes nothing.
 use mathlib.Core.Path.{refl}
+use Rattle.reassembly.specs.Operations.{emptied}
 use Rattle.reassembly.proofs.operations.empty.Statement.{statement}
 use Rattle.reassembly.proofs.operations.empty.Tie as tie
 

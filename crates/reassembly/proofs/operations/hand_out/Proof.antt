@@ -1,11 +1,12 @@
-use Rattle.reassembly.proofs.JudgeLaws.{sound-total, hand-sound, hand-started}
-use Rattle.reassembly.specs.Operations.{handOut}
-use Rattle.reassembly.specs.Record.{partial}
+-- `reassembly::operations::hand_out` meets its contract. Assumes nothing.
+use mathlib.Core.Path.{sym, _∙_}
+use denote.Ref.{now}
 use lib.Seq.{length-take-le}
 use lib.ListN.{length}
-use denote.Ref.{now}
-use mathlib.Core.Path.{sym, _∙_}
 use borrow.Author.Needs.{needs}
+use Rattle.reassembly.specs.Record.{partial}
+use Rattle.reassembly.specs.Operations.{handOut}
+use Rattle.reassembly.proofs.JudgeLaws.{sound-total, hand-sound, hand-started}
 use Rattle.reassembly.proofs.operations.hand_out.Statement.{statement}
 use Rattle.reassembly.proofs.operations.hand_out.Tie as tie
 

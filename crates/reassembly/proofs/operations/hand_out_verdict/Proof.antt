@@ -1,8 +1,9 @@
-use Rattle.reassembly.proofs.JudgeLaws.{hand-refused, hand-no, hand-yes}
-use Rattle.reassembly.specs.Record.{partial}
-use denote.Ref.{now}
+-- `reassembly::operations::hand_out_verdict` meets its contract. Assumes nothing.
 use mathlib.Core.Path.{sym, _∙_}
+use denote.Ref.{now}
 use borrow.Author.Needs.{needs}
+use Rattle.reassembly.specs.Record.{partial}
+use Rattle.reassembly.proofs.JudgeLaws.{hand-refused, hand-no, hand-yes}
 use Rattle.reassembly.proofs.operations.hand_out_verdict.Statement.{statement}
 use Rattle.reassembly.proofs.operations.hand_out_verdict.Tie as tie
 

@@ -1,11 +1,12 @@
-use native.Mathlib.Omega.{arith}
-use Rattle.reassembly.proofs.JudgeLaws.{take-refused, taken-room, taken-marks, taken}
-use Rattle.reassembly.specs.declared.verdict.Verdict.{Verdict}
-use Rattle.reassembly.specs.ChunkRead.{readingOf}
-use Rattle.reassembly.specs.Record.{partial}
-use denote.Ref.{now}
+-- `reassembly::operations::take_in` meets its contract. Assumes nothing.
 use mathlib.Core.Path.{sym, ap, _∙_}
+use native.Mathlib.Omega.{arith}
+use denote.Ref.{now}
 use borrow.Author.Needs.{needs}
+use Rattle.reassembly.specs.Record.{partial}
+use Rattle.reassembly.specs.ChunkRead.{readingOf}
+use Rattle.reassembly.specs.declared.verdict.Verdict.{Verdict}
+use Rattle.reassembly.proofs.JudgeLaws.{take-refused, taken-room, taken-marks, taken}
 use Rattle.reassembly.proofs.operations.take_in.Statement.{statement}
 use Rattle.reassembly.proofs.operations.take_in.Tie as tie
 

@@ -1,5 +1,6 @@
-use Rattle.reassembly.specs.Publisher.{publisherFits}
+-- `reassembly::publisher::publisher_fits` meets its contract. Assumes nothing.
 use borrow.Author.Needs.{needs}
+use Rattle.reassembly.specs.Publisher.{publisherFits}
 use Rattle.reassembly.proofs.publisher.publisher_fits.Statement.{statement}
 use Rattle.reassembly.proofs.publisher.publisher_fits.Tie as tie
 

@@ -1,10 +1,11 @@
-use lib.Seq.{length-take-le}
-use Rattle.reassembly.specs.Publisher.{publisherOf, sameText}
-use Rattle.reassembly.proofs.SameLaws
-use lib.ListN.{length}
+-- `reassembly::publisher::same_publisher` meets its contract. Assumes nothing.
 use mathlib.Core.Path.{_≡_, ap₂, sym, _∙_}
 use native.Mathlib.Omega.{arith}
+use lib.Seq.{length-take-le}
+use lib.ListN.{length}
 use borrow.Author.Needs.{needs}
+use Rattle.reassembly.specs.Publisher.{publisherOf, sameText}
+use Rattle.reassembly.proofs.SameLaws
 use Rattle.reassembly.proofs.publisher.same_publisher.Statement.{statement}
 use Rattle.reassembly.proofs.publisher.same_publisher.Tie as tie
 

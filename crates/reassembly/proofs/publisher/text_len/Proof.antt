@@ -1,7 +1,8 @@
-use lib.Seq.{take-all}
-use lib.ListN.{take}
+-- `reassembly::publisher::text_len` meets its contract. Assumes nothing.
 use mathlib.Core.Path.{_≡_, sym, _∙_}
 use native.Mathlib.Omega.{arith}
+use lib.Seq.{take-all}
+use lib.ListN.{take}
 use borrow.Author.Needs.{needs}
 use Rattle.reassembly.proofs.publisher.text_len.Statement.{statement}
 use Rattle.reassembly.proofs.publisher.text_len.Tie as tie

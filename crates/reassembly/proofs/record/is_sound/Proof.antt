@@ -1,7 +1,8 @@
-use Rattle.reassembly.specs.Record.{soundBy}
-use borrow.Author.Tests.{le-leb, lt-leb, eq-eqb, ne-eqb}
+-- `reassembly::record::is_sound` meets its contract. Assumes nothing.
 use mathlib.Core.Path.{sym, _∙_}
+use borrow.Author.Tests.{le-leb, lt-leb, eq-eqb, ne-eqb}
 use borrow.Author.Needs.{needs}
+use Rattle.reassembly.specs.Record.{soundBy}
 use Rattle.reassembly.proofs.record.is_sound.Statement.{statement}
 use Rattle.reassembly.proofs.record.is_sound.Tie as tie
 

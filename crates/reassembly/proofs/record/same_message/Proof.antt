@@ -1,8 +1,9 @@
-use Rattle.reassembly.proofs.SameLaws.{same-message-total}
-use Rattle.reassembly.specs.Record.{identityOf, sameMessage}
-use borrow.Author.Tests.{eq-eqb, ne-eqb, not-true, not-false}
+-- `reassembly::record::same_message` meets its contract. Assumes nothing.
 use mathlib.Core.Path.{sym, _∙_}
+use borrow.Author.Tests.{eq-eqb, ne-eqb, not-true, not-false}
 use borrow.Author.Needs.{needs}
+use Rattle.reassembly.specs.Record.{identityOf, sameMessage}
+use Rattle.reassembly.proofs.SameLaws.{same-message-total}
 use Rattle.reassembly.proofs.record.same_message.Statement.{statement}
 use Rattle.reassembly.proofs.record.same_message.Tie as tie
 
