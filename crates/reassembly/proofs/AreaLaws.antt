@@ -7,7 +7,7 @@ use mathlib.Core.Option.{Option, some, none, orElse, Option·getD}
 use native.Mathlib.Omega.{arith}
 use lib.ListN.{length, getD, take}
 use lib.Seq.{ext-getD, getD-take, length-take-le}
-use Rattle.reassembly.specs.Views.{View, isSome, has, onlyIf, dataView, nowhere, joined, differs, clash, full, bytesOf, laid}
+use Rattle.reassembly.specs.Views.{View, allBelow, isSome, has, onlyIf, dataView, nowhere, joined, differs, clash, full, bytesOf, laid}
 use Rattle.reassembly.specs.Marks.{marksFor, marked, cleared, markAll, markedBelow, allMarked}
 use Rattle.reassembly.specs.Areas.{markedView}
 use Rattle.reassembly.proofs.Cases.{by-lt}
@@ -95,7 +95,7 @@ marks-again t p m = rw (has-marked t p m) (marks-self t m)
 -- ---- a full one
 pub full-marked : (n : ℕ) (p m : List ℕ) → full n (markedView n p m) ≡ allMarked n m
 unfolding allMarked full
-full-marked n p m = rw (has-marked n p m) (all-ext n _ _ (λ i h. marked-is n m i h))
+full-marked n p m = ap (allBelow n) (has-marked n p m) ∙ all-ext n _ _ (λ i h. marked-is n m i h)
 
 pub full-bytes : (t : ℕ) (p m : List ℕ) → t ≤ length p → full t (markedView t p m) ≡ true → take t p ≡ bytesOf t (markedView t p m)
 full-bytes t p m h e =

@@ -6,26 +6,25 @@ use mathlib.Core.Bool.{Bool, true, false, cond, false≢true}
 use mathlib.Core.List.{List, [], _∷_}
 use mathlib.Core.Option.{some}
 use native.Mathlib.Omega.{arith}
-use lib.ListN.{length, replicate, length-replicate}
+use lib.ListN.{length}
 use lib.Seq.{length-take-le}
-use borrow.Author.Tests.{le-leb, eq-eqb}
-use Rattle.reassembly.specs.Views.{View, dataView}
-use Rattle.reassembly.specs.Marks.{marksFor}
-use Rattle.reassembly.specs.Record.{Partial, partial, soundBy, Good}
+use Rattle.reassembly.specs.Views.{dataView}
+use Rattle.reassembly.specs.Record.{Partial, Good}
 use Rattle.reassembly.specs.ChunkRead.{Reading, Proper}
 use Rattle.reassembly.specs.ChunkRead.Reading.{chunk}
-use Rattle.reassembly.specs.Machine.{State, viewIn, judgeState, between, acceptState, complete}
+use Rattle.reassembly.specs.Machine.{State, viewIn, between, complete}
 use Rattle.reassembly.specs.Machine.State.{idle, held}
 use Rattle.reassembly.specs.Judge.{viewOf, stateOf, Complete, Equal, alone, judgeReading, judgeCombine}
 use Rattle.reassembly.specs.Operations.{Step, stepBy, put, putReading, takeIn, combine, yesNo, askComplete, judgeHandOut, handOut}
-use Rattle.reassembly.specs.History.{Call, replies, final, machineReplies, machineFinal, brought, Brings, AllOf, ifAccepted, leaves}
+use Rattle.reassembly.specs.History.{Call, replies, final, machineReplies, machineFinal, brought, Brings, AllOf, leaves}
 use Rattle.reassembly.specs.Combining.{isRefused, someDisagree, EqualRoom, leftVerdict, leftResult, rightVerdict, rightResult}
 use Rattle.reassembly.specs.declared.record.Message.{Message}
 use Rattle.reassembly.specs.declared.verdict.Completeness.the-variants as C
 use Rattle.reassembly.specs.declared.verdict.Verdict.{Verdict}
 use Rattle.reassembly.specs.declared.verdict.Verdict.the-variants.{Done, Refused}
 use Rattle.reassembly.proofs.Cases.{by-bool}
-use Rattle.reassembly.proofs.ViewLaws.{full-some, full-all, data-above}
+use Rattle.reassembly.proofs.Alone
+use Rattle.reassembly.proofs.ViewLaws.{full-some, full-all}
 use Rattle.reassembly.proofs.AreaLaws.{laid-self, marks-again}
 use Rattle.reassembly.proofs.JudgeLaws
 use Rattle.reassembly.proofs.StateLaws
@@ -175,15 +174,6 @@ combine-groupings a b c ga gb gc ab bc = record {
     agree : Combining.Pairwise a b c → someDisagree a b c ≡ false
     agree = Combining.pairwise-agree a b c ga gb gc ab bc
 
--- the areas do not depend on the message
-put-payload : (s : Partial) (m k : Message) (v : View) → put m v s .payload ≡ put k v s .payload
-unfolding put
-put-payload s m k v = refl
-
-put-marks : (s : Partial) (m k : Message) (v : View) → put m v s .marks ≡ put k v s .marks
-unfolding put
-put-marks s m k v = refl
-
 -- ---- TAKING IN A CHUNK with no fault of its own equals combining with a partial that is that chunk alone: same answer, equal results, and
 -- the same bytes in both areas
 pub record AsPartial (x y : Step) : Type 0 where
@@ -195,86 +185,35 @@ pub record AsPartial (x y : Step) : Type 0 where
 pub chunk-as-partial : (s f : Partial) → Good s → Good f → (m : Message) (at : ℕ) (d : List ℕ) → Proper m at (length d) → stateOf f ≡ alone (chunk m at d) → AsPartial (takeIn s (chunk m at d)) (combine s f)
 chunk-as-partial s f ok okf m at d o q = go (judgeReading s (chunk m at d)) refl
   where
-    same : judgeReading s (chunk m at d) ≡ judgeCombine s f
-    same =
-        JudgeLaws.reading-judged s (chunk m at d) (ok .is-sound) ∙ ap (judgeState (length (s .payload)) (stateOf s)) (sym q)
-        ∙ sym (JudgeLaws.combine-judged s f (ok .is-sound) (okf .is-sound))
-
-    isHeld : State → Bool
-    isHeld idle = false
-    isHeld (held k w) = true
-
-    on : f .rec .started ≡ true
-    on = by-bool _ (f .rec .started) (λ e. e) (λ e. absurd (false≢true (rw e at (ap isHeld q))))
-
-    view : viewOf f ≡ dataView at d
-    view = rw on at (ap viewIn q)
-
     go : (v : Verdict) → judgeReading s (chunk m at d) ≡ v → AsPartial (takeIn s (chunk m at d)) (combine s f)
     go (Refused n p) e =
         let x = JudgeLaws.take-refused s (chunk m at d) n p e in
-        let y = JudgeLaws.combine-refused s f n p (sym same ∙ e) in
+        let y = JudgeLaws.combine-refused s f n p (sym (Alone.judged s f ok okf m at d q) ∙ e) in
         record { verdict = rw (x, y); equal = rw (x, y); payload = rw (x, y); marks = rw (x, y) }
     go Done e =
         let x = JudgeLaws.take-done s (chunk m at d) e in
-        let y = JudgeLaws.combine-done s f (sym same ∙ e) on in
-        let a : stateOf (takeIn s (chunk m at d) .after) ≡ acceptState (stateOf s) (alone (chunk m at d)) = Following.take-stepped s ok (chunk m at d) o .state ∙ ap (λ (v : Verdict). ifAccepted v (stateOf s) (acceptState (stateOf s) (alone (chunk m at d)))) (sym (JudgeLaws.reading-judged s (chunk m at d) (ok .is-sound)) ∙ e) in
-        let b : stateOf (combine s f .after) ≡ acceptState (stateOf s) (stateOf f) = Combining.done-state s f ok (Combining.combined-verdict s f ok ∙ sym same ∙ e) in
+        let y = Alone.combined s f ok okf m at d q e in
         record {
           verdict = rw (x, y);
-          equal = a ∙ sym (b ∙ ap (acceptState (stateOf s)) q);
-          payload = rw (x, y, view) (put-payload s m (f .rec .message) (dataView at d));
-          marks = rw (x, y, view) (put-marks s m (f .rec .message) (dataView at d));
+          equal = Alone.taken-state s ok m at d o e ∙ sym (Alone.combined-state s f ok okf m at d q e);
+          payload = rw (x, y) (Alone.put-payload s m (f .rec .message) (dataView at d));
+          marks = rw (x, y) (Alone.put-marks s m (f .rec .message) (dataView at d));
         }
 
--- such a partial, in areas of n bytes
-abbrev pub chunkAlone : ℕ → Message → ℕ → List ℕ → Partial
-chunkAlone n m at d = put m (dataView at d) (partial (record { started = false; message = m }) (replicate n 0) (replicate (marksFor n) 0))
-
-module _ (n : ℕ) (m : Message) (at : ℕ) (d : List ℕ) (o : Proper m at (length d)) (room : m .total ≤ n) where
-  base : Partial
-  base = partial (record { started = false; message = m }) (replicate n 0) (replicate (marksFor n) 0)
-
-  base-good : Good base
-  unfolding base soundBy
-  base-good = record { is-sound = rw (eq-eqb (marksFor (length {A = ℕ} (replicate n 0))) (length {A = ℕ} (replicate (marksFor n) 0)) (ap marksFor (length-replicate {A = ℕ} n 0) ∙ sym (length-replicate {A = ℕ} (marksFor n) 0))) }
-
-  base-fit : Following.Fit m (length (base .payload))
-  unfolding base
-  base-fit = record { some = o .some; room = rw (length-replicate {A = ℕ} n 0) room; publisher = o .publisher }
-
-  pub chunk-alone-good : Good (chunkAlone n m at d)
-  unfolding base
-  chunk-alone-good = Following.put-good m (dataView at d) base base-good base-fit
-
-  pub chunk-alone-is : stateOf (chunkAlone n m at d) ≡ alone (chunk m at d)
-  unfolding base
-  chunk-alone-is =
-      Following.put-state m (dataView at d) base base-good base-fit (λ i h. data-above at d i (omega (arith, o .fits)))
-      (rw (le-leb (m .total) (length {A = ℕ} (replicate n 0)) (base-fit .room)))
-
--- with it answer, record and every byte are the same
-pub take-is-combine : (s : Partial) → Good s → (m : Message) (at : ℕ) (d : List ℕ) → Proper m at (length d) → m .total ≤ length (s .payload) → takeIn s (chunk m at d) ≡ combine s (chunkAlone (length (s .payload)) m at d)
+-- with its own record in areas of equal length, all is the same: answer, record and every byte
+pub take-is-combine : (s : Partial) → Good s → (m : Message) (at : ℕ) (d : List ℕ) → Proper m at (length d) → m .total ≤ length (s .payload) → takeIn s (chunk m at d) ≡ combine s (Alone.chunkAlone (length (s .payload)) m at d)
 unfolding put
 take-is-combine s ok m at d o room = go (judgeReading s (chunk m at d)) refl
   where
-    f : Partial
-    f = chunkAlone (length (s .payload)) m at d
+    okf : Good (Alone.chunkAlone (length (s .payload)) m at d)
+    okf = Alone.chunk-alone-good (length (s .payload)) m at d o room
 
-    q : stateOf (chunkAlone (length (s .payload)) m at d) ≡ alone (chunk m at d)
-    q = chunk-alone-is (length (s .payload)) m at d o room
+    q : stateOf (Alone.chunkAlone (length (s .payload)) m at d) ≡ alone (chunk m at d)
+    q = Alone.chunk-alone-is (length (s .payload)) m at d o room
 
-    same : judgeReading s (chunk m at d) ≡ judgeCombine s (chunkAlone (length (s .payload)) m at d)
-    same =
-        JudgeLaws.reading-judged s (chunk m at d) (ok .is-sound) ∙ ap (judgeState (length (s .payload)) (stateOf s)) (sym q)
-        ∙ sym (JudgeLaws.combine-judged s (chunkAlone (length (s .payload)) m at d) (ok .is-sound) (chunk-alone-good (length (s .payload)) m at d o room .is-sound))
-
-    go : (v : Verdict) → judgeReading s (chunk m at d) ≡ v → takeIn s (chunk m at d) ≡ combine s (chunkAlone (length (s .payload)) m at d)
-    go (Refused n p) e = JudgeLaws.take-refused s (chunk m at d) n p e ∙ sym (JudgeLaws.combine-refused s (chunkAlone (length (s .payload)) m at d) n p (sym same ∙ e))
-    go Done e =
-        JudgeLaws.take-done s (chunk m at d) e
-        ∙ ap (λ (v : View). record { verdict = Done; after = put m v s }) (sym (ap viewIn q))
-        ∙ sym (JudgeLaws.combine-done s (chunkAlone (length (s .payload)) m at d) (sym same ∙ e) refl)
+    go : (v : Verdict) → judgeReading s (chunk m at d) ≡ v → takeIn s (chunk m at d) ≡ combine s (Alone.chunkAlone (length (s .payload)) m at d)
+    go (Refused n p) e = JudgeLaws.take-refused s (chunk m at d) n p e ∙ sym (JudgeLaws.combine-refused s _ n p (sym (Alone.judged s _ ok okf m at d q) ∙ e))
+    go Done e = JudgeLaws.take-done s (chunk m at d) e ∙ sym (Alone.combined s _ ok okf m at d q e)
 
 -- ---- EVERY REFUSAL leaves the record and both areas as they were
 step-refused : (v : Verdict) (s t : Partial) (n p : ℕ) → stepBy v s t .verdict ≡ Refused n p → stepBy v s t .after ≡ s

@@ -9,5 +9,6 @@ pub mod StateLaws
 pub mod Following
 pub mod Bringing
 pub mod Combining
+pub mod Alone
 pub mod Demand3
 pub mod Edges

@@ -2,7 +2,7 @@
 -- `payload ≡ laid (upTo i v) payload₀`: `laid-start`, `laid-step` and `laid-end` are its steps. Assumes nothing.
 use Prim.Native.Nat.{ℕ, zero, suc, _+_, _-_, _≤_, _<_}
 use mathlib.Core.Path.{_≡_, refl, sym, ap, _∙_, fun-ext}
-use mathlib.Core.Bool.{Bool, true, false, cond, not, _&&_, _||_, or-true, and-false, false≢true, true≢false}
+use mathlib.Core.Bool.{Bool, true, false, cond, not, _&&_, _||_, or-true, false≢true}
 use mathlib.Core.List.{List}
 use mathlib.Core.Option.{Option, some, none, orElse, Option·getD}
 use native.Mathlib.Nat.{le-of-suc-le-suc, not-suc-le-zero}
@@ -11,7 +11,7 @@ use native.Mathlib.Omega.{arith}
 use lib.ListN.{length, getD, set, length-set}
 use lib.Seq.{ext-getD, getD-set-same, getD-set-other}
 use lib.Dec.{ltb, eqb}
-use borrow.Author.Tests.{lt-ltb, le-ltb, le-leb, lt-leb, eqb-true, not-false}
+use borrow.Author.Tests.{lt-ltb, le-ltb, le-leb, lt-leb, eqb-true, not-true, not-false}
 use Rattle.reassembly.specs.Views.{View, tab, anyBelow, allBelow, isSome, has, onlyIf, inRange, dataView, nowhere, joined, differs, clash, full, laid}
 use Rattle.reassembly.proofs.Cases.{by-bool, by-eq, by-lt}
 
@@ -135,20 +135,16 @@ pub any-step : (n : ℕ) (f : ℕ → Bool) → anyBelow (n + 1) f ≡ (f n || a
 any-step n f = rw (add-one n)
 
 pub all-every : (n : ℕ) (f : ℕ → Bool) → ((i : ℕ) → i < n → f i ≡ true) → allBelow n f ≡ true
-all-every zero f e = refl
-all-every (suc n) f e = rw (e n (omega arith)) (all-every n f (λ i h. e i (omega arith)))
+all-every n f e = ap not (any-none n (λ i. not (f i)) (λ i h. ap not (e i h)))
 
 pub all-but : (n : ℕ) (f : ℕ → Bool) (i : ℕ) → i < n → f i ≡ false → allBelow n f ≡ false
-all-but zero f i h e = absurd (not-suc-le-zero h)
-all-but (suc n) f i h e =
-    by-eq _ i n (λ q. let t : f n ≡ false = rw q at e in rw t) (λ ne. rw (all-but n f i (omega arith) e) (and-false (f n)))
+all-but n f i h e = ap not (any-some n (λ k. not (f k)) i h (ap not e))
 
 pub every-all : (n : ℕ) (f : ℕ → Bool) → allBelow n f ≡ true → (i : ℕ) → i < n → f i ≡ true
-every-all n f e i h = by-bool _ (f i) (λ t. t) (λ t. absurd (true≢false (sym e ∙ all-but n f i h t)))
+every-all n f e i h = not-false (f i) (none-any n (λ k. not (f k)) (not-true (anyBelow n (λ k. not (f k))) e) i h)
 
 pub all-ext : (n : ℕ) (f g : ℕ → Bool) → ((i : ℕ) → i < n → f i ≡ g i) → allBelow n f ≡ allBelow n g
-all-ext zero f g e = refl
-all-ext (suc n) f g e = rw (e n (omega arith), all-ext n f g (λ i h. e i (omega arith)))
+all-ext n f g e = ap not (any-ext n (λ i. not (f i)) (λ i. not (g i)) (λ i h. ap not (e i h)))
 
 -- ---- full
 pub full-some : (n : ℕ) (v : View) → full n v ≡ true → (i : ℕ) → i < n → has v i ≡ true

@@ -1,6 +1,6 @@
 -- Demand 3's list of calls: what the code does with it, by its contracts, and what the plain machine does.
 use Prim.Native.Nat.{ℕ}
-use mathlib.Core.Bool.{Bool, cond}
+use mathlib.Core.Bool.{Bool, true, false, cond}
 use mathlib.Core.List.{List, [], _∷_}
 use mathlib.Core.Path.{_≡_}
 use mathlib.Core.Logic.{_⊎_}
@@ -39,15 +39,15 @@ replyOf Done = done
 replyOf (Refused n p) = refused n p
 
 abbrev pub saidOf : Completeness → Reply
-saidOf C.Yes = said Bool.true
-saidOf C.No = said Bool.false
+saidOf C.Yes = said true
+saidOf C.No = said false
 saidOf (C.Refused n p) = refused n p
 
 abbrev pub handedOf : Verdict → List ℕ → Reply
 handedOf Done l = handed l
 handedOf (Refused n p) l = refused n p
 
--- ---- the code
+-- ---- the code: what a call answers, and the partial that it leaves
 abbrev pub answers : Call → Partial → Reply
 answers Empty s = done
 answers (Take r d) s = replyOf (takeIn s (readingOf r d) .verdict)
@@ -80,7 +80,7 @@ brings (Combine f) = stateOf f
 brings Ask = idle
 brings HandOut = idle
 
--- a call that brings bytes is judged by the rules; any other is done
+-- by which number the machine refuses a call: it accepts one that it answers done
 abbrev pub verdictOf : ℕ → Call → State → Verdict
 verdictOf n Empty s = Done
 verdictOf n (Take r d) s = readingVerdict n s (readingOf r d)
@@ -93,6 +93,7 @@ abbrev pub whole : State → List ℕ
 whole idle = []
 whole (held m v) = bytesOf (m .total) v
 
+-- what it answers
 abbrev pub says : ℕ → Call → State → Reply
 says n Empty s = done
 says n (Take r d) s = replyOf (verdictOf n (Take r d) s)
@@ -104,6 +105,7 @@ abbrev pub ifAccepted : Verdict → State → State → State
 ifAccepted Done s t = t
 ifAccepted (Refused n p) s t = s
 
+-- what it keeps afterwards
 abbrev pub keeps : ℕ → Call → State → State
 keeps n Empty s = idle
 keeps n (Take r d) s = ifAccepted (verdictOf n (Take r d) s) s (acceptState s (brings (Take r d)))

@@ -19,10 +19,9 @@ abbrev pub anyBelow : ℕ → (ℕ → Bool) → Bool
 anyBelow zero f = false
 anyBelow (suc n) f = f n || anyBelow n f
 
--- whether every i below n passes the test
+-- whether every i below n passes the test: none fails it
 abbrev pub allBelow : ℕ → (ℕ → Bool) → Bool
-allBelow zero f = true
-allBelow (suc n) f = f n && allBelow n f
+allBelow n f = not (anyBelow n (λ i. not (f i)))
 
 abbrev pub isSome : Option ℕ → Bool
 isSome (some x) = true

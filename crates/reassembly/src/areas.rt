@@ -49,7 +49,8 @@ pub(crate) fn clash_data(payload: &[u8], marks: &[u8], offset: usize, bytes: &[u
     let mut j = 0;
     while j < bytes.len() {
         let at = offset + j;
-        found = differ(is_marked(marks, at), payload[at], true, bytes[j]) | found;
+        let clash = differ(is_marked(marks, at), payload[at], true, bytes[j]);
+        found = clash | found;
         j += 1;
     }
     found
@@ -69,13 +70,13 @@ pub(crate) fn clash_covered(
     let mut found = false;
     let mut i = 0;
     while i < total {
-        found = differ(
+        let clash = differ(
             is_marked(marks, i),
             payload[i],
             is_marked(from_marks, i),
             from[i],
-        )
-            | found;
+        );
+        found = clash | found;
         i += 1;
     }
     found

@@ -22,6 +22,7 @@ enum Admission {
     Same,
 }
 
+// 11 where the message has more bytes than the area, 13 where another message is held.
 fn admit(rec: PartialRecord, room: usize, m: Message) -> Admission
     ensures { λ r. ⌜ r ≡ admissionOf rec room m ⌝ }
 {
@@ -38,6 +39,7 @@ fn admit(rec: PartialRecord, room: usize, m: Message) -> Admission
     Admission::Same
 }
 
+// 14 where a held byte differs.
 fn unless_clash(clash: bool) -> Verdict
     ensures { λ r. ⌜ r ≡ cond clash (Refused 14 0) Done ⌝ }
 {

@@ -1,22 +1,30 @@
 // Histories of partials combined.
-use crate::show::areas;
-use crate::show::ask;
-use crate::show::blank;
-use crate::show::chunk;
-use crate::show::combine;
-use crate::show::combine_from;
-use crate::show::emptied;
-use crate::show::fresh;
-use crate::show::hand_out;
-use crate::show::message;
-use crate::show::ours;
-use crate::show::started;
-use crate::show::take;
-use crate::show::text;
-use crate::show::with_record;
+use crate::areas;
+use crate::ask;
+use crate::blank;
+use crate::chunk;
+use crate::combine;
+use crate::combine_from;
+use crate::emptied;
+use crate::fresh;
+use crate::hand_out;
+use crate::message;
+use crate::ours;
+use crate::started;
+use crate::take;
+use crate::text;
+use crate::with_record;
+
+pub fn histories() {
+    either_order();
+    disagreeing();
+    not_started();
+    takes_over();
+    groupings();
+}
 
 // Two parts that overlap and agree, in either order.
-pub fn either_order() {
+fn either_order() {
     text(b"combining in either order\n");
     let a = take(blank(46, 0), chunk(ours(5), 0), b"abc");
     let b = take(blank(95, 0), chunk(ours(5), 2), b"cd");
@@ -32,7 +40,7 @@ pub fn either_order() {
 }
 
 // 14 by a byte that both cover, 13 by the message, in either order.
-pub fn disagreeing() {
+fn disagreeing() {
     text(b"disagreeing\n");
     let a = take(blank(46, 0), chunk(ours(5), 0), b"abc");
     let b = take(blank(95, 0), chunk(ours(5), 2), b"xd");
@@ -44,7 +52,7 @@ pub fn disagreeing() {
 }
 
 // A source not started changes nothing, whatever its record and marks say.
-pub fn not_started() {
+fn not_started() {
     text(b"a source not started\n");
     let source = with_record(blank(97, 1), fresh(message(1, 1, 9)));
     let a = combine(blank(46, 5), source);
@@ -55,7 +63,7 @@ pub fn not_started() {
 }
 
 // A target not started takes the record over, with every mark cleared, also where the source covers nothing.
-pub fn takes_over() {
+fn takes_over() {
     text(b"taking over\n");
     let from = [97u8; 3];
     let none = [0u8, 9, 2];
@@ -71,7 +79,7 @@ pub fn takes_over() {
 }
 
 // Three parts in either grouping; then two of three disagree.
-pub fn groupings() {
+fn groupings() {
     text(b"groupings\n");
     let a = take(blank(46, 0), chunk(ours(4), 0), b"ab");
     let b = take(blank(95, 0), chunk(ours(4), 1), b"bc");

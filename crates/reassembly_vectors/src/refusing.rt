@@ -1,31 +1,42 @@
 // Histories of refusals: each leaves the record and both areas as they were.
-use crate::show::Part;
-use crate::show::areas;
-use crate::show::ask;
-use crate::show::blank;
-use crate::show::chunk;
-use crate::show::combine;
-use crate::show::combine_from;
-use crate::show::completeness;
-use crate::show::emptied;
-use crate::show::fresh;
-use crate::show::hand_out;
-use crate::show::message;
-use crate::show::ours;
-use crate::show::published;
-use crate::show::started;
-use crate::show::take;
-use crate::show::text;
-use crate::show::verdict;
-use crate::show::with_record;
+use crate::Part;
+use crate::areas;
+use crate::ask;
+use crate::blank;
+use crate::chunk;
+use crate::combine;
+use crate::combine_from;
+use crate::completeness;
+use crate::emptied;
+use crate::fresh;
+use crate::hand_out;
+use crate::message;
+use crate::ours;
+use crate::published;
+use crate::started;
+use crate::take;
+use crate::text;
+use crate::verdict;
+use crate::with_record;
 use reassembly::Chunk;
 use reassembly::ChunkRead;
 use reassembly::IdType;
 use reassembly::Message;
 use reassembly::PublisherId;
 
+pub fn histories() {
+    other_message();
+    other_publisher();
+    no_room();
+    as_read();
+    made_up();
+    unsound();
+    unequal();
+    unsound_source();
+}
+
 // Another writer, number or total is another message.
-pub fn other_message() {
+fn other_message() {
     text(b"another message\n");
     let a = take(blank(46, 0), chunk(ours(3), 0), b"ab");
     let b = take(a, chunk(message(22, 7, 3), 2), b"c");
@@ -50,7 +61,7 @@ fn by(kind: IdType, number: u64, letter: u8, len: usize) -> Message {
 }
 
 // Ids are equal only if type and content are, or both are absent. What an id does not use is no content.
-pub fn other_publisher() {
+fn other_publisher() {
     text(b"another publisher\n");
     let a = take(
         blank(46, 0),
@@ -71,7 +82,7 @@ pub fn other_publisher() {
 }
 
 // Total above the area is 11, before 13; as long as the area it fits.
-pub fn no_room() {
+fn no_room() {
     text(b"no room\n");
     let a = take(blank(46, 7), chunk(ours(9), 0), b"ab");
     areas(a);
@@ -84,7 +95,7 @@ pub fn no_room() {
 }
 
 // A reading's own refusal is handed on, by its number and place, after 12.
-pub fn as_read() {
+fn as_read() {
     text(b"refused as read\n");
     let message = ours(2);
     let chunk = Chunk { message, offset: 0 };
@@ -100,7 +111,7 @@ pub fn as_read() {
 }
 
 // A made-up chunk that no reading gives is refused by its own number, at 0.
-pub fn made_up() {
+fn made_up() {
     text(b"made-up chunks\n");
     let a = blank(46, 7);
     let a = take(a, chunk(ours(0), 0), b"a");
@@ -122,7 +133,7 @@ fn all_calls(part: Part) {
 }
 
 // 12 comes before all else. Not started, each record is sound over areas of equal length.
-pub fn unsound() {
+fn unsound() {
     text(b"unsound\n");
     let a = blank(46, 1);
     all_calls(with_record(a, started(ours(0))));
@@ -136,7 +147,7 @@ pub fn unsound() {
 }
 
 // Areas of unequal length, also where nothing is started.
-pub fn unequal() {
+fn unequal() {
     text(b"areas of unequal length\n");
     let mut payload = [46u8; 3];
     let mut marks = [1u8; 2];
@@ -149,7 +160,7 @@ pub fn unequal() {
 }
 
 // A source that is unsound, started or not.
-pub fn unsound_source() {
+fn unsound_source() {
     text(b"an unsound source\n");
     let from = [97u8; 3];
     let short = [1u8; 2];

@@ -1,23 +1,32 @@
 // Histories of chunks taken in.
-use crate::show::areas;
-use crate::show::ask;
-use crate::show::blank;
-use crate::show::chunk;
-use crate::show::completeness;
-use crate::show::emptied;
-use crate::show::fresh;
-use crate::show::hand_out;
-use crate::show::message;
-use crate::show::number;
-use crate::show::ours;
-use crate::show::started;
-use crate::show::take;
-use crate::show::text;
-use crate::show::verdict;
-use crate::show::with_record;
+use crate::areas;
+use crate::ask;
+use crate::blank;
+use crate::chunk;
+use crate::completeness;
+use crate::emptied;
+use crate::fresh;
+use crate::hand_out;
+use crate::message;
+use crate::number;
+use crate::ours;
+use crate::started;
+use crate::take;
+use crate::text;
+use crate::verdict;
+use crate::with_record;
+
+pub fn histories() {
+    r1();
+    r2();
+    hole();
+    strange_marks();
+    reuse();
+    large();
+}
 
 // Total 5, chunks at 0 and 2 of 3 bytes, agreeing at 2.
-pub fn r1() {
+fn r1() {
     text(b"R1\n");
     let a = take(blank(46, 1), chunk(ours(5), 0), b"abc");
     ask(a);
@@ -28,7 +37,7 @@ pub fn r1() {
 }
 
 // The same, disagreeing at 2: nothing changes.
-pub fn r2() {
+fn r2() {
     text(b"R2\n");
     let a = take(blank(46, 1), chunk(ours(5), 0), b"abc");
     let b = take(a, chunk(ours(5), 2), b"xde");
@@ -38,7 +47,7 @@ pub fn r2() {
 }
 
 // A hole's bytes are no content: they neither complete the payload nor clash.
-pub fn hole() {
+fn hole() {
     text(b"hole\n");
     let a = take(blank(48, 0), chunk(ours(6), 4), b"ef");
     let b = take(a, chunk(ours(6), 0), b"ab");
@@ -53,7 +62,7 @@ pub fn hole() {
 }
 
 // A mark that is neither 0 nor 1 means not covered, and only the marks of stored bytes change.
-pub fn strange_marks() {
+fn strange_marks() {
     text(b"strange marks\n");
     let mut a = with_record(blank(120, 7), started(ours(4)));
     a.marks[0] = 1;
@@ -72,7 +81,7 @@ pub fn strange_marks() {
 }
 
 // Emptying changes no area; what comes next starts with cleared marks.
-pub fn reuse() {
+fn reuse() {
     text(b"emptying and reuse\n");
     let a = take(blank(46, 5), chunk(ours(2), 0), b"ab");
     hand_out(a);
@@ -89,7 +98,7 @@ pub fn reuse() {
 }
 
 // A chunk's total may be 16,384; a started partial of a larger total is sound.
-pub fn large() {
+fn large() {
     text(b"large\n");
     let mut payload = [46u8; 16385];
     let mut marks = [1u8; 16385];
