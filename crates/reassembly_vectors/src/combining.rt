@@ -2,7 +2,6 @@
 use crate::areas;
 use crate::ask;
 use crate::blank;
-use crate::chunk;
 use crate::combine;
 use crate::combine_from;
 use crate::emptied;
@@ -11,7 +10,8 @@ use crate::hand_out;
 use crate::message;
 use crate::ours;
 use crate::started;
-use crate::take;
+use crate::take_of;
+use crate::take_ours;
 use crate::text;
 use crate::with_record;
 
@@ -26,8 +26,8 @@ pub fn histories() {
 // Two parts that overlap and agree, in either order.
 fn either_order() {
     text(b"combining in either order\n");
-    let a = take(blank(46, 0), chunk(ours(5), 0), b"abc");
-    let b = take(blank(95, 0), chunk(ours(5), 2), b"cd");
+    let a = take_ours(blank(46, 0), 5, 0, b"abc");
+    let b = take_ours(blank(95, 0), 5, 2, b"cd");
     let ab = combine(a, b);
     areas(ab);
     let ba = combine(b, a);
@@ -36,17 +36,17 @@ fn either_order() {
     ask(ba);
     let same = combine(ab, ba);
     areas(same);
-    hand_out(take(same, chunk(ours(5), 4), b"e"));
+    hand_out(take_ours(same, 5, 4, b"e"));
 }
 
 // 14 by a byte that both cover, 13 by the message, in either order.
 fn disagreeing() {
     text(b"disagreeing\n");
-    let a = take(blank(46, 0), chunk(ours(5), 0), b"abc");
-    let b = take(blank(95, 0), chunk(ours(5), 2), b"xd");
+    let a = take_ours(blank(46, 0), 5, 0, b"abc");
+    let b = take_ours(blank(95, 0), 5, 2, b"xd");
     areas(combine(a, b));
     areas(combine(b, a));
-    let c = take(emptied(b), chunk(message(21, 8, 5), 3), b"d");
+    let c = take_of(emptied(b), 21, 8, 5, 3, b"d");
     areas(combine(a, c));
     areas(combine(c, a));
 }
@@ -58,7 +58,7 @@ fn not_started() {
     let a = combine(blank(46, 5), source);
     ask(a);
     areas(a);
-    let b = take(a, chunk(ours(3), 0), b"x");
+    let b = take_ours(a, 3, 0, b"x");
     areas(combine(b, source));
 }
 
@@ -72,21 +72,21 @@ fn takes_over() {
     let a = combine_from(blank(46, 5), source, &from, &none);
     areas(a);
     ask(a);
-    let b = take(a, chunk(message(1, 1, 4), 0), b"x");
+    let b = take_of(a, 1, 1, 4, 0, b"x");
     let c = combine_from(b, source, &from, &some);
     areas(c);
-    hand_out(take(c, chunk(ours(3), 1), b"b"));
+    hand_out(take_ours(c, 3, 1, b"b"));
 }
 
 // Three parts in either grouping; then two of three disagree.
 fn groupings() {
     text(b"groupings\n");
-    let a = take(blank(46, 0), chunk(ours(4), 0), b"ab");
-    let b = take(blank(95, 0), chunk(ours(4), 1), b"bc");
-    let c = take(blank(45, 0), chunk(ours(4), 2), b"cd");
+    let a = take_ours(blank(46, 0), 4, 0, b"ab");
+    let b = take_ours(blank(95, 0), 4, 1, b"bc");
+    let c = take_ours(blank(45, 0), 4, 2, b"cd");
     hand_out(combine(combine(a, b), c));
     hand_out(combine(a, combine(b, c)));
-    let d = take(blank(45, 0), chunk(ours(4), 0), b"x");
+    let d = take_ours(blank(45, 0), 4, 0, b"x");
     combine(combine(a, b), d);
     combine(a, combine(b, d));
 }

@@ -158,6 +158,23 @@ fn emptied(part: Part) -> Part {
     with_record(part, reassembly::empty(rec))
 }
 
+// Takes in data of our message.
+fn take_ours(part: Part, total: usize, offset: usize, bytes: &[u8]) -> Part {
+    take(part, chunk(ours(total), offset), bytes)
+}
+
+// Takes in data of a writer's numbered message.
+fn take_of(
+    part: Part,
+    writer: u16,
+    number: u16,
+    total: usize,
+    offset: usize,
+    bytes: &[u8],
+) -> Part {
+    take(part, chunk(message(writer, number, total), offset), bytes)
+}
+
 // Writes a call's answer, and keeps what it left.
 fn kept(out: Outcome, payload: [u8; 8], marks: [u8; 8]) -> Part {
     let v = out.verdict;

@@ -15,6 +15,8 @@ use crate::ours;
 use crate::published;
 use crate::started;
 use crate::take;
+use crate::take_of;
+use crate::take_ours;
 use crate::text;
 use crate::verdict;
 use crate::with_record;
@@ -27,6 +29,7 @@ use reassembly::PublisherId;
 pub fn histories() {
     other_message();
     other_publisher();
+    other_text();
     no_room();
     as_read();
     made_up();
@@ -38,14 +41,14 @@ pub fn histories() {
 // Another writer, number or total is another message.
 fn other_message() {
     text(b"another message\n");
-    let a = take(blank(46, 0), chunk(ours(3), 0), b"ab");
-    let b = take(a, chunk(message(22, 7, 3), 2), b"c");
-    let c = take(b, chunk(message(21, 8, 3), 2), b"c");
-    let d = take(c, chunk(ours(4), 2), b"cd");
-    let e = take(d, chunk(message(22, 7, 3), 0), b"x");
+    let a = take_ours(blank(46, 0), 3, 0, b"ab");
+    let b = take_of(a, 22, 7, 3, 2, b"c");
+    let c = take_of(b, 21, 8, 3, 2, b"c");
+    let d = take_ours(c, 4, 2, b"cd");
+    let e = take_of(d, 22, 7, 3, 0, b"x");
     areas(e);
     ask(e);
-    let f = take(e, chunk(ours(3), 2), b"c");
+    let f = take_ours(e, 3, 2, b"c");
     hand_out(f);
 }
 
@@ -60,35 +63,38 @@ fn by(kind: IdType, number: u64, letter: u8, len: usize) -> Message {
     published(publisher, 21, 7, 3)
 }
 
+fn take_by(part: Part, kind: IdType, number: u64, letter: u8, len: usize) -> Part {
+    take(part, chunk(by(kind, number, letter, len), 0), b"a")
+}
+
 // Ids are equal only if type and content are, or both are absent. What an id does not use is no content.
 fn other_publisher() {
     text(b"another publisher\n");
-    let a = take(
-        blank(46, 0),
-        chunk(by(IdType::UInt16, 4711, 120, 9), 0),
-        b"a",
-    );
-    take(a, chunk(by(IdType::UInt32, 4711, 0, 0), 0), b"a");
-    take(a, chunk(by(IdType::UInt16, 4712, 0, 0), 0), b"a");
-    take(a, chunk(by(IdType::Absent, 4711, 0, 0), 0), b"a");
-    take(a, chunk(by(IdType::UInt16, 4711, 0, 0), 0), b"a");
-    let b = take(emptied(a), chunk(by(IdType::Text, 1, 120, 2), 0), b"a");
-    take(b, chunk(by(IdType::Text, 1, 120, 3), 0), b"a");
-    take(b, chunk(by(IdType::Text, 1, 121, 2), 0), b"a");
-    take(b, chunk(by(IdType::Text, 2, 120, 2), 0), b"a");
-    let c = take(emptied(b), chunk(by(IdType::Absent, 1, 120, 2), 0), b"a");
-    take(c, chunk(by(IdType::Absent, 2, 0, 0), 0), b"a");
-    take(c, chunk(by(IdType::Text, 1, 120, 0), 0), b"a");
+    let a = take_by(blank(46, 0), IdType::UInt16, 4711, 120, 9);
+    take_by(a, IdType::UInt32, 4711, 0, 0);
+    take_by(a, IdType::UInt16, 4712, 0, 0);
+    take_by(a, IdType::Absent, 4711, 0, 0);
+    take_by(a, IdType::UInt16, 4711, 0, 0);
+}
+
+fn other_text() {
+    let a = take_by(blank(46, 0), IdType::Text, 1, 120, 2);
+    take_by(a, IdType::Text, 1, 120, 3);
+    take_by(a, IdType::Text, 1, 121, 2);
+    take_by(a, IdType::Text, 2, 120, 2);
+    let b = take_by(emptied(a), IdType::Absent, 1, 120, 2);
+    take_by(b, IdType::Absent, 2, 0, 0);
+    take_by(b, IdType::Text, 1, 120, 0);
 }
 
 // Total above the area is 11, before 13; as long as the area it fits.
 fn no_room() {
     text(b"no room\n");
-    let a = take(blank(46, 7), chunk(ours(9), 0), b"ab");
+    let a = take_ours(blank(46, 7), 9, 0, b"ab");
     areas(a);
-    let b = take(a, chunk(ours(8), 0), b"ab");
-    let c = take(b, chunk(message(22, 7, 9), 0), b"xy");
-    let d = take(c, chunk(message(22, 7, 8), 0), b"xy");
+    let b = take_ours(a, 8, 0, b"ab");
+    let c = take_of(b, 22, 7, 9, 0, b"xy");
+    let d = take_of(c, 22, 7, 8, 0, b"xy");
     let large = [1u8; 9];
     let e = combine_from(d, started(message(22, 7, 9)), &large, &large);
     areas(e);
@@ -114,19 +120,19 @@ fn as_read() {
 fn made_up() {
     text(b"made-up chunks\n");
     let a = blank(46, 7);
-    let a = take(a, chunk(ours(0), 0), b"a");
-    let a = take(a, chunk(ours(16385), 0), b"a");
-    let a = take(a, chunk(ours(16384), 0), b"a");
-    let a = take(a, chunk(ours(2), 0), b"");
-    let a = take(a, chunk(ours(2), 0), b"abc");
-    let a = take(a, chunk(ours(2), 2), b"a");
-    let a = take(a, chunk(ours(2), 18446744073709551615), b"a");
+    let a = take_ours(a, 0, 0, b"a");
+    let a = take_ours(a, 16385, 0, b"a");
+    let a = take_ours(a, 16384, 0, b"a");
+    let a = take_ours(a, 2, 0, b"");
+    let a = take_ours(a, 2, 0, b"abc");
+    let a = take_ours(a, 2, 2, b"a");
+    let a = take_ours(a, 2, 18446744073709551615, b"a");
     let a = take(a, chunk(by(IdType::Text, 0, 120, 65), 0), b"a");
     areas(a);
 }
 
 fn all_calls(part: Part) {
-    take(part, chunk(ours(2), 0), b"ab");
+    take_ours(part, 2, 0, b"ab");
     ask(part);
     hand_out(part);
     combine(part, part);

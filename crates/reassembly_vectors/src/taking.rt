@@ -7,11 +7,11 @@ use crate::completeness;
 use crate::emptied;
 use crate::fresh;
 use crate::hand_out;
-use crate::message;
 use crate::number;
 use crate::ours;
 use crate::started;
-use crate::take;
+use crate::take_of;
+use crate::take_ours;
 use crate::text;
 use crate::verdict;
 use crate::with_record;
@@ -28,9 +28,9 @@ pub fn histories() {
 // Total 5, chunks at 0 and 2 of 3 bytes, agreeing at 2.
 fn r1() {
     text(b"R1\n");
-    let a = take(blank(46, 1), chunk(ours(5), 0), b"abc");
+    let a = take_ours(blank(46, 1), 5, 0, b"abc");
     ask(a);
-    let b = take(a, chunk(ours(5), 2), b"cde");
+    let b = take_ours(a, 5, 2, b"cde");
     ask(b);
     hand_out(b);
     areas(b);
@@ -39,8 +39,8 @@ fn r1() {
 // The same, disagreeing at 2: nothing changes.
 fn r2() {
     text(b"R2\n");
-    let a = take(blank(46, 1), chunk(ours(5), 0), b"abc");
-    let b = take(a, chunk(ours(5), 2), b"xde");
+    let a = take_ours(blank(46, 1), 5, 0, b"abc");
+    let b = take_ours(a, 5, 2, b"xde");
     ask(b);
     hand_out(b);
     areas(b);
@@ -49,15 +49,15 @@ fn r2() {
 // A hole's bytes are no content: they neither complete the payload nor clash.
 fn hole() {
     text(b"hole\n");
-    let a = take(blank(48, 0), chunk(ours(6), 4), b"ef");
-    let b = take(a, chunk(ours(6), 0), b"ab");
+    let a = take_ours(blank(48, 0), 6, 4, b"ef");
+    let b = take_ours(a, 6, 0, b"ab");
     areas(b);
     ask(b);
     hand_out(b);
-    let c = take(b, chunk(ours(6), 1), b"bcde");
+    let c = take_ours(b, 6, 1, b"bcde");
     ask(c);
     hand_out(c);
-    let d = take(c, chunk(ours(6), 0), b"abcdef");
+    let d = take_ours(c, 6, 0, b"abcdef");
     ask(d);
 }
 
@@ -70,11 +70,11 @@ fn strange_marks() {
     a.marks[2] = 0;
     a.marks[3] = 255;
     ask(a);
-    let b = take(a, chunk(ours(4), 1), b"bc");
+    let b = take_ours(a, 4, 1, b"bc");
     areas(b);
-    let c = take(b, chunk(ours(4), 0), b"a");
+    let c = take_ours(b, 4, 0, b"a");
     ask(c);
-    let d = take(c, chunk(ours(4), 3), b"d");
+    let d = take_ours(c, 4, 3, b"d");
     ask(d);
     hand_out(d);
     areas(d);
@@ -83,17 +83,17 @@ fn strange_marks() {
 // Emptying changes no area; what comes next starts with cleared marks.
 fn reuse() {
     text(b"emptying and reuse\n");
-    let a = take(blank(46, 5), chunk(ours(2), 0), b"ab");
+    let a = take_ours(blank(46, 5), 2, 0, b"ab");
     hand_out(a);
     let e = emptied(a);
     ask(e);
     hand_out(e);
     areas(e);
-    let b = take(e, chunk(message(9, 8, 4), 1), b"yz");
+    let b = take_of(e, 9, 8, 4, 1, b"yz");
     areas(b);
     ask(b);
-    let c = take(b, chunk(ours(2), 0), b"ab");
-    let d = take(emptied(emptied(c)), chunk(ours(2), 0), b"ab");
+    let c = take_ours(b, 2, 0, b"ab");
+    let d = take_ours(emptied(emptied(c)), 2, 0, b"ab");
     hand_out(d);
 }
 
