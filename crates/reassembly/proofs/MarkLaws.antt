@@ -62,7 +62,7 @@ mark-chosen false i m = set-getD m i 0
 pub marks-room : (t i : ℕ) (m : List ℕ) → i < t → marksFor t ≤ length m → i < capacity m
 marks-room t i m l h = marks-cover t (suc i) m l h
 
-pub length-markIf : (b : Bool) (i : ℕ) (m : List ℕ) → length (markIf b i m) ≡ length m
+length-markIf : (b : Bool) (i : ℕ) (m : List ℕ) → length (markIf b i m) ≡ length m
 length-markIf true i m = length-markAt i m
 length-markIf false i m = refl
 

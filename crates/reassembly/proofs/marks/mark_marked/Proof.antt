@@ -2,13 +2,13 @@
 use Prim.Native.Nat.{ℕ, _-_, _≤_}
 use mathlib.Core.List.{List}
 use mathlib.Core.Bool.{Bool}
-use mathlib.Core.Path.{_≡_, refl, sym, ap, ap₂, _∙_}
+use mathlib.Core.Path.{_≡_, refl, sym, ap₂, _∙_}
 use native.Mathlib.Omega.{arith}
 use denote.Ref.{now}
 use lib.ListN.{length}
 use borrow.Author.Needs.{needs}
 use Rattle.reassembly.specs.Marks.{marked, markIf, markUpTo, markedBelow}
-use Rattle.reassembly.proofs.MarkLaws.{marks-room, length-markIf, marks-step, marks-end, marked-is, marked-past}
+use Rattle.reassembly.proofs.MarkLaws.{marks-room, marks-step, marks-end, marked-is, marked-past}
 use Rattle.reassembly.proofs.marks.mark_marked.Statement.{statement}
 use Rattle.reassembly.proofs.marks.mark_marked.Tie as tie
 
@@ -36,7 +36,7 @@ loop-again c =
     let l = c .before .before .before .before .before .before .loop in
     let o = now (a .other) in (
       omega arith,
-      ap length (c .before .before .mark-if .ensures) ∙ length-markIf (c .before .before .before .is-marked .result) (l .i) (l .marks) ∙ l .inv .1,
+      search needs,
       c .before .before .mark-if .ensures ∙ ap₂ (λ (b : Bool) (m : List ℕ). markIf b (l .i) m) (c .before .before .before .is-marked .ensures) (l .inv .2)
           ∙ sym (marks-step (l .i) (marked o (l .i)) (markedBelow (a .n) o) (now (a .marks)) (marked-is (a .n) o (l .i) (omega arith))),
     )

@@ -8,7 +8,7 @@ use lib.ListN.{length}
 use borrow.Author.Needs.{needs}
 use Rattle.reassembly.specs.Views.{inRange}
 use Rattle.reassembly.specs.Marks.{markIf, markUpTo}
-use Rattle.reassembly.proofs.MarkLaws.{marks-room, length-markIf, marks-start, marks-step, marks-end, range-below, range-in, range-above}
+use Rattle.reassembly.proofs.MarkLaws.{marks-room, marks-start, marks-step, marks-end, range-below, range-in, range-above}
 use Rattle.reassembly.proofs.marks.mark_range.Statement.{statement}
 use Rattle.reassembly.proofs.marks.mark_range.Tie as tie
 
@@ -33,7 +33,7 @@ loop-again c =
     let l = c .before .before .before .before .before .loop in (
       omega arith,
       omega arith,
-      ap length (c .before .before .mark-if .ensures) ∙ length-markIf true (l .i) (l .marks) ∙ l .inv .2,
+      search needs,
       c .before .before .mark-if .ensures ∙ ap (markIf true (l .i)) (l .inv .3)
           ∙ sym (marks-step (l .i) true (inRange (a .start) (a .end)) (now (a .marks)) (range-in (a .start) (a .end) (l .i) (omega arith) (omega arith))),
     )
