@@ -1,14 +1,12 @@
 // Histories of partials combined.
-use crate::areas;
-use crate::ask;
 use crate::blank;
 use crate::combine;
 use crate::combine_from;
 use crate::emptied;
 use crate::fresh;
-use crate::hand_out;
 use crate::message;
 use crate::ours;
+use crate::show;
 use crate::started;
 use crate::take_of;
 use crate::take_ours;
@@ -29,14 +27,10 @@ fn either_order() {
     let a = take_ours(blank(46, 0), 5, 0, b"abc");
     let b = take_ours(blank(95, 0), 5, 2, b"cd");
     let ab = combine(a, b);
-    areas(ab);
+    show(ab);
     let ba = combine(b, a);
-    areas(ba);
-    ask(ab);
-    ask(ba);
-    let same = combine(ab, ba);
-    areas(same);
-    hand_out(take_ours(same, 5, 4, b"e"));
+    show(ba);
+    show(take_ours(combine(ab, ba), 5, 4, b"e"));
 }
 
 // 14 by a byte that both cover, 13 by the message, in either order.
@@ -44,11 +38,11 @@ fn disagreeing() {
     text(b"disagreeing\n");
     let a = take_ours(blank(46, 0), 5, 0, b"abc");
     let b = take_ours(blank(95, 0), 5, 2, b"xd");
-    areas(combine(a, b));
-    areas(combine(b, a));
+    show(combine(a, b));
+    show(combine(b, a));
     let c = take_of(emptied(b), 21, 8, 5, 3, b"d");
-    areas(combine(a, c));
-    areas(combine(c, a));
+    show(combine(a, c));
+    show(combine(c, a));
 }
 
 // A source not started changes nothing, whatever its record and marks say.
@@ -56,10 +50,9 @@ fn not_started() {
     text(b"a source not started\n");
     let source = with_record(blank(97, 1), fresh(message(1, 1, 9)));
     let a = combine(blank(46, 5), source);
-    ask(a);
-    areas(a);
+    show(a);
     let b = take_ours(a, 3, 0, b"x");
-    areas(combine(b, source));
+    show(combine(b, source));
 }
 
 // A target not started takes the record over, with every mark cleared, also where the source covers nothing.
@@ -70,12 +63,10 @@ fn takes_over() {
     let some = [1u8, 7, 1];
     let source = started(ours(3));
     let a = combine_from(blank(46, 5), source, &from, &none);
-    areas(a);
-    ask(a);
+    show(a);
     let b = take_of(a, 1, 1, 4, 0, b"x");
     let c = combine_from(b, source, &from, &some);
-    areas(c);
-    hand_out(take_ours(c, 3, 1, b"b"));
+    show(take_ours(c, 3, 1, b"b"));
 }
 
 // Three parts in either grouping; then two of three disagree.
@@ -84,8 +75,8 @@ fn groupings() {
     let a = take_ours(blank(46, 0), 4, 0, b"ab");
     let b = take_ours(blank(95, 0), 4, 1, b"bc");
     let c = take_ours(blank(45, 0), 4, 2, b"cd");
-    hand_out(combine(combine(a, b), c));
-    hand_out(combine(a, combine(b, c)));
+    show(combine(combine(a, b), c));
+    show(combine(a, combine(b, c)));
     let d = take_ours(blank(45, 0), 4, 0, b"x");
     combine(combine(a, b), d);
     combine(a, combine(b, d));

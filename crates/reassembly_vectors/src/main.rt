@@ -1,5 +1,5 @@
 // Histories of reassembly, written from document 01: R1 and R2, overlaps, holes, refusals, combining, strange marks, emptying and reuse. Each
-// call's answer is a line; `areas` shows both areas, the marks as digits.
+// call's answer is a line.
 use libc::STDOUT_FILENO;
 use reassembly::Chunk;
 use reassembly::ChunkRead;
@@ -209,36 +209,29 @@ fn combine(part: Part, source: Part) -> Part {
     combine_from(part, source.rec, &from, &from_marks)
 }
 
-fn ask(part: Part) {
+// Writes whether a partial is complete; what is handed out, between brackets, with the answer; and both areas, the marks by their last digit.
+fn show(part: Part) {
     let payload = part.payload;
     let marks = part.marks;
     text(b"complete ");
     completeness(reassembly::ask_complete(part.rec, &payload, &marks));
-}
-
-// What is handed out, between brackets, and the answer.
-fn hand_out(part: Part) {
-    let payload = part.payload;
-    let marks = part.marks;
     text(b"hand out [");
     text(reassembly::hand_out(part.rec, &payload, &marks));
     text(b"] ");
     verdict(reassembly::hand_out_verdict(part.rec, &payload, &marks));
+    areas(payload, marks);
 }
 
-// A number's last digit.
-fn last(n: u8) -> u8 {
-    48 + n % 10
-}
-
-// Both areas, the marks by their last digit.
-fn areas(part: Part) {
-    let payload = part.payload;
-    let m = part.marks;
+fn areas(payload: [u8; 8], m: [u8; 8]) {
     text(b"areas ");
     text(&payload);
     text(b" ");
     text(&[last(m[0]), last(m[1]), last(m[2]), last(m[3])]);
     text(&[last(m[4]), last(m[5]), last(m[6]), last(m[7])]);
     text(b"\n");
+}
+
+// A number's last digit.
+fn last(n: u8) -> u8 {
+    48 + n % 10
 }

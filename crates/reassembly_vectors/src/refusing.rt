@@ -1,7 +1,5 @@
 // Histories of refusals: each leaves the record and both areas as they were.
 use crate::Part;
-use crate::areas;
-use crate::ask;
 use crate::blank;
 use crate::chunk;
 use crate::combine;
@@ -9,10 +7,10 @@ use crate::combine_from;
 use crate::completeness;
 use crate::emptied;
 use crate::fresh;
-use crate::hand_out;
 use crate::message;
 use crate::ours;
 use crate::published;
+use crate::show;
 use crate::started;
 use crate::take;
 use crate::take_of;
@@ -46,10 +44,8 @@ fn other_message() {
     let c = take_of(b, 21, 8, 3, 2, b"c");
     let d = take_ours(c, 4, 2, b"cd");
     let e = take_of(d, 22, 7, 3, 0, b"x");
-    areas(e);
-    ask(e);
-    let f = take_ours(e, 3, 2, b"c");
-    hand_out(f);
+    show(e);
+    show(take_ours(e, 3, 2, b"c"));
 }
 
 // Message 7 of writer 21, of total 3, by a publisher.
@@ -91,13 +87,13 @@ fn other_text() {
 fn no_room() {
     text(b"no room\n");
     let a = take_ours(blank(46, 7), 9, 0, b"ab");
-    areas(a);
+    show(a);
     let b = take_ours(a, 8, 0, b"ab");
     let c = take_of(b, 22, 7, 9, 0, b"xy");
     let d = take_of(c, 22, 7, 8, 0, b"xy");
     let large = [1u8; 9];
     let e = combine_from(d, started(message(22, 7, 9)), &large, &large);
-    areas(e);
+    show(e);
 }
 
 // A reading's own refusal is handed on, by its number and place, after 12.
@@ -111,8 +107,7 @@ fn as_read() {
         chunk,
     };
     let a = take(blank(46, 7), read, b"ab");
-    ask(a);
-    areas(a);
+    show(a);
     take(with_record(a, started(ours(9))), read, b"ab");
 }
 
@@ -128,13 +123,12 @@ fn made_up() {
     let a = take_ours(a, 2, 2, b"a");
     let a = take_ours(a, 2, 18446744073709551615, b"a");
     let a = take(a, chunk(by(IdType::Text, 0, 120, 65), 0), b"a");
-    areas(a);
+    show(a);
 }
 
 fn all_calls(part: Part) {
     take_ours(part, 2, 0, b"ab");
-    ask(part);
-    hand_out(part);
+    show(part);
     combine(part, part);
 }
 
@@ -145,11 +139,11 @@ fn unsound() {
     all_calls(with_record(a, started(ours(0))));
     all_calls(with_record(a, started(ours(9))));
     all_calls(with_record(a, started(by(IdType::Text, 0, 120, 65))));
-    ask(with_record(a, fresh(ours(9))));
-    ask(with_record(a, fresh(by(IdType::Text, 0, 120, 65))));
-    ask(emptied(with_record(a, started(ours(9)))));
-    ask(with_record(a, started(by(IdType::Text, 0, 120, 64))));
-    ask(with_record(a, started(ours(8))));
+    show(with_record(a, fresh(ours(9))));
+    show(with_record(a, fresh(by(IdType::Text, 0, 120, 65))));
+    show(emptied(with_record(a, started(ours(9)))));
+    show(with_record(a, started(by(IdType::Text, 0, 120, 64))));
+    show(with_record(a, started(ours(8))));
 }
 
 // Areas of unequal length, also where nothing is started.
@@ -171,7 +165,7 @@ fn unsound_source() {
     let from = [97u8; 3];
     let short = [1u8; 2];
     let a = combine_from(blank(46, 1), fresh(ours(2)), &from, &short);
-    areas(a);
+    show(a);
     let b = combine_from(blank(46, 1), started(ours(4)), &from, &from);
-    areas(b);
+    show(b);
 }

@@ -1,14 +1,12 @@
 // Histories of chunks taken in.
-use crate::areas;
-use crate::ask;
 use crate::blank;
 use crate::chunk;
 use crate::completeness;
 use crate::emptied;
 use crate::fresh;
-use crate::hand_out;
 use crate::number;
 use crate::ours;
+use crate::show;
 use crate::started;
 use crate::take_of;
 use crate::take_ours;
@@ -29,21 +27,15 @@ pub fn histories() {
 fn r1() {
     text(b"R1\n");
     let a = take_ours(blank(46, 1), 5, 0, b"abc");
-    ask(a);
-    let b = take_ours(a, 5, 2, b"cde");
-    ask(b);
-    hand_out(b);
-    areas(b);
+    show(a);
+    show(take_ours(a, 5, 2, b"cde"));
 }
 
 // The same, disagreeing at 2: nothing changes.
 fn r2() {
     text(b"R2\n");
     let a = take_ours(blank(46, 1), 5, 0, b"abc");
-    let b = take_ours(a, 5, 2, b"xde");
-    ask(b);
-    hand_out(b);
-    areas(b);
+    show(take_ours(a, 5, 2, b"xde"));
 }
 
 // A hole's bytes are no content: they neither complete the payload nor clash.
@@ -51,14 +43,10 @@ fn hole() {
     text(b"hole\n");
     let a = take_ours(blank(48, 0), 6, 4, b"ef");
     let b = take_ours(a, 6, 0, b"ab");
-    areas(b);
-    ask(b);
-    hand_out(b);
+    show(b);
     let c = take_ours(b, 6, 1, b"bcde");
-    ask(c);
-    hand_out(c);
-    let d = take_ours(c, 6, 0, b"abcdef");
-    ask(d);
+    show(c);
+    take_ours(c, 6, 0, b"abcdef");
 }
 
 // A mark that is neither 0 nor 1 means not covered, and only the marks of stored bytes change.
@@ -69,32 +57,24 @@ fn strange_marks() {
     a.marks[1] = 2;
     a.marks[2] = 0;
     a.marks[3] = 255;
-    ask(a);
+    show(a);
     let b = take_ours(a, 4, 1, b"bc");
-    areas(b);
     let c = take_ours(b, 4, 0, b"a");
-    ask(c);
-    let d = take_ours(c, 4, 3, b"d");
-    ask(d);
-    hand_out(d);
-    areas(d);
+    show(c);
+    show(take_ours(c, 4, 3, b"d"));
 }
 
 // Emptying changes no area; what comes next starts with cleared marks.
 fn reuse() {
     text(b"emptying and reuse\n");
     let a = take_ours(blank(46, 5), 2, 0, b"ab");
-    hand_out(a);
+    show(a);
     let e = emptied(a);
-    ask(e);
-    hand_out(e);
-    areas(e);
+    show(e);
     let b = take_of(e, 9, 8, 4, 1, b"yz");
-    areas(b);
-    ask(b);
+    show(b);
     let c = take_ours(b, 2, 0, b"ab");
-    let d = take_ours(emptied(emptied(c)), 2, 0, b"ab");
-    hand_out(d);
+    show(take_ours(emptied(emptied(c)), 2, 0, b"ab"));
 }
 
 // A chunk's total may be 16,384; a started partial of a larger total is sound.
