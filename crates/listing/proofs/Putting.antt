@@ -39,7 +39,7 @@ put-tabbed k t l x m at next h r e s =
 pub then : {j k at mid next : ℕ} {t u l m e : List ℕ} → Put j t l at m mid → Put k u m mid e next → Put (j + k) (t ++ u) l at e next
 then {j} {k} {at} {mid} {next} {t} {u} {l} {m} {e} p q =
     let v : e ≡ sets l at (t ++ u) =
-        q .stored ∙ ap (λ (x : List ℕ). sets x mid u) (p .stored) ∙ ap (λ (i : ℕ). sets (sets l at t) i u) (p .after) ∙ sets-append t u l at in
+    q .stored ∙ ap (λ (x : List ℕ). sets x mid u) (p .stored) ∙ ap (λ (i : ℕ). sets (sets l at t) i u) (p .after) ∙ sets-append t u l at in
     record { stored = v; after = omega (arith, p .after, q .after, length-append t u); near = omega (arith, p .near, q .near) }
 
 -- a part of fewer bytes than there is room for

@@ -107,14 +107,7 @@ fn publisher(out: &mut [u8], at: usize, s: &[u8], id: PublisherId, id_end: usize
     }
 }
 
-fn net(
-    out: &mut [u8],
-    s: &[u8],
-    n: usize,
-    id: PublisherId,
-    id_end: usize,
-    messages: usize,
-) -> usize
+fn net(out: &mut [u8], s: &[u8], n: usize, id: PublisherId, id_end: usize, messages: usize) -> usize
     requires { ⌜ (idTooLong id ≡ false) × (256 ≤ length (now out)) ⌝ }
     ensures { λ r. ⌜ Put 256 (netText (now (s .entry)) n id «id_end» messages) (now (out .entry)) 0 (now (out .exit)) r ⌝ }
 {

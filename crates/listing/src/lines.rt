@@ -117,7 +117,10 @@ fn set_line<'a>(
     };
     let bytes = part(s, p.offset, p.length);
     match read(bytes, types_of(ids, starts, types, writer)) {
-        MessageRead::NotValid => LineStep::Is(Line::SetInvalid(place), LineCursor::Message(l, after)),
+        MessageRead::NotValid => LineStep::Is(
+            Line::SetInvalid(place),
+            LineCursor::Message(l, after),
+        ),
         MessageRead::Refused(n, at) => LineStep::Is(
             Line::SetBad(place, n, at),
             LineCursor::Message(l, after),
@@ -181,7 +184,10 @@ fn field_line<'a>(
                 offset: p.offset + x.offset,
                 length: x.length,
             };
-            LineStep::Is(Line::Field(p.index, field), LineCursor::Field(l, c, p, next))
+            LineStep::Is(
+                Line::Field(p.index, field),
+                LineCursor::Field(l, c, p, next),
+            )
         }
     }
 }
