@@ -1,0 +1,11 @@
+pub mod Views
+pub mod Marks
+pub mod Areas
+pub mod Publisher
+pub mod Record
+pub mod ChunkRead
+pub mod Machine
+pub mod Judge
+pub mod Operations
+pub mod History
+pub mod Combining
