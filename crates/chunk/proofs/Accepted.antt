@@ -5,7 +5,6 @@ use mathlib.Core.Path.{_≡_, refl, sym, ap, subst, _∙_}
 use mathlib.Core.Bool.{Bool, true, false, cond}
 use mathlib.Core.List.{List}
 use native.Mathlib.Omega.{arith}
-use native.Mathlib.Nat.{zero-le}
 use lib.Dec.{leb, ltb, eqb}
 use lib.ListN.{length, take, drop, length-drop}
 use lib.Seq.{length-take-le}
@@ -16,7 +15,11 @@ use Rattle.wire.specs.declared.Length.{Length}
 use Rattle.wire.proofs.Reading.{got-value, got-next, not-got, invert}
 use Rattle.network_message.specs.Publisher.{stringOf, lengthThen, stringAt, publisherAt}
 use Rattle.network_message.specs.PublisherRecord.{lengthOf}
-use Rattle.network_message.specs.Envelope.{identityAt, headerAt, bodyAt, networkMessageAt, Header, NetworkMessage}
+use Rattle.network_message.specs.Flags.{flagsAt}
+use Rattle.network_message.specs.Group.{groupAt}
+use Rattle.network_message.specs.Header.{classAt, payloadHeaderAt}
+use Rattle.network_message.specs.Payload.{configuredSizes, payloadAt}
+use Rattle.network_message.specs.Envelope.{identityAt, timesAt, messagesOf, headerAt, bodyAt, networkMessageAt, NetworkMessage}
 use Rattle.network_message.specs.declared.publisher.PublisherId.{PublisherId}
 use Rattle.network_message.specs.declared.envelope.Identity.{Identity}
 use Rattle.network_message.specs.declared.flags.Flags.{Flags}
@@ -24,86 +27,93 @@ use Rattle.chunk.specs.declared.payload.ChunkData.{ChunkData}
 use Rattle.chunk.specs.declared.payload.ChunkPayload.{ChunkPayload}
 use Rattle.chunk.specs.declared.datagram.ChunkPlace.{ChunkPlace}
 use Rattle.chunk.specs.Payload as P
-use Rattle.chunk.specs.Datagram.{chunkOf, chunkAt, chunkData}
+use Rattle.chunk.specs.Datagram.{placeOf, chunkOf, chunkAt, chunkData}
 
 -- every value that a reader accepts has the property
-abbrev Gives : {A : Type 0} → (List ℕ → A → Type 0) → Reader A → Type 0
-Gives {A} P r = (s : List ℕ) (at : ℕ) (v : A) (n : ℕ) → r s at ≡ got v n → P s v
+record Gives {A : Type 0} (P : List ℕ → A → Type 0) (r : Reader A) : Type 0 where
+  pub told : (s : List ℕ) (at : ℕ) (v : A) (n : ℕ) → r s at ≡ got v n → P s v
 
 gives-bind : {A B : Type 0} {Q : List ℕ → A → Type 0} {P : List ℕ → B → Type 0} {r : Reader A} {k : A → Reader B} → Gives Q r
-    → ((s : List ℕ) (a : A) → Q s a → (at : ℕ) (v : B) (n : ℕ) → k a s at ≡ got v n → P s v) → Gives P (r >>= k)
-gives-bind {r = r} {k = k} g h s at v n e =
-    let i = invert (r s at) (λ a next. k a s next) e in
-    h s (i .0) (g s at (i .0) (i .1) (i .2)) (i .1) v n (i .3)
+    → ((a : A) → Gives (λ s v. Q s a → P s v) (k a)) → Gives P (r >>= k)
+gives-bind {r = r} {k = k} g h = record {
+  told = λ s at v n e.
+      let i = invert (r s at) (λ a next. k a s next) e in
+      h (i .0) .told s (i .1) v n (i .3) (g .told s at (i .0) (i .1) (i .2));
+}
 
-gives-next : {A B : Type 0} {P : List ℕ → B → Type 0} {r : Reader A} {k : A → Reader B} → ((a : A) → Gives P (k a)) → Gives P (r >>= k)
-gives-next {r = r} {k = k} h s at v n e =
-    let i = invert (r s at) (λ a next. k a s next) e in
-    h (i .0) s (i .1) v n (i .3)
+gives-next : {A B : Type 0} {P : List ℕ → B → Type 0} (r : Reader A) {k : A → Reader B} → ((a : A) → Gives P (k a)) → Gives P (r >>= k)
+gives-next r {k = k} h = record {
+  told = λ s at v n e.
+      let i = invert (r s at) (λ a next. k a s next) e in
+      h (i .0) .told s (i .1) v n (i .3);
+}
 
 gives-pure : {A : Type 0} {P : List ℕ → A → Type 0} (a : A) → ((s : List ℕ) → P s a) → Gives P (pure a)
-gives-pure {P = P} a p s at v n e = subst (P s) (got-value e) (p s)
+gives-pure {P = P} a p = record { told = λ s at v n e. subst (P s) (got-value e) (p s) }
 
 -- ---- a string PublisherId has at most 64 bytes
 abbrev Small : List ℕ → PublisherId → Type 0
 Small s p = lengthOf p ≤ 64
 
 string-small : (n : ℕ) → Gives Small (stringOf n)
-string-small n s at v m e = go (leb 65 n) refl e
+string-small n = record { told = λ s at v m e. go s at v m (leb 65 n) refl e }
   where
-    go : (b : Bool) → leb 65 n ≡ b → cond b (refused 10 0) ((run n >>= λ len. pure (PublisherId.Text len)) s at) ≡ got v m → Small s v
-    go true t q = absurd (not-got q)
-    go false t q = fits (leb (at + n) (length s)) q
-      where
-        fits : (b : Bool) → andThen (cond b (got n (at + n)) (refused 1 at)) (λ len next. got (PublisherId.Text len) next) ≡ got v m → Small s v
-        fits true q = let l : n < 65 = leb-false 65 n t in subst (λ (p : PublisherId). lengthOf p ≤ 64) (got-value q) (omega arith)
-        fits false q = absurd (not-got q)
+    fits : (s : List ℕ) (at : ℕ) (v : PublisherId) (m : ℕ) → n < 65 → (b : Bool)
+        → andThen (cond b (got n (at + n)) (refused 1 at)) (λ len next. got (PublisherId.Text len) next) ≡ got v m → Small s v
+    fits s at v m l true q = subst (λ (p : PublisherId). lengthOf p ≤ 64) (got-value q) (omega arith)
+    fits s at v m l false q = absurd (not-got q)
+
+    go : (s : List ℕ) (at : ℕ) (v : PublisherId) (m : ℕ) (b : Bool) → leb 65 n ≡ b → cond b (refused 10 0) ((run n >>= λ len. pure (PublisherId.Text len)) s at) ≡ got v m → Small s v
+    go s at v m true t q = absurd (not-got q)
+    go s at v m false t q = fits s at v m (leb-false 65 n t) (leb (at + n) (length s)) q
 
 length-small : (at : ℕ) (z : Length) → Gives Small (lengthThen at z)
-length-small at Length.Null s p v n e = absurd (not-got e)
-length-small at (Length.Of k) s p v n e = string-small k s p v n e
-length-small at Length.Negative s p v n e = absurd (not-got e)
+length-small at Length.Null = record { told = λ s p v n e. absurd (not-got e) }
+length-small at (Length.Of k) = string-small k
+length-small at Length.Negative = record { told = λ s p v n e. absurd (not-got e) }
 
 at-small : Gives Small stringAt
-at-small s at v n e =
-    let i = invert (lengthItem s at) (λ z start. lengthThen at z s start) e in
-    length-small at (i .0) s (i .1) v n (i .3)
+at-small = record {
+  told = λ s at v n e.
+      let i = invert (lengthItem s at) (λ z start. lengthThen at z s start) e in
+      length-small at (i .0) .told s (i .1) v n (i .3);
+}
 
 number-small : (w : ℕ) (f : ℕ → PublisherId) → ((v : ℕ) → lengthOf (f v) ≡ 0) → Gives Small (item w >>= λ v. pure (f v))
-number-small w f z = gives-next (λ v. gives-pure (f v) (λ s. omega (arith, z v)))
+number-small w f z = gives-next (item w) (λ v. gives-pure (f v) (λ s. omega (arith, z v)))
 
 publisher-small : (on : Bool) (kind : ℕ) → Gives Small (publisherAt on kind)
-publisher-small false kind = gives-pure PublisherId.Absent (λ s. zero-le 64)
-publisher-small true kind s at v n e = go (eqb kind 0) (eqb kind 1) (eqb kind 2) (eqb kind 3) e
+publisher-small false kind = gives-pure PublisherId.Absent (λ s. omega arith)
+publisher-small true kind = go (eqb kind 0) (eqb kind 1) (eqb kind 2) (eqb kind 3)
   where
-    go : (a b c d : Bool) → (cond a (item 1 >>= λ v. pure (PublisherId.Byte v)) (cond b (item 2 >>= λ v. pure (PublisherId.UInt16 v)) (cond c (item 4 >>= λ v. pure (PublisherId.UInt32 v)) (cond d (item 8 >>= λ v. pure (PublisherId.UInt64 v)) stringAt)))) s at ≡ got v n → Small s v
-    go true b c d e = number-small 1 PublisherId.Byte (λ v. refl) s at v n e
-    go false true c d e = number-small 2 PublisherId.UInt16 (λ v. refl) s at v n e
-    go false false true d e = number-small 4 PublisherId.UInt32 (λ v. refl) s at v n e
-    go false false false true e = number-small 8 PublisherId.UInt64 (λ v. refl) s at v n e
-    go false false false false e = at-small s at v n e
+    go : (a b c d : Bool) → Gives Small (cond a (item 1 >>= λ v. pure (PublisherId.Byte v)) (cond b (item 2 >>= λ v. pure (PublisherId.UInt16 v)) (cond c (item 4 >>= λ v. pure (PublisherId.UInt32 v)) (cond d (item 8 >>= λ v. pure (PublisherId.UInt64 v)) stringAt))))
+    go true b c d = number-small 1 PublisherId.Byte (λ v. refl)
+    go false true c d = number-small 2 PublisherId.UInt16 (λ v. refl)
+    go false false true d = number-small 4 PublisherId.UInt32 (λ v. refl)
+    go false false false true = number-small 8 PublisherId.UInt64 (λ v. refl)
+    go false false false false = at-small
 
 identity-small : (f : Flags) → Gives (λ s i. Small s (i .publisher)) (identityAt f)
 identity-small f =
     gives-bind (publisher-small (f .publisher) (f .kind))
-    (λ s p q. gives-next (λ x. gives-next (λ y. gives-next (λ z. gives-pure {P = λ t i. Small t (i .publisher)} _ (λ t. q)))) s)
+    (λ p. gives-next here (λ e. gives-next (classAt (f .«class_id»)) (λ c. gives-next (groupAt (f .group)) (λ g. gives-pure _ (λ s q. q)))))
 
 header-small : (f : Flags) (configured : ℕ) → Gives (λ s h. Small s (h .envelope .publisher)) (headerAt f configured)
 header-small f configured =
     gives-bind (identity-small f)
-    (λ s i q. gives-next (λ p. gives-next (λ e. gives-next (λ t. gives-next (λ z. gives-pure {P = λ t h. Small t (h .envelope .publisher)} _ (λ t. q))))) s)
+    (λ i. gives-next (payloadHeaderAt (f .«payload_header») (f .chunk)) (λ p. gives-next here (λ e. gives-next (timesAt f (messagesOf (f .chunk) p configured)) (λ t. gives-next here (λ z. gives-pure _ (λ s q. q))))))
 
 body-small : (f : Flags) (sizes : List ℕ) → Gives (λ s m. Small s (m .envelope .publisher)) (bodyAt f sizes)
 body-small f sizes =
-    gives-bind (header-small f _)
-    (λ s h q. gives-next (λ p. gives-pure {P = λ t m. Small t (m .envelope .publisher)} _ (λ t. q)) s)
+    gives-bind (header-small f (length (configuredSizes sizes)))
+    (λ h. gives-next (payloadAt (h .envelope .chunk) (h .envelope .«payload_header») sizes) (λ p. gives-pure _ (λ s q. q)))
 
 message-small : (sizes s : List ℕ) (m : NetworkMessage) (n : ℕ) → networkMessageAt sizes s ≡ got m n → Small s (m .envelope .publisher)
 message-small sizes s m n e = go (ltb 65535 (length s)) e
   where
-    go : (b : Bool) → cond b (refused 10 0) _ ≡ got m n → Small s (m .envelope .publisher)
+    go : (b : Bool) → cond b (refused 10 0) ((flagsAt >>= λ f. bodyAt f sizes) s 0) ≡ got m n → Small s (m .envelope .publisher)
     go true q = absurd (not-got q)
-    go false q = gives-next (λ f. body-small f sizes) s 0 m n q
+    go false q = gives-next flagsAt (λ f. body-small f sizes) .told s 0 m n q
 
 -- ---- a chunk's payload
 pub record Sized (s : List ℕ) (p : ChunkPayload) : Type 0 where
@@ -117,14 +127,16 @@ abbrev SizedTotal : List ℕ → ℕ → Type 0
 SizedTotal s t = (1 ≤ t) × (t ≤ 16384)
 
 total-sized : Gives SizedTotal P.totalAt
-total-sized s at v n e =
-    let i = invert (item 4 s at) (P.totalOf at) e in
-    go (i .0) (i .1) (eqb (i .0) 0) (ltb 16384 (i .0)) refl refl (i .3)
+total-sized = record {
+  told = λ s at v n e.
+      let i = invert (item 4 s at) (P.totalOf at) e in
+      go s at v n (i .0) (i .1) (eqb (i .0) 0) (ltb 16384 (i .0)) refl refl (i .3);
+}
   where
-    go : (t m : ℕ) (a b : Bool) → eqb t 0 ≡ a → ltb 16384 t ≡ b → cond a (refused 6 at) (cond b (refused 10 0) (got t m)) ≡ got v n → SizedTotal s v
-    go t m true b p q e = absurd (not-got e)
-    go t m false true p q e = absurd (not-got e)
-    go t m false false p q e =
+    go : (s : List ℕ) (at v n t m : ℕ) (a b : Bool) → eqb t 0 ≡ a → ltb 16384 t ≡ b → cond a (refused 6 at) (cond b (refused 10 0) (got t m)) ≡ got v n → SizedTotal s v
+    go s at v n t m true b p q e = absurd (not-got e)
+    go s at v n t m false true p q e = absurd (not-got e)
+    go s at v n t m false false p q e =
         let l : t ≤ 16384 = ltb-false 16384 t q in
         let z : t ≡ v = got-value e in
         (omega (arith, eqb-false t 0 p), omega arith)
@@ -145,14 +157,16 @@ module _ (offset total : ℕ) where
           (omega (arith, eqb-false k 0 p), omega arith)
 
   length-sized : Gives SizedLength (P.dataLengthAt offset total)
-  length-sized s at v n e =
-      let i = invert (lengthItem s at) (P.lengthThen offset total at) e in
-      go (i .0) (i .1) (i .3)
+  length-sized = record {
+    told = λ s at v n e.
+        let i = invert (lengthItem s at) (P.lengthThen offset total at) e in
+        go s at v n (i .0) (i .1) (i .3);
+  }
     where
-      go : (z : Length) (m : ℕ) → P.lengthThen offset total at z m ≡ got v n → SizedLength s v
-      go Length.Null m q = absurd (not-got q)
-      go (Length.Of k) m q = sized-length at k m v n s q
-      go Length.Negative m q = absurd (not-got q)
+      go : (s : List ℕ) (at v n : ℕ) (z : Length) (m : ℕ) → P.lengthThen offset total at z m ≡ got v n → SizedLength s v
+      go s at v n Length.Null m q = absurd (not-got q)
+      go s at v n (Length.Of k) m q = sized-length at k m v n s q
+      go s at v n Length.Negative m q = absurd (not-got q)
 
   pub record SizedData (s : List ℕ) (d : ChunkData) : Type 0 where
     pub filled : 1 ≤ d .length
@@ -160,27 +174,29 @@ module _ (offset total : ℕ) where
     pub ends : d .first + d .length ≡ length s
 
   data-of-sized : (k : ℕ) → 1 ≤ k → offset + k ≤ total → Gives SizedData (P.dataOf k)
-  data-of-sized k h l s at v n e = go (leb (at + k) (length s)) (eqb (at + k) (length s)) refl e
+  data-of-sized k h l = record { told = λ s at v n e. go s at v n (leb (at + k) (length s)) (eqb (at + k) (length s)) refl e }
     where
-      go : (a b : Bool) → eqb (at + k) (length s) ≡ b
-          → andThen (cond a (got k (at + k)) (refused 1 at)) (λ _ z. andThen (cond (eqb z (length s)) (got tt z) (refused 7 z)) (λ _ y. got (record { first = at; length = k }) y)) ≡ got v n
+      go : (s : List ℕ) (at : ℕ) (v : ChunkData) (n : ℕ) (a b : Bool) → eqb (at + k) (length s) ≡ b
+          → andThen (cond a (got k (at + k)) (refused 1 at)) (λ _ z. andThen (P.endAt s z) (λ _ y. got (record { first = at; length = k }) y)) ≡ got v n
           → SizedData s v
-      go true true t q =
+      go s at v n true true t q =
           let x : at + k ≡ length s = eqb-true _ _ t in
           subst (SizedData s) (got-value (rw t at q)) (record { filled = h; fits = l; ends = x })
-      go true false t q = absurd (not-got (rw t at q))
-      go false b t q = absurd (not-got q)
+      go s at v n true false t q = absurd (not-got (rw t at q))
+      go s at v n false b t q = absurd (not-got q)
 
   data-sized : Gives SizedData (P.dataAt offset total)
-  data-sized = gives-bind length-sized (λ s k q at v n e. data-of-sized k (q .0) (q .1) s at v n e)
+  data-sized = gives-bind length-sized (λ k. record { told = λ s at v n e q. data-of-sized k (q .0) (q .1) .told s at v n e })
+
+rest-sized : (k : ℕ) → Gives Sized (P.restAt k)
+rest-sized k =
+    gives-next (item 4)
+    (λ o. gives-bind total-sized
+    (λ t. gives-bind (data-sized o t)
+    (λ d. gives-pure _ (λ s h q. record { some = q .0; small = q .1; filled = h .filled; fits = h .fits; ends = h .ends }))))
 
 pub payload-sized : (s : List ℕ) (at : ℕ) (p : ChunkPayload) (n : ℕ) → P.chunkPayloadAt s at ≡ got p n → Sized s p
-payload-sized =
-    gives-next (λ k. gives-next (λ o.
-    gives-bind total-sized (λ s t q at v n e.
-    gives-bind {P = λ u p. (1 ≤ t) → (t ≤ 16384) → Sized u p} (data-sized o t)
-    (λ u d h x y z i a b. subst (Sized u) (got-value i) (record { some = a; small = b; filled = h .filled; fits = h .fits; ends = h .ends }))
-    s at v n e (q .0) (q .1))))
+payload-sized = gives-next (item 2) rest-sized .told
 
 -- ---- a chunk of a datagram
 pub record Accepted (s : List ℕ) (c : ChunkPlace) : Type 0 where
@@ -193,11 +209,11 @@ accepted sizes s c n e =
     go (i .0) (i .1) (message-small sizes s (i .0) (i .1) (i .2)) (i .0 .envelope .chunk) (i .3)
   where
     go : (m : NetworkMessage) (at : ℕ) → Small s (m .envelope .publisher) → (b : Bool)
-        → cond b (andThen (P.chunkPayloadAt s at) (λ p next. got (Rattle.chunk.specs.Datagram.placeOf (m .envelope) (m .places .«publisher_end») p) next)) (refused 4 0) ≡ got c n
+        → cond b (andThen (P.chunkPayloadAt s at) (λ p next. got (placeOf (m .envelope) (m .places .«publisher_end») p) next)) (refused 4 0) ≡ got c n
         → Accepted s c
     go m at h false q = absurd (not-got q)
     go m at h true q =
-        let j = invert (P.chunkPayloadAt s at) (λ p next. got (Rattle.chunk.specs.Datagram.placeOf (m .envelope) (m .places .«publisher_end») p) next) q in
+        let j = invert (P.chunkPayloadAt s at) (λ p next. got (placeOf (m .envelope) (m .places .«publisher_end») p) next) q in
         subst (Accepted s) (got-value (j .3)) (record { publisher = h; sized = payload-sized s at (j .0) (j .1) (j .2) })
 
 -- the data of an accepted chunk is as long as it says, and never empty

@@ -1,7 +1,7 @@
--- Splits on a test, and what a test of two things says of each. Assumes nothing.
+-- Splits on a test. Assumes nothing.
 use Prim.Native.Nat.{ℕ, _≤_, _<_}
 use mathlib.Core.Path.{_≡_, refl}
-use mathlib.Core.Bool.{Bool, true, false, _&&_, false≢true}
+use mathlib.Core.Bool.{Bool, true, false}
 use lib.Dec.{ltb, eqb}
 use borrow.Author.Tests.{ltb-true, ltb-false, eqb-true, eqb-false}
 
@@ -14,11 +14,3 @@ by-eq P a b f g = by-bool P (eqb a b) (λ e. f (eqb-true a b e)) (λ e. g (eqb-f
 
 pub by-lt : (P : Type 0) (a b : ℕ) → (a < b → P) → (b ≤ a → P) → P
 by-lt P a b f g = by-bool P (ltb a b) (λ e. f (ltb-true a b e)) (λ e. g (ltb-false a b e))
-
-pub and-left : (a b : Bool) → (a && b) ≡ true → a ≡ true
-and-left true b e = refl
-and-left false b e = absurd (false≢true e)
-
-pub and-right : (a b : Bool) → (a && b) ≡ true → b ≡ true
-and-right true b e = e
-and-right false b e = absurd (false≢true e)

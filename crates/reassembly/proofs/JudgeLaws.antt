@@ -4,22 +4,25 @@ use mathlib.Core.Path.{_≡_, refl, sym, ap, _∙_}
 use mathlib.Core.Bool.{Bool, true, false, cond, _&&_}
 use mathlib.Core.List.{List}
 use native.Mathlib.Omega.{arith}
-use lib.ListN.{length}
+use lib.ListN.{length, take, drop}
 use lib.Dec.{leb, eqb}
 use borrow.Author.Tests.{le-leb, leb-true, eqb-true, eqb-false}
 use Rattle.reassembly.specs.Views.{View, dataView, inRange, clash, laid}
 use Rattle.reassembly.specs.Marks.{marksFor, markAll, markedBelow, allMarked}
 use Rattle.reassembly.specs.Areas.{markedView}
-use Rattle.reassembly.specs.Publisher.{publisherFits}
+use Rattle.wire.specs.Answer.{Answer, got, refused}
+use Rattle.network_message.specs.PublisherRecord.{publisherFits, recordAt}
+use Rattle.network_message.specs.declared.publisher_record.PublisherRecord.{PublisherRecord}
+use Rattle.chunk.specs.Datagram.{chunkAt}
+use Rattle.chunk.specs.declared.datagram.ChunkPlace.{ChunkPlace}
+use Rattle.chunk.proofs.Accepted
 use Rattle.reassembly.specs.Record.{Identity, identityOf, sameMessage, Partial, partial, soundBy, sound}
-use Rattle.reassembly.specs.ChunkRead.{Reading, chunkFault, readFault, readingOf, Proper, ProperReading}
-use Rattle.reassembly.specs.ChunkRead.Reading.{chunk}
+use Rattle.reassembly.specs.Reading.{Reading, messageOf, readingBy, readingAt, Proper, ProperReading}
+use Rattle.reassembly.specs.Reading.Reading.{chunk, refusal}
 use Rattle.reassembly.specs.Machine.{State, judge, judgeState, meet}
 use Rattle.reassembly.specs.Machine.State.{held}
 use Rattle.reassembly.specs.Judge.{viewOf, stateOf, admissionOf, readingVerdict, judgeReading, judgeCombine}
 use Rattle.reassembly.specs.Operations.{begun, begunMarks, put, putReading, takeIn, combine, yesNo, askComplete, judgeHandOut}
-use Rattle.reassembly.specs.declared.chunk_read.Chunk.{Chunk}
-use Rattle.reassembly.specs.declared.chunk_read.ChunkRead.{ChunkRead}
 use Rattle.reassembly.specs.declared.judge.Admission.{Admission}
 use Rattle.reassembly.specs.declared.judge.Admission.the-variants as A
 use Rattle.reassembly.specs.declared.record.Message.{Message}
@@ -27,7 +30,8 @@ use Rattle.reassembly.specs.declared.record.PartialRecord.{PartialRecord
 use Rattle.reassembly.specs.declared.verdict.Completeness.the-variants as C
 use Rattle.reassembly.specs.declared.verdict.Verdict.{Verdict}
 use Rattle.reassembly.specs.declared.verdict.Verdict.the-variants.{Done, Refused}
-use Rattle.reassembly.proofs.Cases.{by-bool, and-left, and-right}
+use Rattle.reassembly.proofs.Cases.{by-bool}
+use Rattle.wire.proofs.Facts.{and-left, and-right}
 use Rattle.reassembly.proofs.ViewLaws.{has-data}
 use Rattle.reassembly.proofs.MarkLaws.{marks-mono, length-cleared}
 use Rattle.reassembly.proofs.AreaLaws.{clash-total, has-marked, full-marked}
@@ -58,41 +62,31 @@ module _ (r : PartialRecord) (n k : ℕ) (e : soundBy r n k ≡ true) where
   pub sound-marks : (t : ℕ) → t ≤ n → marksFor t ≤ k
   sound-marks t h = let l = sound-lengths in omega (arith, marks-mono t n h)
 
--- ---- a chunk with no fault of its own
-six-zero : _≡_ {A = ℕ} 6 0 → ⊥
-six-zero e = omega arith
+-- ---- what a datagram reads as
+module _ (sizes s : List ℕ) where
+  pub reading-got : (c : ChunkPlace) (n : ℕ) → chunkAt sizes s ≡ got c n → readingAt sizes s ≡ chunk (messageOf c s) (c .payload .offset) (take (c .payload .length) (drop (c .payload .first) s))
+  unfolding readingAt
+  reading-got c n e = rw e
 
-ten-zero : _≡_ {A = ℕ} 10 0 → ⊥
-ten-zero e = omega arith
+  pub reading-refusal : (n p : ℕ) → chunkAt sizes s ≡ refused n p → readingAt sizes s ≡ refusal n p
+  unfolding readingAt
+  reading-refusal n p e = rw e
 
-fault-proper : (c : Chunk) (n : ℕ) → chunkFault c n ≡ 0 → Proper (c .message) (c .offset) n
-unfolding chunkFault
-fault-proper c n e =
-    by-bool _ (publisherFits (c .message .publisher))
-    (λ e₁. by-bool _ (eqb (c .message .total) 0) (λ e₂. absurd (six-zero (rw (e₁, e₂) at e)))
-    (λ e₂. by-bool _ (leb (c .message .total) 16384)
-    (λ e₃. by-bool _ (eqb n 0) (λ e₄. absurd (six-zero (rw (e₁, e₂, e₃, e₄) at e)))
-    (λ e₄. by-bool _ (leb (c .offset + n) (c .message .total))
-    (λ e₅. record { publisher = e₁; some = omega (arith, eqb-false (c .message .total) 0 e₂); fits = leb-true _ _ e₅ })
-    (λ e₅. absurd (six-zero (rw (e₁, e₂, e₃, e₄, e₅) at e)))))
-    (λ e₃. absurd (ten-zero (rw (e₁, e₂, e₃) at e)))))
-    (λ e₁. absurd (ten-zero (rw e₁ at e)))
+  -- an accepted chunk has no fault of its own
+  pub proper-got : (c : ChunkPlace) (n : ℕ) → chunkAt sizes s ≡ got c n → Proper (messageOf c s) (c .payload .offset) (length (take (c .payload .length) (drop (c .payload .first) s)))
+  unfolding publisherFits
+  proper-got c n e =
+      let a = Accepted.accepted sizes s c n e in
+      let l : length (take (c .payload .length) (drop (c .payload .first) s)) ≡ c .payload .length = rw e at (Accepted.data-length sizes s c n e) in
+      record { publisher = le-leb _ _ (a .publisher); some = a .sized .some; fits = rw l (a .sized .fits) }
 
-pub read-proper : (r : ChunkRead) (n : ℕ) → readFault r n ≡ Done → Proper (r .chunk .message) (r .chunk .offset) n
-unfolding readFault
-read-proper r n e =
-    by-bool _ (eqb (r .number) 0)
-    (λ e₁. by-bool _ (eqb (chunkFault (r .chunk) n) 0)
-    (λ e₂. fault-proper (r .chunk) n (eqb-true _ _ e₂))
-    (λ e₂. absurd (refused-done _ _ (rw (e₁, e₂) at e))))
-    (λ e₁. absurd (refused-done _ _ (rw e₁ at e)))
-
-pub reading-proper : (r : ChunkRead) (d : List ℕ) → ProperReading (readingOf r d)
-reading-proper r d = go (readFault r (length d)) refl
-  where
-    go : (v : Verdict) → readFault r (length d) ≡ v → ProperReading (readingOf r d)
-    go Done e = rw e (read-proper r (length d) e)
-    go (Refused n p) e = rw e tt
+  pub reading-proper : ProperReading (readingAt sizes s)
+  unfolding readingAt
+  reading-proper = go (chunkAt sizes s) refl
+    where
+      go : (x : Answer ChunkPlace) → chunkAt sizes s ≡ x → ProperReading (readingBy x s)
+      go (got c n) e = proper-got c n e
+      go (refused n p) e = tt
 
 -- ---- bytes of a message met by a partial
 abbrev pub admitted : Admission → Bool → Verdict
@@ -170,59 +164,64 @@ module _ (s : Partial) (x : Reading) where
   unfolding takeIn
   take-done e = rw e
 
-module _ (s : Partial) (r : ChunkRead) (d : List ℕ) where
-  pub reading-refused : sound s ≡ true → (n p : ℕ) → readFault r (length d) ≡ Refused n p → judgeReading s (readingOf r d) ≡ Refused n p
-  reading-refused e n p f = reading-judged s (readingOf r d) e ∙ rw f
+  pub take-unsound : sound s ≡ false → takeIn s x ≡ record { verdict = Refused 12 0; after = s }
+  take-unsound e = take-refused 12 0 (reading-unsound e)
 
-  pub reading-admits : sound s ≡ true → readFault r (length d) ≡ Done → judgeReading s (readingOf r d) ≡ admitted (admissionOf (s .rec) (length (s .payload)) (r .chunk .message)) (clash (s .rec .message .total) (viewOf s) (dataView (r .chunk .offset) d))
-  reading-admits e f =
-      reading-judged s (readingOf r d) e
-      ∙ rw f (judge-admits s (length (s .payload)) (r .chunk .message) (dataView (r .chunk .offset) d))
+-- a record of a chunk's message whose publisher was copied
+pub message-is : (c : ChunkPlace) (s : List ℕ) (p : PublisherRecord) → p ≡ recordAt (c .publisher) (c .«publisher_end») s
+    → _≡_ {A = Message} (record { publisher = p; writer = c .writer; number = c .payload .number; total = c .payload .total }) (messageOf c s)
+message-is c s p e = λ i. record { publisher = e i; writer = c .writer; number = c .payload .number; total = c .payload .total }
 
-  pub reading-own : judgeReading s (readingOf r d) ≡ Done → readFault r (length d) ≡ Done
-  reading-own e = go (readFault r (length d)) refl
-    where
-      go : (v : Verdict) → readFault r (length d) ≡ v → readFault r (length d) ≡ Done
-      go Done q = q
-      go (Refused n p) q = absurd (refused-done n p (sym (reading-refused (reading-sound s (readingOf r d) e) n p q) ∙ e))
+module _ (s : Partial) (sizes d : List ℕ) where
+  pub take-refusal : sound s ≡ true → (n p : ℕ) → chunkAt sizes d ≡ refused n p → takeIn s (readingAt sizes d) ≡ record { verdict = Refused n p; after = s }
+  take-refusal e n p q = take-refused s (readingAt sizes d) n p (reading-judged s (readingAt sizes d) e ∙ rw (reading-refusal sizes d n p q))
+
+  -- the chunk of an accepted datagram, as the code hands it on
+  module _ (c : ChunkPlace) (n : ℕ) (q : chunkAt sizes d ≡ got c n) (m : Message) (b : List ℕ) (em : m ≡ messageOf c d) (eb : b ≡ take (c .payload .length) (drop (c .payload .first) d)) where
+    pub handed-proper : Proper m (c .payload .offset) (length b)
+    handed-proper = rw (em, eb) (proper-got sizes d c n q)
+
+    pub handed-taken : takeIn s (chunk m (c .payload .offset) b) ≡ takeIn s (readingAt sizes d)
+    handed-taken = rw (em, eb, reading-got sizes d c n q)
+
+module _ (s : Partial) (m : Message) (at : ℕ) (d : List ℕ) where
+  pub reading-admits : sound s ≡ true → judgeReading s (chunk m at d) ≡ admitted (admissionOf (s .rec) (length (s .payload)) m) (clash (s .rec .message .total) (viewOf s) (dataView at d))
+  reading-admits e =
+      reading-judged s (chunk m at d) e ∙ judge-admits s (length (s .payload)) m (dataView at d)
 
   -- the same message: its bytes meet what is held
-  module _ (e : sound s ≡ true) (f : readFault r (length d) ≡ Done) (g : admissionOf (s .rec) (length (s .payload)) (r .chunk .message) ≡ A.Same) where
-    pub data-room : (r .chunk .offset + length d ≤ length (s .payload)) × (marksFor (r .chunk .offset + length d) ≤ length (s .marks))
+  module _ (e : sound s ≡ true) (o : Proper m at (length d)) (g : admissionOf (s .rec) (length (s .payload)) m ≡ A.Same) where
+    pub data-room : (at + length d ≤ length (s .payload)) × (marksFor (at + length d) ≤ length (s .marks))
     data-room =
         let a = admits-same _ _ _ g in
-        let o = read-proper r (length d) f in
-        let h : r .chunk .offset + length d ≤ length (s .payload) = omega (arith, a .room, o .fits) in
+        let h : at + length d ≤ length (s .payload) = omega (arith, a .room, o .fits) in
         (h, sound-marks (s .rec) _ _ e _ h)
 
-    pub reading-same : judgeReading s (readingOf r d) ≡ cond (clash (r .chunk .offset + length d) (markedView (r .chunk .offset + length d) (s .payload) (s .marks)) (dataView (r .chunk .offset) d)) (Refused 14 0) Done
+    pub reading-same : judgeReading s (chunk m at d) ≡ cond (clash (at + length d) (markedView (at + length d) (s .payload) (s .marks)) (dataView at d)) (Refused 14 0) Done
     reading-same =
         let a = admits-same _ _ _ g in
-        let o = read-proper r (length d) f in
-        let t : s .rec .message .total ≡ r .chunk .message .total = ap (λ (m : Identity). m .total) (a .same) in
-        let h : r .chunk .offset + length d ≤ s .rec .message .total = omega (arith, o .fits) in
-        reading-admits e f ∙ rw g
-        (ap (λ (b : Bool). cond b (Refused 14 0) Done) (sym (clash-total (s .rec .message .total) (s .payload) (s .marks) (r .chunk .offset) d h)))
+        let t : s .rec .message .total ≡ m .total = ap (λ (m : Identity). m .total) (a .same) in
+        let h : at + length d ≤ s .rec .message .total = omega (arith, o .fits) in
+        reading-admits e ∙ rw g
+        (ap (λ (b : Bool). cond b (Refused 14 0) Done) (sym (clash-total (s .rec .message .total) (s .payload) (s .marks) at d h)))
 
   -- an accepted chunk has room
-  module _ (e : judgeReading s (readingOf r d) ≡ Done) where
-    pub taken-room : (r .chunk .offset + length d ≤ length (s .payload)) × (marksFor (r .chunk .offset + length d) ≤ length (s .marks))
+  module _ (o : Proper m at (length d)) (e : judgeReading s (chunk m at d) ≡ Done) where
+    pub taken-room : (at + length d ≤ length (s .payload)) × (marksFor (at + length d) ≤ length (s .marks))
     taken-room =
-        let ok = reading-sound s (readingOf r d) e in
-        let f = reading-own e in
-        let o = read-proper r (length d) f in
-        let met : judge (length (s .payload)) (stateOf s) (identityOf (r .chunk .message)) (dataView (r .chunk .offset) d) ≡ Done = rw f at (sym (reading-judged s (readingOf r d) ok) ∙ e) in
-        let t : r .chunk .message .total ≤ length (s .payload) = judge-fits (length (s .payload)) (stateOf s) (identityOf (r .chunk .message)) (dataView (r .chunk .offset) d) met in
-        let h : r .chunk .offset + length d ≤ length (s .payload) = omega (arith, o .fits) in
+        let ok = reading-sound s (chunk m at d) e in
+        let met : judge (length (s .payload)) (stateOf s) (identityOf m) (dataView at d) ≡ Done = sym (reading-judged s (chunk m at d) ok) ∙ e in
+        let t : m .total ≤ length (s .payload) = judge-fits (length (s .payload)) (stateOf s) (identityOf m) (dataView at d) met in
+        let h : at + length d ≤ length (s .payload) = omega (arith, o .fits) in
         (h, sound-marks (s .rec) _ _ ok _ h)
 
-    pub taken-marks : (n : List ℕ) → n ≡ begunMarks (s .rec) (s .marks) → (r .chunk .offset ≤ r .chunk .offset + length d) × (marksFor (r .chunk .offset + length d) ≤ length n)
+    pub taken-marks : (n : List ℕ) → n ≡ begunMarks (s .rec) (s .marks) → (at ≤ at + length d) × (marksFor (at + length d) ≤ length n)
     taken-marks n q = (omega arith, rw (length-begun (s .rec) (s .marks) n q) (taken-room .1))
 
-    pub taken : (v : Verdict) (k : PartialRecord) (p m n : List ℕ) → v ≡ Done → k ≡ begun (s .rec) (r .chunk .message) → p ≡ laid (dataView (r .chunk .offset) d) (s .payload) → n ≡ begunMarks (s .rec) (s .marks) → m ≡ markAll (inRange (r .chunk .offset) (r .chunk .offset + length d)) n → record { verdict = v; after = partial k p m } ≡ takeIn s (readingOf r d)
+    pub taken : (v : Verdict) (k : PartialRecord) (p z n : List ℕ) → v ≡ Done → k ≡ begun (s .rec) m → p ≡ laid (dataView at d) (s .payload) → n ≡ begunMarks (s .rec) (s .marks) → z ≡ markAll (inRange at (at + length d)) n → record { verdict = v; after = partial k p z } ≡ takeIn s (chunk m at d)
     unfolding put
-    taken v k p m n ev ek ep en em =
-        rw (ev, ek, ep, em, en, take-done s (readingOf r d) e, reading-own e, has-data (r .chunk .offset) d)
+    taken v k p z n ev ek ep en ez =
+        rw (ev, ek, ep, ez, en, take-done s (chunk m at d) e, has-data at d)
 
 -- ---- combining
 module _ (s f : Partial) where

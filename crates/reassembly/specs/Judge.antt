@@ -7,8 +7,8 @@ use lib.Dec.{leb}
 use Rattle.reassembly.specs.Views.{View, has, dataView}
 use Rattle.reassembly.specs.Areas.{markedView}
 use Rattle.reassembly.specs.Record.{Partial, identityOf, sameMessage, sound}
-use Rattle.reassembly.specs.ChunkRead.{Reading}
-use Rattle.reassembly.specs.ChunkRead.Reading.{chunk, refusal}
+use Rattle.reassembly.specs.Reading.{Reading}
+use Rattle.reassembly.specs.Reading.Reading.{chunk, refusal}
 use Rattle.reassembly.specs.Machine.{State, viewIn, judgeState}
 use Rattle.reassembly.specs.Machine.State.{idle, held}
 use Rattle.reassembly.specs.declared.judge.Admission.{Admission}

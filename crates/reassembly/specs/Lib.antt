@@ -1,11 +1,8 @@
 pub mod Views
 pub mod Marks
 pub mod Areas
-pub mod Publisher
 pub mod Record
-pub mod ChunkRead
+pub mod Reading
 pub mod Machine
 pub mod Judge
 pub mod Operations
-pub mod History
-pub mod Combining

@@ -6,8 +6,8 @@ use lib.ListN.{take}
 use Rattle.reassembly.specs.Views.{View, laid, has, dataView}
 use Rattle.reassembly.specs.Marks.{cleared, markAll}
 use Rattle.reassembly.specs.Record.{Partial, partial, sound}
-use Rattle.reassembly.specs.ChunkRead.{Reading}
-use Rattle.reassembly.specs.ChunkRead.Reading.{chunk, refusal}
+use Rattle.reassembly.specs.Reading.{Reading}
+use Rattle.reassembly.specs.Reading.Reading.{chunk, refusal}
 use Rattle.reassembly.specs.Machine.{complete}
 use Rattle.reassembly.specs.Judge.{viewOf, stateOf, judgeReading, judgeCombine}
 use Rattle.reassembly.specs.declared.operations.Outcome.{Outcome}

@@ -1,14 +1,14 @@
 // What an operation answers, judged before anything is changed.
 ghost use mathlib.Core.Path.{_≡_};
-ghost use mathlib.Core.Bool.{cond};
+ghost use mathlib.Core.Bool.{true, cond};
 ghost use Rattle.reassembly.specs.declared.verdict.Verdict.the-variants.{Done, Refused};
-ghost use Rattle.reassembly.specs.Record.{partial};
-ghost use Rattle.reassembly.specs.ChunkRead.{readingOf};
+ghost use lib.ListN.{length};
+ghost use Rattle.reassembly.specs.Record.{partial, sound};
+ghost use Rattle.reassembly.specs.Reading.{Proper};
+ghost use Rattle.reassembly.specs.Reading.Reading.{chunk};
 ghost use Rattle.reassembly.specs.Judge.{admissionOf, judgeReading, judgeCombine};
 use crate::areas::clash_covered;
 use crate::areas::clash_data;
-use crate::chunk_read::ChunkRead;
-use crate::chunk_read::read_fault;
 use crate::record::Message;
 use crate::record::PartialRecord;
 use crate::record::is_sound;
@@ -49,29 +49,22 @@ fn unless_clash(clash: bool) -> Verdict
     Verdict::Done
 }
 
-// What taking a chunk in answers: 12, its own numbers, 11, 13, 14.
-pub(crate) fn judge_reading(
+// What taking in a chunk without a fault of its own answers, in a sound partial: 11, 13, 14.
+pub(crate) fn judge_chunk(
     rec: PartialRecord,
     payload: &[u8],
     marks: &[u8],
-    read: ChunkRead,
+    m: Message,
+    offset: usize,
     bytes: &[u8],
 ) -> Verdict
-    ensures { λ r. ⌜ r ≡ judgeReading (partial rec (now (payload .entry)) (now (marks .entry))) (readingOf read (now (bytes .entry))) ⌝ }
+    requires { ⌜ (sound (partial rec (now payload) (now marks)) ≡ true) × Proper m offset (length (now bytes)) ⌝ }
+    ensures { λ r. ⌜ r ≡ judgeReading (partial rec (now (payload .entry)) (now (marks .entry))) (chunk m offset (now (bytes .entry))) ⌝ }
 {
-    if !is_sound(rec, payload.len(), marks.len()) {
-        return Verdict::Refused(12, 0);
-    }
-    let own = read_fault(read, bytes.len());
-    if let Verdict::Refused(_, _) = own {
-        return own;
-    }
-    let c = read.chunk;
-    let m = c.message;
     match admit(rec, payload.len(), m) {
         Admission::Refused(n) => Verdict::Refused(n, 0),
         Admission::Fresh => Verdict::Done,
-        Admission::Same => unless_clash(clash_data(payload, marks, c.offset, bytes)),
+        Admission::Same => unless_clash(clash_data(payload, marks, offset, bytes)),
     }
 }
 

@@ -1,14 +1,15 @@
 // The five operations on a partial. Every refusal leaves the record and both areas as they were.
 ghost use mathlib.Core.Path.{_≡_};
-ghost use mathlib.Core.Bool.{cond};
-ghost use Rattle.reassembly.specs.Record.{partial};
-ghost use Rattle.reassembly.specs.ChunkRead.{readingOf};
+ghost use mathlib.Core.Bool.{true};
+ghost use lib.ListN.{length};
+ghost use Rattle.reassembly.specs.Record.{partial, sound};
+ghost use Rattle.reassembly.specs.Reading.{Proper, messageOf, readingAt};
+ghost use Rattle.reassembly.specs.Reading.Reading.{chunk};
 ghost use Rattle.reassembly.specs.Operations.{stepOf, begun, begunMarks, takeIn, combine, emptied, askComplete, judgeHandOut, handOut};
 use crate::areas::store_covered;
 use crate::areas::store_data;
-use crate::chunk_read::ChunkRead;
 use crate::judge::judge_combine;
-use crate::judge::judge_reading;
+use crate::judge::judge_chunk;
 use crate::marks::all_marked;
 use crate::marks::clear;
 use crate::marks::mark_marked;
@@ -18,6 +19,10 @@ use crate::record::PartialRecord;
 use crate::record::is_sound;
 use crate::verdict::Completeness;
 use crate::verdict::Verdict;
+use chunk::datagram::ChunkPlace;
+use chunk::datagram::ChunkRead;
+use network_message::publisher_record::publisher_record;
+use wire::part::part;
 
 // An answer, and the record afterwards.
 pub struct Outcome {
@@ -39,27 +44,71 @@ fn begin(rec: PartialRecord, marks: &mut [u8], message: Message) -> PartialRecor
     }
 }
 
-// Takes a chunk's data in: 12, the chunk's own numbers, 11, 13, 14.
+// Takes in the data of a chunk without a fault of its own, in a sound partial: 11, 13, 14.
+fn take_chunk(
+    rec: PartialRecord,
+    payload: &mut [u8],
+    marks: &mut [u8],
+    m: Message,
+    offset: usize,
+    bytes: &[u8],
+) -> Outcome
+    requires { ⌜ (sound (partial rec (now payload) (now marks)) ≡ true) × Proper m offset (length (now bytes)) ⌝ }
+    ensures { λ r. ⌜ stepOf r (now (payload .exit)) (now (marks .exit)) ≡ takeIn (partial rec (now (payload .entry)) (now (marks .entry))) (chunk m offset (now (bytes .entry))) ⌝ }
+{
+    let verdict = judge_chunk(rec, payload, marks, m, offset, bytes);
+    if let Verdict::Refused(_, _) = verdict {
+        return Outcome { verdict, rec };
+    }
+    let end = offset + bytes.len();
+    let next = begin(rec, marks, m);
+    store_data(payload, offset, bytes);
+    mark_range(marks, offset, end);
+    Outcome { verdict, rec: next }
+}
+
+// The record of a chunk's message.
+fn message_of(s: &[u8], c: ChunkPlace) -> Message
+    ensures { λ r. ⌜ r ≡ messageOf c (now (s .entry)) ⌝ }
+{
+    let id = c.publisher;
+    let publisher = publisher_record(s, id, c.publisher_end);
+    let p = c.payload;
+    Message {
+        publisher,
+        writer: c.writer,
+        number: p.number,
+        total: p.total,
+    }
+}
+
+// Takes a chunk in from a datagram: 12, the chunk's own numbers, 11, 13, 14.
 pub fn take_in(
     rec: PartialRecord,
     payload: &mut [u8],
     marks: &mut [u8],
-    read: ChunkRead,
-    bytes: &[u8],
+    datagram: &[u8],
+    sizes: &[u16],
 ) -> Outcome
-    ensures { λ r. ⌜ stepOf r (now (payload .exit)) (now (marks .exit)) ≡ takeIn (partial rec (now (payload .entry)) (now (marks .entry))) (readingOf read (now (bytes .entry))) ⌝ }
+    ensures { λ r. ⌜ stepOf r (now (payload .exit)) (now (marks .exit)) ≡ takeIn (partial rec (now (payload .entry)) (now (marks .entry))) (readingAt (now (sizes .entry)) (now (datagram .entry))) ⌝ }
 {
-    let verdict = judge_reading(rec, payload, marks, read, bytes);
-    if let Verdict::Refused(_, _) = verdict {
-        return Outcome { verdict, rec };
+    if !is_sound(rec, payload.len(), marks.len()) {
+        return Outcome {
+            verdict: Verdict::Refused(12, 0),
+            rec,
+        };
     }
-    let c = read.chunk;
-    let m = c.message;
-    let end = c.offset + bytes.len();
-    let next = begin(rec, marks, m);
-    store_data(payload, c.offset, bytes);
-    mark_range(marks, c.offset, end);
-    Outcome { verdict, rec: next }
+    match chunk::datagram::read(datagram, sizes) {
+        ChunkRead::Refused(n, place) => Outcome {
+            verdict: Verdict::Refused(n, place),
+            rec,
+        },
+        ChunkRead::Is(c, _) => {
+            let p = c.payload;
+            let bytes = part(datagram, p.first, p.length);
+            take_chunk(rec, payload, marks, message_of(datagram, c), p.offset, bytes)
+        }
+    }
 }
 
 // Combines another partial into this one: 12 for either, 11, 13, 14. The source stays as it is.

@@ -2,13 +2,13 @@
 ghost use mathlib.Core.Path.{_≡_};
 ghost use Rattle.reassembly.specs.Record.{identityOf, sameMessage, soundBy};
 use crate::marks::marks_for;
-use crate::publisher::PublisherId;
-use crate::publisher::publisher_fits;
-use crate::publisher::same_publisher;
+use network_message::publisher_record::PublisherRecord;
+use network_message::publisher_record::publisher_fits;
+use network_message::publisher_record::same_publisher;
 
 // Which message: publisher, DataSetWriterId, MessageSequenceNumber and TotalSize.
 pub struct Message {
-    pub publisher: PublisherId,
+    pub publisher: PublisherRecord,
     pub writer: u16,
     pub number: u16,
     pub total: usize,

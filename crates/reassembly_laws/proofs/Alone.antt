@@ -6,24 +6,24 @@ use mathlib.Core.List.{List}
 use native.Mathlib.Omega.{arith}
 use lib.ListN.{length, replicate, length-replicate}
 use borrow.Author.Tests.{le-leb, eq-eqb}
 use Rattle.reassembly.specs.Views.{View, dataView}
 use Rattle.reassembly.specs.Marks.{marksFor}
 use Rattle.reassembly.specs.Record.{Partial, partial, soundBy, Good}
-use Rattle.reassembly.specs.ChunkRead.{Proper}
-use Rattle.reassembly.specs.ChunkRead.Reading.{chunk}
+use Rattle.reassembly.specs.Reading.{Proper}
+use Rattle.reassembly.specs.Reading.Reading.{chunk}
 use Rattle.reassembly.specs.Machine.{State, viewIn, judgeState, acceptState}
 use Rattle.reassembly.specs.Machine.State.{idle, held}
 use Rattle.reassembly.specs.Judge.{viewOf, stateOf, alone, judgeReading, judgeCombine}
 use Rattle.reassembly.specs.Operations.{put, takeIn, combine}
-use Rattle.reassembly.specs.History.{ifAccepted}
+use Rattle.reassembly_laws.specs.History.{ifAccepted}
 use Rattle.reassembly.specs.declared.record.Message.{Message}
 use Rattle.reassembly.specs.declared.verdict.Verdict.{Verdict}
 use Rattle.reassembly.specs.declared.verdict.Verdict.the-variants.{Done}
 use Rattle.reassembly.proofs.Cases.{by-bool}
 use Rattle.reassembly.proofs.ViewLaws.{data-above}
 use Rattle.reassembly.proofs.JudgeLaws
-use Rattle.reassembly.proofs.Following
-use Rattle.reassembly.proofs.Combining
+use Rattle.reassembly_laws.proofs.Following
+use Rattle.reassembly_laws.proofs.Combining
 
 -- the areas do not depend on the message
 pub put-payload : (s : Partial) (m k : Message) (v : View) → put m v s .payload ≡ put k v s .payload

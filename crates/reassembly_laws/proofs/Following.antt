@@ -8,30 +8,29 @@ use mathlib.Core.Option.{none}
 use native.Mathlib.Omega.{arith}
 use lib.ListN.{length}
 use borrow.Author.Tests.{le-leb, eq-eqb}
 use Rattle.reassembly.specs.Views.{View, clash, full, has, dataView, joined, nowhere, laid}
 use Rattle.reassembly.specs.Marks.{marksFor, cleared, markAll}
 use Rattle.reassembly.specs.Areas.{markedView}
-use Rattle.reassembly.specs.Publisher.{publisherFits}
+use Rattle.network_message.specs.PublisherRecord.{publisherFits}
 use Rattle.reassembly.specs.Record.{Identity, identityOf, Partial, partial, soundBy, Good}
-use Rattle.reassembly.specs.ChunkRead.{Reading, readingOf, ProperReading}
-use Rattle.reassembly.specs.ChunkRead.Reading.{chunk, refusal}
+use Rattle.reassembly.specs.Reading.{Reading, readingAt, ProperReading}
+use Rattle.reassembly.specs.Reading.Reading.{chunk, refusal}
 use Rattle.reassembly.specs.Machine.{State, judge, accept, acceptState, complete}
 use Rattle.reassembly.specs.Machine.State.{idle, held}
 use Rattle.reassembly.specs.Judge.{viewOf, stateOf, alone, readingVerdict, judgeReading, judgeCombine}
 use Rattle.reassembly.specs.Operations.{Step, begunMarks, put, takeIn, combine, emptied, yesNo, askComplete, handOutBy, judgeHandOut, handOut}
-use Rattle.reassembly.specs.History.{Call, replyOf, saidOf, said, handedOf, answers, leaves, verdictOf, whole, says, ifAccepted, keeps}
-use Rattle.reassembly.specs.History.Call.{Empty, Take, Combine, Ask, HandOut}
-use Rattle.reassembly.specs.declared.chunk_read.ChunkRead.{ChunkRead}
+use Rattle.reassembly_laws.specs.History.{Call, replyOf, saidOf, said, handedOf, answers, leaves, verdictOf, whole, says, ifAccepted, keeps}
+use Rattle.reassembly_laws.specs.History.Call.{Empty, Take, Combine, Ask, HandOut}
 use Rattle.reassembly.specs.declared.record.Message.{Message}
 use Rattle.reassembly.specs.declared.record.PartialRecord.{PartialRecord}
 use Rattle.reassembly.specs.declared.verdict.Verdict.{Verdict}
 use Rattle.reassembly.specs.declared.verdict.Verdict.the-variants.{Done, Refused}
 use Rattle.reassembly.proofs.Cases.{by-bool}
 use Rattle.reassembly.proofs.ViewLaws.{length-laid, data-above, clash-none, joined-nowhere}
 use Rattle.reassembly.proofs.MarkLaws.{length-cleared, length-markAll}
 use Rattle.reassembly.proofs.AreaLaws.{marked-above, cleared-nowhere, view-put, full-bytes}
 use Rattle.reassembly.proofs.SameLaws.{same-message-true}
 use Rattle.reassembly.proofs.JudgeLaws
 
 -- a message that a sound partial of n bytes can have
 pub record Fit (m : Message) (n : ℕ) : Type 0 where
@@ -186,9 +185,9 @@ module _ (s : Partial) (ok : Good s) where
     room = refl;
   }
 
-  follow-take : (r : ChunkRead) (d : List ℕ) → Follows (Take r d) s
-  follow-take r d =
-      let t = take-stepped s ok (readingOf r d) (JudgeLaws.reading-proper r d) in
+  follow-take : (d sizes : List ℕ) → Follows (Take d sizes) s
+  follow-take d sizes =
+      let t = take-stepped s ok (readingAt sizes d) (JudgeLaws.reading-proper sizes d) in
       record { reply = ap replyOf (t .verdict); state = t .state; good = t .good; room = t .room }
 
   follow-combine : (f : Partial) → Follows (Combine f) s
@@ -213,7 +212,7 @@ module _ (s : Partial) (ok : Good s) where
 
   pub follow : (k : Call) → Follows k s
   follow Empty = follow-empty
-  follow (Take r d) = follow-take r d
+  follow (Take d sizes) = follow-take d sizes
   follow (Combine f) = follow-combine f
   follow Ask = follow-ask
   follow HandOut = follow-hand

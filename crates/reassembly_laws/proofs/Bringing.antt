@@ -8,23 +8,23 @@ use mathlib.Core.Option.{Option, some, none, orElse, Option·getD, Option·none-
 use native.Mathlib.Omega.{arith}
 use lib.ListN.{length, getD}
 use lib.Seq.{ext-getD}
 use Rattle.reassembly.specs.Views.{View, isSome, differs, clash, joined, nowhere, bytesOf}
 use Rattle.reassembly.specs.Record.{Identity, Partial, sound}
-use Rattle.reassembly.specs.ChunkRead.{Reading, readingOf, ProperReading}
-use Rattle.reassembly.specs.ChunkRead.Reading.{chunk, refusal}
+use Rattle.reassembly.specs.Reading.{Reading, readingAt, ProperReading}
+use Rattle.reassembly.specs.Reading.Reading.{chunk, refusal}
 use Rattle.reassembly.specs.Machine.{State, viewIn, judge, judgeState, accept, acceptState, complete}
 use Rattle.reassembly.specs.Machine.State.{idle, held}
 use Rattle.reassembly.specs.Judge.{stateOf, alone, readingVerdict}
-use Rattle.reassembly.specs.History.{Call, Brought, verdictOf, keeps, ifAccepted, whole, machineFinal, withBrought, broughtBy, brought, Brings, AllOf}
-use Rattle.reassembly.specs.History.Call.{Empty, Take, Combine, Ask, HandOut}
+use Rattle.reassembly_laws.specs.History.{Call, Brought, verdictOf, keeps, ifAccepted, whole, machineFinal, withBrought, broughtBy, brought, Brings, AllOf}
+use Rattle.reassembly_laws.specs.History.Call.{Empty, Take, Combine, Ask, HandOut}
 use Rattle.reassembly.specs.declared.verdict.Verdict.{Verdict}
 use Rattle.reassembly.specs.declared.verdict.Verdict.the-variants.{Done, Refused}
 use Rattle.reassembly.proofs.Cases.{by-bool, by-lt}
 use Rattle.reassembly.proofs.ViewLaws.{length-tab, getD-tab, full-some, none-clash, data-above, first-known, differs-none}
 use Rattle.reassembly.proofs.AreaLaws.{marked-above}
 use Rattle.reassembly.proofs.SameLaws.{same-message-true}
 use Rattle.reassembly.proofs.JudgeLaws.{refused-done, judge-meets, meet-same, meet-free, reading-proper}
-use Rattle.reassembly.proofs.StateLaws.{Bounded}
+use Rattle.reassembly_laws.proofs.StateLaws.{Bounded}
 
 pub bounded : (s : Partial) → Bounded (stateOf s)
 bounded s =
@@ -98,8 +98,8 @@ source-done n s f e = by-bool _ (sound f) (λ t. rw t at e) (λ t. absurd (refus
 
 log-turn : (n : ℕ) (k : Call) (s : State) (l : List Brought) → Log s l → Log (keeps n k s) (broughtBy n k s l)
 log-turn n Empty s l g = log-none
-log-turn n (Take r d) s l g =
-    log-step n s l _ _ (alone-bounded (readingOf r d) (reading-proper r d)) (reading-done n s (readingOf r d)) g
+log-turn n (Take d sizes) s l g =
+    log-step n s l _ _ (alone-bounded (readingAt sizes d) (reading-proper sizes d)) (reading-done n s (readingAt sizes d)) g
 log-turn n (Combine f) s l g = log-step n s l _ _ (bounded f) (source-done n s f) g
 log-turn n Ask s l g = g
 log-turn n HandOut s l g = g

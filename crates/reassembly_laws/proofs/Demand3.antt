@@ -8,29 +8,29 @@ use mathlib.Core.Option.{some}
 use native.Mathlib.Omega.{arith}
 use lib.ListN.{length}
 use lib.Seq.{length-take-le}
 use Rattle.reassembly.specs.Views.{dataView}
 use Rattle.reassembly.specs.Record.{Partial, Good}
-use Rattle.reassembly.specs.ChunkRead.{Reading, Proper}
-use Rattle.reassembly.specs.ChunkRead.Reading.{chunk}
+use Rattle.reassembly.specs.Reading.{Reading, Proper}
+use Rattle.reassembly.specs.Reading.Reading.{chunk}
 use Rattle.reassembly.specs.Machine.{State, viewIn, between, complete}
 use Rattle.reassembly.specs.Machine.State.{idle, held}
 use Rattle.reassembly.specs.Judge.{viewOf, stateOf, Complete, Equal, alone, judgeReading, judgeCombine}
 use Rattle.reassembly.specs.Operations.{Step, stepBy, put, putReading, takeIn, combine, yesNo, askComplete, judgeHandOut, handOut}
-use Rattle.reassembly.specs.History.{Call, replies, final, machineReplies, machineFinal, brought, Brings, AllOf, leaves}
-use Rattle.reassembly.specs.Combining.{isRefused, someDisagree, EqualRoom, leftVerdict, leftResult, rightVerdict, rightResult}
+use Rattle.reassembly_laws.specs.History.{Call, replies, final, machineReplies, machineFinal, brought, Brings, AllOf, leaves}
+use Rattle.reassembly_laws.specs.Combining.{isRefused, someDisagree, EqualRoom, leftVerdict, leftResult, rightVerdict, rightResult}
 use Rattle.reassembly.specs.declared.record.Message.{Message}
 use Rattle.reassembly.specs.declared.verdict.Completeness.the-variants as C
 use Rattle.reassembly.specs.declared.verdict.Verdict.{Verdict}
 use Rattle.reassembly.specs.declared.verdict.Verdict.the-variants.{Done, Refused}
 use Rattle.reassembly.proofs.Cases.{by-bool}
-use Rattle.reassembly.proofs.Alone
+use Rattle.reassembly_laws.proofs.Alone
 use Rattle.reassembly.proofs.ViewLaws.{full-some, full-all}
 use Rattle.reassembly.proofs.AreaLaws.{laid-self, marks-again}
 use Rattle.reassembly.proofs.JudgeLaws
-use Rattle.reassembly.proofs.StateLaws
-use Rattle.reassembly.proofs.Following
-use Rattle.reassembly.proofs.Bringing
-use Rattle.reassembly.proofs.Combining
+use Rattle.reassembly_laws.proofs.StateLaws
+use Rattle.reassembly_laws.proofs.Following
+use Rattle.reassembly_laws.proofs.Bringing
+use Rattle.reassembly_laws.proofs.Combining
 
 -- ---- ANY LIST OF CALLS from a good, just emptied partial: every answer is the plain machine's, the partial afterwards is equal to what the
 -- machine keeps, and it stays good; n is the area's length, and from is what the machine starts with

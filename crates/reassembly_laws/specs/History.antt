@@ -6,23 +6,22 @@ use mathlib.Core.Path.{_≡_}
 use mathlib.Core.Logic.{_⊎_}
 use mathlib.Core.Option.{some}
 use lib.ListN.{length, getD}
 use Rattle.reassembly.specs.Views.{View, bytesOf}
 use Rattle.reassembly.specs.Record.{Identity, Partial, partial, sound}
-use Rattle.reassembly.specs.ChunkRead.{readingOf}
+use Rattle.reassembly.specs.Reading.{readingAt}
 use Rattle.reassembly.specs.Machine.{State, judgeState, acceptState, complete}
 use Rattle.reassembly.specs.Machine.State.{idle, held}
 use Rattle.reassembly.specs.Judge.{stateOf, alone, readingVerdict}
 use Rattle.reassembly.specs.Operations.{takeIn, combine, emptied, askComplete, judgeHandOut, handOut}
-use Rattle.reassembly.specs.declared.chunk_read.ChunkRead.{ChunkRead}
 use Rattle.reassembly.specs.declared.verdict.Completeness.{Completeness}
 use Rattle.reassembly.specs.declared.verdict.Completeness.the-variants as C
 use Rattle.reassembly.specs.declared.verdict.Verdict.{Verdict}
 use Rattle.reassembly.specs.declared.verdict.Verdict.the-variants.{Done, Refused}
 
 -- a call, with what it is handed besides the partial
 pub data Call : Type 0 where
   Empty : Call
-  Take : ChunkRead → List ℕ → Call
+  Take : List ℕ → List ℕ → Call
   Combine : Partial → Call
   Ask : Call
   HandOut : Call
@@ -50,14 +49,14 @@ handedOf (Refused n p) l = refused n p
 -- ---- the code: what a call answers, and the partial that it leaves
 abbrev pub answers : Call → Partial → Reply
 answers Empty s = done
-answers (Take r d) s = replyOf (takeIn s (readingOf r d) .verdict)
+answers (Take d sizes) s = replyOf (takeIn s (readingAt sizes d) .verdict)
 answers (Combine f) s = replyOf (combine s f .verdict)
 answers Ask s = saidOf (askComplete s)
 answers HandOut s = handedOf (judgeHandOut s) (handOut s)
 
 abbrev pub leaves : Call → Partial → Partial
 leaves Empty s = partial (emptied (s .rec)) (s .payload) (s .marks)
-leaves (Take r d) s = takeIn s (readingOf r d) .after
+leaves (Take d sizes) s = takeIn s (readingAt sizes d) .after
 leaves (Combine f) s = combine s f .after
 leaves Ask s = s
 leaves HandOut s = s
@@ -75,7 +74,7 @@ final (k ∷ ks) s = final ks (leaves k s)
 -- what a call brings where it is accepted: a chunk alone, or what a source covers
 abbrev pub brings : Call → State
 brings Empty = idle
-brings (Take r d) = alone (readingOf r d)
+brings (Take d sizes) = alone (readingAt sizes d)
 brings (Combine f) = stateOf f
 brings Ask = idle
 brings HandOut = idle
@@ -83,7 +82,7 @@ brings HandOut = idle
 -- by which number the machine refuses a call: it accepts one that it answers done
 abbrev pub verdictOf : ℕ → Call → State → Verdict
 verdictOf n Empty s = Done
-verdictOf n (Take r d) s = readingVerdict n s (readingOf r d)
+verdictOf n (Take d sizes) s = readingVerdict n s (readingAt sizes d)
 verdictOf n (Combine f) s = cond (sound f) (judgeState n s (stateOf f)) (Refused 12 0)
 verdictOf n Ask s = Done
 verdictOf n HandOut s = cond (complete s) Done (Refused 15 0)
@@ -96,7 +95,7 @@ whole (held m v) = bytesOf (m .total) v
 -- what it answers
 abbrev pub says : ℕ → Call → State → Reply
 says n Empty s = done
-says n (Take r d) s = replyOf (verdictOf n (Take r d) s)
+says n (Take d sizes) s = replyOf (verdictOf n (Take d sizes) s)
 says n (Combine f) s = replyOf (verdictOf n (Combine f) s)
 says n Ask s = said (complete s)
 says n HandOut s = handedOf (verdictOf n HandOut s) (whole s)
@@ -108,7 +107,7 @@ ifAccepted (Refused n p) s t = s
 -- what it keeps afterwards
 abbrev pub keeps : ℕ → Call → State → State
 keeps n Empty s = idle
-keeps n (Take r d) s = ifAccepted (verdictOf n (Take r d) s) s (acceptState s (brings (Take r d)))
+keeps n (Take d sizes) s = ifAccepted (verdictOf n (Take d sizes) s) s (acceptState s (brings (Take d sizes)))
 keeps n (Combine f) s = ifAccepted (verdictOf n (Combine f) s) s (acceptState s (brings (Combine f)))
 keeps n Ask s = s
 keeps n HandOut s = s
@@ -134,7 +133,7 @@ withBrought (Refused n p) t l = l
 
 abbrev pub broughtBy : ℕ → Call → State → List Brought → List Brought
 broughtBy n Empty s l = []
-broughtBy n (Take r d) s l = withBrought (verdictOf n (Take r d) s) (brings (Take r d)) l
+broughtBy n (Take d sizes) s l = withBrought (verdictOf n (Take d sizes) s) (brings (Take d sizes)) l
 broughtBy n (Combine f) s l = withBrought (verdictOf n (Combine f) s) (brings (Combine f)) l
 broughtBy n Ask s l = l
 broughtBy n HandOut s l = l

@@ -3,16 +3,16 @@ use Prim.Native.Nat.{ℕ, _≤_}
 use mathlib.Core.Path.{_≡_, refl, sym, ap, ap₂, _∙_, fun-ext}
 use mathlib.Core.Bool.{false}
 use mathlib.Core.Option.{none}
 use Rattle.reassembly.specs.Views.{clash, differs}
 use Rattle.reassembly.specs.Record.{Identity, sameMessage}
 use Rattle.reassembly.specs.Machine.{State, between, acceptState}
 use Rattle.reassembly.specs.Machine.State.{idle, held}
 use Rattle.reassembly.specs.declared.verdict.Verdict.the-variants.{Done}
 use Rattle.reassembly.proofs.Cases.{by-bool, by-lt}
 use Rattle.reassembly.proofs.ViewLaws.{clash-none, none-clash}
 use Rattle.reassembly.proofs.SameLaws.{same-message-true, same-message-yes, same-message-comm}
 use Rattle.reassembly.proofs.JudgeLaws.{meet-same, meet-free}
-use Rattle.reassembly.proofs.JoinLaws.{clash-comm, differs-refl, differs-comm, first-comm, first-assoc, differs-first, differs-left, differs-right}
+use Rattle.reassembly_laws.proofs.JoinLaws.{clash-comm, differs-refl, differs-comm, first-comm, first-assoc, differs-first, differs-left, differs-right}
 
 -- no byte at or above total
 abbrev pub Bounded : State → Type 0
