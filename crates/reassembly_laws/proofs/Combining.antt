@@ -1,16 +1,16 @@
--- Two good partials of equal room combined: by their states alone. Assumes nothing.
-use Prim.Native.Nat.{_≤_}
+-- Good partials whose totals are not above the areas, combined: by their states alone. Assumes nothing.
+use Prim.Native.Nat.{ℕ}
 use mathlib.Core.Path.{_≡_, refl, sym, ap, _∙_}
 use mathlib.Core.Bool.{Bool, true, false, _||_, true≢false}
-use native.Mathlib.Omega.{arith}
 use lib.ListN.{length}
 use borrow.Author.Tests.{le-leb}
 use Rattle.reassembly.specs.Record.{Partial, Good}
-use Rattle.reassembly.specs.Machine.{State, between, acceptState}
+use Rattle.reassembly.specs.Machine.{State, between, judgeState, acceptState}
+use Rattle.reassembly.specs.Machine.State.{idle, held}
 use Rattle.reassembly.specs.Judge.{stateOf, judgeCombine}
 use Rattle.reassembly.specs.Operations.{combine}
 use Rattle.reassembly_laws.specs.History.{ifAccepted}
-use Rattle.reassembly_laws.specs.Combining.{isRefused, onDone, disagree, someDisagree, EqualRoom, leftVerdict, leftResult, rightVerdict, rightResult}
+use Rattle.reassembly_laws.specs.Combining.{isRefused, onDone, disagree, someDisagree, FitsIn, Room, Three, leftVerdict, leftResult, rightVerdict, rightResult}
 use Rattle.reassembly.specs.declared.verdict.Verdict.{Verdict}
 use Rattle.reassembly.specs.declared.verdict.Verdict.the-variants.{Done, Refused}
 use Rattle.reassembly.proofs.Cases.{by-bool}
@@ -34,15 +34,29 @@ module _ (a b : Partial) (ga : Good a) where
       combine-stepped a ga b .state
       ∙ ap (λ (v : Verdict). ifAccepted v (stateOf a) (acceptState (stateOf a) (stateOf b))) (sym (combine-stepped a ga b .verdict) ∙ e)
 
-module _ (a b : Partial) (ga : Good a) (gb : Good b) (room : EqualRoom a b) where
+-- what fits is refused by 13 and 14 only
+fits-judged : (n : ℕ) (s t : State) → FitsIn n t → judgeState n s t ≡ between s t
+fits-judged n s idle h = refl
+fits-judged n s (held m v) h = rw (le-leb (m .total) n h)
+
+fits-accepted : (n : ℕ) (s t : State) → FitsIn n s → FitsIn n t → FitsIn n (acceptState s t)
+fits-accepted n idle idle h k = tt
+fits-accepted n idle (held m v) h k = k
+fits-accepted n (held l w) idle h k = h
+fits-accepted n (held l w) (held m v) h k = h
+
+-- what a sound partial holds fits its own area, and so any area that is equally long
+pub own-room : (a : Partial) → Good a → Room a a
+own-room a ga =
+    by-bool _ (a .rec .started) (λ e. rw e (sound-total (a .rec) _ _ (ga .is-sound) e)) (λ e. rw e tt)
+
+pub equal-room : (a b : Partial) → Good b → length (a .payload) ≡ length (b .payload) → Room a b
+equal-room a b gb e = rw e (own-room b gb)
+
+module _ (a b : Partial) (ga : Good a) (gb : Good b) (room : Room a b) where
   pub judged-between : judgeCombine a b ≡ between (stateOf a) (stateOf b)
   judged-between =
-      combine-judged a b (ga .is-sound) (gb .is-sound)
-      ∙ by-bool _ (b .rec .started)
-      (λ e.
-      let u : b .rec .message .total ≤ length (b .payload) = sound-total (b .rec) _ _ (gb .is-sound) e in
-      rw (e, le-leb (b .rec .message .total) (length (a .payload)) (omega arith)))
-      (λ e. rw e)
+      combine-judged a b (ga .is-sound) (gb .is-sound) ∙ fits-judged (length (a .payload)) (stateOf a) (stateOf b) room
 
   pub verdict-between : combine a b .verdict ≡ between (stateOf a) (stateOf b)
   verdict-between = combined-verdict a b ga ∙ judged-between
@@ -93,20 +107,29 @@ pub record Pairwise (a b c : Partial) : Type 0 where
   pub bc : combine b c .verdict ≡ Done
   pub ac : combine a c .verdict ≡ Done
 
-module _ (a b c : Partial) (ga : Good a) (gb : Good b) (gc : Good c) (ab : EqualRoom a b) (bc : EqualRoom b c) where
+module _ (a b c : Partial) (w : Three a b c) where
+  ga : Good a
+  ga = w .first
+
+  gb : Good b
+  gb = w .second
+
+  gc : Good c
+  gc = w .third
+
   pub pairwise : someDisagree a b c ≡ false → Pairwise a b c
   pairwise e =
       let h = or-none (disagree a b) (disagree b c) (disagree a c) e in
-      record { ab = agree-accepts a b ga gb ab (h .0); bc = agree-accepts b c gb gc bc (h .1); ac = agree-accepts a c ga gc (ab ∙ bc) (h .2) }
+      record { ab = agree-accepts a b ga gb (w .ab) (h .0); bc = agree-accepts b c gb gc (w .bc) (h .1); ac = agree-accepts a c ga gc (w .ac) (h .2) }
 
   pub pairwise-agree : Pairwise a b c → someDisagree a b c ≡ false
-  pairwise-agree p = rw (accepts-agree a b ga gb ab (p .ab), accepts-agree b c gb gc bc (p .bc)) (accepts-agree a c ga gc (ab ∙ bc) (p .ac))
+  pairwise-agree p = rw (accepts-agree a b ga gb (w .ab) (p .ab), accepts-agree b c gb gc (w .bc) (p .bc)) (accepts-agree a c ga gc (w .ac) (p .ac))
 
-  left-room : EqualRoom (combine a b .after) c
-  left-room = combined-room a b ga ∙ ab ∙ bc
+  left-room : Room (combine a b .after) c
+  left-room = rw (combined-room a b ga) (w .ac)
 
-  right-room : EqualRoom a (combine b c .after)
-  right-room = ab ∙ sym (combined-room b c gb)
+  right-room : combine b c .verdict ≡ Done → Room a (combine b c .after)
+  right-room e = rw (done-state b c gb e) (fits-accepted (length (a .payload)) (stateOf b) (stateOf c) (w .ab) (w .ac))
 
   pub left-pairs : leftVerdict a b c ≡ Done → Pairwise a b c
   left-pairs e =
@@ -115,15 +138,15 @@ module _ (a b c : Partial) (ga : Good a) (gb : Good b) (gc : Good c) (ab : Equal
       let g : StateLaws.Agree (acceptState (stateOf a) (stateOf b)) (stateOf c) = rw (done-state a b ga e₁) at (done-agree (combine a b .after) c (combined-good a b ga) gc left-room e₂) in
       record {
         ab = e₁;
-        bc = agree-done b c gb gc bc (StateLaws.agree-right (stateOf a) (stateOf b) (stateOf c) (done-agree a b ga gb ab e₁) g);
-        ac = agree-done a c ga gc (ab ∙ bc) (StateLaws.agree-left (stateOf a) (stateOf b) (stateOf c) g);
+        bc = agree-done b c gb gc (w .bc) (StateLaws.agree-right (stateOf a) (stateOf b) (stateOf c) (done-agree a b ga gb (w .ab) e₁) g);
+        ac = agree-done a c ga gc (w .ac) (StateLaws.agree-left (stateOf a) (stateOf b) (stateOf c) g);
       }
 
   left-second : Pairwise a b c → combine (combine a b .after) c .verdict ≡ Done
   left-second p =
       agree-done (combine a b .after) c (combined-good a b ga) gc left-room
       (rw (done-state a b ga (p .ab))
-      (StateLaws.agree-both (stateOf a) (stateOf b) (stateOf c) (done-agree a c ga gc (ab ∙ bc) (p .ac)) (done-agree b c gb gc bc (p .bc))))
+      (StateLaws.agree-both (stateOf a) (stateOf b) (stateOf c) (done-agree a c ga gc (w .ac) (p .ac)) (done-agree b c gb gc (w .bc) (p .bc))))
 
   pub pairs-left : Pairwise a b c → leftVerdict a b c ≡ Done
   pairs-left p = done-both _ _ (p .ab) (left-second p)
@@ -132,18 +155,18 @@ module _ (a b c : Partial) (ga : Good a) (gb : Good b) (gc : Good c) (ab : Equal
   right-pairs e =
       let e₁ : combine b c .verdict ≡ Done = done-first (combine b c .verdict) (combine a (combine b c .after) .verdict) e in
       let e₂ : combine a (combine b c .after) .verdict ≡ Done = done-second (combine b c .verdict) (combine a (combine b c .after) .verdict) e in
-      let h : StateLaws.Agree (stateOf a) (acceptState (stateOf b) (stateOf c)) = rw (done-state b c gb e₁) at (done-agree a (combine b c .after) ga (combined-good b c gb) right-room e₂) in
+      let h : StateLaws.Agree (stateOf a) (acceptState (stateOf b) (stateOf c)) = rw (done-state b c gb e₁) at (done-agree a (combine b c .after) ga (combined-good b c gb) (right-room e₁) e₂) in
       let g = StateLaws.agree-comm (stateOf a) (acceptState (stateOf b) (stateOf c)) h in
       record {
-        ab = agree-done a b ga gb ab (StateLaws.agree-comm (stateOf b) (stateOf a) (StateLaws.agree-left (stateOf b) (stateOf c) (stateOf a) g));
+        ab = agree-done a b ga gb (w .ab) (StateLaws.agree-comm (stateOf b) (stateOf a) (StateLaws.agree-left (stateOf b) (stateOf c) (stateOf a) g));
         bc = e₁;
-        ac = agree-done a c ga gc (ab ∙ bc) (StateLaws.agree-comm (stateOf c) (stateOf a) (StateLaws.agree-right (stateOf b) (stateOf c) (stateOf a) (done-agree b c gb gc bc e₁) g));
+        ac = agree-done a c ga gc (w .ac) (StateLaws.agree-comm (stateOf c) (stateOf a) (StateLaws.agree-right (stateOf b) (stateOf c) (stateOf a) (done-agree b c gb gc (w .bc) e₁) g));
       }
 
   right-second : Pairwise a b c → combine a (combine b c .after) .verdict ≡ Done
   right-second p =
-      let g = StateLaws.agree-both (stateOf b) (stateOf c) (stateOf a) (StateLaws.agree-comm (stateOf a) (stateOf b) (done-agree a b ga gb ab (p .ab))) (StateLaws.agree-comm (stateOf a) (stateOf c) (done-agree a c ga gc (ab ∙ bc) (p .ac))) in
-      agree-done a (combine b c .after) ga (combined-good b c gb) right-room
+      let g = StateLaws.agree-both (stateOf b) (stateOf c) (stateOf a) (StateLaws.agree-comm (stateOf a) (stateOf b) (done-agree a b ga gb (w .ab) (p .ab))) (StateLaws.agree-comm (stateOf a) (stateOf c) (done-agree a c ga gc (w .ac) (p .ac))) in
+      agree-done a (combine b c .after) ga (combined-good b c gb) (right-room (p .bc))
       (rw (done-state b c gb (p .bc)) (StateLaws.agree-comm (acceptState (stateOf b) (stateOf c)) (stateOf a) g))
 
   pub pairs-right : Pairwise a b c → rightVerdict a b c ≡ Done

@@ -10,14 +10,17 @@ use lib.ListN.{length}
 use lib.Seq.{length-take-le}
 use Rattle.reassembly.specs.Views.{dataView}
 use Rattle.reassembly.specs.Record.{Partial, Good}
-use Rattle.reassembly.specs.Reading.{Reading, Proper}
+use Rattle.reassembly.specs.Reading.{Reading, Proper, messageOf, readingAt}
+use Rattle.wire.specs.Answer.{got}
+use Rattle.chunk.specs.Datagram.{chunkAt, chunkData}
+use Rattle.chunk.specs.declared.datagram.ChunkPlace.{ChunkPlace}
 use Rattle.reassembly.specs.Reading.Reading.{chunk}
 use Rattle.reassembly.specs.Machine.{State, viewIn, between, complete}
 use Rattle.reassembly.specs.Machine.State.{idle, held}
 use Rattle.reassembly.specs.Judge.{viewOf, stateOf, Complete, Equal, alone, judgeReading, judgeCombine}
 use Rattle.reassembly.specs.Operations.{Step, stepBy, put, putReading, takeIn, combine, yesNo, askComplete, judgeHandOut, handOut}
 use Rattle.reassembly_laws.specs.History.{Call, replies, final, machineReplies, machineFinal, brought, Brings, AllOf, leaves}
-use Rattle.reassembly_laws.specs.Combining.{isRefused, someDisagree, EqualRoom, leftVerdict, leftResult, rightVerdict, rightResult}
+use Rattle.reassembly_laws.specs.Combining.{isRefused, someDisagree, Room, Pair, Three, leftVerdict, leftResult, rightVerdict, rightResult}
 use Rattle.reassembly.specs.declared.record.Message.{Message}
 use Rattle.reassembly.specs.declared.verdict.Completeness.the-variants as C
 use Rattle.reassembly.specs.declared.verdict.Verdict.{Verdict}
@@ -118,23 +121,27 @@ pub record Order (a b : Partial) : Type 0 where
   pub same-verdict : combine a b .verdict ≡ combine b a .verdict
   pub equal : combine a b .verdict ≡ Done → Equal (combine a b .after) (combine b a .after)
 
-pub combine-order : (a b : Partial) → Good a → Good b → EqualRoom a b → Order a b
-combine-order a b ga gb room =
-    let same : combine a b .verdict ≡ combine b a .verdict = Combining.verdict-between a b ga gb room ∙ StateLaws.between-comm (stateOf a) (stateOf b) ∙ sym (Combining.verdict-between b a gb ga (sym room)) in
+pub combine-order : (a b : Partial) → Pair a b → Order a b
+combine-order a b w =
+    let same : combine a b .verdict ≡ combine b a .verdict = Combining.verdict-between a b (w .first) (w .second) (w .room) ∙ StateLaws.between-comm (stateOf a) (stateOf b) ∙ sym (Combining.verdict-between b a (w .second) (w .first) (w .back)) in
     record {
       same-verdict = same;
-      equal = λ e. Combining.done-state a b ga e
-          ∙ StateLaws.accept-comm (stateOf a) (stateOf b) (Combining.done-agree a b ga gb room e)
-          ∙ sym (Combining.done-state b a gb (sym same ∙ e));
+      equal = λ e. Combining.done-state a b (w .first) e
+          ∙ StateLaws.accept-comm (stateOf a) (stateOf b) (Combining.done-agree a b (w .first) (w .second) (w .room) e)
+          ∙ sym (Combining.done-state b a (w .second) (sym same ∙ e));
     }
+
+-- areas of equal length meet what is asked
+pub equal-areas : (a b : Partial) → Good a → Good b → length (a .payload) ≡ length (b .payload) → Pair a b
+equal-areas a b ga gb e = record { first = ga; second = gb; room = Combining.equal-room a b gb e; back = Combining.equal-room b a ga (sym e) }
 
 -- ---- ONE NOT STARTED changes nothing, not even an uncovered byte
 pub combine-not-started : (a b : Partial) → Good a → Good b → b .rec .started ≡ false → combine a b ≡ record { verdict = Done; after = a }
 combine-not-started a b ga gb e = JudgeLaws.combine-done-idle a b (JudgeLaws.combine-idle a b (ga .is-sound) (gb .is-sound) e) e
 
 -- ---- AN EQUAL ONE changes nothing, not even an uncovered byte
-pub combine-equal : (a b : Partial) → Good a → Good b → EqualRoom a b → Equal a b → combine a b ≡ record { verdict = Done; after = a }
-combine-equal a b ga gb room q =
+pub combine-equal : (a b : Partial) → Good a → Good b → Equal a b → combine a b ≡ record { verdict = Done; after = a }
+combine-equal a b ga gb q =
     by-bool _ (b .rec .started)
     (λ e. by-bool _ (a .rec .started)
     (λ f.
@@ -146,6 +153,9 @@ combine-equal a b ga gb room q =
     isHeld : State → Bool
     isHeld idle = false
     isHeld (held m v) = true
+
+    room : Room a b
+    room = rw q at (Combining.own-room a ga)
 
     done : judgeCombine a b ≡ Done
     done = Combining.judged-between a b ga gb room ∙ ap (between (stateOf a)) (sym q) ∙ StateLaws.agree-done (stateOf a) (stateOf a) (StateLaws.agree-refl (stateOf a))
@@ -161,18 +171,18 @@ pub record Groupings (a b c : Partial) : Type 0 where
   pub right : isRefused (rightVerdict a b c) ≡ someDisagree a b c
   pub equal : someDisagree a b c ≡ false → Equal (leftResult a b c) (rightResult a b c)
 
-pub combine-groupings : (a b c : Partial) → Good a → Good b → Good c → EqualRoom a b → EqualRoom b c → Groupings a b c
-combine-groupings a b c ga gb gc ab bc = record {
-  left = Combining.refused-exactly (leftVerdict a b c) (someDisagree a b c) (λ e. agree (Combining.left-pairs a b c ga gb gc ab bc e)) (λ e. Combining.pairs-left a b c ga gb gc ab bc (pairs e));
-  right = Combining.refused-exactly (rightVerdict a b c) (someDisagree a b c) (λ e. agree (Combining.right-pairs a b c ga gb gc ab bc e)) (λ e. Combining.pairs-right a b c ga gb gc ab bc (pairs e));
-  equal = λ e. Combining.pairs-equal a b c ga gb gc ab bc (pairs e);
+pub combine-groupings : (a b c : Partial) → Three a b c → Groupings a b c
+combine-groupings a b c w = record {
+  left = Combining.refused-exactly (leftVerdict a b c) (someDisagree a b c) (λ e. agree (Combining.left-pairs a b c w e)) (λ e. Combining.pairs-left a b c w (pairs e));
+  right = Combining.refused-exactly (rightVerdict a b c) (someDisagree a b c) (λ e. agree (Combining.right-pairs a b c w e)) (λ e. Combining.pairs-right a b c w (pairs e));
+  equal = λ e. Combining.pairs-equal a b c w (pairs e);
 }
   where
     pairs : someDisagree a b c ≡ false → Combining.Pairwise a b c
-    pairs = Combining.pairwise a b c ga gb gc ab bc
+    pairs = Combining.pairwise a b c w
 
     agree : Combining.Pairwise a b c → someDisagree a b c ≡ false
-    agree = Combining.pairwise-agree a b c ga gb gc ab bc
+    agree = Combining.pairwise-agree a b c w
 
 -- ---- TAKING IN A CHUNK with no fault of its own equals combining with a partial that is that chunk alone: same answer, equal results, and
 -- the same bytes in both areas
@@ -214,6 +224,13 @@ take-is-combine s ok m at d o room = go (judgeReading s (chunk m at d)) refl
     go : (v : Verdict) → judgeReading s (chunk m at d) ≡ v → takeIn s (chunk m at d) ≡ combine s (Alone.chunkAlone (length (s .payload)) m at d)
     go (Refused n p) e = JudgeLaws.take-refused s (chunk m at d) n p e ∙ sym (JudgeLaws.combine-refused s _ n p (sym (Alone.judged s _ ok okf m at d q) ∙ e))
     go Done e = JudgeLaws.take-done s (chunk m at d) e ∙ sym (Alone.combined s _ ok okf m at d q e)
+
+-- so for a datagram that reads as a chunk
+pub datagram-is-combine : (s : Partial) → Good s → (sizes d : List ℕ) (c : ChunkPlace) (n : ℕ) → chunkAt sizes d ≡ got c n → c .payload .total ≤ length (s .payload)
+    → takeIn s (readingAt sizes d) ≡ combine s (Alone.chunkAlone (length (s .payload)) (messageOf c d) (c .payload .offset) (chunkData (got c n) d))
+datagram-is-combine s ok sizes d c n e room =
+    ap (takeIn s) (JudgeLaws.reading-got sizes d c n e)
+    ∙ take-is-combine s ok (messageOf c d) (c .payload .offset) (chunkData (got c n) d) (JudgeLaws.proper-got sizes d c n e) room
 
 -- ---- EVERY REFUSAL leaves the record and both areas as they were
 step-refused : (v : Verdict) (s t : Partial) (n p : ℕ) → stepBy v s t .verdict ≡ Refused n p → stepBy v s t .after ≡ s
