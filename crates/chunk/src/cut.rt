@@ -1,8 +1,8 @@
 // Cutting a payload into chunks.
 use wire::part::part;
+use wire::store::put_run;
 use wire::store::put16;
 use wire::store::put32;
-use wire::store::put_run;
 ghost use mathlib.Core.Path.{_≡_};
 ghost use Prim.Native.Nat.{_+_, _≤_, _<_};
 ghost use lib.ListN.{length};

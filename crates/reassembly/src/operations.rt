@@ -8,8 +8,8 @@ ghost use Rattle.reassembly.specs.Reading.Reading.{chunk};
 ghost use Rattle.reassembly.specs.Operations.{stepOf, begun, begunMarks, takeIn, combine, emptied, askComplete, judgeHandOut, handOut};
 use crate::areas::store_covered;
 use crate::areas::store_data;
-use crate::judge::judge_combine;
 use crate::judge::judge_chunk;
+use crate::judge::judge_combine;
 use crate::marks::all_marked;
 use crate::marks::clear;
 use crate::marks::mark_marked;
@@ -106,7 +106,14 @@ pub fn take_in(
         ChunkRead::Is(c, _) => {
             let p = c.payload;
             let bytes = part(datagram, p.first, p.length);
-            take_chunk(rec, payload, marks, message_of(datagram, c), p.offset, bytes)
+            take_chunk(
+                rec,
+                payload,
+                marks,
+                message_of(datagram, c),
+                p.offset,
+                bytes,
+            )
         }
     }
 }
