@@ -1,20 +1,24 @@
 // Chunks read from datagrams, and payloads cut, each worked out from document 01. The envelope D1 81 01 67 12 15 00 is: version 1 with
 // PublisherId, PayloadHeader and ExtendedFlags1; UInt16 and ExtendedFlags2; chunk; PublisherId 4711; DataSetWriterId 21. After its 7 bytes
 // the number stands at 7, the offset at 9, the total at 13, the data's length at 17 and the data at 21. A line has words and then writer,
-// number, offset, total, the data's place and length, and the data; or `bad`, number and place, and no data.
+// number, offset, total, the data's place and length, and the data; or `bad`, number and place, and no data. Of the lines of standard input
+// the envelope's refusals come first; then 4 at 0 without the chunk bit; then the payload's, left to right.
 use chunk::cut::Written;
 use chunk::cut::cut;
 use chunk::datagram::ChunkRead;
 use chunk::datagram::data;
 use chunk::datagram::read;
+use libc::STDIN_FILENO;
 use libc::STDOUT_FILENO;
 use text::hex::put_hex;
+use text::hex::read_hex;
+use text::words::find;
 use wire::part::part;
 
 fn main() {
-    chunks();
-    envelopes();
-    payloads();
+    let mut text = [0u8; 4096];
+    let n = io::read_full(STDIN_FILENO, &mut text);
+    vectors(part(&text, 0, n));
     cuts();
     large();
 }
@@ -34,8 +38,7 @@ fn refused(n: u8, place: usize) {
     number(place);
 }
 
-fn vector(words: &[u8], s: &[u8]) {
-    put(words);
+fn show(s: &[u8]) {
     put(b":");
     match read(s, &[]) {
         ChunkRead::Refused(n, place) => refused(n, place),
@@ -54,128 +57,25 @@ fn vector(words: &[u8], s: &[u8]) {
     put(b"]\n");
 }
 
-// Chunk 7 at 2 of 5 after several envelopes, and the largest total.
-fn chunks() {
-    vector(
-        b"publisher 4711",
-        b"\xd1\x81\x01\x67\x12\x15\x00\x07\x00\x02\x00\x00\x00\x05\x00\x00\x00\x03\x00\x00\x00\x63\x64\x65",
-    );
-    vector(
-        b"no PublisherId",
-        b"\xc1\x80\x01\x15\x00\x07\x00\x02\x00\x00\x00\x05\x00\x00\x00\x03\x00\x00\x00\x63\x64\x65",
-    );
-    vector(
-        b"publisher \"ab\"",
-        b"\xd1\x84\x01\x02\x00\x00\x00\x61\x62\x15\x00\x07\x00\x02\x00\x00\x00\x05\x00\x00\x00\x03\x00\x00\x00\x63\x64\x65",
-    );
-    vector(
-        b"a Timestamp",
-        b"\xd1\xa1\x01\x67\x12\x15\x00\x00\x00\x00\x00\x00\x00\x00\x00\x07\x00\x02\x00\x00\x00\x05\x00\x00\x00\x03\x00\x00\x00\x63\x64\x65",
-    );
-    vector(
-        b"promoted fields",
-        b"\xd1\x81\x03\x67\x12\x15\x00\x02\x00\x70\x71\x07\x00\x02\x00\x00\x00\x05\x00\x00\x00\x03\x00\x00\x00\x63\x64\x65",
-    );
-    vector(
-        b"total 16,384",
-        b"\xd1\x81\x01\x67\x12\x15\x00\x07\x00\xff\x3f\x00\x00\x00\x40\x00\x00\x01\x00\x00\x00\x61",
-    );
+// A line of standard input: a datagram in hex, a space and words.
+fn vector(text: &[u8]) {
+    put(text);
+    let n = find(text, b' ');
+    let mut s = [0u8; 128];
+    read_hex(&mut s, 0, part(text, 0, n));
+    show(part(&s, 0, n / 2));
 }
 
-// The envelope's refusals first; then 4 at 0 without the chunk bit; then the payload, left to right.
-fn envelopes() {
-    vector(
-        b"no byte",
-        b"",
-    );
-    vector(
-        b"version 2",
-        b"\xd2",
-    );
-    vector(
-        b"no chunk bit",
-        b"\xd1\x01\x67\x12\x01\x15\x00\x09\x05\x00\x02\x00\x05\x03\x00\x0a\x00\x00\x00\x3f",
-    );
-    vector(
-        b"no chunk bit, Count 0",
-        b"\x41\x00",
-    );
-    vector(
-        b"no PayloadHeader",
-        b"\x91\x81\x01\x67\x12\x07\x00\x02\x00\x00\x00\x05\x00\x00\x00\x03\x00\x00\x00\x63\x64\x65",
-    );
-    vector(
-        b"a string of 65 bytes",
-        b"\xd1\x84\x01\x41\x00\x00\x00",
-    );
-    vector(
-        b"nothing after the envelope",
-        b"\xd1\x81\x01\x67\x12\x15\x00",
-    );
-    vector(
-        b"number cut short",
-        b"\xd1\x81\x01\x67\x12\x15\x00\x07",
-    );
-    vector(
-        b"offset cut short",
-        b"\xd1\x81\x01\x67\x12\x15\x00\x07\x00\x00\x00\x00",
-    );
-    vector(
-        b"total cut short",
-        b"\xd1\x81\x01\x67\x12\x15\x00\x07\x00\x00\x00\x00\x00\x05\x00\x00",
-    );
-    vector(
-        b"total 0",
-        b"\xd1\x81\x01\x67\x12\x15\x00\x07\x00\x00\x00\x00\x00\x00\x00\x00\x00",
-    );
-    vector(
-        b"total 16,385",
-        b"\xd1\x81\x01\x67\x12\x15\x00\x07\x00\x00\x00\x00\x00\x01\x40\x00\x00",
-    );
-}
-
-// The data's length and the data.
-fn payloads() {
-    vector(
-        b"length cut short",
-        b"\xd1\x81\x01\x67\x12\x15\x00\x07\x00\x00\x00\x00\x00\x05\x00\x00\x00\x03\x00\x00",
-    );
-    vector(
-        b"length -2",
-        b"\xd1\x81\x01\x67\x12\x15\x00\x07\x00\x00\x00\x00\x00\x05\x00\x00\x00\xfe\xff\xff\xff",
-    );
-    vector(
-        b"null data",
-        b"\xd1\x81\x01\x67\x12\x15\x00\x07\x00\x00\x00\x00\x00\x05\x00\x00\x00\xff\xff\xff\xff",
-    );
-    vector(
-        b"empty data",
-        b"\xd1\x81\x01\x67\x12\x15\x00\x07\x00\x00\x00\x00\x00\x05\x00\x00\x00\x00\x00\x00\x00",
-    );
-    vector(
-        b"above total",
-        b"\xd1\x81\x01\x67\x12\x15\x00\x07\x00\x03\x00\x00\x00\x05\x00\x00\x00\x03\x00\x00\x00\x63\x64\x65",
-    );
-    vector(
-        b"longer than total",
-        b"\xd1\x81\x01\x67\x12\x15\x00\x07\x00\x00\x00\x00\x00\x02\x00\x00\x00\x03\x00\x00\x00\x63\x64\x65",
-    );
-    vector(
-        b"an offset of 4,294,967,295",
-        b"\xd1\x81\x01\x67\x12\x15\x00\x07\x00\xff\xff\xff\xff\x05\x00\x00\x00\x01\x00\x00\x00\x63",
-    );
-    vector(
-        b"above total, and cut short",
-        b"\xd1\x81\x01\x67\x12\x15\x00\x07\x00\x03\x00\x00\x00\x05\x00\x00\x00\x03\x00\x00\x00",
-    );
-    vector(
-        b"data cut short",
-        b"\xd1\x81\x01\x67\x12\x15\x00\x07\x00\x02\x00\x00\x00\x05\x00\x00\x00\x03\x00\x00\x00\x63\x64",
-    );
-    vector(
-        b"a byte after the data",
-        b"\xd1\x81\x01\x67\x12\x15\x00\x07\x00\x02\x00\x00\x00\x05\x00\x00\x00\x02\x00\x00\x00\x63\x64\x65",
-    );
+fn vectors(text: &[u8]) {
+    let mut start: usize = 0;
+    let mut end: usize = 0;
+    while end < text.len() {
+        if text[end] == b'\n' {
+            vector(part(text, start, end - start));
+            start = end + 1;
+        }
+        end += 1;
+    }
 }
 
 // Cuts into a buffer of 20 bytes that holds 2E: the number of bytes written or the refusal, and the buffer.
@@ -213,7 +113,8 @@ fn cuts() {
 // A datagram of 65,536 bytes; payloads of 16,385 and 16,384 bytes.
 fn large() {
     let s = [0u8; 65536];
-    vector(b"65,536 bytes", &s);
+    put(b"65,536 bytes");
+    show(&s);
     cutting(b"payload of 16,385 bytes", part(&s, 0, 16385), 1, 0);
     cutting(b"payload of 16,385 bytes, data size 0", part(&s, 0, 16385), 0, 0);
     cutting(b"payload of 16,384 bytes", part(&s, 0, 16384), 1, 16383);
