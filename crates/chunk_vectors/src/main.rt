@@ -20,6 +20,8 @@ fn main() {
     let n = io::read_full(STDIN_FILENO, &mut text);
     vectors(part(&text, 0, n));
     cuts();
+    ends();
+    refusals();
     large();
 }
 
@@ -100,10 +102,16 @@ fn cuts() {
     cutting(b"chunk 1", b"abcdefg", 3, 1);
     cutting(b"chunk 2, the last", b"abcdefg", 3, 2);
     cutting(b"k past the last", b"abcdefg", 3, 3);
+}
+
+fn ends() {
     cutting(b"k past the last of two full ones", b"abcdef", 3, 2);
     cutting(b"large k and data size", b"abcdefg", 18446744073709551615, 18446744073709551615);
     cutting(b"data size 6", b"abcdefg", 6, 0);
     cutting(b"no room", b"abcdefg", 7, 0);
+}
+
+fn refusals() {
     cutting(b"no room, large data size", b"abcdefg", 18446744073709551615, 0);
     cutting(b"data size 0", b"abcdefg", 0, 0);
     cutting(b"payload empty", b"", 3, 0);
