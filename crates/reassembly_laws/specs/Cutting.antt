@@ -1,0 +1,55 @@
+-- The chunks that a payload was cut into, as they arrive: in any order, some of them more than once.
+use Prim.Native.Nat.{ℕ, _*_, _≤_, _<_}
+use mathlib.Core.List.{List, [], _∷_}
+use mathlib.Core.Logic.{_⊎_}
+use mathlib.Core.Path.{_≡_}
+use lib.ListN.{length}
+use Rattle.chunk.specs.Cutting.{cutData}
+use Rattle.reassembly.specs.Record.{Identity, identityOf}
+use Rattle.reassembly.specs.Reading.{readingAt}
+use Rattle.reassembly.specs.Reading.Reading.{chunk}
+use Rattle.reassembly.specs.declared.record.Message.{Message}
+use Rattle.reassembly_laws.specs.History.{Call, Reply}
+use Rattle.reassembly_laws.specs.History.Call.{Take}
+use Rattle.reassembly_laws.specs.History.Reply.{done}
+
+-- a datagram, and the sizes of the configured writers that it is read under
+pub record Arrival : Type 0 where
+  pub datagram : List ℕ
+  pub sizes : List ℕ
+
+-- each is taken in
+abbrev pub takings : List Arrival → List Call
+takings [] = []
+takings (a ∷ l) = Take (a .datagram) (a .sizes) ∷ takings l
+
+abbrev pub dones : List Arrival → List Reply
+dones [] = []
+dones (a ∷ l) = done ∷ dones l
+
+-- the message id's payload p is cut into chunks of a data size
+module _ (id : Identity) (p : List ℕ) (size : ℕ) where
+  -- it reads as chunk k: of that message, at k times the data size, with the data that cutting takes there
+  pub record IsChunk (k : ℕ) (a : Arrival) : Type 0 where
+    pub message : Message
+    pub same : identityOf message ≡ id
+    pub reads : readingAt (a .sizes) (a .datagram) ≡ chunk message (k * size) (cutData p size k)
+    pub inside : k * size < length p
+
+  -- every arrival is one of the chunks
+  abbrev pub OnlyChunks : List Arrival → Type 0
+  OnlyChunks [] = Unit {0}
+  OnlyChunks (a ∷ l) = ((k : ℕ) × IsChunk k a) × OnlyChunks l
+
+  -- chunk k is among the arrivals
+  abbrev pub Among : ℕ → List Arrival → Type 0
+  Among k [] = ⊥
+  Among k (a ∷ l) = IsChunk k a ⊎ Among k l
+
+  -- all of the chunks arrive, and nothing else
+  pub record AllArrive (l : List Arrival) : Type 0 where
+    pub some : 1 ≤ size
+    pub filled : 1 ≤ length p
+    pub total : id .total ≡ length p
+    pub only : OnlyChunks l
+    pub each : (k : ℕ) → k * size < length p → Among k l
