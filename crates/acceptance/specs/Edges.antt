@@ -16,7 +16,6 @@ use Rattle.reassembly_laws.specs.History.{Call, Reply, replies}
 use Rattle.reassembly_laws.specs.History.Call.{Take, Ask, HandOut}
 use Rattle.reassembly_laws.specs.History.Reply.{done, said, handed, refused as refusal}
 
-
 -- a reading: a received sequence number by the last one; a Variant at the start of some bytes; a list of calls on a partial
 pub data EdgeReading : Type 0 where
   newness : ℕ → ℕ → Newness → EdgeReading
