@@ -106,13 +106,23 @@ fn cuts() {
 
 fn ends() {
     cutting(b"k past the last of two full ones", b"abcdef", 3, 2);
-    cutting(b"large k and data size", b"abcdefg", 18446744073709551615, 18446744073709551615);
+    cutting(
+        b"large k and data size",
+        b"abcdefg",
+        18446744073709551615,
+        18446744073709551615,
+    );
     cutting(b"data size 6", b"abcdefg", 6, 0);
     cutting(b"no room", b"abcdefg", 7, 0);
 }
 
 fn refusals() {
-    cutting(b"no room, large data size", b"abcdefg", 18446744073709551615, 0);
+    cutting(
+        b"no room, large data size",
+        b"abcdefg",
+        18446744073709551615,
+        0,
+    );
     cutting(b"data size 0", b"abcdefg", 0, 0);
     cutting(b"payload empty", b"", 3, 0);
     cutting(b"payload empty, k past the last", b"", 3, 9);
@@ -124,7 +134,17 @@ fn large() {
     put(b"65,536 bytes");
     show(&s);
     cutting(b"payload of 16,385 bytes", part(&s, 0, 16385), 1, 0);
-    cutting(b"payload of 16,385 bytes, data size 0", part(&s, 0, 16385), 0, 0);
+    cutting(
+        b"payload of 16,385 bytes, data size 0",
+        part(&s, 0, 16385),
+        0,
+        0,
+    );
     cutting(b"payload of 16,384 bytes", part(&s, 0, 16384), 1, 16383);
-    cutting(b"payload of 16,384 bytes, k past the last", part(&s, 0, 16384), 1, 16384);
+    cutting(
+        b"payload of 16,384 bytes, k past the last",
+        part(&s, 0, 16384),
+        1,
+        16384,
+    );
 }

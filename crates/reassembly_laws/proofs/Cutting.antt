@@ -122,7 +122,7 @@ module _ (id : Identity) (p : List ℕ) (size : ℕ) where
         let c = o .0 .1 in
         let v : readingVerdict n s (readingAt (a .sizes) (a .datagram)) ≡ Done = chunk-verdict k a c s ∙ chunk-done s h (bringsAt k) (part-chunk k) in
         let t : ifAccepted (readingVerdict n s (readingAt (a .sizes) (a .datagram))) s (acceptState s (alone (readingAt (a .sizes) (a .datagram)))) ≡ acceptState s (held id (bringsAt k)) =
-            ap₂ (λ (x : Verdict) (y : State). ifAccepted x s (acceptState s y)) v (chunk-alone k a c) in
+        ap₂ (λ (x : Verdict) (y : State). ifAccepted x s (acceptState s y)) v (chunk-alone k a c) in
         let w = walk l (o .1) (acceptState s (held id (bringsAt k))) (chunk-of s h (bringsAt k) (part-chunk k)) in
         let f : machineFinal n (takings (a ∷ l)) s ≡ machineFinal n (takings l) (acceptState s (held id (bringsAt k))) = ap (machineFinal n (takings l)) t in
         record {
@@ -152,13 +152,14 @@ module _ (id : Identity) (p : List ℕ) (size : ℕ) where
       covered-complete : (s : State) → OfPayload s → ((i : ℕ) → i < length p → has (viewIn s) i ≡ true) → (complete s ≡ true) × (whole s ≡ p)
       covered-complete idle o h = absurd (false≢true (h 0 filled))
       covered-complete (held m v) o h =
-          let t : m .total ≡ length p = ap (λ (x : Identity). x .total) (o .0) ∙ long in
-          (full-all (m .total) v (λ i l. h i (omega arith)),
-           ext-getD 0 (bytesOf (m .total) v) p (length-tab (m .total) _ ∙ t)
-           (λ i l.
-           let j : i < m .total = rw (length-tab (m .total) (λ i. Option·getD (v i) 0)) at l in
-           getD-tab (m .total) (λ i. Option·getD (v i) 0) i 0 j
-           ∙ ⊎-elim (λ e. absurd (false≢true (rw e at (h i (omega arith))))) (λ e. rw (e .0)) (o .1 i)))
+          let t : m .total ≡ length p = ap (λ (x : Identity). x .total) (o .0) ∙ long in (
+            full-all (m .total) v (λ i l. h i (omega arith)),
+            ext-getD 0 (bytesOf (m .total) v) p (length-tab (m .total) _ ∙ t)
+                (λ i l.
+                let j : i < m .total = rw (length-tab (m .total) (λ i. Option·getD (v i) 0)) at l in
+                getD-tab (m .total) (λ i. Option·getD (v i) 0) i 0 j
+                ∙ ⊎-elim (λ e. absurd (false≢true (rw e at (h i (omega arith))))) (λ e. rw (e .0)) (o .1 i)),
+          )
 
   -- ---- ALL CHUNKS OF A PAYLOAD, taken in in any order by a sound, just emptied partial whose area is at least that long, some of them more
   -- than once: every taking in is accepted, complete is said, and the payload is handed out
@@ -175,7 +176,7 @@ module _ (id : Identity) (p : List ℕ) (size : ℕ) where
       let w = walk n r l (all .only) idle tt in
       let h = history (takings l) s ok e in
       let covers : (i : ℕ) → i < length p → has (viewIn (machineFinal n (takings l) idle)) i ≡ true =
-          λ i u. let c = chunk-has n r (all .some) (all .filled) (all .total) i u in w .brings (i / size) (all .each (i / size) (c .0)) i (c .1) in
+      λ i u. let c = chunk-has n r (all .some) (all .filled) (all .total) i u in w .brings (i / size) (all .each (i / size) (c .0)) i (c .1) in
       let d = covered-complete n r (all .some) (all .filled) (all .total) (machineFinal n (takings l) idle) (w .of) covers in
       let c : complete (stateOf (final (takings l) s)) ≡ true = rw (h .partial-is) (d .0) in
       record {
