@@ -13,23 +13,27 @@ use lib.ListN.{length, getD, take, drop, length-take, length-drop}
 use lib.Seq.{getD-take, getD-drop, ext-getD}
 use borrow.Author.Tests.{le-leb, lt-ltb, eq-eqb}
 use Rattle.chunk.specs.Cutting.{cutData}
-use Rattle.chunk.proofs.CutLaws.{data-most, data-full}
+use Rattle.wire.specs.Answer.{got}
+use Rattle.chunk.specs.Datagram.{placeOf, chunkAt, chunkData}
+use Rattle.chunk.proofs.CutLaws.{cuts, data-most, data-full}
+use Rattle.chunk.proofs.ReadBack.{cutPlace, datagram-back, data-back}
 use Rattle.reassembly.specs.Views.{View, has, isSome, differs, dataView, inRange, joined, nowhere, bytesOf}
 use Rattle.reassembly.specs.Record.{Identity, Partial, Good}
 use Rattle.reassembly.specs.Machine.{State, viewIn, judgeState, acceptState, complete}
 use Rattle.reassembly.specs.Machine.State.{idle, held}
 use Rattle.reassembly.specs.Judge.{stateOf, alone, readingVerdict}
-use Rattle.reassembly.specs.Reading.{readingAt}
+use Rattle.reassembly.specs.Reading.{messageOf, readingAt}
 use Rattle.reassembly.specs.Reading.Reading.{chunk}
 use Rattle.reassembly.specs.Operations.{yesNo, askComplete, judgeHandOut, handOut}
 use Rattle.reassembly.specs.declared.verdict.Completeness.the-variants as C
 use Rattle.reassembly.specs.declared.verdict.Verdict.{Verdict}
 use Rattle.reassembly.specs.declared.verdict.Verdict.the-variants.{Done, Refused}
-use Rattle.reassembly.proofs.Cases.{by-bool, by-lt}
+use Rattle.reassembly.proofs.Cases.{by-lt}
+use Rattle.reassembly.proofs.JudgeLaws.{reading-got}
 use Rattle.reassembly.proofs.ViewLaws.{length-tab, getD-tab, data-at, data-below, data-above, has-data, full-all, clash-none}
 use Rattle.reassembly.proofs.SameLaws.{same-message-yes}
 use Rattle.reassembly_laws.specs.History.{Reply, whole, replies, final, machineReplies, machineFinal, replyOf, ifAccepted}
-use Rattle.reassembly_laws.specs.Cutting.{Arrival, takings, dones, IsChunk, OnlyChunks, Among, AllArrive}
+use Rattle.reassembly_laws.specs.Cutting.{Arrival, takings, dones, IsChunk, IsCut, OnlyChunks, Among, AllArrive}
 use Rattle.reassembly_laws.proofs.Following
 use Rattle.reassembly_laws.proofs.Demand3.{history}
 
@@ -160,6 +164,22 @@ module _ (id : Identity) (p : List ℕ) (size : ℕ) where
                 getD-tab (m .total) (λ i. Option·getD (v i) 0) i 0 j
                 ∙ ⊎-elim (λ e. absurd (false≢true (rw e at (h i (omega arith))))) (λ e. rw (e .0)) (o .1 i)),
           )
+
+  -- ---- WHAT CUTTING WROTE, after an accepted chunk's envelope, reads as that chunk
+  pub cut-is-chunk : (k : ℕ) (a : Arrival) → id .number < 65536 → id .total ≡ length p → IsCut id p size k a → IsChunk id p size k a
+  cut-is-chunk k a hn long w =
+      let s = a .datagram in
+      let c = placeOf (w .message .envelope) (w .message .places .«publisher_end») (cutPlace p (id .number) size k hn (w .accepted) (w .at)) in
+      let e : chunkAt (a .sizes) s ≡ got c (length s) = datagram-back p (id .number) size k hn (w .accepted) (a .sizes) s (w .message) (w .at) (w .envelope) (w .chunk) (w .payload) in
+      let d : chunkData (chunkAt (a .sizes) s) s ≡ cutData p size k = data-back p (id .number) size k hn (w .accepted) (a .sizes) s (w .message) (w .at) (w .envelope) (w .chunk) (w .payload) in
+      let t : length p ≡ id .total = sym long in
+      let d₂ : chunkData (got c (length s)) s ≡ cutData p size k = rw e at d in
+      record {
+        message = messageOf c s;
+        same = λ i. record { publisher = w .publisher i; writer = w .writer i; number = id .number; total = t i };
+        reads = reading-got (a .sizes) s c (length s) e ∙ ap (chunk (messageOf c s) (k * size)) d₂;
+        inside = cuts (length p) size k (w .accepted) .inside;
+      }
 
   -- ---- ALL CHUNKS OF A PAYLOAD, taken in in any order by a sound, just emptied partial whose area is at least that long, some of them more
   -- than once: every taking in is accepted, complete is said, and the payload is handed out

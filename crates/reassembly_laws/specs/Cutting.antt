@@ -3,8 +3,13 @@ use Prim.Native.Nat.{ℕ, _*_, _≤_, _<_}
 use mathlib.Core.List.{List, [], _∷_}
 use mathlib.Core.Logic.{_⊎_}
 use mathlib.Core.Path.{_≡_}
-use lib.ListN.{length}
-use Rattle.chunk.specs.Cutting.{cutData}
+use mathlib.Core.Bool.{true}
+use lib.ListN.{length, drop}
+use Rattle.wire.specs.Answer.{got}
+use Rattle.network_message.specs.PublisherRecord.{publisherOf, recordAt}
+use Rattle.network_message.specs.Envelope.{NetworkMessage, networkMessageAt}
+use Rattle.chunk.specs.Datagram.{writerOf}
+use Rattle.chunk.specs.Cutting.{cutData, chunkBytes, cutRule}
 use Rattle.reassembly.specs.Record.{Identity, identityOf}
 use Rattle.reassembly.specs.Reading.{readingAt}
 use Rattle.reassembly.specs.Reading.Reading.{chunk}
@@ -35,6 +40,17 @@ module _ (id : Identity) (p : List ℕ) (size : ℕ) where
     pub same : identityOf message ≡ id
     pub reads : readingAt (a .sizes) (a .datagram) ≡ chunk message (k * size) (cutData p size k)
     pub inside : k * size < length p
+
+  -- it has an accepted chunk's envelope of that publisher and writer, and its payload is what cutting wrote for chunk k
+  pub record IsCut (k : ℕ) (a : Arrival) : Type 0 where
+    pub message : NetworkMessage
+    pub at : ℕ
+    pub envelope : networkMessageAt (a .sizes) (a .datagram) ≡ got message at
+    pub chunk : message .envelope .chunk ≡ true
+    pub publisher : publisherOf (recordAt (message .envelope .publisher) (message .places .«publisher_end») (a .datagram)) ≡ id .publisher
+    pub writer : writerOf (message .envelope .«payload_header») ≡ id .writer
+    pub accepted : cutRule (length p) size k ≡ 0
+    pub payload : drop at (a .datagram) ≡ chunkBytes p (id .number) size k
 
   -- every arrival is one of the chunks
   abbrev pub OnlyChunks : List Arrival → Type 0
