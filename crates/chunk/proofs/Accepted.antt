@@ -1,18 +1,18 @@
 -- What an accepted chunk tells: its PublisherId fits a record, its sizes agree, and its data ends where the datagram does.
 -- Assumes nothing.
 use Prim.Native.Nat.{ℕ, _+_, _-_, _≤_, _<_}
-use mathlib.Core.Path.{_≡_, refl, sym, ap, subst, _∙_}
+use mathlib.Core.Path.{_≡_, refl, subst}
 use mathlib.Core.Bool.{Bool, true, false, cond}
 use mathlib.Core.List.{List}
 use native.Mathlib.Omega.{arith}
 use lib.Dec.{leb, ltb, eqb}
-use lib.ListN.{length, take, drop, length-drop}
+use lib.ListN.{length, drop, length-drop}
 use lib.Seq.{length-take-le}
-use borrow.Author.Tests.{leb-true, leb-false, ltb-false, eqb-true, eqb-false}
-use Rattle.wire.specs.Answer.{Answer, got, refused, Reader, item, run, here, pure, whenOn, andThen, _>>=_, _>>_}
+use borrow.Author.Tests.{leb-false, ltb-false, eqb-true, eqb-false}
+use Rattle.wire.specs.Answer.{got, refused, Reader, item, run, here, pure, andThen, _>>=_, _>>_}
 use Rattle.wire.specs.Items.{lengthItem}
 use Rattle.wire.specs.declared.Length.{Length}
-use Rattle.wire.proofs.Reading.{got-value, got-next, not-got, invert}
+use Rattle.wire.proofs.Reading.{got-value, not-got, invert}
 use Rattle.network_message.specs.Publisher.{stringOf, lengthThen, stringAt, publisherAt}
 use Rattle.network_message.specs.PublisherRecord.{lengthOf}
 use Rattle.network_message.specs.Flags.{flagsAt}
@@ -21,7 +21,6 @@ use Rattle.network_message.specs.Header.{classAt, payloadHeaderAt}
 use Rattle.network_message.specs.Payload.{configuredSizes, payloadAt}
 use Rattle.network_message.specs.Envelope.{identityAt, timesAt, messagesOf, headerAt, bodyAt, networkMessageAt, NetworkMessage}
 use Rattle.network_message.specs.declared.publisher.PublisherId.{PublisherId}
-use Rattle.network_message.specs.declared.envelope.Identity.{Identity}
 use Rattle.network_message.specs.declared.flags.Flags.{Flags}
 use Rattle.chunk.specs.declared.payload.ChunkData.{ChunkData}
 use Rattle.chunk.specs.declared.payload.ChunkPayload.{ChunkPayload}

@@ -4,7 +4,7 @@ use mathlib.Core.Bool.{cond}
 use mathlib.Core.List.{List, []}
 use lib.ListN.{take, drop}
 use Rattle.wire.specs.Answer.{Answer, got, refused, Reader, andThen}
-use Rattle.network_message.specs.Envelope.{NetworkMessage, networkMessageAt}
+use Rattle.network_message.specs.Envelope.{networkMessageAt}
 use Rattle.network_message.specs.declared.envelope.Envelope.{Envelope}
 use Rattle.network_message.specs.declared.header.PayloadHeader.{PayloadHeader}
 use Rattle.chunk.specs.declared.payload.ChunkPayload.{ChunkPayload}

@@ -2,14 +2,13 @@
 -- Assumes nothing.
 use Prim.Native.Nat.{ℕ, _+_, _*_, _-_, _/_, _≤_, _<_}
 use mathlib.Core.Path.{_≡_, refl, sym, ap, ap₂, _∙_}
-use mathlib.Core.Bool.{Bool, true, false, not, false≢true}
+use mathlib.Core.Bool.{Bool, true, false, false≢true}
 use mathlib.Core.List.{List, [], _∷_}
 use mathlib.Core.Logic.{_⊎_, inl, inr, ⊎-elim}
 use mathlib.Core.Option.{some, none, orElse, Option·getD}
 use native.Mathlib.Nat.{div-mul-le-self, lt-div-mul-add}
 use native.Mathlib.Omega.{arith}
-use lib.Dec.{eqb}
-use lib.ListN.{length, getD, take, drop, length-take, length-drop}
+use lib.ListN.{length, getD, drop, length-take}
 use lib.Seq.{getD-take, getD-drop, ext-getD}
 use borrow.Author.Tests.{le-leb, lt-ltb, eq-eqb}
 use Rattle.chunk.specs.Cutting.{cutData}
@@ -17,7 +16,7 @@ use Rattle.wire.specs.Answer.{got}
 use Rattle.chunk.specs.Datagram.{placeOf, chunkAt, chunkData}
 use Rattle.chunk.proofs.CutLaws.{cuts, data-most, data-full}
 use Rattle.chunk.proofs.ReadBack.{cutPlace, datagram-back, data-back}
-use Rattle.reassembly.specs.Views.{View, has, isSome, differs, dataView, inRange, joined, nowhere, bytesOf}
+use Rattle.reassembly.specs.Views.{View, has, isSome, differs, dataView, inRange, joined, bytesOf}
 use Rattle.reassembly.specs.Record.{Identity, Partial, Good}
 use Rattle.reassembly.specs.Machine.{State, viewIn, judgeState, acceptState, complete}
 use Rattle.reassembly.specs.Machine.State.{idle, held}
@@ -27,12 +26,12 @@ use Rattle.reassembly.specs.Reading.Reading.{chunk}
 use Rattle.reassembly.specs.Operations.{yesNo, askComplete, judgeHandOut, handOut}
 use Rattle.reassembly.specs.declared.verdict.Completeness.the-variants as C
 use Rattle.reassembly.specs.declared.verdict.Verdict.{Verdict}
-use Rattle.reassembly.specs.declared.verdict.Verdict.the-variants.{Done, Refused}
+use Rattle.reassembly.specs.declared.verdict.Verdict.the-variants.{Done}
 use Rattle.reassembly.proofs.Cases.{by-lt}
 use Rattle.reassembly.proofs.JudgeLaws.{reading-got}
 use Rattle.reassembly.proofs.ViewLaws.{length-tab, getD-tab, data-at, data-below, data-above, has-data, full-all, clash-none}
 use Rattle.reassembly.proofs.SameLaws.{same-message-yes}
-use Rattle.reassembly_laws.specs.History.{Reply, whole, replies, final, machineReplies, machineFinal, replyOf, ifAccepted}
+use Rattle.reassembly_laws.specs.History.{whole, replies, final, machineReplies, machineFinal, replyOf, ifAccepted}
 use Rattle.reassembly_laws.specs.Cutting.{Arrival, takings, dones, IsChunk, IsCut, OnlyChunks, Among, AllArrive}
 use Rattle.reassembly_laws.proofs.Following
 use Rattle.reassembly_laws.proofs.Demand3.{history}
