@@ -32,9 +32,18 @@ use Rattle.reassembly.proofs.JudgeLaws.{reading-got}
 use Rattle.reassembly.proofs.ViewLaws.{length-tab, getD-tab, data-at, data-below, data-above, has-data, full-all, clash-none}
 use Rattle.reassembly.proofs.SameLaws.{same-message-yes}
 use Rattle.reassembly_laws.specs.History.{whole, replies, final, machineReplies, machineFinal, replyOf, ifAccepted}
-use Rattle.reassembly_laws.specs.Cutting.{Arrival, takings, dones, IsChunk, IsCut, OnlyChunks, Among, AllArrive}
+use Rattle.reassembly_laws.specs.Cutting.{Arrival, takings, dones, IsChunk, IsCut, Only, Among, AllArrive}
 use Rattle.reassembly_laws.proofs.Following
 use Rattle.reassembly_laws.proofs.Demand3.{history}
+
+-- what holds of each arrival
+only-all : {P Q : ℕ → Arrival → Type 0} → ((k : ℕ) (a : Arrival) → P k a → Q k a) → (l : List Arrival) → Only P l → Only Q l
+only-all f [] o = tt
+only-all f (a ∷ l) o = ((o .0 .0, f (o .0 .0) a (o .0 .1)), only-all f l (o .1))
+
+among-all : {P Q : ℕ → Arrival → Type 0} → ((k : ℕ) (a : Arrival) → P k a → Q k a) → (k : ℕ) (l : List Arrival) → Among P k l → Among Q k l
+among-all f k [] m = absurd m
+among-all f k (a ∷ l) m = ⊎-elim (λ e. inl (f k a e)) (λ e. inr (among-all f k l e)) m
 
 module _ (id : Identity) (p : List ℕ) (size : ℕ) where
   -- what chunk k brings
@@ -116,9 +125,9 @@ module _ (id : Identity) (p : List ℕ) (size : ℕ) where
       pub answers : machineReplies n (takings l) s ≡ dones l
       pub of : OfPayload (machineFinal n (takings l) s)
       pub keeps : (i : ℕ) → has (viewIn s) i ≡ true → has (viewIn (machineFinal n (takings l) s)) i ≡ true
-      pub brings : (k : ℕ) → Among id p size k l → (i : ℕ) → has (bringsAt k) i ≡ true → has (viewIn (machineFinal n (takings l) s)) i ≡ true
+      pub brings : (k : ℕ) → Among (IsChunk id p size) k l → (i : ℕ) → has (bringsAt k) i ≡ true → has (viewIn (machineFinal n (takings l) s)) i ≡ true
 
-    walk : (l : List Arrival) → OnlyChunks id p size l → (s : State) → OfPayload s → Walked l s
+    walk : (l : List Arrival) → Only (IsChunk id p size) l → (s : State) → OfPayload s → Walked l s
     walk [] o s h = record { answers = refl; of = h; keeps = λ i q. q; brings = λ k m. absurd m }
     walk (a ∷ l) o s h =
         let k = o .0 .0 in
@@ -188,7 +197,7 @@ module _ (id : Identity) (p : List ℕ) (size : ℕ) where
     pub number : judgeHandOut (final (takings l) s) ≡ Done
     pub payload : handOut (final (takings l) s) ≡ p
 
-  pub all-chunks-restore : (l : List Arrival) → AllArrive id p size l → (s : Partial) → Good s → s .rec .started ≡ false → length p ≤ length (s .payload) → Restored l s
+  pub all-chunks-restore : (l : List Arrival) → AllArrive id p size (IsChunk id p size) l → (s : Partial) → Good s → s .rec .started ≡ false → length p ≤ length (s .payload) → Restored l s
   all-chunks-restore l all s ok e room =
       let n = length (s .payload) in
       let r : id .total ≤ n = omega (arith, all .total) in
@@ -204,3 +213,10 @@ module _ (id : Identity) (p : List ℕ) (size : ℕ) where
         number = Following.hand-is (final (takings l) s) (h .stays-good) ∙ rw c;
         payload = Following.hand-bytes (final (takings l) s) (h .stays-good) c ∙ rw (h .partial-is) (d .1);
       }
+
+  -- ---- A PAYLOAD CUT AND RESTORED: the same of datagrams with what cutting wrote for the chunks
+  pub all-cuts-restore : (l : List Arrival) → AllArrive id p size (IsCut id p size) l → id .number < 65536 → (s : Partial) → Good s → s .rec .started ≡ false → length p ≤ length (s .payload) → Restored l s
+  all-cuts-restore l all hn =
+      let f : (k : ℕ) (a : Arrival) → IsCut id p size k a → IsChunk id p size k a = λ k a w. cut-is-chunk k a hn (all .total) w in
+      all-chunks-restore l
+      (record { some = all .some; filled = all .filled; total = all .total; only = only-all f l (all .only); each = λ k h. among-all f k l (all .each k h) })

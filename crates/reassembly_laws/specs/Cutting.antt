@@ -52,20 +52,20 @@ module _ (id : Identity) (p : List ℕ) (size : ℕ) where
     pub accepted : cutRule (length p) size k ≡ 0
     pub payload : drop at (a .datagram) ≡ chunkBytes p (id .number) size k
 
-  -- every arrival is one of the chunks
-  abbrev pub OnlyChunks : List Arrival → Type 0
-  OnlyChunks [] = Unit {0}
-  OnlyChunks (a ∷ l) = ((k : ℕ) × IsChunk k a) × OnlyChunks l
+-- every arrival is of some chunk k
+abbrev pub Only : (ℕ → Arrival → Type 0) → List Arrival → Type 0
+Only P [] = Unit {0}
+Only P (a ∷ l) = ((k : ℕ) × P k a) × Only P l
 
-  -- chunk k is among the arrivals
-  abbrev pub Among : ℕ → List Arrival → Type 0
-  Among k [] = ⊥
-  Among k (a ∷ l) = IsChunk k a ⊎ Among k l
+-- one of chunk k is among the arrivals
+abbrev pub Among : (ℕ → Arrival → Type 0) → ℕ → List Arrival → Type 0
+Among P k [] = ⊥
+Among P k (a ∷ l) = P k a ⊎ Among P k l
 
-  -- all of the chunks arrive, and nothing else
-  pub record AllArrive (l : List Arrival) : Type 0 where
-    pub some : 1 ≤ size
-    pub filled : 1 ≤ length p
-    pub total : id .total ≡ length p
-    pub only : OnlyChunks l
-    pub each : (k : ℕ) → k * size < length p → Among k l
+-- all chunks of the message id's payload p, cut into chunks of a data size, arrive, and nothing else
+pub record AllArrive (id : Identity) (p : List ℕ) (size : ℕ) (P : ℕ → Arrival → Type 0) (l : List Arrival) : Type 0 where
+  pub some : 1 ≤ size
+  pub filled : 1 ≤ length p
+  pub total : id .total ≡ length p
+  pub only : Only P l
+  pub each : (k : ℕ) → k * size < length p → Among P k l

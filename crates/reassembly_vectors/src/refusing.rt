@@ -58,9 +58,13 @@ fn other_publisher() {
     let a = take_by(blank(46, 0), b"\xd1\x81\x01\x67\x12\x15\x00");
     take_by(a, b"\xd1\x82\x01\x67\x12\x00\x00\x15\x00");
     take_by(a, b"\xd1\x81\x01\x68\x12\x15\x00");
+    other_types(a);
+    take_by(a, b"\xd1\x81\x01\x67\x12\x15\x00");
+}
+
+fn other_types(a: Part) {
     take_by(a, b"\xc1\x80\x01\x15\x00");
     take_by(a, b"\xd1\x80\x01\x67\x15\x00");
-    take_by(a, b"\xd1\x81\x01\x67\x12\x15\x00");
 }
 
 // Strings: xx, then xxx, yy and xx; absent, then absent and an empty string.
@@ -69,7 +73,11 @@ fn other_text() {
     take_by(a, b"\xd1\x84\x01\x03\x00\x00\x00xxx\x15\x00");
     take_by(a, b"\xd1\x84\x01\x02\x00\x00\x00yy\x15\x00");
     take_by(a, b"\xd1\x84\x01\x02\x00\x00\x00xx\x15\x00");
-    let b = take_by(emptied(a), b"\xc1\x80\x01\x15\x00");
+    no_id(emptied(a));
+}
+
+fn no_id(a: Part) {
+    let b = take_by(a, b"\xc1\x80\x01\x15\x00");
     take_by(b, b"\xc1\x80\x01\x15\x00");
     take_by(b, b"\xd1\x84\x01\x00\x00\x00\x00\x15\x00");
 }
@@ -108,28 +116,36 @@ fn no_room() {
     show(e);
 }
 
-// A chunk's own numbers, the envelope's first, after 12 and before 11: a byte after the data, no chunk bit, version 2, no PayloadHeader,
-// nothing after the envelope, total 0, total 16,385, total 16,384, no data, data above total, a string of 65 bytes.
+// A chunk's own numbers, the envelope's first, after 12 and before 11.
 fn own_numbers() {
     text(b"own numbers\n");
     let a = blank(46, 7);
-    take(
-        a,
-        b"\xd1\x81\x01\x67\x12\x15\x00\x07\x00\x00\x00\x00\x00\x09\x00\x00\x00\x02\x00\x00\x00abc",
-    );
-    take(
-        a,
-        b"\xd1\x01\x67\x12\x01\x15\x00\x09\x05\x00\x02\x00\x05\x03\x00\x0a\x00\x00\x00\x3f",
-    );
+    envelopes(a);
+    totals(a);
+    show(data_lengths(a));
+}
+
+// A byte after the data, no chunk bit, version 2, no PayloadHeader, nothing after the envelope.
+fn envelopes(a: Part) {
+    take(a, b"\xd1\x81\x01\x67\x12\x15\x00\x07\x00\x00\x00\x00\x00\x09\x00\x00\x00\x02\x00\x00\x00abc");
+    take(a, b"\xd1\x01\x67\x12\x01\x15\x00\x09\x05\x00\x02\x00\x05\x03\x00\x0a\x00\x00\x00\x3f");
     take(a, b"\xd2\x01");
     take(a, b"\x91\x81\x01\x67\x12");
     take(a, b"\xd1\x81\x01\x67\x12\x15\x00");
+}
+
+// Total 0, 16,385 and 16,384.
+fn totals(a: Part) {
     take_ours(a, 0, 0, b"a");
     take_ours(a, 16385, 0, b"a");
     take_ours(a, 16384, 0, b"a");
+}
+
+// No data, data above total; and a string of 65 bytes.
+fn data_lengths(a: Part) -> Part {
     take_ours(a, 2, 0, b"");
     take_ours(a, 2, 2, b"a");
-    show(take(a, b"\xd1\x84\x01\x41\x00\x00\x00"));
+    take(a, b"\xd1\x84\x01\x41\x00\x00\x00")
 }
 
 // 12 comes before a datagram's 10.
@@ -163,9 +179,17 @@ fn unsound() {
     all_calls(with_record(a, started(ours(0))));
     all_calls(with_record(a, started(ours(9))));
     all_calls(with_record(a, started(long_id(65))));
+    sound_fresh(a);
+    sound_started(a);
+}
+
+fn sound_fresh(a: Part) {
     show(with_record(a, fresh(ours(9))));
     show(with_record(a, fresh(long_id(65))));
     show(emptied(with_record(a, started(ours(9)))));
+}
+
+fn sound_started(a: Part) {
     show(with_record(a, started(long_id(64))));
     show(with_record(a, started(ours(8))));
 }
