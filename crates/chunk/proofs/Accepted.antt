@@ -1,18 +1,18 @@
 -- What an accepted chunk tells: its PublisherId fits a record, its sizes agree, and its data ends where the datagram does.
 -- Assumes nothing.
 use Prim.Native.Nat.{ℕ, _+_, _-_, _≤_, _<_}
-use mathlib.Core.Path.{_≡_, refl, sym, ap, subst, _∙_}
-use mathlib.Core.Bool.{Bool, true, false, cond}
+use mathlib.Core.Path.{_≡_, refl, subst}
+use mathlib.Core.Bool.{Bool, true, false, cond, false≢true}
 use mathlib.Core.List.{List}
 use native.Mathlib.Omega.{arith}
 use lib.Dec.{leb, ltb, eqb}
-use lib.ListN.{length, take, drop, length-drop}
+use lib.ListN.{length, drop, length-drop}
 use lib.Seq.{length-take-le}
-use borrow.Author.Tests.{leb-true, leb-false, ltb-false, eqb-true, eqb-false}
-use Rattle.wire.specs.Answer.{Answer, got, refused, Reader, item, run, here, pure, whenOn, andThen, _>>=_, _>>_}
+use borrow.Author.Tests.{leb-false, ltb-false, eqb-true, eqb-false}
+use Rattle.wire.specs.Answer.{got, refused, Reader, item, run, here, pure, andThen, _>>=_, _>>_}
 use Rattle.wire.specs.Items.{lengthItem}
 use Rattle.wire.specs.declared.Length.{Length}
-use Rattle.wire.proofs.Reading.{got-value, got-next, not-got, invert}
+use Rattle.wire.proofs.Reading.{got-value, not-got, invert}
 use Rattle.network_message.specs.Publisher.{stringOf, lengthThen, stringAt, publisherAt}
 use Rattle.network_message.specs.PublisherRecord.{lengthOf}
 use Rattle.network_message.specs.Flags.{flagsAt}
@@ -21,7 +21,8 @@ use Rattle.network_message.specs.Header.{classAt, payloadHeaderAt}
 use Rattle.network_message.specs.Payload.{configuredSizes, payloadAt}
 use Rattle.network_message.specs.Envelope.{identityAt, timesAt, messagesOf, headerAt, bodyAt, networkMessageAt, NetworkMessage}
 use Rattle.network_message.specs.declared.publisher.PublisherId.{PublisherId}
-use Rattle.network_message.specs.declared.envelope.Identity.{Identity}
+use Rattle.network_message.specs.declared.envelope.Envelope.{Envelope}
+use Rattle.network_message.specs.declared.header.PayloadHeader.{PayloadHeader}
 use Rattle.network_message.specs.declared.flags.Flags.{Flags}
 use Rattle.chunk.specs.declared.payload.ChunkData.{ChunkData}
 use Rattle.chunk.specs.declared.payload.ChunkPayload.{ChunkPayload}
@@ -114,6 +115,54 @@ message-small sizes s m n e = go (ltb 65535 (length s)) e
     go : (b : Bool) → cond b (refused 10 0) ((flagsAt >>= λ f. bodyAt f sizes) s 0) ≡ got m n → Small s (m .envelope .publisher)
     go true q = absurd (not-got q)
     go false q = gives-next flagsAt (λ f. body-small f sizes) .told s 0 m n q
+
+-- ---- an accepted chunk's PayloadHeader is its DataSetWriterId
+abbrev NoIds : PayloadHeader → Type 0
+NoIds PayloadHeader.Absent = Unit {0}
+NoIds (PayloadHeader.Ids n) = ⊥
+NoIds (PayloadHeader.Chunk w) = Unit {0}
+
+abbrev Present : PayloadHeader → Type 0
+Present PayloadHeader.Absent = ⊥
+Present (PayloadHeader.Ids n) = Unit {0}
+Present (PayloadHeader.Chunk w) = Unit {0}
+
+header-no-ids : (on chunk : Bool) → Gives (λ s h. chunk ≡ true → NoIds h) (payloadHeaderAt on chunk)
+header-no-ids false chunk = gives-pure PayloadHeader.Absent (λ s e. tt)
+header-no-ids true true = gives-next (item 2) (λ v. gives-pure (PayloadHeader.Chunk v) (λ s e. tt))
+header-no-ids true false = record { told = λ s at v n e q. absurd (false≢true q) }
+
+payload-present : (chunk : Bool) (h : PayloadHeader) (sizes : List ℕ) → Gives (λ s p. chunk ≡ true → Present h) (payloadAt chunk h sizes)
+payload-present true PayloadHeader.Absent sizes = record { told = λ s at v n e q. absurd (not-got e) }
+payload-present false PayloadHeader.Absent sizes = record { told = λ s at v n e q. absurd (false≢true q) }
+payload-present chunk (PayloadHeader.Ids n) sizes = record { told = λ s at v m e q. tt }
+payload-present chunk (PayloadHeader.Chunk w) sizes = record { told = λ s at v m e q. tt }
+
+abbrev ChunkHeader : List ℕ → Envelope → Type 0
+ChunkHeader s e = e .chunk ≡ true → (w : ℕ) × (e .«payload_header» ≡ PayloadHeader.Chunk w)
+
+chunk-id : (h : PayloadHeader) → NoIds h → Present h → (w : ℕ) × (h ≡ PayloadHeader.Chunk w)
+chunk-id PayloadHeader.Absent a b = absurd b
+chunk-id (PayloadHeader.Ids n) a b = absurd a
+chunk-id (PayloadHeader.Chunk w) a b = (w, refl)
+
+body-writer : (f : Flags) (sizes : List ℕ) → Gives (λ s m. ChunkHeader s (m .envelope)) (bodyAt f sizes)
+body-writer f sizes =
+    gives-bind (header-kind (length (configuredSizes sizes)))
+    (λ h. gives-bind (payload-present (h .envelope .chunk) (h .envelope .«payload_header») sizes)
+    (λ p. gives-pure _ (λ s present none on. chunk-id (h .envelope .«payload_header») (none on) (present on))))
+  where
+    header-kind : (configured : ℕ) → Gives (λ s h. h .envelope .chunk ≡ true → NoIds (h .envelope .«payload_header»)) (headerAt f configured)
+    header-kind configured =
+        gives-next (identityAt f)
+        (λ i. gives-bind (header-no-ids (f .«payload_header») (f .chunk)) (λ p. gives-next here (λ e. gives-next (timesAt f (messagesOf (f .chunk) p configured)) (λ t. gives-next here (λ z. gives-pure _ (λ s q. q))))))
+
+pub chunk-writer : (sizes s : List ℕ) (m : NetworkMessage) (n : ℕ) → networkMessageAt sizes s ≡ got m n → m .envelope .chunk ≡ true → (w : ℕ) × (m .envelope .«payload_header» ≡ PayloadHeader.Chunk w)
+chunk-writer sizes s m n e = go (ltb 65535 (length s)) e
+  where
+    go : (b : Bool) → cond b (refused 10 0) ((flagsAt >>= λ f. bodyAt f sizes) s 0) ≡ got m n → ChunkHeader s (m .envelope)
+    go true q = absurd (not-got q)
+    go false q = gives-next flagsAt (λ f. body-writer f sizes) .told s 0 m n q
 
 -- ---- a chunk's payload
 pub record Sized (s : List ℕ) (p : ChunkPayload) : Type 0 where

@@ -1,14 +1,14 @@
 -- Laws of cutting: its rules, its bytes as they are stored, and one law for each way out.
 -- Assumes nothing.
 use Prim.Native.Nat.{ℕ, _+_, _*_, _-_, _/_, _≤_, _<_}
-use mathlib.Core.Path.{_≡_, refl, sym, ap, _∙_}
+use mathlib.Core.Path.{_≡_, refl, sym, ap, ap₂, _∙_}
 use mathlib.Core.Bool.{Bool, true, false, cond}
 use mathlib.Core.List.{List, _++_, append-assoc}
 use native.Mathlib.Nat.{div-lt-iff-lt-mul, zero-add}
 use native.Mathlib.Omega.{arith}
 use lib.Dec.{leb, ltb, eqb}
 use lib.ListN.{length, take, drop, length-append, length-take, length-drop}
-use lib.Seq.{sets, length-sets, length-take-le, take-all}
+use lib.Seq.{sets, sets-eq, length-sets, take-append-seam, drop-append-seam}
 use borrow.Author.Tests.{le-leb, lt-leb, leb-true, leb-false, lt-ltb, le-ltb, ltb-false, eq-eqb, ne-eqb, eqb-true, eqb-false}
 use Rattle.wire.specs.Number.{leBytes}
 use Rattle.wire.specs.Store.{laid}
@@ -170,3 +170,48 @@ module _ (p : List ℕ) (number size k : ℕ) (out : List ℕ) where
   done-way e b exit eb h q =
       let f = fault-none e (rw eb at h) in
       (rw f (ap Written.Is (ap (λ (d : List ℕ). 14 + length d) eb ∙ sym (length-payload number (k * size) (length p) (cutData p size k)))), rw f (q ∙ ap (λ (d : List ℕ). laid out 0 (payloadBytes number (k * size) (length p) d)) eb))
+
+  -- ---- what an accepted cut leaves in the buffer: the chunk's payload, and after it what was there
+  fault-zero : cutFault p size k (length out) ≡ 0 → (cutRule (length p) size k ≡ 0) × (14 + length (cutData p size k) ≤ length out)
+  unfolding cutFault
+  fault-zero e = go (eqb (cutRule (length p) size k) 0) (ltb (length out) (14 + length (cutData p size k))) refl refl e
+    where
+      go : (a b : Bool) → eqb (cutRule (length p) size k) 0 ≡ a → ltb (length out) (14 + length (cutData p size k)) ≡ b
+          → _≡_ {A = ℕ} (cond a (cond b 11 0) (cutRule (length p) size k)) 0 → (cutRule (length p) size k ≡ 0) × (14 + length (cutData p size k) ≤ length out)
+      go true true q r e = absurd (omega arith)
+      go true false q r e = (eqb-true (cutRule (length p) size k) 0 q, ltb-false (length out) (14 + length (cutData p size k)) r)
+      go false b q r e = absurd (eqb-false (cutRule (length p) size k) 0 q e)
+
+  answer-zero : (n : ℕ) → cutAnswer p number size k (length out) ≡ Written.Is n → (cutFault p size k (length out) ≡ 0) × (length (chunkBytes p number size k) ≡ n)
+  unfolding cutAnswer
+  answer-zero n e = go (eqb (cutFault p size k (length out)) 0) refl e
+    where
+      go : (a : Bool) → eqb (cutFault p size k (length out)) 0 ≡ a
+          → cond a (Written.Is (length (chunkBytes p number size k))) (Written.Refused (cutFault p size k (length out)) 0) ≡ Written.Is n
+          → (cutFault p size k (length out) ≡ 0) × (length (chunkBytes p number size k) ≡ n)
+      go true q e = (eqb-true (cutFault p size k (length out)) 0 q, cc)
+      go false q e = let z : _≡_ {A = ℕ} 0 1 = cc in absurd (omega arith)
+
+  buffer-is : cutFault p size k (length out) ≡ 0 → cutBuffer p number size k out ≡ laid out 0 (chunkBytes p number size k)
+  unfolding cutBuffer
+  buffer-is e = rw e
+
+  pub record Wrote (n : ℕ) : Type 0 where
+    pub bytes : take n (cutBuffer p number size k out) ≡ chunkBytes p number size k
+    pub rest : drop n (cutBuffer p number size k out) ≡ drop n out
+    pub rule : cutRule (length p) size k ≡ 0
+
+  pub cut-wrote : (n : ℕ) → cutAnswer p number size k (length out) ≡ Written.Is n → Wrote n
+  cut-wrote n e =
+      let a = answer-zero n e in
+      let f = fault-zero (a .0) in
+      let b = chunkBytes p number size k in
+      let h : length b ≤ length out = omega (arith, length-payload number (k * size) (length p) (cutData p size k), f .1) in
+      let h₂ : 0 + length b ≤ length out = omega arith in
+      let x : 0 + length b ≡ length b = omega arith in
+      let q : cutBuffer p number size k out ≡ b ++ drop (length b) out = buffer-is (a .0) ∙ laid-is out b h ∙ sets-eq b out 0 h₂ ∙ ap (λ (j : ℕ). b ++ drop j out) x in
+      record {
+        bytes = ap₂ take (sym (a .1)) q ∙ take-append-seam b (drop (length b) out);
+        rest = ap₂ drop (sym (a .1)) q ∙ drop-append-seam b (drop (length b) out) ∙ ap (λ (j : ℕ). drop j out) (a .1);
+        rule = f .0;
+      }

@@ -3,24 +3,24 @@
 use Prim.Native.Nat.{ℕ, zero, suc, _+_, _*_, _-_, _/_, _%_, _^_, _≤_, _<_}
 use mathlib.Core.Path.{_≡_, refl, sym, ap, _∙_}
 use mathlib.Core.Bool.{true}
-use mathlib.Core.List.{List, [], _∷_, _++_, append-assoc, append-nil}
+use mathlib.Core.List.{List, [], _∷_, _++_, append-assoc}
 use native.Mathlib.Nat.{pow-suc}
 use native.Mathlib.Omega.{arith}
-use lib.IntN.{pos}
 use lib.ListN.{length, getD, take, drop, length-append, length-drop, take-append-drop}
 use lib.Seq.{getD-append-seam, length-take-le, take-length, drop-drop, drop-at}
 use borrow.Author.Tests.{le-leb, lt-ltb, le-ltb, eq-eqb, ne-eqb}
 use Rattle.wire.specs.Number.{le, leBytes, signed}
-use Rattle.wire.specs.Answer.{Answer, got, Reader, item, andThen}
+use Rattle.wire.specs.Answer.{got, item}
 use Rattle.wire.specs.Items.{lengthOf, lengthItem}
 use Rattle.wire.specs.declared.Length.{Length}
 use Rattle.wire.proofs.Numbers.{length-leBytes}
 use Rattle.network_message.specs.Envelope.{NetworkMessage, networkMessageAt}
 use Rattle.chunk.specs.Payload.{totalAt, dataLengthAt, dataOf, chunkPayloadAt}
 use Rattle.chunk.specs.Datagram.{placeOf, chunkAt, chunkData}
-use Rattle.chunk.specs.Cutting.{payloadBytes, cutData, chunkBytes, cutRule}
+use Rattle.chunk.specs.Cutting.{payloadBytes, cutData, chunkBytes, cutRule, cutAnswer, cutBuffer}
 use Rattle.chunk.specs.declared.payload.ChunkPayload.{ChunkPayload}
-use Rattle.chunk.proofs.CutLaws.{cuts, data-most, data-full, length-payload}
+use Rattle.chunk.specs.declared.cut.Written.{Written}
+use Rattle.chunk.proofs.CutLaws.{cuts, data-most, data-full, length-payload, cut-wrote}
 
 -- the bytes b stand at position m of s, and s ends with them
 abbrev Ends : List ℕ → ℕ → List ℕ → Type 0
@@ -135,3 +135,10 @@ module _ (p : List ℕ) (number size k : ℕ) (hn : number < 65536) (ok : cutRul
         sym (append-assoc a (b ++ (c ++ z)) d ∙ ap (λ (l : List ℕ). a ++ l) (append-assoc b (c ++ z) d ∙ ap (λ (l : List ℕ). b ++ l) (append-assoc c z d))) in
         let r : drop (at + 14) s ≡ d = sym (drop-drop 14 at s) ∙ ap (drop 14) (q ∙ w) ∙ drop-at front d 14 n in
         rw datagram-back (ap (take (length d)) r ∙ take-length d)
+
+-- ---- what cutting wrote into a lent buffer, by its contract, reads back as chunk k
+pub written-back : (p : List ℕ) (number size k : ℕ) → number < 65536 → (out : List ℕ) (n : ℕ) → cutAnswer p number size k (length out) ≡ Written.Is n
+    → chunkPayloadAt (take n (cutBuffer p number size k out)) 0 ≡ got (payloadPlace number (k * size) (length p) (length (cutData p size k)) 0) (length (chunkBytes p number size k))
+written-back p number size k hn out n e =
+    let w = cut-wrote p number size k out n e in
+    ap (λ (s : List ℕ). chunkPayloadAt s 0) (w .bytes) ∙ cut-back p number size k hn (w .rule) []

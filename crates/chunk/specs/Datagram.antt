@@ -4,7 +4,7 @@ use mathlib.Core.Bool.{cond}
 use mathlib.Core.List.{List, []}
 use lib.ListN.{take, drop}
 use Rattle.wire.specs.Answer.{Answer, got, refused, Reader, andThen}
-use Rattle.network_message.specs.Envelope.{NetworkMessage, networkMessageAt}
+use Rattle.network_message.specs.Envelope.{networkMessageAt}
 use Rattle.network_message.specs.declared.envelope.Envelope.{Envelope}
 use Rattle.network_message.specs.declared.header.PayloadHeader.{PayloadHeader}
 use Rattle.chunk.specs.declared.payload.ChunkPayload.{ChunkPayload}
@@ -12,7 +12,7 @@ use Rattle.chunk.specs.declared.datagram.ChunkPlace.{ChunkPlace}
 use Rattle.chunk.specs.declared.datagram.ChunkRead.{ChunkRead}
 use Rattle.chunk.specs.Payload.{chunkPayloadAt}
 
--- "PayloadHeader: for a chunk, DataSetWriterId 2" (an accepted chunk has this one)
+-- "PayloadHeader: for a chunk, DataSetWriterId 2": an accepted chunk has this one (proofs/Accepted.chunk-writer), so the 0 is never given
 abbrev pub writerOf : PayloadHeader → ℕ
 writerOf PayloadHeader.Absent = 0
 writerOf (PayloadHeader.Ids n) = 0

@@ -6,7 +6,7 @@ use mathlib.Core.List.{List}
 use native.Mathlib.Omega.{arith}
 use lib.ListN.{length, take, drop}
 use lib.Dec.{leb, eqb}
-use borrow.Author.Tests.{le-leb, leb-true, eqb-true, eqb-false}
+use borrow.Author.Tests.{le-leb, leb-true, eqb-true}
 use Rattle.reassembly.specs.Views.{View, dataView, inRange, clash, laid}
 use Rattle.reassembly.specs.Marks.{marksFor, markAll, markedBelow, allMarked}
 use Rattle.reassembly.specs.Areas.{markedView}

@@ -2,36 +2,48 @@
 -- Assumes nothing.
 use Prim.Native.Nat.{ℕ, _+_, _*_, _-_, _/_, _≤_, _<_}
 use mathlib.Core.Path.{_≡_, refl, sym, ap, ap₂, _∙_}
-use mathlib.Core.Bool.{Bool, true, false, not, false≢true}
+use mathlib.Core.Bool.{Bool, true, false, false≢true}
 use mathlib.Core.List.{List, [], _∷_}
 use mathlib.Core.Logic.{_⊎_, inl, inr, ⊎-elim}
 use mathlib.Core.Option.{some, none, orElse, Option·getD}
 use native.Mathlib.Nat.{div-mul-le-self, lt-div-mul-add}
 use native.Mathlib.Omega.{arith}
-use lib.Dec.{eqb}
-use lib.ListN.{length, getD, take, drop, length-take, length-drop}
+use lib.ListN.{length, getD, drop, length-take}
 use lib.Seq.{getD-take, getD-drop, ext-getD}
 use borrow.Author.Tests.{le-leb, lt-ltb, eq-eqb}
 use Rattle.chunk.specs.Cutting.{cutData}
-use Rattle.chunk.proofs.CutLaws.{data-most, data-full}
-use Rattle.reassembly.specs.Views.{View, has, isSome, differs, dataView, inRange, joined, nowhere, bytesOf}
+use Rattle.wire.specs.Answer.{got}
+use Rattle.chunk.specs.Datagram.{placeOf, chunkAt, chunkData}
+use Rattle.chunk.proofs.CutLaws.{cuts, data-most, data-full}
+use Rattle.chunk.proofs.ReadBack.{cutPlace, datagram-back, data-back}
+use Rattle.reassembly.specs.Views.{View, has, isSome, differs, dataView, inRange, joined, bytesOf}
 use Rattle.reassembly.specs.Record.{Identity, Partial, Good}
 use Rattle.reassembly.specs.Machine.{State, viewIn, judgeState, acceptState, complete}
 use Rattle.reassembly.specs.Machine.State.{idle, held}
 use Rattle.reassembly.specs.Judge.{stateOf, alone, readingVerdict}
-use Rattle.reassembly.specs.Reading.{readingAt}
+use Rattle.reassembly.specs.Reading.{messageOf, readingAt}
 use Rattle.reassembly.specs.Reading.Reading.{chunk}
 use Rattle.reassembly.specs.Operations.{yesNo, askComplete, judgeHandOut, handOut}
 use Rattle.reassembly.specs.declared.verdict.Completeness.the-variants as C
 use Rattle.reassembly.specs.declared.verdict.Verdict.{Verdict}
-use Rattle.reassembly.specs.declared.verdict.Verdict.the-variants.{Done, Refused}
-use Rattle.reassembly.proofs.Cases.{by-bool, by-lt}
+use Rattle.reassembly.specs.declared.verdict.Verdict.the-variants.{Done}
+use Rattle.reassembly.proofs.Cases.{by-lt}
+use Rattle.reassembly.proofs.JudgeLaws.{reading-got}
 use Rattle.reassembly.proofs.ViewLaws.{length-tab, getD-tab, data-at, data-below, data-above, has-data, full-all, clash-none}
 use Rattle.reassembly.proofs.SameLaws.{same-message-yes}
-use Rattle.reassembly_laws.specs.History.{Reply, whole, replies, final, machineReplies, machineFinal, replyOf, ifAccepted}
-use Rattle.reassembly_laws.specs.Cutting.{Arrival, takings, dones, IsChunk, OnlyChunks, Among, AllArrive}
+use Rattle.reassembly_laws.specs.History.{whole, replies, final, machineReplies, machineFinal, replyOf, ifAccepted}
+use Rattle.reassembly_laws.specs.Cutting.{Arrival, takings, dones, IsChunk, IsCut, Only, Among, AllArrive}
 use Rattle.reassembly_laws.proofs.Following
 use Rattle.reassembly_laws.proofs.Demand3.{history}
+
+-- what holds of each arrival
+only-all : {P Q : ℕ → Arrival → Type 0} → ((k : ℕ) (a : Arrival) → P k a → Q k a) → (l : List Arrival) → Only P l → Only Q l
+only-all f [] o = tt
+only-all f (a ∷ l) o = ((o .0 .0, f (o .0 .0) a (o .0 .1)), only-all f l (o .1))
+
+among-all : {P Q : ℕ → Arrival → Type 0} → ((k : ℕ) (a : Arrival) → P k a → Q k a) → (k : ℕ) (l : List Arrival) → Among P k l → Among Q k l
+among-all f k [] m = absurd m
+among-all f k (a ∷ l) m = ⊎-elim (λ e. inl (f k a e)) (λ e. inr (among-all f k l e)) m
 
 module _ (id : Identity) (p : List ℕ) (size : ℕ) where
   -- what chunk k brings
@@ -113,9 +125,9 @@ module _ (id : Identity) (p : List ℕ) (size : ℕ) where
       pub answers : machineReplies n (takings l) s ≡ dones l
       pub of : OfPayload (machineFinal n (takings l) s)
       pub keeps : (i : ℕ) → has (viewIn s) i ≡ true → has (viewIn (machineFinal n (takings l) s)) i ≡ true
-      pub brings : (k : ℕ) → Among id p size k l → (i : ℕ) → has (bringsAt k) i ≡ true → has (viewIn (machineFinal n (takings l) s)) i ≡ true
+      pub brings : (k : ℕ) → Among (IsChunk id p size) k l → (i : ℕ) → has (bringsAt k) i ≡ true → has (viewIn (machineFinal n (takings l) s)) i ≡ true
 
-    walk : (l : List Arrival) → OnlyChunks id p size l → (s : State) → OfPayload s → Walked l s
+    walk : (l : List Arrival) → Only (IsChunk id p size) l → (s : State) → OfPayload s → Walked l s
     walk [] o s h = record { answers = refl; of = h; keeps = λ i q. q; brings = λ k m. absurd m }
     walk (a ∷ l) o s h =
         let k = o .0 .0 in
@@ -161,6 +173,22 @@ module _ (id : Identity) (p : List ℕ) (size : ℕ) where
                 ∙ ⊎-elim (λ e. absurd (false≢true (rw e at (h i (omega arith))))) (λ e. rw (e .0)) (o .1 i)),
           )
 
+  -- ---- WHAT CUTTING WROTE, after an accepted chunk's envelope, reads as that chunk
+  pub cut-is-chunk : (k : ℕ) (a : Arrival) → id .number < 65536 → id .total ≡ length p → IsCut id p size k a → IsChunk id p size k a
+  cut-is-chunk k a hn long w =
+      let s = a .datagram in
+      let c = placeOf (w .message .envelope) (w .message .places .«publisher_end») (cutPlace p (id .number) size k hn (w .accepted) (w .at)) in
+      let e : chunkAt (a .sizes) s ≡ got c (length s) = datagram-back p (id .number) size k hn (w .accepted) (a .sizes) s (w .message) (w .at) (w .envelope) (w .chunk) (w .payload) in
+      let d : chunkData (chunkAt (a .sizes) s) s ≡ cutData p size k = data-back p (id .number) size k hn (w .accepted) (a .sizes) s (w .message) (w .at) (w .envelope) (w .chunk) (w .payload) in
+      let t : length p ≡ id .total = sym long in
+      let d₂ : chunkData (got c (length s)) s ≡ cutData p size k = rw e at d in
+      record {
+        message = messageOf c s;
+        same = λ i. record { publisher = w .publisher i; writer = w .writer i; number = id .number; total = t i };
+        reads = reading-got (a .sizes) s c (length s) e ∙ ap (chunk (messageOf c s) (k * size)) d₂;
+        inside = cuts (length p) size k (w .accepted) .inside;
+      }
+
   -- ---- ALL CHUNKS OF A PAYLOAD, taken in in any order by a sound, just emptied partial whose area is at least that long, some of them more
   -- than once: every taking in is accepted, complete is said, and the payload is handed out
   pub record Restored (l : List Arrival) (s : Partial) : Type 0 where
@@ -169,7 +197,7 @@ module _ (id : Identity) (p : List ℕ) (size : ℕ) where
     pub number : judgeHandOut (final (takings l) s) ≡ Done
     pub payload : handOut (final (takings l) s) ≡ p
 
-  pub all-chunks-restore : (l : List Arrival) → AllArrive id p size l → (s : Partial) → Good s → s .rec .started ≡ false → length p ≤ length (s .payload) → Restored l s
+  pub all-chunks-restore : (l : List Arrival) → AllArrive id p size (IsChunk id p size) l → (s : Partial) → Good s → s .rec .started ≡ false → length p ≤ length (s .payload) → Restored l s
   all-chunks-restore l all s ok e room =
       let n = length (s .payload) in
       let r : id .total ≤ n = omega (arith, all .total) in
@@ -185,3 +213,10 @@ module _ (id : Identity) (p : List ℕ) (size : ℕ) where
         number = Following.hand-is (final (takings l) s) (h .stays-good) ∙ rw c;
         payload = Following.hand-bytes (final (takings l) s) (h .stays-good) c ∙ rw (h .partial-is) (d .1);
       }
+
+  -- ---- A PAYLOAD CUT AND RESTORED: the same of datagrams with what cutting wrote for the chunks
+  pub all-cuts-restore : (l : List Arrival) → AllArrive id p size (IsCut id p size) l → id .number < 65536 → (s : Partial) → Good s → s .rec .started ≡ false → length p ≤ length (s .payload) → Restored l s
+  all-cuts-restore l all hn =
+      let f : (k : ℕ) (a : Arrival) → IsCut id p size k a → IsChunk id p size k a = λ k a w. cut-is-chunk k a hn (all .total) w in
+      all-chunks-restore l
+      (record { some = all .some; filled = all .filled; total = all .total; only = only-all f l (all .only); each = λ k h. among-all f k l (all .each k h) })

@@ -14,7 +14,6 @@ use Rattle.reassembly.specs.Record.{Partial, partial, sameMessage, soundBy}
 use Rattle.reassembly.specs.Reading.{readingAt}
 use Rattle.reassembly.specs.Judge.{judgeReading}
 use Rattle.reassembly.specs.Operations.{put, takeIn, askComplete, judgeHandOut, handOut}
-use Rattle.reassembly.specs.declared.record.Message.{Message}
 use Rattle.reassembly_laws.specs.History.{Call, replies}
 use Rattle.reassembly_laws.specs.History.Call.{Take, Ask, HandOut}
 use Rattle.reassembly_laws.specs.History.Reply.{done, said, handed, refused}

@@ -3,8 +3,13 @@ use Prim.Native.Nat.{ℕ, _*_, _≤_, _<_}
 use mathlib.Core.List.{List, [], _∷_}
 use mathlib.Core.Logic.{_⊎_}
 use mathlib.Core.Path.{_≡_}
-use lib.ListN.{length}
-use Rattle.chunk.specs.Cutting.{cutData}
+use mathlib.Core.Bool.{true}
+use lib.ListN.{length, drop}
+use Rattle.wire.specs.Answer.{got}
+use Rattle.network_message.specs.PublisherRecord.{publisherOf, recordAt}
+use Rattle.network_message.specs.Envelope.{NetworkMessage, networkMessageAt}
+use Rattle.chunk.specs.Datagram.{writerOf}
+use Rattle.chunk.specs.Cutting.{cutData, chunkBytes, cutRule}
 use Rattle.reassembly.specs.Record.{Identity, identityOf}
 use Rattle.reassembly.specs.Reading.{readingAt}
 use Rattle.reassembly.specs.Reading.Reading.{chunk}
@@ -36,20 +41,31 @@ module _ (id : Identity) (p : List ℕ) (size : ℕ) where
     pub reads : readingAt (a .sizes) (a .datagram) ≡ chunk message (k * size) (cutData p size k)
     pub inside : k * size < length p
 
-  -- every arrival is one of the chunks
-  abbrev pub OnlyChunks : List Arrival → Type 0
-  OnlyChunks [] = Unit {0}
-  OnlyChunks (a ∷ l) = ((k : ℕ) × IsChunk k a) × OnlyChunks l
+  -- it has an accepted chunk's envelope of that publisher and writer, and its payload is what cutting wrote for chunk k
+  pub record IsCut (k : ℕ) (a : Arrival) : Type 0 where
+    pub message : NetworkMessage
+    pub at : ℕ
+    pub envelope : networkMessageAt (a .sizes) (a .datagram) ≡ got message at
+    pub chunk : message .envelope .chunk ≡ true
+    pub publisher : publisherOf (recordAt (message .envelope .publisher) (message .places .«publisher_end») (a .datagram)) ≡ id .publisher
+    pub writer : writerOf (message .envelope .«payload_header») ≡ id .writer
+    pub accepted : cutRule (length p) size k ≡ 0
+    pub payload : drop at (a .datagram) ≡ chunkBytes p (id .number) size k
 
-  -- chunk k is among the arrivals
-  abbrev pub Among : ℕ → List Arrival → Type 0
-  Among k [] = ⊥
-  Among k (a ∷ l) = IsChunk k a ⊎ Among k l
+-- every arrival is of some chunk k
+abbrev pub Only : (ℕ → Arrival → Type 0) → List Arrival → Type 0
+Only P [] = Unit {0}
+Only P (a ∷ l) = ((k : ℕ) × P k a) × Only P l
 
-  -- all of the chunks arrive, and nothing else
-  pub record AllArrive (l : List Arrival) : Type 0 where
-    pub some : 1 ≤ size
-    pub filled : 1 ≤ length p
-    pub total : id .total ≡ length p
-    pub only : OnlyChunks l
-    pub each : (k : ℕ) → k * size < length p → Among k l
+-- one of chunk k is among the arrivals
+abbrev pub Among : (ℕ → Arrival → Type 0) → ℕ → List Arrival → Type 0
+Among P k [] = ⊥
+Among P k (a ∷ l) = P k a ⊎ Among P k l
+
+-- all chunks of the message id's payload p, cut into chunks of a data size, arrive, and nothing else
+pub record AllArrive (id : Identity) (p : List ℕ) (size : ℕ) (P : ℕ → Arrival → Type 0) (l : List Arrival) : Type 0 where
+  pub some : 1 ≤ size
+  pub filled : 1 ≤ length p
+  pub total : id .total ≡ length p
+  pub only : Only P l
+  pub each : (k : ℕ) → k * size < length p → Among P k l
