@@ -24,7 +24,7 @@ use Rattle.reassembly.specs.declared.verdict.Verdict.the-variants.{Done, Refuse
 use Rattle.reassembly.proofs.JudgeLaws as JudgeLaws
 use Rattle.reassembly_laws.specs.History.{Call, replies, final, machineReplies, machineFinal, brought, Brings, AllOf}
 use Rattle.reassembly_laws.specs.Combining.{Pair, Three, isRefused, someDisagree, leftVerdict, leftResult, rightVerdict, rightResult}
-use Rattle.reassembly_laws.specs.Cutting.{Arrival, takings, dones, AllArrive}
+use Rattle.reassembly_laws.specs.Cutting.{Arrival, takings, dones, IsCut, AllArrive}
 use Rattle.reassembly_laws.proofs.Demand3 as D
 use Rattle.reassembly_laws.proofs.Cutting as Cutting
 
@@ -91,11 +91,11 @@ take-in-is-combine s f gs gf sizes d c n e q =
     let p = D.chunk-as-partial s f (record { is-sound = gs }) (record { is-sound = gf }) (messageOf c d) (c .payload .offset) (chunkData (got c n) d) (JudgeLaws.proper-got sizes d c n e) (rw r at q) in
     rw r (p .verdict, p .equal)
 
--- ---- All chunks that a payload is cut into, taken in in any order, some of them more than once: every taking in is accepted, complete is said,
--- and the payload is handed out.
-pub all-chunks-restore : (id : Identity) (p : List ℕ) (size : ℕ) (l : List Arrival) → AllArrive id p size l
+-- ---- A payload cut into chunks and taken in in any order, some chunks more than once, each from a datagram of the same publisher and writer whose
+-- payload is what cutting wrote: every taking in is accepted, complete is said, and the payload is handed out.
+pub cut-and-restored : (id : Identity) (p : List ℕ) (size : ℕ) (l : List Arrival) → AllArrive id p size (IsCut id p size) l → id .number < 65536
     → (s : Partial) → sound s ≡ true → s .rec .started ≡ false → length p ≤ length (s .payload)
     → (replies (takings l) s ≡ dones l) × (askComplete (final (takings l) s) ≡ C.Yes) × (handOut (final (takings l) s) ≡ p)
-all-chunks-restore id p size l a s g e r =
-    let w = Cutting.all-chunks-restore id p size l a s (record { is-sound = g }) e r in
+cut-and-restored id p size l a h s g e r =
+    let w = Cutting.all-cuts-restore id p size l a h s (record { is-sound = g }) e r in
     (w .accepted, w .says-complete, w .payload)

@@ -5,5 +5,4 @@ pub mod Bringing
 pub mod Combining
 pub mod Alone
 pub mod Demand3
-pub mod Edges
 pub mod Cutting
