@@ -1,0 +1,4 @@
+pub mod Flags
+pub mod Header
+pub mod Fields
+pub mod Message
