@@ -1,0 +1,3 @@
+pub mod DataSetMessageFlags
+pub mod DataSetMessageParts
+pub mod DataSetMessage

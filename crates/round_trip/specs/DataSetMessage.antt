@@ -1,0 +1,55 @@
+-- What the round trips of DataSetMessages say.
+use Prim.Native.Nat.{ℕ, _+_, _-_, _<_, zero, suc}
+use mathlib.Core.Path.{_≡_}
+use mathlib.Core.Bool.{Bool, cond}
+use mathlib.Core.List.{List, [], _∷_}
+use lib.ListN.{length, getD}
+use Rattle.wire.specs.Answer.{Answer, got, refused}
+use Rattle.dataset_message.specs.declared.flags.Encoding.{Encoding}
+use Rattle.dataset_message.specs.declared.fields.Field.{Field}
+use Rattle.dataset_message.specs.Flags.{valid}
+use Rattle.dataset_message.specs.Fields.{fieldAt}
+use Rattle.dataset_message.specs.Message.{Message, isDelta, messageAt, fieldPlaceAt, fieldBytes}
+use Rattle.dataset_message_writer.specs.Header.{headerBytes}
+use Rattle.dataset_message_writer.specs.Fields.{fieldsBytes}
+use Rattle.dataset_message_writer.specs.Message.{Given, isFielded, isRawData, fieldsOf, countBytes, encode}
+
+-- where the first field of a written message starts, and where its last field ends
+
+abbrev pub firstOf : Given → ℕ
+firstOf g = length (headerBytes (g .header)) + length (countBytes (isFielded g) (isRawData g) (length (g .lengths)))
+
+abbrev pub endOf : Given → ℕ
+endOf g = firstOf g + length (fieldsBytes (isDelta (g .header .kind)) (g .indices) (fieldsOf g))
+
+-- what is read of a written message: the header that was given, and a cursor before the first of as many fields as were given
+abbrev pub messageOf : Given → Message
+messageOf g =
+    record {
+      header = g .header;
+      cursor = record { encoding = g .header .encoding; delta = isDelta (g .header .kind); next = 0; count = length (g .lengths); at = firstOf g };
+      end = endOf g;
+    }
+
+-- field k of a written message: the index and the bytes that were given
+pub record FieldBack (types : List ℕ) (g : Given) (k : ℕ) : Type 0 where
+  pub place : Field
+  pub end : ℕ
+  pub looked-up : fieldPlaceAt types k (encode g) ≡ got place end
+  pub index : place .index ≡ cond (isDelta (g .header .kind)) (getD (g .indices) k 0) k
+  pub bytes : fieldBytes (fieldPlaceAt types k (encode g)) (encode g) ≡ getD (fieldsOf g) k []
+
+-- a written message reads back as what was given
+pub record MessageBack (types : List ℕ) (g : Given) : Type 0 where
+  pub message : messageAt types (encode g) ≡ got (valid (messageOf g)) (endOf g)
+  pub field : (k : ℕ) → k < length (g .lengths) → FieldBack types g k
+  pub padding : length (encode g) - endOf g ≡ g .padding
+
+-- the fields of a message that was read, by the walk: n fields, the first of them field k
+abbrev pub andField : Answer Field → (Field → ℕ → List Field) → List Field
+andField (got f end) onward = f ∷ onward f end
+andField (refused number place) onward = []
+
+unfoldable pub walked : Bool → Encoding → List ℕ → ℕ → ℕ → List ℕ → ℕ → List Field
+walked delta encoding types zero k s at = []
+walked delta encoding types (suc n) k s at = andField (fieldAt delta encoding types k s at) (λ f end. walked delta encoding types n (k + 1) s end)
