@@ -8,7 +8,7 @@ use native.Mathlib.Nat.{add-zero, zero-add}
 use native.Mathlib.Omega.{arith}
 use borrow.Author.Tests.{leb-true, eqb-true, eqb-false, le-leb, lt-leb}
 use lib.Dec.{eqb}
-use lib.ListN.{length, getD, length-append}
+use lib.ListN.{drop, length, getD, length-append}
 use lib.Seq.{take-all}
 use Rattle.wire.specs.Answer.{got}
 use Rattle.wire.proofs.Facts.{and-left, and-right}
@@ -26,14 +26,15 @@ use Rattle.dataset_message.proofs.Agreement.{field-inside}
 use Rattle.dataset_message_writer.specs.Flags.{kindRule}
 use Rattle.dataset_message_writer.specs.Header.{headerBytes}
 use Rattle.dataset_message_writer.specs.Fields.{valuesOf, endsAt, fieldsRefusal, fieldsWhole, reached, fieldsBytes, zeros}
-use Rattle.dataset_message_writer.specs.Message.{Given, hasFields, isKey, isFielded, isRawData, fieldsOf, countBytes, configuredRule, countAgrees, encode, refusalOf}
+use Rattle.writing.specs.declared.Written.{Written}
+use Rattle.dataset_message_writer.specs.Message.{Given, writerNumber, Writes, hasFields, isKey, isFielded, isRawData, fieldsOf, countBytes, configuredRule, countAgrees, encode, refusalOf}
 use Rattle.dataset_message_writer.proofs.Judging.{length-values}
 use Rattle.dataset_message_writer.proofs.Laying.{length-zeros}
 use Rattle.dataset_message_writer.proofs.Whole.{Accepted, accepted}
 use Rattle.round_trip.specs.DataSetMessage.{firstOf, endOf, messageOf, FieldBack, MessageBack}
 use Rattle.round_trip.proofs.DataSetMessageParts.{FitsHeader, FitsIndices, header-is, whole-alone, fields-is, nth-is, zeros-is}
 
-no : {A : Type 0} → false ≡ true → A
+pub no : {A : Type 0} → false ≡ true → A
 no e = let z : _≡_ {A = ℕ} 0 1 = cc in absurd (omega arith)
 
 -- FieldCount, or the configured number
@@ -82,7 +83,7 @@ fields-some delta encoding types k indices (v ∷ vs) w l =
     simp length-append (omega arith)
 
 -- all fields are reached
-reached-all : (raw : Bool) (types lengths values : List ℕ) → countAgrees raw (length types) (length lengths) ≡ true → reached raw types (valuesOf lengths values) ≡ valuesOf lengths values
+pub reached-all : (raw : Bool) (types lengths values : List ℕ) → countAgrees raw (length types) (length lengths) ≡ true → reached raw types (valuesOf lengths values) ≡ valuesOf lengths values
 reached-all true types lengths values e =
     let n : length lengths ≡ length types = eqb-true (length lengths) (length types) e in
     let m = length-values lengths values in
@@ -142,7 +143,7 @@ fielded types g a = go (isFielded g) refl
           unpadded = λ f k. unpadded-is (isKey (g .header .kind)) (g .padding) (and-right (eqb (length (g .lengths)) 0) bare w) k;
         }
 
-delta-plain : (kind : Kind) (encoding : Encoding) → kindRule kind encoding ≡ 0 → isDelta kind ≡ true → isRaw encoding ≡ false
+pub delta-plain : (kind : Kind) (encoding : Encoding) → kindRule kind encoding ≡ 0 → isDelta kind ≡ true → isRaw encoding ≡ false
 delta-plain Kind.Key encoding r e = no e
 delta-plain Kind.Delta Encoding.Variant r e = refl
 delta-plain Kind.Delta Encoding.RawData r e = absurd (omega arith)
@@ -255,3 +256,21 @@ pub read-written : (types : List ℕ) (g : Given) → FitsHeader (g .header) →
 read-written types g fits indices h =
     let ok = accepted types g h in
     record { message = message-read types g fits indices ok; field = field-read types g fits indices ok; padding = padding-is types g fits indices ok }
+
+-- The same of the writer itself: where it reports n bytes, these are the message that reads back.
+pub written-reads : (types : List ℕ) (g : Given) → FitsHeader (g .header) → FitsIndices (g .indices) → (entry exit : List ℕ) (n : ℕ) → Writes types g entry exit (Written.Is n)
+    → (exit ≡ encode g ++ drop (length (encode g)) entry) × (n ≡ length (encode g)) × MessageBack types g
+written-reads types g fits indices entry exit n w = go (eqb (writerNumber types g (length entry)) 0) refl
+  where
+    go : (t : Bool) → eqb (writerNumber types g (length entry)) 0 ≡ t → (exit ≡ encode g ++ drop (length (encode g)) entry) × (n ≡ length (encode g)) × MessageBack types g
+    go true t =
+        let z = eqb-true (writerNumber types g (length entry)) 0 t in
+        let a : Written.Is n ≡ Written.Is (length (encode g)) = w .answer ∙ ap (λ (b : Bool). cond b (Written.Is (length (encode g))) (Written.Refused (writerNumber types g (length entry)))) t in (
+          w .buffer ∙ ap (λ (b : Bool). cond b (encode g ++ drop (length (encode g)) entry) entry) t,
+          (cc),
+          read-written types g fits indices (both-zero (refusalOf types g) _ z .0),
+        )
+    go false t =
+        let a : Written.Is n ≡ Written.Refused (writerNumber types g (length entry)) = w .answer ∙ ap (λ (b : Bool). cond b (Written.Is (length (encode g))) (Written.Refused (writerNumber types g (length entry)))) t in
+        let z : _≡_ {A = ℕ} 0 1 = cc in
+        absurd (omega arith)

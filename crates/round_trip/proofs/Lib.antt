@@ -1,3 +1,4 @@
 pub mod DataSetMessageFlags
 pub mod DataSetMessageParts
 pub mod DataSetMessage
+pub mod DataSetMessageRewritten

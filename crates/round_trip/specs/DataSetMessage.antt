@@ -2,8 +2,9 @@
 use Prim.Native.Nat.{ℕ, _+_, _-_, _<_, zero, suc}
 use mathlib.Core.Path.{_≡_}
 use mathlib.Core.Bool.{Bool, cond}
-use mathlib.Core.List.{List, [], _∷_}
-use lib.ListN.{length, getD}
+use mathlib.Core.List.{_++_, List, [], _∷_}
+use lib.Dec.{leb}
+use lib.ListN.{take, drop, length, getD}
 use Rattle.wire.specs.Answer.{Answer, got, refused}
 use Rattle.dataset_message.specs.declared.flags.Encoding.{Encoding}
 use Rattle.dataset_message.specs.declared.fields.Field.{Field}
@@ -12,7 +13,7 @@ use Rattle.dataset_message.specs.Fields.{fieldAt}
 use Rattle.dataset_message.specs.Message.{Message, isDelta, messageAt, fieldPlaceAt, fieldBytes}
 use Rattle.dataset_message_writer.specs.Header.{headerBytes}
 use Rattle.dataset_message_writer.specs.Fields.{fieldsBytes}
-use Rattle.dataset_message_writer.specs.Message.{Given, isFielded, isRawData, fieldsOf, countBytes, encode}
+use Rattle.dataset_message_writer.specs.Message.{Given, given, isFielded, isRawData, fieldsOf, countBytes, encode}
 
 -- where the first field of a written message starts, and where its last field ends
 
@@ -53,3 +54,33 @@ andField (refused number place) onward = []
 unfoldable pub walked : Bool → Encoding → List ℕ → ℕ → ℕ → List ℕ → ℕ → List Field
 walked delta encoding types zero k s at = []
 walked delta encoding types (suc n) k s at = andField (fieldAt delta encoding types k s at) (λ f end. walked delta encoding types n (k + 1) s end)
+
+-- the encoded bytes of a field
+abbrev pub bytesOf : List ℕ → Field → List ℕ
+bytesOf s f = take (f .length) (drop (f .offset) s)
+
+-- the fields' values one after the other, how long each is, and their indices
+
+unfoldable pub joined : List ℕ → List Field → List ℕ
+joined s [] = []
+joined s (f ∷ fs) = bytesOf s f ++ joined s fs
+
+unfoldable pub lengthsOf : List Field → List ℕ
+lengthsOf [] = []
+lengthsOf (f ∷ fs) = f .length ∷ lengthsOf fs
+
+unfoldable pub indicesOf : List Field → List ℕ
+indicesOf [] = []
+indicesOf (f ∷ fs) = f .index ∷ indicesOf fs
+
+-- the fields of a message that was read
+abbrev pub fieldsIn : List ℕ → List ℕ → Message → List Field
+fieldsIn types s m = walked (m .cursor .delta) (m .cursor .encoding) types (m .cursor .count) 0 s (m .cursor .at)
+
+-- a message that was read, to be written again: its header; of a key frame, that it is a heartbeat where nothing is left after the
+-- header; its fields' bytes, and a delta's indices; what is left after its last field
+abbrev pub taken : List ℕ → List ℕ → Message → Given
+taken types s m =
+    given (m .header) (leb (length s) (length (headerBytes (m .header)))) (joined s (fieldsIn types s m)) (lengthsOf (fieldsIn types s m))
+    (cond (m .cursor .delta) (indicesOf (fieldsIn types s m)) [])
+    (length s - m .end)
