@@ -39,7 +39,7 @@ no e = let z : _≡_ {A = ℕ} 0 1 = cc in absurd (omega arith)
 
 -- FieldCount, or the configured number
 
-counted-is : (raw : Bool) (types s : List ℕ) (at n : ℕ) → (raw ≡ true → (eqb (length types) 0 ≡ false) × (n ≡ length types)) → (raw ≡ false → n ≤ 65535)
+pub counted-is : (raw : Bool) (types s : List ℕ) (at n : ℕ) → (raw ≡ true → (eqb (length types) 0 ≡ false) × (n ≡ length types)) → (raw ≡ false → n ≤ 65535)
     → At s at (countBytes true raw n) → countedAt raw types s at ≡ got n (at + length (countBytes true raw n))
 counted-is true types s at n h l a = rw (h refl .0) (ap (λ (m : ℕ). got m at) (sym (h refl .1)) ∙ ap (got n) (sym (add-zero at)))
 counted-is false types s at n h l a = let u = l refl in item-is 2 n at (omega arith) s a
@@ -49,7 +49,7 @@ pub record Bare (kind : Kind) (s : List ℕ) (at n : ℕ) : Type 0 where
   pub none : n ≡ 0
   pub ends : isKey kind ≡ true → length s ≤ at
 
-count-is : (kind : Kind) (heartbeat raw : Bool) (types s : List ℕ) (at n : ℕ) → (isDelta kind ≡ true → raw ≡ false)
+pub count-is : (kind : Kind) (heartbeat raw : Bool) (types s : List ℕ) (at n : ℕ) → (isDelta kind ≡ true → raw ≡ false)
     → (hasFields kind heartbeat ≡ true → (at < length s) × (countedAt raw types s at ≡ got n (at + length (countBytes true raw n))))
     → (hasFields kind heartbeat ≡ false → Bare kind s at n)
     → countAt kind raw types s at ≡ got n (at + length (countBytes (hasFields kind heartbeat) raw n))
@@ -74,7 +74,7 @@ value-some encoding types k v w =
     let t = whole-alone (encodedAt encoding types k v 0) (length v) w in
     some-of encoding types k v (t .0) (t .1)
 
-fields-some : (delta : Bool) (encoding : Encoding) (types : List ℕ) (k : ℕ) (indices : List ℕ) (vs : List (List ℕ)) → fieldsWhole encoding types k vs ≡ true → 0 < length vs
+pub fields-some : (delta : Bool) (encoding : Encoding) (types : List ℕ) (k : ℕ) (indices : List ℕ) (vs : List (List ℕ)) → fieldsWhole encoding types k vs ≡ true → 0 < length vs
     → 0 < length (fieldsBytes delta indices vs)
 unfolding fieldsWhole fieldsBytes
 fields-some delta encoding types k indices [] w l = absurd (omega arith)

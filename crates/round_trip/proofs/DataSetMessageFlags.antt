@@ -96,7 +96,7 @@ kind-is Kind.Delta n q = rw q
 kind-is Kind.Event n q = rw q
 kind-is Kind.KeepAlive n q = rw q
 
-encoding-rule : (e : Encoding) (n : ℕ) → n ≡ encodingNumber e → _≡_ {A = ℕ} (cond (eqb n 3) 3 0) 0
+pub encoding-rule : (e : Encoding) (n : ℕ) → n ≡ encodingNumber e → _≡_ {A = ℕ} (cond (eqb n 3) 3 0) 0
 encoding-rule Encoding.Variant n q = rw q
 encoding-rule Encoding.RawData n q = rw q
 encoding-rule Encoding.DataValue n q = rw q

@@ -99,7 +99,7 @@ encoded-is encoding types k v m at q s a =
     ap (λ (l : List ℕ). encodedAt encoding types k l at) (a .2) ∙ ap (λ (n : ℕ). encodedAt encoding types k (a .0 ++ (v ++ a .1)) n) (sym (a .3))
     ∙ placed (encoded-steady encoding types k) (a .0) v (a .1) q ∙ ap (λ (n : ℕ). got m (n + length v)) (a .3)
 
-index-is : (delta : Bool) (k i m : ℕ) → (delta ≡ true → i < 65536) → Reads (indexAt delta k) m (indexBytes delta i) (cond delta i k)
+pub index-is : (delta : Bool) (k i m : ℕ) → (delta ≡ true → i < 65536) → Reads (indexAt delta k) m (indexBytes delta i) (cond delta i k)
 index-is true k i m l s a = item-is 2 i m (l refl) s a
 index-is false k i m l s a = ap (got k) (sym (add-zero m))
 
@@ -114,7 +114,7 @@ pub record FieldIs (delta : Bool) (encoding : Encoding) (types : List ℕ) (k i 
   pub index : place .index ≡ cond delta i k
   pub bytes : take (place .length) (drop (place .offset) s) ≡ v
 
-field-is : (delta : Bool) (encoding : Encoding) (types : List ℕ) (k i : ℕ) (v : List ℕ) (x : Measure) → (delta ≡ true → i < 65536)
+pub field-is : (delta : Bool) (encoding : Encoding) (types : List ℕ) (k i : ℕ) (v : List ℕ) (x : Measure) → (delta ≡ true → i < 65536)
     → encodedAt encoding types k v 0 ≡ got x (length v) → (s : List ℕ) (m : ℕ) → At s m (indexBytes delta i ++ v) → FieldIs delta encoding types k i v s m
 field-is delta encoding types k i v x l q s m a =
     let b = second s m (indexBytes delta i) v a in
