@@ -1,26 +1,31 @@
 -- Laws of the whole message: what an accepted one tells, its size, its bytes one part after the other, and each answer of the writer.
 -- Assumes nothing.
 use mathlib.Core.Path.{_≡_, refl, ap, sym, _∙_, subst}
-use mathlib.Core.Bool.{Bool, true, false, cond, not, _&&_, _||_}
+use mathlib.Core.Bool.{Bool, true, false, cond, not, _&&_}
 use mathlib.Core.List.{List, [], _++_}
-use Prim.Native.Nat.{ℕ, _+_, _≤_, _<_}
+use Prim.Native.Nat.{_*_, ℕ, _+_, _≤_, _<_, _%_, _/_, _-_}
 use native.Mathlib.Omega.{arith}
 use borrow.Author.Tests.{leb-true, leb-false, eqb-true, lt-ltb, le-ltb, ne-eqb}
 use lib.Dec.{leb, ltb, eqb}
-use lib.ListN.{length, length-append}
+use lib.ListN.{length, length-append, take, drop}
+use Rattle.dataset_message.specs.Flags.{notValid, valid}
+use Rattle.dataset_message.specs.declared.fields.Cursor.{Cursor}
+use Rattle.wire.specs.Answer.{got, refused}
+use Rattle.dataset_message_writer.specs.Rewrite.{partsAgain, again, againWritten, againBuffer, Rewrites}
+use Rattle.dataset_message.specs.declared.header.Header.{Header}
 use Rattle.wire.specs.Number.{leBytes}
 use Rattle.wire.proofs.Facts.{and-left, and-right}
-use Rattle.writing.specs.Writing.{orElse, picosecondsRefusal, Puts, writtenBy, bufferBy}
+use Rattle.writing.specs.Writing.{orElse, picosecondsRefusal, Puts, writtenBy, bufferBy, numberFor}
 use Rattle.writing.specs.declared.Written.{Written}
 use Rattle.writing.proofs.Putting.{then, whole}
 use Rattle.writing.proofs.Refusals.{both-zero, held}
 use Rattle.dataset_message.specs.declared.flags.Encoding.{Encoding}
 use Rattle.dataset_message.specs.declared.flags.Kind.{Kind}
-use Rattle.dataset_message.specs.Message.{isDelta, isRaw}
+use Rattle.dataset_message.specs.Message.{isDelta, isRaw, messageAt}
 use Rattle.dataset_message_writer.specs.Flags.{kindRule}
 use Rattle.dataset_message_writer.specs.Header.{headerBytes}
-use Rattle.dataset_message_writer.specs.Fields.{total, fieldsWhole, reached, fieldsBytes, zeros}
-use Rattle.dataset_message_writer.specs.Message.{Given, hasFields, isKey, isFielded, isRawData, fieldsOf, countBytes, encode, bodyRefusal, readingRefusal, countAgrees, bodyAgrees, listsAgree, readsBack, refusalOf, sizeOf, atMost, writerNumber, Writes}
+use Rattle.dataset_message_writer.specs.Fields.{total, fieldsBytes, zeros}
+use Rattle.dataset_message_writer.specs.Message.{Given, hasFields, isFielded, isRawData, fieldsOf, countBytes, encode, bodyRefusal, readingRefusal, bodyAgrees, listsAgree, readsBack, refusalOf, sizeOf, atMost, WritesBytes}
 use Rattle.dataset_message_writer.proofs.Judging.{or-assoc, six-and}
 use Rattle.dataset_message_writer.proofs.Laying.{length-zeros, values-whole, delta-length}
 
@@ -70,12 +75,6 @@ pub record Accepted (types : List ℕ) (g : Given) : Type 0 where
   pub agrees : bodyAgrees types g ≡ true
   pub adds : total (g .lengths) ≡ length (g .values)
   pub indexed : length (g .indices) ≡ cond (isDelta (g .header .kind)) (length (g .lengths)) 0
-  pub counted : cond (isFielded g && not (isRawData g)) (length (g .lengths)) 0 ≤ 65535
-
-count-within : (fielded raw w : Bool) (configured n : ℕ) (x : Bool) → cond fielded (w && countAgrees raw configured n) x ≡ true → cond (fielded && not raw) n 0 ≤ 65535
-count-within false raw w configured n x h = omega arith
-count-within true true w configured n x h = omega arith
-count-within true false w configured n x h = leb-true n 65535 (and-right w (leb n 65535) h)
 
 pub accepted : (types : List ℕ) (g : Given) → refusalOf types g ≡ 0 → Accepted types g
 accepted types g h =
@@ -95,7 +94,6 @@ accepted types g h =
       agrees = a;
       adds = eqb-true (total (g .lengths)) (length (g .values)) (and-left t i l);
       indexed = eqb-true (length (g .indices)) (cond (isDelta (g .header .kind)) (length (g .lengths)) 0) (and-right t i l);
-      counted = count-within (isFielded g) (isRawData g) (fieldsWhole (g .header .encoding) types 0 (reached (isRawData g) types (fieldsOf g))) (length types) (length (g .lengths)) (eqb (length (g .lengths)) 0 && (not (isKey (g .header .kind)) || eqb (g .padding) 0)) a;
     }
 
 -- its size
@@ -182,41 +180,101 @@ within n h = go (leb 65536 n) refl
     go true e = let l : 65536 ≤ 65535 = rw e at h in absurd (omega arith)
     go false e = let l = leb-false 65536 n e in (omega arith, rw e)
 
-module _ (types : List ℕ) (g : Given) (entry : List ℕ) where
-  by-number : (n : ℕ) → (n ≡ 0 → ⊥) → writerNumber types g (length entry) ≡ n → Writes types g entry entry (Written.Refused n)
+-- of bytes whose writer's own refusal is m
+module _ (m : ℕ) (bytes entry : List ℕ) where
+  by-number : (n : ℕ) → (n ≡ 0 → ⊥) → numberFor m (length bytes) (length entry) ≡ n → WritesBytes m bytes entry entry (Written.Refused n)
   by-number n z e =
       record {
-        answer = sym (ap (λ (m : ℕ). writtenBy m (encode g)) e ∙ rw (ne-eqb n 0 z));
-        buffer = sym (ap (λ (m : ℕ). bufferBy m (encode g) entry) e ∙ rw (ne-eqb n 0 z));
+        answer = sym (ap (λ (k : ℕ). writtenBy k bytes) e ∙ rw (ne-eqb n 0 z));
+        buffer = sym (ap (λ (k : ℕ). bufferBy k bytes entry) e ∙ rw (ne-eqb n 0 z));
       }
 
-  pub refused-by : (n : ℕ) → n ≡ refusalOf types g → (n ≡ 0 → ⊥) → Writes types g entry entry (Written.Refused n)
+  pub refused-by : (n : ℕ) → n ≡ m → (n ≡ 0 → ⊥) → WritesBytes m bytes entry entry (Written.Refused n)
   refused-by n e z =
       by-number n z
-      (ap (λ (m : ℕ). orElse m (cond (ltb 65535 (length (encode g))) 10 (cond (ltb (length entry) (length (encode g))) 11 0))) (sym e) ∙ rw (ne-eqb n 0 z))
+      (ap (λ (k : ℕ). orElse k (cond (ltb 65535 (length bytes)) 10 (cond (ltb (length entry) (length bytes)) 11 0))) (sym e) ∙ rw (ne-eqb n 0 z))
 
-  numbered : (n : ℕ) → n ≡ refusalOf types g → n ≡ 0
-      → writerNumber types g (length entry) ≡ cond (ltb 65535 (length (encode g))) 10 (cond (ltb (length entry) (length (encode g))) 11 0)
-  numbered n e z = ap (λ (m : ℕ). orElse m (cond (ltb 65535 (length (encode g))) 10 (cond (ltb (length entry) (length (encode g))) 11 0))) (sym e ∙ z)
+  numbered : (n : ℕ) → n ≡ m → n ≡ 0
+      → numberFor m (length bytes) (length entry) ≡ cond (ltb 65535 (length bytes)) 10 (cond (ltb (length entry) (length bytes)) 11 0)
+  numbered n e z = ap (λ (k : ℕ). orElse k (cond (ltb 65535 (length bytes)) 10 (cond (ltb (length entry) (length bytes)) 11 0))) (sym e ∙ z)
 
-  pub too-long : (n bytes : ℕ) → n ≡ refusalOf types g → n ≡ 0 → bytes ≡ atMost (length (encode g)) → 65535 < bytes → Writes types g entry entry (Written.Refused 10)
-  too-long n bytes e z s h =
-      let l = above (length (encode g)) (rw s at h) in
-      by-number 10 (λ q. omega arith) (numbered n e z ∙ rw (lt-ltb 65535 (length (encode g)) l))
+  pub too-long : (n size : ℕ) → n ≡ m → n ≡ 0 → size ≡ atMost (length bytes) → 65535 < size → WritesBytes m bytes entry entry (Written.Refused 10)
+  too-long n size e z s h =
+      let l = above (length bytes) (rw s at h) in
+      by-number 10 (λ q. omega arith) (numbered n e z ∙ rw (lt-ltb 65535 (length bytes) l))
 
-  pub no-room : (n bytes : ℕ) → n ≡ refusalOf types g → n ≡ 0 → bytes ≡ atMost (length (encode g)) → bytes ≤ 65535 → length entry < bytes → Writes types g entry entry (Written.Refused 11)
-  no-room n bytes e z s h r =
-      let w = within (length (encode g)) (rw s at h) in
-      let l : length entry < length (encode g) = rw (s ∙ w .1) at r in
-      by-number 11 (λ q. omega arith) (numbered n e z ∙ rw (le-ltb 65535 (length (encode g)) (w .0), lt-ltb (length entry) (length (encode g)) l))
+  pub no-room : (n size : ℕ) → n ≡ m → n ≡ 0 → size ≡ atMost (length bytes) → size ≤ 65535 → length entry < size → WritesBytes m bytes entry entry (Written.Refused 11)
+  no-room n size e z s h r =
+      let w = within (length bytes) (rw s at h) in
+      let l : length entry < length bytes = rw (s ∙ w .1) at r in
+      by-number 11 (λ q. omega arith) (numbered n e z ∙ rw (le-ltb 65535 (length bytes) (w .0), lt-ltb (length entry) (length bytes) l))
 
-  pub written-all : (n bytes : ℕ) (exit : List ℕ) (next : ℕ) → n ≡ refusalOf types g → n ≡ 0 → bytes ≡ atMost (length (encode g)) → bytes ≤ 65535 → bytes ≤ length entry
-      → Puts (encode g) entry 0 exit next → Writes types g entry exit (Written.Is bytes)
-  written-all n bytes exit next e z s h r p =
-      let w = within (length (encode g)) (rw s at h) in
-      let l : length (encode g) ≤ length entry = rw (s ∙ w .1) at r in
-      let q : writerNumber types g (length entry) ≡ 0 = numbered n e z ∙ rw (le-ltb 65535 (length (encode g)) (w .0), le-ltb (length entry) (length (encode g)) l) in
+  pub written-all : (n size : ℕ) (exit : List ℕ) (next : ℕ) → n ≡ m → n ≡ 0 → size ≡ atMost (length bytes) → size ≤ 65535 → size ≤ length entry
+      → Puts bytes entry 0 exit next → WritesBytes m bytes entry exit (Written.Is size)
+  written-all n size exit next e z s h r p =
+      let w = within (length bytes) (rw s at h) in
+      let l : length bytes ≤ length entry = rw (s ∙ w .1) at r in
+      let q : numberFor m (length bytes) (length entry) ≡ 0 = numbered n e z ∙ rw (le-ltb 65535 (length bytes) (w .0), le-ltb (length entry) (length bytes) l) in
       record {
-        answer = ap Written.Is (s ∙ w .1) ∙ sym (ap (λ (m : ℕ). writtenBy m (encode g)) q);
-        buffer = whole p l .0 ∙ sym (ap (λ (m : ℕ). bufferBy m (encode g) entry) q);
+        answer = ap Written.Is (s ∙ w .1) ∙ sym (ap (λ (k : ℕ). writtenBy k bytes) q);
+        buffer = whole p l .0 ∙ sym (ap (λ (k : ℕ). bufferBy k bytes entry) q);
       }
+
+-- FieldCount is a number of 2 bytes
+low-bytes : (q r : ℕ) → (65536 * q + r) / 256 % 256 ≡ r / 256 % 256
+low-bytes q r = let d : (65536 * q + r) / 256 ≡ 256 * q + r / 256 = omega arith in rw d (omega arith)
+
+pub count-bytes : (n : ℕ) → leBytes 2 (n % 65536) ≡ leBytes 2 n
+count-bytes n =
+    let a : n % 65536 % 256 ≡ n % 256 = omega arith in
+    let e : 65536 * (n / 65536) + n % 65536 ≡ n = omega arith in
+    let b : n / 256 % 256 ≡ n % 65536 / 256 % 256 = ap (λ (m : ℕ). m / 256 % 256) (sym e) ∙ low-bytes (n / 65536) (n % 65536) in
+    rw (a, b)
+
+-- a message written again
+
+pub again-size : (h : Header) (fielded r : Bool) (count : ℕ) (fields : List ℕ) (padding size : ℕ) → r ≡ isRaw (h .encoding)
+    → size ≡ atMost (sizeOf (length (headerBytes h)) (fielded && not r) false (length fields) 0 padding) → size ≡ atMost (length (partsAgain h fielded count fields padding))
+again-size h fielded r count fields padding size er e =
+    e ∙ ap (λ (x : Bool). atMost (sizeOf (length (headerBytes h)) (fielded && not x) false (length fields) 0 padding)) er ∙ ap atMost (sym bytes)
+  where
+    plain : (b : Bool) → length (headerBytes h) + (cond b 2 0 + (length fields + padding)) ≡ length (headerBytes h) + cond b (2 + (length fields + padding)) (length fields + padding)
+    plain true = refl
+    plain false = ap (λ (n : ℕ). length (headerBytes h) + n) (omega arith)
+
+    bytes : length (partsAgain h fielded count fields padding) ≡ sizeOf (length (headerBytes h)) (fielded && not (isRaw (h .encoding))) false (length fields) 0 padding
+    bytes =
+        size-parts (headerBytes h) (countBytes fielded (isRaw (h .encoding)) count) fields (zeros padding)
+        ∙ ap (λ (n : ℕ). length (headerBytes h) + (length (countBytes fielded (isRaw (h .encoding)) count) + (length fields + n))) (length-zeros padding)
+        ∙ ap (λ (n : ℕ). length (headerBytes h) + (n + (length fields + padding))) (count-length (fielded && not (isRaw (h .encoding))) count)
+        ∙ plain (fielded && not (isRaw (h .encoding)))
+
+pub again-parts : {entry m₁ m₂ m₃ exit : List ℕ} {n₁ n₂ n₃ next : ℕ} (h : Header) (fielded r : Bool) (count : ℕ) (fields : List ℕ) (padding : ℕ) → r ≡ isRaw (h .encoding)
+    → Puts (headerBytes h) entry 0 m₁ n₁ → Puts (countBytes fielded r count) m₁ n₁ m₂ n₂
+    → Puts fields m₂ n₂ m₃ n₃ → Puts (zeros padding) m₃ n₃ exit next → Puts (partsAgain h fielded count fields padding) entry 0 exit next
+again-parts {m₁ = m₁} {m₂ = m₂} {n₁ = n₁} {n₂ = n₂} h fielded r count fields padding er a b c z =
+    then a (then (subst (λ (x : Bool). Puts (countBytes fielded x count) m₁ n₁ m₂ n₂) er b) (then c z))
+
+pub rewrite-refused : (types s entry : List ℕ) (n place : ℕ) → messageAt types s ≡ refused n place → Rewrites types s entry entry (Written.Refused n)
+rewrite-refused types s entry n place q =
+    record { answer = sym (ap (againWritten (length entry) s) q); buffer = sym (ap (againBuffer entry s) q) }
+
+pub rewrite-invalid : (types s entry : List ℕ) (at : ℕ) → messageAt types s ≡ got notValid at → Rewrites types s entry entry (Written.Refused 6)
+rewrite-invalid types s entry at q =
+    record { answer = sym (ap (againWritten (length entry) s) q); buffer = sym (ap (againBuffer entry s) q) }
+
+pub rewrite-valid : (types s entry exit : List ℕ) (r : Written) (h : Header) (c : Cursor) (end e size : ℕ) (fielded : Bool) (n : ℕ) (fields : List ℕ) (padding : ℕ)
+    → messageAt types s ≡ got (valid (record { header = h; cursor = c; end = end })) e → size ≡ length (headerBytes h) → fielded ≡ hasFields (h .kind) (leb (length s) size)
+    → n ≡ end - c .at → fields ≡ take n (drop (c .at) s) → padding ≡ length s - end → WritesBytes 0 (partsAgain h fielded (c .count) fields padding) entry exit r
+    → Rewrites types s entry exit r
+rewrite-valid types s entry exit r h c end e size fielded n fields padding q es ef en ep ed w =
+    record { answer = all .answer ∙ sym (ap (againWritten (length entry) s) q); buffer = all .buffer ∙ sym (ap (againBuffer entry s) q) }
+  where
+    same : partsAgain h fielded (c .count) fields padding ≡ again s (record { header = h; cursor = c; end = end })
+    same =
+        ap (λ (f : Bool). partsAgain h f (c .count) fields padding) (ef ∙ ap (λ (j : ℕ). hasFields (h .kind) (leb (length s) j)) es)
+        ∙ ap (λ (b : List ℕ). partsAgain h (hasFields (h .kind) (leb (length s) (length (headerBytes h)))) (c .count) b padding) (ep ∙ ap (λ (j : ℕ). take j (drop (c .at) s)) en)
+        ∙ ap (λ (p : ℕ). partsAgain h (hasFields (h .kind) (leb (length s) (length (headerBytes h)))) (c .count) (take (end - c .at) (drop (c .at) s)) p) ed
+
+    all : WritesBytes 0 (again s (record { header = h; cursor = c; end = end })) entry exit r
+    all = subst (λ (b : List ℕ). WritesBytes 0 b entry exit r) same w

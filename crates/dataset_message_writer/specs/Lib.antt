@@ -2,3 +2,4 @@ pub mod Flags
 pub mod Header
 pub mod Fields
 pub mod Message
+pub mod Rewrite

@@ -118,7 +118,11 @@ atMost n = cond (leb 65536 n) 65536 n
 abbrev pub writerNumber : List ℕ → Given → ℕ → ℕ
 writerNumber types g room = numberFor (refusalOf types g) (length (encode g)) room
 
--- what the writer answers for a buffer, and what it leaves there
-pub record Writes (types : List ℕ) (g : Given) (entry exit : List ℕ) (r : Written) : Type 0 where
-  pub answer : r ≡ writtenBy (writerNumber types g (length entry)) (encode g)
-  pub buffer : exit ≡ bufferBy (writerNumber types g (length entry)) (encode g) entry
+-- what a writer of these bytes, whose own refusal is n, answers for a buffer, and what it leaves there
+pub record WritesBytes (n : ℕ) (bytes entry exit : List ℕ) (r : Written) : Type 0 where
+  pub answer : r ≡ writtenBy (numberFor n (length bytes) (length entry)) bytes
+  pub buffer : exit ≡ bufferBy (numberFor n (length bytes) (length entry)) bytes entry
+
+-- the DataSetMessage writer
+abbrev pub Writes : List ℕ → Given → List ℕ → List ℕ → Written → Type 0
+Writes types g entry exit r = WritesBytes (refusalOf types g) (encode g) entry exit r

@@ -3,3 +3,4 @@ mod fields;
 mod flags;
 mod header;
 pub mod message;
+pub mod rewrite;

@@ -49,7 +49,7 @@ fn is_key(kind: Kind) -> bool
     }
 }
 
-fn has_fields(kind: Kind, heartbeat: bool) -> bool
+pub fn has_fields(kind: Kind, heartbeat: bool) -> bool
     ensures { λ r. ⌜ r ≡ hasFields kind heartbeat ⌝ }
 {
     match kind {
@@ -166,7 +166,7 @@ fn plus(a: usize, b: usize) -> usize
 }
 
 // How many bytes the message takes, at most 65,536.
-fn size(
+pub fn size(
     header: Header,
     counted: bool,
     delta: bool,
@@ -187,12 +187,11 @@ fn size(
     plus(front, values)
 }
 
-fn put_count(out: &mut [u8], at: usize, fielded: bool, raw: bool, n: usize) -> usize
-    requires { ⌜ cond (fielded && not raw) n 0 ≤ 65535 ⌝ }
+pub fn put_count(out: &mut [u8], at: usize, fielded: bool, raw: bool, n: usize) -> usize
     ensures { λ r. ⌜ Puts (countBytes fielded raw n) (now (out .entry)) at (now (out .exit)) r ⌝ }
 {
     if fielded & !raw {
-        return put16(out, at, n as u16);
+        return put16(out, at, (n % 65536) as u16);
     }
     at
 }
@@ -223,7 +222,7 @@ fn put_message(
     indices: &[u16],
     padding: usize,
 ) -> usize
-    requires { ⌜ (total (now lengths) ≡ length (now values)) × (length (now indices) ≡ cond (isDelta (header .kind)) (length (now lengths)) 0) × (cond (hasFields (header .kind) heartbeat && not (isRaw (header .encoding))) (length (now lengths)) 0 ≤ 65535) ⌝ }
+    requires { ⌜ (total (now lengths) ≡ length (now values)) × (length (now indices) ≡ cond (isDelta (header .kind)) (length (now lengths)) 0) ⌝ }
     ensures { λ r. ⌜ Puts (encode (given header heartbeat (now (values .entry)) (now (lengths .entry)) (now (indices .entry)) padding)) (now (out .entry)) 0 (now (out .exit)) r ⌝ }
 {
     let kind = header.kind;

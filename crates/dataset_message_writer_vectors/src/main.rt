@@ -1,18 +1,16 @@
 // DataSetMessages written, and messages read and written again. Each expected byte and number is worked out from document 01.
 //
-// A written message is shown with its length, its bytes and the buffer's next byte, which stays ee; a refusal with its number and the
-// buffer's first byte. A line of standard input has a letter for the configured field types, a space, a message in hex, a space and
-// words: the message is read, its parts are written again, and it says whether the bytes are the same.
-use dataset_message::fields::Cursor;
-use dataset_message::fields::FieldStep;
+// A written message is shown with its length, its bytes, the buffer's next byte, which stays ee, and the number of fields and the end
+// of the last one as they read back; a refusal with its number and the buffer's first byte. A line of standard input has a letter for
+// the configured field types, a space, a message in hex, a space and words: the message is read and written again, and it says whether
+// the bytes are the same.
 use dataset_message::flags::Encoding;
 use dataset_message::flags::Kind;
 use dataset_message::header::Header;
-use dataset_message::header::HeaderRead;
-use dataset_message::header::read_header;
 use dataset_message::message::MessageRead;
 use dataset_message::message::read;
 use dataset_message_writer::message::write;
+use dataset_message_writer::rewrite::rewrite;
 use libc::STDIN_FILENO;
 use libc::STDOUT_FILENO;
 use text::hex::put_hex;
@@ -93,6 +91,22 @@ fn each_item() -> Header {
     }
 }
 
+// How many fields are read back, and where the last ends.
+fn read_back(s: &[u8], types: &[u8]) {
+    match read(s, types) {
+        MessageRead::NotValid => put(b" invalid"),
+        MessageRead::Refused(n, place) => {
+            put(b" not read");
+            number(n as usize);
+            number(place);
+        }
+        MessageRead::Is(_, cursor, end) => {
+            number(cursor.count);
+            number(end);
+        }
+    }
+}
+
 fn show(
     words: &[u8],
     header: Header,
@@ -124,6 +138,7 @@ fn show(
             number(n);
             hex(part(&out, 0, n));
             hex(part(&out, n, 1));
+            read_back(part(&out, 0, n), types);
         }
     }
     put(b"\n");
@@ -429,96 +444,13 @@ fn same(a: &[u8], b: &[u8]) -> bool {
     true
 }
 
-fn set_length(lengths: &mut [usize], k: usize, n: usize) {
-    if k < lengths.len() {
-        lengths[k] = n;
-    }
-}
-
-fn set_index(indices: &mut [u16], k: usize, n: usize) {
-    if k < indices.len() {
-        indices[k] = (n % 65536) as u16;
-    }
-}
-
-// The fields from a cursor on: their values, lengths and indices, and how many bytes the values have.
-fn collect(
-    s: &[u8],
-    types: &[u8],
-    start: Cursor,
-    values: &mut [u8],
-    lengths: &mut [usize],
-    indices: &mut [u16],
-) -> usize {
-    let mut cursor = start;
-    let mut p: usize = 0;
-    let mut k: usize = 0;
-    while k < 64 {
-        match cursor.step(s, types) {
-            FieldStep::Refused(_, _) => {
-                return p;
-            }
-            FieldStep::Is(f, next) => {
-                p = writing::put_run(values, p, part(s, f.offset, f.length));
-                set_length(lengths, k, f.length);
-                set_index(indices, k, f.index);
-                cursor = next;
-            }
-        }
-        k += 1;
-    }
-    p
-}
-
-// Whether nothing is left after the header, as of a heartbeat.
-fn nothing_left(s: &[u8]) -> bool {
-    match read_header(s) {
-        HeaderRead::NotValid(_) => false,
-        HeaderRead::Refused(_, _) => false,
-        HeaderRead::Is(_, at) => s.len() <= at,
-    }
-}
-
-fn first_lengths(lengths: &[usize], n: usize) -> &[usize] {
-    if lengths.len() < n {
-        return lengths;
-    }
-    &lengths[0..n]
-}
-
-fn first_indices(indices: &[u16], delta: bool, n: usize) -> &[u16] {
-    if !delta {
-        return &indices[0..0];
-    }
-    if indices.len() < n {
-        return indices;
-    }
-    &indices[0..n]
-}
-
-fn show_again(
-    s: &[u8],
-    types: &[u8],
-    header: Header,
-    values: &[u8],
-    lengths: &[usize],
-    indices: &[u16],
-    end: usize,
-) {
+fn show_again(s: &[u8], types: &[u8]) {
     let mut out = [0xeeu8; 128];
-    match write(
-        &mut out,
-        header,
-        nothing_left(s),
-        values,
-        lengths,
-        indices,
-        types,
-        wire::left(s.len(), end),
-    ) {
+    match rewrite(&mut out, s, types) {
         Written::Refused(n) => {
             put(b" bad");
             number(n as usize);
+            hex(part(&out, 0, 1));
         }
         Written::Is(n) => {
             if same(part(&out, 0, n), s) {
@@ -526,66 +458,17 @@ fn show_again(
             } else {
                 hex(part(&out, 0, n));
             }
+            hex(part(&out, n, 1));
         }
-    }
-}
-
-fn again_in(
-    s: &[u8],
-    types: &[u8],
-    header: Header,
-    cursor: Cursor,
-    end: usize,
-    values: &mut [u8],
-    lengths: &mut [usize],
-    indices: &mut [u16],
-) {
-    let n = collect(s, types, cursor, values, lengths, indices);
-    show_again(
-        s,
-        types,
-        header,
-        part(values, 0, n),
-        first_lengths(lengths, cursor.count),
-        first_indices(indices, cursor.delta, cursor.count),
-        end,
-    );
-}
-
-fn again(s: &[u8], types: &[u8], header: Header, cursor: Cursor, end: usize) {
-    let mut values = [0u8; 128];
-    let mut lengths = [0usize; 64];
-    let mut indices = [0u16; 64];
-    again_in(
-        s,
-        types,
-        header,
-        cursor,
-        end,
-        &mut values,
-        &mut lengths,
-        &mut indices,
-    );
-}
-
-fn rewrite(s: &[u8], types: &[u8]) {
-    match read(s, types) {
-        MessageRead::NotValid => put(b" invalid"),
-        MessageRead::Refused(n, place) => {
-            put(b" not read");
-            number(n as usize);
-            number(place);
-        }
-        MessageRead::Is(header, cursor, end) => again(s, types, header, cursor, end),
     }
 }
 
 // `t`: UInt16 and Float are configured; else nothing is.
 fn configured(letter: u8, s: &[u8]) {
     if letter == b't' {
-        rewrite(s, &[5, 10]);
+        show_again(s, &[5, 10]);
     } else {
-        rewrite(s, &[]);
+        show_again(s, &[]);
     }
 }
 

@@ -8,10 +8,12 @@ use native.Mathlib.Nat.{zero-add}
 use native.Mathlib.Omega.{arith}
 use borrow.Author.Tests.{leb-true, eq-eqb, le-leb, le-ltb}
 use lib.Dec.{eqb, leb, ltb}
-use lib.ListN.{length, drop}
+use lib.ListN.{length, drop, take, take-append-drop}
+use lib.Seq.{drop-drop}
+use Rattle.dataset_message_writer.specs.Rewrite.{again, againWritten, againBuffer, Rewrites}
 use Rattle.wire.specs.Answer.{got}
 use Rattle.wire.proofs.Reading.{invert, got-value, got-next, not-got}
-use Rattle.writing.specs.Writing.{writtenBy, bufferBy}
+use Rattle.writing.specs.Writing.{writtenBy, bufferBy, numberFor}
 use Rattle.writing.specs.declared.Written.{Written}
 use Rattle.writing.proofs.Back.{Bytes, Back, empty, rest-is, end-fits, item-back}
 use Rattle.dataset_message.specs.declared.flags.Kind.{Kind}
@@ -89,9 +91,26 @@ count-back Kind.KeepAlive raw types s at n next bytes l d h = without-fields Kin
 pub record Rewritten (types s : List ℕ) (m : Message) : Type 0 where
   pub accepted : refusalOf types (taken types s m) ≡ 0
   pub same : encode (taken types s m) ≡ s
+  pub parts : again s m ≡ s
 
 abbrev read : Header → ℕ → ℕ → ℕ → Message
 read h n first end = record { header = h; cursor = record { encoding = h .encoding; delta = isDelta (h .kind); next = 0; count = n; at = first }; end = end }
+
+-- The parts of an accepted message, one after the other as `rewrite` writes them, are the message.
+
+again-parts : (types s : List ℕ) (h : Header) (n first end : ℕ) → HeaderBack s h (length (headerBytes h))
+    → CountBack (h .kind) (isRaw (h .encoding)) types s (length (headerBytes h)) n first → first ≤ end → drop end s ≡ zeros (length s - end)
+    → again s (read h n first end) ≡ s
+again-parts types s h n first end header count l rest =
+    sym (rest-is s 0 (headerBytes h) (length (headerBytes h)) (header .stands)
+    ∙ ap (λ (x : List ℕ). headerBytes h ++ x)
+    (rest-is s (length (headerBytes h)) (countBytes (hasFields (h .kind) (leb (length s) (length (headerBytes h)))) (isRaw (h .encoding)) n) first (count .stands)
+    ∙ ap (λ (x : List ℕ). countBytes (hasFields (h .kind) (leb (length s) (length (headerBytes h)))) (isRaw (h .encoding)) n ++ x)
+    (sym (take-append-drop (end - first) (drop first s)) ∙ ap (λ (x : List ℕ). take (end - first) (drop first s) ++ x) (drop-drop (end - first) first s ∙ ap (λ (j : ℕ). drop j s) there ∙ rest))))
+  where
+    there : first + (end - first) ≡ end
+    there = omega arith
+
 
 module _ (types s : List ℕ) (h : Header) (n first end : ℕ) (header : HeaderBack s h (length (headerBytes h)))
     (count : CountBack (h .kind) (isRaw (h .encoding)) types s (length (headerBytes h)) n first)
@@ -153,7 +172,12 @@ module _ (types s : List ℕ) (h : Header) (n first end : ℕ) (header : HeaderB
   none-refused = rw (header .kind, header .picoseconds, body-none, body-agrees, lists-agree)
 
   pub parts-again : Rewritten types s (read h n first end)
-  parts-again = record { accepted = none-refused; same = bytes-same }
+  parts-again =
+      record {
+        accepted = none-refused;
+        same = bytes-same;
+        parts = again-parts types s h n first end header count (let e = fields .stands .1 in omega arith) rest;
+      }
 
 after-count : (types s : List ℕ) (h : Header) (n first : ℕ) (m : Message) (e : ℕ) → Bytes s → HeaderBack s h (length (headerBytes h))
     → CountBack (h .kind) (isRaw (h .encoding)) types s (length (headerBytes h)) n first
@@ -202,4 +226,15 @@ rewrite-written types s m e bytes q l entry exit r room w =
     rw (x .accepted) (ap (λ (b : List ℕ). cond (ltb 65535 (length b)) 10 (cond (ltb (length entry) (length b)) 11 0)) (x .same) ∙ rw (le-ltb 65535 (length s) l, le-ltb (length entry) (length s) room)) in (
       w .answer ∙ ap (λ (k : ℕ). writtenBy k (encode (taken types s m))) n ∙ ap (λ (b : List ℕ). Written.Is (length b)) (x .same),
       w .buffer ∙ ap (λ (k : ℕ). bufferBy k (encode (taken types s m)) entry) n ∙ ap (λ (b : List ℕ). b ++ drop (length b) entry) (x .same),
+    )
+
+-- and of `rewrite`
+pub rewrite-same : (types s : List ℕ) (m : Message) (e : ℕ) → Bytes s → messageAt types s ≡ got (valid m) e → length s ≤ 65535
+    → (entry exit : List ℕ) (r : Written) → length s ≤ length entry → Rewrites types s entry exit r → (r ≡ Written.Is (length s)) × (exit ≡ s ++ drop (length s) entry)
+rewrite-same types s m e bytes q l entry exit r room w =
+    let x = rewrite-read types s m e bytes q in
+    let n : numberFor 0 (length (again s m)) (length entry) ≡ 0 =
+        ap (λ (b : List ℕ). cond (ltb 65535 (length b)) 10 (cond (ltb (length entry) (length b)) 11 0)) (x .parts) ∙ rw (le-ltb 65535 (length s) l, le-ltb (length entry) (length s) room) in (
+      w .answer ∙ ap (againWritten (length entry) s) q ∙ ap (λ (k : ℕ). writtenBy k (again s m)) n ∙ ap (λ (b : List ℕ). Written.Is (length b)) (x .parts),
+      w .buffer ∙ ap (againBuffer entry s) q ∙ ap (λ (k : ℕ). bufferBy k (again s m) entry) n ∙ ap (λ (b : List ℕ). b ++ drop (length b) entry) (x .parts),
     )

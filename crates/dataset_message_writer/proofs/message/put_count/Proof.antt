@@ -3,17 +3,17 @@
 use denote.Ref.{now}
 use native.Mathlib.Omega.{arith}
 use borrow.Author.Needs.{needs}
+use Rattle.dataset_message_writer.proofs.Whole.{count-bytes}
 use Rattle.writing.proofs.Putting.{puts, nothing}
 use Rattle.dataset_message_writer.proofs.message.put_count.Statement.{statement}
 use Rattle.dataset_message_writer.proofs.message.put_count.Tie as tie
 
 cast-put16 : tie.Need-cast-put16
-cast-put16 c =
-    let h = rw (c .before .if1 .taken) at (c .before .before .before .pre) in omega arith
+cast-put16 c = omega arith
 
 returns : tie.Need-returns
 returns c =
-    rw (c .before .before .before .before .if1 .taken) (puts (c .before .before .put16 .ensures))
+    rw (c .before .before .before .before .if1 .taken, ← count-bytes (c .before .before .before .before .before .before .args .n)) (puts (c .before .before .put16 .ensures))
 
 returns-2 : tie.Need-returns-2
 returns-2 c =

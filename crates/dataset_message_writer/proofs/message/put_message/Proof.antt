@@ -7,10 +7,6 @@ use Rattle.dataset_message_writer.specs.Message.{given}
 use Rattle.dataset_message_writer.proofs.message.put_message.Statement.{statement}
 use Rattle.dataset_message_writer.proofs.message.put_message.Tie as tie
 
-put-count-requires : tie.Need-put-count-requires
-put-count-requires c κs =
-    rw (c .before .has-fields .ensures, c .is-raw .ensures) (c .before .before .before .before .before .before .before .before .before .before .before .pre .2)
-
 put-fields-requires : tie.Need-put-fields-requires
 put-fields-requires c κs =
     (c .before .before .before .before .before .before .before .before .before .before .before .before .before .before .before .before .pre .0, rw (c .is-delta .ensures) (c .before .before .before .before .before .before .before .before .before .before .before .before .before .before .before .before .pre .1))
@@ -26,7 +22,7 @@ put-message-spec =
     (λ c κs. search needs)
     (λ c κs. search needs)
     (λ c κs. search needs)
-    put-count-requires
+    (λ c κs. search needs)
     (λ c κs. search needs)
     put-fields-requires
     (λ c κs. search needs)
