@@ -3,15 +3,18 @@
 use mathlib.Core.Path.{_≡_, refl, ap, sym, _∙_, subst}
 use mathlib.Core.Bool.{Bool, true, false, cond, not, _||_}
 use mathlib.Core.List.{List, [], _++_}
-use Prim.Native.Nat.{ℕ, _+_, _-_, _≤_}
-use native.Mathlib.Nat.{zero-add}
+use Prim.Native.Nat.{ℕ, _+_, _-_, _≤_, zero, suc, _<_}
+use native.Mathlib.Nat.{zero-add, add-zero}
 use native.Mathlib.Omega.{arith}
-use borrow.Author.Tests.{leb-true, eq-eqb, le-leb, le-ltb}
+use borrow.Author.Tests.{leb-true, eq-eqb, le-leb, le-ltb, lt-leb}
 use lib.Dec.{eqb, leb, ltb}
-use lib.ListN.{length, drop, take, take-append-drop}
+use lib.ListN.{length, drop, take, take-append-drop, getD}
 use lib.Seq.{drop-drop}
+use Rattle.dataset_message.proofs.Agreement.{message-read}
+use Rattle.dataset_message.specs.declared.fields.Field.{Field}
+use Rattle.dataset_message.specs.declared.flags.Encoding.{Encoding}
 use Rattle.dataset_message_writer.specs.Rewrite.{again, againWritten, againBuffer, Rewrites}
-use Rattle.wire.specs.Answer.{got}
+use Rattle.wire.specs.Answer.{got, Answer, andThen}
 use Rattle.wire.proofs.Reading.{invert, got-value, got-next, not-got}
 use Rattle.writing.specs.Writing.{writtenBy, bufferBy, numberFor}
 use Rattle.writing.specs.declared.Written.{Written}
@@ -20,12 +23,12 @@ use Rattle.dataset_message.specs.declared.flags.Kind.{Kind}
 use Rattle.dataset_message.specs.declared.header.Header.{Header}
 use Rattle.dataset_message.specs.Flags.{Valid, notValid, valid}
 use Rattle.dataset_message.specs.Header.{headerAt}
-use Rattle.dataset_message.specs.Fields.{fieldsAt, paddingAt}
-use Rattle.dataset_message.specs.Message.{Message, isDelta, isRaw, countedAt, countAt, endAt, bodyAt, afterHeader, messageAt}
+use Rattle.dataset_message.specs.Fields.{fieldsAt, paddingAt, fieldAt}
+use Rattle.dataset_message.specs.Message.{Message, isDelta, isRaw, countedAt, countAt, endAt, bodyAt, afterHeader, messageAt, fieldPlaceAt}
 use Rattle.dataset_message_writer.specs.Header.{headerBytes}
 use Rattle.dataset_message_writer.specs.Fields.{total, valuesOf, fieldsBytes, zeros}
 use Rattle.dataset_message_writer.specs.Message.{Given, hasFields, isKey, isFielded, isRawData, fieldsOf, countBytes, configuredRule, countAgrees, bodyRefusal, bodyAgrees, listsAgree, refusalOf, encode, writerNumber, Writes}
-use Rattle.round_trip.specs.DataSetMessage.{fieldsIn, joined, lengthsOf, taken}
+use Rattle.round_trip.specs.DataSetMessage.{fieldsIn, joined, lengthsOf, taken, andField, walked}
 use Rattle.round_trip.proofs.DataSetMessageParts.{HeaderBack, header-back, indicesFor, FieldsTaken, fields-back, zeros-back}
 use Rattle.round_trip.proofs.DataSetMessage.{no, reached-all, delta-plain}
 
@@ -110,7 +113,6 @@ again-parts types s h n first end header count l rest =
   where
     there : first + (end - first) ≡ end
     there = omega arith
-
 
 module _ (types s : List ℕ) (h : Header) (n first end : ℕ) (header : HeaderBack s h (length (headerBytes h)))
     (count : CountBack (h .kind) (isRaw (h .encoding)) types s (length (headerBytes h)) n first)
@@ -234,7 +236,35 @@ pub rewrite-same : (types s : List ℕ) (m : Message) (e : ℕ) → Bytes s → 
 rewrite-same types s m e bytes q l entry exit r room w =
     let x = rewrite-read types s m e bytes q in
     let n : numberFor 0 (length (again s m)) (length entry) ≡ 0 =
-        ap (λ (b : List ℕ). cond (ltb 65535 (length b)) 10 (cond (ltb (length entry) (length b)) 11 0)) (x .parts) ∙ rw (le-ltb 65535 (length s) l, le-ltb (length entry) (length s) room) in (
+    ap (λ (b : List ℕ). cond (ltb 65535 (length b)) 10 (cond (ltb (length entry) (length b)) 11 0)) (x .parts) ∙ rw (le-ltb 65535 (length s) l, le-ltb (length entry) (length s) room) in (
       w .answer ∙ ap (againWritten (length entry) s) q ∙ ap (λ (k : ℕ). writtenBy k (again s m)) n ∙ ap (λ (b : List ℕ). Written.Is (length b)) (x .parts),
       w .buffer ∙ ap (againBuffer entry s) q ∙ ap (λ (k : ℕ). bufferBy k (again s m) entry) n ∙ ap (λ (b : List ℕ). b ++ drop (length b) entry) (x .parts),
     )
+
+-- The fields that are written again are those that lookup gives.
+
+walked-nth : (delta : Bool) (encoding : Encoding) (types s : List ℕ) (d : Field) (j n k at end : ℕ) → j < n → fieldsAt delta encoding types n k s at ≡ got tt end
+    → (q : ℕ) × (e : ℕ) × (fieldsAt delta encoding types j k s at ≡ got tt q) × (fieldAt delta encoding types (k + j) s q ≡ got (getD (walked delta encoding types n k s at) j d) e)
+unfolding fieldsAt walked
+walked-nth delta encoding types s d j zero k at end l h = absurd (omega arith)
+walked-nth delta encoding types s d zero (suc n) k at end l h =
+    let a = invert (fieldAt delta encoding types k s at) (λ f q. fieldsAt delta encoding types n (k + 1) s q) h in
+    (at, a .1, refl, ap (λ (i : ℕ). fieldAt delta encoding types i s at) (add-zero k) ∙ a .2 ∙ ap (λ (f : Field). got f (a .1)) (sym (first-is (fieldAt delta encoding types k s at) (a .0) (a .1) (a .2))))
+  where
+    first-is : (x : Answer Field) (f : Field) (q : ℕ) → x ≡ got f q → getD (andField x (λ f e. walked delta encoding types n (k + 1) s e)) zero d ≡ f
+    first-is x f q e = ap (λ (y : Answer Field). getD (andField y (λ f e. walked delta encoding types n (k + 1) s e)) zero d) e
+walked-nth delta encoding types s d (suc j) (suc n) k at end l h =
+    let a = invert (fieldAt delta encoding types k s at) (λ f q. fieldsAt delta encoding types n (k + 1) s q) h in
+    let r = walked-nth delta encoding types s d j n (k + 1) (a .1) end (omega arith) (a .3) in
+    let e : k + suc j ≡ k + 1 + j = omega arith in
+    let w : getD (andField (fieldAt delta encoding types k s at) (λ f z. walked delta encoding types n (k + 1) s z)) (suc j) d ≡ getD (walked delta encoding types n (k + 1) s (a .1)) j d =
+    ap (λ (y : Answer Field). getD (andField y (λ f z. walked delta encoding types n (k + 1) s z)) (suc j) d) (a .2) in
+    (r .0, r .1, ap (λ (y : Answer Field). andThen y (λ f q. fieldsAt delta encoding types j (k + 1) s q)) (a .2) ∙ r .2, ap (λ (i : ℕ). fieldAt delta encoding types i s (r .0)) e ∙ r .3 ∙ ap (λ (f : Field). got f (r .1)) (sym w))
+
+pub walked-is : (types s : List ℕ) (m : Message) (e : ℕ) → messageAt types s ≡ got (valid m) e → (d : Field) (k : ℕ) → k < m .cursor .count
+    → (end : ℕ) × (fieldPlaceAt types k s ≡ got (getD (fieldsIn types s m) k d) end)
+walked-is types s m e q d k l =
+    let r = message-read types s m e q in
+    let w = walked-nth (m .cursor .delta) (m .cursor .encoding) types s d k (m .cursor .count) 0 (m .cursor .at) (m .end) l (r .passed) in
+    let f = ap (λ (i : ℕ). fieldAt (m .cursor .delta) (m .cursor .encoding) types i s (w .0)) (sym (zero-add k)) ∙ w .3 in
+    (w .1, rw (q, lt-leb (m .cursor .count) k l, w .2, f))
