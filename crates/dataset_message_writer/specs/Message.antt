@@ -9,6 +9,7 @@ use lib.ListN.{length}
 use Rattle.wire.specs.Number.{leBytes}
 use Rattle.writing.specs.Writing.{orElse, picosecondsRefusal, numberFor, writtenBy, bufferBy}
 use Rattle.writing.specs.declared.Written.{Written}
+use Rattle.dataset_message.specs.declared.flags.Encoding.{Encoding}
 use Rattle.dataset_message.specs.declared.flags.Kind.{Kind}
 use Rattle.dataset_message.specs.declared.header.Header.{Header}
 use Rattle.dataset_message.specs.Message.{isDelta, isRaw}
@@ -61,13 +62,14 @@ encode g =
 abbrev pub configuredRule : Bool → ℕ → ℕ
 configuredRule raw configured = cond (raw && eqb configured 0) 8 0
 
+-- what reading refuses of the fields
+abbrev pub fieldedRefusal : Encoding → List ℕ → List (List ℕ) → ℕ
+fieldedRefusal encoding types vs =
+    orElse (configuredRule (isRaw encoding) (length types)) (fieldsRefusal encoding types 0 (reached (isRaw encoding) types vs))
+
 -- what reading refuses after the header
 abbrev pub bodyRefusal : List ℕ → Given → ℕ
-bodyRefusal types g =
-    cond (isFielded g)
-    (orElse (configuredRule (isRawData g) (length types))
-    (fieldsRefusal (g .header .encoding) types 0 (reached (isRawData g) types (fieldsOf g))))
-    0
+bodyRefusal types g = cond (isFielded g) (fieldedRefusal (g .header .encoding) types (fieldsOf g)) 0
 
 -- "A writer refuses what reading would refuse, by the same number in reading order"
 abbrev pub readingRefusal : List ℕ → Given → ℕ
@@ -86,12 +88,15 @@ isKey Kind.Delta = false
 isKey Kind.Event = false
 isKey Kind.KeepAlive = false
 
--- what follows the header reads back as it is given: each field whole and their number; without fields there are none, and
--- a heartbeat is not padded
+-- each of n fields is whole, and their number reads back
+abbrev pub fieldedAgrees : Encoding → List ℕ → ℕ → List (List ℕ) → Bool
+fieldedAgrees encoding types n vs = fieldsWhole encoding types 0 (reached (isRaw encoding) types vs) && countAgrees (isRaw encoding) (length types) n
+
+-- what follows the header reads back as it is given: the fields; or there are none, and a heartbeat is not padded
 abbrev pub bodyAgrees : List ℕ → Given → Bool
 bodyAgrees types g =
     cond (isFielded g)
-    (fieldsWhole (g .header .encoding) types 0 (reached (isRawData g) types (fieldsOf g)) && countAgrees (isRawData g) (length types) (length (g .lengths)))
+    (fieldedAgrees (g .header .encoding) types (length (g .lengths)) (fieldsOf g))
     (eqb (length (g .lengths)) 0 && (not (isKey (g .header .kind)) || eqb (g .padding) 0))
 
 -- the lengths add up to the values' bytes; a delta has an index for each field, another message none

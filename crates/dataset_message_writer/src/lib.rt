@@ -3,4 +3,5 @@ mod fields;
 mod flags;
 mod header;
 pub mod message;
+mod parts;
 pub mod rewrite;

@@ -5,8 +5,10 @@ use crate::fields::judge_fields;
 use crate::fields::put_delta;
 use crate::fields::put_zeros;
 use crate::flags::kind_rule;
-use crate::header::header_size;
 use crate::header::put_header;
+use crate::parts::has_fields;
+use crate::parts::put_count;
+use crate::parts::size;
 use dataset_message::flags::Encoding;
 use dataset_message::flags::Kind;
 use dataset_message::header::Header;
@@ -14,18 +16,14 @@ use writing::Written;
 use writing::or_else;
 use writing::picoseconds_refusal;
 use writing::put_run;
-use writing::put16;
 ghost use mathlib.Core.Path.{_≡_};
-ghost use mathlib.Core.Bool.{cond, not, _&&_, _||_};
-ghost use Prim.Native.Nat.{_+_, _≤_};
-ghost use lib.Dec.{eqb, leb};
+ghost use mathlib.Core.Bool.{cond};
 ghost use lib.ListN.{length};
 ghost use Rattle.writing.specs.Writing.{orElse, Puts};
-ghost use Rattle.dataset_message.specs.Message.{isDelta, isRaw};
-ghost use Rattle.dataset_message_writer.specs.Header.{headerBytes};
-ghost use Rattle.dataset_message_writer.specs.Fields.{total, valuesOf, fieldsRefusal, fieldsWhole, reached, fieldsBytes};
-ghost use Rattle.dataset_message_writer.specs.Message.{given, hasFields, isKey, configuredRule, countAgrees, listsAgree};
-ghost use Rattle.dataset_message_writer.specs.Message.{countBytes, encode, bodyRefusal, bodyAgrees, refusalOf, atMost, sizeOf, Writes};
+ghost use Rattle.dataset_message.specs.Message.{isDelta};
+ghost use Rattle.dataset_message_writer.specs.Fields.{total, valuesOf, fieldsBytes};
+ghost use Rattle.dataset_message_writer.specs.Message.{given, isKey, fieldedRefusal, fieldedAgrees, configuredRule, countAgrees, listsAgree};
+ghost use Rattle.dataset_message_writer.specs.Message.{encode, bodyRefusal, bodyAgrees, refusalOf, Writes};
 
 fn is_delta(kind: Kind) -> bool
     ensures { λ r. ⌜ r ≡ isDelta kind ⌝ }
@@ -45,17 +43,6 @@ fn is_key(kind: Kind) -> bool
         Kind::Key => true,
         Kind::Delta => false,
         Kind::Event => false,
-        Kind::KeepAlive => false,
-    }
-}
-
-pub fn has_fields(kind: Kind, heartbeat: bool) -> bool
-    ensures { λ r. ⌜ r ≡ hasFields kind heartbeat ⌝ }
-{
-    match kind {
-        Kind::Key => !heartbeat,
-        Kind::Delta => true,
-        Kind::Event => true,
         Kind::KeepAlive => false,
     }
 }
@@ -91,7 +78,7 @@ fn count_agrees(raw: bool, configured: usize, n: usize) -> bool
 
 // The number of the fields' refusal: 8, a field's own, 6 for bytes behind a value or another number of fields.
 fn fields_refusal(values: &[u8], lengths: &[usize], encoding: Encoding, types: &[u8]) -> u8
-    ensures { λ r. ⌜ r ≡ orElse (orElse (configuredRule (isRaw encoding) (length (now (types .entry)))) (fieldsRefusal encoding (now (types .entry)) 0 (reached (isRaw encoding) (now (types .entry)) (valuesOf (now (lengths .entry)) (now (values .entry)))))) (cond (fieldsWhole encoding (now (types .entry)) 0 (reached (isRaw encoding) (now (types .entry)) (valuesOf (now (lengths .entry)) (now (values .entry)))) && countAgrees (isRaw encoding) (length (now (types .entry))) (length (now (lengths .entry)))) 0 6) ⌝ }
+    ensures { λ r. ⌜ r ≡ orElse (fieldedRefusal encoding (now (types .entry)) (valuesOf (now (lengths .entry)) (now (values .entry)))) (cond (fieldedAgrees encoding (now (types .entry)) (length (now (lengths .entry))) (valuesOf (now (lengths .entry)) (now (values .entry)))) 0 6) ⌝ }
 {
     let raw = is_raw(encoding);
     let configured = configured_rule(raw, types.len());
@@ -152,50 +139,6 @@ fn refusal(
     or_else(flags, or_else(times, or_else(body, lists)))
 }
 
-// a + b, at most 65,536, which is above every limit.
-fn plus(a: usize, b: usize) -> usize
-    ensures { λ r. ⌜ r ≡ atMost (a + b) ⌝ }
-{
-    if 65536 <= a {
-        return 65536;
-    }
-    if 65536 - a <= b {
-        return 65536;
-    }
-    a + b
-}
-
-// How many bytes the message takes, at most 65,536.
-pub fn size(
-    header: Header,
-    counted: bool,
-    delta: bool,
-    bytes: usize,
-    count: usize,
-    padding: usize,
-) -> usize
-    ensures { λ r. ⌜ r ≡ atMost (sizeOf (length (headerBytes header)) counted delta bytes count padding) ⌝ }
-{
-    let front = header_size(header);
-    let values = plus(bytes, padding);
-    if delta {
-        return plus(front, plus(2, plus(count, plus(count, values))));
-    }
-    if counted {
-        return plus(front, plus(2, values));
-    }
-    plus(front, values)
-}
-
-pub fn put_count(out: &mut [u8], at: usize, fielded: bool, raw: bool, n: usize) -> usize
-    ensures { λ r. ⌜ Puts (countBytes fielded raw n) (now (out .entry)) at (now (out .exit)) r ⌝ }
-{
-    if fielded & !raw {
-        return put16(out, at, (n % 65536) as u16);
-    }
-    at
-}
-
 fn put_fields(
     out: &mut [u8],
     at: usize,
@@ -204,7 +147,7 @@ fn put_fields(
     lengths: &[usize],
     indices: &[u16],
 ) -> usize
-    requires { ⌜ (total (now lengths) ≡ length (now values)) × (length (now indices) ≡ cond delta (length (now lengths)) 0) ⌝ }
+    requires { ⌜ total (now lengths) ≡ length (now values) ⌝ }
     ensures { λ r. ⌜ Puts (fieldsBytes delta (now (indices .entry)) (valuesOf (now (lengths .entry)) (now (values .entry)))) (now (out .entry)) at (now (out .exit)) r ⌝ }
 {
     if delta {
@@ -222,7 +165,7 @@ fn put_message(
     indices: &[u16],
     padding: usize,
 ) -> usize
-    requires { ⌜ (total (now lengths) ≡ length (now values)) × (length (now indices) ≡ cond (isDelta (header .kind)) (length (now lengths)) 0) ⌝ }
+    requires { ⌜ total (now lengths) ≡ length (now values) ⌝ }
     ensures { λ r. ⌜ Puts (encode (given header heartbeat (now (values .entry)) (now (lengths .entry)) (now (indices .entry)) padding)) (now (out .entry)) 0 (now (out .exit)) r ⌝ }
 {
     let kind = header.kind;

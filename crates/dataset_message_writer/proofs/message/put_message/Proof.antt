@@ -9,7 +9,7 @@ use Rattle.dataset_message_writer.proofs.message.put_message.Tie as tie
 
 put-fields-requires : tie.Need-put-fields-requires
 put-fields-requires c κs =
-    (c .before .before .before .before .before .before .before .before .before .before .before .before .before .before .before .before .pre .0, rw (c .is-delta .ensures) (c .before .before .before .before .before .before .before .before .before .before .before .before .before .before .before .before .pre .1))
+    c .before .before .before .before .before .before .before .before .before .before .before .before .before .before .before .before .pre
 
 returns : tie.Need-returns
 returns c =

@@ -1,11 +1,11 @@
--- `dataset_message_writer::message::plus` meets its contract.
+-- `dataset_message_writer::parts::plus` meets its contract.
 -- Assumes nothing.
 use native.Mathlib.Omega.{arith}
 use Prim.Native.Nat.{_+_}
 use borrow.Author.Tests.{le-leb, lt-leb}
 use borrow.Author.Needs.{needs}
-use Rattle.dataset_message_writer.proofs.message.plus.Statement.{statement}
-use Rattle.dataset_message_writer.proofs.message.plus.Tie as tie
+use Rattle.dataset_message_writer.proofs.parts.plus.Statement.{statement}
+use Rattle.dataset_message_writer.proofs.parts.plus.Tie as tie
 
 returns : tie.Need-returns
 returns c =

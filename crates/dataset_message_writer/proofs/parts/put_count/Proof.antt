@@ -1,12 +1,12 @@
--- `dataset_message_writer::message::put_count` meets its contract.
+-- `dataset_message_writer::parts::put_count` meets its contract.
 -- Assumes nothing.
 use denote.Ref.{now}
 use native.Mathlib.Omega.{arith}
 use borrow.Author.Needs.{needs}
 use Rattle.dataset_message_writer.proofs.Whole.{count-bytes}
 use Rattle.writing.proofs.Putting.{puts, nothing}
-use Rattle.dataset_message_writer.proofs.message.put_count.Statement.{statement}
-use Rattle.dataset_message_writer.proofs.message.put_count.Tie as tie
+use Rattle.dataset_message_writer.proofs.parts.put_count.Statement.{statement}
+use Rattle.dataset_message_writer.proofs.parts.put_count.Tie as tie
 
 cast-put16 : tie.Need-cast-put16
 cast-put16 c = omega arith

@@ -1,10 +1,10 @@
--- `dataset_message_writer::message::size` meets its contract.
+-- `dataset_message_writer::parts::size` meets its contract.
 -- Assumes nothing.
 use Prim.Native.Nat.{_+_}
 use borrow.Author.Needs.{needs}
 use Rattle.dataset_message_writer.proofs.Judging.{more}
-use Rattle.dataset_message_writer.proofs.message.size.Statement.{statement}
-use Rattle.dataset_message_writer.proofs.message.size.Tie as tie
+use Rattle.dataset_message_writer.proofs.parts.size.Statement.{statement}
+use Rattle.dataset_message_writer.proofs.parts.size.Tie as tie
 
 returns : tie.Need-returns
 returns c =
