@@ -144,26 +144,26 @@ fn show(
     put(b"\n");
 }
 
-// A key frame of Variants, or of fields in another encoding.
+// A key frame with fields of an encoding.
 fn key(words: &[u8], encoding: Encoding, values: &[u8], lengths: &[usize], types: &[u8]) {
-    show(
-        words,
-        plain(encoding, Kind::Key),
-        false,
-        values,
-        lengths,
-        &[],
-        types,
-        0,
-    );
+    let header = plain(encoding, Kind::Key);
+    show(words, header, false, values, lengths, &[], types, 0);
 }
 
-fn empty(words: &[u8], header: Header, heartbeat: bool, padding: usize) {
+// A message of Variants of a kind.
+fn variants(words: &[u8], kind: Kind, values: &[u8], lengths: &[usize], indices: &[u16]) {
+    let header = plain(Encoding::Variant, kind);
+    show(words, header, false, values, lengths, indices, &[], 0);
+}
+
+// A message without fields.
+fn empty(words: &[u8], encoding: Encoding, kind: Kind, heartbeat: bool, padding: usize) {
+    let header = plain(encoding, kind);
     show(words, header, heartbeat, b"", &[], &[], &[], padding);
 }
 
-// Bit 0 always, then each flag by its part: sequence is bit 3 of Flags1, Flags2 is left out where it is 0.
-fn accepted() {
+// Bit 0 always, then each flag by its part: sequence is bit 3 of Flags1. Flags2 is left out where it is 0.
+fn headers() {
     let values = b"\x05\x03\x00\x0a\x00\x00\x00\x3f";
     show(
         b"document 01:",
@@ -175,107 +175,106 @@ fn accepted() {
         &[],
         0,
     );
-    empty(b"each header item:", each_item(), true, 0);
-    empty(b"heartbeat:", plain(Encoding::Variant, Kind::Key), true, 0);
-    empty(b"no field:", plain(Encoding::Variant, Kind::Key), false, 0);
-    empty(
-        b"no field and padding:",
-        plain(Encoding::Variant, Kind::Key),
-        false,
-        2,
-    );
-    empty(
-        b"heartbeat in RawData:",
-        plain(Encoding::RawData, Kind::Key),
+    show(
+        b"each header item:",
+        each_item(),
         true,
+        b"",
+        &[],
+        &[],
+        &[],
         0,
     );
-    empty(
-        b"keep alive and padding:",
-        plain(Encoding::RawData, Kind::KeepAlive),
-        false,
-        1,
-    );
-    empty(b"picoseconds 9,999:", picoseconds(9999), true, 0);
-    key(
-        b"RawData:",
-        Encoding::RawData,
-        b"\x03\x00\x00\x00\x00\x3f",
-        &[2, 4],
-        &[5, 10],
-    );
-    key(
-        b"a DataValue:",
-        Encoding::DataValue,
-        b"\x01\x05\x03\x00",
-        &[4],
+    show(
+        b"picoseconds 9,999:",
+        picoseconds(9999),
+        true,
+        b"",
         &[],
+        &[],
+        &[],
+        0,
     );
     show(
-        b"delta:",
-        plain(Encoding::Variant, Kind::Delta),
-        false,
-        b"\x00\x05\x03\x00",
-        &[1, 3],
-        &[7, 1],
+        b"picoseconds 10,000:",
+        picoseconds(10000),
+        true,
+        b"",
         &[],
-        1,
-    );
-    show(
-        b"event:",
-        plain(Encoding::Variant, Kind::Event),
-        false,
-        b"\x00",
-        &[1],
         &[],
         &[],
         0,
     );
 }
 
-// What reading refuses, by its number: the header's rules, 8, a field's own number.
-fn reading_refuses() {
+fn without_fields() {
+    empty(b"heartbeat:", Encoding::Variant, Kind::Key, true, 0);
+    empty(b"no field:", Encoding::Variant, Kind::Key, false, 0);
+    empty(
+        b"no field and padding:",
+        Encoding::Variant,
+        Kind::Key,
+        false,
+        2,
+    );
+    empty(
+        b"heartbeat in RawData:",
+        Encoding::RawData,
+        Kind::Key,
+        true,
+        0,
+    );
+    empty(
+        b"keep alive and padding:",
+        Encoding::RawData,
+        Kind::KeepAlive,
+        false,
+        1,
+    );
+    empty(b"padded heartbeat:", Encoding::Variant, Kind::Key, true, 1);
+}
+
+fn kinds() {
+    variants(
+        b"delta:",
+        Kind::Delta,
+        b"\x00\x05\x03\x00",
+        &[1, 3],
+        &[7, 1],
+    );
+    variants(b"event:", Kind::Event, b"\x00", &[1], &[]);
     empty(
         b"event in DataValue:",
-        plain(Encoding::DataValue, Kind::Event),
+        Encoding::DataValue,
+        Kind::Event,
         false,
         0,
     );
     empty(
         b"event in RawData:",
-        plain(Encoding::RawData, Kind::Event),
+        Encoding::RawData,
+        Kind::Event,
         false,
         0,
     );
     empty(
         b"delta in RawData:",
-        plain(Encoding::RawData, Kind::Delta),
+        Encoding::RawData,
+        Kind::Delta,
         false,
         0,
     );
-    empty(b"picoseconds 10,000:", picoseconds(10000), true, 0);
+}
+
+// RawData: 8 without configured fields, 1 for an element cut short, 6 for one too long or another number of them.
+fn raw_data() {
+    let two = b"\x03\x00\x00\x00\x00\x3f";
+    key(b"RawData:", Encoding::RawData, two, &[2, 4], &[5, 10]);
     key(
         b"RawData with nothing configured:",
         Encoding::RawData,
         b"\x03",
         &[1],
-        &[],
-    );
-    key(
-        b"a field cut short:",
-        Encoding::Variant,
-        b"\x05\x03",
-        &[2],
-        &[],
-    );
-    key(b"an empty field:", Encoding::Variant, b"", &[0], &[]);
-    key(b"V3 in a field:", Encoding::Variant, b"\x18", &[1], &[]);
-    key(b"a type not taken:", Encoding::Variant, b"\x19", &[1], &[]);
-    key(
-        b"a length of -2:",
-        Encoding::Variant,
-        b"\x0c\xfe\xff\xff\xff",
-        &[5],
         &[],
     );
     key(
@@ -286,30 +285,15 @@ fn reading_refuses() {
         &[5, 10],
     );
     key(
-        b"bytes behind a field, and then V3:",
-        Encoding::Variant,
-        b"\x00\x00\x18",
-        &[2, 1],
-        &[],
-    );
-}
-
-// What would read back otherwise is 6.
-fn otherwise() {
-    key(
-        b"bytes behind a field:",
-        Encoding::Variant,
-        b"\x00\x00",
-        &[2],
-        &[],
-    );
-    key(
         b"an element too long:",
         Encoding::RawData,
         b"\x03\x00\x00",
         &[3],
         &[5],
     );
+}
+
+fn raw_counts() {
     key(
         b"an element too few:",
         Encoding::RawData,
@@ -325,69 +309,74 @@ fn otherwise() {
         &[5],
     );
     key(
+        b"a DataValue:",
+        Encoding::DataValue,
+        b"\x01\x05\x03\x00",
+        &[4],
+        &[],
+    );
+}
+
+// A field's own number.
+fn faulty_fields() {
+    variants(b"a field cut short:", Kind::Key, b"\x05\x03", &[2], &[]);
+    variants(b"an empty field:", Kind::Key, b"", &[0], &[]);
+    variants(b"V3 in a field:", Kind::Key, b"\x18", &[1], &[]);
+    variants(b"a type not taken:", Kind::Key, b"\x19", &[1], &[]);
+    variants(
+        b"a length of -2:",
+        Kind::Key,
+        b"\x0c\xfe\xff\xff\xff",
+        &[5],
+        &[],
+    );
+}
+
+// What would read back otherwise is 6, after every field's own number.
+fn otherwise() {
+    variants(
+        b"bytes behind a field, and then V3:",
+        Kind::Key,
+        b"\x00\x00\x18",
+        &[2, 1],
+        &[],
+    );
+    variants(b"bytes behind a field:", Kind::Key, b"\x00\x00", &[2], &[]);
+    variants(
+        b"keep alive with a field:",
+        Kind::KeepAlive,
+        b"\x00",
+        &[1],
+        &[],
+    );
+    variants(b"delta without its index:", Kind::Delta, b"\x00", &[1], &[]);
+    variants(b"key frame with an index:", Kind::Key, b"\x00", &[1], &[0]);
+}
+
+fn lengths_disagree() {
+    variants(
         b"a byte that no length has:",
-        Encoding::Variant,
+        Kind::Key,
         b"\x00\x00",
         &[1],
         &[],
     );
-    key(
-        b"lengths above the values:",
-        Encoding::Variant,
-        b"\x00",
-        &[2],
-        &[],
-    );
-    key(
+    variants(b"lengths above the values:", Kind::Key, b"\x00", &[2], &[]);
+    variants(
         b"a length of all:",
-        Encoding::Variant,
+        Kind::Key,
         b"\x00",
         &[18446744073709551615],
         &[],
     );
-    empty(
-        b"padded heartbeat:",
-        plain(Encoding::Variant, Kind::Key),
-        true,
-        1,
-    );
+    let header = plain(Encoding::Variant, Kind::Key);
     show(
         b"heartbeat with a field:",
-        plain(Encoding::Variant, Kind::Key),
+        header,
         true,
         b"\x00",
         &[1],
         &[],
-        &[],
-        0,
-    );
-    show(
-        b"keep alive with a field:",
-        plain(Encoding::Variant, Kind::KeepAlive),
-        false,
-        b"\x00",
-        &[1],
-        &[],
-        &[],
-        0,
-    );
-    show(
-        b"delta without its index:",
-        plain(Encoding::Variant, Kind::Delta),
-        false,
-        b"\x00",
-        &[1],
-        &[],
-        &[],
-        0,
-    );
-    show(
-        b"key frame with an index:",
-        plain(Encoding::Variant, Kind::Key),
-        false,
-        b"\x00",
-        &[1],
-        &[0],
         &[],
         0,
     );
@@ -395,38 +384,23 @@ fn otherwise() {
 
 // Then 10 above 65,535 bytes, then 11: 3 bytes before 65,533 of padding are 65,536; before 30 they are 33, and the buffer has 32.
 fn limits() {
-    empty(
-        b"65,536 bytes:",
-        plain(Encoding::Variant, Kind::Key),
-        false,
-        65533,
-    );
-    empty(
-        b"65,535 bytes:",
-        plain(Encoding::Variant, Kind::Key),
-        false,
-        65532,
-    );
+    empty(b"65,536 bytes:", Encoding::Variant, Kind::Key, false, 65533);
+    empty(b"65,535 bytes:", Encoding::Variant, Kind::Key, false, 65532);
     empty(
         b"all of padding:",
-        plain(Encoding::Variant, Kind::Key),
+        Encoding::Variant,
+        Kind::Key,
         false,
         18446744073709551615,
     );
-    empty(b"33 bytes:", plain(Encoding::Variant, Kind::Key), false, 30);
-    empty(b"32 bytes:", plain(Encoding::Variant, Kind::Key), false, 29);
+    empty(b"33 bytes:", Encoding::Variant, Kind::Key, false, 30);
+    empty(b"32 bytes:", Encoding::Variant, Kind::Key, false, 29);
     empty(
         b"a rule before the limit:",
-        picoseconds(10000),
+        Encoding::RawData,
+        Kind::Event,
         false,
         65533,
-    );
-    key(
-        b"6 before the limit:",
-        Encoding::Variant,
-        b"\x00\x00",
-        &[2],
-        &[],
     );
 }
 
@@ -498,9 +472,14 @@ fn vectors(text: &[u8]) {
 }
 
 fn main() {
-    accepted();
-    reading_refuses();
+    headers();
+    without_fields();
+    kinds();
+    raw_data();
+    raw_counts();
+    faulty_fields();
     otherwise();
+    lengths_disagree();
     limits();
     let mut text = [0u8; 16384];
     let n = io::read_full(STDIN_FILENO, &mut text);
