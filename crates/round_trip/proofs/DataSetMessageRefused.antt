@@ -1,12 +1,12 @@
 -- The numbers by which the writer refuses what reading would refuse are reading's numbers of what would have been written.
 -- Assumes nothing.
 use mathlib.Core.Path.{_≡_, refl, ap, sym, _∙_, subst}
-use mathlib.Core.Bool.{Bool, true, false, cond, not, _&&_}
+use mathlib.Core.Bool.{Bool, true, false, cond, not, _&&_, _||_}
 use mathlib.Core.List.{List, [], _∷_, _++_, append-assoc, append-nil}
 use Prim.Native.Nat.{ℕ, zero, suc, _+_, _/_, _%_, _≤_, _<_}
-use native.Mathlib.Nat.{add-zero, zero-add}
+use native.Mathlib.Nat.{add-zero, zero-add, le-refl}
 use native.Mathlib.Omega.{arith}
-use borrow.Author.Tests.{eqb-true, eqb-false, eq-eqb, ne-eqb, le-ltb, lt-leb, not-true}
+use borrow.Author.Tests.{eqb-true, eqb-false, eq-eqb, ne-eqb, le-ltb, lt-leb}
 use lib.Dec.{eqb}
 use lib.ListN.{length, getD, take, drop, length-append}
 use lib.Seq.{getD-drop, take-all, take-nil}
@@ -31,7 +31,7 @@ use Rattle.dataset_message_writer.specs.Fields.{fieldsRefusal, reached, indexBy
 use Rattle.dataset_message_writer.specs.Message.{Given, hasFields, isFielded, isRawData, fieldsOf, countBytes, configuredRule, bodyRefusal, readingRefusal, encode}
 use Rattle.dataset_message_writer.proofs.Judging.{encoded-steady, length-values}
 use Rattle.dataset_message_writer.proofs.Laying.{length-zeros}
-use Rattle.round_trip.specs.DataSetMessage.{plainly, Tellable}
+use Rattle.round_trip.specs.DataSetMessage.{plainly, Tellable, countOf}
 use Rattle.round_trip.proofs.DataSetMessageFlags.{flags1-bits, flags2-bits, encoding-rule, kind-rule-is, flagsFor, flags-is}
 use Rattle.round_trip.proofs.DataSetMessageParts.{FitsHeader, FitsIndices, header-is, field-is, index-is}
 use Rattle.round_trip.proofs.DataSetMessage.{no, counted-is, count-is, delta-plain}
@@ -97,21 +97,36 @@ encoded-refuse encoding types k v n p q z s m a =
     let l : length (a .0) + 0 ≡ m = add-zero (length (a .0)) ∙ a .3 in
     (length (a .0) + p, ap (λ (l : List ℕ). encodedAt encoding types k l m) (a .2) ∙ ap (encodedAt encoding types k (a .0 ++ (v ++ a .1))) (sym l) ∙ y ∙ ap (movedBy (length (a .0))) x)
 
+-- where nothing follows, so is one that is cut short
+no-length : (l : List ℕ) → length l ≡ 0 → l ≡ []
+no-length [] e = refl
+no-length (x ∷ l) e = absurd (omega arith)
+
+encoded-last : (encoding : Encoding) (types : List ℕ) (k : ℕ) (v : List ℕ) (n p : ℕ) → encodedAt encoding types k v 0 ≡ refused n p
+    → (s : List ℕ) (m : ℕ) → At s m v → length s ≡ m + length v → (place : ℕ) × (encodedAt encoding types k s m ≡ refused n place)
+encoded-last encoding types k v n p q s m a e =
+    let r : length (a .1) ≡ 0 = omega (arith, ap length (a .2), length-append (a .0) (v ++ a .1), length-append v (a .1), a .3) in
+    let x : s ≡ a .0 ++ v = a .2 ∙ ap (λ (l : List ℕ). a .0 ++ (v ++ l)) (no-length (a .1) r) ∙ ap (λ (l : List ℕ). a .0 ++ l) (append-nil v) in
+    let y = after (encoded-steady encoding types k) (a .0) v 0 in
+    let l : length (a .0) + 0 ≡ m = add-zero (length (a .0)) ∙ a .3 in
+    (length (a .0) + p, ap (λ (l : List ℕ). encodedAt encoding types k l m) x ∙ ap (encodedAt encoding types k (a .0 ++ v)) (sym l) ∙ y ∙ ap (movedBy (length (a .0))) q)
+
 abbrev RefusedBy : Answer (Unit {0}) → ℕ → Type 0
 RefusedBy x n = (place : ℕ) × (x ≡ refused n place)
 
-module _ (delta : Bool) (encoding : Encoding) (types : List ℕ) where
+module _ (delta : Bool) (encoding : Encoding) (types : List ℕ) (bare : Bool) where
   -- among the first t fields one is refused
-  fields-refuse : (vs : List (List ℕ)) (t c k : ℕ) (indices : List ℕ) → t ≤ c → FitsIndices indices → plainly encoding types k (take t vs) ≡ true
+  fields-refuse : (vs : List (List ℕ)) (t c k : ℕ) (indices : List ℕ) → t ≤ c → FitsIndices indices → plainly encoding types bare t k vs ≡ true
       → eqb (fieldsRefusal encoding types k (take t vs)) 0 ≡ false → (s : List ℕ) (m : ℕ) → At s m (fieldsBytes delta indices vs)
+      → (bare ≡ true → length s ≡ m + length (fieldsBytes delta indices vs))
       → RefusedBy (fieldsAt delta encoding types c k s m) (fieldsRefusal encoding types k (take t vs))
   unfolding fieldsRefusal plainly fieldsAt fieldsBytes
-  fields-refuse [] t c k indices l f w r s m a = no (sym (ap (λ (x : List (List ℕ)). eqb (fieldsRefusal encoding types k x) 0) (sym (take-nil t)) ∙ r))
-  fields-refuse (v ∷ vs) zero c k indices l f w r s m a = no (sym r)
-  fields-refuse (v ∷ vs) (suc t) zero k indices l f w r s m a = absurd (omega arith)
-  fields-refuse (v ∷ vs) (suc t) (suc c) k indices l f w r s m a =
+  fields-refuse [] t c k indices l f w r s m a z = no (sym (ap (λ (x : List (List ℕ)). eqb (fieldsRefusal encoding types k x) 0) (sym (take-nil t)) ∙ r))
+  fields-refuse (v ∷ vs) zero c k indices l f w r s m a z = no (sym r)
+  fields-refuse (v ∷ vs) (suc t) zero k indices l f w r s m a z = absurd (omega arith)
+  fields-refuse (v ∷ vs) (suc t) (suc c) k indices l f w r s m a z =
       go (encodedAt encoding types k v 0) refl
-      (λ w r. fields-refuse vs t c (k + 1) (drop 1 indices) (omega arith) (λ j. rw (getD-drop 1 indices j 0) (f (1 + j))) w r s (m + length (here ++ v)) (second s m (here ++ v) (fieldsBytes delta (drop 1 indices) vs) there))
+      (λ w r. fields-refuse vs t c (k + 1) (drop 1 indices) (omega arith) (λ j. rw (getD-drop 1 indices j 0) (f (1 + j))) w r s (m + length (here ++ v)) (second s m (here ++ v) (fieldsBytes delta (drop 1 indices) vs) there) ends)
     where
       here : List ℕ
       here = indexBytes delta (getD indices 0 0)
@@ -119,21 +134,39 @@ module _ (delta : Bool) (encoding : Encoding) (types : List ℕ) where
       there : At s m ((here ++ v) ++ fieldsBytes delta (drop 1 indices) vs)
       there = subst (At s m) (sym (append-assoc here v (fieldsBytes delta (drop 1 indices) vs))) a
 
+      ends : bare ≡ true → length s ≡ m + length (here ++ v) + length (fieldsBytes delta (drop 1 indices) vs)
+      ends e = omega (arith, z e, length-append here (v ++ fieldsBytes delta (drop 1 indices) vs), length-append v (fieldsBytes delta (drop 1 indices) vs), length-append here v)
+
+      none : (vs : List (List ℕ)) → length vs ≡ 0 → length (fieldsBytes delta (drop 1 indices) vs) ≡ 0
+      none [] e = refl
+      none (x ∷ vs) e = absurd (omega arith)
+
+      value : At s (m + length here) v
+      value = second s m here v (first s m (here ++ v) (fieldsBytes delta (drop 1 indices) vs) there)
+
+      -- the refused field where it stands
+      stands : (n p : ℕ) → encodedAt encoding types k v 0 ≡ refused n p → (t : Bool) → eqb n 1 ≡ t → not t || (bare && eqb (length vs) 0) ≡ true
+          → (place : ℕ) × (encodedAt encoding types k s (m + length here) ≡ refused n place)
+      stands n p q false e u = encoded-refuse encoding types k v n p q (eqb-false n 1 e) s (m + length here) value
+      stands n p q true e u =
+          let b = ends (and-left bare (eqb (length vs) 0) u) in
+          let o = none vs (eqb-true (length vs) 0 (and-right bare (eqb (length vs) 0) u)) in
+          let y : length s ≡ m + length here + length v = omega (arith, length-append here v) in
+          encoded-last encoding types k v n p q s (m + length here) value y
+
       go : (x : Answer Measure) → encodedAt encoding types k v 0 ≡ x
-          → (plainly encoding types (k + 1) (take t vs) ≡ true → eqb (fieldsRefusal encoding types (k + 1) (take t vs)) 0 ≡ false → RefusedBy (fieldsAt delta encoding types c (k + 1) s (m + length (here ++ v))) (fieldsRefusal encoding types (k + 1) (take t vs)))
+          → (plainly encoding types bare t (k + 1) vs ≡ true → eqb (fieldsRefusal encoding types (k + 1) (take t vs)) 0 ≡ false → RefusedBy (fieldsAt delta encoding types c (k + 1) s (m + length (here ++ v))) (fieldsRefusal encoding types (k + 1) (take t vs)))
           → RefusedBy (fieldsAt delta encoding types (suc c) k s m) (fieldsRefusal encoding types k (take (suc t) (v ∷ vs)))
       go (got x e) q ih =
-          let u : eqb e (length v) && plainly encoding types (k + 1) (take t vs) ≡ true = rw q at w in
-          let n : e ≡ length v = eqb-true e (length v) (and-left (eqb e (length v)) (plainly encoding types (k + 1) (take t vs)) u) in
-          let y = ih (and-right (eqb e (length v)) (plainly encoding types (k + 1) (take t vs)) u) (rw q at r) in
+          let u : eqb e (length v) && plainly encoding types bare t (k + 1) vs ≡ true = rw q at w in
+          let n : e ≡ length v = eqb-true e (length v) (and-left (eqb e (length v)) (plainly encoding types bare t (k + 1) vs) u) in
+          let y = ih (and-right (eqb e (length v)) (plainly encoding types bare t (k + 1) vs) u) (rw q at r) in
           let h = field-is delta encoding types k (getD indices 0 0) v x (λ d. f 0) (q ∙ ap (got x) n) s m (first s m (here ++ v) (fieldsBytes delta (drop 1 indices) vs) there) in
           (y .0, rw (q, h .reads) (y .1))
       go (refused n p) q ih =
-          let u : not (eqb n 1) ≡ true = rw q at w in
-          let z = eqb-false n 1 (not-true (eqb n 1) u) in
-          let o : eqb (cond (eqb n 0) (fieldsRefusal encoding types (k + 1) (take t vs)) n) 0 ≡ false = rw q at r in
+          let u : not (eqb n 1) || (bare && eqb (length vs) 0) ≡ true = rw q at w in
           let i = index-is delta k (getD indices 0 0) m (λ d. f 0) s (first s m here v (first s m (here ++ v) (fieldsBytes delta (drop 1 indices) vs) there)) in
-          let y = encoded-refuse encoding types k v n p q z s (m + length here) (second s m here v (first s m (here ++ v) (fieldsBytes delta (drop 1 indices) vs) there)) in
+          let y = stands n p q (eqb n 1) refl u in
           let b : 0 ≤ length v = omega arith in
           let w1 = within-refused (encoded-steady encoding types k) v 0 b q in
           let z0 : n ≡ 0 → ⊥ = λ e. omega arith in
@@ -167,10 +200,6 @@ some-configured true configured h r = go (eqb configured 0) refl h
     go true t q = absurd (omega arith)
     go false t q = t
 some-configured false configured h r = no r
-
--- how many fields reading counts
-abbrev countOf : Bool → ℕ → ℕ → ℕ
-countOf raw configured n = cond raw configured n
 
 module _ (types : List ℕ) (g : Given) (fits : FitsHeader (g .header)) (indices : FitsIndices (g .indices)) (tells : Tellable types g) where
   abbrev Refused : ℕ → Type 0
@@ -247,29 +276,25 @@ module _ (types : List ℕ) (g : Given) (fits : FitsHeader (g .header)) (indices
     fields-refused : configuredRule (isRawData g) (length types) ≡ 0 → eqb (fieldsRefusal (g .header .encoding) types 0 (reached (isRawData g) types (fieldsOf g))) 0 ≡ false
         → Refused (fieldsRefusal (g .header .encoding) types 0 (reached (isRawData g) types (fieldsOf g)))
     fields-refused c r =
-        let f = go (isRawData g) refl in
+        let f = by in
         (f .0, rw (header-read, counted-read c, f .1))
       where
         there : At (encode g) (start + length countPart) fieldsPart
         there = first (encode g) (start + length countPart) fieldsPart (zeros (g .padding)) (second (encode g) start countPart (fieldsPart ++ zeros (g .padding)) body-at)
 
-        by : (t : ℕ) → t ≤ number → reached (isRawData g) types (fieldsOf g) ≡ take t (fieldsOf g)
-            → RefusedBy (fieldsAt (isDelta (g .header .kind)) (g .header .encoding) types number 0 (encode g) (start + length countPart)) (fieldsRefusal (g .header .encoding) types 0 (reached (isRawData g) types (fieldsOf g)))
-        by t l e =
-            let x = fields-refuse (isDelta (g .header .kind)) (g .header .encoding) types (fieldsOf g) t number 0 (g .indices) l indices
-            (subst (λ (vs : List (List ℕ)). plainly (g .header .encoding) types 0 vs ≡ true) e (tells .plain))
-            (subst (λ (vs : List (List ℕ)). eqb (fieldsRefusal (g .header .encoding) types 0 vs) 0 ≡ false) e r) (encode g) (start + length countPart) there in
-            (x .0, x .1 ∙ ap (λ (vs : List (List ℕ)). refused (fieldsRefusal (g .header .encoding) types 0 vs) (x .0)) (sym e))
+        ends : eqb (g .padding) 0 ≡ true → length (encode g) ≡ start + length countPart + length fieldsPart
+        ends e = let p = eqb-true (g .padding) 0 e in omega (arith, sizes)
 
-        go : (raw : Bool) → isRawData g ≡ raw
-            → RefusedBy (fieldsAt (isDelta (g .header .kind)) (g .header .encoding) types number 0 (encode g) (start + length countPart)) (fieldsRefusal (g .header .encoding) types 0 (reached (isRawData g) types (fieldsOf g)))
-        go true q =
-            let n : number ≡ length types = rw q in
-            by (length types) (omega arith) (rw q)
-        go false q =
-            let n : number ≡ length (g .lengths) = rw q in
-            let m = length-values (g .lengths) (g .values) in
-            by (length (fieldsOf g)) (omega arith) (rw q (sym (take-all (length (fieldsOf g)) (fieldsOf g) (omega arith))))
+        all : (raw : Bool) → reached raw types (fieldsOf g) ≡ take (countOf raw (length types) (length (g .lengths))) (fieldsOf g)
+        all true = refl
+        all false = sym (take-all (length (g .lengths)) (fieldsOf g) (let m = length-values (g .lengths) (g .values) in omega arith))
+
+        by : RefusedBy (fieldsAt (isDelta (g .header .kind)) (g .header .encoding) types number 0 (encode g) (start + length countPart)) (fieldsRefusal (g .header .encoding) types 0 (reached (isRawData g) types (fieldsOf g)))
+        by =
+            let e = all (isRawData g) in
+            let x = fields-refuse (isDelta (g .header .kind)) (g .header .encoding) types (eqb (g .padding) 0) (fieldsOf g) number number 0 (g .indices) (le-refl number) indices (tells .plain)
+            (subst (λ (vs : List (List ℕ)). eqb (fieldsRefusal (g .header .encoding) types 0 vs) 0 ≡ false) e r) (encode g) (start + length countPart) there ends in
+            (x .0, x .1 ∙ ap (λ (vs : List (List ℕ)). refused (fieldsRefusal (g .header .encoding) types 0 vs) (x .0)) (sym e))
 
   body-refused : kindRule (g .header .kind) (g .header .encoding) ≡ 0 → picosecondsRefusal (g .header .picoseconds) ≡ 0 → eqb (bodyRefusal types g) 0 ≡ false → Refused (bodyRefusal types g)
   body-refused k p r = go (isFielded g) refl

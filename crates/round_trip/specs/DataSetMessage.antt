@@ -1,7 +1,7 @@
 -- What the round trips of DataSetMessages say.
 use Prim.Native.Nat.{ℕ, _+_, _-_, _<_, zero, suc, _≤_}
 use mathlib.Core.Path.{_≡_}
-use mathlib.Core.Bool.{Bool, cond, true, false, not, _&&_}
+use mathlib.Core.Bool.{Bool, cond, true, false, not, _&&_, _||_}
 use mathlib.Core.List.{_++_, List, [], _∷_}
 use lib.Dec.{leb, eqb}
 use lib.ListN.{take, drop, length, getD}
@@ -13,7 +13,7 @@ use Rattle.dataset_message.specs.Flags.{valid}
 use Rattle.dataset_message.specs.Fields.{fieldAt, encodedAt}
 use Rattle.dataset_message.specs.Message.{Message, isDelta, messageAt, fieldPlaceAt, fieldBytes}
 use Rattle.dataset_message_writer.specs.Header.{headerBytes}
-use Rattle.dataset_message_writer.specs.Fields.{fieldsBytes, reached}
+use Rattle.dataset_message_writer.specs.Fields.{fieldsBytes}
 use Rattle.dataset_message_writer.specs.Message.{Given, given, isFielded, isRawData, fieldsOf, countBytes, encode}
 
 -- where the first field of a written message starts, and where its last field ends
@@ -86,19 +86,26 @@ taken types s m =
     (cond (m .cursor .delta) (indicesOf (fieldsIn types s m)) [])
     (length s - m .end)
 
--- Up to the first field that is refused, each is whole; and that one is not cut short, which the bytes after it could mend.
+-- Of the first t fields each is whole up to the first that is refused; and where that one is cut short, nothing follows it, since the
+-- bytes after it could mend it. `bare` says that no padding follows the fields.
 
-abbrev pub plainlyBy : ℕ → Bool → Answer Measure → Bool
-plainlyBy n rest (got m end) = eqb end n && rest
-plainlyBy n rest (refused number place) = not (eqb number 1)
+abbrev pub plainlyBy : ℕ → Bool → Bool → Answer Measure → Bool
+plainlyBy n last rest (got m end) = eqb end n && rest
+plainlyBy n last rest (refused number place) = not (eqb number 1) || last
 
-unfoldable pub plainly : Encoding → List ℕ → ℕ → List (List ℕ) → Bool
-plainly encoding types k [] = true
-plainly encoding types k (v ∷ vs) = plainlyBy (length v) (plainly encoding types (k + 1) vs) (encodedAt encoding types k v 0)
+unfoldable pub plainly : Encoding → List ℕ → Bool → ℕ → ℕ → List (List ℕ) → Bool
+plainly encoding types bare zero k vs = true
+plainly encoding types bare (suc t) k [] = true
+plainly encoding types bare (suc t) k (v ∷ vs) =
+    plainlyBy (length v) (bare && eqb (length vs) 0) (plainly encoding types bare t (k + 1) vs) (encodedAt encoding types k v 0)
+
+-- how many fields reading counts
+abbrev pub countOf : Bool → ℕ → ℕ → ℕ
+countOf raw configured n = cond raw configured n
 
 -- What the writer refuses stands where reading finds it: something follows the header of a RawData message, FieldCount holds the
 -- number of fields, and a field is refused plainly.
 pub record Tellable (types : List ℕ) (g : Given) : Type 0 where
   pub follows : isRawData g ≡ true → 0 < length (fieldsBytes (isDelta (g .header .kind)) (g .indices) (fieldsOf g)) + g .padding
   pub counted : isRawData g ≡ false → length (g .lengths) ≤ 65535
-  pub plain : plainly (g .header .encoding) types 0 (reached (isRawData g) types (fieldsOf g)) ≡ true
+  pub plain : plainly (g .header .encoding) types (eqb (g .padding) 0) (countOf (isRawData g) (length types) (length (g .lengths))) 0 (fieldsOf g) ≡ true
