@@ -162,7 +162,8 @@ fn empty(words: &[u8], encoding: Encoding, kind: Kind, heartbeat: bool, padding:
     show(words, header, heartbeat, b"", &[], &[], &[], padding);
 }
 
-// Bit 0 always, then each flag by its part: sequence is bit 3 of Flags1. Flags2 is left out where it is 0.
+// Bit 0 always, then each flag by its part; Flags2 is left out where it is 0. 09: bits 0 and 3 (sequence). F9 30: bits 0 and 3 to 7 of
+// Flags1, 4 and 5 of Flags2; then 1, -1, 9,999, 2, 3 and 4 in 2, 8, 2, 2, 4 and 4 bytes. 81 20: Flags2 with picoseconds alone.
 fn headers() {
     let values = b"\x05\x03\x00\x0a\x00\x00\x00\x3f";
     show(
@@ -207,6 +208,7 @@ fn headers() {
     );
 }
 
+// 01 alone; with FieldCount 0 two bytes more. 03: RawData. 83 03: RawData with Flags2, keep alive. A padded heartbeat is 6.
 fn without_fields() {
     empty(b"heartbeat:", Encoding::Variant, Kind::Key, true, 0);
     empty(b"no field:", Encoding::Variant, Kind::Key, false, 0);
@@ -234,6 +236,7 @@ fn without_fields() {
     empty(b"padded heartbeat:", Encoding::Variant, Kind::Key, true, 1);
 }
 
+// 81 01: delta; two fields, index 7 with null and index 1 with the UInt16 3. 81 02: event. Event not in Variant is 3, delta in RawData 4.
 fn kinds() {
     variants(
         b"delta:",
@@ -317,7 +320,7 @@ fn raw_counts() {
     );
 }
 
-// A field's own number.
+// A field's own number: 1 where it is cut short, 3 for a Variant that is no array, 4 for type 25, 5 for a length below -1.
 fn faulty_fields() {
     variants(b"a field cut short:", Kind::Key, b"\x05\x03", &[2], &[]);
     variants(b"an empty field:", Kind::Key, b"", &[0], &[]);

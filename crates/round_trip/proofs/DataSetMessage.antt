@@ -7,7 +7,7 @@ use Prim.Native.Nat.{ℕ, _+_, _-_, _≤_, _<_}
 use native.Mathlib.Nat.{add-zero, zero-add}
 use native.Mathlib.Omega.{arith}
 use borrow.Author.Tests.{leb-true, eqb-true, eqb-false, le-leb, lt-leb}
-use lib.Dec.{eqb}
+use lib.Dec.{leb, eqb}
 use lib.ListN.{drop, length, getD, length-append}
 use lib.Seq.{take-all}
 use Rattle.wire.specs.Answer.{got}
@@ -156,6 +156,13 @@ unfolding valuesOf fieldsBytes
 none-bytes delta indices [] values q = refl
 none-bytes delta indices (x ∷ lengths) values q = absurd (omega arith)
 
+-- fields follow the header of a key frame exactly if it is no heartbeat
+key-fields : (kind : Kind) (heartbeat : Bool) → isKey kind ≡ true → hasFields kind heartbeat ≡ not heartbeat
+key-fields Kind.Key heartbeat k = refl
+key-fields Kind.Delta heartbeat k = no k
+key-fields Kind.Event heartbeat k = no k
+key-fields Kind.KeepAlive heartbeat k = no k
+
 module _ (types : List ℕ) (g : Given) (fits : FitsHeader (g .header)) (indices : FitsIndices (g .indices)) (ok : Accepted types g) where
   body : Fielded types g
   body = fielded types g ok
@@ -235,6 +242,13 @@ module _ (types : List ℕ) (g : Given) (fits : FitsHeader (g .header)) (indices
   message-read : messageAt types (encode g) ≡ got (valid (messageOf g)) (endOf g)
   message-read = rw (header-read, count-read, fields-read, padding-read)
 
+  heartbeat-read : isKey (g .header .kind) ≡ true → leb (length (encode g)) start ≡ g .heartbeat
+  heartbeat-read k = go (g .heartbeat) (isFielded g) refl (key-fields (g .header .kind) (g .heartbeat) k)
+    where
+      go : (b f : Bool) → isFielded g ≡ f → f ≡ not b → leb (length (encode g)) start ≡ b
+      go true f e n = le-leb (length (encode g)) start (ends-there (e ∙ n) k)
+      go false f e n = lt-leb (length (encode g)) start (follows (e ∙ n))
+
   field-read : (k : ℕ) → k < length (g .lengths) → FieldBack types g k
   field-read k l =
       let n = nth-is (isDelta (g .header .kind)) (g .header .encoding) types k (fieldsOf g) 0 (g .indices) indices (body .whole) (rw (length-values (g .lengths) (g .values)) l)
@@ -255,7 +269,12 @@ module _ (types : List ℕ) (g : Given) (fits : FitsHeader (g .header)) (indices
 pub read-written : (types : List ℕ) (g : Given) → FitsHeader (g .header) → FitsIndices (g .indices) → refusalOf types g ≡ 0 → MessageBack types g
 read-written types g fits indices h =
     let ok = accepted types g h in
-    record { message = message-read types g fits indices ok; field = field-read types g fits indices ok; padding = padding-is types g fits indices ok }
+    record {
+      message = message-read types g fits indices ok;
+      heartbeat = heartbeat-read types g fits indices ok;
+      field = field-read types g fits indices ok;
+      padding = padding-is types g fits indices ok;
+    }
 
 -- The same of the writer itself: where it reports n bytes, these are the message that reads back.
 pub written-reads : (types : List ℕ) (g : Given) → FitsHeader (g .header) → FitsIndices (g .indices) → (entry exit : List ℕ) (n : ℕ) → Writes types g entry exit (Written.Is n)

@@ -338,6 +338,27 @@ index-back : (delta : Bool) (k : ℕ) (s : List ℕ) (at i o : ℕ) → Bytes s 
 index-back true k s at i o bytes l h = let b = item-back 2 s at i o bytes h in (b .0, λ e. b .1)
 index-back false k s at i o bytes l h = (subst (λ (n : ℕ). Back s at [] n) (got-next h) (empty s at l), λ e. let z : _≡_ {A = ℕ} 0 1 = cc in absurd (omega arith))
 
+-- its bytes alone are a whole value
+pub field-alone : (delta : Bool) (encoding : Encoding) (types : List ℕ) (k : ℕ) (s : List ℕ) (at : ℕ) (f : Field) (end : ℕ)
+    → fieldAt delta encoding types k s at ≡ got f end → (m : Measure) × (encodedAt encoding types k (bytesOf s f) 0 ≡ got m (length (bytesOf s f))) × (length (bytesOf s f) ≡ f .length)
+field-alone delta encoding types k s at f end h =
+    let w = field-inside delta encoding types k s at f end h in
+    let a = invert (indexAt delta k s at) (λ i o. _) h in
+    let b = invert (encodedAt encoding types k s (a .1)) (λ m z. _) (a .3) in
+    let g = got-value (b .3) in
+    let o : a .1 ≡ f .offset = ap (λ (x : Field). x .offset) g in
+    let n : b .1 - a .1 ≡ f .length = ap (λ (x : Field). x .length) g in
+    let l : f .offset + f .length ≤ length s = omega (arith, w .value, w .ends) in
+    let lo : a .1 ≤ length s = omega arith in
+    let p = part-at s (f .offset) (f .length) l in
+    let size : length (bytesOf s f) ≡ f .length = omega (arith, p .1) in (
+      b .0,
+      ap (λ (q : ℕ). encodedAt encoding types k (take q (drop (f .offset) s)) 0) (sym n)
+          ∙ ap (λ (q : ℕ). encodedAt encoding types k (take (b .1 - a .1) (drop q s)) 0) (sym o)
+          ∙ alone (encoded-steady encoding types k) s (a .1) lo (b .2) ∙ ap (got (b .0)) (n ∙ sym size),
+      size,
+    )
+
 pub field-back : (delta : Bool) (encoding : Encoding) (types : List ℕ) (k : ℕ) (s : List ℕ) (at : ℕ) (f : Field) (end : ℕ) → Bytes s
     → fieldAt delta encoding types k s at ≡ got f end → FieldTaken delta encoding types k s at f end
 field-back delta encoding types k s at f end bytes h =
@@ -350,23 +371,18 @@ field-back delta encoding types k s at f end bytes h =
     let o : a .1 ≡ f .offset = ap (λ (x : Field). x .offset) g in
     let n : b .1 - a .1 ≡ f .length = ap (λ (x : Field). x .length) g in
     let l : f .offset + f .length ≤ length s = omega (arith, w .value, w .ends) in
-    let lo : a .1 ≤ length s = omega arith in
     let p = part-at s (f .offset) (f .length) l in
-    let size : length (bytesOf s f) ≡ f .length = omega (arith, p .1) in
     let x = index-back delta k s at (a .0) (a .1) bytes (w .starts) (a .2) in
-    let y : encodedAt encoding types k (bytesOf s f) 0 ≡ got (b .0) (length (bytesOf s f)) =
-    ap (λ (q : ℕ). encodedAt encoding types k (take q (drop (f .offset) s)) 0) (sym n)
-    ∙ ap (λ (q : ℕ). encodedAt encoding types k (take (b .1 - a .1) (drop q s)) 0) (sym o)
-    ∙ alone (encoded-steady encoding types k) s (a .1) lo (b .2) ∙ ap (got (b .0)) (n ∙ sym size) in
+    let y = field-alone delta encoding types k s at f end h in
     record {
       stands =
           subst (λ (e : ℕ). Back s at (indexBytes delta (f .index) ++ bytesOf s f) e) (w .value)
           (join s at (indexBytes delta (f .index)) (f .offset) (bytesOf s f) (f .offset + f .length)
           (subst (λ (q : ℕ). Back s at (indexBytes delta (f .index)) q) o (subst (λ (q : ℕ). Back s at (indexBytes delta q) (a .1)) i (x .0))) p);
       fits = λ e. subst (λ (q : ℕ). q < 65536) i (x .1 e);
-      size = size;
-      alone = rw (y, eq-eqb (length (bytesOf s f)) (length (bytesOf s f)) refl);
-      number = rw y;
+      size = y .2;
+      alone = rw (y .1, eq-eqb (length (bytesOf s f)) (length (bytesOf s f)) refl);
+      number = rw (y .1);
     }
 
 -- the fields that were read, from field k on

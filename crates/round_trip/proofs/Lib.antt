@@ -3,3 +3,4 @@ pub mod DataSetMessageParts
 pub mod DataSetMessage
 pub mod DataSetMessageRewritten
 pub mod DataSetMessageRefused
+pub mod DataSetMessageOtherwise

@@ -14,7 +14,7 @@ use Rattle.dataset_message.specs.Fields.{fieldAt, encodedAt}
 use Rattle.dataset_message.specs.Message.{Message, isDelta, messageAt, fieldPlaceAt, fieldBytes}
 use Rattle.dataset_message_writer.specs.Header.{headerBytes}
 use Rattle.dataset_message_writer.specs.Fields.{fieldsBytes}
-use Rattle.dataset_message_writer.specs.Message.{Given, given, isFielded, isRawData, fieldsOf, countBytes, encode}
+use Rattle.dataset_message_writer.specs.Message.{Given, given, isKey, isFielded, isRawData, fieldsOf, countBytes, encode}
 
 -- where the first field of a written message starts, and where its last field ends
 
@@ -41,9 +41,10 @@ pub record FieldBack (types : List ℕ) (g : Given) (k : ℕ) : Type 0 where
   pub index : place .index ≡ cond (isDelta (g .header .kind)) (getD (g .indices) k 0) k
   pub bytes : fieldBytes (fieldPlaceAt types k (encode g)) (encode g) ≡ getD (fieldsOf g) k []
 
--- a written message reads back as what was given
+-- a written message reads back as what was given; a key frame has nothing left after its header exactly if it is a heartbeat
 pub record MessageBack (types : List ℕ) (g : Given) : Type 0 where
   pub message : messageAt types (encode g) ≡ got (valid (messageOf g)) (endOf g)
+  pub heartbeat : isKey (g .header .kind) ≡ true → leb (length (encode g)) (length (headerBytes (g .header))) ≡ g .heartbeat
   pub field : (k : ℕ) → k < length (g .lengths) → FieldBack types g k
   pub padding : length (encode g) - endOf g ≡ g .padding
 

@@ -1,0 +1,166 @@
+-- What the writer refuses by 6 for its fields, its number of fields or its padding would read back otherwise.
+-- Assumes nothing.
+use mathlib.Core.Path.{_≡_, refl, ap, sym, _∙_, subst}
+use mathlib.Core.Bool.{Bool, true, false, not, _||_}
+use mathlib.Core.List.{List, [], _∷_, _++_, append-nil}
+use Prim.Native.Nat.{ℕ, suc, _+_, _-_, _%_, _≤_, _<_}
+use native.Mathlib.Nat.{add-zero, zero-add}
+use native.Mathlib.Omega.{arith}
+use borrow.Author.Tests.{leb-true, eq-eqb, le-leb, lt-leb}
+use lib.Dec.{eqb, leb}
+use lib.ListN.{length, getD, length-append}
+use Rattle.wire.specs.Number.{leBytes}
+use Rattle.wire.specs.Answer.{Answer, got, andThen}
+use Rattle.wire.proofs.Reading.{invert, got-value, not-got}
+use Rattle.writing.specs.Writing.{orElse, picosecondsRefusal}
+use Rattle.writing.proofs.Trip.{At, first, second, item-is}
+use Rattle.writing.proofs.Refusals.{both-zero}
+use Rattle.dataset_message.specs.declared.flags.Encoding.{Encoding}
+use Rattle.dataset_message.specs.declared.flags.Kind.{Kind}
+use Rattle.dataset_message.specs.declared.header.Header.{Header}
+use Rattle.dataset_message.specs.declared.fields.Field.{Field}
+use Rattle.dataset_message.specs.Flags.{Valid, notValid, valid}
+use Rattle.dataset_message.specs.Header.{headerAt}
+use Rattle.dataset_message.specs.Fields.{encodedAt, fieldAt, fieldsAt, paddingAt}
+use Rattle.dataset_message.specs.Message.{Message, isDelta, isRaw, countedAt, countAt, bodyAt, fieldBytes, nthAt}
+use Rattle.dataset_message_writer.specs.Flags.{kindRule}
+use Rattle.dataset_message_writer.specs.Header.{headerBytes}
+use Rattle.dataset_message_writer.specs.Fields.{endsAt, fieldsWhole, fieldsBytes, zeros}
+use Rattle.dataset_message_writer.specs.Message.{Given, hasFields, isKey, isFielded, isRawData, fieldsOf, countBytes, countAgrees, bodyRefusal, bodyAgrees, readingRefusal, encode}
+use Rattle.dataset_message_writer.proofs.Judging.{length-values}
+use Rattle.dataset_message_writer.proofs.Laying.{length-zeros}
+use Rattle.dataset_message_writer.proofs.Whole.{count-bytes}
+use Rattle.round_trip.specs.DataSetMessage.{firstOf, endOf, messageOf, bytesOf, MessageBack}
+use Rattle.round_trip.proofs.DataSetMessageParts.{FitsHeader, header-is, field-alone}
+use Rattle.round_trip.proofs.DataSetMessage.{no, reached-all, delta-plain}
+
+whole-at : (s : List ℕ) → At s 0 s
+whole-at s = ([], [], sym (append-nil s), refl)
+
+-- each field whole, all are
+all-whole : (encoding : Encoding) (types : List ℕ) (vs : List (List ℕ)) (k : ℕ)
+    → ((j : ℕ) → j < length vs → endsAt (length (getD vs j [])) (encodedAt encoding types (k + j) (getD vs j []) 0) ≡ true) → fieldsWhole encoding types k vs ≡ true
+unfolding fieldsWhole
+all-whole encoding types [] k h = refl
+all-whole encoding types (v ∷ vs) k h =
+    let a : endsAt (length v) (encodedAt encoding types k v 0) ≡ true = ap (λ (n : ℕ). endsAt (length v) (encodedAt encoding types n v 0)) (sym (add-zero k)) ∙ h 0 (omega arith) in
+    let b = all-whole encoding types vs (k + 1)
+    (λ j l. let e : k + 1 + j ≡ k + suc j = omega arith in ap (λ (n : ℕ). endsAt (length (getD vs j [])) (encodedAt encoding types n (getD vs j []) 0)) e ∙ h (suc j) (omega arith)) in
+    rw (a, b)
+
+-- the number of fields as it is read
+counted-agrees : (raw : Bool) (types s : List ℕ) (at n next : ℕ) → At s at (countBytes true raw n) → countedAt raw types s at ≡ got n next → countAgrees raw (length types) n ≡ true
+counted-agrees true types s at n next a h = go (eqb (length types) 0) refl
+  where
+    go : (t : Bool) → eqb (length types) 0 ≡ t → eqb n (length types) ≡ true
+    go true t = absurd (not-got (rw t at h))
+    go false t = eq-eqb n (length types) (sym (got-value (rw t at h)))
+counted-agrees false types s at n next a h =
+    let l : n % 65536 < 65536 = omega arith in
+    let b : At s at (leBytes 2 (n % 65536)) = subst (At s at) (sym (count-bytes n)) a in
+    let e : n % 65536 ≡ n = got-value (sym (item-is 2 (n % 65536) at l s b) ∙ h) in
+    let u : n ≤ 65535 = omega arith in
+    le-leb n 65535 u
+
+count-agrees : (kind : Kind) (heartbeat raw : Bool) (types s : List ℕ) (at n next : ℕ) → (isDelta kind ≡ true → raw ≡ false) → hasFields kind heartbeat ≡ true
+    → (isKey kind ≡ true → leb (length s) at ≡ heartbeat) → At s at (countBytes true raw n) → countAt kind raw types s at ≡ got n next → countAgrees raw (length types) n ≡ true
+count-agrees Kind.Key true raw types s at n next d f b a h = no f
+count-agrees Kind.Key false raw types s at n next d f b a h = counted-agrees raw types s at n next a (rw (b refl) at h)
+count-agrees Kind.Delta heartbeat raw types s at n next d f b a h = counted-agrees raw types s at n next a (ap (λ (r : Bool). countedAt r types s at) (d refl) ∙ h)
+count-agrees Kind.Event heartbeat raw types s at n next d f b a h = counted-agrees raw types s at n next a h
+count-agrees Kind.KeepAlive heartbeat raw types s at n next d f b a h = no f
+
+none-read : (kind : Kind) (heartbeat raw : Bool) (types s : List ℕ) (at n next : ℕ) → hasFields kind heartbeat ≡ false
+    → (isKey kind ≡ true → leb (length s) at ≡ heartbeat) → countAt kind raw types s at ≡ got n next → (n ≡ 0) × (isKey kind ≡ true → length s ≤ at)
+none-read Kind.Key true raw types s at n next f b h = (sym (got-value (rw (b refl) at h)), λ k. leb-true (length s) at (b refl))
+none-read Kind.Key false raw types s at n next f b h = no (sym f)
+none-read Kind.Delta heartbeat raw types s at n next f b h = no (sym f)
+none-read Kind.Event heartbeat raw types s at n next f b h = no (sym f)
+none-read Kind.KeepAlive heartbeat raw types s at n next f b h = (sym (got-value h), λ k. no k)
+
+-- the number of fields that a message that was read has
+count-of : (h : Header) (types s : List ℕ) (at : ℕ) (m : Message) (e : ℕ) → bodyAt h types s at ≡ got (valid m) e
+    → countAt (h .kind) (isRaw (h .encoding)) types s at ≡ got (m .cursor .count) (m .cursor .at)
+count-of h types s at m e q =
+    let c = invert (countAt (h .kind) (isRaw (h .encoding)) types s at) (λ n first. _) q in
+    let a = invert (fieldsAt (isDelta (h .kind)) (h .encoding) types (c .0) 0 s (c .1)) (λ u z. _) (c .3) in
+    let b = invert (paddingAt s (a .1)) (λ u z. _) (a .3) in
+    let v = got-value (b .3) in
+    c .2 ∙ ap (λ (x : Valid Message). got (countIn x) (atIn x)) v
+  where
+    countIn : Valid Message → ℕ
+    countIn (valid m) = m .cursor .count
+    countIn notValid = 0
+
+    atIn : Valid Message → ℕ
+    atIn (valid m) = m .cursor .at
+    atIn notValid = 0
+
+module _ (types : List ℕ) (g : Given) (fits : FitsHeader (g .header)) (kind : kindRule (g .header .kind) (g .header .encoding) ≡ 0)
+    (pico : picosecondsRefusal (g .header .picoseconds) ≡ 0) (back : MessageBack types g) where
+  abbrev fieldsPart : List ℕ
+  fieldsPart = fieldsBytes (isDelta (g .header .kind)) (g .indices) (fieldsOf g)
+
+  abbrev countPart : List ℕ
+  countPart = countBytes (isFielded g) (isRawData g) (length (g .lengths))
+
+  abbrev start : ℕ
+  start = length (headerBytes (g .header))
+
+  header-read : headerAt (encode g) 0 ≡ got (valid (g .header)) start
+  header-read =
+      header-is (g .header) fits kind pico (encode g) (first (encode g) 0 (headerBytes (g .header)) (countPart ++ (fieldsPart ++ zeros (g .padding))) (whole-at (encode g)))
+      ∙ ap (got (valid (g .header))) (zero-add start)
+
+  body-read : bodyAt (g .header) types (encode g) start ≡ got (valid (messageOf g)) (endOf g)
+  body-read = rw header-read at (back .message)
+
+  count-read : countAt (g .header .kind) (isRawData g) types (encode g) start ≡ got (length (g .lengths)) (firstOf g)
+  count-read = count-of (g .header) types (encode g) start (messageOf g) (endOf g) body-read
+
+  count-at : At (encode g) start countPart
+  count-at =
+      first (encode g) start countPart (fieldsPart ++ zeros (g .padding))
+      (subst (λ (n : ℕ). At (encode g) n (countPart ++ (fieldsPart ++ zeros (g .padding)))) (zero-add start)
+      (second (encode g) 0 (headerBytes (g .header)) (countPart ++ (fieldsPart ++ zeros (g .padding))) (whole-at (encode g))))
+
+  field-whole : (k : ℕ) → k < length (g .lengths) → endsAt (length (getD (fieldsOf g) k [])) (encodedAt (g .header .encoding) types (0 + k) (getD (fieldsOf g) k []) 0) ≡ true
+  field-whole k l =
+      let f = back .field k l in
+      let p : nthAt (messageOf g .cursor) types k (encode g) ≡ got (f .place) (f .end) = rw (back .message) at (f .looked-up) in
+      let q : andThen (fieldsAt (isDelta (g .header .kind)) (g .header .encoding) types k 0 (encode g) (firstOf g)) (λ u at. fieldAt (isDelta (g .header .kind)) (g .header .encoding) types k (encode g) at) ≡ got (f .place) (f .end) =
+      rw (lt-leb (length (g .lengths)) k l) at p in
+      let a = invert (fieldsAt (isDelta (g .header .kind)) (g .header .encoding) types k 0 (encode g) (firstOf g)) (λ u at. fieldAt (isDelta (g .header .kind)) (g .header .encoding) types k (encode g) at) q in
+      let y = field-alone (isDelta (g .header .kind)) (g .header .encoding) types k (encode g) (a .1) (f .place) (f .end) (a .3) in
+      let b : bytesOf (encode g) (f .place) ≡ getD (fieldsOf g) k [] = ap (λ (x : Answer Field). fieldBytes x (encode g)) (sym (f .looked-up)) ∙ f .bytes in
+      ap (λ (n : ℕ). endsAt (length (getD (fieldsOf g) k [])) (encodedAt (g .header .encoding) types n (getD (fieldsOf g) k []) 0)) (zero-add k)
+      ∙ subst (λ (v : List ℕ). endsAt (length v) (encodedAt (g .header .encoding) types k v 0) ≡ true) b (rw (y .1) (eq-eqb (length (bytesOf (encode g) (f .place))) (length (bytesOf (encode g) (f .place))) refl))
+
+  fields-whole : fieldsWhole (g .header .encoding) types 0 (fieldsOf g) ≡ true
+  fields-whole = all-whole (g .header .encoding) types (fieldsOf g) 0 (λ j l. field-whole j (subst (λ (n : ℕ). j < n) (length-values (g .lengths) (g .values)) l))
+
+  body-agrees : bodyAgrees types g ≡ true
+  body-agrees = go (isFielded g) refl
+    where
+      sizes : length (encode g) ≡ start + (length countPart + (length fieldsPart + g .padding))
+      sizes = simp (length-append, length-zeros)
+
+      unpadded : (k : Bool) → isKey (g .header .kind) ≡ k → (k ≡ true → length (encode g) ≤ start) → not k || eqb (g .padding) 0 ≡ true
+      unpadded true e l = let u = l refl in let p : g .padding ≡ 0 = omega (arith, sizes) in eq-eqb (g .padding) 0 p
+      unpadded false e l = refl
+
+      go : (f : Bool) → isFielded g ≡ f → bodyAgrees types g ≡ true
+      go true e =
+          let c = count-agrees (g .header .kind) (g .heartbeat) (isRawData g) types (encode g) start (length (g .lengths)) (firstOf g) (delta-plain (g .header .kind) (g .header .encoding) kind) e (back .heartbeat)
+          (subst (λ (f : Bool). At (encode g) start (countBytes f (isRawData g) (length (g .lengths)))) e count-at) count-read in
+          rw (e, reached-all (isRawData g) types (g .lengths) (g .values) c, fields-whole, c)
+      go false e =
+          let n = none-read (g .header .kind) (g .heartbeat) (isRawData g) types (encode g) start (length (g .lengths)) (firstOf g) e (back .heartbeat) count-read in
+          rw (e, eq-eqb (length (g .lengths)) 0 (n .0), unpadded (isKey (g .header .kind)) refl (n .1))
+
+-- What reading accepts and reads back as it is given is not refused by 6, where the lists agree.
+pub six-otherwise : (types : List ℕ) (g : Given) → FitsHeader (g .header) → readingRefusal types g ≡ 0 → MessageBack types g → bodyAgrees types g ≡ true
+six-otherwise types g fits r back =
+    let a = both-zero (kindRule (g .header .kind) (g .header .encoding)) (orElse (picosecondsRefusal (g .header .picoseconds)) (bodyRefusal types g)) r in
+    let b = both-zero (picosecondsRefusal (g .header .picoseconds)) (bodyRefusal types g) (a .1) in
+    body-agrees types g fits (a .0) (b .0) back
