@@ -8,14 +8,14 @@ use mathlib.Core.List.{List, [], _∷_}
 use mathlib.Core.Logic.{_⊎_, inl, inr}
 use native.Mathlib.Nat.{le-refl}
 use native.Mathlib.Omega.{arith}
-use borrow.Author.Tests.{leb-true, ltb-true, ltb-false, eqb-true}
+use borrow.Author.Tests.{leb-true, not-true}
 use lib.Dec.{leb, ltb, eqb}
 use lib.IntN.{ℤ}
 use lib.ListN.{length, getD}
 use Rattle.wire.specs.Answer.{Answer, got, refused, Reader, andThen, _>>=_, _>>_, pure, here, refuse, item, signedItem, ruled, run, whenOn, each, bit}
 use Rattle.wire.specs.Items.{guid, lengthItem}
 use Rattle.wire.specs.Optional.{optional16, optional32, optionalI64, picosecondsAt, picosecondsRule}
-use Rattle.wire.specs.declared.Length.{Length}
+use Rattle.wire.proofs.Facts.{and-left, and-right}
 use Rattle.acceptance.specs.Refusals.{placeless, Refusal}
 
 -- an answer within hi bytes
@@ -36,29 +36,14 @@ pub record AtItem (n : ℕ) : Type 0 where
 pub at-item : {n place hi : ℕ} → AtItem n → place ≤ hi → Refusal n place hi
 at-item r h = record { some = r .some; last = r .last; nowhere = λ e. absurd (false≢true (rw (r .placed) at e)); inside = h }
 
+-- a number of document 01 that has a place
+pub number : (n : ℕ) → leb 1 n && (leb n 16 && not (placeless n)) ≡ true → AtItem n
+number n e =
+    let r : leb n 16 && not (placeless n) ≡ true = and-right (leb 1 n) _ e in
+    record { some = leb-true 1 n (and-left (leb 1 n) _ e); last = leb-true n 16 (and-left (leb n 16) _ r); placed = not-true (placeless n) (and-right (leb n 16) _ r) }
+
 pub n1 : AtItem 1
-n1 = record { some = omega arith; last = omega arith; placed = refl }
-
-pub n2 : AtItem 2
-n2 = record { some = omega arith; last = omega arith; placed = refl }
-
-pub n3 : AtItem 3
-n3 = record { some = omega arith; last = omega arith; placed = refl }
-
-pub n4 : AtItem 4
-n4 = record { some = omega arith; last = omega arith; placed = refl }
-
-pub n5 : AtItem 5
-n5 = record { some = omega arith; last = omega arith; placed = refl }
-
-pub n6 : AtItem 6
-n6 = record { some = omega arith; last = omega arith; placed = refl }
-
-pub n7 : AtItem 7
-n7 = record { some = omega arith; last = omega arith; placed = refl }
-
-pub n9 : AtItem 9
-n9 = record { some = omega arith; last = omega arith; placed = refl }
+n1 = number 1 refl
 
 -- 8 and 10 have no place
 pub no-place8 : {hi : ℕ} → Refusal 8 0 hi
@@ -157,4 +142,4 @@ pub optional-i64-lawful : (on : Bool) → Lawful (optionalI64 on)
 optional-i64-lawful on = when-lawful on _ (bind-lawful (signed-lawful 8) (λ v. pure-lawful _))
 
 pub picoseconds-lawful : (on : Bool) → Lawful (picosecondsAt on)
-picoseconds-lawful on = when-lawful on _ (bind-lawful (ruled-lawful 2 picosecondsRule (λ v. cond-rule (leb 10000 v) (inr n3) kept)) (λ v. pure-lawful _))
+picoseconds-lawful on = when-lawful on _ (bind-lawful (ruled-lawful 2 picosecondsRule (λ v. cond-rule (leb 10000 v) (inr (number 3 refl)) kept)) (λ v. pure-lawful _))

@@ -24,30 +24,30 @@ use Rattle.network_message.specs.declared.payload.Sizes.{Sizes}
 use Rattle.chunk.specs.Payload as P
 use Rattle.chunk.specs.Datagram.{chunkOf, chunkAt}
 use Rattle.acceptance.proofs.Refusals.Tells.{gives, refuses}
-use Rattle.acceptance.proofs.Refusals.{Rule, Tells, Lawful, at-item, n1, n2, n3, n4, n5, n6, n7, no-place8, no-place10, pure-lawful, here-lawful, run-lawful, item-lawful, guid-lawful, length-lawful, ruled-lawful, bind-lawful, after-lawful, then-tells, cond-tells, cond-lawful, when-lawful, cond-rule, kept, optional16-lawful, optional32-lawful, optional-i64-lawful, picoseconds-lawful}
+use Rattle.acceptance.proofs.Refusals.{Rule, Tells, Lawful, at-item, number, n1, no-place8, no-place10, pure-lawful, here-lawful, run-lawful, item-lawful, guid-lawful, length-lawful, ruled-lawful, bind-lawful, after-lawful, then-tells, cond-tells, cond-lawful, when-lawful, cond-rule, kept, optional16-lawful, optional32-lawful, optional-i64-lawful, picoseconds-lawful}
 
 -- ---- the header's parts
 flags-lawful : Lawful flagsAt
 flags-lawful =
-    bind-lawful (ruled-lawful 1 byte0Rule (λ b. cond-rule (eqb (b % 16) 1) kept (inr n2)))
+    bind-lawful (ruled-lawful 1 byte0Rule (λ b. cond-rule (eqb (b % 16) 1) kept (inr (number 2 refl))))
     (λ b. bind-lawful (when-lawful (eqb (b / 128) 1) 0 (ruled-lawful 1 (extended1Rule (bit 16 b)) (extended1 (bit 16 b))))
     (λ e. bind-lawful (when-lawful (eqb (e / 128) 1) 0 (ruled-lawful 1 extended2Rule extended2)) (λ f. pure-lawful _)))
   where
     extended1 : (p : Bool) (e : ℕ) → Rule (extended1Rule p e)
     extended1 p e =
-        cond-rule (eqb e 0) (inr n3)
-        (cond-rule (p && leb 5 (e % 8)) (inr n3)
-        (cond-rule (bit 16 e) (inr n4)
-        (cond-rule (bit 64 e && eqb (e / 32 % 2) 0) (inr n3) kept)))
+        cond-rule (eqb e 0) (inr (number 3 refl))
+        (cond-rule (p && leb 5 (e % 8)) (inr (number 3 refl))
+        (cond-rule (bit 16 e) (inr (number 4 refl))
+        (cond-rule (bit 64 e && eqb (e / 32 % 2) 0) (inr (number 3 refl)) kept)))
 
     extended2 : (e : ℕ) → Rule (extended2Rule e)
-    extended2 e = cond-rule (eqb e 0) (inr n3) (cond-rule (leb 32 e) (inr n3) (cond-rule (leb 3 (e / 4 % 8)) (inr n3) (cond-rule (leb 1 (e / 4 % 8)) (inr n4) kept)))
+    extended2 e = cond-rule (eqb e 0) (inr (number 3 refl)) (cond-rule (leb 32 e) (inr (number 3 refl)) (cond-rule (leb 3 (e / 4 % 8)) (inr (number 3 refl)) (cond-rule (leb 1 (e / 4 % 8)) (inr (number 4 refl)) kept)))
 
 string-tells : (at : ℕ) (l : Length) (s : List ℕ) (start : ℕ) → at ≤ length s → start ≤ length s → Tells (length s) (lengthThen at l s start)
-string-tells at Length.Null s start h u = refuses (at-item n5 h)
+string-tells at Length.Null s start h u = refuses (at-item (number 5 refl) h)
 string-tells at (Length.Of n) s start h u =
     cond-tells (leb 65 n) (refuses no-place10) (bind-lawful (run-lawful n) (λ len. pure-lawful _) .tells s start u)
-string-tells at Length.Negative s start h u = refuses (at-item n5 h)
+string-tells at Length.Negative s start h u = refuses (at-item (number 5 refl) h)
 
 string-lawful : Lawful stringAt
 string-lawful = record { tells = λ s at h. then-tells (length-lawful .tells s at h) (λ l start u. string-tells at l s start h u) }
@@ -64,12 +64,12 @@ class-lawful : (on : Bool) → Lawful (classAt on)
 class-lawful on = when-lawful on _ (bind-lawful guid-lawful (λ v. pure-lawful _))
 
 number-lawful : (on : Bool) → Lawful (numberAt on)
-number-lawful on = when-lawful on _ (bind-lawful (ruled-lawful 2 numberRule (λ v. cond-rule (eqb v 0) (inr n3) kept)) (λ v. pure-lawful _))
+number-lawful on = when-lawful on _ (bind-lawful (ruled-lawful 2 numberRule (λ v. cond-rule (eqb v 0) (inr (number 3 refl)) kept)) (λ v. pure-lawful _))
 
 group-lawful : (on : Bool) → Lawful (groupAt on)
 group-lawful on =
     when-lawful on _
-    (bind-lawful (ruled-lawful 1 groupFlagsRule (λ v. cond-rule (leb 16 v) (inr n3) kept))
+    (bind-lawful (ruled-lawful 1 groupFlagsRule (λ v. cond-rule (leb 16 v) (inr (number 3 refl)) kept))
     (λ f. bind-lawful (optional16-lawful (eqb (f % 2) 1))
     (λ w. bind-lawful (optional32-lawful (bit 2 f))
     (λ v. bind-lawful (number-lawful (bit 4 f))
@@ -79,12 +79,12 @@ payload-header-lawful : (on chunk : Bool) → Lawful (payloadHeaderAt on chunk)
 payload-header-lawful on chunk =
     when-lawful on _
     (cond-lawful chunk (bind-lawful (item-lawful 2) (λ v. pure-lawful _))
-    (bind-lawful (ruled-lawful 1 countRule (λ n. cond-rule (eqb n 0) (inr n6) kept)) (λ n. after-lawful (run-lawful (2 * n)) (pure-lawful _))))
+    (bind-lawful (ruled-lawful 1 countRule (λ n. cond-rule (eqb n 0) (inr (number 6 refl)) kept)) (λ n. after-lawful (run-lawful (2 * n)) (pure-lawful _))))
 
 promoted-lawful : (on : Bool) (messages : ℕ) → Lawful (promotedAt on messages)
 promoted-lawful on messages =
     when-lawful on _
-    (bind-lawful (ruled-lawful 2 (sizeRule messages) (λ v. cond-rule (eqb messages 1) kept (inr n6))) (λ n. after-lawful (run-lawful n) (pure-lawful _)))
+    (bind-lawful (ruled-lawful 2 (sizeRule messages) (λ v. cond-rule (eqb messages 1) kept (inr (number 6 refl)))) (λ n. after-lawful (run-lawful n) (pure-lawful _)))
 
 identity-lawful : (f : Flags) → Lawful (identityAt f)
 identity-lawful f =
@@ -115,11 +115,11 @@ listed-lawful : (n : ℕ) → Lawful (listedAt n)
 listed-lawful n =
     record {
       tells = λ s at h. then-tells (run-lawful (2 * n) .tells s at h)
-          (λ x next u. cond-tells (positive (listed n s at) && eqb (next + total (listed n s at)) (length s)) (gives u) (refuses (at-item n6 h)));
+          (λ x next u. cond-tells (positive (listed n s at) && eqb (next + total (listed n s at)) (length s)) (gives u) (refuses (at-item (number 6 refl) h)));
     }
 
 sized-lawful : (n sum : ℕ) → Lawful (sizedAt n sum)
-sized-lawful n sum = record { tells = λ s at h. cond-tells (eqb (at + sum) (length s)) (gives h) (refuses (at-item n6 h)) }
+sized-lawful n sum = record { tells = λ s at h. cond-tells (eqb (at + sum) (length s)) (gives h) (refuses (at-item (number 6 refl) h)) }
 
 configured-lawful : (sizes : List ℕ) → Lawful (configuredAt sizes)
 configured-lawful sizes =
@@ -149,20 +149,20 @@ total-lawful : Lawful P.totalAt
 total-lawful =
     record {
       tells = λ s at h. then-tells (item-lawful 4 .tells s at h)
-          (λ v next u. cond-tells (eqb v 0) (refuses (at-item n6 h)) (cond-tells (ltb 16384 v) (refuses no-place10) (gives u)));
+          (λ v next u. cond-tells (eqb v 0) (refuses (at-item (number 6 refl) h)) (cond-tells (ltb 16384 v) (refuses no-place10) (gives u)));
     }
 
 sized-tells : (offset t at : ℕ) (l : Length) (next hi : ℕ) → at ≤ hi → next ≤ hi → Tells hi (P.lengthThen offset t at l next)
-sized-tells offset t at Length.Null next hi h u = refuses (at-item n6 h)
+sized-tells offset t at Length.Null next hi h u = refuses (at-item (number 6 refl) h)
 sized-tells offset t at (Length.Of n) next hi h u =
-    cond-tells (eqb n 0) (refuses (at-item n6 h)) (cond-tells (ltb t (offset + n)) (refuses (at-item n6 h)) (gives u))
-sized-tells offset t at Length.Negative next hi h u = refuses (at-item n5 h)
+    cond-tells (eqb n 0) (refuses (at-item (number 6 refl) h)) (cond-tells (ltb t (offset + n)) (refuses (at-item (number 6 refl) h)) (gives u))
+sized-tells offset t at Length.Negative next hi h u = refuses (at-item (number 5 refl) h)
 
 data-length-lawful : (offset t : ℕ) → Lawful (P.dataLengthAt offset t)
 data-length-lawful offset t = record { tells = λ s at h. then-tells (length-lawful .tells s at h) (λ l next u. sized-tells offset t at l next (length s) h u) }
 
 end-lawful : Lawful P.endAt
-end-lawful = record { tells = λ s at h. cond-tells (eqb at (length s)) (gives h) (refuses (at-item n7 h)) }
+end-lawful = record { tells = λ s at h. cond-tells (eqb at (length s)) (gives h) (refuses (at-item (number 7 refl) h)) }
 
 data-lawful : (n : ℕ) → Lawful (P.dataOf n)
 data-lawful n = bind-lawful here-lawful (λ f. after-lawful (run-lawful n) (after-lawful end-lawful (pure-lawful _)))
@@ -177,4 +177,4 @@ chunk-payload-lawful =
 pub chunk-tells : (sizes s : List ℕ) → Tells (length s) (chunkAt sizes s)
 chunk-tells sizes s =
     then-tells (datagram-tells sizes s)
-    (λ m first h. cond-tells (m .envelope .chunk) (then-tells (chunk-payload-lawful .tells s first h) (λ p next u. gives u)) (refuses (at-item n4 (omega arith))))
+    (λ m first h. cond-tells (m .envelope .chunk) (then-tells (chunk-payload-lawful .tells s first h) (λ p next u. gives u)) (refuses (at-item (number 4 refl) (omega arith))))

@@ -25,7 +25,7 @@ use Rattle.dataset_message.specs.declared.flags.Encoding.{Encoding}
 use Rattle.dataset_message.specs.declared.flags.Kind.{Kind}
 use Rattle.dataset_message.specs.declared.header.Header.{Header}
 use Rattle.dataset_message.specs.declared.fields.Cursor.{Cursor}
-use Rattle.acceptance.proofs.Refusals.{Rule, Tells, Lawful, at-item, n1, n3, n4, n5, n7, n9, no-place8, pure-lawful, here-lawful, refuse-lawful, run-lawful, item-lawful, length-lawful, ruled-lawful, ruled-tells, bind-lawful, after-lawful, then-tells, cond-tells, cond-lawful, when-lawful, each-lawful, cond-rule, kept, optional16-lawful, optional32-lawful, optional-i64-lawful, picoseconds-lawful}
+use Rattle.acceptance.proofs.Refusals.{Rule, Tells, Lawful, at-item, number, n1, no-place8, pure-lawful, here-lawful, refuse-lawful, run-lawful, item-lawful, length-lawful, ruled-lawful, ruled-tells, bind-lawful, after-lawful, then-tells, cond-tells, cond-lawful, when-lawful, each-lawful, cond-rule, kept, optional16-lawful, optional32-lawful, optional-i64-lawful, picoseconds-lawful}
 use Rattle.acceptance.proofs.Refusals.Tells.{gives, refuses}
 
 -- ---- values
@@ -39,7 +39,7 @@ length-tells : {A : Type 0} {null : Reader A} {counted : ℕ → Reader A} → L
     → place ≤ length s → at ≤ length s → Tells (length s) (afterLength null counted place l s at)
 length-tells f h place Length.Null s at u v = f .tells s at v
 length-tells f h place (Length.Of n) s at u v = h n .tells s at v
-length-tells f h place Length.Negative s at u v = refuses (at-item n5 u)
+length-tells f h place Length.Negative s at u v = refuses (at-item (number 5 refl) u)
 
 by-length-lawful : {A : Type 0} {null : Reader A} {counted : ℕ → Reader A} → Lawful null → ((n : ℕ) → Lawful (counted n)) → Lawful (byLength null counted)
 by-length-lawful f h = record { tells = λ s at u. then-tells (length-lawful .tells s at u) (λ l next v. length-tells f h at l s next u v) }
@@ -89,34 +89,34 @@ module _ {nested : ℕ → Reader Measure} (h : (t : ℕ) → Lawful (nested t))
   variant-rule : (b : ℕ) → Rule (variantRule b)
   unfolding variantRule
   variant-rule b =
-      cond-rule (hasDimensions b && not (isArray b)) (inr n3)
-      (cond-rule (hasDimensions b) (inr n4)
-      (cond-rule (eqb (typeOf b) 0 && isArray b) (inr n3)
-      (cond-rule (eqb (typeOf b) 24 && not (isArray b)) (inr n3)
-      (cond-rule (taken (typeOf b)) kept (inr n4)))))
+      cond-rule (hasDimensions b && not (isArray b)) (inr (number 3 refl))
+      (cond-rule (hasDimensions b) (inr (number 4 refl))
+      (cond-rule (eqb (typeOf b) 0 && isArray b) (inr (number 3 refl))
+      (cond-rule (eqb (typeOf b) 24 && not (isArray b)) (inr (number 3 refl))
+      (cond-rule (taken (typeOf b)) kept (inr (number 4 refl))))))
 
   value-of-lawful : (t : ℕ) → Lawful (valueOf nested t)
   value-of-lawful t =
       cond-lawful (eqb t 23)
-      (bind-lawful (ruled-lawful 1 maskRule (λ m. cond-rule (bit 64 m || bit 128 m) (inr n3) kept)) data-value-lawful)
+      (bind-lawful (ruled-lawful 1 maskRule (λ m. cond-rule (bit 64 m || bit 128 m) (inr (number 3 refl)) kept)) data-value-lawful)
       (bind-lawful (ruled-lawful 1 variantRule variant-rule) variant-lawful)
 
 pub value-lawful : (levels t : ℕ) → Lawful (valueAt levels t)
 unfolding valueAt
-value-lawful zero t = record { tells = λ s at h. then-tells (item-lawful 1 .tells s at h) (λ b next u. refuses (at-item n9 h)) }
+value-lawful zero t = record { tells = λ s at h. then-tells (item-lawful 1 .tells s at h) (λ b next u. refuses (at-item (number 9 refl) h)) }
 value-lawful (suc levels) t = value-of-lawful (value-lawful levels) t
 
 raw-lawful : (t : ℕ) → Lawful (rawAt t)
-raw-lawful t = cond-lawful (fixed t) (after-lawful (bytes-lawful (widthOf t)) (pure-lawful (measure t Shape.Scalar))) (refuse-lawful 4 n4)
+raw-lawful t = cond-lawful (fixed t) (after-lawful (bytes-lawful (widthOf t)) (pure-lawful (measure t Shape.Scalar))) (refuse-lawful 4 (number 4 refl))
 
 -- ---- the header
 flags2-rule : (b f : ℕ) → Rule (flags2Rule b f)
 flags2-rule b f =
-    cond-rule (eqb f 0) (inr n3)
-    (cond-rule (leb 4 (f % 16)) (inr n3)
-    (cond-rule (leb 64 f) (inr n3)
-    (cond-rule (eqb (f % 16) 2 && not (eqb (b / 2 % 4) 0)) (inr n3)
-    (cond-rule (eqb (f % 16) 1 && eqb (b / 2 % 4) 1) (inr n4) kept))))
+    cond-rule (eqb f 0) (inr (number 3 refl))
+    (cond-rule (leb 4 (f % 16)) (inr (number 3 refl))
+    (cond-rule (leb 64 f) (inr (number 3 refl))
+    (cond-rule (eqb (f % 16) 2 && not (eqb (b / 2 % 4) 0)) (inr (number 3 refl))
+    (cond-rule (eqb (f % 16) 1 && eqb (b / 2 % 4) 1) (inr (number 4 refl)) kept))))
 
 flags2-lawful : (b : ℕ) → Lawful (flags2At b)
 flags2-lawful b = record { tells = λ s at h. cond-tells (ltb b 128) (gives h) (ruled-lawful 1 (flags2Rule b) (flags2-rule b) .tells s at h) }
@@ -134,7 +134,7 @@ flags-lawful =
     encoded b s at next h u = go (eqb (b / 2 % 4) 3)
       where
         go : (x : Bool) → Tells (length s) (cond (eqb (cond x 3 0) 0) (andThen (flags2At b s next) (λ f z. got (valid (flagsOf b f)) z)) (refused (cond x 3 0) at))
-        go true = refuses (at-item n3 h)
+        go true = refuses (at-item (number 3 refl) h)
         go false = then-tells (flags2-lawful b .tells s next u) (λ f z v. gives v)
 
 body-lawful : (f : Flags) → Lawful (bodyAt f)
@@ -173,7 +173,7 @@ fields-lawful delta e types (suc n) k = after-lawful (field-lawful delta e types
 zeros-tells : (n : ℕ) (s : List ℕ) (at : ℕ) → at + n ≤ length s → Tells (length s) (zerosAt n s at)
 unfolding zerosAt
 zeros-tells zero s at h = gives {next = at} (omega arith)
-zeros-tells (suc n) s at h = cond-tells (eqb (getD s at 0) 0) (zeros-tells n s (at + 1) (omega arith)) (refuses (at-item n7 (omega arith)))
+zeros-tells (suc n) s at h = cond-tells (eqb (getD s at 0) 0) (zeros-tells n s (at + 1) (omega arith)) (refuses (at-item (number 7 refl) (omega arith)))
 
 counted-lawful : (raw : Bool) (types : List ℕ) → Lawful (countedAt raw types)
 counted-lawful raw types =

@@ -15,7 +15,7 @@ use Rattle.wire.specs.Store.{laid}
 use Rattle.wire.proofs.Numbers.{length-leBytes}
 use Rattle.wire.proofs.Stores.{sets-append}
 use Rattle.chunk.specs.Cutting.{payloadBytes, cutData, chunkBytes, cutRule, cutFault, cutAnswer, cutBuffer}
-use Rattle.chunk.specs.declared.cut.Written.{Written}
+use Rattle.writing.specs.declared.Written.{Written}
 
 -- ---- the rules
 module _ (total size k : ℕ) (a : size ≡ 0 → ⊥) (b : total ≡ 0 → ⊥) where
@@ -143,7 +143,7 @@ module _ (p : List ℕ) (number size k : ℕ) (out : List ℕ) where
   Way r exit = (r ≡ cutAnswer p number size k (length out)) × (exit ≡ cutBuffer p number size k out)
 
   -- by the fault
-  refused-by : (f : ℕ) → cutFault p size k (length out) ≡ f → (f ≡ 0 → ⊥) → Way (Written.Refused f 0) out
+  refused-by : (f : ℕ) → cutFault p size k (length out) ≡ f → (f ≡ 0 → ⊥) → Way (Written.Refused f) out
   unfolding cutAnswer cutBuffer
   refused-by f e h = (rw (e, ne-eqb f 0 h), rw (e, ne-eqb f 0 h))
 
@@ -159,10 +159,10 @@ module _ (p : List ℕ) (number size k : ℕ) (out : List ℕ) where
   unfolding cutFault
   fault-none e h = rw (eq-eqb (cutRule (length p) size k) 0 e, le-ltb (length out) (14 + length (cutData p size k)) h)
 
-  pub refused-way : (f : ℕ) → f ≡ cutRule (length p) size k → (f ≡ 0 → ⊥) → Way (Written.Refused f 0) out
+  pub refused-way : (f : ℕ) → f ≡ cutRule (length p) size k → (f ≡ 0 → ⊥) → Way (Written.Refused f) out
   refused-way f e h = refused-by f (fault-rule (λ q. h (e ∙ q)) ∙ sym e) h
 
-  pub short-way : cutRule (length p) size k ≡ 0 → length out < 14 + length (cutData p size k) → Way (Written.Refused 11 0) out
+  pub short-way : cutRule (length p) size k ≡ 0 → length out < 14 + length (cutData p size k) → Way (Written.Refused 11) out
   short-way e h = refused-by 11 (fault-short e h) (λ q. omega arith)
 
   pub done-way : cutRule (length p) size k ≡ 0 → (b exit : List ℕ) → b ≡ cutData p size k → 14 + length b ≤ length out → exit ≡ laid out 0 (payloadBytes number (k * size) (length p) b) → Way (Written.Is (14 + length b)) exit
@@ -187,7 +187,7 @@ module _ (p : List ℕ) (number size k : ℕ) (out : List ℕ) where
   answer-zero n e = go (eqb (cutFault p size k (length out)) 0) refl e
     where
       go : (a : Bool) → eqb (cutFault p size k (length out)) 0 ≡ a
-          → cond a (Written.Is (length (chunkBytes p number size k))) (Written.Refused (cutFault p size k (length out)) 0) ≡ Written.Is n
+          → cond a (Written.Is (length (chunkBytes p number size k))) (Written.Refused (cutFault p size k (length out))) ≡ Written.Is n
           → (cutFault p size k (length out) ≡ 0) × (length (chunkBytes p number size k) ≡ n)
       go true q e = (eqb-true (cutFault p size k (length out)) 0 q, cc)
       go false q e = let z : _≡_ {A = ℕ} 0 1 = cc in absurd (omega arith)

@@ -19,7 +19,8 @@ use Rattle.chunk.specs.Payload.{totalAt, dataLengthAt, dataOf, chunkPayl
 use Rattle.chunk.specs.Datagram.{placeOf, chunkAt, chunkData}
 use Rattle.chunk.specs.Cutting.{payloadBytes, cutData, chunkBytes, cutRule, cutAnswer, cutBuffer}
 use Rattle.chunk.specs.declared.payload.ChunkPayload.{ChunkPayload}
-use Rattle.chunk.specs.declared.cut.Written.{Written}
+use Rattle.writing.specs.declared.Written.{Written}
+use Rattle.writing.proofs.Trip.{le-at}
 use Rattle.chunk.proofs.CutLaws.{cuts, data-most, data-full, length-payload, cut-wrote}
 
 -- the bytes b stand at position m of s, and s ends with them
@@ -28,19 +29,6 @@ Ends s m b = (pre : List ℕ) × (s ≡ pre ++ b) × (length pre ≡ m)
 
 ends-length : (s : List ℕ) (m : ℕ) (b : List ℕ) → Ends s m b → length s ≡ m + length b
 ends-length s m b h = ap length (h .1) ∙ length-append (h .0) b ∙ ap (λ (n : ℕ). n + length b) (h .2)
-
--- a number of w bytes
-le-is : (w v : ℕ) (pre rest : List ℕ) → v < 256 ^ w → le w (pre ++ (leBytes w v ++ rest)) (length pre) ≡ v
-le-is zero v pre rest h = omega arith
-le-is (suc w) v pre rest h =
-    let b = v % 256 in
-    let tail = leBytes w (v / 256) ++ rest in
-    let s : (pre ++ (b ∷ [])) ++ tail ≡ pre ++ (b ∷ tail) = append-assoc pre (b ∷ []) tail in
-    let l : length (pre ++ (b ∷ [])) ≡ length pre + 1 = length-append pre (b ∷ []) in
-    let k : v / 256 < 256 ^ w = omega (arith, pow-suc 256 w) in
-    let q : le w (pre ++ (b ∷ tail)) (length pre + 1) ≡ v / 256 = rw (s, l) at (le-is w (v / 256) (pre ++ (b ∷ [])) rest k) in
-    let g : getD (pre ++ (b ∷ tail)) (length pre) 0 ≡ b = getD-append-seam pre b tail 0 in
-    rw (g, q) (omega arith)
 
 -- an item read from its bytes, with others after it
 record Passed (w v : ℕ) (s : List ℕ) (m : ℕ) (rest : List ℕ) : Type 0 where
@@ -53,7 +41,7 @@ passed w v h s m rest e =
     let n = length-leBytes w v in
     record {
       room = omega (arith, ends-length s m (leBytes w v ++ rest) e, length-append (leBytes w v) rest);
-      value = rw (e .1, sym (e .2)) (le-is w v (e .0) rest h);
+      value = le-at w v m h s (e .0, rest, e .1, e .2);
       next = (e .0 ++ leBytes w v, e .1 ∙ sym (append-assoc (e .0) (leBytes w v) rest), length-append (e .0) (leBytes w v) ∙ ap (λ (k : ℕ). k + length (leBytes w v)) (e .2) ∙ ap (λ (k : ℕ). m + k) n);
     }
 

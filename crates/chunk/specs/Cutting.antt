@@ -6,7 +6,7 @@ use lib.Dec.{leb, ltb, eqb}
 use lib.ListN.{length, take, drop}
 use Rattle.wire.specs.Number.{leBytes}
 use Rattle.wire.specs.Store.{laid}
-use Rattle.chunk.specs.declared.cut.Written.{Written}
+use Rattle.writing.specs.declared.Written.{Written}
 
 -- "MessageSequenceNumber 2, ChunkOffset 4, TotalSize 4, ChunkData with its length"
 abbrev pub payloadBytes : ℕ → ℕ → ℕ → List ℕ → List ℕ
@@ -39,7 +39,7 @@ cutFault p size k room =
 -- the number of bytes written, or the refusal
 unfoldable pub cutAnswer : List ℕ → ℕ → ℕ → ℕ → ℕ → Written
 cutAnswer p number size k room =
-    cond (eqb (cutFault p size k room) 0) (Written.Is (length (chunkBytes p number size k))) (Written.Refused (cutFault p size k room) 0)
+    cond (eqb (cutFault p size k room) 0) (Written.Is (length (chunkBytes p number size k))) (Written.Refused (cutFault p size k room))
 
 -- the buffer afterwards: the chunk's payload from its start, and every other byte as it was; all as it was where it is refused
 unfoldable pub cutBuffer : List ℕ → ℕ → ℕ → ℕ → List ℕ → List ℕ

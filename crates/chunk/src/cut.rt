@@ -3,17 +3,12 @@ use wire::part::part;
 use wire::store::put_run;
 use wire::store::put16;
 use wire::store::put32;
+use writing::Written;
 ghost use mathlib.Core.Path.{_≡_};
 ghost use Prim.Native.Nat.{_+_, _≤_, _<_};
 ghost use lib.ListN.{length};
 ghost use Rattle.wire.specs.Store.{laid};
 ghost use Rattle.chunk.specs.Cutting.{payloadBytes, cutRule, cutAnswer, cutBuffer};
-
-// The number of bytes written, or document 01's number and place.
-pub enum Written {
-    Is(usize),
-    Refused(u8, usize),
-}
 
 // The first rule that a cut of a payload of total bytes breaks, or 0.
 fn cut_rule(total: usize, size: usize, k: usize) -> u8
@@ -53,13 +48,13 @@ pub fn cut(out: &mut [u8], payload: &[u8], number: u16, size: usize, k: usize) -
 {
     let fault = cut_rule(payload.len(), size, k);
     if fault != 0 {
-        return Written::Refused(fault, 0);
+        return Written::Refused(fault);
     }
     let offset = k * size;
     let bytes = part(payload, offset, size);
     let length = 14 + bytes.len();
     if out.len() < length {
-        return Written::Refused(11, 0);
+        return Written::Refused(11);
     }
     put_payload(out, number, offset, payload.len(), bytes);
     Written::Is(length)

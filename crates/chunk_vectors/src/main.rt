@@ -3,7 +3,6 @@
 // the number stands at 7, the offset at 9, the total at 13, the data's length at 17 and the data at 21. A line has words and then writer,
 // number, offset, total, the data's place and length, and the data; or `bad`, number and place, and no data. Of the lines of standard input
 // the envelope's refusals come first; then 4 at 0 without the chunk bit; then the payload's, left to right.
-use chunk::cut::Written;
 use chunk::cut::cut;
 use chunk::datagram::ChunkRead;
 use chunk::datagram::data;
@@ -14,6 +13,7 @@ use text::hex::put_hex;
 use text::hex::read_hex;
 use text::words::find;
 use wire::part::part;
+use writing::Written;
 
 fn main() {
     let mut text = [0u8; 4096];
@@ -86,7 +86,7 @@ fn cutting(words: &[u8], payload: &[u8], size: usize, k: usize) {
     put(b":");
     let mut out = [46u8; 20];
     match cut(&mut out, payload, 7, size, k) {
-        Written::Refused(n, place) => refused(n, place),
+        Written::Refused(n) => refused(n, 0),
         Written::Is(n) => number(n),
     }
     let mut hex = [0u8; 40];

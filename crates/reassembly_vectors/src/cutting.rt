@@ -5,10 +5,10 @@ use crate::show;
 use crate::small;
 use crate::take;
 use crate::text;
-use chunk::cut::Written;
 use chunk::cut::cut;
 use wire::part::part;
 use wire::store::put_run;
+use writing::Written;
 
 pub fn histories() {
     restored();
