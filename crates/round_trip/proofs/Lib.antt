@@ -1,0 +1,8 @@
+pub mod NetworkMessageFlags
+pub mod NetworkMessageParts
+pub mod NetworkMessagePayload
+pub mod NetworkMessageMessages
+pub mod NetworkMessageWritten
+pub mod NetworkMessageFlagsBack
+pub mod NetworkMessagePartsBack
+pub mod NetworkMessageRewritten
