@@ -32,7 +32,7 @@ pub(crate) fn kind_of(p: PublisherId) -> u8
     ensures { λ r. ⌜ (r ≡ kindOf p) × (r ≤ 4) ⌝ }
 {
     match p {
-        PublisherId::Absent => 0,
+        PublisherId::Absent => 0, // its type bits are written as 0
         PublisherId::Byte(_) => 0,
         PublisherId::UInt16(_) => 1,
         PublisherId::UInt32(_) => 2,

@@ -3,6 +3,9 @@ pub mod NetworkMessageParts
 pub mod NetworkMessagePayload
 pub mod NetworkMessageMessages
 pub mod NetworkMessageWritten
+pub mod NetworkMessageGiven
 pub mod NetworkMessageFlagsBack
 pub mod NetworkMessagePartsBack
 pub mod NetworkMessageRewritten
+pub mod NetworkMessageRefused
+pub mod NetworkMessageKept

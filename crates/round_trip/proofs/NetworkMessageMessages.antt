@@ -71,7 +71,7 @@ agree-listed [] bytes at e = refl
 agree-listed (x ∷ xs) bytes at e =
     rw (eqb-true (le 2 bytes at) x (and-left (eqb (le 2 bytes at) x) (agree xs bytes (at + 2)) e), agree-listed xs bytes (at + 2) (and-right (eqb (le 2 bytes at) x) (agree xs bytes (at + 2)) e))
 
-same-listed : (bytes xs : List ℕ) → sameNumbers bytes xs ≡ true → listed (length xs) bytes 0 ≡ xs
+pub same-listed : (bytes xs : List ℕ) → sameNumbers bytes xs ≡ true → listed (length xs) bytes 0 ≡ xs
 unfolding sameNumbers
 same-listed bytes xs h = agree-listed xs bytes 0 (and-right (eqb (length bytes) (2 * length xs)) (agree xs bytes 0) h)
 
@@ -101,7 +101,7 @@ length-listed : (n : ℕ) (s : List ℕ) (at : ℕ) → length (listed n s at) �
 length-listed zero s at = refl
 length-listed (suc n) s at = ap suc (length-listed n s (at + 2))
 
-listed-at : (n : ℕ) (s : List ℕ) (at k : ℕ) → k < n → getD (listed n s at) k 0 ≡ le 2 s (at + 2 * k)
+pub listed-at : (n : ℕ) (s : List ℕ) (at k : ℕ) → k < n → getD (listed n s at) k 0 ≡ le 2 s (at + 2 * k)
 listed-at zero s at k h = absurd (not-suc-le-zero h)
 listed-at (suc n) s at zero h = ap (λ (j : ℕ). le 2 s j) (omega arith)
 listed-at (suc n) s at (suc k) h =

@@ -27,7 +27,7 @@ use Rattle.round_trip.specs.NetworkMessage.{payloadFor, givenLengths}
 
 -- numbers that stand in the middle of a slice
 
-le-moved : (w : ℕ) (pre b rest : List ℕ) (at : ℕ) → at + w ≤ length b → le w (pre ++ (b ++ rest)) (length pre + at) ≡ le w b at
+pub le-moved : (w : ℕ) (pre b rest : List ℕ) (at : ℕ) → at + w ≤ length b → le w (pre ++ (b ++ rest)) (length pre + at) ≡ le w b at
 le-moved zero pre b rest at h = refl
 le-moved (suc w) pre b rest at h =
     let i : at < length b = omega arith in

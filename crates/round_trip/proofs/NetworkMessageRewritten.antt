@@ -3,9 +3,11 @@
 use mathlib.Core.Path.{_≡_, refl, ap, sym, subst, _∙_}
 use mathlib.Core.List.{List, _++_, append-assoc}
 use mathlib.Core.Bool.{Bool, true, false, cond}
-use Prim.Native.Nat.{ℕ}
-use lib.ListN.{length, drop}
-use lib.Dec.{ltb}
+use Prim.Native.Nat.{ℕ, _≤_}
+use native.Mathlib.Omega.{arith}
+use lib.ListN.{length, drop, length-append}
+use lib.Dec.{ltb, eqb}
+use borrow.Author.Tests.{eqb-true, eqb-false}
 use Rattle.wire.specs.Answer.{Answer, got, refused, _>>=_}
 use Rattle.wire.specs.Optional.{optionalI64, picosecondsRule, picosecondsAt}
 use Rattle.wire.specs.declared.optional.Optional16.{Optional16}
@@ -27,13 +29,17 @@ use Rattle.network_message.specs.Group.{groupAt}
 use Rattle.network_message.specs.Header.{classAt, payloadHeaderAt, promotedAt}
 use Rattle.network_message.specs.Payload.{configuredSizes, payloadAt}
 use Rattle.network_message.specs.Envelope.{Header, NetworkMessage, identityAt, timesAt, messagesOf, headerAt, bodyAt, networkMessageAt}
-use Rattle.writing.specs.Writing.{optional16Bytes, optionalI64Bytes}
+use Rattle.writing.specs.declared.Written.{Written}
+use Rattle.writing.specs.Writing.{needed, numberFor, writtenBy, bufferBy, optional16Bytes, optionalI64Bytes}
+use Rattle.writing.proofs.Answering.{writes}
 use Rattle.writing.proofs.Back.{Bytes, Back, join, rest-is, end-fits, map-back, optionalI64-back, ruled16-back}
-use Rattle.network_message_writer.specs.Flags.{flagsFor, flagBytes}
+use Rattle.network_message_writer.specs.Flags.{extended1Of, flagsFor, flagBytes}
 use Rattle.network_message_writer.specs.Publisher.{publisherBytes}
 use Rattle.network_message_writer.specs.Group.{groupBytes}
 use Rattle.network_message_writer.specs.Header.{classBytes, payloadHeaderBytes, promotedBytes}
-use Rattle.network_message_writer.specs.Envelope.{headerBytes, textOf, idsOf, promotedOf, againOf}
+use Rattle.network_message_writer.specs.Envelope.{headerBytes, textOf, idsOf, promotedOf, againOf, rewriteAnswer, rewriteBuffer}
+use Rattle.network_message_writer.proofs.Sizes.{flags-sized}
+use Rattle.network_message_writer.proofs.Again.{accepted-short}
 use Rattle.round_trip.specs.NetworkMessage.{rewrittenFlags, rewrittenAs, rewritten}
 use Rattle.round_trip.proofs.NetworkMessageFlagsBack.{flags-back}
 use Rattle.round_trip.proofs.NetworkMessagePartsBack.{publisher-back, class-back, group-back, payload-header-back, promoted-back}
@@ -150,3 +156,47 @@ rewrite-same sizes s m next f n b h hf e =
     ap (λ (k : ℕ). record { publisher = f .publisher; group = f .group; «payload_header» = f .«payload_header»; kind = k; «class_id» = f .«class_id»; timestamp = f .timestamp; picoseconds = f .picoseconds; chunk = f .chunk; promoted = f .promoted }) e in
     ap (λ (a : Answer Flags). rewrittenAs s a) hf
     ∙ ap (λ (x : Flags). flagBytes x ++ drop n s) z ∙ ap (λ (x : Flags). flagBytes x ++ drop n s) (sym (got-value q)) ∙ ap (λ (k : ℕ). flagBytes (g .0) ++ drop k s) (sym (got-next q)) ∙ sym (r .1)
+
+-- a flag byte that is there stays or is left out
+needed-more : (a b : ℕ) → a ≤ b → needed a ≤ needed b
+needed-more a b h = go (eqb a 0) (eqb b 0) refl refl
+  where
+    go : (s t : Bool) → eqb a 0 ≡ s → eqb b 0 ≡ t → cond s 0 1 ≤ cond t 0 1
+    go true true e f = omega arith
+    go true false e f = omega arith
+    go false true e f =
+        let z : b ≡ 0 = eqb-true b 0 f in
+        let n : a ≡ 0 → ⊥ = eqb-false a 0 e in
+        absurd (n (omega arith))
+    go false false e f = omega arith
+
+kind-less : (t : Bool) (k : ℕ) → cond t k 0 ≤ k
+kind-less true k = omega arith
+kind-less false k = omega arith
+
+flags-shorter : (f : Flags) → length (flagBytes (rewrittenFlags f)) ≤ length (flagBytes f)
+flags-shorter f =
+    let l : extended1Of (rewrittenFlags f) ≤ extended1Of f = omega (arith, kind-less (f .publisher) (f .kind)) in
+    omega (arith, needed-more (extended1Of (rewrittenFlags f)) (extended1Of f) l, flags-sized f refl refl, flags-sized (rewrittenFlags f) refl refl)
+
+-- rewriting makes no datagram longer
+pub rewritten-short : (sizes s : List ℕ) (m : NetworkMessage) (next : ℕ) → Bytes s → networkMessageAt sizes s ≡ got m next → length (rewritten s) ≤ length s
+rewritten-short sizes s m next b h =
+    let f = flags-of sizes s m next h in
+    let r = body-same sizes s (f .0) (f .1) m next b (f .2) (f .3) in
+    let e : length (rewritten s) ≡ length (flagBytes (rewrittenFlags (f .0)) ++ drop (f .1) s) = ap (λ (a : Answer Flags). length (rewrittenAs s a)) (f .2) in
+    omega (arith, e, ap length (r .1), length-append (flagBytes (rewrittenFlags (f .0))) (drop (f .1) s), length-append (flagBytes (f .0)) (drop (f .1) s), flags-shorter (f .0))
+
+-- `rewrite` accepts an accepted datagram wherever the buffer is as long, and stores exactly its rewriting.
+pub rewrite-accepted : (sizes s out : List ℕ) (m : NetworkMessage) (next : ℕ) → Bytes s → networkMessageAt sizes s ≡ got m next → length s ≤ length out
+    → (rewriteAnswer s (networkMessageAt sizes s) (length out) ≡ Written.Is (length (rewritten s)))
+    × (rewriteBuffer s (networkMessageAt sizes s) out ≡ rewritten s ++ drop (length (rewritten s)) out)
+rewrite-accepted sizes s out m next b h l =
+    let q = rewritten-short sizes s m next b h in
+    let k : length (rewritten s) ≤ 65535 = omega (arith, accepted-short sizes s m next h) in
+    let j : length (rewritten s) ≤ length out = omega arith in
+    let w = writes 0 (rewritten s) out refl (length (rewritten s)) refl k (rewritten s ++ drop (length (rewritten s)) out) j refl in
+    rw h
+    (subst
+    (λ (y : List ℕ). (writtenBy (numberFor 0 (length y) (length out)) y ≡ Written.Is (length (rewritten s))) × (bufferBy (numberFor 0 (length y) (length out)) y out ≡ rewritten s ++ drop (length (rewritten s)) out))
+    (sym (rewrite-read sizes s m next b h)) (sym (w .0), sym (w .1)))

@@ -1,6 +1,7 @@
 -- What the round trips of NetworkMessages say.
 use Prim.Native.Nat.{ℕ, _+_, _*_}
-use mathlib.Core.Bool.{cond}
+use mathlib.Core.Path.{_≡_}
+use mathlib.Core.Bool.{false, cond}
 use mathlib.Core.List.{List, [], _∷_, _++_}
 use lib.Dec.{leb}
 use lib.ListN.{length, take, drop, getD}
@@ -57,6 +58,12 @@ messageOf zs messages k = take (getD zs k 0) (drop (total (take k zs)) messages)
 
 abbrev pub placeOf : List ℕ → ℕ → ℕ → MessagePlace
 placeOf zs first k = record { index = k; offset = first + total (take k zs); length = getD zs k 0 }
+
+-- of several messages with a PayloadHeader, as many lengths are given as its Count says
+abbrev pub AsManyLengths : PayloadHeader → List ℕ → Type 0
+AsManyLengths PayloadHeader.Absent lengths = Unit {0}
+AsManyLengths (PayloadHeader.Ids n) lengths = leb n 1 ≡ false → length lengths ≡ 2 * n
+AsManyLengths (PayloadHeader.Chunk w) lengths = Unit {0}
 
 -- The one rewriting exception: "With PublisherId off, its type bits are written as 0; if ExtendedFlags1 would then be 0, the
 -- byte is left out and bit 7 of byte 0 is 0" (`flagBytes` leaves such a byte out, and the bit with it).
