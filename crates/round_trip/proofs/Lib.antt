@@ -9,3 +9,5 @@ pub mod NetworkMessagePartsBack
 pub mod NetworkMessageRewritten
 pub mod NetworkMessageRefused
 pub mod NetworkMessageKept
+pub mod NetworkMessageAccepted
+pub mod NetworkMessageRoundTrip

@@ -223,7 +223,7 @@ listed-number n pre lengths messages m e l =
     go true false = refl
     go false b = refl
 
-payload-number : (x : PayloadHeader) (chunk : Bool) (sizes pre lengths messages : List ℕ) (m : ℕ) → length pre ≡ m → AsManyLengths x lengths
+pub payload-number : (x : PayloadHeader) (chunk : Bool) (sizes pre lengths messages : List ℕ) (m : ℕ) → length pre ≡ m → AsManyLengths x lengths
     → numberIn (payloadAt chunk x sizes (pre ++ (listBytes x lengths ++ messages)) m) ≡ payloadRefusal chunk x sizes lengths messages
 payload-number PayloadHeader.Absent true sizes pre lengths messages m e a = refl
 payload-number PayloadHeader.Absent false sizes pre lengths messages m e a = configured-number (configuredSizes sizes) messages (pre ++ messages) m (omega (arith, length-append pre messages))

@@ -45,14 +45,14 @@ use Rattle.round_trip.proofs.NetworkMessageFlagsBack.{flags-back}
 use Rattle.round_trip.proofs.NetworkMessagePartsBack.{publisher-back, class-back, group-back, payload-header-back, promoted-back}
 
 -- the header of a datagram with its parts taken as read
-abbrev headerOf : List ℕ → Envelope → Places → List ℕ
+abbrev pub headerOf : List ℕ → Envelope → Places → List ℕ
 headerOf s x p =
     headerBytes (textOf s (x .publisher) (p .«publisher_end»)) (idsOf s (x .«payload_header») (p .«payload_header_end»)) (promotedOf s (x .promoted) (p .payload)) x
 
 -- the parts put together
-abbrev Same : List ℕ → Flags → ℕ → Header → ℕ → Type 0
+abbrev pub Same : List ℕ → Flags → ℕ → Header → ℕ → Type 0
 Same s f n L next =
-    (headerOf s (L .envelope) (L .places) ++ drop next s ≡ flagBytes (rewrittenFlags f) ++ drop n s) × (s ≡ flagBytes f ++ drop n s) × (L .places .payload ≡ next)
+    (headerOf s (L .envelope) (L .places) ++ drop next s ≡ flagBytes (rewrittenFlags f) ++ drop n s) × (s ≡ flagBytes f ++ drop n s) × (L .places .payload ≡ next) × (next ≤ length s)
 
 module _ (s : List ℕ) (f : Flags) (p : PublisherId) (c : ClassId) (g : GroupHeader) (l : PayloadHeader) (t : OptionalI64) (o : Optional16) (m : Promoted) (n n1 n2 n3 n4 n5 n6 next : ℕ) where
   abbrev located : Header
@@ -79,9 +79,9 @@ module _ (s : List ℕ) (f : Flags) (p : PublisherId) (c : ClassId) (g : GroupHe
       (join s n2 b4 n3 (b5 ++ (b6 ++ (b7 ++ b8))) next bg
       (join s n3 b5 n4 (b6 ++ (b7 ++ b8)) next bl (join s n4 b6 n5 (b7 ++ b8) next bt (join s n5 b7 n6 b8 next bo bm))))) in
       let x = flagBytes (flagsFor (located .envelope)) in
-      (append-assoc x r (drop next s) ∙ ap (λ (q : List ℕ). x ++ q) (sym (rest-is s n r next j)) ∙ ap (λ (h : Flags). flagBytes h ++ drop n s) e, rest-is s 0 (flagBytes f) n bf, refl)
+      (append-assoc x r (drop next s) ∙ ap (λ (q : List ℕ). x ++ q) (sym (rest-is s n r next j)) ∙ ap (λ (h : Flags). flagBytes h ++ drop n s) e, rest-is s 0 (flagBytes f) n bf, refl, end-fits s n r next j)
 
-identity-of : (f : Flags) (s : List ℕ) (at : ℕ) (i : Identity) (next : ℕ) → identityAt f s at ≡ got i next
+pub identity-of : (f : Flags) (s : List ℕ) (at : ℕ) (i : Identity) (next : ℕ) → identityAt f s at ≡ got i next
     → (publisherAt (f .publisher) (f .kind) s at ≡ got (i .publisher) (i .«publisher_end»))
     × (n : ℕ) × (classAt (f .«class_id») s (i .«publisher_end») ≡ got (i .«class_id») n) × (groupAt (f .group) s n ≡ got (i .group) next)
 identity-of f s at i next h =
@@ -92,7 +92,7 @@ identity-of f s at i next h =
     × (n : ℕ) × (classAt (f .«class_id») s (i .«publisher_end») ≡ got (i .«class_id») n) × (groupAt (f .group) s n ≡ got (i .group) next)) (G .2)
     (P .2, C .1, C .2, G .1)
 
-times-of : (f : Flags) (messages : ℕ) (s : List ℕ) (at : ℕ) (x : Times) (next : ℕ) → timesAt f messages s at ≡ got x next
+pub times-of : (f : Flags) (messages : ℕ) (s : List ℕ) (at : ℕ) (x : Times) (next : ℕ) → timesAt f messages s at ≡ got x next
     → (n1 : ℕ) × (n2 : ℕ) × (optionalI64 (f .timestamp) s at ≡ got (x .timestamp) n1) × (picosecondsAt (f .picoseconds) s n1 ≡ got (x .picoseconds) n2) × (promotedAt (f .promoted) messages s n2 ≡ got (x .promoted) next)
 times-of f messages s at x next h =
     let T = invert (optionalI64 (f .timestamp) s at) (λ t n. _) h in
@@ -101,7 +101,7 @@ times-of f messages s at x next h =
     subst (λ (x : Times). (n1 : ℕ) × (n2 : ℕ) × (optionalI64 (f .timestamp) s at ≡ got (x .timestamp) n1) × (picosecondsAt (f .picoseconds) s n1 ≡ got (x .picoseconds) n2) × (promotedAt (f .promoted) messages s n2 ≡ got (x .promoted) next)) (M .2)
     (T .1, O .1, T .2, O .2, M .1)
 
-header-same : (configured : ℕ) (s : List ℕ) (f : Flags) (n : ℕ) (L : Header) (next : ℕ) → Bytes s → flagsAt s 0 ≡ got f n → headerAt f configured s n ≡ got L next → Same s f n L next
+pub header-same : (configured : ℕ) (s : List ℕ) (f : Flags) (n : ℕ) (L : Header) (next : ℕ) → Bytes s → flagsAt s 0 ≡ got f n → headerAt f configured s n ≡ got L next → Same s f n L next
 header-same configured s f n L next b hf h =
     let I = invert (identityAt f s n) (λ i k. _) h in
     let Pl = invert (payloadHeaderAt (f .«payload_header») (f .chunk) s (I .1)) (λ p k. _) (I .3) in
@@ -130,7 +130,7 @@ body-same sizes s f n m next b hf h =
     subst (λ (m : NetworkMessage). (againOf s (m .envelope) (m .places) ≡ flagBytes (rewrittenFlags f) ++ drop n s) × (s ≡ flagBytes f ++ drop n s)) (P .2)
     (ap (λ (k : ℕ). headerOf s (H .0 .envelope) (H .0 .places) ++ drop k s) (q .2) ∙ q .0, q .1)
 
-flags-of : (sizes s : List ℕ) (m : NetworkMessage) (next : ℕ) → networkMessageAt sizes s ≡ got m next → (f : Flags) × (n : ℕ) × (flagsAt s 0 ≡ got f n) × (bodyAt f sizes s n ≡ got m next)
+pub flags-of : (sizes s : List ℕ) (m : NetworkMessage) (next : ℕ) → networkMessageAt sizes s ≡ got m next → (f : Flags) × (n : ℕ) × (flagsAt s 0 ≡ got f n) × (bodyAt f sizes s n ≡ got m next)
 flags-of sizes s m next h = go (ltb 65535 (length s)) h
   where
     go : (t : Bool) → cond t (refused 10 0) ((flagsAt >>= λ f. bodyAt f sizes) s 0) ≡ got m next → (f : Flags) × (n : ℕ) × (flagsAt s 0 ≡ got f n) × (bodyAt f sizes s n ≡ got m next)

@@ -5,6 +5,7 @@ use mathlib.Core.Bool.{false, cond}
 use mathlib.Core.List.{List, [], _∷_, _++_}
 use lib.Dec.{leb}
 use lib.ListN.{length, take, drop, getD}
+use Rattle.wire.specs.Number.{leBytes}
 use Rattle.wire.specs.Answer.{Answer, got, refused}
 use Rattle.network_message.specs.declared.flags.Flags.{Flags}
 use Rattle.network_message.specs.declared.header.PayloadHeader.{PayloadHeader}
@@ -20,7 +21,7 @@ use Rattle.network_message_writer.specs.Flags.{flagBytes, flagsFor}
 use Rattle.network_message_writer.specs.Publisher.{publisherBytes}
 use Rattle.network_message_writer.specs.Group.{groupBytes}
 use Rattle.network_message_writer.specs.Header.{classBytes, payloadHeaderBytes}
-use Rattle.network_message_writer.specs.Envelope.{Given, headerBytes}
+use Rattle.network_message_writer.specs.Envelope.{Given, headerBytes, before, textOf, promotedOf}
 
 -- where the variable parts of a written envelope end
 abbrev pub placesOf : Given → Envelope → Places
@@ -88,3 +89,35 @@ rewrittenAs s (refused n place) = s
 
 abbrev pub rewritten : List ℕ → List ℕ
 rewritten s = rewrittenAs s (flagsAt s 0)
+
+-- the parts of a datagram as reading found them, to be given to the writer
+
+-- numbers of 2 bytes, one after the other
+abbrev pub numbersBytes : List ℕ → List ℕ
+numbersBytes [] = []
+numbersBytes (x ∷ xs) = leBytes 2 x ++ numbersBytes xs
+
+abbrev pub idsGiven : List ℕ → PayloadHeader → ℕ → List ℕ → List ℕ
+idsGiven s PayloadHeader.Absent end configured = numbersBytes (take 16 configured)
+idsGiven s (PayloadHeader.Ids n) end configured = before s end (2 * n)
+idsGiven s (PayloadHeader.Chunk w) end configured = []
+
+abbrev pub lengthsGiven : List ℕ → PayloadHeader → ℕ → List ℕ → List ℕ
+lengthsGiven s PayloadHeader.Absent at sizes = cond (leb (length (configuredSizes sizes)) 1) [] (numbersBytes (configuredSizes sizes))
+lengthsGiven s (PayloadHeader.Ids n) at sizes = cond (leb n 1) [] (take (2 * n) (drop at s))
+lengthsGiven s (PayloadHeader.Chunk w) at sizes = []
+
+abbrev pub messagesGiven : List ℕ → PayloadHeader → ℕ → List ℕ
+messagesGiven s PayloadHeader.Absent at = drop at s
+messagesGiven s (PayloadHeader.Ids n) at = cond (leb n 1) (drop at s) (drop (at + 2 * n) s)
+messagesGiven s (PayloadHeader.Chunk w) at = drop at s
+
+abbrev pub givenOf : List ℕ → Envelope → Places → List ℕ → List ℕ → Given
+givenOf s x p sizes configured =
+    record {
+      text = textOf s (x .publisher) (p .«publisher_end»);
+      ids = idsGiven s (x .«payload_header») (p .«payload_header_end») configured;
+      promoted = promotedOf s (x .promoted) (p .payload);
+      lengths = lengthsGiven s (x .«payload_header») (p .payload) sizes;
+      messages = messagesGiven s (x .«payload_header») (p .payload);
+    }
