@@ -1,14 +1,14 @@
 -- The variable parts of what is not refused are short.
 -- Assumes nothing.
 use mathlib.Core.Path.{_≡_, refl}
-use mathlib.Core.Bool.{Bool, true, false, cond, _&&_}
+use mathlib.Core.Bool.{Bool, true, false, cond}
 use mathlib.Core.List.{List}
 use Prim.Native.Nat.{ℕ, _*_, _≤_, _<_}
 use native.Mathlib.Nat.{min-le-left}
 use native.Mathlib.Omega.{arith}
 use lib.Dec.{eqb, leb}
 use lib.ListN.{length, take, length-take}
-use borrow.Author.Tests.{eqb-true, leb-false, leb-true}
+use borrow.Author.Tests.{eqb-true, leb-false}
 use Rattle.wire.proofs.Facts.{and-left}
 use Rattle.network_message.specs.declared.publisher.PublisherId.{PublisherId}
 use Rattle.network_message.specs.declared.header.PayloadHeader.{PayloadHeader}

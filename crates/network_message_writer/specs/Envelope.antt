@@ -74,6 +74,13 @@ refusalOf g x sizes configured = orElse (readingRefusal g x sizes) (shapeRefusal
 abbrev pub numberOf : Given → Envelope → List ℕ → List ℕ → ℕ → ℕ
 numberOf g x sizes configured room = numberFor (refusalOf g x sizes configured) (length (datagramOf g x)) room
 
+-- what writing answers, and the buffer afterwards: on success the datagram and then the buffer's own rest
+abbrev pub writtenOf : Given → Envelope → List ℕ → List ℕ → ℕ → Written
+writtenOf g x sizes configured room = writtenBy (numberOf g x sizes configured room) (datagramOf g x)
+
+abbrev pub bufferAfter : Given → Envelope → List ℕ → List ℕ → List ℕ → List ℕ
+bufferAfter g x sizes configured out = bufferBy (numberOf g x sizes configured (length out)) (datagramOf g x) out
+
 -- Rewriting: the parts of a datagram as reading found them.
 
 -- the n bytes of s before a position

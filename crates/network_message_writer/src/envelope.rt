@@ -52,7 +52,7 @@ ghost use Rattle.network_message.specs.Envelope.{networkMessageAt};
 ghost use Rattle.network_message.specs.Payload.{configuredSizes};
 ghost use Rattle.writing.specs.Writing.{Puts, numberFor, writtenBy, bufferBy, optionalI64Bytes};
 ghost use Rattle.network_message_writer.specs.Payload.{payloadRefusal};
-ghost use Rattle.network_message_writer.specs.Envelope.{given, tailBytes, headerBytes, datagramOf, headerRefusal, readingRefusal, shapeRefusal, refusalOf, numberOf};
+ghost use Rattle.network_message_writer.specs.Envelope.{given, tailBytes, headerBytes, datagramOf, headerRefusal, shapeRefusal, writtenOf, bufferAfter};
 ghost use Rattle.network_message_writer.specs.Envelope.{textOf, idsOf, promotedOf, againOf, rewriteAnswer, rewriteBuffer};
 
 fn timestamp_size(x: OptionalI64) -> usize
@@ -209,7 +209,7 @@ pub fn write(
     sizes: &[u16],
     configured: &[u16],
 ) -> Written
-    ensures { λ r. ⌜ (r ≡ writtenBy (numberOf (given (now (text .entry)) (now (ids .entry)) (now (promoted .entry)) (now (lengths .entry)) (now (messages .entry))) x (now (sizes .entry)) (now (configured .entry)) (length (now (out .entry)))) (datagramOf (given (now (text .entry)) (now (ids .entry)) (now (promoted .entry)) (now (lengths .entry)) (now (messages .entry))) x)) × (now (out .exit) ≡ bufferBy (numberOf (given (now (text .entry)) (now (ids .entry)) (now (promoted .entry)) (now (lengths .entry)) (now (messages .entry))) x (now (sizes .entry)) (now (configured .entry)) (length (now (out .entry)))) (datagramOf (given (now (text .entry)) (now (ids .entry)) (now (promoted .entry)) (now (lengths .entry)) (now (messages .entry))) x) (now (out .entry))) ⌝ }
+    ensures { λ r. ⌜ (r ≡ writtenOf (given (now (text .entry)) (now (ids .entry)) (now (promoted .entry)) (now (lengths .entry)) (now (messages .entry))) x (now (sizes .entry)) (now (configured .entry)) (length (now (out .entry)))) × (now (out .exit) ≡ bufferAfter (given (now (text .entry)) (now (ids .entry)) (now (promoted .entry)) (now (lengths .entry)) (now (messages .entry))) x (now (sizes .entry)) (now (configured .entry)) (now (out .entry))) ⌝ }
 {
     let n = or_else(
         reading_refusal(x, lengths, messages, sizes),

@@ -100,10 +100,10 @@ fn count(s: &[u8], sizes: &[u16]) {
     }
 }
 
-// What is given beside an envelope, under the configured writers 7 and 9 of sizes 3 and 2, or none, or one without size.
-fn written(
+// Writes into a buffer, and shows the answer and the two bytes of the buffer after it.
+fn into(
+    out: &mut [u8],
     words: &[u8],
-    room: usize,
     x: Envelope,
     text: &[u8],
     ids: &[u8],
@@ -115,31 +115,54 @@ fn written(
 ) {
     put(words);
     put(b":");
-    let mut out = [238u8; 96];
-    if room <= 94 {
-        match write(
-            &mut out[0..room],
-            x,
-            text,
-            ids,
-            promoted,
-            lengths,
-            messages,
-            sizes,
-            configured,
-        ) {
-            Written::Refused(n) => {
-                refused(n);
-                hex(part(&out, 0, 2));
-            }
-            Written::Is(n) => {
-                hex(part(&out, 0, n));
-                hex(part(&out, n, 2));
-                count(part(&out, 0, n), sizes);
-            }
+    match write(
+        out,
+        x,
+        text,
+        ids,
+        promoted,
+        lengths,
+        messages,
+        sizes,
+        configured,
+    ) {
+        Written::Refused(n) => {
+            refused(n);
+            hex(part(out, 0, 2));
+        }
+        Written::Is(n) => {
+            hex(part(out, 0, n));
+            hex(part(out, n, 2));
+            count(part(out, 0, n), sizes);
         }
     }
     put(b"\n");
+}
+
+fn written(
+    words: &[u8],
+    x: Envelope,
+    text: &[u8],
+    ids: &[u8],
+    promoted: &[u8],
+    lengths: &[u8],
+    messages: &[u8],
+    sizes: &[u16],
+    configured: &[u16],
+) {
+    let mut out = [238u8; 96];
+    into(
+        &mut out,
+        words,
+        x,
+        text,
+        ids,
+        promoted,
+        lengths,
+        messages,
+        sizes,
+        configured,
+    );
 }
 
 // An envelope with no part.
@@ -212,7 +235,6 @@ fn with_chunk(x: Envelope, payload_header: PayloadHeader) -> Envelope {
 fn one(words: &[u8], x: Envelope, text: &[u8], promoted: &[u8], messages: &[u8]) {
     written(
         words,
-        94,
         x,
         text,
         b"\x07\x00",
@@ -228,7 +250,6 @@ fn one(words: &[u8], x: Envelope, text: &[u8], promoted: &[u8], messages: &[u8])
 fn two(words: &[u8], x: Envelope, promoted: &[u8], lengths: &[u8], messages: &[u8]) {
     written(
         words,
-        94,
         x,
         b"",
         b"\x07\x00\x09\x00",
@@ -243,18 +264,7 @@ fn two(words: &[u8], x: Envelope, promoted: &[u8], lengths: &[u8], messages: &[u
 // No PayloadHeader: the configured writers 7 and 9 of sizes 3 and 2.
 fn fixed(words: &[u8], ids: &[u8], lengths: &[u8], messages: &[u8]) {
     let x = bare();
-    written(
-        words,
-        94,
-        x,
-        b"",
-        ids,
-        b"",
-        lengths,
-        messages,
-        &[3, 2],
-        &[7, 9],
-    );
+    written(words, x, b"", ids, b"", lengths, messages, &[3, 2], &[7, 9]);
 }
 
 fn accepted() {
@@ -262,7 +272,6 @@ fn accepted() {
     // byte 0: 1 + 16 + 64 + 128; type 1; 4711; Count 1
     written(
         b"document 01",
-        94,
         with_publisher(l, PublisherId::UInt16(4711)),
         b"",
         b"\x15\x00",
@@ -286,23 +295,11 @@ fn accepted() {
     // c1 80 01: PayloadHeader, ExtendedFlags1 for ExtendedFlags2, chunk
     let b = bare();
     let c = with_chunk(b, PayloadHeader::Chunk(7));
-    written(b"chunk", 94, c, b"", b"", b"", b"", b"\x01\x02", &[], &[]);
-    written(
-        b"chunk of nothing",
-        94,
-        c,
-        b"",
-        b"",
-        b"",
-        b"",
-        b"",
-        &[],
-        &[],
-    );
+    written(b"chunk", c, b"", b"", b"", b"", b"\x01\x02", &[], &[]);
+    written(b"chunk of nothing", c, b"", b"", b"", b"", b"", &[], &[]);
     // 01: version 1 alone
     written(
         b"one configured",
-        94,
         b,
         b"",
         b"\x07\x00",
@@ -473,7 +470,6 @@ fn room() {
     // 1 + 1 + 2 + 65,532 bytes are 65,536
     written(
         b"65,536 bytes",
-        94,
         l,
         b"",
         b"\x07\x00",
@@ -485,7 +481,6 @@ fn room() {
     );
     written(
         b"65,535 bytes",
-        94,
         l,
         b"",
         b"\x07\x00",
@@ -495,9 +490,14 @@ fn room() {
         &[],
         &[],
     );
-    written(
+}
+
+fn exact_room() {
+    let l = listing(1);
+    let mut five = [238u8; 5];
+    into(
+        &mut five,
         b"room of 5",
-        5,
         l,
         b"",
         b"\x07\x00",
@@ -507,9 +507,10 @@ fn room() {
         &[],
         &[],
     );
-    written(
+    let mut four = [238u8; 4];
+    into(
+        &mut four,
         b"room of 4",
-        4,
         l,
         b"",
         b"\x07\x00",
@@ -529,4 +530,5 @@ fn main() {
     refused_by_reading();
     read_back_otherwise();
     room();
+    exact_room();
 }

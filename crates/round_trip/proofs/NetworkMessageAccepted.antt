@@ -1,27 +1,27 @@
 -- The writer accepts an accepted datagram whose parts are given as they were read, and writes it again.
 -- Assumes nothing.
 use mathlib.Core.Path.{_≡_, refl, ap, ap₂, sym, subst, _∙_}
-use mathlib.Core.List.{List, [], _∷_, _++_, append-assoc, append-nil}
-use mathlib.Core.Bool.{Bool, true, false, cond, _&&_}
+use mathlib.Core.List.{List, [], _∷_, _++_, append-assoc}
+use mathlib.Core.Bool.{Bool, true, false, cond}
 use Prim.Native.Nat.{ℕ, zero, suc, _+_, _*_, _≤_, _<_}
 use native.Mathlib.Omega.{arith}
 use lib.ListN.{length, getD, take, drop, length-append, length-drop, take-append-drop}
 use lib.Seq.{length-take-le, drop-drop}
-use lib.Dec.{eqb, leb}
-use borrow.Author.Tests.{eq-eqb, lt-leb, leb-true}
+use lib.Dec.{leb}
+use borrow.Author.Tests.{eq-eqb, lt-leb}
 use Rattle.wire.specs.Number.{le, leBytes}
 use Rattle.wire.specs.Answer.{got, run, signedItem, ruled}
 use Rattle.wire.specs.Optional.{optionalI64, picosecondsRule, picosecondsAt}
 use Rattle.wire.specs.declared.optional.Optional16.{Optional16}
 use Rattle.wire.specs.declared.optional.OptionalI64.{OptionalI64}
-use Rattle.wire.proofs.Reading.{got-value, got-next, not-got, invert}
+use Rattle.wire.proofs.Reading.{got-value, invert}
 use Rattle.network_message.specs.declared.flags.Flags.{Flags}
 use Rattle.network_message.specs.declared.header.PayloadHeader.{PayloadHeader}
 use Rattle.network_message.specs.declared.payload.Payload.{Payload}
 use Rattle.network_message.specs.declared.envelope.Envelope.{Envelope}
 use Rattle.network_message.specs.declared.envelope.Places.{Places}
 use Rattle.network_message.specs.Flags.{flagsAt}
-use Rattle.network_message.specs.Header.{countRule, payloadHeaderAt}
+use Rattle.network_message.specs.Header.{payloadHeaderAt}
 use Rattle.network_message.specs.Payload.{configuredSizes, restAt, listedAt, payloadAt}
 use Rattle.network_message.specs.Envelope.{Header, NetworkMessage, identityAt, timesAt, messagesOf, headerAt, bodyAt, networkMessageAt}
 use Rattle.writing.specs.Writing.{orElse, on16, onI64, picosecondsRefusal}
@@ -32,7 +32,7 @@ use Rattle.network_message_writer.specs.Publisher.{unused, publisherRefusal, pu
 use Rattle.network_message_writer.specs.Group.{groupRefusal}
 use Rattle.network_message_writer.specs.Header.{agree, sameNumbers, idsShape, countRefusal, promotedRefusal, promotedShape}
 use Rattle.network_message_writer.specs.Payload.{listBytes, numberIn, payloadRefusal, lengthsShape}
-use Rattle.network_message_writer.specs.Envelope.{Given, headerBytes, datagramOf, refusalOf, readingRefusal, shapeRefusal, before, textOf, idsOf, promotedOf, againOf}
+use Rattle.network_message_writer.specs.Envelope.{datagramOf, refusalOf, before, textOf, promotedOf, againOf}
 use Rattle.round_trip.specs.NetworkMessage.{rewritten, AsManyLengths, numbersBytes, idsGiven, lengthsGiven, messagesGiven, givenOf}
 use Rattle.round_trip.proofs.NetworkMessageKept.{flags-kept, publisher-kept, group-kept, picoseconds-kept, promoted-kept, HeaderKept, payload-header-kept}
 use Rattle.round_trip.proofs.NetworkMessageRefused.{payload-number}

@@ -1,19 +1,19 @@
 -- The flag bytes, read as they were written.
 -- Assumes nothing.
 use mathlib.Core.Path.{_≡_, refl, ap, sym, subst}
-use mathlib.Core.List.{List, [], _++_}
-use mathlib.Core.Bool.{Bool, true, false, cond, _&&_}
+use mathlib.Core.List.{[], _++_}
+use mathlib.Core.Bool.{Bool, true, false, _&&_}
 use Prim.Native.Nat.{ℕ, _+_, _*_, _/_, _%_, _^_, _≤_, _<_}
 use native.Mathlib.Omega.{arith}
 use lib.ListN.{length, length-append}
-use lib.Dec.{eqb, leb}
+use lib.Dec.{eqb}
 use borrow.Author.Tests.{lt-leb, eqb-true}
 use Rattle.wire.specs.Number.{leBytes}
 use Rattle.wire.specs.Answer.{ruled, pure, whenOn, got, bit}
 use Rattle.network_message.specs.declared.flags.Flags.{Flags}
 use Rattle.network_message.specs.Flags.{byte0Rule, extended1Rule, extended2Rule, flagsOf, flagsAt}
 use Rattle.writing.specs.Writing.{num, needed, byteBytes}
-use Rattle.writing.proofs.Trip.{At, Reads, first, second, nothing, rule-kept, item-is}
+use Rattle.writing.proofs.Trip.{Reads, first, second, nothing, rule-kept, item-is}
 use Rattle.writing.proofs.Bits.{num-bound, needed-bound, flag-is}
 use Rattle.network_message_writer.specs.Flags.{extended2Of, extended1Of, byte0Of, flagBytes, timesRefusal}
 

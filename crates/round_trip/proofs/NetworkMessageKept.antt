@@ -1,27 +1,27 @@
 -- What was read breaks no rule of writing: each part of an accepted datagram, with its bytes as read, is not refused.
 -- Assumes nothing.
-use mathlib.Core.Path.{_≡_, refl, ap, sym, subst, _∙_}
+use mathlib.Core.Path.{_≡_, refl, sym, subst}
 use mathlib.Core.List.{List}
 use mathlib.Core.Bool.{Bool, true, false, cond, _&&_}
-use Prim.Native.Nat.{ℕ, zero, suc, _+_, _-_, _*_, _/_, _%_, _^_, _≤_, _<_}
+use Prim.Native.Nat.{ℕ, zero, suc, _+_, _-_, _*_, _/_, _%_, _^_, _<_}
 use native.Mathlib.Omega.{arith}
 use lib.ListN.{length}
 use lib.IntN.{pos, negsuc}
 use lib.Dec.{eqb, leb, ltb}
-use borrow.Author.Tests.{eqb-true, eqb-false, eq-eqb, lt-leb, leb-true}
+use borrow.Author.Tests.{eq-eqb, lt-leb}
 use Rattle.wire.specs.Number.{le, signed}
 use Rattle.wire.specs.Answer.{got, refused, andThen, item, ruled, run, pure, whenOn, _>>=_, bit}
 use Rattle.wire.specs.Items.{lengthOf}
 use Rattle.wire.specs.Optional.{optional16, optional32, picosecondsRule, picosecondsAt}
 use Rattle.wire.specs.declared.optional.Optional16.{Optional16}
-use Rattle.wire.proofs.Reading.{got-value, got-next, not-got, invert}
+use Rattle.wire.proofs.Reading.{got-value, not-got, invert}
 use Rattle.network_message.specs.declared.flags.Flags.{Flags}
 use Rattle.network_message.specs.declared.publisher.PublisherId.{PublisherId}
 use Rattle.network_message.specs.declared.group.GroupHeader.{GroupHeader}
 use Rattle.network_message.specs.declared.header.PayloadHeader.{PayloadHeader}
 use Rattle.network_message.specs.declared.header.Promoted.{Promoted}
 use Rattle.network_message.specs.Flags.{byte0Rule, extended1Rule, extended2Rule, flagsOf, flagsAt}
-use Rattle.network_message.specs.Publisher.{stringOf, lengthThen, stringAt, publisherOf, publisherAt}
+use Rattle.network_message.specs.Publisher.{stringOf, lengthThen, stringAt, publisherAt}
 use Rattle.network_message.specs.Group.{numberRule, numberAt, groupFlagsRule, groupFieldsAt, groupAt}
 use Rattle.network_message.specs.Header.{countRule, payloadHeaderAt, sizeRule, promotedAt}
 use Rattle.writing.specs.Writing.{picosecondsRefusal}
@@ -30,8 +30,8 @@ use Rattle.writing.proofs.Back.{Bytes, item-back, run-back, ruled-back, map-bac
 use Rattle.network_message_writer.specs.Flags.{timesRefusal}
 use Rattle.network_message_writer.specs.Publisher.{publisherRefusal, publisherShape}
 use Rattle.network_message_writer.specs.Group.{numberRefusal, groupRefusal}
-use Rattle.network_message_writer.specs.Header.{countRefusal, promotedRefusal, promotedShape}
-use Rattle.network_message_writer.specs.Envelope.{before, textOf, idsOf, promotedOf}
+use Rattle.network_message_writer.specs.Header.{promotedRefusal, promotedShape}
+use Rattle.network_message_writer.specs.Envelope.{before, textOf, promotedOf}
 use Rattle.round_trip.proofs.NetworkMessagePartsBack.{before-length}
 
 -- the flags: PicoSeconds only with Timestamp

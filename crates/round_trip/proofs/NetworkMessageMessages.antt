@@ -1,14 +1,14 @@
 -- The messages of a payload that was written stand in it one after the other, each with the length that was given.
 -- Assumes nothing.
-use mathlib.Core.Path.{_≡_, refl, ap, sym, subst, _∙_}
+use mathlib.Core.Path.{_≡_, refl, ap, sym, _∙_}
 use mathlib.Core.List.{List, [], _∷_, _++_}
-use mathlib.Core.Bool.{Bool, true, false, cond, _&&_}
+use mathlib.Core.Bool.{Bool, true, false, cond}
 use Prim.Native.Nat.{ℕ, zero, suc, _+_, _*_, _-_, _≤_, _<_}
 use native.Mathlib.Nat.{not-suc-le-zero}
 use native.Mathlib.Omega.{arith}
 use lib.ListN.{length, getD, take, length-append}
 use lib.Dec.{eqb, leb, ltb}
-use borrow.Author.Tests.{le-leb, leb-true, leb-false, eqb-true, ltb-true}
+use borrow.Author.Tests.{le-leb, leb-true, eqb-true, ltb-true}
 use Rattle.wire.specs.Number.{le}
 use Rattle.wire.specs.Answer.{item}
 use Rattle.wire.proofs.Facts.{and-left, and-right}

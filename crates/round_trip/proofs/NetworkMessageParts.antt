@@ -11,7 +11,6 @@ use borrow.Author.Tests.{leb-false, lt-leb, lt-ltb, le-leb, eqb-true}
 use Rattle.wire.specs.Number.{le, leBytes}
 use Rattle.wire.specs.Answer.{item, ruled, got}
 use Rattle.wire.specs.Items.{guid, guidBytes}
-use Rattle.wire.specs.declared.Length.{Length}
 use Rattle.wire.specs.declared.optional.Optional16.{Optional16}
 use Rattle.network_message.specs.declared.publisher.PublisherId.{PublisherId}
 use Rattle.network_message.specs.declared.group.GroupFields.{GroupFields}
@@ -23,7 +22,7 @@ use Rattle.network_message.specs.Publisher.{publisherAt}
 use Rattle.network_message.specs.Group.{numberRule, numberAt, groupFlagsRule, groupFieldsAt, groupAt}
 use Rattle.network_message.specs.Header.{classAt, countRule, payloadHeaderAt, sizeRule, promotedAt}
 use Rattle.writing.specs.Writing.{num, on16, on32, optional16Bytes, optional32Bytes}
-use Rattle.writing.proofs.Trip.{At, Reads, first, second, fits-at, last, nothing, rule-kept, run-is, le-at, item-is, ruled-is, guid-is, FitsGuid, Fits16, Fits32, optional16-is, optional32-is}
+use Rattle.writing.proofs.Trip.{Reads, first, second, fits-at, last, nothing, rule-kept, run-is, le-at, item-is, ruled-is, guid-is, FitsGuid, Fits16, Fits32, optional16-is, optional32-is}
 use Rattle.writing.proofs.Refusals.{passed, held}
 use Rattle.writing.proofs.Bits.{num-bound, flag-is}
 use Rattle.network_message_writer.specs.Publisher.{publisherOn, kindOf, publisherBytes, publisherRefusal, publisherShape}

@@ -1,14 +1,14 @@
 -- Each part between the flags and the payload: what was read is what stands there.
 -- Assumes nothing.
-use mathlib.Core.Path.{_≡_, refl, ap, sym, subst, _∙_}
+use mathlib.Core.Path.{_≡_, refl, sym, subst, _∙_}
 use mathlib.Core.List.{List, _++_}
 use mathlib.Core.Bool.{Bool, true, false, cond}
 use Prim.Native.Nat.{ℕ, zero, suc, _+_, _-_, _^_, _*_, _/_, _%_, _≤_, _<_}
 use native.Mathlib.Omega.{arith}
-use lib.ListN.{length, take, drop, length-drop}
+use lib.ListN.{length, drop, length-drop}
 use lib.Seq.{length-take-le}
 use lib.Dec.{eqb, leb, ltb, eqb→eq}
-use borrow.Author.Tests.{eqb-true, eqb-false, leb-false, ltb-true}
+use borrow.Author.Tests.{eqb-true, eqb-false, leb-false}
 use Rattle.wire.specs.Number.{le, leBytes, signed}
 use Rattle.wire.specs.Answer.{got, refused, andThen, item, ruled, run, pure, _>>=_, bit}
 use Rattle.wire.specs.Items.{guid, lengthOf}

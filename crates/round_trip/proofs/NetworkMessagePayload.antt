@@ -1,29 +1,21 @@
 -- The payload, read as it was written, and its messages.
 -- Assumes nothing.
-use mathlib.Core.Path.{_≡_, refl, ap, sym, subst, _∙_}
-use mathlib.Core.List.{List, [], _∷_, _++_}
-use mathlib.Core.Bool.{Bool, true, false, cond, _&&_}
-use Prim.Native.Nat.{ℕ, zero, suc, _+_, _*_, _-_, _≤_, _<_}
-use native.Mathlib.Nat.{not-suc-le-zero}
+use mathlib.Core.Path.{_≡_, refl, _∙_}
+use mathlib.Core.List.{List, [], _++_}
+use mathlib.Core.Bool.{Bool, true, false, cond}
+use Prim.Native.Nat.{ℕ, zero, suc, _+_, _*_, _≤_, _<_}
 use native.Mathlib.Omega.{arith}
-use lib.ListN.{length, getD, take, drop, length-append, List·getD-append}
-use lib.Seq.{getD-append-add, drop-at}
+use lib.ListN.{length, getD, length-append, List·getD-append}
+use lib.Seq.{getD-append-add}
 use lib.Dec.{eqb, leb, ltb}
-use borrow.Author.Tests.{le-leb, leb-true, leb-false, eq-eqb, eqb-true, eqb-false, ne-eqb, lt-ltb, ltb-true}
+use borrow.Author.Tests.{le-leb, eq-eqb, eqb-true, eqb-false, ne-eqb, lt-ltb, ltb-true}
 use Rattle.wire.specs.Number.{le}
-use Rattle.wire.specs.Answer.{got, refused, item}
-use Rattle.wire.proofs.Facts.{and-left, and-right}
+use Rattle.wire.specs.Answer.{got, refused}
 use Rattle.network_message.specs.declared.header.PayloadHeader.{PayloadHeader}
 use Rattle.network_message.specs.declared.payload.Sizes.{Sizes}
-use Rattle.network_message.specs.declared.payload.Payload.{Payload}
-use Rattle.network_message.specs.Payload.{total, positive, listed, configuredSizes, payloadOf, restAt, listedAt, sizedAt, configuredAt, payloadAt, valueOr0}
-use Rattle.network_message.proofs.Messages.{Tiles}
-use Rattle.writing.proofs.Refusals.{passed, held}
-use Rattle.network_message_writer.specs.Header.{agree, sameNumbers, idsShape}
-use Rattle.network_message_writer.specs.Payload.{listBytes, numberIn, listedRefusal, payloadRefusal, lengthsShape}
-use Rattle.network_message_writer.specs.Envelope.{Given}
-use Rattle.network_message_writer.proofs.Short.{listed-length}
-use Rattle.round_trip.specs.NetworkMessage.{payloadFor, givenLengths}
+use Rattle.network_message.specs.Payload.{total, positive, listed, configuredSizes, payloadOf, restAt, listedAt, configuredAt, payloadAt}
+use Rattle.network_message_writer.specs.Payload.{listBytes, numberIn, listedRefusal, payloadRefusal}
+use Rattle.round_trip.specs.NetworkMessage.{payloadFor}
 
 -- numbers that stand in the middle of a slice
 

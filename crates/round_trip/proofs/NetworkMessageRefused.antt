@@ -1,13 +1,13 @@
 -- A writer refuses what reading would refuse, by the same number in reading order.
 -- Assumes nothing.
-use mathlib.Core.Path.{_≡_, refl, ap, ap₂, sym, subst, _∙_}
+use mathlib.Core.Path.{_≡_, refl, ap, sym, subst, _∙_}
 use mathlib.Core.List.{List, [], _++_}
 use mathlib.Core.Bool.{Bool, true, false, cond, _&&_}
 use Prim.Native.Nat.{ℕ, suc, _+_, _*_, _/_, _%_, _^_, _≤_, _<_}
 use native.Mathlib.Omega.{arith}
 use lib.ListN.{length, length-append}
 use lib.Dec.{eqb, leb, ltb}
-use borrow.Author.Tests.{le-ltb, le-leb, lt-leb, lt-ltb, leb-false, leb-true, eqb-true, eqb-false, eq-eqb, ne-eqb}
+use borrow.Author.Tests.{le-ltb, le-leb, lt-leb, lt-ltb, leb-false, eqb-true, eqb-false, eq-eqb, ne-eqb}
 use Rattle.wire.specs.Number.{le, leBytes}
 use Rattle.wire.specs.Answer.{Answer, got, refused, ruled, bit}
 use Rattle.wire.specs.declared.optional.Optional16.{Optional16}
@@ -18,7 +18,6 @@ use Rattle.network_message.specs.declared.group.GroupHeader.{GroupHeader}
 use Rattle.network_message.specs.declared.header.PayloadHeader.{PayloadHeader}
 use Rattle.network_message.specs.declared.header.Promoted.{Promoted}
 use Rattle.network_message.specs.declared.payload.Sizes.{Sizes}
-use Rattle.network_message.specs.declared.payload.Payload.{Payload}
 use Rattle.network_message.specs.declared.envelope.Envelope.{Envelope}
 use Rattle.network_message.specs.Flags.{byte0Rule, extended1Rule, flagsAt}
 use Rattle.network_message.specs.Publisher.{publisherAt}

@@ -13,7 +13,6 @@ use Rattle.network_message.specs.declared.publisher.PublisherId.{PublisherId}
 use Rattle.network_message.specs.declared.payload.Payload.{Payload}
 use Rattle.network_message.specs.declared.payload.MessagePlace.{MessagePlace}
 use Rattle.network_message.specs.declared.envelope.Envelope.{Envelope}
-use Rattle.network_message.specs.declared.envelope.Places.{Places}
 use Rattle.network_message.specs.Payload.{total, configuredSizes}
 use Rattle.network_message.specs.Envelope.{NetworkMessage, messagesOf, networkMessageAt, messagePlaceAt, messageBytes}
 use Rattle.network_message.proofs.Messages.{tile, tiled}
