@@ -4,3 +4,16 @@ pub mod DataSetMessage
 pub mod DataSetMessageRewritten
 pub mod DataSetMessageRefused
 pub mod DataSetMessageOtherwise
+pub mod NetworkMessageFlags
+pub mod NetworkMessageParts
+pub mod NetworkMessagePayload
+pub mod NetworkMessageMessages
+pub mod NetworkMessageWritten
+pub mod NetworkMessageGiven
+pub mod NetworkMessageFlagsBack
+pub mod NetworkMessagePartsBack
+pub mod NetworkMessageRewritten
+pub mod NetworkMessageRefused
+pub mod NetworkMessageKept
+pub mod NetworkMessageAccepted
+pub mod NetworkMessageRoundTrip

@@ -1,1 +1,2 @@
 pub mod DataSetMessage
+pub mod NetworkMessage

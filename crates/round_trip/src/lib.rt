@@ -1,1 +1,1 @@
-// The round trips of reading and writing: definitions and theorems only, no code.
+// No code: the theorems that what is written reads back, and that what is read is written again.

@@ -3,3 +3,4 @@ pub mod Trip
 pub mod Back
 pub mod Refusals
 pub mod Bits
+pub mod Answering

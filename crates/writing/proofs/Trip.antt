@@ -1,15 +1,15 @@
 -- Reading what was written, item by item: a reader at position m, over bytes b that stand there, answers x and the position after b.
 -- Assumes nothing.
-use mathlib.Core.Path.{_≡_, ap, sym, subst, _∙_}
+use mathlib.Core.Path.{_≡_, ap, sym, _∙_}
 use mathlib.Core.List.{List, [], _∷_, _++_, append-assoc}
-use Prim.Native.Nat.{ℕ, zero, suc, _+_, _-_, _*_, _/_, _%_, _^_, _≤_, _<_}
+use Prim.Native.Nat.{ℕ, zero, suc, _+_, _/_, _%_, _^_, _≤_, _<_}
 use native.Mathlib.Nat.{add-zero, pow-suc}
 use native.Mathlib.Omega.{arith}
 use lib.ListN.{length, getD, length-append}
 use lib.IntN.{ℤ, pos, negsuc}
 use lib.Seq.{getD-append-seam}
 use borrow.Author.Tests.{le-leb}
-use Rattle.wire.specs.Number.{le, leBytes, signed, unsigned}
+use Rattle.wire.specs.Number.{le, leBytes, unsigned}
 use Rattle.wire.specs.Answer.{got, Reader, item, signedItem, ruled, run, pure, _>>=_}
 use Rattle.wire.specs.Items.{guid, guidBytes}
 use Rattle.wire.specs.Optional.{optional16, optional32, optionalI64, picosecondsRule, picosecondsAt}

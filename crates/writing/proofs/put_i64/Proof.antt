@@ -5,7 +5,7 @@ use Rattle.wire.specs.Store.{laid}
 use Rattle.wire.specs.Number.{unsigned, leBytes}
 use mir.Syntax.{w64}
 use mir.ValLaws.{toZ-ofZ}
-use mathlib.Core.Path.{ap, sym, _∙_}
+use mathlib.Core.Path.{ap, _∙_}
 use lib.IntN.{ℤ}
 use denote.Ref.{now}
 use borrow.Author.Needs.{needs}

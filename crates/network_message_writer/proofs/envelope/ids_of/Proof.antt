@@ -1,0 +1,29 @@
+-- `network_message_writer::envelope::ids_of` meets its contract.
+-- Assumes nothing.
+use mathlib.Core.Path.{sym}
+use borrow.Author.Needs.{needs}
+use Rattle.network_message_writer.proofs.envelope.ids_of.Statement.{statement}
+use Rattle.network_message_writer.proofs.envelope.ids_of.Tie as tie
+
+returns-2 : tie.Need-returns-2
+returns-2 c =
+    rw (c .before .before .before .x .given .1, sym (c .before .left .ensures)) (c .part2 .ensures)
+
+pub ids-of-spec : {M : Type 1} → statement M
+ids-of-spec =
+    tie.close
+    (tie.spec
+    (λ c. search needs)
+    (λ c κs. search needs)
+    (λ c. search needs)
+    (λ c. search needs)
+    (λ c. search needs)
+    (λ c κs. search needs)
+    (λ c. search needs)
+    (λ c. search needs)
+    (λ c κs. search needs)
+    (λ c. search needs)
+    (λ c κs. search needs)
+    (λ c. search needs)
+    returns-2
+    (λ c. search needs))

@@ -1,0 +1,14 @@
+-- `network_message_writer::envelope::put_datagram` meets its contract.
+-- Assumes nothing.
+use Rattle.writing.proofs.Putting.{then}
+use borrow.Author.Needs.{needs}
+use Rattle.network_message_writer.proofs.envelope.put_datagram.Statement.{statement}
+use Rattle.network_message_writer.proofs.envelope.put_datagram.Tie as tie
+
+returns : tie.Need-returns
+returns c =
+    then (c .before .before .before .before .before .before .put-header .ensures) (c .before .before .put-payload .ensures)
+
+pub put-datagram-spec : {M : Type 1} → statement M
+put-datagram-spec =
+    tie.close (tie.spec (λ c κs. search needs) (λ c κs. search needs) (λ c. search needs) returns)

@@ -1,0 +1,16 @@
+-- `network_message_writer::envelope::reading_refusal` meets its contract.
+-- Assumes nothing.
+use Rattle.network_message_writer.specs.Envelope.{headerRefusal}
+use Prim.Native.Nat.{ℕ}
+use mathlib.Core.Path.{ap₂, _∙_}
+use borrow.Author.Needs.{needs}
+use Rattle.network_message_writer.proofs.envelope.reading_refusal.Statement.{statement}
+use Rattle.network_message_writer.proofs.envelope.reading_refusal.Tie as tie
+
+returns : tie.Need-returns
+returns c =
+    c .header-refusal .ensures ∙ ap₂ (λ (a b : ℕ). headerRefusal (c .before .before .before .before .before .before .args .x) a b) (c .before .writers .ensures .0) (c .before .before .payload-refusal .ensures)
+
+pub reading-refusal-spec : {M : Type 1} → statement M
+reading-refusal-spec =
+    tie.close (tie.spec (λ c κs. search needs) (λ c κs. search needs) (λ c κs. search needs) returns)

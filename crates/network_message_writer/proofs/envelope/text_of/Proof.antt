@@ -1,0 +1,34 @@
+-- `network_message_writer::envelope::text_of` meets its contract.
+-- Assumes nothing.
+use mathlib.Core.Path.{sym}
+use borrow.Author.Needs.{needs}
+use Rattle.network_message_writer.proofs.envelope.text_of.Statement.{statement}
+use Rattle.network_message_writer.proofs.envelope.text_of.Tie as tie
+
+returns-6 : tie.Need-returns-6
+returns-6 c =
+    rw (c .before .before .before .p .given .1, sym (c .before .left .ensures)) (c .part6 .ensures)
+
+pub text-of-spec : {M : Type 1} → statement M
+text-of-spec =
+    tie.close
+    (tie.spec
+    (λ c. search needs)
+    (λ c κs. search needs)
+    (λ c. search needs)
+    (λ c κs. search needs)
+    (λ c. search needs)
+    (λ c κs. search needs)
+    (λ c. search needs)
+    (λ c κs. search needs)
+    (λ c. search needs)
+    (λ c κs. search needs)
+    (λ c. search needs)
+    (λ c κs. search needs)
+    (λ c κs. search needs)
+    (λ c. search needs)
+    (λ c. search needs)
+    (λ c. search needs)
+    (λ c. search needs)
+    (λ c. search needs)
+    returns-6)

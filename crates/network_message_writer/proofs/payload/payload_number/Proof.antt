@@ -1,0 +1,21 @@
+-- `network_message_writer::payload::payload_number` meets its contract.
+-- Assumes nothing.
+use Rattle.network_message_writer.specs.Payload.{numberIn}
+use Rattle.network_message.specs.Payload.{answerPayload}
+use Rattle.wire.proofs.Reading.{told}
+use mathlib.Core.Path.{ap}
+use borrow.Author.Needs.{needs}
+use Rattle.network_message_writer.proofs.payload.payload_number.Statement.{statement}
+use Rattle.network_message_writer.proofs.payload.payload_number.Tie as tie
+
+returns : tie.Need-returns
+returns c =
+    ap numberIn (told answerPayload (c .before .before .read-payload .ensures) (c .enum-told .given .1))
+
+returns-2 : tie.Need-returns-2
+returns-2 c =
+    ap numberIn (told answerPayload (c .before .before .before .read-payload .ensures) (c .before .n .given .1))
+
+pub payload-number-spec : {M : Type 1} → statement M
+payload-number-spec =
+    tie.close (tie.spec (λ c κs. search needs) (λ c. search needs) (λ c. search needs) returns returns-2)

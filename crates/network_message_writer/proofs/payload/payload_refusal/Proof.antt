@@ -1,0 +1,33 @@
+-- `network_message_writer::payload::payload_refusal` meets its contract.
+-- Assumes nothing.
+use borrow.Author.Tests.{le-leb, lt-leb}
+use mathlib.Core.Path.{_∙_}
+use borrow.Author.Needs.{needs}
+use Rattle.network_message_writer.proofs.payload.payload_refusal.Statement.{statement}
+use Rattle.network_message_writer.proofs.payload.payload_refusal.Tie as tie
+
+returns : tie.Need-returns
+returns c =
+    c .payload-number2 .ensures ∙ rw (c .before .before .before .x .given .1, le-leb _ _ (c .before .if1 .taken))
+
+returns-2 : tie.Need-returns-2
+returns-2 c = c .payload-number .ensures ∙ rw (c .before .enum-told .given .1)
+
+returns-3 : tie.Need-returns-3
+returns-3 c =
+    rw (c .before .before .before .x .given .1, lt-leb _ _ (c .before .if1 .left)) (c .listed-refusal .ensures)
+
+pub payload-refusal-spec : {M : Type 1} → statement M
+payload-refusal-spec =
+    tie.close
+    (tie.spec
+    (λ c. search needs)
+    (λ c κs. search needs)
+    (λ c. search needs)
+    (λ c κs. search needs)
+    returns
+    (λ c κs. search needs)
+    (λ c. search needs)
+    returns-2
+    returns-3
+    (λ c. search needs))

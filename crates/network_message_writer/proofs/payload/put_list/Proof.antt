@@ -1,0 +1,38 @@
+-- `network_message_writer::payload::put_list` meets its contract.
+-- Assumes nothing.
+use Rattle.writing.proofs.Putting.{puts, nothing}
+use borrow.Author.Tests.{le-leb, lt-leb}
+use denote.Ref.{now}
+use borrow.Author.Needs.{needs}
+use Rattle.network_message_writer.proofs.payload.put_list.Statement.{statement}
+use Rattle.network_message_writer.proofs.payload.put_list.Tie as tie
+
+returns : tie.Need-returns
+returns c =
+    rw (c .before .before .x .given .1, le-leb _ _ (c .if1 .taken)) (nothing (now (c .before .before .before .before .before .before .args .out)) (c .before .before .before .before .before .before .args .at))
+
+returns-2 : tie.Need-returns-2
+returns-2 c =
+    rw (c .enum-told .given .1) (nothing (now (c .before .before .before .before .args .out)) (c .before .before .before .before .args .at))
+
+returns-3 : tie.Need-returns-3
+returns-3 c =
+    rw (c .before .before .before .before .before .before .x .given .1, lt-leb _ _ (c .before .before .before .before .if1 .left)) (puts (c .before .before .put-run .ensures))
+
+returns-4 : tie.Need-returns-4
+returns-4 c =
+    rw (c .enum-told2 .given .1) (nothing (now (c .before .before .before .before .args .out)) (c .before .before .before .before .args .at))
+
+pub put-list-spec : {M : Type 1} → statement M
+put-list-spec =
+    tie.close
+    (tie.spec
+    (λ c. search needs)
+    (λ c. search needs)
+    returns
+    (λ c κs. search needs)
+    (λ c. search needs)
+    returns-2
+    (λ c. search needs)
+    returns-3
+    returns-4)

@@ -1,0 +1,121 @@
+-- The NetworkMessage written (document 01, "Numbers given back", "The envelope" and "The one rewriting exception").
+use Prim.Native.Nat.{ℕ, _-_, _*_}
+use mathlib.Core.List.{List, [], _++_}
+use lib.ListN.{length, take, drop}
+use Rattle.wire.specs.Answer.{Answer, got, refused}
+use Rattle.network_message.specs.declared.publisher.PublisherId.{PublisherId}
+use Rattle.network_message.specs.declared.header.PayloadHeader.{PayloadHeader}
+use Rattle.network_message.specs.declared.header.Promoted.{Promoted}
+use Rattle.network_message.specs.declared.envelope.Envelope.{Envelope}
+use Rattle.network_message.specs.declared.envelope.Places.{Places}
+use Rattle.network_message.specs.Payload.{configuredSizes}
+use Rattle.network_message.specs.Envelope.{NetworkMessage, messagesOf}
+use Rattle.writing.specs.declared.Written.{Written}
+use Rattle.writing.specs.Writing.{orElse, on16, onI64, optional16Bytes, optionalI64Bytes, picosecondsRefusal, numberFor, writtenBy, bufferBy}
+use Rattle.network_message_writer.specs.Flags.{flagBytes, flagsFor, timesRefusal}
+use Rattle.network_message_writer.specs.Publisher.{publisherBytes, publisherRefusal, publisherShape}
+use Rattle.network_message_writer.specs.Group.{groupBytes, groupRefusal}
+use Rattle.network_message_writer.specs.Header.{classBytes, payloadHeaderBytes, promotedBytes, countRefusal, promotedRefusal, idsShape, promotedShape}
+use Rattle.network_message_writer.specs.Payload.{listBytes, payloadRefusal, lengthsShape}
+
+-- what is given beside the envelope: the bytes of a string PublisherId, the DataSetWriterIds (2 bytes each), the promoted
+-- fields, the lengths of several messages (2 bytes each), and the messages one after the other or a chunk's payload
+pub record Given : Type 0 where
+  pub text : List ℕ
+  pub ids : List ℕ
+  pub promoted : List ℕ
+  pub lengths : List ℕ
+  pub messages : List ℕ
+
+abbrev pub given : List ℕ → List ℕ → List ℕ → List ℕ → List ℕ → Given
+given text ids promoted lengths messages = record { text = text; ids = ids; promoted = promoted; lengths = lengths; messages = messages }
+
+-- everything before the payload, in the order of document 01: flags, PublisherId, DataSetClassId, group header, then
+-- PayloadHeader, Timestamp, PicoSeconds, promoted fields
+abbrev pub tailBytes : List ℕ → List ℕ → Envelope → List ℕ
+tailBytes ids promoted x =
+    payloadHeaderBytes ids (x .«payload_header»)
+    ++ (optionalI64Bytes (x .timestamp) ++ (optional16Bytes (x .picoseconds) ++ promotedBytes promoted (x .promoted)))
+
+abbrev pub headerBytes : List ℕ → List ℕ → List ℕ → Envelope → List ℕ
+headerBytes text ids promoted x =
+    flagBytes (flagsFor x)
+    ++ (publisherBytes text (x .publisher) ++ (classBytes (x .«class_id») ++ (groupBytes (x .group) ++ tailBytes ids promoted x)))
+
+abbrev pub datagramOf : Given → Envelope → List ℕ
+datagramOf g x = headerBytes (g .text) (g .ids) (g .promoted) x ++ (listBytes (x .«payload_header») (g .lengths) ++ g .messages)
+
+-- "A writer refuses what reading would refuse, by the same number in reading order"
+abbrev pub headerRefusal : Envelope → ℕ → ℕ → ℕ
+headerRefusal x configured payload =
+    orElse (timesRefusal (on16 (x .picoseconds)) (onI64 (x .timestamp)))
+    (orElse (publisherRefusal (x .publisher))
+    (orElse (groupRefusal (x .group))
+    (orElse (countRefusal (x .«payload_header»))
+    (orElse (picosecondsRefusal (x .picoseconds))
+    (orElse (promotedRefusal (x .promoted) (messagesOf (x .chunk) (x .«payload_header») configured)) payload)))))
+
+abbrev pub readingRefusal : Given → Envelope → List ℕ → ℕ
+readingRefusal g x sizes =
+    headerRefusal x (length (configuredSizes sizes)) (payloadRefusal (x .chunk) (x .«payload_header») sizes (g .lengths) (g .messages))
+
+-- "then over 255 messages, or what would read back otherwise, by 6": a part of another length than said, one that nothing
+-- announces, ids or lengths that are not the configured ones
+abbrev pub shapeRefusal : Given → Envelope → List ℕ → List ℕ → ℕ
+shapeRefusal g x sizes configured =
+    orElse (publisherShape (x .publisher) (length (g .text)))
+    (orElse (idsShape (x .chunk) (x .«payload_header») (g .ids) configured)
+    (orElse (promotedShape (x .promoted) (length (g .promoted))) (lengthsShape (x .«payload_header») (g .lengths) sizes)))
+
+abbrev pub refusalOf : Given → Envelope → List ℕ → List ℕ → ℕ
+refusalOf g x sizes configured = orElse (readingRefusal g x sizes) (shapeRefusal g x sizes configured)
+
+-- the number of writing into a buffer of a length: 0 is done
+abbrev pub numberOf : Given → Envelope → List ℕ → List ℕ → ℕ → ℕ
+numberOf g x sizes configured room = numberFor (refusalOf g x sizes configured) (length (datagramOf g x)) room
+
+-- what writing answers, and the buffer afterwards: on success the datagram and then the buffer's own rest
+abbrev pub writtenOf : Given → Envelope → List ℕ → List ℕ → ℕ → Written
+writtenOf g x sizes configured room = writtenBy (numberOf g x sizes configured room) (datagramOf g x)
+
+abbrev pub bufferAfter : Given → Envelope → List ℕ → List ℕ → List ℕ → List ℕ
+bufferAfter g x sizes configured out = bufferBy (numberOf g x sizes configured (length out)) (datagramOf g x) out
+
+-- Rewriting: the parts of a datagram as reading found them.
+
+-- the n bytes of s before a position
+abbrev pub before : List ℕ → ℕ → ℕ → List ℕ
+before s end n = take n (drop (end - n) s)
+
+abbrev pub textOf : List ℕ → PublisherId → ℕ → List ℕ
+textOf s PublisherId.Absent end = []
+textOf s (PublisherId.Byte v) end = []
+textOf s (PublisherId.UInt16 v) end = []
+textOf s (PublisherId.UInt32 v) end = []
+textOf s (PublisherId.UInt64 v) end = []
+textOf s (PublisherId.Text n) end = before s end n
+
+abbrev pub idsOf : List ℕ → PayloadHeader → ℕ → List ℕ
+idsOf s PayloadHeader.Absent end = []
+idsOf s (PayloadHeader.Ids n) end = before s end (2 * n)
+idsOf s (PayloadHeader.Chunk w) end = []
+
+abbrev pub promotedOf : List ℕ → Promoted → ℕ → List ℕ
+promotedOf s Promoted.Absent end = []
+promotedOf s (Promoted.Size n) end = before s end n
+
+-- the datagram s, read as this envelope with its places, written again: its header parts, and its payload as it stands
+abbrev pub againOf : List ℕ → Envelope → Places → List ℕ
+againOf s x p =
+    headerBytes (textOf s (x .publisher) (p .«publisher_end»)) (idsOf s (x .«payload_header») (p .«payload_header_end»))
+    (promotedOf s (x .promoted) (p .payload)) x
+    ++ drop (p .payload) s
+
+-- what rewriting answers and leaves in the buffer: reading's refusal, else the datagram written again, or 11
+abbrev pub rewriteAnswer : List ℕ → Answer NetworkMessage → ℕ → Written
+rewriteAnswer s (got m next) room = writtenBy (numberFor 0 (length (againOf s (m .envelope) (m .places))) room) (againOf s (m .envelope) (m .places))
+rewriteAnswer s (refused n place) room = Written.Refused n
+
+abbrev pub rewriteBuffer : List ℕ → Answer NetworkMessage → List ℕ → List ℕ
+rewriteBuffer s (got m next) out = bufferBy (numberFor 0 (length (againOf s (m .envelope) (m .places))) (length out)) (againOf s (m .envelope) (m .places)) out
+rewriteBuffer s (refused n place) out = out

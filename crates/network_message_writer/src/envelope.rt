@@ -1,0 +1,315 @@
+// The NetworkMessage: judged first, then written in one pass.
+use crate::flags::flags_size;
+use crate::flags::put_flags;
+use crate::flags::times_refusal;
+use crate::group::group_refusal;
+use crate::group::group_size;
+use crate::group::put_group;
+use crate::group::size16;
+use crate::header::class_size;
+use crate::header::count_refusal;
+use crate::header::ids_shape;
+use crate::header::payload_header_size;
+use crate::header::promoted_refusal;
+use crate::header::promoted_shape;
+use crate::header::promoted_size;
+use crate::header::put_class;
+use crate::header::put_payload_header;
+use crate::header::put_promoted;
+use crate::payload::lengths_shape;
+use crate::payload::list_size;
+use crate::payload::payload_refusal;
+use crate::payload::put_payload;
+use crate::publisher::publisher_refusal;
+use crate::publisher::publisher_shape;
+use crate::publisher::publisher_size;
+use crate::publisher::put_publisher;
+use network_message::envelope::Envelope;
+use network_message::envelope::NetworkMessageRead;
+use network_message::envelope::Places;
+use network_message::envelope::messages_of;
+use network_message::envelope::read;
+use network_message::header::PayloadHeader;
+use network_message::header::Promoted;
+use network_message::payload::writers;
+use network_message::publisher::PublisherId;
+use wire::optional::OptionalI64;
+use wire::part::part;
+use wire::part::tail;
+use writing::Written;
+use writing::is_on_i64;
+use writing::is_on16;
+use writing::or_else;
+use writing::picoseconds_refusal;
+use writing::put_optional_i64;
+use writing::put_optional16;
+use writing::put_run;
+ghost use mathlib.Core.Path.{_≡_};
+ghost use mathlib.Core.List.{[], _++_};
+ghost use Prim.Native.Nat.{_≤_};
+ghost use lib.ListN.{length};
+ghost use Rattle.network_message.specs.Envelope.{networkMessageAt};
+ghost use Rattle.network_message.specs.Payload.{configuredSizes};
+ghost use Rattle.writing.specs.Writing.{Puts, numberFor, writtenBy, bufferBy, optionalI64Bytes};
+ghost use Rattle.network_message_writer.specs.Payload.{payloadRefusal};
+ghost use Rattle.network_message_writer.specs.Envelope.{given, tailBytes, headerBytes, datagramOf, headerRefusal, shapeRefusal, writtenOf, bufferAfter};
+ghost use Rattle.network_message_writer.specs.Envelope.{textOf, idsOf, promotedOf, againOf, rewriteAnswer, rewriteBuffer};
+
+fn timestamp_size(x: OptionalI64) -> usize
+    ensures { λ r. ⌜ (r ≡ length (optionalI64Bytes x)) × (r ≤ 8) ⌝ }
+{
+    match x {
+        OptionalI64::Absent => 0,
+        OptionalI64::Is(_) => 8,
+    }
+}
+
+fn tail_size(x: Envelope, ids: &[u8], promoted: &[u8]) -> usize
+    requires { ⌜ (length (now ids) ≤ 65535) × (length (now promoted) ≤ 65535) ⌝ }
+    ensures { λ r. ⌜ (r ≡ length (tailBytes (now (ids .entry)) (now (promoted .entry)) x)) × (r ≤ 131090) ⌝ }
+{
+    let h = x.payload_header;
+    let t = x.timestamp;
+    let o = x.picoseconds;
+    let m = x.promoted;
+    payload_header_size(h, ids) + (timestamp_size(t) + (size16(o) + promoted_size(m, promoted)))
+}
+
+fn header_size(x: Envelope, text: &[u8], ids: &[u8], promoted: &[u8]) -> usize
+    requires { ⌜ (length (now text) ≤ 65535) × (length (now ids) ≤ 65535) × (length (now promoted) ≤ 65535) ⌝ }
+    ensures { λ r. ⌜ (r ≡ length (headerBytes (now (text .entry)) (now (ids .entry)) (now (promoted .entry)) x)) × (r ≤ 200000) ⌝ }
+{
+    let p = x.publisher;
+    let c = x.class_id;
+    let g = x.group;
+    flags_size(x)
+        + (publisher_size(p, text)
+            + (class_size(c) + (group_size(g) + tail_size(x, ids, promoted))))
+}
+
+fn put_tail(out: &mut [u8], at: usize, x: Envelope, ids: &[u8], promoted: &[u8]) -> usize
+    ensures { λ r. ⌜ Puts (tailBytes (now (ids .entry)) (now (promoted .entry)) x) (now (out .entry)) at (now (out .exit)) r ⌝ }
+{
+    let h = x.payload_header;
+    let t = x.timestamp;
+    let o = x.picoseconds;
+    let m = x.promoted;
+    let after_ids = put_payload_header(out, at, h, ids);
+    let after_time = put_optional_i64(out, after_ids, t);
+    let after_picoseconds = put_optional16(out, after_time, o);
+    put_promoted(out, after_picoseconds, m, promoted)
+}
+
+fn put_header(out: &mut [u8], x: Envelope, text: &[u8], ids: &[u8], promoted: &[u8]) -> usize
+    ensures { λ r. ⌜ Puts (headerBytes (now (text .entry)) (now (ids .entry)) (now (promoted .entry)) x) (now (out .entry)) 0 (now (out .exit)) r ⌝ }
+{
+    let p = x.publisher;
+    let c = x.class_id;
+    let g = x.group;
+    let after_flags = put_flags(out, 0, x);
+    let after_publisher = put_publisher(out, after_flags, p, text);
+    let after_class = put_class(out, after_publisher, c);
+    let after_group = put_group(out, after_class, g);
+    put_tail(out, after_group, x, ids, promoted)
+}
+
+// The refusals of the header's parts in reading order, and then that of the payload.
+fn header_refusal(x: Envelope, configured: usize, payload: u8) -> u8
+    ensures { λ r. ⌜ r ≡ headerRefusal x configured payload ⌝ }
+{
+    let p = x.publisher;
+    let g = x.group;
+    let h = x.payload_header;
+    let t = x.timestamp;
+    let o = x.picoseconds;
+    let m = x.promoted;
+    let messages = messages_of(x.chunk, h, configured);
+    let last = or_else(promoted_refusal(m, messages), payload);
+    let tail = or_else(count_refusal(h), or_else(picoseconds_refusal(o), last));
+    let head = or_else(publisher_refusal(p), or_else(group_refusal(g), tail));
+    or_else(times_refusal(is_on16(o), is_on_i64(t)), head)
+}
+
+fn reading_refusal(x: Envelope, lengths: &[u8], messages: &[u8], sizes: &[u16]) -> u8
+    ensures { λ r. ⌜ r ≡ headerRefusal x (length (configuredSizes (now (sizes .entry)))) (payloadRefusal (x .chunk) (x .«payload_header») (now (sizes .entry)) (now (lengths .entry)) (now (messages .entry))) ⌝ }
+{
+    let h = x.payload_header;
+    let payload = payload_refusal(x.chunk, h, sizes, lengths, messages);
+    header_refusal(x, writers(sizes), payload)
+}
+
+// What would read back otherwise.
+fn shape_refusal(
+    x: Envelope,
+    text: &[u8],
+    ids: &[u8],
+    promoted: &[u8],
+    lengths: &[u8],
+    sizes: &[u16],
+    configured: &[u16],
+) -> u8
+    ensures { λ r. ⌜ r ≡ shapeRefusal (given (now (text .entry)) (now (ids .entry)) (now (promoted .entry)) (now (lengths .entry)) []) x (now (sizes .entry)) (now (configured .entry)) ⌝ }
+{
+    let p = x.publisher;
+    let h = x.payload_header;
+    let m = x.promoted;
+    let last = or_else(
+        promoted_shape(m, promoted.len()),
+        lengths_shape(h, lengths, sizes),
+    );
+    or_else(
+        publisher_shape(p, text.len()),
+        or_else(ids_shape(x.chunk, h, ids, configured), last),
+    )
+}
+
+fn put_datagram(
+    out: &mut [u8],
+    x: Envelope,
+    text: &[u8],
+    ids: &[u8],
+    promoted: &[u8],
+    lengths: &[u8],
+    messages: &[u8],
+) -> usize
+    ensures { λ r. ⌜ Puts (datagramOf (given (now (text .entry)) (now (ids .entry)) (now (promoted .entry)) (now (lengths .entry)) (now (messages .entry))) x) (now (out .entry)) 0 (now (out .exit)) r ⌝ }
+{
+    let h = x.payload_header;
+    let at = put_header(out, x, text, ids, promoted);
+    put_payload(out, at, h, lengths, messages)
+}
+
+fn datagram_size(
+    x: Envelope,
+    text: &[u8],
+    ids: &[u8],
+    promoted: &[u8],
+    lengths: &[u8],
+    messages: &[u8],
+) -> usize
+    requires { ⌜ (length (now text) ≤ 65535) × (length (now ids) ≤ 65535) × (length (now promoted) ≤ 65535) × (length (now lengths) ≤ 65535) ⌝ }
+    ensures { λ r. ⌜ r ≡ length (datagramOf (given (now (text .entry)) (now (ids .entry)) (now (promoted .entry)) (now (lengths .entry)) (now (messages .entry))) x) ⌝ }
+{
+    let h = x.payload_header;
+    header_size(x, text, ids, promoted) + (list_size(h, lengths) + messages.len())
+}
+
+// Writes a NetworkMessage from the start of a buffer. `text` has the bytes of a string PublisherId, `ids` the
+// DataSetWriterIds and `lengths` the lengths of several messages, each as 2 bytes, lowest first; for one message and for a
+// chunk `lengths` is empty. `messages` has the messages one after the other, or a chunk's payload. `sizes` and `configured`
+// are the sizes and ids of the configured writers.
+pub fn write(
+    out: &mut [u8],
+    x: Envelope,
+    text: &[u8],
+    ids: &[u8],
+    promoted: &[u8],
+    lengths: &[u8],
+    messages: &[u8],
+    sizes: &[u16],
+    configured: &[u16],
+) -> Written
+    ensures { λ r. ⌜ (r ≡ writtenOf (given (now (text .entry)) (now (ids .entry)) (now (promoted .entry)) (now (lengths .entry)) (now (messages .entry))) x (now (sizes .entry)) (now (configured .entry)) (length (now (out .entry)))) × (now (out .exit) ≡ bufferAfter (given (now (text .entry)) (now (ids .entry)) (now (promoted .entry)) (now (lengths .entry)) (now (messages .entry))) x (now (sizes .entry)) (now (configured .entry)) (now (out .entry))) ⌝ }
+{
+    let n = or_else(
+        reading_refusal(x, lengths, messages, sizes),
+        shape_refusal(x, text, ids, promoted, lengths, sizes, configured),
+    );
+    if n != 0 {
+        return Written::Refused(n);
+    }
+    let size = datagram_size(x, text, ids, promoted, lengths, messages);
+    if 65535 < size {
+        return Written::Refused(10);
+    }
+    if out.len() < size {
+        return Written::Refused(11);
+    }
+    put_datagram(out, x, text, ids, promoted, lengths, messages);
+    Written::Is(size)
+}
+
+// The parts of a datagram as reading found them.
+fn text_of<'a>(s: &'a [u8], p: PublisherId, end: usize) -> &'a [u8]
+    ensures { λ r. ⌜ now r ≡ textOf (now (s .entry)) p end ⌝ }
+{
+    match p {
+        PublisherId::Absent => part(s, 0, 0),
+        PublisherId::Byte(_) => part(s, 0, 0),
+        PublisherId::UInt16(_) => part(s, 0, 0),
+        PublisherId::UInt32(_) => part(s, 0, 0),
+        PublisherId::UInt64(_) => part(s, 0, 0),
+        PublisherId::Text(n) => part(s, wire::left(end, n), n),
+    }
+}
+
+fn ids_of<'a>(s: &'a [u8], x: PayloadHeader, end: usize) -> &'a [u8]
+    ensures { λ r. ⌜ now r ≡ idsOf (now (s .entry)) x end ⌝ }
+{
+    match x {
+        PayloadHeader::Absent => part(s, 0, 0),
+        PayloadHeader::Ids(n) => part(s, wire::left(end, 2 * (n as usize)), 2 * (n as usize)),
+        PayloadHeader::Chunk(_) => part(s, 0, 0),
+    }
+}
+
+fn promoted_of<'a>(s: &'a [u8], x: Promoted, end: usize) -> &'a [u8]
+    ensures { λ r. ⌜ now r ≡ promotedOf (now (s .entry)) x end ⌝ }
+{
+    match x {
+        Promoted::Absent => part(s, 0, 0),
+        Promoted::Size(n) => part(s, wire::left(end, n), n),
+    }
+}
+
+// Writes header parts, and a payload as it stands.
+fn put_again(
+    out: &mut [u8],
+    x: Envelope,
+    text: &[u8],
+    ids: &[u8],
+    promoted: &[u8],
+    payload: &[u8],
+) -> Written
+    requires { ⌜ (length (now text) ≤ 65535) × (length (now ids) ≤ 65535) × (length (now promoted) ≤ 65535) × (length (now payload) ≤ 65535) ⌝ }
+    ensures { λ r. ⌜ (r ≡ writtenBy (numberFor 0 (length (headerBytes (now (text .entry)) (now (ids .entry)) (now (promoted .entry)) x ++ now (payload .entry))) (length (now (out .entry)))) (headerBytes (now (text .entry)) (now (ids .entry)) (now (promoted .entry)) x ++ now (payload .entry))) × (now (out .exit) ≡ bufferBy (numberFor 0 (length (headerBytes (now (text .entry)) (now (ids .entry)) (now (promoted .entry)) x ++ now (payload .entry))) (length (now (out .entry)))) (headerBytes (now (text .entry)) (now (ids .entry)) (now (promoted .entry)) x ++ now (payload .entry)) (now (out .entry))) ⌝ }
+{
+    let size = header_size(x, text, ids, promoted) + payload.len();
+    if 65535 < size {
+        return Written::Refused(10);
+    }
+    if out.len() < size {
+        return Written::Refused(11);
+    }
+    let at = put_header(out, x, text, ids, promoted);
+    put_run(out, at, payload);
+    Written::Is(size)
+}
+
+fn again(out: &mut [u8], s: &[u8], x: Envelope, places: Places) -> Written
+    requires { ⌜ length (now s) ≤ 65535 ⌝ }
+    ensures { λ r. ⌜ (r ≡ writtenBy (numberFor 0 (length (againOf (now (s .entry)) x places)) (length (now (out .entry)))) (againOf (now (s .entry)) x places)) × (now (out .exit) ≡ bufferBy (numberFor 0 (length (againOf (now (s .entry)) x places)) (length (now (out .entry)))) (againOf (now (s .entry)) x places) (now (out .entry))) ⌝ }
+{
+    let p = x.publisher;
+    let h = x.payload_header;
+    let m = x.promoted;
+    put_again(
+        out,
+        x,
+        text_of(s, p, places.publisher_end),
+        ids_of(s, h, places.payload_header_end),
+        promoted_of(s, m, places.payload),
+        tail(s, places.payload),
+    )
+}
+
+// Reads a datagram under the sizes of the configured writers and writes it again from the start of a buffer. Only where
+// PublisherId is off can the bytes differ: its type bits are then written as 0.
+pub fn rewrite(out: &mut [u8], s: &[u8], sizes: &[u16]) -> Written
+    ensures { λ r. ⌜ (r ≡ rewriteAnswer (now (s .entry)) (networkMessageAt (now (sizes .entry)) (now (s .entry))) (length (now (out .entry)))) × (now (out .exit) ≡ rewriteBuffer (now (s .entry)) (networkMessageAt (now (sizes .entry)) (now (s .entry))) (now (out .entry))) ⌝ }
+{
+    match read(s, sizes) {
+        NetworkMessageRead::Refused(n, _) => Written::Refused(n),
+        NetworkMessageRead::Is(x, places, _) => again(out, s, x, places),
+    }
+}

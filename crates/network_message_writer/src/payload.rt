@@ -1,0 +1,111 @@
+// The payload: the list of sizes, and the messages.
+use crate::header::must_hold;
+use crate::numbers::listed_refusal;
+use crate::numbers::same_numbers;
+use crate::publisher::not_used;
+use network_message::header::PayloadHeader;
+use network_message::payload::PayloadRead;
+use network_message::payload::read_payload;
+use network_message::payload::writers;
+use writing::put_run;
+ghost use mathlib.Core.Path.{_≡_};
+ghost use mathlib.Core.List.{_++_};
+ghost use Prim.Native.Nat.{_≤_};
+ghost use lib.ListN.{length};
+ghost use Rattle.network_message.specs.Payload.{payloadAt};
+ghost use Rattle.writing.specs.Writing.{Puts};
+ghost use Rattle.network_message_writer.specs.Payload.{listBytes, numberIn, payloadRefusal, lengthsShape};
+
+// The number of reading these bytes as a payload.
+fn payload_number(messages: &[u8], chunk: bool, x: PayloadHeader, sizes: &[u16]) -> u8
+    ensures { λ r. ⌜ r ≡ numberIn (payloadAt chunk x (now (sizes .entry)) (now (messages .entry)) 0) ⌝ }
+{
+    match read_payload(messages, chunk, x, sizes, 0) {
+        PayloadRead::Is(_) => 0,
+        PayloadRead::Refused(n, _) => n,
+    }
+}
+
+pub(crate) fn payload_refusal(
+    chunk: bool,
+    x: PayloadHeader,
+    sizes: &[u16],
+    lengths: &[u8],
+    messages: &[u8],
+) -> u8
+    ensures { λ r. ⌜ r ≡ payloadRefusal chunk x (now (sizes .entry)) (now (lengths .entry)) (now (messages .entry)) ⌝ }
+{
+    match x {
+        PayloadHeader::Absent => payload_number(messages, chunk, x, sizes),
+        PayloadHeader::Ids(n) => {
+            if n <= 1 {
+                return payload_number(messages, chunk, x, sizes);
+            }
+            listed_refusal(n, lengths, messages.len())
+        }
+        PayloadHeader::Chunk(_) => 0,
+    }
+}
+
+pub(crate) fn lengths_shape(x: PayloadHeader, lengths: &[u8], sizes: &[u16]) -> u8
+    ensures { λ r. ⌜ r ≡ lengthsShape x (now (lengths .entry)) (now (sizes .entry)) ⌝ }
+{
+    match x {
+        PayloadHeader::Absent => {
+            if writers(sizes) <= 1 {
+                return not_used(lengths.len());
+            }
+            must_hold(same_numbers(lengths, sizes))
+        }
+        PayloadHeader::Ids(n) => {
+            if n <= 1 {
+                return not_used(lengths.len());
+            }
+            0
+        }
+        PayloadHeader::Chunk(_) => not_used(lengths.len()),
+    }
+}
+
+pub(crate) fn list_size(x: PayloadHeader, lengths: &[u8]) -> usize
+    ensures { λ r. ⌜ (r ≡ length (listBytes x (now (lengths .entry)))) × (r ≤ length (now (lengths .entry))) ⌝ }
+{
+    match x {
+        PayloadHeader::Absent => 0,
+        PayloadHeader::Ids(n) => {
+            if n <= 1 {
+                return 0;
+            }
+            lengths.len()
+        }
+        PayloadHeader::Chunk(_) => 0,
+    }
+}
+
+fn put_list(out: &mut [u8], at: usize, x: PayloadHeader, lengths: &[u8]) -> usize
+    ensures { λ r. ⌜ Puts (listBytes x (now (lengths .entry))) (now (out .entry)) at (now (out .exit)) r ⌝ }
+{
+    match x {
+        PayloadHeader::Absent => at,
+        PayloadHeader::Ids(n) => {
+            if n <= 1 {
+                return at;
+            }
+            put_run(out, at, lengths)
+        }
+        PayloadHeader::Chunk(_) => at,
+    }
+}
+
+pub(crate) fn put_payload(
+    out: &mut [u8],
+    at: usize,
+    x: PayloadHeader,
+    lengths: &[u8],
+    messages: &[u8],
+) -> usize
+    ensures { λ r. ⌜ Puts (listBytes x (now (lengths .entry)) ++ now (messages .entry)) (now (out .entry)) at (now (out .exit)) r ⌝ }
+{
+    let first = put_list(out, at, x, lengths);
+    put_run(out, first, messages)
+}

@@ -1,0 +1,140 @@
+-- The payload, read as it was written, and its messages.
+-- Assumes nothing.
+use mathlib.Core.Path.{_≡_, refl, _∙_}
+use mathlib.Core.List.{List, [], _++_}
+use mathlib.Core.Bool.{Bool, true, false, cond}
+use Prim.Native.Nat.{ℕ, zero, suc, _+_, _*_, _≤_, _<_}
+use native.Mathlib.Omega.{arith}
+use lib.ListN.{length, getD, length-append, List·getD-append}
+use lib.Seq.{getD-append-add}
+use lib.Dec.{eqb, leb, ltb}
+use borrow.Author.Tests.{le-leb, eq-eqb, eqb-true, eqb-false, ne-eqb, lt-ltb, ltb-true}
+use Rattle.wire.specs.Number.{le}
+use Rattle.wire.specs.Answer.{got, refused}
+use Rattle.network_message.specs.declared.header.PayloadHeader.{PayloadHeader}
+use Rattle.network_message.specs.declared.payload.Sizes.{Sizes}
+use Rattle.network_message.specs.Payload.{total, positive, listed, configuredSizes, payloadOf, restAt, listedAt, configuredAt, payloadAt}
+use Rattle.network_message_writer.specs.Payload.{listBytes, numberIn, listedRefusal, payloadRefusal}
+use Rattle.round_trip.specs.NetworkMessage.{payloadFor}
+
+-- numbers that stand in the middle of a slice
+
+pub le-moved : (w : ℕ) (pre b rest : List ℕ) (at : ℕ) → at + w ≤ length b → le w (pre ++ (b ++ rest)) (length pre + at) ≡ le w b at
+le-moved zero pre b rest at h = refl
+le-moved (suc w) pre b rest at h =
+    let i : at < length b = omega arith in
+    let e : getD (pre ++ (b ++ rest)) (length pre + at) 0 ≡ getD b at 0 = getD-append-add pre (b ++ rest) at 0 ∙ List·getD-append b rest 0 at i in
+    let p : length pre + at + 1 ≡ length pre + (at + 1) = omega arith in
+    rw (e, p, le-moved w pre b rest (at + 1) (omega arith))
+
+listed-moved : (n : ℕ) (pre b rest : List ℕ) (at : ℕ) → at + 2 * n ≤ length b → listed n (pre ++ (b ++ rest)) (length pre + at) ≡ listed n b at
+listed-moved zero pre b rest at h = refl
+listed-moved (suc n) pre b rest at h =
+    let p : length pre + at + 2 ≡ length pre + (at + 2) = omega arith in
+    let i : at + 2 ≤ length b = omega arith in
+    let j : at + 2 + 2 * n ≤ length b = omega arith in
+    rw (le-moved 2 pre b rest at i, p, listed-moved n pre b rest (at + 2) j)
+
+pub listed-at-start : (n : ℕ) (pre b rest : List ℕ) (m : ℕ) → length pre ≡ m → 2 * n ≤ length b → listed n (pre ++ (b ++ rest)) m ≡ listed n b 0
+listed-at-start n pre b rest m e h =
+    let z : m ≡ length pre + 0 = omega arith in
+    let k : 0 + 2 * n ≤ length b = omega arith in
+    rw z (listed-moved n pre b rest 0 k)
+
+-- what a list of sizes that is not refused says
+pub record Listed (n : ℕ) (lengths : List ℕ) (rest : ℕ) : Type 0 where
+  pub long : length lengths ≡ 2 * n
+  pub each : positive (listed n lengths 0) ≡ true
+  pub sum : total (listed n lengths 0) ≡ rest
+
+cond-held : (b : Bool) (k j : ℕ) → cond b k (suc j) ≡ 0 → (b ≡ true) × (k ≡ 0)
+cond-held true k j h = (refl, h)
+cond-held false k j h = absurd (omega arith)
+
+pub listed-facts : (n : ℕ) (lengths : List ℕ) (rest : ℕ) → listedRefusal n lengths rest ≡ 0 → Listed n lengths rest
+listed-facts n lengths rest h =
+    let a = cond-held (eqb (length lengths) (2 * n)) (cond (positive (listed n lengths 0)) (cond (eqb (total (listed n lengths 0)) rest) 0 6) 6) 5 h in
+    let b = cond-held (positive (listed n lengths 0)) (cond (eqb (total (listed n lengths 0)) rest) 0 6) 5 (a .1) in
+    let c = cond-held (eqb (total (listed n lengths 0)) rest) 0 5 (b .1) in
+    record { long = eqb-true (length lengths) (2 * n) (a .0); each = b .0; sum = eqb-true (total (listed n lengths 0)) rest (c .0) }
+
+-- the messages stand at the end of the datagram, from position m on, after the list of sizes where there is one
+
+rest-is : (messages s : List ℕ) (m : ℕ) → m + length messages ≡ length s → numberIn (restAt messages 0) ≡ 0 → restAt s m ≡ got (payloadOf 1 Sizes.Rest m) m
+rest-is messages s m e h = go (ltb 0 (length messages)) refl h
+  where
+    go : (b : Bool) → ltb 0 (length messages) ≡ b → numberIn (cond b (got (payloadOf 1 Sizes.Rest 0) 0) (refused 1 0)) ≡ 0 → restAt s m ≡ got (payloadOf 1 Sizes.Rest m) m
+    go true t q =
+        let l : 0 < length messages = ltb-true 0 (length messages) t in
+        let k : m < length s = omega arith in
+        rw (lt-ltb m (length s) k)
+    go false t q = absurd (omega arith)
+
+pub some-message : (messages : List ℕ) → numberIn (restAt messages 0) ≡ 0 → 0 < length messages
+some-message messages h = go (ltb 0 (length messages)) refl h
+  where
+    go : (b : Bool) → ltb 0 (length messages) ≡ b → numberIn (cond b (got (payloadOf 1 Sizes.Rest 0) 0) (refused 1 0)) ≡ 0 → 0 < length messages
+    go true t q = ltb-true 0 (length messages) t
+    go false t q = absurd (omega arith)
+
+listed-is : (n : ℕ) (pre lengths messages : List ℕ) (m : ℕ) → length pre ≡ m → listedRefusal n lengths (length messages) ≡ 0
+    → listedAt n (pre ++ (lengths ++ messages)) m ≡ got (payloadOf n (Sizes.Listed m) (m + 2 * n)) (m + 2 * n)
+listed-is n pre lengths messages m e h =
+    let s = pre ++ (lengths ++ messages) in
+    let f = listed-facts n lengths (length messages) h in
+    let l : length s ≡ m + (2 * n + length messages) = omega (arith, length-append pre (lengths ++ messages), length-append lengths messages, f .long) in
+    let z : listed n s m ≡ listed n lengths 0 = listed-at-start n pre lengths messages m e (omega (arith, f .long)) in
+    let k : m + 2 * n ≤ length s = omega arith in
+    let t : m + 2 * n + total (listed n lengths 0) ≡ length s = omega (arith, f .sum) in
+    rw (le-leb (m + 2 * n) (length s) k, z, f .each, eq-eqb (m + 2 * n + total (listed n lengths 0)) (length s) t)
+
+-- what configured sizes that are not refused say: all are given and their sum is the messages', or one is not given
+pub data Configured (zs : List ℕ) (messages : List ℕ) : Type 0 where
+  all : positive zs ≡ true → (length zs ≡ 0 → ⊥) → total zs ≡ length messages → Configured zs messages
+  one : positive zs ≡ false → length zs ≡ 1 → numberIn (restAt messages 0) ≡ 0 → Configured zs messages
+
+configured-facts : (zs messages : List ℕ) → numberIn (configuredAt zs messages 0) ≡ 0 → Configured zs messages
+configured-facts zs messages h = go (eqb (length zs) 0) (positive zs) (eqb (0 + total zs) (length messages)) (eqb (length zs) 1) refl refl refl refl h
+  where
+    go : (a b c d : Bool) → eqb (length zs) 0 ≡ a → positive zs ≡ b → eqb (0 + total zs) (length messages) ≡ c → eqb (length zs) 1 ≡ d
+        → numberIn (cond a (refused 8 0) (cond b (cond c (got (payloadOf (length zs) Sizes.Configured 0) 0) (refused 6 0)) (cond d (restAt messages 0) (refused 8 0)))) ≡ 0
+        → Configured zs messages
+    go true b c d e f p r q = absurd (omega arith)
+    go false true true d e f p r q =
+        let t = eqb-true (0 + total zs) (length messages) p in
+        Configured.all f (eqb-false (length zs) 0 e) (omega (arith, t))
+    go false true false d e f p r q = absurd (omega arith)
+    go false false c true e f p r q = Configured.one f (eqb-true (length zs) 1 r) q
+    go false false c false e f p r q = absurd (omega arith)
+
+configured-is : (zs messages s : List ℕ) (m : ℕ) → m + length messages ≡ length s → Configured zs messages
+    → configuredAt zs s m ≡ got (cond (positive zs) (payloadOf (length zs) Sizes.Configured m) (payloadOf 1 Sizes.Rest m)) m
+configured-is zs messages s m e (Configured.all p n t) =
+    let k : m + total zs ≡ length s = omega arith in
+    rw (ne-eqb (length zs) 0 n, p, eq-eqb (m + total zs) (length s) k)
+configured-is zs messages s m e (Configured.one p n q) = rw (n, p, rest-is messages s m e q)
+
+-- without a PayloadHeader it is no chunk
+pub absent-facts : (chunk : Bool) (sizes messages : List ℕ) → numberIn (payloadAt chunk PayloadHeader.Absent sizes messages 0) ≡ 0 → (chunk ≡ false) × Configured (configuredSizes sizes) messages
+absent-facts true sizes messages h = absurd (omega arith)
+absent-facts false sizes messages h = (refl, configured-facts (configuredSizes sizes) messages h)
+
+pub payload-is : (x : PayloadHeader) (chunk : Bool) (sizes pre lengths messages : List ℕ) (m : ℕ) → length pre ≡ m → payloadRefusal chunk x sizes lengths messages ≡ 0
+    → payloadAt chunk x sizes (pre ++ (listBytes x lengths ++ messages)) m ≡ got (payloadFor x sizes m) (payloadFor x sizes m .first)
+payload-is PayloadHeader.Absent chunk sizes pre lengths messages m e h =
+    let f = absent-facts chunk sizes messages h in
+    let l : m + length messages ≡ length (pre ++ messages) = omega (arith, length-append pre messages) in
+    rw (f .0, configured-is (configuredSizes sizes) messages (pre ++ messages) m l (f .1)) (go (positive (configuredSizes sizes)))
+  where
+    go : (b : Bool) → got (cond b (payloadOf (length (configuredSizes sizes)) Sizes.Configured m) (payloadOf 1 Sizes.Rest m)) m
+        ≡ got (cond b (payloadOf (length (configuredSizes sizes)) Sizes.Configured m) (payloadOf 1 Sizes.Rest m)) (cond b (payloadOf (length (configuredSizes sizes)) Sizes.Configured m) (payloadOf 1 Sizes.Rest m) .first)
+    go true = refl
+    go false = refl
+payload-is (PayloadHeader.Ids n) chunk sizes pre lengths messages m e h = go (leb n 1) h
+  where
+    go : (b : Bool) → cond b (numberIn (restAt messages 0)) (listedRefusal n lengths (length messages)) ≡ 0
+        → cond b (restAt (pre ++ (cond b [] lengths ++ messages)) m) (listedAt n (pre ++ (cond b [] lengths ++ messages)) m)
+        ≡ got (cond b (payloadOf 1 Sizes.Rest m) (payloadOf n (Sizes.Listed m) (m + 2 * n))) (cond b (payloadOf 1 Sizes.Rest m) (payloadOf n (Sizes.Listed m) (m + 2 * n)) .first)
+    go true q = rest-is messages (pre ++ messages) m (omega (arith, length-append pre messages)) q
+    go false q = listed-is n pre lengths messages m e q
+payload-is (PayloadHeader.Chunk w) chunk sizes pre lengths messages m e h = refl

@@ -1,0 +1,323 @@
+-- A writer refuses what reading would refuse, by the same number in reading order.
+-- Assumes nothing.
+use mathlib.Core.Path.{_≡_, refl, ap, sym, subst, _∙_}
+use mathlib.Core.List.{List, [], _++_}
+use mathlib.Core.Bool.{Bool, true, false, cond, _&&_}
+use Prim.Native.Nat.{ℕ, suc, _+_, _*_, _/_, _%_, _^_, _≤_, _<_}
+use native.Mathlib.Omega.{arith}
+use lib.ListN.{length, length-append}
+use lib.Dec.{eqb, leb, ltb}
+use borrow.Author.Tests.{le-ltb, le-leb, lt-leb, lt-ltb, leb-false, eqb-true, eqb-false, eq-eqb, ne-eqb}
+use Rattle.wire.specs.Number.{le, leBytes}
+use Rattle.wire.specs.Answer.{Answer, got, refused, ruled, bit}
+use Rattle.wire.specs.declared.optional.Optional16.{Optional16}
+use Rattle.wire.proofs.Reading.{leb-same}
+use Rattle.network_message.specs.declared.flags.Flags.{Flags}
+use Rattle.network_message.specs.declared.publisher.PublisherId.{PublisherId}
+use Rattle.network_message.specs.declared.group.GroupHeader.{GroupHeader}
+use Rattle.network_message.specs.declared.header.PayloadHeader.{PayloadHeader}
+use Rattle.network_message.specs.declared.header.Promoted.{Promoted}
+use Rattle.network_message.specs.declared.payload.Sizes.{Sizes}
+use Rattle.network_message.specs.declared.envelope.Envelope.{Envelope}
+use Rattle.network_message.specs.Flags.{byte0Rule, extended1Rule, flagsAt}
+use Rattle.network_message.specs.Publisher.{publisherAt}
+use Rattle.network_message.specs.Group.{numberRule, numberAt, groupFlagsRule, groupAt}
+use Rattle.network_message.specs.Header.{countRule, payloadHeaderAt, sizeRule, promotedAt}
+use Rattle.network_message.specs.Payload.{total, positive, listed, configuredSizes, payloadOf, restAt, listedAt, sizedAt, configuredAt, payloadAt}
+use Rattle.network_message.specs.Envelope.{messagesOf, networkMessageAt}
+use Rattle.writing.specs.Writing.{orElse, num, needed, byteBytes, on16, on32, onI64, optional16Bytes, optional32Bytes, optionalI64Bytes, picosecondsRefusal}
+use Rattle.writing.proofs.Trip.{At, first, second, fits-at, le-at, item-is, rule-kept, Fits16, optional16-is, optional32-is, optionalI64-is, picoseconds-is}
+use Rattle.writing.proofs.Refusals.{passed, held, or-case, no, Refuses, broken, number-broken, picoseconds-refuses}
+use Rattle.writing.proofs.Bits.{num-bound, needed-bound, flag-is}
+use Rattle.network_message_writer.specs.Flags.{extended2Of, extended1Of, byte0Of, flagBytes, flagsFor, timesRefusal}
+use Rattle.network_message_writer.specs.Publisher.{publisherOn, kindOf, publisherBytes, publisherRefusal, publisherShape}
+use Rattle.network_message_writer.specs.Group.{groupOn, groupFlagsOf, fieldsBytes, groupBytes, numberRefusal, groupRefusal}
+use Rattle.network_message_writer.specs.Header.{classBytes, payloadHeaderOn, payloadHeaderBytes, promotedOn, promotedBytes, countRefusal, promotedRefusal, idsShape, promotedShape}
+use Rattle.network_message_writer.specs.Payload.{listBytes, numberIn, listedRefusal, payloadRefusal}
+use Rattle.network_message_writer.specs.Envelope.{Given, headerBytes, datagramOf, readingRefusal}
+use Rattle.network_message_writer.proofs.Short.{ids-counted}
+use Rattle.round_trip.specs.NetworkMessage.{AsManyLengths}
+use Rattle.round_trip.proofs.NetworkMessageFlags.{byte-bits, extended-bits, flags-are}
+use Rattle.round_trip.proofs.NetworkMessageParts.{FitsGroup, bits, publisher-is, class-is, group-is, payload-header-is, promoted-is}
+use Rattle.round_trip.proofs.NetworkMessagePayload.{listed-at-start}
+use Rattle.round_trip.proofs.NetworkMessageWritten.{FitsEnvelope, kind-below}
+
+-- two tests are equal where each follows from the other
+eqb-same : (a b c d : ℕ) → (a ≡ b → c ≡ d) → (c ≡ d → a ≡ b) → eqb a b ≡ eqb c d
+eqb-same a b c d f g = go (eqb a b) refl
+  where
+    go : (t : Bool) → eqb a b ≡ t → eqb a b ≡ eqb c d
+    go true e = e ∙ sym (eq-eqb c d (f (eqb-true a b e)))
+    go false e = e ∙ sym (ne-eqb c d (λ q. eqb-false a b e (g q)))
+
+-- an answer with a number is a refusal
+refused-by : {A : Type 0} (a : Answer A) → eqb (numberIn a) 0 ≡ false → (place : ℕ) × (a ≡ refused (numberIn a) place)
+refused-by (got v next) h = absurd (no h)
+refused-by (refused n place) h = (place, refl)
+
+-- each part
+
+number-refuses : (x : Optional16) (m : ℕ) → Fits16 x → eqb (numberRefusal x) 0 ≡ false → Refuses (numberAt (on16 x)) m (optional16Bytes x) (numberRefusal x)
+number-refuses Optional16.Absent m f h s at = absurd (no h)
+number-refuses (Optional16.Is v) m f h s at = rw (number-broken 2 numberRule v m f h s at)
+
+text-rule : (n : ℕ) → eqb (cond (leb 65 n) 10 0) 0 ≡ false → leb 65 n ≡ true
+text-rule n h = go (leb 65 n) h
+  where
+    go : (b : Bool) → eqb (cond b 10 0) 0 ≡ false → b ≡ true
+    go true q = refl
+    go false q = absurd (no q)
+
+publisher-refuses : (p : PublisherId) (text : List ℕ) (m : ℕ) → length text ≤ 65535 → publisherShape p (length text) ≡ 0 → eqb (publisherRefusal p) 0 ≡ false
+    → (s : List ℕ) → At s m (publisherBytes text p) → publisherAt (publisherOn p) (kindOf p) s m ≡ refused (publisherRefusal p) 0
+publisher-refuses PublisherId.Absent text m l b h s at = absurd (no h)
+publisher-refuses (PublisherId.Byte v) text m l b h s at = absurd (no h)
+publisher-refuses (PublisherId.UInt16 v) text m l b h s at = absurd (no h)
+publisher-refuses (PublisherId.UInt32 v) text m l b h s at = absurd (no h)
+publisher-refuses (PublisherId.UInt64 v) text m l b h s at = absurd (no h)
+publisher-refuses (PublisherId.Text n) text m l b h s at =
+    let c = leBytes 4 (length text) in
+    let e : n ≡ length text = eqb-true n (length text) (held (eqb n (length text)) 5 b) in
+    let k : length text < 256 ^ 4 = omega arith in
+    let u : length text < 2147483648 = omega arith in
+    let j : m + 4 ≤ length s = omega (arith, fits-at s m (c ++ text) at, length-append c text) in
+    let p : le 4 s m ≡ length text = le-at 4 (length text) m k s (first s m c text at) in
+    let q : leb 65 n ≡ true = text-rule n h in
+    let t : leb 65 (length text) ≡ true = ap (leb 65) (sym e) ∙ q in
+    rw (le-leb (m + 4) (length s) j, p, lt-ltb (length text) 2147483648 u, t, q)
+
+payload-header-refuses : (x : PayloadHeader) (chunk : Bool) (ids configured : List ℕ) (m : ℕ) → idsShape chunk x ids configured ≡ 0 → eqb (countRefusal x) 0 ≡ false
+    → Refuses (payloadHeaderAt (payloadHeaderOn x) chunk) m (payloadHeaderBytes ids x) (countRefusal x)
+payload-header-refuses PayloadHeader.Absent chunk ids configured m b h s at = absurd (no h)
+payload-header-refuses (PayloadHeader.Ids n) chunk ids configured m b h s at =
+    let q = ids-counted chunk n ids configured b in
+    rw (q .0, number-broken 1 countRule n m (q .1) h s (first s m (leBytes 1 n) ids at))
+payload-header-refuses (PayloadHeader.Chunk w) chunk ids configured m b h s at = absurd (no h)
+
+promoted-refuses : (x : Promoted) (messages : ℕ) (bytes : List ℕ) (m : ℕ) → promotedShape x (length bytes) ≡ 0 → eqb (promotedRefusal x messages) 0 ≡ false
+    → Refuses (promotedAt (promotedOn x) messages) m (promotedBytes bytes x) (promotedRefusal x messages)
+promoted-refuses Promoted.Absent messages bytes m b h s at = absurd (no h)
+promoted-refuses (Promoted.Size i) messages bytes m b h s at =
+    let w = passed (leb 65536 i) 5 (cond (eqb i (length bytes)) 0 6) b in
+    let k : i < 65536 = leb-false 65536 i (w .0) in
+    let e : i ≡ length bytes = eqb-true i (length bytes) (held (eqb i (length bytes)) 5 (w .1)) in
+    let j : length bytes < 256 ^ 2 = omega arith in
+    rw (number-broken 2 (sizeRule messages) (length bytes) m j h s (first s m (leBytes 2 (length bytes)) bytes at))
+
+-- the group header: NetworkMessageNumber 0 is 3
+group-refuses : (x : GroupHeader) (m : ℕ) → FitsGroup x → eqb (groupRefusal x) 0 ≡ false → (s : List ℕ) → At s m (groupBytes x) → (place : ℕ) × (groupAt (groupOn x) s m ≡ refused (groupRefusal x) place)
+group-refuses GroupHeader.Absent m f h s at = absurd (no h)
+group-refuses (GroupHeader.Is g) m f h s at =
+    let c = leBytes 1 (groupFlagsOf g) in
+    let b1 = optional16Bytes (g .«writer_group») in
+    let b2 = optional32Bytes (g .version) in
+    let b3 = optional16Bytes (g .number) in
+    let b4 = optional16Bytes (g .sequence) in
+    let b = bits g in
+    let k : groupFlagsOf g < 256 ^ 1 = omega (arith, b .4) in
+    let r : groupFlagsRule (groupFlagsOf g) ≡ 0 = rw (lt-leb 16 (groupFlagsOf g) (b .4)) in
+    let at1 = second s m c (fieldsBytes g) at in
+    let m1 = m + length c in
+    let at2 = second s m1 b1 (b2 ++ (b3 ++ b4)) at1 in
+    let at3 = second s (m1 + length b1) b2 (b3 ++ b4) at2 in
+    let p0 = rule-kept 1 groupFlagsRule m c (groupFlagsOf g) r (item-is 1 (groupFlagsOf g) m k) s (first s m c (fieldsBytes g) at) in
+    let p1 = optional16-is (g .«writer_group») m1 (f .0) s (first s m1 b1 (b2 ++ (b3 ++ b4)) at1) in
+    let p2 = optional32-is (g .version) (m1 + length b1) (f .1) s (first s (m1 + length b1) b2 (b3 ++ b4) at2) in
+    let p3 = number-refuses (g .number) (m1 + length b1 + length b2) (f .2) h s (first s (m1 + length b1 + length b2) b3 b4 at3) in (
+      m1 + length b1 + length b2,
+      rw (
+        p0,
+        flag-is (on16 (g .«writer_group»)) (groupFlagsOf g % 2) (b .0),
+        p1,
+        flag-is (on32 (g .version)) (groupFlagsOf g / 2 % 2) (b .1),
+        p2,
+        flag-is (on16 (g .number)) (groupFlagsOf g / 4 % 2) (b .2),
+        p3,
+      ),
+    )
+
+-- the flag bytes: PicoSeconds without Timestamp is 3 at ExtendedFlags1
+
+both-no : (p : Bool) → (p && false) ≡ false
+both-no true = refl
+both-no false = refl
+
+three : (p : Bool) (e k : ℕ) → eqb e 0 ≡ false → e % 8 ≡ k → k < 5 → e / 16 % 2 ≡ 0 → e / 64 % 2 ≡ 1 → e / 32 % 2 ≡ 0 → extended1Rule p e ≡ 3
+three p e k nz ke hk se pe te = rw (nz, ke, lt-leb 5 k hk, both-no p, se, pe, te)
+
+flags-refuse : (f : Flags) → f .kind < 5 → f .picoseconds ≡ true → f .timestamp ≡ false → (m : ℕ) (s : List ℕ) → At s m (flagBytes f) → flagsAt s m ≡ refused 3 (m + 1)
+flags-refuse f hk hp ht m s at =
+    let b = leBytes 1 (byte0Of f) in
+    let e = extended1Of f in
+    let b0 = byte-bits _ _ _ _ (num-bound (f .publisher)) (num-bound (f .group)) (num-bound (f .«payload_header»)) (needed-bound e) in
+    let b1 =
+    extended-bits (f .kind) (num (f .«class_id»)) (num (f .timestamp)) (num (f .picoseconds)) (needed (extended2Of f)) (omega arith) (num-bound (f .«class_id»)) (num-bound (f .timestamp))
+    (num-bound (f .picoseconds)) (needed-bound (extended2Of f)) in
+    let pe : e / 64 % 2 ≡ 1 = b1 .4 ∙ ap num hp in
+    let te : e / 32 % 2 ≡ 0 = b1 .3 ∙ ap num ht in
+    let z : e ≡ 0 → ⊥ = λ q. omega arith in
+    let nz : eqb e 0 ≡ false = ne-eqb e 0 z in
+    let on : byte0Of f / 128 ≡ 1 = b0 .4 ∙ ap (λ (t : Bool). cond t 0 1) nz in
+    let k : byte0Of f < 256 ^ 1 = b0 .5 in
+    let r0 : byte0Rule (byte0Of f) ≡ 0 = rw (b0 .0) in
+    let p1 = rule-kept 1 byte0Rule m b (byte0Of f) r0 (item-is 1 (byte0Of f) m k) s (first s m b (byteBytes e ++ byteBytes (extended2Of f)) at) in
+    let r1 : extended1Rule (bit 16 (byte0Of f)) e ≡ 3 = three (bit 16 (byte0Of f)) e (f .kind) nz (b1 .0) hk (b1 .2) pe te in
+    let at2 = first s (m + 1) (byteBytes e) (byteBytes (extended2Of f)) (second s m b (byteBytes e ++ byteBytes (extended2Of f)) at) in
+    let at3 : At s (m + 1) (leBytes 1 e) = subst (λ (t : Bool). At s (m + 1) (cond t [] (leBytes 1 e))) nz at2 in
+    let nr : eqb (extended1Rule (bit 16 (byte0Of f)) e) 0 ≡ false = rw r1 in
+    let p2 = broken 1 (extended1Rule (bit 16 (byte0Of f))) (m + 1) (leBytes 1 e) e nr (item-is 1 e (m + 1) (b1 .6)) s at3 in
+    let p3 : ruled 1 (extended1Rule (bit 16 (byte0Of f))) s (m + 1) ≡ refused 3 (m + 1) = p2 ∙ ap (λ (n : ℕ). refused n (m + 1)) r1 in
+    rw (p1, on, p3)
+
+times-broken : (p t : Bool) → eqb (timesRefusal p t) 0 ≡ false → (p ≡ true) × (t ≡ false) × (3 ≡ timesRefusal p t)
+times-broken true true h = absurd (no h)
+times-broken true false h = (refl, refl, refl)
+times-broken false t h = absurd (no h)
+
+-- the payload: reading it where it stands has the number of reading the messages alone
+
+rest-number : (messages s : List ℕ) (m : ℕ) → m + length messages ≡ length s → numberIn (restAt s m) ≡ numberIn (restAt messages 0)
+rest-number messages s m e =
+    let q : ltb m (length s) ≡ ltb 0 (length messages) = leb-same (suc m) (length s) 1 (length messages) (λ h. omega arith) (λ h. omega arith) in
+    rw q (go (ltb 0 (length messages)))
+  where
+    go : (b : Bool) → numberIn (cond b (got (payloadOf 1 Sizes.Rest m) m) (refused 1 m)) ≡ numberIn (cond b (got (payloadOf 1 Sizes.Rest 0) 0) (refused 1 0))
+    go true = refl
+    go false = refl
+
+sized-number : (n sum : ℕ) (messages s : List ℕ) (m : ℕ) → m + length messages ≡ length s → numberIn (sizedAt n sum s m) ≡ numberIn (sizedAt n sum messages 0)
+sized-number n sum messages s m e =
+    let q : eqb (m + sum) (length s) ≡ eqb (0 + sum) (length messages) = eqb-same (m + sum) (length s) (0 + sum) (length messages) (λ h. omega arith) (λ h. omega arith) in
+    rw q (go (eqb (0 + sum) (length messages)))
+  where
+    go : (b : Bool) → numberIn (cond b (got (payloadOf n Sizes.Configured m) m) (refused 6 m)) ≡ numberIn (cond b (got (payloadOf n Sizes.Configured 0) 0) (refused 6 0))
+    go true = refl
+    go false = refl
+
+configured-number : (zs messages s : List ℕ) (m : ℕ) → m + length messages ≡ length s → numberIn (configuredAt zs s m) ≡ numberIn (configuredAt zs messages 0)
+configured-number zs messages s m e = go (eqb (length zs) 0) (positive zs) (eqb (length zs) 1)
+  where
+    go : (a b c : Bool)
+        → numberIn (cond a (refused 8 0) (cond b (sizedAt (length zs) (total zs) s m) (cond c (restAt s m) (refused 8 0))))
+        ≡ numberIn (cond a (refused 8 0) (cond b (sizedAt (length zs) (total zs) messages 0) (cond c (restAt messages 0) (refused 8 0))))
+    go true b c = refl
+    go false true c = sized-number (length zs) (total zs) messages s m e
+    go false false true = rest-number messages s m e
+    go false false false = refl
+
+listed-number : (n : ℕ) (pre lengths messages : List ℕ) (m : ℕ) → length pre ≡ m → length lengths ≡ 2 * n
+    → numberIn (listedAt n (pre ++ (lengths ++ messages)) m) ≡ listedRefusal n lengths (length messages)
+listed-number n pre lengths messages m e l =
+    let s = pre ++ (lengths ++ messages) in
+    let k : length s ≡ m + (2 * n + length messages) = omega (arith, length-append pre (lengths ++ messages), length-append lengths messages) in
+    let z : listed n s m ≡ listed n lengths 0 = listed-at-start n pre lengths messages m e (omega arith) in
+    let j : m + 2 * n ≤ length s = omega arith in
+    let q : eqb (m + 2 * n + total (listed n lengths 0)) (length s) ≡ eqb (total (listed n lengths 0)) (length messages) =
+    eqb-same (m + 2 * n + total (listed n lengths 0)) (length s) (total (listed n lengths 0)) (length messages) (λ h. omega arith) (λ h. omega arith) in
+    rw (le-leb (m + 2 * n) (length s) j, z, q, eq-eqb (length lengths) (2 * n) l)
+    (go (positive (listed n lengths 0)) (eqb (total (listed n lengths 0)) (length messages)))
+  where
+    go : (a b : Bool) → numberIn (cond (a && b) (got (payloadOf n (Sizes.Listed m) (m + 2 * n)) (m + 2 * n)) (refused 6 m)) ≡ cond a (cond b 0 6) 6
+    go true true = refl
+    go true false = refl
+    go false b = refl
+
+pub payload-number : (x : PayloadHeader) (chunk : Bool) (sizes pre lengths messages : List ℕ) (m : ℕ) → length pre ≡ m → AsManyLengths x lengths
+    → numberIn (payloadAt chunk x sizes (pre ++ (listBytes x lengths ++ messages)) m) ≡ payloadRefusal chunk x sizes lengths messages
+payload-number PayloadHeader.Absent true sizes pre lengths messages m e a = refl
+payload-number PayloadHeader.Absent false sizes pre lengths messages m e a = configured-number (configuredSizes sizes) messages (pre ++ messages) m (omega (arith, length-append pre messages))
+payload-number (PayloadHeader.Ids n) chunk sizes pre lengths messages m e a = go (leb n 1) refl
+  where
+    go : (b : Bool) → leb n 1 ≡ b
+        → numberIn (cond b (restAt (pre ++ (cond b [] lengths ++ messages)) m) (listedAt n (pre ++ (cond b [] lengths ++ messages)) m))
+        ≡ cond b (numberIn (restAt messages 0)) (listedRefusal n lengths (length messages))
+    go true t = rest-number messages (pre ++ messages) m (omega (arith, length-append pre messages))
+    go false t = listed-number n pre lengths messages m e (a t)
+payload-number (PayloadHeader.Chunk w) chunk sizes pre lengths messages m e a = refl
+
+module _ (g : Given) (x : Envelope) (sizes configured : List ℕ) (f : FitsEnvelope x) (a : AsManyLengths (x .«payload_header») (g .lengths))
+    (st : publisherShape (x .publisher) (length (g .text)) ≡ 0) (si : idsShape (x .chunk) (x .«payload_header») (g .ids) configured ≡ 0)
+    (sp : promotedShape (x .promoted) (length (g .promoted)) ≡ 0) (ls : length (g .text) ≤ 65535) (long : length (datagramOf g x) ≤ 65535) where
+  -- Where the parts are as long as the envelope says and the writer refuses by a reading number, reading what would have been
+  -- written refuses by that number.
+  pub refuse-written : eqb (readingRefusal g x sizes) 0 ≡ false → (place : ℕ) × (networkMessageAt sizes (datagramOf g x) ≡ refused (readingRefusal g x sizes) place)
+  refuse-written h =
+      let s = datagramOf g x in
+      let P : ℕ → Type 0 = λ k. (place : ℕ) × (networkMessageAt sizes (datagramOf g x) ≡ refused k place) in
+      let b1 = flagBytes (flagsFor x) in
+      let b2 = publisherBytes (g .text) (x .publisher) in
+      let b3 = classBytes (x .«class_id») in
+      let b4 = groupBytes (x .group) in
+      let b5 = payloadHeaderBytes (g .ids) (x .«payload_header») in
+      let b6 = optionalI64Bytes (x .timestamp) in
+      let b7 = optional16Bytes (x .picoseconds) in
+      let b8 = promotedBytes (g .promoted) (x .promoted) in
+      let pre = headerBytes (g .text) (g .ids) (g .promoted) x in
+      let m1 = 0 + length b1 in
+      let m2 = m1 + length b2 in
+      let m3 = m2 + length b3 in
+      let m4 = m3 + length b4 in
+      let m5 = m4 + length b5 in
+      let m6 = m5 + length b6 in
+      let m7 = m6 + length b7 in
+      let at1 : At s 0 pre = ([], listBytes (x .«payload_header») (g .lengths) ++ g .messages, refl, refl) in
+      let at2 = second s 0 b1 (b2 ++ (b3 ++ (b4 ++ (b5 ++ (b6 ++ (b7 ++ b8)))))) at1 in
+      let at3 = second s m1 b2 (b3 ++ (b4 ++ (b5 ++ (b6 ++ (b7 ++ b8))))) at2 in
+      let at4 = second s m2 b3 (b4 ++ (b5 ++ (b6 ++ (b7 ++ b8)))) at3 in
+      let at5 = second s m3 b4 (b5 ++ (b6 ++ (b7 ++ b8))) at4 in
+      let at6 = second s m4 b5 (b6 ++ (b7 ++ b8)) at5 in
+      let at7 = second s m5 b6 (b7 ++ b8) at6 in
+      let at8 = second s m6 b7 b8 at7 in
+      let a1 = first s 0 b1 (b2 ++ (b3 ++ (b4 ++ (b5 ++ (b6 ++ (b7 ++ b8)))))) at1 in
+      let a2 = first s m1 b2 (b3 ++ (b4 ++ (b5 ++ (b6 ++ (b7 ++ b8))))) at2 in
+      let a3 = first s m2 b3 (b4 ++ (b5 ++ (b6 ++ (b7 ++ b8)))) at3 in
+      let a4 = first s m3 b4 (b5 ++ (b6 ++ (b7 ++ b8))) at4 in
+      let a5 = first s m4 b5 (b6 ++ (b7 ++ b8)) at5 in
+      let a6 = first s m5 b6 (b7 ++ b8) at6 in
+      let a7 = first s m6 b7 b8 at7 in
+      let l = le-ltb 65535 (length s) long in
+      let messages = messagesOf (x .chunk) (x .«payload_header») (length (configuredSizes sizes)) in
+      let p3 = class-is (x .«class_id») m2 (f .classId) s a3 in
+      let p6 = optionalI64-is (x .timestamp) m5 (f .timestamp) s a6 in
+      let e8 : length pre ≡ m7 + length b8 =
+      omega (
+        arith,
+        length-append b1 (b2 ++ (b3 ++ (b4 ++ (b5 ++ (b6 ++ (b7 ++ b8)))))),
+        length-append b2 (b3 ++ (b4 ++ (b5 ++ (b6 ++ (b7 ++ b8))))),
+        length-append b3 (b4 ++ (b5 ++ (b6 ++ (b7 ++ b8)))),
+        length-append b4 (b5 ++ (b6 ++ (b7 ++ b8))),
+        length-append b5 (b6 ++ (b7 ++ b8)),
+        length-append b6 (b7 ++ b8),
+        length-append b7 b8,
+      ) in
+      let k7 = payloadRefusal (x .chunk) (x .«payload_header») sizes (g .lengths) (g .messages) in
+      let k6 = orElse (promotedRefusal (x .promoted) messages) k7 in
+      let k5 = orElse (picosecondsRefusal (x .picoseconds)) k6 in
+      let k4 = orElse (countRefusal (x .«payload_header»)) k5 in
+      let k3 = orElse (groupRefusal (x .group)) k4 in
+      let k2 = orElse (publisherRefusal (x .publisher)) k3 in
+      or-case P (timesRefusal (on16 (x .picoseconds)) (onI64 (x .timestamp))) k2 h
+      (λ e. let d = times-broken (on16 (x .picoseconds)) (onI64 (x .timestamp)) e in
+      subst P (d .2) (0 + 1, rw (l, flags-refuse (flagsFor x) (kind-below (x .publisher)) (d .0) (d .1) 0 s a1)))
+      (λ z1 h1. let p1 = flags-are (flagsFor x) (kind-below (x .publisher)) z1 0 s a1 in
+      or-case P (publisherRefusal (x .publisher)) k3 h1
+      (λ e. (0, rw (l, p1, publisher-refuses (x .publisher) (g .text) m1 ls st e s a2)))
+      (λ z2 h2. let p2 = publisher-is (x .publisher) (g .text) m1 (f .publisher) z2 st s a2 in
+      or-case P (groupRefusal (x .group)) k4 h2
+      (λ e. let q = group-refuses (x .group) m3 (f .group) e s a4 in
+      (q .0, rw (l, p1, p2, p3, q .1)))
+      (λ z3 h3. let p4 = group-is (x .group) m3 (f .group) z3 s a4 in
+      or-case P (countRefusal (x .«payload_header»)) k5 h3
+      (λ e. (m4, rw (l, p1, p2, p3, p4, payload-header-refuses (x .«payload_header») (x .chunk) (g .ids) configured m4 si e s a5)))
+      (λ z4 h4. let p5 = payload-header-is (x .«payload_header») (x .chunk) (g .ids) configured m4 (f .payloadHeader) z4 si s a5 in
+      or-case P (picosecondsRefusal (x .picoseconds)) k6 h4
+      (λ e. (m6, rw (l, p1, p2, p3, p4, p5, p6, picoseconds-refuses (x .picoseconds) m6 (f .picoseconds) e s a7)))
+      (λ z5 h5. let p7 = picoseconds-is (x .picoseconds) m6 (f .picoseconds) z5 s a7 in
+      or-case P (promotedRefusal (x .promoted) messages) k7 h5
+      (λ e. (m7, rw (l, p1, p2, p3, p4, p5, p6, p7, promoted-refuses (x .promoted) messages (g .promoted) m7 sp e s at8)))
+      (λ z6 h6. let p8 = promoted-is (x .promoted) messages (g .promoted) m7 z6 sp s at8 in
+      let n = payload-number (x .«payload_header») (x .chunk) sizes pre (g .lengths) (g .messages) (m7 + length b8) e8 a in
+      let q = refused-by (payloadAt (x .chunk) (x .«payload_header») sizes s (m7 + length b8)) (ap (λ (k : ℕ). eqb k 0) n ∙ h6) in
+      let last : (k place : ℕ) → payloadAt (x .chunk) (x .«payload_header») sizes s (m7 + length b8) ≡ refused k place → P k =
+      λ k place e. (place, rw (l, p1, p2, p3, p4, p5, p6, p7, p8, e)) in
+      subst P n (last (numberIn (payloadAt (x .chunk) (x .«payload_header») sizes s (m7 + length b8))) (q .0) (q .1))))))))

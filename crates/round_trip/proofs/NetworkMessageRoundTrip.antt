@@ -1,0 +1,114 @@
+-- The round trips of whole NetworkMessages, over the definitions that the contracts of `network_message::envelope` and
+-- `network_message_writer::envelope` cite.
+-- Assumes nothing.
+use mathlib.Core.Path.{_≡_}
+use mathlib.Core.Bool.{false, cond}
+use mathlib.Core.List.{List, _++_}
+use Prim.Native.Nat.{ℕ, suc, _+_, _*_, _≤_, _<_}
+use native.Mathlib.Omega.{arith}
+use lib.Dec.{eqb, ltb}
+use lib.ListN.{length, take, drop, length-append}
+use borrow.Author.Tests.{ltb-false}
+use Rattle.wire.specs.Number.{le, leBytes}
+use Rattle.wire.specs.Answer.{got, refused}
+use Rattle.wire.specs.declared.optional.Optional16.{Optional16}
+use Rattle.network_message.specs.declared.publisher.PublisherId.{PublisherId}
+use Rattle.network_message.specs.declared.envelope.Envelope.{Envelope}
+use Rattle.network_message.specs.Header.{writerIdOf}
+use Rattle.network_message.specs.Payload.{total}
+use Rattle.network_message.specs.Envelope.{NetworkMessage, networkMessageAt, messagePlaceAt, messageBytes}
+use Rattle.network_message.proofs.Accepted.{OfMessages}
+use Rattle.writing.specs.declared.Written.{Written}
+use Rattle.writing.proofs.Refusals.{passed, both-zero}
+use Rattle.writing.proofs.Back.{Bytes}
+use Rattle.writing.specs.Writing.{orElse}
+use Rattle.network_message_writer.specs.Flags.{flagBytes, flagsFor}
+use Rattle.network_message_writer.specs.Publisher.{publisherBytes, publisherShape}
+use Rattle.network_message_writer.specs.Group.{groupBytes}
+use Rattle.network_message_writer.specs.Header.{classBytes, idsShape, promotedShape}
+use Rattle.network_message_writer.specs.Payload.{listBytes, lengthsShape}
+use Rattle.network_message_writer.proofs.Short.{unused-none}
+use Rattle.network_message_writer.specs.Envelope.{Given, tailBytes, datagramOf, readingRefusal, shapeRefusal, refusalOf, numberOf, textOf, promotedOf, rewriteAnswer, rewriteBuffer}
+use Rattle.round_trip.specs.NetworkMessage.{placesOf, writtenMessage, givenLengths, messageOf, placeOf, rewritten, AsManyLengths, givenOf}
+use Rattle.round_trip.proofs.NetworkMessageWritten.{FitsEnvelope, read-written, message-written}
+use Rattle.round_trip.proofs.NetworkMessageGiven.{text-written, promoted-written, writer-id-written}
+use Rattle.round_trip.proofs.NetworkMessageRewritten.{rewrite-accepted}
+use Rattle.round_trip.proofs.NetworkMessageRefused.{refuse-written}
+use Rattle.round_trip.proofs.NetworkMessageAccepted.{Numbers, write-read}
+
+-- what the number 0 of writing says
+accepted : (g : Given) (x : Envelope) (sizes configured : List ℕ) (room : ℕ) → numberOf g x sizes configured room ≡ 0 → (refusalOf g x sizes configured ≡ 0) × (length (datagramOf g x) ≤ 65535)
+accepted g x sizes configured room h =
+    let a = both-zero (refusalOf g x sizes configured) (cond (ltb 65535 (length (datagramOf g x))) 10 (cond (ltb room (length (datagramOf g x))) 11 0)) h in
+    (a .0, ltb-false 65535 (length (datagramOf g x)) (passed (ltb 65535 (length (datagramOf g x))) 9 (cond (ltb room (length (datagramOf g x))) 11 0) (a .1) .0))
+
+-- Theorem 1. What the writer accepted reads back, under the same configuration, as what it was given.
+pub record ReadsBack (g : Given) (x : Envelope) (sizes configured : List ℕ) : Type 0 where
+  -- the envelope, where its parts end, and the payload
+  pub whole : networkMessageAt sizes (datagramOf g x) ≡ got (writtenMessage g x sizes) (writtenMessage g x sizes .payload .first)
+  -- a string PublisherId and the promoted fields, byte by byte
+  pub text : textOf (datagramOf g x) (x .publisher) (placesOf g x .«publisher_end») ≡ g .text
+  pub promoted : promotedOf (datagramOf g x) (x .promoted) (placesOf g x .payload) ≡ g .promoted
+  -- the DataSetWriterId of message k
+  pub writerId : (k : ℕ) → 2 * k < length (g .ids)
+      → writerIdOf (x .«payload_header») (placesOf g x .«payload_header_end») configured k (datagramOf g x) ≡ Optional16.Is (le 2 (g .ids) (2 * k))
+  -- message k: where it stands, and its bytes
+  pub message : OfMessages (x .«payload_header») → (k : ℕ) → k < length (givenLengths g (x .«payload_header») sizes)
+      → (messagePlaceAt sizes k (datagramOf g x)
+      ≡ got (placeOf (givenLengths g (x .«payload_header») sizes) (writtenMessage g x sizes .payload .first) k)
+      (writtenMessage g x sizes .payload .first + total (take (suc k) (givenLengths g (x .«payload_header») sizes))))
+      × (messageBytes (messagePlaceAt sizes k (datagramOf g x)) (datagramOf g x) ≡ messageOf (givenLengths g (x .«payload_header») sizes) (g .messages) k)
+
+pub reads-back : (g : Given) (x : Envelope) (sizes configured : List ℕ) (room : ℕ) → FitsEnvelope x → numberOf g x sizes configured room ≡ 0 → ReadsBack g x sizes configured
+reads-back g x sizes configured room f h =
+    let a = accepted g x sizes configured room h in
+    record {
+      whole = read-written g x sizes configured f (a .0) (a .1);
+      text = text-written g x sizes configured (a .0);
+      promoted = promoted-written g x sizes configured (a .0);
+      writerId = writer-id-written g x sizes configured (a .0);
+      message = message-written g x sizes configured f (a .0) (a .1);
+    }
+
+-- Theorem 2. An accepted datagram written again gives `rewritten s`: the same bytes but for the one case that document 01
+-- names. `rewrite` accepts it wherever the buffer is as long, and so does the writer its parts as they were read.
+pub record WritesAgain (s sizes configured out : List ℕ) (m : NetworkMessage) : Type 0 where
+  pub answer : rewriteAnswer s (networkMessageAt sizes s) (length out) ≡ Written.Is (length (rewritten s))
+  pub buffer : rewriteBuffer s (networkMessageAt sizes s) out ≡ rewritten s ++ drop (length (rewritten s)) out
+  pub unrefused : refusalOf (givenOf s (m .envelope) (m .places) sizes configured) (m .envelope) sizes configured ≡ 0
+  pub same : datagramOf (givenOf s (m .envelope) (m .places) sizes configured) (m .envelope) ≡ rewritten s
+
+pub writes-again : (s sizes configured out : List ℕ) (m : NetworkMessage) (next : ℕ) → Bytes s → Numbers sizes → Numbers configured → networkMessageAt sizes s ≡ got m next → length s ≤ length out
+    → WritesAgain s sizes configured out m
+writes-again s sizes configured out m next b hs hc h l =
+    let r = rewrite-accepted sizes s out m next b h l in
+    let w = write-read sizes configured s m next b hs hc h in
+    record { answer = r .0; buffer = r .1; unrefused = w .0; same = w .1 }
+
+-- Theorem 3. Where the parts are as the envelope says, the writer's refusal by a reading rule is reading's refusal of what
+-- would have been written, by the same number; and it is the writer's answer, since these rules come first.
+text-in : (p : PublisherId) (text : List ℕ) → publisherShape p (length text) ≡ 0 → length text ≤ length (publisherBytes text p)
+text-in PublisherId.Absent text h = omega (arith, unused-none (length text) h)
+text-in (PublisherId.Byte v) text h = omega (arith, unused-none (length text) h)
+text-in (PublisherId.UInt16 v) text h = omega (arith, unused-none (length text) h)
+text-in (PublisherId.UInt32 v) text h = omega (arith, unused-none (length text) h)
+text-in (PublisherId.UInt64 v) text h = omega (arith, unused-none (length text) h)
+text-in (PublisherId.Text n) text h = omega (arith, length-append (leBytes 4 (length text)) text)
+
+pub refuses-alike : (g : Given) (x : Envelope) (sizes configured : List ℕ) (room : ℕ) → FitsEnvelope x → AsManyLengths (x .«payload_header») (g .lengths) → shapeRefusal g x sizes configured ≡ 0
+    → length (datagramOf g x) ≤ 65535 → eqb (readingRefusal g x sizes) 0 ≡ false
+    → (numberOf g x sizes configured room ≡ readingRefusal g x sizes) × ((place : ℕ) × (networkMessageAt sizes (datagramOf g x) ≡ refused (readingRefusal g x sizes) place))
+refuses-alike g x sizes configured room f a s l h =
+    let m1 = publisherShape (x .publisher) (length (g .text)) in
+    let m2 = idsShape (x .chunk) (x .«payload_header») (g .ids) configured in
+    let m3 = promotedShape (x .promoted) (length (g .promoted)) in
+    let m4 = lengthsShape (x .«payload_header») (g .lengths) sizes in
+    let s1 = both-zero m1 (orElse m2 (orElse m3 m4)) s in
+    let s2 = both-zero m2 (orElse m3 m4) (s1 .1) in
+    let s3 = both-zero m3 m4 (s2 .1) in
+    let b1 = flagBytes (flagsFor x) in
+    let b2 = publisherBytes (g .text) (x .publisher) in
+    let b3 = classBytes (x .«class_id») ++ (groupBytes (x .group) ++ tailBytes (g .ids) (g .promoted) x) in
+    let b4 = listBytes (x .«payload_header») (g .lengths) ++ g .messages in
+    let k : length (g .text) ≤ 65535 = omega (arith, text-in (x .publisher) (g .text) (s1 .0), length-append b1 (b2 ++ b3), length-append b2 b3, length-append (b1 ++ (b2 ++ b3)) b4) in
+    (rw (h, h), refuse-written g x sizes configured f a (s1 .0) (s2 .0) (s3 .0) k l h)

@@ -1,0 +1,123 @@
+-- What the round trips of NetworkMessages say.
+use Prim.Native.Nat.{ℕ, _+_, _*_}
+use mathlib.Core.Path.{_≡_}
+use mathlib.Core.Bool.{false, cond}
+use mathlib.Core.List.{List, [], _∷_, _++_}
+use lib.Dec.{leb}
+use lib.ListN.{length, take, drop, getD}
+use Rattle.wire.specs.Number.{leBytes}
+use Rattle.wire.specs.Answer.{Answer, got, refused}
+use Rattle.network_message.specs.declared.flags.Flags.{Flags}
+use Rattle.network_message.specs.declared.header.PayloadHeader.{PayloadHeader}
+use Rattle.network_message.specs.declared.payload.Sizes.{Sizes}
+use Rattle.network_message.specs.declared.payload.Payload.{Payload}
+use Rattle.network_message.specs.declared.payload.MessagePlace.{MessagePlace}
+use Rattle.network_message.specs.declared.envelope.Envelope.{Envelope}
+use Rattle.network_message.specs.declared.envelope.Places.{Places}
+use Rattle.network_message.specs.Payload.{total, positive, listed, configuredSizes, payloadOf}
+use Rattle.network_message.specs.Flags.{flagsAt}
+use Rattle.network_message.specs.Envelope.{NetworkMessage}
+use Rattle.network_message_writer.specs.Flags.{flagBytes, flagsFor}
+use Rattle.network_message_writer.specs.Publisher.{publisherBytes}
+use Rattle.network_message_writer.specs.Group.{groupBytes}
+use Rattle.network_message_writer.specs.Header.{classBytes, payloadHeaderBytes}
+use Rattle.network_message_writer.specs.Envelope.{Given, headerBytes, before, textOf, promotedOf}
+
+-- where the variable parts of a written envelope end
+abbrev pub placesOf : Given → Envelope → Places
+placesOf g x =
+    record {
+      «publisher_end» = length (flagBytes (flagsFor x) ++ publisherBytes (g .text) (x .publisher));
+      «payload_header_end» =
+          length
+          (flagBytes (flagsFor x)
+          ++ (publisherBytes (g .text) (x .publisher)
+          ++ (classBytes (x .«class_id») ++ (groupBytes (x .group) ++ payloadHeaderBytes (g .ids) (x .«payload_header»)))));
+      payload = length (headerBytes (g .text) (g .ids) (g .promoted) x);
+    }
+
+-- the payload of a written envelope, which starts at a position
+abbrev pub payloadFor : PayloadHeader → List ℕ → ℕ → Payload
+payloadFor PayloadHeader.Absent sizes at = cond (positive (configuredSizes sizes)) (payloadOf (length (configuredSizes sizes)) Sizes.Configured at) (payloadOf 1 Sizes.Rest at)
+payloadFor (PayloadHeader.Ids n) sizes at = cond (leb n 1) (payloadOf 1 Sizes.Rest at) (payloadOf n (Sizes.Listed at) (at + 2 * n))
+payloadFor (PayloadHeader.Chunk w) sizes at = payloadOf 0 Sizes.Rest at
+
+-- what was written, as reading answers it
+abbrev pub writtenMessage : Given → Envelope → List ℕ → NetworkMessage
+writtenMessage g x sizes =
+    record { envelope = x; places = placesOf g x; payload = payloadFor (x .«payload_header») sizes (length (headerBytes (g .text) (g .ids) (g .promoted) x)) }
+
+-- the lengths of the messages as given: of several messages their lengths, of one all of its bytes; a chunk has no messages
+abbrev pub givenLengths : Given → PayloadHeader → List ℕ → List ℕ
+givenLengths g PayloadHeader.Absent sizes = cond (leb (length (configuredSizes sizes)) 1) (length (g .messages) ∷ []) (listed (length (configuredSizes sizes)) (g .lengths) 0)
+givenLengths g (PayloadHeader.Ids n) sizes = cond (leb n 1) (length (g .messages) ∷ []) (listed n (g .lengths) 0)
+givenLengths g (PayloadHeader.Chunk w) sizes = []
+
+-- message k of messages that stand one after the other and have these lengths
+abbrev pub messageOf : List ℕ → List ℕ → ℕ → List ℕ
+messageOf zs messages k = take (getD zs k 0) (drop (total (take k zs)) messages)
+
+abbrev pub placeOf : List ℕ → ℕ → ℕ → MessagePlace
+placeOf zs first k = record { index = k; offset = first + total (take k zs); length = getD zs k 0 }
+
+-- of several messages with a PayloadHeader, as many lengths are given as its Count says
+abbrev pub AsManyLengths : PayloadHeader → List ℕ → Type 0
+AsManyLengths PayloadHeader.Absent lengths = Unit {0}
+AsManyLengths (PayloadHeader.Ids n) lengths = leb n 1 ≡ false → length lengths ≡ 2 * n
+AsManyLengths (PayloadHeader.Chunk w) lengths = Unit {0}
+
+-- The one rewriting exception: "With PublisherId off, its type bits are written as 0; if ExtendedFlags1 would then be 0, the
+-- byte is left out and bit 7 of byte 0 is 0" (`flagBytes` leaves such a byte out, and the bit with it).
+abbrev pub rewrittenFlags : Flags → Flags
+rewrittenFlags f =
+    record {
+      publisher = f .publisher;
+      group = f .group;
+      «payload_header» = f .«payload_header»;
+      kind = cond (f .publisher) (f .kind) 0;
+      «class_id» = f .«class_id»;
+      timestamp = f .timestamp;
+      picoseconds = f .picoseconds;
+      chunk = f .chunk;
+      promoted = f .promoted;
+    }
+
+-- a datagram with its flag bytes, as read, rewritten so, and all else as it stands
+abbrev pub rewrittenAs : List ℕ → Answer Flags → List ℕ
+rewrittenAs s (got f n) = flagBytes (rewrittenFlags f) ++ drop n s
+rewrittenAs s (refused n place) = s
+
+abbrev pub rewritten : List ℕ → List ℕ
+rewritten s = rewrittenAs s (flagsAt s 0)
+
+-- the parts of a datagram as reading found them, to be given to the writer
+
+-- numbers of 2 bytes, one after the other
+abbrev pub numbersBytes : List ℕ → List ℕ
+numbersBytes [] = []
+numbersBytes (x ∷ xs) = leBytes 2 x ++ numbersBytes xs
+
+abbrev pub idsGiven : List ℕ → PayloadHeader → ℕ → List ℕ → List ℕ
+idsGiven s PayloadHeader.Absent end configured = numbersBytes (take 16 configured)
+idsGiven s (PayloadHeader.Ids n) end configured = before s end (2 * n)
+idsGiven s (PayloadHeader.Chunk w) end configured = []
+
+abbrev pub lengthsGiven : List ℕ → PayloadHeader → ℕ → List ℕ → List ℕ
+lengthsGiven s PayloadHeader.Absent at sizes = cond (leb (length (configuredSizes sizes)) 1) [] (numbersBytes (configuredSizes sizes))
+lengthsGiven s (PayloadHeader.Ids n) at sizes = cond (leb n 1) [] (take (2 * n) (drop at s))
+lengthsGiven s (PayloadHeader.Chunk w) at sizes = []
+
+abbrev pub messagesGiven : List ℕ → PayloadHeader → ℕ → List ℕ
+messagesGiven s PayloadHeader.Absent at = drop at s
+messagesGiven s (PayloadHeader.Ids n) at = cond (leb n 1) (drop at s) (drop (at + 2 * n) s)
+messagesGiven s (PayloadHeader.Chunk w) at = drop at s
+
+abbrev pub givenOf : List ℕ → Envelope → Places → List ℕ → List ℕ → Given
+givenOf s x p sizes configured =
+    record {
+      text = textOf s (x .publisher) (p .«publisher_end»);
+      ids = idsGiven s (x .«payload_header») (p .«payload_header_end») configured;
+      promoted = promotedOf s (x .promoted) (p .payload);
+      lengths = lengthsGiven s (x .«payload_header») (p .payload) sizes;
+      messages = messagesGiven s (x .«payload_header») (p .payload);
+    }
