@@ -4,12 +4,17 @@
 -- Assumes nothing.
 use Prim.Native.Nat.{ℕ}
 use mathlib.Core.Path.{_≡_, subst}
+use mathlib.Core.Bool.{false}
 use mathlib.Core.List.{List}
+use lib.Dec.{eqb}
 use lib.ListN.{length}
 use Rattle.wire.specs.Answer.{Answer, refused}
 use Rattle.network_message.specs.Envelope.{networkMessageAt}
 use Rattle.dataset_message.specs.Message.{messageAt}
 use Rattle.chunk.specs.Datagram.{chunkAt}
+use Rattle.chunk.specs.Cutting.{cutFault, cutBuffer}
+use Rattle.writing.specs.Writing.{bufferBy}
+use Rattle.network_message_writer.specs.Envelope.{rewriteBuffer}
 use Rattle.reassembly.specs.Record.{Partial}
 use Rattle.reassembly.specs.Reading.{Reading}
 use Rattle.reassembly.specs.Operations.{takeIn, combine}
@@ -43,3 +48,14 @@ refused-take-in = D.refused-take
 
 pub refused-combine : (s f : Partial) (n place : ℕ) → combine s f .verdict ≡ Refused n place → combine s f .after ≡ s
 refused-combine = D.refused-combine
+
+-- ---- A writer that refuses leaves the whole buffer as it was: both writers, their rewriting, and cutting.
+pub refused-writer : (n : ℕ) (bytes out : List ℕ) → eqb n 0 ≡ false → bufferBy n bytes out ≡ out
+refused-writer n bytes out e = rw e
+
+pub refused-rewrite : (s sizes out : List ℕ) (n place : ℕ) → networkMessageAt sizes s ≡ refused n place → rewriteBuffer s (networkMessageAt sizes s) out ≡ out
+refused-rewrite s sizes out n place e = rw e
+
+pub refused-cut : (p : List ℕ) (number size k : ℕ) (out : List ℕ) → eqb (cutFault p size k (length out)) 0 ≡ false → cutBuffer p number size k out ≡ out
+unfolding cutBuffer
+refused-cut p number size k out e = rw e

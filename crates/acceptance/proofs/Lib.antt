@@ -3,4 +3,5 @@ pub mod Refusals
 pub mod RefusedDatagrams
 pub mod RefusedMessages
 pub mod Demand1
+pub mod Demand2
 pub mod Demand3

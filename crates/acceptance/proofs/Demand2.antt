@@ -1,0 +1,93 @@
+-- DEMAND 2: headers, messages and fields are found exactly as document 01 lays them out. What the writer wrote reads back as what it was given; an
+-- accepted datagram written again gives the same bytes, but for the one named case.
+-- That readers find what document 01 lays out is what their contracts say: each is an equation with a definition that reads like document 01's
+-- sentences (docs/TRACE.md leads to them). Here: the round trips. Premises such as `FitsEnvelope` and `Bytes` say that a number fits its type, as
+-- every value of the code does.
+-- Assumes nothing.
+use Prim.Native.Nat.{ℕ, suc, _+_, _*_, _≤_, _<_}
+use mathlib.Core.Path.{_≡_, sym, ap, _∙_}
+use mathlib.Core.Bool.{true, false, cond}
+use mathlib.Core.List.{List, _++_}
+use lib.Dec.{eqb}
+use lib.ListN.{length, drop}
+use Rattle.wire.specs.Answer.{got, refused}
+use Rattle.network_message.specs.Flags.{flagsAt}
+use Rattle.network_message.specs.Envelope.{NetworkMessage, networkMessageAt, messagePlaceAt, messageBytes}
+use Rattle.network_message.specs.declared.envelope.Envelope.{Envelope}
+use Rattle.network_message.specs.declared.flags.Flags.{Flags}
+use Rattle.network_message.proofs.Accepted.{OfMessages}
+use Rattle.network_message_writer.specs.Envelope as N
+use Rattle.dataset_message.specs.Flags.{valid}
+use Rattle.dataset_message.specs.Message.{Message, messageAt}
+use Rattle.dataset_message_writer.specs.Message as M
+use Rattle.dataset_message_writer.specs.Rewrite.{Rewrites}
+use Rattle.writing.specs.declared.Written.{Written}
+use Rattle.writing.proofs.Back.{Bytes}
+use Rattle.round_trip.specs.NetworkMessage.{AsManyLengths, givenLengths, messageOf, rewritten}
+use Rattle.round_trip.specs.DataSetMessage.{MessageBack, Tellable}
+use Rattle.round_trip.proofs.NetworkMessageWritten.{FitsEnvelope}
+use Rattle.round_trip.proofs.NetworkMessageAccepted.{Numbers}
+use Rattle.round_trip.proofs.NetworkMessageRoundTrip.{ReadsBack, reads-back, WritesAgain, writes-again, refuses-alike}
+use Rattle.round_trip.proofs.NetworkMessageRewritten as NetworkMessage
+use Rattle.round_trip.proofs.DataSetMessageParts.{FitsHeader, FitsIndices}
+use Rattle.round_trip.proofs.DataSetMessage as DataSetMessage
+use Rattle.round_trip.proofs.DataSetMessageRewritten as Rewritten
+use Rattle.round_trip.proofs.DataSetMessageRefused as Refused
+
+-- ---- 1. What was written reads back as what was given, under the same configuration.
+
+-- A NetworkMessage that the writer accepted: its envelope, the text of its PublisherId, its promoted fields, its writer ids, and each message with
+-- its offset and bytes.
+pub datagram-reads-back : (g : N.Given) (x : Envelope) (sizes configured : List ℕ) (room : ℕ) → FitsEnvelope x → N.numberOf g x sizes configured room ≡ 0
+    → ReadsBack g x sizes configured
+datagram-reads-back = reads-back
+
+-- A DataSetMessage that the writer accepted: its header, that it is a heartbeat or not, the number of its fields, each field's index and bytes, and
+-- the length of its padding.
+pub message-reads-back : (types : List ℕ) (m : M.Given) → FitsHeader (m .header) → FitsIndices (m .indices) → M.refusalOf types m ≡ 0 → MessageBack types m
+message-reads-back = DataSetMessage.read-written
+
+-- The whole datagram: where message k that was given is a DataSetMessage that the message writer accepted, its own part of the datagram is that
+-- message, and reads back as what the message writer was given.
+pub whole-reads-back : (g : N.Given) (x : Envelope) (sizes configured : List ℕ) (room : ℕ) → FitsEnvelope x → N.numberOf g x sizes configured room ≡ 0
+    → OfMessages (x .«payload_header») → (k : ℕ) → k < length (givenLengths g (x .«payload_header») sizes)
+    → (types : List ℕ) (m : M.Given) → FitsHeader (m .header) → FitsIndices (m .indices) → M.refusalOf types m ≡ 0
+    → messageOf (givenLengths g (x .«payload_header») sizes) (g .messages) k ≡ M.encode m
+    → (messageBytes (messagePlaceAt sizes k (N.datagramOf g x)) (N.datagramOf g x) ≡ M.encode m) × MessageBack types m
+whole-reads-back g x sizes configured room f n o k l types m fh fi a e =
+    (reads-back g x sizes configured room f n .message o k l .1 ∙ e, DataSetMessage.read-written types m fh fi a)
+
+-- ---- 2. What was read is written again.
+
+-- An accepted datagram: `rewrite` gives `rewritten s` in any buffer that is as long, and so does the writer for the parts as they were read.
+pub datagram-written-again : (s sizes configured out : List ℕ) (m : NetworkMessage) (next : ℕ) → Bytes s → Numbers sizes → Numbers configured
+    → networkMessageAt sizes s ≡ got m next → length s ≤ length out → WritesAgain s sizes configured out m
+datagram-written-again = writes-again
+
+-- The one named case: `rewritten s` differs from s only where PublisherId is off and its type bits are not 0. They are then 0, and an ExtendedFlags1
+-- that would be 0 is left out with bit 7 of byte 0 (`rewritten`, `rewrittenFlags`); else it is s itself.
+pub rewritten-is-the-same : (sizes s : List ℕ) (m : NetworkMessage) (next : ℕ) (f : Flags) (n : ℕ) → Bytes s → networkMessageAt sizes s ≡ got m next
+    → flagsAt s 0 ≡ got f n → cond (f .publisher) (f .kind) 0 ≡ f .kind → rewritten s ≡ s
+rewritten-is-the-same = NetworkMessage.rewrite-same
+
+-- Every accepted DataSetMessage: the same bytes, padding included, and the buffer goes on as it was.
+pub message-written-again : (types s : List ℕ) (m : Message) (e : ℕ) → Bytes s → messageAt types s ≡ got (valid m) e → length s ≤ 65535
+    → (entry exit : List ℕ) (r : Written) → length s ≤ length entry → Rewrites types s entry exit r
+    → (r ≡ Written.Is (length s)) × (exit ≡ s ++ drop (length s) entry)
+message-written-again = Rewritten.rewrite-same
+
+-- ---- 3. The writers' refusals by a reading rule are reading's refusals of what would have been written, by the same number.
+
+-- Of a NetworkMessage whose parts are as its envelope says.
+pub datagram-refused-alike : (g : N.Given) (x : Envelope) (sizes configured : List ℕ) (room : ℕ) → FitsEnvelope x
+    → AsManyLengths (x .«payload_header») (g .lengths) → N.shapeRefusal g x sizes configured ≡ 0 → length (N.datagramOf g x) ≤ 65535
+    → eqb (N.readingRefusal g x sizes) 0 ≡ false
+    → (N.numberOf g x sizes configured room ≡ N.readingRefusal g x sizes)
+    × ((place : ℕ) × (networkMessageAt sizes (N.datagramOf g x) ≡ refused (N.readingRefusal g x sizes) place))
+datagram-refused-alike = refuses-alike
+
+-- Of a DataSetMessage in which what is refused stands where reading finds it (`Tellable`).
+pub message-refused-alike : (types : List ℕ) (m : M.Given) → FitsHeader (m .header) → FitsIndices (m .indices) → Tellable types m
+    → eqb (M.readingRefusal types m) 0 ≡ false
+    → (place : ℕ) × (messageAt types (M.encode m) ≡ refused (M.readingRefusal types m) place)
+message-refused-alike = Refused.refuse-written
