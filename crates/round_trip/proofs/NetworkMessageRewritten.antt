@@ -30,8 +30,8 @@ use Rattle.network_message.specs.Header.{classAt, payloadHeaderAt, promotedAt}
 use Rattle.network_message.specs.Payload.{configuredSizes, payloadAt}
 use Rattle.network_message.specs.Envelope.{Header, NetworkMessage, identityAt, timesAt, messagesOf, headerAt, bodyAt, networkMessageAt}
 use Rattle.writing.specs.declared.Written.{Written}
-use Rattle.writing.specs.Writing.{needed, numberFor, writtenBy, bufferBy, optional16Bytes, optionalI64Bytes}
-use Rattle.writing.proofs.Answering.{writes}
+use Rattle.writing.specs.Writing.{needed, numberFor, answerBy, bufferBy, optional16Bytes, optionalI64Bytes}
+use Rattle.writing.proofs.Answering.{writes, reports}
 use Rattle.writing.proofs.Back.{Bytes, Back, join, rest-is, end-fits, map-back, optionalI64-back, ruled16-back}
 use Rattle.network_message_writer.specs.Flags.{extended1Of, flagsFor, flagBytes}
 use Rattle.network_message_writer.specs.Publisher.{publisherOn, publisherBytes}
@@ -211,14 +211,14 @@ rewritten-short sizes s m next b h =
 
 -- `rewrite` accepts an accepted datagram wherever the buffer is as long, and stores exactly its rewriting.
 pub rewrite-accepted : (sizes s out : List ℕ) (m : NetworkMessage) (next : ℕ) → Bytes s → networkMessageAt sizes s ≡ got m next → length s ≤ length out
-    → (rewriteAnswer s (networkMessageAt sizes s) (length out) ≡ Written.Is (length (rewritten s)))
+    → (rewriteAnswer s (networkMessageAt sizes s) (length out) ≡ got tt (length (rewritten s)))
     × (rewriteBuffer s (networkMessageAt sizes s) out ≡ rewritten s ++ drop (length (rewritten s)) out)
 rewrite-accepted sizes s out m next b h l =
     let q = rewritten-short sizes s m next b h in
     let k : length (rewritten s) ≤ 65535 = omega (arith, accepted-short sizes s m next h) in
     let j : length (rewritten s) ≤ length out = omega arith in
-    let w = writes 0 (rewritten s) out refl (length (rewritten s)) refl k (rewritten s ++ drop (length (rewritten s)) out) j refl in
+    let w = reports 0 (rewritten s) out (Written.Is (length (rewritten s))) (rewritten s ++ drop (length (rewritten s)) out) (writes 0 (rewritten s) out refl (length (rewritten s)) refl k (rewritten s ++ drop (length (rewritten s)) out) j refl) in
     rw h
     (subst
-    (λ (y : List ℕ). (writtenBy (numberFor 0 (length y) (length out)) y ≡ Written.Is (length (rewritten s))) × (bufferBy (numberFor 0 (length y) (length out)) y out ≡ rewritten s ++ drop (length (rewritten s)) out))
+    (λ (y : List ℕ). (answerBy (numberFor 0 (length y) (length out)) y ≡ got tt (length (rewritten s))) × (bufferBy (numberFor 0 (length y) (length out)) y out ≡ rewritten s ++ drop (length (rewritten s)) out))
     (sym (rewrite-read sizes s m next b h)) (sym (w .0), sym (w .1)))

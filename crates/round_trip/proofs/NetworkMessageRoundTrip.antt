@@ -18,7 +18,6 @@ use Rattle.network_message.specs.Header.{writerIdOf}
 use Rattle.network_message.specs.Payload.{total}
 use Rattle.network_message.specs.Envelope.{NetworkMessage, networkMessageAt, messagePlaceAt, messageBytes}
 use Rattle.network_message.proofs.Accepted.{OfMessages}
-use Rattle.writing.specs.declared.Written.{Written}
 use Rattle.writing.proofs.Refusals.{passed, both-zero}
 use Rattle.writing.proofs.Back.{Bytes}
 use Rattle.writing.specs.Writing.{orElse}
@@ -73,7 +72,7 @@ reads-back g x sizes configured room f h =
 -- Theorem 2. An accepted datagram written again gives `rewritten s`: the same bytes but for the one case that document 01
 -- names. `rewrite` accepts it wherever the buffer is as long, and so does the writer its parts as they were read.
 pub record WritesAgain (s sizes configured out : List ℕ) (m : NetworkMessage) : Type 0 where
-  pub answer : rewriteAnswer s (networkMessageAt sizes s) (length out) ≡ Written.Is (length (rewritten s))
+  pub answer : rewriteAnswer s (networkMessageAt sizes s) (length out) ≡ got tt (length (rewritten s))
   pub buffer : rewriteBuffer s (networkMessageAt sizes s) out ≡ rewritten s ++ drop (length (rewritten s)) out
   -- with a PublisherId it is the datagram itself
   pub unchanged : publisherOn (m .envelope .publisher) ≡ true → rewritten s ≡ s
