@@ -10,8 +10,7 @@ use Rattle.network_message.specs.declared.envelope.Envelope.{Envelope}
 use Rattle.network_message.specs.declared.envelope.Places.{Places}
 use Rattle.network_message.specs.Payload.{configuredSizes}
 use Rattle.network_message.specs.Envelope.{NetworkMessage, messagesOf}
-use Rattle.writing.specs.declared.Written.{Written}
-use Rattle.writing.specs.Writing.{orElse, on16, onI64, optional16Bytes, optionalI64Bytes, picosecondsRefusal, numberFor, writtenBy, bufferBy}
+use Rattle.writing.specs.Writing.{orElse, on16, onI64, optional16Bytes, optionalI64Bytes, picosecondsRefusal, numberFor, bufferBy, answerBy}
 use Rattle.network_message_writer.specs.Flags.{flagBytes, flagsFor, timesRefusal}
 use Rattle.network_message_writer.specs.Publisher.{publisherBytes, publisherRefusal, publisherShape}
 use Rattle.network_message_writer.specs.Group.{groupBytes, groupRefusal}
@@ -75,8 +74,8 @@ abbrev pub numberOf : Given → Envelope → List ℕ → List ℕ → ℕ → �
 numberOf g x sizes configured room = numberFor (refusalOf g x sizes configured) (length (datagramOf g x)) room
 
 -- what writing answers, and the buffer afterwards: on success the datagram and then the buffer's own rest
-abbrev pub writtenOf : Given → Envelope → List ℕ → List ℕ → ℕ → Written
-writtenOf g x sizes configured room = writtenBy (numberOf g x sizes configured room) (datagramOf g x)
+abbrev pub writtenOf : Given → Envelope → List ℕ → List ℕ → ℕ → Answer (Unit {0})
+writtenOf g x sizes configured room = answerBy (numberOf g x sizes configured room) (datagramOf g x)
 
 abbrev pub bufferAfter : Given → Envelope → List ℕ → List ℕ → List ℕ → List ℕ
 bufferAfter g x sizes configured out = bufferBy (numberOf g x sizes configured (length out)) (datagramOf g x) out
@@ -112,9 +111,9 @@ againOf s x p =
     ++ drop (p .payload) s
 
 -- what rewriting answers and leaves in the buffer: reading's refusal, else the datagram written again, or 11
-abbrev pub rewriteAnswer : List ℕ → Answer NetworkMessage → ℕ → Written
-rewriteAnswer s (got m next) room = writtenBy (numberFor 0 (length (againOf s (m .envelope) (m .places))) room) (againOf s (m .envelope) (m .places))
-rewriteAnswer s (refused n place) room = Written.Refused n
+abbrev pub rewriteAnswer : List ℕ → Answer NetworkMessage → ℕ → Answer (Unit {0})
+rewriteAnswer s (got m next) room = answerBy (numberFor 0 (length (againOf s (m .envelope) (m .places))) room) (againOf s (m .envelope) (m .places))
+rewriteAnswer s (refused n place) room = refused n 0
 
 abbrev pub rewriteBuffer : List ℕ → Answer NetworkMessage → List ℕ → List ℕ
 rewriteBuffer s (got m next) out = bufferBy (numberFor 0 (length (againOf s (m .envelope) (m .places))) (length out)) (againOf s (m .envelope) (m .places)) out

@@ -50,7 +50,7 @@ ghost use Prim.Native.Nat.{_≤_};
 ghost use lib.ListN.{length};
 ghost use Rattle.network_message.specs.Envelope.{networkMessageAt};
 ghost use Rattle.network_message.specs.Payload.{configuredSizes};
-ghost use Rattle.writing.specs.Writing.{Puts, numberFor, writtenBy, bufferBy, optionalI64Bytes};
+ghost use Rattle.writing.specs.Writing.{Puts, numberFor, writtenBy, bufferBy, answerWritten, optionalI64Bytes};
 ghost use Rattle.network_message_writer.specs.Payload.{payloadRefusal};
 ghost use Rattle.network_message_writer.specs.Envelope.{given, tailBytes, headerBytes, datagramOf, headerRefusal, shapeRefusal, writtenOf, bufferAfter};
 ghost use Rattle.network_message_writer.specs.Envelope.{textOf, idsOf, promotedOf, againOf, rewriteAnswer, rewriteBuffer};
@@ -209,7 +209,7 @@ pub fn write(
     sizes: &[u16],
     configured: &[u16],
 ) -> Written
-    ensures { λ r. ⌜ (r ≡ writtenOf (given (now (text .entry)) (now (ids .entry)) (now (promoted .entry)) (now (lengths .entry)) (now (messages .entry))) x (now (sizes .entry)) (now (configured .entry)) (length (now (out .entry)))) × (now (out .exit) ≡ bufferAfter (given (now (text .entry)) (now (ids .entry)) (now (promoted .entry)) (now (lengths .entry)) (now (messages .entry))) x (now (sizes .entry)) (now (configured .entry)) (now (out .entry))) ⌝ }
+    ensures { λ r. ⌜ (answerWritten r ≡ writtenOf (given (now (text .entry)) (now (ids .entry)) (now (promoted .entry)) (now (lengths .entry)) (now (messages .entry))) x (now (sizes .entry)) (now (configured .entry)) (length (now (out .entry)))) × (now (out .exit) ≡ bufferAfter (given (now (text .entry)) (now (ids .entry)) (now (promoted .entry)) (now (lengths .entry)) (now (messages .entry))) x (now (sizes .entry)) (now (configured .entry)) (now (out .entry))) ⌝ }
 {
     let n = or_else(
         reading_refusal(x, lengths, messages, sizes),
@@ -306,7 +306,7 @@ fn again(out: &mut [u8], s: &[u8], x: Envelope, places: Places) -> Written
 // Reads a datagram under the sizes of the configured writers and writes it again from the start of a buffer. Only where
 // PublisherId is off can the bytes differ: its type bits are then written as 0.
 pub fn rewrite(out: &mut [u8], s: &[u8], sizes: &[u16]) -> Written
-    ensures { λ r. ⌜ (r ≡ rewriteAnswer (now (s .entry)) (networkMessageAt (now (sizes .entry)) (now (s .entry))) (length (now (out .entry)))) × (now (out .exit) ≡ rewriteBuffer (now (s .entry)) (networkMessageAt (now (sizes .entry)) (now (s .entry))) (now (out .entry))) ⌝ }
+    ensures { λ r. ⌜ (answerWritten r ≡ rewriteAnswer (now (s .entry)) (networkMessageAt (now (sizes .entry)) (now (s .entry))) (length (now (out .entry)))) × (now (out .exit) ≡ rewriteBuffer (now (s .entry)) (networkMessageAt (now (sizes .entry)) (now (s .entry))) (now (out .entry))) ⌝ }
 {
     match read(s, sizes) {
         NetworkMessageRead::Refused(n, _) => Written::Refused(n),

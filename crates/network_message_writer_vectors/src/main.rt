@@ -267,9 +267,9 @@ fn fixed(words: &[u8], ids: &[u8], lengths: &[u8], messages: &[u8]) {
     written(words, x, b"", ids, b"", lengths, messages, &[3, 2], &[7, 9]);
 }
 
-fn accepted() {
+// byte 0: 1 + 16 + 64 + 128; type 1; 4711; Count 1
+fn document_01() {
     let l = listing(1);
-    // byte 0: 1 + 16 + 64 + 128; type 1; 4711; Count 1
     written(
         b"document 01",
         with_publisher(l, PublisherId::UInt16(4711)),
@@ -281,7 +281,10 @@ fn accepted() {
         &[],
         &[],
     );
-    // byte 0: 1 + 16 + 64, no ExtendedFlags1, since a Byte has type 0
+}
+
+// byte 0: 1 + 16 + 64, no ExtendedFlags1, since a Byte has type 0
+fn two_messages() {
     let m = listing(2);
     two(
         b"two messages",
@@ -290,14 +293,24 @@ fn accepted() {
         b"\x01\x00\x02\x00",
         b"\xaa\xbb\xbb",
     );
-    // f1: all but nothing; ec: 4 + 8 + 32 + 64 + 128; 02: promoted; then each part in order
+}
+
+// f1: every part; ec: 4 + 8 + 32 + 64 + 128; 02: promoted; then each part in order
+fn every_part() {
     one(b"every part", full(3), b"abc", b"\xcc\xdd", b"\xaa");
-    // c1 80 01: PayloadHeader, ExtendedFlags1 for ExtendedFlags2, chunk
+}
+
+// c1 80 01: PayloadHeader, ExtendedFlags1 for ExtendedFlags2, chunk
+fn chunks() {
     let b = bare();
     let c = with_chunk(b, PayloadHeader::Chunk(7));
     written(b"chunk", c, b"", b"", b"", b"", b"\x01\x02", &[], &[]);
     written(b"chunk of nothing", c, b"", b"", b"", b"", b"", &[], &[]);
-    // 01: version 1 alone
+}
+
+// 01: version 1 alone
+fn configured_writers() {
+    let b = bare();
     written(
         b"one configured",
         b,
@@ -315,28 +328,24 @@ fn accepted() {
         b"\x03\x00\x02\x00",
         b"\xaa\xaa\xaa\xbb\xbb",
     );
-    // a message that reading would refuse is taken all the same
+}
+
+// a message that reading would refuse is taken all the same
+fn bad_message() {
     one(b"bad message", listing(1), b"", b"", b"\x07");
 }
 
-fn refused_by_reading() {
+fn times() {
     let l = listing(1);
     let o = Optional16::Is(10000);
-    let t = OptionalI64::Is(0);
-    one(
-        b"picoseconds without timestamp",
-        with_times(l, OptionalI64::Absent, o),
-        b"",
-        b"",
-        b"\xaa",
-    );
-    one(
-        b"picoseconds 10,000",
-        with_times(l, t, o),
-        b"",
-        b"",
-        b"\xaa",
-    );
+    let x = with_times(l, OptionalI64::Absent, o);
+    one(b"picoseconds without timestamp", x, b"", b"", b"\xaa");
+    let y = with_times(l, OptionalI64::Is(0), o);
+    one(b"picoseconds 10,000", y, b"", b"", b"\xaa");
+}
+
+fn strings() {
+    let l = listing(1);
     one(
         b"string of 300",
         with_publisher(l, PublisherId::Text(300)),
@@ -344,24 +353,20 @@ fn refused_by_reading() {
         b"",
         b"\xaa",
     );
-    one(b"number 0", full(0), b"abc", b"\xcc\xdd", b"\xaa");
     let f = full(0);
-    one(
-        b"string before number 0",
-        with_publisher(f, PublisherId::Text(65)),
-        b"abc",
-        b"\xcc\xdd",
-        b"\xaa",
-    );
-    one(b"Count 0", listing(0), b"", b"", b"\xaa");
+    one(b"number 0", f, b"abc", b"\xcc\xdd", b"\xaa");
+    let x = with_publisher(f, PublisherId::Text(65));
+    one(b"string before number 0", x, b"abc", b"\xcc\xdd", b"\xaa");
+}
+
+fn counts() {
     let z = listing(0);
-    one(
-        b"Count 0 before picoseconds",
-        with_times(z, t, o),
-        b"",
-        b"",
-        b"\xaa",
-    );
+    one(b"Count 0", z, b"", b"", b"\xaa");
+    let x = with_times(z, OptionalI64::Is(0), Optional16::Is(10000));
+    one(b"Count 0 before picoseconds", x, b"", b"", b"\xaa");
+}
+
+fn promoted_with_two() {
     let m = listing(2);
     two(
         b"promoted with two",
@@ -370,7 +375,11 @@ fn refused_by_reading() {
         b"\x01\x00\x02\x00",
         b"\xaa\xbb\xbb",
     );
-    one(b"empty message", l, b"", b"", b"");
+}
+
+fn sizes() {
+    one(b"empty message", listing(1), b"", b"", b"");
+    let m = listing(2);
     two(
         b"empty one of two",
         m,
@@ -385,15 +394,13 @@ fn refused_by_reading() {
         b"\x01\x00\x03\x00",
         b"\xaa\xbb\xbb",
     );
+}
+
+fn without_payload_header() {
     let b = bare();
     one(b"no PayloadHeader, no writer", b, b"", b"", b"\xaa");
-    one(
-        b"chunk without PayloadHeader",
-        with_chunk(b, PayloadHeader::Absent),
-        b"",
-        b"",
-        b"\xaa",
-    );
+    let c = with_chunk(b, PayloadHeader::Absent);
+    one(b"chunk without PayloadHeader", c, b"", b"", b"\xaa");
     fixed(
         b"sum of configured sizes",
         b"\x07\x00\x09\x00",
@@ -402,48 +409,33 @@ fn refused_by_reading() {
     );
 }
 
-fn read_back_otherwise() {
+// What would read back otherwise.
+fn other_text() {
     let l = listing(1);
-    let m = listing(2);
-    let b = bare();
-    one(
-        b"string of 4 given as 3",
-        with_publisher(l, PublisherId::Text(4)),
-        b"abc",
-        b"",
-        b"\xaa",
-    );
-    one(
-        b"text without string",
-        with_publisher(l, PublisherId::Byte(5)),
-        b"abc",
-        b"",
-        b"\xaa",
-    );
-    one(b"one id for two", m, b"", b"", b"\xaa");
-    one(
-        b"promoted of 3 given as 2",
-        with_promoted(l, Promoted::Size(3)),
-        b"",
-        b"\xcc\xdd",
-        b"\xaa",
-    );
+    let x = with_publisher(l, PublisherId::Text(4));
+    one(b"string of 4 given as 3", x, b"abc", b"", b"\xaa");
+    let y = with_publisher(l, PublisherId::Byte(5));
+    one(b"text without string", y, b"abc", b"", b"\xaa");
+    one(b"one id for two", listing(2), b"", b"", b"\xaa");
+}
+
+fn other_promoted() {
+    let l = listing(1);
+    let x = with_promoted(l, Promoted::Size(3));
+    one(b"promoted of 3 given as 2", x, b"", b"\xcc\xdd", b"\xaa");
     one(b"promoted without flag", l, b"", b"\xcc", b"\xaa");
     two(b"lengths for one", l, b"", b"\x03\x00", b"\xaa\xbb\xbb");
-    one(
-        b"ids in a chunk",
-        with_chunk(b, PayloadHeader::Chunk(7)),
-        b"",
-        b"",
-        b"\xaa",
-    );
-    one(
-        b"chunk with Count",
-        with_chunk(b, PayloadHeader::Ids(1)),
-        b"",
-        b"",
-        b"\xaa",
-    );
+}
+
+fn other_chunk() {
+    let b = bare();
+    let x = with_chunk(b, PayloadHeader::Chunk(7));
+    one(b"ids in a chunk", x, b"", b"", b"\xaa");
+    let y = with_chunk(b, PayloadHeader::Ids(1));
+    one(b"chunk with Count", y, b"", b"", b"\xaa");
+}
+
+fn other_configuration() {
     fixed(
         b"other ids",
         b"\x07\x00\x08\x00",
@@ -520,6 +512,31 @@ fn exact_room() {
         &[],
         &[],
     );
+}
+
+fn accepted() {
+    document_01();
+    two_messages();
+    every_part();
+    chunks();
+    configured_writers();
+    bad_message();
+}
+
+fn refused_by_reading() {
+    times();
+    strings();
+    counts();
+    promoted_with_two();
+    sizes();
+    without_payload_header();
+}
+
+fn read_back_otherwise() {
+    other_text();
+    other_promoted();
+    other_chunk();
+    other_configuration();
 }
 
 fn main() {

@@ -30,11 +30,11 @@ use Rattle.network_message.specs.Header.{classAt, payloadHeaderAt, promotedAt}
 use Rattle.network_message.specs.Payload.{configuredSizes, payloadAt}
 use Rattle.network_message.specs.Envelope.{Header, NetworkMessage, identityAt, timesAt, messagesOf, headerAt, bodyAt, networkMessageAt}
 use Rattle.writing.specs.declared.Written.{Written}
-use Rattle.writing.specs.Writing.{needed, numberFor, writtenBy, bufferBy, optional16Bytes, optionalI64Bytes}
-use Rattle.writing.proofs.Answering.{writes}
+use Rattle.writing.specs.Writing.{needed, numberFor, answerBy, bufferBy, optional16Bytes, optionalI64Bytes}
+use Rattle.writing.proofs.Answering.{writes, reports}
 use Rattle.writing.proofs.Back.{Bytes, Back, join, rest-is, end-fits, map-back, optionalI64-back, ruled16-back}
 use Rattle.network_message_writer.specs.Flags.{extended1Of, flagsFor, flagBytes}
-use Rattle.network_message_writer.specs.Publisher.{publisherBytes}
+use Rattle.network_message_writer.specs.Publisher.{publisherOn, publisherBytes}
 use Rattle.network_message_writer.specs.Group.{groupBytes}
 use Rattle.network_message_writer.specs.Header.{classBytes, payloadHeaderBytes, promotedBytes}
 use Rattle.network_message_writer.specs.Envelope.{headerBytes, textOf, idsOf, promotedOf, againOf, rewriteAnswer, rewriteBuffer}
@@ -157,6 +157,28 @@ rewrite-same sizes s m next f n b h hf e =
     ap (λ (a : Answer Flags). rewrittenAs s a) hf
     ∙ ap (λ (x : Flags). flagBytes x ++ drop n s) z ∙ ap (λ (x : Flags). flagBytes x ++ drop n s) (sym (got-value q)) ∙ ap (λ (k : ℕ). flagBytes (g .0) ++ drop k s) (sym (got-next q)) ∙ sym (r .1)
 
+-- in particular, where a PublisherId was read
+publisher-flag : (on : Bool) (kind : ℕ) (s : List ℕ) (at : ℕ) (p : PublisherId) (next : ℕ) → publisherAt on kind s at ≡ got p next → publisherOn p ≡ true → on ≡ true
+publisher-flag true kind s at p next h e = refl
+publisher-flag false kind s at p next h e = ap publisherOn (got-value h) ∙ e
+
+header-flag : (configured : ℕ) (s : List ℕ) (f : Flags) (n : ℕ) (L : Header) (next : ℕ) → headerAt f configured s n ≡ got L next → publisherOn (L .envelope .publisher) ≡ true → f .publisher ≡ true
+header-flag configured s f n L next h =
+    let I = invert (identityAt f s n) (λ i k. _) h in
+    let Pl = invert (payloadHeaderAt (f .«payload_header») (f .chunk) s (I .1)) (λ p k. _) (I .3) in
+    let T = invert (timesAt f (messagesOf (f .chunk) (Pl .0) configured) s (Pl .1)) (λ t k. _) (Pl .3) in
+    let i = identity-of f s n (I .0) (I .1) (I .2) in
+    subst (λ (K : Header). publisherOn (K .envelope .publisher) ≡ true → f .publisher ≡ true) (got-value (T .3))
+    (publisher-flag (f .publisher) (f .kind) s n (I .0 .publisher) (I .0 .«publisher_end») (i .0))
+
+pub same-with-publisher : (sizes s : List ℕ) (m : NetworkMessage) (next : ℕ) → Bytes s → networkMessageAt sizes s ≡ got m next → publisherOn (m .envelope .publisher) ≡ true → rewritten s ≡ s
+same-with-publisher sizes s m next b h =
+    let f = flags-of sizes s m next h in
+    let H = invert (headerAt (f .0) (length (configuredSizes sizes)) s (f .1)) (λ h k. _) (f .3) in
+    let P = map-back (payloadAt (H .0 .envelope .chunk) (H .0 .envelope .«payload_header») sizes) (λ p. record { envelope = H .0 .envelope; places = H .0 .places; payload = p }) s (H .1) m next (H .3) in
+    subst (λ (m : NetworkMessage). publisherOn (m .envelope .publisher) ≡ true → rewritten s ≡ s) (P .2)
+    (λ e. rewrite-same sizes s m next (f .0) (f .1) b h (f .2) (ap (λ (t : Bool). cond t (f .0 .kind) 0) (header-flag (length (configuredSizes sizes)) s (f .0) (f .1) (H .0) (H .1) (H .2) e)))
+
 -- a flag byte that is there stays or is left out
 needed-more : (a b : ℕ) → a ≤ b → needed a ≤ needed b
 needed-more a b h = go (eqb a 0) (eqb b 0) refl refl
@@ -189,14 +211,14 @@ rewritten-short sizes s m next b h =
 
 -- `rewrite` accepts an accepted datagram wherever the buffer is as long, and stores exactly its rewriting.
 pub rewrite-accepted : (sizes s out : List ℕ) (m : NetworkMessage) (next : ℕ) → Bytes s → networkMessageAt sizes s ≡ got m next → length s ≤ length out
-    → (rewriteAnswer s (networkMessageAt sizes s) (length out) ≡ Written.Is (length (rewritten s)))
+    → (rewriteAnswer s (networkMessageAt sizes s) (length out) ≡ got tt (length (rewritten s)))
     × (rewriteBuffer s (networkMessageAt sizes s) out ≡ rewritten s ++ drop (length (rewritten s)) out)
 rewrite-accepted sizes s out m next b h l =
     let q = rewritten-short sizes s m next b h in
     let k : length (rewritten s) ≤ 65535 = omega (arith, accepted-short sizes s m next h) in
     let j : length (rewritten s) ≤ length out = omega arith in
-    let w = writes 0 (rewritten s) out refl (length (rewritten s)) refl k (rewritten s ++ drop (length (rewritten s)) out) j refl in
+    let w = reports 0 (rewritten s) out (Written.Is (length (rewritten s))) (rewritten s ++ drop (length (rewritten s)) out) (writes 0 (rewritten s) out refl (length (rewritten s)) refl k (rewritten s ++ drop (length (rewritten s)) out) j refl) in
     rw h
     (subst
-    (λ (y : List ℕ). (writtenBy (numberFor 0 (length y) (length out)) y ≡ Written.Is (length (rewritten s))) × (bufferBy (numberFor 0 (length y) (length out)) y out ≡ rewritten s ++ drop (length (rewritten s)) out))
+    (λ (y : List ℕ). (answerBy (numberFor 0 (length y) (length out)) y ≡ got tt (length (rewritten s))) × (bufferBy (numberFor 0 (length y) (length out)) y out ≡ rewritten s ++ drop (length (rewritten s)) out))
     (sym (rewrite-read sizes s m next b h)) (sym (w .0), sym (w .1)))

@@ -2,7 +2,7 @@
 -- `network_message_writer::envelope` cite.
 -- Assumes nothing.
 use mathlib.Core.Path.{_≡_}
-use mathlib.Core.Bool.{false, cond}
+use mathlib.Core.Bool.{true, false, cond}
 use mathlib.Core.List.{List, _++_}
 use Prim.Native.Nat.{ℕ, suc, _+_, _*_, _≤_, _<_}
 use native.Mathlib.Omega.{arith}
@@ -18,12 +18,11 @@ use Rattle.network_message.specs.Header.{writerIdOf}
 use Rattle.network_message.specs.Payload.{total}
 use Rattle.network_message.specs.Envelope.{NetworkMessage, networkMessageAt, messagePlaceAt, messageBytes}
 use Rattle.network_message.proofs.Accepted.{OfMessages}
-use Rattle.writing.specs.declared.Written.{Written}
 use Rattle.writing.proofs.Refusals.{passed, both-zero}
 use Rattle.writing.proofs.Back.{Bytes}
 use Rattle.writing.specs.Writing.{orElse}
 use Rattle.network_message_writer.specs.Flags.{flagBytes, flagsFor}
-use Rattle.network_message_writer.specs.Publisher.{publisherBytes, publisherShape}
+use Rattle.network_message_writer.specs.Publisher.{publisherOn, publisherBytes, publisherShape}
 use Rattle.network_message_writer.specs.Group.{groupBytes}
 use Rattle.network_message_writer.specs.Header.{classBytes, idsShape, promotedShape}
 use Rattle.network_message_writer.specs.Payload.{listBytes, lengthsShape}
@@ -32,7 +31,7 @@ use Rattle.network_message_writer.specs.Envelope.{Given, tailBytes, datagramOf,
 use Rattle.round_trip.specs.NetworkMessage.{placesOf, writtenMessage, givenLengths, messageOf, placeOf, rewritten, AsManyLengths, givenOf}
 use Rattle.round_trip.proofs.NetworkMessageWritten.{FitsEnvelope, read-written, message-written}
 use Rattle.round_trip.proofs.NetworkMessageGiven.{text-written, promoted-written, writer-id-written}
-use Rattle.round_trip.proofs.NetworkMessageRewritten.{rewrite-accepted}
+use Rattle.round_trip.proofs.NetworkMessageRewritten.{rewrite-accepted, same-with-publisher}
 use Rattle.round_trip.proofs.NetworkMessageRefused.{refuse-written}
 use Rattle.round_trip.proofs.NetworkMessageAccepted.{Numbers, write-read}
 
@@ -73,8 +72,10 @@ reads-back g x sizes configured room f h =
 -- Theorem 2. An accepted datagram written again gives `rewritten s`: the same bytes but for the one case that document 01
 -- names. `rewrite` accepts it wherever the buffer is as long, and so does the writer its parts as they were read.
 pub record WritesAgain (s sizes configured out : List ℕ) (m : NetworkMessage) : Type 0 where
-  pub answer : rewriteAnswer s (networkMessageAt sizes s) (length out) ≡ Written.Is (length (rewritten s))
+  pub answer : rewriteAnswer s (networkMessageAt sizes s) (length out) ≡ got tt (length (rewritten s))
   pub buffer : rewriteBuffer s (networkMessageAt sizes s) out ≡ rewritten s ++ drop (length (rewritten s)) out
+  -- with a PublisherId it is the datagram itself
+  pub unchanged : publisherOn (m .envelope .publisher) ≡ true → rewritten s ≡ s
   pub unrefused : refusalOf (givenOf s (m .envelope) (m .places) sizes configured) (m .envelope) sizes configured ≡ 0
   pub same : datagramOf (givenOf s (m .envelope) (m .places) sizes configured) (m .envelope) ≡ rewritten s
 
@@ -83,7 +84,7 @@ pub writes-again : (s sizes configured out : List ℕ) (m : NetworkMessage) (nex
 writes-again s sizes configured out m next b hs hc h l =
     let r = rewrite-accepted sizes s out m next b h l in
     let w = write-read sizes configured s m next b hs hc h in
-    record { answer = r .0; buffer = r .1; unrefused = w .0; same = w .1 }
+    record { answer = r .0; buffer = r .1; unchanged = same-with-publisher sizes s m next b h; unrefused = w .0; same = w .1 }
 
 -- Theorem 3. Where the parts are as the envelope says, the writer's refusal by a reading rule is reading's refusal of what
 -- would have been written, by the same number; and it is the writer's answer, since these rules come first.

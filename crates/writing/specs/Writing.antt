@@ -35,6 +35,10 @@ abbrev pub answerWritten : Written → Answer (Unit {0})
 answerWritten (Written.Is n) = got tt n
 answerWritten (Written.Refused n) = refused n 0
 
+-- the answer of a writer with the number n (0 is done) for these bytes, as number, place and the position after them
+abbrev pub answerBy : ℕ → List ℕ → Answer (Unit {0})
+answerBy n bytes = cond (eqb n 0) (got tt (length bytes)) (refused n 0)
+
 -- where there is room for all of the bytes b, they were stored from position at on, and next is the position after them
 pub record Puts (b entry : List ℕ) (at : ℕ) (exit : List ℕ) (next : ℕ) : Type 0 where
   pub stored : at + length b ≤ length entry → exit ≡ sets entry at b

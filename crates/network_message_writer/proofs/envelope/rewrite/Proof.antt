@@ -1,5 +1,7 @@
 -- `network_message_writer::envelope::rewrite` meets its contract.
 -- Assumes nothing.
+use Rattle.writing.proofs.Answering.{reports}
+use Rattle.network_message_writer.specs.Envelope.{againOf}
 use Rattle.network_message_writer.proofs.Again.{accepted-short}
 use Rattle.network_message.specs.Envelope.{answerNetworkMessage}
 use Rattle.wire.proofs.Reading.{told}
@@ -19,7 +21,7 @@ returns c =
 
 returns-2 : tie.Need-returns-2
 returns-2 c =
-    rw (sym (told answerNetworkMessage (c .before .before .before .before .before .before .before .read .ensures) (c .before .before .before .before .before .x .given .1))) (c .before .before .again .ensures)
+    rw (sym (told answerNetworkMessage (c .before .before .before .before .before .before .before .read .ensures) (c .before .before .before .before .before .x .given .1))) (reports 0 (againOf (now (c .before .before .before .before .before .before .before .before .before .before .before .args .s)) (c .before .before .before .before .before .x .given .0 .0) (c .before .before .before .before .before .x .given .0 .1 .0)) (now (c .before .before .before .before .before .before .before .before .before .before .before .args .out)) _ _ (c .before .before .again .ensures))
 
 pub rewrite-spec : {M : Type 1} → statement M
 rewrite-spec =
