@@ -4,9 +4,9 @@
 -- sentences (docs/TRACE.md leads to them). Here: the round trips. Premises such as `FitsEnvelope` and `Bytes` say that a number fits its type, as
 -- every value of the code does.
 -- Assumes nothing.
-use Prim.Native.Nat.{ℕ, suc, _+_, _*_, _≤_, _<_}
-use mathlib.Core.Path.{_≡_, sym, ap, _∙_}
-use mathlib.Core.Bool.{true, false, cond}
+use Prim.Native.Nat.{ℕ, _≤_, _<_}
+use mathlib.Core.Path.{_≡_, _∙_}
+use mathlib.Core.Bool.{false, cond}
 use mathlib.Core.List.{List, _++_}
 use lib.Dec.{eqb}
 use lib.ListN.{length, drop}
@@ -22,17 +22,14 @@ use Rattle.dataset_message.specs.Message.{Message, messageAt}
 use Rattle.dataset_message_writer.specs.Message as M
 use Rattle.dataset_message_writer.specs.Rewrite.{Rewrites}
 use Rattle.writing.specs.declared.Written.{Written}
-use Rattle.writing.proofs.Back.{Bytes}
-use Rattle.round_trip.specs.NetworkMessage.{AsManyLengths, givenLengths, messageOf, rewritten}
-use Rattle.round_trip.specs.DataSetMessage.{MessageBack, Tellable}
-use Rattle.round_trip.proofs.NetworkMessageWritten.{FitsEnvelope}
-use Rattle.round_trip.proofs.NetworkMessageAccepted.{Numbers}
-use Rattle.round_trip.proofs.NetworkMessageRoundTrip.{ReadsBack, reads-back, WritesAgain, writes-again, refuses-alike}
+use Rattle.round_trip.specs.NetworkMessage.{AsManyLengths, givenLengths, messageOf, rewritten, FitsEnvelope, ReadsBack, WritesAgain}
+use Rattle.round_trip.specs.DataSetMessage.{MessageBack, Tellable, FitsHeader, Rewritten}
+use Rattle.round_trip.proofs.NetworkMessageRoundTrip.{reads-back, writes-again, refuses-alike}
 use Rattle.round_trip.proofs.NetworkMessageRewritten as NetworkMessage
-use Rattle.round_trip.proofs.DataSetMessageParts.{FitsHeader, FitsIndices}
 use Rattle.round_trip.proofs.DataSetMessage as DataSetMessage
 use Rattle.round_trip.proofs.DataSetMessageRewritten as Rewritten
 use Rattle.round_trip.proofs.DataSetMessageRefused as Refused
+use Rattle.writing.specs.Fits.{Bytes, Numbers}
 
 -- ---- 1. What was written reads back as what was given, under the same configuration.
 
@@ -44,14 +41,14 @@ datagram-reads-back = reads-back
 
 -- A DataSetMessage that the writer accepted: its header, that it is a heartbeat or not, the number of its fields, each field's index and bytes, and
 -- the length of its padding.
-pub message-reads-back : (types : List ℕ) (m : M.Given) → FitsHeader (m .header) → FitsIndices (m .indices) → M.refusalOf types m ≡ 0 → MessageBack types m
+pub message-reads-back : (types : List ℕ) (m : M.Given) → FitsHeader (m .header) → Numbers (m .indices) → M.refusalOf types m ≡ 0 → MessageBack types m
 message-reads-back = DataSetMessage.read-written
 
 -- The whole datagram: where message k that was given is a DataSetMessage that the message writer accepted, its own part of the datagram is that
 -- message, and reads back as what the message writer was given.
 pub whole-reads-back : (g : N.Given) (x : Envelope) (sizes configured : List ℕ) (room : ℕ) → FitsEnvelope x → N.numberOf g x sizes configured room ≡ 0
     → OfMessages (x .«payload_header») → (k : ℕ) → k < length (givenLengths g (x .«payload_header») sizes)
-    → (types : List ℕ) (m : M.Given) → FitsHeader (m .header) → FitsIndices (m .indices) → M.refusalOf types m ≡ 0
+    → (types : List ℕ) (m : M.Given) → FitsHeader (m .header) → Numbers (m .indices) → M.refusalOf types m ≡ 0
     → messageOf (givenLengths g (x .«payload_header») sizes) (g .messages) k ≡ M.encode m
     → (messageBytes (messagePlaceAt sizes k (N.datagramOf g x)) (N.datagramOf g x) ≡ M.encode m) × MessageBack types m
 whole-reads-back g x sizes configured room f n o k l types m fh fi a e =
@@ -87,7 +84,7 @@ pub datagram-refused-alike : (g : N.Given) (x : Envelope) (sizes configured : Li
 datagram-refused-alike = refuses-alike
 
 -- Of a DataSetMessage in which what is refused stands where reading finds it (`Tellable`).
-pub message-refused-alike : (types : List ℕ) (m : M.Given) → FitsHeader (m .header) → FitsIndices (m .indices) → Tellable types m
+pub message-refused-alike : (types : List ℕ) (m : M.Given) → FitsHeader (m .header) → Numbers (m .indices) → Tellable types m
     → eqb (M.readingRefusal types m) 0 ≡ false
     → (place : ℕ) × (messageAt types (M.encode m) ≡ refused (M.readingRefusal types m) place)
 message-refused-alike = Refused.refuse-written

@@ -13,14 +13,14 @@ use Rattle.wire.specs.Answer.{got}
 use Rattle.chunk.specs.Datagram.{chunkAt, chunkData}
 use Rattle.chunk.specs.declared.datagram.ChunkPlace.{ChunkPlace}
 use Rattle.reassembly.specs.Record.{Partial, Identity, sound, Good}
-use Rattle.reassembly.specs.Reading.{Reading, messageOf, readingAt}
+use Rattle.reassembly.specs.Reading.{messageOf, readingAt}
 use Rattle.reassembly.specs.Reading.Reading.{chunk}
 use Rattle.reassembly.specs.Machine.{viewIn}
 use Rattle.reassembly.specs.Machine.State.{idle}
 use Rattle.reassembly.specs.Judge.{stateOf, Complete, Equal, alone}
 use Rattle.reassembly.specs.Operations.{takeIn, combine, askComplete, judgeHandOut, handOut}
 use Rattle.reassembly.specs.declared.verdict.Completeness.the-variants as C
-use Rattle.reassembly.specs.declared.verdict.Verdict.the-variants.{Done, Refused}
+use Rattle.reassembly.specs.declared.verdict.Verdict.the-variants.{Done}
 use Rattle.reassembly.proofs.JudgeLaws as JudgeLaws
 use Rattle.reassembly_laws.specs.History.{Call, replies, final, machineReplies, machineFinal, brought, Brings, AllOf}
 use Rattle.reassembly_laws.specs.Combining.{Pair, Three, isRefused, someDisagree, leftVerdict, leftResult, rightVerdict, rightResult}

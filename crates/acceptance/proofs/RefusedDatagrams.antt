@@ -1,28 +1,25 @@
 -- The refusals of datagrams and chunks.
 -- Assumes nothing.
-use Prim.Native.Nat.{ℕ, zero, suc, _+_, _*_, _-_, _/_, _%_, _≤_, _<_}
-use mathlib.Core.Path.{_≡_, refl, subst}
-use mathlib.Core.Bool.{Bool, true, false, cond, _&&_}
+use Prim.Native.Nat.{ℕ, _+_, _*_, _/_, _%_, _≤_}
+use mathlib.Core.Path.{refl}
+use mathlib.Core.Bool.{Bool, _&&_}
 use mathlib.Core.List.{List}
 use mathlib.Core.Logic.{inr}
 use native.Mathlib.Omega.{arith}
-use borrow.Author.Tests.{ltb-true, eqb-true}
 use lib.Dec.{leb, ltb, eqb}
 use lib.ListN.{length}
-use Rattle.wire.specs.Answer.{Answer, got, refused, bit}
+use Rattle.wire.specs.Answer.{bit}
 use Rattle.wire.specs.declared.Length.{Length}
 use Rattle.network_message.specs.Flags.{byte0Rule, extended1Rule, extended2Rule, flagsAt}
-use Rattle.network_message.specs.Publisher.{stringOf, lengthThen, stringAt, publisherAt}
-use Rattle.network_message.specs.Group.{numberRule, numberAt, groupFlagsRule, groupFieldsAt, groupAt}
-use Rattle.network_message.specs.Header.{classAt, countRule, idsAt, payloadHeaderAt, sizeRule, promotedAt}
-use Rattle.network_message.specs.Payload.{positive, listed, total, configuredSizes, payloadOf, restAt, listedAt, sizedAt, configuredAt, payloadAt}
+use Rattle.network_message.specs.Publisher.{lengthThen, stringAt, publisherAt}
+use Rattle.network_message.specs.Group.{numberRule, numberAt, groupFlagsRule, groupAt}
+use Rattle.network_message.specs.Header.{classAt, countRule, payloadHeaderAt, sizeRule, promotedAt}
+use Rattle.network_message.specs.Payload.{positive, listed, total, configuredSizes, restAt, listedAt, sizedAt, configuredAt, payloadAt}
 use Rattle.network_message.specs.Envelope.{messagesOf, identityAt, timesAt, headerAt, bodyAt, networkMessageAt}
 use Rattle.network_message.specs.declared.flags.Flags.{Flags}
 use Rattle.network_message.specs.declared.header.PayloadHeader.{PayloadHeader}
-use Rattle.network_message.specs.declared.payload.Payload.{Payload}
-use Rattle.network_message.specs.declared.payload.Sizes.{Sizes}
 use Rattle.chunk.specs.Payload as P
-use Rattle.chunk.specs.Datagram.{chunkOf, chunkAt}
+use Rattle.chunk.specs.Datagram.{chunkAt}
 use Rattle.acceptance.proofs.Refusals.Tells.{gives, refuses}
 use Rattle.acceptance.proofs.Refusals.{Rule, Tells, Lawful, at-item, number, n1, no-place8, no-place10, pure-lawful, here-lawful, run-lawful, item-lawful, guid-lawful, length-lawful, ruled-lawful, bind-lawful, after-lawful, then-tells, cond-tells, cond-lawful, when-lawful, cond-rule, kept, optional16-lawful, optional32-lawful, optional-i64-lawful, picoseconds-lawful}
 

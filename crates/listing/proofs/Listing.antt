@@ -5,11 +5,11 @@ use mathlib.Core.Path.{_≡_, refl, ap, sym, _∙_}
 use mathlib.Core.Bool.{Bool, true, false, cond}
 use mathlib.Core.List.{List, [], _∷_, _++_}
 use native.Mathlib.Omega.{arith}
-use borrow.Author.Tests.{leb-false, ltb-false}
+use borrow.Author.Tests.{leb-false}
 use lib.Dec.{leb, ltb, eqb}
 use lib.ListN.{length, take, drop, length-take, length-drop}
 use Rattle.wire.specs.Answer.{Answer, got, refused}
-use Rattle.wire.proofs.Reading.{got-value, got-next, not-got, invert}
+use Rattle.wire.proofs.Reading.{got-value, not-got, invert}
 use Rattle.network_message.specs.Payload.{Stepped, stepAt, messageAt}
 use Rattle.network_message.specs.Envelope.{NetworkMessage, networkMessageAt}
 use Rattle.network_message.specs.declared.payload.MessagePlace.{MessagePlace}
@@ -20,7 +20,7 @@ use Rattle.dataset_message.specs.Fields.{fieldAt, Stepped as FieldStepped, step
 use Rattle.dataset_message.specs.Message.{Message, messageAt as readAt}
 use Rattle.dataset_message.specs.declared.fields.Cursor.{Cursor}
 use Rattle.dataset_message.proofs.Agreement.{field-inside}
-use Rattle.listing.specs.Lines.{Writers, fieldsLeft, messagesLeft, typesAt, bytesAt, fieldLines, messageLines, setLines, linesFrom, stepLines, setStep, nextSet, nextMessage, messageStep, nextField, fieldStep, nextLine, startBy, startOf, answerLines, listingOf, lineAt}
+use Rattle.listing.specs.Lines.{Writers, fieldsLeft, messagesLeft, typesAt, bytesAt, fieldLines, messageLines, setLines, linesFrom, stepLines, nextSet, nextMessage, messageStep, nextField, fieldStep, nextLine, startBy, startOf, answerLines, listingOf, lineAt}
 use Rattle.listing.specs.declared.line.Line.{Line}
 use Rattle.listing.specs.declared.lines.Listed.{Listed}
 use Rattle.listing.specs.declared.lines.LineCursor.{LineCursor}

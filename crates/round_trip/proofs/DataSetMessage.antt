@@ -31,8 +31,9 @@ use Rattle.dataset_message_writer.specs.Message.{Given, writerNumber, Writes, h
 use Rattle.dataset_message_writer.proofs.Judging.{length-values}
 use Rattle.dataset_message_writer.proofs.Laying.{length-zeros}
 use Rattle.dataset_message_writer.proofs.Whole.{Accepted, accepted}
-use Rattle.round_trip.specs.DataSetMessage.{firstOf, endOf, messageOf, FieldBack, MessageBack}
-use Rattle.round_trip.proofs.DataSetMessageParts.{FitsHeader, FitsIndices, header-is, whole-alone, fields-is, nth-is, zeros-is}
+use Rattle.round_trip.specs.DataSetMessage.{firstOf, endOf, messageOf, FieldBack, MessageBack, FitsHeader}
+use Rattle.round_trip.proofs.DataSetMessageParts.{header-is, whole-alone, fields-is, nth-is, zeros-is}
+use Rattle.writing.specs.Fits.{Numbers}
 
 pub no : {A : Type 0} → false ≡ true → A
 no e = let z : _≡_ {A = ℕ} 0 1 = cc in absurd (omega arith)
@@ -163,7 +164,7 @@ key-fields Kind.Delta heartbeat k = no k
 key-fields Kind.Event heartbeat k = no k
 key-fields Kind.KeepAlive heartbeat k = no k
 
-module _ (types : List ℕ) (g : Given) (fits : FitsHeader (g .header)) (indices : FitsIndices (g .indices)) (ok : Accepted types g) where
+module _ (types : List ℕ) (g : Given) (fits : FitsHeader (g .header)) (indices : Numbers (g .indices)) (ok : Accepted types g) where
   body : Fielded types g
   body = fielded types g ok
 
@@ -266,7 +267,7 @@ module _ (types : List ℕ) (g : Given) (fits : FitsHeader (g .header)) (indices
 
 -- What the writer accepts reads back, under the same types, as what it was given: the header, the number of fields, each field's
 -- index and bytes, and the length of the padding.
-pub read-written : (types : List ℕ) (g : Given) → FitsHeader (g .header) → FitsIndices (g .indices) → refusalOf types g ≡ 0 → MessageBack types g
+pub read-written : (types : List ℕ) (g : Given) → FitsHeader (g .header) → Numbers (g .indices) → refusalOf types g ≡ 0 → MessageBack types g
 read-written types g fits indices h =
     let ok = accepted types g h in
     record {
@@ -277,7 +278,7 @@ read-written types g fits indices h =
     }
 
 -- The same of the writer itself: where it reports n bytes, these are the message that reads back.
-pub written-reads : (types : List ℕ) (g : Given) → FitsHeader (g .header) → FitsIndices (g .indices) → (entry exit : List ℕ) (n : ℕ) → Writes types g entry exit (Written.Is n)
+pub written-reads : (types : List ℕ) (g : Given) → FitsHeader (g .header) → Numbers (g .indices) → (entry exit : List ℕ) (n : ℕ) → Writes types g entry exit (Written.Is n)
     → (exit ≡ encode g ++ drop (length (encode g)) entry) × (n ≡ length (encode g)) × MessageBack types g
 written-reads types g fits indices entry exit n w = go (eqb (writerNumber types g (length entry)) 0) refl
   where

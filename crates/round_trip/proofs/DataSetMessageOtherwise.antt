@@ -3,7 +3,7 @@
 use mathlib.Core.Path.{_≡_, refl, ap, sym, _∙_, subst}
 use mathlib.Core.Bool.{Bool, true, false, not, _||_}
 use mathlib.Core.List.{List, [], _∷_, _++_, append-nil}
-use Prim.Native.Nat.{ℕ, suc, _+_, _-_, _%_, _≤_, _<_}
+use Prim.Native.Nat.{ℕ, suc, _+_, _%_, _≤_, _<_}
 use native.Mathlib.Nat.{add-zero, zero-add}
 use native.Mathlib.Omega.{arith}
 use borrow.Author.Tests.{leb-true, eq-eqb, le-leb, lt-leb}
@@ -30,8 +30,8 @@ use Rattle.dataset_message_writer.specs.Message.{Given, hasFields, isKey, isFie
 use Rattle.dataset_message_writer.proofs.Judging.{length-values}
 use Rattle.dataset_message_writer.proofs.Laying.{length-zeros}
 use Rattle.dataset_message_writer.proofs.Whole.{count-bytes}
-use Rattle.round_trip.specs.DataSetMessage.{firstOf, endOf, messageOf, bytesOf, MessageBack}
-use Rattle.round_trip.proofs.DataSetMessageParts.{FitsHeader, header-is, field-alone}
+use Rattle.round_trip.specs.DataSetMessage.{firstOf, endOf, messageOf, bytesOf, MessageBack, FitsHeader}
+use Rattle.round_trip.proofs.DataSetMessageParts.{header-is, field-alone}
 use Rattle.round_trip.proofs.DataSetMessage.{no, reached-all, delta-plain}
 
 whole-at : (s : List ℕ) → At s 0 s

@@ -11,12 +11,12 @@ use native.Mathlib.Omega.{arith}
 use borrow.Author.Tests.{eqb-true, eq-eqb}
 use lib.ListN.{length, getD, take, drop, length-append}
 use lib.Seq.{getD-append-seam, getD-drop, take-at, drop-at, drop-cons, drop-length}
-use Rattle.round_trip.specs.DataSetMessage.{walked, bytesOf, joined, lengthsOf, indicesOf}
+use Rattle.round_trip.specs.DataSetMessage.{walked, bytesOf, joined, lengthsOf, indicesOf, FitsHeader}
 use Rattle.dataset_message.proofs.Agreement.{field-inside}
 use Rattle.dataset_message.specs.declared.header.Versions.{Versions}
 use Rattle.dataset_message.specs.declared.header.Times.{Times}
 use Rattle.dataset_message.specs.declared.flags.Flags.{Flags}
-use Rattle.writing.proofs.Back.{Bytes, Back, empty, join, end-fits, part-at, item-back, ruled-back, map-back, optional16-back, optional32-back, optionalI64-back, ruled16-back}
+use Rattle.writing.proofs.Back.{Back, empty, join, end-fits, part-at, item-back, ruled-back, map-back, optional16-back, optional32-back, optionalI64-back, ruled16-back}
 use Rattle.wire.proofs.Reading.{invert, got-value, got-next, not-got}
 use Rattle.wire.specs.declared.optional.Optional16.{Optional16}
 use Rattle.wire.specs.Optional.{optional16, optional32, optionalI64, picosecondsAt, picosecondsRule}
@@ -25,7 +25,7 @@ use Rattle.wire.proofs.Places.{placed, alone}
 use Rattle.wire.proofs.Facts.{and-left, and-right}
 use Rattle.value.specs.declared.Measure.{Measure}
 use Rattle.writing.specs.Writing.{optional16Bytes, optional32Bytes, optionalI64Bytes, picosecondsRefusal, byteBytes, on16, on32, onI64}
-use Rattle.writing.proofs.Trip.{At, Reads, first, second, item-is, Fits16, Fits32, FitsI64, optional16-is, optional32-is, optionalI64-is, picoseconds-is}
+use Rattle.writing.proofs.Trip.{At, Reads, first, second, item-is, optional16-is, optional32-is, optionalI64-is, picoseconds-is}
 use Rattle.dataset_message.specs.declared.flags.Encoding.{Encoding}
 use Rattle.dataset_message.specs.declared.header.Header.{Header}
 use Rattle.dataset_message.specs.declared.fields.Field.{Field}
@@ -37,17 +37,11 @@ use Rattle.dataset_message_writer.specs.Header.{timesBytes, versionsBytes, head
 use Rattle.dataset_message_writer.specs.Fields.{endsAt, fieldsWhole, indexBytes, fieldsBytes, zeros, total, valuesOf, numberOf, fieldsRefusal}
 use Rattle.dataset_message_writer.proofs.Judging.{encoded-steady}
 use Rattle.round_trip.proofs.DataSetMessageFlags.{flagsFor, flags-is, FlagsBack, flags-back, flags-stand, kind-kept}
+use Rattle.writing.specs.Fits.{Bytes, Numbers}
 
 -- the header
 
 -- each number of the header fits its type, as a value of the code does
-pub record FitsHeader (h : Header) : Type 0 where
-  pub sequence : Fits16 (h .sequence)
-  pub timestamp : FitsI64 (h .timestamp)
-  pub picoseconds : Fits16 (h .picoseconds)
-  pub status : Fits16 (h .status)
-  pub major : Fits32 (h .major)
-  pub minor : Fits32 (h .minor)
 
 ends : {A : Type 0} {x : A} {m n : ℕ} → m ≡ n → got x m ≡ got x n
 ends {x = x} e = ap (got x) e
@@ -135,14 +129,11 @@ whole-alone (got m next) n h = (m, ap (got m) (eqb-true next n h))
 whole-alone (refused k place) n h = let z : _≡_ {A = ℕ} 0 1 = cc in absurd (omega arith)
 
 -- each of a delta's indices fits its type, as a value of the code does
-abbrev pub FitsIndices : List ℕ → Type 0
-FitsIndices indices = (k : ℕ) → getD indices k 0 < 65536
-
 -- the fields, from field k on
 
 module _ (delta : Bool) (encoding : Encoding) (types : List ℕ) where
   -- the first of them
-  head-is : (k : ℕ) (indices v : List ℕ) (vs : List (List ℕ)) → FitsIndices indices → fieldsWhole encoding types k (v ∷ vs) ≡ true
+  head-is : (k : ℕ) (indices v : List ℕ) (vs : List (List ℕ)) → Numbers indices → fieldsWhole encoding types k (v ∷ vs) ≡ true
       → (s : List ℕ) (m : ℕ) → At s m (fieldsBytes delta indices (v ∷ vs)) → FieldIs delta encoding types k (getD indices 0 0) v s m
   unfolding fieldsWhole fieldsBytes
   head-is k indices v vs f w s m a =
@@ -163,7 +154,7 @@ module _ (delta : Bool) (encoding : Encoding) (types : List ℕ) where
   unfolding fieldsWhole
   tail-whole k v vs w = and-right (endsAt (length v) (encodedAt encoding types k v 0)) (fieldsWhole encoding types (k + 1) vs) w
 
-  tail-fits : (indices : List ℕ) → FitsIndices indices → FitsIndices (drop 1 indices)
+  tail-fits : (indices : List ℕ) → Numbers indices → Numbers (drop 1 indices)
   tail-fits indices f k = rw (getD-drop 1 indices k 0) (f (1 + k))
 
   bytes-length : (m : ℕ) (indices v : List ℕ) (vs : List (List ℕ))
@@ -171,7 +162,7 @@ module _ (delta : Bool) (encoding : Encoding) (types : List ℕ) where
   unfolding fieldsBytes
   bytes-length m indices v vs = simp length-append (omega arith)
 
-  pub fields-is : (vs : List (List ℕ)) (k : ℕ) (indices : List ℕ) → FitsIndices indices → fieldsWhole encoding types k vs ≡ true
+  pub fields-is : (vs : List (List ℕ)) (k : ℕ) (indices : List ℕ) → Numbers indices → fieldsWhole encoding types k vs ≡ true
       → (s : List ℕ) (m : ℕ) → At s m (fieldsBytes delta indices vs) → fieldsAt delta encoding types (length vs) k s m ≡ got tt (m + length (fieldsBytes delta indices vs))
   unfolding fieldsAt fieldsBytes
   fields-is [] k indices f w s m a = ends (sym (add-zero m))
@@ -191,7 +182,7 @@ module _ (delta : Bool) (encoding : Encoding) (types : List ℕ) where
     pub index : place .index ≡ cond delta i (k + j)
     pub bytes : take (place .length) (drop (place .offset) s) ≡ v
 
-  pub nth-is : (j : ℕ) (vs : List (List ℕ)) (k : ℕ) (indices : List ℕ) → FitsIndices indices → fieldsWhole encoding types k vs ≡ true → j < length vs
+  pub nth-is : (j : ℕ) (vs : List (List ℕ)) (k : ℕ) (indices : List ℕ) → Numbers indices → fieldsWhole encoding types k vs ≡ true → j < length vs
       → (s : List ℕ) (m : ℕ) → At s m (fieldsBytes delta indices vs) → NthIs s m k j (getD indices j 0) (getD vs j [])
   unfolding fieldsAt
   nth-is j [] k indices f w l s m a = absurd (omega arith)

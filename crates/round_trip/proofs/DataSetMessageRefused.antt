@@ -31,10 +31,11 @@ use Rattle.dataset_message_writer.specs.Fields.{fieldsRefusal, reached, indexBy
 use Rattle.dataset_message_writer.specs.Message.{Given, hasFields, isFielded, isRawData, fieldsOf, countBytes, configuredRule, bodyRefusal, readingRefusal, encode}
 use Rattle.dataset_message_writer.proofs.Judging.{encoded-steady, length-values}
 use Rattle.dataset_message_writer.proofs.Laying.{length-zeros}
-use Rattle.round_trip.specs.DataSetMessage.{plainly, Tellable, countOf}
+use Rattle.round_trip.specs.DataSetMessage.{plainly, Tellable, countOf, FitsHeader}
 use Rattle.round_trip.proofs.DataSetMessageFlags.{flags1-bits, flags2-bits, encoding-rule, kind-rule-is, flagsFor, flags-is}
-use Rattle.round_trip.proofs.DataSetMessageParts.{FitsHeader, FitsIndices, header-is, field-is, index-is}
+use Rattle.round_trip.proofs.DataSetMessageParts.{header-is, field-is, index-is}
 use Rattle.round_trip.proofs.DataSetMessage.{no, counted-is, count-is, delta-plain}
+use Rattle.writing.specs.Fits.{Numbers}
 
 -- a kind that breaks a rule has a Flags2
 some-kind : (k : Kind) (e : Encoding) → eqb (kindRule k e) 0 ≡ false → 1 ≤ kindNumber k
@@ -116,7 +117,7 @@ RefusedBy x n = (place : ℕ) × (x ≡ refused n place)
 
 module _ (delta : Bool) (encoding : Encoding) (types : List ℕ) (bare : Bool) where
   -- among the first t fields one is refused
-  fields-refuse : (vs : List (List ℕ)) (t c k : ℕ) (indices : List ℕ) → t ≤ c → FitsIndices indices → plainly encoding types bare t k vs ≡ true
+  fields-refuse : (vs : List (List ℕ)) (t c k : ℕ) (indices : List ℕ) → t ≤ c → Numbers indices → plainly encoding types bare t k vs ≡ true
       → eqb (fieldsRefusal encoding types k (take t vs)) 0 ≡ false → (s : List ℕ) (m : ℕ) → At s m (fieldsBytes delta indices vs)
       → (bare ≡ true → length s ≡ m + length (fieldsBytes delta indices vs))
       → RefusedBy (fieldsAt delta encoding types c k s m) (fieldsRefusal encoding types k (take t vs))
@@ -201,7 +202,7 @@ some-configured true configured h r = go (eqb configured 0) refl h
     go false t q = t
 some-configured false configured h r = no r
 
-module _ (types : List ℕ) (g : Given) (fits : FitsHeader (g .header)) (indices : FitsIndices (g .indices)) (tells : Tellable types g) where
+module _ (types : List ℕ) (g : Given) (fits : FitsHeader (g .header)) (indices : Numbers (g .indices)) (tells : Tellable types g) where
   abbrev Refused : ℕ → Type 0
   Refused n = (place : ℕ) × (messageAt types (encode g) ≡ refused n place)
 
@@ -307,7 +308,7 @@ module _ (types : List ℕ) (g : Given) (fits : FitsHeader (g .header)) (indices
       go false e = let q : eqb 0 0 ≡ false = rw e at r in no (sym q)
 
 -- The number by which the writer refuses what reading would refuse is reading's number of what would have been written.
-pub refuse-written : (types : List ℕ) (g : Given) → FitsHeader (g .header) → FitsIndices (g .indices) → Tellable types g → eqb (readingRefusal types g) 0 ≡ false
+pub refuse-written : (types : List ℕ) (g : Given) → FitsHeader (g .header) → Numbers (g .indices) → Tellable types g → eqb (readingRefusal types g) 0 ≡ false
     → (place : ℕ) × (messageAt types (encode g) ≡ refused (readingRefusal types g) place)
 refuse-written types g fits indices tells h =
     or-case (Refused types g fits indices tells) (kindRule (g .header .kind) (g .header .encoding)) (orElse (picosecondsRefusal (g .header .picoseconds)) (bodyRefusal types g)) h

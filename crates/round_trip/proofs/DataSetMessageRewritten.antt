@@ -18,7 +18,7 @@ use Rattle.wire.specs.Answer.{got, Answer, andThen}
 use Rattle.wire.proofs.Reading.{invert, got-value, got-next, not-got}
 use Rattle.writing.specs.Writing.{writtenBy, bufferBy, numberFor}
 use Rattle.writing.specs.declared.Written.{Written}
-use Rattle.writing.proofs.Back.{Bytes, Back, empty, rest-is, end-fits, item-back}
+use Rattle.writing.proofs.Back.{Back, empty, rest-is, end-fits, item-back}
 use Rattle.dataset_message.specs.declared.flags.Kind.{Kind}
 use Rattle.dataset_message.specs.declared.header.Header.{Header}
 use Rattle.dataset_message.specs.Flags.{Valid, notValid, valid}
@@ -28,9 +28,10 @@ use Rattle.dataset_message.specs.Message.{Message, isDelta, isRaw, countedAt, c
 use Rattle.dataset_message_writer.specs.Header.{headerBytes}
 use Rattle.dataset_message_writer.specs.Fields.{total, valuesOf, fieldsBytes, zeros}
 use Rattle.dataset_message_writer.specs.Message.{Given, hasFields, isKey, isFielded, isRawData, fieldsOf, countBytes, configuredRule, countAgrees, bodyRefusal, bodyAgrees, listsAgree, refusalOf, encode, writerNumber, Writes}
-use Rattle.round_trip.specs.DataSetMessage.{fieldsIn, joined, lengthsOf, taken, andField, walked}
+use Rattle.round_trip.specs.DataSetMessage.{fieldsIn, joined, lengthsOf, taken, andField, walked, Rewritten}
 use Rattle.round_trip.proofs.DataSetMessageParts.{HeaderBack, header-back, indicesFor, FieldsTaken, fields-back, zeros-back}
 use Rattle.round_trip.proofs.DataSetMessage.{no, reached-all, delta-plain}
+use Rattle.writing.specs.Fits.{Bytes}
 
 -- FieldCount, or the configured number, as it was read
 
@@ -91,10 +92,6 @@ count-back Kind.Event raw types s at n next bytes l d h = with-fields Kind.Event
 count-back Kind.KeepAlive raw types s at n next bytes l d h = without-fields Kind.KeepAlive raw types s at n next l refl h (λ k. no k)
 
 -- A message that was read, part by part, is accepted and its bytes are written again.
-pub record Rewritten (types s : List ℕ) (m : Message) : Type 0 where
-  pub accepted : refusalOf types (taken types s m) ≡ 0
-  pub same : encode (taken types s m) ≡ s
-  pub parts : again s m ≡ s
 
 abbrev read : Header → ℕ → ℕ → ℕ → Message
 read h n first end = record { header = h; cursor = record { encoding = h .encoding; delta = isDelta (h .kind); next = 0; count = n; at = first }; end = end }

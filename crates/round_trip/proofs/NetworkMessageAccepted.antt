@@ -3,9 +3,9 @@
 use mathlib.Core.Path.{_≡_, refl, ap, ap₂, sym, subst, _∙_}
 use mathlib.Core.List.{List, [], _∷_, _++_, append-assoc}
 use mathlib.Core.Bool.{Bool, true, false, cond}
-use Prim.Native.Nat.{ℕ, zero, suc, _+_, _*_, _≤_, _<_}
+use Prim.Native.Nat.{ℕ, zero, suc, _+_, _*_, _≤_}
 use native.Mathlib.Omega.{arith}
-use lib.ListN.{length, getD, take, drop, length-append, length-drop, take-append-drop}
+use lib.ListN.{length, take, drop, length-append, length-drop, take-append-drop}
 use lib.Seq.{length-take-le, drop-drop}
 use lib.Dec.{leb}
 use borrow.Author.Tests.{eq-eqb, lt-leb}
@@ -26,7 +26,7 @@ use Rattle.network_message.specs.Payload.{configuredSizes, restAt, listedAt, pa
 use Rattle.network_message.specs.Envelope.{Header, NetworkMessage, identityAt, timesAt, messagesOf, headerAt, bodyAt, networkMessageAt}
 use Rattle.writing.specs.Writing.{orElse, on16, onI64, picosecondsRefusal}
 use Rattle.writing.proofs.Trip.{At, le-at}
-use Rattle.writing.proofs.Back.{Bytes, run-back, map-back}
+use Rattle.writing.proofs.Back.{run-back, map-back}
 use Rattle.network_message_writer.specs.Flags.{timesRefusal}
 use Rattle.network_message_writer.specs.Publisher.{unused, publisherRefusal, publisherShape}
 use Rattle.network_message_writer.specs.Group.{groupRefusal}
@@ -37,11 +37,9 @@ use Rattle.round_trip.specs.NetworkMessage.{rewritten, AsManyLengths, nu
 use Rattle.round_trip.proofs.NetworkMessageKept.{flags-kept, publisher-kept, group-kept, picoseconds-kept, promoted-kept, HeaderKept, payload-header-kept}
 use Rattle.round_trip.proofs.NetworkMessageRefused.{payload-number}
 use Rattle.round_trip.proofs.NetworkMessageRewritten.{identity-of, times-of, header-same, flags-of, rewrite-read}
+use Rattle.writing.specs.Fits.{Bytes, Numbers}
 
 -- each element is a number of 2 bytes, as the ids and sizes of a configuration are
-abbrev pub Numbers : List ℕ → Type 0
-Numbers xs = (k : ℕ) → getD xs k 0 < 65536
-
 numbers-take : (n : ℕ) (xs : List ℕ) → Numbers xs → Numbers (take n xs)
 numbers-take zero xs h k = omega arith
 numbers-take (suc n) [] h k = omega arith

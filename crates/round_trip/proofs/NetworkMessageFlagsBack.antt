@@ -17,8 +17,9 @@ use Rattle.network_message.specs.Flags.{byte0Rule, extended1Rule, extended2Rule
 use Rattle.writing.specs.Writing.{needed, byteBytes}
 use Rattle.writing.proofs.Refusals.{passed, held}
 use Rattle.writing.proofs.Bits.{num-bit}
-use Rattle.writing.proofs.Back.{Bytes, Back, empty, join, end-fits, item-back, ruled-back, map-back}
+use Rattle.writing.proofs.Back.{Back, empty, join, end-fits, item-back, ruled-back, map-back}
 use Rattle.network_message_writer.specs.Flags.{extended2Of, extended1Of, byte0Of, flagBytes}
+use Rattle.writing.specs.Fits.{Bytes}
 
 -- a byte is the sum of its bits
 byte-sum : (b : ℕ) → b < 256 → b % 16 + (16 * (b / 16 % 2) + (32 * (b / 32 % 2) + (64 * (b / 64 % 2) + 128 * (b / 128)))) ≡ b

@@ -22,23 +22,17 @@ use Rattle.network_message.specs.Publisher.{publisherAt}
 use Rattle.network_message.specs.Group.{numberRule, numberAt, groupFlagsRule, groupFieldsAt, groupAt}
 use Rattle.network_message.specs.Header.{classAt, countRule, payloadHeaderAt, sizeRule, promotedAt}
 use Rattle.writing.specs.Writing.{num, on16, on32, optional16Bytes, optional32Bytes}
-use Rattle.writing.proofs.Trip.{Reads, first, second, fits-at, last, nothing, rule-kept, run-is, le-at, item-is, ruled-is, guid-is, FitsGuid, Fits16, Fits32, optional16-is, optional32-is}
+use Rattle.writing.proofs.Trip.{Reads, first, second, fits-at, last, nothing, rule-kept, run-is, le-at, item-is, ruled-is, guid-is, optional16-is, optional32-is}
 use Rattle.writing.proofs.Refusals.{passed, held}
 use Rattle.writing.proofs.Bits.{num-bound, flag-is}
 use Rattle.network_message_writer.specs.Publisher.{publisherOn, kindOf, publisherBytes, publisherRefusal, publisherShape}
 use Rattle.network_message_writer.specs.Group.{groupOn, groupFlagsOf, fieldsBytes, groupBytes, numberRefusal, groupRefusal}
 use Rattle.network_message_writer.specs.Header.{classOn, classBytes, payloadHeaderOn, payloadHeaderBytes, promotedOn, promotedBytes, countRefusal, promotedRefusal, idsShape, promotedShape}
 use Rattle.network_message_writer.proofs.Short.{ids-counted}
+use Rattle.writing.specs.Fits.{Fits16}
+use Rattle.round_trip.specs.NetworkMessage.{FitsClass, FitsFields, FitsGroup, FitsPayloadHeader, FitsPublisher}
 
 -- each number fits its type, as a value of the code does
-
-abbrev pub FitsPublisher : PublisherId → Type 0
-FitsPublisher PublisherId.Absent = Unit
-FitsPublisher (PublisherId.Byte v) = v < 256
-FitsPublisher (PublisherId.UInt16 v) = v < 65536
-FitsPublisher (PublisherId.UInt32 v) = v < 4294967296
-FitsPublisher (PublisherId.UInt64 v) = v < 18446744073709551616
-FitsPublisher (PublisherId.Text n) = Unit
 
 text-is : (n : ℕ) (text : List ℕ) (m : ℕ) → n < 65 → n ≡ length text → Reads (publisherAt true 4) m (leBytes 4 (length text) ++ text) (PublisherId.Text n)
 text-is n text m k e s at =
@@ -64,9 +58,6 @@ publisher-is (PublisherId.Text n) text m f a b =
     text-is n text m (leb-false 65 n (passed (leb 65 n) 9 0 a .0)) (eqb-true n (length text) (held (eqb n (length text)) 5 b))
 
 -- DataSetClassId
-abbrev pub FitsClass : ClassId → Type 0
-FitsClass ClassId.Absent = Unit
-FitsClass (ClassId.Is g) = FitsGuid g
 
 pub class-is : (x : ClassId) (m : ℕ) → FitsClass x → Reads (classAt (classOn x)) m (classBytes x) x
 class-is ClassId.Absent m f = nothing ClassId.Absent m
@@ -82,13 +73,6 @@ group-bits : (a b c d : ℕ) → a ≤ 1 → b ≤ 1 → c ≤ 1 → d ≤ 1
     → ((a + (2 * b + (4 * c + 8 * d))) % 2 ≡ a) × ((a + (2 * b + (4 * c + 8 * d))) / 2 % 2 ≡ b) × ((a + (2 * b + (4 * c + 8 * d))) / 4 % 2 ≡ c)
     × ((a + (2 * b + (4 * c + 8 * d))) / 8 % 2 ≡ d) × (a + (2 * b + (4 * c + 8 * d)) < 16)
 group-bits a b c d ha hb hc hd = omega arith
-
-abbrev pub FitsFields : GroupFields → Type 0
-FitsFields g = Fits16 (g .«writer_group») × Fits32 (g .version) × Fits16 (g .number) × Fits16 (g .sequence)
-
-abbrev pub FitsGroup : GroupHeader → Type 0
-FitsGroup GroupHeader.Absent = Unit
-FitsGroup (GroupHeader.Is g) = FitsFields g
 
 -- by the flags' own bits
 pub bits : (g : GroupFields)
@@ -133,11 +117,6 @@ group-is (GroupHeader.Is g) m f h =
     rw (p, q) (ap (λ (j : ℕ). got (GroupHeader.Is g) j) z)
 
 -- the PayloadHeader
-
-abbrev pub FitsPayloadHeader : PayloadHeader → Type 0
-FitsPayloadHeader PayloadHeader.Absent = Unit
-FitsPayloadHeader (PayloadHeader.Ids n) = Unit
-FitsPayloadHeader (PayloadHeader.Chunk w) = w < 65536
 
 pub chunk-on : (chunk : Bool) (w : ℕ) (ids configured : List ℕ) → idsShape chunk (PayloadHeader.Chunk w) ids configured ≡ 0 → chunk ≡ true
 chunk-on true w ids configured h = refl

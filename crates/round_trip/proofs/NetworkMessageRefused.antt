@@ -26,7 +26,7 @@ use Rattle.network_message.specs.Header.{countRule, payloadHeaderAt, sizeRule, 
 use Rattle.network_message.specs.Payload.{total, positive, listed, configuredSizes, payloadOf, restAt, listedAt, sizedAt, configuredAt, payloadAt}
 use Rattle.network_message.specs.Envelope.{messagesOf, networkMessageAt}
 use Rattle.writing.specs.Writing.{orElse, num, needed, byteBytes, on16, on32, onI64, optional16Bytes, optional32Bytes, optionalI64Bytes, picosecondsRefusal}
-use Rattle.writing.proofs.Trip.{At, first, second, fits-at, le-at, item-is, rule-kept, Fits16, optional16-is, optional32-is, optionalI64-is, picoseconds-is}
+use Rattle.writing.proofs.Trip.{At, first, second, fits-at, le-at, item-is, rule-kept, optional16-is, optional32-is, optionalI64-is, picoseconds-is}
 use Rattle.writing.proofs.Refusals.{passed, held, or-case, no, Refuses, broken, number-broken, picoseconds-refuses}
 use Rattle.writing.proofs.Bits.{num-bound, needed-bound, flag-is}
 use Rattle.network_message_writer.specs.Flags.{extended2Of, extended1Of, byte0Of, flagBytes, flagsFor, timesRefusal}
@@ -36,11 +36,12 @@ use Rattle.network_message_writer.specs.Header.{classBytes, payloadHeaderOn, pa
 use Rattle.network_message_writer.specs.Payload.{listBytes, numberIn, listedRefusal, payloadRefusal}
 use Rattle.network_message_writer.specs.Envelope.{Given, headerBytes, datagramOf, readingRefusal}
 use Rattle.network_message_writer.proofs.Short.{ids-counted}
-use Rattle.round_trip.specs.NetworkMessage.{AsManyLengths}
+use Rattle.round_trip.specs.NetworkMessage.{AsManyLengths, FitsEnvelope, FitsGroup}
 use Rattle.round_trip.proofs.NetworkMessageFlags.{byte-bits, extended-bits, flags-are}
-use Rattle.round_trip.proofs.NetworkMessageParts.{FitsGroup, bits, publisher-is, class-is, group-is, payload-header-is, promoted-is}
+use Rattle.round_trip.proofs.NetworkMessageParts.{bits, publisher-is, class-is, group-is, payload-header-is, promoted-is}
 use Rattle.round_trip.proofs.NetworkMessagePayload.{listed-at-start}
-use Rattle.round_trip.proofs.NetworkMessageWritten.{FitsEnvelope, kind-below}
+use Rattle.round_trip.proofs.NetworkMessageWritten.{kind-below}
+use Rattle.writing.specs.Fits.{Fits16}
 
 -- two tests are equal where each follows from the other
 eqb-same : (a b c d : ℕ) → (a ≡ b → c ≡ d) → (c ≡ d → a ≡ b) → eqb a b ≡ eqb c d

@@ -2,38 +2,34 @@
 -- `network_message_writer::envelope` cite.
 -- Assumes nothing.
 use mathlib.Core.Path.{_≡_}
-use mathlib.Core.Bool.{true, false, cond}
+use mathlib.Core.Bool.{false, cond}
 use mathlib.Core.List.{List, _++_}
-use Prim.Native.Nat.{ℕ, suc, _+_, _*_, _≤_, _<_}
+use Prim.Native.Nat.{ℕ, _≤_}
 use native.Mathlib.Omega.{arith}
 use lib.Dec.{eqb, ltb}
-use lib.ListN.{length, take, drop, length-append}
+use lib.ListN.{length, length-append}
 use borrow.Author.Tests.{ltb-false}
-use Rattle.wire.specs.Number.{le, leBytes}
+use Rattle.wire.specs.Number.{leBytes}
 use Rattle.wire.specs.Answer.{got, refused}
-use Rattle.wire.specs.declared.optional.Optional16.{Optional16}
 use Rattle.network_message.specs.declared.publisher.PublisherId.{PublisherId}
 use Rattle.network_message.specs.declared.envelope.Envelope.{Envelope}
-use Rattle.network_message.specs.Header.{writerIdOf}
-use Rattle.network_message.specs.Payload.{total}
-use Rattle.network_message.specs.Envelope.{NetworkMessage, networkMessageAt, messagePlaceAt, messageBytes}
-use Rattle.network_message.proofs.Accepted.{OfMessages}
+use Rattle.network_message.specs.Envelope.{NetworkMessage, networkMessageAt}
 use Rattle.writing.proofs.Refusals.{passed, both-zero}
-use Rattle.writing.proofs.Back.{Bytes}
 use Rattle.writing.specs.Writing.{orElse}
 use Rattle.network_message_writer.specs.Flags.{flagBytes, flagsFor}
-use Rattle.network_message_writer.specs.Publisher.{publisherOn, publisherBytes, publisherShape}
+use Rattle.network_message_writer.specs.Publisher.{publisherBytes, publisherShape}
 use Rattle.network_message_writer.specs.Group.{groupBytes}
 use Rattle.network_message_writer.specs.Header.{classBytes, idsShape, promotedShape}
 use Rattle.network_message_writer.specs.Payload.{listBytes, lengthsShape}
 use Rattle.network_message_writer.proofs.Short.{unused-none}
-use Rattle.network_message_writer.specs.Envelope.{Given, tailBytes, datagramOf, readingRefusal, shapeRefusal, refusalOf, numberOf, textOf, promotedOf, rewriteAnswer, rewriteBuffer}
-use Rattle.round_trip.specs.NetworkMessage.{placesOf, writtenMessage, givenLengths, messageOf, placeOf, rewritten, AsManyLengths, givenOf}
-use Rattle.round_trip.proofs.NetworkMessageWritten.{FitsEnvelope, read-written, message-written}
+use Rattle.network_message_writer.specs.Envelope.{Given, tailBytes, datagramOf, readingRefusal, shapeRefusal, refusalOf, numberOf}
+use Rattle.round_trip.specs.NetworkMessage.{AsManyLengths, FitsEnvelope, ReadsBack, WritesAgain}
+use Rattle.round_trip.proofs.NetworkMessageWritten.{read-written, message-written}
 use Rattle.round_trip.proofs.NetworkMessageGiven.{text-written, promoted-written, writer-id-written}
 use Rattle.round_trip.proofs.NetworkMessageRewritten.{rewrite-accepted, same-with-publisher}
 use Rattle.round_trip.proofs.NetworkMessageRefused.{refuse-written}
-use Rattle.round_trip.proofs.NetworkMessageAccepted.{Numbers, write-read}
+use Rattle.round_trip.proofs.NetworkMessageAccepted.{write-read}
+use Rattle.writing.specs.Fits.{Bytes, Numbers}
 
 -- what the number 0 of writing says
 accepted : (g : Given) (x : Envelope) (sizes configured : List ℕ) (room : ℕ) → numberOf g x sizes configured room ≡ 0 → (refusalOf g x sizes configured ≡ 0) × (length (datagramOf g x) ≤ 65535)
@@ -42,21 +38,6 @@ accepted g x sizes configured room h =
     (a .0, ltb-false 65535 (length (datagramOf g x)) (passed (ltb 65535 (length (datagramOf g x))) 9 (cond (ltb room (length (datagramOf g x))) 11 0) (a .1) .0))
 
 -- Theorem 1. What the writer accepted reads back, under the same configuration, as what it was given.
-pub record ReadsBack (g : Given) (x : Envelope) (sizes configured : List ℕ) : Type 0 where
-  -- the envelope, where its parts end, and the payload
-  pub whole : networkMessageAt sizes (datagramOf g x) ≡ got (writtenMessage g x sizes) (writtenMessage g x sizes .payload .first)
-  -- a string PublisherId and the promoted fields, byte by byte
-  pub text : textOf (datagramOf g x) (x .publisher) (placesOf g x .«publisher_end») ≡ g .text
-  pub promoted : promotedOf (datagramOf g x) (x .promoted) (placesOf g x .payload) ≡ g .promoted
-  -- the DataSetWriterId of message k
-  pub writerId : (k : ℕ) → 2 * k < length (g .ids)
-      → writerIdOf (x .«payload_header») (placesOf g x .«payload_header_end») configured k (datagramOf g x) ≡ Optional16.Is (le 2 (g .ids) (2 * k))
-  -- message k: where it stands, and its bytes
-  pub message : OfMessages (x .«payload_header») → (k : ℕ) → k < length (givenLengths g (x .«payload_header») sizes)
-      → (messagePlaceAt sizes k (datagramOf g x)
-      ≡ got (placeOf (givenLengths g (x .«payload_header») sizes) (writtenMessage g x sizes .payload .first) k)
-      (writtenMessage g x sizes .payload .first + total (take (suc k) (givenLengths g (x .«payload_header») sizes))))
-      × (messageBytes (messagePlaceAt sizes k (datagramOf g x)) (datagramOf g x) ≡ messageOf (givenLengths g (x .«payload_header») sizes) (g .messages) k)
 
 pub reads-back : (g : Given) (x : Envelope) (sizes configured : List ℕ) (room : ℕ) → FitsEnvelope x → numberOf g x sizes configured room ≡ 0 → ReadsBack g x sizes configured
 reads-back g x sizes configured room f h =
@@ -71,13 +52,6 @@ reads-back g x sizes configured room f h =
 
 -- Theorem 2. An accepted datagram written again gives `rewritten s`: the same bytes but for the one case that document 01
 -- names. `rewrite` accepts it wherever the buffer is as long, and so does the writer its parts as they were read.
-pub record WritesAgain (s sizes configured out : List ℕ) (m : NetworkMessage) : Type 0 where
-  pub answer : rewriteAnswer s (networkMessageAt sizes s) (length out) ≡ got tt (length (rewritten s))
-  pub buffer : rewriteBuffer s (networkMessageAt sizes s) out ≡ rewritten s ++ drop (length (rewritten s)) out
-  -- with a PublisherId it is the datagram itself
-  pub unchanged : publisherOn (m .envelope .publisher) ≡ true → rewritten s ≡ s
-  pub unrefused : refusalOf (givenOf s (m .envelope) (m .places) sizes configured) (m .envelope) sizes configured ≡ 0
-  pub same : datagramOf (givenOf s (m .envelope) (m .places) sizes configured) (m .envelope) ≡ rewritten s
 
 pub writes-again : (s sizes configured out : List ℕ) (m : NetworkMessage) (next : ℕ) → Bytes s → Numbers sizes → Numbers configured → networkMessageAt sizes s ≡ got m next → length s ≤ length out
     → WritesAgain s sizes configured out m

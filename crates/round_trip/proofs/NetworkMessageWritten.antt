@@ -18,7 +18,7 @@ use Rattle.network_message.specs.Envelope.{NetworkMessage, messagesOf, networkM
 use Rattle.network_message.proofs.Messages.{tile, tiled}
 use Rattle.network_message.proofs.Accepted.{OfMessages}
 use Rattle.writing.specs.Writing.{optional16Bytes, optionalI64Bytes}
-use Rattle.writing.proofs.Trip.{At, first, second, Fits16, FitsI64, optionalI64-is, picoseconds-is}
+use Rattle.writing.proofs.Trip.{At, first, second, optionalI64-is, picoseconds-is}
 use Rattle.network_message_writer.specs.Flags.{flagsFor, flagBytes}
 use Rattle.network_message_writer.specs.Publisher.{kindOf, publisherBytes}
 use Rattle.network_message_writer.specs.Group.{groupBytes}
@@ -26,20 +26,11 @@ use Rattle.network_message_writer.specs.Header.{classBytes, payloadHeaderBytes,
 use Rattle.network_message_writer.specs.Payload.{listBytes}
 use Rattle.network_message_writer.specs.Envelope.{Given, headerBytes, datagramOf, refusalOf}
 use Rattle.network_message_writer.proofs.Short.{zeros}
-use Rattle.round_trip.specs.NetworkMessage.{placesOf, payloadFor, writtenMessage, givenLengths, messageOf, placeOf}
-use Rattle.round_trip.proofs.NetworkMessageParts.{FitsPublisher, FitsClass, FitsGroup, FitsPayloadHeader, publisher-is, class-is, group-is, payload-header-is, promoted-is}
+use Rattle.round_trip.specs.NetworkMessage.{placesOf, payloadFor, writtenMessage, givenLengths, messageOf, placeOf, FitsEnvelope}
+use Rattle.round_trip.proofs.NetworkMessageParts.{publisher-is, class-is, group-is, payload-header-is, promoted-is}
 use Rattle.round_trip.proofs.NetworkMessageFlags.{flags-are}
 use Rattle.round_trip.proofs.NetworkMessagePayload.{payload-is}
 use Rattle.round_trip.proofs.NetworkMessageMessages.{tiles, first-is}
-
--- each number fits its type, as a value of the code does
-pub record FitsEnvelope (x : Envelope) : Type 0 where
-  pub publisher : FitsPublisher (x .publisher)
-  pub classId : FitsClass (x .«class_id»)
-  pub group : FitsGroup (x .group)
-  pub payloadHeader : FitsPayloadHeader (x .«payload_header»)
-  pub timestamp : FitsI64 (x .timestamp)
-  pub picoseconds : Fits16 (x .picoseconds)
 
 pub kind-below : (p : PublisherId) → kindOf p < 5
 kind-below PublisherId.Absent = omega arith

@@ -14,7 +14,10 @@ use Rattle.dataset_message.specs.Fields.{fieldAt, encodedAt}
 use Rattle.dataset_message.specs.Message.{Message, isDelta, messageAt, fieldPlaceAt, fieldBytes}
 use Rattle.dataset_message_writer.specs.Header.{headerBytes}
 use Rattle.dataset_message_writer.specs.Fields.{fieldsBytes}
-use Rattle.dataset_message_writer.specs.Message.{Given, given, isKey, isFielded, isRawData, fieldsOf, countBytes, encode}
+use Rattle.dataset_message_writer.specs.Message.{Given, given, isKey, isFielded, isRawData, fieldsOf, countBytes, encode, refusalOf}
+use Rattle.dataset_message_writer.specs.Rewrite.{again}
+use Rattle.dataset_message.specs.declared.header.Header.{Header}
+use Rattle.writing.specs.Fits.{Fits16, Fits32, FitsI64}
 
 -- where the first field of a written message starts, and where its last field ends
 
@@ -110,3 +113,18 @@ pub record Tellable (types : List ℕ) (g : Given) : Type 0 where
   pub follows : isRawData g ≡ true → 0 < length (fieldsBytes (isDelta (g .header .kind)) (g .indices) (fieldsOf g)) + g .padding
   pub counted : isRawData g ≡ false → length (g .lengths) ≤ 65535
   pub plain : plainly (g .header .encoding) types (eqb (g .padding) 0) (countOf (isRawData g) (length types) (length (g .lengths))) 0 (fieldsOf g) ≡ true
+
+-- each number of a header fits its type, as a value of the code does
+pub record FitsHeader (h : Header) : Type 0 where
+  pub sequence : Fits16 (h .sequence)
+  pub timestamp : FitsI64 (h .timestamp)
+  pub picoseconds : Fits16 (h .picoseconds)
+  pub status : Fits16 (h .status)
+  pub major : Fits32 (h .major)
+  pub minor : Fits32 (h .minor)
+
+-- an accepted message s, its parts taken as read: the writer accepts them, and they are s again
+pub record Rewritten (types s : List ℕ) (m : Message) : Type 0 where
+  pub accepted : refusalOf types (taken types s m) ≡ 0
+  pub same : encode (taken types s m) ≡ s
+  pub parts : again s m ≡ s

@@ -1,13 +1,18 @@
 -- What the round trips of NetworkMessages say.
-use Prim.Native.Nat.{ℕ, _+_, _*_}
+use Prim.Native.Nat.{ℕ, suc, _+_, _*_, _<_}
 use mathlib.Core.Path.{_≡_}
-use mathlib.Core.Bool.{false, cond}
+use mathlib.Core.Bool.{true, false, cond}
 use mathlib.Core.List.{List, [], _∷_, _++_}
 use lib.Dec.{leb}
 use lib.ListN.{length, take, drop, getD}
-use Rattle.wire.specs.Number.{leBytes}
+use Rattle.wire.specs.Number.{le, leBytes}
+use Rattle.wire.specs.declared.optional.Optional16.{Optional16}
 use Rattle.wire.specs.Answer.{Answer, got, refused}
 use Rattle.network_message.specs.declared.flags.Flags.{Flags}
+use Rattle.network_message.specs.declared.publisher.PublisherId.{PublisherId}
+use Rattle.network_message.specs.declared.group.GroupFields.{GroupFields}
+use Rattle.network_message.specs.declared.group.GroupHeader.{GroupHeader}
+use Rattle.network_message.specs.declared.header.ClassId.{ClassId}
 use Rattle.network_message.specs.declared.header.PayloadHeader.{PayloadHeader}
 use Rattle.network_message.specs.declared.payload.Sizes.{Sizes}
 use Rattle.network_message.specs.declared.payload.Payload.{Payload}
@@ -16,12 +21,15 @@ use Rattle.network_message.specs.declared.envelope.Envelope.{Envelope}
 use Rattle.network_message.specs.declared.envelope.Places.{Places}
 use Rattle.network_message.specs.Payload.{total, positive, listed, configuredSizes, payloadOf}
 use Rattle.network_message.specs.Flags.{flagsAt}
-use Rattle.network_message.specs.Envelope.{NetworkMessage}
+use Rattle.network_message.specs.Header.{writerIdOf}
+use Rattle.network_message.specs.Envelope.{NetworkMessage, networkMessageAt, messagePlaceAt, messageBytes}
+use Rattle.network_message.proofs.Accepted.{OfMessages}
 use Rattle.network_message_writer.specs.Flags.{flagBytes, flagsFor}
-use Rattle.network_message_writer.specs.Publisher.{publisherBytes}
+use Rattle.network_message_writer.specs.Publisher.{publisherOn, publisherBytes}
 use Rattle.network_message_writer.specs.Group.{groupBytes}
 use Rattle.network_message_writer.specs.Header.{classBytes, payloadHeaderBytes}
-use Rattle.network_message_writer.specs.Envelope.{Given, headerBytes, before, textOf, promotedOf}
+use Rattle.network_message_writer.specs.Envelope.{Given, headerBytes, datagramOf, refusalOf, before, textOf, promotedOf, rewriteAnswer, rewriteBuffer}
+use Rattle.writing.specs.Fits.{Fits16, Fits32, FitsGuid, FitsI64}
 
 -- where the variable parts of a written envelope end
 abbrev pub placesOf : Given → Envelope → Places
@@ -121,3 +129,64 @@ givenOf s x p sizes configured =
       lengths = lengthsGiven s (x .«payload_header») (p .payload) sizes;
       messages = messagesGiven s (x .«payload_header») (p .payload);
     }
+
+-- each number of an envelope fits its type, as a value of the code does
+
+abbrev pub FitsPublisher : PublisherId → Type 0
+FitsPublisher PublisherId.Absent = Unit
+FitsPublisher (PublisherId.Byte v) = v < 256
+FitsPublisher (PublisherId.UInt16 v) = v < 65536
+FitsPublisher (PublisherId.UInt32 v) = v < 4294967296
+FitsPublisher (PublisherId.UInt64 v) = v < 18446744073709551616
+FitsPublisher (PublisherId.Text n) = Unit
+
+abbrev pub FitsClass : ClassId → Type 0
+FitsClass ClassId.Absent = Unit
+FitsClass (ClassId.Is g) = FitsGuid g
+
+abbrev pub FitsFields : GroupFields → Type 0
+FitsFields g = Fits16 (g .«writer_group») × Fits32 (g .version) × Fits16 (g .number) × Fits16 (g .sequence)
+
+abbrev pub FitsGroup : GroupHeader → Type 0
+FitsGroup GroupHeader.Absent = Unit
+FitsGroup (GroupHeader.Is g) = FitsFields g
+
+abbrev pub FitsPayloadHeader : PayloadHeader → Type 0
+FitsPayloadHeader PayloadHeader.Absent = Unit
+FitsPayloadHeader (PayloadHeader.Ids n) = Unit
+FitsPayloadHeader (PayloadHeader.Chunk w) = w < 65536
+
+pub record FitsEnvelope (x : Envelope) : Type 0 where
+  pub publisher : FitsPublisher (x .publisher)
+  pub classId : FitsClass (x .«class_id»)
+  pub group : FitsGroup (x .group)
+  pub payloadHeader : FitsPayloadHeader (x .«payload_header»)
+  pub timestamp : FitsI64 (x .timestamp)
+  pub picoseconds : Fits16 (x .picoseconds)
+
+-- What the writer accepted reads back, under the same configuration, as what it was given.
+pub record ReadsBack (g : Given) (x : Envelope) (sizes configured : List ℕ) : Type 0 where
+  -- the envelope, where its parts end, and the payload
+  pub whole : networkMessageAt sizes (datagramOf g x) ≡ got (writtenMessage g x sizes) (writtenMessage g x sizes .payload .first)
+  -- a string PublisherId and the promoted fields, byte by byte
+  pub text : textOf (datagramOf g x) (x .publisher) (placesOf g x .«publisher_end») ≡ g .text
+  pub promoted : promotedOf (datagramOf g x) (x .promoted) (placesOf g x .payload) ≡ g .promoted
+  -- the DataSetWriterId of message k
+  pub writerId : (k : ℕ) → 2 * k < length (g .ids)
+      → writerIdOf (x .«payload_header») (placesOf g x .«payload_header_end») configured k (datagramOf g x) ≡ Optional16.Is (le 2 (g .ids) (2 * k))
+  -- message k: where it stands, and its bytes
+  pub message : OfMessages (x .«payload_header») → (k : ℕ) → k < length (givenLengths g (x .«payload_header») sizes)
+      → (messagePlaceAt sizes k (datagramOf g x)
+      ≡ got (placeOf (givenLengths g (x .«payload_header») sizes) (writtenMessage g x sizes .payload .first) k)
+      (writtenMessage g x sizes .payload .first + total (take (suc k) (givenLengths g (x .«payload_header») sizes))))
+      × (messageBytes (messagePlaceAt sizes k (datagramOf g x)) (datagramOf g x) ≡ messageOf (givenLengths g (x .«payload_header») sizes) (g .messages) k)
+
+-- An accepted datagram s, written again: `rewrite` accepts it in the buffer out and leaves `rewritten s` there, and so does the writer its parts as they
+-- were read.
+pub record WritesAgain (s sizes configured out : List ℕ) (m : NetworkMessage) : Type 0 where
+  pub answer : rewriteAnswer s (networkMessageAt sizes s) (length out) ≡ got tt (length (rewritten s))
+  pub buffer : rewriteBuffer s (networkMessageAt sizes s) out ≡ rewritten s ++ drop (length (rewritten s)) out
+  -- with a PublisherId it is the datagram itself
+  pub unchanged : publisherOn (m .envelope .publisher) ≡ true → rewritten s ≡ s
+  pub unrefused : refusalOf (givenOf s (m .envelope) (m .places) sizes configured) (m .envelope) sizes configured ≡ 0
+  pub same : datagramOf (givenOf s (m .envelope) (m .places) sizes configured) (m .envelope) ≡ rewritten s

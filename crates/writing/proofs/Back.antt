@@ -23,10 +23,7 @@ use Rattle.wire.proofs.Reading.{got-value, got-next, not-got, invert, signed-is
 use Rattle.wire.proofs.Numbers.{unsigned-signed}
 use Rattle.writing.specs.Writing.{on16, on32, onI64, optional16Bytes, optional32Bytes, optionalI64Bytes}
 use Rattle.writing.proofs.Trip.{At, fits-at}
-
--- each element is a byte
-abbrev pub Bytes : List ℕ → Type 0
-Bytes s = (i : ℕ) → getD s i 0 < 256
+use Rattle.writing.specs.Fits.{Bytes}
 
 -- the bytes b stand at position at of s, and end at next
 abbrev pub Back : List ℕ → ℕ → List ℕ → ℕ → Type 0

@@ -12,7 +12,8 @@ use Rattle.wire.specs.Answer.{refused, Reader, item, ruled}
 use Rattle.wire.specs.Optional.{picosecondsRule, picosecondsAt}
 use Rattle.wire.specs.declared.optional.Optional16.{Optional16}
 use Rattle.writing.specs.Writing.{orElse, on16, optional16Bytes, picosecondsRefusal}
-use Rattle.writing.proofs.Trip.{At, Reads, Fits16, item-is}
+use Rattle.writing.proofs.Trip.{At, Reads, item-is}
+use Rattle.writing.specs.Fits.{Fits16}
 
 -- a refusal on true, and a rest on false
 pub passed : (b : Bool) (k r : ℕ) → cond b (suc k) r ≡ 0 → (b ≡ false) × (r ≡ 0)

@@ -19,6 +19,7 @@ use Rattle.wire.specs.declared.optional.Optional32.{Optional32}
 use Rattle.wire.specs.declared.optional.OptionalI64.{OptionalI64}
 use Rattle.wire.proofs.Numbers.{length-leBytes, InRange, signed-unsigned}
 use Rattle.writing.specs.Writing.{on16, on32, onI64, picosecondsRefusal, optional16Bytes, optional32Bytes, optionalI64Bytes}
+use Rattle.writing.specs.Fits.{Fits16, Fits32, FitsGuid, FitsI64}
 
 -- the bytes b stand at position m of s
 abbrev pub At : List ℕ → ℕ → List ℕ → Type 0
@@ -96,9 +97,6 @@ signed-item-is z m h s a =
     rw (le-leb (m + 8) (length s) (fits-number 8 (unsigned 8 z) m s a), le-at 8 (unsigned 8 z) m (unsigned-fits z h) s a, signed-unsigned 8 z (omega arith) h)
 
 -- an item of 16 bytes
-abbrev pub FitsGuid : Guid → Type 0
-FitsGuid g = (g .low < 256 ^ 8) × (g .high < 256 ^ 8)
-
 pub guid-is : (g : Guid) (m : ℕ) → FitsGuid g → Reads guid m (guidBytes g) g
 guid-is g m f s a =
     let x = leBytes 8 (g .low) in
@@ -108,18 +106,6 @@ guid-is g m f s a =
     rw (le-leb (m + 16) (length s) k, le-at 8 (g .low) m (f .0) s (first s m x y a), le-at 8 (g .high) (m + 8) (f .1) s (second s m x y a))
 
 -- items that a flag announces; each number fits its type, as a value of the code does
-
-abbrev pub Fits16 : Optional16 → Type 0
-Fits16 Optional16.Absent = Unit
-Fits16 (Optional16.Is v) = v < 65536
-
-abbrev pub Fits32 : Optional32 → Type 0
-Fits32 Optional32.Absent = Unit
-Fits32 (Optional32.Is v) = v < 4294967296
-
-abbrev pub FitsI64 : OptionalI64 → Type 0
-FitsI64 OptionalI64.Absent = Unit
-FitsI64 (OptionalI64.Is z) = InRange 8 z
 
 pub optional16-is : (x : Optional16) (m : ℕ) → Fits16 x → Reads (optional16 (on16 x)) m (optional16Bytes x) x
 optional16-is Optional16.Absent m f = nothing Optional16.Absent m

@@ -1,69 +1,17 @@
+-- `listing::line::encoding_word` meets its contract.
+-- Assumes nothing.
 use borrow.Author.Needs.{needs}
 use Rattle.listing.proofs.line.encoding_word.Statement.{statement}
 use Rattle.listing.proofs.line.encoding_word.Tie as tie
-use Rattle.listing.proofs.line.encoding_word.Reads as reads
-use Rattle.listing.proofs.line.encoding_word.Lts as lts
-use Rattle.listing.proofs.columns.word.Reads as word-reads
 
--- src/line.rt:157:35
-enum-told : tie.Need-enum-told
-enum-told c = search needs
-
--- src/line.rt:157:44
-slice-aggregate-word : tie.Need-slice-aggregate-word
-slice-aggregate-word c = search needs
-
--- src/line.rt:157:30
-word-requires : tie.Need-word-requires
-word-requires c κs = search needs
-
--- src/line.rt:158:35
-enum-told-2 : tie.Need-enum-told-2
-enum-told-2 c = search needs
-
--- src/line.rt:158:44
-slice-aggregate-word-2 : tie.Need-slice-aggregate-word-2
-slice-aggregate-word-2 c = search needs
-
--- src/line.rt:158:30
-word-requires-2 : tie.Need-word-requires-2
-word-requires-2 c κs = search needs
-
--- src/line.rt:159:37
-enum-told-3 : tie.Need-enum-told-3
-enum-told-3 c = search needs
-
--- src/line.rt:159:46
-slice-aggregate-word-3 : tie.Need-slice-aggregate-word-3
-slice-aggregate-word-3 c = search needs
-
--- src/line.rt:159:32
-word-requires-3 : tie.Need-word-requires-3
-word-requires-3 c κs = search needs
-
--- src/line.rt:152:1
-same-length : tie.Need-same-length
-same-length c = search needs
-
--- src/line.rt:152:1
 returns : tie.Need-returns
 returns c =
     rw (c .before .before .before .before .before .enum-told .given .1) (c .before .before .word .ensures)
 
--- src/line.rt:152:1
-same-length-2 : tie.Need-same-length-2
-same-length-2 c = search needs
-
--- src/line.rt:152:1
 returns-2 : tie.Need-returns-2
 returns-2 c =
     rw (c .before .before .before .before .before .enum-told2 .given .1) (c .before .before .word2 .ensures)
 
--- src/line.rt:152:1
-same-length-3 : tie.Need-same-length-3
-same-length-3 c = search needs
-
--- src/line.rt:152:1
 returns-3 : tie.Need-returns-3
 returns-3 c =
     rw (c .before .before .before .before .before .enum-told3 .given .1) (c .before .before .word3 .ensures)
@@ -72,18 +20,18 @@ pub encoding-word-spec : {M : Type 1} → statement M
 encoding-word-spec =
     tie.close
     (tie.spec
-    enum-told
-    slice-aggregate-word
-    word-requires
-    enum-told-2
-    slice-aggregate-word-2
-    word-requires-2
-    enum-told-3
-    slice-aggregate-word-3
-    word-requires-3
-    same-length
+    (λ c. search needs)
+    (λ c. search needs)
+    (λ c κs. search needs)
+    (λ c. search needs)
+    (λ c. search needs)
+    (λ c κs. search needs)
+    (λ c. search needs)
+    (λ c. search needs)
+    (λ c κs. search needs)
+    (λ c. search needs)
     returns
-    same-length-2
+    (λ c. search needs)
     returns-2
-    same-length-3
+    (λ c. search needs)
     returns-3)
