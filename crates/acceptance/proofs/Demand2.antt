@@ -4,32 +4,77 @@
 -- sentences (docs/TRACE.md leads to them). Here: the round trips. Premises such as `FitsEnvelope` and `Bytes` say that a number fits its type, as
 -- every value of the code does.
 -- Assumes nothing.
-use Prim.Native.Nat.{ℕ, _≤_, _<_}
+use Prim.Native.Nat.{ℕ, suc, _+_, _≤_, _<_}
 use mathlib.Core.Path.{_≡_, _∙_}
 use mathlib.Core.Bool.{false, cond}
 use mathlib.Core.List.{List, _++_}
 use lib.Dec.{eqb}
-use lib.ListN.{length, drop}
+use native.Mathlib.Omega.{arith}
+use lib.ListN.{length, getD, take, drop}
 use Rattle.wire.specs.Answer.{got, refused}
 use Rattle.network_message.specs.Flags.{flagsAt}
 use Rattle.network_message.specs.Envelope.{NetworkMessage, networkMessageAt, messagePlaceAt, messageBytes}
 use Rattle.network_message.specs.declared.envelope.Envelope.{Envelope}
 use Rattle.network_message.specs.declared.flags.Flags.{Flags}
+use Rattle.network_message.specs.Payload.{total}
 use Rattle.network_message.proofs.Accepted.{OfMessages}
+use Rattle.network_message.proofs.Messages.{tile, tiled}
 use Rattle.network_message_writer.specs.Envelope as N
 use Rattle.dataset_message.specs.Flags.{valid}
-use Rattle.dataset_message.specs.Message.{Message, messageAt}
+use Rattle.dataset_message.specs.Fields.{stepAt, walkAt, before}
+use Rattle.dataset_message.specs.Message.{Message, messageAt, nthAt}
+use Rattle.dataset_message.specs.declared.fields.Field.{Field}
+use Rattle.dataset_message.proofs.Agreement.{message-agrees}
 use Rattle.dataset_message_writer.specs.Message as M
 use Rattle.dataset_message_writer.specs.Rewrite.{Rewrites}
 use Rattle.writing.specs.declared.Written.{Written}
 use Rattle.round_trip.specs.NetworkMessage.{AsManyLengths, givenLengths, messageOf, rewritten, FitsEnvelope, ReadsBack, WritesAgain}
-use Rattle.round_trip.specs.DataSetMessage.{MessageBack, Tellable, FitsHeader, Rewritten}
+use Rattle.round_trip.specs.DataSetMessage.{MessageBack, Tellable, FitsHeader}
 use Rattle.round_trip.proofs.NetworkMessageRoundTrip.{reads-back, writes-again, refuses-alike}
 use Rattle.round_trip.proofs.NetworkMessageRewritten as NetworkMessage
 use Rattle.round_trip.proofs.DataSetMessage as DataSetMessage
 use Rattle.round_trip.proofs.DataSetMessageRewritten as Rewritten
 use Rattle.round_trip.proofs.DataSetMessageRefused as Refused
 use Rattle.writing.specs.Fits.{Bytes, Numbers}
+use Rattle.listing.specs.Lines.{Writers, linesFrom, stepLines, nextLine, startOf, listingOf}
+use Rattle.listing.specs.declared.lines.LineCursor.{LineCursor}
+use Rattle.listing.proofs.Listing.{start-lists, step-lists}
+use Rattle.acceptance.proofs.Tiling.{accepted-tiled}
+
+-- ---- 0. What is found. The messages of an accepted datagram tile its payload: each starts where the one before it ends, the first at the payload's
+-- first message byte, each has at least a byte, and the last ends where the datagram ends. zs are their lengths.
+pub messages-tile : (sizes s : List ℕ) (m : NetworkMessage) (n : ℕ) → networkMessageAt sizes s ≡ got m n → OfMessages (m .envelope .«payload_header»)
+    → (zs : List ℕ)
+    × (length zs ≡ m .payload .count)
+    × (m .payload .first + total zs ≡ length s)
+    × ((k : ℕ) → k < length zs
+    → (0 < getD zs k 0)
+    × (messagePlaceAt sizes k s
+    ≡ got (record { index = k; offset = m .payload .first + total (take k zs); length = getD zs k 0 }) (m .payload .first + total (take (suc k) zs))))
+messages-tile sizes s m n e o =
+    let (zs, t) = accepted-tiled sizes s m n e o in
+    (zs, t .many, t .whole, λ k h. (t .some k h, rw (e, tiled t k (omega arith)) (tile t k h)))
+
+-- The fields of an accepted DataSetMessage: the cursor's walk and the lookup of field k find the same field, which lies within the message and is
+-- never empty; c is the cursor that reading hands back, `before c k at` the one that stands before field k.
+pub fields-agree : (types s : List ℕ) (m : Message) (e : ℕ) → messageAt types s ≡ got (valid m) e → (k : ℕ) → k < m .cursor .count
+    → (at end : ℕ) × (f : Field)
+    × (stepAt (before (m .cursor) k at) types s ≡ got (record { field = f; cursor = before (m .cursor) (k + 1) end }) end)
+    × (walkAt (m .cursor) types k s ≡ got (before (m .cursor) k at) at)
+    × (nthAt (m .cursor) types k s ≡ got f end)
+    × (0 < f .length)
+    × (end ≤ length s)
+fields-agree types s m e h k l =
+    let a = message-agrees types s m e h k l in
+    (a .at, a .end, a .place, a .stepped, a .walked, a .looked-up, a .inside .some, a .inside .ends)
+
+-- The lines of a listing: the cursor that a listing starts with has all of its lines before it, and each step hands out the first of those that are
+-- left, with the cursor before the others.
+pub listing-starts : (w : Writers) (d : List ℕ) (number place : ℕ) → linesFrom w d (startOf number place (w .sizes) d) ≡ listingOf number place w d
+listing-starts = start-lists
+
+pub listing-steps : (w : Writers) (d : List ℕ) (c : LineCursor) → stepLines w d (nextLine w d c) ≡ linesFrom w d c
+listing-steps = step-lists
 
 -- ---- 1. What was written reads back as what was given, under the same configuration.
 
