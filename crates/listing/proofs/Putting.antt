@@ -54,16 +54,16 @@ id-fits {id} {n} p l e t q =
 
 -- the ways out of putting a line: a string id above 64 bytes, a buffer that is too short, and the line put
 module _ (l d : List ℕ) (x : Line) where
-  pub long : tooLong x ≡ true → (LinePut.Refused 10 ≡ linePut l d x) × (l ≡ lineAfter l d x)
+  pub long : tooLong x ≡ true → (LinePut.Refused 10 ≡ linePut l d x) × (l ≡ lineAfter l d x) × (0 ≤ 256)
   unfolding lineRefusal
-  long e = (rw e, rw e)
+  long e = (rw e, rw e, omega arith)
 
-  pub narrow : tooLong x ≡ false → length l < 256 → (LinePut.Refused 11 ≡ linePut l d x) × (l ≡ lineAfter l d x)
+  pub narrow : tooLong x ≡ false → length l < 256 → (LinePut.Refused 11 ≡ linePut l d x) × (l ≡ lineAfter l d x) × (0 ≤ 256)
   unfolding lineRefusal
-  narrow e h = (rw (e, lt-ltb (length l) 256 h), rw (e, lt-ltb (length l) 256 h))
+  narrow e h = (rw (e, lt-ltb (length l) 256 h), rw (e, lt-ltb (length l) 256 h), omega arith)
 
-  pub done : (e : List ℕ) (r : ℕ) → tooLong x ≡ false → 256 ≤ length l → Put 256 (lineText d x) l 0 e r → (LinePut.Is r ≡ linePut l d x) × (e ≡ lineAfter l d x)
+  pub done : (e : List ℕ) (r : ℕ) → tooLong x ≡ false → 256 ≤ length l → Put 256 (lineText d x) l 0 e r → (LinePut.Is r ≡ linePut l d x) × (e ≡ lineAfter l d x) × (r ≤ 256)
   unfolding lineRefusal
   done e r t h p =
       let q : r ≡ length (lineText d x) = omega (arith, p .after) in
-      (rw (t, le-ltb (length l) 256 h) (ap LinePut.Is q), rw (t, le-ltb (length l) 256 h) (p .stored))
+      (rw (t, le-ltb (length l) 256 h) (ap LinePut.Is q), rw (t, le-ltb (length l) 256 h) (p .stored), omega (arith, p .near))

@@ -109,7 +109,7 @@ tooLong (Line.SetBad p n place) = false
 tooLong (Line.Field m f) = false
 tooLong (Line.Bad n place) = false
 
--- a line has at most 179 bytes: a buffer of 256 holds any; a shorter one is 11, and such an id is 10
+-- a buffer of 256 bytes holds any line; a shorter one is 11, and such an id is 10
 unfoldable pub lineRefusal : List ℕ → Line → ℕ
 lineRefusal l x = cond (tooLong x) 10 (cond (ltb (length l) 256) 11 0)
 
@@ -125,3 +125,8 @@ linePut l d x = putBy (lineRefusal l x) (lineText d x)
 
 abbrev pub lineAfter : List ℕ → List ℕ → Line → List ℕ
 lineAfter l d x = bufferBy (lineRefusal l x) l (lineText d x)
+
+-- how many bytes a line put there takes
+abbrev pub putLength : LinePut → ℕ
+putLength (LinePut.Is n) = n
+putLength (LinePut.Refused number) = 0

@@ -20,7 +20,7 @@ ghost use mathlib.Core.List.{_++_};
 ghost use Rattle.text.specs.Decimal.{decimalText};
 ghost use Rattle.listing.specs.Columns.{tabbed, newline, optionalText, Put};
 ghost use Rattle.listing.specs.Line.{badWord, invalidWord, kindWord, encodingWord};
-ghost use Rattle.listing.specs.Line.{idTooLong, tooLong, idText, netText, placeText, headText, refusalText, valueText, fieldText, lineText, linePut, lineAfter};
+ghost use Rattle.listing.specs.Line.{idTooLong, tooLong, idText, netText, placeText, headText, refusalText, valueText, fieldText, lineText, linePut, lineAfter, putLength};
 
 // What a `set` line begins with: which message, its DataSetWriterId, and where it stands in the datagram.
 pub struct SetPlace {
@@ -236,9 +236,9 @@ fn put(out: &mut [u8], s: &[u8], line: Line) -> usize
     }
 }
 
-// Puts a line of a datagram's listing at the start of the buffer, which has to have 256 bytes.
+// Puts a line of a datagram's listing at the start of the buffer, which has to have 256 bytes; no line is longer.
 pub fn put_line(out: &mut [u8], s: &[u8], line: Line) -> LinePut
-    ensures { λ r. ⌜ (r ≡ linePut (now (out .entry)) (now (s .entry)) line) × (now (out .exit) ≡ lineAfter (now (out .entry)) (now (s .entry)) line) ⌝ }
+    ensures { λ r. ⌜ (r ≡ linePut (now (out .entry)) (now (s .entry)) line) × (now (out .exit) ≡ lineAfter (now (out .entry)) (now (s .entry)) line) × (putLength r ≤ 256) ⌝ }
 {
     if too_long(line) {
         return LinePut::Refused(10);
