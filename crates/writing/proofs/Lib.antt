@@ -1,0 +1,5 @@
+pub mod Putting
+pub mod Trip
+pub mod Back
+pub mod Refusals
+pub mod Bits
