@@ -1,0 +1,2 @@
+// Records that cross to other languages as lent bytes (include/uadp.h): numbers of 8 bytes, lowest byte first, one after the other.
+pub mod numbers;
