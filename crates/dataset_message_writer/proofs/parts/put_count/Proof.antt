@@ -1,0 +1,23 @@
+-- `dataset_message_writer::parts::put_count` meets its contract.
+-- Assumes nothing.
+use denote.Ref.{now}
+use native.Mathlib.Omega.{arith}
+use borrow.Author.Needs.{needs}
+use Rattle.dataset_message_writer.proofs.Whole.{count-bytes}
+use Rattle.writing.proofs.Putting.{puts, nothing}
+use Rattle.dataset_message_writer.proofs.parts.put_count.Statement.{statement}
+use Rattle.dataset_message_writer.proofs.parts.put_count.Tie as tie
+
+cast-put16 : tie.Need-cast-put16
+cast-put16 c = omega arith
+
+returns : tie.Need-returns
+returns c =
+    rw (c .before .before .before .before .if1 .taken, ← count-bytes (c .before .before .before .before .before .before .args .n)) (puts (c .before .before .put16 .ensures))
+
+returns-2 : tie.Need-returns-2
+returns-2 c =
+    rw (c .if1 .left) (nothing (now (c .before .before .args .out)) (c .before .before .args .at))
+
+pub put-count-spec : {M : Type 1} → statement M
+put-count-spec = tie.close (tie.spec cast-put16 (λ c κs. search needs) (λ c. search needs) returns returns-2)

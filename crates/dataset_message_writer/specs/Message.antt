@@ -1,0 +1,133 @@
+-- A DataSetMessage as it is written: its bytes, and what the writer refuses (document 01, "Numbers given back" and
+-- "The DataSetMessage").
+use Prim.Native.Nat.{ℕ, _+_}
+use mathlib.Core.Path.{_≡_}
+use mathlib.Core.Bool.{Bool, true, false, cond, not, _&&_, _||_}
+use mathlib.Core.List.{List, [], _++_}
+use lib.Dec.{eqb, leb}
+use lib.ListN.{length}
+use Rattle.wire.specs.Number.{leBytes}
+use Rattle.writing.specs.Writing.{orElse, picosecondsRefusal, numberFor, writtenBy, bufferBy}
+use Rattle.writing.specs.declared.Written.{Written}
+use Rattle.dataset_message.specs.declared.flags.Encoding.{Encoding}
+use Rattle.dataset_message.specs.declared.flags.Kind.{Kind}
+use Rattle.dataset_message.specs.declared.header.Header.{Header}
+use Rattle.dataset_message.specs.Message.{isDelta, isRaw}
+use Rattle.dataset_message_writer.specs.Flags.{kindRule}
+use Rattle.dataset_message_writer.specs.Header.{headerBytes}
+use Rattle.dataset_message_writer.specs.Fields.{total, valuesOf, fieldsRefusal, fieldsWhole, reached, fieldsBytes, zeros}
+
+-- What is given to be written: the header; of a key frame, whether it is a heartbeat; the fields' encoded values one after the
+-- other and how long each is; a delta's indices; how many bytes of padding follow.
+pub record Given : Type 0 where
+  pub header : Header
+  pub heartbeat : Bool
+  pub values : List ℕ
+  pub lengths : List ℕ
+  pub indices : List ℕ
+  pub padding : ℕ
+
+abbrev pub given : Header → Bool → List ℕ → List ℕ → List ℕ → ℕ → Given
+given h heartbeat values lengths indices padding =
+    record { header = h; heartbeat = heartbeat; values = values; lengths = lengths; indices = indices; padding = padding }
+
+-- whether something follows the header of a message of this kind: not of a heartbeat, nor of a keep alive
+abbrev pub hasFields : Kind → Bool → Bool
+hasFields Kind.Key heartbeat = not heartbeat
+hasFields Kind.Delta heartbeat = true
+hasFields Kind.Event heartbeat = true
+hasFields Kind.KeepAlive heartbeat = false
+
+abbrev pub isRawData : Given → Bool
+isRawData g = isRaw (g .header .encoding)
+
+abbrev pub isFielded : Given → Bool
+isFielded g = hasFields (g .header .kind) (g .heartbeat)
+
+abbrev pub fieldsOf : Given → List (List ℕ)
+fieldsOf g = valuesOf (g .lengths) (g .values)
+
+-- "FieldCount 2 and the fields; RawData has no count"
+abbrev pub countBytes : Bool → Bool → ℕ → List ℕ
+countBytes fielded raw n = cond (fielded && not raw) (leBytes 2 n) []
+
+-- the message
+abbrev pub encode : Given → List ℕ
+encode g =
+    headerBytes (g .header)
+    ++ (countBytes (isFielded g) (isRawData g) (length (g .lengths))
+    ++ (fieldsBytes (isDelta (g .header .kind)) (g .indices) (fieldsOf g) ++ zeros (g .padding)))
+
+-- "RawData .. its fields are the configured ones (none: 8)"
+abbrev pub configuredRule : Bool → ℕ → ℕ
+configuredRule raw configured = cond (raw && eqb configured 0) 8 0
+
+-- what reading refuses of the fields
+abbrev pub fieldedRefusal : Encoding → List ℕ → List (List ℕ) → ℕ
+fieldedRefusal encoding types vs =
+    orElse (configuredRule (isRaw encoding) (length types)) (fieldsRefusal encoding types 0 (reached (isRaw encoding) types vs))
+
+-- what reading refuses after the header
+abbrev pub bodyRefusal : List ℕ → Given → ℕ
+bodyRefusal types g = cond (isFielded g) (fieldedRefusal (g .header .encoding) types (fieldsOf g)) 0
+
+-- "A writer refuses what reading would refuse, by the same number in reading order"
+abbrev pub readingRefusal : List ℕ → Given → ℕ
+readingRefusal types g =
+    orElse (kindRule (g .header .kind) (g .header .encoding))
+    (orElse (picosecondsRefusal (g .header .picoseconds))
+    (bodyRefusal types g))
+
+-- in RawData the number of fields is the configured one, else it is a number of 2 bytes
+abbrev pub countAgrees : Bool → ℕ → ℕ → Bool
+countAgrees raw configured n = cond raw (eqb n configured) (leb n 65535)
+
+abbrev pub isKey : Kind → Bool
+isKey Kind.Key = true
+isKey Kind.Delta = false
+isKey Kind.Event = false
+isKey Kind.KeepAlive = false
+
+-- each of n fields is whole, and their number reads back
+abbrev pub fieldedAgrees : Encoding → List ℕ → ℕ → List (List ℕ) → Bool
+fieldedAgrees encoding types n vs = fieldsWhole encoding types 0 (reached (isRaw encoding) types vs) && countAgrees (isRaw encoding) (length types) n
+
+-- what follows the header reads back as it is given: the fields; or there are none, and a heartbeat is not padded
+abbrev pub bodyAgrees : List ℕ → Given → Bool
+bodyAgrees types g =
+    cond (isFielded g)
+    (fieldedAgrees (g .header .encoding) types (length (g .lengths)) (fieldsOf g))
+    (eqb (length (g .lengths)) 0 && (not (isKey (g .header .kind)) || eqb (g .padding) 0))
+
+-- the lengths add up to the values' bytes; a delta has an index for each field, another message none
+abbrev pub listsAgree : Bool → List ℕ → List ℕ → List ℕ → Bool
+listsAgree delta values lengths indices = eqb (total lengths) (length values) && eqb (length indices) (cond delta (length lengths) 0)
+
+-- "then .. what would read back otherwise (as a padded heartbeat), by 6"
+abbrev pub readsBack : List ℕ → Given → Bool
+readsBack types g = bodyAgrees types g && listsAgree (isDelta (g .header .kind)) (g .values) (g .lengths) (g .indices)
+
+abbrev pub refusalOf : List ℕ → Given → ℕ
+refusalOf types g = orElse (readingRefusal types g) (cond (readsBack types g) 0 6)
+
+-- how many bytes the message takes: its header, FieldCount, a delta's indices, the values and the padding
+abbrev pub sizeOf : ℕ → Bool → Bool → ℕ → ℕ → ℕ → ℕ
+sizeOf front counted delta bytes count padding =
+    front + cond delta (2 + (count + (count + (bytes + padding)))) (cond counted (2 + (bytes + padding)) (bytes + padding))
+
+-- a size, as far as the limits tell it apart
+abbrev pub atMost : ℕ → ℕ
+atMost n = cond (leb 65536 n) 65536 n
+
+-- "output above 65,535 bytes by 10; then 11"
+abbrev pub writerNumber : List ℕ → Given → ℕ → ℕ
+writerNumber types g room = numberFor (refusalOf types g) (length (encode g)) room
+
+-- what a writer of these bytes, whose own refusal is n, answers for a buffer, and what it leaves there
+pub record WritesBytes (n : ℕ) (bytes entry exit : List ℕ) (r : Written) : Type 0 where
+  pub answer : r ≡ writtenBy (numberFor n (length bytes) (length entry)) bytes
+  pub buffer : exit ≡ bufferBy (numberFor n (length bytes) (length entry)) bytes entry
+
+-- the DataSetMessage writer
+abbrev pub Writes : List ℕ → Given → List ℕ → List ℕ → Written → Type 0
+Writes types g entry exit r = WritesBytes (refusalOf types g) (encode g) entry exit r

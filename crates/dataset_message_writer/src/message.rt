@@ -1,0 +1,222 @@
+// A DataSetMessage written whole.
+use crate::fields::add_up;
+use crate::fields::is_raw;
+use crate::fields::judge_fields;
+use crate::fields::put_delta;
+use crate::fields::put_zeros;
+use crate::flags::kind_rule;
+use crate::header::put_header;
+use crate::parts::has_fields;
+use crate::parts::put_count;
+use crate::parts::size;
+use dataset_message::flags::Encoding;
+use dataset_message::flags::Kind;
+use dataset_message::header::Header;
+use writing::Written;
+use writing::or_else;
+use writing::picoseconds_refusal;
+use writing::put_run;
+ghost use mathlib.Core.Path.{_≡_};
+ghost use mathlib.Core.Bool.{cond};
+ghost use lib.ListN.{length};
+ghost use Rattle.writing.specs.Writing.{orElse, Puts};
+ghost use Rattle.dataset_message.specs.Message.{isDelta};
+ghost use Rattle.dataset_message_writer.specs.Fields.{total, valuesOf, fieldsBytes};
+ghost use Rattle.dataset_message_writer.specs.Message.{given, isKey, fieldedRefusal, fieldedAgrees, configuredRule, countAgrees, listsAgree};
+ghost use Rattle.dataset_message_writer.specs.Message.{encode, bodyRefusal, bodyAgrees, refusalOf, Writes};
+
+fn is_delta(kind: Kind) -> bool
+    ensures { λ r. ⌜ r ≡ isDelta kind ⌝ }
+{
+    match kind {
+        Kind::Key => false,
+        Kind::Delta => true,
+        Kind::Event => false,
+        Kind::KeepAlive => false,
+    }
+}
+
+fn is_key(kind: Kind) -> bool
+    ensures { λ r. ⌜ r ≡ isKey kind ⌝ }
+{
+    match kind {
+        Kind::Key => true,
+        Kind::Delta => false,
+        Kind::Event => false,
+        Kind::KeepAlive => false,
+    }
+}
+
+// 6 where something would read back otherwise.
+fn six_unless(agrees: bool) -> u8
+    ensures { λ r. ⌜ r ≡ cond agrees 0 6 ⌝ }
+{
+    if agrees {
+        return 0;
+    }
+    6
+}
+
+// RawData without configured fields is 8.
+fn configured_rule(raw: bool, configured: usize) -> u8
+    ensures { λ r. ⌜ r ≡ configuredRule raw configured ⌝ }
+{
+    if raw & (configured == 0) {
+        return 8;
+    }
+    0
+}
+
+fn count_agrees(raw: bool, configured: usize, n: usize) -> bool
+    ensures { λ r. ⌜ r ≡ countAgrees raw configured n ⌝ }
+{
+    if raw {
+        return n == configured;
+    }
+    n <= 65535
+}
+
+// The number of the fields' refusal: 8, a field's own, 6 for bytes behind a value or another number of fields.
+fn fields_refusal(values: &[u8], lengths: &[usize], encoding: Encoding, types: &[u8]) -> u8
+    ensures { λ r. ⌜ r ≡ orElse (fieldedRefusal encoding (now (types .entry)) (valuesOf (now (lengths .entry)) (now (values .entry)))) (cond (fieldedAgrees encoding (now (types .entry)) (length (now (lengths .entry))) (valuesOf (now (lengths .entry)) (now (values .entry)))) 0 6) ⌝ }
+{
+    let raw = is_raw(encoding);
+    let configured = configured_rule(raw, types.len());
+    let fields = judge_fields(values, lengths, encoding, types);
+    let number = six_unless(count_agrees(raw, types.len(), lengths.len()));
+    or_else(configured, or_else(fields, number))
+}
+
+// What is refused after the header.
+fn body_refusal(
+    header: Header,
+    heartbeat: bool,
+    values: &[u8],
+    lengths: &[usize],
+    indices: &[u16],
+    types: &[u8],
+    padding: usize,
+) -> u8
+    ensures { λ r. ⌜ r ≡ orElse (bodyRefusal (now (types .entry)) (given header heartbeat (now (values .entry)) (now (lengths .entry)) (now (indices .entry)) padding)) (cond (bodyAgrees (now (types .entry)) (given header heartbeat (now (values .entry)) (now (lengths .entry)) (now (indices .entry)) padding)) 0 6) ⌝ }
+{
+    let kind = header.kind;
+    let encoding = header.encoding;
+    if has_fields(kind, heartbeat) {
+        return fields_refusal(values, lengths, encoding, types);
+    }
+    six_unless((lengths.len() == 0) & (!is_key(kind) | (padding == 0)))
+}
+
+fn lists_agree(delta: bool, values: &[u8], lengths: &[usize], indices: &[u16]) -> bool
+    ensures { λ r. ⌜ r ≡ listsAgree delta (now (values .entry)) (now (lengths .entry)) (now (indices .entry)) ⌝ }
+{
+    let up = add_up(lengths, values.len());
+    if delta {
+        return up & (indices.len() == lengths.len());
+    }
+    up & (indices.len() == 0)
+}
+
+// The number by which a message is refused, 0 where it is not.
+fn refusal(
+    header: Header,
+    heartbeat: bool,
+    values: &[u8],
+    lengths: &[usize],
+    indices: &[u16],
+    types: &[u8],
+    padding: usize,
+) -> u8
+    ensures { λ r. ⌜ r ≡ refusalOf (now (types .entry)) (given header heartbeat (now (values .entry)) (now (lengths .entry)) (now (indices .entry)) padding) ⌝ }
+{
+    let kind = header.kind;
+    let encoding = header.encoding;
+    let picoseconds = header.picoseconds;
+    let flags = kind_rule(kind, encoding);
+    let times = picoseconds_refusal(picoseconds);
+    let body = body_refusal(header, heartbeat, values, lengths, indices, types, padding);
+    let lists = six_unless(lists_agree(is_delta(kind), values, lengths, indices));
+    or_else(flags, or_else(times, or_else(body, lists)))
+}
+
+fn put_fields(
+    out: &mut [u8],
+    at: usize,
+    delta: bool,
+    values: &[u8],
+    lengths: &[usize],
+    indices: &[u16],
+) -> usize
+    requires { ⌜ total (now lengths) ≡ length (now values) ⌝ }
+    ensures { λ r. ⌜ Puts (fieldsBytes delta (now (indices .entry)) (valuesOf (now (lengths .entry)) (now (values .entry)))) (now (out .entry)) at (now (out .exit)) r ⌝ }
+{
+    if delta {
+        return put_delta(out, at, values, lengths, indices);
+    }
+    put_run(out, at, values)
+}
+
+fn put_message(
+    out: &mut [u8],
+    header: Header,
+    heartbeat: bool,
+    values: &[u8],
+    lengths: &[usize],
+    indices: &[u16],
+    padding: usize,
+) -> usize
+    requires { ⌜ total (now lengths) ≡ length (now values) ⌝ }
+    ensures { λ r. ⌜ Puts (encode (given header heartbeat (now (values .entry)) (now (lengths .entry)) (now (indices .entry)) padding)) (now (out .entry)) 0 (now (out .exit)) r ⌝ }
+{
+    let kind = header.kind;
+    let encoding = header.encoding;
+    let next = put_header(out, header);
+    let next = put_count(
+        out,
+        next,
+        has_fields(kind, heartbeat),
+        is_raw(encoding),
+        lengths.len(),
+    );
+    let next = put_fields(out, next, is_delta(kind), values, lengths, indices);
+    put_zeros(out, next, padding)
+}
+
+// A message from the buffer's start: the header, and of a key frame whether it is a heartbeat; the fields' encoded values one after
+// the other with their lengths, a delta's indices, the configured types of RawData; how many zero bytes follow.
+pub fn write(
+    out: &mut [u8],
+    header: Header,
+    heartbeat: bool,
+    values: &[u8],
+    lengths: &[usize],
+    indices: &[u16],
+    types: &[u8],
+    padding: usize,
+) -> Written
+    ensures { λ r. ⌜ Writes (now (types .entry)) (given header heartbeat (now (values .entry)) (now (lengths .entry)) (now (indices .entry)) padding) (now (out .entry)) (now (out .exit)) r ⌝ }
+{
+    let number = refusal(header, heartbeat, values, lengths, indices, types, padding);
+    if number != 0 {
+        return Written::Refused(number);
+    }
+    let kind = header.kind;
+    let encoding = header.encoding;
+    let counted = has_fields(kind, heartbeat) & !is_raw(encoding);
+    let bytes = size(
+        header,
+        counted,
+        is_delta(kind),
+        values.len(),
+        lengths.len(),
+        padding,
+    );
+    if 65535 < bytes {
+        return Written::Refused(10);
+    }
+    if out.len() < bytes {
+        return Written::Refused(11);
+    }
+    put_message(out, header, heartbeat, values, lengths, indices, padding);
+    Written::Is(bytes)
+}

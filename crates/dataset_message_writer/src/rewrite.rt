@@ -1,0 +1,77 @@
+// A DataSetMessage read and written again.
+use crate::fields::is_raw;
+use crate::fields::put_zeros;
+use crate::header::header_size;
+use crate::header::put_header;
+use crate::parts::has_fields;
+use crate::parts::put_count;
+use crate::parts::size;
+use dataset_message::header::Header;
+use dataset_message::message::MessageRead;
+use dataset_message::message::read;
+use wire::left;
+use wire::part::part;
+use writing::Written;
+use writing::put_run;
+ghost use Rattle.writing.specs.Writing.{Puts};
+ghost use Rattle.dataset_message_writer.specs.Message.{WritesBytes};
+ghost use Rattle.dataset_message_writer.specs.Rewrite.{partsAgain, Rewrites};
+
+// The parts one after the other: the fields as they stand.
+fn put_again(
+    out: &mut [u8],
+    header: Header,
+    fielded: bool,
+    count: usize,
+    fields: &[u8],
+    padding: usize,
+) -> usize
+    ensures { λ r. ⌜ Puts (partsAgain header fielded count (now (fields .entry)) padding) (now (out .entry)) 0 (now (out .exit)) r ⌝ }
+{
+    let encoding = header.encoding;
+    let next = put_header(out, header);
+    let next = put_count(out, next, fielded, is_raw(encoding), count);
+    let next = put_run(out, next, fields);
+    put_zeros(out, next, padding)
+}
+
+fn write_again(
+    out: &mut [u8],
+    header: Header,
+    fielded: bool,
+    count: usize,
+    fields: &[u8],
+    padding: usize,
+) -> Written
+    ensures { λ r. ⌜ WritesBytes 0 (partsAgain header fielded count (now (fields .entry)) padding) (now (out .entry)) (now (out .exit)) r ⌝ }
+{
+    let encoding = header.encoding;
+    let counted = fielded & !is_raw(encoding);
+    let bytes = size(header, counted, false, fields.len(), 0, padding);
+    if 65535 < bytes {
+        return Written::Refused(10);
+    }
+    if out.len() < bytes {
+        return Written::Refused(11);
+    }
+    put_again(out, header, fielded, count, fields, padding);
+    Written::Is(bytes)
+}
+
+// A message that is read is written again from its parts; what reading refuses is refused, and one not valid is 6.
+pub fn rewrite(out: &mut [u8], message: &[u8], types: &[u8]) -> Written
+    ensures { λ r. ⌜ Rewrites (now (types .entry)) (now (message .entry)) (now (out .entry)) (now (out .exit)) r ⌝ }
+{
+    match read(message, types) {
+        MessageRead::NotValid => Written::Refused(6),
+        MessageRead::Refused(n, _) => Written::Refused(n),
+        MessageRead::Is(header, cursor, end) => {
+            let kind = header.kind;
+            let at = cursor.at;
+            let fielded = has_fields(kind, message.len() <= header_size(header));
+            let fields = part(message, at, left(end, at));
+            let padding = left(message.len(), end);
+            write_again(out, header, fielded, cursor.count, fields, padding)
+        }
+    }
+}

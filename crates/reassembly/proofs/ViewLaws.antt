@@ -1,0 +1,210 @@
+-- Laws of views and of lists that a view is laid into. A loop that lays a view in from low offsets to high ones keeps the equation
+-- `payload ≡ laid (upTo i v) payload₀`: `laid-start`, `laid-step` and `laid-end` are its steps. Assumes nothing.
+use Prim.Native.Nat.{ℕ, zero, suc, _+_, _-_, _≤_, _<_}
+use mathlib.Core.Path.{_≡_, refl, sym, ap, _∙_, fun-ext}
+use mathlib.Core.Bool.{Bool, true, false, cond, not, _&&_, _||_, or-true, false≢true}
+use mathlib.Core.List.{List}
+use mathlib.Core.Option.{Option, some, none, orElse, Option·getD}
+use native.Mathlib.Nat.{le-of-suc-le-suc, not-suc-le-zero}
+use native.Mathlib.Numerals.{add-one}
+use native.Mathlib.Omega.{arith}
+use lib.ListN.{length, getD, set, length-set}
+use lib.Seq.{ext-getD, getD-set-same, getD-set-other}
+use lib.Dec.{ltb, eqb}
+use borrow.Author.Tests.{lt-ltb, le-ltb, le-leb, lt-leb, eqb-true, not-true, not-false}
+use Rattle.reassembly.specs.Views.{View, tab, anyBelow, allBelow, isSome, has, onlyIf, inRange, dataView, nowhere, joined, differs, clash, full, laid}
+use Rattle.reassembly.proofs.Cases.{by-bool, by-eq, by-lt}
+
+-- ---- lists by their elements
+pub length-tab : (n : ℕ) (f : ℕ → ℕ) → length (tab n f) ≡ n
+length-tab zero f = refl
+length-tab (suc n) f = ap suc (length-tab n (λ i. f (suc i)))
+
+pub getD-tab : (n : ℕ) (f : ℕ → ℕ) (i d : ℕ) → i < n → getD (tab n f) i d ≡ f i
+getD-tab zero f i d h = absurd (not-suc-le-zero h)
+getD-tab (suc n) f zero d h = refl
+getD-tab (suc n) f (suc i) d h = getD-tab n (λ k. f (suc k)) i d (le-of-suc-le-suc h)
+
+pub length-laid : (v : View) (p : List ℕ) → length (laid v p) ≡ length p
+unfolding laid
+length-laid v p = length-tab (length p) _
+
+pub getD-laid : (v : View) (p : List ℕ) (i : ℕ) → i < length p → getD (laid v p) i 0 ≡ Option·getD (v i) (getD p i 0)
+unfolding laid
+getD-laid v p i h = getD-tab (length p) _ i 0 h
+
+-- two views that agree below the length are laid in alike
+pub laid-ext : (v w : View) (p : List ℕ) → ((i : ℕ) → i < length p → v i ≡ w i) → laid v p ≡ laid w p
+laid-ext v w p e =
+    ext-getD 0 (laid v p) (laid w p) (simp length-laid)
+    (λ i h. let k : i < length p = rw length-laid at h in
+    getD-laid v p i k ∙ ap (λ (o : Option ℕ). Option·getD o (getD p i 0)) (e i k) ∙ sym (getD-laid w p i k))
+
+-- a view below n
+abbrev pub upTo : ℕ → View → View
+upTo n v i = cond (ltb i n) (v i) none
+
+upTo-below : (n : ℕ) (v : View) (i : ℕ) → i < n → upTo n v i ≡ v i
+upTo-below n v i h = rw (lt-ltb i n h)
+
+upTo-above : (n : ℕ) (v : View) (i : ℕ) → n ≤ i → upTo n v i ≡ none
+upTo-above n v i h = rw (le-ltb i n h)
+
+pub laid-start : (v : View) (p : List ℕ) (n : ℕ) → ((i : ℕ) → i < n → v i ≡ none) → p ≡ laid (upTo n v) p
+laid-start v p n e =
+    ext-getD 0 p (laid (upTo n v) p) (simp length-laid)
+    (λ i h. sym (getD-laid (upTo n v) p i h ∙ ap (λ (o : Option ℕ). Option·getD o (getD p i 0)) (nothing i)))
+  where
+    nothing : (i : ℕ) → upTo n v i ≡ none
+    nothing i = by-lt _ i n (λ l. upTo-below n v i l ∙ e i l) (λ l. upTo-above n v i l)
+
+pub laid-end : (v : View) (p : List ℕ) (n : ℕ) → ((i : ℕ) → n ≤ i → v i ≡ none) → laid (upTo n v) p ≡ laid v p
+laid-end v p n e =
+    laid-ext (upTo n v) v p
+    (λ i h. by-lt _ i n (λ l. upTo-below n v i l) (λ l. upTo-above n v i l ∙ sym (e i l)))
+
+-- below n + 1 is below n and at n
+upTo-more : (n : ℕ) (v : View) (i : ℕ) → (i ≡ n → ⊥) → upTo (n + 1) v i ≡ upTo n v i
+upTo-more n v i ne =
+    by-lt _ i n (λ l. upTo-below (n + 1) v i (omega arith) ∙ sym (upTo-below n v i l))
+    (λ l. upTo-above (n + 1) v i (omega arith) ∙ sym (upTo-above n v i l))
+
+-- a turn stores the view's byte at n, or what stands there
+pub laid-step : (v : View) (p : List ℕ) (n x : ℕ) → n < length p → x ≡ Option·getD (v n) (getD p n 0) → set (laid (upTo n v) p) n x ≡ laid (upTo (n + 1) v) p
+laid-step v p n x hn e =
+    ext-getD 0 (set (laid (upTo n v) p) n x) (laid (upTo (n + 1) v) p) (simp (length-set, length-laid))
+    (λ i h. let k : i < length p = simp (length-set, length-laid) at h in
+    by-eq _ i n
+    (λ q. rw q
+    (getD-set-same (laid (upTo n v) p) n x 0 (simp length-laid hn) ∙ e
+    ∙ sym (getD-laid (upTo (n + 1) v) p n hn ∙ ap (λ (o : Option ℕ). Option·getD o (getD p n 0)) (upTo-below (n + 1) v n (omega arith)))))
+    (λ ne. getD-set-other (laid (upTo n v) p) n i x 0 ne
+    ∙ getD-laid (upTo n v) p i k
+    ∙ ap (λ (o : Option ℕ). Option·getD o (getD p i 0)) (sym (upTo-more n v i ne))
+    ∙ sym (getD-laid (upTo (n + 1) v) p i k)))
+
+-- what stands at n before its turn
+pub laid-at : (v : View) (p : List ℕ) (n : ℕ) → n < length p → getD (laid (upTo n v) p) n 0 ≡ getD p n 0
+laid-at v p n h =
+    getD-laid (upTo n v) p n h ∙ ap (λ (o : Option ℕ). Option·getD o (getD p n 0)) (upTo-above n v n (omega arith))
+
+-- ---- a chunk's data
+pub data-at : (at : ℕ) (d : List ℕ) (j : ℕ) → j < length d → dataView at d (at + j) ≡ some (getD d j 0)
+unfolding dataView
+data-at at d j h =
+    let q : at + j - at ≡ j = omega arith in
+    rw (le-leb at (at + j) (omega arith), lt-ltb (at + j) (at + length d) (omega arith), q)
+
+pub data-below : (at : ℕ) (d : List ℕ) (i : ℕ) → i < at → dataView at d i ≡ none
+unfolding dataView
+data-below at d i h = rw (lt-leb at i h)
+
+pub data-above : (at : ℕ) (d : List ℕ) (i : ℕ) → at + length d ≤ i → dataView at d i ≡ none
+unfolding dataView
+data-above at d i h = rw (le-leb at i (omega arith), le-ltb i (at + length d) h)
+
+some-only : (b : Bool) (x : ℕ) → isSome (onlyIf b x) ≡ b
+some-only true x = refl
+some-only false x = refl
+
+pub has-only : (f : ℕ → Bool) (g : ℕ → ℕ) → has (λ i. onlyIf (f i) (g i)) ≡ f
+has-only f g = fun-ext (λ i. some-only (f i) (g i))
+
+pub has-data : (at : ℕ) (d : List ℕ) → has (dataView at d) ≡ inRange at (at + length d)
+unfolding dataView
+has-data at d = has-only (inRange at (at + length d)) (λ i. getD d (i - at) 0)
+
+-- ---- a test at every offset below n
+pub any-none : (n : ℕ) (f : ℕ → Bool) → ((i : ℕ) → i < n → f i ≡ false) → anyBelow n f ≡ false
+any-none zero f e = refl
+any-none (suc n) f e = rw (e n (omega arith)) (any-none n f (λ i h. e i (omega arith)))
+
+pub any-some : (n : ℕ) (f : ℕ → Bool) (i : ℕ) → i < n → f i ≡ true → anyBelow n f ≡ true
+any-some zero f i h e = absurd (not-suc-le-zero h)
+any-some (suc n) f i h e =
+    by-eq _ i n (λ q. let t : f n ≡ true = rw q at e in rw t) (λ ne. rw (any-some n f i (omega arith) e) (or-true (f n)))
+
+pub none-any : (n : ℕ) (f : ℕ → Bool) → anyBelow n f ≡ false → (i : ℕ) → i < n → f i ≡ false
+none-any n f e i h = by-bool _ (f i) (λ t. absurd (false≢true (sym e ∙ any-some n f i h t))) (λ t. t)
+
+pub any-ext : (n : ℕ) (f g : ℕ → Bool) → ((i : ℕ) → i < n → f i ≡ g i) → anyBelow n f ≡ anyBelow n g
+any-ext zero f g e = refl
+any-ext (suc n) f g e = rw (e n (omega arith), any-ext n f g (λ i h. e i (omega arith)))
+
+pub any-step : (n : ℕ) (f : ℕ → Bool) → anyBelow (n + 1) f ≡ (f n || anyBelow n f)
+any-step n f = rw (add-one n)
+
+pub all-every : (n : ℕ) (f : ℕ → Bool) → ((i : ℕ) → i < n → f i ≡ true) → allBelow n f ≡ true
+all-every n f e = ap not (any-none n (λ i. not (f i)) (λ i h. ap not (e i h)))
+
+pub all-but : (n : ℕ) (f : ℕ → Bool) (i : ℕ) → i < n → f i ≡ false → allBelow n f ≡ false
+all-but n f i h e = ap not (any-some n (λ k. not (f k)) i h (ap not e))
+
+pub every-all : (n : ℕ) (f : ℕ → Bool) → allBelow n f ≡ true → (i : ℕ) → i < n → f i ≡ true
+every-all n f e i h = not-false (f i) (none-any n (λ k. not (f k)) (not-true (anyBelow n (λ k. not (f k))) e) i h)
+
+pub all-ext : (n : ℕ) (f g : ℕ → Bool) → ((i : ℕ) → i < n → f i ≡ g i) → allBelow n f ≡ allBelow n g
+all-ext n f g e = ap not (any-ext n (λ i. not (f i)) (λ i. not (g i)) (λ i h. ap not (e i h)))
+
+-- ---- full
+pub full-some : (n : ℕ) (v : View) → full n v ≡ true → (i : ℕ) → i < n → has v i ≡ true
+unfolding full
+full-some n v e i h = every-all n (has v) e i h
+
+pub full-all : (n : ℕ) (v : View) → ((i : ℕ) → i < n → has v i ≡ true) → full n v ≡ true
+unfolding full
+full-all n v e = all-every n (has v) e
+
+-- ---- clashes
+pub differs-none : (o : Option ℕ) → differs o none ≡ false
+differs-none (some x) = refl
+differs-none none = refl
+
+pub differs-known : (b c : Bool) (x y : ℕ) → (b && c && not (eqb x y)) ≡ differs (onlyIf b x) (onlyIf c y)
+differs-known true true x y = refl
+differs-known true false x y = refl
+differs-known false c x y = refl
+
+pub clash-none : (n : ℕ) (v w : View) → ((i : ℕ) → i < n → differs (v i) (w i) ≡ false) → clash n v w ≡ false
+unfolding clash
+clash-none n v w e = any-none n _ e
+
+pub none-clash : (n : ℕ) (v w : View) → clash n v w ≡ false → (i : ℕ) → i < n → differs (v i) (w i) ≡ false
+unfolding clash
+none-clash n v w e i h = none-any n _ e i h
+
+-- the test at each of a chunk's bytes
+abbrev pub differsAt : View → ℕ → List ℕ → ℕ → Bool
+differsAt v at d j = differs (v (at + j)) (dataView at d (at + j))
+
+-- a chunk's data clashes at one of its own offsets, or nowhere
+pub clash-data : (n : ℕ) (v : View) (at : ℕ) (d : List ℕ) → at + length d ≤ n → clash n v (dataView at d) ≡ anyBelow (length d) (differsAt v at d)
+unfolding clash
+clash-data n v at d fits =
+    by-bool _ (anyBelow (length d) (differsAt v at d))
+    (λ t. by-bool _ (anyBelow n (λ i. differs (v i) (dataView at d i))) (λ u. u ∙ sym t)
+    (λ u. u ∙ sym (any-none (length d) (differsAt v at d) (λ j h. none-any n (λ i. differs (v i) (dataView at d i)) u (at + j) (omega arith)))))
+    (λ t. any-none n _ (outside t) ∙ sym t)
+  where
+    outside : anyBelow (length d) (differsAt v at d) ≡ false → (i : ℕ) → i < n → differs (v i) (dataView at d i) ≡ false
+    outside t i h =
+        by-lt _ i at (λ l. rw (data-below at d i l) (differs-none (v i)))
+        (λ l. by-lt _ i (at + length d)
+        (λ u. let q : at + (i - at) ≡ i = omega arith in
+        rw q at (none-any (length d) (differsAt v at d) t (i - at) (omega arith)))
+        (λ u. rw (data-above at d i u) (differs-none (v i))))
+
+-- ---- views put together
+pub first-none : (o : Option ℕ) → orElse o none ≡ o
+unfolding orElse
+first-none (some x) = refl
+first-none none = refl
+
+pub first-known : (o : Option ℕ) (x : ℕ) → differs o (some x) ≡ false → orElse o (some x) ≡ some x
+unfolding orElse
+first-known (some y) x e = ap some (eqb-true y x (not-false (eqb y x) e))
+first-known none x e = refl
+
+pub joined-nowhere : (v : View) → joined nowhere v ≡ v
+unfolding orElse
+joined-nowhere v = refl

@@ -1,0 +1,71 @@
+-- `reassembly::areas::clash_covered` meets its contract. Assumes nothing.
+use Prim.Native.Nat.{ℕ, _-_, _≤_}
+use mathlib.Core.Bool.{Bool, _||_}
+use mathlib.Core.Path.{_≡_, refl, sym, ap, ap₂, _∙_}
+use native.Mathlib.Omega.{arith}
+use denote.Ref.{now}
+use lib.ListN.{getD}
+use borrow.Author.Needs.{needs}
+use Rattle.reassembly.specs.Views.{anyBelow, onlyIf, differs, clash}
+use Rattle.reassembly.specs.Areas.{markedView}
+use Rattle.reassembly.proofs.ViewLaws.{any-step}
+use Rattle.reassembly.proofs.MarkLaws.{marks-room}
+use Rattle.reassembly.proofs.AreaLaws.{clash-step-marked}
+use Rattle.reassembly.proofs.areas.clash_covered.Statement.{statement}
+use Rattle.reassembly.proofs.areas.clash_covered.Tie as tie
+
+abbrev Inv-loop : tie.InvT-loop
+Inv-loop payload marks total from from-marks found₀ i₀ found i =
+    (i ≤ total) × (found ≡ anyBelow i (λ k. differs (markedView total payload marks k) (markedView total from from-marks k)))
+
+abbrev μ-loop : tie.MeasureT-loop
+μ-loop payload marks total from from-marks found₀ i₀ found i = total - i
+
+loop-holds : tie.Need-loop-holds Inv-loop μ-loop
+loop-holds c = (omega arith, refl)
+
+is-marked-requires : tie.Need-is-marked-requires Inv-loop μ-loop
+is-marked-requires c κs =
+    let a = c .before .before .before .before .before .before .args in marks-room (a .total) (c .before .loop .i) (now (a .marks)) (omega arith) (omega arith)
+
+is-marked-requires-2 : tie.Need-is-marked-requires-2 Inv-loop μ-loop
+is-marked-requires-2 c κs =
+    let a = c .before .before .before .before .before .before .before .before .args in marks-room (a .total) (c .before .before .before .loop .i) (now (a .from-marks)) (omega arith) (omega arith)
+
+loop-again : tie.Need-loop-again Inv-loop μ-loop
+loop-again c =
+    let a = c .before .before .before .before .before .before .before .before .before .before .before .args in
+    let l = c .before .before .before .before .before .before .loop in
+    let p = now (a .payload) in
+    let m = now (a .marks) in
+    let q = now (a .from) in
+    let n = now (a .from-marks) in
+    let test = c .differ .ensures
+    ∙ ap₂ (λ (b c : Bool). differs (onlyIf b (getD p (l .i) 0)) (onlyIf c (getD q (l .i) 0))) (c .before .before .before .before .is-marked .ensures) (c .before .before .is-marked2 .ensures)
+    ∙ sym (clash-step-marked (a .total) p m q n (l .i) (omega arith)) in
+    (omega arith, ap₂ _||_ test (l .inv .1) ∙ sym (any-step (l .i) (λ k. differs (markedView (a .total) p m k) (markedView (a .total) q n k))))
+
+returns : tie.Need-returns Inv-loop μ-loop
+unfolding clash
+returns c =
+    let a = c .before .before .before .before .before .before .args in
+    let l = c .before .loop in
+    let e : l .i ≡ a .total = omega arith in
+    l .inv .1 ∙ ap (λ (n : ℕ). anyBelow n (λ k. differs (markedView (a .total) (now (a .payload)) (now (a .marks)) k) (markedView (a .total) (now (a .from)) (now (a .from-marks)) k))) e
+
+pub clash-covered-spec : {M : Type 1} → statement M
+clash-covered-spec =
+    tie.close
+    (tie.spec
+    Inv-loop
+    μ-loop
+    loop-holds
+    is-marked-requires
+    (λ c. search needs)
+    is-marked-requires-2
+    (λ c. search needs)
+    (λ c κs. search needs)
+    (λ c. search needs)
+    (λ c. search needs)
+    loop-again
+    returns)

@@ -1,0 +1,16 @@
+-- `reassembly::marks::is_marked` meets its contract. Assumes nothing.
+use mathlib.Core.Path.{refl}
+use Rattle.reassembly.specs.Marks.{capacity, marked}
+use Rattle.reassembly.proofs.marks.is_marked.Statement.{statement}
+use Rattle.reassembly.proofs.marks.is_marked.Tie as tie
+
+shared-slice-read-result : tie.Need-shared-slice-read-result
+unfolding capacity
+shared-slice-read-result c = c .before .pre
+
+returns : tie.Need-returns
+unfolding marked
+returns c = refl
+
+pub is-marked-spec : {M : Type 1} → statement M
+is-marked-spec = tie.close (tie.spec shared-slice-read-result returns)

@@ -1,0 +1,25 @@
+-- `reassembly::marks::mark_if` meets its contract. Assumes nothing.
+use mathlib.Core.Path.{ap, _∙_}
+use denote.Ref.{now}
+use lib.ListN.{set}
+use borrow.Author.Needs.{needs}
+use Rattle.reassembly.specs.Marks.{capacity}
+use Rattle.reassembly.proofs.MarkLaws.{mark-chosen}
+use Rattle.reassembly.proofs.marks.mark_if.Statement.{statement}
+use Rattle.reassembly.proofs.marks.mark_if.Tie as tie
+
+slice-read-choose : tie.Need-slice-read-choose
+unfolding capacity
+slice-read-choose c = c .before .before .pre
+
+slice-write-marks : tie.Need-slice-write-marks
+unfolding capacity
+slice-write-marks c = c .before .before .before .pre
+
+returns : tie.Need-returns
+returns c =
+    let a = c .before .before .before .args in ap (set (now (a .marks)) (a .i)) (c .choose .ensures) ∙ mark-chosen (a .on) (a .i) (now (a .marks))
+
+pub mark-if-spec : {M : Type 1} → statement M
+mark-if-spec =
+    tie.close (tie.spec slice-read-choose (λ c κs. search needs) slice-write-marks (λ c. search needs) returns)

@@ -1,0 +1,28 @@
+-- `reassembly::operations::hand_out_verdict` meets its contract. Assumes nothing.
+use mathlib.Core.Path.{sym, _∙_}
+use denote.Ref.{now}
+use borrow.Author.Needs.{needs}
+use Rattle.reassembly.specs.Record.{partial}
+use Rattle.reassembly.proofs.JudgeLaws.{hand-refused, hand-no, hand-yes}
+use Rattle.reassembly.proofs.operations.hand_out_verdict.Statement.{statement}
+use Rattle.reassembly.proofs.operations.hand_out_verdict.Tie as tie
+
+returns : tie.Need-returns
+returns c =
+    let a = c .before .before .before .before .before .args in
+    sym (hand-yes (partial (a .rec) (now (a .payload)) (now (a .marks))) (sym (c .before .before .ask-complete .ensures) ∙ c .enum-told .given .1))
+
+returns-2 : tie.Need-returns-2
+returns-2 c =
+    let a = c .before .before .before .before .before .args in
+    sym (hand-no (partial (a .rec) (now (a .payload)) (now (a .marks))) (sym (c .before .before .ask-complete .ensures) ∙ c .enum-told2 .given .1))
+
+returns-3 : tie.Need-returns-3
+returns-3 c =
+    let a = c .before .before .before .before .before .before .args in
+    sym (hand-refused (partial (a .rec) (now (a .payload)) (now (a .marks))) _ _ (sym (c .before .before .before .ask-complete .ensures) ∙ c .before .n .given .1))
+
+pub hand-out-verdict-spec : {M : Type 1} → statement M
+hand-out-verdict-spec =
+    tie.close
+    (tie.spec (λ c κs. search needs) (λ c. search needs) (λ c. search needs) (λ c. search needs) returns returns-2 returns-3)

@@ -1,0 +1,14 @@
+-- `reassembly::operations::message_of` meets its contract.
+-- Assumes nothing.
+use denote.Ref.{now}
+use Rattle.reassembly.proofs.JudgeLaws.{message-is}
+use borrow.Author.Needs.{needs}
+use Rattle.reassembly.proofs.operations.message_of.Statement.{statement}
+use Rattle.reassembly.proofs.operations.message_of.Tie as tie
+
+returns : tie.Need-returns
+returns c =
+    message-is (c .before .before .before .args .c) (now (c .before .before .before .args .s)) _ (c .before .publisher-record .ensures)
+
+pub message-of-spec : {M : Type 1} → statement M
+message-of-spec = tie.close (tie.spec (λ c κs. search needs) returns)

@@ -1,0 +1,9 @@
+-- What a payload area and a marks area cover below total: a byte is covered exactly if it is marked.
+use Prim.Native.Nat.{ℕ}
+use mathlib.Core.List.{List}
+use lib.ListN.{getD}
+use Rattle.reassembly.specs.Views.{View, onlyIf}
+use Rattle.reassembly.specs.Marks.{markedBelow}
+
+unfoldable pub markedView : ℕ → List ℕ → List ℕ → View
+markedView total p m i = onlyIf (markedBelow total m i) (getD p i 0)

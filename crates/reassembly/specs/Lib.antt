@@ -1,0 +1,8 @@
+pub mod Views
+pub mod Marks
+pub mod Areas
+pub mod Record
+pub mod Reading
+pub mod Machine
+pub mod Judge
+pub mod Operations

@@ -1,0 +1,50 @@
+-- A partial: its record and its two areas, and when it is sound.
+use Prim.Native.Nat.{ℕ}
+use mathlib.Core.Bool.{Bool, true, not, _&&_, _||_}
+use mathlib.Core.Path.{_≡_}
+use mathlib.Core.List.{List}
+use lib.ListN.{length}
+use lib.Dec.{leb, eqb}
+use Rattle.reassembly.specs.Marks.{marksFor}
+use Rattle.network_message.specs.PublisherRecord.{Publisher, publisherOf, samePublisher, publisherFits}
+use Rattle.reassembly.specs.declared.record.Message.{Message}
+use Rattle.reassembly.specs.declared.record.PartialRecord.{PartialRecord}
+
+-- which message: publisher, writer id, message number and total
+pub record Identity : Type 0 where
+  pub publisher : Publisher
+  pub writer : ℕ
+  pub number : ℕ
+  pub total : ℕ
+
+abbrev pub identityOf : Message → Identity
+identityOf m = record { publisher = publisherOf (m .publisher); writer = m .writer; number = m .number; total = m .total }
+
+unfoldable pub sameMessage : Identity → Identity → Bool
+sameMessage a b =
+    samePublisher (a .publisher) (b .publisher)
+    && (eqb (a .writer) (b .writer) && (eqb (a .number) (b .number) && eqb (a .total) (b .total)))
+
+-- a partial is a record with two lent areas, payload and marks
+pub record Partial : Type 0 where
+  pub rec : PartialRecord
+  pub payload : List ℕ
+  pub marks : List ℕ
+
+abbrev pub partial : PartialRecord → List ℕ → List ℕ → Partial
+partial r p m = record { rec = r; payload = p; marks = m }
+
+-- sound over areas of n and k bytes: both areas equally long and, if started, total from 1 to that length and a string publisher of at
+-- most 64 bytes
+unfoldable pub soundBy : PartialRecord → ℕ → ℕ → Bool
+soundBy r n k =
+    eqb (marksFor n) k
+    && (not (r .started)
+    || (leb 1 (r .message .total) && (leb (r .message .total) n && publisherFits (r .message .publisher))))
+
+abbrev pub sound : Partial → Bool
+sound s = soundBy (s .rec) (length (s .payload)) (length (s .marks))
+
+-- what the laws ask of a partial
+pub record Good (s : Partial) : Type 0 where
+  pub is-sound : sound s ≡ true

@@ -1,0 +1,83 @@
+// The two lent areas of a partial: storing and comparing, each one plain loop.
+ghost use mathlib.Core.Path.{_≡_};
+ghost use Prim.Native.Nat.{_+_, _≤_};
+ghost use lib.ListN.{length};
+ghost use Rattle.reassembly.specs.Views.{dataView, laid, differs, onlyIf, clash};
+ghost use Rattle.reassembly.specs.Marks.{marksFor};
+ghost use Rattle.reassembly.specs.Areas.{markedView};
+use crate::marks::choose;
+use crate::marks::is_marked;
+
+// Stores a chunk's bytes at their offset.
+pub(crate) fn store_data(payload: &mut [u8], offset: usize, bytes: &[u8])
+    requires { ⌜ offset + length (now bytes) ≤ length (now payload) ⌝ }
+    ensures { λ r. ⌜ now (payload .exit) ≡ laid (dataView offset (now (bytes .entry))) (now (payload .entry)) ⌝ }
+{
+    let mut j = 0;
+    while j < bytes.len() {
+        let at = offset + j;
+        payload[at] = bytes[j];
+        j += 1;
+    }
+}
+
+// Stores each covered byte of another partial.
+pub(crate) fn store_covered(payload: &mut [u8], total: usize, from: &[u8], from_marks: &[u8])
+    requires { ⌜ (total ≤ length (now payload)) × (total ≤ length (now «from»)) × (marksFor total ≤ length (now «from_marks»)) ⌝ }
+    ensures { λ r. ⌜ now (payload .exit) ≡ laid (markedView total (now («from» .entry)) (now («from_marks» .entry))) (now (payload .entry)) ⌝ }
+{
+    let mut i = 0;
+    while i < total {
+        payload[i] = choose(is_marked(from_marks, i), from[i], payload[i]);
+        i += 1;
+    }
+}
+
+// Whether two places are both covered, and their bytes differ.
+fn differ(mark: bool, held: u8, other_mark: bool, byte: u8) -> bool
+    ensures { λ r. ⌜ r ≡ differs (onlyIf mark held) (onlyIf «other_mark» byte) ⌝ }
+{
+    mark & other_mark & (held != byte)
+}
+
+// Whether a covered byte differs from a chunk's byte there.
+pub(crate) fn clash_data(payload: &[u8], marks: &[u8], offset: usize, bytes: &[u8]) -> bool
+    requires { ⌜ (offset + length (now bytes) ≤ length (now payload)) × (marksFor (offset + length (now bytes)) ≤ length (now marks)) ⌝ }
+    ensures { λ r. ⌜ r ≡ clash (offset + length (now (bytes .entry))) (markedView (offset + length (now (bytes .entry))) (now (payload .entry)) (now (marks .entry))) (dataView offset (now (bytes .entry))) ⌝ }
+{
+    let mut found = false;
+    let mut j = 0;
+    while j < bytes.len() {
+        let at = offset + j;
+        let clash = differ(is_marked(marks, at), payload[at], true, bytes[j]);
+        found = clash | found;
+        j += 1;
+    }
+    found
+}
+
+// Whether a byte that both cover differs.
+pub(crate) fn clash_covered(
+    payload: &[u8],
+    marks: &[u8],
+    total: usize,
+    from: &[u8],
+    from_marks: &[u8],
+) -> bool
+    requires { ⌜ (total ≤ length (now payload)) × (marksFor total ≤ length (now marks)) × (total ≤ length (now «from»)) × (marksFor total ≤ length (now «from_marks»)) ⌝ }
+    ensures { λ r. ⌜ r ≡ clash total (markedView total (now (payload .entry)) (now (marks .entry))) (markedView total (now («from» .entry)) (now («from_marks» .entry))) ⌝ }
+{
+    let mut found = false;
+    let mut i = 0;
+    while i < total {
+        let clash = differ(
+            is_marked(marks, i),
+            payload[i],
+            is_marked(from_marks, i),
+            from[i],
+        );
+        found = clash | found;
+        i += 1;
+    }
+    found
+}

@@ -1,0 +1,87 @@
+// The marks of a partial. How they are held, a byte for each byte of the payload area and 1 where it is covered, is known here only.
+ghost use mathlib.Core.Path.{_≡_};
+ghost use mathlib.Core.Bool.{cond};
+ghost use Prim.Native.Nat.{_<_, _≤_};
+ghost use lib.ListN.{length};
+ghost use Rattle.reassembly.specs.Views.{inRange};
+ghost use Rattle.reassembly.specs.Marks.{marksFor, capacity, marked, markIf, cleared, markedBelow, markAll, allMarked};
+
+// How many bytes of marks a payload area of n bytes has.
+pub(crate) fn marks_for(n: usize) -> usize
+    ensures { λ r. ⌜ r ≡ marksFor n ⌝ }
+{
+    n
+}
+
+// Whether an offset is marked.
+pub(crate) fn is_marked(marks: &[u8], i: usize) -> bool
+    requires { ⌜ i < capacity (now marks) ⌝ }
+    ensures { λ r. ⌜ r ≡ marked (now (marks .entry)) i ⌝ }
+{
+    marks[i] == 1
+}
+
+// One of two bytes.
+pub(crate) fn choose(b: bool, x: u8, y: u8) -> u8
+    ensures { λ r. ⌜ r ≡ cond b x y ⌝ }
+{
+    if b { x } else { y }
+}
+
+// Marks an offset if told so.
+pub(crate) fn mark_if(marks: &mut [u8], i: usize, on: bool)
+    requires { ⌜ i < capacity (now marks) ⌝ }
+    ensures { λ r. ⌜ now (marks .exit) ≡ markIf on i (now (marks .entry)) ⌝ }
+{
+    marks[i] = choose(on, 1, marks[i]);
+}
+
+// Clears every mark.
+pub(crate) fn clear(marks: &mut [u8])
+    ensures { λ r. ⌜ now (marks .exit) ≡ cleared (now (marks .entry)) ⌝ }
+{
+    let mut i = 0;
+    while i < marks.len() {
+        marks[i] = 0;
+        i += 1;
+    }
+}
+
+// Marks the offsets from start up to end.
+pub(crate) fn mark_range(marks: &mut [u8], start: usize, end: usize)
+    requires { ⌜ (start ≤ end) × (marksFor end ≤ length (now marks)) ⌝ }
+    ensures { λ r. ⌜ now (marks .exit) ≡ markAll (inRange start end) (now (marks .entry)) ⌝ }
+{
+    let mut i = start;
+    while i < end {
+        mark_if(marks, i, true);
+        i += 1;
+    }
+}
+
+// Marks the offsets below n that are marked in another area.
+pub(crate) fn mark_marked(marks: &mut [u8], n: usize, other: &[u8])
+    requires { ⌜ (marksFor n ≤ length (now marks)) × (marksFor n ≤ length (now other)) ⌝ }
+    ensures { λ r. ⌜ now (marks .exit) ≡ markAll (markedBelow n (now (other .entry))) (now (marks .entry)) ⌝ }
+{
+    let mut i = 0;
+    while i < n {
+        mark_if(marks, i, is_marked(other, i));
+        i += 1;
+    }
+}
+
+// Whether every offset below n is marked.
+pub(crate) fn all_marked(marks: &[u8], n: usize) -> bool
+    requires { ⌜ marksFor n ≤ length (now marks) ⌝ }
+    ensures { λ r. ⌜ r ≡ allMarked n (now (marks .entry)) ⌝ }
+{
+    let mut i = 0;
+    while i < n {
+        if !is_marked(marks, i) {
+            return false;
+        }
+        i += 1;
+    }
+    true
+}

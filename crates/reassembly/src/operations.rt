@@ -1,0 +1,195 @@
+// The five operations on a partial. Every refusal leaves the record and both areas as they were.
+ghost use mathlib.Core.Path.{_≡_};
+ghost use mathlib.Core.Bool.{true};
+ghost use lib.ListN.{length};
+ghost use Rattle.reassembly.specs.Record.{partial, sound};
+ghost use Rattle.reassembly.specs.Reading.{Proper, messageOf, readingAt};
+ghost use Rattle.reassembly.specs.Reading.Reading.{chunk};
+ghost use Rattle.reassembly.specs.Operations.{stepOf, begun, begunMarks, takeIn, combine, emptied, askComplete, judgeHandOut, handOut};
+use crate::areas::store_covered;
+use crate::areas::store_data;
+use crate::judge::judge_chunk;
+use crate::judge::judge_combine;
+use crate::marks::all_marked;
+use crate::marks::clear;
+use crate::marks::mark_marked;
+use crate::marks::mark_range;
+use crate::record::Message;
+use crate::record::PartialRecord;
+use crate::record::is_sound;
+use crate::verdict::Completeness;
+use crate::verdict::Verdict;
+use chunk::datagram::ChunkPlace;
+use chunk::datagram::ChunkRead;
+use network_message::publisher_record::publisher_record;
+use wire::part::part;
+
+// An answer, and the record afterwards.
+pub struct Outcome {
+    pub verdict: Verdict,
+    pub rec: PartialRecord,
+}
+
+// A partial not started takes over the message, and every mark is cleared; a started one stays as it is.
+fn begin(rec: PartialRecord, marks: &mut [u8], message: Message) -> PartialRecord
+    ensures { λ r. ⌜ (r ≡ begun rec message) × (now (marks .exit) ≡ begunMarks rec (now (marks .entry))) ⌝ }
+{
+    if rec.started {
+        return rec;
+    }
+    clear(marks);
+    PartialRecord {
+        started: true,
+        message,
+    }
+}
+
+// Takes in the data of a chunk without a fault of its own, in a sound partial: 11, 13, 14.
+fn take_chunk(
+    rec: PartialRecord,
+    payload: &mut [u8],
+    marks: &mut [u8],
+    m: Message,
+    offset: usize,
+    bytes: &[u8],
+) -> Outcome
+    requires { ⌜ (sound (partial rec (now payload) (now marks)) ≡ true) × Proper m offset (length (now bytes)) ⌝ }
+    ensures { λ r. ⌜ stepOf r (now (payload .exit)) (now (marks .exit)) ≡ takeIn (partial rec (now (payload .entry)) (now (marks .entry))) (chunk m offset (now (bytes .entry))) ⌝ }
+{
+    let verdict = judge_chunk(rec, payload, marks, m, offset, bytes);
+    if let Verdict::Refused(_, _) = verdict {
+        return Outcome { verdict, rec };
+    }
+    let end = offset + bytes.len();
+    let next = begin(rec, marks, m);
+    store_data(payload, offset, bytes);
+    mark_range(marks, offset, end);
+    Outcome { verdict, rec: next }
+}
+
+// The record of a chunk's message.
+fn message_of(s: &[u8], c: ChunkPlace) -> Message
+    ensures { λ r. ⌜ r ≡ messageOf c (now (s .entry)) ⌝ }
+{
+    let id = c.publisher;
+    let publisher = publisher_record(s, id, c.publisher_end);
+    let p = c.payload;
+    Message {
+        publisher,
+        writer: c.writer,
+        number: p.number,
+        total: p.total,
+    }
+}
+
+// Takes a chunk in from a datagram: 12, the chunk's own numbers, 11, 13, 14.
+pub fn take_in(
+    rec: PartialRecord,
+    payload: &mut [u8],
+    marks: &mut [u8],
+    datagram: &[u8],
+    sizes: &[u16],
+) -> Outcome
+    ensures { λ r. ⌜ stepOf r (now (payload .exit)) (now (marks .exit)) ≡ takeIn (partial rec (now (payload .entry)) (now (marks .entry))) (readingAt (now (sizes .entry)) (now (datagram .entry))) ⌝ }
+{
+    if !is_sound(rec, payload.len(), marks.len()) {
+        return Outcome {
+            verdict: Verdict::Refused(12, 0),
+            rec,
+        };
+    }
+    match chunk::datagram::read(datagram, sizes) {
+        ChunkRead::Refused(n, place) => Outcome {
+            verdict: Verdict::Refused(n, place),
+            rec,
+        },
+        ChunkRead::Is(c, _) => {
+            let p = c.payload;
+            let bytes = part(datagram, p.first, p.length);
+            take_chunk(
+                rec,
+                payload,
+                marks,
+                message_of(datagram, c),
+                p.offset,
+                bytes,
+            )
+        }
+    }
+}
+
+// Combines another partial into this one: 12 for either, 11, 13, 14. The source stays as it is.
+pub fn combine_in(
+    rec: PartialRecord,
+    payload: &mut [u8],
+    marks: &mut [u8],
+    source: PartialRecord,
+    from: &[u8],
+    from_marks: &[u8],
+) -> Outcome
+    ensures { λ r. ⌜ stepOf r (now (payload .exit)) (now (marks .exit)) ≡ combine (partial rec (now (payload .entry)) (now (marks .entry))) (partial source (now («from» .entry)) (now («from_marks» .entry))) ⌝ }
+{
+    let verdict = judge_combine(rec, payload, marks, source, from, from_marks);
+    if let Verdict::Refused(_, _) = verdict {
+        return Outcome { verdict, rec };
+    }
+    if !source.started {
+        return Outcome { verdict, rec };
+    }
+    let m = source.message;
+    let next = begin(rec, marks, m);
+    store_covered(payload, m.total, from, from_marks);
+    mark_marked(marks, m.total, from_marks);
+    Outcome { verdict, rec: next }
+}
+
+// Empties a partial: not started, and no area changes. Never refused.
+pub fn empty(rec: PartialRecord) -> PartialRecord
+    ensures { λ r. ⌜ r ≡ emptied rec ⌝ }
+{
+    let message = rec.message;
+    PartialRecord {
+        started: false,
+        message,
+    }
+}
+
+// Whether a partial is complete: yes, no, or 12.
+pub fn ask_complete(rec: PartialRecord, payload: &[u8], marks: &[u8]) -> Completeness
+    ensures { λ r. ⌜ r ≡ askComplete (partial rec (now (payload .entry)) (now (marks .entry))) ⌝ }
+{
+    if !is_sound(rec, payload.len(), marks.len()) {
+        return Completeness::Refused(12, 0);
+    }
+    if !rec.started {
+        return Completeness::No;
+    }
+    let m = rec.message;
+    if all_marked(marks, m.total) {
+        return Completeness::Yes;
+    }
+    Completeness::No
+}
+
+// What handing out answers: 12, 15, or done.
+pub fn hand_out_verdict(rec: PartialRecord, payload: &[u8], marks: &[u8]) -> Verdict
+    ensures { λ r. ⌜ r ≡ judgeHandOut (partial rec (now (payload .entry)) (now (marks .entry))) ⌝ }
+{
+    match ask_complete(rec, payload, marks) {
+        Completeness::Yes => Verdict::Done,
+        Completeness::No => Verdict::Refused(15, 0),
+        Completeness::Refused(n, place) => Verdict::Refused(n, place),
+    }
+}
+
+// The complete payload, as a part of the lent area; nothing where `hand_out_verdict` refuses.
+pub fn hand_out<'a>(rec: PartialRecord, payload: &'a [u8], marks: &[u8]) -> &'a [u8]
+    ensures { λ r. ⌜ now r ≡ handOut (partial rec (now (payload .entry)) (now (marks .entry))) ⌝ }
+{
+    if let Verdict::Refused(_, _) = hand_out_verdict(rec, payload, marks) {
+        return &payload[..0];
+    }
+    let m = rec.message;
+    let total = m.total;
+    &payload[..total]
+}

@@ -1,0 +1,14 @@
+// What an operation answers.
+
+// Done, or document 01's number and place.
+pub enum Verdict {
+    Done,
+    Refused(u8, usize),
+}
+
+// Whether a partial is complete, or document 01's number and place.
+pub enum Completeness {
+    Yes,
+    No,
+    Refused(u8, usize),
+}

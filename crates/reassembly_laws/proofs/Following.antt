@@ -1,0 +1,218 @@
+-- Each call on a good partial answers as the plain machine does, and leaves a good partial that is equal to what the machine keeps.
+-- Assumes nothing.
+use Prim.Native.Nat.{ℕ, _≤_}
+use mathlib.Core.Path.{_≡_, refl, sym, ap, _∙_}
+use mathlib.Core.Bool.{Bool, true, false, cond, not, or-true, false≢true}
+use mathlib.Core.List.{List}
+use mathlib.Core.Option.{none}
+use native.Mathlib.Omega.{arith}
+use lib.ListN.{length}
+use borrow.Author.Tests.{le-leb, eq-eqb}
+use Rattle.reassembly.specs.Views.{View, clash, full, has, dataView, joined, nowhere, laid}
+use Rattle.reassembly.specs.Marks.{marksFor, cleared, markAll}
+use Rattle.reassembly.specs.Areas.{markedView}
+use Rattle.network_message.specs.PublisherRecord.{publisherFits}
+use Rattle.reassembly.specs.Record.{Identity, identityOf, Partial, partial, soundBy, Good}
+use Rattle.reassembly.specs.Reading.{Reading, readingAt, ProperReading}
+use Rattle.reassembly.specs.Reading.Reading.{chunk, refusal}
+use Rattle.reassembly.specs.Machine.{State, judge, accept, acceptState, complete}
+use Rattle.reassembly.specs.Machine.State.{idle, held}
+use Rattle.reassembly.specs.Judge.{viewOf, stateOf, alone, readingVerdict, judgeReading, judgeCombine}
+use Rattle.reassembly.specs.Operations.{Step, begunMarks, put, takeIn, combine, emptied, yesNo, askComplete, handOutBy, judgeHandOut, handOut}
+use Rattle.reassembly_laws.specs.History.{Call, replyOf, saidOf, said, handedOf, answers, leaves, verdictOf, whole, says, ifAccepted, keeps}
+use Rattle.reassembly_laws.specs.History.Call.{Empty, Take, Combine, Ask, HandOut}
+use Rattle.reassembly.specs.declared.record.Message.{Message}
+use Rattle.reassembly.specs.declared.record.PartialRecord.{PartialRecord}
+use Rattle.reassembly.specs.declared.verdict.Verdict.{Verdict}
+use Rattle.reassembly.specs.declared.verdict.Verdict.the-variants.{Done, Refused}
+use Rattle.reassembly.proofs.Cases.{by-bool}
+use Rattle.reassembly.proofs.ViewLaws.{length-laid, data-above, clash-none, joined-nowhere}
+use Rattle.reassembly.proofs.MarkLaws.{length-cleared, length-markAll}
+use Rattle.reassembly.proofs.AreaLaws.{marked-above, cleared-nowhere, view-put, full-bytes}
+use Rattle.reassembly.proofs.SameLaws.{same-message-true}
+use Rattle.reassembly.proofs.JudgeLaws
+
+-- a message that a sound partial of n bytes can have
+pub record Fit (m : Message) (n : ℕ) : Type 0 where
+  pub some : 1 ≤ m .total
+  pub room : m .total ≤ n
+  pub publisher : publisherFits (m .publisher) ≡ true
+
+pub fit-sound : (r : PartialRecord) (n k : ℕ) → marksFor n ≡ k → Fit (r .message) n → soundBy r n k ≡ true
+unfolding soundBy
+fit-sound r n k e f =
+    rw (eq-eqb (marksFor n) k e, le-leb 1 (r .message .total) (f .some), le-leb (r .message .total) n (f .room), f .publisher)
+    (or-true (not (r .started)))
+
+-- ---- bytes put into a good partial
+module _ (m : Message) (v : View) (s : Partial) where
+  pub put-started : s .rec .started ≡ true → put m v s ≡ partial (s .rec) (laid v (s .payload)) (markAll (has v) (s .marks))
+  unfolding put
+  put-started e = rw e
+
+  put-idle : s .rec .started ≡ false → put m v s ≡ partial (record { started = true; message = m }) (laid v (s .payload)) (markAll (has v) (cleared (s .marks)))
+  unfolding put
+  put-idle e = rw e
+
+module _ (m : Message) (v : View) (s : Partial) (ok : Good s) (fit : Fit m (length (s .payload))) where
+  put-lengths : (length (put m v s .payload) ≡ length (s .payload)) × (length (put m v s .marks) ≡ length (s .marks))
+  unfolding put
+  put-lengths = (length-laid v (s .payload), length-markAll (has v) (begunMarks (s .rec) (s .marks)) ∙ JudgeLaws.length-begun (s .rec) (s .marks) _ refl)
+
+  pub put-good : Good (put m v s)
+  put-good = record {
+    is-sound = by-bool _ (s .rec .started)
+        (λ e. rw (put-started m v s e, length-laid v (s .payload), length-markAll (has v) (s .marks)) (ok .is-sound))
+        (λ e. rw (put-idle m v s e, length-laid v (s .payload), length-markAll (has v) (cleared (s .marks)), length-cleared (s .marks))
+        (fit-sound (record { started = true; message = m }) (length (s .payload)) (length (s .marks)) (JudgeLaws.sound-lengths (s .rec) _ _ (ok .is-sound)) fit));
+  }
+
+  pub put-state : ((i : ℕ) → m .total ≤ i → v i ≡ none) → judge (length (s .payload)) (stateOf s) (identityOf m) v ≡ Done → stateOf (put m v s) ≡ accept (stateOf s) (identityOf m) v
+  put-state above met =
+      by-bool _ (s .rec .started)
+      (λ e.
+      let t = s .rec .message .total in
+      let k = identityOf (s .rec .message) in
+      let met₁ = JudgeLaws.judge-meets (length (s .payload)) (held k (viewOf s)) (identityOf m) v (rw e at met) in
+      let same : t ≡ m .total = ap (λ (x : Identity). x .total) (same-message-true k (identityOf m) (JudgeLaws.meet-same k (identityOf m) (viewOf s) v met₁)) in
+      let u : t ≤ length (s .payload) = JudgeLaws.sound-total (s .rec) _ _ (ok .is-sound) e in
+      rw (put-started m v s e, e)
+      (ap (held k) (view-put t v (s .payload) (s .marks) u (JudgeLaws.sound-marks (s .rec) _ _ (ok .is-sound) t u) (λ i h. above i (omega arith)) (JudgeLaws.meet-free k (identityOf m) (viewOf s) v met₁))))
+      (λ e.
+      let t = m .total in
+      let z = cleared (s .marks) in
+      let none-held : markedView t (s .payload) z ≡ nowhere = cleared-nowhere t (s .payload) (s .marks) in
+      let free : clash t (markedView t (s .payload) z) v ≡ false = rw none-held (clash-none t nowhere v (λ i h. refl)) in
+      let room : marksFor t ≤ length z = rw (length-cleared (s .marks)) (JudgeLaws.sound-marks (s .rec) _ _ (ok .is-sound) t (fit .room)) in
+      rw (put-idle m v s e, e)
+      (ap (held (identityOf m)) (view-put t v (s .payload) z (fit .room) room above free ∙ ap (λ (w : View). joined w v) none-held ∙ joined-nowhere v)))
+
+-- ---- a step that brings t, judged by v
+pub record Stepped (s : Partial) (x : Step) (v : Verdict) (t : State) : Type 0 where
+  pub verdict : x .verdict ≡ v
+  pub state : stateOf (x .after) ≡ ifAccepted v (stateOf s) (acceptState (stateOf s) t)
+  pub good : Good (x .after)
+  pub room : length (x .after .payload) ≡ length (s .payload)
+
+module _ (s : Partial) (ok : Good s) (x : Step) (v : Verdict) (t : State) where
+  step-refused : (n p : ℕ) → x ≡ record { verdict = Refused n p; after = s } → v ≡ Refused n p → Stepped s x v t
+  step-refused n p e f = record { verdict = rw (e, f); state = rw (e, f); good = rw e ok; room = rw e }
+
+  step-idle : x ≡ record { verdict = Done; after = s } → v ≡ Done → t ≡ idle → Stepped s x v t
+  step-idle e f g = record { verdict = rw (e, f); state = rw (e, f, g); good = rw e ok; room = rw e }
+
+  step-put : (m : Message) (w : View) → Fit m (length (s .payload)) → ((i : ℕ) → m .total ≤ i → w i ≡ none) → judge (length (s .payload)) (stateOf s) (identityOf m) w ≡ Done → x ≡ record { verdict = Done; after = put m w s } → v ≡ Done → t ≡ held (identityOf m) w → Stepped s x v t
+  step-put m w fit above met e f g = record {
+    verdict = rw (e, f);
+    state = rw (e, f, g) (put-state m w s ok fit above met);
+    good = rw e (put-good m w s ok fit);
+    room = rw e (put-lengths m w s ok fit .0);
+  }
+
+module _ (s : Partial) (ok : Good s) where
+  -- ---- taking in
+  pub take-stepped : (x : Reading) → ProperReading x → Stepped s (takeIn s x) (readingVerdict (length (s .payload)) (stateOf s) x) (alone x)
+  take-stepped (refusal k p) o =
+      step-refused s ok _ _ _ k p
+      (JudgeLaws.take-refused s (refusal k p) k p (JudgeLaws.reading-judged s (refusal k p) (ok .is-sound))) refl
+  take-stepped (chunk m at d) o = go (judgeReading s (chunk m at d)) refl
+    where
+      judged : judgeReading s (chunk m at d) ≡ judge (length (s .payload)) (stateOf s) (identityOf m) (dataView at d)
+      judged = JudgeLaws.reading-judged s (chunk m at d) (ok .is-sound)
+
+      go : (v : Verdict) → judgeReading s (chunk m at d) ≡ v → Stepped s (takeIn s (chunk m at d)) (readingVerdict (length (s .payload)) (stateOf s) (chunk m at d)) (alone (chunk m at d))
+      go (Refused k p) e = step-refused s ok _ _ _ k p (JudgeLaws.take-refused s (chunk m at d) k p e) (sym judged ∙ e)
+      go Done e =
+          let met = sym judged ∙ e in
+          let fit : Fit m (length (s .payload)) = record { some = o .some; room = JudgeLaws.judge-fits (length (s .payload)) (stateOf s) (identityOf m) (dataView at d) met; publisher = o .publisher } in
+          step-put s ok _ _ _ m (dataView at d) fit (λ i h. data-above at d i (omega (arith, o .fits))) met (JudgeLaws.take-done s (chunk m at d) e) met refl
+
+  -- ---- combining
+  pub source-verdict : (f : Partial) → judgeCombine s f ≡ verdictOf (length (s .payload)) (Combine f) (stateOf s)
+  unfolding judgeCombine
+  source-verdict f = rw (ok .is-sound)
+
+  pub combine-stepped : (f : Partial) → Stepped s (combine s f) (verdictOf (length (s .payload)) (Combine f) (stateOf s)) (stateOf f)
+  combine-stepped f = go (judgeCombine s f) refl
+    where
+      go : (v : Verdict) → judgeCombine s f ≡ v → Stepped s (combine s f) (verdictOf (length (s .payload)) (Combine f) (stateOf s)) (stateOf f)
+      go (Refused k p) e = step-refused s ok _ _ _ k p (JudgeLaws.combine-refused s f k p e) (sym (source-verdict f) ∙ e)
+      go Done e =
+          by-bool _ (f .rec .started)
+          (λ h.
+          let g = JudgeLaws.combine-source-sound s f e in
+          let met = JudgeLaws.combine-met s f e h in
+          let fit : Fit (f .rec .message) (length (s .payload)) = record { some = JudgeLaws.sound-some (f .rec) _ _ g h; room = JudgeLaws.judge-fits (length (s .payload)) (stateOf s) (identityOf (f .rec .message)) (viewOf f) met; publisher = JudgeLaws.sound-publisher (f .rec) _ _ g h } in
+          step-put s ok _ _ _ (f .rec .message) (viewOf f) fit (λ i l. marked-above (f .rec .message .total) (f .payload) (f .marks) i l) met (JudgeLaws.combine-done s f e h) (sym (source-verdict f) ∙ e) (rw h))
+          (λ h. step-idle s ok _ _ _ (JudgeLaws.combine-done-idle s f e h) (sym (source-verdict f) ∙ e) (rw h))
+
+  -- ---- asking and handing out
+  pub ask-is : askComplete s ≡ yesNo (complete (stateOf s))
+  unfolding askComplete
+  ask-is = rw (ok .is-sound)
+
+  pub hand-is : judgeHandOut s ≡ cond (complete (stateOf s)) Done (Refused 15 0)
+  unfolding judgeHandOut
+  hand-is = rw ask-is (by-case (complete (stateOf s)))
+    where
+      by-case : (b : Bool) → handOutBy (yesNo b) ≡ cond b Done (Refused 15 0)
+      by-case true = refl
+      by-case false = refl
+
+  pub hand-bytes : complete (stateOf s) ≡ true → handOut s ≡ whole (stateOf s)
+  unfolding handOut
+  hand-bytes e =
+      by-bool _ (s .rec .started)
+      (λ h.
+      let f : full (s .rec .message .total) (viewOf s) ≡ true = rw h at e in
+      rw (hand-is, e, h) (full-bytes (s .rec .message .total) (s .payload) (s .marks) (JudgeLaws.sound-total (s .rec) _ _ (ok .is-sound) h) f))
+      (λ h. rw (hand-is, e, h) (absurd (false≢true (rw h at e))))
+
+-- ---- one call
+pub record Follows (k : Call) (s : Partial) : Type 0 where
+  pub reply : answers k s ≡ says (length (s .payload)) k (stateOf s)
+  pub state : stateOf (leaves k s) ≡ keeps (length (s .payload)) k (stateOf s)
+  pub good : Good (leaves k s)
+  pub room : length (leaves k s .payload) ≡ length (s .payload)
+
+module _ (s : Partial) (ok : Good s) where
+  follow-empty : Follows Empty s
+  unfolding emptied soundBy
+  follow-empty = record {
+    reply = refl;
+    state = refl;
+    good = record { is-sound = rw (eq-eqb (marksFor (length (s .payload))) (length (s .marks)) (JudgeLaws.sound-lengths (s .rec) _ _ (ok .is-sound))) };
+    room = refl;
+  }
+
+  follow-take : (d sizes : List ℕ) → Follows (Take d sizes) s
+  follow-take d sizes =
+      let t = take-stepped s ok (readingAt sizes d) (JudgeLaws.reading-proper sizes d) in
+      record { reply = ap replyOf (t .verdict); state = t .state; good = t .good; room = t .room }
+
+  follow-combine : (f : Partial) → Follows (Combine f) s
+  follow-combine f =
+      let t = combine-stepped s ok f in
+      record { reply = ap replyOf (t .verdict); state = t .state; good = t .good; room = t .room }
+
+  follow-ask : Follows Ask s
+  follow-ask = record { reply = ap saidOf (ask-is s ok) ∙ by-case (complete (stateOf s)); state = refl; good = ok; room = refl }
+    where
+      by-case : (b : Bool) → saidOf (yesNo b) ≡ said b
+      by-case true = refl
+      by-case false = refl
+
+  follow-hand : Follows HandOut s
+  follow-hand = record {
+    reply = by-bool _ (complete (stateOf s)) (λ e. rw (hand-is s ok, e) (ap (handedOf Done) (hand-bytes s ok e))) (λ e. rw (hand-is s ok, e));
+    state = refl;
+    good = ok;
+    room = refl;
+  }
+
+  pub follow : (k : Call) → Follows k s
+  follow Empty = follow-empty
+  follow (Take d sizes) = follow-take d sizes
+  follow (Combine f) = follow-combine f
+  follow Ask = follow-ask
+  follow HandOut = follow-hand

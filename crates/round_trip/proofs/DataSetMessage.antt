@@ -1,0 +1,276 @@
+-- What the DataSetMessage writer accepts reads back as it was given.
+-- Assumes nothing.
+use mathlib.Core.Path.{_≡_, refl, ap, sym, _∙_, subst}
+use mathlib.Core.Bool.{Bool, true, false, cond, not, _&&_, _||_}
+use mathlib.Core.List.{List, [], _∷_, _++_, append-nil}
+use Prim.Native.Nat.{ℕ, _+_, _-_, _≤_, _<_}
+use native.Mathlib.Nat.{add-zero, zero-add}
+use native.Mathlib.Omega.{arith}
+use borrow.Author.Tests.{leb-true, eqb-true, eqb-false, le-leb, lt-leb}
+use lib.Dec.{eqb}
+use lib.ListN.{drop, length, getD, length-append}
+use lib.Seq.{take-all}
+use Rattle.wire.specs.Answer.{got}
+use Rattle.wire.proofs.Facts.{and-left, and-right}
+use Rattle.value.specs.declared.Measure.{Measure}
+use Rattle.writing.specs.Writing.{orElse}
+use Rattle.writing.proofs.Trip.{At, first, second, item-is}
+use Rattle.writing.proofs.Refusals.{both-zero, passed}
+use Rattle.dataset_message.specs.declared.flags.Encoding.{Encoding}
+use Rattle.dataset_message.specs.declared.flags.Kind.{Kind}
+use Rattle.dataset_message.specs.Flags.{valid}
+use Rattle.dataset_message.specs.Header.{headerAt}
+use Rattle.dataset_message.specs.Fields.{encodedAt, fieldAt, fieldsAt, paddingAt}
+use Rattle.dataset_message.specs.Message.{isDelta, isRaw, countedAt, countAt, messageAt, fieldPlaceAt}
+use Rattle.dataset_message.proofs.Agreement.{field-inside}
+use Rattle.dataset_message_writer.specs.Flags.{kindRule}
+use Rattle.dataset_message_writer.specs.Header.{headerBytes}
+use Rattle.dataset_message_writer.specs.Fields.{valuesOf, endsAt, fieldsRefusal, fieldsWhole, reached, fieldsBytes, zeros}
+use Rattle.writing.specs.declared.Written.{Written}
+use Rattle.dataset_message_writer.specs.Message.{Given, writerNumber, Writes, hasFields, isKey, isFielded, isRawData, fieldsOf, countBytes, configuredRule, countAgrees, encode, refusalOf}
+use Rattle.dataset_message_writer.proofs.Judging.{length-values}
+use Rattle.dataset_message_writer.proofs.Laying.{length-zeros}
+use Rattle.dataset_message_writer.proofs.Whole.{Accepted, accepted}
+use Rattle.round_trip.specs.DataSetMessage.{firstOf, endOf, messageOf, FieldBack, MessageBack}
+use Rattle.round_trip.proofs.DataSetMessageParts.{FitsHeader, FitsIndices, header-is, whole-alone, fields-is, nth-is, zeros-is}
+
+pub no : {A : Type 0} → false ≡ true → A
+no e = let z : _≡_ {A = ℕ} 0 1 = cc in absurd (omega arith)
+
+-- FieldCount, or the configured number
+
+pub counted-is : (raw : Bool) (types s : List ℕ) (at n : ℕ) → (raw ≡ true → (eqb (length types) 0 ≡ false) × (n ≡ length types)) → (raw ≡ false → n ≤ 65535)
+    → At s at (countBytes true raw n) → countedAt raw types s at ≡ got n (at + length (countBytes true raw n))
+counted-is true types s at n h l a = rw (h refl .0) (ap (λ (m : ℕ). got m at) (sym (h refl .1)) ∙ ap (got n) (sym (add-zero at)))
+counted-is false types s at n h l a = let u = l refl in item-is 2 n at (omega arith) s a
+
+-- of a message without fields: there are none, and nothing follows the header of a heartbeat
+pub record Bare (kind : Kind) (s : List ℕ) (at n : ℕ) : Type 0 where
+  pub none : n ≡ 0
+  pub ends : isKey kind ≡ true → length s ≤ at
+
+pub count-is : (kind : Kind) (heartbeat raw : Bool) (types s : List ℕ) (at n : ℕ) → (isDelta kind ≡ true → raw ≡ false)
+    → (hasFields kind heartbeat ≡ true → (at < length s) × (countedAt raw types s at ≡ got n (at + length (countBytes true raw n))))
+    → (hasFields kind heartbeat ≡ false → Bare kind s at n)
+    → countAt kind raw types s at ≡ got n (at + length (countBytes (hasFields kind heartbeat) raw n))
+count-is Kind.Key true raw types s at n d f b =
+    let z = b refl in
+    rw (le-leb (length s) at (z .ends refl)) (ap (λ (m : ℕ). got m at) (sym (z .none)) ∙ ap (got n) (sym (add-zero at)))
+count-is Kind.Key false raw types s at n d f b = rw (lt-leb (length s) at (f refl .0)) (f refl .1)
+count-is Kind.Delta heartbeat raw types s at n d f b = ap (λ (r : Bool). countedAt r types s at) (sym (d refl)) ∙ f refl .1
+count-is Kind.Event heartbeat raw types s at n d f b = f refl .1
+count-is Kind.KeepAlive heartbeat raw types s at n d f b = let z = b refl in ap (λ (m : ℕ). got m at) (sym (z .none)) ∙ ap (got n) (sym (add-zero at))
+
+-- a field is never empty, so neither are some
+
+some-of : (encoding : Encoding) (types : List ℕ) (k : ℕ) (v : List ℕ) (x : Measure) → encodedAt encoding types k v 0 ≡ got x (length v) → 0 < length v
+some-of encoding types k v x q =
+    let r : fieldAt false encoding types k v 0 ≡ got (record { index = k; kind = x .kind; shape = x .shape; offset = 0; length = length v - 0 }) (length v) = rw q in
+    let i = field-inside false encoding types k v 0 (record { index = k; kind = x .kind; shape = x .shape; offset = 0; length = length v - 0 }) (length v) r in
+    omega (arith, i .some)
+
+value-some : (encoding : Encoding) (types : List ℕ) (k : ℕ) (v : List ℕ) → endsAt (length v) (encodedAt encoding types k v 0) ≡ true → 0 < length v
+value-some encoding types k v w =
+    let t = whole-alone (encodedAt encoding types k v 0) (length v) w in
+    some-of encoding types k v (t .0) (t .1)
+
+pub fields-some : (delta : Bool) (encoding : Encoding) (types : List ℕ) (k : ℕ) (indices : List ℕ) (vs : List (List ℕ)) → fieldsWhole encoding types k vs ≡ true → 0 < length vs
+    → 0 < length (fieldsBytes delta indices vs)
+unfolding fieldsWhole fieldsBytes
+fields-some delta encoding types k indices [] w l = absurd (omega arith)
+fields-some delta encoding types k indices (v ∷ vs) w l =
+    let x = value-some encoding types k v (and-left _ (fieldsWhole encoding types (k + 1) vs) w) in
+    simp length-append (omega arith)
+
+-- all fields are reached
+pub reached-all : (raw : Bool) (types lengths values : List ℕ) → countAgrees raw (length types) (length lengths) ≡ true → reached raw types (valuesOf lengths values) ≡ valuesOf lengths values
+reached-all true types lengths values e =
+    let n : length lengths ≡ length types = eqb-true (length lengths) (length types) e in
+    let m = length-values lengths values in
+    take-all (length types) (valuesOf lengths values) (omega arith)
+reached-all false types lengths values e = refl
+
+-- What follows the header of an accepted message.
+pub record Fielded (types : List ℕ) (g : Given) : Type 0 where
+  pub whole : fieldsWhole (g .header .encoding) types 0 (fieldsOf g) ≡ true
+  pub configured : isFielded g ≡ true → isRawData g ≡ true → (eqb (length types) 0 ≡ false) × (length (g .lengths) ≡ length types)
+  pub counted : isFielded g ≡ true → isRawData g ≡ false → length (g .lengths) ≤ 65535
+  pub none : isFielded g ≡ false → length (g .lengths) ≡ 0
+  pub unpadded : isFielded g ≡ false → isKey (g .header .kind) ≡ true → g .padding ≡ 0
+
+none-is : (encoding : Encoding) (types lengths values : List ℕ) → length lengths ≡ 0 → fieldsWhole encoding types 0 (valuesOf lengths values) ≡ true
+unfolding valuesOf fieldsWhole
+none-is encoding types [] values e = refl
+none-is encoding types (n ∷ lengths) values e = absurd (omega arith)
+
+unpadded-is : (key : Bool) (padding : ℕ) → not key || eqb padding 0 ≡ true → key ≡ true → padding ≡ 0
+unpadded-is true padding h e = eqb-true padding 0 h
+unpadded-is false padding h e = no e
+
+raw-configured : (raw : Bool) (configured n r : ℕ) → orElse (configuredRule raw configured) r ≡ 0 → countAgrees raw configured n ≡ true → raw ≡ true → (eqb configured 0 ≡ false) × (n ≡ configured)
+raw-configured true configured n r h c e =
+    (passed (eqb configured 0) 7 0 (both-zero (configuredRule true configured) r h .0) .0, eqb-true n configured c)
+raw-configured false configured n r h c e = no e
+
+plain-counted : (raw : Bool) (configured n : ℕ) → countAgrees raw configured n ≡ true → raw ≡ false → n ≤ 65535
+plain-counted true configured n c e = no (sym e)
+plain-counted false configured n c e = leb-true n 65535 c
+
+pub fielded : (types : List ℕ) (g : Given) → Accepted types g → Fielded types g
+fielded types g a = go (isFielded g) refl
+  where
+    go : (f : Bool) → isFielded g ≡ f → Fielded types g
+    go true e =
+        let whole = fieldsWhole (g .header .encoding) types 0 (reached (isRawData g) types (fieldsOf g)) in
+        let w : whole && countAgrees (isRawData g) (length types) (length (g .lengths)) ≡ true = rw e at (a .agrees) in
+        let c = and-right whole (countAgrees (isRawData g) (length types) (length (g .lengths))) w in
+        record {
+          whole = subst (λ (vs : List (List ℕ)). fieldsWhole (g .header .encoding) types 0 vs ≡ true) (reached-all (isRawData g) types (g .lengths) (g .values) c) (and-left whole (countAgrees (isRawData g) (length types) (length (g .lengths))) w);
+          configured = λ f r. raw-configured (isRawData g) (length types) (length (g .lengths)) (fieldsRefusal (g .header .encoding) types 0 (reached (isRawData g) types (fieldsOf g))) (rw e at (a .body)) c r;
+          counted = λ f r. plain-counted (isRawData g) (length types) (length (g .lengths)) c r;
+          none = λ f. no (sym f ∙ e);
+          unpadded = λ f k. no (sym f ∙ e);
+        }
+    go false e =
+        let bare = not (isKey (g .header .kind)) || eqb (g .padding) 0 in
+        let w : eqb (length (g .lengths)) 0 && bare ≡ true = rw e at (a .agrees) in
+        let n : length (g .lengths) ≡ 0 = eqb-true (length (g .lengths)) 0 (and-left (eqb (length (g .lengths)) 0) bare w) in
+        record {
+          whole = none-is (g .header .encoding) types (g .lengths) (g .values) n;
+          configured = λ f r. no (sym e ∙ f);
+          counted = λ f r. no (sym e ∙ f);
+          none = λ f. n;
+          unpadded = λ f k. unpadded-is (isKey (g .header .kind)) (g .padding) (and-right (eqb (length (g .lengths)) 0) bare w) k;
+        }
+
+pub delta-plain : (kind : Kind) (encoding : Encoding) → kindRule kind encoding ≡ 0 → isDelta kind ≡ true → isRaw encoding ≡ false
+delta-plain Kind.Key encoding r e = no e
+delta-plain Kind.Delta Encoding.Variant r e = refl
+delta-plain Kind.Delta Encoding.RawData r e = absurd (omega arith)
+delta-plain Kind.Delta Encoding.DataValue r e = refl
+delta-plain Kind.Event encoding r e = no e
+delta-plain Kind.KeepAlive encoding r e = no e
+
+none-bytes : (delta : Bool) (indices lengths values : List ℕ) → length lengths ≡ 0 → length (fieldsBytes delta indices (valuesOf lengths values)) ≡ 0
+unfolding valuesOf fieldsBytes
+none-bytes delta indices [] values q = refl
+none-bytes delta indices (x ∷ lengths) values q = absurd (omega arith)
+
+module _ (types : List ℕ) (g : Given) (fits : FitsHeader (g .header)) (indices : FitsIndices (g .indices)) (ok : Accepted types g) where
+  body : Fielded types g
+  body = fielded types g ok
+
+  -- where the parts stand
+
+  all-at : At (encode g) 0 (encode g)
+  all-at = ([], [], sym (append-nil (encode g)), refl)
+
+  abbrev fieldsPart : List ℕ
+  fieldsPart = fieldsBytes (isDelta (g .header .kind)) (g .indices) (fieldsOf g)
+
+  abbrev countPart : List ℕ
+  countPart = countBytes (isFielded g) (isRawData g) (length (g .lengths))
+
+  abbrev start : ℕ
+  start = length (headerBytes (g .header))
+
+  body-at : At (encode g) start (countPart ++ (fieldsPart ++ zeros (g .padding)))
+  body-at = subst (λ (n : ℕ). At (encode g) n (countPart ++ (fieldsPart ++ zeros (g .padding)))) (zero-add start) (second (encode g) 0 (headerBytes (g .header)) (countPart ++ (fieldsPart ++ zeros (g .padding))) all-at)
+
+  fields-at : At (encode g) (firstOf g) (fieldsPart ++ zeros (g .padding))
+  fields-at = second (encode g) start countPart (fieldsPart ++ zeros (g .padding)) body-at
+
+  zeros-at : At (encode g) (endOf g) (zeros (g .padding))
+  zeros-at = second (encode g) (firstOf g) fieldsPart (zeros (g .padding)) fields-at
+
+  sizes : length (encode g) ≡ start + (length countPart + (length fieldsPart + g .padding))
+  sizes = simp (length-append, length-zeros)
+
+  -- the parts, read
+
+  header-read : headerAt (encode g) 0 ≡ got (valid (g .header)) start
+  header-read =
+      header-is (g .header) fits (ok .kind) (ok .picoseconds) (encode g) (first (encode g) 0 (headerBytes (g .header)) (countPart ++ (fieldsPart ++ zeros (g .padding))) all-at)
+      ∙ ap (got (valid (g .header))) (zero-add start)
+
+  follows : isFielded g ≡ true → start < length (encode g)
+  follows e = go (isRawData g) refl
+    where
+      go : (r : Bool) → isRawData g ≡ r → start < length (encode g)
+      go true q =
+          let c = body .configured e q in
+          let n : 0 < length (fieldsOf g) = let m = length-values (g .lengths) (g .values) in let z = eqb-false (length types) 0 (c .0) in omega arith in
+          let x = fields-some (isDelta (g .header .kind)) (g .header .encoding) types 0 (g .indices) (fieldsOf g) (body .whole) n in
+          omega (arith, sizes)
+      go false q = let c : length countPart ≡ 2 = rw (e, q) in omega (arith, sizes)
+
+  ends-there : isFielded g ≡ false → isKey (g .header .kind) ≡ true → length (encode g) ≤ start
+  ends-there e k =
+      let p = body .unpadded e k in
+      let c : length countPart ≡ 0 = rw e in
+      let n : length fieldsPart ≡ 0 = none-bytes (isDelta (g .header .kind)) (g .indices) (g .lengths) (g .values) (body .none e) in
+      omega (arith, sizes)
+
+  count-read : countAt (g .header .kind) (isRawData g) types (encode g) start ≡ got (length (g .lengths)) (firstOf g)
+  count-read =
+      count-is (g .header .kind) (g .heartbeat) (isRawData g) types (encode g) start (length (g .lengths)) (delta-plain (g .header .kind) (g .header .encoding) (ok .kind))
+      (λ e. (
+        follows e,
+        counted-is (isRawData g) types (encode g) start (length (g .lengths)) (body .configured e) (body .counted e)
+            (subst (λ (f : Bool). At (encode g) start (countBytes f (isRawData g) (length (g .lengths)))) e (first (encode g) start countPart (fieldsPart ++ zeros (g .padding)) body-at)),
+      ))
+      (λ e. record { none = body .none e; ends = ends-there e })
+
+  fields-read : fieldsAt (isDelta (g .header .kind)) (g .header .encoding) types (length (g .lengths)) 0 (encode g) (firstOf g) ≡ got tt (endOf g)
+  fields-read =
+      ap (λ (n : ℕ). fieldsAt (isDelta (g .header .kind)) (g .header .encoding) types n 0 (encode g) (firstOf g)) (sym (length-values (g .lengths) (g .values)))
+      ∙ fields-is (isDelta (g .header .kind)) (g .header .encoding) types (fieldsOf g) 0 (g .indices) indices (body .whole) (encode g) (firstOf g) (first (encode g) (firstOf g) fieldsPart (zeros (g .padding)) fields-at)
+
+  padding-is : length (encode g) - endOf g ≡ g .padding
+  padding-is = omega (arith, sizes)
+
+  padding-read : paddingAt (encode g) (endOf g) ≡ got tt (endOf g + g .padding)
+  padding-read = rw padding-is (zeros-is (g .padding) (encode g) (endOf g) zeros-at)
+
+  message-read : messageAt types (encode g) ≡ got (valid (messageOf g)) (endOf g)
+  message-read = rw (header-read, count-read, fields-read, padding-read)
+
+  field-read : (k : ℕ) → k < length (g .lengths) → FieldBack types g k
+  field-read k l =
+      let n = nth-is (isDelta (g .header .kind)) (g .header .encoding) types k (fieldsOf g) 0 (g .indices) indices (body .whole) (rw (length-values (g .lengths) (g .values)) l)
+      (encode g) (firstOf g) (first (encode g) (firstOf g) fieldsPart (zeros (g .padding)) fields-at) in
+      let r : fieldAt (isDelta (g .header .kind)) (g .header .encoding) types k (encode g) (n .at) ≡ got (n .place) (n .end) =
+      ap (λ (j : ℕ). fieldAt (isDelta (g .header .kind)) (g .header .encoding) types j (encode g) (n .at)) (sym (zero-add k)) ∙ n .reads in
+      let p : fieldPlaceAt types k (encode g) ≡ got (n .place) (n .end) = rw (message-read, lt-leb (length (g .lengths)) k l, n .passed, r) in
+      record {
+        place = n .place;
+        end = n .end;
+        looked-up = p;
+        index = n .index ∙ ap (cond (isDelta (g .header .kind)) (getD (g .indices) k 0)) (zero-add k);
+        bytes = rw p (n .bytes);
+      }
+
+-- What the writer accepts reads back, under the same types, as what it was given: the header, the number of fields, each field's
+-- index and bytes, and the length of the padding.
+pub read-written : (types : List ℕ) (g : Given) → FitsHeader (g .header) → FitsIndices (g .indices) → refusalOf types g ≡ 0 → MessageBack types g
+read-written types g fits indices h =
+    let ok = accepted types g h in
+    record { message = message-read types g fits indices ok; field = field-read types g fits indices ok; padding = padding-is types g fits indices ok }
+
+-- The same of the writer itself: where it reports n bytes, these are the message that reads back.
+pub written-reads : (types : List ℕ) (g : Given) → FitsHeader (g .header) → FitsIndices (g .indices) → (entry exit : List ℕ) (n : ℕ) → Writes types g entry exit (Written.Is n)
+    → (exit ≡ encode g ++ drop (length (encode g)) entry) × (n ≡ length (encode g)) × MessageBack types g
+written-reads types g fits indices entry exit n w = go (eqb (writerNumber types g (length entry)) 0) refl
+  where
+    go : (t : Bool) → eqb (writerNumber types g (length entry)) 0 ≡ t → (exit ≡ encode g ++ drop (length (encode g)) entry) × (n ≡ length (encode g)) × MessageBack types g
+    go true t =
+        let z = eqb-true (writerNumber types g (length entry)) 0 t in
+        let a : Written.Is n ≡ Written.Is (length (encode g)) = w .answer ∙ ap (λ (b : Bool). cond b (Written.Is (length (encode g))) (Written.Refused (writerNumber types g (length entry)))) t in (
+          w .buffer ∙ ap (λ (b : Bool). cond b (encode g ++ drop (length (encode g)) entry) entry) t,
+          (cc),
+          read-written types g fits indices (both-zero (refusalOf types g) _ z .0),
+        )
+    go false t =
+        let a : Written.Is n ≡ Written.Refused (writerNumber types g (length entry)) = w .answer ∙ ap (λ (b : Bool). cond b (Written.Is (length (encode g))) (Written.Refused (writerNumber types g (length entry)))) t in
+        let z : _≡_ {A = ℕ} 0 1 = cc in
+        absurd (omega arith)

@@ -1,0 +1,457 @@
+-- The parts of a DataSetMessage, read back as they were written: header, fields and padding.
+-- Assumes nothing.
+use lib.Dec.{eqb}
+use native.Mathlib.Numerals.{add-one}
+use mathlib.Core.Path.{_≡_, refl, ap, sym, _∙_, subst}
+use mathlib.Core.Bool.{Bool, true, false, cond}
+use mathlib.Core.List.{List, [], _∷_, _++_, append-assoc}
+use Prim.Native.Nat.{ℕ, zero, suc, _+_, _-_, _<_, _≤_}
+use native.Mathlib.Nat.{add-zero}
+use native.Mathlib.Omega.{arith}
+use borrow.Author.Tests.{eqb-true, eq-eqb}
+use lib.ListN.{length, getD, take, drop, length-append}
+use lib.Seq.{getD-append-seam, getD-drop, take-at, drop-at, drop-cons, drop-length}
+use Rattle.round_trip.specs.DataSetMessage.{walked, bytesOf, joined, lengthsOf, indicesOf}
+use Rattle.dataset_message.proofs.Agreement.{field-inside}
+use Rattle.dataset_message.specs.declared.header.Versions.{Versions}
+use Rattle.dataset_message.specs.declared.header.Times.{Times}
+use Rattle.dataset_message.specs.declared.flags.Flags.{Flags}
+use Rattle.writing.proofs.Back.{Bytes, Back, empty, join, end-fits, part-at, item-back, ruled-back, map-back, optional16-back, optional32-back, optionalI64-back, ruled16-back}
+use Rattle.wire.proofs.Reading.{invert, got-value, got-next, not-got}
+use Rattle.wire.specs.declared.optional.Optional16.{Optional16}
+use Rattle.wire.specs.Optional.{optional16, optional32, optionalI64, picosecondsAt, picosecondsRule}
+use Rattle.wire.specs.Answer.{Answer, got, refused, ruled}
+use Rattle.wire.proofs.Places.{placed, alone}
+use Rattle.wire.proofs.Facts.{and-left, and-right}
+use Rattle.value.specs.declared.Measure.{Measure}
+use Rattle.writing.specs.Writing.{optional16Bytes, optional32Bytes, optionalI64Bytes, picosecondsRefusal, byteBytes, on16, on32, onI64}
+use Rattle.writing.proofs.Trip.{At, Reads, first, second, item-is, Fits16, Fits32, FitsI64, optional16-is, optional32-is, optionalI64-is, picoseconds-is}
+use Rattle.dataset_message.specs.declared.flags.Encoding.{Encoding}
+use Rattle.dataset_message.specs.declared.header.Header.{Header}
+use Rattle.dataset_message.specs.declared.fields.Field.{Field}
+use Rattle.dataset_message.specs.Flags.{valid, Valid, notValid, flagsAt}
+use Rattle.dataset_message.specs.Header.{timesAt, versionsAt, headerAt, headerOf, bodyAt, afterFlags}
+use Rattle.dataset_message.specs.Fields.{encodedAt, indexAt, fieldAt, fieldsAt, zerosAt}
+use Rattle.dataset_message_writer.specs.Flags.{flagBytes, kindRule}
+use Rattle.dataset_message_writer.specs.Header.{timesBytes, versionsBytes, headerBytes}
+use Rattle.dataset_message_writer.specs.Fields.{endsAt, fieldsWhole, indexBytes, fieldsBytes, zeros, total, valuesOf, numberOf, fieldsRefusal}
+use Rattle.dataset_message_writer.proofs.Judging.{encoded-steady}
+use Rattle.round_trip.proofs.DataSetMessageFlags.{flagsFor, flags-is, FlagsBack, flags-back, flags-stand, kind-kept}
+
+-- the header
+
+-- each number of the header fits its type, as a value of the code does
+pub record FitsHeader (h : Header) : Type 0 where
+  pub sequence : Fits16 (h .sequence)
+  pub timestamp : FitsI64 (h .timestamp)
+  pub picoseconds : Fits16 (h .picoseconds)
+  pub status : Fits16 (h .status)
+  pub major : Fits32 (h .major)
+  pub minor : Fits32 (h .minor)
+
+ends : {A : Type 0} {x : A} {m n : ℕ} → m ≡ n → got x m ≡ got x n
+ends {x = x} e = ap (got x) e
+
+-- where three parts end
+three : (m : ℕ) (a b c : List ℕ) → m + length a + length b + length c ≡ m + length (a ++ (b ++ c))
+three m a b c = simp length-append (omega arith)
+
+times-is : (h : Header) (m : ℕ) → FitsHeader h → picosecondsRefusal (h .picoseconds) ≡ 0
+    → Reads (timesAt (flagsFor h)) m (timesBytes h) (record { sequence = h .sequence; timestamp = h .timestamp; picoseconds = h .picoseconds })
+times-is h m f r s a =
+    let x = optional16Bytes (h .sequence) in
+    let y = optionalI64Bytes (h .timestamp) in
+    let z = optional16Bytes (h .picoseconds) in
+    let b = second s m x (y ++ z) a in
+    let p = optional16-is (h .sequence) m (f .sequence) s (first s m x (y ++ z) a) in
+    let q = optionalI64-is (h .timestamp) (m + length x) (f .timestamp) s (first s (m + length x) y z b) in
+    let o = picoseconds-is (h .picoseconds) (m + length x + length y) (f .picoseconds) r s (second s (m + length x) y z b) in
+    rw (p, q, o) (ends (three m x y z))
+
+versions-is : (h : Header) (m : ℕ) → FitsHeader h
+    → Reads (versionsAt (flagsFor h)) m (versionsBytes h) (record { status = h .status; major = h .major; minor = h .minor })
+versions-is h m f s a =
+    let x = optional16Bytes (h .status) in
+    let y = optional32Bytes (h .major) in
+    let z = optional32Bytes (h .minor) in
+    let b = second s m x (y ++ z) a in
+    let p = optional16-is (h .status) m (f .status) s (first s m x (y ++ z) a) in
+    let q = optional32-is (h .major) (m + length x) (f .major) s (first s (m + length x) y z b) in
+    let o = optional32-is (h .minor) (m + length x + length y) (f .minor) s (second s (m + length x) y z b) in
+    rw (p, q, o) (ends (three m x y z))
+
+pub header-is : (h : Header) → FitsHeader h → kindRule (h .kind) (h .encoding) ≡ 0 → picosecondsRefusal (h .picoseconds) ≡ 0 → Reads headerAt 0 (headerBytes h) (valid h)
+header-is h f k r s a =
+    let x = flagBytes h in
+    let y = timesBytes h in
+    let z = versionsBytes h in
+    let b = second s 0 x (y ++ z) a in
+    let p = flags-is h k s (first s 0 x (y ++ z) a) in
+    let q = times-is h (0 + length x) f r s (first s (0 + length x) y z b) in
+    let o = versions-is h (0 + length x + length y) f s (second s (0 + length x) y z b) in
+    rw (p, q, o) (ends (three 0 x y z))
+
+-- a field
+
+encoded-is : (encoding : Encoding) (types : List ℕ) (k : ℕ) (v : List ℕ) (m : Measure) (at : ℕ) → encodedAt encoding types k v 0 ≡ got m (length v)
+    → Reads (encodedAt encoding types k) at v m
+encoded-is encoding types k v m at q s a =
+    ap (λ (l : List ℕ). encodedAt encoding types k l at) (a .2) ∙ ap (λ (n : ℕ). encodedAt encoding types k (a .0 ++ (v ++ a .1)) n) (sym (a .3))
+    ∙ placed (encoded-steady encoding types k) (a .0) v (a .1) q ∙ ap (λ (n : ℕ). got m (n + length v)) (a .3)
+
+pub index-is : (delta : Bool) (k i m : ℕ) → (delta ≡ true → i < 65536) → Reads (indexAt delta k) m (indexBytes delta i) (cond delta i k)
+index-is true k i m l s a = item-is 2 i m (l refl) s a
+index-is false k i m l s a = ap (got k) (sym (add-zero m))
+
+-- the bytes that stand at a position are that part of the slice
+part-is : (s : List ℕ) (m : ℕ) (v : List ℕ) → At s m v → take (length v) (drop m s) ≡ v
+part-is s m v a = ap (λ (l : List ℕ). take (length v) (drop m l)) (a .2) ∙ ap (take (length v)) (drop-at (a .0) (v ++ a .1) m (a .3)) ∙ take-at v (a .1) (length v) refl
+
+-- what is read of a field that is written at m
+pub record FieldIs (delta : Bool) (encoding : Encoding) (types : List ℕ) (k i : ℕ) (v s : List ℕ) (m : ℕ) : Type 0 where
+  pub place : Field
+  pub reads : fieldAt delta encoding types k s m ≡ got place (m + length (indexBytes delta i ++ v))
+  pub index : place .index ≡ cond delta i k
+  pub bytes : take (place .length) (drop (place .offset) s) ≡ v
+
+pub field-is : (delta : Bool) (encoding : Encoding) (types : List ℕ) (k i : ℕ) (v : List ℕ) (x : Measure) → (delta ≡ true → i < 65536)
+    → encodedAt encoding types k v 0 ≡ got x (length v) → (s : List ℕ) (m : ℕ) → At s m (indexBytes delta i ++ v) → FieldIs delta encoding types k i v s m
+field-is delta encoding types k i v x l q s m a =
+    let b = second s m (indexBytes delta i) v a in
+    let p = index-is delta k i m l s (first s m (indexBytes delta i) v a) in
+    let e = encoded-is encoding types k v x (m + length (indexBytes delta i)) q s b in
+    let n : m + length (indexBytes delta i) + length v - (m + length (indexBytes delta i)) ≡ length v = omega arith in
+    let z : m + length (indexBytes delta i) + length v ≡ m + length (indexBytes delta i ++ v) = omega (arith, length-append (indexBytes delta i) v) in
+    record {
+      place = record { index = cond delta i k; kind = x .kind; shape = x .shape; offset = m + length (indexBytes delta i); length = length v };
+      reads = rw (p, e, n) (ends z);
+      index = refl;
+      bytes = part-is s (m + length (indexBytes delta i)) v b;
+    }
+
+-- an accepted field alone
+pub whole-alone : (x : Answer Measure) (n : ℕ) → endsAt n x ≡ true → (m : Measure) × (x ≡ got m n)
+whole-alone (got m next) n h = (m, ap (got m) (eqb-true next n h))
+whole-alone (refused k place) n h = let z : _≡_ {A = ℕ} 0 1 = cc in absurd (omega arith)
+
+-- each of a delta's indices fits its type, as a value of the code does
+abbrev pub FitsIndices : List ℕ → Type 0
+FitsIndices indices = (k : ℕ) → getD indices k 0 < 65536
+
+-- the fields, from field k on
+
+module _ (delta : Bool) (encoding : Encoding) (types : List ℕ) where
+  -- the first of them
+  head-is : (k : ℕ) (indices v : List ℕ) (vs : List (List ℕ)) → FitsIndices indices → fieldsWhole encoding types k (v ∷ vs) ≡ true
+      → (s : List ℕ) (m : ℕ) → At s m (fieldsBytes delta indices (v ∷ vs)) → FieldIs delta encoding types k (getD indices 0 0) v s m
+  unfolding fieldsWhole fieldsBytes
+  head-is k indices v vs f w s m a =
+      let t = whole-alone (encodedAt encoding types k v 0) (length v) (and-left _ (fieldsWhole encoding types (k + 1) vs) w) in
+      field-is delta encoding types k (getD indices 0 0) v (t .0) (λ e. f 0) (t .1) s m
+      (first s m (indexBytes delta (getD indices 0 0) ++ v) (fieldsBytes delta (drop 1 indices) vs)
+      (subst (At s m) (sym (append-assoc (indexBytes delta (getD indices 0 0)) v (fieldsBytes delta (drop 1 indices) vs))) a))
+
+  -- and those after it
+  tail-at : (indices v : List ℕ) (vs : List (List ℕ)) (s : List ℕ) (m : ℕ) → At s m (fieldsBytes delta indices (v ∷ vs))
+      → At s (m + length (indexBytes delta (getD indices 0 0) ++ v)) (fieldsBytes delta (drop 1 indices) vs)
+  unfolding fieldsBytes
+  tail-at indices v vs s m a =
+      second s m (indexBytes delta (getD indices 0 0) ++ v) (fieldsBytes delta (drop 1 indices) vs)
+      (subst (At s m) (sym (append-assoc (indexBytes delta (getD indices 0 0)) v (fieldsBytes delta (drop 1 indices) vs))) a)
+
+  tail-whole : (k : ℕ) (v : List ℕ) (vs : List (List ℕ)) → fieldsWhole encoding types k (v ∷ vs) ≡ true → fieldsWhole encoding types (k + 1) vs ≡ true
+  unfolding fieldsWhole
+  tail-whole k v vs w = and-right (endsAt (length v) (encodedAt encoding types k v 0)) (fieldsWhole encoding types (k + 1) vs) w
+
+  tail-fits : (indices : List ℕ) → FitsIndices indices → FitsIndices (drop 1 indices)
+  tail-fits indices f k = rw (getD-drop 1 indices k 0) (f (1 + k))
+
+  bytes-length : (m : ℕ) (indices v : List ℕ) (vs : List (List ℕ))
+      → m + length (indexBytes delta (getD indices 0 0) ++ v) + length (fieldsBytes delta (drop 1 indices) vs) ≡ m + length (fieldsBytes delta indices (v ∷ vs))
+  unfolding fieldsBytes
+  bytes-length m indices v vs = simp length-append (omega arith)
+
+  pub fields-is : (vs : List (List ℕ)) (k : ℕ) (indices : List ℕ) → FitsIndices indices → fieldsWhole encoding types k vs ≡ true
+      → (s : List ℕ) (m : ℕ) → At s m (fieldsBytes delta indices vs) → fieldsAt delta encoding types (length vs) k s m ≡ got tt (m + length (fieldsBytes delta indices vs))
+  unfolding fieldsAt fieldsBytes
+  fields-is [] k indices f w s m a = ends (sym (add-zero m))
+  fields-is (v ∷ vs) k indices f w s m a =
+      let h = head-is k indices v vs f w s m a in
+      rw (h .reads)
+      (fields-is vs (k + 1) (drop 1 indices) (tail-fits indices f) (tail-whole k v vs w) s (m + length (indexBytes delta (getD indices 0 0) ++ v)) (tail-at indices v vs s m a)
+      ∙ ends (bytes-length m indices v vs))
+
+  -- field k + j, by passing over the j fields before it
+  pub record NthIs (s : List ℕ) (m k j i : ℕ) (v : List ℕ) : Type 0 where
+    pub at : ℕ
+    pub end : ℕ
+    pub place : Field
+    pub passed : fieldsAt delta encoding types j k s m ≡ got tt at
+    pub reads : fieldAt delta encoding types (k + j) s at ≡ got place end
+    pub index : place .index ≡ cond delta i (k + j)
+    pub bytes : take (place .length) (drop (place .offset) s) ≡ v
+
+  pub nth-is : (j : ℕ) (vs : List (List ℕ)) (k : ℕ) (indices : List ℕ) → FitsIndices indices → fieldsWhole encoding types k vs ≡ true → j < length vs
+      → (s : List ℕ) (m : ℕ) → At s m (fieldsBytes delta indices vs) → NthIs s m k j (getD indices j 0) (getD vs j [])
+  unfolding fieldsAt
+  nth-is j [] k indices f w l s m a = absurd (omega arith)
+  nth-is zero (v ∷ vs) k indices f w l s m a =
+      let h = head-is k indices v vs f w s m a in
+      let e : k + zero ≡ k = add-zero k in
+      record {
+        at = m;
+        end = m + length (indexBytes delta (getD indices 0 0) ++ v);
+        place = h .place;
+        passed = refl;
+        reads = ap (λ (n : ℕ). fieldAt delta encoding types n s m) e ∙ h .reads;
+        index = h .index ∙ ap (cond delta (getD indices 0 0)) (sym e);
+        bytes = h .bytes;
+      }
+  nth-is (suc j) (v ∷ vs) k indices f w l s m a =
+      let h = head-is k indices v vs f w s m a in
+      let r = nth-is j vs (k + 1) (drop 1 indices) (tail-fits indices f) (tail-whole k v vs w) (omega arith) s (m + length (indexBytes delta (getD indices 0 0) ++ v)) (tail-at indices v vs s m a) in
+      let e : k + 1 + j ≡ k + suc j = omega arith in
+      let d : getD (drop 1 indices) j 0 ≡ getD indices (suc j) 0 = getD-drop 1 indices j 0 ∙ ap (λ (n : ℕ). getD indices n 0) (omega arith) in
+      record {
+        at = r .at;
+        end = r .end;
+        place = r .place;
+        passed = rw (h .reads) (r .passed);
+        reads = ap (λ (n : ℕ). fieldAt delta encoding types n s (r .at)) (sym e) ∙ r .reads;
+        index = r .index ∙ ap (λ (n : ℕ). cond delta n (k + 1 + j)) d ∙ ap (cond delta (getD indices (suc j) 0)) e;
+        bytes = r .bytes;
+      }
+
+-- padding
+
+pub zeros-is : (n : ℕ) (s : List ℕ) (m : ℕ) → At s m (zeros n) → zerosAt n s m ≡ got tt (m + n)
+unfolding zerosAt zeros
+zeros-is zero s m a = ends (sym (add-zero m))
+zeros-is (suc n) s m a =
+    let z : getD s m 0 ≡ 0 = ap (λ (l : List ℕ). getD l m 0) (a .2) ∙ ap (λ (i : ℕ). getD (a .0 ++ (0 ∷ (zeros n ++ a .1))) i 0) (sym (a .3)) ∙ getD-append-seam (a .0) 0 (zeros n ++ a .1) 0 in
+    let e : m + 1 + n ≡ m + suc n = omega arith in
+    rw (eq-eqb (getD s m 0) 0 z) (zeros-is n s (m + 1) (second s m (0 ∷ []) (zeros n) a) ∙ ends e)
+
+-- back: the header that was read is the bytes that stand there
+
+picoseconds-kept : (on : Bool) (s : List ℕ) (at : ℕ) (x : Optional16) (next : ℕ) → picosecondsAt on s at ≡ got x next → picosecondsRefusal x ≡ 0
+picoseconds-kept true s at x next h =
+    let y = map-back (ruled 2 picosecondsRule) Optional16.Is s at x next h in
+    rw (sym (y .2)) (ruled-back 2 picosecondsRule s at (y .0) next (y .1) .1)
+picoseconds-kept false s at x next h = rw (sym (got-value h))
+
+-- what the times that were read tell
+record TimesBack (f : Flags) (s : List ℕ) (at : ℕ) (t : Times) (next : ℕ) : Type 0 where
+  stands : Back s at (optional16Bytes (t .sequence) ++ (optionalI64Bytes (t .timestamp) ++ optional16Bytes (t .picoseconds))) next
+  sequence : on16 (t .sequence) ≡ f .sequence
+  timestamp : onI64 (t .timestamp) ≡ f .timestamp
+  picoseconds : on16 (t .picoseconds) ≡ f .picoseconds
+  kept : picosecondsRefusal (t .picoseconds) ≡ 0
+
+times-back : (f : Flags) (s : List ℕ) (at : ℕ) (t : Times) (next : ℕ) → Bytes s → at ≤ length s → timesAt f s at ≡ got t next → TimesBack f s at t next
+times-back f s at t next bytes l h =
+    let a = invert (optional16 (f .sequence) s at) (λ q n. _) h in
+    let x = optional16-back (f .sequence) s at (a .0) (a .1) bytes l (a .2) in
+    let lx = end-fits s at (optional16Bytes (a .0)) (a .1) (x .0) in
+    let b = invert (optionalI64 (f .timestamp) s (a .1)) (λ q n. _) (a .3) in
+    let y = optionalI64-back (f .timestamp) s (a .1) (b .0) (b .1) bytes lx (b .2) in
+    let ly = end-fits s (a .1) (optionalI64Bytes (b .0)) (b .1) (y .0) in
+    let c = invert (picosecondsAt (f .picoseconds) s (b .1)) (λ q n. _) (b .3) in
+    let z = ruled16-back picosecondsRule (f .picoseconds) s (b .1) (c .0) (c .1) bytes ly (c .2) in
+    let k = picoseconds-kept (f .picoseconds) s (b .1) (c .0) (c .1) (c .2) in
+    let all = join s at (optional16Bytes (a .0)) (a .1) (optionalI64Bytes (b .0) ++ optional16Bytes (c .0)) (c .1) (x .0)
+    (join s (a .1) (optionalI64Bytes (b .0)) (b .1) (optional16Bytes (c .0)) (c .1) (y .0) (z .0)) in
+    let o : TimesBack f s at (record { sequence = a .0; timestamp = b .0; picoseconds = c .0 }) (c .1) = record { stands = all; sequence = x .1; timestamp = y .1; picoseconds = z .1; kept = k } in
+    subst (λ (v : Times). TimesBack f s at v next) (got-value (c .3))
+    (subst (λ (n : ℕ). TimesBack f s at (record { sequence = a .0; timestamp = b .0; picoseconds = c .0 }) n) (got-next (c .3)) o)
+
+record VersionsBack (f : Flags) (s : List ℕ) (at : ℕ) (v : Versions) (next : ℕ) : Type 0 where
+  stands : Back s at (optional16Bytes (v .status) ++ (optional32Bytes (v .major) ++ optional32Bytes (v .minor))) next
+  status : on16 (v .status) ≡ f .status
+  major : on32 (v .major) ≡ f .major
+  minor : on32 (v .minor) ≡ f .minor
+
+versions-back : (f : Flags) (s : List ℕ) (at : ℕ) (v : Versions) (next : ℕ) → Bytes s → at ≤ length s → versionsAt f s at ≡ got v next → VersionsBack f s at v next
+versions-back f s at v next bytes l h =
+    let a = invert (optional16 (f .status) s at) (λ q n. _) h in
+    let x = optional16-back (f .status) s at (a .0) (a .1) bytes l (a .2) in
+    let lx = end-fits s at (optional16Bytes (a .0)) (a .1) (x .0) in
+    let b = invert (optional32 (f .major) s (a .1)) (λ q n. _) (a .3) in
+    let y = optional32-back (f .major) s (a .1) (b .0) (b .1) bytes lx (b .2) in
+    let ly = end-fits s (a .1) (optional32Bytes (b .0)) (b .1) (y .0) in
+    let c = invert (optional32 (f .minor) s (b .1)) (λ q n. _) (b .3) in
+    let z = optional32-back (f .minor) s (b .1) (c .0) (c .1) bytes ly (c .2) in
+    let all = join s at (optional16Bytes (a .0)) (a .1) (optional32Bytes (b .0) ++ optional32Bytes (c .0)) (c .1) (x .0)
+    (join s (a .1) (optional32Bytes (b .0)) (b .1) (optional32Bytes (c .0)) (c .1) (y .0) (z .0)) in
+    let o : VersionsBack f s at (record { status = a .0; major = b .0; minor = c .0 }) (c .1) = record { stands = all; status = x .1; major = y .1; minor = z .1 } in
+    subst (λ (u : Versions). VersionsBack f s at u next) (got-value (c .3))
+    (subst (λ (n : ℕ). VersionsBack f s at (record { status = a .0; major = b .0; minor = c .0 }) n) (got-next (c .3)) o)
+
+-- what a header that was read tells
+pub record HeaderBack (s : List ℕ) (h : Header) (next : ℕ) : Type 0 where
+  pub stands : Back s 0 (headerBytes h) next
+  pub kind : kindRule (h .kind) (h .encoding) ≡ 0
+  pub picoseconds : picosecondsRefusal (h .picoseconds) ≡ 0
+
+body-back : (s : List ℕ) (f : Flags) (n : ℕ) (h : Header) (next : ℕ) → Bytes s → FlagsBack s f n → bodyAt f s n ≡ got (valid h) next → HeaderBack s h next
+body-back s f n h next bytes r q =
+    let l = end-fits s (r .at) (byteBytes (r .flags2)) n (r .second .stands) in
+    let a = invert (timesAt f s n) (λ t z. _) q in
+    let t = times-back f s n (a .0) (a .1) bytes l (a .2) in
+    let lt = end-fits s n (optional16Bytes (a .0 .sequence) ++ (optionalI64Bytes (a .0 .timestamp) ++ optional16Bytes (a .0 .picoseconds))) (a .1) (t .stands) in
+    let b = invert (versionsAt f s (a .1)) (λ v z. _) (a .3) in
+    let v = versions-back f s (a .1) (b .0) (b .1) bytes lt (b .2) in
+    let e : valid (headerOf f (a .0) (b .0)) ≡ valid h = got-value (b .3) in
+    let x : headerOf f (a .0) (b .0) ≡ h = cc in
+    let z : b .1 ≡ next = got-next (b .3) in
+    let says : flagsFor (headerOf f (a .0) (b .0)) ≡ f =
+    λ i. record { encoding = f .encoding; kind = f .kind; sequence = t .sequence i; status = v .status i; major = v .major i; minor = v .minor i; timestamp = t .timestamp i; picoseconds = t .picoseconds i } in
+    let w = flags-stand s f n r (headerOf f (a .0) (b .0)) says in
+    let all = join s 0 (flagBytes (headerOf f (a .0) (b .0))) n (timesBytes (headerOf f (a .0) (b .0)) ++ versionsBytes (headerOf f (a .0) (b .0))) (b .1) w
+    (join s n (timesBytes (headerOf f (a .0) (b .0))) (a .1) (versionsBytes (headerOf f (a .0) (b .0))) (b .1) (t .stands) (v .stands)) in
+    subst (λ (y : Header). HeaderBack s y next) x
+    (subst (λ (y : ℕ). HeaderBack s (headerOf f (a .0) (b .0)) y) z
+    (record { stands = all; kind = kind-kept s f n r (headerOf f (a .0) (b .0)) says; picoseconds = t .kept }))
+
+flagged-back : (v : Valid Flags) (s : List ℕ) (n : ℕ) (h : Header) (next : ℕ) → Bytes s → flagsAt s 0 ≡ got v n → afterFlags v s n ≡ got (valid h) next → HeaderBack s h next
+flagged-back notValid s n h next bytes p q =
+    let e : _≡_ {A = Valid Header} notValid (valid h) = got-value q in
+    let z : _≡_ {A = ℕ} 0 1 = cc in
+    absurd (omega arith)
+flagged-back (valid f) s n h next bytes p q = body-back s f n h next bytes (flags-back s f n bytes p) q
+
+pub header-back : (s : List ℕ) (h : Header) (next : ℕ) → Bytes s → headerAt s 0 ≡ got (valid h) next → HeaderBack s h next
+header-back s h next bytes q =
+    let a = invert (flagsAt s 0) (λ f n. afterFlags f s n) q in
+    flagged-back (a .0) s (a .1) h next bytes (a .2) (a .3)
+
+-- a field that was read
+
+pub record FieldTaken (delta : Bool) (encoding : Encoding) (types : List ℕ) (k : ℕ) (s : List ℕ) (at : ℕ) (f : Field) (end : ℕ) : Type 0 where
+  pub stands : Back s at (indexBytes delta (f .index) ++ bytesOf s f) end
+  pub fits : delta ≡ true → f .index < 65536
+  pub size : length (bytesOf s f) ≡ f .length
+  pub alone : endsAt (length (bytesOf s f)) (encodedAt encoding types k (bytesOf s f) 0) ≡ true
+  pub number : numberOf (encodedAt encoding types k (bytesOf s f) 0) ≡ 0
+
+index-back : (delta : Bool) (k : ℕ) (s : List ℕ) (at i o : ℕ) → Bytes s → at ≤ length s → indexAt delta k s at ≡ got i o → Back s at (indexBytes delta i) o × (delta ≡ true → i < 65536)
+index-back true k s at i o bytes l h = let b = item-back 2 s at i o bytes h in (b .0, λ e. b .1)
+index-back false k s at i o bytes l h = (subst (λ (n : ℕ). Back s at [] n) (got-next h) (empty s at l), λ e. let z : _≡_ {A = ℕ} 0 1 = cc in absurd (omega arith))
+
+pub field-back : (delta : Bool) (encoding : Encoding) (types : List ℕ) (k : ℕ) (s : List ℕ) (at : ℕ) (f : Field) (end : ℕ) → Bytes s
+    → fieldAt delta encoding types k s at ≡ got f end → FieldTaken delta encoding types k s at f end
+field-back delta encoding types k s at f end bytes h =
+    let w = field-inside delta encoding types k s at f end h in
+    let a = invert (indexAt delta k s at) (λ i o. _) h in
+    let b = invert (encodedAt encoding types k s (a .1)) (λ m z. _) (a .3) in
+    let g = got-value (b .3) in
+    let z : b .1 ≡ end = got-next (b .3) in
+    let i : a .0 ≡ f .index = ap (λ (x : Field). x .index) g in
+    let o : a .1 ≡ f .offset = ap (λ (x : Field). x .offset) g in
+    let n : b .1 - a .1 ≡ f .length = ap (λ (x : Field). x .length) g in
+    let l : f .offset + f .length ≤ length s = omega (arith, w .value, w .ends) in
+    let lo : a .1 ≤ length s = omega arith in
+    let p = part-at s (f .offset) (f .length) l in
+    let size : length (bytesOf s f) ≡ f .length = omega (arith, p .1) in
+    let x = index-back delta k s at (a .0) (a .1) bytes (w .starts) (a .2) in
+    let y : encodedAt encoding types k (bytesOf s f) 0 ≡ got (b .0) (length (bytesOf s f)) =
+    ap (λ (q : ℕ). encodedAt encoding types k (take q (drop (f .offset) s)) 0) (sym n)
+    ∙ ap (λ (q : ℕ). encodedAt encoding types k (take (b .1 - a .1) (drop q s)) 0) (sym o)
+    ∙ alone (encoded-steady encoding types k) s (a .1) lo (b .2) ∙ ap (got (b .0)) (n ∙ sym size) in
+    record {
+      stands =
+          subst (λ (e : ℕ). Back s at (indexBytes delta (f .index) ++ bytesOf s f) e) (w .value)
+          (join s at (indexBytes delta (f .index)) (f .offset) (bytesOf s f) (f .offset + f .length)
+          (subst (λ (q : ℕ). Back s at (indexBytes delta (f .index)) q) o (subst (λ (q : ℕ). Back s at (indexBytes delta q) (a .1)) i (x .0))) p);
+      fits = λ e. subst (λ (q : ℕ). q < 65536) i (x .1 e);
+      size = size;
+      alone = rw (y, eq-eqb (length (bytesOf s f)) (length (bytesOf s f)) refl);
+      number = rw y;
+    }
+
+-- the fields that were read, from field k on
+
+abbrev pub indicesFor : Bool → List Field → List ℕ
+indicesFor delta fs = cond delta (indicesOf fs) []
+
+pub record FieldsTaken (delta : Bool) (encoding : Encoding) (types : List ℕ) (n k : ℕ) (s : List ℕ) (at : ℕ) (fs : List Field) (end : ℕ) : Type 0 where
+  pub stands : Back s at (fieldsBytes delta (indicesFor delta fs) (valuesOf (lengthsOf fs) (joined s fs))) end
+  pub count : length (lengthsOf fs) ≡ n
+  pub indexed : length (indicesFor delta fs) ≡ cond delta n 0
+  pub adds : total (lengthsOf fs) ≡ length (joined s fs)
+  pub whole : fieldsWhole encoding types k (valuesOf (lengthsOf fs) (joined s fs)) ≡ true
+  pub number : fieldsRefusal encoding types k (valuesOf (lengthsOf fs) (joined s fs)) ≡ 0
+
+indices-cons : (delta : Bool) (f : Field) (fs : List Field) (vs : List (List ℕ)) (v : List ℕ)
+    → fieldsBytes delta (indicesFor delta (f ∷ fs)) (v ∷ vs) ≡ (indexBytes delta (f .index) ++ v) ++ fieldsBytes delta (indicesFor delta fs) vs
+unfolding fieldsBytes indicesOf
+indices-cons true f fs vs v = sym (append-assoc (indexBytes true (f .index)) v (fieldsBytes true (indicesOf fs) vs))
+indices-cons false f fs vs v = refl
+
+indices-length : (delta : Bool) (f : Field) (fs : List Field) (n : ℕ) → length (indicesFor delta fs) ≡ cond delta n 0 → length (indicesFor delta (f ∷ fs)) ≡ cond delta (suc n) 0
+unfolding indicesOf
+indices-length true f fs n e = ap suc e
+indices-length false f fs n e = refl
+
+values-first : (n : ℕ) (lengths v rest : List ℕ) → length v ≡ n → valuesOf (n ∷ lengths) (v ++ rest) ≡ v ∷ valuesOf lengths rest
+unfolding valuesOf
+values-first n lengths v rest e = rw (take-at v rest n e, drop-at v rest n e)
+
+one-more : (delta : Bool) (encoding : Encoding) (types : List ℕ) (n k : ℕ) (s : List ℕ) (at : ℕ) (f : Field) (q : ℕ) (fs : List Field) (end : ℕ)
+    → FieldTaken delta encoding types k s at f q → FieldsTaken delta encoding types n (k + 1) s q fs end → FieldsTaken delta encoding types (suc n) k s at (f ∷ fs) end
+unfolding total joined lengthsOf fieldsWhole fieldsRefusal
+one-more delta encoding types n k s at f q fs end x r =
+    let v : valuesOf (f .length ∷ lengthsOf fs) (bytesOf s f ++ joined s fs) ≡ bytesOf s f ∷ valuesOf (lengthsOf fs) (joined s fs) =
+    values-first (f .length) (lengthsOf fs) (bytesOf s f) (joined s fs) (x .size) in
+    record {
+      stands =
+          rw (v, indices-cons delta f fs (valuesOf (lengthsOf fs) (joined s fs)) (bytesOf s f))
+          (join s at (indexBytes delta (f .index) ++ bytesOf s f) q (fieldsBytes delta (indicesFor delta fs) (valuesOf (lengthsOf fs) (joined s fs))) end (x .stands) (r .stands));
+      count = ap suc (r .count);
+      indexed = indices-length delta f fs n (r .indexed);
+      adds = omega (arith, r .adds, x .size, length-append (bytesOf s f) (joined s fs));
+      whole = rw (v, x .alone) (r .whole);
+      number = rw (v, x .number) (r .number);
+    }
+
+module _ (delta : Bool) (encoding : Encoding) (types s : List ℕ) (bytes : Bytes s) where
+  no-more : (k at end : ℕ) → at ≤ length s → at ≡ end → FieldsTaken delta encoding types zero k s at [] end
+  unfolding total joined lengthsOf indicesOf valuesOf fieldsBytes fieldsWhole fieldsRefusal
+  no-more k at end l h =
+      record {
+        stands = subst (λ (e : ℕ). Back s at [] e) h (empty s at l);
+        count = refl;
+        indexed = either delta;
+        adds = refl;
+        whole = refl;
+        number = refl;
+      }
+    where
+      either : (d : Bool) → length (cond {A = List ℕ} d [] []) ≡ cond d zero 0
+      either true = refl
+      either false = refl
+
+  pub fields-back : (n k at end : ℕ) → at ≤ length s → fieldsAt delta encoding types n k s at ≡ got tt end
+      → FieldsTaken delta encoding types n k s at (walked delta encoding types n k s at) end
+  unfolding fieldsAt walked
+  fields-back zero k at end l h = no-more k at end l (got-next h)
+  fields-back (suc n) k at end l h =
+      let a = invert (fieldAt delta encoding types k s at) (λ f q. fieldsAt delta encoding types n (k + 1) s q) h in
+      let x = field-back delta encoding types k s at (a .0) (a .1) bytes (a .2) in
+      let m = end-fits s at (indexBytes delta (a .0 .index) ++ bytesOf s (a .0)) (a .1) (x .stands) in
+      rw (a .2) (one-more delta encoding types n k s at (a .0) (a .1) (walked delta encoding types n (k + 1) s (a .1)) end x (fields-back n (k + 1) (a .1) end m (a .3)))
+
+-- padding that was read
+
+pub zeros-back : (n : ℕ) (s : List ℕ) (m z : ℕ) → m + n ≡ length s → zerosAt n s m ≡ got tt z → drop m s ≡ zeros n
+unfolding zerosAt zeros
+zeros-back zero s m z e h = let q : m ≡ length s = omega arith in ap (λ (j : ℕ). drop j s) q ∙ drop-length s
+zeros-back (suc n) s m z e h = go (eqb (getD s m 0) 0) refl (zeros-back n s (m + 1) z (omega arith))
+  where
+    go : (t : Bool) → eqb (getD s m 0) 0 ≡ t → (zerosAt n s (m + 1) ≡ got tt z → drop (m + 1) s ≡ zeros n) → drop m s ≡ 0 ∷ zeros n
+    go true t ih =
+        let g : getD s m 0 ≡ 0 = eqb-true (getD s m 0) 0 t in
+        let l : m < length s = omega arith in
+        let r : drop (suc m) s ≡ zeros n = ap (λ (j : ℕ). drop j s) (sym (add-one m)) ∙ ih (rw t at h) in
+        drop-cons s m 0 l ∙ ap (λ (x : ℕ). x ∷ drop (suc m) s) g ∙ ap (λ (x : List ℕ). 0 ∷ x) r
+    go false t ih = absurd (not-got (rw t at h))

@@ -1,0 +1,111 @@
+-- What the round trips of DataSetMessages say.
+use Prim.Native.Nat.{ℕ, _+_, _-_, _<_, zero, suc, _≤_}
+use mathlib.Core.Path.{_≡_}
+use mathlib.Core.Bool.{Bool, cond, true, false, not, _&&_, _||_}
+use mathlib.Core.List.{_++_, List, [], _∷_}
+use lib.Dec.{leb, eqb}
+use lib.ListN.{take, drop, length, getD}
+use Rattle.value.specs.declared.Measure.{Measure}
+use Rattle.wire.specs.Answer.{Answer, got, refused}
+use Rattle.dataset_message.specs.declared.flags.Encoding.{Encoding}
+use Rattle.dataset_message.specs.declared.fields.Field.{Field}
+use Rattle.dataset_message.specs.Flags.{valid}
+use Rattle.dataset_message.specs.Fields.{fieldAt, encodedAt}
+use Rattle.dataset_message.specs.Message.{Message, isDelta, messageAt, fieldPlaceAt, fieldBytes}
+use Rattle.dataset_message_writer.specs.Header.{headerBytes}
+use Rattle.dataset_message_writer.specs.Fields.{fieldsBytes}
+use Rattle.dataset_message_writer.specs.Message.{Given, given, isFielded, isRawData, fieldsOf, countBytes, encode}
+
+-- where the first field of a written message starts, and where its last field ends
+
+abbrev pub firstOf : Given → ℕ
+firstOf g = length (headerBytes (g .header)) + length (countBytes (isFielded g) (isRawData g) (length (g .lengths)))
+
+abbrev pub endOf : Given → ℕ
+endOf g = firstOf g + length (fieldsBytes (isDelta (g .header .kind)) (g .indices) (fieldsOf g))
+
+-- what is read of a written message: the header that was given, and a cursor before the first of as many fields as were given
+abbrev pub messageOf : Given → Message
+messageOf g =
+    record {
+      header = g .header;
+      cursor = record { encoding = g .header .encoding; delta = isDelta (g .header .kind); next = 0; count = length (g .lengths); at = firstOf g };
+      end = endOf g;
+    }
+
+-- field k of a written message: the index and the bytes that were given
+pub record FieldBack (types : List ℕ) (g : Given) (k : ℕ) : Type 0 where
+  pub place : Field
+  pub end : ℕ
+  pub looked-up : fieldPlaceAt types k (encode g) ≡ got place end
+  pub index : place .index ≡ cond (isDelta (g .header .kind)) (getD (g .indices) k 0) k
+  pub bytes : fieldBytes (fieldPlaceAt types k (encode g)) (encode g) ≡ getD (fieldsOf g) k []
+
+-- a written message reads back as what was given
+pub record MessageBack (types : List ℕ) (g : Given) : Type 0 where
+  pub message : messageAt types (encode g) ≡ got (valid (messageOf g)) (endOf g)
+  pub field : (k : ℕ) → k < length (g .lengths) → FieldBack types g k
+  pub padding : length (encode g) - endOf g ≡ g .padding
+
+-- the fields of a message that was read, by the walk: n fields, the first of them field k
+abbrev pub andField : Answer Field → (Field → ℕ → List Field) → List Field
+andField (got f end) onward = f ∷ onward f end
+andField (refused number place) onward = []
+
+unfoldable pub walked : Bool → Encoding → List ℕ → ℕ → ℕ → List ℕ → ℕ → List Field
+walked delta encoding types zero k s at = []
+walked delta encoding types (suc n) k s at = andField (fieldAt delta encoding types k s at) (λ f end. walked delta encoding types n (k + 1) s end)
+
+-- the encoded bytes of a field
+abbrev pub bytesOf : List ℕ → Field → List ℕ
+bytesOf s f = take (f .length) (drop (f .offset) s)
+
+-- the fields' values one after the other, how long each is, and their indices
+
+unfoldable pub joined : List ℕ → List Field → List ℕ
+joined s [] = []
+joined s (f ∷ fs) = bytesOf s f ++ joined s fs
+
+unfoldable pub lengthsOf : List Field → List ℕ
+lengthsOf [] = []
+lengthsOf (f ∷ fs) = f .length ∷ lengthsOf fs
+
+unfoldable pub indicesOf : List Field → List ℕ
+indicesOf [] = []
+indicesOf (f ∷ fs) = f .index ∷ indicesOf fs
+
+-- the fields of a message that was read
+abbrev pub fieldsIn : List ℕ → List ℕ → Message → List Field
+fieldsIn types s m = walked (m .cursor .delta) (m .cursor .encoding) types (m .cursor .count) 0 s (m .cursor .at)
+
+-- a message that was read, to be written again: its header; of a key frame, that it is a heartbeat where nothing is left after the
+-- header; its fields' bytes, and a delta's indices; what is left after its last field
+abbrev pub taken : List ℕ → List ℕ → Message → Given
+taken types s m =
+    given (m .header) (leb (length s) (length (headerBytes (m .header)))) (joined s (fieldsIn types s m)) (lengthsOf (fieldsIn types s m))
+    (cond (m .cursor .delta) (indicesOf (fieldsIn types s m)) [])
+    (length s - m .end)
+
+-- Of the first t fields each is whole up to the first that is refused; and where that one is cut short, nothing follows it, since the
+-- bytes after it could mend it. `bare` says that no padding follows the fields.
+
+abbrev pub plainlyBy : ℕ → Bool → Bool → Answer Measure → Bool
+plainlyBy n last rest (got m end) = eqb end n && rest
+plainlyBy n last rest (refused number place) = not (eqb number 1) || last
+
+unfoldable pub plainly : Encoding → List ℕ → Bool → ℕ → ℕ → List (List ℕ) → Bool
+plainly encoding types bare zero k vs = true
+plainly encoding types bare (suc t) k [] = true
+plainly encoding types bare (suc t) k (v ∷ vs) =
+    plainlyBy (length v) (bare && eqb (length vs) 0) (plainly encoding types bare t (k + 1) vs) (encodedAt encoding types k v 0)
+
+-- how many fields reading counts
+abbrev pub countOf : Bool → ℕ → ℕ → ℕ
+countOf raw configured n = cond raw configured n
+
+-- What the writer refuses stands where reading finds it: something follows the header of a RawData message, FieldCount holds the
+-- number of fields, and a field is refused plainly.
+pub record Tellable (types : List ℕ) (g : Given) : Type 0 where
+  pub follows : isRawData g ≡ true → 0 < length (fieldsBytes (isDelta (g .header .kind)) (g .indices) (fieldsOf g)) + g .padding
+  pub counted : isRawData g ≡ false → length (g .lengths) ≤ 65535
+  pub plain : plainly (g .header .encoding) types (eqb (g .padding) 0) (countOf (isRawData g) (length types) (length (g .lengths))) 0 (fieldsOf g) ≡ true
