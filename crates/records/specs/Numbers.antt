@@ -9,7 +9,10 @@ use Rattle.network_message.specs.Payload.{valueOr0}
 abbrev pub numberAt : List ℕ → ℕ → ℕ
 numberAt s i = valueOr0 (item 8 s (8 * i))
 
--- the bytes of numbers
+-- the bytes of numbers of w bytes each
+abbrev pub bytesOf : ℕ → List ℕ → List ℕ
+bytesOf w [] = []
+bytesOf w (x ∷ xs) = leBytes w x ++ bytesOf w xs
+
 abbrev pub numberBytes : List ℕ → List ℕ
-numberBytes [] = []
-numberBytes (x ∷ xs) = leBytes 8 x ++ numberBytes xs
+numberBytes xs = bytesOf 8 xs

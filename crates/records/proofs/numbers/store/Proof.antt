@@ -50,7 +50,7 @@ loop-less c = search needs
 -- src/numbers.rt:29:5
 loop-again : tie.Need-loop-again Inv-loop μ-loop
 loop-again c =
-    (omega arith, (omega arith, (search needs, number-stored _ _ _ _ _ _ (c .before .before .before .before .before .loop-test .taken) (omega arith) (c .before .before .put64 .ensures) (c .before .before .before .before .before .before .loop .inv .1 .1 .1))))
+    (omega arith, (omega arith, (search needs, number-stored 8 _ _ _ _ _ _ (c .before .before .before .before .before .loop-test .taken) (omega arith) (c .before .before .put64 .ensures) (c .before .before .before .before .before .before .loop .inv .1 .1 .1))))
 
 -- src/numbers.rt:23:1
 same-length : tie.Need-same-length Inv-loop μ-loop
@@ -59,7 +59,7 @@ same-length c = search needs
 -- src/numbers.rt:23:1
 returns : tie.Need-returns Inv-loop μ-loop
 returns c =
-    all-stored _ _ _ _ _ (c .loop-test .left) (c .before .loop .inv .1 .1 .1)
+    all-stored 8 _ _ _ _ _ (c .loop-test .left) (c .before .loop .inv .1 .1 .1)
 
 pub store-spec : {M : Type 1} → statement M
 store-spec =
