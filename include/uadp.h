@@ -8,8 +8,8 @@
  * Records cross as lent bytes at fixed offsets: but for the configuration record and the text of a PublisherId, numbers of 8 bytes, little-endian,
  * one after the other (number i at offset 8 * i). A longer area than a record is fine, what stands behind the record stays as it is; any bytes have
  * an answer. A record to be filled that is shorter than its layout is refused with UADP_NO_ROOM, after all else. In a record that is read, a number
- * that does not fit counts as 0, and of a number that stands for a narrower one (a byte, 2 or 4 bytes) the lowest bytes count; so an empty
- * configuration record (NULL, 0) is the empty configuration.
+ * that does not fit counts as 0, and of a number that stands for a narrower one (a byte, 2 or 4 bytes) the lowest bytes count. A configuration
+ * record shorter than its layout is the empty configuration; (NULL, 0) is one.
  */
 #ifndef UADP_H
 #define UADP_H
@@ -84,9 +84,9 @@ enum {
  *   2  kind: 0 key, 1 delta, 2 event, 3 keep alive (above 3 counts as 0)
  *   3  items present: 1 sequence number, 2 timestamp, 4 picoseconds, 8 status, 16 major version, 32 minor version, added up
  *   4  sequence number    5  timestamp, signed (two's complement)    6  picoseconds    7  status    8  major    9  minor    (0 where absent)
- *  10  the field cursor's encoding, as above    11  0, or 1 where each field has an index of its own (delta)
+ *  10  the field cursor's encoding, as above    11  0, else each field has an index of its own (delta)
  *  12  number of the next field    13  number of fields    14  the byte where the next field starts
- *  15  the byte after the last field; what follows is padding    16  the byte after the header    17 to 19  0
+ *  15  the byte after the last field; what follows is padding    16 to 19  0
  * Of a message that is not valid every number is 0.
  */
 #define UADP_HEAD_SIZE 160

@@ -130,3 +130,10 @@ config-put c l e₁ e₂ e₃ e₄ e₅ e₆ w f na nb nd ne h qw qf q₁ q₂ q
     let s₅ : e₅ ≡ sets l 0 b₅ = store-next l e₄ e₅ b₄ (c .starts) 66 (sym l₄) (omega arith) s₄ q₅ in
     let s₆ : e₆ ≡ sets l 0 (configBytes c) = store-next l e₅ e₆ b₅ (c .types) 82 (sym l₅) (omega arith) s₅ q₆ in
     rw (le-leb (0 + length (configBytes c)) (length l) (omega (arith, config-length c na nb nd ne))) s₆
+
+-- a record's numbers, each equal to what its definition says
+pub also : {x y : ℕ} {xs ys : List ℕ} → x ≡ y → xs ≡ ys → (x ∷ xs) ≡ (y ∷ ys)
+also {x} {y} {xs} {ys} p q = ap (λ (k : ℕ). k ∷ xs) p ∙ ap (λ (k : List ℕ). y ∷ k) q
+
+pub put-same : (l : List ℕ) {xs ys e : List ℕ} → xs ≡ ys → e ≡ laid l 0 (numberBytes xs) → e ≡ laid l 0 (numberBytes ys)
+put-same l {xs} {ys} {e} p q = q ∙ ap (λ (k : List ℕ). laid l 0 (numberBytes k)) p
