@@ -1,3 +1,4 @@
+use mathlib.Core.Path.{refl}
 use borrow.Author.Needs.{needs}
 use Rattle.uadp_c.proofs.newness.last_in.Statement.{statement}
 use Rattle.uadp_c.proofs.newness.last_in.Tie as tie
@@ -19,7 +20,7 @@ cast-t6 c = search needs
 
 -- src/newness.rt:12:1
 returns : tie.Need-returns
-returns c = ?
+returns c = rw (c .before .number .ensures, c .number2 .ensures) refl
 
 pub last-in-spec : {M : Type 1} → statement M
 last-in-spec = tie.close (tie.spec number-requires number-requires-2 cast-t6 returns)
