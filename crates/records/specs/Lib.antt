@@ -2,4 +2,3 @@ pub mod Numbers
 pub mod Result
 pub mod Writers
 pub mod Message
-pub mod Envelope

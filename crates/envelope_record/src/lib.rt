@@ -1,13 +1,13 @@
 // The records of an envelope and of a message's place.
-use crate::message::flag_number;
-use crate::message::has_i64;
-use crate::message::has16;
-use crate::message::has32;
-use crate::message::value_i64;
-use crate::message::value16;
-use crate::message::value32;
-use crate::numbers::number;
-use crate::numbers::put_numbers;
+use records::message::flag_number;
+use records::message::has_i64;
+use records::message::has16;
+use records::message::has32;
+use records::message::value_i64;
+use records::message::value16;
+use records::message::value32;
+use records::numbers::number;
+use records::numbers::put_numbers;
 use network_message::envelope::Envelope;
 use network_message::envelope::Places;
 use network_message::group::GroupFields;
@@ -25,11 +25,11 @@ ghost use mathlib.Core.Path.{_≡_};
 ghost use Prim.Native.Nat.{_+_, _*_};
 ghost use Rattle.wire.specs.Store.{laid};
 ghost use Rattle.network_message.specs.PublisherRecord.{codeOf};
 ghost use Rattle.records.specs.Numbers.{numberBytes};
 ghost use Rattle.records.specs.Message.{has16, has32};
-ghost use Rattle.records.specs.Envelope.{publisherNumber, hasClass, classLow, classHigh, groupItems, groupWriter, groupVersion, groupNumber};
-ghost use Rattle.records.specs.Envelope.{groupSequence, headerCode, headerNumber, hasPromoted, promotedSize, sizesCode, sizesPlace};
-ghost use Rattle.records.specs.Envelope.{envelopeNumbers, sizesIn, payloadIn, messagesIn, headerBy, headerIn, writerNumber, placeNumbers};
+ghost use Rattle.envelope_record.specs.Envelope.{publisherNumber, hasClass, classLow, classHigh, groupItems, groupWriter, groupVersion, groupNumber};
+ghost use Rattle.envelope_record.specs.Envelope.{groupSequence, headerCode, headerNumber, hasPromoted, promotedSize, sizesCode, sizesPlace};
+ghost use Rattle.envelope_record.specs.Envelope.{envelopeNumbers, sizesBy, payloadIn, messagesIn, headerBy, headerIn, writerNumber, placeNumbers};
 
 fn publisher_code(x: PublisherId) -> u64
     ensures { λ r. ⌜ r ≡ codeOf x ⌝ }
@@ -255,7 +255,7 @@ pub fn put_envelope(out: &mut [u8], e: Envelope, places: Places, payload: Payloa
 }
 
 fn sizes_in(code: u64, place: usize) -> Sizes
-    ensures { λ r. ⌜ r ≡ sizesIn code place ⌝ }
+    ensures { λ r. ⌜ r ≡ sizesBy code place ⌝ }
 {
     if code == 1 {
         return Sizes::Listed(place);

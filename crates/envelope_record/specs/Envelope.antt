@@ -105,11 +105,11 @@ envelopeNumbers m =
     ∷ sizesCode (m .payload .sizes) ∷ sizesPlace (m .payload .sizes) ∷ m .payload .first ∷ 0 ∷ m .payload .first ∷ []
 
 -- the parts of an envelope record that the messages' cursor needs
-abbrev pub sizesIn : ℕ → ℕ → Sizes
-sizesIn code place = cond (eqb code 1) (Sizes.Listed place) (cond (eqb code 2) Sizes.Configured Sizes.Rest)
+abbrev pub sizesBy : ℕ → ℕ → Sizes
+sizesBy code place = cond (eqb code 1) (Sizes.Listed place) (cond (eqb code 2) Sizes.Configured Sizes.Rest)
 
 abbrev pub payloadIn : List ℕ → Payload
-payloadIn s = record { count = numberAt s 22; sizes = sizesIn (numberAt s 23) (numberAt s 24); first = numberAt s 25 }
+payloadIn s = record { count = numberAt s 22; sizes = sizesBy (numberAt s 23) (numberAt s 24); first = numberAt s 25 }
 
 abbrev pub messagesIn : List ℕ → MessageCursor
 messagesIn s = record { index = numberAt s 26; at = numberAt s 27 }
