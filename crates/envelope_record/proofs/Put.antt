@@ -35,8 +35,8 @@ envelope-put v w y l e a₁ a₂ a₃ a₄ a₅ a₆ a₇ a₈ a₉ b₁ b₂ b�
     let t : List ℕ = y .first ∷ 0 ∷ y .first ∷ [] in
     let s : t ≡ t = refl in
     let x : (a₁ ∷ a₂ ∷ w .«publisher_end» ∷ a₃ ∷ a₄ ∷ a₅ ∷ a₆ ∷ a₇ ∷ a₈ ∷ a₉ ∷ b₁ ∷ b₂ ∷ b₃ ∷ b₄ ∷ w .«payload_header_end» ∷ b₅ ∷ b₆ ∷ b₇ ∷ b₈ ∷ b₉ ∷ d₁
-        ∷ w .payload ∷ y .count ∷ d₂ ∷ d₃ ∷ t)
-        ≡ envelopeNumbers (record { envelope = v; places = w; payload = y }) =
-        also p₁ (also p₂ (also i (also p₃ (also p₄ (also p₅ (also p₆ (also p₇ (also p₈ (also p₉ (also q₁ (also q₂ (also q₃ (also q₄ (also j (also q₅
-        (also q₆ (also q₇ (also q₈ (also q₉ (also r₁ (also k (also m (also r₂ (also r₃ s)))))))))))))))))))))))) in
+    ∷ w .payload ∷ y .count ∷ d₂ ∷ d₃ ∷ t)
+    ≡ envelopeNumbers (record { envelope = v; places = w; payload = y }) =
+    also p₁ (also p₂ (also i (also p₃ (also p₄ (also p₅ (also p₆ (also p₇ (also p₈ (also p₉ (also q₁ (also q₂ (also q₃ (also q₄ (also j (also q₅
+    (also q₆ (also q₇ (also q₈ (also q₉ (also r₁ (also k (also m (also r₂ (also r₃ s)))))))))))))))))))))))) in
     put-same l x z

@@ -31,6 +31,6 @@ types-some c r l ids st ty w n k h a b d p o x y q =
     let e : contains w ids ≡ true = sym (place-contains w ids) ∙ ap (λ (x : ℕ). ltb x (length ids)) (sym p) ∙ lt-ltb k (length ids) o in
     let m : contains w (idsIn c) ≡ true = ap (λ (x : List ℕ). contains w x) (sym i) ∙ e in
     let z : r ≡ fieldsOf (startsIn c) (typesIn c) (indexOf w (idsIn c)) =
-        q ∙ ap (λ (x : List ℕ). fieldsOf x ty k) x ∙ ap (λ (x : List ℕ). fieldsOf (startsIn c) x k) y
-        ∙ ap (λ (x : ℕ). fieldsOf (startsIn c) (typesIn c) x) (p ∙ ap (λ (x : List ℕ). indexOf w x) i) in
+    q ∙ ap (λ (x : List ℕ). fieldsOf x ty k) x ∙ ap (λ (x : List ℕ). fieldsOf (startsIn c) x k) y
+    ∙ ap (λ (x : ℕ). fieldsOf (startsIn c) (typesIn c) x) (p ∙ ap (λ (x : List ℕ). indexOf w x) i) in
     rw (le-ltb 65535 w h, m) z

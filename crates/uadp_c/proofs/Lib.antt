@@ -1,3 +1,4 @@
 pub mod Filling
 pub mod Stepping
 pub mod Judged
+pub mod Walking

@@ -1,3 +1,4 @@
 pub mod Cutting
 pub mod Fields
+pub mod Messages
 pub mod Sequence

@@ -21,7 +21,12 @@ ghost use Rattle.uadp_c.specs.Fields.{headFilling, fieldFilling, stepRes
 
 // Reads a DataSetMessage alone into a message head record.
 #[no_mangle]
-pub extern "C" fn uadp_read_message(message: &[u8], config: &[u8], writer: u32, head: &mut [u8]) -> u64
+pub extern "C" fn uadp_read_message(
+    message: &[u8],
+    config: &[u8],
+    writer: u32,
+    head: &mut [u8],
+) -> u64
     ensures { λ r. ⌜ (r ≡ resultIn (headFilling (messageAt (typesFor (now (config .entry)) writer) (now (message .entry)))) (now (head .entry))) × (now (head .exit) ≡ filledIn (headFilling (messageAt (typesFor (now (config .entry)) writer) (now (message .entry)))) (now (head .entry))) ⌝ }
 {
     match read(message, types_for(config, writer)) {
@@ -45,7 +50,13 @@ pub extern "C" fn uadp_read_message(message: &[u8], config: &[u8], writer: u32, 
 
 // Field k of a message, counted from 0, as a field record.
 #[no_mangle]
-pub extern "C" fn uadp_field(message: &[u8], config: &[u8], writer: u32, k: u64, field: &mut [u8]) -> u64
+pub extern "C" fn uadp_field(
+    message: &[u8],
+    config: &[u8],
+    writer: u32,
+    k: u64,
+    field: &mut [u8],
+) -> u64
     ensures { λ r. ⌜ (r ≡ resultIn (fieldFilling (fieldPlaceAt (typesFor (now (config .entry)) writer) k (now (message .entry)))) (now (field .entry))) × (now (field .exit) ≡ filledIn (fieldFilling (fieldPlaceAt (typesFor (now (config .entry)) writer) k (now (message .entry)))) (now (field .entry))) ⌝ }
 {
     match field_place(message, types_for(config, writer), k as usize) {

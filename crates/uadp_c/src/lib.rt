@@ -3,4 +3,5 @@
 pub mod configuring;
 pub mod cutting;
 pub mod fields;
+pub mod messages;
 pub mod newness;
