@@ -2,3 +2,4 @@ pub mod Filling
 pub mod Stepping
 pub mod Judged
 pub mod Walking
+pub mod Held

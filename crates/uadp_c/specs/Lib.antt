@@ -2,3 +2,4 @@ pub mod Cutting
 pub mod Fields
 pub mod Messages
 pub mod Sequence
+pub mod Reassembling

@@ -5,3 +5,4 @@ pub mod cutting;
 pub mod fields;
 pub mod messages;
 pub mod newness;
+pub mod reassembling;
