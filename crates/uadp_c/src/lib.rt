@@ -6,3 +6,4 @@ pub mod fields;
 pub mod messages;
 pub mod newness;
 pub mod reassembling;
+pub mod rewriting;
