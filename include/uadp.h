@@ -160,7 +160,8 @@ uadp_result uadp_write(const uint8_t *envelope, size_t envelope_length, const ui
                        const uint8_t *messages, size_t messages_length, const uint8_t *config, size_t config_length, uint8_t *out,
                        size_t out_length);
 
-/* Writes an accepted, valid DataSetMessage again: the same bytes. Refusals: as uadp_read_message; 6 for one that is not valid, since a written one always is; 11. */
+/* Writes an accepted, valid DataSetMessage again: the same bytes. Refusals: the numbers of uadp_read_message; 6 for one that is not valid, since a written one
+ * always is; 10 above 65,535 bytes; 11; place 0. */
 uadp_result uadp_rewrite_message(const uint8_t *message, size_t message_length, const uint8_t *config, size_t config_length, uint32_t writer,
                                  uint8_t *out, size_t out_length);
 

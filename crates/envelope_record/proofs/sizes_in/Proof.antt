@@ -2,8 +2,6 @@ use mathlib.Core.Path.{refl}
 use borrow.Author.Tests.{eq-eqb, ne-eqb}
 use Rattle.envelope_record.proofs.sizes_in.Statement.{statement}
 use Rattle.envelope_record.proofs.sizes_in.Tie as tie
-use Rattle.envelope_record.proofs.sizes_in.Reads as reads
-use Rattle.envelope_record.proofs.sizes_in.Lts as lts
 
 -- src/lib.rt:261:9
 returns : tie.Need-returns

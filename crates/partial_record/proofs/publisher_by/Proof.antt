@@ -3,29 +3,15 @@ use borrow.Author.Tests.{eq-eqb, ne-eqb}
 use borrow.Author.Needs.{needs}
 use Rattle.partial_record.proofs.publisher_by.Statement.{statement}
 use Rattle.partial_record.proofs.publisher_by.Tie as tie
-use Rattle.partial_record.proofs.publisher_by.Reads as reads
-use Rattle.partial_record.proofs.publisher_by.Lts as lts
-
--- src/lib.rt:20:34
-cast-t5 : tie.Need-cast-t5
-cast-t5 c = search needs
 
 -- src/lib.rt:20:9
 returns : tie.Need-returns
 returns c = rw (eq-eqb (c .before .args .code) 1 (c .if1 .taken)) refl
 
--- src/lib.rt:23:36
-cast-t7 : tie.Need-cast-t7
-cast-t7 c = search needs
-
 -- src/lib.rt:23:9
 returns-2 : tie.Need-returns-2
 returns-2 c =
     rw (ne-eqb (c .before .before .args .code) 1 (c .before .if1 .left), eq-eqb (c .before .before .args .code) 2 (c .if2 .taken)) refl
-
--- src/lib.rt:26:36
-cast-t9 : tie.Need-cast-t9
-cast-t9 c = search needs
 
 -- src/lib.rt:26:9
 returns-3 : tie.Need-returns-3
@@ -50,4 +36,4 @@ returns-6 c =
 pub publisher-by-spec : {M : Type 1} → statement M
 publisher-by-spec =
     tie.close
-    (tie.spec cast-t5 returns cast-t7 returns-2 cast-t9 returns-3 returns-4 returns-5 returns-6)
+    (tie.spec (λ c. search needs) returns (λ c. search needs) returns-2 (λ c. search needs) returns-3 returns-4 returns-5 returns-6)

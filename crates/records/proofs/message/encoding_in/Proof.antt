@@ -2,8 +2,6 @@ use mathlib.Core.Path.{refl}
 use borrow.Author.Tests.{eq-eqb, ne-eqb}
 use Rattle.records.proofs.message.encoding_in.Statement.{statement}
 use Rattle.records.proofs.message.encoding_in.Tie as tie
-use Rattle.records.proofs.message.encoding_in.Reads as reads
-use Rattle.records.proofs.message.encoding_in.Lts as lts
 
 -- src/message.rt:91:9
 returns : tie.Need-returns

@@ -8,9 +8,6 @@ use Rattle.records.specs.Numbers.{bytesOf}
 use Rattle.records.proofs.Storing.{number-stored, all-stored}
 use Rattle.records.proofs.writers.store16.Statement.{statement}
 use Rattle.records.proofs.writers.store16.Tie as tie
-use Rattle.records.proofs.writers.store16.Reads as reads
-use Rattle.records.proofs.writers.store16.Lts as lts
-use Rattle.wire.proofs.store.put16.Reads as put16-reads
 
 abbrev Inv-loop : tie.InvT-loop
 Inv-loop out₀ start list i₀ at₀ out i at =
@@ -23,38 +20,10 @@ abbrev μ-loop : tie.MeasureT-loop
 loop-holds : tie.Need-loop-holds Inv-loop μ-loop
 loop-holds c = (omega arith, (omega arith, (refl, refl)))
 
--- src/writers.rt:137:24
-mul-put16 : tie.Need-mul-put16 Inv-loop μ-loop
-mul-put16 c = search needs
-
--- src/writers.rt:137:24
-shared-slice-read-put16 : tie.Need-shared-slice-read-put16 Inv-loop μ-loop
-shared-slice-read-put16 c = search needs
-
--- src/writers.rt:137:9
-put16-requires : tie.Need-put16-requires Inv-loop μ-loop
-put16-requires c κs = search needs
-
--- src/writers.rt:138:9
-add-at : tie.Need-add-at Inv-loop μ-loop
-add-at c = search needs
-
--- src/writers.rt:139:9
-add-i : tie.Need-add-i Inv-loop μ-loop
-add-i c = search needs
-
--- src/writers.rt:136:5
-loop-less : tie.Need-loop-less Inv-loop μ-loop
-loop-less c = search needs
-
 -- src/writers.rt:136:5
 loop-again : tie.Need-loop-again Inv-loop μ-loop
 loop-again c =
     (omega arith, (omega arith, (search needs, number-stored 2 _ _ _ _ _ _ (c .before .before .before .before .before .loop-test .taken) (omega arith) (c .before .before .put16 .ensures) (c .before .before .before .before .before .before .loop .inv .1 .1 .1))))
-
--- src/writers.rt:130:1
-same-length : tie.Need-same-length Inv-loop μ-loop
-same-length c = search needs
 
 -- src/writers.rt:130:1
 returns : tie.Need-returns Inv-loop μ-loop
@@ -68,12 +37,12 @@ store16-spec =
     Inv-loop
     μ-loop
     loop-holds
-    mul-put16
-    shared-slice-read-put16
-    put16-requires
-    add-at
-    add-i
-    loop-less
+    (λ c. search needs)
+    (λ c. search needs)
+    (λ c κs. search needs)
+    (λ c. search needs)
+    (λ c. search needs)
+    (λ c. search needs)
     loop-again
-    same-length
+    (λ c. search needs)
     returns)

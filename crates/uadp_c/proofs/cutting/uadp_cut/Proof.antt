@@ -1,46 +1,14 @@
-use mathlib.Core.Path.{sym, _∙_, ap}
+use mathlib.Core.Path.{_∙_, ap}
 use Rattle.wire.proofs.Reading.{told}
 use Rattle.uadp_c.specs.Cutting.{cutResult}
 use borrow.Author.Needs.{needs}
 use Rattle.uadp_c.proofs.cutting.uadp_cut.Statement.{statement}
 use Rattle.uadp_c.proofs.cutting.uadp_cut.Tie as tie
-use Rattle.uadp_c.proofs.cutting.uadp_cut.Reads as reads
-use Rattle.uadp_c.proofs.cutting.uadp_cut.Lts as lts
-use Rattle.chunk.proofs.cut.cut.Reads as cut-reads
-use Rattle.records.proofs.result.result.Reads as result-reads
-
--- src/cutting.rt:15:11
-cut-requires : tie.Need-cut-requires
-cut-requires c κs = search needs
-
--- src/cutting.rt:16:21
-enum-known-n : tie.Need-enum-known-n
-enum-known-n c = search needs
-
--- src/cutting.rt:16:27
-result-requires : tie.Need-result-requires
-result-requires c κs = search needs
-
--- src/cutting.rt:17:26
-enum-known-n-2 : tie.Need-enum-known-n-2
-enum-known-n-2 c = search needs
-
--- src/cutting.rt:17:39
-result-requires-2 : tie.Need-result-requires-2
-result-requires-2 c κs = search needs
-
--- src/cutting.rt:11:1
-same-length : tie.Need-same-length
-same-length c = search needs
 
 -- src/cutting.rt:11:1
 returns : tie.Need-returns
 returns c =
     (c .result .ensures ∙ told cutResult (ap cutResult (c .before .before .before .before .before .before .cut .ensures .0)) (c .before .before .n .given .1), c .before .before .before .before .before .before .cut .ensures .1)
-
--- src/cutting.rt:11:1
-same-length-2 : tie.Need-same-length-2
-same-length-2 c = search needs
 
 -- src/cutting.rt:11:1
 returns-2 : tie.Need-returns-2
@@ -51,12 +19,12 @@ pub uadp-cut-spec : {M : Type 1} → statement M
 uadp-cut-spec =
     tie.close
     (tie.spec
-    cut-requires
-    enum-known-n
-    result-requires
-    enum-known-n-2
-    result-requires-2
-    same-length
+    (λ c κs. search needs)
+    (λ c. search needs)
+    (λ c κs. search needs)
+    (λ c. search needs)
+    (λ c κs. search needs)
+    (λ c. search needs)
     returns
-    same-length-2
+    (λ c. search needs)
     returns-2)

@@ -1,4 +1,4 @@
-use Rattle.reassembly.specs.Operations.{askComplete, judgeHandOut}
+use Rattle.reassembly.specs.Operations.{judgeHandOut}
 use Rattle.uadp_c.specs.Reassembling.{partialOf}
 use Rattle.uadp_c.proofs.Held.{hand-short, hand-ends}
 use native.Mathlib.Omega.{arith}
@@ -6,44 +6,11 @@ use denote.Ref.{now}
 use borrow.Author.Needs.{needs}
 use Rattle.uadp_c.proofs.reassembling.uadp_hand_out.Statement.{statement}
 use Rattle.uadp_c.proofs.reassembling.uadp_hand_out.Tie as tie
-use Rattle.uadp_c.proofs.reassembling.uadp_hand_out.Reads as reads
-use Rattle.uadp_c.proofs.reassembling.uadp_hand_out.Lts as lts
-use Rattle.partial_record.proofs.partial_in.Reads as partial-in-reads
-use Rattle.reassembly.proofs.hand_out_verdict.Reads as hand-out-verdict-reads
-use Rattle.records.proofs.result.result.Reads as result-reads
-
--- src/reassembling.rt:104:9
-result-requires : tie.Need-result-requires
-result-requires c κs = search needs
 
 -- src/reassembling.rt:104:9
 returns : tie.Need-returns
 returns c =
     hand-short (now (c .before .before .before .before .before .args .rec)) _ (judgeHandOut (partialOf (now (c .before .before .before .before .before .args .rec)) (now (c .before .before .before .before .before .args .payload)) (now (c .before .before .before .before .before .args .marks)))) (omega arith) (c .result .ensures)
-
--- src/reassembling.rt:106:9
-partial-in-requires : tie.Need-partial-in-requires
-partial-in-requires c κs = search needs
-
--- src/reassembling.rt:107:11
-hand-out-verdict-requires : tie.Need-hand-out-verdict-requires
-hand-out-verdict-requires c κs = search needs
-
--- src/reassembling.rt:108:26
-enum-known-number : tie.Need-enum-known-number
-enum-known-number c = search needs
-
--- src/reassembling.rt:108:44
-result-requires-2 : tie.Need-result-requires-2
-result-requires-2 c κs = search needs
-
--- src/reassembling.rt:110:17
-enum-told : tie.Need-enum-told
-enum-told c = search needs
-
--- src/reassembling.rt:111:13
-result-requires-3 : tie.Need-result-requires-3
-result-requires-3 c κs = search needs
 
 -- src/reassembling.rt:99:1
 returns-2 : tie.Need-returns-2
@@ -59,13 +26,13 @@ pub uadp-hand-out-spec : {M : Type 1} → statement M
 uadp-hand-out-spec =
     tie.close
     (tie.spec
-    result-requires
+    (λ c κs. search needs)
     returns
-    partial-in-requires
-    hand-out-verdict-requires
-    enum-known-number
-    result-requires-2
-    enum-told
-    result-requires-3
+    (λ c κs. search needs)
+    (λ c κs. search needs)
+    (λ c. search needs)
+    (λ c κs. search needs)
+    (λ c. search needs)
+    (λ c κs. search needs)
     returns-2
     returns-3)
