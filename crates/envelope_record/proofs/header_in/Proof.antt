@@ -1,0 +1,12 @@
+use mathlib.Core.Path.{sym}
+use borrow.Author.Needs.{needs}
+use Rattle.envelope_record.proofs.header_in.Statement.{statement}
+use Rattle.envelope_record.proofs.header_in.Tie as tie
+
+-- src/lib.rt:304:1
+returns : tie.Need-returns
+returns c =
+    rw (sym (c .before .before .number .ensures), sym (c .before .number2 .ensures)) (c .header-by .ensures)
+
+pub header-in-spec : {M : Type 1} → statement M
+header-in-spec = tie.close (tie.spec (λ c κs. search needs) (λ c κs. search needs) (λ c κs. search needs) returns)

@@ -1,0 +1,130 @@
+-- The records of an envelope and of a message's place (include/uadp.h).
+use Prim.Native.Nat.{ℕ, _+_, _*_, _%_}
+use mathlib.Core.Bool.{cond}
+use mathlib.Core.List.{List, [], _∷_}
+use lib.Dec.{eqb}
+use Rattle.wire.specs.declared.optional.Optional16.{Optional16}
+use Rattle.network_message.specs.PublisherRecord.{codeOf}
+use Rattle.network_message.specs.Envelope.{NetworkMessage}
+use Rattle.network_message.specs.declared.publisher.PublisherId.{PublisherId}
+use Rattle.network_message.specs.declared.group.GroupHeader.{GroupHeader}
+use Rattle.network_message.specs.declared.header.ClassId.{ClassId}
+use Rattle.network_message.specs.declared.header.PayloadHeader.{PayloadHeader}
+use Rattle.network_message.specs.declared.header.Promoted.{Promoted}
+use Rattle.network_message.specs.declared.payload.Sizes.{Sizes}
+use Rattle.network_message.specs.declared.payload.Payload.{Payload}
+use Rattle.network_message.specs.declared.payload.MessagePlace.{MessagePlace}
+use Rattle.network_message.specs.declared.payload.MessageCursor.{MessageCursor}
+use Rattle.records.specs.Numbers.{numberAt}
+use Rattle.records.specs.Message.{has16, value16, has32, value32, hasI64, valueI64, flagNumber}
+
+-- "the PublisherId's number; of a String its length"
+abbrev pub publisherNumber : PublisherId → ℕ
+publisherNumber PublisherId.Absent = 0
+publisherNumber (PublisherId.Byte v) = v
+publisherNumber (PublisherId.UInt16 v) = v
+publisherNumber (PublisherId.UInt32 v) = v
+publisherNumber (PublisherId.UInt64 v) = v
+publisherNumber (PublisherId.Text n) = n
+
+-- "DataSetClassId: 0 absent, else present; its first 8 bytes; its last 8 bytes, each as a number"
+abbrev pub hasClass : ClassId → ℕ
+hasClass ClassId.Absent = 0
+hasClass (ClassId.Is v) = 1
+
+abbrev pub classLow : ClassId → ℕ
+classLow ClassId.Absent = 0
+classLow (ClassId.Is v) = v .low
+
+abbrev pub classHigh : ClassId → ℕ
+classHigh ClassId.Absent = 0
+classHigh (ClassId.Is v) = v .high
+
+-- "group header: 0 absent, else 16, and 1 with WriterGroupId, 2 with GroupVersion, 4 with NetworkMessageNumber, 8 with SequenceNumber, added up"
+abbrev pub groupItems : GroupHeader → ℕ
+groupItems GroupHeader.Absent = 0
+groupItems (GroupHeader.Is g) = 16 + has16 (g .«writer_group») + 2 * has32 (g .version) + 4 * has16 (g .number) + 8 * has16 (g .sequence)
+
+abbrev pub groupWriter : GroupHeader → ℕ
+groupWriter GroupHeader.Absent = 0
+groupWriter (GroupHeader.Is g) = value16 (g .«writer_group»)
+
+abbrev pub groupVersion : GroupHeader → ℕ
+groupVersion GroupHeader.Absent = 0
+groupVersion (GroupHeader.Is g) = value32 (g .version)
+
+abbrev pub groupNumber : GroupHeader → ℕ
+groupNumber GroupHeader.Absent = 0
+groupNumber (GroupHeader.Is g) = value16 (g .number)
+
+abbrev pub groupSequence : GroupHeader → ℕ
+groupSequence GroupHeader.Absent = 0
+groupSequence (GroupHeader.Is g) = value16 (g .sequence)
+
+-- "PayloadHeader: 0 absent, 1 Count and ids, 2 a chunk's writer id"; "Count, or the chunk's writer id"
+abbrev pub headerCode : PayloadHeader → ℕ
+headerCode PayloadHeader.Absent = 0
+headerCode (PayloadHeader.Ids n) = 1
+headerCode (PayloadHeader.Chunk w) = 2
+
+abbrev pub headerNumber : PayloadHeader → ℕ
+headerNumber PayloadHeader.Absent = 0
+headerNumber (PayloadHeader.Ids n) = n
+headerNumber (PayloadHeader.Chunk w) = w
+
+-- "promoted fields: 0 absent, else present; their size"
+abbrev pub hasPromoted : Promoted → ℕ
+hasPromoted Promoted.Absent = 0
+hasPromoted (Promoted.Size n) = 1
+
+abbrev pub promotedSize : Promoted → ℕ
+promotedSize Promoted.Absent = 0
+promotedSize (Promoted.Size n) = n
+
+-- "their sizes: 0 the rest, 1 listed, 2 configured; where listed sizes stand (0 if not)"
+abbrev pub sizesCode : Sizes → ℕ
+sizesCode Sizes.Rest = 0
+sizesCode (Sizes.Listed p) = 1
+sizesCode Sizes.Configured = 2
+
+abbrev pub sizesPlace : Sizes → ℕ
+sizesPlace Sizes.Rest = 0
+sizesPlace (Sizes.Listed p) = p
+sizesPlace Sizes.Configured = 0
+
+-- the 28 numbers of an envelope; its cursor stands before the first message
+abbrev pub envelopeNumbers : NetworkMessage → List ℕ
+envelopeNumbers m =
+    codeOf (m .envelope .publisher) ∷ publisherNumber (m .envelope .publisher) ∷ m .places .«publisher_end»
+    ∷ hasClass (m .envelope .«class_id») ∷ classLow (m .envelope .«class_id») ∷ classHigh (m .envelope .«class_id»)
+    ∷ groupItems (m .envelope .group) ∷ groupWriter (m .envelope .group) ∷ groupVersion (m .envelope .group) ∷ groupNumber (m .envelope .group)
+    ∷ groupSequence (m .envelope .group) ∷ flagNumber (m .envelope .chunk) ∷ headerCode (m .envelope .«payload_header»)
+    ∷ headerNumber (m .envelope .«payload_header») ∷ m .places .«payload_header_end» ∷ hasI64 (m .envelope .timestamp)
+    ∷ valueI64 (m .envelope .timestamp) ∷ has16 (m .envelope .picoseconds) ∷ value16 (m .envelope .picoseconds)
+    ∷ hasPromoted (m .envelope .promoted) ∷ promotedSize (m .envelope .promoted) ∷ m .places .payload ∷ m .payload .count
+    ∷ sizesCode (m .payload .sizes) ∷ sizesPlace (m .payload .sizes) ∷ m .payload .first ∷ 0 ∷ m .payload .first ∷ []
+
+-- the parts of an envelope record that the messages' cursor needs
+abbrev pub sizesBy : ℕ → ℕ → Sizes
+sizesBy code place = cond (eqb code 1) (Sizes.Listed place) (cond (eqb code 2) Sizes.Configured Sizes.Rest)
+
+abbrev pub payloadIn : List ℕ → Payload
+payloadIn s = record { count = numberAt s 22; sizes = sizesBy (numberAt s 23) (numberAt s 24); first = numberAt s 25 }
+
+abbrev pub messagesIn : List ℕ → MessageCursor
+messagesIn s = record { index = numberAt s 26; at = numberAt s 27 }
+
+abbrev pub headerBy : ℕ → ℕ → PayloadHeader
+headerBy code n = cond (eqb code 1) (PayloadHeader.Ids (n % 256)) (cond (eqb code 2) (PayloadHeader.Chunk (n % 65536)) PayloadHeader.Absent)
+
+abbrev pub headerIn : List ℕ → PayloadHeader
+headerIn s = headerBy (numberAt s 12) (numberAt s 13)
+
+-- "DataSetWriterId, 65536 for none"
+abbrev pub writerNumber : Optional16 → ℕ
+writerNumber Optional16.Absent = 65536
+writerNumber (Optional16.Is id) = id
+
+-- the 4 numbers of a message's place
+abbrev pub placeNumbers : MessagePlace → Optional16 → List ℕ
+placeNumbers p writer = p .index ∷ p .offset ∷ p .length ∷ writerNumber writer ∷ []

@@ -1,0 +1,38 @@
+-- The record of a partial read in its parts.
+-- Assumes nothing.
+use Prim.Native.Nat.{ℕ, _%_}
+use mathlib.Core.Path.{_≡_, ap, _∙_}
+use mathlib.Core.List.{List}
+use lib.Dec.{eqb}
+use lib.ListN.{take, drop, replicate}
+use Rattle.wire.specs.Store.{laid}
+use Rattle.network_message.specs.declared.publisher.PublisherId.{PublisherId}
+use Rattle.network_message.specs.declared.publisher_record.PublisherRecord.{PublisherRecord}
+use Rattle.reassembly.specs.declared.record.Message.{Message}
+use Rattle.reassembly.specs.declared.record.PartialRecord.{PartialRecord}
+use Rattle.records.specs.Numbers.{numberAt}
+use Rattle.partial_record.specs.Partial.{publisherBy, publisherIn, messageIn, partialIn}
+
+abbrev pub publisherWith : PublisherId → List ℕ → PublisherRecord
+publisherWith i t = record { id = i; text = t }
+
+abbrev pub messageWith : PublisherRecord → ℕ → ℕ → ℕ → Message
+messageWith p a b d = record { publisher = p; writer = a % 65536; number = b % 65536; total = d }
+
+abbrev pub partialWith : ℕ → Message → PartialRecord
+partialWith n m = record { started = eqb n 1; message = m }
+
+pub publisher-taken : (s p u : List ℕ) (id : PublisherId) (a b : ℕ) → p ≡ take 64 (drop 48 s) → u ≡ laid (replicate 64 0) 0 p → a ≡ numberAt s 1 → b ≡ numberAt s 2
+    → id ≡ publisherBy a b → publisherWith id u ≡ publisherIn s
+publisher-taken s p u id a b qp qu qa qb qi =
+    ap (λ (i : PublisherId). publisherWith i u) (qi ∙ ap (λ (x : ℕ). publisherBy x b) qa ∙ ap (λ (x : ℕ). publisherBy (numberAt s 1) x) qb)
+    ∙ ap (λ (t : List ℕ). publisherWith (publisherBy (numberAt s 1) (numberAt s 2)) t) (qu ∙ ap (λ (x : List ℕ). laid (replicate 64 0) 0 x) qp)
+
+pub message-taken : (s : List ℕ) (p : PublisherRecord) (a b d : ℕ) → p ≡ publisherIn s → a ≡ numberAt s 3 → b ≡ numberAt s 4 → d ≡ numberAt s 5
+    → messageWith p a b d ≡ messageIn s
+message-taken s p a b d qp qa qb qd =
+    ap (λ (x : PublisherRecord). messageWith x a b d) qp ∙ ap (λ (x : ℕ). messageWith (publisherIn s) x b d) qa
+    ∙ ap (λ (x : ℕ). messageWith (publisherIn s) (numberAt s 3) x d) qb ∙ ap (λ (x : ℕ). messageWith (publisherIn s) (numberAt s 3) (numberAt s 4) x) qd
+
+pub partial-taken : (s : List ℕ) (n : ℕ) (m : Message) → n ≡ numberAt s 0 → m ≡ messageIn s → partialWith n m ≡ partialIn s
+partial-taken s n m qn qm = ap (λ (x : ℕ). partialWith x m) qn ∙ ap (λ (x : Message). partialWith (numberAt s 0) x) qm

@@ -1,0 +1,116 @@
+// The record of a partial: six numbers, and 64 bytes for the text of a string PublisherId.
+use network_message::publisher::PublisherId;
+use network_message::publisher_record::PublisherRecord;
+use reassembly::Message;
+use reassembly::PartialRecord;
+use records::message::flag_number;
+use records::numbers::number;
+use records::numbers::put_numbers;
+use wire::part::part;
+use wire::store::put_run;
+ghost use mathlib.Core.Path.{_≡_};
+ghost use Rattle.wire.specs.Store.{laid};
+ghost use Rattle.network_message.specs.PublisherRecord.{codeOf};
+ghost use Rattle.partial_record.specs.Partial.{publisherBy, publisherNumber, publisherIn, messageIn, partialIn, partialBytes};
+
+fn publisher_by(code: u64, v: u64) -> PublisherId
+    ensures { λ r. ⌜ r ≡ publisherBy code v ⌝ }
+{
+    if code == 1 {
+        return PublisherId::Byte((v % 256) as u8);
+    }
+    if code == 2 {
+        return PublisherId::UInt16((v % 65536) as u16);
+    }
+    if code == 3 {
+        return PublisherId::UInt32((v % 4294967296) as u32);
+    }
+    if code == 4 {
+        return PublisherId::UInt64(v);
+    }
+    if code == 5 {
+        return PublisherId::Text(v as usize);
+    }
+    PublisherId::Absent
+}
+
+fn publisher_in(s: &[u8]) -> PublisherRecord
+    ensures { λ r. ⌜ r ≡ publisherIn (now (s .entry)) ⌝ }
+{
+    let mut text = [0u8; 64];
+    put_run(&mut text, 0, part(s, 48, 64));
+    let id = publisher_by(number(s, 1), number(s, 2));
+    PublisherRecord { id, text }
+}
+
+fn message_in(s: &[u8]) -> Message
+    ensures { λ r. ⌜ r ≡ messageIn (now (s .entry)) ⌝ }
+{
+    let publisher = publisher_in(s);
+    Message {
+        publisher,
+        writer: (number(s, 3) % 65536) as u16,
+        number: (number(s, 4) % 65536) as u16,
+        total: number(s, 5) as usize,
+    }
+}
+
+// A partial's record out of lent bytes.
+pub fn partial_in(s: &[u8]) -> PartialRecord
+    ensures { λ r. ⌜ r ≡ partialIn (now (s .entry)) ⌝ }
+{
+    let message = message_in(s);
+    PartialRecord {
+        started: number(s, 0) == 1,
+        message,
+    }
+}
+
+fn publisher_code(x: PublisherId) -> u64
+    ensures { λ r. ⌜ r ≡ codeOf x ⌝ }
+{
+    match x {
+        PublisherId::Absent => 0,
+        PublisherId::Byte(_) => 1,
+        PublisherId::UInt16(_) => 2,
+        PublisherId::UInt32(_) => 3,
+        PublisherId::UInt64(_) => 4,
+        PublisherId::Text(_) => 5,
+    }
+}
+
+fn publisher_number(x: PublisherId) -> u64
+    ensures { λ r. ⌜ r ≡ publisherNumber x ⌝ }
+{
+    match x {
+        PublisherId::Absent => 0,
+        PublisherId::Byte(v) => v as u64,
+        PublisherId::UInt16(v) => v as u64,
+        PublisherId::UInt32(v) => v as u64,
+        PublisherId::UInt64(v) => v,
+        PublisherId::Text(n) => n as u64,
+    }
+}
+
+// Stores a partial's record; where it does not fit, nothing.
+pub fn put_partial(out: &mut [u8], rec: PartialRecord)
+    ensures { λ _. ⌜ now (out .exit) ≡ laid (now (out .entry)) 0 (partialBytes rec) ⌝ }
+{
+    if out.len() < 112 {
+        return;
+    }
+    let message = rec.message;
+    let publisher = message.publisher;
+    let id = publisher.id;
+    let text = publisher.text;
+    let numbers = [
+        flag_number(rec.started),
+        publisher_code(id),
+        publisher_number(id),
+        message.writer as u64,
+        message.number as u64,
+        message.total as u64,
+    ];
+    put_numbers(out, &numbers);
+    put_run(out, 48, &text);
+}

@@ -1,0 +1,48 @@
+use Rattle.records.proofs.Storing.{number-stored, all-stored}
+use Rattle.records.specs.Numbers.{numberBytes}
+use lib.ListN.{length, drop}
+use lib.Seq.{sets}
+use borrow.Author.Needs.{needs}
+use native.Mathlib.Omega.{arith}
+use mathlib.Core.Path.{_≡_, refl}
+use Prim.Native.Nat.{_≤_, _*_, _-_}
+use Rattle.records.proofs.numbers.store.Statement.{statement}
+use Rattle.records.proofs.numbers.store.Tie as tie
+
+abbrev Inv-loop : tie.InvT-loop
+Inv-loop out₀ numbers i₀ at₀ out i at =
+    (i ≤ length numbers) × ((at ≡ 8 * i) × ((length out ≡ length out₀) × (sets out at (numberBytes (drop i numbers)) ≡ sets out₀ 0 (numberBytes numbers))))
+
+abbrev μ-loop : tie.MeasureT-loop
+μ-loop out₀ numbers i₀ at₀ out i at = length numbers - i
+
+-- src/numbers.rt:29:5
+loop-holds : tie.Need-loop-holds Inv-loop μ-loop
+loop-holds c = (omega arith, (omega arith, (refl, refl)))
+
+-- src/numbers.rt:29:5
+loop-again : tie.Need-loop-again Inv-loop μ-loop
+loop-again c =
+    (omega arith, (omega arith, (search needs, number-stored 8 _ _ _ _ _ _ (c .before .before .before .before .before .loop-test .taken) (omega arith) (c .before .before .put64 .ensures) (c .before .before .before .before .before .before .loop .inv .1 .1 .1))))
+
+-- src/numbers.rt:23:1
+returns : tie.Need-returns Inv-loop μ-loop
+returns c =
+    all-stored 8 _ _ _ _ _ (c .loop-test .left) (c .before .loop .inv .1 .1 .1)
+
+pub store-spec : {M : Type 1} → statement M
+store-spec =
+    tie.close
+    (tie.spec
+    Inv-loop
+    μ-loop
+    loop-holds
+    (λ c. search needs)
+    (λ c. search needs)
+    (λ c κs. search needs)
+    (λ c. search needs)
+    (λ c. search needs)
+    (λ c. search needs)
+    loop-again
+    (λ c. search needs)
+    returns)

@@ -1,0 +1,21 @@
+use mathlib.Core.Path.{refl}
+use lib.ListN.{length}
+use denote.Ref.{now}
+use native.Mathlib.Omega.{arith}
+use borrow.Author.Tests.{lt-ltb, le-ltb}
+use borrow.Author.Needs.{needs}
+use Rattle.records.proofs.writers.ids.Statement.{statement}
+use Rattle.records.proofs.writers.ids.Tie as tie
+
+-- src/writers.rt:86:9
+returns : tie.Need-returns
+returns c =
+    rw (lt-ltb (length (now (c .before .before .args .config))) 146 (omega arith)) refl
+
+-- src/writers.rt:82:1
+returns-2 : tie.Need-returns-2
+returns-2 c =
+    rw (le-ltb (length (now (c .before .before .before .args .config))) 146 (omega arith)) (c .list16 .ensures)
+
+pub ids-spec : {M : Type 1} → statement M
+ids-spec = tie.close (tie.spec returns (λ c κs. search needs) returns-2)

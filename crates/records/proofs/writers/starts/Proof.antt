@@ -1,0 +1,15 @@
+use Prim.Native.Nat.{ℕ}
+use denote.Ref.{now}
+use lib.ListN.{take, drop}
+use mathlib.Core.Path.{ap, _∙_}
+use borrow.Author.Needs.{needs}
+use Rattle.records.proofs.writers.starts.Statement.{statement}
+use Rattle.records.proofs.writers.starts.Tie as tie
+
+-- src/writers.rt:101:1
+returns : tie.Need-returns
+returns c =
+    c .part .ensures ∙ ap (λ (n : ℕ). take n (drop 66 (now (c .before .before .before .args .config)))) (c .before .writer-count .ensures .0)
+
+pub starts-spec : {M : Type 1} → statement M
+starts-spec = tie.close (tie.spec (λ c κs. search needs) (λ c κs. search needs) returns)

@@ -1,0 +1,15 @@
+use Prim.Native.Nat.{ℕ}
+use denote.Ref.{now}
+use lib.ListN.{take, drop}
+use mathlib.Core.Path.{ap, _∙_}
+use borrow.Author.Needs.{needs}
+use Rattle.records.proofs.writers.types.Statement.{statement}
+use Rattle.records.proofs.writers.types.Tie as tie
+
+-- src/writers.rt:107:1
+returns : tie.Need-returns
+returns c =
+    c .part .ensures ∙ ap (λ (n : ℕ). take n (drop 82 (now (c .before .before .before .args .config)))) (c .before .field-count .ensures .0)
+
+pub types-spec : {M : Type 1} → statement M
+types-spec = tie.close (tie.spec (λ c κs. search needs) (λ c κs. search needs) returns)

@@ -1,0 +1,56 @@
+-- The ways out of a function that fills one record.
+-- Assumes nothing.
+use Prim.Native.Nat.{ℕ, _+_, _≤_, _<_}
+use mathlib.Core.Path.{_≡_, refl, ap, subst, _∙_}
+use mathlib.Core.Bool.{true, false}
+use mathlib.Core.List.{List}
+use native.Mathlib.Omega.{arith}
+use borrow.Author.Tests.{le-leb, lt-leb, lt-ltb, le-ltb}
+use lib.Dec.{leb}
+use lib.ListN.{length}
+use Rattle.wire.specs.Answer.{Answer, got, refused}
+use Rattle.wire.specs.Store.{laid}
+use Rattle.config.specs.declared.ConfigRead.{ConfigRead}
+use Rattle.config.specs.Config.{configOf}
+use Rattle.dataset_message.specs.Flags.{Valid}
+use Rattle.dataset_message.specs.Message.{Message, messageAt, fieldPlaceAt}
+use Rattle.dataset_message.specs.declared.fields.Field.{Field}
+use Rattle.records.specs.Result.{resultOf, Filling, resultIn, filledIn}
+use Rattle.records.specs.Writers.{typesFor, configFilling, configBytes}
+use Rattle.uadp_c.specs.Fields.{headFilling, fieldFilling}
+
+abbrev pub Ends : Answer Filling → List ℕ → ℕ → List ℕ → Type 0
+Ends a out x e = (x ≡ resultIn a out) × (e ≡ filledIn a out)
+
+pub fill-refused : (a : Answer Filling) (out : List ℕ) (n p x : ℕ) → refused n p ≡ a → x ≡ resultOf n p → Ends a out x out
+fill-refused a out n p x q h = subst (λ (y : Answer Filling). Ends y out x out) q (h, refl)
+
+pub fill-none : (a : Answer Filling) (out : List ℕ) (v : Filling) (next m x : ℕ) → got v next ≡ a → length (v .bytes) ≡ m → length out < m → x ≡ resultOf 11 0
+    → Ends a out x out
+fill-none a out v next m x q l h r =
+    let t : leb (length (v .bytes)) (length out) ≡ false = lt-leb (length (v .bytes)) (length out) (omega arith) in
+    let u : leb (0 + length (v .bytes)) (length out) ≡ false = lt-leb (0 + length (v .bytes)) (length out) (omega arith) in
+    subst (λ (y : Answer Filling). Ends y out x out) q (rw t r, rw u refl)
+
+pub fill-done : (a : Answer Filling) (out e : List ℕ) (v : Filling) (next m x : ℕ) → got v next ≡ a → length (v .bytes) ≡ m → m ≤ length out
+    → x ≡ resultOf 0 (v .value) → e ≡ laid out 0 (v .bytes) → Ends a out x e
+fill-done a out e v next m x q l h r s =
+    let t : leb (length (v .bytes)) (length out) ≡ true = le-leb (length (v .bytes)) (length out) (omega arith) in
+    subst (λ (y : Answer Filling). Ends y out x e) q (rw t r, s)
+
+-- what is filled in, from what was read
+pub config-bad : (t : List ℕ) (r : ConfigRead) → r ≡ configOf t → 0 < r .number → refused (r .number) (r .place) ≡ configFilling (configOf t)
+config-bad t r q h = subst (λ (y : ConfigRead). refused (r .number) (r .place) ≡ configFilling y) q (rw (lt-ltb 0 (r .number) h) refl)
+
+pub config-good : (t : List ℕ) (r : ConfigRead) → r ≡ configOf t → r .number ≤ 0
+    → got (record { value = 0; bytes = configBytes (r .config) }) 0 ≡ configFilling (configOf t)
+config-good t r q h =
+    subst (λ (y : ConfigRead). got (record { value = 0; bytes = configBytes (r .config) }) 0 ≡ configFilling y) q (rw (le-ltb 0 (r .number) h) refl)
+
+pub head-read : (c s ty : List ℕ) (w : ℕ) (y : Answer (Valid Message)) → ty ≡ typesFor c w → y ≡ messageAt ty s
+    → headFilling y ≡ headFilling (messageAt (typesFor c w) s)
+head-read c s ty w y e q = ap (λ (a : Answer (Valid Message)). headFilling a) (q ∙ ap (λ (t : List ℕ). messageAt t s) e)
+
+pub field-read : (c s ty : List ℕ) (w k : ℕ) (y : Answer Field) → ty ≡ typesFor c w → y ≡ fieldPlaceAt ty k s
+    → fieldFilling y ≡ fieldFilling (fieldPlaceAt (typesFor c w) k s)
+field-read c s ty w k y e q = ap (λ (a : Answer Field). fieldFilling a) (q ∙ ap (λ (t : List ℕ). fieldPlaceAt t k s) e)

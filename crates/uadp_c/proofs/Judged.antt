@@ -1,0 +1,25 @@
+-- The ways out of a judgement by a lent record.
+-- Assumes nothing.
+use Prim.Native.Nat.{ℕ, _≤_, _<_}
+use mathlib.Core.Path.{_≡_, refl, ap, sym, subst, _∙_}
+use mathlib.Core.List.{List}
+use borrow.Author.Tests.{lt-ltb, le-ltb}
+use lib.ListN.{length}
+use Rattle.sequence.specs.Newness.{newnessBy}
+use Rattle.sequence.specs.declared.Newness.{Newness}
+use Rattle.sequence.specs.declared.LastSequenceNumber.{LastSequenceNumber}
+use Rattle.records.specs.Result.{resultOf}
+use Rattle.uadp_c.specs.Sequence.{lastIn, newnessNumber, newnessResult, recordAfter, newnessAfter}
+
+abbrev pub Judges : List ℕ → ℕ → ℕ → List ℕ → Type 0
+Judges s received x e = (x ≡ newnessResult s received) × (e ≡ newnessAfter s received)
+
+pub judge-no-room : (s : List ℕ) (received x : ℕ) → length s < 16 → x ≡ resultOf 11 0 → Judges s received x s
+judge-no-room s received x h r = rw (lt-ltb (length s) 16 h) (r, refl)
+
+pub judged : (s e : List ℕ) (received x : ℕ) (k : LastSequenceNumber) (j n : Newness) → 16 ≤ length s → k ≡ lastIn s → j ≡ newnessBy k received → j ≡ n
+    → x ≡ resultOf 0 (newnessNumber n) → e ≡ recordAfter s received n → Judges s received x e
+judged s e received x k j n h d q t r p =
+    let z : n ≡ newnessBy (lastIn s) received = sym t ∙ q ∙ ap (λ (y : LastSequenceNumber). newnessBy y received) d in
+    rw (le-ltb (length s) 16 h)
+    (subst (λ (y : Newness). (x ≡ resultOf 0 (newnessNumber y)) × (e ≡ recordAfter s received y)) z (r, p))

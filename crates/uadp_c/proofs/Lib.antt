@@ -1,0 +1,6 @@
+pub mod Filling
+pub mod Stepping
+pub mod Judged
+pub mod Walking
+pub mod Held
+pub mod Again

@@ -1,0 +1,30 @@
+use mathlib.Core.Path.{_∙_, ap}
+use Rattle.wire.proofs.Reading.{told}
+use Rattle.uadp_c.specs.Cutting.{cutResult}
+use borrow.Author.Needs.{needs}
+use Rattle.uadp_c.proofs.cutting.uadp_cut.Statement.{statement}
+use Rattle.uadp_c.proofs.cutting.uadp_cut.Tie as tie
+
+-- src/cutting.rt:11:1
+returns : tie.Need-returns
+returns c =
+    (c .result .ensures ∙ told cutResult (ap cutResult (c .before .before .before .before .before .before .cut .ensures .0)) (c .before .before .n .given .1), c .before .before .before .before .before .before .cut .ensures .1)
+
+-- src/cutting.rt:11:1
+returns-2 : tie.Need-returns-2
+returns-2 c =
+    (c .result2 .ensures ∙ told cutResult (ap cutResult (c .before .before .before .before .before .before .cut .ensures .0)) (c .before .before .n2 .given .1), c .before .before .before .before .before .before .cut .ensures .1)
+
+pub uadp-cut-spec : {M : Type 1} → statement M
+uadp-cut-spec =
+    tie.close
+    (tie.spec
+    (λ c κs. search needs)
+    (λ c. search needs)
+    (λ c κs. search needs)
+    (λ c. search needs)
+    (λ c κs. search needs)
+    (λ c. search needs)
+    returns
+    (λ c. search needs)
+    returns-2)

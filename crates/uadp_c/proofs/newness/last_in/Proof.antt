@@ -1,0 +1,11 @@
+use mathlib.Core.Path.{refl}
+use borrow.Author.Needs.{needs}
+use Rattle.uadp_c.proofs.newness.last_in.Statement.{statement}
+use Rattle.uadp_c.proofs.newness.last_in.Tie as tie
+
+-- src/newness.rt:12:1
+returns : tie.Need-returns
+returns c = rw (c .before .number .ensures, c .number2 .ensures) refl
+
+pub last-in-spec : {M : Type 1} → statement M
+last-in-spec = tie.close (tie.spec (λ c κs. search needs) (λ c κs. search needs) (λ c. search needs) returns)

@@ -1,0 +1,54 @@
+use Rattle.reassembly.specs.Operations.{combine}
+use Rattle.uadp_c.specs.Reassembling.{partialOf}
+use Rattle.uadp_c.proofs.Held.{step-short, step-ends, combine-short, combine-long, combined}
+use mathlib.Core.Path.{refl}
+use native.Mathlib.Omega.{arith}
+use denote.Ref.{now}
+use borrow.Author.Needs.{needs}
+use Rattle.uadp_c.proofs.reassembling.uadp_combine.Statement.{statement}
+use Rattle.uadp_c.proofs.reassembling.uadp_combine.Tie as tie
+
+-- src/reassembling.rt:66:9
+returns : tie.Need-returns
+returns c =
+    combine-short (now (c .before .before .before .before .before .before .before .before .args .source)) (now (c .before .before .before .before .before .before .before .before .args .rec)) (now (c .before .before .before .before .before .before .before .before .args .payload)) (now (c .before .before .before .before .before .before .before .before .args .marks)) _ (combine (partialOf (now (c .before .before .before .before .before .before .before .before .args .rec)) (now (c .before .before .before .before .before .before .before .before .args .payload)) (now (c .before .before .before .before .before .before .before .before .args .marks))) (partialOf (now (c .before .before .before .before .before .before .before .before .args .source)) (now (c .before .before .before .before .before .before .before .before .args .source-payload)) (now (c .before .before .before .before .before .before .before .before .args .source-marks)))) (omega arith) (c .result .ensures)
+
+-- src/reassembling.rt:69:9
+returns-2 : tie.Need-returns-2
+returns-2 c =
+    combine-long (now (c .before .before .before .before .before .before .before .before .before .args .source)) (now (c .before .before .before .before .before .before .before .before .before .args .rec)) (now (c .before .before .before .before .before .before .before .before .before .args .payload)) (now (c .before .before .before .before .before .before .before .before .before .args .marks)) _ (combine (partialOf (now (c .before .before .before .before .before .before .before .before .before .args .rec)) (now (c .before .before .before .before .before .before .before .before .before .args .payload)) (now (c .before .before .before .before .before .before .before .before .before .args .marks))) (partialOf (now (c .before .before .before .before .before .before .before .before .before .args .source)) (now (c .before .before .before .before .before .before .before .before .before .args .source-payload)) (now (c .before .before .before .before .before .before .before .before .before .args .source-marks)))) (omega arith) (step-short (now (c .before .before .before .before .before .before .before .before .before .args .rec)) (now (c .before .before .before .before .before .before .before .before .before .args .payload)) (now (c .before .before .before .before .before .before .before .before .before .args .marks)) _ (combine (partialOf (now (c .before .before .before .before .before .before .before .before .before .args .rec)) (now (c .before .before .before .before .before .before .before .before .before .args .payload)) (now (c .before .before .before .before .before .before .before .before .before .args .marks))) (partialOf (now (c .before .before .before .before .before .before .before .before .before .args .source)) (now (c .before .before .before .before .before .before .before .before .before .args .source-payload)) (now (c .before .before .before .before .before .before .before .before .before .args .source-marks)))) (omega arith) (c .result2 .ensures))
+
+-- src/reassembling.rt:54:1
+returns-3 : tie.Need-returns-3
+returns-3 c =
+    combine-long (now (c .before .before .before .before .before .before .before .before .before .before .before .before .before .before .before .before .before .before .before .before .before .before .args .source)) (now (c .before .before .before .before .before .before .before .before .before .before .before .before .before .before .before .before .before .before .before .before .before .before .args .rec)) (now (c .before .before .before .before .before .before .before .before .before .before .before .before .before .before .before .before .before .before .before .before .before .before .args .payload)) (now (c .before .before .before .before .before .before .before .before .before .before .before .before .before .before .before .before .before .before .before .before .before .before .args .marks)) _ (combine (partialOf (now (c .before .before .before .before .before .before .before .before .before .before .before .before .before .before .before .before .before .before .before .before .before .before .args .rec)) (now (c .before .before .before .before .before .before .before .before .before .before .before .before .before .before .before .before .before .before .before .before .before .before .args .payload)) (now (c .before .before .before .before .before .before .before .before .before .before .before .before .before .before .before .before .before .before .before .before .before .before .args .marks))) (partialOf (now (c .before .before .before .before .before .before .before .before .before .before .before .before .before .before .before .before .before .before .before .before .before .before .args .source)) (now (c .before .before .before .before .before .before .before .before .before .before .before .before .before .before .before .before .before .before .before .before .before .before .args .source-payload)) (now (c .before .before .before .before .before .before .before .before .before .before .before .before .before .before .before .before .before .before .before .before .before .before .args .source-marks)))) (omega arith) (step-ends (now (c .before .before .before .before .before .before .before .before .before .before .before .before .before .before .before .before .before .before .before .before .before .before .args .rec)) (now (c .before .before .before .before .before .before .before .before .before .before .before .before .before .before .before .before .before .before .before .before .before .before .args .payload)) (now (c .before .before .before .before .before .before .before .before .before .before .before .before .before .before .before .before .before .before .before .before .before .before .args .marks)) _ _ _ _ (c .before .before .before .before .before .before .before .before .combine-in .result) _ _ (omega arith) (combined (now (c .before .before .before .before .before .before .before .before .before .before .before .before .before .before .before .before .before .before .before .before .before .before .args .rec)) (now (c .before .before .before .before .before .before .before .before .before .before .before .before .before .before .before .before .before .before .before .before .before .before .args .payload)) (now (c .before .before .before .before .before .before .before .before .before .before .before .before .before .before .before .before .before .before .before .before .before .before .args .marks)) (now (c .before .before .before .before .before .before .before .before .before .before .before .before .before .before .before .before .before .before .before .before .before .before .args .source)) (now (c .before .before .before .before .before .before .before .before .before .before .before .before .before .before .before .before .before .before .before .before .before .before .args .source-payload)) (now (c .before .before .before .before .before .before .before .before .before .before .before .before .before .before .before .before .before .before .before .before .before .before .args .source-marks)) _ _ _ (c .before .before .before .before .before .before .before .before .before .before .before .before .partial-in .ensures) (c .before .before .before .before .before .before .before .before .before .partial-in2 .ensures) (c .before .before .before .before .before .before .before .before .combine-in .ensures)) (c .before .before .verdict .given .1) (c .result3 .ensures) refl)
+
+-- src/reassembling.rt:54:1
+returns-4 : tie.Need-returns-4
+returns-4 c =
+    combine-long (now (c .before .before .before .before .before .before .before .before .before .before .before .before .before .before .before .before .before .before .before .before .before .before .before .before .before .before .args .source)) (now (c .before .before .before .before .before .before .before .before .before .before .before .before .before .before .before .before .before .before .before .before .before .before .before .before .before .before .args .rec)) (now (c .before .before .before .before .before .before .before .before .before .before .before .before .before .before .before .before .before .before .before .before .before .before .before .before .before .before .args .payload)) (now (c .before .before .before .before .before .before .before .before .before .before .before .before .before .before .before .before .before .before .before .before .before .before .before .before .before .before .args .marks)) _ (combine (partialOf (now (c .before .before .before .before .before .before .before .before .before .before .before .before .before .before .before .before .before .before .before .before .before .before .before .before .before .before .args .rec)) (now (c .before .before .before .before .before .before .before .before .before .before .before .before .before .before .before .before .before .before .before .before .before .before .before .before .before .before .args .payload)) (now (c .before .before .before .before .before .before .before .before .before .before .before .before .before .before .before .before .before .before .before .before .before .before .before .before .before .before .args .marks))) (partialOf (now (c .before .before .before .before .before .before .before .before .before .before .before .before .before .before .before .before .before .before .before .before .before .before .before .before .before .before .args .source)) (now (c .before .before .before .before .before .before .before .before .before .before .before .before .before .before .before .before .before .before .before .before .before .before .before .before .before .before .args .source-payload)) (now (c .before .before .before .before .before .before .before .before .before .before .before .before .before .before .before .before .before .before .before .before .before .before .before .before .before .before .args .source-marks)))) (omega arith) (step-ends (now (c .before .before .before .before .before .before .before .before .before .before .before .before .before .before .before .before .before .before .before .before .before .before .before .before .before .before .args .rec)) (now (c .before .before .before .before .before .before .before .before .before .before .before .before .before .before .before .before .before .before .before .before .before .before .before .before .before .before .args .payload)) (now (c .before .before .before .before .before .before .before .before .before .before .before .before .before .before .before .before .before .before .before .before .before .before .before .before .before .before .args .marks)) _ _ _ _ (c .before .before .before .before .before .before .before .before .before .before .before .before .combine-in .result) _ _ (omega arith) (combined (now (c .before .before .before .before .before .before .before .before .before .before .before .before .before .before .before .before .before .before .before .before .before .before .before .before .before .before .args .rec)) (now (c .before .before .before .before .before .before .before .before .before .before .before .before .before .before .before .before .before .before .before .before .before .before .before .before .before .before .args .payload)) (now (c .before .before .before .before .before .before .before .before .before .before .before .before .before .before .before .before .before .before .before .before .before .before .before .before .before .before .args .marks)) (now (c .before .before .before .before .before .before .before .before .before .before .before .before .before .before .before .before .before .before .before .before .before .before .before .before .before .before .args .source)) (now (c .before .before .before .before .before .before .before .before .before .before .before .before .before .before .before .before .before .before .before .before .before .before .before .before .before .before .args .source-payload)) (now (c .before .before .before .before .before .before .before .before .before .before .before .before .before .before .before .before .before .before .before .before .before .before .before .before .before .before .args .source-marks)) _ _ _ (c .before .before .before .before .before .before .before .before .before .before .before .before .before .before .before .before .partial-in .ensures) (c .before .before .before .before .before .before .before .before .before .before .before .before .before .partial-in2 .ensures) (c .before .before .before .before .before .before .before .before .before .before .before .before .combine-in .ensures)) (c .before .before .before .before .before .before .enum-told .given .1) (c .result4 .ensures) (c .before .before .before .put-partial .ensures))
+
+pub uadp-combine-spec : {M : Type 1} → statement M
+uadp-combine-spec =
+    tie.close
+    (tie.spec
+    (λ c κs. search needs)
+    returns
+    (λ c κs. search needs)
+    returns-2
+    (λ c κs. search needs)
+    (λ c κs. search needs)
+    (λ c κs. search needs)
+    (λ c. search needs)
+    (λ c κs. search needs)
+    (λ c. search needs)
+    (λ c κs. search needs)
+    (λ c κs. search needs)
+    (λ c. search needs)
+    (λ c. search needs)
+    (λ c. search needs)
+    returns-3
+    (λ c. search needs)
+    (λ c. search needs)
+    (λ c. search needs)
+    returns-4)

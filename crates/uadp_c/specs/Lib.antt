@@ -1,0 +1,6 @@
+pub mod Cutting
+pub mod Fields
+pub mod Messages
+pub mod Sequence
+pub mod Reassembling
+pub mod Rewriting

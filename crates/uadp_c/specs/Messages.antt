@@ -1,0 +1,49 @@
+-- An envelope and its messages' places as records (include/uadp.h, "reading").
+use Prim.Native.Nat.{ℕ}
+use mathlib.Core.Bool.{cond}
+use mathlib.Core.List.{List}
+use lib.Dec.{ltb}
+use lib.ListN.{length}
+use Rattle.wire.specs.Number.{leBytes}
+use Rattle.wire.specs.Answer.{Answer, got, refused, mapAnswer}
+use Rattle.wire.specs.Store.{laid}
+use Rattle.wire.specs.declared.optional.Optional16.{Optional16}
+use Rattle.network_message.specs.Envelope.{NetworkMessage}
+use Rattle.network_message.specs.Header.{writerIdOf}
+use Rattle.network_message.specs.Payload.{Stepped, stepAt}
+use Rattle.records.specs.Numbers.{numberAt, numberBytes}
+use Rattle.records.specs.Result.{resultOf, Filling}
+use Rattle.records.specs.Writers.{idsIn, sizesIn}
+use Rattle.envelope_record.specs.Envelope.{envelopeNumbers, payloadIn, messagesIn, headerIn, placeNumbers}
+
+-- "Value: the number of messages (0 for a chunk)"
+abbrev pub envelopeFilling : Answer NetworkMessage → Answer Filling
+envelopeFilling a = mapAnswer (λ (m : NetworkMessage). record { value = m .payload .count; bytes = numberBytes (envelopeNumbers m) }) a
+
+-- the message that an envelope record's cursor stands before, and the cursor before the next one
+abbrev pub messageStep : List ℕ → List ℕ → List ℕ → Answer Stepped
+messageStep config envelope d = stepAt (payloadIn envelope) (sizesIn config) (messagesIn envelope) d
+
+-- the DataSetWriterId of message k of an envelope record
+abbrev pub writerAt : List ℕ → List ℕ → List ℕ → ℕ → Optional16
+writerAt config envelope d k = writerIdOf (headerIn envelope) (numberAt envelope 14) (idsIn config) k d
+
+-- "Value: the message's number"; "11 for either record"
+abbrev pub messageResult : Answer Stepped → List ℕ → List ℕ → ℕ
+messageResult (got x next) envelope place =
+    cond (ltb (length envelope) 224) (resultOf 11 0) (cond (ltb (length place) 32) (resultOf 11 0) (resultOf 0 (x .place .index)))
+messageResult (refused n p) envelope place = resultOf n p
+
+-- the envelope record afterwards: its numbers 26 and 27 are the next message's number and where it starts
+abbrev pub envelopeAfter : Answer Stepped → List ℕ → List ℕ → List ℕ
+envelopeAfter (got x next) envelope place =
+    cond (ltb (length envelope) 224) envelope
+    (cond (ltb (length place) 32) envelope (laid (laid envelope 208 (leBytes 8 (x .cursor .index))) 216 (leBytes 8 (x .cursor .at))))
+envelopeAfter (refused n p) envelope place = envelope
+
+-- the place record afterwards, with what gives a message's DataSetWriterId
+abbrev pub placeAfter : (ℕ → Optional16) → Answer Stepped → List ℕ → List ℕ → List ℕ
+placeAfter writer (got x next) envelope place =
+    cond (ltb (length envelope) 224) place
+    (cond (ltb (length place) 32) place (laid place 0 (numberBytes (placeNumbers (x .place) (writer (x .place .index))))))
+placeAfter writer (refused n p) envelope place = place

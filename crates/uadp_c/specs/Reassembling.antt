@@ -1,0 +1,69 @@
+-- Reassembly on lent records and areas (include/uadp.h, "chunks and reassembly").
+use Prim.Native.Nat.{ℕ}
+use mathlib.Core.Bool.{cond}
+use mathlib.Core.List.{List}
+use lib.Dec.{ltb}
+use lib.ListN.{length}
+use Rattle.wire.specs.Number.{leBytes}
+use Rattle.wire.specs.Store.{laid}
+use Rattle.reassembly.specs.Record.{Partial, partial}
+use Rattle.reassembly.specs.Operations.{Step}
+use Rattle.reassembly.specs.declared.record.PartialRecord.{PartialRecord}
+use Rattle.reassembly.specs.declared.verdict.Verdict.{Verdict}
+use Rattle.reassembly.specs.declared.verdict.Completeness.{Completeness}
+use Rattle.records.specs.Result.{resultOf}
+use Rattle.partial_record.specs.Partial.{partialIn, partialBytes}
+
+-- a partial: its record and its two areas, payload and marks
+abbrev pub partialOf : List ℕ → List ℕ → List ℕ → Partial
+partialOf r p m = partial (partialIn r) p m
+
+-- an answer, and the lent bytes afterwards
+pub record Lent : Type 0 where
+  pub result : ℕ
+  pub rec : List ℕ
+  pub payload : List ℕ
+  pub marks : List ℕ
+
+abbrev pub lent : ℕ → List ℕ → List ℕ → List ℕ → Lent
+lent x r p m = record { result = x; rec = r; payload = p; marks = m }
+
+abbrev pub verdictResult : Verdict → ℕ
+verdictResult Verdict.Done = resultOf 0 0
+verdictResult (Verdict.Refused n place) = resultOf n place
+
+-- a refusal leaves the record as it was
+abbrev pub recordBy : Verdict → List ℕ → PartialRecord → List ℕ
+recordBy Verdict.Done r after = laid r 0 (partialBytes after)
+recordBy (Verdict.Refused n place) r after = r
+
+-- "a record shorter than its layout is unsound, 12"; else the step's answer, record and areas
+abbrev pub stepIn : List ℕ → List ℕ → List ℕ → Step → Lent
+stepIn r p m s =
+    cond (ltb (length r) 112) (lent (resultOf 12 0) r p m)
+    (lent (verdictResult (s .verdict)) (recordBy (s .verdict) r (s .after .rec)) (s .after .payload) (s .after .marks))
+
+-- combining: "12 for either"
+abbrev pub combineIn : List ℕ → List ℕ → List ℕ → List ℕ → Step → Lent
+combineIn source r p m s = cond (ltb (length source) 112) (lent (resultOf 12 0) r p m) (stepIn r p m s)
+
+-- emptying: "the record's number 0 becomes 0, and no other byte changes; a record shorter than 8 bytes stays as it is"
+abbrev pub emptiedRecord : List ℕ → List ℕ
+emptiedRecord r = laid r 0 (leBytes 8 0)
+
+-- "Value: 1 where the partial is complete, else 0"
+abbrev pub completeResult : Completeness → ℕ
+completeResult Completeness.Yes = resultOf 0 1
+completeResult Completeness.No = resultOf 0 0
+completeResult (Completeness.Refused n place) = resultOf n place
+
+abbrev pub completeIn : List ℕ → Completeness → ℕ
+completeIn r a = cond (ltb (length r) 112) (resultOf 12 0) (completeResult a)
+
+-- "Value: how many bytes at the payload area's start are the complete payload"
+abbrev pub handResult : PartialRecord → Verdict → ℕ
+handResult r Verdict.Done = resultOf 0 (r .message .total)
+handResult r (Verdict.Refused n place) = resultOf n place
+
+abbrev pub handIn : List ℕ → Verdict → ℕ
+handIn r v = cond (ltb (length r) 112) (resultOf 12 0) (handResult (partialIn r) v)

@@ -1,0 +1,91 @@
+// Reading an envelope and its messages' places.
+use config::writers::first;
+use envelope_record::header_in;
+use envelope_record::messages_in;
+use envelope_record::payload_in;
+use envelope_record::put_envelope;
+use envelope_record::put_place;
+use network_message::envelope::NetworkMessageRead;
+use network_message::envelope::read;
+use network_message::header::writer_id;
+use network_message::payload::MessageStep;
+use records::numbers::number;
+use records::result::result;
+use records::writers::ids;
+use records::writers::sizes;
+use records::writers::writer_count;
+use wire::optional::Optional16;
+use wire::store::put64;
+ghost use mathlib.Core.Path.{_≡_};
+ghost use Rattle.network_message.specs.Envelope.{networkMessageAt};
+ghost use Rattle.network_message.specs.Payload.{answerStep};
+ghost use Rattle.records.specs.Result.{resultIn, filledIn};
+ghost use Rattle.records.specs.Writers.{sizesIn};
+ghost use Rattle.uadp_c.specs.Messages.{envelopeFilling, messageStep, writerAt, messageResult, envelopeAfter, placeAfter};
+
+// Reads a datagram's envelope into an envelope record, whose cursor stands before the first message.
+#[no_mangle]
+pub extern "C" fn uadp_read(datagram: &[u8], config: &[u8], envelope: &mut [u8]) -> u64
+    ensures { λ r. ⌜ (r ≡ resultIn (envelopeFilling (networkMessageAt (sizesIn (now (config .entry))) (now (datagram .entry)))) (now (envelope .entry))) × (now (envelope .exit) ≡ filledIn (envelopeFilling (networkMessageAt (sizesIn (now (config .entry))) (now (datagram .entry)))) (now (envelope .entry))) ⌝ }
+{
+    let n = writer_count(config);
+    let list = sizes(config);
+    match read(datagram, first(&list, n)) {
+        NetworkMessageRead::Refused(number, place) => result(number, place),
+        NetworkMessageRead::Is(e, places, payload) => {
+            if envelope.len() < 224 {
+                return result(11, 0);
+            }
+            put_envelope(envelope, e, places, payload);
+            result(0, payload.count)
+        }
+    }
+}
+
+fn step(datagram: &[u8], config: &[u8], envelope: &[u8]) -> MessageStep
+    ensures { λ r. ⌜ answerStep r ≡ messageStep (now (config .entry)) (now (envelope .entry)) (now (datagram .entry)) ⌝ }
+{
+    let n = writer_count(config);
+    let list = sizes(config);
+    let payload = payload_in(envelope);
+    let cursor = messages_in(envelope);
+    cursor.step(datagram, payload, first(&list, n))
+}
+
+fn writer_at(datagram: &[u8], config: &[u8], envelope: &[u8], k: usize) -> Optional16
+    ensures { λ r. ⌜ r ≡ writerAt (now (config .entry)) (now (envelope .entry)) (now (datagram .entry)) k ⌝ }
+{
+    let n = writer_count(config);
+    let list = ids(config);
+    let header = header_in(envelope);
+    let end = number(envelope, 14) as usize;
+    writer_id(datagram, header, end, first(&list, n), k)
+}
+
+// The message that an envelope record's cursor stands before, as a place record; the cursor then stands before the next one.
+#[no_mangle]
+pub extern "C" fn uadp_next_message(
+    datagram: &[u8],
+    config: &[u8],
+    envelope: &mut [u8],
+    place: &mut [u8],
+) -> u64
+    ensures { λ r. ⌜ (r ≡ messageResult (messageStep (now (config .entry)) (now (envelope .entry)) (now (datagram .entry))) (now (envelope .entry)) (now (place .entry))) × (now (envelope .exit) ≡ envelopeAfter (messageStep (now (config .entry)) (now (envelope .entry)) (now (datagram .entry))) (now (envelope .entry)) (now (place .entry))) × (now (place .exit) ≡ placeAfter (writerAt (now (config .entry)) (now (envelope .entry)) (now (datagram .entry))) (messageStep (now (config .entry)) (now (envelope .entry)) (now (datagram .entry))) (now (envelope .entry)) (now (place .entry))) ⌝ }
+{
+    match step(datagram, config, envelope) {
+        MessageStep::Refused(number, at) => result(number, at),
+        MessageStep::Is(m, next) => {
+            if envelope.len() < 224 {
+                return result(11, 0);
+            }
+            if place.len() < 32 {
+                return result(11, 0);
+            }
+            let writer = writer_at(datagram, config, envelope, m.index);
+            put64(envelope, 208, next.index as u64);
+            put64(envelope, 216, next.at as u64);
+            put_place(place, m, writer);
+            result(0, m.index)
+        }
+    }
+}

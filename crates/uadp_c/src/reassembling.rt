@@ -1,0 +1,127 @@
+// Reassembly: a partial is a lent record and two lent areas, payload and marks.
+use config::writers::first;
+use partial_record::partial_in;
+use partial_record::put_partial;
+use reassembly::Completeness;
+use reassembly::Verdict;
+use reassembly::ask_complete;
+use reassembly::combine_in;
+use reassembly::hand_out_verdict;
+use reassembly::take_in;
+use records::result::result;
+use records::writers::sizes;
+use records::writers::writer_count;
+use wire::store::put64;
+ghost use mathlib.Core.Path.{_≡_};
+ghost use Rattle.reassembly.specs.Reading.{readingAt};
+ghost use Rattle.reassembly.specs.Operations.{takeIn, combine, askComplete, judgeHandOut};
+ghost use Rattle.records.specs.Result.{resultOf};
+ghost use Rattle.records.specs.Writers.{sizesIn};
+ghost use Rattle.uadp_c.specs.Reassembling.{partialOf, lent, stepIn, combineIn, emptiedRecord, completeIn, handIn};
+
+// Empties a partial.
+#[no_mangle]
+pub extern "C" fn uadp_empty(rec: &mut [u8]) -> u64
+    ensures { λ r. ⌜ (r ≡ resultOf 0 0) × (now (rec .exit) ≡ emptiedRecord (now (rec .entry))) ⌝ }
+{
+    put64(rec, 0, 0);
+    result(0, 0)
+}
+
+// Takes a chunk in from a datagram.
+#[no_mangle]
+pub extern "C" fn uadp_take_in(
+    rec: &mut [u8],
+    payload: &mut [u8],
+    marks: &mut [u8],
+    datagram: &[u8],
+    config: &[u8],
+) -> u64
+    ensures { λ r. ⌜ lent r (now (rec .exit)) (now (payload .exit)) (now (marks .exit)) ≡ stepIn (now (rec .entry)) (now (payload .entry)) (now (marks .entry)) (takeIn (partialOf (now (rec .entry)) (now (payload .entry)) (now (marks .entry))) (readingAt (sizesIn (now (config .entry))) (now (datagram .entry)))) ⌝ }
+{
+    if rec.len() < 112 {
+        return result(12, 0);
+    }
+    let n = writer_count(config);
+    let list = sizes(config);
+    let taken = take_in(partial_in(rec), payload, marks, datagram, first(&list, n));
+    let verdict = taken.verdict;
+    match verdict {
+        Verdict::Refused(number, place) => result(number, place),
+        Verdict::Done => {
+            let after = taken.rec;
+            put_partial(rec, after);
+            result(0, 0)
+        }
+    }
+}
+
+// Combines another partial into this one; the other stays as it is.
+#[no_mangle]
+pub extern "C" fn uadp_combine(
+    rec: &mut [u8],
+    payload: &mut [u8],
+    marks: &mut [u8],
+    source: &[u8],
+    source_payload: &[u8],
+    source_marks: &[u8],
+) -> u64
+    ensures { λ r. ⌜ lent r (now (rec .exit)) (now (payload .exit)) (now (marks .exit)) ≡ combineIn (now (source .entry)) (now (rec .entry)) (now (payload .entry)) (now (marks .entry)) (combine (partialOf (now (rec .entry)) (now (payload .entry)) (now (marks .entry))) (partialOf (now (source .entry)) (now («source_payload» .entry)) (now («source_marks» .entry)))) ⌝ }
+{
+    if source.len() < 112 {
+        return result(12, 0);
+    }
+    if rec.len() < 112 {
+        return result(12, 0);
+    }
+    let joined = combine_in(
+        partial_in(rec),
+        payload,
+        marks,
+        partial_in(source),
+        source_payload,
+        source_marks,
+    );
+    let verdict = joined.verdict;
+    match verdict {
+        Verdict::Refused(number, place) => result(number, place),
+        Verdict::Done => {
+            let after = joined.rec;
+            put_partial(rec, after);
+            result(0, 0)
+        }
+    }
+}
+
+// Whether a partial is complete.
+#[no_mangle]
+pub extern "C" fn uadp_complete(rec: &[u8], payload: &[u8], marks: &[u8]) -> u64
+    ensures { λ r. ⌜ r ≡ completeIn (now (rec .entry)) (askComplete (partialOf (now (rec .entry)) (now (payload .entry)) (now (marks .entry)))) ⌝ }
+{
+    if rec.len() < 112 {
+        return result(12, 0);
+    }
+    match ask_complete(partial_in(rec), payload, marks) {
+        Completeness::Yes => result(0, 1),
+        Completeness::No => result(0, 0),
+        Completeness::Refused(number, place) => result(number, place),
+    }
+}
+
+// How many bytes at the payload area's start are the complete payload.
+#[no_mangle]
+pub extern "C" fn uadp_hand_out(rec: &[u8], payload: &[u8], marks: &[u8]) -> u64
+    ensures { λ r. ⌜ r ≡ handIn (now (rec .entry)) (judgeHandOut (partialOf (now (rec .entry)) (now (payload .entry)) (now (marks .entry)))) ⌝ }
+{
+    if rec.len() < 112 {
+        return result(12, 0);
+    }
+    let held = partial_in(rec);
+    match hand_out_verdict(held, payload, marks) {
+        Verdict::Refused(number, place) => result(number, place),
+        Verdict::Done => {
+            let message = held.message;
+            result(0, message.total)
+        }
+    }
+}
