@@ -1,0 +1,3 @@
+pub mod Storing
+pub mod Asked
+pub mod Heads

@@ -1,0 +1,4 @@
+pub mod Numbers
+pub mod Result
+pub mod Writers
+pub mod Message

@@ -1,0 +1,58 @@
+-- The configuration record (include/uadp.h, "Configuration record").
+use Prim.Native.Nat.{ℕ}
+use mathlib.Core.Bool.{cond}
+use mathlib.Core.List.{List, [], _++_}
+use lib.Dec.{ltb}
+use lib.ListN.{length, take, drop, getD, replicate}
+use Rattle.wire.specs.Number.{leBytes}
+use Rattle.wire.specs.Answer.{Answer, got, refused}
+use Rattle.config.specs.declared.Config.{Config}
+use Rattle.config.specs.declared.ConfigRead.{ConfigRead}
+use Rattle.config.specs.Writers.{atMost, fieldsOfId}
+use Rattle.network_message.specs.Payload.{listed}
+use Rattle.records.specs.Numbers.{bytesOf}
+use Rattle.records.specs.Result.{Filling}
+
+-- "A configuration record shorter than its layout is the empty configuration"
+abbrev pub numberIn : ℕ → ℕ → List ℕ → ℕ
+numberIn i most c = cond (ltb (length c) 146) 0 (atMost most (getD c i 0))
+
+-- "0: number of writers (above 16 counts as 16); 1: number of fields (above 64 counts as 64)"
+abbrev pub writersIn : List ℕ → ℕ
+writersIn c = numberIn 0 16 c
+
+abbrev pub fieldsIn : List ℕ → ℕ
+fieldsIn c = numberIn 1 64 c
+
+-- the 16 numbers of 2 bytes from a position
+abbrev pub sixteen : ℕ → List ℕ → List ℕ
+sixteen at c = cond (ltb (length c) 146) (replicate 16 0) (listed 16 c at)
+
+-- "2: 16 DataSetWriterIds of 2 bytes; 34: 16 sizes of 2 bytes, 0 for none"
+abbrev pub idsIn : List ℕ → List ℕ
+idsIn c = take (writersIn c) (sixteen 2 c)
+
+abbrev pub sizesIn : List ℕ → List ℕ
+sizesIn c = take (writersIn c) (sixteen 34 c)
+
+-- "66: 16 bytes: how many fields stand before each writer's own; 82: 64 bytes: the fields' type numbers"
+abbrev pub startsIn : List ℕ → List ℕ
+startsIn c = take (writersIn c) (drop 66 c)
+
+abbrev pub typesIn : List ℕ → List ℕ
+typesIn c = take (fieldsIn c) (drop 82 c)
+
+-- the configured field types of a writer: "above 65535 it is none"
+abbrev pub typesFor : List ℕ → ℕ → List ℕ
+typesFor c writer = cond (ltb 65535 writer) [] (fieldsOfId (idsIn c) (startsIn c) (typesIn c) writer)
+
+-- the record's bytes, in the layout's order
+abbrev pub configBytes : Config → List ℕ
+configBytes c =
+    ((((leBytes 1 (atMost 16 (c .writers)) ++ leBytes 1 (atMost 64 (c .fields))) ++ bytesOf 2 (c .ids)) ++ bytesOf 2 (c .sizes)) ++ c .starts)
+    ++ c .types
+
+-- the record of a configuration text: "Refusals: 16 with the line, counted from 1; 11"
+abbrev pub configFilling : ConfigRead → Answer Filling
+configFilling r =
+    cond (ltb 0 (r .number)) (refused (r .number) (r .place)) (got (record { value = 0; bytes = configBytes (r .config) }) 0)

@@ -1,0 +1,156 @@
+// The configuration record: its writers and fields as parts of the lent bytes.
+use config::Config;
+use config::writers::find_writer;
+use config::writers::first;
+use config::writers::writer_fields;
+use wire::Item16;
+use wire::part::part;
+use wire::store::put_run;
+use wire::store::put8;
+use wire::store::put16;
+ghost use mathlib.Core.Path.{_≡_};
+ghost use Prim.Native.Nat.{_+_, _*_, _≤_};
+ghost use lib.ListN.{length};
+ghost use lib.Seq.{sets};
+ghost use Rattle.wire.specs.Number.{le};
+ghost use Rattle.wire.specs.Store.{laid};
+ghost use Rattle.config.specs.Writers.{atMost};
+ghost use Rattle.network_message.specs.Payload.{listed};
+ghost use Rattle.records.specs.Writers.{writersIn, fieldsIn, sixteen, startsIn, typesIn, typesFor, configBytes};
+ghost use Rattle.records.specs.Numbers.{bytesOf};
+
+fn wide(b: u8) -> usize
+    ensures { λ r. ⌜ r ≡ b ⌝ }
+{
+    b as usize
+}
+
+// A number, or the most that it may be.
+fn at_most(most: u8, n: usize) -> u8
+    ensures { λ r. ⌜ (r ≡ atMost most n) × (r ≤ most) ⌝ }
+{
+    if (most as usize) < n {
+        return most;
+    }
+    n as u8
+}
+
+pub fn writer_count(config: &[u8]) -> usize
+    ensures { λ r. ⌜ (r ≡ writersIn (now (config .entry))) × (r ≤ 16) ⌝ }
+{
+    if config.len() < 146 {
+        return 0;
+    }
+    at_most(16, wide(config[0])) as usize
+}
+
+pub fn field_count(config: &[u8]) -> usize
+    ensures { λ r. ⌜ (r ≡ fieldsIn (now (config .entry))) × (r ≤ 64) ⌝ }
+{
+    if config.len() < 146 {
+        return 0;
+    }
+    at_most(64, wide(config[1])) as usize
+}
+
+fn number16(s: &[u8], at: usize) -> u16
+    requires { ⌜ at + 2 ≤ length (now s) ⌝ }
+    ensures { λ r. ⌜ r ≡ le 2 (now (s .entry)) at ⌝ }
+{
+    match wire::read16(s, at) {
+        Item16::Is(v, _) => v,
+        Item16::Short => 0,
+    }
+}
+
+fn list16(s: &[u8], at: usize) -> [u16; 16]
+    requires { ⌜ at + 32 ≤ length (now s) ⌝ }
+    ensures { λ r. ⌜ r ≡ listed 16 (now (s .entry)) at ⌝ }
+{
+    let mut list = [0u16; 16];
+    let mut i = 0;
+    let mut p = at;
+    while i < 16 {
+        list[i] = number16(s, p);
+        p += 2;
+        i += 1;
+    }
+    list
+}
+
+// The DataSetWriterIds; of these as many count as there are writers.
+pub fn ids(config: &[u8]) -> [u16; 16]
+    ensures { λ r. ⌜ r ≡ sixteen 2 (now (config .entry)) ⌝ }
+{
+    if config.len() < 146 {
+        return [0u16; 16];
+    }
+    list16(config, 2)
+}
+
+// The sizes; of these as many count as there are writers.
+pub fn sizes(config: &[u8]) -> [u16; 16]
+    ensures { λ r. ⌜ r ≡ sixteen 34 (now (config .entry)) ⌝ }
+{
+    if config.len() < 146 {
+        return [0u16; 16];
+    }
+    list16(config, 34)
+}
+
+pub fn starts(config: &[u8]) -> &[u8]
+    ensures { λ r. ⌜ now r ≡ startsIn (now (config .entry)) ⌝ }
+{
+    part(config, 66, writer_count(config))
+}
+
+pub fn types(config: &[u8]) -> &[u8]
+    ensures { λ r. ⌜ now r ≡ typesIn (now (config .entry)) ⌝ }
+{
+    part(config, 82, field_count(config))
+}
+
+// The configured field types of a writer, none for an id above 65,535.
+pub fn types_for(config: &[u8], writer: u32) -> &[u8]
+    ensures { λ r. ⌜ now r ≡ typesFor (now (config .entry)) writer ⌝ }
+{
+    if 65535 < writer {
+        return part(config, 0, 0);
+    }
+    let n = writer_count(config);
+    let list = ids(config);
+    let named = first(&list, n);
+    let k = find_writer(named, writer as u16);
+    if named.len() <= k {
+        return part(config, 0, 0);
+    }
+    writer_fields(starts(config), types(config), k)
+}
+
+fn store16(out: &mut [u8], start: usize, list: &[u16])
+    requires { ⌜ start + 2 * length (now list) ≤ length (now out) ⌝ }
+    ensures { λ _. ⌜ now (out .exit) ≡ sets (now (out .entry)) start (bytesOf 2 (now (list .entry))) ⌝ }
+{
+    let mut i = 0;
+    let mut at = start;
+    while i < list.len() {
+        put16(out, at, list[i]);
+        at += 2;
+        i += 1;
+    }
+}
+
+// Stores a configuration record from the start of a buffer; where it does not fit, nothing.
+pub fn put_config(out: &mut [u8], config: Config)
+    ensures { λ _. ⌜ now (out .exit) ≡ laid (now (out .entry)) 0 (configBytes config) ⌝ }
+{
+    if out.len() < 146 {
+        return;
+    }
+    put8(out, 0, at_most(16, config.writers));
+    put8(out, 1, at_most(64, config.fields));
+    store16(out, 2, &config.ids);
+    store16(out, 34, &config.sizes);
+    put_run(out, 66, &config.starts);
+    put_run(out, 82, &config.types);
+}

@@ -1,0 +1,46 @@
+-- A message's head and its fields as records (include/uadp.h, "reading").
+use Prim.Native.Nat.{ℕ}
+use mathlib.Core.Bool.{cond}
+use mathlib.Core.List.{List}
+use lib.Dec.{ltb}
+use lib.ListN.{length}
+use Rattle.wire.specs.Number.{leBytes}
+use Rattle.wire.specs.Answer.{Answer, got, refused, mapAnswer}
+use Rattle.wire.specs.Store.{laid}
+use Rattle.dataset_message.specs.Flags.{Valid, notValid, valid}
+use Rattle.dataset_message.specs.Message.{Message}
+use Rattle.dataset_message.specs.Fields.{Stepped}
+use Rattle.dataset_message.specs.declared.fields.Field.{Field}
+use Rattle.records.specs.Numbers.{numberBytes}
+use Rattle.records.specs.Result.{resultOf, Filling}
+use Rattle.records.specs.Message.{headNumbers, fieldNumbers}
+
+-- "Value: 1, or 0 for a message that is not valid"
+abbrev pub validNumber : Valid Message → ℕ
+validNumber notValid = 0
+validNumber (valid m) = 1
+
+abbrev pub headFilling : Answer (Valid Message) → Answer Filling
+headFilling a = mapAnswer (λ (m : Valid Message). record { value = validNumber m; bytes = numberBytes (headNumbers m) }) a
+
+-- "Value: the offset of its value"
+abbrev pub fieldFilling : Answer Field → Answer Filling
+fieldFilling a = mapAnswer (λ (f : Field). record { value = f .offset; bytes = numberBytes (fieldNumbers f) }) a
+
+-- a step of a head record's field cursor: "11 for either record"
+abbrev pub stepResult : Answer Stepped → List ℕ → List ℕ → ℕ
+stepResult (got x next) head field =
+    cond (ltb (length head) 160) (resultOf 11 0) (cond (ltb (length field) 48) (resultOf 11 0) (resultOf 0 (x .field .offset)))
+stepResult (refused n place) head field = resultOf n place
+
+-- the head record afterwards: its numbers 12 and 14 are the next field's number and where it starts
+abbrev pub headAfter : Answer Stepped → List ℕ → List ℕ → List ℕ
+headAfter (got x next) head field =
+    cond (ltb (length head) 160) head
+    (cond (ltb (length field) 48) head (laid (laid head 96 (leBytes 8 (x .cursor .next))) 112 (leBytes 8 (x .cursor .at))))
+headAfter (refused n place) head field = head
+
+abbrev pub fieldAfter : Answer Stepped → List ℕ → List ℕ → List ℕ
+fieldAfter (got x next) head field =
+    cond (ltb (length head) 160) field (cond (ltb (length field) 48) field (laid field 0 (numberBytes (fieldNumbers (x .field)))))
+fieldAfter (refused n place) head field = field

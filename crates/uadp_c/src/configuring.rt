@@ -1,0 +1,25 @@
+// Reading a configuration.
+use config::read_config;
+use records::result::result;
+use records::writers::put_config;
+ghost use mathlib.Core.Path.{_≡_};
+ghost use Rattle.config.specs.Config.{configOf};
+ghost use Rattle.records.specs.Result.{resultIn, filledIn};
+ghost use Rattle.records.specs.Writers.{configFilling};
+
+// Reads a configuration text into a configuration record.
+#[no_mangle]
+pub extern "C" fn uadp_config(text: &[u8], config: &mut [u8]) -> u64
+    ensures { λ r. ⌜ (r ≡ resultIn (configFilling (configOf (now (text .entry)))) (now (config .entry))) × (now (config .exit) ≡ filledIn (configFilling (configOf (now (text .entry)))) (now (config .entry))) ⌝ }
+{
+    let read = read_config(text);
+    if 0 < read.number {
+        return result(read.number, read.place);
+    }
+    if config.len() < 146 {
+        return result(11, 0);
+    }
+    let c = read.config;
+    put_config(config, c);
+    result(0, 0)
+}

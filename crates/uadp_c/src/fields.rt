@@ -1,0 +1,90 @@
+// Reading a message's head and its fields.
+use dataset_message::fields::FieldRead;
+use dataset_message::fields::FieldStep;
+use dataset_message::message::MessageRead;
+use dataset_message::message::field_place;
+use dataset_message::message::read;
+use records::message::cursor_in;
+use records::message::put_field;
+use records::message::put_head;
+use records::message::put_no_head;
+use records::result::result;
+use records::writers::types_for;
+use wire::store::put64;
+ghost use mathlib.Core.Path.{_≡_};
+ghost use Rattle.dataset_message.specs.Fields.{stepAt};
+ghost use Rattle.dataset_message.specs.Message.{messageAt, fieldPlaceAt};
+ghost use Rattle.records.specs.Result.{resultIn, filledIn};
+ghost use Rattle.records.specs.Writers.{typesFor};
+ghost use Rattle.records.specs.Message.{cursorIn};
+ghost use Rattle.uadp_c.specs.Fields.{headFilling, fieldFilling, stepResult, headAfter, fieldAfter};
+
+// Reads a DataSetMessage alone into a message head record.
+#[no_mangle]
+pub extern "C" fn uadp_read_message(message: &[u8], config: &[u8], writer: u32, head: &mut [u8]) -> u64
+    ensures { λ r. ⌜ (r ≡ resultIn (headFilling (messageAt (typesFor (now (config .entry)) writer) (now (message .entry)))) (now (head .entry))) × (now (head .exit) ≡ filledIn (headFilling (messageAt (typesFor (now (config .entry)) writer) (now (message .entry)))) (now (head .entry))) ⌝ }
+{
+    match read(message, types_for(config, writer)) {
+        MessageRead::Refused(n, place) => result(n, place),
+        MessageRead::NotValid => {
+            if head.len() < 160 {
+                return result(11, 0);
+            }
+            put_no_head(head);
+            result(0, 0)
+        }
+        MessageRead::Is(h, cursor, end) => {
+            if head.len() < 160 {
+                return result(11, 0);
+            }
+            put_head(head, h, cursor, end);
+            result(0, 1)
+        }
+    }
+}
+
+// Field k of a message, counted from 0, as a field record.
+#[no_mangle]
+pub extern "C" fn uadp_field(message: &[u8], config: &[u8], writer: u32, k: u64, field: &mut [u8]) -> u64
+    ensures { λ r. ⌜ (r ≡ resultIn (fieldFilling (fieldPlaceAt (typesFor (now (config .entry)) writer) k (now (message .entry)))) (now (field .entry))) × (now (field .exit) ≡ filledIn (fieldFilling (fieldPlaceAt (typesFor (now (config .entry)) writer) k (now (message .entry)))) (now (field .entry))) ⌝ }
+{
+    match field_place(message, types_for(config, writer), k as usize) {
+        FieldRead::Refused(n, place) => result(n, place),
+        FieldRead::Is(f, _) => {
+            if field.len() < 48 {
+                return result(11, 0);
+            }
+            put_field(field, f);
+            result(0, f.offset)
+        }
+    }
+}
+
+// The field that a head record's cursor stands before, as a field record; the cursor then stands before the next one.
+#[no_mangle]
+pub extern "C" fn uadp_next_field(
+    message: &[u8],
+    config: &[u8],
+    writer: u32,
+    head: &mut [u8],
+    field: &mut [u8],
+) -> u64
+    ensures { λ r. ⌜ (r ≡ stepResult (stepAt (cursorIn (now (head .entry))) (typesFor (now (config .entry)) writer) (now (message .entry))) (now (head .entry)) (now (field .entry))) × (now (head .exit) ≡ headAfter (stepAt (cursorIn (now (head .entry))) (typesFor (now (config .entry)) writer) (now (message .entry))) (now (head .entry)) (now (field .entry))) × (now (field .exit) ≡ fieldAfter (stepAt (cursorIn (now (head .entry))) (typesFor (now (config .entry)) writer) (now (message .entry))) (now (head .entry)) (now (field .entry))) ⌝ }
+{
+    let cursor = cursor_in(head);
+    match cursor.step(message, types_for(config, writer)) {
+        FieldStep::Refused(n, place) => result(n, place),
+        FieldStep::Is(f, next) => {
+            if head.len() < 160 {
+                return result(11, 0);
+            }
+            if field.len() < 48 {
+                return result(11, 0);
+            }
+            put64(head, 96, next.next as u64);
+            put64(head, 112, next.at as u64);
+            put_field(field, f);
+            result(0, f.offset)
+        }
+    }
+}
