@@ -1,0 +1,17 @@
+use borrow.Author.Tests.{eq-eqb, ne-eqb}
+use mathlib.Core.Path.{refl}
+use Rattle.records.proofs.given.promoted_in.Statement.{statement}
+use Rattle.records.proofs.given.promoted_in.Tie as tie
+use Rattle.records.proofs.given.promoted_in.Reads as reads
+use Rattle.records.proofs.given.promoted_in.Lts as lts
+
+-- src/given.rt:171:9
+returns : tie.Need-returns
+returns c = rw (eq-eqb (c .before .args .present) 0 (c .if1 .taken)) refl
+
+-- src/given.rt:167:1
+returns-2 : tie.Need-returns-2
+returns-2 c = rw (ne-eqb (c .before .args .present) 0 (c .if1 .left)) refl
+
+pub promoted-in-spec : {M : Type 1} → statement M
+promoted-in-spec = tie.close (tie.spec returns returns-2)
