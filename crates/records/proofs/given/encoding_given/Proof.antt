@@ -1,20 +1,17 @@
+-- `records::given::encoding_given` meets its contract.
+-- Assumes nothing.
 use borrow.Author.Tests.{eq-eqb, ne-eqb}
 use mathlib.Core.Path.{refl}
 use Rattle.records.proofs.given.encoding_given.Statement.{statement}
 use Rattle.records.proofs.given.encoding_given.Tie as tie
-use Rattle.records.proofs.given.encoding_given.Reads as reads
-use Rattle.records.proofs.given.encoding_given.Lts as lts
 
--- src/given.rt:59:9
 returns : tie.Need-returns
 returns c = rw (eq-eqb (c .before .args .n) 1 (c .if1 .taken)) refl
 
--- src/given.rt:62:9
 returns-2 : tie.Need-returns-2
 returns-2 c =
     rw (ne-eqb (c .before .before .args .n) 1 (c .before .if1 .left), eq-eqb (c .before .before .args .n) 2 (c .if2 .taken)) refl
 
--- src/given.rt:55:1
 returns-3 : tie.Need-returns-3
 returns-3 c =
     rw (ne-eqb (c .before .before .args .n) 1 (c .before .if1 .left), ne-eqb (c .before .before .args .n) 2 (c .if2 .left)) refl

@@ -1,21 +1,12 @@
+-- `records::given::given16` meets its contract.
+-- Assumes nothing.
 use mathlib.Core.Path.{refl}
 use borrow.Author.Needs.{needs}
 use Rattle.records.proofs.given.given16.Statement.{statement}
 use Rattle.records.proofs.given.given16.Tie as tie
-use Rattle.records.proofs.given.given16.Reads as reads
-use Rattle.records.proofs.given.given16.Lts as lts
 
--- src/given.rt:32:31
-cast-t5 : tie.Need-cast-t5
-cast-t5 c = search needs
-
--- src/given.rt:32:9
 returns : tie.Need-returns
 returns c = rw (c .if1 .taken) refl
 
--- src/given.rt:28:1
-returns-2 : tie.Need-returns-2
-returns-2 c = search needs
-
 pub given16-spec : {M : Type 1} → statement M
-given16-spec = tie.close (tie.spec cast-t5 returns returns-2)
+given16-spec = tie.close (tie.spec (λ c. search needs) returns (λ c. search needs))
