@@ -146,28 +146,28 @@ uadp_result uadp_next_field(const uint8_t *message, size_t message_length, const
 uadp_result uadp_field(const uint8_t *message, size_t message_length, const uint8_t *config, size_t config_length, uint32_t writer, uint64_t k,
                        uint8_t *field, size_t field_length);
 
-/* ---- writing; each puts its bytes at the buffer's start and changes no other byte; value: how many ---- */
+/* ---- writing; each puts its bytes at the buffer's start and changes no other byte; value: how many; a refusal's place is 0 ---- */
 
-/* Writes an accepted datagram again: the same bytes but for document 01's one exception. Refusals: as uadp_read; 11. */
+/* Writes an accepted datagram again: the same bytes but for document 01's one exception. Refusals: document 01's numbers for reading it; 11. */
 uadp_result uadp_rewrite(const uint8_t *datagram, size_t datagram_length, const uint8_t *config, size_t config_length, uint8_t *out,
                          size_t out_length);
 
 /* Writes a datagram from parts: of the envelope record the numbers 0, 1, 3 to 13 and 15 to 20 are read;
  * text are a String PublisherId's bytes, ids the DataSetWriterIds of 2 bytes each, lengths the lengths of several messages, 2 bytes each (empty for one
- * message and for a chunk), messages their bytes one after the other (or the chunk's payload). Refusals: document 01's numbers for writers, place 0. */
+ * message and for a chunk), messages their bytes one after the other (or the chunk's payload). Refusals: document 01's numbers for writers. */
 uadp_result uadp_write(const uint8_t *envelope, size_t envelope_length, const uint8_t *text, size_t text_length, const uint8_t *ids,
                        size_t ids_length, const uint8_t *promoted, size_t promoted_length, const uint8_t *lengths, size_t lengths_length,
                        const uint8_t *messages, size_t messages_length, const uint8_t *config, size_t config_length, uint8_t *out,
                        size_t out_length);
 
-/* Writes an accepted, valid DataSetMessage again: the same bytes. Refusals: the numbers of uadp_read_message; 6 for one that is not valid, since a written one
- * always is; 10 above 65,535 bytes; 11; place 0. */
+/* Writes an accepted, valid DataSetMessage again: the same bytes. Refusals: document 01's numbers for reading it; 6 for one that is not
+ * valid, since a written one always is; 10 above 65,535 bytes; 11. */
 uadp_result uadp_rewrite_message(const uint8_t *message, size_t message_length, const uint8_t *config, size_t config_length, uint32_t writer,
                                  uint8_t *out, size_t out_length);
 
-/* Writes a DataSetMessage from parts: of the head record the numbers 1 to 9 are read; heartbeat 1 for a key frame with nothing
- * after its header; values are the fields' encoded values one after the other, lengths how long each is, indices a delta's indices (none
- * for another kind). Refusals: document 01's numbers for writers, place 0. */
+/* Writes a DataSetMessage from parts: of the head record the numbers 1 to 9 are read; heartbeat is 0, or else a key frame has
+ * nothing after its header; values are the fields' encoded values one after the other, lengths how long each is, indices a delta's indices (none
+ * for another kind). Refusals: document 01's numbers for writers. */
 uadp_result uadp_write_message(const uint8_t *head, size_t head_length, uint32_t heartbeat, const uint8_t *values, size_t values_length,
                                const size_t *lengths, size_t lengths_count, const uint16_t *indices, size_t indices_count, uint64_t padding,
                                const uint8_t *config, size_t config_length, uint32_t writer, uint8_t *out, size_t out_length);

@@ -1,3 +1,4 @@
 pub mod Storing
 pub mod Asked
 pub mod Heads
+pub mod Envelopes

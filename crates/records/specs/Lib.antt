@@ -2,3 +2,4 @@ pub mod Numbers
 pub mod Result
 pub mod Writers
 pub mod Message
+pub mod Given

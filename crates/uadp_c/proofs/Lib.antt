@@ -3,4 +3,4 @@ pub mod Stepping
 pub mod Judged
 pub mod Walking
 pub mod Held
-pub mod Again
+pub mod Wrote

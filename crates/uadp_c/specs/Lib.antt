@@ -3,4 +3,4 @@ pub mod Fields
 pub mod Messages
 pub mod Sequence
 pub mod Reassembling
-pub mod Rewriting
+pub mod Writing

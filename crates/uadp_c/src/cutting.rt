@@ -1,7 +1,7 @@
 // Cutting a payload into chunks.
-use chunk::cut::Written;
 use chunk::cut::cut;
 use records::result::result;
+use writing::Written;
 ghost use mathlib.Core.Path.{_≡_};
 ghost use lib.ListN.{length};
 ghost use Rattle.chunk.specs.Cutting.{cutAnswer, cutBuffer};
@@ -14,6 +14,6 @@ pub extern "C" fn uadp_cut(payload: &[u8], number: u16, size: u64, k: u64, out: 
 {
     match cut(out, payload, number, size as usize, k as usize) {
         Written::Is(n) => result(0, n),
-        Written::Refused(n, place) => result(n, place),
+        Written::Refused(n) => result(n, 0),
     }
 }

@@ -1,14 +1,41 @@
-// Writing a message again from what was read.
-use dataset_message_writer::rewrite::rewrite;
+// Datagrams and messages read and written again.
+use config::writers::first;
 use records::result::result;
+use records::writers::sizes;
 use records::writers::types_for;
+use records::writers::writer_count;
 use writing::Written;
 ghost use mathlib.Core.Path.{_≡_};
 ghost use lib.ListN.{length};
+ghost use Rattle.writing.specs.Writing.{answerWritten};
+ghost use Rattle.network_message.specs.Envelope.{networkMessageAt};
+ghost use Rattle.network_message_writer.specs.Envelope.{rewriteAnswer, rewriteBuffer};
 ghost use Rattle.dataset_message.specs.Message.{messageAt};
 ghost use Rattle.dataset_message_writer.specs.Rewrite.{againWritten, againBuffer};
-ghost use Rattle.records.specs.Writers.{typesFor};
-ghost use Rattle.uadp_c.specs.Rewriting.{writtenResult};
+ghost use Rattle.records.specs.Writers.{sizesIn, typesFor};
+ghost use Rattle.uadp_c.specs.Writing.{writerResult};
+
+// How many bytes were written, or the number of the refusal, whose place is 0.
+pub(crate) fn written_result(w: Written) -> u64
+    ensures { λ r. ⌜ r ≡ writerResult (answerWritten w) ⌝ }
+{
+    match w {
+        Written::Is(n) => result(0, n),
+        Written::Refused(n) => result(n, 0),
+    }
+}
+
+// Writes an accepted datagram again.
+#[no_mangle]
+pub extern "C" fn uadp_rewrite(datagram: &[u8], config: &[u8], out: &mut [u8]) -> u64
+    ensures { λ r. ⌜ (r ≡ writerResult (rewriteAnswer (now (datagram .entry)) (networkMessageAt (sizesIn (now (config .entry))) (now (datagram .entry))) (length (now (out .entry))))) × (now (out .exit) ≡ rewriteBuffer (now (datagram .entry)) (networkMessageAt (sizesIn (now (config .entry))) (now (datagram .entry))) (now (out .entry))) ⌝ }
+{
+    let n = writer_count(config);
+    let list = sizes(config);
+    let configured = first(&list, n);
+    let written = network_message_writer::envelope::rewrite(out, datagram, configured);
+    written_result(written)
+}
 
 // Writes an accepted, valid DataSetMessage again.
 #[no_mangle]
@@ -18,10 +45,9 @@ pub extern "C" fn uadp_rewrite_message(
     writer: u32,
     out: &mut [u8],
 ) -> u64
-    ensures { λ r. ⌜ (r ≡ writtenResult (againWritten (length (now (out .entry))) (now (message .entry)) (messageAt (typesFor (now (config .entry)) writer) (now (message .entry))))) × (now (out .exit) ≡ againBuffer (now (out .entry)) (now (message .entry)) (messageAt (typesFor (now (config .entry)) writer) (now (message .entry)))) ⌝ }
+    ensures { λ r. ⌜ (r ≡ writerResult (answerWritten (againWritten (length (now (out .entry))) (now (message .entry)) (messageAt (typesFor (now (config .entry)) writer) (now (message .entry)))))) × (now (out .exit) ≡ againBuffer (now (out .entry)) (now (message .entry)) (messageAt (typesFor (now (config .entry)) writer) (now (message .entry)))) ⌝ }
 {
-    match rewrite(out, message, types_for(config, writer)) {
-        Written::Is(n) => result(0, n),
-        Written::Refused(n) => result(n, 0),
-    }
+    let types = types_for(config, writer);
+    let written = dataset_message_writer::rewrite::rewrite(out, message, types);
+    written_result(written)
 }

@@ -1,0 +1,75 @@
+-- The ways out of the writing functions, from what the writers promise.
+-- Assumes nothing.
+use Prim.Native.Nat.{ℕ}
+use mathlib.Core.Path.{_≡_, ap, subst, _∙_}
+use mathlib.Core.Bool.{Bool}
+use mathlib.Core.List.{List}
+use lib.ListN.{length, take}
+use Rattle.wire.specs.Answer.{Answer}
+use Rattle.writing.specs.Writing.{answerWritten}
+use Rattle.writing.specs.declared.Written.{Written}
+use Rattle.network_message.specs.Envelope.{networkMessageAt}
+use Rattle.network_message_writer.specs.Envelope.{rewriteAnswer, rewriteBuffer}
+use Rattle.dataset_message.specs.Message.{messageAt}
+use Rattle.dataset_message_writer.specs.Rewrite.{againWritten, againBuffer, Rewrites}
+use Rattle.dataset_message.specs.declared.header.Header.{Header}
+use Rattle.network_message.specs.declared.envelope.Envelope.{Envelope}
+use Rattle.network_message_writer.specs.Envelope as datagram
+use Rattle.dataset_message_writer.specs.Message as message
+use Rattle.records.specs.Writers.{writersIn, sixteen, idsIn, sizesIn, typesFor}
+use Rattle.records.specs.Given.{headerIn, envelopeIn}
+use Rattle.uadp_c.specs.Writing.{writerResult, datagramResult, datagramBuffer, messageResult, messageBuffer}
+
+-- as many numbers of a configuration record as there are writers: its sizes from 34 on, its ids from 2 on
+pub of-writers : (at : ℕ) (c l configured : List ℕ) (n : ℕ) → n ≡ writersIn c → l ≡ sixteen at c → configured ≡ take n l
+    → configured ≡ take (writersIn c) (sixteen at c)
+of-writers at c l configured n a b d = d ∙ ap (λ (x : ℕ). take x l) a ∙ ap (λ (x : List ℕ). take (writersIn c) x) b
+
+pub rewritten : (c s configured out e : List ℕ) (w : Written) (r : ℕ) → configured ≡ sizesIn c
+    → (answerWritten w ≡ rewriteAnswer s (networkMessageAt configured s) (length out)) × (e ≡ rewriteBuffer s (networkMessageAt configured s) out)
+    → r ≡ writerResult (answerWritten w)
+    → (r ≡ writerResult (rewriteAnswer s (networkMessageAt (sizesIn c) s) (length out)))
+    × (e ≡ rewriteBuffer s (networkMessageAt (sizesIn c) s) out)
+rewritten c s configured out e w r z a h =
+    subst
+    (λ (y : List ℕ). (r ≡ writerResult (rewriteAnswer s (networkMessageAt y s) (length out))) × (e ≡ rewriteBuffer s (networkMessageAt y s) out))
+    z (h ∙ ap (λ (x : Answer (Unit {0})). writerResult x) (a .0), a .1)
+
+pub message-rewritten : (c s types out e : List ℕ) (writer : ℕ) (w : Written) (r : ℕ) → types ≡ typesFor c writer → Rewrites types s out e w
+    → r ≡ writerResult (answerWritten w)
+    → (r ≡ writerResult (answerWritten (againWritten (length out) s (messageAt (typesFor c writer) s))))
+    × (e ≡ againBuffer out s (messageAt (typesFor c writer) s))
+message-rewritten c s types out e writer w r z a h =
+    subst
+    (λ (y : List ℕ). (r ≡ writerResult (answerWritten (againWritten (length out) s (messageAt y s)))) × (e ≡ againBuffer out s (messageAt y s)))
+    z (h ∙ ap (λ (x : Written). writerResult (answerWritten x)) (a .answer), a .buffer)
+
+abbrev MessageEnds : List ℕ → message.Given → List ℕ → ℕ → List ℕ → Type 0
+MessageEnds types g out r e = (r ≡ messageResult types g out) × (e ≡ messageBuffer types g out)
+
+pub message-composed : (c head types values lengths indices out e : List ℕ) (writer padding r : ℕ) (b : Bool) (h : Header) (w : Written)
+    → h ≡ headerIn head → types ≡ typesFor c writer → message.Writes types (message.given h b values lengths indices padding) out e w
+    → r ≡ writerResult (answerWritten w)
+    → (r ≡ messageResult (typesFor c writer) (message.given (headerIn head) b values lengths indices padding) out)
+    × (e ≡ messageBuffer (typesFor c writer) (message.given (headerIn head) b values lengths indices padding) out)
+message-composed c head types values lengths indices out e writer padding r b h w p q a k =
+    let u : MessageEnds types (message.given h b values lengths indices padding) out r e =
+    (k ∙ ap (λ (x : Written). writerResult (answerWritten x)) (a .answer), a .buffer) in
+    let v : MessageEnds (typesFor c writer) (message.given h b values lengths indices padding) out r e =
+    subst (λ (y : List ℕ). MessageEnds y (message.given h b values lengths indices padding) out r e) q u in
+    subst (λ (y : Header). MessageEnds (typesFor c writer) (message.given y b values lengths indices padding) out r e) p v
+
+abbrev DatagramEnds : datagram.Given → Envelope → List ℕ → List ℕ → List ℕ → ℕ → List ℕ → Type 0
+DatagramEnds g x sizes ids out r e =
+    (r ≡ writerResult (datagram.writtenOf g x sizes ids (length out))) × (e ≡ datagram.bufferAfter g x sizes ids out)
+
+pub datagram-composed : (c envelope sizes ids out e : List ℕ) (g : datagram.Given) (r : ℕ) (x : Envelope) (w : Written) → x ≡ envelopeIn envelope
+    → sizes ≡ sizesIn c → ids ≡ idsIn c
+    → (answerWritten w ≡ datagram.writtenOf g x sizes ids (length out)) × (e ≡ datagram.bufferAfter g x sizes ids out)
+    → r ≡ writerResult (answerWritten w)
+    → (r ≡ datagramResult c g (envelopeIn envelope) out) × (e ≡ datagramBuffer c g (envelopeIn envelope) out)
+datagram-composed c envelope sizes ids out e g r x w p q i a k =
+    let u : DatagramEnds g x sizes ids out r e = (k ∙ ap (λ (y : Answer (Unit {0})). writerResult y) (a .0), a .1) in
+    let v : DatagramEnds g x (sizesIn c) ids out r e = subst (λ (y : List ℕ). DatagramEnds g x y ids out r e) q u in
+    let z : DatagramEnds g x (sizesIn c) (idsIn c) out r e = subst (λ (y : List ℕ). DatagramEnds g x (sizesIn c) y out r e) i v in
+    subst (λ (y : Envelope). DatagramEnds g y (sizesIn c) (idsIn c) out r e) p z

@@ -1,0 +1,78 @@
+// Datagrams and messages written from parts.
+use crate::rewriting::written_result;
+use config::writers::first;
+use records::given::envelope_in;
+use records::given::header_in;
+use records::writers::sizes;
+use records::writers::types_for;
+use records::writers::writer_count;
+ghost use mathlib.Core.Path.{_≡_};
+ghost use Rattle.network_message_writer.specs.Envelope as datagram;
+ghost use Rattle.dataset_message_writer.specs.Message as message;
+ghost use Rattle.records.specs.Writers.{typesFor};
+ghost use Rattle.records.specs.Given.{isOn, headerIn, envelopeIn};
+ghost use Rattle.uadp_c.specs.Writing.{datagramResult, datagramBuffer, messageResult, messageBuffer};
+
+// Writes a DataSetMessage from parts: the header of a head record; heartbeat is 0, or else a key frame ends after its header.
+#[no_mangle]
+pub extern "C" fn uadp_write_message(
+    head: &[u8],
+    heartbeat: u32,
+    values: &[u8],
+    lengths: &[usize],
+    indices: &[u16],
+    padding: u64,
+    config: &[u8],
+    writer: u32,
+    out: &mut [u8],
+) -> u64
+    ensures { λ r. ⌜ (r ≡ messageResult (typesFor (now (config .entry)) writer) (message.given (headerIn (now (head .entry))) (isOn heartbeat) (now (values .entry)) (now (lengths .entry)) (now (indices .entry)) padding) (now (out .entry))) × (now (out .exit) ≡ messageBuffer (typesFor (now (config .entry)) writer) (message.given (headerIn (now (head .entry))) (isOn heartbeat) (now (values .entry)) (now (lengths .entry)) (now (indices .entry)) padding) (now (out .entry))) ⌝ }
+{
+    let header = header_in(head);
+    let types = types_for(config, writer);
+    let written = dataset_message_writer::message::write(
+        out,
+        header,
+        heartbeat != 0,
+        values,
+        lengths,
+        indices,
+        types,
+        padding as usize,
+    );
+    written_result(written)
+}
+
+// Writes a datagram from parts: the envelope of an envelope record, and the bytes of its variable parts.
+#[no_mangle]
+pub extern "C" fn uadp_write(
+    envelope: &[u8],
+    text: &[u8],
+    ids: &[u8],
+    promoted: &[u8],
+    lengths: &[u8],
+    messages: &[u8],
+    config: &[u8],
+    out: &mut [u8],
+) -> u64
+    ensures { λ r. ⌜ (r ≡ datagramResult (now (config .entry)) (datagram.given (now (text .entry)) (now (ids .entry)) (now (promoted .entry)) (now (lengths .entry)) (now (messages .entry))) (envelopeIn (now (envelope .entry))) (now (out .entry))) × (now (out .exit) ≡ datagramBuffer (now (config .entry)) (datagram.given (now (text .entry)) (now (ids .entry)) (now (promoted .entry)) (now (lengths .entry)) (now (messages .entry))) (envelopeIn (now (envelope .entry))) (now (out .entry))) ⌝ }
+{
+    let x = envelope_in(envelope);
+    let n = writer_count(config);
+    let size_list = sizes(config);
+    let id_list = records::writers::ids(config);
+    let configured_sizes = first(&size_list, n);
+    let configured_ids = first(&id_list, n);
+    let written = network_message_writer::envelope::write(
+        out,
+        x,
+        text,
+        ids,
+        promoted,
+        lengths,
+        messages,
+        configured_sizes,
+        configured_ids,
+    );
+    written_result(written)
+}
