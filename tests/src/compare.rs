@@ -10,8 +10,8 @@ use std::collections::BTreeMap;
 use std::fmt::Write;
 use std::hint::black_box;
 
-pub use histories::{cut, history, newness};
-pub use reading::{config, datagram, made_up_field_cursor, made_up_message_cursor};
+pub use histories::{cut, every_newness, history, newness};
+pub use reading::{config, datagram, every_flag, made_up_field_cursor, made_up_message_cursor, next_message_of};
 pub use writing::{write_datagram, write_message};
 
 /// How often each number was answered.
@@ -118,9 +118,9 @@ impl Lent {
     /// An area of so many bytes of any content.
     fn of_length(random: &mut Random, length: usize) -> Self {
         let before = random.within(1, 16);
-        let fill = random.next() as u8;
+        let fill = random.number() as u8;
         let mut bytes: Vec<u8> = (0..length + 32).map(|i| (i as u8).wrapping_mul(37) ^ fill).collect();
-        bytes[0] = random.next() as u8;
+        bytes[0] = random.number() as u8;
         Self { bytes, start: before, length }
     }
 

@@ -51,8 +51,8 @@ mod raw {
             head_length: usize, field: *mut u8, field_length: usize,
         ) -> u64;
         pub fn uadp_field(
-            message: *const u8, message_length: usize, config: *const u8, config_length: usize, writer: u32, k: u64, field: *mut u8,
-            field_length: usize,
+            message: *const u8, message_length: usize, config: *const u8, config_length: usize, writer: u32, k: u64,
+            field: *mut u8, field_length: usize,
         ) -> u64;
         pub fn uadp_rewrite(
             datagram: *const u8, datagram_length: usize, config: *const u8, config_length: usize, out: *mut u8, out_length: usize,
@@ -68,8 +68,8 @@ mod raw {
         ) -> u64;
         pub fn uadp_write_message(
             head: *const u8, head_length: usize, heartbeat: u32, values: *const u8, values_length: usize, lengths: *const usize,
-            lengths_count: usize, indices: *const u16, indices_count: usize, padding: u64, config: *const u8, config_length: usize,
-            writer: u32, out: *mut u8, out_length: usize,
+            lengths_count: usize, indices: *const u16, indices_count: usize, padding: u64, config: *const u8,
+            config_length: usize, writer: u32, out: *mut u8, out_length: usize,
         ) -> u64;
         pub fn uadp_empty(record: *mut u8, record_length: usize) -> u64;
         pub fn uadp_take_in(
@@ -132,7 +132,13 @@ pub fn read(datagram: &[u8], config: &[u8], envelope: &mut [u8]) -> Answer {
 pub fn next_message(datagram: &[u8], config: &[u8], envelope: &mut [u8], place: &mut [u8]) -> Answer {
     Answer(unsafe {
         raw::uadp_next_message(
-            lent(datagram), datagram.len(), lent(config), config.len(), lent_mut(envelope), envelope.len(), lent_mut(place),
+            lent(datagram),
+            datagram.len(),
+            lent(config),
+            config.len(),
+            lent_mut(envelope),
+            envelope.len(),
+            lent_mut(place),
             place.len(),
         )
     })
@@ -148,7 +154,14 @@ pub fn read_message(message: &[u8], config: &[u8], writer: u32, head: &mut [u8])
 pub fn next_field(message: &[u8], config: &[u8], writer: u32, head: &mut [u8], field: &mut [u8]) -> Answer {
     Answer(unsafe {
         raw::uadp_next_field(
-            lent(message), message.len(), lent(config), config.len(), writer, lent_mut(head), head.len(), lent_mut(field),
+            lent(message),
+            message.len(),
+            lent(config),
+            config.len(),
+            writer,
+            lent_mut(head),
+            head.len(),
+            lent_mut(field),
             field.len(),
         )
     })
@@ -181,8 +194,22 @@ pub fn write(parts: &EnvelopeParts, config: &[u8], out: &mut [u8]) -> Answer {
     let EnvelopeParts { envelope, text, ids, promoted, lengths, messages } = *parts;
     Answer(unsafe {
         raw::uadp_write(
-            lent(envelope), envelope.len(), lent(text), text.len(), lent(ids), ids.len(), lent(promoted), promoted.len(),
-            lent(lengths), lengths.len(), lent(messages), messages.len(), lent(config), config.len(), lent_mut(out), out.len(),
+            lent(envelope),
+            envelope.len(),
+            lent(text),
+            text.len(),
+            lent(ids),
+            ids.len(),
+            lent(promoted),
+            promoted.len(),
+            lent(lengths),
+            lengths.len(),
+            lent(messages),
+            messages.len(),
+            lent(config),
+            config.len(),
+            lent_mut(out),
+            out.len(),
         )
     })
 }
@@ -209,8 +236,21 @@ pub fn write_message(parts: &MessageParts, config: &[u8], writer: u32, out: &mut
     let MessageParts { head, heartbeat, values, lengths, indices, padding } = *parts;
     Answer(unsafe {
         raw::uadp_write_message(
-            lent(head), head.len(), heartbeat, lent(values), values.len(), lent(lengths), lengths.len(), lent(indices),
-            indices.len(), padding, lent(config), config.len(), writer, lent_mut(out), out.len(),
+            lent(head),
+            head.len(),
+            heartbeat,
+            lent(values),
+            values.len(),
+            lent(lengths),
+            lengths.len(),
+            lent(indices),
+            indices.len(),
+            padding,
+            lent(config),
+            config.len(),
+            writer,
+            lent_mut(out),
+            out.len(),
         )
     })
 }
@@ -222,8 +262,16 @@ pub fn empty(record: &mut [u8]) -> Answer {
 pub fn take_in(record: &mut [u8], payload: &mut [u8], marks: &mut [u8], datagram: &[u8], config: &[u8]) -> Answer {
     Answer(unsafe {
         raw::uadp_take_in(
-            lent_mut(record), record.len(), lent_mut(payload), payload.len(), lent_mut(marks), marks.len(), lent(datagram),
-            datagram.len(), lent(config), config.len(),
+            lent_mut(record),
+            record.len(),
+            lent_mut(payload),
+            payload.len(),
+            lent_mut(marks),
+            marks.len(),
+            lent(datagram),
+            datagram.len(),
+            lent(config),
+            config.len(),
         )
     })
 }
@@ -232,22 +280,28 @@ pub fn combine(record: &mut [u8], payload: &mut [u8], marks: &mut [u8], source: 
     let [source_record, source_payload, source_marks] = source;
     Answer(unsafe {
         raw::uadp_combine(
-            lent_mut(record), record.len(), lent_mut(payload), payload.len(), lent_mut(marks), marks.len(), lent(source_record),
-            source_record.len(), lent(source_payload), source_payload.len(), lent(source_marks), source_marks.len(),
+            lent_mut(record),
+            record.len(),
+            lent_mut(payload),
+            payload.len(),
+            lent_mut(marks),
+            marks.len(),
+            lent(source_record),
+            source_record.len(),
+            lent(source_payload),
+            source_payload.len(),
+            lent(source_marks),
+            source_marks.len(),
         )
     })
 }
 
 pub fn complete(record: &[u8], payload: &[u8], marks: &[u8]) -> Answer {
-    Answer(unsafe {
-        raw::uadp_complete(lent(record), record.len(), lent(payload), payload.len(), lent(marks), marks.len())
-    })
+    Answer(unsafe { raw::uadp_complete(lent(record), record.len(), lent(payload), payload.len(), lent(marks), marks.len()) })
 }
 
 pub fn hand_out(record: &[u8], payload: &[u8], marks: &[u8]) -> Answer {
-    Answer(unsafe {
-        raw::uadp_hand_out(lent(record), record.len(), lent(payload), payload.len(), lent(marks), marks.len())
-    })
+    Answer(unsafe { raw::uadp_hand_out(lent(record), record.len(), lent(payload), payload.len(), lent(marks), marks.len()) })
 }
 
 pub fn cut(payload: &[u8], number: u16, size: u64, k: u64, out: &mut [u8]) -> Answer {

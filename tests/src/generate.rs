@@ -13,7 +13,7 @@ impl Random {
         Self(seed)
     }
 
-    pub fn next(&mut self) -> u64 {
+    pub fn number(&mut self) -> u64 {
         self.0 = self.0.wrapping_add(0x9e37_79b9_7f4a_7c15);
         let mixed = (self.0 ^ self.0 >> 30).wrapping_mul(0xbf58_476d_1ce4_e5b9);
         let mixed = (mixed ^ mixed >> 27).wrapping_mul(0x94d0_49bb_1331_11eb);
@@ -22,7 +22,7 @@ impl Random {
 
     /// A number below `end`.
     pub fn below(&mut self, end: usize) -> usize {
-        (self.next() % end as u64) as usize
+        (self.number() % end as u64) as usize
     }
 
     /// A number from `low` to `high`.
@@ -40,7 +40,7 @@ impl Random {
     }
 
     pub fn bytes(&mut self, count: usize) -> Vec<u8> {
-        (0..count).map(|_| self.next() as u8).collect()
+        (0..count).map(|_| self.number() as u8).collect()
     }
 
     pub fn maybe<T>(&mut self, one_in: usize, make: impl FnOnce(&mut Self) -> T) -> Option<T> {
@@ -53,7 +53,7 @@ impl Random {
             0 => self.below(6) as u64,
             1 => self.pick(&[16, 23, 64, 65, 100, 255, 256, 1 << 16, 1 << 31, 1 << 32, (1 << 56) - 1, 1 << 56, u64::MAX]),
             2 => self.below(300) as u64,
-            _ => self.next(),
+            _ => self.number(),
         }
     }
 }
@@ -109,7 +109,8 @@ impl ConfigSpec {
 
 /// A line that breaks a rule, or may.
 fn strange_line(random: &mut Random) -> Vec<u8> {
-    let number = random.pick(&["0", "00", "01", "65535", "65536", "100000", "-", "-1", "+1", " 1", "1 ", "", "12", "20", "64", "1x"]);
+    let number =
+        random.pick(&["0", "00", "01", "65535", "65536", "100000", "-", "-1", "+1", " 1", "1 ", "", "12", "20", "64", "1x"]);
     let other = random.pick(&["0", "1", "65535", "65536", "-", "--", "", "007", "9"]);
     let word = random.pick(&["writer", "field", "Writer", "fields", "writ", "", "write\0"]);
     let end = random.pick(&["\n", "\r\n", "\t\n", "", "\n\n", "\tx\n"]);
@@ -286,16 +287,16 @@ impl MessageSpec {
             _ => random.within(0, 5),
         };
         let values = (0..count).map(|k| field_value(random, encoding, types.get(k).copied().unwrap_or(0))).collect();
-        let indices = if kind == 1 { (0..count).map(|_| random.next() as u16).collect() } else { Vec::new() };
+        let indices = if kind == 1 { (0..count).map(|_| random.number() as u16).collect() } else { Vec::new() };
         Self {
             encoding,
             kind,
-            sequence: random.maybe(2, |random| random.next() as u16),
-            timestamp: random.maybe(3, Random::next),
+            sequence: random.maybe(2, |random| random.number() as u16),
+            timestamp: random.maybe(3, Random::number),
             picoseconds: random.maybe(3, picoseconds),
-            status: random.maybe(3, |random| random.next() as u16),
-            major: random.maybe(4, |random| random.next() as u32),
-            minor: random.maybe(4, |random| random.next() as u32),
+            status: random.maybe(3, |random| random.number() as u16),
+            major: random.maybe(4, |random| random.number() as u32),
+            minor: random.maybe(4, |random| random.number() as u32),
             heartbeat,
             indices,
             values,
@@ -366,13 +367,15 @@ pub fn publisher(random: &mut Random) -> IdSpec {
     (kind, random.bytes(length))
 }
 
+/// The four items of a group header.
+pub type GroupSpec = (Option<u16>, Option<u32>, Option<u16>, Option<u16>);
+
 /// The parts of a datagram.
 #[derive(Clone, Debug, Default)]
 pub struct EnvelopeSpec {
     pub publisher: Option<IdSpec>,
     pub class_id: Option<[u8; 16]>,
-    /// The four items of a group header.
-    pub group: Option<(Option<u16>, Option<u32>, Option<u16>, Option<u16>)>,
+    pub group: Option<GroupSpec>,
     pub chunk: bool,
     pub payload_header: bool,
     /// A chunk has one.
@@ -387,16 +390,16 @@ pub struct EnvelopeSpec {
 impl EnvelopeSpec {
     /// An envelope without its payload, valid but for rare faults.
     pub fn front(random: &mut Random) -> Self {
-        let timestamp = random.maybe(3, Random::next);
+        let timestamp = random.maybe(3, Random::number);
         let with_picoseconds = if timestamp.is_some() { random.one_in(2) } else { random.one_in(80) };
         Self {
             publisher: (!random.one_in(4)).then(|| publisher(random)),
-            class_id: random.maybe(6, |random| [random.next() as u8; 16]),
+            class_id: random.maybe(6, |random| [random.number() as u8; 16]),
             group: random.maybe(3, |random| {
-                let group = random.maybe(2, |random| random.next() as u16);
-                let version = random.maybe(2, |random| random.next() as u32);
-                let number = random.maybe(2, |random| if random.one_in(15) { 0 } else { random.next() as u16 });
-                (group, version, number, random.maybe(2, |random| random.next() as u16))
+                let group = random.maybe(2, |random| random.number() as u16);
+                let version = random.maybe(2, |random| random.number() as u32);
+                let number = random.maybe(2, |random| if random.one_in(15) { 0 } else { random.number() as u16 });
+                (group, version, number, random.maybe(2, |random| random.number() as u16))
             }),
             timestamp,
             picoseconds: with_picoseconds.then(|| picoseconds(random)),
@@ -502,7 +505,7 @@ fn small_bytes(random: &mut Random) -> Vec<u8> {
 /// A configured writer's id, or any.
 pub fn writer_id(random: &mut Random, config: &ConfigSpec) -> u16 {
     if config.writers.is_empty() || random.one_in(6) {
-        return random.next() as u16;
+        return random.number() as u16;
     }
     config.writers[random.below(config.writers.len())].id
 }
@@ -569,7 +572,7 @@ fn chunk_payload(random: &mut Random) -> Vec<u8> {
     let offset = random.below(total);
     let length = random.within(1, total - offset);
     let data = random.bytes(length);
-    let number = random.next() as u16;
+    let number = random.number() as u16;
     chunk_bytes(number, offset as u32, total as u32, &data)
 }
 
@@ -588,7 +591,7 @@ fn front_damage(random: &mut Random, bytes: &mut [u8]) {
     let end = bytes.len().min(4);
     if end > 0 {
         let at = random.below(end);
-        bytes[at] = if random.one_in(3) { random.next() as u8 } else { bytes[at] ^ 1 << random.below(8) };
+        bytes[at] = if random.one_in(3) { random.number() as u8 } else { bytes[at] ^ 1 << random.below(8) };
     }
 }
 
@@ -597,7 +600,7 @@ pub fn damage(random: &mut Random, bytes: &mut Vec<u8>) {
     let at = random.within(0, bytes.len());
     let kind = random.below(8);
     if kind == 0 || bytes.is_empty() {
-        bytes.insert(at, random.next() as u8);
+        bytes.insert(at, random.number() as u8);
         return;
     }
     let at = at.min(bytes.len() - 1);
@@ -616,6 +619,6 @@ pub fn damage(random: &mut Random, bytes: &mut Vec<u8>) {
             bytes.iter_mut().skip(at).zip(length.to_le_bytes()).for_each(|(byte, new)| *byte = new);
         }
         6 => bytes[at] = random.pick(&[0, 1, 0xff, 0x7f, 0x80, 0x18, 0x98, 0x17, 0xc5, 0x45, 0x0c]),
-        _ => bytes[at] = random.next() as u8,
+        _ => bytes[at] = random.number() as u8,
     }
 }

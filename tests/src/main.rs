@@ -4,7 +4,7 @@ use std::process::ExitCode;
 use uadp_tests::compare::{self, Tally};
 use uadp_tests::generate::Random;
 
-const COUNT: u64 = 600_000;
+const COUNT: u64 = 4_000_000;
 const SEED: u64 = 1;
 /// Each number has to be answered so often.
 const OFTEN: u64 = 100;
@@ -42,6 +42,8 @@ fn main() -> ExitCode {
     };
     let mut random = Random::new(seed);
     let mut tally = Tally::default();
+    compare::every_flag(&mut tally, &mut random);
+    compare::every_newness(&mut tally, &mut random);
     while tally.total() < count {
         draw(&mut tally, &mut random);
     }

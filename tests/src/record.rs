@@ -40,6 +40,21 @@ pub fn config(config: &Config) -> Vec<u8> {
     record
 }
 
+/// The configuration of any bytes: a short record is the empty one.
+pub fn config_of(record: &[u8]) -> Config {
+    if record.len() < CONFIG_SIZE {
+        return Config::default();
+    }
+    let pair = |at: usize| u16::from_le_bytes([record[at], record[at + 1]]);
+    let starts = 2 + 4 * MOST_WRITERS;
+    let writers = (0..usize::from(record[0]).min(MOST_WRITERS)).map(|k| {
+        let size = pair(2 + 2 * MOST_WRITERS + 2 * k);
+        (pair(2 + 2 * k), (size > 0).then_some(size), record[starts + k])
+    });
+    let types = &record[starts + MOST_WRITERS..][..usize::from(record[1]).min(MOST_FIELDS)];
+    Config::made_up(writers, types)
+}
+
 fn publisher(id: Option<PublisherId>) -> (u64, u64) {
     match id {
         None => (0, 0),

@@ -33,7 +33,7 @@ impl LentPartial {
         match random.below(10) {
             0 => record[..8].copy_from_slice(&1_u64.to_le_bytes()),
             1 => {
-                let numbers = [1, random.below(7) as u64, random.edge(), random.next() & 0xffff, random.next() & 0xffff];
+                let numbers = [1, random.below(7) as u64, random.edge(), random.number() & 0xffff, random.number() & 0xffff];
                 record[..40].copy_from_slice(&bytes_of(&numbers));
                 record[40..48].copy_from_slice(&(random.within(0, length + 1) as u64).to_le_bytes());
             }
@@ -80,8 +80,7 @@ impl LentPartial {
             Err(refusal) => return (Err(refusal), after),
         };
         let started = known.is_some();
-        let mut partial =
-            Partial { record: &mut known, payload: after.payload.middle_mut(), marks: after.marks.middle_mut() };
+        let mut partial = Partial { record: &mut known, payload: after.payload.middle_mut(), marks: after.marks.middle_mut() };
         let result = change(&mut partial);
         if let (false, Some(record)) = (started, known) {
             after.record = after.record.with(&record::partial(&record));
@@ -122,8 +121,7 @@ impl LentPartial {
         };
         let [source_record, source_payload, source_marks] = source.slices();
         let kept = ReadOnly::keep(&source.slices());
-        let others =
-            [("source record", source_record), ("source payload", source_payload), ("source marks", source_marks)];
+        let others = [("source record", source_record), ("source payload", source_payload), ("source marks", source_marks)];
         let equal = self.judge(tally, "combine", expected, &others, |partial| {
             let LentPartial { record, payload, marks } = partial;
             ffi::combine(record.middle_mut(), payload.middle_mut(), marks.middle_mut(), source.slices())
@@ -189,7 +187,7 @@ impl Sent {
         };
         let publisher = (!random.one_in(4)).then(|| generate::publisher(random));
         let publisher = publisher.filter(|(_, id)| id.len() <= 64);
-        Self { publisher, writer: random.next() as u16, number: random.next() as u16, payload: random.bytes(length) }
+        Self { publisher, writer: random.number() as u16, number: random.number() as u16, payload: random.bytes(length) }
     }
 
     /// Another message that is like this one but for one thing.
@@ -199,7 +197,7 @@ impl Sent {
             0 => other.publisher = Some(generate::publisher(random)).filter(|(_, id)| id.len() <= 64),
             1 => other.writer ^= 1 << random.below(16),
             2 => other.number ^= 1 << random.below(16),
-            3 => other.payload.push(random.next() as u8),
+            3 => other.payload.push(random.number() as u8),
             4 => {
                 let at = random.below(other.payload.len());
                 other.payload[at] ^= 1;
@@ -339,32 +337,53 @@ fn cut_one(tally: &mut Tally, random: &mut Random, payload: &[u8], sequence: u16
     (equal && answer.number() == 0).then_some(chunk)
 }
 
+/// Every received number after some last ones.
+pub fn every_newness(tally: &mut Tally, random: &mut Random) {
+    for last in [0, 5, 32_768, 65_535] {
+        for received in 0..=u16::MAX {
+            let before = Lent::holding(random, &bytes_of(&[1, last]));
+            let mut lent = before.clone();
+            judge_newness(tally, &before, &mut lent, received);
+        }
+    }
+}
+
 /// Sequence numbers judged one after the other by one record.
 pub fn newness(tally: &mut Tally, random: &mut Random) {
     let length = record_length(random, record::SEQUENCE_SIZE);
     let mut lent = Lent::of_length(random, length);
     if length >= 16 && random.one_in(2) {
-        lent = lent.with(&bytes_of(&[random.below(2) as u64, random.next() & 0xffff]));
+        lent = lent.with(&bytes_of(&[random.below(2) as u64, random.number() & 0xffff]));
     }
     for _ in 0..random.within(1, 8) {
         let before = lent.clone();
-        let mut last = (number(before.middle(), 0) != 0).then(|| number(before.middle(), 1) as u16);
+        let last = last_of(&before);
         let step = random.pick(&[0, 1, 2, 5, 16_383, 16_384, 16_385, 16_386, 49_152, 49_153, 49_154, 49_155, 65_535]);
-        let received = if random.one_in(3) { random.next() as u16 } else { last.unwrap_or(0).wrapping_add(step) };
-        let answer = ffi::newness(lent.middle_mut(), received);
-        let expected = if length < record::SEQUENCE_SIZE {
-            Found { answer: answer_of(Err(Number::NoRoom.nowhere())), areas: vec![before.clone()] }
-        } else {
-            let (value, after) = match note(&mut last, received) {
-                Newness::Newer => (0, before.with(&bytes_of(&[1, received.into()]))),
-                Newness::OldOrSame => (1, before.clone()),
-                Newness::Invalid => (2, before.clone()),
-            };
-            Found { answer: Answer::done(value), areas: vec![after] }
-        };
-        let input = [("record", before.middle()), ("received", &received.to_le_bytes())];
-        if !tally.judge("newness", &Found { answer, areas: vec![lent.clone()] }, &expected, &input) {
+        let received = if random.one_in(3) { random.number() as u16 } else { last.unwrap_or(0).wrapping_add(step) };
+        if !judge_newness(tally, &before, &mut lent, received) {
             return;
         }
     }
+}
+
+fn judge_newness(tally: &mut Tally, before: &Lent, lent: &mut Lent, received: u16) -> bool {
+    let mut last = last_of(before);
+    let answer = ffi::newness(lent.middle_mut(), received);
+    let expected = if before.length < record::SEQUENCE_SIZE {
+        Found { answer: answer_of(Err(Number::NoRoom.nowhere())), areas: vec![before.clone()] }
+    } else {
+        let (value, after) = match note(&mut last, received) {
+            Newness::Newer => (0, before.with(&bytes_of(&[1, received.into()]))),
+            Newness::OldOrSame => (1, before.clone()),
+            Newness::Invalid => (2, before.clone()),
+        };
+        Found { answer: Answer::done(value), areas: vec![after] }
+    };
+    let input = [("record", before.middle()), ("received", &received.to_le_bytes())];
+    tally.judge("newness", &Found { answer, areas: vec![lent.clone()] }, &expected, &input)
+}
+
+/// The last number that a sequence number record holds.
+fn last_of(lent: &Lent) -> Option<u16> {
+    (number(lent.middle(), 0) != 0).then(|| number(lent.middle(), 1) as u16)
 }

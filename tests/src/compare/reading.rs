@@ -20,9 +20,7 @@ fn judge_filled(
     let answer = call(after.middle_mut());
     let unchanged = kept.unchanged(&input.iter().map(|(_, bytes)| *bytes).collect::<Vec<_>>());
     let expected = match expected {
-        Ok((value, record)) if length >= layout => {
-            Found { answer: Answer::done(value), areas: vec![before.with(&record)] }
-        }
+        Ok((value, record)) if length >= layout => Found { answer: Answer::done(value), areas: vec![before.with(&record)] },
         Ok(_) => Found { answer: answer_of(Err(Number::NoRoom.nowhere())), areas: vec![before] },
         Err(refusal) => Found { answer: answer_of(Err(refusal)), areas: vec![before] },
     };
@@ -52,8 +50,8 @@ pub fn config(tally: &mut Tally, random: &mut Random) {
 /// A datagram listed, read and walked, and rewritten.
 pub fn datagram(tally: &mut Tally, random: &mut Random) {
     let Scenario { text, datagram } = Scenario::any(random);
-    let config = Config::parse(&text).expect("made valid");
-    let config_record = record::config(&config);
+    let config_record = config_record(random, &text);
+    let config = record::config_of(&config_record);
     let case = Case { datagram: &datagram, config: &config, record: &config_record };
     case.list(tally, random);
     case.rewrite(tally, random);
@@ -61,6 +59,58 @@ pub fn datagram(tally: &mut Tally, random: &mut Random) {
     if random.one_in(4) {
         let writer = u32::from(generate::writer_id(random, &generate::ConfigSpec::default()));
         case.message(tally, random, &datagram, writer);
+    }
+}
+
+/// The record of a valid text; sometimes longer, short or damaged.
+fn config_record(random: &mut Random, text: &[u8]) -> Vec<u8> {
+    let mut record = record::config(&Config::parse(text).expect("made valid"));
+    match random.below(40) {
+        0 => record.truncate(random.below(record::CONFIG_SIZE)),
+        1 => record.extend([7; 5]),
+        2 | 3 => {
+            for _ in 0..random.within(1, 4) {
+                let at =
+                    if random.one_in(2) { random.pick(&[0, 1, 2, 34, 66, 67, 82]) } else { random.below(record::CONFIG_SIZE) };
+                record[at] = random.number() as u8;
+            }
+        }
+        4 => record = random.bytes(record::CONFIG_SIZE),
+        _ => {}
+    }
+    record
+}
+
+/// Every value of the flag bytes: the envelope's three, and a message's two with every first byte of a Variant.
+pub fn every_flag(tally: &mut Tally, random: &mut Random) {
+    let config = Config::parse(b"writer\t21\t-\nfield\t7\n").expect("valid");
+    let record = record::config(&config);
+    let tail = [4, 0, 0, 0, 1, 0, 9, 0, 2, 0, 21, 0, 1, 0, 1, 0, 1, 1, 21, 0, 1, 0, 0, 0, 1, 0, 5, 1, 0, 0];
+    let judge = |tally: &mut Tally, random: &mut Random, front: &[u8]| {
+        let datagram = [front, &tail].concat();
+        let case = Case { datagram: &datagram, config: &config, record: &record };
+        case.read(tally, random);
+        case.rewrite(tally, random);
+    };
+    for first in 0..=255 {
+        judge(tally, random, &[first]);
+        if first & 0x8f == 0x81 {
+            for extended1 in 0..=255_u8 {
+                judge(tally, random, &[first, extended1]);
+                let last = if extended1 & 0x80 != 0 { 255 } else { 0 };
+                (1..=last).for_each(|extended2| judge(tally, random, &[first, extended1, extended2]));
+            }
+        }
+    }
+    let case = Case { datagram: &[], config: &config, record: &record };
+    for first in 0..=255 {
+        for second in 0..=255 {
+            let message = [&[first, second], &tail[..]].concat();
+            case.message(tally, random, &message, 21);
+        }
+        for length in [1, 2, 3, 5, 9, 17, 24] {
+            case.message(tally, random, &[&[1, 1, 0, first], &tail[..length]].concat(), 21);
+        }
     }
 }
 
@@ -155,9 +205,9 @@ impl Case<'_> {
 
         let count = read.ok().flatten().map_or(0, |read| read.fields.count);
         let k = random.within(0, count + 1);
-        let k = if random.one_in(50) { random.next() as usize } else { k };
-        let expected = message::field(message, types, k)
-            .map(|(field, _)| (field.offset as u64, bytes_of(&record::field(&field))));
+        let k = if random.one_in(50) { random.number() as usize } else { k };
+        let expected =
+            message::field(message, types, k).map(|(field, _)| (field.offset as u64, bytes_of(&record::field(&field))));
         let call = |area: &mut [u8]| ffi::field(message, self.record, writer, k as u64, area);
         judge_filled(tally, random, "field", record::FIELD_SIZE, expected, &input, call);
 
@@ -238,7 +288,7 @@ pub fn made_up_field_cursor(tally: &mut Tally, random: &mut Random) {
 }
 
 /// What the reference answers for the cursor of any envelope record.
-fn next_message_of(envelope: &[u8], datagram: &[u8], config: &Config) -> Result<MessagePlace> {
+pub fn next_message_of(envelope: &[u8], datagram: &[u8], config: &Config) -> Result<MessagePlace> {
     let n = |i: usize| number(envelope, i) as usize;
     let (next, at) = (n(26), n(27));
     if at > datagram.len() {
@@ -296,7 +346,6 @@ pub fn made_up_message_cursor(tally: &mut Tally, random: &mut Random) {
             Found { answer: Answer::done(place.number as u64), areas }
         }
     };
-    let input =
-        [("datagram", &datagram[..]), ("configuration record", &config_record), ("envelope record", before.middle())];
+    let input = [("datagram", &datagram[..]), ("configuration record", &config_record), ("envelope record", before.middle())];
     tally.judge("next_message", &Found { answer, areas: vec![after, place_after] }, &expected, &input);
 }

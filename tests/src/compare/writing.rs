@@ -29,15 +29,12 @@ struct DatagramParts {
 impl DatagramParts {
     fn of(random: &mut Random, spec: &EnvelopeSpec) -> Self {
         // Numbers that are not read hold anything.
-        let mut numbers: Vec<u64> = (0..28).map(|_| random.next()).collect();
+        let mut numbers: Vec<u64> = (0..28).map(|_| random.number()).collect();
         let (kind, id) = spec.publisher.clone().unwrap_or_default();
         let is_string = kind == 4 && spec.publisher.is_some();
         numbers[0] = if spec.publisher.is_some() { u64::from(kind) + 1 } else { 0 };
-        numbers[1] = if is_string {
-            id.len() as u64
-        } else {
-            id.iter().rev().fold(0, |number, byte| number << 8 | u64::from(*byte))
-        };
+        numbers[1] =
+            if is_string { id.len() as u64 } else { id.iter().rev().fold(0, |number, byte| number << 8 | u64::from(*byte)) };
         numbers[3] = spec.class_id.is_some().into();
         if let Some(class_id) = spec.class_id {
             let number = u128::from_le_bytes(class_id);
@@ -173,7 +170,7 @@ struct OwnedMessageParts {
 
 impl OwnedMessageParts {
     fn of(random: &mut Random, spec: &MessageSpec) -> Self {
-        let mut numbers: Vec<u64> = (0..20).map(|_| random.next()).collect();
+        let mut numbers: Vec<u64> = (0..20).map(|_| random.number()).collect();
         let items = [
             spec.sequence.map(u64::from),
             spec.timestamp,

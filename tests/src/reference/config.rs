@@ -43,6 +43,19 @@ impl Config {
         Ok(config)
     }
 
+    /// A configuration made up by a caller: ids, sizes and first fields of at most 16 writers, and at most 64 field types, of which
+    /// nothing else is asked.
+    pub fn made_up(writers: impl Iterator<Item = (u16, Option<u16>, u8)>, types: &[u8]) -> Self {
+        let mut config = Self::default();
+        for (place, (id, size, first_field)) in config.writers.iter_mut().zip(writers) {
+            *place = Writer { id, size, first_field };
+            config.writer_count += 1;
+        }
+        config.type_count = types.len().min(MOST_FIELDS);
+        config.types[..config.type_count].copy_from_slice(&types[..config.type_count]);
+        config
+    }
+
     fn take_line(&mut self, line: &[u8]) -> Option<()> {
         let mut parts = line.split(|byte| *byte == b'\t');
         let word = parts.next()?;
@@ -99,7 +112,7 @@ impl Config {
     /// The field types of the writer with this id; none where it is not configured.
     pub fn types_of(&self, id: Option<u16>) -> &[u8] {
         let found = id.and_then(|id| self.writers().iter().position(|writer| writer.id == id));
-        found.map_or(&[], |k| &self.types()[self.fields_before(k)..self.fields_before(k + 1)])
+        found.and_then(|k| self.types().get(self.fields_before(k)..self.fields_before(k + 1))).unwrap_or(&[])
     }
 }
 

@@ -6,9 +6,8 @@ use super::value::{variant, Shape, Value, LEVELS};
 use super::wire::Reader;
 use super::{chunk, listing, message, network, network_writer, Number, Refusal, Result};
 
-const EXAMPLE: [u8; 20] = [
-    0xD1, 0x01, 0x67, 0x12, 0x01, 0x15, 0x00, 0x09, 0x05, 0x00, 0x02, 0x00, 0x05, 0x03, 0x00, 0x0A, 0x00, 0x00, 0x00, 0x3F,
-];
+const EXAMPLE: [u8; 20] =
+    [0xD1, 0x01, 0x67, 0x12, 0x01, 0x15, 0x00, 0x09, 0x05, 0x00, 0x02, 0x00, 0x05, 0x03, 0x00, 0x0A, 0x00, 0x00, 0x00, 0x3F];
 
 #[test]
 fn example_lists() {
@@ -39,8 +38,7 @@ fn every_prefix_of_the_example_is_cut_short() {
 #[test]
 fn n1_to_n7() {
     let newness = [6, 5, 16_389, 16_390, 49_158, 49_159].map(|received| judge(Some(5), received));
-    let expected =
-        [Newness::Newer, Newness::OldOrSame, Newness::Newer, Newness::Invalid, Newness::Invalid, Newness::OldOrSame];
+    let expected = [Newness::Newer, Newness::OldOrSame, Newness::Newer, Newness::Invalid, Newness::Invalid, Newness::OldOrSame];
     assert_eq!(newness, expected);
     assert_eq!(judge(Some(65_535), 0), Newness::Newer);
 }
@@ -101,7 +99,9 @@ fn configuration_lines() {
     let bad = |text: &str| Config::parse(text.as_bytes()).map(drop).map_err(|refusal| refusal.place);
     assert_eq!(bad(""), Ok(()));
     assert_eq!(bad("writer\t21\t-\nfield\t10\nwriter\t0\t65535\n"), Ok(()));
-    for text in ["\n", "writer\t21\t-", "writer\t21\t0\n", "writer\t021\t-\n", "writer\t65536\t-\n", "field\t1\n", "writer\t1\t-\t\n"] {
+    for text in
+        ["\n", "writer\t21\t-", "writer\t21\t0\n", "writer\t021\t-\n", "writer\t65536\t-\n", "field\t1\n", "writer\t1\t-\t\n"]
+    {
         assert_eq!(bad(text), Err(1), "{text:?}");
     }
     for line in ["writer\t1\t5\n", "field\t12\n", "field\t01\n", "field\t+1\n", "field\t1\r\n", " field\t1\n", "field\t64\n"] {

@@ -85,8 +85,7 @@ pub fn read(message: &[u8], types: &[u8]) -> Result<Option<Message>> {
     } else {
         usize::from(reader.u16()?)
     };
-    let fields =
-        Cursor { encoding: header.encoding, indexed: header.kind == Kind::Delta, next: 0, count, at: reader.position() };
+    let fields = Cursor { encoding: header.encoding, indexed: header.kind == Kind::Delta, next: 0, count, at: reader.position() };
     let end = fields.skip_all(message, types)?;
     match message[end..].iter().position(|byte| *byte != 0) {
         Some(other) => Err(Number::LeftOver.at(end + other)),
