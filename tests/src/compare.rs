@@ -172,11 +172,17 @@ fn buffer_length(random: &mut Random, needed: usize) -> usize {
 struct ReadOnly(Vec<Vec<u8>>);
 
 impl ReadOnly {
-    fn keep(inputs: &[&[u8]]) -> Self {
-        Self(inputs.iter().map(|input| input.to_vec()).collect())
+    fn keep(inputs: &[(&str, &[u8])]) -> Self {
+        Self(inputs.iter().map(|(_, input)| input.to_vec()).collect())
     }
 
-    fn unchanged(&self, inputs: &[&[u8]]) -> bool {
-        self.0.iter().zip(inputs).all(|(kept, input)| kept == black_box(input))
+    /// Judges that they are as they were.
+    fn judge(&self, tally: &mut Tally, operation: &str, inputs: &[(&str, &[u8])]) -> bool {
+        let unchanged = self.0.iter().zip(inputs).all(|(kept, (_, input))| kept == black_box(input));
+        if !unchanged {
+            tally.failed += 1;
+            println!("DIFFERENCE: {operation} changed what it only reads");
+        }
+        unchanged
     }
 }

@@ -105,13 +105,13 @@ impl LentPartial {
     fn take_in(&mut self, tally: &mut Tally, datagram: &[u8], config: &Config) -> bool {
         let config_record = record::config(config);
         let expected = self.after(|partial| partial.take_in(datagram, config));
-        let kept = ReadOnly::keep(&[datagram]);
         let others = [("datagram", datagram), ("configuration record", &config_record[..])];
+        let kept = ReadOnly::keep(&others);
         let equal = self.judge(tally, "take_in", expected, &others, |partial| {
             let LentPartial { record, payload, marks } = partial;
             ffi::take_in(record.middle_mut(), payload.middle_mut(), marks.middle_mut(), datagram, &config_record)
         });
-        equal && kept.unchanged(&[datagram])
+        equal && kept.judge(tally, "take_in", &others)
     }
 
     fn combine(&mut self, tally: &mut Tally, source: &Self) -> bool {
@@ -120,13 +120,13 @@ impl LentPartial {
             Err(refusal) => (Err(refusal), self.clone()),
         };
         let [source_record, source_payload, source_marks] = source.slices();
-        let kept = ReadOnly::keep(&source.slices());
         let others = [("source record", source_record), ("source payload", source_payload), ("source marks", source_marks)];
+        let kept = ReadOnly::keep(&others);
         let equal = self.judge(tally, "combine", expected, &others, |partial| {
             let LentPartial { record, payload, marks } = partial;
             ffi::combine(record.middle_mut(), payload.middle_mut(), marks.middle_mut(), source.slices())
         });
-        equal && kept.unchanged(&source.slices())
+        equal && kept.judge(tally, "combine", &others)
     }
 
     fn empty(&mut self, tally: &mut Tally) -> bool {

@@ -16,15 +16,14 @@ fn judge_filled(
     let length = record_length(random, layout);
     let before = Lent::of_length(random, length);
     let mut after = before.clone();
-    let kept = ReadOnly::keep(&input.iter().map(|(_, bytes)| *bytes).collect::<Vec<_>>());
+    let kept = ReadOnly::keep(input);
     let answer = call(after.middle_mut());
-    let unchanged = kept.unchanged(&input.iter().map(|(_, bytes)| *bytes).collect::<Vec<_>>());
     let expected = match expected {
         Ok((value, record)) if length >= layout => Found { answer: Answer::done(value), areas: vec![before.with(&record)] },
         Ok(_) => Found { answer: answer_of(Err(Number::NoRoom.nowhere())), areas: vec![before] },
         Err(refusal) => Found { answer: answer_of(Err(refusal)), areas: vec![before] },
     };
-    tally.judge(operation, &Found { answer, areas: vec![after] }, &expected, input) && unchanged
+    tally.judge(operation, &Found { answer, areas: vec![after] }, &expected, input) && kept.judge(tally, operation, input)
 }
 
 /// A buffer filled by the library, judged against what the reference puts into the same buffer.
@@ -35,9 +34,11 @@ pub(super) fn judge_put(
     let length = buffer_length(random, needed);
     let mut expected_area = Lent::of_length(random, length);
     let mut area = expected_area.clone();
+    let kept = ReadOnly::keep(input);
     let answer = call(area.middle_mut());
     let expected = answer_of(reference(expected_area.middle_mut()).map(|length| length as u64));
-    tally.judge(operation, &Found { answer, areas: vec![area] }, &Found { answer: expected, areas: vec![expected_area] }, input)
+    let expected = Found { answer: expected, areas: vec![expected_area] };
+    tally.judge(operation, &Found { answer, areas: vec![area] }, &expected, input) && kept.judge(tally, operation, input)
 }
 
 /// A configuration text, valid or not.

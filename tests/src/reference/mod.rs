@@ -13,6 +13,8 @@ pub mod wire;
 
 #[cfg(test)]
 mod edge_readings;
+#[cfg(test)]
+mod round_trips;
 
 /// The numbers given back, but for 0.
 #[derive(Clone, Copy, Debug, PartialEq, Eq)]

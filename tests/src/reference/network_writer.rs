@@ -104,6 +104,8 @@ fn payload_read_back(parts: &Parts, config: &Config) -> Result<()> {
     let single = if total == 0 { Err(Number::CutShort.nowhere()) } else { Ok(()) };
     match parts.payload_header {
         HeaderPart::Absent if parts.chunk => Err(Number::NotConfigured.nowhere()),
+        // A chunk's payload is not read; other kinds of header are judged by what would be read back.
+        HeaderPart::ChunkOf(_) => Ok(()),
         _ if parts.chunk => Ok(()),
         HeaderPart::Count(1) => single,
         HeaderPart::Count(_) => {
@@ -111,7 +113,7 @@ fn payload_read_back(parts: &Parts, config: &Config) -> Result<()> {
             let fair = sum == total && pairs(parts.lengths).all(|size| size > 0);
             fair.then_some(()).ok_or(DISAGREE)
         }
-        _ => match config.writers() {
+        HeaderPart::Absent => match config.writers() {
             [one] if one.size.is_none() => single,
             writers => match writers.iter().map(|writer| writer.size.map(usize::from)).sum::<Option<usize>>() {
                 None | Some(0) => Err(Number::NotConfigured.nowhere()),
