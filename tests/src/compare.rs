@@ -21,13 +21,28 @@ type Counts = [u64; 17];
 #[derive(Debug, Default)]
 pub struct Tally {
     operations: BTreeMap<&'static str, Counts>,
-    pub failed: u64,
+    failures: BTreeMap<&'static str, u64>,
 }
+
+/// How many differences of an operation are printed.
+const PRINTED: u64 = 3;
 
 impl Tally {
     /// Compared cases.
     pub fn total(&self) -> u64 {
         self.operations.values().flatten().sum()
+    }
+
+    /// Cases that differ.
+    pub fn failed(&self) -> u64 {
+        self.failures.values().sum()
+    }
+
+    /// Counts a difference; whether it is to be printed.
+    fn fail(&mut self, operation: &'static str) -> bool {
+        let failures = self.failures.entry(operation).or_default();
+        *failures += 1;
+        *failures <= PRINTED
     }
 
     /// How often each number was answered.
@@ -48,7 +63,9 @@ impl Tally {
         let heading: String = (0..17).map(|number| format!("{number:>8}")).collect();
         let mut table = format!("{:<20}{:>9}{heading}\n", "operation", "cases");
         self.operations.iter().for_each(|(name, counts)| table += &line(name, counts));
-        table + &line("all", &self.counts())
+        table += &line("all", &self.counts());
+        table.extend(self.failures.iter().map(|(name, count)| format!("{name}: {count} differ\n")));
+        table
     }
 
     /// Judges one case; `input` names what the difference can be replayed with.
@@ -58,8 +75,7 @@ impl Tally {
         if found == expected {
             return true;
         }
-        self.failed += 1;
-        if self.failed <= 20 {
+        if self.fail(operation) {
             print!("{}", difference(operation, found, expected, input));
         }
         false
@@ -177,10 +193,10 @@ impl ReadOnly {
     }
 
     /// Judges that they are as they were.
-    fn judge(&self, tally: &mut Tally, operation: &str, inputs: &[(&str, &[u8])]) -> bool {
+    fn judge(&self, tally: &mut Tally, operation: &'static str, inputs: &[(&str, &[u8])]) -> bool {
         let unchanged = self.0.iter().zip(inputs).all(|(kept, (_, input))| kept == black_box(input));
         if !unchanged {
-            tally.failed += 1;
+            tally.fail(operation);
             println!("DIFFERENCE: {operation} changed what it only reads");
         }
         unchanged

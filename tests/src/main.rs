@@ -48,11 +48,11 @@ fn main() -> ExitCode {
         draw(&mut tally, &mut random);
     }
     println!("seed {seed}\n{}", tally.table());
-    let mut failed = tally.failed;
+    let mut failed = tally.failed();
     for (number, times) in tally.counts().iter().enumerate().filter(|(_, times)| **times < OFTEN) {
         println!("number {number} was reached {times} times only");
         failed += 1;
     }
-    println!("{} passed, {failed} failed", tally.total() - tally.failed);
+    println!("{} passed, {failed} failed", tally.total() - tally.failed());
     ExitCode::from(u8::from(failed > 0))
 }

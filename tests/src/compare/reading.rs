@@ -249,7 +249,8 @@ fn step(
         Ok(_) if !room => refused(Number::NoRoom.nowhere()),
         Ok((field, next)) => {
             let mut head_after = head_before.clone();
-            head_after.middle_mut()[80..120].copy_from_slice(&bytes_of(&record::cursor(&next)));
+            head_after.middle_mut()[96..104].copy_from_slice(&(next.next as u64).to_le_bytes());
+            head_after.middle_mut()[112..120].copy_from_slice(&(next.at as u64).to_le_bytes());
             let areas = vec![head_after, before.with(&bytes_of(&record::field(&field)))];
             Found { answer: Answer::done(field.offset as u64), areas }
         }
