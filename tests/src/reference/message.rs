@@ -157,7 +157,8 @@ pub fn field_value(reader: &mut Reader, encoding: Encoding, kind: Option<u8>) ->
             Ok(Value { kind: DATA_VALUE, shape: Shape::Scalar })
         }
         Encoding::RawData => {
-            let kind = kind.ok_or(Number::NotConfigured.nowhere())?;
+            // Only a made-up cursor or configuration leads to a field without a fixed type.
+            let kind = kind.unwrap_or(0);
             let width = width(kind).ok_or(Number::NotTaken.at(reader.position()))?;
             reader.take(width)?;
             Ok(Value { kind, shape: Shape::Scalar })
