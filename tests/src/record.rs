@@ -205,7 +205,7 @@ pub fn field(field: &Field) -> [u64; FIELD_SIZE / 8] {
         Shape::NullArray => (1, 0),
         Shape::Array(count) => (2, count as u64),
     };
-    [field.value.kind.into(), shape, count, field.index.into(), field.offset as u64, field.length as u64]
+    [field.value.kind.into(), shape, count, field.index as u64, field.offset as u64, field.length as u64]
 }
 
 /// The header that any message head record stands for.

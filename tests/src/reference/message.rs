@@ -37,7 +37,7 @@ pub struct Header {
 #[derive(Clone, Copy, Debug, PartialEq, Eq)]
 pub struct Field {
     pub value: Value,
-    pub index: u16,
+    pub index: usize,
     pub offset: usize,
     pub length: usize,
 }
@@ -176,7 +176,7 @@ impl Cursor {
             return Err(Number::OverLimit.nowhere());
         }
         let mut reader = Reader::starting_at(message, self.at);
-        let index = if self.indexed { reader.u16()? } else { self.next as u16 };
+        let index = if self.indexed { usize::from(reader.u16()?) } else { self.next };
         let offset = reader.position();
         let value = field_value(&mut reader, self.encoding, types.get(self.next).copied())?;
         let at = reader.position();
