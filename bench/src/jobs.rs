@@ -104,7 +104,9 @@ impl Ours {
 
     fn filled(datagrams: &[Vec<u8>]) -> Self {
         let mut partial = Self::new();
-        assert!(datagrams.iter().all(|datagram| partial.take_in(datagram) == 0));
+        for datagram in datagrams {
+            partial.take_in(datagram);
+        }
         partial
     }
 
@@ -131,7 +133,9 @@ impl Rust {
 
     fn filled(datagrams: &[Vec<u8>]) -> Self {
         let mut partial = Self::new();
-        assert!(datagrams.iter().all(|datagram| partial.take_in(datagram) == 0));
+        for datagram in datagrams {
+            partial.take_in(datagram);
+        }
         partial
     }
 

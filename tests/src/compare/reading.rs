@@ -293,11 +293,11 @@ pub fn made_up_field_cursor(tally: &mut Tally, random: &mut Random) {
 pub fn next_message_of(envelope: &[u8], datagram: &[u8], config: &Config) -> Result<MessagePlace> {
     let n = |i: usize| number(envelope, i) as usize;
     let (next, at) = (n(26), n(27));
-    if at > datagram.len() {
-        return Err(Number::CutShort.at(at));
-    }
     if next >= n(22) {
         return Err(Number::OverLimit.nowhere());
+    }
+    if at > datagram.len() {
+        return Err(Number::CutShort.at(at));
     }
     let pair = |at: usize| datagram.get(at..)?.first_chunk().map(|pair| u16::from_le_bytes(*pair));
     let entry = |start: usize| next.checked_mul(2).and_then(|skip| start.checked_add(skip)).and_then(pair);

@@ -106,7 +106,7 @@ impl Config {
 
     /// How many fields stand before the k-th writer's own.
     pub fn fields_before(&self, k: usize) -> usize {
-        self.writers().get(k).map_or(self.type_count, |writer| usize::from(writer.first_field))
+        self.writers().get(k).map_or(self.type_count, |writer| usize::from(writer.first_field).min(self.type_count))
     }
 
     /// The field types of the writer with this id; none where it is not configured.
