@@ -281,7 +281,7 @@ pub fn partial_of(record: &[u8]) -> Option<Record> {
         publisher: kept_id_of(record),
         writer: number(record, 3) as u16,
         number: number(record, 4) as u16,
-        total: number(record, 5) as u32,
+        total: number(record, 5),
     })
 }
 
@@ -315,6 +315,6 @@ pub fn partial(record: &Record) -> Vec<u8> {
             (5, length)
         }
     };
-    let numbers = [1, kind, id, record.writer.into(), record.number.into(), record.total.into()];
+    let numbers = [1, kind, id, record.writer.into(), record.number.into(), record.total];
     [bytes_of(&numbers), text.to_vec()].concat()
 }

@@ -116,7 +116,15 @@ impl LentPartial {
 
     fn combine(&mut self, tally: &mut Tally, source: &Self) -> bool {
         let expected = match source.known() {
-            Ok(known) => self.after(|partial| partial.combine(source.view(&known))),
+            Ok(known) => {
+                let (result, mut after) = self.after(|partial| partial.combine(source.view(&known)));
+                // A record that is taken over keeps the source's 64 bytes for a string as they are.
+                if after.record != self.record {
+                    after.record.middle_mut()[48..record::PARTIAL_SIZE]
+                        .copy_from_slice(&source.record.middle()[48..record::PARTIAL_SIZE]);
+                }
+                (result, after)
+            }
             Err(refusal) => (Err(refusal), self.clone()),
         };
         let [source_record, source_payload, source_marks] = source.slices();

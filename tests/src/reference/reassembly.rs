@@ -55,7 +55,7 @@ pub struct Record {
     pub publisher: KeptId,
     pub writer: u16,
     pub number: u16,
-    pub total: u32,
+    pub total: u64,
 }
 
 /// A partial that is only looked at; its record is none if not started.
@@ -70,9 +70,9 @@ impl PartialView<'_> {
     fn sound(&self) -> Result<()> {
         let sound = self.payload.len() == self.marks.len()
             && self.record.is_none_or(|record| {
-                let total = record.total as usize;
+                let total = record.total;
                 let id_fits = !matches!(record.publisher, KeptId::String(length, _) if length > LONGEST_ID as u64);
-                total >= 1 && total <= self.payload.len() && id_fits
+                total >= 1 && total <= self.payload.len() as u64 && id_fits
             });
         if sound {
             Ok(())
@@ -117,7 +117,7 @@ impl Partial<'_> {
             return Err(Number::NotTaken.nowhere());
         };
         let chunk = chunk::read(datagram, envelope.payload_start)?;
-        let record = Record { publisher: envelope.publisher.into(), writer, number: chunk.number, total: chunk.total };
+        let record = Record { publisher: envelope.publisher.into(), writer, number: chunk.number, total: chunk.total.into() };
         self.admit(&record)?;
         let covered = chunk.offset..chunk.offset + chunk.data.len();
         if self.record.is_some() {
@@ -162,7 +162,7 @@ impl Partial<'_> {
 
     /// Total above the area is 11, another message 13.
     fn admit(&self, record: &Record) -> Result<()> {
-        if record.total as usize > self.payload.len() {
+        if record.total > self.payload.len() as u64 {
             return Err(Number::NoRoom.nowhere());
         }
         match self.record.as_ref() {
