@@ -5,7 +5,7 @@ use uadp_tests::ffi;
 use uadp_tests::record::{self, number};
 use uadp_tests::reference::config::Config;
 use uadp_tests::reference::reassembly::{Partial, Record};
-use uadp_tests::reference::{message, network, network_writer};
+use uadp_tests::reference::{message, message_writer, network, network_writer};
 
 /// Mixes what was walked over.
 fn mix(sum: u64, a: u64, b: u64) -> u64 {
@@ -69,6 +69,34 @@ pub fn rewrite_rust(input: &Input) -> impl FnMut() -> u64 + '_ {
     let mut out = vec![0; 65_535];
     move || {
         let length = network_writer::rewrite(black_box(&input.datagram), &input.config, &mut out);
+        black_box(&out);
+        length.map_or(u64::MAX, |length| length as u64)
+    }
+}
+
+/// The first message of an input, and its writer's id.
+fn first_message(input: &Input) -> (&[u8], u16) {
+    let envelope = network::read(&input.datagram, &input.config).expect("an accepted datagram");
+    let place = envelope.messages(&input.datagram, &input.config).next().expect("a message");
+    (&input.datagram[place.offset..][..place.length], place.writer.unwrap_or(0))
+}
+
+pub fn rewrite_message_ours(input: &Input) -> impl FnMut() -> u64 + '_ {
+    let (message, writer) = first_message(input);
+    let mut out = vec![0; 65_535];
+    move || {
+        let answer = ffi::rewrite_message(black_box(message), &input.config_record, writer.into(), &mut out);
+        black_box(&out);
+        answer.value()
+    }
+}
+
+pub fn rewrite_message_rust(input: &Input) -> impl FnMut() -> u64 + '_ {
+    let (message, writer) = first_message(input);
+    let mut out = vec![0; 65_535];
+    move || {
+        let types = input.config.types_of(Some(writer));
+        let length = message_writer::rewrite(black_box(message), types, &mut out);
         black_box(&out);
         length.map_or(u64::MAX, |length| length as u64)
     }

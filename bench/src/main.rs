@@ -57,6 +57,8 @@ fn main() {
     for input in inputs::standard() {
         let name = format!("rewrite: {}", input.name);
         equal &= row(rounds, &name, &mut jobs::rewrite_ours(&input), &mut jobs::rewrite_rust(&input));
+        let name = format!("rewrite the first message: {}", input.name);
+        equal &= row(rounds, &name, &mut jobs::rewrite_message_ours(&input), &mut jobs::rewrite_message_rust(&input));
     }
     heading("Configuration, chunks");
     let text = inputs::full_text();

@@ -45,9 +45,9 @@ pub fn write(parts: &Parts, types: &[u8], out: &mut [u8]) -> Result<usize> {
     Ok(writer.written())
 }
 
-/// Writes an accepted message again; one that is not valid is 6.
+/// Writes an accepted message again; one that is not valid is 6. A writer's place is 0.
 pub fn rewrite(message: &[u8], types: &[u8], out: &mut [u8]) -> Result<usize> {
-    let read = message::read(message, types)?.ok_or(DISAGREE)?;
+    let read = message::read(message, types).map_err(|refusal| refusal.number.nowhere())?.ok_or(DISAGREE)?;
     let body = &message[read.body..];
     let mut writer = Writer::of_length(out, header_length(&read.header) + body.len())?;
     put_header(&mut writer, &read.header);

@@ -61,9 +61,9 @@ pub fn write(parts: &Parts, config: &Config, out: &mut [u8]) -> Result<usize> {
     front.put_with(sizes, parts.messages, out)
 }
 
-/// Writes an accepted datagram again.
+/// Writes an accepted datagram again. A writer's place is 0.
 pub fn rewrite(datagram: &[u8], config: &Config, out: &mut [u8]) -> Result<usize> {
-    let envelope = network::read(datagram, config)?;
+    let envelope = network::read(datagram, config).map_err(|refusal| refusal.number.nowhere())?;
     let sizes = match envelope.sizes {
         Sizes::Listed(sizes) => sizes,
         _ => &[],
