@@ -250,7 +250,7 @@ pub fn parts_of<'a>(parts: &crate::ffi::EnvelopeParts<'a>, class_id: &'a mut [u8
         group: present(6).then(|| group_of(record)),
         chunk: present(11),
         payload_header: match number(record, 12) {
-            1 => HeaderPart::Count(number(record, 13) as usize),
+            1 => HeaderPart::Count(usize::from(number(record, 13) as u8)),
             2 => HeaderPart::ChunkOf(number(record, 13) as u16),
             _ => HeaderPart::Absent,
         },
@@ -258,6 +258,8 @@ pub fn parts_of<'a>(parts: &crate::ffi::EnvelopeParts<'a>, class_id: &'a mut [u8
         timestamp: present(15).then(|| number(record, 16) as i64),
         picoseconds: present(17).then(|| number(record, 18) as u16),
         promoted: present(19).then_some(parts.promoted),
+        promoted_unasked: !present(19) && !parts.promoted.is_empty(),
+        text_unasked: number(record, 0) != 5 && !parts.text.is_empty(),
         promoted_size: number(record, 20) as u16,
         lengths: parts.lengths,
         messages: parts.messages,

@@ -97,12 +97,6 @@ impl DatagramParts {
             }
             _ => self.numbers[0] = random.below(8) as u64,
         }
-        if self.numbers[0] != 5 {
-            self.text.clear();
-        }
-        if self.numbers[19] == 0 {
-            self.promoted.clear();
-        }
     }
 
     /// So many messages of one byte.
@@ -275,7 +269,7 @@ pub fn write_message(tally: &mut Tally, random: &mut Random) {
     };
     let reference_parts = message_writer::Parts {
         header: record::header_of(&head),
-        heartbeat: owned.heartbeat == 1,
+        heartbeat: owned.heartbeat != 0,
         values: &owned.values,
         lengths: &owned.lengths,
         indices: &owned.indices,

@@ -7,7 +7,7 @@ use super::{Number, Refusal, Result, PICOSECONDS_END};
 #[derive(Clone, Copy, Debug)]
 pub struct Parts<'a> {
     pub header: Header,
-    /// A key frame with nothing after its header.
+    /// A key frame has nothing after its header; of other kinds this says nothing.
     pub heartbeat: bool,
     /// The fields' encoded values, one after the other, and how long each is.
     pub values: &'a [u8],
@@ -56,7 +56,11 @@ pub fn rewrite(message: &[u8], types: &[u8], out: &mut [u8]) -> Result<usize> {
 }
 
 fn has_fields(parts: &Parts) -> bool {
-    !parts.heartbeat && parts.header.kind != Kind::KeepAlive
+    !is_heartbeat(parts) && parts.header.kind != Kind::KeepAlive
+}
+
+fn is_heartbeat(parts: &Parts) -> bool {
+    parts.heartbeat && parts.header.kind == Kind::Key
 }
 
 /// The fields' values; one whose length reaches past the values is cut short there.
@@ -104,7 +108,7 @@ fn reads_back_otherwise(parts: &Parts, types: &[u8]) -> bool {
         return true;
     }
     if !has_fields(parts) {
-        return count > 0 || (parts.heartbeat && (kind != Kind::Key || parts.padding > 0));
+        return count > 0 || (is_heartbeat(parts) && parts.padding > 0);
     }
     if encoding == Encoding::RawData {
         count != types.len()

@@ -26,6 +26,9 @@ pub struct Parts<'a> {
     pub timestamp: Option<i64>,
     pub picoseconds: Option<u16>,
     pub promoted: Option<&'a [u8]>,
+    /// Promoted fields, or a string's bytes, are handed over where the parts have none.
+    pub promoted_unasked: bool,
+    pub text_unasked: bool,
     /// The size that the caller says the promoted fields have.
     pub promoted_size: u16,
     /// The lengths of several messages.
@@ -76,7 +79,7 @@ fn read_back(parts: &Parts, config: &Config) -> Result<()> {
     if parts.picoseconds.is_some() && parts.timestamp.is_none() {
         return Err(NOT_PERMITTED);
     }
-    if matches!(parts.publisher, Some(PublisherId::String(id)) if id.len() > LONGEST_ID) {
+    if matches!(parts.publisher, Some(PublisherId::String(_)) if parts.string_length > LONGEST_ID as u64) {
         return Err(Number::OverLimit.nowhere());
     }
     if parts.group.is_some_and(|group| group.message_number == Some(0)) {
@@ -104,9 +107,8 @@ fn payload_read_back(parts: &Parts, config: &Config) -> Result<()> {
     let single = if total == 0 { Err(Number::CutShort.nowhere()) } else { Ok(()) };
     match parts.payload_header {
         HeaderPart::Absent if parts.chunk => Err(Number::NotConfigured.nowhere()),
-        // A chunk's payload is not read; other kinds of header are judged by what would be read back.
+        // A chunk's payload is not read.
         HeaderPart::ChunkOf(_) => Ok(()),
-        _ if parts.chunk => Ok(()),
         HeaderPart::Count(1) => single,
         HeaderPart::Count(_) => {
             let sum: usize = pairs(parts.lengths).map(usize::from).sum();
@@ -129,6 +131,8 @@ fn reads_back_otherwise(parts: &Parts, config: &Config) -> bool {
     let promoted_disagrees = parts.promoted.is_some_and(|promoted| promoted.len() != usize::from(parts.promoted_size));
     string_disagrees
         || promoted_disagrees
+        || parts.promoted_unasked
+        || parts.text_unasked
         || match parts.payload_header {
             HeaderPart::ChunkOf(_) => !parts.chunk || !parts.ids.is_empty() || !parts.lengths.is_empty(),
             HeaderPart::Count(count) => {
