@@ -1,0 +1,314 @@
+//! The library's C interface (include/uadp.h) behind safe functions. An empty slice crosses as NULL.
+#![allow(unsafe_code)]
+use std::ptr;
+
+/// A result as the library gives it: document 01's number in the low byte, value or place above.
+#[derive(Clone, Copy, Debug, PartialEq, Eq)]
+pub struct Answer(pub u64);
+
+impl Answer {
+    /// The highest place that an answer can hold.
+    pub const HIGHEST_PLACE: u64 = (1 << 56) - 1;
+
+    pub const fn done(value: u64) -> Self {
+        Self(value << 8)
+    }
+
+    pub const fn refused(number: u8, place: u64) -> Self {
+        let place = if place > Self::HIGHEST_PLACE { Self::HIGHEST_PLACE } else { place };
+        Self(place << 8 | number as u64)
+    }
+
+    pub const fn number(self) -> u8 {
+        self.0 as u8
+    }
+
+    pub const fn value(self) -> u64 {
+        self.0 >> 8
+    }
+}
+
+mod raw {
+    extern "C" {
+        pub fn uadp_config(text: *const u8, text_length: usize, config: *mut u8, config_length: usize) -> u64;
+        pub fn uadp_list(
+            datagram: *const u8, datagram_length: usize, config: *const u8, config_length: usize, out: *mut u8, out_length: usize,
+        ) -> u64;
+        pub fn uadp_read(
+            datagram: *const u8, datagram_length: usize, config: *const u8, config_length: usize, envelope: *mut u8,
+            envelope_length: usize,
+        ) -> u64;
+        pub fn uadp_next_message(
+            datagram: *const u8, datagram_length: usize, config: *const u8, config_length: usize, envelope: *mut u8,
+            envelope_length: usize, place: *mut u8, place_length: usize,
+        ) -> u64;
+        pub fn uadp_read_message(
+            message: *const u8, message_length: usize, config: *const u8, config_length: usize, writer: u32, head: *mut u8,
+            head_length: usize,
+        ) -> u64;
+        pub fn uadp_next_field(
+            message: *const u8, message_length: usize, config: *const u8, config_length: usize, writer: u32, head: *mut u8,
+            head_length: usize, field: *mut u8, field_length: usize,
+        ) -> u64;
+        pub fn uadp_field(
+            message: *const u8, message_length: usize, config: *const u8, config_length: usize, writer: u32, k: u64,
+            field: *mut u8, field_length: usize,
+        ) -> u64;
+        pub fn uadp_rewrite(
+            datagram: *const u8, datagram_length: usize, config: *const u8, config_length: usize, out: *mut u8, out_length: usize,
+        ) -> u64;
+        pub fn uadp_write(
+            envelope: *const u8, envelope_length: usize, text: *const u8, text_length: usize, ids: *const u8, ids_length: usize,
+            promoted: *const u8, promoted_length: usize, lengths: *const u8, lengths_length: usize, messages: *const u8,
+            messages_length: usize, config: *const u8, config_length: usize, out: *mut u8, out_length: usize,
+        ) -> u64;
+        pub fn uadp_rewrite_message(
+            message: *const u8, message_length: usize, config: *const u8, config_length: usize, writer: u32, out: *mut u8,
+            out_length: usize,
+        ) -> u64;
+        pub fn uadp_write_message(
+            head: *const u8, head_length: usize, heartbeat: u32, values: *const u8, values_length: usize, lengths: *const usize,
+            lengths_count: usize, indices: *const u16, indices_count: usize, padding: u64, config: *const u8,
+            config_length: usize, writer: u32, out: *mut u8, out_length: usize,
+        ) -> u64;
+        pub fn uadp_empty(record: *mut u8, record_length: usize) -> u64;
+        pub fn uadp_take_in(
+            record: *mut u8, record_length: usize, payload: *mut u8, payload_length: usize, marks: *mut u8, marks_length: usize,
+            datagram: *const u8, datagram_length: usize, config: *const u8, config_length: usize,
+        ) -> u64;
+        pub fn uadp_combine(
+            record: *mut u8, record_length: usize, payload: *mut u8, payload_length: usize, marks: *mut u8, marks_length: usize,
+            source: *const u8, source_length: usize, source_payload: *const u8, source_payload_length: usize,
+            source_marks: *const u8, source_marks_length: usize,
+        ) -> u64;
+        pub fn uadp_complete(
+            record: *const u8, record_length: usize, payload: *const u8, payload_length: usize, marks: *const u8,
+            marks_length: usize,
+        ) -> u64;
+        pub fn uadp_hand_out(
+            record: *const u8, record_length: usize, payload: *const u8, payload_length: usize, marks: *const u8,
+            marks_length: usize,
+        ) -> u64;
+        pub fn uadp_cut(
+            payload: *const u8, payload_length: usize, number: u16, size: u64, k: u64, out: *mut u8, out_length: usize,
+        ) -> u64;
+        pub fn uadp_newness(record: *mut u8, record_length: usize, received: u16) -> u64;
+    }
+}
+
+fn lent<T>(slice: &[T]) -> *const T {
+    if slice.is_empty() {
+        ptr::null()
+    } else {
+        slice.as_ptr()
+    }
+}
+
+fn lent_mut(slice: &mut [u8]) -> *mut u8 {
+    if slice.is_empty() {
+        ptr::null_mut()
+    } else {
+        slice.as_mut_ptr()
+    }
+}
+
+// SAFETY, for every call below: each pointer is that of a borrowed slice with its length, and the areas that are written are
+// borrowed mutably, so that they overlap no other.
+
+pub fn config(text: &[u8], config: &mut [u8]) -> Answer {
+    Answer(unsafe { raw::uadp_config(lent(text), text.len(), lent_mut(config), config.len()) })
+}
+
+pub fn list(datagram: &[u8], config: &[u8], out: &mut [u8]) -> Answer {
+    let (length, out_length) = (datagram.len(), out.len());
+    Answer(unsafe { raw::uadp_list(lent(datagram), length, lent(config), config.len(), lent_mut(out), out_length) })
+}
+
+pub fn read(datagram: &[u8], config: &[u8], envelope: &mut [u8]) -> Answer {
+    let (length, envelope_length) = (datagram.len(), envelope.len());
+    Answer(unsafe { raw::uadp_read(lent(datagram), length, lent(config), config.len(), lent_mut(envelope), envelope_length) })
+}
+
+pub fn next_message(datagram: &[u8], config: &[u8], envelope: &mut [u8], place: &mut [u8]) -> Answer {
+    Answer(unsafe {
+        raw::uadp_next_message(
+            lent(datagram),
+            datagram.len(),
+            lent(config),
+            config.len(),
+            lent_mut(envelope),
+            envelope.len(),
+            lent_mut(place),
+            place.len(),
+        )
+    })
+}
+
+pub fn read_message(message: &[u8], config: &[u8], writer: u32, head: &mut [u8]) -> Answer {
+    let (length, head_length) = (message.len(), head.len());
+    Answer(unsafe {
+        raw::uadp_read_message(lent(message), length, lent(config), config.len(), writer, lent_mut(head), head_length)
+    })
+}
+
+pub fn next_field(message: &[u8], config: &[u8], writer: u32, head: &mut [u8], field: &mut [u8]) -> Answer {
+    Answer(unsafe {
+        raw::uadp_next_field(
+            lent(message),
+            message.len(),
+            lent(config),
+            config.len(),
+            writer,
+            lent_mut(head),
+            head.len(),
+            lent_mut(field),
+            field.len(),
+        )
+    })
+}
+
+pub fn field(message: &[u8], config: &[u8], writer: u32, k: u64, field: &mut [u8]) -> Answer {
+    let (length, field_length) = (message.len(), field.len());
+    Answer(unsafe {
+        raw::uadp_field(lent(message), length, lent(config), config.len(), writer, k, lent_mut(field), field_length)
+    })
+}
+
+pub fn rewrite(datagram: &[u8], config: &[u8], out: &mut [u8]) -> Answer {
+    let (length, out_length) = (datagram.len(), out.len());
+    Answer(unsafe { raw::uadp_rewrite(lent(datagram), length, lent(config), config.len(), lent_mut(out), out_length) })
+}
+
+/// What `uadp_write` reads besides the configuration.
+#[derive(Clone, Copy, Debug)]
+pub struct EnvelopeParts<'a> {
+    pub envelope: &'a [u8],
+    pub text: &'a [u8],
+    pub ids: &'a [u8],
+    pub promoted: &'a [u8],
+    pub lengths: &'a [u8],
+    pub messages: &'a [u8],
+}
+
+pub fn write(parts: &EnvelopeParts, config: &[u8], out: &mut [u8]) -> Answer {
+    let EnvelopeParts { envelope, text, ids, promoted, lengths, messages } = *parts;
+    Answer(unsafe {
+        raw::uadp_write(
+            lent(envelope),
+            envelope.len(),
+            lent(text),
+            text.len(),
+            lent(ids),
+            ids.len(),
+            lent(promoted),
+            promoted.len(),
+            lent(lengths),
+            lengths.len(),
+            lent(messages),
+            messages.len(),
+            lent(config),
+            config.len(),
+            lent_mut(out),
+            out.len(),
+        )
+    })
+}
+
+pub fn rewrite_message(message: &[u8], config: &[u8], writer: u32, out: &mut [u8]) -> Answer {
+    let (length, out_length) = (message.len(), out.len());
+    Answer(unsafe {
+        raw::uadp_rewrite_message(lent(message), length, lent(config), config.len(), writer, lent_mut(out), out_length)
+    })
+}
+
+/// What `uadp_write_message` reads besides the configuration.
+#[derive(Clone, Copy, Debug)]
+pub struct MessageParts<'a> {
+    pub head: &'a [u8],
+    pub heartbeat: u32,
+    pub values: &'a [u8],
+    pub lengths: &'a [usize],
+    pub indices: &'a [u16],
+    pub padding: u64,
+}
+
+pub fn write_message(parts: &MessageParts, config: &[u8], writer: u32, out: &mut [u8]) -> Answer {
+    let MessageParts { head, heartbeat, values, lengths, indices, padding } = *parts;
+    Answer(unsafe {
+        raw::uadp_write_message(
+            lent(head),
+            head.len(),
+            heartbeat,
+            lent(values),
+            values.len(),
+            lent(lengths),
+            lengths.len(),
+            lent(indices),
+            indices.len(),
+            padding,
+            lent(config),
+            config.len(),
+            writer,
+            lent_mut(out),
+            out.len(),
+        )
+    })
+}
+
+pub fn empty(record: &mut [u8]) -> Answer {
+    Answer(unsafe { raw::uadp_empty(lent_mut(record), record.len()) })
+}
+
+pub fn take_in(record: &mut [u8], payload: &mut [u8], marks: &mut [u8], datagram: &[u8], config: &[u8]) -> Answer {
+    Answer(unsafe {
+        raw::uadp_take_in(
+            lent_mut(record),
+            record.len(),
+            lent_mut(payload),
+            payload.len(),
+            lent_mut(marks),
+            marks.len(),
+            lent(datagram),
+            datagram.len(),
+            lent(config),
+            config.len(),
+        )
+    })
+}
+
+pub fn combine(record: &mut [u8], payload: &mut [u8], marks: &mut [u8], source: [&[u8]; 3]) -> Answer {
+    let [source_record, source_payload, source_marks] = source;
+    Answer(unsafe {
+        raw::uadp_combine(
+            lent_mut(record),
+            record.len(),
+            lent_mut(payload),
+            payload.len(),
+            lent_mut(marks),
+            marks.len(),
+            lent(source_record),
+            source_record.len(),
+            lent(source_payload),
+            source_payload.len(),
+            lent(source_marks),
+            source_marks.len(),
+        )
+    })
+}
+
+pub fn complete(record: &[u8], payload: &[u8], marks: &[u8]) -> Answer {
+    Answer(unsafe { raw::uadp_complete(lent(record), record.len(), lent(payload), payload.len(), lent(marks), marks.len()) })
+}
+
+pub fn hand_out(record: &[u8], payload: &[u8], marks: &[u8]) -> Answer {
+    Answer(unsafe { raw::uadp_hand_out(lent(record), record.len(), lent(payload), payload.len(), lent(marks), marks.len()) })
+}
+
+pub fn cut(payload: &[u8], number: u16, size: u64, k: u64, out: &mut [u8]) -> Answer {
+    let (length, out_length) = (payload.len(), out.len());
+    Answer(unsafe { raw::uadp_cut(lent(payload), length, number, size, k, lent_mut(out), out_length) })
+}
+
+pub fn newness(record: &mut [u8], received: u16) -> Answer {
+    Answer(unsafe { raw::uadp_newness(lent_mut(record), record.len(), received) })
+}

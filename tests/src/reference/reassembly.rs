@@ -1,0 +1,181 @@
+//! Partials: payloads put together from chunks in lent areas.
+use super::config::Config;
+use super::network::{self, PayloadHeader, PublisherId, LONGEST_ID};
+use super::{chunk, Number, Result};
+
+/// A PublisherId kept by value.
+#[derive(Clone, Copy, Debug)]
+pub enum KeptId {
+    Absent,
+    Byte(u8),
+    UInt16(u16),
+    UInt32(u32),
+    UInt64(u64),
+    /// The string's length and its bytes; a length above 64 is unsound.
+    String(u64, [u8; LONGEST_ID]),
+}
+
+impl PartialEq for KeptId {
+    fn eq(&self, other: &Self) -> bool {
+        match (self, other) {
+            (Self::Absent, Self::Absent) => true,
+            (Self::Byte(a), Self::Byte(b)) => a == b,
+            (Self::UInt16(a), Self::UInt16(b)) => a == b,
+            (Self::UInt32(a), Self::UInt32(b)) => a == b,
+            (Self::UInt64(a), Self::UInt64(b)) => a == b,
+            (Self::String(a, left), Self::String(b, right)) => {
+                let length = (*a as usize).min(LONGEST_ID);
+                a == b && left[..length] == right[..length]
+            }
+            _ => false,
+        }
+    }
+}
+
+impl From<Option<PublisherId<'_>>> for KeptId {
+    fn from(id: Option<PublisherId>) -> Self {
+        match id {
+            None => Self::Absent,
+            Some(PublisherId::Byte(id)) => Self::Byte(id),
+            Some(PublisherId::UInt16(id)) => Self::UInt16(id),
+            Some(PublisherId::UInt32(id)) => Self::UInt32(id),
+            Some(PublisherId::UInt64(id)) => Self::UInt64(id),
+            Some(PublisherId::String(id)) => {
+                let mut bytes = [0; LONGEST_ID];
+                bytes[..id.len()].copy_from_slice(id);
+                Self::String(id.len() as u64, bytes)
+            }
+        }
+    }
+}
+
+/// Which message a started partial holds.
+#[derive(Clone, Copy, Debug, PartialEq)]
+pub struct Record {
+    pub publisher: KeptId,
+    pub writer: u16,
+    pub number: u16,
+    pub total: u64,
+}
+
+/// A partial that is only looked at; its record is none if not started.
+#[derive(Clone, Copy, Debug)]
+pub struct PartialView<'a> {
+    pub record: Option<&'a Record>,
+    pub payload: &'a [u8],
+    pub marks: &'a [u8],
+}
+
+impl PartialView<'_> {
+    fn sound(&self) -> Result<()> {
+        let sound = self.payload.len() == self.marks.len()
+            && self.record.is_none_or(|record| {
+                let total = record.total;
+                let id_fits = !matches!(record.publisher, KeptId::String(length, _) if length > LONGEST_ID as u64);
+                total >= 1 && total <= self.payload.len() as u64 && id_fits
+            });
+        if sound {
+            Ok(())
+        } else {
+            Err(Number::Unsound.nowhere())
+        }
+    }
+
+    /// Whether every byte below total is covered.
+    pub fn complete(&self) -> Result<bool> {
+        self.sound()?;
+        Ok(self.record.is_some_and(|record| self.marks[..record.total as usize].iter().all(|mark| *mark == 1)))
+    }
+
+    /// How many bytes at the payload area's start are the complete payload.
+    pub fn hand_out(&self) -> Result<usize> {
+        match self.record {
+            Some(record) if self.complete()? => Ok(record.total as usize),
+            _ => self.sound().and(Err(Number::NotComplete.nowhere())),
+        }
+    }
+}
+
+/// A partial: its record, none if not started, and its lent areas.
+#[derive(Debug)]
+pub struct Partial<'a> {
+    pub record: &'a mut Option<Record>,
+    pub payload: &'a mut [u8],
+    pub marks: &'a mut [u8],
+}
+
+impl Partial<'_> {
+    pub fn view(&self) -> PartialView<'_> {
+        PartialView { record: self.record.as_ref(), payload: self.payload, marks: self.marks }
+    }
+
+    /// Takes a chunk in from a datagram.
+    pub fn take_in(&mut self, datagram: &[u8], config: &Config) -> Result<()> {
+        self.view().sound()?;
+        let envelope = network::read(datagram, config)?;
+        let PayloadHeader::ChunkOf(writer) = envelope.payload_header else {
+            return Err(Number::NotTaken.nowhere());
+        };
+        let chunk = chunk::read(datagram, envelope.payload_start)?;
+        let record = Record { publisher: envelope.publisher.into(), writer, number: chunk.number, total: chunk.total.into() };
+        self.admit(&record)?;
+        let covered = chunk.offset..chunk.offset + chunk.data.len();
+        if self.record.is_some() {
+            let held = self.payload[covered.clone()].iter().zip(&self.marks[covered.clone()]);
+            if held.zip(chunk.data).any(|((held, mark), byte)| *mark == 1 && held != byte) {
+                return Err(Number::ByteDiffers.nowhere());
+            }
+        }
+        self.start(&record);
+        self.payload[covered.clone()].copy_from_slice(chunk.data);
+        self.marks[covered].fill(1);
+        Ok(())
+    }
+
+    /// Combines another partial into this one.
+    pub fn combine(&mut self, source: PartialView) -> Result<()> {
+        self.view().sound()?;
+        source.sound()?;
+        let Some(record) = source.record else {
+            return Ok(());
+        };
+        self.admit(record)?;
+        let total = record.total as usize;
+        let (payload, marks) = (&source.payload[..total], &source.marks[..total]);
+        if self.record.is_some() {
+            let held = self.payload.iter().zip(self.marks.iter());
+            let mut both = held.zip(payload.iter().zip(marks));
+            if both.any(|((held, held_mark), (byte, mark))| *mark == 1 && *held_mark == 1 && held != byte) {
+                return Err(Number::ByteDiffers.nowhere());
+            }
+        }
+        self.start(record);
+        let own = self.payload.iter_mut().zip(self.marks.iter_mut());
+        for ((held, held_mark), (byte, mark)) in own.zip(payload.iter().zip(marks)) {
+            if *mark == 1 {
+                *held = *byte;
+                *held_mark = 1;
+            }
+        }
+        Ok(())
+    }
+
+    /// Total above the area is 11, another message 13.
+    fn admit(&self, record: &Record) -> Result<()> {
+        if record.total > self.payload.len() as u64 {
+            return Err(Number::NoRoom.nowhere());
+        }
+        match self.record.as_ref() {
+            Some(held) if held != record => Err(Number::OtherMessage.nowhere()),
+            _ => Ok(()),
+        }
+    }
+
+    /// One not started takes the record over, with every mark cleared.
+    fn start(&mut self, record: &Record) {
+        if self.record.is_none() {
+            *self.record = Some(*record);
+            self.marks.fill(0);
+        }
+    }
+}
