@@ -4,3 +4,4 @@ pub mod Messages
 pub mod Sequence
 pub mod Reassembling
 pub mod Writing
+pub mod Listings

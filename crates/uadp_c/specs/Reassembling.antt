@@ -32,9 +32,13 @@ abbrev pub verdictResult : Verdict → ℕ
 verdictResult Verdict.Done = resultOf 0 0
 verdictResult (Verdict.Refused n place) = resultOf n place
 
+-- "A target not started takes over the record"; else no byte of it changes
+abbrev pub takenOver : List ℕ → PartialRecord → List ℕ
+takenOver r after = cond (partialIn r .started) r (cond (after .started) (laid r 0 (partialBytes after)) r)
+
 -- a refusal leaves the record as it was
 abbrev pub recordBy : Verdict → List ℕ → PartialRecord → List ℕ
-recordBy Verdict.Done r after = laid r 0 (partialBytes after)
+recordBy Verdict.Done r after = takenOver r after
 recordBy (Verdict.Refused n place) r after = r
 
 -- "a record shorter than its layout is unsound, 12"; else the step's answer, record and areas

@@ -3,11 +3,13 @@ use config::writers::first;
 use partial_record::partial_in;
 use partial_record::put_partial;
 use reassembly::Completeness;
+use reassembly::PartialRecord;
 use reassembly::Verdict;
 use reassembly::ask_complete;
 use reassembly::combine_in;
 use reassembly::hand_out_verdict;
 use reassembly::take_in;
+use records::numbers::number;
 use records::result::result;
 use records::writers::sizes;
 use records::writers::writer_count;
@@ -17,7 +19,7 @@ ghost use Rattle.reassembly.specs.Reading.{readingAt};
 ghost use Rattle.reassembly.specs.Operations.{takeIn, combine, askComplete, judgeHandOut};
 ghost use Rattle.records.specs.Result.{resultOf};
 ghost use Rattle.records.specs.Writers.{sizesIn};
-ghost use Rattle.uadp_c.specs.Reassembling.{partialOf, lent, stepIn, combineIn, emptiedRecord, completeIn, handIn};
+ghost use Rattle.uadp_c.specs.Reassembling.{partialOf, lent, takenOver, stepIn, combineIn, emptiedRecord, completeIn, handIn};
 
 // Empties a partial.
 #[no_mangle]
@@ -26,6 +28,19 @@ pub extern "C" fn uadp_empty(rec: &mut [u8]) -> u64
 {
     put64(rec, 0, 0);
     result(0, 0)
+}
+
+// Stores the record where a partial not started took it over; of a started one, and where nothing was taken over, no byte changes.
+fn keep_record(rec: &mut [u8], after: PartialRecord)
+    ensures { λ _. ⌜ now (rec .exit) ≡ takenOver (now (rec .entry)) after ⌝ }
+{
+    if number(rec, 0) == 1 {
+        return;
+    }
+    if !after.started {
+        return;
+    }
+    put_partial(rec, after);
 }
 
 // Takes a chunk in from a datagram.
@@ -50,7 +65,7 @@ pub extern "C" fn uadp_take_in(
         Verdict::Refused(number, place) => result(number, place),
         Verdict::Done => {
             let after = taken.rec;
-            put_partial(rec, after);
+            keep_record(rec, after);
             result(0, 0)
         }
     }
@@ -87,7 +102,7 @@ pub extern "C" fn uadp_combine(
         Verdict::Refused(number, place) => result(number, place),
         Verdict::Done => {
             let after = joined.rec;
-            put_partial(rec, after);
+            keep_record(rec, after);
             result(0, 0)
         }
     }

@@ -1,0 +1,35 @@
+// A datagram's listing.
+use crate::rewriting::written_result;
+use config::writers::first;
+use listing_text::put_listing;
+use records::writers::ids;
+use records::writers::sizes;
+use records::writers::starts;
+use records::writers::types;
+use records::writers::writer_count;
+ghost use mathlib.Core.Path.{_≡_};
+ghost use Rattle.writing.specs.Writing.{answerWritten};
+ghost use Rattle.listing_text.specs.Text.{textWritten, textAfter};
+ghost use Rattle.uadp_c.specs.Listings.{listingText};
+ghost use Rattle.uadp_c.specs.Writing.{writerResult};
+
+// Puts the whole listing of a datagram at the buffer's start.
+#[no_mangle]
+pub extern "C" fn uadp_list(datagram: &[u8], config: &[u8], out: &mut [u8]) -> u64
+    ensures { λ r. ⌜ (r ≡ writerResult (answerWritten (textWritten (now (out .entry)) (listingText (now (config .entry)) (now (datagram .entry)))))) × (now (out .exit) ≡ textAfter (now (out .entry)) (listingText (now (config .entry)) (now (datagram .entry)))) ⌝ }
+{
+    let n = writer_count(config);
+    let all_ids = ids(config);
+    let all_sizes = sizes(config);
+    let written = put_listing(
+        out,
+        datagram,
+        0,
+        0,
+        first(&all_ids, n),
+        first(&all_sizes, n),
+        starts(config),
+        types(config),
+    );
+    written_result(written)
+}
