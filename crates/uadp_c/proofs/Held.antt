@@ -1,10 +1,13 @@
 -- The ways out of the operations on a lent partial.
 -- Assumes nothing.
 use Prim.Native.Nat.{ℕ, _≤_, _<_}
-use mathlib.Core.Path.{_≡_, ap, sym, subst, _∙_}
+use mathlib.Core.Path.{_≡_, refl, ap, sym, subst, _∙_}
+use mathlib.Core.Bool.{Bool, true, false, cond}
 use mathlib.Core.List.{List}
 use borrow.Author.Tests.{lt-ltb, le-ltb}
+use lib.Dec.{eqb}
 use lib.ListN.{length, take}
+use Rattle.wire.specs.Store.{laid}
 use Rattle.reassembly.specs.Record.{partial}
 use Rattle.reassembly.specs.Reading.{readingAt}
 use Rattle.reassembly.specs.Operations.{Step, stepOf, takeIn, combine, askComplete, judgeHandOut}
@@ -12,14 +15,29 @@ use Rattle.reassembly.specs.declared.operations.Outcome.{Outcome}
 use Rattle.reassembly.specs.declared.record.PartialRecord.{PartialRecord}
 use Rattle.reassembly.specs.declared.verdict.Verdict.{Verdict}
 use Rattle.reassembly.specs.declared.verdict.Completeness.{Completeness}
+use Rattle.records.specs.Numbers.{numberAt}
 use Rattle.records.specs.Result.{resultOf}
 use Rattle.records.specs.Writers.{writersIn, sixteen, sizesIn}
-use Rattle.partial_record.specs.Partial.{partialIn}
-use Rattle.uadp_c.specs.Reassembling.{partialOf, Lent, lent, verdictResult, recordBy, stepIn, combineIn, completeResult, completeIn, handResult, handIn}
+use Rattle.partial_record.specs.Partial.{partialIn, partialBytes}
+use Rattle.uadp_c.specs.Reassembling.{partialOf, Lent, lent, verdictResult, takenOver, recordBy, stepIn, combineIn, completeResult, completeIn, handResult, handIn}
 
 -- a record shorter than its layout
 pub step-short : (r p m : List ℕ) (x : ℕ) (s : Step) → length r < 112 → x ≡ resultOf 12 0 → lent x r p m ≡ stepIn r p m s
 step-short r p m x s h q = rw (lt-ltb (length r) 112 h) (ap (λ (y : ℕ). lent y r p m) q)
+
+-- a started record, and one that nothing was taken over into, stay; else the record is stored
+pub keeps-started : (r : List ℕ) (k : PartialRecord) (n : ℕ) → n ≡ numberAt r 0 → eqb n 1 ≡ true → r ≡ takenOver r k
+keeps-started r k n a t = rw (subst (λ (x : ℕ). eqb x 1 ≡ true) a t) refl
+
+pub keeps-empty : (r : List ℕ) (k : PartialRecord) (n : ℕ) → n ≡ numberAt r 0 → eqb n 1 ≡ false → k .started ≡ false → r ≡ takenOver r k
+keeps-empty r k n a t h = rw (subst (λ (x : ℕ). eqb x 1 ≡ false) a t, h) refl
+
+so : (b : Bool) (e x y : List ℕ) → b ≡ true → e ≡ x → e ≡ cond b x y
+so b e x y h q = rw h q
+
+pub takes-over : (r e : List ℕ) (k : PartialRecord) (n : ℕ) → n ≡ numberAt r 0 → eqb n 1 ≡ false → k .started ≡ true → e ≡ laid r 0 (partialBytes k)
+    → e ≡ takenOver r k
+takes-over r e k n a t h q = rw (subst (λ (x : ℕ). eqb x 1 ≡ false) a t) (so (k .started) e (laid r 0 (partialBytes k)) r h q)
 
 -- an outcome of the operation, stored
 pub step-ends : (r p m r₂ p₂ m₂ : List ℕ) (x : ℕ) (o : Outcome) (v : Verdict) (s : Step) → 112 ≤ length r → stepOf o p₂ m₂ ≡ s → o .verdict ≡ v

@@ -16,8 +16,11 @@ use Rattle.dataset_message.specs.declared.header.Header.{Header}
 use Rattle.network_message.specs.declared.envelope.Envelope.{Envelope}
 use Rattle.network_message_writer.specs.Envelope as datagram
 use Rattle.dataset_message_writer.specs.Message as message
-use Rattle.records.specs.Writers.{writersIn, sixteen, idsIn, sizesIn, typesFor}
+use Rattle.listing.specs.Lines.{writers, listingOf}
+use Rattle.listing_text.specs.Text.{linesText, textWritten, textAfter}
+use Rattle.records.specs.Writers.{writersIn, sixteen, idsIn, sizesIn, startsIn, typesIn, typesFor}
 use Rattle.records.specs.Given.{headerIn, envelopeIn}
+use Rattle.uadp_c.specs.Listings.{listingText}
 use Rattle.uadp_c.specs.Writing.{writerResult, datagramResult, datagramBuffer, messageResult, messageBuffer}
 
 -- as many numbers of a configuration record as there are writers: its sizes from 34 on, its ids from 2 on
@@ -73,3 +76,19 @@ datagram-composed c envelope sizes ids out e g r x w p q i a k =
     let v : DatagramEnds g x (sizesIn c) ids out r e = subst (λ (y : List ℕ). DatagramEnds g x y ids out r e) q u in
     let z : DatagramEnds g x (sizesIn c) (idsIn c) out r e = subst (λ (y : List ℕ). DatagramEnds g x (sizesIn c) y out r e) i v in
     subst (λ (y : Envelope). DatagramEnds g y (sizesIn c) (idsIn c) out r e) p z
+
+-- the listing's text under a configuration's parts
+abbrev partsText : List ℕ → List ℕ → List ℕ → List ℕ → List ℕ → List ℕ
+partsText ids sizes starts types d = linesText d (listingOf 0 0 (writers ids sizes starts types) d)
+
+pub listed : (c d ids sizes starts types out e : List ℕ) (w : Written) (r : ℕ) → ids ≡ idsIn c → sizes ≡ sizesIn c → starts ≡ startsIn c → types ≡ typesIn c
+    → (w ≡ textWritten out (partsText ids sizes starts types d)) × (e ≡ textAfter out (partsText ids sizes starts types d))
+    → r ≡ writerResult (answerWritten w)
+    → (r ≡ writerResult (answerWritten (textWritten out (listingText c d)))) × (e ≡ textAfter out (listingText c d))
+listed c d ids sizes starts types out e w r i z s t a h =
+    let same : partsText ids sizes starts types d ≡ listingText c d =
+    ap (λ (x : List ℕ). partsText x sizes starts types d) i ∙ ap (λ (x : List ℕ). partsText (idsIn c) x starts types d) z
+    ∙ ap (λ (x : List ℕ). partsText (idsIn c) (sizesIn c) x types d) s ∙ ap (λ (x : List ℕ). partsText (idsIn c) (sizesIn c) (startsIn c) x d) t in (
+      h ∙ ap (λ (x : Written). writerResult (answerWritten x)) (a .0) ∙ ap (λ (x : List ℕ). writerResult (answerWritten (textWritten out x))) same,
+      a .1 ∙ ap (λ (x : List ℕ). textAfter out x) same,
+    )

@@ -7,17 +7,14 @@ use borrow.Author.Needs.{needs}
 use Rattle.uadp_c.proofs.reassembling.uadp_hand_out.Statement.{statement}
 use Rattle.uadp_c.proofs.reassembling.uadp_hand_out.Tie as tie
 
--- src/reassembling.rt:104:9
 returns : tie.Need-returns
 returns c =
     hand-short (now (c .before .before .before .before .before .args .rec)) _ (judgeHandOut (partialOf (now (c .before .before .before .before .before .args .rec)) (now (c .before .before .before .before .before .args .payload)) (now (c .before .before .before .before .before .args .marks)))) (omega arith) (c .result .ensures)
 
--- src/reassembling.rt:99:1
 returns-2 : tie.Need-returns-2
 returns-2 c =
     hand-ends (now (c .before .before .before .before .before .before .before .before .before .before .args .rec)) (now (c .before .before .before .before .before .before .before .before .before .before .args .payload)) (now (c .before .before .before .before .before .before .before .before .before .before .args .marks)) _ (c .before .before .before .before .before .partial-in .result) _ _ (omega arith) (c .before .before .before .before .before .partial-in .ensures) (c .before .before .before .before .hand-out-verdict .ensures) (c .before .before .number .given .1) (c .result2 .ensures)
 
--- src/reassembling.rt:99:1
 returns-3 : tie.Need-returns-3
 returns-3 c =
     hand-ends (now (c .before .before .before .before .before .before .before .before .before .before .args .rec)) (now (c .before .before .before .before .before .before .before .before .before .before .args .payload)) (now (c .before .before .before .before .before .before .before .before .before .before .args .marks)) _ (c .before .before .before .before .before .partial-in .result) _ _ (omega arith) (c .before .before .before .before .before .partial-in .ensures) (c .before .before .before .before .hand-out-verdict .ensures) (c .before .before .enum-told .given .1) (c .result3 .ensures)

@@ -10,17 +10,14 @@ use borrow.Author.Needs.{needs}
 use Rattle.uadp_c.proofs.reassembling.uadp_take_in.Statement.{statement}
 use Rattle.uadp_c.proofs.reassembling.uadp_take_in.Tie as tie
 
--- src/reassembling.rt:37:9
 returns : tie.Need-returns
 returns c =
     step-short (now (c .before .before .before .before .before .before .before .args .rec)) (now (c .before .before .before .before .before .before .before .args .payload)) (now (c .before .before .before .before .before .before .before .args .marks)) _ (takeIn (partialOf (now (c .before .before .before .before .before .before .before .args .rec)) (now (c .before .before .before .before .before .before .before .args .payload)) (now (c .before .before .before .before .before .before .before .args .marks))) (readingAt (sizesIn (now (c .before .before .before .before .before .before .before .args .config))) (now (c .before .before .before .before .before .before .before .args .datagram)))) (omega arith) (c .result .ensures)
 
--- src/reassembling.rt:32:1
 returns-2 : tie.Need-returns-2
 returns-2 c =
     step-ends (now (c .before .before .before .before .before .before .before .before .before .before .before .before .before .before .before .before .before .before .before .before .before .before .before .args .rec)) (now (c .before .before .before .before .before .before .before .before .before .before .before .before .before .before .before .before .before .before .before .before .before .before .before .args .payload)) (now (c .before .before .before .before .before .before .before .before .before .before .before .before .before .before .before .before .before .before .before .before .before .before .before .args .marks)) _ _ _ _ (c .before .before .before .before .before .before .before .before .take-in .result) _ _ (omega arith) (taken (now (c .before .before .before .before .before .before .before .before .before .before .before .before .before .before .before .before .before .before .before .before .before .before .before .args .config)) (now (c .before .before .before .before .before .before .before .before .before .before .before .before .before .before .before .before .before .before .before .before .before .before .before .args .datagram)) (now (c .before .before .before .before .before .before .before .before .before .before .before .before .before .before .before .before .before .before .before .before .before .before .before .args .rec)) (now (c .before .before .before .before .before .before .before .before .before .before .before .before .before .before .before .before .before .before .before .before .before .before .before .args .payload)) (now (c .before .before .before .before .before .before .before .before .before .before .before .before .before .before .before .before .before .before .before .before .before .before .before .args .marks)) _ _ _ _ _ (c .before .before .before .before .before .before .before .before .before .before .before .before .before .before .before .before .writer-count .ensures .0) (c .before .before .before .before .before .before .before .before .before .before .before .before .before .before .before .sizes .ensures) (c .before .before .before .before .before .before .before .before .before .first .ensures) (c .before .before .before .before .before .before .before .before .before .before .before .before .before .partial-in .ensures) (c .before .before .before .before .before .before .before .before .take-in .ensures)) (c .before .before .verdict .given .1) (c .result2 .ensures) refl
 
--- src/reassembling.rt:32:1
 returns-3 : tie.Need-returns-3
 returns-3 c =
     step-ends (now (c .before .before .before .before .before .before .before .before .before .before .before .before .before .before .before .before .before .before .before .before .before .before .before .before .before .before .before .args .rec)) (now (c .before .before .before .before .before .before .before .before .before .before .before .before .before .before .before .before .before .before .before .before .before .before .before .before .before .before .before .args .payload)) (now (c .before .before .before .before .before .before .before .before .before .before .before .before .before .before .before .before .before .before .before .before .before .before .before .before .before .before .before .args .marks)) _ _ _ _ (c .before .before .before .before .before .before .before .before .before .before .before .before .take-in .result) _ _ (omega arith) (taken (now (c .before .before .before .before .before .before .before .before .before .before .before .before .before .before .before .before .before .before .before .before .before .before .before .before .before .before .before .args .config)) (now (c .before .before .before .before .before .before .before .before .before .before .before .before .before .before .before .before .before .before .before .before .before .before .before .before .before .before .before .args .datagram)) (now (c .before .before .before .before .before .before .before .before .before .before .before .before .before .before .before .before .before .before .before .before .before .before .before .before .before .before .before .args .rec)) (now (c .before .before .before .before .before .before .before .before .before .before .before .before .before .before .before .before .before .before .before .before .before .before .before .before .before .before .before .args .payload)) (now (c .before .before .before .before .before .before .before .before .before .before .before .before .before .before .before .before .before .before .before .before .before .before .before .before .before .before .before .args .marks)) _ _ _ _ _ (c .before .before .before .before .before .before .before .before .before .before .before .before .before .before .before .before .before .before .before .before .writer-count .ensures .0) (c .before .before .before .before .before .before .before .before .before .before .before .before .before .before .before .before .before .before .before .sizes .ensures) (c .before .before .before .before .before .before .before .before .before .before .before .before .before .first .ensures) (c .before .before .before .before .before .before .before .before .before .before .before .before .before .before .before .before .before .partial-in .ensures) (c .before .before .before .before .before .before .before .before .before .before .before .before .take-in .ensures)) (c .before .before .before .before .before .before .enum-told .given .1) (c .result3 .ensures) (c .before .before .before .keep-record .ensures)
