@@ -11,7 +11,8 @@ use Rattle.network_message.specs.declared.payload.Payload.{Payload}
 use Rattle.records.specs.Numbers.{numberBytes}
 use Rattle.records.specs.Message.{has16, value16, hasI64, valueI64, flagNumber}
 use Rattle.records.proofs.Storing.{also, put-same}
-use Rattle.envelope_record.specs.Envelope.{publisherNumber, hasClass, classLow, classHigh, groupItems, groupWriter, groupVersion, groupNumber, groupSequence}
+use Rattle.records.specs.Publisher.{publisherNumber}
+use Rattle.envelope_record.specs.Envelope.{hasClass, classLow, classHigh, groupItems, groupWriter, groupVersion, groupNumber, groupSequence}
 use Rattle.envelope_record.specs.Envelope.{headerCode, headerNumber, hasPromoted, promotedSize, sizesCode, sizesPlace, envelopeNumbers}
 
 pub envelope-put : (v : Envelope) (w : Places) (y : Payload) (l e : List ℕ) (a₁ a₂ a₃ a₄ a₅ a₆ a₇ a₈ a₉ b₁ b₂ b₃ b₄ b₅ b₆ b₇ b₈ b₉ d₁ d₂ d₃ : ℕ)

@@ -6,7 +6,6 @@ use lib.Dec.{eqb}
 use Rattle.wire.specs.declared.optional.Optional16.{Optional16}
 use Rattle.network_message.specs.PublisherRecord.{codeOf}
 use Rattle.network_message.specs.Envelope.{NetworkMessage}
-use Rattle.network_message.specs.declared.publisher.PublisherId.{PublisherId}
 use Rattle.network_message.specs.declared.group.GroupHeader.{GroupHeader}
 use Rattle.network_message.specs.declared.header.ClassId.{ClassId}
 use Rattle.network_message.specs.declared.header.PayloadHeader.{PayloadHeader}
@@ -16,16 +15,8 @@ use Rattle.network_message.specs.declared.payload.Payload.{Payload}
 use Rattle.network_message.specs.declared.payload.MessagePlace.{MessagePlace}
 use Rattle.network_message.specs.declared.payload.MessageCursor.{MessageCursor}
 use Rattle.records.specs.Numbers.{numberAt}
+use Rattle.records.specs.Publisher.{publisherNumber}
 use Rattle.records.specs.Message.{has16, value16, has32, value32, hasI64, valueI64, flagNumber}
-
--- "the PublisherId's number; of a String its length"
-abbrev pub publisherNumber : PublisherId → ℕ
-publisherNumber PublisherId.Absent = 0
-publisherNumber (PublisherId.Byte v) = v
-publisherNumber (PublisherId.UInt16 v) = v
-publisherNumber (PublisherId.UInt32 v) = v
-publisherNumber (PublisherId.UInt64 v) = v
-publisherNumber (PublisherId.Text n) = n
 
 -- "DataSetClassId: 0 absent, else present; its first 8 bytes; its last 8 bytes, each as a number"
 abbrev pub hasClass : ClassId → ℕ

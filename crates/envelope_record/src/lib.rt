@@ -10,7 +10,6 @@ use network_message::payload::MessageCursor;
 use network_message::payload::MessagePlace;
 use network_message::payload::Payload;
 use network_message::payload::Sizes;
-use network_message::publisher::PublisherId;
 use records::message::flag_number;
 use records::message::has_i64;
 use records::message::has16;
@@ -20,42 +19,17 @@ use records::message::value16;
 use records::message::value32;
 use records::numbers::number;
 use records::numbers::put_numbers;
+use records::publisher::publisher_code;
+use records::publisher::publisher_number;
 use wire::optional::Optional16;
 ghost use mathlib.Core.Path.{_≡_};
 ghost use Prim.Native.Nat.{_+_, _*_};
 ghost use Rattle.wire.specs.Store.{laid};
-ghost use Rattle.network_message.specs.PublisherRecord.{codeOf};
 ghost use Rattle.records.specs.Numbers.{numberBytes};
 ghost use Rattle.records.specs.Message.{has16, has32};
-ghost use Rattle.envelope_record.specs.Envelope.{publisherNumber, hasClass, classLow, classHigh, groupItems, groupWriter, groupVersion, groupNumber};
+ghost use Rattle.envelope_record.specs.Envelope.{hasClass, classLow, classHigh, groupItems, groupWriter, groupVersion, groupNumber};
 ghost use Rattle.envelope_record.specs.Envelope.{groupSequence, headerCode, headerNumber, hasPromoted, promotedSize, sizesCode, sizesPlace};
 ghost use Rattle.envelope_record.specs.Envelope.{envelopeNumbers, sizesBy, payloadIn, messagesIn, headerBy, headerIn, writerNumber, placeNumbers};
-
-fn publisher_code(x: PublisherId) -> u64
-    ensures { λ r. ⌜ r ≡ codeOf x ⌝ }
-{
-    match x {
-        PublisherId::Absent => 0,
-        PublisherId::Byte(_) => 1,
-        PublisherId::UInt16(_) => 2,
-        PublisherId::UInt32(_) => 3,
-        PublisherId::UInt64(_) => 4,
-        PublisherId::Text(_) => 5,
-    }
-}
-
-fn publisher_number(x: PublisherId) -> u64
-    ensures { λ r. ⌜ r ≡ publisherNumber x ⌝ }
-{
-    match x {
-        PublisherId::Absent => 0,
-        PublisherId::Byte(v) => v as u64,
-        PublisherId::UInt16(v) => v as u64,
-        PublisherId::UInt32(v) => v as u64,
-        PublisherId::UInt64(v) => v,
-        PublisherId::Text(n) => n as u64,
-    }
-}
 
 fn has_class(x: ClassId) -> u64
     ensures { λ r. ⌜ r ≡ hasClass x ⌝ }

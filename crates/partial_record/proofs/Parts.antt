@@ -15,7 +15,8 @@ use Rattle.reassembly.specs.declared.record.PartialRecord.{PartialRecord}
 use Rattle.records.specs.Numbers.{numberBytes}
 use Rattle.records.specs.Message.{flagNumber}
 use Rattle.records.proofs.Storing.{bytes-length, store-next, also, put-same}
-use Rattle.partial_record.specs.Partial.{publisherNumber, partialBytes}
+use Rattle.records.specs.Publisher.{publisherNumber}
+use Rattle.partial_record.specs.Partial.{partialBytes}
 
 -- its six numbers
 abbrev numbersOf : PartialRecord → List ℕ

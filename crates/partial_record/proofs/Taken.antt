@@ -11,7 +11,8 @@ use Rattle.network_message.specs.declared.publisher_record.PublisherRecord.{Pub
 use Rattle.reassembly.specs.declared.record.Message.{Message}
 use Rattle.reassembly.specs.declared.record.PartialRecord.{PartialRecord}
 use Rattle.records.specs.Numbers.{numberAt}
-use Rattle.partial_record.specs.Partial.{publisherBy, publisherIn, messageIn, partialIn}
+use Rattle.records.specs.Publisher.{publisherBy}
+use Rattle.partial_record.specs.Partial.{publisherIn, messageIn, partialIn}
 
 abbrev pub publisherWith : PublisherId → List ℕ → PublisherRecord
 publisherWith i t = record { id = i; text = t }

@@ -6,33 +6,14 @@ use reassembly::PartialRecord;
 use records::message::flag_number;
 use records::numbers::number;
 use records::numbers::put_numbers;
+use records::publisher::publisher_by;
+use records::publisher::publisher_code;
+use records::publisher::publisher_number;
 use wire::part::part;
 use wire::store::put_run;
 ghost use mathlib.Core.Path.{_≡_};
 ghost use Rattle.wire.specs.Store.{laid};
-ghost use Rattle.network_message.specs.PublisherRecord.{codeOf};
-ghost use Rattle.partial_record.specs.Partial.{publisherBy, publisherNumber, publisherIn, messageIn, partialIn, partialBytes};
-
-fn publisher_by(code: u64, v: u64) -> PublisherId
-    ensures { λ r. ⌜ r ≡ publisherBy code v ⌝ }
-{
-    if code == 1 {
-        return PublisherId::Byte((v % 256) as u8);
-    }
-    if code == 2 {
-        return PublisherId::UInt16((v % 65536) as u16);
-    }
-    if code == 3 {
-        return PublisherId::UInt32((v % 4294967296) as u32);
-    }
-    if code == 4 {
-        return PublisherId::UInt64(v);
-    }
-    if code == 5 {
-        return PublisherId::Text(v as usize);
-    }
-    PublisherId::Absent
-}
+ghost use Rattle.partial_record.specs.Partial.{publisherIn, messageIn, partialIn, partialBytes};
 
 fn publisher_in(s: &[u8]) -> PublisherRecord
     ensures { λ r. ⌜ r ≡ publisherIn (now (s .entry)) ⌝ }
@@ -63,32 +44,6 @@ pub fn partial_in(s: &[u8]) -> PartialRecord
     PartialRecord {
         started: number(s, 0) == 1,
         message,
-    }
-}
-
-fn publisher_code(x: PublisherId) -> u64
-    ensures { λ r. ⌜ r ≡ codeOf x ⌝ }
-{
-    match x {
-        PublisherId::Absent => 0,
-        PublisherId::Byte(_) => 1,
-        PublisherId::UInt16(_) => 2,
-        PublisherId::UInt32(_) => 3,
-        PublisherId::UInt64(_) => 4,
-        PublisherId::Text(_) => 5,
-    }
-}
-
-fn publisher_number(x: PublisherId) -> u64
-    ensures { λ r. ⌜ r ≡ publisherNumber x ⌝ }
-{
-    match x {
-        PublisherId::Absent => 0,
-        PublisherId::Byte(v) => v as u64,
-        PublisherId::UInt16(v) => v as u64,
-        PublisherId::UInt32(v) => v as u64,
-        PublisherId::UInt64(v) => v,
-        PublisherId::Text(n) => n as u64,
     }
 }
 

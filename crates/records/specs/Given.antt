@@ -16,6 +16,7 @@ use Rattle.network_message.specs.declared.header.Promoted.{Promoted}
 use Rattle.network_message.specs.declared.envelope.Envelope.{Envelope}
 use Rattle.dataset_message.specs.declared.flags.Kind.{Kind}
 use Rattle.dataset_message.specs.declared.header.Header.{Header}
+use Rattle.records.specs.Publisher.{publisherBy}
 use Rattle.records.specs.Numbers.{numberAt}
 use Rattle.records.specs.Message.{encodingIn}
 
@@ -57,14 +58,6 @@ headerIn s =
       minor = given32 (among 32 (numberAt s 3)) (numberAt s 9);
     }
 
--- "PublisherId: 0 absent, 1 Byte, 2 UInt16, 3 UInt32, 4 UInt64, 5 String (above 5 counts as absent)"; "the PublisherId's number; of a String its length"
-abbrev pub publisherIn : ℕ → ℕ → PublisherId
-publisherIn kind v =
-    cond (eqb kind 1) (PublisherId.Byte (v % 256))
-    (cond (eqb kind 2) (PublisherId.UInt16 (v % 65536))
-    (cond (eqb kind 3) (PublisherId.UInt32 (v % 4294967296))
-    (cond (eqb kind 4) (PublisherId.UInt64 v) (cond (eqb kind 5) (PublisherId.Text v) PublisherId.Absent))))
-
 -- "DataSetClassId: 0 absent, else present; its first 8 bytes; its last 8 bytes, each as a number"
 abbrev pub classIn : ℕ → ℕ → ℕ → ClassId
 classIn present low high = cond (eqb present 0) ClassId.Absent (ClassId.Is (record { low = low; high = high }))
@@ -94,7 +87,7 @@ promotedIn present size = cond (eqb present 0) Promoted.Absent (Promoted.Size si
 abbrev pub envelopeIn : List ℕ → Envelope
 envelopeIn s =
     record {
-      publisher = publisherIn (numberAt s 0) (numberAt s 1);
+      publisher = publisherBy (numberAt s 0) (numberAt s 1);
       «class_id» = classIn (numberAt s 3) (numberAt s 4) (numberAt s 5);
       group = groupIn s (numberAt s 6);
       chunk = isOn (numberAt s 11);

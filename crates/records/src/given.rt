@@ -1,6 +1,7 @@
 // The records that are read to be written: a message's head and an envelope.
+use crate::message::encoding_in;
 use crate::numbers::number;
-use dataset_message::flags::Encoding;
+use crate::publisher::publisher_by;
 use dataset_message::flags::Kind;
 use dataset_message::header::Header;
 use network_message::envelope::Envelope;
@@ -9,15 +10,13 @@ use network_message::group::GroupHeader;
 use network_message::header::ClassId;
 use network_message::header::PayloadHeader;
 use network_message::header::Promoted;
-use network_message::publisher::PublisherId;
 use wire::Guid;
 use wire::optional::Optional16;
 use wire::optional::Optional32;
 use wire::optional::OptionalI64;
 use wire::signed64;
 ghost use mathlib.Core.Path.{_≡_};
-ghost use Rattle.records.specs.Message.{encodingIn};
-ghost use Rattle.records.specs.Given.{isOn, given16, given32, givenI64, kindIn, headerIn, publisherIn, classIn, groupIn, payloadHeaderIn, promotedIn, envelopeIn};
+ghost use Rattle.records.specs.Given.{isOn, given16, given32, givenI64, kindIn, headerIn, classIn, groupIn, payloadHeaderIn, promotedIn, envelopeIn};
 
 fn is_on(n: u64) -> bool
     ensures { λ r. ⌜ r ≡ isOn n ⌝ }
@@ -52,18 +51,6 @@ fn given_i64(on: bool, v: u64) -> OptionalI64
     OptionalI64::Absent
 }
 
-fn encoding_given(n: u64) -> Encoding
-    ensures { λ r. ⌜ r ≡ encodingIn n ⌝ }
-{
-    if n == 1 {
-        return Encoding::RawData;
-    }
-    if n == 2 {
-        return Encoding::DataValue;
-    }
-    Encoding::Variant
-}
-
 fn kind_in(n: u64) -> Kind
     ensures { λ r. ⌜ r ≡ kindIn n ⌝ }
 {
@@ -84,7 +71,7 @@ pub fn header_in(s: &[u8]) -> Header
     ensures { λ r. ⌜ r ≡ headerIn (now (s .entry)) ⌝ }
 {
     let items = number(s, 3);
-    let encoding = encoding_given(number(s, 1));
+    let encoding = encoding_in(number(s, 1));
     let kind = kind_in(number(s, 2));
     let sequence = given16(items / 1 % 2 == 1, number(s, 4));
     let timestamp = given_i64(items / 2 % 2 == 1, number(s, 5));
@@ -102,27 +89,6 @@ pub fn header_in(s: &[u8]) -> Header
         major,
         minor,
     }
-}
-
-fn publisher_in(kind: u64, v: u64) -> PublisherId
-    ensures { λ r. ⌜ r ≡ publisherIn kind v ⌝ }
-{
-    if kind == 1 {
-        return PublisherId::Byte((v % 256) as u8);
-    }
-    if kind == 2 {
-        return PublisherId::UInt16((v % 65536) as u16);
-    }
-    if kind == 3 {
-        return PublisherId::UInt32((v % 4294967296) as u32);
-    }
-    if kind == 4 {
-        return PublisherId::UInt64(v);
-    }
-    if kind == 5 {
-        return PublisherId::Text(v as usize);
-    }
-    PublisherId::Absent
 }
 
 fn class_in(present: u64, low: u64, high: u64) -> ClassId
@@ -177,7 +143,7 @@ fn promoted_in(present: u64, size: u64) -> Promoted
 pub fn envelope_in(s: &[u8]) -> Envelope
     ensures { λ r. ⌜ r ≡ envelopeIn (now (s .entry)) ⌝ }
 {
-    let publisher = publisher_in(number(s, 0), number(s, 1));
+    let publisher = publisher_by(number(s, 0), number(s, 1));
     let class_id = class_in(number(s, 3), number(s, 4), number(s, 5));
     let group = group_in(s, number(s, 6));
     let payload_header = payload_header_in(number(s, 12), number(s, 13));

@@ -3,5 +3,6 @@
 pub mod given;
 pub mod message;
 pub mod numbers;
+pub mod publisher;
 pub mod result;
 pub mod writers;

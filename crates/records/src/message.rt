@@ -84,7 +84,7 @@ fn encoding_number(e: Encoding) -> u64
     }
 }
 
-fn encoding_in(n: u64) -> Encoding
+pub(crate) fn encoding_in(n: u64) -> Encoding
     ensures { λ r. ⌜ r ≡ encodingIn n ⌝ }
 {
     if n == 1 {

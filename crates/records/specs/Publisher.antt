@@ -1,0 +1,23 @@
+-- A PublisherId in a record (include/uadp.h, "Envelope record" and "Partial record").
+use Prim.Native.Nat.{ℕ, _%_}
+use mathlib.Core.Bool.{cond}
+use lib.Dec.{eqb}
+use Rattle.network_message.specs.declared.publisher.PublisherId.{PublisherId}
+
+-- "PublisherId: 0 absent, 1 Byte, 2 UInt16, 3 UInt32, 4 UInt64, 5 String (above 5 counts as absent)", and its number, "of a String its length";
+-- "of a number that stands for a narrower one the lowest bytes count"
+abbrev pub publisherBy : ℕ → ℕ → PublisherId
+publisherBy code v =
+    cond (eqb code 1) (PublisherId.Byte (v % 256))
+    (cond (eqb code 2) (PublisherId.UInt16 (v % 65536))
+    (cond (eqb code 3) (PublisherId.UInt32 (v % 4294967296))
+    (cond (eqb code 4) (PublisherId.UInt64 v) (cond (eqb code 5) (PublisherId.Text v) PublisherId.Absent))))
+
+-- "the PublisherId's number; of a String its length"
+abbrev pub publisherNumber : PublisherId → ℕ
+publisherNumber PublisherId.Absent = 0
+publisherNumber (PublisherId.Byte v) = v
+publisherNumber (PublisherId.UInt16 v) = v
+publisherNumber (PublisherId.UInt32 v) = v
+publisherNumber (PublisherId.UInt64 v) = v
+publisherNumber (PublisherId.Text n) = n
