@@ -13,7 +13,7 @@ use Rattle.wire.specs.declared.Length.{Length}
 use Rattle.value.specs.Width.{widthOf, fixed}
 use Rattle.value.specs.Plain.{passing, bytes, afterLength, byLength, string, plain, plainValue, plainValues}
 use Rattle.value.specs.Value.{variantRule, scalar, elements, array, variantOf, maskRule, parts, dataValueOf, valueOf, valueAt, rawAt, typeOf, isArray, hasDimensions, taken, measure}
-use Rattle.value.specs.declared.Measure.{Measure}
+use Rattle.value.specs.Value.{Measure}
 use Rattle.value.specs.declared.Shape.{Shape}
 use Rattle.dataset_message.specs.Flags.{flagsOf, flags1Rule, flags2Rule, flags2At, Valid, notValid, valid, flagsAt}
 use Rattle.dataset_message.specs.Header.{bodyAt, afterFlags, headerAt}

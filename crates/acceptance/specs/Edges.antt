@@ -8,7 +8,7 @@ use Rattle.sequence.specs.Newness.{newnessOf}
 use Rattle.sequence.specs.declared.Newness.{Newness}
 use Rattle.sequence.specs.declared.Newness.the-variants.{Newer, OldOrSame, Invalid}
 use Rattle.value.specs.Value.{variantAt, measure}
-use Rattle.value.specs.declared.Measure.{Measure}
+use Rattle.value.specs.Value.{Measure}
 use Rattle.value.specs.declared.Shape.{Shape}
 use Rattle.network_message.specs.declared.publisher.PublisherId.{PublisherId}
 use Rattle.reassembly.specs.Record.{Partial, partial}

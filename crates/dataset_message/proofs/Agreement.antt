@@ -22,7 +22,7 @@ use Rattle.wire.specs.Answer.{Answer, got, refused, item, andThen}
 use Rattle.wire.proofs.Reading.{got-value, got-next, not-got, invert}
 use Rattle.value.specs.Width.{widthOf, fixed}
 use Rattle.value.specs.Value.{rawAt}
-use Rattle.value.specs.declared.Measure.{Measure}
+use Rattle.value.specs.Value.{Measure}
 use Rattle.value.proofs.Values.{value-within}
 
 -- an item that was read lies within the slice

@@ -16,7 +16,7 @@ use Rattle.wire.specs.declared.optional.OptionalI64.{OptionalI64}
 use Rattle.wire.proofs.Reading.{invert, got-next, got-value}
 use Rattle.wire.proofs.Steady.{Steady, Onward, steadily, refusing, cond-onward, onward-steady, pure-steady, item-steady, signed-item-steady, ruled-steady, bind-steady, when-steady}
 use Rattle.wire.proofs.Places.{append, append-refused}
-use Rattle.value.specs.declared.Measure.{Measure}
+use Rattle.value.specs.Value.{Measure}
 use Rattle.value.proofs.Values.{value-steady, raw-steady}
 use Rattle.dataset_message.specs.declared.flags.Encoding.{Encoding}
 use Rattle.dataset_message.specs.declared.flags.Flags.{Flags}

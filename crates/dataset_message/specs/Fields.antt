@@ -6,7 +6,7 @@ use lib.Dec.{leb, ltb, eqb}
 use lib.ListN.{length, getD}
 use Rattle.wire.specs.Answer.{Answer, got, refused, Reader, item, here, whenOn, pure, andThen, _>>=_, _>>_}
 use Rattle.value.specs.Value.{variantAt, dataValueAt, rawAt}
-use Rattle.value.specs.declared.Measure.{Measure}
+use Rattle.value.specs.Value.{Measure}
 use Rattle.dataset_message.specs.declared.flags.Encoding.{Encoding}
 use Rattle.dataset_message.specs.declared.fields.Field.{Field}
 use Rattle.dataset_message.specs.declared.fields.FieldRead.{FieldRead}

@@ -5,14 +5,20 @@ use value::Shape;
 use value::measure_data_value;
 use value::measure_raw;
 use value::measure_variant;
+use value::pass_element;
+use value::pass_variants;
 use wire::Item16;
 use wire::Reached;
 ghost use mathlib.Core.Path.{_≡_};
+ghost use mathlib.Core.Bool.{false};
+ghost use Prim.Native.Nat.{_-_};
 ghost use lib.ListN.{getD};
+ghost use Rattle.wire.specs.Answer.{got, andThen};
 ghost use Rattle.wire.specs.Items.{answerReached};
 ghost use Rattle.value.specs.Value.{answerMeasured};
 ghost use Rattle.dataset_message.specs.Fields.{encodedAt, indexAt, fieldAt, fieldsAt, stepAt, zerosAt, paddingAt};
 ghost use Rattle.dataset_message.specs.Fields.{answerIndex, answerField, answerStep};
+ghost use Rattle.dataset_message.specs.declared.flags.Encoding.{Encoding};
 
 // Where a field stands: its index (a delta's own), type number and shape, and its value's offset and length.
 pub struct Field {
@@ -82,6 +88,33 @@ fn index(s: &[u8], delta: bool, k: usize, at: usize) -> IndexRead
     IndexRead::Is(v as usize, next)
 }
 
+fn located(index: usize, kind: u8, shape: Shape, offset: usize, end: usize) -> FieldRead
+    ensures { λ r. ⌜ answerField r ≡ got (record { index = index; kind = kind; shape = shape; offset = offset; length = end - offset }) end ⌝ }
+{
+    FieldRead::Is(
+        Field {
+            index,
+            kind,
+            shape,
+            offset,
+            length: wire::left(end, offset),
+        },
+        end,
+    )
+}
+
+// A field by its index, its value's offset and what measuring the value answered.
+fn measured(index: usize, offset: usize, m: Measured) -> FieldRead
+    ensures { λ r. ⌜ answerField r ≡ andThen (answerMeasured m) (λ x end. got (record { index = index; kind = x .kind; shape = x .shape; offset = offset; length = end - offset }) end) ⌝ }
+{
+    match m {
+        Measured::Scalar(kind, end) => located(index, kind, Shape::Scalar, offset, end),
+        Measured::NullArray(kind, end) => located(index, kind, Shape::NullArray, offset, end),
+        Measured::Array(kind, end, n) => located(index, kind, Shape::Array(n), offset, end),
+        Measured::Refused(n, place) => FieldRead::Refused(n, place),
+    }
+}
+
 // Field k, which starts at a position.
 pub fn read_field(
     s: &[u8],
@@ -95,22 +128,11 @@ pub fn read_field(
 {
     match index(s, delta, k, at) {
         IndexRead::Refused(n, place) => FieldRead::Refused(n, place),
-        IndexRead::Is(index, offset) => match encoded(s, encoding, types, k, offset) {
-            Measured::Refused(n, place) => FieldRead::Refused(n, place),
-            Measured::Is(m, end) => {
-                let shape = m.shape;
-                FieldRead::Is(
-                    Field {
-                        index,
-                        kind: m.kind,
-                        shape,
-                        offset,
-                        length: wire::left(end, offset),
-                    },
-                    end,
-                )
-            }
-        },
+        IndexRead::Is(index, offset) => measured(
+            index,
+            offset,
+            encoded(s, encoding, types, k, offset),
+        ),
     }
 }
 
@@ -128,7 +150,7 @@ impl Cursor {
             return FieldStep::Refused(10, 0);
         }
         let encoding = self.encoding;
-        match read_field(s, encoding, self.delta, types, k, at) {
+        match read_field(&*s, encoding, self.delta, &*types, k, at) {
             FieldRead::Refused(n, place) => FieldStep::Refused(n, place),
             FieldRead::Is(field, end) => FieldStep::Is(
                 field,
@@ -144,8 +166,8 @@ impl Cursor {
     }
 }
 
-// The first count fields, from the start of the first.
-pub fn pass_fields(
+// The first count fields one after the other, each read as a field.
+fn pass_each(
     s: &[u8],
     encoding: Encoding,
     delta: bool,
@@ -159,7 +181,7 @@ pub fn pass_fields(
     let mut k = 0;
     let mut left = count;
     while 0 < left {
-        match read_field(s, encoding, delta, types, k, p) {
+        match read_field(&*s, encoding, delta, &*types, k, p) {
             FieldRead::Refused(n, place) => {
                 return Reached::Refused(n, place);
             }
@@ -171,6 +193,49 @@ pub fn pass_fields(
         left = left - 1;
     }
     Reached::To(p)
+}
+
+// The first count fields of RawData.
+fn pass_raw(s: &[u8], types: &[u8], count: usize, at: usize) -> Reached
+    ensures { λ r. ⌜ answerReached r ≡ fieldsAt false Encoding.RawData (now (types .entry)) count 0 (now (s .entry)) at ⌝ }
+{
+    let mut p = at;
+    let mut k = 0;
+    let mut left = count;
+    while 0 < left {
+        match pass_element(s, p, type_of(types, k)) {
+            Reached::Refused(n, place) => {
+                return Reached::Refused(n, place);
+            }
+            Reached::To(end) => {
+                p = end;
+            }
+        }
+        k = k + 1;
+        left = left - 1;
+    }
+    Reached::To(p)
+}
+
+// The first count fields, from the start of the first.
+pub fn pass_fields(
+    s: &[u8],
+    encoding: Encoding,
+    delta: bool,
+    types: &[u8],
+    count: usize,
+    at: usize,
+) -> Reached
+    ensures { λ r. ⌜ answerReached r ≡ fieldsAt delta encoding (now (types .entry)) count 0 (now (s .entry)) at ⌝ }
+{
+    if delta {
+        return pass_each(s, encoding, true, types, count, at);
+    }
+    match encoding {
+        Encoding::Variant => pass_variants(s, at, count),
+        Encoding::RawData => pass_raw(s, types, count, at),
+        Encoding::DataValue => pass_each(s, encoding, false, types, count, at),
+    }
 }
 
 // Only zero bytes may remain from a position on.

@@ -86,9 +86,9 @@ fn read_versions(s: &[u8], flags: Flags, at: usize) -> VersionsRead
         Optional16Read::Refused(n, place) => VersionsRead::Refused(n, place),
         Optional16Read::Is(status, at) => match read_optional32(s, flags.major, at) {
             Optional32Read::Refused(n, place) => VersionsRead::Refused(n, place),
-            Optional32Read::Is(major, at) => match read_optional32(s, flags.minor, at) {
+            Optional32Read::Is(at, major) => match read_optional32(s, flags.minor, at) {
                 Optional32Read::Refused(n, place) => VersionsRead::Refused(n, place),
-                Optional32Read::Is(minor, at) => VersionsRead::Is(
+                Optional32Read::Is(at, minor) => VersionsRead::Is(
                     Versions {
                         status,
                         major,

@@ -88,7 +88,14 @@ fn finish(s: &[u8], header: Header, cursor: Cursor, types: &[u8]) -> MessageRead
     ensures { λ r. ⌜ answerMessage r ≡ endAt header cursor (now (types .entry)) (now (s .entry)) ⌝ }
 {
     let encoding = cursor.encoding;
-    match pass_fields(s, encoding, cursor.delta, types, cursor.count, cursor.at) {
+    match pass_fields(
+        &*s,
+        encoding,
+        cursor.delta,
+        &*types,
+        cursor.count,
+        cursor.at,
+    ) {
         Reached::Refused(n, place) => MessageRead::Refused(n, place),
         Reached::To(end) => match padding(s, end) {
             Reached::Refused(n, place) => MessageRead::Refused(n, place),
@@ -136,9 +143,9 @@ fn nth(s: &[u8], cursor: Cursor, types: &[u8], k: usize) -> FieldRead
         return FieldRead::Refused(10, 0);
     }
     let encoding = cursor.encoding;
-    match pass_fields(s, encoding, cursor.delta, types, k, cursor.at) {
+    match pass_fields(&*s, encoding, cursor.delta, &*types, k, cursor.at) {
         Reached::Refused(n, place) => FieldRead::Refused(n, place),
-        Reached::To(at) => read_field(s, encoding, cursor.delta, types, k, at),
+        Reached::To(at) => read_field(&*s, encoding, cursor.delta, &*types, k, at),
     }
 }
 
@@ -146,7 +153,7 @@ fn nth(s: &[u8], cursor: Cursor, types: &[u8], k: usize) -> FieldRead
 pub fn field_place(s: &[u8], types: &[u8], k: usize) -> FieldRead
     ensures { λ r. ⌜ answerField r ≡ fieldPlaceAt (now (types .entry)) k (now (s .entry)) ⌝ }
 {
-    match read(s, types) {
+    match read(&*s, &*types) {
         MessageRead::NotValid => FieldRead::Refused(10, 0),
         MessageRead::Refused(n, place) => FieldRead::Refused(n, place),
         MessageRead::Is(_, cursor, _) => nth(s, cursor, types, k),

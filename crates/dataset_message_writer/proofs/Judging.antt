@@ -14,7 +14,7 @@ use Rattle.wire.specs.Answer.{Answer, got, refused, andThen}
 use Rattle.wire.proofs.Reading.{invert, got-next, not-got}
 use Rattle.wire.proofs.Steady.{Steady}
 use Rattle.wire.proofs.Places.{within-refused}
-use Rattle.value.specs.declared.Measure.{Measure}
+use Rattle.value.specs.Value.{Measure}
 use Rattle.value.proofs.Values.{value-steady, raw-steady}
 use Rattle.writing.specs.Writing.{orElse}
 use Rattle.dataset_message.specs.declared.flags.Encoding.{Encoding}

@@ -51,7 +51,7 @@ fn group_fields(s: &[u8], flags: u8, at: usize) -> GroupRead
         Optional16Read::Refused(n, place) => GroupRead::Refused(n, place),
         Optional16Read::Is(writer_group, at) => match read_optional32(s, flags / 2 % 2 == 1, at) {
             Optional32Read::Refused(n, place) => GroupRead::Refused(n, place),
-            Optional32Read::Is(version, at) => match message_number(s, flags / 4 % 2 == 1, at) {
+            Optional32Read::Is(at, version) => match message_number(s, flags / 4 % 2 == 1, at) {
                 Optional16Read::Refused(n, place) => GroupRead::Refused(n, place),
                 Optional16Read::Is(number, at) => match read_optional16(s, flags / 8 % 2 == 1, at) {
                     Optional16Read::Refused(n, place) => GroupRead::Refused(n, place),

@@ -12,7 +12,7 @@ use lib.ListN.{drop, length, getD, length-append}
 use lib.Seq.{take-all}
 use Rattle.wire.specs.Answer.{got}
 use Rattle.wire.proofs.Facts.{and-left, and-right}
-use Rattle.value.specs.declared.Measure.{Measure}
+use Rattle.value.specs.Value.{Measure}
 use Rattle.writing.specs.Writing.{orElse}
 use Rattle.writing.proofs.Trip.{At, first, second, item-is}
 use Rattle.writing.proofs.Refusals.{both-zero, passed}

@@ -23,7 +23,7 @@ use Rattle.wire.specs.Optional.{optional16, optional32, optionalI64, picosecond
 use Rattle.wire.specs.Answer.{Answer, got, refused, ruled}
 use Rattle.wire.proofs.Places.{placed, alone}
 use Rattle.wire.proofs.Facts.{and-left, and-right}
-use Rattle.value.specs.declared.Measure.{Measure}
+use Rattle.value.specs.Value.{Measure}
 use Rattle.writing.specs.Writing.{optional16Bytes, optional32Bytes, optionalI64Bytes, picosecondsRefusal, byteBytes, on16, on32, onI64}
 use Rattle.writing.proofs.Trip.{At, Reads, first, second, item-is, optional16-is, optional32-is, optionalI64-is, picoseconds-is}
 use Rattle.dataset_message.specs.declared.flags.Encoding.{Encoding}

@@ -14,7 +14,7 @@ use Rattle.wire.specs.Number.{leBytes}
 use Rattle.wire.specs.Answer.{Answer, got, refused}
 use Rattle.wire.proofs.Facts.{and-left, and-right}
 use Rattle.wire.proofs.Places.{after, append-refused, within-refused, movedBy}
-use Rattle.value.specs.declared.Measure.{Measure}
+use Rattle.value.specs.Value.{Measure}
 use Rattle.writing.specs.Writing.{orElse, needed, byteBytes, optional16Bytes, optionalI64Bytes, picosecondsRefusal}
 use Rattle.writing.proofs.Trip.{At, first, second, item-is, optional16-is, optionalI64-is}
 use Rattle.writing.proofs.Refusals.{or-case, number-broken, picoseconds-refuses}

@@ -5,7 +5,7 @@ use mathlib.Core.Bool.{Bool, cond, true, false, not, _&&_, _||_}
 use mathlib.Core.List.{_++_, List, [], _∷_}
 use lib.Dec.{leb, eqb}
 use lib.ListN.{take, drop, length, getD}
-use Rattle.value.specs.declared.Measure.{Measure}
+use Rattle.value.specs.Value.{Measure}
 use Rattle.wire.specs.Answer.{Answer, got, refused}
 use Rattle.dataset_message.specs.declared.flags.Encoding.{Encoding}
 use Rattle.dataset_message.specs.declared.fields.Field.{Field}

@@ -8,13 +8,13 @@ use native.Mathlib.Numerals.{sub-one}
 use native.Mathlib.Omega.{arith}
 use lib.Dec.{eqb}
 use Rattle.wire.specs.Answer.{Answer, got, refused, Reader, andThen, _>>=_, item, ruled, whenOn, each, bit}
-use Rattle.wire.specs.Items.{answer8}
+use Rattle.wire.specs.Items.{answer8, answerReached}
 use Rattle.wire.specs.declared.Item8.{Item8}
-use Rattle.value.specs.Plain.{passing}
-use Rattle.value.specs.Value.{variantRule, maskRule, variantOf, parts, dataValueOf, valueOf, tooDeep, valueAt}
-use Rattle.value.specs.Head.{finish}
-use Rattle.value.specs.declared.Measure.{Measure}
-use Rattle.value.specs.declared.head.Inside.{Inside}
+use Rattle.wire.specs.declared.Reached.{Reached}
+use Rattle.value.specs.Plain.{passing, plain}
+use Rattle.value.specs.Value.{Measure, measure, variantRule, maskRule, scalar, elements, arrayOf, variantOf, parts, dataValueOf, valueOf, tooDeep, valueAt}
+use Rattle.value.specs.Head.{ended, finish}
+use Rattle.value.specs.declared.Shape.{Shape}
 use Rattle.value.specs.declared.head.Head.{Head}
 
 pub or3 : (a b c : Bool) → (a || (b || (c || false))) ≡ ((a || b) || c)
@@ -50,33 +50,61 @@ lowest-each r m s at =
     let e : m ≡ m / 1 = omega arith in
     bit-each r (m % 2) (omega arith) s at ∙ ap (λ (k : ℕ). whenOn (eqb (k % 2) 1) tt (passing r) s at) e
 
+-- what was found is passed over
+pub pass-found : {A : Type 0} (x : Answer (Unit {0})) (m : A) → x ≡ andThen (andThen x (λ a next. got m next)) (λ a next. got tt next)
+pass-found (got tt next) m = refl
+pass-found (refused n place) m = refl
+
+pub pass-after : {A : Type 0} (x : Answer (Unit {0})) (k : ℕ → Answer (Unit {0})) (m : A)
+    → andThen x (λ a next. k next) ≡ andThen (andThen x (λ a next. andThen (k next) (λ b after. got m after))) (λ a next. got tt next)
+pass-after (got tt next) k m = pass-found (k next) m
+pass-after (refused n place) k m = refl
+
+module _ (nested : ℕ → Reader Measure) (s : List ℕ) where
+  -- a value that holds no other ends where its bytes do
+  ended-is : (r : Reached) → finish nested s (ended r) ≡ answerReached r
+  ended-is (Reached.To end) = refl
+  ended-is (Reached.Refused n place) = refl
+
+  pub plain-found : {A : Type 0} (m : A) {x : Answer (Unit {0})} (r : Reached) {h : Head} → answerReached r ≡ x → h ≡ ended r
+      → finish nested s h ≡ andThen (andThen x (λ a next. got m next)) (λ a next. got tt next)
+  plain-found m {x} r e q = ap (finish nested s) q ∙ ended-is r ∙ e ∙ pass-found x m
+
+  -- a scalar that holds one value, an array that holds n
+  pub holds-scalar : (t at : ℕ) → plain t ≡ false → finish nested s (Head.Holds at 1 t 0) ≡ passing (scalar nested t) s at
+  unfolding scalar each parts
+  holds-scalar t at e = rw e (sym (then-none (passing (nested t) s at)) ∙ pass-found (passing (nested t) s at) (measure t Shape.Scalar))
+
+  pub holds-elements : (t n at : ℕ) → plain t ≡ false → finish nested s (Head.Holds at n t 0) ≡ passing (arrayOf nested t n) s at
+  unfolding elements parts
+  holds-elements t n at e = rw e (sym (then-none (each (nested t) n s at)) ∙ pass-found (each (nested t) n s at) (measure t (Shape.Array n)))
+
 -- no byte is there
-pub head-short : (nested : ℕ → Reader Measure) (t : ℕ) (s : List ℕ) (at : ℕ) → item 1 s at ≡ refused 1 at → refused 1 at ≡ valueOf nested t s at
+pub head-short : (nested : ℕ → Reader Measure) (t : ℕ) (s : List ℕ) (at : ℕ) → item 1 s at ≡ refused 1 at → refused 1 at ≡ passing (valueOf nested t) s at
 head-short nested t s at e = go (eqb t 23)
   where
-    go : (b : Bool) → refused 1 at ≡ cond b (ruled 1 maskRule >>= dataValueOf nested) (ruled 1 variantRule >>= variantOf nested) s at
+    go : (b : Bool) → refused 1 at ≡ passing (cond b (ruled 1 maskRule >>= dataValueOf nested) (ruled 1 variantRule >>= variantOf nested)) s at
     go true = rw e
     go false = rw e
 
 -- a value by the levels left
 
-pub no-level : (levels t : ℕ) (s : List ℕ) (at : ℕ) → levels ≡ 0 → tooDeep s at ≡ valueAt levels t s at
+pub no-level : (levels t : ℕ) (s : List ℕ) (at : ℕ) → levels ≡ 0 → passing tooDeep s at ≡ passing (valueAt levels t) s at
 unfolding valueAt
 no-level zero t s at e = refl
 no-level (suc levels) t s at e = absurd (omega arith)
 
-pub by-head : (levels t : ℕ) (s : List ℕ) (at : ℕ) → (levels ≡ 0 → ⊥) → {h g : Head} → finish (valueAt (levels - 1)) s h ≡ valueOf (valueAt (levels - 1)) t s at → h ≡ g
-    → finish (valueAt (levels - 1)) s g ≡ valueAt levels t s at
+pub by-head : (levels t : ℕ) (s : List ℕ) (at : ℕ) → (levels ≡ 0 → ⊥) → {h g : Head}
+    → finish (valueAt (levels - 1)) s h ≡ passing (valueOf (valueAt (levels - 1)) t) s at → h ≡ g → finish (valueAt (levels - 1)) s g ≡ passing (valueAt levels t) s at
 unfolding valueAt
 by-head zero t s at n e q = absurd (n refl)
-by-head (suc levels) t s at n e q = ap (finish (valueAt (suc levels - 1)) s) (sym q) ∙ e ∙ ap (λ (l : ℕ). valueOf (valueAt l) t s at) (sub-one (suc levels))
+by-head (suc levels) t s at n e q = ap (finish (valueAt (suc levels - 1)) s) (sym q) ∙ e ∙ ap (λ (l : ℕ). passing (valueOf (valueAt l) t) s at) (sub-one (suc levels))
 
 -- the values inside are refused, or end at p
 
-pub inside-refused : (nested : ℕ → Reader Measure) (s : List ℕ) (i : Inside) {n place : ℕ} → each (nested (i .inner)) (i .count) s (i .from) ≡ refused n place
-    → refused n place ≡ finish nested s (Head.Holds i)
-inside-refused nested s i e = rw e
+module _ (nested : ℕ → Reader Measure) (s : List ℕ) (from count inner mask : ℕ) where
+  pub inside-refused : {n place : ℕ} → each (nested inner) count s from ≡ refused n place → refused n place ≡ finish nested s (Head.Holds from count inner mask)
+  inside-refused e = rw e
 
-pub inside-ends : (nested : ℕ → Reader Measure) (s : List ℕ) (i : Inside) {p : ℕ} → each (nested (i .inner)) (i .count) s (i .from) ≡ got tt p
-    → {r : Answer (Unit {0})} → r ≡ parts (i .mask) s p → andThen r (λ x next. got (i .found) next) ≡ finish nested s (Head.Holds i)
-inside-ends nested s i e q = rw (e, q)
+  pub inside-ends : {p : ℕ} → each (nested inner) count s from ≡ got tt p → {r : Answer (Unit {0})} → r ≡ parts mask s p → r ≡ finish nested s (Head.Holds from count inner mask)
+  inside-ends e q = rw (e, q)

@@ -1,4 +1,6 @@
 pub mod Widths
 pub mod Heads
+pub mod Passing
+pub mod FirstItems
 pub mod Lengths
 pub mod Values

@@ -1,26 +1,29 @@
--- The rule of a table of widths: at all of its entries, and past them.
+-- The rule of the packed widths: at each type below 20, and past them.
 -- Assumes nothing.
 use mathlib.Core.Path.{_≡_, refl, sym}
 use mathlib.Core.Bool.{Bool, true, false, _&&_, _||_, Bool·beq, and-false}
 use mathlib.Core.List.{List, [], _∷_}
-use Prim.Native.Nat.{ℕ, _<_, _≤_}
+use Prim.Native.Nat.{ℕ, zero, suc, _*_, _/_, _%_, _^_, _<_, _≤_}
 use native.Mathlib.Omega.{arith}
 use borrow.Author.Tests.{ne-eqb, lt-leb, leb-true, leb-false}
 use lib.Dec.{T, eqb, leb, ltb, eqb→eq, leb→le, ltb→lt}
-use lib.ListN.{length, getD}
 use Rattle.value.specs.Width.{among, widthOf}
 use Rattle.value.specs.Plain.{plain}
-use Rattle.wire.proofs.Table.{every, at, below, and-left, and-right}
+use Rattle.wire.proofs.Table.{allBelow, below, and-left, and-right}
 
--- an entry x at the place k is the width of type k, and at most 16
+-- the width that three bits of the number n stand for, as the code computes it
+abbrev packed : ℕ → ℕ → ℕ
+packed n t = 1 * 2 ^ (n / 2 ^ (3 * t) % 8) % 18446744073709551616 / 2
+
+-- it is the width of type t, and at most 16
 unfoldable pub right : ℕ → ℕ → Bool
-right k x = eqb x (widthOf k) && leb x 16
+right n t = eqb (packed n t) (widthOf t) && leb (packed n t) 16
 
-pub entry : (xs : List ℕ) → T (every right 0 xs) → (t : ℕ) → t < length xs → (getD xs t 0 ≡ widthOf t) × (getD xs t 0 ≤ 16)
+pub entry : (n : ℕ) → T (allBelow (right n) 20) → (t : ℕ) → t < 20 → (packed n t ≡ widthOf t) × (packed n t ≤ 16)
 unfolding right
-entry xs r t h =
-    let x : ℕ = getD xs t 0 in
-    let p : T (right t x) = at right xs r t h in
+entry n r t h =
+    let x : ℕ = packed n t in
+    let p : T (right n t) = below (right n) 20 r t h in
     (eqb→eq x (widthOf t) (and-left (eqb x (widthOf t)) (leb x 16) p), leb→le x 16 (and-right (eqb x (widthOf t)) (leb x 16) p))
 
 -- every number of the list is below n
@@ -34,11 +37,11 @@ not-among n t (x ∷ xs) h b =
     let l : x < n = ltb→lt x n (and-left (ltb x n) (lower n xs) b) in
     simp (ne-eqb t x (λ e. omega arith)) (not-among n t xs h (and-right (ltb x n) (lower n xs) b))
 
--- Part 6 has 26 built-in types; no number past them is fixed
-pub past : (t : ℕ) → 26 ≤ t → 0 ≡ widthOf t
+-- no number from 20 on is fixed
+pub past : (t : ℕ) → 20 ≤ t → 0 ≡ widthOf t
 unfolding widthOf
 past t h =
-    let none : (xs : List ℕ) → T (lower 26 xs) → among t xs ≡ false = λ xs. not-among 26 t xs h in
+    let none : (xs : List ℕ) → T (lower 20 xs) → among t xs ≡ false = λ xs. not-among 20 t xs h in
     rw (none (1 ∷ 2 ∷ 3 ∷ []) tt, none (4 ∷ 5 ∷ []) tt, none (6 ∷ 7 ∷ 10 ∷ 19 ∷ []) tt, none (8 ∷ 9 ∷ 11 ∷ 13 ∷ []) tt, none (14 ∷ []) tt)
 
 -- the plain types are 1 to 15 and 19
@@ -55,17 +58,22 @@ beq-same false false h = refl
 beq-same true false h = absurd h
 beq-same false true h = absurd h
 
-above : (t : ℕ) → 26 ≤ t → inRange t ≡ plain t
+above : (t : ℕ) → 20 ≤ t → inRange t ≡ plain t
 unfolding plain
-above t h = simp (lt-leb t 15 (omega arith), ne-eqb t 19 (λ e. omega arith), sym (past t h), not-among 26 t (12 ∷ 15 ∷ []) h tt, and-false)
+above t h = simp (lt-leb t 15 (omega arith), ne-eqb t 19 (λ e. omega arith), sym (past t h), not-among 20 t (12 ∷ 15 ∷ []) h tt, and-false)
 
-inside : (t : ℕ) → t < 26 → T (Bool·beq (inRange t) (plain t))
+inside : (t : ℕ) → t < 20 → T (Bool·beq (inRange t) (plain t))
 unfolding same-plain plain widthOf
-inside t h = below same-plain 26 tt t h
+inside t h = below same-plain 20 tt t h
 
 pub plain-range : (t : ℕ) → inRange t ≡ plain t
-plain-range t = go (leb 26 t) refl
+plain-range t = go (leb 20 t) refl
   where
-    go : (b : Bool) → leb 26 t ≡ b → inRange t ≡ plain t
-    go true e = above t (leb-true 26 t e)
-    go false e = beq-same (inRange t) (plain t) (inside t (leb-false 26 t e))
+    go : (b : Bool) → leb 20 t ≡ b → inRange t ≡ plain t
+    go true e = above t (leb-true 20 t e)
+    go false e = beq-same (inRange t) (plain t) (inside t (leb-false 20 t e))
+
+-- a width that is not 0
+pub positive : (n : ℕ) → (n ≡ 0 → ⊥) → 0 < n
+positive zero h = absurd (h refl)
+positive (suc n) h = omega arith

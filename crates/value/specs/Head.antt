@@ -1,25 +1,50 @@
--- What a value's own items say of it, before the values inside it are read; and how these then finish it.
-use Prim.Native.Nat.{ℕ}
+-- What a value's own items say of it: before the values inside it are passed over, and after.
+use Prim.Native.Nat.{ℕ, _+_, _-_}
 use mathlib.Core.Bool.{cond}
 use mathlib.Core.List.{List}
-use lib.Dec.{eqb}
-use Rattle.wire.specs.Answer.{Answer, got, refused, Reader, andThen, _>>_, pure, each}
-use Rattle.value.specs.Value.{answerMeasured, parts}
-use Rattle.value.specs.declared.Measure.{Measure}
-use Rattle.value.specs.declared.head.Inside.{Inside}
+use lib.Dec.{eqb, leb}
+use lib.ListN.{length, getD}
+use Rattle.wire.specs.Answer.{Answer, got, refused, Reader, andThen, _>>_, item, each}
+use Rattle.wire.specs.Items.{lengthItem}
+use Rattle.wire.specs.declared.Length.{Length}
+use Rattle.wire.specs.declared.Reached.{Reached}
+use Rattle.value.specs.Width.{widthOf}
+use Rattle.value.specs.Value.{Measure, measure, typeOf, isArray, parts}
+use Rattle.value.specs.declared.Shape.{Shape}
 use Rattle.value.specs.declared.head.Head.{Head}
 
--- the values inside, by `nested`, then a DataValue's parts
-abbrev pub inside : (ℕ → Reader Measure) → Inside → Reader Measure
-inside nested i = do
-  each (nested (i .inner)) (i .count)
-  parts (i .mask)
-  pure (i .found)
+-- the head of a value that holds no other
+abbrev pub ended : Reached → Head
+ended (Reached.To end) = Head.To end
+ended (Reached.Refused n place) = Head.Refused n place
 
-abbrev pub finish : (ℕ → Reader Measure) → List ℕ → Head → Answer Measure
-finish nested s (Head.Done m) = answerMeasured m
-finish nested s (Head.Holds i) = inside nested i s (i .from)
+-- how the values inside, by `nested`, and a DataValue's parts finish a value, all passed over
+abbrev pub finish : (ℕ → Reader Measure) → List ℕ → Head → Answer (Unit {0})
+finish nested s (Head.To end) = got tt end
+finish nested s (Head.Refused n place) = refused n place
+finish nested s (Head.Holds from count inner mask) = (each (nested inner) count >> parts mask) s from
 
 -- an item v at `place` is judged by its rule, and k follows
 abbrev pub judged : (ℕ → ℕ) → ℕ → ℕ → (ℕ → Reader Measure) → Reader Measure
 judged rule v place k s at = andThen (cond (eqb (rule v) 0) (got v at) (refused (rule v) place)) (λ x next. k x s next)
+
+-- the position after a Variant that is a scalar of a fixed type and fits; for any other the position itself
+abbrev pub fixedEnd : List ℕ → ℕ → ℕ
+fixedEnd s at =
+    cond (leb (length s) at) at
+    (cond (eqb (widthOf (getD s at 0)) 0) at
+    (cond (leb (length s - at) (widthOf (getD s at 0))) at (at + widthOf (getD s at 0) + 1)))
+
+-- What the first items of a Variant say of it, where it is known to end at `end`: of an array of type t its length, and of any Variant its
+-- first byte.
+abbrev pub byShape : ℕ → ℕ → ℕ → Length → Answer Measure
+byShape end t place Length.Null = got (measure t Shape.NullArray) end
+byShape end t place (Length.Of n) = got (measure t (Shape.Array n)) end
+byShape end t place Length.Negative = refused 5 place
+
+abbrev pub arrayAt : ℕ → ℕ → Reader Measure
+arrayAt end t s at = andThen (lengthItem s at) (λ l next. byShape end t at l)
+
+abbrev pub describedAt : ℕ → Reader Measure
+describedAt end s at =
+    andThen (item 1 s at) (λ b next. cond (isArray b) (arrayAt end (typeOf b) s next) (got (measure (typeOf b) Shape.Scalar) end))

@@ -7,16 +7,23 @@ use Rattle.wire.specs.Answer.{Answer, got, refused, Reader, andThen, _>>=_, _>>
 use Rattle.value.specs.Width.{among, widthOf, fixed}
 use Rattle.value.specs.Plain.{passing, bytes, byLength, plain, plainValue, plainValues}
 use Rattle.value.specs.declared.Shape.{Shape}
-use Rattle.value.specs.declared.Measure.{Measure}
 use Rattle.value.specs.declared.Measured.{Measured}
 
-abbrev pub answerMeasured : Measured → Answer Measure
-answerMeasured (Measured.Is m next) = got m next
-answerMeasured (Measured.Refused n place) = refused n place
+-- what measuring a value finds: its type number and its shape
+pub record Measure : Type 0 where
+  pub kind : ℕ
+  pub shape : Shape
 
 -- a value of type t and of a shape
 abbrev pub measure : ℕ → Shape → Measure
 measure t c = record { kind = t; shape = c }
+
+-- what the code's answer says
+abbrev pub answerMeasured : Measured → Answer Measure
+answerMeasured (Measured.Scalar t next) = got (measure t Shape.Scalar) next
+answerMeasured (Measured.NullArray t next) = got (measure t Shape.NullArray) next
+answerMeasured (Measured.Array t next n) = got (measure t (Shape.Array n)) next
+answerMeasured (Measured.Refused n place) = refused n place
 
 -- "A Variant's first byte: bits 0-5 type, bit 7 array, bit 6 dimensions."
 abbrev pub typeOf : ℕ → ℕ

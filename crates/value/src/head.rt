@@ -1,8 +1,4 @@
-// What a value's own items say, before any value inside it is measured.
-use crate::Measure;
-use crate::Measured;
-use crate::Shape;
-use crate::measured_to;
+// What a value's own items say, before any value inside it is passed over.
 use crate::plain::bytes_at;
 use crate::plain::is_plain;
 use crate::plain::plain_value;
@@ -19,22 +15,16 @@ ghost use mathlib.Core.List.{List};
 ghost use Prim.Native.Nat.{ℕ, _<_};
 ghost use Rattle.wire.specs.Answer.{Reader};
 ghost use Rattle.wire.specs.Items.{answerReached};
-ghost use Rattle.value.specs.Plain.{plainValues};
-ghost use Rattle.value.specs.Value.{taken, variantRule, maskRule, scalar, arrayOf, array, variantOf, dataValueOf, valueOf};
-ghost use Rattle.value.specs.Head.{finish, judged};
+ghost use Rattle.value.specs.Plain.{passing, plainValues};
+ghost use Rattle.value.specs.Value.{Measure, taken, variantRule, maskRule, scalar, arrayOf, array, variantOf, dataValueOf, valueOf};
+ghost use Rattle.value.specs.Head.{ended, finish, judged};
 
-// The values inside a value, one after the other from a position, and the mask of the parts that follow them.
-pub(crate) struct Inside {
-    pub from: usize,
-    pub count: usize,
-    pub inner: u8,
-    pub mask: u8,
-    pub found: Measure,
-}
-
+// Where a value that holds no other ends, its refusal, or what it holds: from where, how many values, their type (23 or 24), and the mask of
+// the parts that follow them. It is flat, with a place at the same offset in each case, so that it stays in registers.
 pub(crate) enum Head {
-    Done(Measured),
-    Holds(Inside),
+    To(usize),
+    Refused(u8, usize),
+    Holds(usize, usize, u8, u8),
 }
 
 // Whether a type is taken at all.
@@ -72,24 +62,24 @@ fn variant_rule(b: u8) -> u8
     4
 }
 
+// The head of a value that holds no other.
+fn done(r: Reached) -> Head
+    ensures { λ h. ⌜ h ≡ ended r ⌝ }
+{
+    match r {
+        Reached::To(end) => Head::To(end),
+        Reached::Refused(number, place) => Head::Refused(number, place),
+    }
+}
+
 // What follows the first byte of a scalar of type t.
 fn scalar_head(s: &[u8], at: usize, t: u8) -> Head
-    ensures { λ h. ⌜ ((nested : ℕ → Reader Measure) → finish nested (now (s .entry)) h ≡ scalar nested t (now (s .entry)) at) ⌝ }
+    ensures { λ h. ⌜ ((nested : ℕ → Reader Measure) → finish nested (now (s .entry)) h ≡ passing (scalar nested t) (now (s .entry)) at) ⌝ }
 {
-    let found = Measure {
-        kind: t,
-        shape: Shape::Scalar,
-    };
     if is_plain(t) {
-        return Head::Done(measured_to(plain_value(s, at, t), found));
+        return done(plain_value(s, at, t));
     }
-    Head::Holds(Inside {
-        from: at,
-        count: 1,
-        inner: t,
-        mask: 0,
-        found,
-    })
+    Head::Holds(at, 1, t, 0)
 }
 
 // n values of a plain type. A count is below 2^31.
@@ -107,61 +97,39 @@ fn plain_values(s: &[u8], at: usize, t: u8, n: usize) -> Reached
 // The n elements of an array of type t.
 fn elements_head(s: &[u8], at: usize, t: u8, n: usize) -> Head
     requires { ⌜ n < 2147483648 ⌝ }
-    ensures { λ h. ⌜ ((nested : ℕ → Reader Measure) → finish nested (now (s .entry)) h ≡ arrayOf nested t n (now (s .entry)) at) ⌝ }
+    ensures { λ h. ⌜ ((nested : ℕ → Reader Measure) → finish nested (now (s .entry)) h ≡ passing (arrayOf nested t n) (now (s .entry)) at) ⌝ }
 {
-    let found = Measure {
-        kind: t,
-        shape: Shape::Array(n),
-    };
     if is_plain(t) {
-        return Head::Done(measured_to(plain_values(s, at, t, n), found));
+        return done(plain_values(s, at, t, n));
     }
-    Head::Holds(Inside {
-        from: at,
-        count: n,
-        inner: t,
-        mask: 0,
-        found,
-    })
+    Head::Holds(at, n, t, 0)
 }
 
 // What follows the first byte of an array of type t.
 fn array_head(s: &[u8], at: usize, t: u8) -> Head
-    ensures { λ h. ⌜ ((nested : ℕ → Reader Measure) → finish nested (now (s .entry)) h ≡ array nested t (now (s .entry)) at) ⌝ }
+    ensures { λ h. ⌜ ((nested : ℕ → Reader Measure) → finish nested (now (s .entry)) h ≡ passing (array nested t) (now (s .entry)) at) ⌝ }
 {
     let ItemLength::Is(l, next) = read_length(s, at) else {
-        return Head::Done(Measured::Refused(1, at));
+        return Head::Refused(1, at);
     };
     match l {
-        Length::Null => Head::Done(Measured::Is(
-            Measure {
-                kind: t,
-                shape: Shape::NullArray,
-            },
-            next,
-        )),
+        Length::Null => Head::To(next),
         Length::Of(n) => elements_head(s, next, t, n),
-        Length::Negative => Head::Done(Measured::Refused(5, at)),
+        Length::Negative => Head::Refused(5, at),
     }
 }
 
 // A Variant whose first byte b stands at `at`, before `next`.
 fn variant_head(s: &[u8], at: usize, next: usize, b: u8) -> Head
-    ensures { λ h. ⌜ ((nested : ℕ → Reader Measure) → finish nested (now (s .entry)) h ≡ judged variantRule b at (variantOf nested) (now (s .entry)) next) ⌝ }
+    ensures { λ h. ⌜ ((nested : ℕ → Reader Measure) → finish nested (now (s .entry)) h ≡ passing (judged variantRule b at (variantOf nested)) (now (s .entry)) next) ⌝ }
 {
     let bad = variant_rule(b);
     if bad != 0 {
-        return Head::Done(Measured::Refused(bad, at));
+        return Head::Refused(bad, at);
     }
     let t = b % 64;
     if t == 0 {
-        return Head::Done(Measured::Is(
-            Measure {
-                kind: 0,
-                shape: Shape::Scalar,
-            },
-            next,
-        ));
+        return Head::To(next);
     }
     if b / 128 % 2 == 1 {
         return array_head(s, next, t);
@@ -171,30 +139,20 @@ fn variant_head(s: &[u8], at: usize, next: usize, b: u8) -> Head
 
 // A DataValue whose mask m stands at `at`, before `next`.
 fn data_value_head(at: usize, next: usize, m: u8) -> Head
-    ensures { λ h. ⌜ ((nested : ℕ → Reader Measure) (s : List ℕ) → finish nested s h ≡ judged maskRule m at (dataValueOf nested) s next) ⌝ }
+    ensures { λ h. ⌜ ((nested : ℕ → Reader Measure) (s : List ℕ) → finish nested s h ≡ passing (judged maskRule m at (dataValueOf nested)) s next) ⌝ }
 {
     if (m / 64 % 2 == 1) | (m / 128 % 2 == 1) {
-        return Head::Done(Measured::Refused(3, at));
+        return Head::Refused(3, at);
     }
-    let found = Measure {
-        kind: 23,
-        shape: Shape::Scalar,
-    };
-    Head::Holds(Inside {
-        from: next,
-        count: (m % 2) as usize,
-        inner: 24,
-        mask: m,
-        found,
-    })
+    Head::Holds(next, (m % 2) as usize, 24, m)
 }
 
 // A DataValue where t is 23, else a Variant.
 pub(crate) fn head_at(s: &[u8], at: usize, t: u8) -> Head
-    ensures { λ h. ⌜ ((nested : ℕ → Reader Measure) → finish nested (now (s .entry)) h ≡ valueOf nested t (now (s .entry)) at) ⌝ }
+    ensures { λ h. ⌜ ((nested : ℕ → Reader Measure) → finish nested (now (s .entry)) h ≡ passing (valueOf nested t) (now (s .entry)) at) ⌝ }
 {
     let Item8::Is(b, next) = read8(s, at) else {
-        return Head::Done(Measured::Refused(1, at));
+        return Head::Refused(1, at);
     };
     if t == 23 {
         return data_value_head(at, next, b);

@@ -7,13 +7,19 @@ use head::Head;
 use head::head_at;
 use plain::bytes_at;
 use width::width;
+use wire::Item8;
+use wire::ItemLength;
+use wire::Length;
 use wire::Reached;
 use wire::has;
+use wire::read_length;
+use wire::read8;
 ghost use mathlib.Core.Path.{_≡_};
-ghost use Rattle.wire.specs.Answer.{got, andThen, whenOn};
+ghost use Rattle.wire.specs.Answer.{andThen, whenOn, each};
 ghost use Rattle.wire.specs.Items.{answerReached};
-ghost use Rattle.value.specs.Plain.{bytes};
+ghost use Rattle.value.specs.Plain.{passing, bytes};
 ghost use Rattle.value.specs.Value.{answerMeasured, parts, tooDeep, valueAt, variantAt, dataValueAt, rawAt};
+ghost use Rattle.value.specs.Head.{fixedEnd, arrayAt, describedAt};
 
 // A scalar, a null array, or an array with its element count.
 pub enum Shape {
@@ -22,15 +28,12 @@ pub enum Shape {
     Array(usize),
 }
 
-// What measuring a value finds: its type number and its shape.
-pub struct Measure {
-    pub kind: u8,
-    pub shape: Shape,
-}
-
-// A measured value and the position after it, or the number and place of its refusal.
+// A measured value: its type number and the position after it, of an array with elements also their count; or the number and place of its
+// refusal. It is flat, so that an answer crosses a call in whole words.
 pub enum Measured {
-    Is(Measure, usize),
+    Scalar(u8, usize),
+    NullArray(u8, usize),
+    Array(u8, usize, usize),
     Refused(u8, usize),
 }
 
@@ -60,53 +63,40 @@ fn parts_at(s: &[u8], at: usize, m: u8) -> Reached
 }
 
 // A value past the last level.
-fn too_deep(s: &[u8], at: usize) -> Measured
-    ensures { λ r. ⌜ answerMeasured r ≡ tooDeep (now (s .entry)) at ⌝ }
+fn too_deep(s: &[u8], at: usize) -> Reached
+    ensures { λ r. ⌜ answerReached r ≡ passing tooDeep (now (s .entry)) at ⌝ }
 {
     if has(s.len(), at, 1) {
-        return Measured::Refused(9, at);
+        return Reached::Refused(9, at);
     }
-    Measured::Refused(1, at)
+    Reached::Refused(1, at)
 }
 
-// What was found, up to where it reaches.
-fn measured_to(r: Reached, found: Measure) -> Measured
-    ensures { λ m. ⌜ answerMeasured m ≡ andThen (answerReached r) (λ x next. got found next) ⌝ }
-{
-    match r {
-        Reached::To(next) => Measured::Is(found, next),
-        Reached::Refused(number, place) => Measured::Refused(number, place),
-    }
-}
-
-// A value at a position with so many levels left: a DataValue where t is 23, else a Variant.
-fn value_at(s: &[u8], at: usize, levels: usize, t: u8) -> Measured
-    ensures { λ r. ⌜ answerMeasured r ≡ valueAt levels t (now (s .entry)) at ⌝ }
+// Passes over a value with so many levels left: a DataValue where t is 23, else a Variant.
+fn pass_value(s: &[u8], at: usize, levels: usize, t: u8) -> Reached
+    ensures { λ r. ⌜ answerReached r ≡ passing (valueAt levels t) (now (s .entry)) at ⌝ }
 {
     if levels == 0 {
         return too_deep(s, at);
     }
-    let h = head_at(s, at, t);
-    match h {
-        Head::Done(m) => m,
-        Head::Holds(i) => {
-            let inner = i.inner;
-            let mut p = i.from;
-            let mut left = i.count;
+    match head_at(s, at, t) {
+        Head::To(end) => Reached::To(end),
+        Head::Refused(number, place) => Reached::Refused(number, place),
+        Head::Holds(from, count, inner, mask) => {
+            let mut p = from;
+            let mut left = count;
             while 0 < left {
-                let m = value_at(s, p, levels - 1, inner);
-                match m {
-                    Measured::Is(_, end) => {
+                match pass_value(&*s, p, levels - 1, inner) {
+                    Reached::To(end) => {
                         p = end;
                         left -= 1;
                     }
-                    Measured::Refused(number, place) => {
-                        return Measured::Refused(number, place);
+                    Reached::Refused(number, place) => {
+                        return Reached::Refused(number, place);
                     }
                 }
             }
-            let found = i.found;
-            measured_to(parts_at(s, p, i.mask), found)
+            parts_at(s, p, mask)
         }
     }
 }
@@ -114,31 +104,122 @@ fn value_at(s: &[u8], at: usize, levels: usize, t: u8) -> Measured
 // The levels of a field's own value and the values inside it.
 const LEVELS: usize = 100;
 
+// The position after a Variant that is a scalar of a fixed type and fits; for any other the position itself.
+fn fixed_end(s: &[u8], at: usize) -> usize
+    ensures { λ r. ⌜ r ≡ fixedEnd (now (s .entry)) at ⌝ }
+{
+    if s.len() <= at {
+        return at;
+    }
+    let w = width(s[at]);
+    if w == 0 {
+        return at;
+    }
+    if s.len() - at <= w {
+        return at;
+    }
+    at + w + 1
+}
+
+// Passes over a Variant; most are scalars of a fixed type.
+fn pass_variant(s: &[u8], at: usize) -> Reached
+    ensures { λ r. ⌜ answerReached r ≡ passing variantAt (now (s .entry)) at ⌝ }
+{
+    let end = fixed_end(s, at);
+    if at < end {
+        return Reached::To(end);
+    }
+    pass_value(&*s, at, LEVELS, 24)
+}
+
+// Passes over n Variants, one after the other.
+pub fn pass_variants(s: &[u8], at: usize, n: usize) -> Reached
+    ensures { λ r. ⌜ answerReached r ≡ each variantAt n (now (s .entry)) at ⌝ }
+{
+    let mut p = at;
+    let mut left = n;
+    while 0 < left {
+        match pass_variant(s, p) {
+            Reached::To(end) => {
+                p = end;
+                left -= 1;
+            }
+            Reached::Refused(number, place) => {
+                return Reached::Refused(number, place);
+            }
+        }
+    }
+    Reached::To(p)
+}
+
+// What the length of an accepted array of type t says of it.
+fn described_array(s: &[u8], at: usize, t: u8, end: usize) -> Measured
+    ensures { λ r. ⌜ answerMeasured r ≡ arrayAt end t (now (s .entry)) at ⌝ }
+{
+    let ItemLength::Is(l, _) = read_length(s, at) else {
+        return Measured::Refused(1, at);
+    };
+    match l {
+        Length::Null => Measured::NullArray(t, end),
+        Length::Of(n) => Measured::Array(t, end, n),
+        Length::Negative => Measured::Refused(5, at),
+    }
+}
+
+// What the first items of an accepted Variant say of it. It ends at `end`.
+fn described(s: &[u8], at: usize, end: usize) -> Measured
+    ensures { λ r. ⌜ answerMeasured r ≡ describedAt end (now (s .entry)) at ⌝ }
+{
+    let Item8::Is(b, next) = read8(s, at) else {
+        return Measured::Refused(1, at);
+    };
+    if b / 128 % 2 == 1 {
+        return described_array(s, next, b % 64, end);
+    }
+    Measured::Scalar(b % 64, end)
+}
+
 // A Variant at a position.
 pub fn measure_variant(s: &[u8], at: usize) -> Measured
     ensures { λ r. ⌜ answerMeasured r ≡ variantAt (now (s .entry)) at ⌝ }
 {
-    value_at(s, at, LEVELS, 24)
+    let end = fixed_end(s, at);
+    if at < end {
+        return Measured::Scalar(s[at], end);
+    }
+    match pass_value(&*s, at, LEVELS, 24) {
+        Reached::Refused(number, place) => Measured::Refused(number, place),
+        Reached::To(end) => described(s, at, end),
+    }
 }
 
 // A DataValue at a position.
 pub fn measure_data_value(s: &[u8], at: usize) -> Measured
     ensures { λ r. ⌜ answerMeasured r ≡ dataValueAt (now (s .entry)) at ⌝ }
 {
-    value_at(s, at, LEVELS, 23)
+    match pass_value(&*s, at, LEVELS, 23) {
+        Reached::Refused(number, place) => Measured::Refused(number, place),
+        Reached::To(end) => Measured::Scalar(23, end),
+    }
+}
+
+// Passes over a fixed-width element of type t, as in RawData. Any other type is 4.
+pub fn pass_element(s: &[u8], at: usize, t: u8) -> Reached
+    ensures { λ r. ⌜ answerReached r ≡ passing (rawAt t) (now (s .entry)) at ⌝ }
+{
+    let w = width(t);
+    if 0 < w {
+        return bytes_at(s, at, w);
+    }
+    Reached::Refused(4, at)
 }
 
 // A fixed-width element of type t at a position, as in RawData. Any other type is 4.
 pub fn measure_raw(s: &[u8], at: usize, t: u8) -> Measured
     ensures { λ r. ⌜ answerMeasured r ≡ rawAt t (now (s .entry)) at ⌝ }
 {
-    let w = width(t);
-    if 0 < w {
-        let found = Measure {
-            kind: t,
-            shape: Shape::Scalar,
-        };
-        return measured_to(bytes_at(s, at, w), found);
+    match pass_element(s, at, t) {
+        Reached::To(end) => Measured::Scalar(t, end),
+        Reached::Refused(number, place) => Measured::Refused(number, place),
     }
-    Measured::Refused(4, at)
 }

@@ -3,7 +3,6 @@
 use libc::STDIN_FILENO;
 use libc::STDOUT_FILENO;
 use value::Measured;
-use value::Shape;
 use value::measure_data_value;
 use value::measure_raw;
 use value::measure_variant;
@@ -61,20 +60,20 @@ fn number(n: usize) {
     io::print_decimal(STDOUT_FILENO, n as u64);
 }
 
-fn show_shape(shape: Shape) {
-    match shape {
-        Shape::Scalar => put(b" -"),
-        Shape::NullArray => put(b" -1"),
-        Shape::Array(n) => number(n),
-    }
+// Type number, element count and end.
+fn show_value(kind: u8, elements: &[u8], end: usize) {
+    number(kind as usize);
+    put(elements);
+    number(end);
 }
 
 fn show(m: Measured) {
     match m {
-        Measured::Is(found, end) => {
-            number(found.kind as usize);
-            let shape = found.shape;
-            show_shape(shape);
+        Measured::Scalar(kind, end) => show_value(kind, b" -", end),
+        Measured::NullArray(kind, end) => show_value(kind, b" -1", end),
+        Measured::Array(kind, end, n) => {
+            number(kind as usize);
+            number(n);
             number(end);
         }
         Measured::Refused(n, place) => {

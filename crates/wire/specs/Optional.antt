@@ -34,7 +34,7 @@ answerOptional16 (Optional16Read.Is v next) = got v next
 answerOptional16 (Optional16Read.Refused n place) = refused n place
 
 abbrev pub answerOptional32 : Optional32Read → Answer Optional32
-answerOptional32 (Optional32Read.Is v next) = got v next
+answerOptional32 (Optional32Read.Is next v) = got v next
 answerOptional32 (Optional32Read.Refused n place) = refused n place
 
 abbrev pub answerOptionalI64 : OptionalI64Read → Answer OptionalI64

@@ -25,8 +25,9 @@ pub enum Optional32 {
     Is(u32),
 }
 
+// The position stands first, where a refusal has its place: no two fields of different widths share bytes, and the answer stays in registers.
 pub enum Optional32Read {
-    Is(Optional32, usize),
+    Is(usize, Optional32),
     Refused(u8, usize),
 }
 
@@ -56,12 +57,12 @@ pub fn read_optional32(s: &[u8], on: bool, at: usize) -> Optional32Read
     ensures { λ r. ⌜ answerOptional32 r ≡ optional32 on (now (s .entry)) at ⌝ }
 {
     if !on {
-        return Optional32Read::Is(Optional32::Absent, at);
+        return Optional32Read::Is(at, Optional32::Absent);
     }
     let Item32::Is(v, next) = read32(s, at) else {
         return Optional32Read::Refused(1, at);
     };
-    Optional32Read::Is(Optional32::Is(v), next)
+    Optional32Read::Is(next, Optional32::Is(v))
 }
 
 // A timestamp, a signed number of 8 bytes.

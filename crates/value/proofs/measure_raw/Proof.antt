@@ -1,20 +1,26 @@
 -- `value::measure_raw` meets its contract.
 -- Assumes nothing.
-use lib.Dec.{ltb}
-use borrow.Author.Tests.{lt-ltb, le-ltb}
-use mathlib.Core.Path.{sym, ap, _∙_}
+use mathlib.Core.Path.{sym}
+use denote.Ref.{now}
 use borrow.Author.Needs.{needs}
+use Rattle.wire.specs.Items.{answerReached}
+use Rattle.wire.proofs.Reading.{told}
+use Rattle.value.specs.Value.{rawAt}
+use Rattle.value.proofs.Passing.{unpassed}
+use Rattle.value.proofs.FirstItems.{raw-is}
 use Rattle.value.proofs.measure_raw.Statement.{statement}
 use Rattle.value.proofs.measure_raw.Tie as tie
 
 returns : tie.Need-returns
 returns c =
-    rw (sym (ap (ltb 0) (c .before .before .before .width .ensures .0)) ∙ lt-ltb _ _ (c .before .before .if1 .taken), sym (c .before .before .before .width .ensures .0), sym (c .before .bytes-at .ensures)) (c .measured-to .ensures)
+    let a = c .before .before .before .before .before .args in
+    sym (raw-is (a .t) (now (a .s)) (a .at) (sym (told answerReached (c .before .before .before .pass-element .ensures) (c .before .end .given .1))))
 
 returns-2 : tie.Need-returns-2
 returns-2 c =
-    rw (sym (ap (ltb 0) (c .before .width .ensures .0)) ∙ le-ltb _ _ (c .if1 .left))
+    let a = c .before .before .before .before .before .args in
+    sym (unpassed (rawAt (a .t) (now (a .s)) (a .at)) (sym (told answerReached (c .before .before .before .pass-element .ensures) (c .before .number .given .1))))
 
 pub measure-raw-spec : {M : Type 1} → statement M
 measure-raw-spec =
-    tie.close (tie.spec (λ c κs. search needs) (λ c κs. search needs) (λ c κs. search needs) returns returns-2)
+    tie.close (tie.spec (λ c κs. search needs) (λ c. search needs) (λ c. search needs) returns returns-2)

@@ -1,51 +1,38 @@
 -- `dataset_message::fields::pass_fields` meets its contract.
 -- Assumes nothing.
-use Prim.Native.Nat.{_+_, _-_}
-use mathlib.Core.Path.{_≡_, refl, sym, _∙_}
-use native.Mathlib.Omega.{arith}
+use mathlib.Core.Path.{_∙_}
 use denote.Ref.{now}
 use borrow.Author.Needs.{needs}
-use Rattle.dataset_message.specs.Fields.{fieldsAt, answerField}
-use Rattle.dataset_message.proofs.Walks.{fields-done, fields-step, fields-stop}
-use Rattle.wire.proofs.Reading.{told}
+use Rattle.dataset_message.proofs.Walks.{fields-variants}
 use Rattle.dataset_message.proofs.fields.pass_fields.Statement.{statement}
 use Rattle.dataset_message.proofs.fields.pass_fields.Tie as tie
 
-abbrev Inv-loop : tie.InvT-loop
-Inv-loop s encoding delta types count at p₀ k₀ left₀ p k left =
-    (fieldsAt delta encoding types count 0 s at ≡ fieldsAt delta encoding types left k s p) × (k + left ≡ count)
+returns : tie.Need-returns
+returns c = rw (c .before .if1 .taken) (c .pass-each .ensures)
 
-abbrev μ-loop : tie.MeasureT-loop
-μ-loop s encoding delta types count at p₀ k₀ left₀ p k left = left
-
-loop-holds : tie.Need-loop-holds Inv-loop μ-loop
-loop-holds c = (refl, omega arith)
-
-returns : tie.Need-returns Inv-loop μ-loop
-returns c =
-    sym (c .before .before .before .before .before .loop .inv .0 ∙ fields-stop (c .before .before .before .before .before .before .before .before .args .delta) (c .before .before .before .before .before .before .before .before .args .encoding) (now (c .before .before .before .before .before .before .before .before .args .types)) (now (c .before .before .before .before .before .before .before .before .args .s)) (c .before .before .before .before .before .loop .left) (c .before .before .before .before .before .loop .k) (c .before .before .before .before .before .loop .p) _ _ (c .before .before .before .before .loop-test .taken) (sym (told answerField (c .before .before .before .read-field .ensures) (c .before .n .given .1))))
-
-loop-again : tie.Need-loop-again Inv-loop μ-loop
-loop-again c =
-    (c .before .before .before .before .before .loop .inv .0 ∙ fields-step (c .before .before .before .before .before .before .before .before .args .delta) (c .before .before .before .before .before .before .before .before .args .encoding) (now (c .before .before .before .before .before .before .before .before .args .types)) (now (c .before .before .before .before .before .before .before .before .args .s)) (c .before .before .before .before .before .loop .left) (c .before .before .before .before .before .loop .k) (c .before .before .before .before .before .loop .p) _ _ (c .before .before .before .before .loop-test .taken) (sym (told answerField (c .before .before .before .read-field .ensures) (c .before .end .given .1))), omega arith)
-
-returns-2 : tie.Need-returns-2 Inv-loop μ-loop
+returns-2 : tie.Need-returns-2
 returns-2 c =
-    sym (c .before .loop .inv .0 ∙ fields-done (c .before .before .before .before .args .delta) (c .before .before .before .before .args .encoding) (now (c .before .before .before .before .args .types)) (now (c .before .before .before .before .args .s)) (c .before .loop .left) (c .before .loop .k) (c .before .loop .p) (c .loop-test .left))
+    let a = c .before .before .before .before .before .before .args in
+    rw (c .before .before .before .if1 .left, c .before .enum-told .given .1) (c .pass-variants .ensures ∙ fields-variants (now (a .types)) (now (a .s)) (a .count) 0 (a .at))
+
+returns-3 : tie.Need-returns-3
+returns-3 c = rw (c .before .before .before .if1 .left, c .before .enum-told2 .given .1) (c .pass-raw .ensures)
+
+returns-4 : tie.Need-returns-4
+returns-4 c = rw (c .before .before .before .if1 .left) (c .pass-each2 .ensures)
 
 pub pass-fields-spec : {M : Type 1} → statement M
 pass-fields-spec =
     tie.close
     (tie.spec
-    Inv-loop
-    μ-loop
-    loop-holds
     (λ c κs. search needs)
-    (λ c. search needs)
     returns
     (λ c. search needs)
+    (λ c κs. search needs)
     (λ c. search needs)
+    (λ c κs. search needs)
     (λ c. search needs)
-    (λ c. search needs)
-    loop-again
-    returns-2)
+    (λ c κs. search needs)
+    returns-2
+    returns-3
+    returns-4)

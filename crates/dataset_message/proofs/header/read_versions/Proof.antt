@@ -18,11 +18,11 @@ returns-2 c =
 
 returns-3 : tie.Need-returns-3
 returns-3 c =
-    rw (sym (told answerOptional16 (c .before .before .before .before .before .before .before .before .before .before .before .read-optional16 .ensures) (c .before .before .before .before .before .before .before .before .before .status .given .1)), sym (told answerOptional32 (c .before .before .before .before .before .before .before .read-optional32 .ensures) (c .before .before .before .before .before .major .given .1)), sym (told answerOptional32 (c .before .before .before .read-optional322 .ensures) (c .before .n3 .given .1)))
+    rw (sym (told answerOptional16 (c .before .before .before .before .before .before .before .before .before .before .before .read-optional16 .ensures) (c .before .before .before .before .before .before .before .before .before .status .given .1)), sym (told answerOptional32 (c .before .before .before .before .before .before .before .read-optional32 .ensures) (c .before .before .before .before .before .at .given .1)), sym (told answerOptional32 (c .before .before .before .read-optional322 .ensures) (c .before .n3 .given .1)))
 
 returns-4 : tie.Need-returns-4
 returns-4 c =
-    rw (sym (told answerOptional16 (c .before .before .before .before .before .before .before .before .before .before .before .read-optional16 .ensures) (c .before .before .before .before .before .before .before .before .before .status .given .1)), sym (told answerOptional32 (c .before .before .before .before .before .before .before .read-optional32 .ensures) (c .before .before .before .before .before .major .given .1)), sym (told answerOptional32 (c .before .before .before .read-optional322 .ensures) (c .before .minor .given .1)))
+    rw (sym (told answerOptional16 (c .before .before .before .before .before .before .before .before .before .before .before .read-optional16 .ensures) (c .before .before .before .before .before .before .before .before .before .status .given .1)), sym (told answerOptional32 (c .before .before .before .before .before .before .before .read-optional32 .ensures) (c .before .before .before .before .before .at .given .1)), sym (told answerOptional32 (c .before .before .before .read-optional322 .ensures) (c .before .at2 .given .1)))
 
 pub read-versions-spec : {M : Type 1} → statement M
 read-versions-spec =

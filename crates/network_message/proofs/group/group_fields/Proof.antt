@@ -17,15 +17,15 @@ returns-2 c =
 
 returns-3 : tie.Need-returns-3
 returns-3 c =
-    rw (sym (told answerOptional16 (c .before .before .before .before .before .before .before .before .before .before .before .read-optional16 .ensures) (c .before .before .before .before .before .before .before .before .before .writer-group .given .1)), sym (told answerOptional32 (c .before .before .before .before .before .before .before .read-optional32 .ensures) (c .before .before .before .before .before .version .given .1)), sym (told answerOptional16 (c .before .before .before .message-number .ensures) (c .before .n3 .given .1)))
+    rw (sym (told answerOptional16 (c .before .before .before .before .before .before .before .before .before .before .before .read-optional16 .ensures) (c .before .before .before .before .before .before .before .before .before .writer-group .given .1)), sym (told answerOptional32 (c .before .before .before .before .before .before .before .read-optional32 .ensures) (c .before .before .before .before .before .at .given .1)), sym (told answerOptional16 (c .before .before .before .message-number .ensures) (c .before .n3 .given .1)))
 
 returns-4 : tie.Need-returns-4
 returns-4 c =
-    rw (sym (told answerOptional16 (c .before .before .before .before .before .before .before .before .before .before .before .before .before .before .before .read-optional16 .ensures) (c .before .before .before .before .before .before .before .before .before .before .before .before .before .writer-group .given .1)), sym (told answerOptional32 (c .before .before .before .before .before .before .before .before .before .before .before .read-optional32 .ensures) (c .before .before .before .before .before .before .before .before .before .version .given .1)), sym (told answerOptional16 (c .before .before .before .before .before .before .before .message-number .ensures) (c .before .before .before .before .before .number .given .1)), sym (told answerOptional16 (c .before .before .before .read-optional162 .ensures) (c .before .n4 .given .1)))
+    rw (sym (told answerOptional16 (c .before .before .before .before .before .before .before .before .before .before .before .before .before .before .before .read-optional16 .ensures) (c .before .before .before .before .before .before .before .before .before .before .before .before .before .writer-group .given .1)), sym (told answerOptional32 (c .before .before .before .before .before .before .before .before .before .before .before .read-optional32 .ensures) (c .before .before .before .before .before .before .before .before .before .at .given .1)), sym (told answerOptional16 (c .before .before .before .before .before .before .before .message-number .ensures) (c .before .before .before .before .before .number .given .1)), sym (told answerOptional16 (c .before .before .before .read-optional162 .ensures) (c .before .n4 .given .1)))
 
 returns-5 : tie.Need-returns-5
 returns-5 c =
-    rw (sym (told answerOptional16 (c .before .before .before .before .before .before .before .before .before .before .before .before .before .before .before .read-optional16 .ensures) (c .before .before .before .before .before .before .before .before .before .before .before .before .before .writer-group .given .1)), sym (told answerOptional32 (c .before .before .before .before .before .before .before .before .before .before .before .read-optional32 .ensures) (c .before .before .before .before .before .before .before .before .before .version .given .1)), sym (told answerOptional16 (c .before .before .before .before .before .before .before .message-number .ensures) (c .before .before .before .before .before .number .given .1)), sym (told answerOptional16 (c .before .before .before .read-optional162 .ensures) (c .before .sequence .given .1)))
+    rw (sym (told answerOptional16 (c .before .before .before .before .before .before .before .before .before .before .before .before .before .before .before .read-optional16 .ensures) (c .before .before .before .before .before .before .before .before .before .before .before .before .before .writer-group .given .1)), sym (told answerOptional32 (c .before .before .before .before .before .before .before .before .before .before .before .read-optional32 .ensures) (c .before .before .before .before .before .before .before .before .before .at .given .1)), sym (told answerOptional16 (c .before .before .before .before .before .before .before .message-number .ensures) (c .before .before .before .before .before .number .given .1)), sym (told answerOptional16 (c .before .before .before .read-optional162 .ensures) (c .before .sequence .given .1)))
 
 pub group-fields-spec : {M : Type 1} → statement M
 group-fields-spec =

@@ -1,6 +1,10 @@
 -- `value::head::data_value_head` meets its contract.
 -- Assumes nothing.
-use Rattle.value.proofs.Heads.{lowest-each}
+use Rattle.wire.specs.Answer.{whenOn, bit}
+use Rattle.value.specs.Plain.{passing}
+use Rattle.value.specs.Value.{measure, parts}
+use Rattle.value.specs.declared.Shape.{Shape}
+use Rattle.value.proofs.Heads.{lowest-each, pass-after}
 use borrow.Author.Needs.{needs}
 use Rattle.value.proofs.head.data_value_head.Statement.{statement}
 use Rattle.value.proofs.head.data_value_head.Tie as tie
@@ -10,7 +14,8 @@ returns c = λ nested s. rw (c .if1 .taken)
 
 returns-2 : tie.Need-returns-2
 returns-2 c =
-    λ nested s. rw (c .if1 .left, lowest-each (nested 24) (c .before .args .m) s (c .before .args .next))
+    let a = c .before .args in
+    λ nested s. rw (c .if1 .left, lowest-each (nested 24) (a .m) s (a .next)) (pass-after (whenOn (bit 1 (a .m)) tt (passing (nested 24)) s (a .next)) (parts (a .m) s) (measure 23 Shape.Scalar))
 
 pub data-value-head-spec : {M : Type 1} → statement M
 data-value-head-spec = tie.close (tie.spec returns (λ c. search needs) returns-2)

@@ -1,6 +1,9 @@
 -- `value::head::elements_head` meets its contract.
 -- Assumes nothing.
-use Rattle.value.specs.Value.{elements, parts}
+use Rattle.value.specs.Value.{measure, elements}
+use Rattle.value.specs.declared.Shape.{Shape}
+use Rattle.value.proofs.Heads.{plain-found, holds-elements}
+use denote.Ref.{now}
 use mathlib.Core.Path.{sym, _∙_}
 use borrow.Author.Needs.{needs}
 use Rattle.value.proofs.head.elements_head.Statement.{statement}
@@ -9,11 +12,13 @@ use Rattle.value.proofs.head.elements_head.Tie as tie
 returns : tie.Need-returns
 unfolding elements
 returns c =
-    λ nested. rw (sym (c .before .before .before .is-plain .ensures) ∙ c .before .before .if1 .taken, sym (c .before .plain-values .ensures)) (c .measured-to .ensures)
+    let a = c .before .before .before .before .before .args in
+    λ nested. rw (sym (c .before .before .before .is-plain .ensures) ∙ c .before .before .if1 .taken) (plain-found nested (now (a .s)) (measure (a .t) (Shape.Array (a .n))) (c .before .plain-values .result) (c .before .plain-values .ensures) (c .done .ensures))
 
 returns-2 : tie.Need-returns-2
-unfolding elements parts
-returns-2 c = λ nested. rw (sym (c .before .is-plain .ensures) ∙ c .if1 .left)
+returns-2 c =
+    let a = c .before .before .before .args in
+    λ nested. holds-elements nested (now (a .s)) (a .t) (a .n) (a .at) (sym (c .before .is-plain .ensures) ∙ c .if1 .left)
 
 pub elements-head-spec : {M : Type 1} → statement M
 elements-head-spec =

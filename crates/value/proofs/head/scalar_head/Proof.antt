@@ -1,7 +1,9 @@
 -- `value::head::scalar_head` meets its contract.
 -- Assumes nothing.
-use Rattle.value.specs.Value.{scalar, parts}
-use Rattle.wire.specs.Answer.{each}
+use Rattle.value.specs.Value.{measure, scalar}
+use Rattle.value.specs.declared.Shape.{Shape}
+use Rattle.value.proofs.Heads.{plain-found, holds-scalar}
+use denote.Ref.{now}
 use mathlib.Core.Path.{sym, _∙_}
 use borrow.Author.Needs.{needs}
 use Rattle.value.proofs.head.scalar_head.Statement.{statement}
@@ -10,11 +12,13 @@ use Rattle.value.proofs.head.scalar_head.Tie as tie
 returns : tie.Need-returns
 unfolding scalar
 returns c =
-    λ nested. rw (sym (c .before .before .before .is-plain .ensures) ∙ c .before .before .if1 .taken, sym (c .before .plain-value .ensures)) (c .measured-to .ensures)
+    let a = c .before .before .before .before .before .args in
+    λ nested. rw (sym (c .before .before .before .is-plain .ensures) ∙ c .before .before .if1 .taken) (plain-found nested (now (a .s)) (measure (a .t) Shape.Scalar) (c .before .plain-value .result) (c .before .plain-value .ensures) (c .done .ensures))
 
 returns-2 : tie.Need-returns-2
-unfolding scalar each parts
-returns-2 c = λ nested. rw (sym (c .before .is-plain .ensures) ∙ c .if1 .left)
+returns-2 c =
+    let a = c .before .before .before .args in
+    λ nested. holds-scalar nested (now (a .s)) (a .t) (a .at) (sym (c .before .is-plain .ensures) ∙ c .if1 .left)
 
 pub scalar-head-spec : {M : Type 1} → statement M
 scalar-head-spec =

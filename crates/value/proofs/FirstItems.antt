@@ -1,0 +1,185 @@
+-- What a Variant's first items tell where it is accepted: of a scalar of a fixed type all; of any other its type number and shape.
+-- Assumes nothing.
+use mathlib.Core.Path.{_≡_, refl, sym, ap, _∙_}
+use mathlib.Core.Bool.{Bool, true, false, cond, not, _&&_, _||_}
+use mathlib.Core.List.{List}
+use Prim.Native.Nat.{ℕ, _+_, _*_, _-_, _<_, _≤_}
+use native.Mathlib.Omega.{arith}
+use borrow.Author.Tests.{leb-true, leb-false, le-leb, ltb-true, lt-ltb, eqb-true, eqb-false}
+use lib.Dec.{T, eqb, leb, ltb, eqb→eq}
+use lib.ListN.{length, getD}
+use Rattle.wire.specs.Answer.{got, refused, Reader, andThen, _>>_, pure, refuse, item, ruled, whenOn, bit}
+use Rattle.wire.specs.Items.{lengthItem}
+use Rattle.wire.specs.declared.Length.{Length}
+use Rattle.wire.proofs.Reading.{got-value, got-next, not-got, invert}
+use Rattle.wire.proofs.Table.{below, and-left, and-right}
+use Rattle.value.specs.Width.{widthOf, fixed}
+use Rattle.value.specs.Plain.{passing, bytes, afterLength, plain, plainValue}
+use Rattle.value.specs.Value.{Measure, measure, typeOf, isArray, hasDimensions, variantRule, maskRule, scalar, elements, arrayOf, array, variantOf, parts, dataValueOf, valueAt, variantAt, dataValueAt, rawAt}
+use Rattle.value.specs.Head.{fixedEnd, byShape, arrayAt, describedAt}
+use Rattle.value.specs.declared.Shape.{Shape}
+use Rattle.value.proofs.Widths.{past, positive}
+use Rattle.value.proofs.Passing.{passed}
+
+-- ---- a scalar of a fixed type
+
+-- a first byte that is a fixed type's number: no rule is broken, and it is no array
+unfoldable fine : ℕ → Bool
+fine b = not (fixed b) || (eqb (variantRule b) 0 && (eqb (typeOf b) b && (not (isArray b) && (not (eqb b 0) && plain b))))
+
+yes : (b : Bool) → T b → b ≡ true
+yes true t = refl
+yes false t = absurd t
+
+no : (b : Bool) → T (not b) → b ≡ false
+no true t = absurd t
+no false t = refl
+
+second : (a b : Bool) → a ≡ true → T (not a || b) → T b
+second true b e t = t
+second false b e t = absurd (let z : _≡_ {A = ℕ} 0 1 = cc in omega arith)
+
+fine-below : (b : ℕ) → b < 20 → T (fine b)
+unfolding fine variantRule plain widthOf
+fine-below b h = below fine 20 tt b h
+
+abbrev FixedFirst : ℕ → Type 0
+FixedFirst b = (variantRule b ≡ 0) × (typeOf b ≡ b) × (isArray b ≡ false) × (eqb b 0 ≡ false) × (plain b ≡ true)
+
+tested : (b : ℕ) → fixed b ≡ true → T (fine b) → FixedFirst b
+unfolding fine
+tested b e t =
+    let t1 = second (fixed b) _ e t in
+    let t2 = and-right (eqb (variantRule b) 0) _ t1 in
+    let t3 = and-right (eqb (typeOf b) b) _ t2 in
+    let t4 = and-right (not (isArray b)) _ t3 in
+    (eqb→eq _ _ (and-left (eqb (variantRule b) 0) _ t1), eqb→eq _ _ (and-left (eqb (typeOf b) b) _ t2), no _ (and-left (not (isArray b)) _ t3), no _ (and-left (not (eqb b 0)) _ t4), yes _ (and-right (not (eqb b 0)) _ t4))
+
+fixed-first : (b : ℕ) → fixed b ≡ true → FixedFirst b
+fixed-first b e = go (leb 20 b) refl
+  where
+    go : (x : Bool) → leb 20 b ≡ x → FixedFirst b
+    go true h =
+        let z : 0 ≡ widthOf b = past b (leb-true 20 b h) in
+        let l : 0 < widthOf b = ltb-true 0 (widthOf b) e in
+        absurd (omega arith)
+    go false h = tested b e (fine-below b (leb-false 20 b h))
+
+-- such a Variant that fits is measured by its width
+fixed-measured : (s : List ℕ) (at : ℕ) → 0 < widthOf (getD s at 0) → at + widthOf (getD s at 0) + 1 ≤ length s
+    → variantAt s at ≡ got (measure (getD s at 0) Shape.Scalar) (at + widthOf (getD s at 0) + 1)
+unfolding valueAt scalar plainValue
+fixed-measured s at f h =
+    let b : ℕ = getD s at 0 in
+    let w : ℕ = widthOf b in
+    let fx : fixed b ≡ true = lt-ltb 0 w f in
+    let first : FixedFirst b = fixed-first b fx in
+    let here : leb (at + 1) (length s) ≡ true = le-leb (at + 1) (length s) (omega arith) in
+    let fits : leb (at + 1 + w) (length s) ≡ true = le-leb (at + 1 + w) (length s) (omega arith) in
+    let byte : b + 256 * 0 ≡ b = omega arith in
+    let end : at + 1 + w ≡ at + w + 1 = omega arith in
+    rw (here, byte, first .0, first .1, first .3, first .2, first .4, fx, fits, end)
+
+pub fixed-variant : (s : List ℕ) (at : ℕ) {e : ℕ} → e ≡ fixedEnd s at → at < e → (at < length s) × (variantAt s at ≡ got (measure (getD s at 0) Shape.Scalar) e)
+fixed-variant s at {e} q l = go (leb (length s) at) refl (eqb (widthOf (getD s at 0)) 0) refl (leb (length s - at) (widthOf (getD s at 0))) refl
+  where
+    w : ℕ
+    w = widthOf (getD s at 0)
+
+    same : e ≡ at → (at < length s) × (variantAt s at ≡ got (measure (getD s at 0) Shape.Scalar) e)
+    same z = absurd (omega arith)
+
+    go : (x : Bool) → leb (length s) at ≡ x → (y : Bool) → eqb w 0 ≡ y → (z : Bool) → leb (length s - at) w ≡ z
+        → (at < length s) × (variantAt s at ≡ got (measure (getD s at 0) Shape.Scalar) e)
+    go true ex y ey z ez = same (q ∙ rw ex)
+    go false ex true ey z ez = same (q ∙ rw (ex, ey))
+    go false ex false ey true ez = same (q ∙ rw (ex, ey, ez))
+    go false ex false ey false ez =
+        let inside : at < length s = leb-false (length s) at ex in
+        let some : w ≡ 0 → ⊥ = eqb-false w 0 ey in
+        let fits : w < length s - at = leb-false (length s - at) w ez in
+        let end : e ≡ at + w + 1 = q ∙ rw (ex, ey, ez) in
+        (inside, fixed-measured s at (positive w some) (omega arith) ∙ ap (got (measure (getD s at 0) Shape.Scalar)) (sym end))
+
+-- ---- any accepted Variant
+
+-- where the type is 0 and no rule is broken, it is no array
+null-scalar : (b : ℕ) → eqb (typeOf b) 0 ≡ true → variantRule b ≡ 0 → isArray b ≡ false
+unfolding variantRule
+null-scalar b e r = go (isArray b) refl (hasDimensions b) refl
+  where
+    go : (x : Bool) → isArray b ≡ x → (y : Bool) → hasDimensions b ≡ y → x ≡ false
+    go false ex y ey = refl
+    go true ex true ey = absurd (let z : 4 ≡ 0 = sym (rw (ex, ey)) ∙ r in omega arith)
+    go true ex false ey = absurd (let z : 3 ≡ 0 = sym (rw (ex, ey, e)) ∙ r in omega arith)
+
+abbrev null : ℕ → Reader Measure
+null t = pure (measure t Shape.NullArray)
+
+module _ (s : List ℕ) (e : ℕ) {m : Measure} where
+  -- the length of an accepted array
+  by-length : (t next : ℕ) → array (valueAt 99) t s next ≡ got m e → got m e ≡ arrayAt e t s next
+  unfolding array
+  by-length t next q = let i = invert (lengthItem s next) (λ l after. afterLength (null t) (arrayOf (valueAt 99) t) next l s after) q in go (i .0) (i .1) (i .2) (i .3)
+    where
+      go : (l : Length) (after : ℕ) → lengthItem s next ≡ got l after → afterLength (null t) (arrayOf (valueAt 99) t) next l s after ≡ got m e → got m e ≡ arrayAt e t s next
+      go Length.Null after h r = rw (h, sym (got-value r))
+      go (Length.Of n) after h r =
+          let j = invert (elements (valueAt 99) t n s after) (λ a last. got (measure t (Shape.Array n)) last) r in
+          rw (h, sym (got-value (j .3)))
+      go Length.Negative after h r = absurd (not-got r)
+
+  -- what follows its first byte
+  by-first : (b next : ℕ) → variantRule b ≡ 0 → variantOf (valueAt 99) b s next ≡ got m e → got m e ≡ cond (isArray b) (arrayAt e (typeOf b) s next) (got (measure (typeOf b) Shape.Scalar) e)
+  unfolding scalar
+  by-first b next r q = go (eqb (typeOf b) 0) refl (isArray b) refl q
+    where
+      go : (x : Bool) → eqb (typeOf b) 0 ≡ x → (y : Bool) → isArray b ≡ y
+          → cond x (λ z p. got (measure 0 Shape.Scalar) p) (cond y (array (valueAt 99) (typeOf b)) (scalar (valueAt 99) (typeOf b))) s next ≡ got m e
+          → got m e ≡ cond y (arrayAt e (typeOf b) s next) (got (measure (typeOf b) Shape.Scalar) e)
+      go true ex true ey h = absurd (let z = sym ey ∙ null-scalar b ex r in let n : _≡_ {A = ℕ} 0 1 = cc in omega arith)
+      go true ex false ey h = rw (sym (got-value h), eqb-true (typeOf b) 0 ex)
+      go false ex true ey h = by-length (typeOf b) next h
+      go false ex false ey h =
+          let j = invert (cond (plain (typeOf b)) (plainValue (typeOf b)) (passing (valueAt 99 (typeOf b))) s next) (λ a last. got (measure (typeOf b) Shape.Scalar) last) h in
+          rw (sym (got-value (j .3)))
+
+-- an item that a rule lets pass
+ruled-got : (rule : ℕ → ℕ) (s : List ℕ) (at : ℕ) {b next : ℕ} → ruled 1 rule s at ≡ got b next → (item 1 s at ≡ got b next) × (rule b ≡ 0)
+ruled-got rule s at q = let i = invert (item 1 s at) (λ v after. cond (eqb (rule v) 0) (got v after) (refused (rule v) at)) q in go (i .0) (i .1) (i .2) (eqb (rule (i .0)) 0) refl (i .3)
+  where
+    go : (v after : ℕ) → item 1 s at ≡ got v after → (x : Bool) → eqb (rule v) 0 ≡ x → {b next : ℕ} → cond x (got v after) (refused (rule v) at) ≡ got b next
+        → (item 1 s at ≡ got b next) × (rule b ≡ 0)
+    go v after h true ex r = (h ∙ r, ap rule (sym (got-value r)) ∙ eqb-true (rule v) 0 ex)
+    go v after h false ex r = absurd (not-got r)
+
+by-item : (s : List ℕ) (at e : ℕ) {b next : ℕ} → item 1 s at ≡ got b next → describedAt e s at ≡ cond (isArray b) (arrayAt e (typeOf b) s next) (got (measure (typeOf b) Shape.Scalar) e)
+by-item s at e h = rw h
+
+pub described-is : (s : List ℕ) (at : ℕ) {e : ℕ} → passing variantAt s at ≡ got tt e → variantAt s at ≡ describedAt e s at
+unfolding valueAt
+described-is s at {e} q =
+    let x = passed (variantAt s at) q in
+    let i = invert (ruled 1 variantRule s at) (λ b next. variantOf (valueAt 99) b s next) (x .1) in
+    let f = ruled-got variantRule s at (i .2) in
+    x .1 ∙ by-first s e (i .0) (i .1) (f .1) (i .3) ∙ sym (by-item s at e (f .0))
+
+-- ---- an accepted DataValue
+
+pub data-value-is : (s : List ℕ) (at : ℕ) {e : ℕ} → passing dataValueAt s at ≡ got tt e → dataValueAt s at ≡ got (measure 23 Shape.Scalar) e
+unfolding valueAt
+data-value-is s at {e} q =
+    let x = passed (dataValueAt s at) q in
+    let i = invert (ruled 1 maskRule s at) (λ b next. dataValueOf (valueAt 99) b s next) (x .1) in
+    let j = invert (whenOn (bit 1 (i .0)) tt (passing (valueAt 99 24)) s (i .1)) (λ a next. andThen (parts (i .0) s next) (λ z last. got (measure 23 Shape.Scalar) last)) (i .3) in
+    let k = invert (parts (i .0) s (j .1)) (λ z last. got (measure 23 Shape.Scalar) last) (j .3) in
+    x .1 ∙ ap (λ (m : Measure). got m e) (sym (got-value (k .3)))
+
+-- ---- an accepted element of RawData
+
+pub raw-is : (t : ℕ) (s : List ℕ) (at : ℕ) {e : ℕ} → passing (rawAt t) s at ≡ got tt e → rawAt t s at ≡ got (measure t Shape.Scalar) e
+raw-is t s at {e} q = let x = passed (rawAt t s at) q in x .1 ∙ go (fixed t) (x .1)
+  where
+    go : (f : Bool) {m : Measure} → cond f (bytes (widthOf t) >> pure (measure t Shape.Scalar)) (refuse 4) s at ≡ got m e → got m e ≡ got (measure t Shape.Scalar) e
+    go true h = let k = invert (bytes (widthOf t) s at) (λ z last. got (measure t Shape.Scalar) last) h in ap (λ (m : Measure). got m e) (sym (got-value (k .3)))
+    go false h = absurd (not-got h)

@@ -1,0 +1,34 @@
+-- `value::described` meets its contract.
+-- Assumes nothing.
+use Rattle.value.proofs.Heads.{told-byte, told-no-byte}
+use borrow.Author.Tests.{eq-eqb, ne-eqb}
+use borrow.Author.Needs.{needs}
+use Rattle.value.proofs.described.Statement.{statement}
+use Rattle.value.proofs.described.Tie as tie
+
+returns : tie.Need-returns
+returns c =
+    let a = c .before .before .before .before .args in
+    rw (told-no-byte (a .at) (c .before .before .read8 .ensures) (c .enum-told .given .1))
+
+returns-2 : tie.Need-returns-2
+returns-2 c =
+    let a = c .before .before .before .before .before .before .before .args in
+    rw (told-byte (a .at) (c .before .before .before .before .before .read8 .ensures) (c .before .before .before .b .given .1), eq-eqb _ _ (c .before .if1 .taken)) (c .described-array .ensures)
+
+returns-3 : tie.Need-returns-3
+returns-3 c =
+    let a = c .before .before .before .before .before .before .args in
+    rw (told-byte (a .at) (c .before .before .before .before .read8 .ensures) (c .before .before .b .given .1), ne-eqb _ _ (c .if1 .left))
+
+pub described-spec : {M : Type 1} → statement M
+described-spec =
+    tie.close
+    (tie.spec
+    (λ c κs. search needs)
+    (λ c. search needs)
+    (λ c. search needs)
+    returns
+    (λ c κs. search needs)
+    returns-2
+    returns-3)

@@ -1,0 +1,26 @@
+-- `value::measure_data_value` meets its contract.
+-- Assumes nothing.
+use mathlib.Core.Path.{sym}
+use denote.Ref.{now}
+use borrow.Author.Needs.{needs}
+use Rattle.wire.specs.Items.{answerReached}
+use Rattle.wire.proofs.Reading.{told}
+use Rattle.value.specs.Value.{dataValueAt}
+use Rattle.value.proofs.Passing.{unpassed}
+use Rattle.value.proofs.FirstItems.{data-value-is}
+use Rattle.value.proofs.measure_data_value.Statement.{statement}
+use Rattle.value.proofs.measure_data_value.Tie as tie
+
+returns : tie.Need-returns
+returns c =
+    let a = c .before .before .before .before .before .args in
+    sym (unpassed (dataValueAt (now (a .s)) (a .at)) (sym (told answerReached (c .before .before .before .pass-value .ensures) (c .before .number .given .1))))
+
+returns-2 : tie.Need-returns-2
+returns-2 c =
+    let a = c .before .before .before .before .before .args in
+    sym (data-value-is (now (a .s)) (a .at) (sym (told answerReached (c .before .before .before .pass-value .ensures) (c .before .end .given .1))))
+
+pub measure-data-value-spec : {M : Type 1} → statement M
+measure-data-value-spec =
+    tie.close (tie.spec (λ c κs. search needs) (λ c. search needs) (λ c. search needs) returns returns-2)

@@ -1,0 +1,49 @@
+-- `value::pass_variants` meets its contract.
+-- Assumes nothing.
+use borrow.Author.Needs.{needs}
+use mathlib.Core.Path.{_≡_, sym, _∙_}
+use Rattle.wire.specs.Answer.{each}
+use Rattle.wire.specs.Items.{answerReached}
+use Rattle.wire.proofs.Each.{each-done}
+use Rattle.wire.proofs.Reading.{told}
+use Rattle.value.specs.Value.{variantAt}
+use Rattle.value.proofs.Passing.{pass-step, pass-stop}
+use Rattle.value.proofs.pass_variants.Statement.{statement}
+use Rattle.value.proofs.pass_variants.Tie as tie
+
+abbrev Inv-loop : tie.InvT-loop
+Inv-loop s at n p₀ left₀ p left = each variantAt n s at ≡ each variantAt left s p
+
+abbrev μ-loop : tie.MeasureT-loop
+μ-loop s at n p₀ left₀ p left = left
+
+loop-again : tie.Need-loop-again Inv-loop μ-loop
+loop-again c =
+    let l = c .before .before .before .before .before .loop in
+    l .inv ∙ pass-step variantAt _ (l .left) (l .p) (c .before .before .before .before .loop-test .taken) (sym (told answerReached (c .before .before .before .pass-variant .ensures) (c .before .end .given .1)))
+
+returns : tie.Need-returns Inv-loop μ-loop
+returns c =
+    let l = c .before .before .before .before .before .loop in
+    sym (l .inv ∙ pass-stop variantAt _ (l .left) (l .p) (c .before .before .before .before .loop-test .taken) (sym (told answerReached (c .before .before .before .pass-variant .ensures) (c .before .number .given .1))))
+
+returns-2 : tie.Need-returns-2 Inv-loop μ-loop
+returns-2 c =
+    let l = c .before .loop in
+    sym (l .inv ∙ each-done variantAt _ (l .left) (l .p) (c .loop-test .left))
+
+pub pass-variants-spec : {M : Type 1} → statement M
+pass-variants-spec =
+    tie.close
+    (tie.spec
+    Inv-loop
+    μ-loop
+    (λ c. search needs)
+    (λ c κs. search needs)
+    (λ c. search needs)
+    (λ c. search needs)
+    (λ c. search needs)
+    loop-again
+    (λ c. search needs)
+    returns
+    returns-2)
