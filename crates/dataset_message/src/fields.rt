@@ -20,13 +20,14 @@ ghost use Rattle.dataset_message.specs.Fields.{encodedAt, indexAt, field
 ghost use Rattle.dataset_message.specs.Fields.{answerIndex, answerField, answerStep};
 ghost use Rattle.dataset_message.specs.declared.flags.Encoding.{Encoding};
 
-// Where a field stands: its index (a delta's own), type number and shape, and its value's offset and length.
+// Where a field stands: its index (a delta's own), type number and shape, and its value's offset and length. Length and offset stand apart,
+// since the two words side by side would be loaded as one right after they were stored, which stalls.
 pub struct Field {
+    pub length: usize,
     pub index: usize,
     pub kind: u8,
     pub shape: Shape,
     pub offset: usize,
-    pub length: usize,
 }
 
 pub enum FieldRead {

@@ -1,4 +1,4 @@
--- The rule of the packed widths: at each type below 20, and past them.
+-- The rule of the widths, in an array and in one number: at all of its entries, and past them.
 -- Assumes nothing.
 use mathlib.Core.Path.{_≡_, refl, sym}
 use mathlib.Core.Bool.{Bool, true, false, _&&_, _||_, Bool·beq, and-false}
@@ -6,25 +6,33 @@ use mathlib.Core.List.{List, [], _∷_}
 use Prim.Native.Nat.{ℕ, zero, suc, _*_, _/_, _%_, _^_, _<_, _≤_}
 use native.Mathlib.Omega.{arith}
 use borrow.Author.Tests.{ne-eqb, lt-leb, leb-true, leb-false}
+use lib.ListN.{length, getD}
 use lib.Dec.{T, eqb, leb, ltb, eqb→eq, leb→le, ltb→lt}
 use Rattle.value.specs.Width.{among, widthOf}
 use Rattle.value.specs.Plain.{plain}
-use Rattle.wire.proofs.Table.{allBelow, below, and-left, and-right}
+use Rattle.wire.proofs.Table.{every, at, allBelow, below, and-left, and-right}
 
--- the width that three bits of the number n stand for, as the code computes it
+-- an entry x at the place k is the width of type k, and at most 16
+unfoldable pub right : ℕ → ℕ → Bool
+right k x = eqb x (widthOf k) && leb x 16
+
+right-at : (k x : ℕ) → T (right k x) → (x ≡ widthOf k) × (x ≤ 16)
+unfolding right
+right-at k x p = (eqb→eq x (widthOf k) (and-left (eqb x (widthOf k)) (leb x 16) p), leb→le x 16 (and-right (eqb x (widthOf k)) (leb x 16) p))
+
+pub entry : (xs : List ℕ) → T (every right 0 xs) → (t : ℕ) → t < length xs → (getD xs t 0 ≡ widthOf t) × (getD xs t 0 ≤ 16)
+entry xs r t h = right-at t (getD xs t 0) (at right xs r t h)
+
+-- the same of the widths in one number n, three bits each, as the code computes them
 abbrev packed : ℕ → ℕ → ℕ
 packed n t = 1 * 2 ^ (n / 2 ^ (3 * t) % 8) % 18446744073709551616 / 2
 
--- it is the width of type t, and at most 16
-unfoldable pub right : ℕ → ℕ → Bool
-right n t = eqb (packed n t) (widthOf t) && leb (packed n t) 16
+unfoldable pub rightly : ℕ → ℕ → Bool
+rightly n t = right t (packed n t)
 
-pub entry : (n : ℕ) → T (allBelow (right n) 20) → (t : ℕ) → t < 20 → (packed n t ≡ widthOf t) × (packed n t ≤ 16)
-unfolding right
-entry n r t h =
-    let x : ℕ = packed n t in
-    let p : T (right n t) = below (right n) 20 r t h in
-    (eqb→eq x (widthOf t) (and-left (eqb x (widthOf t)) (leb x 16) p), leb→le x 16 (and-right (eqb x (widthOf t)) (leb x 16) p))
+pub packed-entry : (n : ℕ) → T (allBelow (rightly n) 20) → (t : ℕ) → t < 20 → (packed n t ≡ widthOf t) × (packed n t ≤ 16)
+unfolding rightly
+packed-entry n r t h = right-at t (packed n t) (below (rightly n) 20 r t h)
 
 -- every number of the list is below n
 abbrev lower : ℕ → List ℕ → Bool

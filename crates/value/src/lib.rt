@@ -6,6 +6,7 @@ pub mod width;
 use head::Head;
 use head::head_at;
 use plain::bytes_at;
+use width::packed_width;
 use width::width;
 use wire::Item8;
 use wire::ItemLength;
@@ -111,7 +112,7 @@ fn fixed_end(s: &[u8], at: usize) -> usize
     if s.len() <= at {
         return at;
     }
-    let w = width(s[at]);
+    let w = packed_width(s[at]);
     if w == 0 {
         return at;
     }
