@@ -7,7 +7,6 @@ use head::Head;
 use head::head_at;
 use plain::bytes_at;
 use width::packed_width;
-use width::width;
 use wire::Item8;
 use wire::ItemLength;
 use wire::Length;
@@ -208,7 +207,7 @@ pub fn measure_data_value(s: &[u8], at: usize) -> Measured
 pub fn pass_element(s: &[u8], at: usize, t: u8) -> Reached
     ensures { λ r. ⌜ answerReached r ≡ passing (rawAt t) (now (s .entry)) at ⌝ }
 {
-    let w = width(t);
+    let w = packed_width(t);
     if 0 < w {
         return bytes_at(s, at, w);
     }

@@ -15,10 +15,10 @@ use Rattle.value.proofs.pass_element.Tie as tie
 returns : tie.Need-returns
 returns c =
     let a = c .before .before .before .before .args in
-    rw (sym (ap (ltb 0) (c .before .before .width .ensures .0)) ∙ lt-ltb _ _ (c .before .if1 .taken), sym (c .before .before .width .ensures .0)) (c .bytes-at .ensures ∙ pass-found (bytes (c .before .before .width .result) (now (a .s)) (a .at)) (measure (a .t) Shape.Scalar))
+    rw (sym (ap (ltb 0) (c .before .before .packed-width .ensures .0)) ∙ lt-ltb _ _ (c .before .if1 .taken), sym (c .before .before .packed-width .ensures .0)) (c .bytes-at .ensures ∙ pass-found (bytes (c .before .before .packed-width .result) (now (a .s)) (a .at)) (measure (a .t) Shape.Scalar))
 
 returns-2 : tie.Need-returns-2
-returns-2 c = rw (sym (ap (ltb 0) (c .before .width .ensures .0)) ∙ le-ltb _ _ (c .if1 .left))
+returns-2 c = rw (sym (ap (ltb 0) (c .before .packed-width .ensures .0)) ∙ le-ltb _ _ (c .if1 .left))
 
 pub pass-element-spec : {M : Type 1} → statement M
 pass-element-spec = tie.close (tie.spec (λ c κs. search needs) (λ c κs. search needs) returns returns-2)
