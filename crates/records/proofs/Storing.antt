@@ -45,11 +45,11 @@ pub all-stored : (w : ℕ) (xs l r : List ℕ) (i at : ℕ) → length xs ≤ i 
 all-stored w xs l r i at h v = ap (λ (y : List ℕ). sets l at (bytesOf w y)) (sym (drop-of-length-le xs h)) ∙ v
 
 -- numbers that fit, and numbers that do not
-pub put-fits : (xs l e : List ℕ) → 8 * length xs ≤ length l → e ≡ sets l 0 (numberBytes xs) → e ≡ laid l 0 (numberBytes xs)
-put-fits xs l e h q = rw (le-leb (0 + length (numberBytes xs)) (length l) (omega (arith, bytes-length xs))) q
+pub put-fits : (xs l e : List ℕ) (at : ℕ) → at + 8 * length xs ≤ length l → e ≡ sets l at (numberBytes xs) → e ≡ laid l at (numberBytes xs)
+put-fits xs l e at h q = rw (le-leb (at + length (numberBytes xs)) (length l) (omega (arith, bytes-length xs))) q
 
-pub put-none : (xs l : List ℕ) → length l < 8 * length xs → l ≡ laid l 0 (numberBytes xs)
-put-none xs l h = rw (lt-leb (0 + length (numberBytes xs)) (length l) (omega (arith, bytes-length xs)))
+pub put-none : (xs l : List ℕ) (at : ℕ) → length l < at + 8 * length xs → l ≡ laid l at (numberBytes xs)
+put-none xs l at h = rw (lt-leb (at + length (numberBytes xs)) (length l) (omega (arith, bytes-length xs)))
 
 -- bytes stored after others that were stored from the start
 pub store-next : (l e f x y : List ℕ) (at : ℕ) → at ≡ length x → at + length y ≤ length l → e ≡ sets l 0 x → f ≡ laid e at y → f ≡ sets l 0 (x ++ y)
