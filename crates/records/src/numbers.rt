@@ -7,11 +7,11 @@ ghost use lib.Seq.{sets};
 ghost use Rattle.wire.specs.Store.{laid};
 ghost use Rattle.records.specs.Numbers.{numberAt, numberBytes};
 
-// Number i of a record, 0 where it does not fit.
+// Number i of a record, 0 where it does not fit. The test is for 8 * i alone, and goes where i is a constant.
 pub fn number(s: &[u8], i: usize) -> u64
     ensures { λ r. ⌜ r ≡ numberAt (now (s .entry)) i ⌝ }
 {
-    if s.len() / 8 <= i {
+    if 2305843009213693951 < i {
         return 0;
     }
     match wire::read64(s, 8 * i) {
