@@ -5,9 +5,6 @@ use denote.Ref.{now}
 use borrow.Author.Needs.{needs}
 use Rattle.records.proofs.numbers.put_numbers_from.Statement.{statement}
 use Rattle.records.proofs.numbers.put_numbers_from.Tie as tie
-use Rattle.records.proofs.numbers.put_numbers_from.Reads as reads
-use Rattle.records.proofs.numbers.put_numbers_from.Lts as lts
-use Rattle.records.proofs.numbers.store.Reads as store-reads
 
 -- src/numbers.rt:42:9
 returns : tie.Need-returns
@@ -19,18 +16,6 @@ returns-2 : tie.Need-returns-2
 returns-2 c =
     put-none (now (c .before .before .before .before .args .numbers)) (now (c .before .before .before .before .args .out)) (8 * c .before .before .before .before .args .i) (omega arith)
 
--- src/numbers.rt:47:16
-mul-store : tie.Need-mul-store
-mul-store c = search needs
-
--- src/numbers.rt:47:5
-store-requires : tie.Need-store-requires
-store-requires c κs = search needs
-
--- src/numbers.rt:37:1
-same-length : tie.Need-same-length
-same-length c = search needs
-
 -- src/numbers.rt:37:1
 returns-3 : tie.Need-returns-3
 returns-3 c =
@@ -38,4 +23,4 @@ returns-3 c =
 
 pub put-numbers-from-spec : {M : Type 1} → statement M
 put-numbers-from-spec =
-    tie.close (tie.spec returns returns-2 mul-store store-requires same-length returns-3)
+    tie.close (tie.spec returns returns-2 (λ c. search needs) (λ c κs. search needs) (λ c. search needs) returns-3)

@@ -8,9 +8,6 @@ use Prim.Native.Nat.{_≤_, _*_, _-_, _+_}
 use denote.Ref.{now}
 use Rattle.records.proofs.writers.find_id.Statement.{statement}
 use Rattle.records.proofs.writers.find_id.Tie as tie
-use Rattle.records.proofs.writers.find_id.Reads as reads
-use Rattle.records.proofs.writers.find_id.Lts as lts
-use Rattle.records.proofs.writers.number16.Reads as number16-reads
 
 abbrev Inv-loop : tie.InvT-loop
 Inv-loop config n id k₀ p₀ k p =
@@ -24,26 +21,10 @@ loop-holds : tie.Need-loop-holds Inv-loop μ-loop
 loop-holds c =
     (omega arith, (omega arith, find-start (c .before .args .n) (now (c .before .args .config)) 2 (c .before .args .id)))
 
--- src/writers.rt:117:12
-number16-requires : tie.Need-number16-requires Inv-loop μ-loop
-number16-requires c κs = search needs
-
 -- src/writers.rt:118:13
 returns : tie.Need-returns Inv-loop μ-loop
 returns c =
     find-here (c .before .before .before .before .before .args .n - c .before .before .before .loop .k) (c .before .before .before .before .before .args .n - (c .before .before .before .loop .k + 1)) _ _ _ _ _ _ (omega arith) (c .before .number16 .ensures) (c .before .before .before .loop .inv .1 .1) (c .if1 .taken)
-
--- src/writers.rt:120:9
-add-p : tie.Need-add-p Inv-loop μ-loop
-add-p c = search needs
-
--- src/writers.rt:121:9
-add-k : tie.Need-add-k Inv-loop μ-loop
-add-k c = search needs
-
--- src/writers.rt:116:5
-loop-less : tie.Need-loop-less Inv-loop μ-loop
-loop-less c = search needs
 
 -- src/writers.rt:116:5
 loop-again : tie.Need-loop-again Inv-loop μ-loop
@@ -62,10 +43,10 @@ find-id-spec =
     Inv-loop
     μ-loop
     loop-holds
-    number16-requires
+    (λ c κs. search needs)
     returns
-    add-p
-    add-k
-    loop-less
+    (λ c. search needs)
+    (λ c. search needs)
+    (λ c. search needs)
     loop-again
     returns-2)
