@@ -85,19 +85,21 @@ sizesPlace Sizes.Rest = 0
 sizesPlace (Sizes.Listed p) = p
 sizesPlace Sizes.Configured = 0
 
--- the 28 numbers of an envelope, its cursor before the first message: 14 up to the PayloadHeader, 14 after it
+-- the first 14 numbers of an envelope: PublisherId, DataSetClassId, group header, chunk, PayloadHeader
 abbrev pub startNumbers : Envelope → Places → List ℕ
 startNumbers e w =
     codeOf (e .publisher) ∷ publisherNumber (e .publisher) ∷ w .«publisher_end» ∷ hasClass (e .«class_id») ∷ classLow (e .«class_id»)
     ∷ classHigh (e .«class_id») ∷ groupItems (e .group) ∷ groupWriter (e .group) ∷ groupVersion (e .group) ∷ groupNumber (e .group)
     ∷ groupSequence (e .group) ∷ flagNumber (e .chunk) ∷ headerCode (e .«payload_header») ∷ headerNumber (e .«payload_header») ∷ []
 
+-- the other 14: the PayloadHeader's end, times, promoted fields, the payload; the cursor stands before the first message
 abbrev pub restNumbers : Envelope → Places → Payload → List ℕ
 restNumbers e w p =
     w .«payload_header_end» ∷ hasI64 (e .timestamp) ∷ valueI64 (e .timestamp) ∷ has16 (e .picoseconds) ∷ value16 (e .picoseconds)
     ∷ hasPromoted (e .promoted) ∷ promotedSize (e .promoted) ∷ w .payload ∷ p .count ∷ sizesCode (p .sizes) ∷ sizesPlace (p .sizes) ∷ p .first ∷ 0
     ∷ p .first ∷ []
 
+-- the 28 numbers of an envelope
 abbrev pub envelopeNumbers : NetworkMessage → List ℕ
 envelopeNumbers m = startNumbers (m .envelope) (m .places) ++ restNumbers (m .envelope) (m .places) (m .payload)
 

@@ -184,7 +184,7 @@ fn sizes_place(x: Sizes) -> u64
     }
 }
 
-// The first half of an envelope record's numbers, up to the PayloadHeader.
+// Stores the first half of an envelope record.
 fn put_start(out: &mut [u8], e: Envelope, places: Places)
     ensures { λ _. ⌜ now (out .exit) ≡ laid (now (out .entry)) 0 (numberBytes (startNumbers e places)) ⌝ }
 {
@@ -211,7 +211,7 @@ fn put_start(out: &mut [u8], e: Envelope, places: Places)
     put_numbers(out, &numbers);
 }
 
-// The second half; the cursor stands before the first message.
+// Stores the second half, with the cursor before the first message.
 fn put_rest(out: &mut [u8], e: Envelope, places: Places, payload: Payload)
     ensures { λ _. ⌜ now (out .exit) ≡ laid (now (out .entry)) 112 (numberBytes (restNumbers e places payload)) ⌝ }
 {

@@ -7,7 +7,7 @@ ghost use lib.Seq.{sets};
 ghost use Rattle.wire.specs.Store.{laid};
 ghost use Rattle.records.specs.Numbers.{numberAt, numberBytes};
 
-// Number i of a record, 0 where it does not fit. The test is for 8 * i alone, and goes where i is a constant.
+// Number i of a record, 0 where it does not fit. The test keeps 8 * i in range; for a constant i it costs nothing.
 pub fn number(s: &[u8], i: usize) -> u64
     ensures { λ r. ⌜ r ≡ numberAt (now (s .entry)) i ⌝ }
 {

@@ -58,7 +58,7 @@ fn number16(s: &[u8], at: usize) -> u16
     s[at] as u16 + 256 * (s[at + 1] as u16)
 }
 
-// All 16 numbers, by a loop without exits: it is compiled to one copy.
+// 16 numbers of 2 bytes from a position on; without a test of its own the loop is compiled to one copy.
 fn list16(s: &[u8], at: usize) -> [u16; 16]
     requires { ⌜ at + 32 ≤ length (now s) ⌝ }
     ensures { λ r. ⌜ r ≡ listed 16 (now (s .entry)) at ⌝ }
