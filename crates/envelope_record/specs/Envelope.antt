@@ -1,11 +1,13 @@
 -- The records of an envelope and of a message's place (include/uadp.h).
 use Prim.Native.Nat.{ℕ, _+_, _*_, _%_}
 use mathlib.Core.Bool.{cond}
-use mathlib.Core.List.{List, [], _∷_}
+use mathlib.Core.List.{List, [], _∷_, _++_}
 use lib.Dec.{eqb}
 use Rattle.wire.specs.declared.optional.Optional16.{Optional16}
 use Rattle.network_message.specs.PublisherRecord.{codeOf}
 use Rattle.network_message.specs.Envelope.{NetworkMessage}
+use Rattle.network_message.specs.declared.envelope.Envelope.{Envelope}
+use Rattle.network_message.specs.declared.envelope.Places.{Places}
 use Rattle.network_message.specs.declared.group.GroupHeader.{GroupHeader}
 use Rattle.network_message.specs.declared.header.ClassId.{ClassId}
 use Rattle.network_message.specs.declared.header.PayloadHeader.{PayloadHeader}
@@ -83,17 +85,23 @@ sizesPlace Sizes.Rest = 0
 sizesPlace (Sizes.Listed p) = p
 sizesPlace Sizes.Configured = 0
 
--- the 28 numbers of an envelope; its cursor stands before the first message
+-- the first 14 numbers of an envelope: PublisherId, DataSetClassId, group header, chunk, PayloadHeader
+abbrev pub startNumbers : Envelope → Places → List ℕ
+startNumbers e w =
+    codeOf (e .publisher) ∷ publisherNumber (e .publisher) ∷ w .«publisher_end» ∷ hasClass (e .«class_id») ∷ classLow (e .«class_id»)
+    ∷ classHigh (e .«class_id») ∷ groupItems (e .group) ∷ groupWriter (e .group) ∷ groupVersion (e .group) ∷ groupNumber (e .group)
+    ∷ groupSequence (e .group) ∷ flagNumber (e .chunk) ∷ headerCode (e .«payload_header») ∷ headerNumber (e .«payload_header») ∷ []
+
+-- the other 14: the PayloadHeader's end, times, promoted fields, the payload; the cursor stands before the first message
+abbrev pub restNumbers : Envelope → Places → Payload → List ℕ
+restNumbers e w p =
+    w .«payload_header_end» ∷ hasI64 (e .timestamp) ∷ valueI64 (e .timestamp) ∷ has16 (e .picoseconds) ∷ value16 (e .picoseconds)
+    ∷ hasPromoted (e .promoted) ∷ promotedSize (e .promoted) ∷ w .payload ∷ p .count ∷ sizesCode (p .sizes) ∷ sizesPlace (p .sizes) ∷ p .first ∷ 0
+    ∷ p .first ∷ []
+
+-- the 28 numbers of an envelope
 abbrev pub envelopeNumbers : NetworkMessage → List ℕ
-envelopeNumbers m =
-    codeOf (m .envelope .publisher) ∷ publisherNumber (m .envelope .publisher) ∷ m .places .«publisher_end»
-    ∷ hasClass (m .envelope .«class_id») ∷ classLow (m .envelope .«class_id») ∷ classHigh (m .envelope .«class_id»)
-    ∷ groupItems (m .envelope .group) ∷ groupWriter (m .envelope .group) ∷ groupVersion (m .envelope .group) ∷ groupNumber (m .envelope .group)
-    ∷ groupSequence (m .envelope .group) ∷ flagNumber (m .envelope .chunk) ∷ headerCode (m .envelope .«payload_header»)
-    ∷ headerNumber (m .envelope .«payload_header») ∷ m .places .«payload_header_end» ∷ hasI64 (m .envelope .timestamp)
-    ∷ valueI64 (m .envelope .timestamp) ∷ has16 (m .envelope .picoseconds) ∷ value16 (m .envelope .picoseconds)
-    ∷ hasPromoted (m .envelope .promoted) ∷ promotedSize (m .envelope .promoted) ∷ m .places .payload ∷ m .payload .count
-    ∷ sizesCode (m .payload .sizes) ∷ sizesPlace (m .payload .sizes) ∷ m .payload .first ∷ 0 ∷ m .payload .first ∷ []
+envelopeNumbers m = startNumbers (m .envelope) (m .places) ++ restNumbers (m .envelope) (m .places) (m .payload)
 
 -- the parts of an envelope record that the messages' cursor needs
 abbrev pub sizesBy : ℕ → ℕ → Sizes

@@ -19,6 +19,7 @@ use records::message::value16;
 use records::message::value32;
 use records::numbers::number;
 use records::numbers::put_numbers;
+use records::numbers::put_numbers_from;
 use records::publisher::publisher_code;
 use records::publisher::publisher_number;
 use wire::optional::Optional16;
@@ -29,7 +30,7 @@ ghost use Rattle.records.specs.Numbers.{numberBytes};
 ghost use Rattle.records.specs.Message.{has16, has32};
 ghost use Rattle.envelope_record.specs.Envelope.{hasClass, classLow, classHigh, groupItems, groupWriter, groupVersion, groupNumber};
 ghost use Rattle.envelope_record.specs.Envelope.{groupSequence, headerCode, headerNumber, hasPromoted, promotedSize, sizesCode, sizesPlace};
-ghost use Rattle.envelope_record.specs.Envelope.{envelopeNumbers, sizesBy, payloadIn, messagesIn, headerBy, headerIn, writerNumber, placeNumbers};
+ghost use Rattle.envelope_record.specs.Envelope.{startNumbers, restNumbers, envelopeNumbers, sizesBy, payloadIn, messagesIn, headerBy, headerIn, writerNumber, placeNumbers};
 
 fn has_class(x: ClassId) -> u64
     ensures { λ r. ⌜ r ≡ hasClass x ⌝ }
@@ -183,18 +184,14 @@ fn sizes_place(x: Sizes) -> u64
     }
 }
 
-// Stores an envelope record, whose cursor stands before the first message.
-pub fn put_envelope(out: &mut [u8], e: Envelope, places: Places, payload: Payload)
-    ensures { λ _. ⌜ now (out .exit) ≡ laid (now (out .entry)) 0 (numberBytes (envelopeNumbers (record { envelope = e; places = places; payload = payload }))) ⌝ }
+// Stores the first half of an envelope record.
+fn put_start(out: &mut [u8], e: Envelope, places: Places)
+    ensures { λ _. ⌜ now (out .exit) ≡ laid (now (out .entry)) 0 (numberBytes (startNumbers e places)) ⌝ }
 {
     let publisher = e.publisher;
     let class_id = e.class_id;
     let group = e.group;
     let header = e.payload_header;
-    let timestamp = e.timestamp;
-    let picoseconds = e.picoseconds;
-    let promoted = e.promoted;
-    let sizes = payload.sizes;
     let numbers = [
         publisher_code(publisher),
         publisher_number(publisher),
@@ -210,6 +207,19 @@ pub fn put_envelope(out: &mut [u8], e: Envelope, places: Places, payload: Payloa
         flag_number(e.chunk),
         header_code(header),
         header_number(header),
+    ];
+    put_numbers(out, &numbers);
+}
+
+// Stores the second half, with the cursor before the first message.
+fn put_rest(out: &mut [u8], e: Envelope, places: Places, payload: Payload)
+    ensures { λ _. ⌜ now (out .exit) ≡ laid (now (out .entry)) 112 (numberBytes (restNumbers e places payload)) ⌝ }
+{
+    let timestamp = e.timestamp;
+    let picoseconds = e.picoseconds;
+    let promoted = e.promoted;
+    let sizes = payload.sizes;
+    let numbers = [
         places.payload_header_end as u64,
         has_i64(timestamp),
         value_i64(timestamp),
@@ -225,7 +235,18 @@ pub fn put_envelope(out: &mut [u8], e: Envelope, places: Places, payload: Payloa
         0,
         payload.first as u64,
     ];
-    put_numbers(out, &numbers);
+    put_numbers_from(out, 14, &numbers);
+}
+
+// Stores an envelope record, whose cursor stands before the first message; where it does not fit, nothing.
+pub fn put_envelope(out: &mut [u8], e: Envelope, places: Places, payload: Payload)
+    ensures { λ _. ⌜ now (out .exit) ≡ laid (now (out .entry)) 0 (numberBytes (envelopeNumbers (record { envelope = e; places = places; payload = payload }))) ⌝ }
+{
+    if out.len() < 224 {
+        return;
+    }
+    put_start(out, e, places);
+    put_rest(out, e, places, payload);
 }
 
 fn sizes_in(code: u64, place: usize) -> Sizes

@@ -22,4 +22,4 @@ head-put h k end l e a b d q t p u m n g f ea eb ed eq et ep eu em en eg ef v =
     let s : r ≡ r = refl in
     let z : (1 ∷ a ∷ b ∷ d ∷ q ∷ t ∷ p ∷ u ∷ m ∷ n ∷ g ∷ f ∷ r) ≡ headNumbers (valid (record { header = h; cursor = k; end = end })) =
     also {x = 1} {y = 1} refl (also ea (also eb (also ed (also eq (also et (also ep (also eu (also em (also en (also eg (also ef s))))))))))) in
-    put-same l z v
+    put-same l 0 z v

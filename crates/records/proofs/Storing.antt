@@ -3,7 +3,7 @@
 use Prim.Native.Nat.{ℕ, suc, _+_, _*_, _-_, _≤_, _<_}
 use mathlib.Core.Path.{_≡_, refl, ap, sym, _∙_}
 use mathlib.Core.Bool.{true}
-use mathlib.Core.List.{List, [], _∷_, _++_}
+use mathlib.Core.List.{List, [], _∷_, _++_, append-assoc}
 use native.Mathlib.Numerals.{add-one}
 use native.Mathlib.Omega.{arith}
 use borrow.Author.Tests.{le-leb, lt-leb}
@@ -45,11 +45,11 @@ pub all-stored : (w : ℕ) (xs l r : List ℕ) (i at : ℕ) → length xs ≤ i 
 all-stored w xs l r i at h v = ap (λ (y : List ℕ). sets l at (bytesOf w y)) (sym (drop-of-length-le xs h)) ∙ v
 
 -- numbers that fit, and numbers that do not
-pub put-fits : (xs l e : List ℕ) → 8 * length xs ≤ length l → e ≡ sets l 0 (numberBytes xs) → e ≡ laid l 0 (numberBytes xs)
-put-fits xs l e h q = rw (le-leb (0 + length (numberBytes xs)) (length l) (omega (arith, bytes-length xs))) q
+pub put-fits : (xs l e : List ℕ) (at : ℕ) → at + 8 * length xs ≤ length l → e ≡ sets l at (numberBytes xs) → e ≡ laid l at (numberBytes xs)
+put-fits xs l e at h q = rw (le-leb (at + length (numberBytes xs)) (length l) (omega (arith, bytes-length xs))) q
 
-pub put-none : (xs l : List ℕ) → length l < 8 * length xs → l ≡ laid l 0 (numberBytes xs)
-put-none xs l h = rw (lt-leb (0 + length (numberBytes xs)) (length l) (omega (arith, bytes-length xs)))
+pub put-none : (xs l : List ℕ) (at : ℕ) → length l < at + 8 * length xs → l ≡ laid l at (numberBytes xs)
+put-none xs l at h = rw (lt-leb (at + length (numberBytes xs)) (length l) (omega (arith, bytes-length xs)))
 
 -- bytes stored after others that were stored from the start
 pub store-next : (l e f x y : List ℕ) (at : ℕ) → at ≡ length x → at + length y ≤ length l → e ≡ sets l 0 x → f ≡ laid e at y → f ≡ sets l 0 (x ++ y)
@@ -135,5 +135,21 @@ config-put c l e₁ e₂ e₃ e₄ e₅ e₆ w f na nb nd ne h qw qf q₁ q₂ q
 pub also : {x y : ℕ} {xs ys : List ℕ} → x ≡ y → xs ≡ ys → (x ∷ xs) ≡ (y ∷ ys)
 also {x} {y} {xs} {ys} p q = ap (λ (k : ℕ). k ∷ xs) p ∙ ap (λ (k : List ℕ). y ∷ k) q
 
-pub put-same : (l : List ℕ) {xs ys e : List ℕ} → xs ≡ ys → e ≡ laid l 0 (numberBytes xs) → e ≡ laid l 0 (numberBytes ys)
-put-same l {xs} {ys} {e} p q = q ∙ ap (λ (k : List ℕ). laid l 0 (numberBytes k)) p
+pub put-same : (l : List ℕ) (at : ℕ) {xs ys e : List ℕ} → xs ≡ ys → e ≡ laid l at (numberBytes xs) → e ≡ laid l at (numberBytes ys)
+put-same l at {xs} {ys} {e} p q = q ∙ ap (λ (k : List ℕ). laid l at (numberBytes k)) p
+
+-- a record's numbers stored in two parts
+bytes-append : (xs ys : List ℕ) → numberBytes (xs ++ ys) ≡ numberBytes xs ++ numberBytes ys
+bytes-append [] ys = refl
+bytes-append (x ∷ xs) ys =
+    ap (λ (k : List ℕ). leBytes 8 x ++ k) (bytes-append xs ys) ∙ sym (append-assoc (leBytes 8 x) (numberBytes xs) (numberBytes ys))
+
+pub put-both : (xs ys l e f : List ℕ) (at : ℕ) → at ≡ 8 * length xs → at + 8 * length ys ≤ length l → e ≡ laid l 0 (numberBytes xs)
+    → f ≡ laid e at (numberBytes ys) → f ≡ laid l 0 (numberBytes (xs ++ ys))
+put-both xs ys l e f at a room p q =
+    let t : leb (0 + length (numberBytes xs)) (length l) ≡ true =
+    le-leb (0 + length (numberBytes xs)) (length l) (omega (arith, bytes-length xs)) in
+    let s : e ≡ sets l 0 (numberBytes xs) = rw t at p in
+    let z : f ≡ sets l 0 (numberBytes xs ++ numberBytes ys) =
+    store-next l e f (numberBytes xs) (numberBytes ys) at (omega (arith, bytes-length xs)) (omega (arith, bytes-length ys)) s q in
+    put-fits (xs ++ ys) l f 0 (omega (arith, length-append xs ys)) (z ∙ ap (λ (k : List ℕ). sets l 0 k) (sym (bytes-append xs ys)))

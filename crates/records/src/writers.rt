@@ -1,9 +1,6 @@
 // The configuration record: its writers and fields as parts of the lent bytes.
 use config::Config;
-use config::writers::find_writer;
-use config::writers::first;
 use config::writers::writer_fields;
-use wire::Item16;
 use wire::part::part;
 use wire::store::put_run;
 use wire::store::put8;
@@ -14,6 +11,7 @@ ghost use lib.ListN.{length};
 ghost use lib.Seq.{sets};
 ghost use Rattle.wire.specs.Number.{le};
 ghost use Rattle.wire.specs.Store.{laid};
+ghost use Rattle.text.specs.Words.{indexOf};
 ghost use Rattle.config.specs.Writers.{atMost};
 ghost use Rattle.network_message.specs.Payload.{listed};
 ghost use Rattle.records.specs.Writers.{writersIn, fieldsIn, sixteen, startsIn, typesIn, typesFor, configBytes};
@@ -57,12 +55,10 @@ fn number16(s: &[u8], at: usize) -> u16
     requires { ⌜ at + 2 ≤ length (now s) ⌝ }
     ensures { λ r. ⌜ r ≡ le 2 (now (s .entry)) at ⌝ }
 {
-    match wire::read16(s, at) {
-        Item16::Is(v, _) => v,
-        Item16::Short => 0,
-    }
+    s[at] as u16 + 256 * (s[at + 1] as u16)
 }
 
+// 16 numbers of 2 bytes from a position on; without a test of its own the loop is compiled to one copy.
 fn list16(s: &[u8], at: usize) -> [u16; 16]
     requires { ⌜ at + 32 ≤ length (now s) ⌝ }
     ensures { λ r. ⌜ r ≡ listed 16 (now (s .entry)) at ⌝ }
@@ -110,6 +106,23 @@ pub fn types(config: &[u8]) -> &[u8]
     part(config, 82, field_count(config))
 }
 
+// Which of n writers has the id: the first one, or n where none has it.
+fn find_id(config: &[u8], n: usize, id: u16) -> usize
+    requires { ⌜ 2 + 2 * n ≤ length (now config) ⌝ }
+    ensures { λ r. ⌜ r ≡ indexOf id (listed n (now (config .entry)) 2) ⌝ }
+{
+    let mut k = 0;
+    let mut p = 2;
+    while k < n {
+        if number16(config, p) == id {
+            return k;
+        }
+        p += 2;
+        k += 1;
+    }
+    n
+}
+
 // The configured field types of a writer, none for an id above 65,535.
 pub fn types_for(config: &[u8], writer: u32) -> &[u8]
     ensures { λ r. ⌜ now r ≡ typesFor (now (config .entry)) writer ⌝ }
@@ -117,11 +130,12 @@ pub fn types_for(config: &[u8], writer: u32) -> &[u8]
     if 65535 < writer {
         return part(config, 0, 0);
     }
+    if config.len() < 146 {
+        return part(config, 0, 0);
+    }
     let n = writer_count(config);
-    let list = ids(config);
-    let named = first(&list, n);
-    let k = find_writer(named, writer as u16);
-    if named.len() <= k {
+    let k = find_id(config, n, writer as u16);
+    if n <= k {
         return part(config, 0, 0);
     }
     writer_fields(starts(config), types(config), k)

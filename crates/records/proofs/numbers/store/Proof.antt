@@ -5,16 +5,16 @@ use lib.Seq.{sets}
 use borrow.Author.Needs.{needs}
 use native.Mathlib.Omega.{arith}
 use mathlib.Core.Path.{_≡_, refl}
-use Prim.Native.Nat.{_≤_, _*_, _-_}
+use Prim.Native.Nat.{_≤_, _*_, _-_, _+_}
 use Rattle.records.proofs.numbers.store.Statement.{statement}
 use Rattle.records.proofs.numbers.store.Tie as tie
 
 abbrev Inv-loop : tie.InvT-loop
-Inv-loop out₀ numbers i₀ at₀ out i at =
-    (i ≤ length numbers) × ((at ≡ 8 * i) × ((length out ≡ length out₀) × (sets out at (numberBytes (drop i numbers)) ≡ sets out₀ 0 (numberBytes numbers))))
+Inv-loop out₀ start numbers i₀ at₀ out i at =
+    (i ≤ length numbers) × ((at ≡ start + 8 * i) × ((length out ≡ length out₀) × (sets out at (numberBytes (drop i numbers)) ≡ sets out₀ start (numberBytes numbers))))
 
 abbrev μ-loop : tie.MeasureT-loop
-μ-loop out₀ numbers i₀ at₀ out i at = length numbers - i
+μ-loop out₀ start numbers i₀ at₀ out i at = length numbers - i
 
 -- src/numbers.rt:29:5
 loop-holds : tie.Need-loop-holds Inv-loop μ-loop

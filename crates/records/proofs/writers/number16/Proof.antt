@@ -1,21 +1,37 @@
-use denote.Ref.{now}
-use mathlib.Core.Path.{sym}
-use Rattle.wire.specs.Items.{answer16}
-use Rattle.wire.proofs.Reading.{told}
-use Rattle.network_message.proofs.Tallies.{size-is, size-there}
+use native.Mathlib.Omega.{arith}
+use Prim.Native.Nat.{_+_}
 use borrow.Author.Needs.{needs}
 use Rattle.records.proofs.writers.number16.Statement.{statement}
 use Rattle.records.proofs.writers.number16.Tie as tie
 
--- src/writers.rt:56:1
-returns : tie.Need-returns
-returns c =
-    size-is (now (c .before .before .before .before .before .args .s)) (c .before .before .before .before .before .args .at) _ _ (c .before .before .before .before .before .pre) (sym (told (answer16 (c .before .before .before .before .before .args .at)) (c .before .before .before .read16 .ensures) (c .before .v .given .1)))
+-- src/writers.rt:58:5
+cast-result : tie.Need-cast-result
+cast-result c = omega (arith, c .shared-slice-known .given (c .before .args .at))
 
--- src/writers.rt:56:1
-returns-2 : tie.Need-returns-2
-returns-2 c =
-    absurd (size-there (now (c .before .before .before .before .args .s)) (c .before .before .before .before .args .at) _ _ (c .before .before .before .before .pre) (sym (told (answer16 (c .before .before .before .before .args .at)) (c .before .before .read16 .ensures) (c .enum-told .given .1))))
+-- src/writers.rt:58:27
+cast-result-2 : tie.Need-cast-result-2
+cast-result-2 c =
+    omega (arith, c .shared-slice-known2 .given (c .before .before .args .at + 1))
+
+-- src/writers.rt:58:20
+mul-result : tie.Need-mul-result
+mul-result c =
+    omega (arith, c .shared-slice-known2 .given (c .before .before .args .at + 1))
+
+-- src/writers.rt:58:5
+add-result-2 : tie.Need-add-result-2
+add-result-2 c =
+    omega (arith, c .before .shared-slice-known .given (c .before .before .args .at), c .shared-slice-known2 .given (c .before .before .args .at + 1))
 
 pub number16-spec : {M : Type 1} → statement M
-number16-spec = tie.close (tie.spec (λ c κs. search needs) (λ c. search needs) (λ c. search needs) returns returns-2)
+number16-spec =
+    tie.close
+    (tie.spec
+    (λ c. search needs)
+    cast-result
+    (λ c. search needs)
+    (λ c. search needs)
+    cast-result-2
+    mul-result
+    add-result-2
+    (λ c. search needs))

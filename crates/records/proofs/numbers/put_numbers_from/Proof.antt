@@ -1,0 +1,26 @@
+use Rattle.records.proofs.Storing.{put-fits, put-none}
+use native.Mathlib.Omega.{arith}
+use Prim.Native.Nat.{_*_}
+use denote.Ref.{now}
+use borrow.Author.Needs.{needs}
+use Rattle.records.proofs.numbers.put_numbers_from.Statement.{statement}
+use Rattle.records.proofs.numbers.put_numbers_from.Tie as tie
+
+-- src/numbers.rt:42:9
+returns : tie.Need-returns
+returns c =
+    put-none (now (c .before .before .before .args .numbers)) (now (c .before .before .before .args .out)) (8 * c .before .before .before .args .i) (omega arith)
+
+-- src/numbers.rt:45:9
+returns-2 : tie.Need-returns-2
+returns-2 c =
+    put-none (now (c .before .before .before .before .args .numbers)) (now (c .before .before .before .before .args .out)) (8 * c .before .before .before .before .args .i) (omega arith)
+
+-- src/numbers.rt:37:1
+returns-3 : tie.Need-returns-3
+returns-3 c =
+    put-fits (now (c .before .before .before .before .before .before .before .before .args .numbers)) (now (c .before .before .before .before .before .before .before .before .args .out)) _ (8 * c .before .before .before .before .before .before .before .before .args .i) (omega arith) (c .before .before .store .ensures)
+
+pub put-numbers-from-spec : {M : Type 1} → statement M
+put-numbers-from-spec =
+    tie.close (tie.spec returns returns-2 (λ c. search needs) (λ c κs. search needs) (λ c. search needs) returns-3)
