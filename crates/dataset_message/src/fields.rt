@@ -2,6 +2,7 @@
 use crate::flags::Encoding;
 use value::Measured;
 use value::Shape;
+use value::fixed_end;
 use value::measure_data_value;
 use value::measure_raw;
 use value::measure_variant;
@@ -135,6 +136,24 @@ pub fn read_field(
             encoded(s, encoding, types, k, offset),
         ),
     }
+}
+
+// Field k where the fields are Variants without indices; most are scalars of a fixed type.
+pub fn read_variant(s: &[u8], types: &[u8], k: usize, at: usize) -> FieldRead
+    ensures { λ r. ⌜ answerField r ≡ fieldAt false Encoding.Variant (now (types .entry)) k (now (s .entry)) at ⌝ }
+{
+    let end = fixed_end(s, at);
+    if at < end {
+        return located(k, s[at], Shape::Scalar, at, end);
+    }
+    read_field(&*s, Encoding::Variant, false, &*types, k, at)
+}
+
+// Field k of RawData.
+pub fn read_raw(s: &[u8], types: &[u8], k: usize, at: usize) -> FieldRead
+    ensures { λ r. ⌜ answerField r ≡ fieldAt false Encoding.RawData (now (types .entry)) k (now (s .entry)) at ⌝ }
+{
+    measured(k, at, measure_raw(s, at, type_of(types, k)))
 }
 
 impl Cursor {

@@ -105,7 +105,7 @@ fn pass_value(s: &[u8], at: usize, levels: usize, t: u8) -> Reached
 const LEVELS: usize = 100;
 
 // The position after a Variant that is a scalar of a fixed type and fits; for any other the position itself.
-fn fixed_end(s: &[u8], at: usize) -> usize
+pub fn fixed_end(s: &[u8], at: usize) -> usize
     ensures { λ r. ⌜ r ≡ fixedEnd (now (s .entry)) at ⌝ }
 {
     if s.len() <= at {
