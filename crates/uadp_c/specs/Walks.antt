@@ -10,7 +10,7 @@ use Rattle.walking.specs.declared.Walked.{Walked}
 abbrev pub configured : List ℕ → Writers
 configured c = writers (idsIn c) (sizesIn c) (startsIn c) (typesIn c)
 
--- "Value: how many records there are in all"
+-- "Value: how many there are in all", or the refusal's number and place
 abbrev pub walkResult : Walked → ℕ
 walkResult (Walked.Is k) = resultOf 0 k
 walkResult (Walked.Refused n place) = resultOf n place

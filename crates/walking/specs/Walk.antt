@@ -17,8 +17,8 @@ abbrev pub orNone : Optional16 → ℕ
 orNone Optional16.Absent = 65536
 orNone (Optional16.Is v) = v
 
--- the 8 numbers of a line's record: "0 field, 1 message, 2 message that is not valid, 3 refused message", the message's index, ..; a `net` or `bad`
--- line has none of its own
+-- the 8 numbers of a line's record: "0 field, 1 message, 2 message that is not valid, 3 refused message", the number of the message, and so on in
+-- the order of the layout; `net` and `bad` lines do not occur among those that have records
 abbrev pub walkNumbers : Line → List ℕ
 walkNumbers (Line.Field m f) = 0 ∷ m ∷ f .index ∷ f .kind ∷ shapeNumber (f .shape) ∷ elementsNumber (f .shape) ∷ f .offset ∷ f .length ∷ []
 walkNumbers (Line.Set p k e q) = 1 ∷ p .message ∷ orNone (p .writer) ∷ kindNumber k ∷ encodingNumber e ∷ orNone q ∷ p .offset ∷ p .length ∷ []
@@ -27,7 +27,7 @@ walkNumbers (Line.SetBad p n place) = 3 ∷ p .message ∷ orNone (p .writer) �
 walkNumbers (Line.Net n id end messages) = replicate 8 0
 walkNumbers (Line.Bad n place) = replicate 8 0
 
--- "Record k stands at byte 64 k; a record that does not fit whole is not put"
+-- "record k (from 0) at offset 64 * k"; "A record that does not fit whole is not put; every other byte of records stays as it was"
 abbrev pub recordLaid : ℕ → Line → List ℕ → List ℕ
 recordLaid k x out = laid out (64 * k) (numberBytes (walkNumbers x))
 
@@ -40,7 +40,7 @@ recordsPut k (x ∷ xs) out = recordsPut (k + 1) xs (recordLaid k x out)
 abbrev pub walkLines : Writers → List ℕ → List Line
 walkLines w d = drop 1 (datagramLines w d)
 
--- "Value: how many records there are in all"; a refused datagram is its number and place
+-- "Value: how many there are in all, whatever the room"; a refused datagram is its number and place
 abbrev pub walkBy : List Line → Answer NetworkMessage → Walked
 walkBy xs (got m next) = Walked.Is (length xs)
 walkBy xs (refused n place) = Walked.Refused n place
