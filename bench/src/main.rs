@@ -54,6 +54,10 @@ fn main() {
     for input in inputs::standard() {
         equal &= reading(rounds, &input);
     }
+    for input in &inputs::standard()[..2] {
+        let name = format!("read, a call for each message and field: {}", input.name);
+        equal &= row(rounds, &name, &mut jobs::read_by_calls(input), &mut jobs::read_rust(input));
+    }
     for input in inputs::standard() {
         let name = format!("rewrite: {}", input.name);
         equal &= row(rounds, &name, &mut jobs::rewrite_ours(&input), &mut jobs::rewrite_rust(&input));

@@ -34,6 +34,10 @@ mod raw {
         pub fn uadp_list(
             datagram: *const u8, datagram_length: usize, config: *const u8, config_length: usize, out: *mut u8, out_length: usize,
         ) -> u64;
+        pub fn uadp_walk(
+            datagram: *const u8, datagram_length: usize, config: *const u8, config_length: usize, records: *mut u8,
+            records_length: usize,
+        ) -> u64;
         pub fn uadp_read(
             datagram: *const u8, datagram_length: usize, config: *const u8, config_length: usize, envelope: *mut u8,
             envelope_length: usize,
@@ -122,6 +126,11 @@ pub fn config(text: &[u8], config: &mut [u8]) -> Answer {
 pub fn list(datagram: &[u8], config: &[u8], out: &mut [u8]) -> Answer {
     let (length, out_length) = (datagram.len(), out.len());
     Answer(unsafe { raw::uadp_list(lent(datagram), length, lent(config), config.len(), lent_mut(out), out_length) })
+}
+
+pub fn walk(datagram: &[u8], config: &[u8], records: &mut [u8]) -> Answer {
+    let (length, records_length) = (datagram.len(), records.len());
+    Answer(unsafe { raw::uadp_walk(lent(datagram), length, lent(config), config.len(), lent_mut(records), records_length) })
 }
 
 pub fn read(datagram: &[u8], config: &[u8], envelope: &mut [u8]) -> Answer {

@@ -1,16 +1,18 @@
 //! The records of include/uadp.h: laid out from what the reference reads, and read from any bytes.
 use crate::reference::config::{Config, MOST_FIELDS, MOST_WRITERS};
-use crate::reference::message::{Cursor, Encoding, Field, Header, Kind, Message};
+use crate::reference::message::{self, Cursor, Encoding, Field, Header, Kind, Message};
 use crate::reference::network::{Envelope, Group, MessagePlace, PayloadHeader, PublisherId, Sizes};
 use crate::reference::network_writer::{HeaderPart, Parts};
 use crate::reference::reassembly::{KeptId, Record};
 use crate::reference::value::Shape;
+use crate::reference::Result;
 
 pub const CONFIG_SIZE: usize = 146;
 pub const ENVELOPE_SIZE: usize = 224;
 pub const PLACE_SIZE: usize = 32;
 pub const HEAD_SIZE: usize = 160;
 pub const FIELD_SIZE: usize = 48;
+pub const WALK_SIZE: usize = 64;
 pub const PARTIAL_SIZE: usize = 112;
 pub const SEQUENCE_SIZE: usize = 16;
 pub const NO_WRITER: u32 = 65_536;
@@ -141,17 +143,21 @@ const fn encoding_of(number: u64) -> Encoding {
     }
 }
 
+const fn kind_number(kind: Kind) -> u64 {
+    match kind {
+        Kind::Key => 0,
+        Kind::Delta => 1,
+        Kind::Event => 2,
+        Kind::KeepAlive => 3,
+    }
+}
+
 /// The numbers of a message head record that a header fills.
 pub fn header(header: &Header) -> [u64; HEAD_SIZE / 8] {
     let mut record = [0; HEAD_SIZE / 8];
     record[0] = 1;
     record[1] = encoding_number(header.encoding);
-    record[2] = match header.kind {
-        Kind::Key => 0,
-        Kind::Delta => 1,
-        Kind::Event => 2,
-        Kind::KeepAlive => 3,
-    };
+    record[2] = kind_number(header.kind);
     let present = [
         header.sequence.is_some(),
         header.timestamp.is_some(),
@@ -206,6 +212,39 @@ pub fn field(field: &Field) -> [u64; FIELD_SIZE / 8] {
         Shape::Array(count) => (2, count as u64),
     };
     [field.value.kind.into(), shape, count, field.index as u64, field.offset as u64, field.length as u64]
+}
+
+/// The records of a walk over all messages and fields of an accepted datagram.
+pub fn walk(datagram: &[u8], config: &Config, envelope: &Envelope) -> Vec<[u64; WALK_SIZE / 8]> {
+    let mut records = Vec::new();
+    for place in envelope.messages(datagram, config) {
+        let bytes = &datagram[place.offset..][..place.length];
+        let types = config.types_of(place.writer);
+        let read = message::read(bytes, types);
+        records.push(walk_message(&place, &read));
+        if let Ok(Some(message)) = read {
+            records.extend(message.walk(bytes, types).map(|found| walk_field(&place, &found)));
+        }
+    }
+    records
+}
+
+fn walk_message(found: &MessagePlace, read: &Result<Option<Message>>) -> [u64; WALK_SIZE / 8] {
+    let or_none = |number: Option<u16>| u64::from(number.map_or(NO_WRITER, u32::from));
+    let [number, offset, length, writer] = place(found);
+    let (what, [a, b, c]) = match read {
+        Ok(Some(Message { header, .. })) => {
+            (1, [kind_number(header.kind), encoding_number(header.encoding), or_none(header.sequence)])
+        }
+        Ok(None) => (2, [0; 3]),
+        Err(refusal) => (3, [refusal.number as u64, refusal.place as u64, 0]),
+    };
+    [what, number, writer, a, b, c, offset, length]
+}
+
+fn walk_field(message: &MessagePlace, found: &Field) -> [u64; WALK_SIZE / 8] {
+    let [kind, shape, count, index, offset, length] = field(found);
+    [0, message.number as u64, index, kind, shape, count, message.offset as u64 + offset, length]
 }
 
 /// The header that any message head record stands for.

@@ -74,7 +74,7 @@ pub fn value_i64(x: OptionalI64) -> u64
     }
 }
 
-fn encoding_number(e: Encoding) -> u64
+pub fn encoding_number(e: Encoding) -> u64
     ensures { λ r. ⌜ r ≡ encodingNumber e ⌝ }
 {
     match e {
@@ -96,7 +96,7 @@ pub(crate) fn encoding_in(n: u64) -> Encoding
     Encoding::Variant
 }
 
-fn kind_number(k: Kind) -> u64
+pub fn kind_number(k: Kind) -> u64
     ensures { λ r. ⌜ r ≡ kindNumber k ⌝ }
 {
     match k {
@@ -193,7 +193,7 @@ pub fn cursor_in(s: &[u8]) -> Cursor
     }
 }
 
-fn shape_number(x: Shape) -> u64
+pub fn shape_number(x: Shape) -> u64
     ensures { λ r. ⌜ r ≡ shapeNumber x ⌝ }
 {
     match x {
@@ -203,7 +203,7 @@ fn shape_number(x: Shape) -> u64
     }
 }
 
-fn elements_number(x: Shape) -> u64
+pub fn elements_number(x: Shape) -> u64
     ensures { λ r. ⌜ r ≡ elementsNumber x ⌝ }
 {
     match x {

@@ -16,11 +16,14 @@ use Rattle.dataset_message.specs.declared.header.Header.{Header}
 use Rattle.network_message.specs.declared.envelope.Envelope.{Envelope}
 use Rattle.network_message_writer.specs.Envelope as datagram
 use Rattle.dataset_message_writer.specs.Message as message
-use Rattle.listing.specs.Lines.{writers, listingOf}
+use Rattle.listing.specs.Lines.{Writers, writers, listingOf}
 use Rattle.listing_text.specs.Text.{linesText, textWritten, textAfter}
 use Rattle.records.specs.Writers.{writersIn, sixteen, idsIn, sizesIn, startsIn, typesIn, typesFor}
 use Rattle.records.specs.Given.{headerIn, envelopeIn}
 use Rattle.uadp_c.specs.Listings.{listingText}
+use Rattle.walking.specs.Walk.{recordsPut, walkLines, walkOf}
+use Rattle.walking.specs.declared.Walked.{Walked}
+use Rattle.uadp_c.specs.Walks.{configured, walkResult}
 use Rattle.uadp_c.specs.Writing.{writerResult, datagramResult, datagramBuffer, messageResult, messageBuffer}
 
 -- as many numbers of a configuration record as there are writers: its sizes from 34 on, its ids from 2 on
@@ -92,3 +95,13 @@ listed c d ids sizes starts types out e w r i z s t a h =
       h ∙ ap (λ (x : Written). writerResult (answerWritten x)) (a .0) ∙ ap (λ (x : List ℕ). writerResult (answerWritten (textWritten out x))) same,
       a .1 ∙ ap (λ (x : List ℕ). textAfter out x) same,
     )
+
+-- a walk, under the writers of a configuration record
+pub walks : (c d ids sizes starts types out e : List ℕ) (v : Walked) (r : ℕ) → ids ≡ idsIn c → sizes ≡ sizesIn c → starts ≡ startsIn c → types ≡ typesIn c
+    → (v ≡ walkOf (writers ids sizes starts types) d) × (e ≡ recordsPut 0 (walkLines (writers ids sizes starts types) d) out) → r ≡ walkResult v
+    → (r ≡ walkResult (walkOf (configured c) d)) × (e ≡ recordsPut 0 (walkLines (configured c) d) out)
+walks c d ids sizes starts types out e v r i z s t a h =
+    let w : writers ids sizes starts types ≡ configured c =
+    ap (λ (x : List ℕ). writers x sizes starts types) i ∙ ap (λ (x : List ℕ). writers (idsIn c) x starts types) z
+    ∙ ap (λ (x : List ℕ). writers (idsIn c) (sizesIn c) x types) s ∙ ap (λ (x : List ℕ). writers (idsIn c) (sizesIn c) (startsIn c) x) t in
+    (h ∙ ap walkResult (a .0) ∙ ap (λ (x : Writers). walkResult (walkOf x d)) w, a .1 ∙ ap (λ (x : Writers). recordsPut 0 (walkLines x d) out) w)

@@ -5,3 +5,4 @@ pub mod Sequence
 pub mod Reassembling
 pub mod Writing
 pub mod Listings
+pub mod Walks

@@ -9,3 +9,4 @@ pub mod messages;
 pub mod newness;
 pub mod reassembling;
 pub mod rewriting;
+pub mod walks;

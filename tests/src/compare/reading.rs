@@ -55,6 +55,7 @@ pub fn datagram(tally: &mut Tally, random: &mut Random) {
     let config = record::config_of(&config_record);
     let case = Case { datagram: &datagram, config: &config, record: &config_record };
     case.list(tally, random);
+    case.walk_all(tally, random);
     case.rewrite(tally, random);
     case.read(tally, random);
     if random.one_in(4) {
@@ -82,6 +83,16 @@ fn config_record(random: &mut Random, text: &[u8]) -> Vec<u8> {
     record
 }
 
+/// The length of a walk's records: too short for them, just enough, or longer by up to some records.
+fn walk_length(random: &mut Random, needed: usize) -> usize {
+    match random.below(8) {
+        0 | 1 => random.within(0, needed),
+        2 => needed.saturating_sub(1),
+        3..=5 => needed,
+        _ => needed + random.within(1, 200),
+    }
+}
+
 /// Every value of the flag bytes: the envelope's three, and a message's two with every first byte of a Variant.
 pub fn every_flag(tally: &mut Tally, random: &mut Random) {
     let config = Config::parse(b"writer\t21\t-\nfield\t7\n").expect("valid");
@@ -91,6 +102,7 @@ pub fn every_flag(tally: &mut Tally, random: &mut Random) {
         let datagram = [front, &tail].concat();
         let case = Case { datagram: &datagram, config: &config, record: &record };
         case.read(tally, random);
+        case.walk_all(tally, random);
         case.rewrite(tally, random);
     };
     for first in 0..=255 {
@@ -134,6 +146,27 @@ impl Case<'_> {
             Ok(lines.len())
         };
         judge_put(tally, random, "list", lines.len(), &self.input(), reference, |out| ffi::list(self.datagram, self.record, out));
+    }
+
+    /// All messages and fields in one call: the records that fit whole are put, and all are counted.
+    fn walk_all(&self, tally: &mut Tally, random: &mut Random) {
+        let records =
+            network::read(self.datagram, self.config).map(|envelope| record::walk(self.datagram, self.config, &envelope));
+        let length = walk_length(random, record::WALK_SIZE * records.as_ref().map_or(3, Vec::len));
+        let before = Lent::of_length(random, length);
+        let mut after = before.clone();
+        let kept = ReadOnly::keep(&self.input());
+        let answer = ffi::walk(self.datagram, self.record, after.middle_mut());
+        let expected_area = match &records {
+            Ok(records) => {
+                before.with(&bytes_of(&records.concat())[..(length / record::WALK_SIZE).min(records.len()) * record::WALK_SIZE])
+            }
+            Err(_) => before,
+        };
+        let expected = Found { answer: answer_of(records.map(|records| records.len() as u64)), areas: vec![expected_area] };
+        if tally.judge("walk", &Found { answer, areas: vec![after] }, &expected, &self.input()) {
+            kept.judge(tally, "walk", &self.input());
+        }
     }
 
     fn rewrite(&self, tally: &mut Tally, random: &mut Random) {

@@ -5,6 +5,7 @@ use super::sequence::{judge, Newness};
 use super::value::{variant, Shape, Value, LEVELS};
 use super::wire::Reader;
 use super::{chunk, listing, message, network, network_writer, Number, Refusal, Result};
+use crate::record;
 
 const EXAMPLE: [u8; 20] =
     [0xD1, 0x01, 0x67, 0x12, 0x01, 0x15, 0x00, 0x09, 0x05, 0x00, 0x02, 0x00, 0x05, 0x03, 0x00, 0x0A, 0x00, 0x00, 0x00, 0x3F];
@@ -14,6 +15,13 @@ fn example_lists() {
     let expected = "net\t20\tu16\t4711\t1\nset\t0\t21\t7\t13\tkey\tvariant\t5\n\
                     field\t0\t0\t5\t-\t12\t3\nfield\t0\t1\t10\t-\t15\t5\n";
     assert_eq!(listing::list(&EXAMPLE, &Config::default()), expected);
+}
+
+#[test]
+fn example_walks() {
+    let envelope = network::read(&EXAMPLE, &Config::default()).expect("accepted");
+    let records = [[1, 0, 21, 0, 0, 5, 7, 13], [0, 0, 0, 5, 0, 0, 12, 3], [0, 0, 1, 10, 0, 0, 15, 5]];
+    assert_eq!(record::walk(&EXAMPLE, &Config::default(), &envelope), records);
 }
 
 #[test]

@@ -1,0 +1,41 @@
+// A datagram walked in one call.
+use config::writers::first;
+use records::result::result;
+use records::writers::ids;
+use records::writers::sizes;
+use records::writers::starts;
+use records::writers::types;
+use records::writers::writer_count;
+use walking::Walked;
+use walking::walk;
+ghost use mathlib.Core.Path.{_≡_};
+ghost use Rattle.walking.specs.Walk.{recordsPut, walkLines, walkOf};
+ghost use Rattle.uadp_c.specs.Walks.{configured, walkResult};
+
+fn walked_result(walked: Walked) -> u64
+    ensures { λ r. ⌜ r ≡ walkResult walked ⌝ }
+{
+    match walked {
+        Walked::Is(k) => result(0, k),
+        Walked::Refused(number, place) => result(number, place),
+    }
+}
+
+// Puts a record for each message of a datagram and each of its fields.
+#[no_mangle]
+pub extern "C" fn uadp_walk(datagram: &[u8], config: &[u8], records: &mut [u8]) -> u64
+    ensures { λ r. ⌜ (r ≡ walkResult (walkOf (configured (now (config .entry))) (now (datagram .entry)))) × (now (records .exit) ≡ recordsPut 0 (walkLines (configured (now (config .entry))) (now (datagram .entry))) (now (records .entry))) ⌝ }
+{
+    let n = writer_count(config);
+    let all_ids = ids(config);
+    let all_sizes = sizes(config);
+    let walked = walk(
+        records,
+        datagram,
+        first(&all_ids, n),
+        first(&all_sizes, n),
+        starts(config),
+        types(config),
+    );
+    walked_result(walked)
+}

@@ -1,0 +1,268 @@
+// A datagram walked in one call: a record of 8 numbers for each of its messages and fields.
+use config::writers::find_writer;
+use config::writers::writer_fields;
+use dataset_message::fields::Cursor;
+use dataset_message::fields::Field;
+use dataset_message::fields::FieldRead;
+use dataset_message::fields::read_field;
+use dataset_message::fields::read_raw;
+use dataset_message::fields::read_variant;
+use dataset_message::flags::Encoding;
+use dataset_message::message::MessageRead;
+use dataset_message::message::read;
+use network_message::envelope::NetworkMessageRead;
+use network_message::header::PayloadHeader;
+use network_message::header::writer_id;
+use network_message::payload::MessageCursor;
+use network_message::payload::MessagePlace;
+use network_message::payload::MessageStep;
+use network_message::payload::Payload;
+use records::message::elements_number;
+use records::message::encoding_number;
+use records::message::kind_number;
+use records::message::shape_number;
+use records::numbers::put_numbers;
+use wire::optional::Optional16;
+use wire::part::part;
+ghost use mathlib.Core.Path.{_≡_};
+ghost use mathlib.Core.List.{[], _∷_};
+ghost use Prim.Native.Nat.{_+_, _*_, _≤_};
+ghost use lib.ListN.{length};
+ghost use Rattle.wire.specs.Store.{laid};
+ghost use Rattle.dataset_message.specs.Fields.{fieldAt, answerField};
+ghost use Rattle.records.specs.Numbers.{numberBytes};
+ghost use Rattle.listing.specs.Lines.{writers, typesOf, inDatagram, fieldsLeft};
+ghost use Rattle.listing.specs.declared.line.Line.{Line};
+ghost use Rattle.walking.specs.Walk.{orNone, recordLaid, recordsPut, walkLines, walkOf};
+ghost use Rattle.walking.specs.Parts.{fieldsFrom, setFrom, bare, payloadLines};
+
+// How many records there are in all, or the datagram's refusal.
+pub enum Walked {
+    Is(usize),
+    Refused(u8, usize),
+}
+
+// A number of 2 bytes, 65536 for none.
+fn or_none(x: Optional16) -> u64
+    ensures { λ r. ⌜ r ≡ orNone x ⌝ }
+{
+    match x {
+        Optional16::Absent => 65536,
+        Optional16::Is(v) => v as u64,
+    }
+}
+
+// Puts record k, which has 8 numbers, where it fits whole.
+fn put_record(out: &mut [u8], k: usize, numbers: &[u64])
+    requires { ⌜ length (now numbers) ≡ 8 ⌝ }
+    ensures { λ _. ⌜ now (out .exit) ≡ laid (now (out .entry)) (64 * k) (numberBytes (now (numbers .entry))) ⌝ }
+{
+    if out.len() / 64 <= k {
+        return;
+    }
+    let at = 64 * k;
+    let end = at + 64;
+    put_numbers(&mut out[at..end], numbers);
+}
+
+// Puts record k, of a field of the message in a place.
+fn put_field(out: &mut [u8], k: usize, p: MessagePlace, f: Field)
+    requires { ⌜ p .offset + f .offset ≤ 18446744073709551615 ⌝ }
+    ensures { λ _. ⌜ now (out .exit) ≡ recordLaid k (Line.Field (p .index) (inDatagram p f)) (now (out .entry)) ⌝ }
+{
+    let shape = f.shape;
+    let numbers = [
+        0,
+        p.index as u64,
+        f.index as u64,
+        f.kind as u64,
+        shape_number(shape),
+        elements_number(shape),
+        (p.offset + f.offset) as u64,
+        f.length as u64,
+    ];
+    put_record(out, k, &numbers);
+}
+
+// Puts record k, of the message in a place: what it is, and three numbers that depend on it.
+fn put_message(
+    out: &mut [u8],
+    k: usize,
+    p: MessagePlace,
+    writer: Optional16,
+    what: u64,
+    a: u64,
+    b: u64,
+    c: u64,
+)
+    ensures { λ _. ⌜ now (out .exit) ≡ laid (now (out .entry)) (64 * k) (numberBytes (what ∷ p .index ∷ orNone writer ∷ a ∷ b ∷ c ∷ p .offset ∷ p .length ∷ [])) ⌝ }
+{
+    let numbers = [
+        what,
+        p.index as u64,
+        or_none(writer),
+        a,
+        b,
+        c,
+        p.offset as u64,
+        p.length as u64,
+    ];
+    put_record(out, k, &numbers);
+}
+
+// The configured field types of the writer with an id.
+fn types_of<'a>(ids: &'a [u16], starts: &'a [u8], types: &'a [u8], writer: Optional16) -> &'a [u8]
+    ensures { λ r. ⌜ now r ≡ typesOf (now (ids .entry)) (now (starts .entry)) (now (types .entry)) writer ⌝ }
+{
+    let Optional16::Is(id) = writer else {
+        return part(types, 0, 0);
+    };
+    let k = find_writer(ids, id);
+    if ids.len() <= k {
+        return part(types, 0, 0);
+    }
+    writer_fields(starts, types, k)
+}
+
+// Field k of a message, which starts at a position; the two common kinds are read in line.
+fn field_at(
+    s: &[u8],
+    encoding: Encoding,
+    delta: bool,
+    types: &[u8],
+    k: usize,
+    at: usize,
+) -> FieldRead
+    ensures { λ r. ⌜ answerField r ≡ fieldAt delta encoding (now (types .entry)) k (now (s .entry)) at ⌝ }
+{
+    if delta {
+        return read_field(&*s, encoding, true, &*types, k, at);
+    }
+    match encoding {
+        Encoding::Variant => read_variant(s, types, k, at),
+        Encoding::RawData => read_raw(s, types, k, at),
+        Encoding::DataValue => read_field(&*s, encoding, false, &*types, k, at),
+    }
+}
+
+// Puts the records of a message's fields from the cursor on, the first of them record k; answers the number of the record after them.
+fn walk_fields(
+    out: &mut [u8],
+    first: usize,
+    message: &[u8],
+    types: &[u8],
+    p: MessagePlace,
+    c: Cursor,
+) -> usize
+    requires { ⌜ (first + length (now message) ≤ 18446744073709551615) × (p .offset + length (now message) ≤ 18446744073709551615) ⌝ }
+    ensures { λ r. ⌜ (r ≡ first + length (fieldsFrom (now (types .entry)) (now (message .entry)) p (fieldsLeft c) c)) × (now (out .exit) ≡ recordsPut first (fieldsFrom (now (types .entry)) (now (message .entry)) p (fieldsLeft c) c) (now (out .entry))) ⌝ }
+{
+    let encoding = c.encoding;
+    let mut at = c.at;
+    let mut i = c.next;
+    let mut k = first;
+    while i < c.count {
+        match field_at(message, encoding, c.delta, types, i, at) {
+            FieldRead::Refused(_, _) => {
+                return k;
+            }
+            FieldRead::Is(f, end) => {
+                put_field(out, k, p, f);
+                at = end;
+            }
+        }
+        i += 1;
+        k += 1;
+    }
+    k
+}
+
+// Puts the records of the message in a place, the first of them record k; answers the number of the record after them.
+fn walk_message(
+    out: &mut [u8],
+    k: usize,
+    s: &[u8],
+    types: &[u8],
+    writer: Optional16,
+    p: MessagePlace,
+) -> usize
+    requires { ⌜ k + 1 + length (now s) ≤ 18446744073709551615 ⌝ }
+    ensures { λ r. ⌜ (r ≡ k + length (setFrom (now (types .entry)) p writer (now (s .entry)))) × (now (out .exit) ≡ recordsPut k (setFrom (now (types .entry)) p writer (now (s .entry))) (now (out .entry))) ⌝ }
+{
+    let message = part(s, p.offset, p.length);
+    match read(&*message, &*types) {
+        MessageRead::NotValid => {
+            put_message(out, k, p, writer, 2, 0, 0, 0);
+            k + 1
+        }
+        MessageRead::Refused(n, place) => {
+            put_message(out, k, p, writer, 3, n as u64, place as u64, 0);
+            k + 1
+        }
+        MessageRead::Is(h, c, _) => {
+            let kind = h.kind;
+            let encoding = h.encoding;
+            let sequence = h.sequence;
+            let a = kind_number(kind);
+            let b = encoding_number(encoding);
+            put_message(out, k, p, writer, 1, a, b, or_none(sequence));
+            walk_fields(out, k + 1, message, types, p, c)
+        }
+    }
+}
+
+// Puts the records of a payload's messages; answers how many.
+fn walk_messages<'a>(
+    out: &mut [u8],
+    s: &[u8],
+    ids: &'a [u16],
+    sizes: &[u16],
+    starts: &'a [u8],
+    types: &'a [u8],
+    header: PayloadHeader,
+    end: usize,
+    payload: Payload,
+) -> usize
+    requires { ⌜ (length (now s) ≤ 65535) × (payload .count ≤ 65551) ⌝ }
+    ensures { λ r. ⌜ (r ≡ length (payloadLines (writers (now (ids .entry)) (now (sizes .entry)) (now (starts .entry)) (now (types .entry))) (now (s .entry)) (bare header end payload))) × (now (out .exit) ≡ recordsPut 0 (payloadLines (writers (now (ids .entry)) (now (sizes .entry)) (now (starts .entry)) (now (types .entry))) (now (s .entry)) (bare header end payload)) (now (out .entry))) ⌝ }
+{
+    let mut c = MessageCursor {
+        index: 0,
+        at: payload.first,
+    };
+    let mut k = 0;
+    loop {
+        match c.step(s, payload, sizes) {
+            MessageStep::Refused(_, _) => {
+                return k;
+            }
+            MessageStep::Is(p, next) => {
+                let writer = writer_id(s, header, end, ids, p.index);
+                let configured = types_of(ids, starts, types, writer);
+                k = walk_message(out, k, s, configured, writer, p);
+                c = next;
+            }
+        }
+    }
+}
+
+// Puts a record for each message of a datagram and each of its fields, under the ids, sizes, starts and types of the configured writers.
+pub fn walk<'a>(
+    out: &mut [u8],
+    s: &[u8],
+    ids: &'a [u16],
+    sizes: &[u16],
+    starts: &'a [u8],
+    types: &'a [u8],
+) -> Walked
+    ensures { λ r. ⌜ (r ≡ walkOf (writers (now (ids .entry)) (now (sizes .entry)) (now (starts .entry)) (now (types .entry))) (now (s .entry))) × (now (out .exit) ≡ recordsPut 0 (walkLines (writers (now (ids .entry)) (now (sizes .entry)) (now (starts .entry)) (now (types .entry))) (now (s .entry))) (now (out .entry))) ⌝ }
+{
+    match network_message::envelope::read(&*s, &*sizes) {
+        NetworkMessageRead::Refused(n, place) => Walked::Refused(n, place),
+        NetworkMessageRead::Is(e, places, payload) => {
+            let header = e.payload_header;
+            let end = places.payload_header_end;
+            Walked::Is(walk_messages(out, s, ids, sizes, starts, types, header, end, payload))
+        }
+    }
+}
