@@ -61,6 +61,12 @@ configuredAt sizes s at =
     (sizedAt (length sizes) (total sizes) s at)
     (cond (eqb (length sizes) 1) (restAt s at) (refused 8 0)))
 
+-- a payload that is one message, with no list of sizes
+abbrev pub isSingle : PayloadHeader → Bool
+isSingle PayloadHeader.Absent = false
+isSingle (PayloadHeader.Ids n) = leb n 1
+isSingle (PayloadHeader.Chunk w) = false
+
 -- "For a chunk, PayloadHeader off is 8". A chunk's payload has no messages of its own.
 abbrev pub payloadAt : Bool → PayloadHeader → List ℕ → Reader Payload
 payloadAt chunk PayloadHeader.Absent sizes s at = cond chunk (refused 8 0) (configuredAt (configuredSizes sizes) s at)

@@ -19,6 +19,7 @@ use crate::payload::Payload;
 use crate::payload::PayloadRead;
 use crate::payload::nth;
 use crate::payload::read_payload;
+use crate::payload::rest;
 use crate::payload::writers;
 use crate::publisher::PublisherId;
 use crate::publisher::PublisherRead;
@@ -31,7 +32,7 @@ use wire::optional::read_optional_i64;
 use wire::optional::read_picoseconds;
 ghost use mathlib.Core.Path.{_≡_};
 ghost use Rattle.network_message.specs.Envelope.{identityAt, timesAt, messagesOf, headerAt, envelopeOf, bodyAt, networkMessageAt, messagePlaceAt, messageBytes};
-ghost use Rattle.network_message.specs.Payload.{answerMessage};
+ghost use Rattle.network_message.specs.Payload.{isSingle, payloadAt, answerMessage, answerPayload};
 ghost use Rattle.network_message.specs.Envelope.{answerIdentity, answerTimes, answerHeader, answerNetworkMessage};
 
 // PublisherId, DataSetClassId and group header, and where the PublisherId ends.
@@ -209,6 +210,33 @@ fn read_header(s: &[u8], flags: Flags, configured: usize, at: usize) -> HeaderRe
     }
 }
 
+// Whether a payload is one message, with no list of sizes.
+fn is_single(header: PayloadHeader) -> bool
+    ensures { λ r. ⌜ r ≡ isSingle header ⌝ }
+{
+    match header {
+        PayloadHeader::Absent => false,
+        PayloadHeader::Ids(n) => n <= 1,
+        PayloadHeader::Chunk(_) => false,
+    }
+}
+
+// The payload after a payload header. That of a single message, the common one, is read in line.
+fn payload_after(
+    s: &[u8],
+    chunk: bool,
+    header: PayloadHeader,
+    sizes: &[u16],
+    at: usize,
+) -> PayloadRead
+    ensures { λ r. ⌜ answerPayload r ≡ payloadAt chunk header (now (sizes .entry)) (now (s .entry)) at ⌝ }
+{
+    if is_single(header) {
+        return rest(s, at);
+    }
+    read_payload(&*s, chunk, header, &*sizes, at)
+}
+
 fn read_body(s: &[u8], flags: Flags, sizes: &[u16], at: usize) -> NetworkMessageRead
     ensures { λ r. ⌜ answerNetworkMessage r ≡ bodyAt flags (now (sizes .entry)) (now (s .entry)) at ⌝ }
 {
@@ -216,7 +244,7 @@ fn read_body(s: &[u8], flags: Flags, sizes: &[u16], at: usize) -> NetworkMessage
         HeaderRead::Refused(n, place) => NetworkMessageRead::Refused(n, place),
         HeaderRead::Is(envelope, places) => {
             let header = envelope.payload_header;
-            match read_payload(s, envelope.chunk, header, sizes, places.payload) {
+            match payload_after(s, envelope.chunk, header, sizes, places.payload) {
                 PayloadRead::Refused(n, place) => NetworkMessageRead::Refused(n, place),
                 PayloadRead::Is(payload) => NetworkMessageRead::Is(envelope, places, payload),
             }

@@ -88,7 +88,7 @@ fn tally_configured(sizes: &[u16], n: usize) -> Tally
     }
 }
 
-fn rest(s: &[u8], at: usize) -> PayloadRead
+pub(crate) fn rest(s: &[u8], at: usize) -> PayloadRead
     ensures { λ r. ⌜ answerPayload r ≡ restAt (now (s .entry)) at ⌝ }
 {
     if at < s.len() {

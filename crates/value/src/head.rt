@@ -3,7 +3,7 @@ use crate::plain::bytes_at;
 use crate::plain::is_plain;
 use crate::plain::plain_value;
 use crate::plain::strings_at;
-use crate::width::width;
+use crate::width::packed_width;
 use wire::Item8;
 use wire::ItemLength;
 use wire::Length;
@@ -87,7 +87,7 @@ fn plain_values(s: &[u8], at: usize, t: u8, n: usize) -> Reached
     requires { ⌜ n < 2147483648 ⌝ }
     ensures { λ r. ⌜ answerReached r ≡ plainValues t n (now (s .entry)) at ⌝ }
 {
-    let w = width(t);
+    let w = packed_width(t);
     if 0 < w {
         return bytes_at(s, at, n * w);
     }

@@ -1,5 +1,5 @@
 // Values that hold no other value: of fixed width, or with their length first.
-use crate::width::width;
+use crate::width::packed_width;
 use wire::ItemLength;
 use wire::Length;
 use wire::Reached;
@@ -66,7 +66,7 @@ pub(crate) fn is_plain(t: u8) -> bool
 pub(crate) fn plain_value(s: &[u8], at: usize, t: u8) -> Reached
     ensures { λ r. ⌜ answerReached r ≡ plainValue t (now (s .entry)) at ⌝ }
 {
-    let w = width(t);
+    let w = packed_width(t);
     if 0 < w {
         return bytes_at(s, at, w);
     }

@@ -14,11 +14,11 @@ returns c =
 
 returns-2 : tie.Need-returns-2
 returns-2 c =
-    rw (sym (c .before .before .before .before .before .before .before .before .writers .ensures .0), sym (told answerHeader (c .before .before .before .before .before .before .before .read-header .ensures) (c .before .before .before .before .before .envelope .given .1)), sym (told answerPayload (c .before .before .before .read-payload .ensures) (c .before .n2 .given .1)))
+    rw (sym (c .before .before .before .before .before .before .before .before .writers .ensures .0), sym (told answerHeader (c .before .before .before .before .before .before .before .read-header .ensures) (c .before .before .before .before .before .envelope .given .1)), sym (told answerPayload (c .before .before .before .payload-after .ensures) (c .before .n2 .given .1)))
 
 returns-3 : tie.Need-returns-3
 returns-3 c =
-    rw (sym (c .before .before .before .before .before .before .before .before .writers .ensures .0), sym (told answerHeader (c .before .before .before .before .before .before .before .read-header .ensures) (c .before .before .before .before .before .envelope .given .1)), sym (told answerPayload (c .before .before .before .read-payload .ensures) (c .before .payload .given .1)))
+    rw (sym (c .before .before .before .before .before .before .before .before .writers .ensures .0), sym (told answerHeader (c .before .before .before .before .before .before .before .read-header .ensures) (c .before .before .before .before .before .envelope .given .1)), sym (told answerPayload (c .before .before .before .payload-after .ensures) (c .before .payload .given .1)))
 
 pub read-body-spec : {M : Type 1} → statement M
 read-body-spec =

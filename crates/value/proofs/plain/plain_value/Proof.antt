@@ -11,12 +11,12 @@ use Rattle.value.proofs.plain.plain_value.Tie as tie
 returns : tie.Need-returns
 unfolding plainValue
 returns c =
-    rw (sym (ap (ltb 0) (c .before .before .width .ensures .0)) ∙ lt-ltb _ _ (c .before .if1 .taken), sym (c .before .before .width .ensures .0)) (c .bytes-at .ensures)
+    rw (sym (ap (ltb 0) (c .before .before .packed-width .ensures .0)) ∙ lt-ltb _ _ (c .before .if1 .taken), sym (c .before .before .packed-width .ensures .0)) (c .bytes-at .ensures)
 
 returns-2 : tie.Need-returns-2
 unfolding plainValue
 returns-2 c =
-    rw (sym (ap (ltb 0) (c .before .before .width .ensures .0)) ∙ le-ltb _ _ (c .before .if1 .left)) (c .string-at .ensures)
+    rw (sym (ap (ltb 0) (c .before .before .packed-width .ensures .0)) ∙ le-ltb _ _ (c .before .if1 .left)) (c .string-at .ensures)
 
 pub plain-value-spec : {M : Type 1} → statement M
 plain-value-spec =
