@@ -150,3 +150,18 @@ promoted-is (Promoted.Size n) messages bytes m a b =
     let q = run-is (length bytes) (m + length c) bytes refl s (second s m c bytes at) in
     let z : m + length c + length bytes ≡ m + length (c ++ bytes) = omega (arith, length-append c bytes) in
     rw (p, q, e) (ap (λ (j : ℕ). got (Promoted.Size (length bytes)) j) z)
+
+-- the lengths of the eight parts of a header, one after the other
+pub eight-lengths : (b1 b2 b3 b4 b5 b6 b7 b8 : List ℕ) → 0 + length b1 + length b2 + length b3 + length b4 + length b5 + length b6 + length b7 + length b8
+    ≡ length (b1 ++ (b2 ++ (b3 ++ (b4 ++ (b5 ++ (b6 ++ (b7 ++ b8)))))))
+eight-lengths b1 b2 b3 b4 b5 b6 b7 b8 =
+    omega (
+      arith,
+      length-append b1 (b2 ++ (b3 ++ (b4 ++ (b5 ++ (b6 ++ (b7 ++ b8)))))),
+      length-append b2 (b3 ++ (b4 ++ (b5 ++ (b6 ++ (b7 ++ b8))))),
+      length-append b3 (b4 ++ (b5 ++ (b6 ++ (b7 ++ b8)))),
+      length-append b4 (b5 ++ (b6 ++ (b7 ++ b8))),
+      length-append b5 (b6 ++ (b7 ++ b8)),
+      length-append b6 (b7 ++ b8),
+      length-append b7 b8,
+    )

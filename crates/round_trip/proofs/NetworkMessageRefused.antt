@@ -38,7 +38,7 @@ use Rattle.network_message_writer.specs.Envelope.{Given, headerBytes, datagramO
 use Rattle.network_message_writer.proofs.Short.{ids-counted}
 use Rattle.round_trip.specs.NetworkMessage.{AsManyLengths, FitsEnvelope, FitsGroup}
 use Rattle.round_trip.proofs.NetworkMessageFlags.{byte-bits, extended-bits, flags-are}
-use Rattle.round_trip.proofs.NetworkMessageParts.{bits, publisher-is, class-is, group-is, payload-header-is, promoted-is}
+use Rattle.round_trip.proofs.NetworkMessageParts.{bits, publisher-is, class-is, group-is, payload-header-is, promoted-is, eight-lengths}
 use Rattle.round_trip.proofs.NetworkMessagePayload.{listed-at-start}
 use Rattle.round_trip.proofs.NetworkMessageWritten.{kind-below}
 use Rattle.writing.specs.Fits.{Fits16}
@@ -280,17 +280,7 @@ module _ (g : Given) (x : Envelope) (sizes configured : List ℕ) (f : FitsEnvel
       let messages = messagesOf (x .chunk) (x .«payload_header») (length (configuredSizes sizes)) in
       let p3 = class-is (x .«class_id») m2 (f .classId) s a3 in
       let p6 = optionalI64-is (x .timestamp) m5 (f .timestamp) s a6 in
-      let e8 : length pre ≡ m7 + length b8 =
-      omega (
-        arith,
-        length-append b1 (b2 ++ (b3 ++ (b4 ++ (b5 ++ (b6 ++ (b7 ++ b8)))))),
-        length-append b2 (b3 ++ (b4 ++ (b5 ++ (b6 ++ (b7 ++ b8))))),
-        length-append b3 (b4 ++ (b5 ++ (b6 ++ (b7 ++ b8)))),
-        length-append b4 (b5 ++ (b6 ++ (b7 ++ b8))),
-        length-append b5 (b6 ++ (b7 ++ b8)),
-        length-append b6 (b7 ++ b8),
-        length-append b7 b8,
-      ) in
+      let e8 : length pre ≡ m7 + length b8 = sym (eight-lengths b1 b2 b3 b4 b5 b6 b7 b8) in
       let k7 = payloadRefusal (x .chunk) (x .«payload_header») sizes (g .lengths) (g .messages) in
       let k6 = orElse (promotedRefusal (x .promoted) messages) k7 in
       let k5 = orElse (picosecondsRefusal (x .picoseconds)) k6 in

@@ -27,7 +27,7 @@ use Rattle.network_message_writer.specs.Payload.{listBytes}
 use Rattle.network_message_writer.specs.Envelope.{Given, headerBytes, datagramOf, refusalOf}
 use Rattle.network_message_writer.proofs.Short.{zeros}
 use Rattle.round_trip.specs.NetworkMessage.{placesOf, payloadFor, writtenMessage, givenLengths, messageOf, placeOf, FitsEnvelope}
-use Rattle.round_trip.proofs.NetworkMessageParts.{publisher-is, class-is, group-is, payload-header-is, promoted-is}
+use Rattle.round_trip.proofs.NetworkMessageParts.{publisher-is, class-is, group-is, payload-header-is, promoted-is, eight-lengths}
 use Rattle.round_trip.proofs.NetworkMessageFlags.{flags-are}
 use Rattle.round_trip.proofs.NetworkMessagePayload.{payload-is}
 use Rattle.round_trip.proofs.NetworkMessageMessages.{tiles, first-is}
@@ -86,17 +86,7 @@ read-written g x sizes configured f h long =
     let e2 : m2 ≡ length (b1 ++ b2) = omega (arith, length-append b1 b2) in
     let e5 : m5 ≡ length (b1 ++ (b2 ++ (b3 ++ (b4 ++ b5)))) =
     omega (arith, length-append b1 (b2 ++ (b3 ++ (b4 ++ b5))), length-append b2 (b3 ++ (b4 ++ b5)), length-append b3 (b4 ++ b5), length-append b4 b5) in
-    let e8 : m7 + length b8 ≡ length (headerBytes (g .text) (g .ids) (g .promoted) x) =
-    omega (
-      arith,
-      length-append b1 (b2 ++ (b3 ++ (b4 ++ (b5 ++ (b6 ++ (b7 ++ b8)))))),
-      length-append b2 (b3 ++ (b4 ++ (b5 ++ (b6 ++ (b7 ++ b8))))),
-      length-append b3 (b4 ++ (b5 ++ (b6 ++ (b7 ++ b8)))),
-      length-append b4 (b5 ++ (b6 ++ (b7 ++ b8))),
-      length-append b5 (b6 ++ (b7 ++ b8)),
-      length-append b6 (b7 ++ b8),
-      length-append b7 b8,
-    ) in
+    let e8 : m7 + length b8 ≡ length (headerBytes (g .text) (g .ids) (g .promoted) x) = eight-lengths b1 b2 b3 b4 b5 b6 b7 b8 in
     let p9 = payload-is (x .«payload_header») (x .chunk) sizes (headerBytes (g .text) (g .ids) (g .promoted) x) (g .lengths) (g .messages) (m7 + length b8) (sym e8) (r .payload) in
     rw (le-ltb 65535 (length s) long, p1, p2, p3, p4, p5, p6, p7, p8, p9)
     (same-places x (payloadFor (x .«payload_header») sizes (m7 + length b8)) m2 _ m5 _ (m7 + length b8) _ e2 e5 e8

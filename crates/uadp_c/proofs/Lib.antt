@@ -4,3 +4,4 @@ pub mod Judged
 pub mod Walking
 pub mod Held
 pub mod Wrote
+pub mod Emptied
