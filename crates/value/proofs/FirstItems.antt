@@ -27,11 +27,11 @@ use Rattle.value.proofs.Passing.{passed}
 unfoldable fine : ℕ → Bool
 fine b = not (fixed b) || (eqb (variantRule b) 0 && (eqb (typeOf b) b && (not (isArray b) && (not (eqb b 0) && plain b))))
 
-yes : (b : Bool) → T b → b ≡ true
+pub yes : (b : Bool) → T b → b ≡ true
 yes true t = refl
 yes false t = absurd t
 
-no : (b : Bool) → T (not b) → b ≡ false
+pub no : (b : Bool) → T (not b) → b ≡ false
 no true t = absurd t
 no false t = refl
 

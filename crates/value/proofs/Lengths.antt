@@ -14,11 +14,8 @@ use Rattle.wire.specs.Items.{lengthOf, lengthItem, answerLength}
 use Rattle.wire.specs.declared.Length.{Length}
 use Rattle.wire.specs.declared.ItemLength.{ItemLength}
 
-pub told-length : (at : ℕ) {r : ItemLength} {l l′ : Length} {next : ℕ} {z : Answer Length} → answerLength at r ≡ z → r ≡ ItemLength.Is l next → l ≡ l′ → z ≡ got l′ next
-told-length at {next = next} e q i = sym e ∙ ap (answerLength at) q ∙ ap (λ (x : Length). got x next) i
-
-pub told-short : (at : ℕ) {r : ItemLength} {z : Answer Length} → answerLength at r ≡ z → r ≡ ItemLength.Short → z ≡ refused 1 at
-told-short at e q = sym e ∙ ap (answerLength at) q
+pub told-length : (at : ℕ) {r x : ItemLength} {z : Answer Length} → answerLength at r ≡ z → r ≡ x → z ≡ answerLength at x
+told-length at e q = sym e ∙ ap (answerLength at) q
 
 -- a count, where there is one, is below 2^31
 data Small : Answer Length → Type 0 where

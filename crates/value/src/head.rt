@@ -6,13 +6,12 @@ use crate::plain::strings_at;
 use crate::width::packed_width;
 use wire::Item8;
 use wire::ItemLength;
-use wire::Length;
 use wire::Reached;
 use wire::read_length;
 use wire::read8;
 ghost use mathlib.Core.Path.{_≡_};
 ghost use mathlib.Core.List.{List};
-ghost use Prim.Native.Nat.{ℕ, _<_};
+ghost use Prim.Native.Nat.{ℕ, _+_, _<_};
 ghost use Rattle.wire.specs.Answer.{Reader};
 ghost use Rattle.wire.specs.Items.{answerReached};
 ghost use Rattle.value.specs.Plain.{passing, plainValues};
@@ -35,31 +34,6 @@ fn is_taken(t: u8) -> bool
         return true;
     }
     is_plain(t)
-}
-
-// The number of the first rule that a Variant's first byte breaks, or 0.
-fn variant_rule(b: u8) -> u8
-    ensures { λ r. ⌜ r ≡ variantRule b ⌝ }
-{
-    let t = b % 64;
-    let array = b / 128 % 2 == 1;
-    let dimensions = b / 64 % 2 == 1;
-    if dimensions & !array {
-        return 3;
-    }
-    if dimensions {
-        return 4;
-    }
-    if (t == 0) & array {
-        return 3;
-    }
-    if (t == 24) & !array {
-        return 3;
-    }
-    if is_taken(t) {
-        return 0;
-    }
-    4
 }
 
 // The head of a value that holds no other.
@@ -109,32 +83,60 @@ fn elements_head(s: &[u8], at: usize, t: u8, n: usize) -> Head
 fn array_head(s: &[u8], at: usize, t: u8) -> Head
     ensures { λ h. ⌜ ((nested : ℕ → Reader Measure) → finish nested (now (s .entry)) h ≡ passing (array nested t) (now (s .entry)) at) ⌝ }
 {
-    let ItemLength::Is(l, next) = read_length(s, at) else {
-        return Head::Refused(1, at);
-    };
-    match l {
-        Length::Null => Head::To(next),
-        Length::Of(n) => elements_head(s, next, t, n),
-        Length::Negative => Head::Refused(5, at),
+    match read_length(s, at) {
+        ItemLength::Null(next) => Head::To(next),
+        ItemLength::Of(next, n) => elements_head(s, next, t, n),
+        ItemLength::Negative(_) => Head::Refused(5, at),
+        ItemLength::Short => Head::Refused(1, at),
     }
 }
 
-// A Variant whose first byte b stands at `at`, before `next`.
+// A scalar Variant of type t, whose first byte stands at `first`, before `at`.
+fn scalar_variant(s: &[u8], first: usize, at: usize, t: u8) -> Head
+    requires { ⌜ t < 64 ⌝ }
+    ensures { λ h. ⌜ ((nested : ℕ → Reader Measure) → finish nested (now (s .entry)) h ≡ passing (judged variantRule t first (variantOf nested)) (now (s .entry)) at) ⌝ }
+{
+    if is_plain(t) | (t == 23) {
+        return scalar_head(s, at, t);
+    }
+    if t == 0 {
+        return Head::To(at);
+    }
+    if t == 24 {
+        return Head::Refused(3, first);
+    }
+    Head::Refused(4, first)
+}
+
+// A Variant that is an array of type t; its first byte, t + 128, stands at `first`, before `at`.
+fn array_variant(s: &[u8], first: usize, at: usize, t: u8) -> Head
+    requires { ⌜ t < 64 ⌝ }
+    ensures { λ h. ⌜ ((nested : ℕ → Reader Measure) → finish nested (now (s .entry)) h ≡ passing (judged variantRule (t + 128) first (variantOf nested)) (now (s .entry)) at) ⌝ }
+{
+    if t == 0 {
+        return Head::Refused(3, first);
+    }
+    if is_taken(t) {
+        return array_head(s, at, t);
+    }
+    Head::Refused(4, first)
+}
+
+// A Variant whose first byte b stands at `at`, before `next`. Its two highest bits part the bytes into scalars, dimensions without an array,
+// arrays, and dimensions.
 fn variant_head(s: &[u8], at: usize, next: usize, b: u8) -> Head
     ensures { λ h. ⌜ ((nested : ℕ → Reader Measure) → finish nested (now (s .entry)) h ≡ passing (judged variantRule b at (variantOf nested)) (now (s .entry)) next) ⌝ }
 {
-    let bad = variant_rule(b);
-    if bad != 0 {
-        return Head::Refused(bad, at);
+    if b < 64 {
+        return scalar_variant(s, at, next, b);
     }
-    let t = b % 64;
-    if t == 0 {
-        return Head::To(next);
+    if b < 128 {
+        return Head::Refused(3, at);
     }
-    if b / 128 % 2 == 1 {
-        return array_head(s, next, t);
+    if b < 192 {
+        return array_variant(s, at, next, b - 128);
     }
-    scalar_head(s, next, t)
+    Head::Refused(4, at)
 }
 
 // A DataValue whose mask m stands at `at`, before `next`.

@@ -9,17 +9,18 @@ use plain::bytes_at;
 use width::packed_width;
 use wire::Item8;
 use wire::ItemLength;
-use wire::Length;
 use wire::Reached;
 use wire::has;
 use wire::read_length;
 use wire::read8;
 ghost use mathlib.Core.Path.{_≡_};
+ghost use mathlib.Core.Bool.{cond};
+ghost use Prim.Native.Nat.{_≤_};
 ghost use Rattle.wire.specs.Answer.{andThen, whenOn, each};
 ghost use Rattle.wire.specs.Items.{answerReached};
 ghost use Rattle.value.specs.Plain.{passing, bytes};
 ghost use Rattle.value.specs.Value.{answerMeasured, parts, tooDeep, valueAt, variantAt, dataValueAt, rawAt};
-ghost use Rattle.value.specs.Head.{fixedEnd, arrayAt, describedAt};
+ghost use Rattle.value.specs.Head.{partsWidth, fixedEnd, arrayAt, describedAt};
 
 // A scalar, a null array, or an array with its element count.
 pub enum Shape {
@@ -51,8 +52,8 @@ fn part_if(s: &[u8], on: bool, w: usize, r: Reached) -> Reached
     }
 }
 
-// A DataValue's parts after its Variant, in wire order.
-fn parts_at(s: &[u8], at: usize, m: u8) -> Reached
+// A DataValue's parts after its Variant, in wire order, up to the first that does not fit.
+fn parts_in_order(s: &[u8], at: usize, m: u8) -> Reached
     ensures { λ r. ⌜ answerReached r ≡ parts m (now (s .entry)) at ⌝ }
 {
     let status = part_if(s, m / 2 % 2 == 1, 4, Reached::To(at));
@@ -60,6 +61,39 @@ fn parts_at(s: &[u8], at: usize, m: u8) -> Reached
     let source_picoseconds = part_if(s, m / 16 % 2 == 1, 2, source);
     let server = part_if(s, m / 8 % 2 == 1, 8, source_picoseconds);
     part_if(s, m / 32 % 2 == 1, 2, server)
+}
+
+fn width_if(on: bool, w: usize) -> usize
+    ensures { λ r. ⌜ (r ≡ cond on w 0) × (r ≤ w) ⌝ }
+{
+    if on {
+        return w;
+    }
+    0
+}
+
+// How many bytes a DataValue's parts after its Variant have together.
+fn parts_width(m: u8) -> usize
+    ensures { λ r. ⌜ r ≡ partsWidth m ⌝ }
+{
+    width_if(m / 2 % 2 == 1, 4)
+        + (width_if(m / 4 % 2 == 1, 8)
+            + (width_if(m / 16 % 2 == 1, 2)
+                + (width_if(m / 8 % 2 == 1, 8) + width_if(m / 32 % 2 == 1, 2))))
+}
+
+// A DataValue's parts after its Variant. Most have none, or all fit, and then only their width counts.
+fn parts_at(s: &[u8], at: usize, m: u8) -> Reached
+    ensures { λ r. ⌜ answerReached r ≡ parts m (now (s .entry)) at ⌝ }
+{
+    if m < 2 {
+        return Reached::To(at);
+    }
+    let w = parts_width(m);
+    if has(s.len(), at, w) {
+        return Reached::To(at + w);
+    }
+    parts_in_order(&*s, at, m)
 }
 
 // A value past the last level.
@@ -156,18 +190,16 @@ pub fn pass_variants(s: &[u8], at: usize, n: usize) -> Reached
 fn described_array(s: &[u8], at: usize, t: u8, end: usize) -> Measured
     ensures { λ r. ⌜ answerMeasured r ≡ arrayAt end t (now (s .entry)) at ⌝ }
 {
-    let ItemLength::Is(l, _) = read_length(s, at) else {
-        return Measured::Refused(1, at);
-    };
-    match l {
-        Length::Null => Measured::NullArray(t, end),
-        Length::Of(n) => Measured::Array(t, end, n),
-        Length::Negative => Measured::Refused(5, at),
+    match read_length(s, at) {
+        ItemLength::Null(_) => Measured::NullArray(t, end),
+        ItemLength::Of(_, n) => Measured::Array(t, end, n),
+        ItemLength::Negative(_) => Measured::Refused(5, at),
+        ItemLength::Short => Measured::Refused(1, at),
     }
 }
 
-// What the first items of an accepted Variant say of it. It ends at `end`.
-fn described(s: &[u8], at: usize, end: usize) -> Measured
+// What the first items of a Variant say of it that is accepted and ends at `end`.
+pub fn described(s: &[u8], at: usize, end: usize) -> Measured
     ensures { λ r. ⌜ answerMeasured r ≡ describedAt end (now (s .entry)) at ⌝ }
 {
     let Item8::Is(b, next) = read8(s, at) else {

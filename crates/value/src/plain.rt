@@ -1,7 +1,6 @@
 // Values that hold no other value: of fixed width, or with their length first.
 use crate::width::packed_width;
 use wire::ItemLength;
-use wire::Length;
 use wire::Reached;
 use wire::has;
 use wire::read_length;
@@ -24,13 +23,11 @@ pub(crate) fn bytes_at(s: &[u8], at: usize, n: usize) -> Reached
 fn string_at(s: &[u8], at: usize) -> Reached
     ensures { λ r. ⌜ answerReached r ≡ string (now (s .entry)) at ⌝ }
 {
-    let ItemLength::Is(l, next) = read_length(s, at) else {
-        return Reached::Refused(1, at);
-    };
-    match l {
-        Length::Null => Reached::To(next),
-        Length::Of(n) => bytes_at(s, next, n),
-        Length::Negative => Reached::Refused(5, at),
+    match read_length(s, at) {
+        ItemLength::Null(next) => Reached::To(next),
+        ItemLength::Of(next, n) => bytes_at(s, next, n),
+        ItemLength::Negative(_) => Reached::Refused(5, at),
+        ItemLength::Short => Reached::Refused(1, at),
     }
 }
 

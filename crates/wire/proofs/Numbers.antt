@@ -6,11 +6,11 @@ use mathlib.Core.Bool.{Bool, true, false}
 use Prim.Native.Nat.{ℕ, zero, suc, _+_, _*_, _-_, _/_, _^_, _≤_, _<_}
 use native.Mathlib.Nat.{add-zero, zero-add, suc-add, add-assoc, mul-assoc, mul-add, one-mul, pow-succ', div-one, div-div-eq-div-mul}
 use native.Mathlib.Omega.{arith}
-use borrow.Author.Tests.{ltb-true, lt-ltb, le-ltb}
+use borrow.Author.Tests.{ltb-true, lt-ltb, le-ltb, leb-false}
 use lib.Dec.{T, ltb}
 use lib.IntN.{ℤ, pos, negsuc, _-ℤ_, natAbs}
 use lib.ListN.{length, getD}
-use lib.Signed.{ltZ, nonNeg}
+use lib.Signed.{ltZ, leZ, nonNeg}
 use mir.Syntax.{Width, w32, w64}
 use mir.Val.{Fits, SFits, toZ, ofZ, hbits}
 use mir.ValLaws.{toZ-pos}
@@ -56,16 +56,16 @@ null-is (pos k) f e = let l : k < 2 ^ 31 = f .sfits in absurd (omega arith)
 null-is (negsuc zero) f e = refl
 null-is (negsuc (suc k)) f e = let l : suc k < 2 ^ 31 = f .sfits in absurd (omega arith)
 
-pub negative-is : (n : ℤ) → SFits w32 n → (ofZ w32 n ≡ 4294967295 → ⊥) → ltZ n (pos 0) ≡ true → Length.Negative ≡ lengthOf n
-negative-is (pos k) f e t = let l : k < 0 = ltb-true k 0 t in absurd (omega arith)
+pub negative-is : (n : ℤ) → SFits w32 n → (ofZ w32 n ≡ 4294967295 → ⊥) → leZ (pos 0) n ≡ false → Length.Negative ≡ lengthOf n
+negative-is (pos k) f e t = let l : k < 0 = leb-false 0 k t in absurd (omega arith)
 negative-is (negsuc zero) f e t = absurd (e refl)
 negative-is (negsuc (suc k)) f e t = refl
 
-pub of-is : (n : ℤ) → ltZ n (pos 0) ≡ false → Length.Of (natAbs n) ≡ lengthOf n
+pub of-is : (n : ℤ) → leZ (pos 0) n ≡ true → Length.Of (natAbs n) ≡ lengthOf n
 of-is (pos k) t = refl
 of-is (negsuc k) t = let z : _≡_ {A = ℕ} 0 1 = cc in absurd (omega arith)
 
-pub of-casts : (n : ℤ) → SFits w32 n → ltZ n (pos 0) ≡ false → T (nonNeg n) × Fits w64 (natAbs n)
+pub of-casts : (n : ℤ) → SFits w32 n → leZ (pos 0) n ≡ true → T (nonNeg n) × Fits w64 (natAbs n)
 of-casts (pos k) f t = let l : k < 2 ^ 31 = f .sfits in (tt, record { fits = omega arith })
 of-casts (negsuc k) f t = let z : _≡_ {A = ℕ} 0 1 = cc in absurd (omega arith)
 

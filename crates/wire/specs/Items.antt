@@ -74,5 +74,7 @@ abbrev pub lengthItem : Reader Length
 lengthItem s at = cond (leb (at + 4) (length s)) (got (lengthOf (signed 4 (le 4 s at))) (at + 4)) (refused 1 at)
 
 abbrev pub answerLength : ℕ → ItemLength → Answer Length
-answerLength at (ItemLength.Is v next) = got v next
+answerLength at (ItemLength.Null next) = got Length.Null next
+answerLength at (ItemLength.Of next n) = got (Length.Of n) next
+answerLength at (ItemLength.Negative next) = got Length.Negative next
 answerLength at ItemLength.Short = refused 1 at

@@ -74,8 +74,11 @@ pub enum Length {
     Negative,
 }
 
+// A length and the position after it, which comes first in each case: the answer is flat, so that it stays in registers.
 pub enum ItemLength {
-    Is(Length, usize),
+    Null(usize),
+    Of(usize, usize),
+    Negative(usize),
     Short,
 }
 
@@ -226,13 +229,13 @@ pub fn read_guid(s: &[u8], at: usize) -> ItemGuid
 pub fn length_of(n: i32) -> Length
     ensures { λ r. ⌜ r ≡ lengthOf n ⌝ }
 {
+    if 0 <= n {
+        return Length::Of(n as usize);
+    }
     if n == -1 {
         return Length::Null;
     }
-    if n < 0 {
-        return Length::Negative;
-    }
-    Length::Of(n as usize)
+    Length::Negative
 }
 
 pub fn read_length(s: &[u8], at: usize) -> ItemLength
@@ -241,5 +244,10 @@ pub fn read_length(s: &[u8], at: usize) -> ItemLength
     if !has(s.len(), at, 4) {
         return ItemLength::Short;
     }
-    ItemLength::Is(length_of(signed32(number4(s, at) as u32)), at + 4)
+    let next = at + 4;
+    match length_of(signed32(number4(s, at) as u32)) {
+        Length::Null => ItemLength::Null(next),
+        Length::Of(n) => ItemLength::Of(next, n),
+        Length::Negative => ItemLength::Negative(next),
+    }
 }

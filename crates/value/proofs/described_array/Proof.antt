@@ -1,29 +1,25 @@
 -- `value::described_array` meets its contract.
 -- Assumes nothing.
-use Rattle.value.proofs.Lengths.{told-length, told-short}
+use Rattle.value.proofs.Lengths.{told-length}
 use borrow.Author.Needs.{needs}
 use Rattle.value.proofs.described_array.Statement.{statement}
 use Rattle.value.proofs.described_array.Tie as tie
 
 returns : tie.Need-returns
 returns c =
-    let a = c .before .before .before .before .args in
-    rw (told-short (a .at) (c .before .before .read-length .ensures) (c .enum-told .given .1))
+    rw (told-length (c .before .before .before .before .args .at) (c .before .before .read-length .ensures) (c .enum-told .given .1))
 
 returns-2 : tie.Need-returns-2
 returns-2 c =
-    let a = c .before .before .before .before .before .before .before .args in
-    rw (told-length (a .at) (c .before .before .before .before .before .read-length .ensures) (c .before .before .before .l .given .1) (c .enum-told2 .given .1))
+    rw (told-length (c .before .before .before .before .before .args .at) (c .before .before .before .read-length .ensures) (c .before .n .given .1))
 
 returns-3 : tie.Need-returns-3
 returns-3 c =
-    let a = c .before .before .before .before .before .before .before .before .args in
-    rw (told-length (a .at) (c .before .before .before .before .before .before .read-length .ensures) (c .before .before .before .before .l .given .1) (c .before .l2 .given .1))
+    rw (told-length (c .before .before .before .before .args .at) (c .before .before .read-length .ensures) (c .enum-told2 .given .1))
 
 returns-4 : tie.Need-returns-4
 returns-4 c =
-    let a = c .before .before .before .before .before .before .before .args in
-    rw (told-length (a .at) (c .before .before .before .before .before .read-length .ensures) (c .before .before .before .l .given .1) (c .enum-told3 .given .1))
+    rw (told-length (c .before .before .before .before .args .at) (c .before .before .read-length .ensures) (c .enum-told3 .given .1))
 
 pub described-array-spec : {M : Type 1} → statement M
 described-array-spec =
@@ -32,10 +28,9 @@ described-array-spec =
     (λ c κs. search needs)
     (λ c. search needs)
     (λ c. search needs)
+    (λ c. search needs)
+    (λ c. search needs)
     returns
-    (λ c. search needs)
-    (λ c. search needs)
-    (λ c. search needs)
     returns-2
     returns-3
     returns-4)
