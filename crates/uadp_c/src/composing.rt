@@ -1,5 +1,5 @@
 // Datagrams and messages written from parts.
-use crate::rewriting::written_result;
+use crate::rewrites::written_result;
 use config::writers::first;
 use records::given::envelope_in;
 use records::given::header_in;

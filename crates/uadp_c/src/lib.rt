@@ -8,5 +8,5 @@ pub mod listings;
 pub mod messages;
 pub mod newness;
 pub mod reassembling;
-pub mod rewriting;
+pub mod rewrites;
 pub mod walks;

@@ -1,5 +1,5 @@
 // A datagram's listing.
-use crate::rewriting::written_result;
+use crate::rewrites::written_result;
 use config::writers::first;
 use listing_text::put_listing;
 use records::writers::ids;

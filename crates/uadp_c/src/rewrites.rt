@@ -33,7 +33,7 @@ pub extern "C" fn uadp_rewrite(datagram: &[u8], config: &[u8], out: &mut [u8]) -
     let n = writer_count(config);
     let list = sizes(config);
     let configured = first(&list, n);
-    let written = network_message_writer::envelope::rewrite(out, datagram, configured);
+    let written = rewriting::rewrite_datagram(out, datagram, configured);
     written_result(written)
 }
 
@@ -48,6 +48,6 @@ pub extern "C" fn uadp_rewrite_message(
     ensures { λ r. ⌜ (r ≡ writerResult (answerWritten (againWritten (length (now (out .entry))) (now (message .entry)) (messageAt (typesFor (now (config .entry)) writer) (now (message .entry)))))) × (now (out .exit) ≡ againBuffer (now (out .entry)) (now (message .entry)) (messageAt (typesFor (now (config .entry)) writer) (now (message .entry)))) ⌝ }
 {
     let types = types_for(config, writer);
-    let written = dataset_message_writer::rewrite::rewrite(out, message, types);
+    let written = rewriting::rewrite_message(out, message, types);
     written_result(written)
 }

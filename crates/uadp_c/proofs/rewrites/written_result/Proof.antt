@@ -1,8 +1,8 @@
--- `uadp_c::rewriting::written_result` meets its contract.
+-- `uadp_c::rewrites::written_result` meets its contract.
 -- Assumes nothing.
 use borrow.Author.Needs.{needs}
-use Rattle.uadp_c.proofs.rewriting.written_result.Statement.{statement}
-use Rattle.uadp_c.proofs.rewriting.written_result.Tie as tie
+use Rattle.uadp_c.proofs.rewrites.written_result.Statement.{statement}
+use Rattle.uadp_c.proofs.rewrites.written_result.Tie as tie
 
 returns : tie.Need-returns
 returns c = rw (c .before .before .w .given .1) (c .result .ensures)
