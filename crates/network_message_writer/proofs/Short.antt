@@ -10,9 +10,9 @@ use lib.Dec.{eqb, leb}
 use lib.ListN.{length, take, length-take}
 use borrow.Author.Tests.{eqb-true, leb-false}
 use Rattle.wire.proofs.Facts.{and-left}
-use Rattle.network_message.specs.declared.publisher.PublisherId.{PublisherId}
-use Rattle.network_message.specs.declared.header.PayloadHeader.{PayloadHeader}
-use Rattle.network_message.specs.declared.header.Promoted.{Promoted}
+use Rattle.network_header.specs.declared.publisher.PublisherId.{PublisherId}
+use Rattle.network_header.specs.declared.header.PayloadHeader.{PayloadHeader}
+use Rattle.network_header.specs.declared.header.Promoted.{Promoted}
 use Rattle.network_message.specs.declared.envelope.Envelope.{Envelope}
 use Rattle.network_message.specs.Payload.{configuredSizes, restAt}
 use Rattle.network_message.specs.Envelope.{messagesOf}

@@ -7,9 +7,9 @@ use Prim.Native.Nat.{ℕ, _+_}
 use lib.Dec.{eqb}
 use lib.ListN.{length, length-append}
 use Rattle.wire.specs.Number.{leBytes}
-use Rattle.network_message.specs.declared.flags.Flags.{Flags}
-use Rattle.network_message.specs.declared.group.GroupFields.{GroupFields}
-use Rattle.network_message.specs.declared.group.GroupHeader.{GroupHeader}
+use Rattle.network_header.specs.declared.flags.Flags.{Flags}
+use Rattle.network_header.specs.declared.group.GroupFields.{GroupFields}
+use Rattle.network_header.specs.declared.group.GroupHeader.{GroupHeader}
 use Rattle.network_message.specs.declared.envelope.Envelope.{Envelope}
 use Rattle.writing.specs.Writing.{needed, byteBytes, optional16Bytes, optional32Bytes, optionalI64Bytes}
 use Rattle.network_message_writer.specs.Flags.{extended2Of, extended1Of, byte0Of, flagBytes, flagsFor}

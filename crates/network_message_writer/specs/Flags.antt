@@ -3,7 +3,7 @@ use Prim.Native.Nat.{ℕ, _+_, _*_}
 use mathlib.Core.Bool.{Bool, cond}
 use mathlib.Core.List.{List, _++_}
 use Rattle.wire.specs.Number.{leBytes}
-use Rattle.network_message.specs.declared.flags.Flags.{Flags}
+use Rattle.network_header.specs.declared.flags.Flags.{Flags}
 use Rattle.network_message.specs.declared.envelope.Envelope.{Envelope}
 use Rattle.writing.specs.Writing.{num, needed, byteBytes, on16, onI64}
 use Rattle.network_message_writer.specs.Publisher.{publisherOn, kindOf}

@@ -4,9 +4,9 @@ use mathlib.Core.Bool.{Bool, true, false}
 use mathlib.Core.List.{List, [], _++_}
 use Rattle.wire.specs.Number.{leBytes}
 use Rattle.wire.specs.declared.optional.Optional16.{Optional16}
-use Rattle.network_message.specs.declared.group.GroupFields.{GroupFields}
-use Rattle.network_message.specs.declared.group.GroupHeader.{GroupHeader}
-use Rattle.network_message.specs.Group.{numberRule}
+use Rattle.network_header.specs.declared.group.GroupFields.{GroupFields}
+use Rattle.network_header.specs.declared.group.GroupHeader.{GroupHeader}
+use Rattle.network_header.specs.Group.{numberRule}
 use Rattle.writing.specs.Writing.{num, on16, on32, optional16Bytes, optional32Bytes}
 
 abbrev pub groupOn : GroupHeader → Bool

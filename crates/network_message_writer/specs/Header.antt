@@ -6,10 +6,10 @@ use lib.Dec.{leb, eqb}
 use lib.ListN.{length, take}
 use Rattle.wire.specs.Number.{le, leBytes}
 use Rattle.wire.specs.Items.{guidBytes}
-use Rattle.network_message.specs.declared.header.ClassId.{ClassId}
-use Rattle.network_message.specs.declared.header.PayloadHeader.{PayloadHeader}
-use Rattle.network_message.specs.declared.header.Promoted.{Promoted}
-use Rattle.network_message.specs.Header.{countRule, sizeRule}
+use Rattle.network_header.specs.declared.header.ClassId.{ClassId}
+use Rattle.network_header.specs.declared.header.PayloadHeader.{PayloadHeader}
+use Rattle.network_header.specs.declared.header.Promoted.{Promoted}
+use Rattle.network_header.specs.Header.{countRule, sizeRule}
 use Rattle.network_message_writer.specs.Publisher.{unused}
 
 abbrev pub classOn : ClassId → Bool

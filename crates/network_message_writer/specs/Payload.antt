@@ -6,7 +6,7 @@ use mathlib.Core.List.{List, []}
 use lib.Dec.{leb, eqb}
 use lib.ListN.{length}
 use Rattle.wire.specs.Answer.{Answer, got, refused}
-use Rattle.network_message.specs.declared.header.PayloadHeader.{PayloadHeader}
+use Rattle.network_header.specs.declared.header.PayloadHeader.{PayloadHeader}
 use Rattle.network_message.specs.Payload.{total, positive, listed, configuredSizes, restAt, payloadAt}
 use Rattle.network_message_writer.specs.Publisher.{unused}
 use Rattle.network_message_writer.specs.Header.{sameNumbers}

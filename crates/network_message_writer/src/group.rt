@@ -1,6 +1,6 @@
 // The group header.
-use network_message::group::GroupFields;
-use network_message::group::GroupHeader;
+use network_header::group::GroupFields;
+use network_header::group::GroupHeader;
 use wire::optional::Optional16;
 use wire::optional::Optional32;
 use writing::flag;
@@ -12,7 +12,7 @@ use writing::put8;
 ghost use mathlib.Core.Path.{_≡_};
 ghost use Prim.Native.Nat.{_≤_};
 ghost use lib.ListN.{length};
-ghost use Rattle.network_message.specs.Group.{numberRule};
+ghost use Rattle.network_header.specs.Group.{numberRule};
 ghost use Rattle.writing.specs.Writing.{Puts, optional16Bytes, optional32Bytes};
 ghost use Rattle.network_message_writer.specs.Group.{groupOn, groupFlagsOf, fieldsBytes, groupBytes, numberRefusal, groupRefusal};
 

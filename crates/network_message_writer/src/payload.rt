@@ -3,7 +3,7 @@ use crate::header::must_hold;
 use crate::numbers::listed_refusal;
 use crate::numbers::same_numbers;
 use crate::publisher::not_used;
-use network_message::header::PayloadHeader;
+use network_header::header::PayloadHeader;
 use network_message::payload::PayloadRead;
 use network_message::payload::read_payload;
 use network_message::payload::writers;

@@ -1,5 +1,5 @@
 // The PublisherId.
-use network_message::publisher::PublisherId;
+use network_header::publisher::PublisherId;
 use writing::put_run;
 use writing::put8;
 use writing::put16;

@@ -12,7 +12,7 @@ use borrow.Author.Tests.{le-leb, leb-true, eqb-true, ltb-true}
 use Rattle.wire.specs.Number.{le}
 use Rattle.wire.specs.Answer.{item}
 use Rattle.wire.proofs.Facts.{and-left, and-right}
-use Rattle.network_message.specs.declared.header.PayloadHeader.{PayloadHeader}
+use Rattle.network_header.specs.declared.header.PayloadHeader.{PayloadHeader}
 use Rattle.network_message.specs.declared.payload.Sizes.{Sizes}
 use Rattle.network_message.specs.Payload.{total, positive, listed, configuredSizes, payloadOf, restAt, valueOr0}
 use Rattle.network_message.proofs.Messages.{Tiles}

@@ -13,20 +13,20 @@ use Rattle.wire.specs.Optional.{optionalI64, picosecondsRule, picosecondsAt}
 use Rattle.wire.specs.declared.optional.Optional16.{Optional16}
 use Rattle.wire.specs.declared.optional.OptionalI64.{OptionalI64}
 use Rattle.wire.proofs.Reading.{got-value, got-next, not-got, invert}
-use Rattle.network_message.specs.declared.flags.Flags.{Flags}
-use Rattle.network_message.specs.declared.publisher.PublisherId.{PublisherId}
-use Rattle.network_message.specs.declared.group.GroupHeader.{GroupHeader}
-use Rattle.network_message.specs.declared.header.ClassId.{ClassId}
-use Rattle.network_message.specs.declared.header.PayloadHeader.{PayloadHeader}
-use Rattle.network_message.specs.declared.header.Promoted.{Promoted}
+use Rattle.network_header.specs.declared.flags.Flags.{Flags}
+use Rattle.network_header.specs.declared.publisher.PublisherId.{PublisherId}
+use Rattle.network_header.specs.declared.group.GroupHeader.{GroupHeader}
+use Rattle.network_header.specs.declared.header.ClassId.{ClassId}
+use Rattle.network_header.specs.declared.header.PayloadHeader.{PayloadHeader}
+use Rattle.network_header.specs.declared.header.Promoted.{Promoted}
 use Rattle.network_message.specs.declared.envelope.Identity.{Identity}
 use Rattle.network_message.specs.declared.envelope.Times.{Times}
 use Rattle.network_message.specs.declared.envelope.Envelope.{Envelope}
 use Rattle.network_message.specs.declared.envelope.Places.{Places}
-use Rattle.network_message.specs.Flags.{flagsAt}
-use Rattle.network_message.specs.Publisher.{publisherAt}
-use Rattle.network_message.specs.Group.{groupAt}
-use Rattle.network_message.specs.Header.{classAt, payloadHeaderAt, promotedAt}
+use Rattle.network_header.specs.Flags.{flagsAt}
+use Rattle.network_header.specs.Publisher.{publisherAt}
+use Rattle.network_header.specs.Group.{groupAt}
+use Rattle.network_header.specs.Header.{classAt, payloadHeaderAt, promotedAt}
 use Rattle.network_message.specs.Payload.{configuredSizes, payloadAt}
 use Rattle.network_message.specs.Envelope.{Header, NetworkMessage, identityAt, timesAt, messagesOf, headerAt, bodyAt, networkMessageAt}
 use Rattle.writing.specs.declared.Written.{Written}

@@ -1,7 +1,7 @@
 -- `network_message_writer::flags::flags_size` meets its contract.
 -- Assumes nothing.
 use Rattle.network_message_writer.specs.Flags.{flagBytes}
-use Rattle.network_message.specs.declared.flags.Flags.{Flags}
+use Rattle.network_header.specs.declared.flags.Flags.{Flags}
 use lib.ListN.{length}
 use mathlib.Core.Path.{ap, _∙_}
 use borrow.Author.Needs.{needs}
