@@ -18,11 +18,12 @@ use Rattle.network_message.specs.Payload.{configuredSizes, restAt}
 use Rattle.network_message.specs.Envelope.{messagesOf}
 use Rattle.writing.specs.Writing.{orElse, on16, onI64, picosecondsRefusal}
 use Rattle.writing.proofs.Refusals.{passed, held, both-zero}
-use Rattle.network_message_writer.specs.Flags.{timesRefusal}
-use Rattle.network_message_writer.specs.Group.{groupRefusal}
-use Rattle.network_message_writer.specs.Publisher.{publisherRefusal, unused, publisherShape}
-use Rattle.network_message_writer.specs.Header.{countRefusal, promotedRefusal, agree, sameNumbers, idsShape, promotedShape}
-use Rattle.network_message_writer.specs.Payload.{numberIn, listedRefusal, payloadRefusal, lengthsShape}
+use Rattle.network_header_writer.specs.Flags.{timesRefusal}
+use Rattle.network_header_writer.specs.Group.{groupRefusal}
+use Rattle.network_header_writer.specs.Publisher.{publisherRefusal, unused, publisherShape}
+use Rattle.network_header_writer.specs.Header.{countRefusal, promotedRefusal, idsShape, promotedShape}
+use Rattle.network_header_writer.specs.Numbers.{agree, sameNumbers, listedRefusal}
+use Rattle.network_message_writer.specs.Payload.{numberIn, payloadRefusal, lengthsShape}
 use Rattle.network_message_writer.specs.Envelope.{Given, readingRefusal, shapeRefusal, refusalOf}
 
 -- none of the refusals

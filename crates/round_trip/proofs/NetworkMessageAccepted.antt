@@ -27,10 +27,11 @@ use Rattle.network_message.specs.Envelope.{Header, NetworkMessage, identityAt, 
 use Rattle.writing.specs.Writing.{orElse, on16, onI64, picosecondsRefusal}
 use Rattle.writing.proofs.Trip.{At, le-at}
 use Rattle.writing.proofs.Back.{run-back, map-back}
-use Rattle.network_message_writer.specs.Flags.{timesRefusal}
-use Rattle.network_message_writer.specs.Publisher.{unused, publisherRefusal, publisherShape}
-use Rattle.network_message_writer.specs.Group.{groupRefusal}
-use Rattle.network_message_writer.specs.Header.{agree, sameNumbers, idsShape, countRefusal, promotedRefusal, promotedShape}
+use Rattle.network_header_writer.specs.Flags.{timesRefusal}
+use Rattle.network_header_writer.specs.Publisher.{unused, publisherRefusal, publisherShape}
+use Rattle.network_header_writer.specs.Group.{groupRefusal}
+use Rattle.network_header_writer.specs.Header.{idsShape, countRefusal, promotedRefusal, promotedShape}
+use Rattle.network_header_writer.specs.Numbers.{agree, sameNumbers}
 use Rattle.network_message_writer.specs.Payload.{listBytes, numberIn, payloadRefusal, lengthsShape}
 use Rattle.network_message_writer.specs.Envelope.{datagramOf, refusalOf, before, textOf, promotedOf, againOf}
 use Rattle.round_trip.specs.NetworkMessage.{rewritten, AsManyLengths, numbersBytes, idsGiven, lengthsGiven, messagesGiven, givenOf}

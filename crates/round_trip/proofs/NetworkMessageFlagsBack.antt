@@ -18,7 +18,7 @@ use Rattle.writing.specs.Writing.{needed, byteBytes}
 use Rattle.writing.proofs.Refusals.{passed, held}
 use Rattle.writing.proofs.Bits.{num-bit}
 use Rattle.writing.proofs.Back.{Back, empty, join, end-fits, item-back, ruled-back, map-back}
-use Rattle.network_message_writer.specs.Flags.{extended2Of, extended1Of, byte0Of, flagBytes}
+use Rattle.network_header_writer.specs.Flags.{extended2Of, extended1Of, byte0Of, flagBytes}
 use Rattle.writing.specs.Fits.{Bytes}
 
 -- a byte is the sum of its bits

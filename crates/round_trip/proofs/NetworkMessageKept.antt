@@ -27,10 +27,10 @@ use Rattle.network_header.specs.Header.{countRule, payloadHeaderAt, sizeRule, p
 use Rattle.writing.specs.Writing.{picosecondsRefusal}
 use Rattle.writing.proofs.Refusals.{passed, no}
 use Rattle.writing.proofs.Back.{item-back, run-back, ruled-back, map-back}
-use Rattle.network_message_writer.specs.Flags.{timesRefusal}
-use Rattle.network_message_writer.specs.Publisher.{publisherRefusal, publisherShape}
-use Rattle.network_message_writer.specs.Group.{numberRefusal, groupRefusal}
-use Rattle.network_message_writer.specs.Header.{promotedRefusal, promotedShape}
+use Rattle.network_header_writer.specs.Flags.{timesRefusal}
+use Rattle.network_header_writer.specs.Publisher.{publisherRefusal, publisherShape}
+use Rattle.network_header_writer.specs.Group.{numberRefusal, groupRefusal}
+use Rattle.network_header_writer.specs.Header.{promotedRefusal, promotedShape}
 use Rattle.network_message_writer.specs.Envelope.{before, textOf, promotedOf}
 use Rattle.round_trip.proofs.NetworkMessagePartsBack.{before-length}
 use Rattle.writing.specs.Fits.{Bytes}

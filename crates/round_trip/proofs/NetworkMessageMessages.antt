@@ -18,9 +18,9 @@ use Rattle.network_message.specs.Payload.{total, positive, listed, configuredSi
 use Rattle.network_message.proofs.Messages.{Tiles}
 use Rattle.network_message.proofs.Accepted.{OfMessages}
 use Rattle.writing.proofs.Refusals.{held}
-use Rattle.network_message_writer.specs.Publisher.{unused}
-use Rattle.network_message_writer.specs.Header.{agree, sameNumbers}
-use Rattle.network_message_writer.specs.Payload.{listBytes, numberIn, listedRefusal, payloadRefusal, lengthsShape}
+use Rattle.network_header_writer.specs.Publisher.{unused}
+use Rattle.network_header_writer.specs.Numbers.{agree, sameNumbers, listedRefusal}
+use Rattle.network_message_writer.specs.Payload.{listBytes, numberIn, payloadRefusal, lengthsShape}
 use Rattle.network_message_writer.specs.Envelope.{Given}
 use Rattle.round_trip.specs.NetworkMessage.{payloadFor, givenLengths}
 use Rattle.round_trip.proofs.NetworkMessagePayload.{listed-at-start, Listed, listed-facts, some-message, Configured, absent-facts}

@@ -25,9 +25,9 @@ use Rattle.writing.specs.Writing.{num, on16, on32, optional16Bytes, optional32B
 use Rattle.writing.proofs.Trip.{Reads, first, second, fits-at, last, nothing, rule-kept, run-is, le-at, item-is, ruled-is, guid-is, optional16-is, optional32-is}
 use Rattle.writing.proofs.Refusals.{passed, held}
 use Rattle.writing.proofs.Bits.{num-bound, flag-is}
-use Rattle.network_message_writer.specs.Publisher.{publisherOn, kindOf, publisherBytes, publisherRefusal, publisherShape}
-use Rattle.network_message_writer.specs.Group.{groupOn, groupFlagsOf, fieldsBytes, groupBytes, numberRefusal, groupRefusal}
-use Rattle.network_message_writer.specs.Header.{classOn, classBytes, payloadHeaderOn, payloadHeaderBytes, promotedOn, promotedBytes, countRefusal, promotedRefusal, idsShape, promotedShape}
+use Rattle.network_header_writer.specs.Publisher.{publisherOn, kindOf, publisherBytes, publisherRefusal, publisherShape}
+use Rattle.network_header_writer.specs.Group.{groupOn, groupFlagsOf, fieldsBytes, groupBytes, numberRefusal, groupRefusal}
+use Rattle.network_header_writer.specs.Header.{classOn, classBytes, payloadHeaderOn, payloadHeaderBytes, promotedOn, promotedBytes, countRefusal, promotedRefusal, idsShape, promotedShape}
 use Rattle.network_message_writer.proofs.Short.{ids-counted}
 use Rattle.writing.specs.Fits.{Fits16}
 use Rattle.round_trip.specs.NetworkMessage.{FitsClass, FitsFields, FitsGroup, FitsPayloadHeader, FitsPublisher}

@@ -29,11 +29,12 @@ use Rattle.writing.specs.Writing.{orElse, num, needed, byteBytes, on16, on32, o
 use Rattle.writing.proofs.Trip.{At, first, second, fits-at, le-at, item-is, rule-kept, optional16-is, optional32-is, optionalI64-is, picoseconds-is}
 use Rattle.writing.proofs.Refusals.{passed, held, or-case, no, Refuses, broken, number-broken, picoseconds-refuses}
 use Rattle.writing.proofs.Bits.{num-bound, needed-bound, flag-is}
-use Rattle.network_message_writer.specs.Flags.{extended2Of, extended1Of, byte0Of, flagBytes, flagsFor, timesRefusal}
-use Rattle.network_message_writer.specs.Publisher.{publisherOn, kindOf, publisherBytes, publisherRefusal, publisherShape}
-use Rattle.network_message_writer.specs.Group.{groupOn, groupFlagsOf, fieldsBytes, groupBytes, numberRefusal, groupRefusal}
-use Rattle.network_message_writer.specs.Header.{classBytes, payloadHeaderOn, payloadHeaderBytes, promotedOn, promotedBytes, countRefusal, promotedRefusal, idsShape, promotedShape}
-use Rattle.network_message_writer.specs.Payload.{listBytes, numberIn, listedRefusal, payloadRefusal}
+use Rattle.network_header_writer.specs.Flags.{extended2Of, extended1Of, byte0Of, flagBytes, flagsFor, timesRefusal}
+use Rattle.network_header_writer.specs.Publisher.{publisherOn, kindOf, publisherBytes, publisherRefusal, publisherShape}
+use Rattle.network_header_writer.specs.Group.{groupOn, groupFlagsOf, fieldsBytes, groupBytes, numberRefusal, groupRefusal}
+use Rattle.network_header_writer.specs.Header.{classBytes, payloadHeaderOn, payloadHeaderBytes, promotedOn, promotedBytes, countRefusal, promotedRefusal, idsShape, promotedShape}
+use Rattle.network_message_writer.specs.Payload.{listBytes, numberIn, payloadRefusal}
+use Rattle.network_header_writer.specs.Numbers.{listedRefusal}
 use Rattle.network_message_writer.specs.Envelope.{Given, headerBytes, datagramOf, readingRefusal}
 use Rattle.network_message_writer.proofs.Short.{ids-counted}
 use Rattle.round_trip.specs.NetworkMessage.{AsManyLengths, FitsEnvelope, FitsGroup}

@@ -33,12 +33,12 @@ use Rattle.writing.specs.declared.Written.{Written}
 use Rattle.writing.specs.Writing.{needed, numberFor, answerBy, bufferBy, optional16Bytes, optionalI64Bytes}
 use Rattle.writing.proofs.Answering.{writes, reports}
 use Rattle.writing.proofs.Back.{Back, join, rest-is, end-fits, map-back, optionalI64-back, ruled16-back}
-use Rattle.network_message_writer.specs.Flags.{extended1Of, flagsFor, flagBytes}
-use Rattle.network_message_writer.specs.Publisher.{publisherOn, publisherBytes}
-use Rattle.network_message_writer.specs.Group.{groupBytes}
-use Rattle.network_message_writer.specs.Header.{classBytes, payloadHeaderBytes, promotedBytes}
+use Rattle.network_header_writer.specs.Flags.{extended1Of, flagsFor, flagBytes}
+use Rattle.network_header_writer.specs.Publisher.{publisherOn, publisherBytes}
+use Rattle.network_header_writer.specs.Group.{groupBytes}
+use Rattle.network_header_writer.specs.Header.{classBytes, payloadHeaderBytes, promotedBytes}
 use Rattle.network_message_writer.specs.Envelope.{headerBytes, textOf, idsOf, promotedOf, againOf, rewriteAnswer, rewriteBuffer}
-use Rattle.network_message_writer.proofs.Sizes.{flags-sized}
+use Rattle.network_header_writer.proofs.Sizes.{flags-sized}
 use Rattle.network_message_writer.proofs.Again.{accepted-short}
 use Rattle.round_trip.specs.NetworkMessage.{rewrittenFlags, rewrittenAs, rewritten}
 use Rattle.round_trip.proofs.NetworkMessageFlagsBack.{flags-back}
