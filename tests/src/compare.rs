@@ -22,10 +22,11 @@ type Counts = [u64; 17];
 pub struct Tally {
     operations: BTreeMap<&'static str, Counts>,
     failures: BTreeMap<&'static str, u64>,
+    differences: BTreeMap<&'static str, Vec<String>>,
 }
 
 /// How many differences of an operation are printed.
-const PRINTED: u64 = 3;
+const PRINTED: usize = 3;
 
 impl Tally {
     /// Compared cases.
@@ -38,11 +39,34 @@ impl Tally {
         self.failures.values().sum()
     }
 
-    /// Counts a difference; whether it is to be printed.
-    fn fail(&mut self, operation: &'static str) -> bool {
-        let failures = self.failures.entry(operation).or_default();
-        *failures += 1;
-        *failures <= PRINTED
+    /// Counts a difference, and keeps its text if it is to be printed.
+    fn fail(&mut self, operation: &'static str, text: impl FnOnce() -> String) {
+        *self.failures.entry(operation).or_default() += 1;
+        let differences = self.differences.entry(operation).or_default();
+        if differences.len() < PRINTED {
+            differences.push(text());
+        }
+    }
+
+    /// Adds what was compared after this.
+    pub fn add(&mut self, later: Self) {
+        for (operation, counts) in later.operations {
+            let sums = self.operations.entry(operation).or_default();
+            sums.iter_mut().zip(counts).for_each(|(sum, count)| *sum += count);
+        }
+        for (operation, count) in later.failures {
+            *self.failures.entry(operation).or_default() += count;
+        }
+        for (operation, texts) in later.differences {
+            let differences = self.differences.entry(operation).or_default();
+            differences.extend(texts);
+            differences.truncate(PRINTED);
+        }
+    }
+
+    /// The first differences of each operation.
+    pub fn differences(&self) -> String {
+        self.differences.values().flatten().map(String::as_str).collect()
     }
 
     /// How often each number was answered.
@@ -75,9 +99,7 @@ impl Tally {
         if found == expected {
             return true;
         }
-        if self.fail(operation) {
-            print!("{}", difference(operation, found, expected, input));
-        }
+        self.fail(operation, || difference(operation, found, expected, input));
         false
     }
 }
@@ -196,8 +218,7 @@ impl ReadOnly {
     fn judge(&self, tally: &mut Tally, operation: &'static str, inputs: &[(&str, &[u8])]) -> bool {
         let unchanged = self.0.iter().zip(inputs).all(|(kept, (_, input))| kept == black_box(input));
         if !unchanged {
-            tally.fail(operation);
-            println!("DIFFERENCE: {operation} changed what it only reads");
+            tally.fail(operation, || format!("DIFFERENCE: {operation} changed what it only reads\n"));
         }
         unchanged
     }

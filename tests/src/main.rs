@@ -1,6 +1,9 @@
 //! `uadp-tests [COUNT] [SEED]`: compares the library with the reference on at least COUNT generated cases.
 //! Its last line is `N passed, M failed`.
 use std::process::ExitCode;
+use std::sync::atomic::{AtomicUsize, Ordering};
+use std::sync::OnceLock;
+use std::thread;
 use uadp_tests::compare::{self, Tally};
 use uadp_tests::generate::Random;
 
@@ -8,6 +11,8 @@ const COUNT: u64 = 4_000_000;
 const SEED: u64 = 1;
 /// Each number has to be answered so often.
 const OFTEN: u64 = 100;
+/// The cases are drawn in so many shares, one for each byte, each by a generator of its own.
+const SHARES: usize = 256;
 
 type Compare = fn(&mut Tally, &mut Random);
 
@@ -34,20 +39,46 @@ fn draw(tally: &mut Tally, random: &mut Random) {
     compare::newness(tally, random);
 }
 
+/// What is exhausted for a byte, and drawn cases up to the share's count.
+fn share(byte: u8, mut random: Random, count: u64) -> Tally {
+    let mut tally = Tally::default();
+    compare::every_flag(&mut tally, &mut random, byte);
+    compare::every_newness(&mut tally, &mut random, byte);
+    while tally.total() < count {
+        draw(&mut tally, &mut random);
+    }
+    tally
+}
+
+/// All shares, added in their order: whichever thread takes one, the sum is the same.
+fn compare_all(count: u64, seed: u64) -> Tally {
+    let mut seeds = Random::new(seed);
+    let starts: Vec<u64> = (0..SHARES).map(|_| seeds.number()).collect();
+    let shares: Vec<OnceLock<Tally>> = (0..SHARES).map(|_| OnceLock::new()).collect();
+    let next = AtomicUsize::new(0);
+    let work = || loop {
+        let k = next.fetch_add(1, Ordering::Relaxed);
+        let (Some(cell), Some(start)) = (shares.get(k), starts.get(k)) else { return };
+        let _ = cell.set(share(k as u8, Random::new(*start), count.div_ceil(SHARES as u64)));
+    };
+    thread::scope(|scope| {
+        for _ in 0..thread::available_parallelism().map_or(1, usize::from) {
+            scope.spawn(work);
+        }
+    });
+    let mut tally = Tally::default();
+    shares.into_iter().filter_map(OnceLock::into_inner).for_each(|share| tally.add(share));
+    tally
+}
+
 fn main() -> ExitCode {
     let mut arguments = std::env::args().skip(1).map(|argument| argument.parse::<u64>());
     let (Ok(count), Ok(seed)) = (arguments.next().unwrap_or(Ok(COUNT)), arguments.next().unwrap_or(Ok(SEED))) else {
         eprintln!("usage: uadp-tests [COUNT] [SEED]");
         return ExitCode::from(2);
     };
-    let mut random = Random::new(seed);
-    let mut tally = Tally::default();
-    compare::every_flag(&mut tally, &mut random);
-    compare::every_newness(&mut tally, &mut random);
-    while tally.total() < count {
-        draw(&mut tally, &mut random);
-    }
-    println!("seed {seed}\n{}", tally.table());
+    let tally = compare_all(count, seed);
+    println!("{}seed {seed}\n{}", tally.differences(), tally.table());
     let mut failed = tally.failed();
     for (number, times) in tally.counts().iter().enumerate().filter(|(_, times)| **times < OFTEN) {
         println!("number {number} was reached {times} times only");

@@ -8,11 +8,11 @@ use lib.Dec.{ltb}
 use lib.ListN.{length}
 use Rattle.wire.specs.Answer.{got}
 use Rattle.wire.proofs.Reading.{got-value, not-got, invert}
-use Rattle.network_message.specs.Flags.{flagsAt}
+use Rattle.network_header.specs.Flags.{flagsAt}
 use Rattle.network_message.specs.Payload.{configuredSizes, payloadAt}
 use Rattle.network_message.specs.Envelope.{NetworkMessage, headerAt, bodyAt, networkMessageAt}
-use Rattle.network_message.specs.declared.flags.Flags.{Flags}
-use Rattle.network_message.specs.declared.header.PayloadHeader.{PayloadHeader}
+use Rattle.network_header.specs.declared.flags.Flags.{Flags}
+use Rattle.network_header.specs.declared.header.PayloadHeader.{PayloadHeader}
 use Rattle.network_message.specs.declared.payload.Payload.{Payload}
 use Rattle.network_message.proofs.Accepted.{Tiled, OfMessages, payload-tiled}
 

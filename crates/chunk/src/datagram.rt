@@ -2,10 +2,10 @@
 use crate::payload::ChunkPayload;
 use crate::payload::ChunkPayloadRead;
 use crate::payload::read_payload;
+use network_header::header::PayloadHeader;
+use network_header::publisher::PublisherId;
 use network_message::envelope::Envelope;
 use network_message::envelope::NetworkMessageRead;
-use network_message::header::PayloadHeader;
-use network_message::publisher::PublisherId;
 use wire::part::part;
 ghost use mathlib.Core.Path.{_≡_};
 ghost use Rattle.chunk.specs.Datagram.{writerOf, chunkOf, chunkAt, chunkData, answerChunk};

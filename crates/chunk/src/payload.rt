@@ -2,7 +2,6 @@
 use wire::Item16;
 use wire::Item32;
 use wire::ItemLength;
-use wire::Length;
 use wire::Run;
 ghost use mathlib.Core.Path.{_≡_};
 ghost use Prim.Native.Nat.{_+_};
@@ -84,13 +83,11 @@ fn sized_data(offset: usize, total: usize, n: usize, at: usize, next: usize) -> 
 fn read_data_length(s: &[u8], offset: usize, total: usize, at: usize) -> SizeRead
     ensures { λ r. ⌜ answerSize r ≡ dataLengthAt offset total (now (s .entry)) at ⌝ }
 {
-    let ItemLength::Is(length, next) = wire::read_length(s, at) else {
-        return SizeRead::Refused(1, at);
-    };
-    match length {
-        Length::Null => SizeRead::Refused(6, at),
-        Length::Of(n) => sized_data(offset, total, n, at, next),
-        Length::Negative => SizeRead::Refused(5, at),
+    match wire::read_length(s, at) {
+        ItemLength::Null(_) => SizeRead::Refused(6, at),
+        ItemLength::Of(next, n) => sized_data(offset, total, n, at, next),
+        ItemLength::Negative(_) => SizeRead::Refused(5, at),
+        ItemLength::Short => SizeRead::Refused(1, at),
     }
 }
 

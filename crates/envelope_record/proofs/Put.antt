@@ -6,7 +6,7 @@ use mathlib.Core.List.{List, [], _∷_}
 use native.Mathlib.Omega.{arith}
 use lib.ListN.{length}
 use Rattle.wire.specs.Store.{laid}
-use Rattle.network_message.specs.PublisherRecord.{codeOf}
+use Rattle.network_header.specs.PublisherRecord.{codeOf}
 use Rattle.network_message.specs.declared.envelope.Envelope.{Envelope}
 use Rattle.network_message.specs.declared.envelope.Places.{Places}
 use Rattle.network_message.specs.declared.payload.Payload.{Payload}

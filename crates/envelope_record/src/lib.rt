@@ -1,11 +1,11 @@
 // The records of an envelope and of a message's place.
+use network_header::group::GroupFields;
+use network_header::group::GroupHeader;
+use network_header::header::ClassId;
+use network_header::header::PayloadHeader;
+use network_header::header::Promoted;
 use network_message::envelope::Envelope;
 use network_message::envelope::Places;
-use network_message::group::GroupFields;
-use network_message::group::GroupHeader;
-use network_message::header::ClassId;
-use network_message::header::PayloadHeader;
-use network_message::header::Promoted;
 use network_message::payload::MessageCursor;
 use network_message::payload::MessagePlace;
 use network_message::payload::Payload;

@@ -12,7 +12,7 @@ use lib.ListN.{length, set, take, length-set, length-append, length-take}
 use lib.Seq.{sets}
 use Rattle.wire.specs.Store.{Stored}
 use Rattle.wire.proofs.Stores.{sets-append}
-use Rattle.network_message.specs.declared.publisher.PublisherId.{PublisherId}
+use Rattle.network_header.specs.declared.publisher.PublisherId.{PublisherId}
 use Rattle.listing.specs.Columns.{tabbed, Put}
 use Rattle.listing.specs.Line.{idTooLong, tooLong, lineText, lineRefusal, linePut, lineAfter}
 use Rattle.listing.specs.declared.line.Line.{Line}

@@ -9,7 +9,7 @@ use Rattle.wire.specs.declared.optional.Optional16.{Optional16}
 use Rattle.config.specs.Writers.{atMost, fieldsOfId}
 use Rattle.config.specs.declared.Config.{Config}
 use Rattle.config.specs.Config.{configOf}
-use Rattle.network_message.specs.Header.{writerIdOf}
+use Rattle.network_message.specs.WriterId.{writerIdOf}
 use Rattle.network_message.specs.Payload.{Stepped, stepAt}
 use Rattle.network_message.specs.Envelope.{NetworkMessage, networkMessageAt}
 use Rattle.network_message.specs.declared.payload.MessagePlace.{MessagePlace}

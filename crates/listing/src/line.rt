@@ -9,7 +9,7 @@ use crate::columns::word;
 use dataset_message::fields::Field;
 use dataset_message::flags::Encoding;
 use dataset_message::flags::Kind;
-use network_message::publisher::PublisherId;
+use network_header::publisher::PublisherId;
 use wire::optional::Optional16;
 use wire::part::part;
 ghost use mathlib.Core.Path.{_≡_};

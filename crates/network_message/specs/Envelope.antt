@@ -6,8 +6,8 @@ use lib.ListN.{length, take, drop}
 use lib.Dec.{ltb}
 use Rattle.wire.specs.Answer.{Answer, got, refused, Reader, here, pure, andThen, _>>=_}
 use Rattle.wire.specs.Optional.{optionalI64, picosecondsAt}
-use Rattle.network_message.specs.declared.flags.Flags.{Flags}
-use Rattle.network_message.specs.declared.header.PayloadHeader.{PayloadHeader}
+use Rattle.network_header.specs.declared.flags.Flags.{Flags}
+use Rattle.network_header.specs.declared.header.PayloadHeader.{PayloadHeader}
 use Rattle.network_message.specs.declared.payload.Payload.{Payload}
 use Rattle.network_message.specs.declared.payload.MessagePlace.{MessagePlace}
 use Rattle.network_message.specs.declared.envelope.Identity.{Identity}
@@ -18,10 +18,10 @@ use Rattle.network_message.specs.declared.envelope.Envelope.{Envelope}
 use Rattle.network_message.specs.declared.envelope.Places.{Places}
 use Rattle.network_message.specs.declared.envelope.HeaderRead.{HeaderRead}
 use Rattle.network_message.specs.declared.envelope.NetworkMessageRead.{NetworkMessageRead}
-use Rattle.network_message.specs.Flags.{flagsAt}
-use Rattle.network_message.specs.Publisher.{publisherAt}
-use Rattle.network_message.specs.Group.{groupAt}
-use Rattle.network_message.specs.Header.{classAt, payloadHeaderAt, promotedAt}
+use Rattle.network_header.specs.Flags.{flagsAt}
+use Rattle.network_header.specs.Publisher.{publisherAt}
+use Rattle.network_header.specs.Group.{groupAt}
+use Rattle.network_header.specs.Header.{classAt, payloadHeaderAt, promotedAt}
 use Rattle.network_message.specs.Payload.{configuredSizes, payloadAt, nthAt}
 
 -- what is read: the envelope, where its variable parts end, and where its messages stand

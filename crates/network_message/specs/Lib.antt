@@ -1,7 +1,3 @@
-pub mod Flags
-pub mod Publisher
-pub mod Group
-pub mod Header
 pub mod Payload
 pub mod Envelope
-pub mod PublisherRecord
+pub mod WriterId

@@ -1,5 +1,5 @@
 // The payload: where its DataSetMessages stand.
-use crate::header::PayloadHeader;
+use network_header::header::PayloadHeader;
 use wire::Item16;
 use wire::Run;
 ghost use mathlib.Core.Path.{_≡_};

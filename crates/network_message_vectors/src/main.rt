@@ -3,21 +3,21 @@
 // the PublisherId and each message as writer id, offset and length, or with `bad`, number and place.
 use libc::STDIN_FILENO;
 use libc::STDOUT_FILENO;
+use network_header::header::PayloadHeader;
+use network_header::publisher::PublisherId;
+use network_header::publisher_record::PublisherRecord;
+use network_header::publisher_record::publisher_record;
+use network_header::publisher_record::same_publisher;
 use network_message::envelope::NetworkMessageRead;
 use network_message::envelope::message;
 use network_message::envelope::message_place;
 use network_message::envelope::read;
-use network_message::header::PayloadHeader;
-use network_message::header::writer_id;
 use network_message::payload::MessageCursor;
 use network_message::payload::MessagePlace;
 use network_message::payload::MessageRead;
 use network_message::payload::MessageStep;
 use network_message::payload::Payload;
-use network_message::publisher::PublisherId;
-use network_message::publisher_record::PublisherRecord;
-use network_message::publisher_record::publisher_record;
-use network_message::publisher_record::same_publisher;
+use network_message::writer_id::writer_id;
 use text::hex::read_hex;
 use text::words::find;
 use wire::optional::Optional16;

@@ -1,5 +1,3 @@
-pub mod Parts
 pub mod Sizes
-pub mod Agreeing
 pub mod Short
 pub mod Again

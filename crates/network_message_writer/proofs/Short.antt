@@ -10,19 +10,20 @@ use lib.Dec.{eqb, leb}
 use lib.ListN.{length, take, length-take}
 use borrow.Author.Tests.{eqb-true, leb-false}
 use Rattle.wire.proofs.Facts.{and-left}
-use Rattle.network_message.specs.declared.publisher.PublisherId.{PublisherId}
-use Rattle.network_message.specs.declared.header.PayloadHeader.{PayloadHeader}
-use Rattle.network_message.specs.declared.header.Promoted.{Promoted}
+use Rattle.network_header.specs.declared.publisher.PublisherId.{PublisherId}
+use Rattle.network_header.specs.declared.header.PayloadHeader.{PayloadHeader}
+use Rattle.network_header.specs.declared.header.Promoted.{Promoted}
 use Rattle.network_message.specs.declared.envelope.Envelope.{Envelope}
 use Rattle.network_message.specs.Payload.{configuredSizes, restAt}
 use Rattle.network_message.specs.Envelope.{messagesOf}
 use Rattle.writing.specs.Writing.{orElse, on16, onI64, picosecondsRefusal}
 use Rattle.writing.proofs.Refusals.{passed, held, both-zero}
-use Rattle.network_message_writer.specs.Flags.{timesRefusal}
-use Rattle.network_message_writer.specs.Group.{groupRefusal}
-use Rattle.network_message_writer.specs.Publisher.{publisherRefusal, unused, publisherShape}
-use Rattle.network_message_writer.specs.Header.{countRefusal, promotedRefusal, agree, sameNumbers, idsShape, promotedShape}
-use Rattle.network_message_writer.specs.Payload.{numberIn, listedRefusal, payloadRefusal, lengthsShape}
+use Rattle.network_header_writer.specs.Flags.{timesRefusal}
+use Rattle.network_header_writer.specs.Group.{groupRefusal}
+use Rattle.network_header_writer.specs.Publisher.{publisherRefusal, unused, publisherShape}
+use Rattle.network_header_writer.specs.Header.{countRefusal, promotedRefusal, idsShape, promotedShape}
+use Rattle.network_header_writer.specs.Numbers.{agree, sameNumbers, listedRefusal}
+use Rattle.network_message_writer.specs.Payload.{numberIn, payloadRefusal, lengthsShape}
 use Rattle.network_message_writer.specs.Envelope.{Given, readingRefusal, shapeRefusal, refusalOf}
 
 -- none of the refusals

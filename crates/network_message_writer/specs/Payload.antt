@@ -1,15 +1,15 @@
 -- The payload written (document 01, "Payload"): its messages one after the other, and where there are several the length of
 -- each, as 2 bytes. For one message, and for a chunk, no length is given.
-use Prim.Native.Nat.{ℕ, _*_}
+use Prim.Native.Nat.{ℕ}
 use mathlib.Core.Bool.{Bool, cond}
 use mathlib.Core.List.{List, []}
-use lib.Dec.{leb, eqb}
+use lib.Dec.{leb}
 use lib.ListN.{length}
 use Rattle.wire.specs.Answer.{Answer, got, refused}
-use Rattle.network_message.specs.declared.header.PayloadHeader.{PayloadHeader}
-use Rattle.network_message.specs.Payload.{total, positive, listed, configuredSizes, restAt, payloadAt}
-use Rattle.network_message_writer.specs.Publisher.{unused}
-use Rattle.network_message_writer.specs.Header.{sameNumbers}
+use Rattle.network_header.specs.declared.header.PayloadHeader.{PayloadHeader}
+use Rattle.network_message.specs.Payload.{configuredSizes, restAt, payloadAt}
+use Rattle.network_header_writer.specs.Publisher.{unused}
+use Rattle.network_header_writer.specs.Numbers.{sameNumbers, listedRefusal}
 
 -- "With Count above 1: Count sizes of 2 bytes"; no other payload has the list
 abbrev pub listBytes : PayloadHeader → List ℕ → List ℕ
@@ -22,12 +22,7 @@ abbrev pub numberIn : {A : Type 0} → Answer A → ℕ
 numberIn (got v next) = 0
 numberIn (refused n place) = n
 
--- what reading refuses: the lengths of several messages, "each at least 1 and their sum equal to the rest, else 6"
-abbrev pub listedRefusal : ℕ → List ℕ → ℕ → ℕ
-listedRefusal n lengths rest =
-    cond (eqb (length lengths) (2 * n)) (cond (positive (listed n lengths 0)) (cond (eqb (total (listed n lengths 0)) rest) 0 6) 6) 6
-
--- and any other payload by reading's own number, of the messages alone
+-- what reading refuses: the lengths of several messages by their own rule, and any other payload by reading's own number, of the messages alone
 abbrev pub payloadRefusal : Bool → PayloadHeader → List ℕ → List ℕ → List ℕ → ℕ
 payloadRefusal chunk PayloadHeader.Absent sizes lengths messages = numberIn (payloadAt chunk PayloadHeader.Absent sizes messages 0)
 payloadRefusal chunk (PayloadHeader.Ids n) sizes lengths messages =

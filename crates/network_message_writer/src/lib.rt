@@ -1,9 +1,4 @@
 // NetworkMessages written: the envelope and its messages into a lent buffer, refused as reading would refuse them, and a
 // datagram written again.
 pub mod envelope;
-mod flags;
-mod group;
-mod header;
-mod numbers;
 mod payload;
-mod publisher;

@@ -1,9 +1,9 @@
 // The payload: the list of sizes, and the messages.
-use crate::header::must_hold;
-use crate::numbers::listed_refusal;
-use crate::numbers::same_numbers;
-use crate::publisher::not_used;
-use network_message::header::PayloadHeader;
+use network_header::header::PayloadHeader;
+use network_header_writer::header::must_hold;
+use network_header_writer::numbers::listed_refusal;
+use network_header_writer::numbers::same_numbers;
+use network_header_writer::publisher::not_used;
 use network_message::payload::PayloadRead;
 use network_message::payload::read_payload;
 use network_message::payload::writers;

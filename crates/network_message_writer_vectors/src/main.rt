@@ -4,15 +4,15 @@
 // the buffer after them (it was filled with `ee`), and the number of messages that reading finds.
 use libc::STDIN_FILENO;
 use libc::STDOUT_FILENO;
+use network_header::group::GroupFields;
+use network_header::group::GroupHeader;
+use network_header::header::ClassId;
+use network_header::header::PayloadHeader;
+use network_header::header::Promoted;
+use network_header::publisher::PublisherId;
 use network_message::envelope::Envelope;
 use network_message::envelope::NetworkMessageRead;
 use network_message::envelope::read;
-use network_message::group::GroupFields;
-use network_message::group::GroupHeader;
-use network_message::header::ClassId;
-use network_message::header::PayloadHeader;
-use network_message::header::Promoted;
-use network_message::publisher::PublisherId;
 use network_message_writer::envelope::rewrite;
 use network_message_writer::envelope::write;
 use text::hex::put_hex;

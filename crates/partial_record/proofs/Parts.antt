@@ -10,7 +10,7 @@ use lib.Dec.{leb}
 use lib.ListN.{length, length-append}
 use lib.Seq.{sets}
 use Rattle.wire.specs.Store.{laid}
-use Rattle.network_message.specs.PublisherRecord.{codeOf}
+use Rattle.network_header.specs.PublisherRecord.{codeOf}
 use Rattle.reassembly.specs.declared.record.PartialRecord.{PartialRecord}
 use Rattle.records.specs.Numbers.{numberBytes}
 use Rattle.records.specs.Message.{flagNumber}

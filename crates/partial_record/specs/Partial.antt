@@ -5,8 +5,8 @@ use mathlib.Core.List.{List, [], _∷_, _++_}
 use lib.Dec.{eqb}
 use lib.ListN.{take, drop, replicate}
 use Rattle.wire.specs.Store.{laid}
-use Rattle.network_message.specs.PublisherRecord.{codeOf}
-use Rattle.network_message.specs.declared.publisher_record.PublisherRecord.{PublisherRecord}
+use Rattle.network_header.specs.PublisherRecord.{codeOf}
+use Rattle.network_header.specs.declared.publisher_record.PublisherRecord.{PublisherRecord}
 use Rattle.reassembly.specs.declared.record.Message.{Message}
 use Rattle.reassembly.specs.declared.record.PartialRecord.{PartialRecord}
 use Rattle.records.specs.Numbers.{numberAt, numberBytes}

@@ -1,6 +1,6 @@
 // The record of a partial: six numbers, and 64 bytes for the text of a string PublisherId.
-use network_message::publisher::PublisherId;
-use network_message::publisher_record::PublisherRecord;
+use network_header::publisher::PublisherId;
+use network_header::publisher_record::PublisherRecord;
 use reassembly::Message;
 use reassembly::PartialRecord;
 use records::message::flag_number;

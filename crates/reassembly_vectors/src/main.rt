@@ -1,8 +1,8 @@
 // Histories of reassembly, written from document 01: R1 and R2, overlaps, holes, refusals, combining, strange marks, emptying and reuse,
 // payloads cut and restored. Each call's answer is a line.
 use libc::STDOUT_FILENO;
-use network_message::publisher::PublisherId;
-use network_message::publisher_record::PublisherRecord;
+use network_header::publisher::PublisherId;
+use network_header::publisher_record::PublisherRecord;
 use reassembly::Completeness;
 use reassembly::Message;
 use reassembly::Outcome;

@@ -18,8 +18,8 @@ use crate::take_ours;
 use crate::text;
 use crate::verdict;
 use crate::with_record;
-use network_message::publisher::PublisherId;
-use network_message::publisher_record::PublisherRecord;
+use network_header::publisher::PublisherId;
+use network_header::publisher_record::PublisherRecord;
 use reassembly::Message;
 
 pub fn histories() {

@@ -6,11 +6,11 @@ use mathlib.Core.Path.{_≡_, ap, _∙_}
 use mathlib.Core.List.{List}
 use Rattle.wire.specs.declared.optional.Optional16.{Optional16}
 use Rattle.wire.specs.declared.optional.OptionalI64.{OptionalI64}
-use Rattle.network_message.specs.declared.publisher.PublisherId.{PublisherId}
-use Rattle.network_message.specs.declared.group.GroupHeader.{GroupHeader}
-use Rattle.network_message.specs.declared.header.ClassId.{ClassId}
-use Rattle.network_message.specs.declared.header.PayloadHeader.{PayloadHeader}
-use Rattle.network_message.specs.declared.header.Promoted.{Promoted}
+use Rattle.network_header.specs.declared.publisher.PublisherId.{PublisherId}
+use Rattle.network_header.specs.declared.group.GroupHeader.{GroupHeader}
+use Rattle.network_header.specs.declared.header.ClassId.{ClassId}
+use Rattle.network_header.specs.declared.header.PayloadHeader.{PayloadHeader}
+use Rattle.network_header.specs.declared.header.Promoted.{Promoted}
 use Rattle.network_message.specs.declared.envelope.Envelope.{Envelope}
 use Rattle.records.specs.Publisher.{publisherBy}
 use Rattle.records.specs.Numbers.{numberAt}

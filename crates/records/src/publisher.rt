@@ -1,7 +1,7 @@
 // A PublisherId in a record: the number of its type, and its number.
-use network_message::publisher::PublisherId;
+use network_header::publisher::PublisherId;
 ghost use mathlib.Core.Path.{_≡_};
-ghost use Rattle.network_message.specs.PublisherRecord.{codeOf};
+ghost use Rattle.network_header.specs.PublisherRecord.{codeOf};
 ghost use Rattle.records.specs.Publisher.{publisherBy, publisherNumber};
 
 // The PublisherId of a type's number and a number.

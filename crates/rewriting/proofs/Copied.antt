@@ -18,10 +18,10 @@ use Rattle.writing.specs.declared.Written.{Written}
 use Rattle.wire.specs.Store.{laid}
 use Rattle.writing.proofs.Putting.{front}
 use Rattle.writing.proofs.Answering.{Answers, reports}
-use Rattle.network_message.proofs.publisher.PublisherId as publisher
-use Rattle.network_message.specs.declared.publisher.PublisherId.{PublisherId}
+use Rattle.network_header.proofs.publisher.PublisherId as publisher
+use Rattle.network_header.specs.declared.publisher.PublisherId.{PublisherId}
 use Rattle.network_message.specs.Envelope.{NetworkMessage, networkMessageAt}
-use Rattle.network_message_writer.specs.Publisher.{publisherOn}
+use Rattle.network_header_writer.specs.Publisher.{publisherOn}
 use Rattle.network_message_writer.specs.Envelope.{againOf, rewriteAnswer, rewriteBuffer}
 use Rattle.dataset_message.specs.Flags.{valid}
 use Rattle.dataset_message.specs.Message.{Message, messageAt}

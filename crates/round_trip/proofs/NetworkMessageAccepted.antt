@@ -15,22 +15,23 @@ use Rattle.wire.specs.Optional.{optionalI64, picosecondsRule, picosecondsAt}
 use Rattle.wire.specs.declared.optional.Optional16.{Optional16}
 use Rattle.wire.specs.declared.optional.OptionalI64.{OptionalI64}
 use Rattle.wire.proofs.Reading.{got-value, invert}
-use Rattle.network_message.specs.declared.flags.Flags.{Flags}
-use Rattle.network_message.specs.declared.header.PayloadHeader.{PayloadHeader}
+use Rattle.network_header.specs.declared.flags.Flags.{Flags}
+use Rattle.network_header.specs.declared.header.PayloadHeader.{PayloadHeader}
 use Rattle.network_message.specs.declared.payload.Payload.{Payload}
 use Rattle.network_message.specs.declared.envelope.Envelope.{Envelope}
 use Rattle.network_message.specs.declared.envelope.Places.{Places}
-use Rattle.network_message.specs.Flags.{flagsAt}
-use Rattle.network_message.specs.Header.{payloadHeaderAt}
+use Rattle.network_header.specs.Flags.{flagsAt}
+use Rattle.network_header.specs.Header.{payloadHeaderAt}
 use Rattle.network_message.specs.Payload.{configuredSizes, restAt, listedAt, payloadAt}
 use Rattle.network_message.specs.Envelope.{Header, NetworkMessage, identityAt, timesAt, messagesOf, headerAt, bodyAt, networkMessageAt}
 use Rattle.writing.specs.Writing.{orElse, on16, onI64, picosecondsRefusal}
 use Rattle.writing.proofs.Trip.{At, le-at}
 use Rattle.writing.proofs.Back.{run-back, map-back}
-use Rattle.network_message_writer.specs.Flags.{timesRefusal}
-use Rattle.network_message_writer.specs.Publisher.{unused, publisherRefusal, publisherShape}
-use Rattle.network_message_writer.specs.Group.{groupRefusal}
-use Rattle.network_message_writer.specs.Header.{agree, sameNumbers, idsShape, countRefusal, promotedRefusal, promotedShape}
+use Rattle.network_header_writer.specs.Flags.{timesRefusal}
+use Rattle.network_header_writer.specs.Publisher.{unused, publisherRefusal, publisherShape}
+use Rattle.network_header_writer.specs.Group.{groupRefusal}
+use Rattle.network_header_writer.specs.Header.{idsShape, countRefusal, promotedRefusal, promotedShape}
+use Rattle.network_header_writer.specs.Numbers.{agree, sameNumbers}
 use Rattle.network_message_writer.specs.Payload.{listBytes, numberIn, payloadRefusal, lengthsShape}
 use Rattle.network_message_writer.specs.Envelope.{datagramOf, refusalOf, before, textOf, promotedOf, againOf}
 use Rattle.round_trip.specs.NetworkMessage.{rewritten, AsManyLengths, numbersBytes, idsGiven, lengthsGiven, messagesGiven, givenOf}

@@ -10,12 +10,12 @@ use lib.Dec.{eqb}
 use borrow.Author.Tests.{lt-leb, eqb-true}
 use Rattle.wire.specs.Number.{leBytes}
 use Rattle.wire.specs.Answer.{ruled, pure, whenOn, got, bit}
-use Rattle.network_message.specs.declared.flags.Flags.{Flags}
-use Rattle.network_message.specs.Flags.{byte0Rule, extended1Rule, extended2Rule, flagsOf, flagsAt}
+use Rattle.network_header.specs.declared.flags.Flags.{Flags}
+use Rattle.network_header.specs.Flags.{byte0Rule, extended1Rule, extended2Rule, flagsOf, flagsAt}
 use Rattle.writing.specs.Writing.{num, needed, byteBytes}
 use Rattle.writing.proofs.Trip.{Reads, first, second, nothing, rule-kept, item-is}
 use Rattle.writing.proofs.Bits.{num-bound, needed-bound, flag-is}
-use Rattle.network_message_writer.specs.Flags.{extended2Of, extended1Of, byte0Of, flagBytes, timesRefusal}
+use Rattle.network_header_writer.specs.Flags.{extended2Of, extended1Of, byte0Of, flagBytes, timesRefusal}
 
 -- the bits of the three bytes
 pub byte-bits : (a b c d : ℕ) → a ≤ 1 → b ≤ 1 → c ≤ 1 → d ≤ 1

@@ -12,13 +12,13 @@ use Rattle.wire.specs.Number.{leBytes}
 use Rattle.wire.specs.Answer.{got, ruled, whenOn, bit}
 use Rattle.wire.proofs.Table.{below}
 use Rattle.wire.proofs.Reading.{got-value, got-next, invert}
-use Rattle.network_message.specs.declared.flags.Flags.{Flags}
-use Rattle.network_message.specs.Flags.{byte0Rule, extended1Rule, extended2Rule, flagsOf, flagsAt}
+use Rattle.network_header.specs.declared.flags.Flags.{Flags}
+use Rattle.network_header.specs.Flags.{byte0Rule, extended1Rule, extended2Rule, flagsOf, flagsAt}
 use Rattle.writing.specs.Writing.{needed, byteBytes}
 use Rattle.writing.proofs.Refusals.{passed, held}
 use Rattle.writing.proofs.Bits.{num-bit}
 use Rattle.writing.proofs.Back.{Back, empty, join, end-fits, item-back, ruled-back, map-back}
-use Rattle.network_message_writer.specs.Flags.{extended2Of, extended1Of, byte0Of, flagBytes}
+use Rattle.network_header_writer.specs.Flags.{extended2Of, extended1Of, byte0Of, flagBytes}
 use Rattle.writing.specs.Fits.{Bytes}
 
 -- a byte is the sum of its bits

@@ -13,18 +13,19 @@ use lib.Dec.{eqb, leb}
 use borrow.Author.Tests.{le-leb, lt-leb, eqb-true}
 use Rattle.wire.specs.Number.{le, leBytes}
 use Rattle.wire.specs.declared.optional.Optional16.{Optional16}
-use Rattle.network_message.specs.declared.publisher.PublisherId.{PublisherId}
-use Rattle.network_message.specs.declared.header.PayloadHeader.{PayloadHeader}
-use Rattle.network_message.specs.declared.header.Promoted.{Promoted}
+use Rattle.network_header.specs.declared.publisher.PublisherId.{PublisherId}
+use Rattle.network_header.specs.declared.header.PayloadHeader.{PayloadHeader}
+use Rattle.network_header.specs.declared.header.Promoted.{Promoted}
 use Rattle.network_message.specs.declared.envelope.Envelope.{Envelope}
-use Rattle.network_message.specs.Header.{listedId, configuredId, writerIdOf}
+use Rattle.network_message.specs.WriterId.{listedId, configuredId, writerIdOf}
 use Rattle.writing.specs.Writing.{optional16Bytes, optionalI64Bytes}
 use Rattle.writing.proofs.Trip.{At, first, second, fits-at}
 use Rattle.writing.proofs.Refusals.{passed, held}
-use Rattle.network_message_writer.specs.Flags.{flagsFor, flagBytes}
-use Rattle.network_message_writer.specs.Publisher.{publisherBytes, unused, publisherShape}
-use Rattle.network_message_writer.specs.Group.{groupBytes}
-use Rattle.network_message_writer.specs.Header.{classBytes, payloadHeaderBytes, promotedBytes, sameNumbers, idsShape, promotedShape}
+use Rattle.network_header_writer.specs.Flags.{flagsFor, flagBytes}
+use Rattle.network_header_writer.specs.Publisher.{publisherBytes, unused, publisherShape}
+use Rattle.network_header_writer.specs.Group.{groupBytes}
+use Rattle.network_header_writer.specs.Header.{classBytes, payloadHeaderBytes, promotedBytes, idsShape, promotedShape}
+use Rattle.network_header_writer.specs.Numbers.{sameNumbers}
 use Rattle.network_message_writer.specs.Payload.{listBytes}
 use Rattle.network_message_writer.specs.Envelope.{Given, headerBytes, datagramOf, refusalOf, before, textOf, idsOf, promotedOf}
 use Rattle.network_message_writer.proofs.Short.{zeros, unused-none, same-length, ids-counted}

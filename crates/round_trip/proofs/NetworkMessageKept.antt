@@ -15,22 +15,22 @@ use Rattle.wire.specs.Items.{lengthOf}
 use Rattle.wire.specs.Optional.{optional16, optional32, picosecondsRule, picosecondsAt}
 use Rattle.wire.specs.declared.optional.Optional16.{Optional16}
 use Rattle.wire.proofs.Reading.{got-value, not-got, invert}
-use Rattle.network_message.specs.declared.flags.Flags.{Flags}
-use Rattle.network_message.specs.declared.publisher.PublisherId.{PublisherId}
-use Rattle.network_message.specs.declared.group.GroupHeader.{GroupHeader}
-use Rattle.network_message.specs.declared.header.PayloadHeader.{PayloadHeader}
-use Rattle.network_message.specs.declared.header.Promoted.{Promoted}
-use Rattle.network_message.specs.Flags.{byte0Rule, extended1Rule, extended2Rule, flagsOf, flagsAt}
-use Rattle.network_message.specs.Publisher.{stringOf, lengthThen, stringAt, publisherAt}
-use Rattle.network_message.specs.Group.{numberRule, numberAt, groupFlagsRule, groupFieldsAt, groupAt}
-use Rattle.network_message.specs.Header.{countRule, payloadHeaderAt, sizeRule, promotedAt}
+use Rattle.network_header.specs.declared.flags.Flags.{Flags}
+use Rattle.network_header.specs.declared.publisher.PublisherId.{PublisherId}
+use Rattle.network_header.specs.declared.group.GroupHeader.{GroupHeader}
+use Rattle.network_header.specs.declared.header.PayloadHeader.{PayloadHeader}
+use Rattle.network_header.specs.declared.header.Promoted.{Promoted}
+use Rattle.network_header.specs.Flags.{byte0Rule, extended1Rule, extended2Rule, flagsOf, flagsAt}
+use Rattle.network_header.specs.Publisher.{stringOf, lengthThen, stringAt, publisherAt}
+use Rattle.network_header.specs.Group.{numberRule, numberAt, groupFlagsRule, groupFieldsAt, groupAt}
+use Rattle.network_header.specs.Header.{countRule, payloadHeaderAt, sizeRule, promotedAt}
 use Rattle.writing.specs.Writing.{picosecondsRefusal}
 use Rattle.writing.proofs.Refusals.{passed, no}
 use Rattle.writing.proofs.Back.{item-back, run-back, ruled-back, map-back}
-use Rattle.network_message_writer.specs.Flags.{timesRefusal}
-use Rattle.network_message_writer.specs.Publisher.{publisherRefusal, publisherShape}
-use Rattle.network_message_writer.specs.Group.{numberRefusal, groupRefusal}
-use Rattle.network_message_writer.specs.Header.{promotedRefusal, promotedShape}
+use Rattle.network_header_writer.specs.Flags.{timesRefusal}
+use Rattle.network_header_writer.specs.Publisher.{publisherRefusal, publisherShape}
+use Rattle.network_header_writer.specs.Group.{numberRefusal, groupRefusal}
+use Rattle.network_header_writer.specs.Header.{promotedRefusal, promotedShape}
 use Rattle.network_message_writer.specs.Envelope.{before, textOf, promotedOf}
 use Rattle.round_trip.proofs.NetworkMessagePartsBack.{before-length}
 use Rattle.writing.specs.Fits.{Bytes}

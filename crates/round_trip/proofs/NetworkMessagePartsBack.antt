@@ -16,22 +16,22 @@ use Rattle.wire.specs.Optional.{optional16, optional32}
 use lib.IntN.{pos, negsuc}
 use Rattle.wire.proofs.Table.{below}
 use Rattle.wire.proofs.Reading.{got-value, got-next, not-got, invert}
-use Rattle.network_message.specs.declared.publisher.PublisherId.{PublisherId}
-use Rattle.network_message.specs.declared.group.GroupFields.{GroupFields}
-use Rattle.network_message.specs.declared.group.GroupHeader.{GroupHeader}
-use Rattle.network_message.specs.declared.header.ClassId.{ClassId}
-use Rattle.network_message.specs.declared.header.PayloadHeader.{PayloadHeader}
-use Rattle.network_message.specs.declared.header.Promoted.{Promoted}
-use Rattle.network_message.specs.Publisher.{stringOf, lengthThen, stringAt, publisherOf, publisherAt}
-use Rattle.network_message.specs.Group.{numberRule, numberAt, groupFlagsRule, groupFieldsAt, groupAt}
-use Rattle.network_message.specs.Header.{classAt, countRule, payloadHeaderAt, sizeRule, promotedAt}
+use Rattle.network_header.specs.declared.publisher.PublisherId.{PublisherId}
+use Rattle.network_header.specs.declared.group.GroupFields.{GroupFields}
+use Rattle.network_header.specs.declared.group.GroupHeader.{GroupHeader}
+use Rattle.network_header.specs.declared.header.ClassId.{ClassId}
+use Rattle.network_header.specs.declared.header.PayloadHeader.{PayloadHeader}
+use Rattle.network_header.specs.declared.header.Promoted.{Promoted}
+use Rattle.network_header.specs.Publisher.{stringOf, lengthThen, stringAt, publisherOf, publisherAt}
+use Rattle.network_header.specs.Group.{numberRule, numberAt, groupFlagsRule, groupFieldsAt, groupAt}
+use Rattle.network_header.specs.Header.{classAt, countRule, payloadHeaderAt, sizeRule, promotedAt}
 use Rattle.writing.specs.Writing.{optional16Bytes, optional32Bytes}
 use Rattle.writing.proofs.Refusals.{passed}
 use Rattle.writing.proofs.Bits.{num-bit}
 use Rattle.writing.proofs.Back.{Back, empty, join, end-fits, run-part, item-back, run-back, ruled-back, map-back, guid-back, optional16-back, optional32-back, ruled16-back}
-use Rattle.network_message_writer.specs.Publisher.{publisherOn, kindOf, publisherBytes}
-use Rattle.network_message_writer.specs.Group.{groupOn, groupFlagsOf, fieldsBytes, groupBytes}
-use Rattle.network_message_writer.specs.Header.{classOn, classBytes, payloadHeaderOn, payloadHeaderBytes, promotedOn, promotedBytes}
+use Rattle.network_header_writer.specs.Publisher.{publisherOn, kindOf, publisherBytes}
+use Rattle.network_header_writer.specs.Group.{groupOn, groupFlagsOf, fieldsBytes, groupBytes}
+use Rattle.network_header_writer.specs.Header.{classOn, classBytes, payloadHeaderOn, payloadHeaderBytes, promotedOn, promotedBytes}
 use Rattle.network_message_writer.specs.Envelope.{before, textOf, idsOf, promotedOf}
 use Rattle.writing.specs.Fits.{Bytes}
 

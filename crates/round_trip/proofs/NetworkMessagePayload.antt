@@ -11,10 +11,11 @@ use lib.Dec.{eqb, leb, ltb}
 use borrow.Author.Tests.{le-leb, eq-eqb, eqb-true, eqb-false, ne-eqb, lt-ltb, ltb-true}
 use Rattle.wire.specs.Number.{le}
 use Rattle.wire.specs.Answer.{got, refused}
-use Rattle.network_message.specs.declared.header.PayloadHeader.{PayloadHeader}
+use Rattle.network_header.specs.declared.header.PayloadHeader.{PayloadHeader}
 use Rattle.network_message.specs.declared.payload.Sizes.{Sizes}
 use Rattle.network_message.specs.Payload.{total, positive, listed, configuredSizes, payloadOf, restAt, listedAt, configuredAt, payloadAt}
-use Rattle.network_message_writer.specs.Payload.{listBytes, numberIn, listedRefusal, payloadRefusal}
+use Rattle.network_message_writer.specs.Payload.{listBytes, numberIn, payloadRefusal}
+use Rattle.network_header_writer.specs.Numbers.{listedRefusal}
 use Rattle.round_trip.specs.NetworkMessage.{payloadFor}
 
 -- numbers that stand in the middle of a slice

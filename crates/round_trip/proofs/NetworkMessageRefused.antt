@@ -12,28 +12,29 @@ use Rattle.wire.specs.Number.{le, leBytes}
 use Rattle.wire.specs.Answer.{Answer, got, refused, ruled, bit}
 use Rattle.wire.specs.declared.optional.Optional16.{Optional16}
 use Rattle.wire.proofs.Reading.{leb-same}
-use Rattle.network_message.specs.declared.flags.Flags.{Flags}
-use Rattle.network_message.specs.declared.publisher.PublisherId.{PublisherId}
-use Rattle.network_message.specs.declared.group.GroupHeader.{GroupHeader}
-use Rattle.network_message.specs.declared.header.PayloadHeader.{PayloadHeader}
-use Rattle.network_message.specs.declared.header.Promoted.{Promoted}
+use Rattle.network_header.specs.declared.flags.Flags.{Flags}
+use Rattle.network_header.specs.declared.publisher.PublisherId.{PublisherId}
+use Rattle.network_header.specs.declared.group.GroupHeader.{GroupHeader}
+use Rattle.network_header.specs.declared.header.PayloadHeader.{PayloadHeader}
+use Rattle.network_header.specs.declared.header.Promoted.{Promoted}
 use Rattle.network_message.specs.declared.payload.Sizes.{Sizes}
 use Rattle.network_message.specs.declared.envelope.Envelope.{Envelope}
-use Rattle.network_message.specs.Flags.{byte0Rule, extended1Rule, flagsAt}
-use Rattle.network_message.specs.Publisher.{publisherAt}
-use Rattle.network_message.specs.Group.{numberRule, numberAt, groupFlagsRule, groupAt}
-use Rattle.network_message.specs.Header.{countRule, payloadHeaderAt, sizeRule, promotedAt}
+use Rattle.network_header.specs.Flags.{byte0Rule, extended1Rule, flagsAt}
+use Rattle.network_header.specs.Publisher.{publisherAt}
+use Rattle.network_header.specs.Group.{numberRule, numberAt, groupFlagsRule, groupAt}
+use Rattle.network_header.specs.Header.{countRule, payloadHeaderAt, sizeRule, promotedAt}
 use Rattle.network_message.specs.Payload.{total, positive, listed, configuredSizes, payloadOf, restAt, listedAt, sizedAt, configuredAt, payloadAt}
 use Rattle.network_message.specs.Envelope.{messagesOf, networkMessageAt}
 use Rattle.writing.specs.Writing.{orElse, num, needed, byteBytes, on16, on32, onI64, optional16Bytes, optional32Bytes, optionalI64Bytes, picosecondsRefusal}
 use Rattle.writing.proofs.Trip.{At, first, second, fits-at, le-at, item-is, rule-kept, optional16-is, optional32-is, optionalI64-is, picoseconds-is}
 use Rattle.writing.proofs.Refusals.{passed, held, or-case, no, Refuses, broken, number-broken, picoseconds-refuses}
 use Rattle.writing.proofs.Bits.{num-bound, needed-bound, flag-is}
-use Rattle.network_message_writer.specs.Flags.{extended2Of, extended1Of, byte0Of, flagBytes, flagsFor, timesRefusal}
-use Rattle.network_message_writer.specs.Publisher.{publisherOn, kindOf, publisherBytes, publisherRefusal, publisherShape}
-use Rattle.network_message_writer.specs.Group.{groupOn, groupFlagsOf, fieldsBytes, groupBytes, numberRefusal, groupRefusal}
-use Rattle.network_message_writer.specs.Header.{classBytes, payloadHeaderOn, payloadHeaderBytes, promotedOn, promotedBytes, countRefusal, promotedRefusal, idsShape, promotedShape}
-use Rattle.network_message_writer.specs.Payload.{listBytes, numberIn, listedRefusal, payloadRefusal}
+use Rattle.network_header_writer.specs.Flags.{extended2Of, extended1Of, byte0Of, flagBytes, flagsFor, timesRefusal}
+use Rattle.network_header_writer.specs.Publisher.{publisherOn, kindOf, publisherBytes, publisherRefusal, publisherShape}
+use Rattle.network_header_writer.specs.Group.{groupOn, groupFlagsOf, fieldsBytes, groupBytes, numberRefusal, groupRefusal}
+use Rattle.network_header_writer.specs.Header.{classBytes, payloadHeaderOn, payloadHeaderBytes, promotedOn, promotedBytes, countRefusal, promotedRefusal, idsShape, promotedShape}
+use Rattle.network_message_writer.specs.Payload.{listBytes, numberIn, payloadRefusal}
+use Rattle.network_header_writer.specs.Numbers.{listedRefusal}
 use Rattle.network_message_writer.specs.Envelope.{Given, headerBytes, datagramOf, readingRefusal}
 use Rattle.network_message_writer.proofs.Short.{ids-counted}
 use Rattle.round_trip.specs.NetworkMessage.{AsManyLengths, FitsEnvelope, FitsGroup}

@@ -13,32 +13,32 @@ use Rattle.wire.specs.Optional.{optionalI64, picosecondsRule, picosecondsAt}
 use Rattle.wire.specs.declared.optional.Optional16.{Optional16}
 use Rattle.wire.specs.declared.optional.OptionalI64.{OptionalI64}
 use Rattle.wire.proofs.Reading.{got-value, got-next, not-got, invert}
-use Rattle.network_message.specs.declared.flags.Flags.{Flags}
-use Rattle.network_message.specs.declared.publisher.PublisherId.{PublisherId}
-use Rattle.network_message.specs.declared.group.GroupHeader.{GroupHeader}
-use Rattle.network_message.specs.declared.header.ClassId.{ClassId}
-use Rattle.network_message.specs.declared.header.PayloadHeader.{PayloadHeader}
-use Rattle.network_message.specs.declared.header.Promoted.{Promoted}
+use Rattle.network_header.specs.declared.flags.Flags.{Flags}
+use Rattle.network_header.specs.declared.publisher.PublisherId.{PublisherId}
+use Rattle.network_header.specs.declared.group.GroupHeader.{GroupHeader}
+use Rattle.network_header.specs.declared.header.ClassId.{ClassId}
+use Rattle.network_header.specs.declared.header.PayloadHeader.{PayloadHeader}
+use Rattle.network_header.specs.declared.header.Promoted.{Promoted}
 use Rattle.network_message.specs.declared.envelope.Identity.{Identity}
 use Rattle.network_message.specs.declared.envelope.Times.{Times}
 use Rattle.network_message.specs.declared.envelope.Envelope.{Envelope}
 use Rattle.network_message.specs.declared.envelope.Places.{Places}
-use Rattle.network_message.specs.Flags.{flagsAt}
-use Rattle.network_message.specs.Publisher.{publisherAt}
-use Rattle.network_message.specs.Group.{groupAt}
-use Rattle.network_message.specs.Header.{classAt, payloadHeaderAt, promotedAt}
+use Rattle.network_header.specs.Flags.{flagsAt}
+use Rattle.network_header.specs.Publisher.{publisherAt}
+use Rattle.network_header.specs.Group.{groupAt}
+use Rattle.network_header.specs.Header.{classAt, payloadHeaderAt, promotedAt}
 use Rattle.network_message.specs.Payload.{configuredSizes, payloadAt}
 use Rattle.network_message.specs.Envelope.{Header, NetworkMessage, identityAt, timesAt, messagesOf, headerAt, bodyAt, networkMessageAt}
 use Rattle.writing.specs.declared.Written.{Written}
 use Rattle.writing.specs.Writing.{needed, numberFor, answerBy, bufferBy, optional16Bytes, optionalI64Bytes}
 use Rattle.writing.proofs.Answering.{writes, reports}
 use Rattle.writing.proofs.Back.{Back, join, rest-is, end-fits, map-back, optionalI64-back, ruled16-back}
-use Rattle.network_message_writer.specs.Flags.{extended1Of, flagsFor, flagBytes}
-use Rattle.network_message_writer.specs.Publisher.{publisherOn, publisherBytes}
-use Rattle.network_message_writer.specs.Group.{groupBytes}
-use Rattle.network_message_writer.specs.Header.{classBytes, payloadHeaderBytes, promotedBytes}
+use Rattle.network_header_writer.specs.Flags.{extended1Of, flagsFor, flagBytes}
+use Rattle.network_header_writer.specs.Publisher.{publisherOn, publisherBytes}
+use Rattle.network_header_writer.specs.Group.{groupBytes}
+use Rattle.network_header_writer.specs.Header.{classBytes, payloadHeaderBytes, promotedBytes}
 use Rattle.network_message_writer.specs.Envelope.{headerBytes, textOf, idsOf, promotedOf, againOf, rewriteAnswer, rewriteBuffer}
-use Rattle.network_message_writer.proofs.Sizes.{flags-sized}
+use Rattle.network_header_writer.proofs.Sizes.{flags-sized}
 use Rattle.network_message_writer.proofs.Again.{accepted-short}
 use Rattle.round_trip.specs.NetworkMessage.{rewrittenFlags, rewrittenAs, rewritten}
 use Rattle.round_trip.proofs.NetworkMessageFlagsBack.{flags-back}

@@ -9,7 +9,7 @@ use lib.ListN.{length, take, drop, getD, length-append}
 use lib.Seq.{drop-append-add}
 use borrow.Author.Tests.{le-ltb}
 use Rattle.wire.specs.Answer.{Answer, got}
-use Rattle.network_message.specs.declared.publisher.PublisherId.{PublisherId}
+use Rattle.network_header.specs.declared.publisher.PublisherId.{PublisherId}
 use Rattle.network_message.specs.declared.payload.Payload.{Payload}
 use Rattle.network_message.specs.declared.payload.MessagePlace.{MessagePlace}
 use Rattle.network_message.specs.declared.envelope.Envelope.{Envelope}
@@ -19,10 +19,10 @@ use Rattle.network_message.proofs.Messages.{tile, tiled}
 use Rattle.network_message.proofs.Accepted.{OfMessages}
 use Rattle.writing.specs.Writing.{optional16Bytes, optionalI64Bytes}
 use Rattle.writing.proofs.Trip.{At, first, second, optionalI64-is, picoseconds-is}
-use Rattle.network_message_writer.specs.Flags.{flagsFor, flagBytes}
-use Rattle.network_message_writer.specs.Publisher.{kindOf, publisherBytes}
-use Rattle.network_message_writer.specs.Group.{groupBytes}
-use Rattle.network_message_writer.specs.Header.{classBytes, payloadHeaderBytes, promotedBytes}
+use Rattle.network_header_writer.specs.Flags.{flagsFor, flagBytes}
+use Rattle.network_header_writer.specs.Publisher.{kindOf, publisherBytes}
+use Rattle.network_header_writer.specs.Group.{groupBytes}
+use Rattle.network_header_writer.specs.Header.{classBytes, payloadHeaderBytes, promotedBytes}
 use Rattle.network_message_writer.specs.Payload.{listBytes}
 use Rattle.network_message_writer.specs.Envelope.{Given, headerBytes, datagramOf, refusalOf}
 use Rattle.network_message_writer.proofs.Short.{zeros}

@@ -8,26 +8,26 @@ use lib.ListN.{length, take, drop, getD}
 use Rattle.wire.specs.Number.{le, leBytes}
 use Rattle.wire.specs.declared.optional.Optional16.{Optional16}
 use Rattle.wire.specs.Answer.{Answer, got, refused}
-use Rattle.network_message.specs.declared.flags.Flags.{Flags}
-use Rattle.network_message.specs.declared.publisher.PublisherId.{PublisherId}
-use Rattle.network_message.specs.declared.group.GroupFields.{GroupFields}
-use Rattle.network_message.specs.declared.group.GroupHeader.{GroupHeader}
-use Rattle.network_message.specs.declared.header.ClassId.{ClassId}
-use Rattle.network_message.specs.declared.header.PayloadHeader.{PayloadHeader}
+use Rattle.network_header.specs.declared.flags.Flags.{Flags}
+use Rattle.network_header.specs.declared.publisher.PublisherId.{PublisherId}
+use Rattle.network_header.specs.declared.group.GroupFields.{GroupFields}
+use Rattle.network_header.specs.declared.group.GroupHeader.{GroupHeader}
+use Rattle.network_header.specs.declared.header.ClassId.{ClassId}
+use Rattle.network_header.specs.declared.header.PayloadHeader.{PayloadHeader}
 use Rattle.network_message.specs.declared.payload.Sizes.{Sizes}
 use Rattle.network_message.specs.declared.payload.Payload.{Payload}
 use Rattle.network_message.specs.declared.payload.MessagePlace.{MessagePlace}
 use Rattle.network_message.specs.declared.envelope.Envelope.{Envelope}
 use Rattle.network_message.specs.declared.envelope.Places.{Places}
 use Rattle.network_message.specs.Payload.{total, positive, listed, configuredSizes, payloadOf}
-use Rattle.network_message.specs.Flags.{flagsAt}
-use Rattle.network_message.specs.Header.{writerIdOf}
+use Rattle.network_header.specs.Flags.{flagsAt}
+use Rattle.network_message.specs.WriterId.{writerIdOf}
 use Rattle.network_message.specs.Envelope.{NetworkMessage, networkMessageAt, messagePlaceAt, messageBytes}
 use Rattle.network_message.proofs.Accepted.{OfMessages}
-use Rattle.network_message_writer.specs.Flags.{flagBytes, flagsFor}
-use Rattle.network_message_writer.specs.Publisher.{publisherOn, publisherBytes}
-use Rattle.network_message_writer.specs.Group.{groupBytes}
-use Rattle.network_message_writer.specs.Header.{classBytes, payloadHeaderBytes}
+use Rattle.network_header_writer.specs.Flags.{flagBytes, flagsFor}
+use Rattle.network_header_writer.specs.Publisher.{publisherOn, publisherBytes}
+use Rattle.network_header_writer.specs.Group.{groupBytes}
+use Rattle.network_header_writer.specs.Header.{classBytes, payloadHeaderBytes}
 use Rattle.network_message_writer.specs.Envelope.{Given, headerBytes, datagramOf, refusalOf, before, textOf, promotedOf, rewriteAnswer, rewriteBuffer}
 use Rattle.writing.specs.Fits.{Fits16, Fits32, FitsGuid, FitsI64}
 

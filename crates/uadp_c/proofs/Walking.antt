@@ -10,9 +10,9 @@ use Rattle.wire.specs.Answer.{Answer, got, refused}
 use Rattle.wire.specs.Store.{laid}
 use Rattle.wire.specs.declared.optional.Optional16.{Optional16}
 use Rattle.network_message.specs.Envelope.{NetworkMessage, networkMessageAt}
-use Rattle.network_message.specs.Header.{writerIdOf}
+use Rattle.network_message.specs.WriterId.{writerIdOf}
 use Rattle.network_message.specs.Payload.{Stepped, stepAt}
-use Rattle.network_message.specs.declared.header.PayloadHeader.{PayloadHeader}
+use Rattle.network_header.specs.declared.header.PayloadHeader.{PayloadHeader}
 use Rattle.network_message.specs.declared.payload.Payload.{Payload}
 use Rattle.network_message.specs.declared.payload.MessagePlace.{MessagePlace}
 use Rattle.network_message.specs.declared.payload.MessageCursor.{MessageCursor}

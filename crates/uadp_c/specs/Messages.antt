@@ -9,7 +9,7 @@ use Rattle.wire.specs.Answer.{Answer, got, refused, mapAnswer}
 use Rattle.wire.specs.Store.{laid}
 use Rattle.wire.specs.declared.optional.Optional16.{Optional16}
 use Rattle.network_message.specs.Envelope.{NetworkMessage}
-use Rattle.network_message.specs.Header.{writerIdOf}
+use Rattle.network_message.specs.WriterId.{writerIdOf}
 use Rattle.network_message.specs.Payload.{Stepped, stepAt}
 use Rattle.records.specs.Numbers.{numberAt, numberBytes}
 use Rattle.records.specs.Result.{resultOf, Filling}

@@ -345,13 +345,13 @@ fn cut_one(tally: &mut Tally, random: &mut Random, payload: &[u8], sequence: u16
     (equal && answer.number() == 0).then_some(chunk)
 }
 
-/// Every received number after some last ones.
-pub fn every_newness(tally: &mut Tally, random: &mut Random) {
+/// Over all bytes: every received number after some last ones.
+pub fn every_newness(tally: &mut Tally, random: &mut Random, byte: u8) {
     for last in [0, 5, 32_768, 65_535] {
-        for received in 0..=u16::MAX {
+        for low in 0..=255 {
             let before = Lent::holding(random, &bytes_of(&[1, last]));
             let mut lent = before.clone();
-            judge_newness(tally, &before, &mut lent, received);
+            judge_newness(tally, &before, &mut lent, u16::from_le_bytes([low, byte]));
         }
     }
 }

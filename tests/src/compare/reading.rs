@@ -93,8 +93,8 @@ fn walk_length(random: &mut Random, needed: usize) -> usize {
     }
 }
 
-/// Every value of the flag bytes: the envelope's three, and a message's two with every first byte of a Variant.
-pub fn every_flag(tally: &mut Tally, random: &mut Random) {
+/// Over all bytes: every value of the flag bytes, the envelope's three and a message's two, and every first byte of a Variant.
+pub fn every_flag(tally: &mut Tally, random: &mut Random, byte: u8) {
     let config = Config::parse(b"writer\t21\t-\nfield\t7\n").expect("valid");
     let record = record::config(&config);
     let tail = [4, 0, 0, 0, 1, 0, 9, 0, 2, 0, 21, 0, 1, 0, 1, 0, 1, 1, 21, 0, 1, 0, 0, 0, 1, 0, 5, 1, 0, 0];
@@ -105,25 +105,19 @@ pub fn every_flag(tally: &mut Tally, random: &mut Random) {
         case.walk_all(tally, random);
         case.rewrite(tally, random);
     };
-    for first in 0..=255 {
-        judge(tally, random, &[first]);
-        if first & 0x8f == 0x81 {
-            for extended1 in 0..=255_u8 {
-                judge(tally, random, &[first, extended1]);
-                let last = if extended1 & 0x80 != 0 { 255 } else { 0 };
-                (1..=last).for_each(|extended2| judge(tally, random, &[first, extended1, extended2]));
-            }
-        }
+    judge(tally, random, &[byte]);
+    for first in (0..=255).filter(|first| first & 0x8f == 0x81) {
+        judge(tally, random, &[first, byte]);
+        let last = if byte & 0x80 != 0 { 255 } else { 0 };
+        (1..=last).for_each(|extended2| judge(tally, random, &[first, byte, extended2]));
     }
     let case = Case { datagram: &[], config: &config, record: &record };
-    for first in 0..=255 {
-        for second in 0..=255 {
-            let message = [&[first, second], &tail[..]].concat();
-            case.message(tally, random, &message, 21);
-        }
-        for length in [1, 2, 3, 5, 9, 17, 24] {
-            case.message(tally, random, &[&[1, 1, 0, first], &tail[..length]].concat(), 21);
-        }
+    for second in 0..=255 {
+        let message = [&[byte, second], &tail[..]].concat();
+        case.message(tally, random, &message, 21);
+    }
+    for length in [1, 2, 3, 5, 9, 17, 24] {
+        case.message(tally, random, &[&[1, 1, 0, byte], &tail[..length]].concat(), 21);
     }
 }
 

@@ -8,7 +8,7 @@ use native.Mathlib.Omega.{arith}
 use denote.Ref.{now}
 use borrow.Author.Needs.{needs}
 use Rattle.network_message.specs.Payload.{isSingle, restAt, payloadAt}
-use Rattle.network_message.specs.declared.header.PayloadHeader.{PayloadHeader}
+use Rattle.network_header.specs.declared.header.PayloadHeader.{PayloadHeader}
 use Rattle.network_message.proofs.envelope.payload_after.Statement.{statement}
 use Rattle.network_message.proofs.envelope.payload_after.Tie as tie
 

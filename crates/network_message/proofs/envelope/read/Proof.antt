@@ -3,7 +3,7 @@
 use mathlib.Core.Path.{sym}
 use borrow.Author.Tests.{lt-ltb, le-ltb}
 use borrow.Author.Needs.{needs}
-use Rattle.network_message.specs.Flags.{answerFlags}
+use Rattle.network_header.specs.Flags.{answerFlags}
 use Rattle.wire.proofs.Reading.{told}
 use Rattle.network_message.proofs.envelope.read.Statement.{statement}
 use Rattle.network_message.proofs.envelope.read.Tie as tie

@@ -3,7 +3,7 @@
 use mathlib.Core.Path.{sym}
 use borrow.Author.Needs.{needs}
 use Rattle.network_message.specs.Envelope.{answerIdentity, answerTimes}
-use Rattle.network_message.specs.Header.{answerPayloadHeader}
+use Rattle.network_header.specs.Header.{answerPayloadHeader}
 use Rattle.wire.proofs.Reading.{told}
 use Rattle.network_message.proofs.envelope.read_header.Statement.{statement}
 use Rattle.network_message.proofs.envelope.read_header.Tie as tie

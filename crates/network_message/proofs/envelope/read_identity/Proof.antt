@@ -2,9 +2,9 @@
 -- Assumes nothing.
 use mathlib.Core.Path.{sym}
 use borrow.Author.Needs.{needs}
-use Rattle.network_message.specs.Header.{answerClass}
-use Rattle.network_message.specs.Group.{answerGroup}
-use Rattle.network_message.specs.Publisher.{answerPublisher}
+use Rattle.network_header.specs.Header.{answerClass}
+use Rattle.network_header.specs.Group.{answerGroup}
+use Rattle.network_header.specs.Publisher.{answerPublisher}
 use Rattle.wire.proofs.Reading.{told}
 use Rattle.network_message.proofs.envelope.read_identity.Statement.{statement}
 use Rattle.network_message.proofs.envelope.read_identity.Tie as tie

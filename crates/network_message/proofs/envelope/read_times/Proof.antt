@@ -2,7 +2,7 @@
 -- Assumes nothing.
 use mathlib.Core.Path.{sym}
 use borrow.Author.Needs.{needs}
-use Rattle.network_message.specs.Header.{answerPromoted}
+use Rattle.network_header.specs.Header.{answerPromoted}
 use Rattle.wire.specs.Optional.{answerOptional16, answerOptionalI64}
 use Rattle.wire.proofs.Reading.{told}
 use Rattle.network_message.proofs.envelope.read_times.Statement.{statement}

@@ -1,0 +1,37 @@
+-- `network_header::flags::extended1` meets its contract.
+-- Assumes nothing.
+use mathlib.Core.Path.{sym}
+use borrow.Author.Tests.{not-true, not-false, eq-eqb, ne-eqb}
+use borrow.Author.Needs.{needs}
+use Rattle.wire.specs.Items.{answer8}
+use Rattle.wire.proofs.Reading.{told}
+use Rattle.network_header.proofs.flags.extended1.Statement.{statement}
+use Rattle.network_header.proofs.flags.extended1.Tie as tie
+
+returns : tie.Need-returns
+returns c = rw (not-true (c .before .before .args .on) (c .if1 .taken))
+
+returns-2 : tie.Need-returns-2
+returns-2 c =
+    rw (not-false (c .before .before .before .before .before .args .on) (c .before .before .before .if1 .left), sym (told (answer8 (c .before .before .before .before .before .args .at)) (c .before .before .read8 .ensures) (c .enum-told .given .1)))
+
+returns-3 : tie.Need-returns-3
+returns-3 c =
+    rw (not-false (c .before .before .before .before .before .before .before .before .args .on) (c .before .before .before .before .before .before .if1 .left), sym (told (answer8 (c .before .before .before .before .before .before .before .before .args .at)) (c .before .before .before .before .before .read8 .ensures) (c .before .before .before .e .given .1)), sym (c .before .extended1-rule .ensures), ne-eqb _ _ (c .if2 .taken))
+
+returns-4 : tie.Need-returns-4
+returns-4 c =
+    rw (not-false (c .before .before .before .before .before .before .before .before .args .on) (c .before .before .before .before .before .before .if1 .left), sym (told (answer8 (c .before .before .before .before .before .before .before .before .args .at)) (c .before .before .before .before .before .read8 .ensures) (c .before .before .before .e .given .1)), sym (c .before .extended1-rule .ensures), eq-eqb _ _ (c .if2 .left))
+
+pub extended1-spec : {M : Type 1} → statement M
+extended1-spec =
+    tie.close
+    (tie.spec
+    returns
+    (λ c κs. search needs)
+    (λ c. search needs)
+    (λ c. search needs)
+    returns-2
+    (λ c κs. search needs)
+    returns-3
+    returns-4)

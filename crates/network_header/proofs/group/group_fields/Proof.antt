@@ -1,0 +1,50 @@
+-- `network_header::group::group_fields` meets its contract.
+-- Assumes nothing.
+use mathlib.Core.Path.{sym}
+use borrow.Author.Needs.{needs}
+use Rattle.wire.specs.Optional.{answerOptional16, answerOptional32}
+use Rattle.wire.proofs.Reading.{told}
+use Rattle.network_header.proofs.group.group_fields.Statement.{statement}
+use Rattle.network_header.proofs.group.group_fields.Tie as tie
+
+returns : tie.Need-returns
+returns c =
+    rw (sym (told answerOptional16 (c .before .before .before .read-optional16 .ensures) (c .before .n .given .1)))
+
+returns-2 : tie.Need-returns-2
+returns-2 c =
+    rw (sym (told answerOptional16 (c .before .before .before .before .before .before .before .read-optional16 .ensures) (c .before .before .before .before .before .writer-group .given .1)), sym (told answerOptional32 (c .before .before .before .read-optional32 .ensures) (c .before .n2 .given .1)))
+
+returns-3 : tie.Need-returns-3
+returns-3 c =
+    rw (sym (told answerOptional16 (c .before .before .before .before .before .before .before .before .before .before .before .read-optional16 .ensures) (c .before .before .before .before .before .before .before .before .before .writer-group .given .1)), sym (told answerOptional32 (c .before .before .before .before .before .before .before .read-optional32 .ensures) (c .before .before .before .before .before .at .given .1)), sym (told answerOptional16 (c .before .before .before .message-number .ensures) (c .before .n3 .given .1)))
+
+returns-4 : tie.Need-returns-4
+returns-4 c =
+    rw (sym (told answerOptional16 (c .before .before .before .before .before .before .before .before .before .before .before .before .before .before .before .read-optional16 .ensures) (c .before .before .before .before .before .before .before .before .before .before .before .before .before .writer-group .given .1)), sym (told answerOptional32 (c .before .before .before .before .before .before .before .before .before .before .before .read-optional32 .ensures) (c .before .before .before .before .before .before .before .before .before .at .given .1)), sym (told answerOptional16 (c .before .before .before .before .before .before .before .message-number .ensures) (c .before .before .before .before .before .number .given .1)), sym (told answerOptional16 (c .before .before .before .read-optional162 .ensures) (c .before .n4 .given .1)))
+
+returns-5 : tie.Need-returns-5
+returns-5 c =
+    rw (sym (told answerOptional16 (c .before .before .before .before .before .before .before .before .before .before .before .before .before .before .before .read-optional16 .ensures) (c .before .before .before .before .before .before .before .before .before .before .before .before .before .writer-group .given .1)), sym (told answerOptional32 (c .before .before .before .before .before .before .before .before .before .before .before .read-optional32 .ensures) (c .before .before .before .before .before .before .before .before .before .at .given .1)), sym (told answerOptional16 (c .before .before .before .before .before .before .before .message-number .ensures) (c .before .before .before .before .before .number .given .1)), sym (told answerOptional16 (c .before .before .before .read-optional162 .ensures) (c .before .sequence .given .1)))
+
+pub group-fields-spec : {M : Type 1} → statement M
+group-fields-spec =
+    tie.close
+    (tie.spec
+    (λ c κs. search needs)
+    (λ c. search needs)
+    (λ c. search needs)
+    (λ c κs. search needs)
+    (λ c. search needs)
+    (λ c. search needs)
+    (λ c κs. search needs)
+    (λ c. search needs)
+    (λ c. search needs)
+    (λ c κs. search needs)
+    (λ c. search needs)
+    (λ c. search needs)
+    returns
+    returns-2
+    returns-3
+    returns-4
+    returns-5)

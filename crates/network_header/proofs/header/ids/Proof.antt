@@ -1,0 +1,43 @@
+-- `network_header::header::ids` meets its contract.
+-- Assumes nothing.
+use Prim.Native.Nat.{_*_, _-_}
+use mathlib.Core.Path.{sym}
+use borrow.Author.Tests.{eq-eqb, ne-eqb}
+use borrow.Author.Needs.{needs}
+use Rattle.wire.proofs.Reading.{told}
+use Rattle.wire.specs.Items.{answer8, answerRun}
+use Rattle.network_header.proofs.header.ids.Statement.{statement}
+use Rattle.network_header.proofs.header.ids.Tie as tie
+
+returns : tie.Need-returns
+returns c =
+    rw (sym (told (answer8 (c .before .before .before .before .args .at)) (c .before .before .read8 .ensures) (c .enum-told .given .1)))
+
+returns-2 : tie.Need-returns-2
+returns-2 c =
+    rw (sym (told (answer8 (c .before .before .before .before .before .before .args .at)) (c .before .before .before .before .read8 .ensures) (c .before .before .count .given .1)), eq-eqb _ _ (c .if1 .taken))
+
+returns-3 : tie.Need-returns-3
+returns-3 c =
+    rw (sym (told (answer8 (c .before .before .before .before .before .before .before .before .before .args .at)) (c .before .before .before .before .before .before .before .read8 .ensures) (c .before .before .before .before .before .count .given .1)), ne-eqb _ _ (c .before .before .before .if1 .left), sym (told (answerRun (c .before .before .before .before .before .count .given .0 .1 .0) (2 * c .before .before .before .before .before .count .given .0 .0)) (c .before .before .skip .ensures) (c .enum-told2 .given .1)))
+
+returns-4 : tie.Need-returns-4
+returns-4 c =
+    rw (sym (told (answer8 (c .before .before .before .before .before .before .before .before .before .before .args .at)) (c .before .before .before .before .before .before .before .before .read8 .ensures) (c .before .before .before .before .before .before .count .given .1)), ne-eqb _ _ (c .before .before .before .before .if1 .left), sym (told (answerRun (c .before .before .before .before .before .before .count .given .0 .1 .0) (2 * c .before .before .before .before .before .before .count .given .0 .0)) (c .before .before .before .skip .ensures) (c .before .next .given .1)))
+
+pub ids-spec : {M : Type 1} → statement M
+ids-spec =
+    tie.close
+    (tie.spec
+    (λ c κs. search needs)
+    (λ c. search needs)
+    (λ c. search needs)
+    returns
+    returns-2
+    (λ c. search needs)
+    (λ c. search needs)
+    (λ c κs. search needs)
+    (λ c. search needs)
+    (λ c. search needs)
+    returns-3
+    returns-4)

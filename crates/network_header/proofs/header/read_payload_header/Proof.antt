@@ -1,0 +1,37 @@
+-- `network_header::header::read_payload_header` meets its contract.
+-- Assumes nothing.
+use mathlib.Core.Path.{sym}
+use borrow.Author.Tests.{not-true, not-false}
+use borrow.Author.Needs.{needs}
+use Rattle.wire.specs.Items.{answer16}
+use Rattle.wire.proofs.Reading.{told}
+use Rattle.network_header.proofs.header.read_payload_header.Statement.{statement}
+use Rattle.network_header.proofs.header.read_payload_header.Tie as tie
+
+returns : tie.Need-returns
+returns c = rw (not-true (c .before .before .args .on) (c .if1 .taken))
+
+returns-2 : tie.Need-returns-2
+returns-2 c =
+    rw (not-false (c .before .before .before .before .before .before .args .on) (c .before .before .before .before .if1 .left), c .before .before .before .if2 .taken, sym (told (answer16 (c .before .before .before .before .before .before .args .at)) (c .before .before .read16 .ensures) (c .enum-told .given .1)))
+
+returns-3 : tie.Need-returns-3
+returns-3 c =
+    rw (not-false (c .before .before .before .before .before .before .before .args .on) (c .before .before .before .before .before .if1 .left), c .before .before .before .before .if2 .taken, sym (told (answer16 (c .before .before .before .before .before .before .before .args .at)) (c .before .before .before .read16 .ensures) (c .before .v .given .1)))
+
+returns-4 : tie.Need-returns-4
+returns-4 c =
+    rw (not-false (c .before .before .before .before .args .on) (c .before .before .if1 .left), c .before .if2 .left) (c .ids .ensures)
+
+pub read-payload-header-spec : {M : Type 1} → statement M
+read-payload-header-spec =
+    tie.close
+    (tie.spec
+    returns
+    (λ c κs. search needs)
+    (λ c. search needs)
+    (λ c. search needs)
+    returns-2
+    returns-3
+    (λ c κs. search needs)
+    returns-4)

@@ -1,0 +1,45 @@
+-- `network_header::header::read_promoted` meets its contract.
+-- Assumes nothing.
+use mathlib.Core.Path.{sym}
+use borrow.Author.Tests.{not-true, not-false, eq-eqb, ne-eqb}
+use borrow.Author.Needs.{needs}
+use Rattle.wire.specs.Items.{answer16, answerRun}
+use Rattle.wire.proofs.Reading.{told}
+use Rattle.network_header.proofs.header.read_promoted.Statement.{statement}
+use Rattle.network_header.proofs.header.read_promoted.Tie as tie
+
+returns : tie.Need-returns
+returns c = rw (not-true (c .before .before .args .on) (c .if1 .taken))
+
+returns-2 : tie.Need-returns-2
+returns-2 c =
+    rw (not-false (c .before .before .before .before .before .args .on) (c .before .before .before .if1 .left), sym (told (answer16 (c .before .before .before .before .before .args .at)) (c .before .before .read16 .ensures) (c .enum-told .given .1)))
+
+returns-3 : tie.Need-returns-3
+returns-3 c =
+    rw (not-false (c .before .before .before .before .before .before .before .args .on) (c .before .before .before .before .before .if1 .left), sym (told (answer16 (c .before .before .before .before .before .before .before .args .at)) (c .before .before .before .before .read16 .ensures) (c .before .before .v .given .1)), ne-eqb _ _ (c .if2 .taken))
+
+returns-4 : tie.Need-returns-4
+returns-4 c =
+    rw (not-false (c .before .before .before .before .before .before .before .before .before .before .args .on) (c .before .before .before .before .before .before .before .before .if1 .left), sym (told (answer16 (c .before .before .before .before .before .before .before .before .before .before .args .at)) (c .before .before .before .before .before .before .before .read16 .ensures) (c .before .before .before .before .before .v .given .1)), eq-eqb _ _ (c .before .before .before .if2 .left), sym (told (answerRun (c .before .before .before .before .before .v .given .0 .1 .0) (c .before .before .before .before .before .v .given .0 .0)) (c .before .before .skip .ensures) (c .enum-told2 .given .1)))
+
+returns-5 : tie.Need-returns-5
+returns-5 c =
+    rw (not-false (c .before .before .before .before .before .before .before .before .before .before .before .args .on) (c .before .before .before .before .before .before .before .before .before .if1 .left), sym (told (answer16 (c .before .before .before .before .before .before .before .before .before .before .before .args .at)) (c .before .before .before .before .before .before .before .before .read16 .ensures) (c .before .before .before .before .before .before .v .given .1)), eq-eqb _ _ (c .before .before .before .before .if2 .left), sym (told (answerRun (c .before .before .before .before .before .before .v .given .0 .1 .0) (c .before .before .before .before .before .before .v .given .0 .0)) (c .before .before .before .skip .ensures) (c .before .next .given .1)))
+
+pub read-promoted-spec : {M : Type 1} → statement M
+read-promoted-spec =
+    tie.close
+    (tie.spec
+    returns
+    (λ c κs. search needs)
+    (λ c. search needs)
+    (λ c. search needs)
+    returns-2
+    returns-3
+    (λ c. search needs)
+    (λ c κs. search needs)
+    (λ c. search needs)
+    (λ c. search needs)
+    returns-4
+    returns-5)

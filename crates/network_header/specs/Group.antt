@@ -1,0 +1,36 @@
+-- The group header (document 01, "The envelope").
+use Prim.Native.Nat.{ℕ, _%_}
+use mathlib.Core.Bool.{Bool, cond}
+use lib.Dec.{leb, eqb}
+use Rattle.wire.specs.Answer.{Answer, got, refused, Reader, ruled, whenOn, pure, _>>=_, bit}
+use Rattle.wire.specs.Optional.{optional16, optional32}
+use Rattle.wire.specs.declared.optional.Optional16.{Optional16}
+use Rattle.network_header.specs.declared.group.GroupHeader.{GroupHeader}
+use Rattle.network_header.specs.declared.group.GroupRead.{GroupRead}
+
+-- "NetworkMessageNumber 2 (value 0 is 3)"
+abbrev pub numberRule : ℕ → ℕ
+numberRule v = cond (eqb v 0) 3 0
+
+abbrev pub numberAt : Bool → Reader Optional16
+numberAt on = whenOn on Optional16.Absent (ruled 2 numberRule >>= λ v. pure (Optional16.Is v))
+
+-- "GroupFlags (bits 4-7 set is 3)"
+abbrev pub groupFlagsRule : ℕ → ℕ
+groupFlagsRule v = cond (leb 16 v) 3 0
+
+-- "then by bits 0 to 3: WriterGroupId 2, GroupVersion 4, NetworkMessageNumber 2, SequenceNumber 2"
+abbrev pub groupFieldsAt : ℕ → Reader GroupHeader
+groupFieldsAt flags = do
+  w ← optional16 (eqb (flags % 2) 1)
+  v ← optional32 (bit 2 flags)
+  n ← numberAt (bit 4 flags)
+  q ← optional16 (bit 8 flags)
+  pure (GroupHeader.Is (record { «writer_group» = w; version = v; number = n; sequence = q }))
+
+abbrev pub groupAt : Bool → Reader GroupHeader
+groupAt on = whenOn on GroupHeader.Absent (ruled 1 groupFlagsRule >>= groupFieldsAt)
+
+abbrev pub answerGroup : GroupRead → Answer GroupHeader
+answerGroup (GroupRead.Is v next) = got v next
+answerGroup (GroupRead.Refused n place) = refused n place

@@ -1,0 +1,5 @@
+pub mod Flags
+pub mod Publisher
+pub mod Group
+pub mod Header
+pub mod PublisherRecord

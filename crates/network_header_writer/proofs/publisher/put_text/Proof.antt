@@ -1,0 +1,16 @@
+-- `network_header_writer::publisher::put_text` meets its contract.
+-- Assumes nothing.
+use Rattle.network_header_writer.proofs.Parts.{low32-puts}
+use Rattle.writing.proofs.Putting.{puts, then}
+use lib.ListN.{length}
+use denote.Ref.{now}
+use borrow.Author.Needs.{needs}
+use Rattle.network_header_writer.proofs.publisher.put_text.Statement.{statement}
+use Rattle.network_header_writer.proofs.publisher.put_text.Tie as tie
+
+returns : tie.Need-returns
+returns c =
+    then (low32-puts (length (now (c .before .before .before .before .before .before .before .before .before .before .args .text))) (c .before .before .before .before .before .before .put32 .ensures)) (puts (c .before .before .put-run .ensures))
+
+pub put-text-spec : {M : Type 1} → statement M
+put-text-spec = tie.close (tie.spec (λ c. search needs) (λ c κs. search needs) (λ c κs. search needs) (λ c. search needs) returns)

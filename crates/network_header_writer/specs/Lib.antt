@@ -1,0 +1,5 @@
+pub mod Publisher
+pub mod Group
+pub mod Numbers
+pub mod Header
+pub mod Flags

@@ -1,0 +1,132 @@
+// The PublisherId.
+use network_header::publisher::PublisherId;
+use writing::put_run;
+use writing::put8;
+use writing::put16;
+use writing::put32;
+use writing::put64;
+ghost use mathlib.Core.Path.{_≡_};
+ghost use mathlib.Core.Bool.{cond};
+ghost use mathlib.Core.List.{_++_};
+ghost use Prim.Native.Nat.{_+_, _≤_};
+ghost use lib.Dec.{leb, eqb};
+ghost use lib.ListN.{length};
+ghost use Rattle.wire.specs.Number.{leBytes};
+ghost use Rattle.writing.specs.Writing.{Puts};
+ghost use Rattle.network_header_writer.specs.Publisher.{publisherOn, kindOf, publisherBytes, publisherRefusal, unused, publisherShape};
+
+pub(crate) fn publisher_on(p: PublisherId) -> bool
+    ensures { λ r. ⌜ r ≡ publisherOn p ⌝ }
+{
+    match p {
+        PublisherId::Absent => false,
+        PublisherId::Byte(_) => true,
+        PublisherId::UInt16(_) => true,
+        PublisherId::UInt32(_) => true,
+        PublisherId::UInt64(_) => true,
+        PublisherId::Text(_) => true,
+    }
+}
+
+pub(crate) fn kind_of(p: PublisherId) -> u8
+    ensures { λ r. ⌜ (r ≡ kindOf p) × (r ≤ 4) ⌝ }
+{
+    match p {
+        PublisherId::Absent => 0, // its type bits are written as 0
+        PublisherId::Byte(_) => 0,
+        PublisherId::UInt16(_) => 1,
+        PublisherId::UInt32(_) => 2,
+        PublisherId::UInt64(_) => 3,
+        PublisherId::Text(_) => 4,
+    }
+}
+
+pub fn publisher_size(p: PublisherId, text: &[u8]) -> usize
+    ensures { λ r. ⌜ (r ≡ length (publisherBytes (now (text .entry)) p)) × (r ≤ length (now (text .entry)) + 8) ⌝ }
+{
+    match p {
+        PublisherId::Absent => 0,
+        PublisherId::Byte(_) => 1,
+        PublisherId::UInt16(_) => 2,
+        PublisherId::UInt32(_) => 4,
+        PublisherId::UInt64(_) => 8,
+        PublisherId::Text(_) => 4 + text.len(),
+    }
+}
+
+// The length of a string and its bytes.
+fn put_text(out: &mut [u8], at: usize, text: &[u8]) -> usize
+    ensures { λ r. ⌜ Puts (leBytes 4 (length (now (text .entry))) ++ now (text .entry)) (now (out .entry)) at (now (out .exit)) r ⌝ }
+{
+    let n = text.len();
+    let start = put32(out, at, (n % 4294967296) as u32);
+    put_run(out, start, text)
+}
+
+pub fn put_publisher(out: &mut [u8], at: usize, p: PublisherId, text: &[u8]) -> usize
+    ensures { λ r. ⌜ Puts (publisherBytes (now (text .entry)) p) (now (out .entry)) at (now (out .exit)) r ⌝ }
+{
+    match p {
+        PublisherId::Absent => at,
+        PublisherId::Byte(v) => put8(out, at, v),
+        PublisherId::UInt16(v) => put16(out, at, v),
+        PublisherId::UInt32(v) => put32(out, at, v),
+        PublisherId::UInt64(v) => put64(out, at, v),
+        PublisherId::Text(_) => put_text(out, at, text),
+    }
+}
+
+fn text_refusal(n: usize) -> u8
+    ensures { λ r. ⌜ r ≡ cond (leb 65 n) 10 0 ⌝ }
+{
+    if 65 <= n {
+        return 10;
+    }
+    0
+}
+
+pub fn publisher_refusal(p: PublisherId) -> u8
+    ensures { λ r. ⌜ r ≡ publisherRefusal p ⌝ }
+{
+    match p {
+        PublisherId::Absent => 0,
+        PublisherId::Byte(_) => 0,
+        PublisherId::UInt16(_) => 0,
+        PublisherId::UInt32(_) => 0,
+        PublisherId::UInt64(_) => 0,
+        PublisherId::Text(n) => text_refusal(n),
+    }
+}
+
+// A part of this length that nothing announces.
+pub fn not_used(len: usize) -> u8
+    ensures { λ r. ⌜ r ≡ unused len ⌝ }
+{
+    if len == 0 {
+        return 0;
+    }
+    6
+}
+
+// Two numbers that must be equal.
+pub(crate) fn must_equal(a: usize, b: usize) -> u8
+    ensures { λ r. ⌜ r ≡ cond (eqb a b) 0 6 ⌝ }
+{
+    if a == b {
+        return 0;
+    }
+    6
+}
+
+pub fn publisher_shape(p: PublisherId, len: usize) -> u8
+    ensures { λ r. ⌜ r ≡ publisherShape p len ⌝ }
+{
+    match p {
+        PublisherId::Absent => not_used(len),
+        PublisherId::Byte(_) => not_used(len),
+        PublisherId::UInt16(_) => not_used(len),
+        PublisherId::UInt32(_) => not_used(len),
+        PublisherId::UInt64(_) => not_used(len),
+        PublisherId::Text(n) => must_equal(n, len),
+    }
+}
