@@ -31,8 +31,9 @@ use wire::optional::OptionalI64Read;
 use wire::optional::read_optional_i64;
 use wire::optional::read_picoseconds;
 ghost use mathlib.Core.Path.{_≡_};
+ghost use Rattle.wire.specs.Answer.{got, andThen};
 ghost use Rattle.network_message.specs.Envelope.{identityAt, timesAt, messagesOf, headerAt, envelopeOf, bodyAt, networkMessageAt, messagePlaceAt, messageBytes};
-ghost use Rattle.network_message.specs.Payload.{isSingle, payloadAt, answerMessage, answerPayload};
+ghost use Rattle.network_message.specs.Payload.{isSingle, restAt, payloadAt, answerMessage};
 ghost use Rattle.network_message.specs.Envelope.{answerIdentity, answerTimes, answerHeader, answerNetworkMessage};
 
 // PublisherId, DataSetClassId and group header, and where the PublisherId ends.
@@ -221,20 +222,33 @@ fn is_single(header: PayloadHeader) -> bool
     }
 }
 
-// The payload after a payload header. That of a single message, the common one, is read in line.
-fn payload_after(
-    s: &[u8],
-    chunk: bool,
-    header: PayloadHeader,
-    sizes: &[u16],
-    at: usize,
-) -> PayloadRead
-    ensures { λ r. ⌜ answerPayload r ≡ payloadAt chunk header (now (sizes .entry)) (now (s .entry)) at ⌝ }
+// A NetworkMessage whose payload is the rest.
+fn with_rest(s: &[u8], envelope: Envelope, places: Places) -> NetworkMessageRead
+    ensures { λ r. ⌜ answerNetworkMessage r ≡ andThen (restAt (now (s .entry)) (places .payload)) (λ p next. got (record { envelope = envelope; places = places; payload = p }) next) ⌝ }
 {
-    if is_single(header) {
-        return rest(s, at);
+    match rest(s, places.payload) {
+        PayloadRead::Refused(n, place) => NetworkMessageRead::Refused(n, place),
+        PayloadRead::Is(payload) => NetworkMessageRead::Is(envelope, places, payload),
     }
-    read_payload(&*s, chunk, header, &*sizes, at)
+}
+
+// A NetworkMessage after its header. A single message, the common one, has a way of its own, so that its payload is not copied in pieces.
+fn with_payload(
+    s: &[u8],
+    envelope: Envelope,
+    places: Places,
+    sizes: &[u16],
+) -> NetworkMessageRead
+    ensures { λ r. ⌜ answerNetworkMessage r ≡ andThen (payloadAt (envelope .chunk) (envelope .«payload_header») (now (sizes .entry)) (now (s .entry)) (places .payload)) (λ p next. got (record { envelope = envelope; places = places; payload = p }) next) ⌝ }
+{
+    let header = envelope.payload_header;
+    if is_single(header) {
+        return with_rest(s, envelope, places);
+    }
+    match read_payload(&*s, envelope.chunk, header, &*sizes, places.payload) {
+        PayloadRead::Refused(n, place) => NetworkMessageRead::Refused(n, place),
+        PayloadRead::Is(payload) => NetworkMessageRead::Is(envelope, places, payload),
+    }
 }
 
 fn read_body(s: &[u8], flags: Flags, sizes: &[u16], at: usize) -> NetworkMessageRead
@@ -242,13 +256,7 @@ fn read_body(s: &[u8], flags: Flags, sizes: &[u16], at: usize) -> NetworkMessage
 {
     match read_header(s, flags, writers(sizes), at) {
         HeaderRead::Refused(n, place) => NetworkMessageRead::Refused(n, place),
-        HeaderRead::Is(envelope, places) => {
-            let header = envelope.payload_header;
-            match payload_after(s, envelope.chunk, header, sizes, places.payload) {
-                PayloadRead::Refused(n, place) => NetworkMessageRead::Refused(n, place),
-                PayloadRead::Is(payload) => NetworkMessageRead::Is(envelope, places, payload),
-            }
-        }
+        HeaderRead::Is(envelope, places) => with_payload(s, envelope, places, sizes),
     }
 }
 

@@ -1,6 +1,6 @@
--- What reading a length tells: at each case of the answer, and that a count is below 2^31.
+-- A count is below 2^31.
 -- Assumes nothing.
-use mathlib.Core.Path.{_≡_, refl, sym, ap, subst, _∙_}
+use mathlib.Core.Path.{_≡_, refl, subst}
 use mathlib.Core.Bool.{Bool, true, false, cond}
 use mathlib.Core.List.{List}
 use Prim.Native.Nat.{ℕ, zero, suc, _+_, _-_, _<_}
@@ -10,12 +10,8 @@ use lib.IntN.{pos, negsuc}
 use lib.ListN.{length}
 use Rattle.wire.specs.Number.{le, signed}
 use Rattle.wire.specs.Answer.{Answer, got, refused}
-use Rattle.wire.specs.Items.{lengthOf, lengthItem, answerLength}
+use Rattle.wire.specs.Items.{lengthOf, lengthItem}
 use Rattle.wire.specs.declared.Length.{Length}
-use Rattle.wire.specs.declared.ItemLength.{ItemLength}
-
-pub told-length : (at : ℕ) {r x : ItemLength} {z : Answer Length} → answerLength at r ≡ z → r ≡ x → z ≡ answerLength at x
-told-length at e q = sym e ∙ ap (answerLength at) q
 
 -- a count, where there is one, is below 2^31
 data Small : Answer Length → Type 0 where

@@ -1,25 +1,27 @@
 -- `value::described_array` meets its contract.
 -- Assumes nothing.
-use Rattle.value.proofs.Lengths.{told-length}
+use mathlib.Core.Path.{sym}
+use Rattle.wire.specs.Items.{answerLength}
+use Rattle.wire.proofs.Reading.{told}
 use borrow.Author.Needs.{needs}
 use Rattle.value.proofs.described_array.Statement.{statement}
 use Rattle.value.proofs.described_array.Tie as tie
 
 returns : tie.Need-returns
 returns c =
-    rw (told-length (c .before .before .before .before .args .at) (c .before .before .read-length .ensures) (c .enum-told .given .1))
+    rw (sym (told (answerLength (c .before .before .before .before .args .at)) (c .before .before .read-length .ensures) (c .enum-told .given .1)))
 
 returns-2 : tie.Need-returns-2
 returns-2 c =
-    rw (told-length (c .before .before .before .before .before .args .at) (c .before .before .before .read-length .ensures) (c .before .n .given .1))
+    rw (sym (told (answerLength (c .before .before .before .before .before .args .at)) (c .before .before .before .read-length .ensures) (c .before .n .given .1)))
 
 returns-3 : tie.Need-returns-3
 returns-3 c =
-    rw (told-length (c .before .before .before .before .args .at) (c .before .before .read-length .ensures) (c .enum-told2 .given .1))
+    rw (sym (told (answerLength (c .before .before .before .before .args .at)) (c .before .before .read-length .ensures) (c .enum-told2 .given .1)))
 
 returns-4 : tie.Need-returns-4
 returns-4 c =
-    rw (told-length (c .before .before .before .before .args .at) (c .before .before .read-length .ensures) (c .enum-told3 .given .1))
+    rw (sym (told (answerLength (c .before .before .before .before .args .at)) (c .before .before .read-length .ensures) (c .enum-told3 .given .1)))
 
 pub described-array-spec : {M : Type 1} → statement M
 described-array-spec =

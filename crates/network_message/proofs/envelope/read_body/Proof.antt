@@ -1,10 +1,9 @@
 -- `network_message::envelope::read_body` meets its contract.
 -- Assumes nothing.
+use Rattle.wire.proofs.Reading.{told}
+use Rattle.network_message.specs.Envelope.{answerHeader}
 use mathlib.Core.Path.{sym}
 use borrow.Author.Needs.{needs}
-use Rattle.network_message.specs.Envelope.{answerHeader}
-use Rattle.network_message.specs.Payload.{answerPayload}
-use Rattle.wire.proofs.Reading.{told}
 use Rattle.network_message.proofs.envelope.read_body.Statement.{statement}
 use Rattle.network_message.proofs.envelope.read_body.Tie as tie
 
@@ -14,11 +13,7 @@ returns c =
 
 returns-2 : tie.Need-returns-2
 returns-2 c =
-    rw (sym (c .before .before .before .before .before .before .before .before .writers .ensures .0), sym (told answerHeader (c .before .before .before .before .before .before .before .read-header .ensures) (c .before .before .before .before .before .envelope .given .1)), sym (told answerPayload (c .before .before .before .payload-after .ensures) (c .before .n2 .given .1)))
-
-returns-3 : tie.Need-returns-3
-returns-3 c =
-    rw (sym (c .before .before .before .before .before .before .before .before .writers .ensures .0), sym (told answerHeader (c .before .before .before .before .before .before .before .read-header .ensures) (c .before .before .before .before .before .envelope .given .1)), sym (told answerPayload (c .before .before .before .payload-after .ensures) (c .before .payload .given .1)))
+    rw (sym (c .before .before .before .before .before .writers .ensures .0), sym (told answerHeader (c .before .before .before .before .read-header .ensures) (c .before .before .envelope .given .1))) (c .with-payload .ensures)
 
 pub read-body-spec : {M : Type 1} → statement M
 read-body-spec =
@@ -29,8 +24,5 @@ read-body-spec =
     (λ c. search needs)
     (λ c. search needs)
     (λ c κs. search needs)
-    (λ c. search needs)
-    (λ c. search needs)
     returns
-    returns-2
-    returns-3)
+    returns-2)

@@ -2,34 +2,37 @@
 -- Assumes nothing.
 use denote.Ref.{now}
 use Rattle.value.specs.Value.{array}
-use Rattle.value.proofs.Lengths.{told-length, count-small}
+use mathlib.Core.Path.{sym}
+use Rattle.wire.specs.Items.{answerLength}
+use Rattle.wire.proofs.Reading.{told}
+use Rattle.value.proofs.Lengths.{count-small}
 use borrow.Author.Needs.{needs}
 use Rattle.value.proofs.head.array_head.Statement.{statement}
 use Rattle.value.proofs.head.array_head.Tie as tie
 
 elements-head-requires : tie.Need-elements-head-requires
 elements-head-requires c κs =
-    count-small (now (c .before .before .before .before .before .args .s)) (c .before .before .before .before .before .args .at) (told-length (c .before .before .before .before .before .args .at) (c .before .before .before .read-length .ensures) (c .before .next2 .given .1))
+    count-small (now (c .before .before .before .before .before .args .s)) (c .before .before .before .before .before .args .at) (sym (told (answerLength (c .before .before .before .before .before .args .at)) (c .before .before .before .read-length .ensures) (c .before .next2 .given .1)))
 
 returns : tie.Need-returns
 unfolding array
 returns c =
-    λ nested. rw (told-length (c .before .before .before .before .before .args .at) (c .before .before .before .read-length .ensures) (c .before .next .given .1))
+    λ nested. rw (sym (told (answerLength (c .before .before .before .before .before .args .at)) (c .before .before .before .read-length .ensures) (c .before .next .given .1)))
 
 returns-2 : tie.Need-returns-2
 unfolding array
 returns-2 c =
-    λ nested. rw (told-length (c .before .before .before .before .before .before .args .at) (c .before .before .before .before .read-length .ensures) (c .before .before .next2 .given .1)) (c .elements-head .ensures nested)
+    λ nested. rw (sym (told (answerLength (c .before .before .before .before .before .before .args .at)) (c .before .before .before .before .read-length .ensures) (c .before .before .next2 .given .1))) (c .elements-head .ensures nested)
 
 returns-3 : tie.Need-returns-3
 unfolding array
 returns-3 c =
-    λ nested. rw (told-length (c .before .before .before .before .args .at) (c .before .before .read-length .ensures) (c .enum-told .given .1))
+    λ nested. rw (sym (told (answerLength (c .before .before .before .before .args .at)) (c .before .before .read-length .ensures) (c .enum-told .given .1)))
 
 returns-4 : tie.Need-returns-4
 unfolding array
 returns-4 c =
-    λ nested. rw (told-length (c .before .before .before .before .args .at) (c .before .before .read-length .ensures) (c .enum-told2 .given .1))
+    λ nested. rw (sym (told (answerLength (c .before .before .before .before .args .at)) (c .before .before .read-length .ensures) (c .enum-told2 .given .1)))
 
 pub array-head-spec : {M : Type 1} → statement M
 array-head-spec =

@@ -1,0 +1,47 @@
+-- `network_message::envelope::with_payload` meets its contract.
+-- Assumes nothing.
+use Prim.Native.Nat.{ℕ}
+use mathlib.Core.Path.{_≡_}
+use mathlib.Core.Bool.{Bool, true}
+use mathlib.Core.List.{List}
+use native.Mathlib.Omega.{arith}
+use Rattle.network_message.specs.Payload.{isSingle, restAt, payloadAt}
+use Rattle.network_header.specs.declared.header.PayloadHeader.{PayloadHeader}
+use Rattle.network_message.specs.Payload.{answerPayload}
+use Rattle.wire.proofs.Reading.{told}
+use denote.Ref.{now}
+use mathlib.Core.Path.{sym, _∙_}
+use borrow.Author.Needs.{needs}
+use Rattle.network_message.proofs.envelope.with_payload.Statement.{statement}
+use Rattle.network_message.proofs.envelope.with_payload.Tie as tie
+
+single-rest : (chunk : Bool) (x : PayloadHeader) (sizes s : List ℕ) (at : ℕ) → isSingle x ≡ true → restAt s at ≡ payloadAt chunk x sizes s at
+single-rest chunk PayloadHeader.Absent sizes s at e = absurd (let z : _≡_ {A = ℕ} 0 1 = cc in omega arith)
+single-rest chunk (PayloadHeader.Ids n) sizes s at e = rw e
+single-rest chunk (PayloadHeader.Chunk w) sizes s at e = absurd (let z : _≡_ {A = ℕ} 0 1 = cc in omega arith)
+
+returns : tie.Need-returns
+returns c =
+    let a = c .before .before .before .before .before .args in
+    rw (sym (single-rest (a .envelope .chunk) (a .envelope .«payload_header») (now (a .sizes)) (now (a .s)) (a .places .payload) (sym (c .before .before .is-single .ensures) ∙ c .before .if1 .taken))) (c .with-rest .ensures)
+
+returns-2 : tie.Need-returns-2
+returns-2 c =
+    rw (sym (told answerPayload (c .before .before .before .read-payload .ensures) (c .before .n .given .1)))
+
+returns-3 : tie.Need-returns-3
+returns-3 c =
+    rw (sym (told answerPayload (c .before .before .before .read-payload .ensures) (c .before .payload .given .1)))
+
+pub with-payload-spec : {M : Type 1} → statement M
+with-payload-spec =
+    tie.close
+    (tie.spec
+    (λ c κs. search needs)
+    (λ c κs. search needs)
+    returns
+    (λ c κs. search needs)
+    (λ c. search needs)
+    (λ c. search needs)
+    returns-2
+    returns-3)
