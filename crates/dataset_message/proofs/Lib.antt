@@ -1,3 +1,4 @@
 pub mod Walks
 pub mod Agreement
+pub mod Ending
 pub mod Front

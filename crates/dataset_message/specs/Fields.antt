@@ -7,6 +7,7 @@ use lib.ListN.{length, getD}
 use Rattle.wire.specs.Answer.{Answer, got, refused, Reader, item, here, whenOn, pure, andThen, _>>=_, _>>_}
 use Rattle.value.specs.Value.{variantAt, dataValueAt, rawAt}
 use Rattle.value.specs.Value.{Measure}
+use Rattle.value.specs.Head.{describedAt}
 use Rattle.dataset_message.specs.declared.flags.Encoding.{Encoding}
 use Rattle.dataset_message.specs.declared.fields.Field.{Field}
 use Rattle.dataset_message.specs.declared.fields.FieldRead.{FieldRead}
@@ -32,6 +33,10 @@ fieldAt delta encoding types k = do
   m ← encodedAt encoding types k
   end ← here
   pure (record { index = i; kind = m .kind; shape = m .shape; offset = offset; length = end - offset })
+
+-- field k where the fields are Variants without indices, by its first items, where it is known to end at `end`
+abbrev pub endingAt : ℕ → ℕ → Reader Field
+endingAt end k s at = andThen (describedAt end s at) (λ m e. got (record { index = k; kind = m .kind; shape = m .shape; offset = at; length = e - at }) e)
 
 -- n fields, the first of them field k
 unfoldable pub fieldsAt : Bool → Encoding → List ℕ → ℕ → ℕ → Reader (Unit {0})

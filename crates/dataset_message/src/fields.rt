@@ -2,6 +2,7 @@
 use crate::flags::Encoding;
 use value::Measured;
 use value::Shape;
+use value::described;
 use value::fixed_end;
 use value::measure_data_value;
 use value::measure_raw;
@@ -17,7 +18,7 @@ ghost use lib.ListN.{getD};
 ghost use Rattle.wire.specs.Answer.{got, andThen};
 ghost use Rattle.wire.specs.Items.{answerReached};
 ghost use Rattle.value.specs.Value.{answerMeasured};
-ghost use Rattle.dataset_message.specs.Fields.{encodedAt, indexAt, fieldAt, fieldsAt, stepAt, zerosAt, paddingAt};
+ghost use Rattle.dataset_message.specs.Fields.{encodedAt, indexAt, fieldAt, endingAt, fieldsAt, stepAt, zerosAt, paddingAt};
 ghost use Rattle.dataset_message.specs.Fields.{answerIndex, answerField, answerStep};
 ghost use Rattle.dataset_message.specs.declared.flags.Encoding.{Encoding};
 
@@ -147,6 +148,13 @@ pub fn read_variant(s: &[u8], types: &[u8], k: usize, at: usize) -> FieldRead
         return located(k, s[at], Shape::Scalar, at, end);
     }
     read_field(&*s, Encoding::Variant, false, &*types, k, at)
+}
+
+// Field k where the fields are Variants without indices, one that is accepted and ends at `end`: only its first items are read.
+pub fn ending_variant(s: &[u8], k: usize, at: usize, end: usize) -> FieldRead
+    ensures { λ r. ⌜ answerField r ≡ endingAt end k (now (s .entry)) at ⌝ }
+{
+    measured(k, at, described(s, at, end))
 }
 
 // Field k of RawData.

@@ -4,6 +4,7 @@ use config::writers::writer_fields;
 use dataset_message::fields::Cursor;
 use dataset_message::fields::Field;
 use dataset_message::fields::FieldRead;
+use dataset_message::fields::ending_variant;
 use dataset_message::fields::read_field;
 use dataset_message::fields::read_raw;
 use dataset_message::fields::read_variant;
@@ -25,11 +26,14 @@ use records::numbers::put_numbers;
 use wire::optional::Optional16;
 use wire::part::part;
 ghost use mathlib.Core.Path.{_≡_};
+ghost use mathlib.Core.Bool.{true};
 ghost use mathlib.Core.List.{[], _∷_};
 ghost use Prim.Native.Nat.{_+_, _*_, _≤_};
 ghost use lib.ListN.{length};
 ghost use Rattle.wire.specs.Store.{laid};
-ghost use Rattle.dataset_message.specs.Fields.{fieldAt, answerField};
+ghost use Rattle.wire.specs.Answer.{got};
+ghost use Rattle.dataset_message.specs.Fields.{fieldAt, fieldsAt, answerField};
+ghost use Rattle.dataset_message.specs.declared.fields.Field.{Field};
 ghost use Rattle.records.specs.Numbers.{numberBytes};
 ghost use Rattle.listing.specs.Lines.{writers, typesOf, inDatagram, fieldsLeft};
 ghost use Rattle.listing.specs.declared.line.Line.{Line};
@@ -124,7 +128,8 @@ fn types_of<'a>(ids: &'a [u16], starts: &'a [u8], types: &'a [u8], writer: Optio
     writer_fields(starts, types, k)
 }
 
-// Field k of a message, which starts at a position; the two common kinds are read in line.
+// Field k of a message, which starts at a position; the two common kinds are read in line. Of the last field it is known that it is accepted and
+// ends at `end`, so that a Variant is not passed over a second time.
 fn field_at(
     s: &[u8],
     encoding: Encoding,
@@ -132,20 +137,29 @@ fn field_at(
     types: &[u8],
     k: usize,
     at: usize,
+    last: bool,
+    end: usize,
 ) -> FieldRead
+    requires { ⌜ (last ≡ true → (f : Field) × (fieldAt delta encoding (now types) k (now s) at ≡ got f end)) ⌝ }
     ensures { λ r. ⌜ answerField r ≡ fieldAt delta encoding (now (types .entry)) k (now (s .entry)) at ⌝ }
 {
     if delta {
         return read_field(&*s, encoding, true, &*types, k, at);
     }
     match encoding {
-        Encoding::Variant => read_variant(s, types, k, at),
+        Encoding::Variant => {
+            if last {
+                return ending_variant(s, k, at, end);
+            }
+            read_variant(s, types, k, at)
+        }
         Encoding::RawData => read_raw(s, types, k, at),
         Encoding::DataValue => read_field(&*s, encoding, false, &*types, k, at),
     }
 }
 
-// Puts the records of a message's fields from the cursor on, the first of them record k; answers the number of the record after them.
+// Puts the records of a message's fields from the cursor on, which end at `end`, the first of them record k; answers the number of the record
+// after them.
 fn walk_fields(
     out: &mut [u8],
     first: usize,
@@ -153,8 +167,9 @@ fn walk_fields(
     types: &[u8],
     p: MessagePlace,
     c: Cursor,
+    end: usize,
 ) -> usize
-    requires { ⌜ (first + length (now message) ≤ 18446744073709551615) × (p .offset + length (now message) ≤ 18446744073709551615) ⌝ }
+    requires { ⌜ (first + length (now message) ≤ 18446744073709551615) × (p .offset + length (now message) ≤ 18446744073709551615) × (fieldsAt (c .delta) (c .encoding) (now types) (fieldsLeft c) (c .next) (now message) (c .at) ≡ got tt end) ⌝ }
     ensures { λ r. ⌜ (r ≡ first + length (fieldsFrom (now (types .entry)) (now (message .entry)) p (fieldsLeft c) c)) × (now (out .exit) ≡ recordsPut first (fieldsFrom (now (types .entry)) (now (message .entry)) p (fieldsLeft c) c) (now (out .entry))) ⌝ }
 {
     let encoding = c.encoding;
@@ -162,13 +177,14 @@ fn walk_fields(
     let mut i = c.next;
     let mut k = first;
     while i < c.count {
-        match field_at(message, encoding, c.delta, types, i, at) {
+        let last = i + 1 == c.count;
+        match field_at(message, encoding, c.delta, types, i, at, last, end) {
             FieldRead::Refused(_, _) => {
                 return k;
             }
-            FieldRead::Is(f, end) => {
+            FieldRead::Is(f, next) => {
                 put_field(out, k, p, f);
-                at = end;
+                at = next;
             }
         }
         i += 1;
@@ -199,14 +215,14 @@ fn walk_message(
             put_message(out, k, p, writer, 3, n as u64, place as u64, 0);
             k + 1
         }
-        MessageRead::Is(h, c, _) => {
+        MessageRead::Is(h, c, end) => {
             let kind = h.kind;
             let encoding = h.encoding;
             let sequence = h.sequence;
             let a = kind_number(kind);
             let b = encoding_number(encoding);
             put_message(out, k, p, writer, 1, a, b, or_none(sequence));
-            walk_fields(out, k + 1, message, types, p, c)
+            walk_fields(out, k + 1, message, types, p, c, end)
         }
     }
 }
