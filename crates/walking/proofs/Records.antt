@@ -23,7 +23,7 @@ use Rattle.records.specs.Numbers.{numberBytes}
 use Rattle.message_record.specs.Message.{kindNumber, encodingNumber}
 use Rattle.records.proofs.Storing.{bytes-length}
 use Rattle.listing.specs.Lines.{fieldsLeft}
-use Rattle.listing.specs.declared.line.Line.{Line}
+use Rattle.listing_line.specs.declared.line.Line.{Line}
 use Rattle.walking.specs.Walk.{orNone, recordLaid, recordsPut}
 use Rattle.walking.specs.Parts.{fieldsFrom, setPlace, setBy, setFrom}
 

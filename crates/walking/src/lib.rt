@@ -32,7 +32,7 @@ ghost use Rattle.wire.specs.Store.{laid};
 ghost use Rattle.dataset_message.specs.Fields.{fieldAt, answerField};
 ghost use Rattle.records.specs.Numbers.{numberBytes};
 ghost use Rattle.listing.specs.Lines.{writers, typesOf, inDatagram, fieldsLeft};
-ghost use Rattle.listing.specs.declared.line.Line.{Line};
+ghost use Rattle.listing_line.specs.declared.line.Line.{Line};
 ghost use Rattle.walking.specs.Walk.{orNone, recordLaid, recordsPut, walkLines, walkOf};
 ghost use Rattle.walking.specs.Parts.{fieldsFrom, setFrom, bare, payloadLines};
 
