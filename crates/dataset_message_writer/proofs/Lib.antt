@@ -1,3 +1,1 @@
-pub mod Judging
-pub mod Laying
 pub mod Whole

@@ -22,12 +22,12 @@ use Rattle.writing.proofs.Refusals.{both-zero, held}
 use Rattle.dataset_message.specs.declared.flags.Encoding.{Encoding}
 use Rattle.dataset_message.specs.declared.flags.Kind.{Kind}
 use Rattle.dataset_message.specs.Message.{isDelta, isRaw, messageAt}
-use Rattle.dataset_message_writer.specs.Flags.{kindRule}
-use Rattle.dataset_message_writer.specs.Header.{headerBytes}
-use Rattle.dataset_message_writer.specs.Fields.{total, fieldsBytes, zeros}
+use Rattle.dataset_parts_writer.specs.Flags.{kindRule}
+use Rattle.dataset_parts_writer.specs.Header.{headerBytes}
+use Rattle.dataset_parts_writer.specs.Fields.{total, fieldsBytes, zeros}
 use Rattle.dataset_message_writer.specs.Message.{Given, hasFields, isFielded, isRawData, fieldsOf, countBytes, encode, bodyRefusal, readingRefusal, bodyAgrees, listsAgree, readsBack, refusalOf, sizeOf, atMost, WritesBytes}
-use Rattle.dataset_message_writer.proofs.Judging.{or-assoc, six-and}
-use Rattle.dataset_message_writer.proofs.Laying.{length-zeros, values-whole, delta-length}
+use Rattle.dataset_parts_writer.proofs.Judging.{or-assoc, six-and}
+use Rattle.dataset_parts_writer.proofs.Laying.{length-zeros, values-whole, delta-length}
 
 -- refusals in their order
 

@@ -1,5 +1,2 @@
-pub mod Flags
-pub mod Header
-pub mod Fields
 pub mod Message
 pub mod Rewrite

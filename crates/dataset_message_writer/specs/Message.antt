@@ -13,9 +13,9 @@ use Rattle.dataset_message.specs.declared.flags.Encoding.{Encoding}
 use Rattle.dataset_message.specs.declared.flags.Kind.{Kind}
 use Rattle.dataset_message.specs.declared.header.Header.{Header}
 use Rattle.dataset_message.specs.Message.{isDelta, isRaw}
-use Rattle.dataset_message_writer.specs.Flags.{kindRule}
-use Rattle.dataset_message_writer.specs.Header.{headerBytes}
-use Rattle.dataset_message_writer.specs.Fields.{total, valuesOf, fieldsRefusal, fieldsWhole, reached, fieldsBytes, zeros}
+use Rattle.dataset_parts_writer.specs.Flags.{kindRule}
+use Rattle.dataset_parts_writer.specs.Header.{headerBytes}
+use Rattle.dataset_parts_writer.specs.Fields.{total, valuesOf, fieldsRefusal, fieldsWhole, reached, fieldsBytes, zeros}
 
 -- What is given to be written: the header; of a key frame, whether it is a heartbeat; the fields' encoded values one after the
 -- other and how long each is; a delta's indices; how many bytes of padding follow.

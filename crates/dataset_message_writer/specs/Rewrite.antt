@@ -11,8 +11,8 @@ use Rattle.writing.specs.declared.Written.{Written}
 use Rattle.dataset_message.specs.declared.header.Header.{Header}
 use Rattle.dataset_message.specs.Flags.{Valid, notValid, valid}
 use Rattle.dataset_message.specs.Message.{Message, isRaw, messageAt}
-use Rattle.dataset_message_writer.specs.Header.{headerBytes}
-use Rattle.dataset_message_writer.specs.Fields.{zeros}
+use Rattle.dataset_parts_writer.specs.Header.{headerBytes}
+use Rattle.dataset_parts_writer.specs.Fields.{zeros}
 use Rattle.dataset_message_writer.specs.Message.{hasFields, countBytes}
 
 -- the header, FieldCount where there is one, the fields as they stand, and padding

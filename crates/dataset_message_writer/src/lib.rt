@@ -1,7 +1,4 @@
-// DataSetMessages written into a lent buffer: flags, header, fields and padding, the mirror of `dataset_message`.
-mod fields;
-mod flags;
-mod header;
+// DataSetMessages written into a lent buffer, whole and again from their parts: the mirror of `dataset_message`.
 pub mod message;
 mod parts;
 pub mod rewrite;

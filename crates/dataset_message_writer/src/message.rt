@@ -1,17 +1,17 @@
 // A DataSetMessage written whole.
-use crate::fields::add_up;
-use crate::fields::is_raw;
-use crate::fields::judge_fields;
-use crate::fields::put_delta;
-use crate::fields::put_zeros;
-use crate::flags::kind_rule;
-use crate::header::put_header;
 use crate::parts::has_fields;
 use crate::parts::put_count;
 use crate::parts::size;
 use dataset_message::flags::Encoding;
 use dataset_message::flags::Kind;
 use dataset_message::header::Header;
+use dataset_parts_writer::fields::add_up;
+use dataset_parts_writer::fields::is_raw;
+use dataset_parts_writer::fields::judge_fields;
+use dataset_parts_writer::fields::put_delta;
+use dataset_parts_writer::fields::put_zeros;
+use dataset_parts_writer::flags::kind_rule;
+use dataset_parts_writer::header::put_header;
 use writing::Written;
 use writing::or_else;
 use writing::picoseconds_refusal;
@@ -21,7 +21,7 @@ ghost use mathlib.Core.Bool.{cond};
 ghost use lib.ListN.{length};
 ghost use Rattle.writing.specs.Writing.{orElse, Puts};
 ghost use Rattle.dataset_message.specs.Message.{isDelta};
-ghost use Rattle.dataset_message_writer.specs.Fields.{total, valuesOf, fieldsBytes};
+ghost use Rattle.dataset_parts_writer.specs.Fields.{total, valuesOf, fieldsBytes};
 ghost use Rattle.dataset_message_writer.specs.Message.{given, isKey, fieldedRefusal, fieldedAgrees, configuredRule, countAgrees, listsAgree};
 ghost use Rattle.dataset_message_writer.specs.Message.{encode, bodyRefusal, bodyAgrees, refusalOf, Writes};
 

@@ -1,14 +1,14 @@
 // A DataSetMessage read and written again.
-use crate::fields::is_raw;
-use crate::fields::put_zeros;
-use crate::header::header_size;
-use crate::header::put_header;
 use crate::parts::has_fields;
 use crate::parts::put_count;
 use crate::parts::size;
 use dataset_message::header::Header;
 use dataset_message::message::MessageRead;
 use dataset_message::message::read;
+use dataset_parts_writer::fields::is_raw;
+use dataset_parts_writer::fields::put_zeros;
+use dataset_parts_writer::header::header_size;
+use dataset_parts_writer::header::put_header;
 use wire::left;
 use wire::part::part;
 use writing::Written;

@@ -11,9 +11,9 @@ use Rattle.network_message.specs.declared.envelope.Envelope.{Envelope}
 use Rattle.network_message.specs.declared.envelope.Places.{Places}
 use Rattle.network_message.specs.declared.payload.Payload.{Payload}
 use Rattle.records.specs.Numbers.{numberBytes}
-use Rattle.records.specs.Message.{has16, value16, hasI64, valueI64, flagNumber}
+use Rattle.message_record.specs.Message.{has16, value16, hasI64, valueI64, flagNumber}
 use Rattle.records.proofs.Storing.{also, put-same, put-none, put-both}
-use Rattle.records.specs.Publisher.{publisherNumber}
+use Rattle.message_record.specs.Publisher.{publisherNumber}
 use Rattle.envelope_record.specs.Envelope.{hasClass, classLow, classHigh, groupItems, groupWriter, groupVersion, groupNumber, groupSequence}
 use Rattle.envelope_record.specs.Envelope.{headerCode, headerNumber, hasPromoted, promotedSize, sizesCode, sizesPlace}
 use Rattle.envelope_record.specs.Envelope.{startNumbers, restNumbers, envelopeNumbers}

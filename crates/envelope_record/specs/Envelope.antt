@@ -17,8 +17,8 @@ use Rattle.network_message.specs.declared.payload.Payload.{Payload}
 use Rattle.network_message.specs.declared.payload.MessagePlace.{MessagePlace}
 use Rattle.network_message.specs.declared.payload.MessageCursor.{MessageCursor}
 use Rattle.records.specs.Numbers.{numberAt}
-use Rattle.records.specs.Publisher.{publisherNumber}
-use Rattle.records.specs.Message.{has16, value16, has32, value32, hasI64, valueI64, flagNumber}
+use Rattle.message_record.specs.Publisher.{publisherNumber}
+use Rattle.message_record.specs.Message.{has16, value16, has32, value32, hasI64, valueI64, flagNumber}
 
 -- "DataSetClassId: 0 absent, else present; its first 8 bytes; its last 8 bytes, each as a number"
 abbrev pub hasClass : ClassId → ℕ

@@ -21,7 +21,7 @@ use Rattle.dataset_message.specs.Message.{Message, messageAt as readAt}
 use Rattle.dataset_message.specs.declared.fields.Cursor.{Cursor}
 use Rattle.dataset_message.proofs.Agreement.{field-inside}
 use Rattle.listing.specs.Lines.{Writers, fieldsLeft, messagesLeft, typesAt, bytesAt, fieldLines, messageLines, setLines, linesFrom, stepLines, nextSet, nextMessage, messageStep, nextField, fieldStep, nextLine, startBy, startOf, answerLines, listingOf, lineAt}
-use Rattle.listing.specs.declared.line.Line.{Line}
+use Rattle.listing_line.specs.declared.line.Line.{Line}
 use Rattle.listing.specs.declared.lines.Listed.{Listed}
 use Rattle.listing.specs.declared.lines.LineCursor.{LineCursor}
 use Rattle.listing.specs.declared.lines.LineStep.{LineStep}

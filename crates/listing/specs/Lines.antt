@@ -19,8 +19,8 @@ use Rattle.dataset_message.specs.Fields.{Stepped as FieldStepped, stepAt as fie
 use Rattle.dataset_message.specs.Message.{Message, messageAt}
 use Rattle.dataset_message.specs.declared.fields.Field.{Field}
 use Rattle.dataset_message.specs.declared.fields.Cursor.{Cursor}
-use Rattle.listing.specs.declared.line.SetPlace.{SetPlace}
-use Rattle.listing.specs.declared.line.Line.{Line}
+use Rattle.listing_line.specs.declared.line.SetPlace.{SetPlace}
+use Rattle.listing_line.specs.declared.line.Line.{Line}
 use Rattle.listing.specs.declared.lines.Listed.{Listed}
 use Rattle.listing.specs.declared.lines.LineCursor.{LineCursor}
 use Rattle.listing.specs.declared.lines.LineStep.{LineStep}

@@ -1,4 +1,2 @@
-// The listing of a datagram: its lines in their order, each put into a lent buffer.
-mod columns;
-pub mod line;
+// The listing of a datagram: its lines in their order.
 pub mod lines;

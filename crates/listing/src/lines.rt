@@ -1,12 +1,12 @@
 // The lines of a listing in their order, by a cursor that steps from one to the next.
-use crate::line::Line;
-use crate::line::SetPlace;
 use config::writers::fields_of;
 use dataset_message::fields::Cursor;
 use dataset_message::fields::Field;
 use dataset_message::fields::FieldStep;
 use dataset_message::message::MessageRead;
 use dataset_message::message::read;
+use listing_line::line::Line;
+use listing_line::line::SetPlace;
 use network_header::header::PayloadHeader;
 use network_header::publisher::PublisherId;
 use network_message::envelope::Envelope;

@@ -13,10 +13,10 @@ use Rattle.wire.specs.Store.{laid}
 use Rattle.wire.proofs.Stores.{sets-append}
 use Rattle.writing.proofs.Putting.{front}
 use Rattle.writing.specs.declared.Written.{Written}
-use Rattle.listing.specs.Line.{tooLong, lineText, lineRefusal, linePut, lineAfter}
+use Rattle.listing_line.specs.Line.{tooLong, lineText, lineRefusal, linePut, lineAfter}
 use Rattle.listing.specs.Lines.{Writers, linesFrom, stepLines, nextLine, startOf, listingOf}
-use Rattle.listing.specs.declared.line.Line.{Line}
-use Rattle.listing.specs.declared.line.LinePut.{LinePut}
+use Rattle.listing_line.specs.declared.line.Line.{Line}
+use Rattle.listing_line.specs.declared.line.LinePut.{LinePut}
 use Rattle.listing.specs.declared.lines.LineCursor.{LineCursor}
 use Rattle.listing.specs.declared.lines.LineStep.{LineStep}
 use Rattle.listing.proofs.Listing.{start-lists, step-lists}

@@ -5,8 +5,8 @@ use mathlib.Core.List.{List, [], _∷_, _++_}
 use lib.Dec.{ltb}
 use lib.ListN.{length}
 use lib.Seq.{sets}
-use Rattle.listing.specs.Line.{tooLong, lineText}
-use Rattle.listing.specs.declared.line.Line.{Line}
+use Rattle.listing_line.specs.Line.{tooLong, lineText}
+use Rattle.listing_line.specs.declared.line.Line.{Line}
 use Rattle.writing.specs.declared.Written.{Written}
 use Rattle.listing_text.specs.declared.TextLength.{TextLength}
 

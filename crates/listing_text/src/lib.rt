@@ -1,11 +1,11 @@
 // A whole listing as text in a lent buffer: first its length, then its lines one after the other.
-use listing::line::Line;
-use listing::line::LinePut;
-use listing::line::put_line;
 use listing::lines::LineCursor;
 use listing::lines::LineStep;
 use listing::lines::next_line;
 use listing::lines::start;
+use listing_line::line::Line;
+use listing_line::line::LinePut;
+use listing_line::line::put_line;
 use wire::part::part;
 use wire::store::put_run;
 use writing::Written;

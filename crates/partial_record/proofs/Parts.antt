@@ -13,9 +13,9 @@ use Rattle.wire.specs.Store.{laid}
 use Rattle.network_header.specs.PublisherRecord.{codeOf}
 use Rattle.reassembly.specs.declared.record.PartialRecord.{PartialRecord}
 use Rattle.records.specs.Numbers.{numberBytes}
-use Rattle.records.specs.Message.{flagNumber}
+use Rattle.message_record.specs.Message.{flagNumber}
 use Rattle.records.proofs.Storing.{bytes-length, store-next, also, put-same}
-use Rattle.records.specs.Publisher.{publisherNumber}
+use Rattle.message_record.specs.Publisher.{publisherNumber}
 use Rattle.partial_record.specs.Partial.{partialBytes}
 
 -- its six numbers

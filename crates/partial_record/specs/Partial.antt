@@ -10,8 +10,8 @@ use Rattle.network_header.specs.declared.publisher_record.PublisherRecord.{Publ
 use Rattle.reassembly.specs.declared.record.Message.{Message}
 use Rattle.reassembly.specs.declared.record.PartialRecord.{PartialRecord}
 use Rattle.records.specs.Numbers.{numberAt, numberBytes}
-use Rattle.records.specs.Publisher.{publisherBy, publisherNumber}
-use Rattle.records.specs.Message.{flagNumber}
+use Rattle.message_record.specs.Publisher.{publisherBy, publisherNumber}
+use Rattle.message_record.specs.Message.{flagNumber}
 
 -- "at offset 48, 64 bytes for a String"
 abbrev pub publisherIn : List ℕ → PublisherRecord

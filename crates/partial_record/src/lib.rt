@@ -1,14 +1,14 @@
 // The record of a partial: six numbers, and 64 bytes for the text of a string PublisherId.
+use message_record::message::flag_number;
+use message_record::publisher::publisher_by;
+use message_record::publisher::publisher_code;
+use message_record::publisher::publisher_number;
 use network_header::publisher::PublisherId;
 use network_header::publisher_record::PublisherRecord;
 use reassembly::Message;
 use reassembly::PartialRecord;
-use records::message::flag_number;
 use records::numbers::number;
 use records::numbers::put_numbers;
-use records::publisher::publisher_by;
-use records::publisher::publisher_code;
-use records::publisher::publisher_number;
 use wire::part::part;
 use wire::store::put_run;
 ghost use mathlib.Core.Path.{_≡_};

@@ -1,4 +1,2 @@
 pub mod Storing
 pub mod Asked
-pub mod Heads
-pub mod Envelopes

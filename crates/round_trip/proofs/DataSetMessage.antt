@@ -23,13 +23,13 @@ use Rattle.dataset_message.specs.Header.{headerAt}
 use Rattle.dataset_message.specs.Fields.{encodedAt, fieldAt, fieldsAt, paddingAt}
 use Rattle.dataset_message.specs.Message.{isDelta, isRaw, countedAt, countAt, messageAt, fieldPlaceAt}
 use Rattle.dataset_message.proofs.Agreement.{field-inside}
-use Rattle.dataset_message_writer.specs.Flags.{kindRule}
-use Rattle.dataset_message_writer.specs.Header.{headerBytes}
-use Rattle.dataset_message_writer.specs.Fields.{valuesOf, endsAt, fieldsRefusal, fieldsWhole, reached, fieldsBytes, zeros}
+use Rattle.dataset_parts_writer.specs.Flags.{kindRule}
+use Rattle.dataset_parts_writer.specs.Header.{headerBytes}
+use Rattle.dataset_parts_writer.specs.Fields.{valuesOf, endsAt, fieldsRefusal, fieldsWhole, reached, fieldsBytes, zeros}
 use Rattle.writing.specs.declared.Written.{Written}
 use Rattle.dataset_message_writer.specs.Message.{Given, writerNumber, Writes, hasFields, isKey, isFielded, isRawData, fieldsOf, countBytes, configuredRule, countAgrees, encode, refusalOf}
-use Rattle.dataset_message_writer.proofs.Judging.{length-values}
-use Rattle.dataset_message_writer.proofs.Laying.{length-zeros}
+use Rattle.dataset_parts_writer.proofs.Judging.{length-values}
+use Rattle.dataset_parts_writer.proofs.Laying.{length-zeros}
 use Rattle.dataset_message_writer.proofs.Whole.{Accepted, accepted}
 use Rattle.round_trip.specs.DataSetMessage.{firstOf, endOf, messageOf, FieldBack, MessageBack, FitsHeader}
 use Rattle.round_trip.proofs.DataSetMessageParts.{header-is, whole-alone, fields-is, nth-is, zeros-is}

@@ -32,10 +32,10 @@ use Rattle.dataset_message.specs.declared.fields.Field.{Field}
 use Rattle.dataset_message.specs.Flags.{valid, Valid, notValid, flagsAt}
 use Rattle.dataset_message.specs.Header.{timesAt, versionsAt, headerAt, headerOf, bodyAt, afterFlags}
 use Rattle.dataset_message.specs.Fields.{encodedAt, indexAt, fieldAt, fieldsAt, zerosAt}
-use Rattle.dataset_message_writer.specs.Flags.{flagBytes, kindRule}
-use Rattle.dataset_message_writer.specs.Header.{timesBytes, versionsBytes, headerBytes}
-use Rattle.dataset_message_writer.specs.Fields.{endsAt, fieldsWhole, indexBytes, fieldsBytes, zeros, total, valuesOf, numberOf, fieldsRefusal}
-use Rattle.dataset_message_writer.proofs.Judging.{encoded-steady}
+use Rattle.dataset_parts_writer.specs.Flags.{flagBytes, kindRule}
+use Rattle.dataset_parts_writer.specs.Header.{timesBytes, versionsBytes, headerBytes}
+use Rattle.dataset_parts_writer.specs.Fields.{endsAt, fieldsWhole, indexBytes, fieldsBytes, zeros, total, valuesOf, numberOf, fieldsRefusal}
+use Rattle.dataset_parts_writer.proofs.Judging.{encoded-steady}
 use Rattle.round_trip.proofs.DataSetMessageFlags.{flagsFor, flags-is, FlagsBack, flags-back, flags-stand, kind-kept}
 use Rattle.writing.specs.Fits.{Bytes, Numbers}
 

@@ -12,8 +12,8 @@ use Rattle.dataset_message.specs.declared.fields.Field.{Field}
 use Rattle.dataset_message.specs.Flags.{valid}
 use Rattle.dataset_message.specs.Fields.{fieldAt, encodedAt}
 use Rattle.dataset_message.specs.Message.{Message, isDelta, messageAt, fieldPlaceAt, fieldBytes}
-use Rattle.dataset_message_writer.specs.Header.{headerBytes}
-use Rattle.dataset_message_writer.specs.Fields.{fieldsBytes}
+use Rattle.dataset_parts_writer.specs.Header.{headerBytes}
+use Rattle.dataset_parts_writer.specs.Fields.{fieldsBytes}
 use Rattle.dataset_message_writer.specs.Message.{Given, given, isKey, isFielded, isRawData, fieldsOf, countBytes, encode, refusalOf}
 use Rattle.dataset_message_writer.specs.Rewrite.{again}
 use Rattle.dataset_message.specs.declared.header.Header.{Header}

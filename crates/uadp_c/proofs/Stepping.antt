@@ -14,7 +14,7 @@ use Rattle.dataset_message.specs.declared.fields.Cursor.{Cursor}
 use Rattle.records.specs.Numbers.{numberBytes}
 use Rattle.records.specs.Result.{resultOf}
 use Rattle.records.specs.Writers.{typesFor}
-use Rattle.records.specs.Message.{fieldNumbers, cursorIn}
+use Rattle.message_record.specs.Message.{fieldNumbers, cursorIn}
 use Rattle.uadp_c.specs.Fields.{stepResult, headAfter, fieldAfter}
 
 abbrev pub Steps : Answer Stepped → List ℕ → List ℕ → ℕ → List ℕ → List ℕ → Type 0

@@ -19,7 +19,7 @@ use Rattle.dataset_message_writer.specs.Message as message
 use Rattle.listing.specs.Lines.{Writers, writers, listingOf}
 use Rattle.listing_text.specs.Text.{linesText, textWritten, textAfter}
 use Rattle.records.specs.Writers.{writersIn, sixteen, idsIn, sizesIn, startsIn, typesIn, typesFor}
-use Rattle.records.specs.Given.{headerIn, envelopeIn}
+use Rattle.message_record.specs.Given.{headerIn, envelopeIn}
 use Rattle.uadp_c.specs.Listings.{listingText}
 use Rattle.walking.specs.Walk.{recordsPut, walkLines, walkOf}
 use Rattle.walking.specs.declared.Walked.{Walked}

@@ -13,7 +13,7 @@ use Rattle.dataset_message.specs.Fields.{Stepped}
 use Rattle.dataset_message.specs.declared.fields.Field.{Field}
 use Rattle.records.specs.Numbers.{numberBytes}
 use Rattle.records.specs.Result.{resultOf, Filling}
-use Rattle.records.specs.Message.{headNumbers, fieldNumbers}
+use Rattle.message_record.specs.Message.{headNumbers, fieldNumbers}
 
 -- "Value: 1, or 0 for a message that is not valid"
 abbrev pub validNumber : Valid Message → ℕ

@@ -4,10 +4,10 @@ use dataset_message::fields::FieldStep;
 use dataset_message::message::MessageRead;
 use dataset_message::message::field_place;
 use dataset_message::message::read;
-use records::message::cursor_in;
-use records::message::put_field;
-use records::message::put_head;
-use records::message::put_no_head;
+use message_record::message::cursor_in;
+use message_record::message::put_field;
+use message_record::message::put_head;
+use message_record::message::put_no_head;
 use records::result::result;
 use records::writers::types_for;
 use wire::store::put64;
@@ -16,7 +16,7 @@ ghost use Rattle.dataset_message.specs.Fields.{stepAt};
 ghost use Rattle.dataset_message.specs.Message.{messageAt, fieldPlaceAt};
 ghost use Rattle.records.specs.Result.{resultIn, filledIn};
 ghost use Rattle.records.specs.Writers.{typesFor};
-ghost use Rattle.records.specs.Message.{cursorIn};
+ghost use Rattle.message_record.specs.Message.{cursorIn};
 ghost use Rattle.uadp_c.specs.Fields.{headFilling, fieldFilling, stepResult, headAfter, fieldAfter};
 
 // Reads a DataSetMessage alone into a message head record.

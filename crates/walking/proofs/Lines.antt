@@ -24,7 +24,7 @@ use Rattle.dataset_message.specs.declared.fields.Field.{Field}
 use Rattle.dataset_message.specs.declared.fields.Cursor.{Cursor}
 use Rattle.dataset_message.proofs.Agreement.{field-inside}
 use Rattle.listing.specs.Lines.{placeAt, fieldThen as lineThen, messageThen, Writers, inDatagram, fieldsLeft, messagesLeft, firstMessage, typesOf, writerAt, typesAt, bytesAt, fieldLines, setLines, messageLines}
-use Rattle.listing.specs.declared.line.Line.{Line}
+use Rattle.listing_line.specs.declared.line.Line.{Line}
 use Rattle.listing.specs.declared.lines.Listed.{Listed}
 use Rattle.walking.specs.Walk.{recordsPut}
 use Rattle.walking.specs.Parts.{fieldThen, fieldsFrom, setBy, setFrom, bare, payloadLines}

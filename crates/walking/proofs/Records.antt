@@ -20,10 +20,10 @@ use Rattle.text.specs.Words.{contains, indexOf}
 use Rattle.config.specs.Writers.{fieldsOf, fieldsOfId}
 use Rattle.config.proofs.Asked.{place-contains}
 use Rattle.records.specs.Numbers.{numberBytes}
-use Rattle.records.specs.Message.{kindNumber, encodingNumber}
+use Rattle.message_record.specs.Message.{kindNumber, encodingNumber}
 use Rattle.records.proofs.Storing.{bytes-length}
 use Rattle.listing.specs.Lines.{fieldsLeft}
-use Rattle.listing.specs.declared.line.Line.{Line}
+use Rattle.listing_line.specs.declared.line.Line.{Line}
 use Rattle.walking.specs.Walk.{orNone, recordLaid, recordsPut}
 use Rattle.walking.specs.Parts.{fieldsFrom, setPlace, setBy, setFrom}
 

@@ -13,8 +13,8 @@ use Rattle.dataset_message.specs.Fields.{Stepped, stepAt}
 use Rattle.dataset_message.specs.Message.{Message, messageAt}
 use Rattle.dataset_message.specs.declared.fields.Cursor.{Cursor}
 use Rattle.listing.specs.Lines.{Writers, inDatagram, fieldsLeft, messagesLeft, firstMessage, messageLines}
-use Rattle.listing.specs.declared.line.SetPlace.{SetPlace}
-use Rattle.listing.specs.declared.line.Line.{Line}
+use Rattle.listing_line.specs.declared.line.SetPlace.{SetPlace}
+use Rattle.listing_line.specs.declared.line.Line.{Line}
 use Rattle.listing.specs.declared.lines.Listed.{Listed}
 
 -- ---- the message in place p, of a writer, with its field types, and its bytes

@@ -7,9 +7,9 @@ use Rattle.wire.specs.Store.{laid}
 use Rattle.wire.specs.declared.optional.Optional16.{Optional16}
 use Rattle.network_message.specs.Envelope.{NetworkMessage, networkMessageAt}
 use Rattle.listing.specs.Lines.{Writers, datagramLines}
-use Rattle.listing.specs.declared.line.Line.{Line}
+use Rattle.listing_line.specs.declared.line.Line.{Line}
 use Rattle.records.specs.Numbers.{numberBytes}
-use Rattle.records.specs.Message.{kindNumber, encodingNumber, shapeNumber, elementsNumber}
+use Rattle.message_record.specs.Message.{kindNumber, encodingNumber, shapeNumber, elementsNumber}
 use Rattle.walking.specs.declared.Walked.{Walked}
 
 -- "65536 for none"

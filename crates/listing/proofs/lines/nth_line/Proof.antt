@@ -1,7 +1,7 @@
 -- `listing::lines::nth_line` meets its contract.
 -- Assumes nothing.
 use Rattle.listing.proofs.Listing.{start-lists, line-none, line-first, line-later}
-use Rattle.listing.specs.declared.line.Line.{Line}
+use Rattle.listing_line.specs.declared.line.Line.{Line}
 use Rattle.listing.specs.Lines.{writers, linesFrom, listingOf, lineAt}
 use borrow.Author.Needs.{needs}
 use denote.Ref.{now}

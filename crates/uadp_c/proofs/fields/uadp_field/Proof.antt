@@ -1,5 +1,5 @@
 use Rattle.uadp_c.proofs.Filling.{fill-refused, fill-none, fill-done, field-read}
-use Rattle.records.specs.Message.{fieldNumbers}
+use Rattle.message_record.specs.Message.{fieldNumbers}
 use Rattle.records.proofs.Storing.{bytes-length}
 use Rattle.dataset_message.specs.Fields.{answerField}
 use Rattle.wire.proofs.Reading.{told}

@@ -1,5 +1,5 @@
 use Rattle.uadp_c.proofs.Filling.{fill-refused, fill-none, fill-done, head-read}
-use Rattle.records.specs.Message.{headNumbers}
+use Rattle.message_record.specs.Message.{headNumbers}
 use Rattle.records.proofs.Storing.{bytes-length}
 use Rattle.dataset_message.specs.Flags.{notValid, valid}
 use Rattle.dataset_message.specs.Message.{answerMessage}

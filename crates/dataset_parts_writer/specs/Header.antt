@@ -1,0 +1,16 @@
+-- The header of a DataSetMessage as it is written (document 01, "The DataSetMessage").
+use Prim.Native.Nat.{ℕ}
+use mathlib.Core.List.{List, _++_}
+use Rattle.writing.specs.Writing.{optional16Bytes, optional32Bytes, optionalI64Bytes}
+use Rattle.dataset_message.specs.declared.header.Header.{Header}
+use Rattle.dataset_parts_writer.specs.Flags.{flagBytes}
+
+-- "Then sequence 2, timestamp 8, picoseconds 2, status 2, major 4, minor 4, each by its flag"
+abbrev pub timesBytes : Header → List ℕ
+timesBytes h = optional16Bytes (h .sequence) ++ (optionalI64Bytes (h .timestamp) ++ optional16Bytes (h .picoseconds))
+
+abbrev pub versionsBytes : Header → List ℕ
+versionsBytes h = optional16Bytes (h .status) ++ (optional32Bytes (h .major) ++ optional32Bytes (h .minor))
+
+abbrev pub headerBytes : Header → List ℕ
+headerBytes h = flagBytes h ++ (timesBytes h ++ versionsBytes h)

@@ -1,0 +1,3 @@
+// A line of a datagram's listing, put into a lent buffer.
+mod columns;
+pub mod line;

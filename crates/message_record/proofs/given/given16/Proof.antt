@@ -1,0 +1,12 @@
+-- `message_record::given::given16` meets its contract.
+-- Assumes nothing.
+use mathlib.Core.Path.{refl}
+use borrow.Author.Needs.{needs}
+use Rattle.message_record.proofs.given.given16.Statement.{statement}
+use Rattle.message_record.proofs.given.given16.Tie as tie
+
+returns : tie.Need-returns
+returns c = rw (c .if1 .taken) refl
+
+pub given16-spec : {M : Type 1} → statement M
+given16-spec = tie.close (tie.spec (λ c. search needs) returns (λ c. search needs))

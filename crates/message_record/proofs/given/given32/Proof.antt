@@ -1,0 +1,12 @@
+-- `message_record::given::given32` meets its contract.
+-- Assumes nothing.
+use mathlib.Core.Path.{refl}
+use borrow.Author.Needs.{needs}
+use Rattle.message_record.proofs.given.given32.Statement.{statement}
+use Rattle.message_record.proofs.given.given32.Tie as tie
+
+returns : tie.Need-returns
+returns c = rw (c .if1 .taken) refl
+
+pub given32-spec : {M : Type 1} → statement M
+given32-spec = tie.close (tie.spec (λ c. search needs) returns (λ c. search needs))

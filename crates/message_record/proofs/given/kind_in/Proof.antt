@@ -1,0 +1,24 @@
+-- `message_record::given::kind_in` meets its contract.
+-- Assumes nothing.
+use borrow.Author.Tests.{eq-eqb, ne-eqb}
+use mathlib.Core.Path.{refl}
+use Rattle.message_record.proofs.given.kind_in.Statement.{statement}
+use Rattle.message_record.proofs.given.kind_in.Tie as tie
+
+returns : tie.Need-returns
+returns c = rw (eq-eqb (c .before .args .n) 1 (c .if1 .taken)) refl
+
+returns-2 : tie.Need-returns-2
+returns-2 c =
+    rw (ne-eqb (c .before .before .args .n) 1 (c .before .if1 .left), eq-eqb (c .before .before .args .n) 2 (c .if2 .taken)) refl
+
+returns-3 : tie.Need-returns-3
+returns-3 c =
+    rw (ne-eqb (c .before .before .before .args .n) 1 (c .before .before .if1 .left), ne-eqb (c .before .before .before .args .n) 2 (c .before .if2 .left), eq-eqb (c .before .before .before .args .n) 3 (c .if3 .taken)) refl
+
+returns-4 : tie.Need-returns-4
+returns-4 c =
+    rw (ne-eqb (c .before .before .before .args .n) 1 (c .before .before .if1 .left), ne-eqb (c .before .before .before .args .n) 2 (c .before .if2 .left), ne-eqb (c .before .before .before .args .n) 3 (c .if3 .left)) refl
+
+pub kind-in-spec : {M : Type 1} → statement M
+kind-in-spec = tie.close (tie.spec returns returns-2 returns-3 returns-4)

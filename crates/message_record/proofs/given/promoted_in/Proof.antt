@@ -1,0 +1,15 @@
+-- `message_record::given::promoted_in` meets its contract.
+-- Assumes nothing.
+use borrow.Author.Tests.{eq-eqb, ne-eqb}
+use mathlib.Core.Path.{refl}
+use Rattle.message_record.proofs.given.promoted_in.Statement.{statement}
+use Rattle.message_record.proofs.given.promoted_in.Tie as tie
+
+returns : tie.Need-returns
+returns c = rw (eq-eqb (c .before .args .present) 0 (c .if1 .taken)) refl
+
+returns-2 : tie.Need-returns-2
+returns-2 c = rw (ne-eqb (c .before .args .present) 0 (c .if1 .left)) refl
+
+pub promoted-in-spec : {M : Type 1} → statement M
+promoted-in-spec = tie.close (tie.spec returns returns-2)
