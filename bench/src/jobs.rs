@@ -7,9 +7,18 @@ use uadp_tests::reference::config::Config;
 use uadp_tests::reference::reassembly::{Partial, Record};
 use uadp_tests::reference::{message, message_writer, network, network_writer};
 
-/// Mixes what was walked over.
+/// Mixes two answers.
 fn mix(sum: u64, a: u64, b: u64) -> u64 {
     sum.wrapping_mul(31).wrapping_add(a).wrapping_mul(31).wrapping_add(b)
+}
+
+/// The numbers of a walk record.
+type Walked = [u64; record::WALK_SIZE / 8];
+
+/// Mixes a message or field that was walked over: every item counts, so that neither side may leave one out. Each number costs two short
+/// instructions, so that hardly more than the walk is timed.
+fn mix_walked(sum: u64, walked: Walked) -> u64 {
+    walked.iter().enumerate().fold(sum.rotate_left(5), |sum, (i, number)| sum ^ number.rotate_left(8 * i as u32))
 }
 
 /// More records than any datagram of the table has.
@@ -21,7 +30,7 @@ pub fn read_ours(input: &Input) -> impl FnMut() -> u64 + '_ {
     move || {
         let answer = ffi::walk(black_box(&input.datagram), &input.config_record, &mut records);
         let walked = records.chunks_exact(record::WALK_SIZE).take(answer.value() as usize);
-        walked.fold(answer.number().into(), |sum, record| mix(sum, number(record, 6), number(record, 7)))
+        walked.fold(answer.number().into(), |sum, walked| mix_walked(sum, std::array::from_fn(|i| number(walked, i))))
     }
 }
 
@@ -36,15 +45,17 @@ pub fn read_by_calls(input: &Input) -> impl FnMut() -> u64 + '_ {
         let config = &input.config_record[..];
         let mut sum = u64::from(ffi::read(datagram, config, &mut envelope).number());
         while ffi::next_message(datagram, config, &mut envelope, &mut place).number() == 0 {
-            let (offset, length) = (number(&place, 1) as usize, number(&place, 2) as usize);
+            let (index, offset, length) = (number(&place, 0), number(&place, 1), number(&place, 2));
             let writer = number(&place, 3) as u32;
-            let message = &datagram[offset..][..length];
-            sum = mix(sum, offset as u64, length as u64);
+            let message = &datagram[offset as usize..][..length as usize];
             if ffi::read_message(message, config, writer, &mut head).number() != 0 {
                 continue;
             }
+            let sequence = if number(&head, 3) & 1 == 0 { record::NO_WRITER.into() } else { number(&head, 4) };
+            sum = mix_walked(sum, [1, index, writer.into(), number(&head, 2), number(&head, 1), sequence, offset, length]);
             while ffi::next_field(message, config, writer, &mut head, &mut field).number() == 0 {
-                sum = mix(sum, offset as u64 + number(&field, 4), number(&field, 5));
+                let [kind, shape, count, field_index, at, size] = std::array::from_fn(|i| number(&field, i));
+                sum = mix_walked(sum, [0, index, field_index, kind, shape, count, offset + at, size]);
             }
         }
         sum
@@ -61,11 +72,11 @@ pub fn read_rust(input: &Input) -> impl FnMut() -> u64 + '_ {
         for place in envelope.messages(datagram, &input.config) {
             let bytes = &datagram[place.offset..][..place.length];
             let types = input.config.types_of(place.writer);
-            sum = mix(sum, place.offset as u64, place.length as u64);
-            if let Ok(Some(read)) = message::read(bytes, types) {
-                sum = read
-                    .walk(bytes, types)
-                    .fold(sum, |sum, field| mix(sum, (place.offset + field.offset) as u64, field.length as u64));
+            let read = message::read(bytes, types);
+            sum = mix_walked(sum, record::walk_message(&place, &read));
+            if let Ok(Some(read)) = read {
+                let fields = read.walk(bytes, types);
+                sum = fields.fold(sum, |sum, field| mix_walked(sum, record::walk_field(&place, &field)));
             }
         }
         sum

@@ -54,15 +54,16 @@ fn main() {
     for input in inputs::standard() {
         equal &= reading(rounds, &input);
     }
-    for input in &inputs::standard()[..2] {
-        let name = format!("read, a call for each message and field: {}", input.name);
-        equal &= row(rounds, &name, &mut jobs::read_by_calls(input), &mut jobs::read_rust(input));
-    }
     for input in inputs::standard() {
         let name = format!("rewrite: {}", input.name);
         equal &= row(rounds, &name, &mut jobs::rewrite_ours(&input), &mut jobs::rewrite_rust(&input));
         let name = format!("rewrite the first message: {}", input.name);
         equal &= row(rounds, &name, &mut jobs::rewrite_message_ours(&input), &mut jobs::rewrite_message_rust(&input));
+    }
+    heading("Reading with a call for each message and field");
+    for input in &inputs::standard()[..2] {
+        let name = format!("read by calls: {}", input.name);
+        equal &= row(rounds, &name, &mut jobs::read_by_calls(input), &mut jobs::read_rust(input));
     }
     heading("Configuration, chunks");
     let text = inputs::full_text();

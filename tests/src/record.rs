@@ -229,7 +229,8 @@ pub fn walk(datagram: &[u8], config: &Config, envelope: &Envelope) -> Vec<[u64; 
     records
 }
 
-fn walk_message(found: &MessagePlace, read: &Result<Option<Message>>) -> [u64; WALK_SIZE / 8] {
+/// The walk record of a message.
+pub fn walk_message(found: &MessagePlace, read: &Result<Option<Message>>) -> [u64; WALK_SIZE / 8] {
     let or_none = |number: Option<u16>| u64::from(number.map_or(NO_WRITER, u32::from));
     let [number, offset, length, writer] = place(found);
     let (what, [a, b, c]) = match read {
@@ -242,7 +243,8 @@ fn walk_message(found: &MessagePlace, read: &Result<Option<Message>>) -> [u64; W
     [what, number, writer, a, b, c, offset, length]
 }
 
-fn walk_field(message: &MessagePlace, found: &Field) -> [u64; WALK_SIZE / 8] {
+/// The walk record of a field.
+pub fn walk_field(message: &MessagePlace, found: &Field) -> [u64; WALK_SIZE / 8] {
     let [kind, shape, count, index, offset, length] = field(found);
     [0, message.number as u64, index, kind, shape, count, message.offset as u64 + offset, length]
 }

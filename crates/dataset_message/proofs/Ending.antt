@@ -1,7 +1,6 @@
 -- The fields that are left of an accepted message, and the last of them, which ends where they all do.
 -- Assumes nothing.
 use Prim.Native.Nat.{ℕ, zero, suc, _+_, _-_, _<_}
-use native.Mathlib.Numerals.{sub-one}
 use mathlib.Core.Path.{_≡_, ap, sym, _∙_}
 use mathlib.Core.Bool.{Bool, false}
 use mathlib.Core.List.{List}
@@ -14,23 +13,32 @@ use Rattle.value.proofs.FirstItems.{described-is}
 use Rattle.dataset_message.specs.Fields.{fieldAt, endingAt, fieldsAt}
 use Rattle.dataset_message.specs.declared.flags.Encoding.{Encoding}
 use Rattle.dataset_message.specs.declared.fields.Field.{Field}
+use Rattle.dataset_message.specs.Flags.{valid}
+use Rattle.dataset_message.specs.Message.{Message, messageAt}
+use Rattle.dataset_message.proofs.Agreement.{message-read}
 
 module _ (delta : Bool) (encoding : Encoding) (types s : List ℕ) {e : ℕ} where
   -- where the first of those left ends, the others go on
-  pub fields-on : (left k at : ℕ) {f : Field} {q : ℕ} → fieldsAt delta encoding types left k s at ≡ got tt e → 0 < left → fieldAt delta encoding types k s at ≡ got f q
-      → fieldsAt delta encoding types (left - 1) (k + 1) s q ≡ got tt e
+  pub fields-on : (count k at : ℕ) {f : Field} {q : ℕ} → fieldsAt delta encoding types (count - k) k s at ≡ got tt e → k < count → fieldAt delta encoding types k s at ≡ got f q
+      → fieldsAt delta encoding types (count - (k + 1)) (k + 1) s q ≡ got tt e
   unfolding fieldsAt
-  fields-on zero k at h l g = absurd (omega arith)
-  fields-on (suc n) k at {f} {q} h l g = ap (λ (j : ℕ). fieldsAt delta encoding types j (k + 1) s q) (sub-one (suc n)) ∙ rw g at h
+  fields-on count k at h l g = let z : count - k ≡ suc (count - (k + 1)) = omega arith in rw g at (rw z at h)
 
-  -- one that is left ends where they all do
-  pub last-ends : (left k at : ℕ) → fieldsAt delta encoding types left k s at ≡ got tt e → left ≡ 1 → (f : Field) × (fieldAt delta encoding types k s at ≡ got f e)
+  -- the last ends where they all do
+  pub last-ends : (count k at : ℕ) → fieldsAt delta encoding types (count - k) k s at ≡ got tt e → k + 1 ≡ count → (f : Field) × (fieldAt delta encoding types k s at ≡ got f e)
   unfolding fieldsAt
-  last-ends zero k at h l = absurd (omega arith)
-  last-ends (suc zero) k at h l =
-      let i = invert (fieldAt delta encoding types k s at) (λ f q. got tt q) h in
+  last-ends count k at h l =
+      let z : count - k ≡ suc zero = omega arith in
+      let i = invert (fieldAt delta encoding types k s at) (λ f q. got tt q) (rw z at h) in
       (i .0, i .2 ∙ ap (got (i .0)) (got-next (i .3)))
-  last-ends (suc (suc n)) k at h l = absurd (omega arith)
+
+-- before the first field of an accepted message all are left
+pub all-left : (types s : List ℕ) (m : Message) (n : ℕ) → messageAt types s ≡ got (valid m) n
+    → fieldsAt (m .cursor .delta) (m .cursor .encoding) types (m .cursor .count - m .cursor .next) (m .cursor .next) s (m .cursor .at) ≡ got tt (m .end)
+all-left types s m n q =
+    let r = message-read types s m n q in
+    let z : m .cursor .count - m .cursor .next ≡ m .cursor .count = omega (arith, r .first) in
+    rw (z, r .first) (r .passed)
 
 abbrev asField : ℕ → ℕ → Measure → ℕ → Answer Field
 asField k at m q = got (record { index = k; kind = m .kind; shape = m .shape; offset = at; length = q - at }) q

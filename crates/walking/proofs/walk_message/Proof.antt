@@ -1,17 +1,21 @@
 -- `walking::walk_message` meets its contract.
 -- Assumes nothing.
 use denote.Ref.{now}
+use mathlib.Core.Path.{sym}
 use native.Mathlib.Omega.{arith}
 use borrow.Author.Needs.{needs}
 use Rattle.wire.proofs.Reading.{told}
 use Rattle.dataset_message.specs.Message.{answerMessage}
+use Rattle.dataset_message.proofs.Ending.{all-left}
 use Rattle.walking.proofs.Records.{invalid-put, refused-put, valid-put, part-fits}
 use Rattle.walking.proofs.walk_message.Statement.{statement}
 use Rattle.walking.proofs.walk_message.Tie as tie
 
 walk-fields-requires : tie.Need-walk-fields-requires
 walk-fields-requires c κs =
-    part-fits (now (c .before .before .before .before .before .before .before .before .before .before .before .before .before .before .before .before .args .types)) (now (c .before .before .before .before .before .before .before .before .before .before .before .before .before .before .before .before .args .s)) _ (c .before .before .before .before .before .before .before .before .before .before .before .before .before .before .before .before .args .p) (c .before .before .before .before .before .before .before .before .before .before .before .before .before .before .before .before .args .writer) (c .before .before .before .before .before .before .before .before .before .before .before .before .before .before .before .before .args .k) (now (c .before .before .before .before .before .before .before .before .before .before .before .before .before .before .before .before .args .out)) (c .before .before .before .before .before .before .before .before .before .before .before .before .part .ensures) (c .before .before .before .before .before .before .before .before .before .before .before .before .before .before .before .before .pre) (omega (arith, c .before .before .before .before .before .before .before .before .before .before .before .before .before .before .before .before .good))
+    let a = c .before .before .before .before .before .before .before .before .before .before .before .before .before .before .before .before .args in
+    let fits = part-fits (now (c .before .before .before .before .before .before .before .before .before .before .before .before .before .before .before .before .args .types)) (now (c .before .before .before .before .before .before .before .before .before .before .before .before .before .before .before .before .args .s)) _ (c .before .before .before .before .before .before .before .before .before .before .before .before .before .before .before .before .args .p) (c .before .before .before .before .before .before .before .before .before .before .before .before .before .before .before .before .args .writer) (c .before .before .before .before .before .before .before .before .before .before .before .before .before .before .before .before .args .k) (now (c .before .before .before .before .before .before .before .before .before .before .before .before .before .before .before .before .args .out)) (c .before .before .before .before .before .before .before .before .before .before .before .before .part .ensures) (c .before .before .before .before .before .before .before .before .before .before .before .before .before .before .before .before .pre) (omega (arith, c .before .before .before .before .before .before .before .before .before .before .before .before .before .before .before .before .good)) in
+    (fits .0, fits .1, all-left (now (a .types)) _ _ _ (sym (told answerMessage (c .before .before .before .before .before .before .before .before .before .before .before .read .ensures) (c .before .before .before .before .before .before .before .before .before .h .given .1))))
 
 returns : tie.Need-returns
 returns c =
