@@ -5,36 +5,51 @@ use uadp_tests::ffi;
 use uadp_tests::record::{self, number};
 use uadp_tests::reference::config::Config;
 use uadp_tests::reference::reassembly::{Partial, Record};
-use uadp_tests::reference::{message, message_writer, network, network_writer};
+use uadp_tests::reference::{message_writer, network, network_writer};
 
 /// Mixes two answers.
 fn mix(sum: u64, a: u64, b: u64) -> u64 {
     sum.wrapping_mul(31).wrapping_add(a).wrapping_mul(31).wrapping_add(b)
 }
 
-/// The numbers of a walk record.
-type Walked = [u64; record::WALK_SIZE / 8];
-
-/// Mixes a message or field that was walked over: every item counts, so that neither side may leave one out. Each number costs two short
-/// instructions, so that hardly more than the walk is timed.
-fn mix_walked(sum: u64, walked: Walked) -> u64 {
-    walked.iter().enumerate().fold(sum.rotate_left(5), |sum, (i, number)| sum ^ number.rotate_left(8 * i as u32))
-}
-
 /// More records than any datagram of the table has.
 const RECORDS: usize = 65_535;
 
-/// One call, and its records walked over.
+/// One call, which puts the records of all messages and fields into memory; it answers how many.
 pub fn read_ours(input: &Input) -> impl FnMut() -> u64 + '_ {
     let mut records = vec![0; RECORDS * record::WALK_SIZE];
     move || {
         let answer = ffi::walk(black_box(&input.datagram), &input.config_record, &mut records);
-        let walked = records.chunks_exact(record::WALK_SIZE).take(answer.value() as usize);
-        walked.fold(answer.number().into(), |sum, walked| mix_walked(sum, std::array::from_fn(|i| number(walked, i))))
+        black_box(&records);
+        answer.value()
     }
 }
 
-/// A call for each message and each field.
+/// The same records, in Rust.
+pub fn read_rust(input: &Input) -> impl FnMut() -> u64 + '_ {
+    let mut records = Vec::with_capacity(RECORDS);
+    move || {
+        let datagram = black_box(&input.datagram[..]);
+        let Ok(envelope) = network::read(datagram, &input.config) else {
+            return u64::MAX;
+        };
+        records.clear();
+        record::walk_into(&mut records, datagram, &input.config, &envelope);
+        black_box(&records);
+        records.len() as u64
+    }
+}
+
+/// Whether both put the same records.
+pub fn reads_alike(input: &Input) -> bool {
+    let mut records = vec![0; RECORDS * record::WALK_SIZE];
+    let count = ffi::walk(&input.datagram, &input.config_record, &mut records).value() as usize;
+    let envelope = network::read(&input.datagram, &input.config).expect("an accepted datagram");
+    let walked = record::walk(&input.datagram, &input.config, &envelope);
+    records[..count * record::WALK_SIZE] == record::bytes_of(walked.as_flattened())
+}
+
+/// A call for each message and each field; it answers how many there are of both.
 pub fn read_by_calls(input: &Input) -> impl FnMut() -> u64 + '_ {
     let mut envelope = [0; record::ENVELOPE_SIZE];
     let mut place = [0; record::PLACE_SIZE];
@@ -43,43 +58,21 @@ pub fn read_by_calls(input: &Input) -> impl FnMut() -> u64 + '_ {
     move || {
         let datagram = black_box(&input.datagram[..]);
         let config = &input.config_record[..];
-        let mut sum = u64::from(ffi::read(datagram, config, &mut envelope).number());
+        let mut count = 0;
+        ffi::read(datagram, config, &mut envelope);
         while ffi::next_message(datagram, config, &mut envelope, &mut place).number() == 0 {
-            let (index, offset, length) = (number(&place, 0), number(&place, 1), number(&place, 2));
+            let message = &datagram[number(&place, 1) as usize..][..number(&place, 2) as usize];
             let writer = number(&place, 3) as u32;
-            let message = &datagram[offset as usize..][..length as usize];
+            count += 1;
             if ffi::read_message(message, config, writer, &mut head).number() != 0 {
                 continue;
             }
-            let sequence = if number(&head, 3) & 1 == 0 { record::NO_WRITER.into() } else { number(&head, 4) };
-            sum = mix_walked(sum, [1, index, writer.into(), number(&head, 2), number(&head, 1), sequence, offset, length]);
             while ffi::next_field(message, config, writer, &mut head, &mut field).number() == 0 {
-                let [kind, shape, count, field_index, at, size] = std::array::from_fn(|i| number(&field, i));
-                sum = mix_walked(sum, [0, index, field_index, kind, shape, count, offset + at, size]);
+                black_box(&field);
+                count += 1;
             }
         }
-        sum
-    }
-}
-
-pub fn read_rust(input: &Input) -> impl FnMut() -> u64 + '_ {
-    move || {
-        let datagram = black_box(&input.datagram[..]);
-        let Ok(envelope) = network::read(datagram, &input.config) else {
-            return u64::MAX;
-        };
-        let mut sum = 0;
-        for place in envelope.messages(datagram, &input.config) {
-            let bytes = &datagram[place.offset..][..place.length];
-            let types = input.config.types_of(place.writer);
-            let read = message::read(bytes, types);
-            sum = mix_walked(sum, record::walk_message(&place, &read));
-            if let Ok(Some(read)) = read {
-                let fields = read.walk(bytes, types);
-                sum = fields.fold(sum, |sum, field| mix_walked(sum, record::walk_field(&place, &field)));
-            }
-        }
-        sum
+        count
     }
 }
 

@@ -81,6 +81,10 @@ fn main() {
 
 fn reading(rounds: usize, input: &Input) -> bool {
     let name = format!("read: {}", input.name);
+    if !jobs::reads_alike(input) {
+        println!("| {name} | records differ | | |");
+        return false;
+    }
     row(rounds, &name, &mut jobs::read_ours(input), &mut jobs::read_rust(input))
 }
 

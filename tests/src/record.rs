@@ -214,9 +214,18 @@ pub fn field(field: &Field) -> [u64; FIELD_SIZE / 8] {
     [field.value.kind.into(), shape, count, field.index as u64, field.offset as u64, field.length as u64]
 }
 
+/// A walk record.
+pub type Walked = [u64; WALK_SIZE / 8];
+
 /// The records of a walk over all messages and fields of an accepted datagram.
-pub fn walk(datagram: &[u8], config: &Config, envelope: &Envelope) -> Vec<[u64; WALK_SIZE / 8]> {
+pub fn walk(datagram: &[u8], config: &Config, envelope: &Envelope) -> Vec<Walked> {
     let mut records = Vec::new();
+    walk_into(&mut records, datagram, config, envelope);
+    records
+}
+
+/// The same, behind the records that are there.
+pub fn walk_into(records: &mut Vec<Walked>, datagram: &[u8], config: &Config, envelope: &Envelope) {
     for place in envelope.messages(datagram, config) {
         let bytes = &datagram[place.offset..][..place.length];
         let types = config.types_of(place.writer);
@@ -226,11 +235,9 @@ pub fn walk(datagram: &[u8], config: &Config, envelope: &Envelope) -> Vec<[u64; 
             records.extend(message.walk(bytes, types).map(|found| walk_field(&place, &found)));
         }
     }
-    records
 }
 
-/// The walk record of a message.
-pub fn walk_message(found: &MessagePlace, read: &Result<Option<Message>>) -> [u64; WALK_SIZE / 8] {
+fn walk_message(found: &MessagePlace, read: &Result<Option<Message>>) -> Walked {
     let or_none = |number: Option<u16>| u64::from(number.map_or(NO_WRITER, u32::from));
     let [number, offset, length, writer] = place(found);
     let (what, [a, b, c]) = match read {
@@ -243,8 +250,7 @@ pub fn walk_message(found: &MessagePlace, read: &Result<Option<Message>>) -> [u6
     [what, number, writer, a, b, c, offset, length]
 }
 
-/// The walk record of a field.
-pub fn walk_field(message: &MessagePlace, found: &Field) -> [u64; WALK_SIZE / 8] {
+fn walk_field(message: &MessagePlace, found: &Field) -> Walked {
     let [kind, shape, count, index, offset, length] = field(found);
     [0, message.number as u64, index, kind, shape, count, message.offset as u64 + offset, length]
 }
