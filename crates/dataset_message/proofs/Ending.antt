@@ -1,8 +1,8 @@
 -- The fields that are left of an accepted message, and the last of them, which ends where they all do.
 -- Assumes nothing.
 use Prim.Native.Nat.{ℕ, zero, suc, _+_, _-_, _<_}
-use mathlib.Core.Path.{_≡_, ap, sym, _∙_}
-use mathlib.Core.Bool.{Bool, false}
+use mathlib.Core.Path.{_≡_, refl, ap, sym, _∙_}
+use mathlib.Core.Bool.{Bool, true, false, _&&_}
 use mathlib.Core.List.{List}
 use native.Mathlib.Omega.{arith}
 use Rattle.wire.specs.Answer.{Answer, got, andThen}
@@ -10,7 +10,7 @@ use Rattle.wire.proofs.Reading.{got-next, invert}
 use Rattle.value.specs.Plain.{passing}
 use Rattle.value.specs.Value.{Measure, variantAt}
 use Rattle.value.proofs.FirstItems.{described-is}
-use Rattle.dataset_message.specs.Fields.{fieldAt, endingAt, fieldsAt}
+use Rattle.dataset_message.specs.Fields.{fieldAt, endingAt, plainVariants, hintedAt, fieldsAt}
 use Rattle.dataset_message.specs.declared.flags.Encoding.{Encoding}
 use Rattle.dataset_message.specs.declared.fields.Field.{Field}
 use Rattle.dataset_message.specs.Flags.{valid}
@@ -51,3 +51,19 @@ ending-is types k s at {f} {e} h =
     let n : i .1 ≡ e = got-next (i .3) in
     let p : passing variantAt s at ≡ got tt e = rw (i .2) (ap (got tt) n) in
     ap (λ x. andThen x (asField k at)) (sym (described-is s at p))
+
+-- where what is said of the last field holds, it is told as any other
+pub hinted-is : (last : Bool) (end : ℕ) (delta : Bool) (encoding : Encoding) (types : List ℕ) (k : ℕ) (s : List ℕ) (at : ℕ)
+    → (last ≡ true → (f : Field) × (fieldAt delta encoding types k s at ≡ got f end)) → hintedAt last end delta encoding types k s at ≡ fieldAt delta encoding types k s at
+hinted-is false end delta encoding types k s at h = refl
+hinted-is true end false Encoding.Variant types k s at h = ending-is types k s at (h refl .1)
+hinted-is true end true Encoding.Variant types k s at h = refl
+hinted-is true end delta Encoding.RawData types k s at h = refl
+hinted-is true end delta Encoding.DataValue types k s at h = refl
+
+-- nothing is said of fields with indices
+pub no-hint : (last : Bool) (encoding : Encoding) → (last && plainVariants true encoding) ≡ false
+no-hint true Encoding.Variant = refl
+no-hint true Encoding.RawData = refl
+no-hint true Encoding.DataValue = refl
+no-hint false encoding = refl

@@ -18,7 +18,7 @@ ghost use lib.ListN.{getD};
 ghost use Rattle.wire.specs.Answer.{got, andThen};
 ghost use Rattle.wire.specs.Items.{answerReached};
 ghost use Rattle.value.specs.Value.{answerMeasured};
-ghost use Rattle.dataset_message.specs.Fields.{encodedAt, indexAt, fieldAt, endingAt, fieldsAt, stepAt, zerosAt, paddingAt};
+ghost use Rattle.dataset_message.specs.Fields.{encodedAt, indexAt, fieldAt, endingAt, hintedAt, fieldsAt, stepAt, zerosAt, paddingAt};
 ghost use Rattle.dataset_message.specs.Fields.{answerIndex, answerField, answerStep};
 ghost use Rattle.dataset_message.specs.declared.flags.Encoding.{Encoding};
 
@@ -140,7 +140,7 @@ pub fn read_field(
 }
 
 // Field k where the fields are Variants without indices; most are scalars of a fixed type.
-pub fn read_variant(s: &[u8], types: &[u8], k: usize, at: usize) -> FieldRead
+fn read_variant(s: &[u8], types: &[u8], k: usize, at: usize) -> FieldRead
     ensures { λ r. ⌜ answerField r ≡ fieldAt false Encoding.Variant (now (types .entry)) k (now (s .entry)) at ⌝ }
 {
     let end = fixed_end(s, at);
@@ -151,17 +151,46 @@ pub fn read_variant(s: &[u8], types: &[u8], k: usize, at: usize) -> FieldRead
 }
 
 // Field k where the fields are Variants without indices, one that is accepted and ends at `end`: only its first items are read.
-pub fn ending_variant(s: &[u8], k: usize, at: usize, end: usize) -> FieldRead
+fn ending_variant(s: &[u8], k: usize, at: usize, end: usize) -> FieldRead
     ensures { λ r. ⌜ answerField r ≡ endingAt end k (now (s .entry)) at ⌝ }
 {
     measured(k, at, described(s, at, end))
 }
 
 // Field k of RawData.
-pub fn read_raw(s: &[u8], types: &[u8], k: usize, at: usize) -> FieldRead
+fn read_raw(s: &[u8], types: &[u8], k: usize, at: usize) -> FieldRead
     ensures { λ r. ⌜ answerField r ≡ fieldAt false Encoding.RawData (now (types .entry)) k (now (s .entry)) at ⌝ }
 {
     measured(k, at, measure_raw(s, at, type_of(types, k)))
+}
+
+// Field k, which starts at a position; the two common kinds are read in line. Where `last` says so, a Variant without an index is taken as one that
+// is accepted and ends at `end`, and is not passed over again.
+pub fn field_in_line(
+    s: &[u8],
+    encoding: Encoding,
+    delta: bool,
+    types: &[u8],
+    k: usize,
+    at: usize,
+    last: bool,
+    end: usize,
+) -> FieldRead
+    ensures { λ r. ⌜ answerField r ≡ hintedAt last end delta encoding (now (types .entry)) k (now (s .entry)) at ⌝ }
+{
+    if delta {
+        return read_field(&*s, encoding, true, &*types, k, at);
+    }
+    match encoding {
+        Encoding::Variant => {
+            if last {
+                return ending_variant(s, k, at, end);
+            }
+            read_variant(s, types, k, at)
+        }
+        Encoding::RawData => read_raw(s, types, k, at),
+        Encoding::DataValue => read_field(&*s, encoding, false, &*types, k, at),
+    }
 }
 
 impl Cursor {
@@ -195,7 +224,7 @@ impl Cursor {
 }
 
 // The first count fields one after the other, each read as a field.
-fn pass_each(
+pub fn pass_each(
     s: &[u8],
     encoding: Encoding,
     delta: bool,
@@ -209,7 +238,7 @@ fn pass_each(
     let mut k = 0;
     let mut left = count;
     while 0 < left {
-        match read_field(&*s, encoding, delta, &*types, k, p) {
+        match field_in_line(s, encoding, delta, types, k, p, false, 0) {
             FieldRead::Refused(n, place) => {
                 return Reached::Refused(n, place);
             }
@@ -245,7 +274,7 @@ fn pass_raw(s: &[u8], types: &[u8], count: usize, at: usize) -> Reached
     Reached::To(p)
 }
 
-// The first count fields, from the start of the first.
+// The first count fields, from the start of the first; all that is told of them is where they end. It has one caller, so that it is put in line there.
 pub fn pass_fields(
     s: &[u8],
     encoding: Encoding,

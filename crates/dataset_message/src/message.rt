@@ -2,6 +2,7 @@
 use crate::fields::Cursor;
 use crate::fields::FieldRead;
 use crate::fields::padding;
+use crate::fields::pass_each;
 use crate::fields::pass_fields;
 use crate::fields::read_field;
 use crate::flags::Encoding;
@@ -143,7 +144,7 @@ fn nth(s: &[u8], cursor: Cursor, types: &[u8], k: usize) -> FieldRead
         return FieldRead::Refused(10, 0);
     }
     let encoding = cursor.encoding;
-    match pass_fields(&*s, encoding, cursor.delta, &*types, k, cursor.at) {
+    match pass_each(&*s, encoding, cursor.delta, &*types, k, cursor.at) {
         Reached::Refused(n, place) => FieldRead::Refused(n, place),
         Reached::To(at) => read_field(&*s, encoding, cursor.delta, &*types, k, at),
     }

@@ -43,7 +43,7 @@ fine-below : (b : ℕ) → b < 20 → T (fine b)
 unfolding fine variantRule plain widthOf
 fine-below b h = below fine 20 tt b h
 
-abbrev FixedFirst : ℕ → Type 0
+abbrev pub FixedFirst : ℕ → Type 0
 FixedFirst b = (variantRule b ≡ 0) × (typeOf b ≡ b) × (isArray b ≡ false) × (eqb b 0 ≡ false) × (plain b ≡ true)
 
 tested : (b : ℕ) → fixed b ≡ true → T (fine b) → FixedFirst b
@@ -55,7 +55,7 @@ tested b e t =
     let t4 = and-right (not (isArray b)) _ t3 in
     (eqb→eq _ _ (and-left (eqb (variantRule b) 0) _ t1), eqb→eq _ _ (and-left (eqb (typeOf b) b) _ t2), no _ (and-left (not (isArray b)) _ t3), no _ (and-left (not (eqb b 0)) _ t4), yes _ (and-right (not (eqb b 0)) _ t4))
 
-fixed-first : (b : ℕ) → fixed b ≡ true → FixedFirst b
+pub fixed-first : (b : ℕ) → fixed b ≡ true → FixedFirst b
 fixed-first b e = go (leb 20 b) refl
   where
     go : (x : Bool) → leb 20 b ≡ x → FixedFirst b

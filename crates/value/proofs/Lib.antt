@@ -4,5 +4,6 @@ pub mod Passing
 pub mod FirstItems
 pub mod FirstByte
 pub mod Parts
+pub mod Runs
 pub mod Lengths
 pub mod Values

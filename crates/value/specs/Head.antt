@@ -1,14 +1,15 @@
 -- What a value's own items say of it: before the values inside it are passed over, and after.
-use Prim.Native.Nat.{ℕ, _+_, _-_}
-use mathlib.Core.Bool.{cond}
+use Prim.Native.Nat.{ℕ, _+_, _*_, _-_}
+use mathlib.Core.Bool.{cond, _||_}
 use mathlib.Core.List.{List}
-use lib.Dec.{eqb, leb}
+use lib.Dec.{eqb, leb, ltb}
 use lib.ListN.{length, getD}
-use Rattle.wire.specs.Answer.{Answer, got, refused, Reader, andThen, _>>_, item, each, bit}
+use Rattle.wire.specs.Answer.{Answer, got, refused, Reader, andThen, _>>_, pure, item, each, bit}
 use Rattle.wire.specs.Items.{lengthItem}
 use Rattle.wire.specs.declared.Length.{Length}
 use Rattle.wire.specs.declared.Reached.{Reached}
 use Rattle.value.specs.Width.{widthOf}
+use Rattle.value.specs.Plain.{bytes, byLength}
 use Rattle.value.specs.Value.{Measure, measure, typeOf, isArray, parts}
 use Rattle.value.specs.declared.Shape.{Shape}
 use Rattle.value.specs.declared.head.Head.{Head}
@@ -38,6 +39,14 @@ fixedEnd s at =
     cond (leb (length s) at) at
     (cond (eqb (widthOf (getD s at 0)) 0) at
     (cond (leb (length s - at) (widthOf (getD s at 0))) at (at + widthOf (getD s at 0) + 1)))
+
+-- of a Variant that holds a length and a run of equal units, by its first byte, how many bytes a unit has; 0 for any other
+abbrev pub unitOf : ℕ → ℕ
+unitOf b = cond (eqb b 12 || eqb b 15) 1 (cond (ltb b 128) 0 (widthOf (b - 128)))
+
+-- such a run: its length, and so many units of w bytes, one item
+abbrev pub units : ℕ → Reader (Unit {0})
+units w = byLength (pure tt) (λ n. bytes (n * w))
 
 -- What the first items of a Variant say of it, where it is known to end at `end`: of an array of type t its length, and of any Variant its
 -- first byte.

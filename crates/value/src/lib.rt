@@ -15,12 +15,12 @@ use wire::read_length;
 use wire::read8;
 ghost use mathlib.Core.Path.{_≡_};
 ghost use mathlib.Core.Bool.{cond};
-ghost use Prim.Native.Nat.{_≤_};
-ghost use Rattle.wire.specs.Answer.{andThen, whenOn, each};
+ghost use Prim.Native.Nat.{_≤_, _<_};
+ghost use Rattle.wire.specs.Answer.{got, andThen, whenOn, each};
 ghost use Rattle.wire.specs.Items.{answerReached};
 ghost use Rattle.value.specs.Plain.{passing, bytes};
 ghost use Rattle.value.specs.Value.{answerMeasured, parts, tooDeep, valueAt, variantAt, dataValueAt, rawAt};
-ghost use Rattle.value.specs.Head.{partsWidth, fixedEnd, arrayAt, describedAt};
+ghost use Rattle.value.specs.Head.{partsWidth, fixedEnd, unitOf, units, arrayAt, describedAt};
 
 // A scalar, a null array, or an array with its element count.
 pub enum Shape {
@@ -155,11 +155,70 @@ pub fn fixed_end(s: &[u8], at: usize) -> usize
     at + w + 1
 }
 
-// Passes over a Variant; most are scalars of a fixed type.
+// Of a Variant that holds a length and a run of equal units, by its first byte: how many bytes a unit has. A String or ByteString has units of 1,
+// an array of a fixed type those of its width; for any other Variant it is 0.
+fn unit_of(b: u8) -> usize
+    ensures { λ r. ⌜ (r ≡ unitOf b) × (r ≤ 16) ⌝ }
+{
+    if (b == 12) | (b == 15) {
+        return 1;
+    }
+    if b < 128 {
+        return 0;
+    }
+    packed_width(b - 128)
+}
+
+// The position after n bytes that fit, else `first`.
+fn bytes_end(s: &[u8], first: usize, at: usize, n: usize) -> usize
+    ensures { λ r. ⌜ (first < r → bytes n (now (s .entry)) at ≡ got tt r) ⌝ }
+{
+    if has(s.len(), at, n) {
+        return at + n;
+    }
+    first
+}
+
+// The position after a length and its units of w bytes where they are accepted, else `first`.
+fn units_end(s: &[u8], first: usize, at: usize, w: usize) -> usize
+    requires { ⌜ w ≤ 16 ⌝ }
+    ensures { λ r. ⌜ (first < r → units w (now (s .entry)) at ≡ got tt r) ⌝ }
+{
+    match read_length(s, at) {
+        ItemLength::Null(next) => next,
+        ItemLength::Of(next, n) => bytes_end(s, first, next, n * w),
+        ItemLength::Negative(_) => first,
+        ItemLength::Short => first,
+    }
+}
+
+// The position after a Variant that holds no other value and is accepted; for any other, and some of these, the position itself.
+fn plain_end(s: &[u8], at: usize) -> usize
+    ensures { λ r. ⌜ (at < r → passing variantAt (now (s .entry)) at ≡ got tt r) ⌝ }
+{
+    let end = fixed_end(s, at);
+    if at < end {
+        return end;
+    }
+    if s.len() <= at {
+        return at;
+    }
+    let b = s[at];
+    if b == 0 {
+        return at + 1;
+    }
+    let w = unit_of(b);
+    if w == 0 {
+        return at;
+    }
+    units_end(s, at, at + 1, w)
+}
+
+// Passes over a Variant; most hold no other value.
 fn pass_variant(s: &[u8], at: usize) -> Reached
     ensures { λ r. ⌜ answerReached r ≡ passing variantAt (now (s .entry)) at ⌝ }
 {
-    let end = fixed_end(s, at);
+    let end = plain_end(s, at);
     if at < end {
         return Reached::To(end);
     }

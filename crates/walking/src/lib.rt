@@ -4,10 +4,7 @@ use config::writers::writer_fields;
 use dataset_message::fields::Cursor;
 use dataset_message::fields::Field;
 use dataset_message::fields::FieldRead;
-use dataset_message::fields::ending_variant;
-use dataset_message::fields::read_field;
-use dataset_message::fields::read_raw;
-use dataset_message::fields::read_variant;
+use dataset_message::fields::field_in_line;
 use dataset_message::flags::Encoding;
 use dataset_message::message::MessageRead;
 use dataset_message::message::read;
@@ -128,8 +125,7 @@ fn types_of<'a>(ids: &'a [u16], starts: &'a [u8], types: &'a [u8], writer: Optio
     writer_fields(starts, types, k)
 }
 
-// Field k of a message, which starts at a position; the two common kinds are read in line. Of the last field it is known that it is accepted and
-// ends at `end`, so that a Variant is not passed over a second time.
+// Field k of a message, which starts at a position. Of the last field it is known that it is accepted and ends at `end`.
 fn field_at(
     s: &[u8],
     encoding: Encoding,
@@ -143,19 +139,7 @@ fn field_at(
     requires { ⌜ (last ≡ true → (f : Field) × (fieldAt delta encoding (now types) k (now s) at ≡ got f end)) ⌝ }
     ensures { λ r. ⌜ answerField r ≡ fieldAt delta encoding (now (types .entry)) k (now (s .entry)) at ⌝ }
 {
-    if delta {
-        return read_field(&*s, encoding, true, &*types, k, at);
-    }
-    match encoding {
-        Encoding::Variant => {
-            if last {
-                return ending_variant(s, k, at, end);
-            }
-            read_variant(s, types, k, at)
-        }
-        Encoding::RawData => read_raw(s, types, k, at),
-        Encoding::DataValue => read_field(&*s, encoding, false, &*types, k, at),
-    }
+    field_in_line(s, encoding, delta, types, k, at, last, end)
 }
 
 // Puts the records of a message's fields from the cursor on, which end at `end`, the first of them record k; answers the number of the record
