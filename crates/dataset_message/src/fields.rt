@@ -224,7 +224,7 @@ impl Cursor {
 }
 
 // The first count fields one after the other, each read as a field.
-pub fn pass_each(
+fn pass_each(
     s: &[u8],
     encoding: Encoding,
     delta: bool,
@@ -238,7 +238,7 @@ pub fn pass_each(
     let mut k = 0;
     let mut left = count;
     while 0 < left {
-        match field_in_line(s, encoding, delta, types, k, p, false, 0) {
+        match read_field(&*s, encoding, delta, &*types, k, p) {
             FieldRead::Refused(n, place) => {
                 return Reached::Refused(n, place);
             }
@@ -274,7 +274,7 @@ fn pass_raw(s: &[u8], types: &[u8], count: usize, at: usize) -> Reached
     Reached::To(p)
 }
 
-// The first count fields, from the start of the first; all that is told of them is where they end. It has one caller, so that it is put in line there.
+// The first count fields, from the start of the first.
 pub fn pass_fields(
     s: &[u8],
     encoding: Encoding,
@@ -292,6 +292,21 @@ pub fn pass_fields(
         Encoding::Variant => pass_variants(s, at, count),
         Encoding::RawData => pass_raw(s, types, count, at),
         Encoding::DataValue => pass_each(s, encoding, false, types, count, at),
+    }
+}
+
+// All fields from a cursor before the first: as `pass_fields`, but with one caller, so that the loops are put in line there.
+pub(crate) fn pass_all(s: &[u8], c: Cursor, types: &[u8]) -> Reached
+    ensures { λ r. ⌜ answerReached r ≡ fieldsAt (c .delta) (c .encoding) (now (types .entry)) (c .count) 0 (now (s .entry)) (c .at) ⌝ }
+{
+    let encoding = c.encoding;
+    if c.delta {
+        return pass_each(&*s, encoding, true, &*types, c.count, c.at);
+    }
+    match encoding {
+        Encoding::Variant => pass_variants(s, c.at, c.count),
+        Encoding::RawData => pass_raw(s, types, c.count, c.at),
+        Encoding::DataValue => pass_each(&*s, encoding, false, &*types, c.count, c.at),
     }
 }
 

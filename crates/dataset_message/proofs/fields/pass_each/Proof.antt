@@ -23,11 +23,11 @@ loop-holds c = (refl, omega arith)
 
 returns : tie.Need-returns Inv-loop μ-loop
 returns c =
-    sym (c .before .before .before .before .before .loop .inv .0 ∙ fields-stop (c .before .before .before .before .before .before .before .before .args .delta) (c .before .before .before .before .before .before .before .before .args .encoding) (now (c .before .before .before .before .before .before .before .before .args .types)) (now (c .before .before .before .before .before .before .before .before .args .s)) (c .before .before .before .before .before .loop .left) (c .before .before .before .before .before .loop .k) (c .before .before .before .before .before .loop .p) _ _ (c .before .before .before .before .loop-test .taken) (sym (told answerField (c .before .before .before .field-in-line .ensures) (c .before .n .given .1))))
+    sym (c .before .before .before .before .before .loop .inv .0 ∙ fields-stop (c .before .before .before .before .before .before .before .before .args .delta) (c .before .before .before .before .before .before .before .before .args .encoding) (now (c .before .before .before .before .before .before .before .before .args .types)) (now (c .before .before .before .before .before .before .before .before .args .s)) (c .before .before .before .before .before .loop .left) (c .before .before .before .before .before .loop .k) (c .before .before .before .before .before .loop .p) _ _ (c .before .before .before .before .loop-test .taken) (sym (told answerField (c .before .before .before .read-field .ensures) (c .before .n .given .1))))
 
 loop-again : tie.Need-loop-again Inv-loop μ-loop
 loop-again c =
-    (c .before .before .before .before .before .loop .inv .0 ∙ fields-step (c .before .before .before .before .before .before .before .before .args .delta) (c .before .before .before .before .before .before .before .before .args .encoding) (now (c .before .before .before .before .before .before .before .before .args .types)) (now (c .before .before .before .before .before .before .before .before .args .s)) (c .before .before .before .before .before .loop .left) (c .before .before .before .before .before .loop .k) (c .before .before .before .before .before .loop .p) _ _ (c .before .before .before .before .loop-test .taken) (sym (told answerField (c .before .before .before .field-in-line .ensures) (c .before .end .given .1))), omega arith)
+    (c .before .before .before .before .before .loop .inv .0 ∙ fields-step (c .before .before .before .before .before .before .before .before .args .delta) (c .before .before .before .before .before .before .before .before .args .encoding) (now (c .before .before .before .before .before .before .before .before .args .types)) (now (c .before .before .before .before .before .before .before .before .args .s)) (c .before .before .before .before .before .loop .left) (c .before .before .before .before .before .loop .k) (c .before .before .before .before .before .loop .p) _ _ (c .before .before .before .before .loop-test .taken) (sym (told answerField (c .before .before .before .read-field .ensures) (c .before .end .given .1))), omega arith)
 
 returns-2 : tie.Need-returns-2 Inv-loop μ-loop
 returns-2 c =
