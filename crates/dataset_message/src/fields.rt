@@ -224,7 +224,7 @@ impl Cursor {
 }
 
 // The first count fields one after the other, each read as a field.
-fn pass_each(
+pub(crate) fn pass_each(
     s: &[u8],
     encoding: Encoding,
     delta: bool,
@@ -274,29 +274,8 @@ fn pass_raw(s: &[u8], types: &[u8], count: usize, at: usize) -> Reached
     Reached::To(p)
 }
 
-// The first count fields, from the start of the first.
-pub fn pass_fields(
-    s: &[u8],
-    encoding: Encoding,
-    delta: bool,
-    types: &[u8],
-    count: usize,
-    at: usize,
-) -> Reached
-    ensures { λ r. ⌜ answerReached r ≡ fieldsAt delta encoding (now (types .entry)) count 0 (now (s .entry)) at ⌝ }
-{
-    if delta {
-        return pass_each(s, encoding, true, types, count, at);
-    }
-    match encoding {
-        Encoding::Variant => pass_variants(s, at, count),
-        Encoding::RawData => pass_raw(s, types, count, at),
-        Encoding::DataValue => pass_each(s, encoding, false, types, count, at),
-    }
-}
-
-// All fields from a cursor before the first: as `pass_fields`, but with one caller, so that the loops are put in line there.
-pub(crate) fn pass_all(s: &[u8], c: Cursor, types: &[u8]) -> Reached
+// All fields from a cursor before the first, each encoding in a loop of its own. It has one caller, so that the loops are put in line there.
+pub(crate) fn pass_fields(s: &[u8], c: Cursor, types: &[u8]) -> Reached
     ensures { λ r. ⌜ answerReached r ≡ fieldsAt (c .delta) (c .encoding) (now (types .entry)) (c .count) 0 (now (s .entry)) (c .at) ⌝ }
 {
     let encoding = c.encoding;

@@ -2,7 +2,7 @@
 use crate::fields::Cursor;
 use crate::fields::FieldRead;
 use crate::fields::padding;
-use crate::fields::pass_all;
+use crate::fields::pass_each;
 use crate::fields::pass_fields;
 use crate::fields::read_field;
 use crate::flags::Encoding;
@@ -88,7 +88,7 @@ fn count(s: &[u8], kind: Kind, raw: bool, types: &[u8], at: usize) -> CountRead
 fn finish(s: &[u8], header: Header, cursor: Cursor, types: &[u8]) -> MessageRead
     ensures { λ r. ⌜ answerMessage r ≡ endAt header cursor (now (types .entry)) (now (s .entry)) ⌝ }
 {
-    match pass_all(s, cursor, types) {
+    match pass_fields(s, cursor, types) {
         Reached::Refused(n, place) => MessageRead::Refused(n, place),
         Reached::To(end) => match padding(s, end) {
             Reached::Refused(n, place) => MessageRead::Refused(n, place),
@@ -136,7 +136,7 @@ fn nth(s: &[u8], cursor: Cursor, types: &[u8], k: usize) -> FieldRead
         return FieldRead::Refused(10, 0);
     }
     let encoding = cursor.encoding;
-    match pass_fields(&*s, encoding, cursor.delta, &*types, k, cursor.at) {
+    match pass_each(&*s, encoding, cursor.delta, &*types, k, cursor.at) {
         Reached::Refused(n, place) => FieldRead::Refused(n, place),
         Reached::To(at) => read_field(&*s, encoding, cursor.delta, &*types, k, at),
     }

@@ -13,7 +13,7 @@ returns c = rw (c .before .if1 .taken) (c .pass-each .ensures)
 returns-2 : tie.Need-returns-2
 returns-2 c =
     let a = c .before .before .before .before .before .before .args in
-    rw (c .before .before .before .if1 .left, c .before .enum-told .given .1) (c .pass-variants .ensures ∙ fields-variants (now (a .types)) (now (a .s)) (a .count) 0 (a .at))
+    rw (c .before .before .before .if1 .left, c .before .enum-told .given .1) (c .pass-variants .ensures ∙ fields-variants (now (a .types)) (now (a .s)) (a .c .count) 0 (a .c .at))
 
 returns-3 : tie.Need-returns-3
 returns-3 c = rw (c .before .before .before .if1 .left, c .before .enum-told2 .given .1) (c .pass-raw .ensures)

@@ -10,15 +10,15 @@ use Rattle.dataset_message.proofs.message.finish.Tie as tie
 
 returns : tie.Need-returns
 returns c =
-    rw (sym (told answerReached (c .before .before .before .pass-all .ensures) (c .before .n .given .1)))
+    rw (sym (told answerReached (c .before .before .before .pass-fields .ensures) (c .before .n .given .1)))
 
 returns-2 : tie.Need-returns-2
 returns-2 c =
-    rw (sym (told answerReached (c .before .before .before .before .before .before .before .pass-all .ensures) (c .before .before .before .before .before .end .given .1)), sym (told answerReached (c .before .before .before .padding .ensures) (c .before .n2 .given .1)))
+    rw (sym (told answerReached (c .before .before .before .before .before .before .before .pass-fields .ensures) (c .before .before .before .before .before .end .given .1)), sym (told answerReached (c .before .before .before .padding .ensures) (c .before .n2 .given .1)))
 
 returns-3 : tie.Need-returns-3
 returns-3 c =
-    rw (sym (told answerReached (c .before .before .before .before .before .before .pass-all .ensures) (c .before .before .before .before .end .given .1)), sym (told answerReached (c .before .before .padding .ensures) (c .enum-told .given .1)))
+    rw (sym (told answerReached (c .before .before .before .before .before .before .pass-fields .ensures) (c .before .before .before .before .end .given .1)), sym (told answerReached (c .before .before .padding .ensures) (c .enum-told .given .1)))
 
 pub finish-spec : {M : Type 1} → statement M
 finish-spec =
