@@ -258,8 +258,7 @@ fn pass_raw(s: &[u8], types: &[u8], count: usize, at: usize) -> Reached
 {
     let mut p = at;
     let mut k = 0;
-    let mut left = count;
-    while 0 < left {
+    while k < count {
         match pass_element(s, p, type_of(types, k)) {
             Reached::Refused(n, place) => {
                 return Reached::Refused(n, place);
@@ -269,7 +268,6 @@ fn pass_raw(s: &[u8], types: &[u8], count: usize, at: usize) -> Reached
             }
         }
         k = k + 1;
-        left = left - 1;
     }
     Reached::To(p)
 }

@@ -11,6 +11,7 @@ use wire::Item8;
 use wire::ItemLength;
 use wire::Reached;
 use wire::has;
+use wire::left;
 use wire::read_length;
 use wire::read8;
 ghost use mathlib.Core.Path.{_≡_};
@@ -299,10 +300,13 @@ pub fn pass_element(s: &[u8], at: usize, t: u8) -> Reached
     ensures { λ r. ⌜ answerReached r ≡ passing (rawAt t) (now (s .entry)) at ⌝ }
 {
     let w = packed_width(t);
-    if 0 < w {
-        return bytes_at(s, at, w);
+    if w == 0 {
+        return Reached::Refused(4, at);
     }
-    Reached::Refused(4, at)
+    if w <= left(s.len(), at) {
+        return Reached::To(at + w);
+    }
+    Reached::Refused(1, at)
 }
 
 // A fixed-width element of type t at a position, as in RawData. Any other type is 4.

@@ -1,24 +1,39 @@
 -- `value::pass_element` meets its contract.
 -- Assumes nothing.
-use lib.Dec.{ltb}
+use Rattle.value.proofs.Widths.{positive}
+use borrow.Author.Tests.{lt-ltb, le-leb, lt-leb}
+use native.Mathlib.Omega.{arith}
 use denote.Ref.{now}
-use borrow.Author.Tests.{lt-ltb, le-ltb}
-use mathlib.Core.Path.{sym, ap, _∙_}
+use lib.ListN.{length}
+use lib.Dec.{ltb}
+use mathlib.Core.Path.{_≡_, sym, ap, _∙_}
+use Prim.Native.Nat.{_+_, _-_, _<_, _≤_}
 use borrow.Author.Needs.{needs}
-use Rattle.value.specs.Plain.{bytes}
-use Rattle.value.specs.Value.{measure}
-use Rattle.value.specs.declared.Shape.{Shape}
-use Rattle.value.proofs.Heads.{pass-found}
 use Rattle.value.proofs.pass_element.Statement.{statement}
 use Rattle.value.proofs.pass_element.Tie as tie
 
 returns : tie.Need-returns
 returns c =
-    let a = c .before .before .before .before .args in
-    rw (sym (ap (ltb 0) (c .before .before .packed-width .ensures .0)) ∙ lt-ltb _ _ (c .before .if1 .taken), sym (c .before .before .packed-width .ensures .0)) (c .bytes-at .ensures ∙ pass-found (bytes (c .before .before .packed-width .result) (now (a .s)) (a .at)) (measure (a .t) Shape.Scalar))
+    rw (sym (ap (ltb 0) (c .before .packed-width .ensures .0)) ∙ ap (ltb 0) (c .if1 .taken))
 
 returns-2 : tie.Need-returns-2
-returns-2 c = rw (sym (ap (ltb 0) (c .before .packed-width .ensures .0)) ∙ le-ltb _ _ (c .if1 .left))
+returns-2 c =
+    let a = c .before .before .before .before .before .args in
+    let w = c .before .before .before .packed-width .result in
+    let some : 0 < w = positive w (c .before .before .if1 .left) in
+    let e : c .before .left .result ≡ length (now (a .s)) - a .at = c .before .left .ensures in
+    let h : a .at + w ≤ length (now (a .s)) = omega (arith, c .if2 .taken) in
+    rw (sym (ap (ltb 0) (c .before .before .before .packed-width .ensures .0)) ∙ lt-ltb _ _ some, sym (c .before .before .before .packed-width .ensures .0), le-leb (a .at + w) (length (now (a .s))) h)
+
+returns-3 : tie.Need-returns-3
+returns-3 c =
+    let a = c .before .before .before .before .before .args in
+    let w = c .before .before .before .packed-width .result in
+    let some : 0 < w = positive w (c .before .before .if1 .left) in
+    let e : c .before .left .result ≡ length (now (a .s)) - a .at = c .before .left .ensures in
+    let h : length (now (a .s)) < a .at + w = omega (arith, c .if2 .left) in
+    rw (sym (ap (ltb 0) (c .before .before .before .packed-width .ensures .0)) ∙ lt-ltb _ _ some, sym (c .before .before .before .packed-width .ensures .0), lt-leb (a .at + w) (length (now (a .s))) h)
 
 pub pass-element-spec : {M : Type 1} → statement M
-pass-element-spec = tie.close (tie.spec (λ c κs. search needs) (λ c κs. search needs) returns returns-2)
+pass-element-spec =
+    tie.close (tie.spec (λ c κs. search needs) returns (λ c κs. search needs) (λ c. search needs) returns-2 returns-3)
