@@ -5,7 +5,7 @@ use uadp_tests::ffi;
 use uadp_tests::record::{self, number};
 use uadp_tests::reference::config::Config;
 use uadp_tests::reference::reassembly::{Partial, Record};
-use uadp_tests::reference::{message_writer, network, network_writer};
+use uadp_tests::reference::{message, message_writer, network, network_writer};
 
 /// Mixes two answers.
 fn mix(sum: u64, a: u64, b: u64) -> u64 {
@@ -37,6 +37,31 @@ pub fn read_rust(input: &Input) -> impl FnMut() -> u64 + '_ {
         record::walk_into(&mut records, datagram, &input.config, &envelope);
         black_box(&records);
         records.len() as u64
+    }
+}
+
+/// One call with no room for records: it walks over all messages and fields, stores nothing and answers how many there are.
+pub fn count_ours(input: &Input) -> impl FnMut() -> u64 + '_ {
+    move || ffi::walk(black_box(&input.datagram), &input.config_record, &mut []).value()
+}
+
+/// The same walk, in Rust.
+pub fn count_rust(input: &Input) -> impl FnMut() -> u64 + '_ {
+    move || {
+        let datagram = black_box(&input.datagram[..]);
+        let Ok(envelope) = network::read(datagram, &input.config) else {
+            return u64::MAX;
+        };
+        let mut count = 0;
+        for place in envelope.messages(datagram, &input.config) {
+            let bytes = &datagram[place.offset..][..place.length];
+            let types = input.config.types_of(place.writer);
+            count += 1;
+            if let Ok(Some(message)) = message::read(bytes, types) {
+                count += message.walk(bytes, types).count();
+            }
+        }
+        count as u64
     }
 }
 

@@ -60,6 +60,11 @@ fn main() {
         let name = format!("rewrite the first message: {}", input.name);
         equal &= row(rounds, &name, &mut jobs::rewrite_message_ours(&input), &mut jobs::rewrite_message_rust(&input));
     }
+    heading("Reading without storing");
+    for input in inputs::standard() {
+        let name = format!("count: {}", input.name);
+        equal &= row(rounds, &name, &mut jobs::count_ours(&input), &mut jobs::count_rust(&input));
+    }
     heading("Reading with a call for each message and field");
     for input in &inputs::standard()[..2] {
         let name = format!("read by calls: {}", input.name);
