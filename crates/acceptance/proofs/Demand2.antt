@@ -20,10 +20,10 @@ use Rattle.network_message.specs.Payload.{total}
 use Rattle.network_message.proofs.Accepted.{OfMessages}
 use Rattle.network_message.proofs.Messages.{tile, tiled}
 use Rattle.network_message_writer.specs.Envelope as N
-use Rattle.dataset_message.specs.Flags.{valid}
-use Rattle.dataset_message.specs.Fields.{stepAt, walkAt, before}
+use Rattle.dataset_header.specs.Flags.{valid}
+use Rattle.dataset_fields.specs.Fields.{stepAt, walkAt, before}
 use Rattle.dataset_message.specs.Message.{Message, messageAt, nthAt}
-use Rattle.dataset_message.specs.declared.fields.Field.{Field}
+use Rattle.dataset_fields.specs.declared.fields.Field.{Field}
 use Rattle.dataset_message.proofs.Agreement.{message-agrees}
 use Rattle.dataset_message_writer.specs.Message as M
 use Rattle.dataset_message_writer.specs.Rewrite.{Rewrites}

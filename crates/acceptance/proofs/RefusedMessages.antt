@@ -10,20 +10,21 @@ use lib.Dec.{leb, ltb, eqb}
 use lib.ListN.{length, getD}
 use Rattle.wire.specs.Answer.{got, refused, Reader, bit, andThen}
 use Rattle.wire.specs.declared.Length.{Length}
-use Rattle.value.specs.Width.{widthOf, fixed}
-use Rattle.value.specs.Plain.{passing, bytes, afterLength, byLength, string, plain, plainValue, plainValues}
-use Rattle.value.specs.Value.{variantRule, scalar, elements, array, variantOf, maskRule, parts, dataValueOf, valueOf, valueAt, rawAt, typeOf, isArray, hasDimensions, taken, measure}
+use Rattle.value_items.specs.Width.{widthOf, fixed}
+use Rattle.value_items.specs.Plain.{passing, bytes, afterLength, byLength, string, plain, plainValue, plainValues}
+use Rattle.value.specs.Value.{variantRule, scalar, elements, array, variantOf, maskRule, dataValueOf, valueOf, valueAt, rawAt, typeOf, isArray, hasDimensions, taken, measure}
+use Rattle.value_items.specs.Parts.{parts}
 use Rattle.value.specs.Value.{Measure}
 use Rattle.value.specs.declared.Shape.{Shape}
-use Rattle.dataset_message.specs.Flags.{flagsOf, flags1Rule, flags2Rule, flags2At, Valid, notValid, valid, flagsAt}
-use Rattle.dataset_message.specs.Header.{bodyAt, afterFlags, headerAt}
-use Rattle.dataset_message.specs.Fields.{encodedAt, fieldAt, fieldsAt, zerosAt}
-use Rattle.dataset_message.specs.Message.{countedAt, countAt, endAt, afterHeader, messageAt, isRaw, bodyAt as messageBodyAt}
-use Rattle.dataset_message.specs.declared.flags.Flags.{Flags}
-use Rattle.dataset_message.specs.declared.flags.Encoding.{Encoding}
-use Rattle.dataset_message.specs.declared.flags.Kind.{Kind}
-use Rattle.dataset_message.specs.declared.header.Header.{Header}
-use Rattle.dataset_message.specs.declared.fields.Cursor.{Cursor}
+use Rattle.dataset_header.specs.Flags.{flagsOf, flags1Rule, flags2Rule, flags2At, Valid, notValid, valid, flagsAt, isRaw}
+use Rattle.dataset_header.specs.Header.{bodyAt, afterFlags, headerAt}
+use Rattle.dataset_fields.specs.Fields.{encodedAt, fieldAt, fieldsAt, zerosAt}
+use Rattle.dataset_message.specs.Message.{countedAt, countAt, endAt, afterHeader, messageAt, bodyAt as messageBodyAt}
+use Rattle.dataset_header.specs.declared.flags.Flags.{Flags}
+use Rattle.dataset_header.specs.declared.flags.Encoding.{Encoding}
+use Rattle.dataset_header.specs.declared.flags.Kind.{Kind}
+use Rattle.dataset_header.specs.declared.header.Header.{Header}
+use Rattle.dataset_fields.specs.declared.fields.Cursor.{Cursor}
 use Rattle.acceptance.proofs.Refusals.{Rule, Tells, Lawful, at-item, number, no-place8, pure-lawful, here-lawful, refuse-lawful, run-lawful, item-lawful, length-lawful, ruled-lawful, bind-lawful, after-lawful, then-tells, cond-tells, cond-lawful, when-lawful, each-lawful, cond-rule, kept, optional16-lawful, optional32-lawful, optional-i64-lawful, picoseconds-lawful}
 use Rattle.acceptance.proofs.Refusals.Tells.{gives, refuses}
 

@@ -10,7 +10,7 @@ use Rattle.sequence.specs.declared.Newness.the-variants.{Newer, OldOrSame, Inva
 use Rattle.value.specs.Value.{variantAt, measure}
 use Rattle.value.specs.Value.{Measure}
 use Rattle.value.specs.declared.Shape.{Shape}
-use Rattle.network_header.specs.declared.publisher.PublisherId.{PublisherId}
+use Rattle.publisher_id.specs.declared.publisher.PublisherId.{PublisherId}
 use Rattle.reassembly.specs.Record.{Partial, partial}
 use Rattle.reassembly_laws.specs.History.{Call, Reply, replies}
 use Rattle.reassembly_laws.specs.History.Call.{Take, Ask, HandOut}

@@ -13,21 +13,21 @@ use Rattle.wire.specs.Answer.{got, refused, Reader, item, run, here, pure, andT
 use Rattle.wire.specs.Items.{lengthItem}
 use Rattle.wire.specs.declared.Length.{Length}
 use Rattle.wire.proofs.Reading.{got-value, not-got, invert}
-use Rattle.network_header.specs.Publisher.{stringOf, lengthThen, stringAt, publisherAt}
-use Rattle.network_header.specs.PublisherRecord.{lengthOf}
+use Rattle.publisher_id.specs.Publisher.{stringOf, lengthThen, stringAt, publisherAt}
+use Rattle.publisher_id.specs.PublisherRecord.{lengthOf}
 use Rattle.network_header.specs.Flags.{flagsAt}
 use Rattle.network_header.specs.Group.{groupAt}
 use Rattle.network_header.specs.Header.{classAt, payloadHeaderAt}
 use Rattle.network_message.specs.Payload.{configuredSizes, payloadAt}
 use Rattle.network_message.specs.Envelope.{identityAt, timesAt, messagesOf, headerAt, bodyAt, networkMessageAt, NetworkMessage}
-use Rattle.network_header.specs.declared.publisher.PublisherId.{PublisherId}
+use Rattle.publisher_id.specs.declared.publisher.PublisherId.{PublisherId}
 use Rattle.network_message.specs.declared.envelope.Envelope.{Envelope}
 use Rattle.network_header.specs.declared.header.PayloadHeader.{PayloadHeader}
 use Rattle.network_header.specs.declared.flags.Flags.{Flags}
-use Rattle.chunk.specs.declared.payload.ChunkData.{ChunkData}
-use Rattle.chunk.specs.declared.payload.ChunkPayload.{ChunkPayload}
+use Rattle.chunk_payload.specs.declared.payload.ChunkData.{ChunkData}
+use Rattle.chunk_payload.specs.declared.payload.ChunkPayload.{ChunkPayload}
 use Rattle.chunk.specs.declared.datagram.ChunkPlace.{ChunkPlace}
-use Rattle.chunk.specs.Payload as P
+use Rattle.chunk_payload.specs.Payload as P
 use Rattle.chunk.specs.Datagram.{placeOf, chunkOf, chunkAt, chunkData}
 
 -- every value that a reader accepts has the property

@@ -1,4 +1,3 @@
-pub mod Sums
 pub mod Accepted
 pub mod CutLaws
 pub mod ReadBack

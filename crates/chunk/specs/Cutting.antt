@@ -5,7 +5,7 @@ use mathlib.Core.List.{List, _++_}
 use lib.Dec.{leb, ltb, eqb}
 use lib.ListN.{length, take, drop}
 use Rattle.wire.specs.Number.{leBytes}
-use Rattle.wire.specs.Store.{laid}
+use Rattle.store.specs.Store.{laid}
 use Rattle.writing.specs.declared.Written.{Written}
 
 -- "MessageSequenceNumber 2, ChunkOffset 4, TotalSize 4, ChunkData with its length"

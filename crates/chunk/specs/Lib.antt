@@ -1,3 +1,2 @@
-pub mod Payload
 pub mod Datagram
 pub mod Cutting

@@ -1,11 +1,11 @@
 // A chunk read from a datagram: its envelope, and then its payload.
-use crate::payload::ChunkPayload;
-use crate::payload::ChunkPayloadRead;
-use crate::payload::read_payload;
+use chunk_payload::payload::ChunkPayload;
+use chunk_payload::payload::ChunkPayloadRead;
+use chunk_payload::payload::read_payload;
 use network_header::header::PayloadHeader;
-use network_header::publisher::PublisherId;
 use network_message::envelope::Envelope;
 use network_message::envelope::NetworkMessageRead;
+use publisher_id::publisher::PublisherId;
 use wire::part::part;
 ghost use mathlib.Core.Path.{_≡_};
 ghost use Rattle.chunk.specs.Datagram.{writerOf, chunkOf, chunkAt, chunkData, answerChunk};

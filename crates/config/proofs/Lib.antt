@@ -1,4 +1,3 @@
 pub mod Lines
-pub mod Asked
 pub mod Turns
 pub mod Joined

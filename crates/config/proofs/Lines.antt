@@ -18,7 +18,7 @@ use Rattle.text.specs.declared.decimal.Decimal.the-variants.{Is, Not}
 use Rattle.wire.proofs.Facts.{cases}
 use Rattle.text.proofs.Lists.{either-way}
 use Rattle.text.proofs.Parts.{Taken, part-taken, part-refused, before-end, no-decimal, parted, decimal-is, starts-is, starts-not, contains-place, through-contains, through-place, through-upTo, digits-contain, digits-place, digits-before}
-use Rattle.value.specs.Width.{widthOf}
+use Rattle.value_items.specs.Width.{widthOf}
 use Rattle.config.specs.Line.{bad, isDash, positive, sizeOf, writerOf, writerRest, fieldRest, writerWord, fieldWord, saysOf, asLine, lineBy, restAt, lineAt, sizeAt}
 use Rattle.config.specs.declared.line.Line.the-variants.{Writer, Field, Bad}
 

@@ -9,7 +9,7 @@ use lib.ListN.{drop}
 use Rattle.text.specs.Words.{indexOf, contains, upTo, past, startsWith}
 use Rattle.text.specs.Decimal.{decimalOf, endedBy}
 use Rattle.text.specs.declared.decimal.Decimal.{Decimal}
-use Rattle.value.specs.Width.{fixed}
+use Rattle.value_items.specs.Width.{fixed}
 use Rattle.config.specs.declared.line.Line.{Line}
 use Rattle.config.specs.declared.line.Line.the-variants.{Writer, Field, Bad}
 

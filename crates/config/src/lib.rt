@@ -1,12 +1,11 @@
 // The configuration: document 01, "Configuration and listing". Its text is read into a record of arrays; what the
 // configuration says of a writer is asked of the record's arrays, lent as slices.
 mod line;
-pub mod writers;
 
+use configured_writers::first;
+use configured_writers::has_writer;
 use line::Line;
 use line::read_line;
-use writers::first;
-use writers::has_writer;
 ghost use mathlib.Core.Path.{_≡_};
 ghost use Prim.Native.Nat.{_≤_};
 ghost use Rattle.config.specs.Line.{saysIn};

@@ -2,7 +2,7 @@
 use text::decimal::Decimal;
 use text::decimal::read_decimal;
 use text::words::starts_with;
-use value::width::width;
+use value_items::width::width;
 ghost use mathlib.Core.Path.{_≡_};
 ghost use Prim.Native.Nat.{_≤_};
 ghost use lib.ListN.{length};

@@ -1,12 +1,12 @@
 // Configuration texts and their answers: number, place, and how many writers and fields there are.
 use config::Config;
 use config::read_config;
-use config::writers::all_sized;
-use config::writers::fields_of;
-use config::writers::find_writer;
-use config::writers::first;
-use config::writers::number_of;
-use config::writers::sum_of_sizes;
+use configured_writers::all_sized;
+use configured_writers::fields_of;
+use configured_writers::find_writer;
+use configured_writers::first;
+use configured_writers::number_of;
+use configured_writers::sum_of_sizes;
 use libc::STDOUT_FILENO;
 use text::hex::put_hex;
 use wire::part::part;

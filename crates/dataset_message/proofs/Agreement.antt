@@ -10,17 +10,17 @@ use native.Mathlib.Omega.{arith}
 use lib.Dec.{leb}
 use lib.ListN.{length, getD}
 use borrow.Author.Tests.{le-leb, lt-leb, leb-true, leb-false, le-ltb, ltb-true}
-use Rattle.dataset_message.specs.Fields.{encodedAt, indexAt, fieldAt, fieldsAt, paddingAt, stepAt, walkAt, before}
-use Rattle.dataset_message.specs.declared.header.Header.{Header}
-use Rattle.dataset_message.specs.Flags.{Valid, notValid, valid}
-use Rattle.dataset_message.specs.Header.{headerAt}
-use Rattle.dataset_message.specs.Message.{Message, isDelta, isRaw, countAt, endAt, bodyAt, afterHeader, messageAt, nthAt}
-use Rattle.dataset_message.specs.declared.flags.Encoding.{Encoding}
-use Rattle.dataset_message.specs.declared.fields.Field.{Field}
-use Rattle.dataset_message.specs.declared.fields.Cursor.{Cursor}
+use Rattle.dataset_fields.specs.Fields.{encodedAt, indexAt, fieldAt, fieldsAt, paddingAt, stepAt, walkAt, before}
+use Rattle.dataset_header.specs.declared.header.Header.{Header}
+use Rattle.dataset_header.specs.Flags.{Valid, notValid, valid, isDelta, isRaw}
+use Rattle.dataset_header.specs.Header.{headerAt}
+use Rattle.dataset_message.specs.Message.{Message, countAt, endAt, bodyAt, afterHeader, messageAt, nthAt}
+use Rattle.dataset_header.specs.declared.flags.Encoding.{Encoding}
+use Rattle.dataset_fields.specs.declared.fields.Field.{Field}
+use Rattle.dataset_fields.specs.declared.fields.Cursor.{Cursor}
 use Rattle.wire.specs.Answer.{Answer, got, refused, item, andThen}
 use Rattle.wire.proofs.Reading.{got-value, got-next, not-got, invert}
-use Rattle.value.specs.Width.{widthOf, fixed}
+use Rattle.value_items.specs.Width.{widthOf, fixed}
 use Rattle.value.specs.Value.{rawAt}
 use Rattle.value.specs.Value.{Measure}
 use Rattle.value.proofs.Values.{value-within}
@@ -203,6 +203,14 @@ pub message-read : (types s : List ℕ) (m : Message) (e : ℕ) → messageAt ty
 message-read types s m e q =
     let a = invert (headerAt s 0) (λ v at. _) q in
     header-read (a .0) types s (a .1) m e (a .3)
+
+-- before the first field of an accepted message all are left
+pub all-left : (types s : List ℕ) (m : Message) (n : ℕ) → messageAt types s ≡ got (valid m) n
+    → fieldsAt (m .cursor .delta) (m .cursor .encoding) types (m .cursor .count - m .cursor .next) (m .cursor .next) s (m .cursor .at) ≡ got tt (m .end)
+all-left types s m n q =
+    let r = message-read types s m n q in
+    let z : m .cursor .count - m .cursor .next ≡ m .cursor .count = omega (arith, r .first) in
+    rw (z, r .first) (r .passed)
 
 -- The walk over an accepted message visits exactly its fields, in their order, and lookup gives the same places.
 pub message-agrees : (types s : List ℕ) (m : Message) (e : ℕ) → messageAt types s ≡ got (valid m) e → (k : ℕ) → k < m .cursor .count → Agrees (m .cursor) types s k

@@ -1,4 +1,1 @@
-pub mod Walks
 pub mod Agreement
-pub mod Ending
-pub mod Front

@@ -1,4 +1,1 @@
-pub mod Flags
-pub mod Header
-pub mod Fields
 pub mod Message

@@ -1,31 +1,19 @@
 -- A DataSetMessage whole (document 01, "The DataSetMessage"), and looking a field up ("Values").
 use Prim.Native.Nat.{ℕ}
-use mathlib.Core.Bool.{Bool, true, false, cond}
+use mathlib.Core.Bool.{Bool, false, cond}
 use mathlib.Core.List.{List, []}
 use lib.Dec.{leb, eqb}
 use lib.ListN.{length, take, drop}
 use Rattle.wire.specs.Answer.{Answer, got, refused, Reader, item, andThen}
-use Rattle.dataset_message.specs.declared.flags.Encoding.{Encoding}
-use Rattle.dataset_message.specs.declared.flags.Kind.{Kind}
-use Rattle.dataset_message.specs.declared.header.Header.{Header}
-use Rattle.dataset_message.specs.declared.fields.Field.{Field}
-use Rattle.dataset_message.specs.declared.fields.Cursor.{Cursor}
+use Rattle.dataset_header.specs.declared.flags.Kind.{Kind}
+use Rattle.dataset_header.specs.declared.header.Header.{Header}
+use Rattle.dataset_fields.specs.declared.fields.Field.{Field}
+use Rattle.dataset_fields.specs.declared.fields.Cursor.{Cursor}
 use Rattle.dataset_message.specs.declared.message.MessageRead.{MessageRead}
 use Rattle.dataset_message.specs.declared.message.CountRead.{CountRead}
-use Rattle.dataset_message.specs.Flags.{Valid, notValid, valid}
-use Rattle.dataset_message.specs.Header.{headerAt}
-use Rattle.dataset_message.specs.Fields.{fieldAt, fieldsAt, paddingAt}
-
-abbrev pub isDelta : Kind → Bool
-isDelta Kind.Key = false
-isDelta Kind.Delta = true
-isDelta Kind.Event = false
-isDelta Kind.KeepAlive = false
-
-abbrev pub isRaw : Encoding → Bool
-isRaw Encoding.Variant = false
-isRaw Encoding.RawData = true
-isRaw Encoding.DataValue = false
+use Rattle.dataset_header.specs.Flags.{isDelta, isRaw, Valid, notValid, valid}
+use Rattle.dataset_header.specs.Header.{headerAt}
+use Rattle.dataset_fields.specs.Fields.{fieldAt, fieldsAt, paddingAt}
 
 -- "FieldCount 2 and the fields; RawData has no count, its fields are the configured ones (none: 8)"
 abbrev pub countedAt : Bool → List ℕ → Reader ℕ

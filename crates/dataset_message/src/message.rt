@@ -1,20 +1,21 @@
 // A DataSetMessage read whole, and field k of it.
-use crate::fields::Cursor;
-use crate::fields::FieldRead;
-use crate::fields::padding;
-use crate::fields::pass_each;
-use crate::fields::pass_fields;
-use crate::fields::read_field;
-use crate::flags::Encoding;
-use crate::flags::Kind;
-use crate::header::Header;
-use crate::header::HeaderRead;
-use crate::header::read_header;
+use dataset_fields::fields::Cursor;
+use dataset_fields::fields::FieldRead;
+use dataset_fields::fields::padding;
+use dataset_fields::fields::pass_each;
+use dataset_fields::fields::pass_fields;
+use dataset_fields::fields::read_field;
+use dataset_header::flags::Kind;
+use dataset_header::flags::is_delta;
+use dataset_header::flags::is_raw;
+use dataset_header::header::Header;
+use dataset_header::header::HeaderRead;
+use dataset_header::header::read_header;
 use wire::Item16;
 use wire::Reached;
 ghost use mathlib.Core.Path.{_≡_};
-ghost use Rattle.dataset_message.specs.Fields.{answerField};
-ghost use Rattle.dataset_message.specs.Message.{isDelta, isRaw, countedAt, countAt, endAt, bodyAt, messageAt, fieldPlaceAt, fieldBytes, nthAt};
+ghost use Rattle.dataset_fields.specs.Fields.{answerField};
+ghost use Rattle.dataset_message.specs.Message.{countedAt, countAt, endAt, bodyAt, messageAt, fieldPlaceAt, fieldBytes, nthAt};
 ghost use Rattle.dataset_message.specs.Message.{answerCount, answerMessage};
 
 // A message that is not valid, or its header, the cursor before its first field, and where its last field ends; what follows is
@@ -31,17 +32,6 @@ pub enum CountRead {
     Refused(u8, usize),
 }
 
-fn is_delta(kind: Kind) -> bool
-    ensures { λ r. ⌜ r ≡ isDelta kind ⌝ }
-{
-    match kind {
-        Kind::Key => false,
-        Kind::Delta => true,
-        Kind::Event => false,
-        Kind::KeepAlive => false,
-    }
-}
-
 // FieldCount, or in RawData the number of configured fields.
 fn counted(s: &[u8], raw: bool, types: &[u8], at: usize) -> CountRead
     ensures { λ r. ⌜ answerCount r ≡ countedAt raw (now (types .entry)) (now (s .entry)) at ⌝ }
@@ -56,16 +46,6 @@ fn counted(s: &[u8], raw: bool, types: &[u8], at: usize) -> CountRead
         return CountRead::Refused(1, at);
     };
     CountRead::Is(n as usize, next)
-}
-
-fn is_raw(encoding: Encoding) -> bool
-    ensures { λ r. ⌜ r ≡ isRaw encoding ⌝ }
-{
-    match encoding {
-        Encoding::Variant => false,
-        Encoding::RawData => true,
-        Encoding::DataValue => false,
-    }
 }
 
 fn count(s: &[u8], kind: Kind, raw: bool, types: &[u8], at: usize) -> CountRead

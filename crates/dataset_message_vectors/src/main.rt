@@ -1,13 +1,13 @@
 // DataSetMessages of document 01 and of each refusal at each place, alone. A line of standard input has a letter for the configured
 // field types, a space, the message in hex, a space and words. It is written again with kind, encoding, sequence number and the end
 // of the last field, and each field as index, type, element count, offset and length; or with `invalid`, or `bad`, number and place.
-use dataset_message::fields::Cursor;
-use dataset_message::fields::Field;
-use dataset_message::fields::FieldRead;
-use dataset_message::fields::FieldStep;
-use dataset_message::flags::Encoding;
-use dataset_message::flags::Kind;
-use dataset_message::header::Header;
+use dataset_fields::fields::Cursor;
+use dataset_fields::fields::Field;
+use dataset_fields::fields::FieldRead;
+use dataset_fields::fields::FieldStep;
+use dataset_header::flags::Encoding;
+use dataset_header::flags::Kind;
+use dataset_header::header::Header;
 use dataset_message::message::MessageRead;
 use dataset_message::message::field;
 use dataset_message::message::field_place;

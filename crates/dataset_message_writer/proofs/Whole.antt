@@ -8,20 +8,20 @@ use native.Mathlib.Omega.{arith}
 use borrow.Author.Tests.{leb-true, leb-false, eqb-true, lt-ltb, le-ltb, ne-eqb}
 use lib.Dec.{leb, ltb, eqb}
 use lib.ListN.{length, length-append, take, drop}
-use Rattle.dataset_message.specs.Flags.{notValid, valid}
-use Rattle.dataset_message.specs.declared.fields.Cursor.{Cursor}
+use Rattle.dataset_header.specs.Flags.{notValid, valid, isDelta, isRaw}
+use Rattle.dataset_fields.specs.declared.fields.Cursor.{Cursor}
 use Rattle.wire.specs.Answer.{got, refused}
 use Rattle.dataset_message_writer.specs.Rewrite.{partsAgain, again, againWritten, againBuffer, Rewrites}
-use Rattle.dataset_message.specs.declared.header.Header.{Header}
+use Rattle.dataset_header.specs.declared.header.Header.{Header}
 use Rattle.wire.specs.Number.{leBytes}
 use Rattle.wire.proofs.Facts.{and-left, and-right}
 use Rattle.writing.specs.Writing.{orElse, picosecondsRefusal, Puts, writtenBy, bufferBy, numberFor}
 use Rattle.writing.specs.declared.Written.{Written}
 use Rattle.writing.proofs.Putting.{then, whole}
 use Rattle.writing.proofs.Refusals.{both-zero, held}
-use Rattle.dataset_message.specs.declared.flags.Encoding.{Encoding}
-use Rattle.dataset_message.specs.declared.flags.Kind.{Kind}
-use Rattle.dataset_message.specs.Message.{isDelta, isRaw, messageAt}
+use Rattle.dataset_header.specs.declared.flags.Encoding.{Encoding}
+use Rattle.dataset_header.specs.declared.flags.Kind.{Kind}
+use Rattle.dataset_message.specs.Message.{messageAt}
 use Rattle.dataset_parts_writer.specs.Flags.{kindRule}
 use Rattle.dataset_parts_writer.specs.Header.{headerBytes}
 use Rattle.dataset_parts_writer.specs.Fields.{total, fieldsBytes, zeros}

@@ -7,12 +7,12 @@ use mathlib.Core.List.{List, [], _++_}
 use lib.Dec.{eqb, leb}
 use lib.ListN.{length}
 use Rattle.wire.specs.Number.{leBytes}
+use Rattle.dataset_header.specs.Flags.{isDelta, isRaw}
 use Rattle.writing.specs.Writing.{orElse, picosecondsRefusal, numberFor, writtenBy, bufferBy}
 use Rattle.writing.specs.declared.Written.{Written}
-use Rattle.dataset_message.specs.declared.flags.Encoding.{Encoding}
-use Rattle.dataset_message.specs.declared.flags.Kind.{Kind}
-use Rattle.dataset_message.specs.declared.header.Header.{Header}
-use Rattle.dataset_message.specs.Message.{isDelta, isRaw}
+use Rattle.dataset_header.specs.declared.flags.Encoding.{Encoding}
+use Rattle.dataset_header.specs.declared.flags.Kind.{Kind}
+use Rattle.dataset_header.specs.declared.header.Header.{Header}
 use Rattle.dataset_parts_writer.specs.Flags.{kindRule}
 use Rattle.dataset_parts_writer.specs.Header.{headerBytes}
 use Rattle.dataset_parts_writer.specs.Fields.{total, valuesOf, fieldsRefusal, fieldsWhole, reached, fieldsBytes, zeros}

@@ -8,9 +8,9 @@ use lib.ListN.{length, take, drop}
 use Rattle.wire.specs.Answer.{Answer, got, refused}
 use Rattle.writing.specs.Writing.{numberFor, writtenBy, bufferBy}
 use Rattle.writing.specs.declared.Written.{Written}
-use Rattle.dataset_message.specs.declared.header.Header.{Header}
-use Rattle.dataset_message.specs.Flags.{Valid, notValid, valid}
-use Rattle.dataset_message.specs.Message.{Message, isRaw, messageAt}
+use Rattle.dataset_header.specs.declared.header.Header.{Header}
+use Rattle.dataset_header.specs.Flags.{Valid, notValid, valid, isRaw}
+use Rattle.dataset_message.specs.Message.{Message, messageAt}
 use Rattle.dataset_parts_writer.specs.Header.{headerBytes}
 use Rattle.dataset_parts_writer.specs.Fields.{zeros}
 use Rattle.dataset_message_writer.specs.Message.{hasFields, countBytes}

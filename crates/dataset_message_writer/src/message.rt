@@ -2,11 +2,12 @@
 use crate::parts::has_fields;
 use crate::parts::put_count;
 use crate::parts::size;
-use dataset_message::flags::Encoding;
-use dataset_message::flags::Kind;
-use dataset_message::header::Header;
+use dataset_header::flags::Encoding;
+use dataset_header::flags::Kind;
+use dataset_header::flags::is_delta;
+use dataset_header::flags::is_raw;
+use dataset_header::header::Header;
 use dataset_parts_writer::fields::add_up;
-use dataset_parts_writer::fields::is_raw;
 use dataset_parts_writer::fields::judge_fields;
 use dataset_parts_writer::fields::put_delta;
 use dataset_parts_writer::fields::put_zeros;
@@ -20,21 +21,9 @@ ghost use mathlib.Core.Path.{_≡_};
 ghost use mathlib.Core.Bool.{cond};
 ghost use lib.ListN.{length};
 ghost use Rattle.writing.specs.Writing.{orElse, Puts};
-ghost use Rattle.dataset_message.specs.Message.{isDelta};
 ghost use Rattle.dataset_parts_writer.specs.Fields.{total, valuesOf, fieldsBytes};
 ghost use Rattle.dataset_message_writer.specs.Message.{given, isKey, fieldedRefusal, fieldedAgrees, configuredRule, countAgrees, listsAgree};
 ghost use Rattle.dataset_message_writer.specs.Message.{encode, bodyRefusal, bodyAgrees, refusalOf, Writes};
-
-fn is_delta(kind: Kind) -> bool
-    ensures { λ r. ⌜ r ≡ isDelta kind ⌝ }
-{
-    match kind {
-        Kind::Key => false,
-        Kind::Delta => true,
-        Kind::Event => false,
-        Kind::KeepAlive => false,
-    }
-}
 
 fn is_key(kind: Kind) -> bool
     ensures { λ r. ⌜ r ≡ isKey kind ⌝ }

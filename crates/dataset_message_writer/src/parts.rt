@@ -1,6 +1,6 @@
 // What `message` and `rewrite` share: whether fields follow a header, how many bytes a message takes, and FieldCount.
-use dataset_message::flags::Kind;
-use dataset_message::header::Header;
+use dataset_header::flags::Kind;
+use dataset_header::header::Header;
 use dataset_parts_writer::header::header_size;
 use writing::put16;
 ghost use mathlib.Core.Path.{_≡_};

@@ -2,10 +2,10 @@
 use crate::parts::has_fields;
 use crate::parts::put_count;
 use crate::parts::size;
-use dataset_message::header::Header;
+use dataset_header::flags::is_raw;
+use dataset_header::header::Header;
 use dataset_message::message::MessageRead;
 use dataset_message::message::read;
-use dataset_parts_writer::fields::is_raw;
 use dataset_parts_writer::fields::put_zeros;
 use dataset_parts_writer::header::header_size;
 use dataset_parts_writer::header::put_header;

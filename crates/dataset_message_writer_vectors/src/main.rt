@@ -4,9 +4,9 @@
 // of the last one as they read back; a refusal with its number and the buffer's first byte. A line of standard input has a letter for
 // the configured field types, a space, a message in hex, a space and words: the message is read and written again, and it says whether
 // the bytes are the same.
-use dataset_message::flags::Encoding;
-use dataset_message::flags::Kind;
-use dataset_message::header::Header;
+use dataset_header::flags::Encoding;
+use dataset_header::flags::Kind;
+use dataset_header::header::Header;
 use dataset_message::message::MessageRead;
 use dataset_message::message::read;
 use dataset_message_writer::message::write;

@@ -17,9 +17,9 @@ use Rattle.wire.proofs.Places.{within-refused}
 use Rattle.value.specs.Value.{Measure}
 use Rattle.value.proofs.Values.{value-steady, raw-steady}
 use Rattle.writing.specs.Writing.{orElse}
-use Rattle.dataset_message.specs.declared.flags.Encoding.{Encoding}
-use Rattle.dataset_message.specs.declared.fields.Field.{Field}
-use Rattle.dataset_message.specs.Fields.{encodedAt, fieldAt}
+use Rattle.dataset_header.specs.declared.flags.Encoding.{Encoding}
+use Rattle.dataset_fields.specs.declared.fields.Field.{Field}
+use Rattle.dataset_fields.specs.Fields.{encodedAt, fieldAt}
 use Rattle.dataset_parts_writer.specs.Fields.{total, valuesOf, fieldsRefusal, fieldsWhole, fieldsNumber, reached}
 
 -- two tests are equal where each follows from the other

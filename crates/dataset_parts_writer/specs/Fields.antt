@@ -7,8 +7,8 @@ use lib.ListN.{length, getD, take, drop}
 use Rattle.wire.specs.Number.{leBytes}
 use Rattle.wire.specs.Answer.{Answer, got, refused}
 use Rattle.writing.specs.Writing.{orElse}
-use Rattle.dataset_message.specs.Fields.{encodedAt}
-use Rattle.dataset_message.specs.declared.flags.Encoding.{Encoding}
+use Rattle.dataset_fields.specs.Fields.{encodedAt}
+use Rattle.dataset_header.specs.declared.flags.Encoding.{Encoding}
 
 -- how many bytes the fields have together
 unfoldable pub total : List ℕ → ℕ

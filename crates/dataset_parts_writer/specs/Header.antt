@@ -2,7 +2,7 @@
 use Prim.Native.Nat.{ℕ}
 use mathlib.Core.List.{List, _++_}
 use Rattle.writing.specs.Writing.{optional16Bytes, optional32Bytes, optionalI64Bytes}
-use Rattle.dataset_message.specs.declared.header.Header.{Header}
+use Rattle.dataset_header.specs.declared.header.Header.{Header}
 use Rattle.dataset_parts_writer.specs.Flags.{flagBytes}
 
 -- "Then sequence 2, timestamp 8, picoseconds 2, status 2, major 4, minor 4, each by its flag"

@@ -1,7 +1,8 @@
 // The fields of a DataSetMessage: judged one by one, each alone, and stored.
-use dataset_message::fields::FieldRead;
-use dataset_message::fields::read_field;
-use dataset_message::flags::Encoding;
+use dataset_fields::fields::FieldRead;
+use dataset_fields::fields::read_field;
+use dataset_header::flags::Encoding;
+use dataset_header::flags::is_raw;
 use wire::has;
 use wire::part::part;
 use writing::put_run;
@@ -12,8 +13,8 @@ ghost use Prim.Native.Nat.{_+_, _≤_};
 ghost use lib.Dec.{eqb, leb};
 ghost use lib.ListN.{length, getD, take};
 ghost use lib.Seq.{sets};
+ghost use Rattle.dataset_header.specs.Flags.{isRaw};
 ghost use Rattle.writing.specs.Writing.{Puts};
-ghost use Rattle.dataset_message.specs.Message.{isRaw};
 ghost use Rattle.dataset_parts_writer.specs.Fields.{total, valuesOf, reached, fieldsNumber, fieldsBytes, zeros};
 
 // Whether the lengths add up to a number of bytes.
@@ -41,16 +42,6 @@ fn forward(len: usize, at: usize, n: usize) -> usize
         return at + n;
     }
     len
-}
-
-pub fn is_raw(encoding: Encoding) -> bool
-    ensures { λ r. ⌜ r ≡ isRaw encoding ⌝ }
-{
-    match encoding {
-        Encoding::Variant => false,
-        Encoding::RawData => true,
-        Encoding::DataValue => false,
-    }
 }
 
 // How many of n fields reading reaches: in RawData no more than are configured.

@@ -1,7 +1,7 @@
 // Flags1 and Flags2 of a DataSetMessage, from its header.
-use dataset_message::flags::Encoding;
-use dataset_message::flags::Kind;
-use dataset_message::header::Header;
+use dataset_header::flags::Encoding;
+use dataset_header::flags::Kind;
+use dataset_header::header::Header;
 use writing::flag;
 use writing::is_on_i64;
 use writing::is_on16;

@@ -2,7 +2,7 @@
 use crate::flags::announced;
 use crate::flags::flags2_of;
 use crate::flags::put_flags;
-use dataset_message::header::Header;
+use dataset_header::header::Header;
 use wire::optional::Optional16;
 use wire::optional::Optional32;
 use wire::optional::OptionalI64;

@@ -5,8 +5,8 @@ use mathlib.Core.Path.{_≡_, refl}
 use mathlib.Core.List.{List, [], _∷_}
 use native.Mathlib.Omega.{arith}
 use lib.ListN.{length}
-use Rattle.wire.specs.Store.{laid}
-use Rattle.network_header.specs.PublisherRecord.{codeOf}
+use Rattle.store.specs.Store.{laid}
+use Rattle.publisher_id.specs.PublisherRecord.{codeOf}
 use Rattle.network_message.specs.declared.envelope.Envelope.{Envelope}
 use Rattle.network_message.specs.declared.envelope.Places.{Places}
 use Rattle.network_message.specs.declared.payload.Payload.{Payload}

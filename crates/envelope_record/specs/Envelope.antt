@@ -4,7 +4,7 @@ use mathlib.Core.Bool.{cond}
 use mathlib.Core.List.{List, [], _∷_, _++_}
 use lib.Dec.{eqb}
 use Rattle.wire.specs.declared.optional.Optional16.{Optional16}
-use Rattle.network_header.specs.PublisherRecord.{codeOf}
+use Rattle.publisher_id.specs.PublisherRecord.{codeOf}
 use Rattle.network_message.specs.Envelope.{NetworkMessage}
 use Rattle.network_message.specs.declared.envelope.Envelope.{Envelope}
 use Rattle.network_message.specs.declared.envelope.Places.{Places}

@@ -6,7 +6,6 @@ use message_record::message::has32;
 use message_record::message::value_i64;
 use message_record::message::value16;
 use message_record::message::value32;
-use message_record::publisher::publisher_code;
 use message_record::publisher::publisher_number;
 use network_header::group::GroupFields;
 use network_header::group::GroupHeader;
@@ -19,13 +18,14 @@ use network_message::payload::MessageCursor;
 use network_message::payload::MessagePlace;
 use network_message::payload::Payload;
 use network_message::payload::Sizes;
+use publisher_id::publisher_record::code;
 use records::numbers::number;
 use records::numbers::put_numbers;
 use records::numbers::put_numbers_from;
 use wire::optional::Optional16;
 ghost use mathlib.Core.Path.{_≡_};
 ghost use Prim.Native.Nat.{_+_, _*_};
-ghost use Rattle.wire.specs.Store.{laid};
+ghost use Rattle.store.specs.Store.{laid};
 ghost use Rattle.records.specs.Numbers.{numberBytes};
 ghost use Rattle.message_record.specs.Message.{has16, has32};
 ghost use Rattle.envelope_record.specs.Envelope.{hasClass, classLow, classHigh, groupItems, groupWriter, groupVersion, groupNumber};
@@ -193,7 +193,7 @@ fn put_start(out: &mut [u8], e: Envelope, places: Places)
     let group = e.group;
     let header = e.payload_header;
     let numbers = [
-        publisher_code(publisher),
+        code(publisher),
         publisher_number(publisher),
         places.publisher_end as u64,
         has_class(class_id),

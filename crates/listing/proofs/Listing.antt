@@ -15,10 +15,10 @@ use Rattle.network_message.specs.Envelope.{NetworkMessage, networkMessageAt}
 use Rattle.network_message.specs.declared.payload.MessagePlace.{MessagePlace}
 use Rattle.network_message.specs.declared.payload.MessageCursor.{MessageCursor}
 use Rattle.network_message.proofs.Messages.{message-counted}
-use Rattle.dataset_message.specs.Flags.{Valid, notValid, valid}
-use Rattle.dataset_message.specs.Fields.{fieldAt, Stepped as FieldStepped, stepAt as fieldStepAt}
+use Rattle.dataset_header.specs.Flags.{Valid, notValid, valid}
+use Rattle.dataset_fields.specs.Fields.{fieldAt, Stepped as FieldStepped, stepAt as fieldStepAt}
 use Rattle.dataset_message.specs.Message.{Message, messageAt as readAt}
-use Rattle.dataset_message.specs.declared.fields.Cursor.{Cursor}
+use Rattle.dataset_fields.specs.declared.fields.Cursor.{Cursor}
 use Rattle.dataset_message.proofs.Agreement.{field-inside}
 use Rattle.listing.specs.Lines.{Writers, fieldsLeft, messagesLeft, typesAt, bytesAt, fieldLines, messageLines, setLines, linesFrom, stepLines, nextSet, nextMessage, messageStep, nextField, fieldStep, nextLine, startBy, startOf, answerLines, listingOf, lineAt}
 use Rattle.listing_line.specs.declared.line.Line.{Line}

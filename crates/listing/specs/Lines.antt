@@ -6,7 +6,7 @@ use lib.Dec.{eqb}
 use lib.ListN.{length, take, drop}
 use Rattle.wire.specs.Answer.{Answer, got, refused}
 use Rattle.wire.specs.declared.optional.Optional16.{Optional16}
-use Rattle.config.specs.Writers.{atMost, fieldsOfId}
+use Rattle.configured_writers.specs.Writers.{atMost, typesOf}
 use Rattle.config.specs.declared.Config.{Config}
 use Rattle.config.specs.Config.{configOf}
 use Rattle.network_message.specs.WriterId.{writerIdOf}
@@ -14,11 +14,11 @@ use Rattle.network_message.specs.Payload.{Stepped, stepAt}
 use Rattle.network_message.specs.Envelope.{NetworkMessage, networkMessageAt}
 use Rattle.network_message.specs.declared.payload.MessagePlace.{MessagePlace}
 use Rattle.network_message.specs.declared.payload.MessageCursor.{MessageCursor}
-use Rattle.dataset_message.specs.Flags.{Valid, notValid, valid}
-use Rattle.dataset_message.specs.Fields.{Stepped as FieldStepped, stepAt as fieldStepAt}
+use Rattle.dataset_header.specs.Flags.{Valid, notValid, valid}
+use Rattle.dataset_fields.specs.Fields.{Stepped as FieldStepped, stepAt as fieldStepAt}
 use Rattle.dataset_message.specs.Message.{Message, messageAt}
-use Rattle.dataset_message.specs.declared.fields.Field.{Field}
-use Rattle.dataset_message.specs.declared.fields.Cursor.{Cursor}
+use Rattle.dataset_fields.specs.declared.fields.Field.{Field}
+use Rattle.dataset_fields.specs.declared.fields.Cursor.{Cursor}
 use Rattle.listing_line.specs.declared.line.SetPlace.{SetPlace}
 use Rattle.listing_line.specs.declared.line.Line.{Line}
 use Rattle.listing.specs.declared.lines.Listed.{Listed}
@@ -44,11 +44,6 @@ writersOf c =
 
 abbrev pub writers : List ℕ → List ℕ → List ℕ → List ℕ → Writers
 writers ids sizes starts types = record { ids = ids; sizes = sizes; starts = starts; types = types }
-
--- the configured field types of a message, by its writer id
-abbrev pub typesOf : List ℕ → List ℕ → List ℕ → Optional16 → List ℕ
-typesOf ids starts types Optional16.Absent = []
-typesOf ids starts types (Optional16.Is id) = fieldsOfId ids starts types id
 
 -- "Offsets count in the datagram"
 abbrev pub inDatagram : MessagePlace → Field → Field

@@ -1,14 +1,13 @@
 // The lines of a listing in their order, by a cursor that steps from one to the next.
-use config::writers::fields_of;
-use dataset_message::fields::Cursor;
-use dataset_message::fields::Field;
-use dataset_message::fields::FieldStep;
+use configured_writers::types_of;
+use dataset_fields::fields::Cursor;
+use dataset_fields::fields::Field;
+use dataset_fields::fields::FieldStep;
 use dataset_message::message::MessageRead;
 use dataset_message::message::read;
 use listing_line::line::Line;
 use listing_line::line::SetPlace;
 use network_header::header::PayloadHeader;
-use network_header::publisher::PublisherId;
 use network_message::envelope::Envelope;
 use network_message::envelope::NetworkMessageRead;
 use network_message::envelope::Places;
@@ -17,12 +16,12 @@ use network_message::payload::MessagePlace;
 use network_message::payload::MessageStep;
 use network_message::payload::Payload;
 use network_message::writer_id::writer_id;
-use wire::optional::Optional16;
+use publisher_id::publisher::PublisherId;
 use wire::part::part;
 ghost use mathlib.Core.Path.{_≡_};
 ghost use Prim.Native.Nat.{ℕ};
 ghost use mathlib.Core.List.{List};
-ghost use Rattle.listing.specs.Lines.{writers, typesOf, listedOf, startOf, setStep, messageStep, fieldStep, nextLine, listingOf, lineAt};
+ghost use Rattle.listing.specs.Lines.{writers, listedOf, startOf, setStep, messageStep, fieldStep, nextLine, listingOf, lineAt};
 
 // What the listing needs of an accepted datagram: its PublisherId and PayloadHeader with the positions where they end, and its messages.
 pub struct Listed {
@@ -52,16 +51,6 @@ pub enum LineStep {
 pub enum LineRead {
     Is(Line),
     None,
-}
-
-// The configured field types of the writer with an id.
-fn types_of<'a>(ids: &'a [u16], starts: &'a [u8], types: &'a [u8], writer: Optional16) -> &'a [u8]
-    ensures { λ r. ⌜ now r ≡ typesOf (now (ids .entry)) (now (starts .entry)) (now (types .entry)) writer ⌝ }
-{
-    match writer {
-        Optional16::Absent => part(types, 0, 0),
-        Optional16::Is(id) => fields_of(ids, starts, types, id),
-    }
 }
 
 fn listed_of(envelope: Envelope, places: Places, payload: Payload) -> Listed

@@ -7,10 +7,10 @@ use lib.ListN.{length, take, drop}
 use lib.Seq.{sets}
 use Rattle.text.specs.Decimal.{decimalText}
 use Rattle.text.specs.Hex.{hexText}
-use Rattle.network_header.specs.declared.publisher.PublisherId.{PublisherId}
-use Rattle.dataset_message.specs.declared.flags.Kind.{Kind}
-use Rattle.dataset_message.specs.declared.flags.Encoding.{Encoding}
-use Rattle.dataset_message.specs.declared.fields.Field.{Field}
+use Rattle.publisher_id.specs.declared.publisher.PublisherId.{PublisherId}
+use Rattle.dataset_header.specs.declared.flags.Kind.{Kind}
+use Rattle.dataset_header.specs.declared.flags.Encoding.{Encoding}
+use Rattle.dataset_fields.specs.declared.fields.Field.{Field}
 use Rattle.listing_line.specs.Columns.{tabbed, newline, dash, optionalText, shapeText}
 use Rattle.listing_line.specs.declared.line.SetPlace.{SetPlace}
 use Rattle.listing_line.specs.declared.line.Line.{Line}

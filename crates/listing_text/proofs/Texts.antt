@@ -9,8 +9,8 @@ use borrow.Author.Tests.{lt-ltb, le-ltb, le-leb, ltb-false}
 use lib.Dec.{ltb}
 use lib.ListN.{length, take, drop, length-append}
 use lib.Seq.{sets, take-at}
-use Rattle.wire.specs.Store.{laid}
-use Rattle.wire.proofs.Stores.{sets-append}
+use Rattle.store.specs.Store.{laid}
+use Rattle.store.proofs.Stores.{sets-append}
 use Rattle.writing.proofs.Putting.{front}
 use Rattle.writing.specs.declared.Written.{Written}
 use Rattle.listing_line.specs.Line.{tooLong, lineText, lineRefusal, linePut, lineAfter}

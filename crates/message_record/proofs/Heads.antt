@@ -3,10 +3,10 @@
 use Prim.Native.Nat.{ℕ}
 use mathlib.Core.Path.{_≡_, refl}
 use mathlib.Core.List.{List, [], _∷_}
-use Rattle.wire.specs.Store.{laid}
-use Rattle.dataset_message.specs.Flags.{valid}
-use Rattle.dataset_message.specs.declared.fields.Cursor.{Cursor}
-use Rattle.dataset_message.specs.declared.header.Header.{Header}
+use Rattle.store.specs.Store.{laid}
+use Rattle.dataset_header.specs.Flags.{valid}
+use Rattle.dataset_fields.specs.declared.fields.Cursor.{Cursor}
+use Rattle.dataset_header.specs.declared.header.Header.{Header}
 use Rattle.records.specs.Numbers.{numberBytes}
 use Rattle.message_record.specs.Message.{value16, value32, valueI64, encodingNumber, kindNumber, flagNumber, itemsNumber, headNumbers}
 use Rattle.records.proofs.Storing.{also, put-same}

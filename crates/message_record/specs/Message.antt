@@ -9,13 +9,13 @@ use Rattle.wire.specs.declared.optional.Optional16.{Optional16}
 use Rattle.wire.specs.declared.optional.Optional32.{Optional32}
 use Rattle.wire.specs.declared.optional.OptionalI64.{OptionalI64}
 use Rattle.value.specs.declared.Shape.{Shape}
-use Rattle.dataset_message.specs.Flags.{Valid, notValid, valid}
+use Rattle.dataset_header.specs.Flags.{Valid, notValid, valid}
 use Rattle.dataset_message.specs.Message.{Message}
-use Rattle.dataset_message.specs.declared.flags.Encoding.{Encoding}
-use Rattle.dataset_message.specs.declared.flags.Kind.{Kind}
-use Rattle.dataset_message.specs.declared.fields.Field.{Field}
-use Rattle.dataset_message.specs.declared.fields.Cursor.{Cursor}
-use Rattle.dataset_message.specs.declared.header.Header.{Header}
+use Rattle.dataset_header.specs.declared.flags.Encoding.{Encoding}
+use Rattle.dataset_header.specs.declared.flags.Kind.{Kind}
+use Rattle.dataset_fields.specs.declared.fields.Field.{Field}
+use Rattle.dataset_fields.specs.declared.fields.Cursor.{Cursor}
+use Rattle.dataset_header.specs.declared.header.Header.{Header}
 use Rattle.records.specs.Numbers.{numberAt}
 
 -- "1 sequence number, 2 timestamp, ..": whether an item is present, as a number; and its value, "0 where absent"

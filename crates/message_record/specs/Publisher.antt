@@ -2,7 +2,7 @@
 use Prim.Native.Nat.{ℕ, _%_}
 use mathlib.Core.Bool.{cond}
 use lib.Dec.{eqb}
-use Rattle.network_header.specs.declared.publisher.PublisherId.{PublisherId}
+use Rattle.publisher_id.specs.declared.publisher.PublisherId.{PublisherId}
 
 -- "PublisherId: 0 absent, 1 Byte, 2 UInt16, 3 UInt32, 4 UInt64, 5 String (above 5 counts as absent)", and its number, "of a String its length";
 -- "of a number that stands for a narrower one the lowest bytes count"

@@ -1,8 +1,8 @@
 // The records that are read to be written: a message's head and an envelope.
 use crate::message::encoding_in;
 use crate::publisher::publisher_by;
-use dataset_message::flags::Kind;
-use dataset_message::header::Header;
+use dataset_header::flags::Kind;
+use dataset_header::header::Header;
 use network_header::group::GroupFields;
 use network_header::group::GroupHeader;
 use network_header::header::ClassId;

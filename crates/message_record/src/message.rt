@@ -1,20 +1,20 @@
 // The records of a message's head and of a field.
-use dataset_message::fields::Cursor;
-use dataset_message::fields::Field;
-use dataset_message::flags::Encoding;
-use dataset_message::flags::Kind;
-use dataset_message::header::Header;
+use dataset_fields::fields::Cursor;
+use dataset_fields::fields::Field;
+use dataset_header::flags::Encoding;
+use dataset_header::flags::Kind;
+use dataset_header::header::Header;
 use records::numbers::number;
 use records::numbers::put_numbers;
+use store::unsigned64;
 use value::Shape;
 use wire::optional::Optional16;
 use wire::optional::Optional32;
 use wire::optional::OptionalI64;
-use wire::store::unsigned64;
 ghost use mathlib.Core.Path.{_≡_};
 ghost use Prim.Native.Nat.{_≤_};
-ghost use Rattle.wire.specs.Store.{laid};
-ghost use Rattle.dataset_message.specs.Flags.{valid, notValid};
+ghost use Rattle.store.specs.Store.{laid};
+ghost use Rattle.dataset_header.specs.Flags.{valid, notValid};
 ghost use Rattle.records.specs.Numbers.{numberBytes};
 ghost use Rattle.message_record.specs.Message.{has16, value16, has32, value32, hasI64, valueI64, encodingNumber, encodingIn, kindNumber, flagNumber};
 ghost use Rattle.message_record.specs.Message.{itemsNumber, headNumbers, cursorIn, shapeNumber, elementsNumber, fieldNumbers};

@@ -1,7 +1,6 @@
 // A PublisherId in a record: the number of its type, and its number.
-use network_header::publisher::PublisherId;
+use publisher_id::publisher::PublisherId;
 ghost use mathlib.Core.Path.{_≡_};
-ghost use Rattle.network_header.specs.PublisherRecord.{codeOf};
 ghost use Rattle.message_record.specs.Publisher.{publisherBy, publisherNumber};
 
 // The PublisherId of a type's number and a number.
@@ -24,20 +23,6 @@ pub fn publisher_by(code: u64, v: u64) -> PublisherId
         return PublisherId::Text(v as usize);
     }
     PublisherId::Absent
-}
-
-// The number of a PublisherId's type.
-pub fn publisher_code(x: PublisherId) -> u64
-    ensures { λ r. ⌜ r ≡ codeOf x ⌝ }
-{
-    match x {
-        PublisherId::Absent => 0,
-        PublisherId::Byte(_) => 1,
-        PublisherId::UInt16(_) => 2,
-        PublisherId::UInt32(_) => 3,
-        PublisherId::UInt64(_) => 4,
-        PublisherId::Text(_) => 5,
-    }
 }
 
 // A PublisherId's number; of a String its length.

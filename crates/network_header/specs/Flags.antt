@@ -4,7 +4,6 @@ use mathlib.Core.Bool.{Bool, cond, _&&_}
 use lib.Dec.{leb, eqb}
 use Rattle.wire.specs.Answer.{Answer, got, refused, Reader, ruled, whenOn, pure, _>>=_, bit}
 use Rattle.network_header.specs.declared.flags.Flags.{Flags}
-use Rattle.network_header.specs.declared.flags.FlagByte.{FlagByte}
 use Rattle.network_header.specs.declared.flags.FlagsRead.{FlagsRead}
 
 -- "bits 0-3 version 1 (else 2)"
@@ -44,10 +43,6 @@ flagsAt = do
   e ← whenOn (eqb (b / 128) 1) 0 (ruled 1 (extended1Rule (bit 16 b)))
   f ← whenOn (eqb (e / 128) 1) 0 (ruled 1 extended2Rule)
   pure (flagsOf b e f)
-
-abbrev pub answerByte : FlagByte → Answer ℕ
-answerByte (FlagByte.Is v next) = got v next
-answerByte (FlagByte.Refused n place) = refused n place
 
 abbrev pub answerFlags : FlagsRead → Answer Flags
 answerFlags (FlagsRead.Is v next) = got v next

@@ -1,8 +1,10 @@
 // Byte 0, ExtendedFlags1 and ExtendedFlags2.
+use wire::FlagByte;
 use wire::Item8;
 ghost use mathlib.Core.Path.{_≡_};
 ghost use Rattle.wire.specs.Answer.{ruled, whenOn};
-ghost use Rattle.network_header.specs.Flags.{byte0Rule, extended1Rule, extended2Rule, flagsAt, flagsOf, answerByte, answerFlags};
+ghost use Rattle.wire.specs.Items.{answerByte};
+ghost use Rattle.network_header.specs.Flags.{byte0Rule, extended1Rule, extended2Rule, flagsAt, flagsOf, answerFlags};
 
 // What the flag bytes say.
 pub struct Flags {
@@ -16,11 +18,6 @@ pub struct Flags {
     pub picoseconds: bool,
     pub chunk: bool,
     pub promoted: bool,
-}
-
-pub enum FlagByte {
-    Is(u8, usize),
-    Refused(u8, usize),
 }
 
 pub enum FlagsRead {

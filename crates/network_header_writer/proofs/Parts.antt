@@ -7,7 +7,7 @@ use native.Mathlib.Nat.{pow-suc}
 use native.Mathlib.Omega.{arith}
 use lib.Arith.{mod-mul}
 use Rattle.wire.specs.Number.{leBytes}
-use Rattle.wire.specs.Store.{Stored}
+use Rattle.store.specs.Store.{Stored}
 use Rattle.writing.specs.Writing.{Puts, orElse}
 use Rattle.writing.proofs.Putting.{puts}
 

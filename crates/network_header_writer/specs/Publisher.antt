@@ -5,7 +5,7 @@ use mathlib.Core.List.{List, [], _++_}
 use lib.Dec.{leb, eqb}
 use lib.ListN.{length}
 use Rattle.wire.specs.Number.{leBytes}
-use Rattle.network_header.specs.declared.publisher.PublisherId.{PublisherId}
+use Rattle.publisher_id.specs.declared.publisher.PublisherId.{PublisherId}
 
 abbrev pub publisherOn : PublisherId → Bool
 publisherOn PublisherId.Absent = false

@@ -1,5 +1,5 @@
 // The PublisherId.
-use network_header::publisher::PublisherId;
+use publisher_id::publisher::PublisherId;
 use writing::put_run;
 use writing::put8;
 use writing::put16;

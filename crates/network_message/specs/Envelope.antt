@@ -19,7 +19,7 @@ use Rattle.network_message.specs.declared.envelope.Places.{Places}
 use Rattle.network_message.specs.declared.envelope.HeaderRead.{HeaderRead}
 use Rattle.network_message.specs.declared.envelope.NetworkMessageRead.{NetworkMessageRead}
 use Rattle.network_header.specs.Flags.{flagsAt}
-use Rattle.network_header.specs.Publisher.{publisherAt}
+use Rattle.publisher_id.specs.Publisher.{publisherAt}
 use Rattle.network_header.specs.Group.{groupAt}
 use Rattle.network_header.specs.Header.{classAt, payloadHeaderAt, promotedAt}
 use Rattle.network_message.specs.Payload.{configuredSizes, payloadAt, nthAt}

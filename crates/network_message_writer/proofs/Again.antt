@@ -11,7 +11,7 @@ use lib.ListN.{length, drop, length-take, length-drop}
 use borrow.Author.Tests.{ltb-false}
 use Rattle.wire.specs.Answer.{got}
 use Rattle.wire.proofs.Reading.{not-got}
-use Rattle.network_header.specs.declared.publisher.PublisherId.{PublisherId}
+use Rattle.publisher_id.specs.declared.publisher.PublisherId.{PublisherId}
 use Rattle.network_header.specs.declared.header.PayloadHeader.{PayloadHeader}
 use Rattle.network_header.specs.declared.header.Promoted.{Promoted}
 use Rattle.network_message.specs.declared.envelope.Envelope.{Envelope}

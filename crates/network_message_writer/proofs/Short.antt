@@ -10,7 +10,7 @@ use lib.Dec.{eqb, leb}
 use lib.ListN.{length, take, length-take}
 use borrow.Author.Tests.{eqb-true, leb-false}
 use Rattle.wire.proofs.Facts.{and-left}
-use Rattle.network_header.specs.declared.publisher.PublisherId.{PublisherId}
+use Rattle.publisher_id.specs.declared.publisher.PublisherId.{PublisherId}
 use Rattle.network_header.specs.declared.header.PayloadHeader.{PayloadHeader}
 use Rattle.network_header.specs.declared.header.Promoted.{Promoted}
 use Rattle.network_message.specs.declared.envelope.Envelope.{Envelope}

@@ -9,8 +9,8 @@ use borrow.Author.Tests.{le-leb, lt-leb}
 use lib.Dec.{leb}
 use lib.ListN.{length, length-append}
 use lib.Seq.{sets}
-use Rattle.wire.specs.Store.{laid}
-use Rattle.network_header.specs.PublisherRecord.{codeOf}
+use Rattle.store.specs.Store.{laid}
+use Rattle.publisher_id.specs.PublisherRecord.{codeOf}
 use Rattle.reassembly.specs.declared.record.PartialRecord.{PartialRecord}
 use Rattle.records.specs.Numbers.{numberBytes}
 use Rattle.message_record.specs.Message.{flagNumber}

@@ -5,9 +5,9 @@ use mathlib.Core.Path.{_≡_, ap, _∙_}
 use mathlib.Core.List.{List}
 use lib.Dec.{eqb}
 use lib.ListN.{take, drop, replicate}
-use Rattle.wire.specs.Store.{laid}
-use Rattle.network_header.specs.declared.publisher.PublisherId.{PublisherId}
-use Rattle.network_header.specs.declared.publisher_record.PublisherRecord.{PublisherRecord}
+use Rattle.store.specs.Store.{laid}
+use Rattle.publisher_id.specs.declared.publisher.PublisherId.{PublisherId}
+use Rattle.publisher_id.specs.declared.publisher_record.PublisherRecord.{PublisherRecord}
 use Rattle.reassembly.specs.declared.record.Message.{Message}
 use Rattle.reassembly.specs.declared.record.PartialRecord.{PartialRecord}
 use Rattle.records.specs.Numbers.{numberAt}

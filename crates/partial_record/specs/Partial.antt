@@ -1,12 +1,11 @@
 -- The record of a partial as lent bytes (include/uadp.h, "Partial record").
 use Prim.Native.Nat.{ℕ, _%_}
-use mathlib.Core.Bool.{cond}
 use mathlib.Core.List.{List, [], _∷_, _++_}
 use lib.Dec.{eqb}
 use lib.ListN.{take, drop, replicate}
-use Rattle.wire.specs.Store.{laid}
-use Rattle.network_header.specs.PublisherRecord.{codeOf}
-use Rattle.network_header.specs.declared.publisher_record.PublisherRecord.{PublisherRecord}
+use Rattle.store.specs.Store.{laid}
+use Rattle.publisher_id.specs.PublisherRecord.{codeOf}
+use Rattle.publisher_id.specs.declared.publisher_record.PublisherRecord.{PublisherRecord}
 use Rattle.reassembly.specs.declared.record.Message.{Message}
 use Rattle.reassembly.specs.declared.record.PartialRecord.{PartialRecord}
 use Rattle.records.specs.Numbers.{numberAt, numberBytes}

@@ -1,18 +1,17 @@
 // The record of a partial: six numbers, and 64 bytes for the text of a string PublisherId.
 use message_record::message::flag_number;
 use message_record::publisher::publisher_by;
-use message_record::publisher::publisher_code;
 use message_record::publisher::publisher_number;
-use network_header::publisher::PublisherId;
-use network_header::publisher_record::PublisherRecord;
+use publisher_id::publisher_record::PublisherRecord;
+use publisher_id::publisher_record::code;
 use reassembly::Message;
 use reassembly::PartialRecord;
 use records::numbers::number;
 use records::numbers::put_numbers;
+use store::put_run;
 use wire::part::part;
-use wire::store::put_run;
 ghost use mathlib.Core.Path.{_≡_};
-ghost use Rattle.wire.specs.Store.{laid};
+ghost use Rattle.store.specs.Store.{laid};
 ghost use Rattle.partial_record.specs.Partial.{publisherIn, messageIn, partialIn, partialBytes};
 
 fn publisher_in(s: &[u8]) -> PublisherRecord
@@ -60,7 +59,7 @@ pub fn put_partial(out: &mut [u8], rec: PartialRecord)
     let text = publisher.text;
     let numbers = [
         flag_number(rec.started),
-        publisher_code(id),
+        code(id),
         publisher_number(id),
         message.writer as u64,
         message.number as u64,

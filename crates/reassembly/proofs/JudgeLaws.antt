@@ -11,8 +11,8 @@ use Rattle.reassembly.specs.Views.{View, dataView, inRange, clash, laid}
 use Rattle.reassembly.specs.Marks.{marksFor, markAll, markedBelow, allMarked}
 use Rattle.reassembly.specs.Areas.{markedView}
 use Rattle.wire.specs.Answer.{Answer, got, refused}
-use Rattle.network_header.specs.PublisherRecord.{publisherFits, recordAt}
-use Rattle.network_header.specs.declared.publisher_record.PublisherRecord.{PublisherRecord}
+use Rattle.publisher_id.specs.PublisherRecord.{publisherFits, recordAt}
+use Rattle.publisher_id.specs.declared.publisher_record.PublisherRecord.{PublisherRecord}
 use Rattle.chunk.specs.Datagram.{chunkAt}
 use Rattle.chunk.specs.declared.datagram.ChunkPlace.{ChunkPlace}
 use Rattle.chunk.proofs.Accepted

@@ -3,8 +3,8 @@ use mathlib.Core.Path.{_≡_, refl, sym, _∙_}
 use mathlib.Core.Bool.{true, false, _&&_, true≢false}
 use lib.Dec.{eqb}
 use borrow.Author.Tests.{eq-eqb, eqb-true}
-use Rattle.network_header.specs.PublisherRecord.{samePublisher}
-use Rattle.network_header.proofs.Equality.{same-publisher-true, same-publisher-refl}
+use Rattle.publisher_id.specs.PublisherRecord.{samePublisher}
+use Rattle.publisher_id.proofs.Equality.{same-publisher-true, same-publisher-refl}
 use Rattle.reassembly.specs.Record.{Identity, sameMessage}
 use Rattle.reassembly.proofs.Cases.{by-bool}
 use Rattle.wire.proofs.Facts.{and-left, and-right}

@@ -5,7 +5,7 @@ use mathlib.Core.Path.{_≡_}
 use mathlib.Core.List.{List}
 use lib.ListN.{length}
 use Rattle.wire.specs.Answer.{Answer, got, refused}
-use Rattle.network_header.specs.PublisherRecord.{recordAt, publisherFits}
+use Rattle.publisher_id.specs.PublisherRecord.{recordAt, publisherFits}
 use Rattle.chunk.specs.Datagram.{chunkAt, chunkData}
 use Rattle.chunk.specs.declared.datagram.ChunkPlace.{ChunkPlace}
 use Rattle.reassembly.specs.declared.record.Message.{Message}

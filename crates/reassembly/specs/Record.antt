@@ -6,7 +6,7 @@ use mathlib.Core.List.{List}
 use lib.ListN.{length}
 use lib.Dec.{leb, eqb}
 use Rattle.reassembly.specs.Marks.{marksFor}
-use Rattle.network_header.specs.PublisherRecord.{Publisher, publisherOf, samePublisher, publisherFits}
+use Rattle.publisher_id.specs.PublisherRecord.{Publisher, publisherOf, samePublisher, publisherFits}
 use Rattle.reassembly.specs.declared.record.Message.{Message}
 use Rattle.reassembly.specs.declared.record.PartialRecord.{PartialRecord}
 

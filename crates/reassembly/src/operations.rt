@@ -21,7 +21,7 @@ use crate::verdict::Completeness;
 use crate::verdict::Verdict;
 use chunk::datagram::ChunkPlace;
 use chunk::datagram::ChunkRead;
-use network_header::publisher_record::publisher_record;
+use publisher_id::publisher_record::publisher_record;
 use wire::part::part;
 
 // An answer, and the record afterwards.

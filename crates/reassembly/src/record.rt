@@ -2,9 +2,9 @@
 ghost use mathlib.Core.Path.{_≡_};
 ghost use Rattle.reassembly.specs.Record.{identityOf, sameMessage, soundBy};
 use crate::marks::marks_for;
-use network_header::publisher_record::PublisherRecord;
-use network_header::publisher_record::publisher_fits;
-use network_header::publisher_record::same_publisher;
+use publisher_id::publisher_record::PublisherRecord;
+use publisher_id::publisher_record::publisher_fits;
+use publisher_id::publisher_record::same_publisher;
 
 // Which message: publisher, DataSetWriterId, MessageSequenceNumber and TotalSize.
 pub struct Message {

@@ -11,7 +11,7 @@ use borrow.Author.Tests.{le-leb, eq-eqb}
 use Rattle.reassembly.specs.Views.{View, clash, full, has, dataView, joined, nowhere, laid}
 use Rattle.reassembly.specs.Marks.{marksFor, cleared, markAll}
 use Rattle.reassembly.specs.Areas.{markedView}
-use Rattle.network_header.specs.PublisherRecord.{publisherFits}
+use Rattle.publisher_id.specs.PublisherRecord.{publisherFits}
 use Rattle.reassembly.specs.Record.{Identity, identityOf, Partial, partial, soundBy, Good}
 use Rattle.reassembly.specs.Reading.{Reading, readingAt, ProperReading}
 use Rattle.reassembly.specs.Reading.Reading.{chunk, refusal}

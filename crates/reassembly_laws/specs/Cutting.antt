@@ -6,7 +6,7 @@ use mathlib.Core.Path.{_≡_}
 use mathlib.Core.Bool.{true}
 use lib.ListN.{length, drop}
 use Rattle.wire.specs.Answer.{got}
-use Rattle.network_header.specs.PublisherRecord.{publisherOf, recordAt}
+use Rattle.publisher_id.specs.PublisherRecord.{publisherOf, recordAt}
 use Rattle.network_message.specs.Envelope.{NetworkMessage, networkMessageAt}
 use Rattle.chunk.specs.Datagram.{writerOf}
 use Rattle.chunk.specs.Cutting.{cutData, chunkBytes, cutRule}

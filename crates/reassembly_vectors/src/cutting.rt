@@ -6,8 +6,8 @@ use crate::small;
 use crate::take;
 use crate::text;
 use chunk::cut::cut;
+use store::put_run;
 use wire::part::part;
-use wire::store::put_run;
 use writing::Written;
 
 pub fn histories() {

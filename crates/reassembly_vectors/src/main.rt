@@ -1,17 +1,17 @@
 // Histories of reassembly, written from document 01: R1 and R2, overlaps, holes, refusals, combining, strange marks, emptying and reuse,
 // payloads cut and restored. Each call's answer is a line.
 use libc::STDOUT_FILENO;
-use network_header::publisher::PublisherId;
-use network_header::publisher_record::PublisherRecord;
+use publisher_id::publisher::PublisherId;
+use publisher_id::publisher_record::PublisherRecord;
 use reassembly::Completeness;
 use reassembly::Message;
 use reassembly::Outcome;
 use reassembly::PartialRecord;
 use reassembly::Verdict;
+use store::put_run;
+use store::put16;
+use store::put32;
 use wire::part::part;
-use wire::store::put_run;
-use wire::store::put16;
-use wire::store::put32;
 ghost use Prim.Native.Nat.{_≤_};
 
 mod combining;

@@ -18,8 +18,8 @@ use crate::take_ours;
 use crate::text;
 use crate::verdict;
 use crate::with_record;
-use network_header::publisher::PublisherId;
-use network_header::publisher_record::PublisherRecord;
+use publisher_id::publisher::PublisherId;
+use publisher_id::publisher_record::PublisherRecord;
 use reassembly::Message;
 
 pub fn histories() {

@@ -15,15 +15,15 @@ use Rattle.wire.specs.Answer.{Answer, got}
 use Rattle.writing.specs.Fits.{Bytes}
 use Rattle.writing.specs.Writing.{answerWritten}
 use Rattle.writing.specs.declared.Written.{Written}
-use Rattle.wire.specs.Store.{laid}
+use Rattle.store.specs.Store.{laid}
 use Rattle.writing.proofs.Putting.{front}
 use Rattle.writing.proofs.Answering.{Answers, reports}
-use Rattle.network_header.proofs.publisher.PublisherId as publisher
-use Rattle.network_header.specs.declared.publisher.PublisherId.{PublisherId}
+use Rattle.publisher_id.proofs.publisher.PublisherId as publisher
+use Rattle.publisher_id.specs.declared.publisher.PublisherId.{PublisherId}
 use Rattle.network_message.specs.Envelope.{NetworkMessage, networkMessageAt}
 use Rattle.network_header_writer.specs.Publisher.{publisherOn}
 use Rattle.network_message_writer.specs.Envelope.{againOf, rewriteAnswer, rewriteBuffer}
-use Rattle.dataset_message.specs.Flags.{valid}
+use Rattle.dataset_header.specs.Flags.{valid}
 use Rattle.dataset_message.specs.Message.{Message, messageAt}
 use Rattle.dataset_message_writer.specs.Rewrite.{again, againWritten, againBuffer, Rewrites}
 use Rattle.round_trip.proofs.DataSetMessageRewritten as message

@@ -1,8 +1,8 @@
 // What reading accepts, written again by one copy. The bytes that come out are the bytes that came in, so the parts need not
 // be put together again; only a datagram with PublisherId off can differ, in its flag bytes.
 use dataset_message::message::MessageRead;
-use network_header::publisher::PublisherId;
 use network_message::envelope::NetworkMessageRead;
+use publisher_id::publisher::PublisherId;
 use writing::Written;
 ghost use mathlib.Core.Path.{_≡_};
 ghost use lib.ListN.{length};
@@ -22,7 +22,7 @@ fn copy_whole(out: &mut [u8], s: &[u8]) -> Written
     if out.len() < size {
         return Written::Refused(11);
     }
-    wire::store::put_run(out, 0, s);
+    store::put_run(out, 0, s);
     Written::Is(size)
 }
 

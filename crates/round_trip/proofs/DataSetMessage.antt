@@ -16,12 +16,12 @@ use Rattle.value.specs.Value.{Measure}
 use Rattle.writing.specs.Writing.{orElse}
 use Rattle.writing.proofs.Trip.{At, first, second, item-is}
 use Rattle.writing.proofs.Refusals.{both-zero, passed}
-use Rattle.dataset_message.specs.declared.flags.Encoding.{Encoding}
-use Rattle.dataset_message.specs.declared.flags.Kind.{Kind}
-use Rattle.dataset_message.specs.Flags.{valid}
-use Rattle.dataset_message.specs.Header.{headerAt}
-use Rattle.dataset_message.specs.Fields.{encodedAt, fieldAt, fieldsAt, paddingAt}
-use Rattle.dataset_message.specs.Message.{isDelta, isRaw, countedAt, countAt, messageAt, fieldPlaceAt}
+use Rattle.dataset_header.specs.declared.flags.Encoding.{Encoding}
+use Rattle.dataset_header.specs.declared.flags.Kind.{Kind}
+use Rattle.dataset_header.specs.Flags.{valid, isDelta, isRaw}
+use Rattle.dataset_header.specs.Header.{headerAt}
+use Rattle.dataset_fields.specs.Fields.{encodedAt, fieldAt, fieldsAt, paddingAt}
+use Rattle.dataset_message.specs.Message.{countedAt, countAt, messageAt, fieldPlaceAt}
 use Rattle.dataset_message.proofs.Agreement.{field-inside}
 use Rattle.dataset_parts_writer.specs.Flags.{kindRule}
 use Rattle.dataset_parts_writer.specs.Header.{headerBytes}

@@ -17,11 +17,11 @@ use Rattle.writing.proofs.Bits.{num-bit, num-bound, needed-bound, flag-is}
 use Rattle.writing.proofs.Back.{Back, empty, join, end-fits, item-back, ruled-back}
 use Rattle.writing.proofs.Refusals.{passed}
 use Rattle.writing.proofs.Trip.{At, Reads, first, second, item-is, ruled-is}
-use Rattle.dataset_message.specs.declared.flags.Encoding.{Encoding}
-use Rattle.dataset_message.specs.declared.flags.Kind.{Kind}
-use Rattle.dataset_message.specs.declared.flags.Flags.{Flags}
-use Rattle.dataset_message.specs.declared.header.Header.{Header}
-use Rattle.dataset_message.specs.Flags.{Valid, notValid, valid, encodingOf, kindOf, flags1Rule, flags2Rule, flags2At, flagsOf, flagsAt}
+use Rattle.dataset_header.specs.declared.flags.Encoding.{Encoding}
+use Rattle.dataset_header.specs.declared.flags.Kind.{Kind}
+use Rattle.dataset_header.specs.declared.flags.Flags.{Flags}
+use Rattle.dataset_header.specs.declared.header.Header.{Header}
+use Rattle.dataset_header.specs.Flags.{Valid, notValid, valid, encodingOf, kindOf, flags1Rule, flags2Rule, flags2At, flagsOf, flagsAt}
 use Rattle.dataset_parts_writer.specs.Flags.{encodingNumber, kindNumber, flags1Of, flags2Of, flagBytes, kindRule}
 use Rattle.writing.specs.Fits.{Bytes}
 

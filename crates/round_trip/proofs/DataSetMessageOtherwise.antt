@@ -15,14 +15,14 @@ use Rattle.wire.proofs.Reading.{invert, got-value, not-got}
 use Rattle.writing.specs.Writing.{orElse, picosecondsRefusal}
 use Rattle.writing.proofs.Trip.{At, first, second, item-is}
 use Rattle.writing.proofs.Refusals.{both-zero}
-use Rattle.dataset_message.specs.declared.flags.Encoding.{Encoding}
-use Rattle.dataset_message.specs.declared.flags.Kind.{Kind}
-use Rattle.dataset_message.specs.declared.header.Header.{Header}
-use Rattle.dataset_message.specs.declared.fields.Field.{Field}
-use Rattle.dataset_message.specs.Flags.{Valid, notValid, valid}
-use Rattle.dataset_message.specs.Header.{headerAt}
-use Rattle.dataset_message.specs.Fields.{encodedAt, fieldAt, fieldsAt, paddingAt}
-use Rattle.dataset_message.specs.Message.{Message, isDelta, isRaw, countedAt, countAt, bodyAt, fieldBytes, nthAt}
+use Rattle.dataset_header.specs.declared.flags.Encoding.{Encoding}
+use Rattle.dataset_header.specs.declared.flags.Kind.{Kind}
+use Rattle.dataset_header.specs.declared.header.Header.{Header}
+use Rattle.dataset_fields.specs.declared.fields.Field.{Field}
+use Rattle.dataset_header.specs.Flags.{Valid, notValid, valid, isDelta, isRaw}
+use Rattle.dataset_header.specs.Header.{headerAt}
+use Rattle.dataset_fields.specs.Fields.{encodedAt, fieldAt, fieldsAt, paddingAt}
+use Rattle.dataset_message.specs.Message.{Message, countedAt, countAt, bodyAt, fieldBytes, nthAt}
 use Rattle.dataset_parts_writer.specs.Flags.{kindRule}
 use Rattle.dataset_parts_writer.specs.Header.{headerBytes}
 use Rattle.dataset_parts_writer.specs.Fields.{endsAt, fieldsWhole, fieldsBytes, zeros}

@@ -13,9 +13,9 @@ use lib.ListN.{length, getD, take, drop, length-append}
 use lib.Seq.{getD-append-seam, getD-drop, take-at, drop-at, drop-cons, drop-length}
 use Rattle.round_trip.specs.DataSetMessage.{walked, bytesOf, joined, lengthsOf, indicesOf, FitsHeader}
 use Rattle.dataset_message.proofs.Agreement.{field-inside}
-use Rattle.dataset_message.specs.declared.header.Versions.{Versions}
-use Rattle.dataset_message.specs.declared.header.Times.{Times}
-use Rattle.dataset_message.specs.declared.flags.Flags.{Flags}
+use Rattle.dataset_header.specs.declared.header.Versions.{Versions}
+use Rattle.dataset_header.specs.declared.header.Times.{Times}
+use Rattle.dataset_header.specs.declared.flags.Flags.{Flags}
 use Rattle.writing.proofs.Back.{Back, empty, join, end-fits, part-at, item-back, ruled-back, map-back, optional16-back, optional32-back, optionalI64-back, ruled16-back}
 use Rattle.wire.proofs.Reading.{invert, got-value, got-next, not-got}
 use Rattle.wire.specs.declared.optional.Optional16.{Optional16}
@@ -26,12 +26,12 @@ use Rattle.wire.proofs.Facts.{and-left, and-right}
 use Rattle.value.specs.Value.{Measure}
 use Rattle.writing.specs.Writing.{optional16Bytes, optional32Bytes, optionalI64Bytes, picosecondsRefusal, byteBytes, on16, on32, onI64}
 use Rattle.writing.proofs.Trip.{At, Reads, first, second, item-is, optional16-is, optional32-is, optionalI64-is, picoseconds-is}
-use Rattle.dataset_message.specs.declared.flags.Encoding.{Encoding}
-use Rattle.dataset_message.specs.declared.header.Header.{Header}
-use Rattle.dataset_message.specs.declared.fields.Field.{Field}
-use Rattle.dataset_message.specs.Flags.{valid, Valid, notValid, flagsAt}
-use Rattle.dataset_message.specs.Header.{timesAt, versionsAt, headerAt, headerOf, bodyAt, afterFlags}
-use Rattle.dataset_message.specs.Fields.{encodedAt, indexAt, fieldAt, fieldsAt, zerosAt}
+use Rattle.dataset_header.specs.declared.flags.Encoding.{Encoding}
+use Rattle.dataset_header.specs.declared.header.Header.{Header}
+use Rattle.dataset_fields.specs.declared.fields.Field.{Field}
+use Rattle.dataset_header.specs.Flags.{valid, Valid, notValid, flagsAt}
+use Rattle.dataset_header.specs.Header.{timesAt, versionsAt, headerAt, headerOf, bodyAt, afterFlags}
+use Rattle.dataset_fields.specs.Fields.{encodedAt, indexAt, fieldAt, fieldsAt, zerosAt}
 use Rattle.dataset_parts_writer.specs.Flags.{flagBytes, kindRule}
 use Rattle.dataset_parts_writer.specs.Header.{timesBytes, versionsBytes, headerBytes}
 use Rattle.dataset_parts_writer.specs.Fields.{endsAt, fieldsWhole, indexBytes, fieldsBytes, zeros, total, valuesOf, numberOf, fieldsRefusal}

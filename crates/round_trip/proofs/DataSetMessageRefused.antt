@@ -18,13 +18,13 @@ use Rattle.value.specs.Value.{Measure}
 use Rattle.writing.specs.Writing.{orElse, needed, byteBytes, optional16Bytes, optionalI64Bytes, picosecondsRefusal}
 use Rattle.writing.proofs.Trip.{At, first, second, item-is, optional16-is, optionalI64-is}
 use Rattle.writing.proofs.Refusals.{or-case, number-broken, picoseconds-refuses}
-use Rattle.dataset_message.specs.declared.flags.Encoding.{Encoding}
-use Rattle.dataset_message.specs.declared.flags.Kind.{Kind}
-use Rattle.dataset_message.specs.declared.header.Header.{Header}
-use Rattle.dataset_message.specs.Flags.{valid, flags1Rule, flags2Rule, flagsAt}
-use Rattle.dataset_message.specs.Header.{timesAt, headerAt}
-use Rattle.dataset_message.specs.Fields.{encodedAt, fieldsAt}
-use Rattle.dataset_message.specs.Message.{isDelta, isRaw, countAt, messageAt}
+use Rattle.dataset_header.specs.declared.flags.Encoding.{Encoding}
+use Rattle.dataset_header.specs.declared.flags.Kind.{Kind}
+use Rattle.dataset_header.specs.declared.header.Header.{Header}
+use Rattle.dataset_header.specs.Flags.{valid, flags1Rule, flags2Rule, flagsAt, isDelta, isRaw}
+use Rattle.dataset_header.specs.Header.{timesAt, headerAt}
+use Rattle.dataset_fields.specs.Fields.{encodedAt, fieldsAt}
+use Rattle.dataset_message.specs.Message.{countAt, messageAt}
 use Rattle.dataset_parts_writer.specs.Flags.{kindNumber, flags1Of, flags2Of, flagBytes, kindRule}
 use Rattle.dataset_parts_writer.specs.Header.{timesBytes, versionsBytes, headerBytes}
 use Rattle.dataset_parts_writer.specs.Fields.{fieldsRefusal, reached, indexBytes, fieldsBytes, zeros}

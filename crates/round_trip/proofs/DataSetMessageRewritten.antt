@@ -11,20 +11,20 @@ use lib.Dec.{eqb, leb, ltb}
 use lib.ListN.{length, drop, take, take-append-drop, getD}
 use lib.Seq.{drop-drop}
 use Rattle.dataset_message.proofs.Agreement.{message-read}
-use Rattle.dataset_message.specs.declared.fields.Field.{Field}
-use Rattle.dataset_message.specs.declared.flags.Encoding.{Encoding}
+use Rattle.dataset_fields.specs.declared.fields.Field.{Field}
+use Rattle.dataset_header.specs.declared.flags.Encoding.{Encoding}
 use Rattle.dataset_message_writer.specs.Rewrite.{again, againWritten, againBuffer, Rewrites}
 use Rattle.wire.specs.Answer.{got, Answer, andThen}
 use Rattle.wire.proofs.Reading.{invert, got-value, got-next, not-got}
 use Rattle.writing.specs.Writing.{writtenBy, bufferBy, numberFor}
 use Rattle.writing.specs.declared.Written.{Written}
 use Rattle.writing.proofs.Back.{Back, empty, rest-is, end-fits, item-back}
-use Rattle.dataset_message.specs.declared.flags.Kind.{Kind}
-use Rattle.dataset_message.specs.declared.header.Header.{Header}
-use Rattle.dataset_message.specs.Flags.{Valid, notValid, valid}
-use Rattle.dataset_message.specs.Header.{headerAt}
-use Rattle.dataset_message.specs.Fields.{fieldsAt, paddingAt, fieldAt}
-use Rattle.dataset_message.specs.Message.{Message, isDelta, isRaw, countedAt, countAt, endAt, bodyAt, afterHeader, messageAt, fieldPlaceAt}
+use Rattle.dataset_header.specs.declared.flags.Kind.{Kind}
+use Rattle.dataset_header.specs.declared.header.Header.{Header}
+use Rattle.dataset_header.specs.Flags.{Valid, notValid, valid, isDelta, isRaw}
+use Rattle.dataset_header.specs.Header.{headerAt}
+use Rattle.dataset_fields.specs.Fields.{fieldsAt, paddingAt, fieldAt}
+use Rattle.dataset_message.specs.Message.{Message, countedAt, countAt, endAt, bodyAt, afterHeader, messageAt, fieldPlaceAt}
 use Rattle.dataset_parts_writer.specs.Header.{headerBytes}
 use Rattle.dataset_parts_writer.specs.Fields.{total, valuesOf, fieldsBytes, zeros}
 use Rattle.dataset_message_writer.specs.Message.{Given, hasFields, isKey, isFielded, isRawData, fieldsOf, countBytes, configuredRule, countAgrees, bodyRefusal, bodyAgrees, listsAgree, refusalOf, encode, writerNumber, Writes}

@@ -16,12 +16,12 @@ use Rattle.wire.specs.Optional.{optional16, optional32, picosecondsRule, picose
 use Rattle.wire.specs.declared.optional.Optional16.{Optional16}
 use Rattle.wire.proofs.Reading.{got-value, not-got, invert}
 use Rattle.network_header.specs.declared.flags.Flags.{Flags}
-use Rattle.network_header.specs.declared.publisher.PublisherId.{PublisherId}
+use Rattle.publisher_id.specs.declared.publisher.PublisherId.{PublisherId}
 use Rattle.network_header.specs.declared.group.GroupHeader.{GroupHeader}
 use Rattle.network_header.specs.declared.header.PayloadHeader.{PayloadHeader}
 use Rattle.network_header.specs.declared.header.Promoted.{Promoted}
 use Rattle.network_header.specs.Flags.{byte0Rule, extended1Rule, extended2Rule, flagsOf, flagsAt}
-use Rattle.network_header.specs.Publisher.{stringOf, lengthThen, stringAt, publisherAt}
+use Rattle.publisher_id.specs.Publisher.{stringOf, lengthThen, stringAt, publisherAt}
 use Rattle.network_header.specs.Group.{numberRule, numberAt, groupFlagsRule, groupFieldsAt, groupAt}
 use Rattle.network_header.specs.Header.{countRule, payloadHeaderAt, sizeRule, promotedAt}
 use Rattle.writing.specs.Writing.{picosecondsRefusal}

@@ -16,13 +16,13 @@ use Rattle.wire.specs.Optional.{optional16, optional32}
 use lib.IntN.{pos, negsuc}
 use Rattle.wire.proofs.Table.{below}
 use Rattle.wire.proofs.Reading.{got-value, got-next, not-got, invert}
-use Rattle.network_header.specs.declared.publisher.PublisherId.{PublisherId}
+use Rattle.publisher_id.specs.declared.publisher.PublisherId.{PublisherId}
 use Rattle.network_header.specs.declared.group.GroupFields.{GroupFields}
 use Rattle.network_header.specs.declared.group.GroupHeader.{GroupHeader}
 use Rattle.network_header.specs.declared.header.ClassId.{ClassId}
 use Rattle.network_header.specs.declared.header.PayloadHeader.{PayloadHeader}
 use Rattle.network_header.specs.declared.header.Promoted.{Promoted}
-use Rattle.network_header.specs.Publisher.{stringOf, lengthThen, stringAt, publisherOf, publisherAt}
+use Rattle.publisher_id.specs.Publisher.{stringOf, lengthThen, stringAt, publisherOf, publisherAt}
 use Rattle.network_header.specs.Group.{numberRule, numberAt, groupFlagsRule, groupFieldsAt, groupAt}
 use Rattle.network_header.specs.Header.{classAt, countRule, payloadHeaderAt, sizeRule, promotedAt}
 use Rattle.writing.specs.Writing.{optional16Bytes, optional32Bytes}

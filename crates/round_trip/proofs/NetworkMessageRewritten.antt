@@ -14,7 +14,7 @@ use Rattle.wire.specs.declared.optional.Optional16.{Optional16}
 use Rattle.wire.specs.declared.optional.OptionalI64.{OptionalI64}
 use Rattle.wire.proofs.Reading.{got-value, got-next, not-got, invert}
 use Rattle.network_header.specs.declared.flags.Flags.{Flags}
-use Rattle.network_header.specs.declared.publisher.PublisherId.{PublisherId}
+use Rattle.publisher_id.specs.declared.publisher.PublisherId.{PublisherId}
 use Rattle.network_header.specs.declared.group.GroupHeader.{GroupHeader}
 use Rattle.network_header.specs.declared.header.ClassId.{ClassId}
 use Rattle.network_header.specs.declared.header.PayloadHeader.{PayloadHeader}
@@ -24,7 +24,7 @@ use Rattle.network_message.specs.declared.envelope.Times.{Times}
 use Rattle.network_message.specs.declared.envelope.Envelope.{Envelope}
 use Rattle.network_message.specs.declared.envelope.Places.{Places}
 use Rattle.network_header.specs.Flags.{flagsAt}
-use Rattle.network_header.specs.Publisher.{publisherAt}
+use Rattle.publisher_id.specs.Publisher.{publisherAt}
 use Rattle.network_header.specs.Group.{groupAt}
 use Rattle.network_header.specs.Header.{classAt, payloadHeaderAt, promotedAt}
 use Rattle.network_message.specs.Payload.{configuredSizes, payloadAt}

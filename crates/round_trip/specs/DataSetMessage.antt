@@ -7,16 +7,16 @@ use lib.Dec.{leb, eqb}
 use lib.ListN.{take, drop, length, getD}
 use Rattle.value.specs.Value.{Measure}
 use Rattle.wire.specs.Answer.{Answer, got, refused}
-use Rattle.dataset_message.specs.declared.flags.Encoding.{Encoding}
-use Rattle.dataset_message.specs.declared.fields.Field.{Field}
-use Rattle.dataset_message.specs.Flags.{valid}
-use Rattle.dataset_message.specs.Fields.{fieldAt, encodedAt}
-use Rattle.dataset_message.specs.Message.{Message, isDelta, messageAt, fieldPlaceAt, fieldBytes}
+use Rattle.dataset_header.specs.declared.flags.Encoding.{Encoding}
+use Rattle.dataset_fields.specs.declared.fields.Field.{Field}
+use Rattle.dataset_header.specs.Flags.{valid, isDelta}
+use Rattle.dataset_fields.specs.Fields.{fieldAt, encodedAt}
+use Rattle.dataset_message.specs.Message.{Message, messageAt, fieldPlaceAt, fieldBytes}
 use Rattle.dataset_parts_writer.specs.Header.{headerBytes}
 use Rattle.dataset_parts_writer.specs.Fields.{fieldsBytes}
 use Rattle.dataset_message_writer.specs.Message.{Given, given, isKey, isFielded, isRawData, fieldsOf, countBytes, encode, refusalOf}
 use Rattle.dataset_message_writer.specs.Rewrite.{again}
-use Rattle.dataset_message.specs.declared.header.Header.{Header}
+use Rattle.dataset_header.specs.declared.header.Header.{Header}
 use Rattle.writing.specs.Fits.{Fits16, Fits32, FitsI64}
 
 -- where the first field of a written message starts, and where its last field ends

@@ -9,7 +9,7 @@ use Rattle.wire.specs.Number.{le, leBytes}
 use Rattle.wire.specs.declared.optional.Optional16.{Optional16}
 use Rattle.wire.specs.Answer.{Answer, got, refused}
 use Rattle.network_header.specs.declared.flags.Flags.{Flags}
-use Rattle.network_header.specs.declared.publisher.PublisherId.{PublisherId}
+use Rattle.publisher_id.specs.declared.publisher.PublisherId.{PublisherId}
 use Rattle.network_header.specs.declared.group.GroupFields.{GroupFields}
 use Rattle.network_header.specs.declared.group.GroupHeader.{GroupHeader}
 use Rattle.network_header.specs.declared.header.ClassId.{ClassId}

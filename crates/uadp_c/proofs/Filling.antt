@@ -9,12 +9,12 @@ use borrow.Author.Tests.{le-leb, lt-leb, lt-ltb, le-ltb}
 use lib.Dec.{leb}
 use lib.ListN.{length}
 use Rattle.wire.specs.Answer.{Answer, got, refused}
-use Rattle.wire.specs.Store.{laid}
+use Rattle.store.specs.Store.{laid}
 use Rattle.config.specs.declared.ConfigRead.{ConfigRead}
 use Rattle.config.specs.Config.{configOf}
-use Rattle.dataset_message.specs.Flags.{Valid}
+use Rattle.dataset_header.specs.Flags.{Valid}
 use Rattle.dataset_message.specs.Message.{Message, messageAt, fieldPlaceAt}
-use Rattle.dataset_message.specs.declared.fields.Field.{Field}
+use Rattle.dataset_fields.specs.declared.fields.Field.{Field}
 use Rattle.records.specs.Result.{resultOf, Filling, resultIn, filledIn}
 use Rattle.records.specs.Writers.{typesFor, configFilling, configBytes}
 use Rattle.uadp_c.specs.Fields.{headFilling, fieldFilling}

@@ -7,7 +7,7 @@ use mathlib.Core.List.{List}
 use borrow.Author.Tests.{lt-ltb, le-ltb}
 use lib.Dec.{eqb}
 use lib.ListN.{length, take}
-use Rattle.wire.specs.Store.{laid}
+use Rattle.store.specs.Store.{laid}
 use Rattle.reassembly.specs.Record.{partial}
 use Rattle.reassembly.specs.Reading.{readingAt}
 use Rattle.reassembly.specs.Operations.{Step, stepOf, takeIn, combine, askComplete, judgeHandOut}

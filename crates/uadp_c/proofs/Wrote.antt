@@ -12,7 +12,7 @@ use Rattle.network_message.specs.Envelope.{networkMessageAt}
 use Rattle.network_message_writer.specs.Envelope.{rewriteAnswer, rewriteBuffer}
 use Rattle.dataset_message.specs.Message.{messageAt}
 use Rattle.dataset_message_writer.specs.Rewrite.{againWritten, againBuffer, Rewrites}
-use Rattle.dataset_message.specs.declared.header.Header.{Header}
+use Rattle.dataset_header.specs.declared.header.Header.{Header}
 use Rattle.network_message.specs.declared.envelope.Envelope.{Envelope}
 use Rattle.network_message_writer.specs.Envelope as datagram
 use Rattle.dataset_message_writer.specs.Message as message

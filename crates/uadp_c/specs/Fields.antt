@@ -6,11 +6,11 @@ use lib.Dec.{ltb}
 use lib.ListN.{length}
 use Rattle.wire.specs.Number.{leBytes}
 use Rattle.wire.specs.Answer.{Answer, got, refused, mapAnswer}
-use Rattle.wire.specs.Store.{laid}
-use Rattle.dataset_message.specs.Flags.{Valid, notValid, valid}
+use Rattle.store.specs.Store.{laid}
+use Rattle.dataset_header.specs.Flags.{Valid, notValid, valid}
 use Rattle.dataset_message.specs.Message.{Message}
-use Rattle.dataset_message.specs.Fields.{Stepped}
-use Rattle.dataset_message.specs.declared.fields.Field.{Field}
+use Rattle.dataset_fields.specs.Fields.{Stepped}
+use Rattle.dataset_fields.specs.declared.fields.Field.{Field}
 use Rattle.records.specs.Numbers.{numberBytes}
 use Rattle.records.specs.Result.{resultOf, Filling}
 use Rattle.message_record.specs.Message.{headNumbers, fieldNumbers}

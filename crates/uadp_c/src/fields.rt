@@ -1,6 +1,6 @@
 // Reading a message's head and its fields.
-use dataset_message::fields::FieldRead;
-use dataset_message::fields::FieldStep;
+use dataset_fields::fields::FieldRead;
+use dataset_fields::fields::FieldStep;
 use dataset_message::message::MessageRead;
 use dataset_message::message::field_place;
 use dataset_message::message::read;
@@ -10,9 +10,9 @@ use message_record::message::put_head;
 use message_record::message::put_no_head;
 use records::result::result;
 use records::writers::types_for;
-use wire::store::put64;
+use store::put64;
 ghost use mathlib.Core.Path.{_≡_};
-ghost use Rattle.dataset_message.specs.Fields.{stepAt};
+ghost use Rattle.dataset_fields.specs.Fields.{stepAt};
 ghost use Rattle.dataset_message.specs.Message.{messageAt, fieldPlaceAt};
 ghost use Rattle.records.specs.Result.{resultIn, filledIn};
 ghost use Rattle.records.specs.Writers.{typesFor};

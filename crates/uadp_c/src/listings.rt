@@ -1,6 +1,6 @@
 // A datagram's listing.
 use crate::rewrites::written_result;
-use config::writers::first;
+use configured_writers::first;
 use listing_text::put_listing;
 use records::writers::ids;
 use records::writers::sizes;

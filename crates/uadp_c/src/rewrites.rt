@@ -1,5 +1,5 @@
 // Datagrams and messages read and written again.
-use config::writers::first;
+use configured_writers::first;
 use records::result::result;
 use records::writers::sizes;
 use records::writers::types_for;

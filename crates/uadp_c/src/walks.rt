@@ -1,5 +1,5 @@
 // A datagram walked in one call.
-use config::writers::first;
+use configured_writers::first;
 use records::result::result;
 use records::writers::ids;
 use records::writers::sizes;

@@ -1,8 +1,8 @@
 // The listing program: the configuration from `readers.txt`, a datagram from standard input, its listing to standard output. What is listed, and
 // how, is the library's (`listing`); a read error gets a message on standard error.
 use config::Config;
-use config::writers::first;
-use config::writers::writer_count;
+use configured_writers::first;
+use configured_writers::writer_count;
 use libc::ENOENT;
 use libc::STDIN_FILENO;
 use libc::STDOUT_FILENO;

@@ -1,4 +1,4 @@
--- Small laws for the heads of values and for a DataValue's parts.
+-- Small laws for the heads of values.
 -- Assumes nothing.
 use mathlib.Core.Path.{_≡_, refl, sym, ap, _∙_}
 use mathlib.Core.Bool.{Bool, true, false, cond, _||_}
@@ -11,11 +11,13 @@ use Rattle.wire.specs.Answer.{Answer, got, refused, Reader, andThen, _>>=_, ite
 use Rattle.wire.specs.Items.{answer8, answerReached}
 use Rattle.wire.specs.declared.Item8.{Item8}
 use Rattle.wire.specs.declared.Reached.{Reached}
-use Rattle.value.specs.Plain.{passing, plain}
-use Rattle.value.specs.Value.{Measure, measure, variantRule, maskRule, scalar, elements, arrayOf, variantOf, parts, dataValueOf, valueOf, tooDeep, valueAt}
+use Rattle.value_items.specs.Plain.{passing, plain}
+use Rattle.value.specs.Value.{Measure, measure, variantRule, maskRule, scalar, elements, arrayOf, variantOf, dataValueOf, valueOf, tooDeep, valueAt}
+use Rattle.value_items.specs.Parts.{parts}
 use Rattle.value.specs.Head.{ended, finish}
 use Rattle.value.specs.declared.Shape.{Shape}
 use Rattle.value.specs.declared.head.Head.{Head}
+use Rattle.value_items.proofs.PartLaws.{then-none}
 
 pub or3 : (a b c : Bool) → (a || (b || (c || false))) ≡ ((a || b) || c)
 or3 true b c = refl
@@ -28,15 +30,6 @@ told-byte at e q = sym e ∙ ap (answer8 at) q
 
 pub told-no-byte : (at : ℕ) {r : Item8} {z : Answer ℕ} → answer8 at r ≡ z → r ≡ Item8.Short → z ≡ refused 1 at
 told-no-byte at e q = sym e ∙ ap (answer8 at) q
-
--- nothing more to read
-pub then-none : (x : Answer (Unit {0})) → x ≡ andThen x (λ a next. got tt next)
-then-none (got tt next) = refl
-then-none (refused n place) = refl
-
-pub then-then : {A B C : Type 0} (x : Answer A) (f : A → ℕ → Answer B) (g : B → ℕ → Answer C) → andThen (andThen x f) g ≡ andThen x (λ a next. andThen (f a next) g)
-then-then (got a next) f g = refl
-then-then (refused n place) f g = refl
 
 -- one value where the lowest bit is set, else none
 bit-each : {A : Type 0} (r : Reader A) (k : ℕ) → k < 2 → (s : List ℕ) (at : ℕ) → each r k s at ≡ whenOn (eqb k 1) tt (passing r) s at

@@ -1,9 +1,6 @@
-pub mod Widths
 pub mod Heads
-pub mod Passing
 pub mod FirstItems
 pub mod FirstByte
-pub mod Parts
 pub mod Runs
 pub mod Lengths
 pub mod Values

@@ -12,9 +12,10 @@ use borrow.Author.Tests.{leb-true, leb-false}
 use Rattle.wire.specs.Number.{le}
 use Rattle.wire.specs.Answer.{got, refused, Reader, _>>=_, ruled, bit}
 use Rattle.wire.specs.declared.Length.{Length}
-use Rattle.value.specs.Width.{widthOf, fixed}
-use Rattle.value.specs.Plain.{passing, bytes, afterLength, byLength, string, plain, plainValue, plainValues}
-use Rattle.value.specs.Value.{Measure, measure, typeOf, isArray, variantRule, scalar, elements, array, variantOf, maskRule, parts, dataValueOf, tooDeep, valueAt, rawAt}
+use Rattle.value_items.specs.Width.{widthOf, fixed}
+use Rattle.value_items.specs.Parts.{parts}
+use Rattle.value_items.specs.Plain.{passing, bytes, afterLength, byLength, string, plain, plainValue, plainValues}
+use Rattle.value.specs.Value.{Measure, measure, typeOf, isArray, variantRule, scalar, elements, array, variantOf, maskRule, dataValueOf, tooDeep, valueAt, rawAt}
 use Rattle.value.specs.declared.Shape.{Shape}
 use Rattle.wire.proofs.Places.{movedBy, end-of, within-refused, local, append, append-refused, take-refused, cut, after, placed, alone}
 use Rattle.wire.proofs.Steady.{Ends, Steady, Onward, steadily, refusing, pure-steady, refuse-steady, item-steady, length-item-steady, run-steady, onward-steady, bind-steady, then-steady, cond-steady, when-steady, each-steady, ruled-ends, ruled-steady, taking-ends, then-ends}

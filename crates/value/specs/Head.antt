@@ -4,13 +4,14 @@ use mathlib.Core.Bool.{cond, _||_}
 use mathlib.Core.List.{List}
 use lib.Dec.{eqb, leb, ltb}
 use lib.ListN.{length, getD}
-use Rattle.wire.specs.Answer.{Answer, got, refused, Reader, andThen, _>>_, pure, item, each, bit}
+use Rattle.wire.specs.Answer.{Answer, got, refused, Reader, andThen, _>>_, pure, item, each}
 use Rattle.wire.specs.Items.{lengthItem}
 use Rattle.wire.specs.declared.Length.{Length}
 use Rattle.wire.specs.declared.Reached.{Reached}
-use Rattle.value.specs.Width.{widthOf}
-use Rattle.value.specs.Plain.{bytes, byLength}
-use Rattle.value.specs.Value.{Measure, measure, typeOf, isArray, parts}
+use Rattle.value_items.specs.Width.{widthOf}
+use Rattle.value_items.specs.Plain.{bytes, byLength}
+use Rattle.value_items.specs.Parts.{parts}
+use Rattle.value.specs.Value.{Measure, measure, typeOf, isArray}
 use Rattle.value.specs.declared.Shape.{Shape}
 use Rattle.value.specs.declared.head.Head.{Head}
 
@@ -28,10 +29,6 @@ finish nested s (Head.Holds from count inner mask) = (each (nested inner) count 
 -- an item v at `place` is judged by its rule, and k follows
 abbrev pub judged : (ℕ → ℕ) → ℕ → ℕ → (ℕ → Reader Measure) → Reader Measure
 judged rule v place k s at = andThen (cond (eqb (rule v) 0) (got v at) (refused (rule v) place)) (λ x next. k x s next)
-
--- how many bytes a DataValue's parts after its Variant have together
-abbrev pub partsWidth : ℕ → ℕ
-partsWidth m = cond (bit 2 m) 4 0 + (cond (bit 4 m) 8 0 + (cond (bit 16 m) 2 0 + (cond (bit 8 m) 8 0 + cond (bit 32 m) 2 0)))
 
 -- the position after a Variant that is a scalar of a fixed type and fits; for any other the position itself
 abbrev pub fixedEnd : List ℕ → ℕ → ℕ

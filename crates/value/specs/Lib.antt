@@ -1,4 +1,2 @@
-pub mod Width
-pub mod Plain
 pub mod Value
 pub mod Head

@@ -4,8 +4,9 @@ use mathlib.Core.List.{[], _∷_}
 use mathlib.Core.Bool.{Bool, cond, not, _&&_, _||_}
 use lib.Dec.{eqb}
 use Rattle.wire.specs.Answer.{Answer, got, refused, Reader, andThen, _>>=_, _>>_, pure, refuse, item, ruled, whenOn, each, bit}
-use Rattle.value.specs.Width.{among, widthOf, fixed}
-use Rattle.value.specs.Plain.{passing, bytes, byLength, plain, plainValue, plainValues}
+use Rattle.value_items.specs.Width.{among, widthOf, fixed}
+use Rattle.value_items.specs.Plain.{passing, bytes, byLength, plain, plainValue, plainValues}
+use Rattle.value_items.specs.Parts.{parts}
 use Rattle.value.specs.declared.Shape.{Shape}
 use Rattle.value.specs.declared.Measured.{Measured}
 
@@ -80,16 +81,6 @@ variantOf nested b =
 -- "mask, bits 6 or 7 set is 3"
 abbrev pub maskRule : ℕ → ℕ
 maskRule m = cond (bit 64 m || bit 128 m) 3 0
-
--- after the mask's Variant by bit "1 status 4, 2 source time 8, 4 source picoseconds 2, 3 server time 8,
--- 5 server picoseconds 2"
-unfoldable pub parts : ℕ → Reader (Unit {0})
-parts m = do
-  whenOn (bit 2 m) tt (bytes 4)
-  whenOn (bit 4 m) tt (bytes 8)
-  whenOn (bit 16 m) tt (bytes 2)
-  whenOn (bit 8 m) tt (bytes 8)
-  whenOn (bit 32 m) tt (bytes 2)
 
 -- what follows a DataValue's mask m: "then by bit 0 a Variant" and the other parts
 abbrev pub dataValueOf : (ℕ → Reader Measure) → ℕ → Reader Measure

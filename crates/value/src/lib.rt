@@ -1,12 +1,10 @@
 // Encoded values of Part 6, measured at a position of a slice: a Variant, a DataValue, an element of RawData.
 mod head;
-mod plain;
-pub mod width;
 
 use head::Head;
 use head::head_at;
-use plain::bytes_at;
-use width::packed_width;
+use value_items::parts::parts_at;
+use value_items::width::packed_width;
 use wire::Item8;
 use wire::ItemLength;
 use wire::Reached;
@@ -15,13 +13,12 @@ use wire::left;
 use wire::read_length;
 use wire::read8;
 ghost use mathlib.Core.Path.{_≡_};
-ghost use mathlib.Core.Bool.{cond};
 ghost use Prim.Native.Nat.{_≤_, _<_};
-ghost use Rattle.wire.specs.Answer.{got, andThen, whenOn, each};
+ghost use Rattle.wire.specs.Answer.{got, each};
 ghost use Rattle.wire.specs.Items.{answerReached};
-ghost use Rattle.value.specs.Plain.{passing, bytes};
-ghost use Rattle.value.specs.Value.{answerMeasured, parts, tooDeep, valueAt, variantAt, dataValueAt, rawAt};
-ghost use Rattle.value.specs.Head.{partsWidth, fixedEnd, unitOf, units, arrayAt, describedAt};
+ghost use Rattle.value_items.specs.Plain.{passing, bytes};
+ghost use Rattle.value.specs.Value.{answerMeasured, tooDeep, valueAt, variantAt, dataValueAt, rawAt};
+ghost use Rattle.value.specs.Head.{fixedEnd, unitOf, units, arrayAt, describedAt};
 
 // A scalar, a null array, or an array with its element count.
 pub enum Shape {
@@ -37,64 +34,6 @@ pub enum Measured {
     NullArray(u8, usize),
     Array(u8, usize, usize),
     Refused(u8, usize),
-}
-
-// A part of w bytes after what was reached, where the mask's bit is on.
-fn part_if(s: &[u8], on: bool, w: usize, r: Reached) -> Reached
-    ensures { λ z. ⌜ answerReached z ≡ andThen (answerReached r) (λ x next. whenOn on tt (bytes w) (now (s .entry)) next) ⌝ }
-{
-    if on {
-        match r {
-            Reached::To(at) => bytes_at(s, at, w),
-            Reached::Refused(number, place) => Reached::Refused(number, place),
-        }
-    } else {
-        r
-    }
-}
-
-// A DataValue's parts after its Variant, in wire order, up to the first that does not fit.
-fn parts_in_order(s: &[u8], at: usize, m: u8) -> Reached
-    ensures { λ r. ⌜ answerReached r ≡ parts m (now (s .entry)) at ⌝ }
-{
-    let status = part_if(s, m / 2 % 2 == 1, 4, Reached::To(at));
-    let source = part_if(s, m / 4 % 2 == 1, 8, status);
-    let source_picoseconds = part_if(s, m / 16 % 2 == 1, 2, source);
-    let server = part_if(s, m / 8 % 2 == 1, 8, source_picoseconds);
-    part_if(s, m / 32 % 2 == 1, 2, server)
-}
-
-fn width_if(on: bool, w: usize) -> usize
-    ensures { λ r. ⌜ (r ≡ cond on w 0) × (r ≤ w) ⌝ }
-{
-    if on {
-        return w;
-    }
-    0
-}
-
-// How many bytes a DataValue's parts after its Variant have together.
-fn parts_width(m: u8) -> usize
-    ensures { λ r. ⌜ r ≡ partsWidth m ⌝ }
-{
-    width_if(m / 2 % 2 == 1, 4)
-        + (width_if(m / 4 % 2 == 1, 8)
-            + (width_if(m / 16 % 2 == 1, 2)
-                + (width_if(m / 8 % 2 == 1, 8) + width_if(m / 32 % 2 == 1, 2))))
-}
-
-// A DataValue's parts after its Variant. Most have none, or all fit, and then only their width counts.
-fn parts_at(s: &[u8], at: usize, m: u8) -> Reached
-    ensures { λ r. ⌜ answerReached r ≡ parts m (now (s .entry)) at ⌝ }
-{
-    if m < 2 {
-        return Reached::To(at);
-    }
-    let w = parts_width(m);
-    if has(s.len(), at, w) {
-        return Reached::To(at + w);
-    }
-    parts_in_order(&*s, at, m)
 }
 
 // A value past the last level.

@@ -1,3 +1,4 @@
 pub mod Records
 pub mod Lines
 pub mod Answers
+pub mod Raw

@@ -11,19 +11,20 @@ use lib.ListN.{length, drop, length-append, length-take}
 use Rattle.wire.specs.Answer.{Answer, got, refused}
 use Rattle.wire.proofs.Reading.{got-value, got-next, not-got, invert}
 use Rattle.wire.specs.declared.optional.Optional16.{Optional16}
+use Rattle.configured_writers.specs.Writers.{typesOf}
 use Rattle.network_message.specs.Payload.{Stepped as MessageStepped, stepAt as messageStepAt, sizeOf, messageAt}
 use Rattle.network_message.specs.declared.payload.Payload.{Payload}
 use Rattle.network_message.specs.declared.payload.MessagePlace.{MessagePlace}
 use Rattle.network_message.specs.declared.payload.MessageCursor.{MessageCursor}
 use Rattle.network_message.proofs.Messages.{message-counted}
-use Rattle.dataset_message.specs.Flags.{Valid, notValid, valid}
-use Rattle.dataset_message.specs.Fields.{encodedAt, indexAt, fieldAt, Stepped, stepAt, before}
+use Rattle.dataset_header.specs.Flags.{Valid, notValid, valid}
+use Rattle.dataset_fields.specs.Fields.{encodedAt, indexAt, fieldAt, Stepped, stepAt, before}
 use Rattle.dataset_message.specs.Message.{Message, messageAt as readAt}
-use Rattle.dataset_message.specs.declared.flags.Encoding.{Encoding}
-use Rattle.dataset_message.specs.declared.fields.Field.{Field}
-use Rattle.dataset_message.specs.declared.fields.Cursor.{Cursor}
+use Rattle.dataset_header.specs.declared.flags.Encoding.{Encoding}
+use Rattle.dataset_fields.specs.declared.fields.Field.{Field}
+use Rattle.dataset_fields.specs.declared.fields.Cursor.{Cursor}
 use Rattle.dataset_message.proofs.Agreement.{field-inside}
-use Rattle.listing.specs.Lines.{placeAt, fieldThen as lineThen, messageThen, Writers, inDatagram, fieldsLeft, messagesLeft, firstMessage, typesOf, writerAt, typesAt, bytesAt, fieldLines, setLines, messageLines}
+use Rattle.listing.specs.Lines.{placeAt, fieldThen as lineThen, messageThen, Writers, inDatagram, fieldsLeft, messagesLeft, firstMessage, writerAt, typesAt, bytesAt, fieldLines, setLines, messageLines}
 use Rattle.listing_line.specs.declared.line.Line.{Line}
 use Rattle.listing.specs.declared.lines.Listed.{Listed}
 use Rattle.walking.specs.Walk.{recordsPut}

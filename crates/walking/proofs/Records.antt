@@ -2,23 +2,18 @@
 -- Assumes nothing.
 use Prim.Native.Nat.{ℕ, suc, _+_, _*_, _/_, _≤_, _<_}
 use mathlib.Core.Path.{_≡_, ap, sym, _∙_}
-use mathlib.Core.Bool.{true, false}
 use mathlib.Core.List.{List, [], _∷_, _++_, append-nil, append-assoc}
 use native.Mathlib.Nat.{add-zero}
 use native.Mathlib.Omega.{arith}
-use borrow.Author.Tests.{le-leb, lt-leb, le-ltb, lt-ltb}
-use lib.Dec.{ltb}
+use borrow.Author.Tests.{le-leb, lt-leb}
 use lib.ListN.{length, take, drop, length-append, length-take, length-drop, drop-of-length-le}
 use lib.Seq.{sets, sets-eq, drop-drop, length-take-le}
-use Rattle.wire.specs.Store.{laid}
+use Rattle.store.specs.Store.{laid}
 use Rattle.wire.specs.Answer.{Answer, got, refused}
 use Rattle.wire.specs.declared.optional.Optional16.{Optional16}
 use Rattle.network_message.specs.declared.payload.MessagePlace.{MessagePlace}
-use Rattle.dataset_message.specs.Flags.{Valid, notValid, valid}
+use Rattle.dataset_header.specs.Flags.{Valid, notValid, valid}
 use Rattle.dataset_message.specs.Message.{Message, messageAt}
-use Rattle.text.specs.Words.{contains, indexOf}
-use Rattle.config.specs.Writers.{fieldsOf, fieldsOfId}
-use Rattle.config.proofs.Asked.{place-contains}
 use Rattle.records.specs.Numbers.{numberBytes}
 use Rattle.message_record.specs.Message.{kindNumber, encodingNumber}
 use Rattle.records.proofs.Storing.{bytes-length}
@@ -46,17 +41,6 @@ record-put xs l e k m n h j q =
     rw (le-leb (at + length b) (length l) (omega arith))
     (ap (λ (t : List ℕ). take at l ++ (t ++ drop m (drop at l))) f ∙ ap (λ (t : List ℕ). take at l ++ (b ++ t)) (drop-drop m at l)
     ∙ ap (λ (i : ℕ). take at l ++ (b ++ drop i l)) z ∙ sym (append-assoc (take at l) b (drop (at + length b) l)) ∙ sym (sets-eq b l at (omega arith)))
-
--- the field types of a writer: of an id that no writer has, and of writer k
-pub types-none : (ids starts types r : List ℕ) (w k : ℕ) → k ≡ indexOf w ids → length ids ≤ k → r ≡ take 0 (drop 0 types) → r ≡ fieldsOfId ids starts types w
-types-none ids starts types r w k p h q =
-    let e : contains w ids ≡ false = sym (place-contains w ids) ∙ ap (λ (x : ℕ). ltb x (length ids)) (sym p) ∙ le-ltb k (length ids) h in
-    rw e q
-
-pub types-some : (ids starts types r : List ℕ) (w k : ℕ) → k ≡ indexOf w ids → k < length ids → r ≡ fieldsOf starts types k → r ≡ fieldsOfId ids starts types w
-types-some ids starts types r w k p h q =
-    let e : contains w ids ≡ true = sym (place-contains w ids) ∙ ap (λ (x : ℕ). ltb x (length ids)) (sym p) ∙ lt-ltb k (length ids) h in
-    rw e (q ∙ ap (fieldsOf starts types) p)
 
 -- the records of some lines, and then those of others
 pub puts-append : (xs ys : List Line) (k : ℕ) (l : List ℕ) → recordsPut (k + length xs) ys (recordsPut k xs l) ≡ recordsPut k (xs ++ ys) l

@@ -4,14 +4,14 @@ use mathlib.Core.List.{List, [], _∷_}
 use lib.ListN.{take, drop}
 use Rattle.wire.specs.Answer.{Answer, got, refused}
 use Rattle.wire.specs.declared.optional.Optional16.{Optional16}
-use Rattle.network_header.specs.declared.publisher.PublisherId.{PublisherId}
+use Rattle.publisher_id.specs.declared.publisher.PublisherId.{PublisherId}
 use Rattle.network_header.specs.declared.header.PayloadHeader.{PayloadHeader}
 use Rattle.network_message.specs.declared.payload.Payload.{Payload}
 use Rattle.network_message.specs.declared.payload.MessagePlace.{MessagePlace}
-use Rattle.dataset_message.specs.Flags.{Valid, notValid, valid}
-use Rattle.dataset_message.specs.Fields.{Stepped, stepAt}
+use Rattle.dataset_header.specs.Flags.{Valid, notValid, valid}
+use Rattle.dataset_fields.specs.Fields.{Stepped, stepAt}
 use Rattle.dataset_message.specs.Message.{Message, messageAt}
-use Rattle.dataset_message.specs.declared.fields.Cursor.{Cursor}
+use Rattle.dataset_fields.specs.declared.fields.Cursor.{Cursor}
 use Rattle.listing.specs.Lines.{Writers, inDatagram, fieldsLeft, messagesLeft, firstMessage, messageLines}
 use Rattle.listing_line.specs.declared.line.SetPlace.{SetPlace}
 use Rattle.listing_line.specs.declared.line.Line.{Line}

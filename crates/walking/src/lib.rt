@@ -1,11 +1,11 @@
 // A datagram walked in one call: a record of 8 numbers for each of its messages and fields.
-use config::writers::find_writer;
-use config::writers::writer_fields;
-use dataset_message::fields::Cursor;
-use dataset_message::fields::Field;
-use dataset_message::fields::FieldRead;
-use dataset_message::fields::field_in_line;
-use dataset_message::flags::Encoding;
+use configured_writers::types_of;
+use dataset_fields::fields::Cursor;
+use dataset_fields::fields::Field;
+use dataset_fields::fields::FieldRead;
+use dataset_fields::fields::field_in_line;
+use dataset_header::flags::Encoding;
+use dataset_header::flags::is_raw;
 use dataset_message::message::MessageRead;
 use dataset_message::message::read;
 use message_record::message::elements_number;
@@ -20,19 +20,22 @@ use network_message::payload::MessageStep;
 use network_message::payload::Payload;
 use network_message::writer_id::writer_id;
 use records::numbers::put_numbers;
+use value::Shape;
+use value_items::width::packed_width;
 use wire::optional::Optional16;
 use wire::part::part;
 ghost use mathlib.Core.Path.{_≡_};
-ghost use mathlib.Core.Bool.{true};
+ghost use mathlib.Core.Bool.{true, false};
 ghost use mathlib.Core.List.{[], _∷_};
 ghost use Prim.Native.Nat.{_+_, _*_, _≤_};
 ghost use lib.ListN.{length};
-ghost use Rattle.wire.specs.Store.{laid};
+ghost use Rattle.store.specs.Store.{laid};
 ghost use Rattle.wire.specs.Answer.{got};
-ghost use Rattle.dataset_message.specs.Fields.{fieldAt, fieldsAt, answerField};
-ghost use Rattle.dataset_message.specs.declared.fields.Field.{Field};
+ghost use Rattle.dataset_header.specs.Flags.{isRaw};
+ghost use Rattle.dataset_fields.specs.Fields.{fieldAt, fieldsAt, answerField};
+ghost use Rattle.dataset_fields.specs.declared.fields.Field.{Field};
 ghost use Rattle.records.specs.Numbers.{numberBytes};
-ghost use Rattle.listing.specs.Lines.{writers, typesOf, inDatagram, fieldsLeft};
+ghost use Rattle.listing.specs.Lines.{writers, inDatagram, fieldsLeft};
 ghost use Rattle.listing_line.specs.declared.line.Line.{Line};
 ghost use Rattle.walking.specs.Walk.{orNone, recordLaid, recordsPut, walkLines, walkOf};
 ghost use Rattle.walking.specs.Parts.{fieldsFrom, setFrom, bare, payloadLines};
@@ -111,20 +114,6 @@ fn put_message(
     put_record(out, k, &numbers);
 }
 
-// The configured field types of the writer with an id.
-fn types_of<'a>(ids: &'a [u16], starts: &'a [u8], types: &'a [u8], writer: Optional16) -> &'a [u8]
-    ensures { λ r. ⌜ now r ≡ typesOf (now (ids .entry)) (now (starts .entry)) (now (types .entry)) writer ⌝ }
-{
-    let Optional16::Is(id) = writer else {
-        return part(types, 0, 0);
-    };
-    let k = find_writer(ids, id);
-    if ids.len() <= k {
-        return part(types, 0, 0);
-    }
-    writer_fields(starts, types, k)
-}
-
 // Field k of a message, which starts at a position. Of the last field it is known that it is accepted and ends at `end`.
 fn field_at(
     s: &[u8],
@@ -142,9 +131,45 @@ fn field_at(
     field_in_line(s, encoding, delta, types, k, at, last, end)
 }
 
+// Puts the records of the fields of RawData from the cursor on, which are accepted and end at `end`, the first of them record k: each has its type's
+// width, and nothing is tested again. Answers the number of the record after them. `message` and `end` stand in the contract only.
+fn walk_raw(
+    out: &mut [u8],
+    first: usize,
+    message: &[u8],
+    types: &[u8],
+    p: MessagePlace,
+    c: Cursor,
+    end: usize,
+) -> usize
+    requires { ⌜ (first + length (now message) ≤ 18446744073709551615) × (p .offset + length (now message) ≤ 18446744073709551615) × (fieldsAt (c .delta) (c .encoding) (now types) (fieldsLeft c) (c .next) (now message) (c .at) ≡ got tt end) × (c .delta ≡ false) × (isRaw (c .encoding) ≡ true) ⌝ }
+    ensures { λ r. ⌜ (r ≡ first + length (fieldsFrom (now (types .entry)) (now (message .entry)) p (fieldsLeft c) c)) × (now (out .exit) ≡ recordsPut first (fieldsFrom (now (types .entry)) (now (message .entry)) p (fieldsLeft c) c) (now (out .entry))) ⌝ }
+{
+    let mut at = c.at;
+    let mut i = c.next;
+    let mut k = first;
+    while i < c.count {
+        let kind = types[i];
+        let length = packed_width(kind);
+        let shape = Shape::Scalar;
+        let field = Field {
+            length,
+            index: i,
+            kind,
+            shape,
+            offset: at,
+        };
+        put_field(out, k, p, field);
+        at += length;
+        i += 1;
+        k += 1;
+    }
+    k
+}
+
 // Puts the records of a message's fields from the cursor on, which end at `end`, the first of them record k; answers the number of the record
 // after them.
-fn walk_fields(
+fn walk_each(
     out: &mut [u8],
     first: usize,
     message: &[u8],
@@ -175,6 +200,26 @@ fn walk_fields(
         k += 1;
     }
     k
+}
+
+// Puts the records of a message's fields from the cursor on: of RawData by their types alone, of others by reading each again.
+fn walk_fields(
+    out: &mut [u8],
+    first: usize,
+    message: &[u8],
+    types: &[u8],
+    p: MessagePlace,
+    c: Cursor,
+    end: usize,
+) -> usize
+    requires { ⌜ (first + length (now message) ≤ 18446744073709551615) × (p .offset + length (now message) ≤ 18446744073709551615) × (fieldsAt (c .delta) (c .encoding) (now types) (fieldsLeft c) (c .next) (now message) (c .at) ≡ got tt end) ⌝ }
+    ensures { λ r. ⌜ (r ≡ first + length (fieldsFrom (now (types .entry)) (now (message .entry)) p (fieldsLeft c) c)) × (now (out .exit) ≡ recordsPut first (fieldsFrom (now (types .entry)) (now (message .entry)) p (fieldsLeft c) c) (now (out .entry))) ⌝ }
+{
+    let encoding = c.encoding;
+    if !c.delta & is_raw(encoding) {
+        return walk_raw(out, first, message, types, p, c, end);
+    }
+    walk_each(out, first, message, types, p, c, end)
 }
 
 // Puts the records of the message in a place, the first of them record k; answers the number of the record after them.

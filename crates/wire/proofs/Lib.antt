@@ -4,5 +4,4 @@ pub mod Reading
 pub mod Steady
 pub mod Places
 pub mod Each
-pub mod Stores
 pub mod Table

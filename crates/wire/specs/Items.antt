@@ -14,6 +14,7 @@ use Rattle.wire.specs.declared.Item64.{Item64}
 use Rattle.wire.specs.declared.ItemI32.{ItemI32}
 use Rattle.wire.specs.declared.ItemI64.{ItemI64}
 use Rattle.wire.specs.declared.Run.{Run}
+use Rattle.wire.specs.declared.FlagByte.{FlagByte}
 use Rattle.wire.specs.declared.Reached.{Reached}
 use Rattle.wire.specs.declared.Guid.{Guid}
 use Rattle.wire.specs.declared.ItemGuid.{ItemGuid}
@@ -47,6 +48,11 @@ answerI64 at ItemI64.Short = refused 1 at
 abbrev pub answerRun : ℕ → ℕ → Run → Answer ℕ
 answerRun at n (Run.To next) = got n next
 answerRun at n Run.Short = refused 1 at
+
+-- a flag byte, or its refusal
+abbrev pub answerByte : FlagByte → Answer ℕ
+answerByte (FlagByte.Is v next) = got v next
+answerByte (FlagByte.Refused n place) = refused n place
 
 abbrev pub answerReached : Reached → Answer (Unit {0})
 answerReached (Reached.To next) = got tt next

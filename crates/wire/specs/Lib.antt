@@ -1,5 +1,4 @@
 pub mod Number
 pub mod Answer
 pub mod Items
-pub mod Store
 pub mod Optional

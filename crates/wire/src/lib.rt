@@ -2,13 +2,12 @@
 // Every function takes any slice and any position; an item that does not fit is short.
 pub mod optional;
 pub mod part;
-pub mod store;
 
 ghost use mathlib.Core.Path.{_≡_};
 ghost use Prim.Native.Nat.{_+_, _-_, _≤_, _<_, _^_};
 ghost use lib.ListN.{length};
 ghost use lib.Dec.{leb};
-ghost use Rattle.wire.specs.Number.{le, signed, unsigned};
+ghost use Rattle.wire.specs.Number.{le, signed};
 ghost use Rattle.wire.specs.Answer.{item, signedItem, run};
 ghost use Rattle.wire.specs.Items.{answer8, answer16, answer32, answer64, answerI32, answerI64};
 ghost use Rattle.wire.specs.Items.{answerRun, guid, answerGuid, lengthOf, lengthItem, answerLength};
@@ -48,6 +47,12 @@ pub enum ItemI64 {
 pub enum Run {
     To(usize),
     Short,
+}
+
+// A flag byte that its rules permit.
+pub enum FlagByte {
+    Is(u8, usize),
+    Refused(u8, usize),
 }
 
 // The position after what was passed over, or the number and place of its refusal.

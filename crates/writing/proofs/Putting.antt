@@ -15,9 +15,9 @@ use mir.Syntax.{w64}
 use mir.Val.{SFits, toZ, ofZ}
 use mir.ValLaws.{toZ-ofZ}
 use Rattle.wire.specs.Number.{leBytes, unsigned}
-use Rattle.wire.specs.Store.{Stored, laid}
+use Rattle.store.specs.Store.{Stored, laid}
 use Rattle.wire.proofs.Numbers.{length-leBytes}
-use Rattle.wire.proofs.Stores.{sets-append}
+use Rattle.store.proofs.Stores.{sets-append}
 use Rattle.writing.specs.Writing.{Puts}
 
 -- bytes of n were laid at a position, and next is the position after n bytes

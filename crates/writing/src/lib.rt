@@ -11,7 +11,7 @@ ghost use Prim.Native.Nat.{_+_, _≤_};
 ghost use lib.Dec.{leb};
 ghost use Rattle.wire.specs.Number.{leBytes, unsigned};
 ghost use Rattle.wire.specs.Items.{guidBytes};
-ghost use Rattle.wire.specs.Store.{Stored};
+ghost use Rattle.store.specs.Store.{Stored};
 ghost use Rattle.writing.specs.Writing.{orElse, num, on16, on32, onI64, picosecondsRefusal, byteBytes, optional16Bytes, optional32Bytes, optionalI64Bytes};
 
 // What a writer answers: how many bytes it wrote, or the number of its refusal, whose place is 0.
@@ -81,7 +81,7 @@ pub fn put8(out: &mut [u8], at: usize, v: u8) -> usize
     ensures { λ r. ⌜ Stored (leBytes 1 v) (now (out .entry)) at (now (out .exit)) r ⌝ }
 {
     let next = after(out.len(), at, 1);
-    wire::store::put8(out, at, v);
+    store::put8(out, at, v);
     next
 }
 
@@ -89,7 +89,7 @@ pub fn put16(out: &mut [u8], at: usize, v: u16) -> usize
     ensures { λ r. ⌜ Stored (leBytes 2 v) (now (out .entry)) at (now (out .exit)) r ⌝ }
 {
     let next = after(out.len(), at, 2);
-    wire::store::put16(out, at, v);
+    store::put16(out, at, v);
     next
 }
 
@@ -97,7 +97,7 @@ pub fn put32(out: &mut [u8], at: usize, v: u32) -> usize
     ensures { λ r. ⌜ Stored (leBytes 4 v) (now (out .entry)) at (now (out .exit)) r ⌝ }
 {
     let next = after(out.len(), at, 4);
-    wire::store::put32(out, at, v);
+    store::put32(out, at, v);
     next
 }
 
@@ -105,7 +105,7 @@ pub fn put64(out: &mut [u8], at: usize, v: u64) -> usize
     ensures { λ r. ⌜ Stored (leBytes 8 v) (now (out .entry)) at (now (out .exit)) r ⌝ }
 {
     let next = after(out.len(), at, 8);
-    wire::store::put64(out, at, v);
+    store::put64(out, at, v);
     next
 }
 
@@ -113,7 +113,7 @@ pub fn put_i64(out: &mut [u8], at: usize, v: i64) -> usize
     ensures { λ r. ⌜ Stored (leBytes 8 (unsigned 8 v)) (now (out .entry)) at (now (out .exit)) r ⌝ }
 {
     let next = after(out.len(), at, 8);
-    wire::store::put_i64(out, at, v);
+    store::put_i64(out, at, v);
     next
 }
 
@@ -121,7 +121,7 @@ pub fn put_guid(out: &mut [u8], at: usize, v: Guid) -> usize
     ensures { λ r. ⌜ Stored (guidBytes v) (now (out .entry)) at (now (out .exit)) r ⌝ }
 {
     let next = after(out.len(), at, 16);
-    wire::store::put_guid(out, at, v);
+    store::put_guid(out, at, v);
     next
 }
 
@@ -129,7 +129,7 @@ pub fn put_run(out: &mut [u8], at: usize, src: &[u8]) -> usize
     ensures { λ r. ⌜ Stored (now (src .entry)) (now (out .entry)) at (now (out .exit)) r ⌝ }
 {
     let next = after(out.len(), at, src.len());
-    wire::store::put_run(out, at, src);
+    store::put_run(out, at, src);
     next
 }
 

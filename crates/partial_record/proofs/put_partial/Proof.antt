@@ -13,7 +13,7 @@ returns c =
 -- src/lib.rt:96:1
 returns-2 : tie.Need-returns-2
 returns-2 c =
-    partial-put (c .before .before .before .before .before .before .before .before .before .before .before .before .before .before .before .before .before .before .before .before .args .rec) (now (c .before .before .before .before .before .before .before .before .before .before .before .before .before .before .before .before .before .before .before .before .args .out)) _ _ _ _ _ (search needs) (omega (arith, c .before .before .before .before .before .before .before .before .before .before .before .before .before .before .before .before .before .before .if1 .left)) (c .before .before .before .before .before .before .before .before .before .before .before .before .before .before .flag-number .ensures .0) (c .before .before .before .before .before .before .before .before .before .before .before .before .before .publisher-code .ensures) (c .before .before .before .before .before .before .before .before .before .before .before .before .publisher-number .ensures) (c .before .before .before .before .before .before .before .put-numbers .ensures) (c .before .before .put-run .ensures)
+    partial-put (c .before .before .before .before .before .before .before .before .before .before .before .before .before .before .before .before .before .before .before .before .args .rec) (now (c .before .before .before .before .before .before .before .before .before .before .before .before .before .before .before .before .before .before .before .before .args .out)) _ _ _ _ _ (search needs) (omega (arith, c .before .before .before .before .before .before .before .before .before .before .before .before .before .before .before .before .before .before .if1 .left)) (c .before .before .before .before .before .before .before .before .before .before .before .before .before .before .flag-number .ensures .0) (c .before .before .before .before .before .before .before .before .before .before .before .before .before .code .ensures) (c .before .before .before .before .before .before .before .before .before .before .before .before .publisher-number .ensures) (c .before .before .before .before .before .before .before .put-numbers .ensures) (c .before .before .put-run .ensures)
 
 pub put-partial-spec : {M : Type 1} → statement M
 put-partial-spec =

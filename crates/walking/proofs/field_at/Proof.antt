@@ -3,7 +3,7 @@
 use mathlib.Core.Path.{_∙_}
 use denote.Ref.{now}
 use borrow.Author.Needs.{needs}
-use Rattle.dataset_message.proofs.Ending.{hinted-is}
+use Rattle.dataset_fields.proofs.Ending.{hinted-is}
 use Rattle.walking.proofs.field_at.Statement.{statement}
 use Rattle.walking.proofs.field_at.Tie as tie
 

@@ -6,7 +6,7 @@ use native.Mathlib.Omega.{arith}
 use borrow.Author.Needs.{needs}
 use Rattle.wire.proofs.Reading.{told}
 use Rattle.dataset_message.specs.Message.{answerMessage}
-use Rattle.dataset_message.proofs.Ending.{all-left}
+use Rattle.dataset_message.proofs.Agreement.{all-left}
 use Rattle.walking.proofs.Records.{invalid-put, refused-put, valid-put, part-fits}
 use Rattle.walking.proofs.walk_message.Statement.{statement}
 use Rattle.walking.proofs.walk_message.Tie as tie

@@ -1,7 +1,7 @@
 -- `writing::put_i64` meets its contract.
 -- Assumes nothing.
 use Rattle.writing.proofs.Putting.{stored-number}
-use Rattle.wire.specs.Store.{laid}
+use Rattle.store.specs.Store.{laid}
 use Rattle.wire.specs.Number.{unsigned, leBytes}
 use mir.Syntax.{w64}
 use mir.ValLaws.{toZ-ofZ}

@@ -3,7 +3,7 @@
 use Prim.Native.Nat.{_-_}
 use mathlib.Core.Path.{sym}
 use borrow.Author.Needs.{needs}
-use Rattle.dataset_message.specs.Fields.{answerField}
+use Rattle.dataset_fields.specs.Fields.{answerField}
 use Rattle.wire.proofs.Reading.{told}
 use Rattle.dataset_message.proofs.message.field.Statement.{statement}
 use Rattle.dataset_message.proofs.message.field.Tie as tie

@@ -3,7 +3,7 @@
 use Prim.Native.Nat.{_-_}
 use mathlib.Core.Path.{sym}
 use borrow.Author.Needs.{needs}
-use Rattle.dataset_message.specs.Header.{answerHeader}
+use Rattle.dataset_header.specs.Header.{answerHeader}
 use Rattle.wire.proofs.Reading.{told}
 use Rattle.dataset_message.proofs.message.read.Statement.{statement}
 use Rattle.dataset_message.proofs.message.read.Tie as tie

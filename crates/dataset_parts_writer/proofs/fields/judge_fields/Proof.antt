@@ -7,9 +7,9 @@ use mathlib.Core.List.{List}
 use mathlib.Core.Bool.{Bool}
 use mathlib.Core.Path.{ap, _∙_}
 use borrow.Author.Needs.{needs}
+use Rattle.dataset_header.specs.Flags.{isRaw}
 use Rattle.dataset_parts_writer.proofs.Judging.{reached-within, reached-is, reachedCount}
 use Rattle.dataset_parts_writer.specs.Fields.{valuesOf, fieldsNumber}
-use Rattle.dataset_message.specs.Message.{isRaw}
 use Rattle.dataset_parts_writer.proofs.fields.judge_fields.Statement.{statement}
 use Rattle.dataset_parts_writer.proofs.fields.judge_fields.Tie as tie
 

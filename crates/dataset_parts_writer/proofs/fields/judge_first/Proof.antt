@@ -8,7 +8,7 @@ use Prim.Native.Nat.{_≤_, _-_}
 use mathlib.Core.Path.{_≡_, refl, sym, _∙_}
 use Rattle.dataset_parts_writer.proofs.Judging.{numberLeft, judge-start, judge-step, judge-stop, judge-done}
 use Rattle.dataset_parts_writer.specs.Fields.{valuesOf, fieldsNumber}
-use Rattle.dataset_message.specs.Fields.{answerField}
+use Rattle.dataset_fields.specs.Fields.{answerField}
 use Rattle.wire.proofs.Reading.{told}
 use Rattle.dataset_parts_writer.proofs.fields.judge_first.Statement.{statement}
 use Rattle.dataset_parts_writer.proofs.fields.judge_first.Tie as tie

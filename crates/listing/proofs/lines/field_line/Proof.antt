@@ -3,7 +3,7 @@
 use Rattle.listing.proofs.Listing.{field-passed, offset-fits}
 use native.Mathlib.Omega.{arith}
 use denote.Ref.{now}
-use Rattle.dataset_message.specs.Fields.{answerStep}
+use Rattle.dataset_fields.specs.Fields.{answerStep}
 use Rattle.wire.proofs.Reading.{told}
 use mathlib.Core.Path.{sym}
 use borrow.Author.Needs.{needs}

@@ -2,8 +2,8 @@
 -- Assumes nothing.
 use mathlib.Core.Path.{sym}
 use borrow.Author.Needs.{needs}
-use Rattle.network_header.specs.Flags.{answerByte}
 use Rattle.wire.proofs.Reading.{told}
+use Rattle.wire.specs.Items.{answerByte}
 use Rattle.network_header.proofs.flags.read_flags.Statement.{statement}
 use Rattle.network_header.proofs.flags.read_flags.Tie as tie
 

@@ -4,7 +4,7 @@ use mathlib.Core.Path.{sym}
 use borrow.Author.Needs.{needs}
 use Rattle.network_header.specs.Header.{answerClass}
 use Rattle.network_header.specs.Group.{answerGroup}
-use Rattle.network_header.specs.Publisher.{answerPublisher}
+use Rattle.publisher_id.specs.Publisher.{answerPublisher}
 use Rattle.wire.proofs.Reading.{told}
 use Rattle.network_message.proofs.envelope.read_identity.Statement.{statement}
 use Rattle.network_message.proofs.envelope.read_identity.Tie as tie

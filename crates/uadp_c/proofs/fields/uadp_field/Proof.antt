@@ -1,7 +1,7 @@
 use Rattle.uadp_c.proofs.Filling.{fill-refused, fill-none, fill-done, field-read}
 use Rattle.message_record.specs.Message.{fieldNumbers}
 use Rattle.records.proofs.Storing.{bytes-length}
-use Rattle.dataset_message.specs.Fields.{answerField}
+use Rattle.dataset_fields.specs.Fields.{answerField}
 use Rattle.wire.proofs.Reading.{told}
 use native.Mathlib.Omega.{arith}
 use denote.Ref.{now}

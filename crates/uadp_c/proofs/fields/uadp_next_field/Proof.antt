@@ -1,5 +1,5 @@
 use Rattle.uadp_c.proofs.Stepping.{stepped, step-refused, step-no-head, step-no-field, step-done}
-use Rattle.dataset_message.specs.Fields.{answerStep}
+use Rattle.dataset_fields.specs.Fields.{answerStep}
 use Rattle.wire.proofs.Reading.{told}
 use native.Mathlib.Omega.{arith}
 use denote.Ref.{now}

@@ -1,7 +1,7 @@
 use Rattle.uadp_c.proofs.Filling.{fill-refused, fill-none, fill-done, head-read}
 use Rattle.message_record.specs.Message.{headNumbers}
 use Rattle.records.proofs.Storing.{bytes-length}
-use Rattle.dataset_message.specs.Flags.{notValid, valid}
+use Rattle.dataset_header.specs.Flags.{notValid, valid}
 use Rattle.dataset_message.specs.Message.{answerMessage}
 use Rattle.wire.proofs.Reading.{told}
 use native.Mathlib.Omega.{arith}

@@ -1,0 +1,39 @@
+-- `chunk_payload::payload::read_data_length` meets its contract.
+-- Assumes nothing.
+use mathlib.Core.Path.{sym}
+use borrow.Author.Needs.{needs}
+use Rattle.wire.specs.Items.{answerLength}
+use Rattle.wire.proofs.Reading.{told}
+use Rattle.chunk_payload.proofs.payload.read_data_length.Statement.{statement}
+use Rattle.chunk_payload.proofs.payload.read_data_length.Tie as tie
+
+returns : tie.Need-returns
+returns c =
+    rw (sym (told (answerLength (c .before .before .before .before .args .at)) (c .before .before .read-length .ensures) (c .enum-told .given .1)))
+
+returns-2 : tie.Need-returns-2
+returns-2 c =
+    rw (sym (told (answerLength (c .before .before .before .before .before .before .args .at)) (c .before .before .before .before .read-length .ensures) (c .before .before .next .given .1))) (c .sized-data .ensures)
+
+returns-3 : tie.Need-returns-3
+returns-3 c =
+    rw (sym (told (answerLength (c .before .before .before .before .args .at)) (c .before .before .read-length .ensures) (c .enum-told2 .given .1)))
+
+returns-4 : tie.Need-returns-4
+returns-4 c =
+    rw (sym (told (answerLength (c .before .before .before .before .args .at)) (c .before .before .read-length .ensures) (c .enum-told3 .given .1)))
+
+pub read-data-length-spec : {M : Type 1} → statement M
+read-data-length-spec =
+    tie.close
+    (tie.spec
+    (λ c κs. search needs)
+    (λ c. search needs)
+    (λ c. search needs)
+    (λ c κs. search needs)
+    (λ c. search needs)
+    (λ c. search needs)
+    returns
+    returns-2
+    returns-3
+    returns-4)

@@ -1,0 +1,2 @@
+// A chunk's payload read: its numbers, and where its data stands.
+pub mod payload;

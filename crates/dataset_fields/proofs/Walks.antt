@@ -1,0 +1,74 @@
+-- Walking over fields and over padding: the end, one turn, and a refusal.
+-- Assumes nothing.
+use Prim.Native.Nat.{ℕ, zero, suc, _+_, _-_, _≤_, _<_}
+use mathlib.Core.Path.{_≡_, refl}
+use mathlib.Core.Bool.{Bool, false}
+use mathlib.Core.List.{List}
+use native.Mathlib.Nat.{not-suc-le-zero}
+use native.Mathlib.Numerals.{sub-one}
+use native.Mathlib.Omega.{arith}
+use lib.ListN.{length, getD}
+use borrow.Author.Tests.{eq-eqb, ne-eqb}
+use Rattle.dataset_fields.specs.Fields.{fieldAt, fieldsAt, zerosAt, paddingAt}
+use Rattle.dataset_header.specs.declared.flags.Encoding.{Encoding}
+use Rattle.dataset_fields.specs.declared.fields.Field.{Field}
+use Rattle.wire.specs.Answer.{Answer, got, refused, andThen, each}
+use Rattle.value_items.specs.Plain.{passing}
+use Rattle.value.specs.Value.{Measure, variantAt, rawAt}
+use Rattle.value.specs.declared.Shape.{Shape}
+use Rattle.value_items.proofs.Passing.{unpassed}
+use Rattle.value.proofs.FirstItems.{raw-is}
+
+module _ (delta : Bool) (encoding : Encoding) (types s : List ℕ) where
+  pub fields-done : (left k p : ℕ) → left ≤ 0 → fieldsAt delta encoding types left k s p ≡ got tt p
+  unfolding fieldsAt
+  fields-done zero k p h = refl
+  fields-done (suc n) k p h = absurd (not-suc-le-zero h)
+
+  pub fields-step : (left k p q : ℕ) (f : Field) → 0 < left → fieldAt delta encoding types k s p ≡ got f q
+      → fieldsAt delta encoding types left k s p ≡ fieldsAt delta encoding types (left - 1) (k + 1) s q
+  unfolding fieldsAt
+  fields-step zero k p q f h e = absurd (not-suc-le-zero h)
+  fields-step (suc n) k p q f h e = rw (sub-one, e)
+
+  pub fields-stop : (left k p n place : ℕ) → 0 < left → fieldAt delta encoding types k s p ≡ refused n place
+      → fieldsAt delta encoding types left k s p ≡ refused n place
+  unfolding fieldsAt
+  fields-stop zero k p n place h e = absurd (not-suc-le-zero h)
+  fields-stop (suc m) k p n place h e = rw e
+
+-- fields of RawData, each passed over by its type, and Variants without indices
+
+module _ (types s : List ℕ) where
+  pub raw-step : (left k p : ℕ) {e : ℕ} → 0 < left → passing (rawAt (getD types k 0)) s p ≡ got tt e
+      → fieldsAt false Encoding.RawData types left k s p ≡ fieldsAt false Encoding.RawData types (left - 1) (k + 1) s e
+  raw-step left k p {e} h q =
+      let t : ℕ = getD types k 0 in
+      let f : Field = record { index = k; kind = t; shape = Shape.Scalar; offset = p; length = e - p } in
+      fields-step false Encoding.RawData types s left k p e f h (rw (raw-is t s p q))
+
+  pub raw-stop : (left k p : ℕ) {n place : ℕ} → 0 < left → passing (rawAt (getD types k 0)) s p ≡ refused n place → fieldsAt false Encoding.RawData types left k s p ≡ refused n place
+  raw-stop left k p h q = fields-stop false Encoding.RawData types s left k p _ _ h (rw (unpassed (rawAt (getD types k 0) s p) q))
+
+  pub fields-variants : (n k at : ℕ) → each variantAt n s at ≡ fieldsAt false Encoding.Variant types n k s at
+  unfolding fieldsAt each
+  fields-variants zero k at = refl
+  fields-variants (suc n) k at = go (fields-variants n (k + 1)) (variantAt s at)
+    where
+      go : ((end : ℕ) → each variantAt n s end ≡ fieldsAt false Encoding.Variant types n (k + 1) s end) → (x : Answer Measure) → andThen x (λ m next. each variantAt n s next)
+          ≡ andThen (andThen x (λ m end. got (record { index = k; kind = m .kind; shape = m .shape; offset = at; length = end - at }) end)) (λ (f : Field) next. fieldsAt false Encoding.Variant types n (k + 1) s next)
+      go more (got m end) = more end
+      go more (refused m place) = refl
+
+module _ (s : List ℕ) (p : ℕ) where
+  pub padding-done : length s ≤ p → paddingAt s p ≡ got tt p
+  unfolding zerosAt
+  padding-done h = let e : length s - p ≡ 0 = omega arith in rw e
+
+  pub padding-step : p < length s → getD s p 0 ≡ 0 → paddingAt s p ≡ paddingAt s (p + 1)
+  unfolding zerosAt
+  padding-step h z = let e : length s - p ≡ suc (length s - (p + 1)) = omega arith in rw (e, eq-eqb (getD s p 0) 0 z)
+
+  pub padding-stop : p < length s → (getD s p 0 ≡ 0 → ⊥) → paddingAt s p ≡ refused 7 p
+  unfolding zerosAt
+  padding-stop h z = let e : length s - p ≡ suc (length s - (p + 1)) = omega arith in rw (e, ne-eqb (getD s p 0) 0 z)

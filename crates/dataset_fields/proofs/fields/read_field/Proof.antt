@@ -1,0 +1,28 @@
+-- `dataset_fields::fields::read_field` meets its contract.
+-- Assumes nothing.
+use mathlib.Core.Path.{sym}
+use borrow.Author.Needs.{needs}
+use Rattle.dataset_fields.specs.Fields.{answerIndex}
+use Rattle.wire.proofs.Reading.{told}
+use Rattle.dataset_fields.proofs.fields.read_field.Statement.{statement}
+use Rattle.dataset_fields.proofs.fields.read_field.Tie as tie
+
+returns : tie.Need-returns
+returns c =
+    rw (sym (told answerIndex (c .before .before .before .index .ensures) (c .before .n .given .1)))
+
+returns-2 : tie.Need-returns-2
+returns-2 c =
+    rw (sym (told answerIndex (c .before .before .before .before .before .index .ensures) (c .before .before .before .index2 .given .1)), sym (c .before .encoded .ensures)) (c .measured .ensures)
+
+pub read-field-spec : {M : Type 1} → statement M
+read-field-spec =
+    tie.close
+    (tie.spec
+    (λ c κs. search needs)
+    (λ c. search needs)
+    (λ c. search needs)
+    (λ c κs. search needs)
+    (λ c κs. search needs)
+    returns
+    returns-2)

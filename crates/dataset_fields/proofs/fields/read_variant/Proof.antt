@@ -1,0 +1,28 @@
+-- `dataset_fields::fields::read_variant` meets its contract.
+-- Assumes nothing.
+use denote.Ref.{now}
+use borrow.Author.Needs.{needs}
+use Rattle.value.proofs.FirstItems.{fixed-variant}
+use Rattle.dataset_fields.proofs.fields.read_variant.Statement.{statement}
+use Rattle.dataset_fields.proofs.fields.read_variant.Tie as tie
+
+shared-slice-read-located : tie.Need-shared-slice-read-located
+shared-slice-read-located c =
+    let a = c .before .before .before .before .before .args in
+    fixed-variant (now (a .s)) (a .at) (c .before .before .fixed-end .ensures) (c .before .if1 .taken) .0
+
+returns : tie.Need-returns
+returns c =
+    let a = c .before .before .before .before .before .before .args in
+    rw (fixed-variant (now (a .s)) (a .at) (c .before .before .before .fixed-end .ensures) (c .before .before .if1 .taken) .1) (c .located .ensures)
+
+pub read-variant-spec : {M : Type 1} → statement M
+read-variant-spec =
+    tie.close
+    (tie.spec
+    (λ c κs. search needs)
+    shared-slice-read-located
+    (λ c κs. search needs)
+    returns
+    (λ c κs. search needs)
+    (λ c. search needs))

@@ -1,0 +1,97 @@
+-- The fields of a DataSetMessage and the cursor over them (document 01, "The DataSetMessage" and "Values").
+use Prim.Native.Nat.{ℕ, zero, suc, _+_, _-_}
+use mathlib.Core.Bool.{Bool, false, cond, not, _&&_}
+use mathlib.Core.List.{List}
+use lib.Dec.{leb, ltb, eqb}
+use lib.ListN.{length, getD}
+use Rattle.wire.specs.Answer.{Answer, got, refused, Reader, item, here, whenOn, pure, andThen, _>>=_, _>>_}
+use Rattle.value.specs.Value.{variantAt, dataValueAt, rawAt}
+use Rattle.value.specs.Value.{Measure}
+use Rattle.value.specs.Head.{describedAt}
+use Rattle.dataset_header.specs.declared.flags.Encoding.{Encoding}
+use Rattle.dataset_fields.specs.declared.fields.Field.{Field}
+use Rattle.dataset_fields.specs.declared.fields.FieldRead.{FieldRead}
+use Rattle.dataset_fields.specs.declared.fields.Cursor.{Cursor}
+use Rattle.dataset_fields.specs.declared.fields.FieldStep.{FieldStep}
+use Rattle.dataset_fields.specs.declared.fields.IndexRead.{IndexRead}
+
+-- the value of field k: a Variant, a DataValue, or in RawData an element of its configured type
+abbrev pub encodedAt : Encoding → List ℕ → ℕ → Reader Measure
+encodedAt Encoding.Variant types k = variantAt
+encodedAt Encoding.RawData types k = rawAt (getD types k 0)
+encodedAt Encoding.DataValue types k = dataValueAt
+
+-- "Delta: .. an index of 2 and a value each"; else field k has the index k
+abbrev pub indexAt : Bool → ℕ → Reader ℕ
+indexAt delta k = whenOn delta k (item 2)
+
+-- field k: its index, and its value's type, shape, offset and length
+abbrev pub fieldAt : Bool → Encoding → List ℕ → ℕ → Reader Field
+fieldAt delta encoding types k = do
+  i ← indexAt delta k
+  offset ← here
+  m ← encodedAt encoding types k
+  end ← here
+  pure (record { index = i; kind = m .kind; shape = m .shape; offset = offset; length = end - offset })
+
+-- field k where the fields are Variants without indices, by its first items, where it is known to end at `end`
+abbrev pub endingAt : ℕ → ℕ → Reader Field
+endingAt end k s at = andThen (describedAt end s at) (λ m e. got (record { index = k; kind = m .kind; shape = m .shape; offset = at; length = e - at }) e)
+
+-- Variants without indices
+abbrev pub plainVariants : Bool → Encoding → Bool
+plainVariants delta Encoding.Variant = not delta
+plainVariants delta Encoding.RawData = false
+plainVariants delta Encoding.DataValue = false
+
+-- field k, where `last` may say that it is known to be accepted and to end at `end`
+abbrev pub hintedAt : Bool → ℕ → Bool → Encoding → List ℕ → ℕ → Reader Field
+hintedAt last end delta encoding types k s at = cond (last && plainVariants delta encoding) (endingAt end k s at) (fieldAt delta encoding types k s at)
+
+-- n fields, the first of them field k
+unfoldable pub fieldsAt : Bool → Encoding → List ℕ → ℕ → ℕ → Reader (Unit {0})
+fieldsAt delta encoding types zero k = pure tt
+fieldsAt delta encoding types (suc n) k = fieldAt delta encoding types k >> fieldsAt delta encoding types n (k + 1)
+
+-- "A made-up cursor is read at the byte it names; past the end it is 1, after that 10"; "a step after the last field, is 10"
+pub record Stepped : Type 0 where
+  pub field : Field
+  pub cursor : Cursor
+
+abbrev pub stepAt : Cursor → List ℕ → List ℕ → Answer Stepped
+stepAt c types s =
+    cond (ltb (length s) (c .at)) (refused 1 (c .at))
+    (cond (leb (c .count) (c .next)) (refused 10 0)
+    (andThen (fieldAt (c .delta) (c .encoding) types (c .next) s (c .at))
+    (λ f end. got (record { field = f; cursor = record { encoding = c .encoding; delta = c .delta; next = c .next + 1; count = c .count; at = end } }) end)))
+
+-- "only zero bytes may remain (else 7, at the first other byte)"
+unfoldable pub zerosAt : ℕ → Reader (Unit {0})
+zerosAt zero s at = got tt at
+zerosAt (suc n) s at = cond (eqb (getD s at 0) 0) (zerosAt n s (at + 1)) (refused 7 at)
+
+abbrev pub paddingAt : Reader (Unit {0})
+paddingAt s at = zerosAt (length s - at) s at
+
+-- what the answers of the code say
+
+abbrev pub answerIndex : IndexRead → Answer ℕ
+answerIndex (IndexRead.Is v next) = got v next
+answerIndex (IndexRead.Refused n place) = refused n place
+
+abbrev pub answerField : FieldRead → Answer Field
+answerField (FieldRead.Is f next) = got f next
+answerField (FieldRead.Refused n place) = refused n place
+
+abbrev pub answerStep : FieldStep → Answer Stepped
+answerStep (FieldStep.Is f c) = got (record { field = f; cursor = c }) (c .at)
+answerStep (FieldStep.Refused n place) = refused n place
+
+-- the cursor after k steps
+unfoldable pub walkAt : Cursor → List ℕ → ℕ → List ℕ → Answer Cursor
+walkAt c types zero s = got c (c .at)
+walkAt c types (suc k) s = andThen (walkAt c types k s) (λ d _. andThen (stepAt d types s) (λ x next. got (x .cursor) next))
+
+-- the cursor c, before field k, which starts at q
+abbrev pub before : Cursor → ℕ → ℕ → Cursor
+before c k q = record { encoding = c .encoding; delta = c .delta; next = k; count = c .count; at = q }

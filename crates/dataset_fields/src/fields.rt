@@ -1,0 +1,302 @@
+// The fields of a DataSetMessage, one after the other.
+use dataset_header::flags::Encoding;
+use value::Measured;
+use value::Shape;
+use value::described;
+use value::fixed_end;
+use value::measure_data_value;
+use value::measure_raw;
+use value::measure_variant;
+use value::pass_element;
+use value::pass_variants;
+use wire::Item16;
+use wire::Reached;
+ghost use mathlib.Core.Path.{_≡_};
+ghost use mathlib.Core.Bool.{false};
+ghost use Prim.Native.Nat.{_-_};
+ghost use lib.ListN.{getD};
+ghost use Rattle.wire.specs.Answer.{got, andThen};
+ghost use Rattle.wire.specs.Items.{answerReached};
+ghost use Rattle.value.specs.Value.{answerMeasured};
+ghost use Rattle.dataset_fields.specs.Fields.{encodedAt, indexAt, fieldAt, endingAt, hintedAt, fieldsAt, stepAt, zerosAt, paddingAt};
+ghost use Rattle.dataset_fields.specs.Fields.{answerIndex, answerField, answerStep};
+ghost use Rattle.dataset_header.specs.declared.flags.Encoding.{Encoding};
+
+// Where a field stands: its index (a delta's own), type number and shape, and its value's offset and length. Length and offset stand apart,
+// since the two words side by side would be loaded as one right after they were stored, which stalls.
+pub struct Field {
+    pub length: usize,
+    pub index: usize,
+    pub kind: u8,
+    pub shape: Shape,
+    pub offset: usize,
+}
+
+pub enum FieldRead {
+    Is(Field, usize),
+    Refused(u8, usize),
+}
+
+// A cursor over the fields: how they are encoded and whether each has an index of its own, which field is next of how many, and
+// the byte where it starts.
+pub struct Cursor {
+    pub encoding: Encoding,
+    pub delta: bool,
+    pub next: usize,
+    pub count: usize,
+    pub at: usize,
+}
+
+pub enum FieldStep {
+    Is(Field, Cursor),
+    Refused(u8, usize),
+}
+
+pub enum IndexRead {
+    Is(usize, usize),
+    Refused(u8, usize),
+}
+
+// The type number of field k, 0 where none is configured.
+fn type_of(types: &[u8], k: usize) -> u8
+    ensures { λ r. ⌜ r ≡ getD (now (types .entry)) k 0 ⌝ }
+{
+    if types.len() <= k {
+        return 0;
+    }
+    types[k]
+}
+
+// The value of field k.
+fn encoded(s: &[u8], encoding: Encoding, types: &[u8], k: usize, at: usize) -> Measured
+    ensures { λ r. ⌜ answerMeasured r ≡ encodedAt encoding (now (types .entry)) k (now (s .entry)) at ⌝ }
+{
+    match encoding {
+        Encoding::Variant => measure_variant(s, at),
+        Encoding::RawData => measure_raw(s, at, type_of(types, k)),
+        Encoding::DataValue => measure_data_value(s, at),
+    }
+}
+
+// The index of field k: a delta's own, else k.
+fn index(s: &[u8], delta: bool, k: usize, at: usize) -> IndexRead
+    ensures { λ r. ⌜ answerIndex r ≡ indexAt delta k (now (s .entry)) at ⌝ }
+{
+    if !delta {
+        return IndexRead::Is(k, at);
+    }
+    let Item16::Is(v, next) = wire::read16(s, at) else {
+        return IndexRead::Refused(1, at);
+    };
+    IndexRead::Is(v as usize, next)
+}
+
+fn located(index: usize, kind: u8, shape: Shape, offset: usize, end: usize) -> FieldRead
+    ensures { λ r. ⌜ answerField r ≡ got (record { index = index; kind = kind; shape = shape; offset = offset; length = end - offset }) end ⌝ }
+{
+    FieldRead::Is(
+        Field {
+            index,
+            kind,
+            shape,
+            offset,
+            length: wire::left(end, offset),
+        },
+        end,
+    )
+}
+
+// A field by its index, its value's offset and what measuring the value answered.
+fn measured(index: usize, offset: usize, m: Measured) -> FieldRead
+    ensures { λ r. ⌜ answerField r ≡ andThen (answerMeasured m) (λ x end. got (record { index = index; kind = x .kind; shape = x .shape; offset = offset; length = end - offset }) end) ⌝ }
+{
+    match m {
+        Measured::Scalar(kind, end) => located(index, kind, Shape::Scalar, offset, end),
+        Measured::NullArray(kind, end) => located(index, kind, Shape::NullArray, offset, end),
+        Measured::Array(kind, end, n) => located(index, kind, Shape::Array(n), offset, end),
+        Measured::Refused(n, place) => FieldRead::Refused(n, place),
+    }
+}
+
+// Field k, which starts at a position.
+pub fn read_field(
+    s: &[u8],
+    encoding: Encoding,
+    delta: bool,
+    types: &[u8],
+    k: usize,
+    at: usize,
+) -> FieldRead
+    ensures { λ r. ⌜ answerField r ≡ fieldAt delta encoding (now (types .entry)) k (now (s .entry)) at ⌝ }
+{
+    match index(s, delta, k, at) {
+        IndexRead::Refused(n, place) => FieldRead::Refused(n, place),
+        IndexRead::Is(index, offset) => measured(
+            index,
+            offset,
+            encoded(s, encoding, types, k, offset),
+        ),
+    }
+}
+
+// Field k where the fields are Variants without indices; most are scalars of a fixed type.
+fn read_variant(s: &[u8], types: &[u8], k: usize, at: usize) -> FieldRead
+    ensures { λ r. ⌜ answerField r ≡ fieldAt false Encoding.Variant (now (types .entry)) k (now (s .entry)) at ⌝ }
+{
+    let end = fixed_end(s, at);
+    if at < end {
+        return located(k, s[at], Shape::Scalar, at, end);
+    }
+    read_field(&*s, Encoding::Variant, false, &*types, k, at)
+}
+
+// Field k where the fields are Variants without indices, one that is accepted and ends at `end`: only its first items are read.
+fn ending_variant(s: &[u8], k: usize, at: usize, end: usize) -> FieldRead
+    ensures { λ r. ⌜ answerField r ≡ endingAt end k (now (s .entry)) at ⌝ }
+{
+    measured(k, at, described(s, at, end))
+}
+
+// Field k of RawData.
+fn read_raw(s: &[u8], types: &[u8], k: usize, at: usize) -> FieldRead
+    ensures { λ r. ⌜ answerField r ≡ fieldAt false Encoding.RawData (now (types .entry)) k (now (s .entry)) at ⌝ }
+{
+    measured(k, at, measure_raw(s, at, type_of(types, k)))
+}
+
+// Field k, which starts at a position; the two common kinds are read in line. Where `last` says so, a Variant without an index is taken as one that
+// is accepted and ends at `end`, and is not passed over again.
+pub fn field_in_line(
+    s: &[u8],
+    encoding: Encoding,
+    delta: bool,
+    types: &[u8],
+    k: usize,
+    at: usize,
+    last: bool,
+    end: usize,
+) -> FieldRead
+    ensures { λ r. ⌜ answerField r ≡ hintedAt last end delta encoding (now (types .entry)) k (now (s .entry)) at ⌝ }
+{
+    if delta {
+        return read_field(&*s, encoding, true, &*types, k, at);
+    }
+    match encoding {
+        Encoding::Variant => {
+            if last {
+                return ending_variant(s, k, at, end);
+            }
+            read_variant(s, types, k, at)
+        }
+        Encoding::RawData => read_raw(s, types, k, at),
+        Encoding::DataValue => read_field(&*s, encoding, false, &*types, k, at),
+    }
+}
+
+impl Cursor {
+    // The field that the cursor stands before, and the cursor before the next one.
+    pub fn step(self, s: &[u8], types: &[u8]) -> FieldStep
+        ensures { λ r. ⌜ answerStep r ≡ stepAt self (now (types .entry)) (now (s .entry)) ⌝ }
+    {
+        let at = self.at;
+        if s.len() < at {
+            return FieldStep::Refused(1, at);
+        }
+        let k = self.next;
+        if self.count <= k {
+            return FieldStep::Refused(10, 0);
+        }
+        let encoding = self.encoding;
+        match read_field(&*s, encoding, self.delta, &*types, k, at) {
+            FieldRead::Refused(n, place) => FieldStep::Refused(n, place),
+            FieldRead::Is(field, end) => FieldStep::Is(
+                field,
+                Cursor {
+                    encoding,
+                    delta: self.delta,
+                    next: k + 1,
+                    count: self.count,
+                    at: end,
+                },
+            ),
+        }
+    }
+}
+
+// The first count fields one after the other, each read as a field.
+pub fn pass_each(
+    s: &[u8],
+    encoding: Encoding,
+    delta: bool,
+    types: &[u8],
+    count: usize,
+    at: usize,
+) -> Reached
+    ensures { λ r. ⌜ answerReached r ≡ fieldsAt delta encoding (now (types .entry)) count 0 (now (s .entry)) at ⌝ }
+{
+    let mut p = at;
+    let mut k = 0;
+    let mut left = count;
+    while 0 < left {
+        match read_field(&*s, encoding, delta, &*types, k, p) {
+            FieldRead::Refused(n, place) => {
+                return Reached::Refused(n, place);
+            }
+            FieldRead::Is(_, end) => {
+                p = end;
+            }
+        }
+        k = k + 1;
+        left = left - 1;
+    }
+    Reached::To(p)
+}
+
+// The first count fields of RawData.
+fn pass_raw(s: &[u8], types: &[u8], count: usize, at: usize) -> Reached
+    ensures { λ r. ⌜ answerReached r ≡ fieldsAt false Encoding.RawData (now (types .entry)) count 0 (now (s .entry)) at ⌝ }
+{
+    let mut p = at;
+    let mut k = 0;
+    while k < count {
+        match pass_element(s, p, type_of(types, k)) {
+            Reached::Refused(n, place) => {
+                return Reached::Refused(n, place);
+            }
+            Reached::To(end) => {
+                p = end;
+            }
+        }
+        k = k + 1;
+    }
+    Reached::To(p)
+}
+
+// All fields from a cursor before the first, each encoding in a loop of its own. It has one caller, so that the loops are put in line there.
+pub fn pass_fields(s: &[u8], c: Cursor, types: &[u8]) -> Reached
+    ensures { λ r. ⌜ answerReached r ≡ fieldsAt (c .delta) (c .encoding) (now (types .entry)) (c .count) 0 (now (s .entry)) (c .at) ⌝ }
+{
+    let encoding = c.encoding;
+    if c.delta {
+        return pass_each(&*s, encoding, true, &*types, c.count, c.at);
+    }
+    match encoding {
+        Encoding::Variant => pass_variants(s, c.at, c.count),
+        Encoding::RawData => pass_raw(s, types, c.count, c.at),
+        Encoding::DataValue => pass_each(&*s, encoding, false, &*types, c.count, c.at),
+    }
+}
+
+// Only zero bytes may remain from a position on.
+pub fn padding(s: &[u8], at: usize) -> Reached
+    ensures { λ r. ⌜ answerReached r ≡ paddingAt (now (s .entry)) at ⌝ }
+{
+    let mut p = at;
+    while p < s.len() {
+        if s[p] != 0 {
+            return Reached::Refused(7, p);
+        }
+        p = p + 1;
+    }
+    Reached::To(p)
+}

@@ -1,0 +1,47 @@
+-- `dataset_header::flags::read_flags` meets its contract.
+-- Assumes nothing.
+use mathlib.Core.Path.{sym}
+use borrow.Author.Tests.{eq-eqb, ne-eqb}
+use borrow.Author.Needs.{needs}
+use Rattle.wire.specs.Items.{answer8, answerByte}
+use Rattle.wire.proofs.Reading.{told}
+use Rattle.dataset_header.proofs.flags.read_flags.Statement.{statement}
+use Rattle.dataset_header.proofs.flags.read_flags.Tie as tie
+
+returns : tie.Need-returns
+returns c =
+    rw (sym (told (answer8 0) (c .before .before .read8 .ensures) (c .enum-told .given .1)))
+
+returns-2 : tie.Need-returns-2
+returns-2 c =
+    rw (sym (told (answer8 0) (c .before .before .before .before .read8 .ensures) (c .before .before .b .given .1)), eq-eqb _ _ (c .if1 .taken))
+
+returns-3 : tie.Need-returns-3
+returns-3 c =
+    rw (sym (told (answer8 0) (c .before .before .before .before .before .before .read8 .ensures) (c .before .before .before .before .b .given .1)), ne-eqb _ _ (c .before .before .if1 .left), sym (c .before .flags1-rule .ensures), ne-eqb _ _ (c .if2 .taken))
+
+returns-4 : tie.Need-returns-4
+returns-4 c =
+    rw (sym (told (answer8 0) (c .before .before .before .before .before .before .before .before .before .before .read8 .ensures) (c .before .before .before .before .before .before .before .before .b .given .1)), ne-eqb _ _ (c .before .before .before .before .before .before .if1 .left), sym (c .before .before .before .before .before .flags1-rule .ensures), eq-eqb _ _ (c .before .before .before .before .if2 .left), sym (told answerByte (c .before .before .before .flags2 .ensures) (c .before .n .given .1)))
+
+returns-5 : tie.Need-returns-5
+returns-5 c =
+    rw (sym (told (answer8 0) (c .before .before .before .before .before .before .before .before .before .before .before .read8 .ensures) (c .before .before .before .before .before .before .before .before .before .b .given .1)), ne-eqb _ _ (c .before .before .before .before .before .before .before .if1 .left), sym (c .before .before .before .before .before .before .flags1-rule .ensures), eq-eqb _ _ (c .before .before .before .before .before .if2 .left), sym (told answerByte (c .before .before .before .before .flags2 .ensures) (c .before .before .f .given .1)), c .flags-of .ensures)
+
+pub read-flags-spec : {M : Type 1} → statement M
+read-flags-spec =
+    tie.close
+    (tie.spec
+    (λ c κs. search needs)
+    (λ c. search needs)
+    (λ c. search needs)
+    returns
+    returns-2
+    (λ c κs. search needs)
+    returns-3
+    (λ c κs. search needs)
+    (λ c. search needs)
+    (λ c. search needs)
+    (λ c κs. search needs)
+    returns-4
+    returns-5)

@@ -1,0 +1,34 @@
+-- `dataset_header::header::read_header` meets its contract.
+-- Assumes nothing.
+use Prim.Native.Nat.{_-_}
+use mathlib.Core.Path.{sym}
+use borrow.Author.Needs.{needs}
+use Rattle.dataset_header.specs.Flags.{answerFlags}
+use Rattle.wire.proofs.Reading.{told}
+use Rattle.dataset_header.proofs.header.read_header.Statement.{statement}
+use Rattle.dataset_header.proofs.header.read_header.Tie as tie
+
+returns : tie.Need-returns
+returns c =
+    rw (sym (told answerFlags (c .before .before .before .read-flags .ensures) (c .before .next .given .1)))
+
+returns-2 : tie.Need-returns-2
+returns-2 c =
+    rw (sym (told answerFlags (c .before .before .before .read-flags .ensures) (c .before .n .given .1)))
+
+returns-3 : tie.Need-returns-3
+returns-3 c =
+    rw (sym (told answerFlags (c .before .before .before .before .read-flags .ensures) (c .before .before .flags .given .1))) (c .read-body .ensures)
+
+pub read-header-spec : {M : Type 1} → statement M
+read-header-spec =
+    tie.close
+    (tie.spec
+    (λ c κs. search needs)
+    (λ c. search needs)
+    (λ c. search needs)
+    (λ c. search needs)
+    (λ c κs. search needs)
+    returns
+    returns-2
+    returns-3)

@@ -1,0 +1,80 @@
+-- Flags1 and Flags2 (document 01, "The DataSetMessage").
+use Prim.Native.Nat.{ℕ, _/_, _%_}
+use mathlib.Core.Bool.{Bool, true, false, cond, not, _&&_}
+use lib.Dec.{leb, ltb, eqb}
+use Rattle.wire.specs.Answer.{Answer, got, refused, Reader, ruled, andThen, item, bit}
+use Rattle.dataset_header.specs.declared.flags.Encoding.{Encoding}
+use Rattle.dataset_header.specs.declared.flags.Kind.{Kind}
+use Rattle.dataset_header.specs.declared.flags.Flags.{Flags}
+use Rattle.dataset_header.specs.declared.flags.FlagsRead.{FlagsRead}
+
+-- "Bits 1-2 encoding: 0 Variant, 1 RawData, 2 DataValue" (3 is refused)
+abbrev pub encodingOf : ℕ → Encoding
+encodingOf b = cond (eqb (b / 2 % 4) 0) Encoding.Variant (cond (eqb (b / 2 % 4) 1) Encoding.RawData Encoding.DataValue)
+
+-- "bits 0-3 kind: 0 key, 1 delta, 2 event, 3 keep alive" (others are refused)
+abbrev pub kindOf : ℕ → Kind
+kindOf f =
+    cond (eqb (f % 16) 0) Kind.Key
+    (cond (eqb (f % 16) 1) Kind.Delta
+    (cond (eqb (f % 16) 2) Kind.Event Kind.KeepAlive))
+
+-- a delta frame, and fields in RawData
+abbrev pub isDelta : Kind → Bool
+isDelta Kind.Key = false
+isDelta Kind.Delta = true
+isDelta Kind.Event = false
+isDelta Kind.KeepAlive = false
+
+abbrev pub isRaw : Encoding → Bool
+isRaw Encoding.Variant = false
+isRaw Encoding.RawData = true
+isRaw Encoding.DataValue = false
+
+-- encoding "3 is 3"
+abbrev pub flags1Rule : ℕ → ℕ
+flags1Rule b = cond (eqb (b / 2 % 4) 3) 3 0
+
+-- "Flags2: 0 is 3"; kind 4 and above is 3; bit "6 or 7 set is 3. Event not in Variant is 3; delta in RawData is 4"
+abbrev pub flags2Rule : ℕ → ℕ → ℕ
+flags2Rule b f =
+    cond (eqb f 0) 3
+    (cond (leb 4 (f % 16)) 3
+    (cond (leb 64 f) 3
+    (cond (eqb (f % 16) 2 && not (eqb (b / 2 % 4) 0)) 3
+    (cond (eqb (f % 16) 1 && eqb (b / 2 % 4) 1) 4 0))))
+
+-- Flags2 after Flags1 b: bit 7 of b announces it; without it it counts as 0
+abbrev pub flags2At : ℕ → Reader ℕ
+flags2At b s at = cond (ltb b 128) (got 0 at) (ruled 1 (flags2Rule b) s at)
+
+-- what the two bytes say: "Bits 3 sequence, 4 status, 5 major, 6 minor"; of Flags2 "bits 4 timestamp, 5 picoseconds"
+abbrev pub flagsOf : ℕ → ℕ → Flags
+flagsOf b f =
+    record {
+      encoding = encodingOf b;
+      kind = kindOf f;
+      sequence = bit 8 b;
+      status = bit 16 b;
+      major = bit 32 b;
+      minor = bit 64 b;
+      timestamp = bit 16 f;
+      picoseconds = bit 32 f;
+    }
+
+-- a message is valid, or "with bit 0 off the answer is "not valid"; nothing after it is read"
+pub data Valid (A : Type 0) : Type 0 where
+  notValid : Valid A
+  valid : A → Valid A
+
+abbrev pub flagsAt : Reader (Valid Flags)
+flagsAt s at =
+    andThen (item 1 s at)
+    (λ b next.
+    cond (eqb (b % 2) 0) (got notValid next)
+    (cond (eqb (flags1Rule b) 0) (andThen (flags2At b s next) (λ f z. got (valid (flagsOf b f)) z)) (refused (flags1Rule b) at)))
+
+abbrev pub answerFlags : FlagsRead → Answer (Valid Flags)
+answerFlags (FlagsRead.NotValid next) = got notValid next
+answerFlags (FlagsRead.Is v next) = got (valid v) next
+answerFlags (FlagsRead.Refused n place) = refused n place

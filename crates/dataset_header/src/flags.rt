@@ -1,0 +1,174 @@
+// Flags1 and Flags2 of a DataSetMessage.
+use wire::FlagByte;
+use wire::Item8;
+ghost use mathlib.Core.Path.{_≡_};
+ghost use Rattle.wire.specs.Items.{answerByte};
+ghost use Rattle.dataset_header.specs.Flags.{encodingOf, kindOf, flags1Rule, flags2Rule, flags2At, flagsOf, flagsAt, isDelta, isRaw};
+ghost use Rattle.dataset_header.specs.Flags.{answerFlags};
+
+pub enum Encoding {
+    Variant,
+    RawData,
+    DataValue,
+}
+
+pub enum Kind {
+    Key,
+    Delta,
+    Event,
+    KeepAlive,
+}
+
+// What the flag bytes say.
+pub struct Flags {
+    pub encoding: Encoding,
+    pub kind: Kind,
+    pub sequence: bool,
+    pub status: bool,
+    pub major: bool,
+    pub minor: bool,
+    pub timestamp: bool,
+    pub picoseconds: bool,
+}
+
+pub enum FlagsRead {
+    NotValid(usize),
+    Is(Flags, usize),
+    Refused(u8, usize),
+}
+
+fn encoding_of(b: u8) -> Encoding
+    ensures { λ r. ⌜ r ≡ encodingOf b ⌝ }
+{
+    let e = b / 2 % 4;
+    if e == 0 {
+        return Encoding::Variant;
+    }
+    if e == 1 {
+        return Encoding::RawData;
+    }
+    Encoding::DataValue
+}
+
+fn kind_of(f: u8) -> Kind
+    ensures { λ r. ⌜ r ≡ kindOf f ⌝ }
+{
+    let k = f % 16;
+    if k == 0 {
+        return Kind::Key;
+    }
+    if k == 1 {
+        return Kind::Delta;
+    }
+    if k == 2 {
+        return Kind::Event;
+    }
+    Kind::KeepAlive
+}
+
+// Whether a message is a delta frame.
+pub fn is_delta(kind: Kind) -> bool
+    ensures { λ r. ⌜ r ≡ isDelta kind ⌝ }
+{
+    match kind {
+        Kind::Key => false,
+        Kind::Delta => true,
+        Kind::Event => false,
+        Kind::KeepAlive => false,
+    }
+}
+
+// Whether fields are RawData.
+pub fn is_raw(encoding: Encoding) -> bool
+    ensures { λ r. ⌜ r ≡ isRaw encoding ⌝ }
+{
+    match encoding {
+        Encoding::Variant => false,
+        Encoding::RawData => true,
+        Encoding::DataValue => false,
+    }
+}
+
+fn flags1_rule(b: u8) -> u8
+    ensures { λ r. ⌜ r ≡ flags1Rule b ⌝ }
+{
+    if b / 2 % 4 == 3 {
+        return 3;
+    }
+    0
+}
+
+// The number of the rule that Flags2 breaks after Flags1 b, or 0.
+fn flags2_rule(b: u8, f: u8) -> u8
+    ensures { λ r. ⌜ r ≡ flags2Rule b f ⌝ }
+{
+    if f == 0 {
+        return 3;
+    }
+    if 4 <= f % 16 {
+        return 3;
+    }
+    if 64 <= f {
+        return 3;
+    }
+    if (f % 16 == 2) & (b / 2 % 4 != 0) {
+        return 3;
+    }
+    if (f % 16 == 1) & (b / 2 % 4 == 1) {
+        return 4;
+    }
+    0
+}
+
+fn flags2(s: &[u8], b: u8, at: usize) -> FlagByte
+    ensures { λ r. ⌜ answerByte r ≡ flags2At b (now (s .entry)) at ⌝ }
+{
+    if b < 128 {
+        return FlagByte::Is(0, at);
+    }
+    let Item8::Is(f, next) = wire::read8(s, at) else {
+        return FlagByte::Refused(1, at);
+    };
+    let n = flags2_rule(b, f);
+    if n != 0 {
+        return FlagByte::Refused(n, at);
+    }
+    FlagByte::Is(f, next)
+}
+
+fn flags_of(b: u8, f: u8) -> Flags
+    ensures { λ r. ⌜ r ≡ flagsOf b f ⌝ }
+{
+    let encoding = encoding_of(b);
+    let kind = kind_of(f);
+    Flags {
+        encoding,
+        kind,
+        sequence: b / 8 % 2 == 1,
+        status: b / 16 % 2 == 1,
+        major: b / 32 % 2 == 1,
+        minor: b / 64 % 2 == 1,
+        timestamp: f / 16 % 2 == 1,
+        picoseconds: f / 32 % 2 == 1,
+    }
+}
+
+// The flag bytes at the start of a message.
+pub fn read_flags(s: &[u8]) -> FlagsRead
+    ensures { λ r. ⌜ answerFlags r ≡ flagsAt (now (s .entry)) 0 ⌝ }
+{
+    let Item8::Is(b, next) = wire::read8(s, 0) else {
+        return FlagsRead::Refused(1, 0);
+    };
+    if b % 2 == 0 {
+        return FlagsRead::NotValid(next);
+    }
+    let n = flags1_rule(b);
+    if n != 0 {
+        return FlagsRead::Refused(n, 0);
+    }
+    match flags2(s, b, next) {
+        FlagByte::Refused(n, place) => FlagsRead::Refused(n, place),
+        FlagByte::Is(f, next) => FlagsRead::Is(flags_of(b, f), next),
+    }
+}

@@ -1,0 +1,24 @@
+-- `publisher_id::publisher::string_of` meets its contract.
+-- Assumes nothing.
+use mathlib.Core.Path.{sym}
+use borrow.Author.Tests.{le-leb, lt-leb}
+use borrow.Author.Needs.{needs}
+use Rattle.wire.specs.Items.{answerRun}
+use Rattle.wire.proofs.Reading.{told}
+use Rattle.publisher_id.proofs.publisher.string_of.Statement.{statement}
+use Rattle.publisher_id.proofs.publisher.string_of.Tie as tie
+
+returns : tie.Need-returns
+returns c = rw (le-leb _ _ (c .if1 .taken))
+
+returns-2 : tie.Need-returns-2
+returns-2 c =
+    rw (lt-leb _ _ (c .before .before .before .if1 .left), sym (told (answerRun (c .before .before .before .before .before .args .start) (c .before .before .before .before .before .args .n)) (c .before .before .skip .ensures) (c .enum-told .given .1)))
+
+returns-3 : tie.Need-returns-3
+returns-3 c =
+    rw (lt-leb _ _ (c .before .before .before .before .if1 .left), sym (told (answerRun (c .before .before .before .before .before .before .args .start) (c .before .before .before .before .before .before .args .n)) (c .before .before .before .skip .ensures) (c .before .next .given .1)))
+
+pub string-of-spec : {M : Type 1} → statement M
+string-of-spec =
+    tie.close (tie.spec returns (λ c κs. search needs) (λ c. search needs) (λ c. search needs) returns-2 returns-3)

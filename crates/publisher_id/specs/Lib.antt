@@ -1,0 +1,2 @@
+pub mod Publisher
+pub mod PublisherRecord

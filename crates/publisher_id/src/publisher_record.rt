@@ -1,0 +1,104 @@
+// A PublisherId by value with the bytes of a string, for records that outlive the datagram, and its equality.
+use crate::publisher::PublisherId;
+use store::put_run;
+use wire::part::part;
+ghost use mathlib.Core.Path.{_≡_};
+ghost use Rattle.publisher_id.specs.PublisherRecord.{codeOf, valueOf, lengthOf, publisherOf, publisherFits, sameText};
+ghost use Rattle.publisher_id.specs.PublisherRecord.{samePublisher, recordAt};
+
+// Of a string the first bytes of text are its content, as many as the id says.
+pub struct PublisherRecord {
+    pub id: PublisherId,
+    pub text: [u8; 64],
+}
+
+pub fn code(id: PublisherId) -> u64
+    ensures { λ r. ⌜ r ≡ codeOf id ⌝ }
+{
+    match id {
+        PublisherId::Absent => 0,
+        PublisherId::Byte(_) => 1,
+        PublisherId::UInt16(_) => 2,
+        PublisherId::UInt32(_) => 3,
+        PublisherId::UInt64(_) => 4,
+        PublisherId::Text(_) => 5,
+    }
+}
+
+fn value(id: PublisherId) -> u64
+    ensures { λ r. ⌜ r ≡ valueOf id ⌝ }
+{
+    match id {
+        PublisherId::Absent => 0,
+        PublisherId::Byte(v) => v as u64,
+        PublisherId::UInt16(v) => v as u64,
+        PublisherId::UInt32(v) => v as u64,
+        PublisherId::UInt64(v) => v,
+        PublisherId::Text(_) => 0,
+    }
+}
+
+fn text_length(id: PublisherId) -> usize
+    ensures { λ r. ⌜ r ≡ lengthOf id ⌝ }
+{
+    match id {
+        PublisherId::Absent => 0,
+        PublisherId::Byte(_) => 0,
+        PublisherId::UInt16(_) => 0,
+        PublisherId::UInt32(_) => 0,
+        PublisherId::UInt64(_) => 0,
+        PublisherId::Text(n) => n,
+    }
+}
+
+// Whether two slices hold the same bytes.
+fn same_text(a: &[u8], b: &[u8]) -> bool
+    ensures { λ r. ⌜ r ≡ sameText (now (a .entry)) (now (b .entry)) ⌝ }
+{
+    if a.len() != b.len() {
+        return false;
+    }
+    let mut i = 0;
+    while i < a.len() {
+        if a[i] != b[i] {
+            return false;
+        }
+        i += 1;
+    }
+    true
+}
+
+// Whether two ids are equal: type and content, or both absent.
+pub fn same_publisher(a: PublisherRecord, b: PublisherRecord) -> bool
+    ensures { λ r. ⌜ r ≡ samePublisher (publisherOf a) (publisherOf b) ⌝ }
+{
+    let x = a.id;
+    let y = b.id;
+    if code(x) != code(y) {
+        return false;
+    }
+    if value(x) != value(y) {
+        return false;
+    }
+    let s = a.text;
+    let t = b.text;
+    same_text(part(&s, 0, text_length(x)), part(&t, 0, text_length(y)))
+}
+
+// Whether a string id has at most 64 bytes; any other id passes.
+pub fn publisher_fits(p: PublisherRecord) -> bool
+    ensures { λ r. ⌜ r ≡ publisherFits p ⌝ }
+{
+    let id = p.id;
+    text_length(id) <= 64
+}
+
+// The record of an id that ends at a position of a datagram.
+pub fn publisher_record(s: &[u8], id: PublisherId, end: usize) -> PublisherRecord
+    ensures { λ r. ⌜ r ≡ recordAt id end (now (s .entry)) ⌝ }
+{
+    let mut text = [0u8; 64];
+    let n = text_length(id);
+    put_run(&mut text, 0, part(s, wire::left(end, n), n));
+    PublisherRecord { id, text }
+}

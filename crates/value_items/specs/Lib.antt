@@ -1,0 +1,3 @@
+pub mod Width
+pub mod Plain
+pub mod Parts
