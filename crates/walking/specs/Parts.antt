@@ -1,7 +1,8 @@
 -- The listing's lines of a message, by the parts of the datagram that they need.
-use Prim.Native.Nat.{ℕ, zero, suc}
+use Prim.Native.Nat.{ℕ, zero, suc, _+_, _≤_}
+use mathlib.Core.Path.{_≡_}
 use mathlib.Core.List.{List, [], _∷_}
-use lib.ListN.{take, drop}
+use lib.ListN.{length, take, drop}
 use Rattle.wire.specs.Answer.{Answer, got, refused}
 use Rattle.wire.specs.declared.optional.Optional16.{Optional16}
 use Rattle.publisher_id.specs.declared.publisher.PublisherId.{PublisherId}
@@ -9,13 +10,14 @@ use Rattle.network_header.specs.declared.header.PayloadHeader.{PayloadHeader}
 use Rattle.network_message.specs.declared.payload.Payload.{Payload}
 use Rattle.network_message.specs.declared.payload.MessagePlace.{MessagePlace}
 use Rattle.dataset_header.specs.Flags.{Valid, notValid, valid}
-use Rattle.dataset_fields.specs.Fields.{Stepped, stepAt}
+use Rattle.dataset_fields.specs.Fields.{fieldsAt, Stepped, stepAt}
 use Rattle.dataset_message.specs.Message.{Message, messageAt}
 use Rattle.dataset_fields.specs.declared.fields.Cursor.{Cursor}
 use Rattle.listing.specs.Lines.{Writers, inDatagram, fieldsLeft, messagesLeft, firstMessage, messageLines}
 use Rattle.listing_line.specs.declared.line.SetPlace.{SetPlace}
 use Rattle.listing_line.specs.declared.line.Line.{Line}
 use Rattle.listing.specs.declared.lines.Listed.{Listed}
+use Rattle.walking.specs.Walk.{recordsPut}
 
 -- ---- the message in place p, of a writer, with its field types, and its bytes
 module _ (types bytes : List ℕ) (p : MessagePlace) where
@@ -49,3 +51,18 @@ bare header end payload =
 
 abbrev pub payloadLines : Writers → List ℕ → Listed → List Line
 payloadLines w d l = messageLines w d (messagesLeft l (firstMessage l)) l (firstMessage l)
+
+-- ---- what walking over a message's fields from a cursor on needs, and what it leaves
+
+-- the fields from the cursor on are accepted and end at `end`
+abbrev pub Accepted : List ℕ → List ℕ → Cursor → ℕ → Type 0
+Accepted types bytes c end = fieldsAt (c .delta) (c .encoding) types (fieldsLeft c) (c .next) bytes (c .at) ≡ got tt end
+
+-- a number of 8 bytes
+abbrev pub Word : ℕ → Type 0
+Word n = n ≤ 18446744073709551615
+
+-- their records were put from record k on, and the record after them is record r
+abbrev pub FieldsPut : List ℕ → List ℕ → MessagePlace → Cursor → ℕ → ℕ → List ℕ → List ℕ → Type 0
+FieldsPut types bytes p c k r entry exit =
+    (r ≡ k + length (fieldsFrom types bytes p (fieldsLeft c) c)) × (exit ≡ recordsPut k (fieldsFrom types bytes p (fieldsLeft c) c) entry)

@@ -32,13 +32,13 @@ ghost use lib.ListN.{length};
 ghost use Rattle.store.specs.Store.{laid};
 ghost use Rattle.wire.specs.Answer.{got};
 ghost use Rattle.dataset_header.specs.Flags.{isRaw};
-ghost use Rattle.dataset_fields.specs.Fields.{fieldAt, fieldsAt, answerField};
+ghost use Rattle.dataset_fields.specs.Fields.{fieldAt, answerField};
 ghost use Rattle.dataset_fields.specs.declared.fields.Field.{Field};
 ghost use Rattle.records.specs.Numbers.{numberBytes};
-ghost use Rattle.listing.specs.Lines.{writers, inDatagram, fieldsLeft};
+ghost use Rattle.listing.specs.Lines.{writers, inDatagram};
 ghost use Rattle.listing_line.specs.declared.line.Line.{Line};
 ghost use Rattle.walking.specs.Walk.{orNone, recordLaid, recordsPut, walkLines, walkOf};
-ghost use Rattle.walking.specs.Parts.{fieldsFrom, setFrom, bare, payloadLines};
+ghost use Rattle.walking.specs.Parts.{setFrom, bare, payloadLines, Accepted, Word, FieldsPut};
 
 // How many records there are in all, or the datagram's refusal.
 pub enum Walked {
@@ -71,7 +71,7 @@ fn put_record(out: &mut [u8], k: usize, numbers: &[u64])
 
 // Puts record k, of a field of the message in a place.
 fn put_field(out: &mut [u8], k: usize, p: MessagePlace, f: Field)
-    requires { ⌜ p .offset + f .offset ≤ 18446744073709551615 ⌝ }
+    requires { ⌜ Word (p .offset + f .offset) ⌝ }
     ensures { λ _. ⌜ now (out .exit) ≡ recordLaid k (Line.Field (p .index) (inDatagram p f)) (now (out .entry)) ⌝ }
 {
     let shape = f.shape;
@@ -131,7 +131,7 @@ fn field_at(
     field_in_line(s, encoding, delta, types, k, at, last, end)
 }
 
-// Puts the records of the fields of RawData from the cursor on, which are accepted and end at `end`, the first of them record k: each has its type's
+// Puts the records of the fields of RawData from the cursor on, which are accepted and end at `end`, the first as record `first`: each has its type's
 // width, and nothing is tested again. Answers the number of the record after them. `message` and `end` stand in the contract only.
 fn walk_raw(
     out: &mut [u8],
@@ -142,8 +142,8 @@ fn walk_raw(
     c: Cursor,
     end: usize,
 ) -> usize
-    requires { ⌜ (first + length (now message) ≤ 18446744073709551615) × (p .offset + length (now message) ≤ 18446744073709551615) × (fieldsAt (c .delta) (c .encoding) (now types) (fieldsLeft c) (c .next) (now message) (c .at) ≡ got tt end) × (c .delta ≡ false) × (isRaw (c .encoding) ≡ true) ⌝ }
-    ensures { λ r. ⌜ (r ≡ first + length (fieldsFrom (now (types .entry)) (now (message .entry)) p (fieldsLeft c) c)) × (now (out .exit) ≡ recordsPut first (fieldsFrom (now (types .entry)) (now (message .entry)) p (fieldsLeft c) c) (now (out .entry))) ⌝ }
+    requires { ⌜ Word (first + length (now message)) × Word (p .offset + length (now message)) × Accepted (now types) (now message) c end × (c .delta ≡ false) × (isRaw (c .encoding) ≡ true) ⌝ }
+    ensures { λ r. ⌜ FieldsPut (now (types .entry)) (now (message .entry)) p c first r (now (out .entry)) (now (out .exit)) ⌝ }
 {
     let mut at = c.at;
     let mut i = c.next;
@@ -167,7 +167,7 @@ fn walk_raw(
     k
 }
 
-// Puts the records of a message's fields from the cursor on, which end at `end`, the first of them record k; answers the number of the record
+// Puts the records of a message's fields from the cursor on, which end at `end`, the first as record `first`; answers the number of the record
 // after them.
 fn walk_each(
     out: &mut [u8],
@@ -178,8 +178,8 @@ fn walk_each(
     c: Cursor,
     end: usize,
 ) -> usize
-    requires { ⌜ (first + length (now message) ≤ 18446744073709551615) × (p .offset + length (now message) ≤ 18446744073709551615) × (fieldsAt (c .delta) (c .encoding) (now types) (fieldsLeft c) (c .next) (now message) (c .at) ≡ got tt end) ⌝ }
-    ensures { λ r. ⌜ (r ≡ first + length (fieldsFrom (now (types .entry)) (now (message .entry)) p (fieldsLeft c) c)) × (now (out .exit) ≡ recordsPut first (fieldsFrom (now (types .entry)) (now (message .entry)) p (fieldsLeft c) c) (now (out .entry))) ⌝ }
+    requires { ⌜ Word (first + length (now message)) × Word (p .offset + length (now message)) × Accepted (now types) (now message) c end ⌝ }
+    ensures { λ r. ⌜ FieldsPut (now (types .entry)) (now (message .entry)) p c first r (now (out .entry)) (now (out .exit)) ⌝ }
 {
     let encoding = c.encoding;
     let mut at = c.at;
@@ -212,8 +212,8 @@ fn walk_fields(
     c: Cursor,
     end: usize,
 ) -> usize
-    requires { ⌜ (first + length (now message) ≤ 18446744073709551615) × (p .offset + length (now message) ≤ 18446744073709551615) × (fieldsAt (c .delta) (c .encoding) (now types) (fieldsLeft c) (c .next) (now message) (c .at) ≡ got tt end) ⌝ }
-    ensures { λ r. ⌜ (r ≡ first + length (fieldsFrom (now (types .entry)) (now (message .entry)) p (fieldsLeft c) c)) × (now (out .exit) ≡ recordsPut first (fieldsFrom (now (types .entry)) (now (message .entry)) p (fieldsLeft c) c) (now (out .entry))) ⌝ }
+    requires { ⌜ Word (first + length (now message)) × Word (p .offset + length (now message)) × Accepted (now types) (now message) c end ⌝ }
+    ensures { λ r. ⌜ FieldsPut (now (types .entry)) (now (message .entry)) p c first r (now (out .entry)) (now (out .exit)) ⌝ }
 {
     let encoding = c.encoding;
     if !c.delta & is_raw(encoding) {
@@ -231,7 +231,7 @@ fn walk_message(
     writer: Optional16,
     p: MessagePlace,
 ) -> usize
-    requires { ⌜ k + 1 + length (now s) ≤ 18446744073709551615 ⌝ }
+    requires { ⌜ Word (k + 1 + length (now s)) ⌝ }
     ensures { λ r. ⌜ (r ≡ k + length (setFrom (now (types .entry)) p writer (now (s .entry)))) × (now (out .exit) ≡ recordsPut k (setFrom (now (types .entry)) p writer (now (s .entry))) (now (out .entry))) ⌝ }
 {
     let message = part(s, p.offset, p.length);
