@@ -26,14 +26,15 @@ use Rattle.dataset_message.specs.Message.{Message, messageAt, nthAt}
 use Rattle.dataset_fields.specs.declared.fields.Field.{Field}
 use Rattle.dataset_message.proofs.Agreement.{message-agrees}
 use Rattle.dataset_message_writer.specs.Message as M
-use Rattle.dataset_message_writer.specs.Rewrite.{Rewrites}
+use Rattle.rewriting.specs.Same.{WritesSame}
 use Rattle.writing.specs.declared.Written.{Written}
 use Rattle.round_trip.specs.NetworkMessage.{AsManyLengths, givenLengths, messageOf, rewritten, FitsEnvelope, ReadsBack, WritesAgain}
-use Rattle.round_trip.specs.DataSetMessage.{MessageBack, Tellable, FitsHeader}
+use Rattle.round_trip.specs.DataSetMessage.{MessageBack, Tellable}
+use Rattle.dataset_parts_writer.specs.Header.{FitsHeader}
 use Rattle.round_trip.proofs.NetworkMessageRoundTrip.{reads-back, writes-again, refuses-alike}
 use Rattle.round_trip.proofs.NetworkMessageRewritten as NetworkMessage
 use Rattle.round_trip.proofs.DataSetMessage as DataSetMessage
-use Rattle.round_trip.proofs.DataSetMessageRewritten as Rewritten
+use Rattle.rewriting.proofs.Copied as Copied
 use Rattle.round_trip.proofs.DataSetMessageRefused as Refused
 use Rattle.writing.specs.Fits.{Bytes, Numbers}
 use Rattle.listing.specs.Lines.{Writers, linesFrom, stepLines, nextLine, startOf, listingOf}
@@ -85,9 +86,10 @@ pub datagram-reads-back : (g : N.Given) (x : Envelope) (sizes configured : List 
 datagram-reads-back = reads-back
 
 -- A DataSetMessage that the writer accepted: its header, that it is a heartbeat or not, the number of its fields, each field's index and bytes, and
--- the length of its padding.
-pub message-reads-back : (types : List ℕ) (m : M.Given) → FitsHeader (m .header) → Numbers (m .indices) → M.refusalOf types m ≡ 0 → MessageBack types m
-message-reads-back = DataSetMessage.read-written
+-- the length of its padding. The premise is the writer's contract for the answer `Is n`; the bytes read are the first n of the buffer.
+pub message-reads-back : (types : List ℕ) (m : M.Given) (entry exit : List ℕ) (n : ℕ) → M.FitsGiven m × M.Writes types m entry exit (Written.Is n)
+    → MessageBack types m (take n exit) × (drop n exit ≡ drop n entry)
+message-reads-back = DataSetMessage.written-reads
 
 -- The whole datagram: where message k that was given is a DataSetMessage that the message writer accepted, its own part of the datagram is that
 -- message, and reads back as what the message writer was given.
@@ -95,7 +97,7 @@ pub whole-reads-back : (g : N.Given) (x : Envelope) (sizes configured : List ℕ
     → OfMessages (x .«payload_header») → (k : ℕ) → k < length (givenLengths g (x .«payload_header») sizes)
     → (types : List ℕ) (m : M.Given) → FitsHeader (m .header) → Numbers (m .indices) → M.refusalOf types m ≡ 0
     → messageOf (givenLengths g (x .«payload_header») sizes) (g .messages) k ≡ M.encode m
-    → (messageBytes (messagePlaceAt sizes k (N.datagramOf g x)) (N.datagramOf g x) ≡ M.encode m) × MessageBack types m
+    → (messageBytes (messagePlaceAt sizes k (N.datagramOf g x)) (N.datagramOf g x) ≡ M.encode m) × MessageBack types m (M.encode m)
 whole-reads-back g x sizes configured room f n o k l types m fh fi a e =
     (reads-back g x sizes configured room f n .message o k l .1 ∙ e, DataSetMessage.read-written types m fh fi a)
 
@@ -113,10 +115,9 @@ pub rewritten-is-the-same : (sizes s : List ℕ) (m : NetworkMessage) (next : �
 rewritten-is-the-same = NetworkMessage.rewrite-same
 
 -- Every accepted DataSetMessage: the same bytes, padding included, and the buffer goes on as it was.
-pub message-written-again : (types s : List ℕ) (m : Message) (e : ℕ) → Bytes s → messageAt types s ≡ got (valid m) e → length s ≤ 65535
-    → (entry exit : List ℕ) (r : Written) → length s ≤ length entry → Rewrites types s entry exit r
-    → (r ≡ Written.Is (length s)) × (exit ≡ s ++ drop (length s) entry)
-message-written-again = Rewritten.rewrite-same
+pub message-written-again : (types s entry exit : List ℕ) (r : Written) (m : Message) (e : ℕ) → messageAt types s ≡ got (valid m) e → length s ≤ 65535 → length s ≤ length entry
+    → WritesSame types s entry exit r → (r ≡ Written.Is (length s)) × (exit ≡ s ++ drop (length s) entry)
+message-written-again types s entry = Copied.same-bytes types s entry
 
 -- ---- 3. The writers' refusals by a reading rule are reading's refusals of what would have been written, by the same number.
 

@@ -22,7 +22,8 @@ use Rattle.reassembly.specs.Operations.{takeIn, combine, askComplete, judgeHand
 use Rattle.reassembly.specs.declared.verdict.Completeness.the-variants as C
 use Rattle.reassembly.specs.declared.verdict.Verdict.the-variants.{Done}
 use Rattle.reassembly.proofs.JudgeLaws as JudgeLaws
-use Rattle.reassembly_laws.specs.History.{Call, replies, final, machineReplies, machineFinal, brought, Brings, AllOf}
+use Rattle.reassembly.specs.Calls.{Call, replies, final}
+use Rattle.reassembly_laws.specs.History.{machineReplies, machineFinal, brought, Brings, AllOf}
 use Rattle.reassembly_laws.specs.Combining.{Pair, Three, isRefused, someDisagree, leftVerdict, leftResult, rightVerdict, rightResult}
 use Rattle.reassembly_laws.specs.Cutting.{Arrival, takings, dones, IsCut, AllArrive}
 use Rattle.reassembly_laws.proofs.Demand3 as D

@@ -12,9 +12,9 @@ use Rattle.value.specs.Value.{Measure}
 use Rattle.value.specs.declared.Shape.{Shape}
 use Rattle.publisher_id.specs.declared.publisher.PublisherId.{PublisherId}
 use Rattle.reassembly.specs.Record.{Partial, partial}
-use Rattle.reassembly_laws.specs.History.{Call, Reply, replies}
-use Rattle.reassembly_laws.specs.History.Call.{Take, Ask, HandOut}
-use Rattle.reassembly_laws.specs.History.Reply.{done, said, handed, refused as refusal}
+use Rattle.reassembly.specs.Calls.{Call, Reply, replies}
+use Rattle.reassembly.specs.Calls.Call.{Take, Ask, HandOut}
+use Rattle.reassembly.specs.Calls.Reply.{done, said, handed, refused as refusal}
 
 -- a reading: a received sequence number by the last one; a Variant at the start of some bytes; a list of calls on a partial
 pub data EdgeReading : Type 0 where

@@ -14,7 +14,8 @@ use Rattle.dataset_header.specs.declared.flags.Encoding.{Encoding}
 use Rattle.dataset_header.specs.declared.flags.Kind.{Kind}
 use Rattle.dataset_header.specs.declared.header.Header.{Header}
 use Rattle.dataset_parts_writer.specs.Flags.{kindRule}
-use Rattle.dataset_parts_writer.specs.Header.{headerBytes}
+use Rattle.dataset_parts_writer.specs.Header.{headerBytes, FitsHeader}
+use Rattle.writing.specs.Fits.{Numbers}
 use Rattle.dataset_parts_writer.specs.Fields.{total, valuesOf, fieldsRefusal, fieldsWhole, reached, fieldsBytes, zeros}
 
 -- What is given to be written: the header; of a key frame, whether it is a heartbeat; the fields' encoded values one after the
@@ -30,6 +31,11 @@ pub record Given : Type 0 where
 abbrev pub given : Header → Bool → List ℕ → List ℕ → List ℕ → ℕ → Given
 given h heartbeat values lengths indices padding =
     record { header = h; heartbeat = heartbeat; values = values; lengths = lengths; indices = indices; padding = padding }
+
+-- each number given fits its type: of every value of the code this is so, and the writer's contract says it
+pub record FitsGiven (g : Given) : Type 0 where
+  pub header : FitsHeader (g .header)
+  pub indices : Numbers (g .indices)
 
 -- whether something follows the header of a message of this kind: not of a heartbeat, nor of a keep alive
 abbrev pub hasFields : Kind → Bool → Bool

@@ -23,7 +23,7 @@ ghost use lib.ListN.{length};
 ghost use Rattle.writing.specs.Writing.{orElse, Puts};
 ghost use Rattle.dataset_parts_writer.specs.Fields.{total, valuesOf, fieldsBytes};
 ghost use Rattle.dataset_message_writer.specs.Message.{given, isKey, fieldedRefusal, fieldedAgrees, configuredRule, countAgrees, listsAgree};
-ghost use Rattle.dataset_message_writer.specs.Message.{encode, bodyRefusal, bodyAgrees, refusalOf, Writes};
+ghost use Rattle.dataset_message_writer.specs.Message.{encode, bodyRefusal, bodyAgrees, refusalOf, Writes, FitsGiven};
 
 fn is_key(kind: Kind) -> bool
     ensures { λ r. ⌜ r ≡ isKey kind ⌝ }
@@ -183,7 +183,9 @@ pub fn write(
     types: &[u8],
     padding: usize,
 ) -> Written
-    ensures { λ r. ⌜ Writes (now (types .entry)) (given header heartbeat (now (values .entry)) (now (lengths .entry)) (now (indices .entry)) padding) (now (out .entry)) (now (out .exit)) r ⌝ }
+    ensures { λ r.
+        let g = given header heartbeat (now (values .entry)) (now (lengths .entry)) (now (indices .entry)) padding in
+        ⌜ FitsGiven g × Writes (now (types .entry)) g (now (out .entry)) (now (out .exit)) r ⌝ }
 {
     let number = refusal(header, heartbeat, values, lengths, indices, types, padding);
     if number != 0 {

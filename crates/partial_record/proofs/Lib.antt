@@ -1,2 +1,4 @@
 pub mod Parts
 pub mod Taken
+pub mod Back
+pub mod Fitting

@@ -1,10 +1,12 @@
 -- The record of a partial as lent bytes (include/uadp.h, "Partial record").
-use Prim.Native.Nat.{ℕ, _%_}
+use Prim.Native.Nat.{ℕ, _%_, _^_, _<_}
+use mathlib.Core.Path.{_≡_}
 use mathlib.Core.List.{List, [], _∷_, _++_}
 use lib.Dec.{eqb}
-use lib.ListN.{take, drop, replicate}
+use lib.ListN.{length, take, drop, replicate}
 use Rattle.store.specs.Store.{laid}
 use Rattle.publisher_id.specs.PublisherRecord.{codeOf}
+use Rattle.publisher_id.specs.declared.publisher.PublisherId.{PublisherId}
 use Rattle.publisher_id.specs.declared.publisher_record.PublisherRecord.{PublisherRecord}
 use Rattle.reassembly.specs.declared.record.Message.{Message}
 use Rattle.reassembly.specs.declared.record.PartialRecord.{PartialRecord}
@@ -33,3 +35,20 @@ partialBytes r =
     (flagNumber (r .started) ∷ codeOf (r .message .publisher .id) ∷ publisherNumber (r .message .publisher .id) ∷ r .message .writer
     ∷ r .message .number ∷ r .message .total ∷ [])
     ++ r .message .publisher .text
+
+-- each number of a record fits its type, and its text has 64 bytes, as a value of the code has
+
+abbrev pub FitsId : PublisherId → Type 0
+FitsId PublisherId.Absent = Unit
+FitsId (PublisherId.Byte v) = v < 256
+FitsId (PublisherId.UInt16 v) = v < 65536
+FitsId (PublisherId.UInt32 v) = v < 4294967296
+FitsId (PublisherId.UInt64 v) = v < 256 ^ 8
+FitsId (PublisherId.Text n) = n < 256 ^ 8
+
+pub record FitsRecord (r : PartialRecord) : Type 0 where
+  pub id : FitsId (r .message .publisher .id)
+  pub text : length (r .message .publisher .text) ≡ 64
+  pub writer : r .message .writer < 65536
+  pub number : r .message .number < 65536
+  pub total : r .message .total < 256 ^ 8

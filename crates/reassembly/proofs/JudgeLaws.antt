@@ -16,7 +16,7 @@ use Rattle.publisher_id.specs.declared.publisher_record.PublisherRecord.{Publis
 use Rattle.chunk.specs.Datagram.{chunkAt}
 use Rattle.chunk.specs.declared.datagram.ChunkPlace.{ChunkPlace}
 use Rattle.chunk.proofs.Accepted
-use Rattle.reassembly.specs.Record.{Identity, identityOf, sameMessage, Partial, partial, soundBy, sound}
+use Rattle.reassembly.specs.Record.{Identity, identityOf, sameMessage, Partial, soundBy, sound}
 use Rattle.reassembly.specs.Reading.{Reading, messageOf, readingBy, readingAt, Proper, ProperReading}
 use Rattle.reassembly.specs.Reading.Reading.{chunk, refusal}
 use Rattle.reassembly.specs.Machine.{State, judge, judgeState, meet}
@@ -41,26 +41,26 @@ pub refused-done : (n p : ℕ) → Refused n p ≡ Done → ⊥
 refused-done n p e = let z : _≡_ {A = ℕ} 0 1 = cc in omega arith
 
 -- ---- soundness
-module _ (r : PartialRecord) (n k : ℕ) (e : soundBy r n k ≡ true) where
-  pub sound-lengths : marksFor n ≡ k
+module _ (s : Partial) (e : sound s ≡ true) where
+  pub sound-lengths : marksFor (s .layout) (length (s .payload)) ≡ length (s .marks)
   unfolding soundBy
-  sound-lengths = eqb-true (marksFor n) k (and-left (eqb (marksFor n) k) _ e)
+  sound-lengths = eqb-true (marksFor (s .layout) (length (s .payload))) (length (s .marks)) (and-left (eqb (marksFor (s .layout) (length (s .payload))) (length (s .marks))) _ e)
 
-  sound-started : r .started ≡ true → (leb 1 (r .message .total) && (leb (r .message .total) n && publisherFits (r .message .publisher))) ≡ true
+  sound-started : s .rec .started ≡ true → (leb 1 (s .rec .message .total) && (leb (s .rec .message .total) (length (s .payload)) && publisherFits (s .rec .message .publisher))) ≡ true
   unfolding soundBy
-  sound-started s = rw s at (and-right (eqb (marksFor n) k) _ e)
+  sound-started h = rw h at (and-right (eqb (marksFor (s .layout) (length (s .payload))) (length (s .marks))) _ e)
 
-  pub sound-some : r .started ≡ true → 1 ≤ r .message .total
-  sound-some s = leb-true _ _ (and-left (leb 1 (r .message .total)) _ (sound-started s))
+  pub sound-some : s .rec .started ≡ true → 1 ≤ s .rec .message .total
+  sound-some h = leb-true _ _ (and-left (leb 1 (s .rec .message .total)) _ (sound-started h))
 
-  pub sound-total : r .started ≡ true → r .message .total ≤ n
-  sound-total s = leb-true _ _ (and-left (leb (r .message .total) n) _ (and-right (leb 1 (r .message .total)) _ (sound-started s)))
+  pub sound-total : s .rec .started ≡ true → s .rec .message .total ≤ length (s .payload)
+  sound-total h = leb-true _ _ (and-left (leb (s .rec .message .total) (length (s .payload))) _ (and-right (leb 1 (s .rec .message .total)) _ (sound-started h)))
 
-  pub sound-publisher : r .started ≡ true → publisherFits (r .message .publisher) ≡ true
-  sound-publisher s = and-right (leb (r .message .total) n) _ (and-right (leb 1 (r .message .total)) _ (sound-started s))
+  pub sound-publisher : s .rec .started ≡ true → publisherFits (s .rec .message .publisher) ≡ true
+  sound-publisher h = and-right (leb (s .rec .message .total) (length (s .payload))) _ (and-right (leb 1 (s .rec .message .total)) _ (sound-started h))
 
-  pub sound-marks : (t : ℕ) → t ≤ n → marksFor t ≤ k
-  sound-marks t h = let l = sound-lengths in omega (arith, marks-mono t n h)
+  pub sound-marks : (t : ℕ) → t ≤ length (s .payload) → marksFor (s .layout) t ≤ length (s .marks)
+  sound-marks t h = let l = sound-lengths in omega (arith, marks-mono (s .layout) t (length (s .payload)) h)
 
 -- ---- what a datagram reads as
 module _ (sizes s : List ℕ) where
@@ -191,34 +191,34 @@ module _ (s : Partial) (m : Message) (at : ℕ) (d : List ℕ) where
 
   -- the same message: its bytes meet what is held
   module _ (e : sound s ≡ true) (o : Proper m at (length d)) (g : admissionOf (s .rec) (length (s .payload)) m ≡ A.Same) where
-    pub data-room : (at + length d ≤ length (s .payload)) × (marksFor (at + length d) ≤ length (s .marks))
+    pub data-room : (at + length d ≤ length (s .payload)) × (marksFor (s .layout) (at + length d) ≤ length (s .marks))
     data-room =
         let a = admits-same _ _ _ g in
         let h : at + length d ≤ length (s .payload) = omega (arith, a .room, o .fits) in
-        (h, sound-marks (s .rec) _ _ e _ h)
+        (h, sound-marks s e _ h)
 
-    pub reading-same : judgeReading s (chunk m at d) ≡ cond (clash (at + length d) (markedView (at + length d) (s .payload) (s .marks)) (dataView at d)) (Refused 14 0) Done
+    pub reading-same : judgeReading s (chunk m at d) ≡ cond (clash (at + length d) (markedView (s .layout) (at + length d) (s .payload) (s .marks)) (dataView at d)) (Refused 14 0) Done
     reading-same =
         let a = admits-same _ _ _ g in
         let t : s .rec .message .total ≡ m .total = ap (λ (m : Identity). m .total) (a .same) in
         let h : at + length d ≤ s .rec .message .total = omega (arith, o .fits) in
         reading-admits e ∙ rw g
-        (ap (λ (b : Bool). cond b (Refused 14 0) Done) (sym (clash-total (s .rec .message .total) (s .payload) (s .marks) at d h)))
+        (ap (λ (b : Bool). cond b (Refused 14 0) Done) (sym (clash-total (s .layout) (s .rec .message .total) (s .payload) (s .marks) at d h)))
 
   -- an accepted chunk has room
   module _ (o : Proper m at (length d)) (e : judgeReading s (chunk m at d) ≡ Done) where
-    pub taken-room : (at + length d ≤ length (s .payload)) × (marksFor (at + length d) ≤ length (s .marks))
+    pub taken-room : (at + length d ≤ length (s .payload)) × (marksFor (s .layout) (at + length d) ≤ length (s .marks))
     taken-room =
         let ok = reading-sound s (chunk m at d) e in
         let met : judge (length (s .payload)) (stateOf s) (identityOf m) (dataView at d) ≡ Done = sym (reading-judged s (chunk m at d) ok) ∙ e in
         let t : m .total ≤ length (s .payload) = judge-fits (length (s .payload)) (stateOf s) (identityOf m) (dataView at d) met in
         let h : at + length d ≤ length (s .payload) = omega (arith, o .fits) in
-        (h, sound-marks (s .rec) _ _ ok _ h)
+        (h, sound-marks s ok _ h)
 
-    pub taken-marks : (n : List ℕ) → n ≡ begunMarks (s .rec) (s .marks) → (at ≤ at + length d) × (marksFor (at + length d) ≤ length n)
+    pub taken-marks : (n : List ℕ) → n ≡ begunMarks (s .rec) (s .marks) → (at ≤ at + length d) × (marksFor (s .layout) (at + length d) ≤ length n)
     taken-marks n q = (omega arith, rw (length-begun (s .rec) (s .marks) n q) (taken-room .1))
 
-    pub taken : (v : Verdict) (k : PartialRecord) (p z n : List ℕ) → v ≡ Done → k ≡ begun (s .rec) m → p ≡ laid (dataView at d) (s .payload) → n ≡ begunMarks (s .rec) (s .marks) → z ≡ markAll (inRange at (at + length d)) n → record { verdict = v; after = partial k p z } ≡ takeIn s (chunk m at d)
+    pub taken : (v : Verdict) (k : PartialRecord) (p z n : List ℕ) → v ≡ Done → k ≡ begun (s .rec) m → p ≡ laid (dataView at d) (s .payload) → n ≡ begunMarks (s .rec) (s .marks) → z ≡ markAll (s .layout) (inRange at (at + length d)) n → record { verdict = v; after = record { rec = k; layout = s .layout; payload = p; marks = z } } ≡ takeIn s (chunk m at d)
     unfolding put
     taken v k p z n ev ek ep en ez =
         rw (ev, ek, ep, ez, en, take-done s (chunk m at d) e, has-data at d)
@@ -267,33 +267,33 @@ module _ (s f : Partial) where
 
   -- the same message: what both cover
   module _ (e : sound s ≡ true) (g : sound f ≡ true) (h : f .rec .started ≡ true) (i : admissionOf (s .rec) (length (s .payload)) (f .rec .message) ≡ A.Same) where
-    pub covered-room : (f .rec .message .total ≤ length (s .payload)) × (marksFor (f .rec .message .total) ≤ length (s .marks)) × (f .rec .message .total ≤ length (f .payload)) × (marksFor (f .rec .message .total) ≤ length (f .marks))
+    pub covered-room : (f .rec .message .total ≤ length (s .payload)) × (marksFor (s .layout) (f .rec .message .total) ≤ length (s .marks)) × (f .rec .message .total ≤ length (f .payload)) × (marksFor (f .layout) (f .rec .message .total) ≤ length (f .marks))
     covered-room =
         let a = admits-same _ _ _ i .room in
-        let t = sound-total (f .rec) _ _ g h in
-        (a, sound-marks (s .rec) _ _ e _ a, t, sound-marks (f .rec) _ _ g _ t)
+        let t = sound-total f g h in
+        (a, sound-marks s e _ a, t, sound-marks f g _ t)
 
-    pub combine-same : judgeCombine s f ≡ cond (clash (f .rec .message .total) (markedView (f .rec .message .total) (s .payload) (s .marks)) (viewOf f)) (Refused 14 0) Done
+    pub combine-same : judgeCombine s f ≡ cond (clash (f .rec .message .total) (markedView (s .layout) (f .rec .message .total) (s .payload) (s .marks)) (viewOf f)) (Refused 14 0) Done
     combine-same =
         let t : s .rec .message .total ≡ f .rec .message .total = ap (λ (m : Identity). m .total) (admits-same _ _ _ i .same) in
         combine-admits e g h ∙ rw i
-        (ap (λ (n : ℕ). cond (clash n (markedView n (s .payload) (s .marks)) (viewOf f)) (Refused 14 0) Done) t)
+        (ap (λ (n : ℕ). cond (clash n (markedView (s .layout) n (s .payload) (s .marks)) (viewOf f)) (Refused 14 0) Done) t)
 
   -- an accepted source fits
   module _ (e : judgeCombine s f ≡ Done) (h : f .rec .started ≡ true) where
-    pub combined-room : (f .rec .message .total ≤ length (s .payload)) × (marksFor (f .rec .message .total) ≤ length (s .marks)) × (f .rec .message .total ≤ length (f .payload)) × (marksFor (f .rec .message .total) ≤ length (f .marks))
+    pub combined-room : (f .rec .message .total ≤ length (s .payload)) × (marksFor (s .layout) (f .rec .message .total) ≤ length (s .marks)) × (f .rec .message .total ≤ length (f .payload)) × (marksFor (f .layout) (f .rec .message .total) ≤ length (f .marks))
     combined-room =
         let a = judge-fits (length (s .payload)) (stateOf s) (identityOf (f .rec .message)) (viewOf f) (combine-met e h) in
-        let t = sound-total (f .rec) _ _ (combine-source-sound e) h in
-        (a, sound-marks (s .rec) _ _ (combine-sound e) _ a, t, sound-marks (f .rec) _ _ (combine-source-sound e) _ t)
+        let t = sound-total f (combine-source-sound e) h in
+        (a, sound-marks s (combine-sound e) _ a, t, sound-marks f (combine-source-sound e) _ t)
 
-    pub combined-marks : (n : List ℕ) → n ≡ begunMarks (s .rec) (s .marks) → (marksFor (f .rec .message .total) ≤ length n) × (marksFor (f .rec .message .total) ≤ length (f .marks))
+    pub combined-marks : (n : List ℕ) → n ≡ begunMarks (s .rec) (s .marks) → (marksFor (s .layout) (f .rec .message .total) ≤ length n) × (marksFor (f .layout) (f .rec .message .total) ≤ length (f .marks))
     combined-marks n q = (rw (length-begun (s .rec) (s .marks) n q) (combined-room .1), combined-room .3)
 
-    pub combined : (v : Verdict) (k : PartialRecord) (p m n : List ℕ) → v ≡ Done → k ≡ begun (s .rec) (f .rec .message) → p ≡ laid (viewOf f) (s .payload) → n ≡ begunMarks (s .rec) (s .marks) → m ≡ markAll (markedBelow (f .rec .message .total) (f .marks)) n → record { verdict = v; after = partial k p m } ≡ combine s f
+    pub combined : (v : Verdict) (k : PartialRecord) (p m n : List ℕ) → v ≡ Done → k ≡ begun (s .rec) (f .rec .message) → p ≡ laid (viewOf f) (s .payload) → n ≡ begunMarks (s .rec) (s .marks) → m ≡ markAll (s .layout) (markedBelow (f .layout) (f .rec .message .total) (f .marks)) n → record { verdict = v; after = record { rec = k; layout = s .layout; payload = p; marks = m } } ≡ combine s f
     unfolding put
     combined v k p m n ev ek ep en em =
-        rw (ev, ek, ep, em, en, combine-done e h, has-marked (f .rec .message .total) (f .payload) (f .marks))
+        rw (ev, ek, ep, em, en, combine-done e h, has-marked (f .layout) (f .rec .message .total) (f .payload) (f .marks))
 
 -- ---- asking
 module _ (s : Partial) where
@@ -305,9 +305,9 @@ module _ (s : Partial) where
   unfolding askComplete
   ask-idle e f = rw (e, f)
 
-  pub ask-held : sound s ≡ true → s .rec .started ≡ true → (b : Bool) → allMarked (s .rec .message .total) (s .marks) ≡ b → askComplete s ≡ yesNo b
+  pub ask-held : sound s ≡ true → s .rec .started ≡ true → (b : Bool) → allMarked (s .layout) (s .rec .message .total) (s .marks) ≡ b → askComplete s ≡ yesNo b
   unfolding askComplete
-  ask-held e f b g = rw (e, f, full-marked (s .rec .message .total) (s .payload) (s .marks), g)
+  ask-held e f b g = rw (e, f, full-marked (s .layout) (s .rec .message .total) (s .payload) (s .marks), g)
 
   -- ---- handing out
   pub hand-refused : (n p : ℕ) → askComplete s ≡ C.Refused n p → judgeHandOut s ≡ Refused n p

@@ -4,3 +4,4 @@ pub mod MarkLaws
 pub mod AreaLaws
 pub mod SameLaws
 pub mod JudgeLaws
+pub mod CallLaws

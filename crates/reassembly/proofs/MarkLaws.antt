@@ -1,143 +1,143 @@
 -- Laws of the marks. Those down to `mark-chosen` are all that other files use of how a mark is held. Assumes nothing.
-use Prim.Native.Nat.{ℕ, zero, suc, _+_, _≤_, _<_}
+use Prim.Native.Nat.{ℕ, zero, suc, _+_, _*_, _/_, _%_, _^_, _≤_, _<_}
 use mathlib.Core.Path.{_≡_, refl, sym, ap, _∙_}
 use mathlib.Core.Bool.{Bool, true, false, cond, and-false, false≢true}
 use mathlib.Core.List.{List}
-use native.Mathlib.Nat.{not-suc-le-zero}
+use native.Mathlib.Nat.{not-suc-le-zero, pow-suc}
 use native.Mathlib.Numerals.{add-one}
 use native.Mathlib.Omega.{arith}
 use lib.ListN.{length, getD, set, replicate, length-set, getD-replicate, length-replicate, List·getD-eq-default}
 use lib.Seq.{set-getD, getD-set-same, getD-set-other}
-use lib.Dec.{leb}
-use borrow.Author.Tests.{lt-ltb, le-ltb, le-leb, lt-leb, eqb-true}
+use lib.Dec.{leb, eqb}
+use lib.Pow.{shr-shr}
+use borrow.Author.Tests.{lt-ltb, le-ltb, le-leb, lt-leb, eqb-true, eqb-false}
+use Rattle.wire.specs.Answer.{bit}
 use Rattle.reassembly.specs.Views.{inRange}
-use Rattle.reassembly.specs.Marks.{marksFor, capacity, marked, markAt, cleared, markIf, markUpTo, markAll, markedBelow, allMarked}
+use Rattle.reassembly.specs.Marks.{Layout, withBit, marksFor, capacity, marked, markAt, cleared, markIf, markUpTo, markAll, markedBelow, allMarked}
+use Rattle.reassembly.specs.Marks.Layout.{byBytes, byBits}
 use Rattle.reassembly.proofs.Cases.{by-bool, by-eq, by-lt}
 use Rattle.reassembly.proofs.ViewLaws.{all-every, all-but}
 
-pub marks-mono : (a b : ℕ) → a ≤ b → marksFor a ≤ marksFor b
+-- ---- bits of a byte, one after another: bit 0 is the remainder by 2, and the others are those of the half
+abbrev digit : ℕ → ℕ → Bool
+digit zero b = eqb (b % 2) 1
+digit (suc k) b = digit k (b / 2)
+
+abbrev withDigit : ℕ → ℕ → ℕ
+withDigit zero b = b / 2 * 2 + 1
+withDigit (suc k) b = withDigit k (b / 2) * 2 + b % 2
+
+bit-digit : (k b : ℕ) → bit (2 ^ k) b ≡ digit k b
+bit-digit zero b = let e : b / 1 ≡ b = omega arith in rw e
+bit-digit (suc k) b =
+    let e : b / 2 ^ suc k ≡ b / 2 / 2 ^ k = ap (λ (n : ℕ). b / 2 ^ n) (sym (one-add k)) ∙ sym (shr-shr b 1 k) in
+    rw e (bit-digit k (b / 2))
+  where
+    one-add : (k : ℕ) → 1 + k ≡ suc k
+    one-add k = omega arith
+
+with-digit : (k b : ℕ) → withBit k b ≡ withDigit k b
+with-digit zero b =
+    let e : b / 1 ≡ b = omega arith in
+    rw e (by-bool _ (eqb (b % 2) 1) (λ t. let h = eqb-true (b % 2) 1 t in rw t (omega arith)) (λ t. let h = eqb-false (b % 2) 1 t in rw t (omega arith)))
+with-digit (suc k) b =
+    let ih = with-digit k (b / 2) in
+    by-bool _ (digit k (b / 2))
+    (λ t. let h : b / 2 ≡ withDigit k (b / 2) = rw (bit-digit k (b / 2), t) at ih in rw (bit-digit (suc k) b, t) (omega arith))
+    (λ t. let h : b / 2 + 2 ^ k ≡ withDigit k (b / 2) = rw (bit-digit k (b / 2), t) at ih in rw (bit-digit (suc k) b, t, pow-suc 2 k) (omega arith))
+
+digit-none : (k : ℕ) → digit k 0 ≡ false
+digit-none zero = refl
+digit-none (suc k) = digit-none k
+
+digit-same : (k b : ℕ) → digit k (withDigit k b) ≡ true
+digit-same zero b = let e : (b / 2 * 2 + 1) % 2 ≡ 1 = omega arith in rw e
+digit-same (suc k) b =
+    let e : (withDigit k (b / 2) * 2 + b % 2) / 2 ≡ withDigit k (b / 2) = omega arith in rw e (digit-same k (b / 2))
+
+digit-other : (k j b : ℕ) → (j ≡ k → ⊥) → digit j (withDigit k b) ≡ digit j b
+digit-other zero zero b ne = absurd (ne refl)
+digit-other zero (suc j) b ne = let e : (b / 2 * 2 + 1) / 2 ≡ b / 2 = omega arith in rw e
+digit-other (suc k) zero b ne = let e : (withDigit k (b / 2) * 2 + b % 2) % 2 ≡ b % 2 = omega arith in rw e
+digit-other (suc k) (suc j) b ne =
+    let e : (withDigit k (b / 2) * 2 + b % 2) / 2 ≡ withDigit k (b / 2) = omega arith in
+    rw e (digit-other k j (b / 2) (λ q. ne (ap suc q)))
+
+bit-none : (k : ℕ) → bit (2 ^ k) 0 ≡ false
+bit-none k = bit-digit k 0 ∙ digit-none k
+
+bit-same : (k b : ℕ) → bit (2 ^ k) (withBit k b) ≡ true
+bit-same k b = bit-digit k (withBit k b) ∙ ap (digit k) (with-digit k b) ∙ digit-same k b
+
+bit-other : (k j b : ℕ) → (j ≡ k → ⊥) → bit (2 ^ j) (withBit k b) ≡ bit (2 ^ j) b
+bit-other k j b ne = bit-digit j (withBit k b) ∙ ap (digit j) (with-digit k b) ∙ digit-other k j b ne ∙ sym (bit-digit j b)
+
+bit-again : (k b : ℕ) → bit (2 ^ k) b ≡ true → withBit k b ≡ b
+bit-again k b e = rw e
+
+-- ---- what is true of either layout
+pub marks-mono : (L : Layout) (a b : ℕ) → a ≤ b → marksFor L a ≤ marksFor L b
 unfolding marksFor
-marks-mono a b h = h
+marks-mono byBytes a b h = h
+marks-mono byBits a b h = omega arith
 
-pub marks-cover : (t i : ℕ) (m : List ℕ) → i ≤ t → marksFor t ≤ length m → i ≤ capacity m
+pub marks-cover : (L : Layout) (t i : ℕ) (m : List ℕ) → i ≤ t → marksFor L t ≤ length m → i ≤ capacity L m
 unfolding marksFor capacity
-marks-cover t i m l h = omega arith
+marks-cover byBytes t i m l h = omega arith
+marks-cover byBits t i m l h = omega arith
 
-pub capacity-length : (m k : List ℕ) → length m ≡ length k → capacity m ≡ capacity k
+pub capacity-length : (L : Layout) (m k : List ℕ) → length m ≡ length k → capacity L m ≡ capacity L k
 unfolding capacity
-capacity-length m k e = e
+capacity-length byBytes m k e = e
+capacity-length byBits m k e = rw e
 
-pub length-markAt : (i : ℕ) (m : List ℕ) → length (markAt i m) ≡ length m
+pub length-markAt : (L : Layout) (i : ℕ) (m : List ℕ) → length (markAt L i m) ≡ length m
 unfolding markAt
-length-markAt i m = length-set m i 1
+length-markAt byBytes i m = length-set m i 1
+length-markAt byBits i m = length-set m (i / 8) (withBit (i % 8) (getD m (i / 8) 0))
 
 pub length-cleared : (m : List ℕ) → length (cleared m) ≡ length m
 unfolding cleared
 length-cleared m = length-replicate (length m) 0
 
-pub marked-cleared : (m : List ℕ) (i : ℕ) → marked (cleared m) i ≡ false
-unfolding marked cleared
-marked-cleared m i =
-    by-lt _ i (length m) (λ l. rw (getD-replicate {A = ℕ} (length m) i 0 0 l))
-    (λ l. rw (List·getD-eq-default {A = ℕ} (replicate (length m) 0) 0 {n = i} (rw (length-replicate {A = ℕ} (length m) 0) l)))
+cleared-zero : (m : List ℕ) (i : ℕ) → getD (cleared m) i 0 ≡ 0
+unfolding cleared
+cleared-zero m i =
+    by-lt _ i (length m) (λ l. getD-replicate {A = ℕ} (length m) i 0 0 l)
+    (λ l. List·getD-eq-default {A = ℕ} (replicate (length m) 0) 0 {n = i} (rw (length-replicate {A = ℕ} (length m) 0) l))
 
-mark-same : (m : List ℕ) (i : ℕ) → i < capacity m → marked (markAt i m) i ≡ true
+pub marked-cleared : (L : Layout) (m : List ℕ) (i : ℕ) → marked L (cleared m) i ≡ false
+unfolding marked
+marked-cleared byBytes m i = rw (cleared-zero m i)
+marked-cleared byBits m i = rw (cleared-zero m (i / 8)) (bit-none (i % 8))
+
+mark-same : (L : Layout) (m : List ℕ) (i : ℕ) → i < capacity L m → marked L (markAt L i m) i ≡ true
 unfolding marked markAt capacity
-mark-same m i h = rw (getD-set-same m i 1 0 h)
+mark-same byBytes m i h = rw (getD-set-same m i 1 0 h)
+mark-same byBits m i h = rw (getD-set-same m (i / 8) (withBit (i % 8) (getD m (i / 8) 0)) 0 (omega arith)) (bit-same (i % 8) (getD m (i / 8) 0))
 
-mark-other : (m : List ℕ) (n i : ℕ) → n < capacity m → (i ≡ n → ⊥) → marked (markAt n m) i ≡ marked m i
+mark-other : (L : Layout) (m : List ℕ) (n i : ℕ) → n < capacity L m → (i ≡ n → ⊥) → marked L (markAt L n m) i ≡ marked L m i
+unfolding marked markAt capacity
+mark-other byBytes m n i h ne = rw (getD-set-other m n i 1 0 ne)
+mark-other byBits m n i h ne =
+    by-eq _ (i / 8) (n / 8)
+    (λ e. rw (e, getD-set-same m (n / 8) (withBit (n % 8) (getD m (n / 8) 0)) 0 (omega arith))
+    (bit-other (n % 8) (i % 8) (getD m (n / 8) 0) (λ q. ne (omega arith))))
+    (λ e. rw (getD-set-other m (n / 8) (i / 8) (withBit (n % 8) (getD m (n / 8) 0)) 0 e))
+
+mark-again : (L : Layout) (m : List ℕ) (n : ℕ) → marked L m n ≡ true → markAt L n m ≡ m
 unfolding marked markAt
-mark-other m n i h ne = rw (getD-set-other m n i 1 0 ne)
+mark-again byBytes m n e = ap (set m n) (sym (eqb-true (getD m n 0) 1 e)) ∙ set-getD m n 0
+mark-again byBits m n e = ap (set m (n / 8)) (bit-again (n % 8) (getD m (n / 8) 0) e) ∙ set-getD m (n / 8) 0
 
-mark-again : (m : List ℕ) (n : ℕ) → marked m n ≡ true → markAt n m ≡ m
-unfolding marked markAt
-mark-again m n e = ap (set m n) (sym (eqb-true (getD m n 0) 1 e)) ∙ set-getD m n 0
-
-pub mark-chosen : (b : Bool) (i : ℕ) (m : List ℕ) → set m i (cond b 1 (getD m i 0)) ≡ markIf b i m
+-- a turn of the code's
+pub mark-chosen : (b : Bool) (i : ℕ) (m : List ℕ) → set m i (cond b 1 (getD m i 0)) ≡ markIf byBytes b i m
 unfolding markAt
 mark-chosen true i m = refl
 mark-chosen false i m = set-getD m i 0
 
 -- ---- from here on nothing depends on how a mark is held
-pub marks-room : (t i : ℕ) (m : List ℕ) → i < t → marksFor t ≤ length m → i < capacity m
-marks-room t i m l h = marks-cover t (suc i) m l h
-
-length-markIf : (b : Bool) (i : ℕ) (m : List ℕ) → length (markIf b i m) ≡ length m
-length-markIf true i m = length-markAt i m
-length-markIf false i m = refl
-
-length-markUpTo : (n : ℕ) (f : ℕ → Bool) (m : List ℕ) → length (markUpTo n f m) ≡ length m
-length-markUpTo zero f m = refl
-length-markUpTo (suc n) f m = length-markIf (f n) n (markUpTo n f m) ∙ length-markUpTo n f m
-
-pub length-markAll : (f : ℕ → Bool) (m : List ℕ) → length (markAll f m) ≡ length m
-unfolding markAll
-length-markAll f m = length-markUpTo (capacity m) f m
-
-capacity-markUpTo : (n : ℕ) (f : ℕ → Bool) (m : List ℕ) → capacity (markUpTo n f m) ≡ capacity m
-capacity-markUpTo n f m = capacity-length (markUpTo n f m) m (length-markUpTo n f m)
-
--- a turn at n leaves every other offset, and n itself where the test fails
-if-keep : (n : ℕ) (b : Bool) (m : List ℕ) (i : ℕ) → n < capacity m → (b ≡ true → i ≡ n → ⊥) → marked (markIf b n m) i ≡ marked m i
-if-keep n false m i h ne = refl
-if-keep n true m i h ne = mark-other m n i h (ne refl)
-
-upTo-off : (n : ℕ) (f : ℕ → Bool) (m : List ℕ) (i : ℕ) → n ≤ capacity m → f i ≡ false → marked (markUpTo n f m) i ≡ marked m i
-upTo-off zero f m i h e = refl
-upTo-off (suc n) f m i h e =
-    if-keep n (f n) (markUpTo n f m) i (rw (capacity-markUpTo n f m) (omega arith)) (λ q r. false≢true (sym e ∙ ap f r ∙ q))
-    ∙ upTo-off n f m i (omega arith) e
-
-upTo-on : (n : ℕ) (f : ℕ → Bool) (m : List ℕ) (i : ℕ) → i < n → n ≤ capacity m → f i ≡ true → marked (markUpTo n f m) i ≡ true
-upTo-on zero f m i l h e = absurd (not-suc-le-zero l)
-upTo-on (suc n) f m i l h e =
-    by-eq _ i n
-    (λ q. let t : f n ≡ true = rw q at e in
-    rw (q, t) (mark-same (markUpTo n f m) n (rw (capacity-markUpTo n f m) (omega arith))))
-    (λ q. if-keep n (f n) (markUpTo n f m) i (rw (capacity-markUpTo n f m) (omega arith)) (λ t r. q r)
-    ∙ upTo-on n f m i (omega arith) (omega arith) e)
-
--- marking all that pass the test: those are marked, and the others as before
-pub marked-on : (t : ℕ) (f : ℕ → Bool) (m : List ℕ) (i : ℕ) → i < t → marksFor t ≤ length m → f i ≡ true → marked (markAll f m) i ≡ true
-unfolding markAll
-marked-on t f m i l h e = upTo-on (capacity m) f m i (marks-room t i m l h) (omega arith) e
-
-pub marked-off : (f : ℕ → Bool) (m : List ℕ) (i : ℕ) → f i ≡ false → marked (markAll f m) i ≡ marked m i
-unfolding markAll
-marked-off f m i e = upTo-off (capacity m) f m i (omega arith) e
-
--- loops: nothing below n, one turn, and nothing from i to n
-pub marks-start : (n : ℕ) (f : ℕ → Bool) (m : List ℕ) → ((i : ℕ) → i < n → f i ≡ false) → markUpTo n f m ≡ m
-marks-start zero f m e = refl
-marks-start (suc n) f m e = rw (e n (omega arith)) (marks-start n f m (λ i h. e i (omega arith)))
-
-pub marks-step : (i : ℕ) (b : Bool) (f : ℕ → Bool) (m : List ℕ) → f i ≡ b → markUpTo (i + 1) f m ≡ markIf b i (markUpTo i f m)
-marks-step i b f m e = rw (add-one i, e)
-
-upTo-end : (n i : ℕ) (f : ℕ → Bool) (m : List ℕ) → i ≤ n → ((k : ℕ) → i ≤ k → f k ≡ false) → markUpTo n f m ≡ markUpTo i f m
-upTo-end zero i f m h e = let q : 0 ≡ i = omega arith in ap (λ (k : ℕ). markUpTo k f m) q
-upTo-end (suc n) i f m h e =
-    by-eq _ i (suc n) (λ q. ap (λ (k : ℕ). markUpTo k f m) (sym q))
-    (λ ne. rw (e n (omega arith)) (upTo-end n i f m (omega arith) e))
-
-pub marks-end : (t i : ℕ) (f : ℕ → Bool) (m : List ℕ) → i ≤ t → marksFor t ≤ length m → ((k : ℕ) → i ≤ k → f k ≡ false) → markUpTo i f m ≡ markAll f m
-unfolding markAll
-marks-end t i f m l h e = sym (upTo-end (capacity m) i f m (marks-cover t i m l h) e)
-
--- marking what is marked already changes nothing
-upTo-self : (n t : ℕ) (m : List ℕ) → markUpTo n (markedBelow t m) m ≡ m
-upTo-self zero t m = refl
-upTo-self (suc n) t m =
-    rw (upTo-self n t m) (by-bool _ (markedBelow t m n) (λ e. rw e (mark-again m n (both-right e))) (λ e. rw e))
-  where
-    both-right : markedBelow t m n ≡ true → marked m n ≡ true
-    both-right e = by-lt _ n t (λ l. rw (lt-ltb n t l) at e) (λ l. absurd (false≢true (rw (le-ltb n t l) at e)))
-
-pub marks-self : (t : ℕ) (m : List ℕ) → markAll (markedBelow t m) m ≡ m
-unfolding markAll
-marks-self t m = upTo-self (capacity m) t m
-
--- ---- the two tests
+-- ---- the test of a range
 pub range-below : (start end i : ℕ) → i < start → inRange start end i ≡ false
 range-below start end i h = rw (lt-leb start i h)
 
@@ -147,17 +147,97 @@ range-in start end i h k = rw (le-leb start i h, lt-ltb i end k)
 pub range-above : (start end i : ℕ) → end ≤ i → inRange start end i ≡ false
 range-above start end i h = rw (le-ltb i end h) (and-false (leb start i))
 
-pub marked-is : (t : ℕ) (m : List ℕ) (i : ℕ) → i < t → markedBelow t m i ≡ marked m i
-marked-is t m i h = rw (lt-ltb i t h)
+module _ (L : Layout) where
+  pub marks-room : (t i : ℕ) (m : List ℕ) → i < t → marksFor L t ≤ length m → i < capacity L m
+  marks-room t i m l h = marks-cover L t (suc i) m l h
 
-pub marked-past : (t : ℕ) (m : List ℕ) (i : ℕ) → t ≤ i → markedBelow t m i ≡ false
-marked-past t m i h = rw (le-ltb i t h)
+  length-markIf : (b : Bool) (i : ℕ) (m : List ℕ) → length (markIf L b i m) ≡ length m
+  length-markIf true i m = length-markAt L i m
+  length-markIf false i m = refl
 
--- ---- every offset below n
-pub all-marked-yes : (n : ℕ) (m : List ℕ) → ((i : ℕ) → i < n → marked m i ≡ true) → allMarked n m ≡ true
-unfolding allMarked
-all-marked-yes n m e = all-every n (marked m) e
+  length-markUpTo : (n : ℕ) (f : ℕ → Bool) (m : List ℕ) → length (markUpTo L n f m) ≡ length m
+  length-markUpTo zero f m = refl
+  length-markUpTo (suc n) f m = length-markIf (f n) n (markUpTo L n f m) ∙ length-markUpTo n f m
 
-pub all-marked-no : (n : ℕ) (m : List ℕ) (i : ℕ) → i < n → marked m i ≡ false → allMarked n m ≡ false
-unfolding allMarked
-all-marked-no n m i h e = all-but n (marked m) i h e
+  pub length-markAll : (f : ℕ → Bool) (m : List ℕ) → length (markAll L f m) ≡ length m
+  unfolding markAll
+  length-markAll f m = length-markUpTo (capacity L m) f m
+
+  capacity-markUpTo : (n : ℕ) (f : ℕ → Bool) (m : List ℕ) → capacity L (markUpTo L n f m) ≡ capacity L m
+  capacity-markUpTo n f m = capacity-length L (markUpTo L n f m) m (length-markUpTo n f m)
+
+  -- a turn at n leaves every other offset, and n itself where the test fails
+  if-keep : (n : ℕ) (b : Bool) (m : List ℕ) (i : ℕ) → n < capacity L m → (b ≡ true → i ≡ n → ⊥) → marked L (markIf L b n m) i ≡ marked L m i
+  if-keep n false m i h ne = refl
+  if-keep n true m i h ne = mark-other L m n i h (ne refl)
+
+  upTo-off : (n : ℕ) (f : ℕ → Bool) (m : List ℕ) (i : ℕ) → n ≤ capacity L m → f i ≡ false → marked L (markUpTo L n f m) i ≡ marked L m i
+  upTo-off zero f m i h e = refl
+  upTo-off (suc n) f m i h e =
+      if-keep n (f n) (markUpTo L n f m) i (rw (capacity-markUpTo n f m) (omega arith)) (λ q r. false≢true (sym e ∙ ap f r ∙ q))
+      ∙ upTo-off n f m i (omega arith) e
+
+  upTo-on : (n : ℕ) (f : ℕ → Bool) (m : List ℕ) (i : ℕ) → i < n → n ≤ capacity L m → f i ≡ true → marked L (markUpTo L n f m) i ≡ true
+  upTo-on zero f m i l h e = absurd (not-suc-le-zero l)
+  upTo-on (suc n) f m i l h e =
+      by-eq _ i n
+      (λ q. let t : f n ≡ true = rw q at e in
+      rw (q, t) (mark-same L (markUpTo L n f m) n (rw (capacity-markUpTo n f m) (omega arith))))
+      (λ q. if-keep n (f n) (markUpTo L n f m) i (rw (capacity-markUpTo n f m) (omega arith)) (λ t r. q r)
+      ∙ upTo-on n f m i (omega arith) (omega arith) e)
+
+  -- marking all that pass the test: those are marked, and the others as before
+  pub marked-on : (t : ℕ) (f : ℕ → Bool) (m : List ℕ) (i : ℕ) → i < t → marksFor L t ≤ length m → f i ≡ true → marked L (markAll L f m) i ≡ true
+  unfolding markAll
+  marked-on t f m i l h e = upTo-on (capacity L m) f m i (marks-room t i m l h) (omega arith) e
+
+  pub marked-off : (f : ℕ → Bool) (m : List ℕ) (i : ℕ) → f i ≡ false → marked L (markAll L f m) i ≡ marked L m i
+  unfolding markAll
+  marked-off f m i e = upTo-off (capacity L m) f m i (omega arith) e
+
+  -- loops: nothing below n, one turn, and nothing from i to n
+  pub marks-start : (n : ℕ) (f : ℕ → Bool) (m : List ℕ) → ((i : ℕ) → i < n → f i ≡ false) → markUpTo L n f m ≡ m
+  marks-start zero f m e = refl
+  marks-start (suc n) f m e = rw (e n (omega arith)) (marks-start n f m (λ i h. e i (omega arith)))
+
+  pub marks-step : (i : ℕ) (b : Bool) (f : ℕ → Bool) (m : List ℕ) → f i ≡ b → markUpTo L (i + 1) f m ≡ markIf L b i (markUpTo L i f m)
+  marks-step i b f m e = rw (add-one i, e)
+
+  upTo-end : (n i : ℕ) (f : ℕ → Bool) (m : List ℕ) → i ≤ n → ((k : ℕ) → i ≤ k → f k ≡ false) → markUpTo L n f m ≡ markUpTo L i f m
+  upTo-end zero i f m h e = let q : 0 ≡ i = omega arith in ap (λ (k : ℕ). markUpTo L k f m) q
+  upTo-end (suc n) i f m h e =
+      by-eq _ i (suc n) (λ q. ap (λ (k : ℕ). markUpTo L k f m) (sym q))
+      (λ ne. rw (e n (omega arith)) (upTo-end n i f m (omega arith) e))
+
+  pub marks-end : (t i : ℕ) (f : ℕ → Bool) (m : List ℕ) → i ≤ t → marksFor L t ≤ length m → ((k : ℕ) → i ≤ k → f k ≡ false) → markUpTo L i f m ≡ markAll L f m
+  unfolding markAll
+  marks-end t i f m l h e = sym (upTo-end (capacity L m) i f m (marks-cover L t i m l h) e)
+
+  -- marking what is marked already changes nothing
+  upTo-self : (n t : ℕ) (m : List ℕ) → markUpTo L n (markedBelow L t m) m ≡ m
+  upTo-self zero t m = refl
+  upTo-self (suc n) t m =
+      rw (upTo-self n t m) (by-bool _ (markedBelow L t m n) (λ e. rw e (mark-again L m n (both-right e))) (λ e. rw e))
+    where
+      both-right : markedBelow L t m n ≡ true → marked L m n ≡ true
+      both-right e = by-lt _ n t (λ l. rw (lt-ltb n t l) at e) (λ l. absurd (false≢true (rw (le-ltb n t l) at e)))
+
+  pub marks-self : (t : ℕ) (m : List ℕ) → markAll L (markedBelow L t m) m ≡ m
+  unfolding markAll
+  marks-self t m = upTo-self (capacity L m) t m
+
+  -- ---- what is marked below total
+  pub marked-is : (t : ℕ) (m : List ℕ) (i : ℕ) → i < t → markedBelow L t m i ≡ marked L m i
+  marked-is t m i h = rw (lt-ltb i t h)
+
+  pub marked-past : (t : ℕ) (m : List ℕ) (i : ℕ) → t ≤ i → markedBelow L t m i ≡ false
+  marked-past t m i h = rw (le-ltb i t h)
+
+  -- ---- every offset below n
+  pub all-marked-yes : (n : ℕ) (m : List ℕ) → ((i : ℕ) → i < n → marked L m i ≡ true) → allMarked L n m ≡ true
+  unfolding allMarked
+  all-marked-yes n m e = all-every n (marked L m) e
+
+  pub all-marked-no : (n : ℕ) (m : List ℕ) (i : ℕ) → i < n → marked L m i ≡ false → allMarked L n m ≡ false
+  unfolding allMarked
+  all-marked-no n m i h e = all-but n (marked L m) i h e

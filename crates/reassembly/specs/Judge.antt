@@ -18,9 +18,9 @@ use Rattle.reassembly.specs.declared.record.PartialRecord.{PartialRecord
 use Rattle.reassembly.specs.declared.verdict.Verdict.{Verdict}
 use Rattle.reassembly.specs.declared.verdict.Verdict.the-variants.{Refused}
 
--- in a started partial a byte below total is covered exactly if its mark is 1
+-- in a started partial a byte below total is covered exactly if it is marked
 abbrev pub viewOf : Partial → View
-viewOf s = markedView (s .rec .message .total) (s .payload) (s .marks)
+viewOf s = markedView (s .layout) (s .rec .message .total) (s .payload) (s .marks)
 
 -- a partial not started covers no byte, whatever its record and marks say
 abbrev pub stateOf : Partial → State

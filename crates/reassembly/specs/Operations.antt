@@ -38,12 +38,13 @@ begun r m = cond (r .started) r (record { started = true; message = m })
 abbrev pub begunMarks : PartialRecord → List ℕ → List ℕ
 begunMarks r m = cond (r .started) m (cleared m)
 
--- the bytes of a view are stored, their marks set to 1, and no other byte changes
+-- the bytes of a view are stored, their offsets marked, and no other byte or mark changes
 unfoldable pub put : Message → View → Partial → Partial
 put m v s = record {
   rec = begun (s .rec) m;
+  layout = s .layout;
   payload = laid v (s .payload);
-  marks = markAll (has v) (begunMarks (s .rec) (s .marks));
+  marks = markAll (s .layout) (has v) (begunMarks (s .rec) (s .marks));
 }
 
 abbrev pub putReading : Reading → Partial → Partial

@@ -5,7 +5,7 @@ use mathlib.Core.Path.{_≡_}
 use mathlib.Core.List.{List}
 use lib.ListN.{length}
 use lib.Dec.{leb, eqb}
-use Rattle.reassembly.specs.Marks.{marksFor}
+use Rattle.reassembly.specs.Marks.{Layout, inUse, marksFor}
 use Rattle.publisher_id.specs.PublisherRecord.{Publisher, publisherOf, samePublisher, publisherFits}
 use Rattle.reassembly.specs.declared.record.Message.{Message}
 use Rattle.reassembly.specs.declared.record.PartialRecord.{PartialRecord}
@@ -25,25 +25,27 @@ sameMessage a b =
     samePublisher (a .publisher) (b .publisher)
     && (eqb (a .writer) (b .writer) && (eqb (a .number) (b .number) && eqb (a .total) (b .total)))
 
--- a partial is a record with two lent areas, payload and marks
+-- a partial is a record with two lent areas, payload and marks, and the layout of its marks
 pub record Partial : Type 0 where
   pub rec : PartialRecord
+  pub layout : Layout
   pub payload : List ℕ
   pub marks : List ℕ
 
+-- one whose marks are held as the code holds them
 abbrev pub partial : PartialRecord → List ℕ → List ℕ → Partial
-partial r p m = record { rec = r; payload = p; marks = m }
+partial r p m = record { rec = r; layout = inUse; payload = p; marks = m }
 
--- sound over areas of n and k bytes: both areas equally long and, if started, total from 1 to that length and a string publisher of at
+-- sound over areas of n and k bytes: marks of the length that the layout gives and, if started, total from 1 to that length and a string publisher of at
 -- most 64 bytes
-unfoldable pub soundBy : PartialRecord → ℕ → ℕ → Bool
-soundBy r n k =
-    eqb (marksFor n) k
+unfoldable pub soundBy : Layout → PartialRecord → ℕ → ℕ → Bool
+soundBy L r n k =
+    eqb (marksFor L n) k
     && (not (r .started)
     || (leb 1 (r .message .total) && (leb (r .message .total) n && publisherFits (r .message .publisher))))
 
 abbrev pub sound : Partial → Bool
-sound s = soundBy (s .rec) (length (s .payload)) (length (s .marks))
+sound s = soundBy (s .layout) (s .rec) (length (s .payload)) (length (s .marks))
 
 -- what the laws ask of a partial
 pub record Good (s : Partial) : Type 0 where

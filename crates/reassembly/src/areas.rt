@@ -3,7 +3,7 @@ ghost use mathlib.Core.Path.{_≡_};
 ghost use Prim.Native.Nat.{_+_, _≤_};
 ghost use lib.ListN.{length};
 ghost use Rattle.reassembly.specs.Views.{dataView, laid, differs, onlyIf, clash};
-ghost use Rattle.reassembly.specs.Marks.{marksFor};
+ghost use Rattle.reassembly.specs.Marks.{inUse, marksFor};
 ghost use Rattle.reassembly.specs.Areas.{markedView};
 use crate::marks::choose;
 use crate::marks::is_marked;
@@ -23,8 +23,8 @@ pub(crate) fn store_data(payload: &mut [u8], offset: usize, bytes: &[u8])
 
 // Stores each covered byte of another partial.
 pub(crate) fn store_covered(payload: &mut [u8], total: usize, from: &[u8], from_marks: &[u8])
-    requires { ⌜ (total ≤ length (now payload)) × (total ≤ length (now «from»)) × (marksFor total ≤ length (now «from_marks»)) ⌝ }
-    ensures { λ r. ⌜ now (payload .exit) ≡ laid (markedView total (now («from» .entry)) (now («from_marks» .entry))) (now (payload .entry)) ⌝ }
+    requires { ⌜ (total ≤ length (now payload)) × (total ≤ length (now «from»)) × (marksFor inUse total ≤ length (now «from_marks»)) ⌝ }
+    ensures { λ r. ⌜ now (payload .exit) ≡ laid (markedView inUse total (now («from» .entry)) (now («from_marks» .entry))) (now (payload .entry)) ⌝ }
 {
     let mut i = 0;
     while i < total {
@@ -42,8 +42,8 @@ fn differ(mark: bool, held: u8, other_mark: bool, byte: u8) -> bool
 
 // Whether a covered byte differs from a chunk's byte there.
 pub(crate) fn clash_data(payload: &[u8], marks: &[u8], offset: usize, bytes: &[u8]) -> bool
-    requires { ⌜ (offset + length (now bytes) ≤ length (now payload)) × (marksFor (offset + length (now bytes)) ≤ length (now marks)) ⌝ }
-    ensures { λ r. ⌜ r ≡ clash (offset + length (now (bytes .entry))) (markedView (offset + length (now (bytes .entry))) (now (payload .entry)) (now (marks .entry))) (dataView offset (now (bytes .entry))) ⌝ }
+    requires { ⌜ (offset + length (now bytes) ≤ length (now payload)) × (marksFor inUse (offset + length (now bytes)) ≤ length (now marks)) ⌝ }
+    ensures { λ r. ⌜ r ≡ clash (offset + length (now (bytes .entry))) (markedView inUse (offset + length (now (bytes .entry))) (now (payload .entry)) (now (marks .entry))) (dataView offset (now (bytes .entry))) ⌝ }
 {
     let mut found = false;
     let mut j = 0;
@@ -64,8 +64,8 @@ pub(crate) fn clash_covered(
     from: &[u8],
     from_marks: &[u8],
 ) -> bool
-    requires { ⌜ (total ≤ length (now payload)) × (marksFor total ≤ length (now marks)) × (total ≤ length (now «from»)) × (marksFor total ≤ length (now «from_marks»)) ⌝ }
-    ensures { λ r. ⌜ r ≡ clash total (markedView total (now (payload .entry)) (now (marks .entry))) (markedView total (now («from» .entry)) (now («from_marks» .entry))) ⌝ }
+    requires { ⌜ (total ≤ length (now payload)) × (marksFor inUse total ≤ length (now marks)) × (total ≤ length (now «from»)) × (marksFor inUse total ≤ length (now «from_marks»)) ⌝ }
+    ensures { λ r. ⌜ r ≡ clash total (markedView inUse total (now (payload .entry)) (now (marks .entry))) (markedView inUse total (now («from» .entry)) (now («from_marks» .entry))) ⌝ }
 {
     let mut found = false;
     let mut i = 0;

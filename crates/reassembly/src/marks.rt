@@ -4,19 +4,19 @@ ghost use mathlib.Core.Bool.{cond};
 ghost use Prim.Native.Nat.{_<_, _≤_};
 ghost use lib.ListN.{length};
 ghost use Rattle.reassembly.specs.Views.{inRange};
-ghost use Rattle.reassembly.specs.Marks.{marksFor, capacity, marked, markIf, cleared, markedBelow, markAll, allMarked};
+ghost use Rattle.reassembly.specs.Marks.{inUse, marksFor, capacity, marked, markIf, cleared, markedBelow, markAll, allMarked};
 
 // How many bytes of marks a payload area of n bytes has.
 pub(crate) fn marks_for(n: usize) -> usize
-    ensures { λ r. ⌜ r ≡ marksFor n ⌝ }
+    ensures { λ r. ⌜ r ≡ marksFor inUse n ⌝ }
 {
     n
 }
 
 // Whether an offset is marked.
 pub(crate) fn is_marked(marks: &[u8], i: usize) -> bool
-    requires { ⌜ i < capacity (now marks) ⌝ }
-    ensures { λ r. ⌜ r ≡ marked (now (marks .entry)) i ⌝ }
+    requires { ⌜ i < capacity inUse (now marks) ⌝ }
+    ensures { λ r. ⌜ r ≡ marked inUse (now (marks .entry)) i ⌝ }
 {
     marks[i] == 1
 }
@@ -30,8 +30,8 @@ pub(crate) fn choose(b: bool, x: u8, y: u8) -> u8
 
 // Marks an offset if told so.
 pub(crate) fn mark_if(marks: &mut [u8], i: usize, on: bool)
-    requires { ⌜ i < capacity (now marks) ⌝ }
-    ensures { λ r. ⌜ now (marks .exit) ≡ markIf on i (now (marks .entry)) ⌝ }
+    requires { ⌜ i < capacity inUse (now marks) ⌝ }
+    ensures { λ r. ⌜ now (marks .exit) ≡ markIf inUse on i (now (marks .entry)) ⌝ }
 {
     marks[i] = choose(on, 1, marks[i]);
 }
@@ -49,8 +49,8 @@ pub(crate) fn clear(marks: &mut [u8])
 
 // Marks the offsets from start up to end.
 pub(crate) fn mark_range(marks: &mut [u8], start: usize, end: usize)
-    requires { ⌜ (start ≤ end) × (marksFor end ≤ length (now marks)) ⌝ }
-    ensures { λ r. ⌜ now (marks .exit) ≡ markAll (inRange start end) (now (marks .entry)) ⌝ }
+    requires { ⌜ (start ≤ end) × (marksFor inUse end ≤ length (now marks)) ⌝ }
+    ensures { λ r. ⌜ now (marks .exit) ≡ markAll inUse (inRange start end) (now (marks .entry)) ⌝ }
 {
     let mut i = start;
     while i < end {
@@ -61,8 +61,8 @@ pub(crate) fn mark_range(marks: &mut [u8], start: usize, end: usize)
 
 // Marks the offsets below n that are marked in another area.
 pub(crate) fn mark_marked(marks: &mut [u8], n: usize, other: &[u8])
-    requires { ⌜ (marksFor n ≤ length (now marks)) × (marksFor n ≤ length (now other)) ⌝ }
-    ensures { λ r. ⌜ now (marks .exit) ≡ markAll (markedBelow n (now (other .entry))) (now (marks .entry)) ⌝ }
+    requires { ⌜ (marksFor inUse n ≤ length (now marks)) × (marksFor inUse n ≤ length (now other)) ⌝ }
+    ensures { λ r. ⌜ now (marks .exit) ≡ markAll inUse (markedBelow inUse n (now (other .entry))) (now (marks .entry)) ⌝ }
 {
     let mut i = 0;
     while i < n {
@@ -73,8 +73,8 @@ pub(crate) fn mark_marked(marks: &mut [u8], n: usize, other: &[u8])
 
 // Whether every offset below n is marked.
 pub(crate) fn all_marked(marks: &[u8], n: usize) -> bool
-    requires { ⌜ marksFor n ≤ length (now marks) ⌝ }
-    ensures { λ r. ⌜ r ≡ allMarked n (now (marks .entry)) ⌝ }
+    requires { ⌜ marksFor inUse n ≤ length (now marks) ⌝ }
+    ensures { λ r. ⌜ r ≡ allMarked inUse n (now (marks .entry)) ⌝ }
 {
     let mut i = 0;
     while i < n {

@@ -3,9 +3,14 @@ ghost use mathlib.Core.Path.{_≡_};
 ghost use mathlib.Core.Bool.{true};
 ghost use lib.ListN.{length};
 ghost use Rattle.reassembly.specs.Record.{partial, sound};
-ghost use Rattle.reassembly.specs.Reading.{Proper, messageOf, readingAt};
+ghost use Rattle.reassembly.specs.Reading.{Proper, messageOf};
 ghost use Rattle.reassembly.specs.Reading.Reading.{chunk};
-ghost use Rattle.reassembly.specs.Operations.{stepOf, begun, begunMarks, takeIn, combine, emptied, askComplete, judgeHandOut, handOut};
+ghost use Rattle.reassembly.specs.Operations.{stepOf, begun, begunMarks, takeIn, handOut};
+ghost use Rattle.reassembly.specs.Calls.{Does, replyOf, saidOf, handedOf, answers};
+ghost use Rattle.reassembly.specs.Calls.Call.{Empty, Take, Combine, Ask, HandOut};
+ghost use Rattle.reassembly.specs.Calls.Reply.{done};
+ghost use Prim.Native.Nat.{ℕ};
+ghost use mathlib.Core.List.{List};
 use crate::areas::store_covered;
 use crate::areas::store_data;
 use crate::judge::judge_chunk;
@@ -90,7 +95,10 @@ pub fn take_in(
     datagram: &[u8],
     sizes: &[u16],
 ) -> Outcome
-    ensures { λ r. ⌜ stepOf r (now (payload .exit)) (now (marks .exit)) ≡ takeIn (partial rec (now (payload .entry)) (now (marks .entry))) (readingAt (now (sizes .entry)) (now (datagram .entry))) ⌝ }
+    ensures { λ r.
+        let before = partial rec (now (payload .entry)) (now (marks .entry)) in
+        let after = partial (r .rec) (now (payload .exit)) (now (marks .exit)) in
+        ⌜ Does (Take (now (datagram .entry)) (now (sizes .entry))) before (replyOf (r .verdict)) after ⌝ }
 {
     if !is_sound(rec, payload.len(), marks.len()) {
         return Outcome {
@@ -127,7 +135,10 @@ pub fn combine_in(
     from: &[u8],
     from_marks: &[u8],
 ) -> Outcome
-    ensures { λ r. ⌜ stepOf r (now (payload .exit)) (now (marks .exit)) ≡ combine (partial rec (now (payload .entry)) (now (marks .entry))) (partial source (now («from» .entry)) (now («from_marks» .entry))) ⌝ }
+    ensures { λ r.
+        let before = partial rec (now (payload .entry)) (now (marks .entry)) in
+        let after = partial (r .rec) (now (payload .exit)) (now (marks .exit)) in
+        ⌜ Does (Combine (partial source (now («from» .entry)) (now («from_marks» .entry)))) before (replyOf (r .verdict)) after ⌝ }
 {
     let verdict = judge_combine(rec, payload, marks, source, from, from_marks);
     if let Verdict::Refused(_, _) = verdict {
@@ -145,7 +156,7 @@ pub fn combine_in(
 
 // Empties a partial: not started, and no area changes. Never refused.
 pub fn empty(rec: PartialRecord) -> PartialRecord
-    ensures { λ r. ⌜ r ≡ emptied rec ⌝ }
+    ensures { λ r. ⌜ ((payload marks : List ℕ) → Does Empty (partial rec payload marks) done (partial r payload marks)) ⌝ }
 {
     let message = rec.message;
     PartialRecord {
@@ -156,7 +167,7 @@ pub fn empty(rec: PartialRecord) -> PartialRecord
 
 // Whether a partial is complete: yes, no, or 12.
 pub fn ask_complete(rec: PartialRecord, payload: &[u8], marks: &[u8]) -> Completeness
-    ensures { λ r. ⌜ r ≡ askComplete (partial rec (now (payload .entry)) (now (marks .entry))) ⌝ }
+    ensures { λ r. ⌜ saidOf r ≡ answers Ask (partial rec (now (payload .entry)) (now (marks .entry))) ⌝ }
 {
     if !is_sound(rec, payload.len(), marks.len()) {
         return Completeness::Refused(12, 0);
@@ -173,7 +184,9 @@ pub fn ask_complete(rec: PartialRecord, payload: &[u8], marks: &[u8]) -> Complet
 
 // What handing out answers: 12, 15, or done.
 pub fn hand_out_verdict(rec: PartialRecord, payload: &[u8], marks: &[u8]) -> Verdict
-    ensures { λ r. ⌜ r ≡ judgeHandOut (partial rec (now (payload .entry)) (now (marks .entry))) ⌝ }
+    ensures { λ r.
+        let before = partial rec (now (payload .entry)) (now (marks .entry)) in
+        ⌜ handedOf r (handOut before) ≡ answers HandOut before ⌝ }
 {
     match ask_complete(rec, payload, marks) {
         Completeness::Yes => Verdict::Done,

@@ -1,6 +1,7 @@
 // The record of a partial, and when it is sound.
 ghost use mathlib.Core.Path.{_≡_};
 ghost use Rattle.reassembly.specs.Record.{identityOf, sameMessage, soundBy};
+ghost use Rattle.reassembly.specs.Marks.{inUse};
 use crate::marks::marks_for;
 use publisher_id::publisher_record::PublisherRecord;
 use publisher_id::publisher_record::publisher_fits;
@@ -40,7 +41,7 @@ pub(crate) fn same_message(a: Message, b: Message) -> bool
 
 // Whether a record is sound over areas of these lengths.
 pub(crate) fn is_sound(rec: PartialRecord, payload_len: usize, marks_len: usize) -> bool
-    ensures { λ r. ⌜ r ≡ soundBy rec «payload_len» «marks_len» ⌝ }
+    ensures { λ r. ⌜ r ≡ soundBy inUse rec «payload_len» «marks_len» ⌝ }
 {
     if marks_for(payload_len) != marks_len {
         return false;

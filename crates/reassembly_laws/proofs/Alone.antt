@@ -7,8 +7,8 @@ use native.Mathlib.Omega.{arith}
 use lib.ListN.{length, replicate, length-replicate}
 use borrow.Author.Tests.{le-leb, eq-eqb}
 use Rattle.reassembly.specs.Views.{View, dataView}
-use Rattle.reassembly.specs.Marks.{marksFor}
-use Rattle.reassembly.specs.Record.{Partial, partial, soundBy, Good}
+use Rattle.reassembly.specs.Marks.{Layout, marksFor}
+use Rattle.reassembly.specs.Record.{Partial, soundBy, Good}
 use Rattle.reassembly.specs.Reading.{Proper}
 use Rattle.reassembly.specs.Reading.Reading.{chunk}
 use Rattle.reassembly.specs.Machine.{State, viewIn, judgeState, acceptState}
@@ -63,26 +63,26 @@ module _ (s f : Partial) (ok : Good s) (okf : Good f) (m : Message) (at : ℕ) (
       Combining.done-state s f ok (Combining.combined-verdict s f ok ∙ sym judged ∙ e) ∙ ap (acceptState (stateOf s)) q
 
 -- ---- there is one, in areas of n bytes
-abbrev pub chunkAlone : ℕ → Message → ℕ → List ℕ → Partial
-chunkAlone n m at d = put m (dataView at d) (partial (record { started = false; message = m }) (replicate n 0) (replicate (marksFor n) 0))
+abbrev pub chunkAlone : Layout → ℕ → Message → ℕ → List ℕ → Partial
+chunkAlone L n m at d = put m (dataView at d) (record { rec = record { started = false; message = m }; layout = L; payload = replicate n 0; marks = replicate (marksFor L n) 0 })
 
-module _ (n : ℕ) (m : Message) (at : ℕ) (d : List ℕ) (o : Proper m at (length d)) (room : m .total ≤ n) where
+module _ (L : Layout) (n : ℕ) (m : Message) (at : ℕ) (d : List ℕ) (o : Proper m at (length d)) (room : m .total ≤ n) where
   base : Partial
-  base = partial (record { started = false; message = m }) (replicate n 0) (replicate (marksFor n) 0)
+  base = record { rec = record { started = false; message = m }; layout = L; payload = replicate n 0; marks = replicate (marksFor L n) 0 }
 
   base-good : Good base
   unfolding base soundBy
-  base-good = record { is-sound = rw (eq-eqb (marksFor (length {A = ℕ} (replicate n 0))) (length {A = ℕ} (replicate (marksFor n) 0)) (ap marksFor (length-replicate {A = ℕ} n 0) ∙ sym (length-replicate {A = ℕ} (marksFor n) 0))) }
+  base-good = record { is-sound = rw (eq-eqb (marksFor L (length {A = ℕ} (replicate n 0))) (length {A = ℕ} (replicate (marksFor L n) 0)) (ap (marksFor L) (length-replicate {A = ℕ} n 0) ∙ sym (length-replicate {A = ℕ} (marksFor L n) 0))) }
 
   base-fit : Following.Fit m (length (base .payload))
   unfolding base
   base-fit = record { some = o .some; room = rw (length-replicate {A = ℕ} n 0) room; publisher = o .publisher }
 
-  pub chunk-alone-good : Good (chunkAlone n m at d)
+  pub chunk-alone-good : Good (chunkAlone L n m at d)
   unfolding base
   chunk-alone-good = Following.put-good m (dataView at d) base base-good base-fit
 
-  pub chunk-alone-is : stateOf (chunkAlone n m at d) ≡ alone (chunk m at d)
+  pub chunk-alone-is : stateOf (chunkAlone L n m at d) ≡ alone (chunk m at d)
   unfolding base
   chunk-alone-is =
       Following.put-state m (dataView at d) base base-good base-fit (λ i h. data-above at d i (omega (arith, o .fits)))

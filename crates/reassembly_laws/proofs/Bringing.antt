@@ -15,8 +15,9 @@ use Rattle.reassembly.specs.Reading.Reading.{chunk, refusal}
 use Rattle.reassembly.specs.Machine.{State, viewIn, judge, judgeState, accept, acceptState, complete}
 use Rattle.reassembly.specs.Machine.State.{idle, held}
 use Rattle.reassembly.specs.Judge.{stateOf, alone, readingVerdict}
-use Rattle.reassembly_laws.specs.History.{Call, Brought, verdictOf, keeps, ifAccepted, whole, machineFinal, withBrought, broughtBy, brought, Brings, AllOf}
-use Rattle.reassembly_laws.specs.History.Call.{Empty, Take, Combine, Ask, HandOut}
+use Rattle.reassembly.specs.Calls.{Call}
+use Rattle.reassembly_laws.specs.History.{Brought, verdictOf, keeps, ifAccepted, whole, machineFinal, withBrought, broughtBy, brought, Brings, AllOf}
+use Rattle.reassembly.specs.Calls.Call.{Empty, Take, Combine, Ask, HandOut}
 use Rattle.reassembly.specs.declared.verdict.Verdict.{Verdict}
 use Rattle.reassembly.specs.declared.verdict.Verdict.the-variants.{Done, Refused}
 use Rattle.reassembly.proofs.Cases.{by-bool, by-lt}
@@ -28,7 +29,7 @@ use Rattle.reassembly_laws.proofs.StateLaws.{Bounded}
 
 pub bounded : (s : Partial) → Bounded (stateOf s)
 bounded s =
-    by-bool _ (s .rec .started) (λ e. rw e (λ i h. marked-above (s .rec .message .total) (s .payload) (s .marks) i h)) (λ e. rw e tt)
+    by-bool _ (s .rec .started) (λ e. rw e (λ i h. marked-above (s .layout) (s .rec .message .total) (s .payload) (s .marks) i h)) (λ e. rw e tt)
 
 pub alone-bounded : (x : Reading) → ProperReading x → Bounded (alone x)
 alone-bounded (chunk m at d) o = λ i h. data-above at d i (omega (arith, o .fits))

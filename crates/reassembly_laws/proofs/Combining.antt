@@ -48,7 +48,7 @@ fits-accepted n (held l w) (held m v) h k = h
 -- what a sound partial holds fits its own area, and so any area that is equally long
 pub own-room : (a : Partial) → Good a → Room a a
 own-room a ga =
-    by-bool _ (a .rec .started) (λ e. rw e (sound-total (a .rec) _ _ (ga .is-sound) e)) (λ e. rw e tt)
+    by-bool _ (a .rec .started) (λ e. rw e (sound-total a (ga .is-sound) e)) (λ e. rw e tt)
 
 pub equal-room : (a b : Partial) → Good b → length (a .payload) ≡ length (b .payload) → Room a b
 equal-room a b gb e = rw e (own-room b gb)

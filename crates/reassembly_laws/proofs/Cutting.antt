@@ -31,7 +31,8 @@ use Rattle.reassembly.proofs.Cases.{by-lt}
 use Rattle.reassembly.proofs.JudgeLaws.{reading-got}
 use Rattle.reassembly.proofs.ViewLaws.{length-tab, getD-tab, data-at, data-below, data-above, has-data, full-all, clash-none}
 use Rattle.reassembly.proofs.SameLaws.{same-message-yes}
-use Rattle.reassembly_laws.specs.History.{whole, replies, final, machineReplies, machineFinal, replyOf, ifAccepted}
+use Rattle.reassembly.specs.Calls.{replies, final, replyOf}
+use Rattle.reassembly_laws.specs.History.{whole, machineReplies, machineFinal, ifAccepted}
 use Rattle.reassembly_laws.specs.Cutting.{Arrival, takings, dones, IsChunk, IsCut, Only, Among, AllArrive}
 use Rattle.reassembly_laws.proofs.Following
 use Rattle.reassembly_laws.proofs.Demand3.{history}

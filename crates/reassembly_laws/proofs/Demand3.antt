@@ -19,7 +19,8 @@ use Rattle.reassembly.specs.Machine.{State, viewIn, between, complete}
 use Rattle.reassembly.specs.Machine.State.{idle, held}
 use Rattle.reassembly.specs.Judge.{viewOf, stateOf, Complete, Equal, alone, judgeReading, judgeCombine}
 use Rattle.reassembly.specs.Operations.{Step, stepBy, put, putReading, takeIn, combine, yesNo, askComplete, judgeHandOut, handOut}
-use Rattle.reassembly_laws.specs.History.{Call, replies, final, machineReplies, machineFinal, brought, Brings, AllOf, leaves}
+use Rattle.reassembly.specs.Calls.{Call, replies, final, leaves}
+use Rattle.reassembly_laws.specs.History.{machineReplies, machineFinal, brought, Brings, AllOf}
 use Rattle.reassembly_laws.specs.Combining.{isRefused, someDisagree, Room, Pair, Three, leftVerdict, leftResult, rightVerdict, rightResult}
 use Rattle.reassembly.specs.declared.record.Message.{Message}
 use Rattle.reassembly.specs.declared.verdict.Completeness.the-variants as C
@@ -110,7 +111,7 @@ unfolding handOut
 handed-length s e =
     let ok = JudgeLaws.hand-sound s e in
     let h = JudgeLaws.hand-started s e in
-    (rw e (length-take-le (s .rec .message .total) (s .payload) (JudgeLaws.sound-total (s .rec) _ _ ok h)), JudgeLaws.sound-some (s .rec) _ _ ok h)
+    (rw e (length-take-le (s .rec .message .total) (s .payload) (JudgeLaws.sound-total s ok h)), JudgeLaws.sound-some s ok h)
 
 pub handed-nothing : (s : Partial) (n p : ℕ) → judgeHandOut s ≡ Refused n p → handOut s ≡ []
 unfolding handOut
@@ -163,7 +164,7 @@ combine-equal a b ga gb q =
     unchanged : a .rec .started ≡ true → viewOf b ≡ viewOf a → put (b .rec .message) (viewOf b) a ≡ a
     unchanged f v =
         Following.put-started (b .rec .message) (viewOf b) a f
-        ∙ rw v (λ i. record { rec = a .rec; payload = laid-self (a .rec .message .total) (a .payload) (a .marks) i; marks = marks-again (a .rec .message .total) (a .payload) (a .marks) i })
+        ∙ rw v (λ i. record { rec = a .rec; layout = a .layout; payload = laid-self (a .layout) (a .rec .message .total) (a .payload) (a .marks) i; marks = marks-again (a .layout) (a .rec .message .total) (a .payload) (a .marks) i })
 
 -- ---- THREE IN EITHER GROUPING give equal results, or both are refused, and that exactly if two of the three disagree
 pub record Groupings (a b c : Partial) : Type 0 where
@@ -211,23 +212,23 @@ chunk-as-partial s f ok okf m at d o q = go (judgeReading s (chunk m at d)) refl
         }
 
 -- with its own record in areas of equal length, all is the same: answer, record and every byte
-pub take-is-combine : (s : Partial) → Good s → (m : Message) (at : ℕ) (d : List ℕ) → Proper m at (length d) → m .total ≤ length (s .payload) → takeIn s (chunk m at d) ≡ combine s (Alone.chunkAlone (length (s .payload)) m at d)
+pub take-is-combine : (s : Partial) → Good s → (m : Message) (at : ℕ) (d : List ℕ) → Proper m at (length d) → m .total ≤ length (s .payload) → takeIn s (chunk m at d) ≡ combine s (Alone.chunkAlone (s .layout) (length (s .payload)) m at d)
 unfolding put
 take-is-combine s ok m at d o room = go (judgeReading s (chunk m at d)) refl
   where
-    okf : Good (Alone.chunkAlone (length (s .payload)) m at d)
-    okf = Alone.chunk-alone-good (length (s .payload)) m at d o room
+    okf : Good (Alone.chunkAlone (s .layout) (length (s .payload)) m at d)
+    okf = Alone.chunk-alone-good (s .layout) (length (s .payload)) m at d o room
 
-    q : stateOf (Alone.chunkAlone (length (s .payload)) m at d) ≡ alone (chunk m at d)
-    q = Alone.chunk-alone-is (length (s .payload)) m at d o room
+    q : stateOf (Alone.chunkAlone (s .layout) (length (s .payload)) m at d) ≡ alone (chunk m at d)
+    q = Alone.chunk-alone-is (s .layout) (length (s .payload)) m at d o room
 
-    go : (v : Verdict) → judgeReading s (chunk m at d) ≡ v → takeIn s (chunk m at d) ≡ combine s (Alone.chunkAlone (length (s .payload)) m at d)
+    go : (v : Verdict) → judgeReading s (chunk m at d) ≡ v → takeIn s (chunk m at d) ≡ combine s (Alone.chunkAlone (s .layout) (length (s .payload)) m at d)
     go (Refused n p) e = JudgeLaws.take-refused s (chunk m at d) n p e ∙ sym (JudgeLaws.combine-refused s _ n p (sym (Alone.judged s _ ok okf m at d q) ∙ e))
     go Done e = JudgeLaws.take-done s (chunk m at d) e ∙ sym (Alone.combined s _ ok okf m at d q e)
 
 -- so for a datagram that reads as a chunk
 pub datagram-is-combine : (s : Partial) → Good s → (sizes d : List ℕ) (c : ChunkPlace) (n : ℕ) → chunkAt sizes d ≡ got c n → c .payload .total ≤ length (s .payload)
-    → takeIn s (readingAt sizes d) ≡ combine s (Alone.chunkAlone (length (s .payload)) (messageOf c d) (c .payload .offset) (chunkData (got c n) d))
+    → takeIn s (readingAt sizes d) ≡ combine s (Alone.chunkAlone (s .layout) (length (s .payload)) (messageOf c d) (c .payload .offset) (chunkData (got c n) d))
 datagram-is-combine s ok sizes d c n e room =
     ap (takeIn s) (JudgeLaws.reading-got sizes d c n e)
     ∙ take-is-combine s ok (messageOf c d) (c .payload .offset) (chunkData (got c n) d) (JudgeLaws.proper-got sizes d c n e) room

@@ -9,18 +9,20 @@ use native.Mathlib.Omega.{arith}
 use lib.ListN.{length}
 use borrow.Author.Tests.{le-leb, eq-eqb}
 use Rattle.reassembly.specs.Views.{View, clash, full, has, dataView, joined, nowhere, laid}
-use Rattle.reassembly.specs.Marks.{marksFor, cleared, markAll}
+use Rattle.reassembly.specs.Marks.{Layout, marksFor, cleared, markAll}
 use Rattle.reassembly.specs.Areas.{markedView}
 use Rattle.publisher_id.specs.PublisherRecord.{publisherFits}
-use Rattle.reassembly.specs.Record.{Identity, identityOf, Partial, partial, soundBy, Good}
+use Rattle.reassembly.specs.Record.{Identity, identityOf, Partial, soundBy, Good}
 use Rattle.reassembly.specs.Reading.{Reading, readingAt, ProperReading}
 use Rattle.reassembly.specs.Reading.Reading.{chunk, refusal}
 use Rattle.reassembly.specs.Machine.{State, judge, accept, acceptState, complete}
 use Rattle.reassembly.specs.Machine.State.{idle, held}
 use Rattle.reassembly.specs.Judge.{viewOf, stateOf, alone, readingVerdict, judgeReading, judgeCombine}
 use Rattle.reassembly.specs.Operations.{Step, begunMarks, put, takeIn, combine, emptied, yesNo, askComplete, handOutBy, judgeHandOut, handOut}
-use Rattle.reassembly_laws.specs.History.{Call, replyOf, saidOf, said, handedOf, answers, leaves, verdictOf, whole, says, ifAccepted, keeps}
-use Rattle.reassembly_laws.specs.History.Call.{Empty, Take, Combine, Ask, HandOut}
+use Rattle.reassembly.specs.Calls.{Call, replyOf, saidOf, handedOf, answers, leaves}
+use Rattle.reassembly.specs.Calls.Reply.{said}
+use Rattle.reassembly_laws.specs.History.{verdictOf, whole, says, ifAccepted, keeps}
+use Rattle.reassembly.specs.Calls.Call.{Empty, Take, Combine, Ask, HandOut}
 use Rattle.reassembly.specs.declared.record.Message.{Message}
 use Rattle.reassembly.specs.declared.record.PartialRecord.{PartialRecord}
 use Rattle.reassembly.specs.declared.verdict.Verdict.{Verdict}
@@ -38,33 +40,33 @@ pub record Fit (m : Message) (n : ℕ) : Type 0 where
   pub room : m .total ≤ n
   pub publisher : publisherFits (m .publisher) ≡ true
 
-pub fit-sound : (r : PartialRecord) (n k : ℕ) → marksFor n ≡ k → Fit (r .message) n → soundBy r n k ≡ true
+pub fit-sound : (L : Layout) (r : PartialRecord) (n k : ℕ) → marksFor L n ≡ k → Fit (r .message) n → soundBy L r n k ≡ true
 unfolding soundBy
-fit-sound r n k e f =
-    rw (eq-eqb (marksFor n) k e, le-leb 1 (r .message .total) (f .some), le-leb (r .message .total) n (f .room), f .publisher)
+fit-sound L r n k e f =
+    rw (eq-eqb (marksFor L n) k e, le-leb 1 (r .message .total) (f .some), le-leb (r .message .total) n (f .room), f .publisher)
     (or-true (not (r .started)))
 
 -- ---- bytes put into a good partial
 module _ (m : Message) (v : View) (s : Partial) where
-  pub put-started : s .rec .started ≡ true → put m v s ≡ partial (s .rec) (laid v (s .payload)) (markAll (has v) (s .marks))
+  pub put-started : s .rec .started ≡ true → put m v s ≡ record { rec = s .rec; layout = s .layout; payload = laid v (s .payload); marks = markAll (s .layout) (has v) (s .marks) }
   unfolding put
   put-started e = rw e
 
-  put-idle : s .rec .started ≡ false → put m v s ≡ partial (record { started = true; message = m }) (laid v (s .payload)) (markAll (has v) (cleared (s .marks)))
+  put-idle : s .rec .started ≡ false → put m v s ≡ record { rec = record { started = true; message = m }; layout = s .layout; payload = laid v (s .payload); marks = markAll (s .layout) (has v) (cleared (s .marks)) }
   unfolding put
   put-idle e = rw e
 
 module _ (m : Message) (v : View) (s : Partial) (ok : Good s) (fit : Fit m (length (s .payload))) where
   put-lengths : (length (put m v s .payload) ≡ length (s .payload)) × (length (put m v s .marks) ≡ length (s .marks))
   unfolding put
-  put-lengths = (length-laid v (s .payload), length-markAll (has v) (begunMarks (s .rec) (s .marks)) ∙ JudgeLaws.length-begun (s .rec) (s .marks) _ refl)
+  put-lengths = (length-laid v (s .payload), length-markAll (s .layout) (has v) (begunMarks (s .rec) (s .marks)) ∙ JudgeLaws.length-begun (s .rec) (s .marks) _ refl)
 
   pub put-good : Good (put m v s)
   put-good = record {
     is-sound = by-bool _ (s .rec .started)
-        (λ e. rw (put-started m v s e, length-laid v (s .payload), length-markAll (has v) (s .marks)) (ok .is-sound))
-        (λ e. rw (put-idle m v s e, length-laid v (s .payload), length-markAll (has v) (cleared (s .marks)), length-cleared (s .marks))
-        (fit-sound (record { started = true; message = m }) (length (s .payload)) (length (s .marks)) (JudgeLaws.sound-lengths (s .rec) _ _ (ok .is-sound)) fit));
+        (λ e. rw (put-started m v s e, length-laid v (s .payload), length-markAll (s .layout) (has v) (s .marks)) (ok .is-sound))
+        (λ e. rw (put-idle m v s e, length-laid v (s .payload), length-markAll (s .layout) (has v) (cleared (s .marks)), length-cleared (s .marks))
+        (fit-sound (s .layout) (record { started = true; message = m }) (length (s .payload)) (length (s .marks)) (JudgeLaws.sound-lengths s (ok .is-sound)) fit));
   }
 
   pub put-state : ((i : ℕ) → m .total ≤ i → v i ≡ none) → judge (length (s .payload)) (stateOf s) (identityOf m) v ≡ Done → stateOf (put m v s) ≡ accept (stateOf s) (identityOf m) v
@@ -75,17 +77,17 @@ module _ (m : Message) (v : View) (s : Partial) (ok : Good s) (fit : Fit m (leng
       let k = identityOf (s .rec .message) in
       let met₁ = JudgeLaws.judge-meets (length (s .payload)) (held k (viewOf s)) (identityOf m) v (rw e at met) in
       let same : t ≡ m .total = ap (λ (x : Identity). x .total) (same-message-true k (identityOf m) (JudgeLaws.meet-same k (identityOf m) (viewOf s) v met₁)) in
-      let u : t ≤ length (s .payload) = JudgeLaws.sound-total (s .rec) _ _ (ok .is-sound) e in
+      let u : t ≤ length (s .payload) = JudgeLaws.sound-total s (ok .is-sound) e in
       rw (put-started m v s e, e)
-      (ap (held k) (view-put t v (s .payload) (s .marks) u (JudgeLaws.sound-marks (s .rec) _ _ (ok .is-sound) t u) (λ i h. above i (omega arith)) (JudgeLaws.meet-free k (identityOf m) (viewOf s) v met₁))))
+      (ap (held k) (view-put (s .layout) t v (s .payload) (s .marks) u (JudgeLaws.sound-marks s (ok .is-sound) t u) (λ i h. above i (omega arith)) (JudgeLaws.meet-free k (identityOf m) (viewOf s) v met₁))))
       (λ e.
       let t = m .total in
       let z = cleared (s .marks) in
-      let none-held : markedView t (s .payload) z ≡ nowhere = cleared-nowhere t (s .payload) (s .marks) in
-      let free : clash t (markedView t (s .payload) z) v ≡ false = rw none-held (clash-none t nowhere v (λ i h. refl)) in
-      let room : marksFor t ≤ length z = rw (length-cleared (s .marks)) (JudgeLaws.sound-marks (s .rec) _ _ (ok .is-sound) t (fit .room)) in
+      let none-held : markedView (s .layout) t (s .payload) z ≡ nowhere = cleared-nowhere (s .layout) t (s .payload) (s .marks) in
+      let free : clash t (markedView (s .layout) t (s .payload) z) v ≡ false = rw none-held (clash-none t nowhere v (λ i h. refl)) in
+      let room : marksFor (s .layout) t ≤ length z = rw (length-cleared (s .marks)) (JudgeLaws.sound-marks s (ok .is-sound) t (fit .room)) in
       rw (put-idle m v s e, e)
-      (ap (held (identityOf m)) (view-put t v (s .payload) z (fit .room) room above free ∙ ap (λ (w : View). joined w v) none-held ∙ joined-nowhere v)))
+      (ap (held (identityOf m)) (view-put (s .layout) t v (s .payload) z (fit .room) room above free ∙ ap (λ (w : View). joined w v) none-held ∙ joined-nowhere v)))
 
 -- ---- a step that brings t, judged by v
 pub record Stepped (s : Partial) (x : Step) (v : Verdict) (t : State) : Type 0 where
@@ -142,8 +144,8 @@ module _ (s : Partial) (ok : Good s) where
           (λ h.
           let g = JudgeLaws.combine-source-sound s f e in
           let met = JudgeLaws.combine-met s f e h in
-          let fit : Fit (f .rec .message) (length (s .payload)) = record { some = JudgeLaws.sound-some (f .rec) _ _ g h; room = JudgeLaws.judge-fits (length (s .payload)) (stateOf s) (identityOf (f .rec .message)) (viewOf f) met; publisher = JudgeLaws.sound-publisher (f .rec) _ _ g h } in
-          step-put s ok _ _ _ (f .rec .message) (viewOf f) fit (λ i l. marked-above (f .rec .message .total) (f .payload) (f .marks) i l) met (JudgeLaws.combine-done s f e h) (sym (source-verdict f) ∙ e) (rw h))
+          let fit : Fit (f .rec .message) (length (s .payload)) = record { some = JudgeLaws.sound-some f g h; room = JudgeLaws.judge-fits (length (s .payload)) (stateOf s) (identityOf (f .rec .message)) (viewOf f) met; publisher = JudgeLaws.sound-publisher f g h } in
+          step-put s ok _ _ _ (f .rec .message) (viewOf f) fit (λ i l. marked-above (f .layout) (f .rec .message .total) (f .payload) (f .marks) i l) met (JudgeLaws.combine-done s f e h) (sym (source-verdict f) ∙ e) (rw h))
           (λ h. step-idle s ok _ _ _ (JudgeLaws.combine-done-idle s f e h) (sym (source-verdict f) ∙ e) (rw h))
 
   -- ---- asking and handing out
@@ -165,7 +167,7 @@ module _ (s : Partial) (ok : Good s) where
       by-bool _ (s .rec .started)
       (λ h.
       let f : full (s .rec .message .total) (viewOf s) ≡ true = rw h at e in
-      rw (hand-is, e, h) (full-bytes (s .rec .message .total) (s .payload) (s .marks) (JudgeLaws.sound-total (s .rec) _ _ (ok .is-sound) h) f))
+      rw (hand-is, e, h) (full-bytes (s .layout) (s .rec .message .total) (s .payload) (s .marks) (JudgeLaws.sound-total s (ok .is-sound) h) f))
       (λ h. rw (hand-is, e, h) (absurd (false≢true (rw h at e))))
 
 -- ---- one call
@@ -181,7 +183,7 @@ module _ (s : Partial) (ok : Good s) where
   follow-empty = record {
     reply = refl;
     state = refl;
-    good = record { is-sound = rw (eq-eqb (marksFor (length (s .payload))) (length (s .marks)) (JudgeLaws.sound-lengths (s .rec) _ _ (ok .is-sound))) };
+    good = record { is-sound = rw (eq-eqb (marksFor (s .layout) (length (s .payload))) (length (s .marks)) (JudgeLaws.sound-lengths s (ok .is-sound))) };
     room = refl;
   }
 

@@ -6,3 +6,4 @@ pub mod Combining
 pub mod Alone
 pub mod Demand3
 pub mod Cutting
+pub mod Layouts

@@ -14,9 +14,9 @@ use Rattle.reassembly.specs.Record.{Identity, identityOf}
 use Rattle.reassembly.specs.Reading.{readingAt}
 use Rattle.reassembly.specs.Reading.Reading.{chunk}
 use Rattle.reassembly.specs.declared.record.Message.{Message}
-use Rattle.reassembly_laws.specs.History.{Call, Reply}
-use Rattle.reassembly_laws.specs.History.Call.{Take}
-use Rattle.reassembly_laws.specs.History.Reply.{done}
+use Rattle.reassembly.specs.Calls.{Call, Reply}
+use Rattle.reassembly.specs.Calls.Call.{Take}
+use Rattle.reassembly.specs.Calls.Reply.{done}
 
 -- a datagram, and the sizes of the configured writers that it is read under
 pub record Arrival : Type 0 where

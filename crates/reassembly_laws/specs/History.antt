@@ -7,68 +7,16 @@ use mathlib.Core.Logic.{_⊎_}
 use mathlib.Core.Option.{some}
 use lib.ListN.{length, getD}
 use Rattle.reassembly.specs.Views.{View, bytesOf}
-use Rattle.reassembly.specs.Record.{Identity, Partial, partial, sound}
+use Rattle.reassembly.specs.Record.{Identity, sound}
 use Rattle.reassembly.specs.Reading.{readingAt}
 use Rattle.reassembly.specs.Machine.{State, judgeState, acceptState, complete}
 use Rattle.reassembly.specs.Machine.State.{idle, held}
 use Rattle.reassembly.specs.Judge.{stateOf, alone, readingVerdict}
-use Rattle.reassembly.specs.Operations.{takeIn, combine, emptied, askComplete, judgeHandOut, handOut}
-use Rattle.reassembly.specs.declared.verdict.Completeness.{Completeness}
-use Rattle.reassembly.specs.declared.verdict.Completeness.the-variants as C
+use Rattle.reassembly.specs.Calls.{Call, Reply, replyOf, handedOf}
+use Rattle.reassembly.specs.Calls.Call.{Empty, Take, Combine, Ask, HandOut}
+use Rattle.reassembly.specs.Calls.Reply.{done, said}
 use Rattle.reassembly.specs.declared.verdict.Verdict.{Verdict}
 use Rattle.reassembly.specs.declared.verdict.Verdict.the-variants.{Done, Refused}
-
--- a call, with what it is handed besides the partial
-pub data Call : Type 0 where
-  Empty : Call
-  Take : List ℕ → List ℕ → Call
-  Combine : Partial → Call
-  Ask : Call
-  HandOut : Call
-
--- what a call answers: done, complete or not, the payload, or a refusal's number and place
-pub data Reply : Type 0 where
-  done : Reply
-  said : Bool → Reply
-  handed : List ℕ → Reply
-  refused : ℕ → ℕ → Reply
-
-abbrev pub replyOf : Verdict → Reply
-replyOf Done = done
-replyOf (Refused n p) = refused n p
-
-abbrev pub saidOf : Completeness → Reply
-saidOf C.Yes = said true
-saidOf C.No = said false
-saidOf (C.Refused n p) = refused n p
-
-abbrev pub handedOf : Verdict → List ℕ → Reply
-handedOf Done l = handed l
-handedOf (Refused n p) l = refused n p
-
--- ---- the code: what a call answers, and the partial that it leaves
-abbrev pub answers : Call → Partial → Reply
-answers Empty s = done
-answers (Take d sizes) s = replyOf (takeIn s (readingAt sizes d) .verdict)
-answers (Combine f) s = replyOf (combine s f .verdict)
-answers Ask s = saidOf (askComplete s)
-answers HandOut s = handedOf (judgeHandOut s) (handOut s)
-
-abbrev pub leaves : Call → Partial → Partial
-leaves Empty s = partial (emptied (s .rec)) (s .payload) (s .marks)
-leaves (Take d sizes) s = takeIn s (readingAt sizes d) .after
-leaves (Combine f) s = combine s f .after
-leaves Ask s = s
-leaves HandOut s = s
-
--- each call gets the record and the areas as the last one left them
-abbrev pub replies : List Call → Partial → List Reply
-replies [] s = []
-replies (k ∷ ks) s = answers k s ∷ replies ks (leaves k s)
-
-abbrev pub final : List Call → Partial → Partial
-final [] s = s
-final (k ∷ ks) s = final ks (leaves k s)
 
 -- ---- the plain machine: n is the area's length
 -- what a call brings where it is accepted: a chunk alone, or what a source covers

@@ -1,3 +1,4 @@
 pub mod History
 pub mod Combining
 pub mod Cutting
+pub mod Layouts

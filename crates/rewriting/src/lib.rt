@@ -6,10 +6,8 @@ use publisher_id::publisher::PublisherId;
 use writing::Written;
 ghost use mathlib.Core.Path.{_≡_};
 ghost use lib.ListN.{length};
-ghost use Rattle.writing.specs.Writing.{numberFor, writtenBy, bufferBy, answerWritten};
-ghost use Rattle.network_message.specs.Envelope.{networkMessageAt};
-ghost use Rattle.network_message_writer.specs.Envelope.{rewriteAnswer, rewriteBuffer};
-ghost use Rattle.dataset_message_writer.specs.Rewrite.{Rewrites};
+ghost use Rattle.writing.specs.Writing.{numberFor, writtenBy, bufferBy};
+ghost use Rattle.rewriting.specs.Same.{WritesSame, WritesDatagram};
 
 // All of a slice, from the start of a buffer.
 fn copy_whole(out: &mut [u8], s: &[u8]) -> Written
@@ -28,7 +26,7 @@ fn copy_whole(out: &mut [u8], s: &[u8]) -> Written
 
 // An accepted, valid DataSetMessage written again; what reading refuses is refused, and one not valid is 6.
 pub fn rewrite_message(out: &mut [u8], message: &[u8], types: &[u8]) -> Written
-    ensures { λ r. ⌜ Rewrites (now (types .entry)) (now (message .entry)) (now (out .entry)) (now (out .exit)) r ⌝ }
+    ensures { λ r. ⌜ WritesSame (now (types .entry)) (now (message .entry)) (now (out .entry)) (now (out .exit)) r ⌝ }
 {
     match dataset_message::message::read(&*message, &*types) {
         MessageRead::NotValid => Written::Refused(6),
@@ -40,7 +38,7 @@ pub fn rewrite_message(out: &mut [u8], message: &[u8], types: &[u8]) -> Written
 // An accepted datagram written again, under the sizes of the configured writers. Where PublisherId is off, its type bits are
 // written as 0.
 pub fn rewrite_datagram(out: &mut [u8], s: &[u8], sizes: &[u16]) -> Written
-    ensures { λ r. ⌜ (answerWritten r ≡ rewriteAnswer (now (s .entry)) (networkMessageAt (now (sizes .entry)) (now (s .entry))) (length (now (out .entry)))) × (now (out .exit) ≡ rewriteBuffer (now (s .entry)) (networkMessageAt (now (sizes .entry)) (now (s .entry))) (now (out .entry))) ⌝ }
+    ensures { λ r. ⌜ WritesDatagram (now (sizes .entry)) (now (s .entry)) (now (out .entry)) (now (out .exit)) r ⌝ }
 {
     match network_message::envelope::read(&*s, &*sizes) {
         NetworkMessageRead::Refused(n, _) => Written::Refused(n),

@@ -8,7 +8,7 @@ use native.Mathlib.Nat.{add-zero, zero-add}
 use native.Mathlib.Omega.{arith}
 use borrow.Author.Tests.{leb-true, eqb-true, eqb-false, le-leb, lt-leb}
 use lib.Dec.{leb, eqb}
-use lib.ListN.{drop, length, getD, length-append}
+use lib.ListN.{take, drop, length, getD, length-append}
 use lib.Seq.{take-all}
 use Rattle.wire.specs.Answer.{got}
 use Rattle.wire.proofs.Facts.{and-left, and-right}
@@ -27,11 +27,13 @@ use Rattle.dataset_parts_writer.specs.Flags.{kindRule}
 use Rattle.dataset_parts_writer.specs.Header.{headerBytes}
 use Rattle.dataset_parts_writer.specs.Fields.{valuesOf, endsAt, fieldsRefusal, fieldsWhole, reached, fieldsBytes, zeros}
 use Rattle.writing.specs.declared.Written.{Written}
-use Rattle.dataset_message_writer.specs.Message.{Given, writerNumber, Writes, hasFields, isKey, isFielded, isRawData, fieldsOf, countBytes, configuredRule, countAgrees, encode, refusalOf}
+use Rattle.dataset_message_writer.specs.Message.{Given, FitsGiven, writerNumber, Writes, hasFields, isKey, isFielded, isRawData, fieldsOf, countBytes, configuredRule, countAgrees, encode, refusalOf}
 use Rattle.dataset_parts_writer.proofs.Judging.{length-values}
 use Rattle.dataset_parts_writer.proofs.Laying.{length-zeros}
 use Rattle.dataset_message_writer.proofs.Whole.{Accepted, accepted}
-use Rattle.round_trip.specs.DataSetMessage.{firstOf, endOf, messageOf, FieldBack, MessageBack, FitsHeader}
+use Rattle.round_trip.specs.DataSetMessage.{firstOf, endOf, messageOf, FieldBack, MessageBack}
+use Rattle.dataset_parts_writer.specs.Header.{FitsHeader}
+use Rattle.round_trip.proofs.Reported.{reported}
 use Rattle.round_trip.proofs.DataSetMessageParts.{header-is, whole-alone, fields-is, nth-is, zeros-is}
 use Rattle.writing.specs.Fits.{Numbers}
 
@@ -250,7 +252,7 @@ module _ (types : List ℕ) (g : Given) (fits : FitsHeader (g .header)) (indices
       go true f e n = le-leb (length (encode g)) start (ends-there (e ∙ n) k)
       go false f e n = lt-leb (length (encode g)) start (follows (e ∙ n))
 
-  field-read : (k : ℕ) → k < length (g .lengths) → FieldBack types g k
+  field-read : (k : ℕ) → k < length (g .lengths) → FieldBack types g (encode g) k
   field-read k l =
       let n = nth-is (isDelta (g .header .kind)) (g .header .encoding) types k (fieldsOf g) 0 (g .indices) indices (body .whole) (rw (length-values (g .lengths) (g .values)) l)
       (encode g) (firstOf g) (first (encode g) (firstOf g) fieldsPart (zeros (g .padding)) fields-at) in
@@ -267,7 +269,7 @@ module _ (types : List ℕ) (g : Given) (fits : FitsHeader (g .header)) (indices
 
 -- What the writer accepts reads back, under the same types, as what it was given: the header, the number of fields, each field's
 -- index and bytes, and the length of the padding.
-pub read-written : (types : List ℕ) (g : Given) → FitsHeader (g .header) → Numbers (g .indices) → refusalOf types g ≡ 0 → MessageBack types g
+pub read-written : (types : List ℕ) (g : Given) → FitsHeader (g .header) → Numbers (g .indices) → refusalOf types g ≡ 0 → MessageBack types g (encode g)
 read-written types g fits indices h =
     let ok = accepted types g h in
     record {
@@ -277,20 +279,10 @@ read-written types g fits indices h =
       padding = padding-is types g fits indices ok;
     }
 
--- The same of the writer itself: where it reports n bytes, these are the message that reads back.
-pub written-reads : (types : List ℕ) (g : Given) → FitsHeader (g .header) → Numbers (g .indices) → (entry exit : List ℕ) (n : ℕ) → Writes types g entry exit (Written.Is n)
-    → (exit ≡ encode g ++ drop (length (encode g)) entry) × (n ≡ length (encode g)) × MessageBack types g
-written-reads types g fits indices entry exit n w = go (eqb (writerNumber types g (length entry)) 0) refl
-  where
-    go : (t : Bool) → eqb (writerNumber types g (length entry)) 0 ≡ t → (exit ≡ encode g ++ drop (length (encode g)) entry) × (n ≡ length (encode g)) × MessageBack types g
-    go true t =
-        let z = eqb-true (writerNumber types g (length entry)) 0 t in
-        let a : Written.Is n ≡ Written.Is (length (encode g)) = w .answer ∙ ap (λ (b : Bool). cond b (Written.Is (length (encode g))) (Written.Refused (writerNumber types g (length entry)))) t in (
-          w .buffer ∙ ap (λ (b : Bool). cond b (encode g ++ drop (length (encode g)) entry) entry) t,
-          (cc),
-          read-written types g fits indices (both-zero (refusalOf types g) _ z .0),
-        )
-    go false t =
-        let a : Written.Is n ≡ Written.Refused (writerNumber types g (length entry)) = w .answer ∙ ap (λ (b : Bool). cond b (Written.Is (length (encode g))) (Written.Refused (writerNumber types g (length entry)))) t in
-        let z : _≡_ {A = ℕ} 0 1 = cc in
-        absurd (omega arith)
+-- The same of the buffer, by the writer's contract alone: where it reports n bytes, the first n read back, and the others are as they were.
+pub written-reads : (types : List ℕ) (g : Given) (entry exit : List ℕ) (n : ℕ) → FitsGiven g × Writes types g entry exit (Written.Is n)
+    → MessageBack types g (take n exit) × (drop n exit ≡ drop n entry)
+written-reads types g entry exit n c =
+    let w = reported (writerNumber types g (length entry)) (encode g) entry exit n (c .1 .answer) (c .1 .buffer) in
+    let ok = both-zero (refusalOf types g) _ (w .number) .0 in
+    (subst (MessageBack types g) (sym (w .front)) (read-written types g (c .0 .header) (c .0 .indices) ok), w .rest)

@@ -30,7 +30,8 @@ use Rattle.dataset_message_writer.specs.Message.{Given, hasFields, isKey, isFie
 use Rattle.dataset_parts_writer.proofs.Judging.{length-values}
 use Rattle.dataset_parts_writer.proofs.Laying.{length-zeros}
 use Rattle.dataset_message_writer.proofs.Whole.{count-bytes}
-use Rattle.round_trip.specs.DataSetMessage.{firstOf, endOf, messageOf, bytesOf, MessageBack, FitsHeader}
+use Rattle.round_trip.specs.DataSetMessage.{firstOf, endOf, messageOf, bytesOf, MessageBack}
+use Rattle.dataset_parts_writer.specs.Header.{FitsHeader}
 use Rattle.round_trip.proofs.DataSetMessageParts.{header-is, field-alone}
 use Rattle.round_trip.proofs.DataSetMessage.{no, reached-all, delta-plain}
 
@@ -97,7 +98,7 @@ count-of h types s at m e q =
     atIn notValid = 0
 
 module _ (types : List ℕ) (g : Given) (fits : FitsHeader (g .header)) (kind : kindRule (g .header .kind) (g .header .encoding) ≡ 0)
-    (pico : picosecondsRefusal (g .header .picoseconds) ≡ 0) (back : MessageBack types g) where
+    (pico : picosecondsRefusal (g .header .picoseconds) ≡ 0) (back : MessageBack types g (encode g)) where
   abbrev fieldsPart : List ℕ
   fieldsPart = fieldsBytes (isDelta (g .header .kind)) (g .indices) (fieldsOf g)
 
@@ -159,7 +160,7 @@ module _ (types : List ℕ) (g : Given) (fits : FitsHeader (g .header)) (kind : 
           rw (e, eq-eqb (length (g .lengths)) 0 (n .0), unpadded (isKey (g .header .kind)) refl (n .1))
 
 -- What reading accepts and reads back as it is given is not refused by 6, where the lists agree.
-pub six-otherwise : (types : List ℕ) (g : Given) → FitsHeader (g .header) → readingRefusal types g ≡ 0 → MessageBack types g → bodyAgrees types g ≡ true
+pub six-otherwise : (types : List ℕ) (g : Given) → FitsHeader (g .header) → readingRefusal types g ≡ 0 → MessageBack types g (encode g) → bodyAgrees types g ≡ true
 six-otherwise types g fits r back =
     let a = both-zero (kindRule (g .header .kind) (g .header .encoding)) (orElse (picosecondsRefusal (g .header .picoseconds)) (bodyRefusal types g)) r in
     let b = both-zero (picosecondsRefusal (g .header .picoseconds)) (bodyRefusal types g) (a .1) in

@@ -11,7 +11,8 @@ use native.Mathlib.Omega.{arith}
 use borrow.Author.Tests.{eqb-true, eq-eqb}
 use lib.ListN.{length, getD, take, drop, length-append}
 use lib.Seq.{getD-append-seam, getD-drop, take-at, drop-at, drop-cons, drop-length}
-use Rattle.round_trip.specs.DataSetMessage.{walked, bytesOf, joined, lengthsOf, indicesOf, FitsHeader}
+use Rattle.round_trip.specs.DataSetMessage.{walked, bytesOf, joined, lengthsOf, indicesOf}
+use Rattle.dataset_parts_writer.specs.Header.{FitsHeader}
 use Rattle.dataset_message.proofs.Agreement.{field-inside}
 use Rattle.dataset_header.specs.declared.header.Versions.{Versions}
 use Rattle.dataset_header.specs.declared.header.Times.{Times}

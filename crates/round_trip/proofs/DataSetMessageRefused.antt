@@ -31,7 +31,8 @@ use Rattle.dataset_parts_writer.specs.Fields.{fieldsRefusal, reached, indexByte
 use Rattle.dataset_message_writer.specs.Message.{Given, hasFields, isFielded, isRawData, fieldsOf, countBytes, configuredRule, bodyRefusal, readingRefusal, encode}
 use Rattle.dataset_parts_writer.proofs.Judging.{encoded-steady, length-values}
 use Rattle.dataset_parts_writer.proofs.Laying.{length-zeros}
-use Rattle.round_trip.specs.DataSetMessage.{plainly, Tellable, countOf, FitsHeader}
+use Rattle.round_trip.specs.DataSetMessage.{plainly, Tellable, countOf}
+use Rattle.dataset_parts_writer.specs.Header.{FitsHeader}
 use Rattle.round_trip.proofs.DataSetMessageFlags.{flags1-bits, flags2-bits, encoding-rule, kind-rule-is, flagsFor, flags-is}
 use Rattle.round_trip.proofs.DataSetMessageParts.{header-is, field-is, index-is}
 use Rattle.round_trip.proofs.DataSetMessage.{no, counted-is, count-is, delta-plain}

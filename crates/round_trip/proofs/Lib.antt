@@ -17,3 +17,5 @@ pub mod NetworkMessageRefused
 pub mod NetworkMessageKept
 pub mod NetworkMessageAccepted
 pub mod NetworkMessageRoundTrip
+pub mod Reported
+pub mod Fitting

@@ -16,8 +16,6 @@ use Rattle.dataset_parts_writer.specs.Header.{headerBytes}
 use Rattle.dataset_parts_writer.specs.Fields.{fieldsBytes}
 use Rattle.dataset_message_writer.specs.Message.{Given, given, isKey, isFielded, isRawData, fieldsOf, countBytes, encode, refusalOf}
 use Rattle.dataset_message_writer.specs.Rewrite.{again}
-use Rattle.dataset_header.specs.declared.header.Header.{Header}
-use Rattle.writing.specs.Fits.{Fits16, Fits32, FitsI64}
 
 -- where the first field of a written message starts, and where its last field ends
 
@@ -36,20 +34,20 @@ messageOf g =
       end = endOf g;
     }
 
--- field k of a written message: the index and the bytes that were given
-pub record FieldBack (types : List ℕ) (g : Given) (k : ℕ) : Type 0 where
+-- field k of the written message s: the index and the bytes that were given
+pub record FieldBack (types : List ℕ) (g : Given) (s : List ℕ) (k : ℕ) : Type 0 where
   pub place : Field
   pub end : ℕ
-  pub looked-up : fieldPlaceAt types k (encode g) ≡ got place end
+  pub looked-up : fieldPlaceAt types k s ≡ got place end
   pub index : place .index ≡ cond (isDelta (g .header .kind)) (getD (g .indices) k 0) k
-  pub bytes : fieldBytes (fieldPlaceAt types k (encode g)) (encode g) ≡ getD (fieldsOf g) k []
+  pub bytes : fieldBytes (fieldPlaceAt types k s) s ≡ getD (fieldsOf g) k []
 
--- a written message reads back as what was given; a key frame has nothing left after its header exactly if it is a heartbeat
-pub record MessageBack (types : List ℕ) (g : Given) : Type 0 where
-  pub message : messageAt types (encode g) ≡ got (valid (messageOf g)) (endOf g)
-  pub heartbeat : isKey (g .header .kind) ≡ true → leb (length (encode g)) (length (headerBytes (g .header))) ≡ g .heartbeat
-  pub field : (k : ℕ) → k < length (g .lengths) → FieldBack types g k
-  pub padding : length (encode g) - endOf g ≡ g .padding
+-- the written message s reads back as what was given; a key frame has nothing left after its header exactly if it is a heartbeat
+pub record MessageBack (types : List ℕ) (g : Given) (s : List ℕ) : Type 0 where
+  pub message : messageAt types s ≡ got (valid (messageOf g)) (endOf g)
+  pub heartbeat : isKey (g .header .kind) ≡ true → leb (length s) (length (headerBytes (g .header))) ≡ g .heartbeat
+  pub field : (k : ℕ) → k < length (g .lengths) → FieldBack types g s k
+  pub padding : length s - endOf g ≡ g .padding
 
 -- the fields of a message that was read, by the walk: n fields, the first of them field k
 abbrev pub andField : Answer Field → (Field → ℕ → List Field) → List Field
@@ -113,15 +111,6 @@ pub record Tellable (types : List ℕ) (g : Given) : Type 0 where
   pub follows : isRawData g ≡ true → 0 < length (fieldsBytes (isDelta (g .header .kind)) (g .indices) (fieldsOf g)) + g .padding
   pub counted : isRawData g ≡ false → length (g .lengths) ≤ 65535
   pub plain : plainly (g .header .encoding) types (eqb (g .padding) 0) (countOf (isRawData g) (length types) (length (g .lengths))) 0 (fieldsOf g) ≡ true
-
--- each number of a header fits its type, as a value of the code does
-pub record FitsHeader (h : Header) : Type 0 where
-  pub sequence : Fits16 (h .sequence)
-  pub timestamp : FitsI64 (h .timestamp)
-  pub picoseconds : Fits16 (h .picoseconds)
-  pub status : Fits16 (h .status)
-  pub major : Fits32 (h .major)
-  pub minor : Fits32 (h .minor)
 
 -- an accepted message s, its parts taken as read: the writer accepts them, and they are s again
 pub record Rewritten (types s : List ℕ) (m : Message) : Type 0 where

@@ -2,15 +2,20 @@
 -- Assumes nothing.
 use Prim.Native.Nat.{ℕ, _≤_, _<_}
 use mathlib.Core.Path.{_≡_, refl, ap, sym, subst, _∙_}
-use mathlib.Core.Bool.{Bool, true, false, cond}
-use mathlib.Core.List.{List}
+use mathlib.Core.Bool.{Bool, true, false, cond, _&&_}
+use mathlib.Core.List.{List, [], _∷_}
 use borrow.Author.Tests.{lt-ltb, le-ltb}
-use lib.Dec.{eqb}
+use lib.Dec.{eqb, ltb}
 use lib.ListN.{length, take}
 use Rattle.store.specs.Store.{laid}
-use Rattle.reassembly.specs.Record.{partial}
+use Rattle.reassembly.specs.Record.{Partial, partial, sound, soundBy}
+use Rattle.reassembly.specs.Marks.{marksFor}
+use Rattle.reassembly.specs.Judge.{judgeCombine}
 use Rattle.reassembly.specs.Reading.{readingAt}
-use Rattle.reassembly.specs.Operations.{Step, stepOf, takeIn, combine, askComplete, judgeHandOut}
+use Rattle.reassembly.specs.Operations.{Step, stepOf, stepBy, takeIn, combine, askComplete, judgeHandOut, handOut}
+use Rattle.reassembly.specs.Calls.{Does, replyOf, saidOf, handedOf, answers}
+use Rattle.reassembly.specs.Calls.Call.{Take, Combine, Ask, HandOut}
+use Rattle.reassembly.proofs.CallLaws.{one-said, handed-verdict, take-told, combine-told}
 use Rattle.reassembly.specs.declared.operations.Outcome.{Outcome}
 use Rattle.reassembly.specs.declared.record.PartialRecord.{PartialRecord}
 use Rattle.reassembly.specs.declared.verdict.Verdict.{Verdict}
@@ -18,8 +23,11 @@ use Rattle.reassembly.specs.declared.verdict.Completeness.{Completeness}
 use Rattle.records.specs.Numbers.{numberAt}
 use Rattle.records.specs.Result.{resultOf}
 use Rattle.records.specs.Writers.{writersIn, sixteen, sizesIn}
-use Rattle.partial_record.specs.Partial.{partialIn, partialBytes}
-use Rattle.uadp_c.specs.Reassembling.{partialOf, Lent, lent, verdictResult, takenOver, recordBy, stepIn, combineIn, completeResult, completeIn, handResult, handIn}
+use Rattle.partial_record.specs.Partial.{partialIn, partialBytes, FitsRecord}
+use Rattle.reassembly.specs.Marks.{inUse}
+use Rattle.uadp_c.proofs.KeptRecord.{KeptStep, step-reads}
+use native.Mathlib.Omega.{arith}
+use Rattle.uadp_c.specs.Reassembling.{Steps, partialOf, Lent, lent, verdictResult, takenOver, recordBy, stepIn, sourceOf, completeResult, completeIn, handResult, handIn}
 
 -- a record shorter than its layout
 pub step-short : (r p m : List ℕ) (x : ℕ) (s : Step) → length r < 112 → x ≡ resultOf 12 0 → lent x r p m ≡ stepIn r p m s
@@ -49,37 +57,60 @@ step-ends r p m r₂ p₂ m₂ x o v s h q t a b =
     subst (λ (k : Verdict). lent x r₂ p₂ m₂ ≡ lent (verdictResult k) (recordBy k r (o .rec)) p₂ m₂) (sym t) y in
     subst (λ (k : Step). lent x r₂ p₂ m₂ ≡ stepIn r p m k) q (rw (le-ltb (length r) 112 h) z)
 
-pub taken : (c d r p m z l : List ℕ) (n : ℕ) (k : PartialRecord) (s : Step) → n ≡ writersIn c → l ≡ sixteen 34 c → z ≡ take n l → k ≡ partialIn r
-    → s ≡ takeIn (partial k p m) (readingAt z d) → s ≡ takeIn (partialOf r p m) (readingAt (sizesIn c) d)
-taken c d r p m z l n k s a b e f q =
-    q ∙ ap (λ (x : PartialRecord). takeIn (partial x p m) (readingAt z d)) f
+pub taken : (c d r p m z l p₂ m₂ : List ℕ) (n : ℕ) (k : PartialRecord) (o : Outcome) → n ≡ writersIn c → l ≡ sixteen 34 c → z ≡ take n l → k ≡ partialIn r
+    → Does (Take d z) (partial k p m) (replyOf (o .verdict)) (partial (o .rec) p₂ m₂) → stepOf o p₂ m₂ ≡ takeIn (partialOf r p m) (readingAt (sizesIn c) d)
+taken c d r p m z l p₂ m₂ n k o a b e f q =
+    take-told (partial k p m) o p₂ m₂ d z q ∙ ap (λ (x : PartialRecord). takeIn (partial x p m) (readingAt z d)) f
     ∙ ap (λ (x : List ℕ). takeIn (partialOf r p m) (readingAt x d)) (e ∙ ap (λ (x : ℕ). take x l) a ∙ ap (λ (x : List ℕ). take (writersIn c) x) b)
 
-pub combine-short : (g r p m : List ℕ) (x : ℕ) (s : Step) → length g < 112 → x ≡ resultOf 12 0 → lent x r p m ≡ combineIn g r p m s
-combine-short g r p m x s h q = rw (lt-ltb (length g) 112 h) (ap (λ (y : ℕ). lent y r p m) q)
+pub combined : (r p m g u w p₂ m₂ : List ℕ) (k j : PartialRecord) (o : Outcome) → 112 ≤ length g → k ≡ partialIn r → j ≡ partialIn g
+    → Does (Combine (partial j u w)) (partial k p m) (replyOf (o .verdict)) (partial (o .rec) p₂ m₂) → stepOf o p₂ m₂ ≡ combine (partialOf r p m) (sourceOf g u w)
+combined r p m g u w p₂ m₂ k j o h a b q =
+    rw (le-ltb (length g) 112 h)
+    (combine-told (partial k p m) (partial j u w) o p₂ m₂ q
+    ∙ ap (λ (x : PartialRecord). combine (partial x p m) (partial j u w)) a ∙ ap (λ (x : PartialRecord). combine (partialOf r p m) (partial x u w)) b)
 
-pub combine-long : (g r p m : List ℕ) (y : Lent) (s : Step) → 112 ≤ length g → y ≡ stepIn r p m s → y ≡ combineIn g r p m s
-combine-long g r p m y s h q = rw (le-ltb (length g) 112 h) q
+-- a source whose record is shorter than its layout is refused by 12
+unsound-source : (s : Partial) (k : PartialRecord) → combine s (partial k [] (0 ∷ [])) ≡ record { verdict = Verdict.Refused 12 0; after = s }
+unfolding combine judgeCombine soundBy marksFor
+unsound-source s k = go (sound s) _ _
+  where
+    go : (b : Bool) (v : Verdict) (t : Partial) → stepBy (cond (b && false) v (Verdict.Refused 12 0)) s t ≡ record { verdict = Verdict.Refused 12 0; after = s }
+    go true v t = refl
+    go false v t = refl
 
-pub combined : (r p m g u w : List ℕ) (k j : PartialRecord) (s : Step) → k ≡ partialIn r → j ≡ partialIn g → s ≡ combine (partial k p m) (partial j u w)
-    → s ≡ combine (partialOf r p m) (partialOf g u w)
-combined r p m g u w k j s a b q =
-    q ∙ ap (λ (x : PartialRecord). combine (partial x p m) (partial j u w)) a ∙ ap (λ (x : PartialRecord). combine (partialOf r p m) (partial x u w)) b
+pub combine-short : (g u w r p m : List ℕ) (x : ℕ) → length g < 112 → x ≡ resultOf 12 0 → Steps r p m (combine (partialOf r p m) (sourceOf g u w)) (lent x r p m)
+combine-short g u w r p m x h q = rw (lt-ltb (length g) 112 h, unsound-source (partialOf r p m) (partialIn g)) (record { bytes = go (ltb (length r) 112); reads = λ l. refl })
+  where
+    go : (b : Bool) → lent x r p m ≡ cond b (lent (resultOf 12 0) r p m) (lent (resultOf 12 0) r p m)
+    go true = ap (λ (y : ℕ). lent y r p m) q
+    go false = ap (λ (y : ℕ). lent y r p m) q
 
 pub complete-short : (r : List ℕ) (x : ℕ) (a : Completeness) → length r < 112 → x ≡ resultOf 12 0 → x ≡ completeIn r a
 complete-short r x a h q = rw (lt-ltb (length r) 112 h) q
 
-pub complete-ends : (r p m : List ℕ) (x : ℕ) (k : PartialRecord) (a b : Completeness) → 112 ≤ length r → k ≡ partialIn r → a ≡ askComplete (partial k p m) → a ≡ b
+pub complete-ends : (r p m : List ℕ) (x : ℕ) (k : PartialRecord) (a b : Completeness) → 112 ≤ length r → k ≡ partialIn r → saidOf a ≡ answers Ask (partial k p m) → a ≡ b
     → x ≡ completeResult b → x ≡ completeIn r (askComplete (partialOf r p m))
 complete-ends r p m x k a b h e q t y =
-    let z : b ≡ askComplete (partialOf r p m) = sym t ∙ q ∙ ap (λ (i : PartialRecord). askComplete (partial i p m)) e in
+    let z : b ≡ askComplete (partialOf r p m) = sym t ∙ one-said a (askComplete (partial k p m)) q ∙ ap (λ (i : PartialRecord). askComplete (partial i p m)) e in
     rw (le-ltb (length r) 112 h) (y ∙ ap completeResult z)
 
 pub hand-short : (r : List ℕ) (x : ℕ) (v : Verdict) → length r < 112 → x ≡ resultOf 12 0 → x ≡ handIn r v
 hand-short r x v h q = rw (lt-ltb (length r) 112 h) q
 
-pub hand-ends : (r p m : List ℕ) (x : ℕ) (k : PartialRecord) (a b : Verdict) → 112 ≤ length r → k ≡ partialIn r → a ≡ judgeHandOut (partial k p m) → a ≡ b
+pub hand-ends : (r p m : List ℕ) (x : ℕ) (k : PartialRecord) (a b : Verdict) → 112 ≤ length r → k ≡ partialIn r → handedOf a (handOut (partial k p m)) ≡ answers HandOut (partial k p m) → a ≡ b
     → x ≡ handResult k b → x ≡ handIn r (judgeHandOut (partialOf r p m))
 hand-ends r p m x k a b h e q t y =
-    let z : b ≡ judgeHandOut (partialOf r p m) = sym t ∙ q ∙ ap (λ (i : PartialRecord). judgeHandOut (partial i p m)) e in
+    let z : b ≡ judgeHandOut (partialOf r p m) = sym t ∙ handed-verdict (partial k p m) a q ∙ ap (λ (i : PartialRecord). judgeHandOut (partial i p m)) e in
     rw (le-ltb (length r) 112 h) (y ∙ ap (λ (i : PartialRecord). handResult i b) e ∙ ap (λ (v : Verdict). handResult (partialIn r) v) z)
+
+-- ---- the calls that take a step, in full: the bytes, and what they are read as
+
+-- no record of its layout's length
+pub steps-short : (r p m : List ℕ) (x : ℕ) (s : Step) → length r < 112 → KeptStep (partialIn r) inUse s → x ≡ resultOf 12 0 → Steps r p m s (lent x r p m)
+steps-short r p m x s h k q = step-reads r p m s _ k (λ l. absurd (omega arith)) (step-short r p m x s h q)
+
+pub steps-end : (r p m r₂ p₂ m₂ : List ℕ) (x : ℕ) (o : Outcome) (v : Verdict) (s : Step) → KeptStep (partialIn r) inUse s → FitsRecord (o .rec) → 112 ≤ length r
+    → stepOf o p₂ m₂ ≡ s → o .verdict ≡ v → x ≡ verdictResult v → r₂ ≡ recordBy v r (o .rec) → Steps r p m s (lent x r₂ p₂ m₂)
+steps-end r p m r₂ p₂ m₂ x o v s k f h q t a b =
+    step-reads r p m s _ k (λ l. subst (λ (y : Step). FitsRecord (y .after .rec)) q f) (step-ends r p m r₂ p₂ m₂ x o v s h q t a b)

@@ -5,3 +5,5 @@ pub mod Walking
 pub mod Held
 pub mod Wrote
 pub mod Emptied
+pub mod KeptRecord
+pub mod Demand3

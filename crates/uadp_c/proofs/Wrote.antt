@@ -9,9 +9,8 @@ use Rattle.wire.specs.Answer.{Answer}
 use Rattle.writing.specs.Writing.{answerWritten}
 use Rattle.writing.specs.declared.Written.{Written}
 use Rattle.network_message.specs.Envelope.{networkMessageAt}
-use Rattle.network_message_writer.specs.Envelope.{rewriteAnswer, rewriteBuffer}
 use Rattle.dataset_message.specs.Message.{messageAt}
-use Rattle.dataset_message_writer.specs.Rewrite.{againWritten, againBuffer, Rewrites}
+use Rattle.rewriting.specs.Same.{sameWritten, sameBuffer, WritesSame, rewrittenAnswer, rewrittenBuffer, WritesDatagram}
 use Rattle.dataset_header.specs.declared.header.Header.{Header}
 use Rattle.network_message.specs.declared.envelope.Envelope.{Envelope}
 use Rattle.network_message_writer.specs.Envelope as datagram
@@ -32,22 +31,22 @@ pub of-writers : (at : ℕ) (c l configured : List ℕ) (n : ℕ) → n ≡ writ
 of-writers at c l configured n a b d = d ∙ ap (λ (x : ℕ). take x l) a ∙ ap (λ (x : List ℕ). take (writersIn c) x) b
 
 pub rewritten : (c s configured out e : List ℕ) (w : Written) (r : ℕ) → configured ≡ sizesIn c
-    → (answerWritten w ≡ rewriteAnswer s (networkMessageAt configured s) (length out)) × (e ≡ rewriteBuffer s (networkMessageAt configured s) out)
+    → WritesDatagram configured s out e w
     → r ≡ writerResult (answerWritten w)
-    → (r ≡ writerResult (rewriteAnswer s (networkMessageAt (sizesIn c) s) (length out)))
-    × (e ≡ rewriteBuffer s (networkMessageAt (sizesIn c) s) out)
+    → (r ≡ writerResult (rewrittenAnswer (length out) s (networkMessageAt (sizesIn c) s)))
+    × (e ≡ rewrittenBuffer out s (networkMessageAt (sizesIn c) s))
 rewritten c s configured out e w r z a h =
     subst
-    (λ (y : List ℕ). (r ≡ writerResult (rewriteAnswer s (networkMessageAt y s) (length out))) × (e ≡ rewriteBuffer s (networkMessageAt y s) out))
-    z (h ∙ ap (λ (x : Answer (Unit {0})). writerResult x) (a .0), a .1)
+    (λ (y : List ℕ). (r ≡ writerResult (rewrittenAnswer (length out) s (networkMessageAt y s))) × (e ≡ rewrittenBuffer out s (networkMessageAt y s)))
+    z (h ∙ ap (λ (x : Answer (Unit {0})). writerResult x) (a .answer), a .buffer)
 
-pub message-rewritten : (c s types out e : List ℕ) (writer : ℕ) (w : Written) (r : ℕ) → types ≡ typesFor c writer → Rewrites types s out e w
+pub message-rewritten : (c s types out e : List ℕ) (writer : ℕ) (w : Written) (r : ℕ) → types ≡ typesFor c writer → WritesSame types s out e w
     → r ≡ writerResult (answerWritten w)
-    → (r ≡ writerResult (answerWritten (againWritten (length out) s (messageAt (typesFor c writer) s))))
-    × (e ≡ againBuffer out s (messageAt (typesFor c writer) s))
+    → (r ≡ writerResult (answerWritten (sameWritten (length out) s (messageAt (typesFor c writer) s))))
+    × (e ≡ sameBuffer out s (messageAt (typesFor c writer) s))
 message-rewritten c s types out e writer w r z a h =
     subst
-    (λ (y : List ℕ). (r ≡ writerResult (answerWritten (againWritten (length out) s (messageAt y s)))) × (e ≡ againBuffer out s (messageAt y s)))
+    (λ (y : List ℕ). (r ≡ writerResult (answerWritten (sameWritten (length out) s (messageAt y s)))) × (e ≡ sameBuffer out s (messageAt y s)))
     z (h ∙ ap (λ (x : Written). writerResult (answerWritten x)) (a .answer), a .buffer)
 
 abbrev MessageEnds : List ℕ → message.Given → List ℕ → ℕ → List ℕ → Type 0

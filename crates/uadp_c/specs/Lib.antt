@@ -6,3 +6,4 @@ pub mod Reassembling
 pub mod Writing
 pub mod Listings
 pub mod Walks
+pub mod History

@@ -1,7 +1,8 @@
 -- Reassembly on lent records and areas (include/uadp.h, "chunks and reassembly").
-use Prim.Native.Nat.{ℕ}
+use Prim.Native.Nat.{ℕ, _≤_}
+use mathlib.Core.Path.{_≡_}
 use mathlib.Core.Bool.{cond}
-use mathlib.Core.List.{List}
+use mathlib.Core.List.{List, [], _∷_}
 use lib.Dec.{ltb}
 use lib.ListN.{length}
 use Rattle.wire.specs.Number.{leBytes}
@@ -47,9 +48,14 @@ stepIn r p m s =
     cond (ltb (length r) 112) (lent (resultOf 12 0) r p m)
     (lent (verdictResult (s .verdict)) (recordBy (s .verdict) r (s .after .rec)) (s .after .payload) (s .after .marks))
 
--- combining: "12 for either"
-abbrev pub combineIn : List ℕ → List ℕ → List ℕ → List ℕ → Step → Lent
-combineIn source r p m s = cond (ltb (length source) 112) (lent (resultOf 12 0) r p m) (stepIn r p m s)
+-- a call that takes this step: its answer and the lent bytes afterwards; and these bytes are read as the partial that the step leaves
+pub record Steps (r p m : List ℕ) (s : Step) (a : Lent) : Type 0 where
+  pub bytes : a ≡ stepIn r p m s
+  pub reads : 112 ≤ length r → partialOf (a .rec) (a .payload) (a .marks) ≡ s .after
+
+-- the other partial in combining: "a record shorter than its layout is unsound, 12"
+abbrev pub sourceOf : List ℕ → List ℕ → List ℕ → Partial
+sourceOf r p m = cond (ltb (length r) 112) (partial (partialIn r) [] (0 ∷ [])) (partialOf r p m)
 
 -- emptying: "the record's number 0 becomes 0, and no other byte changes; a record shorter than 8 bytes stays as it is"
 abbrev pub emptiedRecord : List ℕ → List ℕ

@@ -15,11 +15,11 @@ use records::writers::sizes;
 use records::writers::writer_count;
 use store::put64;
 ghost use mathlib.Core.Path.{_≡_};
-ghost use Rattle.reassembly.specs.Reading.{readingAt};
-ghost use Rattle.reassembly.specs.Operations.{takeIn, combine, askComplete, judgeHandOut};
+ghost use Rattle.reassembly.specs.Operations.{askComplete, judgeHandOut};
 ghost use Rattle.records.specs.Result.{resultOf};
-ghost use Rattle.records.specs.Writers.{sizesIn};
-ghost use Rattle.uadp_c.specs.Reassembling.{partialOf, lent, takenOver, stepIn, combineIn, emptiedRecord, completeIn, handIn};
+ghost use Rattle.uadp_c.specs.Reassembling.{partialOf, lent, takenOver, emptiedRecord, completeIn, handIn};
+ghost use Rattle.uadp_c.specs.History.{Called};
+ghost use Rattle.uadp_c.specs.History.LentCall.{Take, Combine};
 
 // Empties a partial.
 #[no_mangle]
@@ -52,7 +52,10 @@ pub extern "C" fn uadp_take_in(
     datagram: &[u8],
     config: &[u8],
 ) -> u64
-    ensures { λ r. ⌜ lent r (now (rec .exit)) (now (payload .exit)) (now (marks .exit)) ≡ stepIn (now (rec .entry)) (now (payload .entry)) (now (marks .entry)) (takeIn (partialOf (now (rec .entry)) (now (payload .entry)) (now (marks .entry))) (readingAt (sizesIn (now (config .entry))) (now (datagram .entry)))) ⌝ }
+    ensures { λ r.
+        let before = lent 0 (now (rec .entry)) (now (payload .entry)) (now (marks .entry)) in
+        let after = lent r (now (rec .exit)) (now (payload .exit)) (now (marks .exit)) in
+        ⌜ Called (Take (now (datagram .entry)) (now (config .entry))) before after ⌝ }
 {
     if rec.len() < 112 {
         return result(12, 0);
@@ -81,7 +84,10 @@ pub extern "C" fn uadp_combine(
     source_payload: &[u8],
     source_marks: &[u8],
 ) -> u64
-    ensures { λ r. ⌜ lent r (now (rec .exit)) (now (payload .exit)) (now (marks .exit)) ≡ combineIn (now (source .entry)) (now (rec .entry)) (now (payload .entry)) (now (marks .entry)) (combine (partialOf (now (rec .entry)) (now (payload .entry)) (now (marks .entry))) (partialOf (now (source .entry)) (now («source_payload» .entry)) (now («source_marks» .entry)))) ⌝ }
+    ensures { λ r.
+        let before = lent 0 (now (rec .entry)) (now (payload .entry)) (now (marks .entry)) in
+        let after = lent r (now (rec .exit)) (now (payload .exit)) (now (marks .exit)) in
+        ⌜ Called (Combine (now (source .entry)) (now («source_payload» .entry)) (now («source_marks» .entry))) before after ⌝ }
 {
     if source.len() < 112 {
         return result(12, 0);

@@ -9,9 +9,8 @@ ghost use mathlib.Core.Path.{_≡_};
 ghost use lib.ListN.{length};
 ghost use Rattle.writing.specs.Writing.{answerWritten};
 ghost use Rattle.network_message.specs.Envelope.{networkMessageAt};
-ghost use Rattle.network_message_writer.specs.Envelope.{rewriteAnswer, rewriteBuffer};
 ghost use Rattle.dataset_message.specs.Message.{messageAt};
-ghost use Rattle.dataset_message_writer.specs.Rewrite.{againWritten, againBuffer};
+ghost use Rattle.rewriting.specs.Same.{sameWritten, sameBuffer, rewrittenAnswer, rewrittenBuffer};
 ghost use Rattle.records.specs.Writers.{sizesIn, typesFor};
 ghost use Rattle.uadp_c.specs.Writing.{writerResult};
 
@@ -28,7 +27,9 @@ pub(crate) fn written_result(w: Written) -> u64
 // Writes an accepted datagram again.
 #[no_mangle]
 pub extern "C" fn uadp_rewrite(datagram: &[u8], config: &[u8], out: &mut [u8]) -> u64
-    ensures { λ r. ⌜ (r ≡ writerResult (rewriteAnswer (now (datagram .entry)) (networkMessageAt (sizesIn (now (config .entry))) (now (datagram .entry))) (length (now (out .entry))))) × (now (out .exit) ≡ rewriteBuffer (now (datagram .entry)) (networkMessageAt (sizesIn (now (config .entry))) (now (datagram .entry))) (now (out .entry))) ⌝ }
+    ensures { λ r.
+        let read = networkMessageAt (sizesIn (now (config .entry))) (now (datagram .entry)) in
+        ⌜ (r ≡ writerResult (rewrittenAnswer (length (now (out .entry))) (now (datagram .entry)) read)) × (now (out .exit) ≡ rewrittenBuffer (now (out .entry)) (now (datagram .entry)) read) ⌝ }
 {
     let n = writer_count(config);
     let list = sizes(config);
@@ -45,7 +46,7 @@ pub extern "C" fn uadp_rewrite_message(
     writer: u32,
     out: &mut [u8],
 ) -> u64
-    ensures { λ r. ⌜ (r ≡ writerResult (answerWritten (againWritten (length (now (out .entry))) (now (message .entry)) (messageAt (typesFor (now (config .entry)) writer) (now (message .entry)))))) × (now (out .exit) ≡ againBuffer (now (out .entry)) (now (message .entry)) (messageAt (typesFor (now (config .entry)) writer) (now (message .entry)))) ⌝ }
+    ensures { λ r. ⌜ (r ≡ writerResult (answerWritten (sameWritten (length (now (out .entry))) (now (message .entry)) (messageAt (typesFor (now (config .entry)) writer) (now (message .entry)))))) × (now (out .exit) ≡ sameBuffer (now (out .entry)) (now (message .entry)) (messageAt (typesFor (now (config .entry)) writer) (now (message .entry)))) ⌝ }
 {
     let types = types_for(config, writer);
     let written = rewriting::rewrite_message(out, message, types);

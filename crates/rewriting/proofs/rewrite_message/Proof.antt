@@ -1,9 +1,8 @@
 -- `rewriting::rewrite_message` meets its contract.
 -- Assumes nothing.
-use Rattle.rewriting.proofs.Copied.{bytes, message-copied}
+use Rattle.rewriting.proofs.Copied.{message-copied, message-refused, message-invalid}
 use Rattle.wire.proofs.Reading.{told}
 use Rattle.dataset_message.specs.Message.{answerMessage}
-use Rattle.dataset_message_writer.proofs.Whole.{rewrite-refused, rewrite-invalid}
 use denote.Ref.{now}
 use mathlib.Core.Path.{sym}
 use borrow.Author.Needs.{needs}
@@ -12,15 +11,15 @@ use Rattle.rewriting.proofs.rewrite_message.Tie as tie
 
 returns : tie.Need-returns
 returns c =
-    rewrite-invalid (now (c .before .before .before .before .before .before .args .types)) (now (c .before .before .before .before .before .before .args .message)) (now (c .before .before .before .before .before .before .args .out)) _ (sym (told answerMessage (c .before .before .read .ensures) (c .enum-told .given .1)))
+    message-invalid (now (c .before .before .before .before .before .before .args .types)) (now (c .before .before .before .before .before .before .args .message)) (now (c .before .before .before .before .before .before .args .out)) _ (sym (told answerMessage (c .before .before .read .ensures) (c .enum-told .given .1)))
 
 returns-2 : tie.Need-returns-2
 returns-2 c =
-    rewrite-refused (now (c .before .before .before .before .before .before .before .args .types)) (now (c .before .before .before .before .before .before .before .args .message)) (now (c .before .before .before .before .before .before .before .args .out)) _ _ (sym (told answerMessage (c .before .before .before .read .ensures) (c .before .n .given .1)))
+    message-refused (now (c .before .before .before .before .before .before .before .args .types)) (now (c .before .before .before .before .before .before .before .args .message)) (now (c .before .before .before .before .before .before .before .args .out)) _ _ (sym (told answerMessage (c .before .before .before .read .ensures) (c .before .n .given .1)))
 
 returns-3 : tie.Need-returns-3
 returns-3 c =
-    message-copied (now (c .before .before .before .before .before .before .before .before .before .before .args .types)) (now (c .before .before .before .before .before .before .before .before .before .before .args .message)) (now (c .before .before .before .before .before .before .before .before .before .before .args .out)) _ _ _ _ (bytes (now (c .before .before .before .before .before .before .before .before .before .before .args .message)) (c .before .before .before .before .before .before .before .before .shared-slice-known .given)) (sym (told answerMessage (c .before .before .before .before .before .before .read .ensures) (c .before .before .before .before .enum-told2 .given .1))) (c .before .before .copy-whole .ensures)
+    message-copied (now (c .before .before .before .before .before .before .before .before .before .before .args .types)) (now (c .before .before .before .before .before .before .before .before .before .before .args .message)) (now (c .before .before .before .before .before .before .before .before .before .before .args .out)) _ _ _ _ (sym (told answerMessage (c .before .before .before .before .before .before .read .ensures) (c .before .before .before .before .enum-told2 .given .1))) (c .before .before .copy-whole .ensures)
 
 pub rewrite-message-spec : {M : Type 1} → statement M
 rewrite-message-spec =

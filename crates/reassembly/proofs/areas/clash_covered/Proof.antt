@@ -8,6 +8,7 @@ use lib.ListN.{getD}
 use borrow.Author.Needs.{needs}
 use Rattle.reassembly.specs.Views.{anyBelow, onlyIf, differs, clash}
 use Rattle.reassembly.specs.Areas.{markedView}
+use Rattle.reassembly.specs.Marks.{inUse}
 use Rattle.reassembly.proofs.ViewLaws.{any-step}
 use Rattle.reassembly.proofs.MarkLaws.{marks-room}
 use Rattle.reassembly.proofs.AreaLaws.{clash-step-marked}
@@ -16,7 +17,7 @@ use Rattle.reassembly.proofs.areas.clash_covered.Tie as tie
 
 abbrev Inv-loop : tie.InvT-loop
 Inv-loop payload marks total from from-marks found₀ i₀ found i =
-    (i ≤ total) × (found ≡ anyBelow i (λ k. differs (markedView total payload marks k) (markedView total from from-marks k)))
+    (i ≤ total) × (found ≡ anyBelow i (λ k. differs (markedView inUse total payload marks k) (markedView inUse total from from-marks k)))
 
 abbrev μ-loop : tie.MeasureT-loop
 μ-loop payload marks total from from-marks found₀ i₀ found i = total - i
@@ -26,11 +27,11 @@ loop-holds c = (omega arith, refl)
 
 is-marked-requires : tie.Need-is-marked-requires Inv-loop μ-loop
 is-marked-requires c κs =
-    let a = c .before .before .before .before .before .before .args in marks-room (a .total) (c .before .loop .i) (now (a .marks)) (omega arith) (omega arith)
+    let a = c .before .before .before .before .before .before .args in marks-room inUse (a .total) (c .before .loop .i) (now (a .marks)) (omega arith) (omega arith)
 
 is-marked-requires-2 : tie.Need-is-marked-requires-2 Inv-loop μ-loop
 is-marked-requires-2 c κs =
-    let a = c .before .before .before .before .before .before .before .before .args in marks-room (a .total) (c .before .before .before .loop .i) (now (a .from-marks)) (omega arith) (omega arith)
+    let a = c .before .before .before .before .before .before .before .before .args in marks-room inUse (a .total) (c .before .before .before .loop .i) (now (a .from-marks)) (omega arith) (omega arith)
 
 loop-again : tie.Need-loop-again Inv-loop μ-loop
 loop-again c =
@@ -42,8 +43,8 @@ loop-again c =
     let n = now (a .from-marks) in
     let test = c .differ .ensures
     ∙ ap₂ (λ (b c : Bool). differs (onlyIf b (getD p (l .i) 0)) (onlyIf c (getD q (l .i) 0))) (c .before .before .before .before .is-marked .ensures) (c .before .before .is-marked2 .ensures)
-    ∙ sym (clash-step-marked (a .total) p m q n (l .i) (omega arith)) in
-    (omega arith, ap₂ _||_ test (l .inv .1) ∙ sym (any-step (l .i) (λ k. differs (markedView (a .total) p m k) (markedView (a .total) q n k))))
+    ∙ sym (clash-step-marked inUse (a .total) p m q n (l .i) (omega arith)) in
+    (omega arith, ap₂ _||_ test (l .inv .1) ∙ sym (any-step (l .i) (λ k. differs (markedView inUse (a .total) p m k) (markedView inUse (a .total) q n k))))
 
 returns : tie.Need-returns Inv-loop μ-loop
 unfolding clash
@@ -51,7 +52,7 @@ returns c =
     let a = c .before .before .before .before .before .before .args in
     let l = c .before .loop in
     let e : l .i ≡ a .total = omega arith in
-    l .inv .1 ∙ ap (λ (n : ℕ). anyBelow n (λ k. differs (markedView (a .total) (now (a .payload)) (now (a .marks)) k) (markedView (a .total) (now (a .from)) (now (a .from-marks)) k))) e
+    l .inv .1 ∙ ap (λ (n : ℕ). anyBelow n (λ k. differs (markedView inUse (a .total) (now (a .payload)) (now (a .marks)) k) (markedView inUse (a .total) (now (a .from)) (now (a .from-marks)) k))) e
 
 pub clash-covered-spec : {M : Type 1} → statement M
 clash-covered-spec =

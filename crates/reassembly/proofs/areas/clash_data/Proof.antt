@@ -9,6 +9,7 @@ use lib.ListN.{length, getD}
 use borrow.Author.Needs.{needs}
 use Rattle.reassembly.specs.Views.{anyBelow, onlyIf, differs}
 use Rattle.reassembly.specs.Areas.{markedView}
+use Rattle.reassembly.specs.Marks.{inUse}
 use Rattle.reassembly.proofs.ViewLaws.{any-step, clash-data, differsAt}
 use Rattle.reassembly.proofs.MarkLaws.{marks-room}
 use Rattle.reassembly.proofs.AreaLaws.{clash-step-data}
@@ -17,7 +18,7 @@ use Rattle.reassembly.proofs.areas.clash_data.Tie as tie
 
 abbrev Inv-loop : tie.InvT-loop
 Inv-loop payload marks offset bytes found₀ j₀ found j =
-    (j ≤ length bytes) × (found ≡ anyBelow j (differsAt (markedView (offset + length bytes) payload marks) offset bytes))
+    (j ≤ length bytes) × (found ≡ anyBelow j (differsAt (markedView inUse (offset + length bytes) payload marks) offset bytes))
 
 abbrev μ-loop : tie.MeasureT-loop
 μ-loop payload marks offset bytes found₀ j₀ found j = length bytes - j
@@ -28,7 +29,7 @@ loop-holds c = (omega arith, refl)
 is-marked-requires : tie.Need-is-marked-requires Inv-loop μ-loop
 is-marked-requires c κs =
     let a = c .before .before .before .before .before .args in
-    marks-room (a .offset + length (now (a .bytes))) (a .offset + c .before .loop .j) (now (a .marks)) (omega arith) (omega arith)
+    marks-room inUse (a .offset + length (now (a .bytes))) (a .offset + c .before .loop .j) (now (a .marks)) (omega arith) (omega arith)
 
 loop-again : tie.Need-loop-again Inv-loop μ-loop
 loop-again c =
@@ -40,8 +41,8 @@ loop-again c =
     let m = now (a .marks) in
     let test = c .differ .ensures
     ∙ ap (λ (b : Bool). differs (onlyIf b (getD p (at + l .j) 0)) (some (getD d (l .j) 0))) (c .before .before .before .is-marked .ensures)
-    ∙ sym (clash-step-data (at + length d) p m at d (l .j) (omega arith) (omega arith)) in
-    (omega arith, ap₂ _||_ test (l .inv .1) ∙ sym (any-step (l .j) (differsAt (markedView (at + length d) p m) at d)))
+    ∙ sym (clash-step-data inUse (at + length d) p m at d (l .j) (omega arith) (omega arith)) in
+    (omega arith, ap₂ _||_ test (l .inv .1) ∙ sym (any-step (l .j) (differsAt (markedView inUse (at + length d) p m) at d)))
 
 returns : tie.Need-returns Inv-loop μ-loop
 returns c =
@@ -49,7 +50,7 @@ returns c =
     let l = c .before .loop in
     let at = a .offset in
     let d = now (a .bytes) in
-    let v = markedView (at + length d) (now (a .payload)) (now (a .marks)) in
+    let v = markedView inUse (at + length d) (now (a .payload)) (now (a .marks)) in
     let e : l .j ≡ length d = omega arith in
     l .inv .1 ∙ ap (λ (n : ℕ). anyBelow n (differsAt v at d)) e ∙ sym (clash-data (at + length d) v at d (omega arith))
 

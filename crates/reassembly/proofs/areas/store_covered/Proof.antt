@@ -10,6 +10,7 @@ use lib.ListN.{length, getD, length-set}
 use borrow.Author.Needs.{needs}
 use Rattle.reassembly.specs.Views.{laid}
 use Rattle.reassembly.specs.Areas.{markedView}
+use Rattle.reassembly.specs.Marks.{inUse}
 use Rattle.reassembly.proofs.ViewLaws.{upTo, laid-start, laid-step, laid-end, laid-at}
 use Rattle.reassembly.proofs.MarkLaws.{marks-room}
 use Rattle.reassembly.proofs.AreaLaws.{marked-above, chosen}
@@ -18,28 +19,28 @@ use Rattle.reassembly.proofs.areas.store_covered.Tie as tie
 
 abbrev Inv-loop : tie.InvT-loop
 Inv-loop payload₀ total from from-marks i₀ payload i =
-    (i ≤ total) × (length payload ≡ length payload₀) × (payload ≡ laid (upTo i (markedView total from from-marks)) payload₀)
+    (i ≤ total) × (length payload ≡ length payload₀) × (payload ≡ laid (upTo i (markedView inUse total from from-marks)) payload₀)
 
 abbrev μ-loop : tie.MeasureT-loop
 μ-loop payload₀ total from from-marks i₀ payload i = total - i
 
 loop-holds : tie.Need-loop-holds Inv-loop μ-loop
 loop-holds c =
-    let a = c .before .before .before .args in (omega arith, refl, laid-start (markedView (a .total) (now (a .from)) (now (a .from-marks))) (now (a .payload)) 0 (λ i h. absurd (omega arith)))
+    let a = c .before .before .before .args in (omega arith, refl, laid-start (markedView inUse (a .total) (now (a .from)) (now (a .from-marks))) (now (a .payload)) 0 (λ i h. absurd (omega arith)))
 
 is-marked-requires : tie.Need-is-marked-requires Inv-loop μ-loop
 is-marked-requires c κs =
-    let a = c .before .before .before .before .before .args in marks-room (a .total) (c .before .loop .i) (now (a .from-marks)) (omega arith) (omega arith)
+    let a = c .before .before .before .before .before .args in marks-room inUse (a .total) (c .before .loop .i) (now (a .from-marks)) (omega arith) (omega arith)
 
 loop-again : tie.Need-loop-again Inv-loop μ-loop
 loop-again c =
     let a = c .before .before .before .before .before .before .before .before .before .args in
     let l = c .before .before .before .before .before .loop in
     let p = now (a .payload) in
-    let v = markedView (a .total) (now (a .from)) (now (a .from-marks)) in
+    let v = markedView inUse (a .total) (now (a .from)) (now (a .from-marks)) in
     let byte = c .choose .ensures
     ∙ ap (λ (b : Bool). cond b (getD (now (a .from)) (l .i) 0) (getD (l .payload) (l .i) 0)) (c .before .before .before .is-marked .ensures)
-    ∙ chosen (a .total) (now (a .from)) (now (a .from-marks)) (l .i) (getD (l .payload) (l .i) 0) (omega arith)
+    ∙ chosen inUse (a .total) (now (a .from)) (now (a .from-marks)) (l .i) (getD (l .payload) (l .i) 0) (omega arith)
     ∙ ap (λ (q : List ℕ). Option·getD (v (l .i)) (getD q (l .i) 0)) (l .inv .2)
     ∙ ap (Option·getD (v (l .i))) (laid-at v p (l .i) (omega arith)) in (
       omega arith,
@@ -54,7 +55,7 @@ returns : tie.Need-returns Inv-loop μ-loop
 returns c =
     let a = c .before .before .before .before .before .args in
     let l = c .before .loop in
-    l .inv .2 ∙ laid-end (markedView (a .total) (now (a .from)) (now (a .from-marks))) (now (a .payload)) (l .i) (λ i h. marked-above (a .total) (now (a .from)) (now (a .from-marks)) i (omega arith))
+    l .inv .2 ∙ laid-end (markedView inUse (a .total) (now (a .from)) (now (a .from-marks))) (now (a .payload)) (l .i) (λ i h. marked-above inUse (a .total) (now (a .from)) (now (a .from-marks)) i (omega arith))
 
 pub store-covered-spec : {M : Type 1} → statement M
 store-covered-spec =

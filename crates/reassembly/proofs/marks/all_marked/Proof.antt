@@ -7,13 +7,13 @@ use denote.Ref.{now}
 use borrow.Author.Needs.{needs}
 use borrow.Author.Tests.{not-true, not-false}
 use borrow.Author.Count.{below-more}
-use Rattle.reassembly.specs.Marks.{marked}
+use Rattle.reassembly.specs.Marks.{inUse, marked}
 use Rattle.reassembly.proofs.MarkLaws.{marks-room, all-marked-yes, all-marked-no}
 use Rattle.reassembly.proofs.marks.all_marked.Statement.{statement}
 use Rattle.reassembly.proofs.marks.all_marked.Tie as tie
 
 abbrev Inv-loop : tie.InvT-loop
-Inv-loop marks n i₀ i = (i ≤ n) × ((k : ℕ) → k < i → marked marks k ≡ true)
+Inv-loop marks n i₀ i = (i ≤ n) × ((k : ℕ) → k < i → marked inUse marks k ≡ true)
 
 abbrev μ-loop : tie.MeasureT-loop
 μ-loop marks n i₀ i = n - i
@@ -23,12 +23,12 @@ loop-holds c = (omega arith, λ k h. absurd (omega arith))
 
 is-marked-requires : tie.Need-is-marked-requires Inv-loop μ-loop
 is-marked-requires c κs =
-    let a = c .before .before .before .args in marks-room (a .n) (c .before .loop .i) (now (a .marks)) (omega arith) (omega arith)
+    let a = c .before .before .before .args in marks-room inUse (a .n) (c .before .loop .i) (now (a .marks)) (omega arith) (omega arith)
 
 returns : tie.Need-returns Inv-loop μ-loop
 returns c =
     let a = c .before .before .before .before .before .args in
-    sym (all-marked-no (a .n) (now (a .marks)) (c .before .before .before .loop .i) (omega arith) (sym (c .before .is-marked .ensures) ∙ not-true _ (c .if1 .taken)))
+    sym (all-marked-no inUse (a .n) (now (a .marks)) (c .before .before .before .loop .i) (omega arith) (sym (c .before .is-marked .ensures) ∙ not-true _ (c .if1 .taken)))
 
 loop-again : tie.Need-loop-again Inv-loop μ-loop
 loop-again c =
@@ -38,7 +38,7 @@ loop-again c =
 returns-2 : tie.Need-returns-2 Inv-loop μ-loop
 returns-2 c =
     let a = c .before .before .before .args in
-    sym (all-marked-yes (a .n) (now (a .marks)) (λ k h. c .before .loop .inv .1 k (omega arith)))
+    sym (all-marked-yes inUse (a .n) (now (a .marks)) (λ k h. c .before .loop .inv .1 k (omega arith)))
 
 pub all-marked-spec : {M : Type 1} → statement M
 all-marked-spec =

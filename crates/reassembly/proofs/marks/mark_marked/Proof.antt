@@ -7,14 +7,14 @@ use native.Mathlib.Omega.{arith}
 use denote.Ref.{now}
 use lib.ListN.{length}
 use borrow.Author.Needs.{needs}
-use Rattle.reassembly.specs.Marks.{marked, markIf, markUpTo, markedBelow}
+use Rattle.reassembly.specs.Marks.{inUse, marked, markIf, markUpTo, markedBelow}
 use Rattle.reassembly.proofs.MarkLaws.{marks-room, marks-step, marks-end, marked-is, marked-past}
 use Rattle.reassembly.proofs.marks.mark_marked.Statement.{statement}
 use Rattle.reassembly.proofs.marks.mark_marked.Tie as tie
 
 abbrev Inv-loop : tie.InvT-loop
 Inv-loop marks₀ n other i₀ marks i =
-    (i ≤ n) × (length marks ≡ length marks₀) × (marks ≡ markUpTo i (markedBelow n other) marks₀)
+    (i ≤ n) × (length marks ≡ length marks₀) × (marks ≡ markUpTo inUse i (markedBelow inUse n other) marks₀)
 
 abbrev μ-loop : tie.MeasureT-loop
 μ-loop marks₀ n other i₀ marks i = n - i
@@ -24,11 +24,11 @@ loop-holds c = (omega arith, refl, refl)
 
 is-marked-requires : tie.Need-is-marked-requires Inv-loop μ-loop
 is-marked-requires c κs =
-    let a = c .before .before .before .before .before .args in marks-room (a .n) (c .before .before .loop .i) (now (a .other)) (omega arith) (omega arith)
+    let a = c .before .before .before .before .before .args in marks-room inUse (a .n) (c .before .before .loop .i) (now (a .other)) (omega arith) (omega arith)
 
 mark-if-requires : tie.Need-mark-if-requires Inv-loop μ-loop
 mark-if-requires c κs =
-    let a = c .before .before .before .before .before .before .args in let l = c .before .before .before .loop in marks-room (a .n) (l .i) (l .marks) (omega arith) (omega arith)
+    let a = c .before .before .before .before .before .before .args in let l = c .before .before .before .loop in marks-room inUse (a .n) (l .i) (l .marks) (omega arith) (omega arith)
 
 loop-again : tie.Need-loop-again Inv-loop μ-loop
 loop-again c =
@@ -37,8 +37,8 @@ loop-again c =
     let o = now (a .other) in (
       omega arith,
       search needs,
-      c .before .before .mark-if .ensures ∙ ap₂ (λ (b : Bool) (m : List ℕ). markIf b (l .i) m) (c .before .before .before .is-marked .ensures) (l .inv .2)
-          ∙ sym (marks-step (l .i) (marked o (l .i)) (markedBelow (a .n) o) (now (a .marks)) (marked-is (a .n) o (l .i) (omega arith))),
+      c .before .before .mark-if .ensures ∙ ap₂ (λ (b : Bool) (m : List ℕ). markIf inUse b (l .i) m) (c .before .before .before .is-marked .ensures) (l .inv .2)
+          ∙ sym (marks-step inUse (l .i) (marked inUse o (l .i)) (markedBelow inUse (a .n) o) (now (a .marks)) (marked-is inUse (a .n) o (l .i) (omega arith))),
     )
 
 same-length : tie.Need-same-length Inv-loop μ-loop
@@ -48,7 +48,7 @@ returns : tie.Need-returns Inv-loop μ-loop
 returns c =
     let a = c .before .before .before .before .args in
     let l = c .before .loop in
-    l .inv .2 ∙ marks-end (a .n) (l .i) (markedBelow (a .n) (now (a .other))) (now (a .marks)) (omega arith) (omega arith) (λ i h. marked-past (a .n) (now (a .other)) i (omega arith))
+    l .inv .2 ∙ marks-end inUse (a .n) (l .i) (markedBelow inUse (a .n) (now (a .other))) (now (a .marks)) (omega arith) (omega arith) (λ i h. marked-past inUse (a .n) (now (a .other)) i (omega arith))
 
 pub mark-marked-spec : {M : Type 1} → statement M
 mark-marked-spec =

@@ -7,25 +7,25 @@ use denote.Ref.{now}
 use lib.ListN.{length}
 use borrow.Author.Needs.{needs}
 use Rattle.reassembly.specs.Views.{inRange}
-use Rattle.reassembly.specs.Marks.{markIf, markUpTo}
+use Rattle.reassembly.specs.Marks.{inUse, markIf, markUpTo}
 use Rattle.reassembly.proofs.MarkLaws.{marks-room, marks-start, marks-step, marks-end, range-below, range-in, range-above}
 use Rattle.reassembly.proofs.marks.mark_range.Statement.{statement}
 use Rattle.reassembly.proofs.marks.mark_range.Tie as tie
 
 abbrev Inv-loop : tie.InvT-loop
 Inv-loop marks₀ start end i₀ marks i =
-    (start ≤ i) × (i ≤ end) × (length marks ≡ length marks₀) × (marks ≡ markUpTo i (inRange start end) marks₀)
+    (start ≤ i) × (i ≤ end) × (length marks ≡ length marks₀) × (marks ≡ markUpTo inUse i (inRange start end) marks₀)
 
 abbrev μ-loop : tie.MeasureT-loop
 μ-loop marks₀ start end i₀ marks i = end - i
 
 loop-holds : tie.Need-loop-holds Inv-loop μ-loop
 loop-holds c =
-    let a = c .before .args in (omega arith, omega arith, refl, sym (marks-start (a .start) (inRange (a .start) (a .end)) (now (a .marks)) (λ i h. range-below (a .start) (a .end) i h)))
+    let a = c .before .args in (omega arith, omega arith, refl, sym (marks-start inUse (a .start) (inRange (a .start) (a .end)) (now (a .marks)) (λ i h. range-below (a .start) (a .end) i h)))
 
 mark-if-requires : tie.Need-mark-if-requires Inv-loop μ-loop
 mark-if-requires c κs =
-    let a = c .before .before .before .before .args in let l = c .before .before .loop in marks-room (a .end) (l .i) (l .marks) (omega arith) (omega arith)
+    let a = c .before .before .before .before .args in let l = c .before .before .loop in marks-room inUse (a .end) (l .i) (l .marks) (omega arith) (omega arith)
 
 loop-again : tie.Need-loop-again Inv-loop μ-loop
 loop-again c =
@@ -34,8 +34,8 @@ loop-again c =
       omega arith,
       omega arith,
       search needs,
-      c .before .before .mark-if .ensures ∙ ap (markIf true (l .i)) (l .inv .3)
-          ∙ sym (marks-step (l .i) true (inRange (a .start) (a .end)) (now (a .marks)) (range-in (a .start) (a .end) (l .i) (omega arith) (omega arith))),
+      c .before .before .mark-if .ensures ∙ ap (markIf inUse true (l .i)) (l .inv .3)
+          ∙ sym (marks-step inUse (l .i) true (inRange (a .start) (a .end)) (now (a .marks)) (range-in (a .start) (a .end) (l .i) (omega arith) (omega arith))),
     )
 
 same-length : tie.Need-same-length Inv-loop μ-loop
@@ -45,7 +45,7 @@ returns : tie.Need-returns Inv-loop μ-loop
 returns c =
     let a = c .before .before .before .args in
     let l = c .before .loop in
-    l .inv .3 ∙ marks-end (a .end) (l .i) (inRange (a .start) (a .end)) (now (a .marks)) (omega arith) (omega arith) (λ i h. range-above (a .start) (a .end) i (omega arith))
+    l .inv .3 ∙ marks-end inUse (a .end) (l .i) (inRange (a .start) (a .end)) (now (a .marks)) (omega arith) (omega arith) (λ i h. range-above (a .start) (a .end) i (omega arith))
 
 pub mark-range-spec : {M : Type 1} → statement M
 mark-range-spec =

@@ -2,6 +2,7 @@
 use mathlib.Core.Path.{sym, ap, _∙_}
 use denote.Ref.{now}
 use borrow.Author.Tests.{not-true, not-false}
+use Rattle.reassembly.proofs.CallLaws.{joined}
 use borrow.Author.Needs.{needs}
 use Rattle.reassembly.specs.Record.{partial}
 use Rattle.reassembly.specs.declared.verdict.Verdict.{Verdict}
@@ -14,16 +15,16 @@ returns c =
     let a = c .before .before .before .before .before .before .before .before .before .args in
     let s = partial (a .rec) (now (a .payload)) (now (a .marks)) in
     let f = partial (a .source) (now (a .from)) (now (a .from-marks)) in
-    ap (λ (v : Verdict). record { verdict = v; after = s }) (c .enum-told .given .1)
-    ∙ sym (combine-refused s f _ _ (sym (c .before .before .judge-combine .ensures) ∙ c .enum-told .given .1))
+    joined _ s f (ap (λ (v : Verdict). record { verdict = v; after = s }) (c .enum-told .given .1)
+    ∙ sym (combine-refused s f _ _ (sym (c .before .before .judge-combine .ensures) ∙ c .enum-told .given .1)))
 
 returns-2 : tie.Need-returns-2
 returns-2 c =
     let a = c .before .before .before .before .before .before .before .before .before .before .before .args in
     let s = partial (a .rec) (now (a .payload)) (now (a .marks)) in
     let f = partial (a .source) (now (a .from)) (now (a .from-marks)) in
-    ap (λ (v : Verdict). record { verdict = v; after = s }) (c .before .before .enum-told2 .given .1)
-    ∙ sym (combine-done-idle s f (sym (c .before .before .before .before .judge-combine .ensures) ∙ c .before .before .enum-told2 .given .1) (not-true _ (c .if1 .taken)))
+    joined _ s f (ap (λ (v : Verdict). record { verdict = v; after = s }) (c .before .before .enum-told2 .given .1)
+    ∙ sym (combine-done-idle s f (sym (c .before .before .before .before .judge-combine .ensures) ∙ c .before .before .enum-told2 .given .1) (not-true _ (c .if1 .taken))))
 
 store-covered-requires : tie.Need-store-covered-requires
 store-covered-requires c κs =
@@ -45,7 +46,7 @@ returns-3 c =
     let a = c .before .before .before .before .before .before .before .before .before .before .before .before .before .before .before .before .before .before .before .before .before .before .before .before .args in
     let s = partial (a .rec) (now (a .payload)) (now (a .marks)) in
     let f = partial (a .source) (now (a .from)) (now (a .from-marks)) in
-    combined s f (sym (c .before .before .before .before .before .before .before .before .before .before .before .before .before .before .before .before .before .judge-combine .ensures) ∙ c .before .before .before .before .before .before .before .before .before .before .before .before .before .before .before .enum-told2 .given .1) (not-false _ (c .before .before .before .before .before .before .before .before .before .before .before .before .before .if1 .left)) _ _ _ _ _ (c .before .before .before .before .before .before .before .before .before .before .before .before .before .before .before .enum-told2 .given .1) (c .before .before .before .before .before .before .before .before .before .before .begin .ensures .0) (c .before .before .before .before .before .before .store-covered .ensures) (c .before .before .before .before .before .before .before .before .before .before .begin .ensures .1) (c .before .before .mark-marked .ensures)
+    joined _ s f (combined s f (sym (c .before .before .before .before .before .before .before .before .before .before .before .before .before .before .before .before .before .judge-combine .ensures) ∙ c .before .before .before .before .before .before .before .before .before .before .before .before .before .before .before .enum-told2 .given .1) (not-false _ (c .before .before .before .before .before .before .before .before .before .before .before .before .before .if1 .left)) _ _ _ _ _ (c .before .before .before .before .before .before .before .before .before .before .before .before .before .before .before .enum-told2 .given .1) (c .before .before .before .before .before .before .before .before .before .before .begin .ensures .0) (c .before .before .before .before .before .before .store-covered .ensures) (c .before .before .before .before .before .before .before .before .before .before .begin .ensures .1) (c .before .before .mark-marked .ensures))
 
 pub combine-in-spec : {M : Type 1} → statement M
 combine-in-spec =

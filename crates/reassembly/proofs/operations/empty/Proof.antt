@@ -6,7 +6,7 @@ use Rattle.reassembly.proofs.operations.empty.Tie as tie
 
 returns : tie.Need-returns
 unfolding emptied
-returns c = refl
+returns c p m = record { answer = refl; left = refl }
 
 pub empty-spec : {M : Type 1} → statement M
 empty-spec = tie.close (tie.spec returns)

@@ -3,6 +3,7 @@ use mathlib.Core.Path.{sym, _∙_}
 use denote.Ref.{now}
 use lib.Seq.{length-take-le}
 use lib.ListN.{length}
+use Rattle.reassembly.proofs.CallLaws.{handed-verdict}
 use borrow.Author.Needs.{needs}
 use Rattle.reassembly.specs.Record.{partial}
 use Rattle.reassembly.specs.Operations.{handOut}
@@ -13,19 +14,19 @@ use Rattle.reassembly.proofs.operations.hand_out.Tie as tie
 returns : tie.Need-returns
 unfolding handOut
 returns c =
-    rw (sym (c .before .before .before .hand-out-verdict .ensures) ∙ c .before .enum-told .given .1)
+    rw (sym (handed-verdict (partial (c .before .before .before .before .before .before .args .rec) (now (c .before .before .before .before .before .before .args .payload)) (now (c .before .before .before .before .before .before .args .marks))) _ (c .before .before .before .hand-out-verdict .ensures)) ∙ c .before .enum-told .given .1)
 
 slice-aggregate-result-2 : tie.Need-slice-aggregate-result-2
 slice-aggregate-result-2 c =
     let a = c .before .before .before .before .before .before .before .args in
     let s = partial (a .rec) (now (a .payload)) (now (a .marks)) in
-    let e = sym (c .before .before .before .before .hand-out-verdict .ensures) ∙ c .before .before .enum-told2 .given .1 in
-    sym (length-take-le (a .rec .message .total) (now (a .payload)) (sound-total (a .rec) (length (now (a .payload))) (length (now (a .marks))) (hand-sound s e) (hand-started s e)))
+    let e = sym (handed-verdict (partial (c .before .before .before .before .before .before .before .args .rec) (now (c .before .before .before .before .before .before .before .args .payload)) (now (c .before .before .before .before .before .before .before .args .marks))) _ (c .before .before .before .before .hand-out-verdict .ensures)) ∙ c .before .before .enum-told2 .given .1 in
+    sym (length-take-le (a .rec .message .total) (now (a .payload)) (sound-total s (hand-sound s e) (hand-started s e)))
 
 returns-2 : tie.Need-returns-2
 unfolding handOut
 returns-2 c =
-    rw (sym (c .before .before .before .before .hand-out-verdict .ensures) ∙ c .before .before .enum-told2 .given .1)
+    rw (sym (handed-verdict (partial (c .before .before .before .before .before .before .before .args .rec) (now (c .before .before .before .before .before .before .before .args .payload)) (now (c .before .before .before .before .before .before .before .args .marks))) _ (c .before .before .before .before .hand-out-verdict .ensures)) ∙ c .before .before .enum-told2 .given .1)
 
 pub hand-out-spec : {M : Type 1} → statement M
 hand-out-spec =

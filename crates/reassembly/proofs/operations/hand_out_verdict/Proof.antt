@@ -1,8 +1,12 @@
 -- `reassembly::operations::hand_out_verdict` meets its contract. Assumes nothing.
-use mathlib.Core.Path.{sym, _∙_}
+use mathlib.Core.Path.{ap, sym, _∙_}
 use denote.Ref.{now}
 use borrow.Author.Needs.{needs}
 use Rattle.reassembly.specs.Record.{partial}
+use Rattle.reassembly.specs.Operations.{handOut}
+use Rattle.reassembly.specs.Calls.{handedOf}
+use Rattle.reassembly.specs.declared.verdict.Verdict.{Verdict}
+use Rattle.reassembly.proofs.CallLaws.{one-said}
 use Rattle.reassembly.proofs.JudgeLaws.{hand-refused, hand-no, hand-yes}
 use Rattle.reassembly.proofs.operations.hand_out_verdict.Statement.{statement}
 use Rattle.reassembly.proofs.operations.hand_out_verdict.Tie as tie
@@ -10,17 +14,17 @@ use Rattle.reassembly.proofs.operations.hand_out_verdict.Tie as tie
 returns : tie.Need-returns
 returns c =
     let a = c .before .before .before .before .before .args in
-    sym (hand-yes (partial (a .rec) (now (a .payload)) (now (a .marks))) (sym (c .before .before .ask-complete .ensures) ∙ c .enum-told .given .1))
+    ap (λ (v : Verdict). handedOf v (handOut (partial (a .rec) (now (a .payload)) (now (a .marks))))) (sym (hand-yes (partial (a .rec) (now (a .payload)) (now (a .marks))) (sym (one-said _ _ (c .before .before .ask-complete .ensures)) ∙ c .enum-told .given .1)))
 
 returns-2 : tie.Need-returns-2
 returns-2 c =
     let a = c .before .before .before .before .before .args in
-    sym (hand-no (partial (a .rec) (now (a .payload)) (now (a .marks))) (sym (c .before .before .ask-complete .ensures) ∙ c .enum-told2 .given .1))
+    ap (λ (v : Verdict). handedOf v (handOut (partial (a .rec) (now (a .payload)) (now (a .marks))))) (sym (hand-no (partial (a .rec) (now (a .payload)) (now (a .marks))) (sym (one-said _ _ (c .before .before .ask-complete .ensures)) ∙ c .enum-told2 .given .1)))
 
 returns-3 : tie.Need-returns-3
 returns-3 c =
     let a = c .before .before .before .before .before .before .args in
-    sym (hand-refused (partial (a .rec) (now (a .payload)) (now (a .marks))) _ _ (sym (c .before .before .before .ask-complete .ensures) ∙ c .before .n .given .1))
+    ap (λ (v : Verdict). handedOf v (handOut (partial (a .rec) (now (a .payload)) (now (a .marks))))) (sym (hand-refused (partial (a .rec) (now (a .payload)) (now (a .marks))) _ _ (sym (one-said _ _ (c .before .before .before .ask-complete .ensures)) ∙ c .before .n .given .1)))
 
 pub hand-out-verdict-spec : {M : Type 1} → statement M
 hand-out-verdict-spec =

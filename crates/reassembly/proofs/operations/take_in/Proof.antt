@@ -8,6 +8,7 @@ use Rattle.wire.proofs.Reading.{told}
 use borrow.Author.Tests.{not-true, not-false}
 use denote.Ref.{now}
 use mathlib.Core.Path.{sym, _∙_}
+use Rattle.reassembly.proofs.CallLaws.{took}
 use borrow.Author.Needs.{needs}
 use Rattle.reassembly.proofs.operations.take_in.Statement.{statement}
 use Rattle.reassembly.proofs.operations.take_in.Tie as tie
@@ -15,7 +16,7 @@ use Rattle.reassembly.proofs.operations.take_in.Tie as tie
 returns : tie.Need-returns
 returns c =
     let a = c .before .before .before .before .before .before .args in
-    sym (take-unsound (partial (a .rec) (now (a .payload)) (now (a .marks))) (readingAt (now (a .sizes)) (now (a .datagram))) (sym (c .before .is-sound .ensures) ∙ not-true _ (c .if1 .taken)))
+    took _ (partial (a .rec) (now (a .payload)) (now (a .marks))) (now (a .datagram)) (now (a .sizes)) (sym (take-unsound (partial (a .rec) (now (a .payload)) (now (a .marks))) (readingAt (now (a .sizes)) (now (a .datagram))) (sym (c .before .is-sound .ensures) ∙ not-true _ (c .if1 .taken))))
 
 take-chunk-requires : tie.Need-take-chunk-requires
 take-chunk-requires c κs =
@@ -25,12 +26,12 @@ take-chunk-requires c κs =
 returns-2 : tie.Need-returns-2
 returns-2 c =
     let a = c .before .before .before .before .before .before .before .before .before .before .args in
-    sym (take-refusal (partial (a .rec) (now (a .payload)) (now (a .marks))) (now (a .sizes)) (now (a .datagram)) (sym (c .before .before .before .before .before .is-sound .ensures) ∙ not-false _ (c .before .before .before .before .if1 .left)) _ _ (sym (told answerChunk (c .before .before .before .read .ensures) (c .before .n .given .1))))
+    took _ (partial (a .rec) (now (a .payload)) (now (a .marks))) (now (a .datagram)) (now (a .sizes)) (sym (take-refusal (partial (a .rec) (now (a .payload)) (now (a .marks))) (now (a .sizes)) (now (a .datagram)) (sym (c .before .before .before .before .before .is-sound .ensures) ∙ not-false _ (c .before .before .before .before .if1 .left)) _ _ (sym (told answerChunk (c .before .before .before .read .ensures) (c .before .n .given .1)))))
 
 returns-3 : tie.Need-returns-3
 returns-3 c =
     let a = c .before .before .before .before .before .before .before .before .before .before .before .before .before .before .before .before .before .before .before .before .args in
-    c .before .before .before .before .take-chunk .ensures ∙ handed-taken (partial (a .rec) (now (a .payload)) (now (a .marks))) (now (a .sizes)) (now (a .datagram)) _ _ (sym (told answerChunk (c .before .before .before .before .before .before .before .before .before .before .before .before .before .read .ensures) (c .before .before .before .before .before .before .before .before .before .before .before .c .given .1))) _ _ (c .before .before .before .before .before .message-of .ensures) (c .before .before .before .before .before .before .before .before .part .ensures)
+    took _ (partial (a .rec) (now (a .payload)) (now (a .marks))) (now (a .datagram)) (now (a .sizes)) (c .before .before .before .before .take-chunk .ensures ∙ handed-taken (partial (a .rec) (now (a .payload)) (now (a .marks))) (now (a .sizes)) (now (a .datagram)) _ _ (sym (told answerChunk (c .before .before .before .before .before .before .before .before .before .before .before .before .before .read .ensures) (c .before .before .before .before .before .before .before .before .before .before .before .c .given .1))) _ _ (c .before .before .before .before .before .message-of .ensures) (c .before .before .before .before .before .before .before .before .part .ensures))
 
 pub take-in-spec : {M : Type 1} → statement M
 take-in-spec =

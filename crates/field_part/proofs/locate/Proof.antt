@@ -1,0 +1,33 @@
+use mathlib.Core.Path.{refl, sym}
+use Rattle.wire.proofs.Reading.{told}
+use Rattle.dataset_fields.specs.Fields.{answerField}
+use borrow.Author.Needs.{needs}
+use Rattle.field_part.proofs.locate.Statement.{statement}
+use Rattle.field_part.proofs.locate.Tie as tie
+use Rattle.field_part.proofs.locate.Reads as reads
+use Rattle.field_part.proofs.locate.Lts as lts
+use Rattle.dataset_message.proofs.message.field_place.Reads as field-place-reads
+
+-- src/lib.rt:28:11
+field-place-requires : tie.Need-field-place-requires
+field-place-requires c κs = search needs
+
+-- src/lib.rt:29:28
+enum-known-number : tie.Need-enum-known-number
+enum-known-number c = search needs
+
+-- src/lib.rt:30:23
+enum-known-f : tie.Need-enum-known-f
+enum-known-f c = search needs
+
+-- src/lib.rt:25:1
+returns : tie.Need-returns
+returns c = rw (sym (told answerField (c .before .before .before .field-place .ensures) (c .before .number .given .1))) refl
+
+-- src/lib.rt:25:1
+returns-2 : tie.Need-returns-2
+returns-2 c = rw (sym (told answerField (c .before .before .before .field-place .ensures) (c .before .f .given .1))) refl
+
+pub locate-spec : {M : Type 1} → statement M
+locate-spec =
+    tie.close (tie.spec field-place-requires enum-known-number enum-known-f returns returns-2)

@@ -1,0 +1,135 @@
+-- What a stored record reads as.
+-- Assumes nothing.
+use Prim.Native.Nat.{ℕ, zero, suc, _+_, _*_, _%_, _^_, _≤_, _<_}
+use mathlib.Core.Path.{_≡_, refl, ap, sym, subst, _∙_}
+use mathlib.Core.Bool.{Bool, true, false}
+use mathlib.Core.List.{List, [], _∷_, _++_, append-nil}
+use native.Mathlib.Nat.{add-zero}
+use native.Mathlib.Omega.{arith}
+use borrow.Author.Tests.{le-leb}
+use lib.Dec.{eqb}
+use lib.ListN.{length, getD, take, drop, replicate, length-append}
+use lib.Seq.{take-at, drop-at}
+use Rattle.wire.specs.Number.{leBytes}
+use Rattle.wire.proofs.Numbers.{length-leBytes}
+use Rattle.store.specs.Store.{laid}
+use Rattle.writing.proofs.Putting.{front}
+use Rattle.writing.proofs.Trip.{At, first, second, item-is}
+use Rattle.network_message.specs.Payload.{valueOr0}
+use Rattle.publisher_id.specs.PublisherRecord.{codeOf}
+use Rattle.publisher_id.specs.declared.publisher.PublisherId.{PublisherId}
+use Rattle.reassembly.specs.declared.record.PartialRecord.{PartialRecord}
+use Rattle.records.specs.Numbers.{numberAt, numberBytes}
+use Rattle.records.proofs.Storing.{bytes-length}
+use Rattle.message_record.specs.Message.{flagNumber}
+use Rattle.message_record.specs.Publisher.{publisherBy, publisherNumber}
+use Rattle.partial_record.specs.Partial.{partialIn, partialBytes, FitsId, FitsRecord}
+use Rattle.partial_record.proofs.Parts.{partial-length}
+
+-- ---- numbers that stand at the start of a record
+
+abbrev pub AllFit : List ℕ → Type 0
+AllFit [] = Unit
+AllFit (x ∷ xs) = (x < 256 ^ 8) × AllFit xs
+
+-- number j + i, where numbers stand from number j on
+pub number-read : (xs : List ℕ) (j : ℕ) (s : List ℕ) → At s (8 * j) (numberBytes xs) → AllFit xs → (i : ℕ) → i < length xs → numberAt s (j + i) ≡ getD xs i 0
+number-read [] j s a f i h = absurd (omega arith)
+number-read (x ∷ xs) j s a f zero h =
+    ap (numberAt s) (add-zero j) ∙ ap valueOr0 (item-is 8 x (8 * j) (f .0) s (first s (8 * j) (leBytes 8 x) (numberBytes xs) a))
+number-read (x ∷ xs) j s a f (suc i) h =
+    let n : 8 * j + length (leBytes 8 x) ≡ 8 * (j + 1) = omega (arith, length-leBytes 8 x) in
+    let b : At s (8 * (j + 1)) (numberBytes xs) = subst (λ (k : ℕ). At s k (numberBytes xs)) n (second s (8 * j) (leBytes 8 x) (numberBytes xs) a) in
+    let k : j + suc i ≡ j + 1 + i = omega arith in
+    let l : i < length xs = omega arith in
+    ap (numberAt s) k ∙ number-read xs (j + 1) s b (f .1) i l
+
+-- bytes stored from the start of a record that has room for them
+pub stored-at : (r b : List ℕ) → length b ≤ length r → laid r 0 b ≡ b ++ drop (length b) r
+stored-at r b h =
+    let k : 0 + length b ≤ length r = omega arith in
+    rw (le-leb (0 + length b) (length r) k) (front b r h)
+
+-- ---- the parts of a partial's record
+
+publisher-back : (p : PublisherId) → FitsId p → publisherBy (codeOf p) (publisherNumber p) ≡ p
+publisher-back PublisherId.Absent f = refl
+publisher-back (PublisherId.Byte v) f = ap PublisherId.Byte (omega arith)
+publisher-back (PublisherId.UInt16 v) f = ap PublisherId.UInt16 (omega arith)
+publisher-back (PublisherId.UInt32 v) f = ap PublisherId.UInt32 (omega arith)
+publisher-back (PublisherId.UInt64 v) f = refl
+publisher-back (PublisherId.Text n) f = refl
+
+number-fits : (p : PublisherId) → FitsId p → publisherNumber p < 256 ^ 8
+number-fits PublisherId.Absent f = omega arith
+number-fits (PublisherId.Byte v) f = omega arith
+number-fits (PublisherId.UInt16 v) f = omega arith
+number-fits (PublisherId.UInt32 v) f = omega arith
+number-fits (PublisherId.UInt64 v) f = omega arith
+number-fits (PublisherId.Text n) f = omega arith
+
+code-fits : (p : PublisherId) → codeOf p < 256 ^ 8
+code-fits PublisherId.Absent = omega arith
+code-fits (PublisherId.Byte v) = omega arith
+code-fits (PublisherId.UInt16 v) = omega arith
+code-fits (PublisherId.UInt32 v) = omega arith
+code-fits (PublisherId.UInt64 v) = omega arith
+code-fits (PublisherId.Text n) = omega arith
+
+flag-fits : (b : Bool) → flagNumber b < 256 ^ 8
+flag-fits true = omega arith
+flag-fits false = omega arith
+
+flag-back : (b : Bool) → eqb (flagNumber b) 1 ≡ b
+flag-back true = refl
+flag-back false = refl
+
+-- 64 bytes copied into a text
+text-back : (t : List ℕ) → length t ≡ 64 → laid (replicate 64 0) 0 t ≡ t
+text-back t h =
+    let k : length t ≤ length (replicate {A = ℕ} 64 0) = omega arith in
+    stored-at (replicate 64 0) t k ∙ ap (λ (n : ℕ). t ++ drop n (replicate 64 0)) h ∙ append-nil t
+
+-- ---- a record that was stored reads back
+module _ (k : PartialRecord) (r : List ℕ) (f : FitsRecord k) (h : 112 ≤ length r) where
+  abbrev id : PublisherId
+  id = k .message .publisher .id
+
+  abbrev text : List ℕ
+  text = k .message .publisher .text
+
+  abbrev numbers : List ℕ
+  numbers = flagNumber (k .started) ∷ codeOf id ∷ publisherNumber id ∷ k .message .writer ∷ k .message .number ∷ k .message .total ∷ []
+
+  abbrev s : List ℕ
+  s = laid r 0 (partialBytes k)
+
+  at : At s 0 (numberBytes numbers ++ text)
+  at = ([], drop (length (partialBytes k)) r, stored-at r (partialBytes k) (omega (arith, partial-length k (f .text))), refl)
+
+  read : (i : ℕ) → i < 6 → numberAt s i ≡ getD numbers i 0
+  read i l =
+      let w : k .message .writer < 256 ^ 8 = omega (arith, f .writer) in
+      let n : k .message .number < 256 ^ 8 = omega (arith, f .number) in
+      let fit : AllFit numbers = (flag-fits (k .started), (code-fits id, (number-fits id (f .id), (w, (n, (f .total, tt)))))) in
+      let z : 0 + i ≡ i = omega arith in
+      ap (numberAt s) (sym z) ∙ number-read numbers 0 s (first s 0 (numberBytes numbers) text at) fit i l
+
+  text-read : take 64 (drop 48 s) ≡ text
+  text-read =
+      let n : length (numberBytes numbers) ≡ 48 = bytes-length numbers in
+      let a = second s 0 (numberBytes numbers) text at in
+      ap (λ (l : List ℕ). take 64 (drop 48 l)) (a .2)
+      ∙ ap (take 64) (drop-at (a .0) (text ++ a .1) 48 (a .3 ∙ (omega arith)))
+      ∙ take-at text (a .1) 64 (f .text)
+
+  pub partial-back : partialIn s ≡ k
+  partial-back =
+      let small : (i x : ℕ) → numberAt s i ≡ x → x < 65536 → numberAt s i % 65536 ≡ x = λ i x e l. (omega arith) in
+      let p : publisherBy (numberAt s 1) (numberAt s 2) ≡ id = rw (read 1 (omega arith), read 2 (omega arith)) (publisher-back id (f .id)) in
+      let t : laid (replicate 64 0) 0 (take 64 (drop 48 s)) ≡ text = ap (λ (l : List ℕ). laid (replicate 64 0) 0 l) text-read ∙ text-back text (f .text) in
+      let b : eqb (numberAt s 0) 1 ≡ k .started = ap (λ (n : ℕ). eqb n 1) (read 0 (omega arith)) ∙ flag-back (k .started) in
+      let w = small 3 (k .message .writer) (read 3 (omega arith)) (f .writer) in
+      let n = small 4 (k .message .number) (read 4 (omega arith)) (f .number) in
+      let z = read 5 (omega arith) in
+      λ i. record { started = b i; message = record { publisher = record { id = p i; text = t i }; writer = w i; number = n i; total = z i } }

@@ -1,0 +1,220 @@
+-- Any history of calls gives the same answers, covered bytes and payload area in either layout. Assumes nothing.
+use Prim.Native.Nat.{ℕ, _<_}
+use mathlib.Core.Path.{_≡_, refl, sym, ap, ap₂, _∙_, fun-ext}
+use mathlib.Core.Bool.{Bool, true, false}
+use mathlib.Core.List.{List, _∷_}
+use native.Mathlib.Omega.{arith}
+use lib.ListN.{length, getD, replicate, length-replicate}
+use lib.Dec.{eqb}
+use borrow.Author.Tests.{eq-eqb}
+use Rattle.reassembly.specs.Views.{View, has, isSome, onlyIf, laid}
+use Rattle.reassembly.specs.Marks.{Layout, marksFor, marked, cleared, markedBelow}
+use Rattle.reassembly.specs.Areas.{markedView}
+use Rattle.reassembly.specs.Record.{identityOf, Partial, soundBy, Good}
+use Rattle.reassembly.specs.Reading.{Reading, readingAt}
+use Rattle.reassembly.specs.Reading.Reading.{chunk, refusal}
+use Rattle.reassembly.specs.Machine.{State, viewIn}
+use Rattle.reassembly.specs.Machine.State.{held}
+use Rattle.reassembly.specs.Judge.{viewOf, stateOf, judgeReading, judgeCombine}
+use Rattle.reassembly.specs.Operations.{Step, stepBy, begun, put, putReading, takeIn, combine, emptied}
+use Rattle.reassembly.specs.declared.record.Message.{Message}
+use Rattle.reassembly.specs.declared.record.PartialRecord.{PartialRecord}
+use Rattle.reassembly.specs.declared.verdict.Verdict.{Verdict}
+use Rattle.reassembly.specs.declared.verdict.Verdict.the-variants.{Done, Refused}
+use Rattle.reassembly.specs.Calls.{Call, answers, leaves, replies, final}
+use Rattle.reassembly_laws.specs.History.{says, keeps}
+use Rattle.reassembly_laws.specs.Layouts.{SameButMarks, SameCall, SameCalls, inLayout}
+use Rattle.reassembly_laws.specs.Layouts.SameCalls.{none, next}
+use Rattle.wire.proofs.Facts.{and-right}
+use Rattle.reassembly.proofs.Cases.{by-bool, by-lt}
+use Rattle.reassembly.proofs.MarkLaws.{marked-cleared, length-markAll, marked-on, marked-off}
+use Rattle.reassembly.proofs.AreaLaws.{marked-below, marked-above}
+use Rattle.reassembly.proofs.JudgeLaws
+use Rattle.reassembly_laws.proofs.Following
+
+-- ---- what is covered, and the bytes there
+view-by : (L : Layout) (t : ℕ) (p m : List ℕ) (i : ℕ) → markedView L t p m i ≡ onlyIf (has (markedView L t p m) i) (getD p i 0)
+unfolding markedView
+view-by L t p m i = pick (markedBelow L t m i) (getD p i 0)
+  where
+    pick : (b : Bool) (x : ℕ) → onlyIf b x ≡ onlyIf (isSome (onlyIf b x)) x
+    pick true x = refl
+    pick false x = refl
+
+module _ (s t : Partial) (same : SameButMarks s t) where
+  same-started : (b : Bool) → s .rec .started ≡ b → t .rec .started ≡ b
+  same-started b e = ap (λ (r : PartialRecord). r .started) (sym (same .rec)) ∙ e
+
+  same-view : s .rec .started ≡ true → viewOf s ≡ viewOf t
+  same-view e =
+      fun-ext (λ i. view-by (s .layout) (s .rec .message .total) (s .payload) (s .marks) i
+      ∙ ap₂ onlyIf (rw (e, same-started true e) at (same .covered i)) (ap (λ (p : List ℕ). getD p i 0) (same .payload))
+      ∙ sym (view-by (t .layout) (t .rec .message .total) (t .payload) (t .marks) i))
+
+  pub same-state : stateOf s ≡ stateOf t
+  same-state =
+      by-bool _ (s .rec .started)
+      (λ e. rw (e, same-started true e) (ap₂ held (ap (λ (r : PartialRecord). identityOf (r .message)) (same .rec)) (same-view e)))
+      (λ e. rw (e, same-started false e))
+
+-- ---- two steps: the same answer, record and payload area
+record SameStep (x y : Step) : Type 0 where
+  verdict : x .verdict ≡ y .verdict
+  rec : x .after .rec ≡ y .after .rec
+  payload : x .after .payload ≡ y .after .payload
+
+module _ (s t : Partial) (same : SameButMarks s t) where
+  -- by one verdict and of the same bytes
+  same-step : (v w : Verdict) (a b : Partial) → v ≡ w → a .rec ≡ b .rec → a .payload ≡ b .payload → SameStep (stepBy v s a) (stepBy w t b)
+  same-step Done w a b e r p = rw (sym e) (record { verdict = refl; rec = r; payload = p })
+  same-step (Refused n q) w a b e r p = rw (sym e) (record { verdict = refl; rec = same .rec; payload = same .payload })
+
+  put-rec : (m k : Message) (v w : View) → m ≡ k → put m v s .rec ≡ put k w t .rec
+  unfolding put
+  put-rec m k v w e = ap₂ begun (same .rec) e
+
+  put-payload : (m k : Message) (v w : View) → v ≡ w → put m v s .payload ≡ put k w t .payload
+  unfolding put
+  put-payload m k v w e = ap₂ laid e (same .payload)
+
+  same-judged : (x : Reading) → judgeReading s x ≡ judgeReading t x
+  unfolding judgeReading
+  same-judged x = rw (same .sound, same-state s t same, same .payload)
+
+  same-source : (f g : Partial) → SameButMarks f g → judgeCombine s f ≡ judgeCombine t g
+  unfolding judgeCombine
+  same-source f g o = rw (same .sound, o .sound, same-state s t same, same-state f g o, same .payload)
+
+  same-take : (x : Reading) → SameStep (takeIn s x) (takeIn t x)
+  unfolding takeIn
+  same-take x = same-step (judgeReading s x) (judgeReading t x) (putReading x s) (putReading x t) (same-judged x) (after-rec x) (after-payload x)
+    where
+      after-rec : (x : Reading) → putReading x s .rec ≡ putReading x t .rec
+      after-rec (chunk m at d) = put-rec m m _ _ refl
+      after-rec (refusal n p) = same .rec
+
+      after-payload : (x : Reading) → putReading x s .payload ≡ putReading x t .payload
+      after-payload (chunk m at d) = put-payload m m _ _ refl
+      after-payload (refusal n p) = same .payload
+
+  same-combine : (f g : Partial) → SameButMarks f g → SameStep (combine s f) (combine t g)
+  unfolding combine
+  same-combine f g o =
+      same-step (judgeCombine s f) (judgeCombine t g) _ _ (same-source f g o)
+      (by-bool _ (f .rec .started) (λ e. rw (e, same-started f g o true e) (put-rec _ _ _ _ (ap (λ (r : PartialRecord). r .message) (o .rec)))) (λ e. rw (e, same-started f g o false e) (same .rec)))
+      (by-bool _ (f .rec .started) (λ e. rw (e, same-started f g o true e) (put-payload _ _ _ _ (same-view f g o e))) (λ e. rw (e, same-started f g o false e) (same .payload)))
+
+-- ---- one call
+-- the machine takes both for the same
+same-says : (n : ℕ) (k l : Call) (x : State) → SameCall k l → says n k x ≡ says n l x
+same-says n _ _ x SameCall.empty = refl
+same-says n _ _ x (SameCall.take d z) = refl
+same-says n _ _ x (SameCall.combine f g o) = rw (o .sound, same-state f g o)
+same-says n _ _ x SameCall.ask = refl
+same-says n _ _ x SameCall.hand-out = refl
+
+same-keeps : (n : ℕ) (k l : Call) (x : State) → SameCall k l → keeps n k x ≡ keeps n l x
+same-keeps n _ _ x SameCall.empty = refl
+same-keeps n _ _ x (SameCall.take d z) = refl
+same-keeps n _ _ x (SameCall.combine f g o) = rw (o .sound, same-state f g o)
+same-keeps n _ _ x SameCall.ask = refl
+same-keeps n _ _ x SameCall.hand-out = refl
+
+module _ (s t : Partial) (same : SameButMarks s t) where
+  leaves-rec : (k l : Call) → SameCall k l → leaves k s .rec ≡ leaves l t .rec
+  leaves-rec _ _ SameCall.empty = ap emptied (same .rec)
+  leaves-rec _ _ (SameCall.take d z) = same-take s t same (readingAt z d) .rec
+  leaves-rec _ _ (SameCall.combine f g o) = same-combine s t same f g o .rec
+  leaves-rec _ _ SameCall.ask = same .rec
+  leaves-rec _ _ SameCall.hand-out = same .rec
+
+  leaves-payload : (k l : Call) → SameCall k l → leaves k s .payload ≡ leaves l t .payload
+  leaves-payload _ _ SameCall.empty = same .payload
+  leaves-payload _ _ (SameCall.take d z) = same-take s t same (readingAt z d) .payload
+  leaves-payload _ _ (SameCall.combine f g o) = same-combine s t same f g o .payload
+  leaves-payload _ _ SameCall.ask = same .payload
+  leaves-payload _ _ SameCall.hand-out = same .payload
+
+  module _ (ok : Good s) (ok′ : Good t) (k l : Call) (c : SameCall k l) where
+    same-room : length (s .payload) ≡ length (t .payload)
+    same-room = ap length (same .payload)
+
+    same-reply : answers k s ≡ answers l t
+    same-reply =
+        Following.follow s ok k .reply ∙ ap₂ (λ (n : ℕ) (x : State). says n k x) same-room (same-state s t same)
+        ∙ same-says (length (t .payload)) k l (stateOf t) c ∙ sym (Following.follow t ok′ l .reply)
+
+    left-state : stateOf (leaves k s) ≡ stateOf (leaves l t)
+    left-state =
+        Following.follow s ok k .state ∙ ap₂ (λ (n : ℕ) (x : State). keeps n k x) same-room (same-state s t same)
+        ∙ same-keeps (length (t .payload)) k l (stateOf t) c ∙ sym (Following.follow t ok′ l .state)
+
+    same-left : SameButMarks (leaves k s) (leaves l t)
+    same-left = record {
+      rec = leaves-rec k l c;
+      payload = leaves-payload k l c;
+      sound = Following.follow s ok k .good .is-sound ∙ sym (Following.follow t ok′ l .good .is-sound);
+      covered = λ i. ap (λ (x : State). has (viewIn x) i) left-state;
+    }
+
+-- ---- ANY HISTORY gives the same answers, and the same record, payload area and covered bytes
+pub record SameHistory (ks ls : List Call) (s t : Partial) : Type 0 where
+  pub answered : replies ks s ≡ replies ls t
+  pub left : SameButMarks (final ks s) (final ls t)
+
+pub same-history : (ks ls : List Call) (s t : Partial) → SameCalls ks ls → SameButMarks s t → Good s → Good t → SameHistory ks ls s t
+same-history _ _ s t none same ok ok′ = record { answered = refl; left = same }
+same-history _ _ s t (next k l ks ls c cs) same ok ok′ =
+    let h = same-history ks ls (leaves k s) (leaves l t) cs (same-left s t same ok ok′ k l c) (Following.follow s ok k .good) (Following.follow t ok′ l .good) in
+    record { answered = ap₂ _∷_ (same-reply s t same ok ok′ k l c) (h .answered); left = h .left }
+
+-- ---- FROM EMPTYING: sound partials with one record, not started, and one payload area, whatever their marks are
+pub emptied-same : (s t : Partial) → Good s → Good t → s .rec ≡ t .rec → s .payload ≡ t .payload → s .rec .started ≡ false → SameButMarks s t
+emptied-same s t ok ok′ r p e =
+    let e′ : t .rec .started ≡ false = ap (λ (x : PartialRecord). x .started) (sym r) ∙ e in
+    record { rec = r; payload = p; sound = ok .is-sound ∙ sym (ok′ .is-sound); covered = λ i. rw (e, e′) }
+
+pub same-from-emptying : (ks ls : List Call) (s t : Partial) → SameCalls ks ls → Good s → Good t → s .rec ≡ t .rec → s .payload ≡ t .payload → s .rec .started ≡ false → SameHistory ks ls s t
+same-from-emptying ks ls s t c ok ok′ r p e = same-history ks ls s t c (emptied-same s t ok ok′ r p e) ok ok′
+
+-- ---- THERE IS ONE: a sound partial with its marks in another layout is sound, and the same but for the form of its marks
+marked-blank : (L : Layout) (n i : ℕ) → marked L (replicate n 0) i ≡ false
+unfolding cleared
+marked-blank L n i = rw (length-replicate {A = ℕ} n 0) at (marked-cleared L (replicate n 0) i)
+
+module _ (L : Layout) (s : Partial) (ok : Good s) where
+  blank : List ℕ
+  blank = replicate (marksFor L (length (s .payload))) 0
+
+  length-blank : length blank ≡ marksFor L (length (s .payload))
+  unfolding blank
+  length-blank = length-replicate {A = ℕ} (marksFor L (length (s .payload))) 0
+
+  pub in-layout-good : Good (inLayout L s)
+  unfolding blank soundBy
+  in-layout-good =
+      let e : marksFor L (length (s .payload)) ≡ length (inLayout L s .marks) = sym (length-markAll L (marked (s .layout) (s .marks)) blank ∙ length-blank) in
+      record { is-sound = rw (eq-eqb _ _ e) (and-right (eqb (marksFor (s .layout) (length (s .payload))) (length (s .marks))) _ (ok .is-sound)) }
+
+  marked-same : (i : ℕ) → i < length (s .payload) → marked (s .layout) (s .marks) i ≡ marked L (inLayout L s .marks) i
+  unfolding blank
+  marked-same i h =
+      by-bool _ (marked (s .layout) (s .marks) i)
+      (λ e. e ∙ sym (marked-on L (length (s .payload)) (marked (s .layout) (s .marks)) blank i h (rw length-blank (omega arith)) e))
+      (λ e. e ∙ sym (marked-off L (marked (s .layout) (s .marks)) blank i e ∙ marked-blank L (marksFor L (length (s .payload))) i))
+
+  view-same : s .rec .started ≡ true → viewOf s ≡ viewOf (inLayout L s)
+  view-same e =
+      fun-ext (λ i. by-lt _ i (s .rec .message .total)
+      (λ l. marked-below (s .layout) _ (s .payload) (s .marks) i l
+      ∙ ap (λ (b : Bool). onlyIf b (getD (s .payload) i 0)) (marked-same i (omega (arith, JudgeLaws.sound-total s (ok .is-sound) e)))
+      ∙ sym (marked-below L _ (s .payload) (inLayout L s .marks) i l))
+      (λ l. marked-above (s .layout) _ (s .payload) (s .marks) i l ∙ sym (marked-above L _ (s .payload) (inLayout L s .marks) i l)))
+
+  pub in-layout-same : SameButMarks s (inLayout L s)
+  in-layout-same = record {
+    rec = refl;
+    payload = refl;
+    sound = ok .is-sound ∙ sym (in-layout-good .is-sound);
+    covered = λ i. by-bool _ (s .rec .started) (λ e. rw e (ap (λ (v : View). has v i) (view-same e))) (λ e. rw e);
+  }

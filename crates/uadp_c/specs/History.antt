@@ -1,0 +1,74 @@
+-- Demand 3's list of calls on one lent partial: what the contracts of src/reassembling.rt say of each call, and the plain machine's replies as results.
+use Prim.Native.Nat.{ℕ}
+use mathlib.Core.Bool.{Bool, true, false}
+use mathlib.Core.List.{List, [], _∷_, map}
+use mathlib.Core.Path.{_≡_}
+use lib.ListN.{length}
+use Rattle.reassembly.specs.Record.{Partial}
+use Rattle.reassembly.specs.Reading.{readingAt}
+use Rattle.reassembly.specs.Operations.{takeIn, combine, askComplete, judgeHandOut}
+use Rattle.reassembly_laws.specs.History as machine
+use Rattle.reassembly.specs.Calls.{Call, Reply}
+use Rattle.records.specs.Result.{resultOf}
+use Rattle.records.specs.Writers.{sizesIn}
+use Rattle.uadp_c.specs.Reassembling.{partialOf, sourceOf, Lent, lent, Steps, emptiedRecord, completeIn, handIn}
+
+-- a call, with what it is lent besides the partial: a datagram and a configuration; another partial's record, payload and marks
+pub data LentCall : Type 0 where
+  Empty : LentCall
+  Take : List ℕ → List ℕ → LentCall
+  Combine : List ℕ → List ℕ → List ℕ → LentCall
+  Complete : LentCall
+  HandOut : LentCall
+
+-- the machine's call
+abbrev pub callOf : LentCall → Call
+callOf Empty = Call.Empty
+callOf (Take datagram config) = Call.Take datagram (sizesIn config)
+callOf (Combine r p m) = Call.Combine (sourceOf r p m)
+callOf Complete = Call.Ask
+callOf HandOut = Call.HandOut
+
+-- the machine's reply as a result
+abbrev pub replyResult : Reply → ℕ
+replyResult Reply.done = resultOf 0 0
+replyResult (Reply.said true) = resultOf 0 1
+replyResult (Reply.said false) = resultOf 0 0
+replyResult (Reply.handed l) = resultOf 0 (length l)
+replyResult (Reply.refused n p) = resultOf n p
+
+-- the partial that lent bytes stand for
+abbrev pub heldIn : Lent → Partial
+heldIn b = partialOf (b .rec) (b .payload) (b .marks)
+
+-- what the contract of its function says of a call on the lent bytes of b: its result and the lent bytes afterwards
+abbrev pub Called : LentCall → Lent → Lent → Type 0
+Called Empty b a = a ≡ lent (resultOf 0 0) (emptiedRecord (b .rec)) (b .payload) (b .marks)
+Called (Take datagram config) b a = Steps (b .rec) (b .payload) (b .marks) (takeIn (heldIn b) (readingAt (sizesIn config) datagram)) a
+Called (Combine r p m) b a = Steps (b .rec) (b .payload) (b .marks) (combine (heldIn b) (sourceOf r p m)) a
+Called Complete b a = a ≡ lent (completeIn (b .rec) (askComplete (heldIn b))) (b .rec) (b .payload) (b .marks)
+Called HandOut b a = a ≡ lent (handIn (b .rec) (judgeHandOut (heldIn b))) (b .rec) (b .payload) (b .marks)
+
+-- a list of calls, each on what the last one left; the last list has each call's result with the lent bytes after it
+abbrev pub Calls : List LentCall → Lent → List Lent → Type 0
+Calls [] b [] = Unit
+Calls [] b (a ∷ ys) = ⊥
+Calls (k ∷ ks) b [] = ⊥
+Calls (k ∷ ks) b (a ∷ ys) = Called k b a × Calls ks a ys
+
+abbrev pub resultsOf : List Lent → List ℕ
+resultsOf [] = []
+resultsOf (a ∷ ys) = a .result ∷ resultsOf ys
+
+abbrev pub callsOf : List LentCall → List Call
+callsOf [] = []
+callsOf (k ∷ ks) = callOf k ∷ callsOf ks
+
+abbrev pub replyResults : List Reply → List ℕ
+replyResults [] = []
+replyResults (x ∷ xs) = replyResult x ∷ replyResults xs
+
+-- the lent bytes after the last call
+abbrev pub lastOf : Lent → List Lent → Lent
+lastOf b [] = b
+lastOf b (a ∷ ys) = lastOf a ys
