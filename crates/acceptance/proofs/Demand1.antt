@@ -13,7 +13,7 @@ use Rattle.network_message.specs.Envelope.{networkMessageAt}
 use Rattle.dataset_message.specs.Message.{messageAt}
 use Rattle.chunk.specs.Datagram.{chunkAt}
 use Rattle.chunk.specs.Cutting.{cutFault, cutBuffer}
-use Rattle.writing.specs.Writing.{bufferBy}
+use Rattle.wire_writer.specs.Writing.{bufferBy}
 use Rattle.network_message_writer.specs.Envelope.{rewriteBuffer}
 use Rattle.reassembly.specs.Record.{Partial}
 use Rattle.reassembly.specs.Reading.{Reading}

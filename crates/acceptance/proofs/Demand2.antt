@@ -27,7 +27,7 @@ use Rattle.dataset_fields.specs.declared.fields.Field.{Field}
 use Rattle.dataset_message.proofs.Agreement.{message-agrees}
 use Rattle.dataset_message_writer.specs.Message as M
 use Rattle.rewriting.specs.Same.{WritesSame}
-use Rattle.writing.specs.declared.Written.{Written}
+use Rattle.wire_writer.specs.declared.writing.Written.{Written}
 use Rattle.round_trip.specs.NetworkMessage.{AsManyLengths, givenLengths, messageOf, rewritten, FitsEnvelope, ReadsBack, WritesAgain}
 use Rattle.round_trip.specs.DataSetMessage.{MessageBack, Tellable}
 use Rattle.dataset_parts_writer.specs.Header.{FitsHeader}
@@ -36,7 +36,7 @@ use Rattle.round_trip.proofs.NetworkMessageRewritten as NetworkMessage
 use Rattle.round_trip.proofs.DataSetMessage as DataSetMessage
 use Rattle.rewriting.proofs.Copied as Copied
 use Rattle.round_trip.proofs.DataSetMessageRefused as Refused
-use Rattle.writing.specs.Fits.{Bytes, Numbers}
+use Rattle.wire_writer.specs.Fits.{Bytes, Numbers}
 use Rattle.listing.specs.Lines.{Writers, linesFrom, stepLines, nextLine, startOf, listingOf}
 use Rattle.listing.specs.declared.lines.LineCursor.{LineCursor}
 use Rattle.listing.proofs.Listing.{start-lists, step-lists}

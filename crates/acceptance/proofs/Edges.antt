@@ -1,9 +1,9 @@
 -- Document 01's twelve edge readings hold.
 -- Assumes nothing.
 use mathlib.Core.Path.{refl}
-use Rattle.value_items.specs.Plain.{plain}
+use Rattle.plain_value.specs.Plain.{plain}
 use Rattle.value.specs.Value.{variantRule, array, valueAt}
-use Rattle.value_items.specs.Width.{widthOf}
+use Rattle.plain_value.specs.Width.{widthOf}
 use Rattle.publisher_id.specs.PublisherRecord.{sameText, samePublisher, publisherFits}
 use Rattle.reassembly.specs.Views.{dataView, clash, full, laid}
 use Rattle.reassembly.specs.Marks.{marksFor, capacity, marked, markAt, cleared, markAll}

@@ -10,11 +10,10 @@ use lib.Dec.{leb, ltb, eqb}
 use lib.ListN.{length, getD}
 use Rattle.wire.specs.Answer.{got, refused, Reader, bit, andThen}
 use Rattle.wire.specs.declared.Length.{Length}
-use Rattle.value_items.specs.Width.{widthOf, fixed}
-use Rattle.value_items.specs.Plain.{passing, bytes, afterLength, byLength, string, plain, plainValue, plainValues}
-use Rattle.value.specs.Value.{variantRule, scalar, elements, array, variantOf, maskRule, dataValueOf, valueOf, valueAt, rawAt, typeOf, isArray, hasDimensions, taken, measure}
-use Rattle.value_items.specs.Parts.{parts}
-use Rattle.value.specs.Value.{Measure}
+use Rattle.plain_value.specs.Width.{widthOf, fixed}
+use Rattle.plain_value.specs.Plain.{passing, bytes, afterLength, byLength, string, plain, plainValue, plainValues}
+use Rattle.value.specs.Value.{variantRule, scalar, elements, array, variantOf, maskRule, dataValueOf, valueOf, valueAt, rawAt, typeOf, isArray, hasDimensions, taken, measure, Measure}
+use Rattle.plain_value.specs.Parts.{parts}
 use Rattle.value.specs.declared.Shape.{Shape}
 use Rattle.dataset_header.specs.Flags.{flagsOf, flags1Rule, flags2Rule, flags2At, Valid, notValid, valid, flagsAt, isRaw}
 use Rattle.dataset_header.specs.Header.{bodyAt, afterFlags, headerAt}

@@ -11,11 +11,11 @@ use lib.ListN.{length, take, drop, length-append, length-take, length-drop}
 use lib.Seq.{sets, sets-eq, length-sets, take-append-seam, drop-append-seam}
 use borrow.Author.Tests.{le-leb, lt-leb, leb-true, leb-false, lt-ltb, le-ltb, ltb-false, eq-eqb, ne-eqb, eqb-true, eqb-false}
 use Rattle.wire.specs.Number.{leBytes}
-use Rattle.store.specs.Store.{laid}
+use Rattle.wire_writer.specs.Store.{laid}
 use Rattle.wire.proofs.Numbers.{length-leBytes}
-use Rattle.store.proofs.Stores.{sets-append}
+use Rattle.wire_writer.proofs.Stores.{sets-append}
 use Rattle.chunk.specs.Cutting.{payloadBytes, cutData, chunkBytes, cutRule, cutFault, cutAnswer, cutBuffer}
-use Rattle.writing.specs.declared.Written.{Written}
+use Rattle.wire_writer.specs.declared.writing.Written.{Written}
 
 -- ---- the rules
 module _ (total size k : ℕ) (a : size ≡ 0 → ⊥) (b : total ≡ 0 → ⊥) where

@@ -18,8 +18,8 @@ use Rattle.chunk_payload.specs.Payload.{totalAt, dataLengthAt, dataOf, chunkPay
 use Rattle.chunk.specs.Datagram.{placeOf, chunkAt, chunkData}
 use Rattle.chunk.specs.Cutting.{payloadBytes, cutData, chunkBytes, cutRule, cutAnswer, cutBuffer}
 use Rattle.chunk_payload.specs.declared.payload.ChunkPayload.{ChunkPayload}
-use Rattle.writing.specs.declared.Written.{Written}
-use Rattle.writing.proofs.Trip.{le-at}
+use Rattle.wire_writer.specs.declared.writing.Written.{Written}
+use Rattle.wire_writer.proofs.Trip.{le-at}
 use Rattle.chunk.proofs.CutLaws.{cuts, data-most, data-full, length-payload, cut-wrote}
 
 -- the bytes b stand at position m of s, and s ends with them

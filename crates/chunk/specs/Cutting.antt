@@ -5,8 +5,8 @@ use mathlib.Core.List.{List, _++_}
 use lib.Dec.{leb, ltb, eqb}
 use lib.ListN.{length, take, drop}
 use Rattle.wire.specs.Number.{leBytes}
-use Rattle.store.specs.Store.{laid}
-use Rattle.writing.specs.declared.Written.{Written}
+use Rattle.wire_writer.specs.Store.{laid}
+use Rattle.wire_writer.specs.declared.writing.Written.{Written}
 
 -- "MessageSequenceNumber 2, ChunkOffset 4, TotalSize 4, ChunkData with its length"
 abbrev pub payloadBytes : ℕ → ℕ → ℕ → List ℕ → List ℕ

@@ -1,13 +1,13 @@
 // Cutting a payload into chunks.
-use store::put_run;
-use store::put16;
-use store::put32;
 use wire::part::part;
-use writing::Written;
+use wire_writer::store::put_run;
+use wire_writer::store::put16;
+use wire_writer::store::put32;
+use wire_writer::writing::Written;
 ghost use mathlib.Core.Path.{_≡_};
 ghost use Prim.Native.Nat.{_+_, _≤_, _<_};
 ghost use lib.ListN.{length};
-ghost use Rattle.store.specs.Store.{laid};
+ghost use Rattle.wire_writer.specs.Store.{laid};
 ghost use Rattle.chunk.specs.Cutting.{payloadBytes, cutRule, cutAnswer, cutBuffer};
 
 // The first rule that a cut of a payload of total bytes breaks, or 0.

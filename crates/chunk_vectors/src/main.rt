@@ -13,7 +13,7 @@ use text::hex::put_hex;
 use text::hex::read_hex;
 use text::words::find;
 use wire::part::part;
-use writing::Written;
+use wire_writer::writing::Written;
 
 fn main() {
     let mut text = [0u8; 4096];

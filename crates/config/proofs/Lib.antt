@@ -1,3 +1,1 @@
-pub mod Lines
-pub mod Turns
-pub mod Joined
+pub mod Asked

@@ -1,15 +1,11 @@
-// The configuration: document 01, "Configuration and listing". Its text is read into a record of arrays; what the
-// configuration says of a writer is asked of the record's arrays, lent as slices.
-mod line;
-
-use configured_writers::first;
-use configured_writers::has_writer;
-use line::Line;
-use line::read_line;
+// What a configuration says: the record, and the questions asked of its arrays, lent as slices. Any slices have an answer.
+use wire::optional::Optional16;
+use wire::part::part;
 ghost use mathlib.Core.Path.{_≡_};
 ghost use Prim.Native.Nat.{_≤_};
-ghost use Rattle.config.specs.Line.{saysIn};
-ghost use Rattle.config.specs.Config.{emptyConfig, badLine, isNew, permits, configOf};
+ghost use lib.ListN.{take, getD};
+ghost use Rattle.text.specs.Words.{indexOf, contains};
+ghost use Rattle.config.specs.Writers.{atMost, fieldsOf, fieldsOfId, typesOf, allSized, sumOfSizes, emptyConfig};
 
 // The writers in order: each with its id, its size (0 where it has none) and how many fields stand before its own;
 // and the types of all fields. Only the first `writers` and the first `fields` entries say something.
@@ -22,11 +18,119 @@ pub struct Config {
     pub types: [u8; 64],
 }
 
-// Number 0 and the configuration; or 16, the line from 1 and the empty configuration.
-pub struct ConfigRead {
-    pub number: u8,
-    pub place: usize,
-    pub config: Config,
+// How many writers there are: not above 16, whatever the record says.
+pub fn writer_count(writers: usize) -> usize
+    ensures { λ r. ⌜ (r ≡ atMost 16 writers) × (r ≤ 16) ⌝ }
+{
+    if 16 < writers {
+        return 16;
+    }
+    writers
+}
+
+// The first n of a list of numbers, all of it where it has fewer: the ids or sizes of n writers.
+pub fn first(list: &[u16], n: usize) -> &[u16]
+    ensures { λ r. ⌜ now r ≡ take n (now (list .entry)) ⌝ }
+{
+    if list.len() <= n {
+        return list;
+    }
+    &list[0..n]
+}
+
+// Writer k's id or size, out of the list of them; 0 where there is no writer k.
+pub fn number_of(list: &[u16], k: usize) -> u16
+    ensures { λ r. ⌜ r ≡ getD (now (list .entry)) k 0 ⌝ }
+{
+    if list.len() <= k {
+        return 0;
+    }
+    list[k]
+}
+
+// Which writer has the id: the first one, or their number where none has it.
+pub fn find_writer(ids: &[u16], id: u16) -> usize
+    ensures { λ r. ⌜ r ≡ indexOf id (now (ids .entry)) ⌝ }
+{
+    let mut i = 0;
+    while i < ids.len() {
+        if ids[i] == id {
+            return i;
+        }
+        i += 1;
+    }
+    i
+}
+
+pub fn has_writer(ids: &[u16], id: u16) -> bool
+    ensures { λ r. ⌜ r ≡ contains id (now (ids .entry)) ⌝ }
+{
+    find_writer(ids, id) < ids.len()
+}
+
+// The field types of writer k.
+pub fn writer_fields<'a>(starts: &'a [u8], types: &'a [u8], k: usize) -> &'a [u8]
+    ensures { λ r. ⌜ now r ≡ fieldsOf (now (starts .entry)) (now (types .entry)) k ⌝ }
+{
+    if starts.len() <= k {
+        return part(types, 0, 0);
+    }
+    let start = starts[k] as usize;
+    if starts.len() <= k + 1 {
+        return part(types, start, types.len());
+    }
+    let end = starts[k + 1] as usize;
+    if end < start {
+        return part(types, 0, 0);
+    }
+    part(types, start, end - start)
+}
+
+// The field types of the writer with the id, none where no writer has it.
+pub fn fields_of<'a>(ids: &'a [u16], starts: &'a [u8], types: &'a [u8], id: u16) -> &'a [u8]
+    ensures { λ r. ⌜ now r ≡ fieldsOfId (now (ids .entry)) (now (starts .entry)) (now (types .entry)) id ⌝ }
+{
+    let k = find_writer(ids, id);
+    if ids.len() <= k {
+        return part(types, 0, 0);
+    }
+    writer_fields(starts, types, k)
+}
+
+// The field types of a message, by its writer's id; none where it has no id.
+pub fn types_of<'a>(
+    ids: &'a [u16],
+    starts: &'a [u8],
+    types: &'a [u8],
+    writer: Optional16,
+) -> &'a [u8]
+    ensures { λ r. ⌜ now r ≡ typesOf (now (ids .entry)) (now (starts .entry)) (now (types .entry)) writer ⌝ }
+{
+    match writer {
+        Optional16::Absent => part(types, 0, 0),
+        Optional16::Is(id) => fields_of(ids, starts, types, id),
+    }
+}
+
+// Has every writer a size?
+pub fn all_sized(sizes: &[u16]) -> bool
+    ensures { λ r. ⌜ r ≡ allSized (now (sizes .entry)) ⌝ }
+{
+    !has_writer(sizes, 0)
+}
+
+// The sum of the sizes of the first 16 writers.
+pub fn sum_of_sizes(sizes: &[u16]) -> usize
+    ensures { λ r. ⌜ (r ≡ sumOfSizes (now (sizes .entry))) × (r ≤ 1048560) ⌝ }
+{
+    let list = first(sizes, 16);
+    let mut sum = 0;
+    let mut i = 0;
+    while i < list.len() {
+        sum += list[i] as usize;
+        i += 1;
+    }
+    sum
 }
 
 // The configuration of an empty text.
@@ -40,74 +144,5 @@ pub fn empty() -> Config
         sizes: [0u16; 16],
         starts: [0u8; 16],
         types: [0u8; 64],
-    }
-}
-
-fn bad_line(line: usize) -> ConfigRead
-    ensures { λ r. ⌜ r ≡ badLine line ⌝ }
-{
-    ConfigRead {
-        number: 16,
-        place: line,
-        config: empty(),
-    }
-}
-
-// May a writer with this id come after the first n?
-fn is_new(ids: &[u16], n: usize, id: u16) -> bool
-    ensures { λ r. ⌜ r ≡ isNew (now (ids .entry)) n id ⌝ }
-{
-    if 16 <= n {
-        return false;
-    }
-    !has_writer(first(ids, n), id)
-}
-
-// May the line come after so many writers, with these ids, and so many fields?
-fn permitted(ids: &[u16], writers: usize, fields: usize, line: Line) -> bool
-    ensures { λ r. ⌜ r ≡ permits (now (ids .entry)) writers fields (saysIn line) ⌝ }
-{
-    match line {
-        Line::Writer(id, _, _) => is_new(ids, writers, id),
-        Line::Field(_, _) => (writers != 0) & (fields < 64),
-        Line::Bad => false,
-    }
-}
-
-// A text's configuration, or its first bad line.
-pub fn read_config(s: &[u8]) -> ConfigRead
-    ensures { λ r. ⌜ r ≡ configOf (now (s .entry)) ⌝ }
-{
-    let mut config = empty();
-    let mut number: usize = 1;
-    let mut at: usize = 0;
-    while at < s.len() {
-        let line = read_line(s, at);
-        if !permitted(&config.ids, config.writers, config.fields, line) {
-            return bad_line(number);
-        }
-        match line {
-            Line::Writer(id, size, next) => {
-                let n = config.writers;
-                config.ids[n] = id;
-                config.sizes[n] = size;
-                config.starts[n] = config.fields as u8;
-                config.writers = n + 1;
-                at = next;
-            }
-            Line::Field(kind, next) => {
-                let n = config.fields;
-                config.types[n] = kind;
-                config.fields = n + 1;
-                at = next;
-            }
-            Line::Bad => return bad_line(number),
-        }
-        number += 1;
-    }
-    ConfigRead {
-        number: 0,
-        place: 0,
-        config,
     }
 }

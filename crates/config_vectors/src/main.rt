@@ -1,12 +1,12 @@
 // Configuration texts and their answers: number, place, and how many writers and fields there are.
 use config::Config;
-use config::read_config;
-use configured_writers::all_sized;
-use configured_writers::fields_of;
-use configured_writers::find_writer;
-use configured_writers::first;
-use configured_writers::number_of;
-use configured_writers::sum_of_sizes;
+use config::all_sized;
+use config::fields_of;
+use config::find_writer;
+use config::first;
+use config::number_of;
+use config::sum_of_sizes;
+use config_text::read_config;
 use libc::STDOUT_FILENO;
 use text::hex::put_hex;
 use wire::part::part;

@@ -7,7 +7,7 @@ use mathlib.Core.List.{List}
 use native.Mathlib.Omega.{arith}
 use Rattle.wire.specs.Answer.{Answer, got, andThen}
 use Rattle.wire.proofs.Reading.{got-next, invert}
-use Rattle.value_items.specs.Plain.{passing}
+use Rattle.plain_value.specs.Plain.{passing}
 use Rattle.value.specs.Value.{Measure, variantAt}
 use Rattle.value.proofs.FirstItems.{described-is}
 use Rattle.dataset_fields.specs.Fields.{fieldAt, endingAt, plainVariants, hintedAt, fieldsAt}

@@ -13,10 +13,10 @@ use Rattle.dataset_fields.specs.Fields.{fieldAt, fieldsAt, zerosAt, padd
 use Rattle.dataset_header.specs.declared.flags.Encoding.{Encoding}
 use Rattle.dataset_fields.specs.declared.fields.Field.{Field}
 use Rattle.wire.specs.Answer.{Answer, got, refused, andThen, each}
-use Rattle.value_items.specs.Plain.{passing}
+use Rattle.plain_value.specs.Plain.{passing}
 use Rattle.value.specs.Value.{Measure, variantAt, rawAt}
 use Rattle.value.specs.declared.Shape.{Shape}
-use Rattle.value_items.proofs.Passing.{unpassed}
+use Rattle.plain_value.proofs.Passing.{unpassed}
 use Rattle.value.proofs.FirstItems.{raw-is}
 
 module _ (delta : Bool) (encoding : Encoding) (types s : List ℕ) where

@@ -20,9 +20,8 @@ use Rattle.dataset_fields.specs.declared.fields.Field.{Field}
 use Rattle.dataset_fields.specs.declared.fields.Cursor.{Cursor}
 use Rattle.wire.specs.Answer.{Answer, got, refused, item, andThen}
 use Rattle.wire.proofs.Reading.{got-value, got-next, not-got, invert}
-use Rattle.value_items.specs.Width.{widthOf, fixed}
-use Rattle.value.specs.Value.{rawAt}
-use Rattle.value.specs.Value.{Measure}
+use Rattle.plain_value.specs.Width.{widthOf, fixed}
+use Rattle.value.specs.Value.{rawAt, Measure}
 use Rattle.value.proofs.Values.{value-within}
 
 -- an item that was read lies within the slice

@@ -15,10 +15,10 @@ use Rattle.dataset_message_writer.specs.Rewrite.{partsAgain, again, agai
 use Rattle.dataset_header.specs.declared.header.Header.{Header}
 use Rattle.wire.specs.Number.{leBytes}
 use Rattle.wire.proofs.Facts.{and-left, and-right}
-use Rattle.writing.specs.Writing.{orElse, picosecondsRefusal, Puts, writtenBy, bufferBy, numberFor}
-use Rattle.writing.specs.declared.Written.{Written}
-use Rattle.writing.proofs.Putting.{then, whole}
-use Rattle.writing.proofs.Refusals.{both-zero, held}
+use Rattle.wire_writer.specs.Writing.{orElse, picosecondsRefusal, Puts, writtenBy, bufferBy, numberFor}
+use Rattle.wire_writer.specs.declared.writing.Written.{Written}
+use Rattle.wire_writer.proofs.Putting.{then, whole}
+use Rattle.wire_writer.proofs.Refusals.{both-zero, held}
 use Rattle.dataset_header.specs.declared.flags.Encoding.{Encoding}
 use Rattle.dataset_header.specs.declared.flags.Kind.{Kind}
 use Rattle.dataset_message.specs.Message.{messageAt}

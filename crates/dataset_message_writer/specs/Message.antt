@@ -8,14 +8,14 @@ use lib.Dec.{eqb, leb}
 use lib.ListN.{length}
 use Rattle.wire.specs.Number.{leBytes}
 use Rattle.dataset_header.specs.Flags.{isDelta, isRaw}
-use Rattle.writing.specs.Writing.{orElse, picosecondsRefusal, numberFor, writtenBy, bufferBy}
-use Rattle.writing.specs.declared.Written.{Written}
+use Rattle.wire_writer.specs.Writing.{orElse, picosecondsRefusal, numberFor, writtenBy, bufferBy}
+use Rattle.wire_writer.specs.declared.writing.Written.{Written}
 use Rattle.dataset_header.specs.declared.flags.Encoding.{Encoding}
 use Rattle.dataset_header.specs.declared.flags.Kind.{Kind}
 use Rattle.dataset_header.specs.declared.header.Header.{Header}
 use Rattle.dataset_parts_writer.specs.Flags.{kindRule}
 use Rattle.dataset_parts_writer.specs.Header.{headerBytes, FitsHeader}
-use Rattle.writing.specs.Fits.{Numbers}
+use Rattle.wire_writer.specs.Fits.{Numbers}
 use Rattle.dataset_parts_writer.specs.Fields.{total, valuesOf, fieldsRefusal, fieldsWhole, reached, fieldsBytes, zeros}
 
 -- What is given to be written: the header; of a key frame, whether it is a heartbeat; the fields' encoded values one after the

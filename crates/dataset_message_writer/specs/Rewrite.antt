@@ -6,8 +6,8 @@ use mathlib.Core.List.{List, _++_}
 use lib.Dec.{leb}
 use lib.ListN.{length, take, drop}
 use Rattle.wire.specs.Answer.{Answer, got, refused}
-use Rattle.writing.specs.Writing.{numberFor, writtenBy, bufferBy}
-use Rattle.writing.specs.declared.Written.{Written}
+use Rattle.wire_writer.specs.Writing.{numberFor, writtenBy, bufferBy}
+use Rattle.wire_writer.specs.declared.writing.Written.{Written}
 use Rattle.dataset_header.specs.declared.header.Header.{Header}
 use Rattle.dataset_header.specs.Flags.{Valid, notValid, valid, isRaw}
 use Rattle.dataset_message.specs.Message.{Message, messageAt}

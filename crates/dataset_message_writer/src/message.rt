@@ -13,17 +13,16 @@ use dataset_parts_writer::fields::put_delta;
 use dataset_parts_writer::fields::put_zeros;
 use dataset_parts_writer::flags::kind_rule;
 use dataset_parts_writer::header::put_header;
-use writing::Written;
-use writing::or_else;
-use writing::picoseconds_refusal;
-use writing::put_run;
+use wire_writer::writing::Written;
+use wire_writer::writing::or_else;
+use wire_writer::writing::picoseconds_refusal;
+use wire_writer::writing::put_run;
 ghost use mathlib.Core.Path.{_≡_};
 ghost use mathlib.Core.Bool.{cond};
 ghost use lib.ListN.{length};
-ghost use Rattle.writing.specs.Writing.{orElse, Puts};
+ghost use Rattle.wire_writer.specs.Writing.{orElse, Puts};
 ghost use Rattle.dataset_parts_writer.specs.Fields.{total, valuesOf, fieldsBytes};
-ghost use Rattle.dataset_message_writer.specs.Message.{given, isKey, fieldedRefusal, fieldedAgrees, configuredRule, countAgrees, listsAgree};
-ghost use Rattle.dataset_message_writer.specs.Message.{encode, bodyRefusal, bodyAgrees, refusalOf, Writes, FitsGiven};
+ghost use Rattle.dataset_message_writer.specs.Message.{given, isKey, fieldedRefusal, fieldedAgrees, configuredRule, countAgrees, listsAgree, encode, bodyRefusal, bodyAgrees, refusalOf, Writes, FitsGiven};
 
 fn is_key(kind: Kind) -> bool
     ensures { λ r. ⌜ r ≡ isKey kind ⌝ }

@@ -2,11 +2,11 @@
 use dataset_header::flags::Kind;
 use dataset_header::header::Header;
 use dataset_parts_writer::header::header_size;
-use writing::put16;
+use wire_writer::writing::put16;
 ghost use mathlib.Core.Path.{_≡_};
 ghost use Prim.Native.Nat.{_+_};
 ghost use lib.ListN.{length};
-ghost use Rattle.writing.specs.Writing.{Puts};
+ghost use Rattle.wire_writer.specs.Writing.{Puts};
 ghost use Rattle.dataset_parts_writer.specs.Header.{headerBytes};
 ghost use Rattle.dataset_message_writer.specs.Message.{hasFields, countBytes, sizeOf, atMost};
 

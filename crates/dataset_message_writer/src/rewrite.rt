@@ -11,9 +11,9 @@ use dataset_parts_writer::header::header_size;
 use dataset_parts_writer::header::put_header;
 use wire::left;
 use wire::part::part;
-use writing::Written;
-use writing::put_run;
-ghost use Rattle.writing.specs.Writing.{Puts};
+use wire_writer::writing::Written;
+use wire_writer::writing::put_run;
+ghost use Rattle.wire_writer.specs.Writing.{Puts};
 ghost use Rattle.dataset_message_writer.specs.Message.{WritesBytes};
 ghost use Rattle.dataset_message_writer.specs.Rewrite.{partsAgain, Rewrites};
 

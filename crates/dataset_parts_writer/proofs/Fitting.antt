@@ -21,7 +21,7 @@ use Rattle.wire.specs.declared.optional.OptionalI64.{OptionalI64}
 use Rattle.dataset_header.proofs.header.Header as header
 use Rattle.dataset_header.proofs.header.Header.Laws as headerLaws
 use Rattle.dataset_header.specs.declared.header.Header.{Header}
-use Rattle.writing.specs.Fits.{Fits16, Fits32, FitsI64}
+use Rattle.wire_writer.specs.Fits.{Fits16, Fits32, FitsI64}
 use Rattle.dataset_parts_writer.specs.Header.{FitsHeader}
 
 pub fits16 : (x : Optional16) (vs : List Val) → Is (enum.row optional16.the-type) x vs → Fits16 x

@@ -16,7 +16,7 @@ use Rattle.wire.proofs.Steady.{Steady}
 use Rattle.wire.proofs.Places.{within-refused}
 use Rattle.value.specs.Value.{Measure}
 use Rattle.value.proofs.Values.{value-steady, raw-steady}
-use Rattle.writing.specs.Writing.{orElse}
+use Rattle.wire_writer.specs.Writing.{orElse}
 use Rattle.dataset_header.specs.declared.flags.Encoding.{Encoding}
 use Rattle.dataset_fields.specs.declared.fields.Field.{Field}
 use Rattle.dataset_fields.specs.Fields.{encodedAt, fieldAt}

@@ -11,7 +11,7 @@ use lib.Dec.{leb, eqb}
 use lib.ListN.{length, getD, take, drop, set, length-append, length-drop, take-append-drop}
 use lib.Seq.{sets, getD-drop, drop-drop, length-take-le}
 use Rattle.wire.specs.Number.{leBytes}
-use Rattle.writing.specs.Writing.{Puts, needed, byteBytes}
+use Rattle.wire_writer.specs.Writing.{Puts, needed, byteBytes}
 use Rattle.dataset_header.specs.declared.header.Header.{Header}
 use Rattle.dataset_parts_writer.specs.Flags.{flags1Of, flags2Of}
 use Rattle.dataset_parts_writer.specs.Fields.{total, valuesOf, fieldsBytes, zeros}

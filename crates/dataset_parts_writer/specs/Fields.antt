@@ -6,7 +6,7 @@ use lib.Dec.{eqb}
 use lib.ListN.{length, getD, take, drop}
 use Rattle.wire.specs.Number.{leBytes}
 use Rattle.wire.specs.Answer.{Answer, got, refused}
-use Rattle.writing.specs.Writing.{orElse}
+use Rattle.wire_writer.specs.Writing.{orElse}
 use Rattle.dataset_fields.specs.Fields.{encodedAt}
 use Rattle.dataset_header.specs.declared.flags.Encoding.{Encoding}
 

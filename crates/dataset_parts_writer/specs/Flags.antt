@@ -2,7 +2,7 @@
 use Prim.Native.Nat.{ℕ, _+_, _*_}
 use mathlib.Core.List.{List, _++_}
 use Rattle.wire.specs.Number.{leBytes}
-use Rattle.writing.specs.Writing.{num, needed, byteBytes, on16, on32, onI64}
+use Rattle.wire_writer.specs.Writing.{num, needed, byteBytes, on16, on32, onI64}
 use Rattle.dataset_header.specs.declared.flags.Encoding.{Encoding}
 use Rattle.dataset_header.specs.declared.flags.Kind.{Kind}
 use Rattle.dataset_header.specs.declared.header.Header.{Header}

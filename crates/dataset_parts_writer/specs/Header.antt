@@ -1,10 +1,10 @@
 -- The header of a DataSetMessage as it is written (document 01, "The DataSetMessage").
 use Prim.Native.Nat.{ℕ}
 use mathlib.Core.List.{List, _++_}
-use Rattle.writing.specs.Writing.{optional16Bytes, optional32Bytes, optionalI64Bytes}
+use Rattle.wire_writer.specs.Writing.{optional16Bytes, optional32Bytes, optionalI64Bytes}
 use Rattle.dataset_header.specs.declared.header.Header.{Header}
 use Rattle.dataset_parts_writer.specs.Flags.{flagBytes}
-use Rattle.writing.specs.Fits.{Fits16, Fits32, FitsI64}
+use Rattle.wire_writer.specs.Fits.{Fits16, Fits32, FitsI64}
 
 -- "Then sequence 2, timestamp 8, picoseconds 2, status 2, major 4, minor 4, each by its flag"
 abbrev pub timesBytes : Header → List ℕ

@@ -5,8 +5,8 @@ use dataset_header::flags::Encoding;
 use dataset_header::flags::is_raw;
 use wire::has;
 use wire::part::part;
-use writing::put_run;
-use writing::put16;
+use wire_writer::writing::put_run;
+use wire_writer::writing::put16;
 ghost use mathlib.Core.Path.{_≡_};
 ghost use mathlib.Core.Bool.{cond, true, _&&_};
 ghost use Prim.Native.Nat.{_+_, _≤_};
@@ -14,7 +14,7 @@ ghost use lib.Dec.{eqb, leb};
 ghost use lib.ListN.{length, getD, take};
 ghost use lib.Seq.{sets};
 ghost use Rattle.dataset_header.specs.Flags.{isRaw};
-ghost use Rattle.writing.specs.Writing.{Puts};
+ghost use Rattle.wire_writer.specs.Writing.{Puts};
 ghost use Rattle.dataset_parts_writer.specs.Fields.{total, valuesOf, reached, fieldsNumber, fieldsBytes, zeros};
 
 // Whether the lengths add up to a number of bytes.

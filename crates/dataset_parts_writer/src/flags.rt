@@ -2,15 +2,15 @@
 use dataset_header::flags::Encoding;
 use dataset_header::flags::Kind;
 use dataset_header::header::Header;
-use writing::flag;
-use writing::is_on_i64;
-use writing::is_on16;
-use writing::is_on32;
-use writing::put_byte;
-use writing::put8;
+use wire_writer::writing::flag;
+use wire_writer::writing::is_on_i64;
+use wire_writer::writing::is_on16;
+use wire_writer::writing::is_on32;
+use wire_writer::writing::put_byte;
+use wire_writer::writing::put8;
 ghost use mathlib.Core.Path.{_≡_};
 ghost use Prim.Native.Nat.{_≤_};
-ghost use Rattle.writing.specs.Writing.{needed, Puts};
+ghost use Rattle.wire_writer.specs.Writing.{needed, Puts};
 ghost use Rattle.dataset_parts_writer.specs.Flags.{encodingNumber, kindNumber, flags1Of, flags2Of, flagBytes, kindRule};
 
 fn encoding_number(encoding: Encoding) -> u8

@@ -6,13 +6,13 @@ use dataset_header::header::Header;
 use wire::optional::Optional16;
 use wire::optional::Optional32;
 use wire::optional::OptionalI64;
-use writing::put_optional_i64;
-use writing::put_optional16;
-use writing::put_optional32;
+use wire_writer::writing::put_optional_i64;
+use wire_writer::writing::put_optional16;
+use wire_writer::writing::put_optional32;
 ghost use mathlib.Core.Path.{_≡_};
 ghost use Prim.Native.Nat.{_≤_};
 ghost use lib.ListN.{length};
-ghost use Rattle.writing.specs.Writing.{optional16Bytes, optional32Bytes, optionalI64Bytes, Puts};
+ghost use Rattle.wire_writer.specs.Writing.{optional16Bytes, optional32Bytes, optionalI64Bytes, Puts};
 ghost use Rattle.dataset_parts_writer.specs.Header.{timesBytes, versionsBytes, headerBytes};
 
 fn put_times(out: &mut [u8], at: usize, header: Header) -> usize

@@ -5,7 +5,7 @@ use mathlib.Core.Path.{_≡_, refl}
 use mathlib.Core.List.{List, [], _∷_}
 use native.Mathlib.Omega.{arith}
 use lib.ListN.{length}
-use Rattle.store.specs.Store.{laid}
+use Rattle.wire_writer.specs.Store.{laid}
 use Rattle.publisher_id.specs.PublisherRecord.{codeOf}
 use Rattle.network_message.specs.declared.envelope.Envelope.{Envelope}
 use Rattle.network_message.specs.declared.envelope.Places.{Places}
@@ -14,9 +14,7 @@ use Rattle.records.specs.Numbers.{numberBytes}
 use Rattle.message_record.specs.Message.{has16, value16, hasI64, valueI64, flagNumber}
 use Rattle.records.proofs.Storing.{also, put-same, put-none, put-both}
 use Rattle.message_record.specs.Publisher.{publisherNumber}
-use Rattle.envelope_record.specs.Envelope.{hasClass, classLow, classHigh, groupItems, groupWriter, groupVersion, groupNumber, groupSequence}
-use Rattle.envelope_record.specs.Envelope.{headerCode, headerNumber, hasPromoted, promotedSize, sizesCode, sizesPlace}
-use Rattle.envelope_record.specs.Envelope.{startNumbers, restNumbers, envelopeNumbers}
+use Rattle.envelope_record.specs.Envelope.{hasClass, classLow, classHigh, groupItems, groupWriter, groupVersion, groupNumber, groupSequence, headerCode, headerNumber, hasPromoted, promotedSize, sizesCode, sizesPlace, startNumbers, restNumbers, envelopeNumbers}
 
 pub start-put : (v : Envelope) (w : Places) (l e : List ℕ) (a₁ a₂ a₃ a₄ a₅ a₆ a₇ a₈ a₉ b₁ b₂ b₃ b₄ : ℕ) → a₁ ≡ codeOf (v .publisher)
     → a₂ ≡ publisherNumber (v .publisher) → a₃ ≡ hasClass (v .«class_id») → a₄ ≡ classLow (v .«class_id») → a₅ ≡ classHigh (v .«class_id»)

@@ -25,12 +25,10 @@ use records::numbers::put_numbers_from;
 use wire::optional::Optional16;
 ghost use mathlib.Core.Path.{_≡_};
 ghost use Prim.Native.Nat.{_+_, _*_};
-ghost use Rattle.store.specs.Store.{laid};
+ghost use Rattle.wire_writer.specs.Store.{laid};
 ghost use Rattle.records.specs.Numbers.{numberBytes};
 ghost use Rattle.message_record.specs.Message.{has16, has32};
-ghost use Rattle.envelope_record.specs.Envelope.{hasClass, classLow, classHigh, groupItems, groupWriter, groupVersion, groupNumber};
-ghost use Rattle.envelope_record.specs.Envelope.{groupSequence, headerCode, headerNumber, hasPromoted, promotedSize, sizesCode, sizesPlace};
-ghost use Rattle.envelope_record.specs.Envelope.{startNumbers, restNumbers, envelopeNumbers, sizesBy, payloadIn, messagesIn, headerBy, headerIn, writerNumber, placeNumbers};
+ghost use Rattle.envelope_record.specs.Envelope.{hasClass, classLow, classHigh, groupItems, groupWriter, groupVersion, groupNumber, groupSequence, headerCode, headerNumber, hasPromoted, promotedSize, sizesCode, sizesPlace, startNumbers, restNumbers, envelopeNumbers, sizesBy, payloadIn, messagesIn, headerBy, headerIn, writerNumber, placeNumbers};
 
 fn has_class(x: ClassId) -> u64
     ensures { λ r. ⌜ r ≡ hasClass x ⌝ }

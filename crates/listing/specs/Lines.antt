@@ -6,9 +6,9 @@ use lib.Dec.{eqb}
 use lib.ListN.{length, take, drop}
 use Rattle.wire.specs.Answer.{Answer, got, refused}
 use Rattle.wire.specs.declared.optional.Optional16.{Optional16}
-use Rattle.configured_writers.specs.Writers.{atMost, typesOf}
+use Rattle.config.specs.Writers.{atMost, typesOf}
 use Rattle.config.specs.declared.Config.{Config}
-use Rattle.config.specs.Config.{configOf}
+use Rattle.config_text.specs.Config.{configOf}
 use Rattle.network_message.specs.WriterId.{writerIdOf}
 use Rattle.network_message.specs.Payload.{Stepped, stepAt}
 use Rattle.network_message.specs.Envelope.{NetworkMessage, networkMessageAt}

@@ -1,5 +1,5 @@
 // The lines of a listing in their order, by a cursor that steps from one to the next.
-use configured_writers::types_of;
+use config::types_of;
 use dataset_fields::fields::Cursor;
 use dataset_fields::fields::Field;
 use dataset_fields::fields::FieldStep;

@@ -10,8 +10,8 @@ use borrow.Author.Tests.{le-leb, lt-ltb, le-ltb, ltb-false}
 use lib.Dec.{leb}
 use lib.ListN.{length, set, take, length-set, length-append, length-take}
 use lib.Seq.{sets}
-use Rattle.store.specs.Store.{Stored}
-use Rattle.store.proofs.Stores.{sets-append}
+use Rattle.wire_writer.specs.Store.{Stored}
+use Rattle.wire_writer.proofs.Stores.{sets-append}
 use Rattle.publisher_id.specs.declared.publisher.PublisherId.{PublisherId}
 use Rattle.listing_line.specs.Columns.{tabbed, Put}
 use Rattle.listing_line.specs.Line.{idTooLong, tooLong, lineText, lineRefusal, linePut, lineAfter}

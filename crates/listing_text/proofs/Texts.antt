@@ -9,10 +9,10 @@ use borrow.Author.Tests.{lt-ltb, le-ltb, le-leb, ltb-false}
 use lib.Dec.{ltb}
 use lib.ListN.{length, take, drop, length-append}
 use lib.Seq.{sets, take-at}
-use Rattle.store.specs.Store.{laid}
-use Rattle.store.proofs.Stores.{sets-append}
-use Rattle.writing.proofs.Putting.{front}
-use Rattle.writing.specs.declared.Written.{Written}
+use Rattle.wire_writer.specs.Store.{laid}
+use Rattle.wire_writer.proofs.Stores.{sets-append}
+use Rattle.wire_writer.proofs.Putting.{front}
+use Rattle.wire_writer.specs.declared.writing.Written.{Written}
 use Rattle.listing_line.specs.Line.{tooLong, lineText, lineRefusal, linePut, lineAfter}
 use Rattle.listing.specs.Lines.{Writers, linesFrom, stepLines, nextLine, startOf, listingOf}
 use Rattle.listing_line.specs.declared.line.Line.{Line}

@@ -7,7 +7,7 @@ use lib.ListN.{length}
 use lib.Seq.{sets}
 use Rattle.listing_line.specs.Line.{tooLong, lineText}
 use Rattle.listing_line.specs.declared.line.Line.{Line}
-use Rattle.writing.specs.declared.Written.{Written}
+use Rattle.wire_writer.specs.declared.writing.Written.{Written}
 use Rattle.listing_text.specs.declared.TextLength.{TextLength}
 
 -- a line's text; a line with a string id above 64 bytes, which no accepted datagram has, has none

@@ -3,7 +3,7 @@
 use Prim.Native.Nat.{ℕ}
 use mathlib.Core.Path.{_≡_, refl}
 use mathlib.Core.List.{List, [], _∷_}
-use Rattle.store.specs.Store.{laid}
+use Rattle.wire_writer.specs.Store.{laid}
 use Rattle.dataset_header.specs.Flags.{valid}
 use Rattle.dataset_fields.specs.declared.fields.Cursor.{Cursor}
 use Rattle.dataset_header.specs.declared.header.Header.{Header}

@@ -6,18 +6,17 @@ use dataset_header::flags::Kind;
 use dataset_header::header::Header;
 use records::numbers::number;
 use records::numbers::put_numbers;
-use store::unsigned64;
 use value::Shape;
 use wire::optional::Optional16;
 use wire::optional::Optional32;
 use wire::optional::OptionalI64;
+use wire_writer::store::unsigned64;
 ghost use mathlib.Core.Path.{_≡_};
 ghost use Prim.Native.Nat.{_≤_};
-ghost use Rattle.store.specs.Store.{laid};
+ghost use Rattle.wire_writer.specs.Store.{laid};
 ghost use Rattle.dataset_header.specs.Flags.{valid, notValid};
 ghost use Rattle.records.specs.Numbers.{numberBytes};
-ghost use Rattle.message_record.specs.Message.{has16, value16, has32, value32, hasI64, valueI64, encodingNumber, encodingIn, kindNumber, flagNumber};
-ghost use Rattle.message_record.specs.Message.{itemsNumber, headNumbers, cursorIn, shapeNumber, elementsNumber, fieldNumbers};
+ghost use Rattle.message_record.specs.Message.{has16, value16, has32, value32, hasI64, valueI64, encodingNumber, encodingIn, kindNumber, flagNumber, itemsNumber, headNumbers, cursorIn, shapeNumber, elementsNumber, fieldNumbers};
 
 pub fn has16(x: Optional16) -> u64
     ensures { λ r. ⌜ (r ≡ has16 x) × (r ≤ 1) ⌝ }

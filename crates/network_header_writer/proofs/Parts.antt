@@ -7,9 +7,9 @@ use native.Mathlib.Nat.{pow-suc}
 use native.Mathlib.Omega.{arith}
 use lib.Arith.{mod-mul}
 use Rattle.wire.specs.Number.{leBytes}
-use Rattle.store.specs.Store.{Stored}
-use Rattle.writing.specs.Writing.{Puts, orElse}
-use Rattle.writing.proofs.Putting.{puts}
+use Rattle.wire_writer.specs.Store.{Stored}
+use Rattle.wire_writer.specs.Writing.{Puts, orElse}
+use Rattle.wire_writer.proofs.Putting.{puts}
 
 -- the same bytes in other words
 pub puts-as : {b b′ entry exit : List ℕ} {at next : ℕ} → b ≡ b′ → Puts b entry at exit next → Puts b′ entry at exit next

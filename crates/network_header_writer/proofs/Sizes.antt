@@ -10,7 +10,7 @@ use Rattle.wire.specs.Number.{leBytes}
 use Rattle.network_header.specs.declared.flags.Flags.{Flags}
 use Rattle.network_header.specs.declared.group.GroupFields.{GroupFields}
 use Rattle.network_header.specs.declared.group.GroupHeader.{GroupHeader}
-use Rattle.writing.specs.Writing.{needed, byteBytes, optional16Bytes, optional32Bytes}
+use Rattle.wire_writer.specs.Writing.{needed, byteBytes, optional16Bytes, optional32Bytes}
 use Rattle.network_header_writer.specs.Flags.{extended2Of, extended1Of, byte0Of, flagBytes}
 use Rattle.network_header_writer.specs.Group.{groupFlagsOf, fieldsBytes, groupBytes}
 

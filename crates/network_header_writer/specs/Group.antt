@@ -7,7 +7,7 @@ use Rattle.wire.specs.declared.optional.Optional16.{Optional16}
 use Rattle.network_header.specs.declared.group.GroupFields.{GroupFields}
 use Rattle.network_header.specs.declared.group.GroupHeader.{GroupHeader}
 use Rattle.network_header.specs.Group.{numberRule}
-use Rattle.writing.specs.Writing.{num, on16, on32, optional16Bytes, optional32Bytes}
+use Rattle.wire_writer.specs.Writing.{num, on16, on32, optional16Bytes, optional32Bytes}
 
 abbrev pub groupOn : GroupHeader → Bool
 groupOn GroupHeader.Absent = false

@@ -7,15 +7,15 @@ use crate::publisher::kind_of;
 use crate::publisher::publisher_on;
 use network_header::flags::Flags;
 use network_message::envelope::Envelope;
-use writing::flag;
-use writing::is_on_i64;
-use writing::is_on16;
-use writing::put_byte;
-use writing::put8;
+use wire_writer::writing::flag;
+use wire_writer::writing::is_on_i64;
+use wire_writer::writing::is_on16;
+use wire_writer::writing::put_byte;
+use wire_writer::writing::put8;
 ghost use mathlib.Core.Path.{_≡_};
 ghost use Prim.Native.Nat.{_≤_};
 ghost use lib.ListN.{length};
-ghost use Rattle.writing.specs.Writing.{Puts, needed};
+ghost use Rattle.wire_writer.specs.Writing.{Puts, needed};
 ghost use Rattle.network_header_writer.specs.Flags.{extended2Of, extended1Of, byte0Of, flagBytes, flagsFor, timesRefusal};
 
 // Whether a flag byte is there, as the number of the bit that announces it.

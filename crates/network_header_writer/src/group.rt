@@ -3,17 +3,17 @@ use network_header::group::GroupFields;
 use network_header::group::GroupHeader;
 use wire::optional::Optional16;
 use wire::optional::Optional32;
-use writing::flag;
-use writing::is_on16;
-use writing::is_on32;
-use writing::put_optional16;
-use writing::put_optional32;
-use writing::put8;
+use wire_writer::writing::flag;
+use wire_writer::writing::is_on16;
+use wire_writer::writing::is_on32;
+use wire_writer::writing::put_optional16;
+use wire_writer::writing::put_optional32;
+use wire_writer::writing::put8;
 ghost use mathlib.Core.Path.{_≡_};
 ghost use Prim.Native.Nat.{_≤_};
 ghost use lib.ListN.{length};
 ghost use Rattle.network_header.specs.Group.{numberRule};
-ghost use Rattle.writing.specs.Writing.{Puts, optional16Bytes, optional32Bytes};
+ghost use Rattle.wire_writer.specs.Writing.{Puts, optional16Bytes, optional32Bytes};
 ghost use Rattle.network_header_writer.specs.Group.{groupOn, groupFlagsOf, fieldsBytes, groupBytes, numberRefusal, groupRefusal};
 
 pub(crate) fn group_on(x: GroupHeader) -> bool

@@ -5,19 +5,18 @@ use crate::publisher::not_used;
 use network_header::header::ClassId;
 use network_header::header::PayloadHeader;
 use network_header::header::Promoted;
-use writing::put_guid;
-use writing::put_run;
-use writing::put8;
-use writing::put16;
+use wire_writer::writing::put_guid;
+use wire_writer::writing::put_run;
+use wire_writer::writing::put8;
+use wire_writer::writing::put16;
 ghost use mathlib.Core.Path.{_≡_};
 ghost use mathlib.Core.Bool.{cond};
 ghost use Prim.Native.Nat.{_+_, _≤_};
 ghost use lib.Dec.{eqb, leb};
 ghost use lib.ListN.{length};
 ghost use Rattle.network_header.specs.Header.{countRule};
-ghost use Rattle.writing.specs.Writing.{Puts};
-ghost use Rattle.network_header_writer.specs.Header.{classOn, classBytes, payloadHeaderOn, payloadHeaderBytes, promotedOn, promotedBytes};
-ghost use Rattle.network_header_writer.specs.Header.{countRefusal, promotedRefusal, idsShape, promotedShape};
+ghost use Rattle.wire_writer.specs.Writing.{Puts};
+ghost use Rattle.network_header_writer.specs.Header.{classOn, classBytes, payloadHeaderOn, payloadHeaderBytes, promotedOn, promotedBytes, countRefusal, promotedRefusal, idsShape, promotedShape};
 
 pub(crate) fn class_on(x: ClassId) -> bool
     ensures { λ r. ⌜ r ≡ classOn x ⌝ }

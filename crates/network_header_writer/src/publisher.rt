@@ -1,10 +1,10 @@
 // The PublisherId.
 use publisher_id::publisher::PublisherId;
-use writing::put_run;
-use writing::put8;
-use writing::put16;
-use writing::put32;
-use writing::put64;
+use wire_writer::writing::put_run;
+use wire_writer::writing::put8;
+use wire_writer::writing::put16;
+use wire_writer::writing::put32;
+use wire_writer::writing::put64;
 ghost use mathlib.Core.Path.{_≡_};
 ghost use mathlib.Core.Bool.{cond};
 ghost use mathlib.Core.List.{_++_};
@@ -12,7 +12,7 @@ ghost use Prim.Native.Nat.{_+_, _≤_};
 ghost use lib.Dec.{leb, eqb};
 ghost use lib.ListN.{length};
 ghost use Rattle.wire.specs.Number.{leBytes};
-ghost use Rattle.writing.specs.Writing.{Puts};
+ghost use Rattle.wire_writer.specs.Writing.{Puts};
 ghost use Rattle.network_header_writer.specs.Publisher.{publisherOn, kindOf, publisherBytes, publisherRefusal, unused, publisherShape};
 
 pub(crate) fn publisher_on(p: PublisherId) -> bool

@@ -17,8 +17,8 @@ use Rattle.network_header.specs.declared.header.Promoted.{Promoted}
 use Rattle.network_message.specs.declared.envelope.Envelope.{Envelope}
 use Rattle.network_message.specs.declared.envelope.Places.{Places}
 use Rattle.network_message.specs.Envelope.{NetworkMessage, networkMessageAt}
-use Rattle.writing.specs.declared.Written.{Written}
-use Rattle.writing.proofs.Answering.{Answers}
+use Rattle.wire_writer.specs.declared.writing.Written.{Written}
+use Rattle.wire_writer.proofs.Answering.{Answers}
 use Rattle.network_message_writer.specs.Envelope.{headerBytes, before, textOf, idsOf, promotedOf, againOf}
 
 pub drop-short : (s : List ℕ) (at k : ℕ) → length s ≤ k → length (drop at s) ≤ k

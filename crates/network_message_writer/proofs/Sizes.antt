@@ -5,7 +5,7 @@ use mathlib.Core.List.{List, _++_}
 use Prim.Native.Nat.{ℕ, _+_}
 use lib.ListN.{length}
 use Rattle.network_message.specs.declared.envelope.Envelope.{Envelope}
-use Rattle.writing.specs.Writing.{optional16Bytes, optionalI64Bytes}
+use Rattle.wire_writer.specs.Writing.{optional16Bytes, optionalI64Bytes}
 use Rattle.network_header_writer.specs.Flags.{flagBytes, flagsFor}
 use Rattle.network_header_writer.specs.Publisher.{publisherBytes}
 use Rattle.network_header_writer.specs.Group.{groupBytes}

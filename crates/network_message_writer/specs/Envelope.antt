@@ -10,7 +10,7 @@ use Rattle.network_message.specs.declared.envelope.Envelope.{Envelope}
 use Rattle.network_message.specs.declared.envelope.Places.{Places}
 use Rattle.network_message.specs.Payload.{configuredSizes}
 use Rattle.network_message.specs.Envelope.{NetworkMessage, messagesOf}
-use Rattle.writing.specs.Writing.{orElse, on16, onI64, optional16Bytes, optionalI64Bytes, picosecondsRefusal, numberFor, bufferBy, answerBy}
+use Rattle.wire_writer.specs.Writing.{orElse, on16, onI64, optional16Bytes, optionalI64Bytes, picosecondsRefusal, numberFor, bufferBy, answerBy}
 use Rattle.network_header_writer.specs.Flags.{flagBytes, flagsFor, timesRefusal}
 use Rattle.network_header_writer.specs.Publisher.{publisherBytes, publisherRefusal, publisherShape}
 use Rattle.network_header_writer.specs.Group.{groupBytes, groupRefusal}

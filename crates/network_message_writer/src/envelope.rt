@@ -36,24 +36,23 @@ use publisher_id::publisher::PublisherId;
 use wire::optional::OptionalI64;
 use wire::part::part;
 use wire::part::tail;
-use writing::Written;
-use writing::is_on_i64;
-use writing::is_on16;
-use writing::or_else;
-use writing::picoseconds_refusal;
-use writing::put_optional_i64;
-use writing::put_optional16;
-use writing::put_run;
+use wire_writer::writing::Written;
+use wire_writer::writing::is_on_i64;
+use wire_writer::writing::is_on16;
+use wire_writer::writing::or_else;
+use wire_writer::writing::picoseconds_refusal;
+use wire_writer::writing::put_optional_i64;
+use wire_writer::writing::put_optional16;
+use wire_writer::writing::put_run;
 ghost use mathlib.Core.Path.{_≡_};
 ghost use mathlib.Core.List.{[], _++_};
 ghost use Prim.Native.Nat.{_≤_};
 ghost use lib.ListN.{length};
 ghost use Rattle.network_message.specs.Envelope.{networkMessageAt};
 ghost use Rattle.network_message.specs.Payload.{configuredSizes};
-ghost use Rattle.writing.specs.Writing.{Puts, numberFor, writtenBy, bufferBy, answerWritten, optionalI64Bytes};
+ghost use Rattle.wire_writer.specs.Writing.{Puts, numberFor, writtenBy, bufferBy, answerWritten, optionalI64Bytes};
 ghost use Rattle.network_message_writer.specs.Payload.{payloadRefusal};
-ghost use Rattle.network_message_writer.specs.Envelope.{given, tailBytes, headerBytes, datagramOf, headerRefusal, shapeRefusal, writtenOf, bufferAfter};
-ghost use Rattle.network_message_writer.specs.Envelope.{textOf, idsOf, promotedOf, againOf, rewriteAnswer, rewriteBuffer};
+ghost use Rattle.network_message_writer.specs.Envelope.{given, tailBytes, headerBytes, datagramOf, headerRefusal, shapeRefusal, writtenOf, bufferAfter, textOf, idsOf, promotedOf, againOf, rewriteAnswer, rewriteBuffer};
 
 fn timestamp_size(x: OptionalI64) -> usize
     ensures { λ r. ⌜ (r ≡ length (optionalI64Bytes x)) × (r ≤ 8) ⌝ }

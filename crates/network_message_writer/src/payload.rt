@@ -7,13 +7,13 @@ use network_header_writer::publisher::not_used;
 use network_message::payload::PayloadRead;
 use network_message::payload::read_payload;
 use network_message::payload::writers;
-use writing::put_run;
+use wire_writer::writing::put_run;
 ghost use mathlib.Core.Path.{_≡_};
 ghost use mathlib.Core.List.{_++_};
 ghost use Prim.Native.Nat.{_≤_};
 ghost use lib.ListN.{length};
 ghost use Rattle.network_message.specs.Payload.{payloadAt};
-ghost use Rattle.writing.specs.Writing.{Puts};
+ghost use Rattle.wire_writer.specs.Writing.{Puts};
 ghost use Rattle.network_message_writer.specs.Payload.{listBytes, numberIn, payloadRefusal, lengthsShape};
 
 // The number of reading these bytes as a payload.

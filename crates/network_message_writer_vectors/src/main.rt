@@ -24,7 +24,7 @@ use wire::optional::Optional32;
 use wire::optional::OptionalI64;
 use wire::part::part;
 use wire::part::tail;
-use writing::Written;
+use wire_writer::writing::Written;
 
 fn put(text: &[u8]) {
     io::write_all(STDOUT_FILENO, text);

@@ -12,9 +12,9 @@ use lib.ListN.{length, getD, take, drop, replicate, length-append}
 use lib.Seq.{take-at, drop-at}
 use Rattle.wire.specs.Number.{leBytes}
 use Rattle.wire.proofs.Numbers.{length-leBytes}
-use Rattle.store.specs.Store.{laid}
-use Rattle.writing.proofs.Putting.{front}
-use Rattle.writing.proofs.Trip.{At, first, second, item-is}
+use Rattle.wire_writer.specs.Store.{laid}
+use Rattle.wire_writer.proofs.Putting.{front}
+use Rattle.wire_writer.proofs.Trip.{At, first, second, item-is}
 use Rattle.network_message.specs.Payload.{valueOr0}
 use Rattle.publisher_id.specs.PublisherRecord.{codeOf}
 use Rattle.publisher_id.specs.declared.publisher.PublisherId.{PublisherId}

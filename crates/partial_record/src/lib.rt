@@ -8,10 +8,10 @@ use reassembly::Message;
 use reassembly::PartialRecord;
 use records::numbers::number;
 use records::numbers::put_numbers;
-use store::put_run;
 use wire::part::part;
+use wire_writer::store::put_run;
 ghost use mathlib.Core.Path.{_≡_};
-ghost use Rattle.store.specs.Store.{laid};
+ghost use Rattle.wire_writer.specs.Store.{laid};
 ghost use Rattle.partial_record.specs.Partial.{publisherIn, messageIn, partialIn, partialBytes};
 
 fn publisher_in(s: &[u8]) -> PublisherRecord

@@ -1,10 +1,9 @@
 // A PublisherId by value with the bytes of a string, for records that outlive the datagram, and its equality.
 use crate::publisher::PublisherId;
-use store::put_run;
 use wire::part::part;
+use wire_writer::store::put_run;
 ghost use mathlib.Core.Path.{_≡_};
-ghost use Rattle.publisher_id.specs.PublisherRecord.{codeOf, valueOf, lengthOf, publisherOf, publisherFits, sameText};
-ghost use Rattle.publisher_id.specs.PublisherRecord.{samePublisher, recordAt};
+ghost use Rattle.publisher_id.specs.PublisherRecord.{codeOf, valueOf, lengthOf, publisherOf, publisherFits, sameText, samePublisher, recordAt};
 
 // Of a string the first bytes of text are its content, as many as the id says.
 pub struct PublisherRecord {

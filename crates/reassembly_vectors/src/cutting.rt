@@ -6,9 +6,9 @@ use crate::small;
 use crate::take;
 use crate::text;
 use chunk::cut::cut;
-use store::put_run;
 use wire::part::part;
-use writing::Written;
+use wire_writer::store::put_run;
+use wire_writer::writing::Written;
 
 pub fn histories() {
     restored();

@@ -8,10 +8,10 @@ use reassembly::Message;
 use reassembly::Outcome;
 use reassembly::PartialRecord;
 use reassembly::Verdict;
-use store::put_run;
-use store::put16;
-use store::put32;
 use wire::part::part;
+use wire_writer::store::put_run;
+use wire_writer::store::put16;
+use wire_writer::store::put32;
 ghost use Prim.Native.Nat.{_≤_};
 
 mod combining;

@@ -10,8 +10,8 @@ use lib.Dec.{ltb}
 use lib.ListN.{length, take, drop}
 use Rattle.wire.specs.Number.{le}
 use Rattle.text.specs.Words.{contains, indexOf}
-use Rattle.configured_writers.specs.Writers.{fieldsOf}
-use Rattle.configured_writers.proofs.Asked.{place-contains}
+use Rattle.config.specs.Writers.{fieldsOf}
+use Rattle.config.proofs.Asked.{place-contains}
 use Rattle.network_message.specs.Payload.{listed}
 use Rattle.records.specs.Writers.{writersIn, sixteen, idsIn, startsIn, typesIn, typesFor}
 

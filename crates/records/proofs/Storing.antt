@@ -11,12 +11,12 @@ use lib.Dec.{leb}
 use lib.ListN.{length, getD, drop, set, length-append, drop-of-length-le}
 use lib.Seq.{sets, drop-cons, length-sets}
 use Rattle.wire.specs.Number.{le, leBytes}
-use Rattle.store.specs.Store.{laid}
+use Rattle.wire_writer.specs.Store.{laid}
 use Rattle.wire.proofs.Numbers.{length-leBytes}
-use Rattle.store.proofs.Stores.{sets-append}
+use Rattle.wire_writer.proofs.Stores.{sets-append}
 use Rattle.network_message.specs.Payload.{listed}
 use Rattle.config.specs.declared.Config.{Config}
-use Rattle.configured_writers.specs.Writers.{atMost}
+use Rattle.config.specs.Writers.{atMost}
 use Rattle.records.specs.Numbers.{bytesOf, numberBytes}
 use Rattle.records.specs.Writers.{configBytes}
 

@@ -5,8 +5,8 @@ use mathlib.Core.List.{List}
 use lib.Dec.{leb}
 use lib.ListN.{length}
 use Rattle.wire.specs.Answer.{Answer, got, refused}
-use Rattle.store.specs.Store.{laid}
-use Rattle.configured_writers.specs.Writers.{atMost}
+use Rattle.wire_writer.specs.Store.{laid}
+use Rattle.config.specs.Writers.{atMost}
 
 -- "its low byte is document 01's number, and what stands above it is the value or place (at most 2^56 - 1)"
 abbrev pub resultOf : ℕ → ℕ → ℕ

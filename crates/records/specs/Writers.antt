@@ -7,8 +7,8 @@ use lib.ListN.{length, take, drop, getD, replicate}
 use Rattle.wire.specs.Number.{leBytes}
 use Rattle.wire.specs.Answer.{Answer, got, refused}
 use Rattle.config.specs.declared.Config.{Config}
-use Rattle.config.specs.declared.ConfigRead.{ConfigRead}
-use Rattle.configured_writers.specs.Writers.{atMost, fieldsOfId}
+use Rattle.config_text.specs.declared.ConfigRead.{ConfigRead}
+use Rattle.config.specs.Writers.{atMost, fieldsOfId}
 use Rattle.network_message.specs.Payload.{listed}
 use Rattle.records.specs.Numbers.{bytesOf}
 use Rattle.records.specs.Result.{Filling}

@@ -4,7 +4,7 @@ ghost use mathlib.Core.Path.{_≡_};
 ghost use Prim.Native.Nat.{_+_, _*_, _≤_};
 ghost use lib.ListN.{length};
 ghost use lib.Seq.{sets};
-ghost use Rattle.store.specs.Store.{laid};
+ghost use Rattle.wire_writer.specs.Store.{laid};
 ghost use Rattle.records.specs.Numbers.{numberAt, numberBytes};
 
 // Number i of a record, 0 where it does not fit. The test keeps 8 * i in range; for a constant i it costs nothing.
@@ -27,7 +27,7 @@ fn store(out: &mut [u8], start: usize, numbers: &[u64])
     let mut i = 0;
     let mut at = start;
     while i < numbers.len() {
-        store::put64(out, at, numbers[i]);
+        wire_writer::store::put64(out, at, numbers[i]);
         at += 8;
         i += 1;
     }

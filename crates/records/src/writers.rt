@@ -1,18 +1,18 @@
 // The configuration record: its writers and fields as parts of the lent bytes.
 use config::Config;
-use configured_writers::writer_fields;
-use store::put_run;
-use store::put8;
-use store::put16;
+use config::writer_fields;
 use wire::part::part;
+use wire_writer::store::put_run;
+use wire_writer::store::put8;
+use wire_writer::store::put16;
 ghost use mathlib.Core.Path.{_≡_};
 ghost use Prim.Native.Nat.{_+_, _*_, _≤_};
 ghost use lib.ListN.{length};
 ghost use lib.Seq.{sets};
 ghost use Rattle.wire.specs.Number.{le};
-ghost use Rattle.store.specs.Store.{laid};
+ghost use Rattle.wire_writer.specs.Store.{laid};
 ghost use Rattle.text.specs.Words.{indexOf};
-ghost use Rattle.configured_writers.specs.Writers.{atMost};
+ghost use Rattle.config.specs.Writers.{atMost};
 ghost use Rattle.network_message.specs.Payload.{listed};
 ghost use Rattle.records.specs.Writers.{writersIn, fieldsIn, sixteen, startsIn, typesIn, typesFor, configBytes};
 ghost use Rattle.records.specs.Numbers.{bytesOf};

@@ -12,12 +12,12 @@ use mir.Syntax.{w8}
 use types.Run.{OneOf, miss}
 use denote.Enum.Declared.{tagOf}
 use Rattle.wire.specs.Answer.{Answer, got, refused}
-use Rattle.writing.specs.Fits.{Bytes}
-use Rattle.writing.specs.Writing.{answerWritten, answerBy, numberFor, writtenBy, bufferBy}
-use Rattle.writing.specs.declared.Written.{Written}
-use Rattle.store.specs.Store.{laid}
-use Rattle.writing.proofs.Putting.{front}
-use Rattle.writing.proofs.Answering.{Answers, reports}
+use Rattle.wire_writer.specs.Fits.{Bytes}
+use Rattle.wire_writer.specs.Writing.{answerWritten, answerBy, numberFor, writtenBy, bufferBy}
+use Rattle.wire_writer.specs.declared.writing.Written.{Written}
+use Rattle.wire_writer.specs.Store.{laid}
+use Rattle.wire_writer.proofs.Putting.{front}
+use Rattle.wire_writer.proofs.Answering.{Answers, reports}
 use Rattle.publisher_id.proofs.publisher.PublisherId as publisher
 use Rattle.publisher_id.specs.declared.publisher.PublisherId.{PublisherId}
 use Rattle.network_message.specs.Envelope.{NetworkMessage, networkMessageAt}

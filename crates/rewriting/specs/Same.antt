@@ -4,8 +4,8 @@ use mathlib.Core.Path.{_≡_}
 use mathlib.Core.List.{List}
 use lib.ListN.{length}
 use Rattle.wire.specs.Answer.{Answer, got, refused}
-use Rattle.writing.specs.Writing.{numberFor, writtenBy, bufferBy, answerWritten, answerBy}
-use Rattle.writing.specs.declared.Written.{Written}
+use Rattle.wire_writer.specs.Writing.{numberFor, writtenBy, bufferBy, answerWritten, answerBy}
+use Rattle.wire_writer.specs.declared.writing.Written.{Written}
 use Rattle.dataset_header.specs.Flags.{Valid, notValid, valid}
 use Rattle.dataset_message.specs.Message.{Message, messageAt}
 use Rattle.network_message.specs.Envelope.{NetworkMessage, networkMessageAt}

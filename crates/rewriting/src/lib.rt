@@ -3,10 +3,10 @@
 use dataset_message::message::MessageRead;
 use network_message::envelope::NetworkMessageRead;
 use publisher_id::publisher::PublisherId;
-use writing::Written;
+use wire_writer::writing::Written;
 ghost use mathlib.Core.Path.{_≡_};
 ghost use lib.ListN.{length};
-ghost use Rattle.writing.specs.Writing.{numberFor, writtenBy, bufferBy};
+ghost use Rattle.wire_writer.specs.Writing.{numberFor, writtenBy, bufferBy};
 ghost use Rattle.rewriting.specs.Same.{WritesSame, WritesDatagram};
 
 // All of a slice, from the start of a buffer.
@@ -20,7 +20,7 @@ fn copy_whole(out: &mut [u8], s: &[u8]) -> Written
     if out.len() < size {
         return Written::Refused(11);
     }
-    store::put_run(out, 0, s);
+    wire_writer::store::put_run(out, 0, s);
     Written::Is(size)
 }
 

@@ -13,9 +13,9 @@ use lib.Seq.{take-all}
 use Rattle.wire.specs.Answer.{got}
 use Rattle.wire.proofs.Facts.{and-left, and-right}
 use Rattle.value.specs.Value.{Measure}
-use Rattle.writing.specs.Writing.{orElse}
-use Rattle.writing.proofs.Trip.{At, first, second, item-is}
-use Rattle.writing.proofs.Refusals.{both-zero, passed}
+use Rattle.wire_writer.specs.Writing.{orElse}
+use Rattle.wire_writer.proofs.Trip.{At, first, second, item-is}
+use Rattle.wire_writer.proofs.Refusals.{both-zero, passed}
 use Rattle.dataset_header.specs.declared.flags.Encoding.{Encoding}
 use Rattle.dataset_header.specs.declared.flags.Kind.{Kind}
 use Rattle.dataset_header.specs.Flags.{valid, isDelta, isRaw}
@@ -24,18 +24,17 @@ use Rattle.dataset_fields.specs.Fields.{encodedAt, fieldAt, fieldsAt, paddingAt
 use Rattle.dataset_message.specs.Message.{countedAt, countAt, messageAt, fieldPlaceAt}
 use Rattle.dataset_message.proofs.Agreement.{field-inside}
 use Rattle.dataset_parts_writer.specs.Flags.{kindRule}
-use Rattle.dataset_parts_writer.specs.Header.{headerBytes}
+use Rattle.dataset_parts_writer.specs.Header.{headerBytes, FitsHeader}
 use Rattle.dataset_parts_writer.specs.Fields.{valuesOf, endsAt, fieldsRefusal, fieldsWhole, reached, fieldsBytes, zeros}
-use Rattle.writing.specs.declared.Written.{Written}
+use Rattle.wire_writer.specs.declared.writing.Written.{Written}
 use Rattle.dataset_message_writer.specs.Message.{Given, FitsGiven, writerNumber, Writes, hasFields, isKey, isFielded, isRawData, fieldsOf, countBytes, configuredRule, countAgrees, encode, refusalOf}
 use Rattle.dataset_parts_writer.proofs.Judging.{length-values}
 use Rattle.dataset_parts_writer.proofs.Laying.{length-zeros}
 use Rattle.dataset_message_writer.proofs.Whole.{Accepted, accepted}
 use Rattle.round_trip.specs.DataSetMessage.{firstOf, endOf, messageOf, FieldBack, MessageBack}
-use Rattle.dataset_parts_writer.specs.Header.{FitsHeader}
 use Rattle.round_trip.proofs.Reported.{reported}
 use Rattle.round_trip.proofs.DataSetMessageParts.{header-is, whole-alone, fields-is, nth-is, zeros-is}
-use Rattle.writing.specs.Fits.{Numbers}
+use Rattle.wire_writer.specs.Fits.{Numbers}
 
 pub no : {A : Type 0} → false ≡ true → A
 no e = let z : _≡_ {A = ℕ} 0 1 = cc in absurd (omega arith)

@@ -12,18 +12,18 @@ use Rattle.wire.specs.Number.{leBytes}
 use Rattle.wire.proofs.Table.{below}
 use Rattle.wire.proofs.Reading.{invert, got-value, got-next, not-got}
 use Rattle.wire.specs.Answer.{andThen, item, ruled, got, refused}
-use Rattle.writing.specs.Writing.{num, needed, byteBytes, on16, on32, onI64}
-use Rattle.writing.proofs.Bits.{num-bit, num-bound, needed-bound, flag-is}
-use Rattle.writing.proofs.Back.{Back, empty, join, end-fits, item-back, ruled-back}
-use Rattle.writing.proofs.Refusals.{passed}
-use Rattle.writing.proofs.Trip.{At, Reads, first, second, item-is, ruled-is}
+use Rattle.wire_writer.specs.Writing.{num, needed, byteBytes, on16, on32, onI64}
+use Rattle.wire_writer.proofs.Bits.{num-bit, num-bound, needed-bound, flag-is}
+use Rattle.wire_writer.proofs.Back.{Back, empty, join, end-fits, item-back, ruled-back}
+use Rattle.wire_writer.proofs.Refusals.{passed}
+use Rattle.wire_writer.proofs.Trip.{At, Reads, first, second, item-is, ruled-is}
 use Rattle.dataset_header.specs.declared.flags.Encoding.{Encoding}
 use Rattle.dataset_header.specs.declared.flags.Kind.{Kind}
 use Rattle.dataset_header.specs.declared.flags.Flags.{Flags}
 use Rattle.dataset_header.specs.declared.header.Header.{Header}
 use Rattle.dataset_header.specs.Flags.{Valid, notValid, valid, encodingOf, kindOf, flags1Rule, flags2Rule, flags2At, flagsOf, flagsAt}
 use Rattle.dataset_parts_writer.specs.Flags.{encodingNumber, kindNumber, flags1Of, flags2Of, flagBytes, kindRule}
-use Rattle.writing.specs.Fits.{Bytes}
+use Rattle.wire_writer.specs.Fits.{Bytes}
 
 -- the bytes as sums of their bits
 

@@ -12,9 +12,9 @@ use lib.ListN.{length, getD, length-append}
 use Rattle.wire.specs.Number.{leBytes}
 use Rattle.wire.specs.Answer.{Answer, got, andThen}
 use Rattle.wire.proofs.Reading.{invert, got-value, not-got}
-use Rattle.writing.specs.Writing.{orElse, picosecondsRefusal}
-use Rattle.writing.proofs.Trip.{At, first, second, item-is}
-use Rattle.writing.proofs.Refusals.{both-zero}
+use Rattle.wire_writer.specs.Writing.{orElse, picosecondsRefusal}
+use Rattle.wire_writer.proofs.Trip.{At, first, second, item-is}
+use Rattle.wire_writer.proofs.Refusals.{both-zero}
 use Rattle.dataset_header.specs.declared.flags.Encoding.{Encoding}
 use Rattle.dataset_header.specs.declared.flags.Kind.{Kind}
 use Rattle.dataset_header.specs.declared.header.Header.{Header}
@@ -24,14 +24,13 @@ use Rattle.dataset_header.specs.Header.{headerAt}
 use Rattle.dataset_fields.specs.Fields.{encodedAt, fieldAt, fieldsAt, paddingAt}
 use Rattle.dataset_message.specs.Message.{Message, countedAt, countAt, bodyAt, fieldBytes, nthAt}
 use Rattle.dataset_parts_writer.specs.Flags.{kindRule}
-use Rattle.dataset_parts_writer.specs.Header.{headerBytes}
+use Rattle.dataset_parts_writer.specs.Header.{headerBytes, FitsHeader}
 use Rattle.dataset_parts_writer.specs.Fields.{endsAt, fieldsWhole, fieldsBytes, zeros}
 use Rattle.dataset_message_writer.specs.Message.{Given, hasFields, isKey, isFielded, isRawData, fieldsOf, countBytes, countAgrees, bodyRefusal, bodyAgrees, readingRefusal, encode}
 use Rattle.dataset_parts_writer.proofs.Judging.{length-values}
 use Rattle.dataset_parts_writer.proofs.Laying.{length-zeros}
 use Rattle.dataset_message_writer.proofs.Whole.{count-bytes}
 use Rattle.round_trip.specs.DataSetMessage.{firstOf, endOf, messageOf, bytesOf, MessageBack}
-use Rattle.dataset_parts_writer.specs.Header.{FitsHeader}
 use Rattle.round_trip.proofs.DataSetMessageParts.{header-is, field-alone}
 use Rattle.round_trip.proofs.DataSetMessage.{no, reached-all, delta-plain}
 

@@ -12,12 +12,12 @@ use borrow.Author.Tests.{eqb-true, eq-eqb}
 use lib.ListN.{length, getD, take, drop, length-append}
 use lib.Seq.{getD-append-seam, getD-drop, take-at, drop-at, drop-cons, drop-length}
 use Rattle.round_trip.specs.DataSetMessage.{walked, bytesOf, joined, lengthsOf, indicesOf}
-use Rattle.dataset_parts_writer.specs.Header.{FitsHeader}
+use Rattle.dataset_parts_writer.specs.Header.{FitsHeader, timesBytes, versionsBytes, headerBytes}
 use Rattle.dataset_message.proofs.Agreement.{field-inside}
 use Rattle.dataset_header.specs.declared.header.Versions.{Versions}
 use Rattle.dataset_header.specs.declared.header.Times.{Times}
 use Rattle.dataset_header.specs.declared.flags.Flags.{Flags}
-use Rattle.writing.proofs.Back.{Back, empty, join, end-fits, part-at, item-back, ruled-back, map-back, optional16-back, optional32-back, optionalI64-back, ruled16-back}
+use Rattle.wire_writer.proofs.Back.{Back, empty, join, end-fits, part-at, item-back, ruled-back, map-back, optional16-back, optional32-back, optionalI64-back, ruled16-back}
 use Rattle.wire.proofs.Reading.{invert, got-value, got-next, not-got}
 use Rattle.wire.specs.declared.optional.Optional16.{Optional16}
 use Rattle.wire.specs.Optional.{optional16, optional32, optionalI64, picosecondsAt, picosecondsRule}
@@ -25,8 +25,8 @@ use Rattle.wire.specs.Answer.{Answer, got, refused, ruled}
 use Rattle.wire.proofs.Places.{placed, alone}
 use Rattle.wire.proofs.Facts.{and-left, and-right}
 use Rattle.value.specs.Value.{Measure}
-use Rattle.writing.specs.Writing.{optional16Bytes, optional32Bytes, optionalI64Bytes, picosecondsRefusal, byteBytes, on16, on32, onI64}
-use Rattle.writing.proofs.Trip.{At, Reads, first, second, item-is, optional16-is, optional32-is, optionalI64-is, picoseconds-is}
+use Rattle.wire_writer.specs.Writing.{optional16Bytes, optional32Bytes, optionalI64Bytes, picosecondsRefusal, byteBytes, on16, on32, onI64}
+use Rattle.wire_writer.proofs.Trip.{At, Reads, first, second, item-is, optional16-is, optional32-is, optionalI64-is, picoseconds-is}
 use Rattle.dataset_header.specs.declared.flags.Encoding.{Encoding}
 use Rattle.dataset_header.specs.declared.header.Header.{Header}
 use Rattle.dataset_fields.specs.declared.fields.Field.{Field}
@@ -34,11 +34,10 @@ use Rattle.dataset_header.specs.Flags.{valid, Valid, notValid, flagsAt}
 use Rattle.dataset_header.specs.Header.{timesAt, versionsAt, headerAt, headerOf, bodyAt, afterFlags}
 use Rattle.dataset_fields.specs.Fields.{encodedAt, indexAt, fieldAt, fieldsAt, zerosAt}
 use Rattle.dataset_parts_writer.specs.Flags.{flagBytes, kindRule}
-use Rattle.dataset_parts_writer.specs.Header.{timesBytes, versionsBytes, headerBytes}
 use Rattle.dataset_parts_writer.specs.Fields.{endsAt, fieldsWhole, indexBytes, fieldsBytes, zeros, total, valuesOf, numberOf, fieldsRefusal}
 use Rattle.dataset_parts_writer.proofs.Judging.{encoded-steady}
 use Rattle.round_trip.proofs.DataSetMessageFlags.{flagsFor, flags-is, FlagsBack, flags-back, flags-stand, kind-kept}
-use Rattle.writing.specs.Fits.{Bytes, Numbers}
+use Rattle.wire_writer.specs.Fits.{Bytes, Numbers}
 
 -- the header
 

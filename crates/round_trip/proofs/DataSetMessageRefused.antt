@@ -15,9 +15,9 @@ use Rattle.wire.specs.Answer.{Answer, got, refused}
 use Rattle.wire.proofs.Facts.{and-left, and-right}
 use Rattle.wire.proofs.Places.{after, append-refused, within-refused, movedBy}
 use Rattle.value.specs.Value.{Measure}
-use Rattle.writing.specs.Writing.{orElse, needed, byteBytes, optional16Bytes, optionalI64Bytes, picosecondsRefusal}
-use Rattle.writing.proofs.Trip.{At, first, second, item-is, optional16-is, optionalI64-is}
-use Rattle.writing.proofs.Refusals.{or-case, number-broken, picoseconds-refuses}
+use Rattle.wire_writer.specs.Writing.{orElse, needed, byteBytes, optional16Bytes, optionalI64Bytes, picosecondsRefusal}
+use Rattle.wire_writer.proofs.Trip.{At, first, second, item-is, optional16-is, optionalI64-is}
+use Rattle.wire_writer.proofs.Refusals.{or-case, number-broken, picoseconds-refuses}
 use Rattle.dataset_header.specs.declared.flags.Encoding.{Encoding}
 use Rattle.dataset_header.specs.declared.flags.Kind.{Kind}
 use Rattle.dataset_header.specs.declared.header.Header.{Header}
@@ -26,17 +26,16 @@ use Rattle.dataset_header.specs.Header.{timesAt, headerAt}
 use Rattle.dataset_fields.specs.Fields.{encodedAt, fieldsAt}
 use Rattle.dataset_message.specs.Message.{countAt, messageAt}
 use Rattle.dataset_parts_writer.specs.Flags.{kindNumber, flags1Of, flags2Of, flagBytes, kindRule}
-use Rattle.dataset_parts_writer.specs.Header.{timesBytes, versionsBytes, headerBytes}
+use Rattle.dataset_parts_writer.specs.Header.{timesBytes, versionsBytes, headerBytes, FitsHeader}
 use Rattle.dataset_parts_writer.specs.Fields.{fieldsRefusal, reached, indexBytes, fieldsBytes, zeros}
 use Rattle.dataset_message_writer.specs.Message.{Given, hasFields, isFielded, isRawData, fieldsOf, countBytes, configuredRule, bodyRefusal, readingRefusal, encode}
 use Rattle.dataset_parts_writer.proofs.Judging.{encoded-steady, length-values}
 use Rattle.dataset_parts_writer.proofs.Laying.{length-zeros}
 use Rattle.round_trip.specs.DataSetMessage.{plainly, Tellable, countOf}
-use Rattle.dataset_parts_writer.specs.Header.{FitsHeader}
 use Rattle.round_trip.proofs.DataSetMessageFlags.{flags1-bits, flags2-bits, encoding-rule, kind-rule-is, flagsFor, flags-is}
 use Rattle.round_trip.proofs.DataSetMessageParts.{header-is, field-is, index-is}
 use Rattle.round_trip.proofs.DataSetMessage.{no, counted-is, count-is, delta-plain}
-use Rattle.writing.specs.Fits.{Numbers}
+use Rattle.wire_writer.specs.Fits.{Numbers}
 
 -- a kind that breaks a rule has a Flags2
 some-kind : (k : Kind) (e : Encoding) → eqb (kindRule k e) 0 ≡ false → 1 ≤ kindNumber k

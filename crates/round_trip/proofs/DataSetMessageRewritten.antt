@@ -16,9 +16,9 @@ use Rattle.dataset_header.specs.declared.flags.Encoding.{Encoding}
 use Rattle.dataset_message_writer.specs.Rewrite.{again, againWritten, againBuffer, Rewrites}
 use Rattle.wire.specs.Answer.{got, Answer, andThen}
 use Rattle.wire.proofs.Reading.{invert, got-value, got-next, not-got}
-use Rattle.writing.specs.Writing.{writtenBy, bufferBy, numberFor}
-use Rattle.writing.specs.declared.Written.{Written}
-use Rattle.writing.proofs.Back.{Back, empty, rest-is, end-fits, item-back}
+use Rattle.wire_writer.specs.Writing.{writtenBy, bufferBy, numberFor}
+use Rattle.wire_writer.specs.declared.writing.Written.{Written}
+use Rattle.wire_writer.proofs.Back.{Back, empty, rest-is, end-fits, item-back}
 use Rattle.dataset_header.specs.declared.flags.Kind.{Kind}
 use Rattle.dataset_header.specs.declared.header.Header.{Header}
 use Rattle.dataset_header.specs.Flags.{Valid, notValid, valid, isDelta, isRaw}
@@ -31,7 +31,7 @@ use Rattle.dataset_message_writer.specs.Message.{Given, hasFields, isKey, isFie
 use Rattle.round_trip.specs.DataSetMessage.{fieldsIn, joined, lengthsOf, taken, andField, walked, Rewritten}
 use Rattle.round_trip.proofs.DataSetMessageParts.{HeaderBack, header-back, indicesFor, FieldsTaken, fields-back, zeros-back}
 use Rattle.round_trip.proofs.DataSetMessage.{no, reached-all, delta-plain}
-use Rattle.writing.specs.Fits.{Bytes}
+use Rattle.wire_writer.specs.Fits.{Bytes}
 
 -- FieldCount, or the configured number, as it was read
 

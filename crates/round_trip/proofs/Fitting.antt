@@ -29,7 +29,7 @@ use Rattle.network_header.specs.declared.group.GroupHeader.{GroupHeader}
 use Rattle.network_message.proofs.envelope.Envelope as envelope
 use Rattle.network_message.proofs.envelope.Envelope.Laws as envelopeLaws
 use Rattle.network_message.specs.declared.envelope.Envelope.{Envelope}
-use Rattle.writing.specs.Fits.{FitsGuid}
+use Rattle.wire_writer.specs.Fits.{FitsGuid}
 use Rattle.dataset_parts_writer.proofs.Fitting.{fits16, fits32, fitsI64}
 use Rattle.round_trip.specs.NetworkMessage.{FitsPublisher, FitsClass, FitsFields, FitsGroup, FitsPayloadHeader, FitsEnvelope}
 

@@ -24,9 +24,9 @@ use Rattle.network_header.specs.Flags.{flagsAt}
 use Rattle.network_header.specs.Header.{payloadHeaderAt}
 use Rattle.network_message.specs.Payload.{configuredSizes, restAt, listedAt, payloadAt}
 use Rattle.network_message.specs.Envelope.{Header, NetworkMessage, identityAt, timesAt, messagesOf, headerAt, bodyAt, networkMessageAt}
-use Rattle.writing.specs.Writing.{orElse, on16, onI64, picosecondsRefusal}
-use Rattle.writing.proofs.Trip.{At, le-at}
-use Rattle.writing.proofs.Back.{run-back, map-back}
+use Rattle.wire_writer.specs.Writing.{orElse, on16, onI64, picosecondsRefusal}
+use Rattle.wire_writer.proofs.Trip.{At, le-at}
+use Rattle.wire_writer.proofs.Back.{run-back, map-back}
 use Rattle.network_header_writer.specs.Flags.{timesRefusal}
 use Rattle.network_header_writer.specs.Publisher.{unused, publisherRefusal, publisherShape}
 use Rattle.network_header_writer.specs.Group.{groupRefusal}
@@ -38,7 +38,7 @@ use Rattle.round_trip.specs.NetworkMessage.{rewritten, AsManyLengths, nu
 use Rattle.round_trip.proofs.NetworkMessageKept.{flags-kept, publisher-kept, group-kept, picoseconds-kept, promoted-kept, HeaderKept, payload-header-kept}
 use Rattle.round_trip.proofs.NetworkMessageRefused.{payload-number}
 use Rattle.round_trip.proofs.NetworkMessageRewritten.{identity-of, times-of, header-same, flags-of, rewrite-read}
-use Rattle.writing.specs.Fits.{Bytes, Numbers}
+use Rattle.wire_writer.specs.Fits.{Bytes, Numbers}
 
 -- each element is a number of 2 bytes, as the ids and sizes of a configuration are
 numbers-take : (n : ℕ) (xs : List ℕ) → Numbers xs → Numbers (take n xs)

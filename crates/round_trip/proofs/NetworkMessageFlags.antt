@@ -12,9 +12,9 @@ use Rattle.wire.specs.Number.{leBytes}
 use Rattle.wire.specs.Answer.{ruled, pure, whenOn, got, bit}
 use Rattle.network_header.specs.declared.flags.Flags.{Flags}
 use Rattle.network_header.specs.Flags.{byte0Rule, extended1Rule, extended2Rule, flagsOf, flagsAt}
-use Rattle.writing.specs.Writing.{num, needed, byteBytes}
-use Rattle.writing.proofs.Trip.{Reads, first, second, nothing, rule-kept, item-is}
-use Rattle.writing.proofs.Bits.{num-bound, needed-bound, flag-is}
+use Rattle.wire_writer.specs.Writing.{num, needed, byteBytes}
+use Rattle.wire_writer.proofs.Trip.{Reads, first, second, nothing, rule-kept, item-is}
+use Rattle.wire_writer.proofs.Bits.{num-bound, needed-bound, flag-is}
 use Rattle.network_header_writer.specs.Flags.{extended2Of, extended1Of, byte0Of, flagBytes, timesRefusal}
 
 -- the bits of the three bytes

@@ -14,12 +14,12 @@ use Rattle.wire.proofs.Table.{below}
 use Rattle.wire.proofs.Reading.{got-value, got-next, invert}
 use Rattle.network_header.specs.declared.flags.Flags.{Flags}
 use Rattle.network_header.specs.Flags.{byte0Rule, extended1Rule, extended2Rule, flagsOf, flagsAt}
-use Rattle.writing.specs.Writing.{needed, byteBytes}
-use Rattle.writing.proofs.Refusals.{passed, held}
-use Rattle.writing.proofs.Bits.{num-bit}
-use Rattle.writing.proofs.Back.{Back, empty, join, end-fits, item-back, ruled-back, map-back}
+use Rattle.wire_writer.specs.Writing.{needed, byteBytes}
+use Rattle.wire_writer.proofs.Refusals.{passed, held}
+use Rattle.wire_writer.proofs.Bits.{num-bit}
+use Rattle.wire_writer.proofs.Back.{Back, empty, join, end-fits, item-back, ruled-back, map-back}
 use Rattle.network_header_writer.specs.Flags.{extended2Of, extended1Of, byte0Of, flagBytes}
-use Rattle.writing.specs.Fits.{Bytes}
+use Rattle.wire_writer.specs.Fits.{Bytes}
 
 -- a byte is the sum of its bits
 byte-sum : (b : ℕ) → b < 256 → b % 16 + (16 * (b / 16 % 2) + (32 * (b / 32 % 2) + (64 * (b / 64 % 2) + 128 * (b / 128)))) ≡ b

@@ -18,9 +18,9 @@ use Rattle.network_header.specs.declared.header.PayloadHeader.{PayloadHeader}
 use Rattle.network_header.specs.declared.header.Promoted.{Promoted}
 use Rattle.network_message.specs.declared.envelope.Envelope.{Envelope}
 use Rattle.network_message.specs.WriterId.{listedId, configuredId, writerIdOf}
-use Rattle.writing.specs.Writing.{optional16Bytes, optionalI64Bytes}
-use Rattle.writing.proofs.Trip.{At, first, second, fits-at}
-use Rattle.writing.proofs.Refusals.{passed, held}
+use Rattle.wire_writer.specs.Writing.{optional16Bytes, optionalI64Bytes}
+use Rattle.wire_writer.proofs.Trip.{At, first, second, fits-at}
+use Rattle.wire_writer.proofs.Refusals.{passed, held}
 use Rattle.network_header_writer.specs.Flags.{flagsFor, flagBytes}
 use Rattle.network_header_writer.specs.Publisher.{publisherBytes, unused, publisherShape}
 use Rattle.network_header_writer.specs.Group.{groupBytes}

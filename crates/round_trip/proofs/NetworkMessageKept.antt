@@ -24,16 +24,16 @@ use Rattle.network_header.specs.Flags.{byte0Rule, extended1Rule, extended2Rule,
 use Rattle.publisher_id.specs.Publisher.{stringOf, lengthThen, stringAt, publisherAt}
 use Rattle.network_header.specs.Group.{numberRule, numberAt, groupFlagsRule, groupFieldsAt, groupAt}
 use Rattle.network_header.specs.Header.{countRule, payloadHeaderAt, sizeRule, promotedAt}
-use Rattle.writing.specs.Writing.{picosecondsRefusal}
-use Rattle.writing.proofs.Refusals.{passed, no}
-use Rattle.writing.proofs.Back.{item-back, run-back, ruled-back, map-back}
+use Rattle.wire_writer.specs.Writing.{picosecondsRefusal}
+use Rattle.wire_writer.proofs.Refusals.{passed, no}
+use Rattle.wire_writer.proofs.Back.{item-back, run-back, ruled-back, map-back}
 use Rattle.network_header_writer.specs.Flags.{timesRefusal}
 use Rattle.network_header_writer.specs.Publisher.{publisherRefusal, publisherShape}
 use Rattle.network_header_writer.specs.Group.{numberRefusal, groupRefusal}
 use Rattle.network_header_writer.specs.Header.{promotedRefusal, promotedShape}
 use Rattle.network_message_writer.specs.Envelope.{before, textOf, promotedOf}
 use Rattle.round_trip.proofs.NetworkMessagePartsBack.{before-length}
-use Rattle.writing.specs.Fits.{Bytes}
+use Rattle.wire_writer.specs.Fits.{Bytes}
 
 -- the flags: PicoSeconds only with Timestamp
 

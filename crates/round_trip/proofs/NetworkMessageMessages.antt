@@ -17,7 +17,7 @@ use Rattle.network_message.specs.declared.payload.Sizes.{Sizes}
 use Rattle.network_message.specs.Payload.{total, positive, listed, configuredSizes, payloadOf, restAt, valueOr0}
 use Rattle.network_message.proofs.Messages.{Tiles}
 use Rattle.network_message.proofs.Accepted.{OfMessages}
-use Rattle.writing.proofs.Refusals.{held}
+use Rattle.wire_writer.proofs.Refusals.{held}
 use Rattle.network_header_writer.specs.Publisher.{unused}
 use Rattle.network_header_writer.specs.Numbers.{agree, sameNumbers, listedRefusal}
 use Rattle.network_message_writer.specs.Payload.{listBytes, numberIn, payloadRefusal, lengthsShape}

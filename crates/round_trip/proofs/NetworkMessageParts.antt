@@ -21,15 +21,15 @@ use Rattle.network_header.specs.declared.header.Promoted.{Promoted}
 use Rattle.publisher_id.specs.Publisher.{publisherAt}
 use Rattle.network_header.specs.Group.{numberRule, numberAt, groupFlagsRule, groupFieldsAt, groupAt}
 use Rattle.network_header.specs.Header.{classAt, countRule, payloadHeaderAt, sizeRule, promotedAt}
-use Rattle.writing.specs.Writing.{num, on16, on32, optional16Bytes, optional32Bytes}
-use Rattle.writing.proofs.Trip.{Reads, first, second, fits-at, last, nothing, rule-kept, run-is, le-at, item-is, ruled-is, guid-is, optional16-is, optional32-is}
-use Rattle.writing.proofs.Refusals.{passed, held}
-use Rattle.writing.proofs.Bits.{num-bound, flag-is}
+use Rattle.wire_writer.specs.Writing.{num, on16, on32, optional16Bytes, optional32Bytes}
+use Rattle.wire_writer.proofs.Trip.{Reads, first, second, fits-at, last, nothing, rule-kept, run-is, le-at, item-is, ruled-is, guid-is, optional16-is, optional32-is}
+use Rattle.wire_writer.proofs.Refusals.{passed, held}
+use Rattle.wire_writer.proofs.Bits.{num-bound, flag-is}
 use Rattle.network_header_writer.specs.Publisher.{publisherOn, kindOf, publisherBytes, publisherRefusal, publisherShape}
 use Rattle.network_header_writer.specs.Group.{groupOn, groupFlagsOf, fieldsBytes, groupBytes, numberRefusal, groupRefusal}
 use Rattle.network_header_writer.specs.Header.{classOn, classBytes, payloadHeaderOn, payloadHeaderBytes, promotedOn, promotedBytes, countRefusal, promotedRefusal, idsShape, promotedShape}
 use Rattle.network_message_writer.proofs.Short.{ids-counted}
-use Rattle.writing.specs.Fits.{Fits16}
+use Rattle.wire_writer.specs.Fits.{Fits16}
 use Rattle.round_trip.specs.NetworkMessage.{FitsClass, FitsFields, FitsGroup, FitsPayloadHeader, FitsPublisher}
 
 -- each number fits its type, as a value of the code does

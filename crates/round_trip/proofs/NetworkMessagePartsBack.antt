@@ -25,15 +25,15 @@ use Rattle.network_header.specs.declared.header.Promoted.{Promoted}
 use Rattle.publisher_id.specs.Publisher.{stringOf, lengthThen, stringAt, publisherOf, publisherAt}
 use Rattle.network_header.specs.Group.{numberRule, numberAt, groupFlagsRule, groupFieldsAt, groupAt}
 use Rattle.network_header.specs.Header.{classAt, countRule, payloadHeaderAt, sizeRule, promotedAt}
-use Rattle.writing.specs.Writing.{optional16Bytes, optional32Bytes}
-use Rattle.writing.proofs.Refusals.{passed}
-use Rattle.writing.proofs.Bits.{num-bit}
-use Rattle.writing.proofs.Back.{Back, empty, join, end-fits, run-part, item-back, run-back, ruled-back, map-back, guid-back, optional16-back, optional32-back, ruled16-back}
+use Rattle.wire_writer.specs.Writing.{optional16Bytes, optional32Bytes}
+use Rattle.wire_writer.proofs.Refusals.{passed}
+use Rattle.wire_writer.proofs.Bits.{num-bit}
+use Rattle.wire_writer.proofs.Back.{Back, empty, join, end-fits, run-part, item-back, run-back, ruled-back, map-back, guid-back, optional16-back, optional32-back, ruled16-back}
 use Rattle.network_header_writer.specs.Publisher.{publisherOn, kindOf, publisherBytes}
 use Rattle.network_header_writer.specs.Group.{groupOn, groupFlagsOf, fieldsBytes, groupBytes}
 use Rattle.network_header_writer.specs.Header.{classOn, classBytes, payloadHeaderOn, payloadHeaderBytes, promotedOn, promotedBytes}
 use Rattle.network_message_writer.specs.Envelope.{before, textOf, idsOf, promotedOf}
-use Rattle.writing.specs.Fits.{Bytes}
+use Rattle.wire_writer.specs.Fits.{Bytes}
 
 -- the n bytes before the end of a run are n
 pub before-length : (s : List ℕ) (at n next : ℕ) → next ≡ at + n → at + n ≤ length s → length (before s next n) ≡ n

@@ -25,10 +25,10 @@ use Rattle.network_header.specs.Group.{numberRule, numberAt, groupFlagsRule, gr
 use Rattle.network_header.specs.Header.{countRule, payloadHeaderAt, sizeRule, promotedAt}
 use Rattle.network_message.specs.Payload.{total, positive, listed, configuredSizes, payloadOf, restAt, listedAt, sizedAt, configuredAt, payloadAt}
 use Rattle.network_message.specs.Envelope.{messagesOf, networkMessageAt}
-use Rattle.writing.specs.Writing.{orElse, num, needed, byteBytes, on16, on32, onI64, optional16Bytes, optional32Bytes, optionalI64Bytes, picosecondsRefusal}
-use Rattle.writing.proofs.Trip.{At, first, second, fits-at, le-at, item-is, rule-kept, optional16-is, optional32-is, optionalI64-is, picoseconds-is}
-use Rattle.writing.proofs.Refusals.{passed, held, or-case, no, Refuses, broken, number-broken, picoseconds-refuses}
-use Rattle.writing.proofs.Bits.{num-bound, needed-bound, flag-is}
+use Rattle.wire_writer.specs.Writing.{orElse, num, needed, byteBytes, on16, on32, onI64, optional16Bytes, optional32Bytes, optionalI64Bytes, picosecondsRefusal}
+use Rattle.wire_writer.proofs.Trip.{At, first, second, fits-at, le-at, item-is, rule-kept, optional16-is, optional32-is, optionalI64-is, picoseconds-is}
+use Rattle.wire_writer.proofs.Refusals.{passed, held, or-case, no, Refuses, broken, number-broken, picoseconds-refuses}
+use Rattle.wire_writer.proofs.Bits.{num-bound, needed-bound, flag-is}
 use Rattle.network_header_writer.specs.Flags.{extended2Of, extended1Of, byte0Of, flagBytes, flagsFor, timesRefusal}
 use Rattle.network_header_writer.specs.Publisher.{publisherOn, kindOf, publisherBytes, publisherRefusal, publisherShape}
 use Rattle.network_header_writer.specs.Group.{groupOn, groupFlagsOf, fieldsBytes, groupBytes, numberRefusal, groupRefusal}
@@ -42,7 +42,7 @@ use Rattle.round_trip.proofs.NetworkMessageFlags.{byte-bits, extended-b
 use Rattle.round_trip.proofs.NetworkMessageParts.{bits, publisher-is, class-is, group-is, payload-header-is, promoted-is, eight-lengths}
 use Rattle.round_trip.proofs.NetworkMessagePayload.{listed-at-start}
 use Rattle.round_trip.proofs.NetworkMessageWritten.{kind-below}
-use Rattle.writing.specs.Fits.{Fits16}
+use Rattle.wire_writer.specs.Fits.{Fits16}
 
 -- two tests are equal where each follows from the other
 eqb-same : (a b c d : ℕ) → (a ≡ b → c ≡ d) → (c ≡ d → a ≡ b) → eqb a b ≡ eqb c d

@@ -29,10 +29,10 @@ use Rattle.network_header.specs.Group.{groupAt}
 use Rattle.network_header.specs.Header.{classAt, payloadHeaderAt, promotedAt}
 use Rattle.network_message.specs.Payload.{configuredSizes, payloadAt}
 use Rattle.network_message.specs.Envelope.{Header, NetworkMessage, identityAt, timesAt, messagesOf, headerAt, bodyAt, networkMessageAt}
-use Rattle.writing.specs.declared.Written.{Written}
-use Rattle.writing.specs.Writing.{needed, numberFor, answerBy, bufferBy, optional16Bytes, optionalI64Bytes}
-use Rattle.writing.proofs.Answering.{writes, reports}
-use Rattle.writing.proofs.Back.{Back, join, rest-is, end-fits, map-back, optionalI64-back, ruled16-back}
+use Rattle.wire_writer.specs.declared.writing.Written.{Written}
+use Rattle.wire_writer.specs.Writing.{needed, numberFor, answerBy, bufferBy, optional16Bytes, optionalI64Bytes}
+use Rattle.wire_writer.proofs.Answering.{writes, reports}
+use Rattle.wire_writer.proofs.Back.{Back, join, rest-is, end-fits, map-back, optionalI64-back, ruled16-back}
 use Rattle.network_header_writer.specs.Flags.{extended1Of, flagsFor, flagBytes}
 use Rattle.network_header_writer.specs.Publisher.{publisherOn, publisherBytes}
 use Rattle.network_header_writer.specs.Group.{groupBytes}
@@ -43,7 +43,7 @@ use Rattle.network_message_writer.proofs.Again.{accepted-short}
 use Rattle.round_trip.specs.NetworkMessage.{rewrittenFlags, rewrittenAs, rewritten}
 use Rattle.round_trip.proofs.NetworkMessageFlagsBack.{flags-back}
 use Rattle.round_trip.proofs.NetworkMessagePartsBack.{publisher-back, class-back, group-back, payload-header-back, promoted-back}
-use Rattle.writing.specs.Fits.{Bytes}
+use Rattle.wire_writer.specs.Fits.{Bytes}
 
 -- the header of a datagram with its parts taken as read
 abbrev pub headerOf : List ℕ → Envelope → Places → List ℕ

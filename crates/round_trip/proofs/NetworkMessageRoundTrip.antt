@@ -14,8 +14,8 @@ use Rattle.wire.specs.Answer.{got, refused}
 use Rattle.publisher_id.specs.declared.publisher.PublisherId.{PublisherId}
 use Rattle.network_message.specs.declared.envelope.Envelope.{Envelope}
 use Rattle.network_message.specs.Envelope.{NetworkMessage, networkMessageAt}
-use Rattle.writing.proofs.Refusals.{passed, both-zero}
-use Rattle.writing.specs.Writing.{orElse}
+use Rattle.wire_writer.proofs.Refusals.{passed, both-zero}
+use Rattle.wire_writer.specs.Writing.{orElse}
 use Rattle.network_header_writer.specs.Flags.{flagBytes, flagsFor}
 use Rattle.network_header_writer.specs.Publisher.{publisherBytes, publisherShape}
 use Rattle.network_header_writer.specs.Group.{groupBytes}
@@ -29,7 +29,7 @@ use Rattle.round_trip.proofs.NetworkMessageGiven.{text-written, promote
 use Rattle.round_trip.proofs.NetworkMessageRewritten.{rewrite-accepted, same-with-publisher}
 use Rattle.round_trip.proofs.NetworkMessageRefused.{refuse-written}
 use Rattle.round_trip.proofs.NetworkMessageAccepted.{write-read}
-use Rattle.writing.specs.Fits.{Bytes, Numbers}
+use Rattle.wire_writer.specs.Fits.{Bytes, Numbers}
 
 -- what the number 0 of writing says
 accepted : (g : Given) (x : Envelope) (sizes configured : List ℕ) (room : ℕ) → numberOf g x sizes configured room ≡ 0 → (refusalOf g x sizes configured ≡ 0) × (length (datagramOf g x) ≤ 65535)

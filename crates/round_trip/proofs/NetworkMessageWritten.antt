@@ -17,8 +17,8 @@ use Rattle.network_message.specs.Payload.{total, configuredSizes}
 use Rattle.network_message.specs.Envelope.{NetworkMessage, messagesOf, networkMessageAt, messagePlaceAt, messageBytes}
 use Rattle.network_message.proofs.Messages.{tile, tiled}
 use Rattle.network_message.proofs.Accepted.{OfMessages}
-use Rattle.writing.specs.Writing.{optional16Bytes, optionalI64Bytes}
-use Rattle.writing.proofs.Trip.{At, first, second, optionalI64-is, picoseconds-is}
+use Rattle.wire_writer.specs.Writing.{optional16Bytes, optionalI64Bytes}
+use Rattle.wire_writer.proofs.Trip.{At, first, second, optionalI64-is, picoseconds-is}
 use Rattle.network_header_writer.specs.Flags.{flagsFor, flagBytes}
 use Rattle.network_header_writer.specs.Publisher.{kindOf, publisherBytes}
 use Rattle.network_header_writer.specs.Group.{groupBytes}

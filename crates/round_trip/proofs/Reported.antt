@@ -10,8 +10,8 @@ use lib.Dec.{eqb}
 use borrow.Author.Tests.{eqb-true}
 use lib.ListN.{length, take, drop}
 use lib.Seq.{take-at, drop-at}
-use Rattle.writing.specs.declared.Written.{Written}
-use Rattle.writing.specs.Writing.{writtenBy, bufferBy}
+use Rattle.wire_writer.specs.declared.writing.Written.{Written}
+use Rattle.wire_writer.specs.Writing.{writtenBy, bufferBy}
 
 pub record Reported (k : ℕ) (bytes entry exit : List ℕ) (n : ℕ) : Type 0 where
   pub number : k ≡ 0

@@ -29,7 +29,7 @@ use Rattle.network_header_writer.specs.Publisher.{publisherOn, publisherBytes}
 use Rattle.network_header_writer.specs.Group.{groupBytes}
 use Rattle.network_header_writer.specs.Header.{classBytes, payloadHeaderBytes}
 use Rattle.network_message_writer.specs.Envelope.{Given, headerBytes, datagramOf, refusalOf, before, textOf, promotedOf, rewriteAnswer, rewriteBuffer}
-use Rattle.writing.specs.Fits.{Fits16, Fits32, FitsGuid, FitsI64}
+use Rattle.wire_writer.specs.Fits.{Fits16, Fits32, FitsGuid, FitsI64}
 
 -- where the variable parts of a written envelope end
 abbrev pub placesOf : Given → Envelope → Places

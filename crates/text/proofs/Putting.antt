@@ -10,9 +10,9 @@ use borrow.Author.Tests.{le-leb, lt-leb, leb-true, leb-false, eqb-false, eq-eqb,
 use lib.Dec.{leb, eqb}
 use lib.ListN.{length, drop, getD, set, length-append}
 use lib.Seq.{sets, set-comm}
-use Rattle.store.specs.Store.{Stored}
+use Rattle.wire_writer.specs.Store.{Stored}
 use Rattle.wire.proofs.Reading.{lacks, room}
-use Rattle.store.proofs.Stores.{sets-append}
+use Rattle.wire_writer.proofs.Stores.{sets-append}
 use Rattle.text.specs.Decimal.{decimalText}
 use Rattle.text.specs.Hex.{hexDigit, hexText, hexValue, allHex, hexBytes, hexNext, hexAfter}
 use Rattle.text.specs.declared.hex.Hex.the-variants.{To, Not}

@@ -5,7 +5,7 @@ use mathlib.Core.Option.{Option, none, some}
 use Prim.Native.Nat.{ℕ, _+_, _*_, _-_, _/_, _%_}
 use lib.Dec.{eqb, ltb}
 use lib.ListN.{length}
-use Rattle.store.specs.Store.{roomFor, laid}
+use Rattle.wire_writer.specs.Store.{roomFor, laid}
 use Rattle.text.specs.Decimal.{isDigit}
 use Rattle.text.specs.declared.hex.Hex.{Hex}
 use Rattle.text.specs.declared.hex.Hex.the-variants.{To, Not}

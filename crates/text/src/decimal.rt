@@ -3,7 +3,7 @@ ghost use mathlib.Core.Path.{_≡_};
 ghost use Prim.Native.Nat.{_+_, _≤_};
 ghost use lib.ListN.{length};
 ghost use lib.Seq.{sets};
-ghost use Rattle.store.specs.Store.{Stored};
+ghost use Rattle.wire_writer.specs.Store.{Stored};
 ghost use Rattle.text.specs.Decimal.{isDigit, digitsAt, decimalAt, decimalText};
 
 // A decimal's number and the position after the byte that ended it, or none.

@@ -5,7 +5,7 @@ ghost use Prim.Native.Nat.{_+_, _*_, _/_, _≤_};
 ghost use mathlib.Core.Bool.{true};
 ghost use lib.ListN.{length};
 ghost use lib.Seq.{sets};
-ghost use Rattle.store.specs.Store.{Stored};
+ghost use Rattle.wire_writer.specs.Store.{Stored};
 ghost use Rattle.text.specs.Hex.{hexDigit, hexText, hexValue, allHex, hexBytes, hexNext, hexAfter};
 
 // The position after the bytes that hex digits stood for, or that they are no hex.

@@ -1,7 +1,7 @@
 // Where a byte stands, how a text goes on at a position, and texts put as they are.
 ghost use mathlib.Core.Path.{_≡_};
 ghost use lib.ListN.{drop};
-ghost use Rattle.store.specs.Store.{Stored};
+ghost use Rattle.wire_writer.specs.Store.{Stored};
 ghost use Rattle.text.specs.Words.{indexOf, startsWith};
 
 // The place of the first byte `b`, or the length where there is none.
@@ -42,6 +42,6 @@ pub fn put_bytes(out: &mut [u8], at: usize, text: &[u8]) -> usize
     if !wire::has(out.len(), at, text.len()) {
         return at;
     }
-    store::put_run(out, at, text);
+    wire_writer::store::put_run(out, at, text);
     at + text.len()
 }

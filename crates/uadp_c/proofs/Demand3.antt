@@ -11,7 +11,7 @@ use lib.Dec.{leb}
 use lib.ListN.{length}
 use lib.Seq.{sets, length-sets}
 use Rattle.wire.specs.Number.{leBytes}
-use Rattle.store.specs.Store.{laid}
+use Rattle.wire_writer.specs.Store.{laid}
 use Rattle.reassembly.specs.Record.{Partial, partial, Good}
 use Rattle.reassembly.specs.Reading.{readingAt}
 use Rattle.reassembly.specs.Judge.{stateOf}

@@ -9,9 +9,9 @@ use borrow.Author.Tests.{le-leb, lt-leb, lt-ltb, le-ltb}
 use lib.Dec.{leb}
 use lib.ListN.{length}
 use Rattle.wire.specs.Answer.{Answer, got, refused}
-use Rattle.store.specs.Store.{laid}
-use Rattle.config.specs.declared.ConfigRead.{ConfigRead}
-use Rattle.config.specs.Config.{configOf}
+use Rattle.wire_writer.specs.Store.{laid}
+use Rattle.config_text.specs.declared.ConfigRead.{ConfigRead}
+use Rattle.config_text.specs.Config.{configOf}
 use Rattle.dataset_header.specs.Flags.{Valid}
 use Rattle.dataset_message.specs.Message.{Message, messageAt, fieldPlaceAt}
 use Rattle.dataset_fields.specs.declared.fields.Field.{Field}

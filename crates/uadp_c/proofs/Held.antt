@@ -7,9 +7,9 @@ use mathlib.Core.List.{List, [], _∷_}
 use borrow.Author.Tests.{lt-ltb, le-ltb}
 use lib.Dec.{eqb, ltb}
 use lib.ListN.{length, take}
-use Rattle.store.specs.Store.{laid}
+use Rattle.wire_writer.specs.Store.{laid}
 use Rattle.reassembly.specs.Record.{Partial, partial, sound, soundBy}
-use Rattle.reassembly.specs.Marks.{marksFor}
+use Rattle.reassembly.specs.Marks.{marksFor, inUse}
 use Rattle.reassembly.specs.Judge.{judgeCombine}
 use Rattle.reassembly.specs.Reading.{readingAt}
 use Rattle.reassembly.specs.Operations.{Step, stepOf, stepBy, takeIn, combine, askComplete, judgeHandOut, handOut}
@@ -24,7 +24,6 @@ use Rattle.records.specs.Numbers.{numberAt}
 use Rattle.records.specs.Result.{resultOf}
 use Rattle.records.specs.Writers.{writersIn, sixteen, sizesIn}
 use Rattle.partial_record.specs.Partial.{partialIn, partialBytes, FitsRecord}
-use Rattle.reassembly.specs.Marks.{inUse}
 use Rattle.uadp_c.proofs.KeptRecord.{KeptStep, step-reads}
 use native.Mathlib.Omega.{arith}
 use Rattle.uadp_c.specs.Reassembling.{Steps, partialOf, Lent, lent, verdictResult, takenOver, recordBy, stepIn, sourceOf, completeResult, completeIn, handResult, handIn}

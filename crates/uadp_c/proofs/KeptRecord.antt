@@ -8,7 +8,7 @@ use mathlib.Core.List.{List, [], _∷_}
 use native.Mathlib.Omega.{arith}
 use borrow.Author.Tests.{le-ltb, lt-ltb}
 use lib.ListN.{length}
-use Rattle.store.specs.Store.{laid}
+use Rattle.wire_writer.specs.Store.{laid}
 use Rattle.reassembly.specs.Views.{View}
 use Rattle.reassembly.specs.Marks.{Layout, inUse}
 use Rattle.reassembly.specs.Record.{Partial, partial, sound, soundBy}

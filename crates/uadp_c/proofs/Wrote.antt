@@ -6,8 +6,8 @@ use mathlib.Core.Bool.{Bool}
 use mathlib.Core.List.{List}
 use lib.ListN.{length, take}
 use Rattle.wire.specs.Answer.{Answer}
-use Rattle.writing.specs.Writing.{answerWritten}
-use Rattle.writing.specs.declared.Written.{Written}
+use Rattle.wire_writer.specs.Writing.{answerWritten}
+use Rattle.wire_writer.specs.declared.writing.Written.{Written}
 use Rattle.network_message.specs.Envelope.{networkMessageAt}
 use Rattle.dataset_message.specs.Message.{messageAt}
 use Rattle.rewriting.specs.Same.{sameWritten, sameBuffer, WritesSame, rewrittenAnswer, rewrittenBuffer, WritesDatagram}

@@ -1,6 +1,6 @@
 -- What cutting answers (include/uadp.h, `uadp_cut`).
 use Prim.Native.Nat.{ℕ}
-use Rattle.writing.specs.declared.Written.{Written}
+use Rattle.wire_writer.specs.declared.writing.Written.{Written}
 use Rattle.records.specs.Result.{resultOf}
 
 -- the number of bytes, or the refusal's number with place 0

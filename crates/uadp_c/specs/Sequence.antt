@@ -4,7 +4,7 @@ use mathlib.Core.Bool.{cond, not}
 use mathlib.Core.List.{List, [], _∷_}
 use lib.Dec.{eqb, ltb}
 use lib.ListN.{length}
-use Rattle.store.specs.Store.{laid}
+use Rattle.wire_writer.specs.Store.{laid}
 use Rattle.sequence.specs.Newness.{newnessBy}
 use Rattle.sequence.specs.declared.Newness.{Newness}
 use Rattle.sequence.specs.declared.LastSequenceNumber.{LastSequenceNumber}

@@ -1,6 +1,6 @@
 // Datagrams and messages written from parts.
 use crate::rewrites::written_result;
-use configured_writers::first;
+use config::first;
 use message_record::given::envelope_in;
 use message_record::given::header_in;
 use records::writers::sizes;

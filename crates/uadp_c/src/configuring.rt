@@ -1,9 +1,9 @@
 // Reading a configuration.
-use config::read_config;
+use config_text::read_config;
 use records::result::result;
 use records::writers::put_config;
 ghost use mathlib.Core.Path.{_≡_};
-ghost use Rattle.config.specs.Config.{configOf};
+ghost use Rattle.config_text.specs.Config.{configOf};
 ghost use Rattle.records.specs.Result.{resultIn, filledIn};
 ghost use Rattle.records.specs.Writers.{configFilling};
 

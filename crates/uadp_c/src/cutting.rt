@@ -1,7 +1,7 @@
 // Cutting a payload into chunks.
 use chunk::cut::cut;
 use records::result::result;
-use writing::Written;
+use wire_writer::writing::Written;
 ghost use mathlib.Core.Path.{_≡_};
 ghost use lib.ListN.{length};
 ghost use Rattle.chunk.specs.Cutting.{cutAnswer, cutBuffer};

@@ -10,7 +10,7 @@ use message_record::message::put_head;
 use message_record::message::put_no_head;
 use records::result::result;
 use records::writers::types_for;
-use store::put64;
+use wire_writer::store::put64;
 ghost use mathlib.Core.Path.{_≡_};
 ghost use Rattle.dataset_fields.specs.Fields.{stepAt};
 ghost use Rattle.dataset_message.specs.Message.{messageAt, fieldPlaceAt};

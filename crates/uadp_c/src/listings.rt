@@ -1,6 +1,6 @@
 // A datagram's listing.
 use crate::rewrites::written_result;
-use configured_writers::first;
+use config::first;
 use listing_text::put_listing;
 use records::writers::ids;
 use records::writers::sizes;
@@ -8,7 +8,7 @@ use records::writers::starts;
 use records::writers::types;
 use records::writers::writer_count;
 ghost use mathlib.Core.Path.{_≡_};
-ghost use Rattle.writing.specs.Writing.{answerWritten};
+ghost use Rattle.wire_writer.specs.Writing.{answerWritten};
 ghost use Rattle.listing_text.specs.Text.{textWritten, textAfter};
 ghost use Rattle.uadp_c.specs.Listings.{listingText};
 ghost use Rattle.uadp_c.specs.Writing.{writerResult};

@@ -1,5 +1,5 @@
 // Reading an envelope and its messages' places.
-use configured_writers::first;
+use config::first;
 use envelope_record::header_in;
 use envelope_record::messages_in;
 use envelope_record::payload_in;
@@ -14,8 +14,8 @@ use records::result::result;
 use records::writers::ids;
 use records::writers::sizes;
 use records::writers::writer_count;
-use store::put64;
 use wire::optional::Optional16;
+use wire_writer::store::put64;
 ghost use mathlib.Core.Path.{_≡_};
 ghost use Rattle.network_message.specs.Envelope.{networkMessageAt};
 ghost use Rattle.network_message.specs.Payload.{answerStep};

@@ -1,5 +1,5 @@
 // Reassembly: a partial is a lent record and two lent areas, payload and marks.
-use configured_writers::first;
+use config::first;
 use partial_record::partial_in;
 use partial_record::put_partial;
 use reassembly::Completeness;
@@ -13,7 +13,7 @@ use records::numbers::number;
 use records::result::result;
 use records::writers::sizes;
 use records::writers::writer_count;
-use store::put64;
+use wire_writer::store::put64;
 ghost use mathlib.Core.Path.{_≡_};
 ghost use Rattle.reassembly.specs.Operations.{askComplete, judgeHandOut};
 ghost use Rattle.records.specs.Result.{resultOf};

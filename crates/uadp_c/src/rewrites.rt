@@ -1,13 +1,13 @@
 // Datagrams and messages read and written again.
-use configured_writers::first;
+use config::first;
 use records::result::result;
 use records::writers::sizes;
 use records::writers::types_for;
 use records::writers::writer_count;
-use writing::Written;
+use wire_writer::writing::Written;
 ghost use mathlib.Core.Path.{_≡_};
 ghost use lib.ListN.{length};
-ghost use Rattle.writing.specs.Writing.{answerWritten};
+ghost use Rattle.wire_writer.specs.Writing.{answerWritten};
 ghost use Rattle.network_message.specs.Envelope.{networkMessageAt};
 ghost use Rattle.dataset_message.specs.Message.{messageAt};
 ghost use Rattle.rewriting.specs.Same.{sameWritten, sameBuffer, rewrittenAnswer, rewrittenBuffer};

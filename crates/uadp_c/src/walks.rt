@@ -1,5 +1,5 @@
 // A datagram walked in one call.
-use configured_writers::first;
+use config::first;
 use records::result::result;
 use records::writers::ids;
 use records::writers::sizes;

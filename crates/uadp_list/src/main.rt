@@ -1,8 +1,8 @@
 // The listing program: the configuration from `readers.txt`, a datagram from standard input, its listing to standard output. What is listed, and
 // how, is the library's (`listing`); a read error gets a message on standard error.
 use config::Config;
-use configured_writers::first;
-use configured_writers::writer_count;
+use config::first;
+use config::writer_count;
 use libc::ENOENT;
 use libc::STDIN_FILENO;
 use libc::STDOUT_FILENO;
@@ -105,7 +105,7 @@ fn main() {
     if loaded.rest < 0 {
         return;
     }
-    let read = config::read_config(part(&text, 0, loaded.count));
+    let read = config_text::read_config(part(&text, 0, loaded.count));
     let c = read.config;
     if read.number != 0 {
         list(&[], read.number, read.place, c);

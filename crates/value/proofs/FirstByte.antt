@@ -6,8 +6,8 @@ use Prim.Native.Nat.{ℕ, _+_, _<_}
 use native.Mathlib.Omega.{arith}
 use lib.Dec.{T, eqb, eqb→eq}
 use Rattle.wire.proofs.Table.{below, and-left, and-right}
-use Rattle.value_items.specs.Width.{widthOf}
-use Rattle.value_items.specs.Plain.{plain}
+use Rattle.plain_value.specs.Width.{widthOf}
+use Rattle.plain_value.specs.Plain.{plain}
 use Rattle.value.specs.Value.{typeOf, isArray, taken, variantRule}
 use Rattle.value.proofs.FirstItems.{yes, no}
 

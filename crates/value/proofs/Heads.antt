@@ -11,13 +11,13 @@ use Rattle.wire.specs.Answer.{Answer, got, refused, Reader, andThen, _>>=_, ite
 use Rattle.wire.specs.Items.{answer8, answerReached}
 use Rattle.wire.specs.declared.Item8.{Item8}
 use Rattle.wire.specs.declared.Reached.{Reached}
-use Rattle.value_items.specs.Plain.{passing, plain}
+use Rattle.plain_value.specs.Plain.{passing, plain}
 use Rattle.value.specs.Value.{Measure, measure, variantRule, maskRule, scalar, elements, arrayOf, variantOf, dataValueOf, valueOf, tooDeep, valueAt}
-use Rattle.value_items.specs.Parts.{parts}
+use Rattle.plain_value.specs.Parts.{parts}
 use Rattle.value.specs.Head.{ended, finish}
 use Rattle.value.specs.declared.Shape.{Shape}
 use Rattle.value.specs.declared.head.Head.{Head}
-use Rattle.value_items.proofs.PartLaws.{then-none}
+use Rattle.plain_value.proofs.PartLaws.{then-none}
 
 pub or3 : (a b c : Bool) → (a || (b || (c || false))) ≡ ((a || b) || c)
 or3 true b c = refl

@@ -11,15 +11,15 @@ use lib.ListN.{length, getD}
 use Rattle.wire.specs.Answer.{Answer, got, refused, andThen}
 use Rattle.wire.specs.Items.{lengthItem}
 use Rattle.wire.specs.declared.Length.{Length}
-use Rattle.value_items.specs.Width.{among, widthOf, fixed}
-use Rattle.value_items.specs.Plain.{passing, bytes, string, plain, plainValue, plainValues, afterLength}
+use Rattle.plain_value.specs.Width.{among, widthOf, fixed}
+use Rattle.plain_value.specs.Plain.{passing, bytes, string, plain, plainValue, plainValues, afterLength}
 use Rattle.value.specs.Value.{Measure, measure, taken, variantRule, scalar, elements, arrayOf, array, valueAt, variantAt}
 use Rattle.value.specs.Head.{unitOf, units}
 use Rattle.value.specs.declared.Shape.{Shape}
 use Rattle.value.proofs.Heads.{pass-found}
 use Rattle.value.proofs.FirstByte.{array-first}
 use Rattle.value.proofs.FirstItems.{fixed-first}
-use Rattle.value_items.proofs.Widths.{past}
+use Rattle.plain_value.proofs.Widths.{past}
 
 -- a null
 pub null-variant : (s : List ℕ) (at : ℕ) → at < length s → getD s at 0 ≡ 0 → passing variantAt s at ≡ got tt (at + 1)

@@ -12,9 +12,9 @@ use borrow.Author.Tests.{leb-true, leb-false}
 use Rattle.wire.specs.Number.{le}
 use Rattle.wire.specs.Answer.{got, refused, Reader, _>>=_, ruled, bit}
 use Rattle.wire.specs.declared.Length.{Length}
-use Rattle.value_items.specs.Width.{widthOf, fixed}
-use Rattle.value_items.specs.Parts.{parts}
-use Rattle.value_items.specs.Plain.{passing, bytes, afterLength, byLength, string, plain, plainValue, plainValues}
+use Rattle.plain_value.specs.Width.{widthOf, fixed}
+use Rattle.plain_value.specs.Parts.{parts}
+use Rattle.plain_value.specs.Plain.{passing, bytes, afterLength, byLength, string, plain, plainValue, plainValues}
 use Rattle.value.specs.Value.{Measure, measure, typeOf, isArray, variantRule, scalar, elements, array, variantOf, maskRule, dataValueOf, tooDeep, valueAt, rawAt}
 use Rattle.value.specs.declared.Shape.{Shape}
 use Rattle.wire.proofs.Places.{movedBy, end-of, within-refused, local, append, append-refused, take-refused, cut, after, placed, alone}

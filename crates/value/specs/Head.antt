@@ -8,9 +8,9 @@ use Rattle.wire.specs.Answer.{Answer, got, refused, Reader, andThen, _>>_, pure
 use Rattle.wire.specs.Items.{lengthItem}
 use Rattle.wire.specs.declared.Length.{Length}
 use Rattle.wire.specs.declared.Reached.{Reached}
-use Rattle.value_items.specs.Width.{widthOf}
-use Rattle.value_items.specs.Plain.{bytes, byLength}
-use Rattle.value_items.specs.Parts.{parts}
+use Rattle.plain_value.specs.Width.{widthOf}
+use Rattle.plain_value.specs.Plain.{bytes, byLength}
+use Rattle.plain_value.specs.Parts.{parts}
 use Rattle.value.specs.Value.{Measure, measure, typeOf, isArray}
 use Rattle.value.specs.declared.Shape.{Shape}
 use Rattle.value.specs.declared.head.Head.{Head}

@@ -4,9 +4,9 @@ use mathlib.Core.List.{[], _∷_}
 use mathlib.Core.Bool.{Bool, cond, not, _&&_, _||_}
 use lib.Dec.{eqb}
 use Rattle.wire.specs.Answer.{Answer, got, refused, Reader, andThen, _>>=_, _>>_, pure, refuse, item, ruled, whenOn, each, bit}
-use Rattle.value_items.specs.Width.{among, widthOf, fixed}
-use Rattle.value_items.specs.Plain.{passing, bytes, byLength, plain, plainValue, plainValues}
-use Rattle.value_items.specs.Parts.{parts}
+use Rattle.plain_value.specs.Width.{among, widthOf, fixed}
+use Rattle.plain_value.specs.Plain.{passing, bytes, byLength, plain, plainValue, plainValues}
+use Rattle.plain_value.specs.Parts.{parts}
 use Rattle.value.specs.declared.Shape.{Shape}
 use Rattle.value.specs.declared.Measured.{Measured}
 

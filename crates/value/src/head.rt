@@ -1,9 +1,9 @@
 // What a value's own items say, before any value inside it is passed over.
-use value_items::plain::bytes_at;
-use value_items::plain::is_plain;
-use value_items::plain::plain_value;
-use value_items::plain::strings_at;
-use value_items::width::packed_width;
+use plain_value::plain::bytes_at;
+use plain_value::plain::is_plain;
+use plain_value::plain::plain_value;
+use plain_value::plain::strings_at;
+use plain_value::width::packed_width;
 use wire::Item8;
 use wire::ItemLength;
 use wire::Reached;
@@ -14,7 +14,7 @@ ghost use mathlib.Core.List.{List};
 ghost use Prim.Native.Nat.{ℕ, _+_, _<_};
 ghost use Rattle.wire.specs.Answer.{Reader};
 ghost use Rattle.wire.specs.Items.{answerReached};
-ghost use Rattle.value_items.specs.Plain.{passing, plainValues};
+ghost use Rattle.plain_value.specs.Plain.{passing, plainValues};
 ghost use Rattle.value.specs.Value.{Measure, taken, variantRule, maskRule, scalar, arrayOf, array, variantOf, dataValueOf, valueOf};
 ghost use Rattle.value.specs.Head.{ended, finish, judged};
 

@@ -3,8 +3,8 @@ mod head;
 
 use head::Head;
 use head::head_at;
-use value_items::parts::parts_at;
-use value_items::width::packed_width;
+use plain_value::parts::parts_at;
+use plain_value::width::packed_width;
 use wire::Item8;
 use wire::ItemLength;
 use wire::Reached;
@@ -16,7 +16,7 @@ ghost use mathlib.Core.Path.{_≡_};
 ghost use Prim.Native.Nat.{_≤_, _<_};
 ghost use Rattle.wire.specs.Answer.{got, each};
 ghost use Rattle.wire.specs.Items.{answerReached};
-ghost use Rattle.value_items.specs.Plain.{passing, bytes};
+ghost use Rattle.plain_value.specs.Plain.{passing, bytes};
 ghost use Rattle.value.specs.Value.{answerMeasured, tooDeep, valueAt, variantAt, dataValueAt, rawAt};
 ghost use Rattle.value.specs.Head.{fixedEnd, unitOf, units, arrayAt, describedAt};
 

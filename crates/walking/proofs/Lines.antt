@@ -11,7 +11,7 @@ use lib.ListN.{length, drop, length-append, length-take}
 use Rattle.wire.specs.Answer.{Answer, got, refused}
 use Rattle.wire.proofs.Reading.{got-value, got-next, not-got, invert}
 use Rattle.wire.specs.declared.optional.Optional16.{Optional16}
-use Rattle.configured_writers.specs.Writers.{typesOf}
+use Rattle.config.specs.Writers.{typesOf}
 use Rattle.network_message.specs.Payload.{Stepped as MessageStepped, stepAt as messageStepAt, sizeOf, messageAt}
 use Rattle.network_message.specs.declared.payload.Payload.{Payload}
 use Rattle.network_message.specs.declared.payload.MessagePlace.{MessagePlace}

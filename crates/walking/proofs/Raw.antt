@@ -10,7 +10,7 @@ use lib.Dec.{leb}
 use lib.ListN.{length, getD, List·getD-eq-default}
 use Rattle.wire.specs.Answer.{got}
 use Rattle.wire.proofs.Reading.{not-got, invert}
-use Rattle.value_items.specs.Width.{widthOf, fixed}
+use Rattle.plain_value.specs.Width.{widthOf, fixed}
 use Rattle.value.specs.declared.Shape.{Shape}
 use Rattle.dataset_header.specs.Flags.{isRaw}
 use Rattle.dataset_header.specs.declared.flags.Encoding.{Encoding}

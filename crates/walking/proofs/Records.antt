@@ -8,7 +8,7 @@ use native.Mathlib.Omega.{arith}
 use borrow.Author.Tests.{le-leb, lt-leb}
 use lib.ListN.{length, take, drop, length-append, length-take, length-drop, drop-of-length-le}
 use lib.Seq.{sets, sets-eq, drop-drop, length-take-le}
-use Rattle.store.specs.Store.{laid}
+use Rattle.wire_writer.specs.Store.{laid}
 use Rattle.wire.specs.Answer.{Answer, got, refused}
 use Rattle.wire.specs.declared.optional.Optional16.{Optional16}
 use Rattle.network_message.specs.declared.payload.MessagePlace.{MessagePlace}

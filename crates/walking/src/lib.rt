@@ -1,5 +1,5 @@
 // A datagram walked in one call: a record of 8 numbers for each of its messages and fields.
-use configured_writers::types_of;
+use config::types_of;
 use dataset_fields::fields::Cursor;
 use dataset_fields::fields::Field;
 use dataset_fields::fields::FieldRead;
@@ -19,9 +19,9 @@ use network_message::payload::MessagePlace;
 use network_message::payload::MessageStep;
 use network_message::payload::Payload;
 use network_message::writer_id::writer_id;
+use plain_value::width::packed_width;
 use records::numbers::put_numbers;
 use value::Shape;
-use value_items::width::packed_width;
 use wire::optional::Optional16;
 use wire::part::part;
 ghost use mathlib.Core.Path.{_≡_};
@@ -29,7 +29,7 @@ ghost use mathlib.Core.Bool.{true, false};
 ghost use mathlib.Core.List.{[], _∷_};
 ghost use Prim.Native.Nat.{_+_, _*_, _≤_};
 ghost use lib.ListN.{length};
-ghost use Rattle.store.specs.Store.{laid};
+ghost use Rattle.wire_writer.specs.Store.{laid};
 ghost use Rattle.wire.specs.Answer.{got};
 ghost use Rattle.dataset_header.specs.Flags.{isRaw};
 ghost use Rattle.dataset_fields.specs.Fields.{fieldAt, answerField};

@@ -1,7 +1,7 @@
 -- `rewriting::copy_whole` meets its contract.
 -- Assumes nothing.
 use Rattle.rewriting.proofs.Copied.{at-start}
-use Rattle.writing.proofs.Answering.{too-long, no-room, writes}
+use Rattle.wire_writer.proofs.Answering.{too-long, no-room, writes}
 use lib.ListN.{length}
 use denote.Ref.{now}
 use mathlib.Core.Path.{refl, _∙_}

@@ -10,14 +10,14 @@ use Rattle.wire.proofs.Reading.{told}
 use Rattle.wire.proofs.Each.{each-done}
 use Rattle.value.specs.Value.{valueAt}
 use Rattle.value.proofs.Heads.{no-level, by-head, inside-refused, inside-ends}
-use Rattle.value_items.proofs.Passing.{pass-step, pass-stop}
+use Rattle.plain_value.proofs.Passing.{pass-step, pass-stop}
 use borrow.Fn.Kinds.{In}
 use borrow.Fn.PlainCycle.{Measures, is, falls, and}
 use Rattle.value.proofs.pass_value.Reads as pass-value
 use Rattle.value.proofs.pass_value.Kinds as pass-value-kinds
 use Rattle.value.proofs.+pass_value.Lts-pass_value as pass-value-lts
 use Rattle.value.proofs.head.head_at.Reads as head-at-reads
-use Rattle.value_items.proofs.parts.parts_at.Reads as parts-at-reads
+use Rattle.plain_value.proofs.parts.parts_at.Reads as parts-at-reads
 use Rattle.value.proofs.too_deep.Reads as too-deep-reads
 use Rattle.value.proofs.+pass_value.{statement}
 use Rattle.value.proofs.+pass_value.Tie.{close}

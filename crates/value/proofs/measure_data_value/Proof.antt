@@ -6,7 +6,7 @@ use borrow.Author.Needs.{needs}
 use Rattle.wire.specs.Items.{answerReached}
 use Rattle.wire.proofs.Reading.{told}
 use Rattle.value.specs.Value.{dataValueAt}
-use Rattle.value_items.proofs.Passing.{unpassed}
+use Rattle.plain_value.proofs.Passing.{unpassed}
 use Rattle.value.proofs.FirstItems.{data-value-is}
 use Rattle.value.proofs.measure_data_value.Statement.{statement}
 use Rattle.value.proofs.measure_data_value.Tie as tie

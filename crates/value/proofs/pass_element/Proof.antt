@@ -1,6 +1,6 @@
 -- `value::pass_element` meets its contract.
 -- Assumes nothing.
-use Rattle.value_items.proofs.Widths.{positive}
+use Rattle.plain_value.proofs.Widths.{positive}
 use borrow.Author.Tests.{lt-ltb, le-leb, lt-leb}
 use native.Mathlib.Omega.{arith}
 use denote.Ref.{now}

@@ -7,7 +7,7 @@ use Rattle.wire.specs.Items.{answerReached}
 use Rattle.wire.proofs.Each.{each-done}
 use Rattle.wire.proofs.Reading.{told}
 use Rattle.value.specs.Value.{variantAt}
-use Rattle.value_items.proofs.Passing.{pass-step, pass-stop}
+use Rattle.plain_value.proofs.Passing.{pass-step, pass-stop}
 use Rattle.value.proofs.pass_variants.Statement.{statement}
 use Rattle.value.proofs.pass_variants.Tie as tie
 

@@ -1,6 +1,6 @@
 -- `value::plain_end` meets its contract.
 -- Assumes nothing.
-use Rattle.value_items.proofs.Widths.{positive}
+use Rattle.plain_value.proofs.Widths.{positive}
 use Rattle.value.proofs.Runs.{null-variant, units-variant}
 use Rattle.value.proofs.FirstItems.{fixed-variant}
 use Rattle.value.specs.Head.{units}

@@ -8,7 +8,7 @@ use denote.Ref.{now}
 use borrow.Author.Needs.{needs}
 use Rattle.wire.specs.Items.{answerReached}
 use Rattle.wire.proofs.Reading.{told}
-use Rattle.value_items.specs.Plain.{passing}
+use Rattle.plain_value.specs.Plain.{passing}
 use Rattle.value.specs.Value.{rawAt}
 use Rattle.dataset_fields.specs.Fields.{fieldsAt}
 use Rattle.dataset_header.specs.declared.flags.Encoding.{Encoding}

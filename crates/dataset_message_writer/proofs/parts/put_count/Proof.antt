@@ -4,7 +4,7 @@ use denote.Ref.{now}
 use native.Mathlib.Omega.{arith}
 use borrow.Author.Needs.{needs}
 use Rattle.dataset_message_writer.proofs.Whole.{count-bytes}
-use Rattle.writing.proofs.Putting.{puts, nothing}
+use Rattle.wire_writer.proofs.Putting.{puts, nothing}
 use Rattle.dataset_message_writer.proofs.parts.put_count.Statement.{statement}
 use Rattle.dataset_message_writer.proofs.parts.put_count.Tie as tie
 

@@ -3,7 +3,7 @@
 use denote.Ref.{now}
 use borrow.Author.Needs.{needs}
 use Rattle.dataset_message_writer.proofs.Whole.{again-parts}
-use Rattle.writing.proofs.Putting.{puts}
+use Rattle.wire_writer.proofs.Putting.{puts}
 use Rattle.dataset_message_writer.proofs.rewrite.put_again.Statement.{statement}
 use Rattle.dataset_message_writer.proofs.rewrite.put_again.Tie as tie
 

@@ -10,8 +10,8 @@ use mathlib.Core.Bool.{true}
 use mathlib.Core.Path.{_≡_, refl, sym, subst}
 use Rattle.dataset_parts_writer.proofs.Laying.{delta-step, delta-done}
 use Rattle.dataset_parts_writer.specs.Fields.{valuesOf, fieldsBytes}
-use Rattle.writing.proofs.Putting.{puts, then, nothing}
-use Rattle.writing.specs.Writing.{Puts}
+use Rattle.wire_writer.proofs.Putting.{puts, then, nothing}
+use Rattle.wire_writer.specs.Writing.{Puts}
 use Rattle.dataset_parts_writer.proofs.fields.put_delta.Statement.{statement}
 use Rattle.dataset_parts_writer.proofs.fields.put_delta.Tie as tie
 

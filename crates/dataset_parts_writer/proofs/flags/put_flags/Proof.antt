@@ -1,7 +1,7 @@
 -- `dataset_parts_writer::flags::put_flags` meets its contract.
 -- Assumes nothing.
 use borrow.Author.Needs.{needs}
-use Rattle.writing.proofs.Putting.{puts, then}
+use Rattle.wire_writer.proofs.Putting.{puts, then}
 use Rattle.dataset_parts_writer.proofs.flags.put_flags.Statement.{statement}
 use Rattle.dataset_parts_writer.proofs.flags.put_flags.Tie as tie
 

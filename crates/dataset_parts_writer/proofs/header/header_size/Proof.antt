@@ -4,7 +4,7 @@ use native.Mathlib.Omega.{arith}
 use mathlib.Core.Path.{_∙_, ap, sym}
 use borrow.Author.Needs.{needs}
 use Rattle.dataset_parts_writer.proofs.Laying.{header-length}
-use Rattle.writing.specs.Writing.{needed, optional16Bytes, optional32Bytes, optionalI64Bytes}
+use Rattle.wire_writer.specs.Writing.{needed, optional16Bytes, optional32Bytes, optionalI64Bytes}
 use Rattle.dataset_parts_writer.proofs.header.header_size.Statement.{statement}
 use Rattle.dataset_parts_writer.proofs.header.header_size.Tie as tie
 

@@ -1,7 +1,7 @@
 -- `dataset_parts_writer::header::put_header` meets its contract.
 -- Assumes nothing.
 use borrow.Author.Needs.{needs}
-use Rattle.writing.proofs.Putting.{then}
+use Rattle.wire_writer.proofs.Putting.{then}
 use Rattle.dataset_parts_writer.proofs.header.put_header.Statement.{statement}
 use Rattle.dataset_parts_writer.proofs.header.put_header.Tie as tie
 

@@ -1,7 +1,7 @@
 -- `dataset_parts_writer::header::put_versions` meets its contract.
 -- Assumes nothing.
 use borrow.Author.Needs.{needs}
-use Rattle.writing.proofs.Putting.{puts, then}
+use Rattle.wire_writer.proofs.Putting.{puts, then}
 use Rattle.dataset_parts_writer.proofs.header.put_versions.Statement.{statement}
 use Rattle.dataset_parts_writer.proofs.header.put_versions.Tie as tie
 

@@ -1,7 +1,7 @@
 -- `network_header_writer::flags::flags_length` meets its contract.
 -- Assumes nothing.
 use Rattle.network_header_writer.proofs.Sizes.{flags-sized}
-use Rattle.writing.specs.Writing.{needed}
+use Rattle.wire_writer.specs.Writing.{needed}
 use native.Mathlib.Omega.{arith}
 use mathlib.Core.Path.{ap, _∙_}
 use borrow.Author.Needs.{needs}

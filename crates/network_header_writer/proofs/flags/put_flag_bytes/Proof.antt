@@ -1,8 +1,8 @@
 -- `network_header_writer::flags::put_flag_bytes` meets its contract.
 -- Assumes nothing.
 use Rattle.network_header_writer.proofs.Parts.{puts-as}
-use Rattle.writing.proofs.Putting.{puts, then}
-use Rattle.writing.specs.Writing.{byteBytes}
+use Rattle.wire_writer.proofs.Putting.{puts, then}
+use Rattle.wire_writer.specs.Writing.{byteBytes}
 use Rattle.wire.specs.Number.{leBytes}
 use mathlib.Core.Path.{ap}
 use borrow.Author.Needs.{needs}

@@ -1,6 +1,6 @@
 -- `network_header_writer::group::put_fields` meets its contract.
 -- Assumes nothing.
-use Rattle.writing.proofs.Putting.{puts, then}
+use Rattle.wire_writer.proofs.Putting.{puts, then}
 use borrow.Author.Needs.{needs}
 use Rattle.network_header_writer.proofs.group.put_fields.Statement.{statement}
 use Rattle.network_header_writer.proofs.group.put_fields.Tie as tie

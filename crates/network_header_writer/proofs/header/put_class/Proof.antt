@@ -1,6 +1,6 @@
 -- `network_header_writer::header::put_class` meets its contract.
 -- Assumes nothing.
-use Rattle.writing.proofs.Putting.{puts, nothing}
+use Rattle.wire_writer.proofs.Putting.{puts, nothing}
 use denote.Ref.{now}
 use borrow.Author.Needs.{needs}
 use Rattle.network_header_writer.proofs.header.put_class.Statement.{statement}

@@ -1,6 +1,6 @@
 -- `network_header_writer::header::put_payload_header` meets its contract.
 -- Assumes nothing.
-use Rattle.writing.proofs.Putting.{puts, then, nothing}
+use Rattle.wire_writer.proofs.Putting.{puts, then, nothing}
 use denote.Ref.{now}
 use borrow.Author.Needs.{needs}
 use Rattle.network_header_writer.proofs.header.put_payload_header.Statement.{statement}

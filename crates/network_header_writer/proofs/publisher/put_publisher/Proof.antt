@@ -1,6 +1,6 @@
 -- `network_header_writer::publisher::put_publisher` meets its contract.
 -- Assumes nothing.
-use Rattle.writing.proofs.Putting.{puts, nothing}
+use Rattle.wire_writer.proofs.Putting.{puts, nothing}
 use denote.Ref.{now}
 use borrow.Author.Needs.{needs}
 use Rattle.network_header_writer.proofs.publisher.put_publisher.Statement.{statement}

@@ -1,7 +1,7 @@
 -- `network_header_writer::publisher::put_text` meets its contract.
 -- Assumes nothing.
 use Rattle.network_header_writer.proofs.Parts.{low32-puts}
-use Rattle.writing.proofs.Putting.{puts, then}
+use Rattle.wire_writer.proofs.Putting.{puts, then}
 use lib.ListN.{length}
 use denote.Ref.{now}
 use borrow.Author.Needs.{needs}

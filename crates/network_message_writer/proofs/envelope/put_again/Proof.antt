@@ -2,8 +2,8 @@
 -- Assumes nothing.
 use Rattle.network_message_writer.proofs.Sizes.{payload-sized}
 use Rattle.network_message_writer.specs.Envelope.{headerBytes}
-use Rattle.writing.proofs.Answering.{too-long, no-room, writes}
-use Rattle.writing.proofs.Putting.{puts, then, whole}
+use Rattle.wire_writer.proofs.Answering.{too-long, no-room, writes}
+use Rattle.wire_writer.proofs.Putting.{puts, then, whole}
 use lib.ListN.{length}
 use native.Mathlib.Omega.{arith}
 use Prim.Native.Nat.{_+_, _≤_}

@@ -1,6 +1,6 @@
 -- `network_message_writer::envelope::put_datagram` meets its contract.
 -- Assumes nothing.
-use Rattle.writing.proofs.Putting.{then}
+use Rattle.wire_writer.proofs.Putting.{then}
 use borrow.Author.Needs.{needs}
 use Rattle.network_message_writer.proofs.envelope.put_datagram.Statement.{statement}
 use Rattle.network_message_writer.proofs.envelope.put_datagram.Tie as tie

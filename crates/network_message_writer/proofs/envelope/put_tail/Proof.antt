@@ -1,6 +1,6 @@
 -- `network_message_writer::envelope::put_tail` meets its contract.
 -- Assumes nothing.
-use Rattle.writing.proofs.Putting.{puts, then}
+use Rattle.wire_writer.proofs.Putting.{puts, then}
 use borrow.Author.Needs.{needs}
 use Rattle.network_message_writer.proofs.envelope.put_tail.Statement.{statement}
 use Rattle.network_message_writer.proofs.envelope.put_tail.Tie as tie

@@ -1,6 +1,6 @@
 -- `network_message_writer::envelope::rewrite` meets its contract.
 -- Assumes nothing.
-use Rattle.writing.proofs.Answering.{reports}
+use Rattle.wire_writer.proofs.Answering.{reports}
 use Rattle.network_message_writer.specs.Envelope.{againOf}
 use Rattle.network_message_writer.proofs.Again.{accepted-short}
 use Rattle.network_message.specs.Envelope.{answerNetworkMessage}

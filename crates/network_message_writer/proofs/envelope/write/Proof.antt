@@ -3,8 +3,8 @@
 use Rattle.network_message_writer.proofs.Short.{all-short}
 use Rattle.network_header_writer.proofs.Parts.{or-as}
 use Rattle.network_message_writer.specs.Envelope.{given, datagramOf, refusalOf}
-use Rattle.writing.proofs.Answering.{refuses, too-long, no-room, writes, reports}
-use Rattle.writing.proofs.Putting.{whole}
+use Rattle.wire_writer.proofs.Answering.{refuses, too-long, no-room, writes, reports}
+use Rattle.wire_writer.proofs.Putting.{whole}
 use lib.ListN.{length}
 use native.Mathlib.Omega.{arith}
 use Prim.Native.Nat.{_≤_}

@@ -1,6 +1,6 @@
 -- `network_message_writer::payload::put_list` meets its contract.
 -- Assumes nothing.
-use Rattle.writing.proofs.Putting.{puts, nothing}
+use Rattle.wire_writer.proofs.Putting.{puts, nothing}
 use borrow.Author.Tests.{le-leb, lt-leb}
 use denote.Ref.{now}
 use borrow.Author.Needs.{needs}

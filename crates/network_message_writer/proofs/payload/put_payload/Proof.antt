@@ -1,6 +1,6 @@
 -- `network_message_writer::payload::put_payload` meets its contract.
 -- Assumes nothing.
-use Rattle.writing.proofs.Putting.{puts, then}
+use Rattle.wire_writer.proofs.Putting.{puts, then}
 use borrow.Author.Needs.{needs}
 use Rattle.network_message_writer.proofs.payload.put_payload.Statement.{statement}
 use Rattle.network_message_writer.proofs.payload.put_payload.Tie as tie

@@ -6,7 +6,7 @@ use denote.Ref.{now}
 use lib.ListN.{take, drop, replicate}
 use borrow.Author.Needs.{needs}
 use Rattle.publisher_id.proofs.Equality.{record-is}
-use Rattle.store.specs.Store.{laid}
+use Rattle.wire_writer.specs.Store.{laid}
 use Rattle.publisher_id.proofs.publisher_record.publisher_record.Statement.{statement}
 use Rattle.publisher_id.proofs.publisher_record.publisher_record.Tie as tie
 

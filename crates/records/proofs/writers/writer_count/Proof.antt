@@ -1,5 +1,5 @@
 use Prim.Native.Nat.{ℕ}
-use Rattle.configured_writers.specs.Writers.{atMost}
+use Rattle.config.specs.Writers.{atMost}
 use mathlib.Core.Path.{refl, ap, _∙_}
 use lib.ListN.{length}
 use denote.Ref.{now}

@@ -1,9 +1,9 @@
 -- `value::head::data_value_head` meets its contract.
 -- Assumes nothing.
 use Rattle.wire.specs.Answer.{whenOn, bit}
-use Rattle.value_items.specs.Plain.{passing}
+use Rattle.plain_value.specs.Plain.{passing}
 use Rattle.value.specs.Value.{measure}
-use Rattle.value_items.specs.Parts.{parts}
+use Rattle.plain_value.specs.Parts.{parts}
 use Rattle.value.specs.declared.Shape.{Shape}
 use Rattle.value.proofs.Heads.{lowest-each, pass-after}
 use borrow.Author.Needs.{needs}

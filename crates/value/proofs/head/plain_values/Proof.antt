@@ -2,7 +2,7 @@
 -- Assumes nothing.
 use native.Mathlib.Nat.{mul-le-mul-left}
 use native.Mathlib.Omega.{arith}
-use Rattle.value_items.specs.Plain.{plainValues}
+use Rattle.plain_value.specs.Plain.{plainValues}
 use lib.Dec.{ltb}
 use borrow.Author.Tests.{lt-ltb, le-ltb}
 use mathlib.Core.Path.{sym, ap, _∙_}

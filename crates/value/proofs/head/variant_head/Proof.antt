@@ -3,7 +3,7 @@
 use Rattle.value.proofs.FirstByte.{no-array-but-dimensions, dimensions}
 use Rattle.value.specs.Head.{finish, judged}
 use Rattle.value.specs.Value.{variantRule, variantOf}
-use Rattle.value_items.specs.Plain.{passing}
+use Rattle.plain_value.specs.Plain.{passing}
 use native.Mathlib.Omega.{arith}
 use denote.Ref.{now}
 use Prim.Native.Nat.{ℕ, _+_, _-_}

@@ -1,0 +1,44 @@
+-- `config_text::line::read_writer` meets its contract: what was read of the id and of the size.
+-- Assumes nothing.
+use mathlib.Core.Path.{sym, _∙_}
+use native.Mathlib.Omega.{arith}
+use borrow.Author.Needs.{needs}
+use Rattle.config_text.proofs.Lines.{writer-none, id-within, size-limit, writer-no-size, writer-is}
+use Rattle.config_text.proofs.line.read_writer.Statement.{statement}
+use Rattle.config_text.proofs.line.read_writer.Tie as tie
+
+returns : tie.Need-returns
+returns c =
+    writer-none (c .before .before .before .before .args .s .now) (c .before .before .before .before .args .at) (sym (c .before .before .read-decimal .ensures) ∙ c .enum-told .given .1)
+
+returns-2 : tie.Need-returns-2
+returns-2 c =
+    writer-no-size (c .before .before .before .before .before .before .before .before .args .s .now) (c .before .before .before .before .before .before .before .before .args .at) _ _ (sym (c .before .before .before .before .before .before .read-decimal .ensures) ∙ c .before .before .before .before .first .given .1) (sym (c .before .before .read-size .ensures) ∙ c .enum-told2 .given .1)
+
+cast-t9 : tie.Need-cast-t9
+cast-t9 c =
+    omega (arith, id-within (c .before .before .before .before .before .before .before .before .before .args .s .now) (c .before .before .before .before .before .before .before .before .before .args .at) (c .before .before .before .before .before .first .given .0 .0) (c .before .before .before .before .before .first .given .0 .1 .0) (sym (c .before .before .before .before .before .before .before .read-decimal .ensures) ∙ c .before .before .before .before .before .first .given .1))
+
+cast-t10 : tie.Need-cast-t10
+cast-t10 c =
+    omega (arith, size-limit (c .before .before .before .before .before .before .before .before .before .args .s .now) (c .before .before .before .before .before .before .before .before .before .args .at) (c .before .before .before .before .before .first .given .0 .0) (c .before .before .before .before .before .first .given .0 .1 .0) (sym (c .before .before .before .before .before .before .before .read-decimal .ensures) ∙ c .before .before .before .before .before .first .given .1) (c .before .second .given .0 .0) (c .before .second .given .0 .1 .0) (sym (c .before .before .before .read-size .ensures) ∙ c .before .second .given .1))
+
+returns-3 : tie.Need-returns-3
+returns-3 c =
+    writer-is (c .before .before .before .before .before .before .before .before .before .args .s .now) (c .before .before .before .before .before .before .before .before .before .args .at) _ _ (sym (c .before .before .before .before .before .before .before .read-decimal .ensures) ∙ c .before .before .before .before .before .first .given .1) _ _ (sym (c .before .before .before .read-size .ensures) ∙ c .before .second .given .1)
+
+pub read-writer-spec : {M : Type 1} → statement M
+read-writer-spec =
+    tie.close
+    (tie.spec
+    (λ c κs. search needs)
+    (λ c. search needs)
+    (λ c. search needs)
+    returns
+    (λ c κs. search needs)
+    (λ c. search needs)
+    (λ c. search needs)
+    returns-2
+    cast-t9
+    cast-t10
+    returns-3)

@@ -1,0 +1,87 @@
+-- The rule of the widths, in an array and in one number: at all of its entries, and past them.
+-- Assumes nothing.
+use mathlib.Core.Path.{_≡_, refl, sym}
+use mathlib.Core.Bool.{Bool, true, false, _&&_, _||_, Bool·beq, and-false}
+use mathlib.Core.List.{List, [], _∷_}
+use Prim.Native.Nat.{ℕ, zero, suc, _*_, _/_, _%_, _^_, _<_, _≤_}
+use native.Mathlib.Omega.{arith}
+use borrow.Author.Tests.{ne-eqb, lt-leb, leb-true, leb-false}
+use lib.ListN.{length, getD}
+use lib.Dec.{T, eqb, leb, ltb, eqb→eq, leb→le, ltb→lt}
+use Rattle.plain_value.specs.Width.{among, widthOf}
+use Rattle.plain_value.specs.Plain.{plain}
+use Rattle.wire.proofs.Table.{every, at, allBelow, below, and-left, and-right}
+
+-- an entry x at the place k is the width of type k, and at most 16
+unfoldable pub right : ℕ → ℕ → Bool
+right k x = eqb x (widthOf k) && leb x 16
+
+right-at : (k x : ℕ) → T (right k x) → (x ≡ widthOf k) × (x ≤ 16)
+unfolding right
+right-at k x p = (eqb→eq x (widthOf k) (and-left (eqb x (widthOf k)) (leb x 16) p), leb→le x 16 (and-right (eqb x (widthOf k)) (leb x 16) p))
+
+pub entry : (xs : List ℕ) → T (every right 0 xs) → (t : ℕ) → t < length xs → (getD xs t 0 ≡ widthOf t) × (getD xs t 0 ≤ 16)
+entry xs r t h = right-at t (getD xs t 0) (at right xs r t h)
+
+-- the same of the widths in one number n, three bits each, as the code computes them
+abbrev packed : ℕ → ℕ → ℕ
+packed n t = 1 * 2 ^ (n / 2 ^ (3 * t) % 8) % 18446744073709551616 / 2
+
+unfoldable pub rightly : ℕ → ℕ → Bool
+rightly n t = right t (packed n t)
+
+pub packed-entry : (n : ℕ) → T (allBelow (rightly n) 20) → (t : ℕ) → t < 20 → (packed n t ≡ widthOf t) × (packed n t ≤ 16)
+unfolding rightly
+packed-entry n r t h = right-at t (packed n t) (below (rightly n) 20 r t h)
+
+-- every number of the list is below n
+abbrev lower : ℕ → List ℕ → Bool
+lower n [] = true
+lower n (x ∷ xs) = ltb x n && lower n xs
+
+not-among : (n t : ℕ) (xs : List ℕ) → n ≤ t → T (lower n xs) → among t xs ≡ false
+not-among n t [] h b = refl
+not-among n t (x ∷ xs) h b =
+    let l : x < n = ltb→lt x n (and-left (ltb x n) (lower n xs) b) in
+    simp (ne-eqb t x (λ e. omega arith)) (not-among n t xs h (and-right (ltb x n) (lower n xs) b))
+
+-- no number from 20 on is fixed
+pub past : (t : ℕ) → 20 ≤ t → 0 ≡ widthOf t
+unfolding widthOf
+past t h =
+    let none : (xs : List ℕ) → T (lower 20 xs) → among t xs ≡ false = λ xs. not-among 20 t xs h in
+    rw (none (1 ∷ 2 ∷ 3 ∷ []) tt, none (4 ∷ 5 ∷ []) tt, none (6 ∷ 7 ∷ 10 ∷ 19 ∷ []) tt, none (8 ∷ 9 ∷ 11 ∷ 13 ∷ []) tt, none (14 ∷ []) tt)
+
+-- the plain types are 1 to 15 and 19
+
+abbrev pub inRange : ℕ → Bool
+inRange t = (leb 1 t && leb t 15) || eqb t 19
+
+unfoldable same-plain : ℕ → Bool
+same-plain t = Bool·beq (inRange t) (plain t)
+
+beq-same : (a b : Bool) → T (Bool·beq a b) → a ≡ b
+beq-same true true h = refl
+beq-same false false h = refl
+beq-same true false h = absurd h
+beq-same false true h = absurd h
+
+above : (t : ℕ) → 20 ≤ t → inRange t ≡ plain t
+unfolding plain
+above t h = simp (lt-leb t 15 (omega arith), ne-eqb t 19 (λ e. omega arith), sym (past t h), not-among 20 t (12 ∷ 15 ∷ []) h tt, and-false)
+
+inside : (t : ℕ) → t < 20 → T (Bool·beq (inRange t) (plain t))
+unfolding same-plain plain widthOf
+inside t h = below same-plain 20 tt t h
+
+pub plain-range : (t : ℕ) → inRange t ≡ plain t
+plain-range t = go (leb 20 t) refl
+  where
+    go : (b : Bool) → leb 20 t ≡ b → inRange t ≡ plain t
+    go true e = above t (leb-true 20 t e)
+    go false e = beq-same (inRange t) (plain t) (inside t (leb-false 20 t e))
+
+-- a width that is not 0
+pub positive : (n : ℕ) → (n ≡ 0 → ⊥) → 0 < n
+positive zero h = absurd (h refl)
+positive (suc n) h = omega arith

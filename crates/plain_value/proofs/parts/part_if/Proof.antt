@@ -1,0 +1,22 @@
+-- `plain_value::parts::part_if` meets its contract.
+-- Assumes nothing.
+use Rattle.plain_value.proofs.PartLaws.{then-none}
+use Rattle.wire.specs.Items.{answerReached}
+use borrow.Author.Needs.{needs}
+use Rattle.plain_value.proofs.parts.part_if.Statement.{statement}
+use Rattle.plain_value.proofs.parts.part_if.Tie as tie
+
+returns : tie.Need-returns
+returns c =
+    rw (c .before .before .before .before .if1 .taken, c .before .before .r .given .1) (c .bytes-at .ensures)
+
+returns-2 : tie.Need-returns-2
+returns-2 c = rw (c .before .before .before .if1 .taken, c .before .r2 .given .1)
+
+returns-3 : tie.Need-returns-3
+returns-3 c =
+    rw (c .if1 .left) (then-none (answerReached (c .before .before .args .r)))
+
+pub part-if-spec : {M : Type 1} → statement M
+part-if-spec =
+    tie.close (tie.spec (λ c. search needs) (λ c κs. search needs) (λ c. search needs) returns returns-2 returns-3)

@@ -1,0 +1,46 @@
+-- Document 01, "Values": the values that hold no other value.
+use Prim.Native.Nat.{ℕ, _*_}
+use mathlib.Core.List.{[], _∷_}
+use mathlib.Core.Bool.{Bool, cond, _||_}
+use Rattle.wire.specs.Answer.{refused, Reader, andThen, _>>_, pure, run, each}
+use Rattle.wire.specs.Items.{lengthItem}
+use Rattle.wire.specs.declared.Length.{Length}
+use Rattle.plain_value.specs.Width.{among, widthOf, fixed}
+
+-- what r reads, passed over
+abbrev pub passing : {A : Type 0} → Reader A → Reader (Unit {0})
+passing r = r >> pure tt
+
+-- n bytes, one item
+abbrev pub bytes : ℕ → Reader (Unit {0})
+bytes n = passing (run n)
+
+-- what follows the length at `place`: "-1 means null, and anything below is 5"
+abbrev pub afterLength : {A : Type 0} → Reader A → (ℕ → Reader A) → ℕ → Length → Reader A
+afterLength null counted place Length.Null s at = null s at
+afterLength null counted place (Length.Of n) s at = counted n s at
+afterLength null counted place Length.Negative s at = refused 5 place
+
+-- a length, an item of its own, and what follows it
+abbrev pub byLength : {A : Type 0} → Reader A → (ℕ → Reader A) → Reader A
+byLength null counted s at = andThen (lengthItem s at) (λ l next. afterLength null counted at l s next)
+
+-- a String or ByteString: its length, then its bytes
+unfoldable pub string : Reader (Unit {0})
+string = byLength (pure tt) bytes
+
+-- "Types 12 and 15 carry their length first"
+abbrev pub lengthFirst : ℕ → Bool
+lengthFirst t = among t (12 ∷ 15 ∷ [])
+
+-- a type whose values hold no other value
+unfoldable pub plain : ℕ → Bool
+plain t = fixed t || lengthFirst t
+
+-- one value of such a type
+unfoldable pub plainValue : ℕ → Reader (Unit {0})
+plainValue t = cond (fixed t) (bytes (widthOf t)) string
+
+-- n of them: "fixed-width elements" are one item, others are items each
+unfoldable pub plainValues : ℕ → ℕ → Reader (Unit {0})
+plainValues t n = cond (fixed t) (bytes (n * widthOf t)) (each string n)

@@ -1,0 +1,70 @@
+// A DataValue's parts after its Variant.
+use crate::plain::bytes_at;
+use wire::Reached;
+use wire::has;
+ghost use mathlib.Core.Path.{_≡_};
+ghost use mathlib.Core.Bool.{cond};
+ghost use Prim.Native.Nat.{_≤_};
+ghost use Rattle.wire.specs.Answer.{andThen, whenOn};
+ghost use Rattle.wire.specs.Items.{answerReached};
+ghost use Rattle.plain_value.specs.Plain.{bytes};
+ghost use Rattle.plain_value.specs.Parts.{parts, partsWidth};
+
+// A part of w bytes after what was reached, where the mask's bit is on.
+fn part_if(s: &[u8], on: bool, w: usize, r: Reached) -> Reached
+    ensures { λ z. ⌜ answerReached z ≡ andThen (answerReached r) (λ x next. whenOn on tt (bytes w) (now (s .entry)) next) ⌝ }
+{
+    if on {
+        match r {
+            Reached::To(at) => bytes_at(s, at, w),
+            Reached::Refused(number, place) => Reached::Refused(number, place),
+        }
+    } else {
+        r
+    }
+}
+
+// A DataValue's parts after its Variant, in wire order, up to the first that does not fit.
+fn parts_in_order(s: &[u8], at: usize, m: u8) -> Reached
+    ensures { λ r. ⌜ answerReached r ≡ parts m (now (s .entry)) at ⌝ }
+{
+    let status = part_if(s, m / 2 % 2 == 1, 4, Reached::To(at));
+    let source = part_if(s, m / 4 % 2 == 1, 8, status);
+    let source_picoseconds = part_if(s, m / 16 % 2 == 1, 2, source);
+    let server = part_if(s, m / 8 % 2 == 1, 8, source_picoseconds);
+    part_if(s, m / 32 % 2 == 1, 2, server)
+}
+
+// The width of a part where the mask's bit is on.
+fn width_if(on: bool, w: usize) -> usize
+    ensures { λ r. ⌜ (r ≡ cond on w 0) × (r ≤ w) ⌝ }
+{
+    if on {
+        return w;
+    }
+    0
+}
+
+// How many bytes a DataValue's parts after its Variant have together.
+fn parts_width(m: u8) -> usize
+    ensures { λ r. ⌜ r ≡ partsWidth m ⌝ }
+{
+    width_if(m / 2 % 2 == 1, 4)
+        + (width_if(m / 4 % 2 == 1, 8)
+            + (width_if(m / 16 % 2 == 1, 2)
+                + (width_if(m / 8 % 2 == 1, 8) + width_if(m / 32 % 2 == 1, 2))))
+}
+
+// A DataValue's parts after its Variant. Most have none, or all fit, and then only their width counts.
+pub fn parts_at(s: &[u8], at: usize, m: u8) -> Reached
+    ensures { λ r. ⌜ answerReached r ≡ parts m (now (s .entry)) at ⌝ }
+{
+    if m < 2 {
+        return Reached::To(at);
+    }
+    let w = parts_width(m);
+    if has(s.len(), at, w) {
+        return Reached::To(at + w);
+    }
+    parts_in_order(&*s, at, m)
+}

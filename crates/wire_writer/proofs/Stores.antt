@@ -1,0 +1,44 @@
+-- Laws of runs of bytes stored into a buffer.
+-- Assumes nothing.
+use mathlib.Core.Path.{_≡_, ap, sym, _∙_}
+use mathlib.Core.List.{List, [], _∷_, _++_}
+use mathlib.Core.Bool.{true, false}
+use Prim.Native.Nat.{ℕ, suc, _+_, _-_, _/_, _^_, _<_, _≤_}
+use native.Mathlib.Nat.{add-zero, add-suc, suc-add, le-of-lt}
+use native.Mathlib.Numerals.{add-one}
+use lib.Dec.{leb}
+use lib.ListN.{length, getD, set, take}
+use lib.Seq.{sets, take-suc, take-all, length-take-le}
+use Rattle.wire.specs.Number.{leBytes}
+use Rattle.wire_writer.specs.Store.{laid}
+use Rattle.wire.proofs.Numbers.{split-bytes, length-leBytes}
+
+-- two runs, one after the other
+pub sets-append : (x y l : List ℕ) (i : ℕ) → sets (sets l i x) (i + length x) y ≡ sets l i (x ++ y)
+sets-append [] y l i = rw add-zero
+sets-append (a ∷ x) y l i =
+    ap (λ (k : ℕ). sets (sets (set l i a) (suc i) x) k y) (add-suc i (length x) ∙ sym (suc-add i (length x))) ∙ sets-append x y (set l i a) (suc i)
+
+-- a number of a + b bytes is stored as its low a bytes and then those above them
+pub sets-split : (a b v : ℕ) (l : List ℕ) (at : ℕ) → sets (sets l at (leBytes a v)) (at + a) (leBytes b (v / 256 ^ a)) ≡ sets l at (leBytes (a + b) v)
+sets-split a b v l at =
+    ap (λ (k : ℕ). sets (sets l at (leBytes a v)) (at + k) (leBytes b (v / 256 ^ a))) (sym (length-leBytes a v))
+    ∙ sets-append (leBytes a v) (leBytes b (v / 256 ^ a)) l at ∙ ap (sets l at) (sym (split-bytes a b v))
+
+-- a run one byte longer
+pub run-step : (src l : List ℕ) (at i : ℕ) → i < length src → set (sets l at (take i src)) (at + i) (getD src i 0) ≡ sets l at (take (i + 1) src)
+run-step src l at i h =
+    let e : take (i + 1) src ≡ take i src ++ (getD src i 0 ∷ []) = rw add-one (take-suc src i 0 h) in
+    ap (λ (k : ℕ). set (sets l at (take i src)) (at + k) (getD src i 0)) (sym (length-take-le i src (le-of-lt h)))
+    ∙ sets-append (take i src) (getD src i 0 ∷ []) l at ∙ ap (sets l at) (sym e)
+
+-- all of a run
+pub run-all : (src l : List ℕ) (at i : ℕ) → length src ≤ i → sets l at (take i src) ≡ sets l at src
+run-all src l at i h = ap (sets l at) (take-all i src h)
+
+-- bytes that fit are stored, and others are not
+pub laid-fits : (l : List ℕ) (at : ℕ) (b : List ℕ) → leb (at + length b) (length l) ≡ true → sets l at b ≡ laid l at b
+laid-fits l at b e = rw e
+
+pub laid-none : (l : List ℕ) (at : ℕ) (b : List ℕ) → leb (at + length b) (length l) ≡ false → l ≡ laid l at b
+laid-none l at b e = rw e

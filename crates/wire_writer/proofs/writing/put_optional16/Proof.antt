@@ -1,0 +1,19 @@
+-- `wire_writer::writing::put_optional16` meets its contract.
+-- Assumes nothing.
+use Rattle.wire_writer.proofs.Putting.{stored-nothing}
+use denote.Ref.{now}
+use borrow.Author.Needs.{needs}
+use Rattle.wire_writer.proofs.writing.put_optional16.Statement.{statement}
+use Rattle.wire_writer.proofs.writing.put_optional16.Tie as tie
+
+returns : tie.Need-returns
+returns c =
+    rw (c .enum-told .given .1) (stored-nothing (now (c .before .before .before .args .out)) (c .before .before .before .args .at))
+
+returns-2 : tie.Need-returns-2
+returns-2 c =
+    rw (c .before .before .before .before .before .x .given .1) (c .before .before .put16 .ensures)
+
+pub put-optional16-spec : {M : Type 1} → statement M
+put-optional16-spec =
+    tie.close (tie.spec (λ c. search needs) (λ c. search needs) (λ c κs. search needs) returns (λ c. search needs) returns-2)

@@ -1,0 +1,120 @@
+// Numbers and runs of bytes stored into a lent buffer. What does not fit as a whole is not stored at all.
+use wire::Guid;
+use wire::has;
+ghost use mathlib.Core.Path.{_≡_};
+ghost use Prim.Native.Nat.{_+_, _≤_};
+ghost use mathlib.Core.List.{_++_};
+ghost use lib.ListN.{length};
+ghost use lib.Seq.{sets};
+ghost use Rattle.wire.specs.Number.{leBytes, unsigned};
+ghost use Rattle.wire.specs.Items.{guidBytes};
+ghost use Rattle.wire_writer.specs.Store.{laid};
+
+// The lowest 1, 2, 4 and 8 bytes of a number, lowest first.
+fn store1(out: &mut [u8], at: usize, v: u64)
+    requires { ⌜ at + 1 ≤ length (now out) ⌝ }
+    ensures { λ _. ⌜ now (out .exit) ≡ sets (now (out .entry)) at (leBytes 1 v) ⌝ }
+{
+    out[at] = (v % 256) as u8;
+}
+
+fn store2(out: &mut [u8], at: usize, v: u64)
+    requires { ⌜ at + 2 ≤ length (now out) ⌝ }
+    ensures { λ _. ⌜ now (out .exit) ≡ sets (now (out .entry)) at (leBytes 2 v) ⌝ }
+{
+    store1(out, at, v);
+    store1(out, at + 1, v / 256);
+}
+
+fn store4(out: &mut [u8], at: usize, v: u64)
+    requires { ⌜ at + 4 ≤ length (now out) ⌝ }
+    ensures { λ _. ⌜ now (out .exit) ≡ sets (now (out .entry)) at (leBytes 4 v) ⌝ }
+{
+    store2(out, at, v);
+    store2(out, at + 2, v / 65536);
+}
+
+fn store8(out: &mut [u8], at: usize, v: u64)
+    requires { ⌜ at + 8 ≤ length (now out) ⌝ }
+    ensures { λ _. ⌜ now (out .exit) ≡ sets (now (out .entry)) at (leBytes 8 v) ⌝ }
+{
+    store4(out, at, v);
+    store4(out, at + 4, v / 4294967296);
+}
+
+pub fn put8(out: &mut [u8], at: usize, v: u8)
+    ensures { λ _. ⌜ now (out .exit) ≡ laid (now (out .entry)) at (leBytes 1 v) ⌝ }
+{
+    if has(out.len(), at, 1) {
+        store1(out, at, v as u64);
+    }
+}
+
+pub fn put16(out: &mut [u8], at: usize, v: u16)
+    ensures { λ _. ⌜ now (out .exit) ≡ laid (now (out .entry)) at (leBytes 2 v) ⌝ }
+{
+    if has(out.len(), at, 2) {
+        store2(out, at, v as u64);
+    }
+}
+
+pub fn put32(out: &mut [u8], at: usize, v: u32)
+    ensures { λ _. ⌜ now (out .exit) ≡ laid (now (out .entry)) at (leBytes 4 v) ⌝ }
+{
+    if has(out.len(), at, 4) {
+        store4(out, at, v as u64);
+    }
+}
+
+pub fn put64(out: &mut [u8], at: usize, v: u64)
+    ensures { λ _. ⌜ now (out .exit) ≡ laid (now (out .entry)) at (leBytes 8 v) ⌝ }
+{
+    if has(out.len(), at, 8) {
+        store8(out, at, v);
+    }
+}
+
+// A signed number of 8 bytes, as the number that stands for it.
+pub fn unsigned64(v: i64) -> u64
+    ensures { λ r. ⌜ r ≡ unsigned 8 v ⌝ }
+{
+    if v < 0 {
+        return 18446744073709551615 - ((-1 - v) as u64);
+    }
+    v as u64
+}
+
+pub fn put_i64(out: &mut [u8], at: usize, v: i64)
+    ensures { λ _. ⌜ now (out .exit) ≡ laid (now (out .entry)) at (leBytes 8 (unsigned 8 v)) ⌝ }
+{
+    put64(out, at, unsigned64(v));
+}
+
+pub fn put_guid(out: &mut [u8], at: usize, v: Guid)
+    ensures { λ _. ⌜ now (out .exit) ≡ laid (now (out .entry)) at (guidBytes v) ⌝ }
+{
+    if has(out.len(), at, 16) {
+        store8(out, at, v.low);
+        store8(out, at + 8, v.high);
+    }
+}
+
+// A run of bytes.
+fn copy_in(out: &mut [u8], at: usize, src: &[u8])
+    requires { ⌜ at + length (now src) ≤ length (now out) ⌝ }
+    ensures { λ _. ⌜ now (out .exit) ≡ sets (now (out .entry)) at (now (src .entry)) ⌝ }
+{
+    let mut i = 0;
+    while i < src.len() {
+        out[at + i] = src[i];
+        i += 1;
+    }
+}
+
+pub fn put_run(out: &mut [u8], at: usize, src: &[u8])
+    ensures { λ _. ⌜ now (out .exit) ≡ laid (now (out .entry)) at (now (src .entry)) ⌝ }
+{
+    if has(out.len(), at, src.len()) {
+        copy_in(out, at, src);
+    }
+}

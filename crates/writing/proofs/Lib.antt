@@ -1,6 +1,0 @@
-pub mod Putting
-pub mod Trip
-pub mod Back
-pub mod Refusals
-pub mod Bits
-pub mod Answering
