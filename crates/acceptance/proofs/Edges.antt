@@ -6,7 +6,7 @@ use Rattle.value.specs.Value.{variantRule, array, valueAt}
 use Rattle.plain_value.specs.Width.{widthOf}
 use Rattle.publisher_id.specs.PublisherRecord.{sameText, samePublisher, publisherFits}
 use Rattle.reassembly.specs.Views.{dataView, clash, full, laid}
-use Rattle.reassembly.specs.Marks.{marksFor, capacity, marked, markAt, cleared, markAll}
+use Rattle.marks.specs.Marks.{marksFor, capacity, marked, markAt, cleared, markAll}
 use Rattle.reassembly.specs.Areas.{markedView}
 use Rattle.reassembly.specs.Record.{sameMessage, soundBy}
 use Rattle.reassembly.specs.Reading.{readingAt}

@@ -7,12 +7,14 @@ use mathlib.Core.Option.{Option, some, none, orElse, Option·getD}
 use native.Mathlib.Omega.{arith}
 use lib.ListN.{length, getD, take}
 use lib.Seq.{ext-getD, getD-take, length-take-le}
-use Rattle.reassembly.specs.Views.{View, allBelow, isSome, has, onlyIf, dataView, nowhere, joined, differs, clash, full, bytesOf, laid}
-use Rattle.reassembly.specs.Marks.{Layout, marksFor, marked, cleared, markAll, markedBelow, allMarked}
+use Rattle.reassembly.specs.Views.{View, isSome, has, onlyIf, dataView, nowhere, joined, differs, clash, full, bytesOf, laid}
+use Rattle.marks.specs.Offsets.{allBelow}
+use Rattle.marks.specs.Marks.{Layout, marksFor, marked, cleared, markAll, markedBelow, allMarked}
 use Rattle.reassembly.specs.Areas.{markedView}
-use Rattle.reassembly.proofs.Cases.{by-lt}
-use Rattle.reassembly.proofs.ViewLaws.{length-tab, getD-tab, length-laid, getD-laid, has-only, data-at, any-ext, all-ext, none-clash, clash-data, differsAt, full-some, first-none, first-known}
-use Rattle.reassembly.proofs.MarkLaws.{marked-is, marked-past, marked-on, marked-off, marked-cleared, marks-self}
+use Rattle.marks.proofs.Cases.{by-lt}
+use Rattle.reassembly.proofs.ViewLaws.{length-tab, getD-tab, length-laid, getD-laid, has-only, data-at, none-clash, clash-data, differsAt, full-some, first-none, first-known}
+use Rattle.marks.proofs.OffsetLaws.{any-ext, all-ext}
+use Rattle.marks.proofs.MarkLaws.{marked-is, marked-past, marked-on, marked-off, marked-cleared, marks-self}
 
 module _ (L : Layout) where
   pub marked-below : (total : ℕ) (p m : List ℕ) (i : ℕ) → i < total → markedView L total p m i ≡ onlyIf (marked L m i) (getD p i 0)

@@ -7,8 +7,9 @@ use native.Mathlib.Omega.{arith}
 use lib.ListN.{length, take, drop}
 use lib.Dec.{leb, eqb}
 use borrow.Author.Tests.{le-leb, leb-true, eqb-true}
-use Rattle.reassembly.specs.Views.{View, dataView, inRange, clash, laid}
-use Rattle.reassembly.specs.Marks.{marksFor, markAll, markedBelow, allMarked}
+use Rattle.reassembly.specs.Views.{View, dataView, clash, laid}
+use Rattle.marks.specs.Offsets.{inRange}
+use Rattle.marks.specs.Marks.{marksFor, markAll, markedBelow, allMarked}
 use Rattle.reassembly.specs.Areas.{markedView}
 use Rattle.wire.specs.Answer.{Answer, got, refused}
 use Rattle.publisher_id.specs.PublisherRecord.{publisherFits, recordAt}
@@ -30,10 +31,10 @@ use Rattle.reassembly.specs.declared.record.PartialRecord.{PartialRecord
 use Rattle.reassembly.specs.declared.verdict.Completeness.the-variants as C
 use Rattle.reassembly.specs.declared.verdict.Verdict.{Verdict}
 use Rattle.reassembly.specs.declared.verdict.Verdict.the-variants.{Done, Refused}
-use Rattle.reassembly.proofs.Cases.{by-bool}
+use Rattle.marks.proofs.Cases.{by-bool}
 use Rattle.wire.proofs.Facts.{and-left, and-right}
 use Rattle.reassembly.proofs.ViewLaws.{has-data}
-use Rattle.reassembly.proofs.MarkLaws.{marks-mono, length-cleared}
+use Rattle.marks.proofs.MarkLaws.{marks-mono, length-cleared}
 use Rattle.reassembly.proofs.AreaLaws.{clash-total, has-marked, full-marked}
 use Rattle.reassembly.proofs.SameLaws.{same-message-true}
 

@@ -2,18 +2,19 @@
 -- `payload ≡ laid (upTo i v) payload₀`: `laid-start`, `laid-step` and `laid-end` are its steps. Assumes nothing.
 use Prim.Native.Nat.{ℕ, zero, suc, _+_, _-_, _≤_, _<_}
 use mathlib.Core.Path.{_≡_, refl, sym, ap, _∙_, fun-ext}
-use mathlib.Core.Bool.{Bool, true, false, cond, not, _&&_, _||_, or-true, false≢true}
+use mathlib.Core.Bool.{Bool, true, false, cond, not, _&&_}
 use mathlib.Core.List.{List}
 use mathlib.Core.Option.{Option, some, none, orElse, Option·getD}
 use native.Mathlib.Nat.{le-of-suc-le-suc, not-suc-le-zero}
-use native.Mathlib.Numerals.{add-one}
 use native.Mathlib.Omega.{arith}
 use lib.ListN.{length, getD, set, length-set}
 use lib.Seq.{ext-getD, getD-set-same, getD-set-other}
 use lib.Dec.{ltb, eqb}
-use borrow.Author.Tests.{lt-ltb, le-ltb, le-leb, lt-leb, eqb-true, not-true, not-false}
-use Rattle.reassembly.specs.Views.{View, tab, anyBelow, allBelow, isSome, has, onlyIf, inRange, dataView, nowhere, joined, differs, clash, full, laid}
-use Rattle.reassembly.proofs.Cases.{by-bool, by-eq, by-lt}
+use borrow.Author.Tests.{lt-ltb, le-ltb, le-leb, lt-leb, eqb-true, not-false}
+use Rattle.reassembly.specs.Views.{View, tab, isSome, has, onlyIf, dataView, nowhere, joined, differs, clash, full, laid}
+use Rattle.marks.specs.Offsets.{anyBelow, inRange}
+use Rattle.marks.proofs.Cases.{by-bool, by-eq, by-lt}
+use Rattle.marks.proofs.OffsetLaws.{any-none, all-every, none-any, every-all}
 
 -- ---- lists by their elements
 pub length-tab : (n : ℕ) (f : ℕ → ℕ) → length (tab n f) ≡ n
@@ -113,38 +114,6 @@ has-only f g = fun-ext (λ i. some-only (f i) (g i))
 pub has-data : (at : ℕ) (d : List ℕ) → has (dataView at d) ≡ inRange at (at + length d)
 unfolding dataView
 has-data at d = has-only (inRange at (at + length d)) (λ i. getD d (i - at) 0)
-
--- ---- a test at every offset below n
-pub any-none : (n : ℕ) (f : ℕ → Bool) → ((i : ℕ) → i < n → f i ≡ false) → anyBelow n f ≡ false
-any-none zero f e = refl
-any-none (suc n) f e = rw (e n (omega arith)) (any-none n f (λ i h. e i (omega arith)))
-
-pub any-some : (n : ℕ) (f : ℕ → Bool) (i : ℕ) → i < n → f i ≡ true → anyBelow n f ≡ true
-any-some zero f i h e = absurd (not-suc-le-zero h)
-any-some (suc n) f i h e =
-    by-eq _ i n (λ q. let t : f n ≡ true = rw q at e in rw t) (λ ne. rw (any-some n f i (omega arith) e) (or-true (f n)))
-
-pub none-any : (n : ℕ) (f : ℕ → Bool) → anyBelow n f ≡ false → (i : ℕ) → i < n → f i ≡ false
-none-any n f e i h = by-bool _ (f i) (λ t. absurd (false≢true (sym e ∙ any-some n f i h t))) (λ t. t)
-
-pub any-ext : (n : ℕ) (f g : ℕ → Bool) → ((i : ℕ) → i < n → f i ≡ g i) → anyBelow n f ≡ anyBelow n g
-any-ext zero f g e = refl
-any-ext (suc n) f g e = rw (e n (omega arith), any-ext n f g (λ i h. e i (omega arith)))
-
-pub any-step : (n : ℕ) (f : ℕ → Bool) → anyBelow (n + 1) f ≡ (f n || anyBelow n f)
-any-step n f = rw (add-one n)
-
-pub all-every : (n : ℕ) (f : ℕ → Bool) → ((i : ℕ) → i < n → f i ≡ true) → allBelow n f ≡ true
-all-every n f e = ap not (any-none n (λ i. not (f i)) (λ i h. ap not (e i h)))
-
-pub all-but : (n : ℕ) (f : ℕ → Bool) (i : ℕ) → i < n → f i ≡ false → allBelow n f ≡ false
-all-but n f i h e = ap not (any-some n (λ k. not (f k)) i h (ap not e))
-
-pub every-all : (n : ℕ) (f : ℕ → Bool) → allBelow n f ≡ true → (i : ℕ) → i < n → f i ≡ true
-every-all n f e i h = not-false (f i) (none-any n (λ k. not (f k)) (not-true (anyBelow n (λ k. not (f k))) e) i h)
-
-pub all-ext : (n : ℕ) (f g : ℕ → Bool) → ((i : ℕ) → i < n → f i ≡ g i) → allBelow n f ≡ allBelow n g
-all-ext n f g e = ap not (any-ext n (λ i. not (f i)) (λ i. not (g i)) (λ i h. ap not (e i h)))
 
 -- ---- full
 pub full-some : (n : ℕ) (v : View) → full n v ≡ true → (i : ℕ) → i < n → has v i ≡ true

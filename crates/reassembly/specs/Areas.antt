@@ -3,7 +3,7 @@ use Prim.Native.Nat.{ℕ}
 use mathlib.Core.List.{List}
 use lib.ListN.{getD}
 use Rattle.reassembly.specs.Views.{View, onlyIf}
-use Rattle.reassembly.specs.Marks.{Layout, markedBelow}
+use Rattle.marks.specs.Marks.{Layout, markedBelow}
 
 unfoldable pub markedView : Layout → ℕ → List ℕ → List ℕ → View
 markedView L total p m i = onlyIf (markedBelow L total m i) (getD p i 0)

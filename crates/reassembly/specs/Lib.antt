@@ -1,5 +1,4 @@
 pub mod Views
-pub mod Marks
 pub mod Areas
 pub mod Record
 pub mod Reading

@@ -4,7 +4,7 @@ use mathlib.Core.Bool.{Bool, true, false, cond}
 use mathlib.Core.List.{List, []}
 use lib.ListN.{take}
 use Rattle.reassembly.specs.Views.{View, laid, has, dataView}
-use Rattle.reassembly.specs.Marks.{cleared, markAll}
+use Rattle.marks.specs.Marks.{cleared, markAll}
 use Rattle.reassembly.specs.Record.{Partial, partial, sound}
 use Rattle.reassembly.specs.Reading.{Reading}
 use Rattle.reassembly.specs.Reading.Reading.{chunk, refusal}

@@ -5,7 +5,7 @@ use mathlib.Core.Path.{_≡_}
 use mathlib.Core.List.{List}
 use lib.ListN.{length}
 use lib.Dec.{leb, eqb}
-use Rattle.reassembly.specs.Marks.{Layout, inUse, marksFor}
+use Rattle.marks.specs.Marks.{Layout, inUse, marksFor}
 use Rattle.publisher_id.specs.PublisherRecord.{Publisher, publisherOf, samePublisher, publisherFits}
 use Rattle.reassembly.specs.declared.record.Message.{Message}
 use Rattle.reassembly.specs.declared.record.PartialRecord.{PartialRecord}

@@ -1,10 +1,11 @@
 -- A view says, for each offset of a payload, which byte is known there, if any. What a chunk brings and what a partial covers are views.
 use Prim.Native.Nat.{ℕ, zero, suc, _+_, _-_}
-use mathlib.Core.Bool.{Bool, true, false, not, _&&_, _||_}
+use mathlib.Core.Bool.{Bool, true, false, not}
 use mathlib.Core.List.{List, [], _∷_}
 use mathlib.Core.Option.{Option, some, none, orElse, Option·getD}
 use lib.ListN.{length, getD}
-use lib.Dec.{ltb, leb, eqb}
+use lib.Dec.{eqb}
+use Rattle.marks.specs.Offsets.{anyBelow, allBelow, inRange}
 
 abbrev pub View : Type 0
 View = ℕ → Option ℕ
@@ -13,15 +14,6 @@ View = ℕ → Option ℕ
 abbrev pub tab : ℕ → (ℕ → ℕ) → List ℕ
 tab zero f = []
 tab (suc n) f = f zero ∷ tab n (λ i. f (suc i))
-
--- whether some i below n passes the test
-abbrev pub anyBelow : ℕ → (ℕ → Bool) → Bool
-anyBelow zero f = false
-anyBelow (suc n) f = f n || anyBelow n f
-
--- whether every i below n passes the test: none fails it
-abbrev pub allBelow : ℕ → (ℕ → Bool) → Bool
-allBelow n f = not (anyBelow n (λ i. not (f i)))
 
 abbrev pub isSome : Option ℕ → Bool
 isSome (some x) = true
@@ -34,10 +26,6 @@ has v i = isSome (v i)
 abbrev pub onlyIf : Bool → ℕ → Option ℕ
 onlyIf true x = some x
 onlyIf false x = none
-
--- the offsets from start up to end
-abbrev pub inRange : ℕ → ℕ → ℕ → Bool
-inRange start end i = leb start i && ltb i end
 
 -- a chunk's data at its offset
 unfoldable pub dataView : ℕ → List ℕ → View

@@ -3,10 +3,10 @@ ghost use mathlib.Core.Path.{_≡_};
 ghost use Prim.Native.Nat.{_+_, _≤_};
 ghost use lib.ListN.{length};
 ghost use Rattle.reassembly.specs.Views.{dataView, laid, differs, onlyIf, clash};
-ghost use Rattle.reassembly.specs.Marks.{inUse, marksFor};
+ghost use Rattle.marks.specs.Marks.{inUse, marksFor};
 ghost use Rattle.reassembly.specs.Areas.{markedView};
-use crate::marks::choose;
-use crate::marks::is_marked;
+use marks::choose;
+use marks::is_marked;
 
 // Stores a chunk's bytes at their offset.
 pub(crate) fn store_data(payload: &mut [u8], offset: usize, bytes: &[u8])

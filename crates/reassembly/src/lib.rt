@@ -2,7 +2,6 @@
 // marks; each operation is handed all three and hands the record back.
 mod areas;
 mod judge;
-mod marks;
 mod operations;
 mod record;
 mod verdict;

@@ -1,8 +1,8 @@
 // The record of a partial, and when it is sound.
 ghost use mathlib.Core.Path.{_≡_};
 ghost use Rattle.reassembly.specs.Record.{identityOf, sameMessage, soundBy};
-ghost use Rattle.reassembly.specs.Marks.{inUse};
-use crate::marks::marks_for;
+ghost use Rattle.marks.specs.Marks.{inUse};
+use marks::marks_for;
 use publisher_id::publisher_record::PublisherRecord;
 use publisher_id::publisher_record::publisher_fits;
 use publisher_id::publisher_record::same_publisher;

@@ -7,7 +7,7 @@ use native.Mathlib.Omega.{arith}
 use lib.ListN.{length, replicate, length-replicate}
 use borrow.Author.Tests.{le-leb, eq-eqb}
 use Rattle.reassembly.specs.Views.{View, dataView}
-use Rattle.reassembly.specs.Marks.{Layout, marksFor}
+use Rattle.marks.specs.Marks.{Layout, marksFor}
 use Rattle.reassembly.specs.Record.{Partial, soundBy, Good}
 use Rattle.reassembly.specs.Reading.{Proper}
 use Rattle.reassembly.specs.Reading.Reading.{chunk}
@@ -19,7 +19,7 @@ use Rattle.reassembly_laws.specs.History.{ifAccepted}
 use Rattle.reassembly.specs.declared.record.Message.{Message}
 use Rattle.reassembly.specs.declared.verdict.Verdict.{Verdict}
 use Rattle.reassembly.specs.declared.verdict.Verdict.the-variants.{Done}
-use Rattle.reassembly.proofs.Cases.{by-bool}
+use Rattle.marks.proofs.Cases.{by-bool}
 use Rattle.reassembly.proofs.ViewLaws.{data-above}
 use Rattle.reassembly.proofs.JudgeLaws
 use Rattle.reassembly_laws.proofs.Following

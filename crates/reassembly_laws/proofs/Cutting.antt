@@ -16,7 +16,8 @@ use Rattle.wire.specs.Answer.{got}
 use Rattle.chunk.specs.Datagram.{placeOf, chunkAt, chunkData}
 use Rattle.chunk.proofs.CutLaws.{cuts, data-most, data-full}
 use Rattle.chunk.proofs.ReadBack.{cutPlace, datagram-back, data-back}
-use Rattle.reassembly.specs.Views.{View, has, isSome, differs, dataView, inRange, joined, bytesOf}
+use Rattle.reassembly.specs.Views.{View, has, isSome, differs, dataView, joined, bytesOf}
+use Rattle.marks.specs.Offsets.{inRange}
 use Rattle.reassembly.specs.Record.{Identity, Partial, Good}
 use Rattle.reassembly.specs.Machine.{State, viewIn, judgeState, acceptState, complete}
 use Rattle.reassembly.specs.Machine.State.{idle, held}
@@ -27,7 +28,7 @@ use Rattle.reassembly.specs.Operations.{yesNo, askComplete, judgeHandOut, handO
 use Rattle.reassembly.specs.declared.verdict.Completeness.the-variants as C
 use Rattle.reassembly.specs.declared.verdict.Verdict.{Verdict}
 use Rattle.reassembly.specs.declared.verdict.Verdict.the-variants.{Done}
-use Rattle.reassembly.proofs.Cases.{by-lt}
+use Rattle.marks.proofs.Cases.{by-lt}
 use Rattle.reassembly.proofs.JudgeLaws.{reading-got}
 use Rattle.reassembly.proofs.ViewLaws.{length-tab, getD-tab, data-at, data-below, data-above, has-data, full-all, clash-none}
 use Rattle.reassembly.proofs.SameLaws.{same-message-yes}

@@ -9,7 +9,7 @@ use native.Mathlib.Omega.{arith}
 use lib.ListN.{length}
 use borrow.Author.Tests.{le-leb, eq-eqb}
 use Rattle.reassembly.specs.Views.{View, clash, full, has, dataView, joined, nowhere, laid}
-use Rattle.reassembly.specs.Marks.{Layout, marksFor, cleared, markAll}
+use Rattle.marks.specs.Marks.{Layout, marksFor, cleared, markAll}
 use Rattle.reassembly.specs.Areas.{markedView}
 use Rattle.publisher_id.specs.PublisherRecord.{publisherFits}
 use Rattle.reassembly.specs.Record.{Identity, identityOf, Partial, soundBy, Good}
@@ -27,9 +27,9 @@ use Rattle.reassembly.specs.declared.record.Message.{Message}
 use Rattle.reassembly.specs.declared.record.PartialRecord.{PartialRecord}
 use Rattle.reassembly.specs.declared.verdict.Verdict.{Verdict}
 use Rattle.reassembly.specs.declared.verdict.Verdict.the-variants.{Done, Refused}
-use Rattle.reassembly.proofs.Cases.{by-bool}
+use Rattle.marks.proofs.Cases.{by-bool}
 use Rattle.reassembly.proofs.ViewLaws.{length-laid, data-above, clash-none, joined-nowhere}
-use Rattle.reassembly.proofs.MarkLaws.{length-cleared, length-markAll}
+use Rattle.marks.proofs.MarkLaws.{length-cleared, length-markAll}
 use Rattle.reassembly.proofs.AreaLaws.{marked-above, cleared-nowhere, view-put, full-bytes}
 use Rattle.reassembly.proofs.SameLaws.{same-message-true}
 use Rattle.reassembly.proofs.JudgeLaws

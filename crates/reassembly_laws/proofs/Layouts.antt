@@ -8,7 +8,7 @@ use lib.ListN.{length, getD, replicate, length-replicate}
 use lib.Dec.{eqb}
 use borrow.Author.Tests.{eq-eqb}
 use Rattle.reassembly.specs.Views.{View, has, isSome, onlyIf, laid}
-use Rattle.reassembly.specs.Marks.{Layout, marksFor, marked, cleared, markedBelow}
+use Rattle.marks.specs.Marks.{Layout, marksFor, marked, cleared, markedBelow}
 use Rattle.reassembly.specs.Areas.{markedView}
 use Rattle.reassembly.specs.Record.{identityOf, Partial, soundBy, Good}
 use Rattle.reassembly.specs.Reading.{Reading, readingAt}
@@ -26,8 +26,8 @@ use Rattle.reassembly_laws.specs.History.{says, keeps}
 use Rattle.reassembly_laws.specs.Layouts.{SameButMarks, SameCall, SameCalls, inLayout}
 use Rattle.reassembly_laws.specs.Layouts.SameCalls.{none, next}
 use Rattle.wire.proofs.Facts.{and-right}
-use Rattle.reassembly.proofs.Cases.{by-bool, by-lt}
-use Rattle.reassembly.proofs.MarkLaws.{marked-cleared, length-markAll, marked-on, marked-off}
+use Rattle.marks.proofs.Cases.{by-bool, by-lt}
+use Rattle.marks.proofs.MarkLaws.{marked-cleared, length-markAll, marked-on, marked-off}
 use Rattle.reassembly.proofs.AreaLaws.{marked-below, marked-above}
 use Rattle.reassembly.proofs.JudgeLaws
 use Rattle.reassembly_laws.proofs.Following

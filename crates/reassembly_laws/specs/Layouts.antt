@@ -3,7 +3,7 @@ use Prim.Native.Nat.{ℕ}
 use mathlib.Core.List.{List, [], _∷_}
 use mathlib.Core.Path.{_≡_}
 use lib.ListN.{length, replicate}
-use Rattle.reassembly.specs.Marks.{Layout, marksFor, marked, markAll}
+use Rattle.marks.specs.Marks.{Layout, marksFor, marked, markAll}
 use Rattle.reassembly.specs.Record.{Partial, sound}
 use Rattle.reassembly.specs.Judge.{covered}
 use Rattle.reassembly.specs.Calls.{Call}

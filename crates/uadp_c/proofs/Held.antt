@@ -9,7 +9,7 @@ use lib.Dec.{eqb, ltb}
 use lib.ListN.{length, take}
 use Rattle.wire_writer.specs.Store.{laid}
 use Rattle.reassembly.specs.Record.{Partial, partial, sound, soundBy}
-use Rattle.reassembly.specs.Marks.{marksFor, inUse}
+use Rattle.marks.specs.Marks.{marksFor, inUse}
 use Rattle.reassembly.specs.Judge.{judgeCombine}
 use Rattle.reassembly.specs.Reading.{readingAt}
 use Rattle.reassembly.specs.Operations.{Step, stepOf, stepBy, takeIn, combine, askComplete, judgeHandOut, handOut}

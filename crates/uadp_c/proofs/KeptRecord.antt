@@ -10,7 +10,7 @@ use borrow.Author.Tests.{le-ltb, lt-ltb}
 use lib.ListN.{length}
 use Rattle.wire_writer.specs.Store.{laid}
 use Rattle.reassembly.specs.Views.{View}
-use Rattle.reassembly.specs.Marks.{Layout, inUse}
+use Rattle.marks.specs.Marks.{Layout, inUse}
 use Rattle.reassembly.specs.Record.{Partial, partial, sound, soundBy}
 use Rattle.reassembly.specs.Reading.{Reading}
 use Rattle.reassembly.specs.Reading.Reading.{chunk, refusal}

@@ -6,11 +6,12 @@ use native.Mathlib.Omega.{arith}
 use denote.Ref.{now}
 use lib.ListN.{getD}
 use borrow.Author.Needs.{needs}
-use Rattle.reassembly.specs.Views.{anyBelow, onlyIf, differs, clash}
+use Rattle.marks.specs.Offsets.{anyBelow}
+use Rattle.reassembly.specs.Views.{onlyIf, differs, clash}
 use Rattle.reassembly.specs.Areas.{markedView}
-use Rattle.reassembly.specs.Marks.{inUse}
-use Rattle.reassembly.proofs.ViewLaws.{any-step}
-use Rattle.reassembly.proofs.MarkLaws.{marks-room}
+use Rattle.marks.specs.Marks.{inUse}
+use Rattle.marks.proofs.OffsetLaws.{any-step}
+use Rattle.marks.proofs.MarkLaws.{marks-room}
 use Rattle.reassembly.proofs.AreaLaws.{clash-step-marked}
 use Rattle.reassembly.proofs.areas.clash_covered.Statement.{statement}
 use Rattle.reassembly.proofs.areas.clash_covered.Tie as tie

@@ -7,11 +7,13 @@ use native.Mathlib.Omega.{arith}
 use denote.Ref.{now}
 use lib.ListN.{length, getD}
 use borrow.Author.Needs.{needs}
-use Rattle.reassembly.specs.Views.{anyBelow, onlyIf, differs}
+use Rattle.marks.specs.Offsets.{anyBelow}
+use Rattle.reassembly.specs.Views.{onlyIf, differs}
 use Rattle.reassembly.specs.Areas.{markedView}
-use Rattle.reassembly.specs.Marks.{inUse}
-use Rattle.reassembly.proofs.ViewLaws.{any-step, clash-data, differsAt}
-use Rattle.reassembly.proofs.MarkLaws.{marks-room}
+use Rattle.marks.specs.Marks.{inUse}
+use Rattle.marks.proofs.OffsetLaws.{any-step}
+use Rattle.reassembly.proofs.ViewLaws.{clash-data, differsAt}
+use Rattle.marks.proofs.MarkLaws.{marks-room}
 use Rattle.reassembly.proofs.AreaLaws.{clash-step-data}
 use Rattle.reassembly.proofs.areas.clash_data.Statement.{statement}
 use Rattle.reassembly.proofs.areas.clash_data.Tie as tie

@@ -10,9 +10,9 @@ use lib.ListN.{length, getD, length-set}
 use borrow.Author.Needs.{needs}
 use Rattle.reassembly.specs.Views.{laid}
 use Rattle.reassembly.specs.Areas.{markedView}
-use Rattle.reassembly.specs.Marks.{inUse}
+use Rattle.marks.specs.Marks.{inUse}
 use Rattle.reassembly.proofs.ViewLaws.{upTo, laid-start, laid-step, laid-end, laid-at}
-use Rattle.reassembly.proofs.MarkLaws.{marks-room}
+use Rattle.marks.proofs.MarkLaws.{marks-room}
 use Rattle.reassembly.proofs.AreaLaws.{marked-above, chosen}
 use Rattle.reassembly.proofs.areas.store_covered.Statement.{statement}
 use Rattle.reassembly.proofs.areas.store_covered.Tie as tie

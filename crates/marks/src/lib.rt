@@ -3,18 +3,18 @@ ghost use mathlib.Core.Path.{_≡_};
 ghost use mathlib.Core.Bool.{cond};
 ghost use Prim.Native.Nat.{_<_, _≤_};
 ghost use lib.ListN.{length};
-ghost use Rattle.reassembly.specs.Views.{inRange};
-ghost use Rattle.reassembly.specs.Marks.{inUse, marksFor, capacity, marked, markIf, cleared, markedBelow, markAll, allMarked};
+ghost use Rattle.marks.specs.Offsets.{inRange};
+ghost use Rattle.marks.specs.Marks.{inUse, marksFor, capacity, marked, markIf, cleared, markedBelow, markAll, allMarked};
 
 // How many bytes of marks a payload area of n bytes has.
-pub(crate) fn marks_for(n: usize) -> usize
+pub fn marks_for(n: usize) -> usize
     ensures { λ r. ⌜ r ≡ marksFor inUse n ⌝ }
 {
     n
 }
 
 // Whether an offset is marked.
-pub(crate) fn is_marked(marks: &[u8], i: usize) -> bool
+pub fn is_marked(marks: &[u8], i: usize) -> bool
     requires { ⌜ i < capacity inUse (now marks) ⌝ }
     ensures { λ r. ⌜ r ≡ marked inUse (now (marks .entry)) i ⌝ }
 {
@@ -22,7 +22,7 @@ pub(crate) fn is_marked(marks: &[u8], i: usize) -> bool
 }
 
 // One of two bytes.
-pub(crate) fn choose(b: bool, x: u8, y: u8) -> u8
+pub fn choose(b: bool, x: u8, y: u8) -> u8
     ensures { λ r. ⌜ r ≡ cond b x y ⌝ }
 {
     if b { x } else { y }
@@ -37,7 +37,7 @@ pub(crate) fn mark_if(marks: &mut [u8], i: usize, on: bool)
 }
 
 // Clears every mark.
-pub(crate) fn clear(marks: &mut [u8])
+pub fn clear(marks: &mut [u8])
     ensures { λ r. ⌜ now (marks .exit) ≡ cleared (now (marks .entry)) ⌝ }
 {
     let mut i = 0;
@@ -48,7 +48,7 @@ pub(crate) fn clear(marks: &mut [u8])
 }
 
 // Marks the offsets from start up to end.
-pub(crate) fn mark_range(marks: &mut [u8], start: usize, end: usize)
+pub fn mark_range(marks: &mut [u8], start: usize, end: usize)
     requires { ⌜ (start ≤ end) × (marksFor inUse end ≤ length (now marks)) ⌝ }
     ensures { λ r. ⌜ now (marks .exit) ≡ markAll inUse (inRange start end) (now (marks .entry)) ⌝ }
 {
@@ -60,7 +60,7 @@ pub(crate) fn mark_range(marks: &mut [u8], start: usize, end: usize)
 }
 
 // Marks the offsets below n that are marked in another area.
-pub(crate) fn mark_marked(marks: &mut [u8], n: usize, other: &[u8])
+pub fn mark_marked(marks: &mut [u8], n: usize, other: &[u8])
     requires { ⌜ (marksFor inUse n ≤ length (now marks)) × (marksFor inUse n ≤ length (now other)) ⌝ }
     ensures { λ r. ⌜ now (marks .exit) ≡ markAll inUse (markedBelow inUse n (now (other .entry))) (now (marks .entry)) ⌝ }
 {
@@ -72,7 +72,7 @@ pub(crate) fn mark_marked(marks: &mut [u8], n: usize, other: &[u8])
 }
 
 // Whether every offset below n is marked.
-pub(crate) fn all_marked(marks: &[u8], n: usize) -> bool
+pub fn all_marked(marks: &[u8], n: usize) -> bool
     requires { ⌜ marksFor inUse n ≤ length (now marks) ⌝ }
     ensures { λ r. ⌜ r ≡ allMarked inUse n (now (marks .entry)) ⌝ }
 {

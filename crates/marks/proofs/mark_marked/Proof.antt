@@ -1,4 +1,4 @@
--- `reassembly::marks::mark_marked` meets its contract. Assumes nothing.
+-- `marks::mark_marked` meets its contract. Assumes nothing.
 use Prim.Native.Nat.{ℕ, _-_, _≤_}
 use mathlib.Core.List.{List}
 use mathlib.Core.Bool.{Bool}
@@ -7,10 +7,10 @@ use native.Mathlib.Omega.{arith}
 use denote.Ref.{now}
 use lib.ListN.{length}
 use borrow.Author.Needs.{needs}
-use Rattle.reassembly.specs.Marks.{inUse, marked, markIf, markUpTo, markedBelow}
-use Rattle.reassembly.proofs.MarkLaws.{marks-room, marks-step, marks-end, marked-is, marked-past}
-use Rattle.reassembly.proofs.marks.mark_marked.Statement.{statement}
-use Rattle.reassembly.proofs.marks.mark_marked.Tie as tie
+use Rattle.marks.specs.Marks.{inUse, marked, markIf, markUpTo, markedBelow}
+use Rattle.marks.proofs.MarkLaws.{marks-room, marks-step, marks-end, marked-is, marked-past}
+use Rattle.marks.proofs.mark_marked.Statement.{statement}
+use Rattle.marks.proofs.mark_marked.Tie as tie
 
 abbrev Inv-loop : tie.InvT-loop
 Inv-loop marks₀ n other i₀ marks i =

@@ -12,11 +12,11 @@ use lib.Dec.{leb, eqb}
 use lib.Pow.{shr-shr}
 use borrow.Author.Tests.{lt-ltb, le-ltb, le-leb, lt-leb, eqb-true, eqb-false}
 use Rattle.wire.specs.Answer.{bit}
-use Rattle.reassembly.specs.Views.{inRange}
-use Rattle.reassembly.specs.Marks.{Layout, withBit, marksFor, capacity, marked, markAt, cleared, markIf, markUpTo, markAll, markedBelow, allMarked}
-use Rattle.reassembly.specs.Marks.Layout.{byBytes, byBits}
-use Rattle.reassembly.proofs.Cases.{by-bool, by-eq, by-lt}
-use Rattle.reassembly.proofs.ViewLaws.{all-every, all-but}
+use Rattle.marks.specs.Offsets.{inRange}
+use Rattle.marks.specs.Marks.{Layout, withBit, marksFor, capacity, marked, markAt, cleared, markIf, markUpTo, markAll, markedBelow, allMarked}
+use Rattle.marks.specs.Marks.Layout.{byBytes, byBits}
+use Rattle.marks.proofs.Cases.{by-bool, by-eq, by-lt}
+use Rattle.marks.proofs.OffsetLaws.{all-every, all-but}
 
 -- ---- bits of a byte, one after another: bit 0 is the remainder by 2, and the others are those of the half
 abbrev digit : ℕ → ℕ → Bool

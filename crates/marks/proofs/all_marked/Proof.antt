@@ -1,4 +1,4 @@
--- `reassembly::marks::all_marked` meets its contract. Assumes nothing.
+-- `marks::all_marked` meets its contract. Assumes nothing.
 use Prim.Native.Nat.{ℕ, _-_, _≤_, _<_}
 use mathlib.Core.Bool.{true}
 use mathlib.Core.Path.{_≡_, sym, _∙_}
@@ -7,10 +7,10 @@ use denote.Ref.{now}
 use borrow.Author.Needs.{needs}
 use borrow.Author.Tests.{not-true, not-false}
 use borrow.Author.Count.{below-more}
-use Rattle.reassembly.specs.Marks.{inUse, marked}
-use Rattle.reassembly.proofs.MarkLaws.{marks-room, all-marked-yes, all-marked-no}
-use Rattle.reassembly.proofs.marks.all_marked.Statement.{statement}
-use Rattle.reassembly.proofs.marks.all_marked.Tie as tie
+use Rattle.marks.specs.Marks.{inUse, marked}
+use Rattle.marks.proofs.MarkLaws.{marks-room, all-marked-yes, all-marked-no}
+use Rattle.marks.proofs.all_marked.Statement.{statement}
+use Rattle.marks.proofs.all_marked.Tie as tie
 
 abbrev Inv-loop : tie.InvT-loop
 Inv-loop marks n i₀ i = (i ≤ n) × ((k : ℕ) → k < i → marked inUse marks k ≡ true)

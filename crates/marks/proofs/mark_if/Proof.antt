@@ -1,12 +1,12 @@
--- `reassembly::marks::mark_if` meets its contract. Assumes nothing.
+-- `marks::mark_if` meets its contract. Assumes nothing.
 use mathlib.Core.Path.{ap, _∙_}
 use denote.Ref.{now}
 use lib.ListN.{set}
 use borrow.Author.Needs.{needs}
-use Rattle.reassembly.specs.Marks.{capacity}
-use Rattle.reassembly.proofs.MarkLaws.{mark-chosen}
-use Rattle.reassembly.proofs.marks.mark_if.Statement.{statement}
-use Rattle.reassembly.proofs.marks.mark_if.Tie as tie
+use Rattle.marks.specs.Marks.{capacity}
+use Rattle.marks.proofs.MarkLaws.{mark-chosen}
+use Rattle.marks.proofs.mark_if.Statement.{statement}
+use Rattle.marks.proofs.mark_if.Tie as tie
 
 slice-read-choose : tie.Need-slice-read-choose
 unfolding capacity

@@ -8,9 +8,9 @@ use denote.Ref.{now}
 use lib.ListN.{length, drop, replicate, length-set, drop-of-length-le}
 use borrow.Author.Needs.{needs}
 use borrow.Author.Fill.{fill-none, fill-more}
-use Rattle.reassembly.specs.Marks.{cleared}
-use Rattle.reassembly.proofs.marks.clear.Statement.{statement}
-use Rattle.reassembly.proofs.marks.clear.Tie as tie
+use Rattle.marks.specs.Marks.{cleared}
+use Rattle.marks.proofs.clear.Statement.{statement}
+use Rattle.marks.proofs.clear.Tie as tie
 
 abbrev Inv-loop : tie.InvT-loop
 Inv-loop marks₀ i₀ marks i = (i ≤ length marks₀) × (length marks ≡ length marks₀) × (marks ≡ replicate i 0 ++ drop i marks₀)

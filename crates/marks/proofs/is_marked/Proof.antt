@@ -1,8 +1,8 @@
--- `reassembly::marks::is_marked` meets its contract. Assumes nothing.
+-- `marks::is_marked` meets its contract. Assumes nothing.
 use mathlib.Core.Path.{refl}
-use Rattle.reassembly.specs.Marks.{capacity, marked}
-use Rattle.reassembly.proofs.marks.is_marked.Statement.{statement}
-use Rattle.reassembly.proofs.marks.is_marked.Tie as tie
+use Rattle.marks.specs.Marks.{capacity, marked}
+use Rattle.marks.proofs.is_marked.Statement.{statement}
+use Rattle.marks.proofs.is_marked.Tie as tie
 
 shared-slice-read-result : tie.Need-shared-slice-read-result
 unfolding capacity

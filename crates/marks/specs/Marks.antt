@@ -5,7 +5,7 @@ use mathlib.Core.List.{List}
 use lib.ListN.{length, getD, set, replicate}
 use lib.Dec.{ltb, eqb}
 use Rattle.wire.specs.Answer.{bit}
-use Rattle.reassembly.specs.Views.{allBelow}
+use Rattle.marks.specs.Offsets.{allBelow}
 
 -- a byte for each byte of the payload area, 1 where it is covered, where any other value means not covered; or a bit for each, eight to a
 -- byte, the lowest position in the lowest bit

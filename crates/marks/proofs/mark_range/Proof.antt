@@ -1,4 +1,4 @@
--- `reassembly::marks::mark_range` meets its contract. Assumes nothing.
+-- `marks::mark_range` meets its contract. Assumes nothing.
 use Prim.Native.Nat.{_-_, _≤_}
 use mathlib.Core.Bool.{true}
 use mathlib.Core.Path.{_≡_, refl, sym, ap, _∙_}
@@ -6,11 +6,11 @@ use native.Mathlib.Omega.{arith}
 use denote.Ref.{now}
 use lib.ListN.{length}
 use borrow.Author.Needs.{needs}
-use Rattle.reassembly.specs.Views.{inRange}
-use Rattle.reassembly.specs.Marks.{inUse, markIf, markUpTo}
-use Rattle.reassembly.proofs.MarkLaws.{marks-room, marks-start, marks-step, marks-end, range-below, range-in, range-above}
-use Rattle.reassembly.proofs.marks.mark_range.Statement.{statement}
-use Rattle.reassembly.proofs.marks.mark_range.Tie as tie
+use Rattle.marks.specs.Offsets.{inRange}
+use Rattle.marks.specs.Marks.{inUse, markIf, markUpTo}
+use Rattle.marks.proofs.MarkLaws.{marks-room, marks-start, marks-step, marks-end, range-below, range-in, range-above}
+use Rattle.marks.proofs.mark_range.Statement.{statement}
+use Rattle.marks.proofs.mark_range.Tie as tie
 
 abbrev Inv-loop : tie.InvT-loop
 Inv-loop marks₀ start end i₀ marks i =
