@@ -18,7 +18,7 @@ use Rattle.network_message.specs.Payload.{positive, listed, total, configuredSi
 use Rattle.network_message.specs.Envelope.{messagesOf, identityAt, timesAt, headerAt, bodyAt, networkMessageAt}
 use Rattle.network_header.specs.declared.flags.Flags.{Flags}
 use Rattle.network_header.specs.declared.header.PayloadHeader.{PayloadHeader}
-use Rattle.chunk_payload.specs.Payload as P
+use Rattle.chunk.specs.Payload as P
 use Rattle.chunk.specs.Datagram.{chunkAt}
 use Rattle.acceptance.proofs.Refusals.Tells.{gives, refuses}
 use Rattle.acceptance.proofs.Refusals.{Rule, Tells, Lawful, at-item, number, n1, no-place8, no-place10, pure-lawful, here-lawful, run-lawful, item-lawful, guid-lawful, length-lawful, ruled-lawful, bind-lawful, after-lawful, then-tells, cond-tells, cond-lawful, when-lawful, cond-rule, kept, optional16-lawful, optional32-lawful, optional-i64-lawful, picoseconds-lawful}

@@ -24,10 +24,10 @@ use Rattle.publisher_id.specs.declared.publisher.PublisherId.{PublisherId}
 use Rattle.network_message.specs.declared.envelope.Envelope.{Envelope}
 use Rattle.network_header.specs.declared.header.PayloadHeader.{PayloadHeader}
 use Rattle.network_header.specs.declared.flags.Flags.{Flags}
-use Rattle.chunk_payload.specs.declared.payload.ChunkData.{ChunkData}
-use Rattle.chunk_payload.specs.declared.payload.ChunkPayload.{ChunkPayload}
+use Rattle.chunk.specs.declared.payload.ChunkData.{ChunkData}
+use Rattle.chunk.specs.declared.payload.ChunkPayload.{ChunkPayload}
 use Rattle.chunk.specs.declared.datagram.ChunkPlace.{ChunkPlace}
-use Rattle.chunk_payload.specs.Payload as P
+use Rattle.chunk.specs.Payload as P
 use Rattle.chunk.specs.Datagram.{placeOf, chunkOf, chunkAt, chunkData}
 
 -- every value that a reader accepts has the property

@@ -1,3 +1,4 @@
 pub mod Accepted
 pub mod CutLaws
 pub mod ReadBack
+pub mod Sums

@@ -14,10 +14,10 @@ use Rattle.wire.specs.Items.{lengthOf, lengthItem}
 use Rattle.wire.specs.declared.Length.{Length}
 use Rattle.wire.proofs.Numbers.{length-leBytes}
 use Rattle.network_message.specs.Envelope.{NetworkMessage, networkMessageAt}
-use Rattle.chunk_payload.specs.Payload.{totalAt, dataLengthAt, dataOf, chunkPayloadAt}
+use Rattle.chunk.specs.Payload.{totalAt, dataLengthAt, dataOf, chunkPayloadAt}
 use Rattle.chunk.specs.Datagram.{placeOf, chunkAt, chunkData}
 use Rattle.chunk.specs.Cutting.{payloadBytes, cutData, chunkBytes, cutRule, cutAnswer, cutBuffer}
-use Rattle.chunk_payload.specs.declared.payload.ChunkPayload.{ChunkPayload}
+use Rattle.chunk.specs.declared.payload.ChunkPayload.{ChunkPayload}
 use Rattle.wire_writer.specs.declared.writing.Written.{Written}
 use Rattle.wire_writer.proofs.Trip.{le-at}
 use Rattle.chunk.proofs.CutLaws.{cuts, data-most, data-full, length-payload, cut-wrote}

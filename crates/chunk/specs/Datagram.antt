@@ -7,10 +7,10 @@ use Rattle.wire.specs.Answer.{Answer, got, refused, Reader, andThen}
 use Rattle.network_message.specs.Envelope.{networkMessageAt}
 use Rattle.network_message.specs.declared.envelope.Envelope.{Envelope}
 use Rattle.network_header.specs.declared.header.PayloadHeader.{PayloadHeader}
-use Rattle.chunk_payload.specs.declared.payload.ChunkPayload.{ChunkPayload}
+use Rattle.chunk.specs.declared.payload.ChunkPayload.{ChunkPayload}
 use Rattle.chunk.specs.declared.datagram.ChunkPlace.{ChunkPlace}
 use Rattle.chunk.specs.declared.datagram.ChunkRead.{ChunkRead}
-use Rattle.chunk_payload.specs.Payload.{chunkPayloadAt}
+use Rattle.chunk.specs.Payload.{chunkPayloadAt}
 
 -- "PayloadHeader: for a chunk, DataSetWriterId 2": an accepted chunk has this one (proofs/Accepted.chunk-writer), so the 0 is never given
 abbrev pub writerOf : PayloadHeader → ℕ

@@ -1,2 +1,3 @@
 pub mod Datagram
 pub mod Cutting
+pub mod Payload

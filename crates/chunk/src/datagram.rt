@@ -1,7 +1,7 @@
 // A chunk read from a datagram: its envelope, and then its payload.
-use chunk_payload::payload::ChunkPayload;
-use chunk_payload::payload::ChunkPayloadRead;
-use chunk_payload::payload::read_payload;
+use crate::payload::ChunkPayload;
+use crate::payload::ChunkPayloadRead;
+use crate::payload::read_payload;
 use network_header::header::PayloadHeader;
 use network_message::envelope::Envelope;
 use network_message::envelope::NetworkMessageRead;

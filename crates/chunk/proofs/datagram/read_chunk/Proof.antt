@@ -1,7 +1,7 @@
 -- `chunk::datagram::read_chunk` meets its contract.
 -- Assumes nothing.
 use Rattle.wire.proofs.Reading.{told}
-use Rattle.chunk_payload.specs.Payload.{answerPayload}
+use Rattle.chunk.specs.Payload.{answerPayload}
 use borrow.Author.Tests.{not-true, not-false}
 use mathlib.Core.Path.{sym}
 use borrow.Author.Needs.{needs}

@@ -1,11 +1,11 @@
--- `chunk_payload::payload::read_data_length` meets its contract.
+-- `chunk::payload::read_data_length` meets its contract.
 -- Assumes nothing.
 use mathlib.Core.Path.{sym}
 use borrow.Author.Needs.{needs}
 use Rattle.wire.specs.Items.{answerLength}
 use Rattle.wire.proofs.Reading.{told}
-use Rattle.chunk_payload.proofs.payload.read_data_length.Statement.{statement}
-use Rattle.chunk_payload.proofs.payload.read_data_length.Tie as tie
+use Rattle.chunk.proofs.payload.read_data_length.Statement.{statement}
+use Rattle.chunk.proofs.payload.read_data_length.Tie as tie
 
 returns : tie.Need-returns
 returns c =

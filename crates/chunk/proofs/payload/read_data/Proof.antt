@@ -1,11 +1,11 @@
--- `chunk_payload::payload::read_data` meets its contract.
+-- `chunk::payload::read_data` meets its contract.
 -- Assumes nothing.
 use Rattle.wire.proofs.Reading.{told}
-use Rattle.chunk_payload.specs.Payload.{answerSize}
+use Rattle.chunk.specs.Payload.{answerSize}
 use mathlib.Core.Path.{sym}
 use borrow.Author.Needs.{needs}
-use Rattle.chunk_payload.proofs.payload.read_data.Statement.{statement}
-use Rattle.chunk_payload.proofs.payload.read_data.Tie as tie
+use Rattle.chunk.proofs.payload.read_data.Statement.{statement}
+use Rattle.chunk.proofs.payload.read_data.Tie as tie
 
 returns : tie.Need-returns
 returns c =

@@ -1,8 +1,8 @@
--- `chunk_payload::payload::above` meets its contract.
+-- `chunk::payload::above` meets its contract.
 -- Assumes nothing.
-use Rattle.chunk_payload.proofs.Sums.{sum-test, over-test}
-use Rattle.chunk_payload.proofs.payload.above.Statement.{statement}
-use Rattle.chunk_payload.proofs.payload.above.Tie as tie
+use Rattle.chunk.proofs.Sums.{sum-test, over-test}
+use Rattle.chunk.proofs.payload.above.Statement.{statement}
+use Rattle.chunk.proofs.payload.above.Tie as tie
 
 returns : tie.Need-returns
 returns c = over-test _ _ _ (c .if1 .taken)

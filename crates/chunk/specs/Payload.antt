@@ -6,11 +6,11 @@ use lib.ListN.{length}
 use Rattle.wire.specs.Answer.{Answer, got, refused, Reader, item, run, here, pure, andThen, _>>=_, _>>_}
 use Rattle.wire.specs.Items.{lengthItem}
 use Rattle.wire.specs.declared.Length.{Length}
-use Rattle.chunk_payload.specs.declared.payload.ChunkPayload.{ChunkPayload}
-use Rattle.chunk_payload.specs.declared.payload.ChunkPayloadRead.{ChunkPayloadRead}
-use Rattle.chunk_payload.specs.declared.payload.SizeRead.{SizeRead}
-use Rattle.chunk_payload.specs.declared.payload.ChunkData.{ChunkData}
-use Rattle.chunk_payload.specs.declared.payload.DataRead.{DataRead}
+use Rattle.chunk.specs.declared.payload.ChunkPayload.{ChunkPayload}
+use Rattle.chunk.specs.declared.payload.ChunkPayloadRead.{ChunkPayloadRead}
+use Rattle.chunk.specs.declared.payload.SizeRead.{SizeRead}
+use Rattle.chunk.specs.declared.payload.ChunkData.{ChunkData}
+use Rattle.chunk.specs.declared.payload.DataRead.{DataRead}
 
 -- TotalSize 4: "Total 0 .. is 6; total above 16,384 is 10", whose place is 0
 abbrev pub totalOf : ℕ → ℕ → ℕ → Answer ℕ

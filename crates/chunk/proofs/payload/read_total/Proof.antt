@@ -1,12 +1,12 @@
--- `chunk_payload::payload::read_total` meets its contract.
+-- `chunk::payload::read_total` meets its contract.
 -- Assumes nothing.
 use Rattle.wire.proofs.Reading.{told}
 use Rattle.wire.specs.Items.{answer32}
 use borrow.Author.Tests.{eq-eqb, ne-eqb, lt-ltb, le-ltb}
 use mathlib.Core.Path.{sym}
 use borrow.Author.Needs.{needs}
-use Rattle.chunk_payload.proofs.payload.read_total.Statement.{statement}
-use Rattle.chunk_payload.proofs.payload.read_total.Tie as tie
+use Rattle.chunk.proofs.payload.read_total.Statement.{statement}
+use Rattle.chunk.proofs.payload.read_total.Tie as tie
 
 returns : tie.Need-returns
 returns c =

@@ -1,12 +1,12 @@
--- `chunk_payload::payload::data_of` meets its contract.
+-- `chunk::payload::data_of` meets its contract.
 -- Assumes nothing.
 use Rattle.wire.proofs.Reading.{told}
 use Rattle.wire.specs.Items.{answerRun}
 use borrow.Author.Tests.{eq-eqb, ne-eqb}
 use mathlib.Core.Path.{sym}
 use borrow.Author.Needs.{needs}
-use Rattle.chunk_payload.proofs.payload.data_of.Statement.{statement}
-use Rattle.chunk_payload.proofs.payload.data_of.Tie as tie
+use Rattle.chunk.proofs.payload.data_of.Statement.{statement}
+use Rattle.chunk.proofs.payload.data_of.Tie as tie
 
 returns : tie.Need-returns
 returns c =

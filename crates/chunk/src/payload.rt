@@ -6,8 +6,7 @@ use wire::Run;
 ghost use mathlib.Core.Path.{_≡_};
 ghost use Prim.Native.Nat.{_+_};
 ghost use lib.Dec.{ltb};
-ghost use Rattle.chunk_payload.specs.Payload.{totalAt, sizedData, dataLengthAt, dataOf, dataAt, restAt, chunkPayloadAt};
-ghost use Rattle.chunk_payload.specs.Payload.{answerSize, answerData, answerPayload};
+ghost use Rattle.chunk.specs.Payload.{totalAt, sizedData, dataLengthAt, dataOf, dataAt, restAt, chunkPayloadAt, answerSize, answerData, answerPayload};
 
 // The numbers of a chunk, and where its data stands.
 pub struct ChunkPayload {

@@ -1,10 +1,10 @@
--- `chunk_payload::payload::sized_data` meets its contract.
+-- `chunk::payload::sized_data` meets its contract.
 -- Assumes nothing.
 use borrow.Author.Tests.{eq-eqb, ne-eqb}
 use mathlib.Core.Path.{sym, _∙_}
 use borrow.Author.Needs.{needs}
-use Rattle.chunk_payload.proofs.payload.sized_data.Statement.{statement}
-use Rattle.chunk_payload.proofs.payload.sized_data.Tie as tie
+use Rattle.chunk.proofs.payload.sized_data.Statement.{statement}
+use Rattle.chunk.proofs.payload.sized_data.Tie as tie
 
 returns : tie.Need-returns
 returns c = rw (eq-eqb _ _ (c .if1 .taken))

@@ -1,11 +1,11 @@
--- `chunk_payload::payload::read_payload` meets its contract.
+-- `chunk::payload::read_payload` meets its contract.
 -- Assumes nothing.
 use Rattle.wire.proofs.Reading.{told}
 use Rattle.wire.specs.Items.{answer16}
 use mathlib.Core.Path.{sym}
 use borrow.Author.Needs.{needs}
-use Rattle.chunk_payload.proofs.payload.read_payload.Statement.{statement}
-use Rattle.chunk_payload.proofs.payload.read_payload.Tie as tie
+use Rattle.chunk.proofs.payload.read_payload.Statement.{statement}
+use Rattle.chunk.proofs.payload.read_payload.Tie as tie
 
 returns : tie.Need-returns
 returns c =

@@ -1,12 +1,12 @@
--- `chunk_payload::payload::read_rest` meets its contract.
+-- `chunk::payload::read_rest` meets its contract.
 -- Assumes nothing.
 use Rattle.wire.proofs.Reading.{told}
-use Rattle.chunk_payload.specs.Payload.{answerSize, answerData}
+use Rattle.chunk.specs.Payload.{answerSize, answerData}
 use Rattle.wire.specs.Items.{answer32}
 use mathlib.Core.Path.{sym}
 use borrow.Author.Needs.{needs}
-use Rattle.chunk_payload.proofs.payload.read_rest.Statement.{statement}
-use Rattle.chunk_payload.proofs.payload.read_rest.Tie as tie
+use Rattle.chunk.proofs.payload.read_rest.Statement.{statement}
+use Rattle.chunk.proofs.payload.read_rest.Tie as tie
 
 returns : tie.Need-returns
 returns c =
