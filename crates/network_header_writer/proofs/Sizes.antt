@@ -1,11 +1,9 @@
 -- The sizes of parts that stand one after the other: flag bytes and the group header.
 -- Assumes nothing.
-use mathlib.Core.Path.{_≡_, refl, ap₂, sym, _∙_}
-use mathlib.Core.Bool.{Bool, true, false, cond}
-use mathlib.Core.List.{List, [], _++_}
+use mathlib.Core.Path.{_≡_, refl, _∙_}
+use mathlib.Core.List.{_++_}
 use Prim.Native.Nat.{ℕ, _+_}
-use lib.Dec.{eqb}
-use lib.ListN.{length, length-append}
+use lib.ListN.{length}
 use Rattle.wire.specs.Number.{leBytes}
 use Rattle.network_header.specs.declared.flags.Flags.{Flags}
 use Rattle.network_header.specs.declared.group.GroupFields.{GroupFields}
@@ -13,18 +11,7 @@ use Rattle.network_header.specs.declared.group.GroupHeader.{GroupHeader}
 use Rattle.wire_writer.specs.Writing.{needed, byteBytes, optional16Bytes, optional32Bytes}
 use Rattle.network_header_writer.specs.Flags.{extended2Of, extended1Of, byte0Of, flagBytes}
 use Rattle.network_header_writer.specs.Group.{groupFlagsOf, fieldsBytes, groupBytes}
-
--- of two parts
-pub add-sizes : {m n : ℕ} (x y : List ℕ) → m ≡ length x → n ≡ length y → m + n ≡ length (x ++ y)
-add-sizes x y e f = ap₂ _+_ e f ∙ sym (length-append x y)
-
--- of a flag byte
-byte-sized : (e : ℕ) → needed e ≡ length (byteBytes e)
-byte-sized e = go (eqb e 0)
-  where
-    go : (b : Bool) → cond b 0 1 ≡ length (cond b [] (leBytes 1 e))
-    go true = refl
-    go false = refl
+use Rattle.wire_writer.proofs.Parts.{add-sizes, byte-sized}
 
 pub flags-sized : (f : Flags) {a b : ℕ} → a ≡ needed (extended1Of f) → b ≡ needed (extended2Of f) → 1 + (a + b) ≡ length (flagBytes f)
 flags-sized f p q =

@@ -6,7 +6,7 @@ use Rattle.wire.specs.Number.{leBytes}
 use Rattle.network_header.specs.declared.flags.Flags.{Flags}
 use Rattle.network_message.specs.declared.envelope.Envelope.{Envelope}
 use Rattle.wire_writer.specs.Writing.{num, needed, byteBytes, on16, onI64}
-use Rattle.network_header_writer.specs.Publisher.{publisherOn, kindOf}
+use Rattle.publisher_id.specs.PublisherWriter.{publisherOn, kindOf}
 use Rattle.network_header_writer.specs.Group.{groupOn}
 use Rattle.network_header_writer.specs.Header.{classOn, payloadHeaderOn, promotedOn}
 

@@ -10,7 +10,7 @@ use Rattle.network_header.specs.declared.header.ClassId.{ClassId}
 use Rattle.network_header.specs.declared.header.PayloadHeader.{PayloadHeader}
 use Rattle.network_header.specs.declared.header.Promoted.{Promoted}
 use Rattle.network_header.specs.Header.{countRule, sizeRule}
-use Rattle.network_header_writer.specs.Publisher.{unused}
+use Rattle.wire_writer.specs.Writing.{unused}
 use Rattle.network_header_writer.specs.Numbers.{sameNumbers}
 
 abbrev pub classOn : ClassId → Bool

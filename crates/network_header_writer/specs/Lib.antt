@@ -1,4 +1,3 @@
-pub mod Publisher
 pub mod Group
 pub mod Numbers
 pub mod Header

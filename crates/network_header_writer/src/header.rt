@@ -1,10 +1,10 @@
 // DataSetClassId, PayloadHeader and promoted fields.
 use crate::numbers::same_numbers;
-use crate::publisher::must_equal;
-use crate::publisher::not_used;
 use network_header::header::ClassId;
 use network_header::header::PayloadHeader;
 use network_header::header::Promoted;
+use wire_writer::writing::must_equal;
+use wire_writer::writing::not_used;
 use wire_writer::writing::put_guid;
 use wire_writer::writing::put_run;
 use wire_writer::writing::put8;

@@ -4,4 +4,3 @@ pub mod flags;
 pub mod group;
 pub mod header;
 pub mod numbers;
-pub mod publisher;

@@ -1,7 +1,7 @@
 // Lists of numbers as bytes, 2 bytes each.
-use crate::publisher::must_equal;
 use network_message::payload::writers;
 use wire::Item16;
+use wire_writer::writing::must_equal;
 ghost use mathlib.Core.Path.{_≡_};
 ghost use Prim.Native.Nat.{_+_, _*_, _≤_};
 ghost use lib.ListN.{length, take};

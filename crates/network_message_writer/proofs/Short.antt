@@ -16,11 +16,11 @@ use Rattle.network_header.specs.declared.header.Promoted.{Promoted}
 use Rattle.network_message.specs.declared.envelope.Envelope.{Envelope}
 use Rattle.network_message.specs.Payload.{configuredSizes, restAt}
 use Rattle.network_message.specs.Envelope.{messagesOf}
-use Rattle.wire_writer.specs.Writing.{orElse, on16, onI64, picosecondsRefusal}
+use Rattle.wire_writer.specs.Writing.{orElse, on16, onI64, picosecondsRefusal, unused}
 use Rattle.wire_writer.proofs.Refusals.{passed, held, both-zero}
 use Rattle.network_header_writer.specs.Flags.{timesRefusal}
 use Rattle.network_header_writer.specs.Group.{groupRefusal}
-use Rattle.network_header_writer.specs.Publisher.{publisherRefusal, unused, publisherShape}
+use Rattle.publisher_id.specs.PublisherWriter.{publisherRefusal, publisherShape}
 use Rattle.network_header_writer.specs.Header.{countRefusal, promotedRefusal, idsShape, promotedShape}
 use Rattle.network_header_writer.specs.Numbers.{agree, sameNumbers, listedRefusal}
 use Rattle.network_message_writer.specs.Payload.{numberIn, payloadRefusal, lengthsShape}

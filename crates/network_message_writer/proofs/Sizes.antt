@@ -7,10 +7,10 @@ use lib.ListN.{length}
 use Rattle.network_message.specs.declared.envelope.Envelope.{Envelope}
 use Rattle.wire_writer.specs.Writing.{optional16Bytes, optionalI64Bytes}
 use Rattle.network_header_writer.specs.Flags.{flagBytes, flagsFor}
-use Rattle.network_header_writer.specs.Publisher.{publisherBytes}
+use Rattle.publisher_id.specs.PublisherWriter.{publisherBytes}
 use Rattle.network_header_writer.specs.Group.{groupBytes}
 use Rattle.network_header_writer.specs.Header.{classBytes, payloadHeaderBytes, promotedBytes}
-use Rattle.network_header_writer.proofs.Sizes.{add-sizes}
+use Rattle.wire_writer.proofs.Parts.{add-sizes}
 use Rattle.network_message_writer.specs.Payload.{listBytes}
 use Rattle.network_message_writer.specs.Envelope.{Given, tailBytes, headerBytes, datagramOf}
 

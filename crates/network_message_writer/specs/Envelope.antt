@@ -12,7 +12,7 @@ use Rattle.network_message.specs.Payload.{configuredSizes}
 use Rattle.network_message.specs.Envelope.{NetworkMessage, messagesOf}
 use Rattle.wire_writer.specs.Writing.{orElse, on16, onI64, optional16Bytes, optionalI64Bytes, picosecondsRefusal, numberFor, bufferBy, answerBy}
 use Rattle.network_header_writer.specs.Flags.{flagBytes, flagsFor, timesRefusal}
-use Rattle.network_header_writer.specs.Publisher.{publisherBytes, publisherRefusal, publisherShape}
+use Rattle.publisher_id.specs.PublisherWriter.{publisherBytes, publisherRefusal, publisherShape}
 use Rattle.network_header_writer.specs.Group.{groupBytes, groupRefusal}
 use Rattle.network_header_writer.specs.Header.{classBytes, payloadHeaderBytes, promotedBytes, countRefusal, promotedRefusal, idsShape, promotedShape}
 use Rattle.network_message_writer.specs.Payload.{listBytes, payloadRefusal, lengthsShape}

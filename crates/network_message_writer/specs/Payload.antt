@@ -8,7 +8,7 @@ use lib.ListN.{length}
 use Rattle.wire.specs.Answer.{Answer, got, refused}
 use Rattle.network_header.specs.declared.header.PayloadHeader.{PayloadHeader}
 use Rattle.network_message.specs.Payload.{configuredSizes, restAt, payloadAt}
-use Rattle.network_header_writer.specs.Publisher.{unused}
+use Rattle.wire_writer.specs.Writing.{unused}
 use Rattle.network_header_writer.specs.Numbers.{sameNumbers, listedRefusal}
 
 -- "With Count above 1: Count sizes of 2 bytes"; no other payload has the list

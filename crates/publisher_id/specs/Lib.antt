@@ -1,2 +1,3 @@
+pub mod PublisherWriter
 pub mod Publisher
 pub mod PublisherRecord

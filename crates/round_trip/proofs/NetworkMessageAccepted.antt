@@ -24,11 +24,11 @@ use Rattle.network_header.specs.Flags.{flagsAt}
 use Rattle.network_header.specs.Header.{payloadHeaderAt}
 use Rattle.network_message.specs.Payload.{configuredSizes, restAt, listedAt, payloadAt}
 use Rattle.network_message.specs.Envelope.{Header, NetworkMessage, identityAt, timesAt, messagesOf, headerAt, bodyAt, networkMessageAt}
-use Rattle.wire_writer.specs.Writing.{orElse, on16, onI64, picosecondsRefusal}
+use Rattle.wire_writer.specs.Writing.{orElse, on16, onI64, picosecondsRefusal, unused}
 use Rattle.wire_writer.proofs.Trip.{At, le-at}
 use Rattle.wire_writer.proofs.Back.{run-back, map-back}
 use Rattle.network_header_writer.specs.Flags.{timesRefusal}
-use Rattle.network_header_writer.specs.Publisher.{unused, publisherRefusal, publisherShape}
+use Rattle.publisher_id.specs.PublisherWriter.{publisherRefusal, publisherShape}
 use Rattle.network_header_writer.specs.Group.{groupRefusal}
 use Rattle.network_header_writer.specs.Header.{idsShape, countRefusal, promotedRefusal, promotedShape}
 use Rattle.network_header_writer.specs.Numbers.{agree, sameNumbers}

@@ -18,11 +18,11 @@ use Rattle.network_header.specs.declared.header.PayloadHeader.{PayloadHeader}
 use Rattle.network_header.specs.declared.header.Promoted.{Promoted}
 use Rattle.network_message.specs.declared.envelope.Envelope.{Envelope}
 use Rattle.network_message.specs.WriterId.{listedId, configuredId, writerIdOf}
-use Rattle.wire_writer.specs.Writing.{optional16Bytes, optionalI64Bytes}
+use Rattle.wire_writer.specs.Writing.{optional16Bytes, optionalI64Bytes, unused}
 use Rattle.wire_writer.proofs.Trip.{At, first, second, fits-at}
 use Rattle.wire_writer.proofs.Refusals.{passed, held}
 use Rattle.network_header_writer.specs.Flags.{flagsFor, flagBytes}
-use Rattle.network_header_writer.specs.Publisher.{publisherBytes, unused, publisherShape}
+use Rattle.publisher_id.specs.PublisherWriter.{publisherBytes, publisherShape}
 use Rattle.network_header_writer.specs.Group.{groupBytes}
 use Rattle.network_header_writer.specs.Header.{classBytes, payloadHeaderBytes, promotedBytes, idsShape, promotedShape}
 use Rattle.network_header_writer.specs.Numbers.{sameNumbers}

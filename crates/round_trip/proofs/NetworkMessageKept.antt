@@ -28,7 +28,7 @@ use Rattle.wire_writer.specs.Writing.{picosecondsRefusal}
 use Rattle.wire_writer.proofs.Refusals.{passed, no}
 use Rattle.wire_writer.proofs.Back.{item-back, run-back, ruled-back, map-back}
 use Rattle.network_header_writer.specs.Flags.{timesRefusal}
-use Rattle.network_header_writer.specs.Publisher.{publisherRefusal, publisherShape}
+use Rattle.publisher_id.specs.PublisherWriter.{publisherRefusal, publisherShape}
 use Rattle.network_header_writer.specs.Group.{numberRefusal, groupRefusal}
 use Rattle.network_header_writer.specs.Header.{promotedRefusal, promotedShape}
 use Rattle.network_message_writer.specs.Envelope.{before, textOf, promotedOf}

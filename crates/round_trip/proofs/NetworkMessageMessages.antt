@@ -18,7 +18,7 @@ use Rattle.network_message.specs.Payload.{total, positive, listed, configuredSi
 use Rattle.network_message.proofs.Messages.{Tiles}
 use Rattle.network_message.proofs.Accepted.{OfMessages}
 use Rattle.wire_writer.proofs.Refusals.{held}
-use Rattle.network_header_writer.specs.Publisher.{unused}
+use Rattle.wire_writer.specs.Writing.{unused}
 use Rattle.network_header_writer.specs.Numbers.{agree, sameNumbers, listedRefusal}
 use Rattle.network_message_writer.specs.Payload.{listBytes, numberIn, payloadRefusal, lengthsShape}
 use Rattle.network_message_writer.specs.Envelope.{Given}

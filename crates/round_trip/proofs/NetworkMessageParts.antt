@@ -25,7 +25,7 @@ use Rattle.wire_writer.specs.Writing.{num, on16, on32, optional16Bytes, optiona
 use Rattle.wire_writer.proofs.Trip.{Reads, first, second, fits-at, last, nothing, rule-kept, run-is, le-at, item-is, ruled-is, guid-is, optional16-is, optional32-is}
 use Rattle.wire_writer.proofs.Refusals.{passed, held}
 use Rattle.wire_writer.proofs.Bits.{num-bound, flag-is}
-use Rattle.network_header_writer.specs.Publisher.{publisherOn, kindOf, publisherBytes, publisherRefusal, publisherShape}
+use Rattle.publisher_id.specs.PublisherWriter.{publisherOn, kindOf, publisherBytes, publisherRefusal, publisherShape}
 use Rattle.network_header_writer.specs.Group.{groupOn, groupFlagsOf, fieldsBytes, groupBytes, numberRefusal, groupRefusal}
 use Rattle.network_header_writer.specs.Header.{classOn, classBytes, payloadHeaderOn, payloadHeaderBytes, promotedOn, promotedBytes, countRefusal, promotedRefusal, idsShape, promotedShape}
 use Rattle.network_message_writer.proofs.Short.{ids-counted}

@@ -29,7 +29,7 @@ use Rattle.wire_writer.specs.Writing.{optional16Bytes, optional32Bytes}
 use Rattle.wire_writer.proofs.Refusals.{passed}
 use Rattle.wire_writer.proofs.Bits.{num-bit}
 use Rattle.wire_writer.proofs.Back.{Back, empty, join, end-fits, run-part, item-back, run-back, ruled-back, map-back, guid-back, optional16-back, optional32-back, ruled16-back}
-use Rattle.network_header_writer.specs.Publisher.{publisherOn, kindOf, publisherBytes}
+use Rattle.publisher_id.specs.PublisherWriter.{publisherOn, kindOf, publisherBytes}
 use Rattle.network_header_writer.specs.Group.{groupOn, groupFlagsOf, fieldsBytes, groupBytes}
 use Rattle.network_header_writer.specs.Header.{classOn, classBytes, payloadHeaderOn, payloadHeaderBytes, promotedOn, promotedBytes}
 use Rattle.network_message_writer.specs.Envelope.{before, textOf, idsOf, promotedOf}

@@ -30,7 +30,7 @@ use Rattle.wire_writer.proofs.Trip.{At, first, second, fits-at, le-at, item-is,
 use Rattle.wire_writer.proofs.Refusals.{passed, held, or-case, no, Refuses, broken, number-broken, picoseconds-refuses}
 use Rattle.wire_writer.proofs.Bits.{num-bound, needed-bound, flag-is}
 use Rattle.network_header_writer.specs.Flags.{extended2Of, extended1Of, byte0Of, flagBytes, flagsFor, timesRefusal}
-use Rattle.network_header_writer.specs.Publisher.{publisherOn, kindOf, publisherBytes, publisherRefusal, publisherShape}
+use Rattle.publisher_id.specs.PublisherWriter.{publisherOn, kindOf, publisherBytes, publisherRefusal, publisherShape}
 use Rattle.network_header_writer.specs.Group.{groupOn, groupFlagsOf, fieldsBytes, groupBytes, numberRefusal, groupRefusal}
 use Rattle.network_header_writer.specs.Header.{classBytes, payloadHeaderOn, payloadHeaderBytes, promotedOn, promotedBytes, countRefusal, promotedRefusal, idsShape, promotedShape}
 use Rattle.network_message_writer.specs.Payload.{listBytes, numberIn, payloadRefusal}

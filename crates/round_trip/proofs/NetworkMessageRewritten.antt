@@ -34,7 +34,7 @@ use Rattle.wire_writer.specs.Writing.{needed, numberFor, answerBy, bufferBy, op
 use Rattle.wire_writer.proofs.Answering.{writes, reports}
 use Rattle.wire_writer.proofs.Back.{Back, join, rest-is, end-fits, map-back, optionalI64-back, ruled16-back}
 use Rattle.network_header_writer.specs.Flags.{extended1Of, flagsFor, flagBytes}
-use Rattle.network_header_writer.specs.Publisher.{publisherOn, publisherBytes}
+use Rattle.publisher_id.specs.PublisherWriter.{publisherOn, publisherBytes}
 use Rattle.network_header_writer.specs.Group.{groupBytes}
 use Rattle.network_header_writer.specs.Header.{classBytes, payloadHeaderBytes, promotedBytes}
 use Rattle.network_message_writer.specs.Envelope.{headerBytes, textOf, idsOf, promotedOf, againOf, rewriteAnswer, rewriteBuffer}

@@ -17,7 +17,7 @@ use Rattle.network_message.specs.Envelope.{NetworkMessage, networkMessageAt}
 use Rattle.wire_writer.proofs.Refusals.{passed, both-zero}
 use Rattle.wire_writer.specs.Writing.{orElse}
 use Rattle.network_header_writer.specs.Flags.{flagBytes, flagsFor}
-use Rattle.network_header_writer.specs.Publisher.{publisherBytes, publisherShape}
+use Rattle.publisher_id.specs.PublisherWriter.{publisherBytes, publisherShape}
 use Rattle.network_header_writer.specs.Group.{groupBytes}
 use Rattle.network_header_writer.specs.Header.{classBytes, idsShape, promotedShape}
 use Rattle.network_message_writer.specs.Payload.{listBytes, lengthsShape}

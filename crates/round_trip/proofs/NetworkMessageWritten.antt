@@ -20,7 +20,7 @@ use Rattle.network_message.proofs.Accepted.{OfMessages}
 use Rattle.wire_writer.specs.Writing.{optional16Bytes, optionalI64Bytes}
 use Rattle.wire_writer.proofs.Trip.{At, first, second, optionalI64-is, picoseconds-is}
 use Rattle.network_header_writer.specs.Flags.{flagsFor, flagBytes}
-use Rattle.network_header_writer.specs.Publisher.{kindOf, publisherBytes}
+use Rattle.publisher_id.specs.PublisherWriter.{kindOf, publisherBytes}
 use Rattle.network_header_writer.specs.Group.{groupBytes}
 use Rattle.network_header_writer.specs.Header.{classBytes, payloadHeaderBytes, promotedBytes}
 use Rattle.network_message_writer.specs.Payload.{listBytes}

@@ -25,7 +25,7 @@ use Rattle.network_message.specs.WriterId.{writerIdOf}
 use Rattle.network_message.specs.Envelope.{NetworkMessage, networkMessageAt, messagePlaceAt, messageBytes}
 use Rattle.network_message.proofs.Accepted.{OfMessages}
 use Rattle.network_header_writer.specs.Flags.{flagBytes, flagsFor}
-use Rattle.network_header_writer.specs.Publisher.{publisherOn, publisherBytes}
+use Rattle.publisher_id.specs.PublisherWriter.{publisherOn, publisherBytes}
 use Rattle.network_header_writer.specs.Group.{groupBytes}
 use Rattle.network_header_writer.specs.Header.{classBytes, payloadHeaderBytes}
 use Rattle.network_message_writer.specs.Envelope.{Given, headerBytes, datagramOf, refusalOf, before, textOf, promotedOf, rewriteAnswer, rewriteBuffer}

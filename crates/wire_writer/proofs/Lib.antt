@@ -1,3 +1,4 @@
+pub mod Parts
 pub mod Stores
 pub mod Putting
 pub mod Trip

@@ -87,3 +87,7 @@ optionalI64Bytes (OptionalI64.Is v) = leBytes 8 (unsigned 8 v)
 abbrev pub picosecondsRefusal : Optional16 → ℕ
 picosecondsRefusal Optional16.Absent = 0
 picosecondsRefusal (Optional16.Is v) = picosecondsRule v
+
+-- what would read back otherwise is 6: here a part of this length that nothing announces
+abbrev pub unused : ℕ → ℕ
+unused len = cond (eqb len 0) 0 6

@@ -8,11 +8,11 @@ use wire::optional::OptionalI64;
 ghost use mathlib.Core.Path.{_≡_};
 ghost use mathlib.Core.Bool.{cond};
 ghost use Prim.Native.Nat.{_+_, _≤_};
-ghost use lib.Dec.{leb};
+ghost use lib.Dec.{leb, eqb};
 ghost use Rattle.wire.specs.Number.{leBytes, unsigned};
 ghost use Rattle.wire.specs.Items.{guidBytes};
 ghost use Rattle.wire_writer.specs.Store.{Stored};
-ghost use Rattle.wire_writer.specs.Writing.{orElse, num, on16, on32, onI64, picosecondsRefusal, byteBytes, optional16Bytes, optional32Bytes, optionalI64Bytes};
+ghost use Rattle.wire_writer.specs.Writing.{orElse, num, on16, on32, onI64, picosecondsRefusal, byteBytes, optional16Bytes, optional32Bytes, optionalI64Bytes, unused};
 
 // What a writer answers: how many bytes it wrote, or the number of its refusal, whose place is 0.
 pub enum Written {
@@ -178,4 +178,24 @@ pub fn picoseconds_refusal(x: Optional16) -> u8
         Optional16::Absent => 0,
         Optional16::Is(v) => wire::optional::picoseconds_rule(v),
     }
+}
+
+// A part of this length that nothing announces.
+pub fn not_used(len: usize) -> u8
+    ensures { λ r. ⌜ r ≡ unused len ⌝ }
+{
+    if len == 0 {
+        return 0;
+    }
+    6
+}
+
+// Two numbers that must be equal.
+pub fn must_equal(a: usize, b: usize) -> u8
+    ensures { λ r. ⌜ r ≡ cond (eqb a b) 0 6 ⌝ }
+{
+    if a == b {
+        return 0;
+    }
+    6
 }

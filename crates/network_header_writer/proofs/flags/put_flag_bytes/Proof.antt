@@ -1,6 +1,6 @@
 -- `network_header_writer::flags::put_flag_bytes` meets its contract.
 -- Assumes nothing.
-use Rattle.network_header_writer.proofs.Parts.{puts-as}
+use Rattle.wire_writer.proofs.Parts.{puts-as}
 use Rattle.wire_writer.proofs.Putting.{puts, then}
 use Rattle.wire_writer.specs.Writing.{byteBytes}
 use Rattle.wire.specs.Number.{leBytes}

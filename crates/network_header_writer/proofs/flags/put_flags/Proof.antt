@@ -1,6 +1,6 @@
 -- `network_header_writer::flags::put_flags` meets its contract.
 -- Assumes nothing.
-use Rattle.network_header_writer.proofs.Parts.{puts-as}
+use Rattle.wire_writer.proofs.Parts.{puts-as}
 use Rattle.network_header_writer.specs.Flags.{flagBytes}
 use mathlib.Core.Path.{ap}
 use borrow.Author.Needs.{needs}

@@ -1,6 +1,6 @@
 -- `network_header_writer::group::put_group` meets its contract.
 -- Assumes nothing.
-use Rattle.network_header_writer.proofs.Parts.{puts-as}
+use Rattle.wire_writer.proofs.Parts.{puts-as}
 use Rattle.wire_writer.proofs.Putting.{puts, then, nothing}
 use Rattle.wire.specs.Number.{leBytes}
 use mathlib.Core.Path.{ap}

@@ -1,6 +1,6 @@
 -- `network_header_writer::header::put_promoted` meets its contract.
 -- Assumes nothing.
-use Rattle.network_header_writer.proofs.Parts.{low16-puts}
+use Rattle.wire_writer.proofs.Parts.{low16-puts}
 use Rattle.wire_writer.proofs.Putting.{puts, then, nothing}
 use lib.ListN.{length}
 use denote.Ref.{now}

@@ -1,6 +1,6 @@
 -- `network_message_writer::envelope::header_refusal` meets its contract.
 -- Assumes nothing.
-use Rattle.network_header_writer.proofs.Parts.{or-as}
+use Rattle.wire_writer.proofs.Parts.{or-as}
 use Rattle.network_header_writer.specs.Header.{promotedRefusal}
 use Rattle.network_header_writer.specs.Flags.{timesRefusal}
 use mathlib.Core.Path.{ap, ap₂, refl, _∙_}

@@ -1,6 +1,6 @@
 -- `network_message_writer::envelope::shape_refusal` meets its contract.
 -- Assumes nothing.
-use Rattle.network_header_writer.proofs.Parts.{or-as}
+use Rattle.wire_writer.proofs.Parts.{or-as}
 use borrow.Author.Needs.{needs}
 use Rattle.network_message_writer.proofs.envelope.shape_refusal.Statement.{statement}
 use Rattle.network_message_writer.proofs.envelope.shape_refusal.Tie as tie

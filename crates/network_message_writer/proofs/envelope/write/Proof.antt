@@ -1,7 +1,7 @@
 -- `network_message_writer::envelope::write` meets its contract.
 -- Assumes nothing.
 use Rattle.network_message_writer.proofs.Short.{all-short}
-use Rattle.network_header_writer.proofs.Parts.{or-as}
+use Rattle.wire_writer.proofs.Parts.{or-as}
 use Rattle.network_message_writer.specs.Envelope.{given, datagramOf, refusalOf}
 use Rattle.wire_writer.proofs.Answering.{refuses, too-long, no-room, writes, reports}
 use Rattle.wire_writer.proofs.Putting.{whole}

@@ -1,8 +1,8 @@
--- `network_header_writer::publisher::must_equal` meets its contract.
+-- `wire_writer::writing::must_equal` meets its contract.
 -- Assumes nothing.
 use borrow.Author.Tests.{eq-eqb, ne-eqb}
-use Rattle.network_header_writer.proofs.publisher.must_equal.Statement.{statement}
-use Rattle.network_header_writer.proofs.publisher.must_equal.Tie as tie
+use Rattle.wire_writer.proofs.writing.must_equal.Statement.{statement}
+use Rattle.wire_writer.proofs.writing.must_equal.Tie as tie
 
 returns : tie.Need-returns
 returns c = rw (eq-eqb _ _ (c .if1 .taken))

@@ -1,8 +1,8 @@
--- `network_header_writer::publisher::not_used` meets its contract.
+-- `wire_writer::writing::not_used` meets its contract.
 -- Assumes nothing.
 use borrow.Author.Tests.{eq-eqb, ne-eqb}
-use Rattle.network_header_writer.proofs.publisher.not_used.Statement.{statement}
-use Rattle.network_header_writer.proofs.publisher.not_used.Tie as tie
+use Rattle.wire_writer.proofs.writing.not_used.Statement.{statement}
+use Rattle.wire_writer.proofs.writing.not_used.Tie as tie
 
 returns : tie.Need-returns
 returns c = rw (eq-eqb _ _ (c .if1 .taken))

@@ -1,10 +1,10 @@
--- `network_header_writer::publisher::put_publisher` meets its contract.
+-- `publisher_id::publisher_writer::put_publisher` meets its contract.
 -- Assumes nothing.
 use Rattle.wire_writer.proofs.Putting.{puts, nothing}
 use denote.Ref.{now}
 use borrow.Author.Needs.{needs}
-use Rattle.network_header_writer.proofs.publisher.put_publisher.Statement.{statement}
-use Rattle.network_header_writer.proofs.publisher.put_publisher.Tie as tie
+use Rattle.publisher_id.proofs.publisher_writer.put_publisher.Statement.{statement}
+use Rattle.publisher_id.proofs.publisher_writer.put_publisher.Tie as tie
 
 returns : tie.Need-returns
 returns c =

@@ -1,12 +1,12 @@
--- `network_header_writer::publisher::put_text` meets its contract.
+-- `publisher_id::publisher_writer::put_text` meets its contract.
 -- Assumes nothing.
-use Rattle.network_header_writer.proofs.Parts.{low32-puts}
+use Rattle.wire_writer.proofs.Parts.{low32-puts}
 use Rattle.wire_writer.proofs.Putting.{puts, then}
 use lib.ListN.{length}
 use denote.Ref.{now}
 use borrow.Author.Needs.{needs}
-use Rattle.network_header_writer.proofs.publisher.put_text.Statement.{statement}
-use Rattle.network_header_writer.proofs.publisher.put_text.Tie as tie
+use Rattle.publisher_id.proofs.publisher_writer.put_text.Statement.{statement}
+use Rattle.publisher_id.proofs.publisher_writer.put_text.Tie as tie
 
 returns : tie.Need-returns
 returns c =

@@ -1,8 +1,8 @@
--- `network_header_writer::publisher::publisher_shape` meets its contract.
+-- `publisher_id::publisher_writer::publisher_shape` meets its contract.
 -- Assumes nothing.
 use borrow.Author.Needs.{needs}
-use Rattle.network_header_writer.proofs.publisher.publisher_shape.Statement.{statement}
-use Rattle.network_header_writer.proofs.publisher.publisher_shape.Tie as tie
+use Rattle.publisher_id.proofs.publisher_writer.publisher_shape.Statement.{statement}
+use Rattle.publisher_id.proofs.publisher_writer.publisher_shape.Tie as tie
 
 returns : tie.Need-returns
 returns c = rw (c .before .enum-told .given .1) (c .not-used .ensures)

@@ -5,7 +5,8 @@ use mathlib.Core.List.{List, [], _++_}
 use lib.Dec.{leb, eqb}
 use lib.ListN.{length}
 use Rattle.wire.specs.Number.{leBytes}
 use Rattle.publisher_id.specs.declared.publisher.PublisherId.{PublisherId}
+use Rattle.wire_writer.specs.Writing.{unused}
 
 abbrev pub publisherOn : PublisherId → Bool
 publisherOn PublisherId.Absent = false
@@ -41,10 +42,6 @@ publisherRefusal (PublisherId.UInt16 v) = 0
 publisherRefusal (PublisherId.UInt32 v) = 0
 publisherRefusal (PublisherId.UInt64 v) = 0
 publisherRefusal (PublisherId.Text n) = cond (leb 65 n) 10 0
-
--- what would read back otherwise is 6: here a part of this length that nothing announces
-abbrev pub unused : ℕ → ℕ
-unused len = cond (eqb len 0) 0 6
 
 -- and bytes of a string that are not as many as the id says
 abbrev pub publisherShape : PublisherId → ℕ → ℕ

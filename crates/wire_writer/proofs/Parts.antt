@@ -1,15 +1,18 @@
 -- Laws of parts that are stored and measured one after the other, and of refusals in order.
 -- Assumes nothing.
-use mathlib.Core.Path.{_≡_, refl, ap, ap₂, subst, _∙_}
-use mathlib.Core.List.{List, _∷_}
+use mathlib.Core.Path.{_≡_, refl, ap, ap₂, subst, _∙_, sym}
+use mathlib.Core.List.{List, _∷_, _++_, []}
 use Prim.Native.Nat.{ℕ, zero, suc, _+_, _*_, _/_, _%_, _^_, _<_}
 use native.Mathlib.Nat.{pow-suc}
 use native.Mathlib.Omega.{arith}
 use lib.Arith.{mod-mul}
 use Rattle.wire.specs.Number.{leBytes}
 use Rattle.wire_writer.specs.Store.{Stored}
-use Rattle.wire_writer.specs.Writing.{Puts, orElse}
+use Rattle.wire_writer.specs.Writing.{Puts, orElse, needed, byteBytes}
 use Rattle.wire_writer.proofs.Putting.{puts}
+use lib.ListN.{length, length-append}
+use mathlib.Core.Bool.{Bool, true, false, cond}
+use lib.Dec.{eqb}
 
 -- the same bytes in other words
 pub puts-as : {b b′ entry exit : List ℕ} {at next : ℕ} → b ≡ b′ → Puts b entry at exit next → Puts b′ entry at exit next
@@ -39,3 +42,15 @@ low32-puts n s = puts-as (low 4 n) (puts s)
 -- refusals in order
 pub or-as : {r a b a′ b′ : ℕ} → r ≡ orElse a b → a ≡ a′ → b ≡ b′ → r ≡ orElse a′ b′
 or-as q e f = q ∙ ap₂ orElse e f
+
+-- of two parts
+pub add-sizes : {m n : ℕ} (x y : List ℕ) → m ≡ length x → n ≡ length y → m + n ≡ length (x ++ y)
+add-sizes x y e f = ap₂ _+_ e f ∙ sym (length-append x y)
+
+-- of a flag byte
+pub byte-sized : (e : ℕ) → needed e ≡ length (byteBytes e)
+byte-sized e = go (eqb e 0)
+  where
+    go : (b : Bool) → cond b 0 1 ≡ length (cond b [] (leBytes 1 e))
+    go true = refl
+    go false = refl

@@ -1,8 +1,8 @@
--- `network_header_writer::publisher::publisher_refusal` meets its contract.
+-- `publisher_id::publisher_writer::publisher_refusal` meets its contract.
 -- Assumes nothing.
 use borrow.Author.Needs.{needs}
-use Rattle.network_header_writer.proofs.publisher.publisher_refusal.Statement.{statement}
-use Rattle.network_header_writer.proofs.publisher.publisher_refusal.Tie as tie
+use Rattle.publisher_id.proofs.publisher_writer.publisher_refusal.Statement.{statement}
+use Rattle.publisher_id.proofs.publisher_writer.publisher_refusal.Tie as tie
 
 returns-6 : tie.Need-returns-6
 returns-6 c = rw (c .before .before .p .given .1) (c .text-refusal .ensures)

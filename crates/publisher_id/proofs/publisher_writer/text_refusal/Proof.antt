@@ -1,8 +1,8 @@
--- `network_header_writer::publisher::text_refusal` meets its contract.
+-- `publisher_id::publisher_writer::text_refusal` meets its contract.
 -- Assumes nothing.
 use borrow.Author.Tests.{le-leb, lt-leb}
-use Rattle.network_header_writer.proofs.publisher.text_refusal.Statement.{statement}
-use Rattle.network_header_writer.proofs.publisher.text_refusal.Tie as tie
+use Rattle.publisher_id.proofs.publisher_writer.text_refusal.Statement.{statement}
+use Rattle.publisher_id.proofs.publisher_writer.text_refusal.Tie as tie
 
 returns : tie.Need-returns
 returns c = rw (le-leb _ _ (c .if1 .taken))

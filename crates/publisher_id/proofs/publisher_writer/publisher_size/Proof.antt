@@ -1,9 +1,9 @@
--- `network_header_writer::publisher::publisher_size` meets its contract.
+-- `publisher_id::publisher_writer::publisher_size` meets its contract.
 -- Assumes nothing.
 use native.Mathlib.Omega.{arith}
 use borrow.Author.Needs.{needs}
-use Rattle.network_header_writer.proofs.publisher.publisher_size.Statement.{statement}
-use Rattle.network_header_writer.proofs.publisher.publisher_size.Tie as tie
+use Rattle.publisher_id.proofs.publisher_writer.publisher_size.Statement.{statement}
+use Rattle.publisher_id.proofs.publisher_writer.publisher_size.Tie as tie
 
 returns-6 : tie.Need-returns-6
 returns-6 c = rw (c .enum-told6 .given .1) (omega arith, omega arith)

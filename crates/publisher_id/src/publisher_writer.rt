@@ -1,5 +1,7 @@
 // The PublisherId.
-use publisher_id::publisher::PublisherId;
+use crate::publisher::PublisherId;
+use wire_writer::writing::must_equal;
+use wire_writer::writing::not_used;
 use wire_writer::writing::put_run;
 use wire_writer::writing::put8;
 use wire_writer::writing::put16;
@@ -9,13 +11,13 @@ ghost use mathlib.Core.Path.{_≡_};
 ghost use mathlib.Core.Bool.{cond};
 ghost use mathlib.Core.List.{_++_};
 ghost use Prim.Native.Nat.{_+_, _≤_};
-ghost use lib.Dec.{leb, eqb};
+ghost use lib.Dec.{leb};
 ghost use lib.ListN.{length};
 ghost use Rattle.wire.specs.Number.{leBytes};
 ghost use Rattle.wire_writer.specs.Writing.{Puts};
-ghost use Rattle.network_header_writer.specs.Publisher.{publisherOn, kindOf, publisherBytes, publisherRefusal, unused, publisherShape};
+ghost use Rattle.publisher_id.specs.PublisherWriter.{publisherOn, kindOf, publisherBytes, publisherRefusal, publisherShape};
 
-pub(crate) fn publisher_on(p: PublisherId) -> bool
+pub fn publisher_on(p: PublisherId) -> bool
     ensures { λ r. ⌜ r ≡ publisherOn p ⌝ }
 {
     match p {
@@ -28,7 +30,7 @@ pub(crate) fn publisher_on(p: PublisherId) -> bool
     }
 }
 
-pub(crate) fn kind_of(p: PublisherId) -> u8
+pub fn kind_of(p: PublisherId) -> u8
     ensures { λ r. ⌜ (r ≡ kindOf p) × (r ≤ 4) ⌝ }
 {
     match p {
@@ -96,26 +98,6 @@ pub fn publisher_refusal(p: PublisherId) -> u8
         PublisherId::UInt64(_) => 0,
         PublisherId::Text(n) => text_refusal(n),
     }
-}
-
-// A part of this length that nothing announces.
-pub fn not_used(len: usize) -> u8
-    ensures { λ r. ⌜ r ≡ unused len ⌝ }
-{
-    if len == 0 {
-        return 0;
-    }
-    6
-}
-
-// Two numbers that must be equal.
-pub(crate) fn must_equal(a: usize, b: usize) -> u8
-    ensures { λ r. ⌜ r ≡ cond (eqb a b) 0 6 ⌝ }
-{
-    if a == b {
-        return 0;
-    }
-    6
 }
 
 pub fn publisher_shape(p: PublisherId, len: usize) -> u8
