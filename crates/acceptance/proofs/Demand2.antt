@@ -14,7 +14,7 @@ use lib.ListN.{length, getD, take, drop}
 use Rattle.wire.specs.Answer.{got, refused}
 use Rattle.network_header.specs.Flags.{flagsAt}
 use Rattle.network_message.specs.Envelope.{NetworkMessage, networkMessageAt, messagePlaceAt, messageBytes}
-use Rattle.network_message.specs.declared.envelope.Envelope.{Envelope}
+use Rattle.network_header.specs.declared.envelope.Envelope.{Envelope}
 use Rattle.network_header.specs.declared.flags.Flags.{Flags}
 use Rattle.network_message.specs.Payload.{total}
 use Rattle.network_message.proofs.Accepted.{OfMessages}

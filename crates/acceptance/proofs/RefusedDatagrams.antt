@@ -14,7 +14,8 @@ use Rattle.network_header.specs.Flags.{byte0Rule, extended1Rule, extended2Rule,
 use Rattle.publisher_id.specs.Publisher.{lengthThen, stringAt, publisherAt}
 use Rattle.network_header.specs.Group.{numberRule, numberAt, groupFlagsRule, groupAt}
 use Rattle.network_header.specs.Header.{classAt, countRule, payloadHeaderAt, sizeRule, promotedAt}
-use Rattle.network_message.specs.Payload.{positive, listed, total, configuredSizes, restAt, listedAt, sizedAt, configuredAt, payloadAt}
+use Rattle.network_message.specs.Payload.{positive, listed, total, restAt, listedAt, sizedAt, configuredAt, payloadAt}
+use Rattle.network_header.specs.Numbers.{configuredSizes}
 use Rattle.network_message.specs.Envelope.{messagesOf, identityAt, timesAt, headerAt, bodyAt, networkMessageAt}
 use Rattle.network_header.specs.declared.flags.Flags.{Flags}
 use Rattle.network_header.specs.declared.header.PayloadHeader.{PayloadHeader}

@@ -9,7 +9,8 @@ use lib.ListN.{length}
 use Rattle.wire.specs.Answer.{got}
 use Rattle.wire.proofs.Reading.{got-value, not-got, invert}
 use Rattle.network_header.specs.Flags.{flagsAt}
-use Rattle.network_message.specs.Payload.{configuredSizes, payloadAt}
+use Rattle.network_header.specs.Numbers.{configuredSizes}
+use Rattle.network_message.specs.Payload.{payloadAt}
 use Rattle.network_message.specs.Envelope.{NetworkMessage, headerAt, bodyAt, networkMessageAt}
 use Rattle.network_header.specs.declared.flags.Flags.{Flags}
 use Rattle.network_header.specs.declared.header.PayloadHeader.{PayloadHeader}

@@ -18,10 +18,11 @@ use Rattle.publisher_id.specs.PublisherRecord.{lengthOf}
 use Rattle.network_header.specs.Flags.{flagsAt}
 use Rattle.network_header.specs.Group.{groupAt}
 use Rattle.network_header.specs.Header.{classAt, payloadHeaderAt}
-use Rattle.network_message.specs.Payload.{configuredSizes, payloadAt}
+use Rattle.network_header.specs.Numbers.{configuredSizes}
+use Rattle.network_message.specs.Payload.{payloadAt}
 use Rattle.network_message.specs.Envelope.{identityAt, timesAt, messagesOf, headerAt, bodyAt, networkMessageAt, NetworkMessage}
 use Rattle.publisher_id.specs.declared.publisher.PublisherId.{PublisherId}
-use Rattle.network_message.specs.declared.envelope.Envelope.{Envelope}
+use Rattle.network_header.specs.declared.envelope.Envelope.{Envelope}
 use Rattle.network_header.specs.declared.header.PayloadHeader.{PayloadHeader}
 use Rattle.network_header.specs.declared.flags.Flags.{Flags}
 use Rattle.chunk.specs.declared.payload.ChunkData.{ChunkData}

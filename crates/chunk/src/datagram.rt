@@ -2,8 +2,8 @@
 use crate::payload::ChunkPayload;
 use crate::payload::ChunkPayloadRead;
 use crate::payload::read_payload;
+use network_header::envelope::Envelope;
 use network_header::header::PayloadHeader;
-use network_message::envelope::Envelope;
 use network_message::envelope::NetworkMessageRead;
 use publisher_id::publisher::PublisherId;
 use wire::part::part;

@@ -6,8 +6,8 @@ use lib.Dec.{eqb}
 use Rattle.wire.specs.declared.optional.Optional16.{Optional16}
 use Rattle.publisher_id.specs.PublisherRecord.{codeOf}
 use Rattle.network_message.specs.Envelope.{NetworkMessage}
-use Rattle.network_message.specs.declared.envelope.Envelope.{Envelope}
-use Rattle.network_message.specs.declared.envelope.Places.{Places}
+use Rattle.network_header.specs.declared.envelope.Envelope.{Envelope}
+use Rattle.network_header.specs.declared.envelope.Places.{Places}
 use Rattle.network_header.specs.declared.group.GroupHeader.{GroupHeader}
 use Rattle.network_header.specs.declared.header.ClassId.{ClassId}
 use Rattle.network_header.specs.declared.header.PayloadHeader.{PayloadHeader}

@@ -11,7 +11,7 @@ use Rattle.network_header.specs.declared.group.GroupHeader.{GroupHeader}
 use Rattle.network_header.specs.declared.header.ClassId.{ClassId}
 use Rattle.network_header.specs.declared.header.PayloadHeader.{PayloadHeader}
 use Rattle.network_header.specs.declared.header.Promoted.{Promoted}
-use Rattle.network_message.specs.declared.envelope.Envelope.{Envelope}
+use Rattle.network_header.specs.declared.envelope.Envelope.{Envelope}
 use Rattle.message_record.specs.Publisher.{publisherBy}
 use Rattle.records.specs.Numbers.{numberAt}
 use Rattle.message_record.specs.Given.{isOn, given16, givenI64, classIn, groupIn, payloadHeaderIn, promotedIn, envelopeIn}

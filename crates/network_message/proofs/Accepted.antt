@@ -9,7 +9,8 @@ use native.Mathlib.Omega.{arith}
 use lib.Dec.{leb, ltb, eqb}
 use lib.ListN.{length, getD}
 use borrow.Author.Tests.{le-leb, leb-true, eqb-true, ltb-true}
-use Rattle.network_message.specs.Payload.{total, positive, listed, configuredSizes, payloadOf, restAt, listedAt, sizedAt, configuredAt, payloadAt, valueOr0}
+use Rattle.network_message.specs.Payload.{total, positive, listed, payloadOf, restAt, listedAt, sizedAt, configuredAt, payloadAt, valueOr0}
+use Rattle.network_header.specs.Numbers.{configuredSizes}
 use Rattle.network_header.specs.declared.header.PayloadHeader.{PayloadHeader}
 use Rattle.network_message.specs.declared.payload.Sizes.{Sizes}
 use Rattle.network_message.specs.declared.payload.Payload.{Payload}

@@ -10,11 +10,8 @@ use native.Mathlib.Omega.{arith}
 use lib.Dec.{ltb}
 use lib.ListN.{length, take, getD}
 use lib.Seq.{take-suc}
-use borrow.Author.Tests.{le-leb}
 use Rattle.network_message.specs.Payload.{total, positive, listed}
 use Rattle.wire.specs.Number.{le}
-use Rattle.wire.specs.Answer.{item, got, refused}
-use Rattle.wire.proofs.Reading.{got-value, not-got}
 
 -- the sizes of a list on the wire, one after the other
 pub listed-step : (left : ℕ) (s : List ℕ) (p : ℕ) → 0 < left → listed left s p ≡ le 2 s p ∷ listed (left - 1) s (p + 2)
@@ -43,10 +40,3 @@ module _ (xs : List ℕ) (i : ℕ) (h : i < length xs) where
 
   pub positive-next : positive (take (i + 1) xs) ≡ (positive (take i xs) && ltb 0 (getD xs i 0))
   positive-next = ap positive next ∙ positive-append (take i xs) (getD xs i 0 ∷ []) ∙ ap (λ (b : Bool). positive (take i xs) && b) (and-true (ltb 0 (getD xs i 0)))
-
--- a size that is there is the number of its two bytes
-pub size-is : (s : List ℕ) (at v n : ℕ) → at + 2 ≤ length s → item 2 s at ≡ got v n → v ≡ le 2 s at
-size-is s at v n h e = sym (got-value (rw (le-leb (at + 2) (length s) h) at e))
-
-pub size-there : (s : List ℕ) (at n p : ℕ) → at + 2 ≤ length s → item 2 s at ≡ refused n p → ⊥
-size-there s at n p h e = not-got (sym (rw (le-leb (at + 2) (length s) h) at e))

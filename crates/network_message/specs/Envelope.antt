@@ -14,15 +14,16 @@ use Rattle.network_message.specs.declared.envelope.Identity.{Identity}
 use Rattle.network_message.specs.declared.envelope.IdentityRead.{IdentityRead}
 use Rattle.network_message.specs.declared.envelope.Times.{Times}
 use Rattle.network_message.specs.declared.envelope.TimesRead.{TimesRead}
-use Rattle.network_message.specs.declared.envelope.Envelope.{Envelope}
-use Rattle.network_message.specs.declared.envelope.Places.{Places}
+use Rattle.network_header.specs.declared.envelope.Envelope.{Envelope}
+use Rattle.network_header.specs.declared.envelope.Places.{Places}
 use Rattle.network_message.specs.declared.envelope.HeaderRead.{HeaderRead}
 use Rattle.network_message.specs.declared.envelope.NetworkMessageRead.{NetworkMessageRead}
 use Rattle.network_header.specs.Flags.{flagsAt}
 use Rattle.publisher_id.specs.Publisher.{publisherAt}
 use Rattle.network_header.specs.Group.{groupAt}
 use Rattle.network_header.specs.Header.{classAt, payloadHeaderAt, promotedAt}
-use Rattle.network_message.specs.Payload.{configuredSizes, payloadAt, nthAt}
+use Rattle.network_header.specs.Numbers.{configuredSizes}
+use Rattle.network_message.specs.Payload.{payloadAt, nthAt}
 
 -- what is read: the envelope, where its variable parts end, and where its messages stand
 pub record Header : Type 0 where

@@ -2,7 +2,7 @@
 use Prim.Native.Nat.{ℕ, zero, suc, _+_, _*_, _-_}
 use mathlib.Core.Bool.{Bool, true, false, cond, _&&_}
 use mathlib.Core.List.{List, [], _∷_}
-use lib.ListN.{length, take, getD}
+use lib.ListN.{length, getD}
 use lib.Dec.{leb, ltb, eqb}
 use Rattle.wire.specs.Number.{le}
 use Rattle.wire.specs.Answer.{Answer, got, refused, Reader, item, run, andThen}
@@ -14,6 +14,7 @@ use Rattle.network_message.specs.declared.payload.MessagePlace.{MessageP
 use Rattle.network_message.specs.declared.payload.MessageCursor.{MessageCursor}
 use Rattle.network_message.specs.declared.payload.MessageStep.{MessageStep}
 use Rattle.network_message.specs.declared.payload.MessageRead.{MessageRead}
+use Rattle.network_header.specs.Numbers.{configuredSizes}
 
 -- the sum of sizes, and whether each is at least 1
 abbrev pub total : List ℕ → ℕ
@@ -28,10 +29,6 @@ positive (x ∷ xs) = ltb 0 x && positive xs
 abbrev pub listed : ℕ → List ℕ → ℕ → List ℕ
 listed zero s at = []
 listed (suc n) s at = le 2 s at ∷ listed n s (at + 2)
-
--- the configured writers are at most 16: their sizes, 0 for none
-abbrev pub configuredSizes : List ℕ → List ℕ
-configuredSizes sizes = take 16 sizes
 
 abbrev pub payloadOf : ℕ → Sizes → ℕ → Payload
 payloadOf n z at = record { count = n; sizes = z; first = at }

@@ -5,7 +5,8 @@ use crate::payload::PayloadRead;
 use crate::payload::nth;
 use crate::payload::read_payload;
 use crate::payload::rest;
-use crate::payload::writers;
+use network_header::envelope::Envelope;
+use network_header::envelope::Places;
 use network_header::flags::Flags;
 use network_header::flags::FlagsRead;
 use network_header::flags::read_flags;
@@ -21,6 +22,7 @@ use network_header::header::PromotedRead;
 use network_header::header::read_class_id;
 use network_header::header::read_payload_header;
 use network_header::header::read_promoted;
+use network_header::numbers::writers;
 use publisher_id::publisher::PublisherId;
 use publisher_id::publisher::PublisherRead;
 use publisher_id::publisher::read_publisher;
@@ -32,9 +34,8 @@ use wire::optional::read_optional_i64;
 use wire::optional::read_picoseconds;
 ghost use mathlib.Core.Path.{_≡_};
 ghost use Rattle.wire.specs.Answer.{got, andThen};
-ghost use Rattle.network_message.specs.Envelope.{identityAt, timesAt, messagesOf, headerAt, envelopeOf, bodyAt, networkMessageAt, messagePlaceAt, messageBytes};
+ghost use Rattle.network_message.specs.Envelope.{identityAt, timesAt, messagesOf, headerAt, envelopeOf, bodyAt, networkMessageAt, messagePlaceAt, messageBytes, answerIdentity, answerTimes, answerHeader, answerNetworkMessage};
 ghost use Rattle.network_message.specs.Payload.{isSingle, restAt, payloadAt, answerMessage};
-ghost use Rattle.network_message.specs.Envelope.{answerIdentity, answerTimes, answerHeader, answerNetworkMessage};
 
 // PublisherId, DataSetClassId and group header, and where the PublisherId ends.
 pub struct Identity {
@@ -58,25 +59,6 @@ pub struct Times {
 pub enum TimesRead {
     Is(Times, usize),
     Refused(u8, usize),
-}
-
-// An envelope, without the bytes of its variable parts.
-pub struct Envelope {
-    pub publisher: PublisherId,
-    pub class_id: ClassId,
-    pub group: GroupHeader,
-    pub chunk: bool,
-    pub payload_header: PayloadHeader,
-    pub timestamp: OptionalI64,
-    pub picoseconds: Optional16,
-    pub promoted: Promoted,
-}
-
-// Where the variable parts end: a string PublisherId, the ids of the PayloadHeader, and the promoted fields, where the payload starts.
-pub struct Places {
-    pub publisher_end: usize,
-    pub payload_header_end: usize,
-    pub payload: usize,
 }
 
 pub enum HeaderRead {

@@ -1,5 +1,6 @@
 // The payload: where its DataSetMessages stand.
 use network_header::header::PayloadHeader;
+use network_header::numbers::writers;
 use wire::Item16;
 use wire::Run;
 ghost use mathlib.Core.Path.{_≡_};
@@ -7,8 +8,8 @@ ghost use Prim.Native.Nat.{_+_, _*_, _≤_};
 ghost use lib.ListN.{length, take, getD};
 ghost use Rattle.wire.specs.Number.{le};
 ghost use Rattle.wire.specs.Answer.{item};
-ghost use Rattle.network_message.specs.Payload.{total, positive, listed, configuredSizes, restAt, listedAt, sizedAt, configuredAt, payloadAt};
-ghost use Rattle.network_message.specs.Payload.{sizeOf, valueOr0, messageAt, nthAt, stepAt, answerPayload, answerStep, answerMessage};
+ghost use Rattle.network_message.specs.Payload.{total, positive, listed, restAt, listedAt, sizedAt, configuredAt, payloadAt, sizeOf, valueOr0, messageAt, nthAt, stepAt, answerPayload, answerStep, answerMessage};
+ghost use Rattle.network_header.specs.Numbers.{configuredSizes};
 
 // Where a message's size stands: it takes the rest, its size is in the list at a position, or it is configured.
 pub enum Sizes {
@@ -121,16 +122,6 @@ fn listed_sizes(s: &[u8], n: u8, at: usize) -> PayloadRead
         sizes: Sizes::Listed(at),
         first,
     })
-}
-
-// How many of the configured writers count.
-pub fn writers(sizes: &[u16]) -> usize
-    ensures { λ r. ⌜ (r ≡ length (configuredSizes (now (sizes .entry)))) × (r ≤ 16) × (r ≤ length (now (sizes .entry))) × (take r (now (sizes .entry)) ≡ configuredSizes (now (sizes .entry))) ⌝ }
-{
-    if sizes.len() <= 16 {
-        return sizes.len();
-    }
-    16
 }
 
 // Configured sizes of this total that are all given, of n writers.

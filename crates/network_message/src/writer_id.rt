@@ -1,6 +1,6 @@
 // The DataSetWriterId of a message: listed in the PayloadHeader, or configured.
-use crate::payload::writers;
 use network_header::header::PayloadHeader;
+use network_header::numbers::writers;
 use wire::Item16;
 use wire::optional::Optional16;
 ghost use mathlib.Core.Path.{_≡_};

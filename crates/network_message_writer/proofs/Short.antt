@@ -13,17 +13,17 @@ use Rattle.wire.proofs.Facts.{and-left}
 use Rattle.publisher_id.specs.declared.publisher.PublisherId.{PublisherId}
 use Rattle.network_header.specs.declared.header.PayloadHeader.{PayloadHeader}
 use Rattle.network_header.specs.declared.header.Promoted.{Promoted}
-use Rattle.network_message.specs.declared.envelope.Envelope.{Envelope}
-use Rattle.network_message.specs.Payload.{configuredSizes, restAt}
+use Rattle.network_header.specs.declared.envelope.Envelope.{Envelope}
+use Rattle.network_header.specs.Numbers.{configuredSizes, agree, sameNumbers}
+use Rattle.network_message.specs.Payload.{restAt}
 use Rattle.network_message.specs.Envelope.{messagesOf}
 use Rattle.wire_writer.specs.Writing.{orElse, on16, onI64, picosecondsRefusal, unused}
 use Rattle.wire_writer.proofs.Refusals.{passed, held, both-zero}
-use Rattle.network_header_writer.specs.Flags.{timesRefusal}
-use Rattle.network_header_writer.specs.Group.{groupRefusal}
+use Rattle.network_header.specs.FlagsWriter.{timesRefusal}
+use Rattle.network_header.specs.GroupWriter.{groupRefusal}
 use Rattle.publisher_id.specs.PublisherWriter.{publisherRefusal, publisherShape}
-use Rattle.network_header_writer.specs.Header.{countRefusal, promotedRefusal, idsShape, promotedShape}
-use Rattle.network_header_writer.specs.Numbers.{agree, sameNumbers, listedRefusal}
-use Rattle.network_message_writer.specs.Payload.{numberIn, payloadRefusal, lengthsShape}
+use Rattle.network_header.specs.HeaderWriter.{countRefusal, promotedRefusal, idsShape, promotedShape}
+use Rattle.network_message_writer.specs.Payload.{listedRefusal, numberIn, payloadRefusal, lengthsShape}
 use Rattle.network_message_writer.specs.Envelope.{Given, readingRefusal, shapeRefusal, refusalOf}
 
 -- none of the refusals

@@ -4,12 +4,12 @@ use mathlib.Core.Path.{_≡_, refl}
 use mathlib.Core.List.{List, _++_}
 use Prim.Native.Nat.{ℕ, _+_}
 use lib.ListN.{length}
-use Rattle.network_message.specs.declared.envelope.Envelope.{Envelope}
+use Rattle.network_header.specs.declared.envelope.Envelope.{Envelope}
 use Rattle.wire_writer.specs.Writing.{optional16Bytes, optionalI64Bytes}
-use Rattle.network_header_writer.specs.Flags.{flagBytes, flagsFor}
+use Rattle.network_header.specs.FlagsWriter.{flagBytes, flagsFor}
 use Rattle.publisher_id.specs.PublisherWriter.{publisherBytes}
-use Rattle.network_header_writer.specs.Group.{groupBytes}
-use Rattle.network_header_writer.specs.Header.{classBytes, payloadHeaderBytes, promotedBytes}
+use Rattle.network_header.specs.GroupWriter.{groupBytes}
+use Rattle.network_header.specs.HeaderWriter.{classBytes, payloadHeaderBytes, promotedBytes}
 use Rattle.wire_writer.proofs.Parts.{add-sizes}
 use Rattle.network_message_writer.specs.Payload.{listBytes}
 use Rattle.network_message_writer.specs.Envelope.{Given, tailBytes, headerBytes, datagramOf}

@@ -6,15 +6,15 @@ use Rattle.wire.specs.Answer.{Answer, got, refused}
 use Rattle.publisher_id.specs.declared.publisher.PublisherId.{PublisherId}
 use Rattle.network_header.specs.declared.header.PayloadHeader.{PayloadHeader}
 use Rattle.network_header.specs.declared.header.Promoted.{Promoted}
-use Rattle.network_message.specs.declared.envelope.Envelope.{Envelope}
-use Rattle.network_message.specs.declared.envelope.Places.{Places}
-use Rattle.network_message.specs.Payload.{configuredSizes}
+use Rattle.network_header.specs.declared.envelope.Envelope.{Envelope}
+use Rattle.network_header.specs.declared.envelope.Places.{Places}
+use Rattle.network_header.specs.Numbers.{configuredSizes}
 use Rattle.network_message.specs.Envelope.{NetworkMessage, messagesOf}
 use Rattle.wire_writer.specs.Writing.{orElse, on16, onI64, optional16Bytes, optionalI64Bytes, picosecondsRefusal, numberFor, bufferBy, answerBy}
-use Rattle.network_header_writer.specs.Flags.{flagBytes, flagsFor, timesRefusal}
+use Rattle.network_header.specs.FlagsWriter.{flagBytes, flagsFor, timesRefusal}
 use Rattle.publisher_id.specs.PublisherWriter.{publisherBytes, publisherRefusal, publisherShape}
-use Rattle.network_header_writer.specs.Group.{groupBytes, groupRefusal}
-use Rattle.network_header_writer.specs.Header.{classBytes, payloadHeaderBytes, promotedBytes, countRefusal, promotedRefusal, idsShape, promotedShape}
+use Rattle.network_header.specs.GroupWriter.{groupBytes, groupRefusal}
+use Rattle.network_header.specs.HeaderWriter.{classBytes, payloadHeaderBytes, promotedBytes, countRefusal, promotedRefusal, idsShape, promotedShape}
 use Rattle.network_message_writer.specs.Payload.{listBytes, payloadRefusal, lengthsShape}
 
 -- what is given beside the envelope: the bytes of a string PublisherId, the DataSetWriterIds (2 bytes each), the promoted

@@ -1,15 +1,20 @@
 -- The payload written (document 01, "Payload"): its messages one after the other, and where there are several the length of
 -- each, as 2 bytes. For one message, and for a chunk, no length is given.
-use Prim.Native.Nat.{ℕ}
+use Prim.Native.Nat.{ℕ, _*_}
 use mathlib.Core.Bool.{Bool, cond}
 use mathlib.Core.List.{List, []}
-use lib.Dec.{leb}
+use lib.Dec.{leb, eqb}
 use lib.ListN.{length}
 use Rattle.wire.specs.Answer.{Answer, got, refused}
 use Rattle.network_header.specs.declared.header.PayloadHeader.{PayloadHeader}
-use Rattle.network_message.specs.Payload.{configuredSizes, restAt, payloadAt}
+use Rattle.network_header.specs.Numbers.{configuredSizes, sameNumbers}
+use Rattle.network_message.specs.Payload.{restAt, payloadAt, total, positive, listed}
 use Rattle.wire_writer.specs.Writing.{unused}
-use Rattle.network_header_writer.specs.Numbers.{sameNumbers, listedRefusal}
+
+-- what reading refuses: the lengths of several messages, "each at least 1 and their sum equal to the rest, else 6"
+abbrev pub listedRefusal : ℕ → List ℕ → ℕ → ℕ
+listedRefusal n lengths rest =
+    cond (eqb (length lengths) (2 * n)) (cond (positive (listed n lengths 0)) (cond (eqb (total (listed n lengths 0)) rest) 0 6) 6) 6
 
 -- "With Count above 1: Count sizes of 2 bytes"; no other payload has the list
 abbrev pub listBytes : PayloadHeader → List ℕ → List ℕ

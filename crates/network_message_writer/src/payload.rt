@@ -1,20 +1,27 @@
 // The payload: the list of sizes, and the messages.
 use network_header::header::PayloadHeader;
-use network_header_writer::header::must_hold;
-use network_header_writer::numbers::listed_refusal;
-use network_header_writer::numbers::same_numbers;
+use network_header::numbers::number_at;
+use network_header::numbers::same_numbers;
+use network_header::numbers::writers;
 use network_message::payload::PayloadRead;
 use network_message::payload::read_payload;
-use network_message::payload::writers;
+use wire_writer::writing::must_equal;
+use wire_writer::writing::must_hold;
 use wire_writer::writing::not_used;
 use wire_writer::writing::put_run;
 ghost use mathlib.Core.Path.{_≡_};
 ghost use mathlib.Core.List.{_++_};
-ghost use Prim.Native.Nat.{_≤_};
+ghost use Prim.Native.Nat.{_≤_, _+_, _*_};
 ghost use lib.ListN.{length};
-ghost use Rattle.network_message.specs.Payload.{payloadAt};
+ghost use Rattle.network_message.specs.Payload.{payloadAt, total, positive, listed};
 ghost use Rattle.wire_writer.specs.Writing.{Puts};
-ghost use Rattle.network_message_writer.specs.Payload.{listBytes, numberIn, payloadRefusal, lengthsShape};
+ghost use Rattle.network_message_writer.specs.Payload.{listBytes, numberIn, payloadRefusal, lengthsShape, listedRefusal};
+
+// The sum of some lengths, and whether each is at least 1.
+struct Tally {
+    total: usize,
+    positive: bool,
+}
 
 // The number of reading these bytes as a payload.
 fn payload_number(messages: &[u8], chunk: bool, x: PayloadHeader, sizes: &[u16]) -> u8
@@ -108,4 +115,40 @@ pub(crate) fn put_payload(
 {
     let first = put_list(out, at, x, lengths);
     put_run(out, first, messages)
+}
+
+fn tally_listed(lengths: &[u8], n: usize) -> Tally
+    requires { ⌜ (2 * n ≤ length (now lengths)) × (n ≤ 255) ⌝ }
+    ensures { λ r. ⌜ (r .total ≡ total (listed n (now (lengths .entry)) 0)) × (r .positive ≡ positive (listed n (now (lengths .entry)) 0)) ⌝ }
+{
+    let mut p = 0;
+    let mut left = n;
+    let mut sum = 0;
+    let mut each = true;
+    while 0 < left {
+        let z = number_at(lengths, p);
+        sum = sum + z;
+        each = each & (0 < z);
+        p = p + 2;
+        left = left - 1;
+    }
+    Tally {
+        total: sum,
+        positive: each,
+    }
+}
+
+// The lengths of n messages of so many bytes.
+pub fn listed_refusal(n: u8, lengths: &[u8], rest: usize) -> u8
+    ensures { λ r. ⌜ r ≡ listedRefusal n (now (lengths .entry)) rest ⌝ }
+{
+    let count = n as usize;
+    if lengths.len() != 2 * count {
+        return 6;
+    }
+    let t = tally_listed(lengths, count);
+    if !t.positive {
+        return 6;
+    }
+    must_equal(t.total, rest)
 }

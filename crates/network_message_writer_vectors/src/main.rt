@@ -4,12 +4,12 @@
 // the buffer after them (it was filled with `ee`), and the number of messages that reading finds.
 use libc::STDIN_FILENO;
 use libc::STDOUT_FILENO;
+use network_header::envelope::Envelope;
 use network_header::group::GroupFields;
 use network_header::group::GroupHeader;
 use network_header::header::ClassId;
 use network_header::header::PayloadHeader;
 use network_header::header::Promoted;
-use network_message::envelope::Envelope;
 use network_message::envelope::NetworkMessageRead;
 use network_message::envelope::read;
 use network_message_writer::envelope::rewrite;

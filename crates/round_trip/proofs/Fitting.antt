@@ -26,9 +26,9 @@ use Rattle.network_header.specs.declared.group.GroupFields.{GroupFields}
 use Rattle.network_header.proofs.group.GroupHeader as group
 use Rattle.network_header.proofs.group.GroupHeader.Laws as groupLaws
 use Rattle.network_header.specs.declared.group.GroupHeader.{GroupHeader}
-use Rattle.network_message.proofs.envelope.Envelope as envelope
-use Rattle.network_message.proofs.envelope.Envelope.Laws as envelopeLaws
-use Rattle.network_message.specs.declared.envelope.Envelope.{Envelope}
+use Rattle.network_header.proofs.envelope.Envelope as envelope
+use Rattle.network_header.proofs.envelope.Envelope.Laws as envelopeLaws
+use Rattle.network_header.specs.declared.envelope.Envelope.{Envelope}
 use Rattle.wire_writer.specs.Fits.{FitsGuid}
 use Rattle.dataset_parts_writer.proofs.Fitting.{fits16, fits32, fitsI64}
 use Rattle.round_trip.specs.NetworkMessage.{FitsPublisher, FitsClass, FitsFields, FitsGroup, FitsPayloadHeader, FitsEnvelope}

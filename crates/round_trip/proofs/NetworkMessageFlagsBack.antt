@@ -18,7 +18,7 @@ use Rattle.wire_writer.specs.Writing.{needed, byteBytes}
 use Rattle.wire_writer.proofs.Refusals.{passed, held}
 use Rattle.wire_writer.proofs.Bits.{num-bit}
 use Rattle.wire_writer.proofs.Back.{Back, empty, join, end-fits, item-back, ruled-back, map-back}
-use Rattle.network_header_writer.specs.Flags.{extended2Of, extended1Of, byte0Of, flagBytes}
+use Rattle.network_header.specs.FlagsWriter.{extended2Of, extended1Of, byte0Of, flagBytes}
 use Rattle.wire_writer.specs.Fits.{Bytes}
 
 -- a byte is the sum of its bits

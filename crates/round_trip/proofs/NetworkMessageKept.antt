@@ -27,10 +27,10 @@ use Rattle.network_header.specs.Header.{countRule, payloadHeaderAt, sizeRule, p
 use Rattle.wire_writer.specs.Writing.{picosecondsRefusal}
 use Rattle.wire_writer.proofs.Refusals.{passed, no}
 use Rattle.wire_writer.proofs.Back.{item-back, run-back, ruled-back, map-back}
-use Rattle.network_header_writer.specs.Flags.{timesRefusal}
+use Rattle.network_header.specs.FlagsWriter.{timesRefusal}
 use Rattle.publisher_id.specs.PublisherWriter.{publisherRefusal, publisherShape}
-use Rattle.network_header_writer.specs.Group.{numberRefusal, groupRefusal}
-use Rattle.network_header_writer.specs.Header.{promotedRefusal, promotedShape}
+use Rattle.network_header.specs.GroupWriter.{numberRefusal, groupRefusal}
+use Rattle.network_header.specs.HeaderWriter.{promotedRefusal, promotedShape}
 use Rattle.network_message_writer.specs.Envelope.{before, textOf, promotedOf}
 use Rattle.round_trip.proofs.NetworkMessagePartsBack.{before-length}
 use Rattle.wire_writer.specs.Fits.{Bytes}

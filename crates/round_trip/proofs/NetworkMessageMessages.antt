@@ -14,13 +14,13 @@ use Rattle.wire.specs.Answer.{item}
 use Rattle.wire.proofs.Facts.{and-left, and-right}
 use Rattle.network_header.specs.declared.header.PayloadHeader.{PayloadHeader}
 use Rattle.network_message.specs.declared.payload.Sizes.{Sizes}
-use Rattle.network_message.specs.Payload.{total, positive, listed, configuredSizes, payloadOf, restAt, valueOr0}
+use Rattle.network_message.specs.Payload.{total, positive, listed, payloadOf, restAt, valueOr0}
+use Rattle.network_header.specs.Numbers.{configuredSizes, agree, sameNumbers}
 use Rattle.network_message.proofs.Messages.{Tiles}
 use Rattle.network_message.proofs.Accepted.{OfMessages}
 use Rattle.wire_writer.proofs.Refusals.{held}
 use Rattle.wire_writer.specs.Writing.{unused}
-use Rattle.network_header_writer.specs.Numbers.{agree, sameNumbers, listedRefusal}
-use Rattle.network_message_writer.specs.Payload.{listBytes, numberIn, payloadRefusal, lengthsShape}
+use Rattle.network_message_writer.specs.Payload.{listedRefusal, listBytes, numberIn, payloadRefusal, lengthsShape}
 use Rattle.network_message_writer.specs.Envelope.{Given}
 use Rattle.round_trip.specs.NetworkMessage.{payloadFor, givenLengths}
 use Rattle.round_trip.proofs.NetworkMessagePayload.{listed-at-start, Listed, listed-facts, some-message, Configured, absent-facts}

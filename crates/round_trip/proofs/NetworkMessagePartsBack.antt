@@ -30,8 +30,8 @@ use Rattle.wire_writer.proofs.Refusals.{passed}
 use Rattle.wire_writer.proofs.Bits.{num-bit}
 use Rattle.wire_writer.proofs.Back.{Back, empty, join, end-fits, run-part, item-back, run-back, ruled-back, map-back, guid-back, optional16-back, optional32-back, ruled16-back}
 use Rattle.publisher_id.specs.PublisherWriter.{publisherOn, kindOf, publisherBytes}
-use Rattle.network_header_writer.specs.Group.{groupOn, groupFlagsOf, fieldsBytes, groupBytes}
-use Rattle.network_header_writer.specs.Header.{classOn, classBytes, payloadHeaderOn, payloadHeaderBytes, promotedOn, promotedBytes}
+use Rattle.network_header.specs.GroupWriter.{groupOn, groupFlagsOf, fieldsBytes, groupBytes}
+use Rattle.network_header.specs.HeaderWriter.{classOn, classBytes, payloadHeaderOn, payloadHeaderBytes, promotedOn, promotedBytes}
 use Rattle.network_message_writer.specs.Envelope.{before, textOf, idsOf, promotedOf}
 use Rattle.wire_writer.specs.Fits.{Bytes}
 

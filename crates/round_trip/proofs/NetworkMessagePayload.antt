@@ -13,9 +13,9 @@ use Rattle.wire.specs.Number.{le}
 use Rattle.wire.specs.Answer.{got, refused}
 use Rattle.network_header.specs.declared.header.PayloadHeader.{PayloadHeader}
 use Rattle.network_message.specs.declared.payload.Sizes.{Sizes}
-use Rattle.network_message.specs.Payload.{total, positive, listed, configuredSizes, payloadOf, restAt, listedAt, configuredAt, payloadAt}
-use Rattle.network_message_writer.specs.Payload.{listBytes, numberIn, payloadRefusal}
-use Rattle.network_header_writer.specs.Numbers.{listedRefusal}
+use Rattle.network_message.specs.Payload.{total, positive, listed, payloadOf, restAt, listedAt, configuredAt, payloadAt}
+use Rattle.network_header.specs.Numbers.{configuredSizes}
+use Rattle.network_message_writer.specs.Payload.{listBytes, numberIn, payloadRefusal, listedRefusal}
 use Rattle.round_trip.specs.NetworkMessage.{payloadFor}
 
 -- numbers that stand in the middle of a slice

@@ -21,24 +21,25 @@ use Rattle.network_header.specs.declared.header.PayloadHeader.{PayloadHeader}
 use Rattle.network_header.specs.declared.header.Promoted.{Promoted}
 use Rattle.network_message.specs.declared.envelope.Identity.{Identity}
 use Rattle.network_message.specs.declared.envelope.Times.{Times}
-use Rattle.network_message.specs.declared.envelope.Envelope.{Envelope}
-use Rattle.network_message.specs.declared.envelope.Places.{Places}
+use Rattle.network_header.specs.declared.envelope.Envelope.{Envelope}
+use Rattle.network_header.specs.declared.envelope.Places.{Places}
 use Rattle.network_header.specs.Flags.{flagsAt}
 use Rattle.publisher_id.specs.Publisher.{publisherAt}
 use Rattle.network_header.specs.Group.{groupAt}
 use Rattle.network_header.specs.Header.{classAt, payloadHeaderAt, promotedAt}
-use Rattle.network_message.specs.Payload.{configuredSizes, payloadAt}
+use Rattle.network_header.specs.Numbers.{configuredSizes}
+use Rattle.network_message.specs.Payload.{payloadAt}
 use Rattle.network_message.specs.Envelope.{Header, NetworkMessage, identityAt, timesAt, messagesOf, headerAt, bodyAt, networkMessageAt}
 use Rattle.wire_writer.specs.declared.writing.Written.{Written}
 use Rattle.wire_writer.specs.Writing.{needed, numberFor, answerBy, bufferBy, optional16Bytes, optionalI64Bytes}
 use Rattle.wire_writer.proofs.Answering.{writes, reports}
 use Rattle.wire_writer.proofs.Back.{Back, join, rest-is, end-fits, map-back, optionalI64-back, ruled16-back}
-use Rattle.network_header_writer.specs.Flags.{extended1Of, flagsFor, flagBytes}
+use Rattle.network_header.specs.FlagsWriter.{extended1Of, flagsFor, flagBytes}
 use Rattle.publisher_id.specs.PublisherWriter.{publisherOn, publisherBytes}
-use Rattle.network_header_writer.specs.Group.{groupBytes}
-use Rattle.network_header_writer.specs.Header.{classBytes, payloadHeaderBytes, promotedBytes}
+use Rattle.network_header.specs.GroupWriter.{groupBytes}
+use Rattle.network_header.specs.HeaderWriter.{classBytes, payloadHeaderBytes, promotedBytes}
 use Rattle.network_message_writer.specs.Envelope.{headerBytes, textOf, idsOf, promotedOf, againOf, rewriteAnswer, rewriteBuffer}
-use Rattle.network_header_writer.proofs.Sizes.{flags-sized}
+use Rattle.network_header.proofs.Sizes.{flags-sized}
 use Rattle.network_message_writer.proofs.Again.{accepted-short}
 use Rattle.round_trip.specs.NetworkMessage.{rewrittenFlags, rewrittenAs, rewritten}
 use Rattle.round_trip.proofs.NetworkMessageFlagsBack.{flags-back}

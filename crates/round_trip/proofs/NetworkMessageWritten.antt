@@ -12,17 +12,18 @@ use Rattle.wire.specs.Answer.{Answer, got}
 use Rattle.publisher_id.specs.declared.publisher.PublisherId.{PublisherId}
 use Rattle.network_message.specs.declared.payload.Payload.{Payload}
 use Rattle.network_message.specs.declared.payload.MessagePlace.{MessagePlace}
-use Rattle.network_message.specs.declared.envelope.Envelope.{Envelope}
-use Rattle.network_message.specs.Payload.{total, configuredSizes}
+use Rattle.network_header.specs.declared.envelope.Envelope.{Envelope}
+use Rattle.network_message.specs.Payload.{total}
+use Rattle.network_header.specs.Numbers.{configuredSizes}
 use Rattle.network_message.specs.Envelope.{NetworkMessage, messagesOf, networkMessageAt, messagePlaceAt, messageBytes}
 use Rattle.network_message.proofs.Messages.{tile, tiled}
 use Rattle.network_message.proofs.Accepted.{OfMessages}
 use Rattle.wire_writer.specs.Writing.{optional16Bytes, optionalI64Bytes}
 use Rattle.wire_writer.proofs.Trip.{At, first, second, optionalI64-is, picoseconds-is}
-use Rattle.network_header_writer.specs.Flags.{flagsFor, flagBytes}
+use Rattle.network_header.specs.FlagsWriter.{flagsFor, flagBytes}
 use Rattle.publisher_id.specs.PublisherWriter.{kindOf, publisherBytes}
-use Rattle.network_header_writer.specs.Group.{groupBytes}
-use Rattle.network_header_writer.specs.Header.{classBytes, payloadHeaderBytes, promotedBytes}
+use Rattle.network_header.specs.GroupWriter.{groupBytes}
+use Rattle.network_header.specs.HeaderWriter.{classBytes, payloadHeaderBytes, promotedBytes}
 use Rattle.network_message_writer.specs.Payload.{listBytes}
 use Rattle.network_message_writer.specs.Envelope.{Given, headerBytes, datagramOf, refusalOf}
 use Rattle.network_message_writer.proofs.Short.{zeros}

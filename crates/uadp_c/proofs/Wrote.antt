@@ -12,7 +12,7 @@ use Rattle.network_message.specs.Envelope.{networkMessageAt}
 use Rattle.dataset_message.specs.Message.{messageAt}
 use Rattle.rewriting.specs.Same.{sameWritten, sameBuffer, WritesSame, rewrittenAnswer, rewrittenBuffer, WritesDatagram}
 use Rattle.dataset_header.specs.declared.header.Header.{Header}
-use Rattle.network_message.specs.declared.envelope.Envelope.{Envelope}
+use Rattle.network_header.specs.declared.envelope.Envelope.{Envelope}
 use Rattle.network_message_writer.specs.Envelope as datagram
 use Rattle.dataset_message_writer.specs.Message as message
 use Rattle.listing.specs.Lines.{Writers, writers, listingOf}

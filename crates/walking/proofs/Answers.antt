@@ -11,7 +11,8 @@ use lib.ListN.{length, length-take}
 use Rattle.wire.specs.Answer.{got, refused}
 use Rattle.wire.proofs.Reading.{got-value, not-got, invert}
 use Rattle.network_header.specs.Flags.{flagsAt}
-use Rattle.network_message.specs.Payload.{total, positive, listed, configuredSizes, restAt, listedAt, sizedAt, configuredAt, payloadAt}
+use Rattle.network_message.specs.Payload.{total, positive, listed, restAt, listedAt, sizedAt, configuredAt, payloadAt}
+use Rattle.network_header.specs.Numbers.{configuredSizes}
 use Rattle.network_message.specs.Envelope.{NetworkMessage, headerAt, networkMessageAt}
 use Rattle.network_header.specs.declared.header.PayloadHeader.{PayloadHeader}
 use Rattle.network_message.specs.declared.payload.Payload.{Payload}

@@ -199,3 +199,13 @@ pub fn must_equal(a: usize, b: usize) -> u8
     }
     6
 }
+
+// A test that must hold.
+pub fn must_hold(b: bool) -> u8
+    ensures { λ r. ⌜ r ≡ cond b 0 6 ⌝ }
+{
+    if b {
+        return 0;
+    }
+    6
+}

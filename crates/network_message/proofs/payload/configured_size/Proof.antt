@@ -7,7 +7,7 @@ use denote.Ref.{now}
 use lib.Seq.{getD-take}
 use lib.ListN.{length}
 use borrow.Author.Needs.{needs}
-use Rattle.network_message.specs.Payload.{configuredSizes}
+use Rattle.network_header.specs.Numbers.{configuredSizes}
 use Rattle.wire.proofs.Facts.{none-past}
 use Rattle.network_message.proofs.payload.configured_size.Statement.{statement}
 use Rattle.network_message.proofs.payload.configured_size.Tie as tie

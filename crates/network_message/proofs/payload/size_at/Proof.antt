@@ -5,7 +5,7 @@ use mathlib.Core.Path.{sym}
 use native.Mathlib.Omega.{arith}
 use denote.Ref.{now}
 use borrow.Author.Needs.{needs}
-use Rattle.network_message.proofs.Tallies.{size-is, size-there}
+use Rattle.network_header.proofs.Agreeing.{size-is, size-there}
 use Rattle.wire.proofs.Reading.{told}
 use Rattle.wire.specs.Items.{answer16}
 use Rattle.network_message.proofs.payload.size_at.Statement.{statement}

@@ -1,0 +1,23 @@
+-- `network_header::numbers::number_at` meets its contract.
+-- Assumes nothing.
+use Rattle.wire.specs.Items.{answer16}
+use Rattle.wire.proofs.Reading.{told}
+use Rattle.network_header.proofs.Agreeing.{size-is, size-there}
+use denote.Ref.{now}
+use native.Mathlib.Omega.{arith}
+use mathlib.Core.Path.{sym}
+use borrow.Author.Needs.{needs}
+use Rattle.network_header.proofs.numbers.number_at.Statement.{statement}
+use Rattle.network_header.proofs.numbers.number_at.Tie as tie
+
+returns : tie.Need-returns
+returns c =
+    (size-is (now (c .before .before .before .before .before .args .bytes)) (c .before .before .before .before .before .args .at) _ _ (c .before .before .before .before .before .pre) (sym (told (answer16 (c .before .before .before .before .before .args .at)) (c .before .before .before .read16 .ensures) (c .before .v .given .1))), omega arith)
+
+returns-2 : tie.Need-returns-2
+returns-2 c =
+    absurd (size-there (now (c .before .before .before .before .args .bytes)) (c .before .before .before .before .args .at) _ _ (c .before .before .before .before .pre) (sym (told (answer16 (c .before .before .before .before .args .at)) (c .before .before .read16 .ensures) (c .enum-told .given .1))))
+
+pub number-at-spec : {M : Type 1} → statement M
+number-at-spec =
+    tie.close (tie.spec (λ c κs. search needs) (λ c. search needs) (λ c. search needs) (λ c. search needs) returns returns-2)

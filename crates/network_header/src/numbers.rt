@@ -1,0 +1,56 @@
+// Lists of numbers as bytes, 2 bytes each.
+use wire::Item16;
+ghost use mathlib.Core.Path.{_≡_};
+ghost use Prim.Native.Nat.{_+_, _*_, _≤_};
+ghost use lib.ListN.{length, take};
+ghost use Rattle.wire.specs.Number.{le};
+ghost use Rattle.network_header.specs.Numbers.{agree, sameNumbers, configuredSizes};
+
+// The number of the two bytes at a position.
+pub fn number_at(bytes: &[u8], at: usize) -> usize
+    requires { ⌜ at + 2 ≤ length (now bytes) ⌝ }
+    ensures { λ r. ⌜ (r ≡ le 2 (now (bytes .entry)) at) × (r ≤ 65535) ⌝ }
+{
+    match wire::read16(bytes, at) {
+        Item16::Is(v, _) => v as usize,
+        Item16::Short => 0,
+    }
+}
+
+// Whether bytes, of the right length, are the first n of these numbers.
+fn numbers_agree(bytes: &[u8], numbers: &[u16], n: usize) -> bool
+    requires { ⌜ (n ≤ length (now numbers)) × (length (now bytes) ≡ 2 * n) × (n ≤ 16) ⌝ }
+    ensures { λ r. ⌜ r ≡ agree (take n (now (numbers .entry))) (now (bytes .entry)) 0 ⌝ }
+{
+    let mut i = 0;
+    let mut at = 0;
+    while i < n {
+        if number_at(bytes, at) != numbers[i] as usize {
+            return false;
+        }
+        i = i + 1;
+        at = at + 2;
+    }
+    true
+}
+
+// Whether bytes are the first 16 of these numbers, 2 bytes each.
+pub fn same_numbers(bytes: &[u8], numbers: &[u16]) -> bool
+    ensures { λ r. ⌜ r ≡ sameNumbers (now (bytes .entry)) (take 16 (now (numbers .entry))) ⌝ }
+{
+    let n = writers(numbers);
+    if bytes.len() != 2 * n {
+        return false;
+    }
+    numbers_agree(bytes, numbers, n)
+}
+
+// How many of the configured writers count.
+pub fn writers(sizes: &[u16]) -> usize
+    ensures { λ r. ⌜ (r ≡ length (configuredSizes (now (sizes .entry)))) × (r ≤ 16) × (r ≤ length (now (sizes .entry))) × (take r (now (sizes .entry)) ≡ configuredSizes (now (sizes .entry))) ⌝ }
+{
+    if sizes.len() <= 16 {
+        return sizes.len();
+    }
+    16
+}

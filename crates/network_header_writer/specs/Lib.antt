@@ -1,4 +1,0 @@
-pub mod Group
-pub mod Numbers
-pub mod Header
-pub mod Flags
