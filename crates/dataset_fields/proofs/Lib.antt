@@ -1,3 +1,6 @@
 pub mod Walks
 pub mod Ending
 pub mod Front
+pub mod Judging
+pub mod Laying
+pub mod Fitting

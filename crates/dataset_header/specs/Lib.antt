@@ -1,2 +1,4 @@
 pub mod Flags
 pub mod Header
+pub mod FlagsWriter
+pub mod HeaderWriter

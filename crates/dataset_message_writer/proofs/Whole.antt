@@ -22,12 +22,12 @@ use Rattle.wire_writer.proofs.Refusals.{both-zero, held}
 use Rattle.dataset_header.specs.declared.flags.Encoding.{Encoding}
 use Rattle.dataset_header.specs.declared.flags.Kind.{Kind}
 use Rattle.dataset_message.specs.Message.{messageAt}
-use Rattle.dataset_parts_writer.specs.Flags.{kindRule}
-use Rattle.dataset_parts_writer.specs.Header.{headerBytes}
-use Rattle.dataset_parts_writer.specs.Fields.{total, fieldsBytes, zeros}
+use Rattle.dataset_header.specs.FlagsWriter.{kindRule}
+use Rattle.dataset_header.specs.HeaderWriter.{headerBytes}
+use Rattle.dataset_fields.specs.FieldsWriter.{total, fieldsBytes, zeros}
 use Rattle.dataset_message_writer.specs.Message.{Given, hasFields, isFielded, isRawData, fieldsOf, countBytes, encode, bodyRefusal, readingRefusal, bodyAgrees, listsAgree, readsBack, refusalOf, sizeOf, atMost, WritesBytes}
-use Rattle.dataset_parts_writer.proofs.Judging.{or-assoc, six-and}
-use Rattle.dataset_parts_writer.proofs.Laying.{length-zeros, values-whole, delta-length}
+use Rattle.dataset_fields.proofs.Judging.{or-assoc, six-and}
+use Rattle.dataset_fields.proofs.Laying.{length-zeros, values-whole, delta-length}
 
 -- refusals in their order
 

@@ -13,10 +13,10 @@ use Rattle.wire_writer.specs.declared.writing.Written.{Written}
 use Rattle.dataset_header.specs.declared.flags.Encoding.{Encoding}
 use Rattle.dataset_header.specs.declared.flags.Kind.{Kind}
 use Rattle.dataset_header.specs.declared.header.Header.{Header}
-use Rattle.dataset_parts_writer.specs.Flags.{kindRule}
-use Rattle.dataset_parts_writer.specs.Header.{headerBytes, FitsHeader}
+use Rattle.dataset_header.specs.FlagsWriter.{kindRule}
+use Rattle.dataset_header.specs.HeaderWriter.{headerBytes, FitsHeader}
 use Rattle.wire_writer.specs.Fits.{Numbers}
-use Rattle.dataset_parts_writer.specs.Fields.{total, valuesOf, fieldsRefusal, fieldsWhole, reached, fieldsBytes, zeros}
+use Rattle.dataset_fields.specs.FieldsWriter.{total, valuesOf, fieldsRefusal, fieldsWhole, reached, fieldsBytes, zeros}
 
 -- What is given to be written: the header; of a key frame, whether it is a heartbeat; the fields' encoded values one after the
 -- other and how long each is; a delta's indices; how many bytes of padding follow.

@@ -23,13 +23,13 @@ use Rattle.dataset_header.specs.Header.{headerAt}
 use Rattle.dataset_fields.specs.Fields.{encodedAt, fieldAt, fieldsAt, paddingAt}
 use Rattle.dataset_message.specs.Message.{countedAt, countAt, messageAt, fieldPlaceAt}
 use Rattle.dataset_message.proofs.Agreement.{field-inside}
-use Rattle.dataset_parts_writer.specs.Flags.{kindRule}
-use Rattle.dataset_parts_writer.specs.Header.{headerBytes, FitsHeader}
-use Rattle.dataset_parts_writer.specs.Fields.{valuesOf, endsAt, fieldsRefusal, fieldsWhole, reached, fieldsBytes, zeros}
+use Rattle.dataset_header.specs.FlagsWriter.{kindRule}
+use Rattle.dataset_header.specs.HeaderWriter.{headerBytes, FitsHeader}
+use Rattle.dataset_fields.specs.FieldsWriter.{valuesOf, endsAt, fieldsRefusal, fieldsWhole, reached, fieldsBytes, zeros}
 use Rattle.wire_writer.specs.declared.writing.Written.{Written}
 use Rattle.dataset_message_writer.specs.Message.{Given, FitsGiven, writerNumber, Writes, hasFields, isKey, isFielded, isRawData, fieldsOf, countBytes, configuredRule, countAgrees, encode, refusalOf}
-use Rattle.dataset_parts_writer.proofs.Judging.{length-values}
-use Rattle.dataset_parts_writer.proofs.Laying.{length-zeros}
+use Rattle.dataset_fields.proofs.Judging.{length-values}
+use Rattle.dataset_fields.proofs.Laying.{length-zeros}
 use Rattle.dataset_message_writer.proofs.Whole.{Accepted, accepted}
 use Rattle.round_trip.specs.DataSetMessage.{firstOf, endOf, messageOf, FieldBack, MessageBack}
 use Rattle.round_trip.proofs.Reported.{reported}

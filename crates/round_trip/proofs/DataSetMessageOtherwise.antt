@@ -23,12 +23,12 @@ use Rattle.dataset_header.specs.Flags.{Valid, notValid, valid, isDelta, isRaw}
 use Rattle.dataset_header.specs.Header.{headerAt}
 use Rattle.dataset_fields.specs.Fields.{encodedAt, fieldAt, fieldsAt, paddingAt}
 use Rattle.dataset_message.specs.Message.{Message, countedAt, countAt, bodyAt, fieldBytes, nthAt}
-use Rattle.dataset_parts_writer.specs.Flags.{kindRule}
-use Rattle.dataset_parts_writer.specs.Header.{headerBytes, FitsHeader}
-use Rattle.dataset_parts_writer.specs.Fields.{endsAt, fieldsWhole, fieldsBytes, zeros}
+use Rattle.dataset_header.specs.FlagsWriter.{kindRule}
+use Rattle.dataset_header.specs.HeaderWriter.{headerBytes, FitsHeader}
+use Rattle.dataset_fields.specs.FieldsWriter.{endsAt, fieldsWhole, fieldsBytes, zeros}
 use Rattle.dataset_message_writer.specs.Message.{Given, hasFields, isKey, isFielded, isRawData, fieldsOf, countBytes, countAgrees, bodyRefusal, bodyAgrees, readingRefusal, encode}
-use Rattle.dataset_parts_writer.proofs.Judging.{length-values}
-use Rattle.dataset_parts_writer.proofs.Laying.{length-zeros}
+use Rattle.dataset_fields.proofs.Judging.{length-values}
+use Rattle.dataset_fields.proofs.Laying.{length-zeros}
 use Rattle.dataset_message_writer.proofs.Whole.{count-bytes}
 use Rattle.round_trip.specs.DataSetMessage.{firstOf, endOf, messageOf, bytesOf, MessageBack}
 use Rattle.round_trip.proofs.DataSetMessageParts.{header-is, field-alone}

@@ -25,12 +25,12 @@ use Rattle.dataset_header.specs.Flags.{valid, flags1Rule, flags2Rule, flagsAt, 
 use Rattle.dataset_header.specs.Header.{timesAt, headerAt}
 use Rattle.dataset_fields.specs.Fields.{encodedAt, fieldsAt}
 use Rattle.dataset_message.specs.Message.{countAt, messageAt}
-use Rattle.dataset_parts_writer.specs.Flags.{kindNumber, flags1Of, flags2Of, flagBytes, kindRule}
-use Rattle.dataset_parts_writer.specs.Header.{timesBytes, versionsBytes, headerBytes, FitsHeader}
-use Rattle.dataset_parts_writer.specs.Fields.{fieldsRefusal, reached, indexBytes, fieldsBytes, zeros}
+use Rattle.dataset_header.specs.FlagsWriter.{kindNumber, flags1Of, flags2Of, flagBytes, kindRule}
+use Rattle.dataset_header.specs.HeaderWriter.{timesBytes, versionsBytes, headerBytes, FitsHeader}
+use Rattle.dataset_fields.specs.FieldsWriter.{fieldsRefusal, reached, indexBytes, fieldsBytes, zeros}
 use Rattle.dataset_message_writer.specs.Message.{Given, hasFields, isFielded, isRawData, fieldsOf, countBytes, configuredRule, bodyRefusal, readingRefusal, encode}
-use Rattle.dataset_parts_writer.proofs.Judging.{encoded-steady, length-values}
-use Rattle.dataset_parts_writer.proofs.Laying.{length-zeros}
+use Rattle.dataset_fields.proofs.Judging.{encoded-steady, length-values}
+use Rattle.dataset_fields.proofs.Laying.{length-zeros}
 use Rattle.round_trip.specs.DataSetMessage.{plainly, Tellable, countOf}
 use Rattle.round_trip.proofs.DataSetMessageFlags.{flags1-bits, flags2-bits, encoding-rule, kind-rule-is, flagsFor, flags-is}
 use Rattle.round_trip.proofs.DataSetMessageParts.{header-is, field-is, index-is}

@@ -30,7 +30,7 @@ use Rattle.network_header.proofs.envelope.Envelope as envelope
 use Rattle.network_header.proofs.envelope.Envelope.Laws as envelopeLaws
 use Rattle.network_header.specs.declared.envelope.Envelope.{Envelope}
 use Rattle.wire_writer.specs.Fits.{FitsGuid}
-use Rattle.dataset_parts_writer.proofs.Fitting.{fits16, fits32, fitsI64}
+use Rattle.dataset_fields.proofs.Fitting.{fits16, fits32, fitsI64}
 use Rattle.round_trip.specs.NetworkMessage.{FitsPublisher, FitsClass, FitsFields, FitsGroup, FitsPayloadHeader, FitsEnvelope}
 
 fits-publisher : (x : PublisherId) (vs : List Val) → Is (enum.row publisher.the-type) x vs → FitsPublisher x

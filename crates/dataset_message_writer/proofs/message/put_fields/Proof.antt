@@ -2,7 +2,7 @@
 -- Assumes nothing.
 use denote.Ref.{now}
 use borrow.Author.Needs.{needs}
-use Rattle.dataset_parts_writer.proofs.Laying.{values-whole}
+use Rattle.dataset_fields.proofs.Laying.{values-whole}
 use Rattle.wire_writer.proofs.Putting.{puts}
 use Rattle.dataset_message_writer.proofs.message.put_fields.Statement.{statement}
 use Rattle.dataset_message_writer.proofs.message.put_fields.Tie as tie

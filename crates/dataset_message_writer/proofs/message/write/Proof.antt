@@ -4,7 +4,7 @@ use mathlib.Core.Path.{sym, _∙_}
 use denote.Ref.{now}
 use borrow.Author.Needs.{needs}
 use Rattle.dataset_message_writer.specs.Message.{encode, refusalOf, given, FitsGiven}
-use Rattle.dataset_parts_writer.proofs.Fitting.{fits-header}
+use Rattle.dataset_fields.proofs.Fitting.{fits-header}
 use native.Mathlib.Omega.{arith}
 use Rattle.dataset_message_writer.proofs.Whole.{accepted, size-told, refused-by, too-long, no-room, written-all}
 use Rattle.dataset_message_writer.proofs.message.write.Statement.{statement}

@@ -2,7 +2,7 @@
 -- Assumes nothing.
 use Prim.Native.Nat.{_+_}
 use borrow.Author.Needs.{needs}
-use Rattle.dataset_parts_writer.proofs.Judging.{more}
+use Rattle.dataset_fields.proofs.Judging.{more}
 use Rattle.dataset_message_writer.proofs.parts.size.Statement.{statement}
 use Rattle.dataset_message_writer.proofs.parts.size.Tie as tie
 

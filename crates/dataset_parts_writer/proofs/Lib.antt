@@ -1,3 +1,0 @@
-pub mod Judging
-pub mod Laying
-pub mod Fitting

@@ -1,3 +1,0 @@
-pub mod Flags
-pub mod Header
-pub mod Fields
