@@ -37,9 +37,9 @@ use Rattle.round_trip.proofs.DataSetMessage as DataSetMessage
 use Rattle.rewriting.proofs.Copied as Copied
 use Rattle.round_trip.proofs.DataSetMessageRefused as Refused
 use Rattle.wire_writer.specs.Fits.{Bytes, Numbers}
-use Rattle.listing.specs.Lines.{Writers, linesFrom, stepLines, nextLine, startOf, listingOf}
-use Rattle.listing.specs.declared.lines.LineCursor.{LineCursor}
-use Rattle.listing.proofs.Listing.{start-lists, step-lists}
+use Rattle.walk.specs.Lines.{Writers, linesFrom, stepLines, nextLine, startOf, listingOf}
+use Rattle.walk.specs.declared.lines.LineCursor.{LineCursor}
+use Rattle.walk.proofs.Listing.{start-lists, step-lists}
 use Rattle.acceptance.proofs.Tiling.{accepted-tiled}
 
 -- ---- 0. What is found. The messages of an accepted datagram tile its payload: each starts where the one before it ends, the first at the payload's

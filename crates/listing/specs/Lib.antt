@@ -1,1 +1,3 @@
-pub mod Lines
+pub mod Columns
+pub mod Line
+pub mod Text

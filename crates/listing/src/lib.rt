@@ -1,2 +1,4 @@
-// The listing of a datagram: its lines in their order.
-pub mod lines;
+// The text of a walk (document 01, "Configuration and listing"): an entry's line, and a whole listing.
+mod columns;
+pub mod line;
+pub mod whole;

@@ -15,13 +15,13 @@ use Rattle.dataset_header.specs.declared.header.Header.{Header}
 use Rattle.network_header.specs.declared.envelope.Envelope.{Envelope}
 use Rattle.network_message_writer.specs.Envelope as datagram
 use Rattle.dataset_message_writer.specs.Message as message
-use Rattle.listing.specs.Lines.{Writers, writers, listingOf}
-use Rattle.listing_text.specs.Text.{linesText, textWritten, textAfter}
+use Rattle.walk.specs.Lines.{Writers, writers, listingOf}
+use Rattle.listing.specs.Text.{linesText, textWritten, textAfter}
 use Rattle.records.specs.Writers.{writersIn, sixteen, idsIn, sizesIn, startsIn, typesIn, typesFor}
 use Rattle.message_record.specs.Given.{headerIn, envelopeIn}
 use Rattle.uadp_c.specs.Listings.{listingText}
-use Rattle.walking.specs.Walk.{recordsPut, walkLines, walkOf}
-use Rattle.walking.specs.declared.Walked.{Walked}
+use Rattle.walk_records.specs.Walk.{recordsPut, walkLines, walkOf}
+use Rattle.walk_records.specs.declared.Walked.{Walked}
 use Rattle.uadp_c.specs.Walks.{configured, walkResult}
 use Rattle.uadp_c.specs.Writing.{writerResult, datagramResult, datagramBuffer, messageResult, messageBuffer}
 

@@ -1,8 +1,8 @@
 -- A datagram's listing under a configuration record (include/uadp.h, `uadp_list`).
 use Prim.Native.Nat.{ℕ}
 use mathlib.Core.List.{List}
-use Rattle.listing.specs.Lines.{writers, listingOf}
-use Rattle.listing_text.specs.Text.{linesText}
+use Rattle.walk.specs.Lines.{writers, listingOf}
+use Rattle.listing.specs.Text.{linesText}
 use Rattle.records.specs.Writers.{idsIn, sizesIn, startsIn, typesIn}
 
 -- "the whole listing of a datagram, each line ended by a newline"

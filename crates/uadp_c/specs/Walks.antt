@@ -1,10 +1,10 @@
 -- A datagram walked under a configuration record (include/uadp.h, `uadp_walk`).
 use Prim.Native.Nat.{ℕ}
 use mathlib.Core.List.{List}
-use Rattle.listing.specs.Lines.{Writers, writers}
+use Rattle.walk.specs.Lines.{Writers, writers}
 use Rattle.records.specs.Result.{resultOf}
 use Rattle.records.specs.Writers.{idsIn, sizesIn, startsIn, typesIn}
-use Rattle.walking.specs.declared.Walked.{Walked}
+use Rattle.walk_records.specs.declared.Walked.{Walked}
 
 -- the writers of a configuration record
 abbrev pub configured : List ℕ → Writers

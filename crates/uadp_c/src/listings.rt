@@ -1,7 +1,7 @@
 // A datagram's listing.
 use crate::rewrites::written_result;
 use config::first;
-use listing_text::put_listing;
+use listing::whole::put_listing;
 use records::writers::ids;
 use records::writers::sizes;
 use records::writers::starts;
@@ -9,7 +9,7 @@ use records::writers::types;
 use records::writers::writer_count;
 ghost use mathlib.Core.Path.{_≡_};
 ghost use Rattle.wire_writer.specs.Writing.{answerWritten};
-ghost use Rattle.listing_text.specs.Text.{textWritten, textAfter};
+ghost use Rattle.listing.specs.Text.{textWritten, textAfter};
 ghost use Rattle.uadp_c.specs.Listings.{listingText};
 ghost use Rattle.uadp_c.specs.Writing.{writerResult};
 

@@ -6,10 +6,10 @@ use records::writers::sizes;
 use records::writers::starts;
 use records::writers::types;
 use records::writers::writer_count;
-use walking::Walked;
-use walking::walk;
+use walk_records::Walked;
+use walk_records::walk;
 ghost use mathlib.Core.Path.{_≡_};
-ghost use Rattle.walking.specs.Walk.{recordsPut, walkLines, walkOf};
+ghost use Rattle.walk_records.specs.Walk.{recordsPut, walkLines, walkOf};
 ghost use Rattle.uadp_c.specs.Walks.{configured, walkResult};
 
 fn walked_result(walked: Walked) -> u64

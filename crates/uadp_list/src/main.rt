@@ -6,12 +6,12 @@ use config::writer_count;
 use libc::ENOENT;
 use libc::STDIN_FILENO;
 use libc::STDOUT_FILENO;
-use listing::lines::LineStep;
-use listing::lines::next_line;
-use listing::lines::start;
-use listing_line::line::Line;
-use listing_line::line::LinePut;
-use listing_line::line::put_line;
+use listing::line::LinePut;
+use listing::line::put_line;
+use walk::entry::Line;
+use walk::lines::LineStep;
+use walk::lines::next_line;
+use walk::lines::start;
 use wire::part::part;
 
 // How many bytes were read, and what one more read answered: 0 at the end, above 0 where more follows than the buffer holds, below 0 where

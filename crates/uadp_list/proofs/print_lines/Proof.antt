@@ -1,7 +1,7 @@
 -- `uadp_list::print_lines` meets its contract.
 -- Assumes nothing.
-use Rattle.listing.proofs.Listing.{step-lists}
-use Rattle.listing.specs.Lines.{writers, linesFrom, stepLines}
+use Rattle.walk.proofs.Listing.{step-lists}
+use Rattle.walk.specs.Lines.{writers, linesFrom, stepLines}
 use borrow.Author.Needs.{needs}
 use denote.Ref.{now}
 use native.Mathlib.Omega.{arith}

@@ -1,0 +1,30 @@
+-- `listing::columns::optional` meets its contract.
+-- Assumes nothing.
+use native.Mathlib.Omega.{arith}
+use Rattle.listing.proofs.Putting.{fewer}
+use borrow.Author.Needs.{needs}
+use Rattle.listing.proofs.columns.optional.Statement.{statement}
+use Rattle.listing.proofs.columns.optional.Tie as tie
+
+returns : tie.Need-returns
+returns c =
+    rw (c .before .before .before .before .before .enum-told .given .1) (fewer (omega arith) (c .before .before .word .ensures))
+
+returns-2 : tie.Need-returns-2
+returns-2 c =
+    rw (c .before .before .before .before .before .x .given .1) (c .before .before .decimal .ensures)
+
+pub optional-spec : {M : Type 1} → statement M
+optional-spec =
+    tie.close
+    (tie.spec
+    (λ c. search needs)
+    (λ c. search needs)
+    (λ c κs. search needs)
+    (λ c. search needs)
+    (λ c. search needs)
+    (λ c κs. search needs)
+    (λ c. search needs)
+    returns
+    (λ c. search needs)
+    returns-2)

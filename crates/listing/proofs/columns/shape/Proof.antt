@@ -1,0 +1,38 @@
+-- `listing::columns::shape` meets its contract.
+-- Assumes nothing.
+use native.Mathlib.Omega.{arith}
+use Rattle.listing.proofs.Putting.{fewer}
+use borrow.Author.Needs.{needs}
+use Rattle.listing.proofs.columns.shape.Statement.{statement}
+use Rattle.listing.proofs.columns.shape.Tie as tie
+
+returns : tie.Need-returns
+returns c =
+    rw (c .before .before .before .before .before .enum-told .given .1) (fewer (omega arith) (c .before .before .word .ensures))
+
+returns-2 : tie.Need-returns-2
+returns-2 c =
+    rw (c .before .before .before .before .before .enum-told2 .given .1) (fewer (omega arith) (c .before .before .word2 .ensures))
+
+returns-3 : tie.Need-returns-3
+returns-3 c =
+    rw (c .before .before .before .before .before .x .given .1) (c .before .before .decimal .ensures)
+
+pub shape-spec : {M : Type 1} → statement M
+shape-spec =
+    tie.close
+    (tie.spec
+    (λ c. search needs)
+    (λ c. search needs)
+    (λ c κs. search needs)
+    (λ c. search needs)
+    (λ c. search needs)
+    (λ c κs. search needs)
+    (λ c. search needs)
+    (λ c κs. search needs)
+    (λ c. search needs)
+    returns
+    (λ c. search needs)
+    returns-2
+    (λ c. search needs)
+    returns-3)

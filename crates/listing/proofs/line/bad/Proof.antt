@@ -1,0 +1,15 @@
+-- `listing::line::bad` meets its contract.
+-- Assumes nothing.
+use native.Mathlib.Omega.{arith}
+use Rattle.listing.proofs.Putting.{then, fewer}
+use borrow.Author.Needs.{needs}
+use Rattle.listing.proofs.line.bad.Statement.{statement}
+use Rattle.listing.proofs.line.bad.Tie as tie
+
+returns : tie.Need-returns
+returns c =
+    fewer (omega arith) (then (c .before .before .before .before .before .before .first .ensures) (c .before .before .refusal .ensures))
+
+pub bad-spec : {M : Type 1} → statement M
+bad-spec =
+    tie.close (tie.spec (λ c. search needs) (λ c κs. search needs) (λ c κs. search needs) (λ c. search needs) returns)

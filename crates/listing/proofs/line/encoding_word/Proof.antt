@@ -1,0 +1,37 @@
+-- `listing::line::encoding_word` meets its contract.
+-- Assumes nothing.
+use borrow.Author.Needs.{needs}
+use Rattle.listing.proofs.line.encoding_word.Statement.{statement}
+use Rattle.listing.proofs.line.encoding_word.Tie as tie
+
+returns : tie.Need-returns
+returns c =
+    rw (c .before .before .before .before .before .enum-told .given .1) (c .before .before .word .ensures)
+
+returns-2 : tie.Need-returns-2
+returns-2 c =
+    rw (c .before .before .before .before .before .enum-told2 .given .1) (c .before .before .word2 .ensures)
+
+returns-3 : tie.Need-returns-3
+returns-3 c =
+    rw (c .before .before .before .before .before .enum-told3 .given .1) (c .before .before .word3 .ensures)
+
+pub encoding-word-spec : {M : Type 1} → statement M
+encoding-word-spec =
+    tie.close
+    (tie.spec
+    (λ c. search needs)
+    (λ c. search needs)
+    (λ c κs. search needs)
+    (λ c. search needs)
+    (λ c. search needs)
+    (λ c κs. search needs)
+    (λ c. search needs)
+    (λ c. search needs)
+    (λ c κs. search needs)
+    (λ c. search needs)
+    returns
+    (λ c. search needs)
+    returns-2
+    (λ c. search needs)
+    returns-3)

@@ -1,0 +1,24 @@
+-- `listing::line::net` meets its contract.
+-- Assumes nothing.
+use native.Mathlib.Omega.{arith}
+use Rattle.listing.proofs.Putting.{then, fewer}
+use borrow.Author.Needs.{needs}
+use Rattle.listing.proofs.line.net.Statement.{statement}
+use Rattle.listing.proofs.line.net.Tie as tie
+
+returns : tie.Need-returns
+returns c =
+    fewer (omega arith) (then (c .before .before .before .before .before .before .before .before .before .before .before .before .before .before .before .before .before .before .first .ensures) (then (c .before .before .before .before .before .before .before .before .before .before .before .before .before .before .decimal .ensures) (then (c .before .before .before .before .before .before .before .before .before .before .publisher .ensures) (then (c .before .before .before .before .before .before .decimal2 .ensures) (c .before .before .end .ensures)))))
+
+pub net-spec : {M : Type 1} → statement M
+net-spec =
+    tie.close
+    (tie.spec
+    (λ c. search needs)
+    (λ c κs. search needs)
+    (λ c κs. search needs)
+    (λ c κs. search needs)
+    (λ c κs. search needs)
+    (λ c κs. search needs)
+    (λ c. search needs)
+    returns)

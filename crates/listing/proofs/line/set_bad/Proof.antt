@@ -1,0 +1,22 @@
+-- `listing::line::set_bad` meets its contract.
+-- Assumes nothing.
+use native.Mathlib.Omega.{arith}
+use Rattle.listing.proofs.Putting.{then, fewer}
+use borrow.Author.Needs.{needs}
+use Rattle.listing.proofs.line.set_bad.Statement.{statement}
+use Rattle.listing.proofs.line.set_bad.Tie as tie
+
+returns : tie.Need-returns
+returns c =
+    fewer (omega arith) (then (c .before .before .before .before .before .before .before .before .before .before .before .set-place .ensures) (then (c .before .before .before .before .before .before .word .ensures) (c .before .before .refusal .ensures)))
+
+pub set-bad-spec : {M : Type 1} → statement M
+set-bad-spec =
+    tie.close
+    (tie.spec
+    (λ c κs. search needs)
+    (λ c. search needs)
+    (λ c κs. search needs)
+    (λ c κs. search needs)
+    (λ c. search needs)
+    returns)

@@ -1,0 +1,133 @@
+// A whole listing as text in a lent buffer: first its length, then its lines one after the other.
+use crate::line::LinePut;
+use crate::line::put_line;
+use walk::entry::Line;
+use walk::lines::LineCursor;
+use walk::lines::LineStep;
+use walk::lines::next_line;
+use walk::lines::start;
+use wire::part::part;
+use wire_writer::store::put_run;
+use wire_writer::writing::Written;
+ghost use mathlib.Core.Path.{_≡_};
+ghost use Prim.Native.Nat.{_+_, _≤_};
+ghost use lib.ListN.{length, take};
+ghost use lib.Seq.{sets};
+ghost use Rattle.walk.specs.Lines.{writers, linesFrom, listingOf};
+ghost use Rattle.listing.specs.Text.{lineOut, linesText, lengthIn, textWritten, textAfter};
+
+// Puts a line's text at the start of a buffer of 256 bytes, and answers how long it is.
+fn line_in(text: &mut [u8], s: &[u8], line: Line) -> usize
+    requires { ⌜ length (now text) ≡ 256 ⌝ }
+    ensures { λ r. ⌜ (r ≡ length (lineOut (now (s .entry)) line)) × (take r (now (text .exit)) ≡ lineOut (now (s .entry)) line) × (r ≤ 256) ⌝ }
+{
+    match put_line(text, s, line) {
+        LinePut::Is(n) => n,
+        LinePut::Refused(_) => 0,
+    }
+}
+
+fn line_length(s: &[u8], line: Line) -> usize
+    ensures { λ r. ⌜ (r ≡ length (lineOut (now (s .entry)) line)) × (r ≤ 256) ⌝ }
+{
+    let mut text = [0u8; 256];
+    line_in(&mut text, s, line)
+}
+
+// Stores a line's text from a position on.
+fn store_line(out: &mut [u8], at: usize, s: &[u8], line: Line) -> usize
+    requires { ⌜ at + length (lineOut (now s) line) ≤ length (now out) ⌝ }
+    ensures { λ r. ⌜ (now (out .exit) ≡ sets (now (out .entry)) at (lineOut (now (s .entry)) line)) × (r ≡ at + length (lineOut (now (s .entry)) line)) ⌝ }
+{
+    let mut text = [0u8; 256];
+    let n = line_in(&mut text, s, line);
+    put_run(out, at, part(&text, 0, n));
+    at + n
+}
+
+// A text's length where it fits into some room.
+enum TextLength {
+    Is(usize),
+    Long,
+}
+
+fn text_length<'a>(
+    room: usize,
+    s: &[u8],
+    first: LineCursor,
+    ids: &'a [u16],
+    sizes: &[u16],
+    starts: &'a [u8],
+    types: &'a [u8],
+) -> TextLength
+    ensures { λ r. ⌜ r ≡ lengthIn room (linesText (now (s .entry)) (linesFrom (writers (now (ids .entry)) (now (sizes .entry)) (now (starts .entry)) (now (types .entry))) (now (s .entry)) first)) ⌝ }
+{
+    let mut cursor = first;
+    let mut total = 0;
+    loop {
+        match next_line(s, ids, sizes, starts, types, cursor) {
+            LineStep::None => {
+                return TextLength::Is(total);
+            }
+            LineStep::Is(line, next) => {
+                let n = line_length(s, line);
+                if room - total < n {
+                    return TextLength::Long;
+                }
+                total = total + n;
+                cursor = next;
+            }
+        }
+    }
+}
+
+fn store_text<'a>(
+    out: &mut [u8],
+    s: &[u8],
+    first: LineCursor,
+    ids: &'a [u16],
+    sizes: &[u16],
+    starts: &'a [u8],
+    types: &'a [u8],
+)
+    requires { ⌜ length (linesText (now s) (linesFrom (writers (now ids) (now sizes) (now starts) (now types)) (now s) first)) ≤ length (now out) ⌝ }
+    ensures { λ _. ⌜ now (out .exit) ≡ sets (now (out .entry)) 0 (linesText (now (s .entry)) (linesFrom (writers (now (ids .entry)) (now (sizes .entry)) (now (starts .entry)) (now (types .entry))) (now (s .entry)) first)) ⌝ }
+{
+    let mut cursor = first;
+    let mut at = 0;
+    loop {
+        match next_line(s, ids, sizes, starts, types, cursor) {
+            LineStep::None => {
+                return;
+            }
+            LineStep::Is(line, next) => {
+                at = store_line(out, at, s, line);
+                cursor = next;
+            }
+        }
+    }
+}
+
+// Puts the whole listing of a datagram at the start of a buffer, under a configuration whose reading gave a number and a place; 11 where it does
+// not fit.
+pub fn put_listing<'a>(
+    out: &mut [u8],
+    s: &[u8],
+    number: u8,
+    place: usize,
+    ids: &'a [u16],
+    sizes: &[u16],
+    starts: &'a [u8],
+    types: &'a [u8],
+) -> Written
+    ensures { λ r. ⌜ (r ≡ textWritten (now (out .entry)) (linesText (now (s .entry)) (listingOf number place (writers (now (ids .entry)) (now (sizes .entry)) (now (starts .entry)) (now (types .entry))) (now (s .entry))))) × (now (out .exit) ≡ textAfter (now (out .entry)) (linesText (now (s .entry)) (listingOf number place (writers (now (ids .entry)) (now (sizes .entry)) (now (starts .entry)) (now (types .entry))) (now (s .entry))))) ⌝ }
+{
+    let first = start(s, number, place, sizes);
+    match text_length(out.len(), s, first, ids, sizes, starts, types) {
+        TextLength::Long => Written::Refused(11),
+        TextLength::Is(n) => {
+            store_text(out, s, first, ids, sizes, starts, types);
+            Written::Is(n)
+        }
+    }
+}
