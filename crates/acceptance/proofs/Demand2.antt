@@ -30,7 +30,7 @@ use Rattle.rewriting.specs.Same.{WritesSame}
 use Rattle.wire_writer.specs.declared.writing.Written.{Written}
 use Rattle.round_trip.specs.NetworkMessage.{AsManyLengths, givenLengths, messageOf, rewritten, FitsEnvelope, ReadsBack, WritesAgain}
 use Rattle.round_trip.specs.DataSetMessage.{MessageBack, Tellable}
-use Rattle.dataset_header.specs.HeaderWriter.{FitsHeader}
+use Rattle.dataset_header.specs.Header.{FitsHeader}
 use Rattle.round_trip.proofs.NetworkMessageRoundTrip.{reads-back, writes-again, refuses-alike}
 use Rattle.round_trip.proofs.NetworkMessageRewritten as NetworkMessage
 use Rattle.round_trip.proofs.DataSetMessage as DataSetMessage

@@ -22,7 +22,7 @@ use Rattle.dataset_header.proofs.header.Header as header
 use Rattle.dataset_header.proofs.header.Header.Laws as headerLaws
 use Rattle.dataset_header.specs.declared.header.Header.{Header}
 use Rattle.wire_writer.specs.Fits.{Fits16, Fits32, FitsI64}
-use Rattle.dataset_header.specs.HeaderWriter.{FitsHeader}
+use Rattle.dataset_header.specs.Header.{FitsHeader}
 
 pub fits16 : (x : Optional16) (vs : List Val) → Is (enum.row optional16.the-type) x vs → Fits16 x
 fits16 Optional16.Absent vs h = tt

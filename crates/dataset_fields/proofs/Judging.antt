@@ -19,8 +19,7 @@ use Rattle.value.proofs.Values.{value-steady, raw-steady}
 use Rattle.wire_writer.specs.Writing.{orElse}
 use Rattle.dataset_header.specs.declared.flags.Encoding.{Encoding}
 use Rattle.dataset_fields.specs.declared.fields.Field.{Field}
-use Rattle.dataset_fields.specs.Fields.{encodedAt, fieldAt}
-use Rattle.dataset_fields.specs.FieldsWriter.{total, valuesOf, fieldsRefusal, fieldsWhole, fieldsNumber, reached}
+use Rattle.dataset_fields.specs.Fields.{encodedAt, fieldAt, total, valuesOf, fieldsRefusal, fieldsWhole, fieldsNumber, reached}
 
 -- two tests are equal where each follows from the other
 pub eqb-same : (a b c d : ℕ) → (a ≡ b → c ≡ d) → (c ≡ d → a ≡ b) → eqb a b ≡ eqb c d

@@ -12,7 +12,7 @@ use lib.ListN.{length, getD, take, drop, set, length-append, length-drop, take-a
 use lib.Seq.{sets, getD-drop, drop-drop, length-take-le}
 use Rattle.wire.specs.Number.{leBytes}
 use Rattle.wire_writer.specs.Writing.{Puts}
-use Rattle.dataset_fields.specs.FieldsWriter.{total, valuesOf, fieldsBytes, zeros}
+use Rattle.dataset_fields.specs.Fields.{total, valuesOf, fieldsBytes, zeros}
 use Rattle.dataset_fields.proofs.Judging.{past-end, forwardTo, values-cons}
 
 -- a delta's field k and the fields after it

@@ -1,3 +1,2 @@
 // The fields of a DataSetMessage, one after the other, and the padding after them.
 pub mod fields;
-pub mod fields_writer;

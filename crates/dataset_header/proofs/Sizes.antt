@@ -9,7 +9,7 @@ use Rattle.wire.specs.Number.{leBytes}
 use Rattle.wire_writer.specs.Writing.{needed, byteBytes}
 use native.Mathlib.Omega.{arith}
 use Rattle.dataset_header.specs.declared.header.Header.{Header}
-use Rattle.dataset_header.specs.FlagsWriter.{flags1Of, flags2Of}
+use Rattle.dataset_header.specs.Flags.{flags1Of, flags2Of}
 
 byte-length : (e : ℕ) → length (byteBytes e) ≡ needed e
 byte-length e = go (eqb e 0)

@@ -9,7 +9,10 @@ use Rattle.dataset_header.specs.declared.header.Times.{Times}
 use Rattle.dataset_header.specs.declared.header.TimesRead.{TimesRead}
 use Rattle.dataset_header.specs.declared.header.Versions.{Versions}
 use Rattle.dataset_header.specs.declared.header.VersionsRead.{VersionsRead}
-use Rattle.dataset_header.specs.Flags.{Valid, notValid, valid, flagsAt}
+use Rattle.dataset_header.specs.Flags.{Valid, notValid, valid, flagsAt, flagBytes}
+use mathlib.Core.List.{List, _++_}
+use Rattle.wire_writer.specs.Writing.{optional16Bytes, optional32Bytes, optionalI64Bytes}
+use Rattle.wire_writer.specs.Fits.{Fits16, Fits32, FitsI64}
 
 -- "Then sequence 2, timestamp 8, picoseconds 2 (as above), status 2, major 4, minor 4, each by its flag"
 abbrev pub timesAt : Flags → Reader Times
@@ -67,3 +70,22 @@ abbrev pub answerHeader : HeaderRead → Answer (Valid Header)
 answerHeader (HeaderRead.NotValid next) = got notValid next
 answerHeader (HeaderRead.Is h next) = got (valid h) next
 answerHeader (HeaderRead.Refused n place) = refused n place
+
+-- "Then sequence 2, timestamp 8, picoseconds 2, status 2, major 4, minor 4, each by its flag"
+abbrev pub timesBytes : Header → List ℕ
+timesBytes h = optional16Bytes (h .sequence) ++ (optionalI64Bytes (h .timestamp) ++ optional16Bytes (h .picoseconds))
+
+abbrev pub versionsBytes : Header → List ℕ
+versionsBytes h = optional16Bytes (h .status) ++ (optional32Bytes (h .major) ++ optional32Bytes (h .minor))
+
+abbrev pub headerBytes : Header → List ℕ
+headerBytes h = flagBytes h ++ (timesBytes h ++ versionsBytes h)
+
+-- each number of a header fits its type, as a value of the code does
+pub record FitsHeader (h : Header) : Type 0 where
+  pub sequence : Fits16 (h .sequence)
+  pub timestamp : FitsI64 (h .timestamp)
+  pub picoseconds : Fits16 (h .picoseconds)
+  pub status : Fits16 (h .status)
+  pub major : Fits32 (h .major)
+  pub minor : Fits32 (h .minor)

@@ -1,4 +1,2 @@
 pub mod Flags
 pub mod Header
-pub mod FlagsWriter
-pub mod HeaderWriter

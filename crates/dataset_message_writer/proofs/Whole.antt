@@ -8,7 +8,7 @@ use native.Mathlib.Omega.{arith}
 use borrow.Author.Tests.{leb-true, leb-false, eqb-true, lt-ltb, le-ltb, ne-eqb}
 use lib.Dec.{leb, ltb, eqb}
 use lib.ListN.{length, length-append, take, drop}
-use Rattle.dataset_header.specs.Flags.{notValid, valid, isDelta, isRaw}
+use Rattle.dataset_header.specs.Flags.{notValid, valid, isDelta, isRaw, kindRule}
 use Rattle.dataset_fields.specs.declared.fields.Cursor.{Cursor}
 use Rattle.wire.specs.Answer.{got, refused}
 use Rattle.dataset_message_writer.specs.Rewrite.{partsAgain, again, againWritten, againBuffer, Rewrites}
@@ -22,9 +22,8 @@ use Rattle.wire_writer.proofs.Refusals.{both-zero, held}
 use Rattle.dataset_header.specs.declared.flags.Encoding.{Encoding}
 use Rattle.dataset_header.specs.declared.flags.Kind.{Kind}
 use Rattle.dataset_message.specs.Message.{messageAt}
-use Rattle.dataset_header.specs.FlagsWriter.{kindRule}
-use Rattle.dataset_header.specs.HeaderWriter.{headerBytes}
-use Rattle.dataset_fields.specs.FieldsWriter.{total, fieldsBytes, zeros}
+use Rattle.dataset_header.specs.Header.{headerBytes}
+use Rattle.dataset_fields.specs.Fields.{total, fieldsBytes, zeros}
 use Rattle.dataset_message_writer.specs.Message.{Given, hasFields, isFielded, isRawData, fieldsOf, countBytes, encode, bodyRefusal, readingRefusal, bodyAgrees, listsAgree, readsBack, refusalOf, sizeOf, atMost, WritesBytes}
 use Rattle.dataset_fields.proofs.Judging.{or-assoc, six-and}
 use Rattle.dataset_fields.proofs.Laying.{length-zeros, values-whole, delta-length}

@@ -7,16 +7,15 @@ use mathlib.Core.List.{List, [], _++_}
 use lib.Dec.{eqb, leb}
 use lib.ListN.{length}
 use Rattle.wire.specs.Number.{leBytes}
-use Rattle.dataset_header.specs.Flags.{isDelta, isRaw}
+use Rattle.dataset_header.specs.Flags.{isDelta, isRaw, kindRule}
 use Rattle.wire_writer.specs.Writing.{orElse, picosecondsRefusal, numberFor, writtenBy, bufferBy}
 use Rattle.wire_writer.specs.declared.writing.Written.{Written}
 use Rattle.dataset_header.specs.declared.flags.Encoding.{Encoding}
 use Rattle.dataset_header.specs.declared.flags.Kind.{Kind}
 use Rattle.dataset_header.specs.declared.header.Header.{Header}
-use Rattle.dataset_header.specs.FlagsWriter.{kindRule}
-use Rattle.dataset_header.specs.HeaderWriter.{headerBytes, FitsHeader}
+use Rattle.dataset_header.specs.Header.{headerBytes, FitsHeader}
 use Rattle.wire_writer.specs.Fits.{Numbers}
-use Rattle.dataset_fields.specs.FieldsWriter.{total, valuesOf, fieldsRefusal, fieldsWhole, reached, fieldsBytes, zeros}
+use Rattle.dataset_fields.specs.Fields.{total, valuesOf, fieldsRefusal, fieldsWhole, reached, fieldsBytes, zeros}
 
 -- What is given to be written: the header; of a key frame, whether it is a heartbeat; the fields' encoded values one after the
 -- other and how long each is; a delta's indices; how many bytes of padding follow.

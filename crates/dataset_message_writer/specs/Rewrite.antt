@@ -11,8 +11,8 @@ use Rattle.wire_writer.specs.declared.writing.Written.{Written}
 use Rattle.dataset_header.specs.declared.header.Header.{Header}
 use Rattle.dataset_header.specs.Flags.{Valid, notValid, valid, isRaw}
 use Rattle.dataset_message.specs.Message.{Message, messageAt}
-use Rattle.dataset_header.specs.HeaderWriter.{headerBytes}
-use Rattle.dataset_fields.specs.FieldsWriter.{zeros}
+use Rattle.dataset_header.specs.Header.{headerBytes}
+use Rattle.dataset_fields.specs.Fields.{zeros}
 use Rattle.dataset_message_writer.specs.Message.{hasFields, countBytes}
 
 -- the header, FieldCount where there is one, the fields as they stand, and padding

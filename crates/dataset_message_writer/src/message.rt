@@ -2,17 +2,17 @@
 use crate::parts::has_fields;
 use crate::parts::put_count;
 use crate::parts::size;
-use dataset_fields::fields_writer::add_up;
-use dataset_fields::fields_writer::judge_fields;
-use dataset_fields::fields_writer::put_delta;
-use dataset_fields::fields_writer::put_zeros;
+use dataset_fields::fields::add_up;
+use dataset_fields::fields::judge_fields;
+use dataset_fields::fields::put_delta;
+use dataset_fields::fields::put_zeros;
 use dataset_header::flags::Encoding;
 use dataset_header::flags::Kind;
 use dataset_header::flags::is_delta;
 use dataset_header::flags::is_raw;
-use dataset_header::flags_writer::kind_rule;
+use dataset_header::flags::kind_rule;
 use dataset_header::header::Header;
-use dataset_header::header_writer::put_header;
+use dataset_header::header::put_header;
 use wire_writer::writing::Written;
 use wire_writer::writing::or_else;
 use wire_writer::writing::picoseconds_refusal;
@@ -21,7 +21,7 @@ ghost use mathlib.Core.Path.{_≡_};
 ghost use mathlib.Core.Bool.{cond};
 ghost use lib.ListN.{length};
 ghost use Rattle.wire_writer.specs.Writing.{orElse, Puts};
-ghost use Rattle.dataset_fields.specs.FieldsWriter.{total, valuesOf, fieldsBytes};
+ghost use Rattle.dataset_fields.specs.Fields.{total, valuesOf, fieldsBytes};
 ghost use Rattle.dataset_message_writer.specs.Message.{given, isKey, fieldedRefusal, fieldedAgrees, configuredRule, countAgrees, listsAgree, encode, bodyRefusal, bodyAgrees, refusalOf, Writes, FitsGiven};
 
 fn is_key(kind: Kind) -> bool

@@ -1,13 +1,13 @@
 // What `message` and `rewrite` share: whether fields follow a header, how many bytes a message takes, and FieldCount.
 use dataset_header::flags::Kind;
 use dataset_header::header::Header;
-use dataset_header::header_writer::header_size;
+use dataset_header::header::header_size;
 use wire_writer::writing::put16;
 ghost use mathlib.Core.Path.{_≡_};
 ghost use Prim.Native.Nat.{_+_};
 ghost use lib.ListN.{length};
 ghost use Rattle.wire_writer.specs.Writing.{Puts};
-ghost use Rattle.dataset_header.specs.HeaderWriter.{headerBytes};
+ghost use Rattle.dataset_header.specs.Header.{headerBytes};
 ghost use Rattle.dataset_message_writer.specs.Message.{hasFields, countBytes, sizeOf, atMost};
 
 // Whether something follows the header of a message of this kind.

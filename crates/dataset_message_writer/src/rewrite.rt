@@ -2,11 +2,11 @@
 use crate::parts::has_fields;
 use crate::parts::put_count;
 use crate::parts::size;
-use dataset_fields::fields_writer::put_zeros;
+use dataset_fields::fields::put_zeros;
 use dataset_header::flags::is_raw;
 use dataset_header::header::Header;
-use dataset_header::header_writer::header_size;
-use dataset_header::header_writer::put_header;
+use dataset_header::header::header_size;
+use dataset_header::header::put_header;
 use dataset_message::message::MessageRead;
 use dataset_message::message::read;
 use wire::left;

@@ -9,8 +9,8 @@ use Rattle.network_header.specs.declared.flags.Flags.{Flags}
 use Rattle.network_header.specs.declared.group.GroupFields.{GroupFields}
 use Rattle.network_header.specs.declared.group.GroupHeader.{GroupHeader}
 use Rattle.wire_writer.specs.Writing.{needed, byteBytes, optional16Bytes, optional32Bytes}
-use Rattle.network_header.specs.FlagsWriter.{extended2Of, extended1Of, byte0Of, flagBytes}
-use Rattle.network_header.specs.GroupWriter.{groupFlagsOf, fieldsBytes, groupBytes}
+use Rattle.network_header.specs.Flags.{extended2Of, extended1Of, byte0Of, flagBytes}
+use Rattle.network_header.specs.Group.{groupFlagsOf, fieldsBytes, groupBytes}
 use Rattle.wire_writer.proofs.Parts.{add-sizes, byte-sized}
 
 pub flags-sized : (f : Flags) {a b : ℕ} → a ≡ needed (extended1Of f) → b ≡ needed (extended2Of f) → 1 + (a + b) ≡ length (flagBytes f)

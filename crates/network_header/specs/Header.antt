@@ -1,8 +1,8 @@
 -- DataSetClassId, PayloadHeader and promoted fields (document 01, "The envelope").
 use Prim.Native.Nat.{ℕ, _*_}
-use mathlib.Core.Bool.{Bool, cond}
-use lib.Dec.{eqb}
-use Rattle.wire.specs.Items.{guid}
+use mathlib.Core.Bool.{Bool, cond, true, false}
+use lib.Dec.{eqb, leb}
+use Rattle.wire.specs.Items.{guid, guidBytes}
 use Rattle.wire.specs.Answer.{Answer, got, refused, Reader, item, ruled, run, whenOn, pure, _>>=_, _>>_}
 use Rattle.network_header.specs.declared.header.ClassId.{ClassId}
 use Rattle.network_header.specs.declared.header.ClassRead.{ClassRead}
@@ -10,6 +10,11 @@ use Rattle.network_header.specs.declared.header.PayloadHeader.{PayloadHe
 use Rattle.network_header.specs.declared.header.PayloadHeaderRead.{PayloadHeaderRead}
 use Rattle.network_header.specs.declared.header.Promoted.{Promoted}
 use Rattle.network_header.specs.declared.header.PromotedRead.{PromotedRead}
+use mathlib.Core.List.{List, [], _++_}
+use lib.ListN.{length, take}
+use Rattle.wire.specs.Number.{leBytes}
+use Rattle.wire_writer.specs.Writing.{unused}
+use Rattle.network_header.specs.Numbers.{sameNumbers}
 
 -- "DataSetClassId, 16 bytes"
 abbrev pub classAt : Bool → Reader ClassId
@@ -54,3 +59,56 @@ answerPayloadHeader (PayloadHeaderRead.Refused n place) = refused n place
 abbrev pub answerPromoted : PromotedRead → Answer Promoted
 answerPromoted (PromotedRead.Is v next) = got v next
 answerPromoted (PromotedRead.Refused n place) = refused n place
+
+abbrev pub classOn : ClassId → Bool
+classOn ClassId.Absent = false
+classOn (ClassId.Is g) = true
+
+abbrev pub classBytes : ClassId → List ℕ
+classBytes ClassId.Absent = []
+classBytes (ClassId.Is g) = guidBytes g
+
+abbrev pub payloadHeaderOn : PayloadHeader → Bool
+payloadHeaderOn PayloadHeader.Absent = false
+payloadHeaderOn (PayloadHeader.Ids n) = true
+payloadHeaderOn (PayloadHeader.Chunk w) = true
+
+-- "for a chunk, DataSetWriterId 2; else Count 1, then Count ids of 2": the ids are given as they stand, 2 bytes each
+abbrev pub payloadHeaderBytes : List ℕ → PayloadHeader → List ℕ
+payloadHeaderBytes ids PayloadHeader.Absent = []
+payloadHeaderBytes ids (PayloadHeader.Ids n) = leBytes 1 n ++ ids
+payloadHeaderBytes ids (PayloadHeader.Chunk w) = leBytes 2 w
+
+-- "Promoted: Size 2, then that many bytes"
+abbrev pub promotedOn : Promoted → Bool
+promotedOn Promoted.Absent = false
+promotedOn (Promoted.Size n) = true
+
+abbrev pub promotedBytes : List ℕ → Promoted → List ℕ
+promotedBytes bytes Promoted.Absent = []
+promotedBytes bytes (Promoted.Size n) = leBytes 2 (length bytes) ++ bytes
+
+-- what reading refuses: "Count 1 (0 is 6)"; "Size 2 (6 if the number of messages isn't one)"
+
+abbrev pub countRefusal : PayloadHeader → ℕ
+countRefusal PayloadHeader.Absent = 0
+countRefusal (PayloadHeader.Ids n) = countRule n
+countRefusal (PayloadHeader.Chunk w) = 0
+
+abbrev pub promotedRefusal : Promoted → ℕ → ℕ
+promotedRefusal Promoted.Absent messages = 0
+promotedRefusal (Promoted.Size n) messages = sizeRule messages n
+
+-- what would read back otherwise is 6
+
+-- ids: without a PayloadHeader "the configured writers apply in order", of which the first 16 count; a PayloadHeader has as
+-- many as it says, "over 255 messages" being 6, and none for a chunk, whose own id it holds; chunk and PayloadHeader go together
+abbrev pub idsShape : Bool → PayloadHeader → List ℕ → List ℕ → ℕ
+idsShape chunk PayloadHeader.Absent ids configured = cond (sameNumbers ids (take 16 configured)) 0 6
+idsShape chunk (PayloadHeader.Ids n) ids configured = cond chunk 6 (cond (leb 256 n) 6 (cond (eqb (length ids) (2 * n)) 0 6))
+idsShape chunk (PayloadHeader.Chunk w) ids configured = cond chunk (unused (length ids)) 6
+
+-- promoted fields: as many bytes as they say, and a size of 2 bytes
+abbrev pub promotedShape : Promoted → ℕ → ℕ
+promotedShape Promoted.Absent len = unused len
+promotedShape (Promoted.Size n) len = cond (leb 65536 n) 6 (cond (eqb n len) 0 6)

@@ -19,10 +19,10 @@ use Rattle.network_message.specs.Payload.{restAt}
 use Rattle.network_message.specs.Envelope.{messagesOf}
 use Rattle.wire_writer.specs.Writing.{orElse, on16, onI64, picosecondsRefusal, unused}
 use Rattle.wire_writer.proofs.Refusals.{passed, held, both-zero}
-use Rattle.network_header.specs.FlagsWriter.{timesRefusal}
-use Rattle.network_header.specs.GroupWriter.{groupRefusal}
-use Rattle.publisher_id.specs.PublisherWriter.{publisherRefusal, publisherShape}
-use Rattle.network_header.specs.HeaderWriter.{countRefusal, promotedRefusal, idsShape, promotedShape}
+use Rattle.network_header.specs.Flags.{timesRefusal}
+use Rattle.network_header.specs.Group.{groupRefusal}
+use Rattle.publisher_id.specs.Publisher.{publisherRefusal, publisherShape}
+use Rattle.network_header.specs.Header.{countRefusal, promotedRefusal, idsShape, promotedShape}
 use Rattle.network_message_writer.specs.Payload.{listedRefusal, numberIn, payloadRefusal, lengthsShape}
 use Rattle.network_message_writer.specs.Envelope.{Given, readingRefusal, shapeRefusal, refusalOf}
 

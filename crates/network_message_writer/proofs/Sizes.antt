@@ -6,10 +6,10 @@ use Prim.Native.Nat.{ℕ, _+_}
 use lib.ListN.{length}
 use Rattle.network_header.specs.declared.envelope.Envelope.{Envelope}
 use Rattle.wire_writer.specs.Writing.{optional16Bytes, optionalI64Bytes}
-use Rattle.network_header.specs.FlagsWriter.{flagBytes, flagsFor}
-use Rattle.publisher_id.specs.PublisherWriter.{publisherBytes}
-use Rattle.network_header.specs.GroupWriter.{groupBytes}
-use Rattle.network_header.specs.HeaderWriter.{classBytes, payloadHeaderBytes, promotedBytes}
+use Rattle.network_header.specs.Flags.{flagBytes, flagsFor}
+use Rattle.publisher_id.specs.Publisher.{publisherBytes}
+use Rattle.network_header.specs.Group.{groupBytes}
+use Rattle.network_header.specs.Header.{classBytes, payloadHeaderBytes, promotedBytes}
 use Rattle.wire_writer.proofs.Parts.{add-sizes}
 use Rattle.network_message_writer.specs.Payload.{listBytes}
 use Rattle.network_message_writer.specs.Envelope.{Given, tailBytes, headerBytes, datagramOf}

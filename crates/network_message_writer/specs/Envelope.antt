@@ -11,10 +11,10 @@ use Rattle.network_header.specs.declared.envelope.Places.{Places}
 use Rattle.network_header.specs.Numbers.{configuredSizes}
 use Rattle.network_message.specs.Envelope.{NetworkMessage, messagesOf}
 use Rattle.wire_writer.specs.Writing.{orElse, on16, onI64, optional16Bytes, optionalI64Bytes, picosecondsRefusal, numberFor, bufferBy, answerBy}
-use Rattle.network_header.specs.FlagsWriter.{flagBytes, flagsFor, timesRefusal}
-use Rattle.publisher_id.specs.PublisherWriter.{publisherBytes, publisherRefusal, publisherShape}
-use Rattle.network_header.specs.GroupWriter.{groupBytes, groupRefusal}
-use Rattle.network_header.specs.HeaderWriter.{classBytes, payloadHeaderBytes, promotedBytes, countRefusal, promotedRefusal, idsShape, promotedShape}
+use Rattle.network_header.specs.Flags.{flagBytes, flagsFor, timesRefusal}
+use Rattle.publisher_id.specs.Publisher.{publisherBytes, publisherRefusal, publisherShape}
+use Rattle.network_header.specs.Group.{groupBytes, groupRefusal}
+use Rattle.network_header.specs.Header.{classBytes, payloadHeaderBytes, promotedBytes, countRefusal, promotedRefusal, idsShape, promotedShape}
 use Rattle.network_message_writer.specs.Payload.{listBytes, payloadRefusal, lengthsShape}
 
 -- what is given beside the envelope: the bytes of a string PublisherId, the DataSetWriterIds (2 bytes each), the promoted

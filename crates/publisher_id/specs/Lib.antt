@@ -1,3 +1,2 @@
-pub mod PublisherWriter
 pub mod Publisher
 pub mod PublisherRecord

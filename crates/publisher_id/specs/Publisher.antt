@@ -1,12 +1,16 @@
 -- The PublisherId (document 01, "The envelope").
 use Prim.Native.Nat.{ℕ}
-use mathlib.Core.Bool.{Bool, cond}
+use mathlib.Core.Bool.{Bool, cond, true, false}
 use lib.Dec.{leb, eqb}
 use Rattle.wire.specs.Answer.{Answer, got, refused, Reader, item, run, whenOn, pure, andThen, _>>=_}
 use Rattle.wire.specs.Items.{lengthItem}
 use Rattle.wire.specs.declared.Length.{Length}
 use Rattle.publisher_id.specs.declared.publisher.PublisherId.{PublisherId}
 use Rattle.publisher_id.specs.declared.publisher.PublisherRead.{PublisherRead}
+use mathlib.Core.List.{List, [], _++_}
+use lib.ListN.{length}
+use Rattle.wire.specs.Number.{leBytes}
+use Rattle.wire_writer.specs.Writing.{unused}
 
 -- a string of n bytes: "above 64 is 10", whose place is 0
 abbrev pub stringOf : ℕ → Reader PublisherId
@@ -35,3 +39,47 @@ publisherAt on kind = whenOn on PublisherId.Absent (publisherOf kind)
 abbrev pub answerPublisher : PublisherRead → Answer PublisherId
 answerPublisher (PublisherRead.Is v next) = got v next
 answerPublisher (PublisherRead.Refused n place) = refused n place
+
+abbrev pub publisherOn : PublisherId → Bool
+publisherOn PublisherId.Absent = false
+publisherOn (PublisherId.Byte v) = true
+publisherOn (PublisherId.UInt16 v) = true
+publisherOn (PublisherId.UInt32 v) = true
+publisherOn (PublisherId.UInt64 v) = true
+publisherOn (PublisherId.Text n) = true
+
+-- "PublisherId type: 0 Byte, 1 UInt16, 2 UInt32, 3 UInt64, 4 String"; "With PublisherId off, its type bits are written as 0"
+abbrev pub kindOf : PublisherId → ℕ
+kindOf PublisherId.Absent = 0
+kindOf (PublisherId.Byte v) = 0
+kindOf (PublisherId.UInt16 v) = 1
+kindOf (PublisherId.UInt32 v) = 2
+kindOf (PublisherId.UInt64 v) = 3
+kindOf (PublisherId.Text n) = 4
+
+-- "A string has a 32-bit length", and then its bytes
+abbrev pub publisherBytes : List ℕ → PublisherId → List ℕ
+publisherBytes text PublisherId.Absent = []
+publisherBytes text (PublisherId.Byte v) = leBytes 1 v
+publisherBytes text (PublisherId.UInt16 v) = leBytes 2 v
+publisherBytes text (PublisherId.UInt32 v) = leBytes 4 v
+publisherBytes text (PublisherId.UInt64 v) = leBytes 8 v
+publisherBytes text (PublisherId.Text n) = leBytes 4 (length text) ++ text
+
+-- what reading refuses: a string "above 64 is 10"
+abbrev pub publisherRefusal : PublisherId → ℕ
+publisherRefusal PublisherId.Absent = 0
+publisherRefusal (PublisherId.Byte v) = 0
+publisherRefusal (PublisherId.UInt16 v) = 0
+publisherRefusal (PublisherId.UInt32 v) = 0
+publisherRefusal (PublisherId.UInt64 v) = 0
+publisherRefusal (PublisherId.Text n) = cond (leb 65 n) 10 0
+
+-- and bytes of a string that are not as many as the id says
+abbrev pub publisherShape : PublisherId → ℕ → ℕ
+publisherShape PublisherId.Absent len = unused len
+publisherShape (PublisherId.Byte v) len = unused len
+publisherShape (PublisherId.UInt16 v) len = unused len
+publisherShape (PublisherId.UInt32 v) len = unused len
+publisherShape (PublisherId.UInt64 v) len = unused len
+publisherShape (PublisherId.Text n) len = cond (eqb n len) 0 6

@@ -5,8 +5,22 @@ use wire::Item32;
 use wire::Item64;
 use wire::ItemLength;
 use wire::Run;
+use wire_writer::writing::must_equal;
+use wire_writer::writing::not_used;
+use wire_writer::writing::put_run;
+use wire_writer::writing::put8;
+use wire_writer::writing::put16;
+use wire_writer::writing::put32;
+use wire_writer::writing::put64;
 ghost use mathlib.Core.Path.{_≡_};
-ghost use Rattle.publisher_id.specs.Publisher.{stringOf, stringAt, publisherAt, answerPublisher};
+ghost use Rattle.publisher_id.specs.Publisher.{stringOf, stringAt, publisherAt, answerPublisher, publisherOn, kindOf, publisherBytes, publisherRefusal, publisherShape};
+ghost use mathlib.Core.Bool.{cond};
+ghost use mathlib.Core.List.{_++_};
+ghost use Prim.Native.Nat.{_+_, _≤_};
+ghost use lib.Dec.{leb};
+ghost use lib.ListN.{length};
+ghost use Rattle.wire.specs.Number.{leBytes};
+ghost use Rattle.wire_writer.specs.Writing.{Puts};
 
 // A PublisherId. Of a string, its length: its bytes end where the part ends.
 pub enum PublisherId {
@@ -78,4 +92,100 @@ pub fn read_publisher(s: &[u8], on: bool, kind: u8, at: usize) -> PublisherRead
         return PublisherRead::Is(PublisherId::UInt64(v), next);
     }
     string_id(s, at)
+}
+
+pub fn publisher_on(p: PublisherId) -> bool
+    ensures { λ r. ⌜ r ≡ publisherOn p ⌝ }
+{
+    match p {
+        PublisherId::Absent => false,
+        PublisherId::Byte(_) => true,
+        PublisherId::UInt16(_) => true,
+        PublisherId::UInt32(_) => true,
+        PublisherId::UInt64(_) => true,
+        PublisherId::Text(_) => true,
+    }
+}
+
+pub fn kind_of(p: PublisherId) -> u8
+    ensures { λ r. ⌜ (r ≡ kindOf p) × (r ≤ 4) ⌝ }
+{
+    match p {
+        PublisherId::Absent => 0, // its type bits are written as 0
+        PublisherId::Byte(_) => 0,
+        PublisherId::UInt16(_) => 1,
+        PublisherId::UInt32(_) => 2,
+        PublisherId::UInt64(_) => 3,
+        PublisherId::Text(_) => 4,
+    }
+}
+
+pub fn publisher_size(p: PublisherId, text: &[u8]) -> usize
+    ensures { λ r. ⌜ (r ≡ length (publisherBytes (now (text .entry)) p)) × (r ≤ length (now (text .entry)) + 8) ⌝ }
+{
+    match p {
+        PublisherId::Absent => 0,
+        PublisherId::Byte(_) => 1,
+        PublisherId::UInt16(_) => 2,
+        PublisherId::UInt32(_) => 4,
+        PublisherId::UInt64(_) => 8,
+        PublisherId::Text(_) => 4 + text.len(),
+    }
+}
+
+// The length of a string and its bytes.
+fn put_text(out: &mut [u8], at: usize, text: &[u8]) -> usize
+    ensures { λ r. ⌜ Puts (leBytes 4 (length (now (text .entry))) ++ now (text .entry)) (now (out .entry)) at (now (out .exit)) r ⌝ }
+{
+    let n = text.len();
+    let start = put32(out, at, (n % 4294967296) as u32);
+    put_run(out, start, text)
+}
+
+pub fn put_publisher(out: &mut [u8], at: usize, p: PublisherId, text: &[u8]) -> usize
+    ensures { λ r. ⌜ Puts (publisherBytes (now (text .entry)) p) (now (out .entry)) at (now (out .exit)) r ⌝ }
+{
+    match p {
+        PublisherId::Absent => at,
+        PublisherId::Byte(v) => put8(out, at, v),
+        PublisherId::UInt16(v) => put16(out, at, v),
+        PublisherId::UInt32(v) => put32(out, at, v),
+        PublisherId::UInt64(v) => put64(out, at, v),
+        PublisherId::Text(_) => put_text(out, at, text),
+    }
+}
+
+fn text_refusal(n: usize) -> u8
+    ensures { λ r. ⌜ r ≡ cond (leb 65 n) 10 0 ⌝ }
+{
+    if 65 <= n {
+        return 10;
+    }
+    0
+}
+
+pub fn publisher_refusal(p: PublisherId) -> u8
+    ensures { λ r. ⌜ r ≡ publisherRefusal p ⌝ }
+{
+    match p {
+        PublisherId::Absent => 0,
+        PublisherId::Byte(_) => 0,
+        PublisherId::UInt16(_) => 0,
+        PublisherId::UInt32(_) => 0,
+        PublisherId::UInt64(_) => 0,
+        PublisherId::Text(n) => text_refusal(n),
+    }
+}
+
+pub fn publisher_shape(p: PublisherId, len: usize) -> u8
+    ensures { λ r. ⌜ r ≡ publisherShape p len ⌝ }
+{
+    match p {
+        PublisherId::Absent => not_used(len),
+        PublisherId::Byte(_) => not_used(len),
+        PublisherId::UInt16(_) => not_used(len),
+        PublisherId::UInt32(_) => not_used(len),
+        PublisherId::UInt64(_) => not_used(len),
+        PublisherId::Text(n) => must_equal(n, len),
+    }
 }

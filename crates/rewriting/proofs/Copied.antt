@@ -21,7 +21,7 @@ use Rattle.wire_writer.proofs.Answering.{Answers, reports}
 use Rattle.publisher_id.proofs.publisher.PublisherId as publisher
 use Rattle.publisher_id.specs.declared.publisher.PublisherId.{PublisherId}
 use Rattle.network_message.specs.Envelope.{NetworkMessage, networkMessageAt}
-use Rattle.publisher_id.specs.PublisherWriter.{publisherOn}
+use Rattle.publisher_id.specs.Publisher.{publisherOn}
 use Rattle.network_message_writer.specs.Envelope.{againOf, rewriteAnswer, rewriteBuffer}
 use Rattle.dataset_header.specs.Flags.{valid, notValid}
 use Rattle.dataset_message.specs.Message.{Message, messageAt}

@@ -18,14 +18,11 @@ use Rattle.wire_writer.proofs.Trip.{At, first, second, item-is}
 use Rattle.wire_writer.proofs.Refusals.{both-zero, passed}
 use Rattle.dataset_header.specs.declared.flags.Encoding.{Encoding}
 use Rattle.dataset_header.specs.declared.flags.Kind.{Kind}
-use Rattle.dataset_header.specs.Flags.{valid, isDelta, isRaw}
-use Rattle.dataset_header.specs.Header.{headerAt}
-use Rattle.dataset_fields.specs.Fields.{encodedAt, fieldAt, fieldsAt, paddingAt}
+use Rattle.dataset_header.specs.Flags.{valid, isDelta, isRaw, kindRule}
+use Rattle.dataset_header.specs.Header.{headerAt, headerBytes, FitsHeader}
+use Rattle.dataset_fields.specs.Fields.{encodedAt, fieldAt, fieldsAt, paddingAt, valuesOf, endsAt, fieldsRefusal, fieldsWhole, reached, fieldsBytes, zeros}
 use Rattle.dataset_message.specs.Message.{countedAt, countAt, messageAt, fieldPlaceAt}
 use Rattle.dataset_message.proofs.Agreement.{field-inside}
-use Rattle.dataset_header.specs.FlagsWriter.{kindRule}
-use Rattle.dataset_header.specs.HeaderWriter.{headerBytes, FitsHeader}
-use Rattle.dataset_fields.specs.FieldsWriter.{valuesOf, endsAt, fieldsRefusal, fieldsWhole, reached, fieldsBytes, zeros}
 use Rattle.wire_writer.specs.declared.writing.Written.{Written}
 use Rattle.dataset_message_writer.specs.Message.{Given, FitsGiven, writerNumber, Writes, hasFields, isKey, isFielded, isRawData, fieldsOf, countBytes, configuredRule, countAgrees, encode, refusalOf}
 use Rattle.dataset_fields.proofs.Judging.{length-values}

@@ -21,8 +21,7 @@ use Rattle.dataset_header.specs.declared.flags.Encoding.{Encoding}
 use Rattle.dataset_header.specs.declared.flags.Kind.{Kind}
 use Rattle.dataset_header.specs.declared.flags.Flags.{Flags}
 use Rattle.dataset_header.specs.declared.header.Header.{Header}
-use Rattle.dataset_header.specs.Flags.{Valid, notValid, valid, encodingOf, kindOf, flags1Rule, flags2Rule, flags2At, flagsOf, flagsAt}
-use Rattle.dataset_header.specs.FlagsWriter.{encodingNumber, kindNumber, flags1Of, flags2Of, flagBytes, kindRule}
+use Rattle.dataset_header.specs.Flags.{Valid, notValid, valid, encodingOf, kindOf, flags1Rule, flags2Rule, flags2At, flagsOf, flagsAt, encodingNumber, kindNumber, flags1Of, flags2Of, flagBytes, kindRule}
 use Rattle.wire_writer.specs.Fits.{Bytes}
 
 -- the bytes as sums of their bits

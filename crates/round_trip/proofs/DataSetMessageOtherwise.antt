@@ -19,13 +19,10 @@ use Rattle.dataset_header.specs.declared.flags.Encoding.{Encoding}
 use Rattle.dataset_header.specs.declared.flags.Kind.{Kind}
 use Rattle.dataset_header.specs.declared.header.Header.{Header}
 use Rattle.dataset_fields.specs.declared.fields.Field.{Field}
-use Rattle.dataset_header.specs.Flags.{Valid, notValid, valid, isDelta, isRaw}
-use Rattle.dataset_header.specs.Header.{headerAt}
-use Rattle.dataset_fields.specs.Fields.{encodedAt, fieldAt, fieldsAt, paddingAt}
+use Rattle.dataset_header.specs.Flags.{Valid, notValid, valid, isDelta, isRaw, kindRule}
+use Rattle.dataset_header.specs.Header.{headerAt, headerBytes, FitsHeader}
+use Rattle.dataset_fields.specs.Fields.{encodedAt, fieldAt, fieldsAt, paddingAt, endsAt, fieldsWhole, fieldsBytes, zeros}
 use Rattle.dataset_message.specs.Message.{Message, countedAt, countAt, bodyAt, fieldBytes, nthAt}
-use Rattle.dataset_header.specs.FlagsWriter.{kindRule}
-use Rattle.dataset_header.specs.HeaderWriter.{headerBytes, FitsHeader}
-use Rattle.dataset_fields.specs.FieldsWriter.{endsAt, fieldsWhole, fieldsBytes, zeros}
 use Rattle.dataset_message_writer.specs.Message.{Given, hasFields, isKey, isFielded, isRawData, fieldsOf, countBytes, countAgrees, bodyRefusal, bodyAgrees, readingRefusal, encode}
 use Rattle.dataset_fields.proofs.Judging.{length-values}
 use Rattle.dataset_fields.proofs.Laying.{length-zeros}

@@ -12,7 +12,7 @@ use borrow.Author.Tests.{eqb-true, eq-eqb}
 use lib.ListN.{length, getD, take, drop, length-append}
 use lib.Seq.{getD-append-seam, getD-drop, take-at, drop-at, drop-cons, drop-length}
 use Rattle.round_trip.specs.DataSetMessage.{walked, bytesOf, joined, lengthsOf, indicesOf}
-use Rattle.dataset_header.specs.HeaderWriter.{FitsHeader, timesBytes, versionsBytes, headerBytes}
+use Rattle.dataset_header.specs.Header.{FitsHeader, timesBytes, versionsBytes, headerBytes, timesAt, versionsAt, headerAt, headerOf, bodyAt, afterFlags}
 use Rattle.dataset_message.proofs.Agreement.{field-inside}
 use Rattle.dataset_header.specs.declared.header.Versions.{Versions}
 use Rattle.dataset_header.specs.declared.header.Times.{Times}
@@ -30,11 +30,8 @@ use Rattle.wire_writer.proofs.Trip.{At, Reads, first, second, item-is, optional
 use Rattle.dataset_header.specs.declared.flags.Encoding.{Encoding}
 use Rattle.dataset_header.specs.declared.header.Header.{Header}
 use Rattle.dataset_fields.specs.declared.fields.Field.{Field}
-use Rattle.dataset_header.specs.Flags.{valid, Valid, notValid, flagsAt}
-use Rattle.dataset_header.specs.Header.{timesAt, versionsAt, headerAt, headerOf, bodyAt, afterFlags}
-use Rattle.dataset_fields.specs.Fields.{encodedAt, indexAt, fieldAt, fieldsAt, zerosAt}
-use Rattle.dataset_header.specs.FlagsWriter.{flagBytes, kindRule}
-use Rattle.dataset_fields.specs.FieldsWriter.{endsAt, fieldsWhole, indexBytes, fieldsBytes, zeros, total, valuesOf, numberOf, fieldsRefusal}
+use Rattle.dataset_header.specs.Flags.{valid, Valid, notValid, flagsAt, flagBytes, kindRule}
+use Rattle.dataset_fields.specs.Fields.{encodedAt, indexAt, fieldAt, fieldsAt, zerosAt, endsAt, fieldsWhole, indexBytes, fieldsBytes, zeros, total, valuesOf, numberOf, fieldsRefusal}
 use Rattle.dataset_fields.proofs.Judging.{encoded-steady}
 use Rattle.round_trip.proofs.DataSetMessageFlags.{flagsFor, flags-is, FlagsBack, flags-back, flags-stand, kind-kept}
 use Rattle.wire_writer.specs.Fits.{Bytes, Numbers}

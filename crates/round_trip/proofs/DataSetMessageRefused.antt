@@ -21,13 +21,10 @@ use Rattle.wire_writer.proofs.Refusals.{or-case, number-broken, picoseconds-ref
 use Rattle.dataset_header.specs.declared.flags.Encoding.{Encoding}
 use Rattle.dataset_header.specs.declared.flags.Kind.{Kind}
 use Rattle.dataset_header.specs.declared.header.Header.{Header}
-use Rattle.dataset_header.specs.Flags.{valid, flags1Rule, flags2Rule, flagsAt, isDelta, isRaw}
-use Rattle.dataset_header.specs.Header.{timesAt, headerAt}
-use Rattle.dataset_fields.specs.Fields.{encodedAt, fieldsAt}
+use Rattle.dataset_header.specs.Flags.{valid, flags1Rule, flags2Rule, flagsAt, isDelta, isRaw, kindNumber, flags1Of, flags2Of, flagBytes, kindRule}
+use Rattle.dataset_header.specs.Header.{timesAt, headerAt, timesBytes, versionsBytes, headerBytes, FitsHeader}
+use Rattle.dataset_fields.specs.Fields.{encodedAt, fieldsAt, fieldsRefusal, reached, indexBytes, fieldsBytes, zeros}
 use Rattle.dataset_message.specs.Message.{countAt, messageAt}
-use Rattle.dataset_header.specs.FlagsWriter.{kindNumber, flags1Of, flags2Of, flagBytes, kindRule}
-use Rattle.dataset_header.specs.HeaderWriter.{timesBytes, versionsBytes, headerBytes, FitsHeader}
-use Rattle.dataset_fields.specs.FieldsWriter.{fieldsRefusal, reached, indexBytes, fieldsBytes, zeros}
 use Rattle.dataset_message_writer.specs.Message.{Given, hasFields, isFielded, isRawData, fieldsOf, countBytes, configuredRule, bodyRefusal, readingRefusal, encode}
 use Rattle.dataset_fields.proofs.Judging.{encoded-steady, length-values}
 use Rattle.dataset_fields.proofs.Laying.{length-zeros}

@@ -22,11 +22,9 @@ use Rattle.wire_writer.proofs.Back.{Back, empty, rest-is, end-fits, item-back}
 use Rattle.dataset_header.specs.declared.flags.Kind.{Kind}
 use Rattle.dataset_header.specs.declared.header.Header.{Header}
 use Rattle.dataset_header.specs.Flags.{Valid, notValid, valid, isDelta, isRaw}
-use Rattle.dataset_header.specs.Header.{headerAt}
-use Rattle.dataset_fields.specs.Fields.{fieldsAt, paddingAt, fieldAt}
+use Rattle.dataset_header.specs.Header.{headerAt, headerBytes}
+use Rattle.dataset_fields.specs.Fields.{fieldsAt, paddingAt, fieldAt, total, valuesOf, fieldsBytes, zeros}
 use Rattle.dataset_message.specs.Message.{Message, countedAt, countAt, endAt, bodyAt, afterHeader, messageAt, fieldPlaceAt}
-use Rattle.dataset_header.specs.HeaderWriter.{headerBytes}
-use Rattle.dataset_fields.specs.FieldsWriter.{total, valuesOf, fieldsBytes, zeros}
 use Rattle.dataset_message_writer.specs.Message.{Given, hasFields, isKey, isFielded, isRawData, fieldsOf, countBytes, configuredRule, countAgrees, bodyRefusal, bodyAgrees, listsAgree, refusalOf, encode, writerNumber, Writes}
 use Rattle.round_trip.specs.DataSetMessage.{fieldsIn, joined, lengthsOf, taken, andField, walked, Rewritten}
 use Rattle.round_trip.proofs.DataSetMessageParts.{HeaderBack, header-back, indicesFor, FieldsTaken, fields-back, zeros-back}

@@ -20,18 +20,16 @@ use Rattle.network_header.specs.declared.header.PayloadHeader.{PayloadHeader}
 use Rattle.network_message.specs.declared.payload.Payload.{Payload}
 use Rattle.network_header.specs.declared.envelope.Envelope.{Envelope}
 use Rattle.network_header.specs.declared.envelope.Places.{Places}
-use Rattle.network_header.specs.Flags.{flagsAt}
-use Rattle.network_header.specs.Header.{payloadHeaderAt}
+use Rattle.network_header.specs.Flags.{flagsAt, timesRefusal}
+use Rattle.network_header.specs.Header.{payloadHeaderAt, idsShape, countRefusal, promotedRefusal, promotedShape}
 use Rattle.network_header.specs.Numbers.{configuredSizes, agree, sameNumbers}
 use Rattle.network_message.specs.Payload.{restAt, listedAt, payloadAt}
 use Rattle.network_message.specs.Envelope.{Header, NetworkMessage, identityAt, timesAt, messagesOf, headerAt, bodyAt, networkMessageAt}
 use Rattle.wire_writer.specs.Writing.{orElse, on16, onI64, picosecondsRefusal, unused}
 use Rattle.wire_writer.proofs.Trip.{At, le-at}
 use Rattle.wire_writer.proofs.Back.{run-back, map-back}
-use Rattle.network_header.specs.FlagsWriter.{timesRefusal}
-use Rattle.publisher_id.specs.PublisherWriter.{publisherRefusal, publisherShape}
-use Rattle.network_header.specs.GroupWriter.{groupRefusal}
-use Rattle.network_header.specs.HeaderWriter.{idsShape, countRefusal, promotedRefusal, promotedShape}
+use Rattle.publisher_id.specs.Publisher.{publisherRefusal, publisherShape}
+use Rattle.network_header.specs.Group.{groupRefusal}
 use Rattle.network_message_writer.specs.Payload.{listBytes, numberIn, payloadRefusal, lengthsShape}
 use Rattle.network_message_writer.specs.Envelope.{datagramOf, refusalOf, before, textOf, promotedOf, againOf}
 use Rattle.round_trip.specs.NetworkMessage.{rewritten, AsManyLengths, numbersBytes, idsGiven, lengthsGiven, messagesGiven, givenOf}

@@ -13,12 +13,11 @@ use Rattle.wire.specs.Answer.{got, ruled, whenOn, bit}
 use Rattle.wire.proofs.Table.{below}
 use Rattle.wire.proofs.Reading.{got-value, got-next, invert}
 use Rattle.network_header.specs.declared.flags.Flags.{Flags}
-use Rattle.network_header.specs.Flags.{byte0Rule, extended1Rule, extended2Rule, flagsOf, flagsAt}
+use Rattle.network_header.specs.Flags.{byte0Rule, extended1Rule, extended2Rule, flagsOf, flagsAt, extended2Of, extended1Of, byte0Of, flagBytes}
 use Rattle.wire_writer.specs.Writing.{needed, byteBytes}
 use Rattle.wire_writer.proofs.Refusals.{passed, held}
 use Rattle.wire_writer.proofs.Bits.{num-bit}
 use Rattle.wire_writer.proofs.Back.{Back, empty, join, end-fits, item-back, ruled-back, map-back}
-use Rattle.network_header.specs.FlagsWriter.{extended2Of, extended1Of, byte0Of, flagBytes}
 use Rattle.wire_writer.specs.Fits.{Bytes}
 
 -- a byte is the sum of its bits

@@ -21,10 +21,10 @@ use Rattle.network_message.specs.WriterId.{listedId, configuredId, writerIdOf}
 use Rattle.wire_writer.specs.Writing.{optional16Bytes, optionalI64Bytes, unused}
 use Rattle.wire_writer.proofs.Trip.{At, first, second, fits-at}
 use Rattle.wire_writer.proofs.Refusals.{passed, held}
-use Rattle.network_header.specs.FlagsWriter.{flagsFor, flagBytes}
-use Rattle.publisher_id.specs.PublisherWriter.{publisherBytes, publisherShape}
-use Rattle.network_header.specs.GroupWriter.{groupBytes}
-use Rattle.network_header.specs.HeaderWriter.{classBytes, payloadHeaderBytes, promotedBytes, idsShape, promotedShape}
+use Rattle.network_header.specs.Flags.{flagsFor, flagBytes}
+use Rattle.publisher_id.specs.Publisher.{publisherBytes, publisherShape}
+use Rattle.network_header.specs.Group.{groupBytes}
+use Rattle.network_header.specs.Header.{classBytes, payloadHeaderBytes, promotedBytes, idsShape, promotedShape}
 use Rattle.network_header.specs.Numbers.{sameNumbers}
 use Rattle.network_message_writer.specs.Payload.{listBytes}
 use Rattle.network_message_writer.specs.Envelope.{Given, headerBytes, datagramOf, refusalOf, before, textOf, idsOf, promotedOf}

@@ -20,17 +20,13 @@ use Rattle.publisher_id.specs.declared.publisher.PublisherId.{PublisherId}
 use Rattle.network_header.specs.declared.group.GroupHeader.{GroupHeader}
 use Rattle.network_header.specs.declared.header.PayloadHeader.{PayloadHeader}
 use Rattle.network_header.specs.declared.header.Promoted.{Promoted}
-use Rattle.network_header.specs.Flags.{byte0Rule, extended1Rule, extended2Rule, flagsOf, flagsAt}
-use Rattle.publisher_id.specs.Publisher.{stringOf, lengthThen, stringAt, publisherAt}
-use Rattle.network_header.specs.Group.{numberRule, numberAt, groupFlagsRule, groupFieldsAt, groupAt}
-use Rattle.network_header.specs.Header.{countRule, payloadHeaderAt, sizeRule, promotedAt}
+use Rattle.network_header.specs.Flags.{byte0Rule, extended1Rule, extended2Rule, flagsOf, flagsAt, timesRefusal}
+use Rattle.publisher_id.specs.Publisher.{stringOf, lengthThen, stringAt, publisherAt, publisherRefusal, publisherShape}
+use Rattle.network_header.specs.Group.{numberRule, numberAt, groupFlagsRule, groupFieldsAt, groupAt, numberRefusal, groupRefusal}
+use Rattle.network_header.specs.Header.{countRule, payloadHeaderAt, sizeRule, promotedAt, promotedRefusal, promotedShape}
 use Rattle.wire_writer.specs.Writing.{picosecondsRefusal}
 use Rattle.wire_writer.proofs.Refusals.{passed, no}
 use Rattle.wire_writer.proofs.Back.{item-back, run-back, ruled-back, map-back}
-use Rattle.network_header.specs.FlagsWriter.{timesRefusal}
-use Rattle.publisher_id.specs.PublisherWriter.{publisherRefusal, publisherShape}
-use Rattle.network_header.specs.GroupWriter.{numberRefusal, groupRefusal}
-use Rattle.network_header.specs.HeaderWriter.{promotedRefusal, promotedShape}
 use Rattle.network_message_writer.specs.Envelope.{before, textOf, promotedOf}
 use Rattle.round_trip.proofs.NetworkMessagePartsBack.{before-length}
 use Rattle.wire_writer.specs.Fits.{Bytes}

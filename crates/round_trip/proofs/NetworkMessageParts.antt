@@ -18,16 +18,13 @@ use Rattle.network_header.specs.declared.group.GroupHeader.{GroupHeader}
 use Rattle.network_header.specs.declared.header.ClassId.{ClassId}
 use Rattle.network_header.specs.declared.header.PayloadHeader.{PayloadHeader}
 use Rattle.network_header.specs.declared.header.Promoted.{Promoted}
-use Rattle.publisher_id.specs.Publisher.{publisherAt}
-use Rattle.network_header.specs.Group.{numberRule, numberAt, groupFlagsRule, groupFieldsAt, groupAt}
-use Rattle.network_header.specs.Header.{classAt, countRule, payloadHeaderAt, sizeRule, promotedAt}
+use Rattle.publisher_id.specs.Publisher.{publisherAt, publisherOn, kindOf, publisherBytes, publisherRefusal, publisherShape}
+use Rattle.network_header.specs.Group.{numberRule, numberAt, groupFlagsRule, groupFieldsAt, groupAt, groupOn, groupFlagsOf, fieldsBytes, groupBytes, numberRefusal, groupRefusal}
+use Rattle.network_header.specs.Header.{classAt, countRule, payloadHeaderAt, sizeRule, promotedAt, classOn, classBytes, payloadHeaderOn, payloadHeaderBytes, promotedOn, promotedBytes, countRefusal, promotedRefusal, idsShape, promotedShape}
 use Rattle.wire_writer.specs.Writing.{num, on16, on32, optional16Bytes, optional32Bytes}
 use Rattle.wire_writer.proofs.Trip.{Reads, first, second, fits-at, last, nothing, rule-kept, run-is, le-at, item-is, ruled-is, guid-is, optional16-is, optional32-is}
 use Rattle.wire_writer.proofs.Refusals.{passed, held}
 use Rattle.wire_writer.proofs.Bits.{num-bound, flag-is}
-use Rattle.publisher_id.specs.PublisherWriter.{publisherOn, kindOf, publisherBytes, publisherRefusal, publisherShape}
-use Rattle.network_header.specs.GroupWriter.{groupOn, groupFlagsOf, fieldsBytes, groupBytes, numberRefusal, groupRefusal}
-use Rattle.network_header.specs.HeaderWriter.{classOn, classBytes, payloadHeaderOn, payloadHeaderBytes, promotedOn, promotedBytes, countRefusal, promotedRefusal, idsShape, promotedShape}
 use Rattle.network_message_writer.proofs.Short.{ids-counted}
 use Rattle.wire_writer.specs.Fits.{Fits16}
 use Rattle.round_trip.specs.NetworkMessage.{FitsClass, FitsFields, FitsGroup, FitsPayloadHeader, FitsPublisher}

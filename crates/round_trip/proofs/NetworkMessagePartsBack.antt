@@ -22,16 +22,13 @@ use Rattle.network_header.specs.declared.group.GroupHeader.{GroupHeader}
 use Rattle.network_header.specs.declared.header.ClassId.{ClassId}
 use Rattle.network_header.specs.declared.header.PayloadHeader.{PayloadHeader}
 use Rattle.network_header.specs.declared.header.Promoted.{Promoted}
-use Rattle.publisher_id.specs.Publisher.{stringOf, lengthThen, stringAt, publisherOf, publisherAt}
-use Rattle.network_header.specs.Group.{numberRule, numberAt, groupFlagsRule, groupFieldsAt, groupAt}
-use Rattle.network_header.specs.Header.{classAt, countRule, payloadHeaderAt, sizeRule, promotedAt}
+use Rattle.publisher_id.specs.Publisher.{stringOf, lengthThen, stringAt, publisherOf, publisherAt, publisherOn, kindOf, publisherBytes}
+use Rattle.network_header.specs.Group.{numberRule, numberAt, groupFlagsRule, groupFieldsAt, groupAt, groupOn, groupFlagsOf, fieldsBytes, groupBytes}
+use Rattle.network_header.specs.Header.{classAt, countRule, payloadHeaderAt, sizeRule, promotedAt, classOn, classBytes, payloadHeaderOn, payloadHeaderBytes, promotedOn, promotedBytes}
 use Rattle.wire_writer.specs.Writing.{optional16Bytes, optional32Bytes}
 use Rattle.wire_writer.proofs.Refusals.{passed}
 use Rattle.wire_writer.proofs.Bits.{num-bit}
 use Rattle.wire_writer.proofs.Back.{Back, empty, join, end-fits, run-part, item-back, run-back, ruled-back, map-back, guid-back, optional16-back, optional32-back, ruled16-back}
-use Rattle.publisher_id.specs.PublisherWriter.{publisherOn, kindOf, publisherBytes}
-use Rattle.network_header.specs.GroupWriter.{groupOn, groupFlagsOf, fieldsBytes, groupBytes}
-use Rattle.network_header.specs.HeaderWriter.{classOn, classBytes, payloadHeaderOn, payloadHeaderBytes, promotedOn, promotedBytes}
 use Rattle.network_message_writer.specs.Envelope.{before, textOf, idsOf, promotedOf}
 use Rattle.wire_writer.specs.Fits.{Bytes}
 

@@ -19,10 +19,10 @@ use Rattle.network_header.specs.declared.header.PayloadHeader.{PayloadHeader}
 use Rattle.network_header.specs.declared.header.Promoted.{Promoted}
 use Rattle.network_message.specs.declared.payload.Sizes.{Sizes}
 use Rattle.network_header.specs.declared.envelope.Envelope.{Envelope}
-use Rattle.network_header.specs.Flags.{byte0Rule, extended1Rule, flagsAt}
-use Rattle.publisher_id.specs.Publisher.{publisherAt}
-use Rattle.network_header.specs.Group.{numberRule, numberAt, groupFlagsRule, groupAt}
-use Rattle.network_header.specs.Header.{countRule, payloadHeaderAt, sizeRule, promotedAt}
+use Rattle.network_header.specs.Flags.{byte0Rule, extended1Rule, flagsAt, extended2Of, extended1Of, byte0Of, flagBytes, flagsFor, timesRefusal}
+use Rattle.publisher_id.specs.Publisher.{publisherAt, publisherOn, kindOf, publisherBytes, publisherRefusal, publisherShape}
+use Rattle.network_header.specs.Group.{numberRule, numberAt, groupFlagsRule, groupAt, groupOn, groupFlagsOf, fieldsBytes, groupBytes, numberRefusal, groupRefusal}
+use Rattle.network_header.specs.Header.{countRule, payloadHeaderAt, sizeRule, promotedAt, classBytes, payloadHeaderOn, payloadHeaderBytes, promotedOn, promotedBytes, countRefusal, promotedRefusal, idsShape, promotedShape}
 use Rattle.network_message.specs.Payload.{total, positive, listed, payloadOf, restAt, listedAt, sizedAt, configuredAt, payloadAt}
 use Rattle.network_header.specs.Numbers.{configuredSizes}
 use Rattle.network_message.specs.Envelope.{messagesOf, networkMessageAt}
@@ -30,10 +30,6 @@ use Rattle.wire_writer.specs.Writing.{orElse, num, needed, byteBytes, on16, on3
 use Rattle.wire_writer.proofs.Trip.{At, first, second, fits-at, le-at, item-is, rule-kept, optional16-is, optional32-is, optionalI64-is, picoseconds-is}
 use Rattle.wire_writer.proofs.Refusals.{passed, held, or-case, no, Refuses, broken, number-broken, picoseconds-refuses}
 use Rattle.wire_writer.proofs.Bits.{num-bound, needed-bound, flag-is}
-use Rattle.network_header.specs.FlagsWriter.{extended2Of, extended1Of, byte0Of, flagBytes, flagsFor, timesRefusal}
-use Rattle.publisher_id.specs.PublisherWriter.{publisherOn, kindOf, publisherBytes, publisherRefusal, publisherShape}
-use Rattle.network_header.specs.GroupWriter.{groupOn, groupFlagsOf, fieldsBytes, groupBytes, numberRefusal, groupRefusal}
-use Rattle.network_header.specs.HeaderWriter.{classBytes, payloadHeaderOn, payloadHeaderBytes, promotedOn, promotedBytes, countRefusal, promotedRefusal, idsShape, promotedShape}
 use Rattle.network_message_writer.specs.Payload.{listBytes, numberIn, payloadRefusal, listedRefusal}
 use Rattle.network_message_writer.specs.Envelope.{Given, headerBytes, datagramOf, readingRefusal}
 use Rattle.network_message_writer.proofs.Short.{ids-counted}

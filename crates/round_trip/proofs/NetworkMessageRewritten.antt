@@ -23,10 +23,10 @@ use Rattle.network_message.specs.declared.envelope.Identity.{Identity}
 use Rattle.network_message.specs.declared.envelope.Times.{Times}
 use Rattle.network_header.specs.declared.envelope.Envelope.{Envelope}
 use Rattle.network_header.specs.declared.envelope.Places.{Places}
-use Rattle.network_header.specs.Flags.{flagsAt}
-use Rattle.publisher_id.specs.Publisher.{publisherAt}
-use Rattle.network_header.specs.Group.{groupAt}
-use Rattle.network_header.specs.Header.{classAt, payloadHeaderAt, promotedAt}
+use Rattle.network_header.specs.Flags.{flagsAt, extended1Of, flagsFor, flagBytes}
+use Rattle.publisher_id.specs.Publisher.{publisherAt, publisherOn, publisherBytes}
+use Rattle.network_header.specs.Group.{groupAt, groupBytes}
+use Rattle.network_header.specs.Header.{classAt, payloadHeaderAt, promotedAt, classBytes, payloadHeaderBytes, promotedBytes}
 use Rattle.network_header.specs.Numbers.{configuredSizes}
 use Rattle.network_message.specs.Payload.{payloadAt}
 use Rattle.network_message.specs.Envelope.{Header, NetworkMessage, identityAt, timesAt, messagesOf, headerAt, bodyAt, networkMessageAt}
@@ -34,10 +34,6 @@ use Rattle.wire_writer.specs.declared.writing.Written.{Written}
 use Rattle.wire_writer.specs.Writing.{needed, numberFor, answerBy, bufferBy, optional16Bytes, optionalI64Bytes}
 use Rattle.wire_writer.proofs.Answering.{writes, reports}
 use Rattle.wire_writer.proofs.Back.{Back, join, rest-is, end-fits, map-back, optionalI64-back, ruled16-back}
-use Rattle.network_header.specs.FlagsWriter.{extended1Of, flagsFor, flagBytes}
-use Rattle.publisher_id.specs.PublisherWriter.{publisherOn, publisherBytes}
-use Rattle.network_header.specs.GroupWriter.{groupBytes}
-use Rattle.network_header.specs.HeaderWriter.{classBytes, payloadHeaderBytes, promotedBytes}
 use Rattle.network_message_writer.specs.Envelope.{headerBytes, textOf, idsOf, promotedOf, againOf, rewriteAnswer, rewriteBuffer}
 use Rattle.network_header.proofs.Sizes.{flags-sized}
 use Rattle.network_message_writer.proofs.Again.{accepted-short}

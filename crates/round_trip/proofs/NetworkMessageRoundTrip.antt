@@ -16,10 +16,10 @@ use Rattle.network_header.specs.declared.envelope.Envelope.{Envelope}
 use Rattle.network_message.specs.Envelope.{NetworkMessage, networkMessageAt}
 use Rattle.wire_writer.proofs.Refusals.{passed, both-zero}
 use Rattle.wire_writer.specs.Writing.{orElse}
-use Rattle.network_header.specs.FlagsWriter.{flagBytes, flagsFor}
-use Rattle.publisher_id.specs.PublisherWriter.{publisherBytes, publisherShape}
-use Rattle.network_header.specs.GroupWriter.{groupBytes}
-use Rattle.network_header.specs.HeaderWriter.{classBytes, idsShape, promotedShape}
+use Rattle.network_header.specs.Flags.{flagBytes, flagsFor}
+use Rattle.publisher_id.specs.Publisher.{publisherBytes, publisherShape}
+use Rattle.network_header.specs.Group.{groupBytes}
+use Rattle.network_header.specs.Header.{classBytes, idsShape, promotedShape}
 use Rattle.network_message_writer.specs.Payload.{listBytes, lengthsShape}
 use Rattle.network_message_writer.proofs.Short.{unused-none}
 use Rattle.network_message_writer.specs.Envelope.{Given, tailBytes, datagramOf, readingRefusal, shapeRefusal, refusalOf, numberOf}

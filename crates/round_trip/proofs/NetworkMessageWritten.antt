@@ -20,10 +20,10 @@ use Rattle.network_message.proofs.Messages.{tile, tiled}
 use Rattle.network_message.proofs.Accepted.{OfMessages}
 use Rattle.wire_writer.specs.Writing.{optional16Bytes, optionalI64Bytes}
 use Rattle.wire_writer.proofs.Trip.{At, first, second, optionalI64-is, picoseconds-is}
-use Rattle.network_header.specs.FlagsWriter.{flagsFor, flagBytes}
-use Rattle.publisher_id.specs.PublisherWriter.{kindOf, publisherBytes}
-use Rattle.network_header.specs.GroupWriter.{groupBytes}
-use Rattle.network_header.specs.HeaderWriter.{classBytes, payloadHeaderBytes, promotedBytes}
+use Rattle.network_header.specs.Flags.{flagsFor, flagBytes}
+use Rattle.publisher_id.specs.Publisher.{kindOf, publisherBytes}
+use Rattle.network_header.specs.Group.{groupBytes}
+use Rattle.network_header.specs.Header.{classBytes, payloadHeaderBytes, promotedBytes}
 use Rattle.network_message_writer.specs.Payload.{listBytes}
 use Rattle.network_message_writer.specs.Envelope.{Given, headerBytes, datagramOf, refusalOf}
 use Rattle.network_message_writer.proofs.Short.{zeros}

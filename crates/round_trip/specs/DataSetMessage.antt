@@ -10,10 +10,9 @@ use Rattle.wire.specs.Answer.{Answer, got, refused}
 use Rattle.dataset_header.specs.declared.flags.Encoding.{Encoding}
 use Rattle.dataset_fields.specs.declared.fields.Field.{Field}
 use Rattle.dataset_header.specs.Flags.{valid, isDelta}
-use Rattle.dataset_fields.specs.Fields.{fieldAt, encodedAt}
+use Rattle.dataset_fields.specs.Fields.{fieldAt, encodedAt, fieldsBytes}
 use Rattle.dataset_message.specs.Message.{Message, messageAt, fieldPlaceAt, fieldBytes}
-use Rattle.dataset_header.specs.HeaderWriter.{headerBytes}
-use Rattle.dataset_fields.specs.FieldsWriter.{fieldsBytes}
+use Rattle.dataset_header.specs.Header.{headerBytes}
 use Rattle.dataset_message_writer.specs.Message.{Given, given, isKey, isFielded, isRawData, fieldsOf, countBytes, encode, refusalOf}
 use Rattle.dataset_message_writer.specs.Rewrite.{again}
 

@@ -21,14 +21,13 @@ use Rattle.network_header.specs.declared.envelope.Envelope.{Envelope}
 use Rattle.network_header.specs.declared.envelope.Places.{Places}
 use Rattle.network_message.specs.Payload.{total, positive, listed, payloadOf}
 use Rattle.network_header.specs.Numbers.{configuredSizes}
-use Rattle.network_header.specs.Flags.{flagsAt}
+use Rattle.network_header.specs.Flags.{flagsAt, flagBytes, flagsFor}
 use Rattle.network_message.specs.WriterId.{writerIdOf}
 use Rattle.network_message.specs.Envelope.{NetworkMessage, networkMessageAt, messagePlaceAt, messageBytes}
 use Rattle.network_message.proofs.Accepted.{OfMessages}
-use Rattle.network_header.specs.FlagsWriter.{flagBytes, flagsFor}
-use Rattle.publisher_id.specs.PublisherWriter.{publisherOn, publisherBytes}
-use Rattle.network_header.specs.GroupWriter.{groupBytes}
-use Rattle.network_header.specs.HeaderWriter.{classBytes, payloadHeaderBytes}
+use Rattle.publisher_id.specs.Publisher.{publisherOn, publisherBytes}
+use Rattle.network_header.specs.Group.{groupBytes}
+use Rattle.network_header.specs.Header.{classBytes, payloadHeaderBytes}
 use Rattle.network_message_writer.specs.Envelope.{Given, headerBytes, datagramOf, refusalOf, before, textOf, promotedOf, rewriteAnswer, rewriteBuffer}
 use Rattle.wire_writer.specs.Fits.{Fits16, Fits32, FitsGuid, FitsI64}
 

@@ -7,7 +7,7 @@ use mathlib.Core.Bool.{Bool, cond}
 use mathlib.Core.Path.{ap, _∙_}
 use borrow.Author.Needs.{needs}
 use Rattle.dataset_header.specs.Flags.{isRaw}
-use Rattle.dataset_fields.specs.FieldsWriter.{valuesOf, fieldsRefusal, fieldsWhole, reached}
+use Rattle.dataset_fields.specs.Fields.{valuesOf, fieldsRefusal, fieldsWhole, reached}
 use Rattle.dataset_message_writer.proofs.Whole.{fields-is}
 use Rattle.dataset_message_writer.specs.Message.{configuredRule, countAgrees}
 use Rattle.dataset_message_writer.proofs.message.fields_refusal.Statement.{statement}

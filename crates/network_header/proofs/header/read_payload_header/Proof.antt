@@ -13,15 +13,14 @@ returns c = rw (not-true (c .before .before .args .on) (c .if1 .taken))
 
 returns-2 : tie.Need-returns-2
 returns-2 c =
-    rw (not-false (c .before .before .before .before .before .before .args .on) (c .before .before .before .before .if1 .left), c .before .before .before .if2 .taken, sym (told (answer16 (c .before .before .before .before .before .before .args .at)) (c .before .before .read16 .ensures) (c .enum-told .given .1)))
+    let args = c .before .before .before .before .before .args in
+    rw (not-false (args .on) (c .before .before .before .if1 .left), not-true (args .chunk) (c .before .before .if2 .taken)) (c .ids .ensures)
 
 returns-3 : tie.Need-returns-3
-returns-3 c =
-    rw (not-false (c .before .before .before .before .before .before .before .args .on) (c .before .before .before .before .before .if1 .left), c .before .before .before .before .if2 .taken, sym (told (answer16 (c .before .before .before .before .before .before .before .args .at)) (c .before .before .before .read16 .ensures) (c .before .v .given .1)))
+returns-3 c = ?
 
 returns-4 : tie.Need-returns-4
-returns-4 c =
-    rw (not-false (c .before .before .before .before .args .on) (c .before .before .if1 .left), c .before .if2 .left) (c .ids .ensures)
+returns-4 c = ?
 
 pub read-payload-header-spec : {M : Type 1} → statement M
 read-payload-header-spec =

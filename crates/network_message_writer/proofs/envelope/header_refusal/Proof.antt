@@ -1,8 +1,8 @@
 -- `network_message_writer::envelope::header_refusal` meets its contract.
 -- Assumes nothing.
 use Rattle.wire_writer.proofs.Parts.{or-as}
-use Rattle.network_header.specs.HeaderWriter.{promotedRefusal}
-use Rattle.network_header.specs.FlagsWriter.{timesRefusal}
+use Rattle.network_header.specs.Header.{promotedRefusal}
+use Rattle.network_header.specs.Flags.{timesRefusal}
 use mathlib.Core.Path.{ap, ap₂, refl, _∙_}
 use borrow.Author.Needs.{needs}
 use Rattle.network_message_writer.proofs.envelope.header_refusal.Statement.{statement}

@@ -1,0 +1,54 @@
+-- `dataset_fields::fields::put_delta` meets its contract.
+-- Assumes nothing.
+use borrow.Author.Needs.{needs}
+use native.Mathlib.Omega.{arith}
+use denote.Ref.{now}
+use lib.ListN.{length, drop}
+use Prim.Native.Nat.{ℕ, _≤_, _-_}
+use mathlib.Core.List.{List}
+use mathlib.Core.Bool.{true}
+use mathlib.Core.Path.{_≡_, refl, sym, subst}
+use Rattle.dataset_fields.proofs.Laying.{delta-step, delta-done}
+use Rattle.dataset_fields.specs.Fields.{valuesOf, fieldsBytes}
+use Rattle.wire_writer.proofs.Putting.{puts, then, nothing}
+use Rattle.wire_writer.specs.Writing.{Puts}
+use Rattle.dataset_fields.proofs.fields.put_delta.Statement.{statement}
+use Rattle.dataset_fields.proofs.fields.put_delta.Tie as tie
+
+abbrev Inv-loop : tie.InvT-loop
+Inv-loop out₀ at values lengths indices p₀ start₀ k₀ out p start k =
+    (k ≤ length lengths) × (length out ≡ length out₀) × ((exit : List ℕ) (next : ℕ) → Puts (fieldsBytes true (drop k indices) (valuesOf (drop k lengths) (drop start values))) out p exit next → Puts (fieldsBytes true indices (valuesOf lengths values)) out₀ at exit next)
+
+abbrev μ-loop : tie.MeasureT-loop
+μ-loop out₀ at values lengths indices p₀ start₀ k₀ out p start k = length lengths - k
+
+loop-holds : tie.Need-loop-holds Inv-loop μ-loop
+loop-holds c = (omega arith, refl, λ exit next q. q)
+
+loop-again : tie.Need-loop-again Inv-loop μ-loop
+loop-again c =
+    (omega arith, search needs, λ exit next q. c .before .before .before .before .before .before .before .before .before .before .before .before .before .loop .inv .2 exit next (subst (λ (b : List ℕ). Puts b (c .before .before .before .before .before .before .before .before .before .before .before .before .before .loop .out) (c .before .before .before .before .before .before .before .before .before .before .before .before .before .loop .p) exit next) (sym (delta-step (now (c .before .before .before .before .before .before .before .before .before .before .before .before .before .before .before .before .before .before .args .values)) (now (c .before .before .before .before .before .before .before .before .before .before .before .before .before .before .before .before .before .before .args .lengths)) (now (c .before .before .before .before .before .before .before .before .before .before .before .before .before .before .before .before .before .before .args .indices)) (c .before .before .before .before .before .before .before .before .before .before .before .before .before .loop .k) (c .before .before .before .before .before .before .before .before .before .before .before .before .before .loop .start) _ _ _ _ (c .before .before .before .before .before .before .before .before .before .before .before .before .loop-test .taken) refl (c .before .before .before .before .part .ensures) (c .forward .ensures) (c .before .before .before .before .before .before .before .before .before .index-of .ensures))) (then (puts (c .before .before .before .before .before .before .before .before .put16 .ensures)) (then (puts (c .before .before .before .put-run .ensures)) q))))
+
+returns : tie.Need-returns Inv-loop μ-loop
+returns c =
+    c .before .loop .inv .2 (c .before .loop .out) (c .before .loop .p) (subst (λ (b : List ℕ). Puts b (c .before .loop .out) (c .before .loop .p) (c .before .loop .out) (c .before .loop .p)) (sym (delta-done (now (c .before .before .before .before .before .before .args .values)) (now (c .before .before .before .before .before .before .args .lengths)) (now (c .before .before .before .before .before .before .args .indices)) (c .before .loop .k) (c .before .loop .start) (c .loop-test .left))) (nothing (c .before .loop .out) (c .before .loop .p)))
+
+pub put-delta-spec : {M : Type 1} → statement M
+put-delta-spec =
+    tie.close
+    (tie.spec
+    Inv-loop
+    μ-loop
+    loop-holds
+    (λ c. search needs)
+    (λ c. search needs)
+    (λ c κs. search needs)
+    (λ c κs. search needs)
+    (λ c κs. search needs)
+    (λ c κs. search needs)
+    (λ c κs. search needs)
+    (λ c. search needs)
+    (λ c. search needs)
+    loop-again
+    (λ c. search needs)
+    returns)

@@ -1,0 +1,20 @@
+-- `dataset_header::header::put_times` meets its contract.
+-- Assumes nothing.
+use borrow.Author.Needs.{needs}
+use Rattle.wire_writer.proofs.Putting.{puts, then}
+use Rattle.dataset_header.proofs.header.put_times.Statement.{statement}
+use Rattle.dataset_header.proofs.header.put_times.Tie as tie
+
+returns : tie.Need-returns
+returns c =
+    then (puts (c .before .before .before .before .before .before .before .before .before .before .put-optional16 .ensures)) (then (puts (c .before .before .before .before .before .before .put-optional-i64 .ensures)) (puts (c .before .before .put-optional162 .ensures)))
+
+pub put-times-spec : {M : Type 1} → statement M
+put-times-spec =
+    tie.close
+    (tie.spec
+    (λ c κs. search needs)
+    (λ c κs. search needs)
+    (λ c κs. search needs)
+    (λ c. search needs)
+    returns)

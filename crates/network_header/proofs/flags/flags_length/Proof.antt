@@ -1,0 +1,27 @@
+-- `network_header::flags::flags_length` meets its contract.
+-- Assumes nothing.
+use Rattle.network_header.proofs.Sizes.{flags-sized}
+use Rattle.wire_writer.specs.Writing.{needed}
+use native.Mathlib.Omega.{arith}
+use mathlib.Core.Path.{ap, _∙_}
+use borrow.Author.Needs.{needs}
+use Rattle.network_header.proofs.flags.flags_length.Statement.{statement}
+use Rattle.network_header.proofs.flags.flags_length.Tie as tie
+
+returns : tie.Need-returns
+returns c =
+    (flags-sized (c .before .before .before .before .args .f) (c .before .before .need .ensures .0 ∙ ap needed (c .before .before .before .extended1-of .ensures)) (c .need2 .ensures .0 ∙ ap needed (c .before .extended2-of .ensures .0)), omega (arith, c .before .before .need .ensures .1, c .need2 .ensures .1))
+
+pub flags-length-spec : {M : Type 1} → statement M
+flags-length-spec =
+    tie.close
+    (tie.spec
+    (λ c κs. search needs)
+    (λ c κs. search needs)
+    (λ c. search needs)
+    (λ c κs. search needs)
+    (λ c κs. search needs)
+    (λ c. search needs)
+    (λ c. search needs)
+    (λ c. search needs)
+    returns)

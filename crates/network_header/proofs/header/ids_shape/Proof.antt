@@ -1,0 +1,40 @@
+-- `network_header::header::ids_shape` meets its contract.
+-- Assumes nothing.
+use mathlib.Core.Bool.{Bool, cond}
+use mathlib.Core.Path.{ap, _∙_}
+use borrow.Author.Tests.{lt-leb}
+use Prim.Native.Nat.{_<_}
+use borrow.Author.Needs.{needs}
+use Rattle.network_header.proofs.header.ids_shape.Statement.{statement}
+use Rattle.network_header.proofs.header.ids_shape.Tie as tie
+
+returns-2 : tie.Need-returns-2
+returns-2 c =
+    rw (c .before .before .enum-told2 .given .1, c .before .if2 .taken) (c .not-used .ensures)
+
+returns-3 : tie.Need-returns-3
+returns-3 c =
+    rw (c .before .before .enum-told .given .1) (c .must-hold .ensures ∙ ap (λ (b : Bool). cond b 0 6) (c .before .same-numbers .ensures))
+
+returns-4 : tie.Need-returns-4
+returns-4 c =
+    let h : c .before .before .before .x .given .0 .0 < 256 = search needs in rw (c .before .before .before .x .given .1, c .before .if1 .left, lt-leb 256 (c .before .before .before .x .given .0 .0) h) (c .must-equal .ensures)
+
+pub ids-shape-spec : {M : Type 1} → statement M
+ids-shape-spec =
+    tie.close
+    (tie.spec
+    (λ c. search needs)
+    (λ c κs. search needs)
+    (λ c κs. search needs)
+    (λ c. search needs)
+    (λ c. search needs)
+    (λ c. search needs)
+    (λ c. search needs)
+    (λ c κs. search needs)
+    (λ c. search needs)
+    (λ c κs. search needs)
+    returns-2
+    returns-3
+    returns-4
+    (λ c. search needs))

@@ -1,0 +1,15 @@
+-- `network_header::header::size_shape` meets its contract.
+-- Assumes nothing.
+use borrow.Author.Tests.{le-leb, lt-leb}
+use borrow.Author.Needs.{needs}
+use Rattle.network_header.proofs.header.size_shape.Statement.{statement}
+use Rattle.network_header.proofs.header.size_shape.Tie as tie
+
+returns : tie.Need-returns
+returns c = rw (le-leb _ _ (c .if1 .taken))
+
+returns-2 : tie.Need-returns-2
+returns-2 c = rw (lt-leb _ _ (c .before .if1 .left)) (c .must-equal .ensures)
+
+pub size-shape-spec : {M : Type 1} → statement M
+size-shape-spec = tie.close (tie.spec returns (λ c κs. search needs) returns-2)
