@@ -13,14 +13,27 @@ returns c = rw (not-true (c .before .before .args .on) (c .if1 .taken))
 
 returns-2 : tie.Need-returns-2
 returns-2 c =
-    let args = c .before .before .before .before .before .args in
-    rw (not-false (args .on) (c .before .before .before .if1 .left), not-true (args .chunk) (c .before .before .if2 .taken)) (c .ids .ensures)
+    let at-if2 = c .before in
+    let at-if1 = at-if2 .before in
+    let args = at-if1 .before .before .args in
+    rw (not-false (args .on) (at-if1 .if1 .left), not-true (args .chunk) (at-if2 .if2 .taken)) (c .ids .ensures)
 
 returns-3 : tie.Need-returns-3
-returns-3 c = ?
+returns-3 c =
+    let at-read16 = c .before .before in
+    let at-if2 = at-read16 .before in
+    let at-if1 = at-if2 .before in
+    let args = at-if1 .before .before .args in
+    rw (not-false (args .on) (at-if1 .if1 .left), not-false (args .chunk) (at-if2 .if2 .left), sym (told (answer16 (args .at)) (at-read16 .read16 .ensures) (c .enum-told .given .1)))
 
 returns-4 : tie.Need-returns-4
-returns-4 c = ?
+returns-4 c =
+    let at-v = c .before in
+    let at-read16 = at-v .before .before in
+    let at-if2 = at-read16 .before in
+    let at-if1 = at-if2 .before in
+    let args = at-if1 .before .before .args in
+    rw (not-false (args .on) (at-if1 .if1 .left), not-false (args .chunk) (at-if2 .if2 .left), sym (told (answer16 (args .at)) (at-read16 .read16 .ensures) (at-v .v .given .1)))
 
 pub read-payload-header-spec : {M : Type 1} → statement M
 read-payload-header-spec =
@@ -28,9 +41,9 @@ read-payload-header-spec =
     (tie.spec
     returns
     (λ c κs. search needs)
-    (λ c. search needs)
-    (λ c. search needs)
     returns-2
-    returns-3
     (λ c κs. search needs)
+    (λ c. search needs)
+    (λ c. search needs)
+    returns-3
     returns-4)
