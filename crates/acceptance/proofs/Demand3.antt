@@ -89,7 +89,8 @@ pub take-in-is-combine : (s f : Partial) → sound s ≡ true → sound f ≡ tr
     → (takeIn s (readingAt sizes d) .verdict ≡ combine s f .verdict) × Equal (takeIn s (readingAt sizes d) .after) (combine s f .after)
 take-in-is-combine s f gs gf sizes d c n e q =
     let r : readingAt sizes d ≡ chunk (messageOf c d) (c .payload .offset) (chunkData (got c n) d) = JudgeLaws.reading-got sizes d c n e in
-    let p = D.chunk-as-partial s f (record { is-sound = gs }) (record { is-sound = gf }) (messageOf c d) (c .payload .offset) (chunkData (got c n) d) (JudgeLaws.proper-got sizes d c n e) (rw r at q) in
+    let p = D.chunk-as-partial s f (record { is-sound = gs }) (record { is-sound = gf }) (messageOf c d) (c .payload .offset)
+    (chunkData (got c n) d) (JudgeLaws.proper-got sizes d c n e) (rw r at q) in
     rw r (p .verdict, p .equal)
 
 -- ---- A payload cut into chunks and taken in in any order, some chunks more than once, each from a datagram of the same publisher and writer whose

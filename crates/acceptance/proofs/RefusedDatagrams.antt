@@ -39,7 +39,8 @@ flags-lawful =
         (cond-rule (bit 64 e && eqb (e / 32 % 2) 0) (inr (number 3 refl)) kept)))
 
     extended2 : (e : ℕ) → Rule (extended2Rule e)
-    extended2 e = cond-rule (eqb e 0) (inr (number 3 refl)) (cond-rule (leb 32 e) (inr (number 3 refl)) (cond-rule (leb 3 (e / 4 % 8)) (inr (number 3 refl)) (cond-rule (leb 1 (e / 4 % 8)) (inr (number 4 refl)) kept)))
+    extended2 e = cond-rule (eqb e 0) (inr (number 3 refl))
+        (cond-rule (leb 32 e) (inr (number 3 refl)) (cond-rule (leb 3 (e / 4 % 8)) (inr (number 3 refl)) (cond-rule (leb 1 (e / 4 % 8)) (inr (number 4 refl)) kept)))
 
 string-tells : (at : ℕ) (l : Length) (s : List ℕ) (start : ℕ) → at ≤ length s → start ≤ length s → Tells (length s) (lengthThen at l s start)
 string-tells at Length.Null s start h u = refuses (at-item (number 5 refl) h)

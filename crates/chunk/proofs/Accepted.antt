@@ -88,7 +88,9 @@ publisher-small : (on : Bool) (kind : ℕ) → Gives Small (publisherAt on kind)
 publisher-small false kind = gives-pure PublisherId.Absent (λ s. omega arith)
 publisher-small true kind = go (eqb kind 0) (eqb kind 1) (eqb kind 2) (eqb kind 3)
   where
-    go : (a b c d : Bool) → Gives Small (cond a (item 1 >>= λ v. pure (PublisherId.Byte v)) (cond b (item 2 >>= λ v. pure (PublisherId.UInt16 v)) (cond c (item 4 >>= λ v. pure (PublisherId.UInt32 v)) (cond d (item 8 >>= λ v. pure (PublisherId.UInt64 v)) stringAt))))
+    go : (a b c d : Bool) → Gives Small
+        (cond a (item 1 >>= λ v. pure (PublisherId.Byte v))
+        (cond b (item 2 >>= λ v. pure (PublisherId.UInt16 v)) (cond c (item 4 >>= λ v. pure (PublisherId.UInt32 v)) (cond d (item 8 >>= λ v. pure (PublisherId.UInt64 v)) stringAt))))
     go true b c d = number-small 1 PublisherId.Byte (λ v. refl)
     go false true c d = number-small 2 PublisherId.UInt16 (λ v. refl)
     go false false true d = number-small 4 PublisherId.UInt32 (λ v. refl)
@@ -103,7 +105,8 @@ identity-small f =
 header-small : (f : Flags) (configured : ℕ) → Gives (λ s h. Small s (h .envelope .publisher)) (headerAt f configured)
 header-small f configured =
     gives-bind (identity-small f)
-    (λ i. gives-next (payloadHeaderAt (f .«payload_header») (f .chunk)) (λ p. gives-next here (λ e. gives-next (timesAt f (messagesOf (f .chunk) p configured)) (λ t. gives-next here (λ z. gives-pure _ (λ s q. q))))))
+    (λ i. gives-next (payloadHeaderAt (f .«payload_header») (f .chunk))
+    (λ p. gives-next here (λ e. gives-next (timesAt f (messagesOf (f .chunk) p configured)) (λ t. gives-next here (λ z. gives-pure _ (λ s q. q))))))
 
 body-small : (f : Flags) (sizes : List ℕ) → Gives (λ s m. Small s (m .envelope .publisher)) (bodyAt f sizes)
 body-small f sizes =
@@ -156,7 +159,8 @@ body-writer f sizes =
     header-kind : (configured : ℕ) → Gives (λ s h. h .envelope .chunk ≡ true → NoIds (h .envelope .«payload_header»)) (headerAt f configured)
     header-kind configured =
         gives-next (identityAt f)
-        (λ i. gives-bind (header-no-ids (f .«payload_header») (f .chunk)) (λ p. gives-next here (λ e. gives-next (timesAt f (messagesOf (f .chunk) p configured)) (λ t. gives-next here (λ z. gives-pure _ (λ s q. q))))))
+        (λ i. gives-bind (header-no-ids (f .«payload_header») (f .chunk))
+        (λ p. gives-next here (λ e. gives-next (timesAt f (messagesOf (f .chunk) p configured)) (λ t. gives-next here (λ z. gives-pure _ (λ s q. q))))))
 
 pub chunk-writer : (sizes s : List ℕ) (m : NetworkMessage) (n : ℕ) → networkMessageAt sizes s ≡ got m n → m .envelope .chunk ≡ true → (w : ℕ) × (m .envelope .«payload_header» ≡ PayloadHeader.Chunk w)
 chunk-writer sizes s m n e = go (ltb 65535 (length s)) e

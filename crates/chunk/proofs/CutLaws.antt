@@ -165,11 +165,14 @@ module _ (p : List ℕ) (number size k : ℕ) (out : List ℕ) where
   pub short-way : cutRule (length p) size k ≡ 0 → length out < 14 + length (cutData p size k) → Way (Written.Refused 11) out
   short-way e h = refused-by 11 (fault-short e h) (λ q. omega arith)
 
-  pub done-way : cutRule (length p) size k ≡ 0 → (b exit : List ℕ) → b ≡ cutData p size k → 14 + length b ≤ length out → exit ≡ laid out 0 (payloadBytes number (k * size) (length p) b) → Way (Written.Is (14 + length b)) exit
+  pub done-way : cutRule (length p) size k ≡ 0 → (b exit : List ℕ) → b ≡ cutData p size k → 14 + length b ≤ length out → exit ≡ laid out 0 (payloadBytes number (k * size) (length p) b)
+      → Way (Written.Is (14 + length b)) exit
   unfolding cutAnswer cutBuffer
   done-way e b exit eb h q =
-      let f = fault-none e (rw eb at h) in
-      (rw f (ap Written.Is (ap (λ (d : List ℕ). 14 + length d) eb ∙ sym (length-payload number (k * size) (length p) (cutData p size k)))), rw f (q ∙ ap (λ (d : List ℕ). laid out 0 (payloadBytes number (k * size) (length p) d)) eb))
+      let f = fault-none e (rw eb at h) in (
+        rw f (ap Written.Is (ap (λ (d : List ℕ). 14 + length d) eb ∙ sym (length-payload number (k * size) (length p) (cutData p size k)))),
+        rw f (q ∙ ap (λ (d : List ℕ). laid out 0 (payloadBytes number (k * size) (length p) d)) eb),
+      )
 
   -- ---- what an accepted cut leaves in the buffer: the chunk's payload, and after it what was there
   fault-zero : cutFault p size k (length out) ≡ 0 → (cutRule (length p) size k ≡ 0) × (14 + length (cutData p size k) ≤ length out)

@@ -117,7 +117,17 @@ module _ (p : List ℕ) (number size k : ℕ) (hn : number < 65536) (ok : cutRul
         let c = leBytes 4 (length p) in
         let z = leBytes 4 (length d) in
         let front = a ++ (b ++ (c ++ z)) in
-        let n : length front ≡ 14 = omega (arith, length-append a (b ++ (c ++ z)), length-append b (c ++ z), length-append c z, length-leBytes 2 number, length-leBytes 4 (k * size), length-leBytes 4 (length p), length-leBytes 4 (length d)) in
+        let n : length front ≡ 14 =
+        omega (
+          arith,
+          length-append a (b ++ (c ++ z)),
+          length-append b (c ++ z),
+          length-append c z,
+          length-leBytes 2 number,
+          length-leBytes 4 (k * size),
+          length-leBytes 4 (length p),
+          length-leBytes 4 (length d),
+        ) in
         let w : chunkBytes p number size k ≡ front ++ d =
         sym (append-assoc a (b ++ (c ++ z)) d ∙ ap (λ (l : List ℕ). a ++ l) (append-assoc b (c ++ z) d ∙ ap (λ (l : List ℕ). b ++ l) (append-assoc c z d))) in
         let r : drop (at + 14) s ≡ d = sym (drop-drop 14 at s) ∙ ap (drop 14) (q ∙ w) ∙ drop-at front d 14 n in

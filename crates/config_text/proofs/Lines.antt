@@ -202,5 +202,6 @@ module _ (s : List ℕ) (at : ℕ) where
   -- the word lies within the text
   pub word-within : (w : ℕ) (word : List ℕ) → startsWith (drop at s) (w ∷ word) ≡ true → at + length (w ∷ word) ≤ length s
   word-within w word h =
-      let e : length (drop at s) ≡ length (w ∷ word) + length (drop (length (w ∷ word)) (drop at s)) = ap length (starts-is (drop at s) (w ∷ word) h) ∙ length-append (w ∷ word) (drop (length (w ∷ word)) (drop at s)) in
+      let e : length (drop at s) ≡ length (w ∷ word) + length (drop (length (w ∷ word)) (drop at s)) = ap length (starts-is (drop at s) (w ∷ word) h)
+      ∙ length-append (w ∷ word) (drop (length (w ∷ word)) (drop at s)) in
       omega (arith, length-drop at s)

@@ -56,7 +56,8 @@ module _ (types s : List ℕ) where
   fields-variants (suc n) k at = go (fields-variants n (k + 1)) (variantAt s at)
     where
       go : ((end : ℕ) → each variantAt n s end ≡ fieldsAt false Encoding.Variant types n (k + 1) s end) → (x : Answer Measure) → andThen x (λ m next. each variantAt n s next)
-          ≡ andThen (andThen x (λ m end. got (record { index = k; kind = m .kind; shape = m .shape; offset = at; length = end - at }) end)) (λ (f : Field) next. fieldsAt false Encoding.Variant types n (k + 1) s next)
+          ≡ andThen (andThen x (λ m end. got (record { index = k; kind = m .kind; shape = m .shape; offset = at; length = end - at }) end))
+          (λ (f : Field) next. fieldsAt false Encoding.Variant types n (k + 1) s next)
       go more (got m end) = more end
       go more (refused m place) = refl
 

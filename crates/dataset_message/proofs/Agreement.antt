@@ -84,9 +84,11 @@ module _ (delta : Bool) (encoding : Encoding) (types s : List ℕ) where
     where
       same : (r : ℕ) → andThen (fieldsAt delta encoding types n (k + 1) s r) (λ _ q. andThen (fieldAt delta encoding types (k + 1 + n) s q) (λ _ z. done z))
           ≡ andThen (fieldsAt delta encoding types n (k + 1) s r) (λ _ q. andThen (fieldAt delta encoding types (k + suc n) s q) (λ _ z. done z))
-      same r = let e : k + 1 + n ≡ k + suc n = omega arith in ap (λ (j : ℕ). andThen (fieldsAt delta encoding types n (k + 1) s r) (λ _ q. andThen (fieldAt delta encoding types j s q) (λ _ z. done z))) e
+      same r = let e : k + 1 + n ≡ k + suc n =
+          omega arith in ap (λ (j : ℕ). andThen (fieldsAt delta encoding types n (k + 1) s r) (λ _ q. andThen (fieldAt delta encoding types j s q) (λ _ z. done z))) e
 
-      go : (x : Answer Field) → ((r : ℕ) → fieldsAt delta encoding types (suc n) (k + 1) s r ≡ andThen (fieldsAt delta encoding types n (k + 1) s r) (λ _ q. andThen (fieldAt delta encoding types (k + 1 + n) s q) (λ _ z. done z)))
+      go : (x : Answer Field) → ((r : ℕ)
+          → fieldsAt delta encoding types (suc n) (k + 1) s r ≡ andThen (fieldsAt delta encoding types n (k + 1) s r) (λ _ q. andThen (fieldAt delta encoding types (k + 1 + n) s q) (λ _ z. done z)))
           → andThen x (λ _ r. fieldsAt delta encoding types (suc n) (k + 1) s r)
           ≡ andThen (andThen x (λ _ r. fieldsAt delta encoding types n (k + 1) s r)) (λ _ q. andThen (fieldAt delta encoding types (k + suc n) s q) (λ _ z. done z))
       go (got f r) ih = ih r ∙ same r

@@ -121,8 +121,10 @@ pub size-is : (types : List ℕ) (g : Given) → Accepted types g
     → length (encode g) ≡ sizeOf (length (headerBytes (g .header))) (isFielded g && not (isRawData g)) (isDelta (g .header .kind)) (length (g .values)) (length (g .lengths)) (g .padding)
 size-is types g a =
     size-parts (headerBytes (g .header)) (countBytes (isFielded g) (isRawData g) (length (g .lengths))) (fieldsBytes (isDelta (g .header .kind)) (g .indices) (fieldsOf g)) (zeros (g .padding))
-    ∙ ap (λ (n : ℕ). length (headerBytes (g .header)) + (length (countBytes (isFielded g) (isRawData g) (length (g .lengths))) + (length (fieldsBytes (isDelta (g .header .kind)) (g .indices) (fieldsOf g)) + n))) (length-zeros (g .padding))
-    ∙ ap (λ (n : ℕ). length (headerBytes (g .header)) + (n + (length (fieldsBytes (isDelta (g .header .kind)) (g .indices) (fieldsOf g)) + g .padding))) (count-length (isFielded g && not (isRawData g)) (length (g .lengths)))
+    ∙ ap (λ (n : ℕ). length (headerBytes (g .header)) +
+    (length (countBytes (isFielded g) (isRawData g) (length (g .lengths))) + (length (fieldsBytes (isDelta (g .header .kind)) (g .indices) (fieldsOf g)) + n))) (length-zeros (g .padding))
+    ∙ ap (λ (n : ℕ). length (headerBytes (g .header)) + (n + (length (fieldsBytes (isDelta (g .header .kind)) (g .indices) (fieldsOf g)) + g .padding)))
+    (count-length (isFielded g && not (isRawData g)) (length (g .lengths)))
     ∙ go (isDelta (g .header .kind)) refl
   where
     front : ℕ

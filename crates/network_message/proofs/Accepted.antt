@@ -59,7 +59,8 @@ positive-at [] e k h = absurd (not-suc-le-zero h)
 positive-at (x ∷ zs) e zero h = ltb-true 0 x (and-left (ltb 0 x) (positive zs) e)
 positive-at (x ∷ zs) e (suc k) h = positive-at zs (and-right (ltb 0 x) (positive zs) e) k (omega arith)
 
-many-tiles : (sizes s : List ℕ) (n at : ℕ) → positive (listed n s at) ≡ true → at + 2 * n ≤ length s → at + 2 * n + total (listed n s at) ≡ length s → Tiled (payloadOf n (Sizes.Listed at) (at + 2 * n)) sizes s
+many-tiles : (sizes s : List ℕ) (n at : ℕ) → positive (listed n s at) ≡ true → at + 2 * n ≤ length s → at + 2 * n + total (listed n s at) ≡ length s
+    → Tiled (payloadOf n (Sizes.Listed at) (at + 2 * n)) sizes s
 many-tiles sizes s n at o f w = (listed n s at, record { many = length-listed n s at; whole = w; some = positive-at (listed n s at) o; here = each })
   where
     each : (k : ℕ) → k < length (listed n s at) → valueOr0 (item 2 s (at + 2 * k)) ≡ getD (listed n s at) k 0
@@ -74,11 +75,13 @@ listed-tiles sizes s n at p m e = go (leb (at + 2 * n) (length s)) (positive (li
     go : (a b : Bool) → leb (at + 2 * n) (length s) ≡ a → (positive (listed n s at) && eqb (at + 2 * n + total (listed n s at)) (length s)) ≡ b → listedAt n s at ≡ got p m → Tiled p sizes s
     go true true t u q =
         let q′ : got (payloadOf n (Sizes.Listed at) (at + 2 * n)) (at + 2 * n) ≡ got p m = rw (t, u) at q in
-        rw (sym (got-value q′)) (many-tiles sizes s n at (and-left (positive (listed n s at)) _ u) (leb-true (at + 2 * n) (length s) t) (eqb-true (at + 2 * n + total (listed n s at)) (length s) (and-right (positive (listed n s at)) _ u)))
+        rw (sym (got-value q′)) (many-tiles sizes s n at (and-left (positive (listed n s at)) _ u) (leb-true (at + 2 * n) (length s) t)
+        (eqb-true (at + 2 * n + total (listed n s at)) (length s) (and-right (positive (listed n s at)) _ u)))
     go true false t u q = absurd (not-got (rw (t, u) at q))
     go false b t u q = absurd (not-got (rw t at q))
 
-sized-tiles : (sizes s : List ℕ) (at : ℕ) (p : Payload) (m : ℕ) → positive (configuredSizes sizes) ≡ true → sizedAt (length (configuredSizes sizes)) (total (configuredSizes sizes)) s at ≡ got p m → Tiled p sizes s
+sized-tiles : (sizes s : List ℕ) (at : ℕ) (p : Payload) (m : ℕ) → positive (configuredSizes sizes) ≡ true → sizedAt (length (configuredSizes sizes)) (total (configuredSizes sizes)) s at ≡ got p m
+    → Tiled p sizes s
 sized-tiles sizes s at p m o e = go (eqb (at + total (configuredSizes sizes)) (length s)) refl e
   where
     go : (b : Bool) → eqb (at + total (configuredSizes sizes)) (length s) ≡ b

@@ -46,4 +46,10 @@ module _ (s : List ℕ) where
       let h3 : at + a + b + c ≤ length s = omega arith in
       let h4 : at + a + b + c + d ≤ length s = omega arith in
       let h5 : at + a + b + c + d + e ≤ length s = omega arith in
-      rw (when-fits (bit 2 m) 4 at h1, when-fits (bit 4 m) 8 (at + a) h2, when-fits (bit 16 m) 2 (at + a + b) h3, when-fits (bit 8 m) 8 (at + a + b + c) h4, when-fits (bit 32 m) 2 (at + a + b + c + d) h5) (ap (got tt) end)
+      rw (
+        when-fits (bit 2 m) 4 at h1,
+        when-fits (bit 4 m) 8 (at + a) h2,
+        when-fits (bit 16 m) 2 (at + a + b) h3,
+        when-fits (bit 8 m) 8 (at + a + b + c) h4,
+        when-fits (bit 32 m) 2 (at + a + b + c + d) h5,
+      ) (ap (got tt) end)

@@ -38,14 +38,17 @@ module _ (L : Layout) where
       pick false = refl
 
   -- ---- what the code tests at an offset is what the views say there
-  pub clash-step-data : (total : ℕ) (p m : List ℕ) (at : ℕ) (d : List ℕ) (j : ℕ) → at + j < total → j < length d → differsAt (markedView L total p m) at d j ≡ differs (onlyIf (marked L m (at + j)) (getD p (at + j) 0)) (some (getD d j 0))
+  pub clash-step-data : (total : ℕ) (p m : List ℕ) (at : ℕ) (d : List ℕ) (j : ℕ) → at + j < total → j < length d
+      → differsAt (markedView L total p m) at d j ≡ differs (onlyIf (marked L m (at + j)) (getD p (at + j) 0)) (some (getD d j 0))
   clash-step-data total p m at d j h k = rw (marked-below total p m (at + j) h, data-at at d j k)
 
-  pub clash-step-marked : (total : ℕ) (p m q n : List ℕ) (i : ℕ) → i < total → differs (markedView L total p m i) (markedView L total q n i) ≡ differs (onlyIf (marked L m i) (getD p i 0)) (onlyIf (marked L n i) (getD q i 0))
+  pub clash-step-marked : (total : ℕ) (p m q n : List ℕ) (i : ℕ) → i < total
+      → differs (markedView L total p m i) (markedView L total q n i) ≡ differs (onlyIf (marked L m i) (getD p i 0)) (onlyIf (marked L n i) (getD q i 0))
   clash-step-marked total p m q n i h = rw (marked-below total p m i h, marked-below total q n i h)
 
   -- a chunk's data meets the same bytes below its own end as below total
-  pub clash-total : (total : ℕ) (p m : List ℕ) (at : ℕ) (d : List ℕ) → at + length d ≤ total → clash (at + length d) (markedView L (at + length d) p m) (dataView at d) ≡ clash total (markedView L total p m) (dataView at d)
+  pub clash-total : (total : ℕ) (p m : List ℕ) (at : ℕ) (d : List ℕ) → at + length d ≤ total
+      → clash (at + length d) (markedView L (at + length d) p m) (dataView at d) ≡ clash total (markedView L total p m) (dataView at d)
   clash-total total p m at d fits =
       clash-data (at + length d) (markedView L (at + length d) p m) at d (omega arith)
       ∙ any-ext (length d) _ _ (λ j h. clash-step-data (at + length d) p m at d j (omega arith) h ∙ sym (clash-step-data total p m at d j (omega arith) h))
@@ -63,7 +66,8 @@ module _ (L : Layout) where
       marked-below t (laid v p) (markAll L (has v) m) i l ∙ rw (a, marked-on L t (has v) m i l hm (ap isSome e))
 
   -- laying a view in that differs nowhere: what is covered then is both
-  pub view-put : (t : ℕ) (v : View) (p m : List ℕ) → t ≤ length p → marksFor L t ≤ length m → ((i : ℕ) → t ≤ i → v i ≡ none) → clash t (markedView L t p m) v ≡ false → markedView L t (laid v p) (markAll L (has v) m) ≡ joined (markedView L t p m) v
+  pub view-put : (t : ℕ) (v : View) (p m : List ℕ) → t ≤ length p → marksFor L t ≤ length m → ((i : ℕ) → t ≤ i → v i ≡ none) → clash t (markedView L t p m) v ≡ false
+      → markedView L t (laid v p) (markAll L (has v) m) ≡ joined (markedView L t p m) v
   unfolding orElse
   view-put t v p m hp hm above free =
       fun-ext (λ i. by-lt _ i t (λ l. below i l (v i) refl)

@@ -219,7 +219,8 @@ module _ (s : Partial) (m : Message) (at : ℕ) (d : List ℕ) where
     pub taken-marks : (n : List ℕ) → n ≡ begunMarks (s .rec) (s .marks) → (at ≤ at + length d) × (marksFor (s .layout) (at + length d) ≤ length n)
     taken-marks n q = (omega arith, rw (length-begun (s .rec) (s .marks) n q) (taken-room .1))
 
-    pub taken : (v : Verdict) (k : PartialRecord) (p z n : List ℕ) → v ≡ Done → k ≡ begun (s .rec) m → p ≡ laid (dataView at d) (s .payload) → n ≡ begunMarks (s .rec) (s .marks) → z ≡ markAll (s .layout) (inRange at (at + length d)) n → record { verdict = v; after = record { rec = k; layout = s .layout; payload = p; marks = z } } ≡ takeIn s (chunk m at d)
+    pub taken : (v : Verdict) (k : PartialRecord) (p z n : List ℕ) → v ≡ Done → k ≡ begun (s .rec) m → p ≡ laid (dataView at d) (s .payload) → n ≡ begunMarks (s .rec) (s .marks)
+        → z ≡ markAll (s .layout) (inRange at (at + length d)) n → record { verdict = v; after = record { rec = k; layout = s .layout; payload = p; marks = z } } ≡ takeIn s (chunk m at d)
     unfolding put
     taken v k p z n ev ek ep en ez =
         rw (ev, ek, ep, ez, en, take-done s (chunk m at d) e, has-data at d)
@@ -241,7 +242,8 @@ module _ (s f : Partial) where
   pub combine-idle : sound s ≡ true → sound f ≡ true → f .rec .started ≡ false → judgeCombine s f ≡ Done
   combine-idle e g h = combine-judged e g ∙ rw h
 
-  pub combine-admits : sound s ≡ true → sound f ≡ true → f .rec .started ≡ true → judgeCombine s f ≡ admitted (admissionOf (s .rec) (length (s .payload)) (f .rec .message)) (clash (s .rec .message .total) (viewOf s) (viewOf f))
+  pub combine-admits : sound s ≡ true → sound f ≡ true → f .rec .started ≡ true
+      → judgeCombine s f ≡ admitted (admissionOf (s .rec) (length (s .payload)) (f .rec .message)) (clash (s .rec .message .total) (viewOf s) (viewOf f))
   combine-admits e g h = combine-judged e g ∙ rw h (judge-admits s (length (s .payload)) (f .rec .message) (viewOf f))
 
   pub combine-sound : judgeCombine s f ≡ Done → sound s ≡ true
@@ -268,7 +270,8 @@ module _ (s f : Partial) where
 
   -- the same message: what both cover
   module _ (e : sound s ≡ true) (g : sound f ≡ true) (h : f .rec .started ≡ true) (i : admissionOf (s .rec) (length (s .payload)) (f .rec .message) ≡ A.Same) where
-    pub covered-room : (f .rec .message .total ≤ length (s .payload)) × (marksFor (s .layout) (f .rec .message .total) ≤ length (s .marks)) × (f .rec .message .total ≤ length (f .payload)) × (marksFor (f .layout) (f .rec .message .total) ≤ length (f .marks))
+    pub covered-room : (f .rec .message .total ≤ length (s .payload)) × (marksFor (s .layout) (f .rec .message .total) ≤ length (s .marks)) × (f .rec .message .total ≤ length (f .payload))
+        × (marksFor (f .layout) (f .rec .message .total) ≤ length (f .marks))
     covered-room =
         let a = admits-same _ _ _ i .room in
         let t = sound-total f g h in
@@ -282,16 +285,20 @@ module _ (s f : Partial) where
 
   -- an accepted source fits
   module _ (e : judgeCombine s f ≡ Done) (h : f .rec .started ≡ true) where
-    pub combined-room : (f .rec .message .total ≤ length (s .payload)) × (marksFor (s .layout) (f .rec .message .total) ≤ length (s .marks)) × (f .rec .message .total ≤ length (f .payload)) × (marksFor (f .layout) (f .rec .message .total) ≤ length (f .marks))
+    pub combined-room : (f .rec .message .total ≤ length (s .payload)) × (marksFor (s .layout) (f .rec .message .total) ≤ length (s .marks)) × (f .rec .message .total ≤ length (f .payload))
+        × (marksFor (f .layout) (f .rec .message .total) ≤ length (f .marks))
     combined-room =
         let a = judge-fits (length (s .payload)) (stateOf s) (identityOf (f .rec .message)) (viewOf f) (combine-met e h) in
         let t = sound-total f (combine-source-sound e) h in
         (a, sound-marks s (combine-sound e) _ a, t, sound-marks f (combine-source-sound e) _ t)
 
-    pub combined-marks : (n : List ℕ) → n ≡ begunMarks (s .rec) (s .marks) → (marksFor (s .layout) (f .rec .message .total) ≤ length n) × (marksFor (f .layout) (f .rec .message .total) ≤ length (f .marks))
+    pub combined-marks : (n : List ℕ) → n ≡ begunMarks (s .rec) (s .marks) → (marksFor (s .layout) (f .rec .message .total) ≤ length n)
+        × (marksFor (f .layout) (f .rec .message .total) ≤ length (f .marks))
     combined-marks n q = (rw (length-begun (s .rec) (s .marks) n q) (combined-room .1), combined-room .3)
 
-    pub combined : (v : Verdict) (k : PartialRecord) (p m n : List ℕ) → v ≡ Done → k ≡ begun (s .rec) (f .rec .message) → p ≡ laid (viewOf f) (s .payload) → n ≡ begunMarks (s .rec) (s .marks) → m ≡ markAll (s .layout) (markedBelow (f .layout) (f .rec .message .total) (f .marks)) n → record { verdict = v; after = record { rec = k; layout = s .layout; payload = p; marks = m } } ≡ combine s f
+    pub combined : (v : Verdict) (k : PartialRecord) (p m n : List ℕ) → v ≡ Done → k ≡ begun (s .rec) (f .rec .message) → p ≡ laid (viewOf f) (s .payload) → n ≡ begunMarks (s .rec) (s .marks)
+        → m ≡ markAll (s .layout) (markedBelow (f .layout) (f .rec .message .total) (f .marks)) n
+        → record { verdict = v; after = record { rec = k; layout = s .layout; payload = p; marks = m } } ≡ combine s f
     unfolding put
     combined v k p m n ev ek ep en em =
         rw (ev, ek, ep, em, en, combine-done e h, has-marked (f .layout) (f .rec .message .total) (f .payload) (f .marks))

@@ -34,7 +34,8 @@ pub put-marks : (s : Partial) (m k : Message) (v : View) → put m v s .marks �
 unfolding put
 put-marks s m k v = refl
 
-pub taken-state : (s : Partial) → Good s → (m : Message) (at : ℕ) (d : List ℕ) → Proper m at (length d) → judgeReading s (chunk m at d) ≡ Done → stateOf (takeIn s (chunk m at d) .after) ≡ acceptState (stateOf s) (alone (chunk m at d))
+pub taken-state : (s : Partial) → Good s → (m : Message) (at : ℕ) (d : List ℕ) → Proper m at (length d) → judgeReading s (chunk m at d) ≡ Done
+    → stateOf (takeIn s (chunk m at d) .after) ≡ acceptState (stateOf s) (alone (chunk m at d))
 taken-state s ok m at d o e =
     Following.take-stepped s ok (chunk m at d) o .state
     ∙ ap (λ (v : Verdict). ifAccepted v (stateOf s) (acceptState (stateOf s) (alone (chunk m at d)))) (sym (JudgeLaws.reading-judged s (chunk m at d) (ok .is-sound)) ∙ e)
@@ -72,7 +73,11 @@ module _ (L : Layout) (n : ℕ) (m : Message) (at : ℕ) (d : List ℕ) (o : Pro
 
   base-good : Good base
   unfolding base soundBy
-  base-good = record { is-sound = rw (eq-eqb (marksFor L (length {A = ℕ} (replicate n 0))) (length {A = ℕ} (replicate (marksFor L n) 0)) (ap (marksFor L) (length-replicate {A = ℕ} n 0) ∙ sym (length-replicate {A = ℕ} (marksFor L n) 0))) }
+  base-good = record {
+    is-sound =
+        rw (eq-eqb (marksFor L (length {A = ℕ} (replicate n 0))) (length {A = ℕ} (replicate (marksFor L n) 0))
+        (ap (marksFor L) (length-replicate {A = ℕ} n 0) ∙ sym (length-replicate {A = ℕ} (marksFor L n) 0)));
+  }
 
   base-fit : Following.Fit m (length (base .payload))
   unfolding base

@@ -56,7 +56,8 @@ unfolding orElse
 first-of o p x e = rw e
 
 -- the bytes of an accepted view
-log-bytes : (w v : View) (l : List Brought) (m : Identity) → ((i : ℕ) → differs (w i) (v i) ≡ false) → ((i x : ℕ) → (w i ≡ some x) ↔ Brings l i x) → (i x : ℕ) → (joined w v i ≡ some x) ↔ Brings (record { message = m; bytes = v } ∷ l) i x
+log-bytes : (w v : View) (l : List Brought) (m : Identity) → ((i : ℕ) → differs (w i) (v i) ≡ false) → ((i x : ℕ) → (w i ≡ some x) ↔ Brings l i x) → (i x : ℕ)
+    → (joined w v i ≡ some x) ↔ Brings (record { message = m; bytes = v } ∷ l) i x
 log-bytes w v l m free old i x = (
   λ e. ⊎-elim (λ q. inr (old i x .0 q)) (λ q. inl q) (first-cases (w i) (v i) x e),
   λ k. ⊎-elim
@@ -80,7 +81,9 @@ log-accept n (held k w) l m v b g e =
     let t : k ≡ m = same-message-true k m (meet-same k m w v met) in
     let c : clash (k .total) w v ≡ false = meet-free k m w v met in
     record {
-      bytes = log-bytes w v l m (λ i. by-lt _ i (k .total) (λ h. none-clash (k .total) w v c i h) (λ h. let q : k .total ≡ m .total = ap (λ (z : Identity). z .total) t in rw (b i (omega arith)) (differs-none (w i)))) (g .bytes);
+      bytes = log-bytes w v l m
+          (λ i. by-lt _ i (k .total) (λ h. none-clash (k .total) w v c i h) (λ h. let q : k .total ≡ m .total = ap (λ (z : Identity). z .total) t in rw (b i (omega arith)) (differs-none (w i))))
+          (g .bytes);
       message = λ j u q. (record { message = m; bytes = v }, l, refl, sym t ∙ ap (messageIn m) q);
     }
 

@@ -165,7 +165,8 @@ module _ (a b c : Partial) (w : Three a b c) where
 
   right-second : Pairwise a b c → combine a (combine b c .after) .verdict ≡ Done
   right-second p =
-      let g = StateLaws.agree-both (stateOf b) (stateOf c) (stateOf a) (StateLaws.agree-comm (stateOf a) (stateOf b) (done-agree a b ga gb (w .ab) (p .ab))) (StateLaws.agree-comm (stateOf a) (stateOf c) (done-agree a c ga gc (w .ac) (p .ac))) in
+      let g = StateLaws.agree-both (stateOf b) (stateOf c) (stateOf a)
+      (StateLaws.agree-comm (stateOf a) (stateOf b) (done-agree a b ga gb (w .ab) (p .ab))) (StateLaws.agree-comm (stateOf a) (stateOf c) (done-agree a c ga gc (w .ac) (p .ac))) in
       agree-done a (combine b c .after) ga (combined-good b c gb) (right-room (p .bc))
       (rw (done-state b c gb (p .bc)) (StateLaws.agree-comm (acceptState (stateOf b) (stateOf c)) (stateOf a) g))
 

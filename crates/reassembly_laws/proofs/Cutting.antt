@@ -217,7 +217,8 @@ module _ (id : Identity) (p : List ℕ) (size : ℕ) where
       }
 
   -- ---- A PAYLOAD CUT AND RESTORED: the same of datagrams with what cutting wrote for the chunks
-  pub all-cuts-restore : (l : List Arrival) → AllArrive id p size (IsCut id p size) l → id .number < 65536 → (s : Partial) → Good s → s .rec .started ≡ false → length p ≤ length (s .payload) → Restored l s
+  pub all-cuts-restore : (l : List Arrival) → AllArrive id p size (IsCut id p size) l → id .number < 65536 → (s : Partial) → Good s → s .rec .started ≡ false → length p ≤ length (s .payload)
+      → Restored l s
   all-cuts-restore l all hn =
       let f : (k : ℕ) (a : Arrival) → IsCut id p size k a → IsChunk id p size k a = λ k a w. cut-is-chunk k a hn (all .total) w in
       all-chunks-restore l

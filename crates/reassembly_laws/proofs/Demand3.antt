@@ -62,7 +62,8 @@ history ks s ok e =
     rw q at (history-from ks s ok)
 
 -- ---- A BYTE IS COVERED exactly if one accepted since the last emptying brought it, and it has the value brought
-pub covered-exactly-if-brought : (ks : List Call) (s : Partial) → Good s → s .rec .started ≡ false → (i x : ℕ) → (viewIn (stateOf (final ks s)) i ≡ some x) ↔ Brings (brought (length (s .payload)) ks idle []) i x
+pub covered-exactly-if-brought : (ks : List Call) (s : Partial) → Good s → s .rec .started ≡ false → (i x : ℕ)
+    → (viewIn (stateOf (final ks s)) i ≡ some x) ↔ Brings (brought (length (s .payload)) ks idle []) i x
 covered-exactly-if-brought ks s ok e i x =
     rw (history ks s ok e .partial-is) (Bringing.log-all (length (s .payload)) ks idle [] Bringing.log-none .bytes i x)
 
@@ -71,7 +72,8 @@ is-complete true q = refl
 is-complete false q = absurd (JudgeLaws.refused-done 15 0 q)
 
 -- ---- ONE PAYLOAD: if all that was brought is of one payload, that payload is handed out
-pub one-payload : (ks : List Call) (s : Partial) → Good s → s .rec .started ≡ false → (p : List ℕ) → AllOf p (brought (length (s .payload)) ks idle []) → judgeHandOut (final ks s) ≡ Done → handOut (final ks s) ≡ p
+pub one-payload : (ks : List Call) (s : Partial) → Good s → s .rec .started ≡ false → (p : List ℕ) → AllOf p (brought (length (s .payload)) ks idle []) → judgeHandOut (final ks s) ≡ Done
+    → handOut (final ks s) ≡ p
 one-payload ks s ok e p a done =
     let n = length (s .payload) in
     let h = history ks s ok e in
@@ -124,7 +126,8 @@ pub record Order (a b : Partial) : Type 0 where
 
 pub combine-order : (a b : Partial) → Pair a b → Order a b
 combine-order a b w =
-    let same : combine a b .verdict ≡ combine b a .verdict = Combining.verdict-between a b (w .first) (w .second) (w .room) ∙ StateLaws.between-comm (stateOf a) (stateOf b) ∙ sym (Combining.verdict-between b a (w .second) (w .first) (w .back)) in
+    let same : combine a b .verdict ≡ combine b a .verdict = Combining.verdict-between a b (w .first) (w .second) (w .room) ∙ StateLaws.between-comm (stateOf a) (stateOf b)
+    ∙ sym (Combining.verdict-between b a (w .second) (w .first) (w .back)) in
     record {
       same-verdict = same;
       equal = λ e. Combining.done-state a b (w .first) e
@@ -164,7 +167,13 @@ combine-equal a b ga gb q =
     unchanged : a .rec .started ≡ true → viewOf b ≡ viewOf a → put (b .rec .message) (viewOf b) a ≡ a
     unchanged f v =
         Following.put-started (b .rec .message) (viewOf b) a f
-        ∙ rw v (λ i. record { rec = a .rec; layout = a .layout; payload = laid-self (a .layout) (a .rec .message .total) (a .payload) (a .marks) i; marks = marks-again (a .layout) (a .rec .message .total) (a .payload) (a .marks) i })
+        ∙ rw v (λ i. record {
+          rec = a .rec;
+          layout = a .layout;
+          payload = laid-self (a .layout) (a .rec .message .total) (a .payload) (a .marks) i;
+          marks =
+              marks-again (a .layout) (a .rec .message .total) (a .payload) (a .marks) i;
+        })
 
 -- ---- THREE IN EITHER GROUPING give equal results, or both are refused, and that exactly if two of the three disagree
 pub record Groupings (a b c : Partial) : Type 0 where
@@ -193,7 +202,8 @@ pub record AsPartial (x y : Step) : Type 0 where
   pub payload : x .after .payload ≡ y .after .payload
   pub marks : x .after .marks ≡ y .after .marks
 
-pub chunk-as-partial : (s f : Partial) → Good s → Good f → (m : Message) (at : ℕ) (d : List ℕ) → Proper m at (length d) → stateOf f ≡ alone (chunk m at d) → AsPartial (takeIn s (chunk m at d)) (combine s f)
+pub chunk-as-partial : (s f : Partial) → Good s → Good f → (m : Message) (at : ℕ) (d : List ℕ) → Proper m at (length d) → stateOf f ≡ alone (chunk m at d)
+    → AsPartial (takeIn s (chunk m at d)) (combine s f)
 chunk-as-partial s f ok okf m at d o q = go (judgeReading s (chunk m at d)) refl
   where
     go : (v : Verdict) → judgeReading s (chunk m at d) ≡ v → AsPartial (takeIn s (chunk m at d)) (combine s f)
@@ -212,7 +222,8 @@ chunk-as-partial s f ok okf m at d o q = go (judgeReading s (chunk m at d)) refl
         }
 
 -- with its own record in areas of equal length, all is the same: answer, record and every byte
-pub take-is-combine : (s : Partial) → Good s → (m : Message) (at : ℕ) (d : List ℕ) → Proper m at (length d) → m .total ≤ length (s .payload) → takeIn s (chunk m at d) ≡ combine s (Alone.chunkAlone (s .layout) (length (s .payload)) m at d)
+pub take-is-combine : (s : Partial) → Good s → (m : Message) (at : ℕ) (d : List ℕ) → Proper m at (length d) → m .total ≤ length (s .payload)
+    → takeIn s (chunk m at d) ≡ combine s (Alone.chunkAlone (s .layout) (length (s .payload)) m at d)
 unfolding put
 take-is-combine s ok m at d o room = go (judgeReading s (chunk m at d)) refl
   where

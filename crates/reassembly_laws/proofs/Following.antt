@@ -52,7 +52,8 @@ module _ (m : Message) (v : View) (s : Partial) where
   unfolding put
   put-started e = rw e
 
-  put-idle : s .rec .started ≡ false → put m v s ≡ record { rec = record { started = true; message = m }; layout = s .layout; payload = laid v (s .payload); marks = markAll (s .layout) (has v) (cleared (s .marks)) }
+  put-idle : s .rec .started ≡ false
+      → put m v s ≡ record { rec = record { started = true; message = m }; layout = s .layout; payload = laid v (s .payload); marks = markAll (s .layout) (has v) (cleared (s .marks)) }
   unfolding put
   put-idle e = rw e
 
@@ -79,7 +80,8 @@ module _ (m : Message) (v : View) (s : Partial) (ok : Good s) (fit : Fit m (leng
       let same : t ≡ m .total = ap (λ (x : Identity). x .total) (same-message-true k (identityOf m) (JudgeLaws.meet-same k (identityOf m) (viewOf s) v met₁)) in
       let u : t ≤ length (s .payload) = JudgeLaws.sound-total s (ok .is-sound) e in
       rw (put-started m v s e, e)
-      (ap (held k) (view-put (s .layout) t v (s .payload) (s .marks) u (JudgeLaws.sound-marks s (ok .is-sound) t u) (λ i h. above i (omega arith)) (JudgeLaws.meet-free k (identityOf m) (viewOf s) v met₁))))
+      (ap (held k) (view-put (s .layout) t v (s .payload) (s .marks) u (JudgeLaws.sound-marks s (ok .is-sound) t u)
+      (λ i h. above i (omega arith)) (JudgeLaws.meet-free k (identityOf m) (viewOf s) v met₁))))
       (λ e.
       let t = m .total in
       let z = cleared (s .marks) in
@@ -103,7 +105,8 @@ module _ (s : Partial) (ok : Good s) (x : Step) (v : Verdict) (t : State) where
   step-idle : x ≡ record { verdict = Done; after = s } → v ≡ Done → t ≡ idle → Stepped s x v t
   step-idle e f g = record { verdict = rw (e, f); state = rw (e, f, g); good = rw e ok; room = rw e }
 
-  step-put : (m : Message) (w : View) → Fit m (length (s .payload)) → ((i : ℕ) → m .total ≤ i → w i ≡ none) → judge (length (s .payload)) (stateOf s) (identityOf m) w ≡ Done → x ≡ record { verdict = Done; after = put m w s } → v ≡ Done → t ≡ held (identityOf m) w → Stepped s x v t
+  step-put : (m : Message) (w : View) → Fit m (length (s .payload)) → ((i : ℕ) → m .total ≤ i → w i ≡ none) → judge (length (s .payload)) (stateOf s) (identityOf m) w ≡ Done
+      → x ≡ record { verdict = Done; after = put m w s } → v ≡ Done → t ≡ held (identityOf m) w → Stepped s x v t
   step-put m w fit above met e f g = record {
     verdict = rw (e, f);
     state = rw (e, f, g) (put-state m w s ok fit above met);
@@ -126,7 +129,8 @@ module _ (s : Partial) (ok : Good s) where
       go (Refused k p) e = step-refused s ok _ _ _ k p (JudgeLaws.take-refused s (chunk m at d) k p e) (sym judged ∙ e)
       go Done e =
           let met = sym judged ∙ e in
-          let fit : Fit m (length (s .payload)) = record { some = o .some; room = JudgeLaws.judge-fits (length (s .payload)) (stateOf s) (identityOf m) (dataView at d) met; publisher = o .publisher } in
+          let fit : Fit m (length (s .payload)) =
+          record { some = o .some; room = JudgeLaws.judge-fits (length (s .payload)) (stateOf s) (identityOf m) (dataView at d) met; publisher = o .publisher } in
           step-put s ok _ _ _ m (dataView at d) fit (λ i h. data-above at d i (omega (arith, o .fits))) met (JudgeLaws.take-done s (chunk m at d) e) met refl
 
   -- ---- combining
@@ -144,8 +148,15 @@ module _ (s : Partial) (ok : Good s) where
           (λ h.
           let g = JudgeLaws.combine-source-sound s f e in
           let met = JudgeLaws.combine-met s f e h in
-          let fit : Fit (f .rec .message) (length (s .payload)) = record { some = JudgeLaws.sound-some f g h; room = JudgeLaws.judge-fits (length (s .payload)) (stateOf s) (identityOf (f .rec .message)) (viewOf f) met; publisher = JudgeLaws.sound-publisher f g h } in
-          step-put s ok _ _ _ (f .rec .message) (viewOf f) fit (λ i l. marked-above (f .layout) (f .rec .message .total) (f .payload) (f .marks) i l) met (JudgeLaws.combine-done s f e h) (sym (source-verdict f) ∙ e) (rw h))
+          let fit : Fit (f .rec .message) (length (s .payload)) =
+          record {
+            some = JudgeLaws.sound-some f g h;
+            room = JudgeLaws.judge-fits (length (s .payload)) (stateOf s) (identityOf (f .rec .message)) (viewOf f) met;
+            publisher =
+                JudgeLaws.sound-publisher f g h;
+          } in
+          step-put s ok _ _ _ (f .rec .message) (viewOf f) fit
+          (λ i l. marked-above (f .layout) (f .rec .message .total) (f .payload) (f .marks) i l) met (JudgeLaws.combine-done s f e h) (sym (source-verdict f) ∙ e) (rw h))
           (λ h. step-idle s ok _ _ _ (JudgeLaws.combine-done-idle s f e h) (sym (source-verdict f) ∙ e) (rw h))
 
   -- ---- asking and handing out

@@ -77,7 +77,8 @@ datagram-copied sizes s entry exit r m next b q on w =
     )
 
 -- what the writer's own rewriting says, in the bytes that were read
-pub datagram-said : (sizes s entry exit : List ℕ) (r : Written) → Bytes s → (answerWritten r ≡ rewriteAnswer s (networkMessageAt sizes s) (length entry)) × (exit ≡ rewriteBuffer s (networkMessageAt sizes s) entry)
+pub datagram-said : (sizes s entry exit : List ℕ) (r : Written) → Bytes s → (answerWritten r ≡ rewriteAnswer s (networkMessageAt sizes s) (length entry))
+    × (exit ≡ rewriteBuffer s (networkMessageAt sizes s) entry)
     → WritesDatagram sizes s entry exit r
 datagram-said sizes s entry exit r b w = let t = go (networkMessageAt sizes s) refl in record { answer = w .0 ∙ t .0; buffer = w .1 ∙ t .1 }
   where

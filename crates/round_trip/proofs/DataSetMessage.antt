@@ -124,8 +124,10 @@ fielded types g a = go (isFielded g) refl
         let w : whole && countAgrees (isRawData g) (length types) (length (g .lengths)) ≡ true = rw e at (a .agrees) in
         let c = and-right whole (countAgrees (isRawData g) (length types) (length (g .lengths))) w in
         record {
-          whole = subst (λ (vs : List (List ℕ)). fieldsWhole (g .header .encoding) types 0 vs ≡ true) (reached-all (isRawData g) types (g .lengths) (g .values) c) (and-left whole (countAgrees (isRawData g) (length types) (length (g .lengths))) w);
-          configured = λ f r. raw-configured (isRawData g) (length types) (length (g .lengths)) (fieldsRefusal (g .header .encoding) types 0 (reached (isRawData g) types (fieldsOf g))) (rw e at (a .body)) c r;
+          whole = subst (λ (vs : List (List ℕ)). fieldsWhole (g .header .encoding) types 0 vs ≡ true)
+              (reached-all (isRawData g) types (g .lengths) (g .values) c) (and-left whole (countAgrees (isRawData g) (length types) (length (g .lengths))) w);
+          configured = λ f r. raw-configured (isRawData g) (length types) (length (g .lengths))
+              (fieldsRefusal (g .header .encoding) types 0 (reached (isRawData g) types (fieldsOf g))) (rw e at (a .body)) c r;
           counted = λ f r. plain-counted (isRawData g) (length types) (length (g .lengths)) c r;
           none = λ f. no (sym f ∙ e);
           unpadded = λ f k. no (sym f ∙ e);
@@ -181,7 +183,8 @@ module _ (types : List ℕ) (g : Given) (fits : FitsHeader (g .header)) (indices
   start = length (headerBytes (g .header))
 
   body-at : At (encode g) start (countPart ++ (fieldsPart ++ zeros (g .padding)))
-  body-at = subst (λ (n : ℕ). At (encode g) n (countPart ++ (fieldsPart ++ zeros (g .padding)))) (zero-add start) (second (encode g) 0 (headerBytes (g .header)) (countPart ++ (fieldsPart ++ zeros (g .padding))) all-at)
+  body-at = subst (λ (n : ℕ). At (encode g) n (countPart ++ (fieldsPart ++ zeros (g .padding)))) (zero-add start)
+      (second (encode g) 0 (headerBytes (g .header)) (countPart ++ (fieldsPart ++ zeros (g .padding))) all-at)
 
   fields-at : At (encode g) (firstOf g) (fieldsPart ++ zeros (g .padding))
   fields-at = second (encode g) start countPart (fieldsPart ++ zeros (g .padding)) body-at
@@ -230,7 +233,8 @@ module _ (types : List ℕ) (g : Given) (fits : FitsHeader (g .header)) (indices
   fields-read : fieldsAt (isDelta (g .header .kind)) (g .header .encoding) types (length (g .lengths)) 0 (encode g) (firstOf g) ≡ got tt (endOf g)
   fields-read =
       ap (λ (n : ℕ). fieldsAt (isDelta (g .header .kind)) (g .header .encoding) types n 0 (encode g) (firstOf g)) (sym (length-values (g .lengths) (g .values)))
-      ∙ fields-is (isDelta (g .header .kind)) (g .header .encoding) types (fieldsOf g) 0 (g .indices) indices (body .whole) (encode g) (firstOf g) (first (encode g) (firstOf g) fieldsPart (zeros (g .padding)) fields-at)
+      ∙ fields-is (isDelta (g .header .kind)) (g .header .encoding) types (fieldsOf g) 0 (g .indices) indices (body .whole) (encode g)
+      (firstOf g) (first (encode g) (firstOf g) fieldsPart (zeros (g .padding)) fields-at)
 
   padding-is : length (encode g) - endOf g ≡ g .padding
   padding-is = omega (arith, sizes)

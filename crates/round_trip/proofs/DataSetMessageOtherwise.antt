@@ -125,13 +125,16 @@ module _ (types : List ℕ) (g : Given) (fits : FitsHeader (g .header)) (kind : 
   field-whole k l =
       let f = back .field k l in
       let p : nthAt (messageOf g .cursor) types k (encode g) ≡ got (f .place) (f .end) = rw (back .message) at (f .looked-up) in
-      let q : andThen (fieldsAt (isDelta (g .header .kind)) (g .header .encoding) types k 0 (encode g) (firstOf g)) (λ u at. fieldAt (isDelta (g .header .kind)) (g .header .encoding) types k (encode g) at) ≡ got (f .place) (f .end) =
+      let q : andThen (fieldsAt (isDelta (g .header .kind)) (g .header .encoding) types k 0 (encode g) (firstOf g))
+      (λ u at. fieldAt (isDelta (g .header .kind)) (g .header .encoding) types k (encode g) at) ≡ got (f .place) (f .end) =
       rw (lt-leb (length (g .lengths)) k l) at p in
-      let a = invert (fieldsAt (isDelta (g .header .kind)) (g .header .encoding) types k 0 (encode g) (firstOf g)) (λ u at. fieldAt (isDelta (g .header .kind)) (g .header .encoding) types k (encode g) at) q in
+      let a = invert (fieldsAt (isDelta (g .header .kind)) (g .header .encoding) types k 0 (encode g) (firstOf g))
+      (λ u at. fieldAt (isDelta (g .header .kind)) (g .header .encoding) types k (encode g) at) q in
       let y = field-alone (isDelta (g .header .kind)) (g .header .encoding) types k (encode g) (a .1) (f .place) (f .end) (a .3) in
       let b : bytesOf (encode g) (f .place) ≡ getD (fieldsOf g) k [] = ap (λ (x : Answer Field). fieldBytes x (encode g)) (sym (f .looked-up)) ∙ f .bytes in
       ap (λ (n : ℕ). endsAt (length (getD (fieldsOf g) k [])) (encodedAt (g .header .encoding) types n (getD (fieldsOf g) k []) 0)) (zero-add k)
-      ∙ subst (λ (v : List ℕ). endsAt (length v) (encodedAt (g .header .encoding) types k v 0) ≡ true) b (rw (y .1) (eq-eqb (length (bytesOf (encode g) (f .place))) (length (bytesOf (encode g) (f .place))) refl))
+      ∙ subst (λ (v : List ℕ). endsAt (length v) (encodedAt (g .header .encoding) types k v 0) ≡ true) b
+      (rw (y .1) (eq-eqb (length (bytesOf (encode g) (f .place))) (length (bytesOf (encode g) (f .place))) refl))
 
   fields-whole : fieldsWhole (g .header .encoding) types 0 (fieldsOf g) ≡ true
   fields-whole = all-whole (g .header .encoding) types (fieldsOf g) 0 (λ j l. field-whole j (subst (λ (n : ℕ). j < n) (length-values (g .lengths) (g .values)) l))
@@ -148,7 +151,8 @@ module _ (types : List ℕ) (g : Given) (fits : FitsHeader (g .header)) (kind : 
 
       go : (f : Bool) → isFielded g ≡ f → bodyAgrees types g ≡ true
       go true e =
-          let c = count-agrees (g .header .kind) (g .heartbeat) (isRawData g) types (encode g) start (length (g .lengths)) (firstOf g) (delta-plain (g .header .kind) (g .header .encoding) kind) e (back .heartbeat)
+          let c = count-agrees (g .header .kind) (g .heartbeat) (isRawData g) types (encode g) start (length (g .lengths)) (firstOf g)
+          (delta-plain (g .header .kind) (g .header .encoding) kind) e (back .heartbeat)
           (subst (λ (f : Bool). At (encode g) start (countBytes f (isRawData g) (length (g .lengths)))) e count-at) count-read in
           rw (e, reached-all (isRawData g) types (g .lengths) (g .values) c, fields-whole, c)
       go false e =

@@ -293,7 +293,17 @@ body-back s f n h next bytes r q =
     let x : headerOf f (a .0) (b .0) ≡ h = cc in
     let z : b .1 ≡ next = got-next (b .3) in
     let says : flagsFor (headerOf f (a .0) (b .0)) ≡ f =
-    λ i. record { encoding = f .encoding; kind = f .kind; sequence = t .sequence i; status = v .status i; major = v .major i; minor = v .minor i; timestamp = t .timestamp i; picoseconds = t .picoseconds i } in
+    λ i. record {
+      encoding = f .encoding;
+      kind = f .kind;
+      sequence = t .sequence i;
+      status = v .status i;
+      major = v .major i;
+      minor = v .minor i;
+      timestamp = t .timestamp i;
+      picoseconds =
+          t .picoseconds i;
+    } in
     let w = flags-stand s f n r (headerOf f (a .0) (b .0)) says in
     let all = join s 0 (flagBytes (headerOf f (a .0) (b .0))) n (timesBytes (headerOf f (a .0) (b .0)) ++ versionsBytes (headerOf f (a .0) (b .0))) (b .1) w
     (join s n (timesBytes (headerOf f (a .0) (b .0))) (a .1) (versionsBytes (headerOf f (a .0) (b .0))) (b .1) (t .stands) (v .stands)) in

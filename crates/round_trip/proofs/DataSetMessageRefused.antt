@@ -124,7 +124,8 @@ module _ (delta : Bool) (encoding : Encoding) (types : List ℕ) (bare : Bool) w
   fields-refuse (v ∷ vs) (suc t) zero k indices l f w r s m a z = absurd (omega arith)
   fields-refuse (v ∷ vs) (suc t) (suc c) k indices l f w r s m a z =
       go (encodedAt encoding types k v 0) refl
-      (λ w r. fields-refuse vs t c (k + 1) (drop 1 indices) (omega arith) (λ j. rw (getD-drop 1 indices j 0) (f (1 + j))) w r s (m + length (here ++ v)) (second s m (here ++ v) (fieldsBytes delta (drop 1 indices) vs) there) ends)
+      (λ w r. fields-refuse vs t c (k + 1) (drop 1 indices) (omega arith) (λ j. rw (getD-drop 1 indices j 0) (f (1 + j))) w r s
+      (m + length (here ++ v)) (second s m (here ++ v) (fieldsBytes delta (drop 1 indices) vs) there) ends)
     where
       here : List ℕ
       here = indexBytes delta (getD indices 0 0)
@@ -153,7 +154,8 @@ module _ (delta : Bool) (encoding : Encoding) (types : List ℕ) (bare : Bool) w
           encoded-last encoding types k v n p q s (m + length here) value y
 
       go : (x : Answer Measure) → encodedAt encoding types k v 0 ≡ x
-          → (plainly encoding types bare t (k + 1) vs ≡ true → eqb (fieldsRefusal encoding types (k + 1) (take t vs)) 0 ≡ false → RefusedBy (fieldsAt delta encoding types c (k + 1) s (m + length (here ++ v))) (fieldsRefusal encoding types (k + 1) (take t vs)))
+          → (plainly encoding types bare t (k + 1) vs ≡ true → eqb (fieldsRefusal encoding types (k + 1) (take t vs)) 0 ≡ false
+          → RefusedBy (fieldsAt delta encoding types c (k + 1) s (m + length (here ++ v))) (fieldsRefusal encoding types (k + 1) (take t vs)))
           → RefusedBy (fieldsAt delta encoding types (suc c) k s m) (fieldsRefusal encoding types k (take (suc t) (v ∷ vs)))
       go (got x e) q ih =
           let u : eqb e (length v) && plainly encoding types bare t (k + 1) vs ≡ true = rw q at w in
@@ -287,7 +289,8 @@ module _ (types : List ℕ) (g : Given) (fits : FitsHeader (g .header)) (indices
         all true = refl
         all false = sym (take-all (length (g .lengths)) (fieldsOf g) (let m = length-values (g .lengths) (g .values) in omega arith))
 
-        by : RefusedBy (fieldsAt (isDelta (g .header .kind)) (g .header .encoding) types number 0 (encode g) (start + length countPart)) (fieldsRefusal (g .header .encoding) types 0 (reached (isRawData g) types (fieldsOf g)))
+        by : RefusedBy (fieldsAt (isDelta (g .header .kind)) (g .header .encoding) types number 0 (encode g) (start + length countPart))
+            (fieldsRefusal (g .header .encoding) types 0 (reached (isRawData g) types (fieldsOf g)))
         by =
             let e = all (isRawData g) in
             let x = fields-refuse (isDelta (g .header .kind)) (g .header .encoding) types (eqb (g .padding) 0) (fieldsOf g) number number 0 (g .indices) (le-refl number) indices (tells .plain)
@@ -301,7 +304,8 @@ module _ (types : List ℕ) (g : Given) (fits : FitsHeader (g .header)) (indices
       go true e =
           let q : eqb (orElse (configuredRule (isRawData g) (length types)) (fieldsRefusal (g .header .encoding) types 0 (reached (isRawData g) types (fieldsOf g)))) 0 ≡ false = rw e at r in
           let b : bodyRefusal types g ≡ orElse (configuredRule (isRawData g) (length types)) (fieldsRefusal (g .header .encoding) types 0 (reached (isRawData g) types (fieldsOf g))) = rw e in
-          subst Refused (sym b) (or-case Refused (configuredRule (isRawData g) (length types)) (fieldsRefusal (g .header .encoding) types 0 (reached (isRawData g) types (fieldsOf g))) q (configured-refused k p e) (fields-refused k p e))
+          subst Refused (sym b) (or-case Refused (configuredRule (isRawData g) (length types))
+          (fieldsRefusal (g .header .encoding) types 0 (reached (isRawData g) types (fieldsOf g))) q (configured-refused k p e) (fields-refused k p e))
       go false e = let q : eqb 0 0 ≡ false = rw e at r in no (sym q)
 
 -- The number by which the writer refuses what reading would refuse is reading's number of what would have been written.
@@ -310,4 +314,5 @@ pub refuse-written : (types : List ℕ) (g : Given) → FitsHeader (g .header) �
 refuse-written types g fits indices tells h =
     or-case (Refused types g fits indices tells) (kindRule (g .header .kind) (g .header .encoding)) (orElse (picosecondsRefusal (g .header .picoseconds)) (bodyRefusal types g)) h
     (kind-refused types g fits indices tells)
-    (λ k r. or-case (Refused types g fits indices tells) (picosecondsRefusal (g .header .picoseconds)) (bodyRefusal types g) r (picoseconds-refused types g fits indices tells k) (body-refused types g fits indices tells k))
+    (λ k r. or-case (Refused types g fits indices tells) (picosecondsRefusal (g .header .picoseconds)) (bodyRefusal types g) r
+    (picoseconds-refused types g fits indices tells k) (body-refused types g fits indices tells k))

@@ -184,7 +184,8 @@ after-count types s h n first m e bytes header count q =
     let b = invert (paddingAt s (a .1)) (λ u z. _) (a .3) in
     let l = end-fits s (length (headerBytes h)) (countBytes (hasFields (h .kind) (leb (length s) (length (headerBytes h)))) (isRaw (h .encoding)) n) first (count .stands) in
     let f = fields-back (isDelta (h .kind)) (h .encoding) types s bytes n 0 first (a .1) l (a .2) in
-    let k = end-fits s first (fieldsBytes (isDelta (h .kind)) (indicesFor (isDelta (h .kind)) (fieldsIn types s (read h n first (a .1)))) (valuesOf (lengthsOf (fieldsIn types s (read h n first (a .1)))) (joined s (fieldsIn types s (read h n first (a .1)))))) (a .1) (f .stands) in
+    let k = end-fits s first (fieldsBytes (isDelta (h .kind)) (indicesFor (isDelta (h .kind)) (fieldsIn types s (read h n first (a .1))))
+    (valuesOf (lengthsOf (fieldsIn types s (read h n first (a .1)))) (joined s (fieldsIn types s (read h n first (a .1)))))) (a .1) (f .stands) in
     let o : a .1 + (length s - a .1) ≡ length s = omega arith in
     let r = zeros-back (length s - a .1) s (a .1) (b .1) o (b .2) in
     let v : valid (read h n first (a .1)) ≡ valid m = got-value (b .3) in
@@ -220,7 +221,8 @@ pub rewrite-written : (types s : List ℕ) (m : Message) (e : ℕ) → Bytes s �
 rewrite-written types s m e bytes q l entry exit r room w =
     let x = rewrite-read types s m e bytes q in
     let n : writerNumber types (taken types s m) (length entry) ≡ 0 =
-    rw (x .accepted) (ap (λ (b : List ℕ). cond (ltb 65535 (length b)) 10 (cond (ltb (length entry) (length b)) 11 0)) (x .same) ∙ rw (le-ltb 65535 (length s) l, le-ltb (length entry) (length s) room)) in (
+    rw (x .accepted) (ap (λ (b : List ℕ). cond (ltb 65535 (length b)) 10 (cond (ltb (length entry) (length b)) 11 0)) (x .same)
+    ∙ rw (le-ltb 65535 (length s) l, le-ltb (length entry) (length s) room)) in (
       w .answer ∙ ap (λ (k : ℕ). writtenBy k (encode (taken types s m))) n ∙ ap (λ (b : List ℕ). Written.Is (length b)) (x .same),
       w .buffer ∙ ap (λ (k : ℕ). bufferBy k (encode (taken types s m)) entry) n ∙ ap (λ (b : List ℕ). b ++ drop (length b) entry) (x .same),
     )
@@ -243,8 +245,13 @@ walked-nth : (delta : Bool) (encoding : Encoding) (types s : List ℕ) (d : Fiel
 unfolding fieldsAt walked
 walked-nth delta encoding types s d j zero k at end l h = absurd (omega arith)
 walked-nth delta encoding types s d zero (suc n) k at end l h =
-    let a = invert (fieldAt delta encoding types k s at) (λ f q. fieldsAt delta encoding types n (k + 1) s q) h in
-    (at, a .1, refl, ap (λ (i : ℕ). fieldAt delta encoding types i s at) (add-zero k) ∙ a .2 ∙ ap (λ (f : Field). got f (a .1)) (sym (first-is (fieldAt delta encoding types k s at) (a .0) (a .1) (a .2))))
+    let a = invert (fieldAt delta encoding types k s at) (λ f q. fieldsAt delta encoding types n (k + 1) s q) h in (
+      at,
+      a .1,
+      refl,
+      ap (λ (i : ℕ). fieldAt delta encoding types i s at) (add-zero k) ∙ a .2
+          ∙ ap (λ (f : Field). got f (a .1)) (sym (first-is (fieldAt delta encoding types k s at) (a .0) (a .1) (a .2))),
+    )
   where
     first-is : (x : Answer Field) (f : Field) (q : ℕ) → x ≡ got f q → getD (andField x (λ f e. walked delta encoding types n (k + 1) s e)) zero d ≡ f
     first-is x f q e = ap (λ (y : Answer Field). getD (andField y (λ f e. walked delta encoding types n (k + 1) s e)) zero d) e
@@ -253,8 +260,13 @@ walked-nth delta encoding types s d (suc j) (suc n) k at end l h =
     let r = walked-nth delta encoding types s d j n (k + 1) (a .1) end (omega arith) (a .3) in
     let e : k + suc j ≡ k + 1 + j = omega arith in
     let w : getD (andField (fieldAt delta encoding types k s at) (λ f z. walked delta encoding types n (k + 1) s z)) (suc j) d ≡ getD (walked delta encoding types n (k + 1) s (a .1)) j d =
-    ap (λ (y : Answer Field). getD (andField y (λ f z. walked delta encoding types n (k + 1) s z)) (suc j) d) (a .2) in
-    (r .0, r .1, ap (λ (y : Answer Field). andThen y (λ f q. fieldsAt delta encoding types j (k + 1) s q)) (a .2) ∙ r .2, ap (λ (i : ℕ). fieldAt delta encoding types i s (r .0)) e ∙ r .3 ∙ ap (λ (f : Field). got f (r .1)) (sym w))
+    ap (λ (y : Answer Field). getD (andField y (λ f z. walked delta encoding types n (k + 1) s z)) (suc j) d) (a .2) in (
+      r .0,
+      r .1,
+      ap (λ (y : Answer Field). andThen y (λ f q. fieldsAt delta encoding types j (k + 1) s q)) (a .2) ∙ r .2,
+      ap (λ (i : ℕ). fieldAt delta encoding types i s (r .0)) e ∙ r .3
+          ∙ ap (λ (f : Field). got f (r .1)) (sym w),
+    )
 
 pub walked-is : (types s : List ℕ) (m : Message) (e : ℕ) → messageAt types s ≡ got (valid m) e → (d : Field) (k : ℕ) → k < m .cursor .count
     → (end : ℕ) × (fieldPlaceAt types k s ≡ got (getD (fieldsIn types s m) k d) end)

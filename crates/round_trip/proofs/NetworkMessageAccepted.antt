@@ -97,7 +97,8 @@ header-kept configured s f n L next b hf h =
     let km = promoted-kept (f .promoted) (messagesOf (f .chunk) (Pl .0) configured) s (t .1) (T .0 .promoted) (T .1) b (t .4) in
     subst (λ (K : Header). Kept s (K .envelope) (K .places) configured) (got-value (T .3))
     record {
-      times = ap₂ timesRefusal (picoseconds-on (f .picoseconds) s (t .0) (T .0 .picoseconds) (t .1) (t .3)) (timestamp-on (f .timestamp) s (Pl .1) (T .0 .timestamp) (t .0) (t .2)) ∙ flags-kept s 0 f n hf;
+      times = ap₂ timesRefusal (picoseconds-on (f .picoseconds) s (t .0) (T .0 .picoseconds) (t .1) (t .3)) (timestamp-on (f .timestamp) s (Pl .1) (T .0 .timestamp) (t .0) (t .2))
+          ∙ flags-kept s 0 f n hf;
       publisher = kp .0;
       text = kp .1;
       group = group-kept (f .group) s (i .1) (I .0 .group) (I .1) (i .3);
@@ -113,7 +114,8 @@ count-kept HeaderKept.absent = refl
 count-kept (HeaderKept.ids n c r l e) = r
 count-kept (HeaderKept.ofChunk w c) = refl
 
-ids-kept : {chunk : Bool} {s : List ℕ} {next : ℕ} {x : PayloadHeader} (configured : List ℕ) → Numbers configured → HeaderKept chunk s next x → idsShape chunk x (idsGiven s x next configured) configured ≡ 0
+ids-kept : {chunk : Bool} {s : List ℕ} {next : ℕ} {x : PayloadHeader} (configured : List ℕ) → Numbers configured → HeaderKept chunk s next x
+    → idsShape chunk x (idsGiven s x next configured) configured ≡ 0
 ids-kept configured h HeaderKept.absent = rw (numbers-same (take 16 configured) (numbers-take 16 configured h))
 ids-kept {s = s} {next = next} configured h (HeaderKept.ids n c r l e) = rw (c, lt-leb 256 n l, eq-eqb (length (before s next (2 * n))) (2 * n) e)
 ids-kept configured h (HeaderKept.ofChunk w c) = rw c

@@ -54,7 +54,8 @@ text-back (PublisherId.Text n) text s m end h a e =
     let q : n ≡ length text = eqb-true n (length text) (held (eqb n (length text)) 5 h) in
     before-at s (m + length c) text end n (second s m c text a) (sym q) (omega (arith, length-append c text))
 
-promoted-back : (p : Promoted) (bytes s : List ℕ) (m end : ℕ) → promotedShape p (length bytes) ≡ 0 → At s m (promotedBytes bytes p) → end ≡ m + length (promotedBytes bytes p) → promotedOf s p end ≡ bytes
+promoted-back : (p : Promoted) (bytes s : List ℕ) (m end : ℕ) → promotedShape p (length bytes) ≡ 0 → At s m (promotedBytes bytes p) → end ≡ m + length (promotedBytes bytes p)
+    → promotedOf s p end ≡ bytes
 promoted-back Promoted.Absent bytes s m end h a e = none bytes h
 promoted-back (Promoted.Size n) bytes s m end h a e =
     let c = leBytes 2 (length bytes) in

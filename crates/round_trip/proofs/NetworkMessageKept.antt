@@ -91,7 +91,9 @@ module _ (s : List ℕ) (p : PublisherId) (next : ℕ) where
       go false q = absurd (not-got q)
 
   kind-kept : (at : ℕ) (a b c d : Bool)
-      → cond a (item 1 >>= λ v. pure (PublisherId.Byte v)) (cond b (item 2 >>= λ v. pure (PublisherId.UInt16 v)) (cond c (item 4 >>= λ v. pure (PublisherId.UInt32 v)) (cond d (item 8 >>= λ v. pure (PublisherId.UInt64 v)) stringAt))) s at ≡ got p next
+      → cond a (item 1 >>= λ v. pure (PublisherId.Byte v))
+      (cond b (item 2 >>= λ v. pure (PublisherId.UInt16 v))
+      (cond c (item 4 >>= λ v. pure (PublisherId.UInt32 v)) (cond d (item 8 >>= λ v. pure (PublisherId.UInt64 v)) stringAt))) s at ≡ got p next
       → PublisherKept s p next
   kind-kept at true b c d q = rw (sym (map-back (item 1) PublisherId.Byte s at p next q .2)) (refl, refl)
   kind-kept at false true c d q = rw (sym (map-back (item 2) PublisherId.UInt16 s at p next q .2)) (refl, refl)

@@ -136,13 +136,15 @@ tiles PayloadHeader.Absent o chunk sizes pre g m e h q =
 tiles (PayloadHeader.Ids n) o chunk sizes pre g m e h q = go (leb n 1) h
   where
     go : (b : Bool) → cond b (numberIn (restAt (g .messages) 0)) (listedRefusal n (g .lengths) (length (g .messages))) ≡ 0
-        → Tiles (cond b (payloadOf 1 Sizes.Rest m) (payloadOf n (Sizes.Listed m) (m + 2 * n))) sizes (pre ++ (cond b [] (g .lengths) ++ g .messages)) (cond b (length (g .messages) ∷ []) (listed n (g .lengths) 0))
+        → Tiles (cond b (payloadOf 1 Sizes.Rest m) (payloadOf n (Sizes.Listed m) (m + 2 * n))) sizes
+        (pre ++ (cond b [] (g .lengths) ++ g .messages)) (cond b (length (g .messages) ∷ []) (listed n (g .lengths) 0))
     go true r = one-tiles sizes (pre ++ g .messages) (g .messages) m (omega (arith, length-append pre (g .messages))) (some-message (g .messages) r)
     go false r = many-tiles sizes pre (g .lengths) (g .messages) n m e (listed-facts n (g .lengths) (length (g .messages)) r)
 tiles (PayloadHeader.Chunk w) o chunk sizes pre g m e h q = absurd o
 
 -- the first message stands after the list of sizes, where there is one
-pub first-is : (x : PayloadHeader) (chunk : Bool) (sizes lengths messages : List ℕ) (m : ℕ) → payloadRefusal chunk x sizes lengths messages ≡ 0 → payloadFor x sizes m .first ≡ m + length (listBytes x lengths)
+pub first-is : (x : PayloadHeader) (chunk : Bool) (sizes lengths messages : List ℕ) (m : ℕ) → payloadRefusal chunk x sizes lengths messages ≡ 0
+    → payloadFor x sizes m .first ≡ m + length (listBytes x lengths)
 first-is PayloadHeader.Absent chunk sizes lengths messages m h = go (positive (configuredSizes sizes))
   where
     go : (b : Bool) → cond b (payloadOf (length (configuredSizes sizes)) Sizes.Configured m) (payloadOf 1 Sizes.Rest m) .first ≡ m + 0

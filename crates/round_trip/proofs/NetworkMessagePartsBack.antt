@@ -72,7 +72,8 @@ module _ (s : List ℕ) (at : ℕ) (p : PublisherId) (next : ℕ) (b : Bytes s) 
   string-back : stringAt s at ≡ got p next → StringBack
   string-back h = go (leb (at + 4) (length s)) refl h
     where
-      go : (t : Bool) → leb (at + 4) (length s) ≡ t → andThen (cond t (got (lengthOf (signed 4 (le 4 s at))) (at + 4)) (refused 1 at)) (λ length start. lengthThen at length s start) ≡ got p next → StringBack
+      go : (t : Bool) → leb (at + 4) (length s) ≡ t → andThen (cond t (got (lengthOf (signed 4 (le 4 s at))) (at + 4)) (refused 1 at)) (λ length start. lengthThen at length s start) ≡ got p next
+          → StringBack
       go true e q =
           signed-length (le 4 s at) (at + 4) (2 ^ (8 * 4) - 1 - le 4 s at) (ltb (le 4 s at) (2 ^ (8 * 4 - 1))) (rw e) q
       go false e q = absurd (not-got q)
@@ -81,7 +82,8 @@ publisher-kind : (kind : ℕ) (s : List ℕ) (at : ℕ) (p : PublisherId) (next 
     → Back s at (publisherBytes (textOf s p next) p) next × (publisherOn p ≡ true) × (kindOf p ≡ kind)
 publisher-kind kind s at p next b hk h = go0 (eqb kind 0) refl h
   where
-    text : ((kind ≡ 3) → ⊥) → ((kind ≡ 2) → ⊥) → ((kind ≡ 1) → ⊥) → ((kind ≡ 0) → ⊥) → stringAt s at ≡ got p next → Back s at (publisherBytes (textOf s p next) p) next × (publisherOn p ≡ true) × (kindOf p ≡ kind)
+    text : ((kind ≡ 3) → ⊥) → ((kind ≡ 2) → ⊥) → ((kind ≡ 1) → ⊥) → ((kind ≡ 0) → ⊥) → stringAt s at ≡ got p next → Back s at (publisherBytes (textOf s p next) p) next × (publisherOn p ≡ true)
+        × (kindOf p ≡ kind)
     text k3 k2 k1 k0 q =
         let x = string-back s at p next b q in
         let z : kind ≡ 4 = omega arith in
@@ -103,7 +105,8 @@ publisher-kind kind s at p next b hk h = go0 (eqb kind 0) refl h
     go2 false e k1 k0 q = go3 (eqb kind 3) refl (eqb-false kind 2 e) k1 k0 q
 
     go1 : (t : Bool) → eqb kind 1 ≡ t → ((kind ≡ 0) → ⊥)
-        → cond t (item 2 >>= λ v. pure (PublisherId.UInt16 v)) (cond (eqb kind 2) (item 4 >>= λ v. pure (PublisherId.UInt32 v)) (cond (eqb kind 3) (item 8 >>= λ v. pure (PublisherId.UInt64 v)) stringAt)) s at ≡ got p next
+        → cond t (item 2 >>= λ v. pure (PublisherId.UInt16 v))
+        (cond (eqb kind 2) (item 4 >>= λ v. pure (PublisherId.UInt32 v)) (cond (eqb kind 3) (item 8 >>= λ v. pure (PublisherId.UInt64 v)) stringAt)) s at ≡ got p next
         → Back s at (publisherBytes (textOf s p next) p) next × (publisherOn p ≡ true) × (kindOf p ≡ kind)
     go1 true e k0 q =
         let x = map-back (item 2) PublisherId.UInt16 s at p next q in
@@ -111,7 +114,9 @@ publisher-kind kind s at p next b hk h = go0 (eqb kind 0) refl h
     go1 false e k0 q = go2 (eqb kind 2) refl (eqb-false kind 1 e) k0 q
 
     go0 : (t : Bool) → eqb kind 0 ≡ t
-        → cond t (item 1 >>= λ v. pure (PublisherId.Byte v)) (cond (eqb kind 1) (item 2 >>= λ v. pure (PublisherId.UInt16 v)) (cond (eqb kind 2) (item 4 >>= λ v. pure (PublisherId.UInt32 v)) (cond (eqb kind 3) (item 8 >>= λ v. pure (PublisherId.UInt64 v)) stringAt))) s at ≡ got p next
+        → cond t (item 1 >>= λ v. pure (PublisherId.Byte v))
+        (cond (eqb kind 1) (item 2 >>= λ v. pure (PublisherId.UInt16 v))
+        (cond (eqb kind 2) (item 4 >>= λ v. pure (PublisherId.UInt32 v)) (cond (eqb kind 3) (item 8 >>= λ v. pure (PublisherId.UInt64 v)) stringAt))) s at ≡ got p next
         → Back s at (publisherBytes (textOf s p next) p) next × (publisherOn p ≡ true) × (kindOf p ≡ kind)
     go0 true e q =
         let x = map-back (item 1) PublisherId.Byte s at p next q in
@@ -147,7 +152,8 @@ group-fields-back F s at x next b l hF h =
       record { «writer_group» = w .0; version = v .0; number = n .0; sequence = q .0 },
       sym (q .2),
       join s at (optional16Bytes (w .0)) (w .1) (optional32Bytes (v .0) ++ (optional16Bytes (n .0) ++ optional16Bytes (q .0))) next (bw .0)
-          (join s (w .1) (optional32Bytes (v .0)) (v .1) (optional16Bytes (n .0) ++ optional16Bytes (q .0)) next (bv .0) (join s (v .1) (optional16Bytes (n .0)) (n .1) (optional16Bytes (q .0)) next (bn .0) (bq .0))),
+          (join s (w .1) (optional32Bytes (v .0)) (v .1) (optional16Bytes (n .0) ++ optional16Bytes (q .0)) next (bv .0)
+          (join s (v .1) (optional16Bytes (n .0)) (n .1) (optional16Bytes (q .0)) next (bn .0) (bq .0))),
       rw (bw .1, bv .1, bn .1, bq .1, num-bit (F % 2) (omega arith), num-bit (F / 2 % 2) (omega arith), num-bit (F / 4 % 2) (omega arith), num-bit (F / 8 % 2) (omega arith)) (group-flags F hF),
     )
 

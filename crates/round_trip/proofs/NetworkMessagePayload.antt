@@ -128,7 +128,8 @@ payload-is PayloadHeader.Absent chunk sizes pre lengths messages m e h =
     rw (f .0, configured-is (configuredSizes sizes) messages (pre ++ messages) m l (f .1)) (go (positive (configuredSizes sizes)))
   where
     go : (b : Bool) → got (cond b (payloadOf (length (configuredSizes sizes)) Sizes.Configured m) (payloadOf 1 Sizes.Rest m)) m
-        ≡ got (cond b (payloadOf (length (configuredSizes sizes)) Sizes.Configured m) (payloadOf 1 Sizes.Rest m)) (cond b (payloadOf (length (configuredSizes sizes)) Sizes.Configured m) (payloadOf 1 Sizes.Rest m) .first)
+        ≡ got (cond b (payloadOf (length (configuredSizes sizes)) Sizes.Configured m) (payloadOf 1 Sizes.Rest m))
+        (cond b (payloadOf (length (configuredSizes sizes)) Sizes.Configured m) (payloadOf 1 Sizes.Rest m) .first)
     go true = refl
     go false = refl
 payload-is (PayloadHeader.Ids n) chunk sizes pre lengths messages m e h = go (leb n 1) h

@@ -103,7 +103,8 @@ promoted-refuses (Promoted.Size i) messages bytes m b h s at =
     rw (number-broken 2 (sizeRule messages) (length bytes) m j h s (first s m (leBytes 2 (length bytes)) bytes at))
 
 -- the group header: NetworkMessageNumber 0 is 3
-group-refuses : (x : GroupHeader) (m : ℕ) → FitsGroup x → eqb (groupRefusal x) 0 ≡ false → (s : List ℕ) → At s m (groupBytes x) → (place : ℕ) × (groupAt (groupOn x) s m ≡ refused (groupRefusal x) place)
+group-refuses : (x : GroupHeader) (m : ℕ) → FitsGroup x → eqb (groupRefusal x) 0 ≡ false → (s : List ℕ) → At s m (groupBytes x) → (place : ℕ)
+    × (groupAt (groupOn x) s m ≡ refused (groupRefusal x) place)
 group-refuses GroupHeader.Absent m f h s at = absurd (no h)
 group-refuses (GroupHeader.Is g) m f h s at =
     let c = leBytes 1 (groupFlagsOf g) in

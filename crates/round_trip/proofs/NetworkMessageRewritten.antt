@@ -76,8 +76,12 @@ module _ (s : List ℕ) (f : Flags) (p : PublisherId) (c : ClassId) (g : GroupHe
       (join s n1 b3 n2 (b4 ++ (b5 ++ (b6 ++ (b7 ++ b8)))) next bc
       (join s n2 b4 n3 (b5 ++ (b6 ++ (b7 ++ b8))) next bg
       (join s n3 b5 n4 (b6 ++ (b7 ++ b8)) next bl (join s n4 b6 n5 (b7 ++ b8) next bt (join s n5 b7 n6 b8 next bo bm))))) in
-      let x = flagBytes (flagsFor (located .envelope)) in
-      (append-assoc x r (drop next s) ∙ ap (λ (q : List ℕ). x ++ q) (sym (rest-is s n r next j)) ∙ ap (λ (h : Flags). flagBytes h ++ drop n s) e, rest-is s 0 (flagBytes f) n bf, refl, end-fits s n r next j)
+      let x = flagBytes (flagsFor (located .envelope)) in (
+        append-assoc x r (drop next s) ∙ ap (λ (q : List ℕ). x ++ q) (sym (rest-is s n r next j)) ∙ ap (λ (h : Flags). flagBytes h ++ drop n s) e,
+        rest-is s 0 (flagBytes f) n bf,
+        refl,
+        end-fits s n r next j,
+      )
 
 pub identity-of : (f : Flags) (s : List ℕ) (at : ℕ) (i : Identity) (next : ℕ) → identityAt f s at ≡ got i next
     → (publisherAt (f .publisher) (f .kind) s at ≡ got (i .publisher) (i .«publisher_end»))
@@ -91,12 +95,14 @@ identity-of f s at i next h =
     (P .2, C .1, C .2, G .1)
 
 pub times-of : (f : Flags) (messages : ℕ) (s : List ℕ) (at : ℕ) (x : Times) (next : ℕ) → timesAt f messages s at ≡ got x next
-    → (n1 : ℕ) × (n2 : ℕ) × (optionalI64 (f .timestamp) s at ≡ got (x .timestamp) n1) × (picosecondsAt (f .picoseconds) s n1 ≡ got (x .picoseconds) n2) × (promotedAt (f .promoted) messages s n2 ≡ got (x .promoted) next)
+    → (n1 : ℕ) × (n2 : ℕ) × (optionalI64 (f .timestamp) s at ≡ got (x .timestamp) n1) × (picosecondsAt (f .picoseconds) s n1 ≡ got (x .picoseconds) n2)
+    × (promotedAt (f .promoted) messages s n2 ≡ got (x .promoted) next)
 times-of f messages s at x next h =
     let T = invert (optionalI64 (f .timestamp) s at) (λ t n. _) h in
     let O = invert (picosecondsAt (f .picoseconds) s (T .1)) (λ o n. _) (T .3) in
     let M = map-back (promotedAt (f .promoted) messages) (λ m. record { timestamp = T .0; picoseconds = O .0; promoted = m }) s (O .1) x next (O .3) in
-    subst (λ (x : Times). (n1 : ℕ) × (n2 : ℕ) × (optionalI64 (f .timestamp) s at ≡ got (x .timestamp) n1) × (picosecondsAt (f .picoseconds) s n1 ≡ got (x .picoseconds) n2) × (promotedAt (f .promoted) messages s n2 ≡ got (x .promoted) next)) (M .2)
+    subst (λ (x : Times). (n1 : ℕ) × (n2 : ℕ) × (optionalI64 (f .timestamp) s at ≡ got (x .timestamp) n1) × (picosecondsAt (f .picoseconds) s n1 ≡ got (x .picoseconds) n2)
+    × (promotedAt (f .promoted) messages s n2 ≡ got (x .promoted) next)) (M .2)
     (T .1, O .1, T .2, O .2, M .1)
 
 pub header-same : (configured : ℕ) (s : List ℕ) (f : Flags) (n : ℕ) (L : Header) (next : ℕ) → Bytes s → flagsAt s 0 ≡ got f n → headerAt f configured s n ≡ got L next → Same s f n L next
@@ -108,13 +114,16 @@ header-same configured s f n L next b hf h =
     let t = times-of f (messagesOf (f .chunk) (Pl .0) configured) s (Pl .1) (T .0) (T .1) (T .2) in
     let bf = flags-back s 0 f n b hf in
     let bp = publisher-back (f .publisher) (f .kind) s n (I .0 .publisher) (I .0 .«publisher_end») b (end-fits s 0 (flagBytes f) n (bf .0)) (bf .1) (i .0) in
-    let bc = class-back (f .«class_id») s (I .0 .«publisher_end») (I .0 .«class_id») (i .1) b (end-fits s n (publisherBytes (textOf s (I .0 .publisher) (I .0 .«publisher_end»)) (I .0 .publisher)) (I .0 .«publisher_end») (bp .0)) (i .2) in
+    let bc = class-back (f .«class_id») s (I .0 .«publisher_end») (I .0 .«class_id») (i .1) b
+    (end-fits s n (publisherBytes (textOf s (I .0 .publisher) (I .0 .«publisher_end»)) (I .0 .publisher)) (I .0 .«publisher_end») (bp .0)) (i .2) in
     let bg = group-back (f .group) s (i .1) (I .0 .group) (I .1) b (end-fits s (I .0 .«publisher_end») (classBytes (I .0 .«class_id»)) (i .1) (bc .0)) (i .3) in
     let bl = payload-header-back (f .«payload_header») (f .chunk) s (I .1) (Pl .0) (Pl .1) b (end-fits s (i .1) (groupBytes (I .0 .group)) (I .1) (bg .0)) (Pl .2) in
     let bt = optionalI64-back (f .timestamp) s (Pl .1) (T .0 .timestamp) (t .0) b (end-fits s (I .1) (payloadHeaderBytes (idsOf s (Pl .0) (Pl .1)) (Pl .0)) (Pl .1) (bl .0)) (t .2) in
     let bo = ruled16-back picosecondsRule (f .picoseconds) s (t .0) (T .0 .picoseconds) (t .1) b (end-fits s (Pl .1) (optionalI64Bytes (T .0 .timestamp)) (t .0) (bt .0)) (t .3) in
-    let bm = promoted-back (f .promoted) (messagesOf (f .chunk) (Pl .0) configured) s (t .1) (T .0 .promoted) (T .1) b (end-fits s (t .0) (optional16Bytes (T .0 .picoseconds)) (t .1) (bo .0)) (t .4) in
-    let a = assemble s f (I .0 .publisher) (I .0 .«class_id») (I .0 .group) (Pl .0) (T .0 .timestamp) (T .0 .picoseconds) (T .0 .promoted) n (I .0 .«publisher_end») (i .1) (I .1) (Pl .1) (t .0) (t .1) (T .1)
+    let bm = promoted-back (f .promoted) (messagesOf (f .chunk) (Pl .0) configured) s (t .1) (T .0 .promoted) (T .1) b
+    (end-fits s (t .0) (optional16Bytes (T .0 .picoseconds)) (t .1) (bo .0)) (t .4) in
+    let a = assemble s f (I .0 .publisher) (I .0 .«class_id») (I .0 .group) (Pl .0) (T .0 .timestamp) (T .0 .picoseconds)
+    (T .0 .promoted) n (I .0 .«publisher_end») (i .1) (I .1) (Pl .1) (t .0) (t .1) (T .1)
     (bf .0) (bp .0) (bc .0) (bg .0) (bl .0) (bt .0) (bo .0) (bm .0)
     (rw (bp .1, bp .2, bg .1, bl .1, bc .1, bt .1, bo .1, bm .1)) in
     subst (λ (z : ℕ). Same s f n L z) (got-next (T .3)) (subst (λ (K : Header). Same s f n K (T .1)) (got-value (T .3)) a)
@@ -123,7 +132,8 @@ body-same : (sizes s : List ℕ) (f : Flags) (n : ℕ) (m : NetworkMessage) (nex
     → (againOf s (m .envelope) (m .places) ≡ flagBytes (rewrittenFlags f) ++ drop n s) × (s ≡ flagBytes f ++ drop n s)
 body-same sizes s f n m next b hf h =
     let H = invert (headerAt f (length (configuredSizes sizes)) s n) (λ h k. _) h in
-    let P = map-back (payloadAt (H .0 .envelope .chunk) (H .0 .envelope .«payload_header») sizes) (λ p. record { envelope = H .0 .envelope; places = H .0 .places; payload = p }) s (H .1) m next (H .3) in
+    let P = map-back (payloadAt (H .0 .envelope .chunk) (H .0 .envelope .«payload_header») sizes)
+    (λ p. record { envelope = H .0 .envelope; places = H .0 .places; payload = p }) s (H .1) m next (H .3) in
     let q = header-same (length (configuredSizes sizes)) s f n (H .0) (H .1) b hf (H .2) in
     subst (λ (m : NetworkMessage). (againOf s (m .envelope) (m .places) ≡ flagBytes (rewrittenFlags f) ++ drop n s) × (s ≡ flagBytes f ++ drop n s)) (P .2)
     (ap (λ (k : ℕ). headerOf s (H .0 .envelope) (H .0 .places) ++ drop k s) (q .2) ∙ q .0, q .1)
@@ -151,7 +161,18 @@ rewrite-same sizes s m next f n b h hf e =
     let q : got (g .0) (g .1) ≡ got f n = sym (g .2) ∙ hf in
     let r = body-same sizes s (g .0) (g .1) m next b (g .2) (g .3) in
     let z : rewrittenFlags f ≡ f =
-    ap (λ (k : ℕ). record { publisher = f .publisher; group = f .group; «payload_header» = f .«payload_header»; kind = k; «class_id» = f .«class_id»; timestamp = f .timestamp; picoseconds = f .picoseconds; chunk = f .chunk; promoted = f .promoted }) e in
+    ap (λ (k : ℕ). record {
+      publisher = f .publisher;
+      group = f .group;
+      «payload_header» = f .«payload_header»;
+      kind = k;
+      «class_id» = f .«class_id»;
+      timestamp = f .timestamp;
+      picoseconds =
+          f .picoseconds;
+      chunk = f .chunk;
+      promoted = f .promoted;
+    }) e in
     ap (λ (a : Answer Flags). rewrittenAs s a) hf
     ∙ ap (λ (x : Flags). flagBytes x ++ drop n s) z ∙ ap (λ (x : Flags). flagBytes x ++ drop n s) (sym (got-value q)) ∙ ap (λ (k : ℕ). flagBytes (g .0) ++ drop k s) (sym (got-next q)) ∙ sym (r .1)
 
@@ -173,7 +194,8 @@ pub same-with-publisher : (sizes s : List ℕ) (m : NetworkMessage) (next : ℕ)
 same-with-publisher sizes s m next b h =
     let f = flags-of sizes s m next h in
     let H = invert (headerAt (f .0) (length (configuredSizes sizes)) s (f .1)) (λ h k. _) (f .3) in
-    let P = map-back (payloadAt (H .0 .envelope .chunk) (H .0 .envelope .«payload_header») sizes) (λ p. record { envelope = H .0 .envelope; places = H .0 .places; payload = p }) s (H .1) m next (H .3) in
+    let P = map-back (payloadAt (H .0 .envelope .chunk) (H .0 .envelope .«payload_header») sizes)
+    (λ p. record { envelope = H .0 .envelope; places = H .0 .places; payload = p }) s (H .1) m next (H .3) in
     subst (λ (m : NetworkMessage). publisherOn (m .envelope .publisher) ≡ true → rewritten s ≡ s) (P .2)
     (λ e. rewrite-same sizes s m next (f .0) (f .1) b h (f .2) (ap (λ (t : Bool). cond t (f .0 .kind) 0) (header-flag (length (configuredSizes sizes)) s (f .0) (f .1) (H .0) (H .1) (H .2) e)))
 
@@ -215,8 +237,10 @@ rewrite-accepted sizes s out m next b h l =
     let q = rewritten-short sizes s m next b h in
     let k : length (rewritten s) ≤ 65535 = omega (arith, accepted-short sizes s m next h) in
     let j : length (rewritten s) ≤ length out = omega arith in
-    let w = reports 0 (rewritten s) out (Written.Is (length (rewritten s))) (rewritten s ++ drop (length (rewritten s)) out) (writes 0 (rewritten s) out refl (length (rewritten s)) refl k (rewritten s ++ drop (length (rewritten s)) out) j refl) in
+    let w = reports 0 (rewritten s) out (Written.Is (length (rewritten s))) (rewritten s ++ drop (length (rewritten s)) out)
+    (writes 0 (rewritten s) out refl (length (rewritten s)) refl k (rewritten s ++ drop (length (rewritten s)) out) j refl) in
     rw h
     (subst
-    (λ (y : List ℕ). (answerBy (numberFor 0 (length y) (length out)) y ≡ got tt (length (rewritten s))) × (bufferBy (numberFor 0 (length y) (length out)) y out ≡ rewritten s ++ drop (length (rewritten s)) out))
+    (λ (y : List ℕ). (answerBy (numberFor 0 (length y) (length out)) y ≡ got tt (length (rewritten s)))
+    × (bufferBy (numberFor 0 (length y) (length out)) y out ≡ rewritten s ++ drop (length (rewritten s)) out))
     (sym (rewrite-read sizes s m next b h)) (sym (w .0), sym (w .1)))

@@ -41,7 +41,8 @@ module _ (limit end n i b : ℕ) (bs : List ℕ) (h : n ≤ limit)
       next : i + 1 + indexOf end bs + 1 ≡ i + suc (indexOf end bs) + 1
       next = omega arith
   step false true false e d l =
-      rw e (rw d (rw l (rw (lt-leb (valueFrom (n * 10 + (b - 48)) (upTo end bs)) limit (omega (arith, leb-false (n * 10 + (b - 48)) limit l, grows (n * 10 + (b - 48)) (upTo end bs)))) (rw (either-way {A = Option ℕ} (allDigits (upTo end bs)) none) (sym (either-way (contains end bs) Not))))))
+      rw e (rw d (rw l (rw (lt-leb (valueFrom (n * 10 + (b - 48)) (upTo end bs)) limit (omega (arith, leb-false (n * 10 + (b - 48)) limit l, grows (n * 10 + (b - 48)) (upTo end bs))))
+      (rw (either-way {A = Option ℕ} (allDigits (upTo end bs)) none) (sym (either-way (contains end bs) Not))))))
 
 pub scan-is : (limit end n i : ℕ) (t : List ℕ) → n ≤ limit → scan limit end n i t ≡ endedBy end (digitsFrom limit n) t i
 scan-is limit end n i [] h = refl

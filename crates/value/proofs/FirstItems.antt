@@ -53,8 +53,13 @@ tested b e t =
     let t1 = second (fixed b) _ e t in
     let t2 = and-right (eqb (variantRule b) 0) _ t1 in
     let t3 = and-right (eqb (typeOf b) b) _ t2 in
-    let t4 = and-right (not (isArray b)) _ t3 in
-    (eqb→eq _ _ (and-left (eqb (variantRule b) 0) _ t1), eqb→eq _ _ (and-left (eqb (typeOf b) b) _ t2), no _ (and-left (not (isArray b)) _ t3), no _ (and-left (not (eqb b 0)) _ t4), yes _ (and-right (not (eqb b 0)) _ t4))
+    let t4 = and-right (not (isArray b)) _ t3 in (
+      eqb→eq _ _ (and-left (eqb (variantRule b) 0) _ t1),
+      eqb→eq _ _ (and-left (eqb (typeOf b) b) _ t2),
+      no _ (and-left (not (isArray b)) _ t3),
+      no _ (and-left (not (eqb b 0)) _ t4),
+      yes _ (and-right (not (eqb b 0)) _ t4),
+    )
 
 pub fixed-first : (b : ℕ) → fixed b ≡ true → FixedFirst b
 fixed-first b e = go (leb 20 b) refl

@@ -108,7 +108,8 @@ module _ (w : Writers) (d : List ℕ) where
       by (got m next) = refl
       by (refused n at) = refl
 
-      go : (b : Bool) → linesFrom w d (cond b (startBy (networkMessageAt (w .sizes) d)) (LineCursor.Bad number place)) ≡ cond b (answerLines w d (networkMessageAt (w .sizes) d)) (Line.Bad number place ∷ [])
+      go : (b : Bool) → linesFrom w d (cond b (startBy (networkMessageAt (w .sizes) d)) (LineCursor.Bad number place)) ≡ cond b
+          (answerLines w d (networkMessageAt (w .sizes) d)) (Line.Bad number place ∷ [])
       go true = by (networkMessageAt (w .sizes) d)
       go false = refl
 

@@ -156,7 +156,8 @@ module _ (w : Writers) (d : List ℕ) where
 
   set-same : (l : Listed) (p : MessagePlace) (a : Answer (Valid Message)) → setLines w d l p a ≡ setBy (typesAt w d l p) (bytesAt w d p) p (writerAt w d l p) a
   set-same l p (got notValid next) = refl
-  set-same l p (got (valid m) next) = ap (λ (t : List Line). Line.Set (placeAt w d l p) (m .header .kind) (m .header .encoding) (m .header .sequence) ∷ t) (fields-same (fieldsLeft (m .cursor)) l p (m .cursor))
+  set-same l p (got (valid m) next) =
+      ap (λ (t : List Line). Line.Set (placeAt w d l p) (m .header .kind) (m .header .encoding) (m .header .sequence) ∷ t) (fields-same (fieldsLeft (m .cursor)) l p (m .cursor))
   set-same l p (refused n place) = refl
 
   -- ---- the messages from a cursor on

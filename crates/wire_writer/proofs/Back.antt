@@ -171,7 +171,8 @@ optional32-back true s at x next b l h =
     rw (sym (y .2)) (item-back 4 s at (y .0) next b (y .1) .0, refl)
 optional32-back false s at x next b l h = absent optional32Bytes on32 x Optional32.Absent s at next refl refl l h
 
-pub optionalI64-back : (on : Bool) (s : List ℕ) (at : ℕ) (x : OptionalI64) (next : ℕ) → Bytes s → at ≤ length s → optionalI64 on s at ≡ got x next → Back s at (optionalI64Bytes x) next × (onI64 x ≡ on)
+pub optionalI64-back : (on : Bool) (s : List ℕ) (at : ℕ) (x : OptionalI64) (next : ℕ) → Bytes s → at ≤ length s → optionalI64 on s at ≡ got x next → Back s at (optionalI64Bytes x) next
+    × (onI64 x ≡ on)
 optionalI64-back true s at x next b l h =
     let y = map-back (signedItem 8) OptionalI64.Is s at x next h in
     let m = map-back (item 8) (signed 8) s at (y .0) next (sym (signed-is 8 s at) ∙ y .1) in

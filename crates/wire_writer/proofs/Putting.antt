@@ -41,7 +41,8 @@ stored-nothing entry at = record { stored = go (leb (at + 0) (length entry)); af
     here false = refl
 
 -- a signed number, as the code's machine number has it
-pub stored-signed : (z : ℤ) {entry exit : List ℕ} {at next : ℕ} → SFits w64 z → Stored (leBytes 8 (unsigned 8 (toZ w64 (ofZ w64 z)))) entry at exit next → Stored (leBytes 8 (unsigned 8 z)) entry at exit next
+pub stored-signed : (z : ℤ) {entry exit : List ℕ} {at next : ℕ} → SFits w64 z → Stored (leBytes 8 (unsigned 8 (toZ w64 (ofZ w64 z)))) entry at exit next
+    → Stored (leBytes 8 (unsigned 8 z)) entry at exit next
 stored-signed z {entry} {exit} {at} {next} f s = subst (λ (y : ℤ). Stored (leBytes 8 (unsigned 8 y)) entry at exit next) (toZ-ofZ w64 z f) s
 
 -- what a put function did, where there is room

@@ -8,11 +8,17 @@ use Rattle.config.proofs.fields_of.Tie as tie
 
 returns : tie.Need-returns
 returns c =
-    id-none (now (c .before .before .before .before .before .before .args .ids)) (now (c .before .before .before .before .before .before .args .starts)) (now (c .before .before .before .before .before .before .args .types)) _ (c .before .before .before .before .before .before .args .id) _ (c .before .before .find-writer .ensures) (c .before .if1 .taken) (c .part .ensures)
+    let at-if1 = c .before in
+    let at-find-writer = at-if1 .before in
+    let args = at-find-writer .before .before .before .before .args in
+    id-none (now (args .ids)) (now (args .starts)) (now (args .types)) _ (args .id) _ (at-find-writer .find-writer .ensures) (at-if1 .if1 .taken) (c .part .ensures)
 
 returns-2 : tie.Need-returns-2
 returns-2 c =
-    id-some (now (c .before .before .before .before .before .before .args .ids)) (now (c .before .before .before .before .before .before .args .starts)) (now (c .before .before .before .before .before .before .args .types)) _ (c .before .before .before .before .before .before .args .id) _ (c .before .before .find-writer .ensures) (c .before .if1 .left) (c .writer-fields .ensures)
+    let at-if1 = c .before in
+    let at-find-writer = at-if1 .before in
+    let args = at-find-writer .before .before .before .before .args in
+    id-some (now (args .ids)) (now (args .starts)) (now (args .types)) _ (args .id) _ (at-find-writer .find-writer .ensures) (at-if1 .if1 .left) (c .writer-fields .ensures)
 
 pub fields-of-spec : {M : Type 1} → statement M
 fields-of-spec =

@@ -26,7 +26,9 @@ shared-slice-read-if1 c = omega arith
 
 returns : tie.Need-returns Inv-loop μ-loop
 returns c =
-    find-hit _ _ _ (c .before .before .loop-test .taken) (c .before .before .before .loop .inv .1) (c .if1 .taken)
+    let at-loop-test = c .before .before in
+    let at-loop = at-loop-test .before in
+    find-hit _ _ _ (at-loop-test .loop-test .taken) (at-loop .loop .inv .1) (c .if1 .taken)
 
 add-i : tie.Need-add-i Inv-loop μ-loop
 add-i c = omega arith
@@ -36,7 +38,9 @@ loop-less c = omega arith
 
 loop-again : tie.Need-loop-again Inv-loop μ-loop
 loop-again c =
-    (omega arith, find-miss _ _ _ (c .before .before .loop-test .taken) (c .before .before .before .loop .inv .1) (c .if1 .left))
+    let at-loop-test = c .before .before in
+    let at-loop = at-loop-test .before in
+    (omega arith, find-miss _ _ _ (at-loop-test .loop-test .taken) (at-loop .loop .inv .1) (c .if1 .left))
 
 returns-2 : tie.Need-returns-2 Inv-loop μ-loop
 returns-2 c = find-end _ _ _ (c .loop-test .left) (c .before .loop .inv .1)

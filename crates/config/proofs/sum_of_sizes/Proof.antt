@@ -43,8 +43,13 @@ loop-less : tie.Need-loop-less Inv-loop μ-loop
 loop-less c = omega arith
 
 loop-again : tie.Need-loop-again Inv-loop μ-loop
-loop-again c =
-    (omega arith, (c .before .before .loop .inv .1 .0, (omega (arith, c .shared-slice-known2 .given (c .before .before .loop .i)), sum-next _ _ _ _ (c .before .loop-test .taken) (c .before .before .loop .inv .1 .1 .1))))
+loop-again c = (
+  omega arith,
+  (
+    c .before .before .loop .inv .1 .0,
+    (omega (arith, c .shared-slice-known2 .given (c .before .before .loop .i)), sum-next _ _ _ _ (c .before .loop-test .taken) (c .before .before .loop .inv .1 .1 .1)),
+  ),
+)
 
 returns : tie.Need-returns Inv-loop μ-loop
 returns c =

@@ -10,7 +10,9 @@ use Rattle.config.proofs.writer_fields.Tie as tie
 
 returns : tie.Need-returns
 returns c =
-    c .part .ensures ∙ no-start (c .before .before .before .before .args .starts .now) (c .before .before .before .before .args .types .now) (c .before .before .before .before .args .k) (c .before .if1 .taken)
+    let at-if1 = c .before in
+    let args = at-if1 .before .before .before .args in
+    c .part .ensures ∙ no-start (args .starts .now) (args .types .now) (args .k) (at-if1 .if1 .taken)
 
 cast-start : tie.Need-cast-start
 cast-start c =
@@ -18,7 +20,10 @@ cast-start c =
 
 returns-2 : tie.Need-returns-2
 returns-2 c =
-    c .part2 .ensures ∙ last-fields (c .before .before .before .before .before .before .args .starts .now) (c .before .before .before .before .before .before .args .types .now) (c .before .before .before .before .before .before .args .k) (c .before .before .before .if1 .left) (c .before .if2 .taken)
+    let at-if2 = c .before in
+    let at-if1 = at-if2 .before .before in
+    let args = at-if1 .before .before .before .args in
+    c .part2 .ensures ∙ last-fields (args .starts .now) (args .types .now) (args .k) (at-if1 .if1 .left) (at-if2 .if2 .taken)
 
 cast-end : tie.Need-cast-end
 cast-end c =
@@ -26,11 +31,18 @@ cast-end c =
 
 returns-3 : tie.Need-returns-3
 returns-3 c =
-    c .part3 .ensures ∙ no-fields (c .before .before .before .before .before .before .before .before .args .starts .now) (c .before .before .before .before .before .before .before .before .args .types .now) (c .before .before .before .before .before .before .before .before .args .k) (c .before .before .before .before .before .if1 .left) (c .before .before .before .if2 .left) (c .before .if3 .taken)
+    let at-if3 = c .before in
+    let at-if2 = at-if3 .before .before in
+    let at-if1 = at-if2 .before .before in
+    let args = at-if1 .before .before .before .args in
+    c .part3 .ensures ∙ no-fields (args .starts .now) (args .types .now) (args .k) (at-if1 .if1 .left) (at-if2 .if2 .left) (at-if3 .if3 .taken)
 
 returns-4 : tie.Need-returns-4
 returns-4 c =
-    c .part4 .ensures ∙ some-fields (c .before .before .before .before .before .before .before .before .args .starts .now) (c .before .before .before .before .before .before .before .before .args .types .now) (c .before .before .before .before .before .before .before .before .args .k) (c .before .before .before .before .before .if1 .left) (c .before .before .before .if2 .left)
+    let at-if2 = c .before .before .before in
+    let at-if1 = at-if2 .before .before in
+    let args = at-if1 .before .before .before .args in
+    c .part4 .ensures ∙ some-fields (args .starts .now) (args .types .now) (args .k) (at-if1 .if1 .left) (at-if2 .if2 .left)
 
 pub writer-fields-spec : {M : Type 1} → statement M
 writer-fields-spec =

@@ -13,7 +13,10 @@ returns c = rw (le-leb _ _ (c .if1 .taken))
 
 returns-2 : tie.Need-returns-2
 returns-2 c =
-    rw (lt-leb _ _ (c .before .before .if1 .left)) (ap not (c .has-writer .ensures ∙ ap (contains (c .before .before .before .before .args .id)) (c .before .first .ensures)))
+    let at-first = c .before in
+    let at-if1 = at-first .before in
+    let args = at-if1 .before .before .args in
+    rw (lt-leb _ _ (at-if1 .if1 .left)) (ap not (c .has-writer .ensures ∙ ap (contains (args .id)) (at-first .first .ensures)))
 
 pub is-new-spec : {M : Type 1} → statement M
 is-new-spec = tie.close (tie.spec returns (λ c κs. search needs) (λ c κs. search needs) returns-2)

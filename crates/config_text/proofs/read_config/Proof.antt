@@ -21,11 +21,27 @@ loop-holds c = held-first (c .before .before .args .s .now) _ (c .empty .ensures
 
 returns : tie.Need-returns Inv-loop μ-loop
 returns c =
-    c .bad-line .ensures ∙ held-refused (c .before .before .before .before .before .before .before .before .before .before .before .args .s .now) (c .before .before .before .before .before .before .before .before .loop .config) (c .before .before .before .before .before .before .before .before .loop .number) (c .before .before .before .before .before .before .before .before .loop .at) (c .before .before .before .before .before .before .before .before .loop .inv) (c .before .before .before .before .before .before .read-line .result) (c .before .before .before .before .before .before .read-line .ensures) (c .before .before .permitted .result) (c .before .before .permitted .ensures) (c .before .before .before .before .before .before .before .loop-test .taken) (c .before .if1 .taken)
+    let at-if1 = c .before in
+    let at-permitted = at-if1 .before in
+    let at-read-line = at-permitted .before .before .before .before in
+    let at-loop-test = at-read-line .before in
+    let at-loop = at-loop-test .before in
+    let args = at-loop .before .before .before .args in
+    c .bad-line .ensures ∙ held-refused (args .s .now) (at-loop .loop .config) (at-loop .loop .number) (at-loop .loop .at)
+    (at-loop .loop .inv) (at-read-line .read-line .result) (at-read-line .read-line .ensures) (at-permitted .permitted .result)
+    (at-permitted .permitted .ensures) (at-loop-test .loop-test .taken) (at-if1 .if1 .taken)
 
 element-write-config : tie.Need-element-write-config Inv-loop μ-loop
 element-write-config c =
-    writer-fits (c .before .before .before .before .before .before .before .before .before .before .before .before .before .args .s .now) (c .before .before .before .before .before .before .before .before .before .before .loop .config) (c .before .before .before .before .before .before .before .before .before .before .loop .number) (c .before .before .before .before .before .before .before .before .before .before .loop .at) (c .before .before .before .before .before .before .before .before .before .before .loop .inv) (c .before .before .before .before .before .before .before .before .read-line .result) (c .before .before .before .before .before .before .before .before .read-line .ensures) (c .before .before .before .before .permitted .result) (c .before .before .before .before .permitted .ensures) (c .before .before .before .if1 .left) (c .before .line .given .0 .0) (c .before .line .given .0 .1 .0) (c .before .line .given .0 .1 .1 .0) (c .before .line .given .1)
+    let at-line = c .before in
+    let at-if1 = at-line .before .before in
+    let at-permitted = at-if1 .before in
+    let at-read-line = at-permitted .before .before .before .before in
+    let at-loop = at-read-line .before .before in
+    let args = at-loop .before .before .before .args in
+    writer-fits (args .s .now) (at-loop .loop .config) (at-loop .loop .number) (at-loop .loop .at) (at-loop .loop .inv)
+    (at-read-line .read-line .result) (at-read-line .read-line .ensures) (at-permitted .permitted .result)
+    (at-permitted .permitted .ensures) (at-if1 .if1 .left) (at-line .line .given .0 .0) (at-line .line .given .0 .1 .0) (at-line .line .given .0 .1 .1 .0) (at-line .line .given .1)
 
 mul-config : tie.Need-mul-config Inv-loop μ-loop
 mul-config c = omega (arith, element-write-config c)
@@ -44,26 +60,71 @@ add-config c = omega (arith, element-write-config c)
 
 element-write-config-4 : tie.Need-element-write-config-4 Inv-loop μ-loop
 element-write-config-4 c =
-    field-fits (c .before .before .before .before .before .before .before .before .before .before .before .before .before .args .s .now) (c .before .before .before .before .before .before .before .before .before .before .loop .config) (c .before .before .before .before .before .before .before .before .before .before .loop .number) (c .before .before .before .before .before .before .before .before .before .before .loop .at) (c .before .before .before .before .before .before .before .before .before .before .loop .inv) (c .before .before .before .before .before .before .before .before .read-line .result) (c .before .before .before .before .before .before .before .before .read-line .ensures) (c .before .before .before .before .permitted .result) (c .before .before .before .before .permitted .ensures) (c .before .before .before .if1 .left) (c .before .line2 .given .0 .0) (c .before .line2 .given .0 .1 .0) (c .before .line2 .given .1)
+    let at-line2 = c .before in
+    let at-if1 = at-line2 .before .before in
+    let at-permitted = at-if1 .before in
+    let at-read-line = at-permitted .before .before .before .before in
+    let at-loop = at-read-line .before .before in
+    let args = at-loop .before .before .before .args in
+    field-fits (args .s .now) (at-loop .loop .config) (at-loop .loop .number) (at-loop .loop .at) (at-loop .loop .inv)
+    (at-read-line .read-line .result) (at-read-line .read-line .ensures) (at-permitted .permitted .result)
+    (at-permitted .permitted .ensures) (at-if1 .if1 .left) (at-line2 .line2 .given .0 .0) (at-line2 .line2 .given .0 .1 .0) (at-line2 .line2 .given .1)
 
 add-config-2 : tie.Need-add-config-2 Inv-loop μ-loop
 add-config-2 c = omega arith
 
 returns-2 : tie.Need-returns-2 Inv-loop μ-loop
 returns-2 c =
-    c .bad-line2 .ensures ∙ held-bad (c .before .before .before .before .before .before .before .before .before .before .before .before .before .args .s .now) (c .before .before .before .before .before .before .before .before .before .before .loop .config) (c .before .before .before .before .before .before .before .before .before .before .loop .number) (c .before .before .before .before .before .before .before .before .before .before .loop .at) (c .before .before .before .before .before .before .before .before .before .before .loop .inv) (c .before .before .before .before .before .before .before .before .read-line .result) (c .before .before .before .before .before .before .before .before .read-line .ensures) (c .before .before .before .before .before .before .before .before .before .loop-test .taken) (c .before .enum-told .given .1)
+    let at-enum-told = c .before in
+    let at-read-line = at-enum-told .before .before .before .before .before .before .before in
+    let at-loop-test = at-read-line .before in
+    let at-loop = at-loop-test .before in
+    let args = at-loop .before .before .before .args in
+    c .bad-line2 .ensures ∙ held-bad (args .s .now) (at-loop .loop .config) (at-loop .loop .number) (at-loop .loop .at)
+    (at-loop .loop .inv) (at-read-line .read-line .result) (at-read-line .read-line .ensures) (at-loop-test .loop-test .taken) (at-enum-told .enum-told .given .1)
 
 loop-less : tie.Need-loop-less Inv-loop μ-loop
 loop-less c =
-    ⊎-elim (λ w. omega (arith, w .4, writer-later (c .before .before .before .before .before .before .before .before .before .before .before .args .s .now) (c .before .before .before .before .before .before .before .before .loop .config) (c .before .before .before .before .before .before .before .before .loop .number) (c .before .before .before .before .before .before .before .before .loop .at) (c .before .before .before .before .before .before .before .before .loop .inv) (c .before .before .before .before .before .before .read-line .result) (c .before .before .before .before .before .before .read-line .ensures) (c .before .before .permitted .result) (c .before .before .permitted .ensures) (c .before .if1 .left) (w .1 .given .0 .0) (w .1 .given .0 .1 .0) (w .1 .given .0 .1 .1 .0) (w .1 .given .1))) (λ w. omega (arith, w .4, field-later (c .before .before .before .before .before .before .before .before .before .before .before .args .s .now) (c .before .before .before .before .before .before .before .before .loop .config) (c .before .before .before .before .before .before .before .before .loop .number) (c .before .before .before .before .before .before .before .before .loop .at) (c .before .before .before .before .before .before .before .before .loop .inv) (c .before .before .before .before .before .before .read-line .result) (c .before .before .before .before .before .before .read-line .ensures) (c .before .before .permitted .result) (c .before .before .permitted .ensures) (c .before .if1 .left) (w .1 .given .0 .0) (w .1 .given .0 .1 .0) (w .1 .given .1))) (c .match .came)
+    let at-if1 = c .before in
+    let at-permitted = at-if1 .before in
+    let at-read-line = at-permitted .before .before .before .before in
+    let at-loop = at-read-line .before .before in
+    let args = at-loop .before .before .before .args in
+    ⊎-elim (λ w. omega (
+      arith,
+      w .4,
+      writer-later (args .s .now) (at-loop .loop .config) (at-loop .loop .number) (at-loop .loop .at) (at-loop .loop .inv)
+          (at-read-line .read-line .result) (at-read-line .read-line .ensures) (at-permitted .permitted .result)
+          (at-permitted .permitted .ensures) (at-if1 .if1 .left) (w .1 .given .0 .0) (w .1 .given .0 .1 .0) (w .1 .given .0 .1 .1 .0) (w .1 .given .1),
+    ))
+    (λ w. omega (
+      arith,
+      w .4,
+      field-later (args .s .now) (at-loop .loop .config) (at-loop .loop .number) (at-loop .loop .at) (at-loop .loop .inv)
+          (at-read-line .read-line .result) (at-read-line .read-line .ensures) (at-permitted .permitted .result)
+          (at-permitted .permitted .ensures) (at-if1 .if1 .left) (w .1 .given .0 .0) (w .1 .given .0 .1 .0) (w .1 .given .1),
+    )) (c .match .came)
 
 loop-again : tie.Need-loop-again Inv-loop μ-loop
 loop-again c =
-    ⊎-elim (λ w. rw (w .3, w .4) (held-writer (c .before .before .before .before .before .before .before .before .before .before .before .args .s .now) (c .before .before .before .before .before .before .before .before .loop .config) (c .before .before .before .before .before .before .before .before .loop .number) (c .before .before .before .before .before .before .before .before .loop .at) (c .before .before .before .before .before .before .before .before .loop .inv) (c .before .before .before .before .before .before .read-line .result) (c .before .before .before .before .before .before .read-line .ensures) (c .before .before .permitted .result) (c .before .before .permitted .ensures) (c .before .if1 .left) (w .1 .given .0 .0) (w .1 .given .0 .1 .0) (w .1 .given .0 .1 .1 .0) (w .1 .given .1))) (λ w. rw (w .3, w .4) (held-field (c .before .before .before .before .before .before .before .before .before .before .before .args .s .now) (c .before .before .before .before .before .before .before .before .loop .config) (c .before .before .before .before .before .before .before .before .loop .number) (c .before .before .before .before .before .before .before .before .loop .at) (c .before .before .before .before .before .before .before .before .loop .inv) (c .before .before .before .before .before .before .read-line .result) (c .before .before .before .before .before .before .read-line .ensures) (c .before .before .permitted .result) (c .before .before .permitted .ensures) (c .before .if1 .left) (w .1 .given .0 .0) (w .1 .given .0 .1 .0) (w .1 .given .1))) (c .match .came)
+    let at-if1 = c .before in
+    let at-permitted = at-if1 .before in
+    let at-read-line = at-permitted .before .before .before .before in
+    let at-loop = at-read-line .before .before in
+    let args = at-loop .before .before .before .args in
+    ⊎-elim (λ w. rw (w .3, w .4)
+    (held-writer (args .s .now) (at-loop .loop .config) (at-loop .loop .number) (at-loop .loop .at) (at-loop .loop .inv)
+    (at-read-line .read-line .result) (at-read-line .read-line .ensures) (at-permitted .permitted .result)
+    (at-permitted .permitted .ensures) (at-if1 .if1 .left) (w .1 .given .0 .0) (w .1 .given .0 .1 .0) (w .1 .given .0 .1 .1 .0) (w .1 .given .1)))
+    (λ w. rw (w .3, w .4) (held-field (args .s .now) (at-loop .loop .config) (at-loop .loop .number) (at-loop .loop .at)
+    (at-loop .loop .inv) (at-read-line .read-line .result) (at-read-line .read-line .ensures) (at-permitted .permitted .result)
+    (at-permitted .permitted .ensures) (at-if1 .if1 .left) (w .1 .given .0 .0) (w .1 .given .0 .1 .0) (w .1 .given .1))) (c .match .came)
 
 returns-3 : tie.Need-returns-3 Inv-loop μ-loop
 returns-3 c =
-    held-last (c .before .before .before .before .args .s .now) (c .before .loop .config) (c .before .loop .number) (c .before .loop .at) (c .before .loop .inv) (c .loop-test .left)
+    let at-loop = c .before in
+    let args = at-loop .before .before .before .args in
+    held-last (args .s .now) (at-loop .loop .config) (at-loop .loop .number) (at-loop .loop .at) (at-loop .loop .inv) (c .loop-test .left)
 
 pub read-config-spec : {M : Type 1} → statement M
 read-config-spec =

@@ -6,7 +6,11 @@ use Rattle.envelope_record.proofs.payload_in.Tie as tie
 -- src/lib.rt:270:1
 returns : tie.Need-returns
 returns c =
-    rw (c .before .before .sizes-in .ensures, c .before .before .before .before .number .ensures, c .before .before .before .number2 .ensures, c .before .number3 .ensures, c .number4 .ensures) refl
+    let at-number3 = c .before in
+    let at-sizes-in = at-number3 .before in
+    let at-number2 = at-sizes-in .before in
+    let at-number = at-number2 .before in
+    rw (at-sizes-in .sizes-in .ensures, at-number .number .ensures, at-number2 .number2 .ensures, at-number3 .number3 .ensures, c .number4 .ensures) refl
 
 pub payload-in-spec : {M : Type 1} → statement M
 payload-in-spec =

@@ -13,7 +13,10 @@ returns c =
 -- src/lib.rt:242:1
 returns-2 : tie.Need-returns-2
 returns-2 c =
-    envelope-put (c .before .before .before .before .before .before .before .before .before .before .args .e) (c .before .before .before .before .before .before .before .before .before .before .args .places) (c .before .before .before .before .before .before .before .before .before .before .args .payload) (now (c .before .before .before .before .before .before .before .before .before .before .args .out)) _ _ (omega arith) (c .before .before .before .before .before .before .put-start .ensures) (c .before .before .put-rest .ensures)
+    let at-put-rest = c .before .before in
+    let at-put-start = at-put-rest .before .before .before .before in
+    let args = at-put-start .before .before .before .before .args in
+    envelope-put (args .e) (args .places) (args .payload) (now (args .out)) _ _ (omega arith) (at-put-start .put-start .ensures) (at-put-rest .put-rest .ensures)
 
 pub put-envelope-spec : {M : Type 1} → statement M
 put-envelope-spec =

@@ -6,7 +6,9 @@ use Rattle.envelope_record.proofs.put_place.Tie as tie
 -- src/lib.rt:320:1
 returns : tie.Need-returns
 returns c =
-    rw (sym (c .before .before .before .before .before .writer-number .ensures)) (c .before .before .put-numbers .ensures)
+    let at-put-numbers = c .before .before in
+    let at-writer-number = at-put-numbers .before .before .before in
+    rw (sym (at-writer-number .writer-number .ensures)) (at-put-numbers .put-numbers .ensures)
 
 pub put-place-spec : {M : Type 1} → statement M
 put-place-spec =

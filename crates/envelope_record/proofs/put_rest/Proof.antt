@@ -7,7 +7,20 @@ use Rattle.envelope_record.proofs.put_rest.Tie as tie
 -- src/lib.rt:215:1
 returns : tie.Need-returns
 returns c =
-    rest-put (c .before .before .before .before .before .before .before .before .before .before .before .before .before .before .args .e) (c .before .before .before .before .before .before .before .before .before .before .before .before .before .before .args .places) (c .before .before .before .before .before .before .before .before .before .before .before .before .before .before .args .payload) (now (c .before .before .before .before .before .before .before .before .before .before .before .before .before .before .args .out)) _ _ _ _ _ _ _ _ _ (c .before .before .before .before .before .before .before .before .before .before .before .before .has-i64 .ensures .0) (c .before .before .before .before .before .before .before .before .before .before .before .value-i64 .ensures) (c .before .before .before .before .before .before .before .before .before .before .has16 .ensures .0) (c .before .before .before .before .before .before .before .before .before .value16 .ensures) (c .before .before .before .before .before .before .before .before .has-promoted .ensures) (c .before .before .before .before .before .before .before .promoted-size .ensures) (c .before .before .before .before .before .before .sizes-code .ensures) (c .before .before .before .before .before .sizes-place .ensures) (c .before .before .put-numbers-from .ensures)
+    let at-put-numbers-from = c .before .before in
+    let at-sizes-place = at-put-numbers-from .before .before .before in
+    let at-sizes-code = at-sizes-place .before in
+    let at-promoted-size = at-sizes-code .before in
+    let at-has-promoted = at-promoted-size .before in
+    let at-value16 = at-has-promoted .before in
+    let at-has16 = at-value16 .before in
+    let at-value-i64 = at-has16 .before in
+    let at-has-i64 = at-value-i64 .before in
+    let args = at-has-i64 .before .before .args in
+    rest-put (args .e) (args .places) (args .payload) (now (args .out)) _ _ _ _ _ _ _ _ _ (at-has-i64 .has-i64 .ensures .0)
+    (at-value-i64 .value-i64 .ensures) (at-has16 .has16 .ensures .0) (at-value16 .value16 .ensures)
+    (at-has-promoted .has-promoted .ensures) (at-promoted-size .promoted-size .ensures) (at-sizes-code .sizes-code .ensures)
+    (at-sizes-place .sizes-place .ensures) (at-put-numbers-from .put-numbers-from .ensures)
 
 pub put-rest-spec : {M : Type 1} → statement M
 put-rest-spec =

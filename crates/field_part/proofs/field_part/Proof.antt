@@ -71,7 +71,8 @@ module _ {M : Type 1} (𝓤 : URA M) (H : Heap 𝓤) (A : Atoms 𝓤) (mem : Mem
   abbrev BytesOf : Contract 𝓤
   BytesOf = tripleOf 𝓤 H A bytes-of.signature (bytes-of.spec 𝓤 H A mem run)
 
-module _ {M : Type 1} (𝓤 : URA M) (H : Heap 𝓤) (A : Atoms 𝓤) (W : Given 𝓤 H A) (mem : Memory → SProp 𝓤) (run : Routine → Fun 𝓤) (κ κ′ : Lft) (q q′ : Share) (s t : RefT (List ℕ)) (k : ℕ) (ok : k < 2 ^ 64) where
+module _ {M : Type 1} (𝓤 : URA M) (H : Heap 𝓤) (A : Atoms 𝓤) (W : Given 𝓤 H A) (mem : Memory → SProp 𝓤) (run : Routine → Fun 𝓤)
+    (κ κ′ : Lft) (q q′ : Share) (s t : RefT (List ℕ)) (k : ℕ) (ok : k < 2 ^ 64) where
   abbrev κs : Lfts 2
   κs = (κ, (κ′, tt))
 
@@ -130,7 +131,8 @@ module _ {M : Type 1} (𝓤 : URA M) (H : Heap 𝓤) (A : Atoms 𝓤) (W : Given
   abbrev to-bytes : Located → BytesOf 𝓤 H A mem run .Ghost
   to-bytes l = (((κ, tt), (q, tt), tt, (s, (l, tt)), (v ∷ [], (L′.lowered l ∷ [], tt))), tt)
 
-  asks-bytes : (l : Located) → ent 𝓤 (⋆ 𝓤 H A ((‵ (flft κ q) ⊛ ‵ ftrue) ∷ ‵ (owns (ShrSlice (named 0) κ u8 ∷ L.the-row ∷ []) (s, (l, tt)) (v ∷ [], (L′.lowered l ∷ [], tt))) ∷ [])) (BytesOf 𝓤 H A mem run .pre (to-bytes l))
+  asks-bytes : (l : Located)
+      → ent 𝓤 (⋆ 𝓤 H A ((‵ (flft κ q) ⊛ ‵ ftrue) ∷ ‵ (owns (ShrSlice (named 0) κ u8 ∷ L.the-row ∷ []) (s, (l, tt)) (v ∷ [], (L′.lowered l ∷ [], tt))) ∷ [])) (BytesOf 𝓤 H A mem run .pre (to-bytes l))
   asks-bytes l = qed W ((‵ (flft κ q) ⊛ ‵ ftrue) ∷ ‵ (owns (ShrSlice (named 0) κ u8 ∷ L.the-row ∷ []) (s, (l, tt)) (v ∷ [], (L′.lowered l ∷ [], tt))) ∷ []) ∵ join ! $ frame ! $ done !
 
   bytes-said : (l : Located) (r : RefT (List ℕ)) → ent 𝓤 (ensured 𝓤 H A bytes-of.ended (bytes-of.clauses 𝓤 H A mem run) (κ, tt) (s, (l, tt)) tt r) (fact 𝓤 (now r ≡ partOf l (now s)))
@@ -140,7 +142,8 @@ module _ {M : Type 1} (𝓤 : URA M) (H : Heap 𝓤) (A : Atoms 𝓤) (W : Given
   made l r = record { number = l .number; place = l .place; bytes = r }
 
   exits : (l : Located) (r : RefT (List ℕ)) → l ≡ found → now r ≡ partOf l (now s) → l .number < 2 ^ 8 → l .place < 2 ^ 64
-      → ent 𝓤 (⋆ 𝓤 H A (‵ (ShrSlice (named 0) κ u8 .own r (sliceVal (r .ptr) (length (r .now)) ∷ [])) ∷ (‵ (flft κ q) ⊛ ‵ ftrue) ∷ (‵ S ⊛ ‵ U) ∷ (‵ (flft κ′ q′) ⊛ ‵ ftrue) ∷ [])) (Post (T′.lowered (made l r)))
+      → ent 𝓤 (⋆ 𝓤 H A (‵ (ShrSlice (named 0) κ u8 .own r (sliceVal (r .ptr) (length (r .now)) ∷ [])) ∷ (‵ (flft κ q) ⊛ ‵ ftrue) ∷ (‵ S ⊛ ‵ U) ∷ (‵ (flft κ′ q′) ⊛ ‵ ftrue) ∷ []))
+      (Post (T′.lowered (made l r)))
   exits l r e e′ fn fp′ =
       qed W (‵ (ShrSlice (named 0) κ u8 .own r (sliceVal (r .ptr) (length (r .now)) ∷ [])) ∷ (‵ (flft κ q) ⊛ ‵ ftrue) ∷ (‵ S ⊛ ‵ U) ∷ (‵ (flft κ′ q′) ⊛ ‵ ftrue) ∷ []) ∵
       suffices ! _ (ends-at 𝓤 H A fp.ended stayed (fp.clauses 𝓤 H A mem run) W ((κs, qs, tt, (s, (t, (k, tt))), at), tt) (T′.lowered (made l r)) (made l r) (tt, (tt, (tt, tt))) (tt, (tt, (tt, tt)))) $
@@ -149,19 +152,24 @@ module _ {M : Type 1} (𝓤 : URA M) (H : Heap 𝓤) (A : Atoms 𝓤) (W : Given
       -- [the bytes; s and t]
       move ! (1 ∷ []) $ split ! $ nothing ! $ owned ! usize (Is usize) (uint-makes 𝓤 H A W w64) k _ (refl, ok) $ fjoin ! $ move ! (2 ∷ 0 ∷ []) $ fjoin ! $ move ! (1 ∷ 0 ∷ []) $ fjoin ! $ frame ! $
       -- [the bytes]: with the numbers' facts, what the struct owns
-      nothing ! $ move ! (1 ∷ 0 ∷ []) $ fjoin ! $ owned ! usize (Is usize) (uint-makes 𝓤 H A W w64) (l .place) _ (refl, fp′) $ fjoin ! $ owned ! u8 (Is u8) (uint-makes 𝓤 H A W w8) (l .number) _ (refl, fn) $ fjoin ! $
+      nothing ! $ move ! (1 ∷ 0 ∷ []) $ fjoin ! $ owned ! usize (Is usize) (uint-makes 𝓤 H A W w64) (l .place) _
+      (refl, fp′) $ fjoin ! $ owned ! u8 (Is u8) (uint-makes 𝓤 H A W w8) (l .number) _ (refl, fn) $ fjoin ! $
       by ! (own-shut 𝓤 H A W (T.the-type α) (T′.the-laws α) (l .number, (l .place, (r, tt))))
 
   module _ (C : Calls 𝓤 H) (Λ : Loops 𝓤 H) (fm : FmC 𝓤 H (W .laws) C) (known-locate : Triple 𝓤 (C #locate) (Locate 𝓤 H A mem run)) (known-bytes : Triple 𝓤 (C #bytes-of) (BytesOf 𝓤 H A mem run)) where
-    walk : Is (ShrSlice (named 0) κ u8) s (v ∷ []) → Is (ShrSlice (named 1) κ′ u8) t (v′ ∷ []) → ent 𝓤 (onEntry 𝓤 H A fp.signature κs qs (s, (t, (k, tt))) at) (WpFn 𝓤 H C Λ code.function (v ∷ v′ ∷ vint w64 k ∷ []) Post)
+    walk : Is (ShrSlice (named 0) κ u8) s (v ∷ []) → Is (ShrSlice (named 1) κ′ u8) t (v′ ∷ [])
+        → ent 𝓤 (onEntry 𝓤 H A fp.signature κs qs (s, (t, (k, tt))) at) (WpFn 𝓤 H C Λ code.function (v ∷ v′ ∷ vint w64 k ∷ []) Post)
     walk is-s is-t =
         qed W (raw (onEntry 𝓤 H A fp.signature κs qs (s, (t, (k, tt))) at) ∷ []) ∵ enter ! C Λ code.function (v ∷ v′ ∷ vint w64 k ∷ []) _ $
         alloc1 ! (λ l₀. alloc1 ! (λ l₁. alloc1 ! (λ l₂. alloc1 ! (λ l₃. alloc1 ! (λ l₄. alloc1 ! (λ l₅. alloc0 ! $ params1 ! $
-        pass1 ! (init ! 8 refl (shr-slice-lawful 𝓤 H A W (named 0) κ u8 .typed s (v ∷ []) is-s .0)) $ pass1 ! (init ! 6 refl (shr-slice-lawful 𝓤 H A W (named 1) κ′ u8 .typed t (v′ ∷ []) is-t .0)) $ pass1 ! (init ! 4 refl (tt, record { fits = ok })) $ pass0 ! $
+        pass1 ! (init ! 8 refl (shr-slice-lawful 𝓤 H A W (named 0) κ u8 .typed s (v ∷ []) is-s .0)) $ pass1 !
+        (init ! 6 refl (shr-slice-lawful 𝓤 H A W (named 1) κ′ u8 .typed t (v′ ∷ []) is-t .0)) $ pass1 ! (init ! 4 refl (tt, record { fits = ok })) $ pass0 ! $
         move ! (12 ∷ []) $ use1 W (raw (Locate 𝓤 H A mem run .pre to-locate) ⊛ (‵ S ⊛ ‵ S ⊛ ‵ U)) goes-locate $ split ! $
         -- [what `locate` asks; s, s and t; room for _5; …; room for _4; …; _3; …; _2; …; _1; …; room for _0; …]
-        calls-at ! fm (Locate 𝓤 H A mem run) known-locate to-locate (and-then ! (load ! (from ! (stop !)) (look ! 10 refl)) (and-then ! (load ! (from ! (stop !)) (look ! 8 refl)) (and-then ! (load ! (from ! (stop !)) (look ! 6 refl)) (no-more !)))) (λ u.
-        use1 W (later (some (λ (l : Located). ((‵ (flft κ q) ⊛ ‵ (flft κ′ q′) ⊛ ‵ ftrue) ⊛ ‵ (L.the-row .own l (u ∷ []))) ⊛ raw (ensured 𝓤 H A locate.ended (locate.clauses 𝓤 H A mem run) κs (s, (t, (k, tt))) tt l)))) (id⊢ 𝓤 _) $ await ! tt $ pick ! (λ l.
+        calls-at ! fm (Locate 𝓤 H A mem run) known-locate to-locate
+        (and-then ! (load ! (from ! (stop !)) (look ! 10 refl)) (and-then ! (load ! (from ! (stop !)) (look ! 8 refl)) (and-then ! (load ! (from ! (stop !)) (look ! 6 refl)) (no-more !)))) (λ u.
+        use1 W (later (some (λ (l : Located). ((‵ (flft κ q) ⊛ ‵ (flft κ′ q′) ⊛ ‵ ftrue) ⊛ ‵ (L.the-row .own l (u ∷ []))) ⊛ raw
+        (ensured 𝓤 H A locate.ended (locate.clauses 𝓤 H A mem run) κs (s, (t, (k, tt))) tt l)))) (id⊢ 𝓤 _) $ await ! tt $ pick ! (λ l.
         split ! $ move ! (1 ∷ []) $ use1 W (raw (fact 𝓤 (l ≡ found))) (locate-said l) $ heard ! (l ≡ found) (λ e. split ! $ move ! (1 ∷ []) $
         -- [what is located; the tokens; s, s and t; room for _5; …; room for _4; …]
         peeks ! L.the-row (Is L.the-row) (shows 𝓤 H A L.the-row) l (u ∷ []) (λ is.
@@ -172,18 +180,31 @@ module _ {M : Type 1} (𝓤 : URA M) (H : Heap 𝓤) (A : Atoms 𝓤) (W : Given
         -- [s; s and t; the first token; the other; what is located]
         nothing ! $ move ! (5 ∷ 0 ∷ []) $ fjoin ! $ move ! (1 ∷ 0 ∷ []) $ fjoin ! $ nothing ! $ move ! (3 ∷ 0 ∷ []) $ join ! $ use2 W (raw (BytesOf 𝓤 H A mem run .pre (to-bytes l))) (asks-bytes l) $
         -- [what `bytes_of` asks; s and t; the other token; room for _5; …; _4; …; _3; …; _2; …; _1; …]
-        calls-at ! fm (BytesOf 𝓤 H A mem run) known-bytes (to-bytes l) (and-then ! (load ! (from ! (stop !)) (look ! 11 refl)) (and-then ! (load ! (from ! (stop !)) (look ! 5 refl)) (no-more !))) (λ w.
-        use1 W (later (some (λ (r : RefT (List ℕ)). ((‵ (flft κ q) ⊛ ‵ ftrue) ⊛ ‵ (ShrSlice (named 0) κ u8 .own r (w ∷ []))) ⊛ raw (ensured 𝓤 H A bytes-of.ended (bytes-of.clauses 𝓤 H A mem run) (κ, tt) (s, (l, tt)) tt r)))) (id⊢ 𝓤 _) $ await ! tt $ pick ! (λ r.
+        calls-at ! fm (BytesOf 𝓤 H A mem run) known-bytes (to-bytes l)
+        (and-then ! (load ! (from ! (stop !)) (look ! 11 refl)) (and-then ! (load ! (from ! (stop !)) (look ! 5 refl)) (no-more !))) (λ w.
+        use1 W (later (some (λ (r : RefT (List ℕ)). ((‵ (flft κ q) ⊛ ‵ ftrue) ⊛ ‵ (ShrSlice (named 0) κ u8 .own r (w ∷ []))) ⊛ raw
+        (ensured 𝓤 H A bytes-of.ended (bytes-of.clauses 𝓤 H A mem run) (κ, tt) (s, (l, tt)) tt r)))) (id⊢ 𝓤 _) $ await ! tt $ pick ! (λ r.
         split ! $ move ! (1 ∷ []) $ use1 W (raw (fact 𝓤 (now r ≡ partOf l (now s)))) (bytes-said l r) $ heard ! (now r ≡ partOf l (now s)) (λ e′. split ! $ move ! (1 ∷ []) $
         -- [the bytes; the first token; s and t; the other token; room for _5; …; _4; …]
         peeks ! (ShrSlice (named 0) κ u8) (Is (ShrSlice (named 0) κ u8)) (shows 𝓤 H A (ShrSlice (named 0) κ u8)) r (w ∷ []) (λ is′.
         land ! (from ! (stop !)) (init ! 4 refl (shr-slice-lawful 𝓤 H A W erased κ u8 .typed r (w ∷ []) is′ .0)) $
         rewrite ! 4 (λ (x : Val). ‵ (fat fullShare (sliceTy (tyRef erased imm (tyInt w8))) l₅ 0 x)) (ap only (shr-slice-tells (named 0) κ u8 r (w ∷ []) is′)) refl $
         rewrite ! 0 (λ (x : Val). ‵ (ShrSlice (named 0) κ u8 .own r (x ∷ []))) (ap only (shr-slice-tells (named 0) κ u8 r (w ∷ []) is′)) refl $
-        assigns ! (agg ! (and-then ! (load ! (from ! (fld ! refl (stop !))) (look-in ! 6 (sub ! 0 refl (whole !)))) (and-then ! (load ! (from ! (fld ! refl (stop !))) (look-in ! 6 (sub ! 1 refl (whole !)))) (and-then ! (load ! (from ! (stop !)) (look ! 4 refl)) (no-more !))))) (from ! (stop !))
-        (init ! 14 refl (tt, (record { fits = LL.owed L.the-type L′.the-laws l _ is .0 .1 }, (record { fits = LL.owed L.the-type L′.the-laws l _ is .1 .0 .1 }, (subst WT (ap only (shr-slice-tells (named 0) κ u8 r (w ∷ []) is′)) (shr-slice-lawful 𝓤 H A W (named 0) κ u8 .typed r (w ∷ []) is′ .0 .1), tt))))) $
+        assigns ! (agg ! (and-then ! (load ! (from ! (fld ! refl (stop !))) (look-in ! 6 (sub ! 0 refl (whole !))))
+        (and-then ! (load ! (from ! (fld ! refl (stop !))) (look-in ! 6 (sub ! 1 refl (whole !)))) (and-then ! (load ! (from ! (stop !)) (look ! 4 refl)) (no-more !))))) (from ! (stop !))
+        (init ! 14 refl (
+          tt,
+          (
+            record { fits = LL.owed L.the-type L′.the-laws l _ is .0 .1 },
+            (
+              record { fits = LL.owed L.the-type L′.the-laws l _ is .1 .0 .1 },
+              (subst WT (ap only (shr-slice-tells (named 0) κ u8 r (w ∷ []) is′)) (shr-slice-lawful 𝓤 H A W (named 0) κ u8 .typed r (w ∷ []) is′ .0 .1), tt),
+            ),
+          ),
+        )) $
         returns ! (look ! 14 refl) $ forget ! 4 refl $ forget ! 6 refl $ forget ! 8 refl $ forget ! 10 refl $ forget ! 12 refl $ forget ! 14 refl $
-        move ! (14 ∷ 15 ∷ []) $ free1 ! $ move ! (12 ∷ 13 ∷ []) $ free1 ! $ move ! (10 ∷ 11 ∷ []) $ free1 ! $ move ! (8 ∷ 9 ∷ []) $ free1 ! $ move ! (6 ∷ 7 ∷ []) $ free1 ! $ move ! (4 ∷ 5 ∷ []) $ free1 ! $ free0 ! $
+        move ! (14 ∷ 15 ∷ []) $ free1 ! $ move ! (12 ∷ 13 ∷ []) $ free1 ! $ move ! (10 ∷ 11 ∷ []) $ free1 ! $ move !
+        (8 ∷ 9 ∷ []) $ free1 ! $ move ! (6 ∷ 7 ∷ []) $ free1 ! $ move ! (4 ∷ 5 ∷ []) $ free1 ! $ free0 ! $
         by ! (exits l r e e′ (LL.owed L.the-type L′.the-laws l _ is .0 .1) (LL.owed L.the-type L′.the-laws l _ is .1 .0 .1))))))))))))))))
 
 module _ {M : Type 1} (𝓤 : URA M) (H : Heap 𝓤) (A : Atoms 𝓤) (W : Given 𝓤 H A) (mem : Memory → SProp 𝓤) (run : Routine → Fun 𝓤) where
@@ -191,13 +212,15 @@ module _ {M : Type 1} (𝓤 : URA M) (H : Heap 𝓤) (A : Atoms 𝓤) (W : Given
       → Walks 𝓤 H A fp.ended stayed (WpFn 𝓤 H C Λ code.function) (fp.clauses 𝓤 H A mem run)
   walks C Λ fm known-locate known-bytes = walked 𝓤 H A fp.ended stayed (fp.clauses 𝓤 H A mem run) (WpFn 𝓤 H C Λ code.function) (λ κs. (slice-vals, (slice-vals, (uint-vals w64, tt))))
       (λ κs. (shr-slice-tells (named 0) (κs .0) u8, (shr-slice-tells (named 1) (κs .1 .0) u8, (uint-tells w64, tt))))
-      (λ κs qs bounds a g are. via 𝓤 _ (fst∗ 𝓤 _ (emp 𝓤)) (walk 𝓤 H A W mem run (κs .0) (κs .1 .0) (qs .0) (qs .1 .0) (a .0) (a .1 .0) (a .1 .1 .0) (are .1 .1 .0 .1) C Λ fm known-locate known-bytes (are .0) (are .1 .0)))
+      (λ κs qs bounds a g are. via 𝓤 _ (fst∗ 𝓤 _ (emp 𝓤))
+      (walk 𝓤 H A W mem run (κs .0) (κs .1 .0) (qs .0) (qs .1 .0) (a .0) (a .1 .0) (a .1 .1 .0) (are .1 .1 .0 .1) C Λ fm known-locate known-bytes (are .0) (are .1 .0)))
 
 meets : {M : Type 1} (𝓤 : URA M) (H : Heap 𝓤) (A : Atoms 𝓤) (W : Given 𝓤 H A) (mem : Memory → SProp 𝓤) (run : Routine → Fun 𝓤) (𝓣 : Tables 𝓤 H)
     → Triple 𝓤 (𝓣 .C #locate) (Locate 𝓤 H A mem run) → Triple 𝓤 (𝓣 .C #bytes-of) (BytesOf 𝓤 H A mem run)
     → Meets 𝓤 H A fp.signature (WpFn 𝓤 H (𝓣 .C) (𝓣 .Λ) code.function) (fp.spec 𝓤 H A mem run)
 meets 𝓤 H A W mem run 𝓣 known-locate known-bytes =
-    walk-meets 𝓤 H A fp.ended stayed W (goes-none-slice 𝓤 H A W 2 (0 ∷ []) tt (plain (λ _. u8)) yes, (goes-none-slice 𝓤 H A W 2 (1 ∷ []) tt (plain (λ _. u8)) yes, (goes-none 𝓤 H A W 2 (λ _. usize) yes (λ κs x f. refl), tt)))
+    walk-meets 𝓤 H A fp.ended stayed W
+    (goes-none-slice 𝓤 H A W 2 (0 ∷ []) tt (plain (λ _. u8)) yes, (goes-none-slice 𝓤 H A W 2 (1 ∷ []) tt (plain (λ _. u8)) yes, (goes-none 𝓤 H A W 2 (λ _. usize) yes (λ κs x f. refl), tt)))
     (fp.clauses 𝓤 H A mem run) (WpFn 𝓤 H (𝓣 .C) (𝓣 .Λ) code.function) (WpFn-mono 𝓤 H (W .laws) 𝓣 code.function)
     (walks 𝓤 H A W mem run (𝓣 .C) (𝓣 .Λ) (fmOf 𝓤 H (W .laws) 𝓣) known-locate known-bytes)
 

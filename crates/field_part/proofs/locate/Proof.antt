@@ -22,11 +22,17 @@ enum-known-f c = search needs
 
 -- src/lib.rt:25:1
 returns : tie.Need-returns
-returns c = rw (sym (told answerField (c .before .before .before .field-place .ensures) (c .before .number .given .1))) refl
+returns c =
+    let at-number = c .before in
+    let at-field-place = at-number .before .before in
+    rw (sym (told answerField (at-field-place .field-place .ensures) (at-number .number .given .1))) refl
 
 -- src/lib.rt:25:1
 returns-2 : tie.Need-returns-2
-returns-2 c = rw (sym (told answerField (c .before .before .before .field-place .ensures) (c .before .f .given .1))) refl
+returns-2 c =
+    let at-f = c .before in
+    let at-field-place = at-f .before .before in
+    rw (sym (told answerField (at-field-place .field-place .ensures) (at-f .f .given .1))) refl
 
 pub locate-spec : {M : Type 1} → statement M
 locate-spec =

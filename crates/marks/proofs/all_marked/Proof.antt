@@ -23,22 +23,31 @@ loop-holds c = (omega arith, λ k h. absurd (omega arith))
 
 is-marked-requires : tie.Need-is-marked-requires Inv-loop μ-loop
 is-marked-requires c κs =
-    let a = c .before .before .before .args in marks-room inUse (a .n) (c .before .loop .i) (now (a .marks)) (omega arith) (omega arith)
+    let at-loop = c .before in
+    let args = at-loop .before .before .args in
+    let a = args in marks-room inUse (a .n) (at-loop .loop .i) (now (a .marks)) (omega arith) (omega arith)
 
 returns : tie.Need-returns Inv-loop μ-loop
 returns c =
-    let a = c .before .before .before .before .before .args in
-    sym (all-marked-no inUse (a .n) (now (a .marks)) (c .before .before .before .loop .i) (omega arith) (sym (c .before .is-marked .ensures) ∙ not-true _ (c .if1 .taken)))
+    let at-is-marked = c .before in
+    let at-loop = at-is-marked .before .before in
+    let args = at-loop .before .before .args in
+    let a = args in
+    sym (all-marked-no inUse (a .n) (now (a .marks)) (at-loop .loop .i) (omega arith) (sym (at-is-marked .is-marked .ensures) ∙ not-true _ (c .if1 .taken)))
 
 loop-again : tie.Need-loop-again Inv-loop μ-loop
 loop-again c =
-    let l = c .before .before .before .loop in
-    (omega arith, below-more _ (l .i) (l .inv .1) (sym (c .before .is-marked .ensures) ∙ not-false _ (c .if1 .left)))
+    let at-is-marked = c .before in
+    let at-loop = at-is-marked .before .before in
+    let l = at-loop .loop in
+    (omega arith, below-more _ (l .i) (l .inv .1) (sym (at-is-marked .is-marked .ensures) ∙ not-false _ (c .if1 .left)))
 
 returns-2 : tie.Need-returns-2 Inv-loop μ-loop
 returns-2 c =
-    let a = c .before .before .before .args in
-    sym (all-marked-yes inUse (a .n) (now (a .marks)) (λ k h. c .before .loop .inv .1 k (omega arith)))
+    let at-loop = c .before in
+    let args = at-loop .before .before .args in
+    let a = args in
+    sym (all-marked-yes inUse (a .n) (now (a .marks)) (λ k h. at-loop .loop .inv .1 k (omega arith)))
 
 pub all-marked-spec : {M : Type 1} → statement M
 all-marked-spec =

@@ -14,11 +14,14 @@ slice-read-choose c = c .before .before .pre
 
 slice-write-marks : tie.Need-slice-write-marks
 unfolding capacity
-slice-write-marks c = c .before .before .before .pre
+slice-write-marks c =
+    let at-pre = c .before .before .before in
+    at-pre .pre
 
 returns : tie.Need-returns
 returns c =
-    let a = c .before .before .before .args in ap (set (now (a .marks)) (a .i)) (c .choose .ensures) ∙ mark-chosen (a .on) (a .i) (now (a .marks))
+    let args = c .before .before .before .args in
+    let a = args in ap (set (now (a .marks)) (a .i)) (c .choose .ensures) ∙ mark-chosen (a .on) (a .i) (now (a .marks))
 
 pub mark-if-spec : {M : Type 1} → statement M
 mark-if-spec =

@@ -24,20 +24,28 @@ loop-holds c = (omega arith, refl, refl)
 
 is-marked-requires : tie.Need-is-marked-requires Inv-loop μ-loop
 is-marked-requires c κs =
-    let a = c .before .before .before .before .before .args in marks-room inUse (a .n) (c .before .before .loop .i) (now (a .other)) (omega arith) (omega arith)
+    let at-loop = c .before .before in
+    let args = at-loop .before .before .before .args in
+    let a = args in marks-room inUse (a .n) (at-loop .loop .i) (now (a .other)) (omega arith) (omega arith)
 
 mark-if-requires : tie.Need-mark-if-requires Inv-loop μ-loop
 mark-if-requires c κs =
-    let a = c .before .before .before .before .before .before .args in let l = c .before .before .before .loop in marks-room inUse (a .n) (l .i) (l .marks) (omega arith) (omega arith)
+    let at-loop = c .before .before .before in
+    let args = at-loop .before .before .before .args in
+    let a = args in let l = at-loop .loop in marks-room inUse (a .n) (l .i) (l .marks) (omega arith) (omega arith)
 
 loop-again : tie.Need-loop-again Inv-loop μ-loop
 loop-again c =
-    let a = c .before .before .before .before .before .before .before .before .before .args in
-    let l = c .before .before .before .before .before .before .loop in
+    let at-mark-if = c .before .before in
+    let at-is-marked = at-mark-if .before in
+    let at-loop = at-is-marked .before .before .before in
+    let args = at-loop .before .before .before .args in
+    let a = args in
+    let l = at-loop .loop in
     let o = now (a .other) in (
       omega arith,
       search needs,
-      c .before .before .mark-if .ensures ∙ ap₂ (λ (b : Bool) (m : List ℕ). markIf inUse b (l .i) m) (c .before .before .before .is-marked .ensures) (l .inv .2)
+      at-mark-if .mark-if .ensures ∙ ap₂ (λ (b : Bool) (m : List ℕ). markIf inUse b (l .i) m) (at-is-marked .is-marked .ensures) (l .inv .2)
           ∙ sym (marks-step inUse (l .i) (marked inUse o (l .i)) (markedBelow inUse (a .n) o) (now (a .marks)) (marked-is inUse (a .n) o (l .i) (omega arith))),
     )
 
@@ -46,9 +54,12 @@ same-length c = c .before .loop .inv .1
 
 returns : tie.Need-returns Inv-loop μ-loop
 returns c =
-    let a = c .before .before .before .before .args in
-    let l = c .before .loop in
-    l .inv .2 ∙ marks-end inUse (a .n) (l .i) (markedBelow inUse (a .n) (now (a .other))) (now (a .marks)) (omega arith) (omega arith) (λ i h. marked-past inUse (a .n) (now (a .other)) i (omega arith))
+    let at-loop = c .before in
+    let args = at-loop .before .before .before .args in
+    let a = args in
+    let l = at-loop .loop in
+    l .inv .2 ∙ marks-end inUse (a .n) (l .i) (markedBelow inUse (a .n) (now (a .other))) (now (a .marks)) (omega arith) (omega arith)
+    (λ i h. marked-past inUse (a .n) (now (a .other)) i (omega arith))
 
 pub mark-marked-spec : {M : Type 1} → statement M
 mark-marked-spec =

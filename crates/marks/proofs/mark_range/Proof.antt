@@ -25,16 +25,21 @@ loop-holds c =
 
 mark-if-requires : tie.Need-mark-if-requires Inv-loop μ-loop
 mark-if-requires c κs =
-    let a = c .before .before .before .before .args in let l = c .before .before .loop in marks-room inUse (a .end) (l .i) (l .marks) (omega arith) (omega arith)
+    let at-loop = c .before .before in
+    let args = at-loop .before .before .args in
+    let a = args in let l = at-loop .loop in marks-room inUse (a .end) (l .i) (l .marks) (omega arith) (omega arith)
 
 loop-again : tie.Need-loop-again Inv-loop μ-loop
 loop-again c =
-    let a = c .before .before .before .before .before .before .before .args in
-    let l = c .before .before .before .before .before .loop in (
+    let at-mark-if = c .before .before in
+    let at-loop = at-mark-if .before .before .before in
+    let args = at-loop .before .before .args in
+    let a = args in
+    let l = at-loop .loop in (
       omega arith,
       omega arith,
       search needs,
-      c .before .before .mark-if .ensures ∙ ap (markIf inUse true (l .i)) (l .inv .3)
+      at-mark-if .mark-if .ensures ∙ ap (markIf inUse true (l .i)) (l .inv .3)
           ∙ sym (marks-step inUse (l .i) true (inRange (a .start) (a .end)) (now (a .marks)) (range-in (a .start) (a .end) (l .i) (omega arith) (omega arith))),
     )
 
@@ -43,8 +48,10 @@ same-length c = c .before .loop .inv .2
 
 returns : tie.Need-returns Inv-loop μ-loop
 returns c =
-    let a = c .before .before .before .args in
-    let l = c .before .loop in
+    let at-loop = c .before in
+    let args = at-loop .before .before .args in
+    let a = args in
+    let l = at-loop .loop in
     l .inv .3 ∙ marks-end inUse (a .end) (l .i) (inRange (a .start) (a .end)) (now (a .marks)) (omega arith) (omega arith) (λ i h. range-above (a .start) (a .end) i (omega arith))
 
 pub mark-range-spec : {M : Type 1} → statement M

@@ -7,7 +7,11 @@ use Rattle.partial_record.proofs.message_in.Tie as tie
 -- src/lib.rt:46:1
 returns : tie.Need-returns
 returns c =
-    message-taken (now (c .before .before .before .before .before .args .s)) _ _ _ _ (c .before .before .before .publisher-in .ensures) (c .before .before .number .ensures) (c .before .number2 .ensures) (c .number3 .ensures)
+    let at-number2 = c .before in
+    let at-number = at-number2 .before in
+    let at-publisher-in = at-number .before in
+    let args = at-publisher-in .before .before .args in
+    message-taken (now (args .s)) _ _ _ _ (at-publisher-in .publisher-in .ensures) (at-number .number .ensures) (at-number2 .number2 .ensures) (c .number3 .ensures)
 
 pub message-in-spec : {M : Type 1} → statement M
 message-in-spec =

@@ -7,7 +7,12 @@ use Rattle.partial_record.proofs.publisher_in.Tie as tie
 -- src/lib.rt:37:1
 returns : tie.Need-returns
 returns c =
-    publisher-taken (now (c .before .before .before .before .before .before .before .before .args .s)) _ _ _ _ _ (c .before .before .before .before .before .part .ensures) (c .before .before .before .before .put-run .ensures) (c .before .before .number .ensures) (c .before .number2 .ensures) (c .publisher-by .ensures)
+    let at-number2 = c .before in
+    let at-number = at-number2 .before in
+    let at-put-run = at-number .before .before in
+    let at-part = at-put-run .before in
+    let args = at-part .before .before .before .args in
+    publisher-taken (now (args .s)) _ _ _ _ _ (at-part .part .ensures) (at-put-run .put-run .ensures) (at-number .number .ensures) (at-number2 .number2 .ensures) (c .publisher-by .ensures)
 
 pub publisher-in-spec : {M : Type 1} → statement M
 publisher-in-spec =

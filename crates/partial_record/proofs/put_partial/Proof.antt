@@ -13,7 +13,15 @@ returns c =
 -- src/lib.rt:96:1
 returns-2 : tie.Need-returns-2
 returns-2 c =
-    partial-put (c .before .before .before .before .before .before .before .before .before .before .before .before .before .before .before .before .before .before .before .before .args .rec) (now (c .before .before .before .before .before .before .before .before .before .before .before .before .before .before .before .before .before .before .before .before .args .out)) _ _ _ _ _ (search needs) (omega (arith, c .before .before .before .before .before .before .before .before .before .before .before .before .before .before .before .before .before .before .if1 .left)) (c .before .before .before .before .before .before .before .before .before .before .before .before .before .before .flag-number .ensures .0) (c .before .before .before .before .before .before .before .before .before .before .before .before .before .code .ensures) (c .before .before .before .before .before .before .before .before .before .before .before .before .publisher-number .ensures) (c .before .before .before .before .before .before .before .put-numbers .ensures) (c .before .before .put-run .ensures)
+    let at-put-run = c .before .before in
+    let at-put-numbers = at-put-run .before .before .before .before .before in
+    let at-publisher-number = at-put-numbers .before .before .before .before .before in
+    let at-code = at-publisher-number .before in
+    let at-flag-number = at-code .before in
+    let at-if1 = at-flag-number .before .before .before .before in
+    let args = at-if1 .before .before .args in
+    partial-put (args .rec) (now (args .out)) _ _ _ _ _ (search needs) (omega (arith, at-if1 .if1 .left))
+    (at-flag-number .flag-number .ensures .0) (at-code .code .ensures) (at-publisher-number .publisher-number .ensures) (at-put-numbers .put-numbers .ensures) (at-put-run .put-run .ensures)
 
 pub put-partial-spec : {M : Type 1} → statement M
 put-partial-spec =

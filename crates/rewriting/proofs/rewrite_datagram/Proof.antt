@@ -11,15 +11,32 @@ use Rattle.rewriting.proofs.rewrite_datagram.Tie as tie
 
 returns : tie.Need-returns
 returns c =
-    datagram-said (now (c .before .before .before .before .before .before .before .args .sizes)) (now (c .before .before .before .before .before .before .before .args .s)) (now (c .before .before .before .before .before .before .before .args .out)) _ _ (bytes (now (c .before .before .before .before .before .before .before .args .s)) (c .before .before .before .before .before .shared-slice-known .given)) (rw (sym (told answerNetworkMessage (c .before .before .before .read .ensures) (c .before .n .given .1))) (refl, refl))
+    let at-n = c .before in
+    let at-read = at-n .before .before in
+    let at-shared-slice-known = at-read .before .before in
+    let args = at-shared-slice-known .before .before .args in
+    datagram-said (now (args .sizes)) (now (args .s)) (now (args .out)) _ _
+    (bytes (now (args .s)) (at-shared-slice-known .shared-slice-known .given)) (rw (sym (told answerNetworkMessage (at-read .read .ensures) (at-n .n .given .1))) (refl, refl))
 
 returns-2 : tie.Need-returns-2
 returns-2 c =
-    datagram-said (now (c .before .before .before .before .before .before .before .before .before .before .before .before .before .args .sizes)) (now (c .before .before .before .before .before .before .before .before .before .before .before .before .before .args .s)) (now (c .before .before .before .before .before .before .before .before .before .before .before .before .before .args .out)) _ _ (bytes (now (c .before .before .before .before .before .before .before .before .before .before .before .before .before .args .s)) (c .before .before .before .before .before .before .before .before .before .before .before .shared-slice-known .given)) (search needs)
+    let at-shared-slice-known = c .before .before .before .before .before .before .before .before .before .before .before in
+    let args = at-shared-slice-known .before .before .args in
+    datagram-said (now (args .sizes)) (now (args .s)) (now (args .out)) _ _ (bytes (now (args .s)) (at-shared-slice-known .shared-slice-known .given)) (search needs)
 
 returns-3 : tie.Need-returns-3
 returns-3 c =
-    datagram-said (now (c .before .before .before .before .before .before .before .before .before .before .before .before .args .sizes)) (now (c .before .before .before .before .before .before .before .before .before .before .before .before .args .s)) (now (c .before .before .before .before .before .before .before .before .before .before .before .before .args .out)) _ _ (bytes (now (c .before .before .before .before .before .before .before .before .before .before .before .before .args .s)) (c .before .before .before .before .before .before .before .before .before .before .shared-slice-known .given)) (datagram-copied (now (c .before .before .before .before .before .before .before .before .before .before .before .before .args .sizes)) (now (c .before .before .before .before .before .before .before .before .before .before .before .before .args .s)) (now (c .before .before .before .before .before .before .before .before .before .before .before .before .args .out)) _ _ _ _ (bytes (now (c .before .before .before .before .before .before .before .before .before .before .before .before .args .s)) (c .before .before .before .before .before .before .before .before .before .before .shared-slice-known .given)) (sym (told answerNetworkMessage (c .before .before .before .before .before .before .before .before .read .ensures) (c .before .before .before .before .before .before .x .given .1))) (publisher-on (c .before .before .before .before .before .before .x .given .0 .0 .publisher) (c .before .before .before .before .match2 .keys2)) (c .before .before .copy-whole .ensures))
+    let at-copy-whole = c .before .before in
+    let at-match2 = at-copy-whole .before .before in
+    let at-x = at-match2 .before .before in
+    let at-read = at-x .before .before in
+    let at-shared-slice-known = at-read .before .before in
+    let args = at-shared-slice-known .before .before .args in
+    datagram-said (now (args .sizes)) (now (args .s)) (now (args .out)) _ _
+    (bytes (now (args .s)) (at-shared-slice-known .shared-slice-known .given))
+    (datagram-copied (now (args .sizes)) (now (args .s)) (now (args .out)) _ _ _ _
+    (bytes (now (args .s)) (at-shared-slice-known .shared-slice-known .given))
+    (sym (told answerNetworkMessage (at-read .read .ensures) (at-x .x .given .1))) (publisher-on (at-x .x .given .0 .0 .publisher) (at-match2 .match2 .keys2)) (at-copy-whole .copy-whole .ensures))
 
 pub rewrite-datagram-spec : {M : Type 1} → statement M
 rewrite-datagram-spec =

@@ -11,15 +11,25 @@ use Rattle.rewriting.proofs.rewrite_message.Tie as tie
 
 returns : tie.Need-returns
 returns c =
-    message-invalid (now (c .before .before .before .before .before .before .args .types)) (now (c .before .before .before .before .before .before .args .message)) (now (c .before .before .before .before .before .before .args .out)) _ (sym (told answerMessage (c .before .before .read .ensures) (c .enum-told .given .1)))
+    let at-read = c .before .before in
+    let args = at-read .before .before .before .before .args in
+    message-invalid (now (args .types)) (now (args .message)) (now (args .out)) _ (sym (told answerMessage (at-read .read .ensures) (c .enum-told .given .1)))
 
 returns-2 : tie.Need-returns-2
 returns-2 c =
-    message-refused (now (c .before .before .before .before .before .before .before .args .types)) (now (c .before .before .before .before .before .before .before .args .message)) (now (c .before .before .before .before .before .before .before .args .out)) _ _ (sym (told answerMessage (c .before .before .before .read .ensures) (c .before .n .given .1)))
+    let at-n = c .before in
+    let at-read = at-n .before .before in
+    let args = at-read .before .before .before .before .args in
+    message-refused (now (args .types)) (now (args .message)) (now (args .out)) _ _ (sym (told answerMessage (at-read .read .ensures) (at-n .n .given .1)))
 
 returns-3 : tie.Need-returns-3
 returns-3 c =
-    message-copied (now (c .before .before .before .before .before .before .before .before .before .before .args .types)) (now (c .before .before .before .before .before .before .before .before .before .before .args .message)) (now (c .before .before .before .before .before .before .before .before .before .before .args .out)) _ _ _ _ (sym (told answerMessage (c .before .before .before .before .before .before .read .ensures) (c .before .before .before .before .enum-told2 .given .1))) (c .before .before .copy-whole .ensures)
+    let at-copy-whole = c .before .before in
+    let at-enum-told2 = at-copy-whole .before .before in
+    let at-read = at-enum-told2 .before .before in
+    let args = at-read .before .before .before .before .args in
+    message-copied (now (args .types)) (now (args .message)) (now (args .out)) _ _ _ _
+    (sym (told answerMessage (at-read .read .ensures) (at-enum-told2 .enum-told2 .given .1))) (at-copy-whole .copy-whole .ensures)
 
 pub rewrite-message-spec : {M : Type 1} → statement M
 rewrite-message-spec =

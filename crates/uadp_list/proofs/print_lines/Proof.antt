@@ -21,7 +21,21 @@ loop-holds c = tt
 
 loop-less : tie.Need-loop-less Inv-loop μ-loop
 loop-less c =
-    omega (arith, ap length (sym (step-lists (writers (now (c .before .before .before .before .before .before .before .before .before .before .before .before .args .ids)) (now (c .before .before .before .before .before .before .before .before .before .before .before .before .args .sizes)) (now (c .before .before .before .before .before .before .before .before .before .before .before .before .args .starts)) (now (c .before .before .before .before .before .before .before .before .before .before .before .before .args .types))) (now (c .before .before .before .before .before .before .before .before .before .before .before .before .args .s)) (c .before .before .before .before .before .loop .cursor)) ∙ ap (stepLines (writers (now (c .before .before .before .before .before .before .before .before .before .before .before .before .args .ids)) (now (c .before .before .before .before .before .before .before .before .before .before .before .before .args .sizes)) (now (c .before .before .before .before .before .before .before .before .before .before .before .before .args .starts)) (now (c .before .before .before .before .before .before .before .before .before .before .before .before .args .types))) (now (c .before .before .before .before .before .before .before .before .before .before .before .before .args .s))) (sym (c .before .before .before .before .next-line .ensures) ∙ c .before .before .line .given .1)))
+    omega (
+      arith,
+      ap length (sym
+          (step-lists (writers (now (c .before .before .before .before .before .before .before .before .before .before .before .before .args .ids))
+          (now (c .before .before .before .before .before .before .before .before .before .before .before .before .args .sizes))
+          (now (c .before .before .before .before .before .before .before .before .before .before .before .before .args .starts))
+          (now (c .before .before .before .before .before .before .before .before .before .before .before .before .args .types)))
+          (now (c .before .before .before .before .before .before .before .before .before .before .before .before .args .s)) (c .before .before .before .before .before .loop .cursor))
+          ∙ ap (stepLines (writers (now (c .before .before .before .before .before .before .before .before .before .before .before .before .args .ids))
+          (now (c .before .before .before .before .before .before .before .before .before .before .before .before .args .sizes))
+          (now (c .before .before .before .before .before .before .before .before .before .before .before .before .args .starts))
+          (now (c .before .before .before .before .before .before .before .before .before .before .before .before .args .types)))
+          (now (c .before .before .before .before .before .before .before .before .before .before .before .before .args .s)))
+          (sym (c .before .before .before .before .next-line .ensures) ∙ c .before .before .line .given .1)),
+    )
 
 loop-again : tie.Need-loop-again Inv-loop μ-loop
 loop-again c = tt

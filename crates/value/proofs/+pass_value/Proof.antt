@@ -44,38 +44,67 @@ pass-value-μ-loop s at levels t from count inner mask p₀ left₀ p left = lef
 
 pass-value-returns : (t : ℕ) → pass-value-lts.Need-returns (pass-value-claims t) (pass-value-at t) pass-value.Post pass-value-Inv-loop pass-value-μ-loop
 pass-value-returns t c =
-    let a = c .before .before .before .args in
-    c .too-deep .ensures ∙ no-level (a .levels) (a .t) (now (a .s)) (a .at) (c .before .if1 .taken)
+    let at-if1 = c .before in
+    let args = at-if1 .before .before .args in
+    let a = args in
+    c .too-deep .ensures ∙ no-level (a .levels) (a .t) (now (a .s)) (a .at) (at-if1 .if1 .taken)
 
 pass-value-loop-again : (t : ℕ) → pass-value-lts.Need-loop-again (pass-value-claims t) (pass-value-at t) pass-value.Post pass-value-Inv-loop pass-value-μ-loop
 pass-value-loop-again t c =
-    let l = c .before .before .before .before .before .loop in
-    l .inv ∙ pass-step (valueAt _ _) _ (l .left) (l .p) (c .before .before .before .before .loop-test .taken) (sym (told answerReached (c .before .before .before .pass-value .ensures) (c .before .end2 .given .1)))
+    let at-end2 = c .before in
+    let at-pass-value = at-end2 .before .before in
+    let at-loop-test = at-pass-value .before in
+    let at-loop = at-loop-test .before in
+    let l = at-loop .loop in
+    l .inv ∙ pass-step (valueAt _ _) _ (l .left) (l .p) (at-loop-test .loop-test .taken) (sym (told answerReached (at-pass-value .pass-value .ensures) (at-end2 .end2 .given .1)))
 
 pass-value-returns-2 : (t : ℕ) → pass-value-lts.Need-returns-2 (pass-value-claims t) (pass-value-at t) pass-value.Post pass-value-Inv-loop pass-value-μ-loop
 pass-value-returns-2 t c =
-    let a = c .before .before .before .before .before .before .before .before .before .before .before .before .args in
-    let l = c .before .before .before .before .before .loop in
-    inside-refused (valueAt (a .levels - 1)) (now (a .s)) (c .before .before .before .before .before .before .before .from .given .0 .0) (c .before .before .before .before .before .before .before .from .given .0 .1 .0) (c .before .before .before .before .before .before .before .from .given .0 .1 .1 .0) (c .before .before .before .before .before .before .before .from .given .0 .1 .1 .1 .0)
-    (l .inv ∙ pass-stop (valueAt _ _) _ (l .left) (l .p) (c .before .before .before .before .loop-test .taken) (sym (told answerReached (c .before .before .before .pass-value .ensures) (c .before .number2 .given .1))))
-    ∙ by-head (a .levels) (a .t) (now (a .s)) (a .at) (c .before .before .before .before .before .before .before .before .before .before .if1 .left) (c .before .before .before .before .before .before .before .before .before .head-at .ensures (valueAt (a .levels - 1))) (c .before .before .before .before .before .before .before .from .given .1)
+    let at-number2 = c .before in
+    let at-pass-value = at-number2 .before .before in
+    let at-loop-test = at-pass-value .before in
+    let at-loop = at-loop-test .before in
+    let at-from = at-loop .before .before in
+    let at-head-at = at-from .before .before in
+    let at-if1 = at-head-at .before in
+    let args = at-if1 .before .before .args in
+    let a = args in
+    let l = at-loop .loop in
+    inside-refused (valueAt (a .levels - 1)) (now (a .s)) (at-from .from .given .0 .0) (at-from .from .given .0 .1 .0) (at-from .from .given .0 .1 .1 .0) (at-from .from .given .0 .1 .1 .1 .0)
+    (l .inv ∙ pass-stop (valueAt _ _) _ (l .left) (l .p) (at-loop-test .loop-test .taken) (sym (told answerReached (at-pass-value .pass-value .ensures) (at-number2 .number2 .given .1))))
+    ∙ by-head (a .levels) (a .t) (now (a .s)) (a .at) (at-if1 .if1 .left) (at-head-at .head-at .ensures (valueAt (a .levels - 1))) (at-from .from .given .1)
 
 pass-value-returns-3 : (t : ℕ) → pass-value-lts.Need-returns-3 (pass-value-claims t) (pass-value-at t) pass-value.Post pass-value-Inv-loop pass-value-μ-loop
 pass-value-returns-3 t c =
-    let a = c .before .before .before .before .before .before .args in
-    by-head (a .levels) (a .t) (now (a .s)) (a .at) (c .before .before .before .before .if1 .left) (c .before .before .before .head-at .ensures (valueAt (a .levels - 1))) (c .before .end .given .1)
+    let at-end = c .before in
+    let at-head-at = at-end .before .before in
+    let at-if1 = at-head-at .before in
+    let args = at-if1 .before .before .args in
+    let a = args in
+    by-head (a .levels) (a .t) (now (a .s)) (a .at) (at-if1 .if1 .left) (at-head-at .head-at .ensures (valueAt (a .levels - 1))) (at-end .end .given .1)
 
 pass-value-returns-4 : (t : ℕ) → pass-value-lts.Need-returns-4 (pass-value-claims t) (pass-value-at t) pass-value.Post pass-value-Inv-loop pass-value-μ-loop
 pass-value-returns-4 t c =
-    let a = c .before .before .before .before .before .before .args in
-    by-head (a .levels) (a .t) (now (a .s)) (a .at) (c .before .before .before .before .if1 .left) (c .before .before .before .head-at .ensures (valueAt (a .levels - 1))) (c .before .number .given .1)
+    let at-number = c .before in
+    let at-head-at = at-number .before .before in
+    let at-if1 = at-head-at .before in
+    let args = at-if1 .before .before .args in
+    let a = args in
+    by-head (a .levels) (a .t) (now (a .s)) (a .at) (at-if1 .if1 .left) (at-head-at .head-at .ensures (valueAt (a .levels - 1))) (at-number .number .given .1)
 
 pass-value-returns-5 : (t : ℕ) → pass-value-lts.Need-returns-5 (pass-value-claims t) (pass-value-at t) pass-value.Post pass-value-Inv-loop pass-value-μ-loop
 pass-value-returns-5 t c =
-    let a = c .before .before .before .before .before .before .before .before .before .args in
-    let l = c .before .before .loop in
-    inside-ends (valueAt (a .levels - 1)) (now (a .s)) (c .before .before .before .before .from .given .0 .0) (c .before .before .before .before .from .given .0 .1 .0) (c .before .before .before .before .from .given .0 .1 .1 .0) (c .before .before .before .before .from .given .0 .1 .1 .1 .0) (l .inv ∙ each-done (valueAt _ _) _ (l .left) (l .p) (c .before .loop-test .left)) (c .parts-at .ensures)
-    ∙ by-head (a .levels) (a .t) (now (a .s)) (a .at) (c .before .before .before .before .before .before .before .if1 .left) (c .before .before .before .before .before .before .head-at .ensures (valueAt (a .levels - 1))) (c .before .before .before .before .from .given .1)
+    let at-loop-test = c .before in
+    let at-loop = at-loop-test .before in
+    let at-from = at-loop .before .before in
+    let at-head-at = at-from .before .before in
+    let at-if1 = at-head-at .before in
+    let args = at-if1 .before .before .args in
+    let a = args in
+    let l = at-loop .loop in
+    inside-ends (valueAt (a .levels - 1)) (now (a .s)) (at-from .from .given .0 .0) (at-from .from .given .0 .1 .0)
+    (at-from .from .given .0 .1 .1 .0) (at-from .from .given .0 .1 .1 .1 .0) (l .inv ∙ each-done (valueAt _ _) _ (l .left) (l .p) (at-loop-test .loop-test .left)) (c .parts-at .ensures)
+    ∙ by-head (a .levels) (a .t) (now (a .s)) (a .at) (at-if1 .if1 .left) (at-head-at .head-at .ensures (valueAt (a .levels - 1))) (at-from .from .given .1)
 
 pub +pass-value-spec : {M : Type 1} → statement M
 +pass-value-spec = close μ-pass-value λ t. pass-value-lts.spec (pass-value-claims t) (pass-value-at t)

@@ -12,15 +12,23 @@ returns c = rw (le-leb _ _ (c .if1 .taken))
 
 returns-2 : tie.Need-returns-2
 returns-2 c =
-    rw (lt-leb _ _ (c .before .before .before .if1 .left), sym (c .before .packed-width .ensures .0), eq-eqb _ _ (c .if2 .taken))
+    let at-packed-width = c .before in
+    let at-if1 = at-packed-width .before .before in
+    rw (lt-leb _ _ (at-if1 .if1 .left), sym (at-packed-width .packed-width .ensures .0), eq-eqb _ _ (c .if2 .taken))
 
 returns-3 : tie.Need-returns-3
 returns-3 c =
-    rw (lt-leb _ _ (c .before .before .before .before .if1 .left), sym (c .before .before .packed-width .ensures .0), ne-eqb _ _ (c .before .if2 .left), le-leb _ _ (c .if3 .taken))
+    let at-if2 = c .before in
+    let at-packed-width = at-if2 .before in
+    let at-if1 = at-packed-width .before .before in
+    rw (lt-leb _ _ (at-if1 .if1 .left), sym (at-packed-width .packed-width .ensures .0), ne-eqb _ _ (at-if2 .if2 .left), le-leb _ _ (c .if3 .taken))
 
 returns-4 : tie.Need-returns-4
 returns-4 c =
-    rw (lt-leb _ _ (c .before .before .before .before .if1 .left), sym (c .before .before .packed-width .ensures .0), ne-eqb _ _ (c .before .if2 .left), lt-leb _ _ (c .if3 .left))
+    let at-if2 = c .before in
+    let at-packed-width = at-if2 .before in
+    let at-if1 = at-packed-width .before .before in
+    rw (lt-leb _ _ (at-if1 .if1 .left), sym (at-packed-width .packed-width .ensures .0), ne-eqb _ _ (at-if2 .if2 .left), lt-leb _ _ (c .if3 .left))
 
 pub fixed-end-spec : {M : Type 1} → statement M
 fixed-end-spec =

@@ -13,13 +13,19 @@ use Rattle.value.proofs.measure_data_value.Tie as tie
 
 returns : tie.Need-returns
 returns c =
-    let a = c .before .before .before .before .before .args in
-    sym (unpassed (dataValueAt (now (a .s)) (a .at)) (sym (told answerReached (c .before .before .before .pass-value .ensures) (c .before .number .given .1))))
+    let at-number = c .before in
+    let at-pass-value = at-number .before .before in
+    let args = at-pass-value .before .before .args in
+    let a = args in
+    sym (unpassed (dataValueAt (now (a .s)) (a .at)) (sym (told answerReached (at-pass-value .pass-value .ensures) (at-number .number .given .1))))
 
 returns-2 : tie.Need-returns-2
 returns-2 c =
-    let a = c .before .before .before .before .before .args in
-    sym (data-value-is (now (a .s)) (a .at) (sym (told answerReached (c .before .before .before .pass-value .ensures) (c .before .end .given .1))))
+    let at-end = c .before in
+    let at-pass-value = at-end .before .before in
+    let args = at-pass-value .before .before .args in
+    let a = args in
+    sym (data-value-is (now (a .s)) (a .at) (sym (told answerReached (at-pass-value .pass-value .ensures) (at-end .end .given .1))))
 
 pub measure-data-value-spec : {M : Type 1} → statement M
 measure-data-value-spec =

@@ -13,13 +13,19 @@ use Rattle.value.proofs.measure_raw.Tie as tie
 
 returns : tie.Need-returns
 returns c =
-    let a = c .before .before .before .before .before .args in
-    sym (raw-is (a .t) (now (a .s)) (a .at) (sym (told answerReached (c .before .before .before .pass-element .ensures) (c .before .end .given .1))))
+    let at-end = c .before in
+    let at-pass-element = at-end .before .before in
+    let args = at-pass-element .before .before .args in
+    let a = args in
+    sym (raw-is (a .t) (now (a .s)) (a .at) (sym (told answerReached (at-pass-element .pass-element .ensures) (at-end .end .given .1))))
 
 returns-2 : tie.Need-returns-2
 returns-2 c =
-    let a = c .before .before .before .before .before .args in
-    sym (unpassed (rawAt (a .t) (now (a .s)) (a .at)) (sym (told answerReached (c .before .before .before .pass-element .ensures) (c .before .number .given .1))))
+    let at-number = c .before in
+    let at-pass-element = at-number .before .before in
+    let args = at-pass-element .before .before .args in
+    let a = args in
+    sym (unpassed (rawAt (a .t) (now (a .s)) (a .at)) (sym (told answerReached (at-pass-element .pass-element .ensures) (at-number .number .given .1))))
 
 pub measure-raw-spec : {M : Type 1} → statement M
 measure-raw-spec =

@@ -13,23 +13,35 @@ use Rattle.value.proofs.measure_variant.Tie as tie
 
 shared-slice-read-t9 : tie.Need-shared-slice-read-t9
 shared-slice-read-t9 c =
-    let a = c .before .before .before .before .args in
-    fixed-variant (now (a .s)) (a .at) (c .before .before .fixed-end .ensures) (c .before .if1 .taken) .0
+    let at-if1 = c .before in
+    let at-fixed-end = at-if1 .before in
+    let args = at-fixed-end .before .before .args in
+    let a = args in
+    fixed-variant (now (a .s)) (a .at) (at-fixed-end .fixed-end .ensures) (at-if1 .if1 .taken) .0
 
 returns : tie.Need-returns
 returns c =
-    let a = c .before .before .before .before .args in
-    sym (fixed-variant (now (a .s)) (a .at) (c .before .before .fixed-end .ensures) (c .before .if1 .taken) .1)
+    let at-if1 = c .before in
+    let at-fixed-end = at-if1 .before in
+    let args = at-fixed-end .before .before .args in
+    let a = args in
+    sym (fixed-variant (now (a .s)) (a .at) (at-fixed-end .fixed-end .ensures) (at-if1 .if1 .taken) .1)
 
 returns-2 : tie.Need-returns-2
 returns-2 c =
-    let a = c .before .before .before .before .before .before .before .args in
-    sym (unpassed (variantAt (now (a .s)) (a .at)) (sym (told answerReached (c .before .before .before .pass-value .ensures) (c .before .number .given .1))))
+    let at-number = c .before in
+    let at-pass-value = at-number .before .before in
+    let args = at-pass-value .before .before .before .before .args in
+    let a = args in
+    sym (unpassed (variantAt (now (a .s)) (a .at)) (sym (told answerReached (at-pass-value .pass-value .ensures) (at-number .number .given .1))))
 
 returns-3 : tie.Need-returns-3
 returns-3 c =
-    let a = c .before .before .before .before .before .before .before .before .args in
-    c .described .ensures ∙ sym (described-is (now (a .s)) (a .at) (sym (told answerReached (c .before .before .before .before .pass-value .ensures) (c .before .before .end .given .1))))
+    let at-end = c .before .before in
+    let at-pass-value = at-end .before .before in
+    let args = at-pass-value .before .before .before .before .args in
+    let a = args in
+    c .described .ensures ∙ sym (described-is (now (a .s)) (a .at) (sym (told answerReached (at-pass-value .pass-value .ensures) (at-end .end .given .1))))
 
 pub measure-variant-spec : {M : Type 1} → statement M
 measure-variant-spec =

@@ -19,13 +19,21 @@ abbrev μ-loop : tie.MeasureT-loop
 
 loop-again : tie.Need-loop-again Inv-loop μ-loop
 loop-again c =
-    let l = c .before .before .before .before .before .loop in
-    l .inv ∙ pass-step variantAt _ (l .left) (l .p) (c .before .before .before .before .loop-test .taken) (sym (told answerReached (c .before .before .before .pass-variant .ensures) (c .before .end .given .1)))
+    let at-end = c .before in
+    let at-pass-variant = at-end .before .before in
+    let at-loop-test = at-pass-variant .before in
+    let at-loop = at-loop-test .before in
+    let l = at-loop .loop in
+    l .inv ∙ pass-step variantAt _ (l .left) (l .p) (at-loop-test .loop-test .taken) (sym (told answerReached (at-pass-variant .pass-variant .ensures) (at-end .end .given .1)))
 
 returns : tie.Need-returns Inv-loop μ-loop
 returns c =
-    let l = c .before .before .before .before .before .loop in
-    sym (l .inv ∙ pass-stop variantAt _ (l .left) (l .p) (c .before .before .before .before .loop-test .taken) (sym (told answerReached (c .before .before .before .pass-variant .ensures) (c .before .number .given .1))))
+    let at-number = c .before in
+    let at-pass-variant = at-number .before .before in
+    let at-loop-test = at-pass-variant .before in
+    let at-loop = at-loop-test .before in
+    let l = at-loop .loop in
+    sym (l .inv ∙ pass-stop variantAt _ (l .left) (l .p) (at-loop-test .loop-test .taken) (sym (told answerReached (at-pass-variant .pass-variant .ensures) (at-number .number .given .1))))
 
 returns-2 : tie.Need-returns-2 Inv-loop μ-loop
 returns-2 c =

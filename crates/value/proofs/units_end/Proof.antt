@@ -13,16 +13,29 @@ use Rattle.value.proofs.units_end.Tie as tie
 
 mul-bytes-end : tie.Need-mul-bytes-end
 mul-bytes-end c =
-    let a = c .before .before .before .before .before .args in
-    omega (arith, mul-le-mul-left (c .before .next2 .given .0 .1 .0) (c .before .before .before .before .before .pre), count-small (now (a .s)) (a .at) (sym (told (answerLength (a .at)) (c .before .before .before .read-length .ensures) (c .before .next2 .given .1))))
+    let at-next2 = c .before in
+    let at-read-length = at-next2 .before .before in
+    let at-pre = at-read-length .before .before in
+    let a = at-pre .args in
+    omega (
+      arith,
+      mul-le-mul-left (at-next2 .next2 .given .0 .1 .0) (at-pre .pre),
+      count-small (now (a .s)) (a .at) (sym (told (answerLength (a .at)) (at-read-length .read-length .ensures) (at-next2 .next2 .given .1))),
+    )
 
 returns : tie.Need-returns
 returns c =
-    λ h. rw (sym (told (answerLength (c .before .before .before .before .before .args .at)) (c .before .before .before .read-length .ensures) (c .before .next .given .1)))
+    let at-next = c .before in
+    let at-read-length = at-next .before .before in
+    let args = at-read-length .before .before .args in
+    λ h. rw (sym (told (answerLength (args .at)) (at-read-length .read-length .ensures) (at-next .next .given .1)))
 
 returns-2 : tie.Need-returns-2
 returns-2 c =
-    λ h. rw (sym (told (answerLength (c .before .before .before .before .before .before .args .at)) (c .before .before .before .before .read-length .ensures) (c .before .before .next2 .given .1))) (c .bytes-end .ensures h)
+    let at-next2 = c .before .before in
+    let at-read-length = at-next2 .before .before in
+    let args = at-read-length .before .before .args in
+    λ h. rw (sym (told (answerLength (args .at)) (at-read-length .read-length .ensures) (at-next2 .next2 .given .1))) (c .bytes-end .ensures h)
 
 returns-3 : tie.Need-returns-3
 returns-3 c = λ h. absurd (omega (arith, h))

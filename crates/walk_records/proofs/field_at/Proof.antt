@@ -9,8 +9,9 @@ use Rattle.walk_records.proofs.field_at.Tie as tie
 
 returns : tie.Need-returns
 returns c =
-    let a = c .before .before .before .args in
-    c .field-in-line .ensures ∙ hinted-is (a .last) (a .end) (a .delta) (a .encoding) (now (a .types)) (a .k) (now (a .s)) (a .at) (c .before .before .before .pre)
+    let at-pre = c .before .before .before in
+    let a = at-pre .args in
+    c .field-in-line .ensures ∙ hinted-is (a .last) (a .end) (a .delta) (a .encoding) (now (a .types)) (a .k) (now (a .s)) (a .at) (at-pre .pre)
 
 pub field-at-spec : {M : Type 1} → statement M
 field-at-spec = tie.close (tie.spec (λ c κs. search needs) returns)

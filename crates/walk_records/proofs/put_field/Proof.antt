@@ -7,7 +7,10 @@ use Rattle.walk_records.proofs.put_field.Tie as tie
 
 returns : tie.Need-returns
 returns c =
-    rw (sym (c .before .before .before .before .before .before .before .before .shape-number .ensures), sym (c .before .before .before .before .before .before .before .elements-number .ensures)) (c .before .before .put-record .ensures)
+    let at-put-record = c .before .before in
+    let at-elements-number = at-put-record .before .before .before .before .before in
+    let at-shape-number = at-elements-number .before in
+    rw (sym (at-shape-number .shape-number .ensures), sym (at-elements-number .elements-number .ensures)) (at-put-record .put-record .ensures)
 
 pub put-field-spec : {M : Type 1} → statement M
 put-field-spec =

@@ -7,7 +7,9 @@ use Rattle.walk_records.proofs.put_message.Tie as tie
 
 returns : tie.Need-returns
 returns c =
-    rw (sym (c .before .before .before .before .before .or-none .ensures)) (c .before .before .put-record .ensures)
+    let at-put-record = c .before .before in
+    let at-or-none = at-put-record .before .before .before in
+    rw (sym (at-or-none .or-none .ensures)) (at-put-record .put-record .ensures)
 
 pub put-message-spec : {M : Type 1} → statement M
 put-message-spec =

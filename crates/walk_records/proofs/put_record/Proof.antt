@@ -10,11 +10,15 @@ use Rattle.walk_records.proofs.put_record.Tie as tie
 
 returns : tie.Need-returns
 returns c =
-    record-none (now (c .before .before .before .args .numbers)) (now (c .before .before .before .args .out)) (c .before .before .before .args .k) (c .before .before .before .pre) (c .if1 .taken)
+    let at-pre = c .before .before .before in
+    record-none (now (at-pre .args .numbers)) (now (at-pre .args .out)) (at-pre .args .k) (at-pre .pre) (c .if1 .taken)
 
 returns-2 : tie.Need-returns-2
 returns-2 c =
-    record-put (now (c .before .before .before .before .before .before .before .args .numbers)) (now (c .before .before .before .before .before .before .before .args .out)) _ (c .before .before .before .before .before .before .before .args .k) (64 * (c .before .before .before .before .before .before .before .args .k) + 64 - 64 * (c .before .before .before .before .before .before .before .args .k)) (c .before .before .before .before .before .before .before .pre) (omega arith) (omega arith) (c .before .before .put-numbers .ensures)
+    let at-put-numbers = c .before .before in
+    let at-pre = at-put-numbers .before .before .before .before .before in
+    record-put (now (at-pre .args .numbers)) (now (at-pre .args .out)) _ (at-pre .args .k)
+    (64 * (at-pre .args .k) + 64 - 64 * (at-pre .args .k)) (at-pre .pre) (omega arith) (omega arith) (at-put-numbers .put-numbers .ensures)
 
 pub put-record-spec : {M : Type 1} → statement M
 put-record-spec =

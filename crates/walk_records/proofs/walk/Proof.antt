@@ -11,15 +11,27 @@ use Rattle.walk_records.proofs.walk.Tie as tie
 
 walk-messages-requires : tie.Need-walk-messages-requires
 walk-messages-requires c κs =
-    few-messages (now (c .before .before .before .before .before .before .before .before .before .before .before .args .sizes)) (now (c .before .before .before .before .before .before .before .before .before .before .before .args .s)) _ _ (told answerNetworkMessage (c .before .before .before .before .read .ensures) (c .before .before .e .given .1))
+    let at-e = c .before .before in
+    let at-read = at-e .before .before in
+    let args = at-read .before .before .before .before .before .before .before .args in
+    few-messages (now (args .sizes)) (now (args .s)) _ _ (told answerNetworkMessage (at-read .read .ensures) (at-e .e .given .1))
 
 returns : tie.Need-returns
 returns c =
-    walk-refused (writers (now (c .before .before .before .before .before .before .before .before .before .before .args .ids)) (now (c .before .before .before .before .before .before .before .before .before .before .args .sizes)) (now (c .before .before .before .before .before .before .before .before .before .before .args .starts)) (now (c .before .before .before .before .before .before .before .before .before .before .args .types))) (now (c .before .before .before .before .before .before .before .before .before .before .args .s)) (now (c .before .before .before .before .before .before .before .before .before .before .args .out)) _ _ (told answerNetworkMessage (c .before .before .before .read .ensures) (c .before .n .given .1))
+    let at-n = c .before in
+    let at-read = at-n .before .before in
+    let args = at-read .before .before .before .before .before .before .before .args in
+    walk-refused (writers (now (args .ids)) (now (args .sizes)) (now (args .starts)) (now (args .types))) (now (args .s))
+    (now (args .out)) _ _ (told answerNetworkMessage (at-read .read .ensures) (at-n .n .given .1))
 
 returns-2 : tie.Need-returns-2
 returns-2 c =
-    walk-done (writers (now (c .before .before .before .before .before .before .before .before .before .before .before .before .before .before .args .ids)) (now (c .before .before .before .before .before .before .before .before .before .before .before .before .before .before .args .sizes)) (now (c .before .before .before .before .before .before .before .before .before .before .before .before .before .before .args .starts)) (now (c .before .before .before .before .before .before .before .before .before .before .before .before .before .before .args .types))) (now (c .before .before .before .before .before .before .before .before .before .before .before .before .before .before .args .s)) (now (c .before .before .before .before .before .before .before .before .before .before .before .before .before .before .args .out)) _ _ _ _ (told answerNetworkMessage (c .before .before .before .before .before .before .before .read .ensures) (c .before .before .before .before .before .e .given .1)) (c .before .before .walk-messages .ensures .0) (c .before .before .walk-messages .ensures .1)
+    let at-walk-messages = c .before .before in
+    let at-e = at-walk-messages .before .before .before in
+    let at-read = at-e .before .before in
+    let args = at-read .before .before .before .before .before .before .before .args in
+    walk-done (writers (now (args .ids)) (now (args .sizes)) (now (args .starts)) (now (args .types))) (now (args .s))
+    (now (args .out)) _ _ _ _ (told answerNetworkMessage (at-read .read .ensures) (at-e .e .given .1)) (at-walk-messages .walk-messages .ensures .0) (at-walk-messages .walk-messages .ensures .1)
 
 pub walk-spec : {M : Type 1} → statement M
 walk-spec =

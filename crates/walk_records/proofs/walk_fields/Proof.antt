@@ -10,8 +10,17 @@ use Rattle.walk_records.proofs.walk_fields.Tie as tie
 
 walk-raw-requires : tie.Need-walk-raw-requires
 walk-raw-requires c κs =
-    let b = c .before .before .before .before .before .before .before .pre in
-    (b .0, b .1, b .2, not-true _ (and-left (not (c .before .before .before .before .before .before .before .args .c .delta)) (c .before .before .is-raw .result) (c .before .if1 .taken)), sym (c .before .before .is-raw .ensures) ∙ and-right (not (c .before .before .before .before .before .before .before .args .c .delta)) (c .before .before .is-raw .result) (c .before .if1 .taken))
+    let at-if1 = c .before in
+    let at-is-raw = at-if1 .before in
+    let at-pre = at-is-raw .before .before .before .before .before in
+    let b = at-pre .pre in (
+      b .0,
+      b .1,
+      b .2,
+      not-true _ (and-left (not (at-pre .args .c .delta)) (at-is-raw .is-raw .result) (at-if1 .if1 .taken)),
+      sym (at-is-raw .is-raw .ensures)
+          ∙ and-right (not (at-pre .args .c .delta)) (at-is-raw .is-raw .result) (at-if1 .if1 .taken),
+    )
 
 pub walk-fields-spec : {M : Type 1} → statement M
 walk-fields-spec =

@@ -13,21 +13,50 @@ use Rattle.walk_records.proofs.walk_message.Tie as tie
 
 walk-fields-requires : tie.Need-walk-fields-requires
 walk-fields-requires c κs =
-    let a = c .before .before .before .before .before .before .before .before .before .before .before .before .before .before .before .before .args in
-    let fits = part-fits (now (c .before .before .before .before .before .before .before .before .before .before .before .before .before .before .before .before .args .types)) (now (c .before .before .before .before .before .before .before .before .before .before .before .before .before .before .before .before .args .s)) _ (c .before .before .before .before .before .before .before .before .before .before .before .before .before .before .before .before .args .p) (c .before .before .before .before .before .before .before .before .before .before .before .before .before .before .before .before .args .writer) (c .before .before .before .before .before .before .before .before .before .before .before .before .before .before .before .before .args .k) (now (c .before .before .before .before .before .before .before .before .before .before .before .before .before .before .before .before .args .out)) (c .before .before .before .before .before .before .before .before .before .before .before .before .part .ensures) (c .before .before .before .before .before .before .before .before .before .before .before .before .before .before .before .before .pre) (omega (arith, c .before .before .before .before .before .before .before .before .before .before .before .before .before .before .before .before .good)) in
-    (fits .0, fits .1, all-left (now (a .types)) _ _ _ (sym (told answerMessage (c .before .before .before .before .before .before .before .before .before .before .before .read .ensures) (c .before .before .before .before .before .before .before .before .before .h .given .1))))
+    let at-h = c .before .before .before .before .before .before .before .before .before in
+    let at-read = at-h .before .before in
+    let at-part = at-read .before in
+    let at-pre = at-part .before .before .before .before in
+    let a = at-pre .args in
+    let fits = part-fits (now (at-pre .args .types)) (now (at-pre .args .s)) _ (at-pre .args .p) (at-pre .args .writer) (at-pre .args .k)
+    (now (at-pre .args .out)) (at-part .part .ensures) (at-pre .pre) (omega (arith, at-pre .good)) in
+    (fits .0, fits .1, all-left (now (a .types)) _ _ _ (sym (told answerMessage (at-read .read .ensures) (at-h .h .given .1))))
 
 returns : tie.Need-returns
 returns c =
-    invalid-put (now (c .before .before .before .before .before .before .before .before .before .before .before .args .types)) (now (c .before .before .before .before .before .before .before .before .before .before .before .args .s)) _ (c .before .before .before .before .before .before .before .before .before .before .before .args .p) (c .before .before .before .before .before .before .before .before .before .before .before .args .writer) (c .before .before .before .before .before .before .before .before .before .before .before .args .k) (now (c .before .before .before .before .before .before .before .before .before .before .before .args .out)) (c .before .before .before .before .before .before .before .part .ensures) _ (told answerMessage (c .before .before .before .before .before .before .read .ensures) (c .before .before .before .before .enum-told .given .1)) (c .before .before .put-message .ensures)
+    let at-put-message = c .before .before in
+    let at-enum-told = at-put-message .before .before in
+    let at-read = at-enum-told .before .before in
+    let at-part = at-read .before in
+    let args = at-part .before .before .before .before .args in
+    invalid-put (now (args .types)) (now (args .s)) _ (args .p) (args .writer) (args .k) (now (args .out)) (at-part .part .ensures) _
+    (told answerMessage (at-read .read .ensures) (at-enum-told .enum-told .given .1)) (at-put-message .put-message .ensures)
 
 returns-2 : tie.Need-returns-2
 returns-2 c =
-    refused-put (now (c .before .before .before .before .before .before .before .before .before .before .before .before .args .types)) (now (c .before .before .before .before .before .before .before .before .before .before .before .before .args .s)) _ (c .before .before .before .before .before .before .before .before .before .before .before .before .args .p) (c .before .before .before .before .before .before .before .before .before .before .before .before .args .writer) (c .before .before .before .before .before .before .before .before .before .before .before .before .args .k) (now (c .before .before .before .before .before .before .before .before .before .before .before .before .args .out)) (c .before .before .before .before .before .before .before .before .part .ensures) _ _ _ (told answerMessage (c .before .before .before .before .before .before .before .read .ensures) (c .before .before .before .before .before .n .given .1)) (c .before .before .put-message2 .ensures)
+    let at-put-message2 = c .before .before in
+    let at-n = at-put-message2 .before .before .before in
+    let at-read = at-n .before .before in
+    let at-part = at-read .before in
+    let args = at-part .before .before .before .before .args in
+    refused-put (now (args .types)) (now (args .s)) _ (args .p) (args .writer) (args .k) (now (args .out)) (at-part .part .ensures) _ _ _
+    (told answerMessage (at-read .read .ensures) (at-n .n .given .1)) (at-put-message2 .put-message2 .ensures)
 
 returns-3 : tie.Need-returns-3
 returns-3 c =
-    valid-put (now (c .before .before .before .before .before .before .before .before .before .before .before .before .before .before .before .before .before .before .before .args .types)) (now (c .before .before .before .before .before .before .before .before .before .before .before .before .before .before .before .before .before .before .before .args .s)) _ (c .before .before .before .before .before .before .before .before .before .before .before .before .before .before .before .before .before .before .before .args .p) (c .before .before .before .before .before .before .before .before .before .before .before .before .before .before .before .before .before .before .before .args .writer) (c .before .before .before .before .before .before .before .before .before .before .before .before .before .before .before .before .before .before .before .args .k) (now (c .before .before .before .before .before .before .before .before .before .before .before .before .before .before .before .before .before .before .before .args .out)) (c .before .before .before .before .before .before .before .before .before .before .before .before .before .before .before .part .ensures) _ _ _ _ _ _ _ _ (told answerMessage (c .before .before .before .before .before .before .before .before .before .before .before .before .before .before .read .ensures) (c .before .before .before .before .before .before .before .before .before .before .before .before .h .given .1)) (c .before .before .before .before .before .before .before .before .before .before .kind-number .ensures) (c .before .before .before .before .before .before .before .before .before .encoding-number .ensures) (c .before .before .before .before .before .before .before .or-none .ensures) (c .before .before .before .before .before .before .put-message3 .ensures) (c .before .before .walk-fields .ensures .0) (c .before .before .walk-fields .ensures .1)
+    let at-walk-fields = c .before .before in
+    let at-put-message3 = at-walk-fields .before .before .before .before in
+    let at-or-none = at-put-message3 .before in
+    let at-encoding-number = at-or-none .before .before in
+    let at-kind-number = at-encoding-number .before in
+    let at-h = at-kind-number .before .before in
+    let at-read = at-h .before .before in
+    let at-part = at-read .before in
+    let args = at-part .before .before .before .before .args in
+    valid-put (now (args .types)) (now (args .s)) _ (args .p) (args .writer) (args .k) (now (args .out))
+    (at-part .part .ensures) _ _ _ _ _ _ _ _ (told answerMessage (at-read .read .ensures) (at-h .h .given .1))
+    (at-kind-number .kind-number .ensures) (at-encoding-number .encoding-number .ensures) (at-or-none .or-none .ensures)
+    (at-put-message3 .put-message3 .ensures) (at-walk-fields .walk-fields .ensures .0) (at-walk-fields .walk-fields .ensures .1)
 
 pub walk-message-spec : {M : Type 1} → statement M
 walk-message-spec =

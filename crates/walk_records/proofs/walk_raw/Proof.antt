@@ -21,38 +21,68 @@ use Rattle.walk_records.proofs.walk_raw.Tie as tie
 
 abbrev Inv-loop : tie.InvT-loop
 Inv-loop out₀ first message types p c end at₀ i₀ k₀ out at i k =
-    (length out ≡ length out₀) × ((recordsPut k (fieldsFrom types message p (c .count - i) (before c i at)) out ≡ recordsPut first (fieldsFrom types message p (fieldsLeft c) c) out₀) × ((k + length (fieldsFrom types message p (c .count - i) (before c i at)) ≡ first + length (fieldsFrom types message p (fieldsLeft c) c)) × (fieldsAt (c .delta) (c .encoding) types (c .count - i) i message at ≡ got tt end)))
+    (length out ≡ length out₀)
+    × ((recordsPut k (fieldsFrom types message p (c .count - i) (before c i at)) out ≡ recordsPut first (fieldsFrom types message p (fieldsLeft c) c) out₀)
+    × ((k + length (fieldsFrom types message p (c .count - i) (before c i at)) ≡ first + length (fieldsFrom types message p (fieldsLeft c) c))
+    × (fieldsAt (c .delta) (c .encoding) types (c .count - i) i message at ≡ got tt end)))
 
 abbrev μ-loop : tie.MeasureT-loop
 μ-loop out₀ first message types p c end at₀ i₀ k₀ out at i k = c .count - i
 
 loop-holds : tie.Need-loop-holds Inv-loop μ-loop
-loop-holds c = (refl, (refl, (refl, c .before .before .before .pre .2)))
+loop-holds c =
+    let at-pre = c .before .before .before in
+    (refl, (refl, (refl, at-pre .pre .2)))
 
 shared-slice-read-kind : tie.Need-shared-slice-read-kind Inv-loop μ-loop
 shared-slice-read-kind c =
-    let a = c .before .before .before .before .before .before .before .args in
-    let l = c .before .before .before .loop in
-    raw-configured (now (a .types)) (now (a .message)) (l .i) (l .at) (a .c .delta) (a .c .encoding) (c .before .before .before .before .before .before .before .pre .3) (c .before .before .before .before .before .before .before .pre .4) (a .c .count) (l .inv .1 .1 .1) (c .before .if1 .taken)
+    let at-if1 = c .before in
+    let at-loop = at-if1 .before .before in
+    let at-pre = at-loop .before .before .before .before in
+    let a = at-pre .args in
+    let l = at-loop .loop in
+    raw-configured (now (a .types)) (now (a .message)) (l .i) (l .at) (a .c .delta) (a .c .encoding) (at-pre .pre .3) (at-pre .pre .4) (a .c .count) (l .inv .1 .1 .1) (at-if1 .if1 .taken)
 
 put-field-requires : tie.Need-put-field-requires Inv-loop μ-loop
 put-field-requires c κs =
-    let a = c .before .before .before .before .before .before .before .before .before .args in
-    let l = c .before .before .before .before .before .loop in
-    offset-fits (now (a .types)) (now (a .message)) (a .p) (before (a .c) (l .i) (l .at)) _ _ (raw-first (now (a .types)) (now (a .message)) (l .i) (l .at) (a .c .delta) (a .c .encoding) (c .before .before .before .before .before .before .before .before .before .pre .3) (c .before .before .before .before .before .before .before .before .before .pre .4) (a .c .count) (l .inv .1 .1 .1) (c .before .before .before .if1 .taken) (c .before .packed-width .result) (c .before .packed-width .ensures .0)) (c .before .before .before .before .before .before .before .before .before .pre .1)
+    let at-packed-width = c .before in
+    let at-if1 = at-packed-width .before .before in
+    let at-loop = at-if1 .before .before in
+    let at-pre = at-loop .before .before .before .before in
+    let a = at-pre .args in
+    let l = at-loop .loop in
+    offset-fits (now (a .types)) (now (a .message)) (a .p) (before (a .c) (l .i) (l .at)) _ _
+    (raw-first (now (a .types)) (now (a .message)) (l .i) (l .at) (a .c .delta) (a .c .encoding) (at-pre .pre .3) (at-pre .pre .4)
+    (a .c .count) (l .inv .1 .1 .1) (at-if1 .if1 .taken) (at-packed-width .packed-width .result) (at-packed-width .packed-width .ensures .0)) (at-pre .pre .1)
 
 add-at : tie.Need-add-at Inv-loop μ-loop
 add-at c =
-    let a = c .before .before .before .before .before .before .before .before .before .before .before .before .args in
-    let l = c .before .before .before .before .before .before .before .before .loop in
-    let i = field-inside (a .c .delta) (a .c .encoding) (now (a .types)) (l .i) (now (a .message)) (l .at) _ _ (raw-first (now (a .types)) (now (a .message)) (l .i) (l .at) (a .c .delta) (a .c .encoding) (c .before .before .before .before .before .before .before .before .before .before .before .before .pre .3) (c .before .before .before .before .before .before .before .before .before .before .before .before .pre .4) (a .c .count) (l .inv .1 .1 .1) (c .before .before .before .before .before .before .if1 .taken) (c .before .before .before .before .packed-width .result) (c .before .before .before .before .packed-width .ensures .0)) in
-    omega (arith, i .ends, c .before .before .before .before .before .before .before .before .before .before .before .before .pre .0)
+    let at-packed-width = c .before .before .before .before in
+    let at-if1 = at-packed-width .before .before in
+    let at-loop = at-if1 .before .before in
+    let at-pre = at-loop .before .before .before .before in
+    let a = at-pre .args in
+    let l = at-loop .loop in
+    let i = field-inside (a .c .delta) (a .c .encoding) (now (a .types)) (l .i) (now (a .message)) (l .at) _ _
+    (raw-first (now (a .types)) (now (a .message)) (l .i) (l .at) (a .c .delta) (a .c .encoding) (at-pre .pre .3) (at-pre .pre .4)
+    (a .c .count) (l .inv .1 .1 .1) (at-if1 .if1 .taken) (at-packed-width .packed-width .result) (at-packed-width .packed-width .ensures .0)) in
+    omega (arith, i .ends, at-pre .pre .0)
 
 add-k : tie.Need-add-k Inv-loop μ-loop
 add-k c =
-    let a = c .before .before .before .before .before .before .before .before .before .before .before .before .args in
-    let l = c .before .before .before .before .before .before .before .before .loop in
-    omega (arith, next-fits (now (a .types)) (now (a .message)) (a .p) _ _ _ (a .c) (fieldsLeft (a .c)) (l .k) (a .first) (fields-more (now (a .types)) (now (a .message)) (a .p) (before (a .c) (l .i) (l .at)) _ _ (c .before .before .before .before .before .before .if1 .taken) (raw-first (now (a .types)) (now (a .message)) (l .i) (l .at) (a .c .delta) (a .c .encoding) (c .before .before .before .before .before .before .before .before .before .before .before .before .pre .3) (c .before .before .before .before .before .before .before .before .before .before .before .before .pre .4) (a .c .count) (l .inv .1 .1 .1) (c .before .before .before .before .before .before .if1 .taken) (c .before .before .before .before .packed-width .result) (c .before .before .before .before .packed-width .ensures .0))) (l .inv .1 .1 .0) (c .before .before .before .before .before .before .before .before .before .before .before .before .pre .0))
+    let at-packed-width = c .before .before .before .before in
+    let at-if1 = at-packed-width .before .before in
+    let at-loop = at-if1 .before .before in
+    let at-pre = at-loop .before .before .before .before in
+    let a = at-pre .args in
+    let l = at-loop .loop in
+    omega (
+      arith,
+      next-fits (now (a .types)) (now (a .message)) (a .p) _ _ _ (a .c) (fieldsLeft (a .c)) (l .k) (a .first)
+          (fields-more (now (a .types)) (now (a .message)) (a .p) (before (a .c) (l .i) (l .at)) _ _ (at-if1 .if1 .taken)
+          (raw-first (now (a .types)) (now (a .message)) (l .i) (l .at) (a .c .delta) (a .c .encoding) (at-pre .pre .3) (at-pre .pre .4)
+          (a .c .count) (l .inv .1 .1 .1) (at-if1 .if1 .taken) (at-packed-width .packed-width .result) (at-packed-width .packed-width .ensures .0))) (l .inv .1 .1 .0) (at-pre .pre .0),
+    )
 
 loop-less : tie.Need-loop-less Inv-loop μ-loop
 loop-less c =
@@ -60,17 +90,28 @@ loop-less c =
 
 loop-again : tie.Need-loop-again Inv-loop μ-loop
 loop-again c =
-    let a = c .before .before .before .before .before .before .before .before .before .before .before .before .args in
-    let l = c .before .before .before .before .before .before .before .before .loop in
-    let found = raw-first (now (a .types)) (now (a .message)) (l .i) (l .at) (a .c .delta) (a .c .encoding) (c .before .before .before .before .before .before .before .before .before .before .before .before .pre .3) (c .before .before .before .before .before .before .before .before .before .before .before .before .pre .4) (a .c .count) (l .inv .1 .1 .1) (c .before .before .before .before .before .before .if1 .taken) (c .before .before .before .before .packed-width .result) (c .before .before .before .before .packed-width .ensures .0) in
-    let z = one-put (fieldsFrom (now (a .types)) (now (a .message)) (a .p) (a .c .count - l .i) (before (a .c) (l .i) (l .at))) (l .k) (l .out) _ _ (l .inv .1 .0) (l .inv .1 .1 .0) _ _ _ (fields-more (now (a .types)) (now (a .message)) (a .p) (before (a .c) (l .i) (l .at)) _ _ (c .before .before .before .before .before .before .if1 .taken) found) (c .before .before .put-field .ensures) in
-    (search needs, (z .0, (z .1, fields-on (a .c .delta) (a .c .encoding) (now (a .types)) (now (a .message)) (a .c .count) (l .i) (l .at) (l .inv .1 .1 .1) (c .before .before .before .before .before .before .if1 .taken) found)))
+    let at-put-field = c .before .before in
+    let at-packed-width = at-put-field .before .before in
+    let at-if1 = at-packed-width .before .before in
+    let at-loop = at-if1 .before .before in
+    let at-pre = at-loop .before .before .before .before in
+    let a = at-pre .args in
+    let l = at-loop .loop in
+    let found = raw-first (now (a .types)) (now (a .message)) (l .i) (l .at) (a .c .delta) (a .c .encoding) (at-pre .pre .3)
+    (at-pre .pre .4) (a .c .count) (l .inv .1 .1 .1) (at-if1 .if1 .taken) (at-packed-width .packed-width .result) (at-packed-width .packed-width .ensures .0) in
+    let z = one-put (fieldsFrom (now (a .types)) (now (a .message)) (a .p) (a .c .count - l .i) (before (a .c) (l .i) (l .at))) (l .k)
+    (l .out) _ _ (l .inv .1 .0) (l .inv .1 .1 .0) _ _ _
+    (fields-more (now (a .types)) (now (a .message)) (a .p) (before (a .c) (l .i) (l .at)) _ _ (at-if1 .if1 .taken) found) (at-put-field .put-field .ensures) in
+    (search needs, (z .0, (z .1, fields-on (a .c .delta) (a .c .encoding) (now (a .types)) (now (a .message)) (a .c .count) (l .i) (l .at) (l .inv .1 .1 .1) (at-if1 .if1 .taken) found)))
 
 returns : tie.Need-returns Inv-loop μ-loop
 returns c =
-    let a = c .before .before .before .before .before .before .args in
-    let l = c .before .before .loop in
-    all-put (fieldsFrom (now (a .types)) (now (a .message)) (a .p) (a .c .count - l .i) (before (a .c) (l .i) (l .at))) (l .k) (l .out) _ _ (l .inv .1 .0) (l .inv .1 .1 .0) (fields-end (now (a .types)) (now (a .message)) (a .p) (before (a .c) (l .i) (l .at)) (c .if1 .left))
+    let at-loop = c .before .before in
+    let args = at-loop .before .before .before .before .args in
+    let a = args in
+    let l = at-loop .loop in
+    all-put (fieldsFrom (now (a .types)) (now (a .message)) (a .p) (a .c .count - l .i) (before (a .c) (l .i) (l .at))) (l .k) (l .out) _ _
+    (l .inv .1 .0) (l .inv .1 .1 .0) (fields-end (now (a .types)) (now (a .message)) (a .p) (before (a .c) (l .i) (l .at)) (c .if1 .left))
 
 pub walk-raw-spec : {M : Type 1} → statement M
 walk-raw-spec =

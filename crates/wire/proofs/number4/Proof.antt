@@ -9,7 +9,8 @@ use Rattle.wire.proofs.number4.Tie as tie
 
 returns : tie.Need-returns
 returns c =
-    (omega (arith, split 2 2 (now (c .before .before .before .args .s)) (c .before .before .before .args .at)), omega arith)
+    let args = c .before .before .before .args in
+    (omega (arith, split 2 2 (now (args .s)) (args .at)), omega arith)
 
 pub number4-spec : {M : Type 1} → statement M
 number4-spec =

@@ -11,19 +11,30 @@ use Rattle.wire.proofs.read64.Tie as tie
 
 returns : tie.Need-returns
 returns c =
-    rw (lacks (c .before .has .result) (c .before .before .before .args .at + 8) (length (now (c .before .before .before .args .s))) (c .before .has .ensures) (c .if1 .taken))
+    let at-has = c .before in
+    let args = at-has .before .before .args in
+    rw (lacks (at-has .has .result) (args .at + 8) (length (now (args .s))) (at-has .has .ensures) (c .if1 .taken))
 
 number8-requires : tie.Need-number8-requires
 number8-requires c κs =
-    room (c .before .has .result) (c .before .before .before .args .at + 8) (length (now (c .before .before .before .args .s))) (c .before .has .ensures) (c .if1 .left)
+    let at-has = c .before in
+    let args = at-has .before .before .args in
+    room (at-has .has .result) (args .at + 8) (length (now (args .s))) (at-has .has .ensures) (c .if1 .left)
 
 add-t4 : tie.Need-add-t4
 add-t4 c =
-    omega (arith, room (c .before .before .has .result) (c .before .before .before .before .args .at + 8) (length (now (c .before .before .before .before .args .s))) (c .before .before .has .ensures) (c .before .if1 .left))
+    omega (
+      arith,
+      room (c .before .before .has .result) (c .before .before .before .before .args .at + 8)
+          (length (now (c .before .before .before .before .args .s))) (c .before .before .has .ensures) (c .before .if1 .left),
+    )
 
 returns-2 : tie.Need-returns-2
 returns-2 c =
-    rw (holds (c .before .before .has .result) (c .before .before .before .before .args .at + 8) (length (now (c .before .before .before .before .args .s))) (c .before .before .has .ensures) (c .before .if1 .left), c .number8 .ensures .0)
+    let at-if1 = c .before in
+    let at-has = at-if1 .before in
+    let args = at-has .before .before .args in
+    rw (holds (at-has .has .result) (args .at + 8) (length (now (args .s))) (at-has .has .ensures) (at-if1 .if1 .left), c .number8 .ensures .0)
 
 pub read64-spec : {M : Type 1} → statement M
 read64-spec = tie.close (tie.spec (λ c κs. search needs) returns number8-requires add-t4 returns-2)

@@ -15,19 +15,35 @@ use Rattle.wire.proofs.read_i64.Tie as tie
 
 returns : tie.Need-returns
 returns c =
-    rw (lacks (c .before .has .result) (c .before .before .before .args .at + 8) (length (now (c .before .before .before .args .s))) (c .before .has .ensures) (c .if1 .taken))
+    let at-has = c .before in
+    let args = at-has .before .before .args in
+    rw (lacks (at-has .has .result) (args .at + 8) (length (now (args .s))) (at-has .has .ensures) (c .if1 .taken))
 
 number8-requires : tie.Need-number8-requires
 number8-requires c κs =
-    room (c .before .has .result) (c .before .before .before .args .at + 8) (length (now (c .before .before .before .args .s))) (c .before .has .ensures) (c .if1 .left)
+    let at-has = c .before in
+    let args = at-has .before .before .args in
+    room (at-has .has .result) (args .at + 8) (length (now (args .s))) (at-has .has .ensures) (c .if1 .left)
 
 add-t4 : tie.Need-add-t4
 add-t4 c =
-    omega (arith, room (c .before .before .before .has .result) (c .before .before .before .before .before .args .at + 8) (length (now (c .before .before .before .before .before .args .s))) (c .before .before .before .has .ensures) (c .before .before .if1 .left))
+    omega (
+      arith,
+      room (c .before .before .before .has .result) (c .before .before .before .before .before .args .at + 8)
+          (length (now (c .before .before .before .before .before .args .s))) (c .before .before .before .has .ensures) (c .before .before .if1 .left),
+    )
 
 returns-2 : tie.Need-returns-2
 returns-2 c =
-    rw (holds (c .before .before .before .has .result) (c .before .before .before .before .before .args .at + 8) (length (now (c .before .before .before .before .before .args .s))) (c .before .before .before .has .ensures) (c .before .before .if1 .left), toZ-ofZ w64 _ (record { sfits = c .signed64 .ok }) ∙ c .signed64 .ensures ∙ ap (signed 8) (c .before .number8 .ensures .0))
+    let at-number8 = c .before in
+    let at-if1 = at-number8 .before in
+    let at-has = at-if1 .before in
+    let args = at-has .before .before .args in
+    rw (
+      holds (at-has .has .result) (args .at + 8) (length (now (args .s))) (at-has .has .ensures) (at-if1 .if1 .left),
+      toZ-ofZ w64 _ (record { sfits = c .signed64 .ok }) ∙ c .signed64 .ensures
+          ∙ ap (signed 8) (at-number8 .number8 .ensures .0),
+    )
 
 pub read-i64-spec : {M : Type 1} → statement M
 read-i64-spec =

@@ -16,7 +16,9 @@ use Rattle.wire.proofs.read_length.Tie as tie
 
 returns : tie.Need-returns
 returns c =
-    rw (lacks (c .before .has .result) (c .before .before .before .args .at + 4) (length (now (c .before .before .before .args .s))) (c .before .has .ensures) (c .if1 .taken))
+    let at-has = c .before in
+    let args = at-has .before .before .args in
+    rw (lacks (at-has .has .result) (args .at + 4) (length (now (args .s))) (at-has .has .ensures) (c .if1 .taken))
 
 add-next : tie.Need-add-next
 add-next c =
@@ -24,22 +26,58 @@ add-next c =
 
 number4-requires : tie.Need-number4-requires
 number4-requires c κs =
-    room (c .before .has .result) (c .before .before .before .args .at + 4) (length (now (c .before .before .before .args .s))) (c .before .has .ensures) (c .if1 .left)
+    let at-has = c .before in
+    let args = at-has .before .before .args in
+    room (at-has .has .result) (args .at + 4) (length (now (args .s))) (at-has .has .ensures) (c .if1 .left)
 
 returns-2 : tie.Need-returns-2
 returns-2 c =
-    let a = c .before .before .before .before .before .before .before .before .args in
-    rw (holds (c .before .before .before .before .before .before .has .result) (a .at + 4) (length (now (a .s))) (c .before .before .before .before .before .before .has .ensures) (c .before .before .before .before .before .if1 .left), sym (c .before .before .length-of .ensures ∙ ap lengthOf (toZ-ofZ w32 _ (record { sfits = c .before .before .before .signed32 .ok }) ∙ c .before .before .before .signed32 .ensures ∙ ap (signed 4) (c .before .before .before .before .number4 .ensures .0))), c .enum-told .given .1)
+    let at-length-of = c .before .before in
+    let at-signed32 = at-length-of .before in
+    let at-number4 = at-signed32 .before in
+    let at-if1 = at-number4 .before in
+    let at-has = at-if1 .before in
+    let args = at-has .before .before .args in
+    let a = args in
+    rw (
+      holds (at-has .has .result) (a .at + 4) (length (now (a .s))) (at-has .has .ensures) (at-if1 .if1 .left),
+      sym (at-length-of .length-of .ensures
+          ∙ ap lengthOf (toZ-ofZ w32 _ (record { sfits = at-signed32 .signed32 .ok }) ∙ at-signed32 .signed32 .ensures ∙ ap (signed 4) (at-number4 .number4 .ensures .0))),
+      c .enum-told .given .1,
+    )
 
 returns-3 : tie.Need-returns-3
 returns-3 c =
-    let a = c .before .before .before .before .before .before .before .before .before .args in
-    rw (holds (c .before .before .before .before .before .before .before .has .result) (a .at + 4) (length (now (a .s))) (c .before .before .before .before .before .before .before .has .ensures) (c .before .before .before .before .before .before .if1 .left), sym (c .before .before .before .length-of .ensures ∙ ap lengthOf (toZ-ofZ w32 _ (record { sfits = c .before .before .before .before .signed32 .ok }) ∙ c .before .before .before .before .signed32 .ensures ∙ ap (signed 4) (c .before .before .before .before .before .number4 .ensures .0))), c .before .n .given .1)
+    let at-n = c .before in
+    let at-length-of = at-n .before .before in
+    let at-signed32 = at-length-of .before in
+    let at-number4 = at-signed32 .before in
+    let at-if1 = at-number4 .before in
+    let at-has = at-if1 .before in
+    let args = at-has .before .before .args in
+    let a = args in
+    rw (
+      holds (at-has .has .result) (a .at + 4) (length (now (a .s))) (at-has .has .ensures) (at-if1 .if1 .left),
+      sym (at-length-of .length-of .ensures
+          ∙ ap lengthOf (toZ-ofZ w32 _ (record { sfits = at-signed32 .signed32 .ok }) ∙ at-signed32 .signed32 .ensures ∙ ap (signed 4) (at-number4 .number4 .ensures .0))),
+      at-n .n .given .1,
+    )
 
 returns-4 : tie.Need-returns-4
 returns-4 c =
-    let a = c .before .before .before .before .before .before .before .before .args in
-    rw (holds (c .before .before .before .before .before .before .has .result) (a .at + 4) (length (now (a .s))) (c .before .before .before .before .before .before .has .ensures) (c .before .before .before .before .before .if1 .left), sym (c .before .before .length-of .ensures ∙ ap lengthOf (toZ-ofZ w32 _ (record { sfits = c .before .before .before .signed32 .ok }) ∙ c .before .before .before .signed32 .ensures ∙ ap (signed 4) (c .before .before .before .before .number4 .ensures .0))), c .enum-told2 .given .1)
+    let at-length-of = c .before .before in
+    let at-signed32 = at-length-of .before in
+    let at-number4 = at-signed32 .before in
+    let at-if1 = at-number4 .before in
+    let at-has = at-if1 .before in
+    let args = at-has .before .before .args in
+    let a = args in
+    rw (
+      holds (at-has .has .result) (a .at + 4) (length (now (a .s))) (at-has .has .ensures) (at-if1 .if1 .left),
+      sym (at-length-of .length-of .ensures
+          ∙ ap lengthOf (toZ-ofZ w32 _ (record { sfits = at-signed32 .signed32 .ok }) ∙ at-signed32 .signed32 .ensures ∙ ap (signed 4) (at-number4 .number4 .ensures .0))),
+      c .enum-told2 .given .1,
+    )
 
 pub read-length-spec : {M : Type 1} → statement M
 read-length-spec =

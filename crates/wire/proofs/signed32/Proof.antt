@@ -19,7 +19,8 @@ sub-result-2 c = minus-one-fits w32 (4294967295 - c .before .args .n) (omega ari
 
 returns-2 : tie.Need-returns-2
 returns-2 c =
-    let h : 4294967295 - c .before .args .n < 2 ^ 31 = omega arith in toZ-ofZ w32 _ (minus-one-fits w32 (4294967295 - c .before .args .n) h) ∙ minus-one w32 (4294967295 - c .before .args .n) h ∙ simp (le-ltb _ _ (c .if1 .left))
+    let h : 4294967295 - c .before .args .n < 2 ^ 31 = omega arith in
+    toZ-ofZ w32 _ (minus-one-fits w32 (4294967295 - c .before .args .n) h) ∙ minus-one w32 (4294967295 - c .before .args .n) h ∙ simp (le-ltb _ _ (c .if1 .left))
 
 pub signed32-spec : {M : Type 1} → statement M
 signed32-spec =

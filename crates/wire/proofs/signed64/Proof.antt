@@ -20,7 +20,8 @@ sub-result-2 c =
 
 returns-2 : tie.Need-returns-2
 returns-2 c =
-    let h : 18446744073709551615 - c .before .args .n < 2 ^ 63 = omega arith in toZ-ofZ w64 _ (minus-one-fits w64 (18446744073709551615 - c .before .args .n) h) ∙ minus-one w64 (18446744073709551615 - c .before .args .n) h ∙ simp (le-ltb _ _ (c .if1 .left))
+    let h : 18446744073709551615 - c .before .args .n < 2 ^ 63 = omega arith in
+    toZ-ofZ w64 _ (minus-one-fits w64 (18446744073709551615 - c .before .args .n) h) ∙ minus-one w64 (18446744073709551615 - c .before .args .n) h ∙ simp (le-ltb _ _ (c .if1 .left))
 
 pub signed64-spec : {M : Type 1} → statement M
 signed64-spec =

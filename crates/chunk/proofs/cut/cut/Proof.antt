@@ -11,31 +11,52 @@ use Rattle.chunk.proofs.cut.cut.Tie as tie
 
 returns : tie.Need-returns
 returns c =
-    let a = c .before .before .before .before .args in
-    refused-way (now (a .payload)) (a .number) (a .size) (a .k) (now (a .out)) _ (c .before .cut-rule .ensures) (c .if1 .taken)
+    let at-cut-rule = c .before in
+    let args = at-cut-rule .before .before .before .args in
+    let a = args in
+    refused-way (now (a .payload)) (a .number) (a .size) (a .k) (now (a .out)) _ (at-cut-rule .cut-rule .ensures) (c .if1 .taken)
 
 mul-offset : tie.Need-mul-offset
 mul-offset c =
-    let a = c .before .before .before .before .args in
-    let c₁ = cuts (length (now (a .payload))) (a .size) (a .k) (sym (c .before .cut-rule .ensures) ∙ c .if1 .left) in
+    let at-cut-rule = c .before in
+    let args = at-cut-rule .before .before .before .args in
+    let a = args in
+    let c₁ = cuts (length (now (a .payload))) (a .size) (a .k) (sym (at-cut-rule .cut-rule .ensures) ∙ c .if1 .left) in
     omega (arith, c₁ .inside, c₁ .small)
 
 returns-2 : tie.Need-returns-2
 returns-2 c =
-    let a = c .before .before .before .before .before .before .args in
-    short-way (now (a .payload)) (a .number) (a .size) (a .k) (now (a .out)) (sym (c .before .before .before .cut-rule .ensures) ∙ c .before .before .if1 .left) (omega (arith, c .if2 .taken, ap length (c .before .part .ensures)))
+    let at-part = c .before in
+    let at-if1 = at-part .before in
+    let at-cut-rule = at-if1 .before in
+    let args = at-cut-rule .before .before .before .args in
+    let a = args in
+    short-way (now (a .payload)) (a .number) (a .size) (a .k) (now (a .out)) (sym (at-cut-rule .cut-rule .ensures) ∙ at-if1 .if1 .left)
+    (omega (arith, c .if2 .taken, ap length (at-part .part .ensures)))
 
 put-payload-requires : tie.Need-put-payload-requires
 put-payload-requires c κs =
-    let a = c .before .before .before .before .before .before .before .args in
-    let c₁ = cuts (length (now (a .payload))) (a .size) (a .k) (sym (c .before .before .before .before .cut-rule .ensures) ∙ c .before .before .before .if1 .left) in
+    let at-if2 = c .before in
+    let at-part = at-if2 .before in
+    let at-if1 = at-part .before in
+    let at-cut-rule = at-if1 .before in
+    let args = at-cut-rule .before .before .before .args in
+    let a = args in
+    let c₁ = cuts (length (now (a .payload))) (a .size) (a .k) (sym (at-cut-rule .cut-rule .ensures) ∙ at-if1 .if1 .left) in
     let d = data-most (now (a .payload)) (a .size) (a .k) in
-    (omega (arith, c₁ .inside, c₁ .small), omega (arith, c₁ .small), omega (arith, c₁ .small, d, ap length (c .before .before .part .ensures)), omega (arith, c .before .if2 .left))
+    (omega (arith, c₁ .inside, c₁ .small), omega (arith, c₁ .small), omega (arith, c₁ .small, d, ap length (at-part .part .ensures)), omega (arith, at-if2 .if2 .left))
 
 returns-3 : tie.Need-returns-3
 returns-3 c =
-    let a = c .before .before .before .before .before .before .before .before .before .before .args in
-    done-way (now (a .payload)) (a .number) (a .size) (a .k) (now (a .out)) (sym (c .before .before .before .before .before .before .before .cut-rule .ensures) ∙ c .before .before .before .before .before .before .if1 .left) _ _ (c .before .before .before .before .before .part .ensures) (c .before .before .before .before .if2 .left) (c .before .before .put-payload .ensures)
+    let at-put-payload = c .before .before in
+    let at-if2 = at-put-payload .before .before in
+    let at-part = at-if2 .before in
+    let at-if1 = at-part .before in
+    let at-cut-rule = at-if1 .before in
+    let args = at-cut-rule .before .before .before .args in
+    let a = args in
+    done-way (now (a .payload)) (a .number) (a .size) (a .k) (now (a .out)) (sym (at-cut-rule .cut-rule .ensures) ∙ at-if1 .if1 .left) _ _
+    (at-part .part .ensures) (at-if2 .if2 .left) (at-put-payload .put-payload .ensures)
 
 pub cut-spec : {M : Type 1} → statement M
 cut-spec =

@@ -23,12 +23,18 @@ returns-3 c =
 returns-4 : tie.Need-returns-4
 unfolding cutRule
 returns-4 c =
-    rw (ne-eqb _ _ (c .before .before .before .if1 .left), ne-eqb _ _ (c .before .before .if2 .left), le-ltb _ _ (c .before .if3 .left), past-yes _ _ _ (c .before .before .before .if1 .left) (c .before .before .if2 .left) (c .if4 .taken))
+    let at-if3 = c .before in
+    let at-if2 = at-if3 .before in
+    let at-if1 = at-if2 .before in
+    rw (ne-eqb _ _ (at-if1 .if1 .left), ne-eqb _ _ (at-if2 .if2 .left), le-ltb _ _ (at-if3 .if3 .left), past-yes _ _ _ (at-if1 .if1 .left) (at-if2 .if2 .left) (c .if4 .taken))
 
 returns-5 : tie.Need-returns-5
 unfolding cutRule
 returns-5 c =
-    rw (ne-eqb _ _ (c .before .before .before .if1 .left), ne-eqb _ _ (c .before .before .if2 .left), le-ltb _ _ (c .before .if3 .left), past-no _ _ _ (c .before .before .before .if1 .left) (c .before .before .if2 .left) (c .if4 .left))
+    let at-if3 = c .before in
+    let at-if2 = at-if3 .before in
+    let at-if1 = at-if2 .before in
+    rw (ne-eqb _ _ (at-if1 .if1 .left), ne-eqb _ _ (at-if2 .if2 .left), le-ltb _ _ (at-if3 .if3 .left), past-no _ _ _ (at-if1 .if1 .left) (at-if2 .if2 .left) (c .if4 .left))
 
 pub cut-rule-spec : {M : Type 1} → statement M
 cut-rule-spec =

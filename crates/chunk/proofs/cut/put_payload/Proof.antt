@@ -8,7 +8,15 @@ use Rattle.chunk.proofs.cut.put_payload.Tie as tie
 
 returns : tie.Need-returns
 returns c =
-    laid-payload (now (c .before .before .before .before .before .before .before .before .before .before .before .before .before .before .before .before .before .before .before .before .before .before .args .out)) (c .before .before .before .before .before .before .before .before .before .before .before .before .before .before .before .before .before .before .before .before .before .before .args .number) (c .before .before .before .before .before .before .before .before .before .before .before .before .before .before .before .before .before .before .before .before .before .before .args .offset) (c .before .before .before .before .before .before .before .before .before .before .before .before .before .before .before .before .before .before .before .before .before .before .args .total) (now (c .before .before .before .before .before .before .before .before .before .before .before .before .before .before .before .before .before .before .before .before .before .before .args .bytes)) _ _ _ _ _ (c .before .before .before .before .before .before .before .before .before .before .before .before .before .before .before .before .before .before .before .before .before .before .pre .3) (c .before .before .before .before .before .before .before .before .before .before .before .before .before .before .before .before .before .before .put16 .ensures) (c .before .before .before .before .before .before .before .before .before .before .before .before .before .before .put32 .ensures) (c .before .before .before .before .before .before .before .before .before .before .put322 .ensures) (c .before .before .before .before .before .before .put323 .ensures) (c .before .before .put-run .ensures)
+    let at-put-run = c .before .before in
+    let at-put323 = at-put-run .before .before .before .before in
+    let at-put322 = at-put323 .before .before .before .before in
+    let at-put32 = at-put322 .before .before .before .before in
+    let at-put16 = at-put32 .before .before .before .before in
+    let at-pre = at-put16 .before .before .before .before in
+    laid-payload (now (at-pre .args .out)) (at-pre .args .number) (at-pre .args .offset) (at-pre .args .total)
+    (now (at-pre .args .bytes)) _ _ _ _ _ (at-pre .pre .3) (at-put16 .put16 .ensures) (at-put32 .put32 .ensures)
+    (at-put322 .put322 .ensures) (at-put323 .put323 .ensures) (at-put-run .put-run .ensures)
 
 pub put-payload-spec : {M : Type 1} → statement M
 put-payload-spec =

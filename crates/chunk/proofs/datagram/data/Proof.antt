@@ -9,11 +9,15 @@ use Rattle.chunk.proofs.datagram.data.Tie as tie
 
 returns : tie.Need-returns
 returns c =
-    rw (sym (told answerChunk (c .before .before .before .read .ensures) (c .before .enum-told .given .1))) (c .part .ensures)
+    let at-enum-told = c .before in
+    let at-read = at-enum-told .before .before in
+    rw (sym (told answerChunk (at-read .read .ensures) (at-enum-told .enum-told .given .1))) (c .part .ensures)
 
 returns-2 : tie.Need-returns-2
 returns-2 c =
-    rw (sym (told answerChunk (c .before .before .before .before .before .read .ensures) (c .before .before .before .c .given .1))) (c .part2 .ensures)
+    let at-c = c .before .before .before in
+    let at-read = at-c .before .before in
+    rw (sym (told answerChunk (at-read .read .ensures) (at-c .c .given .1))) (c .part2 .ensures)
 
 pub data-spec : {M : Type 1} → statement M
 data-spec =

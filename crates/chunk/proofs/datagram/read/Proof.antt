@@ -9,11 +9,15 @@ use Rattle.chunk.proofs.datagram.read.Tie as tie
 
 returns : tie.Need-returns
 returns c =
-    rw (sym (told answerNetworkMessage (c .before .before .before .read .ensures) (c .before .n .given .1)))
+    let at-n = c .before in
+    let at-read = at-n .before .before in
+    rw (sym (told answerNetworkMessage (at-read .read .ensures) (at-n .n .given .1)))
 
 returns-2 : tie.Need-returns-2
 returns-2 c =
-    rw (sym (told answerNetworkMessage (c .before .before .before .before .read .ensures) (c .before .before .e .given .1))) (c .read-chunk .ensures)
+    let at-e = c .before .before in
+    let at-read = at-e .before .before in
+    rw (sym (told answerNetworkMessage (at-read .read .ensures) (at-e .e .given .1))) (c .read-chunk .ensures)
 
 pub read-spec : {M : Type 1} → statement M
 read-spec =

@@ -10,15 +10,25 @@ use Rattle.chunk.proofs.datagram.read_chunk.Tie as tie
 
 returns : tie.Need-returns
 returns c =
-    rw (not-true (c .before .before .before .args .e .chunk) (c .if1 .taken))
+    let args = c .before .before .before .args in
+    rw (not-true (args .e .chunk) (c .if1 .taken))
 
 returns-2 : tie.Need-returns-2
 returns-2 c =
-    rw (not-false (c .before .before .before .before .before .before .before .before .args .e .chunk) (c .before .before .before .before .before .if1 .left), sym (told answerPayload (c .before .before .before .read-payload .ensures) (c .before .n .given .1)))
+    let at-n = c .before in
+    let at-read-payload = at-n .before .before in
+    let at-if1 = at-read-payload .before .before in
+    let args = at-if1 .before .before .before .args in
+    rw (not-false (args .e .chunk) (at-if1 .if1 .left), sym (told answerPayload (at-read-payload .read-payload .ensures) (at-n .n .given .1)))
 
 returns-3 : tie.Need-returns-3
 returns-3 c =
-    rw (not-false (c .before .before .before .before .before .before .before .before .args .e .chunk) (c .before .before .before .before .before .if1 .left), sym (told answerPayload (c .before .before .before .read-payload .ensures) (c .before .payload .given .1)), sym (c .before .before .before .before .writer-of .ensures))
+    let at-payload = c .before in
+    let at-read-payload = at-payload .before .before in
+    let at-writer-of = at-read-payload .before in
+    let at-if1 = at-writer-of .before in
+    let args = at-if1 .before .before .before .args in
+    rw (not-false (args .e .chunk) (at-if1 .if1 .left), sym (told answerPayload (at-read-payload .read-payload .ensures) (at-payload .payload .given .1)), sym (at-writer-of .writer-of .ensures))
 
 pub read-chunk-spec : {M : Type 1} → statement M
 read-chunk-spec =

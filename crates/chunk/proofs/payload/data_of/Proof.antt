@@ -10,15 +10,23 @@ use Rattle.chunk.proofs.payload.data_of.Tie as tie
 
 returns : tie.Need-returns
 returns c =
-    rw (sym (told (answerRun (c .before .before .before .before .args .first) (c .before .before .before .before .args .length)) (c .before .before .skip .ensures) (c .enum-told .given .1)))
+    let at-skip = c .before .before in
+    let args = at-skip .before .before .args in
+    rw (sym (told (answerRun (args .first) (args .length)) (at-skip .skip .ensures) (c .enum-told .given .1)))
 
 returns-2 : tie.Need-returns-2
 returns-2 c =
-    rw (sym (told (answerRun (c .before .before .before .before .before .before .args .first) (c .before .before .before .before .before .before .args .length)) (c .before .before .before .before .skip .ensures) (c .before .before .end .given .1)), ne-eqb _ _ (c .if1 .taken))
+    let at-end = c .before .before in
+    let at-skip = at-end .before .before in
+    let args = at-skip .before .before .args in
+    rw (sym (told (answerRun (args .first) (args .length)) (at-skip .skip .ensures) (at-end .end .given .1)), ne-eqb _ _ (c .if1 .taken))
 
 returns-3 : tie.Need-returns-3
 returns-3 c =
-    rw (sym (told (answerRun (c .before .before .before .before .before .before .args .first) (c .before .before .before .before .before .before .args .length)) (c .before .before .before .before .skip .ensures) (c .before .before .end .given .1)), eq-eqb _ _ (c .if1 .left))
+    let at-end = c .before .before in
+    let at-skip = at-end .before .before in
+    let args = at-skip .before .before .args in
+    rw (sym (told (answerRun (args .first) (args .length)) (at-skip .skip .ensures) (at-end .end .given .1)), eq-eqb _ _ (c .if1 .left))
 
 pub data-of-spec : {M : Type 1} → statement M
 data-of-spec =

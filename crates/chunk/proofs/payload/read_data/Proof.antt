@@ -9,11 +9,15 @@ use Rattle.chunk.proofs.payload.read_data.Tie as tie
 
 returns : tie.Need-returns
 returns c =
-    rw (sym (told answerSize (c .before .before .before .read-data-length .ensures) (c .before .n .given .1)))
+    let at-n = c .before in
+    let at-read-data-length = at-n .before .before in
+    rw (sym (told answerSize (at-read-data-length .read-data-length .ensures) (at-n .n .given .1)))
 
 returns-2 : tie.Need-returns-2
 returns-2 c =
-    rw (sym (told answerSize (c .before .before .before .before .read-data-length .ensures) (c .before .before .length .given .1))) (c .data-of .ensures)
+    let at-length = c .before .before in
+    let at-read-data-length = at-length .before .before in
+    rw (sym (told answerSize (at-read-data-length .read-data-length .ensures) (at-length .length .given .1))) (c .data-of .ensures)
 
 pub read-data-spec : {M : Type 1} → statement M
 read-data-spec =

@@ -9,19 +9,28 @@ use Rattle.chunk.proofs.payload.read_data_length.Tie as tie
 
 returns : tie.Need-returns
 returns c =
-    rw (sym (told (answerLength (c .before .before .before .before .args .at)) (c .before .before .read-length .ensures) (c .enum-told .given .1)))
+    let at-read-length = c .before .before in
+    let args = at-read-length .before .before .args in
+    rw (sym (told (answerLength (args .at)) (at-read-length .read-length .ensures) (c .enum-told .given .1)))
 
 returns-2 : tie.Need-returns-2
 returns-2 c =
-    rw (sym (told (answerLength (c .before .before .before .before .before .before .args .at)) (c .before .before .before .before .read-length .ensures) (c .before .before .next .given .1))) (c .sized-data .ensures)
+    let at-next = c .before .before in
+    let at-read-length = at-next .before .before in
+    let args = at-read-length .before .before .args in
+    rw (sym (told (answerLength (args .at)) (at-read-length .read-length .ensures) (at-next .next .given .1))) (c .sized-data .ensures)
 
 returns-3 : tie.Need-returns-3
 returns-3 c =
-    rw (sym (told (answerLength (c .before .before .before .before .args .at)) (c .before .before .read-length .ensures) (c .enum-told2 .given .1)))
+    let at-read-length = c .before .before in
+    let args = at-read-length .before .before .args in
+    rw (sym (told (answerLength (args .at)) (at-read-length .read-length .ensures) (c .enum-told2 .given .1)))
 
 returns-4 : tie.Need-returns-4
 returns-4 c =
-    rw (sym (told (answerLength (c .before .before .before .before .args .at)) (c .before .before .read-length .ensures) (c .enum-told3 .given .1)))
+    let at-read-length = c .before .before in
+    let args = at-read-length .before .before .args in
+    rw (sym (told (answerLength (args .at)) (at-read-length .read-length .ensures) (c .enum-told3 .given .1)))
 
 pub read-data-length-spec : {M : Type 1} → statement M
 read-data-length-spec =

@@ -9,11 +9,16 @@ use Rattle.chunk.proofs.payload.read_payload.Tie as tie
 
 returns : tie.Need-returns
 returns c =
-    rw (sym (told (answer16 (c .before .before .before .before .args .at)) (c .before .before .read16 .ensures) (c .enum-told .given .1)))
+    let at-read16 = c .before .before in
+    let args = at-read16 .before .before .args in
+    rw (sym (told (answer16 (args .at)) (at-read16 .read16 .ensures) (c .enum-told .given .1)))
 
 returns-2 : tie.Need-returns-2
 returns-2 c =
-    rw (sym (told (answer16 (c .before .before .before .before .before .before .args .at)) (c .before .before .before .before .read16 .ensures) (c .before .before .number .given .1))) (c .read-rest .ensures)
+    let at-number = c .before .before in
+    let at-read16 = at-number .before .before in
+    let args = at-read16 .before .before .args in
+    rw (sym (told (answer16 (args .at)) (at-read16 .read16 .ensures) (at-number .number .given .1))) (c .read-rest .ensures)
 
 pub read-payload-spec : {M : Type 1} → statement M
 read-payload-spec =

@@ -10,19 +10,48 @@ use Rattle.chunk.proofs.payload.read_rest.Tie as tie
 
 returns : tie.Need-returns
 returns c =
-    rw (sym (told (answer32 (c .before .before .before .before .args .at)) (c .before .before .read32 .ensures) (c .enum-told .given .1)))
+    let at-read32 = c .before .before in
+    let args = at-read32 .before .before .args in
+    rw (sym (told (answer32 (args .at)) (at-read32 .read32 .ensures) (c .enum-told .given .1)))
 
 returns-2 : tie.Need-returns-2
 returns-2 c =
-    rw (sym (told (answer32 (c .before .before .before .before .before .before .before .before .before .args .at)) (c .before .before .before .before .before .before .before .read32 .ensures) (c .before .before .before .before .before .v .given .1)), sym (told answerSize (c .before .before .before .read-total .ensures) (c .before .n .given .1)))
+    let at-n = c .before in
+    let at-read-total = at-n .before .before in
+    let at-v = at-read-total .before .before in
+    let at-read32 = at-v .before .before in
+    let args = at-read32 .before .before .args in
+    rw (sym (told (answer32 (args .at)) (at-read32 .read32 .ensures) (at-v .v .given .1)), sym (told answerSize (at-read-total .read-total .ensures) (at-n .n .given .1)))
 
 returns-3 : tie.Need-returns-3
 returns-3 c =
-    rw (sym (told (answer32 (c .before .before .before .before .before .before .before .before .before .before .before .before .before .args .at)) (c .before .before .before .before .before .before .before .before .before .before .before .read32 .ensures) (c .before .before .before .before .before .before .before .before .before .v .given .1)), sym (told answerSize (c .before .before .before .before .before .before .before .read-total .ensures) (c .before .before .before .before .before .total .given .1)), sym (told answerData (c .before .before .before .read-data .ensures) (c .before .n2 .given .1)))
+    let at-n2 = c .before in
+    let at-read-data = at-n2 .before .before in
+    let at-total = at-read-data .before .before in
+    let at-read-total = at-total .before .before in
+    let at-v = at-read-total .before .before in
+    let at-read32 = at-v .before .before in
+    let args = at-read32 .before .before .args in
+    rw (
+      sym (told (answer32 (args .at)) (at-read32 .read32 .ensures) (at-v .v .given .1)),
+      sym (told answerSize (at-read-total .read-total .ensures) (at-total .total .given .1)),
+      sym (told answerData (at-read-data .read-data .ensures) (at-n2 .n2 .given .1)),
+    )
 
 returns-4 : tie.Need-returns-4
 returns-4 c =
-    rw (sym (told (answer32 (c .before .before .before .before .before .before .before .before .before .before .before .before .before .args .at)) (c .before .before .before .before .before .before .before .before .before .before .before .read32 .ensures) (c .before .before .before .before .before .before .before .before .before .v .given .1)), sym (told answerSize (c .before .before .before .before .before .before .before .read-total .ensures) (c .before .before .before .before .before .total .given .1)), sym (told answerData (c .before .before .before .read-data .ensures) (c .before .d .given .1)))
+    let at-d = c .before in
+    let at-read-data = at-d .before .before in
+    let at-total = at-read-data .before .before in
+    let at-read-total = at-total .before .before in
+    let at-v = at-read-total .before .before in
+    let at-read32 = at-v .before .before in
+    let args = at-read32 .before .before .args in
+    rw (
+      sym (told (answer32 (args .at)) (at-read32 .read32 .ensures) (at-v .v .given .1)),
+      sym (told answerSize (at-read-total .read-total .ensures) (at-total .total .given .1)),
+      sym (told answerData (at-read-data .read-data .ensures) (at-d .d .given .1)),
+    )
 
 pub read-rest-spec : {M : Type 1} → statement M
 read-rest-spec =

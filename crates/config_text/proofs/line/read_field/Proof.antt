@@ -9,19 +9,34 @@ use Rattle.config_text.proofs.line.read_field.Tie as tie
 
 returns : tie.Need-returns
 returns c =
-    field-none (c .before .before .before .before .args .s .now) (c .before .before .before .before .args .at) (sym (c .before .before .read-decimal .ensures) ∙ c .enum-told .given .1)
+    let at-read-decimal = c .before .before in
+    let args = at-read-decimal .before .before .args in
+    field-none (args .s .now) (args .at) (sym (at-read-decimal .read-decimal .ensures) ∙ c .enum-told .given .1)
 
 cast-kind : tie.Need-cast-kind
 cast-kind c =
-    omega (arith, field-within (c .before .before .before .before .before .args .s .now) (c .before .before .before .before .before .args .at) (c .before .read .given .0 .0) (c .before .read .given .0 .1 .0) (sym (c .before .before .before .read-decimal .ensures) ∙ c .before .read .given .1))
+    omega (
+      arith,
+      field-within (c .before .before .before .before .before .args .s .now)
+          (c .before .before .before .before .before .args .at) (c .before .read .given .0 .0) (c .before .read .given .0 .1 .0)
+          (sym (c .before .before .before .read-decimal .ensures) ∙ c .before .read .given .1),
+    )
 
 returns-2 : tie.Need-returns-2
 returns-2 c =
-    field-other (c .before .before .before .before .before .before .before .args .s .now) (c .before .before .before .before .before .before .before .args .at) _ _ (sym (c .before .before .before .before .before .read-decimal .ensures) ∙ c .before .before .before .read .given .1) (sym (c .before .width .ensures .0) ∙ c .if1 .taken)
+    let at-width = c .before in
+    let at-read = at-width .before .before in
+    let at-read-decimal = at-read .before .before in
+    let args = at-read-decimal .before .before .args in
+    field-other (args .s .now) (args .at) _ _ (sym (at-read-decimal .read-decimal .ensures) ∙ at-read .read .given .1) (sym (at-width .width .ensures .0) ∙ c .if1 .taken)
 
 returns-3 : tie.Need-returns-3
 returns-3 c =
-    field-is (c .before .before .before .before .before .before .before .args .s .now) (c .before .before .before .before .before .before .before .args .at) _ _ (sym (c .before .before .before .before .before .read-decimal .ensures) ∙ c .before .before .before .read .given .1) (λ z. c .if1 .left (c .before .width .ensures .0 ∙ z))
+    let at-width = c .before in
+    let at-read = at-width .before .before in
+    let at-read-decimal = at-read .before .before in
+    let args = at-read-decimal .before .before .args in
+    field-is (args .s .now) (args .at) _ _ (sym (at-read-decimal .read-decimal .ensures) ∙ at-read .read .given .1) (λ z. c .if1 .left (at-width .width .ensures .0 ∙ z))
 
 pub read-field-spec : {M : Type 1} → statement M
 read-field-spec =

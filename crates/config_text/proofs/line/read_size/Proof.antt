@@ -14,19 +14,35 @@ add-t10 c =
 
 returns : tie.Need-returns
 returns c =
-    size-dash (c .before .before .before .before .args .s .now) (c .before .before .before .before .args .at) (sym (c .before .starts-with .ensures) ∙ c .if1 .taken)
+    let at-starts-with = c .before in
+    let args = at-starts-with .before .before .before .args in
+    size-dash (args .s .now) (args .at) (sym (at-starts-with .starts-with .ensures) ∙ c .if1 .taken)
 
 returns-2 : tie.Need-returns-2
 returns-2 c =
-    size-none (c .before .before .before .before .before .before .before .args .s .now) (c .before .before .before .before .before .before .before .args .at) (sym (c .before .before .before .before .starts-with .ensures) ∙ c .before .before .before .if1 .left) (sym (c .before .before .read-decimal .ensures) ∙ c .enum-told .given .1)
+    let at-read-decimal = c .before .before in
+    let at-if1 = at-read-decimal .before in
+    let at-starts-with = at-if1 .before in
+    let args = at-starts-with .before .before .before .args in
+    size-none (args .s .now) (args .at) (sym (at-starts-with .starts-with .ensures) ∙ at-if1 .if1 .left) (sym (at-read-decimal .read-decimal .ensures) ∙ c .enum-told .given .1)
 
 returns-3 : tie.Need-returns-3
 returns-3 c =
-    size-zero (c .before .before .before .before .before .before .before .before .before .args .s .now) (c .before .before .before .before .before .before .before .before .before .args .at) (sym (c .before .before .before .before .before .before .starts-with .ensures) ∙ c .before .before .before .before .before .if1 .left) _ _ (sym (c .before .before .before .before .read-decimal .ensures) ∙ c .before .before .read .given .1) (c .if2 .taken)
+    let at-read = c .before .before in
+    let at-read-decimal = at-read .before .before in
+    let at-if1 = at-read-decimal .before in
+    let at-starts-with = at-if1 .before in
+    let args = at-starts-with .before .before .before .args in
+    size-zero (args .s .now) (args .at) (sym (at-starts-with .starts-with .ensures) ∙ at-if1 .if1 .left) _ _ (sym (at-read-decimal .read-decimal .ensures) ∙ at-read .read .given .1) (c .if2 .taken)
 
 returns-4 : tie.Need-returns-4
 returns-4 c =
-    size-is (c .before .before .before .before .before .before .before .before .before .args .s .now) (c .before .before .before .before .before .before .before .before .before .args .at) (sym (c .before .before .before .before .before .before .starts-with .ensures) ∙ c .before .before .before .before .before .if1 .left) _ _ (sym (c .before .before .before .before .read-decimal .ensures) ∙ c .before .before .read .given .1) (c .if2 .left)
+    let at-read = c .before .before in
+    let at-read-decimal = at-read .before .before in
+    let at-if1 = at-read-decimal .before in
+    let at-starts-with = at-if1 .before in
+    let args = at-starts-with .before .before .before .args in
+    size-is (args .s .now) (args .at) (sym (at-starts-with .starts-with .ensures) ∙ at-if1 .if1 .left) _ _ (sym (at-read-decimal .read-decimal .ensures) ∙ at-read .read .given .1) (c .if2 .left)
 
 pub read-size-spec : {M : Type 1} → statement M
 read-size-spec =

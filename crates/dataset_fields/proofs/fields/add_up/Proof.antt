@@ -24,11 +24,17 @@ loop-holds c = (omega arith, refl)
 
 returns : tie.Need-returns Inv-loop μ-loop
 returns c =
-    sym (c .before .before .before .loop .inv .1 ∙ total-stop (now (c .before .before .before .before .args .lengths)) (c .before .before .before .loop .k) (c .before .before .before .loop .left) (c .before .before .loop-test .taken) (c .if1 .taken))
+    let at-loop-test = c .before .before in
+    let at-loop = at-loop-test .before in
+    let args = at-loop .before .args in
+    sym (at-loop .loop .inv .1 ∙ total-stop (now (args .lengths)) (at-loop .loop .k) (at-loop .loop .left) (at-loop-test .loop-test .taken) (c .if1 .taken))
 
 loop-again : tie.Need-loop-again Inv-loop μ-loop
 loop-again c =
-    (omega arith, c .before .before .before .loop .inv .1 ∙ total-step (now (c .before .before .before .before .args .lengths)) (c .before .before .before .loop .k) (c .before .before .before .loop .left) (c .before .before .loop-test .taken) (c .if1 .left))
+    let at-loop-test = c .before .before in
+    let at-loop = at-loop-test .before in
+    let args = at-loop .before .args in
+    (omega arith, at-loop .loop .inv .1 ∙ total-step (now (args .lengths)) (at-loop .loop .k) (at-loop .loop .left) (at-loop-test .loop-test .taken) (c .if1 .left))
 
 returns-2 : tie.Need-returns-2 Inv-loop μ-loop
 returns-2 c =

@@ -35,8 +35,12 @@ loop-less : tie.Need-loop-less Inv-loop μ-loop
 loop-less c = omega arith
 
 loop-again : tie.Need-loop-again Inv-loop μ-loop
-loop-again c =
-    (omega arith, omega arith, omega (arith, length-set (c .before .loop .out) (c .before .before .args .at + c .before .loop .i) 0), sym (fill-step (c .before .loop .out) (c .before .before .args .at) (c .before .before .args .n) (c .before .loop .i) (c .loop-test .taken)) ∙ c .before .loop .inv .3)
+loop-again c = (
+  omega arith,
+  omega arith,
+  omega (arith, length-set (c .before .loop .out) (c .before .before .args .at + c .before .loop .i) 0),
+  sym (fill-step (c .before .loop .out) (c .before .before .args .at) (c .before .before .args .n) (c .before .loop .i) (c .loop-test .taken)) ∙ c .before .loop .inv .3,
+)
 
 same-length : tie.Need-same-length Inv-loop μ-loop
 same-length c = omega arith

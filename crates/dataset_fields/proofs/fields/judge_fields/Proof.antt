@@ -15,11 +15,19 @@ use Rattle.dataset_fields.proofs.fields.judge_fields.Tie as tie
 
 judge-first-requires : tie.Need-judge-first-requires
 judge-first-requires c κs =
-    rw (c .reached-count .ensures) (reached-within (c .before .is-raw .result) (length (now (c .before .before .before .before .before .args .types))) (length (now (c .before .before .before .before .before .args .lengths))))
+    let at-is-raw = c .before in
+    let args = at-is-raw .before .before .before .before .args in
+    rw (c .reached-count .ensures) (reached-within (at-is-raw .is-raw .result) (length (now (args .types))) (length (now (args .lengths))))
 
 returns : tie.Need-returns
 returns c =
-    c .judge-first .ensures ∙ ap (λ (n : ℕ). fieldsNumber (c .before .before .before .before .before .before .args .encoding) (now (c .before .before .before .before .before .before .args .types)) 0 (take n (valuesOf (now (c .before .before .before .before .before .before .args .lengths)) (now (c .before .before .before .before .before .before .args .values))))) (c .before .reached-count .ensures ∙ ap (λ (r : Bool). reachedCount r (length (now (c .before .before .before .before .before .before .args .types))) (length (now (c .before .before .before .before .before .before .args .lengths)))) (c .before .before .is-raw .ensures)) ∙ ap (λ (vs : List (List ℕ)). fieldsNumber (c .before .before .before .before .before .before .args .encoding) (now (c .before .before .before .before .before .before .args .types)) 0 vs) (reached-is (isRaw (c .before .before .before .before .before .before .args .encoding)) (now (c .before .before .before .before .before .before .args .types)) (now (c .before .before .before .before .before .before .args .lengths)) (now (c .before .before .before .before .before .before .args .values)))
+    let at-reached-count = c .before in
+    let at-is-raw = at-reached-count .before in
+    let args = at-is-raw .before .before .before .before .args in
+    c .judge-first .ensures ∙ ap
+    (λ (n : ℕ). fieldsNumber (args .encoding) (now (args .types)) 0 (take n (valuesOf (now (args .lengths)) (now (args .values)))))
+    (at-reached-count .reached-count .ensures ∙ ap (λ (r : Bool). reachedCount r (length (now (args .types))) (length (now (args .lengths)))) (at-is-raw .is-raw .ensures))
+    ∙ ap (λ (vs : List (List ℕ)). fieldsNumber (args .encoding) (now (args .types)) 0 vs) (reached-is (isRaw (args .encoding)) (now (args .types)) (now (args .lengths)) (now (args .values)))
 
 pub judge-fields-spec : {M : Type 1} → statement M
 judge-fields-spec =

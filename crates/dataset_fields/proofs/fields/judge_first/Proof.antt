@@ -21,23 +21,55 @@ abbrev μ-loop : tie.MeasureT-loop
 
 loop-holds : tie.Need-loop-holds Inv-loop μ-loop
 loop-holds c =
-    (omega arith, omega arith, judge-start (c .before .before .before .args .encoding) (now (c .before .before .before .args .types)) (now (c .before .before .before .args .lengths)) (now (c .before .before .before .args .values)) (c .before .before .before .args .count))
+    let args = c .before .before .before .args in
+    (omega arith, omega arith, judge-start (args .encoding) (now (args .types)) (now (args .lengths)) (now (args .values)) (args .count))
 
 returns : tie.Need-returns Inv-loop μ-loop
 returns c =
-    sym (c .before .before .before .before .before .before .before .loop .inv .2 ∙ judge-stop (c .before .before .before .before .before .before .before .before .before .before .before .args .encoding) (now (c .before .before .before .before .before .before .before .before .before .before .before .args .types)) (now (c .before .before .before .before .before .before .before .before .before .before .before .args .lengths)) (now (c .before .before .before .before .before .before .before .before .before .before .before .args .values)) (c .before .before .before .before .before .before .before .before .before .before .before .args .count) (c .before .before .before .before .before .before .before .loop .k) (c .before .before .before .before .before .before .before .loop .at) _ _ (c .before .before .before .before .before .before .before .loop .whole) _ _ (c .before .before .before .before .before .before .loop-test .taken) (c .before .before .before .before .before .before .before .loop .inv .1) refl (c .before .before .before .before .part .ensures) (sym (told answerField (c .before .before .before .read-field .ensures) (c .before .number .given .1))))
+    let at-number = c .before in
+    let at-read-field = at-number .before .before in
+    let at-part = at-read-field .before in
+    let at-loop-test = at-part .before .before in
+    let at-loop = at-loop-test .before in
+    let args = at-loop .before .before .before .before .args in
+    sym (at-loop .loop .inv .2
+    ∙ judge-stop (args .encoding) (now (args .types)) (now (args .lengths)) (now (args .values)) (args .count) (at-loop .loop .k)
+    (at-loop .loop .at) _ _ (at-loop .loop .whole) _ _ (at-loop-test .loop-test .taken) (at-loop .loop .inv .1) refl
+    (at-part .part .ensures) (sym (told answerField (at-read-field .read-field .ensures) (at-number .number .given .1))))
 
 loop-again : tie.Need-loop-again Inv-loop μ-loop
 loop-again c =
-    (omega arith, c .before .before .before .before .before .before .before .before .loop .inv .1, c .before .before .before .before .before .before .before .before .loop .inv .2 ∙ judge-step (c .before .before .before .before .before .before .before .before .before .before .before .before .args .encoding) (now (c .before .before .before .before .before .before .before .before .before .before .before .before .args .types)) (now (c .before .before .before .before .before .before .before .before .before .before .before .before .args .lengths)) (now (c .before .before .before .before .before .before .before .before .before .before .before .before .args .values)) (c .before .before .before .before .before .before .before .before .before .before .before .before .args .count) (c .before .before .before .before .before .before .before .before .loop .k) (c .before .before .before .before .before .before .before .before .loop .at) _ _ _ (c .before .before .before .before .before .before .before .before .loop .whole) _ _ (c .before .before .before .before .before .before .before .loop-test .taken) (c .before .before .before .before .before .before .before .before .loop .inv .1) refl (c .before .before .before .before .before .part .ensures) (c .forward .ensures) (sym (told answerField (c .before .before .before .before .read-field .ensures) (c .before .before .end .given .1))))
+    let at-end = c .before .before in
+    let at-read-field = at-end .before .before in
+    let at-part = at-read-field .before in
+    let at-loop-test = at-part .before .before in
+    let at-loop = at-loop-test .before in
+    let args = at-loop .before .before .before .before .args in (
+      omega arith,
+      at-loop .loop .inv .1,
+      at-loop .loop .inv .2
+          ∙ judge-step (args .encoding) (now (args .types)) (now (args .lengths)) (now (args .values)) (args .count) (at-loop .loop .k)
+          (at-loop .loop .at) _ _ _ (at-loop .loop .whole) _ _ (at-loop-test .loop-test .taken) (at-loop .loop .inv .1) refl
+          (at-part .part .ensures) (c .forward .ensures) (sym (told answerField (at-read-field .read-field .ensures) (at-end .end .given .1))),
+    )
 
 returns-2 : tie.Need-returns-2 Inv-loop μ-loop
 returns-2 c =
-    sym (c .before .before .loop .inv .2 ∙ judge-done (c .before .before .before .before .before .before .args .encoding) (now (c .before .before .before .before .before .before .args .types)) (now (c .before .before .before .before .before .before .args .lengths)) (now (c .before .before .before .before .before .before .args .values)) (c .before .before .before .before .before .before .args .count) (c .before .before .loop .k) (c .before .before .loop .at) (c .before .before .loop .whole) (c .before .loop-test .left) ∙ rw (c .if1 .taken))
+    let at-loop-test = c .before in
+    let at-loop = at-loop-test .before in
+    let args = at-loop .before .before .before .before .args in
+    sym (at-loop .loop .inv .2
+    ∙ judge-done (args .encoding) (now (args .types)) (now (args .lengths)) (now (args .values)) (args .count) (at-loop .loop .k)
+    (at-loop .loop .at) (at-loop .loop .whole) (at-loop-test .loop-test .left) ∙ rw (c .if1 .taken))
 
 returns-3 : tie.Need-returns-3 Inv-loop μ-loop
 returns-3 c =
-    sym (c .before .before .loop .inv .2 ∙ judge-done (c .before .before .before .before .before .before .args .encoding) (now (c .before .before .before .before .before .before .args .types)) (now (c .before .before .before .before .before .before .args .lengths)) (now (c .before .before .before .before .before .before .args .values)) (c .before .before .before .before .before .before .args .count) (c .before .before .loop .k) (c .before .before .loop .at) (c .before .before .loop .whole) (c .before .loop-test .left) ∙ rw (c .if1 .left))
+    let at-loop-test = c .before in
+    let at-loop = at-loop-test .before in
+    let args = at-loop .before .before .before .before .args in
+    sym (at-loop .loop .inv .2
+    ∙ judge-done (args .encoding) (now (args .types)) (now (args .lengths)) (now (args .values)) (args .count) (at-loop .loop .k)
+    (at-loop .loop .at) (at-loop .loop .whole) (at-loop-test .loop-test .left) ∙ rw (c .if1 .left))
 
 pub judge-first-spec : {M : Type 1} → statement M
 judge-first-spec =

@@ -21,11 +21,17 @@ loop-holds c = refl
 
 returns : tie.Need-returns Inv-loop μ-loop
 returns c =
-    sym (c .before .before .before .loop .inv ∙ padding-stop (now (c .before .before .before .before .args .s)) (c .before .before .before .loop .p) (c .before .before .loop-test .taken) (c .if1 .taken))
+    let at-loop-test = c .before .before in
+    let at-loop = at-loop-test .before in
+    let args = at-loop .before .args in
+    sym (at-loop .loop .inv ∙ padding-stop (now (args .s)) (at-loop .loop .p) (at-loop-test .loop-test .taken) (c .if1 .taken))
 
 loop-again : tie.Need-loop-again Inv-loop μ-loop
 loop-again c =
-    c .before .before .before .loop .inv ∙ padding-step (now (c .before .before .before .before .args .s)) (c .before .before .before .loop .p) (c .before .before .loop-test .taken) (c .if1 .left)
+    let at-loop-test = c .before .before in
+    let at-loop = at-loop-test .before in
+    let args = at-loop .before .args in
+    at-loop .loop .inv ∙ padding-step (now (args .s)) (at-loop .loop .p) (at-loop-test .loop-test .taken) (c .if1 .left)
 
 returns-2 : tie.Need-returns-2 Inv-loop μ-loop
 returns-2 c =

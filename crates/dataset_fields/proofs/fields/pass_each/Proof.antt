@@ -23,15 +23,32 @@ loop-holds c = (refl, omega arith)
 
 returns : tie.Need-returns Inv-loop μ-loop
 returns c =
-    sym (c .before .before .before .before .before .loop .inv .0 ∙ fields-stop (c .before .before .before .before .before .before .before .before .args .delta) (c .before .before .before .before .before .before .before .before .args .encoding) (now (c .before .before .before .before .before .before .before .before .args .types)) (now (c .before .before .before .before .before .before .before .before .args .s)) (c .before .before .before .before .before .loop .left) (c .before .before .before .before .before .loop .k) (c .before .before .before .before .before .loop .p) _ _ (c .before .before .before .before .loop-test .taken) (sym (told answerField (c .before .before .before .read-field .ensures) (c .before .n .given .1))))
+    let at-n = c .before in
+    let at-read-field = at-n .before .before in
+    let at-loop-test = at-read-field .before in
+    let at-loop = at-loop-test .before in
+    let args = at-loop .before .before .before .args in
+    sym (at-loop .loop .inv .0
+    ∙ fields-stop (args .delta) (args .encoding) (now (args .types)) (now (args .s)) (at-loop .loop .left) (at-loop .loop .k)
+    (at-loop .loop .p) _ _ (at-loop-test .loop-test .taken) (sym (told answerField (at-read-field .read-field .ensures) (at-n .n .given .1))))
 
 loop-again : tie.Need-loop-again Inv-loop μ-loop
 loop-again c =
-    (c .before .before .before .before .before .loop .inv .0 ∙ fields-step (c .before .before .before .before .before .before .before .before .args .delta) (c .before .before .before .before .before .before .before .before .args .encoding) (now (c .before .before .before .before .before .before .before .before .args .types)) (now (c .before .before .before .before .before .before .before .before .args .s)) (c .before .before .before .before .before .loop .left) (c .before .before .before .before .before .loop .k) (c .before .before .before .before .before .loop .p) _ _ (c .before .before .before .before .loop-test .taken) (sym (told answerField (c .before .before .before .read-field .ensures) (c .before .end .given .1))), omega arith)
+    let at-end = c .before in
+    let at-read-field = at-end .before .before in
+    let at-loop-test = at-read-field .before in
+    let at-loop = at-loop-test .before in
+    let args = at-loop .before .before .before .args in (
+      at-loop .loop .inv .0 ∙ fields-step (args .delta) (args .encoding) (now (args .types)) (now (args .s)) (at-loop .loop .left)
+          (at-loop .loop .k) (at-loop .loop .p) _ _ (at-loop-test .loop-test .taken) (sym (told answerField (at-read-field .read-field .ensures) (at-end .end .given .1))),
+      omega arith,
+    )
 
 returns-2 : tie.Need-returns-2 Inv-loop μ-loop
 returns-2 c =
-    sym (c .before .loop .inv .0 ∙ fields-done (c .before .before .before .before .args .delta) (c .before .before .before .before .args .encoding) (now (c .before .before .before .before .args .types)) (now (c .before .before .before .before .args .s)) (c .before .loop .left) (c .before .loop .k) (c .before .loop .p) (c .loop-test .left))
+    let at-loop = c .before in
+    let args = at-loop .before .before .before .args in
+    sym (at-loop .loop .inv .0 ∙ fields-done (args .delta) (args .encoding) (now (args .types)) (now (args .s)) (at-loop .loop .left) (at-loop .loop .k) (at-loop .loop .p) (c .loop-test .left))
 
 pub pass-each-spec : {M : Type 1} → statement M
 pass-each-spec =

@@ -31,24 +31,43 @@ loop-holds c =
 
 returns : tie.Need-returns Inv-loop μ-loop
 returns c =
-    let a = c .before .before .before .before .before .before .before .before .before .args in
-    let l = c .before .before .before .before .before .before .loop in
-    let some : 0 < a .count - l .k = omega (arith, c .before .before .before .before .before .loop-test .taken) in
-    sym (l .inv .0 ∙ raw-stop (now (a .types)) (now (a .s)) (a .count - l .k) (l .k) (l .p) some (ap (λ t. passing (rawAt t) (now (a .s)) (l .p)) (sym (c .before .before .before .before .type-of .ensures)) ∙ sym (told answerReached (c .before .before .before .pass-element .ensures) (c .before .n .given .1))))
+    let at-n = c .before in
+    let at-pass-element = at-n .before .before in
+    let at-type-of = at-pass-element .before in
+    let at-loop-test = at-type-of .before in
+    let at-loop = at-loop-test .before in
+    let args = at-loop .before .before .before .args in
+    let a = args in
+    let l = at-loop .loop in
+    let some : 0 < a .count - l .k = omega (arith, at-loop-test .loop-test .taken) in
+    sym (l .inv .0 ∙ raw-stop (now (a .types)) (now (a .s)) (a .count - l .k) (l .k) (l .p) some
+    (ap (λ t. passing (rawAt t) (now (a .s)) (l .p)) (sym (at-type-of .type-of .ensures)) ∙ sym (told answerReached (at-pass-element .pass-element .ensures) (at-n .n .given .1))))
 
 loop-again : tie.Need-loop-again Inv-loop μ-loop
 loop-again c =
-    let a = c .before .before .before .before .before .before .before .before .before .args in
-    let l = c .before .before .before .before .before .before .loop in
-    let more : l .k < a .count = c .before .before .before .before .before .loop-test .taken in
+    let at-end = c .before in
+    let at-pass-element = at-end .before .before in
+    let at-type-of = at-pass-element .before in
+    let at-loop-test = at-type-of .before in
+    let at-loop = at-loop-test .before in
+    let args = at-loop .before .before .before .args in
+    let a = args in
+    let l = at-loop .loop in
+    let more : l .k < a .count = at-loop-test .loop-test .taken in
     let some : 0 < a .count - l .k = omega arith in
-    let e : a .count - l .k - 1 ≡ a .count - (l .k + 1) = omega arith in
-    (l .inv .0 ∙ raw-step (now (a .types)) (now (a .s)) (a .count - l .k) (l .k) (l .p) some (ap (λ t. passing (rawAt t) (now (a .s)) (l .p)) (sym (c .before .before .before .before .type-of .ensures)) ∙ sym (told answerReached (c .before .before .before .pass-element .ensures) (c .before .end .given .1))) ∙ ap (λ (n : ℕ). fieldsAt false Encoding.RawData (now (a .types)) n (l .k + 1) (now (a .s)) (c .before .end .given .0 .0)) e, omega arith)
+    let e : a .count - l .k - 1 ≡ a .count - (l .k + 1) = omega arith in (
+      l .inv .0 ∙ raw-step (now (a .types)) (now (a .s)) (a .count - l .k) (l .k) (l .p) some
+          (ap (λ t. passing (rawAt t) (now (a .s)) (l .p)) (sym (at-type-of .type-of .ensures)) ∙ sym (told answerReached (at-pass-element .pass-element .ensures) (at-end .end .given .1)))
+          ∙ ap (λ (n : ℕ). fieldsAt false Encoding.RawData (now (a .types)) n (l .k + 1) (now (a .s)) (at-end .end .given .0 .0)) e,
+      omega arith,
+    )
 
 returns-2 : tie.Need-returns-2 Inv-loop μ-loop
 returns-2 c =
-    let a = c .before .before .before .before .args in
-    let l = c .before .loop in
+    let at-loop = c .before in
+    let args = at-loop .before .before .before .args in
+    let a = args in
+    let l = at-loop .loop in
     let none : a .count - l .k ≤ 0 = omega (arith, c .loop-test .left) in
     sym (l .inv .0 ∙ fields-done false Encoding.RawData (now (a .types)) (now (a .s)) (a .count - l .k) (l .k) (l .p) none)
 

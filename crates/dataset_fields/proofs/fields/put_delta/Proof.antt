@@ -17,7 +17,9 @@ use Rattle.dataset_fields.proofs.fields.put_delta.Tie as tie
 
 abbrev Inv-loop : tie.InvT-loop
 Inv-loop out₀ at values lengths indices p₀ start₀ k₀ out p start k =
-    (k ≤ length lengths) × (length out ≡ length out₀) × ((exit : List ℕ) (next : ℕ) → Puts (fieldsBytes true (drop k indices) (valuesOf (drop k lengths) (drop start values))) out p exit next → Puts (fieldsBytes true indices (valuesOf lengths values)) out₀ at exit next)
+    (k ≤ length lengths) × (length out ≡ length out₀)
+    × ((exit : List ℕ) (next : ℕ) → Puts (fieldsBytes true (drop k indices) (valuesOf (drop k lengths) (drop start values))) out p exit next
+    → Puts (fieldsBytes true indices (valuesOf lengths values)) out₀ at exit next)
 
 abbrev μ-loop : tie.MeasureT-loop
 μ-loop out₀ at values lengths indices p₀ start₀ k₀ out p start k = length lengths - k
@@ -27,11 +29,30 @@ loop-holds c = (omega arith, refl, λ exit next q. q)
 
 loop-again : tie.Need-loop-again Inv-loop μ-loop
 loop-again c =
-    (omega arith, search needs, λ exit next q. c .before .before .before .before .before .before .before .before .before .before .before .before .before .loop .inv .2 exit next (subst (λ (b : List ℕ). Puts b (c .before .before .before .before .before .before .before .before .before .before .before .before .before .loop .out) (c .before .before .before .before .before .before .before .before .before .before .before .before .before .loop .p) exit next) (sym (delta-step (now (c .before .before .before .before .before .before .before .before .before .before .before .before .before .before .before .before .before .before .args .values)) (now (c .before .before .before .before .before .before .before .before .before .before .before .before .before .before .before .before .before .before .args .lengths)) (now (c .before .before .before .before .before .before .before .before .before .before .before .before .before .before .before .before .before .before .args .indices)) (c .before .before .before .before .before .before .before .before .before .before .before .before .before .loop .k) (c .before .before .before .before .before .before .before .before .before .before .before .before .before .loop .start) _ _ _ _ (c .before .before .before .before .before .before .before .before .before .before .before .before .loop-test .taken) refl (c .before .before .before .before .part .ensures) (c .forward .ensures) (c .before .before .before .before .before .before .before .before .before .index-of .ensures))) (then (puts (c .before .before .before .before .before .before .before .before .put16 .ensures)) (then (puts (c .before .before .before .put-run .ensures)) q))))
+    let at-put-run = c .before .before .before in
+    let at-part = at-put-run .before in
+    let at-put16 = at-part .before .before .before .before in
+    let at-index-of = at-put16 .before in
+    let at-loop-test = at-index-of .before .before .before in
+    let at-loop = at-loop-test .before in
+    let args = at-loop .before .before .before .before .before .args in (
+      omega arith,
+      search needs,
+      λ exit next q. at-loop .loop .inv .2 exit next
+          (subst (λ (b : List ℕ). Puts b (at-loop .loop .out) (at-loop .loop .p) exit next)
+          (sym (delta-step (now (args .values)) (now (args .lengths)) (now (args .indices)) (at-loop .loop .k)
+          (at-loop .loop .start) _ _ _ _ (at-loop-test .loop-test .taken) refl (at-part .part .ensures) (c .forward .ensures) (at-index-of .index-of .ensures)))
+          (then (puts (at-put16 .put16 .ensures)) (then (puts (at-put-run .put-run .ensures)) q))),
+    )
 
 returns : tie.Need-returns Inv-loop μ-loop
 returns c =
-    c .before .loop .inv .2 (c .before .loop .out) (c .before .loop .p) (subst (λ (b : List ℕ). Puts b (c .before .loop .out) (c .before .loop .p) (c .before .loop .out) (c .before .loop .p)) (sym (delta-done (now (c .before .before .before .before .before .before .args .values)) (now (c .before .before .before .before .before .before .args .lengths)) (now (c .before .before .before .before .before .before .args .indices)) (c .before .loop .k) (c .before .loop .start) (c .loop-test .left))) (nothing (c .before .loop .out) (c .before .loop .p)))
+    let at-loop = c .before in
+    let args = at-loop .before .before .before .before .before .args in
+    at-loop .loop .inv .2 (at-loop .loop .out) (at-loop .loop .p)
+    (subst (λ (b : List ℕ). Puts b (at-loop .loop .out) (at-loop .loop .p) (at-loop .loop .out) (at-loop .loop .p))
+    (sym (delta-done (now (args .values)) (now (args .lengths)) (now (args .indices)) (at-loop .loop .k) (at-loop .loop .start) (c .loop-test .left)))
+    (nothing (at-loop .loop .out) (at-loop .loop .p)))
 
 pub put-delta-spec : {M : Type 1} → statement M
 put-delta-spec =

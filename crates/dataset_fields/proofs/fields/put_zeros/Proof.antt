@@ -17,15 +17,22 @@ fill-requires c κs =
 
 add-result : tie.Need-add-result
 add-result c =
-    let h = leb-true (c .before .before .before .before .before .before .before .args .at + c .before .before .before .before .before .before .before .args .n) (length (now (c .before .before .before .before .before .before .before .args .out))) (sym (c .before .before .before .before .before .has .ensures) ∙ c .before .before .before .before .if1 .taken) in omega arith
+    let at-if1 = c .before .before .before .before in
+    let at-has = at-if1 .before in
+    let args = at-has .before .before .args in
+    let h = leb-true (args .at + args .n) (length (now (args .out))) (sym (at-has .has .ensures) ∙ at-if1 .if1 .taken) in omega arith
 
 returns : tie.Need-returns
 returns c =
-    zeros-put (c .before .before .before .before .before .before .before .args .n) (now (c .before .before .before .before .before .before .before .args .out)) (c .before .before .before .before .before .before .before .args .at) _ (c .before .before .fill .ensures)
+    let at-fill = c .before .before in
+    let args = at-fill .before .before .before .before .before .args in
+    zeros-put (args .n) (now (args .out)) (args .at) _ (at-fill .fill .ensures)
 
 returns-2 : tie.Need-returns-2
 returns-2 c =
-    zeros-lack (c .before .before .before .args .n) (now (c .before .before .before .args .out)) (c .before .before .before .args .at) (sym (c .before .has .ensures) ∙ c .if1 .left)
+    let at-has = c .before in
+    let args = at-has .before .before .args in
+    zeros-lack (args .n) (now (args .out)) (args .at) (sym (at-has .has .ensures) ∙ c .if1 .left)
 
 pub put-zeros-spec : {M : Type 1} → statement M
 put-zeros-spec =

@@ -9,11 +9,16 @@ use Rattle.dataset_fields.proofs.fields.read_field.Tie as tie
 
 returns : tie.Need-returns
 returns c =
-    rw (sym (told answerIndex (c .before .before .before .index .ensures) (c .before .n .given .1)))
+    let at-n = c .before in
+    let at-index = at-n .before .before in
+    rw (sym (told answerIndex (at-index .index .ensures) (at-n .n .given .1)))
 
 returns-2 : tie.Need-returns-2
 returns-2 c =
-    rw (sym (told answerIndex (c .before .before .before .before .before .index .ensures) (c .before .before .before .index2 .given .1)), sym (c .before .encoded .ensures)) (c .measured .ensures)
+    let at-encoded = c .before in
+    let at-index2 = at-encoded .before .before in
+    let at-index = at-index2 .before .before in
+    rw (sym (told answerIndex (at-index .index .ensures) (at-index2 .index2 .given .1)), sym (at-encoded .encoded .ensures)) (c .measured .ensures)
 
 pub read-field-spec : {M : Type 1} → statement M
 read-field-spec =

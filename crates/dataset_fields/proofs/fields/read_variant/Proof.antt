@@ -8,13 +8,19 @@ use Rattle.dataset_fields.proofs.fields.read_variant.Tie as tie
 
 shared-slice-read-located : tie.Need-shared-slice-read-located
 shared-slice-read-located c =
-    let a = c .before .before .before .before .before .args in
-    fixed-variant (now (a .s)) (a .at) (c .before .before .fixed-end .ensures) (c .before .if1 .taken) .0
+    let at-if1 = c .before in
+    let at-fixed-end = at-if1 .before in
+    let args = at-fixed-end .before .before .before .args in
+    let a = args in
+    fixed-variant (now (a .s)) (a .at) (at-fixed-end .fixed-end .ensures) (at-if1 .if1 .taken) .0
 
 returns : tie.Need-returns
 returns c =
-    let a = c .before .before .before .before .before .before .args in
-    rw (fixed-variant (now (a .s)) (a .at) (c .before .before .before .fixed-end .ensures) (c .before .before .if1 .taken) .1) (c .located .ensures)
+    let at-if1 = c .before .before in
+    let at-fixed-end = at-if1 .before in
+    let args = at-fixed-end .before .before .before .args in
+    let a = args in
+    rw (fixed-variant (now (a .s)) (a .at) (at-fixed-end .fixed-end .ensures) (at-if1 .if1 .taken) .1) (c .located .ensures)
 
 pub read-variant-spec : {M : Type 1} → statement M
 read-variant-spec =

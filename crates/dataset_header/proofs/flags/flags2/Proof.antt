@@ -14,15 +14,28 @@ returns c = rw (lt-ltb _ _ (c .if1 .taken))
 
 returns-2 : tie.Need-returns-2
 returns-2 c =
-    rw (le-ltb _ _ (c .before .before .before .if1 .left), sym (told (answer8 (c .before .before .before .before .before .args .at)) (c .before .before .read8 .ensures) (c .enum-told .given .1)))
+    let at-read8 = c .before .before in
+    let at-if1 = at-read8 .before in
+    let args = at-if1 .before .before .args in
+    rw (le-ltb _ _ (at-if1 .if1 .left), sym (told (answer8 (args .at)) (at-read8 .read8 .ensures) (c .enum-told .given .1)))
 
 returns-3 : tie.Need-returns-3
 returns-3 c =
-    rw (le-ltb _ _ (c .before .before .before .before .before .before .if1 .left), sym (told (answer8 (c .before .before .before .before .before .before .before .before .args .at)) (c .before .before .before .before .before .read8 .ensures) (c .before .before .before .f .given .1)), sym (c .before .flags2-rule .ensures), ne-eqb _ _ (c .if2 .taken))
+    let at-flags2-rule = c .before in
+    let at-f = at-flags2-rule .before .before in
+    let at-read8 = at-f .before .before in
+    let at-if1 = at-read8 .before in
+    let args = at-if1 .before .before .args in
+    rw (le-ltb _ _ (at-if1 .if1 .left), sym (told (answer8 (args .at)) (at-read8 .read8 .ensures) (at-f .f .given .1)), sym (at-flags2-rule .flags2-rule .ensures), ne-eqb _ _ (c .if2 .taken))
 
 returns-4 : tie.Need-returns-4
 returns-4 c =
-    rw (le-ltb _ _ (c .before .before .before .before .before .before .if1 .left), sym (told (answer8 (c .before .before .before .before .before .before .before .before .args .at)) (c .before .before .before .before .before .read8 .ensures) (c .before .before .before .f .given .1)), sym (c .before .flags2-rule .ensures), eq-eqb _ _ (c .if2 .left))
+    let at-flags2-rule = c .before in
+    let at-f = at-flags2-rule .before .before in
+    let at-read8 = at-f .before .before in
+    let at-if1 = at-read8 .before in
+    let args = at-if1 .before .before .args in
+    rw (le-ltb _ _ (at-if1 .if1 .left), sym (told (answer8 (args .at)) (at-read8 .read8 .ensures) (at-f .f .given .1)), sym (at-flags2-rule .flags2-rule .ensures), eq-eqb _ _ (c .if2 .left))
 
 pub flags2-spec : {M : Type 1} → statement M
 flags2-spec =

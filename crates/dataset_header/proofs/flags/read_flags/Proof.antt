@@ -14,19 +14,52 @@ returns c =
 
 returns-2 : tie.Need-returns-2
 returns-2 c =
-    rw (sym (told (answer8 0) (c .before .before .before .before .read8 .ensures) (c .before .before .b .given .1)), eq-eqb _ _ (c .if1 .taken))
+    let at-b = c .before .before in
+    let at-read8 = at-b .before .before in
+    rw (sym (told (answer8 0) (at-read8 .read8 .ensures) (at-b .b .given .1)), eq-eqb _ _ (c .if1 .taken))
 
 returns-3 : tie.Need-returns-3
 returns-3 c =
-    rw (sym (told (answer8 0) (c .before .before .before .before .before .before .read8 .ensures) (c .before .before .before .before .b .given .1)), ne-eqb _ _ (c .before .before .if1 .left), sym (c .before .flags1-rule .ensures), ne-eqb _ _ (c .if2 .taken))
+    let at-flags1-rule = c .before in
+    let at-if1 = at-flags1-rule .before in
+    let at-b = at-if1 .before .before in
+    let at-read8 = at-b .before .before in
+    rw (sym (told (answer8 0) (at-read8 .read8 .ensures) (at-b .b .given .1)), ne-eqb _ _ (at-if1 .if1 .left), sym (at-flags1-rule .flags1-rule .ensures), ne-eqb _ _ (c .if2 .taken))
 
 returns-4 : tie.Need-returns-4
 returns-4 c =
-    rw (sym (told (answer8 0) (c .before .before .before .before .before .before .before .before .before .before .read8 .ensures) (c .before .before .before .before .before .before .before .before .b .given .1)), ne-eqb _ _ (c .before .before .before .before .before .before .if1 .left), sym (c .before .before .before .before .before .flags1-rule .ensures), eq-eqb _ _ (c .before .before .before .before .if2 .left), sym (told answerByte (c .before .before .before .flags2 .ensures) (c .before .n .given .1)))
+    let at-n = c .before in
+    let at-flags2 = at-n .before .before in
+    let at-if2 = at-flags2 .before in
+    let at-flags1-rule = at-if2 .before in
+    let at-if1 = at-flags1-rule .before in
+    let at-b = at-if1 .before .before in
+    let at-read8 = at-b .before .before in
+    rw (
+      sym (told (answer8 0) (at-read8 .read8 .ensures) (at-b .b .given .1)),
+      ne-eqb _ _ (at-if1 .if1 .left),
+      sym (at-flags1-rule .flags1-rule .ensures),
+      eq-eqb _ _ (at-if2 .if2 .left),
+      sym (told answerByte (at-flags2 .flags2 .ensures) (at-n .n .given .1)),
+    )
 
 returns-5 : tie.Need-returns-5
 returns-5 c =
-    rw (sym (told (answer8 0) (c .before .before .before .before .before .before .before .before .before .before .before .read8 .ensures) (c .before .before .before .before .before .before .before .before .before .b .given .1)), ne-eqb _ _ (c .before .before .before .before .before .before .before .if1 .left), sym (c .before .before .before .before .before .before .flags1-rule .ensures), eq-eqb _ _ (c .before .before .before .before .before .if2 .left), sym (told answerByte (c .before .before .before .before .flags2 .ensures) (c .before .before .f .given .1)), c .flags-of .ensures)
+    let at-f = c .before .before in
+    let at-flags2 = at-f .before .before in
+    let at-if2 = at-flags2 .before in
+    let at-flags1-rule = at-if2 .before in
+    let at-if1 = at-flags1-rule .before in
+    let at-b = at-if1 .before .before in
+    let at-read8 = at-b .before .before in
+    rw (
+      sym (told (answer8 0) (at-read8 .read8 .ensures) (at-b .b .given .1)),
+      ne-eqb _ _ (at-if1 .if1 .left),
+      sym (at-flags1-rule .flags1-rule .ensures),
+      eq-eqb _ _ (at-if2 .if2 .left),
+      sym (told answerByte (at-flags2 .flags2 .ensures) (at-f .f .given .1)),
+      c .flags-of .ensures,
+    )
 
 pub read-flags-spec : {M : Type 1} → statement M
 read-flags-spec =

@@ -7,7 +7,10 @@ use Rattle.dataset_header.proofs.header.put_header.Tie as tie
 
 returns : tie.Need-returns
 returns c =
-    then (c .before .before .before .before .before .before .before .before .before .before .put-flags .ensures) (then (c .before .before .before .before .before .before .put-times .ensures) (c .before .before .put-versions .ensures))
+    let at-put-versions = c .before .before in
+    let at-put-times = at-put-versions .before .before .before .before in
+    let at-put-flags = at-put-times .before .before .before .before in
+    then (at-put-flags .put-flags .ensures) (then (at-put-times .put-times .ensures) (at-put-versions .put-versions .ensures))
 
 pub put-header-spec : {M : Type 1} → statement M
 put-header-spec =

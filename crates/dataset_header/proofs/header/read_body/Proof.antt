@@ -10,15 +10,29 @@ use Rattle.dataset_header.proofs.header.read_body.Tie as tie
 
 returns : tie.Need-returns
 returns c =
-    rw (sym (told answerTimes (c .before .before .before .read-times .ensures) (c .before .n .given .1)))
+    let at-n = c .before in
+    let at-read-times = at-n .before .before in
+    rw (sym (told answerTimes (at-read-times .read-times .ensures) (at-n .n .given .1)))
 
 returns-2 : tie.Need-returns-2
 returns-2 c =
-    rw (sym (told answerTimes (c .before .before .before .before .before .before .before .read-times .ensures) (c .before .before .before .before .before .t .given .1)), sym (told answerVersions (c .before .before .before .read-versions .ensures) (c .before .n2 .given .1)))
+    let at-n2 = c .before in
+    let at-read-versions = at-n2 .before .before in
+    let at-t = at-read-versions .before .before in
+    let at-read-times = at-t .before .before in
+    rw (sym (told answerTimes (at-read-times .read-times .ensures) (at-t .t .given .1)), sym (told answerVersions (at-read-versions .read-versions .ensures) (at-n2 .n2 .given .1)))
 
 returns-3 : tie.Need-returns-3
 returns-3 c =
-    rw (sym (told answerTimes (c .before .before .before .before .before .before .before .before .read-times .ensures) (c .before .before .before .before .before .before .t .given .1)), sym (told answerVersions (c .before .before .before .before .read-versions .ensures) (c .before .before .v .given .1)), c .header-of .ensures)
+    let at-v = c .before .before in
+    let at-read-versions = at-v .before .before in
+    let at-t = at-read-versions .before .before in
+    let at-read-times = at-t .before .before in
+    rw (
+      sym (told answerTimes (at-read-times .read-times .ensures) (at-t .t .given .1)),
+      sym (told answerVersions (at-read-versions .read-versions .ensures) (at-v .v .given .1)),
+      c .header-of .ensures,
+    )
 
 pub read-body-spec : {M : Type 1} → statement M
 read-body-spec =

@@ -10,15 +10,21 @@ use Rattle.dataset_header.proofs.header.read_header.Tie as tie
 
 returns : tie.Need-returns
 returns c =
-    rw (sym (told answerFlags (c .before .before .before .read-flags .ensures) (c .before .next .given .1)))
+    let at-next = c .before in
+    let at-read-flags = at-next .before .before in
+    rw (sym (told answerFlags (at-read-flags .read-flags .ensures) (at-next .next .given .1)))
 
 returns-2 : tie.Need-returns-2
 returns-2 c =
-    rw (sym (told answerFlags (c .before .before .before .read-flags .ensures) (c .before .n .given .1)))
+    let at-n = c .before in
+    let at-read-flags = at-n .before .before in
+    rw (sym (told answerFlags (at-read-flags .read-flags .ensures) (at-n .n .given .1)))
 
 returns-3 : tie.Need-returns-3
 returns-3 c =
-    rw (sym (told answerFlags (c .before .before .before .before .read-flags .ensures) (c .before .before .flags .given .1))) (c .read-body .ensures)
+    let at-flags = c .before .before in
+    let at-read-flags = at-flags .before .before in
+    rw (sym (told answerFlags (at-read-flags .read-flags .ensures) (at-flags .flags .given .1))) (c .read-body .ensures)
 
 pub read-header-spec : {M : Type 1} → statement M
 read-header-spec =

@@ -10,19 +10,48 @@ use Rattle.dataset_header.proofs.header.read_times.Tie as tie
 
 returns : tie.Need-returns
 returns c =
-    rw (sym (told answerOptional16 (c .before .before .before .read-optional16 .ensures) (c .before .n .given .1)))
+    let at-n = c .before in
+    let at-read-optional16 = at-n .before .before in
+    rw (sym (told answerOptional16 (at-read-optional16 .read-optional16 .ensures) (at-n .n .given .1)))
 
 returns-2 : tie.Need-returns-2
 returns-2 c =
-    rw (sym (told answerOptional16 (c .before .before .before .before .before .before .before .read-optional16 .ensures) (c .before .before .before .before .before .sequence .given .1)), sym (told answerOptionalI64 (c .before .before .before .read-optional-i64 .ensures) (c .before .n2 .given .1)))
+    let at-n2 = c .before in
+    let at-read-optional-i64 = at-n2 .before .before in
+    let at-sequence = at-read-optional-i64 .before .before in
+    let at-read-optional16 = at-sequence .before .before in
+    rw (
+      sym (told answerOptional16 (at-read-optional16 .read-optional16 .ensures) (at-sequence .sequence .given .1)),
+      sym (told answerOptionalI64 (at-read-optional-i64 .read-optional-i64 .ensures) (at-n2 .n2 .given .1)),
+    )
 
 returns-3 : tie.Need-returns-3
 returns-3 c =
-    rw (sym (told answerOptional16 (c .before .before .before .before .before .before .before .before .before .before .before .read-optional16 .ensures) (c .before .before .before .before .before .before .before .before .before .sequence .given .1)), sym (told answerOptionalI64 (c .before .before .before .before .before .before .before .read-optional-i64 .ensures) (c .before .before .before .before .before .timestamp .given .1)), sym (told answerOptional16 (c .before .before .before .read-picoseconds .ensures) (c .before .n3 .given .1)))
+    let at-n3 = c .before in
+    let at-read-picoseconds = at-n3 .before .before in
+    let at-timestamp = at-read-picoseconds .before .before in
+    let at-read-optional-i64 = at-timestamp .before .before in
+    let at-sequence = at-read-optional-i64 .before .before in
+    let at-read-optional16 = at-sequence .before .before in
+    rw (
+      sym (told answerOptional16 (at-read-optional16 .read-optional16 .ensures) (at-sequence .sequence .given .1)),
+      sym (told answerOptionalI64 (at-read-optional-i64 .read-optional-i64 .ensures) (at-timestamp .timestamp .given .1)),
+      sym (told answerOptional16 (at-read-picoseconds .read-picoseconds .ensures) (at-n3 .n3 .given .1)),
+    )
 
 returns-4 : tie.Need-returns-4
 returns-4 c =
-    rw (sym (told answerOptional16 (c .before .before .before .before .before .before .before .before .before .before .before .read-optional16 .ensures) (c .before .before .before .before .before .before .before .before .before .sequence .given .1)), sym (told answerOptionalI64 (c .before .before .before .before .before .before .before .read-optional-i64 .ensures) (c .before .before .before .before .before .timestamp .given .1)), sym (told answerOptional16 (c .before .before .before .read-picoseconds .ensures) (c .before .picoseconds .given .1)))
+    let at-picoseconds = c .before in
+    let at-read-picoseconds = at-picoseconds .before .before in
+    let at-timestamp = at-read-picoseconds .before .before in
+    let at-read-optional-i64 = at-timestamp .before .before in
+    let at-sequence = at-read-optional-i64 .before .before in
+    let at-read-optional16 = at-sequence .before .before in
+    rw (
+      sym (told answerOptional16 (at-read-optional16 .read-optional16 .ensures) (at-sequence .sequence .given .1)),
+      sym (told answerOptionalI64 (at-read-optional-i64 .read-optional-i64 .ensures) (at-timestamp .timestamp .given .1)),
+      sym (told answerOptional16 (at-read-picoseconds .read-picoseconds .ensures) (at-picoseconds .picoseconds .given .1)),
+    )
 
 pub read-times-spec : {M : Type 1} → statement M
 read-times-spec =

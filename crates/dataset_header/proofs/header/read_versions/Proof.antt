@@ -10,19 +10,48 @@ use Rattle.dataset_header.proofs.header.read_versions.Tie as tie
 
 returns : tie.Need-returns
 returns c =
-    rw (sym (told answerOptional16 (c .before .before .before .read-optional16 .ensures) (c .before .n .given .1)))
+    let at-n = c .before in
+    let at-read-optional16 = at-n .before .before in
+    rw (sym (told answerOptional16 (at-read-optional16 .read-optional16 .ensures) (at-n .n .given .1)))
 
 returns-2 : tie.Need-returns-2
 returns-2 c =
-    rw (sym (told answerOptional16 (c .before .before .before .before .before .before .before .read-optional16 .ensures) (c .before .before .before .before .before .status .given .1)), sym (told answerOptional32 (c .before .before .before .read-optional32 .ensures) (c .before .n2 .given .1)))
+    let at-n2 = c .before in
+    let at-read-optional32 = at-n2 .before .before in
+    let at-status = at-read-optional32 .before .before in
+    let at-read-optional16 = at-status .before .before in
+    rw (
+      sym (told answerOptional16 (at-read-optional16 .read-optional16 .ensures) (at-status .status .given .1)),
+      sym (told answerOptional32 (at-read-optional32 .read-optional32 .ensures) (at-n2 .n2 .given .1)),
+    )
 
 returns-3 : tie.Need-returns-3
 returns-3 c =
-    rw (sym (told answerOptional16 (c .before .before .before .before .before .before .before .before .before .before .before .read-optional16 .ensures) (c .before .before .before .before .before .before .before .before .before .status .given .1)), sym (told answerOptional32 (c .before .before .before .before .before .before .before .read-optional32 .ensures) (c .before .before .before .before .before .at .given .1)), sym (told answerOptional32 (c .before .before .before .read-optional322 .ensures) (c .before .n3 .given .1)))
+    let at-n3 = c .before in
+    let at-read-optional322 = at-n3 .before .before in
+    let at-at = at-read-optional322 .before .before in
+    let at-read-optional32 = at-at .before .before in
+    let at-status = at-read-optional32 .before .before in
+    let at-read-optional16 = at-status .before .before in
+    rw (
+      sym (told answerOptional16 (at-read-optional16 .read-optional16 .ensures) (at-status .status .given .1)),
+      sym (told answerOptional32 (at-read-optional32 .read-optional32 .ensures) (at-at .at .given .1)),
+      sym (told answerOptional32 (at-read-optional322 .read-optional322 .ensures) (at-n3 .n3 .given .1)),
+    )
 
 returns-4 : tie.Need-returns-4
 returns-4 c =
-    rw (sym (told answerOptional16 (c .before .before .before .before .before .before .before .before .before .before .before .read-optional16 .ensures) (c .before .before .before .before .before .before .before .before .before .status .given .1)), sym (told answerOptional32 (c .before .before .before .before .before .before .before .read-optional32 .ensures) (c .before .before .before .before .before .at .given .1)), sym (told answerOptional32 (c .before .before .before .read-optional322 .ensures) (c .before .at2 .given .1)))
+    let at-at2 = c .before in
+    let at-read-optional322 = at-at2 .before .before in
+    let at-at = at-read-optional322 .before .before in
+    let at-read-optional32 = at-at .before .before in
+    let at-status = at-read-optional32 .before .before in
+    let at-read-optional16 = at-status .before .before in
+    rw (
+      sym (told answerOptional16 (at-read-optional16 .read-optional16 .ensures) (at-status .status .given .1)),
+      sym (told answerOptional32 (at-read-optional32 .read-optional32 .ensures) (at-at .at .given .1)),
+      sym (told answerOptional32 (at-read-optional322 .read-optional322 .ensures) (at-at2 .at2 .given .1)),
+    )
 
 pub read-versions-spec : {M : Type 1} → statement M
 read-versions-spec =

@@ -17,11 +17,18 @@ returns-2 c = rw (c .before .if1 .taken, ne-eqb _ _ (c .if2 .left))
 
 returns-3 : tie.Need-returns-3
 returns-3 c =
-    rw (c .before .before .before .if1 .left, sym (told (answer16 (c .before .before .before .before .before .before .args .at)) (c .before .before .read16 .ensures) (c .enum-told .given .1)))
+    let at-read16 = c .before .before in
+    let at-if1 = at-read16 .before in
+    let args = at-if1 .before .before .before .args in
+    rw (at-if1 .if1 .left, sym (told (answer16 (args .at)) (at-read16 .read16 .ensures) (c .enum-told .given .1)))
 
 returns-4 : tie.Need-returns-4
 returns-4 c =
-    rw (c .before .before .before .before .if1 .left, sym (told (answer16 (c .before .before .before .before .before .before .before .args .at)) (c .before .before .before .read16 .ensures) (c .before .n .given .1)))
+    let at-n = c .before in
+    let at-read16 = at-n .before .before in
+    let at-if1 = at-read16 .before in
+    let args = at-if1 .before .before .before .args in
+    rw (at-if1 .if1 .left, sym (told (answer16 (args .at)) (at-read16 .read16 .ensures) (at-n .n .given .1)))
 
 pub counted-spec : {M : Type 1} → statement M
 counted-spec =

@@ -10,11 +10,15 @@ use Rattle.dataset_message.proofs.message.field.Tie as tie
 
 returns : tie.Need-returns
 returns c =
-    rw (sym (told answerField (c .before .before .before .field-place .ensures) (c .before .enum-told .given .1))) (c .part .ensures)
+    let at-enum-told = c .before in
+    let at-field-place = at-enum-told .before .before in
+    rw (sym (told answerField (at-field-place .field-place .ensures) (at-enum-told .enum-told .given .1))) (c .part .ensures)
 
 returns-2 : tie.Need-returns-2
 returns-2 c =
-    rw (sym (told answerField (c .before .before .before .before .field-place .ensures) (c .before .before .f .given .1))) (c .part2 .ensures)
+    let at-f = c .before .before in
+    let at-field-place = at-f .before .before in
+    rw (sym (told answerField (at-field-place .field-place .ensures) (at-f .f .given .1))) (c .part2 .ensures)
 
 pub field-spec : {M : Type 1} → statement M
 field-spec =

@@ -14,11 +14,15 @@ returns c =
 
 returns-2 : tie.Need-returns-2
 returns-2 c =
-    rw (sym (told answerMessage (c .before .before .before .read .ensures) (c .before .n .given .1)))
+    let at-n = c .before in
+    let at-read = at-n .before .before in
+    rw (sym (told answerMessage (at-read .read .ensures) (at-n .n .given .1)))
 
 returns-3 : tie.Need-returns-3
 returns-3 c =
-    rw (sym (told answerMessage (c .before .before .before .before .read .ensures) (c .before .before .cursor .given .1))) (c .nth .ensures)
+    let at-cursor = c .before .before in
+    let at-read = at-cursor .before .before in
+    rw (sym (told answerMessage (at-read .read .ensures) (at-cursor .cursor .given .1))) (c .nth .ensures)
 
 pub field-place-spec : {M : Type 1} → statement M
 field-place-spec =

@@ -10,15 +10,24 @@ use Rattle.dataset_message.proofs.message.finish.Tie as tie
 
 returns : tie.Need-returns
 returns c =
-    rw (sym (told answerReached (c .before .before .before .pass-fields .ensures) (c .before .n .given .1)))
+    let at-n = c .before in
+    let at-pass-fields = at-n .before .before in
+    rw (sym (told answerReached (at-pass-fields .pass-fields .ensures) (at-n .n .given .1)))
 
 returns-2 : tie.Need-returns-2
 returns-2 c =
-    rw (sym (told answerReached (c .before .before .before .before .before .before .before .pass-fields .ensures) (c .before .before .before .before .before .end .given .1)), sym (told answerReached (c .before .before .before .padding .ensures) (c .before .n2 .given .1)))
+    let at-n2 = c .before in
+    let at-padding = at-n2 .before .before in
+    let at-end = at-padding .before .before in
+    let at-pass-fields = at-end .before .before in
+    rw (sym (told answerReached (at-pass-fields .pass-fields .ensures) (at-end .end .given .1)), sym (told answerReached (at-padding .padding .ensures) (at-n2 .n2 .given .1)))
 
 returns-3 : tie.Need-returns-3
 returns-3 c =
-    rw (sym (told answerReached (c .before .before .before .before .before .before .pass-fields .ensures) (c .before .before .before .before .end .given .1)), sym (told answerReached (c .before .before .padding .ensures) (c .enum-told .given .1)))
+    let at-padding = c .before .before in
+    let at-end = at-padding .before .before in
+    let at-pass-fields = at-end .before .before in
+    rw (sym (told answerReached (at-pass-fields .pass-fields .ensures) (at-end .end .given .1)), sym (told answerReached (at-padding .padding .ensures) (c .enum-told .given .1)))
 
 pub finish-spec : {M : Type 1} → statement M
 finish-spec =

@@ -14,11 +14,17 @@ returns c = rw (le-leb _ _ (c .if1 .taken))
 
 returns-2 : tie.Need-returns-2
 returns-2 c =
-    rw (lt-leb _ _ (c .before .before .before .before .if1 .left), sym (told answerReached (c .before .before .before .pass-each .ensures) (c .before .n .given .1)))
+    let at-n = c .before in
+    let at-pass-each = at-n .before .before in
+    let at-if1 = at-pass-each .before in
+    rw (lt-leb _ _ (at-if1 .if1 .left), sym (told answerReached (at-pass-each .pass-each .ensures) (at-n .n .given .1)))
 
 returns-3 : tie.Need-returns-3
 returns-3 c =
-    rw (lt-leb _ _ (c .before .before .before .before .before .if1 .left), sym (told answerReached (c .before .before .before .before .pass-each .ensures) (c .before .before .at .given .1))) (c .read-field .ensures)
+    let at-at = c .before .before in
+    let at-pass-each = at-at .before .before in
+    let at-if1 = at-pass-each .before in
+    rw (lt-leb _ _ (at-if1 .if1 .left), sym (told answerReached (at-pass-each .pass-each .ensures) (at-at .at .given .1))) (c .read-field .ensures)
 
 pub nth-spec : {M : Type 1} → statement M
 nth-spec =

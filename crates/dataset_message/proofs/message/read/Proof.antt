@@ -14,11 +14,15 @@ returns c =
 
 returns-2 : tie.Need-returns-2
 returns-2 c =
-    rw (sym (told answerHeader (c .before .before .before .read-header .ensures) (c .before .n .given .1)))
+    let at-n = c .before in
+    let at-read-header = at-n .before .before in
+    rw (sym (told answerHeader (at-read-header .read-header .ensures) (at-n .n .given .1)))
 
 returns-3 : tie.Need-returns-3
 returns-3 c =
-    rw (sym (told answerHeader (c .before .before .before .before .read-header .ensures) (c .before .before .header .given .1))) (c .read-body .ensures)
+    let at-header = c .before .before in
+    let at-read-header = at-header .before .before in
+    rw (sym (told answerHeader (at-read-header .read-header .ensures) (at-header .header .given .1))) (c .read-body .ensures)
 
 pub read-spec : {M : Type 1} → statement M
 read-spec =

@@ -10,11 +10,18 @@ use Rattle.dataset_message.proofs.message.read_body.Tie as tie
 
 returns : tie.Need-returns
 returns c =
-    rw (sym (c .before .before .before .before .is-raw .ensures), sym (told answerCount (c .before .before .before .count .ensures) (c .before .n .given .1)))
+    let at-n = c .before in
+    let at-count = at-n .before .before in
+    let at-is-raw = at-count .before in
+    rw (sym (at-is-raw .is-raw .ensures), sym (told answerCount (at-count .count .ensures) (at-n .n .given .1)))
 
 returns-2 : tie.Need-returns-2
 returns-2 c =
-    rw (sym (c .before .before .before .before .before .before .is-raw .ensures), sym (told answerCount (c .before .before .before .before .before .count .ensures) (c .before .before .before .n2 .given .1)), sym (c .before .is-delta .ensures)) (c .finish .ensures)
+    let at-is-delta = c .before in
+    let at-n2 = at-is-delta .before .before in
+    let at-count = at-n2 .before .before in
+    let at-is-raw = at-count .before in
+    rw (sym (at-is-raw .is-raw .ensures), sym (told answerCount (at-count .count .ensures) (at-n2 .n2 .given .1)), sym (at-is-delta .is-delta .ensures)) (c .finish .ensures)
 
 pub read-body-spec : {M : Type 1} → statement M
 read-body-spec =

@@ -16,7 +16,12 @@ returns c =
 
 returns-2 : tie.Need-returns-2
 returns-2 c =
-    rw (sym (c .before .before .before .has-fields .ensures) ∙ c .before .before .if1 .left) (c .six-unless .ensures ∙ ap (λ (t : Bool). cond {A = ℕ} (eqb (length (now (c .before .before .before .before .before .before .before .before .args .lengths))) 0 && (not t || eqb (c .before .before .before .before .before .before .before .before .args .padding) 0)) 0 6) (c .before .is-key .ensures))
+    let at-is-key = c .before in
+    let at-if1 = at-is-key .before in
+    let at-has-fields = at-if1 .before in
+    let args = at-has-fields .before .before .before .before .before .args in
+    rw (sym (at-has-fields .has-fields .ensures) ∙ at-if1 .if1 .left)
+    (c .six-unless .ensures ∙ ap (λ (t : Bool). cond {A = ℕ} (eqb (length (now (args .lengths))) 0 && (not t || eqb (args .padding) 0)) 0 6) (at-is-key .is-key .ensures))
 
 pub body-refusal-spec : {M : Type 1} → statement M
 body-refusal-spec =

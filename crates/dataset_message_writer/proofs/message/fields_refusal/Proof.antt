@@ -15,7 +15,23 @@ use Rattle.dataset_message_writer.proofs.message.fields_refusal.Tie as 
 
 returns : tie.Need-returns
 returns c =
-    fields-is (configuredRule (isRaw (c .before .before .before .before .before .before .before .before .before .before .args .encoding)) (length (now (c .before .before .before .before .before .before .before .before .before .before .args .types)))) (fieldsRefusal (c .before .before .before .before .before .before .before .before .before .before .args .encoding) (now (c .before .before .before .before .before .before .before .before .before .before .args .types)) 0 (reached (isRaw (c .before .before .before .before .before .before .before .before .before .before .args .encoding)) (now (c .before .before .before .before .before .before .before .before .before .before .args .types)) (valuesOf (now (c .before .before .before .before .before .before .before .before .before .before .args .lengths)) (now (c .before .before .before .before .before .before .before .before .before .before .args .values))))) _ _ _ _ _ (fieldsWhole (c .before .before .before .before .before .before .before .before .before .before .args .encoding) (now (c .before .before .before .before .before .before .before .before .before .before .args .types)) 0 (reached (isRaw (c .before .before .before .before .before .before .before .before .before .before .args .encoding)) (now (c .before .before .before .before .before .before .before .before .before .before .args .types)) (valuesOf (now (c .before .before .before .before .before .before .before .before .before .before .args .lengths)) (now (c .before .before .before .before .before .before .before .before .before .before .args .values))))) (countAgrees (isRaw (c .before .before .before .before .before .before .before .before .before .before .args .encoding)) (length (now (c .before .before .before .before .before .before .before .before .before .before .args .types))) (length (now (c .before .before .before .before .before .before .before .before .before .before .args .lengths)))) (c .before .before .before .before .before .configured-rule .ensures ∙ ap (λ (r : Bool). configuredRule r (length (now (c .before .before .before .before .before .before .before .before .before .before .args .types)))) (c .before .before .before .before .before .before .is-raw .ensures)) (c .before .before .before .before .judge-fields .ensures) (c .before .before .six-unless .ensures ∙ ap (λ (t : Bool). cond {A = ℕ} t 0 6) (c .before .before .before .count-agrees .ensures ∙ ap (λ (r : Bool). countAgrees r (length (now (c .before .before .before .before .before .before .before .before .before .before .args .types))) (length (now (c .before .before .before .before .before .before .before .before .before .before .args .lengths)))) (c .before .before .before .before .before .before .is-raw .ensures))) (c .before .or-else .ensures) (c .or-else2 .ensures)
+    let at-or-else = c .before in
+    let at-six-unless = at-or-else .before in
+    let at-count-agrees = at-six-unless .before in
+    let at-judge-fields = at-count-agrees .before in
+    let at-configured-rule = at-judge-fields .before in
+    let at-is-raw = at-configured-rule .before in
+    let args = at-is-raw .before .before .before .before .args in
+    fields-is (configuredRule (isRaw (args .encoding)) (length (now (args .types))))
+    (fieldsRefusal (args .encoding) (now (args .types)) 0 (reached (isRaw (args .encoding)) (now (args .types)) (valuesOf (now (args .lengths)) (now (args .values))))) _ _ _ _ _
+    (fieldsWhole (args .encoding) (now (args .types)) 0 (reached (isRaw (args .encoding)) (now (args .types)) (valuesOf (now (args .lengths)) (now (args .values)))))
+    (countAgrees (isRaw (args .encoding)) (length (now (args .types))) (length (now (args .lengths))))
+    (at-configured-rule .configured-rule .ensures ∙ ap (λ (r : Bool). configuredRule r (length (now (args .types)))) (at-is-raw .is-raw .ensures))
+    (at-judge-fields .judge-fields .ensures)
+    (at-six-unless .six-unless .ensures
+    ∙ ap (λ (t : Bool). cond {A = ℕ} t 0 6)
+    (at-count-agrees .count-agrees .ensures ∙ ap (λ (r : Bool). countAgrees r (length (now (args .types))) (length (now (args .lengths)))) (at-is-raw .is-raw .ensures)))
+    (at-or-else .or-else .ensures) (c .or-else2 .ensures)
 
 pub fields-refusal-spec : {M : Type 1} → statement M
 fields-refusal-spec =

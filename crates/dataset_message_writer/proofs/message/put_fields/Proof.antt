@@ -9,11 +9,16 @@ use Rattle.dataset_message_writer.proofs.message.put_fields.Tie as tie
 
 returns : tie.Need-returns
 returns c =
-    rw (c .before .before .before .before .if1 .taken) (c .before .before .put-delta .ensures)
+    let at-put-delta = c .before .before in
+    let at-if1 = at-put-delta .before .before in
+    rw (at-if1 .if1 .taken) (at-put-delta .put-delta .ensures)
 
 returns-2 : tie.Need-returns-2
 returns-2 c =
-    rw (c .before .before .before .before .if1 .left, values-whole (now (c .before .before .before .before .before .before .before .before .before .args .lengths)) (now (c .before .before .before .before .before .before .before .before .before .args .values)) (now (c .before .before .before .before .before .before .before .before .before .args .indices)) (c .before .before .before .before .before .before .before .before .before .pre)) (puts (c .before .before .put-run .ensures))
+    let at-put-run = c .before .before in
+    let at-if1 = at-put-run .before .before in
+    let at-pre = at-if1 .before .before .before .before .before in
+    rw (at-if1 .if1 .left, values-whole (now (at-pre .args .lengths)) (now (at-pre .args .values)) (now (at-pre .args .indices)) (at-pre .pre)) (puts (at-put-run .put-run .ensures))
 
 pub put-fields-spec : {M : Type 1} → statement M
 put-fields-spec =

@@ -9,11 +9,22 @@ use Rattle.dataset_message_writer.proofs.message.put_message.Tie as tie
 
 put-fields-requires : tie.Need-put-fields-requires
 put-fields-requires c κs =
-    c .before .before .before .before .before .before .before .before .before .before .before .before .before .before .before .before .pre
+    let at-pre = c .before .before .before .before .before .before .before .before .before .before .before .before .before .before .before .before in
+    at-pre .pre
 
 returns : tie.Need-returns
 returns c =
-    put-parts (given (c .before .before .before .before .before .before .before .before .before .before .before .before .before .before .before .before .before .before .before .before .before .before .before .args .header) (c .before .before .before .before .before .before .before .before .before .before .before .before .before .before .before .before .before .before .before .before .before .before .before .args .heartbeat) (now (c .before .before .before .before .before .before .before .before .before .before .before .before .before .before .before .before .before .before .before .before .before .before .before .args .values)) (now (c .before .before .before .before .before .before .before .before .before .before .before .before .before .before .before .before .before .before .before .before .before .before .before .args .lengths)) (now (c .before .before .before .before .before .before .before .before .before .before .before .before .before .before .before .before .before .before .before .before .before .before .before .args .indices)) (c .before .before .before .before .before .before .before .before .before .before .before .before .before .before .before .before .before .before .before .before .before .before .before .args .padding)) _ _ _ (c .before .before .before .before .before .before .before .before .before .before .before .before .before .has-fields .ensures) (c .before .before .before .before .before .before .before .before .before .before .before .before .is-raw .ensures) (c .before .before .before .before .before .before .before .is-delta .ensures) (c .before .before .before .before .before .before .before .before .before .before .before .before .before .before .before .before .before .put-header .ensures) (c .before .before .before .before .before .before .before .before .before .before .before .put-count .ensures) (c .before .before .before .before .before .before .put-fields .ensures) (c .before .before .put-zeros .ensures)
+    let at-put-zeros = c .before .before in
+    let at-put-fields = at-put-zeros .before .before .before .before in
+    let at-is-delta = at-put-fields .before in
+    let at-put-count = at-is-delta .before .before .before .before in
+    let at-is-raw = at-put-count .before in
+    let at-has-fields = at-is-raw .before in
+    let at-put-header = at-has-fields .before .before .before .before in
+    let args = at-put-header .before .before .before .before .before .before .args in
+    put-parts (given (args .header) (args .heartbeat) (now (args .values)) (now (args .lengths)) (now (args .indices)) (args .padding)) _ _ _
+    (at-has-fields .has-fields .ensures) (at-is-raw .is-raw .ensures) (at-is-delta .is-delta .ensures)
+    (at-put-header .put-header .ensures) (at-put-count .put-count .ensures) (at-put-fields .put-fields .ensures) (at-put-zeros .put-zeros .ensures)
 
 pub put-message-spec : {M : Type 1} → statement M
 put-message-spec =

@@ -13,7 +13,10 @@ cast-put16 c = omega arith
 
 returns : tie.Need-returns
 returns c =
-    rw (c .before .before .before .before .if1 .taken, ← count-bytes (c .before .before .before .before .before .before .args .n)) (puts (c .before .before .put16 .ensures))
+    let at-put16 = c .before .before in
+    let at-if1 = at-put16 .before .before in
+    let args = at-if1 .before .before .args in
+    rw (at-if1 .if1 .taken, ← count-bytes (args .n)) (puts (at-put16 .put16 .ensures))
 
 returns-2 : tie.Need-returns-2
 returns-2 c =

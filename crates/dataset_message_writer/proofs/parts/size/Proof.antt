@@ -8,15 +8,42 @@ use Rattle.dataset_message_writer.proofs.parts.size.Tie as tie
 
 returns : tie.Need-returns
 returns c =
-    rw (c .before .before .before .before .if1 .taken, ← c .before .before .before .before .before .before .header-size .ensures .0) (more (c .before .before .before .before .before .before .header-size .result) (2 + (c .before .before .before .before .before .before .before .args .count + (c .before .before .before .before .before .before .before .args .count + (c .before .before .before .before .before .before .before .args .bytes + c .before .before .before .before .before .before .before .args .padding)))) (c .before .plus4 .result) _ (more 2 (c .before .before .before .before .before .before .before .args .count + (c .before .before .before .before .before .before .before .args .count + (c .before .before .before .before .before .before .before .args .bytes + c .before .before .before .before .before .before .before .args .padding))) (c .before .before .plus3 .result) _ (more (c .before .before .before .before .before .before .before .args .count) (c .before .before .before .before .before .before .before .args .count + (c .before .before .before .before .before .before .before .args .bytes + c .before .before .before .before .before .before .before .args .padding)) (c .before .before .before .plus2 .result) _ (more (c .before .before .before .before .before .before .before .args .count) (c .before .before .before .before .before .before .before .args .bytes + c .before .before .before .before .before .before .before .args .padding) (c .before .before .before .before .before .plus .result) _ (c .before .before .before .before .before .plus .ensures) (c .before .before .before .plus2 .ensures)) (c .before .before .plus3 .ensures)) (c .before .plus4 .ensures)) (c .plus5 .ensures))
+    let at-plus4 = c .before in
+    let at-plus3 = at-plus4 .before in
+    let at-plus2 = at-plus3 .before in
+    let at-if1 = at-plus2 .before in
+    let at-plus = at-if1 .before in
+    let at-header-size = at-plus .before in
+    let args = at-header-size .before .args in
+    rw (at-if1 .if1 .taken, ← at-header-size .header-size .ensures .0)
+    (more (at-header-size .header-size .result) (2 + (args .count + (args .count + (args .bytes + args .padding))))
+    (at-plus4 .plus4 .result) _
+    (more 2 (args .count + (args .count + (args .bytes + args .padding))) (at-plus3 .plus3 .result) _
+    (more (args .count) (args .count + (args .bytes + args .padding)) (at-plus2 .plus2 .result) _
+    (more (args .count) (args .bytes + args .padding) (at-plus .plus .result) _ (at-plus .plus .ensures) (at-plus2 .plus2 .ensures)) (at-plus3 .plus3 .ensures))
+    (at-plus4 .plus4 .ensures)) (c .plus5 .ensures))
 
 returns-2 : tie.Need-returns-2
 returns-2 c =
-    rw (c .before .before .before .if1 .left, c .before .before .if2 .taken, ← c .before .before .before .before .before .header-size .ensures .0) (more (c .before .before .before .before .before .header-size .result) (2 + (c .before .before .before .before .before .before .args .bytes + c .before .before .before .before .before .before .args .padding)) (c .before .plus6 .result) _ (more 2 (c .before .before .before .before .before .before .args .bytes + c .before .before .before .before .before .before .args .padding) (c .before .before .before .before .plus .result) _ (c .before .before .before .before .plus .ensures) (c .before .plus6 .ensures)) (c .plus7 .ensures))
+    let at-plus6 = c .before in
+    let at-if2 = at-plus6 .before in
+    let at-if1 = at-if2 .before in
+    let at-plus = at-if1 .before in
+    let at-header-size = at-plus .before in
+    let args = at-header-size .before .args in
+    rw (at-if1 .if1 .left, at-if2 .if2 .taken, ← at-header-size .header-size .ensures .0)
+    (more (at-header-size .header-size .result) (2 + (args .bytes + args .padding)) (at-plus6 .plus6 .result) _
+    (more 2 (args .bytes + args .padding) (at-plus .plus .result) _ (at-plus .plus .ensures) (at-plus6 .plus6 .ensures)) (c .plus7 .ensures))
 
 returns-3 : tie.Need-returns-3
 returns-3 c =
-    rw (c .before .before .if1 .left, c .before .if2 .left, ← c .before .before .before .before .header-size .ensures .0) (more (c .before .before .before .before .header-size .result) (c .before .before .before .before .before .args .bytes + c .before .before .before .before .before .args .padding) (c .before .before .before .plus .result) _ (c .before .before .before .plus .ensures) (c .plus8 .ensures))
+    let at-if2 = c .before in
+    let at-if1 = at-if2 .before in
+    let at-plus = at-if1 .before in
+    let at-header-size = at-plus .before in
+    let args = at-header-size .before .args in
+    rw (at-if1 .if1 .left, at-if2 .if2 .left, ← at-header-size .header-size .ensures .0)
+    (more (at-header-size .header-size .result) (args .bytes + args .padding) (at-plus .plus .result) _ (at-plus .plus .ensures) (c .plus8 .ensures))
 
 pub size-spec : {M : Type 1} → statement M
 size-spec =

@@ -9,7 +9,14 @@ use Rattle.dataset_message_writer.proofs.rewrite.put_again.Tie as tie
 
 returns : tie.Need-returns
 returns c =
-    again-parts (c .before .before .before .before .before .before .before .before .before .before .before .before .before .before .before .before .before .before .before .args .header) (c .before .before .before .before .before .before .before .before .before .before .before .before .before .before .before .before .before .before .before .args .fielded) (c .before .before .before .before .before .before .before .before .before .before .before .is-raw .result) (c .before .before .before .before .before .before .before .before .before .before .before .before .before .before .before .before .before .before .before .args .count) (now (c .before .before .before .before .before .before .before .before .before .before .before .before .before .before .before .before .before .before .before .args .fields)) (c .before .before .before .before .before .before .before .before .before .before .before .before .before .before .before .before .before .before .before .args .padding) (c .before .before .before .before .before .before .before .before .before .before .before .is-raw .ensures) (c .before .before .before .before .before .before .before .before .before .before .before .before .before .before .before .put-header .ensures) (c .before .before .before .before .before .before .before .before .before .before .put-count .ensures) (puts (c .before .before .before .before .before .before .put-run .ensures)) (c .before .before .put-zeros .ensures)
+    let at-put-zeros = c .before .before in
+    let at-put-run = at-put-zeros .before .before .before .before in
+    let at-put-count = at-put-run .before .before .before .before in
+    let at-is-raw = at-put-count .before in
+    let at-put-header = at-is-raw .before .before .before .before in
+    let args = at-put-header .before .before .before .before .args in
+    again-parts (args .header) (args .fielded) (at-is-raw .is-raw .result) (args .count) (now (args .fields)) (args .padding)
+    (at-is-raw .is-raw .ensures) (at-put-header .put-header .ensures) (at-put-count .put-count .ensures) (puts (at-put-run .put-run .ensures)) (at-put-zeros .put-zeros .ensures)
 
 pub put-again-spec : {M : Type 1} → statement M
 put-again-spec =

@@ -11,15 +11,32 @@ use Rattle.dataset_message_writer.proofs.rewrite.rewrite.Tie as tie
 
 returns : tie.Need-returns
 returns c =
-    rewrite-invalid (now (c .before .before .before .before .before .before .args .types)) (now (c .before .before .before .before .before .before .args .message)) (now (c .before .before .before .before .before .before .args .out)) _ (sym (told answerMessage (c .before .before .read .ensures) (c .enum-told .given .1)))
+    let at-read = c .before .before in
+    let args = at-read .before .before .before .before .args in
+    rewrite-invalid (now (args .types)) (now (args .message)) (now (args .out)) _ (sym (told answerMessage (at-read .read .ensures) (c .enum-told .given .1)))
 
 returns-2 : tie.Need-returns-2
 returns-2 c =
-    rewrite-refused (now (c .before .before .before .before .before .before .before .args .types)) (now (c .before .before .before .before .before .before .before .args .message)) (now (c .before .before .before .before .before .before .before .args .out)) _ _ (sym (told answerMessage (c .before .before .before .read .ensures) (c .before .n .given .1)))
+    let at-n = c .before in
+    let at-read = at-n .before .before in
+    let args = at-read .before .before .before .before .args in
+    rewrite-refused (now (args .types)) (now (args .message)) (now (args .out)) _ _ (sym (told answerMessage (at-read .read .ensures) (at-n .n .given .1)))
 
 returns-3 : tie.Need-returns-3
 returns-3 c =
-    rewrite-valid (now (c .before .before .before .before .before .before .before .before .before .before .before .before .before .before .before .before .args .types)) (now (c .before .before .before .before .before .before .before .before .before .before .before .before .before .before .before .before .args .message)) (now (c .before .before .before .before .before .before .before .before .before .before .before .before .before .before .before .before .args .out)) _ _ _ _ _ _ (c .before .before .before .before .before .before .before .before .header-size .result) (c .before .before .before .before .before .before .before .has-fields .result) (c .before .before .before .before .before .before .left .result) _ (c .before .before .before .before .left2 .result) (sym (told answerMessage (c .before .before .before .before .before .before .before .before .before .before .before .before .read .ensures) (c .before .before .before .before .before .before .before .before .before .before .header .given .1))) (c .before .before .before .before .before .before .before .before .header-size .ensures .0) (c .before .before .before .before .before .before .before .has-fields .ensures) (c .before .before .before .before .before .before .left .ensures) (c .before .before .before .before .before .part .ensures) (c .before .before .before .before .left2 .ensures) (c .before .before .write-again .ensures)
+    let at-write-again = c .before .before in
+    let at-left2 = at-write-again .before .before in
+    let at-part = at-left2 .before in
+    let at-left = at-part .before in
+    let at-has-fields = at-left .before in
+    let at-header-size = at-has-fields .before in
+    let at-header = at-header-size .before .before in
+    let at-read = at-header .before .before in
+    let args = at-read .before .before .before .before .args in
+    rewrite-valid (now (args .types)) (now (args .message)) (now (args .out)) _ _ _ _ _ _ (at-header-size .header-size .result)
+    (at-has-fields .has-fields .result) (at-left .left .result) _ (at-left2 .left2 .result)
+    (sym (told answerMessage (at-read .read .ensures) (at-header .header .given .1))) (at-header-size .header-size .ensures .0)
+    (at-has-fields .has-fields .ensures) (at-left .left .ensures) (at-part .part .ensures) (at-left2 .left2 .ensures) (at-write-again .write-again .ensures)
 
 pub rewrite-spec : {M : Type 1} → statement M
 rewrite-spec =

@@ -10,15 +10,37 @@ use Rattle.dataset_message_writer.proofs.rewrite.write_again.Tie as tie
 
 returns : tie.Need-returns
 returns c =
-    too-long 0 (partsAgain (c .before .before .before .before .before .args .header) (c .before .before .before .before .before .args .fielded) (c .before .before .before .before .before .args .count) (now (c .before .before .before .before .before .args .fields)) (c .before .before .before .before .before .args .padding)) (now (c .before .before .before .before .before .args .out)) 0 (c .before .size .result) refl refl (again-size (c .before .before .before .before .before .args .header) (c .before .before .before .before .before .args .fielded) (c .before .before .is-raw .result) (c .before .before .before .before .before .args .count) (now (c .before .before .before .before .before .args .fields)) (c .before .before .before .before .before .args .padding) (c .before .size .result) (c .before .before .is-raw .ensures) (c .before .size .ensures)) (c .if1 .taken)
+    let at-size = c .before in
+    let at-is-raw = at-size .before in
+    let args = at-is-raw .before .before .before .args in
+    too-long 0 (partsAgain (args .header) (args .fielded) (args .count) (now (args .fields)) (args .padding)) (now (args .out)) 0
+    (at-size .size .result) refl refl
+    (again-size (args .header) (args .fielded) (at-is-raw .is-raw .result) (args .count) (now (args .fields)) (args .padding)
+    (at-size .size .result) (at-is-raw .is-raw .ensures) (at-size .size .ensures)) (c .if1 .taken)
 
 returns-2 : tie.Need-returns-2
 returns-2 c =
-    no-room 0 (partsAgain (c .before .before .before .before .before .before .args .header) (c .before .before .before .before .before .before .args .fielded) (c .before .before .before .before .before .before .args .count) (now (c .before .before .before .before .before .before .args .fields)) (c .before .before .before .before .before .before .args .padding)) (now (c .before .before .before .before .before .before .args .out)) 0 (c .before .before .size .result) refl refl (again-size (c .before .before .before .before .before .before .args .header) (c .before .before .before .before .before .before .args .fielded) (c .before .before .before .is-raw .result) (c .before .before .before .before .before .before .args .count) (now (c .before .before .before .before .before .before .args .fields)) (c .before .before .before .before .before .before .args .padding) (c .before .before .size .result) (c .before .before .before .is-raw .ensures) (c .before .before .size .ensures)) (c .before .if1 .left) (c .if2 .taken)
+    let at-if1 = c .before in
+    let at-size = at-if1 .before in
+    let at-is-raw = at-size .before in
+    let args = at-is-raw .before .before .before .args in
+    no-room 0 (partsAgain (args .header) (args .fielded) (args .count) (now (args .fields)) (args .padding)) (now (args .out)) 0
+    (at-size .size .result) refl refl
+    (again-size (args .header) (args .fielded) (at-is-raw .is-raw .result) (args .count) (now (args .fields)) (args .padding)
+    (at-size .size .result) (at-is-raw .is-raw .ensures) (at-size .size .ensures)) (at-if1 .if1 .left) (c .if2 .taken)
 
 returns-3 : tie.Need-returns-3
 returns-3 c =
-    written-all 0 (partsAgain (c .before .before .before .before .before .before .before .before .before .before .args .header) (c .before .before .before .before .before .before .before .before .before .before .args .fielded) (c .before .before .before .before .before .before .before .before .before .before .args .count) (now (c .before .before .before .before .before .before .before .before .before .before .args .fields)) (c .before .before .before .before .before .before .before .before .before .before .args .padding)) (now (c .before .before .before .before .before .before .before .before .before .before .args .out)) 0 (c .before .before .before .before .before .before .size .result) _ _ refl refl (again-size (c .before .before .before .before .before .before .before .before .before .before .args .header) (c .before .before .before .before .before .before .before .before .before .before .args .fielded) (c .before .before .before .before .before .before .before .is-raw .result) (c .before .before .before .before .before .before .before .before .before .before .args .count) (now (c .before .before .before .before .before .before .before .before .before .before .args .fields)) (c .before .before .before .before .before .before .before .before .before .before .args .padding) (c .before .before .before .before .before .before .size .result) (c .before .before .before .before .before .before .before .is-raw .ensures) (c .before .before .before .before .before .before .size .ensures)) (c .before .before .before .before .before .if1 .left) (c .before .before .before .before .if2 .left) (c .before .before .put-again .ensures)
+    let at-put-again = c .before .before in
+    let at-if2 = at-put-again .before .before in
+    let at-if1 = at-if2 .before in
+    let at-size = at-if1 .before in
+    let at-is-raw = at-size .before in
+    let args = at-is-raw .before .before .before .args in
+    written-all 0 (partsAgain (args .header) (args .fielded) (args .count) (now (args .fields)) (args .padding)) (now (args .out)) 0
+    (at-size .size .result) _ _ refl refl
+    (again-size (args .header) (args .fielded) (at-is-raw .is-raw .result) (args .count) (now (args .fields)) (args .padding)
+    (at-size .size .result) (at-is-raw .is-raw .ensures) (at-size .size .ensures)) (at-if1 .if1 .left) (at-if2 .if2 .left) (at-put-again .put-again .ensures)
 
 pub write-again-spec : {M : Type 1} → statement M
 write-again-spec =

@@ -9,7 +9,10 @@ use Rattle.listing.proofs.columns.decimal.Tie as tie
 
 returns : tie.Need-returns
 returns c =
-    put-tabbed 20 _ _ _ _ _ _ (decimal-length 19 (c .before .before .before .before .before .before .before .before .before .args .n) (omega arith)) (omega arith) (c .before .before .before .before .before .before .tab .ensures) (c .before .before .put-decimal .ensures)
+    let at-put-decimal = c .before .before in
+    let at-tab = at-put-decimal .before .before .before .before in
+    let args = at-tab .before .before .before .args in
+    put-tabbed 20 _ _ _ _ _ _ (decimal-length 19 (args .n) (omega arith)) (omega arith) (at-tab .tab .ensures) (at-put-decimal .put-decimal .ensures)
 
 pub decimal-spec : {M : Type 1} → statement M
 decimal-spec =

@@ -8,15 +8,21 @@ use Rattle.listing.proofs.columns.shape.Tie as tie
 
 returns : tie.Need-returns
 returns c =
-    rw (c .before .before .before .before .before .enum-told .given .1) (fewer (omega arith) (c .before .before .word .ensures))
+    let at-word = c .before .before in
+    let at-enum-told = at-word .before .before .before in
+    rw (at-enum-told .enum-told .given .1) (fewer (omega arith) (at-word .word .ensures))
 
 returns-2 : tie.Need-returns-2
 returns-2 c =
-    rw (c .before .before .before .before .before .enum-told2 .given .1) (fewer (omega arith) (c .before .before .word2 .ensures))
+    let at-word2 = c .before .before in
+    let at-enum-told2 = at-word2 .before .before .before in
+    rw (at-enum-told2 .enum-told2 .given .1) (fewer (omega arith) (at-word2 .word2 .ensures))
 
 returns-3 : tie.Need-returns-3
 returns-3 c =
-    rw (c .before .before .before .before .before .x .given .1) (c .before .before .decimal .ensures)
+    let at-decimal = c .before .before in
+    let at-x = at-decimal .before .before .before in
+    rw (at-x .x .given .1) (at-decimal .decimal .ensures)
 
 pub shape-spec : {M : Type 1} → statement M
 shape-spec =

@@ -8,7 +8,9 @@ use Rattle.listing.proofs.columns.word.Tie as tie
 
 returns : tie.Need-returns
 returns c =
-    put-tabbed 7 _ _ _ _ _ _ (omega arith) (omega arith) (c .before .before .before .before .before .before .tab .ensures) (c .before .before .put-bytes .ensures)
+    let at-put-bytes = c .before .before in
+    let at-tab = at-put-bytes .before .before .before .before in
+    put-tabbed 7 _ _ _ _ _ _ (omega arith) (omega arith) (at-tab .tab .ensures) (at-put-bytes .put-bytes .ensures)
 
 pub word-spec : {M : Type 1} → statement M
 word-spec = tie.close (tie.spec (λ c κs. search needs) (λ c. search needs) (λ c κs. search needs) (λ c. search needs) returns)

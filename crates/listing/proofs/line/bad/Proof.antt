@@ -8,7 +8,9 @@ use Rattle.listing.proofs.line.bad.Tie as tie
 
 returns : tie.Need-returns
 returns c =
-    fewer (omega arith) (then (c .before .before .before .before .before .before .first .ensures) (c .before .before .refusal .ensures))
+    let at-refusal = c .before .before in
+    let at-first = at-refusal .before .before .before .before in
+    fewer (omega arith) (then (at-first .first .ensures) (at-refusal .refusal .ensures))
 
 pub bad-spec : {M : Type 1} → statement M
 bad-spec =

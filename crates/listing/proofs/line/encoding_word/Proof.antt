@@ -6,15 +6,21 @@ use Rattle.listing.proofs.line.encoding_word.Tie as tie
 
 returns : tie.Need-returns
 returns c =
-    rw (c .before .before .before .before .before .enum-told .given .1) (c .before .before .word .ensures)
+    let at-word = c .before .before in
+    let at-enum-told = at-word .before .before .before in
+    rw (at-enum-told .enum-told .given .1) (at-word .word .ensures)
 
 returns-2 : tie.Need-returns-2
 returns-2 c =
-    rw (c .before .before .before .before .before .enum-told2 .given .1) (c .before .before .word2 .ensures)
+    let at-word2 = c .before .before in
+    let at-enum-told2 = at-word2 .before .before .before in
+    rw (at-enum-told2 .enum-told2 .given .1) (at-word2 .word2 .ensures)
 
 returns-3 : tie.Need-returns-3
 returns-3 c =
-    rw (c .before .before .before .before .before .enum-told3 .given .1) (c .before .before .word3 .ensures)
+    let at-word3 = c .before .before in
+    let at-enum-told3 = at-word3 .before .before .before in
+    rw (at-enum-told3 .enum-told3 .given .1) (at-word3 .word3 .ensures)
 
 pub encoding-word-spec : {M : Type 1} → statement M
 encoding-word-spec =

@@ -8,7 +8,13 @@ use Rattle.listing.proofs.line.field.Tie as tie
 
 returns : tie.Need-returns
 returns c =
-    fewer (omega arith) (then (c .before .before .before .before .before .before .before .before .before .before .before .before .before .before .before .before .before .before .before .first .ensures) (then (c .before .before .before .before .before .before .before .before .before .before .before .before .before .before .before .decimal .ensures) (then (c .before .before .before .before .before .before .before .before .before .before .before .decimal2 .ensures) (then (c .before .before .before .before .before .before .decimal3 .ensures) (c .before .before .field-value .ensures)))))
+    let at-field-value = c .before .before in
+    let at-decimal3 = at-field-value .before .before .before .before in
+    let at-decimal2 = at-decimal3 .before .before .before .before .before in
+    let at-decimal = at-decimal2 .before .before .before .before in
+    let at-first = at-decimal .before .before .before .before in
+    fewer (omega arith) (then (at-first .first .ensures)
+    (then (at-decimal .decimal .ensures) (then (at-decimal2 .decimal2 .ensures) (then (at-decimal3 .decimal3 .ensures) (at-field-value .field-value .ensures)))))
 
 pub field-spec : {M : Type 1} → statement M
 field-spec =

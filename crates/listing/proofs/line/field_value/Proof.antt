@@ -7,7 +7,11 @@ use Rattle.listing.proofs.line.field_value.Tie as tie
 
 returns : tie.Need-returns
 returns c =
-    then (c .before .before .before .before .before .before .before .before .before .before .before .before .before .before .shape .ensures) (then (c .before .before .before .before .before .before .before .before .before .before .decimal .ensures) (then (c .before .before .before .before .before .before .decimal2 .ensures) (c .before .before .end .ensures)))
+    let at-end = c .before .before in
+    let at-decimal2 = at-end .before .before .before .before in
+    let at-decimal = at-decimal2 .before .before .before .before in
+    let at-shape = at-decimal .before .before .before .before in
+    then (at-shape .shape .ensures) (then (at-decimal .decimal .ensures) (then (at-decimal2 .decimal2 .ensures) (at-end .end .ensures)))
 
 pub field-value-spec : {M : Type 1} → statement M
 field-value-spec =

@@ -8,7 +8,12 @@ use Rattle.listing.proofs.line.net.Tie as tie
 
 returns : tie.Need-returns
 returns c =
-    fewer (omega arith) (then (c .before .before .before .before .before .before .before .before .before .before .before .before .before .before .before .before .before .before .first .ensures) (then (c .before .before .before .before .before .before .before .before .before .before .before .before .before .before .decimal .ensures) (then (c .before .before .before .before .before .before .before .before .before .before .publisher .ensures) (then (c .before .before .before .before .before .before .decimal2 .ensures) (c .before .before .end .ensures)))))
+    let at-end = c .before .before in
+    let at-decimal2 = at-end .before .before .before .before in
+    let at-publisher = at-decimal2 .before .before .before .before in
+    let at-decimal = at-publisher .before .before .before .before in
+    let at-first = at-decimal .before .before .before .before in
+    fewer (omega arith) (then (at-first .first .ensures) (then (at-decimal .decimal .ensures) (then (at-publisher .publisher .ensures) (then (at-decimal2 .decimal2 .ensures) (at-end .end .ensures)))))
 
 pub net-spec : {M : Type 1} → statement M
 net-spec =

@@ -7,37 +7,51 @@ use Rattle.listing.proofs.line.put.Tie as tie
 
 net-requires : tie.Need-net-requires
 net-requires c κs =
-    (rw (c .before .before .line .given .1) at (c .before .before .before .before .before .before .pre .0), c .before .before .before .before .before .before .pre .1)
+    let at-line = c .before .before in
+    let at-pre = at-line .before .before .before .before in
+    (rw (at-line .line .given .1) at (at-pre .pre .0), at-pre .pre .1)
 
 returns : tie.Need-returns
 unfolding lineText
 returns c =
-    rw (c .before .before .before .before .before .line .given .1) (c .before .before .net .ensures)
+    let at-net = c .before .before in
+    let at-line = at-net .before .before .before in
+    rw (at-line .line .given .1) (at-net .net .ensures)
 
 returns-2 : tie.Need-returns-2
 unfolding lineText
 returns-2 c =
-    rw (c .before .before .before .before .before .line2 .given .1) (c .before .before .set .ensures)
+    let at-set = c .before .before in
+    let at-line2 = at-set .before .before .before in
+    rw (at-line2 .line2 .given .1) (at-set .set .ensures)
 
 returns-3 : tie.Need-returns-3
 unfolding lineText
 returns-3 c =
-    rw (c .before .before .before .before .before .line3 .given .1) (c .before .before .set-invalid .ensures)
+    let at-set-invalid = c .before .before in
+    let at-line3 = at-set-invalid .before .before .before in
+    rw (at-line3 .line3 .given .1) (at-set-invalid .set-invalid .ensures)
 
 returns-4 : tie.Need-returns-4
 unfolding lineText
 returns-4 c =
-    rw (c .before .before .before .before .before .line4 .given .1) (c .before .before .set-bad .ensures)
+    let at-set-bad = c .before .before in
+    let at-line4 = at-set-bad .before .before .before in
+    rw (at-line4 .line4 .given .1) (at-set-bad .set-bad .ensures)
 
 returns-5 : tie.Need-returns-5
 unfolding lineText
 returns-5 c =
-    rw (c .before .before .before .before .before .line5 .given .1) (c .before .before .field .ensures)
+    let at-field = c .before .before in
+    let at-line5 = at-field .before .before .before in
+    rw (at-line5 .line5 .given .1) (at-field .field .ensures)
 
 returns-6 : tie.Need-returns-6
 unfolding lineText
 returns-6 c =
-    rw (c .before .before .before .before .before .line6 .given .1) (c .before .before .bad .ensures)
+    let at-bad = c .before .before in
+    let at-line6 = at-bad .before .before .before in
+    rw (at-line6 .line6 .given .1) (at-bad .bad .ensures)
 
 pub put-spec : {M : Type 1} → statement M
 put-spec =

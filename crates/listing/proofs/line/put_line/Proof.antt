@@ -16,7 +16,10 @@ returns-2 c =
 
 returns-3 : tie.Need-returns-3
 returns-3 c =
-    done _ _ _ _ _ (sym (c .before .before .before .before .before .before .too-long .ensures) ∙ c .before .before .before .before .before .if1 .left) (omega arith) (c .before .before .put .ensures)
+    let at-put = c .before .before in
+    let at-if1 = at-put .before .before .before in
+    let at-too-long = at-if1 .before in
+    done _ _ _ _ _ (sym (at-too-long .too-long .ensures) ∙ at-if1 .if1 .left) (omega arith) (at-put .put .ensures)
 
 pub put-line-spec : {M : Type 1} → statement M
 put-line-spec =

@@ -7,7 +7,10 @@ use Rattle.listing.proofs.line.refusal.Tie as tie
 
 returns : tie.Need-returns
 returns c =
-    then (c .before .before .before .before .before .before .before .before .before .before .decimal .ensures) (then (c .before .before .before .before .before .before .decimal2 .ensures) (c .before .before .end .ensures))
+    let at-end = c .before .before in
+    let at-decimal2 = at-end .before .before .before .before in
+    let at-decimal = at-decimal2 .before .before .before .before in
+    then (at-decimal .decimal .ensures) (then (at-decimal2 .decimal2 .ensures) (at-end .end .ensures))
 
 pub refusal-spec : {M : Type 1} → statement M
 refusal-spec =

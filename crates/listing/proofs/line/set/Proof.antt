@@ -8,7 +8,13 @@ use Rattle.listing.proofs.line.set.Tie as tie
 
 returns : tie.Need-returns
 returns c =
-    fewer (omega arith) (then (c .before .before .before .before .before .before .before .before .before .before .before .before .before .before .before .before .before .before .set-place .ensures) (then (then (c .before .before .before .before .before .before .before .before .before .before .before .before .before .before .kind-word .ensures) (c .before .before .before .before .before .before .before .before .before .before .encoding-word .ensures)) (then (c .before .before .before .before .before .before .optional .ensures) (c .before .before .end .ensures))))
+    let at-end = c .before .before in
+    let at-optional = at-end .before .before .before .before in
+    let at-encoding-word = at-optional .before .before .before .before in
+    let at-kind-word = at-encoding-word .before .before .before .before in
+    let at-set-place = at-kind-word .before .before .before .before in
+    fewer (omega arith) (then (at-set-place .set-place .ensures)
+    (then (then (at-kind-word .kind-word .ensures) (at-encoding-word .encoding-word .ensures)) (then (at-optional .optional .ensures) (at-end .end .ensures))))
 
 pub set-spec : {M : Type 1} → statement M
 set-spec =

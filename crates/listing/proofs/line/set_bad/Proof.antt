@@ -8,7 +8,10 @@ use Rattle.listing.proofs.line.set_bad.Tie as tie
 
 returns : tie.Need-returns
 returns c =
-    fewer (omega arith) (then (c .before .before .before .before .before .before .before .before .before .before .before .set-place .ensures) (then (c .before .before .before .before .before .before .word .ensures) (c .before .before .refusal .ensures)))
+    let at-refusal = c .before .before in
+    let at-word = at-refusal .before .before .before .before in
+    let at-set-place = at-word .before .before .before .before .before in
+    fewer (omega arith) (then (at-set-place .set-place .ensures) (then (at-word .word .ensures) (at-refusal .refusal .ensures)))
 
 pub set-bad-spec : {M : Type 1} → statement M
 set-bad-spec =

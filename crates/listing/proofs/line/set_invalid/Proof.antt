@@ -8,7 +8,10 @@ use Rattle.listing.proofs.line.set_invalid.Tie as tie
 
 returns : tie.Need-returns
 returns c =
-    fewer (omega arith) (then (c .before .before .before .before .before .before .before .before .before .before .before .set-place .ensures) (then (c .before .before .before .before .before .before .word .ensures) (c .before .before .end .ensures)))
+    let at-end = c .before .before in
+    let at-word = at-end .before .before .before .before in
+    let at-set-place = at-word .before .before .before .before .before in
+    fewer (omega arith) (then (at-set-place .set-place .ensures) (then (at-word .word .ensures) (at-end .end .ensures)))
 
 pub set-invalid-spec : {M : Type 1} → statement M
 set-invalid-spec =

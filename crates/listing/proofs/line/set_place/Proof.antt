@@ -7,7 +7,12 @@ use Rattle.listing.proofs.line.set_place.Tie as tie
 
 returns : tie.Need-returns
 returns c =
-    then (c .before .before .before .before .before .before .before .before .before .before .before .before .before .before .before .before .before .before .first .ensures) (then (c .before .before .before .before .before .before .before .before .before .before .before .before .before .before .decimal .ensures) (then (c .before .before .before .before .before .before .before .before .before .before .optional .ensures) (then (c .before .before .before .before .before .before .decimal2 .ensures) (c .before .before .decimal3 .ensures))))
+    let at-decimal3 = c .before .before in
+    let at-decimal2 = at-decimal3 .before .before .before .before in
+    let at-optional = at-decimal2 .before .before .before .before in
+    let at-decimal = at-optional .before .before .before .before in
+    let at-first = at-decimal .before .before .before .before in
+    then (at-first .first .ensures) (then (at-decimal .decimal .ensures) (then (at-optional .optional .ensures) (then (at-decimal2 .decimal2 .ensures) (at-decimal3 .decimal3 .ensures))))
 
 pub set-place-spec : {M : Type 1} → statement M
 set-place-spec =

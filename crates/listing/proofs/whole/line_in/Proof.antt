@@ -8,11 +8,18 @@ use Rattle.listing.proofs.whole.line_in.Tie as tie
 
 returns : tie.Need-returns
 returns c =
-    line-put (now (c .before .before .before .before .before .before .before .before .before .args .text)) (now (c .before .before .before .before .before .before .before .before .before .args .s)) _ (c .before .before .before .before .before .before .before .before .before .args .line) _ (c .before .before .before .before .before .before .before .before .before .pre) (c .before .before .before .before .before .put-line .ensures .0) (c .before .before .before .before .before .put-line .ensures .1) _ (c .before .n .given .1) (rw (c .before .n .given .1) at (c .before .before .before .before .before .put-line .ensures .2))
+    let at-n = c .before in
+    let at-put-line = at-n .before .before .before .before in
+    let at-pre = at-put-line .before .before .before .before in
+    line-put (now (at-pre .args .text)) (now (at-pre .args .s)) _ (at-pre .args .line) _ (at-pre .pre) (at-put-line .put-line .ensures .0)
+    (at-put-line .put-line .ensures .1) _ (at-n .n .given .1) (rw (at-n .n .given .1) at (at-put-line .put-line .ensures .2))
 
 returns-2 : tie.Need-returns-2
 returns-2 c =
-    line-none (now (c .before .before .before .before .before .before .before .before .args .text)) (now (c .before .before .before .before .before .before .before .before .args .s)) _ (c .before .before .before .before .before .before .before .before .args .line) _ (c .before .before .before .before .before .before .before .before .pre) (c .before .before .before .before .put-line .ensures .0) (c .before .before .before .before .put-line .ensures .1) _ (c .enum-told .given .1)
+    let at-put-line = c .before .before .before .before in
+    let at-pre = at-put-line .before .before .before .before in
+    line-none (now (at-pre .args .text)) (now (at-pre .args .s)) _ (at-pre .args .line) _ (at-pre .pre) (at-put-line .put-line .ensures .0)
+    (at-put-line .put-line .ensures .1) _ (c .enum-told .given .1)
 
 pub line-in-spec : {M : Type 1} → statement M
 line-in-spec =

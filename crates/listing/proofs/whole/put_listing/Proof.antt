@@ -13,15 +13,40 @@ use Rattle.listing.proofs.whole.put_listing.Tie as tie
 
 store-text-requires : tie.Need-store-text-requires
 store-text-requires c κs =
-    room-length (now (c .before .before .before .before .before .before .before .before .before .before .before .before .args .out)) (linesText (now (c .before .before .before .before .before .before .before .before .before .before .before .before .args .s)) (linesFrom (writers (now (c .before .before .before .before .before .before .before .before .before .before .before .before .args .ids)) (now (c .before .before .before .before .before .before .before .before .before .before .before .before .args .sizes)) (now (c .before .before .before .before .before .before .before .before .before .before .before .before .args .starts)) (now (c .before .before .before .before .before .before .before .before .before .before .before .before .args .types))) (now (c .before .before .before .before .before .before .before .before .before .before .before .before .args .s)) (c .before .before .before .before .before .start .result))) _ (sym (c .before .before .n .given .1) ∙ c .before .before .before .before .text-length .ensures) .1
+    let at-n = c .before .before in
+    let at-text-length = at-n .before .before in
+    let at-start = at-text-length .before in
+    let args = at-start .before .before .before .before .before .before .before .args in
+    room-length (now (args .out))
+    (linesText (now (args .s)) (linesFrom (writers (now (args .ids)) (now (args .sizes)) (now (args .starts)) (now (args .types))) (now (args .s)) (at-start .start .result))) _
+    (sym (at-n .n .given .1) ∙ at-text-length .text-length .ensures) .1
 
 returns : tie.Need-returns
 returns c =
-    no-room (now (c .before .before .before .before .before .before .before .before .before .before .args .out)) (linesText (now (c .before .before .before .before .before .before .before .before .before .before .args .s)) (listingOf (c .before .before .before .before .before .before .before .before .before .before .args .number) (c .before .before .before .before .before .before .before .before .before .before .args .place) (writers (now (c .before .before .before .before .before .before .before .before .before .before .args .ids)) (now (c .before .before .before .before .before .before .before .before .before .before .args .sizes)) (now (c .before .before .before .before .before .before .before .before .before .before .args .starts)) (now (c .before .before .before .before .before .before .before .before .before .before .args .types))) (now (c .before .before .before .before .before .before .before .before .before .before .args .s)))) (sym (c .enum-told .given .1) ∙ c .before .before .text-length .ensures ∙ ap (lengthIn (length (now (c .before .before .before .before .before .before .before .before .before .before .args .out)))) (listing-text (writers (now (c .before .before .before .before .before .before .before .before .before .before .args .ids)) (now (c .before .before .before .before .before .before .before .before .before .before .args .sizes)) (now (c .before .before .before .before .before .before .before .before .before .before .args .starts)) (now (c .before .before .before .before .before .before .before .before .before .before .args .types))) (now (c .before .before .before .before .before .before .before .before .before .before .args .s)) (c .before .before .before .before .before .before .before .before .before .before .args .number) (c .before .before .before .before .before .before .before .before .before .before .args .place) _ (c .before .before .before .start .ensures)))
+    let at-text-length = c .before .before in
+    let at-start = at-text-length .before in
+    let args = at-start .before .before .before .before .before .before .before .args in
+    no-room (now (args .out))
+    (linesText (now (args .s)) (listingOf (args .number) (args .place) (writers (now (args .ids)) (now (args .sizes)) (now (args .starts)) (now (args .types))) (now (args .s))))
+    (sym (c .enum-told .given .1) ∙ at-text-length .text-length .ensures
+    ∙ ap (lengthIn (length (now (args .out))))
+    (listing-text (writers (now (args .ids)) (now (args .sizes)) (now (args .starts)) (now (args .types))) (now (args .s)) (args .number) (args .place) _ (at-start .start .ensures)))
 
 returns-2 : tie.Need-returns-2
 returns-2 c =
-    put-all (now (c .before .before .before .before .before .before .before .before .before .before .before .before .before .before .before .args .out)) (linesText (now (c .before .before .before .before .before .before .before .before .before .before .before .before .before .before .before .args .s)) (listingOf (c .before .before .before .before .before .before .before .before .before .before .before .before .before .before .before .args .number) (c .before .before .before .before .before .before .before .before .before .before .before .before .before .before .before .args .place) (writers (now (c .before .before .before .before .before .before .before .before .before .before .before .before .before .before .before .args .ids)) (now (c .before .before .before .before .before .before .before .before .before .before .before .before .before .before .before .args .sizes)) (now (c .before .before .before .before .before .before .before .before .before .before .before .before .before .before .before .args .starts)) (now (c .before .before .before .before .before .before .before .before .before .before .before .before .before .before .before .args .types))) (now (c .before .before .before .before .before .before .before .before .before .before .before .before .before .before .before .args .s)))) _ _ (sym (c .before .before .before .before .before .n .given .1) ∙ c .before .before .before .before .before .before .before .text-length .ensures ∙ ap (lengthIn (length (now (c .before .before .before .before .before .before .before .before .before .before .before .before .before .before .before .args .out)))) (listing-text (writers (now (c .before .before .before .before .before .before .before .before .before .before .before .before .before .before .before .args .ids)) (now (c .before .before .before .before .before .before .before .before .before .before .before .before .before .before .before .args .sizes)) (now (c .before .before .before .before .before .before .before .before .before .before .before .before .before .before .before .args .starts)) (now (c .before .before .before .before .before .before .before .before .before .before .before .before .before .before .before .args .types))) (now (c .before .before .before .before .before .before .before .before .before .before .before .before .before .before .before .args .s)) (c .before .before .before .before .before .before .before .before .before .before .before .before .before .before .before .args .number) (c .before .before .before .before .before .before .before .before .before .before .before .before .before .before .before .args .place) _ (c .before .before .before .before .before .before .before .before .start .ensures))) (c .before .before .store-text .ensures ∙ ap (sets (now (c .before .before .before .before .before .before .before .before .before .before .before .before .before .before .before .args .out)) 0) (listing-text (writers (now (c .before .before .before .before .before .before .before .before .before .before .before .before .before .before .before .args .ids)) (now (c .before .before .before .before .before .before .before .before .before .before .before .before .before .before .before .args .sizes)) (now (c .before .before .before .before .before .before .before .before .before .before .before .before .before .before .before .args .starts)) (now (c .before .before .before .before .before .before .before .before .before .before .before .before .before .before .before .args .types))) (now (c .before .before .before .before .before .before .before .before .before .before .before .before .before .before .before .args .s)) (c .before .before .before .before .before .before .before .before .before .before .before .before .before .before .before .args .number) (c .before .before .before .before .before .before .before .before .before .before .before .before .before .before .before .args .place) _ (c .before .before .before .before .before .before .before .before .start .ensures)))
+    let at-store-text = c .before .before in
+    let at-n = at-store-text .before .before .before in
+    let at-text-length = at-n .before .before in
+    let at-start = at-text-length .before in
+    let args = at-start .before .before .before .before .before .before .before .args in
+    put-all (now (args .out))
+    (linesText (now (args .s)) (listingOf (args .number) (args .place) (writers (now (args .ids)) (now (args .sizes)) (now (args .starts)) (now (args .types))) (now (args .s)))) _ _
+    (sym (at-n .n .given .1) ∙ at-text-length .text-length .ensures
+    ∙ ap (lengthIn (length (now (args .out))))
+    (listing-text (writers (now (args .ids)) (now (args .sizes)) (now (args .starts)) (now (args .types))) (now (args .s)) (args .number) (args .place) _ (at-start .start .ensures)))
+    (at-store-text .store-text .ensures
+    ∙ ap (sets (now (args .out)) 0)
+    (listing-text (writers (now (args .ids)) (now (args .sizes)) (now (args .starts)) (now (args .types))) (now (args .s)) (args .number) (args .place) _ (at-start .start .ensures)))
 
 pub put-listing-spec : {M : Type 1} → statement M
 put-listing-spec =

@@ -13,7 +13,11 @@ add-result c =
 
 returns : tie.Need-returns
 returns c =
-    stored-line _ _ _ _ _ _ (c .before .before .put-run .ensures) (c .before .before .before .part .ensures ∙ c .before .before .before .before .before .before .before .line-in .ensures .1) (c .before .before .before .before .before .before .before .before .before .before .before .pre) (c .before .before .before .before .before .before .before .line-in .ensures .0)
+    let at-put-run = c .before .before in
+    let at-part = at-put-run .before in
+    let at-line-in = at-part .before .before .before .before in
+    let at-pre = at-line-in .before .before .before .before in
+    stored-line _ _ _ _ _ _ (at-put-run .put-run .ensures) (at-part .part .ensures ∙ at-line-in .line-in .ensures .1) (at-pre .pre) (at-line-in .line-in .ensures .0)
 
 pub store-line-spec : {M : Type 1} → statement M
 store-line-spec =

@@ -24,19 +24,48 @@ loop-holds c = (omega arith, omega arith)
 
 returns : tie.Need-returns Inv-loop μ-loop
 returns c =
-    whole-length _ _ (linesText (now (c .before .before .before .before .before .before .before .before .before .args .s)) (linesFrom (writers (now (c .before .before .before .before .before .before .before .before .before .args .ids)) (now (c .before .before .before .before .before .before .before .before .before .args .sizes)) (now (c .before .before .before .before .before .before .before .before .before .args .starts)) (now (c .before .before .before .before .before .before .before .before .before .args .types))) (now (c .before .before .before .before .before .before .before .before .before .args .s)) (c .before .before .before .before .before .before .before .before .before .args .first))) (c .before .before .before .loop .inv .0) (omega (arith, c .before .before .before .loop .inv .1, ap length (text-none (writers (now (c .before .before .before .before .before .before .before .before .before .args .ids)) (now (c .before .before .before .before .before .before .before .before .before .args .sizes)) (now (c .before .before .before .before .before .before .before .before .before .args .starts)) (now (c .before .before .before .before .before .before .before .before .before .args .types))) (now (c .before .before .before .before .before .before .before .before .before .args .s)) (c .before .before .before .loop .cursor) _ (c .before .before .next-line .ensures) (c .enum-told .given .1))))
+    let at-next-line = c .before .before in
+    let at-loop = at-next-line .before in
+    let args = at-loop .before .before .before .before .before .before .args in
+    whole-length _ _ (linesText (now (args .s)) (linesFrom (writers (now (args .ids)) (now (args .sizes)) (now (args .starts)) (now (args .types))) (now (args .s)) (args .first)))
+    (at-loop .loop .inv .0) (omega (
+      arith,
+      at-loop .loop .inv .1,
+      ap length (text-none (writers (now (args .ids)) (now (args .sizes)) (now (args .starts)) (now (args .types))) (now (args .s))
+          (at-loop .loop .cursor) _ (at-next-line .next-line .ensures) (c .enum-told .given .1)),
+    ))
 
 returns-2 : tie.Need-returns-2 Inv-loop μ-loop
 returns-2 c =
-    long-length _ (linesText (now (c .before .before .before .before .before .before .before .before .before .before .before .before .args .s)) (linesFrom (writers (now (c .before .before .before .before .before .before .before .before .before .before .before .before .args .ids)) (now (c .before .before .before .before .before .before .before .before .before .before .before .before .args .sizes)) (now (c .before .before .before .before .before .before .before .before .before .before .before .before .args .starts)) (now (c .before .before .before .before .before .before .before .before .before .before .before .before .args .types))) (now (c .before .before .before .before .before .before .before .before .before .before .before .before .args .s)) (c .before .before .before .before .before .before .before .before .before .before .before .before .args .first))) (longer (lineOut (now (c .before .before .before .before .before .before .before .before .before .before .before .before .args .s)) (c .before .before .before .line .given .0 .0)) _ _ _ _ _ _ (c .before .line-length .ensures .0) (text-more (writers (now (c .before .before .before .before .before .before .before .before .before .before .before .before .args .ids)) (now (c .before .before .before .before .before .before .before .before .before .before .before .before .args .sizes)) (now (c .before .before .before .before .before .before .before .before .before .before .before .before .args .starts)) (now (c .before .before .before .before .before .before .before .before .before .before .before .before .args .types))) (now (c .before .before .before .before .before .before .before .before .before .before .before .before .args .s)) (c .before .before .before .before .before .before .loop .cursor) _ (c .before .before .before .before .before .next-line .ensures) _ _ (c .before .before .before .line .given .1)) (c .before .before .before .before .before .before .loop .inv .0) (c .before .before .before .before .before .before .loop .inv .1) (c .if1 .taken))
+    let at-line-length = c .before in
+    let at-line = at-line-length .before .before in
+    let at-next-line = at-line .before .before in
+    let at-loop = at-next-line .before in
+    let args = at-loop .before .before .before .before .before .before .args in
+    long-length _ (linesText (now (args .s)) (linesFrom (writers (now (args .ids)) (now (args .sizes)) (now (args .starts)) (now (args .types))) (now (args .s)) (args .first)))
+    (longer (lineOut (now (args .s)) (at-line .line .given .0 .0)) _ _ _ _ _ _ (at-line-length .line-length .ensures .0)
+    (text-more (writers (now (args .ids)) (now (args .sizes)) (now (args .starts)) (now (args .types))) (now (args .s))
+    (at-loop .loop .cursor) _ (at-next-line .next-line .ensures) _ _ (at-line .line .given .1)) (at-loop .loop .inv .0) (at-loop .loop .inv .1) (c .if1 .taken))
 
 loop-less : tie.Need-loop-less Inv-loop μ-loop
 loop-less c =
-    fewer-lines (writers (now (c .before .before .before .before .before .before .before .before .before .before .before .before .args .ids)) (now (c .before .before .before .before .before .before .before .before .before .before .before .before .args .sizes)) (now (c .before .before .before .before .before .before .before .before .before .before .before .before .args .starts)) (now (c .before .before .before .before .before .before .before .before .before .before .before .before .args .types))) (now (c .before .before .before .before .before .before .before .before .before .before .before .before .args .s)) (c .before .before .before .before .before .before .loop .cursor) _ (c .before .before .before .before .before .next-line .ensures) _ _ (c .before .before .before .line .given .1)
+    let at-line = c .before .before .before in
+    let at-next-line = at-line .before .before in
+    let at-loop = at-next-line .before in
+    let args = at-loop .before .before .before .before .before .before .args in
+    fewer-lines (writers (now (args .ids)) (now (args .sizes)) (now (args .starts)) (now (args .types))) (now (args .s))
+    (at-loop .loop .cursor) _ (at-next-line .next-line .ensures) _ _ (at-line .line .given .1)
 
 loop-again : tie.Need-loop-again Inv-loop μ-loop
 loop-again c =
-    counted (lineOut (now (c .before .before .before .before .before .before .before .before .before .before .before .before .args .s)) (c .before .before .before .line .given .0 .0)) _ _ _ _ _ _ (c .before .line-length .ensures .0) (text-more (writers (now (c .before .before .before .before .before .before .before .before .before .before .before .before .args .ids)) (now (c .before .before .before .before .before .before .before .before .before .before .before .before .args .sizes)) (now (c .before .before .before .before .before .before .before .before .before .before .before .before .args .starts)) (now (c .before .before .before .before .before .before .before .before .before .before .before .before .args .types))) (now (c .before .before .before .before .before .before .before .before .before .before .before .before .args .s)) (c .before .before .before .before .before .before .loop .cursor) _ (c .before .before .before .before .before .next-line .ensures) _ _ (c .before .before .before .line .given .1)) (c .before .before .before .before .before .before .loop .inv .0) (c .before .before .before .before .before .before .loop .inv .1) (omega arith)
+    let at-line-length = c .before in
+    let at-line = at-line-length .before .before in
+    let at-next-line = at-line .before .before in
+    let at-loop = at-next-line .before in
+    let args = at-loop .before .before .before .before .before .before .args in
+    counted (lineOut (now (args .s)) (at-line .line .given .0 .0)) _ _ _ _ _ _ (at-line-length .line-length .ensures .0)
+    (text-more (writers (now (args .ids)) (now (args .sizes)) (now (args .starts)) (now (args .types))) (now (args .s))
+    (at-loop .loop .cursor) _ (at-next-line .next-line .ensures) _ _ (at-line .line .given .1)) (at-loop .loop .inv .0) (at-loop .loop .inv .1) (omega arith)
 
 pub text-length-spec : {M : Type 1} → statement M
 text-length-spec =

@@ -11,7 +11,26 @@ returns c = rw (eq-eqb (c .before .before .args .items) 0 (c .if1 .taken)) refl
 
 returns-2 : tie.Need-returns-2
 returns-2 c =
-    rw (ne-eqb (c .before .before .before .before .before .before .before .before .before .before .args .items) 0 (c .before .before .before .before .before .before .before .before .if1 .left), c .before .before .before .before .before .before .given16 .ensures, c .before .before .before .before .given32 .ensures, c .before .before .given162 .ensures, c .given163 .ensures, c .before .before .before .before .before .before .before .number .ensures, c .before .before .before .before .before .number2 .ensures, c .before .before .before .number3 .ensures, c .before .number4 .ensures) refl
+    let at-number4 = c .before in
+    let at-given162 = at-number4 .before in
+    let at-number3 = at-given162 .before in
+    let at-given32 = at-number3 .before in
+    let at-number2 = at-given32 .before in
+    let at-given16 = at-number2 .before in
+    let at-number = at-given16 .before in
+    let at-if1 = at-number .before in
+    let args = at-if1 .before .before .args in
+    rw (
+      ne-eqb (args .items) 0 (at-if1 .if1 .left),
+      at-given16 .given16 .ensures,
+      at-given32 .given32 .ensures,
+      at-given162 .given162 .ensures,
+      c .given163 .ensures,
+      at-number .number .ensures,
+      at-number2 .number2 .ensures,
+      at-number3 .number3 .ensures,
+      at-number4 .number4 .ensures,
+    ) refl
 
 pub group-in-spec : {M : Type 1} → statement M
 group-in-spec =

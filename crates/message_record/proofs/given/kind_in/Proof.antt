@@ -14,11 +14,17 @@ returns-2 c =
 
 returns-3 : tie.Need-returns-3
 returns-3 c =
-    rw (ne-eqb (c .before .before .before .args .n) 1 (c .before .before .if1 .left), ne-eqb (c .before .before .before .args .n) 2 (c .before .if2 .left), eq-eqb (c .before .before .before .args .n) 3 (c .if3 .taken)) refl
+    let at-if2 = c .before in
+    let at-if1 = at-if2 .before in
+    let args = at-if1 .before .args in
+    rw (ne-eqb (args .n) 1 (at-if1 .if1 .left), ne-eqb (args .n) 2 (at-if2 .if2 .left), eq-eqb (args .n) 3 (c .if3 .taken)) refl
 
 returns-4 : tie.Need-returns-4
 returns-4 c =
-    rw (ne-eqb (c .before .before .before .args .n) 1 (c .before .before .if1 .left), ne-eqb (c .before .before .before .args .n) 2 (c .before .if2 .left), ne-eqb (c .before .before .before .args .n) 3 (c .if3 .left)) refl
+    let at-if2 = c .before in
+    let at-if1 = at-if2 .before in
+    let args = at-if1 .before .args in
+    rw (ne-eqb (args .n) 1 (at-if1 .if1 .left), ne-eqb (args .n) 2 (at-if2 .if2 .left), ne-eqb (args .n) 3 (c .if3 .left)) refl
 
 pub kind-in-spec : {M : Type 1} → statement M
 kind-in-spec = tie.close (tie.spec returns returns-2 returns-3 returns-4)

@@ -6,7 +6,12 @@ use Rattle.message_record.proofs.message.cursor_in.Tie as tie
 -- src/message.rt:183:1
 returns : tie.Need-returns
 returns c =
-    rw (c .before .before .before .before .encoding-in .ensures, c .before .before .before .before .before .number .ensures, c .before .before .before .number2 .ensures, c .before .before .number3 .ensures, c .before .number4 .ensures, c .number5 .ensures) refl
+    let at-number4 = c .before in
+    let at-number3 = at-number4 .before in
+    let at-number2 = at-number3 .before in
+    let at-encoding-in = at-number2 .before in
+    let at-number = at-encoding-in .before in
+    rw (at-encoding-in .encoding-in .ensures, at-number .number .ensures, at-number2 .number2 .ensures, at-number3 .number3 .ensures, at-number4 .number4 .ensures, c .number5 .ensures) refl
 
 pub cursor-in-spec : {M : Type 1} → statement M
 cursor-in-spec =

@@ -6,7 +6,10 @@ use Rattle.message_record.proofs.message.put_field.Tie as tie
 -- src/message.rt:216:1
 returns : tie.Need-returns
 returns c =
-    rw (sym (c .before .before .before .before .before .before .shape-number .ensures), sym (c .before .before .before .before .before .elements-number .ensures)) (c .before .before .put-numbers .ensures)
+    let at-put-numbers = c .before .before in
+    let at-elements-number = at-put-numbers .before .before .before in
+    let at-shape-number = at-elements-number .before in
+    rw (sym (at-shape-number .shape-number .ensures), sym (at-elements-number .elements-number .ensures)) (at-put-numbers .put-numbers .ensures)
 
 pub put-field-spec : {M : Type 1} → statement M
 put-field-spec =

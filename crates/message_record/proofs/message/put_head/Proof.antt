@@ -7,7 +7,23 @@ use Rattle.message_record.proofs.message.put_head.Tie as tie
 -- src/message.rt:137:1
 returns : tie.Need-returns
 returns c =
-    head-put (c .before .before .before .before .before .before .before .before .before .before .before .before .before .before .before .before .before .args .h) (c .before .before .before .before .before .before .before .before .before .before .before .before .before .before .before .before .before .args .cursor) (c .before .before .before .before .before .before .before .before .before .before .before .before .before .before .before .before .before .args .end) (now (c .before .before .before .before .before .before .before .before .before .before .before .before .before .before .before .before .before .args .out)) _ _ _ _ _ _ _ _ _ _ _ _ (c .before .before .before .before .before .before .before .before .before .before .before .before .before .before .before .encoding-number .ensures) (c .before .before .before .before .before .before .before .before .before .before .before .before .before .before .kind-number .ensures) (c .before .before .before .before .before .before .before .before .before .before .before .before .before .items-number .ensures) (c .before .before .before .before .before .before .before .before .before .before .before .before .value16 .ensures) (c .before .before .before .before .before .before .before .before .before .before .before .value-i64 .ensures) (c .before .before .before .before .before .before .before .before .before .before .value162 .ensures) (c .before .before .before .before .before .before .before .before .before .value163 .ensures) (c .before .before .before .before .before .before .before .before .value32 .ensures) (c .before .before .before .before .before .before .before .value322 .ensures) (c .before .before .before .before .before .before .encoding-number2 .ensures) (c .before .before .before .before .before .flag-number .ensures .0) (c .before .before .put-numbers .ensures)
+    let at-put-numbers = c .before .before in
+    let at-flag-number = at-put-numbers .before .before .before in
+    let at-encoding-number2 = at-flag-number .before in
+    let at-value322 = at-encoding-number2 .before in
+    let at-value32 = at-value322 .before in
+    let at-value163 = at-value32 .before in
+    let at-value162 = at-value163 .before in
+    let at-value-i64 = at-value162 .before in
+    let at-value16 = at-value-i64 .before in
+    let at-items-number = at-value16 .before in
+    let at-kind-number = at-items-number .before in
+    let at-encoding-number = at-kind-number .before in
+    let args = at-encoding-number .before .before .args in
+    head-put (args .h) (args .cursor) (args .end) (now (args .out)) _ _ _ _ _ _ _ _ _ _ _ _ (at-encoding-number .encoding-number .ensures)
+    (at-kind-number .kind-number .ensures) (at-items-number .items-number .ensures) (at-value16 .value16 .ensures)
+    (at-value-i64 .value-i64 .ensures) (at-value162 .value162 .ensures) (at-value163 .value163 .ensures) (at-value32 .value32 .ensures)
+    (at-value322 .value322 .ensures) (at-encoding-number2 .encoding-number2 .ensures) (at-flag-number .flag-number .ensures .0) (at-put-numbers .put-numbers .ensures)
 
 pub put-head-spec : {M : Type 1} → statement M
 put-head-spec =

@@ -11,7 +11,8 @@ use Rattle.message_record.proofs.message.value_i64.Tie as tie
 -- src/message.rt:68:1
 returns-2 : tie.Need-returns-2
 returns-2 c =
-    let q : SFits w64 (c .before .before .x .given .0 .0) = search needs in rw (c .before .before .x .given .1) (c .unsigned64 .ensures ∙ ap (λ (z : ℤ). unsigned 8 z) (toZ-ofZ w64 (c .before .before .x .given .0 .0) q))
+    let q : SFits w64 (c .before .before .x .given .0 .0) = search needs in
+    rw (c .before .before .x .given .1) (c .unsigned64 .ensures ∙ ap (λ (z : ℤ). unsigned 8 z) (toZ-ofZ w64 (c .before .before .x .given .0 .0) q))
 
 pub value-i64-spec : {M : Type 1} → statement M
 value-i64-spec = tie.close (tie.spec (λ c. search needs) (λ c. search needs) (λ c κs. search needs) (λ c. search needs) returns-2)

@@ -14,11 +14,17 @@ returns c =
 
 returns-2 : tie.Need-returns-2
 returns-2 c =
-    rw (sym (told (answer8 0) (c .before .before .before .before .before .read8 .ensures) (c .before .before .before .b .given .1)), sym (c .before .byte0-rule .ensures), ne-eqb _ _ (c .if1 .taken))
+    let at-byte0-rule = c .before in
+    let at-b = at-byte0-rule .before .before in
+    let at-read8 = at-b .before .before in
+    rw (sym (told (answer8 0) (at-read8 .read8 .ensures) (at-b .b .given .1)), sym (at-byte0-rule .byte0-rule .ensures), ne-eqb _ _ (c .if1 .taken))
 
 returns-3 : tie.Need-returns-3
 returns-3 c =
-    rw (sym (told (answer8 0) (c .before .before .before .before .before .read8 .ensures) (c .before .before .before .b .given .1)), sym (c .before .byte0-rule .ensures), eq-eqb _ _ (c .if1 .left))
+    let at-byte0-rule = c .before in
+    let at-b = at-byte0-rule .before .before in
+    let at-read8 = at-b .before .before in
+    rw (sym (told (answer8 0) (at-read8 .read8 .ensures) (at-b .b .given .1)), sym (at-byte0-rule .byte0-rule .ensures), eq-eqb _ _ (c .if1 .left))
 
 pub byte0-spec : {M : Type 1} → statement M
 byte0-spec =

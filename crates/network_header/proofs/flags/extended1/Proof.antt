@@ -13,15 +13,38 @@ returns c = rw (not-true (c .before .before .args .on) (c .if1 .taken))
 
 returns-2 : tie.Need-returns-2
 returns-2 c =
-    rw (not-false (c .before .before .before .before .before .args .on) (c .before .before .before .if1 .left), sym (told (answer8 (c .before .before .before .before .before .args .at)) (c .before .before .read8 .ensures) (c .enum-told .given .1)))
+    let at-read8 = c .before .before in
+    let at-if1 = at-read8 .before in
+    let args = at-if1 .before .before .args in
+    rw (not-false (args .on) (at-if1 .if1 .left), sym (told (answer8 (args .at)) (at-read8 .read8 .ensures) (c .enum-told .given .1)))
 
 returns-3 : tie.Need-returns-3
 returns-3 c =
-    rw (not-false (c .before .before .before .before .before .before .before .before .args .on) (c .before .before .before .before .before .before .if1 .left), sym (told (answer8 (c .before .before .before .before .before .before .before .before .args .at)) (c .before .before .before .before .before .read8 .ensures) (c .before .before .before .e .given .1)), sym (c .before .extended1-rule .ensures), ne-eqb _ _ (c .if2 .taken))
+    let at-extended1-rule = c .before in
+    let at-e = at-extended1-rule .before .before in
+    let at-read8 = at-e .before .before in
+    let at-if1 = at-read8 .before in
+    let args = at-if1 .before .before .args in
+    rw (
+      not-false (args .on) (at-if1 .if1 .left),
+      sym (told (answer8 (args .at)) (at-read8 .read8 .ensures) (at-e .e .given .1)),
+      sym (at-extended1-rule .extended1-rule .ensures),
+      ne-eqb _ _ (c .if2 .taken),
+    )
 
 returns-4 : tie.Need-returns-4
 returns-4 c =
-    rw (not-false (c .before .before .before .before .before .before .before .before .args .on) (c .before .before .before .before .before .before .if1 .left), sym (told (answer8 (c .before .before .before .before .before .before .before .before .args .at)) (c .before .before .before .before .before .read8 .ensures) (c .before .before .before .e .given .1)), sym (c .before .extended1-rule .ensures), eq-eqb _ _ (c .if2 .left))
+    let at-extended1-rule = c .before in
+    let at-e = at-extended1-rule .before .before in
+    let at-read8 = at-e .before .before in
+    let at-if1 = at-read8 .before in
+    let args = at-if1 .before .before .args in
+    rw (
+      not-false (args .on) (at-if1 .if1 .left),
+      sym (told (answer8 (args .at)) (at-read8 .read8 .ensures) (at-e .e .given .1)),
+      sym (at-extended1-rule .extended1-rule .ensures),
+      eq-eqb _ _ (c .if2 .left),
+    )
 
 pub extended1-spec : {M : Type 1} → statement M
 extended1-spec =

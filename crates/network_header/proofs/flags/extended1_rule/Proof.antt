@@ -16,11 +16,17 @@ returns-3 c =
 
 returns-4 : tie.Need-returns-4
 returns-4 c =
-    simp (ne-eqb _ _ (c .before .before .before .if1 .left), c .before .before .if2 .left, ne-eqb _ _ (c .before .if3 .left), c .if4 .taken)
+    let at-if3 = c .before in
+    let at-if2 = at-if3 .before in
+    let at-if1 = at-if2 .before in
+    simp (ne-eqb _ _ (at-if1 .if1 .left), at-if2 .if2 .left, ne-eqb _ _ (at-if3 .if3 .left), c .if4 .taken)
 
 returns-5 : tie.Need-returns-5
 returns-5 c =
-    simp (ne-eqb _ _ (c .before .before .before .if1 .left), c .before .before .if2 .left, ne-eqb _ _ (c .before .if3 .left), c .if4 .left)
+    let at-if3 = c .before in
+    let at-if2 = at-if3 .before in
+    let at-if1 = at-if2 .before in
+    simp (ne-eqb _ _ (at-if1 .if1 .left), at-if2 .if2 .left, ne-eqb _ _ (at-if3 .if3 .left), c .if4 .left)
 
 pub extended1-rule-spec : {M : Type 1} → statement M
 extended1-rule-spec = tie.close (tie.spec returns returns-2 returns-3 returns-4 returns-5)

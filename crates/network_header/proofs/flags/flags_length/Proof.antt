@@ -10,7 +10,13 @@ use Rattle.network_header.proofs.flags.flags_length.Tie as tie
 
 returns : tie.Need-returns
 returns c =
-    (flags-sized (c .before .before .before .before .args .f) (c .before .before .need .ensures .0 ∙ ap needed (c .before .before .before .extended1-of .ensures)) (c .need2 .ensures .0 ∙ ap needed (c .before .extended2-of .ensures .0)), omega (arith, c .before .before .need .ensures .1, c .need2 .ensures .1))
+    let at-extended2-of = c .before in
+    let at-need = at-extended2-of .before in
+    let at-extended1-of = at-need .before in
+    let args = at-extended1-of .before .args in (
+      flags-sized (args .f) (at-need .need .ensures .0 ∙ ap needed (at-extended1-of .extended1-of .ensures)) (c .need2 .ensures .0 ∙ ap needed (at-extended2-of .extended2-of .ensures .0)),
+      omega (arith, at-need .need .ensures .1, c .need2 .ensures .1),
+    )
 
 pub flags-length-spec : {M : Type 1} → statement M
 flags-length-spec =

@@ -11,7 +11,15 @@ use Rattle.network_header.proofs.flags.put_flag_bytes.Tie as tie
 
 returns : tie.Need-returns
 returns c =
-    then (puts-as (ap (leBytes 1) (c .before .before .before .before .before .before .before .before .before .before .before .before .before .byte0-of .ensures)) (puts (c .before .before .before .before .before .before .before .before .before .before .before .before .put8 .ensures))) (then (puts-as (ap byteBytes (c .before .before .before .before .before .before .before .before .extended1-of .ensures)) (puts (c .before .before .before .before .before .before .before .put-byte .ensures))) (puts-as (ap byteBytes (c .before .before .before .extended2-of .ensures .0)) (puts (c .before .before .put-byte2 .ensures))))
+    let at-put-byte2 = c .before .before in
+    let at-extended2-of = at-put-byte2 .before in
+    let at-put-byte = at-extended2-of .before .before .before .before in
+    let at-extended1-of = at-put-byte .before in
+    let at-put8 = at-extended1-of .before .before .before .before in
+    let at-byte0-of = at-put8 .before in
+    then (puts-as (ap (leBytes 1) (at-byte0-of .byte0-of .ensures)) (puts (at-put8 .put8 .ensures)))
+    (then (puts-as (ap byteBytes (at-extended1-of .extended1-of .ensures)) (puts (at-put-byte .put-byte .ensures)))
+    (puts-as (ap byteBytes (at-extended2-of .extended2-of .ensures .0)) (puts (at-put-byte2 .put-byte2 .ensures))))
 
 pub put-flag-bytes-spec : {M : Type 1} → statement M
 put-flag-bytes-spec =

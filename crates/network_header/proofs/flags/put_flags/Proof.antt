@@ -9,7 +9,9 @@ use Rattle.network_header.proofs.flags.put_flags.Tie as tie
 
 returns : tie.Need-returns
 returns c =
-    puts-as (ap flagBytes (c .before .before .before .flags-for .ensures .0)) (c .before .before .put-flag-bytes .ensures)
+    let at-put-flag-bytes = c .before .before in
+    let at-flags-for = at-put-flag-bytes .before in
+    puts-as (ap flagBytes (at-flags-for .flags-for .ensures .0)) (at-put-flag-bytes .put-flag-bytes .ensures)
 
 pub put-flags-spec : {M : Type 1} → statement M
 put-flags-spec =

@@ -9,19 +9,46 @@ use Rattle.network_header.proofs.flags.read_flags.Tie as tie
 
 returns : tie.Need-returns
 returns c =
-    rw (sym (told answerByte (c .before .before .before .byte0 .ensures) (c .before .n .given .1)))
+    let at-n = c .before in
+    let at-byte0 = at-n .before .before in
+    rw (sym (told answerByte (at-byte0 .byte0 .ensures) (at-n .n .given .1)))
 
 returns-2 : tie.Need-returns-2
 returns-2 c =
-    rw (sym (told answerByte (c .before .before .before .before .before .before .before .byte0 .ensures) (c .before .before .before .before .before .b .given .1)), sym (told answerByte (c .before .before .before .extended1 .ensures) (c .before .n2 .given .1)))
+    let at-n2 = c .before in
+    let at-extended1 = at-n2 .before .before in
+    let at-b = at-extended1 .before .before in
+    let at-byte0 = at-b .before .before in
+    rw (sym (told answerByte (at-byte0 .byte0 .ensures) (at-b .b .given .1)), sym (told answerByte (at-extended1 .extended1 .ensures) (at-n2 .n2 .given .1)))
 
 returns-3 : tie.Need-returns-3
 returns-3 c =
-    rw (sym (told answerByte (c .before .before .before .before .before .before .before .before .before .before .before .byte0 .ensures) (c .before .before .before .before .before .before .before .before .before .b .given .1)), sym (told answerByte (c .before .before .before .before .before .before .before .extended1 .ensures) (c .before .before .before .before .before .e .given .1)), sym (told answerByte (c .before .before .before .extended2 .ensures) (c .before .n3 .given .1)))
+    let at-n3 = c .before in
+    let at-extended2 = at-n3 .before .before in
+    let at-e = at-extended2 .before .before in
+    let at-extended1 = at-e .before .before in
+    let at-b = at-extended1 .before .before in
+    let at-byte0 = at-b .before .before in
+    rw (
+      sym (told answerByte (at-byte0 .byte0 .ensures) (at-b .b .given .1)),
+      sym (told answerByte (at-extended1 .extended1 .ensures) (at-e .e .given .1)),
+      sym (told answerByte (at-extended2 .extended2 .ensures) (at-n3 .n3 .given .1)),
+    )
 
 returns-4 : tie.Need-returns-4
 returns-4 c =
-    rw (sym (told answerByte (c .before .before .before .before .before .before .before .before .before .before .before .before .byte0 .ensures) (c .before .before .before .before .before .before .before .before .before .before .b .given .1)), sym (told answerByte (c .before .before .before .before .before .before .before .before .extended1 .ensures) (c .before .before .before .before .before .before .e .given .1)), sym (told answerByte (c .before .before .before .before .extended2 .ensures) (c .before .before .f .given .1)), c .flags-of .ensures)
+    let at-f = c .before .before in
+    let at-extended2 = at-f .before .before in
+    let at-e = at-extended2 .before .before in
+    let at-extended1 = at-e .before .before in
+    let at-b = at-extended1 .before .before in
+    let at-byte0 = at-b .before .before in
+    rw (
+      sym (told answerByte (at-byte0 .byte0 .ensures) (at-b .b .given .1)),
+      sym (told answerByte (at-extended1 .extended1 .ensures) (at-e .e .given .1)),
+      sym (told answerByte (at-extended2 .extended2 .ensures) (at-f .f .given .1)),
+      c .flags-of .ensures,
+    )
 
 pub read-flags-spec : {M : Type 1} → statement M
 read-flags-spec =

@@ -8,7 +8,13 @@ use Rattle.network_header.proofs.group.fields_size.Tie as tie
 
 returns : tie.Need-returns
 returns c =
-    (fields-sized (c .before .before .before .before .args .g) (c .before .before .before .size16 .ensures .0) (c .before .before .size32 .ensures .0) (c .before .size162 .ensures .0) (c .size163 .ensures .0), omega (arith, c .before .before .before .size16 .ensures .1, c .before .before .size32 .ensures .1, c .before .size162 .ensures .1, c .size163 .ensures .1))
+    let at-size162 = c .before in
+    let at-size32 = at-size162 .before in
+    let at-size16 = at-size32 .before in
+    let args = at-size16 .before .args in (
+      fields-sized (args .g) (at-size16 .size16 .ensures .0) (at-size32 .size32 .ensures .0) (at-size162 .size162 .ensures .0) (c .size163 .ensures .0),
+      omega (arith, at-size16 .size16 .ensures .1, at-size32 .size32 .ensures .1, at-size162 .size162 .ensures .1, c .size163 .ensures .1),
+    )
 
 pub fields-size-spec : {M : Type 1} → statement M
 fields-size-spec =

@@ -9,23 +9,68 @@ use Rattle.network_header.proofs.group.group_fields.Tie as tie
 
 returns : tie.Need-returns
 returns c =
-    rw (sym (told answerOptional16 (c .before .before .before .read-optional16 .ensures) (c .before .n .given .1)))
+    let at-n = c .before in
+    let at-read-optional16 = at-n .before .before in
+    rw (sym (told answerOptional16 (at-read-optional16 .read-optional16 .ensures) (at-n .n .given .1)))
 
 returns-2 : tie.Need-returns-2
 returns-2 c =
-    rw (sym (told answerOptional16 (c .before .before .before .before .before .before .before .read-optional16 .ensures) (c .before .before .before .before .before .writer-group .given .1)), sym (told answerOptional32 (c .before .before .before .read-optional32 .ensures) (c .before .n2 .given .1)))
+    let at-n2 = c .before in
+    let at-read-optional32 = at-n2 .before .before in
+    let at-writer-group = at-read-optional32 .before .before in
+    let at-read-optional16 = at-writer-group .before .before in
+    rw (
+      sym (told answerOptional16 (at-read-optional16 .read-optional16 .ensures) (at-writer-group .writer-group .given .1)),
+      sym (told answerOptional32 (at-read-optional32 .read-optional32 .ensures) (at-n2 .n2 .given .1)),
+    )
 
 returns-3 : tie.Need-returns-3
 returns-3 c =
-    rw (sym (told answerOptional16 (c .before .before .before .before .before .before .before .before .before .before .before .read-optional16 .ensures) (c .before .before .before .before .before .before .before .before .before .writer-group .given .1)), sym (told answerOptional32 (c .before .before .before .before .before .before .before .read-optional32 .ensures) (c .before .before .before .before .before .at .given .1)), sym (told answerOptional16 (c .before .before .before .message-number .ensures) (c .before .n3 .given .1)))
+    let at-n3 = c .before in
+    let at-message-number = at-n3 .before .before in
+    let at-at = at-message-number .before .before in
+    let at-read-optional32 = at-at .before .before in
+    let at-writer-group = at-read-optional32 .before .before in
+    let at-read-optional16 = at-writer-group .before .before in
+    rw (
+      sym (told answerOptional16 (at-read-optional16 .read-optional16 .ensures) (at-writer-group .writer-group .given .1)),
+      sym (told answerOptional32 (at-read-optional32 .read-optional32 .ensures) (at-at .at .given .1)),
+      sym (told answerOptional16 (at-message-number .message-number .ensures) (at-n3 .n3 .given .1)),
+    )
 
 returns-4 : tie.Need-returns-4
 returns-4 c =
-    rw (sym (told answerOptional16 (c .before .before .before .before .before .before .before .before .before .before .before .before .before .before .before .read-optional16 .ensures) (c .before .before .before .before .before .before .before .before .before .before .before .before .before .writer-group .given .1)), sym (told answerOptional32 (c .before .before .before .before .before .before .before .before .before .before .before .read-optional32 .ensures) (c .before .before .before .before .before .before .before .before .before .at .given .1)), sym (told answerOptional16 (c .before .before .before .before .before .before .before .message-number .ensures) (c .before .before .before .before .before .number .given .1)), sym (told answerOptional16 (c .before .before .before .read-optional162 .ensures) (c .before .n4 .given .1)))
+    let at-n4 = c .before in
+    let at-read-optional162 = at-n4 .before .before in
+    let at-number = at-read-optional162 .before .before in
+    let at-message-number = at-number .before .before in
+    let at-at = at-message-number .before .before in
+    let at-read-optional32 = at-at .before .before in
+    let at-writer-group = at-read-optional32 .before .before in
+    let at-read-optional16 = at-writer-group .before .before in
+    rw (
+      sym (told answerOptional16 (at-read-optional16 .read-optional16 .ensures) (at-writer-group .writer-group .given .1)),
+      sym (told answerOptional32 (at-read-optional32 .read-optional32 .ensures) (at-at .at .given .1)),
+      sym (told answerOptional16 (at-message-number .message-number .ensures) (at-number .number .given .1)),
+      sym (told answerOptional16 (at-read-optional162 .read-optional162 .ensures) (at-n4 .n4 .given .1)),
+    )
 
 returns-5 : tie.Need-returns-5
 returns-5 c =
-    rw (sym (told answerOptional16 (c .before .before .before .before .before .before .before .before .before .before .before .before .before .before .before .read-optional16 .ensures) (c .before .before .before .before .before .before .before .before .before .before .before .before .before .writer-group .given .1)), sym (told answerOptional32 (c .before .before .before .before .before .before .before .before .before .before .before .read-optional32 .ensures) (c .before .before .before .before .before .before .before .before .before .at .given .1)), sym (told answerOptional16 (c .before .before .before .before .before .before .before .message-number .ensures) (c .before .before .before .before .before .number .given .1)), sym (told answerOptional16 (c .before .before .before .read-optional162 .ensures) (c .before .sequence .given .1)))
+    let at-sequence = c .before in
+    let at-read-optional162 = at-sequence .before .before in
+    let at-number = at-read-optional162 .before .before in
+    let at-message-number = at-number .before .before in
+    let at-at = at-message-number .before .before in
+    let at-read-optional32 = at-at .before .before in
+    let at-writer-group = at-read-optional32 .before .before in
+    let at-read-optional16 = at-writer-group .before .before in
+    rw (
+      sym (told answerOptional16 (at-read-optional16 .read-optional16 .ensures) (at-writer-group .writer-group .given .1)),
+      sym (told answerOptional32 (at-read-optional32 .read-optional32 .ensures) (at-at .at .given .1)),
+      sym (told answerOptional16 (at-message-number .message-number .ensures) (at-number .number .given .1)),
+      sym (told answerOptional16 (at-read-optional162 .read-optional162 .ensures) (at-sequence .sequence .given .1)),
+    )
 
 pub group-fields-spec : {M : Type 1} → statement M
 group-fields-spec =

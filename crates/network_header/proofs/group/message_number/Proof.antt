@@ -13,15 +13,26 @@ returns c = rw (not-true (c .before .before .args .on) (c .if1 .taken))
 
 returns-2 : tie.Need-returns-2
 returns-2 c =
-    rw (not-false (c .before .before .before .before .before .args .on) (c .before .before .before .if1 .left), sym (told (answer16 (c .before .before .before .before .before .args .at)) (c .before .before .read16 .ensures) (c .enum-told .given .1)))
+    let at-read16 = c .before .before in
+    let at-if1 = at-read16 .before in
+    let args = at-if1 .before .before .args in
+    rw (not-false (args .on) (at-if1 .if1 .left), sym (told (answer16 (args .at)) (at-read16 .read16 .ensures) (c .enum-told .given .1)))
 
 returns-3 : tie.Need-returns-3
 returns-3 c =
-    rw (not-false (c .before .before .before .before .before .before .before .args .on) (c .before .before .before .before .before .if1 .left), sym (told (answer16 (c .before .before .before .before .before .before .before .args .at)) (c .before .before .before .before .read16 .ensures) (c .before .before .v .given .1)), eq-eqb _ _ (c .if2 .taken))
+    let at-v = c .before .before in
+    let at-read16 = at-v .before .before in
+    let at-if1 = at-read16 .before in
+    let args = at-if1 .before .before .args in
+    rw (not-false (args .on) (at-if1 .if1 .left), sym (told (answer16 (args .at)) (at-read16 .read16 .ensures) (at-v .v .given .1)), eq-eqb _ _ (c .if2 .taken))
 
 returns-4 : tie.Need-returns-4
 returns-4 c =
-    rw (not-false (c .before .before .before .before .before .before .before .args .on) (c .before .before .before .before .before .if1 .left), sym (told (answer16 (c .before .before .before .before .before .before .before .args .at)) (c .before .before .before .before .read16 .ensures) (c .before .before .v .given .1)), ne-eqb _ _ (c .if2 .left))
+    let at-v = c .before .before in
+    let at-read16 = at-v .before .before in
+    let at-if1 = at-read16 .before in
+    let args = at-if1 .before .before .args in
+    rw (not-false (args .on) (at-if1 .if1 .left), sym (told (answer16 (args .at)) (at-read16 .read16 .ensures) (at-v .v .given .1)), ne-eqb _ _ (c .if2 .left))
 
 pub message-number-spec : {M : Type 1} → statement M
 message-number-spec =

@@ -7,7 +7,12 @@ use Rattle.network_header.proofs.group.put_fields.Tie as tie
 
 returns : tie.Need-returns
 returns c =
-    then (puts (c .before .before .before .before .before .before .before .before .before .before .before .before .before .before .put-optional16 .ensures)) (then (puts (c .before .before .before .before .before .before .before .before .before .before .put-optional32 .ensures)) (then (puts (c .before .before .before .before .before .before .put-optional162 .ensures)) (puts (c .before .before .put-optional163 .ensures))))
+    let at-put-optional163 = c .before .before in
+    let at-put-optional162 = at-put-optional163 .before .before .before .before in
+    let at-put-optional32 = at-put-optional162 .before .before .before .before in
+    let at-put-optional16 = at-put-optional32 .before .before .before .before in
+    then (puts (at-put-optional16 .put-optional16 .ensures))
+    (then (puts (at-put-optional32 .put-optional32 .ensures)) (then (puts (at-put-optional162 .put-optional162 .ensures)) (puts (at-put-optional163 .put-optional163 .ensures))))
 
 pub put-fields-spec : {M : Type 1} → statement M
 put-fields-spec =

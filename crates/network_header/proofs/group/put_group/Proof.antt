@@ -11,11 +11,16 @@ use Rattle.network_header.proofs.group.put_group.Tie as tie
 
 returns : tie.Need-returns
 returns c =
-    rw (c .enum-told .given .1) (nothing (now (c .before .before .before .args .out)) (c .before .before .before .args .at))
+    let args = c .before .before .before .args in
+    rw (c .enum-told .given .1) (nothing (now (args .out)) (args .at))
 
 returns-2 : tie.Need-returns-2
 returns-2 c =
-    rw (c .before .before .before .before .before .before .before .before .before .before .x .given .1) (then (puts-as (ap (leBytes 1) (c .before .before .before .before .before .before .before .group-flags .ensures .0)) (puts (c .before .before .before .before .before .before .put8 .ensures))) (c .before .before .put-fields .ensures))
+    let at-put-fields = c .before .before in
+    let at-put8 = at-put-fields .before .before .before .before in
+    let at-group-flags = at-put8 .before in
+    let at-x = at-group-flags .before .before .before in
+    rw (at-x .x .given .1) (then (puts-as (ap (leBytes 1) (at-group-flags .group-flags .ensures .0)) (puts (at-put8 .put8 .ensures))) (at-put-fields .put-fields .ensures))
 
 pub put-group-spec : {M : Type 1} → statement M
 put-group-spec =

@@ -13,15 +13,27 @@ returns c = rw (not-true (c .before .before .args .on) (c .if1 .taken))
 
 returns-2 : tie.Need-returns-2
 returns-2 c =
-    rw (not-false (c .before .before .before .before .before .args .on) (c .before .before .before .if1 .left), sym (told (answer8 (c .before .before .before .before .before .args .at)) (c .before .before .read8 .ensures) (c .enum-told .given .1)))
+    let at-read8 = c .before .before in
+    let at-if1 = at-read8 .before in
+    let args = at-if1 .before .before .args in
+    rw (not-false (args .on) (at-if1 .if1 .left), sym (told (answer8 (args .at)) (at-read8 .read8 .ensures) (c .enum-told .given .1)))
 
 returns-3 : tie.Need-returns-3
 returns-3 c =
-    rw (not-false (c .before .before .before .before .before .before .before .args .on) (c .before .before .before .before .before .if1 .left), sym (told (answer8 (c .before .before .before .before .before .before .before .args .at)) (c .before .before .before .before .read8 .ensures) (c .before .before .flags .given .1)), le-leb _ _ (c .if2 .taken))
+    let at-flags = c .before .before in
+    let at-read8 = at-flags .before .before in
+    let at-if1 = at-read8 .before in
+    let args = at-if1 .before .before .args in
+    rw (not-false (args .on) (at-if1 .if1 .left), sym (told (answer8 (args .at)) (at-read8 .read8 .ensures) (at-flags .flags .given .1)), le-leb _ _ (c .if2 .taken))
 
 returns-4 : tie.Need-returns-4
 returns-4 c =
-    rw (not-false (c .before .before .before .before .before .before .before .before .args .on) (c .before .before .before .before .before .before .if1 .left), sym (told (answer8 (c .before .before .before .before .before .before .before .before .args .at)) (c .before .before .before .before .before .read8 .ensures) (c .before .before .before .flags .given .1)), lt-leb _ _ (c .before .if2 .left)) (c .group-fields .ensures)
+    let at-if2 = c .before in
+    let at-flags = at-if2 .before .before in
+    let at-read8 = at-flags .before .before in
+    let at-if1 = at-read8 .before in
+    let args = at-if1 .before .before .args in
+    rw (not-false (args .on) (at-if1 .if1 .left), sym (told (answer8 (args .at)) (at-read8 .read8 .ensures) (at-flags .flags .given .1)), lt-leb _ _ (at-if2 .if2 .left)) (c .group-fields .ensures)
 
 pub read-group-spec : {M : Type 1} → statement M
 read-group-spec =

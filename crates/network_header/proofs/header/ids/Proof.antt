@@ -11,19 +11,43 @@ use Rattle.network_header.proofs.header.ids.Tie as tie
 
 returns : tie.Need-returns
 returns c =
-    rw (sym (told (answer8 (c .before .before .before .before .args .at)) (c .before .before .read8 .ensures) (c .enum-told .given .1)))
+    let at-read8 = c .before .before in
+    let args = at-read8 .before .before .args in
+    rw (sym (told (answer8 (args .at)) (at-read8 .read8 .ensures) (c .enum-told .given .1)))
 
 returns-2 : tie.Need-returns-2
 returns-2 c =
-    rw (sym (told (answer8 (c .before .before .before .before .before .before .args .at)) (c .before .before .before .before .read8 .ensures) (c .before .before .count .given .1)), eq-eqb _ _ (c .if1 .taken))
+    let at-count = c .before .before in
+    let at-read8 = at-count .before .before in
+    let args = at-read8 .before .before .args in
+    rw (sym (told (answer8 (args .at)) (at-read8 .read8 .ensures) (at-count .count .given .1)), eq-eqb _ _ (c .if1 .taken))
 
 returns-3 : tie.Need-returns-3
 returns-3 c =
-    rw (sym (told (answer8 (c .before .before .before .before .before .before .before .before .before .args .at)) (c .before .before .before .before .before .before .before .read8 .ensures) (c .before .before .before .before .before .count .given .1)), ne-eqb _ _ (c .before .before .before .if1 .left), sym (told (answerRun (c .before .before .before .before .before .count .given .0 .1 .0) (2 * c .before .before .before .before .before .count .given .0 .0)) (c .before .before .skip .ensures) (c .enum-told2 .given .1)))
+    let at-skip = c .before .before in
+    let at-if1 = at-skip .before in
+    let at-count = at-if1 .before .before in
+    let at-read8 = at-count .before .before in
+    let args = at-read8 .before .before .args in
+    rw (
+      sym (told (answer8 (args .at)) (at-read8 .read8 .ensures) (at-count .count .given .1)),
+      ne-eqb _ _ (at-if1 .if1 .left),
+      sym (told (answerRun (at-count .count .given .0 .1 .0) (2 * at-count .count .given .0 .0)) (at-skip .skip .ensures) (c .enum-told2 .given .1)),
+    )
 
 returns-4 : tie.Need-returns-4
 returns-4 c =
-    rw (sym (told (answer8 (c .before .before .before .before .before .before .before .before .before .before .args .at)) (c .before .before .before .before .before .before .before .before .read8 .ensures) (c .before .before .before .before .before .before .count .given .1)), ne-eqb _ _ (c .before .before .before .before .if1 .left), sym (told (answerRun (c .before .before .before .before .before .before .count .given .0 .1 .0) (2 * c .before .before .before .before .before .before .count .given .0 .0)) (c .before .before .before .skip .ensures) (c .before .next .given .1)))
+    let at-next = c .before in
+    let at-skip = at-next .before .before in
+    let at-if1 = at-skip .before in
+    let at-count = at-if1 .before .before in
+    let at-read8 = at-count .before .before in
+    let args = at-read8 .before .before .args in
+    rw (
+      sym (told (answer8 (args .at)) (at-read8 .read8 .ensures) (at-count .count .given .1)),
+      ne-eqb _ _ (at-if1 .if1 .left),
+      sym (told (answerRun (at-count .count .given .0 .1 .0) (2 * at-count .count .given .0 .0)) (at-skip .skip .ensures) (at-next .next .given .1)),
+    )
 
 pub ids-spec : {M : Type 1} → statement M
 ids-spec =

@@ -18,7 +18,9 @@ returns-3 c =
 
 returns-4 : tie.Need-returns-4
 returns-4 c =
-    let h : c .before .before .before .x .given .0 .0 < 256 = search needs in rw (c .before .before .before .x .given .1, c .before .if1 .left, lt-leb 256 (c .before .before .before .x .given .0 .0) h) (c .must-equal .ensures)
+    let at-if1 = c .before in
+    let at-x = at-if1 .before .before in
+    let h : at-x .x .given .0 .0 < 256 = search needs in rw (at-x .x .given .1, at-if1 .if1 .left, lt-leb 256 (at-x .x .given .0 .0) h) (c .must-equal .ensures)
 
 pub ids-shape-spec : {M : Type 1} → statement M
 ids-shape-spec =

@@ -8,11 +8,14 @@ use Rattle.network_header.proofs.header.put_class.Tie as tie
 
 returns : tie.Need-returns
 returns c =
-    rw (c .enum-told .given .1) (nothing (now (c .before .before .before .args .out)) (c .before .before .before .args .at))
+    let args = c .before .before .before .args in
+    rw (c .enum-told .given .1) (nothing (now (args .out)) (args .at))
 
 returns-2 : tie.Need-returns-2
 returns-2 c =
-    rw (c .before .before .before .before .before .x .given .1) (puts (c .before .before .put-guid .ensures))
+    let at-put-guid = c .before .before in
+    let at-x = at-put-guid .before .before .before in
+    rw (at-x .x .given .1) (puts (at-put-guid .put-guid .ensures))
 
 pub put-class-spec : {M : Type 1} → statement M
 put-class-spec =

@@ -8,15 +8,21 @@ use Rattle.network_header.proofs.header.put_payload_header.Tie as tie
 
 returns : tie.Need-returns
 returns c =
-    rw (c .enum-told .given .1) (nothing (now (c .before .before .before .before .args .out)) (c .before .before .before .before .args .at))
+    let args = c .before .before .before .before .args in
+    rw (c .enum-told .given .1) (nothing (now (args .out)) (args .at))
 
 returns-2 : tie.Need-returns-2
 returns-2 c =
-    rw (c .before .before .before .before .before .before .before .before .before .x .given .1) (then (puts (c .before .before .before .before .before .before .put8 .ensures)) (puts (c .before .before .put-run .ensures)))
+    let at-put-run = c .before .before in
+    let at-put8 = at-put-run .before .before .before .before in
+    let at-x = at-put8 .before .before .before in
+    rw (at-x .x .given .1) (then (puts (at-put8 .put8 .ensures)) (puts (at-put-run .put-run .ensures)))
 
 returns-3 : tie.Need-returns-3
 returns-3 c =
-    rw (c .before .before .before .before .before .x2 .given .1) (puts (c .before .before .put16 .ensures))
+    let at-put16 = c .before .before in
+    let at-x2 = at-put16 .before .before .before in
+    rw (at-x2 .x2 .given .1) (puts (at-put16 .put16 .ensures))
 
 pub put-payload-header-spec : {M : Type 1} → statement M
 put-payload-header-spec =

@@ -10,11 +10,16 @@ use Rattle.network_header.proofs.header.put_promoted.Tie as tie
 
 returns : tie.Need-returns
 returns c =
-    rw (c .enum-told .given .1) (nothing (now (c .before .before .before .before .args .out)) (c .before .before .before .before .args .at))
+    let args = c .before .before .before .before .args in
+    rw (c .enum-told .given .1) (nothing (now (args .out)) (args .at))
 
 returns-2 : tie.Need-returns-2
 returns-2 c =
-    rw (c .before .before .before .before .before .before .before .before .enum-told2 .given .1) (then (low16-puts (length (now (c .before .before .before .before .before .before .before .before .before .before .before .before .args .bytes))) (c .before .before .before .before .before .before .put16 .ensures)) (puts (c .before .before .put-run .ensures)))
+    let at-put-run = c .before .before in
+    let at-put16 = at-put-run .before .before .before .before in
+    let at-enum-told2 = at-put16 .before .before in
+    let args = at-enum-told2 .before .before .before .before .args in
+    rw (at-enum-told2 .enum-told2 .given .1) (then (low16-puts (length (now (args .bytes))) (at-put16 .put16 .ensures)) (puts (at-put-run .put-run .ensures)))
 
 pub put-promoted-spec : {M : Type 1} → statement M
 put-promoted-spec =

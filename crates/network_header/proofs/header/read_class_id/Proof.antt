@@ -13,11 +13,18 @@ returns c = rw (not-true (c .before .before .args .on) (c .if1 .taken))
 
 returns-2 : tie.Need-returns-2
 returns-2 c =
-    rw (not-false (c .before .before .before .before .before .args .on) (c .before .before .before .if1 .left), sym (told (answerGuid (c .before .before .before .before .before .args .at)) (c .before .before .read-guid .ensures) (c .enum-told .given .1)))
+    let at-read-guid = c .before .before in
+    let at-if1 = at-read-guid .before in
+    let args = at-if1 .before .before .args in
+    rw (not-false (args .on) (at-if1 .if1 .left), sym (told (answerGuid (args .at)) (at-read-guid .read-guid .ensures) (c .enum-told .given .1)))
 
 returns-3 : tie.Need-returns-3
 returns-3 c =
-    rw (not-false (c .before .before .before .before .before .before .args .on) (c .before .before .before .before .if1 .left), sym (told (answerGuid (c .before .before .before .before .before .before .args .at)) (c .before .before .before .read-guid .ensures) (c .before .v .given .1)))
+    let at-v = c .before in
+    let at-read-guid = at-v .before .before in
+    let at-if1 = at-read-guid .before in
+    let args = at-if1 .before .before .args in
+    rw (not-false (args .on) (at-if1 .if1 .left), sym (told (answerGuid (args .at)) (at-read-guid .read-guid .ensures) (at-v .v .given .1)))
 
 pub read-class-id-spec : {M : Type 1} → statement M
 read-class-id-spec =

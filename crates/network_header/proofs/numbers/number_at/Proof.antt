@@ -12,11 +12,16 @@ use Rattle.network_header.proofs.numbers.number_at.Tie as tie
 
 returns : tie.Need-returns
 returns c =
-    (size-is (now (c .before .before .before .before .before .args .bytes)) (c .before .before .before .before .before .args .at) _ _ (c .before .before .before .before .before .pre) (sym (told (answer16 (c .before .before .before .before .before .args .at)) (c .before .before .before .read16 .ensures) (c .before .v .given .1))), omega arith)
+    let at-v = c .before in
+    let at-read16 = at-v .before .before in
+    let at-pre = at-read16 .before .before in
+    (size-is (now (at-pre .args .bytes)) (at-pre .args .at) _ _ (at-pre .pre) (sym (told (answer16 (at-pre .args .at)) (at-read16 .read16 .ensures) (at-v .v .given .1))), omega arith)
 
 returns-2 : tie.Need-returns-2
 returns-2 c =
-    absurd (size-there (now (c .before .before .before .before .args .bytes)) (c .before .before .before .before .args .at) _ _ (c .before .before .before .before .pre) (sym (told (answer16 (c .before .before .before .before .args .at)) (c .before .before .read16 .ensures) (c .enum-told .given .1))))
+    let at-read16 = c .before .before in
+    let at-pre = at-read16 .before .before in
+    absurd (size-there (now (at-pre .args .bytes)) (at-pre .args .at) _ _ (at-pre .pre) (sym (told (answer16 (at-pre .args .at)) (at-read16 .read16 .ensures) (c .enum-told .given .1))))
 
 pub number-at-spec : {M : Type 1} → statement M
 number-at-spec =

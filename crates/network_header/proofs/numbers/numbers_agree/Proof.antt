@@ -31,15 +31,34 @@ cast-if1 c = omega (arith, c .shared-slice-known3 .given (c .before .before .bef
 
 returns : tie.Need-returns Inv-loop μ-loop
 returns c =
-    agree-no (now (c .before .before .before .before .before .before .before .args .numbers)) (now (c .before .before .before .before .before .before .before .args .bytes)) (c .before .before .before .before .before .before .before .args .n) (c .before .before .before .before .loop .i) (c .before .before .before .before .loop .inv .1) (c .before .before .before .loop-test .taken) _ (c .before .before .before .before .loop .inv .5) (λ q. c .if1 .taken (c .before .before .number-at .ensures .0 ∙ ap (λ (k : ℕ). le 2 (now (c .before .before .before .before .before .before .before .args .bytes)) k) (c .before .before .before .before .loop .inv .4) ∙ q))
+    let at-number-at = c .before .before in
+    let at-loop-test = at-number-at .before in
+    let at-loop = at-loop-test .before in
+    let args = at-loop .before .before .before .args in
+    agree-no (now (args .numbers)) (now (args .bytes)) (args .n) (at-loop .loop .i) (at-loop .loop .inv .1)
+    (at-loop-test .loop-test .taken) _ (at-loop .loop .inv .5) (λ q. c .if1 .taken (at-number-at .number-at .ensures .0 ∙ ap (λ (k : ℕ). le 2 (now (args .bytes)) k) (at-loop .loop .inv .4) ∙ q))
 
 loop-again : tie.Need-loop-again Inv-loop μ-loop
 loop-again c =
-    (omega arith, c .before .before .before .before .loop .inv .1, c .before .before .before .before .loop .inv .2, c .before .before .before .before .loop .inv .3, omega (arith, c .before .before .before .before .loop .inv .4), agree-next (now (c .before .before .before .before .before .before .before .args .numbers)) (now (c .before .before .before .before .before .before .before .args .bytes)) (c .before .before .before .before .before .before .before .args .n) (c .before .before .before .before .loop .i) (c .before .before .before .before .loop .inv .1) (c .before .before .before .loop-test .taken) _ (c .before .before .before .before .loop .inv .5) (ap (λ (k : ℕ). le 2 (now (c .before .before .before .before .before .before .before .args .bytes)) k) (sym (c .before .before .before .before .loop .inv .4)) ∙ sym (c .before .before .number-at .ensures .0) ∙ c .if1 .left))
+    let at-number-at = c .before .before in
+    let at-loop-test = at-number-at .before in
+    let at-loop = at-loop-test .before in
+    let args = at-loop .before .before .before .args in (
+      omega arith,
+      at-loop .loop .inv .1,
+      at-loop .loop .inv .2,
+      at-loop .loop .inv .3,
+      omega (arith, at-loop .loop .inv .4),
+      agree-next (now (args .numbers)) (now (args .bytes)) (args .n) (at-loop .loop .i) (at-loop .loop .inv .1)
+          (at-loop-test .loop-test .taken) _ (at-loop .loop .inv .5)
+          (ap (λ (k : ℕ). le 2 (now (args .bytes)) k) (sym (at-loop .loop .inv .4)) ∙ sym (at-number-at .number-at .ensures .0) ∙ c .if1 .left),
+    )
 
 returns-2 : tie.Need-returns-2 Inv-loop μ-loop
 returns-2 c =
-    agree-done (now (c .before .before .before .before .args .numbers)) (now (c .before .before .before .before .args .bytes)) (c .before .before .before .before .args .n) (c .before .loop .i) _ (c .before .loop .inv .1) (omega arith) (c .before .loop .inv .5)
+    let at-loop = c .before in
+    let args = at-loop .before .before .before .args in
+    agree-done (now (args .numbers)) (now (args .bytes)) (args .n) (at-loop .loop .i) _ (at-loop .loop .inv .1) (omega arith) (at-loop .loop .inv .5)
 
 pub numbers-agree-spec : {M : Type 1} → statement M
 numbers-agree-spec =

@@ -13,11 +13,17 @@ use Rattle.network_header.proofs.numbers.same_numbers.Tie as tie
 
 returns : tie.Need-returns
 returns c =
-    same-none (now (c .before .before .before .before .args .bytes)) (take 16 (now (c .before .before .before .before .args .numbers))) (λ q. c .if1 .taken (q ∙ ap (λ (k : ℕ). 2 * k) (sym (c .before .writers .ensures .0))))
+    let at-writers = c .before in
+    let args = at-writers .before .before .before .args in
+    same-none (now (args .bytes)) (take 16 (now (args .numbers))) (λ q. c .if1 .taken (q ∙ ap (λ (k : ℕ). 2 * k) (sym (at-writers .writers .ensures .0))))
 
 returns-2 : tie.Need-returns-2
 returns-2 c =
-    c .numbers-agree .ensures ∙ ap (λ (xs : List ℕ). agree xs (now (c .before .before .before .before .before .args .bytes)) 0) (c .before .before .writers .ensures .3) ∙ same-all (now (c .before .before .before .before .before .args .bytes)) (take 16 (now (c .before .before .before .before .before .args .numbers))) (c .before .if1 .left ∙ ap (λ (k : ℕ). 2 * k) (c .before .before .writers .ensures .0))
+    let at-if1 = c .before in
+    let at-writers = at-if1 .before in
+    let args = at-writers .before .before .before .args in
+    c .numbers-agree .ensures ∙ ap (λ (xs : List ℕ). agree xs (now (args .bytes)) 0) (at-writers .writers .ensures .3)
+    ∙ same-all (now (args .bytes)) (take 16 (now (args .numbers))) (at-if1 .if1 .left ∙ ap (λ (k : ℕ). 2 * k) (at-writers .writers .ensures .0))
 
 pub same-numbers-spec : {M : Type 1} → statement M
 same-numbers-spec =

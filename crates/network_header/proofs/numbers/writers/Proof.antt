@@ -11,8 +11,13 @@ use Rattle.network_header.proofs.numbers.writers.Statement.{statement}
 use Rattle.network_header.proofs.numbers.writers.Tie as tie
 
 returns : tie.Need-returns
-returns c =
-    (ap length (sym (take-all 16 (now (c .before .args .sizes)) (c .if1 .taken))), c .if1 .taken, le-refl (length (now (c .before .args .sizes))), take-all (length (now (c .before .args .sizes))) (now (c .before .args .sizes)) (le-refl (length (now (c .before .args .sizes)))) ∙ sym (take-all 16 (now (c .before .args .sizes)) (c .if1 .taken)))
+returns c = (
+  ap length (sym (take-all 16 (now (c .before .args .sizes)) (c .if1 .taken))),
+  c .if1 .taken,
+  le-refl (length (now (c .before .args .sizes))),
+  take-all (length (now (c .before .args .sizes))) (now (c .before .args .sizes)) (le-refl (length (now (c .before .args .sizes))))
+      ∙ sym (take-all 16 (now (c .before .args .sizes)) (c .if1 .taken)),
+)
 
 returns-2 : tie.Need-returns-2
 returns-2 c =

@@ -10,11 +10,15 @@ use Rattle.network_message.proofs.envelope.message.Tie as tie
 
 returns : tie.Need-returns
 returns c =
-    rw (sym (told answerMessage (c .before .before .before .message-place .ensures) (c .before .enum-told .given .1))) (c .part .ensures)
+    let at-enum-told = c .before in
+    let at-message-place = at-enum-told .before .before in
+    rw (sym (told answerMessage (at-message-place .message-place .ensures) (at-enum-told .enum-told .given .1))) (c .part .ensures)
 
 returns-2 : tie.Need-returns-2
 returns-2 c =
-    rw (sym (told answerMessage (c .before .before .before .before .message-place .ensures) (c .before .before .m .given .1))) (c .part2 .ensures)
+    let at-m = c .before .before in
+    let at-message-place = at-m .before .before in
+    rw (sym (told answerMessage (at-message-place .message-place .ensures) (at-m .m .given .1))) (c .part2 .ensures)
 
 pub message-spec : {M : Type 1} → statement M
 message-spec =

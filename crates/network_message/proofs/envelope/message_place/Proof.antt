@@ -10,11 +10,15 @@ use Rattle.network_message.proofs.envelope.message_place.Tie as tie
 
 returns : tie.Need-returns
 returns c =
-    rw (sym (told answerNetworkMessage (c .before .before .before .read .ensures) (c .before .n .given .1)))
+    let at-n = c .before in
+    let at-read = at-n .before .before in
+    rw (sym (told answerNetworkMessage (at-read .read .ensures) (at-n .n .given .1)))
 
 returns-2 : tie.Need-returns-2
 returns-2 c =
-    rw (sym (told answerNetworkMessage (c .before .before .before .before .read .ensures) (c .before .before .payload .given .1))) (c .nth .ensures)
+    let at-payload = c .before .before in
+    let at-read = at-payload .before .before in
+    rw (sym (told answerNetworkMessage (at-read .read .ensures) (at-payload .payload .given .1))) (c .nth .ensures)
 
 pub message-place-spec : {M : Type 1} → statement M
 message-place-spec =

@@ -13,11 +13,17 @@ returns c = rw (lt-ltb _ _ (c .if1 .taken))
 
 returns-2 : tie.Need-returns-2
 returns-2 c =
-    rw (le-ltb _ _ (c .before .before .before .before .if1 .left), sym (told answerFlags (c .before .before .before .read-flags .ensures) (c .before .n .given .1)))
+    let at-n = c .before in
+    let at-read-flags = at-n .before .before in
+    let at-if1 = at-read-flags .before in
+    rw (le-ltb _ _ (at-if1 .if1 .left), sym (told answerFlags (at-read-flags .read-flags .ensures) (at-n .n .given .1)))
 
 returns-3 : tie.Need-returns-3
 returns-3 c =
-    rw (le-ltb _ _ (c .before .before .before .before .before .if1 .left), sym (told answerFlags (c .before .before .before .before .read-flags .ensures) (c .before .before .flags .given .1))) (c .read-body .ensures)
+    let at-flags = c .before .before in
+    let at-read-flags = at-flags .before .before in
+    let at-if1 = at-read-flags .before in
+    rw (le-ltb _ _ (at-if1 .if1 .left), sym (told answerFlags (at-read-flags .read-flags .ensures) (at-flags .flags .given .1))) (c .read-body .ensures)
 
 pub read-spec : {M : Type 1} → statement M
 read-spec =

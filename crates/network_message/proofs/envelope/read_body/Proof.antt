@@ -9,11 +9,17 @@ use Rattle.network_message.proofs.envelope.read_body.Tie as tie
 
 returns : tie.Need-returns
 returns c =
-    rw (sym (c .before .before .before .before .writers .ensures .0), sym (told answerHeader (c .before .before .before .read-header .ensures) (c .before .n .given .1)))
+    let at-n = c .before in
+    let at-read-header = at-n .before .before in
+    let at-writers = at-read-header .before in
+    rw (sym (at-writers .writers .ensures .0), sym (told answerHeader (at-read-header .read-header .ensures) (at-n .n .given .1)))
 
 returns-2 : tie.Need-returns-2
 returns-2 c =
-    rw (sym (c .before .before .before .before .before .writers .ensures .0), sym (told answerHeader (c .before .before .before .before .read-header .ensures) (c .before .before .envelope .given .1))) (c .with-payload .ensures)
+    let at-envelope = c .before .before in
+    let at-read-header = at-envelope .before .before in
+    let at-writers = at-read-header .before in
+    rw (sym (at-writers .writers .ensures .0), sym (told answerHeader (at-read-header .read-header .ensures) (at-envelope .envelope .given .1))) (c .with-payload .ensures)
 
 pub read-body-spec : {M : Type 1} → statement M
 read-body-spec =

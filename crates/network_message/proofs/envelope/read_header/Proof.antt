@@ -10,19 +10,53 @@ use Rattle.network_message.proofs.envelope.read_header.Tie as tie
 
 returns : tie.Need-returns
 returns c =
-    rw (sym (told answerIdentity (c .before .before .before .read-identity .ensures) (c .before .n .given .1)))
+    let at-n = c .before in
+    let at-read-identity = at-n .before .before in
+    rw (sym (told answerIdentity (at-read-identity .read-identity .ensures) (at-n .n .given .1)))
 
 returns-2 : tie.Need-returns-2
 returns-2 c =
-    rw (sym (told answerIdentity (c .before .before .before .before .before .before .before .read-identity .ensures) (c .before .before .before .before .before .i .given .1)), sym (told answerPayloadHeader (c .before .before .before .read-payload-header .ensures) (c .before .n2 .given .1)))
+    let at-n2 = c .before in
+    let at-read-payload-header = at-n2 .before .before in
+    let at-i = at-read-payload-header .before .before in
+    let at-read-identity = at-i .before .before in
+    rw (
+      sym (told answerIdentity (at-read-identity .read-identity .ensures) (at-i .i .given .1)),
+      sym (told answerPayloadHeader (at-read-payload-header .read-payload-header .ensures) (at-n2 .n2 .given .1)),
+    )
 
 returns-3 : tie.Need-returns-3
 returns-3 c =
-    rw (sym (told answerIdentity (c .before .before .before .before .before .before .before .before .before .before .before .before .read-identity .ensures) (c .before .before .before .before .before .before .before .before .before .before .i .given .1)), sym (told answerPayloadHeader (c .before .before .before .before .before .before .before .before .read-payload-header .ensures) (c .before .before .before .before .before .before .header .given .1)), sym (c .before .before .before .before .messages-of .ensures), sym (told answerTimes (c .before .before .before .read-times .ensures) (c .before .n3 .given .1)))
+    let at-n3 = c .before in
+    let at-read-times = at-n3 .before .before in
+    let at-messages-of = at-read-times .before in
+    let at-header = at-messages-of .before .before in
+    let at-read-payload-header = at-header .before .before in
+    let at-i = at-read-payload-header .before .before in
+    let at-read-identity = at-i .before .before in
+    rw (
+      sym (told answerIdentity (at-read-identity .read-identity .ensures) (at-i .i .given .1)),
+      sym (told answerPayloadHeader (at-read-payload-header .read-payload-header .ensures) (at-header .header .given .1)),
+      sym (at-messages-of .messages-of .ensures),
+      sym (told answerTimes (at-read-times .read-times .ensures) (at-n3 .n3 .given .1)),
+    )
 
 returns-4 : tie.Need-returns-4
 returns-4 c =
-    rw (sym (told answerIdentity (c .before .before .before .before .before .before .before .before .before .before .before .before .before .read-identity .ensures) (c .before .before .before .before .before .before .before .before .before .before .before .i .given .1)), sym (told answerPayloadHeader (c .before .before .before .before .before .before .before .before .before .read-payload-header .ensures) (c .before .before .before .before .before .before .before .header .given .1)), sym (c .before .before .before .before .before .messages-of .ensures), sym (told answerTimes (c .before .before .before .before .read-times .ensures) (c .before .before .t .given .1)), c .envelope-of .ensures)
+    let at-t = c .before .before in
+    let at-read-times = at-t .before .before in
+    let at-messages-of = at-read-times .before in
+    let at-header = at-messages-of .before .before in
+    let at-read-payload-header = at-header .before .before in
+    let at-i = at-read-payload-header .before .before in
+    let at-read-identity = at-i .before .before in
+    rw (
+      sym (told answerIdentity (at-read-identity .read-identity .ensures) (at-i .i .given .1)),
+      sym (told answerPayloadHeader (at-read-payload-header .read-payload-header .ensures) (at-header .header .given .1)),
+      sym (at-messages-of .messages-of .ensures),
+      sym (told answerTimes (at-read-times .read-times .ensures) (at-t .t .given .1)),
+      c .envelope-of .ensures,
+    )
 
 pub read-header-spec : {M : Type 1} → statement M
 read-header-spec =

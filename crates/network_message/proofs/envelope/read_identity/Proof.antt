@@ -11,19 +11,48 @@ use Rattle.network_message.proofs.envelope.read_identity.Tie as tie
 
 returns : tie.Need-returns
 returns c =
-    rw (sym (told answerPublisher (c .before .before .before .read-publisher .ensures) (c .before .n .given .1)))
+    let at-n = c .before in
+    let at-read-publisher = at-n .before .before in
+    rw (sym (told answerPublisher (at-read-publisher .read-publisher .ensures) (at-n .n .given .1)))
 
 returns-2 : tie.Need-returns-2
 returns-2 c =
-    rw (sym (told answerPublisher (c .before .before .before .before .before .before .before .read-publisher .ensures) (c .before .before .before .before .before .publisher .given .1)), sym (told answerClass (c .before .before .before .read-class-id .ensures) (c .before .n2 .given .1)))
+    let at-n2 = c .before in
+    let at-read-class-id = at-n2 .before .before in
+    let at-publisher = at-read-class-id .before .before in
+    let at-read-publisher = at-publisher .before .before in
+    rw (
+      sym (told answerPublisher (at-read-publisher .read-publisher .ensures) (at-publisher .publisher .given .1)),
+      sym (told answerClass (at-read-class-id .read-class-id .ensures) (at-n2 .n2 .given .1)),
+    )
 
 returns-3 : tie.Need-returns-3
 returns-3 c =
-    rw (sym (told answerPublisher (c .before .before .before .before .before .before .before .before .before .before .before .read-publisher .ensures) (c .before .before .before .before .before .before .before .before .before .publisher .given .1)), sym (told answerClass (c .before .before .before .before .before .before .before .read-class-id .ensures) (c .before .before .before .before .before .class-id .given .1)), sym (told answerGroup (c .before .before .before .read-group .ensures) (c .before .n3 .given .1)))
+    let at-n3 = c .before in
+    let at-read-group = at-n3 .before .before in
+    let at-class-id = at-read-group .before .before in
+    let at-read-class-id = at-class-id .before .before in
+    let at-publisher = at-read-class-id .before .before in
+    let at-read-publisher = at-publisher .before .before in
+    rw (
+      sym (told answerPublisher (at-read-publisher .read-publisher .ensures) (at-publisher .publisher .given .1)),
+      sym (told answerClass (at-read-class-id .read-class-id .ensures) (at-class-id .class-id .given .1)),
+      sym (told answerGroup (at-read-group .read-group .ensures) (at-n3 .n3 .given .1)),
+    )
 
 returns-4 : tie.Need-returns-4
 returns-4 c =
-    rw (sym (told answerPublisher (c .before .before .before .before .before .before .before .before .before .before .before .read-publisher .ensures) (c .before .before .before .before .before .before .before .before .before .publisher .given .1)), sym (told answerClass (c .before .before .before .before .before .before .before .read-class-id .ensures) (c .before .before .before .before .before .class-id .given .1)), sym (told answerGroup (c .before .before .before .read-group .ensures) (c .before .group .given .1)))
+    let at-group = c .before in
+    let at-read-group = at-group .before .before in
+    let at-class-id = at-read-group .before .before in
+    let at-read-class-id = at-class-id .before .before in
+    let at-publisher = at-read-class-id .before .before in
+    let at-read-publisher = at-publisher .before .before in
+    rw (
+      sym (told answerPublisher (at-read-publisher .read-publisher .ensures) (at-publisher .publisher .given .1)),
+      sym (told answerClass (at-read-class-id .read-class-id .ensures) (at-class-id .class-id .given .1)),
+      sym (told answerGroup (at-read-group .read-group .ensures) (at-group .group .given .1)),
+    )
 
 pub read-identity-spec : {M : Type 1} → statement M
 read-identity-spec =

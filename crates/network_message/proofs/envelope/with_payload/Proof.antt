@@ -22,16 +22,24 @@ single-rest chunk (PayloadHeader.Chunk w) sizes s at e = absurd (let z : _≡_ {
 
 returns : tie.Need-returns
 returns c =
-    let a = c .before .before .before .before .before .args in
-    rw (sym (single-rest (a .envelope .chunk) (a .envelope .«payload_header») (now (a .sizes)) (now (a .s)) (a .places .payload) (sym (c .before .before .is-single .ensures) ∙ c .before .if1 .taken))) (c .with-rest .ensures)
+    let at-if1 = c .before in
+    let at-is-single = at-if1 .before in
+    let args = at-is-single .before .before .before .args in
+    let a = args in
+    rw (sym (single-rest (a .envelope .chunk) (a .envelope .«payload_header») (now (a .sizes)) (now (a .s)) (a .places .payload) (sym (at-is-single .is-single .ensures) ∙ at-if1 .if1 .taken)))
+    (c .with-rest .ensures)
 
 returns-2 : tie.Need-returns-2
 returns-2 c =
-    rw (sym (told answerPayload (c .before .before .before .read-payload .ensures) (c .before .n .given .1)))
+    let at-n = c .before in
+    let at-read-payload = at-n .before .before in
+    rw (sym (told answerPayload (at-read-payload .read-payload .ensures) (at-n .n .given .1)))
 
 returns-3 : tie.Need-returns-3
 returns-3 c =
-    rw (sym (told answerPayload (c .before .before .before .read-payload .ensures) (c .before .payload .given .1)))
+    let at-payload = c .before in
+    let at-read-payload = at-payload .before .before in
+    rw (sym (told answerPayload (at-read-payload .read-payload .ensures) (at-payload .payload .given .1)))
 
 pub with-payload-spec : {M : Type 1} → statement M
 with-payload-spec =

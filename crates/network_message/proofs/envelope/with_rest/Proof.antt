@@ -9,11 +9,15 @@ use Rattle.network_message.proofs.envelope.with_rest.Tie as tie
 
 returns : tie.Need-returns
 returns c =
-    rw (sym (told answerPayload (c .before .before .before .rest .ensures) (c .before .n .given .1)))
+    let at-n = c .before in
+    let at-rest = at-n .before .before in
+    rw (sym (told answerPayload (at-rest .rest .ensures) (at-n .n .given .1)))
 
 returns-2 : tie.Need-returns-2
 returns-2 c =
-    rw (sym (told answerPayload (c .before .before .before .rest .ensures) (c .before .payload .given .1)))
+    let at-payload = c .before in
+    let at-rest = at-payload .before .before in
+    rw (sym (told answerPayload (at-rest .rest .ensures) (at-payload .payload .given .1)))
 
 pub with-rest-spec : {M : Type 1} → statement M
 with-rest-spec =

@@ -14,7 +14,9 @@ use Rattle.network_message.proofs.payload.configured_size.Tie as tie
 
 returns : tie.Need-returns
 returns c =
-    (let h : length (configuredSizes (now (c .before .before .before .args .sizes))) ≤ c .before .before .before .args .k = omega (arith, c .before .writers .ensures .0) in sym (none-past (configuredSizes (now (c .before .before .before .args .sizes))) (c .before .before .before .args .k) h))
+    let at-writers = c .before in
+    let args = at-writers .before .before .args in
+    (let h : length (configuredSizes (now (args .sizes))) ≤ args .k = omega (arith, at-writers .writers .ensures .0) in sym (none-past (configuredSizes (now (args .sizes))) (args .k) h))
 
 cast-result : tie.Need-cast-result
 cast-result c =
@@ -22,7 +24,9 @@ cast-result c =
 
 returns-2 : tie.Need-returns-2
 returns-2 c =
-    (let h : c .before .before .before .before .args .k < 16 = omega (arith, c .before .before .writers .ensures .1) in sym (getD-take 16 (now (c .before .before .before .before .args .sizes)) (c .before .before .before .before .args .k) 0 h))
+    let at-writers = c .before .before in
+    let args = at-writers .before .before .args in
+    (let h : args .k < 16 = omega (arith, at-writers .writers .ensures .1) in sym (getD-take 16 (now (args .sizes)) (args .k) 0 h))
 
 pub configured-size-spec : {M : Type 1} → statement M
 configured-size-spec =

@@ -16,15 +16,46 @@ tally-configured-requires c κs = (c .before .writers .ensures .2, c .before .wr
 
 returns-2 : tie.Need-returns-2
 returns-2 c =
-    rw (sym (c .before .before .before .before .writers .ensures .0), ne-eqb _ _ (c .before .before .before .if1 .left), sym (c .before .before .tally-configured .ensures .1 ∙ ap positive (c .before .before .before .before .writers .ensures .3)) ∙ c .before .if2 .taken, sym (c .before .before .tally-configured .ensures .0 ∙ ap total (c .before .before .before .before .writers .ensures .3))) (c .sized .ensures)
+    let at-if2 = c .before in
+    let at-tally-configured = at-if2 .before in
+    let at-if1 = at-tally-configured .before in
+    let at-writers = at-if1 .before in
+    rw (
+      sym (at-writers .writers .ensures .0),
+      ne-eqb _ _ (at-if1 .if1 .left),
+      sym (at-tally-configured .tally-configured .ensures .1 ∙ ap positive (at-writers .writers .ensures .3))
+          ∙ at-if2 .if2 .taken,
+      sym (at-tally-configured .tally-configured .ensures .0 ∙ ap total (at-writers .writers .ensures .3)),
+    ) (c .sized .ensures)
 
 returns-3 : tie.Need-returns-3
 returns-3 c =
-    rw (sym (c .before .before .before .before .before .writers .ensures .0), ne-eqb _ _ (c .before .before .before .before .if1 .left), sym (c .before .before .before .tally-configured .ensures .1 ∙ ap positive (c .before .before .before .before .before .writers .ensures .3)) ∙ c .before .before .if2 .left, eq-eqb _ _ (c .before .if3 .taken)) (c .rest .ensures)
+    let at-if3 = c .before in
+    let at-if2 = at-if3 .before in
+    let at-tally-configured = at-if2 .before in
+    let at-if1 = at-tally-configured .before in
+    let at-writers = at-if1 .before in
+    rw (
+      sym (at-writers .writers .ensures .0),
+      ne-eqb _ _ (at-if1 .if1 .left),
+      sym (at-tally-configured .tally-configured .ensures .1 ∙ ap positive (at-writers .writers .ensures .3))
+          ∙ at-if2 .if2 .left,
+      eq-eqb _ _ (at-if3 .if3 .taken),
+    ) (c .rest .ensures)
 
 returns-4 : tie.Need-returns-4
 returns-4 c =
-    rw (sym (c .before .before .before .before .writers .ensures .0), ne-eqb _ _ (c .before .before .before .if1 .left), sym (c .before .before .tally-configured .ensures .1 ∙ ap positive (c .before .before .before .before .writers .ensures .3)) ∙ c .before .if2 .left, ne-eqb _ _ (c .if3 .left))
+    let at-if2 = c .before in
+    let at-tally-configured = at-if2 .before in
+    let at-if1 = at-tally-configured .before in
+    let at-writers = at-if1 .before in
+    rw (
+      sym (at-writers .writers .ensures .0),
+      ne-eqb _ _ (at-if1 .if1 .left),
+      sym (at-tally-configured .tally-configured .ensures .1 ∙ ap positive (at-writers .writers .ensures .3))
+          ∙ at-if2 .if2 .left,
+      ne-eqb _ _ (c .if3 .left),
+    )
 
 pub configured-sizes-spec : {M : Type 1} → statement M
 configured-sizes-spec =

@@ -15,11 +15,13 @@ returns c =
 
 returns-2 : tie.Need-returns-2
 returns-2 c =
-    rw (lt-leb (c .before .before .before .args .p + 2 * c .before .before .before .args .k + 2) (length (now (c .before .before .before .args .s))) (omega arith))
+    let args = c .before .before .before .args in
+    rw (lt-leb (args .p + 2 * args .k + 2) (length (now (args .s))) (omega arith))
 
 returns-3 : tie.Need-returns-3
 returns-3 c =
-    rw (le-leb (c .before .before .before .before .args .p + 2 * c .before .before .before .before .args .k + 2) (length (now (c .before .before .before .before .args .s))) (omega arith)) (c .size-at .ensures .0)
+    let args = c .before .before .before .before .args in
+    rw (le-leb (args .p + 2 * args .k + 2) (length (now (args .s))) (omega arith)) (c .size-at .ensures .0)
 
 pub listed-size-spec : {M : Type 1} → statement M
 listed-size-spec =

@@ -14,11 +14,28 @@ returns c = rw (le-leb _ _ (c .if1 .taken))
 
 returns-2 : tie.Need-returns-2
 returns-2 c =
-    rw (lt-leb _ _ (c .before .before .before .before .if1 .left), sym (c .before .before .before .message-size .ensures), sym (told (answerRun (c .before .before .before .before .before .before .before .before .args .at) (c .before .before .before .message-size .result)) (c .before .before .skip .ensures) (c .enum-told .given .1)))
+    let at-skip = c .before .before in
+    let at-message-size = at-skip .before in
+    let at-if1 = at-message-size .before in
+    let args = at-if1 .before .before .before .before .args in
+    rw (
+      lt-leb _ _ (at-if1 .if1 .left),
+      sym (at-message-size .message-size .ensures),
+      sym (told (answerRun (args .at) (at-message-size .message-size .result)) (at-skip .skip .ensures) (c .enum-told .given .1)),
+    )
 
 returns-3 : tie.Need-returns-3
 returns-3 c =
-    rw (lt-leb _ _ (c .before .before .before .before .before .if1 .left), sym (c .before .before .before .before .message-size .ensures), sym (told (answerRun (c .before .before .before .before .before .before .before .before .before .args .at) (c .before .before .before .before .message-size .result)) (c .before .before .before .skip .ensures) (c .before .next .given .1)))
+    let at-next = c .before in
+    let at-skip = at-next .before .before in
+    let at-message-size = at-skip .before in
+    let at-if1 = at-message-size .before in
+    let args = at-if1 .before .before .before .before .args in
+    rw (
+      lt-leb _ _ (at-if1 .if1 .left),
+      sym (at-message-size .message-size .ensures),
+      sym (told (answerRun (args .at) (at-message-size .message-size .result)) (at-skip .skip .ensures) (at-next .next .given .1)),
+    )
 
 pub message-at-spec : {M : Type 1} → statement M
 message-at-spec =

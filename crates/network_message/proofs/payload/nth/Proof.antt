@@ -24,15 +24,31 @@ loop-holds c =
 
 returns : tie.Need-returns Inv-loop μ-loop
 returns c =
-    sym (ap (λ r. andThen r (λ _ q. messageAt (c .before .before .before .before .before .before .before .before .args .p) (now (c .before .before .before .before .before .before .before .before .args .sizes)) (c .before .before .before .before .before .before .before .before .args .k) (now (c .before .before .before .before .before .before .before .before .args .s)) q)) (pass-stop (c .before .before .before .before .before .before .before .before .args .p) (now (c .before .before .before .before .before .before .before .before .args .sizes)) (now (c .before .before .before .before .before .before .before .before .args .s)) (c .before .before .before .before .before .before .before .before .args .p .first) (c .before .before .before .before .before .loop .i) (c .before .before .before .before .before .before .before .before .args .k) (c .before .before .before .before .before .loop .at) _ _ (c .before .before .before .before .loop-test .taken) (c .before .before .before .before .before .loop .inv .1) (sym (told answerMessage (c .before .before .before .message-at .ensures) (c .before .n .given .1)))))
+    let at-n = c .before in
+    let at-message-at = at-n .before .before in
+    let at-loop-test = at-message-at .before in
+    let at-loop = at-loop-test .before in
+    let args = at-loop .before .before .before .args in
+    sym (ap (λ r. andThen r (λ _ q. messageAt (args .p) (now (args .sizes)) (args .k) (now (args .s)) q))
+    (pass-stop (args .p) (now (args .sizes)) (now (args .s)) (args .p .first) (at-loop .loop .i) (args .k) (at-loop .loop .at) _ _
+    (at-loop-test .loop-test .taken) (at-loop .loop .inv .1) (sym (told answerMessage (at-message-at .message-at .ensures) (at-n .n .given .1)))))
 
 loop-again : tie.Need-loop-again Inv-loop μ-loop
 loop-again c =
-    (omega arith, pass-step (c .before .before .before .before .before .before .before .before .args .p) (now (c .before .before .before .before .before .before .before .before .args .sizes)) (now (c .before .before .before .before .before .before .before .before .args .s)) (c .before .before .before .before .before .before .before .before .args .p .first) (c .before .before .before .before .before .loop .i) (c .before .before .before .before .before .loop .at) _ _ (c .before .before .before .before .before .loop .inv .1) (sym (told answerMessage (c .before .before .before .message-at .ensures) (c .before .next .given .1))))
+    let at-next = c .before in
+    let at-message-at = at-next .before .before in
+    let at-loop = at-message-at .before .before in
+    let args = at-loop .before .before .before .args in (
+      omega arith,
+      pass-step (args .p) (now (args .sizes)) (now (args .s)) (args .p .first) (at-loop .loop .i) (at-loop .loop .at) _ _
+          (at-loop .loop .inv .1) (sym (told answerMessage (at-message-at .message-at .ensures) (at-next .next .given .1))),
+    )
 
 returns-2 : tie.Need-returns-2 Inv-loop μ-loop
 returns-2 c =
-    (let e : c .before .before .loop .i ≡ c .before .before .before .before .before .args .k = omega arith in rw (sym e, c .before .before .loop .inv .1) (rw e (c .message-at2 .ensures)))
+    let at-loop = c .before .before in
+    let args = at-loop .before .before .before .args in
+    (let e : at-loop .loop .i ≡ args .k = omega arith in rw (sym e, at-loop .loop .inv .1) (rw e (c .message-at2 .ensures)))
 
 pub nth-spec : {M : Type 1} → statement M
 nth-spec =

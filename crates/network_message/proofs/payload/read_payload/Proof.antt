@@ -11,7 +11,9 @@ returns c = rw (c .before .enum-told .given .1, c .if1 .taken)
 
 returns-2 : tie.Need-returns-2
 returns-2 c =
-    rw (c .before .before .before .header .given .1, le-leb _ _ (c .before .if2 .taken)) (c .rest .ensures)
+    let at-if2 = c .before in
+    let at-header = at-if2 .before .before in
+    rw (at-header .header .given .1, le-leb _ _ (at-if2 .if2 .taken)) (c .rest .ensures)
 
 returns-3 : tie.Need-returns-3
 returns-3 c =
@@ -19,7 +21,9 @@ returns-3 c =
 
 returns-4 : tie.Need-returns-4
 returns-4 c =
-    rw (c .before .before .before .header .given .1, lt-leb _ _ (c .before .if2 .left)) (c .listed-sizes .ensures)
+    let at-if2 = c .before in
+    let at-header = at-if2 .before .before in
+    rw (at-header .header .given .1, lt-leb _ _ (at-if2 .if2 .left)) (c .listed-sizes .ensures)
 
 returns-5 : tie.Need-returns-5
 returns-5 c = rw (c .enum-told2 .given .1)

@@ -33,11 +33,15 @@ add-sum c =
 
 loop-again : tie.Need-loop-again Inv-loop μ-loop
 loop-again c =
-    let l = c .before .before .loop in let s = now (c .before .before .before .args .sizes) in let h : l .i < length s = omega arith in let b = c .shared-slice-known .given (l .i) in (omega arith, omega arith, omega arith, omega (arith, total-next s (l .i) h, l .inv .3), ap (λ (b : Bool). b && ltb 0 (getD s (l .i) 0)) (l .inv .4) ∙ sym (positive-next s (l .i) h), omega arith)
+    let at-loop = c .before .before in
+    let args = at-loop .before .args in
+    let l = at-loop .loop in let s = now (args .sizes) in let h : l .i < length s = omega arith in let b = c .shared-slice-known .given (l .i) in
+    (omega arith, omega arith, omega arith, omega (arith, total-next s (l .i) h, l .inv .3), ap (λ (b : Bool). b && ltb 0 (getD s (l .i) 0)) (l .inv .4) ∙ sym (positive-next s (l .i) h), omega arith)
 
 returns : tie.Need-returns Inv-loop μ-loop
 returns c =
-    let l = c .before .loop in let e : l .i ≡ c .before .before .args .n = omega arith in let s = now (c .before .before .args .sizes) in (l .inv .3 ∙ ap (λ (k : ℕ). total (take k s)) e, l .inv .4 ∙ ap (λ (k : ℕ). positive (take k s)) e, omega arith)
+    let l = c .before .loop in let e : l .i ≡ c .before .before .args .n = omega arith in let s = now (c .before .before .args .sizes) in
+    (l .inv .3 ∙ ap (λ (k : ℕ). total (take k s)) e, l .inv .4 ∙ ap (λ (k : ℕ). positive (take k s)) e, omega arith)
 
 pub tally-configured-spec : {M : Type 1} → statement M
 tally-configured-spec =

@@ -14,11 +14,20 @@ returns c = rw (le-leb _ _ (c .if1 .taken))
 
 returns-2 : tie.Need-returns-2
 returns-2 c =
-    rw (lt-leb _ _ (c .before .before .before .before .if1 .left), sym (c .before .before .before .left .ensures), sym (told (answer16 (c .before .before .before .left .result + 2 * c .before .before .before .before .before .before .args .k)) (c .before .before .read16 .ensures) (c .enum-told .given .1)))
+    let at-read16 = c .before .before in
+    let at-left = at-read16 .before in
+    let at-if1 = at-left .before in
+    let args = at-if1 .before .before .args in
+    rw (lt-leb _ _ (at-if1 .if1 .left), sym (at-left .left .ensures), sym (told (answer16 (at-left .left .result + 2 * args .k)) (at-read16 .read16 .ensures) (c .enum-told .given .1)))
 
 returns-3 : tie.Need-returns-3
 returns-3 c =
-    rw (lt-leb _ _ (c .before .before .before .before .before .if1 .left), sym (c .before .before .before .before .left .ensures), sym (told (answer16 (c .before .before .before .before .left .result + 2 * c .before .before .before .before .before .before .before .args .k)) (c .before .before .before .read16 .ensures) (c .before .v .given .1)))
+    let at-v = c .before in
+    let at-read16 = at-v .before .before in
+    let at-left = at-read16 .before in
+    let at-if1 = at-left .before in
+    let args = at-if1 .before .before .args in
+    rw (lt-leb _ _ (at-if1 .if1 .left), sym (at-left .left .ensures), sym (told (answer16 (at-left .left .result + 2 * args .k)) (at-read16 .read16 .ensures) (at-v .v .given .1)))
 
 pub listed-id-spec : {M : Type 1} → statement M
 listed-id-spec =

@@ -12,11 +12,27 @@ use Rattle.network_message_writer.proofs.envelope.again.Tie as tie
 
 put-again-requires : tie.Need-put-again-requires
 put-again-requires c κs =
-    let a = c .before .before .before .before .before .before .before .args in let s = now (a .s) in let short : List ℕ → Type 0 = λ l. length l ≤ 65535 in (subst short (sym (c .before .before .before .text-of .ensures)) (text-within s (a .x .publisher) (a .places .«publisher_end») 65535 (c .before .before .before .before .before .before .before .pre)), subst short (sym (c .before .before .ids-of .ensures)) (ids-within s (a .x .«payload_header») (a .places .«payload_header_end») 65535 (c .before .before .before .before .before .before .before .pre)), subst short (sym (c .before .promoted-of .ensures)) (promoted-within s (a .x .promoted) (a .places .payload) 65535 (c .before .before .before .before .before .before .before .pre)), subst short (sym (c .tail .ensures)) (drop-short s (a .places .payload) 65535 (c .before .before .before .before .before .before .before .pre)))
+    let at-promoted-of = c .before in
+    let at-ids-of = at-promoted-of .before in
+    let at-text-of = at-ids-of .before in
+    let at-pre = at-text-of .before .before .before .before in
+    let a = at-pre .args in let s = now (a .s) in let short : List ℕ → Type 0 = λ l. length l ≤ 65535 in (
+      subst short (sym (at-text-of .text-of .ensures)) (text-within s (a .x .publisher) (a .places .«publisher_end») 65535 (at-pre .pre)),
+      subst short (sym (at-ids-of .ids-of .ensures)) (ids-within s (a .x .«payload_header») (a .places .«payload_header_end») 65535 (at-pre .pre)),
+      subst short (sym (at-promoted-of .promoted-of .ensures)) (promoted-within s (a .x .promoted) (a .places .payload) 65535 (at-pre .pre)),
+      subst short (sym (c .tail .ensures)) (drop-short s (a .places .payload) 65535 (at-pre .pre)),
+    )
 
 returns : tie.Need-returns
 returns c =
-    let a = c .before .before .before .before .before .before .before .before .before .before .args in again-answers (now (a .s)) (a .x) (a .places) (now (a .out)) _ _ _ _ _ _ (c .before .before .before .before .before .before .text-of .ensures) (c .before .before .before .before .before .ids-of .ensures) (c .before .before .before .before .promoted-of .ensures) (c .before .before .before .tail .ensures) (c .before .before .put-again .ensures)
+    let at-put-again = c .before .before in
+    let at-tail = at-put-again .before in
+    let at-promoted-of = at-tail .before in
+    let at-ids-of = at-promoted-of .before in
+    let at-text-of = at-ids-of .before in
+    let args = at-text-of .before .before .before .before .args in
+    let a = args in again-answers (now (a .s)) (a .x) (a .places) (now (a .out)) _ _ _ _ _ _ (at-text-of .text-of .ensures)
+    (at-ids-of .ids-of .ensures) (at-promoted-of .promoted-of .ensures) (at-tail .tail .ensures) (at-put-again .put-again .ensures)
 
 pub again-spec : {M : Type 1} → statement M
 again-spec =

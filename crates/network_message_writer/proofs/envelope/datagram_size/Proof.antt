@@ -18,7 +18,10 @@ add-result-2 c =
 
 returns : tie.Need-returns
 returns c =
-    datagram-sized (given (now (c .before .before .before .before .before .before .before .args .text)) (now (c .before .before .before .before .before .before .before .args .ids)) (now (c .before .before .before .before .before .before .before .args .promoted)) (now (c .before .before .before .before .before .before .before .args .lengths)) (now (c .before .before .before .before .before .before .before .args .messages))) (c .before .before .before .before .before .before .before .args .x) (c .before .header-size .ensures .0) (c .list-size .ensures .0)
+    let at-header-size = c .before in
+    let args = at-header-size .before .before .before .before .before .before .args in
+    datagram-sized (given (now (args .text)) (now (args .ids)) (now (args .promoted)) (now (args .lengths)) (now (args .messages)))
+    (args .x) (at-header-size .header-size .ensures .0) (c .list-size .ensures .0)
 
 pub datagram-size-spec : {M : Type 1} → statement M
 datagram-size-spec =

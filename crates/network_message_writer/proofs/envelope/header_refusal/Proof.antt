@@ -10,7 +10,28 @@ use Rattle.network_message_writer.proofs.envelope.header_refusal.Tie as
 
 returns : tie.Need-returns
 returns c =
-    or-as (c .or-else6 .ensures) (c .before .times-refusal .ensures ∙ ap₂ timesRefusal (c .before .before .before .is-on16 .ensures) (c .before .before .is-on-i64 .ensures)) (or-as (c .before .before .before .before .or-else5 .ensures) (c .before .before .before .before .before .before .before .publisher-refusal .ensures) (or-as (c .before .before .before .before .before .or-else4 .ensures) (c .before .before .before .before .before .before .group-refusal .ensures) (or-as (c .before .before .before .before .before .before .before .before .or-else3 .ensures) (c .before .before .before .before .before .before .before .before .before .before .before .count-refusal .ensures) (or-as (c .before .before .before .before .before .before .before .before .before .or-else2 .ensures) (c .before .before .before .before .before .before .before .before .before .before .picoseconds-refusal .ensures) (or-as (c .before .before .before .before .before .before .before .before .before .before .before .before .or-else .ensures) (c .before .before .before .before .before .before .before .before .before .before .before .before .before .promoted-refusal .ensures ∙ ap (promotedRefusal (c .before .before .before .before .before .before .before .before .before .before .before .before .before .before .before .args .x .promoted)) (c .before .before .before .before .before .before .before .before .before .before .before .before .before .before .messages-of .ensures)) refl)))))
+    let at-times-refusal = c .before in
+    let at-is-on-i64 = at-times-refusal .before in
+    let at-is-on16 = at-is-on-i64 .before in
+    let at-or-else5 = at-is-on16 .before in
+    let at-or-else4 = at-or-else5 .before in
+    let at-group-refusal = at-or-else4 .before in
+    let at-publisher-refusal = at-group-refusal .before in
+    let at-or-else3 = at-publisher-refusal .before in
+    let at-or-else2 = at-or-else3 .before in
+    let at-picoseconds-refusal = at-or-else2 .before in
+    let at-count-refusal = at-picoseconds-refusal .before in
+    let at-or-else = at-count-refusal .before in
+    let at-promoted-refusal = at-or-else .before in
+    let at-messages-of = at-promoted-refusal .before in
+    let args = at-messages-of .before .args in
+    or-as (c .or-else6 .ensures)
+    (at-times-refusal .times-refusal .ensures ∙ ap₂ timesRefusal (at-is-on16 .is-on16 .ensures) (at-is-on-i64 .is-on-i64 .ensures))
+    (or-as (at-or-else5 .or-else5 .ensures) (at-publisher-refusal .publisher-refusal .ensures)
+    (or-as (at-or-else4 .or-else4 .ensures) (at-group-refusal .group-refusal .ensures)
+    (or-as (at-or-else3 .or-else3 .ensures) (at-count-refusal .count-refusal .ensures)
+    (or-as (at-or-else2 .or-else2 .ensures) (at-picoseconds-refusal .picoseconds-refusal .ensures)
+    (or-as (at-or-else .or-else .ensures) (at-promoted-refusal .promoted-refusal .ensures ∙ ap (promotedRefusal (args .x .promoted)) (at-messages-of .messages-of .ensures)) refl)))))
 
 pub header-refusal-spec : {M : Type 1} → statement M
 header-refusal-spec =

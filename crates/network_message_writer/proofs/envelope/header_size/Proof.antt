@@ -9,7 +9,24 @@ use Rattle.network_message_writer.proofs.envelope.header_size.Tie as ti
 
 returns : tie.Need-returns
 returns c =
-    (header-sized (now (c .before .before .before .before .before .before .before .before .args .text)) (now (c .before .before .before .before .before .before .before .before .args .ids)) (now (c .before .before .before .before .before .before .before .before .args .promoted)) (c .before .before .before .before .before .before .before .before .args .x) (c .before .before .before .before .flags-size .ensures .0) (c .before .before .before .publisher-size .ensures .0) (c .before .before .class-size .ensures .0) (c .before .group-size .ensures .0) (c .tail-size .ensures .0), omega (arith, c .before .before .before .before .flags-size .ensures .1, c .before .before .before .publisher-size .ensures .1, c .before .before .class-size .ensures .1, c .before .group-size .ensures .1, c .tail-size .ensures .1, c .before .before .before .before .before .before .before .before .pre .0))
+    let at-group-size = c .before in
+    let at-class-size = at-group-size .before in
+    let at-publisher-size = at-class-size .before in
+    let at-flags-size = at-publisher-size .before in
+    let at-pre = at-flags-size .before .before .before .before in (
+      header-sized (now (at-pre .args .text)) (now (at-pre .args .ids)) (now (at-pre .args .promoted)) (at-pre .args .x)
+          (at-flags-size .flags-size .ensures .0) (at-publisher-size .publisher-size .ensures .0) (at-class-size .class-size .ensures .0)
+          (at-group-size .group-size .ensures .0) (c .tail-size .ensures .0),
+      omega (
+        arith,
+        at-flags-size .flags-size .ensures .1,
+        at-publisher-size .publisher-size .ensures .1,
+        at-class-size .class-size .ensures .1,
+        at-group-size .group-size .ensures .1,
+        c .tail-size .ensures .1,
+        at-pre .pre .0,
+      ),
+    )
 
 pub header-size-spec : {M : Type 1} → statement M
 header-size-spec =

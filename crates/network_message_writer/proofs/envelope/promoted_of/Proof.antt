@@ -7,7 +7,9 @@ use Rattle.network_message_writer.proofs.envelope.promoted_of.Tie as ti
 
 returns-2 : tie.Need-returns-2
 returns-2 c =
-    rw (c .before .before .before .x .given .1, sym (c .before .left .ensures)) (c .part2 .ensures)
+    let at-left = c .before in
+    let at-x = at-left .before .before in
+    rw (at-x .x .given .1, sym (at-left .left .ensures)) (c .part2 .ensures)
 
 pub promoted-of-spec : {M : Type 1} → statement M
 promoted-of-spec =

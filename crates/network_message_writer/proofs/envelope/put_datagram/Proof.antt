@@ -7,7 +7,9 @@ use Rattle.network_message_writer.proofs.envelope.put_datagram.Tie as t
 
 returns : tie.Need-returns
 returns c =
-    then (c .before .before .before .before .before .before .put-header .ensures) (c .before .before .put-payload .ensures)
+    let at-put-payload = c .before .before in
+    let at-put-header = at-put-payload .before .before .before .before in
+    then (at-put-header .put-header .ensures) (at-put-payload .put-payload .ensures)
 
 pub put-datagram-spec : {M : Type 1} → statement M
 put-datagram-spec =

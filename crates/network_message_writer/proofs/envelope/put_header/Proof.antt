@@ -7,7 +7,13 @@ use Rattle.network_message_writer.proofs.envelope.put_header.Tie as tie
 
 returns : tie.Need-returns
 returns c =
-    then (c .before .before .before .before .before .before .before .before .before .before .before .before .before .before .before .before .before .before .put-flags .ensures) (then (c .before .before .before .before .before .before .before .before .before .before .before .before .before .before .put-publisher .ensures) (then (c .before .before .before .before .before .before .before .before .before .before .put-class .ensures) (then (c .before .before .before .before .before .before .put-group .ensures) (c .before .before .put-tail .ensures))))
+    let at-put-tail = c .before .before in
+    let at-put-group = at-put-tail .before .before .before .before in
+    let at-put-class = at-put-group .before .before .before .before in
+    let at-put-publisher = at-put-class .before .before .before .before in
+    let at-put-flags = at-put-publisher .before .before .before .before in
+    then (at-put-flags .put-flags .ensures)
+    (then (at-put-publisher .put-publisher .ensures) (then (at-put-class .put-class .ensures) (then (at-put-group .put-group .ensures) (at-put-tail .put-tail .ensures))))
 
 pub put-header-spec : {M : Type 1} → statement M
 put-header-spec =

@@ -7,7 +7,12 @@ use Rattle.network_message_writer.proofs.envelope.put_tail.Tie as tie
 
 returns : tie.Need-returns
 returns c =
-    then (c .before .before .before .before .before .before .before .before .before .before .before .before .before .before .put-payload-header .ensures) (then (puts (c .before .before .before .before .before .before .before .before .before .before .put-optional-i64 .ensures)) (then (puts (c .before .before .before .before .before .before .put-optional16 .ensures)) (c .before .before .put-promoted .ensures)))
+    let at-put-promoted = c .before .before in
+    let at-put-optional16 = at-put-promoted .before .before .before .before in
+    let at-put-optional-i64 = at-put-optional16 .before .before .before .before in
+    let at-put-payload-header = at-put-optional-i64 .before .before .before .before in
+    then (at-put-payload-header .put-payload-header .ensures)
+    (then (puts (at-put-optional-i64 .put-optional-i64 .ensures)) (then (puts (at-put-optional16 .put-optional16 .ensures)) (at-put-promoted .put-promoted .ensures)))
 
 pub put-tail-spec : {M : Type 1} → statement M
 put-tail-spec =

@@ -9,7 +9,10 @@ use Rattle.network_message_writer.proofs.envelope.reading_refusal.Tie a
 
 returns : tie.Need-returns
 returns c =
-    c .header-refusal .ensures ∙ ap₂ (λ (a b : ℕ). headerRefusal (c .before .before .before .before .before .before .args .x) a b) (c .before .writers .ensures .0) (c .before .before .payload-refusal .ensures)
+    let at-writers = c .before in
+    let at-payload-refusal = at-writers .before in
+    let args = at-payload-refusal .before .before .before .before .args in
+    c .header-refusal .ensures ∙ ap₂ (λ (a b : ℕ). headerRefusal (args .x) a b) (at-writers .writers .ensures .0) (at-payload-refusal .payload-refusal .ensures)
 
 pub reading-refusal-spec : {M : Type 1} → statement M
 reading-refusal-spec =

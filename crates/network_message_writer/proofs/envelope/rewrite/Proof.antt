@@ -13,15 +13,25 @@ use Rattle.network_message_writer.proofs.envelope.rewrite.Tie as tie
 
 again-requires : tie.Need-again-requires
 again-requires c κs =
-    accepted-short (now (c .before .before .before .before .before .before .before .before .args .sizes)) (now (c .before .before .before .before .before .before .before .before .args .s)) _ _ (sym (told answerNetworkMessage (c .before .before .before .before .read .ensures) (c .before .before .x .given .1)))
+    let at-x = c .before .before in
+    let at-read = at-x .before .before in
+    let args = at-read .before .before .before .before .args in
+    accepted-short (now (args .sizes)) (now (args .s)) _ _ (sym (told answerNetworkMessage (at-read .read .ensures) (at-x .x .given .1)))
 
 returns : tie.Need-returns
 returns c =
-    rw (sym (told answerNetworkMessage (c .before .before .before .read .ensures) (c .before .n .given .1))) (refl, refl)
+    let at-n = c .before in
+    let at-read = at-n .before .before in
+    rw (sym (told answerNetworkMessage (at-read .read .ensures) (at-n .n .given .1))) (refl, refl)
 
 returns-2 : tie.Need-returns-2
 returns-2 c =
-    rw (sym (told answerNetworkMessage (c .before .before .before .before .before .before .before .read .ensures) (c .before .before .before .before .before .x .given .1))) (reports 0 (againOf (now (c .before .before .before .before .before .before .before .before .before .before .before .args .s)) (c .before .before .before .before .before .x .given .0 .0) (c .before .before .before .before .before .x .given .0 .1 .0)) (now (c .before .before .before .before .before .before .before .before .before .before .before .args .out)) _ _ (c .before .before .again .ensures))
+    let at-again = c .before .before in
+    let at-x = at-again .before .before .before in
+    let at-read = at-x .before .before in
+    let args = at-read .before .before .before .before .args in
+    rw (sym (told answerNetworkMessage (at-read .read .ensures) (at-x .x .given .1)))
+    (reports 0 (againOf (now (args .s)) (at-x .x .given .0 .0) (at-x .x .given .0 .1 .0)) (now (args .out)) _ _ (at-again .again .ensures))
 
 pub rewrite-spec : {M : Type 1} → statement M
 rewrite-spec =

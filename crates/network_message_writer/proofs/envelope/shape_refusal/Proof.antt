@@ -7,7 +7,15 @@ use Rattle.network_message_writer.proofs.envelope.shape_refusal.Tie as 
 
 returns : tie.Need-returns
 returns c =
-    or-as (c .or-else3 .ensures) (c .before .before .before .publisher-shape .ensures) (or-as (c .before .or-else2 .ensures) (c .before .before .ids-shape .ensures) (or-as (c .before .before .before .before .or-else .ensures) (c .before .before .before .before .before .before .promoted-shape .ensures) (c .before .before .before .before .before .lengths-shape .ensures)))
+    let at-or-else2 = c .before in
+    let at-ids-shape = at-or-else2 .before in
+    let at-publisher-shape = at-ids-shape .before in
+    let at-or-else = at-publisher-shape .before in
+    let at-lengths-shape = at-or-else .before in
+    let at-promoted-shape = at-lengths-shape .before in
+    or-as (c .or-else3 .ensures) (at-publisher-shape .publisher-shape .ensures)
+    (or-as (at-or-else2 .or-else2 .ensures) (at-ids-shape .ids-shape .ensures)
+    (or-as (at-or-else .or-else .ensures) (at-promoted-shape .promoted-shape .ensures) (at-lengths-shape .lengths-shape .ensures)))
 
 pub shape-refusal-spec : {M : Type 1} → statement M
 shape-refusal-spec =

@@ -7,7 +7,9 @@ use Rattle.network_message_writer.proofs.envelope.text_of.Tie as tie
 
 returns-6 : tie.Need-returns-6
 returns-6 c =
-    rw (c .before .before .before .p .given .1, sym (c .before .left .ensures)) (c .part6 .ensures)
+    let at-left = c .before in
+    let at-p = at-left .before .before in
+    rw (at-p .p .given .1, sym (at-left .left .ensures)) (c .part6 .ensures)
 
 pub text-of-spec : {M : Type 1} → statement M
 text-of-spec =

@@ -16,23 +16,71 @@ use Rattle.network_message_writer.proofs.envelope.write.Tie as tie
 
 returns : tie.Need-returns
 returns c =
-    let a = c .before .before .before .before .before .before .before .before .before .before .before .before .args in let g = given (now (a .text)) (now (a .ids)) (now (a .promoted)) (now (a .lengths)) (now (a .messages)) in reports (refusalOf g (a .x) (now (a .sizes)) (now (a .configured))) (datagramOf g (a .x)) (now (a .out)) _ _ (refuses (refusalOf g (a .x) (now (a .sizes)) (now (a .configured))) (datagramOf g (a .x)) (now (a .out)) (c .before .or-else .result) (or-as (c .before .or-else .ensures) (c .before .before .before .reading-refusal .ensures) (c .before .before .shape-refusal .ensures)) (c .if1 .taken))
+    let at-or-else = c .before in
+    let at-shape-refusal = at-or-else .before in
+    let at-reading-refusal = at-shape-refusal .before in
+    let args = at-reading-refusal .before .before .before .before .before .before .before .before .before .args in
+    let a = args in let g = given (now (a .text)) (now (a .ids)) (now (a .promoted)) (now (a .lengths)) (now (a .messages)) in
+    reports (refusalOf g (a .x) (now (a .sizes)) (now (a .configured))) (datagramOf g (a .x)) (now (a .out)) _ _
+    (refuses (refusalOf g (a .x) (now (a .sizes)) (now (a .configured))) (datagramOf g (a .x)) (now (a .out))
+    (at-or-else .or-else .result) (or-as (at-or-else .or-else .ensures) (at-reading-refusal .reading-refusal .ensures) (at-shape-refusal .shape-refusal .ensures)) (c .if1 .taken))
 
 datagram-size-requires : tie.Need-datagram-size-requires
 datagram-size-requires c κs =
-    let a = c .before .before .before .before .before .before .before .before .before .before .before .before .args in let g = given (now (a .text)) (now (a .ids)) (now (a .promoted)) (now (a .lengths)) (now (a .messages)) in all-short g (a .x) (now (a .sizes)) (now (a .configured)) (sym (or-as (c .before .or-else .ensures) (c .before .before .before .reading-refusal .ensures) (c .before .before .shape-refusal .ensures)) ∙ c .if1 .left)
+    let at-or-else = c .before in
+    let at-shape-refusal = at-or-else .before in
+    let at-reading-refusal = at-shape-refusal .before in
+    let args = at-reading-refusal .before .before .before .before .before .before .before .before .before .args in
+    let a = args in let g = given (now (a .text)) (now (a .ids)) (now (a .promoted)) (now (a .lengths)) (now (a .messages)) in
+    all-short g (a .x) (now (a .sizes)) (now (a .configured))
+    (sym (or-as (at-or-else .or-else .ensures) (at-reading-refusal .reading-refusal .ensures) (at-shape-refusal .shape-refusal .ensures)) ∙ c .if1 .left)
 
 returns-2 : tie.Need-returns-2
 returns-2 c =
-    let a = c .before .before .before .before .before .before .before .before .before .before .before .before .before .before .args in let g = given (now (a .text)) (now (a .ids)) (now (a .promoted)) (now (a .lengths)) (now (a .messages)) in reports (refusalOf g (a .x) (now (a .sizes)) (now (a .configured))) (datagramOf g (a .x)) (now (a .out)) _ _ (too-long (refusalOf g (a .x) (now (a .sizes)) (now (a .configured))) (datagramOf g (a .x)) (now (a .out)) (sym (or-as (c .before .before .before .or-else .ensures) (c .before .before .before .before .before .reading-refusal .ensures) (c .before .before .before .before .shape-refusal .ensures)) ∙ c .before .before .if1 .left) (c .before .datagram-size .result) (c .before .datagram-size .ensures) (c .if2 .taken))
+    let at-datagram-size = c .before in
+    let at-if1 = at-datagram-size .before in
+    let at-or-else = at-if1 .before in
+    let at-shape-refusal = at-or-else .before in
+    let at-reading-refusal = at-shape-refusal .before in
+    let args = at-reading-refusal .before .before .before .before .before .before .before .before .before .args in
+    let a = args in let g = given (now (a .text)) (now (a .ids)) (now (a .promoted)) (now (a .lengths)) (now (a .messages)) in
+    reports (refusalOf g (a .x) (now (a .sizes)) (now (a .configured))) (datagramOf g (a .x)) (now (a .out)) _ _
+    (too-long (refusalOf g (a .x) (now (a .sizes)) (now (a .configured))) (datagramOf g (a .x)) (now (a .out))
+    (sym (or-as (at-or-else .or-else .ensures) (at-reading-refusal .reading-refusal .ensures) (at-shape-refusal .shape-refusal .ensures)) ∙ at-if1 .if1 .left)
+    (at-datagram-size .datagram-size .result) (at-datagram-size .datagram-size .ensures) (c .if2 .taken))
 
 returns-3 : tie.Need-returns-3
 returns-3 c =
-    let a = c .before .before .before .before .before .before .before .before .before .before .before .before .before .before .before .args in let g = given (now (a .text)) (now (a .ids)) (now (a .promoted)) (now (a .lengths)) (now (a .messages)) in reports (refusalOf g (a .x) (now (a .sizes)) (now (a .configured))) (datagramOf g (a .x)) (now (a .out)) _ _ (no-room (refusalOf g (a .x) (now (a .sizes)) (now (a .configured))) (datagramOf g (a .x)) (now (a .out)) (sym (or-as (c .before .before .before .before .or-else .ensures) (c .before .before .before .before .before .before .reading-refusal .ensures) (c .before .before .before .before .before .shape-refusal .ensures)) ∙ c .before .before .before .if1 .left) (c .before .before .datagram-size .result) (c .before .before .datagram-size .ensures) (c .before .if2 .left) (c .if3 .taken))
+    let at-if2 = c .before in
+    let at-datagram-size = at-if2 .before in
+    let at-if1 = at-datagram-size .before in
+    let at-or-else = at-if1 .before in
+    let at-shape-refusal = at-or-else .before in
+    let at-reading-refusal = at-shape-refusal .before in
+    let args = at-reading-refusal .before .before .before .before .before .before .before .before .before .args in
+    let a = args in let g = given (now (a .text)) (now (a .ids)) (now (a .promoted)) (now (a .lengths)) (now (a .messages)) in
+    reports (refusalOf g (a .x) (now (a .sizes)) (now (a .configured))) (datagramOf g (a .x)) (now (a .out)) _ _
+    (no-room (refusalOf g (a .x) (now (a .sizes)) (now (a .configured))) (datagramOf g (a .x)) (now (a .out))
+    (sym (or-as (at-or-else .or-else .ensures) (at-reading-refusal .reading-refusal .ensures) (at-shape-refusal .shape-refusal .ensures)) ∙ at-if1 .if1 .left)
+    (at-datagram-size .datagram-size .result) (at-datagram-size .datagram-size .ensures) (at-if2 .if2 .left) (c .if3 .taken))
 
 returns-4 : tie.Need-returns-4
 returns-4 c =
-    let a = c .before .before .before .before .before .before .before .before .before .before .before .before .before .before .before .before .before .before .before .args in let g = given (now (a .text)) (now (a .ids)) (now (a .promoted)) (now (a .lengths)) (now (a .messages)) in let l : length (datagramOf g (a .x)) ≤ length (now (a .out)) = omega (arith, c .before .before .before .before .before .before .datagram-size .ensures, c .before .before .before .before .if3 .left) in reports (refusalOf g (a .x) (now (a .sizes)) (now (a .configured))) (datagramOf g (a .x)) (now (a .out)) _ _ (writes (refusalOf g (a .x) (now (a .sizes)) (now (a .configured))) (datagramOf g (a .x)) (now (a .out)) (sym (or-as (c .before .before .before .before .before .before .before .before .or-else .ensures) (c .before .before .before .before .before .before .before .before .before .before .reading-refusal .ensures) (c .before .before .before .before .before .before .before .before .before .shape-refusal .ensures)) ∙ c .before .before .before .before .before .before .before .if1 .left) (c .before .before .before .before .before .before .datagram-size .result) (c .before .before .before .before .before .before .datagram-size .ensures) (c .before .before .before .before .before .if2 .left) _ (c .before .before .before .before .if3 .left) (whole (c .before .before .put-datagram .ensures) l .0))
+    let at-put-datagram = c .before .before in
+    let at-if3 = at-put-datagram .before .before in
+    let at-if2 = at-if3 .before in
+    let at-datagram-size = at-if2 .before in
+    let at-if1 = at-datagram-size .before in
+    let at-or-else = at-if1 .before in
+    let at-shape-refusal = at-or-else .before in
+    let at-reading-refusal = at-shape-refusal .before in
+    let args = at-reading-refusal .before .before .before .before .before .before .before .before .before .args in
+    let a = args in let g = given (now (a .text)) (now (a .ids)) (now (a .promoted)) (now (a .lengths)) (now (a .messages)) in
+    let l : length (datagramOf g (a .x)) ≤ length (now (a .out)) = omega (arith, at-datagram-size .datagram-size .ensures, at-if3 .if3 .left) in
+    reports (refusalOf g (a .x) (now (a .sizes)) (now (a .configured))) (datagramOf g (a .x)) (now (a .out)) _ _
+    (writes (refusalOf g (a .x) (now (a .sizes)) (now (a .configured))) (datagramOf g (a .x)) (now (a .out))
+    (sym (or-as (at-or-else .or-else .ensures) (at-reading-refusal .reading-refusal .ensures) (at-shape-refusal .shape-refusal .ensures)) ∙ at-if1 .if1 .left)
+    (at-datagram-size .datagram-size .result) (at-datagram-size .datagram-size .ensures) (at-if2 .if2 .left) _ (at-if3 .if3 .left) (whole (at-put-datagram .put-datagram .ensures) l .0))
 
 pub write-spec : {M : Type 1} → statement M
 write-spec =

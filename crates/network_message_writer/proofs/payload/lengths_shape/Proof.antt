@@ -9,15 +9,25 @@ use Rattle.network_message_writer.proofs.payload.lengths_shape.Tie as t
 
 returns : tie.Need-returns
 returns c =
-    rw (c .before .before .before .enum-told .given .1, sym (c .before .before .writers .ensures .0), le-leb _ _ (c .before .if1 .taken)) (c .not-used .ensures)
+    let at-if1 = c .before in
+    let at-writers = at-if1 .before in
+    let at-enum-told = at-writers .before in
+    rw (at-enum-told .enum-told .given .1, sym (at-writers .writers .ensures .0), le-leb _ _ (at-if1 .if1 .taken)) (c .not-used .ensures)
 
 returns-2 : tie.Need-returns-2
 returns-2 c =
-    rw (c .before .before .before .x .given .1, le-leb _ _ (c .before .if2 .taken)) (c .not-used2 .ensures)
+    let at-if2 = c .before in
+    let at-x = at-if2 .before .before in
+    rw (at-x .x .given .1, le-leb _ _ (at-if2 .if2 .taken)) (c .not-used2 .ensures)
 
 returns-3 : tie.Need-returns-3
 returns-3 c =
-    rw (c .before .before .before .before .enum-told .given .1, sym (c .before .before .before .writers .ensures .0), lt-leb _ _ (c .before .before .if1 .left)) (c .must-hold .ensures ∙ ap (λ (b : Bool). cond b 0 6) (c .before .same-numbers .ensures))
+    let at-same-numbers = c .before in
+    let at-if1 = at-same-numbers .before in
+    let at-writers = at-if1 .before in
+    let at-enum-told = at-writers .before in
+    rw (at-enum-told .enum-told .given .1, sym (at-writers .writers .ensures .0), lt-leb _ _ (at-if1 .if1 .left))
+    (c .must-hold .ensures ∙ ap (λ (b : Bool). cond b 0 6) (at-same-numbers .same-numbers .ensures))
 
 returns-4 : tie.Need-returns-4
 returns-4 c = rw (c .before .before .x .given .1, lt-leb _ _ (c .if2 .left))

@@ -14,11 +14,18 @@ returns c = rw (ne-eqb _ _ (c .if1 .taken))
 
 returns-2 : tie.Need-returns-2
 returns-2 c =
-    rw (eq-eqb _ _ (c .before .before .before .if1 .left), sym (c .before .before .tally-listed .ensures .1) ∙ not-true (c .before .before .tally-listed .result .positive) (c .if2 .taken))
+    let at-tally-listed = c .before .before in
+    let at-if1 = at-tally-listed .before in
+    rw (eq-eqb _ _ (at-if1 .if1 .left), sym (at-tally-listed .tally-listed .ensures .1) ∙ not-true (at-tally-listed .tally-listed .result .positive) (c .if2 .taken))
 
 returns-3 : tie.Need-returns-3
 returns-3 c =
-    rw (eq-eqb _ _ (c .before .before .before .before .if1 .left), sym (c .before .before .before .tally-listed .ensures .1) ∙ not-false (c .before .before .before .tally-listed .result .positive) (c .before .if2 .left)) (c .must-equal .ensures ∙ ap (λ (k : ℕ). cond (eqb k (c .before .before .before .before .before .before .args .rest)) 0 6) (c .before .before .before .tally-listed .ensures .0))
+    let at-if2 = c .before in
+    let at-tally-listed = at-if2 .before .before in
+    let at-if1 = at-tally-listed .before in
+    let args = at-if1 .before .before .args in
+    rw (eq-eqb _ _ (at-if1 .if1 .left), sym (at-tally-listed .tally-listed .ensures .1) ∙ not-false (at-tally-listed .tally-listed .result .positive) (at-if2 .if2 .left))
+    (c .must-equal .ensures ∙ ap (λ (k : ℕ). cond (eqb k (args .rest)) 0 6) (at-tally-listed .tally-listed .ensures .0))
 
 pub listed-refusal-spec : {M : Type 1} → statement M
 listed-refusal-spec =

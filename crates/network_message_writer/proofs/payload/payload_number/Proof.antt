@@ -14,7 +14,9 @@ returns c =
 
 returns-2 : tie.Need-returns-2
 returns-2 c =
-    ap numberIn (told answerPayload (c .before .before .before .read-payload .ensures) (c .before .n .given .1))
+    let at-n = c .before in
+    let at-read-payload = at-n .before .before in
+    ap numberIn (told answerPayload (at-read-payload .read-payload .ensures) (at-n .n .given .1))
 
 pub payload-number-spec : {M : Type 1} → statement M
 payload-number-spec =

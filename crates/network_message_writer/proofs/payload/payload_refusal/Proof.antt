@@ -8,14 +8,18 @@ use Rattle.network_message_writer.proofs.payload.payload_refusal.Tie as
 
 returns : tie.Need-returns
 returns c =
-    c .payload-number2 .ensures ∙ rw (c .before .before .before .x .given .1, le-leb _ _ (c .before .if1 .taken))
+    let at-if1 = c .before in
+    let at-x = at-if1 .before .before in
+    c .payload-number2 .ensures ∙ rw (at-x .x .given .1, le-leb _ _ (at-if1 .if1 .taken))
 
 returns-2 : tie.Need-returns-2
 returns-2 c = c .payload-number .ensures ∙ rw (c .before .enum-told .given .1)
 
 returns-3 : tie.Need-returns-3
 returns-3 c =
-    rw (c .before .before .before .x .given .1, lt-leb _ _ (c .before .if1 .left)) (c .listed-refusal .ensures)
+    let at-if1 = c .before in
+    let at-x = at-if1 .before .before in
+    rw (at-x .x .given .1, lt-leb _ _ (at-if1 .if1 .left)) (c .listed-refusal .ensures)
 
 pub payload-refusal-spec : {M : Type 1} → statement M
 payload-refusal-spec =

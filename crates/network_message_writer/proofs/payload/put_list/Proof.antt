@@ -9,19 +9,26 @@ use Rattle.network_message_writer.proofs.payload.put_list.Tie as tie
 
 returns : tie.Need-returns
 returns c =
-    rw (c .before .before .x .given .1, le-leb _ _ (c .if1 .taken)) (nothing (now (c .before .before .before .before .before .before .args .out)) (c .before .before .before .before .before .before .args .at))
+    let at-x = c .before .before in
+    let args = at-x .before .before .before .before .args in
+    rw (at-x .x .given .1, le-leb _ _ (c .if1 .taken)) (nothing (now (args .out)) (args .at))
 
 returns-2 : tie.Need-returns-2
 returns-2 c =
-    rw (c .enum-told .given .1) (nothing (now (c .before .before .before .before .args .out)) (c .before .before .before .before .args .at))
+    let args = c .before .before .before .before .args in
+    rw (c .enum-told .given .1) (nothing (now (args .out)) (args .at))
 
 returns-3 : tie.Need-returns-3
 returns-3 c =
-    rw (c .before .before .before .before .before .before .x .given .1, lt-leb _ _ (c .before .before .before .before .if1 .left)) (puts (c .before .before .put-run .ensures))
+    let at-put-run = c .before .before in
+    let at-if1 = at-put-run .before .before in
+    let at-x = at-if1 .before .before in
+    rw (at-x .x .given .1, lt-leb _ _ (at-if1 .if1 .left)) (puts (at-put-run .put-run .ensures))
 
 returns-4 : tie.Need-returns-4
 returns-4 c =
-    rw (c .enum-told2 .given .1) (nothing (now (c .before .before .before .before .args .out)) (c .before .before .before .before .args .at))
+    let args = c .before .before .before .before .args in
+    rw (c .enum-told2 .given .1) (nothing (now (args .out)) (args .at))
 
 pub put-list-spec : {M : Type 1} → statement M
 put-list-spec =

@@ -7,7 +7,9 @@ use Rattle.network_message_writer.proofs.payload.put_payload.Tie as tie
 
 returns : tie.Need-returns
 returns c =
-    then (c .before .before .before .before .before .before .put-list .ensures) (puts (c .before .before .put-run .ensures))
+    let at-put-run = c .before .before in
+    let at-put-list = at-put-run .before .before .before .before in
+    then (at-put-list .put-list .ensures) (puts (at-put-run .put-run .ensures))
 
 pub put-payload-spec : {M : Type 1} → statement M
 put-payload-spec = tie.close (tie.spec (λ c κs. search needs) (λ c κs. search needs) (λ c. search needs) returns)

@@ -18,7 +18,8 @@ use Rattle.network_message_writer.proofs.payload.tally_listed.Tie as ti
 
 abbrev Inv-loop : tie.InvT-loop
 Inv-loop lengths n p₀ left₀ sum₀ each₀ p left sum each =
-    (left ≤ n) × (p + 2 * left ≡ 2 * n) × (2 * n ≤ length lengths) × (n ≤ 255) × (sum + total (listed left lengths p) ≡ total (listed n lengths 0)) × ((each && positive (listed left lengths p)) ≡ positive (listed n lengths 0)) × (sum + 65535 * left ≤ 65535 * n)
+    (left ≤ n) × (p + 2 * left ≡ 2 * n) × (2 * n ≤ length lengths) × (n ≤ 255) × (sum + total (listed left lengths p) ≡ total (listed n lengths 0))
+    × ((each && positive (listed left lengths p)) ≡ positive (listed n lengths 0)) × (sum + 65535 * left ≤ 65535 * n)
 
 abbrev μ-loop : tie.MeasureT-loop
 μ-loop lengths n p₀ left₀ sum₀ each₀ p left sum each = left
@@ -29,11 +30,26 @@ loop-holds c =
 
 loop-again : tie.Need-loop-again Inv-loop μ-loop
 loop-again c =
-    let s = now (c .before .before .before .before .args .lengths) in let l = c .before .before .loop in let e = listed-step (l .left) s (l .p) (c .before .loop-test .taken) in let z = c .number-at .result in (omega arith, omega arith, omega arith, omega arith, omega (arith, ap total e, c .number-at .ensures .0, l .inv .4), ap (λ (k : ℕ). (l .each && ltb 0 k) && positive (listed (l .left - 1) s (l .p + 2))) (c .number-at .ensures .0) ∙ and-assoc (l .each) (ltb 0 (le 2 s (l .p))) (positive (listed (l .left - 1) s (l .p + 2))) ∙ ap (λ (x : List ℕ). l .each && positive x) (sym e) ∙ l .inv .5, omega arith)
+    let at-loop-test = c .before in
+    let at-loop = at-loop-test .before in
+    let args = at-loop .before .before .args in
+    let s = now (args .lengths) in let l = at-loop .loop in let e = listed-step (l .left) s (l .p) (at-loop-test .loop-test .taken) in let z = c .number-at .result in (
+      omega arith,
+      omega arith,
+      omega arith,
+      omega arith,
+      omega (arith, ap total e, c .number-at .ensures .0, l .inv .4),
+      ap (λ (k : ℕ). (l .each && ltb 0 k) && positive (listed (l .left - 1) s (l .p + 2))) (c .number-at .ensures .0)
+          ∙ and-assoc (l .each) (ltb 0 (le 2 s (l .p))) (positive (listed (l .left - 1) s (l .p + 2))) ∙ ap (λ (x : List ℕ). l .each && positive x) (sym e) ∙ l .inv .5,
+      omega arith,
+    )
 
 returns : tie.Need-returns Inv-loop μ-loop
 returns c =
-    let s = now (c .before .before .before .args .lengths) in let l = c .before .loop in let e = listed-done (l .left) s (l .p) (c .loop-test .left) in (omega (arith, ap total e, l .inv .4), sym (and-true (l .each)) ∙ ap (λ (x : List ℕ). l .each && positive x) (sym e) ∙ l .inv .5)
+    let at-loop = c .before in
+    let args = at-loop .before .before .args in
+    let s = now (args .lengths) in let l = at-loop .loop in let e = listed-done (l .left) s (l .p) (c .loop-test .left) in
+    (omega (arith, ap total e, l .inv .4), sym (and-true (l .each)) ∙ ap (λ (x : List ℕ). l .each && positive x) (sym e) ∙ l .inv .5)
 
 pub tally-listed-spec : {M : Type 1} → statement M
 tally-listed-spec =

@@ -8,10 +8,15 @@ use Rattle.plain_value.proofs.parts.part_if.Tie as tie
 
 returns : tie.Need-returns
 returns c =
-    rw (c .before .before .before .before .if1 .taken, c .before .before .r .given .1) (c .bytes-at .ensures)
+    let at-r = c .before .before in
+    let at-if1 = at-r .before .before in
+    rw (at-if1 .if1 .taken, at-r .r .given .1) (c .bytes-at .ensures)
 
 returns-2 : tie.Need-returns-2
-returns-2 c = rw (c .before .before .before .if1 .taken, c .before .r2 .given .1)
+returns-2 c =
+    let at-r2 = c .before in
+    let at-if1 = at-r2 .before .before in
+    rw (at-if1 .if1 .taken, at-r2 .r2 .given .1)
 
 returns-3 : tie.Need-returns-3
 returns-3 c =

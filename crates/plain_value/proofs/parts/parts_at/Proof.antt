@@ -18,17 +18,23 @@ returns c =
 
 add-t8 : tie.Need-add-t8
 add-t8 c =
-    let a = c .before .before .before .before .before .args in
-    let w = c .before .before .parts-width .result in
-    let h : a .at + w ≤ length (now (a .s)) = leb-true (a .at + w) (length (now (a .s))) (sym (c .before .has .ensures) ∙ c .if2 .taken) in
+    let at-has = c .before in
+    let at-parts-width = at-has .before in
+    let args = at-parts-width .before .before .before .args in
+    let a = args in
+    let w = at-parts-width .parts-width .result in
+    let h : a .at + w ≤ length (now (a .s)) = leb-true (a .at + w) (length (now (a .s))) (sym (at-has .has .ensures) ∙ c .if2 .taken) in
     omega arith
 
 returns-2 : tie.Need-returns-2
 returns-2 c =
-    let a = c .before .before .before .before .before .args in
-    let w = c .before .before .parts-width .result in
-    let h : a .at + w ≤ length (now (a .s)) = leb-true (a .at + w) (length (now (a .s))) (sym (c .before .has .ensures) ∙ c .if2 .taken) in
-    rw (c .before .before .parts-width .ensures) (parts-fit (now (a .s)) (a .m) (a .at) (rw (c .before .before .parts-width .ensures) at h))
+    let at-has = c .before in
+    let at-parts-width = at-has .before in
+    let args = at-parts-width .before .before .before .args in
+    let a = args in
+    let w = at-parts-width .parts-width .result in
+    let h : a .at + w ≤ length (now (a .s)) = leb-true (a .at + w) (length (now (a .s))) (sym (at-has .has .ensures) ∙ c .if2 .taken) in
+    rw (at-parts-width .parts-width .ensures) (parts-fit (now (a .s)) (a .m) (a .at) (rw (at-parts-width .parts-width .ensures) at h))
 
 pub parts-at-spec : {M : Type 1} → statement M
 parts-at-spec =

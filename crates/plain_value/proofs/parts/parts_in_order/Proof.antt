@@ -9,7 +9,11 @@ use Rattle.plain_value.proofs.parts.parts_in_order.Tie as tie
 returns : tie.Need-returns
 unfolding parts
 returns c =
-    rw (c .part-if5 .ensures, c .before .part-if4 .ensures, c .before .before .part-if3 .ensures, c .before .before .before .part-if2 .ensures, c .before .before .before .before .part-if .ensures) (simp then-then)
+    let at-part-if4 = c .before in
+    let at-part-if3 = at-part-if4 .before in
+    let at-part-if2 = at-part-if3 .before in
+    let at-part-if = at-part-if2 .before in
+    rw (c .part-if5 .ensures, at-part-if4 .part-if4 .ensures, at-part-if3 .part-if3 .ensures, at-part-if2 .part-if2 .ensures, at-part-if .part-if .ensures) (simp then-then)
 
 pub parts-in-order-spec : {M : Type 1} → statement M
 parts-in-order-spec =

@@ -12,8 +12,10 @@ use Rattle.plain_value.proofs.plain.bytes_at.Tie as tie
 
 add-t6 : tie.Need-add-t6
 add-t6 c =
-    let a = c .before .before .before .args in
-    let h : a .at + a .n ≤ length (now (a .s)) = leb-true (a .at + a .n) (length (now (a .s))) (sym (c .before .has .ensures) ∙ c .if1 .taken) in
+    let at-has = c .before in
+    let args = at-has .before .before .args in
+    let a = args in
+    let h : a .at + a .n ≤ length (now (a .s)) = leb-true (a .at + a .n) (length (now (a .s))) (sym (at-has .has .ensures) ∙ c .if1 .taken) in
     omega arith
 
 returns : tie.Need-returns

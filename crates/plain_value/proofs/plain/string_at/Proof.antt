@@ -11,22 +11,32 @@ use Rattle.plain_value.proofs.plain.string_at.Tie as tie
 returns : tie.Need-returns
 unfolding string
 returns c =
-    rw (sym (told (answerLength (c .before .before .before .before .before .args .at)) (c .before .before .before .read-length .ensures) (c .before .next .given .1)))
+    let at-next = c .before in
+    let at-read-length = at-next .before .before in
+    let args = at-read-length .before .before .args in
+    rw (sym (told (answerLength (args .at)) (at-read-length .read-length .ensures) (at-next .next .given .1)))
 
 returns-2 : tie.Need-returns-2
 unfolding string
 returns-2 c =
-    rw (sym (told (answerLength (c .before .before .before .before .before .before .args .at)) (c .before .before .before .before .read-length .ensures) (c .before .before .next2 .given .1))) (c .bytes-at .ensures)
+    let at-next2 = c .before .before in
+    let at-read-length = at-next2 .before .before in
+    let args = at-read-length .before .before .args in
+    rw (sym (told (answerLength (args .at)) (at-read-length .read-length .ensures) (at-next2 .next2 .given .1))) (c .bytes-at .ensures)
 
 returns-3 : tie.Need-returns-3
 unfolding string
 returns-3 c =
-    rw (sym (told (answerLength (c .before .before .before .before .args .at)) (c .before .before .read-length .ensures) (c .enum-told .given .1)))
+    let at-read-length = c .before .before in
+    let args = at-read-length .before .before .args in
+    rw (sym (told (answerLength (args .at)) (at-read-length .read-length .ensures) (c .enum-told .given .1)))
 
 returns-4 : tie.Need-returns-4
 unfolding string
 returns-4 c =
-    rw (sym (told (answerLength (c .before .before .before .before .args .at)) (c .before .before .read-length .ensures) (c .enum-told2 .given .1)))
+    let at-read-length = c .before .before in
+    let args = at-read-length .before .before .args in
+    rw (sym (told (answerLength (args .at)) (at-read-length .read-length .ensures) (c .enum-told2 .given .1)))
 
 pub string-at-spec : {M : Type 1} → statement M
 string-at-spec =

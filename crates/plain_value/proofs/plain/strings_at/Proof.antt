@@ -18,11 +18,20 @@ abbrev μ-loop : tie.MeasureT-loop
 
 loop-again : tie.Need-loop-again Inv-loop μ-loop
 loop-again c =
-    c .before .before .before .before .before .loop .inv ∙ each-step string _ (c .before .before .before .before .before .loop .left) (c .before .before .before .before .before .loop .p) (c .before .before .before .before .loop-test .taken) (sym (told answerReached (c .before .before .before .string-at .ensures) (c .before .r .given .1)))
+    let at-r = c .before in
+    let at-string-at = at-r .before .before in
+    let at-loop-test = at-string-at .before in
+    let at-loop = at-loop-test .before in
+    at-loop .loop .inv ∙ each-step string _ (at-loop .loop .left) (at-loop .loop .p) (at-loop-test .loop-test .taken) (sym (told answerReached (at-string-at .string-at .ensures) (at-r .r .given .1)))
 
 returns : tie.Need-returns Inv-loop μ-loop
 returns c =
-    sym (c .before .before .before .before .before .loop .inv ∙ each-stop string _ (c .before .before .before .before .before .loop .left) (c .before .before .before .before .before .loop .p) (c .before .before .before .before .loop-test .taken) (sym (told answerReached (c .before .before .before .string-at .ensures) (c .before .r2 .given .1))))
+    let at-r2 = c .before in
+    let at-string-at = at-r2 .before .before in
+    let at-loop-test = at-string-at .before in
+    let at-loop = at-loop-test .before in
+    sym (at-loop .loop .inv ∙ each-stop string _ (at-loop .loop .left) (at-loop .loop .p) (at-loop-test .loop-test .taken)
+    (sym (told answerReached (at-string-at .string-at .ensures) (at-r2 .r2 .given .1))))
 
 returns-2 : tie.Need-returns-2 Inv-loop μ-loop
 returns-2 c =

@@ -8,27 +8,38 @@ use Rattle.publisher_id.proofs.publisher.put_publisher.Tie as tie
 
 returns : tie.Need-returns
 returns c =
-    rw (c .enum-told .given .1) (nothing (now (c .before .before .before .before .args .out)) (c .before .before .before .before .args .at))
+    let args = c .before .before .before .before .args in
+    rw (c .enum-told .given .1) (nothing (now (args .out)) (args .at))
 
 returns-2 : tie.Need-returns-2
 returns-2 c =
-    rw (c .before .before .before .before .before .p .given .1) (puts (c .before .before .put8 .ensures))
+    let at-put8 = c .before .before in
+    let at-p = at-put8 .before .before .before in
+    rw (at-p .p .given .1) (puts (at-put8 .put8 .ensures))
 
 returns-3 : tie.Need-returns-3
 returns-3 c =
-    rw (c .before .before .before .before .before .p2 .given .1) (puts (c .before .before .put16 .ensures))
+    let at-put16 = c .before .before in
+    let at-p2 = at-put16 .before .before .before in
+    rw (at-p2 .p2 .given .1) (puts (at-put16 .put16 .ensures))
 
 returns-4 : tie.Need-returns-4
 returns-4 c =
-    rw (c .before .before .before .before .before .p3 .given .1) (puts (c .before .before .put32 .ensures))
+    let at-put32 = c .before .before in
+    let at-p3 = at-put32 .before .before .before in
+    rw (at-p3 .p3 .given .1) (puts (at-put32 .put32 .ensures))
 
 returns-5 : tie.Need-returns-5
 returns-5 c =
-    rw (c .before .before .before .before .before .p4 .given .1) (puts (c .before .before .put64 .ensures))
+    let at-put64 = c .before .before in
+    let at-p4 = at-put64 .before .before .before in
+    rw (at-p4 .p4 .given .1) (puts (at-put64 .put64 .ensures))
 
 returns-6 : tie.Need-returns-6
 returns-6 c =
-    rw (c .before .before .before .before .enum-told2 .given .1) (c .before .before .put-text .ensures)
+    let at-put-text = c .before .before in
+    let at-enum-told2 = at-put-text .before .before in
+    rw (at-enum-told2 .enum-told2 .given .1) (at-put-text .put-text .ensures)
 
 pub put-publisher-spec : {M : Type 1} → statement M
 put-publisher-spec =

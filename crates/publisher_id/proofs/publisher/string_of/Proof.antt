@@ -13,11 +13,18 @@ returns c = rw (le-leb _ _ (c .if1 .taken))
 
 returns-2 : tie.Need-returns-2
 returns-2 c =
-    rw (lt-leb _ _ (c .before .before .before .if1 .left), sym (told (answerRun (c .before .before .before .before .before .args .start) (c .before .before .before .before .before .args .n)) (c .before .before .skip .ensures) (c .enum-told .given .1)))
+    let at-skip = c .before .before in
+    let at-if1 = at-skip .before in
+    let args = at-if1 .before .before .args in
+    rw (lt-leb _ _ (at-if1 .if1 .left), sym (told (answerRun (args .start) (args .n)) (at-skip .skip .ensures) (c .enum-told .given .1)))
 
 returns-3 : tie.Need-returns-3
 returns-3 c =
-    rw (lt-leb _ _ (c .before .before .before .before .if1 .left), sym (told (answerRun (c .before .before .before .before .before .before .args .start) (c .before .before .before .before .before .before .args .n)) (c .before .before .before .skip .ensures) (c .before .next .given .1)))
+    let at-next = c .before in
+    let at-skip = at-next .before .before in
+    let at-if1 = at-skip .before in
+    let args = at-if1 .before .before .args in
+    rw (lt-leb _ _ (at-if1 .if1 .left), sym (told (answerRun (args .start) (args .n)) (at-skip .skip .ensures) (at-next .next .given .1)))
 
 pub string-of-spec : {M : Type 1} → statement M
 string-of-spec =

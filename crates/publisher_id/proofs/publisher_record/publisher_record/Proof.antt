@@ -12,7 +12,15 @@ use Rattle.publisher_id.proofs.publisher_record.publisher_record.Tie as
 
 returns : tie.Need-returns
 returns c =
-    record-is (c .before .before .before .before .before .before .before .args .id) (c .before .put-run .ensures ∙ ap (laid (replicate 64 0) 0) (c .before .before .part .ensures ∙ ap (λ (k : ℕ). take (c .before .before .before .before .before .text-length .result) (drop k (now (c .before .before .before .before .before .before .before .args .s)))) (c .before .before .before .left .ensures) ∙ ap (λ (n : ℕ). take n (drop (c .before .before .before .before .before .before .before .args .end - n) (now (c .before .before .before .before .before .before .before .args .s)))) (c .before .before .before .before .before .text-length .ensures)))
+    let at-put-run = c .before in
+    let at-part = at-put-run .before in
+    let at-left = at-part .before in
+    let at-text-length = at-left .before .before in
+    let args = at-text-length .before .before .args in
+    record-is (args .id) (at-put-run .put-run .ensures
+    ∙ ap (laid (replicate 64 0) 0)
+    (at-part .part .ensures ∙ ap (λ (k : ℕ). take (at-text-length .text-length .result) (drop k (now (args .s)))) (at-left .left .ensures)
+    ∙ ap (λ (n : ℕ). take n (drop (args .end - n) (now (args .s)))) (at-text-length .text-length .ensures)))
 
 pub publisher-record-spec : {M : Type 1} → statement M
 publisher-record-spec =

@@ -11,15 +11,40 @@ use Rattle.publisher_id.proofs.publisher_record.same_publisher.Tie as t
 
 returns : tie.Need-returns
 returns c =
-    sym (same-publisher-code (publisherOf (c .before .before .before .args .a)) (publisherOf (c .before .before .before .args .b)) (λ e. c .if1 .taken (c .before .before .code .ensures ∙ e ∙ sym (c .before .code2 .ensures))))
+    let at-code2 = c .before in
+    let at-code = at-code2 .before in
+    let args = at-code .before .args in
+    sym (same-publisher-code (publisherOf (args .a)) (publisherOf (args .b)) (λ e. c .if1 .taken (at-code .code .ensures ∙ e ∙ sym (at-code2 .code2 .ensures))))
 
 returns-2 : tie.Need-returns-2
 returns-2 c =
-    sym (same-publisher-value (publisherOf (c .before .before .before .before .before .before .args .a)) (publisherOf (c .before .before .before .before .before .before .args .b)) (sym (c .before .before .before .before .before .code .ensures) ∙ c .before .before .before .if1 .left ∙ c .before .before .before .before .code2 .ensures) (λ e. c .if2 .taken (c .before .before .value .ensures ∙ e ∙ sym (c .before .value2 .ensures))))
+    let at-value2 = c .before in
+    let at-value = at-value2 .before in
+    let at-if1 = at-value .before in
+    let at-code2 = at-if1 .before in
+    let at-code = at-code2 .before in
+    let args = at-code .before .args in
+    sym (same-publisher-value (publisherOf (args .a)) (publisherOf (args .b))
+    (sym (at-code .code .ensures) ∙ at-if1 .if1 .left ∙ at-code2 .code2 .ensures) (λ e. c .if2 .taken (at-value .value .ensures ∙ e ∙ sym (at-value2 .value2 .ensures))))
 
 returns-3 : tie.Need-returns-3
 returns-3 c =
-    c .same-text .ensures ∙ ap₂ sameText (c .before .before .before .before .part .ensures ∙ ap (λ (n : ℕ). take n (c .before .before .before .before .before .before .before .before .before .before .before .before .before .before .before .args .a .text)) (c .before .before .before .before .before .text-length .ensures)) (c .before .part2 .ensures ∙ ap (λ (n : ℕ). take n (c .before .before .before .before .before .before .before .before .before .before .before .before .before .before .before .args .b .text)) (c .before .before .text-length2 .ensures)) ∙ sym (same-publisher-text (publisherOf (c .before .before .before .before .before .before .before .before .before .before .before .before .before .before .before .args .a)) (publisherOf (c .before .before .before .before .before .before .before .before .before .before .before .before .before .before .before .args .b)) (sym (c .before .before .before .before .before .before .before .before .before .before .before .before .before .before .code .ensures) ∙ c .before .before .before .before .before .before .before .before .before .before .before .before .if1 .left ∙ c .before .before .before .before .before .before .before .before .before .before .before .before .before .code2 .ensures) (sym (c .before .before .before .before .before .before .before .before .before .before .before .value .ensures) ∙ c .before .before .before .before .before .before .before .before .before .if2 .left ∙ c .before .before .before .before .before .before .before .before .before .before .value2 .ensures))
+    let at-part2 = c .before in
+    let at-text-length2 = at-part2 .before in
+    let at-part = at-text-length2 .before .before in
+    let at-text-length = at-part .before in
+    let at-if2 = at-text-length .before .before .before .before in
+    let at-value2 = at-if2 .before in
+    let at-value = at-value2 .before in
+    let at-if1 = at-value .before in
+    let at-code2 = at-if1 .before in
+    let at-code = at-code2 .before in
+    let args = at-code .before .args in
+    c .same-text .ensures ∙ ap₂ sameText
+    (at-part .part .ensures ∙ ap (λ (n : ℕ). take n (args .a .text)) (at-text-length .text-length .ensures))
+    (at-part2 .part2 .ensures ∙ ap (λ (n : ℕ). take n (args .b .text)) (at-text-length2 .text-length2 .ensures))
+    ∙ sym (same-publisher-text (publisherOf (args .a)) (publisherOf (args .b))
+    (sym (at-code .code .ensures) ∙ at-if1 .if1 .left ∙ at-code2 .code2 .ensures) (sym (at-value .value .ensures) ∙ at-if2 .if2 .left ∙ at-value2 .value2 .ensures))
 
 pub same-publisher-spec : {M : Type 1} → statement M
 same-publisher-spec =

@@ -27,16 +27,21 @@ loop-holds c = (omega arith, λ k h. absurd (omega arith))
 
 returns-2 : tie.Need-returns-2 Inv-loop μ-loop
 returns-2 c =
-    sym (Equality.same-text-no _ _ (λ e. c .if2 .taken (ap (λ (l : List ℕ). getD l (c .before .before .before .before .loop .i) 0) e)))
+    let at-loop = c .before .before .before .before in
+    sym (Equality.same-text-no _ _ (λ e. c .if2 .taken (ap (λ (l : List ℕ). getD l (at-loop .loop .i) 0) e)))
 
 loop-again : tie.Need-loop-again Inv-loop μ-loop
 loop-again c =
-    (omega arith, below-more _ _ (c .before .before .before .before .loop .inv .1) (c .if2 .left))
+    let at-loop = c .before .before .before .before in
+    (omega arith, below-more _ _ (at-loop .loop .inv .1) (c .if2 .left))
 
 returns-3 : tie.Need-returns-3 Inv-loop μ-loop
 returns-3 c =
-    let a = c .before .before .before .args in
-    sym (Equality.same-text-yes _ _ (ext-getD 0 (now (a .a)) (now (a .b)) (c .before .before .if1 .left) (λ i h. c .before .loop .inv .1 i (omega arith))))
+    let at-loop = c .before in
+    let at-if1 = at-loop .before in
+    let args = at-if1 .before .args in
+    let a = args in
+    sym (Equality.same-text-yes _ _ (ext-getD 0 (now (a .a)) (now (a .b)) (at-if1 .if1 .left) (λ i h. at-loop .loop .inv .1 i (omega arith))))
 
 pub same-text-spec : {M : Type 1} → statement M
 same-text-spec =

@@ -28,30 +28,40 @@ loop-holds c = (omega arith, refl)
 
 is-marked-requires : tie.Need-is-marked-requires Inv-loop μ-loop
 is-marked-requires c κs =
-    let a = c .before .before .before .before .before .before .args in marks-room inUse (a .total) (c .before .loop .i) (now (a .marks)) (omega arith) (omega arith)
+    let at-loop = c .before in
+    let args = at-loop .before .before .before .before .before .args in
+    let a = args in marks-room inUse (a .total) (at-loop .loop .i) (now (a .marks)) (omega arith) (omega arith)
 
 is-marked-requires-2 : tie.Need-is-marked-requires-2 Inv-loop μ-loop
 is-marked-requires-2 c κs =
-    let a = c .before .before .before .before .before .before .before .before .args in marks-room inUse (a .total) (c .before .before .before .loop .i) (now (a .from-marks)) (omega arith) (omega arith)
+    let at-loop = c .before .before .before in
+    let args = at-loop .before .before .before .before .before .args in
+    let a = args in marks-room inUse (a .total) (at-loop .loop .i) (now (a .from-marks)) (omega arith) (omega arith)
 
 loop-again : tie.Need-loop-again Inv-loop μ-loop
 loop-again c =
-    let a = c .before .before .before .before .before .before .before .before .before .before .before .args in
-    let l = c .before .before .before .before .before .before .loop in
+    let at-is-marked2 = c .before .before in
+    let at-is-marked = at-is-marked2 .before .before in
+    let at-loop = at-is-marked .before .before in
+    let args = at-loop .before .before .before .before .before .args in
+    let a = args in
+    let l = at-loop .loop in
     let p = now (a .payload) in
     let m = now (a .marks) in
     let q = now (a .from) in
     let n = now (a .from-marks) in
     let test = c .differ .ensures
-    ∙ ap₂ (λ (b c : Bool). differs (onlyIf b (getD p (l .i) 0)) (onlyIf c (getD q (l .i) 0))) (c .before .before .before .before .is-marked .ensures) (c .before .before .is-marked2 .ensures)
+    ∙ ap₂ (λ (b c : Bool). differs (onlyIf b (getD p (l .i) 0)) (onlyIf c (getD q (l .i) 0))) (at-is-marked .is-marked .ensures) (at-is-marked2 .is-marked2 .ensures)
     ∙ sym (clash-step-marked inUse (a .total) p m q n (l .i) (omega arith)) in
     (omega arith, ap₂ _||_ test (l .inv .1) ∙ sym (any-step (l .i) (λ k. differs (markedView inUse (a .total) p m k) (markedView inUse (a .total) q n k))))
 
 returns : tie.Need-returns Inv-loop μ-loop
 unfolding clash
 returns c =
-    let a = c .before .before .before .before .before .before .args in
-    let l = c .before .loop in
+    let at-loop = c .before in
+    let args = at-loop .before .before .before .before .before .args in
+    let a = args in
+    let l = at-loop .loop in
     let e : l .i ≡ a .total = omega arith in
     l .inv .1 ∙ ap (λ (n : ℕ). anyBelow n (λ k. differs (markedView inUse (a .total) (now (a .payload)) (now (a .marks)) k) (markedView inUse (a .total) (now (a .from)) (now (a .from-marks)) k))) e
 

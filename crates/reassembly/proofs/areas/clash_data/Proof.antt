@@ -30,26 +30,33 @@ loop-holds c = (omega arith, refl)
 
 is-marked-requires : tie.Need-is-marked-requires Inv-loop μ-loop
 is-marked-requires c κs =
-    let a = c .before .before .before .before .before .args in
-    marks-room inUse (a .offset + length (now (a .bytes))) (a .offset + c .before .loop .j) (now (a .marks)) (omega arith) (omega arith)
+    let at-loop = c .before in
+    let args = at-loop .before .before .before .before .args in
+    let a = args in
+    marks-room inUse (a .offset + length (now (a .bytes))) (a .offset + at-loop .loop .j) (now (a .marks)) (omega arith) (omega arith)
 
 loop-again : tie.Need-loop-again Inv-loop μ-loop
 loop-again c =
-    let a = c .before .before .before .before .before .before .before .before .before .args in
-    let l = c .before .before .before .before .before .loop in
+    let at-is-marked = c .before .before .before in
+    let at-loop = at-is-marked .before .before in
+    let args = at-loop .before .before .before .before .args in
+    let a = args in
+    let l = at-loop .loop in
     let at = a .offset in
     let d = now (a .bytes) in
     let p = now (a .payload) in
     let m = now (a .marks) in
     let test = c .differ .ensures
-    ∙ ap (λ (b : Bool). differs (onlyIf b (getD p (at + l .j) 0)) (some (getD d (l .j) 0))) (c .before .before .before .is-marked .ensures)
+    ∙ ap (λ (b : Bool). differs (onlyIf b (getD p (at + l .j) 0)) (some (getD d (l .j) 0))) (at-is-marked .is-marked .ensures)
     ∙ sym (clash-step-data inUse (at + length d) p m at d (l .j) (omega arith) (omega arith)) in
     (omega arith, ap₂ _||_ test (l .inv .1) ∙ sym (any-step (l .j) (differsAt (markedView inUse (at + length d) p m) at d)))
 
 returns : tie.Need-returns Inv-loop μ-loop
 returns c =
-    let a = c .before .before .before .before .before .args in
-    let l = c .before .loop in
+    let at-loop = c .before in
+    let args = at-loop .before .before .before .before .args in
+    let a = args in
+    let l = at-loop .loop in
     let at = a .offset in
     let d = now (a .bytes) in
     let v = markedView inUse (at + length d) (now (a .payload)) (now (a .marks)) in

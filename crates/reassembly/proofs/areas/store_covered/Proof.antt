@@ -26,20 +26,26 @@ abbrev μ-loop : tie.MeasureT-loop
 
 loop-holds : tie.Need-loop-holds Inv-loop μ-loop
 loop-holds c =
-    let a = c .before .before .before .args in (omega arith, refl, laid-start (markedView inUse (a .total) (now (a .from)) (now (a .from-marks))) (now (a .payload)) 0 (λ i h. absurd (omega arith)))
+    let args = c .before .before .before .args in
+    let a = args in (omega arith, refl, laid-start (markedView inUse (a .total) (now (a .from)) (now (a .from-marks))) (now (a .payload)) 0 (λ i h. absurd (omega arith)))
 
 is-marked-requires : tie.Need-is-marked-requires Inv-loop μ-loop
 is-marked-requires c κs =
-    let a = c .before .before .before .before .before .args in marks-room inUse (a .total) (c .before .loop .i) (now (a .from-marks)) (omega arith) (omega arith)
+    let at-loop = c .before in
+    let args = at-loop .before .before .before .before .args in
+    let a = args in marks-room inUse (a .total) (at-loop .loop .i) (now (a .from-marks)) (omega arith) (omega arith)
 
 loop-again : tie.Need-loop-again Inv-loop μ-loop
 loop-again c =
-    let a = c .before .before .before .before .before .before .before .before .before .args in
-    let l = c .before .before .before .before .before .loop in
+    let at-is-marked = c .before .before .before in
+    let at-loop = at-is-marked .before .before in
+    let args = at-loop .before .before .before .before .args in
+    let a = args in
+    let l = at-loop .loop in
     let p = now (a .payload) in
     let v = markedView inUse (a .total) (now (a .from)) (now (a .from-marks)) in
     let byte = c .choose .ensures
-    ∙ ap (λ (b : Bool). cond b (getD (now (a .from)) (l .i) 0) (getD (l .payload) (l .i) 0)) (c .before .before .before .is-marked .ensures)
+    ∙ ap (λ (b : Bool). cond b (getD (now (a .from)) (l .i) 0) (getD (l .payload) (l .i) 0)) (at-is-marked .is-marked .ensures)
     ∙ chosen inUse (a .total) (now (a .from)) (now (a .from-marks)) (l .i) (getD (l .payload) (l .i) 0) (omega arith)
     ∙ ap (λ (q : List ℕ). Option·getD (v (l .i)) (getD q (l .i) 0)) (l .inv .2)
     ∙ ap (Option·getD (v (l .i))) (laid-at v p (l .i) (omega arith)) in (
@@ -53,9 +59,12 @@ same-length c = c .before .loop .inv .1
 
 returns : tie.Need-returns Inv-loop μ-loop
 returns c =
-    let a = c .before .before .before .before .before .args in
-    let l = c .before .loop in
-    l .inv .2 ∙ laid-end (markedView inUse (a .total) (now (a .from)) (now (a .from-marks))) (now (a .payload)) (l .i) (λ i h. marked-above inUse (a .total) (now (a .from)) (now (a .from-marks)) i (omega arith))
+    let at-loop = c .before in
+    let args = at-loop .before .before .before .before .args in
+    let a = args in
+    let l = at-loop .loop in
+    l .inv .2 ∙ laid-end (markedView inUse (a .total) (now (a .from)) (now (a .from-marks))) (now (a .payload)) (l .i)
+    (λ i h. marked-above inUse (a .total) (now (a .from)) (now (a .from-marks)) i (omega arith))
 
 pub store-covered-spec : {M : Type 1} → statement M
 store-covered-spec =

@@ -28,8 +28,10 @@ loop-holds c =
 
 loop-again : tie.Need-loop-again Inv-loop μ-loop
 loop-again c =
-    let a = c .before .before .before .args in
-    let l = c .before .before .loop in
+    let at-loop = c .before .before in
+    let args = at-loop .before .args in
+    let a = args in
+    let l = at-loop .loop in
     let at = a .offset in
     let d = now (a .bytes) in
     let p = now (a .payload) in

@@ -13,17 +13,27 @@ returns c = simp (lt-leb _ _ (c .if1 .taken))
 returns-2 : tie.Need-returns-2
 unfolding admissionOf
 returns-2 c =
-    simp (le-leb _ _ (c .before .before .if1 .left), not-true (c .before .before .before .before .args .rec .started) (c .if2 .taken))
+    let at-if1 = c .before .before in
+    let args = at-if1 .before .before .args in
+    simp (le-leb _ _ (at-if1 .if1 .left), not-true (args .rec .started) (c .if2 .taken))
 
 returns-3 : tie.Need-returns-3
 unfolding admissionOf
 returns-3 c =
-    simp (le-leb _ _ (c .before .before .before .before .before .if1 .left), not-false (c .before .before .before .before .before .before .before .args .rec .started) (c .before .before .before .if2 .left), sym (c .before .same-message .ensures) ∙ not-true _ (c .if3 .taken))
+    let at-same-message = c .before in
+    let at-if2 = at-same-message .before .before in
+    let at-if1 = at-if2 .before .before in
+    let args = at-if1 .before .before .args in
+    simp (le-leb _ _ (at-if1 .if1 .left), not-false (args .rec .started) (at-if2 .if2 .left), sym (at-same-message .same-message .ensures) ∙ not-true _ (c .if3 .taken))
 
 returns-4 : tie.Need-returns-4
 unfolding admissionOf
 returns-4 c =
-    simp (le-leb _ _ (c .before .before .before .before .before .if1 .left), not-false (c .before .before .before .before .before .before .before .args .rec .started) (c .before .before .before .if2 .left), sym (c .before .same-message .ensures) ∙ not-false _ (c .if3 .left))
+    let at-same-message = c .before in
+    let at-if2 = at-same-message .before .before in
+    let at-if1 = at-if2 .before .before in
+    let args = at-if1 .before .before .args in
+    simp (le-leb _ _ (at-if1 .if1 .left), not-false (args .rec .started) (at-if2 .if2 .left), sym (at-same-message .same-message .ensures) ∙ not-false _ (c .if3 .left))
 
 pub admit-spec : {M : Type 1} → statement M
 admit-spec = tie.close (tie.spec returns returns-2 (λ c κs. search needs) returns-3 returns-4)

@@ -15,28 +15,40 @@ use Rattle.reassembly.proofs.judge.judge_chunk.Tie as tie
 
 clash-data-requires : tie.Need-clash-data-requires
 clash-data-requires c κs =
-    let a = c .before .before .before .before .before .before .args in
-    data-room (partial (a .rec) (now (a .payload)) (now (a .marks))) (a .m) (a .offset) (now (a .bytes)) (c .before .before .before .before .before .before .pre .0) (c .before .before .before .before .before .before .pre .1) (sym (c .before .before .admit .ensures) ∙ c .enum-told2 .given .1)
+    let at-admit = c .before .before in
+    let at-pre = at-admit .before .before .before .before in
+    let a = at-pre .args in
+    data-room (partial (a .rec) (now (a .payload)) (now (a .marks))) (a .m) (a .offset) (now (a .bytes)) (at-pre .pre .0) (at-pre .pre .1) (sym (at-admit .admit .ensures) ∙ c .enum-told2 .given .1)
 
 returns : tie.Need-returns
 returns c =
-    let a = c .before .before .before .before .before .before .before .args in
+    let at-n = c .before in
+    let at-admit = at-n .before .before in
+    let at-pre = at-admit .before .before .before .before in
+    let a = at-pre .args in
     let s = partial (a .rec) (now (a .payload)) (now (a .marks)) in
-    sym (reading-admits s (a .m) (a .offset) (now (a .bytes)) (c .before .before .before .before .before .before .before .pre .0)
-    ∙ ap (λ (x : Admission). admitted x (clash (a .rec .message .total) (viewOf s) (dataView (a .offset) (now (a .bytes))))) (sym (c .before .before .before .admit .ensures) ∙ c .before .n .given .1))
+    sym (reading-admits s (a .m) (a .offset) (now (a .bytes)) (at-pre .pre .0)
+    ∙ ap (λ (x : Admission). admitted x (clash (a .rec .message .total) (viewOf s) (dataView (a .offset) (now (a .bytes))))) (sym (at-admit .admit .ensures) ∙ at-n .n .given .1))
 
 returns-2 : tie.Need-returns-2
 returns-2 c =
-    let a = c .before .before .before .before .before .before .args in
+    let at-admit = c .before .before in
+    let at-pre = at-admit .before .before .before .before in
+    let a = at-pre .args in
     let s = partial (a .rec) (now (a .payload)) (now (a .marks)) in
-    sym (reading-admits s (a .m) (a .offset) (now (a .bytes)) (c .before .before .before .before .before .before .pre .0)
-    ∙ ap (λ (x : Admission). admitted x (clash (a .rec .message .total) (viewOf s) (dataView (a .offset) (now (a .bytes))))) (sym (c .before .before .admit .ensures) ∙ c .enum-told .given .1))
+    sym (reading-admits s (a .m) (a .offset) (now (a .bytes)) (at-pre .pre .0)
+    ∙ ap (λ (x : Admission). admitted x (clash (a .rec .message .total) (viewOf s) (dataView (a .offset) (now (a .bytes))))) (sym (at-admit .admit .ensures) ∙ c .enum-told .given .1))
 
 returns-3 : tie.Need-returns-3
 returns-3 c =
-    let a = c .before .before .before .before .before .before .before .before .args in
-    c .unless-clash .ensures ∙ ap (λ (b : Bool). cond b (Refused 14 0) Done) (c .before .clash-data .ensures)
-    ∙ sym (reading-same (partial (a .rec) (now (a .payload)) (now (a .marks))) (a .m) (a .offset) (now (a .bytes)) (c .before .before .before .before .before .before .before .before .pre .0) (c .before .before .before .before .before .before .before .before .pre .1) (sym (c .before .before .before .before .admit .ensures) ∙ c .before .before .enum-told2 .given .1))
+    let at-clash-data = c .before in
+    let at-enum-told2 = at-clash-data .before in
+    let at-admit = at-enum-told2 .before .before in
+    let at-pre = at-admit .before .before .before .before in
+    let a = at-pre .args in
+    c .unless-clash .ensures ∙ ap (λ (b : Bool). cond b (Refused 14 0) Done) (at-clash-data .clash-data .ensures)
+    ∙ sym (reading-same (partial (a .rec) (now (a .payload)) (now (a .marks))) (a .m) (a .offset) (now (a .bytes)) (at-pre .pre .0)
+    (at-pre .pre .1) (sym (at-admit .admit .ensures) ∙ at-enum-told2 .enum-told2 .given .1))
 
 pub judge-chunk-spec : {M : Type 1} → statement M
 judge-chunk-spec =

@@ -12,30 +12,51 @@ use Rattle.reassembly.proofs.operations.ask_complete.Tie as tie
 
 returns : tie.Need-returns
 returns c =
-    let a = c .before .before .before .before .args in
-    ap saidOf (sym (ask-unsound (partial (a .rec) (now (a .payload)) (now (a .marks))) (sym (c .before .is-sound .ensures) ∙ not-true _ (c .if1 .taken))))
+    let at-is-sound = c .before in
+    let args = at-is-sound .before .before .before .args in
+    let a = args in
+    ap saidOf (sym (ask-unsound (partial (a .rec) (now (a .payload)) (now (a .marks))) (sym (at-is-sound .is-sound .ensures) ∙ not-true _ (c .if1 .taken))))
 
 returns-2 : tie.Need-returns-2
 returns-2 c =
-    let a = c .before .before .before .before .before .before .args in
-    ap saidOf (sym (ask-idle (partial (a .rec) (now (a .payload)) (now (a .marks))) (sym (c .before .before .before .is-sound .ensures) ∙ not-false _ (c .before .before .if1 .left)) (not-true _ (c .if2 .taken))))
+    let at-if1 = c .before .before in
+    let at-is-sound = at-if1 .before in
+    let args = at-is-sound .before .before .before .args in
+    let a = args in
+    ap saidOf (sym (ask-idle (partial (a .rec) (now (a .payload)) (now (a .marks))) (sym (at-is-sound .is-sound .ensures) ∙ not-false _ (at-if1 .if1 .left)) (not-true _ (c .if2 .taken))))
 
 all-marked-requires : tie.Need-all-marked-requires
 all-marked-requires c κs =
-    let a = c .before .before .before .before .before .before .before .args in
-    let ok = sym (c .before .before .before .before .is-sound .ensures) ∙ not-false _ (c .before .before .before .if1 .left) in
+    let at-if2 = c .before in
+    let at-if1 = at-if2 .before .before in
+    let at-is-sound = at-if1 .before in
+    let args = at-is-sound .before .before .before .args in
+    let a = args in
+    let ok = sym (at-is-sound .is-sound .ensures) ∙ not-false _ (at-if1 .if1 .left) in
     let s = partial (a .rec) (now (a .payload)) (now (a .marks)) in
-    sound-marks s ok (a .rec .message .total) (sound-total s ok (not-false _ (c .before .if2 .left)))
+    sound-marks s ok (a .rec .message .total) (sound-total s ok (not-false _ (at-if2 .if2 .left)))
 
 returns-3 : tie.Need-returns-3
 returns-3 c =
-    let a = c .before .before .before .before .before .before .before .before .before .args in
-    ap saidOf (sym (ask-held (partial (a .rec) (now (a .payload)) (now (a .marks))) (sym (c .before .before .before .before .before .before .is-sound .ensures) ∙ not-false _ (c .before .before .before .before .before .if1 .left)) (not-false _ (c .before .before .before .if2 .left)) true (sym (c .before .all-marked .ensures) ∙ c .if3 .taken)))
+    let at-all-marked = c .before in
+    let at-if2 = at-all-marked .before .before in
+    let at-if1 = at-if2 .before .before in
+    let at-is-sound = at-if1 .before in
+    let args = at-is-sound .before .before .before .args in
+    let a = args in
+    ap saidOf (sym (ask-held (partial (a .rec) (now (a .payload)) (now (a .marks)))
+    (sym (at-is-sound .is-sound .ensures) ∙ not-false _ (at-if1 .if1 .left)) (not-false _ (at-if2 .if2 .left)) true (sym (at-all-marked .all-marked .ensures) ∙ c .if3 .taken)))
 
 returns-4 : tie.Need-returns-4
 returns-4 c =
-    let a = c .before .before .before .before .before .before .before .before .before .args in
-    ap saidOf (sym (ask-held (partial (a .rec) (now (a .payload)) (now (a .marks))) (sym (c .before .before .before .before .before .before .is-sound .ensures) ∙ not-false _ (c .before .before .before .before .before .if1 .left)) (not-false _ (c .before .before .before .if2 .left)) false (sym (c .before .all-marked .ensures) ∙ c .if3 .left)))
+    let at-all-marked = c .before in
+    let at-if2 = at-all-marked .before .before in
+    let at-if1 = at-if2 .before .before in
+    let at-is-sound = at-if1 .before in
+    let args = at-is-sound .before .before .before .args in
+    let a = args in
+    ap saidOf (sym (ask-held (partial (a .rec) (now (a .payload)) (now (a .marks)))
+    (sym (at-is-sound .is-sound .ensures) ∙ not-false _ (at-if1 .if1 .left)) (not-false _ (at-if2 .if2 .left)) false (sym (at-all-marked .all-marked .ensures) ∙ c .if3 .left)))
 
 pub ask-complete-spec : {M : Type 1} → statement M
 ask-complete-spec =

@@ -8,7 +8,9 @@ returns c = (rw (c .if1 .taken), rw (c .if1 .taken))
 
 returns-2 : tie.Need-returns-2
 returns-2 c =
-    (rw (c .before .before .before .before .if1 .left), rw (c .before .before .before .before .if1 .left) (c .before .before .clear .ensures))
+    let at-clear = c .before .before in
+    let at-if1 = at-clear .before .before in
+    (rw (at-if1 .if1 .left), rw (at-if1 .if1 .left) (at-clear .clear .ensures))
 
 pub begin-spec : {M : Type 1} → statement M
 begin-spec = tie.close (tie.spec returns (λ c κs. search needs) (λ c. search needs) returns-2)

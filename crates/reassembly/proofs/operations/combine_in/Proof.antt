@@ -12,41 +12,64 @@ use Rattle.reassembly.proofs.operations.combine_in.Tie as tie
 
 returns : tie.Need-returns
 returns c =
-    let a = c .before .before .before .before .before .before .before .before .before .args in
+    let at-judge-combine = c .before .before in
+    let args = at-judge-combine .before .before .before .before .before .before .before .args in
+    let a = args in
     let s = partial (a .rec) (now (a .payload)) (now (a .marks)) in
     let f = partial (a .source) (now (a .from)) (now (a .from-marks)) in
     joined _ s f (ap (λ (v : Verdict). record { verdict = v; after = s }) (c .enum-told .given .1)
-    ∙ sym (combine-refused s f _ _ (sym (c .before .before .judge-combine .ensures) ∙ c .enum-told .given .1)))
+    ∙ sym (combine-refused s f _ _ (sym (at-judge-combine .judge-combine .ensures) ∙ c .enum-told .given .1)))
 
 returns-2 : tie.Need-returns-2
 returns-2 c =
-    let a = c .before .before .before .before .before .before .before .before .before .before .before .args in
+    let at-enum-told2 = c .before .before in
+    let at-judge-combine = at-enum-told2 .before .before in
+    let args = at-judge-combine .before .before .before .before .before .before .before .args in
+    let a = args in
     let s = partial (a .rec) (now (a .payload)) (now (a .marks)) in
     let f = partial (a .source) (now (a .from)) (now (a .from-marks)) in
-    joined _ s f (ap (λ (v : Verdict). record { verdict = v; after = s }) (c .before .before .enum-told2 .given .1)
-    ∙ sym (combine-done-idle s f (sym (c .before .before .before .before .judge-combine .ensures) ∙ c .before .before .enum-told2 .given .1) (not-true _ (c .if1 .taken))))
+    joined _ s f (ap (λ (v : Verdict). record { verdict = v; after = s }) (at-enum-told2 .enum-told2 .given .1)
+    ∙ sym (combine-done-idle s f (sym (at-judge-combine .judge-combine .ensures) ∙ at-enum-told2 .enum-told2 .given .1) (not-true _ (c .if1 .taken))))
 
 store-covered-requires : tie.Need-store-covered-requires
 store-covered-requires c κs =
-    let a = c .before .before .before .before .before .before .before .before .before .before .before .before .before .before .before .before .before .args in
+    let at-if1 = c .before .before .before .before .before .before in
+    let at-enum-told2 = at-if1 .before .before in
+    let at-judge-combine = at-enum-told2 .before .before in
+    let args = at-judge-combine .before .before .before .before .before .before .before .args in
+    let a = args in
     let s = partial (a .rec) (now (a .payload)) (now (a .marks)) in
     let f = partial (a .source) (now (a .from)) (now (a .from-marks)) in
-    let r = combined-room s f (sym (c .before .before .before .before .before .before .before .before .before .before .judge-combine .ensures) ∙ c .before .before .before .before .before .before .before .before .enum-told2 .given .1) (not-false _ (c .before .before .before .before .before .before .if1 .left)) in
+    let r = combined-room s f (sym (at-judge-combine .judge-combine .ensures) ∙ at-enum-told2 .enum-told2 .given .1) (not-false _ (at-if1 .if1 .left)) in
     (r .0, r .2, r .3)
 
 mark-marked-requires : tie.Need-mark-marked-requires
 mark-marked-requires c κs =
-    let a = c .before .before .before .before .before .before .before .before .before .before .before .before .before .before .before .before .before .before .before .before .before .args in
+    let at-begin = c .before .before .before .before .before .before .before in
+    let at-if1 = at-begin .before .before .before in
+    let at-enum-told2 = at-if1 .before .before in
+    let at-judge-combine = at-enum-told2 .before .before in
+    let args = at-judge-combine .before .before .before .before .before .before .before .args in
+    let a = args in
     let s = partial (a .rec) (now (a .payload)) (now (a .marks)) in
     let f = partial (a .source) (now (a .from)) (now (a .from-marks)) in
-    combined-marks s f (sym (c .before .before .before .before .before .before .before .before .before .before .before .before .before .before .judge-combine .ensures) ∙ c .before .before .before .before .before .before .before .before .before .before .before .before .enum-told2 .given .1) (not-false _ (c .before .before .before .before .before .before .before .before .before .before .if1 .left)) _ (c .before .before .before .before .before .before .before .begin .ensures .1)
+    combined-marks s f (sym (at-judge-combine .judge-combine .ensures) ∙ at-enum-told2 .enum-told2 .given .1) (not-false _ (at-if1 .if1 .left)) _ (at-begin .begin .ensures .1)
 
 returns-3 : tie.Need-returns-3
 returns-3 c =
-    let a = c .before .before .before .before .before .before .before .before .before .before .before .before .before .before .before .before .before .before .before .before .before .before .before .before .args in
+    let at-mark-marked = c .before .before in
+    let at-store-covered = at-mark-marked .before .before .before .before in
+    let at-begin = at-store-covered .before .before .before .before in
+    let at-if1 = at-begin .before .before .before in
+    let at-enum-told2 = at-if1 .before .before in
+    let at-judge-combine = at-enum-told2 .before .before in
+    let args = at-judge-combine .before .before .before .before .before .before .before .args in
+    let a = args in
     let s = partial (a .rec) (now (a .payload)) (now (a .marks)) in
     let f = partial (a .source) (now (a .from)) (now (a .from-marks)) in
-    joined _ s f (combined s f (sym (c .before .before .before .before .before .before .before .before .before .before .before .before .before .before .before .before .before .judge-combine .ensures) ∙ c .before .before .before .before .before .before .before .before .before .before .before .before .before .before .before .enum-told2 .given .1) (not-false _ (c .before .before .before .before .before .before .before .before .before .before .before .before .before .if1 .left)) _ _ _ _ _ (c .before .before .before .before .before .before .before .before .before .before .before .before .before .before .before .enum-told2 .given .1) (c .before .before .before .before .before .before .before .before .before .before .begin .ensures .0) (c .before .before .before .before .before .before .store-covered .ensures) (c .before .before .before .before .before .before .before .before .before .before .begin .ensures .1) (c .before .before .mark-marked .ensures))
+    joined _ s f (combined s f (sym (at-judge-combine .judge-combine .ensures) ∙ at-enum-told2 .enum-told2 .given .1)
+    (not-false _ (at-if1 .if1 .left)) _ _ _ _ _ (at-enum-told2 .enum-told2 .given .1) (at-begin .begin .ensures .0)
+    (at-store-covered .store-covered .ensures) (at-begin .begin .ensures .1) (at-mark-marked .mark-marked .ensures))
 
 pub combine-in-spec : {M : Type 1} → statement M
 combine-in-spec =

@@ -14,19 +14,28 @@ use Rattle.reassembly.proofs.operations.hand_out.Tie as tie
 returns : tie.Need-returns
 unfolding handOut
 returns c =
-    rw (sym (handed-verdict (partial (c .before .before .before .before .before .before .args .rec) (now (c .before .before .before .before .before .before .args .payload)) (now (c .before .before .before .before .before .before .args .marks))) _ (c .before .before .before .hand-out-verdict .ensures)) ∙ c .before .enum-told .given .1)
+    let at-enum-told = c .before in
+    let at-hand-out-verdict = at-enum-told .before .before in
+    let args = at-hand-out-verdict .before .before .before .args in
+    rw (sym (handed-verdict (partial (args .rec) (now (args .payload)) (now (args .marks))) _ (at-hand-out-verdict .hand-out-verdict .ensures)) ∙ at-enum-told .enum-told .given .1)
 
 slice-aggregate-result-2 : tie.Need-slice-aggregate-result-2
 slice-aggregate-result-2 c =
-    let a = c .before .before .before .before .before .before .before .args in
+    let at-enum-told2 = c .before .before in
+    let at-hand-out-verdict = at-enum-told2 .before .before in
+    let args = at-hand-out-verdict .before .before .before .args in
+    let a = args in
     let s = partial (a .rec) (now (a .payload)) (now (a .marks)) in
-    let e = sym (handed-verdict (partial (c .before .before .before .before .before .before .before .args .rec) (now (c .before .before .before .before .before .before .before .args .payload)) (now (c .before .before .before .before .before .before .before .args .marks))) _ (c .before .before .before .before .hand-out-verdict .ensures)) ∙ c .before .before .enum-told2 .given .1 in
+    let e = sym (handed-verdict (partial (args .rec) (now (args .payload)) (now (args .marks))) _ (at-hand-out-verdict .hand-out-verdict .ensures)) ∙ at-enum-told2 .enum-told2 .given .1 in
     sym (length-take-le (a .rec .message .total) (now (a .payload)) (sound-total s (hand-sound s e) (hand-started s e)))
 
 returns-2 : tie.Need-returns-2
 unfolding handOut
 returns-2 c =
-    rw (sym (handed-verdict (partial (c .before .before .before .before .before .before .before .args .rec) (now (c .before .before .before .before .before .before .before .args .payload)) (now (c .before .before .before .before .before .before .before .args .marks))) _ (c .before .before .before .before .hand-out-verdict .ensures)) ∙ c .before .before .enum-told2 .given .1)
+    let at-enum-told2 = c .before .before in
+    let at-hand-out-verdict = at-enum-told2 .before .before in
+    let args = at-hand-out-verdict .before .before .before .args in
+    rw (sym (handed-verdict (partial (args .rec) (now (args .payload)) (now (args .marks))) _ (at-hand-out-verdict .hand-out-verdict .ensures)) ∙ at-enum-told2 .enum-told2 .given .1)
 
 pub hand-out-spec : {M : Type 1} → statement M
 hand-out-spec =

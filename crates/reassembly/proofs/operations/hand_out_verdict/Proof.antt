@@ -13,18 +13,28 @@ use Rattle.reassembly.proofs.operations.hand_out_verdict.Tie as tie
 
 returns : tie.Need-returns
 returns c =
-    let a = c .before .before .before .before .before .args in
-    ap (λ (v : Verdict). handedOf v (handOut (partial (a .rec) (now (a .payload)) (now (a .marks))))) (sym (hand-yes (partial (a .rec) (now (a .payload)) (now (a .marks))) (sym (one-said _ _ (c .before .before .ask-complete .ensures)) ∙ c .enum-told .given .1)))
+    let at-ask-complete = c .before .before in
+    let args = at-ask-complete .before .before .before .args in
+    let a = args in
+    ap (λ (v : Verdict). handedOf v (handOut (partial (a .rec) (now (a .payload)) (now (a .marks)))))
+    (sym (hand-yes (partial (a .rec) (now (a .payload)) (now (a .marks))) (sym (one-said _ _ (at-ask-complete .ask-complete .ensures)) ∙ c .enum-told .given .1)))
 
 returns-2 : tie.Need-returns-2
 returns-2 c =
-    let a = c .before .before .before .before .before .args in
-    ap (λ (v : Verdict). handedOf v (handOut (partial (a .rec) (now (a .payload)) (now (a .marks))))) (sym (hand-no (partial (a .rec) (now (a .payload)) (now (a .marks))) (sym (one-said _ _ (c .before .before .ask-complete .ensures)) ∙ c .enum-told2 .given .1)))
+    let at-ask-complete = c .before .before in
+    let args = at-ask-complete .before .before .before .args in
+    let a = args in
+    ap (λ (v : Verdict). handedOf v (handOut (partial (a .rec) (now (a .payload)) (now (a .marks)))))
+    (sym (hand-no (partial (a .rec) (now (a .payload)) (now (a .marks))) (sym (one-said _ _ (at-ask-complete .ask-complete .ensures)) ∙ c .enum-told2 .given .1)))
 
 returns-3 : tie.Need-returns-3
 returns-3 c =
-    let a = c .before .before .before .before .before .before .args in
-    ap (λ (v : Verdict). handedOf v (handOut (partial (a .rec) (now (a .payload)) (now (a .marks))))) (sym (hand-refused (partial (a .rec) (now (a .payload)) (now (a .marks))) _ _ (sym (one-said _ _ (c .before .before .before .ask-complete .ensures)) ∙ c .before .n .given .1)))
+    let at-n = c .before in
+    let at-ask-complete = at-n .before .before in
+    let args = at-ask-complete .before .before .before .args in
+    let a = args in
+    ap (λ (v : Verdict). handedOf v (handOut (partial (a .rec) (now (a .payload)) (now (a .marks)))))
+    (sym (hand-refused (partial (a .rec) (now (a .payload)) (now (a .marks))) _ _ (sym (one-said _ _ (at-ask-complete .ask-complete .ensures)) ∙ at-n .n .given .1)))
 
 pub hand-out-verdict-spec : {M : Type 1} → statement M
 hand-out-verdict-spec =

@@ -8,7 +8,9 @@ use Rattle.reassembly.proofs.operations.message_of.Tie as tie
 
 returns : tie.Need-returns
 returns c =
-    message-is (c .before .before .before .args .c) (now (c .before .before .before .args .s)) _ (c .before .publisher-record .ensures)
+    let at-publisher-record = c .before in
+    let args = at-publisher-record .before .before .args in
+    message-is (args .c) (now (args .s)) _ (at-publisher-record .publisher-record .ensures)
 
 pub message-of-spec : {M : Type 1} → statement M
 message-of-spec = tie.close (tie.spec (λ c κs. search needs) returns)

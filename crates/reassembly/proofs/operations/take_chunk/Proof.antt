@@ -13,30 +13,55 @@ use Rattle.reassembly.proofs.operations.take_chunk.Tie as tie
 
 returns : tie.Need-returns
 returns c =
-    let a = c .before .before .before .before .before .before .before .before .args in
+    let at-judge-chunk = c .before .before in
+    let args = at-judge-chunk .before .before .before .before .before .before .args in
+    let a = args in
     let s = partial (a .rec) (now (a .payload)) (now (a .marks)) in
     ap (λ (v : Verdict). record { verdict = v; after = s }) (c .enum-told .given .1)
-    ∙ sym (take-refused s (chunk (a .m) (a .offset) (now (a .bytes))) _ _ (sym (c .before .before .judge-chunk .ensures) ∙ c .enum-told .given .1))
+    ∙ sym (take-refused s (chunk (a .m) (a .offset) (now (a .bytes))) _ _ (sym (at-judge-chunk .judge-chunk .ensures) ∙ c .enum-told .given .1))
 
 add-end : tie.Need-add-end
 add-end c =
-    let a = c .before .before .before .before .before .before .before .before .args in
-    omega (arith, taken-room (partial (a .rec) (now (a .payload)) (now (a .marks))) (a .m) (a .offset) (now (a .bytes)) (c .before .before .before .before .before .before .before .before .pre .1) (sym (c .before .before .judge-chunk .ensures) ∙ c .enum-told2 .given .1) .0)
+    let at-judge-chunk = c .before .before in
+    let at-pre = at-judge-chunk .before .before .before .before .before .before in
+    let a = at-pre .args in
+    omega (
+      arith,
+      taken-room (partial (a .rec) (now (a .payload)) (now (a .marks))) (a .m) (a .offset) (now (a .bytes)) (at-pre .pre .1)
+          (sym (at-judge-chunk .judge-chunk .ensures) ∙ c .enum-told2 .given .1) .0,
+    )
 
 store-data-requires : tie.Need-store-data-requires
 store-data-requires c κs =
-    let a = c .before .before .before .before .before .before .before .before .before .before .before .before .before .args in
-    taken-room (partial (a .rec) (now (a .payload)) (now (a .marks))) (a .m) (a .offset) (now (a .bytes)) (c .before .before .before .before .before .before .before .before .before .before .before .before .before .pre .1) (sym (c .before .before .before .before .before .before .before .judge-chunk .ensures) ∙ c .before .before .before .before .before .enum-told2 .given .1) .0
+    let at-enum-told2 = c .before .before .before .before .before in
+    let at-judge-chunk = at-enum-told2 .before .before in
+    let at-pre = at-judge-chunk .before .before .before .before .before .before in
+    let a = at-pre .args in
+    taken-room (partial (a .rec) (now (a .payload)) (now (a .marks))) (a .m) (a .offset) (now (a .bytes)) (at-pre .pre .1)
+    (sym (at-judge-chunk .judge-chunk .ensures) ∙ at-enum-told2 .enum-told2 .given .1) .0
 
 mark-range-requires : tie.Need-mark-range-requires
 mark-range-requires c κs =
-    let a = c .before .before .before .before .before .before .before .before .before .before .before .before .before .before .before .before .before .args in
-    taken-marks (partial (a .rec) (now (a .payload)) (now (a .marks))) (a .m) (a .offset) (now (a .bytes)) (c .before .before .before .before .before .before .before .before .before .before .before .before .before .before .before .before .before .pre .1) (sym (c .before .before .before .before .before .before .before .before .before .before .before .judge-chunk .ensures) ∙ c .before .before .before .before .before .before .before .before .before .enum-told2 .given .1) _ (c .before .before .before .before .before .before .before .begin .ensures .1)
+    let at-begin = c .before .before .before .before .before .before .before in
+    let at-enum-told2 = at-begin .before .before in
+    let at-judge-chunk = at-enum-told2 .before .before in
+    let at-pre = at-judge-chunk .before .before .before .before .before .before in
+    let a = at-pre .args in
+    taken-marks (partial (a .rec) (now (a .payload)) (now (a .marks))) (a .m) (a .offset) (now (a .bytes)) (at-pre .pre .1)
+    (sym (at-judge-chunk .judge-chunk .ensures) ∙ at-enum-told2 .enum-told2 .given .1) _ (at-begin .begin .ensures .1)
 
 returns-2 : tie.Need-returns-2
 returns-2 c =
-    let a = c .before .before .before .before .before .before .before .before .before .before .before .before .before .before .before .before .before .before .before .before .args in
-    taken (partial (a .rec) (now (a .payload)) (now (a .marks))) (a .m) (a .offset) (now (a .bytes)) (c .before .before .before .before .before .before .before .before .before .before .before .before .before .before .before .before .before .before .before .before .pre .1) (sym (c .before .before .before .before .before .before .before .before .before .before .before .before .before .before .judge-chunk .ensures) ∙ c .before .before .before .before .before .before .before .before .before .before .before .before .enum-told2 .given .1) _ _ _ _ _ (c .before .before .before .before .before .before .before .before .before .before .before .before .enum-told2 .given .1) (c .before .before .before .before .before .before .before .before .before .before .begin .ensures .0) (c .before .before .before .before .before .before .store-data .ensures) (c .before .before .before .before .before .before .before .before .before .before .begin .ensures .1) (c .before .before .mark-range .ensures)
+    let at-mark-range = c .before .before in
+    let at-store-data = at-mark-range .before .before .before .before in
+    let at-begin = at-store-data .before .before .before .before in
+    let at-enum-told2 = at-begin .before .before in
+    let at-judge-chunk = at-enum-told2 .before .before in
+    let at-pre = at-judge-chunk .before .before .before .before .before .before in
+    let a = at-pre .args in
+    taken (partial (a .rec) (now (a .payload)) (now (a .marks))) (a .m) (a .offset) (now (a .bytes)) (at-pre .pre .1)
+    (sym (at-judge-chunk .judge-chunk .ensures) ∙ at-enum-told2 .enum-told2 .given .1) _ _ _ _ _ (at-enum-told2 .enum-told2 .given .1)
+    (at-begin .begin .ensures .0) (at-store-data .store-data .ensures) (at-begin .begin .ensures .1) (at-mark-range .mark-range .ensures)
 
 pub take-chunk-spec : {M : Type 1} → statement M
 take-chunk-spec =

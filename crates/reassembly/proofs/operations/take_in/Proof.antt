@@ -15,23 +15,51 @@ use Rattle.reassembly.proofs.operations.take_in.Tie as tie
 
 returns : tie.Need-returns
 returns c =
-    let a = c .before .before .before .before .before .before .args in
-    took _ (partial (a .rec) (now (a .payload)) (now (a .marks))) (now (a .datagram)) (now (a .sizes)) (sym (take-unsound (partial (a .rec) (now (a .payload)) (now (a .marks))) (readingAt (now (a .sizes)) (now (a .datagram))) (sym (c .before .is-sound .ensures) ∙ not-true _ (c .if1 .taken))))
+    let at-is-sound = c .before in
+    let args = at-is-sound .before .before .before .before .before .args in
+    let a = args in
+    took _ (partial (a .rec) (now (a .payload)) (now (a .marks))) (now (a .datagram)) (now (a .sizes))
+    (sym (take-unsound (partial (a .rec) (now (a .payload)) (now (a .marks))) (readingAt (now (a .sizes)) (now (a .datagram))) (sym (at-is-sound .is-sound .ensures) ∙ not-true _ (c .if1 .taken))))
 
 take-chunk-requires : tie.Need-take-chunk-requires
 take-chunk-requires c κs =
-    let a = c .before .before .before .before .before .before .before .before .before .before .before .before .before .before .before .args in
-    (sym (c .before .before .before .before .before .before .before .before .before .before .is-sound .ensures) ∙ not-false _ (c .before .before .before .before .before .before .before .before .before .if1 .left), handed-proper (partial (a .rec) (now (a .payload)) (now (a .marks))) (now (a .sizes)) (now (a .datagram)) _ _ (sym (told answerChunk (c .before .before .before .before .before .before .before .before .read .ensures) (c .before .before .before .before .before .before .c .given .1))) _ _ (c .message-of .ensures) (c .before .before .before .part .ensures))
+    let at-part = c .before .before .before in
+    let at-c = at-part .before .before .before in
+    let at-read = at-c .before .before in
+    let at-if1 = at-read .before in
+    let at-is-sound = at-if1 .before in
+    let args = at-is-sound .before .before .before .before .before .args in
+    let a = args in (
+      sym (at-is-sound .is-sound .ensures) ∙ not-false _ (at-if1 .if1 .left),
+      handed-proper (partial (a .rec) (now (a .payload)) (now (a .marks))) (now (a .sizes)) (now (a .datagram)) _ _
+          (sym (told answerChunk (at-read .read .ensures) (at-c .c .given .1))) _ _ (c .message-of .ensures) (at-part .part .ensures),
+    )
 
 returns-2 : tie.Need-returns-2
 returns-2 c =
-    let a = c .before .before .before .before .before .before .before .before .before .before .args in
-    took _ (partial (a .rec) (now (a .payload)) (now (a .marks))) (now (a .datagram)) (now (a .sizes)) (sym (take-refusal (partial (a .rec) (now (a .payload)) (now (a .marks))) (now (a .sizes)) (now (a .datagram)) (sym (c .before .before .before .before .before .is-sound .ensures) ∙ not-false _ (c .before .before .before .before .if1 .left)) _ _ (sym (told answerChunk (c .before .before .before .read .ensures) (c .before .n .given .1)))))
+    let at-n = c .before in
+    let at-read = at-n .before .before in
+    let at-if1 = at-read .before in
+    let at-is-sound = at-if1 .before in
+    let args = at-is-sound .before .before .before .before .before .args in
+    let a = args in
+    took _ (partial (a .rec) (now (a .payload)) (now (a .marks))) (now (a .datagram)) (now (a .sizes))
+    (sym (take-refusal (partial (a .rec) (now (a .payload)) (now (a .marks))) (now (a .sizes)) (now (a .datagram))
+    (sym (at-is-sound .is-sound .ensures) ∙ not-false _ (at-if1 .if1 .left)) _ _ (sym (told answerChunk (at-read .read .ensures) (at-n .n .given .1)))))
 
 returns-3 : tie.Need-returns-3
 returns-3 c =
-    let a = c .before .before .before .before .before .before .before .before .before .before .before .before .before .before .before .before .before .before .before .before .args in
-    took _ (partial (a .rec) (now (a .payload)) (now (a .marks))) (now (a .datagram)) (now (a .sizes)) (c .before .before .before .before .take-chunk .ensures ∙ handed-taken (partial (a .rec) (now (a .payload)) (now (a .marks))) (now (a .sizes)) (now (a .datagram)) _ _ (sym (told answerChunk (c .before .before .before .before .before .before .before .before .before .before .before .before .before .read .ensures) (c .before .before .before .before .before .before .before .before .before .before .before .c .given .1))) _ _ (c .before .before .before .before .before .message-of .ensures) (c .before .before .before .before .before .before .before .before .part .ensures))
+    let at-take-chunk = c .before .before .before .before in
+    let at-message-of = at-take-chunk .before in
+    let at-part = at-message-of .before .before .before in
+    let at-c = at-part .before .before .before in
+    let at-read = at-c .before .before in
+    let args = at-read .before .before .before .before .before .before .before .args in
+    let a = args in
+    took _ (partial (a .rec) (now (a .payload)) (now (a .marks))) (now (a .datagram)) (now (a .sizes))
+    (at-take-chunk .take-chunk .ensures
+    ∙ handed-taken (partial (a .rec) (now (a .payload)) (now (a .marks))) (now (a .sizes)) (now (a .datagram)) _ _
+    (sym (told answerChunk (at-read .read .ensures) (at-c .c .given .1))) _ _ (at-message-of .message-of .ensures) (at-part .part .ensures))
 
 pub take-in-spec : {M : Type 1} → statement M
 take-in-spec =

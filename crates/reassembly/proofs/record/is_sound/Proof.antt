@@ -14,22 +14,36 @@ returns c =
 returns-2 : tie.Need-returns-2
 unfolding soundBy
 returns-2 c =
-    simp (eq-eqb _ _ (sym (c .before .before .before .marks-for .ensures) ∙ c .before .before .if1 .left), c .if2 .taken)
+    let at-if1 = c .before .before in
+    let at-marks-for = at-if1 .before in
+    simp (eq-eqb _ _ (sym (at-marks-for .marks-for .ensures) ∙ at-if1 .if1 .left), c .if2 .taken)
 
 returns-3 : tie.Need-returns-3
 unfolding soundBy
 returns-3 c =
-    simp (eq-eqb _ _ (sym (c .before .before .before .before .before .before .marks-for .ensures) ∙ c .before .before .before .before .before .if1 .left), c .before .before .before .if2 .left, lt-leb _ _ (c .if3 .taken))
+    let at-if2 = c .before .before .before in
+    let at-if1 = at-if2 .before .before in
+    let at-marks-for = at-if1 .before in
+    simp (eq-eqb _ _ (sym (at-marks-for .marks-for .ensures) ∙ at-if1 .if1 .left), at-if2 .if2 .left, lt-leb _ _ (c .if3 .taken))
 
 returns-4 : tie.Need-returns-4
 unfolding soundBy
 returns-4 c =
-    simp (eq-eqb _ _ (sym (c .before .before .before .before .before .before .before .before .marks-for .ensures) ∙ c .before .before .before .before .before .before .before .if1 .left), c .before .before .before .before .before .if2 .left, le-leb _ _ (c .before .before .if3 .left), lt-leb _ _ (c .if4 .taken))
+    let at-if3 = c .before .before in
+    let at-if2 = at-if3 .before .before .before in
+    let at-if1 = at-if2 .before .before in
+    let at-marks-for = at-if1 .before in
+    simp (eq-eqb _ _ (sym (at-marks-for .marks-for .ensures) ∙ at-if1 .if1 .left), at-if2 .if2 .left, le-leb _ _ (at-if3 .if3 .left), lt-leb _ _ (c .if4 .taken))
 
 returns-5 : tie.Need-returns-5
 unfolding soundBy
 returns-5 c =
-    simp (eq-eqb _ _ (sym (c .before .before .before .before .before .before .before .before .before .before .marks-for .ensures) ∙ c .before .before .before .before .before .before .before .before .before .if1 .left), c .before .before .before .before .before .before .before .if2 .left, le-leb _ _ (c .before .before .before .before .if3 .left), le-leb _ _ (c .before .before .if4 .left))
+    let at-if4 = c .before .before in
+    let at-if3 = at-if4 .before .before in
+    let at-if2 = at-if3 .before .before .before in
+    let at-if1 = at-if2 .before .before in
+    let at-marks-for = at-if1 .before in
+    simp (eq-eqb _ _ (sym (at-marks-for .marks-for .ensures) ∙ at-if1 .if1 .left), at-if2 .if2 .left, le-leb _ _ (at-if3 .if3 .left), le-leb _ _ (at-if4 .if4 .left))
     (c .publisher-fits .ensures)
 
 pub is-sound-spec : {M : Type 1} → statement M

@@ -15,17 +15,27 @@ returns c =
 returns-2 : tie.Need-returns-2
 unfolding sameMessage
 returns-2 c =
-    simp (sym (c .before .before .before .before .same-publisher .ensures) ∙ not-false _ (c .before .before .before .if1 .left), ne-eqb _ _ (c .if2 .taken))
+    let at-if1 = c .before .before .before in
+    let at-same-publisher = at-if1 .before in
+    simp (sym (at-same-publisher .same-publisher .ensures) ∙ not-false _ (at-if1 .if1 .left), ne-eqb _ _ (c .if2 .taken))
 
 returns-3 : tie.Need-returns-3
 unfolding sameMessage
 returns-3 c =
-    simp (sym (c .before .before .before .before .before .before .before .same-publisher .ensures) ∙ not-false _ (c .before .before .before .before .before .before .if1 .left), eq-eqb _ _ (c .before .before .before .if2 .left), ne-eqb _ _ (c .if3 .taken))
+    let at-if2 = c .before .before .before in
+    let at-if1 = at-if2 .before .before .before in
+    let at-same-publisher = at-if1 .before in
+    simp (sym (at-same-publisher .same-publisher .ensures) ∙ not-false _ (at-if1 .if1 .left), eq-eqb _ _ (at-if2 .if2 .left), ne-eqb _ _ (c .if3 .taken))
 
 returns-4 : tie.Need-returns-4
 returns-4 c =
-    let a = c .before .before .before .before .before .before .before .before .before .before .before .before .args in
-    sym (same-message-total (identityOf (a .a)) (identityOf (a .b)) (sym (c .before .before .before .before .before .before .before .before .before .same-publisher .ensures) ∙ not-false _ (c .before .before .before .before .before .before .before .before .if1 .left)) (c .before .before .before .before .before .if2 .left) (c .before .before .if3 .left))
+    let at-if3 = c .before .before in
+    let at-if2 = at-if3 .before .before .before in
+    let at-if1 = at-if2 .before .before .before in
+    let at-same-publisher = at-if1 .before in
+    let args = at-same-publisher .before .before .before .args in
+    let a = args in
+    sym (same-message-total (identityOf (a .a)) (identityOf (a .b)) (sym (at-same-publisher .same-publisher .ensures) ∙ not-false _ (at-if1 .if1 .left)) (at-if2 .if2 .left) (at-if3 .if3 .left))
 
 pub same-message-spec : {M : Type 1} → statement M
 same-message-spec =

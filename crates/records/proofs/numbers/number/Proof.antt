@@ -18,12 +18,17 @@ returns c =
 -- src/numbers.rt:11:1
 returns-2 : tie.Need-returns-2
 returns-2 c =
-    rw (sym (told (answer64 (8 * c .before .before .before .before .before .before .args .i)) (c .before .before .before .read64 .ensures) (c .before .v .given .1)))
+    let at-v = c .before in
+    let at-read64 = at-v .before .before in
+    let args = at-read64 .before .before .before .args in
+    rw (sym (told (answer64 (8 * args .i)) (at-read64 .read64 .ensures) (at-v .v .given .1)))
 
 -- src/numbers.rt:11:1
 returns-3 : tie.Need-returns-3
 returns-3 c =
-    rw (sym (told (answer64 (8 * c .before .before .before .before .before .args .i)) (c .before .before .read64 .ensures) (c .enum-told .given .1)))
+    let at-read64 = c .before .before in
+    let args = at-read64 .before .before .before .args in
+    rw (sym (told (answer64 (8 * args .i)) (at-read64 .read64 .ensures) (c .enum-told .given .1)))
 
 pub number-spec : {M : Type 1} → statement M
 number-spec =

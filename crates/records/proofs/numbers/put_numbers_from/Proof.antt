@@ -9,17 +9,21 @@ use Rattle.records.proofs.numbers.put_numbers_from.Tie as tie
 -- src/numbers.rt:42:9
 returns : tie.Need-returns
 returns c =
-    put-none (now (c .before .before .before .args .numbers)) (now (c .before .before .before .args .out)) (8 * c .before .before .before .args .i) (omega arith)
+    let args = c .before .before .before .args in
+    put-none (now (args .numbers)) (now (args .out)) (8 * args .i) (omega arith)
 
 -- src/numbers.rt:45:9
 returns-2 : tie.Need-returns-2
 returns-2 c =
-    put-none (now (c .before .before .before .before .args .numbers)) (now (c .before .before .before .before .args .out)) (8 * c .before .before .before .before .args .i) (omega arith)
+    let args = c .before .before .before .before .args in
+    put-none (now (args .numbers)) (now (args .out)) (8 * args .i) (omega arith)
 
 -- src/numbers.rt:37:1
 returns-3 : tie.Need-returns-3
 returns-3 c =
-    put-fits (now (c .before .before .before .before .before .before .before .before .args .numbers)) (now (c .before .before .before .before .before .before .before .before .args .out)) _ (8 * c .before .before .before .before .before .before .before .before .args .i) (omega arith) (c .before .before .store .ensures)
+    let at-store = c .before .before in
+    let args = at-store .before .before .before .before .before .before .args in
+    put-fits (now (args .numbers)) (now (args .out)) _ (8 * args .i) (omega arith) (at-store .store .ensures)
 
 pub put-numbers-from-spec : {M : Type 1} → statement M
 put-numbers-from-spec =

@@ -23,7 +23,10 @@ loop-holds c = (omega arith, (omega arith, (refl, refl)))
 -- src/numbers.rt:29:5
 loop-again : tie.Need-loop-again Inv-loop μ-loop
 loop-again c =
-    (omega arith, (omega arith, (search needs, number-stored 8 _ _ _ _ _ _ (c .before .before .before .before .before .loop-test .taken) (omega arith) (c .before .before .put64 .ensures) (c .before .before .before .before .before .before .loop .inv .1 .1 .1))))
+    let at-put64 = c .before .before in
+    let at-loop-test = at-put64 .before .before .before in
+    let at-loop = at-loop-test .before in
+    (omega arith, (omega arith, (search needs, number-stored 8 _ _ _ _ _ _ (at-loop-test .loop-test .taken) (omega arith) (at-put64 .put64 .ensures) (at-loop .loop .inv .1 .1 .1))))
 
 -- src/numbers.rt:23:1
 returns : tie.Need-returns Inv-loop μ-loop

@@ -17,7 +17,9 @@ returns c =
 -- src/writers.rt:47:1
 returns-2 : tie.Need-returns-2
 returns-2 c =
-    rw (le-ltb (length (now (c .before .before .before .before .before .args .config))) 146 (omega arith)) (c .at-most .ensures .0 ∙ ap (λ (n : ℕ). atMost 64 n) (c .before .wide .ensures), omega arith)
+    let at-wide = c .before in
+    let args = at-wide .before .before .before .before .args in
+    rw (le-ltb (length (now (args .config))) 146 (omega arith)) (c .at-most .ensures .0 ∙ ap (λ (n : ℕ). atMost 64 n) (at-wide .wide .ensures), omega arith)
 
 pub field-count-spec : {M : Type 1} → statement M
 field-count-spec =

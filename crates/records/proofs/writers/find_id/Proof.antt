@@ -24,12 +24,23 @@ loop-holds c =
 -- src/writers.rt:118:13
 returns : tie.Need-returns Inv-loop μ-loop
 returns c =
-    find-here (c .before .before .before .before .before .args .n - c .before .before .before .loop .k) (c .before .before .before .before .before .args .n - (c .before .before .before .loop .k + 1)) _ _ _ _ _ _ (omega arith) (c .before .number16 .ensures) (c .before .before .before .loop .inv .1 .1) (c .if1 .taken)
+    let at-number16 = c .before in
+    let at-loop = at-number16 .before .before in
+    let args = at-loop .before .before .args in
+    find-here (args .n - at-loop .loop .k) (args .n - (at-loop .loop .k + 1)) _ _ _ _ _ _ (omega arith) (at-number16 .number16 .ensures) (at-loop .loop .inv .1 .1) (c .if1 .taken)
 
 -- src/writers.rt:116:5
 loop-again : tie.Need-loop-again Inv-loop μ-loop
 loop-again c =
-    (omega arith, (omega arith, find-next (c .before .before .before .before .before .args .n - c .before .before .before .loop .k) (c .before .before .before .before .before .args .n - (c .before .before .before .loop .k + 1)) _ _ _ _ _ _ (omega arith) (c .before .number16 .ensures) (c .before .before .before .loop .inv .1 .1) (c .if1 .left)))
+    let at-number16 = c .before in
+    let at-loop = at-number16 .before .before in
+    let args = at-loop .before .before .args in (
+      omega arith,
+      (
+        omega arith,
+        find-next (args .n - at-loop .loop .k) (args .n - (at-loop .loop .k + 1)) _ _ _ _ _ _ (omega arith) (at-number16 .number16 .ensures) (at-loop .loop .inv .1 .1) (c .if1 .left),
+      ),
+    )
 
 -- src/writers.rt:110:1
 returns-2 : tie.Need-returns-2 Inv-loop μ-loop

@@ -15,7 +15,8 @@ returns c =
 -- src/writers.rt:82:1
 returns-2 : tie.Need-returns-2
 returns-2 c =
-    rw (le-ltb (length (now (c .before .before .before .args .config))) 146 (omega arith)) (c .list16 .ensures)
+    let args = c .before .before .before .args in
+    rw (le-ltb (length (now (args .config))) 146 (omega arith)) (c .list16 .ensures)
 
 pub ids-spec : {M : Type 1} → statement M
 ids-spec = tie.close (tie.spec returns (λ c κs. search needs) returns-2)

@@ -13,7 +13,19 @@ returns c =
 -- src/writers.rt:144:1
 returns-2 : tie.Need-returns-2
 returns-2 c =
-    config-put (c .before .before .before .before .before .before .before .before .before .before .before .before .before .before .before .before .before .before .before .before .before .before .before .before .before .before .before .before .before .before .before .before .before .before .before .before .before .before .before .before .args .t2) (now (c .before .before .before .before .before .before .before .before .before .before .before .before .before .before .before .before .before .before .before .before .before .before .before .before .before .before .before .before .before .before .before .before .before .before .before .before .before .before .before .before .args .out)) _ _ _ _ _ _ _ _ (search needs) (search needs) (search needs) (search needs) (omega (arith, c .before .before .before .before .before .before .before .before .before .before .before .before .before .before .before .before .before .before .before .before .before .before .before .before .before .before .before .before .before .before .before .before .before .before .before .before .before .before .if1 .left)) (c .before .before .before .before .before .before .before .before .before .before .before .before .before .before .before .before .before .before .before .before .before .before .before .before .before .before .before .before .before .before .before .before .before .before .before .before .at-most .ensures .0) (c .before .before .before .before .before .before .before .before .before .before .before .before .before .before .before .before .before .before .before .before .before .before .before .before .before .before .before .before .before .before .before .at-most2 .ensures .0) (c .before .before .before .before .before .before .before .before .before .before .before .before .before .before .before .before .before .before .before .before .before .before .before .before .before .before .before .before .before .before .before .before .before .before .before .put8 .ensures) (c .before .before .before .before .before .before .before .before .before .before .before .before .before .before .before .before .before .before .before .before .before .before .before .before .before .before .before .before .before .before .put82 .ensures) (c .before .before .before .before .before .before .before .before .before .before .before .before .before .before .before .before .before .before .before .before .before .before .before .store16 .ensures) (c .before .before .before .before .before .before .before .before .before .before .before .before .before .before .before .before .store162 .ensures) (c .before .before .before .before .before .before .before .before .before .put-run .ensures) (c .before .before .put-run2 .ensures)
+    let at-put-run2 = c .before .before in
+    let at-put-run = at-put-run2 .before .before .before .before .before .before .before in
+    let at-store162 = at-put-run .before .before .before .before .before .before .before in
+    let at-store16 = at-store162 .before .before .before .before .before .before .before in
+    let at-put82 = at-store16 .before .before .before .before .before .before .before in
+    let at-at-most2 = at-put82 .before in
+    let at-put8 = at-at-most2 .before .before .before .before in
+    let at-at-most = at-put8 .before in
+    let at-if1 = at-at-most .before .before in
+    let args = at-if1 .before .before .args in
+    config-put (args .t2) (now (args .out)) _ _ _ _ _ _ _ _ (search needs) (search needs) (search needs) (search needs)
+    (omega (arith, at-if1 .if1 .left)) (at-at-most .at-most .ensures .0) (at-at-most2 .at-most2 .ensures .0) (at-put8 .put8 .ensures)
+    (at-put82 .put82 .ensures) (at-store16 .store16 .ensures) (at-store162 .store162 .ensures) (at-put-run .put-run .ensures) (at-put-run2 .put-run2 .ensures)
 
 pub put-config-spec : {M : Type 1} → statement M
 put-config-spec =

@@ -9,7 +9,9 @@ use Rattle.records.proofs.writers.starts.Tie as tie
 -- src/writers.rt:101:1
 returns : tie.Need-returns
 returns c =
-    c .part .ensures ∙ ap (λ (n : ℕ). take n (drop 66 (now (c .before .before .before .args .config)))) (c .before .writer-count .ensures .0)
+    let at-writer-count = c .before in
+    let args = at-writer-count .before .before .args in
+    c .part .ensures ∙ ap (λ (n : ℕ). take n (drop 66 (now (args .config)))) (at-writer-count .writer-count .ensures .0)
 
 pub starts-spec : {M : Type 1} → statement M
 starts-spec = tie.close (tie.spec (λ c κs. search needs) (λ c κs. search needs) returns)

@@ -9,7 +9,9 @@ use Rattle.records.proofs.writers.types.Tie as tie
 -- src/writers.rt:107:1
 returns : tie.Need-returns
 returns c =
-    c .part .ensures ∙ ap (λ (n : ℕ). take n (drop 82 (now (c .before .before .before .args .config)))) (c .before .field-count .ensures .0)
+    let at-field-count = c .before in
+    let args = at-field-count .before .before .args in
+    c .part .ensures ∙ ap (λ (n : ℕ). take n (drop 82 (now (args .config)))) (at-field-count .field-count .ensures .0)
 
 pub types-spec : {M : Type 1} → statement M
 types-spec = tie.close (tie.spec (λ c κs. search needs) (λ c κs. search needs) returns)

@@ -8,22 +8,33 @@ use Rattle.records.proofs.writers.types_for.Tie as tie
 -- src/writers.rt:131:9
 returns : tie.Need-returns
 returns c =
-    types-far (now (c .before .before .before .args .config)) _ (c .before .before .before .args .writer) (omega arith) (c .part .ensures)
+    let args = c .before .before .before .args in
+    types-far (now (args .config)) _ (args .writer) (omega arith) (c .part .ensures)
 
 -- src/writers.rt:134:9
 returns-2 : tie.Need-returns-2
 returns-2 c =
-    types-short (now (c .before .before .before .before .args .config)) _ (c .before .before .before .before .args .writer) (omega arith) (omega arith) (c .part2 .ensures)
+    let args = c .before .before .before .before .args in
+    types-short (now (args .config)) _ (args .writer) (omega arith) (omega arith) (c .part2 .ensures)
 
 -- src/writers.rt:139:9
 returns-3 : tie.Need-returns-3
 returns-3 c =
-    types-none (now (c .before .before .before .before .before .before .before .args .config)) _ (c .before .before .before .before .before .before .before .args .writer) _ _ (omega arith) (omega arith) (c .before .before .before .writer-count .ensures) (c .before .before .find-id .ensures) (omega arith) (c .part3 .ensures)
+    let at-find-id = c .before .before in
+    let at-writer-count = at-find-id .before in
+    let args = at-writer-count .before .before .before .before .args in
+    types-none (now (args .config)) _ (args .writer) _ _ (omega arith) (omega arith) (at-writer-count .writer-count .ensures) (at-find-id .find-id .ensures) (omega arith) (c .part3 .ensures)
 
 -- src/writers.rt:127:1
 returns-4 : tie.Need-returns-4
 returns-4 c =
-    types-some (now (c .before .before .before .before .before .before .before .before .before .args .config)) _ _ _ (c .before .before .before .before .before .before .before .before .before .args .writer) _ _ (omega arith) (omega arith) (c .before .before .before .before .before .writer-count .ensures) (c .before .before .before .before .find-id .ensures) (omega arith) (c .before .before .starts .ensures) (c .before .types .ensures) (c .writer-fields .ensures)
+    let at-types = c .before in
+    let at-starts = at-types .before in
+    let at-find-id = at-starts .before .before in
+    let at-writer-count = at-find-id .before in
+    let args = at-writer-count .before .before .before .before .args in
+    types-some (now (args .config)) _ _ _ (args .writer) _ _ (omega arith) (omega arith) (at-writer-count .writer-count .ensures)
+    (at-find-id .find-id .ensures) (omega arith) (at-starts .starts .ensures) (at-types .types .ensures) (c .writer-fields .ensures)
 
 pub types-for-spec : {M : Type 1} → statement M
 types-for-spec =

@@ -13,19 +13,40 @@ use Rattle.text.proofs.decimal.put_decimal.Tie as tie
 
 returns : tie.Need-returns
 returns c =
-    stored-none _ _ _ (ap (λ k. leb (c .before .before .before .before .args .at + k) (length (c .before .before .before .before .args .out .now))) (sym (c .before .before .count-digits .ensures)) ∙ lacks (c .before .has .result) (c .before .before .before .before .args .at + c .before .before .count-digits .result) (length (c .before .before .before .before .args .out .now)) (c .before .has .ensures) (c .if1 .taken))
+    let at-has = c .before in
+    let at-count-digits = at-has .before in
+    let args = at-count-digits .before .before .args in
+    stored-none _ _ _ (ap (λ k. leb (args .at + k) (length (args .out .now))) (sym (at-count-digits .count-digits .ensures))
+    ∙ lacks (at-has .has .result) (args .at + at-count-digits .count-digits .result) (length (args .out .now)) (at-has .has .ensures) (c .if1 .taken))
 
 store-digits-requires : tie.Need-store-digits-requires
 store-digits-requires c κs =
-    (room (c .before .before .has .result) (c .before .before .before .before .before .args .at + c .before .before .before .count-digits .result) (length (c .before .before .before .before .before .args .out .now)) (c .before .before .has .ensures) (c .before .if1 .left), c .before .before .before .count-digits .ensures)
+    let at-if1 = c .before in
+    let at-has = at-if1 .before in
+    let at-count-digits = at-has .before in
+    let args = at-count-digits .before .before .args in
+    (room (at-has .has .result) (args .at + at-count-digits .count-digits .result) (length (args .out .now)) (at-has .has .ensures) (at-if1 .if1 .left), at-count-digits .count-digits .ensures)
 
 add-result : tie.Need-add-result
 add-result c =
-    omega (arith, room (c .before .before .before .before .before .has .result) (c .before .before .before .before .before .before .before .before .args .at + c .before .before .before .before .before .before .count-digits .result) (length (c .before .before .before .before .before .before .before .before .args .out .now)) (c .before .before .before .before .before .has .ensures) (c .before .before .before .before .if1 .left))
+    omega (
+      arith,
+      room (c .before .before .before .before .before .has .result)
+          (c .before .before .before .before .before .before .before .before .args .at + c .before .before .before .before .before .before .count-digits .result)
+          (length (c .before .before .before .before .before .before .before .before .args .out .now))
+          (c .before .before .before .before .before .has .ensures) (c .before .before .before .before .if1 .left),
+    )
 
 returns-2 : tie.Need-returns-2
 returns-2 c =
-    stored-all _ _ _ _ _ (ap (λ k. leb (c .before .before .before .before .before .before .before .before .args .at + k) (length (c .before .before .before .before .before .before .before .before .args .out .now))) (sym (c .before .before .before .before .before .before .count-digits .ensures)) ∙ holds (c .before .before .before .before .before .has .result) (c .before .before .before .before .before .before .before .before .args .at + c .before .before .before .before .before .before .count-digits .result) (length (c .before .before .before .before .before .before .before .before .args .out .now)) (c .before .before .before .before .before .has .ensures) (c .before .before .before .before .if1 .left)) (c .before .before .store-digits .ensures) (ap (λ k. c .before .before .before .before .before .before .before .before .args .at + k) (c .before .before .before .before .before .before .count-digits .ensures))
+    let at-store-digits = c .before .before in
+    let at-if1 = at-store-digits .before .before in
+    let at-has = at-if1 .before in
+    let at-count-digits = at-has .before in
+    let args = at-count-digits .before .before .args in
+    stored-all _ _ _ _ _ (ap (λ k. leb (args .at + k) (length (args .out .now))) (sym (at-count-digits .count-digits .ensures))
+    ∙ holds (at-has .has .result) (args .at + at-count-digits .count-digits .result) (length (args .out .now)) (at-has .has .ensures) (at-if1 .if1 .left))
+    (at-store-digits .store-digits .ensures) (ap (λ k. args .at + k) (at-count-digits .count-digits .ensures))
 
 pub put-decimal-spec : {M : Type 1} → statement M
 put-decimal-spec =

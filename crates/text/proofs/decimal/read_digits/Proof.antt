@@ -29,23 +29,42 @@ add-t13 c = omega arith
 
 returns : tie.Need-returns Inv-loop μ-loop
 returns c =
-    turn-end _ _ _ _ _ _ (c .before .before .loop-test .taken) (c .before .before .before .loop .inv .1) (c .if1 .taken)
+    let at-loop-test = c .before .before in
+    let at-loop = at-loop-test .before in
+    turn-end _ _ _ _ _ _ (at-loop-test .loop-test .taken) (at-loop .loop .inv .1) (c .if1 .taken)
 
 returns-2 : tie.Need-returns-2 Inv-loop μ-loop
 returns-2 c =
-    turn-other _ _ _ _ _ _ (c .before .before .before .before .loop-test .taken) (c .before .before .before .before .before .loop .inv .1) (c .before .before .if1 .left) (sym (c .before .is-digit .ensures) ∙ not-true _ (c .if2 .taken))
+    let at-is-digit = c .before in
+    let at-if1 = at-is-digit .before in
+    let at-loop-test = at-if1 .before .before in
+    let at-loop = at-loop-test .before in
+    turn-other _ _ _ _ _ _ (at-loop-test .loop-test .taken) (at-loop .loop .inv .1) (at-if1 .if1 .left) (sym (at-is-digit .is-digit .ensures) ∙ not-true _ (c .if2 .taken))
 
 returns-3 : tie.Need-returns-3 Inv-loop μ-loop
 returns-3 c =
-    turn-above _ _ _ _ _ _ (c .before .before .before .before .before .loop-test .taken) (c .before .before .before .before .before .before .loop .inv .1) (c .before .before .before .if1 .left) (sym (c .before .before .is-digit .ensures) ∙ not-false _ (c .before .if2 .left)) (omega arith)
+    let at-if2 = c .before in
+    let at-is-digit = at-if2 .before in
+    let at-if1 = at-is-digit .before in
+    let at-loop-test = at-if1 .before .before in
+    let at-loop = at-loop-test .before in
+    turn-above _ _ _ _ _ _ (at-loop-test .loop-test .taken) (at-loop .loop .inv .1) (at-if1 .if1 .left) (sym (at-is-digit .is-digit .ensures) ∙ not-false _ (at-if2 .if2 .left)) (omega arith)
 
 sub-d : tie.Need-sub-d Inv-loop μ-loop
 sub-d c =
-    omega (arith, digit-low (getD (c .before .before .before .before .before .before .before .before .args .s .now) (c .before .before .before .before .before .before .loop .i) 0) (sym (c .before .before .is-digit .ensures) ∙ not-false _ (c .before .if2 .left)))
+    omega (
+      arith,
+      digit-low (getD (c .before .before .before .before .before .before .before .before .args .s .now) (c .before .before .before .before .before .before .loop .i) 0)
+          (sym (c .before .before .is-digit .ensures) ∙ not-false _ (c .before .if2 .left)),
+    )
 
 cast-d : tie.Need-cast-d Inv-loop μ-loop
 cast-d c =
-    omega (arith, digit-high (getD (c .before .before .before .before .before .before .before .before .args .s .now) (c .before .before .before .before .before .before .loop .i) 0) (sym (c .before .before .is-digit .ensures) ∙ not-false _ (c .before .if2 .left)))
+    omega (
+      arith,
+      digit-high (getD (c .before .before .before .before .before .before .before .before .args .s .now) (c .before .before .before .before .before .before .loop .i) 0)
+          (sym (c .before .before .is-digit .ensures) ∙ not-false _ (c .before .if2 .left)),
+    )
 
 mul-if4 : tie.Need-mul-if4 Inv-loop μ-loop
 mul-if4 c = omega arith
@@ -55,7 +74,12 @@ sub-if4 c = omega arith
 
 returns-4 : tie.Need-returns-4 Inv-loop μ-loop
 returns-4 c =
-    turn-above _ _ _ _ _ _ (c .before .before .before .before .before .before .loop-test .taken) (c .before .before .before .before .before .before .before .loop .inv .1) (c .before .before .before .before .if1 .left) (sym (c .before .before .before .is-digit .ensures) ∙ not-false _ (c .before .before .if2 .left)) (omega arith)
+    let at-if2 = c .before .before in
+    let at-is-digit = at-if2 .before in
+    let at-if1 = at-is-digit .before in
+    let at-loop-test = at-if1 .before .before in
+    let at-loop = at-loop-test .before in
+    turn-above _ _ _ _ _ _ (at-loop-test .loop-test .taken) (at-loop .loop .inv .1) (at-if1 .if1 .left) (sym (at-is-digit .is-digit .ensures) ∙ not-false _ (at-if2 .if2 .left)) (omega arith)
 
 mul-n : tie.Need-mul-n Inv-loop μ-loop
 mul-n c = omega arith
@@ -71,7 +95,15 @@ loop-less c = omega arith
 
 loop-again : tie.Need-loop-again Inv-loop μ-loop
 loop-again c =
-    (omega arith, turn-digit _ _ _ _ _ _ (c .before .before .before .before .before .before .loop-test .taken) (c .before .before .before .before .before .before .before .loop .inv .1) (c .before .before .before .before .if1 .left) (sym (c .before .before .before .is-digit .ensures) ∙ not-false _ (c .before .before .if2 .left)) (omega arith))
+    let at-if2 = c .before .before in
+    let at-is-digit = at-if2 .before in
+    let at-if1 = at-is-digit .before in
+    let at-loop-test = at-if1 .before .before in
+    let at-loop = at-loop-test .before in (
+      omega arith,
+      turn-digit _ _ _ _ _ _ (at-loop-test .loop-test .taken) (at-loop .loop .inv .1) (at-if1 .if1 .left)
+          (sym (at-is-digit .is-digit .ensures) ∙ not-false _ (at-if2 .if2 .left)) (omega arith),
+    )
 
 returns-5 : tie.Need-returns-5 Inv-loop μ-loop
 returns-5 c = turn-none _ _ _ _ _ _ (c .loop-test .left) (c .before .loop .inv .1)

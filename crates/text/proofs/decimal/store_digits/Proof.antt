@@ -39,8 +39,13 @@ loop-less : tie.Need-loop-less Inv-loop μ-loop
 loop-less c = omega arith
 
 loop-again : tie.Need-loop-again Inv-loop μ-loop
-loop-again c =
-    (omega arith, (omega (arith, length-more (c .before .loop .m) (c .loop-test .taken)), (simp length-set (c .before .loop .inv .1 .1 .0), digit-stored _ _ _ _ _ (c .loop-test .taken) (c .before .loop .inv .1 .0) (c .before .loop .inv .1 .1 .1))))
+loop-again c = (
+  omega arith,
+  (
+    omega (arith, length-more (c .before .loop .m) (c .loop-test .taken)),
+    (simp length-set (c .before .loop .inv .1 .1 .0), digit-stored _ _ _ _ _ (c .loop-test .taken) (c .before .loop .inv .1 .0) (c .before .loop .inv .1 .1 .1)),
+  ),
+)
 
 cast-out-2 : tie.Need-cast-out-2 Inv-loop μ-loop
 cast-out-2 c = omega arith

@@ -25,7 +25,10 @@ shared-slice-read-value c = omega arith
 
 returns : tie.Need-returns Inv-loop μ-loop
 returns c =
-    rw (at-next _ _ (c .before .before .before .loop-test .taken), eq-eqb _ _ (sym (c .before .value .ensures .0) ∙ c .if1 .taken)) at (c .before .before .before .before .loop .inv .1)
+    let at-value = c .before in
+    let at-loop-test = at-value .before .before in
+    let at-loop = at-loop-test .before in
+    rw (at-next _ _ (at-loop-test .loop-test .taken), eq-eqb _ _ (sym (at-value .value .ensures .0) ∙ c .if1 .taken)) at (at-loop .loop .inv .1)
 
 add-i : tie.Need-add-i Inv-loop μ-loop
 add-i c = omega arith
@@ -35,7 +38,10 @@ loop-less c = omega arith
 
 loop-again : tie.Need-loop-again Inv-loop μ-loop
 loop-again c =
-    (omega arith, rw (at-next _ _ (c .before .before .before .loop-test .taken), ← c .before .value .ensures .0, ne-eqb _ _ (c .if1 .left)) at (c .before .before .before .before .loop .inv .1))
+    let at-value = c .before in
+    let at-loop-test = at-value .before .before in
+    let at-loop = at-loop-test .before in
+    (omega arith, rw (at-next _ _ (at-loop-test .loop-test .taken), ← at-value .value .ensures .0, ne-eqb _ _ (c .if1 .left)) at (at-loop .loop .inv .1))
 
 returns-2 : tie.Need-returns-2 Inv-loop μ-loop
 returns-2 c = rw (at-end _ _ (c .loop-test .left)) at (c .before .loop .inv .1)

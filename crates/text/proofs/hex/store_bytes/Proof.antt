@@ -32,7 +32,11 @@ shared-slice-read-value c = omega arith
 
 mul-out : tie.Need-mul-out Inv-loop μ-loop
 mul-out c =
-    omega (arith, hex-digit (c .before .before .before .before .before .before .args .s .now) (c .before .before .before .loop .i) (omega arith) (c .before .before .before .loop .inv .1 .1 .1 .0) (c .value .result) (c .value .ensures .0) (c .value .ensures .1))
+    omega (
+      arith,
+      hex-digit (c .before .before .before .before .before .before .args .s .now) (c .before .before .before .loop .i)
+          (omega arith) (c .before .before .before .loop .inv .1 .1 .1 .0) (c .value .result) (c .value .ensures .0) (c .value .ensures .1),
+    )
 
 add-value : tie.Need-add-value Inv-loop μ-loop
 add-value c = omega arith
@@ -42,7 +46,17 @@ shared-slice-read-value-2 c = omega arith
 
 add-out : tie.Need-add-out Inv-loop μ-loop
 add-out c =
-    omega (arith, hex-digit (c .before .before .before .before .before .before .before .before .args .s .now) (c .before .before .before .before .before .loop .i) (omega arith) (c .before .before .before .before .before .loop .inv .1 .1 .1 .0) (c .before .before .value .result) (c .before .before .value .ensures .0) (c .before .before .value .ensures .1), hex-digit (c .before .before .before .before .before .before .before .before .args .s .now) (c .before .before .before .before .before .loop .i + 1) (c .before .before .before .before .loop-test .taken) (hex-rest (c .before .before .before .before .before .before .before .before .args .s .now) (c .before .before .before .before .before .loop .i) (omega arith) (c .before .before .before .before .before .loop .inv .1 .1 .1 .0)) (c .value2 .result) (c .value2 .ensures .0) (c .value2 .ensures .1))
+    omega (
+      arith,
+      hex-digit (c .before .before .before .before .before .before .before .before .args .s .now)
+          (c .before .before .before .before .before .loop .i) (omega arith)
+          (c .before .before .before .before .before .loop .inv .1 .1 .1 .0) (c .before .before .value .result) (c .before .before .value .ensures .0) (c .before .before .value .ensures .1),
+      hex-digit (c .before .before .before .before .before .before .before .before .args .s .now)
+          (c .before .before .before .before .before .loop .i + 1) (c .before .before .before .before .loop-test .taken)
+          (hex-rest (c .before .before .before .before .before .before .before .before .args .s .now)
+          (c .before .before .before .before .before .loop .i) (omega arith) (c .before .before .before .before .before .loop .inv .1 .1 .1 .0))
+          (c .value2 .result) (c .value2 .ensures .0) (c .value2 .ensures .1),
+    )
 
 slice-write-out : tie.Need-slice-write-out Inv-loop μ-loop
 slice-write-out c = omega arith
@@ -58,7 +72,23 @@ loop-less c = omega arith
 
 loop-again : tie.Need-loop-again Inv-loop μ-loop
 loop-again c =
-    (omega arith, (simp length-set (omega arith), (simp length-set (c .before .before .before .before .before .loop .inv .1 .1 .0), (rw add-assoc at (hex-rest (c .before .before .before .before .before .before .before .before .args .s .now) (c .before .before .before .before .before .loop .i + 1) (c .before .before .before .before .loop-test .taken) (hex-rest (c .before .before .before .before .before .before .before .before .args .s .now) (c .before .before .before .before .before .loop .i) (omega arith) (c .before .before .before .before .before .loop .inv .1 .1 .1 .0))), byte-stored _ _ _ _ _ _ _ (c .before .before .before .before .loop-test .taken) (c .before .before .value .ensures .0) (c .value2 .ensures .0) (c .before .before .before .before .before .loop .inv .1 .1 .1 .1)))))
+    let at-value = c .before .before in
+    let at-loop-test = at-value .before .before in
+    let at-loop = at-loop-test .before in
+    let args = at-loop .before .before .before .args in (
+      omega arith,
+      (
+        simp length-set (omega arith),
+        (
+          simp length-set (at-loop .loop .inv .1 .1 .0),
+          (
+            rw add-assoc at (hex-rest (args .s .now) (at-loop .loop .i + 1) (at-loop-test .loop-test .taken)
+                (hex-rest (args .s .now) (at-loop .loop .i) (omega arith) (at-loop .loop .inv .1 .1 .1 .0))),
+            byte-stored _ _ _ _ _ _ _ (at-loop-test .loop-test .taken) (at-value .value .ensures .0) (c .value2 .ensures .0) (at-loop .loop .inv .1 .1 .1 .1),
+          ),
+        ),
+      ),
+    )
 
 returns : tie.Need-returns Inv-loop μ-loop
 returns c =

@@ -51,7 +51,15 @@ loop-less c = omega arith
 
 loop-again : tie.Need-loop-again Inv-loop μ-loop
 loop-again c =
-    (omega arith, (omega arith, (simp length-set (c .before .before .before .before .loop .inv .1 .1 .0), hex-stored _ _ _ _ _ _ _ (c .before .before .before .loop-test .taken) (c .before .digit .ensures) (c .digit2 .ensures) (c .before .before .before .before .loop .inv .1 .1 .1))))
+    let at-digit = c .before in
+    let at-loop-test = at-digit .before .before in
+    let at-loop = at-loop-test .before in (
+      omega arith,
+      (
+        omega arith,
+        (simp length-set (at-loop .loop .inv .1 .1 .0), hex-stored _ _ _ _ _ _ _ (at-loop-test .loop-test .taken) (at-digit .digit .ensures) (c .digit2 .ensures) (at-loop .loop .inv .1 .1 .1)),
+      ),
+    )
 
 returns : tie.Need-returns Inv-loop μ-loop
 returns c = hex-all _ _ _ _ _ (c .loop-test .left) (c .before .loop .inv .1 .1 .1)

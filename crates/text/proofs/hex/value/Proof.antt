@@ -22,11 +22,17 @@ returns-2 c =
 
 returns-3 : tie.Need-returns-3
 returns-3 c =
-    (rw (sym (c .before .before .before .is-digit .ensures) ∙ c .before .before .if1 .left, le-ltb _ _ (c .before .if2 .left), lt-ltb _ _ (c .if3 .taken)), omega arith)
+    let at-if2 = c .before in
+    let at-if1 = at-if2 .before in
+    let at-is-digit = at-if1 .before in
+    (rw (sym (at-is-digit .is-digit .ensures) ∙ at-if1 .if1 .left, le-ltb _ _ (at-if2 .if2 .left), lt-ltb _ _ (c .if3 .taken)), omega arith)
 
 returns-4 : tie.Need-returns-4
 returns-4 c =
-    (rw (sym (c .before .before .before .is-digit .ensures) ∙ c .before .before .if1 .left, le-ltb _ _ (c .before .if2 .left), le-ltb _ _ (c .if3 .left)), omega arith)
+    let at-if2 = c .before in
+    let at-if1 = at-if2 .before in
+    let at-is-digit = at-if1 .before in
+    (rw (sym (at-is-digit .is-digit .ensures) ∙ at-if1 .if1 .left, le-ltb _ _ (at-if2 .if2 .left), le-ltb _ _ (c .if3 .left)), omega arith)
 
 pub value-spec : {M : Type 1} → statement M
 value-spec =

@@ -11,15 +11,31 @@ use Rattle.text.proofs.words.put_bytes.Tie as tie
 
 returns : tie.Need-returns
 returns c =
-    stored-none _ _ _ (lacks (c .before .has .result) (c .before .before .before .before .args .at + length (c .before .before .before .before .args .text .now)) (length (c .before .before .before .before .args .out .now)) (c .before .has .ensures) (c .if1 .taken))
+    let at-has = c .before in
+    let args = at-has .before .before .before .args in
+    stored-none _ _ _ (lacks (at-has .has .result) (args .at + length (args .text .now)) (length (args .out .now)) (at-has .has .ensures) (c .if1 .taken))
 
 add-result : tie.Need-add-result
 add-result c =
-    omega (arith, room (c .before .before .before .before .before .has .result) (c .before .before .before .before .before .before .before .before .args .at + length (c .before .before .before .before .before .before .before .before .args .text .now)) (length (c .before .before .before .before .before .before .before .before .args .out .now)) (c .before .before .before .before .before .has .ensures) (c .before .before .before .before .if1 .left))
+    omega (
+      arith,
+      room (c .before .before .before .before .before .has .result)
+          (c .before .before .before .before .before .before .before .before .args .at + length (c .before .before .before .before .before .before .before .before .args .text .now))
+          (length (c .before .before .before .before .before .before .before .before .args .out .now))
+          (c .before .before .before .before .before .has .ensures) (c .before .before .before .before .if1 .left),
+    )
 
 returns-2 : tie.Need-returns-2
 returns-2 c =
-    record { stored = c .before .before .put-run .ensures; after = rw (holds (c .before .before .before .before .before .has .result) (c .before .before .before .before .before .before .before .before .args .at + length (c .before .before .before .before .before .before .before .before .args .text .now)) (length (c .before .before .before .before .before .before .before .before .args .out .now)) (c .before .before .before .before .before .has .ensures) (c .before .before .before .before .if1 .left)) }
+    let at-put-run = c .before .before in
+    let at-if1 = at-put-run .before .before in
+    let at-has = at-if1 .before in
+    let args = at-has .before .before .before .args in
+    record {
+      stored = at-put-run .put-run .ensures;
+      after =
+          rw (holds (at-has .has .result) (args .at + length (args .text .now)) (length (args .out .now)) (at-has .has .ensures) (at-if1 .if1 .left));
+    }
 
 pub put-bytes-spec : {M : Type 1} → statement M
 put-bytes-spec =

@@ -20,11 +20,16 @@ abbrev μ-loop : tie.MeasureT-loop
 
 returns : tie.Need-returns Inv-loop μ-loop
 returns c =
-    starts-short (c .before .before .before .before .args .s .now) (c .before .before .before .before .args .word .now) (c .before .before .before .before .args .at) (leb-false _ _ (lacks (c .before .has .result) (c .before .before .before .before .args .at + length (c .before .before .before .before .args .word .now)) (length (c .before .before .before .before .args .s .now)) (c .before .has .ensures) (c .if1 .taken)))
+    let at-has = c .before in
+    let args = at-has .before .before .before .args in
+    starts-short (args .s .now) (args .word .now) (args .at)
+    (leb-false _ _ (lacks (at-has .has .result) (args .at + length (args .word .now)) (length (args .s .now)) (at-has .has .ensures) (c .if1 .taken)))
 
 loop-holds : tie.Need-loop-holds Inv-loop μ-loop
 loop-holds c =
-    (room _ _ _ (c .before .has .ensures) (c .if1 .left), (omega arith, starts-from (c .before .before .before .before .args .s .now) (c .before .before .before .before .args .word .now) (c .before .before .before .before .args .at)))
+    let at-has = c .before in
+    let args = at-has .before .before .before .args in
+    (room _ _ _ (at-has .has .ensures) (c .if1 .left), (omega arith, starts-from (args .s .now) (args .word .now) (args .at)))
 
 add-if2 : tie.Need-add-if2 Inv-loop μ-loop
 add-if2 c = omega arith
@@ -37,7 +42,9 @@ shared-slice-read-if2-2 c = omega arith
 
 returns-2 : tie.Need-returns-2 Inv-loop μ-loop
 returns-2 c =
-    starts-differ _ _ _ _ _ (c .before .before .before .before .loop .inv .0) (c .before .before .before .loop-test .taken) (c .before .before .before .before .loop .inv .1 .1) (c .if2 .taken)
+    let at-loop-test = c .before .before .before in
+    let at-loop = at-loop-test .before in
+    starts-differ _ _ _ _ _ (at-loop .loop .inv .0) (at-loop-test .loop-test .taken) (at-loop .loop .inv .1 .1) (c .if2 .taken)
 
 add-i : tie.Need-add-i Inv-loop μ-loop
 add-i c = omega arith
@@ -47,7 +54,9 @@ loop-less c = omega arith
 
 loop-again : tie.Need-loop-again Inv-loop μ-loop
 loop-again c =
-    (c .before .before .before .before .loop .inv .0, (omega arith, starts-agree _ _ _ _ _ (c .before .before .before .before .loop .inv .0) (c .before .before .before .loop-test .taken) (c .before .before .before .before .loop .inv .1 .1) (c .if2 .left)))
+    let at-loop-test = c .before .before .before in
+    let at-loop = at-loop-test .before in
+    (at-loop .loop .inv .0, (omega arith, starts-agree _ _ _ _ _ (at-loop .loop .inv .0) (at-loop-test .loop-test .taken) (at-loop .loop .inv .1 .1) (c .if2 .left)))
 
 returns-3 : tie.Need-returns-3 Inv-loop μ-loop
 returns-3 c = starts-all _ _ _ _ _ (c .loop-test .left) (c .before .loop .inv .1 .1)

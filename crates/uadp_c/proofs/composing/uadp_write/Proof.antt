@@ -9,7 +9,20 @@ use Rattle.uadp_c.proofs.composing.uadp_write.Tie as tie
 
 returns : tie.Need-returns
 returns c =
-    datagram-composed (now (c .before .before .before .before .before .before .before .before .before .before .before .before .before .before .before .before .before .before .before .before .before .args .config)) (now (c .before .before .before .before .before .before .before .before .before .before .before .before .before .before .before .before .before .before .before .before .before .args .envelope)) _ _ (now (c .before .before .before .before .before .before .before .before .before .before .before .before .before .before .before .before .before .before .before .before .before .args .out)) _ (given (now (c .before .before .before .before .before .before .before .before .before .before .before .before .before .before .before .before .before .before .before .before .before .args .text)) (now (c .before .before .before .before .before .before .before .before .before .before .before .before .before .before .before .before .before .before .before .before .before .args .ids)) (now (c .before .before .before .before .before .before .before .before .before .before .before .before .before .before .before .before .before .before .before .before .before .args .promoted)) (now (c .before .before .before .before .before .before .before .before .before .before .before .before .before .before .before .before .before .before .before .before .before .args .lengths)) (now (c .before .before .before .before .before .before .before .before .before .before .before .before .before .before .before .before .before .before .before .before .before .args .messages))) _ (c .before .before .before .before .before .before .before .before .before .before .before .before .envelope-in .result) (c .before .before .before .write .result) (c .before .before .before .before .before .before .before .before .before .before .before .before .envelope-in .ensures) (of-writers 34 (now (c .before .before .before .before .before .before .before .before .before .before .before .before .before .before .before .before .before .before .before .before .before .args .config)) _ _ _ (c .before .before .before .before .before .before .before .before .before .before .before .writer-count .ensures .0) (c .before .before .before .before .before .before .before .before .before .before .sizes .ensures) (c .before .before .before .before .before .before .before .first .ensures)) (of-writers 2 (now (c .before .before .before .before .before .before .before .before .before .before .before .before .before .before .before .before .before .before .before .before .before .args .config)) _ _ _ (c .before .before .before .before .before .before .before .before .before .before .before .writer-count .ensures .0) (c .before .before .before .before .before .before .before .before .before .ids .ensures) (c .before .before .before .before .before .first2 .ensures)) (c .before .before .before .write .ensures) (c .written-result .ensures)
+    let at-write = c .before .before .before in
+    let at-first2 = at-write .before .before in
+    let at-first = at-first2 .before .before in
+    let at-ids = at-first .before .before in
+    let at-sizes = at-ids .before in
+    let at-writer-count = at-sizes .before in
+    let at-envelope-in = at-writer-count .before in
+    let args = at-envelope-in .before .before .before .before .before .before .before .before .before .args in
+    datagram-composed (now (args .config)) (now (args .envelope)) _ _ (now (args .out)) _
+    (given (now (args .text)) (now (args .ids)) (now (args .promoted)) (now (args .lengths)) (now (args .messages))) _
+    (at-envelope-in .envelope-in .result) (at-write .write .result) (at-envelope-in .envelope-in .ensures)
+    (of-writers 34 (now (args .config)) _ _ _ (at-writer-count .writer-count .ensures .0) (at-sizes .sizes .ensures) (at-first .first .ensures))
+    (of-writers 2 (now (args .config)) _ _ _ (at-writer-count .writer-count .ensures .0) (at-ids .ids .ensures) (at-first2 .first2 .ensures))
+    (at-write .write .ensures) (c .written-result .ensures)
 
 pub uadp-write-spec : {M : Type 1} → statement M
 uadp-write-spec =

@@ -9,7 +9,13 @@ use Rattle.uadp_c.proofs.composing.uadp_write_message.Tie as tie
 
 returns : tie.Need-returns
 returns c =
-    message-composed (now (c .before .before .before .before .before .before .before .before .before .before .before .before .before .args .config)) (now (c .before .before .before .before .before .before .before .before .before .before .before .before .before .args .head)) _ (now (c .before .before .before .before .before .before .before .before .before .before .before .before .before .args .values)) (now (c .before .before .before .before .before .before .before .before .before .before .before .before .before .args .lengths)) (now (c .before .before .before .before .before .before .before .before .before .before .before .before .before .args .indices)) (now (c .before .before .before .before .before .before .before .before .before .before .before .before .before .args .out)) _ (c .before .before .before .before .before .before .before .before .before .before .before .before .before .args .writer) (c .before .before .before .before .before .before .before .before .before .before .before .before .before .args .padding) _ (isOn (c .before .before .before .before .before .before .before .before .before .before .before .before .before .args .heartbeat)) (c .before .before .before .before .before .before .header-in .result) (c .before .before .before .write .result) (c .before .before .before .before .before .before .header-in .ensures) (c .before .before .before .before .before .types-for .ensures) (c .before .before .before .write .ensures .1) (c .written-result .ensures)
+    let at-write = c .before .before .before in
+    let at-types-for = at-write .before .before in
+    let at-header-in = at-types-for .before in
+    let args = at-header-in .before .before .before .before .before .before .before .args in
+    message-composed (now (args .config)) (now (args .head)) _ (now (args .values)) (now (args .lengths)) (now (args .indices))
+    (now (args .out)) _ (args .writer) (args .padding) _ (isOn (args .heartbeat)) (at-header-in .header-in .result)
+    (at-write .write .result) (at-header-in .header-in .ensures) (at-types-for .types-for .ensures) (at-write .write .ensures .1) (c .written-result .ensures)
 
 pub uadp-write-message-spec : {M : Type 1} → statement M
 uadp-write-message-spec =

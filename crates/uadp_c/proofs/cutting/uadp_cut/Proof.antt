@@ -8,12 +8,16 @@ use Rattle.uadp_c.proofs.cutting.uadp_cut.Tie as tie
 -- src/cutting.rt:11:1
 returns : tie.Need-returns
 returns c =
-    (c .result .ensures ∙ told cutResult (ap cutResult (c .before .before .before .before .before .before .cut .ensures .0)) (c .before .before .n .given .1), c .before .before .before .before .before .before .cut .ensures .1)
+    let at-n = c .before .before in
+    let at-cut = at-n .before .before .before .before in
+    (c .result .ensures ∙ told cutResult (ap cutResult (at-cut .cut .ensures .0)) (at-n .n .given .1), at-cut .cut .ensures .1)
 
 -- src/cutting.rt:11:1
 returns-2 : tie.Need-returns-2
 returns-2 c =
-    (c .result2 .ensures ∙ told cutResult (ap cutResult (c .before .before .before .before .before .before .cut .ensures .0)) (c .before .before .n2 .given .1), c .before .before .before .before .before .before .cut .ensures .1)
+    let at-n2 = c .before .before in
+    let at-cut = at-n2 .before .before .before .before in
+    (c .result2 .ensures ∙ told cutResult (ap cutResult (at-cut .cut .ensures .0)) (at-n2 .n2 .given .1), at-cut .cut .ensures .1)
 
 pub uadp-cut-spec : {M : Type 1} → statement M
 uadp-cut-spec =

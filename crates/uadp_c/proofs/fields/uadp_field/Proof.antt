@@ -12,17 +12,37 @@ use Rattle.uadp_c.proofs.fields.uadp_field.Tie as tie
 -- src/fields.rt:55:17
 returns : tie.Need-returns
 returns c =
-    fill-none _ (now (c .before .before .before .before .before .before .before .before .before .before .args .field)) _ _ 48 _ (field-read (now (c .before .before .before .before .before .before .before .before .before .before .args .config)) (now (c .before .before .before .before .before .before .before .before .before .before .args .message)) _ (c .before .before .before .before .before .before .before .before .before .before .args .writer) (c .before .before .before .before .before .before .before .before .before .before .args .k) _ (c .before .before .before .before .before .before .types-for .ensures) (told answerField (c .before .before .before .before .before .field-place .ensures) (c .before .before .before .f .given .1))) (bytes-length (fieldNumbers (c .before .before .before .f .given .0 .0))) (omega arith) (c .result2 .ensures)
+    let at-f = c .before .before .before in
+    let at-field-place = at-f .before .before in
+    let at-types-for = at-field-place .before in
+    let args = at-types-for .before .before .before .before .args in
+    fill-none _ (now (args .field)) _ _ 48 _
+    (field-read (now (args .config)) (now (args .message)) _ (args .writer) (args .k) _ (at-types-for .types-for .ensures)
+    (told answerField (at-field-place .field-place .ensures) (at-f .f .given .1))) (bytes-length (fieldNumbers (at-f .f .given .0 .0))) (omega arith) (c .result2 .ensures)
 
 -- src/fields.rt:47:1
 returns-2 : tie.Need-returns-2
 returns-2 c =
-    fill-refused _ (now (c .before .before .before .before .before .before .before .before .before .args .field)) _ _ _ (field-read (now (c .before .before .before .before .before .before .before .before .before .args .config)) (now (c .before .before .before .before .before .before .before .before .before .args .message)) _ (c .before .before .before .before .before .before .before .before .before .args .writer) (c .before .before .before .before .before .before .before .before .before .args .k) _ (c .before .before .before .before .before .types-for .ensures) (told answerField (c .before .before .before .before .field-place .ensures) (c .before .before .n .given .1))) (c .result .ensures)
+    let at-n = c .before .before in
+    let at-field-place = at-n .before .before in
+    let at-types-for = at-field-place .before in
+    let args = at-types-for .before .before .before .before .args in
+    fill-refused _ (now (args .field)) _ _ _
+    (field-read (now (args .config)) (now (args .message)) _ (args .writer) (args .k) _ (at-types-for .types-for .ensures)
+    (told answerField (at-field-place .field-place .ensures) (at-n .n .given .1))) (c .result .ensures)
 
 -- src/fields.rt:47:1
 returns-3 : tie.Need-returns-3
 returns-3 c =
-    fill-done _ (now (c .before .before .before .before .before .before .before .before .before .before .before .before .before .before .args .field)) _ _ _ 48 _ (field-read (now (c .before .before .before .before .before .before .before .before .before .before .before .before .before .before .args .config)) (now (c .before .before .before .before .before .before .before .before .before .before .before .before .before .before .args .message)) _ (c .before .before .before .before .before .before .before .before .before .before .before .before .before .before .args .writer) (c .before .before .before .before .before .before .before .before .before .before .before .before .before .before .args .k) _ (c .before .before .before .before .before .before .before .before .before .before .types-for .ensures) (told answerField (c .before .before .before .before .before .before .before .before .before .field-place .ensures) (c .before .before .before .before .before .before .before .f .given .1))) (bytes-length (fieldNumbers (c .before .before .before .before .before .before .before .f .given .0 .0))) (omega arith) (c .result3 .ensures) (c .before .before .before .put-field .ensures)
+    let at-put-field = c .before .before .before in
+    let at-f = at-put-field .before .before .before .before in
+    let at-field-place = at-f .before .before in
+    let at-types-for = at-field-place .before in
+    let args = at-types-for .before .before .before .before .args in
+    fill-done _ (now (args .field)) _ _ _ 48 _
+    (field-read (now (args .config)) (now (args .message)) _ (args .writer) (args .k) _ (at-types-for .types-for .ensures)
+    (told answerField (at-field-place .field-place .ensures) (at-f .f .given .1))) (bytes-length (fieldNumbers (at-f .f .given .0 .0)))
+    (omega arith) (c .result3 .ensures) (at-put-field .put-field .ensures)
 
 pub uadp-field-spec : {M : Type 1} → statement M
 uadp-field-spec =

@@ -10,22 +10,54 @@ use Rattle.uadp_c.proofs.fields.uadp_next_field.Tie as tie
 -- src/fields.rt:79:17
 returns : tie.Need-returns
 returns c =
-    step-no-head _ (now (c .before .before .before .before .before .before .before .before .before .before .before .before .before .args .head)) (now (c .before .before .before .before .before .before .before .before .before .before .before .before .before .args .field)) _ _ _ _ (stepped (now (c .before .before .before .before .before .before .before .before .before .before .before .before .before .args .config)) (now (c .before .before .before .before .before .before .before .before .before .before .before .before .before .args .message)) _ (now (c .before .before .before .before .before .before .before .before .before .before .before .before .before .args .head)) (c .before .before .before .before .before .before .before .before .before .before .before .before .before .args .writer) _ _ (c .before .before .before .before .before .before .types-for .ensures) (c .before .before .before .before .before .before .before .cursor-in .ensures) (told answerStep (c .before .before .before .before .before .step .ensures) (c .before .before .before .f .given .1))) (omega arith) (c .result2 .ensures)
+    let at-f = c .before .before .before in
+    let at-step = at-f .before .before in
+    let at-types-for = at-step .before in
+    let at-cursor-in = at-types-for .before in
+    let args = at-cursor-in .before .before .before .before .before .before .args in
+    step-no-head _ (now (args .head)) (now (args .field)) _ _ _ _
+    (stepped (now (args .config)) (now (args .message)) _ (now (args .head)) (args .writer) _ _ (at-types-for .types-for .ensures)
+    (at-cursor-in .cursor-in .ensures) (told answerStep (at-step .step .ensures) (at-f .f .given .1))) (omega arith) (c .result2 .ensures)
 
 -- src/fields.rt:82:17
 returns-2 : tie.Need-returns-2
 returns-2 c =
-    step-no-field _ (now (c .before .before .before .before .before .before .before .before .before .before .before .before .before .before .args .head)) (now (c .before .before .before .before .before .before .before .before .before .before .before .before .before .before .args .field)) _ _ _ _ (stepped (now (c .before .before .before .before .before .before .before .before .before .before .before .before .before .before .args .config)) (now (c .before .before .before .before .before .before .before .before .before .before .before .before .before .before .args .message)) _ (now (c .before .before .before .before .before .before .before .before .before .before .before .before .before .before .args .head)) (c .before .before .before .before .before .before .before .before .before .before .before .before .before .before .args .writer) _ _ (c .before .before .before .before .before .before .before .types-for .ensures) (c .before .before .before .before .before .before .before .before .cursor-in .ensures) (told answerStep (c .before .before .before .before .before .before .step .ensures) (c .before .before .before .before .f .given .1))) (omega arith) (omega arith) (c .result3 .ensures)
+    let at-f = c .before .before .before .before in
+    let at-step = at-f .before .before in
+    let at-types-for = at-step .before in
+    let at-cursor-in = at-types-for .before in
+    let args = at-cursor-in .before .before .before .before .before .before .args in
+    step-no-field _ (now (args .head)) (now (args .field)) _ _ _ _
+    (stepped (now (args .config)) (now (args .message)) _ (now (args .head)) (args .writer) _ _ (at-types-for .types-for .ensures)
+    (at-cursor-in .cursor-in .ensures) (told answerStep (at-step .step .ensures) (at-f .f .given .1))) (omega arith) (omega arith) (c .result3 .ensures)
 
 -- src/fields.rt:64:1
 returns-3 : tie.Need-returns-3
 returns-3 c =
-    step-refused _ (now (c .before .before .before .before .before .before .before .before .before .before .before .before .args .head)) (now (c .before .before .before .before .before .before .before .before .before .before .before .before .args .field)) _ _ _ (stepped (now (c .before .before .before .before .before .before .before .before .before .before .before .before .args .config)) (now (c .before .before .before .before .before .before .before .before .before .before .before .before .args .message)) _ (now (c .before .before .before .before .before .before .before .before .before .before .before .before .args .head)) (c .before .before .before .before .before .before .before .before .before .before .before .before .args .writer) _ _ (c .before .before .before .before .before .types-for .ensures) (c .before .before .before .before .before .before .cursor-in .ensures) (told answerStep (c .before .before .before .before .step .ensures) (c .before .before .n .given .1))) (c .result .ensures)
+    let at-n = c .before .before in
+    let at-step = at-n .before .before in
+    let at-types-for = at-step .before in
+    let at-cursor-in = at-types-for .before in
+    let args = at-cursor-in .before .before .before .before .before .before .args in
+    step-refused _ (now (args .head)) (now (args .field)) _ _ _
+    (stepped (now (args .config)) (now (args .message)) _ (now (args .head)) (args .writer) _ _ (at-types-for .types-for .ensures)
+    (at-cursor-in .cursor-in .ensures) (told answerStep (at-step .step .ensures) (at-n .n .given .1))) (c .result .ensures)
 
 -- src/fields.rt:64:1
 returns-4 : tie.Need-returns-4
 returns-4 c =
-    step-done _ (now (c .before .before .before .before .before .before .before .before .before .before .before .before .before .before .before .before .before .before .before .before .before .before .before .before .before .before .args .head)) (now (c .before .before .before .before .before .before .before .before .before .before .before .before .before .before .before .before .before .before .before .before .before .before .before .before .before .before .args .field)) _ _ _ _ _ _ _ (stepped (now (c .before .before .before .before .before .before .before .before .before .before .before .before .before .before .before .before .before .before .before .before .before .before .before .before .before .before .args .config)) (now (c .before .before .before .before .before .before .before .before .before .before .before .before .before .before .before .before .before .before .before .before .before .before .before .before .before .before .args .message)) _ (now (c .before .before .before .before .before .before .before .before .before .before .before .before .before .before .before .before .before .before .before .before .before .before .before .before .before .before .args .head)) (c .before .before .before .before .before .before .before .before .before .before .before .before .before .before .before .before .before .before .before .before .before .before .before .before .before .before .args .writer) _ _ (c .before .before .before .before .before .before .before .before .before .before .before .before .before .before .before .before .before .before .before .types-for .ensures) (c .before .before .before .before .before .before .before .before .before .before .before .before .before .before .before .before .before .before .before .before .cursor-in .ensures) (told answerStep (c .before .before .before .before .before .before .before .before .before .before .before .before .before .before .before .before .before .before .step .ensures) (c .before .before .before .before .before .before .before .before .before .before .before .before .before .before .before .before .f .given .1))) (omega arith) (omega arith) (c .result4 .ensures) (c .before .before .before .before .before .before .before .before .before .before .before .put64 .ensures) (c .before .before .before .before .before .before .before .put642 .ensures) (c .before .before .before .put-field .ensures)
+    let at-put-field = c .before .before .before in
+    let at-put642 = at-put-field .before .before .before .before in
+    let at-put64 = at-put642 .before .before .before .before in
+    let at-f = at-put64 .before .before .before .before .before in
+    let at-step = at-f .before .before in
+    let at-types-for = at-step .before in
+    let at-cursor-in = at-types-for .before in
+    let args = at-cursor-in .before .before .before .before .before .before .args in
+    step-done _ (now (args .head)) (now (args .field)) _ _ _ _ _ _ _
+    (stepped (now (args .config)) (now (args .message)) _ (now (args .head)) (args .writer) _ _ (at-types-for .types-for .ensures)
+    (at-cursor-in .cursor-in .ensures) (told answerStep (at-step .step .ensures) (at-f .f .given .1))) (omega arith) (omega arith)
+    (c .result4 .ensures) (at-put64 .put64 .ensures) (at-put642 .put642 .ensures) (at-put-field .put-field .ensures)
 
 pub uadp-next-field-spec : {M : Type 1} → statement M
 uadp-next-field-spec =

@@ -13,27 +13,60 @@ use Rattle.uadp_c.proofs.fields.uadp_read_message.Tie as tie
 -- src/fields.rt:31:17
 returns : tie.Need-returns
 returns c =
-    fill-none _ (now (c .before .before .before .before .before .before .before .before .before .args .head)) _ _ 160 _ (head-read (now (c .before .before .before .before .before .before .before .before .before .args .config)) (now (c .before .before .before .before .before .before .before .before .before .args .message)) _ (c .before .before .before .before .before .before .before .before .before .args .writer) _ (c .before .before .before .before .before .types-for .ensures) (told answerMessage (c .before .before .before .before .read .ensures) (c .before .before .enum-told .given .1))) (bytes-length (headNumbers notValid)) (omega arith) (c .result2 .ensures)
+    let at-enum-told = c .before .before in
+    let at-read = at-enum-told .before .before in
+    let at-types-for = at-read .before in
+    let args = at-types-for .before .before .before .before .args in
+    fill-none _ (now (args .head)) _ _ 160 _
+    (head-read (now (args .config)) (now (args .message)) _ (args .writer) _ (at-types-for .types-for .ensures) (told answerMessage (at-read .read .ensures) (at-enum-told .enum-told .given .1)))
+    (bytes-length (headNumbers notValid)) (omega arith) (c .result2 .ensures)
 
 -- src/fields.rt:38:17
 returns-2 : tie.Need-returns-2
 returns-2 c =
-    fill-none _ (now (c .before .before .before .before .before .before .before .before .before .before .args .head)) _ _ 160 _ (head-read (now (c .before .before .before .before .before .before .before .before .before .before .args .config)) (now (c .before .before .before .before .before .before .before .before .before .before .args .message)) _ (c .before .before .before .before .before .before .before .before .before .before .args .writer) _ (c .before .before .before .before .before .before .types-for .ensures) (told answerMessage (c .before .before .before .before .before .read .ensures) (c .before .before .before .h .given .1))) (bytes-length (headNumbers (valid (record { header = c .before .before .before .h .given .0 .0; cursor = c .before .before .before .h .given .0 .1 .0; end = c .before .before .before .h .given .0 .1 .1 .0 })))) (omega arith) (c .result4 .ensures)
+    let at-h = c .before .before .before in
+    let at-read = at-h .before .before in
+    let at-types-for = at-read .before in
+    let args = at-types-for .before .before .before .before .args in
+    fill-none _ (now (args .head)) _ _ 160 _
+    (head-read (now (args .config)) (now (args .message)) _ (args .writer) _ (at-types-for .types-for .ensures) (told answerMessage (at-read .read .ensures) (at-h .h .given .1)))
+    (bytes-length (headNumbers (valid (record { header = at-h .h .given .0 .0; cursor = at-h .h .given .0 .1 .0; end = at-h .h .given .0 .1 .1 .0 })))) (omega arith) (c .result4 .ensures)
 
 -- src/fields.rt:23:1
 returns-3 : tie.Need-returns-3
 returns-3 c =
-    fill-refused _ (now (c .before .before .before .before .before .before .before .before .before .args .head)) _ _ _ (head-read (now (c .before .before .before .before .before .before .before .before .before .args .config)) (now (c .before .before .before .before .before .before .before .before .before .args .message)) _ (c .before .before .before .before .before .before .before .before .before .args .writer) _ (c .before .before .before .before .before .types-for .ensures) (told answerMessage (c .before .before .before .before .read .ensures) (c .before .before .n .given .1))) (c .result .ensures)
+    let at-n = c .before .before in
+    let at-read = at-n .before .before in
+    let at-types-for = at-read .before in
+    let args = at-types-for .before .before .before .before .args in
+    fill-refused _ (now (args .head)) _ _ _
+    (head-read (now (args .config)) (now (args .message)) _ (args .writer) _ (at-types-for .types-for .ensures) (told answerMessage (at-read .read .ensures) (at-n .n .given .1)))
+    (c .result .ensures)
 
 -- src/fields.rt:23:1
 returns-4 : tie.Need-returns-4
 returns-4 c =
-    fill-done _ (now (c .before .before .before .before .before .before .before .before .before .before .before .before .before .args .head)) _ _ _ 160 _ (head-read (now (c .before .before .before .before .before .before .before .before .before .before .before .before .before .args .config)) (now (c .before .before .before .before .before .before .before .before .before .before .before .before .before .args .message)) _ (c .before .before .before .before .before .before .before .before .before .before .before .before .before .args .writer) _ (c .before .before .before .before .before .before .before .before .before .types-for .ensures) (told answerMessage (c .before .before .before .before .before .before .before .before .read .ensures) (c .before .before .before .before .before .before .enum-told .given .1))) (bytes-length (headNumbers notValid)) (omega arith) (c .result3 .ensures) (c .before .before .before .put-no-head .ensures)
+    let at-put-no-head = c .before .before .before in
+    let at-enum-told = at-put-no-head .before .before .before in
+    let at-read = at-enum-told .before .before in
+    let at-types-for = at-read .before in
+    let args = at-types-for .before .before .before .before .args in
+    fill-done _ (now (args .head)) _ _ _ 160 _
+    (head-read (now (args .config)) (now (args .message)) _ (args .writer) _ (at-types-for .types-for .ensures) (told answerMessage (at-read .read .ensures) (at-enum-told .enum-told .given .1)))
+    (bytes-length (headNumbers notValid)) (omega arith) (c .result3 .ensures) (at-put-no-head .put-no-head .ensures)
 
 -- src/fields.rt:23:1
 returns-5 : tie.Need-returns-5
 returns-5 c =
-    fill-done _ (now (c .before .before .before .before .before .before .before .before .before .before .before .before .before .before .args .head)) _ _ _ 160 _ (head-read (now (c .before .before .before .before .before .before .before .before .before .before .before .before .before .before .args .config)) (now (c .before .before .before .before .before .before .before .before .before .before .before .before .before .before .args .message)) _ (c .before .before .before .before .before .before .before .before .before .before .before .before .before .before .args .writer) _ (c .before .before .before .before .before .before .before .before .before .before .types-for .ensures) (told answerMessage (c .before .before .before .before .before .before .before .before .before .read .ensures) (c .before .before .before .before .before .before .before .h .given .1))) (bytes-length (headNumbers (valid (record { header = c .before .before .before .before .before .before .before .h .given .0 .0; cursor = c .before .before .before .before .before .before .before .h .given .0 .1 .0; end = c .before .before .before .before .before .before .before .h .given .0 .1 .1 .0 })))) (omega arith) (c .result5 .ensures) (c .before .before .before .put-head .ensures)
+    let at-put-head = c .before .before .before in
+    let at-h = at-put-head .before .before .before .before in
+    let at-read = at-h .before .before in
+    let at-types-for = at-read .before in
+    let args = at-types-for .before .before .before .before .args in
+    fill-done _ (now (args .head)) _ _ _ 160 _
+    (head-read (now (args .config)) (now (args .message)) _ (args .writer) _ (at-types-for .types-for .ensures) (told answerMessage (at-read .read .ensures) (at-h .h .given .1)))
+    (bytes-length (headNumbers (valid (record { header = at-h .h .given .0 .0; cursor = at-h .h .given .0 .1 .0; end = at-h .h .given .0 .1 .1 .0 }))))
+    (omega arith) (c .result5 .ensures) (at-put-head .put-head .ensures)
 
 pub uadp-read-message-spec : {M : Type 1} → statement M
 uadp-read-message-spec =

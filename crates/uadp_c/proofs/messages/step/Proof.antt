@@ -7,7 +7,14 @@ use Rattle.uadp_c.proofs.messages.step.Tie as tie
 -- src/messages.rt:45:1
 returns : tie.Need-returns
 returns c =
-    message-stepped (now (c .before .before .before .before .before .before .before .before .before .before .args .config)) (now (c .before .before .before .before .before .before .before .before .before .before .args .envelope)) (now (c .before .before .before .before .before .before .before .before .before .before .args .datagram)) _ _ _ _ _ _ (c .before .before .before .before .before .before .writer-count .ensures .0) (c .before .before .before .before .before .sizes .ensures) (c .before .first .ensures) (c .before .before .before .before .payload-in .ensures) (c .before .before .before .messages-in .ensures) (c .step .ensures)
+    let at-first = c .before in
+    let at-messages-in = at-first .before .before in
+    let at-payload-in = at-messages-in .before in
+    let at-sizes = at-payload-in .before in
+    let at-writer-count = at-sizes .before in
+    let args = at-writer-count .before .before .before .before .args in
+    message-stepped (now (args .config)) (now (args .envelope)) (now (args .datagram)) _ _ _ _ _ _
+    (at-writer-count .writer-count .ensures .0) (at-sizes .sizes .ensures) (at-first .first .ensures) (at-payload-in .payload-in .ensures) (at-messages-in .messages-in .ensures) (c .step .ensures)
 
 pub step-spec : {M : Type 1} → statement M
 step-spec =

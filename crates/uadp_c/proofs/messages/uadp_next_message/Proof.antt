@@ -11,22 +11,43 @@ use Rattle.uadp_c.proofs.messages.uadp_next_message.Tie as tie
 -- src/messages.rt:74:17
 returns : tie.Need-returns
 returns c =
-    walk-no-envelope (writerAt (now (c .before .before .before .before .before .before .before .before .before .before .before .args .config)) (now (c .before .before .before .before .before .before .before .before .before .before .before .args .envelope)) (now (c .before .before .before .before .before .before .before .before .before .before .before .args .datagram))) _ (now (c .before .before .before .before .before .before .before .before .before .before .before .args .envelope)) (now (c .before .before .before .before .before .before .before .before .before .before .before .args .place)) _ _ _ _ (told answerStep (c .before .before .before .before .before .step .ensures) (c .before .before .before .m .given .1)) (omega arith) (c .result2 .ensures)
+    let at-m = c .before .before .before in
+    let at-step = at-m .before .before in
+    let args = at-step .before .before .before .before .before .before .args in
+    walk-no-envelope (writerAt (now (args .config)) (now (args .envelope)) (now (args .datagram))) _ (now (args .envelope))
+    (now (args .place)) _ _ _ _ (told answerStep (at-step .step .ensures) (at-m .m .given .1)) (omega arith) (c .result2 .ensures)
 
 -- src/messages.rt:77:17
 returns-2 : tie.Need-returns-2
 returns-2 c =
-    walk-no-place (writerAt (now (c .before .before .before .before .before .before .before .before .before .before .before .before .args .config)) (now (c .before .before .before .before .before .before .before .before .before .before .before .before .args .envelope)) (now (c .before .before .before .before .before .before .before .before .before .before .before .before .args .datagram))) _ (now (c .before .before .before .before .before .before .before .before .before .before .before .before .args .envelope)) (now (c .before .before .before .before .before .before .before .before .before .before .before .before .args .place)) _ _ _ _ (told answerStep (c .before .before .before .before .before .before .step .ensures) (c .before .before .before .before .m .given .1)) (omega arith) (omega arith) (c .result3 .ensures)
+    let at-m = c .before .before .before .before in
+    let at-step = at-m .before .before in
+    let args = at-step .before .before .before .before .before .before .args in
+    walk-no-place (writerAt (now (args .config)) (now (args .envelope)) (now (args .datagram))) _ (now (args .envelope))
+    (now (args .place)) _ _ _ _ (told answerStep (at-step .step .ensures) (at-m .m .given .1)) (omega arith) (omega arith) (c .result3 .ensures)
 
 -- src/messages.rt:66:1
 returns-3 : tie.Need-returns-3
 returns-3 c =
-    walk-refused (writerAt (now (c .before .before .before .before .before .before .before .before .before .before .args .config)) (now (c .before .before .before .before .before .before .before .before .before .before .args .envelope)) (now (c .before .before .before .before .before .before .before .before .before .before .args .datagram))) _ (now (c .before .before .before .before .before .before .before .before .before .before .args .envelope)) (now (c .before .before .before .before .before .before .before .before .before .before .args .place)) _ _ _ (told answerStep (c .before .before .before .before .step .ensures) (c .before .before .number .given .1)) (c .result .ensures)
+    let at-number = c .before .before in
+    let at-step = at-number .before .before in
+    let args = at-step .before .before .before .before .before .before .args in
+    walk-refused (writerAt (now (args .config)) (now (args .envelope)) (now (args .datagram))) _ (now (args .envelope))
+    (now (args .place)) _ _ _ (told answerStep (at-step .step .ensures) (at-number .number .given .1)) (c .result .ensures)
 
 -- src/messages.rt:66:1
 returns-4 : tie.Need-returns-4
 returns-4 c =
-    walk-done (writerAt (now (c .before .before .before .before .before .before .before .before .before .before .before .before .before .before .before .before .before .before .before .before .before .before .before .before .before .before .args .config)) (now (c .before .before .before .before .before .before .before .before .before .before .before .before .before .before .before .before .before .before .before .before .before .before .before .before .before .before .args .envelope)) (now (c .before .before .before .before .before .before .before .before .before .before .before .before .before .before .before .before .before .before .before .before .before .before .before .before .before .before .args .datagram))) _ (now (c .before .before .before .before .before .before .before .before .before .before .before .before .before .before .before .before .before .before .before .before .before .before .before .before .before .before .args .envelope)) (now (c .before .before .before .before .before .before .before .before .before .before .before .before .before .before .before .before .before .before .before .before .before .before .before .before .before .before .args .place)) _ _ _ _ _ _ _ _ (told answerStep (c .before .before .before .before .before .before .before .before .before .before .before .before .before .before .before .before .before .before .before .before .step .ensures) (c .before .before .before .before .before .before .before .before .before .before .before .before .before .before .before .before .before .before .m .given .1)) (omega arith) (omega arith) (c .result4 .ensures) (c .before .before .before .before .before .before .before .before .before .before .before .before .before .writer-at .ensures) (c .before .before .before .before .before .before .before .before .before .before .before .put64 .ensures) (c .before .before .before .before .before .before .before .put642 .ensures) (c .before .before .before .put-place .ensures)
+    let at-put-place = c .before .before .before in
+    let at-put642 = at-put-place .before .before .before .before in
+    let at-put64 = at-put642 .before .before .before .before in
+    let at-writer-at = at-put64 .before .before in
+    let at-m = at-writer-at .before .before .before .before .before in
+    let at-step = at-m .before .before in
+    let args = at-step .before .before .before .before .before .before .args in
+    walk-done (writerAt (now (args .config)) (now (args .envelope)) (now (args .datagram))) _ (now (args .envelope))
+    (now (args .place)) _ _ _ _ _ _ _ _ (told answerStep (at-step .step .ensures) (at-m .m .given .1)) (omega arith) (omega arith)
+    (c .result4 .ensures) (at-writer-at .writer-at .ensures) (at-put64 .put64 .ensures) (at-put642 .put642 .ensures) (at-put-place .put-place .ensures)
 
 pub uadp-next-message-spec : {M : Type 1} → statement M
 uadp-next-message-spec =

@@ -13,17 +13,45 @@ use Rattle.uadp_c.proofs.messages.uadp_read.Tie as tie
 -- src/messages.rt:37:17
 returns : tie.Need-returns
 returns c =
-    fill-none _ (now (c .before .before .before .before .before .before .before .before .before .before .before .before .before .args .envelope)) _ _ 224 _ (envelope-read (now (c .before .before .before .before .before .before .before .before .before .before .before .before .before .args .config)) (now (c .before .before .before .before .before .before .before .before .before .before .before .before .before .args .datagram)) _ _ _ _ (c .before .before .before .before .before .before .before .before .before .writer-count .ensures .0) (c .before .before .before .before .before .before .before .before .sizes .ensures) (c .before .before .before .before .before .before .first .ensures) (told answerNetworkMessage (c .before .before .before .before .before .read .ensures) (c .before .before .before .e .given .1))) (bytes-length (envelopeNumbers (record { envelope = c .before .before .before .e .given .0 .0; places = c .before .before .before .e .given .0 .1 .0; payload = c .before .before .before .e .given .0 .1 .1 .0 }))) (omega arith) (c .result2 .ensures)
+    let at-e = c .before .before .before in
+    let at-read = at-e .before .before in
+    let at-first = at-read .before in
+    let at-sizes = at-first .before .before in
+    let at-writer-count = at-sizes .before in
+    let args = at-writer-count .before .before .before .before .args in
+    fill-none _ (now (args .envelope)) _ _ 224 _
+    (envelope-read (now (args .config)) (now (args .datagram)) _ _ _ _ (at-writer-count .writer-count .ensures .0)
+    (at-sizes .sizes .ensures) (at-first .first .ensures) (told answerNetworkMessage (at-read .read .ensures) (at-e .e .given .1)))
+    (bytes-length (envelopeNumbers (record { envelope = at-e .e .given .0 .0; places = at-e .e .given .0 .1 .0; payload = at-e .e .given .0 .1 .1 .0 }))) (omega arith) (c .result2 .ensures)
 
 -- src/messages.rt:27:1
 returns-2 : tie.Need-returns-2
 returns-2 c =
-    fill-refused _ (now (c .before .before .before .before .before .before .before .before .before .before .before .before .args .envelope)) _ _ _ (envelope-read (now (c .before .before .before .before .before .before .before .before .before .before .before .before .args .config)) (now (c .before .before .before .before .before .before .before .before .before .before .before .before .args .datagram)) _ _ _ _ (c .before .before .before .before .before .before .before .before .writer-count .ensures .0) (c .before .before .before .before .before .before .before .sizes .ensures) (c .before .before .before .before .before .first .ensures) (told answerNetworkMessage (c .before .before .before .before .read .ensures) (c .before .before .number .given .1))) (c .result .ensures)
+    let at-number = c .before .before in
+    let at-read = at-number .before .before in
+    let at-first = at-read .before in
+    let at-sizes = at-first .before .before in
+    let at-writer-count = at-sizes .before in
+    let args = at-writer-count .before .before .before .before .args in
+    fill-refused _ (now (args .envelope)) _ _ _
+    (envelope-read (now (args .config)) (now (args .datagram)) _ _ _ _ (at-writer-count .writer-count .ensures .0)
+    (at-sizes .sizes .ensures) (at-first .first .ensures) (told answerNetworkMessage (at-read .read .ensures) (at-number .number .given .1))) (c .result .ensures)
 
 -- src/messages.rt:27:1
 returns-3 : tie.Need-returns-3
 returns-3 c =
-    fill-done _ (now (c .before .before .before .before .before .before .before .before .before .before .before .before .before .before .before .before .before .args .envelope)) _ _ _ 224 _ (envelope-read (now (c .before .before .before .before .before .before .before .before .before .before .before .before .before .before .before .before .before .args .config)) (now (c .before .before .before .before .before .before .before .before .before .before .before .before .before .before .before .before .before .args .datagram)) _ _ _ _ (c .before .before .before .before .before .before .before .before .before .before .before .before .before .writer-count .ensures .0) (c .before .before .before .before .before .before .before .before .before .before .before .before .sizes .ensures) (c .before .before .before .before .before .before .before .before .before .before .first .ensures) (told answerNetworkMessage (c .before .before .before .before .before .before .before .before .before .read .ensures) (c .before .before .before .before .before .before .before .e .given .1))) (bytes-length (envelopeNumbers (record { envelope = c .before .before .before .before .before .before .before .e .given .0 .0; places = c .before .before .before .before .before .before .before .e .given .0 .1 .0; payload = c .before .before .before .before .before .before .before .e .given .0 .1 .1 .0 }))) (omega arith) (c .result3 .ensures) (c .before .before .before .put-envelope .ensures)
+    let at-put-envelope = c .before .before .before in
+    let at-e = at-put-envelope .before .before .before .before in
+    let at-read = at-e .before .before in
+    let at-first = at-read .before in
+    let at-sizes = at-first .before .before in
+    let at-writer-count = at-sizes .before in
+    let args = at-writer-count .before .before .before .before .args in
+    fill-done _ (now (args .envelope)) _ _ _ 224 _
+    (envelope-read (now (args .config)) (now (args .datagram)) _ _ _ _ (at-writer-count .writer-count .ensures .0)
+    (at-sizes .sizes .ensures) (at-first .first .ensures) (told answerNetworkMessage (at-read .read .ensures) (at-e .e .given .1)))
+    (bytes-length (envelopeNumbers (record { envelope = at-e .e .given .0 .0; places = at-e .e .given .0 .1 .0; payload = at-e .e .given .0 .1 .1 .0 })))
+    (omega arith) (c .result3 .ensures) (at-put-envelope .put-envelope .ensures)
 
 pub uadp-read-spec : {M : Type 1} → statement M
 uadp-read-spec =

@@ -7,7 +7,14 @@ use Rattle.uadp_c.proofs.messages.writer_at.Tie as tie
 -- src/messages.rt:55:1
 returns : tie.Need-returns
 returns c =
-    writer-named (now (c .before .before .before .before .before .before .before .before .before .before .args .config)) (now (c .before .before .before .before .before .before .before .before .before .before .args .envelope)) (now (c .before .before .before .before .before .before .before .before .before .before .args .datagram)) _ _ _ _ (c .before .before .before .before .before .before .before .before .before .before .args .k) _ _ (c .before .before .before .before .before .before .writer-count .ensures .0) (c .before .before .before .before .before .ids .ensures) (c .before .first .ensures) (c .before .before .before .before .header-in .ensures) (c .before .before .before .number .ensures) (c .writer-id .ensures)
+    let at-first = c .before in
+    let at-number = at-first .before .before in
+    let at-header-in = at-number .before in
+    let at-ids = at-header-in .before in
+    let at-writer-count = at-ids .before in
+    let args = at-writer-count .before .before .before .before .args in
+    writer-named (now (args .config)) (now (args .envelope)) (now (args .datagram)) _ _ _ _ (args .k) _ _
+    (at-writer-count .writer-count .ensures .0) (at-ids .ids .ensures) (at-first .first .ensures) (at-header-in .header-in .ensures) (at-number .number .ensures) (c .writer-id .ensures)
 
 pub writer-at-spec : {M : Type 1} → statement M
 writer-at-spec =

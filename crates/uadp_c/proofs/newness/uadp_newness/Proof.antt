@@ -10,22 +10,39 @@ use Rattle.uadp_c.proofs.newness.uadp_newness.Tie as tie
 -- src/newness.rt:27:9
 returns : tie.Need-returns
 returns c =
-    judge-no-room (now (c .before .before .before .args .last)) _ _ (omega arith) (c .result .ensures)
+    let args = c .before .before .before .args in
+    judge-no-room (now (args .last)) _ _ (omega arith) (c .result .ensures)
 
 -- src/newness.rt:22:1
 returns-2 : tie.Need-returns-2
 returns-2 c =
-    judged (now (c .before .before .before .before .before .before .before .before .before .before .before .before .before .args .last)) _ (c .before .before .before .before .before .before .before .before .before .before .before .before .before .args .received) _ _ _ Newness.Newer (omega arith) (c .before .before .before .before .before .before .before .before .before .last-in .ensures) (c .before .before .before .before .before .before .before .before .judge-by .ensures) (c .before .before .before .before .before .before .enum-told .given .1) (c .result2 .ensures) (c .before .before .before .put-numbers .ensures)
+    let at-put-numbers = c .before .before .before in
+    let at-enum-told = at-put-numbers .before .before .before in
+    let at-judge-by = at-enum-told .before .before in
+    let at-last-in = at-judge-by .before in
+    let args = at-last-in .before .before .before .before .args in
+    judged (now (args .last)) _ (args .received) _ _ _ Newness.Newer (omega arith) (at-last-in .last-in .ensures)
+    (at-judge-by .judge-by .ensures) (at-enum-told .enum-told .given .1) (c .result2 .ensures) (at-put-numbers .put-numbers .ensures)
 
 -- src/newness.rt:22:1
 returns-3 : tie.Need-returns-3
 returns-3 c =
-    judged (now (c .before .before .before .before .before .before .before .before .args .last)) _ (c .before .before .before .before .before .before .before .before .args .received) _ _ _ Newness.OldOrSame (omega arith) (c .before .before .before .before .last-in .ensures) (c .before .before .before .judge-by .ensures) (c .before .enum-told2 .given .1) (c .result3 .ensures) refl
+    let at-enum-told2 = c .before in
+    let at-judge-by = at-enum-told2 .before .before in
+    let at-last-in = at-judge-by .before in
+    let args = at-last-in .before .before .before .before .args in
+    judged (now (args .last)) _ (args .received) _ _ _ Newness.OldOrSame (omega arith) (at-last-in .last-in .ensures)
+    (at-judge-by .judge-by .ensures) (at-enum-told2 .enum-told2 .given .1) (c .result3 .ensures) refl
 
 -- src/newness.rt:22:1
 returns-4 : tie.Need-returns-4
 returns-4 c =
-    judged (now (c .before .before .before .before .before .before .before .before .args .last)) _ (c .before .before .before .before .before .before .before .before .args .received) _ _ _ Newness.Invalid (omega arith) (c .before .before .before .before .last-in .ensures) (c .before .before .before .judge-by .ensures) (c .before .enum-told3 .given .1) (c .result4 .ensures) refl
+    let at-enum-told3 = c .before in
+    let at-judge-by = at-enum-told3 .before .before in
+    let at-last-in = at-judge-by .before in
+    let args = at-last-in .before .before .before .before .args in
+    judged (now (args .last)) _ (args .received) _ _ _ Newness.Invalid (omega arith) (at-last-in .last-in .ensures)
+    (at-judge-by .judge-by .ensures) (at-enum-told3 .enum-told3 .given .1) (c .result4 .ensures) refl
 
 pub uadp-newness-spec : {M : Type 1} → statement M
 uadp-newness-spec =

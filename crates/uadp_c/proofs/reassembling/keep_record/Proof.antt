@@ -7,15 +7,25 @@ use Rattle.uadp_c.proofs.reassembling.keep_record.Tie as tie
 
 returns : tie.Need-returns
 returns c =
-    keeps-started (now (c .before .before .before .before .args .rec)) (c .before .before .before .before .args .after) _ (c .before .number .ensures) (eq-eqb _ 1 (c .if1 .taken))
+    let at-number = c .before in
+    let args = at-number .before .before .before .args in
+    keeps-started (now (args .rec)) (args .after) _ (at-number .number .ensures) (eq-eqb _ 1 (c .if1 .taken))
 
 returns-2 : tie.Need-returns-2
 returns-2 c =
-    keeps-empty (now (c .before .before .before .before .before .before .args .rec)) (c .before .before .before .before .before .before .args .after) _ (c .before .before .before .number .ensures) (ne-eqb _ 1 (c .before .before .if1 .left)) (not-true _ (c .if2 .taken))
+    let at-if1 = c .before .before in
+    let at-number = at-if1 .before in
+    let args = at-number .before .before .before .args in
+    keeps-empty (now (args .rec)) (args .after) _ (at-number .number .ensures) (ne-eqb _ 1 (at-if1 .if1 .left)) (not-true _ (c .if2 .taken))
 
 returns-3 : tie.Need-returns-3
 returns-3 c =
-    takes-over (now (c .before .before .before .before .before .before .before .before .before .before .args .rec)) _ (c .before .before .before .before .before .before .before .before .before .before .args .after) _ (c .before .before .before .before .before .before .before .number .ensures) (ne-eqb _ 1 (c .before .before .before .before .before .before .if1 .left)) (not-false _ (c .before .before .before .before .if2 .left)) (c .before .before .put-partial .ensures)
+    let at-put-partial = c .before .before in
+    let at-if2 = at-put-partial .before .before in
+    let at-if1 = at-if2 .before .before in
+    let at-number = at-if1 .before in
+    let args = at-number .before .before .before .args in
+    takes-over (now (args .rec)) _ (args .after) _ (at-number .number .ensures) (ne-eqb _ 1 (at-if1 .if1 .left)) (not-false _ (at-if2 .if2 .left)) (at-put-partial .put-partial .ensures)
 
 pub keep-record-spec : {M : Type 1} → statement M
 keep-record-spec =

@@ -9,19 +9,35 @@ use Rattle.uadp_c.proofs.reassembling.uadp_complete.Tie as tie
 
 returns : tie.Need-returns
 returns c =
-    complete-short (now (c .before .before .before .before .before .args .rec)) _ (askComplete (partialOf (now (c .before .before .before .before .before .args .rec)) (now (c .before .before .before .before .before .args .payload)) (now (c .before .before .before .before .before .args .marks)))) (omega arith) (c .result .ensures)
+    let args = c .before .before .before .before .before .args in
+    complete-short (now (args .rec)) _ (askComplete (partialOf (now (args .rec)) (now (args .payload)) (now (args .marks)))) (omega arith) (c .result .ensures)
 
 returns-2 : tie.Need-returns-2
 returns-2 c =
-    complete-ends (now (c .before .before .before .before .before .before .before .before .before .args .rec)) (now (c .before .before .before .before .before .before .before .before .before .args .payload)) (now (c .before .before .before .before .before .before .before .before .before .args .marks)) _ _ _ _ (omega arith) (c .before .before .before .before .partial-in .ensures) (c .before .before .before .ask-complete .ensures) (c .before .enum-told .given .1) (c .result2 .ensures)
+    let at-enum-told = c .before in
+    let at-ask-complete = at-enum-told .before .before in
+    let at-partial-in = at-ask-complete .before in
+    let args = at-partial-in .before .before .before .before .before .args in
+    complete-ends (now (args .rec)) (now (args .payload)) (now (args .marks)) _ _ _ _ (omega arith) (at-partial-in .partial-in .ensures)
+    (at-ask-complete .ask-complete .ensures) (at-enum-told .enum-told .given .1) (c .result2 .ensures)
 
 returns-3 : tie.Need-returns-3
 returns-3 c =
-    complete-ends (now (c .before .before .before .before .before .before .before .before .before .args .rec)) (now (c .before .before .before .before .before .before .before .before .before .args .payload)) (now (c .before .before .before .before .before .before .before .before .before .args .marks)) _ _ _ _ (omega arith) (c .before .before .before .before .partial-in .ensures) (c .before .before .before .ask-complete .ensures) (c .before .enum-told2 .given .1) (c .result3 .ensures)
+    let at-enum-told2 = c .before in
+    let at-ask-complete = at-enum-told2 .before .before in
+    let at-partial-in = at-ask-complete .before in
+    let args = at-partial-in .before .before .before .before .before .args in
+    complete-ends (now (args .rec)) (now (args .payload)) (now (args .marks)) _ _ _ _ (omega arith) (at-partial-in .partial-in .ensures)
+    (at-ask-complete .ask-complete .ensures) (at-enum-told2 .enum-told2 .given .1) (c .result3 .ensures)
 
 returns-4 : tie.Need-returns-4
 returns-4 c =
-    complete-ends (now (c .before .before .before .before .before .before .before .before .before .before .args .rec)) (now (c .before .before .before .before .before .before .before .before .before .before .args .payload)) (now (c .before .before .before .before .before .before .before .before .before .before .args .marks)) _ _ _ _ (omega arith) (c .before .before .before .before .before .partial-in .ensures) (c .before .before .before .before .ask-complete .ensures) (c .before .before .number .given .1) (c .result4 .ensures)
+    let at-number = c .before .before in
+    let at-ask-complete = at-number .before .before in
+    let at-partial-in = at-ask-complete .before in
+    let args = at-partial-in .before .before .before .before .before .args in
+    complete-ends (now (args .rec)) (now (args .payload)) (now (args .marks)) _ _ _ _ (omega arith) (at-partial-in .partial-in .ensures)
+    (at-ask-complete .ask-complete .ensures) (at-number .number .given .1) (c .result4 .ensures)
 
 pub uadp-complete-spec : {M : Type 1} → statement M
 uadp-complete-spec =

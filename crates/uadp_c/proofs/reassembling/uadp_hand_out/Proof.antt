@@ -9,15 +9,26 @@ use Rattle.uadp_c.proofs.reassembling.uadp_hand_out.Tie as tie
 
 returns : tie.Need-returns
 returns c =
-    hand-short (now (c .before .before .before .before .before .args .rec)) _ (judgeHandOut (partialOf (now (c .before .before .before .before .before .args .rec)) (now (c .before .before .before .before .before .args .payload)) (now (c .before .before .before .before .before .args .marks)))) (omega arith) (c .result .ensures)
+    let args = c .before .before .before .before .before .args in
+    hand-short (now (args .rec)) _ (judgeHandOut (partialOf (now (args .rec)) (now (args .payload)) (now (args .marks)))) (omega arith) (c .result .ensures)
 
 returns-2 : tie.Need-returns-2
 returns-2 c =
-    hand-ends (now (c .before .before .before .before .before .before .before .before .before .before .args .rec)) (now (c .before .before .before .before .before .before .before .before .before .before .args .payload)) (now (c .before .before .before .before .before .before .before .before .before .before .args .marks)) _ (c .before .before .before .before .before .partial-in .result) _ _ (omega arith) (c .before .before .before .before .before .partial-in .ensures) (c .before .before .before .before .hand-out-verdict .ensures) (c .before .before .number .given .1) (c .result2 .ensures)
+    let at-number = c .before .before in
+    let at-hand-out-verdict = at-number .before .before in
+    let at-partial-in = at-hand-out-verdict .before in
+    let args = at-partial-in .before .before .before .before .before .args in
+    hand-ends (now (args .rec)) (now (args .payload)) (now (args .marks)) _ (at-partial-in .partial-in .result) _ _ (omega arith)
+    (at-partial-in .partial-in .ensures) (at-hand-out-verdict .hand-out-verdict .ensures) (at-number .number .given .1) (c .result2 .ensures)
 
 returns-3 : tie.Need-returns-3
 returns-3 c =
-    hand-ends (now (c .before .before .before .before .before .before .before .before .before .before .args .rec)) (now (c .before .before .before .before .before .before .before .before .before .before .args .payload)) (now (c .before .before .before .before .before .before .before .before .before .before .args .marks)) _ (c .before .before .before .before .before .partial-in .result) _ _ (omega arith) (c .before .before .before .before .before .partial-in .ensures) (c .before .before .before .before .hand-out-verdict .ensures) (c .before .before .enum-told .given .1) (c .result3 .ensures)
+    let at-enum-told = c .before .before in
+    let at-hand-out-verdict = at-enum-told .before .before in
+    let at-partial-in = at-hand-out-verdict .before in
+    let args = at-partial-in .before .before .before .before .before .args in
+    hand-ends (now (args .rec)) (now (args .payload)) (now (args .marks)) _ (at-partial-in .partial-in .result) _ _ (omega arith)
+    (at-partial-in .partial-in .ensures) (at-hand-out-verdict .hand-out-verdict .ensures) (at-enum-told .enum-told .given .1) (c .result3 .ensures)
 
 pub uadp-hand-out-spec : {M : Type 1} → statement M
 uadp-hand-out-spec =

@@ -13,15 +13,43 @@ use Rattle.uadp_c.proofs.reassembling.uadp_take_in.Tie as tie
 
 returns : tie.Need-returns
 returns c =
-    steps-short (now (c .before .before .before .before .before .before .before .args .rec)) (now (c .before .before .before .before .before .before .before .args .payload)) (now (c .before .before .before .before .before .before .before .args .marks)) _ (takeIn (partialOf (now (c .before .before .before .before .before .before .before .args .rec)) (now (c .before .before .before .before .before .before .before .args .payload)) (now (c .before .before .before .before .before .before .before .args .marks))) (readingAt (sizesIn (now (c .before .before .before .before .before .before .before .args .config))) (now (c .before .before .before .before .before .before .before .args .datagram)))) (omega arith) (take-kept (partialOf (now (c .before .before .before .before .before .before .before .args .rec)) (now (c .before .before .before .before .before .before .before .args .payload)) (now (c .before .before .before .before .before .before .before .args .marks))) (readingAt (sizesIn (now (c .before .before .before .before .before .before .before .args .config))) (now (c .before .before .before .before .before .before .before .args .datagram)))) (c .result .ensures)
+    let args = c .before .before .before .before .before .before .before .args in
+    steps-short (now (args .rec)) (now (args .payload)) (now (args .marks)) _
+    (takeIn (partialOf (now (args .rec)) (now (args .payload)) (now (args .marks))) (readingAt (sizesIn (now (args .config))) (now (args .datagram))))
+    (omega arith) (take-kept (partialOf (now (args .rec)) (now (args .payload)) (now (args .marks))) (readingAt (sizesIn (now (args .config))) (now (args .datagram)))) (c .result .ensures)
 
 returns-2 : tie.Need-returns-2
 returns-2 c =
-    steps-end (now (c .before .before .before .before .before .before .before .before .before .before .before .before .before .before .before .before .before .before .before .before .before .before .before .args .rec)) (now (c .before .before .before .before .before .before .before .before .before .before .before .before .before .before .before .before .before .before .before .before .before .before .before .args .payload)) (now (c .before .before .before .before .before .before .before .before .before .before .before .before .before .before .before .before .before .before .before .before .before .before .before .args .marks)) _ _ _ _ (c .before .before .before .before .before .before .before .before .take-in .result) _ _ (take-kept (partialOf (now (c .before .before .before .before .before .before .before .before .before .before .before .before .before .before .before .before .before .before .before .before .before .before .before .args .rec)) (now (c .before .before .before .before .before .before .before .before .before .before .before .before .before .before .before .before .before .before .before .before .before .before .before .args .payload)) (now (c .before .before .before .before .before .before .before .before .before .before .before .before .before .before .before .before .before .before .before .before .before .before .before .args .marks))) (readingAt (sizesIn (now (c .before .before .before .before .before .before .before .before .before .before .before .before .before .before .before .before .before .before .before .before .before .before .before .args .config))) (now (c .before .before .before .before .before .before .before .before .before .before .before .before .before .before .before .before .before .before .before .before .before .before .before .args .datagram)))) (fits-outcome (c .before .before .before .before .before .before .before .before .take-in .result) _ (c .before .before .before .before .before .before .before .before .take-in .ok)) (omega arith) (taken (now (c .before .before .before .before .before .before .before .before .before .before .before .before .before .before .before .before .before .before .before .before .before .before .before .args .config)) (now (c .before .before .before .before .before .before .before .before .before .before .before .before .before .before .before .before .before .before .before .before .before .before .before .args .datagram)) (now (c .before .before .before .before .before .before .before .before .before .before .before .before .before .before .before .before .before .before .before .before .before .before .before .args .rec)) (now (c .before .before .before .before .before .before .before .before .before .before .before .before .before .before .before .before .before .before .before .before .before .before .before .args .payload)) (now (c .before .before .before .before .before .before .before .before .before .before .before .before .before .before .before .before .before .before .before .before .before .before .before .args .marks)) _ _ _ _ _ _ _ (c .before .before .before .before .before .before .before .before .before .before .before .before .before .before .before .before .writer-count .ensures .0) (c .before .before .before .before .before .before .before .before .before .before .before .before .before .before .before .sizes .ensures) (c .before .before .before .before .before .before .before .before .before .first .ensures) (c .before .before .before .before .before .before .before .before .before .before .before .before .before .partial-in .ensures) (c .before .before .before .before .before .before .before .before .take-in .ensures)) (c .before .before .verdict .given .1) (c .result2 .ensures) refl
+    let at-verdict = c .before .before in
+    let at-take-in = at-verdict .before .before .before .before .before .before in
+    let at-first = at-take-in .before in
+    let at-partial-in = at-first .before .before .before .before in
+    let at-sizes = at-partial-in .before .before in
+    let at-writer-count = at-sizes .before in
+    let args = at-writer-count .before .before .before .before .before .before .before .args in
+    steps-end (now (args .rec)) (now (args .payload)) (now (args .marks)) _ _ _ _ (at-take-in .take-in .result) _ _
+    (take-kept (partialOf (now (args .rec)) (now (args .payload)) (now (args .marks))) (readingAt (sizesIn (now (args .config))) (now (args .datagram))))
+    (fits-outcome (at-take-in .take-in .result) _ (at-take-in .take-in .ok)) (omega arith)
+    (taken (now (args .config)) (now (args .datagram)) (now (args .rec)) (now (args .payload)) (now (args .marks)) _ _ _ _ _ _ _
+    (at-writer-count .writer-count .ensures .0) (at-sizes .sizes .ensures) (at-first .first .ensures) (at-partial-in .partial-in .ensures) (at-take-in .take-in .ensures))
+    (at-verdict .verdict .given .1) (c .result2 .ensures) refl
 
 returns-3 : tie.Need-returns-3
 returns-3 c =
-    steps-end (now (c .before .before .before .before .before .before .before .before .before .before .before .before .before .before .before .before .before .before .before .before .before .before .before .before .before .before .before .args .rec)) (now (c .before .before .before .before .before .before .before .before .before .before .before .before .before .before .before .before .before .before .before .before .before .before .before .before .before .before .before .args .payload)) (now (c .before .before .before .before .before .before .before .before .before .before .before .before .before .before .before .before .before .before .before .before .before .before .before .before .before .before .before .args .marks)) _ _ _ _ (c .before .before .before .before .before .before .before .before .before .before .before .before .take-in .result) _ _ (take-kept (partialOf (now (c .before .before .before .before .before .before .before .before .before .before .before .before .before .before .before .before .before .before .before .before .before .before .before .before .before .before .before .args .rec)) (now (c .before .before .before .before .before .before .before .before .before .before .before .before .before .before .before .before .before .before .before .before .before .before .before .before .before .before .before .args .payload)) (now (c .before .before .before .before .before .before .before .before .before .before .before .before .before .before .before .before .before .before .before .before .before .before .before .before .before .before .before .args .marks))) (readingAt (sizesIn (now (c .before .before .before .before .before .before .before .before .before .before .before .before .before .before .before .before .before .before .before .before .before .before .before .before .before .before .before .args .config))) (now (c .before .before .before .before .before .before .before .before .before .before .before .before .before .before .before .before .before .before .before .before .before .before .before .before .before .before .before .args .datagram)))) (fits-outcome (c .before .before .before .before .before .before .before .before .before .before .before .before .take-in .result) _ (c .before .before .before .before .before .before .before .before .before .before .before .before .take-in .ok)) (omega arith) (taken (now (c .before .before .before .before .before .before .before .before .before .before .before .before .before .before .before .before .before .before .before .before .before .before .before .before .before .before .before .args .config)) (now (c .before .before .before .before .before .before .before .before .before .before .before .before .before .before .before .before .before .before .before .before .before .before .before .before .before .before .before .args .datagram)) (now (c .before .before .before .before .before .before .before .before .before .before .before .before .before .before .before .before .before .before .before .before .before .before .before .before .before .before .before .args .rec)) (now (c .before .before .before .before .before .before .before .before .before .before .before .before .before .before .before .before .before .before .before .before .before .before .before .before .before .before .before .args .payload)) (now (c .before .before .before .before .before .before .before .before .before .before .before .before .before .before .before .before .before .before .before .before .before .before .before .before .before .before .before .args .marks)) _ _ _ _ _ _ _ (c .before .before .before .before .before .before .before .before .before .before .before .before .before .before .before .before .before .before .before .before .writer-count .ensures .0) (c .before .before .before .before .before .before .before .before .before .before .before .before .before .before .before .before .before .before .before .sizes .ensures) (c .before .before .before .before .before .before .before .before .before .before .before .before .before .first .ensures) (c .before .before .before .before .before .before .before .before .before .before .before .before .before .before .before .before .before .partial-in .ensures) (c .before .before .before .before .before .before .before .before .before .before .before .before .take-in .ensures)) (c .before .before .before .before .before .before .enum-told .given .1) (c .result3 .ensures) (c .before .before .before .keep-record .ensures)
+    let at-keep-record = c .before .before .before in
+    let at-enum-told = at-keep-record .before .before .before in
+    let at-take-in = at-enum-told .before .before .before .before .before .before in
+    let at-first = at-take-in .before in
+    let at-partial-in = at-first .before .before .before .before in
+    let at-sizes = at-partial-in .before .before in
+    let at-writer-count = at-sizes .before in
+    let args = at-writer-count .before .before .before .before .before .before .before .args in
+    steps-end (now (args .rec)) (now (args .payload)) (now (args .marks)) _ _ _ _ (at-take-in .take-in .result) _ _
+    (take-kept (partialOf (now (args .rec)) (now (args .payload)) (now (args .marks))) (readingAt (sizesIn (now (args .config))) (now (args .datagram))))
+    (fits-outcome (at-take-in .take-in .result) _ (at-take-in .take-in .ok)) (omega arith)
+    (taken (now (args .config)) (now (args .datagram)) (now (args .rec)) (now (args .payload)) (now (args .marks)) _ _ _ _ _ _ _
+    (at-writer-count .writer-count .ensures .0) (at-sizes .sizes .ensures) (at-first .first .ensures) (at-partial-in .partial-in .ensures) (at-take-in .take-in .ensures))
+    (at-enum-told .enum-told .given .1) (c .result3 .ensures) (at-keep-record .keep-record .ensures)
 
 pub uadp-take-in-spec : {M : Type 1} → statement M
 uadp-take-in-spec =

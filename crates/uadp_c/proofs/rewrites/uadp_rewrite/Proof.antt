@@ -8,7 +8,14 @@ use Rattle.uadp_c.proofs.rewrites.uadp_rewrite.Tie as tie
 
 returns : tie.Need-returns
 returns c =
-    rewritten (now (c .before .before .before .before .before .before .before .before .before .before .before .before .args .config)) (now (c .before .before .before .before .before .before .before .before .before .before .before .before .args .datagram)) _ (now (c .before .before .before .before .before .before .before .before .before .before .before .before .args .out)) _ (c .before .before .before .rewrite-datagram .result) _ (of-writers 34 (now (c .before .before .before .before .before .before .before .before .before .before .before .before .args .config)) _ _ _ (c .before .before .before .before .before .before .before .before .writer-count .ensures .0) (c .before .before .before .before .before .before .before .sizes .ensures) (c .before .before .before .before .before .first .ensures)) (c .before .before .before .rewrite-datagram .ensures) (c .written-result .ensures)
+    let at-rewrite-datagram = c .before .before .before in
+    let at-first = at-rewrite-datagram .before .before in
+    let at-sizes = at-first .before .before in
+    let at-writer-count = at-sizes .before in
+    let args = at-writer-count .before .before .before .before .args in
+    rewritten (now (args .config)) (now (args .datagram)) _ (now (args .out)) _ (at-rewrite-datagram .rewrite-datagram .result) _
+    (of-writers 34 (now (args .config)) _ _ _ (at-writer-count .writer-count .ensures .0) (at-sizes .sizes .ensures) (at-first .first .ensures))
+    (at-rewrite-datagram .rewrite-datagram .ensures) (c .written-result .ensures)
 
 pub uadp-rewrite-spec : {M : Type 1} → statement M
 uadp-rewrite-spec =

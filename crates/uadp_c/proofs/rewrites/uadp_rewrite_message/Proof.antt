@@ -8,7 +8,11 @@ use Rattle.uadp_c.proofs.rewrites.uadp_rewrite_message.Tie as tie
 
 returns : tie.Need-returns
 returns c =
-    message-rewritten (now (c .before .before .before .before .before .before .before .before .before .args .config)) (now (c .before .before .before .before .before .before .before .before .before .args .message)) _ (now (c .before .before .before .before .before .before .before .before .before .args .out)) _ (c .before .before .before .before .before .before .before .before .before .args .writer) _ _ (c .before .before .before .before .before .types-for .ensures) (c .before .before .before .rewrite-message .ensures) (c .written-result .ensures)
+    let at-rewrite-message = c .before .before .before in
+    let at-types-for = at-rewrite-message .before .before in
+    let args = at-types-for .before .before .before .before .args in
+    message-rewritten (now (args .config)) (now (args .message)) _ (now (args .out)) _ (args .writer) _ _
+    (at-types-for .types-for .ensures) (at-rewrite-message .rewrite-message .ensures) (c .written-result .ensures)
 
 pub uadp-rewrite-message-spec : {M : Type 1} → statement M
 uadp-rewrite-message-spec =

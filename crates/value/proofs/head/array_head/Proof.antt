@@ -12,27 +12,40 @@ use Rattle.value.proofs.head.array_head.Tie as tie
 
 elements-head-requires : tie.Need-elements-head-requires
 elements-head-requires c κs =
-    count-small (now (c .before .before .before .before .before .args .s)) (c .before .before .before .before .before .args .at) (sym (told (answerLength (c .before .before .before .before .before .args .at)) (c .before .before .before .read-length .ensures) (c .before .next2 .given .1)))
+    let at-next2 = c .before in
+    let at-read-length = at-next2 .before .before in
+    let args = at-read-length .before .before .args in
+    count-small (now (args .s)) (args .at) (sym (told (answerLength (args .at)) (at-read-length .read-length .ensures) (at-next2 .next2 .given .1)))
 
 returns : tie.Need-returns
 unfolding array
 returns c =
-    λ nested. rw (sym (told (answerLength (c .before .before .before .before .before .args .at)) (c .before .before .before .read-length .ensures) (c .before .next .given .1)))
+    let at-next = c .before in
+    let at-read-length = at-next .before .before in
+    let args = at-read-length .before .before .args in
+    λ nested. rw (sym (told (answerLength (args .at)) (at-read-length .read-length .ensures) (at-next .next .given .1)))
 
 returns-2 : tie.Need-returns-2
 unfolding array
 returns-2 c =
-    λ nested. rw (sym (told (answerLength (c .before .before .before .before .before .before .args .at)) (c .before .before .before .before .read-length .ensures) (c .before .before .next2 .given .1))) (c .elements-head .ensures nested)
+    let at-next2 = c .before .before in
+    let at-read-length = at-next2 .before .before in
+    let args = at-read-length .before .before .args in
+    λ nested. rw (sym (told (answerLength (args .at)) (at-read-length .read-length .ensures) (at-next2 .next2 .given .1))) (c .elements-head .ensures nested)
 
 returns-3 : tie.Need-returns-3
 unfolding array
 returns-3 c =
-    λ nested. rw (sym (told (answerLength (c .before .before .before .before .args .at)) (c .before .before .read-length .ensures) (c .enum-told .given .1)))
+    let at-read-length = c .before .before in
+    let args = at-read-length .before .before .args in
+    λ nested. rw (sym (told (answerLength (args .at)) (at-read-length .read-length .ensures) (c .enum-told .given .1)))
 
 returns-4 : tie.Need-returns-4
 unfolding array
 returns-4 c =
-    λ nested. rw (sym (told (answerLength (c .before .before .before .before .args .at)) (c .before .before .read-length .ensures) (c .enum-told2 .given .1)))
+    let at-read-length = c .before .before in
+    let args = at-read-length .before .before .args in
+    λ nested. rw (sym (told (answerLength (args .at)) (at-read-length .read-length .ensures) (c .enum-told2 .given .1)))
 
 pub array-head-spec : {M : Type 1} → statement M
 array-head-spec =

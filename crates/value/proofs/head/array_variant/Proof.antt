@@ -13,13 +13,20 @@ returns c =
 
 returns-2 : tie.Need-returns-2
 returns-2 c =
-    let f = array-first (c .before .before .before .before .before .args .t) (c .before .before .before .before .before .pre) in
-    λ nested. rw (f .rule, sym (c .before .before .is-taken .ensures) ∙ c .before .if2 .taken, ne-eqb _ _ (c .before .before .before .if1 .left), f .type, ne-eqb _ _ (c .before .before .before .if1 .left), f .array) (c .array-head .ensures nested)
+    let at-if2 = c .before in
+    let at-is-taken = at-if2 .before in
+    let at-if1 = at-is-taken .before in
+    let at-pre = at-if1 .before .before in
+    let f = array-first (at-pre .args .t) (at-pre .pre) in
+    λ nested. rw (f .rule, sym (at-is-taken .is-taken .ensures) ∙ at-if2 .if2 .taken, ne-eqb _ _ (at-if1 .if1 .left), f .type, ne-eqb _ _ (at-if1 .if1 .left), f .array) (c .array-head .ensures nested)
 
 returns-3 : tie.Need-returns-3
 returns-3 c =
-    let f = array-first (c .before .before .before .before .args .t) (c .before .before .before .before .pre) in
-    λ nested. rw (f .rule, sym (c .before .is-taken .ensures) ∙ c .if2 .left, ne-eqb _ _ (c .before .before .if1 .left))
+    let at-is-taken = c .before in
+    let at-if1 = at-is-taken .before in
+    let at-pre = at-if1 .before .before in
+    let f = array-first (at-pre .args .t) (at-pre .pre) in
+    λ nested. rw (f .rule, sym (at-is-taken .is-taken .ensures) ∙ c .if2 .left, ne-eqb _ _ (at-if1 .if1 .left))
 
 pub array-variant-spec : {M : Type 1} → statement M
 array-variant-spec =

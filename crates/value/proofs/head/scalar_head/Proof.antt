@@ -12,13 +12,20 @@ use Rattle.value.proofs.head.scalar_head.Tie as tie
 returns : tie.Need-returns
 unfolding scalar
 returns c =
-    let a = c .before .before .before .before .before .args in
-    λ nested. rw (sym (c .before .before .before .is-plain .ensures) ∙ c .before .before .if1 .taken) (plain-found nested (now (a .s)) (measure (a .t) Shape.Scalar) (c .before .plain-value .result) (c .before .plain-value .ensures) (c .done .ensures))
+    let at-plain-value = c .before in
+    let at-if1 = at-plain-value .before in
+    let at-is-plain = at-if1 .before in
+    let args = at-is-plain .before .before .args in
+    let a = args in
+    λ nested. rw (sym (at-is-plain .is-plain .ensures) ∙ at-if1 .if1 .taken)
+    (plain-found nested (now (a .s)) (measure (a .t) Shape.Scalar) (at-plain-value .plain-value .result) (at-plain-value .plain-value .ensures) (c .done .ensures))
 
 returns-2 : tie.Need-returns-2
 returns-2 c =
-    let a = c .before .before .before .args in
-    λ nested. holds-scalar nested (now (a .s)) (a .t) (a .at) (sym (c .before .is-plain .ensures) ∙ c .if1 .left)
+    let at-is-plain = c .before in
+    let args = at-is-plain .before .before .args in
+    let a = args in
+    λ nested. holds-scalar nested (now (a .s)) (a .t) (a .at) (sym (at-is-plain .is-plain .ensures) ∙ c .if1 .left)
 
 pub scalar-head-spec : {M : Type 1} → statement M
 scalar-head-spec =

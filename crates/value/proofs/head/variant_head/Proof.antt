@@ -14,21 +14,27 @@ use Rattle.value.proofs.head.variant_head.Tie as tie
 
 returns-2 : tie.Need-returns-2
 returns-2 c =
-    let b = c .before .before .before .args .b in
-    let q : b ≡ b - 64 + 64 = omega (arith, c .before .if1 .left) in
-    λ nested. rw (ap variantRule q ∙ no-array-but-dimensions (b - 64) (omega (arith, c .before .if1 .left, c .if2 .taken)))
+    let at-if1 = c .before in
+    let args = at-if1 .before .before .args in
+    let b = args .b in
+    let q : b ≡ b - 64 + 64 = omega (arith, at-if1 .if1 .left) in
+    λ nested. rw (ap variantRule q ∙ no-array-but-dimensions (b - 64) (omega (arith, at-if1 .if1 .left, c .if2 .taken)))
 
 returns-3 : tie.Need-returns-3
 returns-3 c =
-    let a = c .before .before .before .before .before .args in
-    let q : a .b - 128 + 128 ≡ a .b = omega (arith, c .before .before .if2 .left) in
-    λ nested. subst (λ (x : ℕ). finish nested (now (a .s)) (c .array-variant .result) ≡ passing (judged variantRule x (a .at) (variantOf nested)) (now (a .s)) (a .next)) q (c .array-variant .ensures nested)
+    let at-if2 = c .before .before in
+    let args = at-if2 .before .before .before .args in
+    let a = args in
+    let q : a .b - 128 + 128 ≡ a .b = omega (arith, at-if2 .if2 .left) in
+    λ nested. subst (λ (x : ℕ). finish nested (now (a .s)) (c .array-variant .result) ≡ passing (judged variantRule x (a .at) (variantOf nested)) (now (a .s)) (a .next)) q
+    (c .array-variant .ensures nested)
 
 returns-4 : tie.Need-returns-4
 returns-4 c =
-    let b = c .before .before .before .before .args .b in
+    let at-fits = c .before .before .before .before in
+    let b = at-fits .args .b in
     let q : b ≡ b - 192 + 192 = omega (arith, c .if3 .left) in
-    λ nested. rw (ap variantRule q ∙ dimensions (b - 192) (omega (arith, c .if3 .left, c .before .before .before .before .fits .b)))
+    λ nested. rw (ap variantRule q ∙ dimensions (b - 192) (omega (arith, c .if3 .left, at-fits .fits .b)))
 
 pub variant-head-spec : {M : Type 1} → statement M
 variant-head-spec =

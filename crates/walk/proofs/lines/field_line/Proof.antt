@@ -12,15 +12,38 @@ use Rattle.walk.proofs.lines.field_line.Tie as tie
 
 add-t20 : tie.Need-add-t20
 add-t20 c =
-    omega (arith, c .before .before .before .before .before .before .before .before .before .before .before .before .before .before .good .0, offset-fits (now (c .before .before .before .before .before .before .before .before .before .before .before .before .before .before .args .s)) (now (c .before .before .before .before .before .before .before .part .result)) (c .before .before .before .before .before .before .before .before .before .before .before .before .before .before .args .p .offset) (c .before .before .before .before .before .before .before .before .before .before .before .before .before .before .args .p .length) (c .before .before .before .x .given .0 .0 .offset) (c .before .before .before .before .before .before .before .part .ensures) (field-passed (c .before .before .before .before .before .before .before .before .before .before .before .before .before .before .args .f) (now (c .before .before .before .before .before .before .types-of .result)) (now (c .before .before .before .before .before .before .before .part .result)) _ _ (sym (told answerStep (c .before .before .before .before .before .step .ensures) (c .before .before .before .x .given .1))) .offset))
+    omega (
+      arith,
+      c .before .before .before .before .before .before .before .before .before .before .before .before .before .before .good .0,
+      offset-fits (now (c .before .before .before .before .before .before .before .before .before .before .before .before .before .before .args .s))
+          (now (c .before .before .before .before .before .before .before .part .result))
+          (c .before .before .before .before .before .before .before .before .before .before .before .before .before .before .args .p .offset)
+          (c .before .before .before .before .before .before .before .before .before .before .before .before .before .before .args .p .length)
+          (c .before .before .before .x .given .0 .0 .offset) (c .before .before .before .before .before .before .before .part .ensures)
+          (field-passed (c .before .before .before .before .before .before .before .before .before .before .before .before .before .before .args .f)
+          (now (c .before .before .before .before .before .before .types-of .result))
+          (now (c .before .before .before .before .before .before .before .part .result)) _ _
+          (sym (told answerStep (c .before .before .before .before .before .step .ensures) (c .before .before .before .x .given .1))) .offset),
+    )
 
 returns : tie.Need-returns
 returns c =
-    rw (sym (c .before .before .before .before .before .before .writer-id .ensures), sym (c .before .before .before .before .types-of .ensures), sym (c .before .before .before .before .before .part .ensures), sym (told answerStep (c .before .before .before .step .ensures) (c .before .enum-told .given .1))) (c .message-line .ensures)
+    let at-enum-told = c .before in
+    let at-step = at-enum-told .before .before in
+    let at-types-of = at-step .before in
+    let at-part = at-types-of .before in
+    let at-writer-id = at-part .before in
+    rw (sym (at-writer-id .writer-id .ensures), sym (at-types-of .types-of .ensures), sym (at-part .part .ensures), sym (told answerStep (at-step .step .ensures) (at-enum-told .enum-told .given .1)))
+    (c .message-line .ensures)
 
 returns-2 : tie.Need-returns-2
 returns-2 c =
-    rw (sym (c .before .before .before .before .before .before .before .before .writer-id .ensures), sym (c .before .before .before .before .before .before .types-of .ensures), sym (c .before .before .before .before .before .before .before .part .ensures), sym (told answerStep (c .before .before .before .before .before .step .ensures) (c .before .before .before .x .given .1)))
+    let at-x = c .before .before .before in
+    let at-step = at-x .before .before in
+    let at-types-of = at-step .before in
+    let at-part = at-types-of .before in
+    let at-writer-id = at-part .before in
+    rw (sym (at-writer-id .writer-id .ensures), sym (at-types-of .types-of .ensures), sym (at-part .part .ensures), sym (told answerStep (at-step .step .ensures) (at-x .x .given .1)))
 
 pub field-line-spec : {M : Type 1} → statement M
 field-line-spec =

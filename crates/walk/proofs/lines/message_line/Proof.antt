@@ -14,7 +14,10 @@ returns c =
 
 returns-2 : tie.Need-returns-2
 returns-2 c =
-    rw (sym (told answerStep (c .before .before .before .before .step .ensures) (c .before .before .p .given .1))) (c .set-line .ensures (now (c .before .before .before .before .before .before .before .before .before .before .before .args .sizes)))
+    let at-p = c .before .before in
+    let at-step = at-p .before .before in
+    let args = at-step .before .before .before .before .before .before .before .args in
+    rw (sym (told answerStep (at-step .step .ensures) (at-p .p .given .1))) (c .set-line .ensures (now (args .sizes)))
 
 pub message-line-spec : {M : Type 1} → statement M
 message-line-spec =

@@ -20,23 +20,45 @@ abbrev μ-loop : tie.MeasureT-loop
 
 loop-holds : tie.Need-loop-holds Inv-loop μ-loop
 loop-holds c =
-    rw (c .start .ensures) (ap (λ (x : List Line). lineAt x (c .before .before .before .before .before .before .args .k)) (start-lists (writers (now (c .before .before .before .before .before .before .args .ids)) (now (c .before .before .before .before .before .before .args .sizes)) (now (c .before .before .before .before .before .before .args .starts)) (now (c .before .before .before .before .before .before .args .types))) (now (c .before .before .before .before .before .before .args .s)) (c .before .before .before .before .before .before .args .number) (c .before .before .before .before .before .before .args .place)))
+    let args = c .before .before .before .before .before .before .args in
+    rw (c .start .ensures) (ap (λ (x : List Line). lineAt x (args .k))
+    (start-lists (writers (now (args .ids)) (now (args .sizes)) (now (args .starts)) (now (args .types))) (now (args .s)) (args .number) (args .place)))
 
 returns : tie.Need-returns Inv-loop μ-loop
 returns c =
-    line-none (writers (now (c .before .before .before .before .before .before .before .before .before .before .before .args .ids)) (now (c .before .before .before .before .before .before .before .before .before .before .before .args .sizes)) (now (c .before .before .before .before .before .before .before .before .before .before .before .args .starts)) (now (c .before .before .before .before .before .before .before .before .before .before .before .args .types))) (now (c .before .before .before .before .before .before .before .before .before .before .before .args .s)) (c .before .before .before .before .loop .cursor) _ (c .before .before .next-line .ensures) (c .before .before .before .before .loop .left) (c .enum-told .given .1) ∙ c .before .before .before .before .loop .inv
+    let at-next-line = c .before .before in
+    let at-loop = at-next-line .before .before in
+    let args = at-loop .before .before .before .before .before .before .before .args in
+    line-none (writers (now (args .ids)) (now (args .sizes)) (now (args .starts)) (now (args .types))) (now (args .s))
+    (at-loop .loop .cursor) _ (at-next-line .next-line .ensures) (at-loop .loop .left) (c .enum-told .given .1) ∙ at-loop .loop .inv
 
 loop-again : tie.Need-loop-again Inv-loop μ-loop
 loop-again c =
-    line-later (writers (now (c .before .before .before .before .before .before .before .before .before .before .before .before .args .ids)) (now (c .before .before .before .before .before .before .before .before .before .before .before .before .args .sizes)) (now (c .before .before .before .before .before .before .before .before .before .before .before .before .args .starts)) (now (c .before .before .before .before .before .before .before .before .before .before .before .before .args .types))) (now (c .before .before .before .before .before .before .before .before .before .before .before .before .args .s)) (c .before .before .before .before .before .loop .cursor) _ (c .before .before .before .next-line .ensures) (c .before .before .before .before .before .loop .left) _ _ (c .before .before .before .before .loop-test .taken) (c .before .next .given .1) ∙ c .before .before .before .before .before .loop .inv
+    let at-next = c .before in
+    let at-next-line = at-next .before .before in
+    let at-loop-test = at-next-line .before in
+    let at-loop = at-loop-test .before in
+    let args = at-loop .before .before .before .before .before .before .before .args in
+    line-later (writers (now (args .ids)) (now (args .sizes)) (now (args .starts)) (now (args .types))) (now (args .s))
+    (at-loop .loop .cursor) _ (at-next-line .next-line .ensures) (at-loop .loop .left) _ _ (at-loop-test .loop-test .taken) (at-next .next .given .1) ∙ at-loop .loop .inv
 
 returns-2 : tie.Need-returns-2 Inv-loop μ-loop
 returns-2 c =
-    line-none (writers (now (c .before .before .before .before .before .before .before .before .before .before .before .args .ids)) (now (c .before .before .before .before .before .before .before .before .before .before .before .args .sizes)) (now (c .before .before .before .before .before .before .before .before .before .before .before .args .starts)) (now (c .before .before .before .before .before .before .before .before .before .before .before .args .types))) (now (c .before .before .before .before .before .before .before .before .before .before .before .args .s)) (c .before .before .before .before .loop .cursor) _ (c .before .before .next-line2 .ensures) (c .before .before .before .before .loop .left) (c .enum-told2 .given .1) ∙ c .before .before .before .before .loop .inv
+    let at-next-line2 = c .before .before in
+    let at-loop = at-next-line2 .before .before in
+    let args = at-loop .before .before .before .before .before .before .before .args in
+    line-none (writers (now (args .ids)) (now (args .sizes)) (now (args .starts)) (now (args .types))) (now (args .s))
+    (at-loop .loop .cursor) _ (at-next-line2 .next-line2 .ensures) (at-loop .loop .left) (c .enum-told2 .given .1) ∙ at-loop .loop .inv
 
 returns-3 : tie.Need-returns-3 Inv-loop μ-loop
 returns-3 c =
-    (let z : c .before .before .before .before .before .loop .left ≡ 0 = omega arith in line-first (writers (now (c .before .before .before .before .before .before .before .before .before .before .before .before .args .ids)) (now (c .before .before .before .before .before .before .before .before .before .before .before .before .args .sizes)) (now (c .before .before .before .before .before .before .before .before .before .before .before .before .args .starts)) (now (c .before .before .before .before .before .before .before .before .before .before .before .before .args .types))) (now (c .before .before .before .before .before .before .before .before .before .before .before .before .args .s)) (c .before .before .before .before .before .loop .cursor) _ (c .before .before .before .next-line2 .ensures) _ _ (c .before .x .given .1) ∙ rw z at (c .before .before .before .before .before .loop .inv))
+    let at-x = c .before in
+    let at-next-line2 = at-x .before .before in
+    let at-loop = at-next-line2 .before .before in
+    let args = at-loop .before .before .before .before .before .before .before .args in
+    (let z : at-loop .loop .left ≡ 0 =
+    omega arith in line-first (writers (now (args .ids)) (now (args .sizes)) (now (args .starts)) (now (args .types))) (now (args .s))
+    (at-loop .loop .cursor) _ (at-next-line2 .next-line2 .ensures) _ _ (at-x .x .given .1) ∙ rw z at (at-loop .loop .inv))
 
 pub nth-line-spec : {M : Type 1} → statement M
 nth-line-spec =

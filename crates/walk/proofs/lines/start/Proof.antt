@@ -13,11 +13,17 @@ returns c = rw (ne-eqb _ _ (c .if1 .taken))
 
 returns-2 : tie.Need-returns-2
 returns-2 c =
-    rw (eq-eqb _ _ (c .before .before .before .before .if1 .left), sym (told answerNetworkMessage (c .before .before .before .read .ensures) (c .before .n .given .1)))
+    let at-n = c .before in
+    let at-read = at-n .before .before in
+    let at-if1 = at-read .before in
+    rw (eq-eqb _ _ (at-if1 .if1 .left), sym (told answerNetworkMessage (at-read .read .ensures) (at-n .n .given .1)))
 
 returns-3 : tie.Need-returns-3
 returns-3 c =
-    rw (eq-eqb _ _ (c .before .before .before .before .before .if1 .left), sym (told answerNetworkMessage (c .before .before .before .before .read .ensures) (c .before .before .envelope .given .1)), c .listed-of .ensures)
+    let at-envelope = c .before .before in
+    let at-read = at-envelope .before .before in
+    let at-if1 = at-read .before in
+    rw (eq-eqb _ _ (at-if1 .if1 .left), sym (told answerNetworkMessage (at-read .read .ensures) (at-envelope .envelope .given .1)), c .listed-of .ensures)
 
 pub start-spec : {M : Type 1} → statement M
 start-spec =

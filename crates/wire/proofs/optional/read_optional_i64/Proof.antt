@@ -16,11 +16,23 @@ returns c = rw (not-true (c .before .before .args .on) (c .if1 .taken))
 
 returns-2 : tie.Need-returns-2
 returns-2 c =
-    rw (not-false (c .before .before .before .before .before .args .on) (c .before .before .before .if1 .left), signed-is 8 (now (c .before .before .before .before .before .args .s)) (c .before .before .before .before .before .args .at), sym (told (answer64 (c .before .before .before .before .before .args .at)) (c .before .before .read64 .ensures) (c .enum-told .given .1)))
+    let at-read64 = c .before .before in
+    let at-if1 = at-read64 .before in
+    let args = at-if1 .before .before .args in
+    rw (not-false (args .on) (at-if1 .if1 .left), signed-is 8 (now (args .s)) (args .at), sym (told (answer64 (args .at)) (at-read64 .read64 .ensures) (c .enum-told .given .1)))
 
 returns-3 : tie.Need-returns-3
 returns-3 c =
-    rw (not-false (c .before .before .before .before .before .before .before .args .on) (c .before .before .before .before .before .if1 .left), signed-is 8 (now (c .before .before .before .before .before .before .before .args .s)) (c .before .before .before .before .before .before .before .args .at), sym (told (answer64 (c .before .before .before .before .before .before .before .args .at)) (c .before .before .before .before .read64 .ensures) (c .before .before .v .given .1)), toZ-ofZ w64 _ (record { sfits = c .signed64 .ok }) ∙ c .signed64 .ensures)
+    let at-v = c .before .before in
+    let at-read64 = at-v .before .before in
+    let at-if1 = at-read64 .before in
+    let args = at-if1 .before .before .args in
+    rw (
+      not-false (args .on) (at-if1 .if1 .left),
+      signed-is 8 (now (args .s)) (args .at),
+      sym (told (answer64 (args .at)) (at-read64 .read64 .ensures) (at-v .v .given .1)),
+      toZ-ofZ w64 _ (record { sfits = c .signed64 .ok }) ∙ c .signed64 .ensures,
+    )
 
 pub read-optional-i64-spec : {M : Type 1} → statement M
 read-optional-i64-spec =

@@ -17,11 +17,14 @@ returns c =
 
 returns-2 : tie.Need-returns-2
 returns-2 c =
-    take-all (length (now (c .before .before .before .args .s)) - c .before .before .before .args .at) (drop (c .before .before .before .args .at) (now (c .before .before .before .args .s))) (omega (arith, length-drop (c .before .before .before .args .at) (now (c .before .before .before .args .s)))) ∙ sym (take-all (c .before .before .before .args .n) (drop (c .before .before .before .args .at) (now (c .before .before .before .args .s))) (omega (arith, length-drop (c .before .before .before .args .at) (now (c .before .before .before .args .s)))))
+    let args = c .before .before .before .args in
+    take-all (length (now (args .s)) - args .at) (drop (args .at) (now (args .s))) (omega (arith, length-drop (args .at) (now (args .s))))
+    ∙ sym (take-all (args .n) (drop (args .at) (now (args .s))) (omega (arith, length-drop (args .at) (now (args .s)))))
 
 returns-3 : tie.Need-returns-3
 returns-3 c =
-    ap (λ (k : ℕ). take k (drop (c .before .before .before .args .at) (now (c .before .before .before .args .s)))) (add-sub-cancel-left (c .before .before .before .args .at) (c .before .before .before .args .n))
+    let args = c .before .before .before .args in
+    ap (λ (k : ℕ). take k (drop (args .at) (now (args .s)))) (add-sub-cancel-left (args .at) (args .n))
 
 pub part-spec : {M : Type 1} → statement M
 part-spec =

@@ -16,7 +16,8 @@ returns c =
 
 returns-2 : tie.Need-returns-2
 returns-2 c =
-    take-all (length (now (c .before .before .args .s)) - c .before .before .args .at) (drop (c .before .before .args .at) (now (c .before .before .args .s))) (omega (arith, length-drop (c .before .before .args .at) (now (c .before .before .args .s))))
+    take-all (length (now (c .before .before .args .s)) - c .before .before .args .at)
+    (drop (c .before .before .args .at) (now (c .before .before .args .s))) (omega (arith, length-drop (c .before .before .args .at) (now (c .before .before .args .s))))
 
 pub tail-spec : {M : Type 1} → statement M
 tail-spec =

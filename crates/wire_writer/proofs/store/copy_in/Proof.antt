@@ -38,7 +38,15 @@ loop-less c = omega arith
 
 loop-again : tie.Need-loop-again Inv-loop μ-loop
 loop-again c =
-    let h : c .before .before .loop .i < length (now (c .before .before .before .args .src)) = omega arith in (omega arith, omega arith, omega (arith, length-set (c .before .before .loop .out) (c .before .before .before .args .at + c .before .before .loop .i) (getD (now (c .before .before .before .args .src)) (c .before .before .loop .i) 0)), ap (λ (l : List ℕ). set l (c .before .before .before .args .at + c .before .before .loop .i) (getD (now (c .before .before .before .args .src)) (c .before .before .loop .i) 0)) (c .before .before .loop .inv .3) ∙ run-step (now (c .before .before .before .args .src)) (now (c .before .before .before .args .out)) (c .before .before .before .args .at) (c .before .before .loop .i) h)
+    let at-loop = c .before .before in
+    let args = at-loop .before .args in
+    let h : at-loop .loop .i < length (now (args .src)) = omega arith in (
+      omega arith,
+      omega arith,
+      omega (arith, length-set (at-loop .loop .out) (args .at + at-loop .loop .i) (getD (now (args .src)) (at-loop .loop .i) 0)),
+      ap (λ (l : List ℕ). set l (args .at + at-loop .loop .i) (getD (now (args .src)) (at-loop .loop .i) 0)) (at-loop .loop .inv .3)
+          ∙ run-step (now (args .src)) (now (args .out)) (args .at) (at-loop .loop .i) h,
+    )
 
 same-length : tie.Need-same-length Inv-loop μ-loop
 same-length c = omega arith

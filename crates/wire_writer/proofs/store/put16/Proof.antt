@@ -15,11 +15,17 @@ store2-requires c κs =
 
 returns : tie.Need-returns
 returns c =
-    c .before .before .store2 .ensures ∙ laid-fits (now (c .before .before .before .before .before .before .before .args .out)) (c .before .before .before .before .before .before .before .args .at) (leBytes 2 (c .before .before .before .before .before .before .before .args .v)) (sym (c .before .before .before .before .before .has .ensures) ∙ c .before .before .before .before .if1 .taken)
+    let at-store2 = c .before .before in
+    let at-if1 = at-store2 .before .before in
+    let at-has = at-if1 .before in
+    let args = at-has .before .before .args in
+    at-store2 .store2 .ensures ∙ laid-fits (now (args .out)) (args .at) (leBytes 2 (args .v)) (sym (at-has .has .ensures) ∙ at-if1 .if1 .taken)
 
 returns-2 : tie.Need-returns-2
 returns-2 c =
-    laid-none (now (c .before .before .before .args .out)) (c .before .before .before .args .at) (leBytes 2 (c .before .before .before .args .v)) (sym (c .before .has .ensures) ∙ c .if1 .left)
+    let at-has = c .before in
+    let args = at-has .before .before .args in
+    laid-none (now (args .out)) (args .at) (leBytes 2 (args .v)) (sym (at-has .has .ensures) ∙ c .if1 .left)
 
 pub put16-spec : {M : Type 1} → statement M
 put16-spec = tie.close (tie.spec (λ c κs. search needs) store2-requires (λ c. search needs) returns returns-2)

@@ -15,11 +15,17 @@ store4-requires c κs =
 
 returns : tie.Need-returns
 returns c =
-    c .before .before .store4 .ensures ∙ laid-fits (now (c .before .before .before .before .before .before .before .args .out)) (c .before .before .before .before .before .before .before .args .at) (leBytes 4 (c .before .before .before .before .before .before .before .args .v)) (sym (c .before .before .before .before .before .has .ensures) ∙ c .before .before .before .before .if1 .taken)
+    let at-store4 = c .before .before in
+    let at-if1 = at-store4 .before .before in
+    let at-has = at-if1 .before in
+    let args = at-has .before .before .args in
+    at-store4 .store4 .ensures ∙ laid-fits (now (args .out)) (args .at) (leBytes 4 (args .v)) (sym (at-has .has .ensures) ∙ at-if1 .if1 .taken)
 
 returns-2 : tie.Need-returns-2
 returns-2 c =
-    laid-none (now (c .before .before .before .args .out)) (c .before .before .before .args .at) (leBytes 4 (c .before .before .before .args .v)) (sym (c .before .has .ensures) ∙ c .if1 .left)
+    let at-has = c .before in
+    let args = at-has .before .before .args in
+    laid-none (now (args .out)) (args .at) (leBytes 4 (args .v)) (sym (at-has .has .ensures) ∙ c .if1 .left)
 
 pub put32-spec : {M : Type 1} → statement M
 put32-spec = tie.close (tie.spec (λ c κs. search needs) store4-requires (λ c. search needs) returns returns-2)

@@ -16,23 +16,41 @@ use Rattle.wire_writer.proofs.store.put_guid.Tie as tie
 
 store8-requires : tie.Need-store8-requires
 store8-requires c κs =
-    let h : c .before .before .before .before .args .at + 16 ≤ length (now (c .before .before .before .before .args .out)) = leb-true _ _ (sym (c .before .before .has .ensures) ∙ c .before .if1 .taken) in search needs
+    let at-if1 = c .before in
+    let at-has = at-if1 .before in
+    let args = at-has .before .before .args in
+    let h : args .at + 16 ≤ length (now (args .out)) = leb-true _ _ (sym (at-has .has .ensures) ∙ at-if1 .if1 .taken) in search needs
 
 add-store8 : tie.Need-add-store8
 add-store8 c =
-    let h : c .before .before .before .before .before .before .before .before .args .at + 16 ≤ length (now (c .before .before .before .before .before .before .before .before .args .out)) = leb-true _ _ (sym (c .before .before .before .before .before .before .has .ensures) ∙ c .before .before .before .before .before .if1 .taken) in search needs
+    let at-if1 = c .before .before .before .before .before in
+    let at-has = at-if1 .before in
+    let args = at-has .before .before .args in
+    let h : args .at + 16 ≤ length (now (args .out)) = leb-true _ _ (sym (at-has .has .ensures) ∙ at-if1 .if1 .taken) in search needs
 
 store8-requires-2 : tie.Need-store8-requires-2
 store8-requires-2 c κs =
-    let h : c .before .before .before .before .before .before .before .before .args .at + 16 ≤ length (now (c .before .before .before .before .before .before .before .before .args .out)) = leb-true _ _ (sym (c .before .before .before .before .before .before .has .ensures) ∙ c .before .before .before .before .before .if1 .taken) in search needs
+    let at-if1 = c .before .before .before .before .before in
+    let at-has = at-if1 .before in
+    let args = at-has .before .before .args in
+    let h : args .at + 16 ≤ length (now (args .out)) = leb-true _ _ (sym (at-has .has .ensures) ∙ at-if1 .if1 .taken) in search needs
 
 returns : tie.Need-returns
 returns c =
-    c .before .before .store82 .ensures ∙ ap (λ (l : List ℕ). sets l (c .before .before .before .before .before .before .before .before .before .before .before .args .at + 8) (leBytes 8 (c .before .before .before .before .before .before .before .before .before .before .before .args .v .high))) (c .before .before .before .before .before .before .store8 .ensures) ∙ sets-append (leBytes 8 (c .before .before .before .before .before .before .before .before .before .before .before .args .v .low)) (leBytes 8 (c .before .before .before .before .before .before .before .before .before .before .before .args .v .high)) (now (c .before .before .before .before .before .before .before .before .before .before .before .args .out)) (c .before .before .before .before .before .before .before .before .before .before .before .args .at) ∙ laid-fits (now (c .before .before .before .before .before .before .before .before .before .before .before .args .out)) (c .before .before .before .before .before .before .before .before .before .before .before .args .at) (guidBytes (c .before .before .before .before .before .before .before .before .before .before .before .args .v)) (sym (c .before .before .before .before .before .before .before .before .before .has .ensures) ∙ c .before .before .before .before .before .before .before .before .if1 .taken)
+    let at-store82 = c .before .before in
+    let at-store8 = at-store82 .before .before .before .before in
+    let at-if1 = at-store8 .before .before in
+    let at-has = at-if1 .before in
+    let args = at-has .before .before .args in
+    at-store82 .store82 .ensures ∙ ap (λ (l : List ℕ). sets l (args .at + 8) (leBytes 8 (args .v .high))) (at-store8 .store8 .ensures)
+    ∙ sets-append (leBytes 8 (args .v .low)) (leBytes 8 (args .v .high)) (now (args .out)) (args .at)
+    ∙ laid-fits (now (args .out)) (args .at) (guidBytes (args .v)) (sym (at-has .has .ensures) ∙ at-if1 .if1 .taken)
 
 returns-2 : tie.Need-returns-2
 returns-2 c =
-    laid-none (now (c .before .before .before .args .out)) (c .before .before .before .args .at) (guidBytes (c .before .before .before .args .v)) (sym (c .before .has .ensures) ∙ c .if1 .left)
+    let at-has = c .before in
+    let args = at-has .before .before .args in
+    laid-none (now (args .out)) (args .at) (guidBytes (args .v)) (sym (at-has .has .ensures) ∙ c .if1 .left)
 
 pub put-guid-spec : {M : Type 1} → statement M
 put-guid-spec =

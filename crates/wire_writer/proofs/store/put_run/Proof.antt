@@ -14,11 +14,17 @@ copy-in-requires c κs =
 
 returns : tie.Need-returns
 returns c =
-    c .before .before .copy-in .ensures ∙ laid-fits (now (c .before .before .before .before .before .before .before .before .args .out)) (c .before .before .before .before .before .before .before .before .args .at) (now (c .before .before .before .before .before .before .before .before .args .src)) (sym (c .before .before .before .before .before .has .ensures) ∙ c .before .before .before .before .if1 .taken)
+    let at-copy-in = c .before .before in
+    let at-if1 = at-copy-in .before .before in
+    let at-has = at-if1 .before in
+    let args = at-has .before .before .before .args in
+    at-copy-in .copy-in .ensures ∙ laid-fits (now (args .out)) (args .at) (now (args .src)) (sym (at-has .has .ensures) ∙ at-if1 .if1 .taken)
 
 returns-2 : tie.Need-returns-2
 returns-2 c =
-    laid-none (now (c .before .before .before .before .args .out)) (c .before .before .before .before .args .at) (now (c .before .before .before .before .args .src)) (sym (c .before .has .ensures) ∙ c .if1 .left)
+    let at-has = c .before in
+    let args = at-has .before .before .before .args in
+    laid-none (now (args .out)) (args .at) (now (args .src)) (sym (at-has .has .ensures) ∙ c .if1 .left)
 
 pub put-run-spec : {M : Type 1} → statement M
 put-run-spec = tie.close (tie.spec (λ c κs. search needs) copy-in-requires (λ c. search needs) returns returns-2)

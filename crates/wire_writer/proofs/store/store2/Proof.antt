@@ -13,7 +13,10 @@ use Rattle.wire_writer.proofs.store.store2.Tie as tie
 
 returns : tie.Need-returns
 returns c =
-    c .before .before .store12 .ensures ∙ ap (λ (l : List ℕ). sets l (c .before .before .before .before .before .before .before .before .before .args .at + 1) (leBytes 1 (c .before .before .before .before .before .before .before .before .before .args .v / 256 ^ 1))) (c .before .before .before .before .before .before .store1 .ensures) ∙ sets-split 1 1 (c .before .before .before .before .before .before .before .before .before .args .v) (now (c .before .before .before .before .before .before .before .before .before .args .out)) (c .before .before .before .before .before .before .before .before .before .args .at)
+    let at-store12 = c .before .before in
+    let at-store1 = at-store12 .before .before .before .before in
+    let args = at-store1 .before .before .before .args in
+    at-store12 .store12 .ensures ∙ ap (λ (l : List ℕ). sets l (args .at + 1) (leBytes 1 (args .v / 256 ^ 1))) (at-store1 .store1 .ensures) ∙ sets-split 1 1 (args .v) (now (args .out)) (args .at)
 
 pub store2-spec : {M : Type 1} → statement M
 store2-spec = tie.close (tie.spec (λ c κs. search needs) (λ c. search needs) (λ c κs. search needs) (λ c. search needs) returns)

@@ -13,7 +13,10 @@ use Rattle.wire_writer.proofs.store.store4.Tie as tie
 
 returns : tie.Need-returns
 returns c =
-    c .before .before .store22 .ensures ∙ ap (λ (l : List ℕ). sets l (c .before .before .before .before .before .before .before .before .before .args .at + 2) (leBytes 2 (c .before .before .before .before .before .before .before .before .before .args .v / 256 ^ 2))) (c .before .before .before .before .before .before .store2 .ensures) ∙ sets-split 2 2 (c .before .before .before .before .before .before .before .before .before .args .v) (now (c .before .before .before .before .before .before .before .before .before .args .out)) (c .before .before .before .before .before .before .before .before .before .args .at)
+    let at-store22 = c .before .before in
+    let at-store2 = at-store22 .before .before .before .before in
+    let args = at-store2 .before .before .before .args in
+    at-store22 .store22 .ensures ∙ ap (λ (l : List ℕ). sets l (args .at + 2) (leBytes 2 (args .v / 256 ^ 2))) (at-store2 .store2 .ensures) ∙ sets-split 2 2 (args .v) (now (args .out)) (args .at)
 
 pub store4-spec : {M : Type 1} → statement M
 store4-spec = tie.close (tie.spec (λ c κs. search needs) (λ c. search needs) (λ c κs. search needs) (λ c. search needs) returns)

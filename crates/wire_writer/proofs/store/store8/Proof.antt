@@ -13,7 +13,10 @@ use Rattle.wire_writer.proofs.store.store8.Tie as tie
 
 returns : tie.Need-returns
 returns c =
-    c .before .before .store42 .ensures ∙ ap (λ (l : List ℕ). sets l (c .before .before .before .before .before .before .before .before .before .args .at + 4) (leBytes 4 (c .before .before .before .before .before .before .before .before .before .args .v / 256 ^ 4))) (c .before .before .before .before .before .before .store4 .ensures) ∙ sets-split 4 4 (c .before .before .before .before .before .before .before .before .before .args .v) (now (c .before .before .before .before .before .before .before .before .before .args .out)) (c .before .before .before .before .before .before .before .before .before .args .at)
+    let at-store42 = c .before .before in
+    let at-store4 = at-store42 .before .before .before .before in
+    let args = at-store4 .before .before .before .args in
+    at-store42 .store42 .ensures ∙ ap (λ (l : List ℕ). sets l (args .at + 4) (leBytes 4 (args .v / 256 ^ 4))) (at-store4 .store4 .ensures) ∙ sets-split 4 4 (args .v) (now (args .out)) (args .at)
 
 pub store8-spec : {M : Type 1} → statement M
 store8-spec = tie.close (tie.spec (λ c κs. search needs) (λ c. search needs) (λ c κs. search needs) (λ c. search needs) returns)

@@ -13,7 +13,9 @@ returns c =
 
 returns-2 : tie.Need-returns-2
 returns-2 c =
-    rw (ne-eqb _ _ (c .before .before .before .before .if1 .left)) (c .before .before .put8 .ensures)
+    let at-put8 = c .before .before in
+    let at-if1 = at-put8 .before .before in
+    rw (ne-eqb _ _ (at-if1 .if1 .left)) (at-put8 .put8 .ensures)
 
 pub put-byte-spec : {M : Type 1} → statement M
 put-byte-spec = tie.close (tie.spec returns (λ c κs. search needs) (λ c. search needs) returns-2)

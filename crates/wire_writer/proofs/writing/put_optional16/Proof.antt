@@ -8,11 +8,14 @@ use Rattle.wire_writer.proofs.writing.put_optional16.Tie as tie
 
 returns : tie.Need-returns
 returns c =
-    rw (c .enum-told .given .1) (stored-nothing (now (c .before .before .before .args .out)) (c .before .before .before .args .at))
+    let args = c .before .before .before .args in
+    rw (c .enum-told .given .1) (stored-nothing (now (args .out)) (args .at))
 
 returns-2 : tie.Need-returns-2
 returns-2 c =
-    rw (c .before .before .before .before .before .x .given .1) (c .before .before .put16 .ensures)
+    let at-put16 = c .before .before in
+    let at-x = at-put16 .before .before .before in
+    rw (at-x .x .given .1) (at-put16 .put16 .ensures)
 
 pub put-optional16-spec : {M : Type 1} → statement M
 put-optional16-spec =

@@ -10,11 +10,14 @@ use Rattle.wire_writer.proofs.writing.put_optional_i64.Tie as tie
 
 returns : tie.Need-returns
 returns c =
-    rw (c .enum-told .given .1) (stored-nothing (now (c .before .before .before .args .out)) (c .before .before .before .args .at))
+    let args = c .before .before .before .args in
+    rw (c .enum-told .given .1) (stored-nothing (now (args .out)) (args .at))
 
 returns-2 : tie.Need-returns-2
 returns-2 c =
-    let q : SFits w64 (c .before .before .before .before .before .x .given .0 .0) = search needs in rw (c .before .before .before .before .before .x .given .1) (stored-signed (c .before .before .before .before .before .x .given .0 .0) q (c .before .before .put-i64 .ensures))
+    let at-put-i64 = c .before .before in
+    let at-x = at-put-i64 .before .before .before in
+    let q : SFits w64 (at-x .x .given .0 .0) = search needs in rw (at-x .x .given .1) (stored-signed (at-x .x .given .0 .0) q (at-put-i64 .put-i64 .ensures))
 
 pub put-optional-i64-spec : {M : Type 1} → statement M
 put-optional-i64-spec =

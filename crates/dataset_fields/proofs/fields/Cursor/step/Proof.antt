@@ -18,11 +18,19 @@ returns-2 c =
 
 returns-3 : tie.Need-returns-3
 returns-3 c =
-    rw (le-ltb _ _ (c .before .before .before .before .before .before .if1 .left), lt-leb _ _ (c .before .before .before .before .if2 .left), sym (told answerField (c .before .before .before .read-field .ensures) (c .before .n .given .1)))
+    let at-n = c .before in
+    let at-read-field = at-n .before .before in
+    let at-if2 = at-read-field .before in
+    let at-if1 = at-if2 .before .before in
+    rw (le-ltb _ _ (at-if1 .if1 .left), lt-leb _ _ (at-if2 .if2 .left), sym (told answerField (at-read-field .read-field .ensures) (at-n .n .given .1)))
 
 returns-4 : tie.Need-returns-4
 returns-4 c =
-    rw (le-ltb _ _ (c .before .before .before .before .before .before .if1 .left), lt-leb _ _ (c .before .before .before .before .if2 .left), sym (told answerField (c .before .before .before .read-field .ensures) (c .before .field .given .1)))
+    let at-field = c .before in
+    let at-read-field = at-field .before .before in
+    let at-if2 = at-read-field .before in
+    let at-if1 = at-if2 .before .before in
+    rw (le-ltb _ _ (at-if1 .if1 .left), lt-leb _ _ (at-if2 .if2 .left), sym (told answerField (at-read-field .read-field .ensures) (at-field .field .given .1)))
 
 pub step-spec : {M : Type 1} → statement M
 step-spec =

@@ -13,15 +13,26 @@ use Rattle.network_message.proofs.payload.MessageCursor.step.Tie as tie
 
 add-t12 : tie.Need-add-t12
 add-t12 c =
-    omega (arith, message-counted (c .before .before .before .before .before .before .args .p) (now (c .before .before .before .before .before .before .args .sizes)) (c .before .before .before .before .before .before .args .self .index) (now (c .before .before .before .before .before .before .args .s)) (c .before .before .before .before .before .before .args .self .at) _ _ (sym (told answerMessage (c .before .before .before .message-at .ensures) (c .before .m .given .1))))
+    omega (
+      arith,
+      message-counted (c .before .before .before .before .before .before .args .p)
+          (now (c .before .before .before .before .before .before .args .sizes))
+          (c .before .before .before .before .before .before .args .self .index)
+          (now (c .before .before .before .before .before .before .args .s))
+          (c .before .before .before .before .before .before .args .self .at) _ _ (sym (told answerMessage (c .before .before .before .message-at .ensures) (c .before .m .given .1))),
+    )
 
 returns : tie.Need-returns
 returns c =
-    rw (sym (told answerMessage (c .before .before .before .message-at .ensures) (c .before .n .given .1)))
+    let at-n = c .before in
+    let at-message-at = at-n .before .before in
+    rw (sym (told answerMessage (at-message-at .message-at .ensures) (at-n .n .given .1)))
 
 returns-2 : tie.Need-returns-2
 returns-2 c =
-    rw (sym (told answerMessage (c .before .before .before .message-at .ensures) (c .before .m .given .1)))
+    let at-m = c .before in
+    let at-message-at = at-m .before .before in
+    rw (sym (told answerMessage (at-message-at .message-at .ensures) (at-m .m .given .1)))
 
 pub step-spec : {M : Type 1} → statement M
 step-spec =
