@@ -3,6 +3,7 @@ use Prim.Native.Nat.{ℕ}
 use mathlib.Core.Path.{_≡_}
 use mathlib.Core.Bool.{true, false}
 use mathlib.Core.List.{List, [], _∷_}
+use Rattle.wire.specs.Numbers.{BYTE_DIFFERS, NOT_COMPLETE, NOT_PERMITTED}
 use Rattle.wire.specs.Answer.{Answer, got, refused}
 use Rattle.sequence.specs.Newness.{newnessOf}
 use Rattle.sequence.specs.declared.Newness.{Newness}
@@ -47,9 +48,9 @@ table =
     ∷ newness 65535 0 Newer
     ∷ variant (0 ∷ []) (got (measure 0 Shape.Scalar) 1)
     ∷ variant (133 ∷ 255 ∷ 255 ∷ 255 ∷ 255 ∷ []) (got (measure 5 Shape.NullArray) 5)
-    ∷ variant (24 ∷ []) (refused 3 0)
+    ∷ variant (24 ∷ []) (refused NOT_PERMITTED 0)
     ∷ calls (chunkOf 0 1 2 3 ∷ chunkOf 2 3 4 5 ∷ Ask ∷ HandOut ∷ []) fresh (done ∷ done ∷ said true ∷ handed (1 ∷ 2 ∷ 3 ∷ 4 ∷ 5 ∷ []) ∷ [])
-    ∷ calls (chunkOf 0 1 2 3 ∷ chunkOf 2 8 4 5 ∷ Ask ∷ HandOut ∷ []) fresh (done ∷ refusal 14 0 ∷ said false ∷ refusal 15 0 ∷ [])
+    ∷ calls (chunkOf 0 1 2 3 ∷ chunkOf 2 8 4 5 ∷ Ask ∷ HandOut ∷ []) fresh (done ∷ refusal BYTE_DIFFERS 0 ∷ said false ∷ refusal NOT_COMPLETE 0 ∷ [])
     ∷ []
 
 -- a reading holds if the definition that the contracts cite answers so

@@ -4,6 +4,7 @@ use mathlib.Core.Bool.{cond}
 use mathlib.Core.List.{List, _++_}
 use lib.Dec.{leb, ltb, eqb}
 use lib.ListN.{length, take, drop}
+use Rattle.wire.specs.Numbers.{DISAGREE, MOST_TOTAL, NO_ROOM, OVER_LIMIT}
 use Rattle.wire.specs.Number.{leBytes}
 use Rattle.wire_writer.specs.Store.{laid}
 use Rattle.wire_writer.specs.declared.writing.Written.{Written}
@@ -24,16 +25,16 @@ chunkBytes p number size k = payloadBytes number (k * size) (length p) (cutData 
 -- "data size 0 or payload empty 6, payload above 16,384 or k past the last 10": the first broken rule, or 0
 unfoldable pub cutRule : ℕ → ℕ → ℕ → ℕ
 cutRule total size k =
-    cond (eqb size 0) 6
-    (cond (eqb total 0) 6
-    (cond (ltb 16384 total) 10
-    (cond (leb total (k * size)) 10 0)))
+    cond (eqb size 0) DISAGREE
+    (cond (eqb total 0) DISAGREE
+    (cond (ltb MOST_TOTAL total) OVER_LIMIT
+    (cond (leb total (k * size)) OVER_LIMIT 0)))
 
 -- "then 11", in a buffer of room bytes
 unfoldable pub cutFault : List ℕ → ℕ → ℕ → ℕ → ℕ
 cutFault p size k room =
     cond (eqb (cutRule (length p) size k) 0)
-    (cond (ltb room (14 + length (cutData p size k))) 11 0)
+    (cond (ltb room (14 + length (cutData p size k))) NO_ROOM 0)
     (cutRule (length p) size k)
 
 -- the number of bytes written, or the refusal

@@ -3,6 +3,7 @@ use Prim.Native.Nat.{ℕ}
 use mathlib.Core.Bool.{cond}
 use mathlib.Core.List.{List, []}
 use lib.ListN.{take, drop}
+use Rattle.wire.specs.Numbers.{NOT_TAKEN}
 use Rattle.wire.specs.Answer.{Answer, got, refused, Reader, andThen}
 use Rattle.network_message.specs.Envelope.{networkMessageAt}
 use Rattle.network_header.specs.declared.envelope.Envelope.{Envelope}
@@ -24,7 +25,7 @@ placeOf e end p = record { publisher = e .publisher; «publisher_end» = end; wr
 -- "without the chunk bit 4, place 0"
 abbrev pub chunkOf : Envelope → ℕ → Reader ChunkPlace
 chunkOf e end s at =
-    cond (e .chunk) (andThen (chunkPayloadAt s at) (λ p next. got (placeOf e end p) next)) (refused 4 0)
+    cond (e .chunk) (andThen (chunkPayloadAt s at) (λ p next. got (placeOf e end p) next)) (refused NOT_TAKEN 0)
 
 -- "the chunk's own numbers (its envelope's first ..)"; places count in the datagram
 abbrev pub chunkAt : List ℕ → List ℕ → Answer ChunkPlace

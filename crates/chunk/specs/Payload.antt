@@ -3,6 +3,7 @@ use Prim.Native.Nat.{ℕ, _+_}
 use mathlib.Core.Bool.{cond}
 use lib.Dec.{ltb, eqb}
 use lib.ListN.{length}
+use Rattle.wire.specs.Numbers.{BAD_LENGTH, DISAGREE, LEFT_OVER, MOST_TOTAL, OVER_LIMIT}
 use Rattle.wire.specs.Answer.{Answer, got, refused, Reader, item, run, here, pure, andThen, _>>=_, _>>_}
 use Rattle.wire.specs.Items.{lengthItem}
 use Rattle.wire.specs.declared.Length.{Length}
@@ -14,7 +15,7 @@ use Rattle.chunk.specs.declared.payload.DataRead.{DataRead}
 
 -- TotalSize 4: "Total 0 .. is 6; total above 16,384 is 10", whose place is 0
 abbrev pub totalOf : ℕ → ℕ → ℕ → Answer ℕ
-totalOf at v next = cond (eqb v 0) (refused 6 at) (cond (ltb 16384 v) (refused 10 0) (got v next))
+totalOf at v next = cond (eqb v 0) (refused DISAGREE at) (cond (ltb MOST_TOTAL v) (refused OVER_LIMIT 0) (got v next))
 
 abbrev pub totalAt : Reader ℕ
 totalAt s at = andThen (item 4 s at) (totalOf at)
@@ -22,20 +23,20 @@ totalAt s at = andThen (item 4 s at) (totalOf at)
 -- data of n bytes, whose length stands at a position: "empty .. data, or offset + length above total (at the data's length) is 6"
 abbrev pub sizedData : ℕ → ℕ → ℕ → ℕ → ℕ → Answer ℕ
 sizedData offset total n at next =
-    cond (eqb n 0) (refused 6 at) (cond (ltb total (offset + n)) (refused 6 at) (got n next))
+    cond (eqb n 0) (refused DISAGREE at) (cond (ltb total (offset + n)) (refused DISAGREE at) (got n next))
 
 -- null data is 6; below -1 is 5, as every length
 abbrev pub lengthThen : ℕ → ℕ → ℕ → Length → ℕ → Answer ℕ
-lengthThen offset total at Length.Null next = refused 6 at
+lengthThen offset total at Length.Null next = refused DISAGREE at
 lengthThen offset total at (Length.Of n) next = sizedData offset total n at next
-lengthThen offset total at Length.Negative next = refused 5 at
+lengthThen offset total at Length.Negative next = refused BAD_LENGTH at
 
 abbrev pub dataLengthAt : ℕ → ℕ → Reader ℕ
 dataLengthAt offset total s at = andThen (lengthItem s at) (lengthThen offset total at)
 
 -- "Nothing may follow (7)"
 abbrev pub endAt : Reader (Unit {0})
-endAt s at = cond (eqb at (length s)) (got tt at) (refused 7 at)
+endAt s at = cond (eqb at (length s)) (got tt at) (refused LEFT_OVER at)
 
 -- data of a length that stands at the position
 abbrev pub dataOf : ℕ → Reader ChunkData

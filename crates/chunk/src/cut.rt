@@ -1,4 +1,8 @@
 // Cutting a payload into chunks.
+use wire::numbers::DISAGREE;
+use wire::numbers::MOST_TOTAL;
+use wire::numbers::NO_ROOM;
+use wire::numbers::OVER_LIMIT;
 use wire::part::part;
 use wire_writer::store::put_run;
 use wire_writer::store::put16;
@@ -15,16 +19,16 @@ fn cut_rule(total: usize, size: usize, k: usize) -> u8
     ensures { λ r. ⌜ r ≡ cutRule total size k ⌝ }
 {
     if size == 0 {
-        return 6;
+        return DISAGREE;
     }
     if total == 0 {
-        return 6;
+        return DISAGREE;
     }
-    if 16384 < total {
-        return 10;
+    if MOST_TOTAL < total {
+        return OVER_LIMIT;
     }
     if (total - 1) / size < k {
-        return 10;
+        return OVER_LIMIT;
     }
     0
 }
@@ -54,7 +58,7 @@ pub fn cut(out: &mut [u8], payload: &[u8], number: u16, size: usize, k: usize) -
     let bytes = part(payload, offset, size);
     let length = 14 + bytes.len();
     if out.len() < length {
-        return Written::Refused(11);
+        return Written::Refused(NO_ROOM);
     }
     put_payload(out, number, offset, payload.len(), bytes);
     Written::Is(length)

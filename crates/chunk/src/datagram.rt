@@ -6,6 +6,7 @@ use network_header::envelope::Envelope;
 use network_header::header::PayloadHeader;
 use network_message::envelope::NetworkMessageRead;
 use publisher_id::publisher::PublisherId;
+use wire::numbers::NOT_TAKEN;
 use wire::part::part;
 ghost use mathlib.Core.Path.{_≡_};
 ghost use Rattle.chunk.specs.Datagram.{writerOf, chunkOf, chunkAt, chunkData, answerChunk};
@@ -39,7 +40,7 @@ fn read_chunk(s: &[u8], e: Envelope, publisher_end: usize, at: usize) -> ChunkRe
     ensures { λ r. ⌜ answerChunk r ≡ chunkOf e «publisher_end» (now (s .entry)) at ⌝ }
 {
     if !e.chunk {
-        return ChunkRead::Refused(4, 0);
+        return ChunkRead::Refused(NOT_TAKEN, 0);
     }
     let publisher = e.publisher;
     let header = e.payload_header;

@@ -3,6 +3,12 @@ use wire::Item16;
 use wire::Item32;
 use wire::ItemLength;
 use wire::Run;
+use wire::numbers::BAD_LENGTH;
+use wire::numbers::CUT_SHORT;
+use wire::numbers::DISAGREE;
+use wire::numbers::LEFT_OVER;
+use wire::numbers::MOST_TOTAL;
+use wire::numbers::OVER_LIMIT;
 ghost use mathlib.Core.Path.{_≡_};
 ghost use Prim.Native.Nat.{_+_};
 ghost use lib.Dec.{ltb};
@@ -44,13 +50,13 @@ fn read_total(s: &[u8], at: usize) -> SizeRead
     ensures { λ r. ⌜ answerSize r ≡ totalAt (now (s .entry)) at ⌝ }
 {
     let Item32::Is(v, next) = wire::read32(s, at) else {
-        return SizeRead::Refused(1, at);
+        return SizeRead::Refused(CUT_SHORT, at);
     };
     if v == 0 {
-        return SizeRead::Refused(6, at);
+        return SizeRead::Refused(DISAGREE, at);
     }
-    if 16384 < v {
-        return SizeRead::Refused(10, 0);
+    if MOST_TOTAL < v {
+        return SizeRead::Refused(OVER_LIMIT, 0);
     }
     SizeRead::Is(v as usize, next)
 }
@@ -70,10 +76,10 @@ fn sized_data(offset: usize, total: usize, n: usize, at: usize, next: usize) -> 
     ensures { λ r. ⌜ answerSize r ≡ sizedData offset total n at next ⌝ }
 {
     if n == 0 {
-        return SizeRead::Refused(6, at);
+        return SizeRead::Refused(DISAGREE, at);
     }
     if above(offset, n, total) {
-        return SizeRead::Refused(6, at);
+        return SizeRead::Refused(DISAGREE, at);
     }
     SizeRead::Is(n, next)
 }
@@ -83,10 +89,10 @@ fn read_data_length(s: &[u8], offset: usize, total: usize, at: usize) -> SizeRea
     ensures { λ r. ⌜ answerSize r ≡ dataLengthAt offset total (now (s .entry)) at ⌝ }
 {
     match wire::read_length(s, at) {
-        ItemLength::Null(_) => SizeRead::Refused(6, at),
+        ItemLength::Null(_) => SizeRead::Refused(DISAGREE, at),
         ItemLength::Of(next, n) => sized_data(offset, total, n, at, next),
-        ItemLength::Negative(_) => SizeRead::Refused(5, at),
-        ItemLength::Short => SizeRead::Refused(1, at),
+        ItemLength::Negative(_) => SizeRead::Refused(BAD_LENGTH, at),
+        ItemLength::Short => SizeRead::Refused(CUT_SHORT, at),
     }
 }
 
@@ -95,10 +101,10 @@ fn data_of(s: &[u8], length: usize, first: usize) -> DataRead
     ensures { λ r. ⌜ answerData r ≡ dataOf length (now (s .entry)) first ⌝ }
 {
     let Run::To(end) = wire::skip(s, first, length) else {
-        return DataRead::Refused(1, first);
+        return DataRead::Refused(CUT_SHORT, first);
     };
     if end != s.len() {
-        return DataRead::Refused(7, end);
+        return DataRead::Refused(LEFT_OVER, end);
     }
     DataRead::Is(ChunkData { first, length }, end)
 }
@@ -117,7 +123,7 @@ fn read_rest(s: &[u8], number: u16, at: usize) -> ChunkPayloadRead
     ensures { λ r. ⌜ answerPayload r ≡ restAt number (now (s .entry)) at ⌝ }
 {
     let Item32::Is(v, next) = wire::read32(s, at) else {
-        return ChunkPayloadRead::Refused(1, at);
+        return ChunkPayloadRead::Refused(CUT_SHORT, at);
     };
     let offset = v as usize;
     match read_total(s, next) {
@@ -143,7 +149,7 @@ pub fn read_payload(s: &[u8], at: usize) -> ChunkPayloadRead
     ensures { λ r. ⌜ answerPayload r ≡ chunkPayloadAt (now (s .entry)) at ⌝ }
 {
     let Item16::Is(number, next) = wire::read16(s, at) else {
-        return ChunkPayloadRead::Refused(1, at);
+        return ChunkPayloadRead::Refused(CUT_SHORT, at);
     };
     read_rest(s, number, next)
 }

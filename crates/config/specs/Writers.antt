@@ -5,6 +5,7 @@ use mathlib.Core.List.{List, [], _∷_}
 use Prim.Native.Nat.{ℕ, _+_, _-_}
 use lib.Dec.{ltb}
 use lib.ListN.{length, getD, take, drop, replicate}
+use Rattle.wire.specs.Numbers.{MOST_FIELDS, MOST_WRITERS}
 use Rattle.text.specs.Words.{indexOf, contains}
 use Rattle.wire.specs.declared.optional.Optional16.{Optional16}
 use Rattle.config.specs.declared.Config.{Config}
@@ -40,7 +41,7 @@ total [] = 0
 total (x ∷ xs) = x + total xs
 
 abbrev pub sumOfSizes : List ℕ → ℕ
-sumOfSizes sizes = total (take 16 sizes)
+sumOfSizes sizes = total (take MOST_WRITERS sizes)
 
 abbrev pub emptyConfig : Config
-emptyConfig = record { writers = 0; fields = 0; ids = replicate 16 0; sizes = replicate 16 0; starts = replicate 16 0; types = replicate 64 0 }
+emptyConfig = record { writers = 0; fields = 0; ids = replicate MOST_WRITERS 0; sizes = replicate MOST_WRITERS 0; starts = replicate MOST_WRITERS 0; types = replicate MOST_FIELDS 0 }

@@ -1,4 +1,6 @@
 // What a configuration says: the record, and the questions asked of its arrays, lent as slices. Any slices have an answer.
+use wire::numbers::MOST_FIELDS;
+use wire::numbers::MOST_WRITERS;
 use wire::optional::Optional16;
 use wire::part::part;
 ghost use mathlib.Core.Path.{_≡_};
@@ -6,24 +8,25 @@ ghost use Prim.Native.Nat.{_≤_};
 ghost use lib.ListN.{take, getD};
 ghost use Rattle.text.specs.Words.{indexOf, contains};
 ghost use Rattle.config.specs.Writers.{atMost, fieldsOf, fieldsOfId, typesOf, allSized, sumOfSizes, emptyConfig};
+ghost use Rattle.wire.specs.Numbers.{MOST_WRITERS};
 
 // The writers in order: each with its id, its size (0 where it has none) and how many fields stand before its own;
 // and the types of all fields. Only the first `writers` and the first `fields` entries say something.
 pub struct Config {
     pub writers: usize,
     pub fields: usize,
-    pub ids: [u16; 16],
-    pub sizes: [u16; 16],
-    pub starts: [u8; 16],
-    pub types: [u8; 64],
+    pub ids: [u16; MOST_WRITERS],
+    pub sizes: [u16; MOST_WRITERS],
+    pub starts: [u8; MOST_WRITERS],
+    pub types: [u8; MOST_FIELDS],
 }
 
 // How many writers there are: not above 16, whatever the record says.
 pub fn writer_count(writers: usize) -> usize
-    ensures { λ r. ⌜ (r ≡ atMost 16 writers) × (r ≤ 16) ⌝ }
+    ensures { λ r. ⌜ (r ≡ atMost MOST_WRITERS writers) × (r ≤ MOST_WRITERS) ⌝ }
 {
-    if 16 < writers {
-        return 16;
+    if MOST_WRITERS < writers {
+        return MOST_WRITERS;
     }
     writers
 }
@@ -123,7 +126,7 @@ pub fn all_sized(sizes: &[u16]) -> bool
 pub fn sum_of_sizes(sizes: &[u16]) -> usize
     ensures { λ r. ⌜ (r ≡ sumOfSizes (now (sizes .entry))) × (r ≤ 1048560) ⌝ }
 {
-    let list = first(sizes, 16);
+    let list = first(sizes, MOST_WRITERS);
     let mut sum = 0;
     let mut i = 0;
     while i < list.len() {
@@ -140,9 +143,9 @@ pub fn empty() -> Config
     Config {
         writers: 0,
         fields: 0,
-        ids: [0u16; 16],
-        sizes: [0u16; 16],
-        starts: [0u8; 16],
-        types: [0u8; 64],
+        ids: [0u16; MOST_WRITERS],
+        sizes: [0u16; MOST_WRITERS],
+        starts: [0u8; MOST_WRITERS],
+        types: [0u8; MOST_FIELDS],
     }
 }

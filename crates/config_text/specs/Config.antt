@@ -5,6 +5,7 @@ use mathlib.Core.List.{List, [], _∷_}
 use Prim.Native.Nat.{ℕ, _+_}
 use lib.Dec.{eqb, leb, ltb}
 use lib.ListN.{take, set}
+use Rattle.wire.specs.Numbers.{MOST_FIELDS, MOST_WRITERS}
 use Rattle.text.specs.Words.{contains}
 use Rattle.config_text.specs.Line.{Says, writer, field, bad, newline, saysOf}
 use Rattle.config.specs.declared.Config.{Config}
@@ -32,12 +33,12 @@ lineSays (unended l) = bad
 
 -- at most 16 writers, and an id that none of them has
 abbrev pub isNew : List ℕ → ℕ → ℕ → Bool
-isNew ids n id = cond (leb 16 n) false (not (contains id (take n ids)))
+isNew ids n id = cond (leb MOST_WRITERS n) false (not (contains id (take n ids)))
 
 -- whether a line may come after so many writers, with these ids, and so many fields: a field needs a writer above it, and is at most the 64th
 abbrev pub permits : List ℕ → ℕ → ℕ → Says → Bool
 permits ids writers fields (writer id size) = isNew ids writers id
-permits ids writers fields (field t) = not (eqb writers 0) && ltb fields 64
+permits ids writers fields (field t) = not (eqb writers 0) && ltb fields MOST_FIELDS
 permits ids writers fields bad = false
 
 abbrev pub mayFollow : Config → Says → Bool

@@ -7,6 +7,9 @@ use config::Config;
 use config::empty;
 use config::first;
 use config::has_writer;
+use wire::numbers::BAD_LINE;
+use wire::numbers::MOST_FIELDS;
+use wire::numbers::MOST_WRITERS;
 ghost use mathlib.Core.Path.{_≡_};
 ghost use Prim.Native.Nat.{_≤_};
 ghost use Rattle.config_text.specs.Line.{saysIn};
@@ -23,7 +26,7 @@ fn bad_line(line: usize) -> ConfigRead
     ensures { λ r. ⌜ r ≡ badLine line ⌝ }
 {
     ConfigRead {
-        number: 16,
+        number: BAD_LINE,
         place: line,
         config: empty(),
     }
@@ -33,7 +36,7 @@ fn bad_line(line: usize) -> ConfigRead
 fn is_new(ids: &[u16], n: usize, id: u16) -> bool
     ensures { λ r. ⌜ r ≡ isNew (now (ids .entry)) n id ⌝ }
 {
-    if 16 <= n {
+    if MOST_WRITERS <= n {
         return false;
     }
     !has_writer(first(ids, n), id)
@@ -45,7 +48,7 @@ fn permitted(ids: &[u16], writers: usize, fields: usize, line: Line) -> bool
 {
     match line {
         Line::Writer(id, _, _) => is_new(ids, writers, id),
-        Line::Field(_, _) => (writers != 0) & (fields < 64),
+        Line::Field(_, _) => (writers != 0) & (fields < MOST_FIELDS),
         Line::Bad => false,
     }
 }

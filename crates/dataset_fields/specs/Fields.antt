@@ -4,6 +4,7 @@ use mathlib.Core.Bool.{Bool, false, cond, not, _&&_, true}
 use mathlib.Core.List.{List, [], _∷_, _++_}
 use lib.Dec.{leb, ltb, eqb}
 use lib.ListN.{length, getD, take, drop}
+use Rattle.wire.specs.Numbers.{CUT_SHORT, DISAGREE, LEFT_OVER, OVER_LIMIT}
 use Rattle.wire.specs.Answer.{Answer, got, refused, Reader, item, here, whenOn, pure, andThen, _>>=_, _>>_}
 use Rattle.value.specs.Value.{variantAt, dataValueAt, rawAt, Measure}
 use Rattle.value.specs.Head.{describedAt}
@@ -61,15 +62,15 @@ pub record Stepped : Type 0 where
 
 abbrev pub stepAt : Cursor → List ℕ → List ℕ → Answer Stepped
 stepAt c types s =
-    cond (ltb (length s) (c .at)) (refused 1 (c .at))
-    (cond (leb (c .count) (c .next)) (refused 10 0)
+    cond (ltb (length s) (c .at)) (refused CUT_SHORT (c .at))
+    (cond (leb (c .count) (c .next)) (refused OVER_LIMIT 0)
     (andThen (fieldAt (c .delta) (c .encoding) types (c .next) s (c .at))
     (λ f end. got (record { field = f; cursor = record { encoding = c .encoding; delta = c .delta; next = c .next + 1; count = c .count; at = end } }) end)))
 
 -- "only zero bytes may remain (else 7, at the first other byte)"
 unfoldable pub zerosAt : ℕ → Reader (Unit {0})
 zerosAt zero s at = got tt at
-zerosAt (suc n) s at = cond (eqb (getD s at 0) 0) (zerosAt n s (at + 1)) (refused 7 at)
+zerosAt (suc n) s at = cond (eqb (getD s at 0) 0) (zerosAt n s (at + 1)) (refused LEFT_OVER at)
 
 abbrev pub paddingAt : Reader (Unit {0})
 paddingAt s at = zerosAt (length s - at) s at
@@ -129,7 +130,7 @@ fieldsWhole encoding types k (v ∷ vs) = endsAt (length v) (encodedAt encoding 
 
 -- the fields' own refusal, then "what would read back otherwise .. by 6"
 abbrev pub fieldsNumber : Encoding → List ℕ → ℕ → List (List ℕ) → ℕ
-fieldsNumber encoding types k vs = orElse (fieldsRefusal encoding types k vs) (cond (fieldsWhole encoding types k vs) 0 6)
+fieldsNumber encoding types k vs = orElse (fieldsRefusal encoding types k vs) (cond (fieldsWhole encoding types k vs) 0 DISAGREE)
 
 -- the fields that are read: in RawData no more than are configured
 abbrev pub reached : Bool → List ℕ → List (List ℕ) → List (List ℕ)

@@ -13,6 +13,10 @@ use value::pass_variants;
 use wire::Item16;
 use wire::Reached;
 use wire::has;
+use wire::numbers::CUT_SHORT;
+use wire::numbers::DISAGREE;
+use wire::numbers::LEFT_OVER;
+use wire::numbers::OVER_LIMIT;
 use wire::part::part;
 use wire_writer::writing::put_run;
 use wire_writer::writing::put16;
@@ -94,7 +98,7 @@ fn index(s: &[u8], delta: bool, k: usize, at: usize) -> IndexRead
         return IndexRead::Is(k, at);
     }
     let Item16::Is(v, next) = wire::read16(s, at) else {
-        return IndexRead::Refused(1, at);
+        return IndexRead::Refused(CUT_SHORT, at);
     };
     IndexRead::Is(v as usize, next)
 }
@@ -208,11 +212,11 @@ impl Cursor {
     {
         let at = self.at;
         if s.len() < at {
-            return FieldStep::Refused(1, at);
+            return FieldStep::Refused(CUT_SHORT, at);
         }
         let k = self.next;
         if self.count <= k {
-            return FieldStep::Refused(10, 0);
+            return FieldStep::Refused(OVER_LIMIT, 0);
         }
         let encoding = self.encoding;
         match read_field(&*s, encoding, self.delta, &*types, k, at) {
@@ -302,7 +306,7 @@ pub fn padding(s: &[u8], at: usize) -> Reached
     let mut p = at;
     while p < s.len() {
         if s[p] != 0 {
-            return Reached::Refused(7, p);
+            return Reached::Refused(LEFT_OVER, p);
         }
         p = p + 1;
     }
@@ -377,7 +381,7 @@ fn judge_first(
     if whole {
         return 0;
     }
-    6
+    DISAGREE
 }
 
 // The same of the fields that reading reaches.

@@ -2,6 +2,7 @@
 use Prim.Native.Nat.{ℕ, _/_, _%_, _+_, _*_}
 use mathlib.Core.Bool.{Bool, true, false, cond, not, _&&_}
 use lib.Dec.{leb, ltb, eqb}
+use Rattle.wire.specs.Numbers.{NOT_PERMITTED, NOT_TAKEN}
 use Rattle.wire.specs.Answer.{Answer, got, refused, Reader, ruled, andThen, item, bit}
 use Rattle.dataset_header.specs.declared.flags.Encoding.{Encoding}
 use Rattle.dataset_header.specs.declared.flags.Kind.{Kind}
@@ -37,16 +38,16 @@ isRaw Encoding.DataValue = false
 
 -- encoding "3 is 3"
 abbrev pub flags1Rule : ℕ → ℕ
-flags1Rule b = cond (eqb (b / 2 % 4) 3) 3 0
+flags1Rule b = cond (eqb (b / 2 % 4) 3) NOT_PERMITTED 0
 
 -- "Flags2: 0 is 3"; kind 4 and above is 3; bit "6 or 7 set is 3. Event not in Variant is 3; delta in RawData is 4"
 abbrev pub flags2Rule : ℕ → ℕ → ℕ
 flags2Rule b f =
-    cond (eqb f 0) 3
-    (cond (leb 4 (f % 16)) 3
-    (cond (leb 64 f) 3
-    (cond (eqb (f % 16) 2 && not (eqb (b / 2 % 4) 0)) 3
-    (cond (eqb (f % 16) 1 && eqb (b / 2 % 4) 1) 4 0))))
+    cond (eqb f 0) NOT_PERMITTED
+    (cond (leb 4 (f % 16)) NOT_PERMITTED
+    (cond (leb 64 f) NOT_PERMITTED
+    (cond (eqb (f % 16) 2 && not (eqb (b / 2 % 4) 0)) NOT_PERMITTED
+    (cond (eqb (f % 16) 1 && eqb (b / 2 % 4) 1) NOT_TAKEN 0))))
 
 -- Flags2 after Flags1 b: bit 7 of b announces it; without it it counts as 0
 abbrev pub flags2At : ℕ → Reader ℕ
@@ -117,9 +118,9 @@ flagBytes h = leBytes 1 (flags1Of h) ++ byteBytes (flags2Of h)
 abbrev pub kindRule : Kind → Encoding → ℕ
 kindRule Kind.Key encoding = 0
 kindRule Kind.Delta Encoding.Variant = 0
-kindRule Kind.Delta Encoding.RawData = 4
+kindRule Kind.Delta Encoding.RawData = NOT_TAKEN
 kindRule Kind.Delta Encoding.DataValue = 0
 kindRule Kind.Event Encoding.Variant = 0
-kindRule Kind.Event Encoding.RawData = 3
-kindRule Kind.Event Encoding.DataValue = 3
+kindRule Kind.Event Encoding.RawData = NOT_PERMITTED
+kindRule Kind.Event Encoding.DataValue = NOT_PERMITTED
 kindRule Kind.KeepAlive encoding = 0

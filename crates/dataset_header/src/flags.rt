@@ -2,6 +2,9 @@
 use crate::header::Header;
 use wire::FlagByte;
 use wire::Item8;
+use wire::numbers::CUT_SHORT;
+use wire::numbers::NOT_PERMITTED;
+use wire::numbers::NOT_TAKEN;
 use wire_writer::writing::flag;
 use wire_writer::writing::is_on_i64;
 use wire_writer::writing::is_on16;
@@ -101,7 +104,7 @@ fn flags1_rule(b: u8) -> u8
     ensures { λ r. ⌜ r ≡ flags1Rule b ⌝ }
 {
     if b / 2 % 4 == 3 {
-        return 3;
+        return NOT_PERMITTED;
     }
     0
 }
@@ -111,19 +114,19 @@ fn flags2_rule(b: u8, f: u8) -> u8
     ensures { λ r. ⌜ r ≡ flags2Rule b f ⌝ }
 {
     if f == 0 {
-        return 3;
+        return NOT_PERMITTED;
     }
     if 4 <= f % 16 {
-        return 3;
+        return NOT_PERMITTED;
     }
     if 64 <= f {
-        return 3;
+        return NOT_PERMITTED;
     }
     if (f % 16 == 2) & (b / 2 % 4 != 0) {
-        return 3;
+        return NOT_PERMITTED;
     }
     if (f % 16 == 1) & (b / 2 % 4 == 1) {
-        return 4;
+        return NOT_TAKEN;
     }
     0
 }
@@ -135,7 +138,7 @@ fn flags2(s: &[u8], b: u8, at: usize) -> FlagByte
         return FlagByte::Is(0, at);
     }
     let Item8::Is(f, next) = wire::read8(s, at) else {
-        return FlagByte::Refused(1, at);
+        return FlagByte::Refused(CUT_SHORT, at);
     };
     let n = flags2_rule(b, f);
     if n != 0 {
@@ -166,7 +169,7 @@ pub fn read_flags(s: &[u8]) -> FlagsRead
     ensures { λ r. ⌜ answerFlags r ≡ flagsAt (now (s .entry)) 0 ⌝ }
 {
     let Item8::Is(b, next) = wire::read8(s, 0) else {
-        return FlagsRead::Refused(1, 0);
+        return FlagsRead::Refused(CUT_SHORT, 0);
     };
     if b % 2 == 0 {
         return FlagsRead::NotValid(next);
@@ -255,13 +258,13 @@ pub fn kind_rule(kind: Kind, encoding: Encoding) -> u8
         Kind::Key => 0,
         Kind::Delta => match encoding {
             Encoding::Variant => 0,
-            Encoding::RawData => 4,
+            Encoding::RawData => NOT_TAKEN,
             Encoding::DataValue => 0,
         },
         Kind::Event => match encoding {
             Encoding::Variant => 0,
-            Encoding::RawData => 3,
-            Encoding::DataValue => 3,
+            Encoding::RawData => NOT_PERMITTED,
+            Encoding::DataValue => NOT_PERMITTED,
         },
         Kind::KeepAlive => 0,
     }

@@ -4,6 +4,7 @@ use mathlib.Core.Bool.{Bool, false, cond}
 use mathlib.Core.List.{List, []}
 use lib.Dec.{leb, eqb}
 use lib.ListN.{length, take, drop}
+use Rattle.wire.specs.Numbers.{NOT_CONFIGURED, OVER_LIMIT}
 use Rattle.wire.specs.Answer.{Answer, got, refused, Reader, item, andThen}
 use Rattle.dataset_header.specs.declared.flags.Kind.{Kind}
 use Rattle.dataset_header.specs.declared.header.Header.{Header}
@@ -17,7 +18,7 @@ use Rattle.dataset_fields.specs.Fields.{fieldAt, fieldsAt, paddingAt}
 
 -- "FieldCount 2 and the fields; RawData has no count, its fields are the configured ones (none: 8)"
 abbrev pub countedAt : Bool → List ℕ → Reader ℕ
-countedAt raw types s at = cond raw (cond (eqb (length types) 0) (refused 8 0) (got (length types) at)) (item 2 s at)
+countedAt raw types s at = cond raw (cond (eqb (length types) 0) (refused NOT_CONFIGURED 0) (got (length types) at)) (item 2 s at)
 
 -- "A key frame with nothing left is a heartbeat. Else key and event: FieldCount ..; Delta: FieldCount"; a keep alive has no fields
 abbrev pub countAt : Kind → Bool → List ℕ → Reader ℕ
@@ -55,12 +56,12 @@ messageAt types s = andThen (headerAt s 0) (λ h at. afterHeader h types s at)
 -- field k from the cursor before the first: "k at or past the count .. is 10"
 abbrev pub nthAt : Cursor → List ℕ → ℕ → List ℕ → Answer Field
 nthAt c types k s =
-    cond (leb (c .count) k) (refused 10 0)
+    cond (leb (c .count) k) (refused OVER_LIMIT 0)
     (andThen (fieldsAt (c .delta) (c .encoding) types k 0 s (c .at)) (λ _ at. fieldAt (c .delta) (c .encoding) types k s at))
 
 -- "Lookup reads the whole message first; its fault comes before 10, and one not valid has no fields."
 abbrev pub ofMessage : Valid Message → List ℕ → ℕ → List ℕ → Answer Field
-ofMessage notValid types k s = refused 10 0
+ofMessage notValid types k s = refused OVER_LIMIT 0
 ofMessage (valid m) types k s = nthAt (m .cursor) types k s
 
 abbrev pub fieldPlaceAt : List ℕ → ℕ → List ℕ → Answer Field

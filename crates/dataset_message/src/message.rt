@@ -13,6 +13,9 @@ use dataset_header::header::HeaderRead;
 use dataset_header::header::read_header;
 use wire::Item16;
 use wire::Reached;
+use wire::numbers::CUT_SHORT;
+use wire::numbers::NOT_CONFIGURED;
+use wire::numbers::OVER_LIMIT;
 ghost use mathlib.Core.Path.{_≡_};
 ghost use Rattle.dataset_fields.specs.Fields.{answerField};
 ghost use Rattle.dataset_message.specs.Message.{countedAt, countAt, endAt, bodyAt, messageAt, fieldPlaceAt, fieldBytes, nthAt};
@@ -38,12 +41,12 @@ fn counted(s: &[u8], raw: bool, types: &[u8], at: usize) -> CountRead
 {
     if raw {
         if types.len() == 0 {
-            return CountRead::Refused(8, 0);
+            return CountRead::Refused(NOT_CONFIGURED, 0);
         }
         return CountRead::Is(types.len(), at);
     }
     let Item16::Is(n, next) = wire::read16(s, at) else {
-        return CountRead::Refused(1, at);
+        return CountRead::Refused(CUT_SHORT, at);
     };
     CountRead::Is(n as usize, next)
 }
@@ -113,7 +116,7 @@ fn nth(s: &[u8], cursor: Cursor, types: &[u8], k: usize) -> FieldRead
     ensures { λ r. ⌜ answerField r ≡ nthAt cursor (now (types .entry)) k (now (s .entry)) ⌝ }
 {
     if cursor.count <= k {
-        return FieldRead::Refused(10, 0);
+        return FieldRead::Refused(OVER_LIMIT, 0);
     }
     let encoding = cursor.encoding;
     match pass_each(&*s, encoding, cursor.delta, &*types, k, cursor.at) {
@@ -127,7 +130,7 @@ pub fn field_place(s: &[u8], types: &[u8], k: usize) -> FieldRead
     ensures { λ r. ⌜ answerField r ≡ fieldPlaceAt (now (types .entry)) k (now (s .entry)) ⌝ }
 {
     match read(&*s, &*types) {
-        MessageRead::NotValid => FieldRead::Refused(10, 0),
+        MessageRead::NotValid => FieldRead::Refused(OVER_LIMIT, 0),
         MessageRead::Refused(n, place) => FieldRead::Refused(n, place),
         MessageRead::Is(_, cursor, _) => nth(s, cursor, types, k),
     }

@@ -6,6 +6,7 @@ use mathlib.Core.Bool.{Bool, true, false, cond, not, _&&_, _||_}
 use mathlib.Core.List.{List, [], _++_}
 use lib.Dec.{eqb, leb}
 use lib.ListN.{length}
+use Rattle.wire.specs.Numbers.{DISAGREE, NOT_CONFIGURED}
 use Rattle.wire.specs.Number.{leBytes}
 use Rattle.dataset_header.specs.Flags.{isDelta, isRaw, kindRule}
 use Rattle.wire_writer.specs.Writing.{orElse, picosecondsRefusal, numberFor, writtenBy, bufferBy}
@@ -65,7 +66,7 @@ encode g =
 
 -- "RawData .. its fields are the configured ones (none: 8)"
 abbrev pub configuredRule : Bool → ℕ → ℕ
-configuredRule raw configured = cond (raw && eqb configured 0) 8 0
+configuredRule raw configured = cond (raw && eqb configured 0) NOT_CONFIGURED 0
 
 -- what reading refuses of the fields
 abbrev pub fieldedRefusal : Encoding → List ℕ → List (List ℕ) → ℕ
@@ -113,7 +114,7 @@ abbrev pub readsBack : List ℕ → Given → Bool
 readsBack types g = bodyAgrees types g && listsAgree (isDelta (g .header .kind)) (g .values) (g .lengths) (g .indices)
 
 abbrev pub refusalOf : List ℕ → Given → ℕ
-refusalOf types g = orElse (readingRefusal types g) (cond (readsBack types g) 0 6)
+refusalOf types g = orElse (readingRefusal types g) (cond (readsBack types g) 0 DISAGREE)
 
 -- how many bytes the message takes: its header, FieldCount, a delta's indices, the values and the padding
 abbrev pub sizeOf : ℕ → Bool → Bool → ℕ → ℕ → ℕ → ℕ

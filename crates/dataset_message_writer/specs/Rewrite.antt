@@ -5,6 +5,7 @@ use mathlib.Core.Bool.{Bool}
 use mathlib.Core.List.{List, _++_}
 use lib.Dec.{leb}
 use lib.ListN.{length, take, drop}
+use Rattle.wire.specs.Numbers.{DISAGREE}
 use Rattle.wire.specs.Answer.{Answer, got, refused}
 use Rattle.wire_writer.specs.Writing.{numberFor, writtenBy, bufferBy}
 use Rattle.wire_writer.specs.declared.writing.Written.{Written}
@@ -29,7 +30,7 @@ again s m =
 -- reading's refusal is the writer's; one not valid "would read back otherwise", as "the message writer always sets bit 0"
 
 abbrev pub againWritten : ℕ → List ℕ → Answer (Valid Message) → Written
-againWritten room s (got notValid next) = Written.Refused 6
+againWritten room s (got notValid next) = Written.Refused DISAGREE
 againWritten room s (got (valid m) next) = writtenBy (numberFor 0 (length (again s m)) room) (again s m)
 againWritten room s (refused n place) = Written.Refused n
 

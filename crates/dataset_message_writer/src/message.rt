@@ -13,6 +13,11 @@ use dataset_header::flags::is_raw;
 use dataset_header::flags::kind_rule;
 use dataset_header::header::Header;
 use dataset_header::header::put_header;
+use wire::numbers::DISAGREE;
+use wire::numbers::MOST_DATAGRAM;
+use wire::numbers::NO_ROOM;
+use wire::numbers::NOT_CONFIGURED;
+use wire::numbers::OVER_LIMIT;
 use wire_writer::writing::Written;
 use wire_writer::writing::or_else;
 use wire_writer::writing::picoseconds_refusal;
@@ -42,7 +47,7 @@ fn six_unless(agrees: bool) -> u8
     if agrees {
         return 0;
     }
-    6
+    DISAGREE
 }
 
 // RawData without configured fields is 8.
@@ -50,7 +55,7 @@ fn configured_rule(raw: bool, configured: usize) -> u8
     ensures { λ r. ⌜ r ≡ configuredRule raw configured ⌝ }
 {
     if raw & (configured == 0) {
-        return 8;
+        return NOT_CONFIGURED;
     }
     0
 }
@@ -201,11 +206,11 @@ pub fn write(
         lengths.len(),
         padding,
     );
-    if 65535 < bytes {
-        return Written::Refused(10);
+    if MOST_DATAGRAM < bytes {
+        return Written::Refused(OVER_LIMIT);
     }
     if out.len() < bytes {
-        return Written::Refused(11);
+        return Written::Refused(NO_ROOM);
     }
     put_message(out, header, heartbeat, values, lengths, indices, padding);
     Written::Is(bytes)

@@ -10,6 +10,10 @@ use dataset_header::header::put_header;
 use dataset_message::message::MessageRead;
 use dataset_message::message::read;
 use wire::left;
+use wire::numbers::DISAGREE;
+use wire::numbers::MOST_DATAGRAM;
+use wire::numbers::NO_ROOM;
+use wire::numbers::OVER_LIMIT;
 use wire::part::part;
 use wire_writer::writing::Written;
 use wire_writer::writing::put_run;
@@ -48,11 +52,11 @@ fn write_again(
     let encoding = header.encoding;
     let counted = fielded & !is_raw(encoding);
     let bytes = size(header, counted, false, fields.len(), 0, padding);
-    if 65535 < bytes {
-        return Written::Refused(10);
+    if MOST_DATAGRAM < bytes {
+        return Written::Refused(OVER_LIMIT);
     }
     if out.len() < bytes {
-        return Written::Refused(11);
+        return Written::Refused(NO_ROOM);
     }
     put_again(out, header, fielded, count, fields, padding);
     Written::Is(bytes)
@@ -63,7 +67,7 @@ pub fn rewrite(out: &mut [u8], message: &[u8], types: &[u8]) -> Written
     ensures { λ r. ⌜ Rewrites (now (types .entry)) (now (message .entry)) (now (out .entry)) (now (out .exit)) r ⌝ }
 {
     match read(message, types) {
-        MessageRead::NotValid => Written::Refused(6),
+        MessageRead::NotValid => Written::Refused(DISAGREE),
         MessageRead::Refused(n, _) => Written::Refused(n),
         MessageRead::Is(header, cursor, end) => {
             let kind = header.kind;

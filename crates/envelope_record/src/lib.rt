@@ -22,6 +22,7 @@ use publisher_id::publisher_record::code;
 use records::numbers::number;
 use records::numbers::put_numbers;
 use records::numbers::put_numbers_from;
+use records::sizes::ENVELOPE_SIZE;
 use wire::optional::Optional16;
 ghost use mathlib.Core.Path.{_≡_};
 ghost use Prim.Native.Nat.{_+_, _*_};
@@ -240,7 +241,7 @@ fn put_rest(out: &mut [u8], e: Envelope, places: Places, payload: Payload)
 pub fn put_envelope(out: &mut [u8], e: Envelope, places: Places, payload: Payload)
     ensures { λ _. ⌜ now (out .exit) ≡ laid (now (out .entry)) 0 (numberBytes (envelopeNumbers (record { envelope = e; places = places; payload = payload }))) ⌝ }
 {
-    if out.len() < 224 {
+    if out.len() < ENVELOPE_SIZE {
         return;
     }
     put_start(out, e, places);

@@ -5,6 +5,7 @@ use mathlib.Core.List.{List, [], _∷_, _++_}
 use lib.Dec.{ltb, eqb}
 use lib.ListN.{length, take, drop}
 use lib.Seq.{sets}
+use Rattle.wire.specs.Numbers.{MOST_TEXT_ID, NO_ROOM, OVER_LIMIT}
 use Rattle.text.specs.Decimal.{decimalText}
 use Rattle.text.specs.Hex.{hexText}
 use Rattle.publisher_id.specs.declared.publisher.PublisherId.{PublisherId}
@@ -99,7 +100,7 @@ idTooLong (PublisherId.Byte v) = false
 idTooLong (PublisherId.UInt16 v) = false
 idTooLong (PublisherId.UInt32 v) = false
 idTooLong (PublisherId.UInt64 v) = false
-idTooLong (PublisherId.Text n) = ltb 64 n
+idTooLong (PublisherId.Text n) = ltb MOST_TEXT_ID n
 
 abbrev pub tooLong : Line → Bool
 tooLong (Line.Net n id end messages) = idTooLong id
@@ -111,7 +112,7 @@ tooLong (Line.Bad n place) = false
 
 -- a buffer of 256 bytes holds any line; a shorter one is 11, and such an id is 10
 unfoldable pub lineRefusal : List ℕ → Line → ℕ
-lineRefusal l x = cond (tooLong x) 10 (cond (ltb (length l) 256) 11 0)
+lineRefusal l x = cond (tooLong x) OVER_LIMIT (cond (ltb (length l) 256) NO_ROOM 0)
 
 abbrev pub putBy : ℕ → List ℕ → LinePut
 putBy n t = cond (eqb n 0) (LinePut.Is (length t)) (LinePut.Refused n)

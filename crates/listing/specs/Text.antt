@@ -5,6 +5,7 @@ use mathlib.Core.List.{List, [], _∷_, _++_}
 use lib.Dec.{ltb}
 use lib.ListN.{length}
 use lib.Seq.{sets}
+use Rattle.wire.specs.Numbers.{NO_ROOM}
 use Rattle.listing.specs.Line.{tooLong, lineText}
 use Rattle.walk.specs.declared.entry.Line.{Line}
 use Rattle.wire_writer.specs.declared.writing.Written.{Written}
@@ -24,7 +25,7 @@ lengthIn room t = cond (ltb room (length t)) TextLength.Long (TextLength.Is (len
 
 -- put at the start of a buffer: 11 where it does not fit
 abbrev pub textWritten : List ℕ → List ℕ → Written
-textWritten out t = cond (ltb (length out) (length t)) (Written.Refused 11) (Written.Is (length t))
+textWritten out t = cond (ltb (length out) (length t)) (Written.Refused NO_ROOM) (Written.Is (length t))
 
 abbrev pub textAfter : List ℕ → List ℕ → List ℕ
 textAfter out t = cond (ltb (length out) (length t)) out (sets out 0 t)

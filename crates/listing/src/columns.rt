@@ -10,6 +10,7 @@ ghost use lib.ListN.{length, set};
 ghost use Rattle.text.specs.Decimal.{decimalText};
 ghost use Rattle.text.specs.Hex.{hexText};
 ghost use Rattle.listing.specs.Columns.{tabbed, newline, optionalText, shapeText, Put};
+ghost use Rattle.wire.specs.Numbers.{MOST_TEXT_ID};
 
 // A line's first word.
 pub(crate) fn first(out: &mut [u8], text: &[u8]) -> usize
@@ -43,7 +44,7 @@ pub(crate) fn decimal(out: &mut [u8], at: usize, n: u64) -> usize
 }
 
 pub(crate) fn hex(out: &mut [u8], at: usize, bytes: &[u8]) -> usize
-    requires { ⌜ (length (now bytes) ≤ 64) × (at + 129 ≤ length (now out)) ⌝ }
+    requires { ⌜ (length (now bytes) ≤ MOST_TEXT_ID) × (at + 129 ≤ length (now out)) ⌝ }
     ensures { λ r. ⌜ Put 129 (tabbed (hexText (now (bytes .entry)))) (now (out .entry)) at (now (out .exit)) r ⌝ }
 {
     tab(out, at);

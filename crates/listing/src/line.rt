@@ -12,6 +12,9 @@ use dataset_header::flags::Kind;
 use publisher_id::publisher::PublisherId;
 use walk::entry::Line;
 use walk::entry::SetPlace;
+use wire::numbers::MOST_TEXT_ID;
+use wire::numbers::NO_ROOM;
+use wire::numbers::OVER_LIMIT;
 use wire::optional::Optional16;
 use wire::part::part;
 ghost use mathlib.Core.Path.{_≡_};
@@ -38,7 +41,7 @@ fn id_too_long(id: PublisherId) -> bool
         PublisherId::UInt16(_) => false,
         PublisherId::UInt32(_) => false,
         PublisherId::UInt64(_) => false,
-        PublisherId::Text(n) => 64 < n,
+        PublisherId::Text(n) => MOST_TEXT_ID < n,
     }
 }
 
@@ -219,10 +222,10 @@ pub fn put_line(out: &mut [u8], s: &[u8], line: Line) -> LinePut
     ensures { λ r. ⌜ (r ≡ linePut (now (out .entry)) (now (s .entry)) line) × (now (out .exit) ≡ lineAfter (now (out .entry)) (now (s .entry)) line) × (putLength r ≤ 256) ⌝ }
 {
     if too_long(line) {
-        return LinePut::Refused(10);
+        return LinePut::Refused(OVER_LIMIT);
     }
     if out.len() < 256 {
-        return LinePut::Refused(11);
+        return LinePut::Refused(NO_ROOM);
     }
     LinePut::Is(put(out, s, line))
 }

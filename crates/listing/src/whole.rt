@@ -6,6 +6,7 @@ use walk::lines::LineCursor;
 use walk::lines::LineStep;
 use walk::lines::next_line;
 use walk::lines::start;
+use wire::numbers::NO_ROOM;
 use wire::part::part;
 use wire_writer::store::put_run;
 use wire_writer::writing::Written;
@@ -124,7 +125,7 @@ pub fn put_listing<'a>(
 {
     let first = start(s, number, place, sizes);
     match text_length(out.len(), s, first, ids, sizes, starts, types) {
-        TextLength::Long => Written::Refused(11),
+        TextLength::Long => Written::Refused(NO_ROOM),
         TextLength::Is(n) => {
             store_text(out, s, first, ids, sizes, starts, types);
             Written::Is(n)

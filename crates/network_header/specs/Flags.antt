@@ -2,6 +2,7 @@
 use Prim.Native.Nat.{ℕ, _/_, _%_, _+_, _*_}
 use mathlib.Core.Bool.{Bool, cond, _&&_}
 use lib.Dec.{leb, eqb}
+use Rattle.wire.specs.Numbers.{BAD_VERSION, NOT_PERMITTED, NOT_TAKEN}
 use Rattle.wire.specs.Answer.{Answer, got, refused, Reader, ruled, whenOn, pure, _>>=_, bit}
 use Rattle.network_header.specs.declared.flags.Flags.{Flags}
 use Rattle.network_header.specs.declared.flags.FlagsRead.{FlagsRead}
@@ -15,19 +16,19 @@ use Rattle.network_header.specs.Header.{classOn, payloadHeaderOn, promot
 
 -- "bits 0-3 version 1 (else 2)"
 abbrev pub byte0Rule : ℕ → ℕ
-byte0Rule b = cond (eqb (b % 16) 1) 0 2
+byte0Rule b = cond (eqb (b % 16) 1) 0 BAD_VERSION
 
 -- ExtendedFlags1: "0 is 3"; type 5 to 7 is 3, ignored if PublisherId is off; bit 4, security, is 4; bit 6, PicoSeconds, without bit 5 is 3
 abbrev pub extended1Rule : Bool → ℕ → ℕ
 extended1Rule publisher e =
-    cond (eqb e 0) 3
-    (cond (publisher && leb 5 (e % 8)) 3
-    (cond (bit 16 e) 4
-    (cond (bit 64 e && eqb (e / 32 % 2) 0) 3 0)))
+    cond (eqb e 0) NOT_PERMITTED
+    (cond (publisher && leb 5 (e % 8)) NOT_PERMITTED
+    (cond (bit 16 e) NOT_TAKEN
+    (cond (bit 64 e && eqb (e / 32 % 2) 0) NOT_PERMITTED 0)))
 
 -- ExtendedFlags2: "0 is 3. Bits 5-7 set, or type (bits 2-4) 3 to 7, is 3; type 1 or 2 is 4"
 abbrev pub extended2Rule : ℕ → ℕ
-extended2Rule e = cond (eqb e 0) 3 (cond (leb 32 e) 3 (cond (leb 3 (e / 4 % 8)) 3 (cond (leb 1 (e / 4 % 8)) 4 0)))
+extended2Rule e = cond (eqb e 0) NOT_PERMITTED (cond (leb 32 e) NOT_PERMITTED (cond (leb 3 (e / 4 % 8)) NOT_PERMITTED (cond (leb 1 (e / 4 % 8)) NOT_TAKEN 0)))
 
 -- what the three bytes say: a byte that is not there counts as 0
 abbrev pub flagsOf : ℕ → ℕ → ℕ → Flags
@@ -90,4 +91,4 @@ flagBytes f = leBytes 1 (byte0Of f) ++ (byteBytes (extended1Of f) ++ byteBytes (
 
 -- what reading refuses: "PicoSeconds, without [Timestamp] is 3"
 abbrev pub timesRefusal : Bool → Bool → ℕ
-timesRefusal picoseconds timestamp = cond picoseconds (cond timestamp 0 3) 0
+timesRefusal picoseconds timestamp = cond picoseconds (cond timestamp 0 NOT_PERMITTED) 0

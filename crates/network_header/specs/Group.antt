@@ -2,6 +2,7 @@
 use Prim.Native.Nat.{ℕ, _%_, _+_, _*_}
 use mathlib.Core.Bool.{Bool, cond, true, false}
 use lib.Dec.{leb, eqb}
+use Rattle.wire.specs.Numbers.{NOT_PERMITTED}
 use Rattle.wire.specs.Answer.{Answer, got, refused, Reader, ruled, whenOn, pure, _>>=_, bit}
 use Rattle.wire.specs.Optional.{optional16, optional32}
 use Rattle.wire.specs.declared.optional.Optional16.{Optional16}
@@ -14,14 +15,14 @@ use Rattle.wire_writer.specs.Writing.{num, on16, on32, optional16Bytes, optiona
 
 -- "NetworkMessageNumber 2 (value 0 is 3)"
 abbrev pub numberRule : ℕ → ℕ
-numberRule v = cond (eqb v 0) 3 0
+numberRule v = cond (eqb v 0) NOT_PERMITTED 0
 
 abbrev pub numberAt : Bool → Reader Optional16
 numberAt on = whenOn on Optional16.Absent (ruled 2 numberRule >>= λ v. pure (Optional16.Is v))
 
 -- "GroupFlags (bits 4-7 set is 3)"
 abbrev pub groupFlagsRule : ℕ → ℕ
-groupFlagsRule v = cond (leb 16 v) 3 0
+groupFlagsRule v = cond (leb 16 v) NOT_PERMITTED 0
 
 -- "then by bits 0 to 3: WriterGroupId 2, GroupVersion 4, NetworkMessageNumber 2, SequenceNumber 2"
 abbrev pub groupFieldsAt : ℕ → Reader GroupHeader

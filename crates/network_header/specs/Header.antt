@@ -2,6 +2,7 @@
 use Prim.Native.Nat.{ℕ, _*_}
 use mathlib.Core.Bool.{Bool, cond, true, false}
 use lib.Dec.{eqb, leb}
+use Rattle.wire.specs.Numbers.{DISAGREE, MOST_WRITERS}
 use Rattle.wire.specs.Items.{guid, guidBytes}
 use Rattle.wire.specs.Answer.{Answer, got, refused, Reader, item, ruled, run, whenOn, pure, _>>=_, _>>_}
 use Rattle.network_header.specs.declared.header.ClassId.{ClassId}
@@ -22,7 +23,7 @@ classAt on = whenOn on ClassId.Absent (guid >>= λ v. pure (ClassId.Is v))
 
 -- "Count 1 (0 is 6)"
 abbrev pub countRule : ℕ → ℕ
-countRule n = cond (eqb n 0) 6 0
+countRule n = cond (eqb n 0) DISAGREE 0
 
 -- "then Count ids of 2"
 abbrev pub idsAt : Reader PayloadHeader
@@ -37,7 +38,7 @@ payloadHeaderAt on chunk = whenOn on PayloadHeader.Absent (cond chunk (item 2 >>
 
 -- "Promoted: Size 2 (6 if the number of messages isn't one), then that many bytes"
 abbrev pub sizeRule : ℕ → ℕ → ℕ
-sizeRule messages v = cond (eqb messages 1) 0 6
+sizeRule messages v = cond (eqb messages 1) 0 DISAGREE
 
 abbrev pub promotedAt : Bool → ℕ → Reader Promoted
 promotedAt on messages =
@@ -104,11 +105,11 @@ promotedRefusal (Promoted.Size n) messages = sizeRule messages n
 -- ids: without a PayloadHeader "the configured writers apply in order", of which the first 16 count; a PayloadHeader has as
 -- many as it says, "over 255 messages" being 6, and none for a chunk, whose own id it holds; chunk and PayloadHeader go together
 abbrev pub idsShape : Bool → PayloadHeader → List ℕ → List ℕ → ℕ
-idsShape chunk PayloadHeader.Absent ids configured = cond (sameNumbers ids (take 16 configured)) 0 6
-idsShape chunk (PayloadHeader.Ids n) ids configured = cond chunk 6 (cond (leb 256 n) 6 (cond (eqb (length ids) (2 * n)) 0 6))
-idsShape chunk (PayloadHeader.Chunk w) ids configured = cond chunk (unused (length ids)) 6
+idsShape chunk PayloadHeader.Absent ids configured = cond (sameNumbers ids (take MOST_WRITERS configured)) 0 DISAGREE
+idsShape chunk (PayloadHeader.Ids n) ids configured = cond chunk DISAGREE (cond (leb 256 n) DISAGREE (cond (eqb (length ids) (2 * n)) 0 DISAGREE))
+idsShape chunk (PayloadHeader.Chunk w) ids configured = cond chunk (unused (length ids)) DISAGREE
 
 -- promoted fields: as many bytes as they say, and a size of 2 bytes
 abbrev pub promotedShape : Promoted → ℕ → ℕ
 promotedShape Promoted.Absent len = unused len
-promotedShape (Promoted.Size n) len = cond (leb 65536 n) 6 (cond (eqb n len) 0 6)
+promotedShape (Promoted.Size n) len = cond (leb 65536 n) DISAGREE (cond (eqb n len) 0 DISAGREE)

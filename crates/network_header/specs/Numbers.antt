@@ -4,6 +4,7 @@ use mathlib.Core.Bool.{Bool, true, _&&_}
 use mathlib.Core.List.{List, [], _∷_}
 use lib.Dec.{eqb}
 use lib.ListN.{length, take}
+use Rattle.wire.specs.Numbers.{MOST_WRITERS}
 use Rattle.wire.specs.Number.{le}
 
 -- whether bytes are these numbers, 2 bytes each
@@ -16,4 +17,4 @@ sameNumbers bytes xs = eqb (length bytes) (2 * length xs) && agree xs bytes 0
 
 -- the configured writers are at most 16: their sizes, 0 for none
 abbrev pub configuredSizes : List ℕ → List ℕ
-configuredSizes sizes = take 16 sizes
+configuredSizes sizes = take MOST_WRITERS sizes

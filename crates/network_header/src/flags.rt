@@ -8,6 +8,10 @@ use publisher_id::publisher::kind_of;
 use publisher_id::publisher::publisher_on;
 use wire::FlagByte;
 use wire::Item8;
+use wire::numbers::BAD_VERSION;
+use wire::numbers::CUT_SHORT;
+use wire::numbers::NOT_PERMITTED;
+use wire::numbers::NOT_TAKEN;
 use wire_writer::writing::flag;
 use wire_writer::writing::is_on_i64;
 use wire_writer::writing::is_on16;
@@ -44,7 +48,7 @@ fn byte0_rule(b: u8) -> u8
     ensures { λ r. ⌜ r ≡ byte0Rule b ⌝ }
 {
     if b % 16 != 1 {
-        return 2;
+        return BAD_VERSION;
     }
     0
 }
@@ -53,16 +57,16 @@ fn extended1_rule(publisher: bool, e: u8) -> u8
     ensures { λ r. ⌜ r ≡ extended1Rule publisher e ⌝ }
 {
     if e == 0 {
-        return 3;
+        return NOT_PERMITTED;
     }
     if publisher & (5 <= e % 8) {
-        return 3;
+        return NOT_PERMITTED;
     }
     if e / 16 % 2 == 1 {
-        return 4;
+        return NOT_TAKEN;
     }
     if (e / 64 % 2 == 1) & (e / 32 % 2 == 0) {
-        return 3;
+        return NOT_PERMITTED;
     }
     0
 }
@@ -71,17 +75,17 @@ fn extended2_rule(e: u8) -> u8
     ensures { λ r. ⌜ r ≡ extended2Rule e ⌝ }
 {
     if e == 0 {
-        return 3;
+        return NOT_PERMITTED;
     }
     if 32 <= e {
-        return 3;
+        return NOT_PERMITTED;
     }
     let kind = e / 4 % 8;
     if 3 <= kind {
-        return 3;
+        return NOT_PERMITTED;
     }
     if 1 <= kind {
-        return 4;
+        return NOT_TAKEN;
     }
     0
 }
@@ -90,7 +94,7 @@ fn byte0(s: &[u8]) -> FlagByte
     ensures { λ r. ⌜ answerByte r ≡ ruled 1 byte0Rule (now (s .entry)) 0 ⌝ }
 {
     let Item8::Is(b, next) = wire::read8(s, 0) else {
-        return FlagByte::Refused(1, 0);
+        return FlagByte::Refused(CUT_SHORT, 0);
     };
     let n = byte0_rule(b);
     if n != 0 {
@@ -106,7 +110,7 @@ fn extended1(s: &[u8], on: bool, publisher: bool, at: usize) -> FlagByte
         return FlagByte::Is(0, at);
     }
     let Item8::Is(e, next) = wire::read8(s, at) else {
-        return FlagByte::Refused(1, at);
+        return FlagByte::Refused(CUT_SHORT, at);
     };
     let n = extended1_rule(publisher, e);
     if n != 0 {
@@ -122,7 +126,7 @@ fn extended2(s: &[u8], on: bool, at: usize) -> FlagByte
         return FlagByte::Is(0, at);
     }
     let Item8::Is(e, next) = wire::read8(s, at) else {
-        return FlagByte::Refused(1, at);
+        return FlagByte::Refused(CUT_SHORT, at);
     };
     let n = extended2_rule(e);
     if n != 0 {
@@ -257,5 +261,5 @@ pub fn times_refusal(picoseconds: bool, timestamp: bool) -> u8
     if timestamp {
         return 0;
     }
-    3
+    NOT_PERMITTED
 }

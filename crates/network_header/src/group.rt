@@ -1,6 +1,8 @@
 // The group header.
 use wire::Item8;
 use wire::Item16;
+use wire::numbers::CUT_SHORT;
+use wire::numbers::NOT_PERMITTED;
 use wire::optional::Optional16;
 use wire::optional::Optional16Read;
 use wire::optional::Optional32;
@@ -45,10 +47,10 @@ fn message_number(s: &[u8], on: bool, at: usize) -> Optional16Read
         return Optional16Read::Is(Optional16::Absent, at);
     }
     let Item16::Is(v, next) = wire::read16(s, at) else {
-        return Optional16Read::Refused(1, at);
+        return Optional16Read::Refused(CUT_SHORT, at);
     };
     if v == 0 {
-        return Optional16Read::Refused(3, at);
+        return Optional16Read::Refused(NOT_PERMITTED, at);
     }
     Optional16Read::Is(Optional16::Is(v), next)
 }
@@ -86,10 +88,10 @@ pub fn read_group(s: &[u8], on: bool, at: usize) -> GroupRead
         return GroupRead::Is(GroupHeader::Absent, at);
     }
     let Item8::Is(flags, next) = wire::read8(s, at) else {
-        return GroupRead::Refused(1, at);
+        return GroupRead::Refused(CUT_SHORT, at);
     };
     if 16 <= flags {
-        return GroupRead::Refused(3, at);
+        return GroupRead::Refused(NOT_PERMITTED, at);
     }
     group_fields(s, flags, next)
 }
@@ -179,7 +181,7 @@ pub(crate) fn number_rule(v: u16) -> u8
     ensures { λ r. ⌜ r ≡ numberRule v ⌝ }
 {
     if v == 0 {
-        return 3;
+        return NOT_PERMITTED;
     }
     0
 }

@@ -5,6 +5,8 @@ use wire::Item8;
 use wire::Item16;
 use wire::ItemGuid;
 use wire::Run;
+use wire::numbers::CUT_SHORT;
+use wire::numbers::DISAGREE;
 use wire_writer::writing::must_equal;
 use wire_writer::writing::must_hold;
 use wire_writer::writing::not_used;
@@ -19,6 +21,7 @@ ghost use Prim.Native.Nat.{_+_, _≤_};
 ghost use lib.Dec.{eqb, leb};
 ghost use lib.ListN.{length};
 ghost use Rattle.wire_writer.specs.Writing.{Puts};
+ghost use Rattle.wire.specs.Numbers.{DISAGREE};
 
 // A DataSetClassId.
 pub enum ClassId {
@@ -61,7 +64,7 @@ pub fn read_class_id(s: &[u8], on: bool, at: usize) -> ClassRead
         return ClassRead::Is(ClassId::Absent, at);
     }
     let ItemGuid::Is(v, next) = wire::read_guid(s, at) else {
-        return ClassRead::Refused(1, at);
+        return ClassRead::Refused(CUT_SHORT, at);
     };
     ClassRead::Is(ClassId::Is(v), next)
 }
@@ -70,13 +73,13 @@ fn ids(s: &[u8], at: usize) -> PayloadHeaderRead
     ensures { λ r. ⌜ answerPayloadHeader r ≡ idsAt (now (s .entry)) at ⌝ }
 {
     let Item8::Is(count, start) = wire::read8(s, at) else {
-        return PayloadHeaderRead::Refused(1, at);
+        return PayloadHeaderRead::Refused(CUT_SHORT, at);
     };
     if count == 0 {
-        return PayloadHeaderRead::Refused(6, at);
+        return PayloadHeaderRead::Refused(DISAGREE, at);
     }
     let Run::To(next) = wire::skip(s, start, 2 * (count as usize)) else {
-        return PayloadHeaderRead::Refused(1, start);
+        return PayloadHeaderRead::Refused(CUT_SHORT, start);
     };
     PayloadHeaderRead::Is(PayloadHeader::Ids(count), next)
 }
@@ -91,7 +94,7 @@ pub fn read_payload_header(s: &[u8], on: bool, chunk: bool, at: usize) -> Payloa
         return ids(s, at);
     }
     let Item16::Is(v, next) = wire::read16(s, at) else {
-        return PayloadHeaderRead::Refused(1, at);
+        return PayloadHeaderRead::Refused(CUT_SHORT, at);
     };
     PayloadHeaderRead::Is(PayloadHeader::Chunk(v), next)
 }
@@ -104,14 +107,14 @@ pub fn read_promoted(s: &[u8], on: bool, messages: usize, at: usize) -> Promoted
         return PromotedRead::Is(Promoted::Absent, at);
     }
     let Item16::Is(v, start) = wire::read16(s, at) else {
-        return PromotedRead::Refused(1, at);
+        return PromotedRead::Refused(CUT_SHORT, at);
     };
     if messages != 1 {
-        return PromotedRead::Refused(6, at);
+        return PromotedRead::Refused(DISAGREE, at);
     }
     let size = v as usize;
     let Run::To(next) = wire::skip(s, start, size) else {
-        return PromotedRead::Refused(1, start);
+        return PromotedRead::Refused(CUT_SHORT, start);
     };
     PromotedRead::Is(Promoted::Size(size), next)
 }
@@ -211,7 +214,7 @@ fn count_rule(n: u8) -> u8
     ensures { λ r. ⌜ r ≡ countRule n ⌝ }
 {
     if n == 0 {
-        return 6;
+        return DISAGREE;
     }
     0
 }
@@ -228,12 +231,12 @@ pub fn count_refusal(x: PayloadHeader) -> u8
 
 // The number of messages must be one.
 fn one_message(messages: usize) -> u8
-    ensures { λ r. ⌜ r ≡ cond (eqb messages 1) 0 6 ⌝ }
+    ensures { λ r. ⌜ r ≡ cond (eqb messages 1) 0 DISAGREE ⌝ }
 {
     if messages == 1 {
         return 0;
     }
-    6
+    DISAGREE
 }
 
 pub fn promoted_refusal(x: Promoted, messages: usize) -> u8
@@ -252,7 +255,7 @@ pub fn ids_shape(chunk: bool, x: PayloadHeader, ids: &[u8], configured: &[u16]) 
         PayloadHeader::Absent => must_hold(same_numbers(ids, configured)),
         PayloadHeader::Ids(n) => {
             if chunk {
-                return 6;
+                return DISAGREE;
             }
             must_equal(ids.len(), 2 * (n as usize))
         }
@@ -260,17 +263,17 @@ pub fn ids_shape(chunk: bool, x: PayloadHeader, ids: &[u8], configured: &[u16]) 
             if chunk {
                 return not_used(ids.len());
             }
-            6
+            DISAGREE
         }
     }
 }
 
 // A size of promoted fields that its 2 bytes can hold, and as many bytes.
 fn size_shape(n: usize, len: usize) -> u8
-    ensures { λ r. ⌜ r ≡ cond (leb 65536 n) 6 (cond (eqb n len) 0 6) ⌝ }
+    ensures { λ r. ⌜ r ≡ cond (leb 65536 n) DISAGREE (cond (eqb n len) 0 DISAGREE) ⌝ }
 {
     if 65536 <= n {
-        return 6;
+        return DISAGREE;
     }
     must_equal(n, len)
 }

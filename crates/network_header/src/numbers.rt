@@ -1,10 +1,12 @@
 // Lists of numbers as bytes, 2 bytes each.
 use wire::Item16;
+use wire::numbers::MOST_WRITERS;
 ghost use mathlib.Core.Path.{_≡_};
 ghost use Prim.Native.Nat.{_+_, _*_, _≤_};
 ghost use lib.ListN.{length, take};
 ghost use Rattle.wire.specs.Number.{le};
 ghost use Rattle.network_header.specs.Numbers.{agree, sameNumbers, configuredSizes};
+ghost use Rattle.wire.specs.Numbers.{MOST_WRITERS};
 
 // The number of the two bytes at a position.
 pub fn number_at(bytes: &[u8], at: usize) -> usize
@@ -19,7 +21,7 @@ pub fn number_at(bytes: &[u8], at: usize) -> usize
 
 // Whether bytes, of the right length, are the first n of these numbers.
 fn numbers_agree(bytes: &[u8], numbers: &[u16], n: usize) -> bool
-    requires { ⌜ (n ≤ length (now numbers)) × (length (now bytes) ≡ 2 * n) × (n ≤ 16) ⌝ }
+    requires { ⌜ (n ≤ length (now numbers)) × (length (now bytes) ≡ 2 * n) × (n ≤ MOST_WRITERS) ⌝ }
     ensures { λ r. ⌜ r ≡ agree (take n (now (numbers .entry))) (now (bytes .entry)) 0 ⌝ }
 {
     let mut i = 0;
@@ -36,7 +38,7 @@ fn numbers_agree(bytes: &[u8], numbers: &[u16], n: usize) -> bool
 
 // Whether bytes are the first 16 of these numbers, 2 bytes each.
 pub fn same_numbers(bytes: &[u8], numbers: &[u16]) -> bool
-    ensures { λ r. ⌜ r ≡ sameNumbers (now (bytes .entry)) (take 16 (now (numbers .entry))) ⌝ }
+    ensures { λ r. ⌜ r ≡ sameNumbers (now (bytes .entry)) (take MOST_WRITERS (now (numbers .entry))) ⌝ }
 {
     let n = writers(numbers);
     if bytes.len() != 2 * n {
@@ -47,10 +49,10 @@ pub fn same_numbers(bytes: &[u8], numbers: &[u16]) -> bool
 
 // How many of the configured writers count.
 pub fn writers(sizes: &[u16]) -> usize
-    ensures { λ r. ⌜ (r ≡ length (configuredSizes (now (sizes .entry)))) × (r ≤ 16) × (r ≤ length (now (sizes .entry))) × (take r (now (sizes .entry)) ≡ configuredSizes (now (sizes .entry))) ⌝ }
+    ensures { λ r. ⌜ (r ≡ length (configuredSizes (now (sizes .entry)))) × (r ≤ MOST_WRITERS) × (r ≤ length (now (sizes .entry))) × (take r (now (sizes .entry)) ≡ configuredSizes (now (sizes .entry))) ⌝ }
 {
-    if sizes.len() <= 16 {
+    if sizes.len() <= MOST_WRITERS {
         return sizes.len();
     }
-    16
+    MOST_WRITERS
 }

@@ -4,6 +4,7 @@ use mathlib.Core.Bool.{Bool, cond}
 use mathlib.Core.List.{List, []}
 use lib.ListN.{length, take, drop}
 use lib.Dec.{ltb}
+use Rattle.wire.specs.Numbers.{MOST_DATAGRAM, OVER_LIMIT}
 use Rattle.wire.specs.Answer.{Answer, got, refused, Reader, here, pure, andThen, _>>=_}
 use Rattle.wire.specs.Optional.{optionalI64, picosecondsAt}
 use Rattle.network_header.specs.declared.flags.Flags.{Flags}
@@ -93,7 +94,7 @@ bodyAt f sizes = do
 
 -- "A datagram above 65,535 bytes is 10 before all else."
 abbrev pub networkMessageAt : List ℕ → List ℕ → Answer NetworkMessage
-networkMessageAt sizes s = cond (ltb 65535 (length s)) (refused 10 0) ((flagsAt >>= λ f. bodyAt f sizes) s 0)
+networkMessageAt sizes s = cond (ltb MOST_DATAGRAM (length s)) (refused OVER_LIMIT 0) ((flagsAt >>= λ f. bodyAt f sizes) s 0)
 
 -- where message k of a datagram stands: the datagram's own refusal first, then 10 for a k past the last
 abbrev pub messagePlaceAt : List ℕ → ℕ → List ℕ → Answer MessagePlace

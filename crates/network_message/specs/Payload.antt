@@ -4,6 +4,7 @@ use mathlib.Core.Bool.{Bool, true, false, cond, _&&_}
 use mathlib.Core.List.{List, [], _∷_}
 use lib.ListN.{length, getD}
 use lib.Dec.{leb, ltb, eqb}
+use Rattle.wire.specs.Numbers.{CUT_SHORT, DISAGREE, NOT_CONFIGURED, OVER_LIMIT}
 use Rattle.wire.specs.Number.{le}
 use Rattle.wire.specs.Answer.{Answer, got, refused, Reader, item, run, andThen}
 use Rattle.network_header.specs.declared.header.PayloadHeader.{PayloadHeader}
@@ -35,7 +36,7 @@ payloadOf n z at = record { count = n; sizes = z; first = at }
 
 -- "With Count 1 the rest is the message"; "An empty rest for a single unsized message is 1"
 abbrev pub restAt : Reader Payload
-restAt s at = cond (ltb at (length s)) (got (payloadOf 1 Sizes.Rest at) at) (refused 1 at)
+restAt s at = cond (ltb at (length s)) (got (payloadOf 1 Sizes.Rest at) at) (refused CUT_SHORT at)
 
 -- "With Count above 1: Count sizes of 2 bytes; each at least 1 and their sum equal to the rest, else 6", at the sizes' first byte
 abbrev pub listedAt : ℕ → Reader Payload
@@ -43,20 +44,20 @@ listedAt n s at =
     andThen (run (2 * n) s at)
     (λ _ next.
     cond (positive (listed n s at) && eqb (next + total (listed n s at)) (length s))
-    (got (payloadOf n (Sizes.Listed at) next) next) (refused 6 at))
+    (got (payloadOf n (Sizes.Listed at) next) next) (refused DISAGREE at))
 
 -- "a sum unequal to the rest is 6", at the payload's first byte
 abbrev pub sizedAt : ℕ → ℕ → Reader Payload
-sizedAt n sum s at = cond (eqb (at + sum) (length s)) (got (payloadOf n Sizes.Configured at) at) (refused 6 at)
+sizedAt n sum s at = cond (eqb (at + sum) (length s)) (got (payloadOf n Sizes.Configured at) at) (refused DISAGREE at)
 
 -- "Without a PayloadHeader the configured writers apply in order: none, or several of which one has no size, is 8";
 -- "one writer without size takes the rest"
 abbrev pub configuredAt : List ℕ → Reader Payload
 configuredAt sizes s at =
-    cond (eqb (length sizes) 0) (refused 8 0)
+    cond (eqb (length sizes) 0) (refused NOT_CONFIGURED 0)
     (cond (positive sizes)
     (sizedAt (length sizes) (total sizes) s at)
-    (cond (eqb (length sizes) 1) (restAt s at) (refused 8 0)))
+    (cond (eqb (length sizes) 1) (restAt s at) (refused NOT_CONFIGURED 0)))
 
 -- a payload that is one message, with no list of sizes
 abbrev pub isSingle : PayloadHeader → Bool
@@ -66,7 +67,7 @@ isSingle (PayloadHeader.Chunk w) = false
 
 -- "For a chunk, PayloadHeader off is 8". A chunk's payload has no messages of its own.
 abbrev pub payloadAt : Bool → PayloadHeader → List ℕ → Reader Payload
-payloadAt chunk PayloadHeader.Absent sizes s at = cond chunk (refused 8 0) (configuredAt (configuredSizes sizes) s at)
+payloadAt chunk PayloadHeader.Absent sizes s at = cond chunk (refused NOT_CONFIGURED 0) (configuredAt (configuredSizes sizes) s at)
 payloadAt chunk (PayloadHeader.Ids n) sizes s at = cond (leb n 1) (restAt s at) (listedAt n s at)
 payloadAt chunk (PayloadHeader.Chunk w) sizes s at = got (payloadOf 0 Sizes.Rest at) at
 
@@ -90,7 +91,7 @@ sizeOf Sizes.Configured sizes k s at = getD (configuredSizes sizes) k 0
 -- message k, which starts at position at: its place, and where the next one starts; a k past the last is 10
 abbrev pub messageAt : Payload → List ℕ → ℕ → Reader MessagePlace
 messageAt p sizes k s at =
-    cond (leb (p .count) k) (refused 10 0)
+    cond (leb (p .count) k) (refused OVER_LIMIT 0)
     (andThen (run (sizeOf (p .sizes) sizes k s at) s at) (λ n next. got (record { index = k; offset = at; length = n }) next))
 
 -- the first k messages passed, from the start of the first

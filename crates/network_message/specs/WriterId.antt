@@ -4,6 +4,7 @@ use mathlib.Core.Bool.{cond}
 use mathlib.Core.List.{List}
 use lib.Dec.{leb}
 use lib.ListN.{length, take, getD}
+use Rattle.wire.specs.Numbers.{MOST_WRITERS}
 use Rattle.wire.specs.Answer.{Answer, got, refused, item}
 use Rattle.wire.specs.declared.optional.Optional16.{Optional16}
 use Rattle.network_header.specs.declared.header.PayloadHeader.{PayloadHeader}
@@ -18,7 +19,7 @@ listedId n end k s = cond (leb n k) Optional16.Absent (idOf (item 2 s (end - 2 *
 
 -- the k-th of the configured writers, of which the first 16 count
 abbrev pub configuredId : List ℕ → ℕ → Optional16
-configuredId ids k = cond (leb (length (take 16 ids)) k) Optional16.Absent (Optional16.Is (getD ids k 0))
+configuredId ids k = cond (leb (length (take MOST_WRITERS ids)) k) Optional16.Absent (Optional16.Is (getD ids k 0))
 
 -- the DataSetWriterId of message k: its id in the PayloadHeader, which ends at a position; without a PayloadHeader "the
 -- configured writers apply in order"

@@ -26,6 +26,8 @@ use network_header::numbers::writers;
 use publisher_id::publisher::PublisherId;
 use publisher_id::publisher::PublisherRead;
 use publisher_id::publisher::read_publisher;
+use wire::numbers::MOST_DATAGRAM;
+use wire::numbers::OVER_LIMIT;
 use wire::optional::Optional16;
 use wire::optional::Optional16Read;
 use wire::optional::OptionalI64;
@@ -241,8 +243,8 @@ fn read_body(s: &[u8], flags: Flags, sizes: &[u16], at: usize) -> NetworkMessage
 pub fn read(s: &[u8], sizes: &[u16]) -> NetworkMessageRead
     ensures { λ r. ⌜ answerNetworkMessage r ≡ networkMessageAt (now (sizes .entry)) (now (s .entry)) ⌝ }
 {
-    if 65535 < s.len() {
-        return NetworkMessageRead::Refused(10, 0);
+    if MOST_DATAGRAM < s.len() {
+        return NetworkMessageRead::Refused(OVER_LIMIT, 0);
     }
     match read_flags(s) {
         FlagsRead::Refused(n, place) => NetworkMessageRead::Refused(n, place),

@@ -3,6 +3,10 @@ use network_header::header::PayloadHeader;
 use network_header::numbers::writers;
 use wire::Item16;
 use wire::Run;
+use wire::numbers::CUT_SHORT;
+use wire::numbers::DISAGREE;
+use wire::numbers::NOT_CONFIGURED;
+use wire::numbers::OVER_LIMIT;
 ghost use mathlib.Core.Path.{_≡_};
 ghost use Prim.Native.Nat.{_+_, _*_, _≤_};
 ghost use lib.ListN.{length, take, getD};
@@ -10,6 +14,7 @@ ghost use Rattle.wire.specs.Number.{le};
 ghost use Rattle.wire.specs.Answer.{item};
 ghost use Rattle.network_message.specs.Payload.{total, positive, listed, restAt, listedAt, sizedAt, configuredAt, payloadAt, sizeOf, valueOr0, messageAt, nthAt, stepAt, answerPayload, answerStep, answerMessage};
 ghost use Rattle.network_header.specs.Numbers.{configuredSizes};
+ghost use Rattle.wire.specs.Numbers.{MOST_WRITERS};
 
 // Where a message's size stands: it takes the rest, its size is in the list at a position, or it is configured.
 pub enum Sizes {
@@ -71,7 +76,7 @@ fn tally_listed(s: &[u8], at: usize, n: usize) -> Tally
 
 // The first n configured sizes.
 fn tally_configured(sizes: &[u16], n: usize) -> Tally
-    requires { ⌜ (n ≤ length (now sizes)) × (n ≤ 16) ⌝ }
+    requires { ⌜ (n ≤ length (now sizes)) × (n ≤ MOST_WRITERS) ⌝ }
     ensures { λ r. ⌜ (r .total ≡ total (take n (now (sizes .entry)))) × (r .positive ≡ positive (take n (now (sizes .entry)))) × (r .total ≤ 65535 * n) ⌝ }
 {
     let mut i = 0;
@@ -99,7 +104,7 @@ pub(crate) fn rest(s: &[u8], at: usize) -> PayloadRead
             first: at,
         });
     }
-    PayloadRead::Refused(1, at)
+    PayloadRead::Refused(CUT_SHORT, at)
 }
 
 fn listed_sizes(s: &[u8], n: u8, at: usize) -> PayloadRead
@@ -107,15 +112,15 @@ fn listed_sizes(s: &[u8], n: u8, at: usize) -> PayloadRead
 {
     let count = n as usize;
     if !wire::has(s.len(), at, 2 * count) {
-        return PayloadRead::Refused(1, at);
+        return PayloadRead::Refused(CUT_SHORT, at);
     }
     let t = tally_listed(s, at, count);
     if !t.positive {
-        return PayloadRead::Refused(6, at);
+        return PayloadRead::Refused(DISAGREE, at);
     }
     let first = at + 2 * count;
     if t.total != s.len() - first {
-        return PayloadRead::Refused(6, at);
+        return PayloadRead::Refused(DISAGREE, at);
     }
     PayloadRead::Is(Payload {
         count,
@@ -129,10 +134,10 @@ fn sized(s: &[u8], n: usize, total: usize, at: usize) -> PayloadRead
     ensures { λ r. ⌜ answerPayload r ≡ sizedAt n total (now (s .entry)) at ⌝ }
 {
     if !wire::has(s.len(), at, total) {
-        return PayloadRead::Refused(6, at);
+        return PayloadRead::Refused(DISAGREE, at);
     }
     if total != s.len() - at {
-        return PayloadRead::Refused(6, at);
+        return PayloadRead::Refused(DISAGREE, at);
     }
     PayloadRead::Is(Payload {
         count: n,
@@ -146,7 +151,7 @@ fn configured_sizes(s: &[u8], sizes: &[u16], at: usize) -> PayloadRead
 {
     let n = writers(sizes);
     if n == 0 {
-        return PayloadRead::Refused(8, 0);
+        return PayloadRead::Refused(NOT_CONFIGURED, 0);
     }
     let t = tally_configured(sizes, n);
     if t.positive {
@@ -155,7 +160,7 @@ fn configured_sizes(s: &[u8], sizes: &[u16], at: usize) -> PayloadRead
     if n == 1 {
         return rest(s, at);
     }
-    PayloadRead::Refused(8, 0)
+    PayloadRead::Refused(NOT_CONFIGURED, 0)
 }
 
 // The payload after a payload header.
@@ -171,7 +176,7 @@ pub fn read_payload(
     match header {
         PayloadHeader::Absent => {
             if chunk {
-                return PayloadRead::Refused(8, 0);
+                return PayloadRead::Refused(NOT_CONFIGURED, 0);
             }
             configured_sizes(s, sizes, at)
         }
@@ -250,12 +255,12 @@ fn message_at(s: &[u8], p: Payload, sizes: &[u16], k: usize, at: usize) -> Messa
     ensures { λ r. ⌜ answerMessage r ≡ messageAt p (now (sizes .entry)) k (now (s .entry)) at ⌝ }
 {
     if p.count <= k {
-        return MessageRead::Refused(10, 0);
+        return MessageRead::Refused(OVER_LIMIT, 0);
     }
     let kind = p.sizes;
     let length = message_size(s, kind, sizes, k, at);
     let Run::To(next) = wire::skip(s, at, length) else {
-        return MessageRead::Refused(1, at);
+        return MessageRead::Refused(CUT_SHORT, at);
     };
     MessageRead::Is(
         MessagePlace {

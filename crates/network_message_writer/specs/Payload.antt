@@ -5,6 +5,7 @@ use mathlib.Core.Bool.{Bool, cond}
 use mathlib.Core.List.{List, []}
 use lib.Dec.{leb, eqb}
 use lib.ListN.{length}
+use Rattle.wire.specs.Numbers.{DISAGREE}
 use Rattle.wire.specs.Answer.{Answer, got, refused}
 use Rattle.network_header.specs.declared.header.PayloadHeader.{PayloadHeader}
 use Rattle.network_header.specs.Numbers.{configuredSizes, sameNumbers}
@@ -14,7 +15,7 @@ use Rattle.wire_writer.specs.Writing.{unused}
 -- what reading refuses: the lengths of several messages, "each at least 1 and their sum equal to the rest, else 6"
 abbrev pub listedRefusal : ℕ → List ℕ → ℕ → ℕ
 listedRefusal n lengths rest =
-    cond (eqb (length lengths) (2 * n)) (cond (positive (listed n lengths 0)) (cond (eqb (total (listed n lengths 0)) rest) 0 6) 6) 6
+    cond (eqb (length lengths) (2 * n)) (cond (positive (listed n lengths 0)) (cond (eqb (total (listed n lengths 0)) rest) 0 DISAGREE) DISAGREE) DISAGREE
 
 -- "With Count above 1: Count sizes of 2 bytes"; no other payload has the list
 abbrev pub listBytes : PayloadHeader → List ℕ → List ℕ
@@ -37,6 +38,6 @@ payloadRefusal chunk (PayloadHeader.Chunk w) sizes lengths messages = 0
 -- what would read back otherwise is 6: lengths of several messages that are not the configured ones, or lengths where none is given
 abbrev pub lengthsShape : PayloadHeader → List ℕ → List ℕ → ℕ
 lengthsShape PayloadHeader.Absent lengths sizes =
-    cond (leb (length (configuredSizes sizes)) 1) (unused (length lengths)) (cond (sameNumbers lengths (configuredSizes sizes)) 0 6)
+    cond (leb (length (configuredSizes sizes)) 1) (unused (length lengths)) (cond (sameNumbers lengths (configuredSizes sizes)) 0 DISAGREE)
 lengthsShape (PayloadHeader.Ids n) lengths sizes = cond (leb n 1) (unused (length lengths)) 0
 lengthsShape (PayloadHeader.Chunk w) lengths sizes = unused (length lengths)

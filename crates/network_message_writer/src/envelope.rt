@@ -33,6 +33,9 @@ use publisher_id::publisher::publisher_refusal;
 use publisher_id::publisher::publisher_shape;
 use publisher_id::publisher::publisher_size;
 use publisher_id::publisher::put_publisher;
+use wire::numbers::MOST_DATAGRAM;
+use wire::numbers::NO_ROOM;
+use wire::numbers::OVER_LIMIT;
 use wire::optional::OptionalI64;
 use wire::part::part;
 use wire::part::tail;
@@ -53,6 +56,7 @@ ghost use Rattle.network_header.specs.Numbers.{configuredSizes};
 ghost use Rattle.wire_writer.specs.Writing.{Puts, numberFor, writtenBy, bufferBy, answerWritten, optionalI64Bytes};
 ghost use Rattle.network_message_writer.specs.Payload.{payloadRefusal};
 ghost use Rattle.network_message_writer.specs.Envelope.{given, tailBytes, headerBytes, datagramOf, headerRefusal, shapeRefusal, writtenOf, bufferAfter, textOf, idsOf, promotedOf, againOf, rewriteAnswer, rewriteBuffer};
+ghost use Rattle.wire.specs.Numbers.{MOST_DATAGRAM};
 
 fn timestamp_size(x: OptionalI64) -> usize
     ensures { λ r. ⌜ (r ≡ length (optionalI64Bytes x)) × (r ≤ 8) ⌝ }
@@ -64,7 +68,7 @@ fn timestamp_size(x: OptionalI64) -> usize
 }
 
 fn tail_size(x: Envelope, ids: &[u8], promoted: &[u8]) -> usize
-    requires { ⌜ (length (now ids) ≤ 65535) × (length (now promoted) ≤ 65535) ⌝ }
+    requires { ⌜ (length (now ids) ≤ MOST_DATAGRAM) × (length (now promoted) ≤ MOST_DATAGRAM) ⌝ }
     ensures { λ r. ⌜ (r ≡ length (tailBytes (now (ids .entry)) (now (promoted .entry)) x)) × (r ≤ 131090) ⌝ }
 {
     let h = x.payload_header;
@@ -75,7 +79,7 @@ fn tail_size(x: Envelope, ids: &[u8], promoted: &[u8]) -> usize
 }
 
 fn header_size(x: Envelope, text: &[u8], ids: &[u8], promoted: &[u8]) -> usize
-    requires { ⌜ (length (now text) ≤ 65535) × (length (now ids) ≤ 65535) × (length (now promoted) ≤ 65535) ⌝ }
+    requires { ⌜ (length (now text) ≤ MOST_DATAGRAM) × (length (now ids) ≤ MOST_DATAGRAM) × (length (now promoted) ≤ MOST_DATAGRAM) ⌝ }
     ensures { λ r. ⌜ (r ≡ length (headerBytes (now (text .entry)) (now (ids .entry)) (now (promoted .entry)) x)) × (r ≤ 200000) ⌝ }
 {
     let p = x.publisher;
@@ -186,7 +190,7 @@ fn datagram_size(
     lengths: &[u8],
     messages: &[u8],
 ) -> usize
-    requires { ⌜ (length (now text) ≤ 65535) × (length (now ids) ≤ 65535) × (length (now promoted) ≤ 65535) × (length (now lengths) ≤ 65535) ⌝ }
+    requires { ⌜ (length (now text) ≤ MOST_DATAGRAM) × (length (now ids) ≤ MOST_DATAGRAM) × (length (now promoted) ≤ MOST_DATAGRAM) × (length (now lengths) ≤ MOST_DATAGRAM) ⌝ }
     ensures { λ r. ⌜ r ≡ length (datagramOf (given (now (text .entry)) (now (ids .entry)) (now (promoted .entry)) (now (lengths .entry)) (now (messages .entry))) x) ⌝ }
 {
     let h = x.payload_header;
@@ -218,11 +222,11 @@ pub fn write(
         return Written::Refused(n);
     }
     let size = datagram_size(x, text, ids, promoted, lengths, messages);
-    if 65535 < size {
-        return Written::Refused(10);
+    if MOST_DATAGRAM < size {
+        return Written::Refused(OVER_LIMIT);
     }
     if out.len() < size {
-        return Written::Refused(11);
+        return Written::Refused(NO_ROOM);
     }
     put_datagram(out, x, text, ids, promoted, lengths, messages);
     Written::Is(size)
@@ -270,15 +274,15 @@ fn put_again(
     promoted: &[u8],
     payload: &[u8],
 ) -> Written
-    requires { ⌜ (length (now text) ≤ 65535) × (length (now ids) ≤ 65535) × (length (now promoted) ≤ 65535) × (length (now payload) ≤ 65535) ⌝ }
+    requires { ⌜ (length (now text) ≤ MOST_DATAGRAM) × (length (now ids) ≤ MOST_DATAGRAM) × (length (now promoted) ≤ MOST_DATAGRAM) × (length (now payload) ≤ MOST_DATAGRAM) ⌝ }
     ensures { λ r. ⌜ (r ≡ writtenBy (numberFor 0 (length (headerBytes (now (text .entry)) (now (ids .entry)) (now (promoted .entry)) x ++ now (payload .entry))) (length (now (out .entry)))) (headerBytes (now (text .entry)) (now (ids .entry)) (now (promoted .entry)) x ++ now (payload .entry))) × (now (out .exit) ≡ bufferBy (numberFor 0 (length (headerBytes (now (text .entry)) (now (ids .entry)) (now (promoted .entry)) x ++ now (payload .entry))) (length (now (out .entry)))) (headerBytes (now (text .entry)) (now (ids .entry)) (now (promoted .entry)) x ++ now (payload .entry)) (now (out .entry))) ⌝ }
 {
     let size = header_size(x, text, ids, promoted) + payload.len();
-    if 65535 < size {
-        return Written::Refused(10);
+    if MOST_DATAGRAM < size {
+        return Written::Refused(OVER_LIMIT);
     }
     if out.len() < size {
-        return Written::Refused(11);
+        return Written::Refused(NO_ROOM);
     }
     let at = put_header(out, x, text, ids, promoted);
     put_run(out, at, payload);
@@ -286,7 +290,7 @@ fn put_again(
 }
 
 fn again(out: &mut [u8], s: &[u8], x: Envelope, places: Places) -> Written
-    requires { ⌜ length (now s) ≤ 65535 ⌝ }
+    requires { ⌜ length (now s) ≤ MOST_DATAGRAM ⌝ }
     ensures { λ r. ⌜ (r ≡ writtenBy (numberFor 0 (length (againOf (now (s .entry)) x places)) (length (now (out .entry)))) (againOf (now (s .entry)) x places)) × (now (out .exit) ≡ bufferBy (numberFor 0 (length (againOf (now (s .entry)) x places)) (length (now (out .entry)))) (againOf (now (s .entry)) x places) (now (out .entry))) ⌝ }
 {
     let p = x.publisher;

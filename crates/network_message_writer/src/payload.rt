@@ -5,6 +5,7 @@ use network_header::numbers::same_numbers;
 use network_header::numbers::writers;
 use network_message::payload::PayloadRead;
 use network_message::payload::read_payload;
+use wire::numbers::DISAGREE;
 use wire_writer::writing::must_equal;
 use wire_writer::writing::must_hold;
 use wire_writer::writing::not_used;
@@ -144,11 +145,11 @@ pub fn listed_refusal(n: u8, lengths: &[u8], rest: usize) -> u8
 {
     let count = n as usize;
     if lengths.len() != 2 * count {
-        return 6;
+        return DISAGREE;
     }
     let t = tally_listed(lengths, count);
     if !t.positive {
-        return 6;
+        return DISAGREE;
     }
     must_equal(t.total, rest)
 }

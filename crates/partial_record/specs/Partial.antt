@@ -4,6 +4,7 @@ use mathlib.Core.Path.{_≡_}
 use mathlib.Core.List.{List, [], _∷_, _++_}
 use lib.Dec.{eqb}
 use lib.ListN.{length, take, drop, replicate}
+use Rattle.wire.specs.Numbers.{MOST_TEXT_ID}
 use Rattle.wire_writer.specs.Store.{laid}
 use Rattle.publisher_id.specs.PublisherRecord.{codeOf}
 use Rattle.publisher_id.specs.declared.publisher.PublisherId.{PublisherId}
@@ -17,7 +18,7 @@ use Rattle.message_record.specs.Message.{flagNumber}
 -- "at offset 48, 64 bytes for a String"
 abbrev pub publisherIn : List ℕ → PublisherRecord
 publisherIn s =
-    record { id = publisherBy (numberAt s 1) (numberAt s 2); text = laid (replicate 64 0) 0 (take 64 (drop 48 s)) }
+    record { id = publisherBy (numberAt s 1) (numberAt s 2); text = laid (replicate MOST_TEXT_ID 0) 0 (take MOST_TEXT_ID (drop 48 s)) }
 
 -- "3  DataSetWriterId   4  message number   5  total size"
 abbrev pub messageIn : List ℕ → Message
@@ -48,7 +49,7 @@ FitsId (PublisherId.Text n) = n < 256 ^ 8
 
 pub record FitsRecord (r : PartialRecord) : Type 0 where
   pub id : FitsId (r .message .publisher .id)
-  pub text : length (r .message .publisher .text) ≡ 64
+  pub text : length (r .message .publisher .text) ≡ MOST_TEXT_ID
   pub writer : r .message .writer < 65536
   pub number : r .message .number < 65536
   pub total : r .message .total < 256 ^ 8

@@ -8,6 +8,8 @@ use reassembly::Message;
 use reassembly::PartialRecord;
 use records::numbers::number;
 use records::numbers::put_numbers;
+use records::sizes::PARTIAL_SIZE;
+use wire::numbers::MOST_TEXT_ID;
 use wire::part::part;
 use wire_writer::store::put_run;
 ghost use mathlib.Core.Path.{_≡_};
@@ -17,8 +19,8 @@ ghost use Rattle.partial_record.specs.Partial.{publisherIn, messageIn, p
 fn publisher_in(s: &[u8]) -> PublisherRecord
     ensures { λ r. ⌜ r ≡ publisherIn (now (s .entry)) ⌝ }
 {
-    let mut text = [0u8; 64];
-    put_run(&mut text, 0, part(s, 48, 64));
+    let mut text = [0u8; MOST_TEXT_ID];
+    put_run(&mut text, 0, part(s, 48, MOST_TEXT_ID));
     let id = publisher_by(number(s, 1), number(s, 2));
     PublisherRecord { id, text }
 }
@@ -50,7 +52,7 @@ pub fn partial_in(s: &[u8]) -> PartialRecord
 pub fn put_partial(out: &mut [u8], rec: PartialRecord)
     ensures { λ _. ⌜ now (out .exit) ≡ laid (now (out .entry)) 0 (partialBytes rec) ⌝ }
 {
-    if out.len() < 112 {
+    if out.len() < PARTIAL_SIZE {
         return;
     }
     let message = rec.message;

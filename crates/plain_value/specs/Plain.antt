@@ -2,6 +2,7 @@
 use Prim.Native.Nat.{ℕ, _*_}
 use mathlib.Core.List.{[], _∷_}
 use mathlib.Core.Bool.{Bool, cond, _||_}
+use Rattle.wire.specs.Numbers.{BAD_LENGTH}
 use Rattle.wire.specs.Answer.{refused, Reader, andThen, _>>_, pure, run, each}
 use Rattle.wire.specs.Items.{lengthItem}
 use Rattle.wire.specs.declared.Length.{Length}
@@ -19,7 +20,7 @@ bytes n = passing (run n)
 abbrev pub afterLength : {A : Type 0} → Reader A → (ℕ → Reader A) → ℕ → Length → Reader A
 afterLength null counted place Length.Null s at = null s at
 afterLength null counted place (Length.Of n) s at = counted n s at
-afterLength null counted place Length.Negative s at = refused 5 place
+afterLength null counted place Length.Negative s at = refused BAD_LENGTH place
 
 -- a length, an item of its own, and what follows it
 abbrev pub byLength : {A : Type 0} → Reader A → (ℕ → Reader A) → Reader A

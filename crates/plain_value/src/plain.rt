@@ -3,6 +3,8 @@ use crate::width::packed_width;
 use wire::ItemLength;
 use wire::Reached;
 use wire::has;
+use wire::numbers::BAD_LENGTH;
+use wire::numbers::CUT_SHORT;
 use wire::read_length;
 ghost use mathlib.Core.Path.{_≡_};
 ghost use Rattle.wire.specs.Answer.{each};
@@ -16,7 +18,7 @@ pub fn bytes_at(s: &[u8], at: usize, n: usize) -> Reached
     if has(s.len(), at, n) {
         return Reached::To(at + n);
     }
-    Reached::Refused(1, at)
+    Reached::Refused(CUT_SHORT, at)
 }
 
 // A String or ByteString: its length, then its bytes.
@@ -26,8 +28,8 @@ fn string_at(s: &[u8], at: usize) -> Reached
     match read_length(s, at) {
         ItemLength::Null(next) => Reached::To(next),
         ItemLength::Of(next, n) => bytes_at(s, next, n),
-        ItemLength::Negative(_) => Reached::Refused(5, at),
-        ItemLength::Short => Reached::Refused(1, at),
+        ItemLength::Negative(_) => Reached::Refused(BAD_LENGTH, at),
+        ItemLength::Short => Reached::Refused(CUT_SHORT, at),
     }
 }
 

@@ -2,6 +2,7 @@
 use Prim.Native.Nat.{ℕ}
 use mathlib.Core.Bool.{Bool, cond, true, false}
 use lib.Dec.{leb, eqb}
+use Rattle.wire.specs.Numbers.{BAD_LENGTH, DISAGREE, MOST_TEXT_ID, OVER_LIMIT}
 use Rattle.wire.specs.Answer.{Answer, got, refused, Reader, item, run, whenOn, pure, andThen, _>>=_}
 use Rattle.wire.specs.Items.{lengthItem}
 use Rattle.wire.specs.declared.Length.{Length}
@@ -14,13 +15,13 @@ use Rattle.wire_writer.specs.Writing.{unused}
 
 -- a string of n bytes: "above 64 is 10", whose place is 0
 abbrev pub stringOf : ℕ → Reader PublisherId
-stringOf n s start = cond (leb 65 n) (refused 10 0) ((run n >>= λ len. pure (PublisherId.Text len)) s start)
+stringOf n s start = cond (ltb MOST_TEXT_ID n) (refused OVER_LIMIT 0) ((run n >>= λ len. pure (PublisherId.Text len)) s start)
 
 -- "A string has a 32-bit length; below 0 (null too) is 5", at the length
 abbrev pub lengthThen : ℕ → Length → Reader PublisherId
-lengthThen at Length.Null s start = refused 5 at
+lengthThen at Length.Null s start = refused BAD_LENGTH at
 lengthThen at (Length.Of n) s start = stringOf n s start
-lengthThen at Length.Negative s start = refused 5 at
+lengthThen at Length.Negative s start = refused BAD_LENGTH at
 
 abbrev pub stringAt : Reader PublisherId
 stringAt s at = andThen (lengthItem s at) (λ length start. lengthThen at length s start)
@@ -73,7 +74,7 @@ publisherRefusal (PublisherId.Byte v) = 0
 publisherRefusal (PublisherId.UInt16 v) = 0
 publisherRefusal (PublisherId.UInt32 v) = 0
 publisherRefusal (PublisherId.UInt64 v) = 0
-publisherRefusal (PublisherId.Text n) = cond (leb 65 n) 10 0
+publisherRefusal (PublisherId.Text n) = cond (ltb MOST_TEXT_ID n) OVER_LIMIT 0
 
 -- and bytes of a string that are not as many as the id says
 abbrev pub publisherShape : PublisherId → ℕ → ℕ
@@ -82,4 +83,4 @@ publisherShape (PublisherId.Byte v) len = unused len
 publisherShape (PublisherId.UInt16 v) len = unused len
 publisherShape (PublisherId.UInt32 v) len = unused len
 publisherShape (PublisherId.UInt64 v) len = unused len
-publisherShape (PublisherId.Text n) len = cond (eqb n len) 0 6
+publisherShape (PublisherId.Text n) len = cond (eqb n len) 0 DISAGREE

@@ -4,6 +4,7 @@ use mathlib.Core.Bool.{Bool, true, false, _&&_}
 use mathlib.Core.List.{List, [], _∷_}
 use lib.Dec.{leb, eqb}
 use lib.ListN.{take, drop, replicate}
+use Rattle.wire.specs.Numbers.{MOST_TEXT_ID}
 use Rattle.wire_writer.specs.Store.{laid}
 use Rattle.publisher_id.specs.declared.publisher.PublisherId.{PublisherId}
 use Rattle.publisher_id.specs.declared.publisher_record.PublisherRecord.{PublisherRecord}
@@ -54,8 +55,8 @@ samePublisher a b = eqb (a .code) (b .code) && (eqb (a .value) (b .value) && sam
 
 -- "a string publisher of at most 64 bytes"
 unfoldable pub publisherFits : PublisherRecord → Bool
-publisherFits p = leb (lengthOf (p .id)) 64
+publisherFits p = leb (lengthOf (p .id)) MOST_TEXT_ID
 
 -- the record of an id that ends at a position: a string's bytes stand before it; a longer one than a record holds is not copied
 abbrev pub recordAt : PublisherId → ℕ → List ℕ → PublisherRecord
-recordAt id end s = record { id = id; text = laid (replicate 64 0) 0 (take (lengthOf id) (drop (end - lengthOf id) s)) }
+recordAt id end s = record { id = id; text = laid (replicate MOST_TEXT_ID 0) 0 (take (lengthOf id) (drop (end - lengthOf id) s)) }

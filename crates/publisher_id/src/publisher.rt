@@ -5,6 +5,10 @@ use wire::Item32;
 use wire::Item64;
 use wire::ItemLength;
 use wire::Run;
+use wire::numbers::BAD_LENGTH;
+use wire::numbers::CUT_SHORT;
+use wire::numbers::MOST_TEXT_ID;
+use wire::numbers::OVER_LIMIT;
 use wire_writer::writing::must_equal;
 use wire_writer::writing::not_used;
 use wire_writer::writing::put_run;
@@ -17,10 +21,11 @@ ghost use Rattle.publisher_id.specs.Publisher.{stringOf, stringAt, publi
 ghost use mathlib.Core.Bool.{cond};
 ghost use mathlib.Core.List.{_++_};
 ghost use Prim.Native.Nat.{_+_, _≤_};
-ghost use lib.Dec.{leb};
+ghost use lib.Dec.{ltb};
 ghost use lib.ListN.{length};
 ghost use Rattle.wire.specs.Number.{leBytes};
 ghost use Rattle.wire_writer.specs.Writing.{Puts};
+ghost use Rattle.wire.specs.Numbers.{MOST_TEXT_ID, OVER_LIMIT};
 
 // A PublisherId. Of a string, its length: its bytes end where the part ends.
 pub enum PublisherId {
@@ -41,11 +46,11 @@ pub enum PublisherRead {
 fn string_of(s: &[u8], n: usize, start: usize) -> PublisherRead
     ensures { λ r. ⌜ answerPublisher r ≡ stringOf n (now (s .entry)) start ⌝ }
 {
-    if 65 <= n {
-        return PublisherRead::Refused(10, 0);
+    if MOST_TEXT_ID < n {
+        return PublisherRead::Refused(OVER_LIMIT, 0);
     }
     let Run::To(next) = wire::skip(s, start, n) else {
-        return PublisherRead::Refused(1, start);
+        return PublisherRead::Refused(CUT_SHORT, start);
     };
     PublisherRead::Is(PublisherId::Text(n), next)
 }
@@ -54,10 +59,10 @@ fn string_id(s: &[u8], at: usize) -> PublisherRead
     ensures { λ r. ⌜ answerPublisher r ≡ stringAt (now (s .entry)) at ⌝ }
 {
     match wire::read_length(s, at) {
-        ItemLength::Null(_) => PublisherRead::Refused(5, at),
+        ItemLength::Null(_) => PublisherRead::Refused(BAD_LENGTH, at),
         ItemLength::Of(start, n) => string_of(s, n, start),
-        ItemLength::Negative(_) => PublisherRead::Refused(5, at),
-        ItemLength::Short => PublisherRead::Refused(1, at),
+        ItemLength::Negative(_) => PublisherRead::Refused(BAD_LENGTH, at),
+        ItemLength::Short => PublisherRead::Refused(CUT_SHORT, at),
     }
 }
 
@@ -69,25 +74,25 @@ pub fn read_publisher(s: &[u8], on: bool, kind: u8, at: usize) -> PublisherRead
     }
     if kind == 0 {
         let Item8::Is(v, next) = wire::read8(s, at) else {
-            return PublisherRead::Refused(1, at);
+            return PublisherRead::Refused(CUT_SHORT, at);
         };
         return PublisherRead::Is(PublisherId::Byte(v), next);
     }
     if kind == 1 {
         let Item16::Is(v, next) = wire::read16(s, at) else {
-            return PublisherRead::Refused(1, at);
+            return PublisherRead::Refused(CUT_SHORT, at);
         };
         return PublisherRead::Is(PublisherId::UInt16(v), next);
     }
     if kind == 2 {
         let Item32::Is(v, next) = wire::read32(s, at) else {
-            return PublisherRead::Refused(1, at);
+            return PublisherRead::Refused(CUT_SHORT, at);
         };
         return PublisherRead::Is(PublisherId::UInt32(v), next);
     }
     if kind == 3 {
         let Item64::Is(v, next) = wire::read64(s, at) else {
-            return PublisherRead::Refused(1, at);
+            return PublisherRead::Refused(CUT_SHORT, at);
         };
         return PublisherRead::Is(PublisherId::UInt64(v), next);
     }
@@ -156,10 +161,10 @@ pub fn put_publisher(out: &mut [u8], at: usize, p: PublisherId, text: &[u8]) -> 
 }
 
 fn text_refusal(n: usize) -> u8
-    ensures { λ r. ⌜ r ≡ cond (leb 65 n) 10 0 ⌝ }
+    ensures { λ r. ⌜ r ≡ cond (ltb MOST_TEXT_ID n) OVER_LIMIT 0 ⌝ }
 {
-    if 65 <= n {
-        return 10;
+    if MOST_TEXT_ID < n {
+        return OVER_LIMIT;
     }
     0
 }

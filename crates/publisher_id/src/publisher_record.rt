@@ -1,5 +1,6 @@
 // A PublisherId by value with the bytes of a string, for records that outlive the datagram, and its equality.
 use crate::publisher::PublisherId;
+use wire::numbers::MOST_TEXT_ID;
 use wire::part::part;
 use wire_writer::store::put_run;
 ghost use mathlib.Core.Path.{_≡_};
@@ -8,7 +9,7 @@ ghost use Rattle.publisher_id.specs.PublisherRecord.{codeOf, valueOf, le
 // Of a string the first bytes of text are its content, as many as the id says.
 pub struct PublisherRecord {
     pub id: PublisherId,
-    pub text: [u8; 64],
+    pub text: [u8; MOST_TEXT_ID],
 }
 
 pub fn code(id: PublisherId) -> u64
@@ -89,14 +90,14 @@ pub fn publisher_fits(p: PublisherRecord) -> bool
     ensures { λ r. ⌜ r ≡ publisherFits p ⌝ }
 {
     let id = p.id;
-    text_length(id) <= 64
+    text_length(id) <= MOST_TEXT_ID
 }
 
 // The record of an id that ends at a position of a datagram.
 pub fn publisher_record(s: &[u8], id: PublisherId, end: usize) -> PublisherRecord
     ensures { λ r. ⌜ r ≡ recordAt id end (now (s .entry)) ⌝ }
 {
-    let mut text = [0u8; 64];
+    let mut text = [0u8; MOST_TEXT_ID];
     let n = text_length(id);
     put_run(&mut text, 0, part(s, wire::left(end, n), n));
     PublisherRecord { id, text }

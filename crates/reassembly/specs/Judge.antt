@@ -4,6 +4,7 @@ use mathlib.Core.Bool.{Bool, true, cond, _&&_}
 use mathlib.Core.Path.{_≡_}
 use lib.ListN.{length}
 use lib.Dec.{leb}
+use Rattle.wire.specs.Numbers.{NO_ROOM, OTHER_MESSAGE, UNSOUND}
 use Rattle.reassembly.specs.Views.{View, has, dataView}
 use Rattle.reassembly.specs.Areas.{markedView}
 use Rattle.reassembly.specs.Record.{Partial, identityOf, sameMessage, sound}
@@ -42,8 +43,8 @@ Equal a b = stateOf a ≡ stateOf b
 unfoldable pub admissionOf : PartialRecord → ℕ → Message → Admission
 admissionOf r n m =
     cond (leb (m .total) n)
-    (cond (r .started) (cond (sameMessage (identityOf (r .message)) (identityOf m)) A.Same (A.Refused 13)) A.Fresh)
-    (A.Refused 11)
+    (cond (r .started) (cond (sameMessage (identityOf (r .message)) (identityOf m)) A.Same (A.Refused OTHER_MESSAGE)) A.Fresh)
+    (A.Refused NO_ROOM)
 
 -- a chunk alone is the started partial with the chunk's record, covering exactly its data at its offset
 abbrev pub alone : Reading → State
@@ -57,8 +58,8 @@ readingVerdict n s (refusal x p) = Refused x p
 
 -- taking in: 12, the reading's own number, 11, 13, 14
 unfoldable pub judgeReading : Partial → Reading → Verdict
-judgeReading s r = cond (sound s) (readingVerdict (length (s .payload)) (stateOf s) r) (Refused 12 0)
+judgeReading s r = cond (sound s) (readingVerdict (length (s .payload)) (stateOf s) r) (Refused UNSOUND 0)
 
 -- combining: 12 for either, 11, 13, 14
 unfoldable pub judgeCombine : Partial → Partial → Verdict
-judgeCombine s f = cond (sound s && sound f) (judgeState (length (s .payload)) (stateOf s) (stateOf f)) (Refused 12 0)
+judgeCombine s f = cond (sound s && sound f) (judgeState (length (s .payload)) (stateOf s) (stateOf f)) (Refused UNSOUND 0)

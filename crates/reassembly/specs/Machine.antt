@@ -2,6 +2,7 @@
 use Prim.Native.Nat.{ℕ}
 use mathlib.Core.Bool.{Bool, false, cond}
 use lib.Dec.{leb}
+use Rattle.wire.specs.Numbers.{BYTE_DIFFERS, NO_ROOM, OTHER_MESSAGE}
 use Rattle.reassembly.specs.Views.{View, clash, full, joined, nowhere}
 use Rattle.reassembly.specs.Record.{Identity, sameMessage}
 use Rattle.reassembly.specs.declared.verdict.Verdict.{Verdict}
@@ -20,7 +21,7 @@ viewIn (held m v) = v
 -- what arises between a state and bytes of a message: 13 by message or total, 14 by a byte that both cover, between started ones only
 abbrev pub meet : State → Identity → View → Verdict
 meet idle m v = Done
-meet (held k w) m v = cond (sameMessage k m) (cond (clash (k .total) w v) (Refused 14 0) Done) (Refused 13 0)
+meet (held k w) m v = cond (sameMessage k m) (cond (clash (k .total) w v) (Refused BYTE_DIFFERS 0) Done) (Refused OTHER_MESSAGE 0)
 
 abbrev pub between : State → State → Verdict
 between s idle = Done
@@ -28,7 +29,7 @@ between s (held m v) = meet s m v
 
 -- what a machine with an area of n bytes answers to bytes of a message: total above the area is 11, then 13 and 14
 abbrev pub judge : ℕ → State → Identity → View → Verdict
-judge n s m v = cond (leb (m .total) n) (meet s m v) (Refused 11 0)
+judge n s m v = cond (leb (m .total) n) (meet s m v) (Refused NO_ROOM 0)
 
 -- and to another state: one not started is accepted and changes nothing
 abbrev pub judgeState : ℕ → State → State → Verdict

@@ -3,6 +3,7 @@ use Prim.Native.Nat.{ℕ}
 use mathlib.Core.Bool.{Bool, true, false, cond}
 use mathlib.Core.List.{List, []}
 use lib.ListN.{take}
+use Rattle.wire.specs.Numbers.{NOT_COMPLETE, UNSOUND}
 use Rattle.reassembly.specs.Views.{View, laid, has, dataView}
 use Rattle.marks.specs.Marks.{cleared, markAll}
 use Rattle.reassembly.specs.Record.{Partial, partial, sound}
@@ -69,11 +70,11 @@ yesNo false = C.No
 
 -- asking if complete: 12, else yes or no
 unfoldable pub askComplete : Partial → Completeness
-askComplete s = cond (sound s) (yesNo (complete (stateOf s))) (C.Refused 12 0)
+askComplete s = cond (sound s) (yesNo (complete (stateOf s))) (C.Refused UNSOUND 0)
 
 abbrev pub handOutBy : Completeness → Verdict
 handOutBy C.Yes = Done
-handOutBy C.No = Refused 15 0
+handOutBy C.No = Refused NOT_COMPLETE 0
 handOutBy (C.Refused n p) = Refused n p
 
 -- handing out: 12, not complete 15

@@ -7,6 +7,7 @@ ghost use Rattle.reassembly.specs.Record.{partial, sound};
 ghost use Rattle.reassembly.specs.Reading.{Proper};
 ghost use Rattle.reassembly.specs.Reading.Reading.{chunk};
 ghost use Rattle.reassembly.specs.Judge.{admissionOf, judgeReading, judgeCombine};
+ghost use Rattle.wire.specs.Numbers.{BYTE_DIFFERS};
 use crate::areas::clash_covered;
 use crate::areas::clash_data;
 use crate::record::Message;
@@ -14,6 +15,10 @@ use crate::record::PartialRecord;
 use crate::record::is_sound;
 use crate::record::same_message;
 use crate::verdict::Verdict;
+use wire::numbers::BYTE_DIFFERS;
+use wire::numbers::NO_ROOM;
+use wire::numbers::OTHER_MESSAGE;
+use wire::numbers::UNSOUND;
 
 // Whether a partial admits bytes of a message: no, by its number; into a fresh partial; or beside what it holds of the same message.
 enum Admission {
@@ -27,24 +32,24 @@ fn admit(rec: PartialRecord, room: usize, m: Message) -> Admission
     ensures { λ r. ⌜ r ≡ admissionOf rec room m ⌝ }
 {
     if room < m.total {
-        return Admission::Refused(11);
+        return Admission::Refused(NO_ROOM);
     }
     if !rec.started {
         return Admission::Fresh;
     }
     let k = rec.message;
     if !same_message(k, m) {
-        return Admission::Refused(13);
+        return Admission::Refused(OTHER_MESSAGE);
     }
     Admission::Same
 }
 
 // 14 where a held byte differs.
 fn unless_clash(clash: bool) -> Verdict
-    ensures { λ r. ⌜ r ≡ cond clash (Refused 14 0) Done ⌝ }
+    ensures { λ r. ⌜ r ≡ cond clash (Refused BYTE_DIFFERS 0) Done ⌝ }
 {
     if clash {
-        return Verdict::Refused(14, 0);
+        return Verdict::Refused(BYTE_DIFFERS, 0);
     }
     Verdict::Done
 }
@@ -80,10 +85,10 @@ pub(crate) fn judge_combine(
     ensures { λ r. ⌜ r ≡ judgeCombine (partial rec (now (payload .entry)) (now (marks .entry))) (partial source (now («from» .entry)) (now («from_marks» .entry))) ⌝ }
 {
     if !is_sound(rec, payload.len(), marks.len()) {
-        return Verdict::Refused(12, 0);
+        return Verdict::Refused(UNSOUND, 0);
     }
     if !is_sound(source, from.len(), from_marks.len()) {
-        return Verdict::Refused(12, 0);
+        return Verdict::Refused(UNSOUND, 0);
     }
     if !source.started {
         return Verdict::Done;

@@ -27,6 +27,8 @@ use marks::clear;
 use marks::mark_marked;
 use marks::mark_range;
 use publisher_id::publisher_record::publisher_record;
+use wire::numbers::NOT_COMPLETE;
+use wire::numbers::UNSOUND;
 use wire::part::part;
 
 // An answer, and the record afterwards.
@@ -102,7 +104,7 @@ pub fn take_in(
 {
     if !is_sound(rec, payload.len(), marks.len()) {
         return Outcome {
-            verdict: Verdict::Refused(12, 0),
+            verdict: Verdict::Refused(UNSOUND, 0),
             rec,
         };
     }
@@ -170,7 +172,7 @@ pub fn ask_complete(rec: PartialRecord, payload: &[u8], marks: &[u8]) -> Complet
     ensures { λ r. ⌜ saidOf r ≡ answers Ask (partial rec (now (payload .entry)) (now (marks .entry))) ⌝ }
 {
     if !is_sound(rec, payload.len(), marks.len()) {
-        return Completeness::Refused(12, 0);
+        return Completeness::Refused(UNSOUND, 0);
     }
     if !rec.started {
         return Completeness::No;
@@ -190,7 +192,7 @@ pub fn hand_out_verdict(rec: PartialRecord, payload: &[u8], marks: &[u8]) -> Ver
 {
     match ask_complete(rec, payload, marks) {
         Completeness::Yes => Verdict::Done,
-        Completeness::No => Verdict::Refused(15, 0),
+        Completeness::No => Verdict::Refused(NOT_COMPLETE, 0),
         Completeness::Refused(n, place) => Verdict::Refused(n, place),
     }
 }

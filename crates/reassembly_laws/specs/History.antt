@@ -6,6 +6,7 @@ use mathlib.Core.Path.{_≡_}
 use mathlib.Core.Logic.{_⊎_}
 use mathlib.Core.Option.{some}
 use lib.ListN.{length, getD}
+use Rattle.wire.specs.Numbers.{NOT_COMPLETE, UNSOUND}
 use Rattle.reassembly.specs.Views.{View, bytesOf}
 use Rattle.reassembly.specs.Record.{Identity, sound}
 use Rattle.reassembly.specs.Reading.{readingAt}
@@ -31,9 +32,9 @@ brings HandOut = idle
 abbrev pub verdictOf : ℕ → Call → State → Verdict
 verdictOf n Empty s = Done
 verdictOf n (Take d sizes) s = readingVerdict n s (readingAt sizes d)
-verdictOf n (Combine f) s = cond (sound f) (judgeState n s (stateOf f)) (Refused 12 0)
+verdictOf n (Combine f) s = cond (sound f) (judgeState n s (stateOf f)) (Refused UNSOUND 0)
 verdictOf n Ask s = Done
-verdictOf n HandOut s = cond (complete s) Done (Refused 15 0)
+verdictOf n HandOut s = cond (complete s) Done (Refused NOT_COMPLETE 0)
 
 -- the bytes of a complete message
 abbrev pub whole : State → List ℕ

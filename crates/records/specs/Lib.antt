@@ -1,3 +1,4 @@
+pub mod Sizes
 pub mod Numbers
 pub mod Result
 pub mod Writers

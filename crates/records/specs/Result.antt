@@ -4,6 +4,7 @@ use mathlib.Core.Bool.{cond}
 use mathlib.Core.List.{List}
 use lib.Dec.{leb}
 use lib.ListN.{length}
+use Rattle.wire.specs.Numbers.{NO_ROOM}
 use Rattle.wire.specs.Answer.{Answer, got, refused}
 use Rattle.wire_writer.specs.Store.{laid}
 use Rattle.config.specs.Writers.{atMost}
@@ -19,7 +20,7 @@ pub record Filling : Type 0 where
 
 -- "A record to be filled that is shorter than its layout is refused with UADP_NO_ROOM, after all else"
 abbrev pub resultIn : Answer Filling → List ℕ → ℕ
-resultIn (got x next) out = cond (leb (length (x .bytes)) (length out)) (resultOf 0 (x .value)) (resultOf 11 0)
+resultIn (got x next) out = cond (leb (length (x .bytes)) (length out)) (resultOf 0 (x .value)) (resultOf NO_ROOM 0)
 resultIn (refused n place) out = resultOf n place
 
 -- "what stands behind the record stays as it is"; "A refusal leaves every lent byte as it was"

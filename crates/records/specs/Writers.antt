@@ -4,6 +4,8 @@ use mathlib.Core.Bool.{cond}
 use mathlib.Core.List.{List, [], _++_}
 use lib.Dec.{ltb}
 use lib.ListN.{length, take, drop, getD, replicate}
+use Rattle.wire.specs.Numbers.{MOST_FIELDS, MOST_WRITERS}
+use Rattle.records.specs.Sizes.{CONFIG_SIZE}
 use Rattle.wire.specs.Number.{leBytes}
 use Rattle.wire.specs.Answer.{Answer, got, refused}
 use Rattle.config.specs.declared.Config.{Config}
@@ -15,18 +17,18 @@ use Rattle.records.specs.Result.{Filling}
 
 -- "A configuration record shorter than its layout is the empty configuration"
 abbrev pub numberIn : ℕ → ℕ → List ℕ → ℕ
-numberIn i most c = cond (ltb (length c) 146) 0 (atMost most (getD c i 0))
+numberIn i most c = cond (ltb (length c) CONFIG_SIZE) 0 (atMost most (getD c i 0))
 
 -- "0: number of writers (above 16 counts as 16); 1: number of fields (above 64 counts as 64)"
 abbrev pub writersIn : List ℕ → ℕ
-writersIn c = numberIn 0 16 c
+writersIn c = numberIn 0 MOST_WRITERS c
 
 abbrev pub fieldsIn : List ℕ → ℕ
-fieldsIn c = numberIn 1 64 c
+fieldsIn c = numberIn 1 MOST_FIELDS c
 
 -- the 16 numbers of 2 bytes from a position
 abbrev pub sixteen : ℕ → List ℕ → List ℕ
-sixteen at c = cond (ltb (length c) 146) (replicate 16 0) (listed 16 c at)
+sixteen at c = cond (ltb (length c) CONFIG_SIZE) (replicate MOST_WRITERS 0) (listed MOST_WRITERS c at)
 
 -- "2: 16 DataSetWriterIds of 2 bytes; 34: 16 sizes of 2 bytes, 0 for none"
 abbrev pub idsIn : List ℕ → List ℕ
@@ -49,7 +51,7 @@ typesFor c writer = cond (ltb 65535 writer) [] (fieldsOfId (idsIn c) (startsIn c
 -- the record's bytes, in the layout's order
 abbrev pub configBytes : Config → List ℕ
 configBytes c =
-    ((((leBytes 1 (atMost 16 (c .writers)) ++ leBytes 1 (atMost 64 (c .fields))) ++ bytesOf 2 (c .ids)) ++ bytesOf 2 (c .sizes)) ++ c .starts)
+    ((((leBytes 1 (atMost MOST_WRITERS (c .writers)) ++ leBytes 1 (atMost MOST_FIELDS (c .fields))) ++ bytesOf 2 (c .ids)) ++ bytesOf 2 (c .sizes)) ++ c .starts)
     ++ c .types
 
 -- the record of a configuration text: "Refusals: 16 with the line, counted from 1; 11"

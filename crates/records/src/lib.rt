@@ -2,4 +2,5 @@
 // configuration record.
 pub mod numbers;
 pub mod result;
+pub mod sizes;
 pub mod writers;

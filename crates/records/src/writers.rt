@@ -1,6 +1,8 @@
 // The configuration record: its writers and fields as parts of the lent bytes.
+use crate::sizes::CONFIG_SIZE;
 use config::Config;
 use config::writer_fields;
+use wire::numbers::MOST_WRITERS;
 use wire::part::part;
 use wire_writer::store::put_run;
 use wire_writer::store::put8;
@@ -16,6 +18,7 @@ ghost use Rattle.config.specs.Writers.{atMost};
 ghost use Rattle.network_message.specs.Payload.{listed};
 ghost use Rattle.records.specs.Writers.{writersIn, fieldsIn, sixteen, startsIn, typesIn, typesFor, configBytes};
 ghost use Rattle.records.specs.Numbers.{bytesOf};
+ghost use Rattle.wire.specs.Numbers.{MOST_FIELDS, MOST_WRITERS};
 
 fn wide(b: u8) -> usize
     ensures { λ r. ⌜ r ≡ b ⌝ }
@@ -34,18 +37,18 @@ fn at_most(most: u8, n: usize) -> u8
 }
 
 pub fn writer_count(config: &[u8]) -> usize
-    ensures { λ r. ⌜ (r ≡ writersIn (now (config .entry))) × (r ≤ 16) ⌝ }
+    ensures { λ r. ⌜ (r ≡ writersIn (now (config .entry))) × (r ≤ MOST_WRITERS) ⌝ }
 {
-    if config.len() < 146 {
+    if config.len() < CONFIG_SIZE {
         return 0;
     }
     at_most(16, wide(config[0])) as usize
 }
 
 pub fn field_count(config: &[u8]) -> usize
-    ensures { λ r. ⌜ (r ≡ fieldsIn (now (config .entry))) × (r ≤ 64) ⌝ }
+    ensures { λ r. ⌜ (r ≡ fieldsIn (now (config .entry))) × (r ≤ MOST_FIELDS) ⌝ }
 {
-    if config.len() < 146 {
+    if config.len() < CONFIG_SIZE {
         return 0;
     }
     at_most(64, wide(config[1])) as usize
@@ -59,14 +62,14 @@ fn number16(s: &[u8], at: usize) -> u16
 }
 
 // 16 numbers of 2 bytes from a position on; without a test of its own the loop is compiled to one copy.
-fn list16(s: &[u8], at: usize) -> [u16; 16]
+fn list16(s: &[u8], at: usize) -> [u16; MOST_WRITERS]
     requires { ⌜ at + 32 ≤ length (now s) ⌝ }
-    ensures { λ r. ⌜ r ≡ listed 16 (now (s .entry)) at ⌝ }
+    ensures { λ r. ⌜ r ≡ listed MOST_WRITERS (now (s .entry)) at ⌝ }
 {
-    let mut list = [0u16; 16];
+    let mut list = [0u16; MOST_WRITERS];
     let mut i = 0;
     let mut p = at;
-    while i < 16 {
+    while i < MOST_WRITERS {
         list[i] = number16(s, p);
         p += 2;
         i += 1;
@@ -75,21 +78,21 @@ fn list16(s: &[u8], at: usize) -> [u16; 16]
 }
 
 // The DataSetWriterIds; of these as many count as there are writers.
-pub fn ids(config: &[u8]) -> [u16; 16]
+pub fn ids(config: &[u8]) -> [u16; MOST_WRITERS]
     ensures { λ r. ⌜ r ≡ sixteen 2 (now (config .entry)) ⌝ }
 {
-    if config.len() < 146 {
-        return [0u16; 16];
+    if config.len() < CONFIG_SIZE {
+        return [0u16; MOST_WRITERS];
     }
     list16(config, 2)
 }
 
 // The sizes; of these as many count as there are writers.
-pub fn sizes(config: &[u8]) -> [u16; 16]
+pub fn sizes(config: &[u8]) -> [u16; MOST_WRITERS]
     ensures { λ r. ⌜ r ≡ sixteen 34 (now (config .entry)) ⌝ }
 {
-    if config.len() < 146 {
-        return [0u16; 16];
+    if config.len() < CONFIG_SIZE {
+        return [0u16; MOST_WRITERS];
     }
     list16(config, 34)
 }
@@ -130,7 +133,7 @@ pub fn types_for(config: &[u8], writer: u32) -> &[u8]
     if 65535 < writer {
         return part(config, 0, 0);
     }
-    if config.len() < 146 {
+    if config.len() < CONFIG_SIZE {
         return part(config, 0, 0);
     }
     let n = writer_count(config);
@@ -158,7 +161,7 @@ fn store16(out: &mut [u8], start: usize, list: &[u16])
 pub fn put_config(out: &mut [u8], config: Config)
     ensures { λ _. ⌜ now (out .exit) ≡ laid (now (out .entry)) 0 (configBytes config) ⌝ }
 {
-    if out.len() < 146 {
+    if out.len() < CONFIG_SIZE {
         return;
     }
     put8(out, 0, at_most(16, config.writers));

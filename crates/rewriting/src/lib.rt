@@ -3,6 +3,10 @@
 use dataset_message::message::MessageRead;
 use network_message::envelope::NetworkMessageRead;
 use publisher_id::publisher::PublisherId;
+use wire::numbers::DISAGREE;
+use wire::numbers::MOST_DATAGRAM;
+use wire::numbers::NO_ROOM;
+use wire::numbers::OVER_LIMIT;
 use wire_writer::writing::Written;
 ghost use mathlib.Core.Path.{_≡_};
 ghost use lib.ListN.{length};
@@ -14,11 +18,11 @@ fn copy_whole(out: &mut [u8], s: &[u8]) -> Written
     ensures { λ r. ⌜ (r ≡ writtenBy (numberFor 0 (length (now (s .entry))) (length (now (out .entry)))) (now (s .entry))) × (now (out .exit) ≡ bufferBy (numberFor 0 (length (now (s .entry))) (length (now (out .entry)))) (now (s .entry)) (now (out .entry))) ⌝ }
 {
     let size = s.len();
-    if 65535 < size {
-        return Written::Refused(10);
+    if MOST_DATAGRAM < size {
+        return Written::Refused(OVER_LIMIT);
     }
     if out.len() < size {
-        return Written::Refused(11);
+        return Written::Refused(NO_ROOM);
     }
     wire_writer::store::put_run(out, 0, s);
     Written::Is(size)
@@ -29,7 +33,7 @@ pub fn rewrite_message(out: &mut [u8], message: &[u8], types: &[u8]) -> Written
     ensures { λ r. ⌜ WritesSame (now (types .entry)) (now (message .entry)) (now (out .entry)) (now (out .exit)) r ⌝ }
 {
     match dataset_message::message::read(&*message, &*types) {
-        MessageRead::NotValid => Written::Refused(6),
+        MessageRead::NotValid => Written::Refused(DISAGREE),
         MessageRead::Refused(n, _) => Written::Refused(n),
         MessageRead::Is(_, _, _) => copy_whole(out, message),
     }

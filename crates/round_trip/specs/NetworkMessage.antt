@@ -5,6 +5,7 @@ use mathlib.Core.Bool.{true, false, cond}
 use mathlib.Core.List.{List, [], _∷_, _++_}
 use lib.Dec.{leb}
 use lib.ListN.{length, take, drop, getD}
+use Rattle.wire.specs.Numbers.{MOST_WRITERS}
 use Rattle.wire.specs.Number.{le, leBytes}
 use Rattle.wire.specs.declared.optional.Optional16.{Optional16}
 use Rattle.wire.specs.Answer.{Answer, got, refused}
@@ -106,7 +107,7 @@ numbersBytes [] = []
 numbersBytes (x ∷ xs) = leBytes 2 x ++ numbersBytes xs
 
 abbrev pub idsGiven : List ℕ → PayloadHeader → ℕ → List ℕ → List ℕ
-idsGiven s PayloadHeader.Absent end configured = numbersBytes (take 16 configured)
+idsGiven s PayloadHeader.Absent end configured = numbersBytes (take MOST_WRITERS configured)
 idsGiven s (PayloadHeader.Ids n) end configured = before s end (2 * n)
 idsGiven s (PayloadHeader.Chunk w) end configured = []
 

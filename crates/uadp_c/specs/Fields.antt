@@ -4,6 +4,8 @@ use mathlib.Core.Bool.{cond}
 use mathlib.Core.List.{List}
 use lib.Dec.{ltb}
 use lib.ListN.{length}
+use Rattle.wire.specs.Numbers.{NO_ROOM}
+use Rattle.records.specs.Sizes.{FIELD_SIZE, HEAD_SIZE}
 use Rattle.wire.specs.Number.{leBytes}
 use Rattle.wire.specs.Answer.{Answer, got, refused, mapAnswer}
 use Rattle.wire_writer.specs.Store.{laid}
@@ -30,17 +32,17 @@ fieldFilling a = mapAnswer (λ (f : Field). record { value = f .offset; bytes = 
 -- a step of a head record's field cursor: "11 for either record"
 abbrev pub stepResult : Answer Stepped → List ℕ → List ℕ → ℕ
 stepResult (got x next) head field =
-    cond (ltb (length head) 160) (resultOf 11 0) (cond (ltb (length field) 48) (resultOf 11 0) (resultOf 0 (x .field .offset)))
+    cond (ltb (length head) HEAD_SIZE) (resultOf NO_ROOM 0) (cond (ltb (length field) FIELD_SIZE) (resultOf NO_ROOM 0) (resultOf 0 (x .field .offset)))
 stepResult (refused n place) head field = resultOf n place
 
 -- the head record afterwards: its numbers 12 and 14 are the next field's number and where it starts
 abbrev pub headAfter : Answer Stepped → List ℕ → List ℕ → List ℕ
 headAfter (got x next) head field =
-    cond (ltb (length head) 160) head
-    (cond (ltb (length field) 48) head (laid (laid head 96 (leBytes 8 (x .cursor .next))) 112 (leBytes 8 (x .cursor .at))))
+    cond (ltb (length head) HEAD_SIZE) head
+    (cond (ltb (length field) FIELD_SIZE) head (laid (laid head 96 (leBytes 8 (x .cursor .next))) 112 (leBytes 8 (x .cursor .at))))
 headAfter (refused n place) head field = head
 
 abbrev pub fieldAfter : Answer Stepped → List ℕ → List ℕ → List ℕ
 fieldAfter (got x next) head field =
-    cond (ltb (length head) 160) field (cond (ltb (length field) 48) field (laid field 0 (numberBytes (fieldNumbers (x .field)))))
+    cond (ltb (length head) HEAD_SIZE) field (cond (ltb (length field) FIELD_SIZE) field (laid field 0 (numberBytes (fieldNumbers (x .field)))))
 fieldAfter (refused n place) head field = field

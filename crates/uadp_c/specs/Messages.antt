@@ -4,6 +4,8 @@ use mathlib.Core.Bool.{cond}
 use mathlib.Core.List.{List}
 use lib.Dec.{ltb}
 use lib.ListN.{length}
+use Rattle.wire.specs.Numbers.{NO_ROOM}
+use Rattle.records.specs.Sizes.{ENVELOPE_SIZE, PLACE_SIZE}
 use Rattle.wire.specs.Number.{leBytes}
 use Rattle.wire.specs.Answer.{Answer, got, refused, mapAnswer}
 use Rattle.wire_writer.specs.Store.{laid}
@@ -31,19 +33,19 @@ writerAt config envelope d k = writerIdOf (headerIn envelope) (numberAt envelope
 -- "Value: the message's number"; "11 for either record"
 abbrev pub messageResult : Answer Stepped → List ℕ → List ℕ → ℕ
 messageResult (got x next) envelope place =
-    cond (ltb (length envelope) 224) (resultOf 11 0) (cond (ltb (length place) 32) (resultOf 11 0) (resultOf 0 (x .place .index)))
+    cond (ltb (length envelope) ENVELOPE_SIZE) (resultOf NO_ROOM 0) (cond (ltb (length place) PLACE_SIZE) (resultOf NO_ROOM 0) (resultOf 0 (x .place .index)))
 messageResult (refused n p) envelope place = resultOf n p
 
 -- the envelope record afterwards: its numbers 26 and 27 are the next message's number and where it starts
 abbrev pub envelopeAfter : Answer Stepped → List ℕ → List ℕ → List ℕ
 envelopeAfter (got x next) envelope place =
-    cond (ltb (length envelope) 224) envelope
-    (cond (ltb (length place) 32) envelope (laid (laid envelope 208 (leBytes 8 (x .cursor .index))) 216 (leBytes 8 (x .cursor .at))))
+    cond (ltb (length envelope) ENVELOPE_SIZE) envelope
+    (cond (ltb (length place) PLACE_SIZE) envelope (laid (laid envelope 208 (leBytes 8 (x .cursor .index))) 216 (leBytes 8 (x .cursor .at))))
 envelopeAfter (refused n p) envelope place = envelope
 
 -- the place record afterwards, with what gives a message's DataSetWriterId
 abbrev pub placeAfter : (ℕ → Optional16) → Answer Stepped → List ℕ → List ℕ → List ℕ
 placeAfter writer (got x next) envelope place =
-    cond (ltb (length envelope) 224) place
-    (cond (ltb (length place) 32) place (laid place 0 (numberBytes (placeNumbers (x .place) (writer (x .place .index))))))
+    cond (ltb (length envelope) ENVELOPE_SIZE) place
+    (cond (ltb (length place) PLACE_SIZE) place (laid place 0 (numberBytes (placeNumbers (x .place) (writer (x .place .index))))))
 placeAfter writer (refused n p) envelope place = place

@@ -5,6 +5,8 @@ use mathlib.Core.Bool.{cond}
 use mathlib.Core.List.{List, [], _∷_}
 use lib.Dec.{ltb}
 use lib.ListN.{length}
+use Rattle.wire.specs.Numbers.{UNSOUND}
+use Rattle.records.specs.Sizes.{PARTIAL_SIZE}
 use Rattle.wire.specs.Number.{leBytes}
 use Rattle.wire_writer.specs.Store.{laid}
 use Rattle.reassembly.specs.Record.{Partial, partial}
@@ -45,17 +47,17 @@ recordBy (Verdict.Refused n place) r after = r
 -- "a record shorter than its layout is unsound, 12"; else the step's answer, record and areas
 abbrev pub stepIn : List ℕ → List ℕ → List ℕ → Step → Lent
 stepIn r p m s =
-    cond (ltb (length r) 112) (lent (resultOf 12 0) r p m)
+    cond (ltb (length r) PARTIAL_SIZE) (lent (resultOf UNSOUND 0) r p m)
     (lent (verdictResult (s .verdict)) (recordBy (s .verdict) r (s .after .rec)) (s .after .payload) (s .after .marks))
 
 -- a call that takes this step: its answer and the lent bytes afterwards; and these bytes are read as the partial that the step leaves
 pub record Steps (r p m : List ℕ) (s : Step) (a : Lent) : Type 0 where
   pub bytes : a ≡ stepIn r p m s
-  pub reads : 112 ≤ length r → partialOf (a .rec) (a .payload) (a .marks) ≡ s .after
+  pub reads : PARTIAL_SIZE ≤ length r → partialOf (a .rec) (a .payload) (a .marks) ≡ s .after
 
 -- the other partial in combining: "a record shorter than its layout is unsound, 12"
 abbrev pub sourceOf : List ℕ → List ℕ → List ℕ → Partial
-sourceOf r p m = cond (ltb (length r) 112) (partial (partialIn r) [] (0 ∷ [])) (partialOf r p m)
+sourceOf r p m = cond (ltb (length r) PARTIAL_SIZE) (partial (partialIn r) [] (0 ∷ [])) (partialOf r p m)
 
 -- emptying: "the record's number 0 becomes 0, and no other byte changes; a record shorter than 8 bytes stays as it is"
 abbrev pub emptiedRecord : List ℕ → List ℕ
@@ -68,7 +70,7 @@ completeResult Completeness.No = resultOf 0 0
 completeResult (Completeness.Refused n place) = resultOf n place
 
 abbrev pub completeIn : List ℕ → Completeness → ℕ
-completeIn r a = cond (ltb (length r) 112) (resultOf 12 0) (completeResult a)
+completeIn r a = cond (ltb (length r) PARTIAL_SIZE) (resultOf UNSOUND 0) (completeResult a)
 
 -- "Value: how many bytes at the payload area's start are the complete payload"
 abbrev pub handResult : PartialRecord → Verdict → ℕ
@@ -76,4 +78,4 @@ handResult r Verdict.Done = resultOf 0 (r .message .total)
 handResult r (Verdict.Refused n place) = resultOf n place
 
 abbrev pub handIn : List ℕ → Verdict → ℕ
-handIn r v = cond (ltb (length r) 112) (resultOf 12 0) (handResult (partialIn r) v)
+handIn r v = cond (ltb (length r) PARTIAL_SIZE) (resultOf UNSOUND 0) (handResult (partialIn r) v)

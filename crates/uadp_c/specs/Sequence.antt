@@ -4,6 +4,8 @@ use mathlib.Core.Bool.{cond, not}
 use mathlib.Core.List.{List, [], _∷_}
 use lib.Dec.{eqb, ltb}
 use lib.ListN.{length}
+use Rattle.records.specs.Sizes.{SEQUENCE_SIZE}
+use Rattle.wire.specs.Numbers.{NO_ROOM}
 use Rattle.wire_writer.specs.Store.{laid}
 use Rattle.sequence.specs.Newness.{newnessBy}
 use Rattle.sequence.specs.declared.Newness.{Newness}
@@ -23,7 +25,7 @@ newnessNumber Newness.Invalid = 2
 
 -- "11 for a record shorter than its layout"
 abbrev pub newnessResult : List ℕ → ℕ → ℕ
-newnessResult s received = cond (ltb (length s) 16) (resultOf 11 0) (resultOf 0 (newnessNumber (newnessBy (lastIn s) received)))
+newnessResult s received = cond (ltb (length s) SEQUENCE_SIZE) (resultOf NO_ROOM 0) (resultOf 0 (newnessNumber (newnessBy (lastIn s) received)))
 
 -- ""newer" alone changes the record"
 abbrev pub recordAfter : List ℕ → ℕ → Newness → List ℕ
@@ -32,4 +34,4 @@ recordAfter s received Newness.OldOrSame = s
 recordAfter s received Newness.Invalid = s
 
 abbrev pub newnessAfter : List ℕ → ℕ → List ℕ
-newnessAfter s received = cond (ltb (length s) 16) s (recordAfter s received (newnessBy (lastIn s) received))
+newnessAfter s received = cond (ltb (length s) SEQUENCE_SIZE) s (recordAfter s received (newnessBy (lastIn s) received))

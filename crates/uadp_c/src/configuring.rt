@@ -1,6 +1,7 @@
 // Reading a configuration.
 use config_text::read_config;
 use records::result::result;
+use records::sizes::CONFIG_SIZE;
 use records::writers::put_config;
 ghost use mathlib.Core.Path.{_≡_};
 ghost use Rattle.config_text.specs.Config.{configOf};
@@ -16,7 +17,7 @@ pub extern "C" fn uadp_config(text: &[u8], config: &mut [u8]) -> u64
     if 0 < read.number {
         return result(read.number, read.place);
     }
-    if config.len() < 146 {
+    if config.len() < CONFIG_SIZE {
         return result(11, 0);
     }
     let c = read.config;

@@ -9,6 +9,8 @@ use message_record::message::put_field;
 use message_record::message::put_head;
 use message_record::message::put_no_head;
 use records::result::result;
+use records::sizes::FIELD_SIZE;
+use records::sizes::HEAD_SIZE;
 use records::writers::types_for;
 use wire_writer::store::put64;
 ghost use mathlib.Core.Path.{_≡_};
@@ -32,14 +34,14 @@ pub extern "C" fn uadp_read_message(
     match read(message, types_for(config, writer)) {
         MessageRead::Refused(n, place) => result(n, place),
         MessageRead::NotValid => {
-            if head.len() < 160 {
+            if head.len() < HEAD_SIZE {
                 return result(11, 0);
             }
             put_no_head(head);
             result(0, 0)
         }
         MessageRead::Is(h, cursor, end) => {
-            if head.len() < 160 {
+            if head.len() < HEAD_SIZE {
                 return result(11, 0);
             }
             put_head(head, h, cursor, end);
@@ -62,7 +64,7 @@ pub extern "C" fn uadp_field(
     match field_place(message, types_for(config, writer), k as usize) {
         FieldRead::Refused(n, place) => result(n, place),
         FieldRead::Is(f, _) => {
-            if field.len() < 48 {
+            if field.len() < FIELD_SIZE {
                 return result(11, 0);
             }
             put_field(field, f);
@@ -86,10 +88,10 @@ pub extern "C" fn uadp_next_field(
     match cursor.step(message, types_for(config, writer)) {
         FieldStep::Refused(n, place) => result(n, place),
         FieldStep::Is(f, next) => {
-            if head.len() < 160 {
+            if head.len() < HEAD_SIZE {
                 return result(11, 0);
             }
-            if field.len() < 48 {
+            if field.len() < FIELD_SIZE {
                 return result(11, 0);
             }
             put64(head, 96, next.next as u64);

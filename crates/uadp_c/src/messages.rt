@@ -11,6 +11,8 @@ use network_message::payload::MessageStep;
 use network_message::writer_id::writer_id;
 use records::numbers::number;
 use records::result::result;
+use records::sizes::ENVELOPE_SIZE;
+use records::sizes::PLACE_SIZE;
 use records::writers::ids;
 use records::writers::sizes;
 use records::writers::writer_count;
@@ -33,7 +35,7 @@ pub extern "C" fn uadp_read(datagram: &[u8], config: &[u8], envelope: &mut [u8])
     match read(datagram, first(&list, n)) {
         NetworkMessageRead::Refused(number, place) => result(number, place),
         NetworkMessageRead::Is(e, places, payload) => {
-            if envelope.len() < 224 {
+            if envelope.len() < ENVELOPE_SIZE {
                 return result(11, 0);
             }
             put_envelope(envelope, e, places, payload);
@@ -75,10 +77,10 @@ pub extern "C" fn uadp_next_message(
     match step(datagram, config, envelope) {
         MessageStep::Refused(number, at) => result(number, at),
         MessageStep::Is(m, next) => {
-            if envelope.len() < 224 {
+            if envelope.len() < ENVELOPE_SIZE {
                 return result(11, 0);
             }
-            if place.len() < 32 {
+            if place.len() < PLACE_SIZE {
                 return result(11, 0);
             }
             let writer = writer_at(datagram, config, envelope, m.index);

@@ -2,6 +2,7 @@
 use records::numbers::number;
 use records::numbers::put_numbers;
 use records::result::result;
+use records::sizes::SEQUENCE_SIZE;
 use sequence::LastSequenceNumber;
 use sequence::Newness;
 use sequence::judge_by;
@@ -23,7 +24,7 @@ fn last_in(s: &[u8]) -> LastSequenceNumber
 pub extern "C" fn uadp_newness(last: &mut [u8], received: u16) -> u64
     ensures { λ r. ⌜ (r ≡ newnessResult (now (last .entry)) received) × (now (last .exit) ≡ newnessAfter (now (last .entry)) received) ⌝ }
 {
-    if last.len() < 16 {
+    if last.len() < SEQUENCE_SIZE {
         return result(11, 0);
     }
     let known = last_in(last);

@@ -11,6 +11,7 @@ use reassembly::hand_out_verdict;
 use reassembly::take_in;
 use records::numbers::number;
 use records::result::result;
+use records::sizes::PARTIAL_SIZE;
 use records::writers::sizes;
 use records::writers::writer_count;
 use wire_writer::store::put64;
@@ -57,7 +58,7 @@ pub extern "C" fn uadp_take_in(
         let after = lent r (now (rec .exit)) (now (payload .exit)) (now (marks .exit)) in
         ⌜ Called (Take (now (datagram .entry)) (now (config .entry))) before after ⌝ }
 {
-    if rec.len() < 112 {
+    if rec.len() < PARTIAL_SIZE {
         return result(12, 0);
     }
     let n = writer_count(config);
@@ -89,10 +90,10 @@ pub extern "C" fn uadp_combine(
         let after = lent r (now (rec .exit)) (now (payload .exit)) (now (marks .exit)) in
         ⌜ Called (Combine (now (source .entry)) (now («source_payload» .entry)) (now («source_marks» .entry))) before after ⌝ }
 {
-    if source.len() < 112 {
+    if source.len() < PARTIAL_SIZE {
         return result(12, 0);
     }
-    if rec.len() < 112 {
+    if rec.len() < PARTIAL_SIZE {
         return result(12, 0);
     }
     let joined = combine_in(
@@ -119,7 +120,7 @@ pub extern "C" fn uadp_combine(
 pub extern "C" fn uadp_complete(rec: &[u8], payload: &[u8], marks: &[u8]) -> u64
     ensures { λ r. ⌜ r ≡ completeIn (now (rec .entry)) (askComplete (partialOf (now (rec .entry)) (now (payload .entry)) (now (marks .entry)))) ⌝ }
 {
-    if rec.len() < 112 {
+    if rec.len() < PARTIAL_SIZE {
         return result(12, 0);
     }
     match ask_complete(partial_in(rec), payload, marks) {
@@ -134,7 +135,7 @@ pub extern "C" fn uadp_complete(rec: &[u8], payload: &[u8], marks: &[u8]) -> u64
 pub extern "C" fn uadp_hand_out(rec: &[u8], payload: &[u8], marks: &[u8]) -> u64
     ensures { λ r. ⌜ r ≡ handIn (now (rec .entry)) (judgeHandOut (partialOf (now (rec .entry)) (now (payload .entry)) (now (marks .entry)))) ⌝ }
 {
-    if rec.len() < 112 {
+    if rec.len() < PARTIAL_SIZE {
         return result(12, 0);
     }
     let held = partial_in(rec);

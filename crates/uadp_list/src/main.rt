@@ -12,6 +12,7 @@ use walk::entry::Line;
 use walk::lines::LineStep;
 use walk::lines::next_line;
 use walk::lines::start;
+use wire::numbers::MOST_DATAGRAM;
 use wire::part::part;
 
 // How many bytes were read, and what one more read answered: 0 at the end, above 0 where more follows than the buffer holds, below 0 where
@@ -111,7 +112,7 @@ fn main() {
         list(&[], read.number, read.place, c);
         return;
     }
-    let mut datagram = [0u8; 65535];
+    let mut datagram = [0u8; MOST_DATAGRAM];
     let taken = take(STDIN_FILENO, &mut datagram);
     if taken.rest < 0 {
         os::fail(b"standard input");

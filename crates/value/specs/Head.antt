@@ -4,6 +4,7 @@ use mathlib.Core.Bool.{cond, _||_}
 use mathlib.Core.List.{List}
 use lib.Dec.{eqb, leb, ltb}
 use lib.ListN.{length, getD}
+use Rattle.wire.specs.Numbers.{BAD_LENGTH}
 use Rattle.wire.specs.Answer.{Answer, got, refused, Reader, andThen, _>>_, pure, item, each}
 use Rattle.wire.specs.Items.{lengthItem}
 use Rattle.wire.specs.declared.Length.{Length}
@@ -50,7 +51,7 @@ units w = byLength (pure tt) (λ n. bytes (n * w))
 abbrev pub byShape : ℕ → ℕ → ℕ → Length → Answer Measure
 byShape end t place Length.Null = got (measure t Shape.NullArray) end
 byShape end t place (Length.Of n) = got (measure t (Shape.Array n)) end
-byShape end t place Length.Negative = refused 5 place
+byShape end t place Length.Negative = refused BAD_LENGTH place
 
 abbrev pub arrayAt : ℕ → ℕ → Reader Measure
 arrayAt end t s at = andThen (lengthItem s at) (λ l next. byShape end t at l)

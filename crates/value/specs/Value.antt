@@ -3,6 +3,7 @@ use Prim.Native.Nat.{ℕ, zero, suc, _%_}
 use mathlib.Core.List.{[], _∷_}
 use mathlib.Core.Bool.{Bool, cond, not, _&&_, _||_}
 use lib.Dec.{eqb}
+use Rattle.wire.specs.Numbers.{DATA_VALUE, LEVELS, NOT_PERMITTED, NOT_TAKEN, TOO_DEEP, VARIANT}
 use Rattle.wire.specs.Answer.{Answer, got, refused, Reader, andThen, _>>=_, _>>_, pure, refuse, item, ruled, whenOn, each, bit}
 use Rattle.plain_value.specs.Width.{among, widthOf, fixed}
 use Rattle.plain_value.specs.Plain.{passing, bytes, byLength, plain, plainValue, plainValues}
@@ -38,17 +39,17 @@ hasDimensions b = bit 64 b
 
 -- the types taken: null, the plain ones, DataValue and Variant
 abbrev pub taken : ℕ → Bool
-taken t = among t (0 ∷ 23 ∷ 24 ∷ []) || plain t
+taken t = among t (0 ∷ DATA_VALUE ∷ VARIANT ∷ []) || plain t
 
 -- "Bit 6 without bit 7 is 3; bit 6 is 4. Type 0 is null, one byte; with bit 7 it is 3. 24 (Variant) only as array,
 -- else 3. All other types are 4."
 unfoldable pub variantRule : ℕ → ℕ
 variantRule b =
-    cond (hasDimensions b && not (isArray b)) 3
-    (cond (hasDimensions b) 4
-    (cond (eqb (typeOf b) 0 && isArray b) 3
-    (cond (eqb (typeOf b) 24 && not (isArray b)) 3
-    (cond (taken (typeOf b)) 0 4))))
+    cond (hasDimensions b && not (isArray b)) NOT_PERMITTED
+    (cond (hasDimensions b) NOT_TAKEN
+    (cond (eqb (typeOf b) 0 && isArray b) NOT_PERMITTED
+    (cond (eqb (typeOf b) VARIANT && not (isArray b)) NOT_PERMITTED
+    (cond (taken (typeOf b)) 0 NOT_TAKEN))))
 
 -- Below, `nested t` reads a value of type t (23 a DataValue, 24 a Variant) inside this one, one level deeper.
 
@@ -80,22 +81,22 @@ variantOf nested b =
 
 -- "mask, bits 6 or 7 set is 3"
 abbrev pub maskRule : ℕ → ℕ
-maskRule m = cond (bit 64 m || bit 128 m) 3 0
+maskRule m = cond (bit 64 m || bit 128 m) NOT_PERMITTED 0
 
 -- what follows a DataValue's mask m: "then by bit 0 a Variant" and the other parts
 abbrev pub dataValueOf : (ℕ → Reader Measure) → ℕ → Reader Measure
 dataValueOf nested m = do
-  whenOn (bit 1 m) tt (passing (nested 24))
+  whenOn (bit 1 m) tt (passing (nested VARIANT))
   parts m
-  pure (measure 23 Shape.Scalar)
+  pure (measure DATA_VALUE Shape.Scalar)
 
 -- a DataValue where t is 23, else a Variant
 abbrev pub valueOf : (ℕ → Reader Measure) → ℕ → Reader Measure
-valueOf nested t = cond (eqb t 23) (ruled 1 maskRule >>= dataValueOf nested) (ruled 1 variantRule >>= variantOf nested)
+valueOf nested t = cond (eqb t DATA_VALUE) (ruled 1 maskRule >>= dataValueOf nested) (ruled 1 variantRule >>= variantOf nested)
 
 -- "at 101 its first byte is 9, tested right after 1"
 abbrev pub tooDeep : Reader Measure
-tooDeep s at = andThen (item 1 s at) (λ b next. refused 9 at)
+tooDeep s at = andThen (item 1 s at) (λ b next. refused TOO_DEEP at)
 
 -- a value of type t with so many levels left: "a Variant or DataValue inside another lies one level deeper"
 unfoldable pub valueAt : ℕ → ℕ → Reader Measure
@@ -104,11 +105,11 @@ valueAt (suc levels) t = valueOf (valueAt levels) t
 
 -- "The field's own value is level 1" of 100
 abbrev pub variantAt : Reader Measure
-variantAt = valueAt 100 24
+variantAt = valueAt LEVELS VARIANT
 
 abbrev pub dataValueAt : Reader Measure
-dataValueAt = valueAt 100 23
+dataValueAt = valueAt LEVELS DATA_VALUE
 
 -- a fixed-width element of type t, as in RawData; any other type is not taken there
 abbrev pub rawAt : ℕ → Reader Measure
-rawAt t = cond (fixed t) (bytes (widthOf t) >> pure (measure t Shape.Scalar)) (refuse 4)
+rawAt t = cond (fixed t) (bytes (widthOf t) >> pure (measure t Shape.Scalar)) (refuse NOT_TAKEN)

@@ -7,6 +7,12 @@ use plain_value::width::packed_width;
 use wire::Item8;
 use wire::ItemLength;
 use wire::Reached;
+use wire::numbers::BAD_LENGTH;
+use wire::numbers::CUT_SHORT;
+use wire::numbers::DATA_VALUE;
+use wire::numbers::NOT_PERMITTED;
+use wire::numbers::NOT_TAKEN;
+use wire::numbers::VARIANT;
 use wire::read_length;
 use wire::read8;
 ghost use mathlib.Core.Path.{_≡_};
@@ -30,7 +36,7 @@ pub(crate) enum Head {
 fn is_taken(t: u8) -> bool
     ensures { λ r. ⌜ r ≡ taken t ⌝ }
 {
-    if (t == 0) | (t == 23) | (t == 24) {
+    if (t == 0) | (t == DATA_VALUE) | (t == VARIANT) {
         return true;
     }
     is_plain(t)
@@ -86,8 +92,8 @@ fn array_head(s: &[u8], at: usize, t: u8) -> Head
     match read_length(s, at) {
         ItemLength::Null(next) => Head::To(next),
         ItemLength::Of(next, n) => elements_head(s, next, t, n),
-        ItemLength::Negative(_) => Head::Refused(5, at),
-        ItemLength::Short => Head::Refused(1, at),
+        ItemLength::Negative(_) => Head::Refused(BAD_LENGTH, at),
+        ItemLength::Short => Head::Refused(CUT_SHORT, at),
     }
 }
 
@@ -96,16 +102,16 @@ fn scalar_variant(s: &[u8], first: usize, at: usize, t: u8) -> Head
     requires { ⌜ t < 64 ⌝ }
     ensures { λ h. ⌜ ((nested : ℕ → Reader Measure) → finish nested (now (s .entry)) h ≡ passing (judged variantRule t first (variantOf nested)) (now (s .entry)) at) ⌝ }
 {
-    if is_plain(t) | (t == 23) {
+    if is_plain(t) | (t == DATA_VALUE) {
         return scalar_head(s, at, t);
     }
     if t == 0 {
         return Head::To(at);
     }
-    if t == 24 {
-        return Head::Refused(3, first);
+    if t == VARIANT {
+        return Head::Refused(NOT_PERMITTED, first);
     }
-    Head::Refused(4, first)
+    Head::Refused(NOT_TAKEN, first)
 }
 
 // A Variant that is an array of type t; its first byte, t + 128, stands at `first`, before `at`.
@@ -114,12 +120,12 @@ fn array_variant(s: &[u8], first: usize, at: usize, t: u8) -> Head
     ensures { λ h. ⌜ ((nested : ℕ → Reader Measure) → finish nested (now (s .entry)) h ≡ passing (judged variantRule (t + 128) first (variantOf nested)) (now (s .entry)) at) ⌝ }
 {
     if t == 0 {
-        return Head::Refused(3, first);
+        return Head::Refused(NOT_PERMITTED, first);
     }
     if is_taken(t) {
         return array_head(s, at, t);
     }
-    Head::Refused(4, first)
+    Head::Refused(NOT_TAKEN, first)
 }
 
 // A Variant whose first byte b stands at `at`, before `next`. Its two highest bits part the bytes into scalars, dimensions without an array,
@@ -131,12 +137,12 @@ fn variant_head(s: &[u8], at: usize, next: usize, b: u8) -> Head
         return scalar_variant(s, at, next, b);
     }
     if b < 128 {
-        return Head::Refused(3, at);
+        return Head::Refused(NOT_PERMITTED, at);
     }
     if b < 192 {
         return array_variant(s, at, next, b - 128);
     }
-    Head::Refused(4, at)
+    Head::Refused(NOT_TAKEN, at)
 }
 
 // A DataValue whose mask m stands at `at`, before `next`.
@@ -144,9 +150,9 @@ fn data_value_head(at: usize, next: usize, m: u8) -> Head
     ensures { λ h. ⌜ ((nested : ℕ → Reader Measure) (s : List ℕ) → finish nested s h ≡ passing (judged maskRule m at (dataValueOf nested)) s next) ⌝ }
 {
     if (m / 64 % 2 == 1) | (m / 128 % 2 == 1) {
-        return Head::Refused(3, at);
+        return Head::Refused(NOT_PERMITTED, at);
     }
-    Head::Holds(next, (m % 2) as usize, 24, m)
+    Head::Holds(next, (m % 2) as usize, VARIANT, m)
 }
 
 // A DataValue where t is 23, else a Variant.
@@ -154,9 +160,9 @@ pub(crate) fn head_at(s: &[u8], at: usize, t: u8) -> Head
     ensures { λ h. ⌜ ((nested : ℕ → Reader Measure) → finish nested (now (s .entry)) h ≡ passing (valueOf nested t) (now (s .entry)) at) ⌝ }
 {
     let Item8::Is(b, next) = read8(s, at) else {
-        return Head::Refused(1, at);
+        return Head::Refused(CUT_SHORT, at);
     };
-    if t == 23 {
+    if t == DATA_VALUE {
         return data_value_head(at, next, b);
     }
     variant_head(s, at, next, b)

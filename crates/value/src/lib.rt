@@ -10,6 +10,13 @@ use wire::ItemLength;
 use wire::Reached;
 use wire::has;
 use wire::left;
+use wire::numbers::BAD_LENGTH;
+use wire::numbers::CUT_SHORT;
+use wire::numbers::DATA_VALUE;
+use wire::numbers::LEVELS;
+use wire::numbers::NOT_TAKEN;
+use wire::numbers::TOO_DEEP;
+use wire::numbers::VARIANT;
 use wire::read_length;
 use wire::read8;
 ghost use mathlib.Core.Path.{_≡_};
@@ -41,9 +48,9 @@ fn too_deep(s: &[u8], at: usize) -> Reached
     ensures { λ r. ⌜ answerReached r ≡ passing tooDeep (now (s .entry)) at ⌝ }
 {
     if has(s.len(), at, 1) {
-        return Reached::Refused(9, at);
+        return Reached::Refused(TOO_DEEP, at);
     }
-    Reached::Refused(1, at)
+    Reached::Refused(CUT_SHORT, at)
 }
 
 // Passes over a value with so many levels left: a DataValue where t is 23, else a Variant.
@@ -76,8 +83,6 @@ fn pass_value(s: &[u8], at: usize, levels: usize, t: u8) -> Reached
 }
 
 // The levels of a field's own value and the values inside it.
-const LEVELS: usize = 100;
-
 // The position after a Variant that is a scalar of a fixed type and fits; for any other the position itself.
 pub fn fixed_end(s: &[u8], at: usize) -> usize
     ensures { λ r. ⌜ r ≡ fixedEnd (now (s .entry)) at ⌝ }
@@ -162,7 +167,7 @@ fn pass_variant(s: &[u8], at: usize) -> Reached
     if at < end {
         return Reached::To(end);
     }
-    pass_value(&*s, at, LEVELS, 24)
+    pass_value(&*s, at, LEVELS, VARIANT)
 }
 
 // Passes over n Variants, one after the other.
@@ -192,8 +197,8 @@ fn described_array(s: &[u8], at: usize, t: u8, end: usize) -> Measured
     match read_length(s, at) {
         ItemLength::Null(_) => Measured::NullArray(t, end),
         ItemLength::Of(_, n) => Measured::Array(t, end, n),
-        ItemLength::Negative(_) => Measured::Refused(5, at),
-        ItemLength::Short => Measured::Refused(1, at),
+        ItemLength::Negative(_) => Measured::Refused(BAD_LENGTH, at),
+        ItemLength::Short => Measured::Refused(CUT_SHORT, at),
     }
 }
 
@@ -202,7 +207,7 @@ pub fn described(s: &[u8], at: usize, end: usize) -> Measured
     ensures { λ r. ⌜ answerMeasured r ≡ describedAt end (now (s .entry)) at ⌝ }
 {
     let Item8::Is(b, next) = read8(s, at) else {
-        return Measured::Refused(1, at);
+        return Measured::Refused(CUT_SHORT, at);
     };
     if b / 128 % 2 == 1 {
         return described_array(s, next, b % 64, end);
@@ -218,7 +223,7 @@ pub fn measure_variant(s: &[u8], at: usize) -> Measured
     if at < end {
         return Measured::Scalar(s[at], end);
     }
-    match pass_value(&*s, at, LEVELS, 24) {
+    match pass_value(&*s, at, LEVELS, VARIANT) {
         Reached::Refused(number, place) => Measured::Refused(number, place),
         Reached::To(end) => described(s, at, end),
     }
@@ -228,9 +233,9 @@ pub fn measure_variant(s: &[u8], at: usize) -> Measured
 pub fn measure_data_value(s: &[u8], at: usize) -> Measured
     ensures { λ r. ⌜ answerMeasured r ≡ dataValueAt (now (s .entry)) at ⌝ }
 {
-    match pass_value(&*s, at, LEVELS, 23) {
+    match pass_value(&*s, at, LEVELS, DATA_VALUE) {
         Reached::Refused(number, place) => Measured::Refused(number, place),
-        Reached::To(end) => Measured::Scalar(23, end),
+        Reached::To(end) => Measured::Scalar(DATA_VALUE, end),
     }
 }
 
@@ -240,12 +245,12 @@ pub fn pass_element(s: &[u8], at: usize, t: u8) -> Reached
 {
     let w = packed_width(t);
     if w == 0 {
-        return Reached::Refused(4, at);
+        return Reached::Refused(NOT_TAKEN, at);
     }
     if w <= left(s.len(), at) {
         return Reached::To(at + w);
     }
-    Reached::Refused(1, at)
+    Reached::Refused(CUT_SHORT, at)
 }
 
 // A fixed-width element of type t at a position, as in RawData. Any other type is 4.

@@ -4,6 +4,7 @@ use mathlib.Core.Bool.{cond}
 use mathlib.Core.List.{List, [], _∷_, _++_}
 use lib.Dec.{eqb}
 use lib.ListN.{length, take, drop}
+use Rattle.wire.specs.Numbers.{MOST_WRITERS}
 use Rattle.wire.specs.Answer.{Answer, got, refused}
 use Rattle.wire.specs.declared.optional.Optional16.{Optional16}
 use Rattle.config.specs.Writers.{atMost, typesOf}
@@ -36,9 +37,9 @@ pub record Writers : Type 0 where
 abbrev pub writersOf : Config → Writers
 writersOf c =
     record {
-      ids = take (atMost 16 (c .writers)) (c .ids);
-      sizes = take (atMost 16 (c .writers)) (c .sizes);
-      starts = take (atMost 16 (c .writers)) (c .starts);
+      ids = take (atMost MOST_WRITERS (c .writers)) (c .ids);
+      sizes = take (atMost MOST_WRITERS (c .writers)) (c .sizes);
+      starts = take (atMost MOST_WRITERS (c .writers)) (c .starts);
       types = take (c .fields) (c .types);
     }
 

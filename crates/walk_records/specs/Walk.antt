@@ -2,6 +2,7 @@
 use Prim.Native.Nat.{ℕ, _+_, _*_}
 use mathlib.Core.List.{List, [], _∷_}
 use lib.ListN.{length, drop, replicate}
+use Rattle.records.specs.Sizes.{WALK_SIZE}
 use Rattle.wire.specs.Answer.{Answer, got, refused}
 use Rattle.wire_writer.specs.Store.{laid}
 use Rattle.wire.specs.declared.optional.Optional16.{Optional16}
@@ -29,7 +30,7 @@ walkNumbers (Line.Bad n place) = replicate 8 0
 
 -- "record k (from 0) at offset 64 * k"; "A record that does not fit whole is not put; every other byte of records stays as it was"
 abbrev pub recordLaid : ℕ → Line → List ℕ → List ℕ
-recordLaid k x out = laid out (64 * k) (numberBytes (walkNumbers x))
+recordLaid k x out = laid out (WALK_SIZE * k) (numberBytes (walkNumbers x))
 
 -- the buffer after the records of some lines, the first of them record k
 abbrev pub recordsPut : ℕ → List Line → List ℕ → List ℕ

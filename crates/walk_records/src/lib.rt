@@ -21,6 +21,7 @@ use network_message::payload::Payload;
 use network_message::writer_id::writer_id;
 use plain_value::width::packed_width;
 use records::numbers::put_numbers;
+use records::sizes::WALK_SIZE;
 use value::Shape;
 use wire::optional::Optional16;
 use wire::part::part;
@@ -39,6 +40,7 @@ ghost use Rattle.walk.specs.Lines.{writers, inDatagram};
 ghost use Rattle.walk.specs.declared.entry.Line.{Line};
 ghost use Rattle.walk_records.specs.Walk.{orNone, recordLaid, recordsPut, walkLines, walkOf};
 ghost use Rattle.walk_records.specs.Parts.{setFrom, bare, payloadLines, Accepted, Word, FieldsPut};
+ghost use Rattle.records.specs.Sizes.{WALK_SIZE};
 
 // How many records there are in all, or the datagram's refusal.
 pub enum Walked {
@@ -59,13 +61,13 @@ fn or_none(x: Optional16) -> u64
 // Puts record k, which has 8 numbers, where it fits whole.
 fn put_record(out: &mut [u8], k: usize, numbers: &[u64])
     requires { ⌜ length (now numbers) ≡ 8 ⌝ }
-    ensures { λ _. ⌜ now (out .exit) ≡ laid (now (out .entry)) (64 * k) (numberBytes (now (numbers .entry))) ⌝ }
+    ensures { λ _. ⌜ now (out .exit) ≡ laid (now (out .entry)) (WALK_SIZE * k) (numberBytes (now (numbers .entry))) ⌝ }
 {
-    if out.len() / 64 <= k {
+    if out.len() / WALK_SIZE <= k {
         return;
     }
-    let at = 64 * k;
-    let end = at + 64;
+    let at = WALK_SIZE * k;
+    let end = at + WALK_SIZE;
     put_numbers(&mut out[at..end], numbers);
 }
 
@@ -99,7 +101,7 @@ fn put_message(
     b: u64,
     c: u64,
 )
-    ensures { λ _. ⌜ now (out .exit) ≡ laid (now (out .entry)) (64 * k) (numberBytes (what ∷ p .index ∷ orNone writer ∷ a ∷ b ∷ c ∷ p .offset ∷ p .length ∷ [])) ⌝ }
+    ensures { λ _. ⌜ now (out .exit) ≡ laid (now (out .entry)) (WALK_SIZE * k) (numberBytes (what ∷ p .index ∷ orNone writer ∷ a ∷ b ∷ c ∷ p .offset ∷ p .length ∷ [])) ⌝ }
 {
     let numbers = [
         what,

@@ -5,6 +5,7 @@ use mathlib.Core.Bool.{Bool, true, false, cond}
 use lib.ListN.{length}
 use lib.Dec.{leb, eqb}
 use lib.IntN.{ℤ}
+use Rattle.wire.specs.Numbers.{CUT_SHORT}
 use Rattle.wire.specs.Number.{le, signed}
 
 -- What a reader answers: a value with the position after it, or a refusal with document 01's number and its place,
@@ -44,11 +45,11 @@ refuse n s at = refused n at
 
 -- an item, a number of w bytes: 1 at its first byte where it does not fit in what is left
 abbrev pub item : ℕ → Reader ℕ
-item w s at = cond (leb (at + w) (length s)) (got (le w s at) (at + w)) (refused 1 at)
+item w s at = cond (leb (at + w) (length s)) (got (le w s at) (at + w)) (refused CUT_SHORT at)
 
 -- an item whose number is signed
 abbrev pub signedItem : ℕ → Reader ℤ
-signedItem w s at = cond (leb (at + w) (length s)) (got (signed w (le w s at)) (at + w)) (refused 1 at)
+signedItem w s at = cond (leb (at + w) (length s)) (got (signed w (le w s at)) (at + w)) (refused CUT_SHORT at)
 
 -- "At each item 1 is tested first, then its rules in the order given": the rule of a value is the number of the
 -- first rule that it breaks, or 0
@@ -57,7 +58,7 @@ ruled w rule s at = andThen (item w s at) (λ v next. cond (eqb (rule v) 0) (got
 
 -- a run of n bytes, located only; it is one item
 abbrev pub run : ℕ → Reader ℕ
-run n s at = cond (leb (at + n) (length s)) (got n (at + n)) (refused 1 at)
+run n s at = cond (leb (at + n) (length s)) (got n (at + n)) (refused CUT_SHORT at)
 
 -- a part that a flag announces; absent where the flag is off
 abbrev pub whenOn : {A : Type 0} → Bool → A → Reader A → Reader A

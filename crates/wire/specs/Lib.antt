@@ -1,3 +1,4 @@
+pub mod Numbers
 pub mod Number
 pub mod Answer
 pub mod Items

@@ -2,6 +2,7 @@
 use Prim.Native.Nat.{ℕ}
 use mathlib.Core.Bool.{Bool, cond}
 use lib.Dec.{leb}
+use Rattle.wire.specs.Numbers.{NOT_PERMITTED, PICOSECONDS_END}
 use Rattle.wire.specs.Answer.{Answer, got, refused, Reader, item, signedItem, ruled, whenOn, pure, _>>=_}
 use Rattle.wire.specs.declared.optional.Optional16.{Optional16}
 use Rattle.wire.specs.declared.optional.Optional16Read.{Optional16Read}
@@ -22,7 +23,7 @@ optionalI64 on = whenOn on OptionalI64.Absent (signedItem 8 >>= λ v. pure (Opti
 
 -- "PicoSeconds 2: 10,000 or more is 3"
 abbrev pub picosecondsRule : ℕ → ℕ
-picosecondsRule v = cond (leb 10000 v) 3 0
+picosecondsRule v = cond (leb PICOSECONDS_END v) NOT_PERMITTED 0
 
 abbrev pub picosecondsAt : Bool → Reader Optional16
 picosecondsAt on = whenOn on Optional16.Absent (ruled 2 picosecondsRule >>= λ v. pure (Optional16.Is v))

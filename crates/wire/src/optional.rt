@@ -2,6 +2,9 @@
 use crate::Item16;
 use crate::Item32;
 use crate::Item64;
+use crate::numbers::CUT_SHORT;
+use crate::numbers::NOT_PERMITTED;
+use crate::numbers::PICOSECONDS_END;
 use crate::read16;
 use crate::read32;
 use crate::read64;
@@ -48,7 +51,7 @@ pub fn read_optional16(s: &[u8], on: bool, at: usize) -> Optional16Read
         return Optional16Read::Is(Optional16::Absent, at);
     }
     let Item16::Is(v, next) = read16(s, at) else {
-        return Optional16Read::Refused(1, at);
+        return Optional16Read::Refused(CUT_SHORT, at);
     };
     Optional16Read::Is(Optional16::Is(v), next)
 }
@@ -60,7 +63,7 @@ pub fn read_optional32(s: &[u8], on: bool, at: usize) -> Optional32Read
         return Optional32Read::Is(at, Optional32::Absent);
     }
     let Item32::Is(v, next) = read32(s, at) else {
-        return Optional32Read::Refused(1, at);
+        return Optional32Read::Refused(CUT_SHORT, at);
     };
     Optional32Read::Is(next, Optional32::Is(v))
 }
@@ -73,7 +76,7 @@ pub fn read_optional_i64(s: &[u8], on: bool, at: usize) -> OptionalI64Read
         return OptionalI64Read::Is(OptionalI64::Absent, at);
     }
     let Item64::Is(v, next) = read64(s, at) else {
-        return OptionalI64Read::Refused(1, at);
+        return OptionalI64Read::Refused(CUT_SHORT, at);
     };
     OptionalI64Read::Is(OptionalI64::Is(signed64(v)), next)
 }
@@ -82,8 +85,8 @@ pub fn read_optional_i64(s: &[u8], on: bool, at: usize) -> OptionalI64Read
 pub fn picoseconds_rule(v: u16) -> u8
     ensures { λ r. ⌜ r ≡ picosecondsRule v ⌝ }
 {
-    if 10000 <= v {
-        return 3;
+    if PICOSECONDS_END <= v {
+        return NOT_PERMITTED;
     }
     0
 }
@@ -95,7 +98,7 @@ pub fn read_picoseconds(s: &[u8], on: bool, at: usize) -> Optional16Read
         return Optional16Read::Is(Optional16::Absent, at);
     }
     let Item16::Is(v, next) = read16(s, at) else {
-        return Optional16Read::Refused(1, at);
+        return Optional16Read::Refused(CUT_SHORT, at);
     };
     let n = picoseconds_rule(v);
     if n != 0 {

@@ -6,6 +6,7 @@ use mathlib.Core.List.{List, [], _++_}
 use lib.Dec.{eqb, ltb}
 use lib.ListN.{length, drop}
 use lib.Seq.{sets}
+use Rattle.wire.specs.Numbers.{DISAGREE, MOST_DATAGRAM, NO_ROOM, OVER_LIMIT}
 use Rattle.wire.specs.Number.{leBytes, unsigned}
 use Rattle.wire.specs.Answer.{Answer, got, refused}
 use Rattle.wire.specs.Optional.{picosecondsRule}
@@ -20,7 +21,7 @@ orElse a b = cond (eqb a 0) b a
 
 -- "output above 65,535 bytes by 10; then 11": a refusal n of what is to be written comes first
 abbrev pub numberFor : ℕ → ℕ → ℕ → ℕ
-numberFor n size room = orElse n (cond (ltb 65535 size) 10 (cond (ltb room size) 11 0))
+numberFor n size room = orElse n (cond (ltb MOST_DATAGRAM size) OVER_LIMIT (cond (ltb room size) NO_ROOM 0))
 
 -- the answer of a writer with the number n (0 is done) for these bytes
 abbrev pub writtenBy : ℕ → List ℕ → Written
@@ -90,4 +91,4 @@ picosecondsRefusal (Optional16.Is v) = picosecondsRule v
 
 -- what would read back otherwise is 6: here a part of this length that nothing announces
 abbrev pub unused : ℕ → ℕ
-unused len = cond (eqb len 0) 0 6
+unused len = cond (eqb len 0) 0 DISAGREE

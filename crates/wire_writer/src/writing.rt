@@ -2,6 +2,7 @@
 // one after the other. A put function stores an item where it fits and returns the position after it; where it does not
 // fit, it stores nothing and returns the position unchanged.
 use wire::Guid;
+use wire::numbers::DISAGREE;
 use wire::optional::Optional16;
 use wire::optional::Optional32;
 use wire::optional::OptionalI64;
@@ -187,7 +188,7 @@ pub fn not_used(len: usize) -> u8
     if len == 0 {
         return 0;
     }
-    6
+    DISAGREE
 }
 
 // Two numbers that must be equal.
@@ -197,7 +198,7 @@ pub fn must_equal(a: usize, b: usize) -> u8
     if a == b {
         return 0;
     }
-    6
+    DISAGREE
 }
 
 // A test that must hold.
@@ -207,5 +208,5 @@ pub fn must_hold(b: bool) -> u8
     if b {
         return 0;
     }
-    6
+    DISAGREE
 }

@@ -1,7 +1,7 @@
 -- `publisher_id::publisher::string_of` meets its contract.
 -- Assumes nothing.
 use mathlib.Core.Path.{sym}
-use borrow.Author.Tests.{le-leb, lt-leb}
+use borrow.Author.Tests.{lt-ltb, le-ltb}
 use borrow.Author.Needs.{needs}
 use Rattle.wire.specs.Items.{answerRun}
 use Rattle.wire.proofs.Reading.{told}
@@ -9,14 +9,14 @@ use Rattle.publisher_id.proofs.publisher.string_of.Statement.{statement
 use Rattle.publisher_id.proofs.publisher.string_of.Tie as tie
 
 returns : tie.Need-returns
-returns c = rw (le-leb _ _ (c .if1 .taken))
+returns c = rw (lt-ltb _ _ (c .if1 .taken))
 
 returns-2 : tie.Need-returns-2
 returns-2 c =
     let at-skip = c .before .before in
     let at-if1 = at-skip .before in
     let args = at-if1 .before .before .args in
-    rw (lt-leb _ _ (at-if1 .if1 .left), sym (told (answerRun (args .start) (args .n)) (at-skip .skip .ensures) (c .enum-told .given .1)))
+    rw (le-ltb _ _ (at-if1 .if1 .left), sym (told (answerRun (args .start) (args .n)) (at-skip .skip .ensures) (c .enum-told .given .1)))
 
 returns-3 : tie.Need-returns-3
 returns-3 c =
@@ -24,7 +24,7 @@ returns-3 c =
     let at-skip = at-next .before .before in
     let at-if1 = at-skip .before in
     let args = at-if1 .before .before .args in
-    rw (lt-leb _ _ (at-if1 .if1 .left), sym (told (answerRun (args .start) (args .n)) (at-skip .skip .ensures) (at-next .next .given .1)))
+    rw (le-ltb _ _ (at-if1 .if1 .left), sym (told (answerRun (args .start) (args .n)) (at-skip .skip .ensures) (at-next .next .given .1)))
 
 pub string-of-spec : {M : Type 1} → statement M
 string-of-spec =

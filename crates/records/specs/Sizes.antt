@@ -1,0 +1,34 @@
+-- How many bytes each lent record has (include/uadp.h).
+use Prim.Native.Nat.{ℕ}
+
+-- The configuration record's bytes.
+abbrev pub CONFIG_SIZE : ℕ
+CONFIG_SIZE = 146
+
+-- The envelope record's bytes.
+abbrev pub ENVELOPE_SIZE : ℕ
+ENVELOPE_SIZE = 224
+
+-- The head record's bytes.
+abbrev pub HEAD_SIZE : ℕ
+HEAD_SIZE = 160
+
+-- The field record's bytes.
+abbrev pub FIELD_SIZE : ℕ
+FIELD_SIZE = 48
+
+-- The message record's bytes.
+abbrev pub PLACE_SIZE : ℕ
+PLACE_SIZE = 32
+
+-- The bytes of a record of the walk.
+abbrev pub WALK_SIZE : ℕ
+WALK_SIZE = 64
+
+-- The partial record's bytes.
+abbrev pub PARTIAL_SIZE : ℕ
+PARTIAL_SIZE = 112
+
+-- The sequence record's bytes.
+abbrev pub SEQUENCE_SIZE : ℕ
+SEQUENCE_SIZE = 16

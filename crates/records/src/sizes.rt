@@ -1,0 +1,25 @@
+// How many bytes each lent record has (include/uadp.h).
+
+// The configuration record's bytes.
+pub const CONFIG_SIZE: usize = 146;
+
+// The envelope record's bytes.
+pub const ENVELOPE_SIZE: usize = 224;
+
+// The head record's bytes.
+pub const HEAD_SIZE: usize = 160;
+
+// The field record's bytes.
+pub const FIELD_SIZE: usize = 48;
+
+// The message record's bytes.
+pub const PLACE_SIZE: usize = 32;
+
+// The bytes of a record of the walk.
+pub const WALK_SIZE: usize = 64;
+
+// The partial record's bytes.
+pub const PARTIAL_SIZE: usize = 112;
+
+// The sequence record's bytes.
+pub const SEQUENCE_SIZE: usize = 16;
