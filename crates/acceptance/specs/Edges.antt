@@ -3,7 +3,7 @@ use Prim.Native.Nat.{ℕ}
 use mathlib.Core.Path.{_≡_}
 use mathlib.Core.Bool.{true, false}
 use mathlib.Core.List.{List, [], _∷_}
-use Rattle.wire.specs.Numbers.{BYTE_DIFFERS, NOT_COMPLETE, NOT_PERMITTED}
+use Rattle.wire.specs.Constants.{BYTE_DIFFERS, NOT_COMPLETE, NOT_PERMITTED}
 use Rattle.wire.specs.Answer.{Answer, got, refused}
 use Rattle.sequence.specs.Newness.{newnessOf}
 use Rattle.sequence.specs.declared.Newness.{Newness}
@@ -34,9 +34,9 @@ fresh =
     partial (record { started = false; message = record { publisher = record { id = PublisherId.Absent; text = [] }; writer = 0; number = 0; total = 0 } })
     (9 ∷ 9 ∷ 9 ∷ 9 ∷ 9 ∷ []) (1 ∷ 1 ∷ 7 ∷ 1 ∷ 1 ∷ [])
 
--- "N1 to N7, last 5: received 6 newer, 5 old, 16,389 newer, 16,390 invalid, 49,158 invalid, 49,159 old; last 65,535: 0 newer. V1 `00` is null,
--- length 1. V2 `85 FF FF FF FF` null array, length 5. V3 `18` is 3. R1: total 5, chunks at 0 and 2 of 3 bytes agreeing at 2: complete. R2:
--- disagreeing there: 14."
+-- "N1 to N7, last 5: received 6 newer, 5 old, 16,389 newer, 16,390 invalid, 49,158 invalid, 49,159 old; last 65,535: 0 newer. V1 `00` is
+-- null, length 1. V2 `85 FF FF FF FF` null array, length 5. V3 `18` is 3. R1: total 5, chunks at 0 and 2 of 3 bytes agreeing at 2:
+-- complete. R2: disagreeing there: 14."
 abbrev pub table : List EdgeReading
 table =
     newness 5 6 Newer

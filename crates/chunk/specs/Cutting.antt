@@ -4,7 +4,7 @@ use mathlib.Core.Bool.{cond}
 use mathlib.Core.List.{List, _++_}
 use lib.Dec.{leb, ltb, eqb}
 use lib.ListN.{length, take, drop}
-use Rattle.wire.specs.Numbers.{DISAGREE, MOST_TOTAL, NO_ROOM, OVER_LIMIT}
+use Rattle.wire.specs.Constants.{DISAGREE, MOST_TOTAL, NO_ROOM, OVER_LIMIT}
 use Rattle.wire.specs.Number.{leBytes}
 use Rattle.wire_writer.specs.Store.{laid}
 use Rattle.wire_writer.specs.declared.writing.Written.{Written}

@@ -3,7 +3,7 @@ use Prim.Native.Nat.{ℕ}
 use mathlib.Core.Bool.{cond}
 use mathlib.Core.List.{List, []}
 use lib.ListN.{take, drop}
-use Rattle.wire.specs.Numbers.{NOT_TAKEN}
+use Rattle.wire.specs.Constants.{NOT_TAKEN}
 use Rattle.wire.specs.Answer.{Answer, got, refused, Reader, andThen}
 use Rattle.network_message.specs.Envelope.{networkMessageAt}
 use Rattle.network_header.specs.declared.envelope.Envelope.{Envelope}

@@ -3,7 +3,7 @@ use Prim.Native.Nat.{ℕ, _+_}
 use mathlib.Core.Bool.{cond}
 use lib.Dec.{ltb, eqb}
 use lib.ListN.{length}
-use Rattle.wire.specs.Numbers.{BAD_LENGTH, DISAGREE, LEFT_OVER, MOST_TOTAL, OVER_LIMIT}
+use Rattle.wire.specs.Constants.{BAD_LENGTH, DISAGREE, LEFT_OVER, MOST_TOTAL, OVER_LIMIT}
 use Rattle.wire.specs.Answer.{Answer, got, refused, Reader, item, run, here, pure, andThen, _>>=_, _>>_}
 use Rattle.wire.specs.Items.{lengthItem}
 use Rattle.wire.specs.declared.Length.{Length}

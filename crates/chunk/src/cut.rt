@@ -1,8 +1,8 @@
 // Cutting a payload into chunks.
-use wire::numbers::DISAGREE;
-use wire::numbers::MOST_TOTAL;
-use wire::numbers::NO_ROOM;
-use wire::numbers::OVER_LIMIT;
+use wire::constants::DISAGREE;
+use wire::constants::MOST_TOTAL;
+use wire::constants::NO_ROOM;
+use wire::constants::OVER_LIMIT;
 use wire::part::part;
 use wire_writer::store::put_run;
 use wire_writer::store::put16;
@@ -48,7 +48,9 @@ fn put_payload(out: &mut [u8], number: u16, offset: usize, total: usize, bytes: 
 // Writes the payload of chunk k, of chunks with so many bytes of data: data size 0 or payload empty 6, payload above 16,384 or k past the
 // last 10, then 11.
 pub fn cut(out: &mut [u8], payload: &[u8], number: u16, size: usize, k: usize) -> Written
-    ensures { λ r. ⌜ (r ≡ cutAnswer (now (payload .entry)) number size k (length (now (out .entry)))) × (now (out .exit) ≡ cutBuffer (now (payload .entry)) number size k (now (out .entry))) ⌝ }
+    ensures { λ r.
+        ⌜ (r ≡ cutAnswer (now (payload .entry)) number size k (length (now (out .entry))))
+        × (now (out .exit) ≡ cutBuffer (now (payload .entry)) number size k (now (out .entry))) ⌝ }
 {
     let fault = cut_rule(payload.len(), size, k);
     if fault != 0 {

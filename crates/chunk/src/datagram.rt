@@ -6,7 +6,7 @@ use network_header::envelope::Envelope;
 use network_header::header::PayloadHeader;
 use network_message::envelope::NetworkMessageRead;
 use publisher_id::publisher::PublisherId;
-use wire::numbers::NOT_TAKEN;
+use wire::constants::NOT_TAKEN;
 use wire::part::part;
 ghost use mathlib.Core.Path.{_≡_};
 ghost use Rattle.chunk.specs.Datagram.{writerOf, chunkOf, chunkAt, chunkData, answerChunk};

@@ -1,11 +1,11 @@
--- What a configuration says of its writers: their ids, sizes and starts in order, and the types of all fields. A size of 0 is none; a writer's start is
--- how many fields stand before its own.
+-- What a configuration says of its writers: their ids, sizes and starts in order, and the types of all fields. A size of 0 is none; a
+-- writer's start is how many fields stand before its own.
 use mathlib.Core.Bool.{Bool, cond, not}
 use mathlib.Core.List.{List, [], _∷_}
 use Prim.Native.Nat.{ℕ, _+_, _-_}
 use lib.Dec.{ltb}
 use lib.ListN.{length, getD, take, drop, replicate}
-use Rattle.wire.specs.Numbers.{MOST_FIELDS, MOST_WRITERS}
+use Rattle.wire.specs.Constants.{MOST_FIELDS, MOST_WRITERS}
 use Rattle.text.specs.Words.{indexOf, contains}
 use Rattle.wire.specs.declared.optional.Optional16.{Optional16}
 use Rattle.config.specs.declared.Config.{Config}

@@ -1,6 +1,6 @@
 // What a configuration says: the record, and the questions asked of its arrays, lent as slices. Any slices have an answer.
-use wire::numbers::MOST_FIELDS;
-use wire::numbers::MOST_WRITERS;
+use wire::constants::MOST_FIELDS;
+use wire::constants::MOST_WRITERS;
 use wire::optional::Optional16;
 use wire::part::part;
 ghost use mathlib.Core.Path.{_≡_};
@@ -8,7 +8,7 @@ ghost use Prim.Native.Nat.{_≤_};
 ghost use lib.ListN.{take, getD};
 ghost use Rattle.text.specs.Words.{indexOf, contains};
 ghost use Rattle.config.specs.Writers.{atMost, fieldsOf, fieldsOfId, typesOf, allSized, sumOfSizes, emptyConfig};
-ghost use Rattle.wire.specs.Numbers.{MOST_WRITERS};
+ghost use Rattle.wire.specs.Constants.{MOST_WRITERS};
 
 // The writers in order: each with its id, its size (0 where it has none) and how many fields stand before its own;
 // and the types of all fields. Only the first `writers` and the first `fields` entries say something.

@@ -1,11 +1,11 @@
--- The configuration text, document 01: lines as in `Line`; "At most 16 writers, 64 fields in all, ids distinct; else 16, as is a last line without newline."
--- The number 16 comes with the line, counted from 1.
+-- The configuration text, document 01: lines as in `Line`; "At most 16 writers, 64 fields in all, ids distinct; else 16, as is a last
+-- line without newline." The number 16 comes with the line, counted from 1.
 use mathlib.Core.Bool.{Bool, false, cond, not, _&&_}
 use mathlib.Core.List.{List, [], _∷_}
 use Prim.Native.Nat.{ℕ, _+_}
 use lib.Dec.{eqb, leb, ltb}
 use lib.ListN.{take, set}
-use Rattle.wire.specs.Numbers.{MOST_FIELDS, MOST_WRITERS}
+use Rattle.wire.specs.Constants.{MOST_FIELDS, MOST_WRITERS}
 use Rattle.text.specs.Words.{contains}
 use Rattle.config_text.specs.Line.{Says, writer, field, bad, newline, saysOf}
 use Rattle.config.specs.declared.Config.{Config}
@@ -35,7 +35,8 @@ lineSays (unended l) = bad
 abbrev pub isNew : List ℕ → ℕ → ℕ → Bool
 isNew ids n id = cond (leb MOST_WRITERS n) false (not (contains id (take n ids)))
 
--- whether a line may come after so many writers, with these ids, and so many fields: a field needs a writer above it, and is at most the 64th
+-- whether a line may come after so many writers, with these ids, and so many fields: a field needs a writer above it, and is at most the
+-- 64th
 abbrev pub permits : List ℕ → ℕ → ℕ → Says → Bool
 permits ids writers fields (writer id size) = isNew ids writers id
 permits ids writers fields (field t) = not (eqb writers 0) && ltb fields MOST_FIELDS

@@ -1,5 +1,6 @@
--- A line of the configuration text, document 01: "Tab-parted lines, each ended by a newline, decimals without leading zeros. A line begins with one of the
--- fixed words: `writer`, id (0 to 65,535), size (`-` or 1 to 65,535); `field`, a fixed type's number, for the writer above."
+-- A line of the configuration text, document 01: "Tab-parted lines, each ended by a newline, decimals without leading zeros. A line
+-- begins with one of the fixed words: `writer`, id (0 to 65,535), size (`-` or 1 to 65,535); `field`, a fixed type's number, for the
+-- writer above."
 use mathlib.Core.Bool.{Bool, false, cond}
 use mathlib.Core.List.{List, [], _∷_}
 use mathlib.Core.Option.{Option, none, some}

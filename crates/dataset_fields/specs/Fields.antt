@@ -4,7 +4,7 @@ use mathlib.Core.Bool.{Bool, false, cond, not, _&&_, true}
 use mathlib.Core.List.{List, [], _∷_, _++_}
 use lib.Dec.{leb, ltb, eqb}
 use lib.ListN.{length, getD, take, drop}
-use Rattle.wire.specs.Numbers.{CUT_SHORT, DISAGREE, LEFT_OVER, OVER_LIMIT}
+use Rattle.wire.specs.Constants.{CUT_SHORT, DISAGREE, LEFT_OVER, OVER_LIMIT}
 use Rattle.wire.specs.Answer.{Answer, got, refused, Reader, item, here, whenOn, pure, andThen, _>>=_, _>>_}
 use Rattle.value.specs.Value.{variantAt, dataValueAt, rawAt, Measure}
 use Rattle.value.specs.Head.{describedAt}

@@ -12,11 +12,11 @@ use value::pass_element;
 use value::pass_variants;
 use wire::Item16;
 use wire::Reached;
+use wire::constants::CUT_SHORT;
+use wire::constants::DISAGREE;
+use wire::constants::LEFT_OVER;
+use wire::constants::OVER_LIMIT;
 use wire::has;
-use wire::numbers::CUT_SHORT;
-use wire::numbers::DISAGREE;
-use wire::numbers::LEFT_OVER;
-use wire::numbers::OVER_LIMIT;
 use wire::part::part;
 use wire_writer::writing::put_run;
 use wire_writer::writing::put16;
@@ -104,7 +104,9 @@ fn index(s: &[u8], delta: bool, k: usize, at: usize) -> IndexRead
 }
 
 fn located(index: usize, kind: u8, shape: Shape, offset: usize, end: usize) -> FieldRead
-    ensures { λ r. ⌜ answerField r ≡ got (record { index = index; kind = kind; shape = shape; offset = offset; length = end - offset }) end ⌝ }
+    ensures { λ r.
+        let field = record { index = index; kind = kind; shape = shape; offset = offset; length = end - offset } in
+        ⌜ answerField r ≡ got field end ⌝ }
 {
     FieldRead::Is(
         Field {
@@ -120,7 +122,9 @@ fn located(index: usize, kind: u8, shape: Shape, offset: usize, end: usize) -> F
 
 // A field by its index, its value's offset and what measuring the value answered.
 fn measured(index: usize, offset: usize, m: Measured) -> FieldRead
-    ensures { λ r. ⌜ answerField r ≡ andThen (answerMeasured m) (λ x end. got (record { index = index; kind = x .kind; shape = x .shape; offset = offset; length = end - offset }) end) ⌝ }
+    ensures { λ r.
+        ⌜ answerField r ≡ andThen (answerMeasured m)
+        (λ x end. got (record { index = index; kind = x .kind; shape = x .shape; offset = offset; length = end - offset }) end) ⌝ }
 {
     match m {
         Measured::Scalar(kind, end) => located(index, kind, Shape::Scalar, offset, end),
@@ -176,8 +180,8 @@ fn read_raw(s: &[u8], types: &[u8], k: usize, at: usize) -> FieldRead
     measured(k, at, measure_raw(s, at, type_of(types, k)))
 }
 
-// Field k, which starts at a position; the two common kinds are read in line. Where `last` says so, a Variant without an index is taken as one that
-// is accepted and ends at `end`, and is not passed over again.
+// Field k, which starts at a position; the two common kinds are read in line. Where `last` says so, a Variant without an index is taken
+// as one that is accepted and ends at `end`, and is not passed over again.
 pub fn field_in_line(
     s: &[u8],
     encoding: Encoding,
@@ -284,7 +288,8 @@ fn pass_raw(s: &[u8], types: &[u8], count: usize, at: usize) -> Reached
     Reached::To(p)
 }
 
-// All fields from a cursor before the first, each encoding in a loop of its own. It has one caller, so that the loops are put in line there.
+// All fields from a cursor before the first, each encoding in a loop of its own. It has one caller, so that the loops are put in line
+// there.
 pub fn pass_fields(s: &[u8], c: Cursor, types: &[u8]) -> Reached
     ensures { λ r. ⌜ answerReached r ≡ fieldsAt (c .delta) (c .encoding) (now (types .entry)) (c .count) 0 (now (s .entry)) (c .at) ⌝ }
 {
@@ -359,7 +364,9 @@ fn judge_first(
     count: usize,
 ) -> u8
     requires { ⌜ count ≤ length (now lengths) ⌝ }
-    ensures { λ r. ⌜ r ≡ fieldsNumber encoding (now (types .entry)) 0 (take count (valuesOf (now (lengths .entry)) (now (values .entry)))) ⌝ }
+    ensures { λ r.
+        let fields = valuesOf (now (lengths .entry)) (now (values .entry)) in
+        ⌜ r ≡ fieldsNumber encoding (now (types .entry)) 0 (take count fields) ⌝ }
 {
     let mut at = 0;
     let mut k = 0;
@@ -386,7 +393,9 @@ fn judge_first(
 
 // The same of the fields that reading reaches.
 pub fn judge_fields(values: &[u8], lengths: &[usize], encoding: Encoding, types: &[u8]) -> u8
-    ensures { λ r. ⌜ r ≡ fieldsNumber encoding (now (types .entry)) 0 (reached (isRaw encoding) (now (types .entry)) (valuesOf (now (lengths .entry)) (now (values .entry)))) ⌝ }
+    ensures { λ r.
+        let fields = valuesOf (now (lengths .entry)) (now (values .entry)) in
+        ⌜ r ≡ fieldsNumber encoding (now (types .entry)) 0 (reached (isRaw encoding) (now (types .entry)) fields) ⌝ }
 {
     let count = reached_count(is_raw(encoding), types.len(), lengths.len());
     judge_first(values, lengths, encoding, types, count)
@@ -410,7 +419,9 @@ pub fn put_delta(
     lengths: &[usize],
     indices: &[u16],
 ) -> usize
-    ensures { λ r. ⌜ Puts (fieldsBytes true (now (indices .entry)) (valuesOf (now (lengths .entry)) (now (values .entry)))) (now (out .entry)) at (now (out .exit)) r ⌝ }
+    ensures { λ r.
+        let fields = valuesOf (now (lengths .entry)) (now (values .entry)) in
+        ⌜ Puts (fieldsBytes true (now (indices .entry)) fields) (now (out .entry)) at (now (out .exit)) r ⌝ }
 {
     let mut p = at;
     let mut start = 0;

@@ -2,7 +2,7 @@
 use Prim.Native.Nat.{ℕ, _/_, _%_, _+_, _*_}
 use mathlib.Core.Bool.{Bool, true, false, cond, not, _&&_}
 use lib.Dec.{leb, ltb, eqb}
-use Rattle.wire.specs.Numbers.{NOT_PERMITTED, NOT_TAKEN}
+use Rattle.wire.specs.Constants.{NOT_PERMITTED, NOT_TAKEN}
 use Rattle.wire.specs.Answer.{Answer, got, refused, Reader, ruled, andThen, item, bit}
 use Rattle.dataset_header.specs.declared.flags.Encoding.{Encoding}
 use Rattle.dataset_header.specs.declared.flags.Kind.{Kind}

@@ -2,9 +2,9 @@
 use crate::header::Header;
 use wire::FlagByte;
 use wire::Item8;
-use wire::numbers::CUT_SHORT;
-use wire::numbers::NOT_PERMITTED;
-use wire::numbers::NOT_TAKEN;
+use wire::constants::CUT_SHORT;
+use wire::constants::NOT_PERMITTED;
+use wire::constants::NOT_TAKEN;
 use wire_writer::writing::flag;
 use wire_writer::writing::is_on_i64;
 use wire_writer::writing::is_on16;

@@ -4,7 +4,7 @@ use mathlib.Core.Bool.{Bool, false, cond}
 use mathlib.Core.List.{List, []}
 use lib.Dec.{leb, eqb}
 use lib.ListN.{length, take, drop}
-use Rattle.wire.specs.Numbers.{NOT_CONFIGURED, OVER_LIMIT}
+use Rattle.wire.specs.Constants.{NOT_CONFIGURED, OVER_LIMIT}
 use Rattle.wire.specs.Answer.{Answer, got, refused, Reader, item, andThen}
 use Rattle.dataset_header.specs.declared.flags.Kind.{Kind}
 use Rattle.dataset_header.specs.declared.header.Header.{Header}

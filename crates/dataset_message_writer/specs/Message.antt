@@ -6,7 +6,7 @@ use mathlib.Core.Bool.{Bool, true, false, cond, not, _&&_, _||_}
 use mathlib.Core.List.{List, [], _++_}
 use lib.Dec.{eqb, leb}
 use lib.ListN.{length}
-use Rattle.wire.specs.Numbers.{DISAGREE, NOT_CONFIGURED}
+use Rattle.wire.specs.Constants.{DISAGREE, NOT_CONFIGURED}
 use Rattle.wire.specs.Number.{leBytes}
 use Rattle.dataset_header.specs.Flags.{isDelta, isRaw, kindRule}
 use Rattle.wire_writer.specs.Writing.{orElse, picosecondsRefusal, numberFor, writtenBy, bufferBy}

@@ -5,7 +5,7 @@ use mathlib.Core.Bool.{Bool}
 use mathlib.Core.List.{List, _++_}
 use lib.Dec.{leb}
 use lib.ListN.{length, take, drop}
-use Rattle.wire.specs.Numbers.{DISAGREE}
+use Rattle.wire.specs.Constants.{DISAGREE}
 use Rattle.wire.specs.Answer.{Answer, got, refused}
 use Rattle.wire_writer.specs.Writing.{numberFor, writtenBy, bufferBy}
 use Rattle.wire_writer.specs.declared.writing.Written.{Written}

@@ -33,7 +33,8 @@ abbrev pub classHigh : ClassId → ℕ
 classHigh ClassId.Absent = 0
 classHigh (ClassId.Is v) = v .high
 
--- "group header: 0 absent, else 16, and 1 with WriterGroupId, 2 with GroupVersion, 4 with NetworkMessageNumber, 8 with SequenceNumber, added up"
+-- "group header: 0 absent, else 16, and 1 with WriterGroupId, 2 with GroupVersion, 4 with NetworkMessageNumber, 8 with SequenceNumber,
+-- added up"
 abbrev pub groupItems : GroupHeader → ℕ
 groupItems GroupHeader.Absent = 0
 groupItems (GroupHeader.Is g) = 16 + has16 (g .«writer_group») + 2 * has32 (g .version) + 4 * has16 (g .number) + 8 * has16 (g .sequence)

@@ -29,8 +29,8 @@ shapeText Shape.Scalar = dash
 shapeText Shape.NullArray = 45 ∷ 49 ∷ []
 shapeText (Shape.Array n) = decimalText n
 
--- what putting a part into a buffer did: its text t, of at most `most` bytes, stands from position at on, every other byte is as it was, and next
--- is the position after it
+-- what putting a part into a buffer did: its text t, of at most `most` bytes, stands from position at on, every other byte is as it was,
+-- and next is the position after it
 pub record Put (most : ℕ) (t entry : List ℕ) (at : ℕ) (exit : List ℕ) (next : ℕ) : Type 0 where
   pub stored : exit ≡ sets entry at t
   pub after : next ≡ at + length t

@@ -5,7 +5,7 @@ use mathlib.Core.List.{List, [], _∷_, _++_}
 use lib.Dec.{ltb, eqb}
 use lib.ListN.{length, take, drop}
 use lib.Seq.{sets}
-use Rattle.wire.specs.Numbers.{MOST_TEXT_ID, NO_ROOM, OVER_LIMIT}
+use Rattle.wire.specs.Constants.{MOST_TEXT_ID, NO_ROOM, OVER_LIMIT}
 use Rattle.text.specs.Decimal.{decimalText}
 use Rattle.text.specs.Hex.{hexText}
 use Rattle.publisher_id.specs.declared.publisher.PublisherId.{PublisherId}
@@ -82,8 +82,8 @@ valueText f = tabbed (shapeText (f .shape)) ++ (tabbed (decimalText (f .offset))
 abbrev pub fieldText : ℕ → Field → List ℕ
 fieldText m f = fieldWord ++ (tabbed (decimalText m) ++ (tabbed (decimalText (f .index)) ++ (tabbed (decimalText (f .kind)) ++ valueText f)))
 
--- a line of the listing of datagram d. "A refused message ends its `set` line after the length with `bad`, number, place, one not valid with
--- `invalid`"
+-- a line of the listing of datagram d. "A refused message ends its `set` line after the length with `bad`, number, place, one not valid
+-- with `invalid`"
 unfoldable pub lineText : List ℕ → Line → List ℕ
 lineText d (Line.Net n id end messages) = netText d n id end messages
 lineText d (Line.Set p k e q) = placeText p ++ (headText k e ++ (tabbed (optionalText q) ++ newline))

@@ -5,7 +5,7 @@ use mathlib.Core.List.{List, [], _∷_, _++_}
 use lib.Dec.{ltb}
 use lib.ListN.{length}
 use lib.Seq.{sets}
-use Rattle.wire.specs.Numbers.{NO_ROOM}
+use Rattle.wire.specs.Constants.{NO_ROOM}
 use Rattle.listing.specs.Line.{tooLong, lineText}
 use Rattle.walk.specs.declared.entry.Line.{Line}
 use Rattle.wire_writer.specs.declared.writing.Written.{Written}

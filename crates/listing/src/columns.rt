@@ -10,7 +10,7 @@ ghost use lib.ListN.{length, set};
 ghost use Rattle.text.specs.Decimal.{decimalText};
 ghost use Rattle.text.specs.Hex.{hexText};
 ghost use Rattle.listing.specs.Columns.{tabbed, newline, optionalText, shapeText, Put};
-ghost use Rattle.wire.specs.Numbers.{MOST_TEXT_ID};
+ghost use Rattle.wire.specs.Constants.{MOST_TEXT_ID};
 
 // A line's first word.
 pub(crate) fn first(out: &mut [u8], text: &[u8]) -> usize

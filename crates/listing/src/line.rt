@@ -12,9 +12,9 @@ use dataset_header::flags::Kind;
 use publisher_id::publisher::PublisherId;
 use walk::entry::Line;
 use walk::entry::SetPlace;
-use wire::numbers::MOST_TEXT_ID;
-use wire::numbers::NO_ROOM;
-use wire::numbers::OVER_LIMIT;
+use wire::constants::MOST_TEXT_ID;
+use wire::constants::NO_ROOM;
+use wire::constants::OVER_LIMIT;
 use wire::optional::Optional16;
 use wire::part::part;
 ghost use mathlib.Core.Path.{_≡_};
@@ -136,7 +136,9 @@ fn encoding_word(out: &mut [u8], at: usize, encoding: Encoding) -> usize
 
 fn set(out: &mut [u8], place: SetPlace, kind: Kind, encoding: Encoding, q: Optional16) -> usize
     requires { ⌜ 256 ≤ length (now out) ⌝ }
-    ensures { λ r. ⌜ Put 256 (placeText place ++ (headText kind encoding ++ (tabbed (optionalText q) ++ newline))) (now (out .entry)) 0 (now (out .exit)) r ⌝ }
+    ensures { λ r.
+        let text = placeText place ++ (headText kind encoding ++ (tabbed (optionalText q) ++ newline)) in
+        ⌜ Put 256 text (now (out .entry)) 0 (now (out .exit)) r ⌝ }
 {
     let p = set_place(out, place);
     let p = kind_word(out, p, kind);
@@ -219,7 +221,10 @@ fn put(out: &mut [u8], s: &[u8], line: Line) -> usize
 
 // Puts a line of a datagram's listing at the start of the buffer, which has to have 256 bytes; no line is longer.
 pub fn put_line(out: &mut [u8], s: &[u8], line: Line) -> LinePut
-    ensures { λ r. ⌜ (r ≡ linePut (now (out .entry)) (now (s .entry)) line) × (now (out .exit) ≡ lineAfter (now (out .entry)) (now (s .entry)) line) × (putLength r ≤ 256) ⌝ }
+    ensures { λ r.
+        ⌜ (r ≡ linePut (now (out .entry)) (now (s .entry)) line)
+        × (now (out .exit) ≡ lineAfter (now (out .entry)) (now (s .entry)) line)
+        × (putLength r ≤ 256) ⌝ }
 {
     if too_long(line) {
         return LinePut::Refused(OVER_LIMIT);

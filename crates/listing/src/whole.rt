@@ -6,7 +6,7 @@ use walk::lines::LineCursor;
 use walk::lines::LineStep;
 use walk::lines::next_line;
 use walk::lines::start;
-use wire::numbers::NO_ROOM;
+use wire::constants::NO_ROOM;
 use wire::part::part;
 use wire_writer::store::put_run;
 use wire_writer::writing::Written;
@@ -20,7 +20,9 @@ ghost use Rattle.listing.specs.Text.{lineOut, linesText, lengthIn, textW
 // Puts a line's text at the start of a buffer of 256 bytes, and answers how long it is.
 fn line_in(text: &mut [u8], s: &[u8], line: Line) -> usize
     requires { ⌜ length (now text) ≡ 256 ⌝ }
-    ensures { λ r. ⌜ (r ≡ length (lineOut (now (s .entry)) line)) × (take r (now (text .exit)) ≡ lineOut (now (s .entry)) line) × (r ≤ 256) ⌝ }
+    ensures { λ r.
+        let bytes = lineOut (now (s .entry)) line in
+        ⌜ (r ≡ length bytes) × (take r (now (text .exit)) ≡ bytes) × (r ≤ 256) ⌝ }
 {
     match put_line(text, s, line) {
         LinePut::Is(n) => n,
@@ -38,7 +40,9 @@ fn line_length(s: &[u8], line: Line) -> usize
 // Stores a line's text from a position on.
 fn store_line(out: &mut [u8], at: usize, s: &[u8], line: Line) -> usize
     requires { ⌜ at + length (lineOut (now s) line) ≤ length (now out) ⌝ }
-    ensures { λ r. ⌜ (now (out .exit) ≡ sets (now (out .entry)) at (lineOut (now (s .entry)) line)) × (r ≡ at + length (lineOut (now (s .entry)) line)) ⌝ }
+    ensures { λ r.
+        let bytes = lineOut (now (s .entry)) line in
+        ⌜ (now (out .exit) ≡ sets (now (out .entry)) at bytes) × (r ≡ at + length bytes) ⌝ }
 {
     let mut text = [0u8; 256];
     let n = line_in(&mut text, s, line);
@@ -61,7 +65,9 @@ fn text_length<'a>(
     starts: &'a [u8],
     types: &'a [u8],
 ) -> TextLength
-    ensures { λ r. ⌜ r ≡ lengthIn room (linesText (now (s .entry)) (linesFrom (writers (now (ids .entry)) (now (sizes .entry)) (now (starts .entry)) (now (types .entry))) (now (s .entry)) first)) ⌝ }
+    ensures { λ r.
+        let w = writers (now (ids .entry)) (now (sizes .entry)) (now (starts .entry)) (now (types .entry)) in
+        ⌜ r ≡ lengthIn room (linesText (now (s .entry)) (linesFrom w (now (s .entry)) first)) ⌝ }
 {
     let mut cursor = first;
     let mut total = 0;
@@ -91,8 +97,11 @@ fn store_text<'a>(
     starts: &'a [u8],
     types: &'a [u8],
 )
-    requires { ⌜ length (linesText (now s) (linesFrom (writers (now ids) (now sizes) (now starts) (now types)) (now s) first)) ≤ length (now out) ⌝ }
-    ensures { λ _. ⌜ now (out .exit) ≡ sets (now (out .entry)) 0 (linesText (now (s .entry)) (linesFrom (writers (now (ids .entry)) (now (sizes .entry)) (now (starts .entry)) (now (types .entry))) (now (s .entry)) first)) ⌝ }
+    requires { let w = writers (now ids) (now sizes) (now starts) (now types) in
+        ⌜ length (linesText (now s) (linesFrom w (now s) first)) ≤ length (now out) ⌝ }
+    ensures { λ _.
+        let w = writers (now (ids .entry)) (now (sizes .entry)) (now (starts .entry)) (now (types .entry)) in
+        ⌜ now (out .exit) ≡ sets (now (out .entry)) 0 (linesText (now (s .entry)) (linesFrom w (now (s .entry)) first)) ⌝ }
 {
     let mut cursor = first;
     let mut at = 0;
@@ -109,8 +118,8 @@ fn store_text<'a>(
     }
 }
 
-// Puts the whole listing of a datagram at the start of a buffer, under a configuration whose reading gave a number and a place; 11 where it does
-// not fit.
+// Puts the whole listing of a datagram at the start of a buffer, under a configuration whose reading gave a number and a place; 11 where
+// it does not fit.
 pub fn put_listing<'a>(
     out: &mut [u8],
     s: &[u8],
@@ -121,7 +130,10 @@ pub fn put_listing<'a>(
     starts: &'a [u8],
     types: &'a [u8],
 ) -> Written
-    ensures { λ r. ⌜ (r ≡ textWritten (now (out .entry)) (linesText (now (s .entry)) (listingOf number place (writers (now (ids .entry)) (now (sizes .entry)) (now (starts .entry)) (now (types .entry))) (now (s .entry))))) × (now (out .exit) ≡ textAfter (now (out .entry)) (linesText (now (s .entry)) (listingOf number place (writers (now (ids .entry)) (now (sizes .entry)) (now (starts .entry)) (now (types .entry))) (now (s .entry))))) ⌝ }
+    ensures { λ r.
+        let w = writers (now (ids .entry)) (now (sizes .entry)) (now (starts .entry)) (now (types .entry)) in
+        let text = linesText (now (s .entry)) (listingOf number place w (now (s .entry))) in
+        ⌜ (r ≡ textWritten (now (out .entry)) text) × (now (out .exit) ≡ textAfter (now (out .entry)) text) ⌝ }
 {
     let first = start(s, number, place, sizes);
     match text_length(out.len(), s, first, ids, sizes, starts, types) {

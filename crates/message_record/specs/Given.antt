@@ -1,5 +1,5 @@
--- The records that are read to be written: a message's head and an envelope (include/uadp.h). "Of a number that stands for a narrower one (a byte,
--- 2 or 4 bytes) the lowest bytes count."
+-- The records that are read to be written: a message's head and an envelope (include/uadp.h). "Of a number that stands for a narrower one
+-- (a byte, 2 or 4 bytes) the lowest bytes count."
 use Prim.Native.Nat.{ℕ, _/_, _%_}
 use mathlib.Core.Bool.{Bool, cond, not}
 use mathlib.Core.List.{List}
@@ -42,8 +42,8 @@ among n items = eqb (items / n % 2) 1
 abbrev pub kindIn : ℕ → Kind
 kindIn n = cond (eqb n 1) Kind.Delta (cond (eqb n 2) Kind.Event (cond (eqb n 3) Kind.KeepAlive Kind.Key))
 
--- the header of a head record: "the numbers 1 to 9 are read"; "items present: 1 sequence number, 2 timestamp, 4 picoseconds, 8 status, 16 major
--- version, 32 minor version, added up"
+-- the header of a head record: "the numbers 1 to 9 are read"; "items present: 1 sequence number, 2 timestamp, 4 picoseconds, 8 status, 16
+-- major version, 32 minor version, added up"
 abbrev pub headerIn : List ℕ → Header
 headerIn s =
     record {
@@ -61,7 +61,8 @@ headerIn s =
 abbrev pub classIn : ℕ → ℕ → ℕ → ClassId
 classIn present low high = cond (eqb present 0) ClassId.Absent (ClassId.Is (record { low = low; high = high }))
 
--- "group header: 0 absent, else 16, and 1 with WriterGroupId, 2 with GroupVersion, 4 with NetworkMessageNumber, 8 with SequenceNumber, added up"
+-- "group header: 0 absent, else 16, and 1 with WriterGroupId, 2 with GroupVersion, 4 with NetworkMessageNumber, 8 with SequenceNumber,
+-- added up"
 abbrev pub groupIn : List ℕ → ℕ → GroupHeader
 groupIn s items =
     cond (eqb items 0) GroupHeader.Absent

@@ -2,7 +2,7 @@
 use Prim.Native.Nat.{ℕ, _/_, _%_, _+_, _*_}
 use mathlib.Core.Bool.{Bool, cond, _&&_}
 use lib.Dec.{leb, eqb}
-use Rattle.wire.specs.Numbers.{BAD_VERSION, NOT_PERMITTED, NOT_TAKEN}
+use Rattle.wire.specs.Constants.{BAD_VERSION, NOT_PERMITTED, NOT_TAKEN}
 use Rattle.wire.specs.Answer.{Answer, got, refused, Reader, ruled, whenOn, pure, _>>=_, bit}
 use Rattle.network_header.specs.declared.flags.Flags.{Flags}
 use Rattle.network_header.specs.declared.flags.FlagsRead.{FlagsRead}

@@ -2,7 +2,7 @@
 use Prim.Native.Nat.{ℕ, _%_, _+_, _*_}
 use mathlib.Core.Bool.{Bool, cond, true, false}
 use lib.Dec.{leb, eqb}
-use Rattle.wire.specs.Numbers.{NOT_PERMITTED}
+use Rattle.wire.specs.Constants.{NOT_PERMITTED}
 use Rattle.wire.specs.Answer.{Answer, got, refused, Reader, ruled, whenOn, pure, _>>=_, bit}
 use Rattle.wire.specs.Optional.{optional16, optional32}
 use Rattle.wire.specs.declared.optional.Optional16.{Optional16}

@@ -2,7 +2,7 @@
 use Prim.Native.Nat.{ℕ, _*_}
 use mathlib.Core.Bool.{Bool, cond, true, false}
 use lib.Dec.{eqb, leb}
-use Rattle.wire.specs.Numbers.{DISAGREE, MOST_WRITERS}
+use Rattle.wire.specs.Constants.{DISAGREE, MOST_WRITERS}
 use Rattle.wire.specs.Items.{guid, guidBytes}
 use Rattle.wire.specs.Answer.{Answer, got, refused, Reader, item, ruled, run, whenOn, pure, _>>=_, _>>_}
 use Rattle.network_header.specs.declared.header.ClassId.{ClassId}

@@ -4,7 +4,7 @@ use mathlib.Core.Bool.{Bool, true, _&&_}
 use mathlib.Core.List.{List, [], _∷_}
 use lib.Dec.{eqb}
 use lib.ListN.{length, take}
-use Rattle.wire.specs.Numbers.{MOST_WRITERS}
+use Rattle.wire.specs.Constants.{MOST_WRITERS}
 use Rattle.wire.specs.Number.{le}
 
 -- whether bytes are these numbers, 2 bytes each

@@ -1,8 +1,8 @@
 // The group header.
 use wire::Item8;
 use wire::Item16;
-use wire::numbers::CUT_SHORT;
-use wire::numbers::NOT_PERMITTED;
+use wire::constants::CUT_SHORT;
+use wire::constants::NOT_PERMITTED;
 use wire::optional::Optional16;
 use wire::optional::Optional16Read;
 use wire::optional::Optional32;

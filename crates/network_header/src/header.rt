@@ -5,8 +5,8 @@ use wire::Item8;
 use wire::Item16;
 use wire::ItemGuid;
 use wire::Run;
-use wire::numbers::CUT_SHORT;
-use wire::numbers::DISAGREE;
+use wire::constants::CUT_SHORT;
+use wire::constants::DISAGREE;
 use wire_writer::writing::must_equal;
 use wire_writer::writing::must_hold;
 use wire_writer::writing::not_used;
@@ -21,7 +21,7 @@ ghost use Prim.Native.Nat.{_+_, _≤_};
 ghost use lib.Dec.{eqb, leb};
 ghost use lib.ListN.{length};
 ghost use Rattle.wire_writer.specs.Writing.{Puts};
-ghost use Rattle.wire.specs.Numbers.{DISAGREE};
+ghost use Rattle.wire.specs.Constants.{DISAGREE};
 
 // A DataSetClassId.
 pub enum ClassId {

@@ -1,12 +1,12 @@
 // Lists of numbers as bytes, 2 bytes each.
 use wire::Item16;
-use wire::numbers::MOST_WRITERS;
+use wire::constants::MOST_WRITERS;
 ghost use mathlib.Core.Path.{_≡_};
 ghost use Prim.Native.Nat.{_+_, _*_, _≤_};
 ghost use lib.ListN.{length, take};
 ghost use Rattle.wire.specs.Number.{le};
 ghost use Rattle.network_header.specs.Numbers.{agree, sameNumbers, configuredSizes};
-ghost use Rattle.wire.specs.Numbers.{MOST_WRITERS};
+ghost use Rattle.wire.specs.Constants.{MOST_WRITERS};
 
 // The number of the two bytes at a position.
 pub fn number_at(bytes: &[u8], at: usize) -> usize
@@ -49,7 +49,12 @@ pub fn same_numbers(bytes: &[u8], numbers: &[u16]) -> bool
 
 // How many of the configured writers count.
 pub fn writers(sizes: &[u16]) -> usize
-    ensures { λ r. ⌜ (r ≡ length (configuredSizes (now (sizes .entry)))) × (r ≤ MOST_WRITERS) × (r ≤ length (now (sizes .entry))) × (take r (now (sizes .entry)) ≡ configuredSizes (now (sizes .entry))) ⌝ }
+    ensures { λ r.
+        let counted = configuredSizes (now (sizes .entry)) in
+        ⌜ (r ≡ length counted)
+        × (r ≤ MOST_WRITERS)
+        × (r ≤ length (now (sizes .entry)))
+        × (take r (now (sizes .entry)) ≡ counted) ⌝ }
 {
     if sizes.len() <= MOST_WRITERS {
         return sizes.len();

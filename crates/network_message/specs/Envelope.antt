@@ -4,7 +4,7 @@ use mathlib.Core.Bool.{Bool, cond}
 use mathlib.Core.List.{List, []}
 use lib.ListN.{length, take, drop}
 use lib.Dec.{ltb}
-use Rattle.wire.specs.Numbers.{MOST_DATAGRAM, OVER_LIMIT}
+use Rattle.wire.specs.Constants.{MOST_DATAGRAM, OVER_LIMIT}
 use Rattle.wire.specs.Answer.{Answer, got, refused, Reader, here, pure, andThen, _>>=_}
 use Rattle.wire.specs.Optional.{optionalI64, picosecondsAt}
 use Rattle.network_header.specs.declared.flags.Flags.{Flags}

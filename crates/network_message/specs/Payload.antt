@@ -4,7 +4,7 @@ use mathlib.Core.Bool.{Bool, true, false, cond, _&&_}
 use mathlib.Core.List.{List, [], _∷_}
 use lib.ListN.{length, getD}
 use lib.Dec.{leb, ltb, eqb}
-use Rattle.wire.specs.Numbers.{CUT_SHORT, DISAGREE, NOT_CONFIGURED, OVER_LIMIT}
+use Rattle.wire.specs.Constants.{CUT_SHORT, DISAGREE, NOT_CONFIGURED, OVER_LIMIT}
 use Rattle.wire.specs.Number.{le}
 use Rattle.wire.specs.Answer.{Answer, got, refused, Reader, item, run, andThen}
 use Rattle.network_header.specs.declared.header.PayloadHeader.{PayloadHeader}

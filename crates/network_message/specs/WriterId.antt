@@ -4,7 +4,7 @@ use mathlib.Core.Bool.{cond}
 use mathlib.Core.List.{List}
 use lib.Dec.{leb}
 use lib.ListN.{length, take, getD}
-use Rattle.wire.specs.Numbers.{MOST_WRITERS}
+use Rattle.wire.specs.Constants.{MOST_WRITERS}
 use Rattle.wire.specs.Answer.{Answer, got, refused, item}
 use Rattle.wire.specs.declared.optional.Optional16.{Optional16}
 use Rattle.network_header.specs.declared.header.PayloadHeader.{PayloadHeader}

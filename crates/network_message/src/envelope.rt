@@ -26,8 +26,8 @@ use network_header::numbers::writers;
 use publisher_id::publisher::PublisherId;
 use publisher_id::publisher::PublisherRead;
 use publisher_id::publisher::read_publisher;
-use wire::numbers::MOST_DATAGRAM;
-use wire::numbers::OVER_LIMIT;
+use wire::constants::MOST_DATAGRAM;
+use wire::constants::OVER_LIMIT;
 use wire::optional::Optional16;
 use wire::optional::Optional16Read;
 use wire::optional::OptionalI64;
@@ -208,7 +208,9 @@ fn is_single(header: PayloadHeader) -> bool
 
 // A NetworkMessage whose payload is the rest.
 fn with_rest(s: &[u8], envelope: Envelope, places: Places) -> NetworkMessageRead
-    ensures { λ r. ⌜ answerNetworkMessage r ≡ andThen (restAt (now (s .entry)) (places .payload)) (λ p next. got (record { envelope = envelope; places = places; payload = p }) next) ⌝ }
+    ensures { λ r.
+        ⌜ answerNetworkMessage r ≡ andThen (restAt (now (s .entry)) (places .payload))
+        (λ p next. got (record { envelope = envelope; places = places; payload = p }) next) ⌝ }
 {
     match rest(s, places.payload) {
         PayloadRead::Refused(n, place) => NetworkMessageRead::Refused(n, place),
@@ -218,7 +220,10 @@ fn with_rest(s: &[u8], envelope: Envelope, places: Places) -> NetworkMessageRead
 
 // A NetworkMessage after its header. A single message, the common one, has a way of its own, so that its payload is not copied in pieces.
 fn with_payload(s: &[u8], envelope: Envelope, places: Places, sizes: &[u16]) -> NetworkMessageRead
-    ensures { λ r. ⌜ answerNetworkMessage r ≡ andThen (payloadAt (envelope .chunk) (envelope .«payload_header») (now (sizes .entry)) (now (s .entry)) (places .payload)) (λ p next. got (record { envelope = envelope; places = places; payload = p }) next) ⌝ }
+    ensures { λ r.
+        let payload = payloadAt (envelope .chunk) (envelope .«payload_header») (now (sizes .entry)) (now (s .entry)) (places .payload) in
+        ⌜ answerNetworkMessage r ≡ andThen payload
+        (λ p next. got (record { envelope = envelope; places = places; payload = p }) next) ⌝ }
 {
     let header = envelope.payload_header;
     if is_single(header) {

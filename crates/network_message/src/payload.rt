@@ -3,10 +3,10 @@ use network_header::header::PayloadHeader;
 use network_header::numbers::writers;
 use wire::Item16;
 use wire::Run;
-use wire::numbers::CUT_SHORT;
-use wire::numbers::DISAGREE;
-use wire::numbers::NOT_CONFIGURED;
-use wire::numbers::OVER_LIMIT;
+use wire::constants::CUT_SHORT;
+use wire::constants::DISAGREE;
+use wire::constants::NOT_CONFIGURED;
+use wire::constants::OVER_LIMIT;
 ghost use mathlib.Core.Path.{_≡_};
 ghost use Prim.Native.Nat.{_+_, _*_, _≤_};
 ghost use lib.ListN.{length, take, getD};
@@ -14,7 +14,7 @@ ghost use Rattle.wire.specs.Number.{le};
 ghost use Rattle.wire.specs.Answer.{item};
 ghost use Rattle.network_message.specs.Payload.{total, positive, listed, restAt, listedAt, sizedAt, configuredAt, payloadAt, sizeOf, valueOr0, messageAt, nthAt, stepAt, answerPayload, answerStep, answerMessage};
 ghost use Rattle.network_header.specs.Numbers.{configuredSizes};
-ghost use Rattle.wire.specs.Numbers.{MOST_WRITERS};
+ghost use Rattle.wire.specs.Constants.{MOST_WRITERS};
 
 // Where a message's size stands: it takes the rest, its size is in the list at a position, or it is configured.
 pub enum Sizes {
@@ -55,7 +55,9 @@ fn size_at(s: &[u8], at: usize) -> usize
 // The n sizes from a position.
 fn tally_listed(s: &[u8], at: usize, n: usize) -> Tally
     requires { ⌜ (at + 2 * n ≤ length (now s)) × (n ≤ 255) ⌝ }
-    ensures { λ r. ⌜ (r .total ≡ total (listed n (now (s .entry)) at)) × (r .positive ≡ positive (listed n (now (s .entry)) at)) × (r .total ≤ 65535 * n) ⌝ }
+    ensures { λ r.
+        let sizes = listed n (now (s .entry)) at in
+        ⌜ (r .total ≡ total sizes) × (r .positive ≡ positive sizes) × (r .total ≤ 65535 * n) ⌝ }
 {
     let mut p = at;
     let mut left = n;
@@ -77,7 +79,9 @@ fn tally_listed(s: &[u8], at: usize, n: usize) -> Tally
 // The first n configured sizes.
 fn tally_configured(sizes: &[u16], n: usize) -> Tally
     requires { ⌜ (n ≤ length (now sizes)) × (n ≤ MOST_WRITERS) ⌝ }
-    ensures { λ r. ⌜ (r .total ≡ total (take n (now (sizes .entry)))) × (r .positive ≡ positive (take n (now (sizes .entry)))) × (r .total ≤ 65535 * n) ⌝ }
+    ensures { λ r.
+        let counted = take n (now (sizes .entry)) in
+        ⌜ (r .total ≡ total counted) × (r .positive ≡ positive counted) × (r .total ≤ 65535 * n) ⌝ }
 {
     let mut i = 0;
     let mut sum = 0;

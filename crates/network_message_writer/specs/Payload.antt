@@ -5,7 +5,7 @@ use mathlib.Core.Bool.{Bool, cond}
 use mathlib.Core.List.{List, []}
 use lib.Dec.{leb, eqb}
 use lib.ListN.{length}
-use Rattle.wire.specs.Numbers.{DISAGREE}
+use Rattle.wire.specs.Constants.{DISAGREE}
 use Rattle.wire.specs.Answer.{Answer, got, refused}
 use Rattle.network_header.specs.declared.header.PayloadHeader.{PayloadHeader}
 use Rattle.network_header.specs.Numbers.{configuredSizes, sameNumbers}
@@ -28,7 +28,8 @@ abbrev pub numberIn : {A : Type 0} → Answer A → ℕ
 numberIn (got v next) = 0
 numberIn (refused n place) = n
 
--- what reading refuses: the lengths of several messages by their own rule, and any other payload by reading's own number, of the messages alone
+-- what reading refuses: the lengths of several messages by their own rule, and any other payload by reading's own number, of the messages
+-- alone
 abbrev pub payloadRefusal : Bool → PayloadHeader → List ℕ → List ℕ → List ℕ → ℕ
 payloadRefusal chunk PayloadHeader.Absent sizes lengths messages = numberIn (payloadAt chunk PayloadHeader.Absent sizes messages 0)
 payloadRefusal chunk (PayloadHeader.Ids n) sizes lengths messages =

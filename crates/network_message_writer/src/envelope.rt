@@ -33,9 +33,9 @@ use publisher_id::publisher::publisher_refusal;
 use publisher_id::publisher::publisher_shape;
 use publisher_id::publisher::publisher_size;
 use publisher_id::publisher::put_publisher;
-use wire::numbers::MOST_DATAGRAM;
-use wire::numbers::NO_ROOM;
-use wire::numbers::OVER_LIMIT;
+use wire::constants::MOST_DATAGRAM;
+use wire::constants::NO_ROOM;
+use wire::constants::OVER_LIMIT;
 use wire::optional::OptionalI64;
 use wire::part::part;
 use wire::part::tail;
@@ -56,7 +56,7 @@ ghost use Rattle.network_header.specs.Numbers.{configuredSizes};
 ghost use Rattle.wire_writer.specs.Writing.{Puts, numberFor, writtenBy, bufferBy, answerWritten, optionalI64Bytes};
 ghost use Rattle.network_message_writer.specs.Payload.{payloadRefusal};
 ghost use Rattle.network_message_writer.specs.Envelope.{given, tailBytes, headerBytes, datagramOf, headerRefusal, shapeRefusal, writtenOf, bufferAfter, textOf, idsOf, promotedOf, againOf, rewriteAnswer, rewriteBuffer};
-ghost use Rattle.wire.specs.Numbers.{MOST_DATAGRAM};
+ghost use Rattle.wire.specs.Constants.{MOST_DATAGRAM};
 
 fn timestamp_size(x: OptionalI64) -> usize
     ensures { λ r. ⌜ (r ≡ length (optionalI64Bytes x)) × (r ≤ 8) ⌝ }

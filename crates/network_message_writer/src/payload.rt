@@ -5,7 +5,7 @@ use network_header::numbers::same_numbers;
 use network_header::numbers::writers;
 use network_message::payload::PayloadRead;
 use network_message::payload::read_payload;
-use wire::numbers::DISAGREE;
+use wire::constants::DISAGREE;
 use wire_writer::writing::must_equal;
 use wire_writer::writing::must_hold;
 use wire_writer::writing::not_used;

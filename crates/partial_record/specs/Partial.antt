@@ -4,7 +4,7 @@ use mathlib.Core.Path.{_≡_}
 use mathlib.Core.List.{List, [], _∷_, _++_}
 use lib.Dec.{eqb}
 use lib.ListN.{length, take, drop, replicate}
-use Rattle.wire.specs.Numbers.{MOST_TEXT_ID}
+use Rattle.wire.specs.Constants.{MOST_TEXT_ID}
 use Rattle.wire_writer.specs.Store.{laid}
 use Rattle.publisher_id.specs.PublisherRecord.{codeOf}
 use Rattle.publisher_id.specs.declared.publisher.PublisherId.{PublisherId}

@@ -9,7 +9,7 @@ use reassembly::PartialRecord;
 use records::numbers::number;
 use records::numbers::put_numbers;
 use records::sizes::PARTIAL_SIZE;
-use wire::numbers::MOST_TEXT_ID;
+use wire::constants::MOST_TEXT_ID;
 use wire::part::part;
 use wire_writer::store::put_run;
 ghost use mathlib.Core.Path.{_≡_};

@@ -2,7 +2,7 @@
 use Prim.Native.Nat.{ℕ, _*_}
 use mathlib.Core.List.{[], _∷_}
 use mathlib.Core.Bool.{Bool, cond, _||_}
-use Rattle.wire.specs.Numbers.{BAD_LENGTH}
+use Rattle.wire.specs.Constants.{BAD_LENGTH}
 use Rattle.wire.specs.Answer.{refused, Reader, andThen, _>>_, pure, run, each}
 use Rattle.wire.specs.Items.{lengthItem}
 use Rattle.wire.specs.declared.Length.{Length}

@@ -2,9 +2,9 @@
 use crate::width::packed_width;
 use wire::ItemLength;
 use wire::Reached;
+use wire::constants::BAD_LENGTH;
+use wire::constants::CUT_SHORT;
 use wire::has;
-use wire::numbers::BAD_LENGTH;
-use wire::numbers::CUT_SHORT;
 use wire::read_length;
 ghost use mathlib.Core.Path.{_≡_};
 ghost use Rattle.wire.specs.Answer.{each};

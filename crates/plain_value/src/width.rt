@@ -43,8 +43,8 @@ pub fn width(t: u8) -> usize
     WIDTHS[t as usize] as usize
 }
 
-// The same widths in one number, three bits for each type from 0 to 19, the lowest for type 0: 1, 2, 3, 4, 5 for 1, 2, 4, 8, 16 bytes. It serves
-// measuring, where laying out the array at each look would take longer than the rest.
+// The same widths in one number, three bits for each type from 0 to 19, the lowest for type 0: 1, 2, 3, 4, 5 for 1, 2, 4, 8, 16 bytes. It
+// serves measuring, where laying out the array at each look would take longer than the rest.
 const PACKED: u64 = 0x0600_1608_e46d_2248;
 
 // The width of a fixed type, 0 for any other number.

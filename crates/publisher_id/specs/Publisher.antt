@@ -1,8 +1,8 @@
 -- The PublisherId (document 01, "The envelope").
 use Prim.Native.Nat.{ℕ}
 use mathlib.Core.Bool.{Bool, cond, true, false}
-use lib.Dec.{leb, eqb}
-use Rattle.wire.specs.Numbers.{BAD_LENGTH, DISAGREE, MOST_TEXT_ID, OVER_LIMIT}
+use lib.Dec.{ltb, eqb}
+use Rattle.wire.specs.Constants.{BAD_LENGTH, DISAGREE, MOST_TEXT_ID, OVER_LIMIT}
 use Rattle.wire.specs.Answer.{Answer, got, refused, Reader, item, run, whenOn, pure, andThen, _>>=_}
 use Rattle.wire.specs.Items.{lengthItem}
 use Rattle.wire.specs.declared.Length.{Length}

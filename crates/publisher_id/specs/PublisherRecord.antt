@@ -4,7 +4,7 @@ use mathlib.Core.Bool.{Bool, true, false, _&&_}
 use mathlib.Core.List.{List, [], _∷_}
 use lib.Dec.{leb, eqb}
 use lib.ListN.{take, drop, replicate}
-use Rattle.wire.specs.Numbers.{MOST_TEXT_ID}
+use Rattle.wire.specs.Constants.{MOST_TEXT_ID}
 use Rattle.wire_writer.specs.Store.{laid}
 use Rattle.publisher_id.specs.declared.publisher.PublisherId.{PublisherId}
 use Rattle.publisher_id.specs.declared.publisher_record.PublisherRecord.{PublisherRecord}

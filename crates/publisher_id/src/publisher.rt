@@ -5,10 +5,10 @@ use wire::Item32;
 use wire::Item64;
 use wire::ItemLength;
 use wire::Run;
-use wire::numbers::BAD_LENGTH;
-use wire::numbers::CUT_SHORT;
-use wire::numbers::MOST_TEXT_ID;
-use wire::numbers::OVER_LIMIT;
+use wire::constants::BAD_LENGTH;
+use wire::constants::CUT_SHORT;
+use wire::constants::MOST_TEXT_ID;
+use wire::constants::OVER_LIMIT;
 use wire_writer::writing::must_equal;
 use wire_writer::writing::not_used;
 use wire_writer::writing::put_run;
@@ -25,7 +25,7 @@ ghost use lib.Dec.{ltb};
 ghost use lib.ListN.{length};
 ghost use Rattle.wire.specs.Number.{leBytes};
 ghost use Rattle.wire_writer.specs.Writing.{Puts};
-ghost use Rattle.wire.specs.Numbers.{MOST_TEXT_ID, OVER_LIMIT};
+ghost use Rattle.wire.specs.Constants.{MOST_TEXT_ID, OVER_LIMIT};
 
 // A PublisherId. Of a string, its length: its bytes end where the part ends.
 pub enum PublisherId {

@@ -1,6 +1,6 @@
 // A PublisherId by value with the bytes of a string, for records that outlive the datagram, and its equality.
 use crate::publisher::PublisherId;
-use wire::numbers::MOST_TEXT_ID;
+use wire::constants::MOST_TEXT_ID;
 use wire::part::part;
 use wire_writer::store::put_run;
 ghost use mathlib.Core.Path.{_≡_};

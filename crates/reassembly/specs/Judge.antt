@@ -4,7 +4,7 @@ use mathlib.Core.Bool.{Bool, true, cond, _&&_}
 use mathlib.Core.Path.{_≡_}
 use lib.ListN.{length}
 use lib.Dec.{leb}
-use Rattle.wire.specs.Numbers.{NO_ROOM, OTHER_MESSAGE, UNSOUND}
+use Rattle.wire.specs.Constants.{NO_ROOM, OTHER_MESSAGE, UNSOUND}
 use Rattle.reassembly.specs.Views.{View, has, dataView}
 use Rattle.reassembly.specs.Areas.{markedView}
 use Rattle.reassembly.specs.Record.{Partial, identityOf, sameMessage, sound}

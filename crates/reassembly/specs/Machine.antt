@@ -2,7 +2,7 @@
 use Prim.Native.Nat.{ℕ}
 use mathlib.Core.Bool.{Bool, false, cond}
 use lib.Dec.{leb}
-use Rattle.wire.specs.Numbers.{BYTE_DIFFERS, NO_ROOM, OTHER_MESSAGE}
+use Rattle.wire.specs.Constants.{BYTE_DIFFERS, NO_ROOM, OTHER_MESSAGE}
 use Rattle.reassembly.specs.Views.{View, clash, full, joined, nowhere}
 use Rattle.reassembly.specs.Record.{Identity, sameMessage}
 use Rattle.reassembly.specs.declared.verdict.Verdict.{Verdict}

@@ -3,7 +3,7 @@ use Prim.Native.Nat.{ℕ}
 use mathlib.Core.Bool.{Bool, true, false, cond}
 use mathlib.Core.List.{List, []}
 use lib.ListN.{take}
-use Rattle.wire.specs.Numbers.{NOT_COMPLETE, UNSOUND}
+use Rattle.wire.specs.Constants.{NOT_COMPLETE, UNSOUND}
 use Rattle.reassembly.specs.Views.{View, laid, has, dataView}
 use Rattle.marks.specs.Marks.{cleared, markAll}
 use Rattle.reassembly.specs.Record.{Partial, partial, sound}

@@ -36,8 +36,8 @@ pub record Partial : Type 0 where
 abbrev pub partial : PartialRecord → List ℕ → List ℕ → Partial
 partial r p m = record { rec = r; layout = inUse; payload = p; marks = m }
 
--- sound over areas of n and k bytes: marks of the length that the layout gives and, if started, total from 1 to that length and a string publisher of at
--- most 64 bytes
+-- sound over areas of n and k bytes: marks of the length that the layout gives and, if started, total from 1 to that length and a string
+-- publisher of at most 64 bytes
 unfoldable pub soundBy : Layout → PartialRecord → ℕ → ℕ → Bool
 soundBy L r n k =
     eqb (marksFor L n) k

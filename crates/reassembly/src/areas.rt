@@ -24,7 +24,9 @@ pub(crate) fn store_data(payload: &mut [u8], offset: usize, bytes: &[u8])
 // Stores each covered byte of another partial.
 pub(crate) fn store_covered(payload: &mut [u8], total: usize, from: &[u8], from_marks: &[u8])
     requires { ⌜ (total ≤ length (now payload)) × (total ≤ length (now «from»)) × (marksFor inUse total ≤ length (now «from_marks»)) ⌝ }
-    ensures { λ r. ⌜ now (payload .exit) ≡ laid (markedView inUse total (now («from» .entry)) (now («from_marks» .entry))) (now (payload .entry)) ⌝ }
+    ensures { λ r.
+        let source = markedView inUse total (now («from» .entry)) (now («from_marks» .entry)) in
+        ⌜ now (payload .exit) ≡ laid source (now (payload .entry)) ⌝ }
 {
     let mut i = 0;
     while i < total {
@@ -42,8 +44,12 @@ fn differ(mark: bool, held: u8, other_mark: bool, byte: u8) -> bool
 
 // Whether a covered byte differs from a chunk's byte there.
 pub(crate) fn clash_data(payload: &[u8], marks: &[u8], offset: usize, bytes: &[u8]) -> bool
-    requires { ⌜ (offset + length (now bytes) ≤ length (now payload)) × (marksFor inUse (offset + length (now bytes)) ≤ length (now marks)) ⌝ }
-    ensures { λ r. ⌜ r ≡ clash (offset + length (now (bytes .entry))) (markedView inUse (offset + length (now (bytes .entry))) (now (payload .entry)) (now (marks .entry))) (dataView offset (now (bytes .entry))) ⌝ }
+    requires { let end = offset + length (now bytes) in
+        ⌜ (end ≤ length (now payload)) × (marksFor inUse end ≤ length (now marks)) ⌝ }
+    ensures { λ r.
+        let end = offset + length (now (bytes .entry)) in
+        let held = markedView inUse end (now (payload .entry)) (now (marks .entry)) in
+        ⌜ r ≡ clash end held (dataView offset (now (bytes .entry))) ⌝ }
 {
     let mut found = false;
     let mut j = 0;
@@ -64,8 +70,12 @@ pub(crate) fn clash_covered(
     from: &[u8],
     from_marks: &[u8],
 ) -> bool
-    requires { ⌜ (total ≤ length (now payload)) × (marksFor inUse total ≤ length (now marks)) × (total ≤ length (now «from»)) × (marksFor inUse total ≤ length (now «from_marks»)) ⌝ }
-    ensures { λ r. ⌜ r ≡ clash total (markedView inUse total (now (payload .entry)) (now (marks .entry))) (markedView inUse total (now («from» .entry)) (now («from_marks» .entry))) ⌝ }
+    requires { ⌜ (total ≤ length (now payload)) × (marksFor inUse total ≤ length (now marks))
+        × (total ≤ length (now «from»)) × (marksFor inUse total ≤ length (now «from_marks»)) ⌝ }
+    ensures { λ r.
+        let held = markedView inUse total (now (payload .entry)) (now (marks .entry)) in
+        let source = markedView inUse total (now («from» .entry)) (now («from_marks» .entry)) in
+        ⌜ r ≡ clash total held source ⌝ }
 {
     let mut found = false;
     let mut i = 0;

@@ -7,7 +7,7 @@ ghost use Rattle.reassembly.specs.Record.{partial, sound};
 ghost use Rattle.reassembly.specs.Reading.{Proper};
 ghost use Rattle.reassembly.specs.Reading.Reading.{chunk};
 ghost use Rattle.reassembly.specs.Judge.{admissionOf, judgeReading, judgeCombine};
-ghost use Rattle.wire.specs.Numbers.{BYTE_DIFFERS};
+ghost use Rattle.wire.specs.Constants.{BYTE_DIFFERS};
 use crate::areas::clash_covered;
 use crate::areas::clash_data;
 use crate::record::Message;
@@ -15,10 +15,10 @@ use crate::record::PartialRecord;
 use crate::record::is_sound;
 use crate::record::same_message;
 use crate::verdict::Verdict;
-use wire::numbers::BYTE_DIFFERS;
-use wire::numbers::NO_ROOM;
-use wire::numbers::OTHER_MESSAGE;
-use wire::numbers::UNSOUND;
+use wire::constants::BYTE_DIFFERS;
+use wire::constants::NO_ROOM;
+use wire::constants::OTHER_MESSAGE;
+use wire::constants::UNSOUND;
 
 // Whether a partial admits bytes of a message: no, by its number; into a fresh partial; or beside what it holds of the same message.
 enum Admission {
@@ -82,7 +82,10 @@ pub(crate) fn judge_combine(
     from: &[u8],
     from_marks: &[u8],
 ) -> Verdict
-    ensures { λ r. ⌜ r ≡ judgeCombine (partial rec (now (payload .entry)) (now (marks .entry))) (partial source (now («from» .entry)) (now («from_marks» .entry))) ⌝ }
+    ensures { λ r.
+        let target = partial rec (now (payload .entry)) (now (marks .entry)) in
+        let other = partial source (now («from» .entry)) (now («from_marks» .entry)) in
+        ⌜ r ≡ judgeCombine target other ⌝ }
 {
     if !is_sound(rec, payload.len(), marks.len()) {
         return Verdict::Refused(UNSOUND, 0);

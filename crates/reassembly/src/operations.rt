@@ -27,8 +27,8 @@ use marks::clear;
 use marks::mark_marked;
 use marks::mark_range;
 use publisher_id::publisher_record::publisher_record;
-use wire::numbers::NOT_COMPLETE;
-use wire::numbers::UNSOUND;
+use wire::constants::NOT_COMPLETE;
+use wire::constants::UNSOUND;
 use wire::part::part;
 
 // An answer, and the record afterwards.
@@ -61,7 +61,9 @@ fn take_chunk(
     bytes: &[u8],
 ) -> Outcome
     requires { ⌜ (sound (partial rec (now payload) (now marks)) ≡ true) × Proper m offset (length (now bytes)) ⌝ }
-    ensures { λ r. ⌜ stepOf r (now (payload .exit)) (now (marks .exit)) ≡ takeIn (partial rec (now (payload .entry)) (now (marks .entry))) (chunk m offset (now (bytes .entry))) ⌝ }
+    ensures { λ r.
+        let before = partial rec (now (payload .entry)) (now (marks .entry)) in
+        ⌜ stepOf r (now (payload .exit)) (now (marks .exit)) ≡ takeIn before (chunk m offset (now (bytes .entry))) ⌝ }
 {
     let verdict = judge_chunk(rec, payload, marks, m, offset, bytes);
     if let Verdict::Refused(_, _) = verdict {

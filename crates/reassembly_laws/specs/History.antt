@@ -6,7 +6,7 @@ use mathlib.Core.Path.{_≡_}
 use mathlib.Core.Logic.{_⊎_}
 use mathlib.Core.Option.{some}
 use lib.ListN.{length, getD}
-use Rattle.wire.specs.Numbers.{NOT_COMPLETE, UNSOUND}
+use Rattle.wire.specs.Constants.{NOT_COMPLETE, UNSOUND}
 use Rattle.reassembly.specs.Views.{View, bytesOf}
 use Rattle.reassembly.specs.Record.{Identity, sound}
 use Rattle.reassembly.specs.Reading.{readingAt}

@@ -4,7 +4,7 @@ use mathlib.Core.Bool.{cond}
 use mathlib.Core.List.{List, [], _++_}
 use lib.Dec.{ltb}
 use lib.ListN.{length, take, drop, getD, replicate}
-use Rattle.wire.specs.Numbers.{MOST_FIELDS, MOST_WRITERS}
+use Rattle.wire.specs.Constants.{MOST_FIELDS, MOST_WRITERS}
 use Rattle.records.specs.Sizes.{CONFIG_SIZE}
 use Rattle.wire.specs.Number.{leBytes}
 use Rattle.wire.specs.Answer.{Answer, got, refused}

@@ -2,7 +2,7 @@
 use crate::sizes::CONFIG_SIZE;
 use config::Config;
 use config::writer_fields;
-use wire::numbers::MOST_WRITERS;
+use wire::constants::MOST_WRITERS;
 use wire::part::part;
 use wire_writer::store::put_run;
 use wire_writer::store::put8;
@@ -18,7 +18,7 @@ ghost use Rattle.config.specs.Writers.{atMost};
 ghost use Rattle.network_message.specs.Payload.{listed};
 ghost use Rattle.records.specs.Writers.{writersIn, fieldsIn, sixteen, startsIn, typesIn, typesFor, configBytes};
 ghost use Rattle.records.specs.Numbers.{bytesOf};
-ghost use Rattle.wire.specs.Numbers.{MOST_FIELDS, MOST_WRITERS};
+ghost use Rattle.wire.specs.Constants.{MOST_FIELDS, MOST_WRITERS};
 
 fn wide(b: u8) -> usize
     ensures { λ r. ⌜ r ≡ b ⌝ }

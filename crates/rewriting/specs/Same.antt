@@ -3,7 +3,7 @@ use Prim.Native.Nat.{ℕ}
 use mathlib.Core.Path.{_≡_}
 use mathlib.Core.List.{List}
 use lib.ListN.{length}
-use Rattle.wire.specs.Numbers.{DISAGREE}
+use Rattle.wire.specs.Constants.{DISAGREE}
 use Rattle.wire.specs.Answer.{Answer, got, refused}
 use Rattle.wire_writer.specs.Writing.{numberFor, writtenBy, bufferBy, answerWritten, answerBy}
 use Rattle.wire_writer.specs.declared.writing.Written.{Written}
@@ -12,7 +12,8 @@ use Rattle.dataset_message.specs.Message.{Message, messageAt}
 use Rattle.network_message.specs.Envelope.{NetworkMessage, networkMessageAt}
 use Rattle.round_trip.specs.NetworkMessage.{rewritten}
 
--- reading's refusal is the writer's; one not valid "would read back otherwise", as "the message writer always sets bit 0"; an accepted one is s again
+-- reading's refusal is the writer's; one not valid "would read back otherwise", as "the message writer always sets bit 0"; an accepted
+-- one is s again
 
 abbrev pub sameWritten : ℕ → List ℕ → Answer (Valid Message) → Written
 sameWritten room s (got notValid next) = Written.Refused DISAGREE

@@ -3,10 +3,10 @@
 use dataset_message::message::MessageRead;
 use network_message::envelope::NetworkMessageRead;
 use publisher_id::publisher::PublisherId;
-use wire::numbers::DISAGREE;
-use wire::numbers::MOST_DATAGRAM;
-use wire::numbers::NO_ROOM;
-use wire::numbers::OVER_LIMIT;
+use wire::constants::DISAGREE;
+use wire::constants::MOST_DATAGRAM;
+use wire::constants::NO_ROOM;
+use wire::constants::OVER_LIMIT;
 use wire_writer::writing::Written;
 ghost use mathlib.Core.Path.{_≡_};
 ghost use lib.ListN.{length};

@@ -5,7 +5,7 @@ use mathlib.Core.Bool.{true, false, cond}
 use mathlib.Core.List.{List, [], _∷_, _++_}
 use lib.Dec.{leb}
 use lib.ListN.{length, take, drop, getD}
-use Rattle.wire.specs.Numbers.{MOST_WRITERS}
+use Rattle.wire.specs.Constants.{MOST_WRITERS}
 use Rattle.wire.specs.Number.{le, leBytes}
 use Rattle.wire.specs.declared.optional.Optional16.{Optional16}
 use Rattle.wire.specs.Answer.{Answer, got, refused}
@@ -182,8 +182,8 @@ pub record ReadsBack (g : Given) (x : Envelope) (sizes configured : List ℕ) : 
       (writtenMessage g x sizes .payload .first + total (take (suc k) (givenLengths g (x .«payload_header») sizes))))
       × (messageBytes (messagePlaceAt sizes k (datagramOf g x)) (datagramOf g x) ≡ messageOf (givenLengths g (x .«payload_header») sizes) (g .messages) k)
 
--- An accepted datagram s, written again: `rewrite` accepts it in the buffer out and leaves `rewritten s` there, and so does the writer its parts as they
--- were read.
+-- An accepted datagram s, written again: `rewrite` accepts it in the buffer out and leaves `rewritten s` there, and so does the writer
+-- its parts as they were read.
 pub record WritesAgain (s sizes configured out : List ℕ) (m : NetworkMessage) : Type 0 where
   pub answer : rewriteAnswer s (networkMessageAt sizes s) (length out) ≡ got tt (length (rewritten s))
   pub buffer : rewriteBuffer s (networkMessageAt sizes s) out ≡ rewritten s ++ drop (length (rewritten s)) out

@@ -100,7 +100,9 @@ fn store_bytes(out: &mut [u8], at: usize, s: &[u8])
 
 // The bytes that a text of hex digits stands for, stored as a put function does.
 pub fn read_hex(out: &mut [u8], at: usize, s: &[u8]) -> Hex
-    ensures { λ r. ⌜ (r ≡ hexNext (now (out .entry)) at (now (s .entry))) × (now (out .exit) ≡ hexAfter (now (out .entry)) at (now (s .entry))) ⌝ }
+    ensures { λ r.
+        ⌜ (r ≡ hexNext (now (out .entry)) at (now (s .entry)))
+        × (now (out .exit) ≡ hexAfter (now (out .entry)) at (now (s .entry))) ⌝ }
 {
     if s.len() % 2 == 1 {
         return Hex::Not;

@@ -4,7 +4,7 @@ use mathlib.Core.Bool.{cond}
 use mathlib.Core.List.{List}
 use lib.Dec.{ltb}
 use lib.ListN.{length}
-use Rattle.wire.specs.Numbers.{NO_ROOM}
+use Rattle.wire.specs.Constants.{NO_ROOM}
 use Rattle.records.specs.Sizes.{FIELD_SIZE, HEAD_SIZE}
 use Rattle.wire.specs.Number.{leBytes}
 use Rattle.wire.specs.Answer.{Answer, got, refused, mapAnswer}

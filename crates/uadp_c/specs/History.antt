@@ -1,4 +1,5 @@
--- Demand 3's list of calls on one lent partial: what the contracts of src/reassembling.rt say of each call, and the plain machine's replies as results.
+-- Demand 3's list of calls on one lent partial: what the contracts of src/reassembling.rt say of each call, and the plain machine's
+-- replies as results.
 use Prim.Native.Nat.{ℕ}
 use mathlib.Core.Bool.{Bool, true, false}
 use mathlib.Core.List.{List, [], _∷_, map}

@@ -5,7 +5,7 @@ use mathlib.Core.Bool.{cond}
 use mathlib.Core.List.{List, [], _∷_}
 use lib.Dec.{ltb}
 use lib.ListN.{length}
-use Rattle.wire.specs.Numbers.{UNSOUND}
+use Rattle.wire.specs.Constants.{UNSOUND}
 use Rattle.records.specs.Sizes.{PARTIAL_SIZE}
 use Rattle.wire.specs.Number.{leBytes}
 use Rattle.wire_writer.specs.Store.{laid}

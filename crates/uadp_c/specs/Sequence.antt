@@ -5,7 +5,7 @@ use mathlib.Core.List.{List, [], _∷_}
 use lib.Dec.{eqb, ltb}
 use lib.ListN.{length}
 use Rattle.records.specs.Sizes.{SEQUENCE_SIZE}
-use Rattle.wire.specs.Numbers.{NO_ROOM}
+use Rattle.wire.specs.Constants.{NO_ROOM}
 use Rattle.wire_writer.specs.Store.{laid}
 use Rattle.sequence.specs.Newness.{newnessBy}
 use Rattle.sequence.specs.declared.Newness.{Newness}

@@ -26,7 +26,11 @@ pub extern "C" fn uadp_write_message(
     writer: u32,
     out: &mut [u8],
 ) -> u64
-    ensures { λ r. ⌜ (r ≡ messageResult (typesFor (now (config .entry)) writer) (message.given (headerIn (now (head .entry))) (isOn heartbeat) (now (values .entry)) (now (lengths .entry)) (now (indices .entry)) padding) (now (out .entry))) × (now (out .exit) ≡ messageBuffer (typesFor (now (config .entry)) writer) (message.given (headerIn (now (head .entry))) (isOn heartbeat) (now (values .entry)) (now (lengths .entry)) (now (indices .entry)) padding) (now (out .entry))) ⌝ }
+    ensures { λ r.
+        let types = typesFor (now (config .entry)) writer in
+        let header = headerIn (now (head .entry)) in
+        let g = message.given header (isOn heartbeat) (now (values .entry)) (now (lengths .entry)) (now (indices .entry)) padding in
+        ⌜ (r ≡ messageResult types g (now (out .entry))) × (now (out .exit) ≡ messageBuffer types g (now (out .entry))) ⌝ }
 {
     let header = header_in(head);
     let types = types_for(config, writer);
@@ -55,7 +59,12 @@ pub extern "C" fn uadp_write(
     config: &[u8],
     out: &mut [u8],
 ) -> u64
-    ensures { λ r. ⌜ (r ≡ datagramResult (now (config .entry)) (datagram.given (now (text .entry)) (now (ids .entry)) (now (promoted .entry)) (now (lengths .entry)) (now (messages .entry))) (envelopeIn (now (envelope .entry))) (now (out .entry))) × (now (out .exit) ≡ datagramBuffer (now (config .entry)) (datagram.given (now (text .entry)) (now (ids .entry)) (now (promoted .entry)) (now (lengths .entry)) (now (messages .entry))) (envelopeIn (now (envelope .entry))) (now (out .entry))) ⌝ }
+    ensures { λ r.
+        let lists = datagram.given (now (text .entry)) (now (ids .entry)) (now (promoted .entry)) in
+        let g = lists (now (lengths .entry)) (now (messages .entry)) in
+        let x = envelopeIn (now (envelope .entry)) in
+        ⌜ (r ≡ datagramResult (now (config .entry)) g x (now (out .entry)))
+        × (now (out .exit) ≡ datagramBuffer (now (config .entry)) g x (now (out .entry))) ⌝ }
 {
     let x = envelope_in(envelope);
     let n = writer_count(config);

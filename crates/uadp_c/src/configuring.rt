@@ -11,7 +11,9 @@ ghost use Rattle.records.specs.Writers.{configFilling};
 // Reads a configuration text into a configuration record.
 #[no_mangle]
 pub extern "C" fn uadp_config(text: &[u8], config: &mut [u8]) -> u64
-    ensures { λ r. ⌜ (r ≡ resultIn (configFilling (configOf (now (text .entry)))) (now (config .entry))) × (now (config .exit) ≡ filledIn (configFilling (configOf (now (text .entry)))) (now (config .entry))) ⌝ }
+    ensures { λ r.
+        let read = configFilling (configOf (now (text .entry))) in
+        ⌜ (r ≡ resultIn read (now (config .entry))) × (now (config .exit) ≡ filledIn read (now (config .entry))) ⌝ }
 {
     let read = read_config(text);
     if 0 < read.number {

@@ -29,7 +29,9 @@ pub extern "C" fn uadp_read_message(
     writer: u32,
     head: &mut [u8],
 ) -> u64
-    ensures { λ r. ⌜ (r ≡ resultIn (headFilling (messageAt (typesFor (now (config .entry)) writer) (now (message .entry)))) (now (head .entry))) × (now (head .exit) ≡ filledIn (headFilling (messageAt (typesFor (now (config .entry)) writer) (now (message .entry)))) (now (head .entry))) ⌝ }
+    ensures { λ r.
+        let read = headFilling (messageAt (typesFor (now (config .entry)) writer) (now (message .entry))) in
+        ⌜ (r ≡ resultIn read (now (head .entry))) × (now (head .exit) ≡ filledIn read (now (head .entry))) ⌝ }
 {
     match read(message, types_for(config, writer)) {
         MessageRead::Refused(n, place) => result(n, place),
@@ -59,7 +61,9 @@ pub extern "C" fn uadp_field(
     k: u64,
     field: &mut [u8],
 ) -> u64
-    ensures { λ r. ⌜ (r ≡ resultIn (fieldFilling (fieldPlaceAt (typesFor (now (config .entry)) writer) k (now (message .entry)))) (now (field .entry))) × (now (field .exit) ≡ filledIn (fieldFilling (fieldPlaceAt (typesFor (now (config .entry)) writer) k (now (message .entry)))) (now (field .entry))) ⌝ }
+    ensures { λ r.
+        let found = fieldFilling (fieldPlaceAt (typesFor (now (config .entry)) writer) k (now (message .entry))) in
+        ⌜ (r ≡ resultIn found (now (field .entry))) × (now (field .exit) ≡ filledIn found (now (field .entry))) ⌝ }
 {
     match field_place(message, types_for(config, writer), k as usize) {
         FieldRead::Refused(n, place) => result(n, place),
@@ -82,7 +86,11 @@ pub extern "C" fn uadp_next_field(
     head: &mut [u8],
     field: &mut [u8],
 ) -> u64
-    ensures { λ r. ⌜ (r ≡ stepResult (stepAt (cursorIn (now (head .entry))) (typesFor (now (config .entry)) writer) (now (message .entry))) (now (head .entry)) (now (field .entry))) × (now (head .exit) ≡ headAfter (stepAt (cursorIn (now (head .entry))) (typesFor (now (config .entry)) writer) (now (message .entry))) (now (head .entry)) (now (field .entry))) × (now (field .exit) ≡ fieldAfter (stepAt (cursorIn (now (head .entry))) (typesFor (now (config .entry)) writer) (now (message .entry))) (now (head .entry)) (now (field .entry))) ⌝ }
+    ensures { λ r.
+        let step = stepAt (cursorIn (now (head .entry))) (typesFor (now (config .entry)) writer) (now (message .entry)) in
+        ⌜ (r ≡ stepResult step (now (head .entry)) (now (field .entry)))
+        × (now (head .exit) ≡ headAfter step (now (head .entry)) (now (field .entry)))
+        × (now (field .exit) ≡ fieldAfter step (now (head .entry)) (now (field .entry))) ⌝ }
 {
     let cursor = cursor_in(head);
     match cursor.step(message, types_for(config, writer)) {

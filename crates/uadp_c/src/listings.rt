@@ -16,7 +16,10 @@ ghost use Rattle.uadp_c.specs.Writing.{writerResult};
 // Puts the whole listing of a datagram at the buffer's start.
 #[no_mangle]
 pub extern "C" fn uadp_list(datagram: &[u8], config: &[u8], out: &mut [u8]) -> u64
-    ensures { λ r. ⌜ (r ≡ writerResult (answerWritten (textWritten (now (out .entry)) (listingText (now (config .entry)) (now (datagram .entry)))))) × (now (out .exit) ≡ textAfter (now (out .entry)) (listingText (now (config .entry)) (now (datagram .entry)))) ⌝ }
+    ensures { λ r.
+        let text = listingText (now (config .entry)) (now (datagram .entry)) in
+        ⌜ (r ≡ writerResult (answerWritten (textWritten (now (out .entry)) text)))
+        × (now (out .exit) ≡ textAfter (now (out .entry)) text) ⌝ }
 {
     let n = writer_count(config);
     let all_ids = ids(config);

@@ -28,7 +28,9 @@ ghost use Rattle.uadp_c.specs.Messages.{envelopeFilling, messageStep, wr
 // Reads a datagram's envelope into an envelope record, whose cursor stands before the first message.
 #[no_mangle]
 pub extern "C" fn uadp_read(datagram: &[u8], config: &[u8], envelope: &mut [u8]) -> u64
-    ensures { λ r. ⌜ (r ≡ resultIn (envelopeFilling (networkMessageAt (sizesIn (now (config .entry))) (now (datagram .entry)))) (now (envelope .entry))) × (now (envelope .exit) ≡ filledIn (envelopeFilling (networkMessageAt (sizesIn (now (config .entry))) (now (datagram .entry)))) (now (envelope .entry))) ⌝ }
+    ensures { λ r.
+        let read = envelopeFilling (networkMessageAt (sizesIn (now (config .entry))) (now (datagram .entry))) in
+        ⌜ (r ≡ resultIn read (now (envelope .entry))) × (now (envelope .exit) ≡ filledIn read (now (envelope .entry))) ⌝ }
 {
     let n = writer_count(config);
     let list = sizes(config);
@@ -72,7 +74,12 @@ pub extern "C" fn uadp_next_message(
     envelope: &mut [u8],
     place: &mut [u8],
 ) -> u64
-    ensures { λ r. ⌜ (r ≡ messageResult (messageStep (now (config .entry)) (now (envelope .entry)) (now (datagram .entry))) (now (envelope .entry)) (now (place .entry))) × (now (envelope .exit) ≡ envelopeAfter (messageStep (now (config .entry)) (now (envelope .entry)) (now (datagram .entry))) (now (envelope .entry)) (now (place .entry))) × (now (place .exit) ≡ placeAfter (writerAt (now (config .entry)) (now (envelope .entry)) (now (datagram .entry))) (messageStep (now (config .entry)) (now (envelope .entry)) (now (datagram .entry))) (now (envelope .entry)) (now (place .entry))) ⌝ }
+    ensures { λ r.
+        let step = messageStep (now (config .entry)) (now (envelope .entry)) (now (datagram .entry)) in
+        let writer = writerAt (now (config .entry)) (now (envelope .entry)) (now (datagram .entry)) in
+        ⌜ (r ≡ messageResult step (now (envelope .entry)) (now (place .entry)))
+        × (now (envelope .exit) ≡ envelopeAfter step (now (envelope .entry)) (now (place .entry)))
+        × (now (place .exit) ≡ placeAfter writer step (now (envelope .entry)) (now (place .entry))) ⌝ }
 {
     match step(datagram, config, envelope) {
         MessageStep::Refused(number, at) => result(number, at),

@@ -118,7 +118,9 @@ pub extern "C" fn uadp_combine(
 // Whether a partial is complete.
 #[no_mangle]
 pub extern "C" fn uadp_complete(rec: &[u8], payload: &[u8], marks: &[u8]) -> u64
-    ensures { λ r. ⌜ r ≡ completeIn (now (rec .entry)) (askComplete (partialOf (now (rec .entry)) (now (payload .entry)) (now (marks .entry)))) ⌝ }
+    ensures { λ r.
+        let held = partialOf (now (rec .entry)) (now (payload .entry)) (now (marks .entry)) in
+        ⌜ r ≡ completeIn (now (rec .entry)) (askComplete held) ⌝ }
 {
     if rec.len() < PARTIAL_SIZE {
         return result(12, 0);
@@ -133,7 +135,9 @@ pub extern "C" fn uadp_complete(rec: &[u8], payload: &[u8], marks: &[u8]) -> u64
 // How many bytes at the payload area's start are the complete payload.
 #[no_mangle]
 pub extern "C" fn uadp_hand_out(rec: &[u8], payload: &[u8], marks: &[u8]) -> u64
-    ensures { λ r. ⌜ r ≡ handIn (now (rec .entry)) (judgeHandOut (partialOf (now (rec .entry)) (now (payload .entry)) (now (marks .entry)))) ⌝ }
+    ensures { λ r.
+        let held = partialOf (now (rec .entry)) (now (payload .entry)) (now (marks .entry)) in
+        ⌜ r ≡ handIn (now (rec .entry)) (judgeHandOut held) ⌝ }
 {
     if rec.len() < PARTIAL_SIZE {
         return result(12, 0);

@@ -29,7 +29,8 @@ pub(crate) fn written_result(w: Written) -> u64
 pub extern "C" fn uadp_rewrite(datagram: &[u8], config: &[u8], out: &mut [u8]) -> u64
     ensures { λ r.
         let read = networkMessageAt (sizesIn (now (config .entry))) (now (datagram .entry)) in
-        ⌜ (r ≡ writerResult (rewrittenAnswer (length (now (out .entry))) (now (datagram .entry)) read)) × (now (out .exit) ≡ rewrittenBuffer (now (out .entry)) (now (datagram .entry)) read) ⌝ }
+        ⌜ (r ≡ writerResult (rewrittenAnswer (length (now (out .entry))) (now (datagram .entry)) read))
+        × (now (out .exit) ≡ rewrittenBuffer (now (out .entry)) (now (datagram .entry)) read) ⌝ }
 {
     let n = writer_count(config);
     let list = sizes(config);
@@ -46,7 +47,10 @@ pub extern "C" fn uadp_rewrite_message(
     writer: u32,
     out: &mut [u8],
 ) -> u64
-    ensures { λ r. ⌜ (r ≡ writerResult (answerWritten (sameWritten (length (now (out .entry))) (now (message .entry)) (messageAt (typesFor (now (config .entry)) writer) (now (message .entry)))))) × (now (out .exit) ≡ sameBuffer (now (out .entry)) (now (message .entry)) (messageAt (typesFor (now (config .entry)) writer) (now (message .entry)))) ⌝ }
+    ensures { λ r.
+        let read = messageAt (typesFor (now (config .entry)) writer) (now (message .entry)) in
+        ⌜ (r ≡ writerResult (answerWritten (sameWritten (length (now (out .entry))) (now (message .entry)) read)))
+        × (now (out .exit) ≡ sameBuffer (now (out .entry)) (now (message .entry)) read) ⌝ }
 {
     let types = types_for(config, writer);
     let written = rewriting::rewrite_message(out, message, types);

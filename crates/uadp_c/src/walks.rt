@@ -24,7 +24,10 @@ fn walked_result(walked: Walked) -> u64
 // Puts a record for each message of a datagram and each of its fields.
 #[no_mangle]
 pub extern "C" fn uadp_walk(datagram: &[u8], config: &[u8], records: &mut [u8]) -> u64
-    ensures { λ r. ⌜ (r ≡ walkResult (walkOf (configured (now (config .entry))) (now (datagram .entry)))) × (now (records .exit) ≡ recordsPut 0 (walkLines (configured (now (config .entry))) (now (datagram .entry))) (now (records .entry))) ⌝ }
+    ensures { λ r.
+        let w = configured (now (config .entry)) in
+        ⌜ (r ≡ walkResult (walkOf w (now (datagram .entry))))
+        × (now (records .exit) ≡ recordsPut 0 (walkLines w (now (datagram .entry))) (now (records .entry))) ⌝ }
 {
     let n = writer_count(config);
     let all_ids = ids(config);

@@ -1,5 +1,5 @@
-// The listing program: the configuration from `readers.txt`, a datagram from standard input, its listing to standard output. What is listed, and
-// how, is the library's (`listing`); a read error gets a message on standard error.
+// The listing program: the configuration from `readers.txt`, a datagram from standard input, its listing to standard output. What is
+// listed, and how, is the library's (`listing`); a read error gets a message on standard error.
 use config::Config;
 use config::first;
 use config::writer_count;
@@ -12,7 +12,7 @@ use walk::entry::Line;
 use walk::lines::LineStep;
 use walk::lines::next_line;
 use walk::lines::start;
-use wire::numbers::MOST_DATAGRAM;
+use wire::constants::MOST_DATAGRAM;
 use wire::part::part;
 
 // How many bytes were read, and what one more read answered: 0 at the end, above 0 where more follows than the buffer holds, below 0 where
@@ -32,8 +32,8 @@ fn take(file: i32, buffer: &mut [u8]) -> Taken {
     Taken { count, rest }
 }
 
-// The text of `readers.txt`: none where the file is absent. A longer text than the buffer has a bad line within it, since 16 writers and 64 fields
-// fill fewer bytes.
+// The text of `readers.txt`: none where the file is absent. A longer text than the buffer has a bad line within it, since 16 writers and
+// 64 fields fill fewer bytes.
 fn load(text: &mut [u8]) -> Taken {
     let file = os::open_read(b"readers.txt");
     if file < 0 {

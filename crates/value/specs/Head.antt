@@ -4,7 +4,7 @@ use mathlib.Core.Bool.{cond, _||_}
 use mathlib.Core.List.{List}
 use lib.Dec.{eqb, leb, ltb}
 use lib.ListN.{length, getD}
-use Rattle.wire.specs.Numbers.{BAD_LENGTH}
+use Rattle.wire.specs.Constants.{BAD_LENGTH}
 use Rattle.wire.specs.Answer.{Answer, got, refused, Reader, andThen, _>>_, pure, item, each}
 use Rattle.wire.specs.Items.{lengthItem}
 use Rattle.wire.specs.declared.Length.{Length}

@@ -3,7 +3,7 @@ use Prim.Native.Nat.{ℕ, zero, suc, _%_}
 use mathlib.Core.List.{[], _∷_}
 use mathlib.Core.Bool.{Bool, cond, not, _&&_, _||_}
 use lib.Dec.{eqb}
-use Rattle.wire.specs.Numbers.{DATA_VALUE, LEVELS, NOT_PERMITTED, NOT_TAKEN, TOO_DEEP, VARIANT}
+use Rattle.wire.specs.Constants.{DATA_VALUE, LEVELS, NOT_PERMITTED, NOT_TAKEN, TOO_DEEP, VARIANT}
 use Rattle.wire.specs.Answer.{Answer, got, refused, Reader, andThen, _>>=_, _>>_, pure, refuse, item, ruled, whenOn, each, bit}
 use Rattle.plain_value.specs.Width.{among, widthOf, fixed}
 use Rattle.plain_value.specs.Plain.{passing, bytes, byLength, plain, plainValue, plainValues}

@@ -7,12 +7,12 @@ use plain_value::width::packed_width;
 use wire::Item8;
 use wire::ItemLength;
 use wire::Reached;
-use wire::numbers::BAD_LENGTH;
-use wire::numbers::CUT_SHORT;
-use wire::numbers::DATA_VALUE;
-use wire::numbers::NOT_PERMITTED;
-use wire::numbers::NOT_TAKEN;
-use wire::numbers::VARIANT;
+use wire::constants::BAD_LENGTH;
+use wire::constants::CUT_SHORT;
+use wire::constants::DATA_VALUE;
+use wire::constants::NOT_PERMITTED;
+use wire::constants::NOT_TAKEN;
+use wire::constants::VARIANT;
 use wire::read_length;
 use wire::read8;
 ghost use mathlib.Core.Path.{_≡_};
@@ -24,8 +24,8 @@ ghost use Rattle.plain_value.specs.Plain.{passing, plainValues};
 ghost use Rattle.value.specs.Value.{Measure, taken, variantRule, maskRule, scalar, arrayOf, array, variantOf, dataValueOf, valueOf};
 ghost use Rattle.value.specs.Head.{ended, finish, judged};
 
-// Where a value that holds no other ends, its refusal, or what it holds: from where, how many values, their type (23 or 24), and the mask of
-// the parts that follow them. It is flat, with a place at the same offset in each case, so that it stays in registers.
+// Where a value that holds no other ends, its refusal, or what it holds: from where, how many values, their type (23 or 24), and the mask
+// of the parts that follow them. It is flat, with a place at the same offset in each case, so that it stays in registers.
 pub(crate) enum Head {
     To(usize),
     Refused(u8, usize),
@@ -77,7 +77,9 @@ fn plain_values(s: &[u8], at: usize, t: u8, n: usize) -> Reached
 // The n elements of an array of type t.
 fn elements_head(s: &[u8], at: usize, t: u8, n: usize) -> Head
     requires { ⌜ n < 2147483648 ⌝ }
-    ensures { λ h. ⌜ ((nested : ℕ → Reader Measure) → finish nested (now (s .entry)) h ≡ passing (arrayOf nested t n) (now (s .entry)) at) ⌝ }
+    ensures { λ h.
+        ⌜ ((nested : ℕ → Reader Measure)
+        → finish nested (now (s .entry)) h ≡ passing (arrayOf nested t n) (now (s .entry)) at) ⌝ }
 {
     if is_plain(t) {
         return done(plain_values(s, at, t, n));
@@ -100,7 +102,9 @@ fn array_head(s: &[u8], at: usize, t: u8) -> Head
 // A scalar Variant of type t, whose first byte stands at `first`, before `at`.
 fn scalar_variant(s: &[u8], first: usize, at: usize, t: u8) -> Head
     requires { ⌜ t < 64 ⌝ }
-    ensures { λ h. ⌜ ((nested : ℕ → Reader Measure) → finish nested (now (s .entry)) h ≡ passing (judged variantRule t first (variantOf nested)) (now (s .entry)) at) ⌝ }
+    ensures { λ h.
+        ⌜ ((nested : ℕ → Reader Measure)
+        → finish nested (now (s .entry)) h ≡ passing (judged variantRule t first (variantOf nested)) (now (s .entry)) at) ⌝ }
 {
     if is_plain(t) | (t == DATA_VALUE) {
         return scalar_head(s, at, t);
@@ -117,7 +121,9 @@ fn scalar_variant(s: &[u8], first: usize, at: usize, t: u8) -> Head
 // A Variant that is an array of type t; its first byte, t + 128, stands at `first`, before `at`.
 fn array_variant(s: &[u8], first: usize, at: usize, t: u8) -> Head
     requires { ⌜ t < 64 ⌝ }
-    ensures { λ h. ⌜ ((nested : ℕ → Reader Measure) → finish nested (now (s .entry)) h ≡ passing (judged variantRule (t + 128) first (variantOf nested)) (now (s .entry)) at) ⌝ }
+    ensures { λ h.
+        ⌜ ((nested : ℕ → Reader Measure)
+        → finish nested (now (s .entry)) h ≡ passing (judged variantRule (t + 128) first (variantOf nested)) (now (s .entry)) at) ⌝ }
 {
     if t == 0 {
         return Head::Refused(NOT_PERMITTED, first);
@@ -128,10 +134,12 @@ fn array_variant(s: &[u8], first: usize, at: usize, t: u8) -> Head
     Head::Refused(NOT_TAKEN, first)
 }
 
-// A Variant whose first byte b stands at `at`, before `next`. Its two highest bits part the bytes into scalars, dimensions without an array,
-// arrays, and dimensions.
+// A Variant whose first byte b stands at `at`, before `next`. Its two highest bits part the bytes into scalars, dimensions without an
+// array, arrays, and dimensions.
 fn variant_head(s: &[u8], at: usize, next: usize, b: u8) -> Head
-    ensures { λ h. ⌜ ((nested : ℕ → Reader Measure) → finish nested (now (s .entry)) h ≡ passing (judged variantRule b at (variantOf nested)) (now (s .entry)) next) ⌝ }
+    ensures { λ h.
+        ⌜ ((nested : ℕ → Reader Measure)
+        → finish nested (now (s .entry)) h ≡ passing (judged variantRule b at (variantOf nested)) (now (s .entry)) next) ⌝ }
 {
     if b < 64 {
         return scalar_variant(s, at, next, b);
@@ -147,7 +155,9 @@ fn variant_head(s: &[u8], at: usize, next: usize, b: u8) -> Head
 
 // A DataValue whose mask m stands at `at`, before `next`.
 fn data_value_head(at: usize, next: usize, m: u8) -> Head
-    ensures { λ h. ⌜ ((nested : ℕ → Reader Measure) (s : List ℕ) → finish nested s h ≡ passing (judged maskRule m at (dataValueOf nested)) s next) ⌝ }
+    ensures { λ h.
+        ⌜ ((nested : ℕ → Reader Measure) (s : List ℕ)
+        → finish nested s h ≡ passing (judged maskRule m at (dataValueOf nested)) s next) ⌝ }
 {
     if (m / 64 % 2 == 1) | (m / 128 % 2 == 1) {
         return Head::Refused(NOT_PERMITTED, at);

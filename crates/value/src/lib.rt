@@ -8,15 +8,15 @@ use plain_value::width::packed_width;
 use wire::Item8;
 use wire::ItemLength;
 use wire::Reached;
+use wire::constants::BAD_LENGTH;
+use wire::constants::CUT_SHORT;
+use wire::constants::DATA_VALUE;
+use wire::constants::LEVELS;
+use wire::constants::NOT_TAKEN;
+use wire::constants::TOO_DEEP;
+use wire::constants::VARIANT;
 use wire::has;
 use wire::left;
-use wire::numbers::BAD_LENGTH;
-use wire::numbers::CUT_SHORT;
-use wire::numbers::DATA_VALUE;
-use wire::numbers::LEVELS;
-use wire::numbers::NOT_TAKEN;
-use wire::numbers::TOO_DEEP;
-use wire::numbers::VARIANT;
 use wire::read_length;
 use wire::read8;
 ghost use mathlib.Core.Path.{_≡_};
@@ -100,8 +100,8 @@ pub fn fixed_end(s: &[u8], at: usize) -> usize
     at + w + 1
 }
 
-// Of a Variant that holds a length and a run of equal units, by its first byte: how many bytes a unit has. A String or ByteString has units of 1,
-// an array of a fixed type those of its width; for any other Variant it is 0.
+// Of a Variant that holds a length and a run of equal units, by its first byte: how many bytes a unit has. A String or ByteString has
+// units of 1, an array of a fixed type those of its width; for any other Variant it is 0.
 fn unit_of(b: u8) -> usize
     ensures { λ r. ⌜ (r ≡ unitOf b) × (r ≤ 16) ⌝ }
 {

@@ -4,7 +4,7 @@ use mathlib.Core.Bool.{cond}
 use mathlib.Core.List.{List, [], _∷_, _++_}
 use lib.Dec.{eqb}
 use lib.ListN.{length, take, drop}
-use Rattle.wire.specs.Numbers.{MOST_WRITERS}
+use Rattle.wire.specs.Constants.{MOST_WRITERS}
 use Rattle.wire.specs.Answer.{Answer, got, refused}
 use Rattle.wire.specs.declared.optional.Optional16.{Optional16}
 use Rattle.config.specs.Writers.{atMost, typesOf}
@@ -96,8 +96,8 @@ module _ (w : Writers) (d : List ℕ) where
   fieldLines zero l p c = []
   fieldLines (suc left) l p c = fieldThen p (fieldLines left l p) (fieldStepAt c (typesAt l p) (bytesAt p))
 
-  -- ---- a message: its `set` line, then its field lines. "A refused message ends its `set` line after the length with `bad`, number, place, one
-  -- not valid with `invalid`; neither has field lines."
+  -- ---- a message: its `set` line, then its field lines. "A refused message ends its `set` line after the length with `bad`, number,
+  -- place, one not valid with `invalid`; neither has field lines."
   abbrev pub setLines : Listed → MessagePlace → Answer (Valid Message) → List Line
   setLines l p (got notValid next) = Line.SetInvalid (placeAt l p) ∷ []
   setLines l p (got (valid m) next) =
@@ -180,8 +180,8 @@ startBy (refused n place) = LineCursor.Bad n place
 abbrev pub startOf : ℕ → ℕ → List ℕ → List ℕ → LineCursor
 startOf number place sizes d = cond (eqb number 0) (startBy (networkMessageAt sizes d)) (LineCursor.Bad number place)
 
--- "A refused configuration, or else datagram, is the one line `bad`, number, place." The listing of datagram d under a configuration whose reading
--- gave a number and place, and these writers.
+-- "A refused configuration, or else datagram, is the one line `bad`, number, place." The listing of datagram d under a configuration
+-- whose reading gave a number and place, and these writers.
 unfoldable pub listingOf : ℕ → ℕ → Writers → List ℕ → List Line
 listingOf number place w d = cond (eqb number 0) (datagramLines w d) (Line.Bad number place ∷ [])
 

@@ -67,8 +67,8 @@ fn listed_of(envelope: Envelope, places: Places, payload: Payload) -> Listed
     }
 }
 
-// The cursor before the first line of a datagram's listing, under a configuration whose reading gave a number (0 where it was accepted) and a
-// place, and the sizes of its writers.
+// The cursor before the first line of a datagram's listing, under a configuration whose reading gave a number (0 where it was accepted)
+// and a place, and the sizes of its writers.
 pub fn start(s: &[u8], number: u8, place: usize, sizes: &[u16]) -> LineCursor
     ensures { λ r. ⌜ r ≡ startOf number place (now (sizes .entry)) (now (s .entry)) ⌝ }
 {
@@ -94,7 +94,9 @@ fn set_line<'a>(
     after: MessageCursor,
     p: MessagePlace,
 ) -> LineStep
-    ensures { λ r. ⌜ ((sizes : List ℕ) → r ≡ setStep (writers (now (ids .entry)) sizes (now (starts .entry)) (now (types .entry))) (now (s .entry)) l after p) ⌝ }
+    ensures { λ r.
+        ⌜ ((sizes : List ℕ)
+        → r ≡ setStep (writers (now (ids .entry)) sizes (now (starts .entry)) (now (types .entry))) (now (s .entry)) l after p) ⌝ }
 {
     let header = l.header;
     let writer = writer_id(s, header, l.header_end, ids, p.index);
@@ -136,7 +138,9 @@ fn message_line<'a>(
     l: Listed,
     c: MessageCursor,
 ) -> LineStep
-    ensures { λ r. ⌜ r ≡ messageStep (writers (now (ids .entry)) (now (sizes .entry)) (now (starts .entry)) (now (types .entry))) (now (s .entry)) l c ⌝ }
+    ensures { λ r.
+        let w = writers (now (ids .entry)) (now (sizes .entry)) (now (starts .entry)) (now (types .entry)) in
+        ⌜ r ≡ messageStep w (now (s .entry)) l c ⌝ }
 {
     let payload = l.payload;
     match c.step(s, payload, sizes) {
@@ -157,7 +161,9 @@ fn field_line<'a>(
     p: MessagePlace,
     f: Cursor,
 ) -> LineStep
-    ensures { λ r. ⌜ r ≡ fieldStep (writers (now (ids .entry)) (now (sizes .entry)) (now (starts .entry)) (now (types .entry))) (now (s .entry)) l c p f ⌝ }
+    ensures { λ r.
+        let w = writers (now (ids .entry)) (now (sizes .entry)) (now (starts .entry)) (now (types .entry)) in
+        ⌜ r ≡ fieldStep w (now (s .entry)) l c p f ⌝ }
 {
     let header = l.header;
     let writer = writer_id(s, header, l.header_end, ids, p.index);
@@ -190,7 +196,9 @@ pub fn next_line<'a>(
     types: &'a [u8],
     cursor: LineCursor,
 ) -> LineStep
-    ensures { λ r. ⌜ r ≡ nextLine (writers (now (ids .entry)) (now (sizes .entry)) (now (starts .entry)) (now (types .entry))) (now (s .entry)) cursor ⌝ }
+    ensures { λ r.
+        let w = writers (now (ids .entry)) (now (sizes .entry)) (now (starts .entry)) (now (types .entry)) in
+        ⌜ r ≡ nextLine w (now (s .entry)) cursor ⌝ }
 {
     match cursor {
         LineCursor::Bad(n, place) => LineStep::Is(Line::Bad(n, place), LineCursor::End),
@@ -223,7 +231,9 @@ pub fn nth_line<'a>(
     types: &'a [u8],
     k: usize,
 ) -> LineRead
-    ensures { λ r. ⌜ r ≡ lineAt (listingOf number place (writers (now (ids .entry)) (now (sizes .entry)) (now (starts .entry)) (now (types .entry))) (now (s .entry))) k ⌝ }
+    ensures { λ r.
+        let w = writers (now (ids .entry)) (now (sizes .entry)) (now (starts .entry)) (now (types .entry)) in
+        ⌜ r ≡ lineAt (listingOf number place w (now (s .entry))) k ⌝ }
 {
     let mut cursor = start(s, number, place, sizes);
     let mut left = k;

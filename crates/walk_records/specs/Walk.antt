@@ -18,8 +18,8 @@ abbrev pub orNone : Optional16 → ℕ
 orNone Optional16.Absent = 65536
 orNone (Optional16.Is v) = v
 
--- the 8 numbers of a line's record: "0 field, 1 message, 2 message that is not valid, 3 refused message", the number of the message, and so on in
--- the order of the layout; `net` and `bad` lines do not occur among those that have records
+-- the 8 numbers of a line's record: "0 field, 1 message, 2 message that is not valid, 3 refused message", the number of the message, and
+-- so on in the order of the layout; `net` and `bad` lines do not occur among those that have records
 abbrev pub walkNumbers : Line → List ℕ
 walkNumbers (Line.Field m f) = 0 ∷ m ∷ f .index ∷ f .kind ∷ shapeNumber (f .shape) ∷ elementsNumber (f .shape) ∷ f .offset ∷ f .length ∷ []
 walkNumbers (Line.Set p k e q) = 1 ∷ p .message ∷ orNone (p .writer) ∷ kindNumber k ∷ encodingNumber e ∷ orNone q ∷ p .offset ∷ p .length ∷ []
@@ -37,7 +37,8 @@ abbrev pub recordsPut : ℕ → List Line → List ℕ → List ℕ
 recordsPut k [] out = out
 recordsPut k (x ∷ xs) out = recordsPut (k + 1) xs (recordLaid k x out)
 
--- the lines that have records: those of the datagram's listing after its first, which is the `net` line, or the `bad` line of a refused datagram
+-- the lines that have records: those of the datagram's listing after its first, which is the `net` line, or the `bad` line of a refused
+-- datagram
 abbrev pub walkLines : Writers → List ℕ → List Line
 walkLines w d = drop 1 (datagramLines w d)
 

@@ -101,7 +101,9 @@ fn put_message(
     b: u64,
     c: u64,
 )
-    ensures { λ _. ⌜ now (out .exit) ≡ laid (now (out .entry)) (WALK_SIZE * k) (numberBytes (what ∷ p .index ∷ orNone writer ∷ a ∷ b ∷ c ∷ p .offset ∷ p .length ∷ [])) ⌝ }
+    ensures { λ _.
+        let numbers = what ∷ p .index ∷ orNone writer ∷ a ∷ b ∷ c ∷ p .offset ∷ p .length ∷ [] in
+        ⌜ now (out .exit) ≡ laid (now (out .entry)) (WALK_SIZE * k) (numberBytes numbers) ⌝ }
 {
     let numbers = [
         what,
@@ -133,8 +135,9 @@ fn field_at(
     field_in_line(s, encoding, delta, types, k, at, last, end)
 }
 
-// Puts the records of the fields of RawData from the cursor on, which are accepted and end at `end`, the first as record `first`: each has its type's
-// width, and nothing is tested again. Answers the number of the record after them. `message` and `end` stand in the contract only.
+// Puts the records of the fields of RawData from the cursor on, which are accepted and end at `end`, the first as record `first`: each
+// has its type's width, and nothing is tested again. Answers the number of the record after them. `message` and `end` stand in the
+// contract only.
 fn walk_raw(
     out: &mut [u8],
     first: usize,
@@ -144,7 +147,8 @@ fn walk_raw(
     c: Cursor,
     end: usize,
 ) -> usize
-    requires { ⌜ Word (first + length (now message)) × Word (p .offset + length (now message)) × Accepted (now types) (now message) c end × (c .delta ≡ false) × (isRaw (c .encoding) ≡ true) ⌝ }
+    requires { ⌜ Word (first + length (now message)) × Word (p .offset + length (now message))
+        × Accepted (now types) (now message) c end × (c .delta ≡ false) × (isRaw (c .encoding) ≡ true) ⌝ }
     ensures { λ r. ⌜ FieldsPut (now (types .entry)) (now (message .entry)) p c first r (now (out .entry)) (now (out .exit)) ⌝ }
 {
     let mut at = c.at;
@@ -169,8 +173,8 @@ fn walk_raw(
     k
 }
 
-// Puts the records of a message's fields from the cursor on, which end at `end`, the first as record `first`; answers the number of the record
-// after them.
+// Puts the records of a message's fields from the cursor on, which end at `end`, the first as record `first`; answers the number of the
+// record after them.
 fn walk_each(
     out: &mut [u8],
     first: usize,
@@ -180,7 +184,8 @@ fn walk_each(
     c: Cursor,
     end: usize,
 ) -> usize
-    requires { ⌜ Word (first + length (now message)) × Word (p .offset + length (now message)) × Accepted (now types) (now message) c end ⌝ }
+    requires { ⌜ Word (first + length (now message)) × Word (p .offset + length (now message))
+        × Accepted (now types) (now message) c end ⌝ }
     ensures { λ r. ⌜ FieldsPut (now (types .entry)) (now (message .entry)) p c first r (now (out .entry)) (now (out .exit)) ⌝ }
 {
     let encoding = c.encoding;
@@ -214,7 +219,8 @@ fn walk_fields(
     c: Cursor,
     end: usize,
 ) -> usize
-    requires { ⌜ Word (first + length (now message)) × Word (p .offset + length (now message)) × Accepted (now types) (now message) c end ⌝ }
+    requires { ⌜ Word (first + length (now message)) × Word (p .offset + length (now message))
+        × Accepted (now types) (now message) c end ⌝ }
     ensures { λ r. ⌜ FieldsPut (now (types .entry)) (now (message .entry)) p c first r (now (out .entry)) (now (out .exit)) ⌝ }
 {
     let encoding = c.encoding;
@@ -234,7 +240,9 @@ fn walk_message(
     p: MessagePlace,
 ) -> usize
     requires { ⌜ Word (k + 1 + length (now s)) ⌝ }
-    ensures { λ r. ⌜ (r ≡ k + length (setFrom (now (types .entry)) p writer (now (s .entry)))) × (now (out .exit) ≡ recordsPut k (setFrom (now (types .entry)) p writer (now (s .entry))) (now (out .entry))) ⌝ }
+    ensures { λ r.
+        let entries = setFrom (now (types .entry)) p writer (now (s .entry)) in
+        ⌜ (r ≡ k + length entries) × (now (out .exit) ≡ recordsPut k entries (now (out .entry))) ⌝ }
 {
     let message = part(s, p.offset, p.length);
     match read(&*message, &*types) {
@@ -271,7 +279,10 @@ fn walk_messages<'a>(
     payload: Payload,
 ) -> usize
     requires { ⌜ (length (now s) ≤ 65535) × (payload .count ≤ 65551) ⌝ }
-    ensures { λ r. ⌜ (r ≡ length (payloadLines (writers (now (ids .entry)) (now (sizes .entry)) (now (starts .entry)) (now (types .entry))) (now (s .entry)) (bare header end payload))) × (now (out .exit) ≡ recordsPut 0 (payloadLines (writers (now (ids .entry)) (now (sizes .entry)) (now (starts .entry)) (now (types .entry))) (now (s .entry)) (bare header end payload)) (now (out .entry))) ⌝ }
+    ensures { λ r.
+        let w = writers (now (ids .entry)) (now (sizes .entry)) (now (starts .entry)) (now (types .entry)) in
+        let entries = payloadLines w (now (s .entry)) (bare header end payload) in
+        ⌜ (r ≡ length entries) × (now (out .exit) ≡ recordsPut 0 entries (now (out .entry))) ⌝ }
 {
     let mut c = MessageCursor {
         index: 0,
@@ -302,7 +313,9 @@ pub fn walk<'a>(
     starts: &'a [u8],
     types: &'a [u8],
 ) -> Walked
-    ensures { λ r. ⌜ (r ≡ walkOf (writers (now (ids .entry)) (now (sizes .entry)) (now (starts .entry)) (now (types .entry))) (now (s .entry))) × (now (out .exit) ≡ recordsPut 0 (walkLines (writers (now (ids .entry)) (now (sizes .entry)) (now (starts .entry)) (now (types .entry))) (now (s .entry))) (now (out .entry))) ⌝ }
+    ensures { λ r.
+        let w = writers (now (ids .entry)) (now (sizes .entry)) (now (starts .entry)) (now (types .entry)) in
+        ⌜ (r ≡ walkOf w (now (s .entry))) × (now (out .exit) ≡ recordsPut 0 (walkLines w (now (s .entry))) (now (out .entry))) ⌝ }
 {
     match network_message::envelope::read(&*s, &*sizes) {
         NetworkMessageRead::Refused(n, place) => Walked::Refused(n, place),

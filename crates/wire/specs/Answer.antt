@@ -5,7 +5,7 @@ use mathlib.Core.Bool.{Bool, true, false, cond}
 use lib.ListN.{length}
 use lib.Dec.{leb, eqb}
 use lib.IntN.{ℤ}
-use Rattle.wire.specs.Numbers.{CUT_SHORT}
+use Rattle.wire.specs.Constants.{CUT_SHORT}
 use Rattle.wire.specs.Number.{le, signed}
 
 -- What a reader answers: a value with the position after it, or a refusal with document 01's number and its place,

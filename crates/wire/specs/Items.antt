@@ -5,7 +5,7 @@ use mathlib.Core.List.{List, _++_}
 use lib.Dec.{leb}
 use lib.IntN.{ℤ, pos, negsuc}
 use lib.ListN.{length}
-use Rattle.wire.specs.Numbers.{CUT_SHORT}
+use Rattle.wire.specs.Constants.{CUT_SHORT}
 use Rattle.wire.specs.Number.{le, leBytes, signed}
 use Rattle.wire.specs.Answer.{Answer, got, refused, Reader}
 use Rattle.wire.specs.declared.Item8.{Item8}

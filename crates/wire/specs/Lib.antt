@@ -1,4 +1,4 @@
-pub mod Numbers
+pub mod Constants
 pub mod Number
 pub mod Answer
 pub mod Items

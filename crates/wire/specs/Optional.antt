@@ -2,7 +2,7 @@
 use Prim.Native.Nat.{ℕ}
 use mathlib.Core.Bool.{Bool, cond}
 use lib.Dec.{leb}
-use Rattle.wire.specs.Numbers.{NOT_PERMITTED, PICOSECONDS_END}
+use Rattle.wire.specs.Constants.{NOT_PERMITTED, PICOSECONDS_END}
 use Rattle.wire.specs.Answer.{Answer, got, refused, Reader, item, signedItem, ruled, whenOn, pure, _>>=_}
 use Rattle.wire.specs.declared.optional.Optional16.{Optional16}
 use Rattle.wire.specs.declared.optional.Optional16Read.{Optional16Read}

@@ -1,6 +1,6 @@
 // Items of the wire: little-endian numbers, signed numbers, lengths and runs of bytes at a position of a slice.
 // Every function takes any slice and any position; an item that does not fit is short.
-pub mod numbers;
+pub mod constants;
 pub mod optional;
 pub mod part;
 

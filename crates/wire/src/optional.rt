@@ -2,9 +2,9 @@
 use crate::Item16;
 use crate::Item32;
 use crate::Item64;
-use crate::numbers::CUT_SHORT;
-use crate::numbers::NOT_PERMITTED;
-use crate::numbers::PICOSECONDS_END;
+use crate::constants::CUT_SHORT;
+use crate::constants::NOT_PERMITTED;
+use crate::constants::PICOSECONDS_END;
 use crate::read16;
 use crate::read32;
 use crate::read64;
@@ -28,7 +28,8 @@ pub enum Optional32 {
     Is(u32),
 }
 
-// The position stands first, where a refusal has its place: no two fields of different widths share bytes, and the answer stays in registers.
+// The position stands first, where a refusal has its place: no two fields of different widths share bytes, and the answer stays in
+// registers.
 pub enum Optional32Read {
     Is(usize, Optional32),
     Refused(u8, usize),

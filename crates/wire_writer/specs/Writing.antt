@@ -6,7 +6,7 @@ use mathlib.Core.List.{List, [], _++_}
 use lib.Dec.{eqb, ltb}
 use lib.ListN.{length, drop}
 use lib.Seq.{sets}
-use Rattle.wire.specs.Numbers.{DISAGREE, MOST_DATAGRAM, NO_ROOM, OVER_LIMIT}
+use Rattle.wire.specs.Constants.{DISAGREE, MOST_DATAGRAM, NO_ROOM, OVER_LIMIT}
 use Rattle.wire.specs.Number.{leBytes, unsigned}
 use Rattle.wire.specs.Answer.{Answer, got, refused}
 use Rattle.wire.specs.Optional.{picosecondsRule}

@@ -2,7 +2,7 @@
 // one after the other. A put function stores an item where it fits and returns the position after it; where it does not
 // fit, it stores nothing and returns the position unchanged.
 use wire::Guid;
-use wire::numbers::DISAGREE;
+use wire::constants::DISAGREE;
 use wire::optional::Optional16;
 use wire::optional::Optional32;
 use wire::optional::OptionalI64;
