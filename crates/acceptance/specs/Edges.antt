@@ -12,6 +12,7 @@ use Rattle.value.specs.Value.{variantAt, measure}
 use Rattle.value.specs.Value.{Measure}
 use Rattle.value.specs.declared.Shape.{Shape}
 use Rattle.publisher_id.specs.declared.publisher.PublisherId.{PublisherId}
+use Rattle.publisher_id.specs.declared.publisher_record.PublisherRecord.{PublisherRecord}
 use Rattle.reassembly.specs.Record.{Partial, partial}
 use Rattle.reassembly.specs.Calls.{Call, Reply, replies}
 use Rattle.reassembly.specs.Calls.Call.{Take, Ask, HandOut}
@@ -26,12 +27,19 @@ pub data EdgeReading : Type 0 where
 -- a chunk of publisher 4711, writer 21, message 7 and total 5 with three bytes at an offset: byte 0 D1 (PublisherId, PayloadHeader,
 -- ExtendedFlags1), 81 (UInt16, ExtendedFlags2), 01 (chunk), 67 12, 15 00; then 07 00, the offset, 05 00 00 00, 03 00 00 00 and the bytes
 abbrev pub chunkOf : ℕ → ℕ → ℕ → ℕ → Call
-chunkOf offset a b c = Take (209 ∷ 129 ∷ 1 ∷ 103 ∷ 18 ∷ 21 ∷ 0 ∷ 7 ∷ 0 ∷ offset ∷ 0 ∷ 0 ∷ 0 ∷ 5 ∷ 0 ∷ 0 ∷ 0 ∷ 3 ∷ 0 ∷ 0 ∷ 0 ∷ a ∷ b ∷ c ∷ []) []
+chunkOf offset a b c =
+    Take
+    (209 ∷ 129 ∷ 1 ∷ 103 ∷ 18 ∷ 21 ∷ 0
+    ∷ 7 ∷ 0 ∷ offset ∷ 0 ∷ 0 ∷ 0 ∷ 5 ∷ 0 ∷ 0 ∷ 0 ∷ 3 ∷ 0 ∷ 0 ∷ 0 ∷ a ∷ b ∷ c ∷ [])
+    []
 
 -- a partial just emptied, over areas that hold anything
+abbrev nobody : PublisherRecord
+nobody = record { id = PublisherId.Absent; text = [] }
+
 abbrev pub fresh : Partial
 fresh =
-    partial (record { started = false; message = record { publisher = record { id = PublisherId.Absent; text = [] }; writer = 0; number = 0; total = 0 } })
+    partial (record { started = false; message = record { publisher = nobody; writer = 0; number = 0; total = 0 } })
     (9 ∷ 9 ∷ 9 ∷ 9 ∷ 9 ∷ []) (1 ∷ 1 ∷ 7 ∷ 1 ∷ 1 ∷ [])
 
 -- "N1 to N7, last 5: received 6 newer, 5 old, 16,389 newer, 16,390 invalid, 49,158 invalid, 49,159 old; last 65,535: 0 newer. V1 `00` is
@@ -50,7 +58,8 @@ table =
     ∷ variant (133 ∷ 255 ∷ 255 ∷ 255 ∷ 255 ∷ []) (got (measure 5 Shape.NullArray) 5)
     ∷ variant (24 ∷ []) (refused NOT_PERMITTED 0)
     ∷ calls (chunkOf 0 1 2 3 ∷ chunkOf 2 3 4 5 ∷ Ask ∷ HandOut ∷ []) fresh (done ∷ done ∷ said true ∷ handed (1 ∷ 2 ∷ 3 ∷ 4 ∷ 5 ∷ []) ∷ [])
-    ∷ calls (chunkOf 0 1 2 3 ∷ chunkOf 2 8 4 5 ∷ Ask ∷ HandOut ∷ []) fresh (done ∷ refusal BYTE_DIFFERS 0 ∷ said false ∷ refusal NOT_COMPLETE 0 ∷ [])
+    ∷ calls (chunkOf 0 1 2 3 ∷ chunkOf 2 8 4 5 ∷ Ask ∷ HandOut ∷ []) fresh
+    (done ∷ refusal BYTE_DIFFERS 0 ∷ said false ∷ refusal NOT_COMPLETE 0 ∷ [])
     ∷ []
 
 -- a reading holds if the definition that the contracts cite answers so

@@ -92,7 +92,7 @@ module _ (p : List ℕ) (number size k : ℕ) (hn : number < 65536) (ok : cutRul
       payload-back number (k * size) (length p) (cutData p size k) hn (c .filled) (c .small) f (omega (arith, c .inside)) s m e
 
   -- what cutting wrote, after any bytes
-  pub cut-back : (pre : List ℕ) → chunkPayloadAt (pre ++ chunkBytes p number size k) (length pre) ≡ got (cutPlace (length pre)) (length (pre ++ chunkBytes p number size k))
+  cut-back : (pre : List ℕ) → chunkPayloadAt (pre ++ chunkBytes p number size k) (length pre) ≡ got (cutPlace (length pre)) (length (pre ++ chunkBytes p number size k))
   cut-back pre = chunk-back (pre ++ chunkBytes p number size k) (length pre) (pre, refl, refl)
 
   -- a datagram with an accepted chunk's envelope whose payload is what cutting wrote reads as that chunk

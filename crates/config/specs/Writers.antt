@@ -44,4 +44,12 @@ abbrev pub sumOfSizes : List ℕ → ℕ
 sumOfSizes sizes = total (take MOST_WRITERS sizes)
 
 abbrev pub emptyConfig : Config
-emptyConfig = record { writers = 0; fields = 0; ids = replicate MOST_WRITERS 0; sizes = replicate MOST_WRITERS 0; starts = replicate MOST_WRITERS 0; types = replicate MOST_FIELDS 0 }
+emptyConfig =
+    record {
+      writers = 0;
+      fields = 0;
+      ids = replicate MOST_WRITERS 0;
+      sizes = replicate MOST_WRITERS 0;
+      starts = replicate MOST_WRITERS 0;
+      types = replicate MOST_FIELDS 0;
+    }

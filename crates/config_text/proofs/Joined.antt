@@ -25,7 +25,7 @@ onto-joined b [] = refl
 onto-joined b (ended l ∷ ls) = refl
 onto-joined b (unended l ∷ ls) = refl
 
-pub lines-joined : (t : List ℕ) → joined (linesOf t) ≡ t
+lines-joined : (t : List ℕ) → joined (linesOf t) ≡ t
 lines-joined [] = refl
 lines-joined (b ∷ t) = step (eqb b 10) refl (lines-joined t)
   where
@@ -44,7 +44,7 @@ onto-clean b [] e h = (rw e, tt)
 onto-clean b (ended l ∷ ls) e h = (rw e (h .0), h .1)
 onto-clean b (unended l ∷ ls) e h = (rw e (h .0), h .1)
 
-pub lines-clean : (t : List ℕ) → Clean (linesOf t)
+lines-clean : (t : List ℕ) → Clean (linesOf t)
 lines-clean [] = tt
 lines-clean (b ∷ t) = step (eqb b 10) refl (lines-clean t)
   where

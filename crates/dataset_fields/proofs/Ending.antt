@@ -33,7 +33,7 @@ abbrev asField : ℕ → ℕ → Measure → ℕ → Answer Field
 asField k at m q = got (record { index = k; kind = m .kind; shape = m .shape; offset = at; length = q - at }) q
 
 -- an accepted Variant is told by its first items
-pub ending-is : (types : List ℕ) (k : ℕ) (s : List ℕ) (at : ℕ) {f : Field} {e : ℕ} → fieldAt false Encoding.Variant types k s at ≡ got f e
+ending-is : (types : List ℕ) (k : ℕ) (s : List ℕ) (at : ℕ) {f : Field} {e : ℕ} → fieldAt false Encoding.Variant types k s at ≡ got f e
     → endingAt e k s at ≡ fieldAt false Encoding.Variant types k s at
 ending-is types k s at {f} {e} h =
     let i = invert (variantAt s at) (asField k at) h in

@@ -24,14 +24,14 @@ encoded-steady Encoding.DataValue types k = value-steady 100 23
 
 module _ (delta : Bool) (encoding : Encoding) (types front rest : List ℕ) where
   -- A field that is accepted in the front is that field of the message.
-  pub field-front : (k q e : ℕ) (f : Field) → fieldAt delta encoding types k front q ≡ got f e → fieldAt delta encoding types k (front ++ rest) q ≡ got f e
+  field-front : (k q e : ℕ) (f : Field) → fieldAt delta encoding types k front q ≡ got f e → fieldAt delta encoding types k (front ++ rest) q ≡ got f e
   field-front k q e f h =
       let a = invert (indexAt delta k front q) (λ i o. _) h in
       let b = invert (encodedAt encoding types k front (a .1)) (λ m z. _) (a .3) in
       rw (append (index-steady delta k) front rest q (a .2), append (encoded-steady encoding types k) front rest (a .1) (b .2)) (b .3)
 
   -- and so are n fields, one after the other
-  pub fields-front : (n k p e : ℕ) → fieldsAt delta encoding types n k front p ≡ got tt e → fieldsAt delta encoding types n k (front ++ rest) p ≡ got tt e
+  fields-front : (n k p e : ℕ) → fieldsAt delta encoding types n k front p ≡ got tt e → fieldsAt delta encoding types n k (front ++ rest) p ≡ got tt e
   unfolding fieldsAt
   fields-front zero k p e h = h
   fields-front (suc n) k p e h =

@@ -31,7 +31,7 @@ delta-done values lengths indices k start h = rw (past-end lengths k h)
 
 -- zeros
 
-pub zeros-step : (n i : ℕ) → i < n → zeros (n - i) ≡ 0 ∷ zeros (n - (i + 1))
+zeros-step : (n i : ℕ) → i < n → zeros (n - i) ≡ 0 ∷ zeros (n - (i + 1))
 unfolding zeros
 zeros-step n i h = let e : n - i ≡ suc (n - (i + 1)) = omega arith in rw e
 

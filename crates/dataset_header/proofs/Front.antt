@@ -64,7 +64,7 @@ after-flags-steady : (v : Valid Flags) → Steady (afterFlags v)
 after-flags-steady notValid = pure-steady notValid
 after-flags-steady (valid f) = bind-steady (times-steady f) (λ t. bind-steady (versions-steady f) (λ v. pure-steady (valid (headerOf f t v))))
 
-pub header-steady : Steady headerAt
+header-steady : Steady headerAt
 header-steady = bind-steady flags-steady after-flags-steady
 
 -- A header that is accepted in the front is the message's header; a refusal other than 1 is the message's refusal.

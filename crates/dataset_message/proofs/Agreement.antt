@@ -122,13 +122,13 @@ module _ (c : Cursor) (types s : List ℕ) where
       (ap (λ (j : ℕ). andThen (passed n) (λ _ q. andThen (field j q) (λ _ r. done r))) (sym (zero-add n)) ∙ sym (fields-snoc (c .delta) (c .encoding) types s n 0 (c .at)) ∙ h)
 
   -- one step, at a field that is accepted
-  pub step-is : (k q e : ℕ) (f : Field) → k < c .count → field k q ≡ got f e → stepAt (before c k q) types s ≡ got (record { field = f; cursor = before c (k + 1) e }) e
+  step-is : (k q e : ℕ) (f : Field) → k < c .count → field k q ≡ got f e → stepAt (before c k q) types s ≡ got (record { field = f; cursor = before c (k + 1) e }) e
   step-is k q e f l h =
       let i = field-inside (c .delta) (c .encoding) types k s q f e h in
       rw (le-ltb (length s) q (i .starts), lt-leb (c .count) k l, h)
 
   -- k steps
-  pub walk-is : (k q : ℕ) → k ≤ c .count → c .next ≡ 0 → passed k ≡ got tt q → walkAt c types k s ≡ got (before c k q) q
+  walk-is : (k q : ℕ) → k ≤ c .count → c .next ≡ 0 → passed k ≡ got tt q → walkAt c types k s ≡ got (before c k q) q
   unfolding walkAt
   walk-is zero q l z h = start-is c types s q z h
   walk-is (suc k) q l z h =
@@ -136,7 +136,7 @@ module _ (c : Cursor) (types s : List ℕ) where
       rw (walk-is k (a .0) (omega arith) z (a .2), step-is k (a .0) q (a .1) l (a .3)) (ap (λ (j : ℕ). got (before c j q) q) (add-one k))
 
   -- every field below one that is passed is passed too
-  pub passed-below : (n e k : ℕ) → k ≤ n → passed n ≡ got tt e → (q : ℕ) × (passed k ≡ got tt q)
+  passed-below : (n e k : ℕ) → k ≤ n → passed n ≡ got tt e → (q : ℕ) × (passed k ≡ got tt q)
   passed-below zero e k l h = let z : k ≡ zero = omega arith in (e, ap passed z ∙ h)
   passed-below (suc n) e k l h = go (λ m. let a = last-field n e h in passed-below n (a .0) k m (a .2)) (leb k n) refl
     where

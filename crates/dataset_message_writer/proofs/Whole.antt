@@ -101,7 +101,7 @@ no-bool : {A : Type 0} → false ≡ true → A
 no-bool e = let z : _≡_ {A = ℕ} 0 1 = cc in absurd (omega arith)
 
 -- an accepted delta has FieldCount
-pub delta-counted : (kind : Kind) (encoding : Encoding) (heartbeat : Bool) → isDelta kind ≡ true → kindRule kind encoding ≡ 0
+delta-counted : (kind : Kind) (encoding : Encoding) (heartbeat : Bool) → isDelta kind ≡ true → kindRule kind encoding ≡ 0
     → hasFields kind heartbeat && not (isRaw encoding) ≡ true
 delta-counted Kind.Key encoding heartbeat e r = no-bool e
 delta-counted Kind.Delta Encoding.Variant heartbeat e r = refl

@@ -97,7 +97,8 @@ startNumbers e w =
 abbrev pub restNumbers : Envelope → Places → Payload → List ℕ
 restNumbers e w p =
     w .«payload_header_end» ∷ hasI64 (e .timestamp) ∷ valueI64 (e .timestamp) ∷ has16 (e .picoseconds) ∷ value16 (e .picoseconds)
-    ∷ hasPromoted (e .promoted) ∷ promotedSize (e .promoted) ∷ w .payload ∷ p .count ∷ sizesCode (p .sizes) ∷ sizesPlace (p .sizes) ∷ p .first ∷ 0
+    ∷ hasPromoted (e .promoted) ∷ promotedSize (e .promoted) ∷ w .payload ∷ p .count ∷ sizesCode (p .sizes) ∷ sizesPlace (p .sizes)
+    ∷ p .first ∷ 0
     ∷ p .first ∷ []
 
 -- the 28 numbers of an envelope

@@ -68,7 +68,7 @@ module _ (w : Writers) (d : List ℕ) (c : LineCursor) (t : LineStep) (e : t ≡
   fewer-lines x n q = omega (arith, ap length (lines ∙ ap (stepLines w d) q))
 
 -- one line more is stored
-pub text-stored : (a b l r e : List ℕ) (at : ℕ) → e ≡ sets l at a → sets l at (a ++ b) ≡ r → sets e (at + length a) b ≡ r
+text-stored : (a b l r e : List ℕ) (at : ℕ) → e ≡ sets l at a → sets l at (a ++ b) ≡ r → sets e (at + length a) b ≡ r
 text-stored a b l r e at s v = ap (λ (y : List ℕ). sets y (at + length a) b) s ∙ sets-append a b l at ∙ v
 
 -- the answers

@@ -80,7 +80,8 @@ abbrev pub valueText : Field → List ℕ
 valueText f = tabbed (shapeText (f .shape)) ++ (tabbed (decimalText (f .offset)) ++ (tabbed (decimalText (f .length)) ++ newline))
 
 abbrev pub fieldText : ℕ → Field → List ℕ
-fieldText m f = fieldWord ++ (tabbed (decimalText m) ++ (tabbed (decimalText (f .index)) ++ (tabbed (decimalText (f .kind)) ++ valueText f)))
+fieldText m f = fieldWord
+    ++ (tabbed (decimalText m) ++ (tabbed (decimalText (f .index)) ++ (tabbed (decimalText (f .kind)) ++ valueText f)))
 
 -- a line of the listing of datagram d. "A refused message ends its `set` line after the length with `bad`, number, place, one not valid
 -- with `invalid`"

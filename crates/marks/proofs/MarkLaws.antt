@@ -81,17 +81,17 @@ unfolding marksFor
 marks-mono byBytes a b h = h
 marks-mono byBits a b h = omega arith
 
-pub marks-cover : (L : Layout) (t i : ℕ) (m : List ℕ) → i ≤ t → marksFor L t ≤ length m → i ≤ capacity L m
+marks-cover : (L : Layout) (t i : ℕ) (m : List ℕ) → i ≤ t → marksFor L t ≤ length m → i ≤ capacity L m
 unfolding marksFor capacity
 marks-cover byBytes t i m l h = omega arith
 marks-cover byBits t i m l h = omega arith
 
-pub capacity-length : (L : Layout) (m k : List ℕ) → length m ≡ length k → capacity L m ≡ capacity L k
+capacity-length : (L : Layout) (m k : List ℕ) → length m ≡ length k → capacity L m ≡ capacity L k
 unfolding capacity
 capacity-length byBytes m k e = e
 capacity-length byBits m k e = rw e
 
-pub length-markAt : (L : Layout) (i : ℕ) (m : List ℕ) → length (markAt L i m) ≡ length m
+length-markAt : (L : Layout) (i : ℕ) (m : List ℕ) → length (markAt L i m) ≡ length m
 unfolding markAt
 length-markAt byBytes i m = length-set m i 1
 length-markAt byBits i m = length-set m (i / 8) (withBit (i % 8) (getD m (i / 8) 0))

@@ -14,7 +14,7 @@ pub any-none : (n : ℕ) (f : ℕ → Bool) → ((i : ℕ) → i < n → f i ≡
 any-none zero f e = refl
 any-none (suc n) f e = rw (e n (omega arith)) (any-none n f (λ i h. e i (omega arith)))
 
-pub any-some : (n : ℕ) (f : ℕ → Bool) (i : ℕ) → i < n → f i ≡ true → anyBelow n f ≡ true
+any-some : (n : ℕ) (f : ℕ → Bool) (i : ℕ) → i < n → f i ≡ true → anyBelow n f ≡ true
 any-some zero f i h e = absurd (not-suc-le-zero h)
 any-some (suc n) f i h e =
     by-eq _ i n (λ q. let t : f n ≡ true = rw q at e in rw t) (λ ne. rw (any-some n f i (omega arith) e) (or-true (f n)))

@@ -17,7 +17,7 @@ use Rattle.records.specs.Numbers.{numberAt}
 use Rattle.message_record.specs.Given.{isOn, given16, givenI64, classIn, groupIn, payloadHeaderIn, promotedIn, envelopeIn}
 
 -- a function of two things, each of which is another
-pub of-two : {A B C : Type 0} (f : A → B → C) {a a₁ : A} {b b₁ : B} → a ≡ a₁ → b ≡ b₁ → f a b ≡ f a₁ b₁
+of-two : {A B C : Type 0} (f : A → B → C) {a a₁ : A} {b b₁ : B} → a ≡ a₁ → b ≡ b₁ → f a b ≡ f a₁ b₁
 of-two {A} {B} f {a} {a₁} {b} {b₁} p q = ap (λ (x : A). f x b) p ∙ ap (λ (y : B). f a₁ y) q
 
 abbrev made : PublisherId → ClassId → GroupHeader → Bool → PayloadHeader → OptionalI64 → Optional16 → Promoted → Envelope

@@ -129,7 +129,7 @@ promoted-short (Promoted.Size k) n b =
     let e : k ≡ n = eqb-true k n (held (eqb k n) 5 (q .1)) in
     omega arith
 
-pub listed-length : (n : ℕ) (lengths : List ℕ) (rest : ℕ) → listedRefusal n lengths rest ≡ 0 → length lengths ≡ 2 * n
+listed-length : (n : ℕ) (lengths : List ℕ) (rest : ℕ) → listedRefusal n lengths rest ≡ 0 → length lengths ≡ 2 * n
 listed-length n lengths rest h = go (eqb (length lengths) (2 * n)) _ (λ e. e) h
   where
     go : (b : Bool) (k : ℕ) → (b ≡ true → eqb (length lengths) (2 * n) ≡ true) → cond b k 6 ≡ 0 → length lengths ≡ 2 * n

@@ -33,7 +33,7 @@ AllFit [] = Unit
 AllFit (x ∷ xs) = (x < 256 ^ 8) × AllFit xs
 
 -- number j + i, where numbers stand from number j on
-pub number-read : (xs : List ℕ) (j : ℕ) (s : List ℕ) → At s (8 * j) (numberBytes xs) → AllFit xs → (i : ℕ) → i < length xs → numberAt s (j + i) ≡ getD xs i 0
+number-read : (xs : List ℕ) (j : ℕ) (s : List ℕ) → At s (8 * j) (numberBytes xs) → AllFit xs → (i : ℕ) → i < length xs → numberAt s (j + i) ≡ getD xs i 0
 number-read [] j s a f i h = absurd (omega arith)
 number-read (x ∷ xs) j s a f zero h =
     ap (numberAt s) (add-zero j) ∙ ap valueOr0 (item-is 8 x (8 * j) (f .0) s (first s (8 * j) (leBytes 8 x) (numberBytes xs) a))
@@ -45,7 +45,7 @@ number-read (x ∷ xs) j s a f (suc i) h =
     ap (numberAt s) k ∙ number-read xs (j + 1) s b (f .1) i l
 
 -- bytes stored from the start of a record that has room for them
-pub stored-at : (r b : List ℕ) → length b ≤ length r → laid r 0 b ≡ b ++ drop (length b) r
+stored-at : (r b : List ℕ) → length b ≤ length r → laid r 0 b ≡ b ++ drop (length b) r
 stored-at r b h =
     let k : 0 + length b ≤ length r = omega arith in
     rw (le-leb (0 + length b) (length r) k) (front b r h)

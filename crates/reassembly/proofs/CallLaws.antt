@@ -22,7 +22,7 @@ pub joined : (x : Step) (s f : Partial) → x ≡ combine s f → Does (Combine 
 joined x s f q = record { answer = ap (λ (y : Step). replyOf (y .verdict)) q; left = ap (λ (y : Step). y .after) q }
 
 -- answers tell verdicts apart
-pub one-verdict : (v w : Verdict) → replyOf v ≡ replyOf w → v ≡ w
+one-verdict : (v w : Verdict) → replyOf v ≡ replyOf w → v ≡ w
 one-verdict Done Done e = refl
 one-verdict Done (Refused n p) e = let z : _≡_ {A = ℕ} 0 1 = cc in absurd (omega arith)
 one-verdict (Refused n p) Done e = let z : _≡_ {A = ℕ} 0 1 = cc in absurd (omega arith)

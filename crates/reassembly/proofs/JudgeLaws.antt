@@ -95,7 +95,7 @@ admitted (A.Refused n) b = Refused n 0
 admitted A.Fresh b = Done
 admitted A.Same b = cond b (Refused 14 0) Done
 
-pub judge-admits : (s : Partial) (n : ℕ) (m : Message) (v : View) → judge n (stateOf s) (identityOf m) v ≡ admitted (admissionOf (s .rec) n m) (clash (s .rec .message .total) (viewOf s) v)
+judge-admits : (s : Partial) (n : ℕ) (m : Message) (v : View) → judge n (stateOf s) (identityOf m) v ≡ admitted (admissionOf (s .rec) n m) (clash (s .rec .message .total) (viewOf s) v)
 unfolding admissionOf
 judge-admits s n m v =
     by-bool _ (leb (m .total) n)
@@ -116,7 +116,7 @@ refused-same k e = let z : _≡_ {A = ℕ} 0 1 = cc in omega arith
 fresh-same : A.Fresh ≡ A.Same → ⊥
 fresh-same e = let z : _≡_ {A = ℕ} 0 1 = cc in omega arith
 
-pub admits-same : (r : PartialRecord) (n : ℕ) (m : Message) → admissionOf r n m ≡ A.Same → Admits r n m
+admits-same : (r : PartialRecord) (n : ℕ) (m : Message) → admissionOf r n m ≡ A.Same → Admits r n m
 unfolding admissionOf
 admits-same r n m e =
     by-bool _ (leb (m .total) n)
@@ -146,7 +146,7 @@ length-begun r m n e = ap length e ∙ by-bool _ (r .started) (λ t. rw t) (λ t
 
 -- ---- taking in
 module _ (s : Partial) (x : Reading) where
-  pub reading-unsound : sound s ≡ false → judgeReading s x ≡ Refused 12 0
+  reading-unsound : sound s ≡ false → judgeReading s x ≡ Refused 12 0
   unfolding judgeReading
   reading-unsound e = rw e
 
@@ -154,7 +154,7 @@ module _ (s : Partial) (x : Reading) where
   unfolding judgeReading
   reading-judged e = rw e
 
-  pub reading-sound : judgeReading s x ≡ Done → sound s ≡ true
+  reading-sound : judgeReading s x ≡ Done → sound s ≡ true
   reading-sound e = by-bool _ (sound s) (λ t. t) (λ t. absurd (refused-done 12 0 (sym (reading-unsound t) ∙ e)))
 
   pub take-refused : (n p : ℕ) → judgeReading s x ≡ Refused n p → takeIn s x ≡ record { verdict = Refused n p; after = s }
@@ -246,7 +246,7 @@ module _ (s f : Partial) where
       → judgeCombine s f ≡ admitted (admissionOf (s .rec) (length (s .payload)) (f .rec .message)) (clash (s .rec .message .total) (viewOf s) (viewOf f))
   combine-admits e g h = combine-judged e g ∙ rw h (judge-admits s (length (s .payload)) (f .rec .message) (viewOf f))
 
-  pub combine-sound : judgeCombine s f ≡ Done → sound s ≡ true
+  combine-sound : judgeCombine s f ≡ Done → sound s ≡ true
   combine-sound e = by-bool _ (sound s) (λ t. t) (λ t. absurd (refused-done 12 0 (sym (combine-unsound t) ∙ e)))
 
   pub combine-source-sound : judgeCombine s f ≡ Done → sound f ≡ true

@@ -31,7 +31,7 @@ pub bounded : (s : Partial) → Bounded (stateOf s)
 bounded s =
     by-bool _ (s .rec .started) (λ e. rw e (λ i h. marked-above (s .layout) (s .rec .message .total) (s .payload) (s .marks) i h)) (λ e. rw e tt)
 
-pub alone-bounded : (x : Reading) → ProperReading x → Bounded (alone x)
+alone-bounded : (x : Reading) → ProperReading x → Bounded (alone x)
 alone-bounded (chunk m at d) o = λ i h. data-above at d i (omega (arith, o .fits))
 alone-bounded (refusal n p) o = tt
 

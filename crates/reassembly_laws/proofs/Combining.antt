@@ -23,7 +23,7 @@ module _ (a b : Partial) (ga : Good a) where
   pub combined-verdict : combine a b .verdict ≡ judgeCombine a b
   combined-verdict = combine-stepped a ga b .verdict ∙ sym (source-verdict a ga b)
 
-  pub combined-good : Good (combine a b .after)
+  combined-good : Good (combine a b .after)
   combined-good = combine-stepped a ga b .good
 
   pub combined-room : length (combine a b .after .payload) ≡ length (a .payload)
@@ -68,14 +68,14 @@ module _ (a b : Partial) (ga : Good a) (gb : Good b) (room : Room a b) where
   agree-done g = verdict-between ∙ StateLaws.agree-done (stateOf a) (stateOf b) g
 
   -- not to disagree is to be accepted
-  pub agree-accepts : disagree a b ≡ false → combine a b .verdict ≡ Done
+  agree-accepts : disagree a b ≡ false → combine a b .verdict ≡ Done
   agree-accepts e = verdict-between ∙ not-refused (between (stateOf a) (stateOf b)) e
     where
       not-refused : (v : Verdict) → isRefused v ≡ false → v ≡ Done
       not-refused Done q = refl
       not-refused (Refused n p) q = absurd (true≢false q)
 
-  pub accepts-agree : combine a b .verdict ≡ Done → disagree a b ≡ false
+  accepts-agree : combine a b .verdict ≡ Done → disagree a b ≡ false
   accepts-agree e = ap isRefused (sym verdict-between ∙ e)
 
 -- ---- three, in either grouping

@@ -176,7 +176,7 @@ module _ (id : Identity) (p : List ℕ) (size : ℕ) where
           )
 
   -- ---- WHAT CUTTING WROTE, after an accepted chunk's envelope, reads as that chunk
-  pub cut-is-chunk : (k : ℕ) (a : Arrival) → id .number < 65536 → id .total ≡ length p → IsCut id p size k a → IsChunk id p size k a
+  cut-is-chunk : (k : ℕ) (a : Arrival) → id .number < 65536 → id .total ≡ length p → IsCut id p size k a → IsChunk id p size k a
   cut-is-chunk k a hn long w =
       let s = a .datagram in
       let c = placeOf (w .message .envelope) (w .message .places .«publisher_end») (cutPlace p (id .number) size k hn (w .accepted) (w .at)) in

@@ -42,9 +42,9 @@ pub record History (n : ℕ) (ks : List Call) (s : Partial) (from : State) : Typ
   pub replies-are : replies ks s ≡ machineReplies n ks from
   pub partial-is : stateOf (final ks s) ≡ machineFinal n ks from
   pub stays-good : Good (final ks s)
-  pub room-stays : length (final ks s .payload) ≡ n
+  room-stays : length (final ks s .payload) ≡ n
 
-pub history-from : (ks : List Call) (s : Partial) → Good s → History (length (s .payload)) ks s (stateOf s)
+history-from : (ks : List Call) (s : Partial) → Good s → History (length (s .payload)) ks s (stateOf s)
 history-from [] s ok = record { replies-are = refl; partial-is = refl; stays-good = ok; room-stays = refl }
 history-from (k ∷ ks) s ok =
     let f = Following.follow s ok k in
@@ -222,7 +222,7 @@ chunk-as-partial s f ok okf m at d o q = go (judgeReading s (chunk m at d)) refl
         }
 
 -- with its own record in areas of equal length, all is the same: answer, record and every byte
-pub take-is-combine : (s : Partial) → Good s → (m : Message) (at : ℕ) (d : List ℕ) → Proper m at (length d) → m .total ≤ length (s .payload)
+take-is-combine : (s : Partial) → Good s → (m : Message) (at : ℕ) (d : List ℕ) → Proper m at (length d) → m .total ≤ length (s .payload)
     → takeIn s (chunk m at d) ≡ combine s (Alone.chunkAlone (s .layout) (length (s .payload)) m at d)
 unfolding put
 take-is-combine s ok m at d o room = go (judgeReading s (chunk m at d)) refl

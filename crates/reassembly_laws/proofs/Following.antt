@@ -40,7 +40,7 @@ pub record Fit (m : Message) (n : ℕ) : Type 0 where
   pub room : m .total ≤ n
   pub publisher : publisherFits (m .publisher) ≡ true
 
-pub fit-sound : (L : Layout) (r : PartialRecord) (n k : ℕ) → marksFor L n ≡ k → Fit (r .message) n → soundBy L r n k ≡ true
+fit-sound : (L : Layout) (r : PartialRecord) (n k : ℕ) → marksFor L n ≡ k → Fit (r .message) n → soundBy L r n k ≡ true
 unfolding soundBy
 fit-sound L r n k e f =
     rw (eq-eqb (marksFor L n) k e, le-leb 1 (r .message .total) (f .some), le-leb (r .message .total) n (f .room), f .publisher)

@@ -51,7 +51,7 @@ module _ (s t : Partial) (same : SameButMarks s t) where
       ∙ ap₂ onlyIf (rw (e, same-started true e) at (same .covered i)) (ap (λ (p : List ℕ). getD p i 0) (same .payload))
       ∙ sym (view-by (t .layout) (t .rec .message .total) (t .payload) (t .marks) i))
 
-  pub same-state : stateOf s ≡ stateOf t
+  same-state : stateOf s ≡ stateOf t
   same-state =
       by-bool _ (s .rec .started)
       (λ e. rw (e, same-started true e) (ap₂ held (ap (λ (r : PartialRecord). identityOf (r .message)) (same .rec)) (same-view e)))
@@ -162,14 +162,14 @@ pub record SameHistory (ks ls : List Call) (s t : Partial) : Type 0 where
   pub answered : replies ks s ≡ replies ls t
   pub left : SameButMarks (final ks s) (final ls t)
 
-pub same-history : (ks ls : List Call) (s t : Partial) → SameCalls ks ls → SameButMarks s t → Good s → Good t → SameHistory ks ls s t
+same-history : (ks ls : List Call) (s t : Partial) → SameCalls ks ls → SameButMarks s t → Good s → Good t → SameHistory ks ls s t
 same-history _ _ s t none same ok ok′ = record { answered = refl; left = same }
 same-history _ _ s t (next k l ks ls c cs) same ok ok′ =
     let h = same-history ks ls (leaves k s) (leaves l t) cs (same-left s t same ok ok′ k l c) (Following.follow s ok k .good) (Following.follow t ok′ l .good) in
     record { answered = ap₂ _∷_ (same-reply s t same ok ok′ k l c) (h .answered); left = h .left }
 
 -- ---- FROM EMPTYING: sound partials with one record, not started, and one payload area, whatever their marks are
-pub emptied-same : (s t : Partial) → Good s → Good t → s .rec ≡ t .rec → s .payload ≡ t .payload → s .rec .started ≡ false → SameButMarks s t
+emptied-same : (s t : Partial) → Good s → Good t → s .rec ≡ t .rec → s .payload ≡ t .payload → s .rec .started ≡ false → SameButMarks s t
 emptied-same s t ok ok′ r p e =
     let e′ : t .rec .started ≡ false = ap (λ (x : PartialRecord). x .started) (sym r) ∙ e in
     record { rec = r; payload = p; sound = ok .is-sound ∙ sym (ok′ .is-sound); covered = λ i. rw (e, e′) }
@@ -190,7 +190,7 @@ module _ (L : Layout) (s : Partial) (ok : Good s) where
   unfolding blank
   length-blank = length-replicate {A = ℕ} (marksFor L (length (s .payload))) 0
 
-  pub in-layout-good : Good (inLayout L s)
+  in-layout-good : Good (inLayout L s)
   unfolding blank soundBy
   in-layout-good =
       let e : marksFor L (length (s .payload)) ≡ length (inLayout L s .marks) = sym (length-markAll L (marked (s .layout) (s .marks)) blank ∙ length-blank) in

@@ -24,7 +24,7 @@ pub bytes-length : (xs : List ℕ) → length (numberBytes xs) ≡ 8 * length xs
 bytes-length [] = refl
 bytes-length (x ∷ xs) = omega (arith, length-append (leBytes 8 x) (numberBytes xs), length-leBytes 8 x, bytes-length xs)
 
-pub bytes-length-2 : (xs : List ℕ) → length (bytesOf 2 xs) ≡ 2 * length xs
+bytes-length-2 : (xs : List ℕ) → length (bytesOf 2 xs) ≡ 2 * length xs
 bytes-length-2 [] = refl
 bytes-length-2 (x ∷ xs) = omega (arith, length-append (leBytes 2 x) (bytesOf 2 xs), length-leBytes 2 x, bytes-length-2 xs)
 
@@ -74,7 +74,7 @@ list-end s l r i p h w =
     let q : 16 - i ≡ 0 = omega arith in
     ap (λ (k : ℕ). sets l i (listed k s p)) (sym q) ∙ w
 
-pub store-next-sets : (l e f x y : List ℕ) (at : ℕ) → at ≡ length x → at + length y ≤ length l → e ≡ sets l 0 x → f ≡ sets e at y → f ≡ sets l 0 (x ++ y)
+store-next-sets : (l e f x y : List ℕ) (at : ℕ) → at ≡ length x → at + length y ≤ length l → e ≡ sets l 0 x → f ≡ sets e at y → f ≡ sets l 0 (x ++ y)
 store-next-sets l e f x y at a room q v =
     let n : length e ≡ length l = ap (λ (k : List ℕ). length k) q ∙ length-sets l 0 x in
     store-next l e f x y at a room q (rw (le-leb (at + length y) (length e) (omega arith)) v)

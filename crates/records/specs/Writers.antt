@@ -51,7 +51,8 @@ typesFor c writer = cond (ltb 65535 writer) [] (fieldsOfId (idsIn c) (startsIn c
 -- the record's bytes, in the layout's order
 abbrev pub configBytes : Config → List ℕ
 configBytes c =
-    ((((leBytes 1 (atMost MOST_WRITERS (c .writers)) ++ leBytes 1 (atMost MOST_FIELDS (c .fields))) ++ bytesOf 2 (c .ids)) ++ bytesOf 2 (c .sizes)) ++ c .starts)
+    ((((leBytes 1 (atMost MOST_WRITERS (c .writers)) ++ leBytes 1 (atMost MOST_FIELDS (c .fields)))
+    ++ bytesOf 2 (c .ids)) ++ bytesOf 2 (c .sizes)) ++ c .starts)
     ++ c .types
 
 -- the record of a configuration text: "Refusals: 16 with the line, counted from 1; 11"

@@ -73,7 +73,7 @@ value-some encoding types k v w =
     let t = whole-alone (encodedAt encoding types k v 0) (length v) w in
     some-of encoding types k v (t .0) (t .1)
 
-pub fields-some : (delta : Bool) (encoding : Encoding) (types : List ℕ) (k : ℕ) (indices : List ℕ) (vs : List (List ℕ)) → fieldsWhole encoding types k vs ≡ true → 0 < length vs
+fields-some : (delta : Bool) (encoding : Encoding) (types : List ℕ) (k : ℕ) (indices : List ℕ) (vs : List (List ℕ)) → fieldsWhole encoding types k vs ≡ true → 0 < length vs
     → 0 < length (fieldsBytes delta indices vs)
 unfolding fieldsWhole fieldsBytes
 fields-some delta encoding types k indices [] w l = absurd (omega arith)

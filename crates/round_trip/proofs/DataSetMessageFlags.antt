@@ -294,14 +294,14 @@ module _ (s : List ℕ) (f : Flags) (next : ℕ) (r : FlagsBack s f next) (h : H
   bit-number : (p : Bool) (n : ℕ) → n < 2 → p ≡ eqb n 1 → num p ≡ n
   bit-number p n l e = ap num e ∙ num-bit n l
 
-  pub flags2-same : flags2Of h ≡ r .flags2
+  flags2-same : flags2Of h ≡ r .flags2
   flags2-same =
       let k : kindNumber (h .kind) ≡ r .flags2 % 16 = ap (λ (x : Flags). kindNumber (x .kind)) same ∙ kind-number (r .flags2 % 16) (r .second .kind) in
       let t = bit-number (onI64 (h .timestamp)) (r .flags2 / 16 % 2) (omega arith) (ap (λ (x : Flags). x .timestamp) same) in
       let p = bit-number (on16 (h .picoseconds)) (r .flags2 / 32 % 2) (omega arith) (ap (λ (x : Flags). x .picoseconds) same) in
       rw (k, t, p) (sum2 (r .flags2) (r .second .small))
 
-  pub flags1-same : flags1Of h ≡ r .flags1
+  flags1-same : flags1Of h ≡ r .flags1
   flags1-same =
       let e : encodingNumber (h .encoding) ≡ r .flags1 / 2 % 4 = ap (λ (x : Flags). encodingNumber (x .encoding)) same ∙ encoding-number (r .flags1 / 2 % 4) (r .encoding) in
       let a = bit-number (on16 (h .sequence)) (r .flags1 / 8 % 2) (omega arith) (ap (λ (x : Flags). x .sequence) same) in

@@ -357,7 +357,7 @@ field-alone delta encoding types k s at f end h =
       size,
     )
 
-pub field-back : (delta : Bool) (encoding : Encoding) (types : List ℕ) (k : ℕ) (s : List ℕ) (at : ℕ) (f : Field) (end : ℕ) → Bytes s
+field-back : (delta : Bool) (encoding : Encoding) (types : List ℕ) (k : ℕ) (s : List ℕ) (at : ℕ) (f : Field) (end : ℕ) → Bytes s
     → fieldAt delta encoding types k s at ≡ got f end → FieldTaken delta encoding types k s at f end
 field-back delta encoding types k s at f end bytes h =
     let w = field-inside delta encoding types k s at f end h in

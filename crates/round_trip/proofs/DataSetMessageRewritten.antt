@@ -168,7 +168,7 @@ module _ (types s : List ℕ) (h : Header) (n first end : ℕ) (header : HeaderB
   none-refused : refusalOf types g ≡ 0
   none-refused = rw (header .kind, header .picoseconds, body-none, body-agrees, lists-agree)
 
-  pub parts-again : Rewritten types s (read h n first end)
+  parts-again : Rewritten types s (read h n first end)
   parts-again =
       record {
         accepted = none-refused;

@@ -62,7 +62,7 @@ class-is (ClassId.Is g) m f = last guid ClassId.Is m (guidBytes g) g (guid-is g 
 
 -- the group header
 
-pub number-is : (x : Optional16) (m : ℕ) → Fits16 x → numberRefusal x ≡ 0 → Reads (numberAt (on16 x)) m (optional16Bytes x) x
+number-is : (x : Optional16) (m : ℕ) → Fits16 x → numberRefusal x ≡ 0 → Reads (numberAt (on16 x)) m (optional16Bytes x) x
 number-is Optional16.Absent m f h = nothing Optional16.Absent m
 number-is (Optional16.Is v) m f h = last (ruled 2 numberRule) Optional16.Is m (leBytes 2 v) v (ruled-is 2 numberRule v m f h)
 
@@ -115,7 +115,7 @@ group-is (GroupHeader.Is g) m f h =
 
 -- the PayloadHeader
 
-pub chunk-on : (chunk : Bool) (w : ℕ) (ids configured : List ℕ) → idsShape chunk (PayloadHeader.Chunk w) ids configured ≡ 0 → chunk ≡ true
+chunk-on : (chunk : Bool) (w : ℕ) (ids configured : List ℕ) → idsShape chunk (PayloadHeader.Chunk w) ids configured ≡ 0 → chunk ≡ true
 chunk-on true w ids configured h = refl
 chunk-on false w ids configured h = absurd (omega arith)
 

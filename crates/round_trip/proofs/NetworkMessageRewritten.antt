@@ -222,7 +222,7 @@ flags-shorter f =
     omega (arith, needed-more (extended1Of (rewrittenFlags f)) (extended1Of f) l, flags-sized f refl refl, flags-sized (rewrittenFlags f) refl refl)
 
 -- rewriting makes no datagram longer
-pub rewritten-short : (sizes s : List ℕ) (m : NetworkMessage) (next : ℕ) → Bytes s → networkMessageAt sizes s ≡ got m next → length (rewritten s) ≤ length s
+rewritten-short : (sizes s : List ℕ) (m : NetworkMessage) (next : ℕ) → Bytes s → networkMessageAt sizes s ≡ got m next → length (rewritten s) ≤ length s
 rewritten-short sizes s m next b h =
     let f = flags-of sizes s m next h in
     let r = body-same sizes s (f .0) (f .1) m next b (f .2) (f .3) in

@@ -39,13 +39,13 @@ abbrev pub Bytes : List ℕ → Type 0
 Bytes [] = Unit {0}
 Bytes (b ∷ s) = (b < 256) × Bytes s
 
-pub hex-digits : (s : List ℕ) → Bytes s → allHex (hexText s) ≡ true
+hex-digits : (s : List ℕ) → Bytes s → allHex (hexText s) ≡ true
 hex-digits [] w = refl
 hex-digits (b ∷ s) w =
     let h : b / 16 < 16 = omega (arith, w .0) in
     rw (digit-back (b / 16) h, digit-back (b % 16) (omega arith), ne-eqb (b / 16) 16 (λ e. omega arith), ne-eqb (b % 16) 16 (λ e. omega arith)) (hex-digits s (w .1))
 
-pub hex-same : (s : List ℕ) → Bytes s → hexBytes (hexText s) ≡ s
+hex-same : (s : List ℕ) → Bytes s → hexBytes (hexText s) ≡ s
 hex-same [] w = refl
 hex-same (b ∷ s) w =
     let h : b / 16 < 16 = omega (arith, w .0) in

@@ -16,7 +16,7 @@ use Rattle.text.specs.declared.decimal.Decimal.the-variants.{Is, Not}
 use Rattle.wire.proofs.Facts.{and-left, and-right}
 use Rattle.text.proofs.Lists.{either-way, at-next, at-end}
 
-pub grows : (n : ℕ) (ds : List ℕ) → n ≤ valueFrom n ds
+grows : (n : ℕ) (ds : List ℕ) → n ≤ valueFrom n ds
 grows n [] = omega arith
 grows n (d ∷ ds) = omega (arith, grows (n * 10 + (d - 48)) ds)
 

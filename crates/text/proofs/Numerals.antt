@@ -45,7 +45,7 @@ module _ (P : ℕ → List ℕ → Type 0) (one : (n : ℕ) → n < 10 → P n (
       (λ e. let b : 10 ≤ n = ltb-false n 10 e in rw e (more n (digitsText k (n / 10)) b (by-digits k (n / 10) (omega arith))))
       (cases (ltb n 10))
 
-  pub decimal-ind : (n : ℕ) → P n (decimalText n)
+  decimal-ind : (n : ℕ) → P n (decimalText n)
   unfolding decimalText
   decimal-ind n = by-digits (suc n) n (omega arith)
 
@@ -58,7 +58,7 @@ digits-last d [] a e = rw e
 digits-last d (x ∷ t) a e = rw (and-left (isDigit x) (allDigits t) a) (digits-last d t (and-right (isDigit x) (allDigits t) a) e)
 
 -- the digits have the number's value
-pub decimal-value : (n : ℕ) → valueOf (decimalText n) ≡ n
+decimal-value : (n : ℕ) → valueOf (decimalText n) ≡ n
 decimal-value = decimal-ind (λ n t. valueOf t ≡ n) (λ n h. omega arith) (λ n t h e. value-last 0 (48 + n % 10) t ∙ omega (arith, e))
 
 digit-is : (d : ℕ) → d < 10 → isDigit (48 + d) ≡ true
@@ -86,7 +86,7 @@ leads : (n : ℕ) → 0 < n → Leads (decimalText n)
 leads = decimal-ind (λ n t. 0 < n → Leads t) (λ n h l e. omega arith) (λ n t h f l. leads-more t (48 + n % 10) (f (omega arith)))
 
 -- no leading zero
-pub decimal-plain : (n : ℕ) → plain (decimalText n) ≡ true
+decimal-plain : (n : ℕ) → plain (decimalText n) ≡ true
 decimal-plain zero = rw (decimal-one 0 (omega arith))
 decimal-plain (suc n) = leads-plain (decimalText (suc n)) (leads (suc n) (omega arith))
 

@@ -29,7 +29,7 @@ use native.Mathlib.Omega.{arith}
 use Rattle.uadp_c.specs.Reassembling.{Steps, partialOf, Lent, lent, verdictResult, takenOver, recordBy, stepIn, sourceOf, completeResult, completeIn, handResult, handIn}
 
 -- a record shorter than its layout
-pub step-short : (r p m : List ℕ) (x : ℕ) (s : Step) → length r < 112 → x ≡ resultOf 12 0 → lent x r p m ≡ stepIn r p m s
+step-short : (r p m : List ℕ) (x : ℕ) (s : Step) → length r < 112 → x ≡ resultOf 12 0 → lent x r p m ≡ stepIn r p m s
 step-short r p m x s h q = rw (lt-ltb (length r) 112 h) (ap (λ (y : ℕ). lent y r p m) q)
 
 -- a started record, and one that nothing was taken over into, stay; else the record is stored
@@ -47,7 +47,7 @@ pub takes-over : (r e : List ℕ) (k : PartialRecord) (n : ℕ) → n ≡ number
 takes-over r e k n a t h q = rw (subst (λ (x : ℕ). eqb x 1 ≡ false) a t) (so (k .started) e (laid r 0 (partialBytes k)) r h q)
 
 -- an outcome of the operation, stored
-pub step-ends : (r p m r₂ p₂ m₂ : List ℕ) (x : ℕ) (o : Outcome) (v : Verdict) (s : Step) → 112 ≤ length r → stepOf o p₂ m₂ ≡ s → o .verdict ≡ v
+step-ends : (r p m r₂ p₂ m₂ : List ℕ) (x : ℕ) (o : Outcome) (v : Verdict) (s : Step) → 112 ≤ length r → stepOf o p₂ m₂ ≡ s → o .verdict ≡ v
     → x ≡ verdictResult v → r₂ ≡ recordBy v r (o .rec) → lent x r₂ p₂ m₂ ≡ stepIn r p m s
 step-ends r p m r₂ p₂ m₂ x o v s h q t a b =
     let y : lent x r₂ p₂ m₂ ≡ lent (verdictResult v) (recordBy v r (o .rec)) p₂ m₂ =

@@ -32,7 +32,9 @@ fieldFilling a = mapAnswer (λ (f : Field). record { value = f .offset; bytes = 
 -- a step of a head record's field cursor: "11 for either record"
 abbrev pub stepResult : Answer Stepped → List ℕ → List ℕ → ℕ
 stepResult (got x next) head field =
-    cond (ltb (length head) HEAD_SIZE) (resultOf NO_ROOM 0) (cond (ltb (length field) FIELD_SIZE) (resultOf NO_ROOM 0) (resultOf 0 (x .field .offset)))
+    cond (ltb (length head) HEAD_SIZE) (resultOf NO_ROOM 0)
+    (cond (ltb (length field) FIELD_SIZE) (resultOf NO_ROOM 0)
+    (resultOf 0 (x .field .offset)))
 stepResult (refused n place) head field = resultOf n place
 
 -- the head record afterwards: its numbers 12 and 14 are the next field's number and where it starts
@@ -44,5 +46,7 @@ headAfter (refused n place) head field = head
 
 abbrev pub fieldAfter : Answer Stepped → List ℕ → List ℕ → List ℕ
 fieldAfter (got x next) head field =
-    cond (ltb (length head) HEAD_SIZE) field (cond (ltb (length field) FIELD_SIZE) field (laid field 0 (numberBytes (fieldNumbers (x .field)))))
+    cond (ltb (length head) HEAD_SIZE) field
+    (cond (ltb (length field) FIELD_SIZE) field
+    (laid field 0 (numberBytes (fieldNumbers (x .field)))))
 fieldAfter (refused n place) head field = field

@@ -33,14 +33,17 @@ writerAt config envelope d k = writerIdOf (headerIn envelope) (numberAt envelope
 -- "Value: the message's number"; "11 for either record"
 abbrev pub messageResult : Answer Stepped → List ℕ → List ℕ → ℕ
 messageResult (got x next) envelope place =
-    cond (ltb (length envelope) ENVELOPE_SIZE) (resultOf NO_ROOM 0) (cond (ltb (length place) PLACE_SIZE) (resultOf NO_ROOM 0) (resultOf 0 (x .place .index)))
+    cond (ltb (length envelope) ENVELOPE_SIZE) (resultOf NO_ROOM 0)
+    (cond (ltb (length place) PLACE_SIZE) (resultOf NO_ROOM 0)
+    (resultOf 0 (x .place .index)))
 messageResult (refused n p) envelope place = resultOf n p
 
 -- the envelope record afterwards: its numbers 26 and 27 are the next message's number and where it starts
 abbrev pub envelopeAfter : Answer Stepped → List ℕ → List ℕ → List ℕ
 envelopeAfter (got x next) envelope place =
     cond (ltb (length envelope) ENVELOPE_SIZE) envelope
-    (cond (ltb (length place) PLACE_SIZE) envelope (laid (laid envelope 208 (leBytes 8 (x .cursor .index))) 216 (leBytes 8 (x .cursor .at))))
+    (cond (ltb (length place) PLACE_SIZE) envelope
+    (laid (laid envelope 208 (leBytes 8 (x .cursor .index))) 216 (leBytes 8 (x .cursor .at))))
 envelopeAfter (refused n p) envelope place = envelope
 
 -- the place record afterwards, with what gives a message's DataSetWriterId

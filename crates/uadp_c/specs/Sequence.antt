@@ -25,7 +25,9 @@ newnessNumber Newness.Invalid = 2
 
 -- "11 for a record shorter than its layout"
 abbrev pub newnessResult : List ℕ → ℕ → ℕ
-newnessResult s received = cond (ltb (length s) SEQUENCE_SIZE) (resultOf NO_ROOM 0) (resultOf 0 (newnessNumber (newnessBy (lastIn s) received)))
+newnessResult s received =
+    cond (ltb (length s) SEQUENCE_SIZE) (resultOf NO_ROOM 0)
+    (resultOf 0 (newnessNumber (newnessBy (lastIn s) received)))
 
 -- ""newer" alone changes the record"
 abbrev pub recordAfter : List ℕ → ℕ → Newness → List ℕ

@@ -20,13 +20,13 @@ use Rattle.value.specs.declared.Shape.{Shape}
 use Rattle.wire.proofs.Places.{movedBy, end-of, within-refused, local, append, append-refused, take-refused, cut, after, placed, alone}
 use Rattle.wire.proofs.Steady.{Ends, Steady, Onward, steadily, refusing, pure-steady, refuse-steady, item-steady, length-item-steady, run-steady, onward-steady, bind-steady, then-steady, cond-steady, when-steady, each-steady, ruled-ends, ruled-steady, taking-ends, then-ends}
 
-pub passing-steady : {A : Type 0} {r : Reader A} → Steady r → Steady (passing r)
+passing-steady : {A : Type 0} {r : Reader A} → Steady r → Steady (passing r)
 passing-steady f = then-steady f (pure-steady tt)
 
-pub bytes-steady : (n : ℕ) → Steady (bytes n)
+bytes-steady : (n : ℕ) → Steady (bytes n)
 bytes-steady n = passing-steady (run-steady n)
 
-pub by-length-steady : {A : Type 0} {null : Reader A} {counted : ℕ → Reader A} → Steady null → ((n : ℕ) → Steady (counted n)) → Steady (byLength null counted)
+by-length-steady : {A : Type 0} {null : Reader A} {counted : ℕ → Reader A} → Steady null → ((n : ℕ) → Steady (counted n)) → Steady (byLength null counted)
 by-length-steady {A} {null} {counted} f h = onward-steady length-item-steady onward
   where
     onward : (l : Length) → Onward (λ p. afterLength null counted p l)
@@ -34,19 +34,19 @@ by-length-steady {A} {null} {counted} f h = onward-steady length-item-steady onw
     onward (Length.Of n) = steadily (h n)
     onward Length.Negative = refusing 5 (omega arith)
 
-pub string-steady : Steady string
+string-steady : Steady string
 unfolding string
 string-steady = by-length-steady (pure-steady tt) bytes-steady
 
-pub plain-value-steady : (t : ℕ) → Steady (plainValue t)
+plain-value-steady : (t : ℕ) → Steady (plainValue t)
 unfolding plainValue
 plain-value-steady t = cond-steady (fixed t) (bytes-steady (widthOf t)) string-steady
 
-pub plain-values-steady : (t n : ℕ) → Steady (plainValues t n)
+plain-values-steady : (t n : ℕ) → Steady (plainValues t n)
 unfolding plainValues
 plain-values-steady t n = cond-steady (fixed t) (bytes-steady (n * widthOf t)) (each-steady string-steady n)
 
-pub parts-steady : (m : ℕ) → Steady (parts m)
+parts-steady : (m : ℕ) → Steady (parts m)
 unfolding parts
 parts-steady m =
     then-steady (when-steady (bit 2 m) tt (bytes-steady 4))

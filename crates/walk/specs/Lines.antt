@@ -101,7 +101,8 @@ module _ (w : Writers) (d : List ℕ) where
   abbrev pub setLines : Listed → MessagePlace → Answer (Valid Message) → List Line
   setLines l p (got notValid next) = Line.SetInvalid (placeAt l p) ∷ []
   setLines l p (got (valid m) next) =
-      Line.Set (placeAt l p) (m .header .kind) (m .header .encoding) (m .header .sequence) ∷ fieldLines (fieldsLeft (m .cursor)) l p (m .cursor)
+      Line.Set (placeAt l p) (m .header .kind) (m .header .encoding) (m .header .sequence)
+      ∷ fieldLines (fieldsLeft (m .cursor)) l p (m .cursor)
   setLines l p (refused n place) = Line.SetBad (placeAt l p) n place ∷ []
 
   -- ---- the messages, from the cursor on, each "read alone"
@@ -140,7 +141,8 @@ module _ (w : Writers) (d : List ℕ) where
   abbrev pub nextSet : Listed → MessageCursor → MessagePlace → Answer (Valid Message) → LineStep
   nextSet l c p (got notValid next) = LineStep.Is (Line.SetInvalid (placeAt l p)) (LineCursor.Message l c)
   nextSet l c p (got (valid m) next) =
-      LineStep.Is (Line.Set (placeAt l p) (m .header .kind) (m .header .encoding) (m .header .sequence)) (LineCursor.Field l c p (m .cursor))
+      LineStep.Is (Line.Set (placeAt l p) (m .header .kind) (m .header .encoding) (m .header .sequence))
+      (LineCursor.Field l c p (m .cursor))
   nextSet l c p (refused n place) = LineStep.Is (Line.SetBad (placeAt l p) n place) (LineCursor.Message l c)
 
   abbrev pub setStep : Listed → MessageCursor → MessagePlace → LineStep

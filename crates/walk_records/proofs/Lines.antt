@@ -98,7 +98,7 @@ module _ (types s : List ℕ) where
     fields-end c h = let z : fieldsLeft c ≡ 0 = omega arith in rw z
 
     -- each field has a byte of its own
-    pub fields-few : (n : ℕ) (c : Cursor) → length (fieldsFrom types s p n c) ≤ length s - c .at
+    fields-few : (n : ℕ) (c : Cursor) → length (fieldsFrom types s p n c) ≤ length s - c .at
     unfolding fieldsFrom
     fields-few zero c = omega arith
     fields-few (suc n) c = go (λ d. fields-few n d) (stepAt c types s) refl
@@ -122,7 +122,7 @@ module _ (types s : List ℕ) where
         let i = field-inside (c .delta) (c .encoding) types (c .next) s (c .at) f e q in
         omega (arith, i .ends, i .value)
 
-    pub set-few : (w : Optional16) (a : Answer (Valid Message)) → length (setBy types s p w a) ≤ 1 + length s
+    set-few : (w : Optional16) (a : Answer (Valid Message)) → length (setBy types s p w a) ≤ 1 + length s
     set-few w (got notValid next) = omega arith
     set-few w (got (valid m) next) = let i = fields-few (fieldsLeft (m .cursor)) (m .cursor) in omega arith
     set-few w (refused n place) = omega arith
@@ -201,7 +201,7 @@ module _ (w : Writers) (d : List ℕ) where
       go (suc k) = rw e
 
   -- a message has at most as many lines as bytes, and one more
-  pub messages-few : (l : Listed) (n : ℕ) (c : MessageCursor) → length (messageLines w d n l c) ≤ n + (length d - c .at)
+  messages-few : (l : Listed) (n : ℕ) (c : MessageCursor) → length (messageLines w d n l c) ≤ n + (length d - c .at)
   unfolding messageLines
   messages-few l zero c = omega arith
   messages-few l (suc n) c = go (λ x. messages-few l n x) (messageOf l c) refl

@@ -43,7 +43,7 @@ record-put xs l e k m n h j q =
     ∙ ap (λ (i : ℕ). take at l ++ (b ++ drop i l)) z ∙ sym (append-assoc (take at l) b (drop (at + length b) l)) ∙ sym (sets-eq b l at (omega arith)))
 
 -- the records of some lines, and then those of others
-pub puts-append : (xs ys : List Line) (k : ℕ) (l : List ℕ) → recordsPut (k + length xs) ys (recordsPut k xs l) ≡ recordsPut k (xs ++ ys) l
+puts-append : (xs ys : List Line) (k : ℕ) (l : List ℕ) → recordsPut (k + length xs) ys (recordsPut k xs l) ≡ recordsPut k (xs ++ ys) l
 puts-append [] ys k l = ap (λ (i : ℕ). recordsPut i ys l) (add-zero k)
 puts-append (x ∷ xs) ys k l =
     let e : k + length (x ∷ xs) ≡ k + 1 + length xs = omega arith in

@@ -36,7 +36,8 @@ module _ (types bytes : List ℕ) (p : MessagePlace) where
   abbrev pub setBy : Optional16 → Answer (Valid Message) → List Line
   setBy writer (got notValid next) = Line.SetInvalid (setPlace writer) ∷ []
   setBy writer (got (valid m) next) =
-      Line.Set (setPlace writer) (m .header .kind) (m .header .encoding) (m .header .sequence) ∷ fieldsFrom (fieldsLeft (m .cursor)) (m .cursor)
+      Line.Set (setPlace writer) (m .header .kind) (m .header .encoding) (m .header .sequence)
+      ∷ fieldsFrom (fieldsLeft (m .cursor)) (m .cursor)
   setBy writer (refused n place) = Line.SetBad (setPlace writer) n place ∷ []
 
 -- the lines of the message in place p of datagram d

@@ -22,7 +22,8 @@ orNone (Optional16.Is v) = v
 -- so on in the order of the layout; `net` and `bad` lines do not occur among those that have records
 abbrev pub walkNumbers : Line → List ℕ
 walkNumbers (Line.Field m f) = 0 ∷ m ∷ f .index ∷ f .kind ∷ shapeNumber (f .shape) ∷ elementsNumber (f .shape) ∷ f .offset ∷ f .length ∷ []
-walkNumbers (Line.Set p k e q) = 1 ∷ p .message ∷ orNone (p .writer) ∷ kindNumber k ∷ encodingNumber e ∷ orNone q ∷ p .offset ∷ p .length ∷ []
+walkNumbers (Line.Set p k e q) =
+    1 ∷ p .message ∷ orNone (p .writer) ∷ kindNumber k ∷ encodingNumber e ∷ orNone q ∷ p .offset ∷ p .length ∷ []
 walkNumbers (Line.SetInvalid p) = 2 ∷ p .message ∷ orNone (p .writer) ∷ 0 ∷ 0 ∷ 0 ∷ p .offset ∷ p .length ∷ []
 walkNumbers (Line.SetBad p n place) = 3 ∷ p .message ∷ orNone (p .writer) ∷ n ∷ place ∷ 0 ∷ p .offset ∷ p .length ∷ []
 walkNumbers (Line.Net n id end messages) = replicate 8 0

@@ -17,17 +17,17 @@ movedBy d (refused n place) = refused n (d + place)
 
 -- bytes and where they stand
 
-pub part-after : (pre s : List ℕ) → Part (length pre) (length s) s (pre ++ s)
+part-after : (pre s : List ℕ) → Part (length pre) (length s) s (pre ++ s)
 part-after pre s = record { first = le-refl (length s); second = simp length-append (le-refl (length pre + length s)); same = λ i h. getD-append-add pre s i 0 }
 
-pub part-front : (s post : List ℕ) → Part 0 (length s) s (s ++ post)
+part-front : (s post : List ℕ) → Part 0 (length s) s (s ++ post)
 part-front s post = record {
   first = le-refl (length s);
   second = simp length-append (omega arith);
   same = λ i h. ap (λ (x : ℕ). getD (s ++ post) x 0) (zero-add i) ∙ List·getD-append s post 0 i h;
 }
 
-pub part-take : (n : ℕ) (s : List ℕ) → n ≤ length s → Part 0 (length (take n s)) (take n s) s
+part-take : (n : ℕ) (s : List ℕ) → n ≤ length s → Part 0 (length (take n s)) (take n s) s
 part-take n s h =
     let l : length (take n s) ≡ n = length-take-le n s h in
     record {
@@ -61,7 +61,7 @@ whole (Follows.lost l) = absurd (omega arith)
 pub end-of : {A : Type 0} {p lo hi e : ℕ} {a : A} → Ends p lo hi (got a e) → (lo ≤ e) × (e ≤ hi)
 end-of (Ends.ended l u) = (l, u)
 
-pub place-of : {A : Type 0} {p lo hi n place : ℕ} → Ends {A = A} p lo hi (refused n place) → (1 ≤ n) × (p ≤ place) × (place ≤ hi)
+place-of : {A : Type 0} {p lo hi n place : ℕ} → Ends {A = A} p lo hi (refused n place) → (1 ≤ n) × (p ≤ place) × (place ≤ hi)
 place-of (Ends.stopped k l u) = (k, l, u)
 
 unmoved : {A : Type 0} (d e : ℕ) (a : A) (x : Answer A) → movedBy d x ≡ got a e → x ≡ got a (e - d)
@@ -81,16 +81,16 @@ module _ {A : Type 0} {r : Reader A} (f : Steady r) where
   within-refused s at h q = place-of (subst (Ends at at (length s)) q (f .within s at (length s) h (le-refl (length s))))
 
   -- where the bytes up to its end stand in another slice, an accepted answer is the same there, moved
-  pub elsewhere : {d n : ℕ} {s s′ : List ℕ} → Part d n s s′ → (at : ℕ) {e : ℕ} {a : A} → r s at ≡ got a e → e ≤ n → r s′ (d + at) ≡ got a (d + e)
+  elsewhere : {d n : ℕ} {s s′ : List ℕ} → Part d n s s′ → (at : ℕ) {e : ℕ} {a : A} → r s at ≡ got a e → e ≤ n → r s′ (d + at) ≡ got a (d + e)
   elsewhere {d} {n} {s} {s′} part at q h =
       accepted (subst (λ (x : Answer A). Follows d n (length s) (length s′) x (r s′ (d + at))) q (f .follows d n s s′ part at (d + at) refl)) h
 
   -- where all bytes of the slice do, so are every accepted answer and every refusal that is not 1
-  pub elsewhere-whole : {d : ℕ} {s s′ : List ℕ} → Part d (length s) s s′ → (at : ℕ) {e : ℕ} {a : A} → r s at ≡ got a e → r s′ (d + at) ≡ got a (d + e)
+  elsewhere-whole : {d : ℕ} {s s′ : List ℕ} → Part d (length s) s s′ → (at : ℕ) {e : ℕ} {a : A} → r s at ≡ got a e → r s′ (d + at) ≡ got a (d + e)
   elsewhere-whole {d} {s} {s′} part at q =
       kept (subst (λ (x : Answer A). Follows d (length s) (length s) (length s′) x (r s′ (d + at))) q (f .follows d (length s) s s′ part at (d + at) refl))
 
-  pub elsewhere-refused : {d : ℕ} {s s′ : List ℕ} → Part d (length s) s s′ → (at : ℕ) {n place : ℕ} → r s at ≡ refused n place → (n ≡ 1 → ⊥) → r s′ (d + at) ≡ refused n (d + place)
+  elsewhere-refused : {d : ℕ} {s s′ : List ℕ} → Part d (length s) s s′ → (at : ℕ) {n place : ℕ} → r s at ≡ refused n place → (n ≡ 1 → ⊥) → r s′ (d + at) ≡ refused n (d + place)
   elsewhere-refused {d} {s} {s′} part at q h =
       stopped (subst (λ (x : Answer A). Follows d (length s) (length s) (length s′) x (r s′ (d + at))) q (f .follows d (length s) s s′ part at (d + at) refl)) h
 

@@ -40,7 +40,7 @@ pub record Steady {A : Type 0} (r : Reader A) : Type 0 where
   pub follows : (d n : ℕ) (s s′ : List ℕ) → Part d n s s′ → (at q : ℕ) → q ≡ d + at → Follows d n (length s) (length s′) (r s at) (r s′ q)
 
 -- lower bounds hold too
-pub ends-from : {A : Type 0} {p p′ lo lo′ hi : ℕ} {x : Answer A} → p ≤ p′ → lo ≤ lo′ → Ends p′ lo′ hi x → Ends p lo hi x
+ends-from : {A : Type 0} {p p′ lo lo′ hi : ℕ} {x : Answer A} → p ≤ p′ → lo ≤ lo′ → Ends p′ lo′ hi x → Ends p lo hi x
 ends-from g h (ended l u) = ended (le-trans h l) u
 ends-from g h (stopped k l u) = stopped k (le-trans g l) u
 
@@ -69,7 +69,7 @@ taking-ends w f s at hi l u = go (leb (at + w) (length s)) refl
     go true e = ended (le-refl (at + w)) (le-trans (leb-true (at + w) (length s) e) u)
     go false e = stopped (le-refl 1) (le-refl at) l
 
-pub taking-steady : {A : Type 0} (w : ℕ) (f : List ℕ → ℕ → A) → Local w f → Steady (taking w f)
+taking-steady : {A : Type 0} (w : ℕ) (f : List ℕ → ℕ → A) → Local w f → Steady (taking w f)
 taking-steady {A} w f local =
     record { within = λ s at hi l u. ends-from (le-refl at) (le-add-right at w) (taking-ends w f s at hi l u); follows = walk }
   where
@@ -101,7 +101,7 @@ taking-steady {A} w f local =
     walk : (d n : ℕ) (s s′ : List ℕ) → Part d n s s′ → (at q : ℕ) → q ≡ d + at → Follows d n (length s) (length s′) (taking w f s at) (taking w f s′ q)
     walk d n s s′ part at q e = go d n s s′ part at q e (leb (at + w) (length s)) (leb (q + w) (length s′)) refl refl
 
-pub le-local : (w : ℕ) → Local w (le w)
+le-local : (w : ℕ) → Local w (le w)
 le-local zero s s′ at q h = refl
 le-local (suc w) s s′ at q h =
     let b : getD s′ q 0 ≡ getD s at 0 = ap (λ (x : ℕ). getD s′ x 0) (sym (add-zero q)) ∙ h 0 (omega arith) ∙ ap (λ (x : ℕ). getD s x 0) (add-zero at) in

@@ -77,7 +77,7 @@ run-part s at n next e h =
     let z : at + n - n ≡ at = omega arith in
     rw (e, z) (part-at s at n h)
 
-pub le-bound : (w : ℕ) (s : List ℕ) (at : ℕ) → Bytes s → le w s at < 256 ^ w
+le-bound : (w : ℕ) (s : List ℕ) (at : ℕ) → Bytes s → le w s at < 256 ^ w
 le-bound zero s at b = omega arith
 le-bound (suc w) s at b = omega (arith, b at, le-bound w s (at + 1) b, pow-suc 256 w)
 

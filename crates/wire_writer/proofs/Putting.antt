@@ -21,7 +21,7 @@ use Rattle.wire_writer.proofs.Stores.{sets-append}
 use Rattle.wire_writer.specs.Writing.{Puts}
 
 -- bytes of n were laid at a position, and next is the position after n bytes
-pub stored-run : (n : ℕ) (b entry : List ℕ) (at : ℕ) (exit : List ℕ) (next : ℕ) → length b ≡ n → exit ≡ laid entry at b
+stored-run : (n : ℕ) (b entry : List ℕ) (at : ℕ) (exit : List ℕ) (next : ℕ) → length b ≡ n → exit ≡ laid entry at b
     → next ≡ cond (leb (at + n) (length entry)) (at + n) at → Stored b entry at exit next
 stored-run n b entry at exit next h e q = record { stored = e; after = q ∙ ap (λ (k : ℕ). cond (leb (at + k) (length entry)) (at + k) at) (sym h) }
 

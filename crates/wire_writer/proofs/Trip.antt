@@ -92,7 +92,7 @@ unsigned-fits : (z : ℤ) → InRange 8 z → unsigned 8 z < 256 ^ 8
 unsigned-fits (pos n) h = omega arith
 unsigned-fits (negsuc n) h = omega arith
 
-pub signed-item-is : (z : ℤ) (m : ℕ) → InRange 8 z → Reads (signedItem 8) m (leBytes 8 (unsigned 8 z)) z
+signed-item-is : (z : ℤ) (m : ℕ) → InRange 8 z → Reads (signedItem 8) m (leBytes 8 (unsigned 8 z)) z
 signed-item-is z m h s a =
     rw (le-leb (m + 8) (length s) (fits-number 8 (unsigned 8 z) m s a), le-at 8 (unsigned 8 z) m (unsigned-fits z h) s a, signed-unsigned 8 z (omega arith) h)
 
