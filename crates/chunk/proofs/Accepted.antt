@@ -277,6 +277,3 @@ data-length sizes s c n e =
     let l : length (drop (c .payload .first) s) ≡ length s - c .payload .first = length-drop (c .payload .first) s in
     let h : c .payload .length ≤ length (drop (c .payload .first) s) = omega (arith, a .ends) in
     rw e (length-take-le (c .payload .length) (drop (c .payload .first) s) h)
-
-pub data-not-empty : (sizes s : List ℕ) (c : ChunkPlace) (n : ℕ) → chunkAt sizes s ≡ got c n → 1 ≤ length (chunkData (chunkAt sizes s) s)
-data-not-empty sizes s c n e = rw (data-length sizes s c n e) (accepted sizes s c n e .sized .filled)

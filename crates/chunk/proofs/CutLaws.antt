@@ -67,14 +67,6 @@ cuts total size k e = go (eqb size 0) (eqb total 0) (ltb 16384 total) (leb total
       inside = leb-false total (k * size) s;
     }
 
--- and the other way
-pub cuts-rule : (total size k : ℕ) → Cuts total size k → cutRule total size k ≡ 0
-unfolding cutRule
-cuts-rule total size k c =
-    let a : size ≡ 0 → ⊥ = λ e. omega (arith, c .some) in
-    let b : total ≡ 0 → ⊥ = λ e. omega (arith, c .filled) in
-    rw (ne-eqb size 0 a, ne-eqb total 0 b, le-ltb 16384 total (c .small), lt-leb total (k * size) (c .inside))
-
 -- ---- the data of chunk k: it reaches to the next chunk, or to the payload's end
 module _ (p : List ℕ) (size k : ℕ) where
   pub data-most : length (cutData p size k) ≤ length p - k * size

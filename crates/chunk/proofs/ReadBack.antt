@@ -59,7 +59,7 @@ abbrev pub payloadPlace : ℕ → ℕ → ℕ → ℕ → ℕ → ChunkPayload
 payloadPlace number offset total n m = record { number = number; offset = offset; total = total; first = m + 14; length = n }
 
 -- ---- the payload of a chunk that breaks no rule
-pub payload-back : (number offset total : ℕ) (d : List ℕ) → number < 65536 → 1 ≤ total → total ≤ 16384 → 1 ≤ length d → offset + length d ≤ total
+payload-back : (number offset total : ℕ) (d : List ℕ) → number < 65536 → 1 ≤ total → total ≤ 16384 → 1 ≤ length d → offset + length d ≤ total
     → (s : List ℕ) (m : ℕ) → Ends s m (payloadBytes number offset total d) → chunkPayloadAt s m ≡ got (payloadPlace number offset total (length d) m) (length s)
 payload-back number offset total d hn t₁ t₂ f w s m e =
     let a₁ = passed 2 number (omega arith) s m _ e in

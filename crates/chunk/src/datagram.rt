@@ -19,6 +19,7 @@ pub struct ChunkPlace {
     pub payload: ChunkPayload,
 }
 
+// A chunk's message and where its payload stands, with the datagram's end; or the number and place of its refusal.
 pub enum ChunkRead {
     Is(ChunkPlace, usize),
     Refused(u8, usize),

@@ -65,6 +65,7 @@ pub fn find_writer(ids: &[u16], id: u16) -> usize
     i
 }
 
+// Whether an id is among these.
 pub fn has_writer(ids: &[u16], id: u16) -> bool
     ensures { λ r. ⌜ r ≡ contains id (now (ids .entry)) ⌝ }
 {

@@ -62,9 +62,6 @@ module _ (s : List ℕ) (at : ℕ) (h : startsWith (drop at s) dash ≡ false) w
     pub size-is : (n ≡ 0 → ⊥) → Is n next ≡ sizeAt s at
     size-is z = rw (size-taken .there, not-dash (drop at s) h (size-taken .there), size-taken .says, ne-eqb n 0 z) (ap (Is n) (size-taken .after))
 
-    pub size-within : n ≤ 65535
-    size-within = decimal-is 65535 (upTo 10 (drop at s)) n (size-taken .says) .1
-
 -- a field's line
 module _ (s : List ℕ) (at : ℕ) where
   pub field-none : decimalAt 255 10 s at ≡ Not → Bad ≡ restAt fieldRest s at

@@ -156,7 +156,7 @@ pub record Agrees (c : Cursor) (types s : List ℕ) (k : ℕ) : Type 0 where
   pub looked-up : nthAt c types k s ≡ got place end
 
 -- Stepping through all fields visits exactly the fields that reading the whole message accepts, in their order.
-pub walk-agrees : (c : Cursor) (types s : List ℕ) (e : ℕ) → c .next ≡ 0 → fieldsAt (c .delta) (c .encoding) types (c .count) 0 s (c .at) ≡ got tt e
+walk-agrees : (c : Cursor) (types s : List ℕ) (e : ℕ) → c .next ≡ 0 → fieldsAt (c .delta) (c .encoding) types (c .count) 0 s (c .at) ≡ got tt e
     → (k : ℕ) → k < c .count → Agrees c types s k
 walk-agrees c types s e z h k l =
     let b = passed-below c types s (c .count) e (suc k) l h in

@@ -22,6 +22,7 @@ pub struct Located {
     pub length: usize,
 }
 
+// Field k of a message: number 0, its offset and length; or the number and place of the refusal, with no bytes.
 pub fn locate(s: &[u8], types: &[u8], k: usize) -> Located
     ensures { λ r. ⌜ r ≡ locatedBy (fieldPlaceAt (now (types .entry)) k (now (s .entry))) ⌝ }
 {
@@ -41,6 +42,7 @@ pub fn locate(s: &[u8], types: &[u8], k: usize) -> Located
     }
 }
 
+// The part of the message that a field has; none where it was refused.
 pub fn bytes_of(s: &[u8], l: Located) -> &[u8]
     ensures { λ r. ⌜ now r ≡ partOf l (now (s .entry)) ⌝ }
 {

@@ -34,7 +34,7 @@ made p k g c h t o m =
     }
 
 -- an envelope, changed part by part
-pub envelope-made : {p p₁ : PublisherId} {k k₁ : ClassId} {g g₁ : GroupHeader} {c c₁ : Bool} {h h₁ : PayloadHeader} {t t₁ : OptionalI64}
+envelope-made : {p p₁ : PublisherId} {k k₁ : ClassId} {g g₁ : GroupHeader} {c c₁ : Bool} {h h₁ : PayloadHeader} {t t₁ : OptionalI64}
     {o o₁ : Optional16} {m m₁ : Promoted} → p ≡ p₁ → k ≡ k₁ → g ≡ g₁ → c ≡ c₁ → h ≡ h₁ → t ≡ t₁ → o ≡ o₁ → m ≡ m₁
     → made p k g c h t o m ≡ made p₁ k₁ g₁ c₁ h₁ t₁ o₁ m₁
 envelope-made {p} {p₁} {k} {k₁} {g} {g₁} {c} {c₁} {h} {h₁} {t} {t₁} {o} {o₁} {m} {m₁} ep ek eg ec eh et eo em =

@@ -18,6 +18,7 @@ ghost use Rattle.dataset_header.specs.Flags.{valid, notValid};
 ghost use Rattle.records.specs.Numbers.{numberBytes};
 ghost use Rattle.message_record.specs.Message.{has16, value16, has32, value32, hasI64, valueI64, encodingNumber, encodingIn, kindNumber, flagNumber, itemsNumber, headNumbers, cursorIn, shapeNumber, elementsNumber, fieldNumbers};
 
+// 1 where the item is there, else 0.
 pub fn has16(x: Optional16) -> u64
     ensures { λ r. ⌜ (r ≡ has16 x) × (r ≤ 1) ⌝ }
 {
@@ -27,6 +28,7 @@ pub fn has16(x: Optional16) -> u64
     }
 }
 
+// The item's number, 0 where it is absent.
 pub fn value16(x: Optional16) -> u64
     ensures { λ r. ⌜ r ≡ value16 x ⌝ }
 {
@@ -36,6 +38,7 @@ pub fn value16(x: Optional16) -> u64
     }
 }
 
+// 1 where the item is there, else 0.
 pub fn has32(x: Optional32) -> u64
     ensures { λ r. ⌜ (r ≡ has32 x) × (r ≤ 1) ⌝ }
 {
@@ -45,6 +48,7 @@ pub fn has32(x: Optional32) -> u64
     }
 }
 
+// The item's number, 0 where it is absent.
 pub fn value32(x: Optional32) -> u64
     ensures { λ r. ⌜ r ≡ value32 x ⌝ }
 {
@@ -54,6 +58,7 @@ pub fn value32(x: Optional32) -> u64
     }
 }
 
+// 1 where the item is there, else 0.
 pub fn has_i64(x: OptionalI64) -> u64
     ensures { λ r. ⌜ (r ≡ hasI64 x) × (r ≤ 1) ⌝ }
 {
@@ -73,6 +78,7 @@ pub fn value_i64(x: OptionalI64) -> u64
     }
 }
 
+// An encoding's number in Flags1.
 pub fn encoding_number(e: Encoding) -> u64
     ensures { λ r. ⌜ r ≡ encodingNumber e ⌝ }
 {
@@ -95,6 +101,7 @@ pub(crate) fn encoding_in(n: u64) -> Encoding
     Encoding::Variant
 }
 
+// A kind's number in Flags2.
 pub fn kind_number(k: Kind) -> u64
     ensures { λ r. ⌜ r ≡ kindNumber k ⌝ }
 {
@@ -106,6 +113,7 @@ pub fn kind_number(k: Kind) -> u64
     }
 }
 
+// A flag as 1 or 0.
 pub fn flag_number(b: bool) -> u64
     ensures { λ r. ⌜ (r ≡ flagNumber b) × (r ≤ 1) ⌝ }
 {
@@ -194,6 +202,7 @@ pub fn cursor_in(s: &[u8]) -> Cursor
     }
 }
 
+// A shape's number: 0 a scalar, 1 a null array, 2 an array.
 pub fn shape_number(x: Shape) -> u64
     ensures { λ r. ⌜ r ≡ shapeNumber x ⌝ }
 {
@@ -204,6 +213,7 @@ pub fn shape_number(x: Shape) -> u64
     }
 }
 
+// How many elements an array has, 0 where it is none.
 pub fn elements_number(x: Shape) -> u64
     ensures { λ r. ⌜ r ≡ elementsNumber x ⌝ }
 {
@@ -214,6 +224,7 @@ pub fn elements_number(x: Shape) -> u64
     }
 }
 
+// A field's record, put at the buffer's start.
 pub fn put_field(out: &mut [u8], f: Field)
     ensures { λ _. ⌜ now (out .exit) ≡ laid (now (out .entry)) 0 (numberBytes (fieldNumbers f)) ⌝ }
 {

@@ -8,7 +8,7 @@ use native.Mathlib.Nat.{add-zero}
 use native.Mathlib.Omega.{arith}
 use borrow.Author.Tests.{le-leb}
 use lib.Dec.{eqb}
-use lib.ListN.{length, getD, take, drop, replicate, length-append}
+use lib.ListN.{length, getD, take, drop, replicate}
 use lib.Seq.{take-at, drop-at}
 use Rattle.wire.specs.Number.{leBytes}
 use Rattle.wire.proofs.Numbers.{length-leBytes}

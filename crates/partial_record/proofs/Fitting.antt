@@ -1,7 +1,6 @@
 -- What the code's types say of a partial's record: each number fits, and its text has 64 bytes.
 -- Assumes nothing.
 use mathlib.Core.List.{List}
-use mathlib.Core.Path.{_≡_}
 use Prim.Native.Nat.{ℕ}
 use native.Mathlib.Omega.{arith}
 use borrow.Author.Needs.{length-unmapped}

@@ -1,7 +1,7 @@
 -- From what the operations do to what their calls answer and leave, and back.
 -- Assumes nothing.
 use Prim.Native.Nat.{ℕ}
-use mathlib.Core.Path.{_≡_, refl, ap, _∙_}
+use mathlib.Core.Path.{_≡_, refl, ap}
 use mathlib.Core.List.{List}
 use native.Mathlib.Omega.{arith}
 use Rattle.reassembly.specs.Record.{Partial, partial}

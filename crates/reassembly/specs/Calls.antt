@@ -1,6 +1,6 @@
 -- The calls of demand 3's list: what each answers, and the partial that it leaves. The contracts of src/operations.rt cite these terms.
 use Prim.Native.Nat.{ℕ}
-use mathlib.Core.Bool.{Bool, true, false, cond}
+use mathlib.Core.Bool.{Bool, true, false}
 use mathlib.Core.List.{List, [], _∷_}
 use mathlib.Core.Path.{_≡_}
 use Rattle.reassembly.specs.Record.{Partial}

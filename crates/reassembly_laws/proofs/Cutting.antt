@@ -199,7 +199,7 @@ module _ (id : Identity) (p : List ℕ) (size : ℕ) where
     pub number : judgeHandOut (final (takings l) s) ≡ Done
     pub payload : handOut (final (takings l) s) ≡ p
 
-  pub all-chunks-restore : (l : List Arrival) → AllArrive id p size (IsChunk id p size) l → (s : Partial) → Good s → s .rec .started ≡ false → length p ≤ length (s .payload) → Restored l s
+  all-chunks-restore : (l : List Arrival) → AllArrive id p size (IsChunk id p size) l → (s : Partial) → Good s → s .rec .started ≡ false → length p ≤ length (s .payload) → Restored l s
   all-chunks-restore l all s ok e room =
       let n = length (s .payload) in
       let r : id .total ≤ n = omega (arith, all .total) in

@@ -36,6 +36,7 @@ fn at_most(most: u8, n: usize) -> u8
     n as u8
 }
 
+// How many writers a configuration record has: none in one that is too short, never above 16.
 pub fn writer_count(config: &[u8]) -> usize
     ensures { λ r. ⌜ (r ≡ writersIn (now (config .entry))) × (r ≤ MOST_WRITERS) ⌝ }
 {
@@ -45,6 +46,7 @@ pub fn writer_count(config: &[u8]) -> usize
     at_most(16, wide(config[0])) as usize
 }
 
+// How many fields a configuration record has: none in one that is too short, never above 64.
 pub fn field_count(config: &[u8]) -> usize
     ensures { λ r. ⌜ (r ≡ fieldsIn (now (config .entry))) × (r ≤ MOST_FIELDS) ⌝ }
 {
@@ -97,12 +99,14 @@ pub fn sizes(config: &[u8]) -> [u16; MOST_WRITERS]
     list16(config, 34)
 }
 
+// The part of a configuration record that tells each writer's first field.
 pub fn starts(config: &[u8]) -> &[u8]
     ensures { λ r. ⌜ now r ≡ startsIn (now (config .entry)) ⌝ }
 {
     part(config, 66, writer_count(config))
 }
 
+// The part of a configuration record that holds its fields' types.
 pub fn types(config: &[u8]) -> &[u8]
     ensures { λ r. ⌜ now r ≡ typesIn (now (config .entry)) ⌝ }
 {

@@ -12,6 +12,7 @@ pub enum Decimal {
     Not,
 }
 
+// Whether a byte is a decimal digit.
 pub fn is_digit(b: u8) -> bool
     ensures { λ r. ⌜ r ≡ isDigit b ⌝ }
 {

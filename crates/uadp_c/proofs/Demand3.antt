@@ -22,13 +22,13 @@ use Rattle.reassembly.specs.declared.verdict.Verdict.{Verdict}
 use Rattle.reassembly.specs.declared.verdict.Verdict.the-variants.{Done, Refused}
 use Rattle.reassembly.specs.declared.verdict.Completeness.{Completeness}
 use Rattle.reassembly.specs.declared.verdict.Completeness.the-variants as C
-use Rattle.reassembly.specs.Calls.{Call, Reply, replyOf, saidOf, handedOf, answers, leaves, replies, final}
+use Rattle.reassembly.specs.Calls.{Call, replyOf, saidOf, handedOf, answers, leaves, replies, final}
 use Rattle.reassembly_laws.specs.History.{machineReplies, machineFinal}
 use Rattle.reassembly_laws.proofs.Demand3 as machine
 use Rattle.records.specs.Result.{resultOf}
 use Rattle.records.specs.Writers.{sizesIn}
 use Rattle.partial_record.specs.Partial.{partialIn, partialBytes}
-use Rattle.uadp_c.specs.Reassembling.{partialOf, sourceOf, Lent, lent, Steps, stepIn, recordBy, takenOver, verdictResult, completeResult, handResult, emptiedRecord}
+use Rattle.uadp_c.specs.Reassembling.{sourceOf, Lent, lent, Steps, recordBy, verdictResult, completeResult, handResult}
 use Rattle.uadp_c.specs.History.{LentCall, callOf, replyResult, heldIn, Called, Calls, resultsOf, callsOf, replyResults, lastOf}
 use Rattle.uadp_c.proofs.Emptied.{emptied-is}
 

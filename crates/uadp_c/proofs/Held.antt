@@ -26,7 +26,7 @@ use Rattle.records.specs.Writers.{writersIn, sixteen, sizesIn}
 use Rattle.partial_record.specs.Partial.{partialIn, partialBytes, FitsRecord}
 use Rattle.uadp_c.proofs.KeptRecord.{KeptStep, step-reads}
 use native.Mathlib.Omega.{arith}
-use Rattle.uadp_c.specs.Reassembling.{Steps, partialOf, Lent, lent, verdictResult, takenOver, recordBy, stepIn, sourceOf, completeResult, completeIn, handResult, handIn}
+use Rattle.uadp_c.specs.Reassembling.{Steps, partialOf, lent, verdictResult, takenOver, recordBy, stepIn, sourceOf, completeResult, completeIn, handResult, handIn}
 
 -- a record shorter than its layout
 step-short : (r p m : List ℕ) (x : ℕ) (s : Step) → length r < 112 → x ≡ resultOf 12 0 → lent x r p m ≡ stepIn r p m s

@@ -1,21 +1,20 @@
 -- What a call leaves in a lent record is read as what its step leaves.
 -- Assumes nothing.
-use Prim.Native.Nat.{ℕ, _≤_, _<_}
-use mathlib.Core.Path.{_≡_, refl, ap, sym, subst, _∙_}
+use Prim.Native.Nat.{ℕ, _≤_}
+use mathlib.Core.Path.{_≡_, refl, ap, sym, _∙_}
 use mathlib.Core.Bool.{Bool, true, false, cond}
 use mathlib.Core.Logic.{_⊎_, inl, inr}
-use mathlib.Core.List.{List, [], _∷_}
-use native.Mathlib.Omega.{arith}
-use borrow.Author.Tests.{le-ltb, lt-ltb}
+use mathlib.Core.List.{List}
+use borrow.Author.Tests.{le-ltb}
 use lib.ListN.{length}
 use Rattle.wire_writer.specs.Store.{laid}
 use Rattle.reassembly.specs.Views.{View}
 use Rattle.marks.specs.Marks.{Layout, inUse}
-use Rattle.reassembly.specs.Record.{Partial, partial, sound, soundBy}
+use Rattle.reassembly.specs.Record.{Partial, partial}
 use Rattle.reassembly.specs.Reading.{Reading}
 use Rattle.reassembly.specs.Reading.Reading.{chunk, refusal}
 use Rattle.reassembly.specs.Judge.{viewOf, judgeReading, judgeCombine}
-use Rattle.reassembly.specs.Operations.{Step, stepBy, put, putReading, takeIn, combine}
+use Rattle.reassembly.specs.Operations.{Step, stepBy, put, takeIn, combine}
 use Rattle.reassembly.specs.declared.operations.Outcome.{Outcome}
 use Rattle.reassembly.specs.declared.record.Message.{Message}
 use Rattle.reassembly.specs.declared.record.PartialRecord.{PartialRecord}
@@ -30,7 +29,7 @@ use denote.Struct.Laws as structLaws
 use Rattle.reassembly.proofs.operations.Outcome as outcome
 use Rattle.reassembly.proofs.operations.Outcome.Laws as outcomeLaws
 use Rattle.partial_record.proofs.Fitting.{fits-record}
-use Rattle.uadp_c.specs.Reassembling.{partialOf, sourceOf, Lent, lent, takenOver, recordBy, stepIn, Steps}
+use Rattle.uadp_c.specs.Reassembling.{partialOf, Lent, lent, takenOver, recordBy, stepIn, Steps}
 
 -- a record is as it was, or one not started was taken over
 abbrev pub Kept : PartialRecord → PartialRecord → Type 0

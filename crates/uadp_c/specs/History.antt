@@ -1,8 +1,8 @@
 -- Demand 3's list of calls on one lent partial: what the contracts of src/reassembling.rt say of each call, and the plain machine's
 -- replies as results.
 use Prim.Native.Nat.{ℕ}
-use mathlib.Core.Bool.{Bool, true, false}
-use mathlib.Core.List.{List, [], _∷_, map}
+use mathlib.Core.Bool.{true, false}
+use mathlib.Core.List.{List, [], _∷_}
 use mathlib.Core.Path.{_≡_}
 use lib.ListN.{length}
 use Rattle.reassembly.specs.Record.{Partial}

@@ -11,13 +11,13 @@ use lib.ListN.{length, getD}
 use Rattle.wire.specs.Answer.{got, refused, Reader, andThen, _>>_, pure, refuse, item, ruled, whenOn, bit}
 use Rattle.wire.specs.Items.{lengthItem}
 use Rattle.wire.specs.declared.Length.{Length}
-use Rattle.wire.proofs.Reading.{got-value, got-next, not-got, invert}
+use Rattle.wire.proofs.Reading.{got-value, not-got, invert}
 use Rattle.wire.proofs.Table.{below, and-left, and-right}
 use Rattle.plain_value.specs.Width.{widthOf, fixed}
 use Rattle.plain_value.specs.Parts.{parts}
 use Rattle.plain_value.specs.Plain.{passing, bytes, afterLength, plain, plainValue}
 use Rattle.value.specs.Value.{Measure, measure, typeOf, isArray, hasDimensions, variantRule, maskRule, scalar, elements, arrayOf, array, variantOf, dataValueOf, valueAt, variantAt, dataValueAt, rawAt}
-use Rattle.value.specs.Head.{fixedEnd, byShape, arrayAt, describedAt}
+use Rattle.value.specs.Head.{fixedEnd, arrayAt, describedAt}
 use Rattle.value.specs.declared.Shape.{Shape}
 use Rattle.plain_value.proofs.Widths.{past, positive}
 use Rattle.plain_value.proofs.Passing.{passed}

@@ -1,11 +1,11 @@
 -- Variants that hold a length and a run of equal units: Strings, ByteStrings and arrays of a fixed type.
 -- Assumes nothing.
 use mathlib.Core.Path.{_≡_, refl, sym, ap, _∙_}
-use mathlib.Core.Bool.{Bool, true, false, cond, _||_}
+use mathlib.Core.Bool.{Bool, true, false, _||_}
 use mathlib.Core.List.{List, [], _∷_}
 use Prim.Native.Nat.{ℕ, _+_, _*_, _-_, _<_, _≤_}
 use native.Mathlib.Omega.{arith}
-use borrow.Author.Tests.{le-leb, leb-true, leb-false, lt-ltb, ltb-true, ltb-false, eqb-true}
+use borrow.Author.Tests.{le-leb, leb-true, leb-false, lt-ltb, ltb-false, eqb-true}
 use lib.Dec.{eqb, leb, ltb}
 use lib.ListN.{length, getD}
 use Rattle.wire.specs.Answer.{Answer, got, refused, andThen}
@@ -13,7 +13,7 @@ use Rattle.wire.specs.Items.{lengthItem}
 use Rattle.wire.specs.declared.Length.{Length}
 use Rattle.plain_value.specs.Width.{among, widthOf, fixed}
 use Rattle.plain_value.specs.Plain.{passing, bytes, string, plain, plainValue, plainValues, afterLength}
-use Rattle.value.specs.Value.{Measure, measure, taken, variantRule, scalar, elements, arrayOf, array, valueAt, variantAt}
+use Rattle.value.specs.Value.{measure, taken, variantRule, scalar, elements, arrayOf, array, valueAt, variantAt}
 use Rattle.value.specs.Head.{unitOf, units}
 use Rattle.value.specs.declared.Shape.{Shape}
 use Rattle.value.proofs.Heads.{pass-found}

@@ -122,37 +122,3 @@ module _ (levels t : ℕ) where
       go : (b : Bool) → leb at (length s) ≡ b → (at < e) × (e ≤ length s)
       go true h = let w = ends (length s) (leb-true at (length s) h) (le-refl (length s)) in (omega arith, omega arith)
       go false h = let l : length s < at = leb-false at (length s) h in let w = ends at (le-refl at) (omega arith) in absurd (omega arith)
-
-  -- a refusal's place lies there too, and its number is not 0
-  pub value-place : (s : List ℕ) (at : ℕ) {n place : ℕ} → at ≤ length s → valueAt levels t s at ≡ refused n place → (1 ≤ n) × (at ≤ place) × (place ≤ length s)
-  value-place s at h q = within-refused (value-steady levels t) s at h q
-
-  -- it depends on the bytes up to its end only
-  pub value-local : (n : ℕ) (s s′ : List ℕ) → n ≤ length s → n ≤ length s′ → ((i : ℕ) → i < n → getD s′ i 0 ≡ getD s i 0)
-      → (at : ℕ) {e : ℕ} {m : Measure} → valueAt levels t s at ≡ got m e → e ≤ n → valueAt levels t s′ at ≡ got m e
-  value-local = local (value-steady levels t)
-
-  pub value-append : (s post : List ℕ) (at : ℕ) {e : ℕ} {m : Measure} → valueAt levels t s at ≡ got m e → valueAt levels t (s ++ post) at ≡ got m e
-  value-append = append (value-steady levels t)
-
-  pub value-cut : (s post : List ℕ) (at : ℕ) {e : ℕ} {m : Measure} → valueAt levels t (s ++ post) at ≡ got m e → e ≤ length s → valueAt levels t s at ≡ got m e
-  value-cut = cut (value-steady levels t)
-
-  -- a refusal that is not 1 stays, whatever stands after the slice
-  pub value-append-refused : (s post : List ℕ) (at : ℕ) {n place : ℕ} → valueAt levels t s at ≡ refused n place → (n ≡ 1 → ⊥) → valueAt levels t (s ++ post) at ≡ refused n place
-  value-append-refused = append-refused (value-steady levels t)
-
-  pub value-take-refused : (k : ℕ) (s : List ℕ) → k ≤ length s → (at : ℕ) {n place : ℕ} → valueAt levels t (take k s) at ≡ refused n place → (n ≡ 1 → ⊥) → valueAt levels t s at ≡ refused n place
-  value-take-refused = take-refused (value-steady levels t)
-
-  -- a slice that starts in the middle moves the answer, refused or not
-  pub value-after : (pre s : List ℕ) (at : ℕ) → valueAt levels t (pre ++ s) (length pre + at) ≡ movedBy (length pre) (valueAt levels t s at)
-  value-after = after (value-steady levels t)
-
-  -- a value's bytes, cut out, are that value
-  pub value-part : (s : List ℕ) (at : ℕ) {e : ℕ} {m : Measure} → valueAt levels t s at ≡ got m e → valueAt levels t (take (e - at) (drop at s)) 0 ≡ got m (e - at)
-  value-part s at q = let w = value-within s at q in let l : at ≤ length s = omega arith in alone (value-steady levels t) s at l q
-
-  -- and so they are between others
-  pub value-placed : (pre v post : List ℕ) {e : ℕ} {m : Measure} → valueAt levels t v 0 ≡ got m e → valueAt levels t (pre ++ (v ++ post)) (length pre) ≡ got m (length pre + e)
-  value-placed = placed (value-steady levels t)

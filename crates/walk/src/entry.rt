@@ -13,6 +13,7 @@ pub struct SetPlace {
     pub length: usize,
 }
 
+// One entry of a datagram, as a line of its listing tells it.
 pub enum Line {
     // the datagram's length, its PublisherId and where that ends, and the number of messages
     Net(usize, PublisherId, usize, usize),

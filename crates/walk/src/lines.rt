@@ -48,6 +48,7 @@ pub enum LineStep {
     None,
 }
 
+// Line k, or that there are not so many.
 pub enum LineRead {
     Is(Line),
     None,

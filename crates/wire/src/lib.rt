@@ -19,26 +19,31 @@ pub enum Item8 {
     Short,
 }
 
+// 2 bytes as a number, and the position after them; or that they are not there.
 pub enum Item16 {
     Is(u16, usize),
     Short,
 }
 
+// 4 bytes as a number, and the position after them; or that they are not there.
 pub enum Item32 {
     Is(u32, usize),
     Short,
 }
 
+// 8 bytes as a number, and the position after them; or that they are not there.
 pub enum Item64 {
     Is(u64, usize),
     Short,
 }
 
+// 4 bytes as a signed number, and the position after them; or that they are not there.
 pub enum ItemI32 {
     Is(i32, usize),
     Short,
 }
 
+// 8 bytes as a signed number, and the position after them; or that they are not there.
 pub enum ItemI64 {
     Is(i64, usize),
     Short,
@@ -68,6 +73,7 @@ pub struct Guid {
     pub high: u64,
 }
 
+// 16 bytes, and the position after them; or that they are not there.
 pub enum ItemGuid {
     Is(Guid, usize),
     Short,
@@ -137,6 +143,7 @@ fn number8(s: &[u8], at: usize) -> u64
     number4(s, at) + 4294967296 * number4(s, at + 4)
 }
 
+// The byte at a position.
 pub fn read8(s: &[u8], at: usize) -> Item8
     ensures { λ r. ⌜ answer8 at r ≡ item 1 (now (s .entry)) at ⌝ }
 {
@@ -146,6 +153,7 @@ pub fn read8(s: &[u8], at: usize) -> Item8
     Item8::Is(number1(s, at) as u8, at + 1)
 }
 
+// The 2 bytes at a position, lowest first.
 pub fn read16(s: &[u8], at: usize) -> Item16
     ensures { λ r. ⌜ answer16 at r ≡ item 2 (now (s .entry)) at ⌝ }
 {
@@ -155,6 +163,7 @@ pub fn read16(s: &[u8], at: usize) -> Item16
     Item16::Is(number2(s, at) as u16, at + 2)
 }
 
+// The 4 bytes at a position, lowest first.
 pub fn read32(s: &[u8], at: usize) -> Item32
     ensures { λ r. ⌜ answer32 at r ≡ item 4 (now (s .entry)) at ⌝ }
 {
@@ -164,6 +173,7 @@ pub fn read32(s: &[u8], at: usize) -> Item32
     Item32::Is(number4(s, at) as u32, at + 4)
 }
 
+// The 8 bytes at a position, lowest first.
 pub fn read64(s: &[u8], at: usize) -> Item64
     ensures { λ r. ⌜ answer64 at r ≡ item 8 (now (s .entry)) at ⌝ }
 {
@@ -183,6 +193,7 @@ pub fn signed32(n: u32) -> i32
     -1 - ((4294967295 - n) as i32)
 }
 
+// A number of 8 bytes by two's complement.
 pub fn signed64(n: u64) -> i64
     ensures { λ r. ⌜ r ≡ signed 8 n ⌝ }
 {
@@ -192,6 +203,7 @@ pub fn signed64(n: u64) -> i64
     -1 - ((18446744073709551615 - n) as i64)
 }
 
+// The 4 bytes at a position as a signed number.
 pub fn read_i32(s: &[u8], at: usize) -> ItemI32
     ensures { λ r. ⌜ answerI32 at r ≡ signedItem 4 (now (s .entry)) at ⌝ }
 {
@@ -201,6 +213,7 @@ pub fn read_i32(s: &[u8], at: usize) -> ItemI32
     ItemI32::Is(signed32(number4(s, at) as u32), at + 4)
 }
 
+// The 8 bytes at a position as a signed number.
 pub fn read_i64(s: &[u8], at: usize) -> ItemI64
     ensures { λ r. ⌜ answerI64 at r ≡ signedItem 8 (now (s .entry)) at ⌝ }
 {
@@ -220,6 +233,7 @@ pub fn skip(s: &[u8], at: usize, n: usize) -> Run
     Run::To(at + n)
 }
 
+// The 16 bytes at a position.
 pub fn read_guid(s: &[u8], at: usize) -> ItemGuid
     ensures { λ r. ⌜ answerGuid at r ≡ guid (now (s .entry)) at ⌝ }
 {
@@ -244,6 +258,7 @@ pub fn length_of(n: i32) -> Length
     Length::Negative
 }
 
+// The length that stands at a position: null, so many, or below null.
 pub fn read_length(s: &[u8], at: usize) -> ItemLength
     ensures { λ r. ⌜ answerLength at r ≡ lengthItem (now (s .entry)) at ⌝ }
 {

@@ -13,16 +13,19 @@ ghost use mathlib.Core.Path.{_≡_};
 ghost use Rattle.wire.specs.Optional.{optional16, optional32, optionalI64, picosecondsRule, picosecondsAt};
 ghost use Rattle.wire.specs.Optional.{answerOptional16, answerOptional32, answerOptionalI64};
 
+// An item of 2 bytes that a flag announces.
 pub enum Optional16 {
     Absent,
     Is(u16),
 }
 
+// The item and the position after it; or the number and place of its refusal.
 pub enum Optional16Read {
     Is(Optional16, usize),
     Refused(u8, usize),
 }
 
+// An item of 4 bytes that a flag announces.
 pub enum Optional32 {
     Absent,
     Is(u32),
@@ -35,16 +38,19 @@ pub enum Optional32Read {
     Refused(u8, usize),
 }
 
+// A signed item of 8 bytes that a flag announces.
 pub enum OptionalI64 {
     Absent,
     Is(i64),
 }
 
+// The item and the position after it; or the number and place of its refusal.
 pub enum OptionalI64Read {
     Is(OptionalI64, usize),
     Refused(u8, usize),
 }
 
+// An item of 2 bytes where its flag is on.
 pub fn read_optional16(s: &[u8], on: bool, at: usize) -> Optional16Read
     ensures { λ r. ⌜ answerOptional16 r ≡ optional16 on (now (s .entry)) at ⌝ }
 {
@@ -57,6 +63,7 @@ pub fn read_optional16(s: &[u8], on: bool, at: usize) -> Optional16Read
     Optional16Read::Is(Optional16::Is(v), next)
 }
 
+// An item of 4 bytes where its flag is on.
 pub fn read_optional32(s: &[u8], on: bool, at: usize) -> Optional32Read
     ensures { λ r. ⌜ answerOptional32 r ≡ optional32 on (now (s .entry)) at ⌝ }
 {
@@ -92,6 +99,7 @@ pub fn picoseconds_rule(v: u16) -> u8
     0
 }
 
+// Picoseconds where their flag is on: "10,000 or more is 3".
 pub fn read_picoseconds(s: &[u8], on: bool, at: usize) -> Optional16Read
     ensures { λ r. ⌜ answerOptional16 r ≡ picosecondsAt on (now (s .entry)) at ⌝ }
 {

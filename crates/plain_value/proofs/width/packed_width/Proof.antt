@@ -1,6 +1,5 @@
 -- `plain_value::width::packed_width` meets its contract. Their rule is one computed test over the number that stands in the code.
 -- Assumes nothing.
-use native.Mathlib.Omega.{arith}
 use borrow.Author.Needs.{needs}
 use Rattle.plain_value.specs.Width.{widthOf}
 use Rattle.plain_value.proofs.Widths.{right, rightly, packed-entry, past}
