@@ -11,9 +11,9 @@ use Rattle.network_header.specs.declared.envelope.Envelope.{Envelope}
 use Rattle.network_header.specs.declared.envelope.Places.{Places}
 use Rattle.network_message.specs.declared.payload.Payload.{Payload}
 use Rattle.records.specs.Numbers.{numberBytes}
-use Rattle.message_record.specs.Message.{has16, value16, hasI64, valueI64, flagNumber}
+use Rattle.records.specs.Items.{has16, value16, hasI64, valueI64, flagNumber}
 use Rattle.records.proofs.Storing.{also, put-same, put-none, put-both}
-use Rattle.message_record.specs.Publisher.{publisherNumber}
+use Rattle.records.specs.Publisher.{publisherNumber}
 use Rattle.envelope_record.specs.Envelope.{hasClass, classLow, classHigh, groupItems, groupWriter, groupVersion, groupNumber, groupSequence, headerCode, headerNumber, hasPromoted, promotedSize, sizesCode, sizesPlace, startNumbers, restNumbers, envelopeNumbers}
 
 pub start-put : (v : Envelope) (w : Places) (l e : List ℕ) (a₁ a₂ a₃ a₄ a₅ a₆ a₇ a₈ a₉ b₁ b₂ b₃ b₄ : ℕ) → a₁ ≡ codeOf (v .publisher)

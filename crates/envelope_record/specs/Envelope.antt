@@ -17,8 +17,8 @@ use Rattle.network_message.specs.declared.payload.Payload.{Payload}
 use Rattle.network_message.specs.declared.payload.MessagePlace.{MessagePlace}
 use Rattle.network_message.specs.declared.payload.MessageCursor.{MessageCursor}
 use Rattle.records.specs.Numbers.{numberAt}
-use Rattle.message_record.specs.Publisher.{publisherNumber}
-use Rattle.message_record.specs.Message.{has16, value16, has32, value32, hasI64, valueI64, flagNumber}
+use Rattle.records.specs.Publisher.{publisherNumber, publisherBy}
+use Rattle.records.specs.Items.{has16, value16, has32, value32, hasI64, valueI64, flagNumber, given16, given32, among, isOn, givenI64}
 
 -- "DataSetClassId: 0 absent, else present; its first 8 bytes; its last 8 bytes, each as a number"
 abbrev pub hasClass : ClassId → ℕ
@@ -129,3 +129,43 @@ writerNumber (Optional16.Is id) = id
 -- the 4 numbers of a message's place
 abbrev pub placeNumbers : MessagePlace → Optional16 → List ℕ
 placeNumbers p writer = p .index ∷ p .offset ∷ p .length ∷ writerNumber writer ∷ []
+
+-- "DataSetClassId: 0 absent, else present; its first 8 bytes; its last 8 bytes, each as a number"
+abbrev pub classIn : ℕ → ℕ → ℕ → ClassId
+classIn present low high = cond (eqb present 0) ClassId.Absent (ClassId.Is (record { low = low; high = high }))
+
+-- "group header: 0 absent, else 16, and 1 with WriterGroupId, 2 with GroupVersion, 4 with NetworkMessageNumber, 8 with SequenceNumber,
+-- added up"
+abbrev pub groupIn : List ℕ → ℕ → GroupHeader
+groupIn s items =
+    cond (eqb items 0) GroupHeader.Absent
+    (GroupHeader.Is
+    (record {
+      «writer_group» = given16 (among 1 items) (numberAt s 7);
+      version = given32 (among 2 items) (numberAt s 8);
+      number = given16 (among 4 items) (numberAt s 9);
+      sequence = given16 (among 8 items) (numberAt s 10);
+    }))
+
+-- "PayloadHeader: 0 absent, 1 Count and ids, 2 a chunk's writer id (above 2 counts as absent)"; "Count, or the chunk's writer id"
+abbrev pub payloadHeaderIn : ℕ → ℕ → PayloadHeader
+payloadHeaderIn kind v =
+    cond (eqb kind 1) (PayloadHeader.Ids (v % 256)) (cond (eqb kind 2) (PayloadHeader.Chunk (v % 65536)) PayloadHeader.Absent)
+
+-- "promoted fields: 0 absent, else present; their size"
+abbrev pub promotedIn : ℕ → ℕ → Promoted
+promotedIn present size = cond (eqb present 0) Promoted.Absent (Promoted.Size size)
+
+-- the envelope of an envelope record: "the numbers 0, 1, 3 to 13 and 15 to 20 are read"
+abbrev pub envelopeIn : List ℕ → Envelope
+envelopeIn s =
+    record {
+      publisher = publisherBy (numberAt s 0) (numberAt s 1);
+      «class_id» = classIn (numberAt s 3) (numberAt s 4) (numberAt s 5);
+      group = groupIn s (numberAt s 6);
+      chunk = isOn (numberAt s 11);
+      «payload_header» = payloadHeaderIn (numberAt s 12) (numberAt s 13);
+      timestamp = givenI64 (isOn (numberAt s 15)) (numberAt s 16);
+      picoseconds = given16 (isOn (numberAt s 17)) (numberAt s 18);
+      promoted = promotedIn (numberAt s 19) (numberAt s 20);
+    }

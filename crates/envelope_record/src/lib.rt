@@ -1,12 +1,4 @@
 // The records of an envelope and of a message's place.
-use message_record::message::flag_number;
-use message_record::message::has_i64;
-use message_record::message::has16;
-use message_record::message::has32;
-use message_record::message::value_i64;
-use message_record::message::value16;
-use message_record::message::value32;
-use message_record::publisher::publisher_number;
 use network_header::envelope::Envelope;
 use network_header::envelope::Places;
 use network_header::group::GroupFields;
@@ -19,17 +11,31 @@ use network_message::payload::MessagePlace;
 use network_message::payload::Payload;
 use network_message::payload::Sizes;
 use publisher_id::publisher_record::code;
+use records::items::flag_number;
+use records::items::given_i64;
+use records::items::given16;
+use records::items::given32;
+use records::items::has_i64;
+use records::items::has16;
+use records::items::has32;
+use records::items::is_on;
+use records::items::value_i64;
+use records::items::value16;
+use records::items::value32;
 use records::numbers::number;
 use records::numbers::put_numbers;
 use records::numbers::put_numbers_from;
+use records::publisher::publisher_by;
+use records::publisher::publisher_number;
 use records::sizes::ENVELOPE_SIZE;
+use wire::Guid;
 use wire::optional::Optional16;
 ghost use mathlib.Core.Path.{_≡_};
 ghost use Prim.Native.Nat.{_+_, _*_};
 ghost use Rattle.wire_writer.specs.Store.{laid};
 ghost use Rattle.records.specs.Numbers.{numberBytes};
-ghost use Rattle.message_record.specs.Message.{has16, has32};
-ghost use Rattle.envelope_record.specs.Envelope.{hasClass, classLow, classHigh, groupItems, groupWriter, groupVersion, groupNumber, groupSequence, headerCode, headerNumber, hasPromoted, promotedSize, sizesCode, sizesPlace, startNumbers, restNumbers, envelopeNumbers, sizesBy, payloadIn, messagesIn, headerBy, headerIn, writerNumber, placeNumbers};
+ghost use Rattle.records.specs.Items.{has16, has32, given16, given32};
+ghost use Rattle.envelope_record.specs.Envelope.{hasClass, classLow, classHigh, groupItems, groupWriter, groupVersion, groupNumber, groupSequence, headerCode, headerNumber, hasPromoted, promotedSize, sizesCode, sizesPlace, startNumbers, restNumbers, envelopeNumbers, sizesBy, payloadIn, messagesIn, headerBy, headerIn, writerNumber, placeNumbers, classIn, groupIn, payloadHeaderIn, promotedIn, envelopeIn};
 
 fn has_class(x: ClassId) -> u64
     ensures { λ r. ⌜ r ≡ hasClass x ⌝ }
@@ -323,4 +329,75 @@ pub fn put_place(out: &mut [u8], p: MessagePlace, writer: Optional16)
         writer_number(writer),
     ];
     put_numbers(out, &numbers);
+}
+
+fn class_in(present: u64, low: u64, high: u64) -> ClassId
+    ensures { λ r. ⌜ r ≡ classIn present low high ⌝ }
+{
+    if present == 0 {
+        return ClassId::Absent;
+    }
+    ClassId::Is(Guid { low, high })
+}
+
+fn group_in(s: &[u8], items: u64) -> GroupHeader
+    ensures { λ r. ⌜ r ≡ groupIn (now (s .entry)) items ⌝ }
+{
+    if items == 0 {
+        return GroupHeader::Absent;
+    }
+    let writer_group = given16(items / 1 % 2 == 1, number(s, 7));
+    let version = given32(items / 2 % 2 == 1, number(s, 8));
+    let message_number = given16(items / 4 % 2 == 1, number(s, 9));
+    let sequence = given16(items / 8 % 2 == 1, number(s, 10));
+    GroupHeader::Is(GroupFields {
+        writer_group,
+        version,
+        number: message_number,
+        sequence,
+    })
+}
+
+fn payload_header_in(kind: u64, v: u64) -> PayloadHeader
+    ensures { λ r. ⌜ r ≡ payloadHeaderIn kind v ⌝ }
+{
+    if kind == 1 {
+        return PayloadHeader::Ids((v % 256) as u8);
+    }
+    if kind == 2 {
+        return PayloadHeader::Chunk((v % 65536) as u16);
+    }
+    PayloadHeader::Absent
+}
+
+fn promoted_in(present: u64, size: u64) -> Promoted
+    ensures { λ r. ⌜ r ≡ promotedIn present size ⌝ }
+{
+    if present == 0 {
+        return Promoted::Absent;
+    }
+    Promoted::Size(size as usize)
+}
+
+// The envelope of an envelope record.
+pub fn envelope_in(s: &[u8]) -> Envelope
+    ensures { λ r. ⌜ r ≡ envelopeIn (now (s .entry)) ⌝ }
+{
+    let publisher = publisher_by(number(s, 0), number(s, 1));
+    let class_id = class_in(number(s, 3), number(s, 4), number(s, 5));
+    let group = group_in(s, number(s, 6));
+    let payload_header = payload_header_in(number(s, 12), number(s, 13));
+    let timestamp = given_i64(is_on(number(s, 15)), number(s, 16));
+    let picoseconds = given16(is_on(number(s, 17)), number(s, 18));
+    let promoted = promoted_in(number(s, 19), number(s, 20));
+    Envelope {
+        publisher,
+        class_id,
+        group,
+        chunk: is_on(number(s, 11)),
+        payload_header,
+        timestamp,
+        picoseconds,
+        promoted,
+    }
 }

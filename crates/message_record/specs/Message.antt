@@ -1,13 +1,9 @@
 -- The records of a message's head and of a field (include/uadp.h).
 use Prim.Native.Nat.{ℕ, _+_, _*_}
-use mathlib.Core.Bool.{Bool, true, false, cond, not}
+use mathlib.Core.Bool.{cond, not}
 use mathlib.Core.List.{List, [], _∷_}
 use lib.Dec.{eqb}
 use lib.ListN.{replicate}
-use Rattle.wire.specs.Number.{unsigned}
-use Rattle.wire.specs.declared.optional.Optional16.{Optional16}
-use Rattle.wire.specs.declared.optional.Optional32.{Optional32}
-use Rattle.wire.specs.declared.optional.OptionalI64.{OptionalI64}
 use Rattle.value.specs.declared.Shape.{Shape}
 use Rattle.dataset_header.specs.Flags.{Valid, notValid, valid}
 use Rattle.dataset_message.specs.Message.{Message}
@@ -17,31 +13,7 @@ use Rattle.dataset_fields.specs.declared.fields.Field.{Field}
 use Rattle.dataset_fields.specs.declared.fields.Cursor.{Cursor}
 use Rattle.dataset_header.specs.declared.header.Header.{Header}
 use Rattle.records.specs.Numbers.{numberAt}
-
--- "1 sequence number, 2 timestamp, ..": whether an item is present, as a number; and its value, "0 where absent"
-abbrev pub has16 : Optional16 → ℕ
-has16 Optional16.Absent = 0
-has16 (Optional16.Is v) = 1
-
-abbrev pub value16 : Optional16 → ℕ
-value16 Optional16.Absent = 0
-value16 (Optional16.Is v) = v
-
-abbrev pub has32 : Optional32 → ℕ
-has32 Optional32.Absent = 0
-has32 (Optional32.Is v) = 1
-
-abbrev pub value32 : Optional32 → ℕ
-value32 Optional32.Absent = 0
-value32 (Optional32.Is v) = v
-
-abbrev pub hasI64 : OptionalI64 → ℕ
-hasI64 OptionalI64.Absent = 0
-hasI64 (OptionalI64.Is v) = 1
-
-abbrev pub valueI64 : OptionalI64 → ℕ
-valueI64 OptionalI64.Absent = 0
-valueI64 (OptionalI64.Is v) = unsigned 8 v
+use Rattle.records.specs.Items.{has16, value16, has32, value32, hasI64, valueI64, flagNumber, given16, given32, givenI64, among}
 
 -- "encoding: 0 Variant, 1 RawData, 2 DataValue (above 2 counts as 0)"
 abbrev pub encodingNumber : Encoding → ℕ
@@ -58,10 +30,6 @@ kindNumber Kind.Key = 0
 kindNumber Kind.Delta = 1
 kindNumber Kind.Event = 2
 kindNumber Kind.KeepAlive = 3
-
-abbrev pub flagNumber : Bool → ℕ
-flagNumber true = 1
-flagNumber false = 0
 
 -- "items present: 1 sequence number, 2 timestamp, 4 picoseconds, 8 status, 16 major version, 32 minor version, added up"
 abbrev pub itemsNumber : Header → ℕ
@@ -103,3 +71,24 @@ elementsNumber (Shape.Array n) = n
 -- the 6 numbers of a field
 abbrev pub fieldNumbers : Field → List ℕ
 fieldNumbers f = f .kind ∷ shapeNumber (f .shape) ∷ elementsNumber (f .shape) ∷ f .index ∷ f .offset ∷ f .length ∷ []
+
+-- items of which a number tells whether they are present
+
+-- "kind: 0 key, 1 delta, 2 event, 3 keep alive (above 3 counts as 0)"
+abbrev pub kindIn : ℕ → Kind
+kindIn n = cond (eqb n 1) Kind.Delta (cond (eqb n 2) Kind.Event (cond (eqb n 3) Kind.KeepAlive Kind.Key))
+
+-- the header of a head record: "the numbers 1 to 9 are read"; "items present: 1 sequence number, 2 timestamp, 4 picoseconds, 8 status, 16
+-- major version, 32 minor version, added up"
+abbrev pub headerIn : List ℕ → Header
+headerIn s =
+    record {
+      encoding = encodingIn (numberAt s 1);
+      kind = kindIn (numberAt s 2);
+      sequence = given16 (among 1 (numberAt s 3)) (numberAt s 4);
+      timestamp = givenI64 (among 2 (numberAt s 3)) (numberAt s 5);
+      picoseconds = given16 (among 4 (numberAt s 3)) (numberAt s 6);
+      status = given16 (among 8 (numberAt s 3)) (numberAt s 7);
+      major = given32 (among 16 (numberAt s 3)) (numberAt s 8);
+      minor = given32 (among 32 (numberAt s 3)) (numberAt s 9);
+    }

@@ -1,5 +1,3 @@
 // The records of a message's head and of a field, a PublisherId in a record, and the records that are read to be written: a message's head
 // and an envelope.
-pub mod given;
 pub mod message;
-pub mod publisher;

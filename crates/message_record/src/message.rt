@@ -4,79 +4,25 @@ use dataset_fields::fields::Field;
 use dataset_header::flags::Encoding;
 use dataset_header::flags::Kind;
 use dataset_header::header::Header;
+use records::items::flag_number;
+use records::items::given_i64;
+use records::items::given16;
+use records::items::given32;
+use records::items::has_i64;
+use records::items::has16;
+use records::items::has32;
+use records::items::value_i64;
+use records::items::value16;
+use records::items::value32;
 use records::numbers::number;
 use records::numbers::put_numbers;
 use value::Shape;
-use wire::optional::Optional16;
-use wire::optional::Optional32;
-use wire::optional::OptionalI64;
-use wire_writer::store::unsigned64;
 ghost use mathlib.Core.Path.{_≡_};
-ghost use Prim.Native.Nat.{_≤_};
 ghost use Rattle.wire_writer.specs.Store.{laid};
 ghost use Rattle.dataset_header.specs.Flags.{valid, notValid};
 ghost use Rattle.records.specs.Numbers.{numberBytes};
-ghost use Rattle.message_record.specs.Message.{has16, value16, has32, value32, hasI64, valueI64, encodingNumber, encodingIn, kindNumber, flagNumber, itemsNumber, headNumbers, cursorIn, shapeNumber, elementsNumber, fieldNumbers};
-
-// 1 where the item is there, else 0.
-pub fn has16(x: Optional16) -> u64
-    ensures { λ r. ⌜ (r ≡ has16 x) × (r ≤ 1) ⌝ }
-{
-    match x {
-        Optional16::Absent => 0,
-        Optional16::Is(_) => 1,
-    }
-}
-
-// The item's number, 0 where it is absent.
-pub fn value16(x: Optional16) -> u64
-    ensures { λ r. ⌜ r ≡ value16 x ⌝ }
-{
-    match x {
-        Optional16::Absent => 0,
-        Optional16::Is(v) => v as u64,
-    }
-}
-
-// 1 where the item is there, else 0.
-pub fn has32(x: Optional32) -> u64
-    ensures { λ r. ⌜ (r ≡ has32 x) × (r ≤ 1) ⌝ }
-{
-    match x {
-        Optional32::Absent => 0,
-        Optional32::Is(_) => 1,
-    }
-}
-
-// The item's number, 0 where it is absent.
-pub fn value32(x: Optional32) -> u64
-    ensures { λ r. ⌜ r ≡ value32 x ⌝ }
-{
-    match x {
-        Optional32::Absent => 0,
-        Optional32::Is(v) => v as u64,
-    }
-}
-
-// 1 where the item is there, else 0.
-pub fn has_i64(x: OptionalI64) -> u64
-    ensures { λ r. ⌜ (r ≡ hasI64 x) × (r ≤ 1) ⌝ }
-{
-    match x {
-        OptionalI64::Absent => 0,
-        OptionalI64::Is(_) => 1,
-    }
-}
-
-// A signed number as the number that stands for it.
-pub fn value_i64(x: OptionalI64) -> u64
-    ensures { λ r. ⌜ r ≡ valueI64 x ⌝ }
-{
-    match x {
-        OptionalI64::Absent => 0,
-        OptionalI64::Is(v) => unsigned64(v),
-    }
-}
+ghost use Rattle.records.specs.Items.{has16, value16, has32, value32, given16, given32};
+ghost use Rattle.message_record.specs.Message.{encodingNumber, encodingIn, kindNumber, itemsNumber, headNumbers, cursorIn, shapeNumber, elementsNumber, fieldNumbers, kindIn, headerIn};
 
 // An encoding's number in Flags1.
 pub fn encoding_number(e: Encoding) -> u64
@@ -111,16 +57,6 @@ pub fn kind_number(k: Kind) -> u64
         Kind::Event => 2,
         Kind::KeepAlive => 3,
     }
-}
-
-// A flag as 1 or 0.
-pub fn flag_number(b: bool) -> u64
-    ensures { λ r. ⌜ (r ≡ flagNumber b) × (r ≤ 1) ⌝ }
-{
-    if b {
-        return 1;
-    }
-    0
 }
 
 fn items_number(h: Header) -> u64
@@ -238,4 +174,44 @@ pub fn put_field(out: &mut [u8], f: Field)
         f.length as u64,
     ];
     put_numbers(out, &numbers);
+}
+
+fn kind_in(n: u64) -> Kind
+    ensures { λ r. ⌜ r ≡ kindIn n ⌝ }
+{
+    if n == 1 {
+        return Kind::Delta;
+    }
+    if n == 2 {
+        return Kind::Event;
+    }
+    if n == 3 {
+        return Kind::KeepAlive;
+    }
+    Kind::Key
+}
+
+// The header of a head record.
+pub fn header_in(s: &[u8]) -> Header
+    ensures { λ r. ⌜ r ≡ headerIn (now (s .entry)) ⌝ }
+{
+    let items = number(s, 3);
+    let encoding = encoding_in(number(s, 1));
+    let kind = kind_in(number(s, 2));
+    let sequence = given16(items / 1 % 2 == 1, number(s, 4));
+    let timestamp = given_i64(items / 2 % 2 == 1, number(s, 5));
+    let picoseconds = given16(items / 4 % 2 == 1, number(s, 6));
+    let status = given16(items / 8 % 2 == 1, number(s, 7));
+    let major = given32(items / 16 % 2 == 1, number(s, 8));
+    let minor = given32(items / 32 % 2 == 1, number(s, 9));
+    Header {
+        encoding,
+        kind,
+        sequence,
+        timestamp,
+        picoseconds,
+        status,
+        major,
+        minor,
+    }
 }

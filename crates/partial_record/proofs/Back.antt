@@ -21,8 +21,8 @@ use Rattle.publisher_id.specs.declared.publisher.PublisherId.{PublisherId}
 use Rattle.reassembly.specs.declared.record.PartialRecord.{PartialRecord}
 use Rattle.records.specs.Numbers.{numberAt, numberBytes}
 use Rattle.records.proofs.Storing.{bytes-length}
-use Rattle.message_record.specs.Message.{flagNumber}
-use Rattle.message_record.specs.Publisher.{publisherBy, publisherNumber}
+use Rattle.records.specs.Items.{flagNumber}
+use Rattle.records.specs.Publisher.{publisherBy, publisherNumber}
 use Rattle.partial_record.specs.Partial.{partialIn, partialBytes, FitsId, FitsRecord}
 use Rattle.partial_record.proofs.Parts.{partial-length}
 

@@ -13,9 +13,9 @@ use Rattle.wire_writer.specs.Store.{laid}
 use Rattle.publisher_id.specs.PublisherRecord.{codeOf}
 use Rattle.reassembly.specs.declared.record.PartialRecord.{PartialRecord}
 use Rattle.records.specs.Numbers.{numberBytes}
-use Rattle.message_record.specs.Message.{flagNumber}
+use Rattle.records.specs.Items.{flagNumber}
 use Rattle.records.proofs.Storing.{bytes-length, store-next, also, put-same}
-use Rattle.message_record.specs.Publisher.{publisherNumber}
+use Rattle.records.specs.Publisher.{publisherNumber}
 use Rattle.partial_record.specs.Partial.{partialBytes}
 
 -- its six numbers

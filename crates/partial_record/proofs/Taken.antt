@@ -11,7 +11,7 @@ use Rattle.publisher_id.specs.declared.publisher_record.PublisherRecord.{Publis
 use Rattle.reassembly.specs.declared.record.Message.{Message}
 use Rattle.reassembly.specs.declared.record.PartialRecord.{PartialRecord}
 use Rattle.records.specs.Numbers.{numberAt}
-use Rattle.message_record.specs.Publisher.{publisherBy}
+use Rattle.records.specs.Publisher.{publisherBy}
 use Rattle.partial_record.specs.Partial.{publisherIn, messageIn, partialIn}
 
 abbrev pub publisherWith : PublisherId → List ℕ → PublisherRecord

@@ -12,8 +12,8 @@ use Rattle.publisher_id.specs.declared.publisher_record.PublisherRecord.{Publis
 use Rattle.reassembly.specs.declared.record.Message.{Message}
 use Rattle.reassembly.specs.declared.record.PartialRecord.{PartialRecord}
 use Rattle.records.specs.Numbers.{numberAt, numberBytes}
-use Rattle.message_record.specs.Publisher.{publisherBy, publisherNumber}
-use Rattle.message_record.specs.Message.{flagNumber}
+use Rattle.records.specs.Publisher.{publisherBy, publisherNumber}
+use Rattle.records.specs.Items.{flagNumber}
 
 -- "at offset 48, 64 bytes for a String"
 abbrev pub publisherIn : List ℕ → PublisherRecord

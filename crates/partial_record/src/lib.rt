@@ -1,13 +1,13 @@
 // The record of a partial: six numbers, and 64 bytes for the text of a string PublisherId.
-use message_record::message::flag_number;
-use message_record::publisher::publisher_by;
-use message_record::publisher::publisher_number;
 use publisher_id::publisher_record::PublisherRecord;
 use publisher_id::publisher_record::code;
 use reassembly::Message;
 use reassembly::PartialRecord;
+use records::items::flag_number;
 use records::numbers::number;
 use records::numbers::put_numbers;
+use records::publisher::publisher_by;
+use records::publisher::publisher_number;
 use records::sizes::PARTIAL_SIZE;
 use wire::constants::MOST_TEXT_ID;
 use wire::part::part;

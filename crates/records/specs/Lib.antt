@@ -1,4 +1,6 @@
+pub mod Publisher
 pub mod Sizes
 pub mod Numbers
 pub mod Result
 pub mod Writers
+pub mod Items

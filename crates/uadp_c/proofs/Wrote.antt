@@ -18,7 +18,8 @@ use Rattle.dataset_message_writer.specs.Message as message
 use Rattle.walk.specs.Lines.{Writers, writers, listingOf}
 use Rattle.listing.specs.Text.{linesText, textWritten, textAfter}
 use Rattle.records.specs.Writers.{writersIn, sixteen, idsIn, sizesIn, startsIn, typesIn, typesFor}
-use Rattle.message_record.specs.Given.{headerIn, envelopeIn}
+use Rattle.message_record.specs.Message.{headerIn}
+use Rattle.envelope_record.specs.Envelope.{envelopeIn}
 use Rattle.uadp_c.specs.Listings.{listingText}
 use Rattle.walk_records.specs.Walk.{recordsPut, walkLines, walkOf}
 use Rattle.walk_records.specs.declared.Walked.{Walked}

@@ -1,8 +1,8 @@
 // Datagrams and messages written from parts.
 use crate::rewrites::written_result;
 use config::first;
-use message_record::given::envelope_in;
-use message_record::given::header_in;
+use envelope_record::envelope_in;
+use message_record::message::header_in;
 use records::writers::sizes;
 use records::writers::types_for;
 use records::writers::writer_count;
@@ -10,7 +10,9 @@ ghost use mathlib.Core.Path.{_≡_};
 ghost use Rattle.network_message_writer.specs.Envelope as datagram;
 ghost use Rattle.dataset_message_writer.specs.Message as message;
 ghost use Rattle.records.specs.Writers.{typesFor};
-ghost use Rattle.message_record.specs.Given.{isOn, headerIn, envelopeIn};
+ghost use Rattle.records.specs.Items.{isOn};
+ghost use Rattle.message_record.specs.Message.{headerIn};
+ghost use Rattle.envelope_record.specs.Envelope.{envelopeIn};
 ghost use Rattle.uadp_c.specs.Writing.{datagramResult, datagramBuffer, messageResult, messageBuffer};
 
 // Writes a DataSetMessage from parts: the header of a head record; heartbeat is 0, or else a key frame ends after its header.

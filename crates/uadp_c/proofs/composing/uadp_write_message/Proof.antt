@@ -1,7 +1,7 @@
 -- `uadp_c::composing::uadp_write_message` meets its contract.
 -- Assumes nothing.
 use Rattle.uadp_c.proofs.Wrote.{message-composed}
-use Rattle.message_record.specs.Given.{isOn}
+use Rattle.records.specs.Items.{isOn}
 use denote.Ref.{now}
 use borrow.Author.Needs.{needs}
 use Rattle.uadp_c.proofs.composing.uadp_write_message.Statement.{statement}

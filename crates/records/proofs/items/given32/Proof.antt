@@ -1,9 +1,9 @@
--- `message_record::given::given32` meets its contract.
+-- `records::items::given32` meets its contract.
 -- Assumes nothing.
 use mathlib.Core.Path.{refl}
 use borrow.Author.Needs.{needs}
-use Rattle.message_record.proofs.given.given32.Statement.{statement}
-use Rattle.message_record.proofs.given.given32.Tie as tie
+use Rattle.records.proofs.items.given32.Statement.{statement}
+use Rattle.records.proofs.items.given32.Tie as tie
 
 returns : tie.Need-returns
 returns c = rw (c .if1 .taken) refl

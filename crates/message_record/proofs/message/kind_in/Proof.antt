@@ -1,9 +1,9 @@
--- `message_record::given::kind_in` meets its contract.
+-- `message_record::message::kind_in` meets its contract.
 -- Assumes nothing.
 use borrow.Author.Tests.{eq-eqb, ne-eqb}
 use mathlib.Core.Path.{refl}
-use Rattle.message_record.proofs.given.kind_in.Statement.{statement}
-use Rattle.message_record.proofs.given.kind_in.Tie as tie
+use Rattle.message_record.proofs.message.kind_in.Statement.{statement}
+use Rattle.message_record.proofs.message.kind_in.Tie as tie
 
 returns : tie.Need-returns
 returns c = rw (eq-eqb (c .before .args .n) 1 (c .if1 .taken)) refl

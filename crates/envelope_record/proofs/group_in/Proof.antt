@@ -1,10 +1,10 @@
--- `message_record::given::group_in` meets its contract.
+-- `envelope_record::group_in` meets its contract.
 -- Assumes nothing.
 use borrow.Author.Tests.{eq-eqb, ne-eqb}
 use mathlib.Core.Path.{refl}
 use borrow.Author.Needs.{needs}
-use Rattle.message_record.proofs.given.group_in.Statement.{statement}
-use Rattle.message_record.proofs.given.group_in.Tie as tie
+use Rattle.envelope_record.proofs.group_in.Statement.{statement}
+use Rattle.envelope_record.proofs.group_in.Tie as tie
 
 returns : tie.Need-returns
 returns c = rw (eq-eqb (c .before .before .args .items) 0 (c .if1 .taken)) refl

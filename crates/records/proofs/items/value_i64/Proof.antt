@@ -5,8 +5,8 @@ use mir.ValLaws.{toZ-ofZ}
 use mir.Val.{SFits}
 use mir.Syntax.{w64}
 use borrow.Author.Needs.{needs}
-use Rattle.message_record.proofs.message.value_i64.Statement.{statement}
-use Rattle.message_record.proofs.message.value_i64.Tie as tie
+use Rattle.records.proofs.items.value_i64.Statement.{statement}
+use Rattle.records.proofs.items.value_i64.Tie as tie
 
 -- src/message.rt:68:1
 returns-2 : tie.Need-returns-2

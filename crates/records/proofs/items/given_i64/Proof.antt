@@ -1,11 +1,11 @@
--- `message_record::given::given_i64` meets its contract.
+-- `records::items::given_i64` meets its contract.
 -- Assumes nothing.
 use mathlib.Core.Path.{_∙_}
 use mir.Syntax.{w64}
 use mir.ValLaws.{toZ-ofZ}
 use borrow.Author.Needs.{needs}
-use Rattle.message_record.proofs.given.given_i64.Statement.{statement}
-use Rattle.message_record.proofs.given.given_i64.Tie as tie
+use Rattle.records.proofs.items.given_i64.Statement.{statement}
+use Rattle.records.proofs.items.given_i64.Tie as tie
 
 returns : tie.Need-returns
 returns c =

@@ -1,10 +1,10 @@
--- `message_record::publisher::publisher_by` meets its contract.
+-- `records::publisher::publisher_by` meets its contract.
 -- Assumes nothing.
 use borrow.Author.Tests.{eq-eqb, ne-eqb}
 use mathlib.Core.Path.{refl}
 use borrow.Author.Needs.{needs}
-use Rattle.message_record.proofs.publisher.publisher_by.Statement.{statement}
-use Rattle.message_record.proofs.publisher.publisher_by.Tie as tie
+use Rattle.records.proofs.publisher.publisher_by.Statement.{statement}
+use Rattle.records.proofs.publisher.publisher_by.Tie as tie
 
 returns : tie.Need-returns
 returns c = rw (eq-eqb (c .before .args .code) 1 (c .if1 .taken)) refl

@@ -1,9 +1,9 @@
--- `message_record::given::class_in` meets its contract.
+-- `envelope_record::class_in` meets its contract.
 -- Assumes nothing.
 use borrow.Author.Tests.{eq-eqb, ne-eqb}
 use mathlib.Core.Path.{refl}
-use Rattle.message_record.proofs.given.class_in.Statement.{statement}
-use Rattle.message_record.proofs.given.class_in.Tie as tie
+use Rattle.envelope_record.proofs.class_in.Statement.{statement}
+use Rattle.envelope_record.proofs.class_in.Tie as tie
 
 returns : tie.Need-returns
 returns c = rw (eq-eqb (c .before .args .present) 0 (c .if1 .taken)) refl

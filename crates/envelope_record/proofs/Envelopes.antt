@@ -12,9 +12,10 @@ use Rattle.network_header.specs.declared.header.ClassId.{ClassId}
 use Rattle.network_header.specs.declared.header.PayloadHeader.{PayloadHeader}
 use Rattle.network_header.specs.declared.header.Promoted.{Promoted}
 use Rattle.network_header.specs.declared.envelope.Envelope.{Envelope}
-use Rattle.message_record.specs.Publisher.{publisherBy}
+use Rattle.records.specs.Publisher.{publisherBy}
 use Rattle.records.specs.Numbers.{numberAt}
-use Rattle.message_record.specs.Given.{isOn, given16, givenI64, classIn, groupIn, payloadHeaderIn, promotedIn, envelopeIn}
+use Rattle.records.specs.Items.{isOn, given16, givenI64}
+use Rattle.envelope_record.specs.Envelope.{classIn, groupIn, payloadHeaderIn, promotedIn, envelopeIn}
 
 -- a function of two things, each of which is another
 of-two : {A B C : Type 0} (f : A → B → C) {a a₁ : A} {b b₁ : B} → a ≡ a₁ → b ≡ b₁ → f a b ≡ f a₁ b₁

@@ -1,7 +1,7 @@
 // A PublisherId in a record: the number of its type, and its number.
 use publisher_id::publisher::PublisherId;
 ghost use mathlib.Core.Path.{_≡_};
-ghost use Rattle.message_record.specs.Publisher.{publisherBy, publisherNumber};
+ghost use Rattle.records.specs.Publisher.{publisherBy, publisherNumber};
 
 // The PublisherId of a type's number and a number.
 pub fn publisher_by(code: u64, v: u64) -> PublisherId

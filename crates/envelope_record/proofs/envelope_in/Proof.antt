@@ -1,10 +1,10 @@
--- `message_record::given::envelope_in` meets its contract.
+-- `envelope_record::envelope_in` meets its contract.
 -- Assumes nothing.
-use Rattle.message_record.proofs.Envelopes.{envelope-read}
+use Rattle.envelope_record.proofs.Envelopes.{envelope-read}
 use denote.Ref.{now}
 use borrow.Author.Needs.{needs}
-use Rattle.message_record.proofs.given.envelope_in.Statement.{statement}
-use Rattle.message_record.proofs.given.envelope_in.Tie as tie
+use Rattle.envelope_record.proofs.envelope_in.Statement.{statement}
+use Rattle.envelope_record.proofs.envelope_in.Tie as tie
 
 returns : tie.Need-returns
 returns c =

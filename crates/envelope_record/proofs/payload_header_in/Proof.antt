@@ -1,10 +1,10 @@
--- `message_record::given::payload_header_in` meets its contract.
+-- `envelope_record::payload_header_in` meets its contract.
 -- Assumes nothing.
 use borrow.Author.Tests.{eq-eqb, ne-eqb}
 use mathlib.Core.Path.{refl}
 use borrow.Author.Needs.{needs}
-use Rattle.message_record.proofs.given.payload_header_in.Statement.{statement}
-use Rattle.message_record.proofs.given.payload_header_in.Tie as tie
+use Rattle.envelope_record.proofs.payload_header_in.Statement.{statement}
+use Rattle.envelope_record.proofs.payload_header_in.Tie as tie
 
 returns : tie.Need-returns
 returns c = rw (eq-eqb (c .before .args .kind) 1 (c .if1 .taken)) refl

@@ -1,9 +1,9 @@
--- `message_record::given::header_in` meets its contract.
+-- `message_record::message::header_in` meets its contract.
 -- Assumes nothing.
 use mathlib.Core.Path.{refl}
 use borrow.Author.Needs.{needs}
-use Rattle.message_record.proofs.given.header_in.Statement.{statement}
-use Rattle.message_record.proofs.given.header_in.Tie as tie
+use Rattle.message_record.proofs.message.header_in.Statement.{statement}
+use Rattle.message_record.proofs.message.header_in.Tie as tie
 
 returns : tie.Need-returns
 returns c =
