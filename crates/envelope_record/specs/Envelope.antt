@@ -17,6 +17,8 @@ use Rattle.network_message.specs.declared.payload.Payload.{Payload}
 use Rattle.network_message.specs.declared.payload.MessagePlace.{MessagePlace}
 use Rattle.network_message.specs.declared.payload.MessageCursor.{MessageCursor}
 use Rattle.records.specs.Numbers.{numberAt}
+use Rattle.wire.specs.Number.{leBytes}
+use Rattle.wire_writer.specs.Store.{laid}
 use Rattle.records.specs.Publisher.{publisherNumber, publisherBy}
 use Rattle.records.specs.Items.{has16, value16, has32, value32, hasI64, valueI64, flagNumber, given16, given32, among, isOn, givenI64}
 
@@ -115,11 +117,9 @@ payloadIn s = record { count = numberAt s 22; sizes = sizesBy (numberAt s 23) (n
 abbrev pub messagesIn : List ℕ → MessageCursor
 messagesIn s = record { index = numberAt s 26; at = numberAt s 27 }
 
-abbrev pub headerBy : ℕ → ℕ → PayloadHeader
-headerBy code n = cond (eqb code 1) (PayloadHeader.Ids (n % 256)) (cond (eqb code 2) (PayloadHeader.Chunk (n % 65536)) PayloadHeader.Absent)
-
-abbrev pub headerIn : List ℕ → PayloadHeader
-headerIn s = headerBy (numberAt s 12) (numberAt s 13)
+-- the record with its message cursor moved: the numbers 26 and 27
+abbrev pub messagesLaid : MessageCursor → List ℕ → List ℕ
+messagesLaid c s = laid (laid s (8 * 26) (leBytes 8 (c .index))) (8 * 27) (leBytes 8 (c .at))
 
 -- "DataSetWriterId, 65536 for none"
 abbrev pub writerNumber : Optional16 → ℕ
@@ -148,9 +148,16 @@ groupIn s items =
     }))
 
 -- "PayloadHeader: 0 absent, 1 Count and ids, 2 a chunk's writer id (above 2 counts as absent)"; "Count, or the chunk's writer id"
-abbrev pub payloadHeaderIn : ℕ → ℕ → PayloadHeader
-payloadHeaderIn kind v =
+abbrev pub payloadHeaderBy : ℕ → ℕ → PayloadHeader
+payloadHeaderBy kind v =
     cond (eqb kind 1) (PayloadHeader.Ids (v % 256)) (cond (eqb kind 2) (PayloadHeader.Chunk (v % 65536)) PayloadHeader.Absent)
+
+abbrev pub payloadHeaderIn : List ℕ → PayloadHeader
+payloadHeaderIn s = payloadHeaderBy (numberAt s 12) (numberAt s 13)
+
+-- "where the PayloadHeader ends"
+abbrev pub payloadHeaderEnd : List ℕ → ℕ
+payloadHeaderEnd s = numberAt s 14
 
 -- "promoted fields: 0 absent, else present; their size"
 abbrev pub promotedIn : ℕ → ℕ → Promoted
@@ -164,7 +171,7 @@ envelopeIn s =
       «class_id» = classIn (numberAt s 3) (numberAt s 4) (numberAt s 5);
       group = groupIn s (numberAt s 6);
       chunk = isOn (numberAt s 11);
-      «payload_header» = payloadHeaderIn (numberAt s 12) (numberAt s 13);
+      «payload_header» = payloadHeaderIn s;
       timestamp = givenI64 (isOn (numberAt s 15)) (numberAt s 16);
       picoseconds = given16 (isOn (numberAt s 17)) (numberAt s 18);
       promoted = promotedIn (numberAt s 19) (numberAt s 20);

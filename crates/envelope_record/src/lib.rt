@@ -30,12 +30,18 @@ use records::publisher::publisher_number;
 use records::sizes::ENVELOPE_SIZE;
 use wire::Guid;
 use wire::optional::Optional16;
+use wire_writer::store::put64;
 ghost use mathlib.Core.Path.{_≡_};
 ghost use Prim.Native.Nat.{_+_, _*_};
 ghost use Rattle.wire_writer.specs.Store.{laid};
 ghost use Rattle.records.specs.Numbers.{numberBytes};
 ghost use Rattle.records.specs.Items.{has16, has32, given16, given32};
-ghost use Rattle.envelope_record.specs.Envelope.{hasClass, classLow, classHigh, groupItems, groupWriter, groupVersion, groupNumber, groupSequence, headerCode, headerNumber, hasPromoted, promotedSize, sizesCode, sizesPlace, startNumbers, restNumbers, envelopeNumbers, sizesBy, payloadIn, messagesIn, headerBy, headerIn, writerNumber, placeNumbers, classIn, groupIn, payloadHeaderIn, promotedIn, envelopeIn};
+ghost use Rattle.envelope_record.specs.Envelope.{hasClass, classLow, classHigh, groupItems, groupWriter, groupVersion, groupNumber, groupSequence, headerCode, headerNumber, hasPromoted, promotedSize, sizesCode, sizesPlace, startNumbers, restNumbers, envelopeNumbers, sizesBy, payloadIn, messagesIn, messagesLaid, payloadHeaderBy, payloadHeaderIn, payloadHeaderEnd, writerNumber, placeNumbers, classIn, groupIn, promotedIn, envelopeIn};
+
+// Where the numbers 26 and 27 stand: the cursor's message and its place.
+const CURSOR_INDEX: usize = 8 * 26;
+
+const CURSOR_AT: usize = 8 * 27;
 
 fn has_class(x: ClassId) -> u64
     ensures { λ r. ⌜ r ≡ hasClass x ⌝ }
@@ -290,23 +296,26 @@ pub fn messages_in(s: &[u8]) -> MessageCursor
     }
 }
 
-fn header_by(code: u64, n: u64) -> PayloadHeader
-    ensures { λ r. ⌜ r ≡ headerBy code n ⌝ }
+// The PayloadHeader of an envelope record.
+pub fn payload_header_in(s: &[u8]) -> PayloadHeader
+    ensures { λ r. ⌜ r ≡ payloadHeaderIn (now (s .entry)) ⌝ }
 {
-    if code == 1 {
-        return PayloadHeader::Ids((n % 256) as u8);
-    }
-    if code == 2 {
-        return PayloadHeader::Chunk((n % 65536) as u16);
-    }
-    PayloadHeader::Absent
+    payload_header_by(number(s, 12), number(s, 13))
 }
 
-// The PayloadHeader of an envelope record.
-pub fn header_in(s: &[u8]) -> PayloadHeader
-    ensures { λ r. ⌜ r ≡ headerIn (now (s .entry)) ⌝ }
+// Where the PayloadHeader of an envelope record ends in its datagram.
+pub fn payload_header_end(s: &[u8]) -> usize
+    ensures { λ r. ⌜ r ≡ payloadHeaderEnd (now (s .entry)) ⌝ }
 {
-    header_by(number(s, 12), number(s, 13))
+    number(s, 14) as usize
+}
+
+// Stores the message cursor of an envelope record.
+pub fn put_messages(out: &mut [u8], cursor: MessageCursor)
+    ensures { λ _. ⌜ now (out .exit) ≡ messagesLaid cursor (now (out .entry)) ⌝ }
+{
+    put64(out, CURSOR_INDEX, cursor.index as u64);
+    put64(out, CURSOR_AT, cursor.at as u64);
 }
 
 fn writer_number(x: Optional16) -> u64
@@ -358,8 +367,8 @@ fn group_in(s: &[u8], items: u64) -> GroupHeader
     })
 }
 
-fn payload_header_in(kind: u64, v: u64) -> PayloadHeader
-    ensures { λ r. ⌜ r ≡ payloadHeaderIn kind v ⌝ }
+fn payload_header_by(kind: u64, v: u64) -> PayloadHeader
+    ensures { λ r. ⌜ r ≡ payloadHeaderBy kind v ⌝ }
 {
     if kind == 1 {
         return PayloadHeader::Ids((v % 256) as u8);
@@ -386,7 +395,7 @@ pub fn envelope_in(s: &[u8]) -> Envelope
     let publisher = publisher_by(number(s, 0), number(s, 1));
     let class_id = class_in(number(s, 3), number(s, 4), number(s, 5));
     let group = group_in(s, number(s, 6));
-    let payload_header = payload_header_in(number(s, 12), number(s, 13));
+    let payload_header = payload_header_by(number(s, 12), number(s, 13));
     let timestamp = given_i64(is_on(number(s, 15)), number(s, 16));
     let picoseconds = given16(is_on(number(s, 17)), number(s, 18));
     let promoted = promoted_in(number(s, 19), number(s, 20));

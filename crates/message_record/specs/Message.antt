@@ -12,6 +12,8 @@ use Rattle.dataset_header.specs.declared.flags.Kind.{Kind}
 use Rattle.dataset_fields.specs.declared.fields.Field.{Field}
 use Rattle.dataset_fields.specs.declared.fields.Cursor.{Cursor}
 use Rattle.dataset_header.specs.declared.header.Header.{Header}
+use Rattle.wire.specs.Number.{leBytes}
+use Rattle.wire_writer.specs.Store.{laid}
 use Rattle.records.specs.Numbers.{numberAt}
 use Rattle.records.specs.Items.{has16, value16, has32, value32, hasI64, valueI64, flagNumber, given16, given32, givenI64, among}
 
@@ -56,6 +58,10 @@ cursorIn s =
       count = numberAt s 13;
       at = numberAt s 14;
     }
+
+-- the record with its field cursor moved: the numbers 12 and 14
+abbrev pub cursorLaid : Cursor → List ℕ → List ℕ
+cursorLaid c s = laid (laid s (8 * 12) (leBytes 8 (c .next))) (8 * 14) (leBytes 8 (c .at))
 
 -- "0 scalar, 1 null array, 2 array; number of elements of an array, else 0"
 abbrev pub shapeNumber : Shape → ℕ

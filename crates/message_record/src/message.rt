@@ -17,12 +17,18 @@ use records::items::value32;
 use records::numbers::number;
 use records::numbers::put_numbers;
 use value::Shape;
+use wire_writer::store::put64;
 ghost use mathlib.Core.Path.{_≡_};
 ghost use Rattle.wire_writer.specs.Store.{laid};
 ghost use Rattle.dataset_header.specs.Flags.{valid, notValid};
 ghost use Rattle.records.specs.Numbers.{numberBytes};
 ghost use Rattle.records.specs.Items.{has16, value16, has32, value32, given16, given32};
-ghost use Rattle.message_record.specs.Message.{encodingNumber, encodingIn, kindNumber, itemsNumber, headNumbers, cursorIn, shapeNumber, elementsNumber, fieldNumbers, kindIn, headerIn};
+ghost use Rattle.message_record.specs.Message.{encodingNumber, encodingIn, kindNumber, itemsNumber, headNumbers, cursorIn, cursorLaid, shapeNumber, elementsNumber, fieldNumbers, kindIn, headerIn};
+
+// Where the numbers 12 and 14 stand: the cursor's next field and its place.
+const CURSOR_NEXT: usize = 8 * 12;
+
+const CURSOR_AT: usize = 8 * 14;
 
 // An encoding's number in Flags1.
 pub fn encoding_number(e: Encoding) -> u64
@@ -122,6 +128,14 @@ pub fn put_no_head(out: &mut [u8])
 {
     let numbers = [0u64; 20];
     put_numbers(out, &numbers);
+}
+
+// Stores the field cursor of a head record: the next field's number and where it starts.
+pub fn put_cursor(out: &mut [u8], cursor: Cursor)
+    ensures { λ _. ⌜ now (out .exit) ≡ cursorLaid cursor (now (out .entry)) ⌝ }
+{
+    put64(out, CURSOR_NEXT, cursor.next as u64);
+    put64(out, CURSOR_AT, cursor.at as u64);
 }
 
 // The field cursor of a head record.

@@ -4,3 +4,4 @@ pub mod Numbers
 pub mod Result
 pub mod Writers
 pub mod Items
+pub mod LastNumber

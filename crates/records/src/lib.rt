@@ -1,6 +1,7 @@
-// Records that cross to other languages as lent bytes (include/uadp.h): numbers of 8 bytes, lowest byte first, one after the other, and the
-// configuration record.
+// Records that cross to other languages as lent bytes (include/uadp.h): their numbers of 8 bytes, lowest byte first, one after the other; what
+// several records have; the configuration record and the sequence record.
 pub mod items;
+pub mod last_number;
 pub mod numbers;
 pub mod publisher;
 pub mod result;

@@ -9,7 +9,8 @@ use Rattle.sequence.specs.Newness.{newnessBy}
 use Rattle.sequence.specs.declared.Newness.{Newness}
 use Rattle.sequence.specs.declared.LastSequenceNumber.{LastSequenceNumber}
 use Rattle.records.specs.Result.{resultOf}
-use Rattle.uadp_c.specs.Sequence.{lastIn, newnessNumber, newnessResult, recordAfter, newnessAfter}
+use Rattle.records.specs.LastNumber.{lastIn}
+use Rattle.uadp_c.specs.Sequence.{newnessNumber, newnessResult, recordAfter, newnessAfter}
 
 abbrev pub Judges : List ℕ → ℕ → ℕ → List ℕ → Type 0
 Judges s received x e = (x ≡ newnessResult s received) × (e ≡ newnessAfter s received)

@@ -5,7 +5,6 @@ use mathlib.Core.Path.{_≡_, refl, ap, subst, _∙_}
 use mathlib.Core.List.{List}
 use borrow.Author.Tests.{lt-ltb, le-ltb}
 use lib.ListN.{length}
-use Rattle.wire.specs.Number.{leBytes}
 use Rattle.wire.specs.Answer.{Answer, got, refused}
 use Rattle.wire_writer.specs.Store.{laid}
 use Rattle.dataset_fields.specs.Fields.{Stepped, stepAt}
@@ -14,7 +13,7 @@ use Rattle.dataset_fields.specs.declared.fields.Cursor.{Cursor}
 use Rattle.records.specs.Numbers.{numberBytes}
 use Rattle.records.specs.Result.{resultOf}
 use Rattle.records.specs.Writers.{typesFor}
-use Rattle.message_record.specs.Message.{fieldNumbers, cursorIn}
+use Rattle.message_record.specs.Message.{fieldNumbers, cursorIn, cursorLaid}
 use Rattle.uadp_c.specs.Fields.{stepResult, headAfter, fieldAfter}
 
 abbrev pub Steps : Answer Stepped → List ℕ → List ℕ → ℕ → List ℕ → List ℕ → Type 0
@@ -39,10 +38,9 @@ step-no-field a head field f k next x q g h r =
     subst (λ (y : Answer Stepped). Steps y head field x head field) q
     (rw (le-ltb (length head) 160 g, lt-ltb (length field) 48 h) (r, refl, refl))
 
-pub step-done : (a : Answer Stepped) (head field h₁ h₂ e : List ℕ) (f : Field) (k : Cursor) (next x : ℕ) → got (record { field = f; cursor = k }) next ≡ a
-    → 160 ≤ length head → 48 ≤ length field → x ≡ resultOf 0 (f .offset) → h₁ ≡ laid head 96 (leBytes 8 (k .next))
-    → h₂ ≡ laid h₁ 112 (leBytes 8 (k .at)) → e ≡ laid field 0 (numberBytes (fieldNumbers f)) → Steps a head field x h₂ e
-step-done a head field h₁ h₂ e f k next x q g h r p₁ p₂ p₃ =
-    let z : h₂ ≡ laid (laid head 96 (leBytes 8 (k .next))) 112 (leBytes 8 (k .at)) = p₂ ∙ ap (λ (l : List ℕ). laid l 112 (leBytes 8 (k .at))) p₁ in
-    subst (λ (y : Answer Stepped). Steps y head field x h₂ e) q
-    (rw (le-ltb (length head) 160 g, le-ltb (length field) 48 h) (r, z, p₃))
+pub step-done : (a : Answer Stepped) (head field h₁ e : List ℕ) (f : Field) (k : Cursor) (next x : ℕ) → got (record { field = f; cursor = k }) next ≡ a
+    → 160 ≤ length head → 48 ≤ length field → x ≡ resultOf 0 (f .offset) → h₁ ≡ cursorLaid k head
+    → e ≡ laid field 0 (numberBytes (fieldNumbers f)) → Steps a head field x h₁ e
+step-done a head field h₁ e f k next x q g h r p₁ p₂ =
+    subst (λ (y : Answer Stepped). Steps y head field x h₁ e) q
+    (rw (le-ltb (length head) 160 g, le-ltb (length field) 48 h) (r, p₁, p₂))

@@ -5,7 +5,6 @@ use mathlib.Core.Path.{_≡_, refl, ap, subst, _∙_}
 use mathlib.Core.List.{List}
 use borrow.Author.Tests.{lt-ltb, le-ltb}
 use lib.ListN.{length, take}
-use Rattle.wire.specs.Number.{leBytes}
 use Rattle.wire.specs.Answer.{Answer, got, refused}
 use Rattle.wire_writer.specs.Store.{laid}
 use Rattle.wire.specs.declared.optional.Optional16.{Optional16}
@@ -16,10 +15,10 @@ use Rattle.network_header.specs.declared.header.PayloadHeader.{PayloadHeader}
 use Rattle.network_message.specs.declared.payload.Payload.{Payload}
 use Rattle.network_message.specs.declared.payload.MessagePlace.{MessagePlace}
 use Rattle.network_message.specs.declared.payload.MessageCursor.{MessageCursor}
-use Rattle.records.specs.Numbers.{numberAt, numberBytes}
+use Rattle.records.specs.Numbers.{numberBytes}
 use Rattle.records.specs.Result.{resultOf}
 use Rattle.records.specs.Writers.{writersIn, sixteen, idsIn, sizesIn}
-use Rattle.envelope_record.specs.Envelope.{payloadIn, messagesIn, headerIn, placeNumbers}
+use Rattle.envelope_record.specs.Envelope.{payloadIn, messagesIn, messagesLaid, payloadHeaderIn, payloadHeaderEnd, placeNumbers}
 use Rattle.uadp_c.specs.Messages.{envelopeFilling, messageStep, writerAt, messageResult, envelopeAfter, placeAfter}
 
 -- the first entries of a list of 16 numbers of a configuration record
@@ -37,11 +36,11 @@ message-stepped c e s z l n p k y a b d f g q =
     q ∙ ap (λ (t : List ℕ). stepAt p t k s) (first-of c z l n 34 a b d) ∙ ap (λ (t : Payload). stepAt t (sizesIn c) k s) f
     ∙ ap (λ (t : MessageCursor). stepAt (payloadIn e) (sizesIn c) t s) g
 
-pub writer-named : (c e s z l : List ℕ) (n m k : ℕ) (h : PayloadHeader) (y : Optional16) → n ≡ writersIn c → l ≡ sixteen 2 c → z ≡ take n l → h ≡ headerIn e
-    → m ≡ numberAt e 14 → y ≡ writerIdOf h m z k s → y ≡ writerAt c e s k
+pub writer-named : (c e s z l : List ℕ) (n m k : ℕ) (h : PayloadHeader) (y : Optional16) → n ≡ writersIn c → l ≡ sixteen 2 c → z ≡ take n l → h ≡ payloadHeaderIn e
+    → m ≡ payloadHeaderEnd e → y ≡ writerIdOf h m z k s → y ≡ writerAt c e s k
 writer-named c e s z l n m k h y a b d f g q =
     q ∙ ap (λ (t : List ℕ). writerIdOf h m t k s) (first-of c z l n 2 a b d) ∙ ap (λ (t : PayloadHeader). writerIdOf t m (idsIn c) k s) f
-    ∙ ap (λ (t : ℕ). writerIdOf (headerIn e) t (idsIn c) k s) g
+    ∙ ap (λ (t : ℕ). writerIdOf (payloadHeaderIn e) t (idsIn c) k s) g
 
 abbrev pub Walks : (ℕ → Optional16) → Answer Stepped → List ℕ → List ℕ → ℕ → List ℕ → List ℕ → Type 0
 Walks w a e p x f q = (x ≡ messageResult a e p) × (f ≡ envelopeAfter a e p) × (q ≡ placeAfter w a e p)
@@ -59,10 +58,9 @@ pub walk-no-place : (w : ℕ → Optional16) (a : Answer Stepped) (e p : List �
 walk-no-place w a e p m k next x q g h r =
     subst (λ (y : Answer Stepped). Walks w y e p x e p) q (rw (le-ltb (length e) 224 g, lt-ltb (length p) 32 h) (r, refl, refl))
 
-pub walk-done : (w : ℕ → Optional16) (a : Answer Stepped) (e p e₁ e₂ f : List ℕ) (m : MessagePlace) (k : MessageCursor) (v : Optional16) (next x : ℕ)
+pub walk-done : (w : ℕ → Optional16) (a : Answer Stepped) (e p e₁ f : List ℕ) (m : MessagePlace) (k : MessageCursor) (v : Optional16) (next x : ℕ)
     → got (record { place = m; cursor = k }) next ≡ a → 224 ≤ length e → 32 ≤ length p → x ≡ resultOf 0 (m .index) → v ≡ w (m .index)
-    → e₁ ≡ laid e 208 (leBytes 8 (k .index)) → e₂ ≡ laid e₁ 216 (leBytes 8 (k .at)) → f ≡ laid p 0 (numberBytes (placeNumbers m v)) → Walks w a e p x e₂ f
-walk-done w a e p e₁ e₂ f m k v next x q g h r u p₁ p₂ p₃ =
-    let z : e₂ ≡ laid (laid e 208 (leBytes 8 (k .index))) 216 (leBytes 8 (k .at)) = p₂ ∙ ap (λ (l : List ℕ). laid l 216 (leBytes 8 (k .at))) p₁ in
-    let y : f ≡ laid p 0 (numberBytes (placeNumbers m (w (m .index)))) = p₃ ∙ ap (λ (t : Optional16). laid p 0 (numberBytes (placeNumbers m t))) u in
-    subst (λ (y : Answer Stepped). Walks w y e p x e₂ f) q (rw (le-ltb (length e) 224 g, le-ltb (length p) 32 h) (r, z, y))
+    → e₁ ≡ messagesLaid k e → f ≡ laid p 0 (numberBytes (placeNumbers m v)) → Walks w a e p x e₁ f
+walk-done w a e p e₁ f m k v next x q g h r u p₁ p₂ =
+    let y : f ≡ laid p 0 (numberBytes (placeNumbers m (w (m .index)))) = p₂ ∙ ap (λ (t : Optional16). laid p 0 (numberBytes (placeNumbers m t))) u in
+    subst (λ (y : Answer Stepped). Walks w y e p x e₁ f) q (rw (le-ltb (length e) 224 g, le-ltb (length p) 32 h) (r, p₁, y))

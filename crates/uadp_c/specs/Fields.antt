@@ -6,7 +6,6 @@ use lib.Dec.{ltb}
 use lib.ListN.{length}
 use Rattle.wire.specs.Constants.{NO_ROOM}
 use Rattle.records.specs.Sizes.{FIELD_SIZE, HEAD_SIZE}
-use Rattle.wire.specs.Number.{leBytes}
 use Rattle.wire.specs.Answer.{Answer, got, refused, mapAnswer}
 use Rattle.wire_writer.specs.Store.{laid}
 use Rattle.dataset_header.specs.Flags.{Valid, notValid, valid}
@@ -15,7 +14,7 @@ use Rattle.dataset_fields.specs.Fields.{Stepped}
 use Rattle.dataset_fields.specs.declared.fields.Field.{Field}
 use Rattle.records.specs.Numbers.{numberBytes}
 use Rattle.records.specs.Result.{resultOf, Filling}
-use Rattle.message_record.specs.Message.{headNumbers, fieldNumbers}
+use Rattle.message_record.specs.Message.{headNumbers, fieldNumbers, cursorLaid}
 
 -- "Value: 1, or 0 for a message that is not valid"
 abbrev pub validNumber : Valid Message → ℕ
@@ -41,7 +40,7 @@ stepResult (refused n place) head field = resultOf n place
 abbrev pub headAfter : Answer Stepped → List ℕ → List ℕ → List ℕ
 headAfter (got x next) head field =
     cond (ltb (length head) HEAD_SIZE) head
-    (cond (ltb (length field) FIELD_SIZE) head (laid (laid head 96 (leBytes 8 (x .cursor .next))) 112 (leBytes 8 (x .cursor .at))))
+    (cond (ltb (length field) FIELD_SIZE) head (cursorLaid (x .cursor) head))
 headAfter (refused n place) head field = head
 
 abbrev pub fieldAfter : Answer Stepped → List ℕ → List ℕ → List ℕ

@@ -6,17 +6,16 @@ use lib.Dec.{ltb}
 use lib.ListN.{length}
 use Rattle.wire.specs.Constants.{NO_ROOM}
 use Rattle.records.specs.Sizes.{ENVELOPE_SIZE, PLACE_SIZE}
-use Rattle.wire.specs.Number.{leBytes}
 use Rattle.wire.specs.Answer.{Answer, got, refused, mapAnswer}
 use Rattle.wire_writer.specs.Store.{laid}
 use Rattle.wire.specs.declared.optional.Optional16.{Optional16}
 use Rattle.network_message.specs.Envelope.{NetworkMessage}
 use Rattle.network_message.specs.WriterId.{writerIdOf}
 use Rattle.network_message.specs.Payload.{Stepped, stepAt}
-use Rattle.records.specs.Numbers.{numberAt, numberBytes}
+use Rattle.records.specs.Numbers.{numberBytes}
 use Rattle.records.specs.Result.{resultOf, Filling}
 use Rattle.records.specs.Writers.{idsIn, sizesIn}
-use Rattle.envelope_record.specs.Envelope.{envelopeNumbers, payloadIn, messagesIn, headerIn, placeNumbers}
+use Rattle.envelope_record.specs.Envelope.{envelopeNumbers, payloadIn, messagesIn, messagesLaid, payloadHeaderIn, payloadHeaderEnd, placeNumbers}
 
 -- "Value: the number of messages (0 for a chunk)"
 abbrev pub envelopeFilling : Answer NetworkMessage → Answer Filling
@@ -28,7 +27,7 @@ messageStep config envelope d = stepAt (payloadIn envelope) (sizesIn config) (me
 
 -- the DataSetWriterId of message k of an envelope record
 abbrev pub writerAt : List ℕ → List ℕ → List ℕ → ℕ → Optional16
-writerAt config envelope d k = writerIdOf (headerIn envelope) (numberAt envelope 14) (idsIn config) k d
+writerAt config envelope d k = writerIdOf (payloadHeaderIn envelope) (payloadHeaderEnd envelope) (idsIn config) k d
 
 -- "Value: the message's number"; "11 for either record"
 abbrev pub messageResult : Answer Stepped → List ℕ → List ℕ → ℕ
@@ -43,7 +42,7 @@ abbrev pub envelopeAfter : Answer Stepped → List ℕ → List ℕ → List ℕ
 envelopeAfter (got x next) envelope place =
     cond (ltb (length envelope) ENVELOPE_SIZE) envelope
     (cond (ltb (length place) PLACE_SIZE) envelope
-    (laid (laid envelope 208 (leBytes 8 (x .cursor .index))) 216 (leBytes 8 (x .cursor .at))))
+    (messagesLaid (x .cursor) envelope))
 envelopeAfter (refused n p) envelope place = envelope
 
 -- the place record afterwards, with what gives a message's DataSetWriterId

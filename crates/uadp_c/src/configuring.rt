@@ -3,6 +3,7 @@ use config_text::read_config;
 use records::result::result;
 use records::sizes::CONFIG_SIZE;
 use records::writers::put_config;
+use wire::constants::NO_ROOM;
 ghost use mathlib.Core.Path.{_≡_};
 ghost use Rattle.config_text.specs.Config.{configOf};
 ghost use Rattle.records.specs.Result.{resultIn, filledIn};
@@ -20,7 +21,7 @@ pub extern "C" fn uadp_config(text: &[u8], config: &mut [u8]) -> u64
         return result(read.number, read.place);
     }
     if config.len() < CONFIG_SIZE {
-        return result(11, 0);
+        return result(NO_ROOM, 0);
     }
     let c = read.config;
     put_config(config, c);

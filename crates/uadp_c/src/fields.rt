@@ -5,6 +5,7 @@ use dataset_message::message::MessageRead;
 use dataset_message::message::field_place;
 use dataset_message::message::read;
 use message_record::message::cursor_in;
+use message_record::message::put_cursor;
 use message_record::message::put_field;
 use message_record::message::put_head;
 use message_record::message::put_no_head;
@@ -12,7 +13,7 @@ use records::result::result;
 use records::sizes::FIELD_SIZE;
 use records::sizes::HEAD_SIZE;
 use records::writers::types_for;
-use wire_writer::store::put64;
+use wire::constants::NO_ROOM;
 ghost use mathlib.Core.Path.{_≡_};
 ghost use Rattle.dataset_fields.specs.Fields.{stepAt};
 ghost use Rattle.dataset_message.specs.Message.{messageAt, fieldPlaceAt};
@@ -37,14 +38,14 @@ pub extern "C" fn uadp_read_message(
         MessageRead::Refused(n, place) => result(n, place),
         MessageRead::NotValid => {
             if head.len() < HEAD_SIZE {
-                return result(11, 0);
+                return result(NO_ROOM, 0);
             }
             put_no_head(head);
             result(0, 0)
         }
         MessageRead::Is(h, cursor, end) => {
             if head.len() < HEAD_SIZE {
-                return result(11, 0);
+                return result(NO_ROOM, 0);
             }
             put_head(head, h, cursor, end);
             result(0, 1)
@@ -69,7 +70,7 @@ pub extern "C" fn uadp_field(
         FieldRead::Refused(n, place) => result(n, place),
         FieldRead::Is(f, _) => {
             if field.len() < FIELD_SIZE {
-                return result(11, 0);
+                return result(NO_ROOM, 0);
             }
             put_field(field, f);
             result(0, f.offset)
@@ -97,13 +98,12 @@ pub extern "C" fn uadp_next_field(
         FieldStep::Refused(n, place) => result(n, place),
         FieldStep::Is(f, next) => {
             if head.len() < HEAD_SIZE {
-                return result(11, 0);
+                return result(NO_ROOM, 0);
             }
             if field.len() < FIELD_SIZE {
-                return result(11, 0);
+                return result(NO_ROOM, 0);
             }
-            put64(head, 96, next.next as u64);
-            put64(head, 112, next.at as u64);
+            put_cursor(head, next);
             put_field(field, f);
             result(0, f.offset)
         }

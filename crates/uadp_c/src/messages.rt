@@ -1,23 +1,24 @@
 // Reading an envelope and its messages' places.
 use config::first;
-use envelope_record::header_in;
 use envelope_record::messages_in;
+use envelope_record::payload_header_end;
+use envelope_record::payload_header_in;
 use envelope_record::payload_in;
 use envelope_record::put_envelope;
+use envelope_record::put_messages;
 use envelope_record::put_place;
 use network_message::envelope::NetworkMessageRead;
 use network_message::envelope::read;
 use network_message::payload::MessageStep;
 use network_message::writer_id::writer_id;
-use records::numbers::number;
 use records::result::result;
 use records::sizes::ENVELOPE_SIZE;
 use records::sizes::PLACE_SIZE;
 use records::writers::ids;
 use records::writers::sizes;
 use records::writers::writer_count;
+use wire::constants::NO_ROOM;
 use wire::optional::Optional16;
-use wire_writer::store::put64;
 ghost use mathlib.Core.Path.{_≡_};
 ghost use Rattle.network_message.specs.Envelope.{networkMessageAt};
 ghost use Rattle.network_message.specs.Payload.{answerStep};
@@ -38,7 +39,7 @@ pub extern "C" fn uadp_read(datagram: &[u8], config: &[u8], envelope: &mut [u8])
         NetworkMessageRead::Refused(number, place) => result(number, place),
         NetworkMessageRead::Is(e, places, payload) => {
             if envelope.len() < ENVELOPE_SIZE {
-                return result(11, 0);
+                return result(NO_ROOM, 0);
             }
             put_envelope(envelope, e, places, payload);
             result(0, payload.count)
@@ -61,8 +62,8 @@ fn writer_at(datagram: &[u8], config: &[u8], envelope: &[u8], k: usize) -> Optio
 {
     let n = writer_count(config);
     let list = ids(config);
-    let header = header_in(envelope);
-    let end = number(envelope, 14) as usize;
+    let header = payload_header_in(envelope);
+    let end = payload_header_end(envelope);
     writer_id(datagram, header, end, first(&list, n), k)
 }
 
@@ -85,14 +86,13 @@ pub extern "C" fn uadp_next_message(
         MessageStep::Refused(number, at) => result(number, at),
         MessageStep::Is(m, next) => {
             if envelope.len() < ENVELOPE_SIZE {
-                return result(11, 0);
+                return result(NO_ROOM, 0);
             }
             if place.len() < PLACE_SIZE {
-                return result(11, 0);
+                return result(NO_ROOM, 0);
             }
             let writer = writer_at(datagram, config, envelope, m.index);
-            put64(envelope, 208, next.index as u64);
-            put64(envelope, 216, next.at as u64);
+            put_messages(envelope, next);
             put_place(place, m, writer);
             result(0, m.index)
         }

@@ -14,6 +14,7 @@ use records::result::result;
 use records::sizes::PARTIAL_SIZE;
 use records::writers::sizes;
 use records::writers::writer_count;
+use wire::constants::UNSOUND;
 use wire_writer::store::put64;
 ghost use mathlib.Core.Path.{_≡_};
 ghost use Rattle.reassembly.specs.Operations.{askComplete, judgeHandOut};
@@ -59,7 +60,7 @@ pub extern "C" fn uadp_take_in(
         ⌜ Called (Take (now (datagram .entry)) (now (config .entry))) before after ⌝ }
 {
     if rec.len() < PARTIAL_SIZE {
-        return result(12, 0);
+        return result(UNSOUND, 0);
     }
     let n = writer_count(config);
     let list = sizes(config);
@@ -91,10 +92,10 @@ pub extern "C" fn uadp_combine(
         ⌜ Called (Combine (now (source .entry)) (now («source_payload» .entry)) (now («source_marks» .entry))) before after ⌝ }
 {
     if source.len() < PARTIAL_SIZE {
-        return result(12, 0);
+        return result(UNSOUND, 0);
     }
     if rec.len() < PARTIAL_SIZE {
-        return result(12, 0);
+        return result(UNSOUND, 0);
     }
     let joined = combine_in(
         partial_in(rec),
@@ -123,7 +124,7 @@ pub extern "C" fn uadp_complete(rec: &[u8], payload: &[u8], marks: &[u8]) -> u64
         ⌜ r ≡ completeIn (now (rec .entry)) (askComplete held) ⌝ }
 {
     if rec.len() < PARTIAL_SIZE {
-        return result(12, 0);
+        return result(UNSOUND, 0);
     }
     match ask_complete(partial_in(rec), payload, marks) {
         Completeness::Yes => result(0, 1),
@@ -140,7 +141,7 @@ pub extern "C" fn uadp_hand_out(rec: &[u8], payload: &[u8], marks: &[u8]) -> u64
         ⌜ r ≡ handIn (now (rec .entry)) (judgeHandOut held) ⌝ }
 {
     if rec.len() < PARTIAL_SIZE {
-        return result(12, 0);
+        return result(UNSOUND, 0);
     }
     let held = partial_in(rec);
     match hand_out_verdict(held, payload, marks) {

@@ -20,8 +20,8 @@ returns c =
     let at-number10 = at-given-i64 .before in
     let at-is-on = at-number10 .before in
     let at-number9 = at-is-on .before in
-    let at-payload-header-in = at-number9 .before in
-    let at-number8 = at-payload-header-in .before in
+    let at-payload-header-by = at-number9 .before in
+    let at-number8 = at-payload-header-by .before in
     let at-number7 = at-number8 .before in
     let at-group-in = at-number7 .before in
     let at-number6 = at-group-in .before in
@@ -39,7 +39,7 @@ returns c =
     (at-number9 .number9 .ensures) (at-number10 .number10 .ensures) (at-number11 .number11 .ensures) (at-number12 .number12 .ensures)
     (at-number13 .number13 .ensures) (at-number14 .number14 .ensures) (c .is-on3 .ensures) (at-is-on .is-on .ensures)
     (at-is-on2 .is-on2 .ensures) (at-publisher-by .publisher-by .ensures) (at-class-in .class-in .ensures)
-    (at-group-in .group-in .ensures) (at-payload-header-in .payload-header-in .ensures) (at-given-i64 .given-i64 .ensures) (at-given16 .given16 .ensures) (at-promoted-in .promoted-in .ensures)
+    (at-group-in .group-in .ensures) (at-payload-header-by .payload-header-by .ensures) (at-given-i64 .given-i64 .ensures) (at-given16 .given16 .ensures) (at-promoted-in .promoted-in .ensures)
 
 pub envelope-in-spec : {M : Type 1} → statement M
 envelope-in-spec =

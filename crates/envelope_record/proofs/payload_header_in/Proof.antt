@@ -1,21 +1,12 @@
--- `envelope_record::payload_header_in` meets its contract.
--- Assumes nothing.
-use borrow.Author.Tests.{eq-eqb, ne-eqb}
-use mathlib.Core.Path.{refl}
+use mathlib.Core.Path.{sym}
 use borrow.Author.Needs.{needs}
 use Rattle.envelope_record.proofs.payload_header_in.Statement.{statement}
 use Rattle.envelope_record.proofs.payload_header_in.Tie as tie
 
+-- src/lib.rt:304:1
 returns : tie.Need-returns
-returns c = rw (eq-eqb (c .before .args .kind) 1 (c .if1 .taken)) refl
-
-returns-2 : tie.Need-returns-2
-returns-2 c =
-    rw (ne-eqb (c .before .before .args .kind) 1 (c .before .if1 .left), eq-eqb (c .before .before .args .kind) 2 (c .if2 .taken)) refl
-
-returns-3 : tie.Need-returns-3
-returns-3 c =
-    rw (ne-eqb (c .before .before .args .kind) 1 (c .before .if1 .left), ne-eqb (c .before .before .args .kind) 2 (c .if2 .left)) refl
+returns c =
+    rw (sym (c .before .before .number .ensures), sym (c .before .number2 .ensures)) (c .payload-header-by .ensures)
 
 pub payload-header-in-spec : {M : Type 1} → statement M
-payload-header-in-spec = tie.close (tie.spec (λ c. search needs) returns (λ c. search needs) returns-2 returns-3)
+payload-header-in-spec = tie.close (tie.spec (λ c κs. search needs) (λ c κs. search needs) (λ c κs. search needs) returns)

@@ -1,7 +1,7 @@
 use mathlib.Core.Path.{refl}
 use borrow.Author.Needs.{needs}
-use Rattle.uadp_c.proofs.newness.last_in.Statement.{statement}
-use Rattle.uadp_c.proofs.newness.last_in.Tie as tie
+use Rattle.records.proofs.last_number.last_in.Statement.{statement}
+use Rattle.records.proofs.last_number.last_in.Tie as tie
 
 -- src/newness.rt:12:1
 returns : tie.Need-returns
