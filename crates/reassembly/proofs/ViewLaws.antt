@@ -34,6 +34,13 @@ pub getD-laid : (v : View) (p : List ℕ) (i : ℕ) → i < length p → getD (l
 unfolding laid
 getD-laid v p i h = getD-tab (length p) _ i 0 h
 
+-- two views that agree below the length are laid in alike
+laid-ext : (v w : View) (p : List ℕ) → ((i : ℕ) → i < length p → v i ≡ w i) → laid v p ≡ laid w p
+laid-ext v w p e =
+    ext-getD 0 (laid v p) (laid w p) (simp length-laid)
+    (λ i h. let k : i < length p = rw length-laid at h in
+    getD-laid v p i k ∙ ap (λ (o : Option ℕ). Option·getD o (getD p i 0)) (e i k) ∙ sym (getD-laid w p i k))
+
 -- a view below n
 abbrev pub upTo : ℕ → View → View
 upTo n v i = cond (ltb i n) (v i) none
