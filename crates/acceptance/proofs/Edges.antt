@@ -18,6 +18,5 @@ use Rattle.acceptance.specs.Edges.{table, AllHold}
 -- Every entry of the table holds.
 pub edge-readings : AllHold table
 unfolding widthOf plain variantRule array valueAt orElse laid dataView clash full marksFor capacity marked markAt
-
-unfolding cleared markAll markedView sameText samePublisher publisherFits sameMessage soundBy readingAt judgeReading put takeIn askComplete judgeHandOut handOut
+    cleared markAll markedView sameText samePublisher publisherFits sameMessage soundBy readingAt judgeReading put takeIn askComplete judgeHandOut handOut
 edge-readings = (refl, (refl, (refl, (refl, (refl, (refl, (refl, (refl, (refl, (refl, (refl, (refl, tt))))))))))))
