@@ -9,27 +9,24 @@ use Rattle.uadp_c.proofs.configuring.uadp_config.Tie as tie
 -- src/configuring.rt:17:9
 returns : tie.Need-returns
 returns c =
-    let at-read-config = c .before .before .before in
-    let args = at-read-config .before .before .before .args in
-    fill-refused _ (now (args .config)) _ _ _ (config-bad (now (args .text)) _ (at-read-config .read-config .ensures) (omega arith)) (c .result .ensures)
+    fill-refused _ (now (c .before .before .before .before .before .before .args .config)) _ _ _
+    (config-bad (now (c .before .before .before .before .before .before .args .text)) _ (c .before .before .before .read-config .ensures) (omega arith)) (c .result .ensures)
 
 -- src/configuring.rt:20:9
 returns-2 : tie.Need-returns-2
 returns-2 c =
-    let at-read-config = c .before .before .before .before in
-    let args = at-read-config .before .before .before .args in
-    fill-none _ (now (args .config)) _ _ 146 _ (config-good (now (args .text)) _ (at-read-config .read-config .ensures) (omega arith))
-    (config-length (at-read-config .read-config .result .config) (search needs) (search needs) (search needs) (search needs)) (omega arith) (c .result2 .ensures)
+    fill-none _ (now (c .before .before .before .before .before .before .before .args .config)) _ _ 146 _
+    (config-good (now (c .before .before .before .before .before .before .before .args .text)) _ (c .before .before .before .before .read-config .ensures) (omega arith))
+    (config-length (c .before .before .before .before .read-config .result .config) (search needs) (search needs) (search needs) (search needs)) (omega arith) (c .result2 .ensures)
 
 -- src/configuring.rt:11:1
 returns-3 : tie.Need-returns-3
 returns-3 c =
-    let at-put-config = c .before .before .before in
-    let at-read-config = at-put-config .before .before .before .before .before .before in
-    let args = at-read-config .before .before .before .args in
-    fill-done _ (now (args .config)) _ _ _ 146 _ (config-good (now (args .text)) _ (at-read-config .read-config .ensures) (omega arith))
-    (config-length (at-read-config .read-config .result .config) (search needs) (search needs) (search needs) (search needs))
-    (omega arith) (c .result3 .ensures) (at-put-config .put-config .ensures)
+    fill-done _ (now (c .before .before .before .before .before .before .before .before .before .before .before .before .args .config)) _ _ _ 146 _
+    (config-good (now (c .before .before .before .before .before .before .before .before .before .before .before .before .args .text)) _
+    (c .before .before .before .before .before .before .before .before .before .read-config .ensures) (omega arith))
+    (config-length (c .before .before .before .before .before .before .before .before .before .read-config .result .config) (search needs) (search needs) (search needs) (search needs))
+    (omega arith) (c .result3 .ensures) (c .before .before .before .put-config .ensures)
 
 pub uadp-config-spec : {M : Type 1} → statement M
 uadp-config-spec =

@@ -47,17 +47,18 @@ returns-3 c =
 returns-4 : tie.Need-returns-4
 returns-4 c =
     let at-put-field = c .before .before .before in
-    let at-put642 = at-put-field .before .before .before .before in
-    let at-put64 = at-put642 .before .before .before .before in
-    let at-f = at-put64 .before .before .before .before .before in
+    let at-put-cursor = at-put-field .before .before .before .before in
+    let at-if2 = at-put-cursor .before .before in
+    let at-if1 = at-if2 .before in
+    let at-f = at-if1 .before .before in
     let at-step = at-f .before .before in
     let at-types-for = at-step .before in
     let at-cursor-in = at-types-for .before in
     let args = at-cursor-in .before .before .before .before .before .before .args in
-    step-done _ (now (args .head)) (now (args .field)) _ _ _ _ _ _ _
+    step-done _ (now (args .head)) (now (args .field)) _ _ _ _ _ _
     (stepped (now (args .config)) (now (args .message)) _ (now (args .head)) (args .writer) _ _ (at-types-for .types-for .ensures)
-    (at-cursor-in .cursor-in .ensures) (told answerStep (at-step .step .ensures) (at-f .f .given .1))) (omega arith) (omega arith)
-    (c .result4 .ensures) (at-put64 .put64 .ensures) (at-put642 .put642 .ensures) (at-put-field .put-field .ensures)
+    (at-cursor-in .cursor-in .ensures) (told answerStep (at-step .step .ensures) (at-f .f .given .1)))
+    (omega (arith, at-if1 .if1 .left)) (omega (arith, at-if2 .if2 .left)) (c .result4 .ensures) (at-put-cursor .put-cursor .ensures) (at-put-field .put-field .ensures)
 
 pub uadp-next-field-spec : {M : Type 1} → statement M
 uadp-next-field-spec =
@@ -75,7 +76,6 @@ uadp-next-field-spec =
     (λ c κs. search needs)
     (λ c. search needs)
     returns-2
-    (λ c κs. search needs)
     (λ c κs. search needs)
     (λ c κs. search needs)
     (λ c κs. search needs)

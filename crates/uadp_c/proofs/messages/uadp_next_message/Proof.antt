@@ -39,15 +39,14 @@ returns-3 c =
 returns-4 : tie.Need-returns-4
 returns-4 c =
     let at-put-place = c .before .before .before in
-    let at-put642 = at-put-place .before .before .before .before in
-    let at-put64 = at-put642 .before .before .before .before in
-    let at-writer-at = at-put64 .before .before in
+    let at-put-messages = at-put-place .before .before .before .before in
+    let at-writer-at = at-put-messages .before .before in
     let at-m = at-writer-at .before .before .before .before .before in
     let at-step = at-m .before .before in
     let args = at-step .before .before .before .before .before .before .args in
     walk-done (writerAt (now (args .config)) (now (args .envelope)) (now (args .datagram))) _ (now (args .envelope))
-    (now (args .place)) _ _ _ _ _ _ _ _ (told answerStep (at-step .step .ensures) (at-m .m .given .1)) (omega arith) (omega arith)
-    (c .result4 .ensures) (at-writer-at .writer-at .ensures) (at-put64 .put64 .ensures) (at-put642 .put642 .ensures) (at-put-place .put-place .ensures)
+    (now (args .place)) _ _ _ _ _ _ _ (told answerStep (at-step .step .ensures) (at-m .m .given .1)) (omega arith) (omega arith)
+    (c .result4 .ensures) (at-writer-at .writer-at .ensures) (at-put-messages .put-messages .ensures) (at-put-place .put-place .ensures)
 
 pub uadp-next-message-spec : {M : Type 1} → statement M
 uadp-next-message-spec =
@@ -63,7 +62,6 @@ uadp-next-message-spec =
     (λ c κs. search needs)
     (λ c. search needs)
     returns-2
-    (λ c κs. search needs)
     (λ c κs. search needs)
     (λ c κs. search needs)
     (λ c κs. search needs)

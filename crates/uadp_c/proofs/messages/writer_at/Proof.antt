@@ -8,13 +8,14 @@ use Rattle.uadp_c.proofs.messages.writer_at.Tie as tie
 returns : tie.Need-returns
 returns c =
     let at-first = c .before in
-    let at-number = at-first .before .before in
-    let at-header-in = at-number .before in
-    let at-ids = at-header-in .before in
+    let at-payload-header-end = at-first .before .before in
+    let at-payload-header-in = at-payload-header-end .before in
+    let at-ids = at-payload-header-in .before in
     let at-writer-count = at-ids .before in
     let args = at-writer-count .before .before .before .before .args in
     writer-named (now (args .config)) (now (args .envelope)) (now (args .datagram)) _ _ _ _ (args .k) _ _
-    (at-writer-count .writer-count .ensures .0) (at-ids .ids .ensures) (at-first .first .ensures) (at-header-in .header-in .ensures) (at-number .number .ensures) (c .writer-id .ensures)
+    (at-writer-count .writer-count .ensures .0) (at-ids .ids .ensures) (at-first .first .ensures)
+    (at-payload-header-in .payload-header-in .ensures) (at-payload-header-end .payload-header-end .ensures) (c .writer-id .ensures)
 
 pub writer-at-spec : {M : Type 1} → statement M
 writer-at-spec =

@@ -16,13 +16,13 @@ returns c =
 -- src/newness.rt:22:1
 returns-2 : tie.Need-returns-2
 returns-2 c =
-    let at-put-numbers = c .before .before .before in
-    let at-enum-told = at-put-numbers .before .before .before in
+    let at-put-last = c .before .before .before in
+    let at-enum-told = at-put-last .before .before in
     let at-judge-by = at-enum-told .before .before in
     let at-last-in = at-judge-by .before in
     let args = at-last-in .before .before .before .before .args in
     judged (now (args .last)) _ (args .received) _ _ _ Newness.Newer (omega arith) (at-last-in .last-in .ensures)
-    (at-judge-by .judge-by .ensures) (at-enum-told .enum-told .given .1) (c .result2 .ensures) (at-put-numbers .put-numbers .ensures)
+    (at-judge-by .judge-by .ensures) (at-enum-told .enum-told .given .1) (c .result2 .ensures) (at-put-last .put-last .ensures)
 
 -- src/newness.rt:22:1
 returns-3 : tie.Need-returns-3
@@ -52,7 +52,6 @@ uadp-newness-spec =
     returns
     (λ c κs. search needs)
     (λ c κs. search needs)
-    (λ c. search needs)
     (λ c. search needs)
     (λ c κs. search needs)
     (λ c κs. search needs)
