@@ -1,12 +1,12 @@
 //! The configuration, listing, reading, walking, and rewriting of datagrams.
 use super::{answer_of, buffer_length, record_length, Found, Lent, ReadOnly, Tally};
-use crate::ffi::{self, Answer};
 use crate::generate::{self, Random, Scenario};
 use crate::record::{self, bytes_of, number};
 use crate::reference::config::Config;
 use crate::reference::message::Message;
 use crate::reference::network::{self, MessagePlace};
 use crate::reference::{listing, message, message_writer, network_writer, Number, Result};
+use uadp::ffi::{self, Answer};
 
 /// A record filled by the library, judged against the expected value and record.
 fn judge_filled(

@@ -111,7 +111,7 @@ fn stored(case: &Path) -> (Vec<u8>, Vec<u8>) {
 
 #[test]
 fn stored_cases_list_as_expected() {
-    let cases = Path::new(env!("CARGO_MANIFEST_DIR")).join("listing/cases");
+    let cases = Path::new(env!("CARGO_MANIFEST_DIR")).join("../../tests/listing/cases");
     let mut compared = 0;
     for case in fs::read_dir(cases).expect("the stored cases") {
         let case = case.expect("a case").path();

@@ -1,12 +1,12 @@
 //! Reassembly histories, cutting, and sequence numbers.
 use super::{answer_of, buffer_length, record_length, Found, Lent, ReadOnly, Tally};
-use crate::ffi::{self, Answer};
 use crate::generate::{self, chunk_bytes, EnvelopeSpec, IdSpec, Random};
 use crate::record::{self, bytes_of, number};
 use crate::reference::config::Config;
 use crate::reference::reassembly::{Partial, PartialView, Record};
 use crate::reference::sequence::{note, Newness};
 use crate::reference::{chunk, Number, Result};
+use uadp::ffi::{self, Answer};
 
 /// A partial as it is lent to the library.
 #[derive(Clone, Debug)]

@@ -1,11 +1,11 @@
 //! What is done with the inputs, by the library and in Rust. Each job answers a number that both have to agree on.
 use crate::inputs::{Input, TOTAL};
 use std::hint::black_box;
-use uadp_tests::ffi;
-use uadp_tests::record::{self, number};
-use uadp_tests::reference::config::Config;
-use uadp_tests::reference::reassembly::{Partial, Record};
-use uadp_tests::reference::{message, message_writer, network, network_writer};
+use uadp::ffi;
+use uadp_comparison::record::{self, number};
+use uadp_comparison::reference::config::Config;
+use uadp_comparison::reference::reassembly::{Partial, Record};
+use uadp_comparison::reference::{message, message_writer, network, network_writer};
 
 /// Mixes two answers.
 fn mix(sum: u64, a: u64, b: u64) -> u64 {

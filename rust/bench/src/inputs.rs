@@ -1,7 +1,7 @@
 //! What is timed.
-use uadp_tests::generate::{chunk_bytes, variant, EnvelopeSpec, MessageSpec, Random, FIXED};
-use uadp_tests::record;
-use uadp_tests::reference::config::Config;
+use uadp_comparison::generate::{chunk_bytes, variant, EnvelopeSpec, MessageSpec, Random, FIXED};
+use uadp_comparison::record;
+use uadp_comparison::reference::config::Config;
 
 /// A datagram with the configuration that it is read under.
 pub struct Input {

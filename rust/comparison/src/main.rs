@@ -1,11 +1,11 @@
-//! `uadp-tests [COUNT] [SEED]`: compares the library with the reference on at least COUNT generated cases.
+//! `uadp-comparison [COUNT] [SEED]`: compares the library with the reference on at least COUNT generated cases.
 //! Its last line is `N passed, M failed`.
 use std::process::ExitCode;
 use std::sync::atomic::{AtomicUsize, Ordering};
 use std::sync::OnceLock;
 use std::thread;
-use uadp_tests::compare::{self, Tally};
-use uadp_tests::generate::Random;
+use uadp_comparison::compare::{self, Tally};
+use uadp_comparison::generate::Random;
 
 const COUNT: u64 = 4_000_000;
 const SEED: u64 = 1;
@@ -17,7 +17,7 @@ const SHARES: usize = 256;
 type Compare = fn(&mut Tally, &mut Random);
 
 /// The kinds of case, and how often each is drawn.
-const KINDS: [(Compare, usize); 8] = [
+const KINDS: [(Compare, usize); 10] = [
     (compare::config, 12),
     (compare::datagram, 40),
     (compare::made_up_field_cursor, 5),
@@ -26,6 +26,8 @@ const KINDS: [(Compare, usize); 8] = [
     (compare::write_message, 14),
     (compare::history, 8),
     (compare::cut, 2),
+    (compare::typed, 10),
+    (compare::reassembled, 1),
 ];
 
 fn draw(tally: &mut Tally, random: &mut Random) {
@@ -74,7 +76,7 @@ fn compare_all(count: u64, seed: u64) -> Tally {
 fn main() -> ExitCode {
     let mut arguments = std::env::args().skip(1).map(|argument| argument.parse::<u64>());
     let (Ok(count), Ok(seed)) = (arguments.next().unwrap_or(Ok(COUNT)), arguments.next().unwrap_or(Ok(SEED))) else {
-        eprintln!("usage: uadp-tests [COUNT] [SEED]");
+        eprintln!("usage: uadp-comparison [COUNT] [SEED]");
         return ExitCode::from(2);
     };
     let tally = compare_all(count, seed);

@@ -1,17 +1,19 @@
 //! Each operation of the library on an input, compared with the reference: the answer and every lent byte.
 mod histories;
 mod reading;
+mod typed;
 mod writing;
 
-use crate::ffi::Answer;
 use crate::generate::Random;
 use crate::reference::Result;
 use std::collections::BTreeMap;
 use std::fmt::Write;
 use std::hint::black_box;
+use uadp::ffi::Answer;
 
 pub use histories::{cut, every_newness, history, newness};
 pub use reading::{config, datagram, every_flag, made_up_field_cursor, made_up_message_cursor, next_message_of};
+pub use typed::{reassembled, typed};
 pub use writing::{write_datagram, write_message};
 
 /// How often each number was answered.
@@ -90,6 +92,17 @@ impl Tally {
         table += &line("all", &self.counts());
         table.extend(self.failures.iter().map(|(name, count)| format!("{name}: {count} differ\n")));
         table
+    }
+
+    /// Judges one case of which only is told whether both agree.
+    fn judge_equal(&mut self, operation: &'static str, number: u8, equal: bool, input: &[(&str, &[u8])]) {
+        self.operations.entry(operation).or_default()[usize::from(number.min(16))] += 1;
+        if !equal {
+            self.fail(operation, || {
+                let inputs = input.iter().map(|(name, bytes)| format!("  {name} ({} bytes): {}\n", bytes.len(), hex(bytes)));
+                format!("DIFFERENCE in {operation}\n{}", inputs.collect::<String>())
+            });
+        }
     }
 
     /// Judges one case; `input` names what the difference can be replayed with.

@@ -1,11 +1,11 @@
 //! Datagrams and messages written from parts, right and wrong ones.
 use super::reading::judge_put;
 use super::Tally;
-use crate::ffi::{self, EnvelopeParts, MessageParts};
 use crate::generate::{self, ConfigSpec, EnvelopeSpec, MessageSpec, Random};
 use crate::record::{self, bytes_of};
 use crate::reference::config::Config;
 use crate::reference::{message_writer, network_writer};
+use uadp::ffi::{self, EnvelopeParts, MessageParts};
 
 fn pairs(numbers: &[u16]) -> Vec<u8> {
     numbers.iter().flat_map(|number| number.to_le_bytes()).collect()

@@ -277,7 +277,7 @@ pub fn header_of(record: &[u8]) -> Header {
 }
 
 /// The parts that any envelope record and lists stand for; `class_id` is filled from the record.
-pub fn parts_of<'a>(parts: &crate::ffi::EnvelopeParts<'a>, class_id: &'a mut [u8; 16]) -> Parts<'a> {
+pub fn parts_of<'a>(parts: &uadp::ffi::EnvelopeParts<'a>, class_id: &'a mut [u8; 16]) -> Parts<'a> {
     let record = parts.envelope;
     let present = |i: usize| number(record, i) != 0;
     class_id[..8].copy_from_slice(&number(record, 4).to_le_bytes());
