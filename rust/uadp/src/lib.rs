@@ -87,3 +87,8 @@ pub const MOST_PUBLISHER_TEXT: usize = 64;
 pub const MOST_WALK: usize = 65_532;
 /// Room that every listing fits in.
 pub const MOST_LISTING: usize = 2_000_000;
+
+/// The README's example.
+#[cfg(doctest)]
+#[doc = include_str!("../../../README.md")]
+struct Readme;
