@@ -32,12 +32,17 @@ program: $(PROGRAM)
 # Rattle's sources, by which make sees that something changed.
 SOURCES := crates.txt $(shell find crates -name '*.rt' -o -name '*.antt')
 
+# One plain line where the kit is missing.
+NEEDS_RT = @command -v rt > /dev/null || { echo "this needs rt, the program of the Rattle kit, which is not on the path"; exit 1; }
+
 $(ARCHIVE): $(SOURCES)
+	$(NEEDS_RT)
 	@echo "proving and building the library: some minutes from nothing, then what changed only"
 	rt staticlib uadp_c
 	@touch $@
 
 $(PROGRAM): $(SOURCES)
+	$(NEEDS_RT)
 	@echo "proving and building the listing program: some minutes from nothing, then what changed only"
 	rt check uadp_list
 	@touch $@

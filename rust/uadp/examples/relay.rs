@@ -5,8 +5,8 @@ use std::error::Error;
 use std::path::PathBuf;
 use std::{env, fs};
 use uadp::{
-    Chunks, Config, DatagramBuilder, Kind, LastSequence, Message, MessageBuilder, MessagePart, Newness, Partial, PublisherId,
-    Reason, Refusal, Values, MOST_PAYLOAD,
+    marks_size, Chunks, Config, DatagramBuilder, Kind, LastSequence, Message, MessageBuilder, MessagePart, Newness, Partial,
+    PublisherId, Reason, Refusal, Values, CHUNK_HEADER, MOST_PAYLOAD,
 };
 
 const PUBLISHER: PublisherId = PublisherId::UInt16(4712);
@@ -83,7 +83,7 @@ impl Relay {
 
     /// Sends a message in chunks.
     fn send(&mut self, message: &[u8], writer: u16) -> Result<(), Box<dyn Error>> {
-        let (mut chunk, mut out) = ([0; CHUNK + 14], [0; CHUNK + 30]);
+        let (mut chunk, mut out) = ([0; CHUNK_HEADER + CHUNK], [0; CHUNK_HEADER + CHUNK + 16]);
         let mut chunks = Chunks::new(message, self.published, CHUNK);
         while let Some(chunk) = chunks.next_into(&mut chunk)? {
             let datagram = DatagramBuilder::new().publisher(PUBLISHER).write_chunk(writer, chunk, &mut out)?;
@@ -98,7 +98,7 @@ impl Relay {
 fn main() -> Result<(), Box<dyn Error>> {
     let mut arguments = env::args().skip(1);
     let folder = arguments.next().ok_or("usage: relay FOLDER FILE..")?.into();
-    let partial = Partial::new(vec![0; MOST_PAYLOAD], vec![0; MOST_PAYLOAD]);
+    let partial = Partial::new(vec![0; MOST_PAYLOAD], vec![0; marks_size(MOST_PAYLOAD)]);
     let mut relay = Relay { folder, partial, last: LastSequence::new(), published: 0, sent: 0 };
     arguments.try_for_each(|file| relay.receive(&fs::read(file)?))
 }

@@ -95,7 +95,15 @@ impl<'a> Datagram<'a> {
     ///
     /// # Errors
     ///
-    /// What document 01's section "The envelope" refuses: 1 to 8 at the byte, 10 for a datagram above 65,535 bytes.
+    /// With the first byte of the offending item:
+    /// - [`CutShort`](crate::Reason::CutShort) where an item doesn't fit in what is left,
+    /// - [`BadVersion`](crate::Reason::BadVersion), [`NotPermitted`](crate::Reason::NotPermitted) for flags and numbers that the
+    ///   standard forbids, [`NotTaken`](crate::Reason::NotTaken) for a secured or a discovery message,
+    /// - [`BadLength`](crate::Reason::BadLength) for a null or negative String PublisherId,
+    /// - [`Disagree`](crate::Reason::Disagree) where the messages' sizes don't add up to the payload.
+    ///
+    /// At 0: [`NotConfigured`](crate::Reason::NotConfigured) without a PayloadHeader where the writers are not configured, or only
+    /// in part; [`OverLimit`](crate::Reason::OverLimit) above 65,535 bytes, or with a String PublisherId above 64.
     pub fn read(bytes: &'a [u8], config: &'a Config) -> Result<Self, Refusal> {
         let mut record = [0; ENVELOPE_SIZE];
         ffi::read(bytes, config.as_bytes(), &mut record).into_result()?;
@@ -285,7 +293,15 @@ impl<'a> MessagePart<'a> {
     ///
     /// # Errors
     ///
-    /// What document 01's sections "The DataSetMessage" and "Values" refuse, with the place in the message.
+    /// With the first byte of the offending item, counted in the message:
+    /// - [`CutShort`](crate::Reason::CutShort) where an item doesn't fit in what is left,
+    /// - [`NotPermitted`](crate::Reason::NotPermitted) for flags and numbers that the standard forbids,
+    /// - [`NotTaken`](crate::Reason::NotTaken) for arrays with dimensions, other types, and a delta in RawData,
+    /// - [`BadLength`](crate::Reason::BadLength) for a negative length that is not null,
+    /// - [`LeftOver`](crate::Reason::LeftOver) for bytes other than zeros after the last field,
+    /// - [`TooDeep`](crate::Reason::TooDeep) for a value at level 101.
+    ///
+    /// At 0: [`NotConfigured`](crate::Reason::NotConfigured) for RawData whose fields are not configured.
     pub fn read(&self) -> Result<Option<Message<'a>>, Refusal> {
         let mut head = [0; HEAD_SIZE];
         let valid = ffi::read_message(self.bytes, self.config.as_bytes(), self.writer, &mut head).into_result()?;

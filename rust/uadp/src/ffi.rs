@@ -25,7 +25,7 @@ pub const SEQUENCE_SIZE: usize = 16;
 /// The DataSetWriterId, or sequence number, that stands for none.
 pub const NONE: u32 = 65_536;
 
-/// A result as the library gives it: document 01's number in the low byte, the value or the place above it.
+/// A result as the library gives it: the number in the low byte, 0 for done; above it the value, or the place of the refusal.
 #[derive(Clone, Copy, Debug, PartialEq, Eq)]
 pub struct Answer(pub u64);
 
@@ -44,7 +44,7 @@ impl Answer {
         Self(place << 8 | number as u64)
     }
 
-    /// Document 01's number, 0 for done.
+    /// The number, 0 for done; [`Reason`](crate::Reason) has the others.
     pub const fn number(self) -> u8 {
         self.0 as u8
     }

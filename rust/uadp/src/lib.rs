@@ -2,7 +2,7 @@
 //! bytes.
 //!
 //! Nothing is copied, nothing is allocated, and no call keeps a state: what a call needs is lent to it, so threads are free. A
-//! refused call leaves every lent byte as it was and answers a [`Refusal`] with document 01's number and the place.
+//! refused call leaves every lent byte as it was and answers a [`Refusal`]: why, and at which byte.
 //!
 //! # Reading
 //!
@@ -44,7 +44,7 @@
 //! # Limits
 //!
 //! x86-64 only. Datagrams of at most 65,535 bytes, chunked messages of at most 16,384, String PublisherIds of at most 64 bytes,
-//! values nested to 100 levels, 16 configured writers with 64 fields in all. A call takes at most some 16 KB of stack.
+//! values nested to 100 levels, 16 configured writers with 64 fields in all. A call takes at most 24 KB of stack.
 #![no_std]
 
 #[cfg(not(all(target_arch = "x86_64", target_pointer_width = "64", target_endian = "little")))]
@@ -68,7 +68,7 @@ pub use config::{Config, Writer};
 pub use datagram::{Datagram, Group, MessagePart, Messages, PublisherId};
 pub use listing::list;
 pub use message::{Encoding, Field, Fields, Kind, Message};
-pub use partial::Partial;
+pub use partial::{marks_size, Partial};
 pub use refusal::{Reason, Refusal};
 pub use sequence::{LastSequence, Newness};
 pub use value::{Shape, Type, Values};
@@ -81,6 +81,8 @@ pub const VERSION: &str = env!("CARGO_PKG_VERSION");
 pub const MOST_DATAGRAM: usize = 65_535;
 /// The longest message that travels in chunks.
 pub const MOST_PAYLOAD: usize = 16_384;
+/// How many bytes a chunk's payload has before its data.
+pub const CHUNK_HEADER: usize = 14;
 /// The longest String PublisherId.
 pub const MOST_PUBLISHER_TEXT: usize = 64;
 /// The most entries of a walk over a datagram.

@@ -4,8 +4,14 @@ use crate::record::{number, partial};
 use crate::{Config, MessagePart, PublisherId, Refusal, MOST_PUBLISHER_TEXT};
 use core::fmt;
 
-/// A message of which chunks have come in: a record and two areas of equal length, for its payload and for the marks of the bytes
-/// that are there. An area is a `Vec<u8>`, an array, or a `&mut [u8]`; what it holds at first plays no part.
+/// How long the marks area beside a payload area of so many bytes has to be.
+pub const fn marks_size(room: usize) -> usize {
+    room
+}
+
+/// A message of which chunks have come in: a record and two areas, for its payload and for the marks of the bytes that are there.
+/// The marks area is [`marks_size`] of the payload area's length. An area is a `Vec<u8>`, an array, or a `&mut [u8]`; what it holds
+/// at first plays no part.
 ///
 /// ```
 /// use uadp::{Chunks, Config, DatagramBuilder, Partial, PublisherId, Reason};
@@ -26,15 +32,15 @@ use core::fmt;
 /// # Ok::<(), uadp::Refusal>(())
 /// ```
 #[derive(Clone)]
-pub struct Partial<A> {
+pub struct Partial<P, M = P> {
     record: [u8; PARTIAL_SIZE],
-    payload: A,
-    marks: A,
+    payload: P,
+    marks: M,
 }
 
-impl<A> Partial<A> {
-    /// A partial that is not started, with these areas. A message longer than they are finds no room.
-    pub const fn new(payload: A, marks: A) -> Self {
+impl<P, M> Partial<P, M> {
+    /// A partial that is not started, with these areas. A message that is longer than the payload area finds no room.
+    pub const fn new(payload: P, marks: M) -> Self {
         Self { record: [0; PARTIAL_SIZE], payload, marks }
     }
 
@@ -75,12 +81,12 @@ impl<A> Partial<A> {
     }
 }
 
-impl<A: AsRef<[u8]>> Partial<A> {
+impl<P: AsRef<[u8]>, M: AsRef<[u8]>> Partial<P, M> {
     /// Whether every byte of the message has come in.
     ///
     /// # Errors
     ///
-    /// [`Unsound`](crate::Reason::Unsound) where the areas are not equally long.
+    /// [`Unsound`](crate::Reason::Unsound) where the areas' lengths don't fit each other.
     pub fn is_complete(&self) -> Result<bool, Refusal> {
         let answer = ffi::complete(&self.record, self.payload.as_ref(), self.marks.as_ref());
         answer.into_result().map(|complete| complete != 0)
@@ -105,15 +111,18 @@ impl<A: AsRef<[u8]>> Partial<A> {
     }
 }
 
-impl<A: AsRef<[u8]> + AsMut<[u8]>> Partial<A> {
+impl<P: AsRef<[u8]> + AsMut<[u8]>, M: AsRef<[u8]> + AsMut<[u8]>> Partial<P, M> {
     /// Takes a chunk in from a datagram.
     ///
     /// # Errors
     ///
-    /// - [`Unsound`](crate::Reason::Unsound) where the areas are not equally long.
+    /// - [`Unsound`](crate::Reason::Unsound) where the areas' lengths don't fit each other.
     /// - What [`Datagram::read`](crate::Datagram::read) refuses; [`NotTaken`](crate::Reason::NotTaken) at 0 for a datagram that is
-    ///   no chunk; what document 01's section "Reassembly" refuses of a chunk.
-    /// - [`NoRoom`](crate::Reason::NoRoom) where the message is longer than the areas.
+    ///   no chunk.
+    /// - Of the chunk itself: [`CutShort`](crate::Reason::CutShort); [`Disagree`](crate::Reason::Disagree) for a total of 0, for no
+    ///   data, and for data that reaches past the total; [`BadLength`](crate::Reason::BadLength); [`LeftOver`](crate::Reason::LeftOver)
+    ///   for bytes after it; [`OverLimit`](crate::Reason::OverLimit) for a total above 16,384.
+    /// - [`NoRoom`](crate::Reason::NoRoom) where the message is longer than the payload area.
     /// - [`OtherMessage`](crate::Reason::OtherMessage) where publisher, writer, number or total are not those of the started one.
     /// - [`ByteDiffers`](crate::Reason::ByteDiffers) where a byte that is there would get another content.
     pub fn take_in(&mut self, datagram: &[u8], config: &Config) -> Result<(), Refusal> {
@@ -126,13 +135,13 @@ impl<A: AsRef<[u8]> + AsMut<[u8]>> Partial<A> {
     /// # Errors
     ///
     /// As [`take_in`](Self::take_in), but for what it refuses of a datagram.
-    pub fn combine<B: AsRef<[u8]>>(&mut self, other: &Partial<B>) -> Result<(), Refusal> {
+    pub fn combine<Q: AsRef<[u8]>, N: AsRef<[u8]>>(&mut self, other: &Partial<Q, N>) -> Result<(), Refusal> {
         let source = [&other.record[..], other.payload.as_ref(), other.marks.as_ref()];
         ffi::combine(&mut self.record, self.payload.as_mut(), self.marks.as_mut(), source).into_result().map(drop)
     }
 }
 
-impl<A> fmt::Debug for Partial<A> {
+impl<P, M> fmt::Debug for Partial<P, M> {
     fn fmt(&self, f: &mut fmt::Formatter<'_>) -> fmt::Result {
         f.debug_struct("Partial")
             .field("publisher", &self.publisher())

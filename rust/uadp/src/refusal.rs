@@ -79,7 +79,7 @@ impl Reason {
         }
     }
 
-    /// Document 01's number.
+    /// The number, as in document 01 and in the C header.
     pub const fn number(self) -> u8 {
         match self {
             Self::CutShort => 1,
@@ -102,7 +102,7 @@ impl Reason {
         }
     }
 
-    /// Document 01's words for the number.
+    /// The reason in document 01's words.
     pub const fn text(self) -> &'static str {
         match self {
             Self::CutShort => "cut short: an item doesn't fit in what is left",
@@ -151,7 +151,7 @@ pub struct Refusal {
 }
 
 impl Refusal {
-    /// Document 01's number.
+    /// The reason's number.
     pub const fn number(self) -> u8 {
         self.reason.number()
     }

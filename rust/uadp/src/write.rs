@@ -369,7 +369,8 @@ impl<'p> Chunks<'p> {
         Self { payload, number, size, next: 0 }
     }
 
-    /// Writes the next chunk's payload at the buffer's start; `None` after the last one. A chunk is 14 bytes longer than its data.
+    /// Writes the next chunk's payload at the buffer's start; `None` after the last one. It is
+    /// [`CHUNK_HEADER`](crate::CHUNK_HEADER) bytes longer than its data.
     ///
     /// # Errors
     ///
