@@ -1,0 +1,304 @@
+//! The crate's types: what they tell of an input, and what its builders write, beside the reference.
+use super::Tally;
+use crate::generate::{self, Random, Scenario};
+use crate::reference;
+use crate::reference::config::Config;
+use crate::reference::message::{Field, Header, Message};
+use crate::reference::network::{Envelope, Group, MessagePlace, PublisherId};
+use crate::reference::value::Shape;
+use crate::reference::{listing, message, message_writer, network, network_writer};
+use uadp::walk::{Entry, Outcome, Record};
+use uadp::{Chunks, DatagramBuilder, MessageBuilder, Refusal, Values, MOST_DATAGRAM};
+
+/// A refusal as number and place.
+fn of_crate(refusal: Refusal) -> (u8, usize) {
+    (refusal.number(), refusal.place)
+}
+
+fn of_reference(refusal: reference::Refusal) -> (u8, usize) {
+    (refusal.number as u8, refusal.place)
+}
+
+fn number_of<T>(result: &Result<T, (u8, usize)>) -> u8 {
+    result.as_ref().map_or_else(|(number, _)| *number, |_| 0)
+}
+
+/// A configuration text, its writers, and a datagram under it.
+pub fn typed(tally: &mut Tally, random: &mut Random) {
+    let Scenario { text, datagram } = Scenario::any(random);
+    let text = if random.one_in(4) { generate::config_text(random) } else { text };
+    let input = [("text", &text[..]), ("datagram", &datagram[..])];
+    let (ours, expected) = (uadp::Config::parse(&text).map_err(of_crate), Config::parse(&text).map_err(of_reference));
+    let number = number_of(&expected);
+    let equal = match (&ours, &expected) {
+        (Ok(ours), Ok(expected)) => same_writers(ours, expected),
+        (ours, expected) => ours.as_ref().err() == expected.as_ref().err(),
+    };
+    tally.judge_equal("Config", number, equal, &input);
+    let (Ok(ours), Ok(expected)) = (ours, expected) else { return };
+    let case = Case { datagram: &datagram, ours: &ours, config: &expected };
+    tally.judge_equal("Listing", 0, case.lists_alike(), &input);
+    case.read(tally, random, &input);
+}
+
+fn same_writers(ours: &uadp::Config, expected: &Config) -> bool {
+    ours.writers().len() == expected.writers().len()
+        && ours.writers().zip(expected.writers()).all(|(ours, writer)| {
+            let types = expected.types_of(Some(writer.id)).iter().copied();
+            (ours.id, ours.size) == (writer.id, writer.size) && ours.types().map(uadp::Type::number).eq(types)
+        })
+}
+
+struct Case<'a> {
+    datagram: &'a [u8],
+    ours: &'a uadp::Config,
+    config: &'a Config,
+}
+
+impl Case<'_> {
+    fn lists_alike(&self) -> bool {
+        let expected = listing::list(self.datagram, self.config);
+        let mut out = vec![0; expected.len()];
+        uadp::list(self.datagram, self.ours, &mut out) == Ok(&expected)
+    }
+
+    fn read(&self, tally: &mut Tally, random: &mut Random, input: &[(&str, &[u8])]) {
+        let found = uadp::Datagram::read(self.datagram, self.ours);
+        let expected = network::read(self.datagram, self.config);
+        let (Ok(found), Ok(expected)) = (&found, &expected) else {
+            let (found, expected) = (found.map(drop).map_err(of_crate), expected.map(drop).map_err(of_reference));
+            tally.judge_equal("Datagram", number_of(&expected), found == expected, input);
+            return;
+        };
+        tally.judge_equal("Datagram", 0, same_envelope(found, expected), input);
+        tally.judge_equal("DatagramBuilder", 0, self.built_alike(found), input);
+        let places: Vec<MessagePlace> = expected.messages(self.datagram, self.config).collect();
+        let walked = found.messages().zip(&places).all(|(part, place)| same_place(part, place));
+        tally.judge_equal("Messages", 0, walked && found.messages().len() == places.len(), input);
+        for part in found.messages() {
+            self.message(tally, random, part, input);
+        }
+        tally.judge_equal("Walk", 0, self.walked_alike(found), input);
+    }
+
+    /// The datagram built again from what was read of it.
+    fn built_alike(&self, found: &uadp::Datagram) -> bool {
+        let mut expected = vec![0; self.datagram.len()];
+        let Ok(length) = network_writer::rewrite(self.datagram, self.config, &mut expected) else { return false };
+        let expected = &expected[..length];
+        let mut out = vec![0; self.datagram.len()];
+        let rewritten = found.rewrite(&mut out) == Ok(expected);
+        let builder = DatagramBuilder::new()
+            .publisher(found.publisher())
+            .class_id(found.class_id())
+            .group(found.group())
+            .timestamp(found.timestamp())
+            .picoseconds(found.picoseconds())
+            .promoted(found.promoted());
+        let mut out = vec![0; self.datagram.len()];
+        rewritten && self.payload_built(found, &builder, &mut out) == Ok(expected)
+    }
+
+    fn payload_built<'b>(
+        &self, found: &uadp::Datagram, builder: &DatagramBuilder, out: &'b mut [u8],
+    ) -> Result<&'b [u8], Refusal> {
+        if let Some(writer) = found.chunk_writer() {
+            return builder.write_chunk(writer, found.payload(), out);
+        }
+        let messages: Vec<u8> = found.messages().flat_map(|part| part.bytes().iter().copied()).collect();
+        if self.datagram[0] & 0x40 == 0 {
+            return builder.write_configured(self.ours, &messages, out);
+        }
+        let writers: Vec<u16> = found.messages().filter_map(|part| part.writer()).collect();
+        if let [writer] = writers[..] {
+            return builder.write_message(writer, &messages, out);
+        }
+        let lengths: Vec<u16> = found.messages().map(|part| part.bytes().len() as u16).collect();
+        builder.write_messages(&writers, &lengths, &messages, out)
+    }
+
+    fn message(&self, tally: &mut Tally, random: &mut Random, part: uadp::MessagePart, input: &[(&str, &[u8])]) {
+        let types = self.config.types_of(part.writer());
+        let found = part.read().map_err(of_crate);
+        let expected = message::read(part.bytes(), types).map_err(of_reference);
+        let number = number_of(&expected);
+        let equal = match (&found, &expected) {
+            (Ok(Some(found)), Ok(Some(expected))) => same_header(found, &expected.header) && same_fields(found, expected, types),
+            (Ok(None), Ok(None)) => true,
+            (found, expected) => found.as_ref().err() == expected.as_ref().err(),
+        };
+        tally.judge_equal("Message", number, equal, input);
+        let (Ok(Some(found)), Ok(Some(expected))) = (found, expected) else { return };
+        let k = random.within(0, expected.fields.count);
+        let field = message::field(part.bytes(), types, k).ok();
+        let equal = match (found.field(k), field) {
+            (Some(found), Some((expected, _))) => same_field(&found, &expected),
+            (found, expected) => found.is_none() && expected.is_none(),
+        };
+        tally.judge_equal("Field", 0, equal, input);
+        tally.judge_equal("MessageBuilder", 0, self.message_built(&found, expected.heartbeat, types), input);
+    }
+
+    /// The message built again from what was read of it.
+    fn message_built(&self, found: &uadp::Message, heartbeat: bool, types: &[u8]) -> bool {
+        let part = found.part();
+        let mut expected = vec![0; part.bytes().len()];
+        let rewritten = message_writer::rewrite(part.bytes(), types, &mut expected).is_ok() && expected == part.bytes();
+        let (mut bytes, mut lengths) = (vec![0; part.bytes().len()], vec![0; found.fields().len()]);
+        let mut values = Values::new(&mut bytes, &mut lengths);
+        let pushed = found.fields().all(|field| values.push(field.bytes).is_ok());
+        let indices: Vec<u16> = found.fields().map(|field| field.index as u16).collect();
+        let indices = if found.kind() == uadp::Kind::Delta { &indices[..] } else { &[] };
+        let builder = match heartbeat {
+            true => MessageBuilder::heartbeat().encoding(found.encoding()),
+            false => {
+                MessageBuilder::new(found.kind(), found.encoding()).fields(&values).indices(indices).padding(found.padding())
+            }
+        };
+        let builder = builder
+            .sequence(found.sequence())
+            .timestamp(found.timestamp())
+            .picoseconds(found.picoseconds())
+            .status(found.status())
+            .major_version(found.major_version())
+            .minor_version(found.minor_version());
+        let (mut out, mut again) = (expected.clone(), expected.clone());
+        rewritten
+            && pushed
+            && builder.write(self.ours, part.writer(), &mut out) == Ok(part.bytes())
+            && part.rewrite(&mut again) == Ok(part.bytes())
+    }
+
+    /// One call tells what stepping tells.
+    fn walked_alike(&self, found: &uadp::Datagram) -> bool {
+        let mut room: Vec<Record> = vec![[0; uadp::ffi::WALK_SIZE]; self.datagram.len()];
+        let Ok(walk) = uadp::walk(self.datagram, self.ours, &mut room) else { return false };
+        let mut entries = walk.entries();
+        let equal = found.messages().all(|part| {
+            let Some(Entry::Message(walked)) = entries.next() else { return false };
+            let read = part.read();
+            let outcome = match &read {
+                Ok(Some(message)) => {
+                    Outcome::Accepted { kind: message.kind(), encoding: message.encoding(), sequence: message.sequence() }
+                }
+                Ok(None) => Outcome::NotValid,
+                Err(refusal) => Outcome::Refused(*refusal),
+            };
+            let fields = read.ok().flatten().into_iter().flat_map(|message| message.fields());
+            let place = (walked.number, walked.writer, walked.offset, walked.bytes);
+            place == (part.number(), part.writer(), part.offset(), part.bytes()) && walked.outcome == outcome && { fields }.all(
+                |mut expected| {
+                    expected.offset += part.offset();
+                    entries.next() == Some(Entry::Field { message: part.number(), field: expected })
+                },
+            )
+        });
+        equal && entries.next().is_none() && walk.is_whole()
+    }
+}
+
+fn publisher_of(id: uadp::PublisherId) -> PublisherId {
+    match id {
+        uadp::PublisherId::Byte(id) => PublisherId::Byte(id),
+        uadp::PublisherId::UInt16(id) => PublisherId::UInt16(id),
+        uadp::PublisherId::UInt32(id) => PublisherId::UInt32(id),
+        uadp::PublisherId::UInt64(id) => PublisherId::UInt64(id),
+        uadp::PublisherId::String(id) => PublisherId::String(id),
+    }
+}
+
+fn group_of(group: uadp::Group) -> Group {
+    let uadp::Group { writer_group_id, version, message_number, sequence } = group;
+    Group { writer_group_id, version, message_number, sequence }
+}
+
+fn same_envelope(found: &uadp::Datagram, expected: &Envelope) -> bool {
+    let chunk_writer = match expected.payload_header {
+        network::PayloadHeader::ChunkOf(writer) => Some(writer),
+        _ => None,
+    };
+    found.publisher().map(publisher_of) == expected.publisher
+        && found.class_id() == expected.class_id.copied()
+        && found.group().map(group_of) == expected.group
+        && (found.is_chunk(), found.chunk_writer()) == (expected.chunk, chunk_writer)
+        && (found.timestamp(), found.picoseconds()) == (expected.timestamp, expected.picoseconds)
+        && found.promoted() == expected.promoted
+        && found.payload() == &found.bytes()[expected.payload_start..]
+}
+
+fn same_place(found: uadp::MessagePart, expected: &MessagePlace) -> bool {
+    let found = (found.number(), found.offset(), found.bytes().len(), found.writer());
+    found == (expected.number, expected.offset, expected.length, expected.writer)
+}
+
+fn same_header(found: &uadp::Message, expected: &Header) -> bool {
+    found.encoding() as u8 == expected.encoding as u8
+        && found.kind() as u8 == expected.kind as u8
+        && (found.sequence(), found.timestamp()) == (expected.sequence, expected.timestamp)
+        && (found.picoseconds(), found.status()) == (expected.picoseconds, expected.status)
+        && (found.major_version(), found.minor_version()) == (expected.major, expected.minor)
+}
+
+fn same_fields(found: &uadp::Message, expected: &Message, types: &[u8]) -> bool {
+    let bytes = found.part().bytes();
+    let fields: Vec<Field> = expected.walk(bytes, types).collect();
+    found.padding() == bytes.len() - expected.end
+        && found.fields().len() == fields.len()
+        && found.fields().count() == fields.len()
+        && found
+            .fields()
+            .zip(&fields)
+            .all(|(found, expected)| same_field(&found, expected) && found.bytes == &bytes[expected.offset..][..expected.length])
+}
+
+fn same_field(found: &uadp::Field, expected: &Field) -> bool {
+    let shape = match expected.value.shape {
+        Shape::Scalar => uadp::Shape::Scalar,
+        Shape::NullArray => uadp::Shape::NullArray,
+        Shape::Array(count) => uadp::Shape::Array(count),
+    };
+    (found.index, found.offset, found.bytes.len()) == (expected.index, expected.offset, expected.length)
+        && (found.value_type.number(), found.shape) == (expected.value.kind, shape)
+}
+
+/// A payload cut, sent as datagrams and put together again in any order, in two partials that are combined.
+pub fn reassembled(tally: &mut Tally, random: &mut Random) {
+    let length = random.within(1, 600);
+    let payload = random.bytes(length);
+    let (size, writer, number) = (random.within(1, 200), random.number() as u16, random.number() as u16);
+    let id = generate::publisher(random);
+    let text = &id.1[..id.1.len().min(64)];
+    let publisher = random.pick(&[uadp::PublisherId::UInt32(7), uadp::PublisherId::String(text)]);
+    let equal = reassemble(random, &payload, size, writer, number, publisher);
+    tally.judge_equal("Partial", 0, equal == Ok(true), &[("payload", &payload), ("text", text)]);
+}
+
+fn reassemble(
+    random: &mut Random, payload: &[u8], size: usize, writer: u16, number: u16, publisher: uadp::PublisherId,
+) -> Result<bool, Refusal> {
+    let (config, builder) = (uadp::Config::new(), DatagramBuilder::new().publisher(publisher));
+    let (mut chunk, mut out) = (vec![0; size + 14], vec![0; MOST_DATAGRAM]);
+    let (mut chunks, mut datagrams) = (Chunks::new(payload, number, size), Vec::new());
+    while let Some(chunk) = chunks.next_into(&mut chunk)? {
+        datagrams.push(builder.write_chunk(writer, chunk, &mut out)?.to_vec());
+    }
+    let mut equal = datagrams.len() == payload.len().div_ceil(size);
+    let mut whole = uadp::Partial::new(vec![7; payload.len()], vec![1; payload.len()]);
+    let mut other = whole.clone();
+    equal &= (whole.is_started(), whole.writer(), whole.publisher()) == (false, None, None);
+    for left in (1..=datagrams.len()).rev() {
+        equal &= !whole.is_complete()?;
+        let datagram = datagrams.swap_remove(random.below(left));
+        if random.one_in(3) {
+            other.take_in(&datagram, &config)?;
+        } else {
+            whole.take_in(&datagram, &config)?;
+        }
+    }
+    whole.combine(&other)?;
+    let message = whole.message(&config)?;
+    equal &= (message.bytes(), message.writer()) == (payload, Some(writer)) && whole.is_complete()?;
+    equal &= (whole.number(), whole.total(), whole.publisher()) == (Some(number), Some(payload.len()), Some(publisher));
+    whole.empty();
+    Ok(equal && whole.hand_out().map_err(of_crate) == Err((15, 0)))
+}

@@ -1,0 +1,369 @@
+//! The records of include/uadp.h: laid out from what the reference reads, and read from any bytes.
+use crate::reference::config::{Config, MOST_FIELDS, MOST_WRITERS};
+use crate::reference::message::{self, Cursor, Encoding, Field, Header, Kind, Message};
+use crate::reference::network::{Envelope, Group, MessagePlace, PayloadHeader, PublisherId, Sizes};
+use crate::reference::network_writer::{HeaderPart, Parts};
+use crate::reference::reassembly::{KeptId, Record};
+use crate::reference::value::Shape;
+use crate::reference::Result;
+
+pub const CONFIG_SIZE: usize = 146;
+pub const ENVELOPE_SIZE: usize = 224;
+pub const PLACE_SIZE: usize = 32;
+pub const HEAD_SIZE: usize = 160;
+pub const FIELD_SIZE: usize = 48;
+pub const WALK_SIZE: usize = 64;
+pub const PARTIAL_SIZE: usize = 112;
+pub const SEQUENCE_SIZE: usize = 16;
+pub const NO_WRITER: u32 = 65_536;
+
+/// Numbers of 8 bytes, one after the other.
+pub fn bytes_of(numbers: &[u64]) -> Vec<u8> {
+    numbers.iter().flat_map(|number| number.to_le_bytes()).collect()
+}
+
+/// Number i of a record; 0 where it does not fit.
+pub fn number(record: &[u8], i: usize) -> u64 {
+    record.get(8 * i..).and_then(|rest| rest.first_chunk()).map_or(0, |bytes| u64::from_le_bytes(*bytes))
+}
+
+/// A configuration record.
+pub fn config(config: &Config) -> Vec<u8> {
+    let mut record = vec![0; CONFIG_SIZE];
+    let writers = config.writers();
+    record[0] = writers.len() as u8;
+    record[1] = config.types().len() as u8;
+    for (k, writer) in writers.iter().enumerate() {
+        record[2 + 2 * k..][..2].copy_from_slice(&writer.id.to_le_bytes());
+        record[2 + 2 * MOST_WRITERS + 2 * k..][..2].copy_from_slice(&writer.size.unwrap_or(0).to_le_bytes());
+        record[2 + 4 * MOST_WRITERS + k] = config.fields_before(k) as u8;
+    }
+    record[CONFIG_SIZE - MOST_FIELDS..][..config.types().len()].copy_from_slice(config.types());
+    record
+}
+
+/// The configuration of any bytes: a short record is the empty one.
+pub fn config_of(record: &[u8]) -> Config {
+    if record.len() < CONFIG_SIZE {
+        return Config::default();
+    }
+    let pair = |at: usize| u16::from_le_bytes([record[at], record[at + 1]]);
+    let starts = 2 + 4 * MOST_WRITERS;
+    let writers = (0..usize::from(record[0]).min(MOST_WRITERS)).map(|k| {
+        let size = pair(2 + 2 * MOST_WRITERS + 2 * k);
+        (pair(2 + 2 * k), (size > 0).then_some(size), record[starts + k])
+    });
+    let types = &record[starts + MOST_WRITERS..][..usize::from(record[1]).min(MOST_FIELDS)];
+    Config::made_up(writers, types)
+}
+
+fn publisher(id: Option<PublisherId>) -> (u64, u64) {
+    match id {
+        None => (0, 0),
+        Some(PublisherId::Byte(id)) => (1, id.into()),
+        Some(PublisherId::UInt16(id)) => (2, id.into()),
+        Some(PublisherId::UInt32(id)) => (3, id.into()),
+        Some(PublisherId::UInt64(id)) => (4, id),
+        Some(PublisherId::String(id)) => (5, id.len() as u64),
+    }
+}
+
+fn item<T: Into<u64> + Copy>(item: Option<T>) -> u64 {
+    item.map_or(0, Into::into)
+}
+
+fn halves(class_id: &[u8; 16]) -> (u64, u64) {
+    let number = u128::from_le_bytes(*class_id);
+    (number as u64, (number >> 64) as u64)
+}
+
+/// An envelope record whose cursor stands before the first message.
+pub fn envelope(envelope: &Envelope) -> [u64; ENVELOPE_SIZE / 8] {
+    let mut record = [0; ENVELOPE_SIZE / 8];
+    (record[0], record[1]) = publisher(envelope.publisher);
+    record[2] = envelope.publisher_end as u64;
+    if let Some(class_id) = envelope.class_id {
+        record[3] = 1;
+        (record[4], record[5]) = halves(class_id);
+    }
+    if let Some(group) = envelope.group {
+        record[6..11].copy_from_slice(&group_numbers(&group));
+    }
+    record[11] = envelope.chunk.into();
+    (record[12], record[13]) = match envelope.payload_header {
+        PayloadHeader::Absent => (0, 0),
+        PayloadHeader::Writers(ids) => (1, ids.len() as u64 / 2),
+        PayloadHeader::ChunkOf(writer) => (2, writer.into()),
+    };
+    record[14] = envelope.payload_header_end as u64;
+    (record[15], record[16]) = envelope.timestamp.map_or((0, 0), |time| (1, time as u64));
+    (record[17], record[18]) = envelope.picoseconds.map_or((0, 0), |picoseconds| (1, picoseconds.into()));
+    (record[19], record[20]) = envelope.promoted.map_or((0, 0), |promoted| (1, promoted.len() as u64));
+    record[21] = envelope.payload_start as u64;
+    record[22] = envelope.message_count as u64;
+    (record[23], record[24]) = match envelope.sizes {
+        Sizes::Rest => (0, 0),
+        Sizes::Listed(_) => (1, envelope.payload_start as u64),
+        Sizes::Configured => (2, 0),
+    };
+    record[25] = envelope.first_message as u64;
+    record[27] = envelope.first_message as u64;
+    record
+}
+
+fn group_numbers(group: &Group) -> [u64; 5] {
+    let Group { writer_group_id, version, message_number, sequence } = *group;
+    let flag = |present: bool, flag: u64| if present { flag } else { 0 };
+    let flags = flag(writer_group_id.is_some(), 1)
+        + flag(version.is_some(), 2)
+        + flag(message_number.is_some(), 4)
+        + flag(sequence.is_some(), 8);
+    [16 + flags, item(writer_group_id), item(version), item(message_number), item(sequence)]
+}
+
+/// A message place record.
+pub fn place(place: &MessagePlace) -> [u64; PLACE_SIZE / 8] {
+    let writer = place.writer.map_or(NO_WRITER, u32::from);
+    [place.number as u64, place.offset as u64, place.length as u64, writer.into()]
+}
+
+const fn encoding_number(encoding: Encoding) -> u64 {
+    match encoding {
+        Encoding::Variant => 0,
+        Encoding::RawData => 1,
+        Encoding::DataValue => 2,
+    }
+}
+
+const fn encoding_of(number: u64) -> Encoding {
+    match number {
+        1 => Encoding::RawData,
+        2 => Encoding::DataValue,
+        _ => Encoding::Variant,
+    }
+}
+
+const fn kind_number(kind: Kind) -> u64 {
+    match kind {
+        Kind::Key => 0,
+        Kind::Delta => 1,
+        Kind::Event => 2,
+        Kind::KeepAlive => 3,
+    }
+}
+
+/// The numbers of a message head record that a header fills.
+pub fn header(header: &Header) -> [u64; HEAD_SIZE / 8] {
+    let mut record = [0; HEAD_SIZE / 8];
+    record[0] = 1;
+    record[1] = encoding_number(header.encoding);
+    record[2] = kind_number(header.kind);
+    let present = [
+        header.sequence.is_some(),
+        header.timestamp.is_some(),
+        header.picoseconds.is_some(),
+        header.status.is_some(),
+        header.major.is_some(),
+        header.minor.is_some(),
+    ];
+    record[3] = present.iter().rev().fold(0, |flags, present| 2 * flags + u64::from(*present));
+    record[4] = item(header.sequence);
+    record[5] = header.timestamp.map_or(0, |time| time as u64);
+    record[6] = item(header.picoseconds);
+    record[7] = item(header.status);
+    record[8] = item(header.major);
+    record[9] = item(header.minor);
+    record
+}
+
+/// A message head record; zeros for a message that is not valid.
+pub fn head(message: Option<&Message>) -> [u64; HEAD_SIZE / 8] {
+    let Some(message) = message else {
+        return [0; HEAD_SIZE / 8];
+    };
+    let mut record = header(&message.header);
+    record[10..15].copy_from_slice(&cursor(&message.fields));
+    record[15] = message.end as u64;
+    record
+}
+
+/// The numbers 10 to 14 of a message head record.
+pub fn cursor(cursor: &Cursor) -> [u64; 5] {
+    let Cursor { encoding, indexed, next, count, at } = *cursor;
+    [encoding_number(encoding), indexed.into(), next as u64, count as u64, at as u64]
+}
+
+/// The cursor of any message head record.
+pub fn cursor_of(record: &[u8]) -> Cursor {
+    Cursor {
+        encoding: encoding_of(number(record, 10)),
+        indexed: number(record, 11) != 0,
+        next: number(record, 12) as usize,
+        count: number(record, 13) as usize,
+        at: number(record, 14) as usize,
+    }
+}
+
+/// A field record.
+pub fn field(field: &Field) -> [u64; FIELD_SIZE / 8] {
+    let (shape, count) = match field.value.shape {
+        Shape::Scalar => (0, 0),
+        Shape::NullArray => (1, 0),
+        Shape::Array(count) => (2, count as u64),
+    };
+    [field.value.kind.into(), shape, count, field.index as u64, field.offset as u64, field.length as u64]
+}
+
+/// A walk record.
+pub type Walked = [u64; WALK_SIZE / 8];
+
+/// The records of a walk over all messages and fields of an accepted datagram.
+pub fn walk(datagram: &[u8], config: &Config, envelope: &Envelope) -> Vec<Walked> {
+    let mut records = Vec::new();
+    walk_into(&mut records, datagram, config, envelope);
+    records
+}
+
+/// The same, behind the records that are there.
+pub fn walk_into(records: &mut Vec<Walked>, datagram: &[u8], config: &Config, envelope: &Envelope) {
+    for place in envelope.messages(datagram, config) {
+        let bytes = &datagram[place.offset..][..place.length];
+        let types = config.types_of(place.writer);
+        let read = message::read(bytes, types);
+        records.push(walk_message(&place, &read));
+        if let Ok(Some(message)) = read {
+            records.extend(message.walk(bytes, types).map(|found| walk_field(&place, &found)));
+        }
+    }
+}
+
+fn walk_message(found: &MessagePlace, read: &Result<Option<Message>>) -> Walked {
+    let or_none = |number: Option<u16>| u64::from(number.map_or(NO_WRITER, u32::from));
+    let [number, offset, length, writer] = place(found);
+    let (what, [a, b, c]) = match read {
+        Ok(Some(Message { header, .. })) => {
+            (1, [kind_number(header.kind), encoding_number(header.encoding), or_none(header.sequence)])
+        }
+        Ok(None) => (2, [0; 3]),
+        Err(refusal) => (3, [refusal.number as u64, refusal.place as u64, 0]),
+    };
+    [what, number, writer, a, b, c, offset, length]
+}
+
+fn walk_field(message: &MessagePlace, found: &Field) -> Walked {
+    let [kind, shape, count, index, offset, length] = field(found);
+    [0, message.number as u64, index, kind, shape, count, message.offset as u64 + offset, length]
+}
+
+/// The header that any message head record stands for.
+pub fn header_of(record: &[u8]) -> Header {
+    let present = number(record, 3);
+    let when = |flag: u64, i: usize| (present & flag != 0).then(|| number(record, i));
+    Header {
+        encoding: encoding_of(number(record, 1)),
+        kind: match number(record, 2) {
+            1 => Kind::Delta,
+            2 => Kind::Event,
+            3 => Kind::KeepAlive,
+            _ => Kind::Key,
+        },
+        sequence: when(1, 4).map(|number| number as u16),
+        timestamp: when(2, 5).map(|number| number as i64),
+        picoseconds: when(4, 6).map(|number| number as u16),
+        status: when(8, 7).map(|number| number as u16),
+        major: when(16, 8).map(|number| number as u32),
+        minor: when(32, 9).map(|number| number as u32),
+    }
+}
+
+/// The parts that any envelope record and lists stand for; `class_id` is filled from the record.
+pub fn parts_of<'a>(parts: &uadp::ffi::EnvelopeParts<'a>, class_id: &'a mut [u8; 16]) -> Parts<'a> {
+    let record = parts.envelope;
+    let present = |i: usize| number(record, i) != 0;
+    class_id[..8].copy_from_slice(&number(record, 4).to_le_bytes());
+    class_id[8..].copy_from_slice(&number(record, 5).to_le_bytes());
+    let class_id: &'a [u8; 16] = class_id;
+    Parts {
+        publisher: match number(record, 0) {
+            1 => Some(PublisherId::Byte(number(record, 1) as u8)),
+            2 => Some(PublisherId::UInt16(number(record, 1) as u16)),
+            3 => Some(PublisherId::UInt32(number(record, 1) as u32)),
+            4 => Some(PublisherId::UInt64(number(record, 1))),
+            5 => Some(PublisherId::String(parts.text)),
+            _ => None,
+        },
+        string_length: number(record, 1),
+        class_id: present(3).then_some(class_id),
+        group: present(6).then(|| group_of(record)),
+        chunk: present(11),
+        payload_header: match number(record, 12) {
+            1 => HeaderPart::Count(usize::from(number(record, 13) as u8)),
+            2 => HeaderPart::ChunkOf(number(record, 13) as u16),
+            _ => HeaderPart::Absent,
+        },
+        ids: parts.ids,
+        timestamp: present(15).then(|| number(record, 16) as i64),
+        picoseconds: present(17).then(|| number(record, 18) as u16),
+        promoted: present(19).then_some(parts.promoted),
+        promoted_unasked: !present(19) && !parts.promoted.is_empty(),
+        text_unasked: number(record, 0) != 5 && !parts.text.is_empty(),
+        promoted_size: number(record, 20) as u16,
+        lengths: parts.lengths,
+        messages: parts.messages,
+    }
+}
+
+fn group_of(record: &[u8]) -> Group {
+    let flags = number(record, 6);
+    let when = |flag: u64, i: usize| (flags & flag != 0).then(|| number(record, i));
+    Group {
+        writer_group_id: when(1, 7).map(|number| number as u16),
+        version: when(2, 8).map(|number| number as u32),
+        message_number: when(4, 9).map(|number| number as u16),
+        sequence: when(8, 10).map(|number| number as u16),
+    }
+}
+
+/// The record of any partial record: none if not started.
+pub fn partial_of(record: &[u8]) -> Option<Record> {
+    (number(record, 0) == 1).then(|| Record {
+        publisher: kept_id_of(record),
+        writer: number(record, 3) as u16,
+        number: number(record, 4) as u16,
+        total: number(record, 5),
+    })
+}
+
+fn kept_id_of(record: &[u8]) -> KeptId {
+    let id = number(record, 2);
+    match number(record, 1) {
+        1 => KeptId::Byte(id as u8),
+        2 => KeptId::UInt16(id as u16),
+        3 => KeptId::UInt32(id as u32),
+        4 => KeptId::UInt64(id),
+        5 => {
+            let mut bytes = [0; 64];
+            bytes.copy_from_slice(&record[48..PARTIAL_SIZE]);
+            KeptId::String(id, bytes)
+        }
+        _ => KeptId::Absent,
+    }
+}
+
+/// A partial record.
+pub fn partial(record: &Record) -> Vec<u8> {
+    let mut text = [0; 64];
+    let (kind, id) = match record.publisher {
+        KeptId::Absent => (0, 0),
+        KeptId::Byte(id) => (1, id.into()),
+        KeptId::UInt16(id) => (2, id.into()),
+        KeptId::UInt32(id) => (3, id.into()),
+        KeptId::UInt64(id) => (4, id),
+        KeptId::String(length, bytes) => {
+            text = bytes;
+            (5, length)
+        }
+    };
+    let numbers = [1, kind, id, record.writer.into(), record.number.into(), record.total];
+    [bytes_of(&numbers), text.to_vec()].concat()
+}

@@ -1,0 +1,153 @@
+//! Reassembly of a message that travels in chunks.
+use crate::ffi::{self, PARTIAL_SIZE};
+use crate::record::{number, partial};
+use crate::{Config, MessagePart, PublisherId, Refusal, MOST_PUBLISHER_TEXT};
+use core::fmt;
+
+/// How long the marks area beside a payload area of so many bytes has to be.
+pub const fn marks_size(room: usize) -> usize {
+    room
+}
+
+/// A message of which chunks have come in: a record and two areas, for its payload and for the marks of the bytes that are there.
+/// The marks area is [`marks_size`] of the payload area's length. An area is a `Vec<u8>`, an array, or a `&mut [u8]`; what it holds
+/// at first plays no part.
+///
+/// ```
+/// use uadp::{Chunks, Config, DatagramBuilder, Partial, PublisherId, Reason};
+///
+/// let config = Config::default();
+/// let message = [1, 2, 0, 5, 3, 0, 10, 0, 0, 0, 63]; // a key frame of two Variants
+/// let builder = DatagramBuilder::new().publisher(PublisherId::UInt16(4711));
+/// let mut partial = Partial::new([0; 64], [0; 64]);
+/// let mut chunks = Chunks::new(&message, 7, 4);
+/// let (mut payload, mut datagram) = ([0; 32], [0; 64]);
+/// while let Some(chunk) = chunks.next_into(&mut payload)? {
+///     assert_eq!(partial.hand_out().unwrap_err().reason, Reason::NotComplete);
+///     partial.take_in(builder.write_chunk(21, chunk, &mut datagram)?, &config)?;
+/// }
+/// assert_eq!(partial.hand_out()?, message);
+/// let message = partial.message(&config)?.read()?.expect("valid");
+/// assert_eq!((message.part().writer(), message.fields().len()), (Some(21), 2));
+/// # Ok::<(), uadp::Refusal>(())
+/// ```
+#[derive(Clone)]
+pub struct Partial<P, M = P> {
+    record: [u8; PARTIAL_SIZE],
+    payload: P,
+    marks: M,
+}
+
+impl<P, M> Partial<P, M> {
+    /// A partial that is not started, with these areas. A message that is longer than the payload area finds no room.
+    pub const fn new(payload: P, marks: M) -> Self {
+        Self { record: [0; PARTIAL_SIZE], payload, marks }
+    }
+
+    /// Empties it: it is not started, whatever the areas hold.
+    pub fn empty(&mut self) {
+        ffi::empty(&mut self.record);
+    }
+
+    /// Whether a chunk has been taken in since it was last emptied. What follows is told of a started one only.
+    pub fn is_started(&self) -> bool {
+        number(&self.record, partial::STARTED) == 1
+    }
+
+    fn item(&self, i: usize) -> Option<u64> {
+        self.is_started().then(|| number(&self.record, i))
+    }
+
+    /// The message's DataSetWriterId.
+    pub fn writer(&self) -> Option<u16> {
+        self.item(partial::WRITER).map(|item| item as u16)
+    }
+
+    /// The message's number, by which its chunks belong together.
+    pub fn number(&self) -> Option<u16> {
+        self.item(partial::NUMBER).map(|item| item as u16)
+    }
+
+    /// How long the message is.
+    pub fn total(&self) -> Option<usize> {
+        self.item(partial::TOTAL).map(|item| item as usize)
+    }
+
+    /// Who publishes the message.
+    pub fn publisher(&self) -> Option<PublisherId<'_>> {
+        let id = self.item(partial::PUBLISHER)?;
+        let text = || &self.record[partial::TEXT_AT..][..(id as usize).min(MOST_PUBLISHER_TEXT)];
+        PublisherId::of(number(&self.record, partial::PUBLISHER_TYPE), id, text)
+    }
+}
+
+impl<P: AsRef<[u8]>, M: AsRef<[u8]>> Partial<P, M> {
+    /// Whether every byte of the message has come in.
+    ///
+    /// # Errors
+    ///
+    /// [`Unsound`](crate::Reason::Unsound) where the areas' lengths don't fit each other.
+    pub fn is_complete(&self) -> Result<bool, Refusal> {
+        let answer = ffi::complete(&self.record, self.payload.as_ref(), self.marks.as_ref());
+        answer.into_result().map(|complete| complete != 0)
+    }
+
+    /// The complete message.
+    ///
+    /// # Errors
+    ///
+    /// [`Unsound`](crate::Reason::Unsound), [`NotComplete`](crate::Reason::NotComplete).
+    pub fn hand_out(&self) -> Result<&[u8], Refusal> {
+        ffi::hand_out(&self.record, self.payload.as_ref(), self.marks.as_ref()).written(self.payload.as_ref())
+    }
+
+    /// The complete message, to be read as that of its writer.
+    ///
+    /// # Errors
+    ///
+    /// As [`hand_out`](Self::hand_out).
+    pub fn message<'a>(&'a self, config: &'a Config) -> Result<MessagePart<'a>, Refusal> {
+        Ok(MessagePart::alone(self.hand_out()?, config, self.writer()))
+    }
+}
+
+impl<P: AsRef<[u8]> + AsMut<[u8]>, M: AsRef<[u8]> + AsMut<[u8]>> Partial<P, M> {
+    /// Takes a chunk in from a datagram.
+    ///
+    /// # Errors
+    ///
+    /// - [`Unsound`](crate::Reason::Unsound) where the areas' lengths don't fit each other.
+    /// - What [`Datagram::read`](crate::Datagram::read) refuses; [`NotTaken`](crate::Reason::NotTaken) at 0 for a datagram that is
+    ///   no chunk.
+    /// - Of the chunk itself: [`CutShort`](crate::Reason::CutShort); [`Disagree`](crate::Reason::Disagree) for a total of 0, for no
+    ///   data, and for data that reaches past the total; [`BadLength`](crate::Reason::BadLength); [`LeftOver`](crate::Reason::LeftOver)
+    ///   for bytes after it; [`OverLimit`](crate::Reason::OverLimit) for a total above 16,384.
+    /// - [`NoRoom`](crate::Reason::NoRoom) where the message is longer than the payload area.
+    /// - [`OtherMessage`](crate::Reason::OtherMessage) where publisher, writer, number or total are not those of the started one.
+    /// - [`ByteDiffers`](crate::Reason::ByteDiffers) where a byte that is there would get another content.
+    pub fn take_in(&mut self, datagram: &[u8], config: &Config) -> Result<(), Refusal> {
+        let (payload, marks) = (self.payload.as_mut(), self.marks.as_mut());
+        ffi::take_in(&mut self.record, payload, marks, datagram, config.as_bytes()).into_result().map(drop)
+    }
+
+    /// Combines another partial into this one: each byte that the other has is taken in.
+    ///
+    /// # Errors
+    ///
+    /// As [`take_in`](Self::take_in), but for what it refuses of a datagram.
+    pub fn combine<Q: AsRef<[u8]>, N: AsRef<[u8]>>(&mut self, other: &Partial<Q, N>) -> Result<(), Refusal> {
+        let source = [&other.record[..], other.payload.as_ref(), other.marks.as_ref()];
+        ffi::combine(&mut self.record, self.payload.as_mut(), self.marks.as_mut(), source).into_result().map(drop)
+    }
+}
+
+impl<P, M> fmt::Debug for Partial<P, M> {
+    fn fmt(&self, f: &mut fmt::Formatter<'_>) -> fmt::Result {
+        f.debug_struct("Partial")
+            .field("publisher", &self.publisher())
+            .field("writer", &self.writer())
+            .field("number", &self.number())
+            .field("total", &self.total())
+            .finish_non_exhaustive()
+    }
+}

@@ -1,0 +1,185 @@
+//! Values: their types and shapes, and a run of encoded values to be written.
+use crate::record::number;
+use crate::{Reason, Refusal};
+use core::fmt;
+
+/// A value's type number, as in OPC UA Part 6.
+#[derive(Clone, Copy, PartialEq, Eq, PartialOrd, Ord, Hash)]
+pub struct Type(u8);
+
+/// The types with their names.
+const NAMES: [(Type, &str); 19] = [
+    (Type::NULL, "Null"),
+    (Type::BOOLEAN, "Boolean"),
+    (Type::SBYTE, "SByte"),
+    (Type::BYTE, "Byte"),
+    (Type::INT16, "Int16"),
+    (Type::UINT16, "UInt16"),
+    (Type::INT32, "Int32"),
+    (Type::UINT32, "UInt32"),
+    (Type::INT64, "Int64"),
+    (Type::UINT64, "UInt64"),
+    (Type::FLOAT, "Float"),
+    (Type::DOUBLE, "Double"),
+    (Type::STRING, "String"),
+    (Type::DATE_TIME, "DateTime"),
+    (Type::GUID, "Guid"),
+    (Type::BYTE_STRING, "ByteString"),
+    (Type::STATUS_CODE, "StatusCode"),
+    (Type::DATA_VALUE, "DataValue"),
+    (Type::VARIANT, "Variant"),
+];
+
+impl Type {
+    /// A null Variant.
+    pub const NULL: Self = Self(0);
+    /// 1 byte.
+    pub const BOOLEAN: Self = Self(1);
+    /// 1 byte.
+    pub const SBYTE: Self = Self(2);
+    /// 1 byte.
+    pub const BYTE: Self = Self(3);
+    /// 2 bytes.
+    pub const INT16: Self = Self(4);
+    /// 2 bytes.
+    pub const UINT16: Self = Self(5);
+    /// 4 bytes.
+    pub const INT32: Self = Self(6);
+    /// 4 bytes.
+    pub const UINT32: Self = Self(7);
+    /// 8 bytes.
+    pub const INT64: Self = Self(8);
+    /// 8 bytes.
+    pub const UINT64: Self = Self(9);
+    /// 4 bytes.
+    pub const FLOAT: Self = Self(10);
+    /// 8 bytes.
+    pub const DOUBLE: Self = Self(11);
+    /// A length and that many bytes.
+    pub const STRING: Self = Self(12);
+    /// 8 bytes.
+    pub const DATE_TIME: Self = Self(13);
+    /// 16 bytes.
+    pub const GUID: Self = Self(14);
+    /// A length and that many bytes.
+    pub const BYTE_STRING: Self = Self(15);
+    /// 4 bytes.
+    pub const STATUS_CODE: Self = Self(19);
+    /// A value with status and times; every field of a message in DataValue encoding.
+    pub const DATA_VALUE: Self = Self(23);
+    /// Only in arrays.
+    pub const VARIANT: Self = Self(24);
+
+    /// The type of a number.
+    pub const fn from_number(number: u8) -> Self {
+        Self(number)
+    }
+
+    /// Its number.
+    pub const fn number(self) -> u8 {
+        self.0
+    }
+
+    /// Its name in Part 6; `None` for a type that is not taken.
+    pub fn name(self) -> Option<&'static str> {
+        NAMES.iter().find(|(named, _)| *named == self).map(|(_, name)| *name)
+    }
+}
+
+impl fmt::Debug for Type {
+    fn fmt(&self, f: &mut fmt::Formatter<'_>) -> fmt::Result {
+        match self.name() {
+            Some(name) => f.write_str(name),
+            None => write!(f, "Type({})", self.0),
+        }
+    }
+}
+
+impl fmt::Display for Type {
+    fn fmt(&self, f: &mut fmt::Formatter<'_>) -> fmt::Result {
+        match self.name() {
+            Some(name) => f.pad(name),
+            None => write!(f, "type {}", self.0),
+        }
+    }
+}
+
+/// Whether a value is one or an array.
+#[derive(Clone, Copy, Debug, PartialEq, Eq, Hash)]
+pub enum Shape {
+    /// One value.
+    Scalar,
+    /// An array that is null.
+    NullArray,
+    /// An array of so many elements.
+    Array(usize),
+}
+
+impl Shape {
+    /// The shape that two numbers of a record tell, the second of which is the number of elements.
+    pub(crate) fn of(record: &[u8], shape: usize, elements: usize) -> Self {
+        match number(record, shape) {
+            1 => Self::NullArray,
+            2 => Self::Array(number(record, elements) as usize),
+            _ => Self::Scalar,
+        }
+    }
+}
+
+/// Encoded values one after the other in lent areas, as a message is written from them.
+///
+/// ```
+/// use uadp::Values;
+///
+/// let (mut bytes, mut lengths) = ([0; 64], [0; 8]);
+/// let mut values = Values::new(&mut bytes, &mut lengths);
+/// values.push(&[5, 3, 0])?; // a Variant: UInt16, 3
+/// assert_eq!((values.bytes(), values.lengths()), (&[5, 3, 0][..], &[3][..]));
+/// # Ok::<(), uadp::Refusal>(())
+/// ```
+#[derive(Debug)]
+pub struct Values<'b> {
+    bytes: &'b mut [u8],
+    lengths: &'b mut [usize],
+    used: usize,
+    count: usize,
+}
+
+impl<'b> Values<'b> {
+    /// None yet, with room in these areas: for the values' bytes, and for the length of each.
+    pub fn new(bytes: &'b mut [u8], lengths: &'b mut [usize]) -> Self {
+        Self { bytes, lengths, used: 0, count: 0 }
+    }
+
+    /// Adds a value as it is encoded: a Variant, a DataValue or the element of RawData, by the message's encoding. What the bytes
+    /// hold is judged when the message is written.
+    ///
+    /// # Errors
+    ///
+    /// [`NoRoom`](Reason::NoRoom) in either area.
+    pub fn push(&mut self, value: &[u8]) -> Result<(), Refusal> {
+        let no_room = Refusal { reason: Reason::NoRoom, place: 0 };
+        let room = self.bytes.get_mut(self.used..).and_then(|rest| rest.get_mut(..value.len())).ok_or(no_room)?;
+        let length = self.lengths.get_mut(self.count).ok_or(no_room)?;
+        room.copy_from_slice(value);
+        *length = value.len();
+        self.used += value.len();
+        self.count += 1;
+        Ok(())
+    }
+
+    /// Takes all values away.
+    pub fn clear(&mut self) {
+        (self.used, self.count) = (0, 0);
+    }
+
+    /// The values' bytes.
+    pub fn bytes(&self) -> &[u8] {
+        &self.bytes[..self.used]
+    }
+
+    /// How long each value is.
+    pub fn lengths(&self) -> &[usize] {
+        &self.lengths[..self.count]
+    }
+}

@@ -1,0 +1,471 @@
+/*
+ * include/uadp.h tried on the library: each member of each record by its name, each form of writing, the room that
+ * suffices for any input, and how much stack a call takes (left out with an argument). Its last line is `N passed, M
+ * failed`.
+ */
+#include "uadp.h"
+
+#include <pthread.h>
+#include <stdio.h>
+#include <stdlib.h>
+#include <string.h>
+
+static unsigned passed, failed;
+
+#define CHECK(condition) check((condition) ? 1 : 0, #condition, __LINE__)
+
+static void check(int holds, const char *text, int line)
+{
+    if (holds) {
+        passed++;
+    } else {
+        failed++;
+        (void)printf("header: line %d fails: %s\n", line, text);
+    }
+}
+
+static int done(uadp_result result, uint64_t value)
+{
+    return UADP_NUMBER(result) == UADP_DONE && UADP_VALUE(result) == value;
+}
+
+static int refused(uadp_result result, uint64_t number, uint64_t place)
+{
+    return UADP_NUMBER(result) == number && UADP_PLACE(result) == place;
+}
+
+/* A datagram with every part, of one message with every item. */
+static const uint8_t full[] = {
+    0xF1, 0xEC, 0x02,                                           /* flags */
+    3, 0, 0, 0, 'a', 'b', 'c',                                  /* PublisherId */
+    1, 2, 3, 4, 5, 6, 7, 8, 9, 10, 11, 12, 13, 14, 15, 16,      /* DataSetClassId */
+    0x0F, 0x12, 0x11, 0x24, 0x23, 0x22, 0x21, 0x32, 0x31, 0x42, 0x41, /* group header */
+    1, 0x52, 0x51,                                              /* PayloadHeader */
+    0xFE, 0xFF, 0xFF, 0xFF, 0xFF, 0xFF, 0xFF, 0xFF, 2, 1,       /* Timestamp, PicoSeconds */
+    2, 0, 'x', 'y',                                             /* promoted fields */
+    0xF9, 0x31, 0x62, 0x61, 0xFD, 0xFF, 0xFF, 0xFF, 0xFF, 0xFF, 0xFF, 0xFF, 4, 3, 0x72, 0x71, 4, 3, 2, 1, 8, 7, 6, 5,
+    2, 0, 7, 0, 5, 3, 0,                                        /* two fields: 7, a UInt16 */
+    9, 0, 0x8A, 2, 0, 0, 0, 0, 0, 0, 0x3F, 0, 0, 0x80, 0x3F,    /* and 9, two Floats */
+    0, 0                                                        /* padding */
+};
+enum { MESSAGE_AT = 54, MESSAGE_LENGTH = sizeof full - MESSAGE_AT };
+
+static void envelope_by_name(void)
+{
+    uadp_envelope_record e = UADP_ZERO;
+    uadp_place_record place = UADP_ZERO;
+    const uint8_t class_id[16] = {1, 2, 3, 4, 5, 6, 7, 8, 9, 10, 11, 12, 13, 14, 15, 16};
+
+    CHECK(done(uadp_read(full, sizeof full, NULL, &e), 1));
+    CHECK(e.publisher_type == UADP_ID_STRING && e.publisher == 3 && e.publisher_end == 10);
+    CHECK(memcmp(full + e.publisher_end - e.publisher, "abc", 3) == 0);
+    CHECK(e.has_class_id != 0 && memcmp(e.class_id, class_id, 16) == 0);
+    CHECK(e.group == (UADP_GROUP_PRESENT | UADP_GROUP_WRITER_GROUP_ID | UADP_GROUP_VERSION | UADP_GROUP_MESSAGE_NUMBER |
+                      UADP_GROUP_SEQUENCE));
+    CHECK(e.writer_group_id == 0x1112 && e.group_version == 0x21222324);
+    CHECK(e.message_number == 0x3132 && e.sequence == 0x4142);
+    CHECK(e.is_chunk == 0 && e.payload_header == UADP_HEADER_IDS && e.count == 1 && e.payload_header_end == 40);
+    CHECK(e.has_timestamp != 0 && e.timestamp == -2 && e.has_picoseconds != 0 && e.picoseconds == 258);
+    CHECK(e.has_promoted != 0 && e.promoted_size == 2 && e.payload == MESSAGE_AT);
+    CHECK(memcmp(full + e.payload - e.promoted_size, "xy", 2) == 0);
+    CHECK(e.messages == 1 && e.sizes == UADP_SIZES_REST && e.sizes_at == 0 && e.first_message == MESSAGE_AT);
+    CHECK(e.next_message == 0 && e.next_at == MESSAGE_AT);
+    CHECK(done(uadp_next_message(full, sizeof full, NULL, &e, &place), 0));
+    CHECK(e.next_message == 1 && e.next_at == sizeof full);
+    CHECK(place.number == 0 && place.offset == MESSAGE_AT && place.length == MESSAGE_LENGTH && place.writer == 0x5152);
+    CHECK(refused(uadp_next_message(full, sizeof full, NULL, &e, &place), UADP_END, 0));
+}
+
+static void message_by_name(void)
+{
+    const uint8_t *message = full + MESSAGE_AT;
+    uadp_head_record h = UADP_ZERO;
+    uadp_field_record f = UADP_ZERO;
+
+    CHECK(done(uadp_read_message(message, MESSAGE_LENGTH, NULL, UADP_NO_WRITER, &h), 1));
+    CHECK(h.valid != 0 && h.encoding == UADP_VARIANT && h.kind == UADP_DELTA);
+    CHECK(h.items == (UADP_ITEM_SEQUENCE | UADP_ITEM_TIMESTAMP | UADP_ITEM_PICOSECONDS | UADP_ITEM_STATUS |
+                      UADP_ITEM_MAJOR_VERSION | UADP_ITEM_MINOR_VERSION));
+    CHECK(h.sequence == 0x6162 && h.timestamp == -3 && h.picoseconds == 0x0304 && h.status == 0x7172);
+    CHECK(h.major_version == 0x01020304 && h.minor_version == 0x05060708);
+    CHECK(h.cursor_encoding == UADP_VARIANT && h.cursor_indexed != 0 && h.next_field == 0 && h.fields == 2);
+    CHECK(h.next_at == 26 && h.fields_end == MESSAGE_LENGTH - 2);
+    CHECK(done(uadp_next_field(message, MESSAGE_LENGTH, NULL, UADP_NO_WRITER, &h, &f), 28));
+    CHECK(f.type == UADP_TYPE_UINT16 && f.shape == UADP_SCALAR && f.elements == 0 && f.index == 7);
+    CHECK(f.offset == 28 && f.length == 3 && h.next_field == 1 && h.next_at == 31);
+    CHECK(done(uadp_field(message, MESSAGE_LENGTH, NULL, UADP_NO_WRITER, 1, &f), 33));
+    CHECK(f.type == UADP_TYPE_FLOAT && f.shape == UADP_ARRAY && f.elements == 2 && f.index == 9 && f.length == 13);
+    CHECK(refused(uadp_field(message, MESSAGE_LENGTH, NULL, UADP_NO_WRITER, 2, &f), UADP_END, 0));
+}
+
+static void walk_by_name(void)
+{
+    uadp_walk_record w[3];
+    const uint8_t two[] = {0x41, 2, 21, 0, 22, 0, 1, 0, 2, 0, 0, 0x01, 0x09};
+
+    CHECK(done(uadp_walk(full, sizeof full, NULL, w, 3), 3));
+    CHECK(w[0].what == UADP_WALKED_MESSAGE && w[0].message == 0 && w[0].writer == 0x5152 && w[0].kind == UADP_DELTA);
+    CHECK(w[0].encoding == UADP_VARIANT && w[0].sequence == 0x6162 && w[0].offset == MESSAGE_AT);
+    CHECK(w[0].length == MESSAGE_LENGTH);
+    CHECK(w[2].what == UADP_WALKED_FIELD && w[2].index == 9 && w[2].type == UADP_TYPE_FLOAT);
+    CHECK(w[2].shape == UADP_ARRAY && w[2].elements == 2 && w[2].offset == MESSAGE_AT + 33 && w[2].length == 13);
+    CHECK(done(uadp_walk(two, sizeof two, NULL, w, 1), 2) && w[0].what == UADP_WALKED_NOT_VALID);
+    CHECK(done(uadp_walk(two, sizeof two, NULL, w, 2), 2) && w[1].what == UADP_WALKED_REFUSED && w[1].message == 1);
+    CHECK(w[1].writer == 22 && w[1].refusal == UADP_CUT_SHORT && w[1].refusal_place == 1 && w[1].sequence == 0);
+}
+
+static void configuration_by_name(void)
+{
+    const char *text = "writer\t21\t-\nfield\t5\nwriter\t300\t7\nfield\t10\nfield\t1\n";
+    uadp_config_record c = UADP_ZERO;
+
+    CHECK(done(uadp_config(text, strlen(text), &c), 0));
+    CHECK(c.writer_count == 2 && c.field_count == 3 && c.ids[0] == 21 && c.ids[1] == 300);
+    CHECK(c.sizes[0] == 0 && c.sizes[1] == 7 && c.starts[0] == 0 && c.starts[1] == 1);
+    CHECK(c.types[0] == 5 && c.types[1] == 10 && c.types[2] == 1);
+    CHECK(refused(uadp_config("writer\t1\t-\nx\n", 13, &c), UADP_BAD_LINE, 2));
+    CHECK(done(uadp_config(NULL, 0, &c), 0) && c.writer_count == 0);
+}
+
+/* What was read of the full datagram and message, written again from parts. */
+static void written_from_parts(void)
+{
+    uint8_t out[256];
+    const uint16_t ids[] = {0x5152};
+    const uint16_t indices[] = {7, 9};
+    const size_t lengths[] = {3, 13};
+    uint8_t values[16];
+    uadp_message_parts m = UADP_ZERO;
+    uadp_datagram_parts d = UADP_ZERO;
+
+    (void)memcpy(values, full + MESSAGE_AT + 28, 3);
+    (void)memcpy(values + 3, full + MESSAGE_AT + 33, 13);
+    CHECK(done(uadp_read_message(full + MESSAGE_AT, MESSAGE_LENGTH, NULL, UADP_NO_WRITER, &m.head), 1));
+    m.values = values;
+    m.values_length = sizeof values;
+    m.lengths = lengths;
+    m.length_count = 2;
+    m.indices = indices;
+    m.index_count = 2;
+    m.padding = 2;
+    CHECK(done(uadp_write_message(&m, NULL, UADP_NO_WRITER, out, sizeof out), MESSAGE_LENGTH));
+    CHECK(memcmp(out, full + MESSAGE_AT, MESSAGE_LENGTH) == 0);
+    CHECK(refused(uadp_write_message(&m, NULL, UADP_NO_WRITER, out, MESSAGE_LENGTH - 1), UADP_NO_ROOM, 0));
+    CHECK(done(uadp_rewrite_message(full + MESSAGE_AT, MESSAGE_LENGTH, NULL, UADP_NO_WRITER, out, sizeof out),
+               MESSAGE_LENGTH));
+
+    CHECK(done(uadp_read(full, sizeof full, NULL, &d.envelope), 1));
+    d.envelope.count = 99; /* count, promoted_size and a String's length follow from the rest */
+    d.envelope.publisher = 99;
+    d.envelope.promoted_size = 99;
+    d.text = full + 7;
+    d.text_length = 3;
+    d.ids = ids;
+    d.id_count = 1;
+    d.promoted = full + MESSAGE_AT - 2;
+    d.promoted_length = 2;
+    d.messages = full + MESSAGE_AT;
+    d.messages_length = MESSAGE_LENGTH;
+    CHECK(done(uadp_write(&d, NULL, out, sizeof out), sizeof full) && memcmp(out, full, sizeof full) == 0);
+    CHECK(done(uadp_rewrite(full, sizeof full, NULL, out, sizeof out), sizeof full));
+}
+
+/* Each form of a datagram, and a slip in each. */
+static void forms_of_a_datagram(void)
+{
+    const char *text = "writer\t21\t2\nwriter\t22\t1\n";
+    const uint16_t ids[] = {21, 22};
+    const uint16_t lengths[] = {2, 1};
+    const uint8_t messages[] = {1, 0, 0};
+    const uint8_t several[] = {0x41, 2, 21, 0, 22, 0, 2, 0, 1, 0, 1, 0, 0};
+    const uint8_t configured[] = {0x01, 1, 0, 0};
+    const uint8_t chunk[] = {0xC1, 0x80, 0x01, 21, 0, 1, 0, 0};
+    uint8_t out[64];
+    uadp_config_record config = UADP_ZERO;
+    uadp_datagram_parts d = UADP_ZERO;
+
+    CHECK(done(uadp_config(text, strlen(text), &config), 0));
+    d.messages = messages;
+    d.messages_length = sizeof messages;
+    CHECK(refused(uadp_write(&d, NULL, out, sizeof out), UADP_NOT_CONFIGURED, 0));
+    CHECK(done(uadp_write(&d, &config, out, sizeof out), sizeof configured) && memcmp(out, configured, 4) == 0);
+    d.ids = ids;
+    d.id_count = 1;
+    CHECK(refused(uadp_write(&d, &config, out, sizeof out), UADP_DISAGREE, 0));
+
+    d.envelope.payload_header = UADP_HEADER_IDS;
+    d.id_count = 2;
+    d.lengths = lengths;
+    d.length_count = 2;
+    CHECK(done(uadp_write(&d, NULL, out, sizeof out), sizeof several) && memcmp(out, several, sizeof several) == 0);
+    d.length_count = 1;
+    CHECK(refused(uadp_write(&d, NULL, out, sizeof out), UADP_DISAGREE, 0));
+    d.id_count = 1;
+    CHECK(refused(uadp_write(&d, NULL, out, sizeof out), UADP_DISAGREE, 0));
+
+    d.envelope.payload_header = UADP_HEADER_CHUNK;
+    d.envelope.chunk_writer = 21;
+    CHECK(refused(uadp_write(&d, NULL, out, sizeof out), UADP_DISAGREE, 0));
+    d.id_count = 0;
+    d.length_count = 0;
+    CHECK(done(uadp_write(&d, NULL, out, sizeof out), sizeof chunk) && memcmp(out, chunk, sizeof chunk) == 0);
+}
+
+/* A message cut, taken in by two partials in another order, combined and handed out. */
+static void reassembled(void)
+{
+    static uint8_t payload[2][64], marks[2][UADP_MARKS_SIZE(64)];
+    const uint8_t message[] = {1, 2, 0, 5, 3, 0, 10, 0, 0, 0, 63};
+    uint8_t cut[32], datagram[64];
+    uadp_partial a = UADP_ZERO, b = UADP_ZERO;
+    uadp_datagram_parts d = UADP_ZERO;
+    uadp_partial *const into[] = {&b, &a, &b};
+    uint64_t k;
+
+    (void)memset(marks, 1, sizeof marks);
+    a.payload = payload[0];
+    a.marks = marks[0];
+    b.payload = payload[1];
+    b.marks = marks[1];
+    a.room = b.room = 64;
+    d.envelope.publisher_type = UADP_ID_STRING;
+    d.text = full + 7;
+    d.text_length = 3;
+    d.envelope.payload_header = UADP_HEADER_CHUNK;
+    d.envelope.chunk_writer = 21;
+    d.messages = cut;
+    for (k = 0; k < 3; k++) {
+        uadp_result r = uadp_cut(message, sizeof message, 0x0807, 4, k, cut, sizeof cut);
+        CHECK(done(r, UADP_CHUNK_HEADER + (k < 2 ? 4u : 3u)));
+        d.messages_length = UADP_VALUE(r);
+        r = uadp_write(&d, NULL, datagram, sizeof datagram);
+        CHECK(UADP_NUMBER(r) == UADP_DONE && done(uadp_take_in(into[k], datagram, UADP_VALUE(r), NULL), 0));
+    }
+    CHECK(refused(uadp_cut(message, sizeof message, 0x0807, 4, 3, cut, sizeof cut), UADP_END, 0));
+    CHECK(done(uadp_complete(&a), 0) && refused(uadp_hand_out(&a), UADP_NOT_COMPLETE, 0));
+    CHECK(done(uadp_combine(&a, &b), 0) && done(uadp_complete(&a), 1) && done(uadp_hand_out(&a), sizeof message));
+    CHECK(memcmp(a.payload, message, sizeof message) == 0);
+    CHECK(a.record.started == 1 && a.record.publisher_type == UADP_ID_STRING && a.record.publisher == 3);
+    CHECK(a.record.writer == 21 && a.record.number == 0x0807 && a.record.total == sizeof message);
+    CHECK(memcmp(a.record.text, "abc", 3) == 0);
+    CHECK(done(uadp_empty(&a), 0) && a.record.started == 0 && done(uadp_complete(&a), 0));
+    b.room = 4;
+    CHECK(refused(uadp_complete(&b), UADP_UNSOUND, 0));
+}
+
+static void newness(void)
+{
+    uadp_sequence_record s = UADP_ZERO;
+
+    CHECK(done(uadp_newness(&s, 5), UADP_NEWER) && s.seen == 1 && s.last == 5);
+    CHECK(done(uadp_newness(&s, 5), UADP_OLD_OR_SAME));
+    CHECK(done(uadp_newness(&s, 16390), UADP_INVALID) && s.last == 5);
+}
+
+static void words_and_version(void)
+{
+    char version[32];
+
+    CHECK(strcmp(uadp_number_text(UADP_DONE), "done") == 0);
+    CHECK(strcmp(uadp_number_text(UADP_LEFT_OVER), "bytes left over") == 0);
+    CHECK(strcmp(uadp_number_text(UADP_BAD_LINE), "bad configuration line") == 0);
+    CHECK(strcmp(uadp_number_text(17), "unknown number") == 0);
+    (void)snprintf(version, sizeof version, "%d.%d.%d", UADP_VERSION_MAJOR, UADP_VERSION_MINOR, UADP_VERSION_PATCH);
+    CHECK(strcmp(version, EXPECTED_VERSION) == 0 && strcmp(UADP_VERSION_TEXT, EXPECTED_VERSION) == 0);
+    CHECK(uadp_version() == UADP_VERSION_NUMBER);
+}
+
+/* ---- the most that a datagram gives ---- */
+
+static uint8_t most[UADP_MOST_DATAGRAM];
+static char listing[UADP_MOST_LISTING];
+
+/* One configured writer's message of null Variants: a record for the message and for each byte after its FieldCount. */
+static void most_of_a_walk(void)
+{
+    uadp_config_record config = UADP_ZERO;
+    size_t fields = sizeof most - 4;
+
+    CHECK(done(uadp_config("writer\t1\t-\n", 11, &config), 0));
+    (void)memset(most, 0, sizeof most);
+    most[0] = 0x01;
+    most[1] = 0x01;
+    most[2] = (uint8_t)(fields % 256);
+    most[3] = (uint8_t)(fields / 256);
+    CHECK(done(uadp_walk(most, sizeof most, &config, NULL, 0), UADP_MOST_WALK));
+}
+
+/* As many messages as it takes to have numbers of three digits, the last of empty DataValues. */
+static void most_of_a_listing(void)
+{
+    enum { COUNT = 110, HEADER = 2 + 4 * COUNT };
+    size_t last = sizeof most - HEADER - (COUNT - 1), fields = last - 3, k;
+    uadp_result r;
+
+    (void)memset(most, 0, sizeof most);
+    most[0] = 0x41;
+    most[1] = COUNT;
+    for (k = 0; k < COUNT; k++) {
+        size_t size = k + 1 < COUNT ? 1 : last;
+        most[2 + 2 * COUNT + 2 * k] = (uint8_t)(size % 256);
+        most[2 + 2 * COUNT + 2 * k + 1] = (uint8_t)(size / 256);
+    }
+    most[sizeof most - last] = 0x05;
+    most[sizeof most - last + 1] = (uint8_t)(fields % 256);
+    most[sizeof most - last + 2] = (uint8_t)(fields / 256);
+    r = uadp_list(most, sizeof most, NULL, listing, sizeof listing);
+    CHECK(UADP_NUMBER(r) == UADP_DONE && UADP_VALUE(r) > 1800000u);
+}
+
+/* ---- stack ---- */
+
+enum { STACK = 1 << 18, PAINT = 0xA5 };
+static uint8_t *stack;
+static uint8_t deep[UADP_MOST_DATAGRAM], buffer[UADP_MOST_DATAGRAM];
+static size_t deep_length;
+static uadp_walk_record records[8];
+
+/* A Variant in an array in a Variant, to 100 levels, in the message of a datagram; every second time in a DataValue. */
+static void nest(int data_values)
+{
+    static const uint8_t front[] = {0x41, 1, 21, 0, 0x01, 1, 0};
+    static const uint8_t array[] = {0x98, 1, 0, 0, 0};
+    static const uint8_t value[] = {0x17, 1};
+    int left = 100;
+
+    (void)memcpy(deep, front, sizeof front);
+    deep_length = sizeof front;
+    while (left > 1) {
+        int wrap = data_values && left > 2;
+        (void)memcpy(deep + deep_length, wrap ? value : array, wrap ? sizeof value : sizeof array);
+        deep_length += wrap ? sizeof value : sizeof array;
+        left -= wrap ? 2 : 1;
+    }
+    deep[deep_length++] = 0;
+}
+
+static void *nothing(void *unused)
+{
+    return unused;
+}
+
+static void *list_it(void *unused)
+{
+    (void)uadp_list(deep, deep_length, NULL, listing, sizeof listing);
+    return unused;
+}
+
+static void *walk_it(void *unused)
+{
+    (void)uadp_walk(deep, deep_length, NULL, records, 8);
+    return unused;
+}
+
+static void *read_it(void *unused)
+{
+    uadp_head_record head = UADP_ZERO;
+    uadp_field_record field = UADP_ZERO;
+
+    (void)uadp_read_message(deep + 4, deep_length - 4, NULL, 21, &head);
+    (void)uadp_next_field(deep + 4, deep_length - 4, NULL, 21, &head, &field);
+    (void)uadp_field(deep + 4, deep_length - 4, NULL, 21, 0, &field);
+    return unused;
+}
+
+static void *write_it(void *unused)
+{
+    uadp_message_parts parts = UADP_ZERO;
+    size_t length = deep_length - 7;
+
+    parts.values = deep + 7;
+    parts.values_length = length;
+    parts.lengths = &length;
+    parts.length_count = 1;
+    (void)uadp_write_message(&parts, NULL, 21, buffer, sizeof buffer);
+    (void)uadp_rewrite(deep, deep_length, NULL, buffer, sizeof buffer);
+    (void)uadp_rewrite_message(deep + 4, deep_length - 4, NULL, 21, buffer, sizeof buffer);
+    return unused;
+}
+
+static void *others(void *unused)
+{
+    unsigned before = passed;
+
+    envelope_by_name();
+    configuration_by_name();
+    written_from_parts();
+    forms_of_a_datagram();
+    reassembled();
+    newness();
+    passed = before;
+    return unused;
+}
+
+/* How many bytes of a painted stack a thread has touched. */
+static size_t touched(void *(*job)(void *))
+{
+    pthread_attr_t attributes;
+    pthread_t thread;
+    size_t untouched = 0;
+
+    (void)memset(stack, PAINT, STACK);
+    if (pthread_attr_init(&attributes) != 0 || pthread_attr_setstack(&attributes, stack, STACK) != 0 ||
+        pthread_create(&thread, &attributes, job, NULL) != 0 || pthread_join(thread, NULL) != 0) {
+        return STACK;
+    }
+    (void)pthread_attr_destroy(&attributes);
+    while (untouched < STACK && stack[untouched] == PAINT) {
+        untouched++;
+    }
+    return STACK - untouched;
+}
+
+static void stack_of(const char *name, void *(*job)(void *))
+{
+    size_t base = touched(nothing), all = touched(job), taken = all > base ? all - base : 0;
+
+    (void)printf("header: stack of %s: %zu bytes\n", name, taken);
+    CHECK(taken < UADP_MOST_STACK);
+}
+
+static void stack_of_all(void)
+{
+    int data_values;
+
+    stack = (uint8_t *)aligned_alloc(4096, STACK);
+    if (stack == NULL) {
+        CHECK(stack != NULL);
+        return;
+    }
+    for (data_values = 0; data_values < 2; data_values++) {
+        nest(data_values);
+        CHECK(done(uadp_walk(deep, deep_length, NULL, records, 8), 2) && records[0].what == UADP_WALKED_MESSAGE);
+        stack_of("listing", list_it);
+        stack_of("walking", walk_it);
+        stack_of("reading a message and its field", read_it);
+        stack_of("writing", write_it);
+    }
+    stack_of("the others", others);
+    free(stack);
+}
+
+int main(int argc, char **argv)
+{
+    (void)argv;
+    envelope_by_name();
+    message_by_name();
+    walk_by_name();
+    configuration_by_name();
+    written_from_parts();
+    forms_of_a_datagram();
+    reassembled();
+    newness();
+    words_and_version();
+    most_of_a_walk();
+    most_of_a_listing();
+    if (argc == 1) {
+        stack_of_all();
+    }
+    (void)printf("%u passed, %u failed\n", passed, failed);
+    return failed != 0;
+}
