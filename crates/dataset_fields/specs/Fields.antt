@@ -7,7 +7,7 @@ use lib.ListN.{length, getD, take, drop}
 use Rattle.wire.specs.Constants.{CUT_SHORT, DISAGREE, LEFT_OVER, OVER_LIMIT}
 use Rattle.wire.specs.Answer.{Answer, got, refused, Reader, item, here, whenOn, pure, andThen, _>>=_, _>>_}
 use Rattle.value.specs.Value.{variantAt, dataValueAt, rawAt, Measure}
-use Rattle.value.specs.Head.{describedAt}
+use Rattle.value.specs.Quick.{describedAt}
 use Rattle.dataset_header.specs.declared.flags.Encoding.{Encoding}
 use Rattle.dataset_fields.specs.declared.fields.Field.{Field}
 use Rattle.dataset_fields.specs.declared.fields.FieldRead.{FieldRead}

@@ -8,12 +8,14 @@ ghost use mathlib.Core.Path.{_≡_};
 ghost use Rattle.records.specs.Items.{isOn, given16, given32, givenI64, has16, value16, has32, value32, hasI64, valueI64, flagNumber};
 ghost use Prim.Native.Nat.{_≤_};
 
+// Whether a number of a record says "present".
 pub fn is_on(n: u64) -> bool
     ensures { λ r. ⌜ r ≡ isOn n ⌝ }
 {
     n != 0
 }
 
+// An item of 2 bytes where it is said to be present; the lowest bytes count.
 pub fn given16(on: bool, v: u64) -> Optional16
     ensures { λ r. ⌜ r ≡ given16 on v ⌝ }
 {
@@ -23,6 +25,7 @@ pub fn given16(on: bool, v: u64) -> Optional16
     Optional16::Absent
 }
 
+// An item of 4 bytes where it is said to be present; the lowest bytes count.
 pub fn given32(on: bool, v: u64) -> Optional32
     ensures { λ r. ⌜ r ≡ given32 on v ⌝ }
 {
@@ -32,6 +35,7 @@ pub fn given32(on: bool, v: u64) -> Optional32
     Optional32::Absent
 }
 
+// A signed item of 8 bytes where it is said to be present, by two's complement.
 pub fn given_i64(on: bool, v: u64) -> OptionalI64
     ensures { λ r. ⌜ r ≡ givenI64 on v ⌝ }
 {

@@ -17,7 +17,7 @@ use Rattle.plain_value.specs.Width.{widthOf, fixed}
 use Rattle.plain_value.specs.Parts.{parts}
 use Rattle.plain_value.specs.Plain.{passing, bytes, afterLength, plain, plainValue}
 use Rattle.value.specs.Value.{Measure, measure, typeOf, isArray, hasDimensions, variantRule, maskRule, scalar, elements, arrayOf, array, variantOf, dataValueOf, valueAt, variantAt, dataValueAt, rawAt}
-use Rattle.value.specs.Head.{fixedEnd, arrayAt, describedAt}
+use Rattle.value.specs.Quick.{fixedEnd, arrayAt, describedAt}
 use Rattle.value.specs.declared.Shape.{Shape}
 use Rattle.plain_value.proofs.Widths.{past, positive}
 use Rattle.plain_value.proofs.Passing.{passed}

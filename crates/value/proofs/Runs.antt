@@ -14,7 +14,7 @@ use Rattle.wire.specs.declared.Length.{Length}
 use Rattle.plain_value.specs.Width.{among, widthOf, fixed}
 use Rattle.plain_value.specs.Plain.{passing, bytes, string, plain, plainValue, plainValues, afterLength}
 use Rattle.value.specs.Value.{measure, taken, variantRule, scalar, elements, arrayOf, array, valueAt, variantAt}
-use Rattle.value.specs.Head.{unitOf, units}
+use Rattle.value.specs.Quick.{unitOf, units}
 use Rattle.value.specs.declared.Shape.{Shape}
 use Rattle.value.proofs.Heads.{pass-found}
 use Rattle.value.proofs.FirstByte.{array-first}

@@ -1,19 +1,12 @@
 -- What a value's own items say of it: before the values inside it are passed over, and after.
-use Prim.Native.Nat.{ℕ, _+_, _*_, _-_}
-use mathlib.Core.Bool.{cond, _||_}
+use Prim.Native.Nat.{ℕ}
+use mathlib.Core.Bool.{cond}
 use mathlib.Core.List.{List}
-use lib.Dec.{eqb, leb, ltb}
-use lib.ListN.{length, getD}
-use Rattle.wire.specs.Constants.{BAD_LENGTH}
-use Rattle.wire.specs.Answer.{Answer, got, refused, Reader, andThen, _>>_, pure, item, each}
-use Rattle.wire.specs.Items.{lengthItem}
-use Rattle.wire.specs.declared.Length.{Length}
+use lib.Dec.{eqb}
+use Rattle.wire.specs.Answer.{Answer, got, refused, Reader, andThen, _>>_, each}
 use Rattle.wire.specs.declared.Reached.{Reached}
-use Rattle.plain_value.specs.Width.{widthOf}
-use Rattle.plain_value.specs.Plain.{bytes, byLength}
 use Rattle.plain_value.specs.Parts.{parts}
-use Rattle.value.specs.Value.{Measure, measure, typeOf, isArray}
-use Rattle.value.specs.declared.Shape.{Shape}
+use Rattle.value.specs.Value.{Measure}
 use Rattle.value.specs.declared.head.Head.{Head}
 
 -- the head of a value that holds no other
@@ -30,32 +23,3 @@ finish nested s (Head.Holds from count inner mask) = (each (nested inner) count 
 -- an item v at `place` is judged by its rule, and k follows
 abbrev pub judged : (ℕ → ℕ) → ℕ → ℕ → (ℕ → Reader Measure) → Reader Measure
 judged rule v place k s at = andThen (cond (eqb (rule v) 0) (got v at) (refused (rule v) place)) (λ x next. k x s next)
-
--- the position after a Variant that is a scalar of a fixed type and fits; for any other the position itself
-abbrev pub fixedEnd : List ℕ → ℕ → ℕ
-fixedEnd s at =
-    cond (leb (length s) at) at
-    (cond (eqb (widthOf (getD s at 0)) 0) at
-    (cond (leb (length s - at) (widthOf (getD s at 0))) at (at + widthOf (getD s at 0) + 1)))
-
--- of a Variant that holds a length and a run of equal units, by its first byte, how many bytes a unit has; 0 for any other
-abbrev pub unitOf : ℕ → ℕ
-unitOf b = cond (eqb b 12 || eqb b 15) 1 (cond (ltb b 128) 0 (widthOf (b - 128)))
-
--- such a run: its length, and so many units of w bytes, one item
-abbrev pub units : ℕ → Reader (Unit {0})
-units w = byLength (pure tt) (λ n. bytes (n * w))
-
--- What the first items of a Variant say of it, where it is known to end at `end`: of an array of type t its length, and of any Variant its
--- first byte.
-abbrev pub byShape : ℕ → ℕ → ℕ → Length → Answer Measure
-byShape end t place Length.Null = got (measure t Shape.NullArray) end
-byShape end t place (Length.Of n) = got (measure t (Shape.Array n)) end
-byShape end t place Length.Negative = refused BAD_LENGTH place
-
-abbrev pub arrayAt : ℕ → ℕ → Reader Measure
-arrayAt end t s at = andThen (lengthItem s at) (λ l next. byShape end t at l)
-
-abbrev pub describedAt : ℕ → Reader Measure
-describedAt end s at =
-    andThen (item 1 s at) (λ b next. cond (isArray b) (arrayAt end (typeOf b) s next) (got (measure (typeOf b) Shape.Scalar) end))

@@ -1,14 +1,15 @@
 // Encoded values of Part 6, measured at a position of a slice: a Variant, a DataValue, an element of RawData.
 mod head;
+pub mod quick;
 
+use crate::quick::described;
+use crate::quick::fixed_end;
+use crate::quick::plain_end;
 use head::Head;
 use head::head_at;
 use plain_value::parts::parts_at;
 use plain_value::width::packed_width;
-use wire::Item8;
-use wire::ItemLength;
 use wire::Reached;
-use wire::constants::BAD_LENGTH;
 use wire::constants::CUT_SHORT;
 use wire::constants::DATA_VALUE;
 use wire::constants::LEVELS;
@@ -17,15 +18,12 @@ use wire::constants::TOO_DEEP;
 use wire::constants::VARIANT;
 use wire::has;
 use wire::left;
-use wire::read_length;
-use wire::read8;
 ghost use mathlib.Core.Path.{_≡_};
-ghost use Prim.Native.Nat.{_≤_, _<_};
-ghost use Rattle.wire.specs.Answer.{got, each};
+ghost use Prim.Native.Nat.{_<_};
+ghost use Rattle.wire.specs.Answer.{each};
 ghost use Rattle.wire.specs.Items.{answerReached};
-ghost use Rattle.plain_value.specs.Plain.{passing, bytes};
+ghost use Rattle.plain_value.specs.Plain.{passing};
 ghost use Rattle.value.specs.Value.{answerMeasured, tooDeep, valueAt, variantAt, dataValueAt, rawAt};
-ghost use Rattle.value.specs.Head.{fixedEnd, unitOf, units, arrayAt, describedAt};
 
 // A scalar, a null array, or an array with its element count.
 pub enum Shape {
@@ -82,83 +80,6 @@ fn pass_value(s: &[u8], at: usize, levels: usize, t: u8) -> Reached
     }
 }
 
-// The levels of a field's own value and the values inside it.
-// The position after a Variant that is a scalar of a fixed type and fits; for any other the position itself.
-pub fn fixed_end(s: &[u8], at: usize) -> usize
-    ensures { λ r. ⌜ r ≡ fixedEnd (now (s .entry)) at ⌝ }
-{
-    if s.len() <= at {
-        return at;
-    }
-    let w = packed_width(s[at]);
-    if w == 0 {
-        return at;
-    }
-    if s.len() - at <= w {
-        return at;
-    }
-    at + w + 1
-}
-
-// Of a Variant that holds a length and a run of equal units, by its first byte: how many bytes a unit has. A String or ByteString has
-// units of 1, an array of a fixed type those of its width; for any other Variant it is 0.
-fn unit_of(b: u8) -> usize
-    ensures { λ r. ⌜ (r ≡ unitOf b) × (r ≤ 16) ⌝ }
-{
-    if (b == 12) | (b == 15) {
-        return 1;
-    }
-    if b < 128 {
-        return 0;
-    }
-    packed_width(b - 128)
-}
-
-// The position after n bytes that fit, else `first`.
-fn bytes_end(s: &[u8], first: usize, at: usize, n: usize) -> usize
-    ensures { λ r. ⌜ (first < r → bytes n (now (s .entry)) at ≡ got tt r) ⌝ }
-{
-    if has(s.len(), at, n) {
-        return at + n;
-    }
-    first
-}
-
-// The position after a length and its units of w bytes where they are accepted, else `first`.
-fn units_end(s: &[u8], first: usize, at: usize, w: usize) -> usize
-    requires { ⌜ w ≤ 16 ⌝ }
-    ensures { λ r. ⌜ (first < r → units w (now (s .entry)) at ≡ got tt r) ⌝ }
-{
-    match read_length(s, at) {
-        ItemLength::Null(next) => next,
-        ItemLength::Of(next, n) => bytes_end(s, first, next, n * w),
-        ItemLength::Negative(_) => first,
-        ItemLength::Short => first,
-    }
-}
-
-// The position after a Variant that holds no other value and is accepted; for any other, and some of these, the position itself.
-fn plain_end(s: &[u8], at: usize) -> usize
-    ensures { λ r. ⌜ (at < r → passing variantAt (now (s .entry)) at ≡ got tt r) ⌝ }
-{
-    let end = fixed_end(s, at);
-    if at < end {
-        return end;
-    }
-    if s.len() <= at {
-        return at;
-    }
-    let b = s[at];
-    if b == 0 {
-        return at + 1;
-    }
-    let w = unit_of(b);
-    if w == 0 {
-        return at;
-    }
-    units_end(s, at, at + 1, w)
-}
-
 // Passes over a Variant; most hold no other value.
 fn pass_variant(s: &[u8], at: usize) -> Reached
     ensures { λ r. ⌜ answerReached r ≡ passing variantAt (now (s .entry)) at ⌝ }
@@ -188,31 +109,6 @@ pub fn pass_variants(s: &[u8], at: usize, n: usize) -> Reached
         }
     }
     Reached::To(p)
-}
-
-// What the length of an accepted array of type t says of it.
-fn described_array(s: &[u8], at: usize, t: u8, end: usize) -> Measured
-    ensures { λ r. ⌜ answerMeasured r ≡ arrayAt end t (now (s .entry)) at ⌝ }
-{
-    match read_length(s, at) {
-        ItemLength::Null(_) => Measured::NullArray(t, end),
-        ItemLength::Of(_, n) => Measured::Array(t, end, n),
-        ItemLength::Negative(_) => Measured::Refused(BAD_LENGTH, at),
-        ItemLength::Short => Measured::Refused(CUT_SHORT, at),
-    }
-}
-
-// What the first items of a Variant say of it that is accepted and ends at `end`.
-pub fn described(s: &[u8], at: usize, end: usize) -> Measured
-    ensures { λ r. ⌜ answerMeasured r ≡ describedAt end (now (s .entry)) at ⌝ }
-{
-    let Item8::Is(b, next) = read8(s, at) else {
-        return Measured::Refused(CUT_SHORT, at);
-    };
-    if b / 128 % 2 == 1 {
-        return described_array(s, next, b % 64, end);
-    }
-    Measured::Scalar(b % 64, end)
 }
 
 // A Variant at a position.

@@ -1,17 +1,17 @@
--- `value::plain_end` meets its contract.
+-- `value::quick::plain_end` meets its contract.
 -- Assumes nothing.
 use Rattle.plain_value.proofs.Widths.{positive}
 use Rattle.value.proofs.Runs.{null-variant, units-variant}
 use Rattle.value.proofs.FirstItems.{fixed-variant}
-use Rattle.value.specs.Head.{units}
+use Rattle.value.specs.Quick.{units}
 use Rattle.wire.specs.Answer.{got, andThen}
 use native.Mathlib.Omega.{arith}
 use mathlib.Core.Path.{refl, sym, ap, _∙_}
 use Prim.Native.Nat.{ℕ, _+_}
 use denote.Ref.{now}
 use borrow.Author.Needs.{needs}
-use Rattle.value.proofs.plain_end.Statement.{statement}
-use Rattle.value.proofs.plain_end.Tie as tie
+use Rattle.value.proofs.quick.plain_end.Statement.{statement}
+use Rattle.value.proofs.quick.plain_end.Tie as tie
 
 returns : tie.Need-returns
 returns c =

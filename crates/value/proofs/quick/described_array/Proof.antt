@@ -1,11 +1,11 @@
--- `value::described_array` meets its contract.
+-- `value::quick::described_array` meets its contract.
 -- Assumes nothing.
 use mathlib.Core.Path.{sym}
 use Rattle.wire.specs.Items.{answerLength}
 use Rattle.wire.proofs.Reading.{told}
 use borrow.Author.Needs.{needs}
-use Rattle.value.proofs.described_array.Statement.{statement}
-use Rattle.value.proofs.described_array.Tie as tie
+use Rattle.value.proofs.quick.described_array.Statement.{statement}
+use Rattle.value.proofs.quick.described_array.Tie as tie
 
 returns : tie.Need-returns
 returns c =

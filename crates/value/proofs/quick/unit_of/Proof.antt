@@ -1,10 +1,10 @@
--- `value::unit_of` meets its contract.
+-- `value::quick::unit_of` meets its contract.
 -- Assumes nothing.
 use borrow.Author.Tests.{lt-ltb, le-ltb}
 use native.Mathlib.Omega.{arith}
 use borrow.Author.Needs.{needs}
-use Rattle.value.proofs.unit_of.Statement.{statement}
-use Rattle.value.proofs.unit_of.Tie as tie
+use Rattle.value.proofs.quick.unit_of.Statement.{statement}
+use Rattle.value.proofs.quick.unit_of.Tie as tie
 
 returns : tie.Need-returns
 returns c = (rw (c .if1 .taken), omega arith)

@@ -1,4 +1,4 @@
--- `value::bytes_end` meets its contract.
+-- `value::quick::bytes_end` meets its contract.
 -- Assumes nothing.
 use mathlib.Core.Path.{sym, _∙_}
 use native.Mathlib.Omega.{arith}
@@ -7,8 +7,8 @@ use lib.ListN.{length}
 use denote.Ref.{now}
 use Prim.Native.Nat.{_+_, _≤_}
 use borrow.Author.Needs.{needs}
-use Rattle.value.proofs.bytes_end.Statement.{statement}
-use Rattle.value.proofs.bytes_end.Tie as tie
+use Rattle.value.proofs.quick.bytes_end.Statement.{statement}
+use Rattle.value.proofs.quick.bytes_end.Tie as tie
 
 add-result : tie.Need-add-result
 add-result c =

@@ -1,10 +1,10 @@
--- `value::described` meets its contract.
+-- `value::quick::described` meets its contract.
 -- Assumes nothing.
 use Rattle.value.proofs.Heads.{told-byte, told-no-byte}
 use borrow.Author.Tests.{eq-eqb, ne-eqb}
 use borrow.Author.Needs.{needs}
-use Rattle.value.proofs.described.Statement.{statement}
-use Rattle.value.proofs.described.Tie as tie
+use Rattle.value.proofs.quick.described.Statement.{statement}
+use Rattle.value.proofs.quick.described.Tie as tie
 
 returns : tie.Need-returns
 returns c =

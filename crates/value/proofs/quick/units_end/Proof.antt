@@ -1,4 +1,4 @@
--- `value::units_end` meets its contract.
+-- `value::quick::units_end` meets its contract.
 -- Assumes nothing.
 use Rattle.value.proofs.Lengths.{count-small}
 use Rattle.wire.proofs.Reading.{told}
@@ -8,8 +8,8 @@ use native.Mathlib.Nat.{mul-le-mul-left}
 use mathlib.Core.Path.{sym}
 use denote.Ref.{now}
 use borrow.Author.Needs.{needs}
-use Rattle.value.proofs.units_end.Statement.{statement}
-use Rattle.value.proofs.units_end.Tie as tie
+use Rattle.value.proofs.quick.units_end.Statement.{statement}
+use Rattle.value.proofs.quick.units_end.Tie as tie
 
 mul-bytes-end : tie.Need-mul-bytes-end
 mul-bytes-end c =

@@ -1,10 +1,10 @@
--- `value::fixed_end` meets its contract.
+-- `value::quick::fixed_end` meets its contract.
 -- Assumes nothing.
 use borrow.Author.Needs.{needs}
 use borrow.Author.Tests.{le-leb, lt-leb, eq-eqb, ne-eqb}
 use mathlib.Core.Path.{sym}
-use Rattle.value.proofs.fixed_end.Statement.{statement}
-use Rattle.value.proofs.fixed_end.Tie as tie
+use Rattle.value.proofs.quick.fixed_end.Statement.{statement}
+use Rattle.value.proofs.quick.fixed_end.Tie as tie
 
 returns : tie.Need-returns
 returns c = rw (le-leb _ _ (c .if1 .taken))
