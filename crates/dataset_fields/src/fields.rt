@@ -105,8 +105,8 @@ fn index(s: &[u8], delta: bool, k: usize, at: usize) -> IndexRead
 
 fn located(index: usize, kind: u8, shape: Shape, offset: usize, end: usize) -> FieldRead
     ensures { λ r.
-        let field = record { index = index; kind = kind; shape = shape; offset = offset; length = end - offset } in
-        ⌜ answerField r ≡ got field end ⌝ }
+        ⌜ answerField r
+        ≡ got (record { index = index; kind = kind; shape = shape; offset = offset; length = end - offset }) end ⌝ }
 {
     FieldRead::Is(
         Field {

@@ -240,8 +240,8 @@ fn put_rest(out: &mut [u8], e: Envelope, places: Places, payload: Payload)
 // Stores an envelope record, whose cursor stands before the first message; where it does not fit, nothing.
 pub fn put_envelope(out: &mut [u8], e: Envelope, places: Places, payload: Payload)
     ensures { λ _.
-        let message = record { envelope = e; places = places; payload = payload } in
-        ⌜ now (out .exit) ≡ laid (now (out .entry)) 0 (numberBytes (envelopeNumbers message)) ⌝ }
+        ⌜ now (out .exit) ≡ laid (now (out .entry)) 0
+        (numberBytes (envelopeNumbers (record { envelope = e; places = places; payload = payload }))) ⌝ }
 {
     if out.len() < ENVELOPE_SIZE {
         return;

@@ -135,8 +135,8 @@ fn items_number(h: Header) -> u64
 // Stores the head of a valid message: its header, the cursor before its first field, and where its last field ends.
 pub fn put_head(out: &mut [u8], h: Header, cursor: Cursor, end: usize)
     ensures { λ _.
-        let message = record { header = h; cursor = cursor; end = end } in
-        ⌜ now (out .exit) ≡ laid (now (out .entry)) 0 (numberBytes (headNumbers (valid message))) ⌝ }
+        ⌜ now (out .exit) ≡ laid (now (out .entry)) 0
+        (numberBytes (headNumbers (valid (record { header = h; cursor = cursor; end = end })))) ⌝ }
 {
     let encoding = h.encoding;
     let kind = h.kind;
