@@ -33,9 +33,6 @@ use publisher_id::publisher::publisher_refusal;
 use publisher_id::publisher::publisher_shape;
 use publisher_id::publisher::publisher_size;
 use publisher_id::publisher::put_publisher;
-use wire::constants::MOST_DATAGRAM;
-use wire::constants::NO_ROOM;
-use wire::constants::OVER_LIMIT;
 use wire::optional::OptionalI64;
 use wire::part::part;
 use wire::part::tail;
@@ -47,15 +44,15 @@ use wire_writer::writing::picoseconds_refusal;
 use wire_writer::writing::put_optional_i64;
 use wire_writer::writing::put_optional16;
 use wire_writer::writing::put_run;
+use wire_writer::writing::room_refusal;
 ghost use mathlib.Core.Path.{_≡_};
 ghost use mathlib.Core.List.{[], _++_};
 ghost use Prim.Native.Nat.{_≤_};
 ghost use lib.ListN.{length};
-ghost use Rattle.network_message.specs.Envelope.{networkMessageAt};
 ghost use Rattle.network_header.specs.Numbers.{configuredSizes};
-ghost use Rattle.wire_writer.specs.Writing.{Puts, numberFor, writtenBy, bufferBy, answerWritten, optionalI64Bytes};
+ghost use Rattle.wire_writer.specs.Writing.{Puts, Writes, writing, optionalI64Bytes};
 ghost use Rattle.network_message_writer.specs.Payload.{payloadRefusal};
-ghost use Rattle.network_message_writer.specs.Envelope.{given, tailBytes, headerBytes, datagramOf, headerRefusal, shapeRefusal, writtenOf, bufferAfter, textOf, idsOf, promotedOf, againOf, rewriteAnswer, rewriteBuffer};
+ghost use Rattle.network_message_writer.specs.Envelope.{given, tailBytes, headerBytes, datagramOf, headerRefusal, shapeRefusal, datagramOutput, textOf, idsOf, promotedOf, againOf, datagramAgain};
 ghost use Rattle.wire.specs.Constants.{MOST_DATAGRAM};
 
 fn timestamp_size(x: OptionalI64) -> usize
@@ -79,8 +76,11 @@ fn tail_size(x: Envelope, ids: &[u8], promoted: &[u8]) -> usize
 }
 
 fn header_size(x: Envelope, text: &[u8], ids: &[u8], promoted: &[u8]) -> usize
-    requires { ⌜ (length (now text) ≤ MOST_DATAGRAM) × (length (now ids) ≤ MOST_DATAGRAM) × (length (now promoted) ≤ MOST_DATAGRAM) ⌝ }
-    ensures { λ r. ⌜ (r ≡ length (headerBytes (now (text .entry)) (now (ids .entry)) (now (promoted .entry)) x)) × (r ≤ 200000) ⌝ }
+    requires {
+        ⌜ (length (now text) ≤ MOST_DATAGRAM) × (length (now ids) ≤ MOST_DATAGRAM) × (length (now promoted) ≤ MOST_DATAGRAM) ⌝ }
+    ensures { λ r.
+        let bytes = headerBytes (now (text .entry)) (now (ids .entry)) (now (promoted .entry)) x in
+        ⌜ (r ≡ length bytes) × (r ≤ 200000) ⌝ }
 {
     let p = x.publisher;
     let c = x.class_id;
@@ -91,7 +91,9 @@ fn header_size(x: Envelope, text: &[u8], ids: &[u8], promoted: &[u8]) -> usize
 }
 
 fn put_tail(out: &mut [u8], at: usize, x: Envelope, ids: &[u8], promoted: &[u8]) -> usize
-    ensures { λ r. ⌜ Puts (tailBytes (now (ids .entry)) (now (promoted .entry)) x) (now (out .entry)) at (now (out .exit)) r ⌝ }
+    ensures { λ r.
+        let bytes = tailBytes (now (ids .entry)) (now (promoted .entry)) x in
+        ⌜ Puts bytes (now (out .entry)) at (now (out .exit)) r ⌝ }
 {
     let h = x.payload_header;
     let t = x.timestamp;
@@ -104,7 +106,9 @@ fn put_tail(out: &mut [u8], at: usize, x: Envelope, ids: &[u8], promoted: &[u8])
 }
 
 fn put_header(out: &mut [u8], x: Envelope, text: &[u8], ids: &[u8], promoted: &[u8]) -> usize
-    ensures { λ r. ⌜ Puts (headerBytes (now (text .entry)) (now (ids .entry)) (now (promoted .entry)) x) (now (out .entry)) 0 (now (out .exit)) r ⌝ }
+    ensures { λ r.
+        let bytes = headerBytes (now (text .entry)) (now (ids .entry)) (now (promoted .entry)) x in
+        ⌜ Puts bytes (now (out .entry)) 0 (now (out .exit)) r ⌝ }
 {
     let p = x.publisher;
     let c = x.class_id;
@@ -134,7 +138,10 @@ fn header_refusal(x: Envelope, configured: usize, payload: u8) -> u8
 }
 
 fn reading_refusal(x: Envelope, lengths: &[u8], messages: &[u8], sizes: &[u16]) -> u8
-    ensures { λ r. ⌜ r ≡ headerRefusal x (length (configuredSizes (now (sizes .entry)))) (payloadRefusal (x .chunk) (x .«payload_header») (now (sizes .entry)) (now (lengths .entry)) (now (messages .entry))) ⌝ }
+    ensures { λ r.
+        let refusal = payloadRefusal (x .chunk) (x .«payload_header») (now (sizes .entry)) in
+        let payload = refusal (now (lengths .entry)) (now (messages .entry)) in
+        ⌜ r ≡ headerRefusal x (length (configuredSizes (now (sizes .entry)))) payload ⌝ }
 {
     let h = x.payload_header;
     let payload = payload_refusal(x.chunk, h, sizes, lengths, messages);
@@ -151,7 +158,9 @@ fn shape_refusal(
     sizes: &[u16],
     configured: &[u16],
 ) -> u8
-    ensures { λ r. ⌜ r ≡ shapeRefusal (given (now (text .entry)) (now (ids .entry)) (now (promoted .entry)) (now (lengths .entry)) []) x (now (sizes .entry)) (now (configured .entry)) ⌝ }
+    ensures { λ r.
+        let g = given (now (text .entry)) (now (ids .entry)) (now (promoted .entry)) (now (lengths .entry)) [] in
+        ⌜ r ≡ shapeRefusal g x (now (sizes .entry)) (now (configured .entry)) ⌝ }
 {
     let p = x.publisher;
     let h = x.payload_header;
@@ -175,7 +184,10 @@ fn put_datagram(
     lengths: &[u8],
     messages: &[u8],
 ) -> usize
-    ensures { λ r. ⌜ Puts (datagramOf (given (now (text .entry)) (now (ids .entry)) (now (promoted .entry)) (now (lengths .entry)) (now (messages .entry))) x) (now (out .entry)) 0 (now (out .exit)) r ⌝ }
+    ensures { λ r.
+        let lists = given (now (text .entry)) (now (ids .entry)) (now (promoted .entry)) in
+        let g = lists (now (lengths .entry)) (now (messages .entry)) in
+        ⌜ Puts (datagramOf g x) (now (out .entry)) 0 (now (out .exit)) r ⌝ }
 {
     let h = x.payload_header;
     let at = put_header(out, x, text, ids, promoted);
@@ -190,8 +202,15 @@ fn datagram_size(
     lengths: &[u8],
     messages: &[u8],
 ) -> usize
-    requires { ⌜ (length (now text) ≤ MOST_DATAGRAM) × (length (now ids) ≤ MOST_DATAGRAM) × (length (now promoted) ≤ MOST_DATAGRAM) × (length (now lengths) ≤ MOST_DATAGRAM) ⌝ }
-    ensures { λ r. ⌜ r ≡ length (datagramOf (given (now (text .entry)) (now (ids .entry)) (now (promoted .entry)) (now (lengths .entry)) (now (messages .entry))) x) ⌝ }
+    requires {
+        ⌜ (length (now text) ≤ MOST_DATAGRAM)
+        × (length (now ids) ≤ MOST_DATAGRAM)
+        × (length (now promoted) ≤ MOST_DATAGRAM)
+        × (length (now lengths) ≤ MOST_DATAGRAM) ⌝ }
+    ensures { λ r.
+        let lists = given (now (text .entry)) (now (ids .entry)) (now (promoted .entry)) in
+        let g = lists (now (lengths .entry)) (now (messages .entry)) in
+        ⌜ r ≡ length (datagramOf g x) ⌝ }
 {
     let h = x.payload_header;
     header_size(x, text, ids, promoted) + (list_size(h, lengths) + messages.len())
@@ -212,21 +231,23 @@ pub fn write(
     sizes: &[u16],
     configured: &[u16],
 ) -> Written
-    ensures { λ r. ⌜ (answerWritten r ≡ writtenOf (given (now (text .entry)) (now (ids .entry)) (now (promoted .entry)) (now (lengths .entry)) (now (messages .entry))) x (now (sizes .entry)) (now (configured .entry)) (length (now (out .entry)))) × (now (out .exit) ≡ bufferAfter (given (now (text .entry)) (now (ids .entry)) (now (promoted .entry)) (now (lengths .entry)) (now (messages .entry))) x (now (sizes .entry)) (now (configured .entry)) (now (out .entry))) ⌝ }
+    ensures { λ r.
+        let lists = given (now (text .entry)) (now (ids .entry)) (now (promoted .entry)) in
+        let g = lists (now (lengths .entry)) (now (messages .entry)) in
+        let output = datagramOutput g x (now (sizes .entry)) (now (configured .entry)) in
+        ⌜ Writes output (now (out .entry)) (now (out .exit)) r ⌝ }
 {
-    let n = or_else(
+    let number = or_else(
         reading_refusal(x, lengths, messages, sizes),
         shape_refusal(x, text, ids, promoted, lengths, sizes, configured),
     );
-    if n != 0 {
-        return Written::Refused(n);
+    if number != 0 {
+        return Written::Refused(number);
     }
     let size = datagram_size(x, text, ids, promoted, lengths, messages);
-    if MOST_DATAGRAM < size {
-        return Written::Refused(OVER_LIMIT);
-    }
-    if out.len() < size {
-        return Written::Refused(NO_ROOM);
+    let full = room_refusal(size, out.len());
+    if full != 0 {
+        return Written::Refused(full);
     }
     put_datagram(out, x, text, ids, promoted, lengths, messages);
     Written::Is(size)
@@ -274,15 +295,19 @@ fn put_again(
     promoted: &[u8],
     payload: &[u8],
 ) -> Written
-    requires { ⌜ (length (now text) ≤ MOST_DATAGRAM) × (length (now ids) ≤ MOST_DATAGRAM) × (length (now promoted) ≤ MOST_DATAGRAM) × (length (now payload) ≤ MOST_DATAGRAM) ⌝ }
-    ensures { λ r. ⌜ (r ≡ writtenBy (numberFor 0 (length (headerBytes (now (text .entry)) (now (ids .entry)) (now (promoted .entry)) x ++ now (payload .entry))) (length (now (out .entry)))) (headerBytes (now (text .entry)) (now (ids .entry)) (now (promoted .entry)) x ++ now (payload .entry))) × (now (out .exit) ≡ bufferBy (numberFor 0 (length (headerBytes (now (text .entry)) (now (ids .entry)) (now (promoted .entry)) x ++ now (payload .entry))) (length (now (out .entry)))) (headerBytes (now (text .entry)) (now (ids .entry)) (now (promoted .entry)) x ++ now (payload .entry)) (now (out .entry))) ⌝ }
+    requires {
+        ⌜ (length (now text) ≤ MOST_DATAGRAM)
+        × (length (now ids) ≤ MOST_DATAGRAM)
+        × (length (now promoted) ≤ MOST_DATAGRAM)
+        × (length (now payload) ≤ MOST_DATAGRAM) ⌝ }
+    ensures { λ r.
+        let header = headerBytes (now (text .entry)) (now (ids .entry)) (now (promoted .entry)) x in
+        ⌜ Writes (writing (header ++ now (payload .entry))) (now (out .entry)) (now (out .exit)) r ⌝ }
 {
     let size = header_size(x, text, ids, promoted) + payload.len();
-    if MOST_DATAGRAM < size {
-        return Written::Refused(OVER_LIMIT);
-    }
-    if out.len() < size {
-        return Written::Refused(NO_ROOM);
+    let full = room_refusal(size, out.len());
+    if full != 0 {
+        return Written::Refused(full);
     }
     let at = put_header(out, x, text, ids, promoted);
     put_run(out, at, payload);
@@ -291,7 +316,7 @@ fn put_again(
 
 fn again(out: &mut [u8], s: &[u8], x: Envelope, places: Places) -> Written
     requires { ⌜ length (now s) ≤ MOST_DATAGRAM ⌝ }
-    ensures { λ r. ⌜ (r ≡ writtenBy (numberFor 0 (length (againOf (now (s .entry)) x places)) (length (now (out .entry)))) (againOf (now (s .entry)) x places)) × (now (out .exit) ≡ bufferBy (numberFor 0 (length (againOf (now (s .entry)) x places)) (length (now (out .entry)))) (againOf (now (s .entry)) x places) (now (out .entry))) ⌝ }
+    ensures { λ r. ⌜ Writes (writing (againOf (now (s .entry)) x places)) (now (out .entry)) (now (out .exit)) r ⌝ }
 {
     let p = x.publisher;
     let h = x.payload_header;
@@ -309,7 +334,9 @@ fn again(out: &mut [u8], s: &[u8], x: Envelope, places: Places) -> Written
 // Reads a datagram under the sizes of the configured writers and writes it again from the start of a buffer. Only where
 // PublisherId is off can the bytes differ: its type bits are then written as 0.
 pub fn rewrite(out: &mut [u8], s: &[u8], sizes: &[u16]) -> Written
-    ensures { λ r. ⌜ (answerWritten r ≡ rewriteAnswer (now (s .entry)) (networkMessageAt (now (sizes .entry)) (now (s .entry))) (length (now (out .entry)))) × (now (out .exit) ≡ rewriteBuffer (now (s .entry)) (networkMessageAt (now (sizes .entry)) (now (s .entry))) (now (out .entry))) ⌝ }
+    ensures { λ r.
+        let again = datagramAgain (now (sizes .entry)) (now (s .entry)) in
+        ⌜ Writes again (now (out .entry)) (now (out .exit)) r ⌝ }
 {
     match read(s, sizes) {
         NetworkMessageRead::Refused(n, _) => Written::Refused(n),

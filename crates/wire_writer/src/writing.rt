@@ -3,6 +3,9 @@
 // fit, it stores nothing and returns the position unchanged.
 use wire::Guid;
 use wire::constants::DISAGREE;
+use wire::constants::MOST_DATAGRAM;
+use wire::constants::NO_ROOM;
+use wire::constants::OVER_LIMIT;
 use wire::optional::Optional16;
 use wire::optional::Optional32;
 use wire::optional::OptionalI64;
@@ -13,7 +16,7 @@ ghost use lib.Dec.{leb, eqb};
 ghost use Rattle.wire.specs.Number.{leBytes, unsigned};
 ghost use Rattle.wire.specs.Items.{guidBytes};
 ghost use Rattle.wire_writer.specs.Store.{Stored};
-ghost use Rattle.wire_writer.specs.Writing.{orElse, num, on16, on32, onI64, picosecondsRefusal, byteBytes, optional16Bytes, optional32Bytes, optionalI64Bytes, unused};
+ghost use Rattle.wire_writer.specs.Writing.{orElse, roomRefusal, num, on16, on32, onI64, picosecondsRefusal, byteBytes, optional16Bytes, optional32Bytes, optionalI64Bytes, unused};
 
 // What a writer answers: how many bytes it wrote, or the number of its refusal, whose place is 0.
 pub enum Written {
@@ -29,6 +32,19 @@ pub fn or_else(a: u8, b: u8) -> u8
         return b;
     }
     a
+}
+
+// The number by which so many bytes are refused in a buffer of `room` bytes: 10 above 65,535, then 11; 0 where they fit.
+pub fn room_refusal(size: usize, room: usize) -> u8
+    ensures { λ r. ⌜ r ≡ roomRefusal size room ⌝ }
+{
+    if MOST_DATAGRAM < size {
+        return OVER_LIMIT;
+    }
+    if room < size {
+        return NO_ROOM;
+    }
+    0
 }
 
 // A flag as the number of its bit.
