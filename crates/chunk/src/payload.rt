@@ -23,6 +23,7 @@ pub struct ChunkPayload {
     pub length: usize,
 }
 
+// A chunk's numbers and where its data stands, with the payload's end; or the number and place of its refusal.
 pub enum ChunkPayloadRead {
     Is(ChunkPayload, usize),
     Refused(u8, usize),
@@ -52,13 +53,14 @@ fn read_total(s: &[u8], at: usize) -> SizeRead
     let Item32::Is(v, next) = wire::read32(s, at) else {
         return SizeRead::Refused(CUT_SHORT, at);
     };
-    if v == 0 {
+    let total = v as usize;
+    if total == 0 {
         return SizeRead::Refused(DISAGREE, at);
     }
-    if MOST_TOTAL < v {
+    if MOST_TOTAL < total {
         return SizeRead::Refused(OVER_LIMIT, 0);
     }
-    SizeRead::Is(v as usize, next)
+    SizeRead::Is(total, next)
 }
 
 // Whether n bytes at an offset reach above total.

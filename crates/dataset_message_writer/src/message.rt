@@ -13,13 +13,13 @@ use dataset_header::flags::is_raw;
 use dataset_header::flags::kind_rule;
 use dataset_header::header::Header;
 use dataset_header::header::put_header;
-use wire::constants::DISAGREE;
 use wire::constants::NOT_CONFIGURED;
+use wire_writer::store::put_run;
 use wire_writer::writing::Written;
 use wire_writer::writing::or_else;
 use wire_writer::writing::picoseconds_refusal;
-use wire_writer::writing::put_run;
 use wire_writer::writing::room_refusal;
+use wire_writer::writing::six_unless;
 ghost use mathlib.Core.Path.{_≡_};
 ghost use mathlib.Core.Bool.{cond};
 ghost use lib.ListN.{length};
@@ -37,16 +37,6 @@ fn is_key(kind: Kind) -> bool
         Kind::Event => false,
         Kind::KeepAlive => false,
     }
-}
-
-// 6 where something would read back otherwise.
-fn six_unless(agrees: bool) -> u8
-    ensures { λ r. ⌜ r ≡ cond agrees 0 6 ⌝ }
-{
-    if agrees {
-        return 0;
-    }
-    DISAGREE
 }
 
 // RawData without configured fields is 8.

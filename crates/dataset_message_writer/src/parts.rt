@@ -2,7 +2,7 @@
 use dataset_header::flags::Kind;
 use dataset_header::header::Header;
 use dataset_header::header::header_size;
-use wire_writer::writing::put16;
+use wire_writer::store::put16;
 ghost use mathlib.Core.Path.{_≡_};
 ghost use Prim.Native.Nat.{_+_};
 ghost use lib.ListN.{length};

@@ -12,8 +12,8 @@ use dataset_message::message::read;
 use wire::constants::DISAGREE;
 use wire::left;
 use wire::part::part;
+use wire_writer::store::put_run;
 use wire_writer::writing::Written;
-use wire_writer::writing::put_run;
 use wire_writer::writing::room_refusal;
 ghost use Rattle.wire_writer.specs.Writing.{Puts, Writes, writing};
 ghost use Rattle.dataset_message_writer.specs.Rewrite.{partsAgain, messageAgain};
@@ -69,7 +69,7 @@ pub fn rewrite(out: &mut [u8], message: &[u8], types: &[u8]) -> Written
 {
     match read(message, types) {
         MessageRead::NotValid => Written::Refused(DISAGREE),
-        MessageRead::Refused(n, _) => Written::Refused(n),
+        MessageRead::Refused(number, _) => Written::Refused(number),
         MessageRead::Is(header, cursor, end) => {
             let kind = header.kind;
             let at = cursor.at;

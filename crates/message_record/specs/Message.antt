@@ -9,10 +9,9 @@ use Rattle.wire.specs.declared.optional.Optional16.{Optional16}
 use Rattle.wire.specs.declared.optional.Optional32.{Optional32}
 use Rattle.wire.specs.declared.optional.OptionalI64.{OptionalI64}
 use Rattle.value.specs.declared.Shape.{Shape}
-use Rattle.dataset_header.specs.Flags.{Valid, notValid, valid}
+use Rattle.dataset_header.specs.Flags.{Valid, notValid, valid, encodingNumber, kindNumber}
 use Rattle.dataset_message.specs.Message.{Message}
 use Rattle.dataset_header.specs.declared.flags.Encoding.{Encoding}
-use Rattle.dataset_header.specs.declared.flags.Kind.{Kind}
 use Rattle.dataset_fields.specs.declared.fields.Field.{Field}
 use Rattle.dataset_fields.specs.declared.fields.Cursor.{Cursor}
 use Rattle.dataset_header.specs.declared.header.Header.{Header}
@@ -44,20 +43,8 @@ valueI64 OptionalI64.Absent = 0
 valueI64 (OptionalI64.Is v) = unsigned 8 v
 
 -- "encoding: 0 Variant, 1 RawData, 2 DataValue (above 2 counts as 0)"
-abbrev pub encodingNumber : Encoding → ℕ
-encodingNumber Encoding.Variant = 0
-encodingNumber Encoding.RawData = 1
-encodingNumber Encoding.DataValue = 2
-
 abbrev pub encodingIn : ℕ → Encoding
 encodingIn n = cond (eqb n 1) Encoding.RawData (cond (eqb n 2) Encoding.DataValue Encoding.Variant)
-
--- "kind: 0 key, 1 delta, 2 event, 3 keep alive"
-abbrev pub kindNumber : Kind → ℕ
-kindNumber Kind.Key = 0
-kindNumber Kind.Delta = 1
-kindNumber Kind.Event = 2
-kindNumber Kind.KeepAlive = 3
 
 abbrev pub flagNumber : Bool → ℕ
 flagNumber true = 1

@@ -14,9 +14,9 @@ use wire_writer::store::unsigned64;
 ghost use mathlib.Core.Path.{_≡_};
 ghost use Prim.Native.Nat.{_≤_};
 ghost use Rattle.wire_writer.specs.Store.{laid};
-ghost use Rattle.dataset_header.specs.Flags.{valid, notValid};
+ghost use Rattle.dataset_header.specs.Flags.{valid, notValid, encodingNumber, kindNumber};
 ghost use Rattle.records.specs.Numbers.{numberBytes};
-ghost use Rattle.message_record.specs.Message.{has16, value16, has32, value32, hasI64, valueI64, encodingNumber, encodingIn, kindNumber, flagNumber, itemsNumber, headNumbers, cursorIn, shapeNumber, elementsNumber, fieldNumbers};
+ghost use Rattle.message_record.specs.Message.{has16, value16, has32, value32, hasI64, valueI64, encodingIn, flagNumber, itemsNumber, headNumbers, cursorIn, shapeNumber, elementsNumber, fieldNumbers};
 
 pub fn has16(x: Optional16) -> u64
     ensures { λ r. ⌜ (r ≡ has16 x) × (r ≤ 1) ⌝ }
@@ -73,14 +73,11 @@ pub fn value_i64(x: OptionalI64) -> u64
     }
 }
 
+// The number of an encoding, as in Flags1.
 pub fn encoding_number(e: Encoding) -> u64
     ensures { λ r. ⌜ r ≡ encodingNumber e ⌝ }
 {
-    match e {
-        Encoding::Variant => 0,
-        Encoding::RawData => 1,
-        Encoding::DataValue => 2,
-    }
+    dataset_header::flags::encoding_number(e) as u64
 }
 
 pub(crate) fn encoding_in(n: u64) -> Encoding
@@ -95,15 +92,11 @@ pub(crate) fn encoding_in(n: u64) -> Encoding
     Encoding::Variant
 }
 
+// The number of a kind, as in Flags2.
 pub fn kind_number(k: Kind) -> u64
     ensures { λ r. ⌜ r ≡ kindNumber k ⌝ }
 {
-    match k {
-        Kind::Key => 0,
-        Kind::Delta => 1,
-        Kind::Event => 2,
-        Kind::KeepAlive => 3,
-    }
+    dataset_header::flags::kind_number(k) as u64
 }
 
 pub fn flag_number(b: bool) -> u64

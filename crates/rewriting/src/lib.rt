@@ -2,10 +2,11 @@
 // be put together again; only a datagram with PublisherId off can differ, in its flag bytes.
 use dataset_message::message::MessageRead;
 use network_message::envelope::NetworkMessageRead;
+use network_message_writer::envelope::rewrite;
 use publisher_id::publisher::PublisherId;
 use wire::constants::DISAGREE;
+use wire_writer::store::put_run;
 use wire_writer::writing::Written;
-use wire_writer::writing::put_run;
 use wire_writer::writing::room_refusal;
 ghost use Rattle.wire_writer.specs.Writing.{Writes, writing};
 ghost use Rattle.rewriting.specs.Same.{sameMessage, sameDatagram};
@@ -48,7 +49,7 @@ pub fn rewrite_datagram(out: &mut [u8], datagram: &[u8], sizes: &[u16]) -> Writt
         NetworkMessageRead::Is(envelope, _, _) => {
             let publisher = envelope.publisher;
             match publisher {
-                PublisherId::Absent => network_message_writer::envelope::rewrite(out, datagram, sizes),
+                PublisherId::Absent => rewrite(out, datagram, sizes),
                 _ => copy_whole(out, datagram),
             }
         }

@@ -40,4 +40,4 @@ returns-4 c =
 pub read-total-spec : {M : Type 1} → statement M
 read-total-spec =
     tie.close
-    (tie.spec (λ c κs. search needs) (λ c. search needs) (λ c. search needs) returns returns-2 returns-3 (λ c. search needs) returns-4)
+    (tie.spec (λ c κs. search needs) (λ c. search needs) (λ c. search needs) returns (λ c. search needs) returns-2 returns-3 returns-4)

@@ -19,10 +19,10 @@ returns c =
 
 returns-2 : tie.Need-returns-2
 returns-2 c =
-    let at-n = c .before in
-    let at-read = at-n .before .before in
+    let at-number = c .before in
+    let at-read = at-number .before .before in
     let args = at-read .before .before .before .before .args in
-    reading-refuses (whereValid (again (now (args .message)))) (sym (told answerMessage (at-read .read .ensures) (at-n .n .given .1)))
+    reading-refuses (whereValid (again (now (args .message)))) (sym (told answerMessage (at-read .read .ensures) (at-number .number .given .1)))
 
 returns-3 : tie.Need-returns-3
 returns-3 c =

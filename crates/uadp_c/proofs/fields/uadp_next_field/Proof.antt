@@ -57,7 +57,7 @@ returns-4 c =
     step-done _ (now (args .head)) (now (args .field)) _ _ _ _ _ _ _
     (stepped (now (args .config)) (now (args .message)) _ (now (args .head)) (args .writer) _ _ (at-types-for .types-for .ensures)
     (at-cursor-in .cursor-in .ensures) (told answerStep (at-step .step .ensures) (at-f .f .given .1))) (omega arith) (omega arith)
-    (c .result4 .ensures) (at-put64 .put64 .ensures) (at-put642 .put642 .ensures) (at-put-field .put-field .ensures)
+    (c .result4 .ensures) (at-put64 .put64 .ensures .stored) (at-put642 .put642 .ensures .stored) (at-put-field .put-field .ensures)
 
 pub uadp-next-field-spec : {M : Type 1} → statement M
 uadp-next-field-spec =

@@ -47,7 +47,7 @@ returns-4 c =
     let args = at-step .before .before .before .before .before .before .args in
     walk-done (writerAt (now (args .config)) (now (args .envelope)) (now (args .datagram))) _ (now (args .envelope))
     (now (args .place)) _ _ _ _ _ _ _ _ (told answerStep (at-step .step .ensures) (at-m .m .given .1)) (omega arith) (omega arith)
-    (c .result4 .ensures) (at-writer-at .writer-at .ensures) (at-put64 .put64 .ensures) (at-put642 .put642 .ensures) (at-put-place .put-place .ensures)
+    (c .result4 .ensures) (at-writer-at .writer-at .ensures) (at-put64 .put64 .ensures .stored) (at-put642 .put642 .ensures .stored) (at-put-place .put-place .ensures)
 
 pub uadp-next-message-spec : {M : Type 1} → statement M
 uadp-next-message-spec =
