@@ -13,8 +13,9 @@ use Rattle.network_message.specs.Envelope.{networkMessageAt}
 use Rattle.dataset_message.specs.Message.{messageAt}
 use Rattle.chunk.specs.Datagram.{chunkAt}
 use Rattle.chunk.specs.Cutting.{cutFault, cutBuffer}
-use Rattle.wire_writer.specs.Writing.{bufferBy}
-use Rattle.network_message_writer.specs.Envelope.{rewriteBuffer}
+use Rattle.wire_writer.specs.Writing.{Output, Writes}
+use Rattle.wire_writer.specs.declared.writing.Written.{Written}
+use Rattle.wire_writer.proofs.Answering.{unchanged}
 use Rattle.reassembly.specs.Record.{Partial}
 use Rattle.reassembly.specs.Reading.{Reading}
 use Rattle.reassembly.specs.Operations.{takeIn, combine}
@@ -50,11 +51,9 @@ pub refused-combine : (s f : Partial) (n place : ℕ) → combine s f .verdict �
 refused-combine = D.refused-combine
 
 -- ---- A writer that refuses leaves the whole buffer as it was: both writers, their rewriting, and cutting.
-pub refused-writer : (n : ℕ) (bytes out : List ℕ) → eqb n 0 ≡ false → bufferBy n bytes out ≡ out
-refused-writer n bytes out e = rw e
-
-pub refused-rewrite : (s sizes out : List ℕ) (n place : ℕ) → networkMessageAt sizes s ≡ refused n place → rewriteBuffer s (networkMessageAt sizes s) out ≡ out
-refused-rewrite s sizes out n place e = rw e
+-- The premise is the contract of both writers and both rewritings, whatever is to be written.
+pub refused-writer : (output : Output) (entry exit : List ℕ) (n : ℕ) → Writes output entry exit (Written.Refused n) → exit ≡ entry
+refused-writer output entry exit n = unchanged output
 
 pub refused-cut : (p : List ℕ) (number size k : ℕ) (out : List ℕ) → eqb (cutFault p size k (length out)) 0 ≡ false → cutBuffer p number size k out ≡ out
 unfolding cutBuffer

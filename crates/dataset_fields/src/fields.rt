@@ -18,8 +18,8 @@ use wire::constants::LEFT_OVER;
 use wire::constants::OVER_LIMIT;
 use wire::has;
 use wire::part::part;
-use wire_writer::writing::put_run;
-use wire_writer::writing::put16;
+use wire_writer::store::put_run;
+use wire_writer::store::put16;
 ghost use mathlib.Core.Path.{_≡_};
 ghost use mathlib.Core.Bool.{false, cond, true, _&&_};
 ghost use Prim.Native.Nat.{_-_, _+_, _≤_};
@@ -44,6 +44,7 @@ pub struct Field {
     pub offset: usize,
 }
 
+// A field with the position after it, or a refusal with its number and place.
 pub enum FieldRead {
     Is(Field, usize),
     Refused(u8, usize),
@@ -59,11 +60,13 @@ pub struct Cursor {
     pub at: usize,
 }
 
+// A field with the cursor after it, or a refusal with its number and place.
 pub enum FieldStep {
     Is(Field, Cursor),
     Refused(u8, usize),
 }
 
+// A delta field's index with the position after it, or a refusal with its number and place.
 pub enum IndexRead {
     Is(usize, usize),
     Refused(u8, usize),
@@ -130,7 +133,7 @@ fn measured(index: usize, offset: usize, m: Measured) -> FieldRead
         Measured::Scalar(kind, end) => located(index, kind, Shape::Scalar, offset, end),
         Measured::NullArray(kind, end) => located(index, kind, Shape::NullArray, offset, end),
         Measured::Array(kind, end, n) => located(index, kind, Shape::Array(n), offset, end),
-        Measured::Refused(n, place) => FieldRead::Refused(n, place),
+        Measured::Refused(number, place) => FieldRead::Refused(number, place),
     }
 }
 
@@ -146,7 +149,7 @@ pub fn read_field(
     ensures { λ r. ⌜ answerField r ≡ fieldAt delta encoding (now (types .entry)) k (now (s .entry)) at ⌝ }
 {
     match index(s, delta, k, at) {
-        IndexRead::Refused(n, place) => FieldRead::Refused(n, place),
+        IndexRead::Refused(number, place) => FieldRead::Refused(number, place),
         IndexRead::Is(index, offset) => measured(
             index,
             offset,
@@ -224,7 +227,7 @@ impl Cursor {
         }
         let encoding = self.encoding;
         match read_field(&*s, encoding, self.delta, &*types, k, at) {
-            FieldRead::Refused(n, place) => FieldStep::Refused(n, place),
+            FieldRead::Refused(number, place) => FieldStep::Refused(number, place),
             FieldRead::Is(field, end) => FieldStep::Is(
                 field,
                 Cursor {
@@ -255,8 +258,8 @@ pub fn pass_each(
     let mut left = count;
     while 0 < left {
         match read_field(&*s, encoding, delta, &*types, k, p) {
-            FieldRead::Refused(n, place) => {
-                return Reached::Refused(n, place);
+            FieldRead::Refused(number, place) => {
+                return Reached::Refused(number, place);
             }
             FieldRead::Is(_, end) => {
                 p = end;
@@ -276,8 +279,8 @@ fn pass_raw(s: &[u8], types: &[u8], count: usize, at: usize) -> Reached
     let mut k = 0;
     while k < count {
         match pass_element(s, p, type_of(types, k)) {
-            Reached::Refused(n, place) => {
-                return Reached::Refused(n, place);
+            Reached::Refused(number, place) => {
+                return Reached::Refused(number, place);
             }
             Reached::To(end) => {
                 p = end;
@@ -448,6 +451,7 @@ fn fill(out: &mut [u8], at: usize, n: usize)
     }
 }
 
+// Stores n zero bytes, and answers the position after them.
 pub fn put_zeros(out: &mut [u8], at: usize, n: usize) -> usize
     ensures { λ r. ⌜ Puts (zeros n) (now (out .entry)) at (now (out .exit)) r ⌝ }
 {

@@ -5,24 +5,27 @@ use wire::Item8;
 use wire::constants::CUT_SHORT;
 use wire::constants::NOT_PERMITTED;
 use wire::constants::NOT_TAKEN;
+use wire_writer::store::put8;
+use wire_writer::writing::announced;
 use wire_writer::writing::flag;
 use wire_writer::writing::is_on_i64;
 use wire_writer::writing::is_on16;
 use wire_writer::writing::is_on32;
-use wire_writer::writing::put_byte;
-use wire_writer::writing::put8;
+use wire_writer::writing::put_flag_byte;
 ghost use mathlib.Core.Path.{_≡_};
 ghost use Rattle.wire.specs.Items.{answerByte};
 ghost use Rattle.dataset_header.specs.Flags.{encodingOf, kindOf, flags1Rule, flags2Rule, flags2At, flagsOf, flagsAt, isDelta, isRaw, answerFlags, encodingNumber, kindNumber, flags1Of, flags2Of, flagBytes, kindRule};
 ghost use Prim.Native.Nat.{_≤_};
-ghost use Rattle.wire_writer.specs.Writing.{needed, Puts};
+ghost use Rattle.wire_writer.specs.Writing.{Puts};
 
+// How the fields of a message are encoded.
 pub enum Encoding {
     Variant,
     RawData,
     DataValue,
 }
 
+// What a message holds: all fields, those that changed, an event, or none.
 pub enum Kind {
     Key,
     Delta,
@@ -42,6 +45,7 @@ pub struct Flags {
     pub picoseconds: bool,
 }
 
+// The flag bytes with the position after them, a message that is not valid, or a refusal with its number and place.
 pub enum FlagsRead {
     NotValid(usize),
     Is(Flags, usize),
@@ -140,9 +144,9 @@ fn flags2(s: &[u8], b: u8, at: usize) -> FlagByte
     let Item8::Is(f, next) = wire::read8(s, at) else {
         return FlagByte::Refused(CUT_SHORT, at);
     };
-    let n = flags2_rule(b, f);
-    if n != 0 {
-        return FlagByte::Refused(n, at);
+    let number = flags2_rule(b, f);
+    if number != 0 {
+        return FlagByte::Refused(number, at);
     }
     FlagByte::Is(f, next)
 }
@@ -174,17 +178,18 @@ pub fn read_flags(s: &[u8]) -> FlagsRead
     if b % 2 == 0 {
         return FlagsRead::NotValid(next);
     }
-    let n = flags1_rule(b);
-    if n != 0 {
-        return FlagsRead::Refused(n, 0);
+    let number = flags1_rule(b);
+    if number != 0 {
+        return FlagsRead::Refused(number, 0);
     }
     match flags2(s, b, next) {
-        FlagByte::Refused(n, place) => FlagsRead::Refused(n, place),
+        FlagByte::Refused(number, place) => FlagsRead::Refused(number, place),
         FlagByte::Is(f, next) => FlagsRead::Is(flags_of(b, f), next),
     }
 }
 
-fn encoding_number(encoding: Encoding) -> u8
+// The number of an encoding in Flags1.
+pub fn encoding_number(encoding: Encoding) -> u8
     ensures { λ r. ⌜ (r ≡ encodingNumber encoding) × (r ≤ 2) ⌝ }
 {
     match encoding {
@@ -194,7 +199,8 @@ fn encoding_number(encoding: Encoding) -> u8
     }
 }
 
-fn kind_number(kind: Kind) -> u8
+// The number of a kind in Flags2.
+pub fn kind_number(kind: Kind) -> u8
     ensures { λ r. ⌜ (r ≡ kindNumber kind) × (r ≤ 3) ⌝ }
 {
     match kind {
@@ -205,16 +211,7 @@ fn kind_number(kind: Kind) -> u8
     }
 }
 
-// Whether a flag byte is there, as the number of the bit that announces it.
-pub fn announced(f: u8) -> u8
-    ensures { λ r. ⌜ (r ≡ needed f) × (r ≤ 1) ⌝ }
-{
-    if f == 0 {
-        return 0;
-    }
-    1
-}
-
+// Flags2 of a header.
 pub fn flags2_of(header: Header) -> u8
     ensures { λ r. ⌜ r ≡ flags2Of header ⌝ }
 {
@@ -247,7 +244,7 @@ pub fn put_flags(out: &mut [u8], header: Header) -> usize
     let flags2 = flags2_of(header);
     let flags1 = flags1_of(header, flags2);
     let at = put8(out, 0, flags1);
-    put_byte(out, at, flags2)
+    put_flag_byte(out, at, flags2)
 }
 
 // The number of the rule that a kind breaks in an encoding, or 0.

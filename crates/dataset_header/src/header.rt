@@ -3,7 +3,6 @@ use crate::flags::Encoding;
 use crate::flags::Flags;
 use crate::flags::FlagsRead;
 use crate::flags::Kind;
-use crate::flags::announced;
 use crate::flags::flags2_of;
 use crate::flags::put_flags;
 use crate::flags::read_flags;
@@ -17,15 +16,20 @@ use wire::optional::read_optional_i64;
 use wire::optional::read_optional16;
 use wire::optional::read_optional32;
 use wire::optional::read_picoseconds;
+use wire_writer::writing::announced;
 use wire_writer::writing::put_optional_i64;
 use wire_writer::writing::put_optional16;
 use wire_writer::writing::put_optional32;
+use wire_writer::writing::size_i64;
+use wire_writer::writing::size16;
+use wire_writer::writing::size32;
 ghost use mathlib.Core.Path.{_≡_};
 ghost use Rattle.dataset_header.specs.Header.{timesAt, versionsAt, headerOf, bodyAt, headerAt, answerTimes, answerVersions, answerHeader, timesBytes, versionsBytes, headerBytes};
 ghost use Prim.Native.Nat.{_≤_};
 ghost use lib.ListN.{length};
-ghost use Rattle.wire_writer.specs.Writing.{optional16Bytes, optional32Bytes, optionalI64Bytes, Puts};
+ghost use Rattle.wire_writer.specs.Writing.{Puts};
 
+// The header of a message, with each item that its flags announce.
 pub struct Header {
     pub encoding: Encoding,
     pub kind: Kind,
@@ -37,29 +41,34 @@ pub struct Header {
     pub minor: Optional32,
 }
 
+// A header with the position after it, a message that is not valid, or a refusal with its number and place.
 pub enum HeaderRead {
     NotValid(usize),
     Is(Header, usize),
     Refused(u8, usize),
 }
 
+// The first items of a header.
 pub struct Times {
     pub sequence: Optional16,
     pub timestamp: OptionalI64,
     pub picoseconds: Optional16,
 }
 
+// The first items with the position after them, or a refusal with its number and place.
 pub enum TimesRead {
     Is(Times, usize),
     Refused(u8, usize),
 }
 
+// The other items of a header.
 pub struct Versions {
     pub status: Optional16,
     pub major: Optional32,
     pub minor: Optional32,
 }
 
+// The other items with the position after them, or a refusal with its number and place.
 pub enum VersionsRead {
     Is(Versions, usize),
     Refused(u8, usize),
@@ -69,11 +78,11 @@ fn read_times(s: &[u8], flags: Flags, at: usize) -> TimesRead
     ensures { λ r. ⌜ answerTimes r ≡ timesAt flags (now (s .entry)) at ⌝ }
 {
     match read_optional16(s, flags.sequence, at) {
-        Optional16Read::Refused(n, place) => TimesRead::Refused(n, place),
+        Optional16Read::Refused(number, place) => TimesRead::Refused(number, place),
         Optional16Read::Is(sequence, at) => match read_optional_i64(s, flags.timestamp, at) {
-            OptionalI64Read::Refused(n, place) => TimesRead::Refused(n, place),
+            OptionalI64Read::Refused(number, place) => TimesRead::Refused(number, place),
             OptionalI64Read::Is(timestamp, at) => match read_picoseconds(s, flags.picoseconds, at) {
-                Optional16Read::Refused(n, place) => TimesRead::Refused(n, place),
+                Optional16Read::Refused(number, place) => TimesRead::Refused(number, place),
                 Optional16Read::Is(picoseconds, at) => TimesRead::Is(
                     Times {
                         sequence,
@@ -91,11 +100,11 @@ fn read_versions(s: &[u8], flags: Flags, at: usize) -> VersionsRead
     ensures { λ r. ⌜ answerVersions r ≡ versionsAt flags (now (s .entry)) at ⌝ }
 {
     match read_optional16(s, flags.status, at) {
-        Optional16Read::Refused(n, place) => VersionsRead::Refused(n, place),
+        Optional16Read::Refused(number, place) => VersionsRead::Refused(number, place),
         Optional16Read::Is(status, at) => match read_optional32(s, flags.major, at) {
-            Optional32Read::Refused(n, place) => VersionsRead::Refused(n, place),
+            Optional32Read::Refused(number, place) => VersionsRead::Refused(number, place),
             Optional32Read::Is(at, major) => match read_optional32(s, flags.minor, at) {
-                Optional32Read::Refused(n, place) => VersionsRead::Refused(n, place),
+                Optional32Read::Refused(number, place) => VersionsRead::Refused(number, place),
                 Optional32Read::Is(at, minor) => VersionsRead::Is(
                     Versions {
                         status,
@@ -136,9 +145,9 @@ fn read_body(s: &[u8], flags: Flags, at: usize) -> HeaderRead
     ensures { λ r. ⌜ answerHeader r ≡ bodyAt flags (now (s .entry)) at ⌝ }
 {
     match read_times(s, flags, at) {
-        TimesRead::Refused(n, place) => HeaderRead::Refused(n, place),
+        TimesRead::Refused(number, place) => HeaderRead::Refused(number, place),
         TimesRead::Is(t, at) => match read_versions(s, flags, at) {
-            VersionsRead::Refused(n, place) => HeaderRead::Refused(n, place),
+            VersionsRead::Refused(number, place) => HeaderRead::Refused(number, place),
             VersionsRead::Is(v, at) => HeaderRead::Is(header_of(flags, t, v), at),
         },
     }
@@ -150,7 +159,7 @@ pub fn read_header(s: &[u8]) -> HeaderRead
 {
     match read_flags(s) {
         FlagsRead::NotValid(next) => HeaderRead::NotValid(next),
-        FlagsRead::Refused(n, place) => HeaderRead::Refused(n, place),
+        FlagsRead::Refused(number, place) => HeaderRead::Refused(number, place),
         FlagsRead::Is(flags, at) => read_body(s, flags, at),
     }
 }
@@ -177,40 +186,13 @@ fn put_versions(out: &mut [u8], at: usize, header: Header) -> usize
     put_optional32(out, next, minor)
 }
 
+// Stores a header from the buffer's start, and answers the position after it.
 pub fn put_header(out: &mut [u8], header: Header) -> usize
     ensures { λ r. ⌜ Puts (headerBytes header) (now (out .entry)) 0 (now (out .exit)) r ⌝ }
 {
     let next = put_flags(out, header);
     let next = put_times(out, next, header);
     put_versions(out, next, header)
-}
-
-// How many bytes an item takes that a flag announces.
-fn size16(x: Optional16) -> usize
-    ensures { λ r. ⌜ (r ≡ length (optional16Bytes x)) × (r ≤ 2) ⌝ }
-{
-    match x {
-        Optional16::Absent => 0,
-        Optional16::Is(_) => 2,
-    }
-}
-
-fn size32(x: Optional32) -> usize
-    ensures { λ r. ⌜ (r ≡ length (optional32Bytes x)) × (r ≤ 4) ⌝ }
-{
-    match x {
-        Optional32::Absent => 0,
-        Optional32::Is(_) => 4,
-    }
-}
-
-fn size_i64(x: OptionalI64) -> usize
-    ensures { λ r. ⌜ (r ≡ length (optionalI64Bytes x)) × (r ≤ 8) ⌝ }
-{
-    match x {
-        OptionalI64::Absent => 0,
-        OptionalI64::Is(_) => 8,
-    }
 }
 
 // How many bytes the header takes.

@@ -1,30 +1,31 @@
--- Laws of the whole message: what an accepted one tells, its size, its bytes one part after the other, and each answer of the writer.
+-- Laws of the whole message: what an accepted one tells, its size, and its bytes one part after the other.
 -- Assumes nothing.
 use mathlib.Core.Path.{_≡_, refl, ap, sym, _∙_, subst}
 use mathlib.Core.Bool.{Bool, true, false, cond, not, _&&_}
 use mathlib.Core.List.{List, [], _++_}
-use Prim.Native.Nat.{_*_, ℕ, _+_, _≤_, _<_, _%_, _/_, _-_}
+use Prim.Native.Nat.{ℕ, _+_, _-_, _*_, _/_, _%_, _≤_}
 use native.Mathlib.Omega.{arith}
-use borrow.Author.Tests.{leb-true, leb-false, eqb-true, lt-ltb, le-ltb, ne-eqb}
-use lib.Dec.{leb, ltb, eqb}
+use borrow.Author.Tests.{eqb-true}
+use lib.Dec.{leb, eqb}
 use lib.ListN.{length, length-append, take, drop}
-use Rattle.dataset_header.specs.Flags.{notValid, valid, isDelta, isRaw, kindRule}
+use Rattle.dataset_header.specs.Flags.{valid, isDelta, isRaw, kindRule}
 use Rattle.dataset_fields.specs.declared.fields.Cursor.{Cursor}
-use Rattle.wire.specs.Answer.{got, refused}
-use Rattle.dataset_message_writer.specs.Rewrite.{partsAgain, again, againWritten, againBuffer, Rewrites}
+use Rattle.wire.specs.Answer.{got}
+use Rattle.dataset_message_writer.specs.Rewrite.{partsAgain, again, whereValid, messageAgain}
 use Rattle.dataset_header.specs.declared.header.Header.{Header}
 use Rattle.wire.specs.Number.{leBytes}
 use Rattle.wire.proofs.Facts.{and-left, and-right}
-use Rattle.wire_writer.specs.Writing.{orElse, picosecondsRefusal, Puts, writtenBy, bufferBy, numberFor}
+use Rattle.wire_writer.specs.Writing.{orElse, roomRefusal, picosecondsRefusal, Puts, Writes, writing}
 use Rattle.wire_writer.specs.declared.writing.Written.{Written}
-use Rattle.wire_writer.proofs.Putting.{then, whole}
+use Rattle.wire_writer.proofs.Putting.{then}
+use Rattle.wire_writer.proofs.Answering.{roomy, reading-accepts}
 use Rattle.wire_writer.proofs.Refusals.{both-zero, held}
 use Rattle.dataset_header.specs.declared.flags.Encoding.{Encoding}
 use Rattle.dataset_header.specs.declared.flags.Kind.{Kind}
 use Rattle.dataset_message.specs.Message.{messageAt}
 use Rattle.dataset_header.specs.Header.{headerBytes}
 use Rattle.dataset_fields.specs.Fields.{total, fieldsBytes, zeros}
-use Rattle.dataset_message_writer.specs.Message.{Given, hasFields, isFielded, isRawData, fieldsOf, countBytes, encode, bodyRefusal, readingRefusal, bodyAgrees, listsAgree, readsBack, refusalOf, sizeOf, atMost, WritesBytes}
+use Rattle.dataset_message_writer.specs.Message.{Given, hasFields, isFielded, isRawData, fieldsOf, countBytes, encode, bodyRefusal, readingRefusal, bodyAgrees, listsAgree, readsBack, refusalOf, sizeOf, limited}
 use Rattle.dataset_fields.proofs.Judging.{or-assoc, six-and}
 use Rattle.dataset_fields.proofs.Laying.{length-zeros, values-whole, delta-length}
 
@@ -143,13 +144,13 @@ size-is types g a =
     go false e = rw (values-whole (g .lengths) (g .values) (g .indices) (a .adds)) (plain (isFielded g && not (isRawData g)))
 
 pub size-told : (types : List ℕ) (g : Given) (f r d : Bool) (bytes : ℕ) → Accepted types g → f ≡ isFielded g → r ≡ isRawData g → d ≡ isDelta (g .header .kind)
-    → bytes ≡ atMost (sizeOf (length (headerBytes (g .header))) (f && not r) d (length (g .values)) (length (g .lengths)) (g .padding))
-    → bytes ≡ atMost (length (encode g))
+    → bytes ≡ limited (sizeOf (length (headerBytes (g .header))) (f && not r) d (length (g .values)) (length (g .lengths)) (g .padding))
+    → bytes ≡ limited (length (encode g))
 size-told types g f r d bytes a ef er ed e =
-    e ∙ ap (λ (x : Bool). atMost (sizeOf front (x && not r) d (length (g .values)) (length (g .lengths)) (g .padding))) ef
-    ∙ ap (λ (x : Bool). atMost (sizeOf front (isFielded g && not x) d (length (g .values)) (length (g .lengths)) (g .padding))) er
-    ∙ ap (λ (x : Bool). atMost (sizeOf front (isFielded g && not (isRawData g)) x (length (g .values)) (length (g .lengths)) (g .padding))) ed
-    ∙ ap atMost (sym (size-is types g a))
+    e ∙ ap (λ (x : Bool). limited (sizeOf front (x && not r) d (length (g .values)) (length (g .lengths)) (g .padding))) ef
+    ∙ ap (λ (x : Bool). limited (sizeOf front (isFielded g && not x) d (length (g .values)) (length (g .lengths)) (g .padding))) er
+    ∙ ap (λ (x : Bool). limited (sizeOf front (isFielded g && not (isRawData g)) x (length (g .values)) (length (g .lengths)) (g .padding))) ed
+    ∙ ap limited (sym (size-is types g a))
   where
     front : ℕ
     front = length (headerBytes (g .header))
@@ -165,61 +166,20 @@ put-parts {entry} {m₁} {m₂} {m₃} {exit} {n₁} {n₂} {n₃} {next} g f r 
     (subst (λ (x : Bool). Puts (countBytes x r (length (g .lengths))) m₁ n₁ m₂ n₂) ef b))
     (then (subst (λ (x : Bool). Puts (fieldsBytes x (g .indices) (fieldsOf g)) m₂ n₂ m₃ n₃) ed c) z))
 
--- each answer of the writer
-
-above : (n : ℕ) → 65535 < atMost n → 65535 < n
-above n h = go (leb 65536 n) refl
+-- a size that is told as far as the limits tell it apart
+pub limited-room : (n room : ℕ) → roomRefusal (limited n) room ≡ roomRefusal n room
+limited-room n room = go (leb 65536 n) refl
   where
-    go : (t : Bool) → leb 65536 n ≡ t → 65535 < n
-    go true e = let l = leb-true 65536 n e in omega arith
-    go false e = rw e at h
+    go : (t : Bool) → leb 65536 n ≡ t → roomRefusal (limited n) room ≡ roomRefusal n room
+    go true e = rw e
+    go false e = ap (λ (t : Bool). roomRefusal (cond t 65536 n) room) e
 
-within : (n : ℕ) → atMost n ≤ 65535 → (n ≤ 65535) × (atMost n ≡ n)
-within n h = go (leb 65536 n) refl
+pub limited-fits : (n room : ℕ) → roomRefusal (limited n) room ≡ 0 → limited n ≡ n
+limited-fits n room h = go (leb 65536 n) refl
   where
-    go : (t : Bool) → leb 65536 n ≡ t → (n ≤ 65535) × (atMost n ≡ n)
-    go true e = let l : 65536 ≤ 65535 = rw e at h in absurd (omega arith)
-    go false e = let l = leb-false 65536 n e in (omega arith, rw e)
-
--- of bytes whose writer's own refusal is m
-module _ (m : ℕ) (bytes entry : List ℕ) where
-  by-number : (n : ℕ) → (n ≡ 0 → ⊥) → numberFor m (length bytes) (length entry) ≡ n → WritesBytes m bytes entry entry (Written.Refused n)
-  by-number n z e =
-      record {
-        answer = sym (ap (λ (k : ℕ). writtenBy k bytes) e ∙ rw (ne-eqb n 0 z));
-        buffer = sym (ap (λ (k : ℕ). bufferBy k bytes entry) e ∙ rw (ne-eqb n 0 z));
-      }
-
-  pub refused-by : (n : ℕ) → n ≡ m → (n ≡ 0 → ⊥) → WritesBytes m bytes entry entry (Written.Refused n)
-  refused-by n e z =
-      by-number n z
-      (ap (λ (k : ℕ). orElse k (cond (ltb 65535 (length bytes)) 10 (cond (ltb (length entry) (length bytes)) 11 0))) (sym e) ∙ rw (ne-eqb n 0 z))
-
-  numbered : (n : ℕ) → n ≡ m → n ≡ 0
-      → numberFor m (length bytes) (length entry) ≡ cond (ltb 65535 (length bytes)) 10 (cond (ltb (length entry) (length bytes)) 11 0)
-  numbered n e z = ap (λ (k : ℕ). orElse k (cond (ltb 65535 (length bytes)) 10 (cond (ltb (length entry) (length bytes)) 11 0))) (sym e ∙ z)
-
-  pub too-long : (n size : ℕ) → n ≡ m → n ≡ 0 → size ≡ atMost (length bytes) → 65535 < size → WritesBytes m bytes entry entry (Written.Refused 10)
-  too-long n size e z s h =
-      let l = above (length bytes) (rw s at h) in
-      by-number 10 (λ q. omega arith) (numbered n e z ∙ rw (lt-ltb 65535 (length bytes) l))
-
-  pub no-room : (n size : ℕ) → n ≡ m → n ≡ 0 → size ≡ atMost (length bytes) → size ≤ 65535 → length entry < size → WritesBytes m bytes entry entry (Written.Refused 11)
-  no-room n size e z s h r =
-      let w = within (length bytes) (rw s at h) in
-      let l : length entry < length bytes = rw (s ∙ w .1) at r in
-      by-number 11 (λ q. omega arith) (numbered n e z ∙ rw (le-ltb 65535 (length bytes) (w .0), lt-ltb (length entry) (length bytes) l))
-
-  pub written-all : (n size : ℕ) (exit : List ℕ) (next : ℕ) → n ≡ m → n ≡ 0 → size ≡ atMost (length bytes) → size ≤ 65535 → size ≤ length entry
-      → Puts bytes entry 0 exit next → WritesBytes m bytes entry exit (Written.Is size)
-  written-all n size exit next e z s h r p =
-      let w = within (length bytes) (rw s at h) in
-      let l : length bytes ≤ length entry = rw (s ∙ w .1) at r in
-      let q : numberFor m (length bytes) (length entry) ≡ 0 = numbered n e z ∙ rw (le-ltb 65535 (length bytes) (w .0), le-ltb (length entry) (length bytes) l) in
-      record {
-        answer = ap Written.Is (s ∙ w .1) ∙ sym (ap (λ (k : ℕ). writtenBy k bytes) q);
-        buffer = whole p l .0 ∙ sym (ap (λ (k : ℕ). bufferBy k bytes entry) q);
-      }
+    go : (t : Bool) → leb 65536 n ≡ t → limited n ≡ n
+    go true e = let l : limited n ≤ 65535 = roomy (limited n) room h .0 in let k : 65536 ≤ 65535 = rw e at l in absurd (omega arith)
+    go false e = rw e
 
 -- FieldCount is a number of 2 bytes
 low-bytes : (q r : ℕ) → (65536 * q + r) / 256 % 256 ≡ r / 256 % 256
@@ -235,9 +195,9 @@ count-bytes n =
 -- a message written again
 
 pub again-size : (h : Header) (fielded r : Bool) (count : ℕ) (fields : List ℕ) (padding size : ℕ) → r ≡ isRaw (h .encoding)
-    → size ≡ atMost (sizeOf (length (headerBytes h)) (fielded && not r) false (length fields) 0 padding) → size ≡ atMost (length (partsAgain h fielded count fields padding))
+    → size ≡ limited (sizeOf (length (headerBytes h)) (fielded && not r) false (length fields) 0 padding) → size ≡ limited (length (partsAgain h fielded count fields padding))
 again-size h fielded r count fields padding size er e =
-    e ∙ ap (λ (x : Bool). atMost (sizeOf (length (headerBytes h)) (fielded && not x) false (length fields) 0 padding)) er ∙ ap atMost (sym bytes)
+    e ∙ ap (λ (x : Bool). limited (sizeOf (length (headerBytes h)) (fielded && not x) false (length fields) 0 padding)) er ∙ ap limited (sym bytes)
   where
     plain : (b : Bool) → length (headerBytes h) + (cond b 2 0 + (length fields + padding)) ≡ length (headerBytes h) + cond b (2 + (length fields + padding)) (length fields + padding)
     plain true = refl
@@ -256,26 +216,15 @@ pub again-parts : {entry m₁ m₂ m₃ exit : List ℕ} {n₁ n₂ n₃ next : 
 again-parts {m₁ = m₁} {m₂ = m₂} {n₁ = n₁} {n₂ = n₂} h fielded r count fields padding er a b c z =
     then a (then (subst (λ (x : Bool). Puts (countBytes fielded x count) m₁ n₁ m₂ n₂) er b) (then c z))
 
-pub rewrite-refused : (types s entry : List ℕ) (n place : ℕ) → messageAt types s ≡ refused n place → Rewrites types s entry entry (Written.Refused n)
-rewrite-refused types s entry n place q =
-    record { answer = sym (ap (againWritten (length entry) s) q); buffer = sym (ap (againBuffer entry s) q) }
-
-pub rewrite-invalid : (types s entry : List ℕ) (at : ℕ) → messageAt types s ≡ got notValid at → Rewrites types s entry entry (Written.Refused 6)
-rewrite-invalid types s entry at q =
-    record { answer = sym (ap (againWritten (length entry) s) q); buffer = sym (ap (againBuffer entry s) q) }
-
 pub rewrite-valid : (types s entry exit : List ℕ) (r : Written) (h : Header) (c : Cursor) (end e size : ℕ) (fielded : Bool) (n : ℕ) (fields : List ℕ) (padding : ℕ)
     → messageAt types s ≡ got (valid (record { header = h; cursor = c; end = end })) e → size ≡ length (headerBytes h) → fielded ≡ hasFields (h .kind) (leb (length s) size)
-    → n ≡ end - c .at → fields ≡ take n (drop (c .at) s) → padding ≡ length s - end → WritesBytes 0 (partsAgain h fielded (c .count) fields padding) entry exit r
-    → Rewrites types s entry exit r
+    → n ≡ end - c .at → fields ≡ take n (drop (c .at) s) → padding ≡ length s - end → Writes (writing (partsAgain h fielded (c .count) fields padding)) entry exit r
+    → Writes (messageAgain types s) entry exit r
 rewrite-valid types s entry exit r h c end e size fielded n fields padding q es ef en ep ed w =
-    record { answer = all .answer ∙ sym (ap (againWritten (length entry) s) q); buffer = all .buffer ∙ sym (ap (againBuffer entry s) q) }
+    reading-accepts (whereValid (again s)) q (subst (λ (b : List ℕ). Writes (writing b) entry exit r) same w)
   where
     same : partsAgain h fielded (c .count) fields padding ≡ again s (record { header = h; cursor = c; end = end })
     same =
         ap (λ (f : Bool). partsAgain h f (c .count) fields padding) (ef ∙ ap (λ (j : ℕ). hasFields (h .kind) (leb (length s) j)) es)
         ∙ ap (λ (b : List ℕ). partsAgain h (hasFields (h .kind) (leb (length s) (length (headerBytes h)))) (c .count) b padding) (ep ∙ ap (λ (j : ℕ). take j (drop (c .at) s)) en)
         ∙ ap (λ (p : ℕ). partsAgain h (hasFields (h .kind) (leb (length s) (length (headerBytes h)))) (c .count) (take (end - c .at) (drop (c .at) s)) p) ed
-
-    all : WritesBytes 0 (again s (record { header = h; cursor = c; end = end })) entry exit r
-    all = subst (λ (b : List ℕ). WritesBytes 0 b entry exit r) same w

@@ -1,7 +1,6 @@
 -- A DataSetMessage as it is written: its bytes, and what the writer refuses (document 01, "Numbers given back" and
 -- "The DataSetMessage").
 use Prim.Native.Nat.{ℕ, _+_}
-use mathlib.Core.Path.{_≡_}
 use mathlib.Core.Bool.{Bool, true, false, cond, not, _&&_, _||_}
 use mathlib.Core.List.{List, [], _++_}
 use lib.Dec.{eqb, leb}
@@ -9,8 +8,7 @@ use lib.ListN.{length}
 use Rattle.wire.specs.Constants.{DISAGREE, NOT_CONFIGURED}
 use Rattle.wire.specs.Number.{leBytes}
 use Rattle.dataset_header.specs.Flags.{isDelta, isRaw, kindRule}
-use Rattle.wire_writer.specs.Writing.{orElse, picosecondsRefusal, numberFor, writtenBy, bufferBy}
-use Rattle.wire_writer.specs.declared.writing.Written.{Written}
+use Rattle.wire_writer.specs.Writing.{orElse, picosecondsRefusal, Output, unless}
 use Rattle.dataset_header.specs.declared.flags.Encoding.{Encoding}
 use Rattle.dataset_header.specs.declared.flags.Kind.{Kind}
 use Rattle.dataset_header.specs.declared.header.Header.{Header}
@@ -122,18 +120,9 @@ sizeOf front counted delta bytes count padding =
     front + cond delta (2 + (count + (count + (bytes + padding)))) (cond counted (2 + (bytes + padding)) (bytes + padding))
 
 -- a size, as far as the limits tell it apart
-abbrev pub atMost : ℕ → ℕ
-atMost n = cond (leb 65536 n) 65536 n
+abbrev pub limited : ℕ → ℕ
+limited n = cond (leb 65536 n) 65536 n
 
--- "output above 65,535 bytes by 10; then 11"
-abbrev pub writerNumber : List ℕ → Given → ℕ → ℕ
-writerNumber types g room = numberFor (refusalOf types g) (length (encode g)) room
-
--- what a writer of these bytes, whose own refusal is n, answers for a buffer, and what it leaves there
-pub record WritesBytes (n : ℕ) (bytes entry exit : List ℕ) (r : Written) : Type 0 where
-  pub answer : r ≡ writtenBy (numberFor n (length bytes) (length entry)) bytes
-  pub buffer : exit ≡ bufferBy (numberFor n (length bytes) (length entry)) bytes entry
-
--- the DataSetMessage writer
-abbrev pub Writes : List ℕ → Given → List ℕ → List ℕ → Written → Type 0
-Writes types g entry exit r = WritesBytes (refusalOf types g) (encode g) entry exit r
+-- what is written of a message given: its bytes, unless it is refused
+abbrev pub messageOutput : List ℕ → Given → Output
+messageOutput types g = unless (refusalOf types g) (encode g)

@@ -1,14 +1,11 @@
 -- A DataSetMessage that was read, written again from its parts (document 01, "The one rewriting exception").
 use Prim.Native.Nat.{ℕ, _-_}
-use mathlib.Core.Path.{_≡_}
 use mathlib.Core.Bool.{Bool}
 use mathlib.Core.List.{List, _++_}
 use lib.Dec.{leb}
 use lib.ListN.{length, take, drop}
 use Rattle.wire.specs.Constants.{DISAGREE}
-use Rattle.wire.specs.Answer.{Answer, got, refused}
-use Rattle.wire_writer.specs.Writing.{numberFor, writtenBy, bufferBy}
-use Rattle.wire_writer.specs.declared.writing.Written.{Written}
+use Rattle.wire_writer.specs.Writing.{Output, writing, refusing, afterReading}
 use Rattle.dataset_header.specs.declared.header.Header.{Header}
 use Rattle.dataset_header.specs.Flags.{Valid, notValid, valid, isRaw}
 use Rattle.dataset_message.specs.Message.{Message, messageAt}
@@ -27,18 +24,11 @@ again s m =
     (take (m .end - m .cursor .at) (drop (m .cursor .at) s))
     (length s - m .end)
 
--- reading's refusal is the writer's; one not valid "would read back otherwise", as "the message writer always sets bit 0"
+-- one not valid "would read back otherwise", as "the message writer always sets bit 0"; of a valid one, some bytes
+abbrev pub whereValid : (Message → List ℕ) → Valid Message → Output
+whereValid bytes notValid = refusing DISAGREE
+whereValid bytes (valid m) = writing (bytes m)
 
-abbrev pub againWritten : ℕ → List ℕ → Answer (Valid Message) → Written
-againWritten room s (got notValid next) = Written.Refused DISAGREE
-againWritten room s (got (valid m) next) = writtenBy (numberFor 0 (length (again s m)) room) (again s m)
-againWritten room s (refused n place) = Written.Refused n
-
-abbrev pub againBuffer : List ℕ → List ℕ → Answer (Valid Message) → List ℕ
-againBuffer entry s (got notValid next) = entry
-againBuffer entry s (got (valid m) next) = bufferBy (numberFor 0 (length (again s m)) (length entry)) (again s m) entry
-againBuffer entry s (refused n place) = entry
-
-pub record Rewrites (types s entry exit : List ℕ) (r : Written) : Type 0 where
-  pub answer : r ≡ againWritten (length entry) s (messageAt types s)
-  pub buffer : exit ≡ againBuffer entry s (messageAt types s)
+-- what is written of a message read: reading's refusal is the writer's, else its parts again
+abbrev pub messageAgain : List ℕ → List ℕ → Output
+messageAgain types s = afterReading (messageAt types s) (whereValid (again s))

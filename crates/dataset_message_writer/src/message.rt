@@ -13,21 +13,20 @@ use dataset_header::flags::is_raw;
 use dataset_header::flags::kind_rule;
 use dataset_header::header::Header;
 use dataset_header::header::put_header;
-use wire::constants::DISAGREE;
-use wire::constants::MOST_DATAGRAM;
-use wire::constants::NO_ROOM;
 use wire::constants::NOT_CONFIGURED;
-use wire::constants::OVER_LIMIT;
+use wire_writer::store::put_run;
 use wire_writer::writing::Written;
 use wire_writer::writing::or_else;
 use wire_writer::writing::picoseconds_refusal;
-use wire_writer::writing::put_run;
+use wire_writer::writing::room_refusal;
+use wire_writer::writing::six_unless;
 ghost use mathlib.Core.Path.{_≡_};
 ghost use mathlib.Core.Bool.{cond};
 ghost use lib.ListN.{length};
-ghost use Rattle.wire_writer.specs.Writing.{orElse, Puts};
+ghost use Rattle.wire.specs.Constants.{DISAGREE};
+ghost use Rattle.wire_writer.specs.Writing.{orElse, Puts, Writes};
 ghost use Rattle.dataset_fields.specs.Fields.{total, valuesOf, fieldsBytes};
-ghost use Rattle.dataset_message_writer.specs.Message.{given, isKey, fieldedRefusal, fieldedAgrees, configuredRule, countAgrees, listsAgree, encode, bodyRefusal, bodyAgrees, refusalOf, Writes, FitsGiven};
+ghost use Rattle.dataset_message_writer.specs.Message.{given, isKey, fieldedRefusal, fieldedAgrees, configuredRule, countAgrees, listsAgree, encode, bodyRefusal, bodyAgrees, refusalOf, messageOutput, FitsGiven};
 
 fn is_key(kind: Kind) -> bool
     ensures { λ r. ⌜ r ≡ isKey kind ⌝ }
@@ -38,16 +37,6 @@ fn is_key(kind: Kind) -> bool
         Kind::Event => false,
         Kind::KeepAlive => false,
     }
-}
-
-// 6 where something would read back otherwise.
-fn six_unless(agrees: bool) -> u8
-    ensures { λ r. ⌜ r ≡ cond agrees 0 6 ⌝ }
-{
-    if agrees {
-        return 0;
-    }
-    DISAGREE
 }
 
 // RawData without configured fields is 8.
@@ -71,7 +60,10 @@ fn count_agrees(raw: bool, configured: usize, n: usize) -> bool
 
 // The number of the fields' refusal: 8, a field's own, 6 for bytes behind a value or another number of fields.
 fn fields_refusal(values: &[u8], lengths: &[usize], encoding: Encoding, types: &[u8]) -> u8
-    ensures { λ r. ⌜ r ≡ orElse (fieldedRefusal encoding (now (types .entry)) (valuesOf (now (lengths .entry)) (now (values .entry)))) (cond (fieldedAgrees encoding (now (types .entry)) (length (now (lengths .entry))) (valuesOf (now (lengths .entry)) (now (values .entry)))) 0 6) ⌝ }
+    ensures { λ r.
+        let fields = valuesOf (now (lengths .entry)) (now (values .entry)) in
+        let agrees = fieldedAgrees encoding (now (types .entry)) (length (now (lengths .entry))) fields in
+        ⌜ r ≡ orElse (fieldedRefusal encoding (now (types .entry)) fields) (cond agrees 0 DISAGREE) ⌝ }
 {
     let raw = is_raw(encoding);
     let configured = configured_rule(raw, types.len());
@@ -90,7 +82,9 @@ fn body_refusal(
     types: &[u8],
     padding: usize,
 ) -> u8
-    ensures { λ r. ⌜ r ≡ orElse (bodyRefusal (now (types .entry)) (given header heartbeat (now (values .entry)) (now (lengths .entry)) (now (indices .entry)) padding)) (cond (bodyAgrees (now (types .entry)) (given header heartbeat (now (values .entry)) (now (lengths .entry)) (now (indices .entry)) padding)) 0 6) ⌝ }
+    ensures { λ r.
+        let g = given header heartbeat (now (values .entry)) (now (lengths .entry)) (now (indices .entry)) padding in
+        ⌜ r ≡ orElse (bodyRefusal (now (types .entry)) g) (cond (bodyAgrees (now (types .entry)) g) 0 DISAGREE) ⌝ }
 {
     let kind = header.kind;
     let encoding = header.encoding;
@@ -120,7 +114,9 @@ fn refusal(
     types: &[u8],
     padding: usize,
 ) -> u8
-    ensures { λ r. ⌜ r ≡ refusalOf (now (types .entry)) (given header heartbeat (now (values .entry)) (now (lengths .entry)) (now (indices .entry)) padding) ⌝ }
+    ensures { λ r.
+        let g = given header heartbeat (now (values .entry)) (now (lengths .entry)) (now (indices .entry)) padding in
+        ⌜ r ≡ refusalOf (now (types .entry)) g ⌝ }
 {
     let kind = header.kind;
     let encoding = header.encoding;
@@ -141,7 +137,9 @@ fn put_fields(
     indices: &[u16],
 ) -> usize
     requires { ⌜ total (now lengths) ≡ length (now values) ⌝ }
-    ensures { λ r. ⌜ Puts (fieldsBytes delta (now (indices .entry)) (valuesOf (now (lengths .entry)) (now (values .entry)))) (now (out .entry)) at (now (out .exit)) r ⌝ }
+    ensures { λ r.
+        let fields = valuesOf (now (lengths .entry)) (now (values .entry)) in
+        ⌜ Puts (fieldsBytes delta (now (indices .entry)) fields) (now (out .entry)) at (now (out .exit)) r ⌝ }
 {
     if delta {
         return put_delta(out, at, values, lengths, indices);
@@ -159,7 +157,9 @@ fn put_message(
     padding: usize,
 ) -> usize
     requires { ⌜ total (now lengths) ≡ length (now values) ⌝ }
-    ensures { λ r. ⌜ Puts (encode (given header heartbeat (now (values .entry)) (now (lengths .entry)) (now (indices .entry)) padding)) (now (out .entry)) 0 (now (out .exit)) r ⌝ }
+    ensures { λ r.
+        let g = given header heartbeat (now (values .entry)) (now (lengths .entry)) (now (indices .entry)) padding in
+        ⌜ Puts (encode g) (now (out .entry)) 0 (now (out .exit)) r ⌝ }
 {
     let kind = header.kind;
     let encoding = header.encoding;
@@ -189,7 +189,7 @@ pub fn write(
 ) -> Written
     ensures { λ r.
         let g = given header heartbeat (now (values .entry)) (now (lengths .entry)) (now (indices .entry)) padding in
-        ⌜ FitsGiven g × Writes (now (types .entry)) g (now (out .entry)) (now (out .exit)) r ⌝ }
+        ⌜ FitsGiven g × Writes (messageOutput (now (types .entry)) g) (now (out .entry)) (now (out .exit)) r ⌝ }
 {
     let number = refusal(header, heartbeat, values, lengths, indices, types, padding);
     if number != 0 {
@@ -206,11 +206,9 @@ pub fn write(
         lengths.len(),
         padding,
     );
-    if MOST_DATAGRAM < bytes {
-        return Written::Refused(OVER_LIMIT);
-    }
-    if out.len() < bytes {
-        return Written::Refused(NO_ROOM);
+    let full = room_refusal(bytes, out.len());
+    if full != 0 {
+        return Written::Refused(full);
     }
     put_message(out, header, heartbeat, values, lengths, indices, padding);
     Written::Is(bytes)

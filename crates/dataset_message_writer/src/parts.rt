@@ -2,13 +2,13 @@
 use dataset_header::flags::Kind;
 use dataset_header::header::Header;
 use dataset_header::header::header_size;
-use wire_writer::writing::put16;
+use wire_writer::store::put16;
 ghost use mathlib.Core.Path.{_≡_};
 ghost use Prim.Native.Nat.{_+_};
 ghost use lib.ListN.{length};
 ghost use Rattle.wire_writer.specs.Writing.{Puts};
 ghost use Rattle.dataset_header.specs.Header.{headerBytes};
-ghost use Rattle.dataset_message_writer.specs.Message.{hasFields, countBytes, sizeOf, atMost};
+ghost use Rattle.dataset_message_writer.specs.Message.{hasFields, countBytes, sizeOf, limited};
 
 // Whether something follows the header of a message of this kind.
 pub fn has_fields(kind: Kind, heartbeat: bool) -> bool
@@ -24,7 +24,7 @@ pub fn has_fields(kind: Kind, heartbeat: bool) -> bool
 
 // a + b, at most 65,536, which is above every limit.
 fn plus(a: usize, b: usize) -> usize
-    ensures { λ r. ⌜ r ≡ atMost (a + b) ⌝ }
+    ensures { λ r. ⌜ r ≡ limited (a + b) ⌝ }
 {
     if 65536 <= a {
         return 65536;
@@ -44,7 +44,7 @@ pub fn size(
     count: usize,
     padding: usize,
 ) -> usize
-    ensures { λ r. ⌜ r ≡ atMost (sizeOf (length (headerBytes header)) counted delta bytes count padding) ⌝ }
+    ensures { λ r. ⌜ r ≡ limited (sizeOf (length (headerBytes header)) counted delta bytes count padding) ⌝ }
 {
     let front = header_size(header);
     let values = plus(bytes, padding);

@@ -10,16 +10,13 @@ use dataset_header::header::put_header;
 use dataset_message::message::MessageRead;
 use dataset_message::message::read;
 use wire::constants::DISAGREE;
-use wire::constants::MOST_DATAGRAM;
-use wire::constants::NO_ROOM;
-use wire::constants::OVER_LIMIT;
 use wire::left;
 use wire::part::part;
+use wire_writer::store::put_run;
 use wire_writer::writing::Written;
-use wire_writer::writing::put_run;
-ghost use Rattle.wire_writer.specs.Writing.{Puts};
-ghost use Rattle.dataset_message_writer.specs.Message.{WritesBytes};
-ghost use Rattle.dataset_message_writer.specs.Rewrite.{partsAgain, Rewrites};
+use wire_writer::writing::room_refusal;
+ghost use Rattle.wire_writer.specs.Writing.{Puts, Writes, writing};
+ghost use Rattle.dataset_message_writer.specs.Rewrite.{partsAgain, messageAgain};
 
 // The parts one after the other: the fields as they stand.
 fn put_again(
@@ -30,7 +27,9 @@ fn put_again(
     fields: &[u8],
     padding: usize,
 ) -> usize
-    ensures { λ r. ⌜ Puts (partsAgain header fielded count (now (fields .entry)) padding) (now (out .entry)) 0 (now (out .exit)) r ⌝ }
+    ensures { λ r.
+        let bytes = partsAgain header fielded count (now (fields .entry)) padding in
+        ⌜ Puts bytes (now (out .entry)) 0 (now (out .exit)) r ⌝ }
 {
     let encoding = header.encoding;
     let next = put_header(out, header);
@@ -47,16 +46,16 @@ fn write_again(
     fields: &[u8],
     padding: usize,
 ) -> Written
-    ensures { λ r. ⌜ WritesBytes 0 (partsAgain header fielded count (now (fields .entry)) padding) (now (out .entry)) (now (out .exit)) r ⌝ }
+    ensures { λ r.
+        let bytes = partsAgain header fielded count (now (fields .entry)) padding in
+        ⌜ Writes (writing bytes) (now (out .entry)) (now (out .exit)) r ⌝ }
 {
     let encoding = header.encoding;
     let counted = fielded & !is_raw(encoding);
     let bytes = size(header, counted, false, fields.len(), 0, padding);
-    if MOST_DATAGRAM < bytes {
-        return Written::Refused(OVER_LIMIT);
-    }
-    if out.len() < bytes {
-        return Written::Refused(NO_ROOM);
+    let full = room_refusal(bytes, out.len());
+    if full != 0 {
+        return Written::Refused(full);
     }
     put_again(out, header, fielded, count, fields, padding);
     Written::Is(bytes)
@@ -64,11 +63,13 @@ fn write_again(
 
 // A message that is read is written again from its parts; what reading refuses is refused, and one not valid is 6.
 pub fn rewrite(out: &mut [u8], message: &[u8], types: &[u8]) -> Written
-    ensures { λ r. ⌜ Rewrites (now (types .entry)) (now (message .entry)) (now (out .entry)) (now (out .exit)) r ⌝ }
+    ensures { λ r.
+        let again = messageAgain (now (types .entry)) (now (message .entry)) in
+        ⌜ Writes again (now (out .entry)) (now (out .exit)) r ⌝ }
 {
     match read(message, types) {
         MessageRead::NotValid => Written::Refused(DISAGREE),
-        MessageRead::Refused(n, _) => Written::Refused(n),
+        MessageRead::Refused(number, _) => Written::Refused(number),
         MessageRead::Is(header, cursor, end) => {
             let kind = header.kind;
             let at = cursor.at;

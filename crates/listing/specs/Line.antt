@@ -5,10 +5,11 @@ use mathlib.Core.List.{List, [], _∷_, _++_}
 use lib.Dec.{ltb, eqb}
 use lib.ListN.{length, take, drop}
 use lib.Seq.{sets}
-use Rattle.wire.specs.Constants.{MOST_TEXT_ID, NO_ROOM, OVER_LIMIT}
+use Rattle.wire.specs.Constants.{NO_ROOM, OVER_LIMIT}
 use Rattle.text.specs.Decimal.{decimalText}
 use Rattle.text.specs.Hex.{hexText}
 use Rattle.publisher_id.specs.declared.publisher.PublisherId.{PublisherId}
+use Rattle.publisher_id.specs.Publisher.{textTooLong}
 use Rattle.dataset_header.specs.declared.flags.Kind.{Kind}
 use Rattle.dataset_header.specs.declared.flags.Encoding.{Encoding}
 use Rattle.dataset_fields.specs.declared.fields.Field.{Field}
@@ -101,7 +102,7 @@ idTooLong (PublisherId.Byte v) = false
 idTooLong (PublisherId.UInt16 v) = false
 idTooLong (PublisherId.UInt32 v) = false
 idTooLong (PublisherId.UInt64 v) = false
-idTooLong (PublisherId.Text n) = ltb MOST_TEXT_ID n
+idTooLong (PublisherId.Text n) = textTooLong n
 
 abbrev pub tooLong : Line → Bool
 tooLong (Line.Net n id end messages) = idTooLong id

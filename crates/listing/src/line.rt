@@ -10,9 +10,9 @@ use dataset_fields::fields::Field;
 use dataset_header::flags::Encoding;
 use dataset_header::flags::Kind;
 use publisher_id::publisher::PublisherId;
+use publisher_id::publisher::text_too_long;
 use walk::entry::Line;
 use walk::entry::SetPlace;
-use wire::constants::MOST_TEXT_ID;
 use wire::constants::NO_ROOM;
 use wire::constants::OVER_LIMIT;
 use wire::optional::Optional16;
@@ -41,7 +41,7 @@ fn id_too_long(id: PublisherId) -> bool
         PublisherId::UInt16(_) => false,
         PublisherId::UInt32(_) => false,
         PublisherId::UInt64(_) => false,
-        PublisherId::Text(n) => MOST_TEXT_ID < n,
+        PublisherId::Text(n) => text_too_long(n),
     }
 }
 

@@ -4,12 +4,12 @@ use Prim.Native.Nat.{ℕ}
 use mathlib.Core.Path.{_≡_, refl}
 use mathlib.Core.List.{List, [], _∷_}
 use Rattle.wire_writer.specs.Store.{laid}
-use Rattle.dataset_header.specs.Flags.{valid}
+use Rattle.dataset_header.specs.Flags.{valid, encodingNumber, kindNumber}
 use Rattle.dataset_fields.specs.declared.fields.Cursor.{Cursor}
 use Rattle.dataset_header.specs.declared.header.Header.{Header}
 use Rattle.records.specs.Numbers.{numberBytes}
 use Rattle.records.specs.Items.{value16, value32, valueI64, flagNumber}
-use Rattle.message_record.specs.Message.{encodingNumber, kindNumber, itemsNumber, headNumbers}
+use Rattle.message_record.specs.Message.{itemsNumber, headNumbers}
 use Rattle.records.proofs.Storing.{also, put-same}
 
 pub head-put : (h : Header) (k : Cursor) (end : ℕ) (l e : List ℕ) (a b d q t p u m n g f : ℕ) → a ≡ encodingNumber (h .encoding) → b ≡ kindNumber (h .kind)

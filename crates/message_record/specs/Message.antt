@@ -5,10 +5,9 @@ use mathlib.Core.List.{List, [], _∷_}
 use lib.Dec.{eqb}
 use lib.ListN.{replicate}
 use Rattle.value.specs.declared.Shape.{Shape}
-use Rattle.dataset_header.specs.Flags.{Valid, notValid, valid}
+use Rattle.dataset_header.specs.Flags.{Valid, notValid, valid, encodingNumber, kindNumber}
 use Rattle.dataset_message.specs.Message.{Message}
 use Rattle.dataset_header.specs.declared.flags.Encoding.{Encoding}
-use Rattle.dataset_header.specs.declared.flags.Kind.{Kind}
 use Rattle.dataset_fields.specs.declared.fields.Field.{Field}
 use Rattle.dataset_fields.specs.declared.fields.Cursor.{Cursor}
 use Rattle.dataset_header.specs.declared.header.Header.{Header}
@@ -18,20 +17,8 @@ use Rattle.records.specs.Numbers.{numberAt}
 use Rattle.records.specs.Items.{has16, value16, has32, value32, hasI64, valueI64, flagNumber, given16, given32, givenI64, among}
 
 -- "encoding: 0 Variant, 1 RawData, 2 DataValue (above 2 counts as 0)"
-abbrev pub encodingNumber : Encoding → ℕ
-encodingNumber Encoding.Variant = 0
-encodingNumber Encoding.RawData = 1
-encodingNumber Encoding.DataValue = 2
-
 abbrev pub encodingIn : ℕ → Encoding
 encodingIn n = cond (eqb n 1) Encoding.RawData (cond (eqb n 2) Encoding.DataValue Encoding.Variant)
-
--- "kind: 0 key, 1 delta, 2 event, 3 keep alive"
-abbrev pub kindNumber : Kind → ℕ
-kindNumber Kind.Key = 0
-kindNumber Kind.Delta = 1
-kindNumber Kind.Event = 2
-kindNumber Kind.KeepAlive = 3
 
 -- "items present: 1 sequence number, 2 timestamp, 4 picoseconds, 8 status, 16 major version, 32 minor version, added up"
 abbrev pub itemsNumber : Header → ℕ

@@ -20,25 +20,21 @@ use value::Shape;
 use wire_writer::store::put64;
 ghost use mathlib.Core.Path.{_≡_};
 ghost use Rattle.wire_writer.specs.Store.{laid};
-ghost use Rattle.dataset_header.specs.Flags.{valid, notValid};
+ghost use Rattle.dataset_header.specs.Flags.{valid, notValid, encodingNumber, kindNumber};
 ghost use Rattle.records.specs.Numbers.{numberBytes};
 ghost use Rattle.records.specs.Items.{has16, value16, has32, value32, given16, given32};
-ghost use Rattle.message_record.specs.Message.{encodingNumber, encodingIn, kindNumber, itemsNumber, headNumbers, cursorIn, cursorLaid, shapeNumber, elementsNumber, fieldNumbers, kindIn, headerIn};
+ghost use Rattle.message_record.specs.Message.{encodingIn, itemsNumber, headNumbers, cursorIn, cursorLaid, shapeNumber, elementsNumber, fieldNumbers, kindIn, headerIn};
 
 // Where the numbers 12 and 14 stand: the cursor's next field and its place.
 const CURSOR_NEXT: usize = 8 * 12;
 
 const CURSOR_AT: usize = 8 * 14;
 
-// An encoding's number in Flags1.
+// The number of an encoding, as in Flags1.
 pub fn encoding_number(e: Encoding) -> u64
     ensures { λ r. ⌜ r ≡ encodingNumber e ⌝ }
 {
-    match e {
-        Encoding::Variant => 0,
-        Encoding::RawData => 1,
-        Encoding::DataValue => 2,
-    }
+    dataset_header::flags::encoding_number(e) as u64
 }
 
 pub(crate) fn encoding_in(n: u64) -> Encoding
@@ -53,16 +49,11 @@ pub(crate) fn encoding_in(n: u64) -> Encoding
     Encoding::Variant
 }
 
-// A kind's number in Flags2.
+// The number of a kind, as in Flags2.
 pub fn kind_number(k: Kind) -> u64
     ensures { λ r. ⌜ r ≡ kindNumber k ⌝ }
 {
-    match k {
-        Kind::Key => 0,
-        Kind::Delta => 1,
-        Kind::Event => 2,
-        Kind::KeepAlive => 3,
-    }
+    dataset_header::flags::kind_number(k) as u64
 }
 
 fn items_number(h: Header) -> u64

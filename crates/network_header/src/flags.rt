@@ -12,18 +12,19 @@ use wire::constants::BAD_VERSION;
 use wire::constants::CUT_SHORT;
 use wire::constants::NOT_PERMITTED;
 use wire::constants::NOT_TAKEN;
+use wire_writer::store::put8;
+use wire_writer::writing::announced;
 use wire_writer::writing::flag;
 use wire_writer::writing::is_on_i64;
 use wire_writer::writing::is_on16;
-use wire_writer::writing::put_byte;
-use wire_writer::writing::put8;
+use wire_writer::writing::put_flag_byte;
 ghost use mathlib.Core.Path.{_≡_};
 ghost use Rattle.wire.specs.Answer.{ruled, whenOn};
 ghost use Rattle.wire.specs.Items.{answerByte};
 ghost use Rattle.network_header.specs.Flags.{byte0Rule, extended1Rule, extended2Rule, flagsAt, flagsOf, answerFlags, extended2Of, extended1Of, byte0Of, flagBytes, flagsFor, timesRefusal};
 ghost use Prim.Native.Nat.{_≤_};
 ghost use lib.ListN.{length};
-ghost use Rattle.wire_writer.specs.Writing.{Puts, needed};
+ghost use Rattle.wire_writer.specs.Writing.{Puts};
 
 // What the flag bytes say.
 pub struct Flags {
@@ -39,6 +40,7 @@ pub struct Flags {
     pub promoted: bool,
 }
 
+// The flag bytes with the position after them, or a refusal with its number and place.
 pub enum FlagsRead {
     Is(Flags, usize),
     Refused(u8, usize),
@@ -96,9 +98,9 @@ fn byte0(s: &[u8]) -> FlagByte
     let Item8::Is(b, next) = wire::read8(s, 0) else {
         return FlagByte::Refused(CUT_SHORT, 0);
     };
-    let n = byte0_rule(b);
-    if n != 0 {
-        return FlagByte::Refused(n, 0);
+    let number = byte0_rule(b);
+    if number != 0 {
+        return FlagByte::Refused(number, 0);
     }
     FlagByte::Is(b, next)
 }
@@ -112,9 +114,9 @@ fn extended1(s: &[u8], on: bool, publisher: bool, at: usize) -> FlagByte
     let Item8::Is(e, next) = wire::read8(s, at) else {
         return FlagByte::Refused(CUT_SHORT, at);
     };
-    let n = extended1_rule(publisher, e);
-    if n != 0 {
-        return FlagByte::Refused(n, at);
+    let number = extended1_rule(publisher, e);
+    if number != 0 {
+        return FlagByte::Refused(number, at);
     }
     FlagByte::Is(e, next)
 }
@@ -128,9 +130,9 @@ fn extended2(s: &[u8], on: bool, at: usize) -> FlagByte
     let Item8::Is(e, next) = wire::read8(s, at) else {
         return FlagByte::Refused(CUT_SHORT, at);
     };
-    let n = extended2_rule(e);
-    if n != 0 {
-        return FlagByte::Refused(n, at);
+    let number = extended2_rule(e);
+    if number != 0 {
+        return FlagByte::Refused(number, at);
     }
     FlagByte::Is(e, next)
 }
@@ -156,25 +158,15 @@ pub fn read_flags(s: &[u8]) -> FlagsRead
     ensures { λ r. ⌜ answerFlags r ≡ flagsAt (now (s .entry)) 0 ⌝ }
 {
     match byte0(s) {
-        FlagByte::Refused(n, place) => FlagsRead::Refused(n, place),
+        FlagByte::Refused(number, place) => FlagsRead::Refused(number, place),
         FlagByte::Is(b, at) => match extended1(s, b / 128 == 1, b / 16 % 2 == 1, at) {
-            FlagByte::Refused(n, place) => FlagsRead::Refused(n, place),
+            FlagByte::Refused(number, place) => FlagsRead::Refused(number, place),
             FlagByte::Is(e, at) => match extended2(s, e / 128 == 1, at) {
-                FlagByte::Refused(n, place) => FlagsRead::Refused(n, place),
+                FlagByte::Refused(number, place) => FlagsRead::Refused(number, place),
                 FlagByte::Is(f, at) => FlagsRead::Is(flags_of(b, e, f), at),
             },
         },
     }
-}
-
-// Whether a flag byte is there, as the number of the bit that announces it.
-fn need(e: u8) -> u8
-    ensures { λ r. ⌜ (r ≡ needed e) × (r ≤ 1) ⌝ }
-{
-    if e == 0 {
-        return 0;
-    }
-    1
 }
 
 fn extended2_of(f: Flags) -> u8
@@ -189,7 +181,8 @@ fn extended1_of(f: Flags) -> u8
 {
     f.kind
         + (8 * flag(f.class_id)
-            + (32 * flag(f.timestamp) + (64 * flag(f.picoseconds) + 128 * need(extended2_of(f)))))
+            + (32 * flag(f.timestamp)
+                + (64 * flag(f.picoseconds) + 128 * announced(extended2_of(f)))))
 }
 
 fn byte0_of(f: Flags) -> u8
@@ -198,29 +191,30 @@ fn byte0_of(f: Flags) -> u8
 {
     1
         + (16 * flag(f.publisher)
-            + (32 * flag(f.group) + (64 * flag(f.payload_header) + 128 * need(extended1_of(f)))))
+            + (32 * flag(f.group)
+                + (64 * flag(f.payload_header) + 128 * announced(extended1_of(f)))))
 }
 
 fn flags_for(x: Envelope) -> Flags
     ensures { λ r. ⌜ (r ≡ flagsFor x) × (r .kind ≤ 4) ⌝ }
 {
-    let p = x.publisher;
-    let g = x.group;
-    let h = x.payload_header;
-    let c = x.class_id;
-    let t = x.timestamp;
-    let o = x.picoseconds;
-    let m = x.promoted;
+    let publisher = x.publisher;
+    let group = x.group;
+    let payload_header = x.payload_header;
+    let class_id = x.class_id;
+    let timestamp = x.timestamp;
+    let picoseconds = x.picoseconds;
+    let promoted = x.promoted;
     Flags {
-        publisher: publisher_on(p),
-        group: group_on(g),
-        payload_header: payload_header_on(h),
-        kind: kind_of(p),
-        class_id: class_on(c),
-        timestamp: is_on_i64(t),
-        picoseconds: is_on16(o),
+        publisher: publisher_on(publisher),
+        group: group_on(group),
+        payload_header: payload_header_on(payload_header),
+        kind: kind_of(publisher),
+        class_id: class_on(class_id),
+        timestamp: is_on_i64(timestamp),
+        picoseconds: is_on16(picoseconds),
         chunk: x.chunk,
-        promoted: promoted_on(m),
+        promoted: promoted_on(promoted),
     }
 }
 
@@ -228,9 +222,10 @@ fn flags_length(f: Flags) -> usize
     requires { ⌜ f .kind ≤ 4 ⌝ }
     ensures { λ r. ⌜ (r ≡ length (flagBytes f)) × (r ≤ 3) ⌝ }
 {
-    1 + (need(extended1_of(f)) as usize + need(extended2_of(f)) as usize)
+    1 + (announced(extended1_of(f)) as usize + announced(extended2_of(f)) as usize)
 }
 
+// How many bytes the flags of an envelope take.
 pub fn flags_size(x: Envelope) -> usize
     ensures { λ r. ⌜ (r ≡ length (flagBytes (flagsFor x))) × (r ≤ 3) ⌝ }
 {
@@ -242,16 +237,18 @@ fn put_flag_bytes(out: &mut [u8], at: usize, f: Flags) -> usize
     ensures { λ r. ⌜ Puts (flagBytes f) (now (out .entry)) at (now (out .exit)) r ⌝ }
 {
     let first = put8(out, at, byte0_of(f));
-    let second = put_byte(out, first, extended1_of(f));
-    put_byte(out, second, extended2_of(f))
+    let second = put_flag_byte(out, first, extended1_of(f));
+    put_flag_byte(out, second, extended2_of(f))
 }
 
+// Stores the flag bytes of an envelope, and answers the position after them.
 pub fn put_flags(out: &mut [u8], at: usize, x: Envelope) -> usize
     ensures { λ r. ⌜ Puts (flagBytes (flagsFor x)) (now (out .entry)) at (now (out .exit)) r ⌝ }
 {
     put_flag_bytes(out, at, flags_for(x))
 }
 
+// The number by which reading refuses picoseconds without a timestamp, or 0.
 pub fn times_refusal(picoseconds: bool, timestamp: bool) -> u8
     ensures { λ r. ⌜ r ≡ timesRefusal picoseconds timestamp ⌝ }
 {

@@ -9,19 +9,22 @@ use wire::optional::Optional32;
 use wire::optional::Optional32Read;
 use wire::optional::read_optional16;
 use wire::optional::read_optional32;
+use wire_writer::store::put8;
 use wire_writer::writing::flag;
 use wire_writer::writing::is_on16;
 use wire_writer::writing::is_on32;
 use wire_writer::writing::put_optional16;
 use wire_writer::writing::put_optional32;
-use wire_writer::writing::put8;
+use wire_writer::writing::size16;
+use wire_writer::writing::size32;
 ghost use mathlib.Core.Path.{_≡_};
 ghost use Rattle.wire.specs.Optional.{answerOptional16};
 ghost use Rattle.network_header.specs.Group.{numberAt, groupFieldsAt, groupAt, answerGroup, numberRule, groupOn, groupFlagsOf, fieldsBytes, groupBytes, numberRefusal, groupRefusal};
 ghost use Prim.Native.Nat.{_≤_};
 ghost use lib.ListN.{length};
-ghost use Rattle.wire_writer.specs.Writing.{Puts, optional16Bytes, optional32Bytes};
+ghost use Rattle.wire_writer.specs.Writing.{Puts};
 
+// The items of a group header.
 pub struct GroupFields {
     pub writer_group: Optional16,
     pub version: Optional32,
@@ -29,17 +32,29 @@ pub struct GroupFields {
     pub sequence: Optional16,
 }
 
+// A group header, where there is one.
 pub enum GroupHeader {
     Absent,
     Is(GroupFields),
 }
 
+// A group header with the position after it, or a refusal with its number and place.
 pub enum GroupRead {
     Is(GroupHeader, usize),
     Refused(u8, usize),
 }
 
-// NetworkMessageNumber: 0 is 3.
+// The number of the rule that NetworkMessageNumber breaks, or 0: 0 is 3.
+fn number_rule(v: u16) -> u8
+    ensures { λ r. ⌜ r ≡ numberRule v ⌝ }
+{
+    if v == 0 {
+        return NOT_PERMITTED;
+    }
+    0
+}
+
+// NetworkMessageNumber, where it is there.
 fn message_number(s: &[u8], on: bool, at: usize) -> Optional16Read
     ensures { λ r. ⌜ answerOptional16 r ≡ numberAt on (now (s .entry)) at ⌝ }
 {
@@ -49,8 +64,9 @@ fn message_number(s: &[u8], on: bool, at: usize) -> Optional16Read
     let Item16::Is(v, next) = wire::read16(s, at) else {
         return Optional16Read::Refused(CUT_SHORT, at);
     };
-    if v == 0 {
-        return Optional16Read::Refused(NOT_PERMITTED, at);
+    let rule = number_rule(v);
+    if rule != 0 {
+        return Optional16Read::Refused(rule, at);
     }
     Optional16Read::Is(Optional16::Is(v), next)
 }
@@ -59,13 +75,13 @@ fn group_fields(s: &[u8], flags: u8, at: usize) -> GroupRead
     ensures { λ r. ⌜ answerGroup r ≡ groupFieldsAt flags (now (s .entry)) at ⌝ }
 {
     match read_optional16(s, flags % 2 == 1, at) {
-        Optional16Read::Refused(n, place) => GroupRead::Refused(n, place),
+        Optional16Read::Refused(number, place) => GroupRead::Refused(number, place),
         Optional16Read::Is(writer_group, at) => match read_optional32(s, flags / 2 % 2 == 1, at) {
-            Optional32Read::Refused(n, place) => GroupRead::Refused(n, place),
+            Optional32Read::Refused(number, place) => GroupRead::Refused(number, place),
             Optional32Read::Is(at, version) => match message_number(s, flags / 4 % 2 == 1, at) {
-                Optional16Read::Refused(n, place) => GroupRead::Refused(n, place),
+                Optional16Read::Refused(number, place) => GroupRead::Refused(number, place),
                 Optional16Read::Is(number, at) => match read_optional16(s, flags / 8 % 2 == 1, at) {
-                    Optional16Read::Refused(n, place) => GroupRead::Refused(n, place),
+                    Optional16Read::Refused(number, place) => GroupRead::Refused(number, place),
                     Optional16Read::Is(sequence, at) => GroupRead::Is(
                         GroupHeader::Is(GroupFields {
                             writer_group,
@@ -81,6 +97,7 @@ fn group_fields(s: &[u8], flags: u8, at: usize) -> GroupRead
     }
 }
 
+// Reads the group header, where the flags announce one.
 pub fn read_group(s: &[u8], on: bool, at: usize) -> GroupRead
     ensures { λ r. ⌜ answerGroup r ≡ groupAt on (now (s .entry)) at ⌝ }
 {
@@ -96,6 +113,7 @@ pub fn read_group(s: &[u8], on: bool, at: usize) -> GroupRead
     group_fields(s, flags, next)
 }
 
+// Whether there is a group header.
 pub(crate) fn group_on(x: GroupHeader) -> bool
     ensures { λ r. ⌜ r ≡ groupOn x ⌝ }
 {
@@ -105,44 +123,28 @@ pub(crate) fn group_on(x: GroupHeader) -> bool
     }
 }
 
-pub(crate) fn group_flags(g: GroupFields) -> u8
+fn group_flags(g: GroupFields) -> u8
     ensures { λ r. ⌜ (r ≡ groupFlagsOf g) × (r ≤ 15) ⌝ }
 {
-    let w = g.writer_group;
-    let v = g.version;
-    let n = g.number;
-    let q = g.sequence;
-    flag(is_on16(w)) + (2 * flag(is_on32(v)) + (4 * flag(is_on16(n)) + 8 * flag(is_on16(q))))
+    let writer_group = g.writer_group;
+    let version = g.version;
+    let number = g.number;
+    let sequence = g.sequence;
+    flag(is_on16(writer_group))
+        + (2 * flag(is_on32(version)) + (4 * flag(is_on16(number)) + 8 * flag(is_on16(sequence))))
 }
 
-pub fn size16(x: Optional16) -> usize
-    ensures { λ r. ⌜ (r ≡ length (optional16Bytes x)) × (r ≤ 2) ⌝ }
-{
-    match x {
-        Optional16::Absent => 0,
-        Optional16::Is(_) => 2,
-    }
-}
-
-pub(crate) fn size32(x: Optional32) -> usize
-    ensures { λ r. ⌜ (r ≡ length (optional32Bytes x)) × (r ≤ 4) ⌝ }
-{
-    match x {
-        Optional32::Absent => 0,
-        Optional32::Is(_) => 4,
-    }
-}
-
-pub(crate) fn fields_size(g: GroupFields) -> usize
+fn fields_size(g: GroupFields) -> usize
     ensures { λ r. ⌜ (r ≡ length (fieldsBytes g)) × (r ≤ 10) ⌝ }
 {
-    let w = g.writer_group;
-    let v = g.version;
-    let n = g.number;
-    let q = g.sequence;
-    size16(w) + (size32(v) + (size16(n) + size16(q)))
+    let writer_group = g.writer_group;
+    let version = g.version;
+    let number = g.number;
+    let sequence = g.sequence;
+    size16(writer_group) + (size32(version) + (size16(number) + size16(sequence)))
 }
 
+// How many bytes a group header takes.
 pub fn group_size(x: GroupHeader) -> usize
     ensures { λ r. ⌜ (r ≡ length (groupBytes x)) × (r ≤ 11) ⌝ }
 {
@@ -152,19 +154,20 @@ pub fn group_size(x: GroupHeader) -> usize
     }
 }
 
-pub(crate) fn put_fields(out: &mut [u8], at: usize, g: GroupFields) -> usize
+fn put_fields(out: &mut [u8], at: usize, g: GroupFields) -> usize
     ensures { λ r. ⌜ Puts (fieldsBytes g) (now (out .entry)) at (now (out .exit)) r ⌝ }
 {
-    let w = g.writer_group;
-    let v = g.version;
-    let n = g.number;
-    let q = g.sequence;
-    let after_group = put_optional16(out, at, w);
-    let after_version = put_optional32(out, after_group, v);
-    let after_number = put_optional16(out, after_version, n);
-    put_optional16(out, after_number, q)
+    let writer_group = g.writer_group;
+    let version = g.version;
+    let number = g.number;
+    let sequence = g.sequence;
+    let after_group = put_optional16(out, at, writer_group);
+    let after_version = put_optional32(out, after_group, version);
+    let after_number = put_optional16(out, after_version, number);
+    put_optional16(out, after_number, sequence)
 }
 
+// Stores a group header, and answers the position after it.
 pub fn put_group(out: &mut [u8], at: usize, x: GroupHeader) -> usize
     ensures { λ r. ⌜ Puts (groupBytes x) (now (out .entry)) at (now (out .exit)) r ⌝ }
 {
@@ -177,16 +180,7 @@ pub fn put_group(out: &mut [u8], at: usize, x: GroupHeader) -> usize
     }
 }
 
-pub(crate) fn number_rule(v: u16) -> u8
-    ensures { λ r. ⌜ r ≡ numberRule v ⌝ }
-{
-    if v == 0 {
-        return NOT_PERMITTED;
-    }
-    0
-}
-
-pub(crate) fn number_refusal(x: Optional16) -> u8
+fn number_refusal(x: Optional16) -> u8
     ensures { λ r. ⌜ r ≡ numberRefusal x ⌝ }
 {
     match x {
@@ -195,14 +189,15 @@ pub(crate) fn number_refusal(x: Optional16) -> u8
     }
 }
 
+// The number by which reading refuses a group header, or 0.
 pub fn group_refusal(x: GroupHeader) -> u8
     ensures { λ r. ⌜ r ≡ groupRefusal x ⌝ }
 {
     match x {
         GroupHeader::Absent => 0,
         GroupHeader::Is(g) => {
-            let n = g.number;
-            number_refusal(n)
+            let number = g.number;
+            number_refusal(number)
         }
     }
 }

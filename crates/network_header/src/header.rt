@@ -7,13 +7,11 @@ use wire::ItemGuid;
 use wire::Run;
 use wire::constants::CUT_SHORT;
 use wire::constants::DISAGREE;
-use wire_writer::writing::must_equal;
-use wire_writer::writing::must_hold;
-use wire_writer::writing::not_used;
-use wire_writer::writing::put_guid;
-use wire_writer::writing::put_run;
-use wire_writer::writing::put8;
-use wire_writer::writing::put16;
+use wire_writer::store::put_guid;
+use wire_writer::store::put_run;
+use wire_writer::store::put8;
+use wire_writer::store::put16;
+use wire_writer::writing::six_unless;
 ghost use mathlib.Core.Path.{_≡_};
 ghost use Rattle.network_header.specs.Header.{classAt, payloadHeaderAt, idsAt, promotedAt, answerClass, answerPayloadHeader, answerPromoted, countRule, classOn, classBytes, payloadHeaderOn, payloadHeaderBytes, promotedOn, promotedBytes, countRefusal, promotedRefusal, idsShape, promotedShape};
 ghost use mathlib.Core.Bool.{cond};
@@ -29,6 +27,7 @@ pub enum ClassId {
     Is(Guid),
 }
 
+// A DataSetClassId with the position after it, or a refusal with its number and place.
 pub enum ClassRead {
     Is(ClassId, usize),
     Refused(u8, usize),
@@ -41,6 +40,7 @@ pub enum PayloadHeader {
     Chunk(u16),
 }
 
+// A PayloadHeader with the position after it, or a refusal with its number and place.
 pub enum PayloadHeaderRead {
     Is(PayloadHeader, usize),
     Refused(u8, usize),
@@ -52,11 +52,13 @@ pub enum Promoted {
     Size(usize),
 }
 
+// Promoted fields with the position after them, or a refusal with its number and place.
 pub enum PromotedRead {
     Is(Promoted, usize),
     Refused(u8, usize),
 }
 
+// Reads the DataSetClassId, where the flags announce one.
 pub fn read_class_id(s: &[u8], on: bool, at: usize) -> ClassRead
     ensures { λ r. ⌜ answerClass r ≡ classAt on (now (s .entry)) at ⌝ }
 {
@@ -69,14 +71,25 @@ pub fn read_class_id(s: &[u8], on: bool, at: usize) -> ClassRead
     ClassRead::Is(ClassId::Is(v), next)
 }
 
+// The number of the rule that Count breaks, or 0.
+fn count_rule(n: u8) -> u8
+    ensures { λ r. ⌜ r ≡ countRule n ⌝ }
+{
+    if n == 0 {
+        return DISAGREE;
+    }
+    0
+}
+
 fn ids(s: &[u8], at: usize) -> PayloadHeaderRead
     ensures { λ r. ⌜ answerPayloadHeader r ≡ idsAt (now (s .entry)) at ⌝ }
 {
     let Item8::Is(count, start) = wire::read8(s, at) else {
         return PayloadHeaderRead::Refused(CUT_SHORT, at);
     };
-    if count == 0 {
-        return PayloadHeaderRead::Refused(DISAGREE, at);
+    let number = count_rule(count);
+    if number != 0 {
+        return PayloadHeaderRead::Refused(number, at);
     }
     let Run::To(next) = wire::skip(s, start, 2 * (count as usize)) else {
         return PayloadHeaderRead::Refused(CUT_SHORT, start);
@@ -84,6 +97,7 @@ fn ids(s: &[u8], at: usize) -> PayloadHeaderRead
     PayloadHeaderRead::Is(PayloadHeader::Ids(count), next)
 }
 
+// Reads the PayloadHeader, where the flags announce one; a chunk has one writer id.
 pub fn read_payload_header(s: &[u8], on: bool, chunk: bool, at: usize) -> PayloadHeaderRead
     ensures { λ r. ⌜ answerPayloadHeader r ≡ payloadHeaderAt on chunk (now (s .entry)) at ⌝ }
 {
@@ -119,6 +133,7 @@ pub fn read_promoted(s: &[u8], on: bool, messages: usize, at: usize) -> Promoted
     PromotedRead::Is(Promoted::Size(size), next)
 }
 
+// Whether there is a DataSetClassId.
 pub(crate) fn class_on(x: ClassId) -> bool
     ensures { λ r. ⌜ r ≡ classOn x ⌝ }
 {
@@ -128,6 +143,7 @@ pub(crate) fn class_on(x: ClassId) -> bool
     }
 }
 
+// How many bytes a DataSetClassId takes.
 pub fn class_size(x: ClassId) -> usize
     ensures { λ r. ⌜ (r ≡ length (classBytes x)) × (r ≤ 16) ⌝ }
 {
@@ -137,6 +153,7 @@ pub fn class_size(x: ClassId) -> usize
     }
 }
 
+// Stores a DataSetClassId, and answers the position after it.
 pub fn put_class(out: &mut [u8], at: usize, x: ClassId) -> usize
     ensures { λ r. ⌜ Puts (classBytes x) (now (out .entry)) at (now (out .exit)) r ⌝ }
 {
@@ -146,6 +163,7 @@ pub fn put_class(out: &mut [u8], at: usize, x: ClassId) -> usize
     }
 }
 
+// Whether there is a PayloadHeader.
 pub(crate) fn payload_header_on(x: PayloadHeader) -> bool
     ensures { λ r. ⌜ r ≡ payloadHeaderOn x ⌝ }
 {
@@ -156,6 +174,7 @@ pub(crate) fn payload_header_on(x: PayloadHeader) -> bool
     }
 }
 
+// How many bytes a PayloadHeader with these ids takes.
 pub fn payload_header_size(x: PayloadHeader, ids: &[u8]) -> usize
     ensures { λ r. ⌜ (r ≡ length (payloadHeaderBytes (now (ids .entry)) x)) × (r ≤ length (now (ids .entry)) + 2) ⌝ }
 {
@@ -166,6 +185,7 @@ pub fn payload_header_size(x: PayloadHeader, ids: &[u8]) -> usize
     }
 }
 
+// Stores a PayloadHeader with these ids, and answers the position after it.
 pub fn put_payload_header(out: &mut [u8], at: usize, x: PayloadHeader, ids: &[u8]) -> usize
     ensures { λ r. ⌜ Puts (payloadHeaderBytes (now (ids .entry)) x) (now (out .entry)) at (now (out .exit)) r ⌝ }
 {
@@ -179,6 +199,7 @@ pub fn put_payload_header(out: &mut [u8], at: usize, x: PayloadHeader, ids: &[u8
     }
 }
 
+// Whether there are promoted fields.
 pub(crate) fn promoted_on(x: Promoted) -> bool
     ensures { λ r. ⌜ r ≡ promotedOn x ⌝ }
 {
@@ -188,6 +209,7 @@ pub(crate) fn promoted_on(x: Promoted) -> bool
     }
 }
 
+// How many bytes promoted fields take, with their size.
 pub fn promoted_size(x: Promoted, bytes: &[u8]) -> usize
     ensures { λ r. ⌜ (r ≡ length (promotedBytes (now (bytes .entry)) x)) × (r ≤ length (now (bytes .entry)) + 2) ⌝ }
 {
@@ -197,6 +219,7 @@ pub fn promoted_size(x: Promoted, bytes: &[u8]) -> usize
     }
 }
 
+// Stores promoted fields with their size, and answers the position after them.
 pub fn put_promoted(out: &mut [u8], at: usize, x: Promoted, bytes: &[u8]) -> usize
     ensures { λ r. ⌜ Puts (promotedBytes (now (bytes .entry)) x) (now (out .entry)) at (now (out .exit)) r ⌝ }
 {
@@ -210,15 +233,7 @@ pub fn put_promoted(out: &mut [u8], at: usize, x: Promoted, bytes: &[u8]) -> usi
     }
 }
 
-fn count_rule(n: u8) -> u8
-    ensures { λ r. ⌜ r ≡ countRule n ⌝ }
-{
-    if n == 0 {
-        return DISAGREE;
-    }
-    0
-}
-
+// The number by which reading refuses a PayloadHeader, or 0.
 pub fn count_refusal(x: PayloadHeader) -> u8
     ensures { λ r. ⌜ r ≡ countRefusal x ⌝ }
 {
@@ -229,39 +244,31 @@ pub fn count_refusal(x: PayloadHeader) -> u8
     }
 }
 
-// The number of messages must be one.
-fn one_message(messages: usize) -> u8
-    ensures { λ r. ⌜ r ≡ cond (eqb messages 1) 0 DISAGREE ⌝ }
-{
-    if messages == 1 {
-        return 0;
-    }
-    DISAGREE
-}
-
+// The number by which reading refuses promoted fields of so many messages, or 0.
 pub fn promoted_refusal(x: Promoted, messages: usize) -> u8
     ensures { λ r. ⌜ r ≡ promotedRefusal x messages ⌝ }
 {
     match x {
         Promoted::Absent => 0,
-        Promoted::Size(_) => one_message(messages),
+        Promoted::Size(_) => six_unless(messages == 1),
     }
 }
 
+// 6 where these ids would read back otherwise, else 0: with a PayloadHeader as many as its Count, without one the configured ones.
 pub fn ids_shape(chunk: bool, x: PayloadHeader, ids: &[u8], configured: &[u16]) -> u8
     ensures { λ r. ⌜ r ≡ idsShape chunk x (now (ids .entry)) (now (configured .entry)) ⌝ }
 {
     match x {
-        PayloadHeader::Absent => must_hold(same_numbers(ids, configured)),
+        PayloadHeader::Absent => six_unless(same_numbers(ids, configured)),
         PayloadHeader::Ids(n) => {
             if chunk {
                 return DISAGREE;
             }
-            must_equal(ids.len(), 2 * (n as usize))
+            six_unless(ids.len() == 2 * (n as usize))
         }
         PayloadHeader::Chunk(_) => {
             if chunk {
-                return not_used(ids.len());
+                return six_unless(ids.len() == 0);
             }
             DISAGREE
         }
@@ -275,14 +282,15 @@ fn size_shape(n: usize, len: usize) -> u8
     if 65536 <= n {
         return DISAGREE;
     }
-    must_equal(n, len)
+    six_unless(n == len)
 }
 
+// 6 where promoted fields of this length would read back otherwise, else 0.
 pub fn promoted_shape(x: Promoted, len: usize) -> u8
     ensures { λ r. ⌜ r ≡ promotedShape x len ⌝ }
 {
     match x {
-        Promoted::Absent => not_used(len),
+        Promoted::Absent => six_unless(len == 0),
         Promoted::Size(n) => size_shape(n, len),
     }
 }

@@ -47,22 +47,26 @@ pub struct Identity {
     pub group: GroupHeader,
 }
 
+// The first parts of an envelope with the position after them, or a refusal with its number and place.
 pub enum IdentityRead {
     Is(Identity, usize),
     Refused(u8, usize),
 }
 
+// The last parts of an envelope.
 pub struct Times {
     pub timestamp: OptionalI64,
     pub picoseconds: Optional16,
     pub promoted: Promoted,
 }
 
+// The last parts with the position after them, or a refusal with its number and place.
 pub enum TimesRead {
     Is(Times, usize),
     Refused(u8, usize),
 }
 
+// An envelope with its places, or a refusal with its number and place.
 pub enum HeaderRead {
     Is(Envelope, Places),
     Refused(u8, usize),
@@ -78,15 +82,15 @@ fn read_identity(s: &[u8], flags: Flags, at: usize) -> IdentityRead
     ensures { λ r. ⌜ answerIdentity r ≡ identityAt flags (now (s .entry)) at ⌝ }
 {
     match read_publisher(s, flags.publisher, flags.kind, at) {
-        PublisherRead::Refused(n, place) => IdentityRead::Refused(n, place),
+        PublisherRead::Refused(number, place) => IdentityRead::Refused(number, place),
         PublisherRead::Is(publisher, publisher_end) => match read_class_id(
             s,
             flags.class_id,
             publisher_end,
         ) {
-            ClassRead::Refused(n, place) => IdentityRead::Refused(n, place),
+            ClassRead::Refused(number, place) => IdentityRead::Refused(number, place),
             ClassRead::Is(class_id, at) => match read_group(s, flags.group, at) {
-                GroupRead::Refused(n, place) => IdentityRead::Refused(n, place),
+                GroupRead::Refused(number, place) => IdentityRead::Refused(number, place),
                 GroupRead::Is(group, at) => IdentityRead::Is(
                     Identity {
                         publisher,
@@ -105,16 +109,16 @@ fn read_times(s: &[u8], flags: Flags, messages: usize, at: usize) -> TimesRead
     ensures { λ r. ⌜ answerTimes r ≡ timesAt flags messages (now (s .entry)) at ⌝ }
 {
     match read_optional_i64(s, flags.timestamp, at) {
-        OptionalI64Read::Refused(n, place) => TimesRead::Refused(n, place),
+        OptionalI64Read::Refused(number, place) => TimesRead::Refused(number, place),
         OptionalI64Read::Is(timestamp, at) => match read_picoseconds(s, flags.picoseconds, at) {
-            Optional16Read::Refused(n, place) => TimesRead::Refused(n, place),
+            Optional16Read::Refused(number, place) => TimesRead::Refused(number, place),
             Optional16Read::Is(picoseconds, at) => match read_promoted(
                 s,
                 flags.promoted,
                 messages,
                 at,
             ) {
-                PromotedRead::Refused(n, place) => TimesRead::Refused(n, place),
+                PromotedRead::Refused(number, place) => TimesRead::Refused(number, place),
                 PromotedRead::Is(promoted, at) => TimesRead::Is(
                     Times {
                         timestamp,
@@ -167,21 +171,21 @@ fn read_header(s: &[u8], flags: Flags, configured: usize, at: usize) -> HeaderRe
     ensures { λ r. ⌜ answerHeader r ≡ headerAt flags configured (now (s .entry)) at ⌝ }
 {
     match read_identity(s, flags, at) {
-        IdentityRead::Refused(n, place) => HeaderRead::Refused(n, place),
+        IdentityRead::Refused(number, place) => HeaderRead::Refused(number, place),
         IdentityRead::Is(i, at) => match read_payload_header(
             s,
             flags.payload_header,
             flags.chunk,
             at,
         ) {
-            PayloadHeaderRead::Refused(n, place) => HeaderRead::Refused(n, place),
+            PayloadHeaderRead::Refused(number, place) => HeaderRead::Refused(number, place),
             PayloadHeaderRead::Is(header, payload_header_end) => match read_times(
                 s,
                 flags,
                 messages_of(flags.chunk, header, configured),
                 payload_header_end,
             ) {
-                TimesRead::Refused(n, place) => HeaderRead::Refused(n, place),
+                TimesRead::Refused(number, place) => HeaderRead::Refused(number, place),
                 TimesRead::Is(t, at) => HeaderRead::Is(
                     envelope_of(flags, i, header, t),
                     Places {
@@ -213,7 +217,7 @@ fn with_rest(s: &[u8], envelope: Envelope, places: Places) -> NetworkMessageRead
         (λ p next. got (record { envelope = envelope; places = places; payload = p }) next) ⌝ }
 {
     match rest(s, places.payload) {
-        PayloadRead::Refused(n, place) => NetworkMessageRead::Refused(n, place),
+        PayloadRead::Refused(number, place) => NetworkMessageRead::Refused(number, place),
         PayloadRead::Is(payload) => NetworkMessageRead::Is(envelope, places, payload),
     }
 }
@@ -230,7 +234,7 @@ fn with_payload(s: &[u8], envelope: Envelope, places: Places, sizes: &[u16]) -> 
         return with_rest(s, envelope, places);
     }
     match read_payload(&*s, envelope.chunk, header, &*sizes, places.payload) {
-        PayloadRead::Refused(n, place) => NetworkMessageRead::Refused(n, place),
+        PayloadRead::Refused(number, place) => NetworkMessageRead::Refused(number, place),
         PayloadRead::Is(payload) => NetworkMessageRead::Is(envelope, places, payload),
     }
 }
@@ -239,7 +243,7 @@ fn read_body(s: &[u8], flags: Flags, sizes: &[u16], at: usize) -> NetworkMessage
     ensures { λ r. ⌜ answerNetworkMessage r ≡ bodyAt flags (now (sizes .entry)) (now (s .entry)) at ⌝ }
 {
     match read_header(s, flags, writers(sizes), at) {
-        HeaderRead::Refused(n, place) => NetworkMessageRead::Refused(n, place),
+        HeaderRead::Refused(number, place) => NetworkMessageRead::Refused(number, place),
         HeaderRead::Is(envelope, places) => with_payload(s, envelope, places, sizes),
     }
 }
@@ -252,7 +256,7 @@ pub fn read(s: &[u8], sizes: &[u16]) -> NetworkMessageRead
         return NetworkMessageRead::Refused(OVER_LIMIT, 0);
     }
     match read_flags(s) {
-        FlagsRead::Refused(n, place) => NetworkMessageRead::Refused(n, place),
+        FlagsRead::Refused(number, place) => NetworkMessageRead::Refused(number, place),
         FlagsRead::Is(flags, at) => read_body(s, flags, sizes, at),
     }
 }
@@ -262,7 +266,7 @@ pub fn message_place(s: &[u8], sizes: &[u16], k: usize) -> MessageRead
     ensures { λ r. ⌜ answerMessage r ≡ messagePlaceAt (now (sizes .entry)) k (now (s .entry)) ⌝ }
 {
     match read(s, sizes) {
-        NetworkMessageRead::Refused(n, place) => MessageRead::Refused(n, place),
+        NetworkMessageRead::Refused(number, place) => MessageRead::Refused(number, place),
         NetworkMessageRead::Is(_, _, payload) => nth(s, payload, sizes, k),
     }
 }

@@ -1,5 +1,6 @@
 // The payload: where its DataSetMessages stand.
 use network_header::header::PayloadHeader;
+use network_header::numbers::number_at;
 use network_header::numbers::writers;
 use wire::Item16;
 use wire::Run;
@@ -30,30 +31,20 @@ pub struct Payload {
     pub first: usize,
 }
 
+// The messages of a payload, or a refusal with its number and place.
 pub enum PayloadRead {
     Is(Payload),
     Refused(u8, usize),
 }
 
 // The sum of some sizes, and whether each is at least 1.
-struct Tally {
-    total: usize,
-    positive: bool,
+pub struct Tally {
+    pub total: usize,
+    pub positive: bool,
 }
 
-// The size at a position.
-fn size_at(s: &[u8], at: usize) -> usize
-    requires { ⌜ at + 2 ≤ length (now s) ⌝ }
-    ensures { λ r. ⌜ (r ≡ le 2 (now (s .entry)) at) × (r ≤ 65535) ⌝ }
-{
-    match wire::read16(s, at) {
-        Item16::Is(v, _) => v as usize,
-        Item16::Short => 0,
-    }
-}
-
-// The n sizes from a position.
-fn tally_listed(s: &[u8], at: usize, n: usize) -> Tally
+// The sum of the n sizes that stand from a position on, and whether each is at least 1.
+pub fn tally_listed(s: &[u8], at: usize, n: usize) -> Tally
     requires { ⌜ (at + 2 * n ≤ length (now s)) × (n ≤ 255) ⌝ }
     ensures { λ r.
         let sizes = listed n (now (s .entry)) at in
@@ -64,9 +55,9 @@ fn tally_listed(s: &[u8], at: usize, n: usize) -> Tally
     let mut sum = 0;
     let mut each = true;
     while 0 < left {
-        let z = size_at(s, p);
-        sum = sum + z;
-        each = each & (0 < z);
+        let size = number_at(s, p);
+        sum = sum + size;
+        each = each & (0 < size);
         p = p + 2;
         left = left - 1;
     }
@@ -87,9 +78,9 @@ fn tally_configured(sizes: &[u16], n: usize) -> Tally
     let mut sum = 0;
     let mut each = true;
     while i < n {
-        let z = sizes[i] as usize;
-        sum = sum + z;
-        each = each & (0 < z);
+        let size = sizes[i] as usize;
+        sum = sum + size;
+        each = each & (0 < size);
         i = i + 1;
     }
     Tally {
@@ -98,6 +89,7 @@ fn tally_configured(sizes: &[u16], n: usize) -> Tally
     }
 }
 
+// One message that takes the rest; 1 where nothing is left.
 pub(crate) fn rest(s: &[u8], at: usize) -> PayloadRead
     ensures { λ r. ⌜ answerPayload r ≡ restAt (now (s .entry)) at ⌝ }
 {
@@ -118,12 +110,12 @@ fn listed_sizes(s: &[u8], n: u8, at: usize) -> PayloadRead
     if !wire::has(s.len(), at, 2 * count) {
         return PayloadRead::Refused(CUT_SHORT, at);
     }
-    let t = tally_listed(s, at, count);
-    if !t.positive {
+    let tally = tally_listed(s, at, count);
+    if !tally.positive {
         return PayloadRead::Refused(DISAGREE, at);
     }
     let first = at + 2 * count;
-    if t.total != s.len() - first {
+    if tally.total != s.len() - first {
         return PayloadRead::Refused(DISAGREE, at);
     }
     PayloadRead::Is(Payload {
@@ -157,9 +149,9 @@ fn configured_sizes(s: &[u8], sizes: &[u16], at: usize) -> PayloadRead
     if n == 0 {
         return PayloadRead::Refused(NOT_CONFIGURED, 0);
     }
-    let t = tally_configured(sizes, n);
-    if t.positive {
-        return sized(s, n, t.total, at);
+    let tally = tally_configured(sizes, n);
+    if tally.positive {
+        return sized(s, n, tally.total, at);
     }
     if n == 1 {
         return rest(s, at);
@@ -205,6 +197,7 @@ pub struct MessagePlace {
     pub length: usize,
 }
 
+// The place of a message, or a refusal with its number and place.
 pub enum MessageRead {
     Is(MessagePlace, usize),
     Refused(u8, usize),
@@ -216,6 +209,7 @@ pub struct MessageCursor {
     pub at: usize,
 }
 
+// The place of a message with the cursor after it, or a refusal with its number and place.
 pub enum MessageStep {
     Is(MessagePlace, MessageCursor),
     Refused(u8, usize),
@@ -231,7 +225,7 @@ fn listed_size(s: &[u8], p: usize, k: usize) -> usize
     if (s.len() - p) / 2 <= k {
         return 0;
     }
-    size_at(s, p + 2 * k)
+    number_at(s, p + 2 * k)
 }
 
 // The k-th configured size, 0 where there is none.
@@ -283,7 +277,7 @@ impl MessageCursor {
     {
         let k = self.index;
         match message_at(s, p, sizes, k, self.at) {
-            MessageRead::Refused(n, place) => MessageStep::Refused(n, place),
+            MessageRead::Refused(number, place) => MessageStep::Refused(number, place),
             MessageRead::Is(m, next) => MessageStep::Is(
                 m,
                 MessageCursor {
@@ -303,8 +297,8 @@ pub fn nth(s: &[u8], p: Payload, sizes: &[u16], k: usize) -> MessageRead
     let mut i = 0;
     while i < k {
         match message_at(s, p, sizes, i, at) {
-            MessageRead::Refused(n, place) => {
-                return MessageRead::Refused(n, place);
+            MessageRead::Refused(number, place) => {
+                return MessageRead::Refused(number, place);
             }
             MessageRead::Is(_, next) => {
                 at = next;

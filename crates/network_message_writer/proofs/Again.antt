@@ -18,7 +18,7 @@ use Rattle.network_header.specs.declared.envelope.Envelope.{Envelope}
 use Rattle.network_header.specs.declared.envelope.Places.{Places}
 use Rattle.network_message.specs.Envelope.{NetworkMessage, networkMessageAt}
 use Rattle.wire_writer.specs.declared.writing.Written.{Written}
-use Rattle.wire_writer.proofs.Answering.{Answers}
+use Rattle.wire_writer.specs.Writing.{Writes, writing}
 use Rattle.network_message_writer.specs.Envelope.{headerBytes, before, textOf, idsOf, promotedOf, againOf}
 
 pub drop-short : (s : List ℕ) (at k : ℕ) → length s ≤ k → length (drop at s) ≤ k
@@ -52,11 +52,11 @@ accepted-short sizes s m n e = go (ltb 65535 (length s)) refl
     go true t = absurd (not-got (rw t at e))
     go false t = ltb-false 65535 (length s) t
 
--- the answer for the parts is the answer for the datagram
-pub again-answers : (s : List ℕ) (x : Envelope) (places : Places) (out : List ℕ) (w : Written) (exit text ids promoted payload : List ℕ)
+-- what is written of the parts is what is written of the datagram
+pub again-writes : (s : List ℕ) (x : Envelope) (places : Places) (out : List ℕ) (w : Written) (exit text ids promoted payload : List ℕ)
     → text ≡ textOf s (x .publisher) (places .«publisher_end») → ids ≡ idsOf s (x .«payload_header») (places .«payload_header_end»)
     → promoted ≡ promotedOf s (x .promoted) (places .payload) → payload ≡ drop (places .payload) s
-    → Answers 0 (headerBytes text ids promoted x ++ payload) out w exit → Answers 0 (againOf s x places) out w exit
-again-answers s x places out w exit text ids promoted payload a b c d h =
+    → Writes (writing (headerBytes text ids promoted x ++ payload)) out exit w → Writes (writing (againOf s x places)) out exit w
+again-writes s x places out w exit text ids promoted payload a b c d h =
     let e : headerBytes text ids promoted x ++ payload ≡ againOf s x places = rw (a, b, c, d) in
-    subst (λ (l : List ℕ). Answers 0 l out w exit) e h
+    subst (λ (l : List ℕ). Writes (writing l) out exit w) e h

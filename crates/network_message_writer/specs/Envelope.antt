@@ -2,15 +2,14 @@
 use Prim.Native.Nat.{ℕ, _-_, _*_}
 use mathlib.Core.List.{List, [], _++_}
 use lib.ListN.{length, take, drop}
-use Rattle.wire.specs.Answer.{Answer, got, refused}
 use Rattle.publisher_id.specs.declared.publisher.PublisherId.{PublisherId}
 use Rattle.network_header.specs.declared.header.PayloadHeader.{PayloadHeader}
 use Rattle.network_header.specs.declared.header.Promoted.{Promoted}
 use Rattle.network_header.specs.declared.envelope.Envelope.{Envelope}
 use Rattle.network_header.specs.declared.envelope.Places.{Places}
 use Rattle.network_header.specs.Numbers.{configuredSizes}
-use Rattle.network_message.specs.Envelope.{NetworkMessage, messagesOf}
-use Rattle.wire_writer.specs.Writing.{orElse, on16, onI64, optional16Bytes, optionalI64Bytes, picosecondsRefusal, numberFor, bufferBy, answerBy}
+use Rattle.network_message.specs.Envelope.{networkMessageAt, messagesOf}
+use Rattle.wire_writer.specs.Writing.{orElse, on16, onI64, optional16Bytes, optionalI64Bytes, picosecondsRefusal, Output, writing, unless, afterReading}
 use Rattle.network_header.specs.Flags.{flagBytes, flagsFor, timesRefusal}
 use Rattle.publisher_id.specs.Publisher.{publisherBytes, publisherRefusal, publisherShape}
 use Rattle.network_header.specs.Group.{groupBytes, groupRefusal}
@@ -69,16 +68,9 @@ shapeRefusal g x sizes configured =
 abbrev pub refusalOf : Given → Envelope → List ℕ → List ℕ → ℕ
 refusalOf g x sizes configured = orElse (readingRefusal g x sizes) (shapeRefusal g x sizes configured)
 
--- the number of writing into a buffer of a length: 0 is done
-abbrev pub numberOf : Given → Envelope → List ℕ → List ℕ → ℕ → ℕ
-numberOf g x sizes configured room = numberFor (refusalOf g x sizes configured) (length (datagramOf g x)) room
-
--- what writing answers, and the buffer afterwards: on success the datagram and then the buffer's own rest
-abbrev pub writtenOf : Given → Envelope → List ℕ → List ℕ → ℕ → Answer (Unit {0})
-writtenOf g x sizes configured room = answerBy (numberOf g x sizes configured room) (datagramOf g x)
-
-abbrev pub bufferAfter : Given → Envelope → List ℕ → List ℕ → List ℕ → List ℕ
-bufferAfter g x sizes configured out = bufferBy (numberOf g x sizes configured (length out)) (datagramOf g x) out
+-- what is written of a datagram given: its bytes, unless it is refused
+abbrev pub datagramOutput : Given → Envelope → List ℕ → List ℕ → Output
+datagramOutput g x sizes configured = unless (refusalOf g x sizes configured) (datagramOf g x)
 
 -- Rewriting: the parts of a datagram as reading found them.
 
@@ -110,11 +102,6 @@ againOf s x p =
     (promotedOf s (x .promoted) (p .payload)) x
     ++ drop (p .payload) s
 
--- what rewriting answers and leaves in the buffer: reading's refusal, else the datagram written again, or 11
-abbrev pub rewriteAnswer : List ℕ → Answer NetworkMessage → ℕ → Answer (Unit {0})
-rewriteAnswer s (got m next) room = answerBy (numberFor 0 (length (againOf s (m .envelope) (m .places))) room) (againOf s (m .envelope) (m .places))
-rewriteAnswer s (refused n place) room = refused n 0
-
-abbrev pub rewriteBuffer : List ℕ → Answer NetworkMessage → List ℕ → List ℕ
-rewriteBuffer s (got m next) out = bufferBy (numberFor 0 (length (againOf s (m .envelope) (m .places))) (length out)) (againOf s (m .envelope) (m .places)) out
-rewriteBuffer s (refused n place) out = out
+-- what is written of a datagram read: reading's refusal is the writer's, else its parts again
+abbrev pub datagramAgain : List ℕ → List ℕ → Output
+datagramAgain sizes s = afterReading (networkMessageAt sizes s) (λ m. writing (againOf s (m .envelope) (m .places)))

@@ -11,7 +11,6 @@ use network_header::flags::times_refusal;
 use network_header::group::group_refusal;
 use network_header::group::group_size;
 use network_header::group::put_group;
-use network_header::group::size16;
 use network_header::header::PayloadHeader;
 use network_header::header::Promoted;
 use network_header::header::class_size;
@@ -33,12 +32,9 @@ use publisher_id::publisher::publisher_refusal;
 use publisher_id::publisher::publisher_shape;
 use publisher_id::publisher::publisher_size;
 use publisher_id::publisher::put_publisher;
-use wire::constants::MOST_DATAGRAM;
-use wire::constants::NO_ROOM;
-use wire::constants::OVER_LIMIT;
-use wire::optional::OptionalI64;
 use wire::part::part;
 use wire::part::tail;
+use wire_writer::store::put_run;
 use wire_writer::writing::Written;
 use wire_writer::writing::is_on_i64;
 use wire_writer::writing::is_on16;
@@ -46,73 +42,72 @@ use wire_writer::writing::or_else;
 use wire_writer::writing::picoseconds_refusal;
 use wire_writer::writing::put_optional_i64;
 use wire_writer::writing::put_optional16;
-use wire_writer::writing::put_run;
+use wire_writer::writing::room_refusal;
+use wire_writer::writing::size_i64;
+use wire_writer::writing::size16;
 ghost use mathlib.Core.Path.{_≡_};
 ghost use mathlib.Core.List.{[], _++_};
 ghost use Prim.Native.Nat.{_≤_};
 ghost use lib.ListN.{length};
-ghost use Rattle.network_message.specs.Envelope.{networkMessageAt};
 ghost use Rattle.network_header.specs.Numbers.{configuredSizes};
-ghost use Rattle.wire_writer.specs.Writing.{Puts, numberFor, writtenBy, bufferBy, answerWritten, optionalI64Bytes};
+ghost use Rattle.wire_writer.specs.Writing.{Puts, Writes, writing};
 ghost use Rattle.network_message_writer.specs.Payload.{payloadRefusal};
-ghost use Rattle.network_message_writer.specs.Envelope.{given, tailBytes, headerBytes, datagramOf, headerRefusal, shapeRefusal, writtenOf, bufferAfter, textOf, idsOf, promotedOf, againOf, rewriteAnswer, rewriteBuffer};
+ghost use Rattle.network_message_writer.specs.Envelope.{given, tailBytes, headerBytes, datagramOf, headerRefusal, shapeRefusal, datagramOutput, textOf, idsOf, promotedOf, againOf, datagramAgain};
 ghost use Rattle.wire.specs.Constants.{MOST_DATAGRAM};
-
-fn timestamp_size(x: OptionalI64) -> usize
-    ensures { λ r. ⌜ (r ≡ length (optionalI64Bytes x)) × (r ≤ 8) ⌝ }
-{
-    match x {
-        OptionalI64::Absent => 0,
-        OptionalI64::Is(_) => 8,
-    }
-}
 
 fn tail_size(x: Envelope, ids: &[u8], promoted: &[u8]) -> usize
     requires { ⌜ (length (now ids) ≤ MOST_DATAGRAM) × (length (now promoted) ≤ MOST_DATAGRAM) ⌝ }
     ensures { λ r. ⌜ (r ≡ length (tailBytes (now (ids .entry)) (now (promoted .entry)) x)) × (r ≤ 131090) ⌝ }
 {
-    let h = x.payload_header;
-    let t = x.timestamp;
-    let o = x.picoseconds;
-    let m = x.promoted;
-    payload_header_size(h, ids) + (timestamp_size(t) + (size16(o) + promoted_size(m, promoted)))
+    let payload_header = x.payload_header;
+    let timestamp = x.timestamp;
+    let picoseconds = x.picoseconds;
+    let promoted_header = x.promoted;
+    payload_header_size(payload_header, ids)
+        + (size_i64(timestamp) + (size16(picoseconds) + promoted_size(promoted_header, promoted)))
 }
 
 fn header_size(x: Envelope, text: &[u8], ids: &[u8], promoted: &[u8]) -> usize
     requires { ⌜ (length (now text) ≤ MOST_DATAGRAM) × (length (now ids) ≤ MOST_DATAGRAM) × (length (now promoted) ≤ MOST_DATAGRAM) ⌝ }
-    ensures { λ r. ⌜ (r ≡ length (headerBytes (now (text .entry)) (now (ids .entry)) (now (promoted .entry)) x)) × (r ≤ 200000) ⌝ }
+    ensures { λ r.
+        let bytes = headerBytes (now (text .entry)) (now (ids .entry)) (now (promoted .entry)) x in
+        ⌜ (r ≡ length bytes) × (r ≤ 200000) ⌝ }
 {
-    let p = x.publisher;
-    let c = x.class_id;
-    let g = x.group;
+    let publisher = x.publisher;
+    let class_id = x.class_id;
+    let group = x.group;
     flags_size(x)
-        + (publisher_size(p, text)
-            + (class_size(c) + (group_size(g) + tail_size(x, ids, promoted))))
+        + (publisher_size(publisher, text)
+            + (class_size(class_id) + (group_size(group) + tail_size(x, ids, promoted))))
 }
 
 fn put_tail(out: &mut [u8], at: usize, x: Envelope, ids: &[u8], promoted: &[u8]) -> usize
-    ensures { λ r. ⌜ Puts (tailBytes (now (ids .entry)) (now (promoted .entry)) x) (now (out .entry)) at (now (out .exit)) r ⌝ }
+    ensures { λ r.
+        let bytes = tailBytes (now (ids .entry)) (now (promoted .entry)) x in
+        ⌜ Puts bytes (now (out .entry)) at (now (out .exit)) r ⌝ }
 {
-    let h = x.payload_header;
-    let t = x.timestamp;
-    let o = x.picoseconds;
-    let m = x.promoted;
-    let after_ids = put_payload_header(out, at, h, ids);
-    let after_time = put_optional_i64(out, after_ids, t);
-    let after_picoseconds = put_optional16(out, after_time, o);
-    put_promoted(out, after_picoseconds, m, promoted)
+    let payload_header = x.payload_header;
+    let timestamp = x.timestamp;
+    let picoseconds = x.picoseconds;
+    let promoted_header = x.promoted;
+    let after_ids = put_payload_header(out, at, payload_header, ids);
+    let after_time = put_optional_i64(out, after_ids, timestamp);
+    let after_picoseconds = put_optional16(out, after_time, picoseconds);
+    put_promoted(out, after_picoseconds, promoted_header, promoted)
 }
 
 fn put_header(out: &mut [u8], x: Envelope, text: &[u8], ids: &[u8], promoted: &[u8]) -> usize
-    ensures { λ r. ⌜ Puts (headerBytes (now (text .entry)) (now (ids .entry)) (now (promoted .entry)) x) (now (out .entry)) 0 (now (out .exit)) r ⌝ }
+    ensures { λ r.
+        let bytes = headerBytes (now (text .entry)) (now (ids .entry)) (now (promoted .entry)) x in
+        ⌜ Puts bytes (now (out .entry)) 0 (now (out .exit)) r ⌝ }
 {
-    let p = x.publisher;
-    let c = x.class_id;
-    let g = x.group;
+    let publisher = x.publisher;
+    let class_id = x.class_id;
+    let group = x.group;
     let after_flags = put_flags(out, 0, x);
-    let after_publisher = put_publisher(out, after_flags, p, text);
-    let after_class = put_class(out, after_publisher, c);
-    let after_group = put_group(out, after_class, g);
+    let after_publisher = put_publisher(out, after_flags, publisher, text);
+    let after_class = put_class(out, after_publisher, class_id);
+    let after_group = put_group(out, after_class, group);
     put_tail(out, after_group, x, ids, promoted)
 }
 
@@ -120,24 +115,36 @@ fn put_header(out: &mut [u8], x: Envelope, text: &[u8], ids: &[u8], promoted: &[
 fn header_refusal(x: Envelope, configured: usize, payload: u8) -> u8
     ensures { λ r. ⌜ r ≡ headerRefusal x configured payload ⌝ }
 {
-    let p = x.publisher;
-    let g = x.group;
-    let h = x.payload_header;
-    let t = x.timestamp;
-    let o = x.picoseconds;
-    let m = x.promoted;
-    let messages = messages_of(x.chunk, h, configured);
-    let last = or_else(promoted_refusal(m, messages), payload);
-    let tail = or_else(count_refusal(h), or_else(picoseconds_refusal(o), last));
-    let head = or_else(publisher_refusal(p), or_else(group_refusal(g), tail));
-    or_else(times_refusal(is_on16(o), is_on_i64(t)), head)
+    let publisher = x.publisher;
+    let group = x.group;
+    let payload_header = x.payload_header;
+    let timestamp = x.timestamp;
+    let picoseconds = x.picoseconds;
+    let promoted_header = x.promoted;
+    let messages = messages_of(x.chunk, payload_header, configured);
+    let last = or_else(promoted_refusal(promoted_header, messages), payload);
+    let tail = or_else(
+        count_refusal(payload_header),
+        or_else(picoseconds_refusal(picoseconds), last),
+    );
+    let head = or_else(
+        publisher_refusal(publisher),
+        or_else(group_refusal(group), tail),
+    );
+    or_else(
+        times_refusal(is_on16(picoseconds), is_on_i64(timestamp)),
+        head,
+    )
 }
 
 fn reading_refusal(x: Envelope, lengths: &[u8], messages: &[u8], sizes: &[u16]) -> u8
-    ensures { λ r. ⌜ r ≡ headerRefusal x (length (configuredSizes (now (sizes .entry)))) (payloadRefusal (x .chunk) (x .«payload_header») (now (sizes .entry)) (now (lengths .entry)) (now (messages .entry))) ⌝ }
+    ensures { λ r.
+        let refusal = payloadRefusal (x .chunk) (x .«payload_header») (now (sizes .entry)) in
+        let payload = refusal (now (lengths .entry)) (now (messages .entry)) in
+        ⌜ r ≡ headerRefusal x (length (configuredSizes (now (sizes .entry)))) payload ⌝ }
 {
-    let h = x.payload_header;
-    let payload = payload_refusal(x.chunk, h, sizes, lengths, messages);
+    let payload_header = x.payload_header;
+    let payload = payload_refusal(x.chunk, payload_header, sizes, lengths, messages);
     header_refusal(x, writers(sizes), payload)
 }
 
@@ -151,18 +158,20 @@ fn shape_refusal(
     sizes: &[u16],
     configured: &[u16],
 ) -> u8
-    ensures { λ r. ⌜ r ≡ shapeRefusal (given (now (text .entry)) (now (ids .entry)) (now (promoted .entry)) (now (lengths .entry)) []) x (now (sizes .entry)) (now (configured .entry)) ⌝ }
+    ensures { λ r.
+        let g = given (now (text .entry)) (now (ids .entry)) (now (promoted .entry)) (now (lengths .entry)) [] in
+        ⌜ r ≡ shapeRefusal g x (now (sizes .entry)) (now (configured .entry)) ⌝ }
 {
-    let p = x.publisher;
-    let h = x.payload_header;
-    let m = x.promoted;
+    let publisher = x.publisher;
+    let payload_header = x.payload_header;
+    let promoted_header = x.promoted;
     let last = or_else(
-        promoted_shape(m, promoted.len()),
-        lengths_shape(h, lengths, sizes),
+        promoted_shape(promoted_header, promoted.len()),
+        lengths_shape(payload_header, lengths, sizes),
     );
     or_else(
-        publisher_shape(p, text.len()),
-        or_else(ids_shape(x.chunk, h, ids, configured), last),
+        publisher_shape(publisher, text.len()),
+        or_else(ids_shape(x.chunk, payload_header, ids, configured), last),
     )
 }
 
@@ -175,11 +184,14 @@ fn put_datagram(
     lengths: &[u8],
     messages: &[u8],
 ) -> usize
-    ensures { λ r. ⌜ Puts (datagramOf (given (now (text .entry)) (now (ids .entry)) (now (promoted .entry)) (now (lengths .entry)) (now (messages .entry))) x) (now (out .entry)) 0 (now (out .exit)) r ⌝ }
+    ensures { λ r.
+        let lists = given (now (text .entry)) (now (ids .entry)) (now (promoted .entry)) in
+        let g = lists (now (lengths .entry)) (now (messages .entry)) in
+        ⌜ Puts (datagramOf g x) (now (out .entry)) 0 (now (out .exit)) r ⌝ }
 {
-    let h = x.payload_header;
+    let payload_header = x.payload_header;
     let at = put_header(out, x, text, ids, promoted);
-    put_payload(out, at, h, lengths, messages)
+    put_payload(out, at, payload_header, lengths, messages)
 }
 
 fn datagram_size(
@@ -190,11 +202,17 @@ fn datagram_size(
     lengths: &[u8],
     messages: &[u8],
 ) -> usize
-    requires { ⌜ (length (now text) ≤ MOST_DATAGRAM) × (length (now ids) ≤ MOST_DATAGRAM) × (length (now promoted) ≤ MOST_DATAGRAM) × (length (now lengths) ≤ MOST_DATAGRAM) ⌝ }
-    ensures { λ r. ⌜ r ≡ length (datagramOf (given (now (text .entry)) (now (ids .entry)) (now (promoted .entry)) (now (lengths .entry)) (now (messages .entry))) x) ⌝ }
+    requires { ⌜ (length (now text) ≤ MOST_DATAGRAM)
+        × (length (now ids) ≤ MOST_DATAGRAM)
+        × (length (now promoted) ≤ MOST_DATAGRAM)
+        × (length (now lengths) ≤ MOST_DATAGRAM) ⌝ }
+    ensures { λ r.
+        let lists = given (now (text .entry)) (now (ids .entry)) (now (promoted .entry)) in
+        let g = lists (now (lengths .entry)) (now (messages .entry)) in
+        ⌜ r ≡ length (datagramOf g x) ⌝ }
 {
-    let h = x.payload_header;
-    header_size(x, text, ids, promoted) + (list_size(h, lengths) + messages.len())
+    let payload_header = x.payload_header;
+    header_size(x, text, ids, promoted) + (list_size(payload_header, lengths) + messages.len())
 }
 
 // Writes a NetworkMessage from the start of a buffer. `text` has the bytes of a string PublisherId, `ids` the
@@ -212,21 +230,23 @@ pub fn write(
     sizes: &[u16],
     configured: &[u16],
 ) -> Written
-    ensures { λ r. ⌜ (answerWritten r ≡ writtenOf (given (now (text .entry)) (now (ids .entry)) (now (promoted .entry)) (now (lengths .entry)) (now (messages .entry))) x (now (sizes .entry)) (now (configured .entry)) (length (now (out .entry)))) × (now (out .exit) ≡ bufferAfter (given (now (text .entry)) (now (ids .entry)) (now (promoted .entry)) (now (lengths .entry)) (now (messages .entry))) x (now (sizes .entry)) (now (configured .entry)) (now (out .entry))) ⌝ }
+    ensures { λ r.
+        let lists = given (now (text .entry)) (now (ids .entry)) (now (promoted .entry)) in
+        let g = lists (now (lengths .entry)) (now (messages .entry)) in
+        let output = datagramOutput g x (now (sizes .entry)) (now (configured .entry)) in
+        ⌜ Writes output (now (out .entry)) (now (out .exit)) r ⌝ }
 {
-    let n = or_else(
+    let number = or_else(
         reading_refusal(x, lengths, messages, sizes),
         shape_refusal(x, text, ids, promoted, lengths, sizes, configured),
     );
-    if n != 0 {
-        return Written::Refused(n);
+    if number != 0 {
+        return Written::Refused(number);
     }
     let size = datagram_size(x, text, ids, promoted, lengths, messages);
-    if MOST_DATAGRAM < size {
-        return Written::Refused(OVER_LIMIT);
-    }
-    if out.len() < size {
-        return Written::Refused(NO_ROOM);
+    let full = room_refusal(size, out.len());
+    if full != 0 {
+        return Written::Refused(full);
     }
     put_datagram(out, x, text, ids, promoted, lengths, messages);
     Written::Is(size)
@@ -274,15 +294,18 @@ fn put_again(
     promoted: &[u8],
     payload: &[u8],
 ) -> Written
-    requires { ⌜ (length (now text) ≤ MOST_DATAGRAM) × (length (now ids) ≤ MOST_DATAGRAM) × (length (now promoted) ≤ MOST_DATAGRAM) × (length (now payload) ≤ MOST_DATAGRAM) ⌝ }
-    ensures { λ r. ⌜ (r ≡ writtenBy (numberFor 0 (length (headerBytes (now (text .entry)) (now (ids .entry)) (now (promoted .entry)) x ++ now (payload .entry))) (length (now (out .entry)))) (headerBytes (now (text .entry)) (now (ids .entry)) (now (promoted .entry)) x ++ now (payload .entry))) × (now (out .exit) ≡ bufferBy (numberFor 0 (length (headerBytes (now (text .entry)) (now (ids .entry)) (now (promoted .entry)) x ++ now (payload .entry))) (length (now (out .entry)))) (headerBytes (now (text .entry)) (now (ids .entry)) (now (promoted .entry)) x ++ now (payload .entry)) (now (out .entry))) ⌝ }
+    requires { ⌜ (length (now text) ≤ MOST_DATAGRAM)
+        × (length (now ids) ≤ MOST_DATAGRAM)
+        × (length (now promoted) ≤ MOST_DATAGRAM)
+        × (length (now payload) ≤ MOST_DATAGRAM) ⌝ }
+    ensures { λ r.
+        let header = headerBytes (now (text .entry)) (now (ids .entry)) (now (promoted .entry)) x in
+        ⌜ Writes (writing (header ++ now (payload .entry))) (now (out .entry)) (now (out .exit)) r ⌝ }
 {
     let size = header_size(x, text, ids, promoted) + payload.len();
-    if MOST_DATAGRAM < size {
-        return Written::Refused(OVER_LIMIT);
-    }
-    if out.len() < size {
-        return Written::Refused(NO_ROOM);
+    let full = room_refusal(size, out.len());
+    if full != 0 {
+        return Written::Refused(full);
     }
     let at = put_header(out, x, text, ids, promoted);
     put_run(out, at, payload);
@@ -291,17 +314,17 @@ fn put_again(
 
 fn again(out: &mut [u8], s: &[u8], x: Envelope, places: Places) -> Written
     requires { ⌜ length (now s) ≤ MOST_DATAGRAM ⌝ }
-    ensures { λ r. ⌜ (r ≡ writtenBy (numberFor 0 (length (againOf (now (s .entry)) x places)) (length (now (out .entry)))) (againOf (now (s .entry)) x places)) × (now (out .exit) ≡ bufferBy (numberFor 0 (length (againOf (now (s .entry)) x places)) (length (now (out .entry)))) (againOf (now (s .entry)) x places) (now (out .entry))) ⌝ }
+    ensures { λ r. ⌜ Writes (writing (againOf (now (s .entry)) x places)) (now (out .entry)) (now (out .exit)) r ⌝ }
 {
-    let p = x.publisher;
-    let h = x.payload_header;
-    let m = x.promoted;
+    let publisher = x.publisher;
+    let payload_header = x.payload_header;
+    let promoted_header = x.promoted;
     put_again(
         out,
         x,
-        text_of(s, p, places.publisher_end),
-        ids_of(s, h, places.payload_header_end),
-        promoted_of(s, m, places.payload),
+        text_of(s, publisher, places.publisher_end),
+        ids_of(s, payload_header, places.payload_header_end),
+        promoted_of(s, promoted_header, places.payload),
         tail(s, places.payload),
     )
 }
@@ -309,10 +332,12 @@ fn again(out: &mut [u8], s: &[u8], x: Envelope, places: Places) -> Written
 // Reads a datagram under the sizes of the configured writers and writes it again from the start of a buffer. Only where
 // PublisherId is off can the bytes differ: its type bits are then written as 0.
 pub fn rewrite(out: &mut [u8], s: &[u8], sizes: &[u16]) -> Written
-    ensures { λ r. ⌜ (answerWritten r ≡ rewriteAnswer (now (s .entry)) (networkMessageAt (now (sizes .entry)) (now (s .entry))) (length (now (out .entry)))) × (now (out .exit) ≡ rewriteBuffer (now (s .entry)) (networkMessageAt (now (sizes .entry)) (now (s .entry))) (now (out .entry))) ⌝ }
+    ensures { λ r.
+        let again = datagramAgain (now (sizes .entry)) (now (s .entry)) in
+        ⌜ Writes again (now (out .entry)) (now (out .exit)) r ⌝ }
 {
     match read(s, sizes) {
-        NetworkMessageRead::Refused(n, _) => Written::Refused(n),
+        NetworkMessageRead::Refused(number, _) => Written::Refused(number),
         NetworkMessageRead::Is(x, places, _) => again(out, s, x, places),
     }
 }

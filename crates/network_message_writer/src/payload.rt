@@ -1,28 +1,20 @@
 // The payload: the list of sizes, and the messages.
 use network_header::header::PayloadHeader;
-use network_header::numbers::number_at;
 use network_header::numbers::same_numbers;
 use network_header::numbers::writers;
 use network_message::payload::PayloadRead;
 use network_message::payload::read_payload;
+use network_message::payload::tally_listed;
 use wire::constants::DISAGREE;
-use wire_writer::writing::must_equal;
-use wire_writer::writing::must_hold;
-use wire_writer::writing::not_used;
-use wire_writer::writing::put_run;
+use wire_writer::store::put_run;
+use wire_writer::writing::six_unless;
 ghost use mathlib.Core.Path.{_≡_};
 ghost use mathlib.Core.List.{_++_};
-ghost use Prim.Native.Nat.{_≤_, _+_, _*_};
+ghost use Prim.Native.Nat.{_≤_};
 ghost use lib.ListN.{length};
-ghost use Rattle.network_message.specs.Payload.{payloadAt, total, positive, listed};
+ghost use Rattle.network_message.specs.Payload.{payloadAt};
 ghost use Rattle.wire_writer.specs.Writing.{Puts};
 ghost use Rattle.network_message_writer.specs.Payload.{listBytes, numberIn, payloadRefusal, lengthsShape, listedRefusal};
-
-// The sum of some lengths, and whether each is at least 1.
-struct Tally {
-    total: usize,
-    positive: bool,
-}
 
 // The number of reading these bytes as a payload.
 fn payload_number(messages: &[u8], chunk: bool, x: PayloadHeader, sizes: &[u16]) -> u8
@@ -30,10 +22,11 @@ fn payload_number(messages: &[u8], chunk: bool, x: PayloadHeader, sizes: &[u16])
 {
     match read_payload(messages, chunk, x, sizes, 0) {
         PayloadRead::Is(_) => 0,
-        PayloadRead::Refused(n, _) => n,
+        PayloadRead::Refused(number, _) => number,
     }
 }
 
+// The number by which reading refuses a payload of these lengths and messages, or 0.
 pub(crate) fn payload_refusal(
     chunk: bool,
     x: PayloadHeader,
@@ -55,26 +48,28 @@ pub(crate) fn payload_refusal(
     }
 }
 
+// 6 where lengths are given that would read back otherwise, else 0.
 pub(crate) fn lengths_shape(x: PayloadHeader, lengths: &[u8], sizes: &[u16]) -> u8
     ensures { λ r. ⌜ r ≡ lengthsShape x (now (lengths .entry)) (now (sizes .entry)) ⌝ }
 {
     match x {
         PayloadHeader::Absent => {
             if writers(sizes) <= 1 {
-                return not_used(lengths.len());
+                return six_unless(lengths.len() == 0);
             }
-            must_hold(same_numbers(lengths, sizes))
+            six_unless(same_numbers(lengths, sizes))
         }
         PayloadHeader::Ids(n) => {
             if n <= 1 {
-                return not_used(lengths.len());
+                return six_unless(lengths.len() == 0);
             }
             0
         }
-        PayloadHeader::Chunk(_) => not_used(lengths.len()),
+        PayloadHeader::Chunk(_) => six_unless(lengths.len() == 0),
     }
 }
 
+// How many bytes the list of sizes takes.
 pub(crate) fn list_size(x: PayloadHeader, lengths: &[u8]) -> usize
     ensures { λ r. ⌜ (r ≡ length (listBytes x (now (lengths .entry)))) × (r ≤ length (now (lengths .entry))) ⌝ }
 {
@@ -105,6 +100,7 @@ fn put_list(out: &mut [u8], at: usize, x: PayloadHeader, lengths: &[u8]) -> usiz
     }
 }
 
+// Stores the list of sizes and the messages, and answers the position after them.
 pub(crate) fn put_payload(
     out: &mut [u8],
     at: usize,
@@ -118,38 +114,17 @@ pub(crate) fn put_payload(
     put_run(out, first, messages)
 }
 
-fn tally_listed(lengths: &[u8], n: usize) -> Tally
-    requires { ⌜ (2 * n ≤ length (now lengths)) × (n ≤ 255) ⌝ }
-    ensures { λ r. ⌜ (r .total ≡ total (listed n (now (lengths .entry)) 0)) × (r .positive ≡ positive (listed n (now (lengths .entry)) 0)) ⌝ }
-{
-    let mut p = 0;
-    let mut left = n;
-    let mut sum = 0;
-    let mut each = true;
-    while 0 < left {
-        let z = number_at(lengths, p);
-        sum = sum + z;
-        each = each & (0 < z);
-        p = p + 2;
-        left = left - 1;
-    }
-    Tally {
-        total: sum,
-        positive: each,
-    }
-}
-
 // The lengths of n messages of so many bytes.
-pub fn listed_refusal(n: u8, lengths: &[u8], rest: usize) -> u8
+fn listed_refusal(n: u8, lengths: &[u8], rest: usize) -> u8
     ensures { λ r. ⌜ r ≡ listedRefusal n (now (lengths .entry)) rest ⌝ }
 {
     let count = n as usize;
     if lengths.len() != 2 * count {
         return DISAGREE;
     }
-    let t = tally_listed(lengths, count);
-    if !t.positive {
+    let tally = tally_listed(lengths, 0, count);
+    if !tally.positive {
         return DISAGREE;
     }
-    must_equal(t.total, rest)
+    six_unless(tally.total == rest)
 }

@@ -13,9 +13,13 @@ use lib.ListN.{length}
 use Rattle.wire.specs.Number.{leBytes}
 use Rattle.wire_writer.specs.Writing.{unused}
 
+-- "above 64"
+abbrev pub textTooLong : ℕ → Bool
+textTooLong n = ltb MOST_TEXT_ID n
+
 -- a string of n bytes: "above 64 is 10", whose place is 0
 abbrev pub stringOf : ℕ → Reader PublisherId
-stringOf n s start = cond (ltb MOST_TEXT_ID n) (refused OVER_LIMIT 0) ((run n >>= λ len. pure (PublisherId.Text len)) s start)
+stringOf n s start = cond (textTooLong n) (refused OVER_LIMIT 0) ((run n >>= λ len. pure (PublisherId.Text len)) s start)
 
 -- "A string has a 32-bit length; below 0 (null too) is 5", at the length
 abbrev pub lengthThen : ℕ → Length → Reader PublisherId
@@ -74,7 +78,7 @@ publisherRefusal (PublisherId.Byte v) = 0
 publisherRefusal (PublisherId.UInt16 v) = 0
 publisherRefusal (PublisherId.UInt32 v) = 0
 publisherRefusal (PublisherId.UInt64 v) = 0
-publisherRefusal (PublisherId.Text n) = cond (ltb MOST_TEXT_ID n) OVER_LIMIT 0
+publisherRefusal (PublisherId.Text n) = cond (textTooLong n) OVER_LIMIT 0
 
 -- and bytes of a string that are not as many as the id says
 abbrev pub publisherShape : PublisherId → ℕ → ℕ

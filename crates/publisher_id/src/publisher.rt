@@ -9,23 +9,21 @@ use wire::constants::BAD_LENGTH;
 use wire::constants::CUT_SHORT;
 use wire::constants::MOST_TEXT_ID;
 use wire::constants::OVER_LIMIT;
-use wire_writer::writing::must_equal;
-use wire_writer::writing::not_used;
-use wire_writer::writing::put_run;
-use wire_writer::writing::put8;
-use wire_writer::writing::put16;
-use wire_writer::writing::put32;
-use wire_writer::writing::put64;
+use wire_writer::store::put_run;
+use wire_writer::store::put8;
+use wire_writer::store::put16;
+use wire_writer::store::put32;
+use wire_writer::store::put64;
+use wire_writer::writing::six_unless;
 ghost use mathlib.Core.Path.{_≡_};
-ghost use Rattle.publisher_id.specs.Publisher.{stringOf, stringAt, publisherAt, answerPublisher, publisherOn, kindOf, publisherBytes, publisherRefusal, publisherShape};
+ghost use Rattle.publisher_id.specs.Publisher.{textTooLong, stringOf, stringAt, publisherAt, answerPublisher, publisherOn, kindOf, publisherBytes, publisherRefusal, publisherShape};
 ghost use mathlib.Core.Bool.{cond};
 ghost use mathlib.Core.List.{_++_};
 ghost use Prim.Native.Nat.{_+_, _≤_};
-ghost use lib.Dec.{ltb};
 ghost use lib.ListN.{length};
 ghost use Rattle.wire.specs.Number.{leBytes};
 ghost use Rattle.wire_writer.specs.Writing.{Puts};
-ghost use Rattle.wire.specs.Constants.{MOST_TEXT_ID, OVER_LIMIT};
+ghost use Rattle.wire.specs.Constants.{OVER_LIMIT};
 
 // A PublisherId. Of a string, its length: its bytes end where the part ends.
 pub enum PublisherId {
@@ -37,16 +35,24 @@ pub enum PublisherId {
     Text(usize),
 }
 
+// A PublisherId with the position after it, or a refusal with its number and place.
 pub enum PublisherRead {
     Is(PublisherId, usize),
     Refused(u8, usize),
+}
+
+// Whether a string id of n bytes is longer than document 01 permits.
+pub fn text_too_long(n: usize) -> bool
+    ensures { λ r. ⌜ r ≡ textTooLong n ⌝ }
+{
+    MOST_TEXT_ID < n
 }
 
 // The n bytes of a string.
 fn string_of(s: &[u8], n: usize, start: usize) -> PublisherRead
     ensures { λ r. ⌜ answerPublisher r ≡ stringOf n (now (s .entry)) start ⌝ }
 {
-    if MOST_TEXT_ID < n {
+    if text_too_long(n) {
         return PublisherRead::Refused(OVER_LIMIT, 0);
     }
     let Run::To(next) = wire::skip(s, start, n) else {
@@ -66,6 +72,7 @@ fn string_id(s: &[u8], at: usize) -> PublisherRead
     }
 }
 
+// Reads the PublisherId of a type, where the flags announce one.
 pub fn read_publisher(s: &[u8], on: bool, kind: u8, at: usize) -> PublisherRead
     ensures { λ r. ⌜ answerPublisher r ≡ publisherAt on kind (now (s .entry)) at ⌝ }
 {
@@ -99,6 +106,7 @@ pub fn read_publisher(s: &[u8], on: bool, kind: u8, at: usize) -> PublisherRead
     string_id(s, at)
 }
 
+// Whether there is a PublisherId.
 pub fn publisher_on(p: PublisherId) -> bool
     ensures { λ r. ⌜ r ≡ publisherOn p ⌝ }
 {
@@ -112,6 +120,7 @@ pub fn publisher_on(p: PublisherId) -> bool
     }
 }
 
+// The type of a PublisherId, as ExtendedFlags1 has it.
 pub fn kind_of(p: PublisherId) -> u8
     ensures { λ r. ⌜ (r ≡ kindOf p) × (r ≤ 4) ⌝ }
 {
@@ -125,6 +134,7 @@ pub fn kind_of(p: PublisherId) -> u8
     }
 }
 
+// How many bytes a PublisherId takes, a string with its text.
 pub fn publisher_size(p: PublisherId, text: &[u8]) -> usize
     ensures { λ r. ⌜ (r ≡ length (publisherBytes (now (text .entry)) p)) × (r ≤ length (now (text .entry)) + 8) ⌝ }
 {
@@ -147,6 +157,7 @@ fn put_text(out: &mut [u8], at: usize, text: &[u8]) -> usize
     put_run(out, start, text)
 }
 
+// Stores a PublisherId, a string with its text, and answers the position after it.
 pub fn put_publisher(out: &mut [u8], at: usize, p: PublisherId, text: &[u8]) -> usize
     ensures { λ r. ⌜ Puts (publisherBytes (now (text .entry)) p) (now (out .entry)) at (now (out .exit)) r ⌝ }
 {
@@ -161,14 +172,15 @@ pub fn put_publisher(out: &mut [u8], at: usize, p: PublisherId, text: &[u8]) -> 
 }
 
 fn text_refusal(n: usize) -> u8
-    ensures { λ r. ⌜ r ≡ cond (ltb MOST_TEXT_ID n) OVER_LIMIT 0 ⌝ }
+    ensures { λ r. ⌜ r ≡ cond (textTooLong n) OVER_LIMIT 0 ⌝ }
 {
-    if MOST_TEXT_ID < n {
+    if text_too_long(n) {
         return OVER_LIMIT;
     }
     0
 }
 
+// The number by which reading refuses a PublisherId, or 0.
 pub fn publisher_refusal(p: PublisherId) -> u8
     ensures { λ r. ⌜ r ≡ publisherRefusal p ⌝ }
 {
@@ -182,15 +194,16 @@ pub fn publisher_refusal(p: PublisherId) -> u8
     }
 }
 
+// 6 where a text of this length is not the one that the PublisherId says, else 0.
 pub fn publisher_shape(p: PublisherId, len: usize) -> u8
     ensures { λ r. ⌜ r ≡ publisherShape p len ⌝ }
 {
     match p {
-        PublisherId::Absent => not_used(len),
-        PublisherId::Byte(_) => not_used(len),
-        PublisherId::UInt16(_) => not_used(len),
-        PublisherId::UInt32(_) => not_used(len),
-        PublisherId::UInt64(_) => not_used(len),
-        PublisherId::Text(n) => must_equal(n, len),
+        PublisherId::Absent => six_unless(len == 0),
+        PublisherId::Byte(_) => six_unless(len == 0),
+        PublisherId::UInt16(_) => six_unless(len == 0),
+        PublisherId::UInt32(_) => six_unless(len == 0),
+        PublisherId::UInt64(_) => six_unless(len == 0),
+        PublisherId::Text(n) => six_unless(n == len),
     }
 }

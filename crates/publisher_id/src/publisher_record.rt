@@ -1,5 +1,6 @@
 // A PublisherId by value with the bytes of a string, for records that outlive the datagram, and its equality.
 use crate::publisher::PublisherId;
+use crate::publisher::text_too_long;
 use wire::constants::MOST_TEXT_ID;
 use wire::part::part;
 use wire_writer::store::put_run;
@@ -12,6 +13,7 @@ pub struct PublisherRecord {
     pub text: [u8; MOST_TEXT_ID],
 }
 
+// The number of an id's type in records: 0 absent, 1 Byte, 2 UInt16, 3 UInt32, 4 UInt64, 5 String.
 pub fn code(id: PublisherId) -> u64
     ensures { λ r. ⌜ r ≡ codeOf id ⌝ }
 {
@@ -72,17 +74,20 @@ fn same_text(a: &[u8], b: &[u8]) -> bool
 pub fn same_publisher(a: PublisherRecord, b: PublisherRecord) -> bool
     ensures { λ r. ⌜ r ≡ samePublisher (publisherOf a) (publisherOf b) ⌝ }
 {
-    let x = a.id;
-    let y = b.id;
-    if code(x) != code(y) {
+    let first_id = a.id;
+    let second_id = b.id;
+    if code(first_id) != code(second_id) {
         return false;
     }
-    if value(x) != value(y) {
+    if value(first_id) != value(second_id) {
         return false;
     }
-    let s = a.text;
-    let t = b.text;
-    same_text(part(&s, 0, text_length(x)), part(&t, 0, text_length(y)))
+    let first_text = a.text;
+    let second_text = b.text;
+    same_text(
+        part(&first_text, 0, text_length(first_id)),
+        part(&second_text, 0, text_length(second_id)),
+    )
 }
 
 // Whether a string id has at most 64 bytes; any other id passes.
@@ -90,7 +95,7 @@ pub fn publisher_fits(p: PublisherRecord) -> bool
     ensures { λ r. ⌜ r ≡ publisherFits p ⌝ }
 {
     let id = p.id;
-    text_length(id) <= MOST_TEXT_ID
+    !text_too_long(text_length(id))
 }
 
 // The record of an id that ends at a position of a datagram.

@@ -2,55 +2,55 @@
 // be put together again; only a datagram with PublisherId off can differ, in its flag bytes.
 use dataset_message::message::MessageRead;
 use network_message::envelope::NetworkMessageRead;
+use network_message_writer::envelope::rewrite;
 use publisher_id::publisher::PublisherId;
 use wire::constants::DISAGREE;
-use wire::constants::MOST_DATAGRAM;
-use wire::constants::NO_ROOM;
-use wire::constants::OVER_LIMIT;
+use wire_writer::store::put_run;
 use wire_writer::writing::Written;
-ghost use mathlib.Core.Path.{_≡_};
-ghost use lib.ListN.{length};
-ghost use Rattle.wire_writer.specs.Writing.{numberFor, writtenBy, bufferBy};
-ghost use Rattle.rewriting.specs.Same.{WritesSame, WritesDatagram};
+use wire_writer::writing::room_refusal;
+ghost use Rattle.wire_writer.specs.Writing.{Writes, writing};
+ghost use Rattle.rewriting.specs.Same.{sameMessage, sameDatagram};
 
 // All of a slice, from the start of a buffer.
 fn copy_whole(out: &mut [u8], s: &[u8]) -> Written
-    ensures { λ r. ⌜ (r ≡ writtenBy (numberFor 0 (length (now (s .entry))) (length (now (out .entry)))) (now (s .entry))) × (now (out .exit) ≡ bufferBy (numberFor 0 (length (now (s .entry))) (length (now (out .entry)))) (now (s .entry)) (now (out .entry))) ⌝ }
+    ensures { λ r. ⌜ Writes (writing (now (s .entry))) (now (out .entry)) (now (out .exit)) r ⌝ }
 {
     let size = s.len();
-    if MOST_DATAGRAM < size {
-        return Written::Refused(OVER_LIMIT);
+    let full = room_refusal(size, out.len());
+    if full != 0 {
+        return Written::Refused(full);
     }
-    if out.len() < size {
-        return Written::Refused(NO_ROOM);
-    }
-    wire_writer::store::put_run(out, 0, s);
+    put_run(out, 0, s);
     Written::Is(size)
 }
 
 // An accepted, valid DataSetMessage written again; what reading refuses is refused, and one not valid is 6.
 pub fn rewrite_message(out: &mut [u8], message: &[u8], types: &[u8]) -> Written
-    ensures { λ r. ⌜ WritesSame (now (types .entry)) (now (message .entry)) (now (out .entry)) (now (out .exit)) r ⌝ }
+    ensures { λ r.
+        let same = sameMessage (now (types .entry)) (now (message .entry)) in
+        ⌜ Writes same (now (out .entry)) (now (out .exit)) r ⌝ }
 {
     match dataset_message::message::read(&*message, &*types) {
         MessageRead::NotValid => Written::Refused(DISAGREE),
-        MessageRead::Refused(n, _) => Written::Refused(n),
+        MessageRead::Refused(number, _) => Written::Refused(number),
         MessageRead::Is(_, _, _) => copy_whole(out, message),
     }
 }
 
 // An accepted datagram written again, under the sizes of the configured writers. Where PublisherId is off, its type bits are
 // written as 0.
-pub fn rewrite_datagram(out: &mut [u8], s: &[u8], sizes: &[u16]) -> Written
-    ensures { λ r. ⌜ WritesDatagram (now (sizes .entry)) (now (s .entry)) (now (out .entry)) (now (out .exit)) r ⌝ }
+pub fn rewrite_datagram(out: &mut [u8], datagram: &[u8], sizes: &[u16]) -> Written
+    ensures { λ r.
+        let same = sameDatagram (now (sizes .entry)) (now (datagram .entry)) in
+        ⌜ Writes same (now (out .entry)) (now (out .exit)) r ⌝ }
 {
-    match network_message::envelope::read(&*s, &*sizes) {
-        NetworkMessageRead::Refused(n, _) => Written::Refused(n),
-        NetworkMessageRead::Is(x, _, _) => {
-            let p = x.publisher;
-            match p {
-                PublisherId::Absent => network_message_writer::envelope::rewrite(out, s, sizes),
-                _ => copy_whole(out, s),
+    match network_message::envelope::read(&*datagram, &*sizes) {
+        NetworkMessageRead::Refused(number, _) => Written::Refused(number),
+        NetworkMessageRead::Is(envelope, _, _) => {
+            let publisher = envelope.publisher;
+            match publisher {
+                PublisherId::Absent => rewrite(out, datagram, sizes),
+                _ => copy_whole(out, datagram),
             }
         }
     }

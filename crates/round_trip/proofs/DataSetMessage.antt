@@ -13,7 +13,7 @@ use lib.Seq.{take-all}
 use Rattle.wire.specs.Answer.{got}
 use Rattle.wire.proofs.Facts.{and-left, and-right}
 use Rattle.value.specs.Value.{Measure}
-use Rattle.wire_writer.specs.Writing.{orElse}
+use Rattle.wire_writer.specs.Writing.{orElse, Writes}
 use Rattle.wire_writer.proofs.Trip.{At, first, second, item-is}
 use Rattle.wire_writer.proofs.Refusals.{both-zero, passed}
 use Rattle.dataset_header.specs.declared.flags.Encoding.{Encoding}
@@ -24,12 +24,12 @@ use Rattle.dataset_fields.specs.Fields.{encodedAt, fieldAt, fieldsAt, paddingAt
 use Rattle.dataset_message.specs.Message.{countedAt, countAt, messageAt, fieldPlaceAt}
 use Rattle.dataset_message.proofs.Agreement.{field-inside}
 use Rattle.wire_writer.specs.declared.writing.Written.{Written}
-use Rattle.dataset_message_writer.specs.Message.{Given, FitsGiven, writerNumber, Writes, hasFields, isKey, isFielded, isRawData, fieldsOf, countBytes, configuredRule, countAgrees, encode, refusalOf}
+use Rattle.dataset_message_writer.specs.Message.{Given, FitsGiven, messageOutput, hasFields, isKey, isFielded, isRawData, fieldsOf, countBytes, configuredRule, countAgrees, encode, refusalOf}
 use Rattle.dataset_fields.proofs.Judging.{length-values}
 use Rattle.dataset_fields.proofs.Laying.{length-zeros}
 use Rattle.dataset_message_writer.proofs.Whole.{Accepted, accepted}
 use Rattle.round_trip.specs.DataSetMessage.{firstOf, endOf, messageOf, FieldBack, MessageBack}
-use Rattle.round_trip.proofs.Reported.{reported}
+use Rattle.wire_writer.proofs.Answering.{reported}
 use Rattle.round_trip.proofs.DataSetMessageParts.{header-is, whole-alone, fields-is, nth-is, zeros-is}
 use Rattle.wire_writer.specs.Fits.{Numbers}
 
@@ -280,9 +280,8 @@ read-written types g fits indices h =
     }
 
 -- The same of the buffer, by the writer's contract alone: where it reports n bytes, the first n read back, and the others are as they were.
-pub written-reads : (types : List ℕ) (g : Given) (entry exit : List ℕ) (n : ℕ) → FitsGiven g × Writes types g entry exit (Written.Is n)
+pub written-reads : (types : List ℕ) (g : Given) (entry exit : List ℕ) (n : ℕ) → FitsGiven g × Writes (messageOutput types g) entry exit (Written.Is n)
     → MessageBack types g (take n exit) × (drop n exit ≡ drop n entry)
 written-reads types g entry exit n c =
-    let w = reported (writerNumber types g (length entry)) (encode g) entry exit n (c .1 .answer) (c .1 .buffer) in
-    let ok = both-zero (refusalOf types g) _ (w .number) .0 in
-    (subst (MessageBack types g) (sym (w .front)) (read-written types g (c .0 .header) (c .0 .indices) ok), w .rest)
+    let w = reported (refusalOf types g) (encode g) entry exit n (c .1) in
+    (subst (MessageBack types g) (sym (w .front)) (read-written types g (c .0 .header) (c .0 .indices) (w .number)), w .rest)

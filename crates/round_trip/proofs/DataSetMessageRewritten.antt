@@ -6,17 +6,18 @@ use mathlib.Core.List.{List, [], _++_}
 use Prim.Native.Nat.{ℕ, _+_, _-_, _≤_, zero, suc, _<_}
 use native.Mathlib.Nat.{zero-add, add-zero}
 use native.Mathlib.Omega.{arith}
-use borrow.Author.Tests.{leb-true, eq-eqb, le-leb, le-ltb, lt-leb}
-use lib.Dec.{eqb, leb, ltb}
+use borrow.Author.Tests.{leb-true, eq-eqb, le-leb, lt-leb}
+use lib.Dec.{eqb, leb}
 use lib.ListN.{length, drop, take, take-append-drop, getD}
 use lib.Seq.{drop-drop}
 use Rattle.dataset_message.proofs.Agreement.{message-read}
 use Rattle.dataset_fields.specs.declared.fields.Field.{Field}
 use Rattle.dataset_header.specs.declared.flags.Encoding.{Encoding}
-use Rattle.dataset_message_writer.specs.Rewrite.{again, againWritten, againBuffer, Rewrites}
+use Rattle.dataset_message_writer.specs.Rewrite.{again, whereValid, messageAgain}
 use Rattle.wire.specs.Answer.{got, Answer, andThen}
 use Rattle.wire.proofs.Reading.{invert, got-value, got-next, not-got}
-use Rattle.wire_writer.specs.Writing.{writtenBy, bufferBy, numberFor}
+use Rattle.wire_writer.specs.Writing.{Writes, writing, unless, afterReading}
+use Rattle.wire_writer.proofs.Answering.{fitting-written}
 use Rattle.wire_writer.specs.declared.writing.Written.{Written}
 use Rattle.wire_writer.proofs.Back.{Back, empty, rest-is, end-fits, item-back}
 use Rattle.dataset_header.specs.declared.flags.Kind.{Kind}
@@ -25,7 +26,7 @@ use Rattle.dataset_header.specs.Flags.{Valid, notValid, valid, isDelta, isRaw}
 use Rattle.dataset_header.specs.Header.{headerAt, headerBytes}
 use Rattle.dataset_fields.specs.Fields.{fieldsAt, paddingAt, fieldAt, total, valuesOf, fieldsBytes, zeros}
 use Rattle.dataset_message.specs.Message.{Message, countedAt, countAt, endAt, bodyAt, afterHeader, messageAt, fieldPlaceAt}
-use Rattle.dataset_message_writer.specs.Message.{Given, hasFields, isKey, isFielded, isRawData, fieldsOf, countBytes, configuredRule, countAgrees, bodyRefusal, bodyAgrees, listsAgree, refusalOf, encode, writerNumber, Writes}
+use Rattle.dataset_message_writer.specs.Message.{Given, hasFields, isKey, isFielded, isRawData, fieldsOf, countBytes, configuredRule, countAgrees, bodyRefusal, bodyAgrees, listsAgree, refusalOf, encode, messageOutput}
 use Rattle.round_trip.specs.DataSetMessage.{fieldsIn, joined, lengthsOf, taken, andField, walked, Rewritten}
 use Rattle.round_trip.proofs.DataSetMessageParts.{HeaderBack, header-back, indicesFor, FieldsTaken, fields-back, zeros-back}
 use Rattle.round_trip.proofs.DataSetMessage.{no, reached-all, delta-plain}
@@ -216,27 +217,20 @@ rewrite-read types s m e bytes q =
 -- The same of the writer itself, where the message is within the limit and the buffer has room: it reports the message's length, and
 -- the buffer begins with the message and goes on as it was.
 pub rewrite-written : (types s : List ℕ) (m : Message) (e : ℕ) → Bytes s → messageAt types s ≡ got (valid m) e → length s ≤ 65535
-    → (entry exit : List ℕ) (r : Written) → length s ≤ length entry → Writes types (taken types s m) entry exit r
+    → (entry exit : List ℕ) (r : Written) → length s ≤ length entry → Writes (messageOutput types (taken types s m)) entry exit r
     → (r ≡ Written.Is (length s)) × (exit ≡ s ++ drop (length s) entry)
 rewrite-written types s m e bytes q l entry exit r room w =
     let x = rewrite-read types s m e bytes q in
-    let n : writerNumber types (taken types s m) (length entry) ≡ 0 =
-    rw (x .accepted) (ap (λ (b : List ℕ). cond (ltb 65535 (length b)) 10 (cond (ltb (length entry) (length b)) 11 0)) (x .same)
-    ∙ rw (le-ltb 65535 (length s) l, le-ltb (length entry) (length s) room)) in (
-      w .answer ∙ ap (λ (k : ℕ). writtenBy k (encode (taken types s m))) n ∙ ap (λ (b : List ℕ). Written.Is (length b)) (x .same),
-      w .buffer ∙ ap (λ (k : ℕ). bufferBy k (encode (taken types s m)) entry) n ∙ ap (λ (b : List ℕ). b ++ drop (length b) entry) (x .same),
-    )
+    let v = subst (λ (k : ℕ). Writes (unless k (encode (taken types s m))) entry exit r) (x .accepted) w in
+    fitting-written l room (subst (λ (b : List ℕ). Writes (writing b) entry exit r) (x .same) v)
 
 -- and of `rewrite`
 pub rewrite-same : (types s : List ℕ) (m : Message) (e : ℕ) → Bytes s → messageAt types s ≡ got (valid m) e → length s ≤ 65535
-    → (entry exit : List ℕ) (r : Written) → length s ≤ length entry → Rewrites types s entry exit r → (r ≡ Written.Is (length s)) × (exit ≡ s ++ drop (length s) entry)
+    → (entry exit : List ℕ) (r : Written) → length s ≤ length entry → Writes (messageAgain types s) entry exit r → (r ≡ Written.Is (length s)) × (exit ≡ s ++ drop (length s) entry)
 rewrite-same types s m e bytes q l entry exit r room w =
     let x = rewrite-read types s m e bytes q in
-    let n : numberFor 0 (length (again s m)) (length entry) ≡ 0 =
-    ap (λ (b : List ℕ). cond (ltb 65535 (length b)) 10 (cond (ltb (length entry) (length b)) 11 0)) (x .parts) ∙ rw (le-ltb 65535 (length s) l, le-ltb (length entry) (length s) room) in (
-      w .answer ∙ ap (againWritten (length entry) s) q ∙ ap (λ (k : ℕ). writtenBy k (again s m)) n ∙ ap (λ (b : List ℕ). Written.Is (length b)) (x .parts),
-      w .buffer ∙ ap (againBuffer entry s) q ∙ ap (λ (k : ℕ). bufferBy k (again s m) entry) n ∙ ap (λ (b : List ℕ). b ++ drop (length b) entry) (x .parts),
-    )
+    let v = subst (λ (a : Answer (Valid Message)). Writes (afterReading a (whereValid (again s))) entry exit r) q w in
+    fitting-written l room (subst (λ (b : List ℕ). Writes (writing b) entry exit r) (x .parts) v)
 
 -- The fields that are written again are those that lookup gives.
 

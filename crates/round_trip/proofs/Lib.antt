@@ -17,5 +17,4 @@ pub mod NetworkMessageRefused
 pub mod NetworkMessageKept
 pub mod NetworkMessageAccepted
 pub mod NetworkMessageRoundTrip
-pub mod Reported
 pub mod Fitting

@@ -31,10 +31,10 @@ use Rattle.network_header.specs.Numbers.{configuredSizes}
 use Rattle.network_message.specs.Payload.{payloadAt}
 use Rattle.network_message.specs.Envelope.{Header, NetworkMessage, identityAt, timesAt, messagesOf, headerAt, bodyAt, networkMessageAt}
 use Rattle.wire_writer.specs.declared.writing.Written.{Written}
-use Rattle.wire_writer.specs.Writing.{needed, numberFor, answerBy, bufferBy, optional16Bytes, optionalI64Bytes}
-use Rattle.wire_writer.proofs.Answering.{writes, reports}
+use Rattle.wire_writer.specs.Writing.{needed, writing, writtenOf, bufferOf, optional16Bytes, optionalI64Bytes}
+use Rattle.wire_writer.proofs.Answering.{fitting-written}
 use Rattle.wire_writer.proofs.Back.{Back, join, rest-is, end-fits, map-back, optionalI64-back, ruled16-back}
-use Rattle.network_message_writer.specs.Envelope.{headerBytes, textOf, idsOf, promotedOf, againOf, rewriteAnswer, rewriteBuffer}
+use Rattle.network_message_writer.specs.Envelope.{headerBytes, textOf, idsOf, promotedOf, againOf, datagramAgain}
 use Rattle.network_header.proofs.Sizes.{flags-sized}
 use Rattle.network_message_writer.proofs.Again.{accepted-short}
 use Rattle.round_trip.specs.NetworkMessage.{rewrittenFlags, rewrittenAs, rewritten}
@@ -231,16 +231,14 @@ rewritten-short sizes s m next b h =
 
 -- `rewrite` accepts an accepted datagram wherever the buffer is as long, and stores exactly its rewriting.
 pub rewrite-accepted : (sizes s out : List ℕ) (m : NetworkMessage) (next : ℕ) → Bytes s → networkMessageAt sizes s ≡ got m next → length s ≤ length out
-    → (rewriteAnswer s (networkMessageAt sizes s) (length out) ≡ got tt (length (rewritten s)))
-    × (rewriteBuffer s (networkMessageAt sizes s) out ≡ rewritten s ++ drop (length (rewritten s)) out)
+    → (writtenOf (length out) (datagramAgain sizes s) ≡ Written.Is (length (rewritten s)))
+    × (bufferOf out (datagramAgain sizes s) ≡ rewritten s ++ drop (length (rewritten s)) out)
 rewrite-accepted sizes s out m next b h l =
     let q = rewritten-short sizes s m next b h in
     let k : length (rewritten s) ≤ 65535 = omega (arith, accepted-short sizes s m next h) in
     let j : length (rewritten s) ≤ length out = omega arith in
-    let w = reports 0 (rewritten s) out (Written.Is (length (rewritten s))) (rewritten s ++ drop (length (rewritten s)) out)
-    (writes 0 (rewritten s) out refl (length (rewritten s)) refl k (rewritten s ++ drop (length (rewritten s)) out) j refl) in
     rw h
     (subst
-    (λ (y : List ℕ). (answerBy (numberFor 0 (length y) (length out)) y ≡ got tt (length (rewritten s)))
-    × (bufferBy (numberFor 0 (length y) (length out)) y out ≡ rewritten s ++ drop (length (rewritten s)) out))
-    (sym (rewrite-read sizes s m next b h)) (sym (w .0), sym (w .1)))
+    (λ (y : List ℕ). (writtenOf (length out) (writing y) ≡ Written.Is (length (rewritten s)))
+    × (bufferOf out (writing y) ≡ rewritten s ++ drop (length (rewritten s)) out))
+    (sym (rewrite-read sizes s m next b h)) (fitting-written {bytes = rewritten s} {entry = out} k j (record { answer = refl; buffer = refl })))

@@ -2,27 +2,28 @@
 -- `network_message_writer::envelope` cite.
 -- Assumes nothing.
 use mathlib.Core.Path.{_≡_}
-use mathlib.Core.Bool.{false, cond}
+use mathlib.Core.Bool.{false}
 use mathlib.Core.List.{List, _++_}
 use Prim.Native.Nat.{ℕ, _≤_}
 use native.Mathlib.Omega.{arith}
-use lib.Dec.{eqb, ltb}
+use lib.Dec.{eqb}
 use lib.ListN.{length, length-append}
-use borrow.Author.Tests.{ltb-false}
 use Rattle.wire.specs.Number.{leBytes}
 use Rattle.wire.specs.Answer.{got, refused}
 use Rattle.publisher_id.specs.declared.publisher.PublisherId.{PublisherId}
 use Rattle.network_header.specs.declared.envelope.Envelope.{Envelope}
 use Rattle.network_message.specs.Envelope.{NetworkMessage, networkMessageAt}
-use Rattle.wire_writer.proofs.Refusals.{passed, both-zero}
-use Rattle.wire_writer.specs.Writing.{orElse}
+use Rattle.wire_writer.proofs.Refusals.{both-zero}
+use Rattle.wire_writer.proofs.Answering.{reported}
+use Rattle.wire_writer.specs.Writing.{orElse, refusing, Writes}
+use Rattle.wire_writer.specs.declared.writing.Written.{Written}
 use Rattle.network_header.specs.Flags.{flagBytes, flagsFor}
 use Rattle.publisher_id.specs.Publisher.{publisherBytes, publisherShape}
 use Rattle.network_header.specs.Group.{groupBytes}
 use Rattle.network_header.specs.Header.{classBytes, idsShape, promotedShape}
 use Rattle.network_message_writer.specs.Payload.{listBytes, lengthsShape}
 use Rattle.network_message_writer.proofs.Short.{unused-none}
-use Rattle.network_message_writer.specs.Envelope.{Given, tailBytes, datagramOf, readingRefusal, shapeRefusal, refusalOf, numberOf}
+use Rattle.network_message_writer.specs.Envelope.{Given, tailBytes, datagramOf, readingRefusal, shapeRefusal, refusalOf, datagramOutput}
 use Rattle.round_trip.specs.NetworkMessage.{AsManyLengths, FitsEnvelope, ReadsBack, WritesAgain}
 use Rattle.round_trip.proofs.NetworkMessageWritten.{read-written, message-written}
 use Rattle.round_trip.proofs.NetworkMessageGiven.{text-written, promoted-written, writer-id-written}
@@ -31,23 +32,18 @@ use Rattle.round_trip.proofs.NetworkMessageRefused.{refuse-written}
 use Rattle.round_trip.proofs.NetworkMessageAccepted.{write-read}
 use Rattle.wire_writer.specs.Fits.{Bytes, Numbers}
 
--- what the number 0 of writing says
-accepted : (g : Given) (x : Envelope) (sizes configured : List ℕ) (room : ℕ) → numberOf g x sizes configured room ≡ 0 → (refusalOf g x sizes configured ≡ 0) × (length (datagramOf g x) ≤ 65535)
-accepted g x sizes configured room h =
-    let a = both-zero (refusalOf g x sizes configured) (cond (ltb 65535 (length (datagramOf g x))) 10 (cond (ltb room (length (datagramOf g x))) 11 0)) h in
-    (a .0, ltb-false 65535 (length (datagramOf g x)) (passed (ltb 65535 (length (datagramOf g x))) 9 (cond (ltb room (length (datagramOf g x))) 11 0) (a .1) .0))
-
 -- Theorem 1. What the writer accepted reads back, under the same configuration, as what it was given.
 
-pub reads-back : (g : Given) (x : Envelope) (sizes configured : List ℕ) (room : ℕ) → FitsEnvelope x → numberOf g x sizes configured room ≡ 0 → ReadsBack g x sizes configured
-reads-back g x sizes configured room f h =
-    let a = accepted g x sizes configured room h in
+pub reads-back : (g : Given) (x : Envelope) (sizes configured entry exit : List ℕ) (n : ℕ) → FitsEnvelope x
+    → Writes (datagramOutput g x sizes configured) entry exit (Written.Is n) → ReadsBack g x sizes configured
+reads-back g x sizes configured entry exit n f w =
+    let a = reported (refusalOf g x sizes configured) (datagramOf g x) entry exit n w in
     record {
-      whole = read-written g x sizes configured f (a .0) (a .1);
-      text = text-written g x sizes configured (a .0);
-      promoted = promoted-written g x sizes configured (a .0);
-      writerId = writer-id-written g x sizes configured (a .0);
-      message = message-written g x sizes configured f (a .0) (a .1);
+      whole = read-written g x sizes configured f (a .number) (a .limit);
+      text = text-written g x sizes configured (a .number);
+      promoted = promoted-written g x sizes configured (a .number);
+      writerId = writer-id-written g x sizes configured (a .number);
+      message = message-written g x sizes configured f (a .number) (a .limit);
     }
 
 -- Theorem 2. An accepted datagram written again gives `rewritten s`: the same bytes but for the one case that document 01
@@ -70,10 +66,11 @@ text-in (PublisherId.UInt32 v) text h = omega (arith, unused-none (length text) 
 text-in (PublisherId.UInt64 v) text h = omega (arith, unused-none (length text) h)
 text-in (PublisherId.Text n) text h = omega (arith, length-append (leBytes 4 (length text)) text)
 
-pub refuses-alike : (g : Given) (x : Envelope) (sizes configured : List ℕ) (room : ℕ) → FitsEnvelope x → AsManyLengths (x .«payload_header») (g .lengths) → shapeRefusal g x sizes configured ≡ 0
+pub refuses-alike : (g : Given) (x : Envelope) (sizes configured : List ℕ) → FitsEnvelope x → AsManyLengths (x .«payload_header») (g .lengths) → shapeRefusal g x sizes configured ≡ 0
     → length (datagramOf g x) ≤ 65535 → eqb (readingRefusal g x sizes) 0 ≡ false
-    → (numberOf g x sizes configured room ≡ readingRefusal g x sizes) × ((place : ℕ) × (networkMessageAt sizes (datagramOf g x) ≡ refused (readingRefusal g x sizes) place))
-refuses-alike g x sizes configured room f a s l h =
+    → (datagramOutput g x sizes configured ≡ refusing (readingRefusal g x sizes))
+    × ((place : ℕ) × (networkMessageAt sizes (datagramOf g x) ≡ refused (readingRefusal g x sizes) place))
+refuses-alike g x sizes configured f a s l h =
     let m1 = publisherShape (x .publisher) (length (g .text)) in
     let m2 = idsShape (x .chunk) (x .«payload_header») (g .ids) configured in
     let m3 = promotedShape (x .promoted) (length (g .promoted)) in

@@ -29,7 +29,9 @@ use Rattle.network_message.proofs.Accepted.{OfMessages}
 use Rattle.publisher_id.specs.Publisher.{publisherOn, publisherBytes}
 use Rattle.network_header.specs.Group.{groupBytes}
 use Rattle.network_header.specs.Header.{classBytes, payloadHeaderBytes}
-use Rattle.network_message_writer.specs.Envelope.{Given, headerBytes, datagramOf, refusalOf, before, textOf, promotedOf, rewriteAnswer, rewriteBuffer}
+use Rattle.network_message_writer.specs.Envelope.{Given, headerBytes, datagramOf, refusalOf, before, textOf, promotedOf, datagramAgain}
+use Rattle.wire_writer.specs.Writing.{writtenOf, bufferOf}
+use Rattle.wire_writer.specs.declared.writing.Written.{Written}
 use Rattle.wire_writer.specs.Fits.{Fits16, Fits32, FitsGuid, FitsI64}
 
 -- where the variable parts of a written envelope end
@@ -185,8 +187,8 @@ pub record ReadsBack (g : Given) (x : Envelope) (sizes configured : List ℕ) : 
 -- An accepted datagram s, written again: `rewrite` accepts it in the buffer out and leaves `rewritten s` there, and so does the writer
 -- its parts as they were read.
 pub record WritesAgain (s sizes configured out : List ℕ) (m : NetworkMessage) : Type 0 where
-  pub answer : rewriteAnswer s (networkMessageAt sizes s) (length out) ≡ got tt (length (rewritten s))
-  pub buffer : rewriteBuffer s (networkMessageAt sizes s) out ≡ rewritten s ++ drop (length (rewritten s)) out
+  pub answer : writtenOf (length out) (datagramAgain sizes s) ≡ Written.Is (length (rewritten s))
+  pub buffer : bufferOf out (datagramAgain sizes s) ≡ rewritten s ++ drop (length (rewritten s)) out
   -- with a PublisherId it is the datagram itself
   pub unchanged : publisherOn (m .envelope .publisher) ≡ true → rewritten s ≡ s
   pub unrefused : refusalOf (givenOf s (m .envelope) (m .places) sizes configured) (m .envelope) sizes configured ≡ 0

@@ -12,7 +12,7 @@ use lib.ListN.{length, drop, getD, set, length-append}
 use lib.Seq.{sets, set-comm}
 use Rattle.wire_writer.specs.Store.{Stored}
 use Rattle.wire.proofs.Reading.{lacks, room}
-use Rattle.wire_writer.proofs.Stores.{sets-append}
+use Rattle.wire_writer.proofs.Stores.{sets-append, stored-none}
 use Rattle.text.specs.Decimal.{decimalText}
 use Rattle.text.specs.Hex.{hexDigit, hexText, hexValue, allHex, hexBytes, hexNext, hexAfter}
 use Rattle.text.specs.declared.hex.Hex.the-variants.{To, Not}
@@ -86,10 +86,7 @@ module _ (s : List ℕ) (i : ℕ) (h : i < length s) (v : allHex (drop i s) ≡ 
   pub hex-rest : allHex (drop (i + 1) s) ≡ true
   hex-rest = and-right (not (eqb (hexValue (getD s i 0)) 16)) (allHex (drop (i + 1) s)) here
 
--- what a put function did: nothing where the text does not fit, else all of it
-pub stored-none : (t l : List ℕ) (at : ℕ) → leb (at + length t) (length l) ≡ false → Stored t l at l at
-stored-none t l at e = record { stored = rw e; after = rw e }
-
+-- what a put function did where the text fits: all of it
 pub stored-all : (t l m : List ℕ) (at next : ℕ) → leb (at + length t) (length l) ≡ true → m ≡ sets l at t → next ≡ at + length t → Stored t l at m next
 stored-all t l m at next e v n = record { stored = rw e v; after = rw e n }
 

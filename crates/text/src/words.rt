@@ -39,9 +39,5 @@ pub fn starts_with(s: &[u8], at: usize, word: &[u8]) -> bool
 pub fn put_bytes(out: &mut [u8], at: usize, text: &[u8]) -> usize
     ensures { λ r. ⌜ Stored (now (text .entry)) (now (out .entry)) at (now (out .exit)) r ⌝ }
 {
-    if !wire::has(out.len(), at, text.len()) {
-        return at;
-    }
-    wire_writer::store::put_run(out, at, text);
-    at + text.len()
+    wire_writer::store::put_run(out, at, text)
 }

@@ -4,13 +4,9 @@ use Prim.Native.Nat.{ℕ}
 use mathlib.Core.Path.{_≡_, ap, subst, _∙_}
 use mathlib.Core.Bool.{Bool}
 use mathlib.Core.List.{List}
-use lib.ListN.{length, take}
-use Rattle.wire.specs.Answer.{Answer}
-use Rattle.wire_writer.specs.Writing.{answerWritten}
+use lib.ListN.{take}
+use Rattle.wire_writer.specs.Writing.{answerWritten, Output, bufferOf, Writes}
 use Rattle.wire_writer.specs.declared.writing.Written.{Written}
-use Rattle.network_message.specs.Envelope.{networkMessageAt}
-use Rattle.dataset_message.specs.Message.{messageAt}
-use Rattle.rewriting.specs.Same.{sameWritten, sameBuffer, WritesSame, rewrittenAnswer, rewrittenBuffer, WritesDatagram}
 use Rattle.dataset_header.specs.declared.header.Header.{Header}
 use Rattle.network_header.specs.declared.envelope.Envelope.{Envelope}
 use Rattle.network_message_writer.specs.Envelope as datagram
@@ -24,61 +20,32 @@ use Rattle.uadp_c.specs.Listings.{listingText}
 use Rattle.walk_records.specs.Walk.{recordsPut, walkLines, walkOf}
 use Rattle.walk_records.specs.declared.Walked.{Walked}
 use Rattle.uadp_c.specs.Walks.{configured, walkResult}
-use Rattle.uadp_c.specs.Writing.{writerResult, datagramResult, datagramBuffer, messageResult, messageBuffer}
+use Rattle.uadp_c.specs.Writing.{writerResult, outputResult}
 
 -- as many numbers of a configuration record as there are writers: its sizes from 34 on, its ids from 2 on
 pub of-writers : (at : ℕ) (c l configured : List ℕ) (n : ℕ) → n ≡ writersIn c → l ≡ sixteen at c → configured ≡ take n l
     → configured ≡ take (writersIn c) (sixteen at c)
 of-writers at c l configured n a b d = d ∙ ap (λ (x : ℕ). take x l) a ∙ ap (λ (x : List ℕ). take (writersIn c) x) b
 
-pub rewritten : (c s configured out e : List ℕ) (w : Written) (r : ℕ) → configured ≡ sizesIn c
-    → WritesDatagram configured s out e w
-    → r ≡ writerResult (answerWritten w)
-    → (r ≡ writerResult (rewrittenAnswer (length out) s (networkMessageAt (sizesIn c) s)))
-    × (e ≡ rewrittenBuffer out s (networkMessageAt (sizesIn c) s))
-rewritten c s configured out e w r z a h =
-    subst
-    (λ (y : List ℕ). (r ≡ writerResult (rewrittenAnswer (length out) s (networkMessageAt y s))) × (e ≡ rewrittenBuffer out s (networkMessageAt y s)))
-    z (h ∙ ap (λ (x : Answer (Unit {0})). writerResult x) (a .answer), a .buffer)
+-- what a writer promises, as the result and the buffer of the C function around it, whose output is the same in other words
+pub wrote : (out e : List ℕ) (o o′ : Output) (w : Written) (r : ℕ) → o ≡ o′ → Writes o out e w → r ≡ writerResult (answerWritten w)
+    → (r ≡ outputResult out o′) × (e ≡ bufferOf out o′)
+wrote out e o o′ w r q a h =
+    subst (λ (y : Output). (r ≡ outputResult out y) × (e ≡ bufferOf out y)) q (h ∙ ap (λ (x : Written). writerResult (answerWritten x)) (a .answer), a .buffer)
 
-pub message-rewritten : (c s types out e : List ℕ) (writer : ℕ) (w : Written) (r : ℕ) → types ≡ typesFor c writer → WritesSame types s out e w
-    → r ≡ writerResult (answerWritten w)
-    → (r ≡ writerResult (answerWritten (sameWritten (length out) s (messageAt (typesFor c writer) s))))
-    × (e ≡ sameBuffer out s (messageAt (typesFor c writer) s))
-message-rewritten c s types out e writer w r z a h =
-    subst
-    (λ (y : List ℕ). (r ≡ writerResult (answerWritten (sameWritten (length out) s (messageAt y s)))) × (e ≡ sameBuffer out s (messageAt y s)))
-    z (h ∙ ap (λ (x : Written). writerResult (answerWritten x)) (a .answer), a .buffer)
+-- the outputs under a configuration record
+pub message-output : (c head types values lengths indices : List ℕ) (writer padding : ℕ) (b : Bool) (h : Header) → h ≡ headerIn head → types ≡ typesFor c writer
+    → message.messageOutput types (message.given h b values lengths indices padding)
+    ≡ message.messageOutput (typesFor c writer) (message.given (headerIn head) b values lengths indices padding)
+message-output c head types values lengths indices writer padding b h p q =
+    ap (λ (y : List ℕ). message.messageOutput y (message.given h b values lengths indices padding)) q
+    ∙ ap (λ (y : Header). message.messageOutput (typesFor c writer) (message.given y b values lengths indices padding)) p
 
-abbrev MessageEnds : List ℕ → message.Given → List ℕ → ℕ → List ℕ → Type 0
-MessageEnds types g out r e = (r ≡ messageResult types g out) × (e ≡ messageBuffer types g out)
-
-pub message-composed : (c head types values lengths indices out e : List ℕ) (writer padding r : ℕ) (b : Bool) (h : Header) (w : Written)
-    → h ≡ headerIn head → types ≡ typesFor c writer → message.Writes types (message.given h b values lengths indices padding) out e w
-    → r ≡ writerResult (answerWritten w)
-    → (r ≡ messageResult (typesFor c writer) (message.given (headerIn head) b values lengths indices padding) out)
-    × (e ≡ messageBuffer (typesFor c writer) (message.given (headerIn head) b values lengths indices padding) out)
-message-composed c head types values lengths indices out e writer padding r b h w p q a k =
-    let u : MessageEnds types (message.given h b values lengths indices padding) out r e =
-    (k ∙ ap (λ (x : Written). writerResult (answerWritten x)) (a .answer), a .buffer) in
-    let v : MessageEnds (typesFor c writer) (message.given h b values lengths indices padding) out r e =
-    subst (λ (y : List ℕ). MessageEnds y (message.given h b values lengths indices padding) out r e) q u in
-    subst (λ (y : Header). MessageEnds (typesFor c writer) (message.given y b values lengths indices padding) out r e) p v
-
-abbrev DatagramEnds : datagram.Given → Envelope → List ℕ → List ℕ → List ℕ → ℕ → List ℕ → Type 0
-DatagramEnds g x sizes ids out r e =
-    (r ≡ writerResult (datagram.writtenOf g x sizes ids (length out))) × (e ≡ datagram.bufferAfter g x sizes ids out)
-
-pub datagram-composed : (c envelope sizes ids out e : List ℕ) (g : datagram.Given) (r : ℕ) (x : Envelope) (w : Written) → x ≡ envelopeIn envelope
-    → sizes ≡ sizesIn c → ids ≡ idsIn c
-    → (answerWritten w ≡ datagram.writtenOf g x sizes ids (length out)) × (e ≡ datagram.bufferAfter g x sizes ids out)
-    → r ≡ writerResult (answerWritten w)
-    → (r ≡ datagramResult c g (envelopeIn envelope) out) × (e ≡ datagramBuffer c g (envelopeIn envelope) out)
-datagram-composed c envelope sizes ids out e g r x w p q i a k =
-    let u : DatagramEnds g x sizes ids out r e = (k ∙ ap (λ (y : Answer (Unit {0})). writerResult y) (a .0), a .1) in
-    let v : DatagramEnds g x (sizesIn c) ids out r e = subst (λ (y : List ℕ). DatagramEnds g x y ids out r e) q u in
-    let z : DatagramEnds g x (sizesIn c) (idsIn c) out r e = subst (λ (y : List ℕ). DatagramEnds g x (sizesIn c) y out r e) i v in
-    subst (λ (y : Envelope). DatagramEnds g y (sizesIn c) (idsIn c) out r e) p z
+pub datagram-output : (c envelope sizes ids : List ℕ) (g : datagram.Given) (x : Envelope) → x ≡ envelopeIn envelope → sizes ≡ sizesIn c → ids ≡ idsIn c
+    → datagram.datagramOutput g x sizes ids ≡ datagram.datagramOutput g (envelopeIn envelope) (sizesIn c) (idsIn c)
+datagram-output c envelope sizes ids g x p q i =
+    ap (λ (y : List ℕ). datagram.datagramOutput g x y ids) q ∙ ap (λ (y : List ℕ). datagram.datagramOutput g x (sizesIn c) y) i
+    ∙ ap (λ (y : Envelope). datagram.datagramOutput g y (sizesIn c) (idsIn c)) p
 
 -- the listing's text under a configuration's parts
 abbrev partsText : List ℕ → List ℕ → List ℕ → List ℕ → List ℕ → List ℕ

@@ -9,11 +9,12 @@ use records::writers::writer_count;
 ghost use mathlib.Core.Path.{_≡_};
 ghost use Rattle.network_message_writer.specs.Envelope as datagram;
 ghost use Rattle.dataset_message_writer.specs.Message as message;
-ghost use Rattle.records.specs.Writers.{typesFor};
+ghost use Rattle.wire_writer.specs.Writing.{bufferOf};
+ghost use Rattle.records.specs.Writers.{idsIn, sizesIn, typesFor};
 ghost use Rattle.records.specs.Items.{isOn};
 ghost use Rattle.message_record.specs.Message.{headerIn};
 ghost use Rattle.envelope_record.specs.Envelope.{envelopeIn};
-ghost use Rattle.uadp_c.specs.Writing.{datagramResult, datagramBuffer, messageResult, messageBuffer};
+ghost use Rattle.uadp_c.specs.Writing.{outputResult};
 
 // Writes a DataSetMessage from parts: the header of a head record; heartbeat is 0, or else a key frame ends after its header.
 #[no_mangle]
@@ -32,7 +33,8 @@ pub extern "C" fn uadp_write_message(
         let types = typesFor (now (config .entry)) writer in
         let header = headerIn (now (head .entry)) in
         let g = message.given header (isOn heartbeat) (now (values .entry)) (now (lengths .entry)) (now (indices .entry)) padding in
-        ⌜ (r ≡ messageResult types g (now (out .entry))) × (now (out .exit) ≡ messageBuffer types g (now (out .entry))) ⌝ }
+        let output = message.messageOutput types g in
+        ⌜ (r ≡ outputResult (now (out .entry)) output) × (now (out .exit) ≡ bufferOf (now (out .entry)) output) ⌝ }
 {
     let header = header_in(head);
     let types = types_for(config, writer);
@@ -65,8 +67,8 @@ pub extern "C" fn uadp_write(
         let lists = datagram.given (now (text .entry)) (now (ids .entry)) (now (promoted .entry)) in
         let g = lists (now (lengths .entry)) (now (messages .entry)) in
         let x = envelopeIn (now (envelope .entry)) in
-        ⌜ (r ≡ datagramResult (now (config .entry)) g x (now (out .entry)))
-        × (now (out .exit) ≡ datagramBuffer (now (config .entry)) g x (now (out .entry))) ⌝ }
+        let output = datagram.datagramOutput g x (sizesIn (now (config .entry))) (idsIn (now (config .entry))) in
+        ⌜ (r ≡ outputResult (now (out .entry)) output) × (now (out .exit) ≡ bufferOf (now (out .entry)) output) ⌝ }
 {
     let x = envelope_in(envelope);
     let n = writer_count(config);

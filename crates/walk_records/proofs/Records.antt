@@ -12,10 +12,9 @@ use Rattle.wire_writer.specs.Store.{laid}
 use Rattle.wire.specs.Answer.{Answer, got, refused}
 use Rattle.wire.specs.declared.optional.Optional16.{Optional16}
 use Rattle.network_message.specs.declared.payload.MessagePlace.{MessagePlace}
-use Rattle.dataset_header.specs.Flags.{Valid, notValid, valid}
+use Rattle.dataset_header.specs.Flags.{Valid, notValid, valid, encodingNumber, kindNumber}
 use Rattle.dataset_message.specs.Message.{Message, messageAt}
 use Rattle.records.specs.Numbers.{numberBytes}
-use Rattle.message_record.specs.Message.{kindNumber, encodingNumber}
 use Rattle.records.proofs.Storing.{bytes-length}
 use Rattle.walk.specs.Lines.{fieldsLeft}
 use Rattle.walk.specs.declared.entry.Line.{Line}

@@ -2,6 +2,7 @@
 use Prim.Native.Nat.{ℕ, _+_, _*_}
 use mathlib.Core.List.{List, [], _∷_}
 use lib.ListN.{length, drop, replicate}
+use Rattle.dataset_header.specs.Flags.{encodingNumber, kindNumber}
 use Rattle.records.specs.Sizes.{WALK_SIZE}
 use Rattle.wire.specs.Answer.{Answer, got, refused}
 use Rattle.wire_writer.specs.Store.{laid}
@@ -10,7 +11,7 @@ use Rattle.network_message.specs.Envelope.{NetworkMessage, networkMessageAt}
 use Rattle.walk.specs.Lines.{Writers, datagramLines}
 use Rattle.walk.specs.declared.entry.Line.{Line}
 use Rattle.records.specs.Numbers.{numberBytes}
-use Rattle.message_record.specs.Message.{kindNumber, encodingNumber, shapeNumber, elementsNumber}
+use Rattle.message_record.specs.Message.{shapeNumber, elementsNumber}
 use Rattle.walk_records.specs.declared.Walked.{Walked}
 
 -- "65536 for none"

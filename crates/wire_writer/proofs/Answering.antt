@@ -1,47 +1,98 @@
--- The ways out of a writer: each answer and what it leaves in the buffer.
+-- The ways out of a writer: each answer and what it leaves in the buffer; and what an answer tells.
 -- Assumes nothing.
-use mathlib.Core.Path.{_≡_, refl, ap, sym, _∙_}
+use mathlib.Core.Path.{_≡_, refl, ap, sym, subst, _∙_}
 use mathlib.Core.Bool.{Bool, true, false, cond}
 use mathlib.Core.List.{List, _++_}
-use Prim.Native.Nat.{ℕ, _≤_, _<_}
-use lib.Dec.{eqb}
-use lib.ListN.{length, drop}
-use borrow.Author.Tests.{ne-eqb, le-ltb, lt-ltb}
-use Rattle.wire.specs.Answer.{got, refused}
+use Prim.Native.Nat.{ℕ, _≤_}
+use native.Mathlib.Omega.{arith}
+use lib.Dec.{eqb, ltb}
+use lib.ListN.{length, take, drop}
+use lib.Seq.{take-at, drop-at}
+use borrow.Author.Tests.{ne-eqb, eqb-true, le-ltb, ltb-false}
+use Rattle.wire.specs.Answer.{Answer, got, refused}
 use Rattle.wire_writer.specs.declared.writing.Written.{Written}
-use Rattle.wire_writer.specs.Writing.{numberFor, writtenBy, bufferBy, answerWritten, answerBy}
+use Rattle.wire_writer.specs.Writing.{roomRefusal, Output, writing, refusing, unless, afterReading, writtenOf, bufferOf, Writes, Puts}
+use Rattle.wire_writer.proofs.Putting.{whole}
+use Rattle.wire_writer.proofs.Refusals.{passed}
 
--- the answer r and the buffer exit are those of a writer with the refusal n of these bytes, into the buffer out
-abbrev pub Answers : ℕ → List ℕ → List ℕ → Written → List ℕ → Type 0
-Answers n bytes out r exit =
-    (r ≡ writtenBy (numberFor n (length bytes) (length out)) bytes) × (exit ≡ bufferBy (numberFor n (length bytes) (length out)) bytes out)
+-- where bytes are not refused, they are within the limit and the buffer has room
+pub roomy : (size room : ℕ) → roomRefusal size room ≡ 0 → (size ≤ 65535) × (size ≤ room)
+roomy size room e =
+    let a = passed (ltb 65535 size) 9 (cond (ltb room size) 11 0) e in
+    (ltb-false 65535 size (a .0), ltb-false room size (passed (ltb room size) 10 0 (a .1) .0))
 
+pub fitting : (size room : ℕ) → size ≤ 65535 → size ≤ room → roomRefusal size room ≡ 0
+fitting size room h k = rw (le-ltb 65535 size h, le-ltb room size k)
+
+-- of bytes whose writer's own refusal is n
 module _ (n : ℕ) (bytes out : List ℕ) where
-  pub refuses : (k : ℕ) → k ≡ n → (k ≡ 0 → ⊥) → Answers n bytes out (Written.Refused k) out
-  refuses k e h = rw (sym e, ne-eqb k 0 h, ne-eqb k 0 h) (refl, refl)
+  pub refused-by : (k : ℕ) → k ≡ n → (k ≡ 0 → ⊥) → Writes (unless n bytes) out out (Written.Refused k)
+  refused-by k e h = rw (sym e, ne-eqb k 0 h) (record { answer = refl; buffer = refl })
 
-  module _ (e : n ≡ 0) (size : ℕ) (l : size ≡ length bytes) where
-    pub too-long : 65535 < size → Answers n bytes out (Written.Refused 10) out
-    too-long h = rw (e, sym l, lt-ltb 65535 size h) (refl, refl)
+  module _ (e : n ≡ 0) (full : ℕ) (l : full ≡ roomRefusal (length bytes) (length out)) where
+    pub no-room : (full ≡ 0 → ⊥) → Writes (unless n bytes) out out (Written.Refused full)
+    no-room h = rw e (record { answer = rw (sym l, ne-eqb full 0 h); buffer = rw (sym l, ne-eqb full 0 h) })
 
-    module _ (k : size ≤ 65535) where
-      pub no-room : length out < size → Answers n bytes out (Written.Refused 11) out
-      no-room h = rw (e, sym l, le-ltb 65535 size k, lt-ltb (length out) size h) (refl, refl)
+    pub written : full ≡ 0 → (size next : ℕ) (exit : List ℕ) → size ≡ length bytes → Puts bytes out 0 exit next → Writes (unless n bytes) out exit (Written.Is size)
+    written z size next exit q p =
+        let y = sym l ∙ z in
+        rw e (record { answer = rw (y, q); buffer = rw y (whole p (roomy (length bytes) (length out) y .1) .0) })
 
-      pub writes : (exit : List ℕ) → size ≤ length out → exit ≡ bytes ++ drop (length bytes) out → Answers n bytes out (Written.Is size) exit
-      writes exit h q = rw (e, sym l, le-ltb 65535 size k, le-ltb (length out) size h) (refl, q ∙ ap (λ (i : ℕ). bytes ++ drop i out) (sym l))
+-- after reading
+pub reading-accepts : {A : Type 0} (f : A → Output) {x : Answer A} {a : A} {next : ℕ} {entry exit : List ℕ} {r : Written} → x ≡ got a next
+    → Writes (f a) entry exit r → Writes (afterReading x f) entry exit r
+reading-accepts {A} f {entry = entry} {exit = exit} {r = r} q w = subst (λ (y : Answer A). Writes (afterReading y f) entry exit r) (sym q) w
 
--- the same in number, place and length
-abbrev pub Reports : ℕ → List ℕ → List ℕ → Written → List ℕ → Type 0
-Reports n bytes out r exit =
-    (answerWritten r ≡ answerBy (numberFor n (length bytes) (length out)) bytes) × (exit ≡ bufferBy (numberFor n (length bytes) (length out)) bytes out)
+pub reading-refuses : {A : Type 0} (f : A → Output) {x : Answer A} {n place : ℕ} {entry : List ℕ} → x ≡ refused n place
+    → Writes (afterReading x f) entry entry (Written.Refused n)
+reading-refuses {A} f {n = n} {entry = entry} q =
+    subst (λ (y : Answer A). Writes (afterReading y f) entry entry (Written.Refused n)) (sym q) (record { answer = refl; buffer = refl })
 
-answered : (n : ℕ) (bytes : List ℕ) → answerWritten (writtenBy n bytes) ≡ answerBy n bytes
-answered n bytes = go (eqb n 0)
+-- a refusal leaves the whole buffer as it was
+pub unchanged : (o : Output) {entry exit : List ℕ} {n : ℕ} → Writes o entry exit (Written.Refused n) → exit ≡ entry
+unchanged (refusing k) w = w .buffer
+unchanged (writing bytes) {entry} {exit} {n} w = go (eqb (roomRefusal (length bytes) (length entry)) 0) refl
   where
-    go : (b : Bool) → answerWritten (cond b (Written.Is (length bytes)) (Written.Refused n)) ≡ cond b (got tt (length bytes)) (refused n 0)
-    go true = refl
-    go false = refl
+    go : (t : Bool) → eqb (roomRefusal (length bytes) (length entry)) 0 ≡ t → exit ≡ entry
+    go true t =
+        let e : Written.Refused n ≡ Written.Is (length bytes) = w .answer ∙ rw t in
+        let z : _≡_ {A = ℕ} 0 1 = cc in
+        absurd (omega arith)
+    go false t = w .buffer ∙ rw t
 
-pub reports : (n : ℕ) (bytes out : List ℕ) (r : Written) (exit : List ℕ) → Answers n bytes out r exit → Reports n bytes out r exit
-reports n bytes out r exit a = (ap answerWritten (a .0) ∙ answered (numberFor n (length bytes) (length out)) bytes, a .1)
+-- bytes that fit are written: all of them from the buffer's start, and the buffer goes on as it was
+pub fitting-written : {bytes entry exit : List ℕ} {r : Written} → length bytes ≤ 65535 → length bytes ≤ length entry → Writes (writing bytes) entry exit r
+    → (r ≡ Written.Is (length bytes)) × (exit ≡ bytes ++ drop (length bytes) entry)
+fitting-written {bytes} {entry} h k w =
+    let z = fitting (length bytes) (length entry) h k in
+    (w .answer ∙ rw z, w .buffer ∙ rw z)
+
+-- What a writer's answer of n bytes tells: it refuses nothing, the first n bytes are those that it was to write, and the others are as they were.
+pub record Reported (k : ℕ) (bytes entry exit : List ℕ) (n : ℕ) : Type 0 where
+  pub number : k ≡ 0
+  pub limit : length bytes ≤ 65535
+  pub front : take n exit ≡ bytes
+  pub rest : drop n exit ≡ drop n entry
+
+module _ (k : ℕ) (bytes entry exit : List ℕ) (n : ℕ) where
+  all-written : (t : Bool) → eqb (roomRefusal (length bytes) (length entry)) 0 ≡ t → k ≡ 0
+      → Written.Is n ≡ cond t (Written.Is (length bytes)) (Written.Refused (roomRefusal (length bytes) (length entry)))
+      → exit ≡ cond t (bytes ++ drop (length bytes) entry) entry → Reported k bytes entry exit n
+  all-written true t z a b =
+      let l : length bytes ≡ n = cc in
+      let f : exit ≡ bytes ++ drop n entry = b ∙ ap (λ (i : ℕ). bytes ++ drop i entry) l in
+      record {
+        number = z;
+        limit = roomy (length bytes) (length entry) (eqb-true (roomRefusal (length bytes) (length entry)) 0 t) .0;
+        front = ap (take n) f ∙ take-at bytes (drop n entry) n l;
+        rest = ap (drop n) f ∙ drop-at bytes (drop n entry) n l;
+      }
+  all-written false t z a b = let y : _≡_ {A = ℕ} 0 1 = cc in absurd (omega arith)
+
+  pub reported : Writes (unless k bytes) entry exit (Written.Is n) → Reported k bytes entry exit n
+  reported w = go (eqb k 0) refl (w .answer) (w .buffer)
+    where
+      go : (t : Bool) → eqb k 0 ≡ t → Written.Is n ≡ writtenOf (length entry) (cond t (writing bytes) (refusing k))
+          → exit ≡ bufferOf entry (cond t (writing bytes) (refusing k)) → Reported k bytes entry exit n
+      go true t a b = all-written (eqb (roomRefusal (length bytes) (length entry)) 0) refl (eqb-true k 0 t) a b
+      go false t a b = let y : _≡_ {A = ℕ} 0 1 = cc in absurd (omega arith)

@@ -15,19 +15,9 @@ use mir.Syntax.{w64}
 use mir.Val.{SFits, toZ, ofZ}
 use mir.ValLaws.{toZ-ofZ}
 use Rattle.wire.specs.Number.{leBytes, unsigned}
-use Rattle.wire_writer.specs.Store.{Stored, laid}
-use Rattle.wire.proofs.Numbers.{length-leBytes}
+use Rattle.wire_writer.specs.Store.{Stored}
 use Rattle.wire_writer.proofs.Stores.{sets-append}
 use Rattle.wire_writer.specs.Writing.{Puts}
-
--- bytes of n were laid at a position, and next is the position after n bytes
-stored-run : (n : ℕ) (b entry : List ℕ) (at : ℕ) (exit : List ℕ) (next : ℕ) → length b ≡ n → exit ≡ laid entry at b
-    → next ≡ cond (leb (at + n) (length entry)) (at + n) at → Stored b entry at exit next
-stored-run n b entry at exit next h e q = record { stored = e; after = q ∙ ap (λ (k : ℕ). cond (leb (at + k) (length entry)) (at + k) at) (sym h) }
-
-pub stored-number : (w v : ℕ) (entry : List ℕ) (at : ℕ) (exit : List ℕ) (next : ℕ) → exit ≡ laid entry at (leBytes w v)
-    → next ≡ cond (leb (at + w) (length entry)) (at + w) at → Stored (leBytes w v) entry at exit next
-stored-number w v entry at exit next = stored-run w (leBytes w v) entry at exit next (length-leBytes w v)
 
 pub stored-nothing : (entry : List ℕ) (at : ℕ) → Stored [] entry at entry at
 stored-nothing entry at = record { stored = go (leb (at + 0) (length entry)); after = here (leb (at + 0) (length entry)) }

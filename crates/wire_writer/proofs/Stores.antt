@@ -1,6 +1,6 @@
 -- Laws of runs of bytes stored into a buffer.
 -- Assumes nothing.
-use mathlib.Core.Path.{_≡_, ap, sym, _∙_}
+use mathlib.Core.Path.{_≡_, ap, sym, subst, _∙_}
 use mathlib.Core.List.{List, [], _∷_, _++_}
 use mathlib.Core.Bool.{true, false}
 use Prim.Native.Nat.{ℕ, suc, _+_, _-_, _/_, _^_, _<_, _≤_}
@@ -10,7 +10,7 @@ use lib.Dec.{leb}
 use lib.ListN.{length, getD, set, take}
 use lib.Seq.{sets, take-suc, take-all, length-take-le}
 use Rattle.wire.specs.Number.{leBytes}
-use Rattle.wire_writer.specs.Store.{laid}
+use Rattle.wire_writer.specs.Store.{Stored}
 use Rattle.wire.proofs.Numbers.{split-bytes, length-leBytes}
 
 -- two runs, one after the other
@@ -36,9 +36,15 @@ run-step src l at i h =
 pub run-all : (src l : List ℕ) (at i : ℕ) → length src ≤ i → sets l at (take i src) ≡ sets l at src
 run-all src l at i h = ap (sets l at) (take-all i src h)
 
--- bytes that fit are stored, and others are not
-pub laid-fits : (l : List ℕ) (at : ℕ) (b : List ℕ) → leb (at + length b) (length l) ≡ true → sets l at b ≡ laid l at b
-laid-fits l at b e = rw e
+-- bytes that fit are stored, with the position after them; others are not, and the position stays
+pub stored-fits : (b l : List ℕ) (at : ℕ) {exit : List ℕ} {next : ℕ} → next ≡ at + length b → leb next (length l) ≡ true → exit ≡ sets l at b → Stored b l at exit next
+stored-fits b l at q e s =
+    let f : leb (at + length b) (length l) ≡ true = ap (λ (n : ℕ). leb n (length l)) (sym q) ∙ e in
+    record { stored = s ∙ rw f; after = q ∙ rw f }
 
-pub laid-none : (l : List ℕ) (at : ℕ) (b : List ℕ) → leb (at + length b) (length l) ≡ false → l ≡ laid l at b
-laid-none l at b e = rw e
+pub stored-none : (b l : List ℕ) (at : ℕ) → leb (at + length b) (length l) ≡ false → Stored b l at l at
+stored-none b l at e = record { stored = rw e; after = rw e }
+
+-- the same number in other words
+pub stored-as : (w : ℕ) {m n : ℕ} {entry exit : List ℕ} {at next : ℕ} → m ≡ n → Stored (leBytes w m) entry at exit next → Stored (leBytes w n) entry at exit next
+stored-as w {entry = entry} {exit = exit} {at = at} {next = next} e s = subst (λ (v : ℕ). Stored (leBytes w v) entry at exit next) e s

@@ -19,26 +19,45 @@ use Rattle.wire_writer.specs.declared.writing.Written.{Written}
 abbrev pub orElse : ℕ → ℕ → ℕ
 orElse a b = cond (eqb a 0) b a
 
--- "output above 65,535 bytes by 10; then 11": a refusal n of what is to be written comes first
-abbrev pub numberFor : ℕ → ℕ → ℕ → ℕ
-numberFor n size room = orElse n (cond (ltb MOST_DATAGRAM size) OVER_LIMIT (cond (ltb room size) NO_ROOM 0))
+-- "output above 65,535 bytes by 10; then 11", for so many bytes and a buffer of `room` bytes; 0 where they fit
+abbrev pub roomRefusal : ℕ → ℕ → ℕ
+roomRefusal size room = cond (ltb MOST_DATAGRAM size) OVER_LIMIT (cond (ltb room size) NO_ROOM 0)
 
--- the answer of a writer with the number n (0 is done) for these bytes
-abbrev pub writtenBy : ℕ → List ℕ → Written
-writtenBy n bytes = cond (eqb n 0) (Written.Is (length bytes)) (Written.Refused n)
+-- What is to be written: these bytes; or none, by the number of a refusal.
+pub data Output : Type 0 where
+  writing : List ℕ → Output
+  refusing : ℕ → Output
 
--- "A successful writer changes only the bytes it reports, from the buffer's start"; a refusal leaves the buffer as it was
-abbrev pub bufferBy : ℕ → List ℕ → List ℕ → List ℕ
-bufferBy n bytes out = cond (eqb n 0) (bytes ++ drop (length bytes) out) out
+-- the bytes, unless a rule refuses them by the number n; 0 is no refusal
+abbrev pub unless : ℕ → List ℕ → Output
+unless n bytes = cond (eqb n 0) (writing bytes) (refusing n)
+
+-- what is written of that which reading answered: "A writer refuses what reading would refuse, by the same number"
+abbrev pub afterReading : {A : Type 0} → Answer A → (A → Output) → Output
+afterReading (got a next) f = f a
+afterReading (refused n place) f = refusing n
+
+-- what a writer answers, into a buffer of `room` bytes
+abbrev pub writtenOf : ℕ → Output → Written
+writtenOf room (writing bytes) =
+    cond (eqb (roomRefusal (length bytes) room) 0) (Written.Is (length bytes)) (Written.Refused (roomRefusal (length bytes) room))
+writtenOf room (refusing n) = Written.Refused n
+
+-- what a writer leaves of the buffer `entry`: the bytes from its start, and then its own rest; of a refusal, all as it was
+abbrev pub bufferOf : List ℕ → Output → List ℕ
+bufferOf entry (writing bytes) = cond (eqb (roomRefusal (length bytes) (length entry)) 0) (bytes ++ drop (length bytes) entry) entry
+bufferOf entry (refusing n) = entry
+
+-- What every writer promises: "A writer refuses what reading would refuse, by the same number in reading order; then .. by 6;
+-- output above 65,535 bytes by 10; then 11. A successful writer changes only the bytes it reports, from the buffer's start".
+pub record Writes (output : Output) (entry exit : List ℕ) (r : Written) : Type 0 where
+  pub answer : r ≡ writtenOf (length entry) output
+  pub buffer : exit ≡ bufferOf entry output
 
 -- what the answer of the code says: "a writer's [place] is 0"
 abbrev pub answerWritten : Written → Answer (Unit {0})
 answerWritten (Written.Is n) = got tt n
 answerWritten (Written.Refused n) = refused n 0
-
--- the answer of a writer with the number n (0 is done) for these bytes, as number, place and the position after them
-abbrev pub answerBy : ℕ → List ℕ → Answer (Unit {0})
-answerBy n bytes = cond (eqb n 0) (got tt (length bytes)) (refused n 0)
 
 -- where there is room for all of the bytes b, they were stored from position at on, and next is the position after them
 pub record Puts (b entry : List ℕ) (at : ℕ) (exit : List ℕ) (next : ℕ) : Type 0 where

@@ -1,4 +1,4 @@
-// Numbers and runs of bytes stored into a lent buffer. What does not fit as a whole is not stored at all.
+// Numbers and runs of bytes stored into a lent buffer.
 use wire::Guid;
 use wire::has;
 ghost use mathlib.Core.Path.{_≡_};
@@ -8,7 +8,7 @@ ghost use lib.ListN.{length};
 ghost use lib.Seq.{sets};
 ghost use Rattle.wire.specs.Number.{leBytes, unsigned};
 ghost use Rattle.wire.specs.Items.{guidBytes};
-ghost use Rattle.wire_writer.specs.Store.{laid};
+ghost use Rattle.wire_writer.specs.Store.{Stored};
 
 // The lowest 1, 2, 4 and 8 bytes of a number, lowest first.
 fn store1(out: &mut [u8], at: usize, v: u64)
@@ -42,36 +42,51 @@ fn store8(out: &mut [u8], at: usize, v: u64)
     store4(out, at + 4, v / 4294967296);
 }
 
-pub fn put8(out: &mut [u8], at: usize, v: u8)
-    ensures { λ _. ⌜ now (out .exit) ≡ laid (now (out .entry)) at (leBytes 1 v) ⌝ }
+// Each stores its bytes where they fit as a whole, and answers the position after them; where they do not fit, it stores nothing
+// and answers the position unchanged.
+
+// A number of 1 byte.
+pub fn put8(out: &mut [u8], at: usize, v: u8) -> usize
+    ensures { λ r. ⌜ Stored (leBytes 1 v) (now (out .entry)) at (now (out .exit)) r ⌝ }
 {
     if has(out.len(), at, 1) {
         store1(out, at, v as u64);
+        return at + 1;
     }
+    at
 }
 
-pub fn put16(out: &mut [u8], at: usize, v: u16)
-    ensures { λ _. ⌜ now (out .exit) ≡ laid (now (out .entry)) at (leBytes 2 v) ⌝ }
+// A number of 2 bytes.
+pub fn put16(out: &mut [u8], at: usize, v: u16) -> usize
+    ensures { λ r. ⌜ Stored (leBytes 2 v) (now (out .entry)) at (now (out .exit)) r ⌝ }
 {
     if has(out.len(), at, 2) {
         store2(out, at, v as u64);
+        return at + 2;
     }
+    at
 }
 
-pub fn put32(out: &mut [u8], at: usize, v: u32)
-    ensures { λ _. ⌜ now (out .exit) ≡ laid (now (out .entry)) at (leBytes 4 v) ⌝ }
+// A number of 4 bytes.
+pub fn put32(out: &mut [u8], at: usize, v: u32) -> usize
+    ensures { λ r. ⌜ Stored (leBytes 4 v) (now (out .entry)) at (now (out .exit)) r ⌝ }
 {
     if has(out.len(), at, 4) {
         store4(out, at, v as u64);
+        return at + 4;
     }
+    at
 }
 
-pub fn put64(out: &mut [u8], at: usize, v: u64)
-    ensures { λ _. ⌜ now (out .exit) ≡ laid (now (out .entry)) at (leBytes 8 v) ⌝ }
+// A number of 8 bytes.
+pub fn put64(out: &mut [u8], at: usize, v: u64) -> usize
+    ensures { λ r. ⌜ Stored (leBytes 8 v) (now (out .entry)) at (now (out .exit)) r ⌝ }
 {
     if has(out.len(), at, 8) {
         store8(out, at, v);
+        return at + 8;
     }
+    at
 }
 
 // A signed number of 8 bytes, as the number that stands for it.
@@ -84,22 +99,25 @@ pub fn unsigned64(v: i64) -> u64
     v as u64
 }
 
-pub fn put_i64(out: &mut [u8], at: usize, v: i64)
-    ensures { λ _. ⌜ now (out .exit) ≡ laid (now (out .entry)) at (leBytes 8 (unsigned 8 v)) ⌝ }
+// A signed number of 8 bytes.
+pub fn put_i64(out: &mut [u8], at: usize, v: i64) -> usize
+    ensures { λ r. ⌜ Stored (leBytes 8 (unsigned 8 v)) (now (out .entry)) at (now (out .exit)) r ⌝ }
 {
-    put64(out, at, unsigned64(v));
+    put64(out, at, unsigned64(v))
 }
 
-pub fn put_guid(out: &mut [u8], at: usize, v: Guid)
-    ensures { λ _. ⌜ now (out .exit) ≡ laid (now (out .entry)) at (guidBytes v) ⌝ }
+// The 16 bytes of a Guid.
+pub fn put_guid(out: &mut [u8], at: usize, v: Guid) -> usize
+    ensures { λ r. ⌜ Stored (guidBytes v) (now (out .entry)) at (now (out .exit)) r ⌝ }
 {
     if has(out.len(), at, 16) {
         store8(out, at, v.low);
         store8(out, at + 8, v.high);
+        return at + 16;
     }
+    at
 }
 
-// A run of bytes.
 fn copy_in(out: &mut [u8], at: usize, src: &[u8])
     requires { ⌜ at + length (now src) ≤ length (now out) ⌝ }
     ensures { λ _. ⌜ now (out .exit) ≡ sets (now (out .entry)) at (now (src .entry)) ⌝ }
@@ -111,10 +129,13 @@ fn copy_in(out: &mut [u8], at: usize, src: &[u8])
     }
 }
 
-pub fn put_run(out: &mut [u8], at: usize, src: &[u8])
-    ensures { λ _. ⌜ now (out .exit) ≡ laid (now (out .entry)) at (now (src .entry)) ⌝ }
+// A run of bytes.
+pub fn put_run(out: &mut [u8], at: usize, src: &[u8]) -> usize
+    ensures { λ r. ⌜ Stored (now (src .entry)) (now (out .entry)) at (now (out .exit)) r ⌝ }
 {
     if has(out.len(), at, src.len()) {
         copy_in(out, at, src);
+        return at + src.len();
     }
+    at
 }

@@ -1,19 +1,22 @@
-// Words that the writers share: the answer of a writer, the first refusal of several, a flag as a number, and items stored
-// one after the other. A put function stores an item where it fits and returns the position after it; where it does not
-// fit, it stores nothing and returns the position unchanged.
-use wire::Guid;
+// Words that the writers share: the answer of a writer, refusals in order, flags as numbers, and items that a flag announces.
+use crate::store::put_i64;
+use crate::store::put8;
+use crate::store::put16;
+use crate::store::put32;
 use wire::constants::DISAGREE;
+use wire::constants::MOST_DATAGRAM;
+use wire::constants::NO_ROOM;
+use wire::constants::OVER_LIMIT;
 use wire::optional::Optional16;
 use wire::optional::Optional32;
 use wire::optional::OptionalI64;
 ghost use mathlib.Core.Path.{_≡_};
 ghost use mathlib.Core.Bool.{cond};
-ghost use Prim.Native.Nat.{_+_, _≤_};
-ghost use lib.Dec.{leb, eqb};
-ghost use Rattle.wire.specs.Number.{leBytes, unsigned};
-ghost use Rattle.wire.specs.Items.{guidBytes};
+ghost use Prim.Native.Nat.{_≤_};
+ghost use lib.ListN.{length};
+ghost use Rattle.wire.specs.Constants.{DISAGREE};
 ghost use Rattle.wire_writer.specs.Store.{Stored};
-ghost use Rattle.wire_writer.specs.Writing.{orElse, num, on16, on32, onI64, picosecondsRefusal, byteBytes, optional16Bytes, optional32Bytes, optionalI64Bytes, unused};
+ghost use Rattle.wire_writer.specs.Writing.{orElse, roomRefusal, num, on16, on32, onI64, picosecondsRefusal, byteBytes, needed, optional16Bytes, optional32Bytes, optionalI64Bytes};
 
 // What a writer answers: how many bytes it wrote, or the number of its refusal, whose place is 0.
 pub enum Written {
@@ -31,6 +34,19 @@ pub fn or_else(a: u8, b: u8) -> u8
     a
 }
 
+// The number by which so many bytes are refused in a buffer of `room` bytes: 10 above 65,535, then 11; 0 where they fit.
+pub fn room_refusal(size: usize, room: usize) -> u8
+    ensures { λ r. ⌜ r ≡ roomRefusal size room ⌝ }
+{
+    if MOST_DATAGRAM < size {
+        return OVER_LIMIT;
+    }
+    if room < size {
+        return NO_ROOM;
+    }
+    0
+}
+
 // A flag as the number of its bit.
 pub fn flag(on: bool) -> u8
     ensures { λ r. ⌜ (r ≡ num on) × (r ≤ 1) ⌝ }
@@ -41,6 +57,7 @@ pub fn flag(on: bool) -> u8
     0
 }
 
+// Whether an item is there.
 pub fn is_on16(x: Optional16) -> bool
     ensures { λ r. ⌜ r ≡ on16 x ⌝ }
 {
@@ -50,6 +67,7 @@ pub fn is_on16(x: Optional16) -> bool
     }
 }
 
+// Whether an item is there.
 pub fn is_on32(x: Optional32) -> bool
     ensures { λ r. ⌜ r ≡ on32 x ⌝ }
 {
@@ -59,6 +77,7 @@ pub fn is_on32(x: Optional32) -> bool
     }
 }
 
+// Whether an item is there.
 pub fn is_on_i64(x: OptionalI64) -> bool
     ensures { λ r. ⌜ r ≡ onI64 x ⌝ }
 {
@@ -68,74 +87,18 @@ pub fn is_on_i64(x: OptionalI64) -> bool
     }
 }
 
-// The position after n bytes, in a buffer that is len bytes long; the position itself where they do not fit.
-pub fn after(len: usize, at: usize, n: usize) -> usize
-    ensures { λ r. ⌜ r ≡ cond (leb (at + n) len) (at + n) at ⌝ }
+// Whether a flag byte is there, as the number of the bit that announces it.
+pub fn announced(e: u8) -> u8
+    ensures { λ r. ⌜ (r ≡ needed e) × (r ≤ 1) ⌝ }
 {
-    if wire::has(len, at, n) {
-        return at + n;
+    if e == 0 {
+        return 0;
     }
-    at
-}
-
-pub fn put8(out: &mut [u8], at: usize, v: u8) -> usize
-    ensures { λ r. ⌜ Stored (leBytes 1 v) (now (out .entry)) at (now (out .exit)) r ⌝ }
-{
-    let next = after(out.len(), at, 1);
-    crate::store::put8(out, at, v);
-    next
-}
-
-pub fn put16(out: &mut [u8], at: usize, v: u16) -> usize
-    ensures { λ r. ⌜ Stored (leBytes 2 v) (now (out .entry)) at (now (out .exit)) r ⌝ }
-{
-    let next = after(out.len(), at, 2);
-    crate::store::put16(out, at, v);
-    next
-}
-
-pub fn put32(out: &mut [u8], at: usize, v: u32) -> usize
-    ensures { λ r. ⌜ Stored (leBytes 4 v) (now (out .entry)) at (now (out .exit)) r ⌝ }
-{
-    let next = after(out.len(), at, 4);
-    crate::store::put32(out, at, v);
-    next
-}
-
-pub fn put64(out: &mut [u8], at: usize, v: u64) -> usize
-    ensures { λ r. ⌜ Stored (leBytes 8 v) (now (out .entry)) at (now (out .exit)) r ⌝ }
-{
-    let next = after(out.len(), at, 8);
-    crate::store::put64(out, at, v);
-    next
-}
-
-pub fn put_i64(out: &mut [u8], at: usize, v: i64) -> usize
-    ensures { λ r. ⌜ Stored (leBytes 8 (unsigned 8 v)) (now (out .entry)) at (now (out .exit)) r ⌝ }
-{
-    let next = after(out.len(), at, 8);
-    crate::store::put_i64(out, at, v);
-    next
-}
-
-pub fn put_guid(out: &mut [u8], at: usize, v: Guid) -> usize
-    ensures { λ r. ⌜ Stored (guidBytes v) (now (out .entry)) at (now (out .exit)) r ⌝ }
-{
-    let next = after(out.len(), at, 16);
-    crate::store::put_guid(out, at, v);
-    next
-}
-
-pub fn put_run(out: &mut [u8], at: usize, src: &[u8]) -> usize
-    ensures { λ r. ⌜ Stored (now (src .entry)) (now (out .entry)) at (now (out .exit)) r ⌝ }
-{
-    let next = after(out.len(), at, src.len());
-    crate::store::put_run(out, at, src);
-    next
+    1
 }
 
 // A flag byte, which is left out where it would be 0.
-pub fn put_byte(out: &mut [u8], at: usize, e: u8) -> usize
+pub fn put_flag_byte(out: &mut [u8], at: usize, e: u8) -> usize
     ensures { λ r. ⌜ Stored (byteBytes e) (now (out .entry)) at (now (out .exit)) r ⌝ }
 {
     if e == 0 {
@@ -144,6 +107,17 @@ pub fn put_byte(out: &mut [u8], at: usize, e: u8) -> usize
     put8(out, at, e)
 }
 
+// How many bytes an item takes, where it is there.
+pub fn size16(x: Optional16) -> usize
+    ensures { λ r. ⌜ (r ≡ length (optional16Bytes x)) × (r ≤ 2) ⌝ }
+{
+    match x {
+        Optional16::Absent => 0,
+        Optional16::Is(_) => 2,
+    }
+}
+
+// An item where it is there: stored as by `put16`.
 pub fn put_optional16(out: &mut [u8], at: usize, x: Optional16) -> usize
     ensures { λ r. ⌜ Stored (optional16Bytes x) (now (out .entry)) at (now (out .exit)) r ⌝ }
 {
@@ -153,6 +127,17 @@ pub fn put_optional16(out: &mut [u8], at: usize, x: Optional16) -> usize
     }
 }
 
+// How many bytes an item takes, where it is there.
+pub fn size32(x: Optional32) -> usize
+    ensures { λ r. ⌜ (r ≡ length (optional32Bytes x)) × (r ≤ 4) ⌝ }
+{
+    match x {
+        Optional32::Absent => 0,
+        Optional32::Is(_) => 4,
+    }
+}
+
+// An item where it is there: stored as by `put32`.
 pub fn put_optional32(out: &mut [u8], at: usize, x: Optional32) -> usize
     ensures { λ r. ⌜ Stored (optional32Bytes x) (now (out .entry)) at (now (out .exit)) r ⌝ }
 {
@@ -162,6 +147,17 @@ pub fn put_optional32(out: &mut [u8], at: usize, x: Optional32) -> usize
     }
 }
 
+// How many bytes an item takes, where it is there.
+pub fn size_i64(x: OptionalI64) -> usize
+    ensures { λ r. ⌜ (r ≡ length (optionalI64Bytes x)) × (r ≤ 8) ⌝ }
+{
+    match x {
+        OptionalI64::Absent => 0,
+        OptionalI64::Is(_) => 8,
+    }
+}
+
+// An item where it is there: stored as by `put_i64`.
 pub fn put_optional_i64(out: &mut [u8], at: usize, x: OptionalI64) -> usize
     ensures { λ r. ⌜ Stored (optionalI64Bytes x) (now (out .entry)) at (now (out .exit)) r ⌝ }
 {
@@ -181,31 +177,11 @@ pub fn picoseconds_refusal(x: Optional16) -> u8
     }
 }
 
-// A part of this length that nothing announces.
-pub fn not_used(len: usize) -> u8
-    ensures { λ r. ⌜ r ≡ unused len ⌝ }
+// 6 where something would read back otherwise, else 0.
+pub fn six_unless(agrees: bool) -> u8
+    ensures { λ r. ⌜ r ≡ cond agrees 0 DISAGREE ⌝ }
 {
-    if len == 0 {
-        return 0;
-    }
-    DISAGREE
-}
-
-// Two numbers that must be equal.
-pub fn must_equal(a: usize, b: usize) -> u8
-    ensures { λ r. ⌜ r ≡ cond (eqb a b) 0 6 ⌝ }
-{
-    if a == b {
-        return 0;
-    }
-    DISAGREE
-}
-
-// A test that must hold.
-pub fn must_hold(b: bool) -> u8
-    ensures { λ r. ⌜ r ≡ cond b 0 6 ⌝ }
-{
-    if b {
+    if agrees {
         return 0;
     }
     DISAGREE

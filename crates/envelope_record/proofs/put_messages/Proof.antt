@@ -13,7 +13,7 @@ returns c =
     let at-put642 = c .before .before in
     let at-put64 = at-put642 .before .before .before .before in
     let args = at-put64 .before .before .before .args in
-    at-put642 .put642 .ensures ∙ ap (λ (l : List ℕ). laid l 216 (leBytes 8 (args .cursor .at))) (at-put64 .put64 .ensures)
+    at-put642 .put642 .ensures .stored ∙ ap (λ (l : List ℕ). laid l 216 (leBytes 8 (args .cursor .at))) (at-put64 .put64 .ensures .stored)
 
 pub put-messages-spec : {M : Type 1} → statement M
 put-messages-spec = tie.close (tie.spec (λ c κs. search needs) (λ c κs. search needs) (λ c. search needs) returns)

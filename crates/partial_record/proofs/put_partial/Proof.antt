@@ -25,7 +25,7 @@ returns-2 c =
     let at-if1 = at-flag-number .before .before .before .before in
     let args = at-if1 .before .before .args in
     partial-put (args .rec) (now (args .out)) _ _ _ _ _ long (omega (arith, at-if1 .if1 .left))
-    (at-flag-number .flag-number .ensures .0) (at-code .code .ensures) (at-publisher-number .publisher-number .ensures) (at-put-numbers .put-numbers .ensures) (at-put-run .put-run .ensures)
+    (at-flag-number .flag-number .ensures .0) (at-code .code .ensures) (at-publisher-number .publisher-number .ensures) (at-put-numbers .put-numbers .ensures) (at-put-run .put-run .ensures .stored)
 
 pub put-partial-spec : {M : Type 1} → statement M
 put-partial-spec =

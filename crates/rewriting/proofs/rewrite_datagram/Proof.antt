@@ -2,41 +2,40 @@
 -- Assumes nothing.
 use Rattle.rewriting.proofs.Copied.{bytes, publisher-on, datagram-copied, datagram-said}
 use Rattle.wire.proofs.Reading.{told}
+use Rattle.wire_writer.proofs.Answering.{reading-refuses}
 use Rattle.network_message.specs.Envelope.{answerNetworkMessage}
 use denote.Ref.{now}
-use mathlib.Core.Path.{refl, sym}
+use mathlib.Core.Path.{sym}
 use borrow.Author.Needs.{needs}
 use Rattle.rewriting.proofs.rewrite_datagram.Statement.{statement}
 use Rattle.rewriting.proofs.rewrite_datagram.Tie as tie
 
 returns : tie.Need-returns
 returns c =
-    let at-n = c .before in
-    let at-read = at-n .before .before in
-    let at-shared-slice-known = at-read .before .before in
-    let args = at-shared-slice-known .before .before .args in
-    datagram-said (now (args .sizes)) (now (args .s)) (now (args .out)) _ _
-    (bytes (now (args .s)) (at-shared-slice-known .shared-slice-known .given)) (rw (sym (told answerNetworkMessage (at-read .read .ensures) (at-n .n .given .1))) (refl, refl))
+    let at-number = c .before in
+    let at-read = at-number .before .before in
+    reading-refuses _ (sym (told answerNetworkMessage (at-read .read .ensures) (at-number .number .given .1)))
 
 returns-2 : tie.Need-returns-2
 returns-2 c =
-    let at-shared-slice-known = c .before .before .before .before .before .before .before .before .before .before .before in
+    let at-rewrite = c .before .before in
+    let at-shared-slice-known = at-rewrite .before .before .before .before .before .before .before .before .before in
     let args = at-shared-slice-known .before .before .args in
-    datagram-said (now (args .sizes)) (now (args .s)) (now (args .out)) _ _ (bytes (now (args .s)) (at-shared-slice-known .shared-slice-known .given)) (search needs)
+    datagram-said (now (args .sizes)) (now (args .datagram)) (now (args .out)) _ _
+    (bytes (now (args .datagram)) (at-shared-slice-known .shared-slice-known .given)) (at-rewrite .rewrite .ensures)
 
 returns-3 : tie.Need-returns-3
 returns-3 c =
     let at-copy-whole = c .before .before in
     let at-match2 = at-copy-whole .before .before in
-    let at-x = at-match2 .before .before in
-    let at-read = at-x .before .before in
+    let at-envelope = at-match2 .before .before in
+    let at-read = at-envelope .before .before in
     let at-shared-slice-known = at-read .before .before in
     let args = at-shared-slice-known .before .before .args in
-    datagram-said (now (args .sizes)) (now (args .s)) (now (args .out)) _ _
-    (bytes (now (args .s)) (at-shared-slice-known .shared-slice-known .given))
-    (datagram-copied (now (args .sizes)) (now (args .s)) (now (args .out)) _ _ _ _
-    (bytes (now (args .s)) (at-shared-slice-known .shared-slice-known .given))
-    (sym (told answerNetworkMessage (at-read .read .ensures) (at-x .x .given .1))) (publisher-on (at-x .x .given .0 .0 .publisher) (at-match2 .match2 .keys2)) (at-copy-whole .copy-whole .ensures))
+    datagram-copied (now (args .sizes)) (now (args .datagram)) (now (args .out)) _ _ _ _
+    (bytes (now (args .datagram)) (at-shared-slice-known .shared-slice-known .given))
+    (sym (told answerNetworkMessage (at-read .read .ensures) (at-envelope .envelope .given .1)))
+    (publisher-on (at-envelope .envelope .given .0 .0 .publisher) (at-match2 .match2 .keys2)) (at-copy-whole .copy-whole .ensures)
 
 pub rewrite-datagram-spec : {M : Type 1} → statement M
 rewrite-datagram-spec =

@@ -1,10 +1,11 @@
 -- `rewriting::rewrite_message` meets its contract.
 -- Assumes nothing.
-use Rattle.rewriting.proofs.Copied.{message-copied, message-refused, message-invalid}
+use Rattle.wire_writer.proofs.Answering.{reading-accepts, reading-refuses}
+use Rattle.dataset_message_writer.specs.Rewrite.{whereValid}
 use Rattle.wire.proofs.Reading.{told}
 use Rattle.dataset_message.specs.Message.{answerMessage}
 use denote.Ref.{now}
-use mathlib.Core.Path.{sym}
+use mathlib.Core.Path.{sym, refl}
 use borrow.Author.Needs.{needs}
 use Rattle.rewriting.proofs.rewrite_message.Statement.{statement}
 use Rattle.rewriting.proofs.rewrite_message.Tie as tie
@@ -13,14 +14,14 @@ returns : tie.Need-returns
 returns c =
     let at-read = c .before .before in
     let args = at-read .before .before .before .before .args in
-    message-invalid (now (args .types)) (now (args .message)) (now (args .out)) _ (sym (told answerMessage (at-read .read .ensures) (c .enum-told .given .1)))
+    reading-accepts (whereValid (λ m. now (args .message))) (sym (told answerMessage (at-read .read .ensures) (c .enum-told .given .1))) (record { answer = refl; buffer = refl })
 
 returns-2 : tie.Need-returns-2
 returns-2 c =
-    let at-n = c .before in
-    let at-read = at-n .before .before in
+    let at-number = c .before in
+    let at-read = at-number .before .before in
     let args = at-read .before .before .before .before .args in
-    message-refused (now (args .types)) (now (args .message)) (now (args .out)) _ _ (sym (told answerMessage (at-read .read .ensures) (at-n .n .given .1)))
+    reading-refuses (whereValid (λ m. now (args .message))) (sym (told answerMessage (at-read .read .ensures) (at-number .number .given .1)))
 
 returns-3 : tie.Need-returns-3
 returns-3 c =
@@ -28,8 +29,8 @@ returns-3 c =
     let at-enum-told2 = at-copy-whole .before .before in
     let at-read = at-enum-told2 .before .before in
     let args = at-read .before .before .before .before .args in
-    message-copied (now (args .types)) (now (args .message)) (now (args .out)) _ _ _ _
-    (sym (told answerMessage (at-read .read .ensures) (at-enum-told2 .enum-told2 .given .1))) (at-copy-whole .copy-whole .ensures)
+    reading-accepts (whereValid (λ m. now (args .message))) (sym (told answerMessage (at-read .read .ensures) (at-enum-told2 .enum-told2 .given .1)))
+    (at-copy-whole .copy-whole .ensures)
 
 pub rewrite-message-spec : {M : Type 1} → statement M
 rewrite-message-spec =

@@ -15,8 +15,8 @@ returns c =
     let at-put16 = at-put32 .before .before .before .before in
     let at-pre = at-put16 .before .before .before .before in
     laid-payload (now (at-pre .args .out)) (at-pre .args .number) (at-pre .args .offset) (at-pre .args .total)
-    (now (at-pre .args .bytes)) _ _ _ _ _ (at-pre .pre .3) (at-put16 .put16 .ensures) (at-put32 .put32 .ensures)
-    (at-put322 .put322 .ensures) (at-put323 .put323 .ensures) (at-put-run .put-run .ensures)
+    (now (at-pre .args .bytes)) _ _ _ _ _ (at-pre .pre .3) (at-put16 .put16 .ensures .stored) (at-put32 .put32 .ensures .stored)
+    (at-put322 .put322 .ensures .stored) (at-put323 .put323 .ensures .stored) (at-put-run .put-run .ensures .stored)
 
 pub put-payload-spec : {M : Type 1} → statement M
 put-payload-spec =

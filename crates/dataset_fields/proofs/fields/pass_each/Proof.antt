@@ -23,14 +23,14 @@ loop-holds c = (refl, omega arith)
 
 returns : tie.Need-returns Inv-loop μ-loop
 returns c =
-    let at-n = c .before in
-    let at-read-field = at-n .before .before in
+    let at-number = c .before in
+    let at-read-field = at-number .before .before in
     let at-loop-test = at-read-field .before in
     let at-loop = at-loop-test .before in
     let args = at-loop .before .before .before .args in
     sym (at-loop .loop .inv .0
     ∙ fields-stop (args .delta) (args .encoding) (now (args .types)) (now (args .s)) (at-loop .loop .left) (at-loop .loop .k)
-    (at-loop .loop .p) _ _ (at-loop-test .loop-test .taken) (sym (told answerField (at-read-field .read-field .ensures) (at-n .n .given .1))))
+    (at-loop .loop .p) _ _ (at-loop-test .loop-test .taken) (sym (told answerField (at-read-field .read-field .ensures) (at-number .number .given .1))))
 
 loop-again : tie.Need-loop-again Inv-loop μ-loop
 loop-again c =

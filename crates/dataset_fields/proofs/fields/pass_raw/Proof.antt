@@ -31,8 +31,8 @@ loop-holds c =
 
 returns : tie.Need-returns Inv-loop μ-loop
 returns c =
-    let at-n = c .before in
-    let at-pass-element = at-n .before .before in
+    let at-number = c .before in
+    let at-pass-element = at-number .before .before in
     let at-type-of = at-pass-element .before in
     let at-loop-test = at-type-of .before in
     let at-loop = at-loop-test .before in
@@ -41,7 +41,7 @@ returns c =
     let l = at-loop .loop in
     let some : 0 < a .count - l .k = omega (arith, at-loop-test .loop-test .taken) in
     sym (l .inv .0 ∙ raw-stop (now (a .types)) (now (a .s)) (a .count - l .k) (l .k) (l .p) some
-    (ap (λ t. passing (rawAt t) (now (a .s)) (l .p)) (sym (at-type-of .type-of .ensures)) ∙ sym (told answerReached (at-pass-element .pass-element .ensures) (at-n .n .given .1))))
+    (ap (λ t. passing (rawAt t) (now (a .s)) (l .p)) (sym (at-type-of .type-of .ensures)) ∙ sym (told answerReached (at-pass-element .pass-element .ensures) (at-number .number .given .1))))
 
 loop-again : tie.Need-loop-again Inv-loop μ-loop
 loop-again c =

@@ -9,9 +9,9 @@ use Rattle.dataset_fields.proofs.fields.read_field.Tie as tie
 
 returns : tie.Need-returns
 returns c =
-    let at-n = c .before in
-    let at-index = at-n .before .before in
-    rw (sym (told answerIndex (at-index .index .ensures) (at-n .n .given .1)))
+    let at-number = c .before in
+    let at-index = at-number .before .before in
+    rw (sym (told answerIndex (at-index .index .ensures) (at-number .number .given .1)))
 
 returns-2 : tie.Need-returns-2
 returns-2 c =

@@ -28,8 +28,8 @@ returns-3 c =
 
 returns-4 : tie.Need-returns-4
 returns-4 c =
-    let at-n = c .before in
-    let at-flags2 = at-n .before .before in
+    let at-number = c .before in
+    let at-flags2 = at-number .before .before in
     let at-if2 = at-flags2 .before in
     let at-flags1-rule = at-if2 .before in
     let at-if1 = at-flags1-rule .before in
@@ -40,7 +40,7 @@ returns-4 c =
       ne-eqb _ _ (at-if1 .if1 .left),
       sym (at-flags1-rule .flags1-rule .ensures),
       eq-eqb _ _ (at-if2 .if2 .left),
-      sym (told answerByte (at-flags2 .flags2 .ensures) (at-n .n .given .1)),
+      sym (told answerByte (at-flags2 .flags2 .ensures) (at-number .number .given .1)),
     )
 
 returns-5 : tie.Need-returns-5

@@ -10,17 +10,17 @@ use Rattle.dataset_header.proofs.header.read_body.Tie as tie
 
 returns : tie.Need-returns
 returns c =
-    let at-n = c .before in
-    let at-read-times = at-n .before .before in
-    rw (sym (told answerTimes (at-read-times .read-times .ensures) (at-n .n .given .1)))
+    let at-number = c .before in
+    let at-read-times = at-number .before .before in
+    rw (sym (told answerTimes (at-read-times .read-times .ensures) (at-number .number .given .1)))
 
 returns-2 : tie.Need-returns-2
 returns-2 c =
-    let at-n2 = c .before in
-    let at-read-versions = at-n2 .before .before in
+    let at-number2 = c .before in
+    let at-read-versions = at-number2 .before .before in
     let at-t = at-read-versions .before .before in
     let at-read-times = at-t .before .before in
-    rw (sym (told answerTimes (at-read-times .read-times .ensures) (at-t .t .given .1)), sym (told answerVersions (at-read-versions .read-versions .ensures) (at-n2 .n2 .given .1)))
+    rw (sym (told answerTimes (at-read-times .read-times .ensures) (at-t .t .given .1)), sym (told answerVersions (at-read-versions .read-versions .ensures) (at-number2 .number2 .given .1)))
 
 returns-3 : tie.Need-returns-3
 returns-3 c =

@@ -10,25 +10,25 @@ use Rattle.dataset_header.proofs.header.read_versions.Tie as tie
 
 returns : tie.Need-returns
 returns c =
-    let at-n = c .before in
-    let at-read-optional16 = at-n .before .before in
-    rw (sym (told answerOptional16 (at-read-optional16 .read-optional16 .ensures) (at-n .n .given .1)))
+    let at-number = c .before in
+    let at-read-optional16 = at-number .before .before in
+    rw (sym (told answerOptional16 (at-read-optional16 .read-optional16 .ensures) (at-number .number .given .1)))
 
 returns-2 : tie.Need-returns-2
 returns-2 c =
-    let at-n2 = c .before in
-    let at-read-optional32 = at-n2 .before .before in
+    let at-number2 = c .before in
+    let at-read-optional32 = at-number2 .before .before in
     let at-status = at-read-optional32 .before .before in
     let at-read-optional16 = at-status .before .before in
     rw (
       sym (told answerOptional16 (at-read-optional16 .read-optional16 .ensures) (at-status .status .given .1)),
-      sym (told answerOptional32 (at-read-optional32 .read-optional32 .ensures) (at-n2 .n2 .given .1)),
+      sym (told answerOptional32 (at-read-optional32 .read-optional32 .ensures) (at-number2 .number2 .given .1)),
     )
 
 returns-3 : tie.Need-returns-3
 returns-3 c =
-    let at-n3 = c .before in
-    let at-read-optional322 = at-n3 .before .before in
+    let at-number3 = c .before in
+    let at-read-optional322 = at-number3 .before .before in
     let at-at = at-read-optional322 .before .before in
     let at-read-optional32 = at-at .before .before in
     let at-status = at-read-optional32 .before .before in
@@ -36,7 +36,7 @@ returns-3 c =
     rw (
       sym (told answerOptional16 (at-read-optional16 .read-optional16 .ensures) (at-status .status .given .1)),
       sym (told answerOptional32 (at-read-optional32 .read-optional32 .ensures) (at-at .at .given .1)),
-      sym (told answerOptional32 (at-read-optional322 .read-optional322 .ensures) (at-n3 .n3 .given .1)),
+      sym (told answerOptional32 (at-read-optional322 .read-optional322 .ensures) (at-number3 .number3 .given .1)),
     )
 
 returns-4 : tie.Need-returns-4

@@ -1,9 +1,11 @@
 -- `dataset_message_writer::rewrite::rewrite` meets its contract.
 -- Assumes nothing.
-use mathlib.Core.Path.{sym}
+use mathlib.Core.Path.{sym, refl}
 use denote.Ref.{now}
 use borrow.Author.Needs.{needs}
-use Rattle.dataset_message_writer.proofs.Whole.{rewrite-refused, rewrite-invalid, rewrite-valid}
+use Rattle.wire_writer.proofs.Answering.{reading-accepts, reading-refuses}
+use Rattle.dataset_message_writer.specs.Rewrite.{again, whereValid}
+use Rattle.dataset_message_writer.proofs.Whole.{rewrite-valid}
 use Rattle.dataset_message.specs.Message.{answerMessage}
 use Rattle.wire.proofs.Reading.{told}
 use Rattle.dataset_message_writer.proofs.rewrite.rewrite.Statement.{statement}
@@ -13,14 +15,14 @@ returns : tie.Need-returns
 returns c =
     let at-read = c .before .before in
     let args = at-read .before .before .before .before .args in
-    rewrite-invalid (now (args .types)) (now (args .message)) (now (args .out)) _ (sym (told answerMessage (at-read .read .ensures) (c .enum-told .given .1)))
+    reading-accepts (whereValid (again (now (args .message)))) (sym (told answerMessage (at-read .read .ensures) (c .enum-told .given .1))) (record { answer = refl; buffer = refl })
 
 returns-2 : tie.Need-returns-2
 returns-2 c =
-    let at-n = c .before in
-    let at-read = at-n .before .before in
+    let at-number = c .before in
+    let at-read = at-number .before .before in
     let args = at-read .before .before .before .before .args in
-    rewrite-refused (now (args .types)) (now (args .message)) (now (args .out)) _ _ (sym (told answerMessage (at-read .read .ensures) (at-n .n .given .1)))
+    reading-refuses (whereValid (again (now (args .message)))) (sym (told answerMessage (at-read .read .ensures) (at-number .number .given .1)))
 
 returns-3 : tie.Need-returns-3
 returns-3 c =

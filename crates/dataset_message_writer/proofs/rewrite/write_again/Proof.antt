@@ -1,46 +1,45 @@
 -- `dataset_message_writer::rewrite::write_again` meets its contract.
 -- Assumes nothing.
-use mathlib.Core.Path.{refl}
+use mathlib.Core.Path.{refl, sym, ap, _∙_}
+use Prim.Native.Nat.{ℕ}
+use lib.ListN.{length}
 use denote.Ref.{now}
 use borrow.Author.Needs.{needs}
-use Rattle.dataset_message_writer.proofs.Whole.{again-size, too-long, no-room, written-all}
+use Rattle.wire_writer.specs.Writing.{roomRefusal}
+use Rattle.wire_writer.proofs.Answering.{no-room, written}
+use Rattle.dataset_message_writer.proofs.Whole.{again-size, limited-room, limited-fits}
 use Rattle.dataset_message_writer.specs.Rewrite.{partsAgain}
 use Rattle.dataset_message_writer.proofs.rewrite.write_again.Statement.{statement}
 use Rattle.dataset_message_writer.proofs.rewrite.write_again.Tie as tie
 
 returns : tie.Need-returns
 returns c =
-    let at-size = c .before in
+    let at-room-refusal = c .before in
+    let at-size = at-room-refusal .before in
     let at-is-raw = at-size .before in
     let args = at-is-raw .before .before .before .args in
-    too-long 0 (partsAgain (args .header) (args .fielded) (args .count) (now (args .fields)) (args .padding)) (now (args .out)) 0
-    (at-size .size .result) refl refl
-    (again-size (args .header) (args .fielded) (at-is-raw .is-raw .result) (args .count) (now (args .fields)) (args .padding)
-    (at-size .size .result) (at-is-raw .is-raw .ensures) (at-size .size .ensures)) (c .if1 .taken)
+    let bytes = partsAgain (args .header) (args .fielded) (args .count) (now (args .fields)) (args .padding) in
+    let room = length (now (args .out)) in
+    let size = again-size (args .header) (args .fielded) (at-is-raw .is-raw .result) (args .count) (now (args .fields)) (args .padding)
+    (at-size .size .result) (at-is-raw .is-raw .ensures) (at-size .size .ensures) in
+    no-room 0 bytes (now (args .out)) refl (at-room-refusal .room-refusal .result)
+    (at-room-refusal .room-refusal .ensures ∙ ap (λ (n : ℕ). roomRefusal n room) size ∙ limited-room (length bytes) room) (c .if1 .taken)
 
 returns-2 : tie.Need-returns-2
 returns-2 c =
-    let at-if1 = c .before in
-    let at-size = at-if1 .before in
-    let at-is-raw = at-size .before in
-    let args = at-is-raw .before .before .before .args in
-    no-room 0 (partsAgain (args .header) (args .fielded) (args .count) (now (args .fields)) (args .padding)) (now (args .out)) 0
-    (at-size .size .result) refl refl
-    (again-size (args .header) (args .fielded) (at-is-raw .is-raw .result) (args .count) (now (args .fields)) (args .padding)
-    (at-size .size .result) (at-is-raw .is-raw .ensures) (at-size .size .ensures)) (at-if1 .if1 .left) (c .if2 .taken)
-
-returns-3 : tie.Need-returns-3
-returns-3 c =
     let at-put-again = c .before .before in
-    let at-if2 = at-put-again .before .before in
-    let at-if1 = at-if2 .before in
-    let at-size = at-if1 .before in
+    let at-if1 = at-put-again .before .before in
+    let at-room-refusal = at-if1 .before in
+    let at-size = at-room-refusal .before in
     let at-is-raw = at-size .before in
     let args = at-is-raw .before .before .before .args in
-    written-all 0 (partsAgain (args .header) (args .fielded) (args .count) (now (args .fields)) (args .padding)) (now (args .out)) 0
-    (at-size .size .result) _ _ refl refl
-    (again-size (args .header) (args .fielded) (at-is-raw .is-raw .result) (args .count) (now (args .fields)) (args .padding)
-    (at-size .size .result) (at-is-raw .is-raw .ensures) (at-size .size .ensures)) (at-if1 .if1 .left) (at-if2 .if2 .left) (at-put-again .put-again .ensures)
+    let bytes = partsAgain (args .header) (args .fielded) (args .count) (now (args .fields)) (args .padding) in
+    let room = length (now (args .out)) in
+    let size = again-size (args .header) (args .fielded) (at-is-raw .is-raw .result) (args .count) (now (args .fields)) (args .padding)
+    (at-size .size .result) (at-is-raw .is-raw .ensures) (at-size .size .ensures) in
+    let full = at-room-refusal .room-refusal .ensures ∙ ap (λ (n : ℕ). roomRefusal n room) size in
+    written 0 bytes (now (args .out)) refl (at-room-refusal .room-refusal .result) (full ∙ limited-room (length bytes) room) (at-if1 .if1 .left)
+    (at-size .size .result) _ _ (size ∙ limited-fits (length bytes) room (sym full ∙ at-if1 .if1 .left)) (at-put-again .put-again .ensures)
 
 pub write-again-spec : {M : Type 1} → statement M
 write-again-spec =
@@ -48,8 +47,8 @@ write-again-spec =
     (tie.spec
     (λ c κs. search needs)
     (λ c κs. search needs)
+    (λ c κs. search needs)
     returns
-    returns-2
     (λ c κs. search needs)
     (λ c. search needs)
-    returns-3)
+    returns-2)

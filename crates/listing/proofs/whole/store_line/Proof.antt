@@ -17,7 +17,7 @@ returns c =
     let at-part = at-put-run .before in
     let at-line-in = at-part .before .before .before .before in
     let at-pre = at-line-in .before .before .before .before in
-    stored-line _ _ _ _ _ _ (at-put-run .put-run .ensures) (at-part .part .ensures ∙ at-line-in .line-in .ensures .1) (at-pre .pre) (at-line-in .line-in .ensures .0)
+    stored-line _ _ _ _ _ _ (at-put-run .put-run .ensures .stored) (at-part .part .ensures ∙ at-line-in .line-in .ensures .1) (at-pre .pre) (at-line-in .line-in .ensures .0)
 
 pub store-line-spec : {M : Type 1} → statement M
 store-line-spec =

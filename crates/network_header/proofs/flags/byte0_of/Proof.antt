@@ -10,7 +10,7 @@ returns c =
     let at-flag3 = at-extended1-of .before in
     let at-flag2 = at-flag3 .before in
     let at-flag = at-flag2 .before in
-    rw (at-flag .flag .ensures .0, at-flag2 .flag2 .ensures .0, at-flag3 .flag3 .ensures .0, c .need .ensures .0, at-extended1-of .extended1-of .ensures)
+    rw (at-flag .flag .ensures .0, at-flag2 .flag2 .ensures .0, at-flag3 .flag3 .ensures .0, c .announced .ensures .0, at-extended1-of .extended1-of .ensures)
 
 pub byte0-of-spec : {M : Type 1} → statement M
 byte0-of-spec =

@@ -11,11 +11,11 @@ use Rattle.network_header.proofs.flags.flags_length.Tie as tie
 returns : tie.Need-returns
 returns c =
     let at-extended2-of = c .before in
-    let at-need = at-extended2-of .before in
-    let at-extended1-of = at-need .before in
+    let at-announced = at-extended2-of .before in
+    let at-extended1-of = at-announced .before in
     let args = at-extended1-of .before .args in (
-      flags-sized (args .f) (at-need .need .ensures .0 ∙ ap needed (at-extended1-of .extended1-of .ensures)) (c .need2 .ensures .0 ∙ ap needed (at-extended2-of .extended2-of .ensures .0)),
-      omega (arith, at-need .need .ensures .1, c .need2 .ensures .1),
+      flags-sized (args .f) (at-announced .announced .ensures .0 ∙ ap needed (at-extended1-of .extended1-of .ensures)) (c .announced2 .ensures .0 ∙ ap needed (at-extended2-of .extended2-of .ensures .0)),
+      omega (arith, at-announced .announced .ensures .1, c .announced2 .ensures .1),
     )
 
 pub flags-length-spec : {M : Type 1} → statement M

@@ -11,15 +11,15 @@ use Rattle.network_header.proofs.flags.put_flag_bytes.Tie as tie
 
 returns : tie.Need-returns
 returns c =
-    let at-put-byte2 = c .before .before in
-    let at-extended2-of = at-put-byte2 .before in
-    let at-put-byte = at-extended2-of .before .before .before .before in
-    let at-extended1-of = at-put-byte .before in
+    let at-put-flag-byte2 = c .before .before in
+    let at-extended2-of = at-put-flag-byte2 .before in
+    let at-put-flag-byte = at-extended2-of .before .before .before .before in
+    let at-extended1-of = at-put-flag-byte .before in
     let at-put8 = at-extended1-of .before .before .before .before in
     let at-byte0-of = at-put8 .before in
     then (puts-as (ap (leBytes 1) (at-byte0-of .byte0-of .ensures)) (puts (at-put8 .put8 .ensures)))
-    (then (puts-as (ap byteBytes (at-extended1-of .extended1-of .ensures)) (puts (at-put-byte .put-byte .ensures)))
-    (puts-as (ap byteBytes (at-extended2-of .extended2-of .ensures .0)) (puts (at-put-byte2 .put-byte2 .ensures))))
+    (then (puts-as (ap byteBytes (at-extended1-of .extended1-of .ensures)) (puts (at-put-flag-byte .put-flag-byte .ensures)))
+    (puts-as (ap byteBytes (at-extended2-of .extended2-of .ensures .0)) (puts (at-put-flag-byte2 .put-flag-byte2 .ensures))))
 
 pub put-flag-bytes-spec : {M : Type 1} → statement M
 put-flag-bytes-spec =

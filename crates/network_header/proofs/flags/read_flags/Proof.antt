@@ -9,22 +9,22 @@ use Rattle.network_header.proofs.flags.read_flags.Tie as tie
 
 returns : tie.Need-returns
 returns c =
-    let at-n = c .before in
-    let at-byte0 = at-n .before .before in
-    rw (sym (told answerByte (at-byte0 .byte0 .ensures) (at-n .n .given .1)))
+    let at-number = c .before in
+    let at-byte0 = at-number .before .before in
+    rw (sym (told answerByte (at-byte0 .byte0 .ensures) (at-number .number .given .1)))
 
 returns-2 : tie.Need-returns-2
 returns-2 c =
-    let at-n2 = c .before in
-    let at-extended1 = at-n2 .before .before in
+    let at-number2 = c .before in
+    let at-extended1 = at-number2 .before .before in
     let at-b = at-extended1 .before .before in
     let at-byte0 = at-b .before .before in
-    rw (sym (told answerByte (at-byte0 .byte0 .ensures) (at-b .b .given .1)), sym (told answerByte (at-extended1 .extended1 .ensures) (at-n2 .n2 .given .1)))
+    rw (sym (told answerByte (at-byte0 .byte0 .ensures) (at-b .b .given .1)), sym (told answerByte (at-extended1 .extended1 .ensures) (at-number2 .number2 .given .1)))
 
 returns-3 : tie.Need-returns-3
 returns-3 c =
-    let at-n3 = c .before in
-    let at-extended2 = at-n3 .before .before in
+    let at-number3 = c .before in
+    let at-extended2 = at-number3 .before .before in
     let at-e = at-extended2 .before .before in
     let at-extended1 = at-e .before .before in
     let at-b = at-extended1 .before .before in
@@ -32,7 +32,7 @@ returns-3 c =
     rw (
       sym (told answerByte (at-byte0 .byte0 .ensures) (at-b .b .given .1)),
       sym (told answerByte (at-extended1 .extended1 .ensures) (at-e .e .given .1)),
-      sym (told answerByte (at-extended2 .extended2 .ensures) (at-n3 .n3 .given .1)),
+      sym (told answerByte (at-extended2 .extended2 .ensures) (at-number3 .number3 .given .1)),
     )
 
 returns-4 : tie.Need-returns-4

@@ -10,17 +10,17 @@ use Rattle.network_header.proofs.header.ids_shape.Tie as tie
 
 returns-2 : tie.Need-returns-2
 returns-2 c =
-    rw (c .before .before .enum-told2 .given .1, c .before .if2 .taken) (c .not-used .ensures)
+    rw (c .before .before .enum-told2 .given .1, c .before .if2 .taken) (c .six-unless3 .ensures)
 
 returns-3 : tie.Need-returns-3
 returns-3 c =
-    rw (c .before .before .enum-told .given .1) (c .must-hold .ensures ∙ ap (λ (b : Bool). cond b 0 6) (c .before .same-numbers .ensures))
+    rw (c .before .before .enum-told .given .1) (c .six-unless .ensures ∙ ap (λ (b : Bool). cond b 0 6) (c .before .same-numbers .ensures))
 
 returns-4 : tie.Need-returns-4
 returns-4 c =
     let at-if1 = c .before in
     let at-x = at-if1 .before .before in
-    let h : at-x .x .given .0 .0 < 256 = search needs in rw (at-x .x .given .1, at-if1 .if1 .left, lt-leb 256 (at-x .x .given .0 .0) h) (c .must-equal .ensures)
+    let h : at-x .x .given .0 .0 < 256 = search needs in rw (at-x .x .given .1, at-if1 .if1 .left, lt-leb 256 (at-x .x .given .0 .0) h) (c .six-unless2 .ensures)
 
 pub ids-shape-spec : {M : Type 1} → statement M
 ids-shape-spec =

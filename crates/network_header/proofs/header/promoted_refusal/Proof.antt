@@ -5,7 +5,7 @@ use Rattle.network_header.proofs.header.promoted_refusal.Statement.{sta
 use Rattle.network_header.proofs.header.promoted_refusal.Tie as tie
 
 returns-2 : tie.Need-returns-2
-returns-2 c = rw (c .before .enum-told2 .given .1) (c .one-message .ensures)
+returns-2 c = rw (c .before .enum-told2 .given .1) (c .six-unless .ensures)
 
 pub promoted-refusal-spec : {M : Type 1} → statement M
 promoted-refusal-spec =

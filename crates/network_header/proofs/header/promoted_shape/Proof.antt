@@ -5,7 +5,7 @@ use Rattle.network_header.proofs.header.promoted_shape.Statement.{state
 use Rattle.network_header.proofs.header.promoted_shape.Tie as tie
 
 returns : tie.Need-returns
-returns c = rw (c .before .enum-told .given .1) (c .not-used .ensures)
+returns c = rw (c .before .enum-told .given .1) (c .six-unless .ensures)
 
 returns-2 : tie.Need-returns-2
 returns-2 c = rw (c .before .before .x .given .1) (c .size-shape .ensures)

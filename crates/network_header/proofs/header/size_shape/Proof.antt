@@ -9,7 +9,7 @@ returns : tie.Need-returns
 returns c = rw (le-leb _ _ (c .if1 .taken))
 
 returns-2 : tie.Need-returns-2
-returns-2 c = rw (lt-leb _ _ (c .before .if1 .left)) (c .must-equal .ensures)
+returns-2 c = rw (lt-leb _ _ (c .before .if1 .left)) (c .six-unless .ensures)
 
 pub size-shape-spec : {M : Type 1} → statement M
 size-shape-spec = tie.close (tie.spec returns (λ c κs. search needs) returns-2)

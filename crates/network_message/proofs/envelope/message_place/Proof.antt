@@ -10,9 +10,9 @@ use Rattle.network_message.proofs.envelope.message_place.Tie as tie
 
 returns : tie.Need-returns
 returns c =
-    let at-n = c .before in
-    let at-read = at-n .before .before in
-    rw (sym (told answerNetworkMessage (at-read .read .ensures) (at-n .n .given .1)))
+    let at-number = c .before in
+    let at-read = at-number .before .before in
+    rw (sym (told answerNetworkMessage (at-read .read .ensures) (at-number .number .given .1)))
 
 returns-2 : tie.Need-returns-2
 returns-2 c =

@@ -13,10 +13,10 @@ returns c = rw (lt-ltb _ _ (c .if1 .taken))
 
 returns-2 : tie.Need-returns-2
 returns-2 c =
-    let at-n = c .before in
-    let at-read-flags = at-n .before .before in
+    let at-number = c .before in
+    let at-read-flags = at-number .before .before in
     let at-if1 = at-read-flags .before in
-    rw (le-ltb _ _ (at-if1 .if1 .left), sym (told answerFlags (at-read-flags .read-flags .ensures) (at-n .n .given .1)))
+    rw (le-ltb _ _ (at-if1 .if1 .left), sym (told answerFlags (at-read-flags .read-flags .ensures) (at-number .number .given .1)))
 
 returns-3 : tie.Need-returns-3
 returns-3 c =

@@ -9,10 +9,10 @@ use Rattle.network_message.proofs.envelope.read_body.Tie as tie
 
 returns : tie.Need-returns
 returns c =
-    let at-n = c .before in
-    let at-read-header = at-n .before .before in
+    let at-number = c .before in
+    let at-read-header = at-number .before .before in
     let at-writers = at-read-header .before in
-    rw (sym (at-writers .writers .ensures .0), sym (told answerHeader (at-read-header .read-header .ensures) (at-n .n .given .1)))
+    rw (sym (at-writers .writers .ensures .0), sym (told answerHeader (at-read-header .read-header .ensures) (at-number .number .given .1)))
 
 returns-2 : tie.Need-returns-2
 returns-2 c =

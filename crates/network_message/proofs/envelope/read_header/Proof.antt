@@ -10,25 +10,25 @@ use Rattle.network_message.proofs.envelope.read_header.Tie as tie
 
 returns : tie.Need-returns
 returns c =
-    let at-n = c .before in
-    let at-read-identity = at-n .before .before in
-    rw (sym (told answerIdentity (at-read-identity .read-identity .ensures) (at-n .n .given .1)))
+    let at-number = c .before in
+    let at-read-identity = at-number .before .before in
+    rw (sym (told answerIdentity (at-read-identity .read-identity .ensures) (at-number .number .given .1)))
 
 returns-2 : tie.Need-returns-2
 returns-2 c =
-    let at-n2 = c .before in
-    let at-read-payload-header = at-n2 .before .before in
+    let at-number2 = c .before in
+    let at-read-payload-header = at-number2 .before .before in
     let at-i = at-read-payload-header .before .before in
     let at-read-identity = at-i .before .before in
     rw (
       sym (told answerIdentity (at-read-identity .read-identity .ensures) (at-i .i .given .1)),
-      sym (told answerPayloadHeader (at-read-payload-header .read-payload-header .ensures) (at-n2 .n2 .given .1)),
+      sym (told answerPayloadHeader (at-read-payload-header .read-payload-header .ensures) (at-number2 .number2 .given .1)),
     )
 
 returns-3 : tie.Need-returns-3
 returns-3 c =
-    let at-n3 = c .before in
-    let at-read-times = at-n3 .before .before in
+    let at-number3 = c .before in
+    let at-read-times = at-number3 .before .before in
     let at-messages-of = at-read-times .before in
     let at-header = at-messages-of .before .before in
     let at-read-payload-header = at-header .before .before in
@@ -38,7 +38,7 @@ returns-3 c =
       sym (told answerIdentity (at-read-identity .read-identity .ensures) (at-i .i .given .1)),
       sym (told answerPayloadHeader (at-read-payload-header .read-payload-header .ensures) (at-header .header .given .1)),
       sym (at-messages-of .messages-of .ensures),
-      sym (told answerTimes (at-read-times .read-times .ensures) (at-n3 .n3 .given .1)),
+      sym (told answerTimes (at-read-times .read-times .ensures) (at-number3 .number3 .given .1)),
     )
 
 returns-4 : tie.Need-returns-4

@@ -11,25 +11,25 @@ use Rattle.network_message.proofs.envelope.read_identity.Tie as tie
 
 returns : tie.Need-returns
 returns c =
-    let at-n = c .before in
-    let at-read-publisher = at-n .before .before in
-    rw (sym (told answerPublisher (at-read-publisher .read-publisher .ensures) (at-n .n .given .1)))
+    let at-number = c .before in
+    let at-read-publisher = at-number .before .before in
+    rw (sym (told answerPublisher (at-read-publisher .read-publisher .ensures) (at-number .number .given .1)))
 
 returns-2 : tie.Need-returns-2
 returns-2 c =
-    let at-n2 = c .before in
-    let at-read-class-id = at-n2 .before .before in
+    let at-number2 = c .before in
+    let at-read-class-id = at-number2 .before .before in
     let at-publisher = at-read-class-id .before .before in
     let at-read-publisher = at-publisher .before .before in
     rw (
       sym (told answerPublisher (at-read-publisher .read-publisher .ensures) (at-publisher .publisher .given .1)),
-      sym (told answerClass (at-read-class-id .read-class-id .ensures) (at-n2 .n2 .given .1)),
+      sym (told answerClass (at-read-class-id .read-class-id .ensures) (at-number2 .number2 .given .1)),
     )
 
 returns-3 : tie.Need-returns-3
 returns-3 c =
-    let at-n3 = c .before in
-    let at-read-group = at-n3 .before .before in
+    let at-number3 = c .before in
+    let at-read-group = at-number3 .before .before in
     let at-class-id = at-read-group .before .before in
     let at-read-class-id = at-class-id .before .before in
     let at-publisher = at-read-class-id .before .before in
@@ -37,7 +37,7 @@ returns-3 c =
     rw (
       sym (told answerPublisher (at-read-publisher .read-publisher .ensures) (at-publisher .publisher .given .1)),
       sym (told answerClass (at-read-class-id .read-class-id .ensures) (at-class-id .class-id .given .1)),
-      sym (told answerGroup (at-read-group .read-group .ensures) (at-n3 .n3 .given .1)),
+      sym (told answerGroup (at-read-group .read-group .ensures) (at-number3 .number3 .given .1)),
     )
 
 returns-4 : tie.Need-returns-4

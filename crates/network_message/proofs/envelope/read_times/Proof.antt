@@ -10,25 +10,25 @@ use Rattle.network_message.proofs.envelope.read_times.Tie as tie
 
 returns : tie.Need-returns
 returns c =
-    let at-n = c .before in
-    let at-read-optional-i64 = at-n .before .before in
-    rw (sym (told answerOptionalI64 (at-read-optional-i64 .read-optional-i64 .ensures) (at-n .n .given .1)))
+    let at-number = c .before in
+    let at-read-optional-i64 = at-number .before .before in
+    rw (sym (told answerOptionalI64 (at-read-optional-i64 .read-optional-i64 .ensures) (at-number .number .given .1)))
 
 returns-2 : tie.Need-returns-2
 returns-2 c =
-    let at-n2 = c .before in
-    let at-read-picoseconds = at-n2 .before .before in
+    let at-number2 = c .before in
+    let at-read-picoseconds = at-number2 .before .before in
     let at-timestamp = at-read-picoseconds .before .before in
     let at-read-optional-i64 = at-timestamp .before .before in
     rw (
       sym (told answerOptionalI64 (at-read-optional-i64 .read-optional-i64 .ensures) (at-timestamp .timestamp .given .1)),
-      sym (told answerOptional16 (at-read-picoseconds .read-picoseconds .ensures) (at-n2 .n2 .given .1)),
+      sym (told answerOptional16 (at-read-picoseconds .read-picoseconds .ensures) (at-number2 .number2 .given .1)),
     )
 
 returns-3 : tie.Need-returns-3
 returns-3 c =
-    let at-n3 = c .before in
-    let at-read-promoted = at-n3 .before .before in
+    let at-number3 = c .before in
+    let at-read-promoted = at-number3 .before .before in
     let at-picoseconds = at-read-promoted .before .before in
     let at-read-picoseconds = at-picoseconds .before .before in
     let at-timestamp = at-read-picoseconds .before .before in
@@ -36,7 +36,7 @@ returns-3 c =
     rw (
       sym (told answerOptionalI64 (at-read-optional-i64 .read-optional-i64 .ensures) (at-timestamp .timestamp .given .1)),
       sym (told answerOptional16 (at-read-picoseconds .read-picoseconds .ensures) (at-picoseconds .picoseconds .given .1)),
-      sym (told answerPromoted (at-read-promoted .read-promoted .ensures) (at-n3 .n3 .given .1)),
+      sym (told answerPromoted (at-read-promoted .read-promoted .ensures) (at-number3 .number3 .given .1)),
     )
 
 returns-4 : tie.Need-returns-4

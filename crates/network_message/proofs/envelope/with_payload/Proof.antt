@@ -31,9 +31,9 @@ returns c =
 
 returns-2 : tie.Need-returns-2
 returns-2 c =
-    let at-n = c .before in
-    let at-read-payload = at-n .before .before in
-    rw (sym (told answerPayload (at-read-payload .read-payload .ensures) (at-n .n .given .1)))
+    let at-number = c .before in
+    let at-read-payload = at-number .before .before in
+    rw (sym (told answerPayload (at-read-payload .read-payload .ensures) (at-number .number .given .1)))
 
 returns-3 : tie.Need-returns-3
 returns-3 c =

@@ -9,9 +9,9 @@ use Rattle.network_message.proofs.envelope.with_rest.Tie as tie
 
 returns : tie.Need-returns
 returns c =
-    let at-n = c .before in
-    let at-rest = at-n .before .before in
-    rw (sym (told answerPayload (at-rest .rest .ensures) (at-n .n .given .1)))
+    let at-number = c .before in
+    let at-rest = at-number .before .before in
+    rw (sym (told answerPayload (at-rest .rest .ensures) (at-number .number .given .1)))
 
 returns-2 : tie.Need-returns-2
 returns-2 c =

@@ -21,7 +21,7 @@ returns-2 c =
 returns-3 : tie.Need-returns-3
 returns-3 c =
     let args = c .before .before .before .before .args in
-    rw (le-leb (args .p + 2 * args .k + 2) (length (now (args .s))) (omega arith)) (c .size-at .ensures .0)
+    rw (le-leb (args .p + 2 * args .k + 2) (length (now (args .s))) (omega arith)) (c .number-at .ensures .0)
 
 pub listed-size-spec : {M : Type 1} → statement M
 listed-size-spec =

@@ -24,14 +24,14 @@ loop-holds c =
 
 returns : tie.Need-returns Inv-loop μ-loop
 returns c =
-    let at-n = c .before in
-    let at-message-at = at-n .before .before in
+    let at-number = c .before in
+    let at-message-at = at-number .before .before in
     let at-loop-test = at-message-at .before in
     let at-loop = at-loop-test .before in
     let args = at-loop .before .before .before .args in
     sym (ap (λ r. andThen r (λ _ q. messageAt (args .p) (now (args .sizes)) (args .k) (now (args .s)) q))
     (pass-stop (args .p) (now (args .sizes)) (now (args .s)) (args .p .first) (at-loop .loop .i) (args .k) (at-loop .loop .at) _ _
-    (at-loop-test .loop-test .taken) (at-loop .loop .inv .1) (sym (told answerMessage (at-message-at .message-at .ensures) (at-n .n .given .1)))))
+    (at-loop-test .loop-test .taken) (at-loop .loop .inv .1) (sym (told answerMessage (at-message-at .message-at .ensures) (at-number .number .given .1)))))
 
 loop-again : tie.Need-loop-again Inv-loop μ-loop
 loop-again c =

@@ -23,8 +23,8 @@ abbrev μ-loop : tie.MeasureT-loop
 loop-holds : tie.Need-loop-holds Inv-loop μ-loop
 loop-holds c = (omega arith, c .pre .0, c .pre .1, refl, refl, omega arith)
 
-cast-z : tie.Need-cast-z Inv-loop μ-loop
-cast-z c =
+cast-size : tie.Need-cast-size Inv-loop μ-loop
+cast-size c =
     omega (arith, c .shared-slice-known .given (c .before .before .loop .i))
 
 add-sum : tie.Need-add-sum Inv-loop μ-loop
@@ -52,7 +52,7 @@ tally-configured-spec =
     loop-holds
     (λ c. search needs)
     (λ c. search needs)
-    cast-z
+    cast-size
     add-sum
     (λ c. search needs)
     (λ c. search needs)

@@ -33,13 +33,13 @@ loop-again c =
     let at-loop-test = c .before in
     let at-loop = at-loop-test .before in
     let args = at-loop .before .before .args in
-    let s = now (args .s) in let l = at-loop .loop in let e = listed-step (l .left) s (l .p) (at-loop-test .loop-test .taken) in let z = c .size-at .result in (
+    let s = now (args .s) in let l = at-loop .loop in let e = listed-step (l .left) s (l .p) (at-loop-test .loop-test .taken) in let z = c .number-at .result in (
       omega arith,
       omega arith,
       omega arith,
       omega arith,
-      omega (arith, ap total e, c .size-at .ensures .0, l .inv .4),
-      ap (λ (k : ℕ). (l .each && ltb 0 k) && positive (listed (l .left - 1) s (l .p + 2))) (c .size-at .ensures .0)
+      omega (arith, ap total e, c .number-at .ensures .0, l .inv .4),
+      ap (λ (k : ℕ). (l .each && ltb 0 k) && positive (listed (l .left - 1) s (l .p + 2))) (c .number-at .ensures .0)
           ∙ and-assoc (l .each) (ltb 0 (le 2 s (l .p))) (positive (listed (l .left - 1) s (l .p + 2))) ∙ ap (λ (x : List ℕ). l .each && positive x) (sym e) ∙ l .inv .5,
       omega arith,
     )

@@ -1,6 +1,6 @@
 -- `network_message_writer::envelope::again` meets its contract.
 -- Assumes nothing.
-use Rattle.network_message_writer.proofs.Again.{text-within, ids-within, promoted-within, drop-short, again-answers}
+use Rattle.network_message_writer.proofs.Again.{text-within, ids-within, promoted-within, drop-short, again-writes}
 use lib.ListN.{length}
 use Prim.Native.Nat.{ℕ, _≤_}
 use mathlib.Core.List.{List}
@@ -31,7 +31,7 @@ returns c =
     let at-ids-of = at-promoted-of .before in
     let at-text-of = at-ids-of .before in
     let args = at-text-of .before .before .before .before .args in
-    let a = args in again-answers (now (a .s)) (a .x) (a .places) (now (a .out)) _ _ _ _ _ _ (at-text-of .text-of .ensures)
+    let a = args in again-writes (now (a .s)) (a .x) (a .places) (now (a .out)) _ _ _ _ _ _ (at-text-of .text-of .ensures)
     (at-ids-of .ids-of .ensures) (at-promoted-of .promoted-of .ensures) (at-tail .tail .ensures) (at-put-again .put-again .ensures)
 
 pub again-spec : {M : Type 1} → statement M

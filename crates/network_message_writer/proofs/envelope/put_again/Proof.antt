@@ -2,13 +2,13 @@
 -- Assumes nothing.
 use Rattle.network_message_writer.proofs.Sizes.{payload-sized}
 use Rattle.network_message_writer.specs.Envelope.{headerBytes}
-use Rattle.wire_writer.proofs.Answering.{too-long, no-room, writes}
-use Rattle.wire_writer.proofs.Putting.{puts, then, whole}
+use Rattle.wire_writer.proofs.Answering.{no-room, written}
+use Rattle.wire_writer.proofs.Putting.{puts, then}
+use Rattle.wire_writer.specs.Writing.{roomRefusal}
 use lib.ListN.{length}
-use native.Mathlib.Omega.{arith}
-use Prim.Native.Nat.{_+_, _≤_}
+use Prim.Native.Nat.{ℕ}
 use mathlib.Core.List.{_++_}
-use mathlib.Core.Path.{refl}
+use mathlib.Core.Path.{refl, ap, _∙_}
 use denote.Ref.{now}
 use borrow.Author.Needs.{needs}
 use Rattle.network_message_writer.proofs.envelope.put_again.Statement.{statement}
@@ -16,33 +16,27 @@ use Rattle.network_message_writer.proofs.envelope.put_again.Tie as tie
 
 returns : tie.Need-returns
 returns c =
-    let at-header-size = c .before in
+    let at-room-refusal = c .before in
+    let at-header-size = at-room-refusal .before in
     let args = at-header-size .before .before .before .before .before .before .args in
-    let a = args in let h = headerBytes (now (a .text)) (now (a .ids)) (now (a .promoted)) (a .x) in
-    too-long 0 (h ++ now (a .payload)) (now (a .out)) refl (at-header-size .header-size .result + length (now (a .payload)))
-    (payload-sized h (now (a .payload)) (at-header-size .header-size .ensures .0)) (c .if1 .taken)
+    let h = headerBytes (now (args .text)) (now (args .ids)) (now (args .promoted)) (args .x) in
+    let e = payload-sized h (now (args .payload)) (at-header-size .header-size .ensures .0) in
+    no-room 0 (h ++ now (args .payload)) (now (args .out)) refl (at-room-refusal .room-refusal .result)
+    (at-room-refusal .room-refusal .ensures ∙ ap (λ (n : ℕ). roomRefusal n (length (now (args .out)))) e) (c .if1 .taken)
 
 returns-2 : tie.Need-returns-2
 returns-2 c =
-    let at-if1 = c .before in
-    let at-header-size = at-if1 .before in
-    let args = at-header-size .before .before .before .before .before .before .args in
-    let a = args in let h = headerBytes (now (a .text)) (now (a .ids)) (now (a .promoted)) (a .x) in
-    no-room 0 (h ++ now (a .payload)) (now (a .out)) refl (at-header-size .header-size .result + length (now (a .payload)))
-    (payload-sized h (now (a .payload)) (at-header-size .header-size .ensures .0)) (at-if1 .if1 .left) (c .if2 .taken)
-
-returns-3 : tie.Need-returns-3
-returns-3 c =
     let at-put-run = c .before .before in
     let at-put-header = at-put-run .before .before .before .before in
-    let at-if2 = at-put-header .before .before in
-    let at-if1 = at-if2 .before in
-    let at-header-size = at-if1 .before in
+    let at-if1 = at-put-header .before .before in
+    let at-room-refusal = at-if1 .before in
+    let at-header-size = at-room-refusal .before in
     let args = at-header-size .before .before .before .before .before .before .args in
-    let a = args in let h = headerBytes (now (a .text)) (now (a .ids)) (now (a .promoted)) (a .x) in let e = payload-sized h (now (a .payload)) (at-header-size .header-size .ensures .0) in
-    let l : length (h ++ now (a .payload)) ≤ length (now (a .out)) = omega (arith, e, at-if2 .if2 .left) in
-    writes 0 (h ++ now (a .payload)) (now (a .out)) refl (at-header-size .header-size .result + length (now (a .payload))) e
-    (at-if1 .if1 .left) _ (at-if2 .if2 .left) (whole (then (at-put-header .put-header .ensures) (puts (at-put-run .put-run .ensures))) l .0)
+    let h = headerBytes (now (args .text)) (now (args .ids)) (now (args .promoted)) (args .x) in
+    let e = payload-sized h (now (args .payload)) (at-header-size .header-size .ensures .0) in
+    written 0 (h ++ now (args .payload)) (now (args .out)) refl (at-room-refusal .room-refusal .result)
+    (at-room-refusal .room-refusal .ensures ∙ ap (λ (n : ℕ). roomRefusal n (length (now (args .out)))) e) (at-if1 .if1 .left) _ _ _ e
+    (then (at-put-header .put-header .ensures) (puts (at-put-run .put-run .ensures)))
 
 pub put-again-spec : {M : Type 1} → statement M
 put-again-spec =
@@ -50,9 +44,9 @@ put-again-spec =
     (tie.spec
     (λ c κs. search needs)
     (λ c. search needs)
+    (λ c κs. search needs)
     returns
-    returns-2
     (λ c κs. search needs)
     (λ c κs. search needs)
     (λ c. search needs)
-    returns-3)
+    returns-2)

@@ -1,11 +1,10 @@
 -- `network_message_writer::envelope::rewrite` meets its contract.
 -- Assumes nothing.
-use Rattle.wire_writer.proofs.Answering.{reports}
-use Rattle.network_message_writer.specs.Envelope.{againOf}
+use Rattle.wire_writer.proofs.Answering.{reading-accepts, reading-refuses}
 use Rattle.network_message_writer.proofs.Again.{accepted-short}
 use Rattle.network_message.specs.Envelope.{answerNetworkMessage}
 use Rattle.wire.proofs.Reading.{told}
-use mathlib.Core.Path.{refl, sym}
+use mathlib.Core.Path.{sym}
 use denote.Ref.{now}
 use borrow.Author.Needs.{needs}
 use Rattle.network_message_writer.proofs.envelope.rewrite.Statement.{statement}
@@ -20,18 +19,16 @@ again-requires c κs =
 
 returns : tie.Need-returns
 returns c =
-    let at-n = c .before in
-    let at-read = at-n .before .before in
-    rw (sym (told answerNetworkMessage (at-read .read .ensures) (at-n .n .given .1))) (refl, refl)
+    let at-number = c .before in
+    let at-read = at-number .before .before in
+    reading-refuses _ (sym (told answerNetworkMessage (at-read .read .ensures) (at-number .number .given .1)))
 
 returns-2 : tie.Need-returns-2
 returns-2 c =
     let at-again = c .before .before in
     let at-x = at-again .before .before .before in
     let at-read = at-x .before .before in
-    let args = at-read .before .before .before .before .args in
-    rw (sym (told answerNetworkMessage (at-read .read .ensures) (at-x .x .given .1)))
-    (reports 0 (againOf (now (args .s)) (at-x .x .given .0 .0) (at-x .x .given .0 .1 .0)) (now (args .out)) _ _ (at-again .again .ensures))
+    reading-accepts _ (sym (told answerNetworkMessage (at-read .read .ensures) (at-x .x .given .1))) (at-again .again .ensures)
 
 pub rewrite-spec : {M : Type 1} → statement M
 rewrite-spec =

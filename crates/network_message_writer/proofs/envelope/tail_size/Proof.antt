@@ -11,15 +11,15 @@ use Rattle.network_message_writer.proofs.envelope.tail_size.Tie as tie
 returns : tie.Need-returns
 returns c =
     let at-size16 = c .before in
-    let at-timestamp-size = at-size16 .before in
-    let at-payload-header-size = at-timestamp-size .before in
+    let at-size-i64 = at-size16 .before in
+    let at-payload-header-size = at-size-i64 .before in
     let at-pre = at-payload-header-size .before .before .before in (
       tail-sized [] (now (at-pre .args .ids)) (now (at-pre .args .promoted)) (at-pre .args .x)
-          (at-payload-header-size .payload-header-size .ensures .0) (at-timestamp-size .timestamp-size .ensures .0) (at-size16 .size16 .ensures .0) (c .promoted-size .ensures .0),
+          (at-payload-header-size .payload-header-size .ensures .0) (at-size-i64 .size-i64 .ensures .0) (at-size16 .size16 .ensures .0) (c .promoted-size .ensures .0),
       omega (
         arith,
         at-payload-header-size .payload-header-size .ensures .1,
-        at-timestamp-size .timestamp-size .ensures .1,
+        at-size-i64 .size-i64 .ensures .1,
         at-size16 .size16 .ensures .1,
         c .promoted-size .ensures .1,
         at-pre .pre .0,

@@ -20,12 +20,12 @@ returns-2 c =
 
 returns-3 : tie.Need-returns-3
 returns-3 c =
-    let at-if2 = c .before in
+    let at-if2 = c .before .before in
     let at-tally-listed = at-if2 .before .before in
     let at-if1 = at-tally-listed .before in
     let args = at-if1 .before .before .args in
     rw (eq-eqb _ _ (at-if1 .if1 .left), sym (at-tally-listed .tally-listed .ensures .1) ∙ not-false (at-tally-listed .tally-listed .result .positive) (at-if2 .if2 .left))
-    (c .must-equal .ensures ∙ ap (λ (k : ℕ). cond (eqb k (args .rest)) 0 6) (at-tally-listed .tally-listed .ensures .0))
+    (c .six-unless .ensures ∙ ap (λ (k : ℕ). cond (eqb k (args .rest)) 0 6) (at-tally-listed .tally-listed .ensures .0))
 
 pub listed-refusal-spec : {M : Type 1} → statement M
 listed-refusal-spec =

@@ -14,9 +14,9 @@ returns c =
 
 returns-2 : tie.Need-returns-2
 returns-2 c =
-    let at-n = c .before in
-    let at-read-payload = at-n .before .before in
-    ap numberIn (told answerPayload (at-read-payload .read-payload .ensures) (at-n .n .given .1))
+    let at-number = c .before in
+    let at-read-payload = at-number .before .before in
+    ap numberIn (told answerPayload (at-read-payload .read-payload .ensures) (at-number .number .given .1))
 
 pub payload-number-spec : {M : Type 1} → statement M
 payload-number-spec =

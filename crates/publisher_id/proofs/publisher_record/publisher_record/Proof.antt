@@ -17,7 +17,7 @@ returns c =
     let at-left = at-part .before in
     let at-text-length = at-left .before .before in
     let args = at-text-length .before .before .args in
-    record-is (args .id) (at-put-run .put-run .ensures
+    record-is (args .id) (at-put-run .put-run .ensures .stored
     ∙ ap (laid (replicate 64 0) 0)
     (at-part .part .ensures ∙ ap (λ (k : ℕ). take (at-text-length .text-length .result) (drop k (now (args .s)))) (at-left .left .ensures)
     ∙ ap (λ (n : ℕ). take n (drop (args .end - n) (now (args .s)))) (at-text-length .text-length .ensures)))

@@ -26,7 +26,7 @@ loop-again c =
     let at-put64 = c .before .before in
     let at-loop-test = at-put64 .before .before .before in
     let at-loop = at-loop-test .before in
-    (omega arith, (omega arith, (search needs, number-stored 8 _ _ _ _ _ _ (at-loop-test .loop-test .taken) (omega arith) (at-put64 .put64 .ensures) (at-loop .loop .inv .1 .1 .1))))
+    (omega arith, (omega arith, (search needs, number-stored 8 _ _ _ _ _ _ (at-loop-test .loop-test .taken) (omega arith) (at-put64 .put64 .ensures .stored) (at-loop .loop .inv .1 .1 .1))))
 
 -- src/numbers.rt:23:1
 returns : tie.Need-returns Inv-loop μ-loop

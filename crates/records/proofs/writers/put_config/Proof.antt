@@ -24,8 +24,8 @@ returns-2 c =
     let at-if1 = at-at-most .before .before in
     let args = at-if1 .before .before .args in
     config-put (args .t2) (now (args .out)) _ _ _ _ _ _ _ _ (search needs) (search needs) (search needs) (search needs)
-    (omega (arith, at-if1 .if1 .left)) (at-at-most .at-most .ensures .0) (at-at-most2 .at-most2 .ensures .0) (at-put8 .put8 .ensures)
-    (at-put82 .put82 .ensures) (at-store16 .store16 .ensures) (at-store162 .store162 .ensures) (at-put-run .put-run .ensures) (at-put-run2 .put-run2 .ensures)
+    (omega (arith, at-if1 .if1 .left)) (at-at-most .at-most .ensures .0) (at-at-most2 .at-most2 .ensures .0) (at-put8 .put8 .ensures .stored)
+    (at-put82 .put82 .ensures .stored) (at-store16 .store16 .ensures) (at-store162 .store162 .ensures) (at-put-run .put-run .ensures .stored) (at-put-run2 .put-run2 .ensures .stored)
 
 pub put-config-spec : {M : Type 1} → statement M
 put-config-spec =

@@ -26,7 +26,7 @@ loop-again c =
     let at-put16 = c .before .before in
     let at-loop-test = at-put16 .before .before .before in
     let at-loop = at-loop-test .before in
-    (omega arith, (omega arith, (search needs, number-stored 2 _ _ _ _ _ _ (at-loop-test .loop-test .taken) (omega arith) (at-put16 .put16 .ensures) (at-loop .loop .inv .1 .1 .1))))
+    (omega arith, (omega arith, (search needs, number-stored 2 _ _ _ _ _ _ (at-loop-test .loop-test .taken) (omega arith) (at-put16 .put16 .ensures .stored) (at-loop .loop .inv .1 .1 .1))))
 
 -- src/writers.rt:130:1
 returns : tie.Need-returns Inv-loop μ-loop

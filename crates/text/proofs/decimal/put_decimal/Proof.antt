@@ -6,7 +6,8 @@ use native.Mathlib.Omega.{arith}
 use borrow.Author.Needs.{needs}
 use lib.ListN.{length}
 use lib.Dec.{leb}
-use Rattle.text.proofs.Putting.{stored-none, stored-all}
+use Rattle.wire_writer.proofs.Stores.{stored-none}
+use Rattle.text.proofs.Putting.{stored-all}
 use Rattle.wire.proofs.Reading.{lacks, holds, room}
 use Rattle.text.proofs.decimal.put_decimal.Statement.{statement}
 use Rattle.text.proofs.decimal.put_decimal.Tie as tie

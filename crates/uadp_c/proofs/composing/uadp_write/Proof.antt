@@ -1,6 +1,6 @@
 -- `uadp_c::composing::uadp_write` meets its contract.
 -- Assumes nothing.
-use Rattle.uadp_c.proofs.Wrote.{of-writers, datagram-composed}
+use Rattle.uadp_c.proofs.Wrote.{of-writers, datagram-output, wrote}
 use Rattle.network_message_writer.specs.Envelope.{given}
 use denote.Ref.{now}
 use borrow.Author.Needs.{needs}
@@ -17,11 +17,12 @@ returns c =
     let at-writer-count = at-sizes .before in
     let at-envelope-in = at-writer-count .before in
     let args = at-envelope-in .before .before .before .before .before .before .before .before .before .args in
-    datagram-composed (now (args .config)) (now (args .envelope)) _ _ (now (args .out)) _
-    (given (now (args .text)) (now (args .ids)) (now (args .promoted)) (now (args .lengths)) (now (args .messages))) _
-    (at-envelope-in .envelope-in .result) (at-write .write .result) (at-envelope-in .envelope-in .ensures)
+    wrote (now (args .out)) _ _ _ (at-write .write .result) _
+    (datagram-output (now (args .config)) (now (args .envelope)) _ _
+    (given (now (args .text)) (now (args .ids)) (now (args .promoted)) (now (args .lengths)) (now (args .messages)))
+    (at-envelope-in .envelope-in .result) (at-envelope-in .envelope-in .ensures)
     (of-writers 34 (now (args .config)) _ _ _ (at-writer-count .writer-count .ensures .0) (at-sizes .sizes .ensures) (at-first .first .ensures))
-    (of-writers 2 (now (args .config)) _ _ _ (at-writer-count .writer-count .ensures .0) (at-ids .ids .ensures) (at-first2 .first2 .ensures))
+    (of-writers 2 (now (args .config)) _ _ _ (at-writer-count .writer-count .ensures .0) (at-ids .ids .ensures) (at-first2 .first2 .ensures)))
     (at-write .write .ensures) (c .written-result .ensures)
 
 pub uadp-write-spec : {M : Type 1} → statement M

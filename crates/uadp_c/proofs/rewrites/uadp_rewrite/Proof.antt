@@ -1,6 +1,10 @@
 -- `uadp_c::rewrites::uadp_rewrite` meets its contract.
 -- Assumes nothing.
-use Rattle.uadp_c.proofs.Wrote.{of-writers, rewritten}
+use Rattle.uadp_c.proofs.Wrote.{of-writers, wrote}
+use Rattle.rewriting.specs.Same.{sameDatagram}
+use mathlib.Core.Path.{ap}
+use mathlib.Core.List.{List}
+use Prim.Native.Nat.{ℕ}
 use denote.Ref.{now}
 use borrow.Author.Needs.{needs}
 use Rattle.uadp_c.proofs.rewrites.uadp_rewrite.Statement.{statement}
@@ -13,8 +17,9 @@ returns c =
     let at-sizes = at-first .before .before in
     let at-writer-count = at-sizes .before in
     let args = at-writer-count .before .before .before .before .args in
-    rewritten (now (args .config)) (now (args .datagram)) _ (now (args .out)) _ (at-rewrite-datagram .rewrite-datagram .result) _
-    (of-writers 34 (now (args .config)) _ _ _ (at-writer-count .writer-count .ensures .0) (at-sizes .sizes .ensures) (at-first .first .ensures))
+    wrote (now (args .out)) _ _ _ (at-rewrite-datagram .rewrite-datagram .result) _
+    (ap (λ (y : List ℕ). sameDatagram y (now (args .datagram)))
+    (of-writers 34 (now (args .config)) _ _ _ (at-writer-count .writer-count .ensures .0) (at-sizes .sizes .ensures) (at-first .first .ensures)))
     (at-rewrite-datagram .rewrite-datagram .ensures) (c .written-result .ensures)
 
 pub uadp-rewrite-spec : {M : Type 1} → statement M

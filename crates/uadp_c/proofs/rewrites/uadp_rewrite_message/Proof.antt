@@ -1,6 +1,10 @@
 -- `uadp_c::rewrites::uadp_rewrite_message` meets its contract.
 -- Assumes nothing.
-use Rattle.uadp_c.proofs.Wrote.{message-rewritten}
+use Rattle.uadp_c.proofs.Wrote.{wrote}
+use Rattle.rewriting.specs.Same.{sameMessage}
+use mathlib.Core.Path.{ap}
+use mathlib.Core.List.{List}
+use Prim.Native.Nat.{ℕ}
 use denote.Ref.{now}
 use borrow.Author.Needs.{needs}
 use Rattle.uadp_c.proofs.rewrites.uadp_rewrite_message.Statement.{statement}
@@ -11,8 +15,9 @@ returns c =
     let at-rewrite-message = c .before .before .before in
     let at-types-for = at-rewrite-message .before .before in
     let args = at-types-for .before .before .before .before .args in
-    message-rewritten (now (args .config)) (now (args .message)) _ (now (args .out)) _ (args .writer) _ _
-    (at-types-for .types-for .ensures) (at-rewrite-message .rewrite-message .ensures) (c .written-result .ensures)
+    wrote (now (args .out)) _ _ _ (at-rewrite-message .rewrite-message .result) _
+    (ap (λ (y : List ℕ). sameMessage y (now (args .message))) (at-types-for .types-for .ensures))
+    (at-rewrite-message .rewrite-message .ensures) (c .written-result .ensures)
 
 pub uadp-rewrite-message-spec : {M : Type 1} → statement M
 uadp-rewrite-message-spec =

@@ -2,9 +2,11 @@
 -- Assumes nothing.
 use denote.Ref.{now}
 use borrow.Author.Tests.{leb-true}
-use mathlib.Core.Path.{_∙_, sym}
+use mathlib.Core.Path.{_∙_, refl, sym}
 use borrow.Author.Needs.{needs}
-use Rattle.wire_writer.proofs.Stores.{laid-fits, laid-none}
+use Prim.Native.Nat.{_+_, _≤_}
+use lib.ListN.{length}
+use Rattle.wire_writer.proofs.Stores.{stored-fits, stored-none}
 use Rattle.wire.specs.Number.{leBytes}
 use Rattle.wire_writer.proofs.store.put16.Statement.{statement}
 use Rattle.wire_writer.proofs.store.put16.Tie as tie
@@ -13,19 +15,26 @@ store2-requires : tie.Need-store2-requires
 store2-requires c κs =
     leb-true _ _ (sym (c .before .before .has .ensures) ∙ c .before .if1 .taken)
 
+add-result : tie.Need-add-result
+add-result c =
+    let at-if1 = c .before .before .before .before in
+    let at-has = at-if1 .before in
+    let args = at-has .before .before .args in
+    let h : args .at + 2 ≤ length (now (args .out)) = leb-true _ _ (sym (at-has .has .ensures) ∙ at-if1 .if1 .taken) in search needs
+
 returns : tie.Need-returns
 returns c =
     let at-store2 = c .before .before in
     let at-if1 = at-store2 .before .before in
     let at-has = at-if1 .before in
     let args = at-has .before .before .args in
-    at-store2 .store2 .ensures ∙ laid-fits (now (args .out)) (args .at) (leBytes 2 (args .v)) (sym (at-has .has .ensures) ∙ at-if1 .if1 .taken)
+    stored-fits (leBytes 2 (args .v)) (now (args .out)) (args .at) refl (sym (at-has .has .ensures) ∙ at-if1 .if1 .taken) (at-store2 .store2 .ensures)
 
 returns-2 : tie.Need-returns-2
 returns-2 c =
     let at-has = c .before in
     let args = at-has .before .before .args in
-    laid-none (now (args .out)) (args .at) (leBytes 2 (args .v)) (sym (at-has .has .ensures) ∙ c .if1 .left)
+    stored-none (leBytes 2 (args .v)) (now (args .out)) (args .at) (sym (at-has .has .ensures) ∙ c .if1 .left)
 
 pub put16-spec : {M : Type 1} → statement M
-put16-spec = tie.close (tie.spec (λ c κs. search needs) store2-requires (λ c. search needs) returns returns-2)
+put16-spec = tie.close (tie.spec (λ c κs. search needs) store2-requires add-result (λ c. search needs) returns returns-2)

@@ -18,11 +18,11 @@ returns-2 c =
 
 returns-3 : tie.Need-returns-3
 returns-3 c =
-    let at-n = c .before in
-    let at-read-field = at-n .before .before in
+    let at-number = c .before in
+    let at-read-field = at-number .before .before in
     let at-if2 = at-read-field .before in
     let at-if1 = at-if2 .before .before in
-    rw (le-ltb _ _ (at-if1 .if1 .left), lt-leb _ _ (at-if2 .if2 .left), sym (told answerField (at-read-field .read-field .ensures) (at-n .n .given .1)))
+    rw (le-ltb _ _ (at-if1 .if1 .left), lt-leb _ _ (at-if2 .if2 .left), sym (told answerField (at-read-field .read-field .ensures) (at-number .number .given .1)))
 
 returns-4 : tie.Need-returns-4
 returns-4 c =

@@ -24,9 +24,9 @@ add-t12 c =
 
 returns : tie.Need-returns
 returns c =
-    let at-n = c .before in
-    let at-message-at = at-n .before .before in
-    rw (sym (told answerMessage (at-message-at .message-at .ensures) (at-n .n .given .1)))
+    let at-number = c .before in
+    let at-message-at = at-number .before .before in
+    rw (sym (told answerMessage (at-message-at .message-at .ensures) (at-number .number .given .1)))
 
 returns-2 : tie.Need-returns-2
 returns-2 c =

@@ -1,9 +1,9 @@
--- `dataset_header::flags::announced` meets its contract.
+-- `wire_writer::writing::announced` meets its contract.
 -- Assumes nothing.
 use borrow.Author.Needs.{needs}
 use borrow.Author.Tests.{eq-eqb, ne-eqb}
-use Rattle.dataset_header.proofs.flags.announced.Statement.{statement}
-use Rattle.dataset_header.proofs.flags.announced.Tie as tie
+use Rattle.wire_writer.proofs.writing.announced.Statement.{statement}
+use Rattle.wire_writer.proofs.writing.announced.Tie as tie
 
 returns : tie.Need-returns
 returns c = (rw (eq-eqb _ _ (c .if1 .taken)), search needs)
