@@ -28,15 +28,15 @@ use Rattle.acceptance.proofs.Refusals.{Rule, Tells, Lawful, at-item, nu
 flags-lawful : Lawful flagsAt
 flags-lawful =
     bind-lawful (ruled-lawful 1 byte0Rule (λ b. cond-rule (eqb (b % 16) 1) kept (inr (number 2 refl))))
-    (λ b. bind-lawful (when-lawful (eqb (b / 128) 1) 0 (ruled-lawful 1 (extended1Rule (bit 16 b)) (extended1 (bit 16 b))))
+    (λ b. bind-lawful (when-lawful (eqb (b / 128) 1) 0 (ruled-lawful 1 (extended1Rule (bit 4 b)) (extended1 (bit 4 b))))
     (λ e. bind-lawful (when-lawful (eqb (e / 128) 1) 0 (ruled-lawful 1 extended2Rule extended2)) (λ f. pure-lawful _)))
   where
     extended1 : (p : Bool) (e : ℕ) → Rule (extended1Rule p e)
     extended1 p e =
         cond-rule (eqb e 0) (inr (number 3 refl))
         (cond-rule (p && leb 5 (e % 8)) (inr (number 3 refl))
-        (cond-rule (bit 16 e) (inr (number 4 refl))
-        (cond-rule (bit 64 e && eqb (e / 32 % 2) 0) (inr (number 3 refl)) kept)))
+        (cond-rule (bit 4 e) (inr (number 4 refl))
+        (cond-rule (bit 6 e && eqb (e / 32 % 2) 0) (inr (number 3 refl)) kept)))
 
     extended2 : (e : ℕ) → Rule (extended2Rule e)
     extended2 e = cond-rule (eqb e 0) (inr (number 3 refl))
@@ -70,9 +70,9 @@ group-lawful on =
     when-lawful on _
     (bind-lawful (ruled-lawful 1 groupFlagsRule (λ v. cond-rule (leb 16 v) (inr (number 3 refl)) kept))
     (λ f. bind-lawful (optional16-lawful (eqb (f % 2) 1))
-    (λ w. bind-lawful (optional32-lawful (bit 2 f))
-    (λ v. bind-lawful (number-lawful (bit 4 f))
-    (λ n. bind-lawful (optional16-lawful (bit 8 f)) (λ q. pure-lawful _))))))
+    (λ w. bind-lawful (optional32-lawful (bit 1 f))
+    (λ v. bind-lawful (number-lawful (bit 2 f))
+    (λ n. bind-lawful (optional16-lawful (bit 3 f)) (λ q. pure-lawful _))))))
 
 payload-header-lawful : (on chunk : Bool) → Lawful (payloadHeaderAt on chunk)
 payload-header-lawful on chunk =

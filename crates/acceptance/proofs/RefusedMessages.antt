@@ -76,14 +76,14 @@ module _ {nested : ℕ → Reader Measure} (h : (t : ℕ) → Lawful (nested t))
   parts-lawful : (m : ℕ) → Lawful (parts m)
   unfolding parts
   parts-lawful m =
-      after-lawful (when-lawful (bit 2 m) tt (bytes-lawful 4))
-      (after-lawful (when-lawful (bit 4 m) tt (bytes-lawful 8))
-      (after-lawful (when-lawful (bit 16 m) tt (bytes-lawful 2))
-      (after-lawful (when-lawful (bit 8 m) tt (bytes-lawful 8)) (when-lawful (bit 32 m) tt (bytes-lawful 2)))))
+      after-lawful (when-lawful (bit 1 m) tt (bytes-lawful 4))
+      (after-lawful (when-lawful (bit 2 m) tt (bytes-lawful 8))
+      (after-lawful (when-lawful (bit 4 m) tt (bytes-lawful 2))
+      (after-lawful (when-lawful (bit 3 m) tt (bytes-lawful 8)) (when-lawful (bit 5 m) tt (bytes-lawful 2)))))
 
   data-value-lawful : (m : ℕ) → Lawful (dataValueOf nested m)
   data-value-lawful m =
-      after-lawful (when-lawful (bit 1 m) tt (passing-lawful (h 24))) (after-lawful (parts-lawful m) (pure-lawful (measure 23 Shape.Scalar)))
+      after-lawful (when-lawful (bit 0 m) tt (passing-lawful (h 24))) (after-lawful (parts-lawful m) (pure-lawful (measure 23 Shape.Scalar)))
 
   variant-rule : (b : ℕ) → Rule (variantRule b)
   unfolding variantRule
@@ -97,7 +97,7 @@ module _ {nested : ℕ → Reader Measure} (h : (t : ℕ) → Lawful (nested t))
   value-of-lawful : (t : ℕ) → Lawful (valueOf nested t)
   value-of-lawful t =
       cond-lawful (eqb t 23)
-      (bind-lawful (ruled-lawful 1 maskRule (λ m. cond-rule (bit 64 m || bit 128 m) (inr (number 3 refl)) kept)) data-value-lawful)
+      (bind-lawful (ruled-lawful 1 maskRule (λ m. cond-rule (bit 6 m || bit 7 m) (inr (number 3 refl)) kept)) data-value-lawful)
       (bind-lawful (ruled-lawful 1 variantRule variant-rule) variant-lawful)
 
 pub value-lawful : (levels t : ℕ) → Lawful (valueAt levels t)

@@ -1,9 +1,9 @@
 -- Flags1 and Flags2 (document 01, "The DataSetMessage").
-use Prim.Native.Nat.{ℕ, _/_, _%_, _+_, _*_}
+use Prim.Native.Nat.{ℕ, _+_, _*_}
 use mathlib.Core.Bool.{Bool, true, false, cond, not, _&&_}
 use lib.Dec.{leb, ltb, eqb}
 use Rattle.wire.specs.Constants.{NOT_PERMITTED, NOT_TAKEN}
-use Rattle.wire.specs.Answer.{Answer, got, refused, Reader, ruled, andThen, item, bit}
+use Rattle.wire.specs.Answer.{Answer, got, refused, Reader, ruled, andThen, item, bit, bits}
 use Rattle.dataset_header.specs.declared.flags.Encoding.{Encoding}
 use Rattle.dataset_header.specs.declared.flags.Kind.{Kind}
 use Rattle.dataset_header.specs.declared.flags.Flags.{Flags}
@@ -15,14 +15,14 @@ use Rattle.dataset_header.specs.declared.header.Header.{Header}
 
 -- "Bits 1-2 encoding: 0 Variant, 1 RawData, 2 DataValue" (3 is refused)
 abbrev pub encodingOf : ℕ → Encoding
-encodingOf b = cond (eqb (b / 2 % 4) 0) Encoding.Variant (cond (eqb (b / 2 % 4) 1) Encoding.RawData Encoding.DataValue)
+encodingOf b = cond (eqb (bits 1 2 b) 0) Encoding.Variant (cond (eqb (bits 1 2 b) 1) Encoding.RawData Encoding.DataValue)
 
 -- "bits 0-3 kind: 0 key, 1 delta, 2 event, 3 keep alive" (others are refused)
 abbrev pub kindOf : ℕ → Kind
 kindOf f =
-    cond (eqb (f % 16) 0) Kind.Key
-    (cond (eqb (f % 16) 1) Kind.Delta
-    (cond (eqb (f % 16) 2) Kind.Event Kind.KeepAlive))
+    cond (eqb (bits 0 4 f) 0) Kind.Key
+    (cond (eqb (bits 0 4 f) 1) Kind.Delta
+    (cond (eqb (bits 0 4 f) 2) Kind.Event Kind.KeepAlive))
 
 -- a delta frame, and fields in RawData
 abbrev pub isDelta : Kind → Bool
@@ -38,16 +38,16 @@ isRaw Encoding.DataValue = false
 
 -- encoding "3 is 3"
 abbrev pub flags1Rule : ℕ → ℕ
-flags1Rule b = cond (eqb (b / 2 % 4) 3) NOT_PERMITTED 0
+flags1Rule b = cond (eqb (bits 1 2 b) 3) NOT_PERMITTED 0
 
 -- "Flags2: 0 is 3"; kind 4 and above is 3; bit "6 or 7 set is 3. Event not in Variant is 3; delta in RawData is 4"
 abbrev pub flags2Rule : ℕ → ℕ → ℕ
 flags2Rule b f =
     cond (eqb f 0) NOT_PERMITTED
-    (cond (leb 4 (f % 16)) NOT_PERMITTED
+    (cond (leb 4 (bits 0 4 f)) NOT_PERMITTED
     (cond (leb 64 f) NOT_PERMITTED
-    (cond (eqb (f % 16) 2 && not (eqb (b / 2 % 4) 0)) NOT_PERMITTED
-    (cond (eqb (f % 16) 1 && eqb (b / 2 % 4) 1) NOT_TAKEN 0))))
+    (cond (eqb (bits 0 4 f) 2 && not (eqb (bits 1 2 b) 0)) NOT_PERMITTED
+    (cond (eqb (bits 0 4 f) 1 && eqb (bits 1 2 b) 1) NOT_TAKEN 0))))
 
 -- Flags2 after Flags1 b: bit 7 of b announces it; without it it counts as 0
 abbrev pub flags2At : ℕ → Reader ℕ
@@ -59,12 +59,12 @@ flagsOf b f =
     record {
       encoding = encodingOf b;
       kind = kindOf f;
-      sequence = bit 8 b;
-      status = bit 16 b;
-      major = bit 32 b;
-      minor = bit 64 b;
-      timestamp = bit 16 f;
-      picoseconds = bit 32 f;
+      sequence = bit 3 b;
+      status = bit 4 b;
+      major = bit 5 b;
+      minor = bit 6 b;
+      timestamp = bit 4 f;
+      picoseconds = bit 5 f;
     }
 
 -- a message is valid, or "with bit 0 off the answer is "not valid"; nothing after it is read"
@@ -76,7 +76,7 @@ abbrev pub flagsAt : Reader (Valid Flags)
 flagsAt s at =
     andThen (item 1 s at)
     (λ b next.
-    cond (eqb (b % 2) 0) (got notValid next)
+    cond (eqb (bits 0 1 b) 0) (got notValid next)
     (cond (eqb (flags1Rule b) 0) (andThen (flags2At b s next) (λ f z. got (valid (flagsOf b f)) z)) (refused (flags1Rule b) at)))
 
 abbrev pub answerFlags : FlagsRead → Answer (Valid Flags)

@@ -27,19 +27,22 @@ abbrev withDigit : ℕ → ℕ → ℕ
 withDigit zero b = b / 2 * 2 + 1
 withDigit (suc k) b = withDigit k (b / 2) * 2 + b % 2
 
-bit-digit : (k b : ℕ) → bit (2 ^ k) b ≡ digit k b
-bit-digit zero b = let e : b / 1 ≡ b = omega arith in rw e
-bit-digit (suc k) b =
+halved-digit : (k b : ℕ) → eqb (b / 2 ^ k % 2) 1 ≡ digit k b
+halved-digit zero b = let e : b / 1 ≡ b = omega arith in rw e
+halved-digit (suc k) b =
     let e : b / 2 ^ suc k ≡ b / 2 / 2 ^ k = ap (λ (n : ℕ). b / 2 ^ n) (sym (one-add k)) ∙ sym (shr-shr b 1 k) in
-    rw e (bit-digit k (b / 2))
+    rw e (halved-digit k (b / 2))
   where
     one-add : (k : ℕ) → 1 + k ≡ suc k
     one-add k = omega arith
 
+bit-digit : (k b : ℕ) → bit k b ≡ digit k b
+bit-digit zero b = refl
+bit-digit (suc k) b = halved-digit (suc k) b
+
 with-digit : (k b : ℕ) → withBit k b ≡ withDigit k b
 with-digit zero b =
-    let e : b / 1 ≡ b = omega arith in
-    rw e (by-bool _ (eqb (b % 2) 1) (λ t. let h = eqb-true (b % 2) 1 t in rw t (omega arith)) (λ t. let h = eqb-false (b % 2) 1 t in rw t (omega arith)))
+    by-bool _ (eqb (b % 2) 1) (λ t. let h = eqb-true (b % 2) 1 t in rw t (omega arith)) (λ t. let h = eqb-false (b % 2) 1 t in rw t (omega arith))
 with-digit (suc k) b =
     let ih = with-digit k (b / 2) in
     by-bool _ (digit k (b / 2))
@@ -63,16 +66,16 @@ digit-other (suc k) (suc j) b ne =
     let e : (withDigit k (b / 2) * 2 + b % 2) / 2 ≡ withDigit k (b / 2) = omega arith in
     rw e (digit-other k j (b / 2) (λ q. ne (ap suc q)))
 
-bit-none : (k : ℕ) → bit (2 ^ k) 0 ≡ false
+bit-none : (k : ℕ) → bit k 0 ≡ false
 bit-none k = bit-digit k 0 ∙ digit-none k
 
-bit-same : (k b : ℕ) → bit (2 ^ k) (withBit k b) ≡ true
+bit-same : (k b : ℕ) → bit k (withBit k b) ≡ true
 bit-same k b = bit-digit k (withBit k b) ∙ ap (digit k) (with-digit k b) ∙ digit-same k b
 
-bit-other : (k j b : ℕ) → (j ≡ k → ⊥) → bit (2 ^ j) (withBit k b) ≡ bit (2 ^ j) b
+bit-other : (k j b : ℕ) → (j ≡ k → ⊥) → bit j (withBit k b) ≡ bit j b
 bit-other k j b ne = bit-digit j (withBit k b) ∙ ap (digit j) (with-digit k b) ∙ digit-other k j b ne ∙ sym (bit-digit j b)
 
-bit-again : (k b : ℕ) → bit (2 ^ k) b ≡ true → withBit k b ≡ b
+bit-again : (k b : ℕ) → bit k b ≡ true → withBit k b ≡ b
 bit-again k b e = rw e
 
 -- ---- what is true of either layout

@@ -19,7 +19,7 @@ inUse = byBytes
 
 -- a byte with bit k set, where bit 0 is the lowest
 abbrev pub withBit : ℕ → ℕ → ℕ
-withBit k b = cond (bit (2 ^ k) b) b (b + 2 ^ k)
+withBit k b = cond (bit k b) b (b + 2 ^ k)
 
 -- how many bytes of marks a payload area of n bytes has: both areas are equally long; or one eighth, rounded up
 unfoldable pub marksFor : Layout → ℕ → ℕ
@@ -34,7 +34,7 @@ capacity byBits m = length m * 8
 -- whether offset i is marked: its mark is exactly 1; its bit is set
 unfoldable pub marked : Layout → List ℕ → ℕ → Bool
 marked byBytes m i = eqb (getD m i 0) 1
-marked byBits m i = bit (2 ^ (i % 8)) (getD m (i / 8) 0)
+marked byBits m i = bit (i % 8) (getD m (i / 8) 0)
 
 -- with offset i marked
 unfoldable pub markAt : Layout → ℕ → List ℕ → List ℕ

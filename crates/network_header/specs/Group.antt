@@ -1,5 +1,5 @@
 -- The group header (document 01, "The envelope").
-use Prim.Native.Nat.{ℕ, _%_, _+_, _*_}
+use Prim.Native.Nat.{ℕ, _+_, _*_}
 use mathlib.Core.Bool.{Bool, cond, true, false}
 use lib.Dec.{leb, eqb}
 use Rattle.wire.specs.Constants.{NOT_PERMITTED}
@@ -27,10 +27,10 @@ groupFlagsRule v = cond (leb 16 v) NOT_PERMITTED 0
 -- "then by bits 0 to 3: WriterGroupId 2, GroupVersion 4, NetworkMessageNumber 2, SequenceNumber 2"
 abbrev pub groupFieldsAt : ℕ → Reader GroupHeader
 groupFieldsAt flags = do
-  w ← optional16 (eqb (flags % 2) 1)
-  v ← optional32 (bit 2 flags)
-  n ← numberAt (bit 4 flags)
-  q ← optional16 (bit 8 flags)
+  w ← optional16 (bit 0 flags)
+  v ← optional32 (bit 1 flags)
+  n ← numberAt (bit 2 flags)
+  q ← optional16 (bit 3 flags)
   pure (GroupHeader.Is (record { «writer_group» = w; version = v; number = n; sequence = q }))
 
 abbrev pub groupAt : Bool → Reader GroupHeader

@@ -34,11 +34,11 @@ module _ (s : List ℕ) where
   pub parts-fit : (m at : ℕ) → at + partsWidth m ≤ length s → got tt (at + partsWidth m) ≡ parts m s at
   unfolding parts
   parts-fit m at h =
-      let a : ℕ = cond (bit 2 m) 4 0 in
-      let b : ℕ = cond (bit 4 m) 8 0 in
-      let c : ℕ = cond (bit 16 m) 2 0 in
-      let d : ℕ = cond (bit 8 m) 8 0 in
-      let e : ℕ = cond (bit 32 m) 2 0 in
+      let a : ℕ = cond (bit 1 m) 4 0 in
+      let b : ℕ = cond (bit 2 m) 8 0 in
+      let c : ℕ = cond (bit 4 m) 2 0 in
+      let d : ℕ = cond (bit 3 m) 8 0 in
+      let e : ℕ = cond (bit 5 m) 2 0 in
       let whole : at + (a + (b + (c + (d + e)))) ≤ length s = h in
       let end : at + (a + (b + (c + (d + e)))) ≡ at + a + b + c + d + e = omega arith in
       let h1 : at + a ≤ length s = omega arith in
@@ -47,9 +47,9 @@ module _ (s : List ℕ) where
       let h4 : at + a + b + c + d ≤ length s = omega arith in
       let h5 : at + a + b + c + d + e ≤ length s = omega arith in
       rw (
-        when-fits (bit 2 m) 4 at h1,
-        when-fits (bit 4 m) 8 (at + a) h2,
-        when-fits (bit 16 m) 2 (at + a + b) h3,
-        when-fits (bit 8 m) 8 (at + a + b + c) h4,
-        when-fits (bit 32 m) 2 (at + a + b + c + d) h5,
+        when-fits (bit 1 m) 4 at h1,
+        when-fits (bit 2 m) 8 (at + a) h2,
+        when-fits (bit 4 m) 2 (at + a + b) h3,
+        when-fits (bit 3 m) 8 (at + a + b + c) h4,
+        when-fits (bit 5 m) 2 (at + a + b + c + d) h5,
       ) (ap (got tt) end)

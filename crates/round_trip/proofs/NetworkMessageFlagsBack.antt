@@ -71,7 +71,7 @@ facts1 p e r = go (eqb e 0) refl
     go false q =
         let a = passed (eqb e 0) 2 _ (r q) in
         let b = passed (p && leb 5 (e % 8)) 2 _ (a .1) in
-        let c = passed (bit 16 e) 3 _ (b .1) in
+        let c = passed (bit 4 e) 3 _ (b .1) in
         let n : e / 16 % 2 ≡ 1 → ⊥ = eqb-false (e / 16 % 2) 1 (c .0) in
         (omega arith, λ h. leb-false 5 (e % 8) (both-false p (leb 5 (e % 8)) (b .0) h))
 
@@ -109,18 +109,18 @@ module _ (b e g : ℕ) (hb : b < 256) (he : e < 256) (hg : g < 4) (vb : b % 16 �
 pub flags-back : (s : List ℕ) (at : ℕ) (f : Flags) (next : ℕ) → Bytes s → flagsAt s at ≡ got f next → Back s at (flagBytes f) next × (f .publisher ≡ true → f .kind < 5)
 flags-back s at f next y h =
     let B = invert (ruled 1 byte0Rule s at) (λ b n. _) h in
-    let E = invert (whenOn (eqb (B .0 / 128) 1) 0 (ruled 1 (extended1Rule (bit 16 (B .0)))) s (B .1)) (λ e n. _) (B .3) in
+    let E = invert (whenOn (eqb (B .0 / 128) 1) 0 (ruled 1 (extended1Rule (bit 4 (B .0)))) s (B .1)) (λ e n. _) (B .3) in
     let G = map-back (whenOn (eqb (E .0 / 128) 1) 0 (ruled 1 extended2Rule)) (λ g. flagsOf (B .0) (E .0) g) s (E .1) f next (E .3) in
     let rb = ruled-back 1 byte0Rule s at (B .0) (B .1) (B .2) in
     let ib = item-back 1 s at (B .0) (B .1) y (rb .0) in
     let vb : B .0 % 16 ≡ 1 = eqb-true (B .0 % 16) 1 (held (eqb (B .0 % 16) 1) 1 (rb .1)) in
     let hb : B .0 < 256 = ib .1 in
     let db : B .0 / 128 < 2 = omega arith in
-    let be = byte-back (extended1Rule (bit 16 (B .0))) (B .0 / 128) s (B .1) (E .0) (E .1) y (end-fits s at (leBytes 1 (B .0)) (B .1) (ib .0)) db (not-zero1 (bit 16 (B .0))) (E .2) in
+    let be = byte-back (extended1Rule (bit 4 (B .0))) (B .0 / 128) s (B .1) (E .0) (E .1) y (end-fits s at (leBytes 1 (B .0)) (B .1) (ib .0)) db (not-zero1 (bit 4 (B .0))) (E .2) in
     let he : E .0 < 256 = be .2 in
     let de : E .0 / 128 < 2 = omega arith in
     let bg = byte-back extended2Rule (E .0 / 128) s (E .1) (G .0) next y (end-fits s (B .1) (byteBytes (E .0)) (E .1) (be .0)) de not-zero2 (G .1) in
-    let f1 = facts1 (bit 16 (B .0)) (E .0) (be .3) in
+    let f1 = facts1 (bit 4 (B .0)) (E .0) (be .3) in
     let hg = facts2 (G .0) (bg .3) in
     let j = join s at (leBytes 1 (B .0)) (B .1) (byteBytes (E .0) ++ byteBytes (G .0)) next (ib .0) (join s (B .1) (byteBytes (E .0)) (E .1) (byteBytes (G .0)) next (be .0) (bg .0)) in
     let z = bytes-are (B .0) (E .0) (G .0) hb he hg vb (f1 .0) (be .1) (bg .1) in

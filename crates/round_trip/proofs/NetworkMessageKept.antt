@@ -39,24 +39,24 @@ times-of-bits true t zero l e h = absurd (no h)
 times-of-bits true t (suc zero) l e h = rw e
 times-of-bits true t (suc (suc n)) l e h = absurd (omega arith)
 
-times-kept : (publisher : Bool) (e : ℕ) → extended1Rule publisher e ≡ 0 → timesRefusal (bit 64 e) (bit 32 e) ≡ 0
+times-kept : (publisher : Bool) (e : ℕ) → extended1Rule publisher e ≡ 0 → timesRefusal (bit 6 e) (bit 5 e) ≡ 0
 times-kept publisher e h =
-    let a = passed (eqb e 0) 2 (cond (publisher && leb 5 (e % 8)) 3 (cond (bit 16 e) 4 (cond (bit 64 e && eqb (e / 32 % 2) 0) 3 0))) h in
-    let b = passed (publisher && leb 5 (e % 8)) 2 (cond (bit 16 e) 4 (cond (bit 64 e && eqb (e / 32 % 2) 0) 3 0)) (a .1) in
-    let c = passed (bit 16 e) 3 (cond (bit 64 e && eqb (e / 32 % 2) 0) 3 0) (b .1) in
-    let d = passed (bit 64 e && eqb (e / 32 % 2) 0) 2 0 (c .1) in
-    times-of-bits (bit 64 e) (bit 32 e) (e / 32 % 2) (omega arith) refl (d .0)
+    let a = passed (eqb e 0) 2 (cond (publisher && leb 5 (e % 8)) 3 (cond (bit 4 e) 4 (cond (bit 6 e && eqb (e / 32 % 2) 0) 3 0))) h in
+    let b = passed (publisher && leb 5 (e % 8)) 2 (cond (bit 4 e) 4 (cond (bit 6 e && eqb (e / 32 % 2) 0) 3 0)) (a .1) in
+    let c = passed (bit 4 e) 3 (cond (bit 6 e && eqb (e / 32 % 2) 0) 3 0) (b .1) in
+    let d = passed (bit 6 e && eqb (e / 32 % 2) 0) 2 0 (c .1) in
+    times-of-bits (bit 6 e) (bit 5 e) (e / 32 % 2) (omega arith) refl (d .0)
 
-extended-kept : (on publisher : Bool) (s : List ℕ) (at e next : ℕ) → whenOn on 0 (ruled 1 (extended1Rule publisher)) s at ≡ got e next → timesRefusal (bit 64 e) (bit 32 e) ≡ 0
+extended-kept : (on publisher : Bool) (s : List ℕ) (at e next : ℕ) → whenOn on 0 (ruled 1 (extended1Rule publisher)) s at ≡ got e next → timesRefusal (bit 6 e) (bit 5 e) ≡ 0
 extended-kept true publisher s at e next h = times-kept publisher e (ruled-back 1 (extended1Rule publisher) s at e next h .1)
-extended-kept false publisher s at e next h = subst (λ (v : ℕ). timesRefusal (bit 64 v) (bit 32 v) ≡ 0) (got-value h) refl
+extended-kept false publisher s at e next h = subst (λ (v : ℕ). timesRefusal (bit 6 v) (bit 5 v) ≡ 0) (got-value h) refl
 
 pub flags-kept : (s : List ℕ) (at : ℕ) (f : Flags) (next : ℕ) → flagsAt s at ≡ got f next → timesRefusal (f .picoseconds) (f .timestamp) ≡ 0
 flags-kept s at f next h =
     let B = invert (ruled 1 byte0Rule s at) (λ b n. _) h in
-    let E = invert (whenOn (eqb (B .0 / 128) 1) 0 (ruled 1 (extended1Rule (bit 16 (B .0)))) s (B .1)) (λ e n. _) (B .3) in
+    let E = invert (whenOn (eqb (B .0 / 128) 1) 0 (ruled 1 (extended1Rule (bit 4 (B .0)))) s (B .1)) (λ e n. _) (B .3) in
     let G = map-back (whenOn (eqb (E .0 / 128) 1) 0 (ruled 1 extended2Rule)) (λ g. flagsOf (B .0) (E .0) g) s (E .1) f next (E .3) in
-    subst (λ (x : Flags). timesRefusal (x .picoseconds) (x .timestamp) ≡ 0) (G .2) (extended-kept (eqb (B .0 / 128) 1) (bit 16 (B .0)) s (B .1) (E .0) (E .1) (E .2))
+    subst (λ (x : Flags). timesRefusal (x .picoseconds) (x .timestamp) ≡ 0) (G .2) (extended-kept (eqb (B .0 / 128) 1) (bit 4 (B .0)) s (B .1) (E .0) (E .1) (E .2))
 
 -- the PublisherId: a string of at most 64 bytes, and as many bytes as it says
 
@@ -117,10 +117,10 @@ pub group-kept : (on : Bool) (s : List ℕ) (at : ℕ) (x : GroupHeader) (next :
 group-kept true s at x next h =
     let f = invert (ruled 1 groupFlagsRule s at) (λ F n. groupFieldsAt F s n) h in
     let w = invert (optional16 (eqb (f .0 % 2) 1) s (f .1)) (λ w n. _) (f .3) in
-    let v = invert (optional32 (bit 2 (f .0)) s (w .1)) (λ v n. _) (w .3) in
-    let n = invert (numberAt (bit 4 (f .0)) s (v .1)) (λ m n. _) (v .3) in
-    let q = map-back (optional16 (bit 8 (f .0))) (λ q. GroupHeader.Is (record { «writer_group» = w .0; version = v .0; number = n .0; sequence = q })) s (n .1) x next (n .3) in
-    subst (λ (x : GroupHeader). groupRefusal x ≡ 0) (q .2) (number-kept (bit 4 (f .0)) s (v .1) (n .0) (n .1) (n .2))
+    let v = invert (optional32 (bit 1 (f .0)) s (w .1)) (λ v n. _) (w .3) in
+    let n = invert (numberAt (bit 2 (f .0)) s (v .1)) (λ m n. _) (v .3) in
+    let q = map-back (optional16 (bit 3 (f .0))) (λ q. GroupHeader.Is (record { «writer_group» = w .0; version = v .0; number = n .0; sequence = q })) s (n .1) x next (n .3) in
+    subst (λ (x : GroupHeader). groupRefusal x ≡ 0) (q .2) (number-kept (bit 2 (f .0)) s (v .1) (n .0) (n .1) (n .2))
 group-kept false s at x next h = subst (λ (x : GroupHeader). groupRefusal x ≡ 0) (got-value h) refl
 
 -- PicoSeconds and promoted fields

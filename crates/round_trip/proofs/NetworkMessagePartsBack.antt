@@ -142,13 +142,13 @@ group-fields-back : (F : ℕ) (s : List ℕ) (at : ℕ) (x : GroupHeader) (next 
     → (g : GroupFields) × (x ≡ GroupHeader.Is g) × Back s at (fieldsBytes g) next × (groupFlagsOf g ≡ F)
 group-fields-back F s at x next b l hF h =
     let w = invert (optional16 (eqb (F % 2) 1) s at) (λ w n. _) h in
-    let v = invert (optional32 (bit 2 F) s (w .1)) (λ v n. _) (w .3) in
-    let n = invert (numberAt (bit 4 F) s (v .1)) (λ m n. _) (v .3) in
-    let q = map-back (optional16 (bit 8 F)) (λ q. GroupHeader.Is (record { «writer_group» = w .0; version = v .0; number = n .0; sequence = q })) s (n .1) x next (n .3) in
+    let v = invert (optional32 (bit 1 F) s (w .1)) (λ v n. _) (w .3) in
+    let n = invert (numberAt (bit 2 F) s (v .1)) (λ m n. _) (v .3) in
+    let q = map-back (optional16 (bit 3 F)) (λ q. GroupHeader.Is (record { «writer_group» = w .0; version = v .0; number = n .0; sequence = q })) s (n .1) x next (n .3) in
     let bw = optional16-back (eqb (F % 2) 1) s at (w .0) (w .1) b l (w .2) in
-    let bv = optional32-back (bit 2 F) s (w .1) (v .0) (v .1) b (end-fits s at (optional16Bytes (w .0)) (w .1) (bw .0)) (v .2) in
-    let bn = ruled16-back numberRule (bit 4 F) s (v .1) (n .0) (n .1) b (end-fits s (w .1) (optional32Bytes (v .0)) (v .1) (bv .0)) (n .2) in
-    let bq = optional16-back (bit 8 F) s (n .1) (q .0) next b (end-fits s (v .1) (optional16Bytes (n .0)) (n .1) (bn .0)) (q .1) in (
+    let bv = optional32-back (bit 1 F) s (w .1) (v .0) (v .1) b (end-fits s at (optional16Bytes (w .0)) (w .1) (bw .0)) (v .2) in
+    let bn = ruled16-back numberRule (bit 2 F) s (v .1) (n .0) (n .1) b (end-fits s (w .1) (optional32Bytes (v .0)) (v .1) (bv .0)) (n .2) in
+    let bq = optional16-back (bit 3 F) s (n .1) (q .0) next b (end-fits s (v .1) (optional16Bytes (n .0)) (n .1) (bn .0)) (q .1) in (
       record { «writer_group» = w .0; version = v .0; number = n .0; sequence = q .0 },
       sym (q .2),
       join s at (optional16Bytes (w .0)) (w .1) (optional32Bytes (v .0) ++ (optional16Bytes (n .0) ++ optional16Bytes (q .0))) next (bw .0)

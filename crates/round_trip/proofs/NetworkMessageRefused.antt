@@ -160,12 +160,12 @@ flags-refuse f hk hp ht m s at =
     let k : byte0Of f < 256 ^ 1 = b0 .5 in
     let r0 : byte0Rule (byte0Of f) ≡ 0 = rw (b0 .0) in
     let p1 = rule-kept 1 byte0Rule m b (byte0Of f) r0 (item-is 1 (byte0Of f) m k) s (first s m b (byteBytes e ++ byteBytes (extended2Of f)) at) in
-    let r1 : extended1Rule (bit 16 (byte0Of f)) e ≡ 3 = three (bit 16 (byte0Of f)) e (f .kind) nz (b1 .0) hk (b1 .2) pe te in
+    let r1 : extended1Rule (bit 4 (byte0Of f)) e ≡ 3 = three (bit 4 (byte0Of f)) e (f .kind) nz (b1 .0) hk (b1 .2) pe te in
     let at2 = first s (m + 1) (byteBytes e) (byteBytes (extended2Of f)) (second s m b (byteBytes e ++ byteBytes (extended2Of f)) at) in
     let at3 : At s (m + 1) (leBytes 1 e) = subst (λ (t : Bool). At s (m + 1) (cond t [] (leBytes 1 e))) nz at2 in
-    let nr : eqb (extended1Rule (bit 16 (byte0Of f)) e) 0 ≡ false = rw r1 in
-    let p2 = broken 1 (extended1Rule (bit 16 (byte0Of f))) (m + 1) (leBytes 1 e) e nr (item-is 1 e (m + 1) (b1 .6)) s at3 in
-    let p3 : ruled 1 (extended1Rule (bit 16 (byte0Of f))) s (m + 1) ≡ refused 3 (m + 1) = p2 ∙ ap (λ (n : ℕ). refused n (m + 1)) r1 in
+    let nr : eqb (extended1Rule (bit 4 (byte0Of f)) e) 0 ≡ false = rw r1 in
+    let p2 = broken 1 (extended1Rule (bit 4 (byte0Of f))) (m + 1) (leBytes 1 e) e nr (item-is 1 e (m + 1) (b1 .6)) s at3 in
+    let p3 : ruled 1 (extended1Rule (bit 4 (byte0Of f))) s (m + 1) ≡ refused 3 (m + 1) = p2 ∙ ap (λ (n : ℕ). refused n (m + 1)) r1 in
     rw (p1, on, p3)
 
 times-broken : (p t : Bool) → eqb (timesRefusal p t) 0 ≡ false → (p ≡ true) × (t ≡ false) × (3 ≡ timesRefusal p t)

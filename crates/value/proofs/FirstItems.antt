@@ -177,7 +177,7 @@ unfolding valueAt
 data-value-is s at {e} q =
     let x = passed (dataValueAt s at) q in
     let i = invert (ruled 1 maskRule s at) (λ b next. dataValueOf (valueAt 99) b s next) (x .1) in
-    let j = invert (whenOn (bit 1 (i .0)) tt (passing (valueAt 99 24)) s (i .1)) (λ a next. andThen (parts (i .0) s next) (λ z last. got (measure 23 Shape.Scalar) last)) (i .3) in
+    let j = invert (whenOn (bit 0 (i .0)) tt (passing (valueAt 99 24)) s (i .1)) (λ a next. andThen (parts (i .0) s next) (λ z last. got (measure 23 Shape.Scalar) last)) (i .3) in
     let k = invert (parts (i .0) s (j .1)) (λ z last. got (measure 23 Shape.Scalar) last) (j .3) in
     x .1 ∙ ap (λ (m : Measure). got m e) (sym (got-value (k .3)))
 

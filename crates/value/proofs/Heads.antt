@@ -38,10 +38,8 @@ bit-each r zero h s at = refl
 bit-each r (suc zero) h s at = refl
 bit-each r (suc (suc k)) h s at = absurd (omega arith)
 
-pub lowest-each : {A : Type 0} (r : Reader A) (m : ℕ) (s : List ℕ) (at : ℕ) → each r (m % 2) s at ≡ whenOn (bit 1 m) tt (passing r) s at
-lowest-each r m s at =
-    let e : m ≡ m / 1 = omega arith in
-    bit-each r (m % 2) (omega arith) s at ∙ ap (λ (k : ℕ). whenOn (eqb (k % 2) 1) tt (passing r) s at) e
+pub lowest-each : {A : Type 0} (r : Reader A) (m : ℕ) (s : List ℕ) (at : ℕ) → each r (m % 2) s at ≡ whenOn (bit 0 m) tt (passing r) s at
+lowest-each r m s at = bit-each r (m % 2) (omega arith) s at
 
 -- what was found is passed over
 pub pass-found : {A : Type 0} (x : Answer (Unit {0})) (m : A) → x ≡ andThen (andThen x (λ a next. got m next)) (λ a next. got tt next)

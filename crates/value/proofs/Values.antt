@@ -49,11 +49,11 @@ plain-values-steady t n = cond-steady (fixed t) (bytes-steady (n * widthOf t)) (
 parts-steady : (m : ℕ) → Steady (parts m)
 unfolding parts
 parts-steady m =
-    then-steady (when-steady (bit 2 m) tt (bytes-steady 4))
-    (then-steady (when-steady (bit 4 m) tt (bytes-steady 8))
-    (then-steady (when-steady (bit 16 m) tt (bytes-steady 2))
-    (then-steady (when-steady (bit 8 m) tt (bytes-steady 8))
-    (when-steady (bit 32 m) tt (bytes-steady 2)))))
+    then-steady (when-steady (bit 1 m) tt (bytes-steady 4))
+    (then-steady (when-steady (bit 2 m) tt (bytes-steady 8))
+    (then-steady (when-steady (bit 4 m) tt (bytes-steady 2))
+    (then-steady (when-steady (bit 3 m) tt (bytes-steady 8))
+    (when-steady (bit 5 m) tt (bytes-steady 2)))))
 
 module _ (nested : ℕ → Reader Measure) (h : (t : ℕ) → Steady (nested t)) where
   scalar-steady : (t : ℕ) → Steady (scalar nested t)
@@ -75,7 +75,7 @@ module _ (nested : ℕ → Reader Measure) (h : (t : ℕ) → Steady (nested t))
 
   after-mask : (m : ℕ) → Steady (dataValueOf nested m)
   after-mask m =
-      then-steady (when-steady (bit 1 m) tt (passing-steady (h 24)))
+      then-steady (when-steady (bit 0 m) tt (passing-steady (h 24)))
       (then-steady (parts-steady m) (pure-steady (measure 23 Shape.Scalar)))
 
 too-deep-steady : Steady tooDeep

@@ -1,10 +1,10 @@
 -- Document 01, "Values": what measuring a Variant, a DataValue or a RawData element at a position of a slice answers.
-use Prim.Native.Nat.{ℕ, zero, suc, _%_}
+use Prim.Native.Nat.{ℕ, zero, suc}
 use mathlib.Core.List.{[], _∷_}
 use mathlib.Core.Bool.{Bool, cond, not, _&&_, _||_}
 use lib.Dec.{eqb}
 use Rattle.wire.specs.Constants.{DATA_VALUE, LEVELS, NOT_PERMITTED, NOT_TAKEN, TOO_DEEP, VARIANT}
-use Rattle.wire.specs.Answer.{Answer, got, refused, Reader, andThen, _>>=_, _>>_, pure, refuse, item, ruled, whenOn, each, bit}
+use Rattle.wire.specs.Answer.{Answer, got, refused, Reader, andThen, _>>=_, _>>_, pure, refuse, item, ruled, whenOn, each, bit, bits}
 use Rattle.plain_value.specs.Width.{among, widthOf, fixed}
 use Rattle.plain_value.specs.Plain.{passing, bytes, byLength, plain, plainValue, plainValues}
 use Rattle.plain_value.specs.Parts.{parts}
@@ -29,13 +29,13 @@ answerMeasured (Measured.Refused n place) = refused n place
 
 -- "A Variant's first byte: bits 0-5 type, bit 7 array, bit 6 dimensions."
 abbrev pub typeOf : ℕ → ℕ
-typeOf b = b % 64
+typeOf b = bits 0 6 b
 
 abbrev pub isArray : ℕ → Bool
-isArray b = bit 128 b
+isArray b = bit 7 b
 
 abbrev pub hasDimensions : ℕ → Bool
-hasDimensions b = bit 64 b
+hasDimensions b = bit 6 b
 
 -- the types taken: null, the plain ones, DataValue and Variant
 abbrev pub taken : ℕ → Bool
@@ -81,12 +81,12 @@ variantOf nested b =
 
 -- "mask, bits 6 or 7 set is 3"
 abbrev pub maskRule : ℕ → ℕ
-maskRule m = cond (bit 64 m || bit 128 m) NOT_PERMITTED 0
+maskRule m = cond (bit 6 m || bit 7 m) NOT_PERMITTED 0
 
 -- what follows a DataValue's mask m: "then by bit 0 a Variant" and the other parts
 abbrev pub dataValueOf : (ℕ → Reader Measure) → ℕ → Reader Measure
 dataValueOf nested m = do
-  whenOn (bit 1 m) tt (passing (nested VARIANT))
+  whenOn (bit 0 m) tt (passing (nested VARIANT))
   parts m
   pure (measure DATA_VALUE Shape.Scalar)
 

@@ -1,5 +1,5 @@
 -- The vocabulary of answers and readers, which every definition of reading is written in.
-use Prim.Native.Nat.{ℕ, zero, suc, _+_, _/_, _%_}
+use Prim.Native.Nat.{ℕ, zero, suc, _+_, _/_, _%_, _^_}
 use mathlib.Core.List.{List}
 use mathlib.Core.Bool.{Bool, true, false, cond}
 use lib.ListN.{length}
@@ -70,9 +70,14 @@ unfoldable pub each : {A : Type 0} → Reader A → ℕ → Reader (Unit {0})
 each r zero = pure tt
 each r (suc n) = r >> each r n
 
--- whether the bit of value d, a power of two, is set in v
+-- the n bits of v from bit k on, as a number; bits are counted from 0, the lowest, as document 01 counts them
+abbrev pub bits : ℕ → ℕ → ℕ → ℕ
+bits zero n v = v % 2 ^ n
+bits (suc k) n v = v / 2 ^ suc k % 2 ^ n
+
+-- whether bit k of v is set
 abbrev pub bit : ℕ → ℕ → Bool
-bit d v = eqb (v / d % 2) 1
+bit k v = eqb (bits k 1 v) 1
 
 -- an answer whose value is made from the value read
 abbrev pub mapAnswer : {A B : Type 0} → (A → B) → Answer A → Answer B
