@@ -55,7 +55,7 @@ pub enum FlagsRead {
 fn encoding_of(b: u8) -> Encoding
     ensures { λ r. ⌜ r ≡ encodingOf b ⌝ }
 {
-    let e = b / 2 % 4;
+    let e = (b >> 1) % 4;
     if e == 0 {
         return Encoding::Variant;
     }
@@ -107,7 +107,7 @@ pub fn is_raw(encoding: Encoding) -> bool
 fn flags1_rule(b: u8) -> u8
     ensures { λ r. ⌜ r ≡ flags1Rule b ⌝ }
 {
-    if b / 2 % 4 == 3 {
+    if (b >> 1) % 4 == 3 {
         return NOT_PERMITTED;
     }
     0
@@ -126,10 +126,10 @@ fn flags2_rule(b: u8, f: u8) -> u8
     if 64 <= f {
         return NOT_PERMITTED;
     }
-    if (f % 16 == 2) & (b / 2 % 4 != 0) {
+    if (f % 16 == 2) & ((b >> 1) % 4 != 0) {
         return NOT_PERMITTED;
     }
-    if (f % 16 == 1) & (b / 2 % 4 == 1) {
+    if (f % 16 == 1) & ((b >> 1) % 4 == 1) {
         return NOT_TAKEN;
     }
     0
@@ -159,12 +159,12 @@ fn flags_of(b: u8, f: u8) -> Flags
     Flags {
         encoding,
         kind,
-        sequence: b / 8 % 2 == 1,
-        status: b / 16 % 2 == 1,
-        major: b / 32 % 2 == 1,
-        minor: b / 64 % 2 == 1,
-        timestamp: f / 16 % 2 == 1,
-        picoseconds: f / 32 % 2 == 1,
+        sequence: (b >> 3) % 2 == 1,
+        status: (b >> 4) % 2 == 1,
+        major: (b >> 5) % 2 == 1,
+        minor: (b >> 6) % 2 == 1,
+        timestamp: (f >> 4) % 2 == 1,
+        picoseconds: (f >> 5) % 2 == 1,
     }
 }
 

@@ -64,10 +64,10 @@ fn extended1_rule(publisher: bool, e: u8) -> u8
     if publisher & (5 <= e % 8) {
         return NOT_PERMITTED;
     }
-    if e / 16 % 2 == 1 {
+    if (e >> 4) % 2 == 1 {
         return NOT_TAKEN;
     }
-    if (e / 64 % 2 == 1) & (e / 32 % 2 == 0) {
+    if ((e >> 6) % 2 == 1) & ((e >> 5) % 2 == 0) {
         return NOT_PERMITTED;
     }
     0
@@ -82,7 +82,7 @@ fn extended2_rule(e: u8) -> u8
     if 32 <= e {
         return NOT_PERMITTED;
     }
-    let kind = e / 4 % 8;
+    let kind = (e >> 2) % 8;
     if 3 <= kind {
         return NOT_PERMITTED;
     }
@@ -141,15 +141,15 @@ fn flags_of(b: u8, e: u8, f: u8) -> Flags
     ensures { λ r. ⌜ r ≡ flagsOf b e f ⌝ }
 {
     Flags {
-        publisher: b / 16 % 2 == 1,
-        group: b / 32 % 2 == 1,
-        payload_header: b / 64 % 2 == 1,
+        publisher: (b >> 4) % 2 == 1,
+        group: (b >> 5) % 2 == 1,
+        payload_header: (b >> 6) % 2 == 1,
         kind: e % 8,
-        class_id: e / 8 % 2 == 1,
-        timestamp: e / 32 % 2 == 1,
-        picoseconds: e / 64 % 2 == 1,
+        class_id: (e >> 3) % 2 == 1,
+        timestamp: (e >> 5) % 2 == 1,
+        picoseconds: (e >> 6) % 2 == 1,
         chunk: f % 2 == 1,
-        promoted: f / 2 % 2 == 1,
+        promoted: (f >> 1) % 2 == 1,
     }
 }
 
@@ -159,7 +159,7 @@ pub fn read_flags(s: &[u8]) -> FlagsRead
 {
     match byte0(s) {
         FlagByte::Refused(number, place) => FlagsRead::Refused(number, place),
-        FlagByte::Is(b, at) => match extended1(s, b / 128 == 1, b / 16 % 2 == 1, at) {
+        FlagByte::Is(b, at) => match extended1(s, b / 128 == 1, (b >> 4) % 2 == 1, at) {
             FlagByte::Refused(number, place) => FlagsRead::Refused(number, place),
             FlagByte::Is(e, at) => match extended2(s, e / 128 == 1, at) {
                 FlagByte::Refused(number, place) => FlagsRead::Refused(number, place),

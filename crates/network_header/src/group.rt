@@ -76,11 +76,19 @@ fn group_fields(s: &[u8], flags: u8, at: usize) -> GroupRead
 {
     match read_optional16(s, flags % 2 == 1, at) {
         Optional16Read::Refused(number, place) => GroupRead::Refused(number, place),
-        Optional16Read::Is(writer_group, at) => match read_optional32(s, flags / 2 % 2 == 1, at) {
+        Optional16Read::Is(writer_group, at) => match read_optional32(
+            s,
+            (flags >> 1) % 2 == 1,
+            at,
+        ) {
             Optional32Read::Refused(number, place) => GroupRead::Refused(number, place),
-            Optional32Read::Is(at, version) => match message_number(s, flags / 4 % 2 == 1, at) {
+            Optional32Read::Is(at, version) => match message_number(s, (flags >> 2) % 2 == 1, at) {
                 Optional16Read::Refused(number, place) => GroupRead::Refused(number, place),
-                Optional16Read::Is(number, at) => match read_optional16(s, flags / 8 % 2 == 1, at) {
+                Optional16Read::Is(number, at) => match read_optional16(
+                    s,
+                    (flags >> 3) % 2 == 1,
+                    at,
+                ) {
                     Optional16Read::Refused(number, place) => GroupRead::Refused(number, place),
                     Optional16Read::Is(sequence, at) => GroupRead::Is(
                         GroupHeader::Is(GroupFields {

@@ -28,11 +28,11 @@ fn part_if(s: &[u8], on: bool, w: usize, r: Reached) -> Reached
 fn parts_in_order(s: &[u8], at: usize, m: u8) -> Reached
     ensures { λ r. ⌜ answerReached r ≡ parts m (now (s .entry)) at ⌝ }
 {
-    let status = part_if(s, m / 2 % 2 == 1, 4, Reached::To(at));
-    let source = part_if(s, m / 4 % 2 == 1, 8, status);
-    let source_picoseconds = part_if(s, m / 16 % 2 == 1, 2, source);
-    let server = part_if(s, m / 8 % 2 == 1, 8, source_picoseconds);
-    part_if(s, m / 32 % 2 == 1, 2, server)
+    let status = part_if(s, (m >> 1) % 2 == 1, 4, Reached::To(at));
+    let source = part_if(s, (m >> 2) % 2 == 1, 8, status);
+    let source_picoseconds = part_if(s, (m >> 4) % 2 == 1, 2, source);
+    let server = part_if(s, (m >> 3) % 2 == 1, 8, source_picoseconds);
+    part_if(s, (m >> 5) % 2 == 1, 2, server)
 }
 
 // The width of a part where the mask's bit is on.
@@ -49,10 +49,10 @@ fn width_if(on: bool, w: usize) -> usize
 fn parts_width(m: u8) -> usize
     ensures { λ r. ⌜ r ≡ partsWidth m ⌝ }
 {
-    width_if(m / 2 % 2 == 1, 4)
-        + (width_if(m / 4 % 2 == 1, 8)
-            + (width_if(m / 16 % 2 == 1, 2)
-                + (width_if(m / 8 % 2 == 1, 8) + width_if(m / 32 % 2 == 1, 2))))
+    width_if((m >> 1) % 2 == 1, 4)
+        + (width_if((m >> 2) % 2 == 1, 8)
+            + (width_if((m >> 4) % 2 == 1, 2)
+                + (width_if((m >> 3) % 2 == 1, 8) + width_if((m >> 5) % 2 == 1, 2))))
 }
 
 // A DataValue's parts after its Variant. Most have none, or all fit, and then only their width counts.

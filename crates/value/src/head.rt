@@ -159,7 +159,7 @@ fn data_value_head(at: usize, next: usize, m: u8) -> Head
         ⌜ ((nested : ℕ → Reader Measure) (s : List ℕ)
         → finish nested s h ≡ passing (judged maskRule m at (dataValueOf nested)) s next) ⌝ }
 {
-    if (m / 64 % 2 == 1) | (m / 128 % 2 == 1) {
+    if ((m >> 6) % 2 == 1) | ((m >> 7) % 2 == 1) {
         return Head::Refused(NOT_PERMITTED, at);
     }
     Head::Holds(next, (m % 2) as usize, VARIANT, m)

@@ -112,7 +112,7 @@ pub fn described(s: &[u8], at: usize, end: usize) -> Measured
     let Item8::Is(b, next) = read8(s, at) else {
         return Measured::Refused(CUT_SHORT, at);
     };
-    if b / 128 % 2 == 1 {
+    if (b >> 7) % 2 == 1 {
         return described_array(s, next, b % 64, end);
     }
     Measured::Scalar(b % 64, end)
