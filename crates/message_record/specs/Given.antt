@@ -1,9 +1,10 @@
 -- The records that are read to be written: a message's head and an envelope (include/uadp.h). "Of a number that stands for a narrower one
 -- (a byte, 2 or 4 bytes) the lowest bytes count."
-use Prim.Native.Nat.{ℕ, _/_, _%_}
+use Prim.Native.Nat.{ℕ, _%_}
 use mathlib.Core.Bool.{Bool, cond, not}
 use mathlib.Core.List.{List}
 use lib.Dec.{eqb}
+use Rattle.wire.specs.Answer.{bit}
 use Rattle.wire.specs.Number.{signed}
 use Rattle.wire.specs.declared.optional.Optional16.{Optional16}
 use Rattle.wire.specs.declared.optional.Optional32.{Optional32}
@@ -34,10 +35,6 @@ given32 on v = cond on (Optional32.Is (v % 4294967296)) Optional32.Absent
 abbrev pub givenI64 : Bool → ℕ → OptionalI64
 givenI64 on v = cond on (OptionalI64.Is (signed 8 v)) OptionalI64.Absent
 
--- whether the item with this number is among the items of a sum of such numbers
-abbrev pub among : ℕ → ℕ → Bool
-among n items = eqb (items / n % 2) 1
-
 -- "kind: 0 key, 1 delta, 2 event, 3 keep alive (above 3 counts as 0)"
 abbrev pub kindIn : ℕ → Kind
 kindIn n = cond (eqb n 1) Kind.Delta (cond (eqb n 2) Kind.Event (cond (eqb n 3) Kind.KeepAlive Kind.Key))
@@ -49,12 +46,12 @@ headerIn s =
     record {
       encoding = encodingIn (numberAt s 1);
       kind = kindIn (numberAt s 2);
-      sequence = given16 (among 1 (numberAt s 3)) (numberAt s 4);
-      timestamp = givenI64 (among 2 (numberAt s 3)) (numberAt s 5);
-      picoseconds = given16 (among 4 (numberAt s 3)) (numberAt s 6);
-      status = given16 (among 8 (numberAt s 3)) (numberAt s 7);
-      major = given32 (among 16 (numberAt s 3)) (numberAt s 8);
-      minor = given32 (among 32 (numberAt s 3)) (numberAt s 9);
+      sequence = given16 (bit 1 (numberAt s 3)) (numberAt s 4);
+      timestamp = givenI64 (bit 2 (numberAt s 3)) (numberAt s 5);
+      picoseconds = given16 (bit 4 (numberAt s 3)) (numberAt s 6);
+      status = given16 (bit 8 (numberAt s 3)) (numberAt s 7);
+      major = given32 (bit 16 (numberAt s 3)) (numberAt s 8);
+      minor = given32 (bit 32 (numberAt s 3)) (numberAt s 9);
     }
 
 -- "DataSetClassId: 0 absent, else present; its first 8 bytes; its last 8 bytes, each as a number"
@@ -68,10 +65,10 @@ groupIn s items =
     cond (eqb items 0) GroupHeader.Absent
     (GroupHeader.Is
     (record {
-      «writer_group» = given16 (among 1 items) (numberAt s 7);
-      version = given32 (among 2 items) (numberAt s 8);
-      number = given16 (among 4 items) (numberAt s 9);
-      sequence = given16 (among 8 items) (numberAt s 10);
+      «writer_group» = given16 (bit 1 items) (numberAt s 7);
+      version = given32 (bit 2 items) (numberAt s 8);
+      number = given16 (bit 4 items) (numberAt s 9);
+      sequence = given16 (bit 8 items) (numberAt s 10);
     }))
 
 -- "PayloadHeader: 0 absent, 1 Count and ids, 2 a chunk's writer id (above 2 counts as absent)"; "Count, or the chunk's writer id"
