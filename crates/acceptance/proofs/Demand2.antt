@@ -11,25 +11,25 @@ use mathlib.Core.List.{List, _++_}
 use lib.Dec.{eqb}
 use native.Mathlib.Omega.{arith}
 use lib.ListN.{length, getD, take, drop}
+use Rattle.wire.specs.Lists.{total}
 use Rattle.wire.specs.Answer.{got, refused}
 use Rattle.network_header.specs.Flags.{flagsAt}
 use Rattle.network_message.specs.Envelope.{NetworkMessage, networkMessageAt, messagePlaceAt, messageBytes}
 use Rattle.network_header.specs.declared.envelope.Envelope.{Envelope}
 use Rattle.network_header.specs.declared.flags.Flags.{Flags}
-use Rattle.network_message.specs.Payload.{total}
 use Rattle.network_message.proofs.Accepted.{OfMessages}
 use Rattle.network_message.proofs.Messages.{tile, tiled}
 use Rattle.network_message_writer.specs.Envelope as N
 use Rattle.dataset_header.specs.Flags.{valid}
-use Rattle.dataset_fields.specs.Fields.{stepAt, walkAt, before}
+use Rattle.dataset_fields.specs.Fields.{nextFieldAt, walkAt, cursorBefore}
 use Rattle.dataset_message.specs.Message.{Message, messageAt, nthAt}
 use Rattle.dataset_fields.specs.declared.fields.Field.{Field}
 use Rattle.dataset_message.proofs.Agreement.{message-agrees}
 use Rattle.dataset_message_writer.specs.Message as M
-use Rattle.rewriting.specs.Same.{sameMessage}
+use Rattle.rewriting.specs.Same.{messageSame}
 use Rattle.wire_writer.specs.Writing.{Writes, refusing}
 use Rattle.wire_writer.specs.declared.writing.Written.{Written}
-use Rattle.round_trip.specs.NetworkMessage.{AsManyLengths, givenLengths, messageOf, rewritten, FitsEnvelope, ReadsBack, WritesAgain}
+use Rattle.round_trip.specs.NetworkMessage.{AsManyLengths, givenLengths, messageGiven, rewritten, FitsEnvelope, ReadsBack, WritesAgain}
 use Rattle.round_trip.specs.DataSetMessage.{MessageBack, Tellable}
 use Rattle.dataset_header.specs.Header.{FitsHeader}
 use Rattle.round_trip.proofs.NetworkMessageRoundTrip.{reads-back, writes-again, refuses-alike}
@@ -61,8 +61,8 @@ messages-tile sizes s m n e o =
 -- never empty; c is the cursor that reading hands back, `before c k at` the one that stands before field k.
 pub fields-agree : (types s : List ℕ) (m : Message) (e : ℕ) → messageAt types s ≡ got (valid m) e → (k : ℕ) → k < m .cursor .count
     → (at end : ℕ) × (f : Field)
-    × (stepAt (before (m .cursor) k at) types s ≡ got (record { field = f; cursor = before (m .cursor) (k + 1) end }) end)
-    × (walkAt (m .cursor) types k s ≡ got (before (m .cursor) k at) at)
+    × (nextFieldAt (cursorBefore (m .cursor) k at) types s ≡ got (record { field = f; cursor = cursorBefore (m .cursor) (k + 1) end }) end)
+    × (walkAt (m .cursor) types k s ≡ got (cursorBefore (m .cursor) k at) at)
     × (nthAt (m .cursor) types k s ≡ got f end)
     × (0 < f .length)
     × (end ≤ length s)
@@ -82,23 +82,23 @@ listing-steps = step-lists
 
 -- A NetworkMessage that the writer accepted: its envelope, the text of its PublisherId, its promoted fields, its writer ids, and each message with
 -- its offset and bytes. The premise is the writer's contract for the answer `Is n`.
-pub datagram-reads-back : (g : N.Given) (x : Envelope) (sizes configured entry exit : List ℕ) (n : ℕ) → FitsEnvelope x
+pub datagram-reads-back : (g : N.GivenDatagram) (x : Envelope) (sizes configured entry exit : List ℕ) (n : ℕ) → FitsEnvelope x
     → Writes (N.datagramOutput g x sizes configured) entry exit (Written.Is n) → ReadsBack g x sizes configured
 datagram-reads-back = reads-back
 
 -- A DataSetMessage that the writer accepted: its header, that it is a heartbeat or not, the number of its fields, each field's index and bytes, and
 -- the length of its padding. The premise is the writer's contract for the answer `Is n`; the bytes read are the first n of the buffer.
-pub message-reads-back : (types : List ℕ) (m : M.Given) (entry exit : List ℕ) (n : ℕ) → M.FitsGiven m × Writes (M.messageOutput types m) entry exit (Written.Is n)
+pub message-reads-back : (types : List ℕ) (m : M.GivenMessage) (entry exit : List ℕ) (n : ℕ) → M.FitsGiven m × Writes (M.messageOutput types m) entry exit (Written.Is n)
     → MessageBack types m (take n exit) × (drop n exit ≡ drop n entry)
 message-reads-back = DataSetMessage.written-reads
 
 -- The whole datagram: where message k that was given is a DataSetMessage that the message writer accepted, its own part of the datagram is that
 -- message, and reads back as what the message writer was given.
-pub whole-reads-back : (g : N.Given) (x : Envelope) (sizes configured entry exit : List ℕ) (n : ℕ) → FitsEnvelope x
+pub whole-reads-back : (g : N.GivenDatagram) (x : Envelope) (sizes configured entry exit : List ℕ) (n : ℕ) → FitsEnvelope x
     → Writes (N.datagramOutput g x sizes configured) entry exit (Written.Is n)
     → OfMessages (x .«payload_header») → (k : ℕ) → k < length (givenLengths g (x .«payload_header») sizes)
-    → (types : List ℕ) (m : M.Given) → FitsHeader (m .header) → Numbers (m .indices) → M.refusalOf types m ≡ 0
-    → messageOf (givenLengths g (x .«payload_header») sizes) (g .messages) k ≡ M.encode m
+    → (types : List ℕ) (m : M.GivenMessage) → FitsHeader (m .header) → Numbers (m .indices) → M.messageRefusal types m ≡ 0
+    → messageGiven (givenLengths g (x .«payload_header») sizes) (g .messages) k ≡ M.encode m
     → (messageBytes (messagePlaceAt sizes k (N.datagramOf g x)) (N.datagramOf g x) ≡ M.encode m) × MessageBack types m (M.encode m)
 whole-reads-back g x sizes configured entry exit n f w o k l types m fh fi a e =
     (reads-back g x sizes configured entry exit n f w .message o k l .1 ∙ e, DataSetMessage.read-written types m fh fi a)
@@ -118,21 +118,21 @@ rewritten-is-the-same = NetworkMessage.rewrite-same
 
 -- Every accepted DataSetMessage: the same bytes, padding included, and the buffer goes on as it was.
 pub message-written-again : (types s entry exit : List ℕ) (r : Written) (m : Message) (e : ℕ) → messageAt types s ≡ got (valid m) e → length s ≤ 65535 → length s ≤ length entry
-    → Writes (sameMessage types s) entry exit r → (r ≡ Written.Is (length s)) × (exit ≡ s ++ drop (length s) entry)
+    → Writes (messageSame types s) entry exit r → (r ≡ Written.Is (length s)) × (exit ≡ s ++ drop (length s) entry)
 message-written-again types s entry = Copied.same-bytes types s entry
 
 -- ---- 3. The writers' refusals by a reading rule are reading's refusals of what would have been written, by the same number.
 
 -- Of a NetworkMessage whose parts are as its envelope says.
-pub datagram-refused-alike : (g : N.Given) (x : Envelope) (sizes configured : List ℕ) → FitsEnvelope x
+pub datagram-refused-alike : (g : N.GivenDatagram) (x : Envelope) (sizes configured : List ℕ) → FitsEnvelope x
     → AsManyLengths (x .«payload_header») (g .lengths) → N.shapeRefusal g x sizes configured ≡ 0 → length (N.datagramOf g x) ≤ 65535
-    → eqb (N.readingRefusal g x sizes) 0 ≡ false
-    → (N.datagramOutput g x sizes configured ≡ refusing (N.readingRefusal g x sizes))
-    × ((place : ℕ) × (networkMessageAt sizes (N.datagramOf g x) ≡ refused (N.readingRefusal g x sizes) place))
+    → eqb (N.datagramReadingRefusal g x sizes) 0 ≡ false
+    → (N.datagramOutput g x sizes configured ≡ refusing (N.datagramReadingRefusal g x sizes))
+    × ((place : ℕ) × (networkMessageAt sizes (N.datagramOf g x) ≡ refused (N.datagramReadingRefusal g x sizes) place))
 datagram-refused-alike = refuses-alike
 
 -- Of a DataSetMessage in which what is refused stands where reading finds it (`Tellable`).
-pub message-refused-alike : (types : List ℕ) (m : M.Given) → FitsHeader (m .header) → Numbers (m .indices) → Tellable types m
-    → eqb (M.readingRefusal types m) 0 ≡ false
-    → (place : ℕ) × (messageAt types (M.encode m) ≡ refused (M.readingRefusal types m) place)
+pub message-refused-alike : (types : List ℕ) (m : M.GivenMessage) → FitsHeader (m .header) → Numbers (m .indices) → Tellable types m
+    → eqb (M.messageReadingRefusal types m) 0 ≡ false
+    → (place : ℕ) × (messageAt types (M.encode m) ≡ refused (M.messageReadingRefusal types m) place)
 message-refused-alike = Refused.refuse-written

@@ -8,15 +8,16 @@ use mathlib.Core.Logic.{inr}
 use native.Mathlib.Omega.{arith}
 use lib.Dec.{leb, ltb, eqb}
 use lib.ListN.{length}
+use Rattle.wire.specs.Lists.{total}
 use Rattle.wire.specs.Answer.{bit}
 use Rattle.wire.specs.declared.Length.{Length}
 use Rattle.network_header.specs.Flags.{byte0Rule, extended1Rule, extended2Rule, flagsAt}
-use Rattle.publisher_id.specs.Publisher.{lengthThen, stringAt, publisherAt}
-use Rattle.network_header.specs.Group.{numberRule, numberAt, groupFlagsRule, groupAt}
+use Rattle.publisher_id.specs.Publisher.{stringThen, stringAt, publisherAt}
+use Rattle.network_header.specs.Group.{numberRule, messageNumberAt, groupFlagsRule, groupAt}
 use Rattle.network_header.specs.Header.{classAt, countRule, payloadHeaderAt, sizeRule, promotedAt}
-use Rattle.network_message.specs.Payload.{positive, listed, total, restAt, listedAt, sizedAt, configuredAt, payloadAt}
+use Rattle.network_message.specs.Payload.{allPositive, listed, restOnlyAt, listedAt, sizedAt, configuredAt, payloadAt}
 use Rattle.network_header.specs.Numbers.{configuredSizes}
-use Rattle.network_message.specs.Envelope.{messagesOf, identityAt, timesAt, headerAt, bodyAt, networkMessageAt}
+use Rattle.network_message.specs.Envelope.{messagesOf, identityAt, timesAt, envelopeAt, envelopeBodyAt, networkMessageAt}
 use Rattle.network_header.specs.declared.flags.Flags.{Flags}
 use Rattle.network_header.specs.declared.header.PayloadHeader.{PayloadHeader}
 use Rattle.chunk.specs.Payload as P
@@ -42,7 +43,7 @@ flags-lawful =
     extended2 e = cond-rule (eqb e 0) (inr (number 3 refl))
         (cond-rule (leb 32 e) (inr (number 3 refl)) (cond-rule (leb 3 (e / 4 % 8)) (inr (number 3 refl)) (cond-rule (leb 1 (e / 4 % 8)) (inr (number 4 refl)) kept)))
 
-string-tells : (at : ℕ) (l : Length) (s : List ℕ) (start : ℕ) → at ≤ length s → start ≤ length s → Tells (length s) (lengthThen at l s start)
+string-tells : (at : ℕ) (l : Length) (s : List ℕ) (start : ℕ) → at ≤ length s → start ≤ length s → Tells (length s) (stringThen at l s start)
 string-tells at Length.Null s start h u = refuses (at-item (number 5 refl) h)
 string-tells at (Length.Of n) s start h u =
     cond-tells (leb 65 n) (refuses no-place10) (bind-lawful (run-lawful n) (λ len. pure-lawful _) .tells s start u)
@@ -62,7 +63,7 @@ publisher-lawful on kind =
 class-lawful : (on : Bool) → Lawful (classAt on)
 class-lawful on = when-lawful on _ (bind-lawful guid-lawful (λ v. pure-lawful _))
 
-number-lawful : (on : Bool) → Lawful (numberAt on)
+number-lawful : (on : Bool) → Lawful (messageNumberAt on)
 number-lawful on = when-lawful on _ (bind-lawful (ruled-lawful 2 numberRule (λ v. cond-rule (eqb v 0) (inr (number 3 refl)) kept)) (λ v. pure-lawful _))
 
 group-lawful : (on : Bool) → Lawful (groupAt on)
@@ -98,7 +99,7 @@ times-lawful f messages =
     (λ t. bind-lawful (picoseconds-lawful (f .picoseconds))
     (λ p. bind-lawful (promoted-lawful (f .promoted) messages) (λ m. pure-lawful _)))
 
-header-lawful : (f : Flags) (configured : ℕ) → Lawful (headerAt f configured)
+header-lawful : (f : Flags) (configured : ℕ) → Lawful (envelopeAt f configured)
 header-lawful f configured =
     bind-lawful (identity-lawful f)
     (λ i. bind-lawful (payload-header-lawful (f .«payload_header») (f .chunk))
@@ -107,14 +108,14 @@ header-lawful f configured =
     (λ t. bind-lawful here-lawful (λ z. pure-lawful _)))))
 
 -- ---- the payload
-rest-lawful : Lawful restAt
+rest-lawful : Lawful restOnlyAt
 rest-lawful = record { tells = λ s at h. cond-tells (ltb at (length s)) (gives h) (refuses (at-item n1 h)) }
 
 listed-lawful : (n : ℕ) → Lawful (listedAt n)
 listed-lawful n =
     record {
       tells = λ s at h. then-tells (run-lawful (2 * n) .tells s at h)
-          (λ x next u. cond-tells (positive (listed n s at) && eqb (next + total (listed n s at)) (length s)) (gives u) (refuses (at-item (number 6 refl) h)));
+          (λ x next u. cond-tells (allPositive (listed n s at) && eqb (next + total (listed n s at)) (length s)) (gives u) (refuses (at-item (number 6 refl) h)));
     }
 
 sized-lawful : (n sum : ℕ) → Lawful (sizedAt n sum)
@@ -124,7 +125,7 @@ configured-lawful : (sizes : List ℕ) → Lawful (configuredAt sizes)
 configured-lawful sizes =
     record {
       tells = λ s at h. cond-tells (eqb (length sizes) 0) (refuses no-place8)
-          (cond-tells (positive sizes) (sized-lawful (length sizes) (total sizes) .tells s at h)
+          (cond-tells (allPositive sizes) (sized-lawful (length sizes) (total sizes) .tells s at h)
           (cond-tells (eqb (length sizes) 1) (rest-lawful .tells s at h) (refuses no-place8)));
     }
 
@@ -134,7 +135,7 @@ payload-lawful chunk PayloadHeader.Absent sizes =
 payload-lawful chunk (PayloadHeader.Ids n) sizes = record { tells = λ s at h. cond-tells (leb n 1) (rest-lawful .tells s at h) (listed-lawful n .tells s at h) }
 payload-lawful chunk (PayloadHeader.Chunk w) sizes = record { tells = λ s at h. gives h }
 
-body-lawful : (f : Flags) (sizes : List ℕ) → Lawful (bodyAt f sizes)
+body-lawful : (f : Flags) (sizes : List ℕ) → Lawful (envelopeBodyAt f sizes)
 body-lawful f sizes =
     bind-lawful (header-lawful f (length (configuredSizes sizes)))
     (λ h. bind-lawful (payload-lawful (h .envelope .chunk) (h .envelope .«payload_header») sizes) (λ p. pure-lawful _))

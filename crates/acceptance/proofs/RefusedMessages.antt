@@ -15,8 +15,8 @@ use Rattle.plain_value.specs.Plain.{passing, bytes, afterLength, byLength, stri
 use Rattle.value.specs.Value.{variantRule, scalar, elements, array, variantOf, maskRule, dataValueOf, valueOf, valueAt, rawAt, typeOf, isArray, hasDimensions, taken, measure, Measure}
 use Rattle.plain_value.specs.Parts.{parts}
 use Rattle.value.specs.declared.Shape.{Shape}
-use Rattle.dataset_header.specs.Flags.{flagsOf, flags1Rule, flags2Rule, flags2At, Valid, notValid, valid, flagsAt, isRaw}
-use Rattle.dataset_header.specs.Header.{bodyAt, afterFlags, headerAt}
+use Rattle.dataset_header.specs.Flags.{messageFlagsOf, flags1Rule, flags2Rule, flags2At, Valid, notValid, valid, messageFlagsAt, isRaw}
+use Rattle.dataset_header.specs.Header.{messageItemsAt, afterFlags, messageHeaderAt}
 use Rattle.dataset_fields.specs.Fields.{encodedAt, fieldAt, fieldsAt, zerosAt}
 use Rattle.dataset_message.specs.Message.{countedAt, countAt, endAt, afterHeader, messageAt, bodyAt as messageBodyAt}
 use Rattle.dataset_header.specs.declared.flags.Flags.{Flags}
@@ -120,7 +120,7 @@ flags2-rule b f =
 flags2-lawful : (b : ℕ) → Lawful (flags2At b)
 flags2-lawful b = record { tells = λ s at h. cond-tells (ltb b 128) (gives h) (ruled-lawful 1 (flags2Rule b) (flags2-rule b) .tells s at h) }
 
-flags-lawful : Lawful flagsAt
+flags-lawful : Lawful messageFlagsAt
 flags-lawful =
     record {
       tells = λ s at h. then-tells (item-lawful 1 .tells s at h)
@@ -129,14 +129,14 @@ flags-lawful =
     }
   where
     encoded : (b : ℕ) (s : List ℕ) (at next : ℕ) → at ≤ length s → next ≤ length s
-        → Tells (length s) (cond (eqb (flags1Rule b) 0) (andThen (flags2At b s next) (λ f z. got (valid (flagsOf b f)) z)) (refused (flags1Rule b) at))
+        → Tells (length s) (cond (eqb (flags1Rule b) 0) (andThen (flags2At b s next) (λ f z. got (valid (messageFlagsOf b f)) z)) (refused (flags1Rule b) at))
     encoded b s at next h u = go (eqb (b / 2 % 4) 3)
       where
-        go : (x : Bool) → Tells (length s) (cond (eqb (cond x 3 0) 0) (andThen (flags2At b s next) (λ f z. got (valid (flagsOf b f)) z)) (refused (cond x 3 0) at))
+        go : (x : Bool) → Tells (length s) (cond (eqb (cond x 3 0) 0) (andThen (flags2At b s next) (λ f z. got (valid (messageFlagsOf b f)) z)) (refused (cond x 3 0) at))
         go true = refuses (at-item (number 3 refl) h)
         go false = then-tells (flags2-lawful b .tells s next u) (λ f z v. gives v)
 
-body-lawful : (f : Flags) → Lawful (bodyAt f)
+body-lawful : (f : Flags) → Lawful (messageItemsAt f)
 body-lawful f =
     bind-lawful
     (bind-lawful (optional16-lawful (f .sequence)) (λ q. bind-lawful (optional-i64-lawful (f .timestamp)) (λ t. bind-lawful (picoseconds-lawful (f .picoseconds)) (λ p. pure-lawful _))))
@@ -144,7 +144,7 @@ body-lawful f =
     (bind-lawful (optional16-lawful (f .status)) (λ u. bind-lawful (optional32-lawful (f .major)) (λ a. bind-lawful (optional32-lawful (f .minor)) (λ i. pure-lawful _))))
     (λ v. pure-lawful _))
 
-header-tells : (s : List ℕ) → Tells (length s) (headerAt s 0)
+header-tells : (s : List ℕ) → Tells (length s) (messageHeaderAt s 0)
 header-tells s = then-tells (flags-lawful .tells s 0 (omega arith)) go
   where
     go : (f : Valid Flags) (next : ℕ) → next ≤ length s → Tells (length s) (afterFlags f s next)

@@ -11,7 +11,7 @@ use Rattle.wire.proofs.Reading.{got-value, not-got, invert}
 use Rattle.network_header.specs.Flags.{flagsAt}
 use Rattle.network_header.specs.Numbers.{configuredSizes}
 use Rattle.network_message.specs.Payload.{payloadAt}
-use Rattle.network_message.specs.Envelope.{NetworkMessage, headerAt, bodyAt, networkMessageAt}
+use Rattle.network_message.specs.Envelope.{NetworkMessage, envelopeAt, envelopeBodyAt, networkMessageAt}
 use Rattle.network_header.specs.declared.flags.Flags.{Flags}
 use Rattle.network_header.specs.declared.header.PayloadHeader.{PayloadHeader}
 use Rattle.network_message.specs.declared.payload.Payload.{Payload}
@@ -28,9 +28,9 @@ no-chunk chunk (PayloadHeader.Chunk w) o sizes s at p n e = absurd o
 pub accepted-tiled : (sizes s : List ℕ) (m : NetworkMessage) (n : ℕ) → networkMessageAt sizes s ≡ got m n → OfMessages (m .envelope .«payload_header») → Tiled (m .payload) sizes s
 accepted-tiled sizes s m n e o = go (ltb 65535 (length s)) refl
   where
-    body : (f : Flags) (at : ℕ) → bodyAt f sizes s at ≡ got m n → Tiled (m .payload) sizes s
+    body : (f : Flags) (at : ℕ) → envelopeBodyAt f sizes s at ≡ got m n → Tiled (m .payload) sizes s
     body f at q =
-        let (h, z, a, b) = invert (headerAt f (length (configuredSizes sizes)) s at) _ q in
+        let (h, z, a, b) = invert (envelopeAt f (length (configuredSizes sizes)) s at) _ q in
         let (p, y, c, d) = invert (payloadAt (h .envelope .chunk) (h .envelope .«payload_header») sizes s z) _ b in
         let v : record { envelope = h .envelope; places = h .places; payload = p } ≡ m = got-value d in
         let g : h .envelope .«payload_header» ≡ m .envelope .«payload_header» = ap (λ (x : NetworkMessage). x .envelope .«payload_header») v in

@@ -13,14 +13,14 @@ use Rattle.wire.specs.Answer.{got, refused, Reader, item, run, here, pure, andT
 use Rattle.wire.specs.Items.{lengthItem}
 use Rattle.wire.specs.declared.Length.{Length}
 use Rattle.wire.proofs.Reading.{got-value, not-got, invert}
-use Rattle.publisher_id.specs.Publisher.{stringOf, lengthThen, stringAt, publisherAt}
-use Rattle.publisher_id.specs.PublisherRecord.{lengthOf}
+use Rattle.publisher_id.specs.Publisher.{stringOf, stringThen, stringAt, publisherAt}
+use Rattle.publisher_id.specs.PublisherRecord.{textLengthOf}
 use Rattle.network_header.specs.Flags.{flagsAt}
 use Rattle.network_header.specs.Group.{groupAt}
 use Rattle.network_header.specs.Header.{classAt, payloadHeaderAt}
 use Rattle.network_header.specs.Numbers.{configuredSizes}
 use Rattle.network_message.specs.Payload.{payloadAt}
-use Rattle.network_message.specs.Envelope.{identityAt, timesAt, messagesOf, headerAt, bodyAt, networkMessageAt, NetworkMessage}
+use Rattle.network_message.specs.Envelope.{identityAt, timesAt, messagesOf, envelopeAt, envelopeBodyAt, networkMessageAt, NetworkMessage}
 use Rattle.publisher_id.specs.declared.publisher.PublisherId.{PublisherId}
 use Rattle.network_header.specs.declared.envelope.Envelope.{Envelope}
 use Rattle.network_header.specs.declared.header.PayloadHeader.{PayloadHeader}
@@ -55,21 +55,21 @@ gives-pure {P = P} a p = record { told = λ s at v n e. subst (P s) (got-value e
 
 -- ---- a string PublisherId has at most 64 bytes
 abbrev Small : List ℕ → PublisherId → Type 0
-Small s p = lengthOf p ≤ 64
+Small s p = textLengthOf p ≤ 64
 
 string-small : (n : ℕ) → Gives Small (stringOf n)
 string-small n = record { told = λ s at v m e. go s at v m (leb 65 n) refl e }
   where
     fits : (s : List ℕ) (at : ℕ) (v : PublisherId) (m : ℕ) → n < 65 → (b : Bool)
         → andThen (cond b (got n (at + n)) (refused 1 at)) (λ len next. got (PublisherId.Text len) next) ≡ got v m → Small s v
-    fits s at v m l true q = subst (λ (p : PublisherId). lengthOf p ≤ 64) (got-value q) (omega arith)
+    fits s at v m l true q = subst (λ (p : PublisherId). textLengthOf p ≤ 64) (got-value q) (omega arith)
     fits s at v m l false q = absurd (not-got q)
 
     go : (s : List ℕ) (at : ℕ) (v : PublisherId) (m : ℕ) (b : Bool) → leb 65 n ≡ b → cond b (refused 10 0) ((run n >>= λ len. pure (PublisherId.Text len)) s at) ≡ got v m → Small s v
     go s at v m true t q = absurd (not-got q)
     go s at v m false t q = fits s at v m (leb-false 65 n t) (leb (at + n) (length s)) q
 
-length-small : (at : ℕ) (z : Length) → Gives Small (lengthThen at z)
+length-small : (at : ℕ) (z : Length) → Gives Small (stringThen at z)
 length-small at Length.Null = record { told = λ s p v n e. absurd (not-got e) }
 length-small at (Length.Of k) = string-small k
 length-small at Length.Negative = record { told = λ s p v n e. absurd (not-got e) }
@@ -77,11 +77,11 @@ length-small at Length.Negative = record { told = λ s p v n e. absurd (not-got 
 at-small : Gives Small stringAt
 at-small = record {
   told = λ s at v n e.
-      let i = invert (lengthItem s at) (λ z start. lengthThen at z s start) e in
+      let i = invert (lengthItem s at) (λ z start. stringThen at z s start) e in
       length-small at (i .0) .told s (i .1) v n (i .3);
 }
 
-number-small : (w : ℕ) (f : ℕ → PublisherId) → ((v : ℕ) → lengthOf (f v) ≡ 0) → Gives Small (item w >>= λ v. pure (f v))
+number-small : (w : ℕ) (f : ℕ → PublisherId) → ((v : ℕ) → textLengthOf (f v) ≡ 0) → Gives Small (item w >>= λ v. pure (f v))
 number-small w f z = gives-next (item w) (λ v. gives-pure (f v) (λ s. omega (arith, z v)))
 
 publisher-small : (on : Bool) (kind : ℕ) → Gives Small (publisherAt on kind)
@@ -102,13 +102,13 @@ identity-small f =
     gives-bind (publisher-small (f .publisher) (f .kind))
     (λ p. gives-next here (λ e. gives-next (classAt (f .«class_id»)) (λ c. gives-next (groupAt (f .group)) (λ g. gives-pure _ (λ s q. q)))))
 
-header-small : (f : Flags) (configured : ℕ) → Gives (λ s h. Small s (h .envelope .publisher)) (headerAt f configured)
+header-small : (f : Flags) (configured : ℕ) → Gives (λ s h. Small s (h .envelope .publisher)) (envelopeAt f configured)
 header-small f configured =
     gives-bind (identity-small f)
     (λ i. gives-next (payloadHeaderAt (f .«payload_header») (f .chunk))
     (λ p. gives-next here (λ e. gives-next (timesAt f (messagesOf (f .chunk) p configured)) (λ t. gives-next here (λ z. gives-pure _ (λ s q. q))))))
 
-body-small : (f : Flags) (sizes : List ℕ) → Gives (λ s m. Small s (m .envelope .publisher)) (bodyAt f sizes)
+body-small : (f : Flags) (sizes : List ℕ) → Gives (λ s m. Small s (m .envelope .publisher)) (envelopeBodyAt f sizes)
 body-small f sizes =
     gives-bind (header-small f (length (configuredSizes sizes)))
     (λ h. gives-next (payloadAt (h .envelope .chunk) (h .envelope .«payload_header») sizes) (λ p. gives-pure _ (λ s q. q)))
@@ -116,7 +116,7 @@ body-small f sizes =
 message-small : (sizes s : List ℕ) (m : NetworkMessage) (n : ℕ) → networkMessageAt sizes s ≡ got m n → Small s (m .envelope .publisher)
 message-small sizes s m n e = go (ltb 65535 (length s)) e
   where
-    go : (b : Bool) → cond b (refused 10 0) ((flagsAt >>= λ f. bodyAt f sizes) s 0) ≡ got m n → Small s (m .envelope .publisher)
+    go : (b : Bool) → cond b (refused 10 0) ((flagsAt >>= λ f. envelopeBodyAt f sizes) s 0) ≡ got m n → Small s (m .envelope .publisher)
     go true q = absurd (not-got q)
     go false q = gives-next flagsAt (λ f. body-small f sizes) .told s 0 m n q
 
@@ -150,13 +150,13 @@ chunk-id PayloadHeader.Absent a b = absurd b
 chunk-id (PayloadHeader.Ids n) a b = absurd a
 chunk-id (PayloadHeader.Chunk w) a b = (w, refl)
 
-body-writer : (f : Flags) (sizes : List ℕ) → Gives (λ s m. ChunkHeader s (m .envelope)) (bodyAt f sizes)
+body-writer : (f : Flags) (sizes : List ℕ) → Gives (λ s m. ChunkHeader s (m .envelope)) (envelopeBodyAt f sizes)
 body-writer f sizes =
     gives-bind (header-kind (length (configuredSizes sizes)))
     (λ h. gives-bind (payload-present (h .envelope .chunk) (h .envelope .«payload_header») sizes)
     (λ p. gives-pure _ (λ s present none on. chunk-id (h .envelope .«payload_header») (none on) (present on))))
   where
-    header-kind : (configured : ℕ) → Gives (λ s h. h .envelope .chunk ≡ true → NoIds (h .envelope .«payload_header»)) (headerAt f configured)
+    header-kind : (configured : ℕ) → Gives (λ s h. h .envelope .chunk ≡ true → NoIds (h .envelope .«payload_header»)) (envelopeAt f configured)
     header-kind configured =
         gives-next (identityAt f)
         (λ i. gives-bind (header-no-ids (f .«payload_header») (f .chunk))
@@ -165,7 +165,7 @@ body-writer f sizes =
 pub chunk-writer : (sizes s : List ℕ) (m : NetworkMessage) (n : ℕ) → networkMessageAt sizes s ≡ got m n → m .envelope .chunk ≡ true → (w : ℕ) × (m .envelope .«payload_header» ≡ PayloadHeader.Chunk w)
 chunk-writer sizes s m n e = go (ltb 65535 (length s)) e
   where
-    go : (b : Bool) → cond b (refused 10 0) ((flagsAt >>= λ f. bodyAt f sizes) s 0) ≡ got m n → ChunkHeader s (m .envelope)
+    go : (b : Bool) → cond b (refused 10 0) ((flagsAt >>= λ f. envelopeBodyAt f sizes) s 0) ≡ got m n → ChunkHeader s (m .envelope)
     go true q = absurd (not-got q)
     go false q = gives-next flagsAt (λ f. body-writer f sizes) .told s 0 m n q
 
@@ -254,7 +254,7 @@ payload-sized = gives-next (item 2) rest-sized .told
 
 -- ---- a chunk of a datagram
 pub record Accepted (s : List ℕ) (c : ChunkPlace) : Type 0 where
-  pub publisher : lengthOf (c .publisher) ≤ 64
+  pub publisher : textLengthOf (c .publisher) ≤ 64
   pub sized : Sized s (c .payload)
 
 pub accepted : (sizes s : List ℕ) (c : ChunkPlace) (n : ℕ) → chunkAt sizes s ≡ got c n → Accepted s c

@@ -9,10 +9,11 @@ use borrow.Author.Tests.{lt-ltb, le-ltb}
 use lib.Dec.{ltb}
 use lib.ListN.{length, take, drop, getD, length-drop, List·getD-eq-default}
 use lib.Seq.{take-all, take-nil, drop-length}
+use Rattle.wire.specs.Lists.{total}
 use Rattle.text.specs.Words.{contains, indexOf}
 use Rattle.text.proofs.Lists.{at-next, at-end}
 use Rattle.text.proofs.Parts.{contains-place, lacks-place}
-use Rattle.config.specs.Writers.{startOf, fieldsOf, fieldsOfId, total}
+use Rattle.config.specs.Writers.{startOf, fieldsOf, fieldsOfId}
 
 -- a number is in a list where its place is one of the list's
 pub place-contains : (x : ℕ) (t : List ℕ) → ltb (indexOf x t) (length t) ≡ contains x t

@@ -1,10 +1,11 @@
 -- What a configuration says of its writers: their ids, sizes and starts in order, and the types of all fields. A size of 0 is none; a
 -- writer's start is how many fields stand before its own.
 use mathlib.Core.Bool.{Bool, cond, not}
-use mathlib.Core.List.{List, [], _∷_}
+use mathlib.Core.List.{List, []}
 use Prim.Native.Nat.{ℕ, _+_, _-_}
 use lib.Dec.{ltb}
 use lib.ListN.{length, getD, take, drop, replicate}
+use Rattle.wire.specs.Lists.{total}
 use Rattle.wire.specs.Constants.{MOST_FIELDS, MOST_WRITERS}
 use Rattle.text.specs.Words.{indexOf, contains}
 use Rattle.wire.specs.declared.optional.Optional16.{Optional16}
@@ -36,10 +37,6 @@ abbrev pub allSized : List ℕ → Bool
 allSized sizes = not (contains 0 sizes)
 
 -- the sum of the sizes of at most 16 writers
-abbrev pub total : List ℕ → ℕ
-total [] = 0
-total (x ∷ xs) = x + total xs
-
 abbrev pub sumOfSizes : List ℕ → ℕ
 sumOfSizes sizes = total (take MOST_WRITERS sizes)
 

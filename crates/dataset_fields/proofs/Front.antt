@@ -4,23 +4,17 @@ use mathlib.Core.Path.{_≡_}
 use mathlib.Core.Bool.{Bool}
 use mathlib.Core.List.{List, _++_}
 use Prim.Native.Nat.{ℕ, zero, suc, _+_}
-use lib.ListN.{getD}
 use Rattle.wire.specs.Answer.{got}
 use Rattle.wire.proofs.Reading.{invert}
 use Rattle.wire.proofs.Steady.{Steady, item-steady, when-steady}
 use Rattle.wire.proofs.Places.{append}
-use Rattle.value.proofs.Values.{value-steady, raw-steady}
 use Rattle.dataset_header.specs.declared.flags.Encoding.{Encoding}
 use Rattle.dataset_fields.specs.declared.fields.Field.{Field}
 use Rattle.dataset_fields.specs.Fields.{indexAt, encodedAt, fieldAt, fieldsAt}
+use Rattle.dataset_fields.proofs.Judging.{encoded-steady}
 
 index-steady : (delta : Bool) (k : ℕ) → Steady (indexAt delta k)
 index-steady delta k = when-steady delta k (item-steady 2)
-
-encoded-steady : (encoding : Encoding) (types : List ℕ) (k : ℕ) → Steady (encodedAt encoding types k)
-encoded-steady Encoding.Variant types k = value-steady 100 24
-encoded-steady Encoding.RawData types k = raw-steady (getD types k 0)
-encoded-steady Encoding.DataValue types k = value-steady 100 23
 
 module _ (delta : Bool) (encoding : Encoding) (types front rest : List ℕ) where
   -- A field that is accepted in the front is that field of the message.

@@ -6,10 +6,11 @@ use mathlib.Core.List.{List, [], _∷_}
 use Prim.Native.Nat.{ℕ, zero, suc, _+_, _-_, _≤_, _<_}
 use native.Mathlib.Numerals.{add-one}
 use native.Mathlib.Omega.{arith}
-use borrow.Author.Tests.{leb-true, leb-false, le-leb, eqb-true, eqb-false, eq-eqb, ne-eqb}
+use borrow.Author.Tests.{leb-true, leb-false, le-leb, ne-eqb}
 use lib.Dec.{leb, eqb}
 use lib.ListN.{length, getD, take, drop}
 use lib.Seq.{drop-cons, drop-drop, drop-length, drop-nil, take-all}
+use Rattle.wire.specs.Lists.{total}
 use Rattle.wire.specs.Answer.{Answer, got, refused, andThen}
 use Rattle.wire.proofs.Reading.{invert, got-next, not-got}
 use Rattle.wire.proofs.Steady.{Steady}
@@ -19,20 +20,12 @@ use Rattle.value.proofs.Values.{value-steady, raw-steady}
 use Rattle.wire_writer.specs.Writing.{orElse}
 use Rattle.dataset_header.specs.declared.flags.Encoding.{Encoding}
 use Rattle.dataset_fields.specs.declared.fields.Field.{Field}
-use Rattle.dataset_fields.specs.Fields.{encodedAt, fieldAt, total, valuesOf, fieldsRefusal, fieldsWhole, fieldsNumber, reached}
-
--- two tests are equal where each follows from the other
-pub eqb-same : (a b c d : ℕ) → (a ≡ b → c ≡ d) → (c ≡ d → a ≡ b) → eqb a b ≡ eqb c d
-eqb-same a b c d f g = go (eqb a b) refl
-  where
-    go : (x : Bool) → eqb a b ≡ x → eqb a b ≡ eqb c d
-    go true e = e ∙ sym (eq-eqb c d (f (eqb-true a b e)))
-    go false e = e ∙ sym (ne-eqb c d (λ q. eqb-false a b e (g q)))
+use Rattle.dataset_fields.specs.Fields.{encodedAt, fieldAt, valuesOf, fieldsRefusal, fieldsWhole, fieldsNumber, reached}
+use Rattle.wire.proofs.Facts.{eqb-same}
 
 -- lengths that add up
 
 total-cons : (lengths : List ℕ) (k : ℕ) → k < length lengths → total (drop k lengths) ≡ getD lengths k 0 + total (drop (k + 1) lengths)
-unfolding total
 total-cons lengths k h = rw (drop-cons lengths k 0 h, add-one)
 
 pub total-step : (lengths : List ℕ) (k left : ℕ) → k < length lengths → getD lengths k 0 ≤ left
@@ -50,7 +43,6 @@ past-end (x ∷ l) zero h = absurd (omega arith)
 past-end (x ∷ l) (suc k) h = past-end l k (omega arith)
 
 pub total-done : (lengths : List ℕ) (k left : ℕ) → length lengths ≤ k → eqb (total (drop k lengths)) left ≡ eqb left 0
-unfolding total
 total-done lengths k left h =
     ap (λ (l : List ℕ). eqb (total l) left) (past-end lengths k h) ∙ eqb-same 0 left left 0 (λ q. sym q) (λ q. sym q)
 

@@ -10,9 +10,10 @@ use borrow.Author.Tests.{leb-false}
 use lib.Dec.{leb}
 use lib.ListN.{length, getD, take, drop, set, length-append, length-drop, take-append-drop}
 use lib.Seq.{sets, getD-drop, drop-drop, length-take-le}
+use Rattle.wire.specs.Lists.{total}
 use Rattle.wire.specs.Number.{leBytes}
 use Rattle.wire_writer.specs.Writing.{Puts}
-use Rattle.dataset_fields.specs.Fields.{total, valuesOf, fieldsBytes, zeros}
+use Rattle.dataset_fields.specs.Fields.{valuesOf, fieldsBytes, zeros}
 use Rattle.dataset_fields.proofs.Judging.{past-end, forwardTo, values-cons}
 
 -- a delta's field k and the fields after it
@@ -62,7 +63,7 @@ zeros-lack n entry at e =
 
 -- the values one after the other are all of them, where the lengths add up
 pub values-whole : (lengths values indices : List ℕ) → total lengths ≡ length values → fieldsBytes false indices (valuesOf lengths values) ≡ values
-unfolding total valuesOf fieldsBytes
+unfolding valuesOf fieldsBytes
 values-whole [] [] indices h = refl
 values-whole [] (x ∷ values) indices h = absurd (omega arith)
 values-whole (n ∷ lengths) values indices h =
@@ -72,7 +73,7 @@ values-whole (n ∷ lengths) values indices h =
 -- a delta's indices add two bytes to each
 pub delta-length : (lengths values indices : List ℕ) → total lengths ≡ length values
     → length (fieldsBytes true indices (valuesOf lengths values)) ≡ length lengths + (length lengths + length values)
-unfolding total valuesOf fieldsBytes
+unfolding valuesOf fieldsBytes
 delta-length [] values indices h = omega arith
 delta-length (n ∷ lengths) values indices h =
     let e : total lengths ≡ length (drop n values) = simp length-drop (omega arith) in

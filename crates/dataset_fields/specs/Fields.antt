@@ -38,7 +38,8 @@ fieldAt delta encoding types k = do
 
 -- field k where the fields are Variants without indices, by its first items, where it is known to end at `end`
 abbrev pub endingAt : ℕ → ℕ → Reader Field
-endingAt end k s at = andThen (describedAt end s at) (λ m e. got (record { index = k; kind = m .kind; shape = m .shape; offset = at; length = e - at }) e)
+endingAt end k s at =
+    andThen (describedAt end s at) (λ m e. got (record { index = k; kind = m .kind; shape = m .shape; offset = at; length = e - at }) e)
 
 -- Variants without indices
 abbrev pub plainVariants : Bool → Encoding → Bool
@@ -48,7 +49,8 @@ plainVariants delta Encoding.DataValue = false
 
 -- field k, where `last` may say that it is known to be accepted and to end at `end`
 abbrev pub hintedAt : Bool → ℕ → Bool → Encoding → List ℕ → ℕ → Reader Field
-hintedAt last end delta encoding types k s at = cond (last && plainVariants delta encoding) (endingAt end k s at) (fieldAt delta encoding types k s at)
+hintedAt last end delta encoding types k s at =
+    cond (last && plainVariants delta encoding) (endingAt end k s at) (fieldAt delta encoding types k s at)
 
 -- n fields, the first of them field k
 unfoldable pub fieldsAt : Bool → Encoding → List ℕ → ℕ → ℕ → Reader (Unit {0})
@@ -56,16 +58,19 @@ fieldsAt delta encoding types zero k = pure tt
 fieldsAt delta encoding types (suc n) k = fieldAt delta encoding types k >> fieldsAt delta encoding types n (k + 1)
 
 -- "A made-up cursor is read at the byte it names; past the end it is 1, after that 10"; "a step after the last field, is 10"
-pub record Stepped : Type 0 where
+pub record FieldStepped : Type 0 where
   pub field : Field
   pub cursor : Cursor
 
-abbrev pub stepAt : Cursor → List ℕ → List ℕ → Answer Stepped
-stepAt c types s =
+abbrev pub nextFieldAt : Cursor → List ℕ → List ℕ → Answer FieldStepped
+nextFieldAt c types s =
     cond (ltb (length s) (c .at)) (refused CUT_SHORT (c .at))
     (cond (leb (c .count) (c .next)) (refused OVER_LIMIT 0)
     (andThen (fieldAt (c .delta) (c .encoding) types (c .next) s (c .at))
-    (λ f end. got (record { field = f; cursor = record { encoding = c .encoding; delta = c .delta; next = c .next + 1; count = c .count; at = end } }) end)))
+    (λ f end.
+    got
+    (record { field = f; cursor = record { encoding = c .encoding; delta = c .delta; next = c .next + 1; count = c .count; at = end } })
+    end)))
 
 -- "only zero bytes may remain (else 7, at the first other byte)"
 unfoldable pub zerosAt : ℕ → Reader (Unit {0})
@@ -85,23 +90,18 @@ abbrev pub answerField : FieldRead → Answer Field
 answerField (FieldRead.Is f next) = got f next
 answerField (FieldRead.Refused n place) = refused n place
 
-abbrev pub answerStep : FieldStep → Answer Stepped
-answerStep (FieldStep.Is f c) = got (record { field = f; cursor = c }) (c .at)
-answerStep (FieldStep.Refused n place) = refused n place
+abbrev pub answerFieldStep : FieldStep → Answer FieldStepped
+answerFieldStep (FieldStep.Is f c) = got (record { field = f; cursor = c }) (c .at)
+answerFieldStep (FieldStep.Refused n place) = refused n place
 
 -- the cursor after k steps
 unfoldable pub walkAt : Cursor → List ℕ → ℕ → List ℕ → Answer Cursor
 walkAt c types zero s = got c (c .at)
-walkAt c types (suc k) s = andThen (walkAt c types k s) (λ d _. andThen (stepAt d types s) (λ x next. got (x .cursor) next))
+walkAt c types (suc k) s = andThen (walkAt c types k s) (λ d _. andThen (nextFieldAt d types s) (λ x next. got (x .cursor) next))
 
 -- the cursor c, before field k, which starts at q
-abbrev pub before : Cursor → ℕ → ℕ → Cursor
-before c k q = record { encoding = c .encoding; delta = c .delta; next = k; count = c .count; at = q }
-
--- how many bytes the fields have together
-unfoldable pub total : List ℕ → ℕ
-total [] = 0
-total (n ∷ lengths) = n + total lengths
+abbrev pub cursorBefore : Cursor → ℕ → ℕ → Cursor
+cursorBefore c k q = record { encoding = c .encoding; delta = c .delta; next = k; count = c .count; at = q }
 
 -- the fields' encoded values, which stand one after the other, each as long as its length says
 unfoldable pub valuesOf : List ℕ → List ℕ → List (List ℕ)

@@ -24,10 +24,11 @@ ghost use mathlib.Core.Path.{_≡_};
 ghost use mathlib.Core.Bool.{false, cond, true, _&&_};
 ghost use Prim.Native.Nat.{_-_, _+_, _≤_};
 ghost use lib.ListN.{getD, length, take};
+ghost use Rattle.wire.specs.Lists.{total};
 ghost use Rattle.wire.specs.Answer.{got, andThen};
 ghost use Rattle.wire.specs.Items.{answerReached};
 ghost use Rattle.value.specs.Value.{answerMeasured};
-ghost use Rattle.dataset_fields.specs.Fields.{encodedAt, indexAt, fieldAt, endingAt, hintedAt, fieldsAt, stepAt, zerosAt, paddingAt, answerIndex, answerField, answerStep, total, valuesOf, reached, fieldsNumber, fieldsBytes, zeros};
+ghost use Rattle.dataset_fields.specs.Fields.{encodedAt, indexAt, fieldAt, endingAt, hintedAt, fieldsAt, nextFieldAt, zerosAt, paddingAt, answerIndex, answerField, answerFieldStep, valuesOf, reached, fieldsNumber, fieldsBytes, zeros};
 ghost use Rattle.dataset_header.specs.declared.flags.Encoding.{Encoding};
 ghost use lib.Dec.{eqb, leb};
 ghost use lib.Seq.{sets};
@@ -215,7 +216,7 @@ pub fn field_in_line(
 impl Cursor {
     // The field that the cursor stands before, and the cursor before the next one.
     pub fn step(self, s: &[u8], types: &[u8]) -> FieldStep
-        ensures { λ r. ⌜ answerStep r ≡ stepAt self (now (types .entry)) (now (s .entry)) ⌝ }
+        ensures { λ r. ⌜ answerFieldStep r ≡ nextFieldAt self (now (types .entry)) (now (s .entry)) ⌝ }
     {
         let at = self.at;
         if s.len() < at {

@@ -12,12 +12,12 @@ use Rattle.wire.specs.Optional.{optional16, optional32, optionalI64, picosecond
 use Rattle.wire.specs.declared.optional.Optional16.{Optional16}
 use Rattle.wire.specs.declared.optional.Optional32.{Optional32}
 use Rattle.wire.specs.declared.optional.OptionalI64.{OptionalI64}
-use Rattle.wire.proofs.Steady.{Steady, Onward, steadily, refusing, cond-onward, onward-steady, pure-steady, item-steady, signed-item-steady, ruled-steady, bind-steady, when-steady}
+use Rattle.wire.proofs.Steady.{Steady, steadily, refusing, cond-onward, onward-steady, pure-steady, item-steady, signed-item-steady, ruled-steady, bind-steady, when-steady}
 use Rattle.wire.proofs.Places.{append, append-refused}
 use Rattle.dataset_header.specs.declared.flags.Flags.{Flags}
 use Rattle.dataset_header.specs.declared.header.Header.{Header}
-use Rattle.dataset_header.specs.Flags.{Valid, notValid, valid, flags1Rule, flags2Rule, flags2At, flagsOf, flagsAt}
-use Rattle.dataset_header.specs.Header.{timesAt, versionsAt, headerOf, bodyAt, afterFlags, headerAt}
+use Rattle.dataset_header.specs.Flags.{Valid, notValid, valid, flags1Rule, flags2Rule, flags2At, messageFlagsOf, messageFlagsAt}
+use Rattle.dataset_header.specs.Header.{messageTimesAt, versionsAt, headerOf, afterFlags, messageHeaderAt}
 
 flags2-steady : (b : ℕ) → Steady (flags2At b)
 flags2-steady b = either (ltb b 128) (pure-steady 0) (ruled-steady 1 (flags2Rule b))
@@ -26,11 +26,11 @@ flags2-steady b = either (ltb b 128) (pure-steady 0) (ruled-steady 1 (flags2Rule
     either true f h = f
     either false f h = h
 
-flags-steady : Steady flagsAt
+flags-steady : Steady messageFlagsAt
 flags-steady =
     onward-steady (item-steady 1)
     (λ b. cond-onward (eqb (b % 2) 0) (λ e. steadily (pure-steady notValid))
-    (λ e. cond-onward (eqb (flags1Rule b) 0) (λ e. steadily (bind-steady (flags2-steady b) (λ f. pure-steady (valid (flagsOf b f)))))
+    (λ e. cond-onward (eqb (flags1Rule b) 0) (λ e. steadily (bind-steady (flags2-steady b) (λ f. pure-steady (valid (messageFlagsOf b f)))))
     (λ e. refusing (flags1Rule b) (positive (flags1Rule b) (eqb-false (flags1Rule b) 0 e)))))
   where
     positive : (n : ℕ) → (n ≡ 0 → ⊥) → 1 ≤ n
@@ -48,7 +48,7 @@ timestamp-steady on = when-steady on OptionalI64.Absent (bind-steady (signed-ite
 picoseconds-steady : (on : Bool) → Steady (picosecondsAt on)
 picoseconds-steady on = when-steady on Optional16.Absent (bind-steady (ruled-steady 2 picosecondsRule) (λ v. pure-steady (Optional16.Is v)))
 
-times-steady : (f : Flags) → Steady (timesAt f)
+times-steady : (f : Flags) → Steady (messageTimesAt f)
 times-steady f =
     bind-steady (optional16-steady (f .sequence))
     (λ q. bind-steady (timestamp-steady (f .timestamp))
@@ -64,12 +64,12 @@ after-flags-steady : (v : Valid Flags) → Steady (afterFlags v)
 after-flags-steady notValid = pure-steady notValid
 after-flags-steady (valid f) = bind-steady (times-steady f) (λ t. bind-steady (versions-steady f) (λ v. pure-steady (valid (headerOf f t v))))
 
-header-steady : Steady headerAt
+header-steady : Steady messageHeaderAt
 header-steady = bind-steady flags-steady after-flags-steady
 
 -- A header that is accepted in the front is the message's header; a refusal other than 1 is the message's refusal.
-pub header-front : (front rest : List ℕ) {h : Valid Header} {at : ℕ} → headerAt front 0 ≡ got h at → headerAt (front ++ rest) 0 ≡ got h at
+pub header-front : (front rest : List ℕ) {h : Valid Header} {at : ℕ} → messageHeaderAt front 0 ≡ got h at → messageHeaderAt (front ++ rest) 0 ≡ got h at
 header-front front rest q = append header-steady front rest 0 q
 
-pub header-front-refused : (front rest : List ℕ) {n place : ℕ} → headerAt front 0 ≡ refused n place → (n ≡ 1 → ⊥) → headerAt (front ++ rest) 0 ≡ refused n place
+pub header-front-refused : (front rest : List ℕ) {n place : ℕ} → messageHeaderAt front 0 ≡ refused n place → (n ≡ 1 → ⊥) → messageHeaderAt (front ++ rest) 0 ≡ refused n place
 header-front-refused front rest q h = append-refused header-steady front rest 0 q h

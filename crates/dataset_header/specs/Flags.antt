@@ -54,8 +54,8 @@ abbrev pub flags2At : ℕ → Reader ℕ
 flags2At b s at = cond (ltb b 128) (got 0 at) (ruled 1 (flags2Rule b) s at)
 
 -- what the two bytes say: "Bits 3 sequence, 4 status, 5 major, 6 minor"; of Flags2 "bits 4 timestamp, 5 picoseconds"
-abbrev pub flagsOf : ℕ → ℕ → Flags
-flagsOf b f =
+abbrev pub messageFlagsOf : ℕ → ℕ → Flags
+messageFlagsOf b f =
     record {
       encoding = encodingOf b;
       kind = kindOf f;
@@ -72,17 +72,17 @@ pub data Valid (A : Type 0) : Type 0 where
   notValid : Valid A
   valid : A → Valid A
 
-abbrev pub flagsAt : Reader (Valid Flags)
-flagsAt s at =
+abbrev pub messageFlagsAt : Reader (Valid Flags)
+messageFlagsAt s at =
     andThen (item 1 s at)
     (λ b next.
     cond (eqb (bits 0 1 b) 0) (got notValid next)
-    (cond (eqb (flags1Rule b) 0) (andThen (flags2At b s next) (λ f z. got (valid (flagsOf b f)) z)) (refused (flags1Rule b) at)))
+    (cond (eqb (flags1Rule b) 0) (andThen (flags2At b s next) (λ f z. got (valid (messageFlagsOf b f)) z)) (refused (flags1Rule b) at)))
 
-abbrev pub answerFlags : FlagsRead → Answer (Valid Flags)
-answerFlags (FlagsRead.NotValid next) = got notValid next
-answerFlags (FlagsRead.Is v next) = got (valid v) next
-answerFlags (FlagsRead.Refused n place) = refused n place
+abbrev pub answerMessageFlags : FlagsRead → Answer (Valid Flags)
+answerMessageFlags (FlagsRead.NotValid next) = got notValid next
+answerMessageFlags (FlagsRead.Is v next) = got (valid v) next
+answerMessageFlags (FlagsRead.Refused n place) = refused n place
 
 -- "encoding: 0 Variant, 1 RawData, 2 DataValue"
 abbrev pub encodingNumber : Encoding → ℕ
@@ -111,8 +111,8 @@ flags1Of h =
     + (64 * num (on32 (h .minor)) + 128 * needed (flags2Of h))))))
 
 -- Flags2 is left out where it would be 0
-abbrev pub flagBytes : Header → List ℕ
-flagBytes h = leBytes 1 (flags1Of h) ++ byteBytes (flags2Of h)
+abbrev pub messageFlagBytes : Header → List ℕ
+messageFlagBytes h = leBytes 1 (flags1Of h) ++ byteBytes (flags2Of h)
 
 -- "Event not in Variant is 3; delta in RawData is 4"
 abbrev pub kindRule : Kind → Encoding → ℕ

@@ -9,14 +9,14 @@ use Rattle.dataset_header.specs.declared.header.Times.{Times}
 use Rattle.dataset_header.specs.declared.header.TimesRead.{TimesRead}
 use Rattle.dataset_header.specs.declared.header.Versions.{Versions}
 use Rattle.dataset_header.specs.declared.header.VersionsRead.{VersionsRead}
-use Rattle.dataset_header.specs.Flags.{Valid, notValid, valid, flagsAt, flagBytes}
+use Rattle.dataset_header.specs.Flags.{Valid, notValid, valid, messageFlagsAt, messageFlagBytes}
 use mathlib.Core.List.{List, _++_}
 use Rattle.wire_writer.specs.Writing.{optional16Bytes, optional32Bytes, optionalI64Bytes}
 use Rattle.wire_writer.specs.Fits.{Fits16, Fits32, FitsI64}
 
 -- "Then sequence 2, timestamp 8, picoseconds 2 (as above), status 2, major 4, minor 4, each by its flag"
-abbrev pub timesAt : Flags → Reader Times
-timesAt f = do
+abbrev pub messageTimesAt : Flags → Reader Times
+messageTimesAt f = do
   q ← optional16 (f .sequence)
   t ← optionalI64 (f .timestamp)
   p ← picosecondsAt (f .picoseconds)
@@ -42,34 +42,34 @@ headerOf f t v =
       minor = v .minor;
     }
 
-abbrev pub bodyAt : Flags → Reader (Valid Header)
-bodyAt f = do
-  t ← timesAt f
+abbrev pub messageItemsAt : Flags → Reader (Valid Header)
+messageItemsAt f = do
+  t ← messageTimesAt f
   v ← versionsAt f
   pure (valid (headerOf f t v))
 
 -- what follows the flags of a valid message
 abbrev pub afterFlags : Valid Flags → Reader (Valid Header)
 afterFlags notValid s at = got notValid at
-afterFlags (valid f) s at = bodyAt f s at
+afterFlags (valid f) s at = messageItemsAt f s at
 
-abbrev pub headerAt : Reader (Valid Header)
-headerAt s at = andThen (flagsAt s at) (λ f next. afterFlags f s next)
+abbrev pub messageHeaderAt : Reader (Valid Header)
+messageHeaderAt s at = andThen (messageFlagsAt s at) (λ f next. afterFlags f s next)
 
 -- what the answers of the code say
 
-abbrev pub answerTimes : TimesRead → Answer Times
-answerTimes (TimesRead.Is v next) = got v next
-answerTimes (TimesRead.Refused n place) = refused n place
+abbrev pub answerMessageTimes : TimesRead → Answer Times
+answerMessageTimes (TimesRead.Is v next) = got v next
+answerMessageTimes (TimesRead.Refused n place) = refused n place
 
 abbrev pub answerVersions : VersionsRead → Answer Versions
 answerVersions (VersionsRead.Is v next) = got v next
 answerVersions (VersionsRead.Refused n place) = refused n place
 
-abbrev pub answerHeader : HeaderRead → Answer (Valid Header)
-answerHeader (HeaderRead.NotValid next) = got notValid next
-answerHeader (HeaderRead.Is h next) = got (valid h) next
-answerHeader (HeaderRead.Refused n place) = refused n place
+abbrev pub answerMessageHeader : HeaderRead → Answer (Valid Header)
+answerMessageHeader (HeaderRead.NotValid next) = got notValid next
+answerMessageHeader (HeaderRead.Is h next) = got (valid h) next
+answerMessageHeader (HeaderRead.Refused n place) = refused n place
 
 -- "Then sequence 2, timestamp 8, picoseconds 2, status 2, major 4, minor 4, each by its flag"
 abbrev pub timesBytes : Header → List ℕ
@@ -78,8 +78,8 @@ timesBytes h = optional16Bytes (h .sequence) ++ (optionalI64Bytes (h .timestamp)
 abbrev pub versionsBytes : Header → List ℕ
 versionsBytes h = optional16Bytes (h .status) ++ (optional32Bytes (h .major) ++ optional32Bytes (h .minor))
 
-abbrev pub headerBytes : Header → List ℕ
-headerBytes h = flagBytes h ++ (timesBytes h ++ versionsBytes h)
+abbrev pub messageHeaderBytes : Header → List ℕ
+messageHeaderBytes h = messageFlagBytes h ++ (timesBytes h ++ versionsBytes h)
 
 -- each number of a header fits its type, as a value of the code does
 pub record FitsHeader (h : Header) : Type 0 where

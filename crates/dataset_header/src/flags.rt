@@ -14,7 +14,7 @@ use wire_writer::writing::is_on32;
 use wire_writer::writing::put_flag_byte;
 ghost use mathlib.Core.Path.{_≡_};
 ghost use Rattle.wire.specs.Items.{answerByte};
-ghost use Rattle.dataset_header.specs.Flags.{encodingOf, kindOf, flags1Rule, flags2Rule, flags2At, flagsOf, flagsAt, isDelta, isRaw, answerFlags, encodingNumber, kindNumber, flags1Of, flags2Of, flagBytes, kindRule};
+ghost use Rattle.dataset_header.specs.Flags.{encodingOf, kindOf, flags1Rule, flags2Rule, flags2At, messageFlagsOf, messageFlagsAt, isDelta, isRaw, answerMessageFlags, encodingNumber, kindNumber, flags1Of, flags2Of, messageFlagBytes, kindRule};
 ghost use Prim.Native.Nat.{_≤_};
 ghost use Rattle.wire_writer.specs.Writing.{Puts};
 
@@ -152,7 +152,7 @@ fn flags2(s: &[u8], b: u8, at: usize) -> FlagByte
 }
 
 fn flags_of(b: u8, f: u8) -> Flags
-    ensures { λ r. ⌜ r ≡ flagsOf b f ⌝ }
+    ensures { λ r. ⌜ r ≡ messageFlagsOf b f ⌝ }
 {
     let encoding = encoding_of(b);
     let kind = kind_of(f);
@@ -170,7 +170,7 @@ fn flags_of(b: u8, f: u8) -> Flags
 
 // The flag bytes at the start of a message.
 pub fn read_flags(s: &[u8]) -> FlagsRead
-    ensures { λ r. ⌜ answerFlags r ≡ flagsAt (now (s .entry)) 0 ⌝ }
+    ensures { λ r. ⌜ answerMessageFlags r ≡ messageFlagsAt (now (s .entry)) 0 ⌝ }
 {
     let Item8::Is(b, next) = wire::read8(s, 0) else {
         return FlagsRead::Refused(CUT_SHORT, 0);
@@ -239,7 +239,7 @@ fn flags1_of(header: Header, flags2: u8) -> u8
 
 // Flags1, and Flags2 where it is not 0.
 pub fn put_flags(out: &mut [u8], header: Header) -> usize
-    ensures { λ r. ⌜ Puts (flagBytes header) (now (out .entry)) 0 (now (out .exit)) r ⌝ }
+    ensures { λ r. ⌜ Puts (messageFlagBytes header) (now (out .entry)) 0 (now (out .exit)) r ⌝ }
 {
     let flags2 = flags2_of(header);
     let flags1 = flags1_of(header, flags2);

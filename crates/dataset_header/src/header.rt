@@ -24,7 +24,7 @@ use wire_writer::writing::size_i64;
 use wire_writer::writing::size16;
 use wire_writer::writing::size32;
 ghost use mathlib.Core.Path.{_≡_};
-ghost use Rattle.dataset_header.specs.Header.{timesAt, versionsAt, headerOf, bodyAt, headerAt, answerTimes, answerVersions, answerHeader, timesBytes, versionsBytes, headerBytes};
+ghost use Rattle.dataset_header.specs.Header.{messageTimesAt, versionsAt, headerOf, messageItemsAt, messageHeaderAt, answerMessageTimes, answerVersions, answerMessageHeader, timesBytes, versionsBytes, messageHeaderBytes};
 ghost use Prim.Native.Nat.{_≤_};
 ghost use lib.ListN.{length};
 ghost use Rattle.wire_writer.specs.Writing.{Puts};
@@ -75,7 +75,7 @@ pub enum VersionsRead {
 }
 
 fn read_times(s: &[u8], flags: Flags, at: usize) -> TimesRead
-    ensures { λ r. ⌜ answerTimes r ≡ timesAt flags (now (s .entry)) at ⌝ }
+    ensures { λ r. ⌜ answerMessageTimes r ≡ messageTimesAt flags (now (s .entry)) at ⌝ }
 {
     match read_optional16(s, flags.sequence, at) {
         Optional16Read::Refused(number, place) => TimesRead::Refused(number, place),
@@ -142,7 +142,7 @@ fn header_of(flags: Flags, t: Times, v: Versions) -> Header
 }
 
 fn read_body(s: &[u8], flags: Flags, at: usize) -> HeaderRead
-    ensures { λ r. ⌜ answerHeader r ≡ bodyAt flags (now (s .entry)) at ⌝ }
+    ensures { λ r. ⌜ answerMessageHeader r ≡ messageItemsAt flags (now (s .entry)) at ⌝ }
 {
     match read_times(s, flags, at) {
         TimesRead::Refused(number, place) => HeaderRead::Refused(number, place),
@@ -155,7 +155,7 @@ fn read_body(s: &[u8], flags: Flags, at: usize) -> HeaderRead
 
 // The header of a message, which starts at its first byte.
 pub fn read_header(s: &[u8]) -> HeaderRead
-    ensures { λ r. ⌜ answerHeader r ≡ headerAt (now (s .entry)) 0 ⌝ }
+    ensures { λ r. ⌜ answerMessageHeader r ≡ messageHeaderAt (now (s .entry)) 0 ⌝ }
 {
     match read_flags(s) {
         FlagsRead::NotValid(next) => HeaderRead::NotValid(next),
@@ -188,7 +188,7 @@ fn put_versions(out: &mut [u8], at: usize, header: Header) -> usize
 
 // Stores a header from the buffer's start, and answers the position after it.
 pub fn put_header(out: &mut [u8], header: Header) -> usize
-    ensures { λ r. ⌜ Puts (headerBytes header) (now (out .entry)) 0 (now (out .exit)) r ⌝ }
+    ensures { λ r. ⌜ Puts (messageHeaderBytes header) (now (out .entry)) 0 (now (out .exit)) r ⌝ }
 {
     let next = put_flags(out, header);
     let next = put_times(out, next, header);
@@ -197,7 +197,7 @@ pub fn put_header(out: &mut [u8], header: Header) -> usize
 
 // How many bytes the header takes.
 pub fn header_size(header: Header) -> usize
-    ensures { λ r. ⌜ (r ≡ length (headerBytes header)) × (r ≤ 24) ⌝ }
+    ensures { λ r. ⌜ (r ≡ length (messageHeaderBytes header)) × (r ≤ 24) ⌝ }
 {
     let sequence = header.sequence;
     let timestamp = header.timestamp;

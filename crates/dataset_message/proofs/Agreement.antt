@@ -10,10 +10,10 @@ use native.Mathlib.Omega.{arith}
 use lib.Dec.{leb}
 use lib.ListN.{length, getD}
 use borrow.Author.Tests.{le-leb, lt-leb, leb-true, leb-false, le-ltb, ltb-true}
-use Rattle.dataset_fields.specs.Fields.{encodedAt, indexAt, fieldAt, fieldsAt, paddingAt, stepAt, walkAt, before}
+use Rattle.dataset_fields.specs.Fields.{encodedAt, indexAt, fieldAt, fieldsAt, paddingAt, nextFieldAt, walkAt, cursorBefore}
 use Rattle.dataset_header.specs.declared.header.Header.{Header}
 use Rattle.dataset_header.specs.Flags.{Valid, notValid, valid, isDelta, isRaw}
-use Rattle.dataset_header.specs.Header.{headerAt}
+use Rattle.dataset_header.specs.Header.{messageHeaderAt}
 use Rattle.dataset_message.specs.Message.{Message, countAt, endAt, bodyAt, afterHeader, messageAt, nthAt}
 use Rattle.dataset_header.specs.declared.flags.Encoding.{Encoding}
 use Rattle.dataset_fields.specs.declared.fields.Field.{Field}
@@ -56,7 +56,7 @@ pub record Inside (s : List ℕ) (q : ℕ) (f : Field) (e : ℕ) : Type 0 where
   pub some : 0 < f .length
   pub value : f .offset + f .length ≡ e
 
-index-within : (delta : Bool) (k : ℕ) (s : List ℕ) (q i o : ℕ) → indexAt delta k s q ≡ got i o → q ≤ o
+pub index-within : (delta : Bool) (k : ℕ) (s : List ℕ) (q i o : ℕ) → indexAt delta k s q ≡ got i o → q ≤ o
 index-within true k s q i o e = let w = item-within 2 s q i o e in omega arith
 index-within false k s q i o e = let n : q ≡ o = got-next e in omega arith
 
@@ -102,7 +102,7 @@ snoc-got x g e h =
     let b = invert (g (a .1)) (λ _ r. done r) (a .3) in
     (a .1, b .0, a .2, b .2 ∙ ap (λ (n : ℕ). got (b .0) n) (got-next (b .3)))
 
-start-is : (c : Cursor) (types s : List ℕ) (q : ℕ) → c .next ≡ 0 → fieldsAt (c .delta) (c .encoding) types zero 0 s (c .at) ≡ got tt q → got c (c .at) ≡ got (before c zero q) q
+start-is : (c : Cursor) (types s : List ℕ) (q : ℕ) → c .next ≡ 0 → fieldsAt (c .delta) (c .encoding) types zero 0 s (c .at) ≡ got tt q → got c (c .at) ≡ got (cursorBefore c zero q) q
 unfolding fieldsAt
 start-is c types s q z h =
     let e : c .at ≡ q = got-next h in
@@ -122,18 +122,18 @@ module _ (c : Cursor) (types s : List ℕ) where
       (ap (λ (j : ℕ). andThen (passed n) (λ _ q. andThen (field j q) (λ _ r. done r))) (sym (zero-add n)) ∙ sym (fields-snoc (c .delta) (c .encoding) types s n 0 (c .at)) ∙ h)
 
   -- one step, at a field that is accepted
-  step-is : (k q e : ℕ) (f : Field) → k < c .count → field k q ≡ got f e → stepAt (before c k q) types s ≡ got (record { field = f; cursor = before c (k + 1) e }) e
+  step-is : (k q e : ℕ) (f : Field) → k < c .count → field k q ≡ got f e → nextFieldAt (cursorBefore c k q) types s ≡ got (record { field = f; cursor = cursorBefore c (k + 1) e }) e
   step-is k q e f l h =
       let i = field-inside (c .delta) (c .encoding) types k s q f e h in
       rw (le-ltb (length s) q (i .starts), lt-leb (c .count) k l, h)
 
   -- k steps
-  walk-is : (k q : ℕ) → k ≤ c .count → c .next ≡ 0 → passed k ≡ got tt q → walkAt c types k s ≡ got (before c k q) q
+  walk-is : (k q : ℕ) → k ≤ c .count → c .next ≡ 0 → passed k ≡ got tt q → walkAt c types k s ≡ got (cursorBefore c k q) q
   unfolding walkAt
   walk-is zero q l z h = start-is c types s q z h
   walk-is (suc k) q l z h =
       let a = last-field k q h in
-      rw (walk-is k (a .0) (omega arith) z (a .2), step-is k (a .0) q (a .1) l (a .3)) (ap (λ (j : ℕ). got (before c j q) q) (add-one k))
+      rw (walk-is k (a .0) (omega arith) z (a .2), step-is k (a .0) q (a .1) l (a .3)) (ap (λ (j : ℕ). got (cursorBefore c j q) q) (add-one k))
 
   -- every field below one that is passed is passed too
   passed-below : (n e k : ℕ) → k ≤ n → passed n ≡ got tt e → (q : ℕ) × (passed k ≡ got tt q)
@@ -151,8 +151,8 @@ pub record Agrees (c : Cursor) (types s : List ℕ) (k : ℕ) : Type 0 where
   pub end : ℕ
   pub place : Field
   pub inside : Inside s at place end
-  pub walked : walkAt c types k s ≡ got (before c k at) at
-  pub stepped : stepAt (before c k at) types s ≡ got (record { field = place; cursor = before c (k + 1) end }) end
+  pub walked : walkAt c types k s ≡ got (cursorBefore c k at) at
+  pub stepped : nextFieldAt (cursorBefore c k at) types s ≡ got (record { field = place; cursor = cursorBefore c (k + 1) end }) end
   pub looked-up : nthAt c types k s ≡ got place end
 
 -- Stepping through all fields visits exactly the fields that reading the whole message accepts, in their order.
@@ -172,7 +172,7 @@ walk-agrees c types s e z h k l =
     }
 
 -- and a step after the last is 10
-pub walk-ends : (c : Cursor) (types s : List ℕ) (q : ℕ) → q ≤ length s → stepAt (before c (c .count) q) types s ≡ refused 10 0
+pub walk-ends : (c : Cursor) (types s : List ℕ) (q : ℕ) → q ≤ length s → nextFieldAt (cursorBefore c (c .count) q) types s ≡ refused 10 0
 walk-ends c types s q h = rw (le-ltb (length s) q h, le-leb (c .count) (c .count) (omega arith))
 
 -- What an accepted message tells of its fields: they were passed from the cursor's byte to `end`, and the cursor is before the first.
@@ -202,7 +202,7 @@ header-read (valid h) types s at m e q = body-read h types s at m e q
 
 pub message-read : (types s : List ℕ) (m : Message) (e : ℕ) → messageAt types s ≡ got (valid m) e → Read types s m
 message-read types s m e q =
-    let a = invert (headerAt s 0) (λ v at. _) q in
+    let a = invert (messageHeaderAt s 0) (λ v at. _) q in
     header-read (a .0) types s (a .1) m e (a .3)
 
 -- before the first field of an accepted message all are left

@@ -13,7 +13,7 @@ use Rattle.dataset_fields.specs.declared.fields.Cursor.{Cursor}
 use Rattle.dataset_message.specs.declared.message.MessageRead.{MessageRead}
 use Rattle.dataset_message.specs.declared.message.CountRead.{CountRead}
 use Rattle.dataset_header.specs.Flags.{isDelta, isRaw, Valid, notValid, valid}
-use Rattle.dataset_header.specs.Header.{headerAt}
+use Rattle.dataset_header.specs.Header.{messageHeaderAt}
 use Rattle.dataset_fields.specs.Fields.{fieldAt, fieldsAt, paddingAt}
 
 -- "FieldCount 2 and the fields; RawData has no count, its fields are the configured ones (none: 8)"
@@ -51,7 +51,7 @@ afterHeader (valid h) types s at = bodyAt h types s at
 
 -- a message alone, with the configured field types of its writer; of one not valid nothing more is read
 abbrev pub messageAt : List ℕ → List ℕ → Answer (Valid Message)
-messageAt types s = andThen (headerAt s 0) (λ h at. afterHeader h types s at)
+messageAt types s = andThen (messageHeaderAt s 0) (λ h at. afterHeader h types s at)
 
 -- field k from the cursor before the first: "k at or past the count .. is 10"
 abbrev pub nthAt : Cursor → List ℕ → ℕ → List ℕ → Answer Field

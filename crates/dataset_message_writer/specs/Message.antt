@@ -5,6 +5,7 @@ use mathlib.Core.Bool.{Bool, true, false, cond, not, _&&_, _||_}
 use mathlib.Core.List.{List, [], _++_}
 use lib.Dec.{eqb, leb}
 use lib.ListN.{length}
+use Rattle.wire.specs.Lists.{total}
 use Rattle.wire.specs.Constants.{DISAGREE, NOT_CONFIGURED}
 use Rattle.wire.specs.Number.{leBytes}
 use Rattle.dataset_header.specs.Flags.{isDelta, isRaw, kindRule}
@@ -12,13 +13,13 @@ use Rattle.wire_writer.specs.Writing.{orElse, picosecondsRefusal, Output, unles
 use Rattle.dataset_header.specs.declared.flags.Encoding.{Encoding}
 use Rattle.dataset_header.specs.declared.flags.Kind.{Kind}
 use Rattle.dataset_header.specs.declared.header.Header.{Header}
-use Rattle.dataset_header.specs.Header.{headerBytes, FitsHeader}
+use Rattle.dataset_header.specs.Header.{messageHeaderBytes, FitsHeader}
 use Rattle.wire_writer.specs.Fits.{Numbers}
-use Rattle.dataset_fields.specs.Fields.{total, valuesOf, fieldsRefusal, fieldsWhole, reached, fieldsBytes, zeros}
+use Rattle.dataset_fields.specs.Fields.{valuesOf, fieldsRefusal, fieldsWhole, reached, fieldsBytes, zeros}
 
 -- What is given to be written: the header; of a key frame, whether it is a heartbeat; the fields' encoded values one after the
 -- other and how long each is; a delta's indices; how many bytes of padding follow.
-pub record Given : Type 0 where
+pub record GivenMessage : Type 0 where
   pub header : Header
   pub heartbeat : Bool
   pub values : List ℕ
@@ -26,12 +27,12 @@ pub record Given : Type 0 where
   pub indices : List ℕ
   pub padding : ℕ
 
-abbrev pub given : Header → Bool → List ℕ → List ℕ → List ℕ → ℕ → Given
-given h heartbeat values lengths indices padding =
+abbrev pub givenMessage : Header → Bool → List ℕ → List ℕ → List ℕ → ℕ → GivenMessage
+givenMessage h heartbeat values lengths indices padding =
     record { header = h; heartbeat = heartbeat; values = values; lengths = lengths; indices = indices; padding = padding }
 
 -- each number given fits its type: of every value of the code this is so, and the writer's contract says it
-pub record FitsGiven (g : Given) : Type 0 where
+pub record FitsGiven (g : GivenMessage) : Type 0 where
   pub header : FitsHeader (g .header)
   pub indices : Numbers (g .indices)
 
@@ -42,25 +43,25 @@ hasFields Kind.Delta heartbeat = true
 hasFields Kind.Event heartbeat = true
 hasFields Kind.KeepAlive heartbeat = false
 
-abbrev pub isRawData : Given → Bool
+abbrev pub isRawData : GivenMessage → Bool
 isRawData g = isRaw (g .header .encoding)
 
-abbrev pub isFielded : Given → Bool
+abbrev pub isFielded : GivenMessage → Bool
 isFielded g = hasFields (g .header .kind) (g .heartbeat)
 
-abbrev pub fieldsOf : Given → List (List ℕ)
-fieldsOf g = valuesOf (g .lengths) (g .values)
+abbrev pub givenFields : GivenMessage → List (List ℕ)
+givenFields g = valuesOf (g .lengths) (g .values)
 
 -- "FieldCount 2 and the fields; RawData has no count"
 abbrev pub countBytes : Bool → Bool → ℕ → List ℕ
 countBytes fielded raw n = cond (fielded && not raw) (leBytes 2 n) []
 
 -- the message
-abbrev pub encode : Given → List ℕ
+abbrev pub encode : GivenMessage → List ℕ
 encode g =
-    headerBytes (g .header)
+    messageHeaderBytes (g .header)
     ++ (countBytes (isFielded g) (isRawData g) (length (g .lengths))
-    ++ (fieldsBytes (isDelta (g .header .kind)) (g .indices) (fieldsOf g) ++ zeros (g .padding)))
+    ++ (fieldsBytes (isDelta (g .header .kind)) (g .indices) (givenFields g) ++ zeros (g .padding)))
 
 -- "RawData .. its fields are the configured ones (none: 8)"
 abbrev pub configuredRule : Bool → ℕ → ℕ
@@ -72,12 +73,12 @@ fieldedRefusal encoding types vs =
     orElse (configuredRule (isRaw encoding) (length types)) (fieldsRefusal encoding types 0 (reached (isRaw encoding) types vs))
 
 -- what reading refuses after the header
-abbrev pub bodyRefusal : List ℕ → Given → ℕ
-bodyRefusal types g = cond (isFielded g) (fieldedRefusal (g .header .encoding) types (fieldsOf g)) 0
+abbrev pub bodyRefusal : List ℕ → GivenMessage → ℕ
+bodyRefusal types g = cond (isFielded g) (fieldedRefusal (g .header .encoding) types (givenFields g)) 0
 
 -- "A writer refuses what reading would refuse, by the same number in reading order"
-abbrev pub readingRefusal : List ℕ → Given → ℕ
-readingRefusal types g =
+abbrev pub messageReadingRefusal : List ℕ → GivenMessage → ℕ
+messageReadingRefusal types g =
     orElse (kindRule (g .header .kind) (g .header .encoding))
     (orElse (picosecondsRefusal (g .header .picoseconds))
     (bodyRefusal types g))
@@ -94,13 +95,14 @@ isKey Kind.KeepAlive = false
 
 -- each of n fields is whole, and their number reads back
 abbrev pub fieldedAgrees : Encoding → List ℕ → ℕ → List (List ℕ) → Bool
-fieldedAgrees encoding types n vs = fieldsWhole encoding types 0 (reached (isRaw encoding) types vs) && countAgrees (isRaw encoding) (length types) n
+fieldedAgrees encoding types n vs =
+    fieldsWhole encoding types 0 (reached (isRaw encoding) types vs) && countAgrees (isRaw encoding) (length types) n
 
 -- what follows the header reads back as it is given: the fields; or there are none, and a heartbeat is not padded
-abbrev pub bodyAgrees : List ℕ → Given → Bool
+abbrev pub bodyAgrees : List ℕ → GivenMessage → Bool
 bodyAgrees types g =
     cond (isFielded g)
-    (fieldedAgrees (g .header .encoding) types (length (g .lengths)) (fieldsOf g))
+    (fieldedAgrees (g .header .encoding) types (length (g .lengths)) (givenFields g))
     (eqb (length (g .lengths)) 0 && (not (isKey (g .header .kind)) || eqb (g .padding) 0))
 
 -- the lengths add up to the values' bytes; a delta has an index for each field, another message none
@@ -108,15 +110,15 @@ abbrev pub listsAgree : Bool → List ℕ → List ℕ → List ℕ → Bool
 listsAgree delta values lengths indices = eqb (total lengths) (length values) && eqb (length indices) (cond delta (length lengths) 0)
 
 -- "then .. what would read back otherwise (as a padded heartbeat), by 6"
-abbrev pub readsBack : List ℕ → Given → Bool
+abbrev pub readsBack : List ℕ → GivenMessage → Bool
 readsBack types g = bodyAgrees types g && listsAgree (isDelta (g .header .kind)) (g .values) (g .lengths) (g .indices)
 
-abbrev pub refusalOf : List ℕ → Given → ℕ
-refusalOf types g = orElse (readingRefusal types g) (cond (readsBack types g) 0 DISAGREE)
+abbrev pub messageRefusal : List ℕ → GivenMessage → ℕ
+messageRefusal types g = orElse (messageReadingRefusal types g) (cond (readsBack types g) 0 DISAGREE)
 
 -- how many bytes the message takes: its header, FieldCount, a delta's indices, the values and the padding
-abbrev pub sizeOf : ℕ → Bool → Bool → ℕ → ℕ → ℕ → ℕ
-sizeOf front counted delta bytes count padding =
+abbrev pub sizeOfGiven : ℕ → Bool → Bool → ℕ → ℕ → ℕ → ℕ
+sizeOfGiven front counted delta bytes count padding =
     front + cond delta (2 + (count + (count + (bytes + padding)))) (cond counted (2 + (bytes + padding)) (bytes + padding))
 
 -- a size, as far as the limits tell it apart
@@ -124,5 +126,5 @@ abbrev pub limited : ℕ → ℕ
 limited n = cond (leb 65536 n) 65536 n
 
 -- what is written of a message given: its bytes, unless it is refused
-abbrev pub messageOutput : List ℕ → Given → Output
-messageOutput types g = unless (refusalOf types g) (encode g)
+abbrev pub messageOutput : List ℕ → GivenMessage → Output
+messageOutput types g = unless (messageRefusal types g) (encode g)

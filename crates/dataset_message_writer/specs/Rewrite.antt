@@ -9,18 +9,19 @@ use Rattle.wire_writer.specs.Writing.{Output, writing, refusing, afterReading}
 use Rattle.dataset_header.specs.declared.header.Header.{Header}
 use Rattle.dataset_header.specs.Flags.{Valid, notValid, valid, isRaw}
 use Rattle.dataset_message.specs.Message.{Message, messageAt}
-use Rattle.dataset_header.specs.Header.{headerBytes}
+use Rattle.dataset_header.specs.Header.{messageHeaderBytes}
 use Rattle.dataset_fields.specs.Fields.{zeros}
 use Rattle.dataset_message_writer.specs.Message.{hasFields, countBytes}
 
 -- the header, FieldCount where there is one, the fields as they stand, and padding
 abbrev pub partsAgain : Header → Bool → ℕ → List ℕ → ℕ → List ℕ
-partsAgain h fielded count fields padding = headerBytes h ++ (countBytes fielded (isRaw (h .encoding)) count ++ (fields ++ zeros padding))
+partsAgain h fielded count fields padding =
+    messageHeaderBytes h ++ (countBytes fielded (isRaw (h .encoding)) count ++ (fields ++ zeros padding))
 
 -- a message that was read: a key frame is a heartbeat where nothing is left after its header
 abbrev pub again : List ℕ → Message → List ℕ
 again s m =
-    partsAgain (m .header) (hasFields (m .header .kind) (leb (length s) (length (headerBytes (m .header))))) (m .cursor .count)
+    partsAgain (m .header) (hasFields (m .header .kind) (leb (length s) (length (messageHeaderBytes (m .header))))) (m .cursor .count)
     (take (m .end - m .cursor .at) (drop (m .cursor .at) s))
     (length s - m .end)
 

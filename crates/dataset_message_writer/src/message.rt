@@ -23,10 +23,11 @@ use wire_writer::writing::six_unless;
 ghost use mathlib.Core.Path.{_≡_};
 ghost use mathlib.Core.Bool.{cond};
 ghost use lib.ListN.{length};
+ghost use Rattle.wire.specs.Lists.{total};
 ghost use Rattle.wire.specs.Constants.{DISAGREE};
 ghost use Rattle.wire_writer.specs.Writing.{orElse, Puts, Writes};
-ghost use Rattle.dataset_fields.specs.Fields.{total, valuesOf, fieldsBytes};
-ghost use Rattle.dataset_message_writer.specs.Message.{given, isKey, fieldedRefusal, fieldedAgrees, configuredRule, countAgrees, listsAgree, encode, bodyRefusal, bodyAgrees, refusalOf, messageOutput, FitsGiven};
+ghost use Rattle.dataset_fields.specs.Fields.{valuesOf, fieldsBytes};
+ghost use Rattle.dataset_message_writer.specs.Message.{givenMessage, isKey, fieldedRefusal, fieldedAgrees, configuredRule, countAgrees, listsAgree, encode, bodyRefusal, bodyAgrees, messageRefusal, messageOutput, FitsGiven};
 
 fn is_key(kind: Kind) -> bool
     ensures { λ r. ⌜ r ≡ isKey kind ⌝ }
@@ -83,7 +84,7 @@ fn body_refusal(
     padding: usize,
 ) -> u8
     ensures { λ r.
-        let g = given header heartbeat (now (values .entry)) (now (lengths .entry)) (now (indices .entry)) padding in
+        let g = givenMessage header heartbeat (now (values .entry)) (now (lengths .entry)) (now (indices .entry)) padding in
         ⌜ r ≡ orElse (bodyRefusal (now (types .entry)) g) (cond (bodyAgrees (now (types .entry)) g) 0 DISAGREE) ⌝ }
 {
     let kind = header.kind;
@@ -115,8 +116,8 @@ fn refusal(
     padding: usize,
 ) -> u8
     ensures { λ r.
-        let g = given header heartbeat (now (values .entry)) (now (lengths .entry)) (now (indices .entry)) padding in
-        ⌜ r ≡ refusalOf (now (types .entry)) g ⌝ }
+        let g = givenMessage header heartbeat (now (values .entry)) (now (lengths .entry)) (now (indices .entry)) padding in
+        ⌜ r ≡ messageRefusal (now (types .entry)) g ⌝ }
 {
     let kind = header.kind;
     let encoding = header.encoding;
@@ -158,7 +159,7 @@ fn put_message(
 ) -> usize
     requires { ⌜ total (now lengths) ≡ length (now values) ⌝ }
     ensures { λ r.
-        let g = given header heartbeat (now (values .entry)) (now (lengths .entry)) (now (indices .entry)) padding in
+        let g = givenMessage header heartbeat (now (values .entry)) (now (lengths .entry)) (now (indices .entry)) padding in
         ⌜ Puts (encode g) (now (out .entry)) 0 (now (out .exit)) r ⌝ }
 {
     let kind = header.kind;
@@ -188,7 +189,7 @@ pub fn write(
     padding: usize,
 ) -> Written
     ensures { λ r.
-        let g = given header heartbeat (now (values .entry)) (now (lengths .entry)) (now (indices .entry)) padding in
+        let g = givenMessage header heartbeat (now (values .entry)) (now (lengths .entry)) (now (indices .entry)) padding in
         ⌜ FitsGiven g × Writes (messageOutput (now (types .entry)) g) (now (out .entry)) (now (out .exit)) r ⌝ }
 {
     let number = refusal(header, heartbeat, values, lengths, indices, types, padding);

@@ -7,8 +7,8 @@ ghost use mathlib.Core.Path.{_≡_};
 ghost use Prim.Native.Nat.{_+_};
 ghost use lib.ListN.{length};
 ghost use Rattle.wire_writer.specs.Writing.{Puts};
-ghost use Rattle.dataset_header.specs.Header.{headerBytes};
-ghost use Rattle.dataset_message_writer.specs.Message.{hasFields, countBytes, sizeOf, limited};
+ghost use Rattle.dataset_header.specs.Header.{messageHeaderBytes};
+ghost use Rattle.dataset_message_writer.specs.Message.{hasFields, countBytes, sizeOfGiven, limited};
 
 // Whether something follows the header of a message of this kind.
 pub fn has_fields(kind: Kind, heartbeat: bool) -> bool
@@ -44,7 +44,7 @@ pub fn size(
     count: usize,
     padding: usize,
 ) -> usize
-    ensures { λ r. ⌜ r ≡ limited (sizeOf (length (headerBytes header)) counted delta bytes count padding) ⌝ }
+    ensures { λ r. ⌜ r ≡ limited (sizeOfGiven (length (messageHeaderBytes header)) counted delta bytes count padding) ⌝ }
 {
     let front = header_size(header);
     let values = plus(bytes, padding);

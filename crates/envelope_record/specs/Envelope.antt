@@ -16,11 +16,12 @@ use Rattle.network_message.specs.declared.payload.Sizes.{Sizes}
 use Rattle.network_message.specs.declared.payload.Payload.{Payload}
 use Rattle.network_message.specs.declared.payload.MessagePlace.{MessagePlace}
 use Rattle.network_message.specs.declared.payload.MessageCursor.{MessageCursor}
+use Rattle.wire.specs.Answer.{bit}
 use Rattle.records.specs.Numbers.{numberAt}
 use Rattle.wire.specs.Number.{leBytes}
 use Rattle.wire_writer.specs.Store.{laid}
 use Rattle.records.specs.Publisher.{publisherNumber, publisherBy}
-use Rattle.records.specs.Items.{has16, value16, has32, value32, hasI64, valueI64, flagNumber, given16, given32, among, isOn, givenI64}
+use Rattle.records.specs.Items.{has16, value16, has32, value32, hasI64, valueI64, flagNumber, given16, given32, isOn, givenI64}
 
 -- "DataSetClassId: 0 absent, else present; its first 8 bytes; its last 8 bytes, each as a number"
 abbrev pub hasClass : ClassId → ℕ
@@ -141,10 +142,10 @@ groupIn s items =
     cond (eqb items 0) GroupHeader.Absent
     (GroupHeader.Is
     (record {
-      «writer_group» = given16 (among 1 items) (numberAt s 7);
-      version = given32 (among 2 items) (numberAt s 8);
-      number = given16 (among 4 items) (numberAt s 9);
-      sequence = given16 (among 8 items) (numberAt s 10);
+      «writer_group» = given16 (bit 0 items) (numberAt s 7);
+      version = given32 (bit 1 items) (numberAt s 8);
+      number = given16 (bit 2 items) (numberAt s 9);
+      sequence = given16 (bit 3 items) (numberAt s 10);
     }))
 
 -- "PayloadHeader: 0 absent, 1 Count and ids, 2 a chunk's writer id (above 2 counts as absent)"; "Count, or the chunk's writer id"

@@ -355,10 +355,10 @@ fn group_in(s: &[u8], items: u64) -> GroupHeader
     if items == 0 {
         return GroupHeader::Absent;
     }
-    let writer_group = given16(items / 1 % 2 == 1, number(s, 7));
-    let version = given32(items / 2 % 2 == 1, number(s, 8));
-    let message_number = given16(items / 4 % 2 == 1, number(s, 9));
-    let sequence = given16(items / 8 % 2 == 1, number(s, 10));
+    let writer_group = given16(items % 2 == 1, number(s, 7));
+    let version = given32((items >> 1) % 2 == 1, number(s, 8));
+    let message_number = given16((items >> 2) % 2 == 1, number(s, 9));
+    let sequence = given16((items >> 3) % 2 == 1, number(s, 10));
     GroupHeader::Is(GroupFields {
         writer_group,
         version,

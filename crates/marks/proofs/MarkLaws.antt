@@ -15,7 +15,7 @@ use Rattle.wire.specs.Answer.{bit}
 use Rattle.marks.specs.Offsets.{inRange}
 use Rattle.marks.specs.Marks.{Layout, withBit, marksFor, capacity, marked, markAt, cleared, markIf, markUpTo, markAll, markedBelow, allMarked}
 use Rattle.marks.specs.Marks.Layout.{byBytes, byBits}
-use Rattle.marks.proofs.Cases.{by-bool, by-eq, by-lt}
+use Rattle.wire.proofs.Cases.{by-bool, by-eq, by-lt}
 use Rattle.marks.proofs.OffsetLaws.{all-every, all-but}
 
 -- ---- bits of a byte, one after another: bit 0 is the remainder by 2, and the others are those of the half

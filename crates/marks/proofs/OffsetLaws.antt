@@ -5,7 +5,7 @@ use mathlib.Core.Bool.{Bool, false, true, or-true, false≢true, _||_, not}
 use native.Mathlib.Omega.{arith}
 use Rattle.marks.specs.Offsets.{anyBelow, allBelow}
 use native.Mathlib.Nat.{not-suc-le-zero}
-use Rattle.marks.proofs.Cases.{by-eq, by-bool}
+use Rattle.wire.proofs.Cases.{by-eq, by-bool}
 use native.Mathlib.Numerals.{add-one}
 use borrow.Author.Tests.{not-true, not-false}
 

@@ -13,8 +13,9 @@ use Rattle.dataset_fields.specs.declared.fields.Cursor.{Cursor}
 use Rattle.dataset_header.specs.declared.header.Header.{Header}
 use Rattle.wire.specs.Number.{leBytes}
 use Rattle.wire_writer.specs.Store.{laid}
+use Rattle.wire.specs.Answer.{bit}
 use Rattle.records.specs.Numbers.{numberAt}
-use Rattle.records.specs.Items.{has16, value16, has32, value32, hasI64, valueI64, flagNumber, given16, given32, givenI64, among}
+use Rattle.records.specs.Items.{has16, value16, has32, value32, hasI64, valueI64, flagNumber, given16, given32, givenI64}
 
 -- "encoding: 0 Variant, 1 RawData, 2 DataValue (above 2 counts as 0)"
 abbrev pub encodingIn : ℕ → Encoding
@@ -78,10 +79,10 @@ headerIn s =
     record {
       encoding = encodingIn (numberAt s 1);
       kind = kindIn (numberAt s 2);
-      sequence = given16 (among 1 (numberAt s 3)) (numberAt s 4);
-      timestamp = givenI64 (among 2 (numberAt s 3)) (numberAt s 5);
-      picoseconds = given16 (among 4 (numberAt s 3)) (numberAt s 6);
-      status = given16 (among 8 (numberAt s 3)) (numberAt s 7);
-      major = given32 (among 16 (numberAt s 3)) (numberAt s 8);
-      minor = given32 (among 32 (numberAt s 3)) (numberAt s 9);
+      sequence = given16 (bit 0 (numberAt s 3)) (numberAt s 4);
+      timestamp = givenI64 (bit 1 (numberAt s 3)) (numberAt s 5);
+      picoseconds = given16 (bit 2 (numberAt s 3)) (numberAt s 6);
+      status = given16 (bit 3 (numberAt s 3)) (numberAt s 7);
+      major = given32 (bit 4 (numberAt s 3)) (numberAt s 8);
+      minor = given32 (bit 5 (numberAt s 3)) (numberAt s 9);
     }

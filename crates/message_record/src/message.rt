@@ -203,12 +203,12 @@ pub fn header_in(s: &[u8]) -> Header
     let items = number(s, 3);
     let encoding = encoding_in(number(s, 1));
     let kind = kind_in(number(s, 2));
-    let sequence = given16(items / 1 % 2 == 1, number(s, 4));
-    let timestamp = given_i64(items / 2 % 2 == 1, number(s, 5));
-    let picoseconds = given16(items / 4 % 2 == 1, number(s, 6));
-    let status = given16(items / 8 % 2 == 1, number(s, 7));
-    let major = given32(items / 16 % 2 == 1, number(s, 8));
-    let minor = given32(items / 32 % 2 == 1, number(s, 9));
+    let sequence = given16(items % 2 == 1, number(s, 4));
+    let timestamp = given_i64((items >> 1) % 2 == 1, number(s, 5));
+    let picoseconds = given16((items >> 2) % 2 == 1, number(s, 6));
+    let status = given16((items >> 3) % 2 == 1, number(s, 7));
+    let major = given32((items >> 4) % 2 == 1, number(s, 8));
+    let minor = given32((items >> 5) % 2 == 1, number(s, 9));
     Header {
         encoding,
         kind,

@@ -10,7 +10,7 @@ use Rattle.network_header.specs.declared.group.GroupFields.{GroupFields}
 use Rattle.network_header.specs.declared.group.GroupHeader.{GroupHeader}
 use Rattle.wire_writer.specs.Writing.{needed, byteBytes, optional16Bytes, optional32Bytes}
 use Rattle.network_header.specs.Flags.{extended2Of, extended1Of, byte0Of, flagBytes}
-use Rattle.network_header.specs.Group.{groupFlagsOf, fieldsBytes, groupBytes}
+use Rattle.network_header.specs.Group.{groupFlagsOf, groupFieldsBytes, groupBytes}
 use Rattle.wire_writer.proofs.Parts.{add-sizes, byte-sized}
 
 pub flags-sized : (f : Flags) {a b : ℕ} → a ≡ needed (extended1Of f) → b ≡ needed (extended2Of f) → 1 + (a + b) ≡ length (flagBytes f)
@@ -19,11 +19,11 @@ flags-sized f p q =
     (add-sizes (byteBytes (extended1Of f)) (byteBytes (extended2Of f)) (p ∙ byte-sized (extended1Of f)) (q ∙ byte-sized (extended2Of f)))
 
 pub fields-sized : (g : GroupFields) {a b c d : ℕ} → a ≡ length (optional16Bytes (g .«writer_group»)) → b ≡ length (optional32Bytes (g .version))
-    → c ≡ length (optional16Bytes (g .number)) → d ≡ length (optional16Bytes (g .sequence)) → a + (b + (c + d)) ≡ length (fieldsBytes g)
+    → c ≡ length (optional16Bytes (g .number)) → d ≡ length (optional16Bytes (g .sequence)) → a + (b + (c + d)) ≡ length (groupFieldsBytes g)
 fields-sized g p q r s =
     add-sizes (optional16Bytes (g .«writer_group»)) (optional32Bytes (g .version) ++ (optional16Bytes (g .number) ++ optional16Bytes (g .sequence))) p
     (add-sizes (optional32Bytes (g .version)) (optional16Bytes (g .number) ++ optional16Bytes (g .sequence)) q
     (add-sizes (optional16Bytes (g .number)) (optional16Bytes (g .sequence)) r s))
 
-pub group-sized : (g : GroupFields) {a : ℕ} → a ≡ length (fieldsBytes g) → 1 + a ≡ length (groupBytes (GroupHeader.Is g))
-group-sized g p = add-sizes (leBytes 1 (groupFlagsOf g)) (fieldsBytes g) refl p
+pub group-sized : (g : GroupFields) {a : ℕ} → a ≡ length (groupFieldsBytes g) → 1 + a ≡ length (groupBytes (GroupHeader.Is g))
+group-sized g p = add-sizes (leBytes 1 (groupFlagsOf g)) (groupFieldsBytes g) refl p

@@ -10,7 +10,7 @@ use mathlib.Core.List.{List, _++_}
 use Rattle.wire.specs.Number.{leBytes}
 use Rattle.network_header.specs.declared.envelope.Envelope.{Envelope}
 use Rattle.wire_writer.specs.Writing.{num, needed, byteBytes, on16, onI64}
-use Rattle.publisher_id.specs.Publisher.{publisherOn, kindOf}
+use Rattle.publisher_id.specs.Publisher.{publisherOn, idTypeOf}
 use Rattle.network_header.specs.Group.{groupOn}
 use Rattle.network_header.specs.Header.{classOn, payloadHeaderOn, promotedOn}
 
@@ -28,7 +28,11 @@ extended1Rule publisher e =
 
 -- ExtendedFlags2: "0 is 3. Bits 5-7 set, or type (bits 2-4) 3 to 7, is 3; type 1 or 2 is 4"
 abbrev pub extended2Rule : ℕ → ℕ
-extended2Rule e = cond (eqb e 0) NOT_PERMITTED (cond (leb 32 e) NOT_PERMITTED (cond (leb 3 (bits 2 3 e)) NOT_PERMITTED (cond (leb 1 (bits 2 3 e)) NOT_TAKEN 0)))
+extended2Rule e =
+    cond (eqb e 0) NOT_PERMITTED
+    (cond (leb 32 e) NOT_PERMITTED
+    (cond (leb 3 (bits 2 3 e)) NOT_PERMITTED
+    (cond (leb 1 (bits 2 3 e)) NOT_TAKEN 0)))
 
 -- what the three bytes say: a byte that is not there counts as 0
 abbrev pub flagsOf : ℕ → ℕ → ℕ → Flags
@@ -63,7 +67,7 @@ flagsFor x =
       publisher = publisherOn (x .publisher);
       group = groupOn (x .group);
       «payload_header» = payloadHeaderOn (x .«payload_header»);
-      kind = kindOf (x .publisher);
+      kind = idTypeOf (x .publisher);
       «class_id» = classOn (x .«class_id»);
       timestamp = onI64 (x .timestamp);
       picoseconds = on16 (x .picoseconds);

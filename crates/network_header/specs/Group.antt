@@ -17,8 +17,8 @@ use Rattle.wire_writer.specs.Writing.{num, on16, on32, optional16Bytes, optiona
 abbrev pub numberRule : ℕ → ℕ
 numberRule v = cond (eqb v 0) NOT_PERMITTED 0
 
-abbrev pub numberAt : Bool → Reader Optional16
-numberAt on = whenOn on Optional16.Absent (ruled 2 numberRule >>= λ v. pure (Optional16.Is v))
+abbrev pub messageNumberAt : Bool → Reader Optional16
+messageNumberAt on = whenOn on Optional16.Absent (ruled 2 numberRule >>= λ v. pure (Optional16.Is v))
 
 -- "GroupFlags (bits 4-7 set is 3)"
 abbrev pub groupFlagsRule : ℕ → ℕ
@@ -29,7 +29,7 @@ abbrev pub groupFieldsAt : ℕ → Reader GroupHeader
 groupFieldsAt flags = do
   w ← optional16 (bit 0 flags)
   v ← optional32 (bit 1 flags)
-  n ← numberAt (bit 2 flags)
+  n ← messageNumberAt (bit 2 flags)
   q ← optional16 (bit 3 flags)
   pure (GroupHeader.Is (record { «writer_group» = w; version = v; number = n; sequence = q }))
 
@@ -49,12 +49,13 @@ abbrev pub groupFlagsOf : GroupFields → ℕ
 groupFlagsOf g =
     num (on16 (g .«writer_group»)) + (2 * num (on32 (g .version)) + (4 * num (on16 (g .number)) + 8 * num (on16 (g .sequence))))
 
-abbrev pub fieldsBytes : GroupFields → List ℕ
-fieldsBytes g = optional16Bytes (g .«writer_group») ++ (optional32Bytes (g .version) ++ (optional16Bytes (g .number) ++ optional16Bytes (g .sequence)))
+abbrev pub groupFieldsBytes : GroupFields → List ℕ
+groupFieldsBytes g =
+    optional16Bytes (g .«writer_group») ++ (optional32Bytes (g .version) ++ (optional16Bytes (g .number) ++ optional16Bytes (g .sequence)))
 
 abbrev pub groupBytes : GroupHeader → List ℕ
 groupBytes GroupHeader.Absent = []
-groupBytes (GroupHeader.Is g) = leBytes 1 (groupFlagsOf g) ++ fieldsBytes g
+groupBytes (GroupHeader.Is g) = leBytes 1 (groupFlagsOf g) ++ groupFieldsBytes g
 
 -- what reading refuses: "NetworkMessageNumber 2 (value 0 is 3)"
 abbrev pub numberRefusal : Optional16 → ℕ

@@ -106,7 +106,8 @@ promotedRefusal (Promoted.Size n) messages = sizeRule messages n
 -- many as it says, "over 255 messages" being 6, and none for a chunk, whose own id it holds; chunk and PayloadHeader go together
 abbrev pub idsShape : Bool → PayloadHeader → List ℕ → List ℕ → ℕ
 idsShape chunk PayloadHeader.Absent ids configured = cond (sameNumbers ids (take MOST_WRITERS configured)) 0 DISAGREE
-idsShape chunk (PayloadHeader.Ids n) ids configured = cond chunk DISAGREE (cond (leb 256 n) DISAGREE (cond (eqb (length ids) (2 * n)) 0 DISAGREE))
+idsShape chunk (PayloadHeader.Ids n) ids configured =
+    cond chunk DISAGREE (cond (leb 256 n) DISAGREE (cond (eqb (length ids) (2 * n)) 0 DISAGREE))
 idsShape chunk (PayloadHeader.Chunk w) ids configured = cond chunk (unused (length ids)) DISAGREE
 
 -- promoted fields: as many bytes as they say, and a size of 2 bytes

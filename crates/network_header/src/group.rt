@@ -19,7 +19,7 @@ use wire_writer::writing::size16;
 use wire_writer::writing::size32;
 ghost use mathlib.Core.Path.{_≡_};
 ghost use Rattle.wire.specs.Optional.{answerOptional16};
-ghost use Rattle.network_header.specs.Group.{numberAt, groupFieldsAt, groupAt, answerGroup, numberRule, groupOn, groupFlagsOf, fieldsBytes, groupBytes, numberRefusal, groupRefusal};
+ghost use Rattle.network_header.specs.Group.{messageNumberAt, groupFieldsAt, groupAt, answerGroup, numberRule, groupOn, groupFlagsOf, groupFieldsBytes, groupBytes, numberRefusal, groupRefusal};
 ghost use Prim.Native.Nat.{_≤_};
 ghost use lib.ListN.{length};
 ghost use Rattle.wire_writer.specs.Writing.{Puts};
@@ -56,7 +56,7 @@ fn number_rule(v: u16) -> u8
 
 // NetworkMessageNumber, where it is there.
 fn message_number(s: &[u8], on: bool, at: usize) -> Optional16Read
-    ensures { λ r. ⌜ answerOptional16 r ≡ numberAt on (now (s .entry)) at ⌝ }
+    ensures { λ r. ⌜ answerOptional16 r ≡ messageNumberAt on (now (s .entry)) at ⌝ }
 {
     if !on {
         return Optional16Read::Is(Optional16::Absent, at);
@@ -143,7 +143,7 @@ fn group_flags(g: GroupFields) -> u8
 }
 
 fn fields_size(g: GroupFields) -> usize
-    ensures { λ r. ⌜ (r ≡ length (fieldsBytes g)) × (r ≤ 10) ⌝ }
+    ensures { λ r. ⌜ (r ≡ length (groupFieldsBytes g)) × (r ≤ 10) ⌝ }
 {
     let writer_group = g.writer_group;
     let version = g.version;
@@ -163,7 +163,7 @@ pub fn group_size(x: GroupHeader) -> usize
 }
 
 fn put_fields(out: &mut [u8], at: usize, g: GroupFields) -> usize
-    ensures { λ r. ⌜ Puts (fieldsBytes g) (now (out .entry)) at (now (out .exit)) r ⌝ }
+    ensures { λ r. ⌜ Puts (groupFieldsBytes g) (now (out .entry)) at (now (out .exit)) r ⌝ }
 {
     let writer_group = g.writer_group;
     let version = g.version;

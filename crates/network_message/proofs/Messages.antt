@@ -10,7 +10,8 @@ use native.Mathlib.Omega.{arith}
 use lib.Dec.{leb}
 use lib.ListN.{length, take, getD}
 use borrow.Author.Tests.{le-leb, lt-leb, leb-true, leb-false}
-use Rattle.network_message.specs.Payload.{total, sizeOf, messageAt, passAt}
+use Rattle.wire.specs.Lists.{total}
+use Rattle.network_message.specs.Payload.{sizeOfMessage, placeOfMessage, passAt}
 use Rattle.network_message.specs.declared.payload.Payload.{Payload}
 use Rattle.network_message.specs.declared.payload.MessagePlace.{MessagePlace}
 use Rattle.wire.specs.Answer.{got, refused, run}
@@ -23,11 +24,11 @@ module _ (p : Payload) (sizes s : List ℕ) (at : ℕ) where
   pass-none = refl
 
   -- one message more is passed
-  pub pass-step : (i q n : ℕ) (m : MessagePlace) → passAt p sizes i s at ≡ got tt q → messageAt p sizes i s q ≡ got m n → passAt p sizes (i + 1) s at ≡ got tt n
+  pub pass-step : (i q n : ℕ) (m : MessagePlace) → passAt p sizes i s at ≡ got tt q → placeOfMessage p sizes i s q ≡ got m n → passAt p sizes (i + 1) s at ≡ got tt n
   unfolding passAt
   pass-step i q n m e f = rw (add-one, e, f)
 
-  step-refused : (i q n place : ℕ) → passAt p sizes i s at ≡ got tt q → messageAt p sizes i s q ≡ refused n place → passAt p sizes (suc i) s at ≡ refused n place
+  step-refused : (i q n place : ℕ) → passAt p sizes i s at ≡ got tt q → placeOfMessage p sizes i s q ≡ refused n place → passAt p sizes (suc i) s at ≡ refused n place
   unfolding passAt
   step-refused i q n place e f = rw (e, f)
 
@@ -36,7 +37,7 @@ module _ (p : Payload) (sizes s : List ℕ) (at : ℕ) where
   stays-refused k n place e = rw e
 
   -- a message that is refused refuses every later one
-  pub pass-stop : (i k q n place : ℕ) → i < k → passAt p sizes i s at ≡ got tt q → messageAt p sizes i s q ≡ refused n place → passAt p sizes k s at ≡ refused n place
+  pub pass-stop : (i k q n place : ℕ) → i < k → passAt p sizes i s at ≡ got tt q → placeOfMessage p sizes i s q ≡ refused n place → passAt p sizes k s at ≡ refused n place
   pass-stop i zero q n place h e f = absurd (not-suc-le-zero h)
   pass-stop i (suc k) q n place h e f = go (λ l. pass-stop i k q n place l e f) (leb k i) refl
     where
@@ -48,7 +49,7 @@ module _ (p : Payload) (sizes s : List ℕ) (at : ℕ) where
       go ih false t = stays-refused k n place (ih (leb-false k i t))
 
 -- an accepted message is one of the payload's
-pub message-counted : (p : Payload) (sizes : List ℕ) (k : ℕ) (s : List ℕ) (at : ℕ) (m : MessagePlace) (n : ℕ) → messageAt p sizes k s at ≡ got m n → k < p .count
+pub message-counted : (p : Payload) (sizes : List ℕ) (k : ℕ) (s : List ℕ) (at : ℕ) (m : MessagePlace) (n : ℕ) → placeOfMessage p sizes k s at ≡ got m n → k < p .count
 message-counted p sizes k s at m n e = go (leb (p .count) k) refl
   where
     go : (b : Bool) → leb (p .count) k ≡ b → k < p .count
@@ -81,11 +82,11 @@ pub record Tiles (p : Payload) (sizes s zs : List ℕ) : Type 0 where
   pub many : length zs ≡ p .count
   pub whole : p .first + total zs ≡ length s
   pub some : (k : ℕ) → k < length zs → 0 < getD zs k 0
-  pub here : (k : ℕ) → k < length zs → sizeOf (p .sizes) sizes k s (p .first + before zs k) ≡ getD zs k 0
+  pub here : (k : ℕ) → k < length zs → sizeOfMessage (p .sizes) sizes k s (p .first + before zs k) ≡ getD zs k 0
 
 module _ {p : Payload} {sizes s zs : List ℕ} (t : Tiles p sizes s zs) where
   -- message k, where those before it end
-  pub tile : (k : ℕ) → k < length zs → messageAt p sizes k s (p .first + before zs k) ≡ got (place k (p .first + before zs k) (getD zs k 0)) (p .first + before zs (suc k))
+  pub tile : (k : ℕ) → k < length zs → placeOfMessage p sizes k s (p .first + before zs k) ≡ got (place k (p .first + before zs k) (getD zs k 0)) (p .first + before zs (suc k))
   tile k h =
       let c : k < p .count = omega (arith, t .many) in
       let b = before-suc zs k h in

@@ -10,7 +10,8 @@ use native.Mathlib.Omega.{arith}
 use lib.Dec.{ltb}
 use lib.ListN.{length, take, getD}
 use lib.Seq.{take-suc}
-use Rattle.network_message.specs.Payload.{total, positive, listed}
+use Rattle.wire.specs.Lists.{total}
+use Rattle.network_message.specs.Payload.{allPositive, listed}
 use Rattle.wire.specs.Number.{le}
 
 -- the sizes of a list on the wire, one after the other
@@ -26,9 +27,9 @@ total-append : (xs ys : List ℕ) → total (xs ++ ys) ≡ total xs + total ys
 total-append [] ys = omega arith
 total-append (x ∷ xs) ys = omega (arith, total-append xs ys)
 
-positive-append : (xs ys : List ℕ) → positive (xs ++ ys) ≡ (positive xs && positive ys)
+positive-append : (xs ys : List ℕ) → allPositive (xs ++ ys) ≡ (allPositive xs && allPositive ys)
 positive-append [] ys = refl
-positive-append (x ∷ xs) ys = ap (λ (b : Bool). ltb 0 x && b) (positive-append xs ys) ∙ sym (and-assoc (ltb 0 x) (positive xs) (positive ys))
+positive-append (x ∷ xs) ys = ap (λ (b : Bool). ltb 0 x && b) (positive-append xs ys) ∙ sym (and-assoc (ltb 0 x) (allPositive xs) (allPositive ys))
 
 -- one more of the first sizes of a list
 module _ (xs : List ℕ) (i : ℕ) (h : i < length xs) where
@@ -38,5 +39,5 @@ module _ (xs : List ℕ) (i : ℕ) (h : i < length xs) where
   pub total-next : total (take (i + 1) xs) ≡ total (take i xs) + getD xs i 0
   total-next = ap total next ∙ total-append (take i xs) (getD xs i 0 ∷ []) ∙ omega arith
 
-  pub positive-next : positive (take (i + 1) xs) ≡ (positive (take i xs) && ltb 0 (getD xs i 0))
-  positive-next = ap positive next ∙ positive-append (take i xs) (getD xs i 0 ∷ []) ∙ ap (λ (b : Bool). positive (take i xs) && b) (and-true (ltb 0 (getD xs i 0)))
+  pub positive-next : allPositive (take (i + 1) xs) ≡ (allPositive (take i xs) && ltb 0 (getD xs i 0))
+  positive-next = ap allPositive next ∙ positive-append (take i xs) (getD xs i 0 ∷ []) ∙ ap (λ (b : Bool). allPositive (take i xs) && b) (and-true (ltb 0 (getD xs i 0)))

@@ -24,7 +24,7 @@ use Rattle.publisher_id.specs.Publisher.{publisherAt}
 use Rattle.network_header.specs.Group.{groupAt}
 use Rattle.network_header.specs.Header.{classAt, payloadHeaderAt, promotedAt}
 use Rattle.network_header.specs.Numbers.{configuredSizes}
-use Rattle.network_message.specs.Payload.{payloadAt, nthAt}
+use Rattle.network_message.specs.Payload.{payloadAt, nthPlaceAt}
 
 -- what is read: the envelope, where its variable parts end, and where its messages stand
 pub record Header : Type 0 where
@@ -76,29 +76,32 @@ envelopeOf f i p t =
     }
 
 -- what stands between the flags and the payload
-abbrev pub headerAt : Flags → ℕ → Reader Header
-headerAt f configured = do
+abbrev pub envelopeAt : Flags → ℕ → Reader Header
+envelopeAt f configured = do
   i ← identityAt f
   p ← payloadHeaderAt (f .«payload_header») (f .chunk)
   e ← here
   t ← timesAt f (messagesOf (f .chunk) p configured)
   z ← here
-  pure (record { envelope = envelopeOf f i p t; places = record { «publisher_end» = i .«publisher_end»; «payload_header_end» = e; payload = z } })
+  pure (record {
+    envelope = envelopeOf f i p t;
+    places = record { «publisher_end» = i .«publisher_end»; «payload_header_end» = e; payload = z };
+  })
 
 -- and the payload after it, under the sizes of the configured writers
-abbrev pub bodyAt : Flags → List ℕ → Reader NetworkMessage
-bodyAt f sizes = do
-  h ← headerAt f (length (configuredSizes sizes))
+abbrev pub envelopeBodyAt : Flags → List ℕ → Reader NetworkMessage
+envelopeBodyAt f sizes = do
+  h ← envelopeAt f (length (configuredSizes sizes))
   p ← payloadAt (h .envelope .chunk) (h .envelope .«payload_header») sizes
   pure (record { envelope = h .envelope; places = h .places; payload = p })
 
 -- "A datagram above 65,535 bytes is 10 before all else."
 abbrev pub networkMessageAt : List ℕ → List ℕ → Answer NetworkMessage
-networkMessageAt sizes s = cond (ltb MOST_DATAGRAM (length s)) (refused OVER_LIMIT 0) ((flagsAt >>= λ f. bodyAt f sizes) s 0)
+networkMessageAt sizes s = cond (ltb MOST_DATAGRAM (length s)) (refused OVER_LIMIT 0) ((flagsAt >>= λ f. envelopeBodyAt f sizes) s 0)
 
 -- where message k of a datagram stands: the datagram's own refusal first, then 10 for a k past the last
 abbrev pub messagePlaceAt : List ℕ → ℕ → List ℕ → Answer MessagePlace
-messagePlaceAt sizes k s = andThen (networkMessageAt sizes s) (λ m first. nthAt (m .payload) sizes k s (m .payload .first))
+messagePlaceAt sizes k s = andThen (networkMessageAt sizes s) (λ m first. nthPlaceAt (m .payload) sizes k s (m .payload .first))
 
 -- "Each data set message is handed on as its own part of the datagram": nothing where it is refused
 abbrev pub messageBytes : Answer MessagePlace → List ℕ → List ℕ
@@ -115,9 +118,9 @@ abbrev pub answerTimes : TimesRead → Answer Times
 answerTimes (TimesRead.Is v next) = got v next
 answerTimes (TimesRead.Refused n place) = refused n place
 
-abbrev pub answerHeader : HeaderRead → Answer Header
-answerHeader (HeaderRead.Is e p) = got (record { envelope = e; places = p }) (p .payload)
-answerHeader (HeaderRead.Refused n place) = refused n place
+abbrev pub answerEnvelope : HeaderRead → Answer Header
+answerEnvelope (HeaderRead.Is e p) = got (record { envelope = e; places = p }) (p .payload)
+answerEnvelope (HeaderRead.Refused n place) = refused n place
 
 abbrev pub answerNetworkMessage : NetworkMessageRead → Answer NetworkMessage
 answerNetworkMessage (NetworkMessageRead.Is e p m) = got (record { envelope = e; places = p; payload = m }) (m .first)

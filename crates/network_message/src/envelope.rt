@@ -36,8 +36,8 @@ use wire::optional::read_optional_i64;
 use wire::optional::read_picoseconds;
 ghost use mathlib.Core.Path.{_≡_};
 ghost use Rattle.wire.specs.Answer.{got, andThen};
-ghost use Rattle.network_message.specs.Envelope.{identityAt, timesAt, messagesOf, headerAt, envelopeOf, bodyAt, networkMessageAt, messagePlaceAt, messageBytes, answerIdentity, answerTimes, answerHeader, answerNetworkMessage};
-ghost use Rattle.network_message.specs.Payload.{isSingle, restAt, payloadAt, answerMessage};
+ghost use Rattle.network_message.specs.Envelope.{identityAt, timesAt, messagesOf, envelopeAt, envelopeOf, envelopeBodyAt, networkMessageAt, messagePlaceAt, messageBytes, answerIdentity, answerTimes, answerEnvelope, answerNetworkMessage};
+ghost use Rattle.network_message.specs.Payload.{isSingle, restOnlyAt, payloadAt, answerPlace};
 
 // PublisherId, DataSetClassId and group header, and where the PublisherId ends.
 pub struct Identity {
@@ -168,7 +168,7 @@ fn envelope_of(flags: Flags, i: Identity, header: PayloadHeader, t: Times) -> En
 }
 
 fn read_header(s: &[u8], flags: Flags, configured: usize, at: usize) -> HeaderRead
-    ensures { λ r. ⌜ answerHeader r ≡ headerAt flags configured (now (s .entry)) at ⌝ }
+    ensures { λ r. ⌜ answerEnvelope r ≡ envelopeAt flags configured (now (s .entry)) at ⌝ }
 {
     match read_identity(s, flags, at) {
         IdentityRead::Refused(number, place) => HeaderRead::Refused(number, place),
@@ -213,7 +213,7 @@ fn is_single(header: PayloadHeader) -> bool
 // A NetworkMessage whose payload is the rest.
 fn with_rest(s: &[u8], envelope: Envelope, places: Places) -> NetworkMessageRead
     ensures { λ r.
-        ⌜ answerNetworkMessage r ≡ andThen (restAt (now (s .entry)) (places .payload))
+        ⌜ answerNetworkMessage r ≡ andThen (restOnlyAt (now (s .entry)) (places .payload))
         (λ p next. got (record { envelope = envelope; places = places; payload = p }) next) ⌝ }
 {
     match rest(s, places.payload) {
@@ -240,7 +240,7 @@ fn with_payload(s: &[u8], envelope: Envelope, places: Places, sizes: &[u16]) -> 
 }
 
 fn read_body(s: &[u8], flags: Flags, sizes: &[u16], at: usize) -> NetworkMessageRead
-    ensures { λ r. ⌜ answerNetworkMessage r ≡ bodyAt flags (now (sizes .entry)) (now (s .entry)) at ⌝ }
+    ensures { λ r. ⌜ answerNetworkMessage r ≡ envelopeBodyAt flags (now (sizes .entry)) (now (s .entry)) at ⌝ }
 {
     match read_header(s, flags, writers(sizes), at) {
         HeaderRead::Refused(number, place) => NetworkMessageRead::Refused(number, place),
@@ -263,7 +263,7 @@ pub fn read(s: &[u8], sizes: &[u16]) -> NetworkMessageRead
 
 // Where message k of a datagram stands.
 pub fn message_place(s: &[u8], sizes: &[u16], k: usize) -> MessageRead
-    ensures { λ r. ⌜ answerMessage r ≡ messagePlaceAt (now (sizes .entry)) k (now (s .entry)) ⌝ }
+    ensures { λ r. ⌜ answerPlace r ≡ messagePlaceAt (now (sizes .entry)) k (now (s .entry)) ⌝ }
 {
     match read(s, sizes) {
         NetworkMessageRead::Refused(number, place) => MessageRead::Refused(number, place),

@@ -11,9 +11,10 @@ use wire::constants::OVER_LIMIT;
 ghost use mathlib.Core.Path.{_≡_};
 ghost use Prim.Native.Nat.{_+_, _*_, _≤_};
 ghost use lib.ListN.{length, take, getD};
+ghost use Rattle.wire.specs.Lists.{total};
 ghost use Rattle.wire.specs.Number.{le};
 ghost use Rattle.wire.specs.Answer.{item};
-ghost use Rattle.network_message.specs.Payload.{total, positive, listed, restAt, listedAt, sizedAt, configuredAt, payloadAt, sizeOf, valueOr0, messageAt, nthAt, stepAt, answerPayload, answerStep, answerMessage};
+ghost use Rattle.network_message.specs.Payload.{allPositive, listed, restOnlyAt, listedAt, sizedAt, configuredAt, payloadAt, sizeOfMessage, valueOr0, placeOfMessage, nthPlaceAt, placeStepAt, answerMessages, answerPlaceStep, answerPlace};
 ghost use Rattle.network_header.specs.Numbers.{configuredSizes};
 ghost use Rattle.wire.specs.Constants.{MOST_WRITERS};
 
@@ -48,7 +49,7 @@ pub fn tally_listed(s: &[u8], at: usize, n: usize) -> Tally
     requires { ⌜ (at + 2 * n ≤ length (now s)) × (n ≤ 255) ⌝ }
     ensures { λ r.
         let sizes = listed n (now (s .entry)) at in
-        ⌜ (r .total ≡ total sizes) × (r .positive ≡ positive sizes) × (r .total ≤ 65535 * n) ⌝ }
+        ⌜ (r .total ≡ total sizes) × (r .positive ≡ allPositive sizes) × (r .total ≤ 65535 * n) ⌝ }
 {
     let mut p = at;
     let mut left = n;
@@ -72,7 +73,7 @@ fn tally_configured(sizes: &[u16], n: usize) -> Tally
     requires { ⌜ (n ≤ length (now sizes)) × (n ≤ MOST_WRITERS) ⌝ }
     ensures { λ r.
         let counted = take n (now (sizes .entry)) in
-        ⌜ (r .total ≡ total counted) × (r .positive ≡ positive counted) × (r .total ≤ 65535 * n) ⌝ }
+        ⌜ (r .total ≡ total counted) × (r .positive ≡ allPositive counted) × (r .total ≤ 65535 * n) ⌝ }
 {
     let mut i = 0;
     let mut sum = 0;
@@ -91,7 +92,7 @@ fn tally_configured(sizes: &[u16], n: usize) -> Tally
 
 // One message that takes the rest; 1 where nothing is left.
 pub(crate) fn rest(s: &[u8], at: usize) -> PayloadRead
-    ensures { λ r. ⌜ answerPayload r ≡ restAt (now (s .entry)) at ⌝ }
+    ensures { λ r. ⌜ answerMessages r ≡ restOnlyAt (now (s .entry)) at ⌝ }
 {
     if at < s.len() {
         return PayloadRead::Is(Payload {
@@ -104,7 +105,7 @@ pub(crate) fn rest(s: &[u8], at: usize) -> PayloadRead
 }
 
 fn listed_sizes(s: &[u8], n: u8, at: usize) -> PayloadRead
-    ensures { λ r. ⌜ answerPayload r ≡ listedAt n (now (s .entry)) at ⌝ }
+    ensures { λ r. ⌜ answerMessages r ≡ listedAt n (now (s .entry)) at ⌝ }
 {
     let count = n as usize;
     if !wire::has(s.len(), at, 2 * count) {
@@ -127,7 +128,7 @@ fn listed_sizes(s: &[u8], n: u8, at: usize) -> PayloadRead
 
 // Configured sizes of this total that are all given, of n writers.
 fn sized(s: &[u8], n: usize, total: usize, at: usize) -> PayloadRead
-    ensures { λ r. ⌜ answerPayload r ≡ sizedAt n total (now (s .entry)) at ⌝ }
+    ensures { λ r. ⌜ answerMessages r ≡ sizedAt n total (now (s .entry)) at ⌝ }
 {
     if !wire::has(s.len(), at, total) {
         return PayloadRead::Refused(DISAGREE, at);
@@ -143,7 +144,7 @@ fn sized(s: &[u8], n: usize, total: usize, at: usize) -> PayloadRead
 }
 
 fn configured_sizes(s: &[u8], sizes: &[u16], at: usize) -> PayloadRead
-    ensures { λ r. ⌜ answerPayload r ≡ configuredAt (configuredSizes (now (sizes .entry))) (now (s .entry)) at ⌝ }
+    ensures { λ r. ⌜ answerMessages r ≡ configuredAt (configuredSizes (now (sizes .entry))) (now (s .entry)) at ⌝ }
 {
     let n = writers(sizes);
     if n == 0 {
@@ -167,7 +168,7 @@ pub fn read_payload(
     sizes: &[u16],
     at: usize,
 ) -> PayloadRead
-    ensures { λ r. ⌜ answerPayload r ≡ payloadAt chunk header (now (sizes .entry)) (now (s .entry)) at ⌝ }
+    ensures { λ r. ⌜ answerMessages r ≡ payloadAt chunk header (now (sizes .entry)) (now (s .entry)) at ⌝ }
 {
     match header {
         PayloadHeader::Absent => {
@@ -239,7 +240,7 @@ fn configured_size(sizes: &[u16], k: usize) -> usize
 }
 
 fn message_size(s: &[u8], kind: Sizes, sizes: &[u16], k: usize, at: usize) -> usize
-    ensures { λ r. ⌜ r ≡ sizeOf kind (now (sizes .entry)) k (now (s .entry)) at ⌝ }
+    ensures { λ r. ⌜ r ≡ sizeOfMessage kind (now (sizes .entry)) k (now (s .entry)) at ⌝ }
 {
     match kind {
         Sizes::Rest => wire::left(s.len(), at),
@@ -250,7 +251,7 @@ fn message_size(s: &[u8], kind: Sizes, sizes: &[u16], k: usize, at: usize) -> us
 
 // Message k of a payload, which starts at a position.
 fn message_at(s: &[u8], p: Payload, sizes: &[u16], k: usize, at: usize) -> MessageRead
-    ensures { λ r. ⌜ answerMessage r ≡ messageAt p (now (sizes .entry)) k (now (s .entry)) at ⌝ }
+    ensures { λ r. ⌜ answerPlace r ≡ placeOfMessage p (now (sizes .entry)) k (now (s .entry)) at ⌝ }
 {
     if p.count <= k {
         return MessageRead::Refused(OVER_LIMIT, 0);
@@ -273,7 +274,7 @@ fn message_at(s: &[u8], p: Payload, sizes: &[u16], k: usize, at: usize) -> Messa
 impl MessageCursor {
     // The message that the cursor stands before, and the cursor before the next one.
     pub fn step(self, s: &[u8], p: Payload, sizes: &[u16]) -> MessageStep
-        ensures { λ r. ⌜ answerStep r ≡ stepAt p (now (sizes .entry)) self (now (s .entry)) ⌝ }
+        ensures { λ r. ⌜ answerPlaceStep r ≡ placeStepAt p (now (sizes .entry)) self (now (s .entry)) ⌝ }
     {
         let k = self.index;
         match message_at(s, p, sizes, k, self.at) {
@@ -291,7 +292,7 @@ impl MessageCursor {
 
 // Message k of a payload, found from the start of the first.
 pub fn nth(s: &[u8], p: Payload, sizes: &[u16], k: usize) -> MessageRead
-    ensures { λ r. ⌜ answerMessage r ≡ nthAt p (now (sizes .entry)) k (now (s .entry)) (p .first) ⌝ }
+    ensures { λ r. ⌜ answerPlace r ≡ nthPlaceAt p (now (sizes .entry)) k (now (s .entry)) (p .first) ⌝ }
 {
     let mut at = p.first;
     let mut i = 0;

@@ -19,12 +19,12 @@ use Rattle.network_header.specs.declared.envelope.Places.{Places}
 use Rattle.network_message.specs.Envelope.{NetworkMessage, networkMessageAt}
 use Rattle.wire_writer.specs.declared.writing.Written.{Written}
 use Rattle.wire_writer.specs.Writing.{Writes, writing}
-use Rattle.network_message_writer.specs.Envelope.{headerBytes, before, textOf, idsOf, promotedOf, againOf}
+use Rattle.network_message_writer.specs.Envelope.{envelopeBytes, bytesBefore, textOf, idsOf, promotedOf, againOf}
 
 pub drop-short : (s : List ℕ) (at k : ℕ) → length s ≤ k → length (drop at s) ≤ k
 drop-short s at k h = omega (arith, length-drop at s)
 
-before-short : (s : List ℕ) (end n k : ℕ) → length s ≤ k → length (before s end n) ≤ k
+before-short : (s : List ℕ) (end n k : ℕ) → length s ≤ k → length (bytesBefore s end n) ≤ k
 before-short s end n k h = omega (arith, length-take n (drop (end - n) s), min-le-right n (length (drop (end - n) s)), drop-short s (end - n) k h)
 
 pub text-within : (s : List ℕ) (p : PublisherId) (end k : ℕ) → length s ≤ k → length (textOf s p end) ≤ k
@@ -56,7 +56,7 @@ accepted-short sizes s m n e = go (ltb 65535 (length s)) refl
 pub again-writes : (s : List ℕ) (x : Envelope) (places : Places) (out : List ℕ) (w : Written) (exit text ids promoted payload : List ℕ)
     → text ≡ textOf s (x .publisher) (places .«publisher_end») → ids ≡ idsOf s (x .«payload_header») (places .«payload_header_end»)
     → promoted ≡ promotedOf s (x .promoted) (places .payload) → payload ≡ drop (places .payload) s
-    → Writes (writing (headerBytes text ids promoted x ++ payload)) out exit w → Writes (writing (againOf s x places)) out exit w
+    → Writes (writing (envelopeBytes text ids promoted x ++ payload)) out exit w → Writes (writing (againOf s x places)) out exit w
 again-writes s x places out w exit text ids promoted payload a b c d h =
-    let e : headerBytes text ids promoted x ++ payload ≡ againOf s x places = rw (a, b, c, d) in
+    let e : envelopeBytes text ids promoted x ++ payload ≡ againOf s x places = rw (a, b, c, d) in
     subst (λ (l : List ℕ). Writes (writing l) out exit w) e h

@@ -15,7 +15,7 @@ use Rattle.network_header.specs.declared.header.PayloadHeader.{PayloadHeader}
 use Rattle.network_header.specs.declared.header.Promoted.{Promoted}
 use Rattle.network_header.specs.declared.envelope.Envelope.{Envelope}
 use Rattle.network_header.specs.Numbers.{configuredSizes, agree, sameNumbers}
-use Rattle.network_message.specs.Payload.{restAt}
+use Rattle.network_message.specs.Payload.{restOnlyAt}
 use Rattle.network_message.specs.Envelope.{messagesOf}
 use Rattle.wire_writer.specs.Writing.{orElse, on16, onI64, picosecondsRefusal, unused}
 use Rattle.wire_writer.proofs.Refusals.{passed, held, both-zero}
@@ -23,11 +23,11 @@ use Rattle.network_header.specs.Flags.{timesRefusal}
 use Rattle.network_header.specs.Group.{groupRefusal}
 use Rattle.publisher_id.specs.Publisher.{publisherRefusal, publisherShape}
 use Rattle.network_header.specs.Header.{countRefusal, promotedRefusal, idsShape, promotedShape}
-use Rattle.network_message_writer.specs.Payload.{listedRefusal, numberIn, payloadRefusal, lengthsShape}
-use Rattle.network_message_writer.specs.Envelope.{Given, readingRefusal, shapeRefusal, refusalOf}
+use Rattle.network_message_writer.specs.Payload.{listedRefusal, refusalNumber, payloadRefusal, lengthsShape}
+use Rattle.network_message_writer.specs.Envelope.{GivenDatagram, datagramReadingRefusal, shapeRefusal, datagramRefusal}
 
 -- none of the refusals
-pub record Zeros (g : Given) (x : Envelope) (sizes configured : List ℕ) : Type 0 where
+pub record Zeros (g : GivenDatagram) (x : Envelope) (sizes configured : List ℕ) : Type 0 where
   pub times : timesRefusal (on16 (x .picoseconds)) (onI64 (x .timestamp)) ≡ 0
   pub publisher : publisherRefusal (x .publisher) ≡ 0
   pub group : groupRefusal (x .group) ≡ 0
@@ -40,7 +40,7 @@ pub record Zeros (g : Given) (x : Envelope) (sizes configured : List ℕ) : Type
   pub promotedBytes : promotedShape (x .promoted) (length (g .promoted)) ≡ 0
   pub lengths : lengthsShape (x .«payload_header») (g .lengths) sizes ≡ 0
 
-pub zeros : (g : Given) (x : Envelope) (sizes configured : List ℕ) → refusalOf g x sizes configured ≡ 0 → Zeros g x sizes configured
+pub zeros : (g : GivenDatagram) (x : Envelope) (sizes configured : List ℕ) → datagramRefusal g x sizes configured ≡ 0 → Zeros g x sizes configured
 zeros g x sizes configured h =
     let n7 = payloadRefusal (x .chunk) (x .«payload_header») sizes (g .lengths) (g .messages) in
     let n6 = promotedRefusal (x .promoted) (messagesOf (x .chunk) (x .«payload_header») (length (configuredSizes sizes))) in
@@ -53,7 +53,7 @@ zeros g x sizes configured h =
     let m3 = promotedShape (x .promoted) (length (g .promoted)) in
     let m2 = idsShape (x .chunk) (x .«payload_header») (g .ids) configured in
     let m1 = publisherShape (x .publisher) (length (g .text)) in
-    let r0 = both-zero (readingRefusal g x sizes) (shapeRefusal g x sizes configured) h in
+    let r0 = both-zero (datagramReadingRefusal g x sizes) (shapeRefusal g x sizes configured) h in
     let r1 = both-zero n1 (orElse n2 (orElse n3 (orElse n4 (orElse n5 (orElse n6 n7))))) (r0 .0) in
     let r2 = both-zero n2 (orElse n3 (orElse n4 (orElse n5 (orElse n6 n7)))) (r1 .1) in
     let r3 = both-zero n3 (orElse n4 (orElse n5 (orElse n6 n7))) (r2 .1) in
@@ -145,12 +145,12 @@ lengths-short chunk PayloadHeader.Absent ids lengths messages sizes configured a
     go false q = same-short lengths sizes q
 lengths-short chunk (PayloadHeader.Ids n) ids lengths messages sizes configured a b c = go (leb n 1) b c
   where
-    go : (t : Bool) → cond t (numberIn (restAt messages 0)) (listedRefusal n lengths (length messages)) ≡ 0 → cond t (unused (length lengths)) 0 ≡ 0 → length lengths ≤ 65535
+    go : (t : Bool) → cond t (refusalNumber (restOnlyAt messages 0)) (listedRefusal n lengths (length messages)) ≡ 0 → cond t (unused (length lengths)) 0 ≡ 0 → length lengths ≤ 65535
     go true p q = none (length lengths) q
     go false p q = omega (arith, ids-counted chunk n ids configured a .1, listed-length n lengths (length messages) p)
 lengths-short chunk (PayloadHeader.Chunk w) ids lengths messages sizes configured a b c = none (length lengths) c
 
-pub all-short : (g : Given) (x : Envelope) (sizes configured : List ℕ) → refusalOf g x sizes configured ≡ 0
+pub all-short : (g : GivenDatagram) (x : Envelope) (sizes configured : List ℕ) → datagramRefusal g x sizes configured ≡ 0
     → (length (g .text) ≤ 65535) × (length (g .ids) ≤ 65535) × (length (g .promoted) ≤ 65535) × (length (g .lengths) ≤ 65535)
 all-short g x sizes configured h =
     let r = zeros g x sizes configured h in (

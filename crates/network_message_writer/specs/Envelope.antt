@@ -18,15 +18,16 @@ use Rattle.network_message_writer.specs.Payload.{listBytes, payloadRefus
 
 -- what is given beside the envelope: the bytes of a string PublisherId, the DataSetWriterIds (2 bytes each), the promoted
 -- fields, the lengths of several messages (2 bytes each), and the messages one after the other or a chunk's payload
-pub record Given : Type 0 where
+pub record GivenDatagram : Type 0 where
   pub text : List ℕ
   pub ids : List ℕ
   pub promoted : List ℕ
   pub lengths : List ℕ
   pub messages : List ℕ
 
-abbrev pub given : List ℕ → List ℕ → List ℕ → List ℕ → List ℕ → Given
-given text ids promoted lengths messages = record { text = text; ids = ids; promoted = promoted; lengths = lengths; messages = messages }
+abbrev pub givenDatagram : List ℕ → List ℕ → List ℕ → List ℕ → List ℕ → GivenDatagram
+givenDatagram text ids promoted lengths messages =
+    record { text = text; ids = ids; promoted = promoted; lengths = lengths; messages = messages }
 
 -- everything before the payload, in the order of document 01: flags, PublisherId, DataSetClassId, group header, then
 -- PayloadHeader, Timestamp, PicoSeconds, promoted fields
@@ -35,13 +36,13 @@ tailBytes ids promoted x =
     payloadHeaderBytes ids (x .«payload_header»)
     ++ (optionalI64Bytes (x .timestamp) ++ (optional16Bytes (x .picoseconds) ++ promotedBytes promoted (x .promoted)))
 
-abbrev pub headerBytes : List ℕ → List ℕ → List ℕ → Envelope → List ℕ
-headerBytes text ids promoted x =
+abbrev pub envelopeBytes : List ℕ → List ℕ → List ℕ → Envelope → List ℕ
+envelopeBytes text ids promoted x =
     flagBytes (flagsFor x)
     ++ (publisherBytes text (x .publisher) ++ (classBytes (x .«class_id») ++ (groupBytes (x .group) ++ tailBytes ids promoted x)))
 
-abbrev pub datagramOf : Given → Envelope → List ℕ
-datagramOf g x = headerBytes (g .text) (g .ids) (g .promoted) x ++ (listBytes (x .«payload_header») (g .lengths) ++ g .messages)
+abbrev pub datagramOf : GivenDatagram → Envelope → List ℕ
+datagramOf g x = envelopeBytes (g .text) (g .ids) (g .promoted) x ++ (listBytes (x .«payload_header») (g .lengths) ++ g .messages)
 
 -- "A writer refuses what reading would refuse, by the same number in reading order"
 abbrev pub headerRefusal : Envelope → ℕ → ℕ → ℕ
@@ -53,30 +54,30 @@ headerRefusal x configured payload =
     (orElse (picosecondsRefusal (x .picoseconds))
     (orElse (promotedRefusal (x .promoted) (messagesOf (x .chunk) (x .«payload_header») configured)) payload)))))
 
-abbrev pub readingRefusal : Given → Envelope → List ℕ → ℕ
-readingRefusal g x sizes =
+abbrev pub datagramReadingRefusal : GivenDatagram → Envelope → List ℕ → ℕ
+datagramReadingRefusal g x sizes =
     headerRefusal x (length (configuredSizes sizes)) (payloadRefusal (x .chunk) (x .«payload_header») sizes (g .lengths) (g .messages))
 
 -- "then over 255 messages, or what would read back otherwise, by 6": a part of another length than said, one that nothing
 -- announces, ids or lengths that are not the configured ones
-abbrev pub shapeRefusal : Given → Envelope → List ℕ → List ℕ → ℕ
+abbrev pub shapeRefusal : GivenDatagram → Envelope → List ℕ → List ℕ → ℕ
 shapeRefusal g x sizes configured =
     orElse (publisherShape (x .publisher) (length (g .text)))
     (orElse (idsShape (x .chunk) (x .«payload_header») (g .ids) configured)
     (orElse (promotedShape (x .promoted) (length (g .promoted))) (lengthsShape (x .«payload_header») (g .lengths) sizes)))
 
-abbrev pub refusalOf : Given → Envelope → List ℕ → List ℕ → ℕ
-refusalOf g x sizes configured = orElse (readingRefusal g x sizes) (shapeRefusal g x sizes configured)
+abbrev pub datagramRefusal : GivenDatagram → Envelope → List ℕ → List ℕ → ℕ
+datagramRefusal g x sizes configured = orElse (datagramReadingRefusal g x sizes) (shapeRefusal g x sizes configured)
 
 -- what is written of a datagram given: its bytes, unless it is refused
-abbrev pub datagramOutput : Given → Envelope → List ℕ → List ℕ → Output
-datagramOutput g x sizes configured = unless (refusalOf g x sizes configured) (datagramOf g x)
+abbrev pub datagramOutput : GivenDatagram → Envelope → List ℕ → List ℕ → Output
+datagramOutput g x sizes configured = unless (datagramRefusal g x sizes configured) (datagramOf g x)
 
 -- Rewriting: the parts of a datagram as reading found them.
 
 -- the n bytes of s before a position
-abbrev pub before : List ℕ → ℕ → ℕ → List ℕ
-before s end n = take n (drop (end - n) s)
+abbrev pub bytesBefore : List ℕ → ℕ → ℕ → List ℕ
+bytesBefore s end n = take n (drop (end - n) s)
 
 abbrev pub textOf : List ℕ → PublisherId → ℕ → List ℕ
 textOf s PublisherId.Absent end = []
@@ -84,21 +85,21 @@ textOf s (PublisherId.Byte v) end = []
 textOf s (PublisherId.UInt16 v) end = []
 textOf s (PublisherId.UInt32 v) end = []
 textOf s (PublisherId.UInt64 v) end = []
-textOf s (PublisherId.Text n) end = before s end n
+textOf s (PublisherId.Text n) end = bytesBefore s end n
 
 abbrev pub idsOf : List ℕ → PayloadHeader → ℕ → List ℕ
 idsOf s PayloadHeader.Absent end = []
-idsOf s (PayloadHeader.Ids n) end = before s end (2 * n)
+idsOf s (PayloadHeader.Ids n) end = bytesBefore s end (2 * n)
 idsOf s (PayloadHeader.Chunk w) end = []
 
 abbrev pub promotedOf : List ℕ → Promoted → ℕ → List ℕ
 promotedOf s Promoted.Absent end = []
-promotedOf s (Promoted.Size n) end = before s end n
+promotedOf s (Promoted.Size n) end = bytesBefore s end n
 
 -- the datagram s, read as this envelope with its places, written again: its header parts, and its payload as it stands
 abbrev pub againOf : List ℕ → Envelope → Places → List ℕ
 againOf s x p =
-    headerBytes (textOf s (x .publisher) (p .«publisher_end»)) (idsOf s (x .«payload_header») (p .«payload_header_end»))
+    envelopeBytes (textOf s (x .publisher) (p .«publisher_end»)) (idsOf s (x .«payload_header») (p .«payload_header_end»))
     (promotedOf s (x .promoted) (p .payload)) x
     ++ drop (p .payload) s
 

@@ -52,7 +52,7 @@ ghost use lib.ListN.{length};
 ghost use Rattle.network_header.specs.Numbers.{configuredSizes};
 ghost use Rattle.wire_writer.specs.Writing.{Puts, Writes, writing};
 ghost use Rattle.network_message_writer.specs.Payload.{payloadRefusal};
-ghost use Rattle.network_message_writer.specs.Envelope.{given, tailBytes, headerBytes, datagramOf, headerRefusal, shapeRefusal, datagramOutput, textOf, idsOf, promotedOf, againOf, datagramAgain};
+ghost use Rattle.network_message_writer.specs.Envelope.{givenDatagram, tailBytes, envelopeBytes, datagramOf, headerRefusal, shapeRefusal, datagramOutput, textOf, idsOf, promotedOf, againOf, datagramAgain};
 ghost use Rattle.wire.specs.Constants.{MOST_DATAGRAM};
 
 fn tail_size(x: Envelope, ids: &[u8], promoted: &[u8]) -> usize
@@ -70,7 +70,7 @@ fn tail_size(x: Envelope, ids: &[u8], promoted: &[u8]) -> usize
 fn header_size(x: Envelope, text: &[u8], ids: &[u8], promoted: &[u8]) -> usize
     requires { ⌜ (length (now text) ≤ MOST_DATAGRAM) × (length (now ids) ≤ MOST_DATAGRAM) × (length (now promoted) ≤ MOST_DATAGRAM) ⌝ }
     ensures { λ r.
-        let bytes = headerBytes (now (text .entry)) (now (ids .entry)) (now (promoted .entry)) x in
+        let bytes = envelopeBytes (now (text .entry)) (now (ids .entry)) (now (promoted .entry)) x in
         ⌜ (r ≡ length bytes) × (r ≤ 200000) ⌝ }
 {
     let publisher = x.publisher;
@@ -98,7 +98,7 @@ fn put_tail(out: &mut [u8], at: usize, x: Envelope, ids: &[u8], promoted: &[u8])
 
 fn put_header(out: &mut [u8], x: Envelope, text: &[u8], ids: &[u8], promoted: &[u8]) -> usize
     ensures { λ r.
-        let bytes = headerBytes (now (text .entry)) (now (ids .entry)) (now (promoted .entry)) x in
+        let bytes = envelopeBytes (now (text .entry)) (now (ids .entry)) (now (promoted .entry)) x in
         ⌜ Puts bytes (now (out .entry)) 0 (now (out .exit)) r ⌝ }
 {
     let publisher = x.publisher;
@@ -159,7 +159,7 @@ fn shape_refusal(
     configured: &[u16],
 ) -> u8
     ensures { λ r.
-        let g = given (now (text .entry)) (now (ids .entry)) (now (promoted .entry)) (now (lengths .entry)) [] in
+        let g = givenDatagram (now (text .entry)) (now (ids .entry)) (now (promoted .entry)) (now (lengths .entry)) [] in
         ⌜ r ≡ shapeRefusal g x (now (sizes .entry)) (now (configured .entry)) ⌝ }
 {
     let publisher = x.publisher;
@@ -185,7 +185,7 @@ fn put_datagram(
     messages: &[u8],
 ) -> usize
     ensures { λ r.
-        let lists = given (now (text .entry)) (now (ids .entry)) (now (promoted .entry)) in
+        let lists = givenDatagram (now (text .entry)) (now (ids .entry)) (now (promoted .entry)) in
         let g = lists (now (lengths .entry)) (now (messages .entry)) in
         ⌜ Puts (datagramOf g x) (now (out .entry)) 0 (now (out .exit)) r ⌝ }
 {
@@ -207,7 +207,7 @@ fn datagram_size(
         × (length (now promoted) ≤ MOST_DATAGRAM)
         × (length (now lengths) ≤ MOST_DATAGRAM) ⌝ }
     ensures { λ r.
-        let lists = given (now (text .entry)) (now (ids .entry)) (now (promoted .entry)) in
+        let lists = givenDatagram (now (text .entry)) (now (ids .entry)) (now (promoted .entry)) in
         let g = lists (now (lengths .entry)) (now (messages .entry)) in
         ⌜ r ≡ length (datagramOf g x) ⌝ }
 {
@@ -231,7 +231,7 @@ pub fn write(
     configured: &[u16],
 ) -> Written
     ensures { λ r.
-        let lists = given (now (text .entry)) (now (ids .entry)) (now (promoted .entry)) in
+        let lists = givenDatagram (now (text .entry)) (now (ids .entry)) (now (promoted .entry)) in
         let g = lists (now (lengths .entry)) (now (messages .entry)) in
         let output = datagramOutput g x (now (sizes .entry)) (now (configured .entry)) in
         ⌜ Writes output (now (out .entry)) (now (out .exit)) r ⌝ }
@@ -299,7 +299,7 @@ fn put_again(
         × (length (now promoted) ≤ MOST_DATAGRAM)
         × (length (now payload) ≤ MOST_DATAGRAM) ⌝ }
     ensures { λ r.
-        let header = headerBytes (now (text .entry)) (now (ids .entry)) (now (promoted .entry)) x in
+        let header = envelopeBytes (now (text .entry)) (now (ids .entry)) (now (promoted .entry)) x in
         ⌜ Writes (writing (header ++ now (payload .entry))) (now (out .entry)) (now (out .exit)) r ⌝ }
 {
     let size = header_size(x, text, ids, promoted) + payload.len();

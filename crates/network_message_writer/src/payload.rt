@@ -14,11 +14,11 @@ ghost use Prim.Native.Nat.{_≤_};
 ghost use lib.ListN.{length};
 ghost use Rattle.network_message.specs.Payload.{payloadAt};
 ghost use Rattle.wire_writer.specs.Writing.{Puts};
-ghost use Rattle.network_message_writer.specs.Payload.{listBytes, numberIn, payloadRefusal, lengthsShape, listedRefusal};
+ghost use Rattle.network_message_writer.specs.Payload.{listBytes, refusalNumber, payloadRefusal, lengthsShape, listedRefusal};
 
 // The number of reading these bytes as a payload.
 fn payload_number(messages: &[u8], chunk: bool, x: PayloadHeader, sizes: &[u16]) -> u8
-    ensures { λ r. ⌜ r ≡ numberIn (payloadAt chunk x (now (sizes .entry)) (now (messages .entry)) 0) ⌝ }
+    ensures { λ r. ⌜ r ≡ refusalNumber (payloadAt chunk x (now (sizes .entry)) (now (messages .entry)) 0) ⌝ }
 {
     match read_payload(messages, chunk, x, sizes, 0) {
         PayloadRead::Is(_) => 0,

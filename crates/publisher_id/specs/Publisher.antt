@@ -22,13 +22,13 @@ abbrev pub stringOf : ℕ → Reader PublisherId
 stringOf n s start = cond (textTooLong n) (refused OVER_LIMIT 0) ((run n >>= λ len. pure (PublisherId.Text len)) s start)
 
 -- "A string has a 32-bit length; below 0 (null too) is 5", at the length
-abbrev pub lengthThen : ℕ → Length → Reader PublisherId
-lengthThen at Length.Null s start = refused BAD_LENGTH at
-lengthThen at (Length.Of n) s start = stringOf n s start
-lengthThen at Length.Negative s start = refused BAD_LENGTH at
+abbrev pub stringThen : ℕ → Length → Reader PublisherId
+stringThen at Length.Null s start = refused BAD_LENGTH at
+stringThen at (Length.Of n) s start = stringOf n s start
+stringThen at Length.Negative s start = refused BAD_LENGTH at
 
 abbrev pub stringAt : Reader PublisherId
-stringAt s at = andThen (lengthItem s at) (λ length start. lengthThen at length s start)
+stringAt s at = andThen (lengthItem s at) (λ length start. stringThen at length s start)
 
 -- "PublisherId type: 0 Byte, 1 UInt16, 2 UInt32, 3 UInt64, 4 String" (5 to 7 were refused at ExtendedFlags1)
 abbrev pub publisherOf : ℕ → Reader PublisherId
@@ -54,13 +54,13 @@ publisherOn (PublisherId.UInt64 v) = true
 publisherOn (PublisherId.Text n) = true
 
 -- "PublisherId type: 0 Byte, 1 UInt16, 2 UInt32, 3 UInt64, 4 String"; "With PublisherId off, its type bits are written as 0"
-abbrev pub kindOf : PublisherId → ℕ
-kindOf PublisherId.Absent = 0
-kindOf (PublisherId.Byte v) = 0
-kindOf (PublisherId.UInt16 v) = 1
-kindOf (PublisherId.UInt32 v) = 2
-kindOf (PublisherId.UInt64 v) = 3
-kindOf (PublisherId.Text n) = 4
+abbrev pub idTypeOf : PublisherId → ℕ
+idTypeOf PublisherId.Absent = 0
+idTypeOf (PublisherId.Byte v) = 0
+idTypeOf (PublisherId.UInt16 v) = 1
+idTypeOf (PublisherId.UInt32 v) = 2
+idTypeOf (PublisherId.UInt64 v) = 3
+idTypeOf (PublisherId.Text n) = 4
 
 -- "A string has a 32-bit length", and then its bytes
 abbrev pub publisherBytes : List ℕ → PublisherId → List ℕ

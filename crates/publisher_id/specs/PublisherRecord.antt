@@ -24,25 +24,25 @@ codeOf (PublisherId.UInt64 v) = 4
 codeOf (PublisherId.Text n) = 5
 
 -- an absent id and a string have no number
-abbrev pub valueOf : PublisherId → ℕ
-valueOf PublisherId.Absent = 0
-valueOf (PublisherId.Byte v) = v
-valueOf (PublisherId.UInt16 v) = v
-valueOf (PublisherId.UInt32 v) = v
-valueOf (PublisherId.UInt64 v) = v
-valueOf (PublisherId.Text n) = 0
+abbrev pub idNumberOf : PublisherId → ℕ
+idNumberOf PublisherId.Absent = 0
+idNumberOf (PublisherId.Byte v) = v
+idNumberOf (PublisherId.UInt16 v) = v
+idNumberOf (PublisherId.UInt32 v) = v
+idNumberOf (PublisherId.UInt64 v) = v
+idNumberOf (PublisherId.Text n) = 0
 
 -- only a string has a length
-abbrev pub lengthOf : PublisherId → ℕ
-lengthOf PublisherId.Absent = 0
-lengthOf (PublisherId.Byte v) = 0
-lengthOf (PublisherId.UInt16 v) = 0
-lengthOf (PublisherId.UInt32 v) = 0
-lengthOf (PublisherId.UInt64 v) = 0
-lengthOf (PublisherId.Text n) = n
+abbrev pub textLengthOf : PublisherId → ℕ
+textLengthOf PublisherId.Absent = 0
+textLengthOf (PublisherId.Byte v) = 0
+textLengthOf (PublisherId.UInt16 v) = 0
+textLengthOf (PublisherId.UInt32 v) = 0
+textLengthOf (PublisherId.UInt64 v) = 0
+textLengthOf (PublisherId.Text n) = n
 
 abbrev pub publisherOf : PublisherRecord → Publisher
-publisherOf p = record { code = codeOf (p .id); value = valueOf (p .id); text = take (lengthOf (p .id)) (p .text) }
+publisherOf p = record { code = codeOf (p .id); value = idNumberOf (p .id); text = take (textLengthOf (p .id)) (p .text) }
 
 unfoldable pub sameText : List ℕ → List ℕ → Bool
 sameText [] [] = true
@@ -55,8 +55,8 @@ samePublisher a b = eqb (a .code) (b .code) && (eqb (a .value) (b .value) && sam
 
 -- "a string publisher of at most 64 bytes"
 unfoldable pub publisherFits : PublisherRecord → Bool
-publisherFits p = leb (lengthOf (p .id)) MOST_TEXT_ID
+publisherFits p = leb (textLengthOf (p .id)) MOST_TEXT_ID
 
 -- the record of an id that ends at a position: a string's bytes stand before it; a longer one than a record holds is not copied
 abbrev pub recordAt : PublisherId → ℕ → List ℕ → PublisherRecord
-recordAt id end s = record { id = id; text = laid (replicate MOST_TEXT_ID 0) 0 (take (lengthOf id) (drop (end - lengthOf id) s)) }
+recordAt id end s = record { id = id; text = laid (replicate MOST_TEXT_ID 0) 0 (take (textLengthOf id) (drop (end - textLengthOf id) s)) }

@@ -16,7 +16,7 @@ use wire_writer::store::put32;
 use wire_writer::store::put64;
 use wire_writer::writing::six_unless;
 ghost use mathlib.Core.Path.{_≡_};
-ghost use Rattle.publisher_id.specs.Publisher.{textTooLong, stringOf, stringAt, publisherAt, answerPublisher, publisherOn, kindOf, publisherBytes, publisherRefusal, publisherShape};
+ghost use Rattle.publisher_id.specs.Publisher.{textTooLong, stringOf, stringAt, publisherAt, answerPublisher, publisherOn, idTypeOf, publisherBytes, publisherRefusal, publisherShape};
 ghost use mathlib.Core.Bool.{cond};
 ghost use mathlib.Core.List.{_++_};
 ghost use Prim.Native.Nat.{_+_, _≤_};
@@ -122,7 +122,7 @@ pub fn publisher_on(p: PublisherId) -> bool
 
 // The type of a PublisherId, as ExtendedFlags1 has it.
 pub fn kind_of(p: PublisherId) -> u8
-    ensures { λ r. ⌜ (r ≡ kindOf p) × (r ≤ 4) ⌝ }
+    ensures { λ r. ⌜ (r ≡ idTypeOf p) × (r ≤ 4) ⌝ }
 {
     match p {
         PublisherId::Absent => 0, // its type bits are written as 0

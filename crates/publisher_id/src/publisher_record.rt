@@ -5,7 +5,7 @@ use wire::constants::MOST_TEXT_ID;
 use wire::part::part;
 use wire_writer::store::put_run;
 ghost use mathlib.Core.Path.{_≡_};
-ghost use Rattle.publisher_id.specs.PublisherRecord.{codeOf, valueOf, lengthOf, publisherOf, publisherFits, sameText, samePublisher, recordAt};
+ghost use Rattle.publisher_id.specs.PublisherRecord.{codeOf, idNumberOf, textLengthOf, publisherOf, publisherFits, sameText, samePublisher, recordAt};
 
 // Of a string the first bytes of text are its content, as many as the id says.
 pub struct PublisherRecord {
@@ -28,7 +28,7 @@ pub fn code(id: PublisherId) -> u64
 }
 
 fn value(id: PublisherId) -> u64
-    ensures { λ r. ⌜ r ≡ valueOf id ⌝ }
+    ensures { λ r. ⌜ r ≡ idNumberOf id ⌝ }
 {
     match id {
         PublisherId::Absent => 0,
@@ -41,7 +41,7 @@ fn value(id: PublisherId) -> u64
 }
 
 fn text_length(id: PublisherId) -> usize
-    ensures { λ r. ⌜ r ≡ lengthOf id ⌝ }
+    ensures { λ r. ⌜ r ≡ textLengthOf id ⌝ }
 {
     match id {
         PublisherId::Absent => 0,

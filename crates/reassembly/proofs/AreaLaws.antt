@@ -11,7 +11,7 @@ use Rattle.reassembly.specs.Views.{View, isSome, has, onlyIf, dataView, 
 use Rattle.marks.specs.Offsets.{allBelow}
 use Rattle.marks.specs.Marks.{Layout, marksFor, marked, cleared, markAll, markedBelow, allMarked}
 use Rattle.reassembly.specs.Areas.{markedView}
-use Rattle.marks.proofs.Cases.{by-lt}
+use Rattle.wire.proofs.Cases.{by-lt}
 use Rattle.reassembly.proofs.ViewLaws.{length-tab, getD-tab, length-laid, getD-laid, has-only, data-at, none-clash, clash-data, differsAt, full-some, first-none, first-known}
 use Rattle.marks.proofs.OffsetLaws.{any-ext, all-ext}
 use Rattle.marks.proofs.MarkLaws.{marked-is, marked-past, marked-on, marked-off, marked-cleared, marks-self}

@@ -31,7 +31,7 @@ use Rattle.reassembly.specs.declared.record.PartialRecord.{PartialRecord
 use Rattle.reassembly.specs.declared.verdict.Completeness.the-variants as C
 use Rattle.reassembly.specs.declared.verdict.Verdict.{Verdict}
 use Rattle.reassembly.specs.declared.verdict.Verdict.the-variants.{Done, Refused}
-use Rattle.marks.proofs.Cases.{by-bool}
+use Rattle.wire.proofs.Cases.{by-bool}
 use Rattle.wire.proofs.Facts.{and-left, and-right}
 use Rattle.reassembly.proofs.ViewLaws.{has-data}
 use Rattle.marks.proofs.MarkLaws.{marks-mono, length-cleared}

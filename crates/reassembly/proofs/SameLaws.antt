@@ -6,7 +6,7 @@ use borrow.Author.Tests.{eq-eqb, eqb-true}
 use Rattle.publisher_id.specs.PublisherRecord.{samePublisher}
 use Rattle.publisher_id.proofs.Equality.{same-publisher-true, same-publisher-refl}
 use Rattle.reassembly.specs.Record.{Identity, sameMessage}
-use Rattle.marks.proofs.Cases.{by-bool}
+use Rattle.wire.proofs.Cases.{by-bool}
 use Rattle.wire.proofs.Facts.{and-left, and-right}
 
 -- ---- messages

@@ -13,7 +13,7 @@ use lib.Dec.{ltb, eqb}
 use borrow.Author.Tests.{lt-ltb, le-ltb, le-leb, lt-leb, eqb-true, not-false}
 use Rattle.reassembly.specs.Views.{View, tab, isSome, has, onlyIf, dataView, nowhere, joined, differs, clash, full, laid}
 use Rattle.marks.specs.Offsets.{anyBelow, inRange}
-use Rattle.marks.proofs.Cases.{by-bool, by-eq, by-lt}
+use Rattle.wire.proofs.Cases.{by-bool, by-eq, by-lt}
 use Rattle.marks.proofs.OffsetLaws.{any-none, all-every, none-any, every-all}
 
 -- ---- lists by their elements

@@ -19,7 +19,7 @@ use Rattle.reassembly_laws.specs.History.{ifAccepted}
 use Rattle.reassembly.specs.declared.record.Message.{Message}
 use Rattle.reassembly.specs.declared.verdict.Verdict.{Verdict}
 use Rattle.reassembly.specs.declared.verdict.Verdict.the-variants.{Done}
-use Rattle.marks.proofs.Cases.{by-bool}
+use Rattle.wire.proofs.Cases.{by-bool}
 use Rattle.reassembly.proofs.ViewLaws.{data-above}
 use Rattle.reassembly.proofs.JudgeLaws
 use Rattle.reassembly_laws.proofs.Following

@@ -20,7 +20,7 @@ use Rattle.reassembly_laws.specs.History.{Brought, verdictOf, keeps, ifA
 use Rattle.reassembly.specs.Calls.Call.{Empty, Take, Combine, Ask, HandOut}
 use Rattle.reassembly.specs.declared.verdict.Verdict.{Verdict}
 use Rattle.reassembly.specs.declared.verdict.Verdict.the-variants.{Done, Refused}
-use Rattle.marks.proofs.Cases.{by-bool, by-lt}
+use Rattle.wire.proofs.Cases.{by-bool, by-lt}
 use Rattle.reassembly.proofs.ViewLaws.{length-tab, getD-tab, full-some, none-clash, data-above, first-known, differs-none}
 use Rattle.reassembly.proofs.AreaLaws.{marked-above}
 use Rattle.reassembly.proofs.SameLaws.{same-message-true}

@@ -13,7 +13,7 @@ use Rattle.reassembly_laws.specs.History.{ifAccepted}
 use Rattle.reassembly_laws.specs.Combining.{isRefused, onDone, disagree, someDisagree, FitsIn, Room, Three, leftVerdict, leftResult, rightVerdict, rightResult}
 use Rattle.reassembly.specs.declared.verdict.Verdict.{Verdict}
 use Rattle.reassembly.specs.declared.verdict.Verdict.the-variants.{Done, Refused}
-use Rattle.marks.proofs.Cases.{by-bool}
+use Rattle.wire.proofs.Cases.{by-bool}
 use Rattle.reassembly.proofs.JudgeLaws.{refused-done, sound-total, combine-judged}
 use Rattle.reassembly_laws.proofs.StateLaws
 use Rattle.reassembly_laws.proofs.Following.{source-verdict, combine-stepped}

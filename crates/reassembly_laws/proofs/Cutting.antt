@@ -28,7 +28,7 @@ use Rattle.reassembly.specs.Operations.{yesNo, askComplete, judgeHandOut, handO
 use Rattle.reassembly.specs.declared.verdict.Completeness.the-variants as C
 use Rattle.reassembly.specs.declared.verdict.Verdict.{Verdict}
 use Rattle.reassembly.specs.declared.verdict.Verdict.the-variants.{Done}
-use Rattle.marks.proofs.Cases.{by-lt}
+use Rattle.wire.proofs.Cases.{by-lt}
 use Rattle.reassembly.proofs.JudgeLaws.{reading-got}
 use Rattle.reassembly.proofs.ViewLaws.{length-tab, getD-tab, data-at, data-below, data-above, has-data, full-all, clash-none}
 use Rattle.reassembly.proofs.SameLaws.{same-message-yes}

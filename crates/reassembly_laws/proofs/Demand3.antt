@@ -26,7 +26,7 @@ use Rattle.reassembly.specs.declared.record.Message.{Message}
 use Rattle.reassembly.specs.declared.verdict.Completeness.the-variants as C
 use Rattle.reassembly.specs.declared.verdict.Verdict.{Verdict}
 use Rattle.reassembly.specs.declared.verdict.Verdict.the-variants.{Done, Refused}
-use Rattle.marks.proofs.Cases.{by-bool}
+use Rattle.wire.proofs.Cases.{by-bool}
 use Rattle.reassembly_laws.proofs.Alone
 use Rattle.reassembly.proofs.ViewLaws.{full-some, full-all}
 use Rattle.reassembly.proofs.AreaLaws.{laid-self, marks-again}

@@ -27,7 +27,7 @@ use Rattle.reassembly.specs.declared.record.Message.{Message}
 use Rattle.reassembly.specs.declared.record.PartialRecord.{PartialRecord}
 use Rattle.reassembly.specs.declared.verdict.Verdict.{Verdict}
 use Rattle.reassembly.specs.declared.verdict.Verdict.the-variants.{Done, Refused}
-use Rattle.marks.proofs.Cases.{by-bool}
+use Rattle.wire.proofs.Cases.{by-bool}
 use Rattle.reassembly.proofs.ViewLaws.{length-laid, data-above, clash-none, joined-nowhere}
 use Rattle.marks.proofs.MarkLaws.{length-cleared, length-markAll}
 use Rattle.reassembly.proofs.AreaLaws.{marked-above, cleared-nowhere, view-put, full-bytes}

@@ -6,7 +6,7 @@ use mathlib.Core.Option.{Option, some, none, orElse}
 use lib.Dec.{eqb}
 use borrow.Author.Tests.{eq-eqb, eqb-true, not-false}
 use Rattle.reassembly.specs.Views.{View, differs, clash}
-use Rattle.marks.proofs.Cases.{by-bool}
+use Rattle.wire.proofs.Cases.{by-bool}
 use Rattle.marks.proofs.OffsetLaws.{any-ext}
 
 differs-eq : (x y : ℕ) → not (eqb x y) ≡ false → x ≡ y

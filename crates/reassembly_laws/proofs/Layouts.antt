@@ -26,7 +26,7 @@ use Rattle.reassembly_laws.specs.History.{says, keeps}
 use Rattle.reassembly_laws.specs.Layouts.{SameButMarks, SameCall, SameCalls, inLayout}
 use Rattle.reassembly_laws.specs.Layouts.SameCalls.{none, next}
 use Rattle.wire.proofs.Facts.{and-right}
-use Rattle.marks.proofs.Cases.{by-bool, by-lt}
+use Rattle.wire.proofs.Cases.{by-bool, by-lt}
 use Rattle.marks.proofs.MarkLaws.{marked-cleared, length-markAll, marked-on, marked-off}
 use Rattle.reassembly.proofs.AreaLaws.{marked-below, marked-above}
 use Rattle.reassembly.proofs.JudgeLaws

@@ -8,7 +8,7 @@ use Rattle.reassembly.specs.Record.{Identity, sameMessage}
 use Rattle.reassembly.specs.Machine.{State, between, acceptState}
 use Rattle.reassembly.specs.Machine.State.{idle, held}
 use Rattle.reassembly.specs.declared.verdict.Verdict.the-variants.{Done}
-use Rattle.marks.proofs.Cases.{by-bool, by-lt}
+use Rattle.wire.proofs.Cases.{by-bool, by-lt}
 use Rattle.reassembly.proofs.ViewLaws.{clash-none, none-clash}
 use Rattle.reassembly.proofs.SameLaws.{same-message-true, same-message-yes, same-message-comm}
 use Rattle.reassembly.proofs.JudgeLaws.{meet-same, meet-free}

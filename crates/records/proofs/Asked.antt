@@ -14,11 +14,7 @@ use Rattle.config.specs.Writers.{fieldsOf}
 use Rattle.config.proofs.Asked.{place-contains}
 use Rattle.network_message.specs.Payload.{listed}
 use Rattle.records.specs.Writers.{writersIn, sixteen, idsIn, startsIn, typesIn, typesFor}
-
--- numbers of 2 bytes one after the other: how many they are, and the first of them
-length-listed : (n : ℕ) (s : List ℕ) (at : ℕ) → length (listed n s at) ≡ n
-length-listed zero s at = refl
-length-listed (suc n) s at = ap (λ (k : ℕ). suc k) (length-listed n s (at + 2))
+use Rattle.network_message.proofs.Accepted.{length-listed}
 
 take-listed : (n m : ℕ) (s : List ℕ) (at : ℕ) → n ≤ m → take n (listed m s at) ≡ listed n s at
 take-listed zero m s at h = refl

@@ -1,5 +1,5 @@
 -- Items that may be absent, as numbers of a record (include/uadp.h).
-use Prim.Native.Nat.{ℕ, _%_, _/_}
+use Prim.Native.Nat.{ℕ, _%_}
 use Rattle.wire.specs.declared.optional.Optional16.{Optional16}
 use Rattle.wire.specs.declared.optional.Optional32.{Optional32}
 use Rattle.wire.specs.declared.optional.OptionalI64.{OptionalI64}
@@ -48,7 +48,3 @@ given32 on v = cond on (Optional32.Is (v % 4294967296)) Optional32.Absent
 -- "signed (two's complement)"
 abbrev pub givenI64 : Bool → ℕ → OptionalI64
 givenI64 on v = cond on (OptionalI64.Is (signed 8 v)) OptionalI64.Absent
-
--- whether the item with this number is among the items of a sum of such numbers
-abbrev pub among : ℕ → ℕ → Bool
-among n items = eqb (items / n % 2) 1

@@ -24,7 +24,7 @@ use Rattle.dataset_header.specs.Flags.{Valid, valid}
 use Rattle.dataset_message.specs.Message.{Message, messageAt}
 use Rattle.dataset_message_writer.specs.Rewrite.{whereValid}
 use Rattle.round_trip.specs.NetworkMessage.{rewritten}
-use Rattle.rewriting.specs.Same.{sameMessage, sameDatagram}
+use Rattle.rewriting.specs.Same.{messageSame, datagramSame}
 use Rattle.round_trip.proofs.NetworkMessageRewritten as datagram
 
 -- what the code knows of a slice of bytes, as the theorems ask it
@@ -33,7 +33,7 @@ bytes s h i = omega (arith, h i)
 
 -- a message that reading accepts, within the limit, into a buffer with room: the same bytes, and the buffer goes on as it was
 pub same-bytes : (types s entry exit : List ℕ) (r : Written) (m : Message) (e : ℕ) → messageAt types s ≡ got (valid m) e → length s ≤ 65535 → length s ≤ length entry
-    → Writes (sameMessage types s) entry exit r → (r ≡ Written.Is (length s)) × (exit ≡ s ++ drop (length s) entry)
+    → Writes (messageSame types s) entry exit r → (r ≡ Written.Is (length s)) × (exit ≡ s ++ drop (length s) entry)
 same-bytes types s entry exit r m e q l room w =
     fitting-written l room (subst (λ (a : Answer (Valid Message)). Writes (afterReading a (whereValid (λ m. s))) entry exit r) q w)
 
@@ -48,13 +48,13 @@ publisher-on (PublisherId.Text n) h = refl
 
 -- an accepted datagram with a PublisherId, copied
 pub datagram-copied : (sizes s entry exit : List ℕ) (r : Written) (m : NetworkMessage) (next : ℕ) → Bytes s → networkMessageAt sizes s ≡ got m next
-    → publisherOn (m .envelope .publisher) ≡ true → Writes (writing s) entry exit r → Writes (sameDatagram sizes s) entry exit r
+    → publisherOn (m .envelope .publisher) ≡ true → Writes (writing s) entry exit r → Writes (datagramSame sizes s) entry exit r
 datagram-copied sizes s entry exit r m next b q on w =
     reading-accepts (λ m. writing (rewritten s)) q
     (subst (λ (l : List ℕ). Writes (writing l) entry exit r) (sym (datagram.same-with-publisher sizes s m next b q on)) w)
 
 -- what the writer's own rewriting writes, in the bytes that were read
-pub datagram-said : (sizes s entry exit : List ℕ) (r : Written) → Bytes s → Writes (datagramAgain sizes s) entry exit r → Writes (sameDatagram sizes s) entry exit r
+pub datagram-said : (sizes s entry exit : List ℕ) (r : Written) → Bytes s → Writes (datagramAgain sizes s) entry exit r → Writes (datagramSame sizes s) entry exit r
 datagram-said sizes s entry exit r b w = subst (λ (o : Output). Writes o entry exit r) (go (networkMessageAt sizes s) refl) w
   where
     go : (a : Answer NetworkMessage) → networkMessageAt sizes s ≡ a

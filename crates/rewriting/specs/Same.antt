@@ -8,9 +8,9 @@ use Rattle.network_message.specs.Envelope.{networkMessageAt}
 use Rattle.round_trip.specs.NetworkMessage.{rewritten}
 
 -- a message: reading's refusal is the writer's, one not valid is 6; an accepted one is s again
-abbrev pub sameMessage : List ℕ → List ℕ → Output
-sameMessage types s = afterReading (messageAt types s) (whereValid (λ m. s))
+abbrev pub messageSame : List ℕ → List ℕ → Output
+messageSame types s = afterReading (messageAt types s) (whereValid (λ m. s))
 
 -- a datagram: reading's refusal is the writer's; an accepted one is s again, but for the one case
-abbrev pub sameDatagram : List ℕ → List ℕ → Output
-sameDatagram sizes s = afterReading (networkMessageAt sizes s) (λ m. writing (rewritten s))
+abbrev pub datagramSame : List ℕ → List ℕ → Output
+datagramSame sizes s = afterReading (networkMessageAt sizes s) (λ m. writing (rewritten s))

@@ -9,7 +9,7 @@ use wire_writer::store::put_run;
 use wire_writer::writing::Written;
 use wire_writer::writing::room_refusal;
 ghost use Rattle.wire_writer.specs.Writing.{Writes, writing};
-ghost use Rattle.rewriting.specs.Same.{sameMessage, sameDatagram};
+ghost use Rattle.rewriting.specs.Same.{messageSame, datagramSame};
 
 // All of a slice, from the start of a buffer.
 fn copy_whole(out: &mut [u8], s: &[u8]) -> Written
@@ -27,7 +27,7 @@ fn copy_whole(out: &mut [u8], s: &[u8]) -> Written
 // An accepted, valid DataSetMessage written again; what reading refuses is refused, and one not valid is 6.
 pub fn rewrite_message(out: &mut [u8], message: &[u8], types: &[u8]) -> Written
     ensures { λ r.
-        let same = sameMessage (now (types .entry)) (now (message .entry)) in
+        let same = messageSame (now (types .entry)) (now (message .entry)) in
         ⌜ Writes same (now (out .entry)) (now (out .exit)) r ⌝ }
 {
     match dataset_message::message::read(&*message, &*types) {
@@ -41,7 +41,7 @@ pub fn rewrite_message(out: &mut [u8], message: &[u8], types: &[u8]) -> Written
 // written as 0.
 pub fn rewrite_datagram(out: &mut [u8], datagram: &[u8], sizes: &[u16]) -> Written
     ensures { λ r.
-        let same = sameDatagram (now (sizes .entry)) (now (datagram .entry)) in
+        let same = datagramSame (now (sizes .entry)) (now (datagram .entry)) in
         ⌜ Writes same (now (out .entry)) (now (out .exit)) r ⌝ }
 {
     match network_message::envelope::read(&*datagram, &*sizes) {

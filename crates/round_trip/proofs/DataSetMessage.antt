@@ -2,7 +2,7 @@
 -- Assumes nothing.
 use mathlib.Core.Path.{_≡_, refl, ap, sym, _∙_, subst}
 use mathlib.Core.Bool.{Bool, true, false, cond, not, _&&_, _||_}
-use mathlib.Core.List.{List, [], _∷_, _++_, append-nil}
+use mathlib.Core.List.{List, [], _∷_, _++_}
 use Prim.Native.Nat.{ℕ, _+_, _-_, _≤_, _<_}
 use native.Mathlib.Nat.{add-zero, zero-add}
 use native.Mathlib.Omega.{arith}
@@ -19,19 +19,19 @@ use Rattle.wire_writer.proofs.Refusals.{both-zero, passed}
 use Rattle.dataset_header.specs.declared.flags.Encoding.{Encoding}
 use Rattle.dataset_header.specs.declared.flags.Kind.{Kind}
 use Rattle.dataset_header.specs.Flags.{valid, isDelta, isRaw, kindRule}
-use Rattle.dataset_header.specs.Header.{headerAt, headerBytes, FitsHeader}
+use Rattle.dataset_header.specs.Header.{FitsHeader}
 use Rattle.dataset_fields.specs.Fields.{encodedAt, fieldAt, fieldsAt, paddingAt, valuesOf, endsAt, fieldsRefusal, fieldsWhole, reached, fieldsBytes, zeros}
 use Rattle.dataset_message.specs.Message.{countedAt, countAt, messageAt, fieldPlaceAt}
 use Rattle.dataset_message.proofs.Agreement.{field-inside}
 use Rattle.wire_writer.specs.declared.writing.Written.{Written}
-use Rattle.dataset_message_writer.specs.Message.{Given, FitsGiven, messageOutput, hasFields, isKey, isFielded, isRawData, fieldsOf, countBytes, configuredRule, countAgrees, encode, refusalOf}
+use Rattle.dataset_message_writer.specs.Message.{GivenMessage, FitsGiven, messageOutput, hasFields, isKey, isFielded, isRawData, givenFields, countBytes, configuredRule, countAgrees, encode, messageRefusal}
 use Rattle.dataset_fields.proofs.Judging.{length-values}
-use Rattle.dataset_fields.proofs.Laying.{length-zeros}
 use Rattle.dataset_message_writer.proofs.Whole.{Accepted, accepted}
-use Rattle.round_trip.specs.DataSetMessage.{firstOf, endOf, messageOf, FieldBack, MessageBack}
+use Rattle.round_trip.specs.DataSetMessage.{firstOf, endOf, messageWritten, FieldBack, MessageBack}
 use Rattle.wire_writer.proofs.Answering.{reported}
-use Rattle.round_trip.proofs.DataSetMessageParts.{header-is, whole-alone, fields-is, nth-is, zeros-is}
+use Rattle.round_trip.proofs.DataSetMessageParts.{whole-alone, fields-is, nth-is, zeros-is}
 use Rattle.wire_writer.specs.Fits.{Numbers}
+use Rattle.round_trip.proofs.DataSetMessagePlaces.{fieldsPart, countPart, start, body-at, sizes, header-read}
 
 pub no : {A : Type 0} → false ≡ true → A
 no e = let z : _≡_ {A = ℕ} 0 1 = cc in absurd (omega arith)
@@ -90,8 +90,8 @@ reached-all true types lengths values e =
 reached-all false types lengths values e = refl
 
 -- What follows the header of an accepted message.
-pub record Fielded (types : List ℕ) (g : Given) : Type 0 where
-  pub whole : fieldsWhole (g .header .encoding) types 0 (fieldsOf g) ≡ true
+pub record Fielded (types : List ℕ) (g : GivenMessage) : Type 0 where
+  pub whole : fieldsWhole (g .header .encoding) types 0 (givenFields g) ≡ true
   pub configured : isFielded g ≡ true → isRawData g ≡ true → (eqb (length types) 0 ≡ false) × (length (g .lengths) ≡ length types)
   pub counted : isFielded g ≡ true → isRawData g ≡ false → length (g .lengths) ≤ 65535
   pub none : isFielded g ≡ false → length (g .lengths) ≡ 0
@@ -115,19 +115,19 @@ plain-counted : (raw : Bool) (configured n : ℕ) → countAgrees raw configured
 plain-counted true configured n c e = no (sym e)
 plain-counted false configured n c e = leb-true n 65535 c
 
-pub fielded : (types : List ℕ) (g : Given) → Accepted types g → Fielded types g
+pub fielded : (types : List ℕ) (g : GivenMessage) → Accepted types g → Fielded types g
 fielded types g a = go (isFielded g) refl
   where
     go : (f : Bool) → isFielded g ≡ f → Fielded types g
     go true e =
-        let whole = fieldsWhole (g .header .encoding) types 0 (reached (isRawData g) types (fieldsOf g)) in
+        let whole = fieldsWhole (g .header .encoding) types 0 (reached (isRawData g) types (givenFields g)) in
         let w : whole && countAgrees (isRawData g) (length types) (length (g .lengths)) ≡ true = rw e at (a .agrees) in
         let c = and-right whole (countAgrees (isRawData g) (length types) (length (g .lengths))) w in
         record {
           whole = subst (λ (vs : List (List ℕ)). fieldsWhole (g .header .encoding) types 0 vs ≡ true)
               (reached-all (isRawData g) types (g .lengths) (g .values) c) (and-left whole (countAgrees (isRawData g) (length types) (length (g .lengths))) w);
           configured = λ f r. raw-configured (isRawData g) (length types) (length (g .lengths))
-              (fieldsRefusal (g .header .encoding) types 0 (reached (isRawData g) types (fieldsOf g))) (rw e at (a .body)) c r;
+              (fieldsRefusal (g .header .encoding) types 0 (reached (isRawData g) types (givenFields g))) (rw e at (a .body)) c r;
           counted = λ f r. plain-counted (isRawData g) (length types) (length (g .lengths)) c r;
           none = λ f. no (sym f ∙ e);
           unpadded = λ f k. no (sym f ∙ e);
@@ -164,98 +164,75 @@ key-fields Kind.Delta heartbeat k = no k
 key-fields Kind.Event heartbeat k = no k
 key-fields Kind.KeepAlive heartbeat k = no k
 
-module _ (types : List ℕ) (g : Given) (fits : FitsHeader (g .header)) (indices : Numbers (g .indices)) (ok : Accepted types g) where
+module _ (types : List ℕ) (g : GivenMessage) (fits : FitsHeader (g .header)) (indices : Numbers (g .indices)) (ok : Accepted types g) where
   body : Fielded types g
   body = fielded types g ok
 
   -- where the parts stand
 
-  all-at : At (encode g) 0 (encode g)
-  all-at = ([], [], sym (append-nil (encode g)), refl)
-
-  abbrev fieldsPart : List ℕ
-  fieldsPart = fieldsBytes (isDelta (g .header .kind)) (g .indices) (fieldsOf g)
-
-  abbrev countPart : List ℕ
-  countPart = countBytes (isFielded g) (isRawData g) (length (g .lengths))
-
-  abbrev start : ℕ
-  start = length (headerBytes (g .header))
-
-  body-at : At (encode g) start (countPart ++ (fieldsPart ++ zeros (g .padding)))
-  body-at = subst (λ (n : ℕ). At (encode g) n (countPart ++ (fieldsPart ++ zeros (g .padding)))) (zero-add start)
-      (second (encode g) 0 (headerBytes (g .header)) (countPart ++ (fieldsPart ++ zeros (g .padding))) all-at)
-
-  fields-at : At (encode g) (firstOf g) (fieldsPart ++ zeros (g .padding))
-  fields-at = second (encode g) start countPart (fieldsPart ++ zeros (g .padding)) body-at
+  fields-at : At (encode g) (firstOf g) ((fieldsPart g) ++ zeros (g .padding))
+  fields-at = second (encode g) (start g) (countPart g) ((fieldsPart g) ++ zeros (g .padding)) (body-at g)
 
   zeros-at : At (encode g) (endOf g) (zeros (g .padding))
-  zeros-at = second (encode g) (firstOf g) fieldsPart (zeros (g .padding)) fields-at
-
-  sizes : length (encode g) ≡ start + (length countPart + (length fieldsPart + g .padding))
-  sizes = simp (length-append, length-zeros)
+  zeros-at = second (encode g) (firstOf g) (fieldsPart g) (zeros (g .padding)) fields-at
 
   -- the parts, read
 
-  header-read : headerAt (encode g) 0 ≡ got (valid (g .header)) start
-  header-read =
-      header-is (g .header) fits (ok .kind) (ok .picoseconds) (encode g) (first (encode g) 0 (headerBytes (g .header)) (countPart ++ (fieldsPart ++ zeros (g .padding))) all-at)
-      ∙ ap (got (valid (g .header))) (zero-add start)
-
-  follows : isFielded g ≡ true → start < length (encode g)
+  follows : isFielded g ≡ true → (start g) < length (encode g)
   follows e = go (isRawData g) refl
     where
-      go : (r : Bool) → isRawData g ≡ r → start < length (encode g)
+      go : (r : Bool) → isRawData g ≡ r → (start g) < length (encode g)
       go true q =
           let c = body .configured e q in
-          let n : 0 < length (fieldsOf g) = let m = length-values (g .lengths) (g .values) in let z = eqb-false (length types) 0 (c .0) in omega arith in
-          let x = fields-some (isDelta (g .header .kind)) (g .header .encoding) types 0 (g .indices) (fieldsOf g) (body .whole) n in
-          omega (arith, sizes)
-      go false q = let c : length countPart ≡ 2 = rw (e, q) in omega (arith, sizes)
+          let n : 0 < length (givenFields g) = let m = length-values (g .lengths) (g .values) in let z = eqb-false (length types) 0 (c .0) in omega arith in
+          let x = fields-some (isDelta (g .header .kind)) (g .header .encoding) types 0 (g .indices) (givenFields g) (body .whole) n in
+          omega (arith, (sizes g))
+      go false q = let c : length (countPart g) ≡ 2 = rw (e, q) in omega (arith, (sizes g))
 
-  ends-there : isFielded g ≡ false → isKey (g .header .kind) ≡ true → length (encode g) ≤ start
+  ends-there : isFielded g ≡ false → isKey (g .header .kind) ≡ true → length (encode g) ≤ (start g)
   ends-there e k =
       let p = body .unpadded e k in
-      let c : length countPart ≡ 0 = rw e in
-      let n : length fieldsPart ≡ 0 = none-bytes (isDelta (g .header .kind)) (g .indices) (g .lengths) (g .values) (body .none e) in
-      omega (arith, sizes)
+      let c : length (countPart g) ≡ 0 = rw e in
+      let n : length (fieldsPart g) ≡ 0 = none-bytes (isDelta (g .header .kind)) (g .indices) (g .lengths) (g .values) (body .none e) in
+      omega (arith, (sizes g))
 
-  count-read : countAt (g .header .kind) (isRawData g) types (encode g) start ≡ got (length (g .lengths)) (firstOf g)
+  count-read : countAt (g .header .kind) (isRawData g) types (encode g) (start g) ≡ got (length (g .lengths)) (firstOf g)
   count-read =
-      count-is (g .header .kind) (g .heartbeat) (isRawData g) types (encode g) start (length (g .lengths)) (delta-plain (g .header .kind) (g .header .encoding) (ok .kind))
+      count-is (g .header .kind) (g .heartbeat) (isRawData g) types (encode g) (start g) (length (g .lengths)) (delta-plain (g .header .kind) (g .header .encoding) (ok .kind))
       (λ e. (
         follows e,
-        counted-is (isRawData g) types (encode g) start (length (g .lengths)) (body .configured e) (body .counted e)
-            (subst (λ (f : Bool). At (encode g) start (countBytes f (isRawData g) (length (g .lengths)))) e (first (encode g) start countPart (fieldsPart ++ zeros (g .padding)) body-at)),
+        counted-is (isRawData g) types (encode g) (start g) (length (g .lengths)) (body .configured e) (body .counted e)
+            (subst (λ (f : Bool). At (encode g) (start g) (countBytes f (isRawData g) (length (g .lengths)))) e
+            (first (encode g) (start g) (countPart g) ((fieldsPart g) ++ zeros (g .padding)) (body-at g))),
       ))
       (λ e. record { none = body .none e; ends = ends-there e })
 
   fields-read : fieldsAt (isDelta (g .header .kind)) (g .header .encoding) types (length (g .lengths)) 0 (encode g) (firstOf g) ≡ got tt (endOf g)
   fields-read =
       ap (λ (n : ℕ). fieldsAt (isDelta (g .header .kind)) (g .header .encoding) types n 0 (encode g) (firstOf g)) (sym (length-values (g .lengths) (g .values)))
-      ∙ fields-is (isDelta (g .header .kind)) (g .header .encoding) types (fieldsOf g) 0 (g .indices) indices (body .whole) (encode g)
-      (firstOf g) (first (encode g) (firstOf g) fieldsPart (zeros (g .padding)) fields-at)
+      ∙ fields-is (isDelta (g .header .kind)) (g .header .encoding) types (givenFields g) 0 (g .indices) indices (body .whole) (encode g)
+      (firstOf g) (first (encode g) (firstOf g) (fieldsPart g) (zeros (g .padding)) fields-at)
 
   padding-is : length (encode g) - endOf g ≡ g .padding
-  padding-is = omega (arith, sizes)
+  padding-is = omega (arith, (sizes g))
 
   padding-read : paddingAt (encode g) (endOf g) ≡ got tt (endOf g + g .padding)
   padding-read = rw padding-is (zeros-is (g .padding) (encode g) (endOf g) zeros-at)
 
-  message-read : messageAt types (encode g) ≡ got (valid (messageOf g)) (endOf g)
-  message-read = rw (header-read, count-read, fields-read, padding-read)
+  message-read : messageAt types (encode g) ≡ got (valid (messageWritten g)) (endOf g)
+  message-read = rw ((header-read g fits (ok .kind) (ok .picoseconds)), count-read, fields-read, padding-read)
 
-  heartbeat-read : isKey (g .header .kind) ≡ true → leb (length (encode g)) start ≡ g .heartbeat
+  heartbeat-read : isKey (g .header .kind) ≡ true → leb (length (encode g)) (start g) ≡ g .heartbeat
   heartbeat-read k = go (g .heartbeat) (isFielded g) refl (key-fields (g .header .kind) (g .heartbeat) k)
     where
-      go : (b f : Bool) → isFielded g ≡ f → f ≡ not b → leb (length (encode g)) start ≡ b
-      go true f e n = le-leb (length (encode g)) start (ends-there (e ∙ n) k)
-      go false f e n = lt-leb (length (encode g)) start (follows (e ∙ n))
+      go : (b f : Bool) → isFielded g ≡ f → f ≡ not b → leb (length (encode g)) (start g) ≡ b
+      go true f e n = le-leb (length (encode g)) (start g) (ends-there (e ∙ n) k)
+      go false f e n = lt-leb (length (encode g)) (start g) (follows (e ∙ n))
 
   field-read : (k : ℕ) → k < length (g .lengths) → FieldBack types g (encode g) k
   field-read k l =
-      let n = nth-is (isDelta (g .header .kind)) (g .header .encoding) types k (fieldsOf g) 0 (g .indices) indices (body .whole) (rw (length-values (g .lengths) (g .values)) l)
-      (encode g) (firstOf g) (first (encode g) (firstOf g) fieldsPart (zeros (g .padding)) fields-at) in
+      let n = nth-is (isDelta (g .header .kind)) (g .header .encoding) types k (givenFields g) 0 (g .indices) indices (body .whole) (rw (length-values (g .lengths) (g .values)) l)
+      (encode g) (firstOf g) (first (encode g) (firstOf g) (fieldsPart g) (zeros (g .padding)) fields-at) in
       let r : fieldAt (isDelta (g .header .kind)) (g .header .encoding) types k (encode g) (n .at) ≡ got (n .place) (n .end) =
       ap (λ (j : ℕ). fieldAt (isDelta (g .header .kind)) (g .header .encoding) types j (encode g) (n .at)) (sym (zero-add k)) ∙ n .reads in
       let p : fieldPlaceAt types k (encode g) ≡ got (n .place) (n .end) = rw (message-read, lt-leb (length (g .lengths)) k l, n .passed, r) in
@@ -269,7 +246,7 @@ module _ (types : List ℕ) (g : Given) (fits : FitsHeader (g .header)) (indices
 
 -- What the writer accepts reads back, under the same types, as what it was given: the header, the number of fields, each field's
 -- index and bytes, and the length of the padding.
-pub read-written : (types : List ℕ) (g : Given) → FitsHeader (g .header) → Numbers (g .indices) → refusalOf types g ≡ 0 → MessageBack types g (encode g)
+pub read-written : (types : List ℕ) (g : GivenMessage) → FitsHeader (g .header) → Numbers (g .indices) → messageRefusal types g ≡ 0 → MessageBack types g (encode g)
 read-written types g fits indices h =
     let ok = accepted types g h in
     record {
@@ -280,8 +257,8 @@ read-written types g fits indices h =
     }
 
 -- The same of the buffer, by the writer's contract alone: where it reports n bytes, the first n read back, and the others are as they were.
-pub written-reads : (types : List ℕ) (g : Given) (entry exit : List ℕ) (n : ℕ) → FitsGiven g × Writes (messageOutput types g) entry exit (Written.Is n)
+pub written-reads : (types : List ℕ) (g : GivenMessage) (entry exit : List ℕ) (n : ℕ) → FitsGiven g × Writes (messageOutput types g) entry exit (Written.Is n)
     → MessageBack types g (take n exit) × (drop n exit ≡ drop n entry)
 written-reads types g entry exit n c =
-    let w = reported (refusalOf types g) (encode g) entry exit n (c .1) in
+    let w = reported (messageRefusal types g) (encode g) entry exit n (c .1) in
     (subst (MessageBack types g) (sym (w .front)) (read-written types g (c .0 .header) (c .0 .indices) (w .number)), w .rest)

@@ -21,7 +21,7 @@ use Rattle.dataset_header.specs.declared.flags.Encoding.{Encoding}
 use Rattle.dataset_header.specs.declared.flags.Kind.{Kind}
 use Rattle.dataset_header.specs.declared.flags.Flags.{Flags}
 use Rattle.dataset_header.specs.declared.header.Header.{Header}
-use Rattle.dataset_header.specs.Flags.{Valid, notValid, valid, encodingOf, kindOf, flags1Rule, flags2Rule, flags2At, flagsOf, flagsAt, encodingNumber, kindNumber, flags1Of, flags2Of, flagBytes, kindRule}
+use Rattle.dataset_header.specs.Flags.{Valid, notValid, valid, encodingOf, kindOf, flags1Rule, flags2Rule, flags2At, messageFlagsOf, messageFlagsAt, encodingNumber, kindNumber, flags1Of, flags2Of, messageFlagBytes, kindRule}
 use Rattle.wire_writer.specs.Fits.{Bytes}
 
 -- the bytes as sums of their bits
@@ -131,7 +131,7 @@ flagsFor h =
       picoseconds = on16 (h .picoseconds);
     }
 
-flags-of-is : (h : Header) → flagsOf (flags1Of h) (flags2Of h) ≡ flagsFor h
+flags-of-is : (h : Header) → messageFlagsOf (flags1Of h) (flags2Of h) ≡ flagsFor h
 flags-of-is h =
     let x = flags1-bits h in
     let y = flags2-bits h in
@@ -160,7 +160,7 @@ flags2-is b f n l low high rule s a = go (eqb f 0) refl
         let at : At s n (leBytes 1 f) = rw e at a in
         rw (le-ltb b 128 d, ruled-is 1 (flags2Rule b) f n (omega arith) (rule e) s at, e)
 
-pub flags-is : (h : Header) → kindRule (h .kind) (h .encoding) ≡ 0 → Reads flagsAt 0 (flagBytes h) (valid (flagsFor h))
+pub flags-is : (h : Header) → kindRule (h .kind) (h .encoding) ≡ 0 → Reads messageFlagsAt 0 (messageFlagBytes h) (valid (flagsFor h))
 flags-is h r s a =
     let x = flags1-bits h in
     let y = flags2-bits h in
@@ -170,7 +170,7 @@ flags-is h r s a =
     let two = flags2-is (flags1Of h) (flags2Of h) 1 (y .small) (x .low) (x .high)
     (λ e. kind-rule-is (h .kind) (h .encoding) (flags2Of h) (flags2Of h % 16) (flags1Of h / 2 % 4) (eqb-false (flags2Of h) 0 e) (y .small) (y .kind) (x .encoding) ∙ r)
     s (second s 0 (leBytes 1 (flags1Of h)) (byteBytes (flags2Of h)) a) in
-    let e : 1 + length (byteBytes (flags2Of h)) ≡ 0 + length (flagBytes h) = omega arith in
+    let e : 1 + length (byteBytes (flags2Of h)) ≡ 0 + length (messageFlagBytes h) = omega arith in
     rw (p, even, one, two, flags-of-is h) (ap (got (valid (flagsFor h))) e)
 
 -- back: the flags that were read are the bytes that stand there
@@ -246,9 +246,9 @@ pub record FlagsBack (s : List ℕ) (f : Flags) (next : ℕ) : Type 0 where
   pub odd : flags1 % 2 ≡ 1
   pub encoding : flags1 / 2 % 4 < 3
   pub second : Flags2Back flags1 s at flags2 next
-  pub says : flagsOf flags1 flags2 ≡ f
+  pub says : messageFlagsOf flags1 flags2 ≡ f
 
-pub flags-back : (s : List ℕ) (f : Flags) (next : ℕ) → Bytes s → flagsAt s 0 ≡ got (valid f) next → FlagsBack s f next
+pub flags-back : (s : List ℕ) (f : Flags) (next : ℕ) → Bytes s → messageFlagsAt s 0 ≡ got (valid f) next → FlagsBack s f next
 flags-back s f next bytes h =
     let a = invert (item 1 s 0) (λ b n. _) h in
     let i = item-back 1 s 0 (a .0) (a .1) bytes (a .2) in
@@ -256,7 +256,7 @@ flags-back s f next bytes h =
   where
     go : (b z : ℕ) → Back s 0 (leBytes 1 b) z → b < 256 ^ 1
         → cond (eqb (b % 2) 0) (got notValid z)
-        (cond (eqb (flags1Rule b) 0) (andThen (flags2At b s z) (λ f z. got (valid (flagsOf b f)) z)) (refused (flags1Rule b) 0)) ≡ got (valid f) next
+        (cond (eqb (flags1Rule b) 0) (andThen (flags2At b s z) (λ f z. got (valid (messageFlagsOf b f)) z)) (refused (flags1Rule b) 0)) ≡ got (valid f) next
         → (t : Bool) → eqb (b % 2) 0 ≡ t → (r : Bool) → eqb (flags1Rule b) 0 ≡ r → FlagsBack s f next
     go b z i l q true t r e =
         let v : _≡_ {A = Valid Flags} notValid (valid f) = got-value (rw t at q) in
@@ -264,10 +264,10 @@ flags-back s f next bytes h =
         absurd (omega arith)
     go b z i l q false t false e = absurd (not-got (rw (t, e) at q))
     go b z i l q false t true e =
-        let w : andThen (flags2At b s z) (λ f z. got (valid (flagsOf b f)) z) ≡ got (valid f) next = rw (t, e) at q in
-        let c = invert (flags2At b s z) (λ f z. got (valid (flagsOf b f)) z) w in
-        let y : valid (flagsOf b (c .0)) ≡ valid f = got-value (c .3) in
-        let x : flagsOf b (c .0) ≡ f = cc in
+        let w : andThen (flags2At b s z) (λ f z. got (valid (messageFlagsOf b f)) z) ≡ got (valid f) next = rw (t, e) at q in
+        let c = invert (flags2At b s z) (λ f z. got (valid (messageFlagsOf b f)) z) w in
+        let y : valid (messageFlagsOf b (c .0)) ≡ valid f = got-value (c .3) in
+        let x : messageFlagsOf b (c .0) ≡ f = cc in
         let n : c .1 ≡ next = got-next (c .3) in
         let o = eqb-false (b % 2) 0 t in
         let p = passed (eqb (b / 2 % 4) 3) 2 0 (eqb-true (flags1Rule b) 0 e) in
@@ -288,7 +288,7 @@ flags-back s f next bytes h =
 
 -- a header with these flags has these bytes
 module _ (s : List ℕ) (f : Flags) (next : ℕ) (r : FlagsBack s f next) (h : Header) (says : flagsFor h ≡ f) where
-  same : flagsFor h ≡ flagsOf (r .flags1) (r .flags2)
+  same : flagsFor h ≡ messageFlagsOf (r .flags1) (r .flags2)
   same = says ∙ sym (r .says)
 
   bit-number : (p : Bool) (n : ℕ) → n < 2 → p ≡ eqb n 1 → num p ≡ n
@@ -311,7 +311,7 @@ module _ (s : List ℕ) (f : Flags) (next : ℕ) (r : FlagsBack s f next) (h : H
       let d : needed (flags2Of h) ≡ r .flags1 / 128 = ap needed flags2-same ∙ r .second .there in
       rw (e, a, u, j, i, d) (rw (r .odd) at (sum1 (r .flags1) (r .small)))
 
-  pub flags-stand : Back s 0 (flagBytes h) next
+  pub flags-stand : Back s 0 (messageFlagBytes h) next
   flags-stand =
       rw (flags1-same, flags2-same) (join s 0 (leBytes 1 (r .flags1)) (r .at) (byteBytes (r .flags2)) next (r .first) (r .second .stands))
 

@@ -8,7 +8,7 @@ use native.Mathlib.Nat.{add-zero, zero-add}
 use native.Mathlib.Omega.{arith}
 use borrow.Author.Tests.{leb-true, eq-eqb, le-leb, lt-leb}
 use lib.Dec.{eqb, leb}
-use lib.ListN.{length, getD, length-append}
+use lib.ListN.{length, getD}
 use Rattle.wire.specs.Number.{leBytes}
 use Rattle.wire.specs.Answer.{Answer, got, andThen}
 use Rattle.wire.proofs.Reading.{invert, got-value, not-got}
@@ -20,16 +20,16 @@ use Rattle.dataset_header.specs.declared.flags.Kind.{Kind}
 use Rattle.dataset_header.specs.declared.header.Header.{Header}
 use Rattle.dataset_fields.specs.declared.fields.Field.{Field}
 use Rattle.dataset_header.specs.Flags.{Valid, notValid, valid, isDelta, isRaw, kindRule}
-use Rattle.dataset_header.specs.Header.{headerAt, headerBytes, FitsHeader}
-use Rattle.dataset_fields.specs.Fields.{encodedAt, fieldAt, fieldsAt, paddingAt, endsAt, fieldsWhole, fieldsBytes, zeros}
+use Rattle.dataset_header.specs.Header.{FitsHeader}
+use Rattle.dataset_fields.specs.Fields.{encodedAt, fieldAt, fieldsAt, paddingAt, endsAt, fieldsWhole, zeros}
 use Rattle.dataset_message.specs.Message.{Message, countedAt, countAt, bodyAt, fieldBytes, nthAt}
-use Rattle.dataset_message_writer.specs.Message.{Given, hasFields, isKey, isFielded, isRawData, fieldsOf, countBytes, countAgrees, bodyRefusal, bodyAgrees, readingRefusal, encode}
+use Rattle.dataset_message_writer.specs.Message.{GivenMessage, hasFields, isKey, isFielded, isRawData, givenFields, countBytes, countAgrees, bodyRefusal, bodyAgrees, messageReadingRefusal, encode}
 use Rattle.dataset_fields.proofs.Judging.{length-values}
-use Rattle.dataset_fields.proofs.Laying.{length-zeros}
 use Rattle.dataset_message_writer.proofs.Whole.{count-bytes}
-use Rattle.round_trip.specs.DataSetMessage.{firstOf, endOf, messageOf, bytesOf, MessageBack}
-use Rattle.round_trip.proofs.DataSetMessageParts.{header-is, field-alone}
+use Rattle.round_trip.specs.DataSetMessage.{firstOf, endOf, messageWritten, fieldBytesOf, MessageBack}
+use Rattle.round_trip.proofs.DataSetMessageParts.{field-alone}
 use Rattle.round_trip.proofs.DataSetMessage.{no, reached-all, delta-plain}
+use Rattle.round_trip.proofs.DataSetMessagePlaces.{fieldsPart, countPart, start, body-at, sizes, header-read}
 
 whole-at : (s : List ℕ) → At s 0 s
 whole-at s = ([], [], sym (append-nil s), refl)
@@ -93,74 +93,54 @@ count-of h types s at m e q =
     atIn (valid m) = m .cursor .at
     atIn notValid = 0
 
-module _ (types : List ℕ) (g : Given) (fits : FitsHeader (g .header)) (kind : kindRule (g .header .kind) (g .header .encoding) ≡ 0)
+module _ (types : List ℕ) (g : GivenMessage) (fits : FitsHeader (g .header)) (kind : kindRule (g .header .kind) (g .header .encoding) ≡ 0)
     (pico : picosecondsRefusal (g .header .picoseconds) ≡ 0) (back : MessageBack types g (encode g)) where
-  abbrev fieldsPart : List ℕ
-  fieldsPart = fieldsBytes (isDelta (g .header .kind)) (g .indices) (fieldsOf g)
+  body-read : bodyAt (g .header) types (encode g) (start g) ≡ got (valid (messageWritten g)) (endOf g)
+  body-read = rw (header-read g fits kind pico) at (back .message)
 
-  abbrev countPart : List ℕ
-  countPart = countBytes (isFielded g) (isRawData g) (length (g .lengths))
+  count-read : countAt (g .header .kind) (isRawData g) types (encode g) (start g) ≡ got (length (g .lengths)) (firstOf g)
+  count-read = count-of (g .header) types (encode g) (start g) (messageWritten g) (endOf g) body-read
 
-  abbrev start : ℕ
-  start = length (headerBytes (g .header))
+  count-at : At (encode g) (start g) (countPart g)
+  count-at = first (encode g) (start g) (countPart g) ((fieldsPart g) ++ zeros (g .padding)) (body-at g)
 
-  header-read : headerAt (encode g) 0 ≡ got (valid (g .header)) start
-  header-read =
-      header-is (g .header) fits kind pico (encode g) (first (encode g) 0 (headerBytes (g .header)) (countPart ++ (fieldsPart ++ zeros (g .padding))) (whole-at (encode g)))
-      ∙ ap (got (valid (g .header))) (zero-add start)
-
-  body-read : bodyAt (g .header) types (encode g) start ≡ got (valid (messageOf g)) (endOf g)
-  body-read = rw header-read at (back .message)
-
-  count-read : countAt (g .header .kind) (isRawData g) types (encode g) start ≡ got (length (g .lengths)) (firstOf g)
-  count-read = count-of (g .header) types (encode g) start (messageOf g) (endOf g) body-read
-
-  count-at : At (encode g) start countPart
-  count-at =
-      first (encode g) start countPart (fieldsPart ++ zeros (g .padding))
-      (subst (λ (n : ℕ). At (encode g) n (countPart ++ (fieldsPart ++ zeros (g .padding)))) (zero-add start)
-      (second (encode g) 0 (headerBytes (g .header)) (countPart ++ (fieldsPart ++ zeros (g .padding))) (whole-at (encode g))))
-
-  field-whole : (k : ℕ) → k < length (g .lengths) → endsAt (length (getD (fieldsOf g) k [])) (encodedAt (g .header .encoding) types (0 + k) (getD (fieldsOf g) k []) 0) ≡ true
+  field-whole : (k : ℕ) → k < length (g .lengths) → endsAt (length (getD (givenFields g) k [])) (encodedAt (g .header .encoding) types (0 + k) (getD (givenFields g) k []) 0) ≡ true
   field-whole k l =
       let f = back .field k l in
-      let p : nthAt (messageOf g .cursor) types k (encode g) ≡ got (f .place) (f .end) = rw (back .message) at (f .looked-up) in
+      let p : nthAt (messageWritten g .cursor) types k (encode g) ≡ got (f .place) (f .end) = rw (back .message) at (f .looked-up) in
       let q : andThen (fieldsAt (isDelta (g .header .kind)) (g .header .encoding) types k 0 (encode g) (firstOf g))
       (λ u at. fieldAt (isDelta (g .header .kind)) (g .header .encoding) types k (encode g) at) ≡ got (f .place) (f .end) =
       rw (lt-leb (length (g .lengths)) k l) at p in
       let a = invert (fieldsAt (isDelta (g .header .kind)) (g .header .encoding) types k 0 (encode g) (firstOf g))
       (λ u at. fieldAt (isDelta (g .header .kind)) (g .header .encoding) types k (encode g) at) q in
       let y = field-alone (isDelta (g .header .kind)) (g .header .encoding) types k (encode g) (a .1) (f .place) (f .end) (a .3) in
-      let b : bytesOf (encode g) (f .place) ≡ getD (fieldsOf g) k [] = ap (λ (x : Answer Field). fieldBytes x (encode g)) (sym (f .looked-up)) ∙ f .bytes in
-      ap (λ (n : ℕ). endsAt (length (getD (fieldsOf g) k [])) (encodedAt (g .header .encoding) types n (getD (fieldsOf g) k []) 0)) (zero-add k)
+      let b : fieldBytesOf (encode g) (f .place) ≡ getD (givenFields g) k [] = ap (λ (x : Answer Field). fieldBytes x (encode g)) (sym (f .looked-up)) ∙ f .bytes in
+      ap (λ (n : ℕ). endsAt (length (getD (givenFields g) k [])) (encodedAt (g .header .encoding) types n (getD (givenFields g) k []) 0)) (zero-add k)
       ∙ subst (λ (v : List ℕ). endsAt (length v) (encodedAt (g .header .encoding) types k v 0) ≡ true) b
-      (rw (y .1) (eq-eqb (length (bytesOf (encode g) (f .place))) (length (bytesOf (encode g) (f .place))) refl))
+      (rw (y .1) (eq-eqb (length (fieldBytesOf (encode g) (f .place))) (length (fieldBytesOf (encode g) (f .place))) refl))
 
-  fields-whole : fieldsWhole (g .header .encoding) types 0 (fieldsOf g) ≡ true
-  fields-whole = all-whole (g .header .encoding) types (fieldsOf g) 0 (λ j l. field-whole j (subst (λ (n : ℕ). j < n) (length-values (g .lengths) (g .values)) l))
+  fields-whole : fieldsWhole (g .header .encoding) types 0 (givenFields g) ≡ true
+  fields-whole = all-whole (g .header .encoding) types (givenFields g) 0 (λ j l. field-whole j (subst (λ (n : ℕ). j < n) (length-values (g .lengths) (g .values)) l))
 
   body-agrees : bodyAgrees types g ≡ true
   body-agrees = go (isFielded g) refl
     where
-      sizes : length (encode g) ≡ start + (length countPart + (length fieldsPart + g .padding))
-      sizes = simp (length-append, length-zeros)
-
-      unpadded : (k : Bool) → isKey (g .header .kind) ≡ k → (k ≡ true → length (encode g) ≤ start) → not k || eqb (g .padding) 0 ≡ true
-      unpadded true e l = let u = l refl in let p : g .padding ≡ 0 = omega (arith, sizes) in eq-eqb (g .padding) 0 p
+      unpadded : (k : Bool) → isKey (g .header .kind) ≡ k → (k ≡ true → length (encode g) ≤ (start g)) → not k || eqb (g .padding) 0 ≡ true
+      unpadded true e l = let u = l refl in let p : g .padding ≡ 0 = omega (arith, (sizes g)) in eq-eqb (g .padding) 0 p
       unpadded false e l = refl
 
       go : (f : Bool) → isFielded g ≡ f → bodyAgrees types g ≡ true
       go true e =
-          let c = count-agrees (g .header .kind) (g .heartbeat) (isRawData g) types (encode g) start (length (g .lengths)) (firstOf g)
+          let c = count-agrees (g .header .kind) (g .heartbeat) (isRawData g) types (encode g) (start g) (length (g .lengths)) (firstOf g)
           (delta-plain (g .header .kind) (g .header .encoding) kind) e (back .heartbeat)
-          (subst (λ (f : Bool). At (encode g) start (countBytes f (isRawData g) (length (g .lengths)))) e count-at) count-read in
+          (subst (λ (f : Bool). At (encode g) (start g) (countBytes f (isRawData g) (length (g .lengths)))) e count-at) count-read in
           rw (e, reached-all (isRawData g) types (g .lengths) (g .values) c, fields-whole, c)
       go false e =
-          let n = none-read (g .header .kind) (g .heartbeat) (isRawData g) types (encode g) start (length (g .lengths)) (firstOf g) e (back .heartbeat) count-read in
+          let n = none-read (g .header .kind) (g .heartbeat) (isRawData g) types (encode g) (start g) (length (g .lengths)) (firstOf g) e (back .heartbeat) count-read in
           rw (e, eq-eqb (length (g .lengths)) 0 (n .0), unpadded (isKey (g .header .kind)) refl (n .1))
 
 -- What reading accepts and reads back as it is given is not refused by 6, where the lists agree.
-pub six-otherwise : (types : List ℕ) (g : Given) → FitsHeader (g .header) → readingRefusal types g ≡ 0 → MessageBack types g (encode g) → bodyAgrees types g ≡ true
+pub six-otherwise : (types : List ℕ) (g : GivenMessage) → FitsHeader (g .header) → messageReadingRefusal types g ≡ 0 → MessageBack types g (encode g) → bodyAgrees types g ≡ true
 six-otherwise types g fits r back =
     let a = both-zero (kindRule (g .header .kind) (g .header .encoding)) (orElse (picosecondsRefusal (g .header .picoseconds)) (bodyRefusal types g)) r in
     let b = both-zero (picosecondsRefusal (g .header .picoseconds)) (bodyRefusal types g) (a .1) in

@@ -11,15 +11,15 @@ use native.Mathlib.Omega.{arith}
 use borrow.Author.Tests.{eqb-true, eq-eqb}
 use lib.ListN.{length, getD, take, drop, length-append}
 use lib.Seq.{getD-append-seam, getD-drop, take-at, drop-at, drop-cons, drop-length}
-use Rattle.round_trip.specs.DataSetMessage.{walked, bytesOf, joined, lengthsOf, indicesOf}
-use Rattle.dataset_header.specs.Header.{FitsHeader, timesBytes, versionsBytes, headerBytes, timesAt, versionsAt, headerAt, headerOf, bodyAt, afterFlags}
+use Rattle.wire.specs.Lists.{total}
+use Rattle.round_trip.specs.DataSetMessage.{walked, fieldBytesOf, valuesJoined, lengthsOf, indicesOf}
+use Rattle.dataset_header.specs.Header.{FitsHeader, timesBytes, versionsBytes, messageHeaderBytes, messageTimesAt, versionsAt, messageHeaderAt, headerOf, messageItemsAt, afterFlags}
 use Rattle.dataset_message.proofs.Agreement.{field-inside}
 use Rattle.dataset_header.specs.declared.header.Versions.{Versions}
 use Rattle.dataset_header.specs.declared.header.Times.{Times}
 use Rattle.dataset_header.specs.declared.flags.Flags.{Flags}
-use Rattle.wire_writer.proofs.Back.{Back, empty, join, end-fits, part-at, item-back, ruled-back, map-back, optional16-back, optional32-back, optionalI64-back, ruled16-back}
+use Rattle.wire_writer.proofs.Back.{Back, empty, join, end-fits, part-at, item-back, optional16-back, optional32-back, optionalI64-back, ruled16-back, picoseconds-kept}
 use Rattle.wire.proofs.Reading.{invert, got-value, got-next, not-got}
-use Rattle.wire.specs.declared.optional.Optional16.{Optional16}
 use Rattle.wire.specs.Optional.{optional16, optional32, optionalI64, picosecondsAt, picosecondsRule}
 use Rattle.wire.specs.Answer.{Answer, got, refused, ruled}
 use Rattle.wire.proofs.Places.{placed, alone}
@@ -30,8 +30,8 @@ use Rattle.wire_writer.proofs.Trip.{At, Reads, first, second, item-is, optional
 use Rattle.dataset_header.specs.declared.flags.Encoding.{Encoding}
 use Rattle.dataset_header.specs.declared.header.Header.{Header}
 use Rattle.dataset_fields.specs.declared.fields.Field.{Field}
-use Rattle.dataset_header.specs.Flags.{valid, Valid, notValid, flagsAt, flagBytes, kindRule}
-use Rattle.dataset_fields.specs.Fields.{encodedAt, indexAt, fieldAt, fieldsAt, zerosAt, endsAt, fieldsWhole, indexBytes, fieldsBytes, zeros, total, valuesOf, numberOf, fieldsRefusal}
+use Rattle.dataset_header.specs.Flags.{valid, Valid, notValid, messageFlagsAt, messageFlagBytes, kindRule}
+use Rattle.dataset_fields.specs.Fields.{encodedAt, indexAt, fieldAt, fieldsAt, zerosAt, endsAt, fieldsWhole, indexBytes, fieldsBytes, zeros, valuesOf, numberOf, fieldsRefusal}
 use Rattle.dataset_fields.proofs.Judging.{encoded-steady}
 use Rattle.round_trip.proofs.DataSetMessageFlags.{flagsFor, flags-is, FlagsBack, flags-back, flags-stand, kind-kept}
 use Rattle.wire_writer.specs.Fits.{Bytes, Numbers}
@@ -48,7 +48,7 @@ three : (m : ℕ) (a b c : List ℕ) → m + length a + length b + length c ≡ 
 three m a b c = simp length-append (omega arith)
 
 times-is : (h : Header) (m : ℕ) → FitsHeader h → picosecondsRefusal (h .picoseconds) ≡ 0
-    → Reads (timesAt (flagsFor h)) m (timesBytes h) (record { sequence = h .sequence; timestamp = h .timestamp; picoseconds = h .picoseconds })
+    → Reads (messageTimesAt (flagsFor h)) m (timesBytes h) (record { sequence = h .sequence; timestamp = h .timestamp; picoseconds = h .picoseconds })
 times-is h m f r s a =
     let x = optional16Bytes (h .sequence) in
     let y = optionalI64Bytes (h .timestamp) in
@@ -71,9 +71,9 @@ versions-is h m f s a =
     let o = optional32-is (h .minor) (m + length x + length y) (f .minor) s (second s (m + length x) y z b) in
     rw (p, q, o) (ends (three m x y z))
 
-pub header-is : (h : Header) → FitsHeader h → kindRule (h .kind) (h .encoding) ≡ 0 → picosecondsRefusal (h .picoseconds) ≡ 0 → Reads headerAt 0 (headerBytes h) (valid h)
+pub header-is : (h : Header) → FitsHeader h → kindRule (h .kind) (h .encoding) ≡ 0 → picosecondsRefusal (h .picoseconds) ≡ 0 → Reads messageHeaderAt 0 (messageHeaderBytes h) (valid h)
 header-is h f k r s a =
-    let x = flagBytes h in
+    let x = messageFlagBytes h in
     let y = timesBytes h in
     let z = versionsBytes h in
     let b = second s 0 x (y ++ z) a in
@@ -222,12 +222,6 @@ zeros-is (suc n) s m a =
 
 -- back: the header that was read is the bytes that stand there
 
-picoseconds-kept : (on : Bool) (s : List ℕ) (at : ℕ) (x : Optional16) (next : ℕ) → picosecondsAt on s at ≡ got x next → picosecondsRefusal x ≡ 0
-picoseconds-kept true s at x next h =
-    let y = map-back (ruled 2 picosecondsRule) Optional16.Is s at x next h in
-    rw (sym (y .2)) (ruled-back 2 picosecondsRule s at (y .0) next (y .1) .1)
-picoseconds-kept false s at x next h = rw (sym (got-value h))
-
 -- what the times that were read tell
 record TimesBack (f : Flags) (s : List ℕ) (at : ℕ) (t : Times) (next : ℕ) : Type 0 where
   stands : Back s at (optional16Bytes (t .sequence) ++ (optionalI64Bytes (t .timestamp) ++ optional16Bytes (t .picoseconds))) next
@@ -236,7 +230,7 @@ record TimesBack (f : Flags) (s : List ℕ) (at : ℕ) (t : Times) (next : ℕ) 
   picoseconds : on16 (t .picoseconds) ≡ f .picoseconds
   kept : picosecondsRefusal (t .picoseconds) ≡ 0
 
-times-back : (f : Flags) (s : List ℕ) (at : ℕ) (t : Times) (next : ℕ) → Bytes s → at ≤ length s → timesAt f s at ≡ got t next → TimesBack f s at t next
+times-back : (f : Flags) (s : List ℕ) (at : ℕ) (t : Times) (next : ℕ) → Bytes s → at ≤ length s → messageTimesAt f s at ≡ got t next → TimesBack f s at t next
 times-back f s at t next bytes l h =
     let a = invert (optional16 (f .sequence) s at) (λ q n. _) h in
     let x = optional16-back (f .sequence) s at (a .0) (a .1) bytes l (a .2) in
@@ -277,14 +271,14 @@ versions-back f s at v next bytes l h =
 
 -- what a header that was read tells
 pub record HeaderBack (s : List ℕ) (h : Header) (next : ℕ) : Type 0 where
-  pub stands : Back s 0 (headerBytes h) next
+  pub stands : Back s 0 (messageHeaderBytes h) next
   pub kind : kindRule (h .kind) (h .encoding) ≡ 0
   pub picoseconds : picosecondsRefusal (h .picoseconds) ≡ 0
 
-body-back : (s : List ℕ) (f : Flags) (n : ℕ) (h : Header) (next : ℕ) → Bytes s → FlagsBack s f n → bodyAt f s n ≡ got (valid h) next → HeaderBack s h next
+body-back : (s : List ℕ) (f : Flags) (n : ℕ) (h : Header) (next : ℕ) → Bytes s → FlagsBack s f n → messageItemsAt f s n ≡ got (valid h) next → HeaderBack s h next
 body-back s f n h next bytes r q =
     let l = end-fits s (r .at) (byteBytes (r .flags2)) n (r .second .stands) in
-    let a = invert (timesAt f s n) (λ t z. _) q in
+    let a = invert (messageTimesAt f s n) (λ t z. _) q in
     let t = times-back f s n (a .0) (a .1) bytes l (a .2) in
     let lt = end-fits s n (optional16Bytes (a .0 .sequence) ++ (optionalI64Bytes (a .0 .timestamp) ++ optional16Bytes (a .0 .picoseconds))) (a .1) (t .stands) in
     let b = invert (versionsAt f s (a .1)) (λ v z. _) (a .3) in
@@ -305,32 +299,32 @@ body-back s f n h next bytes r q =
           t .picoseconds i;
     } in
     let w = flags-stand s f n r (headerOf f (a .0) (b .0)) says in
-    let all = join s 0 (flagBytes (headerOf f (a .0) (b .0))) n (timesBytes (headerOf f (a .0) (b .0)) ++ versionsBytes (headerOf f (a .0) (b .0))) (b .1) w
+    let all = join s 0 (messageFlagBytes (headerOf f (a .0) (b .0))) n (timesBytes (headerOf f (a .0) (b .0)) ++ versionsBytes (headerOf f (a .0) (b .0))) (b .1) w
     (join s n (timesBytes (headerOf f (a .0) (b .0))) (a .1) (versionsBytes (headerOf f (a .0) (b .0))) (b .1) (t .stands) (v .stands)) in
     subst (λ (y : Header). HeaderBack s y next) x
     (subst (λ (y : ℕ). HeaderBack s (headerOf f (a .0) (b .0)) y) z
     (record { stands = all; kind = kind-kept s f n r (headerOf f (a .0) (b .0)) says; picoseconds = t .kept }))
 
-flagged-back : (v : Valid Flags) (s : List ℕ) (n : ℕ) (h : Header) (next : ℕ) → Bytes s → flagsAt s 0 ≡ got v n → afterFlags v s n ≡ got (valid h) next → HeaderBack s h next
+flagged-back : (v : Valid Flags) (s : List ℕ) (n : ℕ) (h : Header) (next : ℕ) → Bytes s → messageFlagsAt s 0 ≡ got v n → afterFlags v s n ≡ got (valid h) next → HeaderBack s h next
 flagged-back notValid s n h next bytes p q =
     let e : _≡_ {A = Valid Header} notValid (valid h) = got-value q in
     let z : _≡_ {A = ℕ} 0 1 = cc in
     absurd (omega arith)
 flagged-back (valid f) s n h next bytes p q = body-back s f n h next bytes (flags-back s f n bytes p) q
 
-pub header-back : (s : List ℕ) (h : Header) (next : ℕ) → Bytes s → headerAt s 0 ≡ got (valid h) next → HeaderBack s h next
+pub header-back : (s : List ℕ) (h : Header) (next : ℕ) → Bytes s → messageHeaderAt s 0 ≡ got (valid h) next → HeaderBack s h next
 header-back s h next bytes q =
-    let a = invert (flagsAt s 0) (λ f n. afterFlags f s n) q in
+    let a = invert (messageFlagsAt s 0) (λ f n. afterFlags f s n) q in
     flagged-back (a .0) s (a .1) h next bytes (a .2) (a .3)
 
 -- a field that was read
 
 pub record FieldTaken (delta : Bool) (encoding : Encoding) (types : List ℕ) (k : ℕ) (s : List ℕ) (at : ℕ) (f : Field) (end : ℕ) : Type 0 where
-  pub stands : Back s at (indexBytes delta (f .index) ++ bytesOf s f) end
+  pub stands : Back s at (indexBytes delta (f .index) ++ fieldBytesOf s f) end
   pub fits : delta ≡ true → f .index < 65536
-  pub size : length (bytesOf s f) ≡ f .length
-  pub alone : endsAt (length (bytesOf s f)) (encodedAt encoding types k (bytesOf s f) 0) ≡ true
-  pub number : numberOf (encodedAt encoding types k (bytesOf s f) 0) ≡ 0
+  pub size : length (fieldBytesOf s f) ≡ f .length
+  pub alone : endsAt (length (fieldBytesOf s f)) (encodedAt encoding types k (fieldBytesOf s f) 0) ≡ true
+  pub number : numberOf (encodedAt encoding types k (fieldBytesOf s f) 0) ≡ 0
 
 index-back : (delta : Bool) (k : ℕ) (s : List ℕ) (at i o : ℕ) → Bytes s → at ≤ length s → indexAt delta k s at ≡ got i o → Back s at (indexBytes delta i) o × (delta ≡ true → i < 65536)
 index-back true k s at i o bytes l h = let b = item-back 2 s at i o bytes h in (b .0, λ e. b .1)
@@ -338,7 +332,7 @@ index-back false k s at i o bytes l h = (subst (λ (n : ℕ). Back s at [] n) (g
 
 -- its bytes alone are a whole value
 pub field-alone : (delta : Bool) (encoding : Encoding) (types : List ℕ) (k : ℕ) (s : List ℕ) (at : ℕ) (f : Field) (end : ℕ)
-    → fieldAt delta encoding types k s at ≡ got f end → (m : Measure) × (encodedAt encoding types k (bytesOf s f) 0 ≡ got m (length (bytesOf s f))) × (length (bytesOf s f) ≡ f .length)
+    → fieldAt delta encoding types k s at ≡ got f end → (m : Measure) × (encodedAt encoding types k (fieldBytesOf s f) 0 ≡ got m (length (fieldBytesOf s f))) × (length (fieldBytesOf s f) ≡ f .length)
 field-alone delta encoding types k s at f end h =
     let w = field-inside delta encoding types k s at f end h in
     let a = invert (indexAt delta k s at) (λ i o. _) h in
@@ -349,7 +343,7 @@ field-alone delta encoding types k s at f end h =
     let l : f .offset + f .length ≤ length s = omega (arith, w .value, w .ends) in
     let lo : a .1 ≤ length s = omega arith in
     let p = part-at s (f .offset) (f .length) l in
-    let size : length (bytesOf s f) ≡ f .length = omega (arith, p .1) in (
+    let size : length (fieldBytesOf s f) ≡ f .length = omega (arith, p .1) in (
       b .0,
       ap (λ (q : ℕ). encodedAt encoding types k (take q (drop (f .offset) s)) 0) (sym n)
           ∙ ap (λ (q : ℕ). encodedAt encoding types k (take (b .1 - a .1) (drop q s)) 0) (sym o)
@@ -374,12 +368,12 @@ field-back delta encoding types k s at f end bytes h =
     let y = field-alone delta encoding types k s at f end h in
     record {
       stands =
-          subst (λ (e : ℕ). Back s at (indexBytes delta (f .index) ++ bytesOf s f) e) (w .value)
-          (join s at (indexBytes delta (f .index)) (f .offset) (bytesOf s f) (f .offset + f .length)
+          subst (λ (e : ℕ). Back s at (indexBytes delta (f .index) ++ fieldBytesOf s f) e) (w .value)
+          (join s at (indexBytes delta (f .index)) (f .offset) (fieldBytesOf s f) (f .offset + f .length)
           (subst (λ (q : ℕ). Back s at (indexBytes delta (f .index)) q) o (subst (λ (q : ℕ). Back s at (indexBytes delta q) (a .1)) i (x .0))) p);
       fits = λ e. subst (λ (q : ℕ). q < 65536) i (x .1 e);
       size = y .2;
-      alone = rw (y .1, eq-eqb (length (bytesOf s f)) (length (bytesOf s f)) refl);
+      alone = rw (y .1, eq-eqb (length (fieldBytesOf s f)) (length (fieldBytesOf s f)) refl);
       number = rw (y .1);
     }
 
@@ -389,12 +383,12 @@ abbrev pub indicesFor : Bool → List Field → List ℕ
 indicesFor delta fs = cond delta (indicesOf fs) []
 
 pub record FieldsTaken (delta : Bool) (encoding : Encoding) (types : List ℕ) (n k : ℕ) (s : List ℕ) (at : ℕ) (fs : List Field) (end : ℕ) : Type 0 where
-  pub stands : Back s at (fieldsBytes delta (indicesFor delta fs) (valuesOf (lengthsOf fs) (joined s fs))) end
+  pub stands : Back s at (fieldsBytes delta (indicesFor delta fs) (valuesOf (lengthsOf fs) (valuesJoined s fs))) end
   pub count : length (lengthsOf fs) ≡ n
   pub indexed : length (indicesFor delta fs) ≡ cond delta n 0
-  pub adds : total (lengthsOf fs) ≡ length (joined s fs)
-  pub whole : fieldsWhole encoding types k (valuesOf (lengthsOf fs) (joined s fs)) ≡ true
-  pub number : fieldsRefusal encoding types k (valuesOf (lengthsOf fs) (joined s fs)) ≡ 0
+  pub adds : total (lengthsOf fs) ≡ length (valuesJoined s fs)
+  pub whole : fieldsWhole encoding types k (valuesOf (lengthsOf fs) (valuesJoined s fs)) ≡ true
+  pub number : fieldsRefusal encoding types k (valuesOf (lengthsOf fs) (valuesJoined s fs)) ≡ 0
 
 indices-cons : (delta : Bool) (f : Field) (fs : List Field) (vs : List (List ℕ)) (v : List ℕ)
     → fieldsBytes delta (indicesFor delta (f ∷ fs)) (v ∷ vs) ≡ (indexBytes delta (f .index) ++ v) ++ fieldsBytes delta (indicesFor delta fs) vs
@@ -413,24 +407,24 @@ values-first n lengths v rest e = rw (take-at v rest n e, drop-at v rest n e)
 
 one-more : (delta : Bool) (encoding : Encoding) (types : List ℕ) (n k : ℕ) (s : List ℕ) (at : ℕ) (f : Field) (q : ℕ) (fs : List Field) (end : ℕ)
     → FieldTaken delta encoding types k s at f q → FieldsTaken delta encoding types n (k + 1) s q fs end → FieldsTaken delta encoding types (suc n) k s at (f ∷ fs) end
-unfolding total joined lengthsOf fieldsWhole fieldsRefusal
+unfolding valuesJoined lengthsOf fieldsWhole fieldsRefusal
 one-more delta encoding types n k s at f q fs end x r =
-    let v : valuesOf (f .length ∷ lengthsOf fs) (bytesOf s f ++ joined s fs) ≡ bytesOf s f ∷ valuesOf (lengthsOf fs) (joined s fs) =
-    values-first (f .length) (lengthsOf fs) (bytesOf s f) (joined s fs) (x .size) in
+    let v : valuesOf (f .length ∷ lengthsOf fs) (fieldBytesOf s f ++ valuesJoined s fs) ≡ fieldBytesOf s f ∷ valuesOf (lengthsOf fs) (valuesJoined s fs) =
+    values-first (f .length) (lengthsOf fs) (fieldBytesOf s f) (valuesJoined s fs) (x .size) in
     record {
       stands =
-          rw (v, indices-cons delta f fs (valuesOf (lengthsOf fs) (joined s fs)) (bytesOf s f))
-          (join s at (indexBytes delta (f .index) ++ bytesOf s f) q (fieldsBytes delta (indicesFor delta fs) (valuesOf (lengthsOf fs) (joined s fs))) end (x .stands) (r .stands));
+          rw (v, indices-cons delta f fs (valuesOf (lengthsOf fs) (valuesJoined s fs)) (fieldBytesOf s f))
+          (join s at (indexBytes delta (f .index) ++ fieldBytesOf s f) q (fieldsBytes delta (indicesFor delta fs) (valuesOf (lengthsOf fs) (valuesJoined s fs))) end (x .stands) (r .stands));
       count = ap suc (r .count);
       indexed = indices-length delta f fs n (r .indexed);
-      adds = omega (arith, r .adds, x .size, length-append (bytesOf s f) (joined s fs));
+      adds = omega (arith, r .adds, x .size, length-append (fieldBytesOf s f) (valuesJoined s fs));
       whole = rw (v, x .alone) (r .whole);
       number = rw (v, x .number) (r .number);
     }
 
 module _ (delta : Bool) (encoding : Encoding) (types s : List ℕ) (bytes : Bytes s) where
   no-more : (k at end : ℕ) → at ≤ length s → at ≡ end → FieldsTaken delta encoding types zero k s at [] end
-  unfolding total joined lengthsOf indicesOf valuesOf fieldsBytes fieldsWhole fieldsRefusal
+  unfolding valuesJoined lengthsOf indicesOf valuesOf fieldsBytes fieldsWhole fieldsRefusal
   no-more k at end l h =
       record {
         stands = subst (λ (e : ℕ). Back s at [] e) h (empty s at l);
@@ -452,7 +446,7 @@ module _ (delta : Bool) (encoding : Encoding) (types s : List ℕ) (bytes : Byte
   fields-back (suc n) k at end l h =
       let a = invert (fieldAt delta encoding types k s at) (λ f q. fieldsAt delta encoding types n (k + 1) s q) h in
       let x = field-back delta encoding types k s at (a .0) (a .1) bytes (a .2) in
-      let m = end-fits s at (indexBytes delta (a .0 .index) ++ bytesOf s (a .0)) (a .1) (x .stands) in
+      let m = end-fits s at (indexBytes delta (a .0 .index) ++ fieldBytesOf s (a .0)) (a .1) (x .stands) in
       rw (a .2) (one-more delta encoding types n k s at (a .0) (a .1) (walked delta encoding types n (k + 1) s (a .1)) end x (fields-back n (k + 1) (a .1) end m (a .3)))
 
 -- padding that was read

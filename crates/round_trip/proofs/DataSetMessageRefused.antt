@@ -4,7 +4,7 @@ use mathlib.Core.Path.{_≡_, refl, ap, sym, _∙_, subst}
 use mathlib.Core.Bool.{Bool, true, false, cond, not, _&&_, _||_}
 use mathlib.Core.List.{List, [], _∷_, _++_, append-assoc, append-nil}
 use Prim.Native.Nat.{ℕ, zero, suc, _+_, _/_, _%_, _≤_, _<_}
-use native.Mathlib.Nat.{add-zero, zero-add, le-refl}
+use native.Mathlib.Nat.{add-zero, le-refl}
 use native.Mathlib.Omega.{arith}
 use borrow.Author.Tests.{eqb-true, eqb-false, eq-eqb, ne-eqb, le-ltb, lt-leb}
 use lib.Dec.{eqb}
@@ -21,18 +21,18 @@ use Rattle.wire_writer.proofs.Refusals.{or-case, number-broken, picoseconds-ref
 use Rattle.dataset_header.specs.declared.flags.Encoding.{Encoding}
 use Rattle.dataset_header.specs.declared.flags.Kind.{Kind}
 use Rattle.dataset_header.specs.declared.header.Header.{Header}
-use Rattle.dataset_header.specs.Flags.{valid, flags1Rule, flags2Rule, flagsAt, isDelta, isRaw, kindNumber, flags1Of, flags2Of, flagBytes, kindRule}
-use Rattle.dataset_header.specs.Header.{timesAt, headerAt, timesBytes, versionsBytes, headerBytes, FitsHeader}
+use Rattle.dataset_header.specs.Flags.{flags1Rule, flags2Rule, messageFlagsAt, isDelta, isRaw, kindNumber, flags1Of, flags2Of, messageFlagBytes, kindRule}
+use Rattle.dataset_header.specs.Header.{messageTimesAt, messageHeaderAt, timesBytes, versionsBytes, messageHeaderBytes, FitsHeader}
 use Rattle.dataset_fields.specs.Fields.{encodedAt, fieldsAt, fieldsRefusal, reached, indexBytes, fieldsBytes, zeros}
 use Rattle.dataset_message.specs.Message.{countAt, messageAt}
-use Rattle.dataset_message_writer.specs.Message.{Given, hasFields, isFielded, isRawData, fieldsOf, countBytes, configuredRule, bodyRefusal, readingRefusal, encode}
+use Rattle.dataset_message_writer.specs.Message.{GivenMessage, hasFields, isFielded, isRawData, givenFields, countBytes, configuredRule, bodyRefusal, messageReadingRefusal, encode}
 use Rattle.dataset_fields.proofs.Judging.{encoded-steady, length-values}
-use Rattle.dataset_fields.proofs.Laying.{length-zeros}
-use Rattle.round_trip.specs.DataSetMessage.{plainly, Tellable, countOf}
+use Rattle.round_trip.specs.DataSetMessage.{plainly, Tellable, fieldsCounted}
 use Rattle.round_trip.proofs.DataSetMessageFlags.{flags1-bits, flags2-bits, encoding-rule, kind-rule-is, flagsFor, flags-is}
-use Rattle.round_trip.proofs.DataSetMessageParts.{header-is, field-is, index-is}
+use Rattle.round_trip.proofs.DataSetMessageParts.{field-is, index-is}
 use Rattle.round_trip.proofs.DataSetMessage.{no, counted-is, count-is, delta-plain}
 use Rattle.wire_writer.specs.Fits.{Numbers}
+use Rattle.round_trip.proofs.DataSetMessagePlaces.{fieldsPart, countPart, start, header-at, body-at, sizes, header-read}
 
 -- a kind that breaks a rule has a Flags2
 some-kind : (k : Kind) (e : Encoding) → eqb (kindRule k e) 0 ≡ false → 1 ≤ kindNumber k
@@ -44,7 +44,7 @@ some-kind Kind.KeepAlive e h = no (sym h)
 needed-one : (f : ℕ) → (f ≡ 0 → ⊥) → needed f ≡ 1
 needed-one f z = rw (ne-eqb f 0 z)
 
-flags-refuse : (h : Header) (s : List ℕ) → eqb (kindRule (h .kind) (h .encoding)) 0 ≡ false → At s 0 (flagBytes h) → flagsAt s 0 ≡ refused (kindRule (h .kind) (h .encoding)) 1
+flags-refuse : (h : Header) (s : List ℕ) → eqb (kindRule (h .kind) (h .encoding)) 0 ≡ false → At s 0 (messageFlagBytes h) → messageFlagsAt s 0 ≡ refused (kindRule (h .kind) (h .encoding)) 1
 flags-refuse h s r a =
     let x = flags1-bits h in
     let y = flags2-bits h in
@@ -64,7 +64,7 @@ flags-refuse h s r a =
 
 -- picoseconds that break their rule
 times-refuse : (h : Header) (s : List ℕ) (m : ℕ) → FitsHeader h → eqb (picosecondsRefusal (h .picoseconds)) 0 ≡ false → At s m (timesBytes h)
-    → timesAt (flagsFor h) s m ≡ refused (picosecondsRefusal (h .picoseconds)) (m + length (optional16Bytes (h .sequence)) + length (optionalI64Bytes (h .timestamp)))
+    → messageTimesAt (flagsFor h) s m ≡ refused (picosecondsRefusal (h .picoseconds)) (m + length (optional16Bytes (h .sequence)) + length (optionalI64Bytes (h .timestamp)))
 times-refuse h s m f r a =
     let x = optional16Bytes (h .sequence) in
     let y = optionalI64Bytes (h .timestamp) in
@@ -75,10 +75,10 @@ times-refuse h s m f r a =
     let o = picoseconds-refuses (h .picoseconds) (m + length x + length y) (f .picoseconds) r s (second s (m + length x) y z b) in
     rw (p, q, o)
 
-header-refuse : (h : Header) (s : List ℕ) → FitsHeader h → kindRule (h .kind) (h .encoding) ≡ 0 → eqb (picosecondsRefusal (h .picoseconds)) 0 ≡ false → At s 0 (headerBytes h)
-    → (place : ℕ) × (headerAt s 0 ≡ refused (picosecondsRefusal (h .picoseconds)) place)
+header-refuse : (h : Header) (s : List ℕ) → FitsHeader h → kindRule (h .kind) (h .encoding) ≡ 0 → eqb (picosecondsRefusal (h .picoseconds)) 0 ≡ false → At s 0 (messageHeaderBytes h)
+    → (place : ℕ) × (messageHeaderAt s 0 ≡ refused (picosecondsRefusal (h .picoseconds)) place)
 header-refuse h s f k r a =
-    let x = flagBytes h in
+    let x = messageFlagBytes h in
     let y = timesBytes h in
     let z = versionsBytes h in
     let b = second s 0 x (y ++ z) a in
@@ -201,100 +201,75 @@ some-configured true configured h r = go (eqb configured 0) refl h
     go false t q = t
 some-configured false configured h r = no r
 
-module _ (types : List ℕ) (g : Given) (fits : FitsHeader (g .header)) (indices : Numbers (g .indices)) (tells : Tellable types g) where
+module _ (types : List ℕ) (g : GivenMessage) (fits : FitsHeader (g .header)) (indices : Numbers (g .indices)) (tells : Tellable types g) where
   abbrev Refused : ℕ → Type 0
   Refused n = (place : ℕ) × (messageAt types (encode g) ≡ refused n place)
 
-  abbrev fieldsPart : List ℕ
-  fieldsPart = fieldsBytes (isDelta (g .header .kind)) (g .indices) (fieldsOf g)
-
-  abbrev countPart : List ℕ
-  countPart = countBytes (isFielded g) (isRawData g) (length (g .lengths))
-
-  abbrev start : ℕ
-  start = length (headerBytes (g .header))
-
-  all-at : At (encode g) 0 (encode g)
-  all-at = ([], [], sym (append-nil (encode g)), refl)
-
-  header-at : At (encode g) 0 (headerBytes (g .header))
-  header-at = first (encode g) 0 (headerBytes (g .header)) (countPart ++ (fieldsPart ++ zeros (g .padding))) all-at
-
-  body-at : At (encode g) start (countPart ++ (fieldsPart ++ zeros (g .padding)))
-  body-at =
-      subst (λ (n : ℕ). At (encode g) n (countPart ++ (fieldsPart ++ zeros (g .padding)))) (zero-add start)
-      (second (encode g) 0 (headerBytes (g .header)) (countPart ++ (fieldsPart ++ zeros (g .padding))) all-at)
-
-  sizes : length (encode g) ≡ start + (length countPart + (length fieldsPart + g .padding))
-  sizes = simp (length-append, length-zeros)
-
   kind-refused : eqb (kindRule (g .header .kind) (g .header .encoding)) 0 ≡ false → Refused (kindRule (g .header .kind) (g .header .encoding))
-  kind-refused r = (1, rw (flags-refuse (g .header) (encode g) r (first (encode g) 0 (flagBytes (g .header)) (timesBytes (g .header) ++ versionsBytes (g .header)) header-at)))
+  kind-refused r = (1, rw (flags-refuse (g .header) (encode g) r (first (encode g) 0 (messageFlagBytes (g .header)) (timesBytes (g .header) ++ versionsBytes (g .header)) (header-at g))))
 
   picoseconds-refused : kindRule (g .header .kind) (g .header .encoding) ≡ 0 → eqb (picosecondsRefusal (g .header .picoseconds)) 0 ≡ false → Refused (picosecondsRefusal (g .header .picoseconds))
-  picoseconds-refused k r = let p = header-refuse (g .header) (encode g) fits k r header-at in (p .0, rw (p .1))
+  picoseconds-refused k r = let p = header-refuse (g .header) (encode g) fits k r (header-at g) in (p .0, rw (p .1))
 
   module _ (kind : kindRule (g .header .kind) (g .header .encoding) ≡ 0) (pico : picosecondsRefusal (g .header .picoseconds) ≡ 0) (has : isFielded g ≡ true) where
-    header-read : headerAt (encode g) 0 ≡ got (valid (g .header)) start
-    header-read = header-is (g .header) fits kind pico (encode g) header-at ∙ ap (got (valid (g .header))) (zero-add start)
-
-    follows : start < length (encode g)
+    follows : (start g) < length (encode g)
     follows = go (isRawData g) refl
       where
-        go : (r : Bool) → isRawData g ≡ r → start < length (encode g)
-        go true r = let f = tells .follows r in omega (arith, sizes)
-        go false r = let c : length countPart ≡ 2 = rw (has, r) in omega (arith, sizes)
+        go : (r : Bool) → isRawData g ≡ r → (start g) < length (encode g)
+        go true r = let f = tells .follows r in omega (arith, (sizes g))
+        go false r = let c : length (countPart g) ≡ 2 = rw (has, r) in omega (arith, (sizes g))
 
     configured-refused : eqb (configuredRule (isRawData g) (length types)) 0 ≡ false → Refused (configuredRule (isRawData g) (length types))
     configured-refused r =
         let n = raw-none (isRawData g) (length types) r in
-        let c = raw-refuse (g .header .kind) (g .header .encoding) (g .heartbeat) types (encode g) start kind has (n .0) (n .1) follows in
-        (0, rw (header-read, c, n .0, eq-eqb (length types) 0 (n .1)))
+        let c = raw-refuse (g .header .kind) (g .header .encoding) (g .heartbeat) types (encode g) (start g) kind has (n .0) (n .1) follows in
+        (0, rw ((header-read g fits kind pico), c, n .0, eq-eqb (length types) 0 (n .1)))
 
     abbrev number : ℕ
-    number = countOf (isRawData g) (length types) (length (g .lengths))
+    number = fieldsCounted (isRawData g) (length types) (length (g .lengths))
 
     -- FieldCount is written for as many fields as are read, and RawData has none
-    count-same : (raw : Bool) → countBytes true raw (length (g .lengths)) ≡ countBytes true raw (countOf raw (length types) (length (g .lengths)))
+    count-same : (raw : Bool) → countBytes true raw (length (g .lengths)) ≡ countBytes true raw (fieldsCounted raw (length types) (length (g .lengths)))
     count-same true = refl
     count-same false = refl
 
-    part-same : countPart ≡ countBytes (isFielded g) (isRawData g) number
+    part-same : (countPart g) ≡ countBytes (isFielded g) (isRawData g) number
     part-same = rw has (count-same (isRawData g))
 
-    counted-read : configuredRule (isRawData g) (length types) ≡ 0 → countAt (g .header .kind) (isRawData g) types (encode g) start ≡ got number (start + length countPart)
+    counted-read : configuredRule (isRawData g) (length types) ≡ 0 → countAt (g .header .kind) (isRawData g) types (encode g) (start g) ≡ got number ((start g) + length (countPart g))
     counted-read c =
-        count-is (g .header .kind) (g .heartbeat) (isRawData g) types (encode g) start number (delta-plain (g .header .kind) (g .header .encoding) kind)
+        count-is (g .header .kind) (g .heartbeat) (isRawData g) types (encode g) (start g) number (delta-plain (g .header .kind) (g .header .encoding) kind)
         (λ e. (
           follows,
-          counted-is (isRawData g) types (encode g) start number
+          counted-is (isRawData g) types (encode g) (start g) number
               (λ r. (some-configured (isRawData g) (length types) c r, rw r)) (λ r. rw r (tells .counted r))
-              (subst (At (encode g) start) (part-same ∙ ap (λ (f : Bool). countBytes f (isRawData g) number) has) (first (encode g) start countPart (fieldsPart ++ zeros (g .padding)) body-at)),
+              (subst (At (encode g) (start g)) (part-same ∙ ap (λ (f : Bool). countBytes f (isRawData g) number) has)
+              (first (encode g) (start g) (countPart g) ((fieldsPart g) ++ zeros (g .padding)) (body-at g))),
         ))
-        (λ e. no (sym e ∙ has)) ∙ ap (λ (b : List ℕ). got number (start + length b)) (sym part-same)
+        (λ e. no (sym e ∙ has)) ∙ ap (λ (b : List ℕ). got number ((start g) + length b)) (sym part-same)
 
-    fields-refused : configuredRule (isRawData g) (length types) ≡ 0 → eqb (fieldsRefusal (g .header .encoding) types 0 (reached (isRawData g) types (fieldsOf g))) 0 ≡ false
-        → Refused (fieldsRefusal (g .header .encoding) types 0 (reached (isRawData g) types (fieldsOf g)))
+    fields-refused : configuredRule (isRawData g) (length types) ≡ 0 → eqb (fieldsRefusal (g .header .encoding) types 0 (reached (isRawData g) types (givenFields g))) 0 ≡ false
+        → Refused (fieldsRefusal (g .header .encoding) types 0 (reached (isRawData g) types (givenFields g)))
     fields-refused c r =
         let f = by in
-        (f .0, rw (header-read, counted-read c, f .1))
+        (f .0, rw ((header-read g fits kind pico), counted-read c, f .1))
       where
-        there : At (encode g) (start + length countPart) fieldsPart
-        there = first (encode g) (start + length countPart) fieldsPart (zeros (g .padding)) (second (encode g) start countPart (fieldsPart ++ zeros (g .padding)) body-at)
+        there : At (encode g) ((start g) + length (countPart g)) (fieldsPart g)
+        there = first (encode g) ((start g) + length (countPart g)) (fieldsPart g) (zeros (g .padding)) (second (encode g) (start g) (countPart g) ((fieldsPart g) ++ zeros (g .padding)) (body-at g))
 
-        ends : eqb (g .padding) 0 ≡ true → length (encode g) ≡ start + length countPart + length fieldsPart
-        ends e = let p = eqb-true (g .padding) 0 e in omega (arith, sizes)
+        ends : eqb (g .padding) 0 ≡ true → length (encode g) ≡ (start g) + length (countPart g) + length (fieldsPart g)
+        ends e = let p = eqb-true (g .padding) 0 e in omega (arith, (sizes g))
 
-        all : (raw : Bool) → reached raw types (fieldsOf g) ≡ take (countOf raw (length types) (length (g .lengths))) (fieldsOf g)
+        all : (raw : Bool) → reached raw types (givenFields g) ≡ take (fieldsCounted raw (length types) (length (g .lengths))) (givenFields g)
         all true = refl
-        all false = sym (take-all (length (g .lengths)) (fieldsOf g) (let m = length-values (g .lengths) (g .values) in omega arith))
+        all false = sym (take-all (length (g .lengths)) (givenFields g) (let m = length-values (g .lengths) (g .values) in omega arith))
 
-        by : RefusedBy (fieldsAt (isDelta (g .header .kind)) (g .header .encoding) types number 0 (encode g) (start + length countPart))
-            (fieldsRefusal (g .header .encoding) types 0 (reached (isRawData g) types (fieldsOf g)))
+        by : RefusedBy (fieldsAt (isDelta (g .header .kind)) (g .header .encoding) types number 0 (encode g) ((start g) + length (countPart g)))
+            (fieldsRefusal (g .header .encoding) types 0 (reached (isRawData g) types (givenFields g)))
         by =
             let e = all (isRawData g) in
-            let x = fields-refuse (isDelta (g .header .kind)) (g .header .encoding) types (eqb (g .padding) 0) (fieldsOf g) number number 0 (g .indices) (le-refl number) indices (tells .plain)
-            (subst (λ (vs : List (List ℕ)). eqb (fieldsRefusal (g .header .encoding) types 0 vs) 0 ≡ false) e r) (encode g) (start + length countPart) there ends in
+            let x = fields-refuse (isDelta (g .header .kind)) (g .header .encoding) types (eqb (g .padding) 0) (givenFields g) number number 0 (g .indices) (le-refl number) indices (tells .plain)
+            (subst (λ (vs : List (List ℕ)). eqb (fieldsRefusal (g .header .encoding) types 0 vs) 0 ≡ false) e r) (encode g) ((start g) + length (countPart g)) there ends in
             (x .0, x .1 ∙ ap (λ (vs : List (List ℕ)). refused (fieldsRefusal (g .header .encoding) types 0 vs) (x .0)) (sym e))
 
   body-refused : kindRule (g .header .kind) (g .header .encoding) ≡ 0 → picosecondsRefusal (g .header .picoseconds) ≡ 0 → eqb (bodyRefusal types g) 0 ≡ false → Refused (bodyRefusal types g)
@@ -302,15 +277,15 @@ module _ (types : List ℕ) (g : Given) (fits : FitsHeader (g .header)) (indices
     where
       go : (f : Bool) → isFielded g ≡ f → Refused (bodyRefusal types g)
       go true e =
-          let q : eqb (orElse (configuredRule (isRawData g) (length types)) (fieldsRefusal (g .header .encoding) types 0 (reached (isRawData g) types (fieldsOf g)))) 0 ≡ false = rw e at r in
-          let b : bodyRefusal types g ≡ orElse (configuredRule (isRawData g) (length types)) (fieldsRefusal (g .header .encoding) types 0 (reached (isRawData g) types (fieldsOf g))) = rw e in
+          let q : eqb (orElse (configuredRule (isRawData g) (length types)) (fieldsRefusal (g .header .encoding) types 0 (reached (isRawData g) types (givenFields g)))) 0 ≡ false = rw e at r in
+          let b : bodyRefusal types g ≡ orElse (configuredRule (isRawData g) (length types)) (fieldsRefusal (g .header .encoding) types 0 (reached (isRawData g) types (givenFields g))) = rw e in
           subst Refused (sym b) (or-case Refused (configuredRule (isRawData g) (length types))
-          (fieldsRefusal (g .header .encoding) types 0 (reached (isRawData g) types (fieldsOf g))) q (configured-refused k p e) (fields-refused k p e))
+          (fieldsRefusal (g .header .encoding) types 0 (reached (isRawData g) types (givenFields g))) q (configured-refused k p e) (fields-refused k p e))
       go false e = let q : eqb 0 0 ≡ false = rw e at r in no (sym q)
 
 -- The number by which the writer refuses what reading would refuse is reading's number of what would have been written.
-pub refuse-written : (types : List ℕ) (g : Given) → FitsHeader (g .header) → Numbers (g .indices) → Tellable types g → eqb (readingRefusal types g) 0 ≡ false
-    → (place : ℕ) × (messageAt types (encode g) ≡ refused (readingRefusal types g) place)
+pub refuse-written : (types : List ℕ) (g : GivenMessage) → FitsHeader (g .header) → Numbers (g .indices) → Tellable types g → eqb (messageReadingRefusal types g) 0 ≡ false
+    → (place : ℕ) × (messageAt types (encode g) ≡ refused (messageReadingRefusal types g) place)
 refuse-written types g fits indices tells h =
     or-case (Refused types g fits indices tells) (kindRule (g .header .kind) (g .header .encoding)) (orElse (picosecondsRefusal (g .header .picoseconds)) (bodyRefusal types g)) h
     (kind-refused types g fits indices tells)

@@ -10,6 +10,7 @@ use borrow.Author.Tests.{leb-true, eq-eqb, le-leb, lt-leb}
 use lib.Dec.{eqb, leb}
 use lib.ListN.{length, drop, take, take-append-drop, getD}
 use lib.Seq.{drop-drop}
+use Rattle.wire.specs.Lists.{total}
 use Rattle.dataset_message.proofs.Agreement.{message-read}
 use Rattle.dataset_fields.specs.declared.fields.Field.{Field}
 use Rattle.dataset_header.specs.declared.flags.Encoding.{Encoding}
@@ -23,11 +24,11 @@ use Rattle.wire_writer.proofs.Back.{Back, empty, rest-is, end-fits, item-back}
 use Rattle.dataset_header.specs.declared.flags.Kind.{Kind}
 use Rattle.dataset_header.specs.declared.header.Header.{Header}
 use Rattle.dataset_header.specs.Flags.{Valid, notValid, valid, isDelta, isRaw}
-use Rattle.dataset_header.specs.Header.{headerAt, headerBytes}
-use Rattle.dataset_fields.specs.Fields.{fieldsAt, paddingAt, fieldAt, total, valuesOf, fieldsBytes, zeros}
+use Rattle.dataset_header.specs.Header.{messageHeaderAt, messageHeaderBytes}
+use Rattle.dataset_fields.specs.Fields.{fieldsAt, paddingAt, fieldAt, valuesOf, fieldsBytes, zeros}
 use Rattle.dataset_message.specs.Message.{Message, countedAt, countAt, endAt, bodyAt, afterHeader, messageAt, fieldPlaceAt}
-use Rattle.dataset_message_writer.specs.Message.{Given, hasFields, isKey, isFielded, isRawData, fieldsOf, countBytes, configuredRule, countAgrees, bodyRefusal, bodyAgrees, listsAgree, refusalOf, encode, messageOutput}
-use Rattle.round_trip.specs.DataSetMessage.{fieldsIn, joined, lengthsOf, taken, andField, walked, Rewritten}
+use Rattle.dataset_message_writer.specs.Message.{GivenMessage, hasFields, isKey, isFielded, isRawData, givenFields, countBytes, configuredRule, countAgrees, bodyRefusal, bodyAgrees, listsAgree, messageRefusal, encode, messageOutput}
+use Rattle.round_trip.specs.DataSetMessage.{fieldsRead, valuesJoined, lengthsOf, takenAgain, andField, walked, Rewritten}
 use Rattle.round_trip.proofs.DataSetMessageParts.{HeaderBack, header-back, indicesFor, FieldsTaken, fields-back, zeros-back}
 use Rattle.round_trip.proofs.DataSetMessage.{no, reached-all, delta-plain}
 use Rattle.wire_writer.specs.Fits.{Bytes}
@@ -97,37 +98,37 @@ read h n first end = record { header = h; cursor = record { encoding = h .encodi
 
 -- The parts of an accepted message, one after the other as `rewrite` writes them, are the message.
 
-again-parts : (types s : List ℕ) (h : Header) (n first end : ℕ) → HeaderBack s h (length (headerBytes h))
-    → CountBack (h .kind) (isRaw (h .encoding)) types s (length (headerBytes h)) n first → first ≤ end → drop end s ≡ zeros (length s - end)
+again-parts : (types s : List ℕ) (h : Header) (n first end : ℕ) → HeaderBack s h (length (messageHeaderBytes h))
+    → CountBack (h .kind) (isRaw (h .encoding)) types s (length (messageHeaderBytes h)) n first → first ≤ end → drop end s ≡ zeros (length s - end)
     → again s (read h n first end) ≡ s
 again-parts types s h n first end header count l rest =
-    sym (rest-is s 0 (headerBytes h) (length (headerBytes h)) (header .stands)
-    ∙ ap (λ (x : List ℕ). headerBytes h ++ x)
-    (rest-is s (length (headerBytes h)) (countBytes (hasFields (h .kind) (leb (length s) (length (headerBytes h)))) (isRaw (h .encoding)) n) first (count .stands)
-    ∙ ap (λ (x : List ℕ). countBytes (hasFields (h .kind) (leb (length s) (length (headerBytes h)))) (isRaw (h .encoding)) n ++ x)
+    sym (rest-is s 0 (messageHeaderBytes h) (length (messageHeaderBytes h)) (header .stands)
+    ∙ ap (λ (x : List ℕ). messageHeaderBytes h ++ x)
+    (rest-is s (length (messageHeaderBytes h)) (countBytes (hasFields (h .kind) (leb (length s) (length (messageHeaderBytes h)))) (isRaw (h .encoding)) n) first (count .stands)
+    ∙ ap (λ (x : List ℕ). countBytes (hasFields (h .kind) (leb (length s) (length (messageHeaderBytes h)))) (isRaw (h .encoding)) n ++ x)
     (sym (take-append-drop (end - first) (drop first s)) ∙ ap (λ (x : List ℕ). take (end - first) (drop first s) ++ x) (drop-drop (end - first) first s ∙ ap (λ (j : ℕ). drop j s) there ∙ rest))))
   where
     there : first + (end - first) ≡ end
     there = omega arith
 
-module _ (types s : List ℕ) (h : Header) (n first end : ℕ) (header : HeaderBack s h (length (headerBytes h)))
-    (count : CountBack (h .kind) (isRaw (h .encoding)) types s (length (headerBytes h)) n first)
-    (fields : FieldsTaken (isDelta (h .kind)) (h .encoding) types n 0 s first (fieldsIn types s (read h n first end)) end)
+module _ (types s : List ℕ) (h : Header) (n first end : ℕ) (header : HeaderBack s h (length (messageHeaderBytes h)))
+    (count : CountBack (h .kind) (isRaw (h .encoding)) types s (length (messageHeaderBytes h)) n first)
+    (fields : FieldsTaken (isDelta (h .kind)) (h .encoding) types n 0 s first (fieldsRead types s (read h n first end)) end)
     (rest : drop end s ≡ zeros (length s - end)) where
-  abbrev g : Given
-  g = taken types s (read h n first end)
+  abbrev g : GivenMessage
+  g = takenAgain types s (read h n first end)
 
   bytes-same : encode g ≡ s
   bytes-same =
-      sym (rest-is s 0 (headerBytes h) (length (headerBytes h)) (header .stands)
-      ∙ ap (λ (l : List ℕ). headerBytes h ++ l)
-      (rest-is s (length (headerBytes h)) (countBytes (isFielded g) (isRawData g) (length (g .lengths))) first counted
+      sym (rest-is s 0 (messageHeaderBytes h) (length (messageHeaderBytes h)) (header .stands)
+      ∙ ap (λ (l : List ℕ). messageHeaderBytes h ++ l)
+      (rest-is s (length (messageHeaderBytes h)) (countBytes (isFielded g) (isRawData g) (length (g .lengths))) first counted
       ∙ ap (λ (l : List ℕ). countBytes (isFielded g) (isRawData g) (length (g .lengths)) ++ l)
-      (rest-is s first (fieldsBytes (isDelta (h .kind)) (g .indices) (fieldsOf g)) end (fields .stands)
-      ∙ ap (λ (l : List ℕ). fieldsBytes (isDelta (h .kind)) (g .indices) (fieldsOf g) ++ l) rest)))
+      (rest-is s first (fieldsBytes (isDelta (h .kind)) (g .indices) (givenFields g)) end (fields .stands)
+      ∙ ap (λ (l : List ℕ). fieldsBytes (isDelta (h .kind)) (g .indices) (givenFields g) ++ l) rest)))
     where
-      counted : Back s (length (headerBytes h)) (countBytes (isFielded g) (isRawData g) (length (g .lengths))) first
-      counted = subst (λ (j : ℕ). Back s (length (headerBytes h)) (countBytes (isFielded g) (isRawData g) j) first) (sym (fields .count)) (count .stands)
+      counted : Back s (length (messageHeaderBytes h)) (countBytes (isFielded g) (isRawData g) (length (g .lengths))) first
+      counted = subst (λ (j : ℕ). Back s (length (messageHeaderBytes h)) (countBytes (isFielded g) (isRawData g) j) first) (sym (fields .count)) (count .stands)
 
   agree : isFielded g ≡ true → countAgrees (isRawData g) (length types) (length (g .lengths)) ≡ true
   agree e = ap (countAgrees (isRawData g) (length types)) (fields .count) ∙ count .agrees e
@@ -166,7 +167,7 @@ module _ (types s : List ℕ) (h : Header) (n first end : ℕ) (header : HeaderB
         eq-eqb (length (g .indices)) (cond (isDelta (h .kind)) (length (g .lengths)) 0) (fields .indexed ∙ ap (λ (j : ℕ). cond (isDelta (h .kind)) j 0) (sym (fields .count))),
       )
 
-  none-refused : refusalOf types g ≡ 0
+  none-refused : messageRefusal types g ≡ 0
   none-refused = rw (header .kind, header .picoseconds, body-none, body-agrees, lists-agree)
 
   parts-again : Rewritten types s (read h n first end)
@@ -177,51 +178,51 @@ module _ (types s : List ℕ) (h : Header) (n first end : ℕ) (header : HeaderB
         parts = again-parts types s h n first end header count (let e = fields .stands .1 in omega arith) rest;
       }
 
-after-count : (types s : List ℕ) (h : Header) (n first : ℕ) (m : Message) (e : ℕ) → Bytes s → HeaderBack s h (length (headerBytes h))
-    → CountBack (h .kind) (isRaw (h .encoding)) types s (length (headerBytes h)) n first
+after-count : (types s : List ℕ) (h : Header) (n first : ℕ) (m : Message) (e : ℕ) → Bytes s → HeaderBack s h (length (messageHeaderBytes h))
+    → CountBack (h .kind) (isRaw (h .encoding)) types s (length (messageHeaderBytes h)) n first
     → endAt h (record { encoding = h .encoding; delta = isDelta (h .kind); next = 0; count = n; at = first }) types s ≡ got (valid m) e → Rewritten types s m
 after-count types s h n first m e bytes header count q =
     let a = invert (fieldsAt (isDelta (h .kind)) (h .encoding) types n 0 s first) (λ u z. _) q in
     let b = invert (paddingAt s (a .1)) (λ u z. _) (a .3) in
-    let l = end-fits s (length (headerBytes h)) (countBytes (hasFields (h .kind) (leb (length s) (length (headerBytes h)))) (isRaw (h .encoding)) n) first (count .stands) in
+    let l = end-fits s (length (messageHeaderBytes h)) (countBytes (hasFields (h .kind) (leb (length s) (length (messageHeaderBytes h)))) (isRaw (h .encoding)) n) first (count .stands) in
     let f = fields-back (isDelta (h .kind)) (h .encoding) types s bytes n 0 first (a .1) l (a .2) in
-    let k = end-fits s first (fieldsBytes (isDelta (h .kind)) (indicesFor (isDelta (h .kind)) (fieldsIn types s (read h n first (a .1))))
-    (valuesOf (lengthsOf (fieldsIn types s (read h n first (a .1)))) (joined s (fieldsIn types s (read h n first (a .1)))))) (a .1) (f .stands) in
+    let k = end-fits s first (fieldsBytes (isDelta (h .kind)) (indicesFor (isDelta (h .kind)) (fieldsRead types s (read h n first (a .1))))
+    (valuesOf (lengthsOf (fieldsRead types s (read h n first (a .1)))) (valuesJoined s (fieldsRead types s (read h n first (a .1)))))) (a .1) (f .stands) in
     let o : a .1 + (length s - a .1) ≡ length s = omega arith in
     let r = zeros-back (length s - a .1) s (a .1) (b .1) o (b .2) in
     let v : valid (read h n first (a .1)) ≡ valid m = got-value (b .3) in
     let x : read h n first (a .1) ≡ m = cc in
     subst (Rewritten types s) x (parts-again types s h n first (a .1) header count f r)
 
-after-header : (v : Valid Header) (types s : List ℕ) (at : ℕ) (m : Message) (e : ℕ) → Bytes s → headerAt s 0 ≡ got v at → afterHeader v types s at ≡ got (valid m) e → Rewritten types s m
+after-header : (v : Valid Header) (types s : List ℕ) (at : ℕ) (m : Message) (e : ℕ) → Bytes s → messageHeaderAt s 0 ≡ got v at → afterHeader v types s at ≡ got (valid m) e → Rewritten types s m
 after-header notValid types s at m e bytes p q =
     let v : _≡_ {A = Valid Message} notValid (valid m) = got-value q in
     let z : _≡_ {A = ℕ} 0 1 = cc in
     absurd (omega arith)
 after-header (valid h) types s at m e bytes p q =
     let b = header-back s h at bytes p in
-    let n : at ≡ length (headerBytes h) = b .stands .1 ∙ zero-add (length (headerBytes h)) in
-    let x : bodyAt h types s (length (headerBytes h)) ≡ got (valid m) e = ap (bodyAt h types s) (sym n) ∙ q in
-    let c = invert (countAt (h .kind) (isRaw (h .encoding)) types s (length (headerBytes h))) (λ j first. _) x in
+    let n : at ≡ length (messageHeaderBytes h) = b .stands .1 ∙ zero-add (length (messageHeaderBytes h)) in
+    let x : bodyAt h types s (length (messageHeaderBytes h)) ≡ got (valid m) e = ap (bodyAt h types s) (sym n) ∙ q in
+    let c = invert (countAt (h .kind) (isRaw (h .encoding)) types s (length (messageHeaderBytes h))) (λ j first. _) x in
     let t = subst (HeaderBack s h) n b in
-    let l = end-fits s 0 (headerBytes h) (length (headerBytes h)) (t .stands) in
+    let l = end-fits s 0 (messageHeaderBytes h) (length (messageHeaderBytes h)) (t .stands) in
     after-count types s h (c .0) (c .1) m e bytes t
-    (count-back (h .kind) (isRaw (h .encoding)) types s (length (headerBytes h)) (c .0) (c .1) bytes l (delta-plain (h .kind) (h .encoding) (b .kind)) (c .2)) (c .3)
+    (count-back (h .kind) (isRaw (h .encoding)) types s (length (messageHeaderBytes h)) (c .0) (c .1) bytes l (delta-plain (h .kind) (h .encoding) (b .kind)) (c .2)) (c .3)
 
 -- Every accepted DataSetMessage, taken as it was read, is accepted by the writer and rewritten identically, padding included.
 pub rewrite-read : (types s : List ℕ) (m : Message) (e : ℕ) → Bytes s → messageAt types s ≡ got (valid m) e → Rewritten types s m
 rewrite-read types s m e bytes q =
-    let a = invert (headerAt s 0) (λ v at. afterHeader v types s at) q in
+    let a = invert (messageHeaderAt s 0) (λ v at. afterHeader v types s at) q in
     after-header (a .0) types s (a .1) m e bytes (a .2) (a .3)
 
 -- The same of the writer itself, where the message is within the limit and the buffer has room: it reports the message's length, and
 -- the buffer begins with the message and goes on as it was.
 pub rewrite-written : (types s : List ℕ) (m : Message) (e : ℕ) → Bytes s → messageAt types s ≡ got (valid m) e → length s ≤ 65535
-    → (entry exit : List ℕ) (r : Written) → length s ≤ length entry → Writes (messageOutput types (taken types s m)) entry exit r
+    → (entry exit : List ℕ) (r : Written) → length s ≤ length entry → Writes (messageOutput types (takenAgain types s m)) entry exit r
     → (r ≡ Written.Is (length s)) × (exit ≡ s ++ drop (length s) entry)
 rewrite-written types s m e bytes q l entry exit r room w =
     let x = rewrite-read types s m e bytes q in
-    let v = subst (λ (k : ℕ). Writes (unless k (encode (taken types s m))) entry exit r) (x .accepted) w in
+    let v = subst (λ (k : ℕ). Writes (unless k (encode (takenAgain types s m))) entry exit r) (x .accepted) w in
     fitting-written l room (subst (λ (b : List ℕ). Writes (writing b) entry exit r) (x .same) v)
 
 -- and of `rewrite`
@@ -263,7 +264,7 @@ walked-nth delta encoding types s d (suc j) (suc n) k at end l h =
     )
 
 pub walked-is : (types s : List ℕ) (m : Message) (e : ℕ) → messageAt types s ≡ got (valid m) e → (d : Field) (k : ℕ) → k < m .cursor .count
-    → (end : ℕ) × (fieldPlaceAt types k s ≡ got (getD (fieldsIn types s m) k d) end)
+    → (end : ℕ) × (fieldPlaceAt types k s ≡ got (getD (fieldsRead types s m) k d) end)
 walked-is types s m e q d k l =
     let r = message-read types s m e q in
     let w = walked-nth (m .cursor .delta) (m .cursor .encoding) types s d k (m .cursor .count) 0 (m .cursor .at) (m .end) l (r .passed) in

@@ -1,5 +1,6 @@
 pub mod DataSetMessageFlags
 pub mod DataSetMessageParts
+pub mod DataSetMessagePlaces
 pub mod DataSetMessage
 pub mod DataSetMessageRewritten
 pub mod DataSetMessageRefused

@@ -23,17 +23,17 @@ use Rattle.network_header.specs.declared.envelope.Places.{Places}
 use Rattle.network_header.specs.Flags.{flagsAt, timesRefusal}
 use Rattle.network_header.specs.Header.{payloadHeaderAt, idsShape, countRefusal, promotedRefusal, promotedShape}
 use Rattle.network_header.specs.Numbers.{configuredSizes, agree, sameNumbers}
-use Rattle.network_message.specs.Payload.{restAt, listedAt, payloadAt}
-use Rattle.network_message.specs.Envelope.{Header, NetworkMessage, identityAt, timesAt, messagesOf, headerAt, bodyAt, networkMessageAt}
+use Rattle.network_message.specs.Payload.{restOnlyAt, listedAt, payloadAt}
+use Rattle.network_message.specs.Envelope.{Header, NetworkMessage, identityAt, timesAt, messagesOf, envelopeAt, envelopeBodyAt, networkMessageAt}
 use Rattle.wire_writer.specs.Writing.{orElse, on16, onI64, picosecondsRefusal, unused}
 use Rattle.wire_writer.proofs.Trip.{At, le-at}
-use Rattle.wire_writer.proofs.Back.{run-back, map-back}
+use Rattle.wire_writer.proofs.Back.{run-back, map-back, picoseconds-kept}
 use Rattle.publisher_id.specs.Publisher.{publisherRefusal, publisherShape}
 use Rattle.network_header.specs.Group.{groupRefusal}
-use Rattle.network_message_writer.specs.Payload.{listBytes, numberIn, payloadRefusal, lengthsShape}
-use Rattle.network_message_writer.specs.Envelope.{datagramOf, refusalOf, before, textOf, promotedOf, againOf}
+use Rattle.network_message_writer.specs.Payload.{listBytes, refusalNumber, payloadRefusal, lengthsShape}
+use Rattle.network_message_writer.specs.Envelope.{datagramOf, datagramRefusal, bytesBefore, textOf, promotedOf, againOf}
 use Rattle.round_trip.specs.NetworkMessage.{rewritten, AsManyLengths, numbersBytes, idsGiven, lengthsGiven, messagesGiven, givenOf}
-use Rattle.round_trip.proofs.NetworkMessageKept.{flags-kept, publisher-kept, group-kept, picoseconds-kept, promoted-kept, HeaderKept, payload-header-kept}
+use Rattle.round_trip.proofs.NetworkMessageKept.{flags-kept, publisher-kept, group-kept, promoted-kept, HeaderKept, payload-header-kept}
 use Rattle.round_trip.proofs.NetworkMessageRefused.{payload-number}
 use Rattle.round_trip.proofs.NetworkMessageRewritten.{identity-of, times-of, header-same, flags-of, rewrite-read}
 use Rattle.wire_writer.specs.Fits.{Bytes, Numbers}
@@ -85,7 +85,7 @@ record Kept (s : List ℕ) (x : Envelope) (p : Places) (configured : ℕ) : Type
   promoted : promotedRefusal (x .promoted) (messagesOf (x .chunk) (x .«payload_header») configured) ≡ 0
   bytes : promotedShape (x .promoted) (length (promotedOf s (x .promoted) (p .payload))) ≡ 0
 
-header-kept : (configured : ℕ) (s : List ℕ) (f : Flags) (n : ℕ) (L : Header) (next : ℕ) → Bytes s → flagsAt s 0 ≡ got f n → headerAt f configured s n ≡ got L next
+header-kept : (configured : ℕ) (s : List ℕ) (f : Flags) (n : ℕ) (L : Header) (next : ℕ) → Bytes s → flagsAt s 0 ≡ got f n → envelopeAt f configured s n ≡ got L next
     → Kept s (L .envelope) (L .places) configured
 header-kept configured s f n L next b hf h =
     let I = invert (identityAt f s n) (λ i k. _) h in
@@ -117,7 +117,7 @@ count-kept (HeaderKept.ofChunk w c) = refl
 ids-kept : {chunk : Bool} {s : List ℕ} {next : ℕ} {x : PayloadHeader} (configured : List ℕ) → Numbers configured → HeaderKept chunk s next x
     → idsShape chunk x (idsGiven s x next configured) configured ≡ 0
 ids-kept configured h HeaderKept.absent = rw (numbers-same (take 16 configured) (numbers-take 16 configured h))
-ids-kept {s = s} {next = next} configured h (HeaderKept.ids n c r l e) = rw (c, lt-leb 256 n l, eq-eqb (length (before s next (2 * n))) (2 * n) e)
+ids-kept {s = s} {next = next} configured h (HeaderKept.ids n c r l e) = rw (c, lt-leb 256 n l, eq-eqb (length (bytesBefore s next (2 * n))) (2 * n) e)
 ids-kept configured h (HeaderKept.ofChunk w c) = rw c
 
 -- the payload
@@ -150,7 +150,7 @@ many-lengths : (x : PayloadHeader) (chunk : Bool) (sizes s : List ℕ) (at : ℕ
 many-lengths PayloadHeader.Absent chunk sizes s at p next h = tt
 many-lengths (PayloadHeader.Ids n) chunk sizes s at p next h =
     λ e.
-    let q : listedAt n s at ≡ got p next = ap (λ (b : Bool). cond b (restAt s at) (listedAt n s at)) (sym e) ∙ h in
+    let q : listedAt n s at ≡ got p next = ap (λ (b : Bool). cond b (restOnlyAt s at) (listedAt n s at)) (sym e) ∙ h in
     let r = invert (run (2 * n) s at) (λ k i. _) q in
     let f = run-back (2 * n) s at (r .0) (r .1) (r .2) in
     let k : 2 * n ≤ length (drop at s) = omega (arith, f .2, length-drop at s) in
@@ -163,7 +163,7 @@ payload-kept x chunk sizes s at p next l h =
     let w : take at s ++ (listBytes x (lengthsGiven s x at sizes) ++ messagesGiven s x at) ≡ s =
     ap (λ (y : List ℕ). take at s ++ y) (payload-whole x s at sizes) ∙ take-append-drop at s in
     sym (payload-number x chunk sizes (take at s) (lengthsGiven s x at sizes) (messagesGiven s x at) at (length-take-le at s l) (many-lengths x chunk sizes s at p next h))
-    ∙ ap (λ (y : List ℕ). numberIn (payloadAt chunk x sizes y at)) w ∙ ap numberIn h
+    ∙ ap (λ (y : List ℕ). refusalNumber (payloadAt chunk x sizes y at)) w ∙ ap refusalNumber h
 
 -- the header's bytes do not depend on ids that are not written
 header-given : (x : Envelope) (s : List ℕ) (p : Places) (sizes configured : List ℕ)
@@ -178,10 +178,11 @@ header-given x s p sizes configured = go (x .«payload_header») refl
 all-zero : {a b : ℕ} → a ≡ 0 → b ≡ 0 → orElse a b ≡ 0
 all-zero e f = rw (e, f)
 
-body-kept : (sizes configured s : List ℕ) (f : Flags) (n : ℕ) (m : NetworkMessage) (next : ℕ) → Bytes s → Numbers sizes → Numbers configured → flagsAt s 0 ≡ got f n → bodyAt f sizes s n ≡ got m next
-    → refusalOf (givenOf s (m .envelope) (m .places) sizes configured) (m .envelope) sizes configured ≡ 0
+body-kept : (sizes configured s : List ℕ) (f : Flags) (n : ℕ) (m : NetworkMessage) (next : ℕ) → Bytes s → Numbers sizes → Numbers configured → flagsAt s 0 ≡ got f n
+    → envelopeBodyAt f sizes s n ≡ got m next
+    → datagramRefusal (givenOf s (m .envelope) (m .places) sizes configured) (m .envelope) sizes configured ≡ 0
 body-kept sizes configured s f n m next b hs hc hf h =
-    let H = invert (headerAt f (length (configuredSizes sizes)) s n) (λ h k. _) h in
+    let H = invert (envelopeAt f (length (configuredSizes sizes)) s n) (λ h k. _) h in
     let x = H .0 .envelope in
     let q = H .0 .places in
     let P = map-back (payloadAt (x .chunk) (x .«payload_header») sizes) (λ p. record { envelope = x; places = q; payload = p }) s (H .1) m next (H .3) in
@@ -189,7 +190,7 @@ body-kept sizes configured s f n m next b hs hc hf h =
     let k = header-kept (length (configuredSizes sizes)) s f n (H .0) (H .1) b hf (H .2) in
     let l : q .payload ≤ length s = omega (arith, S .2, S .3) in
     let o : payloadAt (x .chunk) (x .«payload_header») sizes s (q .payload) ≡ got (P .0) next = ap (λ (i : ℕ). payloadAt (x .chunk) (x .«payload_header») sizes s i) (S .2) ∙ P .1 in
-    subst (λ (m : NetworkMessage). refusalOf (givenOf s (m .envelope) (m .places) sizes configured) (m .envelope) sizes configured ≡ 0) (P .2)
+    subst (λ (m : NetworkMessage). datagramRefusal (givenOf s (m .envelope) (m .places) sizes configured) (m .envelope) sizes configured ≡ 0) (P .2)
     (all-zero
     (all-zero (k .times)
     (all-zero (k .publisher)
@@ -202,7 +203,7 @@ body-kept sizes configured s f n m next b hs hc hf h =
 
 -- The writer, given an accepted datagram's parts as they were read, refuses nothing, and what it writes is the rewritten datagram.
 pub write-read : (sizes configured s : List ℕ) (m : NetworkMessage) (next : ℕ) → Bytes s → Numbers sizes → Numbers configured → networkMessageAt sizes s ≡ got m next
-    → (refusalOf (givenOf s (m .envelope) (m .places) sizes configured) (m .envelope) sizes configured ≡ 0)
+    → (datagramRefusal (givenOf s (m .envelope) (m .places) sizes configured) (m .envelope) sizes configured ≡ 0)
     × (datagramOf (givenOf s (m .envelope) (m .places) sizes configured) (m .envelope) ≡ rewritten s)
 write-read sizes configured s m next b hs hc h =
     let f = flags-of sizes s m next h in (

@@ -11,6 +11,7 @@ use lib.ListN.{length, getD, take, drop, length-append, length-take}
 use lib.Seq.{drop-at, take-at, getD-take}
 use lib.Dec.{eqb, leb}
 use borrow.Author.Tests.{le-leb, lt-leb, eqb-true}
+use Rattle.network_message.proofs.Accepted.{listed-at}
 use Rattle.wire.specs.Number.{le, leBytes}
 use Rattle.wire.specs.declared.optional.Optional16.{Optional16}
 use Rattle.publisher_id.specs.declared.publisher.PublisherId.{PublisherId}
@@ -27,14 +28,14 @@ use Rattle.network_header.specs.Group.{groupBytes}
 use Rattle.network_header.specs.Header.{classBytes, payloadHeaderBytes, promotedBytes, idsShape, promotedShape}
 use Rattle.network_header.specs.Numbers.{sameNumbers}
 use Rattle.network_message_writer.specs.Payload.{listBytes}
-use Rattle.network_message_writer.specs.Envelope.{Given, headerBytes, datagramOf, refusalOf, before, textOf, idsOf, promotedOf}
+use Rattle.network_message_writer.specs.Envelope.{GivenDatagram, envelopeBytes, datagramOf, datagramRefusal, bytesBefore, textOf, idsOf, promotedOf}
 use Rattle.network_message_writer.proofs.Short.{zeros, unused-none, same-length, ids-counted}
 use Rattle.round_trip.specs.NetworkMessage.{placesOf}
 use Rattle.round_trip.proofs.NetworkMessagePayload.{le-moved}
-use Rattle.round_trip.proofs.NetworkMessageMessages.{same-listed, listed-at}
+use Rattle.round_trip.proofs.NetworkMessageMessages.{same-listed}
 
 -- the bytes before the end of a part are the part
-before-at : (s : List ℕ) (m : ℕ) (b : List ℕ) (end n : ℕ) → At s m b → length b ≡ n → end ≡ m + n → before s end n ≡ b
+before-at : (s : List ℕ) (m : ℕ) (b : List ℕ) (end n : ℕ) → At s m b → length b ≡ n → end ≡ m + n → bytesBefore s end n ≡ b
 before-at s m b end n a e f =
     let k : end - n ≡ m = omega arith in
     ap (λ (j : ℕ). take n (drop j s)) k ∙ ap (λ (l : List ℕ). take n (drop m l)) (a .2) ∙ ap (take n) (drop-at (a .0) (b ++ a .1) m (a .3)) ∙ take-at b (a .1) n e
@@ -99,7 +100,7 @@ ids-back n chunk ids configured s m end h a e =
     let q = ids-counted chunk n ids configured h in
     before-at s (m + length c) ids end (2 * n) (second s m c ids a) (q .2) (omega (arith, q .2, length-append c ids))
 
-module _ (g : Given) (x : Envelope) (sizes configured : List ℕ) (h : refusalOf g x sizes configured ≡ 0) where
+module _ (g : GivenDatagram) (x : Envelope) (sizes configured : List ℕ) (h : datagramRefusal g x sizes configured ≡ 0) where
   -- a string PublisherId reads back as the bytes given
   pub text-written : textOf (datagramOf g x) (x .publisher) (placesOf g x .«publisher_end») ≡ g .text
   text-written =
@@ -110,7 +111,7 @@ module _ (g : Given) (x : Envelope) (sizes configured : List ℕ) (h : refusalOf
       let f4 = groupBytes (x .group) in
       let f5 = payloadHeaderBytes (g .ids) (x .«payload_header») in
       let f6 = optionalI64Bytes (x .timestamp) ++ (optional16Bytes (x .picoseconds) ++ promotedBytes (g .promoted) (x .promoted)) in
-      let at1 : At s 0 (headerBytes (g .text) (g .ids) (g .promoted) x) = ([], listBytes (x .«payload_header») (g .lengths) ++ g .messages, refl, refl) in
+      let at1 : At s 0 (envelopeBytes (g .text) (g .ids) (g .promoted) x) = ([], listBytes (x .«payload_header») (g .lengths) ++ g .messages, refl, refl) in
       let at2 = second s 0 f1 (f2 ++ (f3 ++ (f4 ++ (f5 ++ f6)))) at1 in
       text-back (x .publisher) (g .text) s (0 + length f1) (placesOf g x .«publisher_end») (zeros g x sizes configured h .text) (first s (0 + length f1) f2 (f3 ++ (f4 ++ (f5 ++ f6))) at2)
       (omega (arith, length-append f1 f2))
@@ -133,7 +134,7 @@ module _ (g : Given) (x : Envelope) (sizes configured : List ℕ) (h : refusalOf
       let m4 = m3 + length f4 in
       let m5 = m4 + length f5 in
       let m6 = m5 + length f6 in
-      let at1 : At s 0 (headerBytes (g .text) (g .ids) (g .promoted) x) = ([], listBytes (x .«payload_header») (g .lengths) ++ g .messages, refl, refl) in
+      let at1 : At s 0 (envelopeBytes (g .text) (g .ids) (g .promoted) x) = ([], listBytes (x .«payload_header») (g .lengths) ++ g .messages, refl, refl) in
       let at2 = second s 0 f1 (f2 ++ (f3 ++ (f4 ++ (f5 ++ (f6 ++ (f7 ++ f8)))))) at1 in
       let at3 = second s m1 f2 (f3 ++ (f4 ++ (f5 ++ (f6 ++ (f7 ++ f8))))) at2 in
       let at4 = second s m2 f3 (f4 ++ (f5 ++ (f6 ++ (f7 ++ f8)))) at3 in
@@ -168,7 +169,7 @@ module _ (g : Given) (x : Envelope) (sizes configured : List ℕ) (h : refusalOf
       let m2 = m1 + length f2 in
       let m3 = m2 + length f3 in
       let m4 = m3 + length f4 in
-      let at1 : At s 0 (headerBytes (g .text) (g .ids) (g .promoted) x) = ([], listBytes (x .«payload_header») (g .lengths) ++ g .messages, refl, refl) in
+      let at1 : At s 0 (envelopeBytes (g .text) (g .ids) (g .promoted) x) = ([], listBytes (x .«payload_header») (g .lengths) ++ g .messages, refl, refl) in
       let at2 = second s 0 f1 (f2 ++ (f3 ++ (f4 ++ (f5 ++ f6)))) at1 in
       let at3 = second s m1 f2 (f3 ++ (f4 ++ (f5 ++ f6))) at2 in
       let at4 = second s m2 f3 (f4 ++ (f5 ++ f6)) at3 in

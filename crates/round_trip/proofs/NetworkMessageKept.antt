@@ -12,7 +12,7 @@ use borrow.Author.Tests.{eq-eqb, lt-leb}
 use Rattle.wire.specs.Number.{le, signed}
 use Rattle.wire.specs.Answer.{got, refused, andThen, item, ruled, run, pure, whenOn, _>>=_, bit}
 use Rattle.wire.specs.Items.{lengthOf}
-use Rattle.wire.specs.Optional.{optional16, optional32, picosecondsRule, picosecondsAt}
+use Rattle.wire.specs.Optional.{optional16, optional32}
 use Rattle.wire.specs.declared.optional.Optional16.{Optional16}
 use Rattle.wire.proofs.Reading.{got-value, not-got, invert}
 use Rattle.network_header.specs.declared.flags.Flags.{Flags}
@@ -21,13 +21,12 @@ use Rattle.network_header.specs.declared.group.GroupHeader.{GroupHeader}
 use Rattle.network_header.specs.declared.header.PayloadHeader.{PayloadHeader}
 use Rattle.network_header.specs.declared.header.Promoted.{Promoted}
 use Rattle.network_header.specs.Flags.{byte0Rule, extended1Rule, extended2Rule, flagsOf, flagsAt, timesRefusal}
-use Rattle.publisher_id.specs.Publisher.{stringOf, lengthThen, stringAt, publisherAt, publisherRefusal, publisherShape}
-use Rattle.network_header.specs.Group.{numberRule, numberAt, groupFlagsRule, groupFieldsAt, groupAt, numberRefusal, groupRefusal}
+use Rattle.publisher_id.specs.Publisher.{stringOf, stringThen, stringAt, publisherAt, publisherRefusal, publisherShape}
+use Rattle.network_header.specs.Group.{numberRule, messageNumberAt, groupFlagsRule, groupFieldsAt, groupAt, numberRefusal, groupRefusal}
 use Rattle.network_header.specs.Header.{countRule, payloadHeaderAt, sizeRule, promotedAt, promotedRefusal, promotedShape}
-use Rattle.wire_writer.specs.Writing.{picosecondsRefusal}
 use Rattle.wire_writer.proofs.Refusals.{passed, no}
 use Rattle.wire_writer.proofs.Back.{item-back, run-back, ruled-back, map-back}
-use Rattle.network_message_writer.specs.Envelope.{before, textOf, promotedOf}
+use Rattle.network_message_writer.specs.Envelope.{bytesBefore, textOf, promotedOf}
 use Rattle.round_trip.proofs.NetworkMessagePartsBack.{before-length}
 use Rattle.wire_writer.specs.Fits.{Bytes}
 
@@ -72,21 +71,21 @@ module _ (s : List ℕ) (p : PublisherId) (next : ℕ) where
       go false e k =
           let y = map-back (run v) PublisherId.Text s start p next k in
           let r = run-back v s start (y .0) next (y .1) in
-          let l : length (before s next v) ≡ v = before-length s start v next (r .1) (r .2) in
-          rw (sym (y .2), r .0, e, eq-eqb v (length (before s next v)) (sym l)) (refl, refl)
+          let l : length (bytesBefore s next v) ≡ v = before-length s start v next (r .1) (r .2) in
+          rw (sym (y .2), r .0, e, eq-eqb v (length (bytesBefore s next v)) (sym l)) (refl, refl)
 
-  no-length : (at k start : ℕ) → lengthThen at (lengthOf (negsuc k)) s start ≡ got p next → ⊥
+  no-length : (at k start : ℕ) → stringThen at (lengthOf (negsuc k)) s start ≡ got p next → ⊥
   no-length at zero start q = not-got q
   no-length at (suc k) start q = not-got q
 
-  signed-kept : (at v start n : ℕ) (t : Bool) → lengthThen at (lengthOf (cond t (pos v) (negsuc n))) s start ≡ got p next → PublisherKept s p next
+  signed-kept : (at v start n : ℕ) (t : Bool) → stringThen at (lengthOf (cond t (pos v) (negsuc n))) s start ≡ got p next → PublisherKept s p next
   signed-kept at v start n true q = string-kept v start q
   signed-kept at v start n false q = absurd (no-length at n start q)
 
   text-kept : (at : ℕ) → stringAt s at ≡ got p next → PublisherKept s p next
   text-kept at h = go (leb (at + 4) (length s)) h
     where
-      go : (t : Bool) → andThen (cond t (got (lengthOf (signed 4 (le 4 s at))) (at + 4)) (refused 1 at)) (λ length start. lengthThen at length s start) ≡ got p next → PublisherKept s p next
+      go : (t : Bool) → andThen (cond t (got (lengthOf (signed 4 (le 4 s at))) (at + 4)) (refused 1 at)) (λ length start. stringThen at length s start) ≡ got p next → PublisherKept s p next
       go true q = signed-kept at (le 4 s at) (at + 4) (2 ^ (8 * 4) - 1 - le 4 s at) (ltb (le 4 s at) (2 ^ (8 * 4 - 1))) q
       go false q = absurd (not-got q)
 
@@ -107,7 +106,7 @@ module _ (s : List ℕ) (p : PublisherId) (next : ℕ) where
 
 -- the group header
 
-number-kept : (on : Bool) (s : List ℕ) (at : ℕ) (x : Optional16) (next : ℕ) → numberAt on s at ≡ got x next → numberRefusal x ≡ 0
+number-kept : (on : Bool) (s : List ℕ) (at : ℕ) (x : Optional16) (next : ℕ) → messageNumberAt on s at ≡ got x next → numberRefusal x ≡ 0
 number-kept true s at x next h =
     let y = map-back (ruled 2 numberRule) Optional16.Is s at x next h in
     subst (λ (x : Optional16). numberRefusal x ≡ 0) (y .2) (ruled-back 2 numberRule s at (y .0) next (y .1) .1)
@@ -118,18 +117,12 @@ group-kept true s at x next h =
     let f = invert (ruled 1 groupFlagsRule s at) (λ F n. groupFieldsAt F s n) h in
     let w = invert (optional16 (eqb (f .0 % 2) 1) s (f .1)) (λ w n. _) (f .3) in
     let v = invert (optional32 (bit 1 (f .0)) s (w .1)) (λ v n. _) (w .3) in
-    let n = invert (numberAt (bit 2 (f .0)) s (v .1)) (λ m n. _) (v .3) in
+    let n = invert (messageNumberAt (bit 2 (f .0)) s (v .1)) (λ m n. _) (v .3) in
     let q = map-back (optional16 (bit 3 (f .0))) (λ q. GroupHeader.Is (record { «writer_group» = w .0; version = v .0; number = n .0; sequence = q })) s (n .1) x next (n .3) in
     subst (λ (x : GroupHeader). groupRefusal x ≡ 0) (q .2) (number-kept (bit 2 (f .0)) s (v .1) (n .0) (n .1) (n .2))
 group-kept false s at x next h = subst (λ (x : GroupHeader). groupRefusal x ≡ 0) (got-value h) refl
 
 -- PicoSeconds and promoted fields
-
-pub picoseconds-kept : (on : Bool) (s : List ℕ) (at : ℕ) (x : Optional16) (next : ℕ) → picosecondsAt on s at ≡ got x next → picosecondsRefusal x ≡ 0
-picoseconds-kept true s at x next h =
-    let y = map-back (ruled 2 picosecondsRule) Optional16.Is s at x next h in
-    subst (λ (x : Optional16). picosecondsRefusal x ≡ 0) (y .2) (ruled-back 2 picosecondsRule s at (y .0) next (y .1) .1)
-picoseconds-kept false s at x next h = subst (λ (x : Optional16). picosecondsRefusal x ≡ 0) (got-value h) refl
 
 pub promoted-kept : (on : Bool) (messages : ℕ) (s : List ℕ) (at : ℕ) (x : Promoted) (next : ℕ) → Bytes s → promotedAt on messages s at ≡ got x next
     → (promotedRefusal x messages ≡ 0) × (promotedShape x (length (promotedOf s x next)) ≡ 0)
@@ -140,16 +133,16 @@ promoted-kept true messages s at x next b h =
     let k : f .0 < 65536 = i .1 in
     let y = map-back (run (f .0)) (λ k. Promoted.Size (f .0)) s (f .1) x next (f .3) in
     let q = run-back (f .0) s (f .1) (y .0) next (y .1) in
-    let l : length (before s next (f .0)) ≡ f .0 = before-length s (f .1) (f .0) next (q .1) (q .2) in
+    let l : length (bytesBefore s next (f .0)) ≡ f .0 = before-length s (f .1) (f .0) next (q .1) (q .2) in
     subst (λ (x : Promoted). (promotedRefusal x messages ≡ 0) × (promotedShape x (length (promotedOf s x next)) ≡ 0)) (y .2)
-    (r .1, rw (lt-leb 65536 (f .0) k, eq-eqb (f .0) (length (before s next (f .0))) (sym l)))
+    (r .1, rw (lt-leb 65536 (f .0) k, eq-eqb (f .0) (length (bytesBefore s next (f .0))) (sym l)))
 promoted-kept false messages s at x next b h =
     subst (λ (x : Promoted). (promotedRefusal x messages ≡ 0) × (promotedShape x (length (promotedOf s x next)) ≡ 0)) (got-value h) (refl, refl)
 
 -- the PayloadHeader: a chunk's id for a chunk, else a Count and as many ids
 pub data HeaderKept (chunk : Bool) (s : List ℕ) (next : ℕ) : PayloadHeader → Type 0 where
   absent : HeaderKept chunk s next PayloadHeader.Absent
-  ids : (n : ℕ) → chunk ≡ false → countRule n ≡ 0 → n < 256 → length (before s next (2 * n)) ≡ 2 * n → HeaderKept chunk s next (PayloadHeader.Ids n)
+  ids : (n : ℕ) → chunk ≡ false → countRule n ≡ 0 → n < 256 → length (bytesBefore s next (2 * n)) ≡ 2 * n → HeaderKept chunk s next (PayloadHeader.Ids n)
   ofChunk : (w : ℕ) → chunk ≡ true → HeaderKept chunk s next (PayloadHeader.Chunk w)
 
 pub payload-header-kept : (on chunk : Bool) (s : List ℕ) (at : ℕ) (x : PayloadHeader) (next : ℕ) → Bytes s → payloadHeaderAt on chunk s at ≡ got x next → HeaderKept chunk s next x

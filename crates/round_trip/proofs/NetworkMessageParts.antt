@@ -18,8 +18,8 @@ use Rattle.network_header.specs.declared.group.GroupHeader.{GroupHeader}
 use Rattle.network_header.specs.declared.header.ClassId.{ClassId}
 use Rattle.network_header.specs.declared.header.PayloadHeader.{PayloadHeader}
 use Rattle.network_header.specs.declared.header.Promoted.{Promoted}
-use Rattle.publisher_id.specs.Publisher.{publisherAt, publisherOn, kindOf, publisherBytes, publisherRefusal, publisherShape}
-use Rattle.network_header.specs.Group.{numberRule, numberAt, groupFlagsRule, groupFieldsAt, groupAt, groupOn, groupFlagsOf, fieldsBytes, groupBytes, numberRefusal, groupRefusal}
+use Rattle.publisher_id.specs.Publisher.{publisherAt, publisherOn, idTypeOf, publisherBytes, publisherRefusal, publisherShape}
+use Rattle.network_header.specs.Group.{numberRule, messageNumberAt, groupFlagsRule, groupFieldsAt, groupAt, groupOn, groupFlagsOf, groupFieldsBytes, groupBytes, numberRefusal, groupRefusal}
 use Rattle.network_header.specs.Header.{classAt, countRule, payloadHeaderAt, sizeRule, promotedAt, classOn, classBytes, payloadHeaderOn, payloadHeaderBytes, promotedOn, promotedBytes, countRefusal, promotedRefusal, idsShape, promotedShape}
 use Rattle.wire_writer.specs.Writing.{num, on16, on32, optional16Bytes, optional32Bytes}
 use Rattle.wire_writer.proofs.Trip.{Reads, first, second, fits-at, last, nothing, rule-kept, run-is, le-at, item-is, ruled-is, guid-is, optional16-is, optional32-is}
@@ -45,7 +45,7 @@ text-is n text m k e s at =
     (ap₂ (λ (i : PublisherId) (n : ℕ). got i n) (ap PublisherId.Text (sym e)) z)
 
 pub publisher-is : (p : PublisherId) (text : List ℕ) (m : ℕ) → FitsPublisher p → publisherRefusal p ≡ 0 → publisherShape p (length text) ≡ 0
-    → Reads (publisherAt (publisherOn p) (kindOf p)) m (publisherBytes text p) p
+    → Reads (publisherAt (publisherOn p) (idTypeOf p)) m (publisherBytes text p) p
 publisher-is PublisherId.Absent text m f a b = nothing PublisherId.Absent m
 publisher-is (PublisherId.Byte v) text m f a b = last (item 1) PublisherId.Byte m (leBytes 1 v) v (item-is 1 v m f)
 publisher-is (PublisherId.UInt16 v) text m f a b = last (item 2) PublisherId.UInt16 m (leBytes 2 v) v (item-is 2 v m f)
@@ -62,7 +62,7 @@ class-is (ClassId.Is g) m f = last guid ClassId.Is m (guidBytes g) g (guid-is g 
 
 -- the group header
 
-number-is : (x : Optional16) (m : ℕ) → Fits16 x → numberRefusal x ≡ 0 → Reads (numberAt (on16 x)) m (optional16Bytes x) x
+number-is : (x : Optional16) (m : ℕ) → Fits16 x → numberRefusal x ≡ 0 → Reads (messageNumberAt (on16 x)) m (optional16Bytes x) x
 number-is Optional16.Absent m f h = nothing Optional16.Absent m
 number-is (Optional16.Is v) m f h = last (ruled 2 numberRule) Optional16.Is m (leBytes 2 v) v (ruled-is 2 numberRule v m f h)
 
@@ -77,7 +77,7 @@ pub bits : (g : GroupFields)
     × (groupFlagsOf g / 8 % 2 ≡ num (on16 (g .sequence))) × (groupFlagsOf g < 16))
 bits g = group-bits _ _ _ _ (num-bound (on16 (g .«writer_group»))) (num-bound (on32 (g .version))) (num-bound (on16 (g .number))) (num-bound (on16 (g .sequence)))
 
-fields-are : (g : GroupFields) → FitsFields g → numberRefusal (g .number) ≡ 0 → (m : ℕ) → Reads (groupFieldsAt (groupFlagsOf g)) m (fieldsBytes g) (GroupHeader.Is g)
+fields-are : (g : GroupFields) → FitsFields g → numberRefusal (g .number) ≡ 0 → (m : ℕ) → Reads (groupFieldsAt (groupFlagsOf g)) m (groupFieldsBytes g) (GroupHeader.Is g)
 fields-are g f h m =
     rw (
       flag-is (on16 (g .«writer_group»)) (groupFlagsOf g % 2) (bits g .0),
@@ -97,7 +97,7 @@ fields-are g f h m =
     let p2 = optional32-is (g .version) (m + length b1) (f .1) s (first s (m + length b1) b2 (b3 ++ b4) at2) in
     let p3 = number-is (g .number) (m + length b1 + length b2) (f .2) h s (first s (m + length b1 + length b2) b3 b4 at3) in
     let p4 = optional16-is (g .sequence) (m + length b1 + length b2 + length b3) (f .3) s at4 in
-    let z : m + length b1 + length b2 + length b3 + length b4 ≡ m + length (fieldsBytes g) =
+    let z : m + length b1 + length b2 + length b3 + length b4 ≡ m + length (groupFieldsBytes g) =
     omega (arith, length-append b1 (b2 ++ (b3 ++ b4)), length-append b2 (b3 ++ b4), length-append b3 b4) in
     rw (p1, p2, p3, p4) (ap (λ (j : ℕ). got (GroupHeader.Is g) j) z))
 
@@ -108,9 +108,9 @@ group-is (GroupHeader.Is g) m f h =
     let k : groupFlagsOf g < 256 ^ 1 = omega (arith, b .4) in
     let r : groupFlagsRule (groupFlagsOf g) ≡ 0 = rw (lt-leb 16 (groupFlagsOf g) (b .4)) in
     λ s at. let c = leBytes 1 (groupFlagsOf g) in
-    let p = rule-kept 1 groupFlagsRule m c (groupFlagsOf g) r (item-is 1 (groupFlagsOf g) m k) s (first s m c (fieldsBytes g) at) in
-    let q = fields-are g f h (m + length c) s (second s m c (fieldsBytes g) at) in
-    let z : m + length c + length (fieldsBytes g) ≡ m + length (c ++ fieldsBytes g) = omega (arith, length-append c (fieldsBytes g)) in
+    let p = rule-kept 1 groupFlagsRule m c (groupFlagsOf g) r (item-is 1 (groupFlagsOf g) m k) s (first s m c (groupFieldsBytes g) at) in
+    let q = fields-are g f h (m + length c) s (second s m c (groupFieldsBytes g) at) in
+    let z : m + length c + length (groupFieldsBytes g) ≡ m + length (c ++ groupFieldsBytes g) = omega (arith, length-append c (groupFieldsBytes g)) in
     rw (p, q) (ap (λ (j : ℕ). got (GroupHeader.Is g) j) z)
 
 -- the PayloadHeader

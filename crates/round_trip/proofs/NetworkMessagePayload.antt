@@ -9,13 +9,14 @@ use lib.ListN.{length, getD, length-append, List·getD-append}
 use lib.Seq.{getD-append-add}
 use lib.Dec.{eqb, leb, ltb}
 use borrow.Author.Tests.{le-leb, eq-eqb, eqb-true, eqb-false, ne-eqb, lt-ltb, ltb-true}
+use Rattle.wire.specs.Lists.{total}
 use Rattle.wire.specs.Number.{le}
 use Rattle.wire.specs.Answer.{got, refused}
 use Rattle.network_header.specs.declared.header.PayloadHeader.{PayloadHeader}
 use Rattle.network_message.specs.declared.payload.Sizes.{Sizes}
-use Rattle.network_message.specs.Payload.{total, positive, listed, payloadOf, restAt, listedAt, configuredAt, payloadAt}
+use Rattle.network_message.specs.Payload.{allPositive, listed, messagesFrom, restOnlyAt, listedAt, configuredAt, payloadAt}
 use Rattle.network_header.specs.Numbers.{configuredSizes}
-use Rattle.network_message_writer.specs.Payload.{listBytes, numberIn, payloadRefusal, listedRefusal}
+use Rattle.network_message_writer.specs.Payload.{listBytes, refusalNumber, payloadRefusal, listedRefusal}
 use Rattle.round_trip.specs.NetworkMessage.{payloadFor}
 
 -- numbers that stand in the middle of a slice
@@ -45,7 +46,7 @@ listed-at-start n pre b rest m e h =
 -- what a list of sizes that is not refused says
 pub record Listed (n : ℕ) (lengths : List ℕ) (rest : ℕ) : Type 0 where
   pub long : length lengths ≡ 2 * n
-  pub each : positive (listed n lengths 0) ≡ true
+  pub each : allPositive (listed n lengths 0) ≡ true
   pub sum : total (listed n lengths 0) ≡ rest
 
 cond-held : (b : Bool) (k j : ℕ) → cond b k (suc j) ≡ 0 → (b ≡ true) × (k ≡ 0)
@@ -54,32 +55,32 @@ cond-held false k j h = absurd (omega arith)
 
 pub listed-facts : (n : ℕ) (lengths : List ℕ) (rest : ℕ) → listedRefusal n lengths rest ≡ 0 → Listed n lengths rest
 listed-facts n lengths rest h =
-    let a = cond-held (eqb (length lengths) (2 * n)) (cond (positive (listed n lengths 0)) (cond (eqb (total (listed n lengths 0)) rest) 0 6) 6) 5 h in
-    let b = cond-held (positive (listed n lengths 0)) (cond (eqb (total (listed n lengths 0)) rest) 0 6) 5 (a .1) in
+    let a = cond-held (eqb (length lengths) (2 * n)) (cond (allPositive (listed n lengths 0)) (cond (eqb (total (listed n lengths 0)) rest) 0 6) 6) 5 h in
+    let b = cond-held (allPositive (listed n lengths 0)) (cond (eqb (total (listed n lengths 0)) rest) 0 6) 5 (a .1) in
     let c = cond-held (eqb (total (listed n lengths 0)) rest) 0 5 (b .1) in
     record { long = eqb-true (length lengths) (2 * n) (a .0); each = b .0; sum = eqb-true (total (listed n lengths 0)) rest (c .0) }
 
 -- the messages stand at the end of the datagram, from position m on, after the list of sizes where there is one
 
-rest-is : (messages s : List ℕ) (m : ℕ) → m + length messages ≡ length s → numberIn (restAt messages 0) ≡ 0 → restAt s m ≡ got (payloadOf 1 Sizes.Rest m) m
+rest-is : (messages s : List ℕ) (m : ℕ) → m + length messages ≡ length s → refusalNumber (restOnlyAt messages 0) ≡ 0 → restOnlyAt s m ≡ got (messagesFrom 1 Sizes.Rest m) m
 rest-is messages s m e h = go (ltb 0 (length messages)) refl h
   where
-    go : (b : Bool) → ltb 0 (length messages) ≡ b → numberIn (cond b (got (payloadOf 1 Sizes.Rest 0) 0) (refused 1 0)) ≡ 0 → restAt s m ≡ got (payloadOf 1 Sizes.Rest m) m
+    go : (b : Bool) → ltb 0 (length messages) ≡ b → refusalNumber (cond b (got (messagesFrom 1 Sizes.Rest 0) 0) (refused 1 0)) ≡ 0 → restOnlyAt s m ≡ got (messagesFrom 1 Sizes.Rest m) m
     go true t q =
         let l : 0 < length messages = ltb-true 0 (length messages) t in
         let k : m < length s = omega arith in
         rw (lt-ltb m (length s) k)
     go false t q = absurd (omega arith)
 
-pub some-message : (messages : List ℕ) → numberIn (restAt messages 0) ≡ 0 → 0 < length messages
+pub some-message : (messages : List ℕ) → refusalNumber (restOnlyAt messages 0) ≡ 0 → 0 < length messages
 some-message messages h = go (ltb 0 (length messages)) refl h
   where
-    go : (b : Bool) → ltb 0 (length messages) ≡ b → numberIn (cond b (got (payloadOf 1 Sizes.Rest 0) 0) (refused 1 0)) ≡ 0 → 0 < length messages
+    go : (b : Bool) → ltb 0 (length messages) ≡ b → refusalNumber (cond b (got (messagesFrom 1 Sizes.Rest 0) 0) (refused 1 0)) ≡ 0 → 0 < length messages
     go true t q = ltb-true 0 (length messages) t
     go false t q = absurd (omega arith)
 
 listed-is : (n : ℕ) (pre lengths messages : List ℕ) (m : ℕ) → length pre ≡ m → listedRefusal n lengths (length messages) ≡ 0
-    → listedAt n (pre ++ (lengths ++ messages)) m ≡ got (payloadOf n (Sizes.Listed m) (m + 2 * n)) (m + 2 * n)
+    → listedAt n (pre ++ (lengths ++ messages)) m ≡ got (messagesFrom n (Sizes.Listed m) (m + 2 * n)) (m + 2 * n)
 listed-is n pre lengths messages m e h =
     let s = pre ++ (lengths ++ messages) in
     let f = listed-facts n lengths (length messages) h in
@@ -91,14 +92,14 @@ listed-is n pre lengths messages m e h =
 
 -- what configured sizes that are not refused say: all are given and their sum is the messages', or one is not given
 pub data Configured (zs : List ℕ) (messages : List ℕ) : Type 0 where
-  all : positive zs ≡ true → (length zs ≡ 0 → ⊥) → total zs ≡ length messages → Configured zs messages
-  one : positive zs ≡ false → length zs ≡ 1 → numberIn (restAt messages 0) ≡ 0 → Configured zs messages
+  all : allPositive zs ≡ true → (length zs ≡ 0 → ⊥) → total zs ≡ length messages → Configured zs messages
+  one : allPositive zs ≡ false → length zs ≡ 1 → refusalNumber (restOnlyAt messages 0) ≡ 0 → Configured zs messages
 
-configured-facts : (zs messages : List ℕ) → numberIn (configuredAt zs messages 0) ≡ 0 → Configured zs messages
-configured-facts zs messages h = go (eqb (length zs) 0) (positive zs) (eqb (0 + total zs) (length messages)) (eqb (length zs) 1) refl refl refl refl h
+configured-facts : (zs messages : List ℕ) → refusalNumber (configuredAt zs messages 0) ≡ 0 → Configured zs messages
+configured-facts zs messages h = go (eqb (length zs) 0) (allPositive zs) (eqb (0 + total zs) (length messages)) (eqb (length zs) 1) refl refl refl refl h
   where
-    go : (a b c d : Bool) → eqb (length zs) 0 ≡ a → positive zs ≡ b → eqb (0 + total zs) (length messages) ≡ c → eqb (length zs) 1 ≡ d
-        → numberIn (cond a (refused 8 0) (cond b (cond c (got (payloadOf (length zs) Sizes.Configured 0) 0) (refused 6 0)) (cond d (restAt messages 0) (refused 8 0)))) ≡ 0
+    go : (a b c d : Bool) → eqb (length zs) 0 ≡ a → allPositive zs ≡ b → eqb (0 + total zs) (length messages) ≡ c → eqb (length zs) 1 ≡ d
+        → refusalNumber (cond a (refused 8 0) (cond b (cond c (got (messagesFrom (length zs) Sizes.Configured 0) 0) (refused 6 0)) (cond d (restOnlyAt messages 0) (refused 8 0)))) ≡ 0
         → Configured zs messages
     go true b c d e f p r q = absurd (omega arith)
     go false true true d e f p r q =
@@ -109,14 +110,14 @@ configured-facts zs messages h = go (eqb (length zs) 0) (positive zs) (eqb (0 + 
     go false false c false e f p r q = absurd (omega arith)
 
 configured-is : (zs messages s : List ℕ) (m : ℕ) → m + length messages ≡ length s → Configured zs messages
-    → configuredAt zs s m ≡ got (cond (positive zs) (payloadOf (length zs) Sizes.Configured m) (payloadOf 1 Sizes.Rest m)) m
+    → configuredAt zs s m ≡ got (cond (allPositive zs) (messagesFrom (length zs) Sizes.Configured m) (messagesFrom 1 Sizes.Rest m)) m
 configured-is zs messages s m e (Configured.all p n t) =
     let k : m + total zs ≡ length s = omega arith in
     rw (ne-eqb (length zs) 0 n, p, eq-eqb (m + total zs) (length s) k)
 configured-is zs messages s m e (Configured.one p n q) = rw (n, p, rest-is messages s m e q)
 
 -- without a PayloadHeader it is no chunk
-pub absent-facts : (chunk : Bool) (sizes messages : List ℕ) → numberIn (payloadAt chunk PayloadHeader.Absent sizes messages 0) ≡ 0 → (chunk ≡ false) × Configured (configuredSizes sizes) messages
+pub absent-facts : (chunk : Bool) (sizes messages : List ℕ) → refusalNumber (payloadAt chunk PayloadHeader.Absent sizes messages 0) ≡ 0 → (chunk ≡ false) × Configured (configuredSizes sizes) messages
 absent-facts true sizes messages h = absurd (omega arith)
 absent-facts false sizes messages h = (refl, configured-facts (configuredSizes sizes) messages h)
 
@@ -125,18 +126,18 @@ pub payload-is : (x : PayloadHeader) (chunk : Bool) (sizes pre lengths messages 
 payload-is PayloadHeader.Absent chunk sizes pre lengths messages m e h =
     let f = absent-facts chunk sizes messages h in
     let l : m + length messages ≡ length (pre ++ messages) = omega (arith, length-append pre messages) in
-    rw (f .0, configured-is (configuredSizes sizes) messages (pre ++ messages) m l (f .1)) (go (positive (configuredSizes sizes)))
+    rw (f .0, configured-is (configuredSizes sizes) messages (pre ++ messages) m l (f .1)) (go (allPositive (configuredSizes sizes)))
   where
-    go : (b : Bool) → got (cond b (payloadOf (length (configuredSizes sizes)) Sizes.Configured m) (payloadOf 1 Sizes.Rest m)) m
-        ≡ got (cond b (payloadOf (length (configuredSizes sizes)) Sizes.Configured m) (payloadOf 1 Sizes.Rest m))
-        (cond b (payloadOf (length (configuredSizes sizes)) Sizes.Configured m) (payloadOf 1 Sizes.Rest m) .first)
+    go : (b : Bool) → got (cond b (messagesFrom (length (configuredSizes sizes)) Sizes.Configured m) (messagesFrom 1 Sizes.Rest m)) m
+        ≡ got (cond b (messagesFrom (length (configuredSizes sizes)) Sizes.Configured m) (messagesFrom 1 Sizes.Rest m))
+        (cond b (messagesFrom (length (configuredSizes sizes)) Sizes.Configured m) (messagesFrom 1 Sizes.Rest m) .first)
     go true = refl
     go false = refl
 payload-is (PayloadHeader.Ids n) chunk sizes pre lengths messages m e h = go (leb n 1) h
   where
-    go : (b : Bool) → cond b (numberIn (restAt messages 0)) (listedRefusal n lengths (length messages)) ≡ 0
-        → cond b (restAt (pre ++ (cond b [] lengths ++ messages)) m) (listedAt n (pre ++ (cond b [] lengths ++ messages)) m)
-        ≡ got (cond b (payloadOf 1 Sizes.Rest m) (payloadOf n (Sizes.Listed m) (m + 2 * n))) (cond b (payloadOf 1 Sizes.Rest m) (payloadOf n (Sizes.Listed m) (m + 2 * n)) .first)
+    go : (b : Bool) → cond b (refusalNumber (restOnlyAt messages 0)) (listedRefusal n lengths (length messages)) ≡ 0
+        → cond b (restOnlyAt (pre ++ (cond b [] lengths ++ messages)) m) (listedAt n (pre ++ (cond b [] lengths ++ messages)) m)
+        ≡ got (cond b (messagesFrom 1 Sizes.Rest m) (messagesFrom n (Sizes.Listed m) (m + 2 * n))) (cond b (messagesFrom 1 Sizes.Rest m) (messagesFrom n (Sizes.Listed m) (m + 2 * n)) .first)
     go true q = rest-is messages (pre ++ messages) m (omega (arith, length-append pre messages)) q
     go false q = listed-is n pre lengths messages m e q
 payload-is (PayloadHeader.Chunk w) chunk sizes pre lengths messages m e h = refl

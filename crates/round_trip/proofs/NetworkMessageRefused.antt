@@ -7,7 +7,8 @@ use Prim.Native.Nat.{ℕ, suc, _+_, _*_, _/_, _%_, _^_, _≤_, _<_}
 use native.Mathlib.Omega.{arith}
 use lib.ListN.{length, length-append}
 use lib.Dec.{eqb, leb, ltb}
-use borrow.Author.Tests.{le-ltb, le-leb, lt-leb, lt-ltb, leb-false, eqb-true, eqb-false, eq-eqb, ne-eqb}
+use borrow.Author.Tests.{le-ltb, le-leb, lt-leb, lt-ltb, leb-false, eqb-true, eq-eqb, ne-eqb}
+use Rattle.wire.specs.Lists.{total}
 use Rattle.wire.specs.Number.{le, leBytes}
 use Rattle.wire.specs.Answer.{Answer, got, refused, ruled, bit}
 use Rattle.wire.specs.declared.optional.Optional16.{Optional16}
@@ -20,18 +21,18 @@ use Rattle.network_header.specs.declared.header.Promoted.{Promoted}
 use Rattle.network_message.specs.declared.payload.Sizes.{Sizes}
 use Rattle.network_header.specs.declared.envelope.Envelope.{Envelope}
 use Rattle.network_header.specs.Flags.{byte0Rule, extended1Rule, flagsAt, extended2Of, extended1Of, byte0Of, flagBytes, flagsFor, timesRefusal}
-use Rattle.publisher_id.specs.Publisher.{publisherAt, publisherOn, kindOf, publisherBytes, publisherRefusal, publisherShape}
-use Rattle.network_header.specs.Group.{numberRule, numberAt, groupFlagsRule, groupAt, groupOn, groupFlagsOf, fieldsBytes, groupBytes, numberRefusal, groupRefusal}
+use Rattle.publisher_id.specs.Publisher.{publisherAt, publisherOn, idTypeOf, publisherBytes, publisherRefusal, publisherShape}
+use Rattle.network_header.specs.Group.{numberRule, messageNumberAt, groupFlagsRule, groupAt, groupOn, groupFlagsOf, groupFieldsBytes, groupBytes, numberRefusal, groupRefusal}
 use Rattle.network_header.specs.Header.{countRule, payloadHeaderAt, sizeRule, promotedAt, classBytes, payloadHeaderOn, payloadHeaderBytes, promotedOn, promotedBytes, countRefusal, promotedRefusal, idsShape, promotedShape}
-use Rattle.network_message.specs.Payload.{total, positive, listed, payloadOf, restAt, listedAt, sizedAt, configuredAt, payloadAt}
+use Rattle.network_message.specs.Payload.{allPositive, listed, messagesFrom, restOnlyAt, listedAt, sizedAt, configuredAt, payloadAt}
 use Rattle.network_header.specs.Numbers.{configuredSizes}
 use Rattle.network_message.specs.Envelope.{messagesOf, networkMessageAt}
 use Rattle.wire_writer.specs.Writing.{orElse, num, needed, byteBytes, on16, on32, onI64, optional16Bytes, optional32Bytes, optionalI64Bytes, picosecondsRefusal}
 use Rattle.wire_writer.proofs.Trip.{At, first, second, fits-at, le-at, item-is, rule-kept, optional16-is, optional32-is, optionalI64-is, picoseconds-is}
 use Rattle.wire_writer.proofs.Refusals.{passed, held, or-case, no, Refuses, broken, number-broken, picoseconds-refuses}
 use Rattle.wire_writer.proofs.Bits.{num-bound, needed-bound, flag-is}
-use Rattle.network_message_writer.specs.Payload.{listBytes, numberIn, payloadRefusal, listedRefusal}
-use Rattle.network_message_writer.specs.Envelope.{Given, headerBytes, datagramOf, readingRefusal}
+use Rattle.network_message_writer.specs.Payload.{listBytes, refusalNumber, payloadRefusal, listedRefusal}
+use Rattle.network_message_writer.specs.Envelope.{GivenDatagram, envelopeBytes, datagramOf, datagramReadingRefusal}
 use Rattle.network_message_writer.proofs.Short.{ids-counted}
 use Rattle.round_trip.specs.NetworkMessage.{AsManyLengths, FitsEnvelope, FitsGroup}
 use Rattle.round_trip.proofs.NetworkMessageFlags.{byte-bits, extended-bits, flags-are}
@@ -39,23 +40,16 @@ use Rattle.round_trip.proofs.NetworkMessageParts.{bits, publisher-is, c
 use Rattle.round_trip.proofs.NetworkMessagePayload.{listed-at-start}
 use Rattle.round_trip.proofs.NetworkMessageWritten.{kind-below}
 use Rattle.wire_writer.specs.Fits.{Fits16}
-
--- two tests are equal where each follows from the other
-eqb-same : (a b c d : ℕ) → (a ≡ b → c ≡ d) → (c ≡ d → a ≡ b) → eqb a b ≡ eqb c d
-eqb-same a b c d f g = go (eqb a b) refl
-  where
-    go : (t : Bool) → eqb a b ≡ t → eqb a b ≡ eqb c d
-    go true e = e ∙ sym (eq-eqb c d (f (eqb-true a b e)))
-    go false e = e ∙ sym (ne-eqb c d (λ q. eqb-false a b e (g q)))
+use Rattle.wire.proofs.Facts.{eqb-same}
 
 -- an answer with a number is a refusal
-refused-by : {A : Type 0} (a : Answer A) → eqb (numberIn a) 0 ≡ false → (place : ℕ) × (a ≡ refused (numberIn a) place)
+refused-by : {A : Type 0} (a : Answer A) → eqb (refusalNumber a) 0 ≡ false → (place : ℕ) × (a ≡ refused (refusalNumber a) place)
 refused-by (got v next) h = absurd (no h)
 refused-by (refused n place) h = (place, refl)
 
 -- each part
 
-number-refuses : (x : Optional16) (m : ℕ) → Fits16 x → eqb (numberRefusal x) 0 ≡ false → Refuses (numberAt (on16 x)) m (optional16Bytes x) (numberRefusal x)
+number-refuses : (x : Optional16) (m : ℕ) → Fits16 x → eqb (numberRefusal x) 0 ≡ false → Refuses (messageNumberAt (on16 x)) m (optional16Bytes x) (numberRefusal x)
 number-refuses Optional16.Absent m f h s at = absurd (no h)
 number-refuses (Optional16.Is v) m f h s at = rw (number-broken 2 numberRule v m f h s at)
 
@@ -67,7 +61,7 @@ text-rule n h = go (leb 65 n) h
     go false q = absurd (no q)
 
 publisher-refuses : (p : PublisherId) (text : List ℕ) (m : ℕ) → length text ≤ 65535 → publisherShape p (length text) ≡ 0 → eqb (publisherRefusal p) 0 ≡ false
-    → (s : List ℕ) → At s m (publisherBytes text p) → publisherAt (publisherOn p) (kindOf p) s m ≡ refused (publisherRefusal p) 0
+    → (s : List ℕ) → At s m (publisherBytes text p) → publisherAt (publisherOn p) (idTypeOf p) s m ≡ refused (publisherRefusal p) 0
 publisher-refuses PublisherId.Absent text m l b h s at = absurd (no h)
 publisher-refuses (PublisherId.Byte v) text m l b h s at = absurd (no h)
 publisher-refuses (PublisherId.UInt16 v) text m l b h s at = absurd (no h)
@@ -115,11 +109,11 @@ group-refuses (GroupHeader.Is g) m f h s at =
     let b = bits g in
     let k : groupFlagsOf g < 256 ^ 1 = omega (arith, b .4) in
     let r : groupFlagsRule (groupFlagsOf g) ≡ 0 = rw (lt-leb 16 (groupFlagsOf g) (b .4)) in
-    let at1 = second s m c (fieldsBytes g) at in
+    let at1 = second s m c (groupFieldsBytes g) at in
     let m1 = m + length c in
     let at2 = second s m1 b1 (b2 ++ (b3 ++ b4)) at1 in
     let at3 = second s (m1 + length b1) b2 (b3 ++ b4) at2 in
-    let p0 = rule-kept 1 groupFlagsRule m c (groupFlagsOf g) r (item-is 1 (groupFlagsOf g) m k) s (first s m c (fieldsBytes g) at) in
+    let p0 = rule-kept 1 groupFlagsRule m c (groupFlagsOf g) r (item-is 1 (groupFlagsOf g) m k) s (first s m c (groupFieldsBytes g) at) in
     let p1 = optional16-is (g .«writer_group») m1 (f .0) s (first s m1 b1 (b2 ++ (b3 ++ b4)) at1) in
     let p2 = optional32-is (g .version) (m1 + length b1) (f .1) s (first s (m1 + length b1) b2 (b3 ++ b4) at2) in
     let p3 = number-refuses (g .number) (m1 + length b1 + length b2) (f .2) h s (first s (m1 + length b1 + length b2) b3 b4 at3) in (
@@ -175,37 +169,37 @@ times-broken false t h = absurd (no h)
 
 -- the payload: reading it where it stands has the number of reading the messages alone
 
-rest-number : (messages s : List ℕ) (m : ℕ) → m + length messages ≡ length s → numberIn (restAt s m) ≡ numberIn (restAt messages 0)
+rest-number : (messages s : List ℕ) (m : ℕ) → m + length messages ≡ length s → refusalNumber (restOnlyAt s m) ≡ refusalNumber (restOnlyAt messages 0)
 rest-number messages s m e =
     let q : ltb m (length s) ≡ ltb 0 (length messages) = leb-same (suc m) (length s) 1 (length messages) (λ h. omega arith) (λ h. omega arith) in
     rw q (go (ltb 0 (length messages)))
   where
-    go : (b : Bool) → numberIn (cond b (got (payloadOf 1 Sizes.Rest m) m) (refused 1 m)) ≡ numberIn (cond b (got (payloadOf 1 Sizes.Rest 0) 0) (refused 1 0))
+    go : (b : Bool) → refusalNumber (cond b (got (messagesFrom 1 Sizes.Rest m) m) (refused 1 m)) ≡ refusalNumber (cond b (got (messagesFrom 1 Sizes.Rest 0) 0) (refused 1 0))
     go true = refl
     go false = refl
 
-sized-number : (n sum : ℕ) (messages s : List ℕ) (m : ℕ) → m + length messages ≡ length s → numberIn (sizedAt n sum s m) ≡ numberIn (sizedAt n sum messages 0)
+sized-number : (n sum : ℕ) (messages s : List ℕ) (m : ℕ) → m + length messages ≡ length s → refusalNumber (sizedAt n sum s m) ≡ refusalNumber (sizedAt n sum messages 0)
 sized-number n sum messages s m e =
     let q : eqb (m + sum) (length s) ≡ eqb (0 + sum) (length messages) = eqb-same (m + sum) (length s) (0 + sum) (length messages) (λ h. omega arith) (λ h. omega arith) in
     rw q (go (eqb (0 + sum) (length messages)))
   where
-    go : (b : Bool) → numberIn (cond b (got (payloadOf n Sizes.Configured m) m) (refused 6 m)) ≡ numberIn (cond b (got (payloadOf n Sizes.Configured 0) 0) (refused 6 0))
+    go : (b : Bool) → refusalNumber (cond b (got (messagesFrom n Sizes.Configured m) m) (refused 6 m)) ≡ refusalNumber (cond b (got (messagesFrom n Sizes.Configured 0) 0) (refused 6 0))
     go true = refl
     go false = refl
 
-configured-number : (zs messages s : List ℕ) (m : ℕ) → m + length messages ≡ length s → numberIn (configuredAt zs s m) ≡ numberIn (configuredAt zs messages 0)
-configured-number zs messages s m e = go (eqb (length zs) 0) (positive zs) (eqb (length zs) 1)
+configured-number : (zs messages s : List ℕ) (m : ℕ) → m + length messages ≡ length s → refusalNumber (configuredAt zs s m) ≡ refusalNumber (configuredAt zs messages 0)
+configured-number zs messages s m e = go (eqb (length zs) 0) (allPositive zs) (eqb (length zs) 1)
   where
     go : (a b c : Bool)
-        → numberIn (cond a (refused 8 0) (cond b (sizedAt (length zs) (total zs) s m) (cond c (restAt s m) (refused 8 0))))
-        ≡ numberIn (cond a (refused 8 0) (cond b (sizedAt (length zs) (total zs) messages 0) (cond c (restAt messages 0) (refused 8 0))))
+        → refusalNumber (cond a (refused 8 0) (cond b (sizedAt (length zs) (total zs) s m) (cond c (restOnlyAt s m) (refused 8 0))))
+        ≡ refusalNumber (cond a (refused 8 0) (cond b (sizedAt (length zs) (total zs) messages 0) (cond c (restOnlyAt messages 0) (refused 8 0))))
     go true b c = refl
     go false true c = sized-number (length zs) (total zs) messages s m e
     go false false true = rest-number messages s m e
     go false false false = refl
 
 listed-number : (n : ℕ) (pre lengths messages : List ℕ) (m : ℕ) → length pre ≡ m → length lengths ≡ 2 * n
-    → numberIn (listedAt n (pre ++ (lengths ++ messages)) m) ≡ listedRefusal n lengths (length messages)
+    → refusalNumber (listedAt n (pre ++ (lengths ++ messages)) m) ≡ listedRefusal n lengths (length messages)
 listed-number n pre lengths messages m e l =
     let s = pre ++ (lengths ++ messages) in
     let k : length s ≡ m + (2 * n + length messages) = omega (arith, length-append pre (lengths ++ messages), length-append lengths messages) in
@@ -214,32 +208,32 @@ listed-number n pre lengths messages m e l =
     let q : eqb (m + 2 * n + total (listed n lengths 0)) (length s) ≡ eqb (total (listed n lengths 0)) (length messages) =
     eqb-same (m + 2 * n + total (listed n lengths 0)) (length s) (total (listed n lengths 0)) (length messages) (λ h. omega arith) (λ h. omega arith) in
     rw (le-leb (m + 2 * n) (length s) j, z, q, eq-eqb (length lengths) (2 * n) l)
-    (go (positive (listed n lengths 0)) (eqb (total (listed n lengths 0)) (length messages)))
+    (go (allPositive (listed n lengths 0)) (eqb (total (listed n lengths 0)) (length messages)))
   where
-    go : (a b : Bool) → numberIn (cond (a && b) (got (payloadOf n (Sizes.Listed m) (m + 2 * n)) (m + 2 * n)) (refused 6 m)) ≡ cond a (cond b 0 6) 6
+    go : (a b : Bool) → refusalNumber (cond (a && b) (got (messagesFrom n (Sizes.Listed m) (m + 2 * n)) (m + 2 * n)) (refused 6 m)) ≡ cond a (cond b 0 6) 6
     go true true = refl
     go true false = refl
     go false b = refl
 
 pub payload-number : (x : PayloadHeader) (chunk : Bool) (sizes pre lengths messages : List ℕ) (m : ℕ) → length pre ≡ m → AsManyLengths x lengths
-    → numberIn (payloadAt chunk x sizes (pre ++ (listBytes x lengths ++ messages)) m) ≡ payloadRefusal chunk x sizes lengths messages
+    → refusalNumber (payloadAt chunk x sizes (pre ++ (listBytes x lengths ++ messages)) m) ≡ payloadRefusal chunk x sizes lengths messages
 payload-number PayloadHeader.Absent true sizes pre lengths messages m e a = refl
 payload-number PayloadHeader.Absent false sizes pre lengths messages m e a = configured-number (configuredSizes sizes) messages (pre ++ messages) m (omega (arith, length-append pre messages))
 payload-number (PayloadHeader.Ids n) chunk sizes pre lengths messages m e a = go (leb n 1) refl
   where
     go : (b : Bool) → leb n 1 ≡ b
-        → numberIn (cond b (restAt (pre ++ (cond b [] lengths ++ messages)) m) (listedAt n (pre ++ (cond b [] lengths ++ messages)) m))
-        ≡ cond b (numberIn (restAt messages 0)) (listedRefusal n lengths (length messages))
+        → refusalNumber (cond b (restOnlyAt (pre ++ (cond b [] lengths ++ messages)) m) (listedAt n (pre ++ (cond b [] lengths ++ messages)) m))
+        ≡ cond b (refusalNumber (restOnlyAt messages 0)) (listedRefusal n lengths (length messages))
     go true t = rest-number messages (pre ++ messages) m (omega (arith, length-append pre messages))
     go false t = listed-number n pre lengths messages m e (a t)
 payload-number (PayloadHeader.Chunk w) chunk sizes pre lengths messages m e a = refl
 
-module _ (g : Given) (x : Envelope) (sizes configured : List ℕ) (f : FitsEnvelope x) (a : AsManyLengths (x .«payload_header») (g .lengths))
+module _ (g : GivenDatagram) (x : Envelope) (sizes configured : List ℕ) (f : FitsEnvelope x) (a : AsManyLengths (x .«payload_header») (g .lengths))
     (st : publisherShape (x .publisher) (length (g .text)) ≡ 0) (si : idsShape (x .chunk) (x .«payload_header») (g .ids) configured ≡ 0)
     (sp : promotedShape (x .promoted) (length (g .promoted)) ≡ 0) (ls : length (g .text) ≤ 65535) (long : length (datagramOf g x) ≤ 65535) where
   -- Where the parts are as long as the envelope says and the writer refuses by a reading number, reading what would have been
   -- written refuses by that number.
-  pub refuse-written : eqb (readingRefusal g x sizes) 0 ≡ false → (place : ℕ) × (networkMessageAt sizes (datagramOf g x) ≡ refused (readingRefusal g x sizes) place)
+  pub refuse-written : eqb (datagramReadingRefusal g x sizes) 0 ≡ false → (place : ℕ) × (networkMessageAt sizes (datagramOf g x) ≡ refused (datagramReadingRefusal g x sizes) place)
   refuse-written h =
       let s = datagramOf g x in
       let P : ℕ → Type 0 = λ k. (place : ℕ) × (networkMessageAt sizes (datagramOf g x) ≡ refused k place) in
@@ -251,7 +245,7 @@ module _ (g : Given) (x : Envelope) (sizes configured : List ℕ) (f : FitsEnvel
       let b6 = optionalI64Bytes (x .timestamp) in
       let b7 = optional16Bytes (x .picoseconds) in
       let b8 = promotedBytes (g .promoted) (x .promoted) in
-      let pre = headerBytes (g .text) (g .ids) (g .promoted) x in
+      let pre = envelopeBytes (g .text) (g .ids) (g .promoted) x in
       let m1 = 0 + length b1 in
       let m2 = m1 + length b2 in
       let m3 = m2 + length b3 in
@@ -309,4 +303,4 @@ module _ (g : Given) (x : Envelope) (sizes configured : List ℕ) (f : FitsEnvel
       let q = refused-by (payloadAt (x .chunk) (x .«payload_header») sizes s (m7 + length b8)) (ap (λ (k : ℕ). eqb k 0) n ∙ h6) in
       let last : (k place : ℕ) → payloadAt (x .chunk) (x .«payload_header») sizes s (m7 + length b8) ≡ refused k place → P k =
       λ k place e. (place, rw (l, p1, p2, p3, p4, p5, p6, p7, p8, e)) in
-      subst P n (last (numberIn (payloadAt (x .chunk) (x .«payload_header») sizes s (m7 + length b8))) (q .0) (q .1))))))))
+      subst P n (last (refusalNumber (payloadAt (x .chunk) (x .«payload_header») sizes s (m7 + length b8))) (q .0) (q .1))))))))

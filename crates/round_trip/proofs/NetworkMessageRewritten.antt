@@ -29,12 +29,12 @@ use Rattle.network_header.specs.Group.{groupAt, groupBytes}
 use Rattle.network_header.specs.Header.{classAt, payloadHeaderAt, promotedAt, classBytes, payloadHeaderBytes, promotedBytes}
 use Rattle.network_header.specs.Numbers.{configuredSizes}
 use Rattle.network_message.specs.Payload.{payloadAt}
-use Rattle.network_message.specs.Envelope.{Header, NetworkMessage, identityAt, timesAt, messagesOf, headerAt, bodyAt, networkMessageAt}
+use Rattle.network_message.specs.Envelope.{Header, NetworkMessage, identityAt, timesAt, messagesOf, envelopeAt, envelopeBodyAt, networkMessageAt}
 use Rattle.wire_writer.specs.declared.writing.Written.{Written}
-use Rattle.wire_writer.specs.Writing.{needed, writing, writtenOf, bufferOf, optional16Bytes, optionalI64Bytes}
+use Rattle.wire_writer.specs.Writing.{needed, writing, writtenOf, bufferAfter, optional16Bytes, optionalI64Bytes}
 use Rattle.wire_writer.proofs.Answering.{fitting-written}
 use Rattle.wire_writer.proofs.Back.{Back, join, rest-is, end-fits, map-back, optionalI64-back, ruled16-back}
-use Rattle.network_message_writer.specs.Envelope.{headerBytes, textOf, idsOf, promotedOf, againOf, datagramAgain}
+use Rattle.network_message_writer.specs.Envelope.{envelopeBytes, textOf, idsOf, promotedOf, againOf, datagramAgain}
 use Rattle.network_header.proofs.Sizes.{flags-sized}
 use Rattle.network_message_writer.proofs.Again.{accepted-short}
 use Rattle.round_trip.specs.NetworkMessage.{rewrittenFlags, rewrittenAs, rewritten}
@@ -45,7 +45,7 @@ use Rattle.wire_writer.specs.Fits.{Bytes}
 -- the header of a datagram with its parts taken as read
 abbrev pub headerOf : List ℕ → Envelope → Places → List ℕ
 headerOf s x p =
-    headerBytes (textOf s (x .publisher) (p .«publisher_end»)) (idsOf s (x .«payload_header») (p .«payload_header_end»)) (promotedOf s (x .promoted) (p .payload)) x
+    envelopeBytes (textOf s (x .publisher) (p .«publisher_end»)) (idsOf s (x .«payload_header») (p .«payload_header_end»)) (promotedOf s (x .promoted) (p .payload)) x
 
 -- the parts put together
 abbrev pub Same : List ℕ → Flags → ℕ → Header → ℕ → Type 0
@@ -105,7 +105,7 @@ times-of f messages s at x next h =
     × (promotedAt (f .promoted) messages s n2 ≡ got (x .promoted) next)) (M .2)
     (T .1, O .1, T .2, O .2, M .1)
 
-pub header-same : (configured : ℕ) (s : List ℕ) (f : Flags) (n : ℕ) (L : Header) (next : ℕ) → Bytes s → flagsAt s 0 ≡ got f n → headerAt f configured s n ≡ got L next → Same s f n L next
+pub header-same : (configured : ℕ) (s : List ℕ) (f : Flags) (n : ℕ) (L : Header) (next : ℕ) → Bytes s → flagsAt s 0 ≡ got f n → envelopeAt f configured s n ≡ got L next → Same s f n L next
 header-same configured s f n L next b hf h =
     let I = invert (identityAt f s n) (λ i k. _) h in
     let Pl = invert (payloadHeaderAt (f .«payload_header») (f .chunk) s (I .1)) (λ p k. _) (I .3) in
@@ -128,22 +128,22 @@ header-same configured s f n L next b hf h =
     (rw (bp .1, bp .2, bg .1, bl .1, bc .1, bt .1, bo .1, bm .1)) in
     subst (λ (z : ℕ). Same s f n L z) (got-next (T .3)) (subst (λ (K : Header). Same s f n K (T .1)) (got-value (T .3)) a)
 
-body-same : (sizes s : List ℕ) (f : Flags) (n : ℕ) (m : NetworkMessage) (next : ℕ) → Bytes s → flagsAt s 0 ≡ got f n → bodyAt f sizes s n ≡ got m next
+body-same : (sizes s : List ℕ) (f : Flags) (n : ℕ) (m : NetworkMessage) (next : ℕ) → Bytes s → flagsAt s 0 ≡ got f n → envelopeBodyAt f sizes s n ≡ got m next
     → (againOf s (m .envelope) (m .places) ≡ flagBytes (rewrittenFlags f) ++ drop n s) × (s ≡ flagBytes f ++ drop n s)
 body-same sizes s f n m next b hf h =
-    let H = invert (headerAt f (length (configuredSizes sizes)) s n) (λ h k. _) h in
+    let H = invert (envelopeAt f (length (configuredSizes sizes)) s n) (λ h k. _) h in
     let P = map-back (payloadAt (H .0 .envelope .chunk) (H .0 .envelope .«payload_header») sizes)
     (λ p. record { envelope = H .0 .envelope; places = H .0 .places; payload = p }) s (H .1) m next (H .3) in
     let q = header-same (length (configuredSizes sizes)) s f n (H .0) (H .1) b hf (H .2) in
     subst (λ (m : NetworkMessage). (againOf s (m .envelope) (m .places) ≡ flagBytes (rewrittenFlags f) ++ drop n s) × (s ≡ flagBytes f ++ drop n s)) (P .2)
     (ap (λ (k : ℕ). headerOf s (H .0 .envelope) (H .0 .places) ++ drop k s) (q .2) ∙ q .0, q .1)
 
-pub flags-of : (sizes s : List ℕ) (m : NetworkMessage) (next : ℕ) → networkMessageAt sizes s ≡ got m next → (f : Flags) × (n : ℕ) × (flagsAt s 0 ≡ got f n) × (bodyAt f sizes s n ≡ got m next)
+pub flags-of : (sizes s : List ℕ) (m : NetworkMessage) (next : ℕ) → networkMessageAt sizes s ≡ got m next → (f : Flags) × (n : ℕ) × (flagsAt s 0 ≡ got f n) × (envelopeBodyAt f sizes s n ≡ got m next)
 flags-of sizes s m next h = go (ltb 65535 (length s)) h
   where
-    go : (t : Bool) → cond t (refused 10 0) ((flagsAt >>= λ f. bodyAt f sizes) s 0) ≡ got m next → (f : Flags) × (n : ℕ) × (flagsAt s 0 ≡ got f n) × (bodyAt f sizes s n ≡ got m next)
+    go : (t : Bool) → cond t (refused 10 0) ((flagsAt >>= λ f. envelopeBodyAt f sizes) s 0) ≡ got m next → (f : Flags) × (n : ℕ) × (flagsAt s 0 ≡ got f n) × (envelopeBodyAt f sizes s n ≡ got m next)
     go true q = absurd (not-got q)
-    go false q = invert (flagsAt s 0) (λ f n. bodyAt f sizes s n) q
+    go false q = invert (flagsAt s 0) (λ f n. envelopeBodyAt f sizes s n) q
 
 -- An accepted datagram, its parts taken as read, is written again as document 01 says: the same bytes, but for the type bits
 -- of an absent PublisherId.
@@ -181,7 +181,7 @@ publisher-flag : (on : Bool) (kind : ℕ) (s : List ℕ) (at : ℕ) (p : Publish
 publisher-flag true kind s at p next h e = refl
 publisher-flag false kind s at p next h e = ap publisherOn (got-value h) ∙ e
 
-header-flag : (configured : ℕ) (s : List ℕ) (f : Flags) (n : ℕ) (L : Header) (next : ℕ) → headerAt f configured s n ≡ got L next → publisherOn (L .envelope .publisher) ≡ true → f .publisher ≡ true
+header-flag : (configured : ℕ) (s : List ℕ) (f : Flags) (n : ℕ) (L : Header) (next : ℕ) → envelopeAt f configured s n ≡ got L next → publisherOn (L .envelope .publisher) ≡ true → f .publisher ≡ true
 header-flag configured s f n L next h =
     let I = invert (identityAt f s n) (λ i k. _) h in
     let Pl = invert (payloadHeaderAt (f .«payload_header») (f .chunk) s (I .1)) (λ p k. _) (I .3) in
@@ -193,7 +193,7 @@ header-flag configured s f n L next h =
 pub same-with-publisher : (sizes s : List ℕ) (m : NetworkMessage) (next : ℕ) → Bytes s → networkMessageAt sizes s ≡ got m next → publisherOn (m .envelope .publisher) ≡ true → rewritten s ≡ s
 same-with-publisher sizes s m next b h =
     let f = flags-of sizes s m next h in
-    let H = invert (headerAt (f .0) (length (configuredSizes sizes)) s (f .1)) (λ h k. _) (f .3) in
+    let H = invert (envelopeAt (f .0) (length (configuredSizes sizes)) s (f .1)) (λ h k. _) (f .3) in
     let P = map-back (payloadAt (H .0 .envelope .chunk) (H .0 .envelope .«payload_header») sizes)
     (λ p. record { envelope = H .0 .envelope; places = H .0 .places; payload = p }) s (H .1) m next (H .3) in
     subst (λ (m : NetworkMessage). publisherOn (m .envelope .publisher) ≡ true → rewritten s ≡ s) (P .2)
@@ -232,7 +232,7 @@ rewritten-short sizes s m next b h =
 -- `rewrite` accepts an accepted datagram wherever the buffer is as long, and stores exactly its rewriting.
 pub rewrite-accepted : (sizes s out : List ℕ) (m : NetworkMessage) (next : ℕ) → Bytes s → networkMessageAt sizes s ≡ got m next → length s ≤ length out
     → (writtenOf (length out) (datagramAgain sizes s) ≡ Written.Is (length (rewritten s)))
-    × (bufferOf out (datagramAgain sizes s) ≡ rewritten s ++ drop (length (rewritten s)) out)
+    × (bufferAfter out (datagramAgain sizes s) ≡ rewritten s ++ drop (length (rewritten s)) out)
 rewrite-accepted sizes s out m next b h l =
     let q = rewritten-short sizes s m next b h in
     let k : length (rewritten s) ≤ 65535 = omega (arith, accepted-short sizes s m next h) in
@@ -240,5 +240,5 @@ rewrite-accepted sizes s out m next b h l =
     rw h
     (subst
     (λ (y : List ℕ). (writtenOf (length out) (writing y) ≡ Written.Is (length (rewritten s)))
-    × (bufferOf out (writing y) ≡ rewritten s ++ drop (length (rewritten s)) out))
+    × (bufferAfter out (writing y) ≡ rewritten s ++ drop (length (rewritten s)) out))
     (sym (rewrite-read sizes s m next b h)) (fitting-written {bytes = rewritten s} {entry = out} k j (record { answer = refl; buffer = refl })))

@@ -23,7 +23,7 @@ use Rattle.network_header.specs.Group.{groupBytes}
 use Rattle.network_header.specs.Header.{classBytes, idsShape, promotedShape}
 use Rattle.network_message_writer.specs.Payload.{listBytes, lengthsShape}
 use Rattle.network_message_writer.proofs.Short.{unused-none}
-use Rattle.network_message_writer.specs.Envelope.{Given, tailBytes, datagramOf, readingRefusal, shapeRefusal, refusalOf, datagramOutput}
+use Rattle.network_message_writer.specs.Envelope.{GivenDatagram, tailBytes, datagramOf, datagramReadingRefusal, shapeRefusal, datagramRefusal, datagramOutput}
 use Rattle.round_trip.specs.NetworkMessage.{AsManyLengths, FitsEnvelope, ReadsBack, WritesAgain}
 use Rattle.round_trip.proofs.NetworkMessageWritten.{read-written, message-written}
 use Rattle.round_trip.proofs.NetworkMessageGiven.{text-written, promoted-written, writer-id-written}
@@ -34,10 +34,10 @@ use Rattle.wire_writer.specs.Fits.{Bytes, Numbers}
 
 -- Theorem 1. What the writer accepted reads back, under the same configuration, as what it was given.
 
-pub reads-back : (g : Given) (x : Envelope) (sizes configured entry exit : List ℕ) (n : ℕ) → FitsEnvelope x
+pub reads-back : (g : GivenDatagram) (x : Envelope) (sizes configured entry exit : List ℕ) (n : ℕ) → FitsEnvelope x
     → Writes (datagramOutput g x sizes configured) entry exit (Written.Is n) → ReadsBack g x sizes configured
 reads-back g x sizes configured entry exit n f w =
-    let a = reported (refusalOf g x sizes configured) (datagramOf g x) entry exit n w in
+    let a = reported (datagramRefusal g x sizes configured) (datagramOf g x) entry exit n w in
     record {
       whole = read-written g x sizes configured f (a .number) (a .limit);
       text = text-written g x sizes configured (a .number);
@@ -66,10 +66,10 @@ text-in (PublisherId.UInt32 v) text h = omega (arith, unused-none (length text) 
 text-in (PublisherId.UInt64 v) text h = omega (arith, unused-none (length text) h)
 text-in (PublisherId.Text n) text h = omega (arith, length-append (leBytes 4 (length text)) text)
 
-pub refuses-alike : (g : Given) (x : Envelope) (sizes configured : List ℕ) → FitsEnvelope x → AsManyLengths (x .«payload_header») (g .lengths) → shapeRefusal g x sizes configured ≡ 0
-    → length (datagramOf g x) ≤ 65535 → eqb (readingRefusal g x sizes) 0 ≡ false
-    → (datagramOutput g x sizes configured ≡ refusing (readingRefusal g x sizes))
-    × ((place : ℕ) × (networkMessageAt sizes (datagramOf g x) ≡ refused (readingRefusal g x sizes) place))
+pub refuses-alike : (g : GivenDatagram) (x : Envelope) (sizes configured : List ℕ) → FitsEnvelope x → AsManyLengths (x .«payload_header») (g .lengths) → shapeRefusal g x sizes configured ≡ 0
+    → length (datagramOf g x) ≤ 65535 → eqb (datagramReadingRefusal g x sizes) 0 ≡ false
+    → (datagramOutput g x sizes configured ≡ refusing (datagramReadingRefusal g x sizes))
+    × ((place : ℕ) × (networkMessageAt sizes (datagramOf g x) ≡ refused (datagramReadingRefusal g x sizes) place))
 refuses-alike g x sizes configured f a s l h =
     let m1 = publisherShape (x .publisher) (length (g .text)) in
     let m2 = idsShape (x .chunk) (x .«payload_header») (g .ids) configured in

@@ -8,12 +8,12 @@ use native.Mathlib.Omega.{arith}
 use lib.ListN.{length, take, drop, getD, length-append}
 use lib.Seq.{drop-append-add}
 use borrow.Author.Tests.{le-ltb}
+use Rattle.wire.specs.Lists.{total}
 use Rattle.wire.specs.Answer.{Answer, got}
 use Rattle.publisher_id.specs.declared.publisher.PublisherId.{PublisherId}
 use Rattle.network_message.specs.declared.payload.Payload.{Payload}
 use Rattle.network_message.specs.declared.payload.MessagePlace.{MessagePlace}
 use Rattle.network_header.specs.declared.envelope.Envelope.{Envelope}
-use Rattle.network_message.specs.Payload.{total}
 use Rattle.network_header.specs.Numbers.{configuredSizes}
 use Rattle.network_message.specs.Envelope.{NetworkMessage, messagesOf, networkMessageAt, messagePlaceAt, messageBytes}
 use Rattle.network_message.proofs.Messages.{tile, tiled}
@@ -21,19 +21,19 @@ use Rattle.network_message.proofs.Accepted.{OfMessages}
 use Rattle.wire_writer.specs.Writing.{optional16Bytes, optionalI64Bytes}
 use Rattle.wire_writer.proofs.Trip.{At, first, second, optionalI64-is, picoseconds-is}
 use Rattle.network_header.specs.Flags.{flagsFor, flagBytes}
-use Rattle.publisher_id.specs.Publisher.{kindOf, publisherBytes}
+use Rattle.publisher_id.specs.Publisher.{idTypeOf, publisherBytes}
 use Rattle.network_header.specs.Group.{groupBytes}
 use Rattle.network_header.specs.Header.{classBytes, payloadHeaderBytes, promotedBytes}
 use Rattle.network_message_writer.specs.Payload.{listBytes}
-use Rattle.network_message_writer.specs.Envelope.{Given, headerBytes, datagramOf, refusalOf}
+use Rattle.network_message_writer.specs.Envelope.{GivenDatagram, envelopeBytes, datagramOf, datagramRefusal}
 use Rattle.network_message_writer.proofs.Short.{zeros}
-use Rattle.round_trip.specs.NetworkMessage.{placesOf, payloadFor, writtenMessage, givenLengths, messageOf, placeOf, FitsEnvelope}
+use Rattle.round_trip.specs.NetworkMessage.{placesOf, payloadFor, writtenMessage, givenLengths, messageGiven, placeGiven, FitsEnvelope}
 use Rattle.round_trip.proofs.NetworkMessageParts.{publisher-is, class-is, group-is, payload-header-is, promoted-is, eight-lengths}
 use Rattle.round_trip.proofs.NetworkMessageFlags.{flags-are}
 use Rattle.round_trip.proofs.NetworkMessagePayload.{payload-is}
 use Rattle.round_trip.proofs.NetworkMessageMessages.{tiles, first-is}
 
-pub kind-below : (p : PublisherId) → kindOf p < 5
+pub kind-below : (p : PublisherId) → idTypeOf p < 5
 kind-below PublisherId.Absent = omega arith
 kind-below (PublisherId.Byte v) = omega arith
 kind-below (PublisherId.UInt16 v) = omega arith
@@ -47,7 +47,7 @@ same-places : (x : Envelope) (p : Payload) (a a′ b b′ c c′ : ℕ) → a �
 same-places x p a a′ b b′ c c′ e f g = rw (e, f, g)
 
 -- Accepted by the writer, the datagram reads back as what was given, under the same configuration.
-pub read-written : (g : Given) (x : Envelope) (sizes configured : List ℕ) → FitsEnvelope x → refusalOf g x sizes configured ≡ 0 → length (datagramOf g x) ≤ 65535
+pub read-written : (g : GivenDatagram) (x : Envelope) (sizes configured : List ℕ) → FitsEnvelope x → datagramRefusal g x sizes configured ≡ 0 → length (datagramOf g x) ≤ 65535
     → networkMessageAt sizes (datagramOf g x) ≡ got (writtenMessage g x sizes) (writtenMessage g x sizes .payload .first)
 read-written g x sizes configured f h long =
     let r = zeros g x sizes configured h in
@@ -68,7 +68,7 @@ read-written g x sizes configured f h long =
     let m5 = m4 + length b5 in
     let m6 = m5 + length b6 in
     let m7 = m6 + length b7 in
-    let at1 : At s 0 (headerBytes (g .text) (g .ids) (g .promoted) x) = ([], rest, refl, refl) in
+    let at1 : At s 0 (envelopeBytes (g .text) (g .ids) (g .promoted) x) = ([], rest, refl, refl) in
     let at2 = second s 0 b1 (b2 ++ (b3 ++ (b4 ++ (b5 ++ (b6 ++ (b7 ++ b8)))))) at1 in
     let at3 = second s m1 b2 (b3 ++ (b4 ++ (b5 ++ (b6 ++ (b7 ++ b8))))) at2 in
     let at4 = second s m2 b3 (b4 ++ (b5 ++ (b6 ++ (b7 ++ b8)))) at3 in
@@ -87,8 +87,8 @@ read-written g x sizes configured f h long =
     let e2 : m2 ≡ length (b1 ++ b2) = omega (arith, length-append b1 b2) in
     let e5 : m5 ≡ length (b1 ++ (b2 ++ (b3 ++ (b4 ++ b5)))) =
     omega (arith, length-append b1 (b2 ++ (b3 ++ (b4 ++ b5))), length-append b2 (b3 ++ (b4 ++ b5)), length-append b3 (b4 ++ b5), length-append b4 b5) in
-    let e8 : m7 + length b8 ≡ length (headerBytes (g .text) (g .ids) (g .promoted) x) = eight-lengths b1 b2 b3 b4 b5 b6 b7 b8 in
-    let p9 = payload-is (x .«payload_header») (x .chunk) sizes (headerBytes (g .text) (g .ids) (g .promoted) x) (g .lengths) (g .messages) (m7 + length b8) (sym e8) (r .payload) in
+    let e8 : m7 + length b8 ≡ length (envelopeBytes (g .text) (g .ids) (g .promoted) x) = eight-lengths b1 b2 b3 b4 b5 b6 b7 b8 in
+    let p9 = payload-is (x .«payload_header») (x .chunk) sizes (envelopeBytes (g .text) (g .ids) (g .promoted) x) (g .lengths) (g .messages) (m7 + length b8) (sym e8) (r .payload) in
     rw (le-ltb 65535 (length s) long, p1, p2, p3, p4, p5, p6, p7, p8, p9)
     (same-places x (payloadFor (x .«payload_header») sizes (m7 + length b8)) m2 _ m5 _ (m7 + length b8) _ e2 e5 e8
     ∙ ap (λ (j : ℕ). got (record { envelope = x; places = placesOf g x; payload = payloadFor (x .«payload_header») sizes j }) (payloadFor (x .«payload_header») sizes j .first)) e8)
@@ -100,21 +100,21 @@ messages-end pre list messages n =
     ap (λ (j : ℕ). drop j (pre ++ (list ++ messages))) e ∙ ap (λ (l : List ℕ). drop (length (pre ++ list) + n) l) (sym (append-assoc pre list messages)) ∙ drop-append-add (pre ++ list) messages n
 
 -- And so does each message: it stands where those before it end, and has the bytes that were given.
-pub message-written : (g : Given) (x : Envelope) (sizes configured : List ℕ) → FitsEnvelope x → refusalOf g x sizes configured ≡ 0 → length (datagramOf g x) ≤ 65535
+pub message-written : (g : GivenDatagram) (x : Envelope) (sizes configured : List ℕ) → FitsEnvelope x → datagramRefusal g x sizes configured ≡ 0 → length (datagramOf g x) ≤ 65535
     → OfMessages (x .«payload_header») → (k : ℕ) → k < length (givenLengths g (x .«payload_header») sizes)
     → (messagePlaceAt sizes k (datagramOf g x)
-    ≡ got (placeOf (givenLengths g (x .«payload_header») sizes) (writtenMessage g x sizes .payload .first) k)
+    ≡ got (placeGiven (givenLengths g (x .«payload_header») sizes) (writtenMessage g x sizes .payload .first) k)
     (writtenMessage g x sizes .payload .first + total (take (suc k) (givenLengths g (x .«payload_header») sizes))))
-    × (messageBytes (messagePlaceAt sizes k (datagramOf g x)) (datagramOf g x) ≡ messageOf (givenLengths g (x .«payload_header») sizes) (g .messages) k)
+    × (messageBytes (messagePlaceAt sizes k (datagramOf g x)) (datagramOf g x) ≡ messageGiven (givenLengths g (x .«payload_header») sizes) (g .messages) k)
 message-written g x sizes configured f h long o k l =
     let r = zeros g x sizes configured h in
     let s = datagramOf g x in
-    let pre = headerBytes (g .text) (g .ids) (g .promoted) x in
+    let pre = envelopeBytes (g .text) (g .ids) (g .promoted) x in
     let list = listBytes (x .«payload_header») (g .lengths) in
     let zs = givenLengths g (x .«payload_header») sizes in
     let t = tiles (x .«payload_header») o (x .chunk) sizes pre g (length pre) refl (r .payload) (r .lengths) in
     let p = payloadFor (x .«payload_header») sizes (length pre) in
-    let e : messagePlaceAt sizes k s ≡ got (placeOf zs (p .first) k) (p .first + total (take (suc k) zs)) =
+    let e : messagePlaceAt sizes k s ≡ got (placeGiven zs (p .first) k) (p .first + total (take (suc k) zs)) =
     rw (read-written g x sizes configured f h long, tiled t k (le-of-lt l), tile t k l) in
     let a : p .first + total (take k zs) ≡ length pre + length list + total (take k zs) =
     ap (λ (j : ℕ). j + total (take k zs)) (first-is (x .«payload_header») (x .chunk) sizes (g .lengths) (g .messages) (length pre) (r .payload)) in (

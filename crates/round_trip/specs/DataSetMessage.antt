@@ -12,39 +12,46 @@ use Rattle.dataset_fields.specs.declared.fields.Field.{Field}
 use Rattle.dataset_header.specs.Flags.{valid, isDelta}
 use Rattle.dataset_fields.specs.Fields.{fieldAt, encodedAt, fieldsBytes}
 use Rattle.dataset_message.specs.Message.{Message, messageAt, fieldPlaceAt, fieldBytes}
-use Rattle.dataset_header.specs.Header.{headerBytes}
-use Rattle.dataset_message_writer.specs.Message.{Given, given, isKey, isFielded, isRawData, fieldsOf, countBytes, encode, refusalOf}
+use Rattle.dataset_header.specs.Header.{messageHeaderBytes}
+use Rattle.dataset_message_writer.specs.Message.{GivenMessage, givenMessage, isKey, isFielded, isRawData, givenFields, countBytes, encode, messageRefusal}
 use Rattle.dataset_message_writer.specs.Rewrite.{again}
 
 -- where the first field of a written message starts, and where its last field ends
 
-abbrev pub firstOf : Given → ℕ
-firstOf g = length (headerBytes (g .header)) + length (countBytes (isFielded g) (isRawData g) (length (g .lengths)))
+abbrev pub firstOf : GivenMessage → ℕ
+firstOf g = length (messageHeaderBytes (g .header)) + length (countBytes (isFielded g) (isRawData g) (length (g .lengths)))
 
-abbrev pub endOf : Given → ℕ
-endOf g = firstOf g + length (fieldsBytes (isDelta (g .header .kind)) (g .indices) (fieldsOf g))
+abbrev pub endOf : GivenMessage → ℕ
+endOf g = firstOf g + length (fieldsBytes (isDelta (g .header .kind)) (g .indices) (givenFields g))
 
 -- what is read of a written message: the header that was given, and a cursor before the first of as many fields as were given
-abbrev pub messageOf : Given → Message
-messageOf g =
+abbrev pub messageWritten : GivenMessage → Message
+messageWritten g =
     record {
       header = g .header;
-      cursor = record { encoding = g .header .encoding; delta = isDelta (g .header .kind); next = 0; count = length (g .lengths); at = firstOf g };
+      cursor =
+          record {
+            encoding = g .header .encoding;
+            delta = isDelta (g .header .kind);
+            next = 0;
+            count = length (g .lengths);
+            at = firstOf g;
+          };
       end = endOf g;
     }
 
 -- field k of the written message s: the index and the bytes that were given
-pub record FieldBack (types : List ℕ) (g : Given) (s : List ℕ) (k : ℕ) : Type 0 where
+pub record FieldBack (types : List ℕ) (g : GivenMessage) (s : List ℕ) (k : ℕ) : Type 0 where
   pub place : Field
   pub end : ℕ
   pub looked-up : fieldPlaceAt types k s ≡ got place end
   pub index : place .index ≡ cond (isDelta (g .header .kind)) (getD (g .indices) k 0) k
-  pub bytes : fieldBytes (fieldPlaceAt types k s) s ≡ getD (fieldsOf g) k []
+  pub bytes : fieldBytes (fieldPlaceAt types k s) s ≡ getD (givenFields g) k []
 
 -- the written message s reads back as what was given; a key frame has nothing left after its header exactly if it is a heartbeat
-pub record MessageBack (types : List ℕ) (g : Given) (s : List ℕ) : Type 0 where
-  pub message : messageAt types s ≡ got (valid (messageOf g)) (endOf g)
-  pub heartbeat : isKey (g .header .kind) ≡ true → leb (length s) (length (headerBytes (g .header))) ≡ g .heartbeat
+pub record MessageBack (types : List ℕ) (g : GivenMessage) (s : List ℕ) : Type 0 where
+  pub message : messageAt types s ≡ got (valid (messageWritten g)) (endOf g)
+  pub heartbeat : isKey (g .header .kind) ≡ true → leb (length s) (length (messageHeaderBytes (g .header))) ≡ g .heartbeat
   pub field : (k : ℕ) → k < length (g .lengths) → FieldBack types g s k
   pub padding : length s - endOf g ≡ g .padding
 
@@ -55,17 +62,18 @@ andField (refused number place) onward = []
 
 unfoldable pub walked : Bool → Encoding → List ℕ → ℕ → ℕ → List ℕ → ℕ → List Field
 walked delta encoding types zero k s at = []
-walked delta encoding types (suc n) k s at = andField (fieldAt delta encoding types k s at) (λ f end. walked delta encoding types n (k + 1) s end)
+walked delta encoding types (suc n) k s at =
+    andField (fieldAt delta encoding types k s at) (λ f end. walked delta encoding types n (k + 1) s end)
 
 -- the encoded bytes of a field
-abbrev pub bytesOf : List ℕ → Field → List ℕ
-bytesOf s f = take (f .length) (drop (f .offset) s)
+abbrev pub fieldBytesOf : List ℕ → Field → List ℕ
+fieldBytesOf s f = take (f .length) (drop (f .offset) s)
 
 -- the fields' values one after the other, how long each is, and their indices
 
-unfoldable pub joined : List ℕ → List Field → List ℕ
-joined s [] = []
-joined s (f ∷ fs) = bytesOf s f ++ joined s fs
+unfoldable pub valuesJoined : List ℕ → List Field → List ℕ
+valuesJoined s [] = []
+valuesJoined s (f ∷ fs) = fieldBytesOf s f ++ valuesJoined s fs
 
 unfoldable pub lengthsOf : List Field → List ℕ
 lengthsOf [] = []
@@ -76,15 +84,16 @@ indicesOf [] = []
 indicesOf (f ∷ fs) = f .index ∷ indicesOf fs
 
 -- the fields of a message that was read
-abbrev pub fieldsIn : List ℕ → List ℕ → Message → List Field
-fieldsIn types s m = walked (m .cursor .delta) (m .cursor .encoding) types (m .cursor .count) 0 s (m .cursor .at)
+abbrev pub fieldsRead : List ℕ → List ℕ → Message → List Field
+fieldsRead types s m = walked (m .cursor .delta) (m .cursor .encoding) types (m .cursor .count) 0 s (m .cursor .at)
 
 -- a message that was read, to be written again: its header; of a key frame, that it is a heartbeat where nothing is left after the
 -- header; its fields' bytes, and a delta's indices; what is left after its last field
-abbrev pub taken : List ℕ → List ℕ → Message → Given
-taken types s m =
-    given (m .header) (leb (length s) (length (headerBytes (m .header)))) (joined s (fieldsIn types s m)) (lengthsOf (fieldsIn types s m))
-    (cond (m .cursor .delta) (indicesOf (fieldsIn types s m)) [])
+abbrev pub takenAgain : List ℕ → List ℕ → Message → GivenMessage
+takenAgain types s m =
+    givenMessage (m .header) (leb (length s) (length (messageHeaderBytes (m .header))))
+    (valuesJoined s (fieldsRead types s m)) (lengthsOf (fieldsRead types s m))
+    (cond (m .cursor .delta) (indicesOf (fieldsRead types s m)) [])
     (length s - m .end)
 
 -- Of the first t fields each is whole up to the first that is refused; and where that one is cut short, nothing follows it, since the
@@ -101,18 +110,20 @@ plainly encoding types bare (suc t) k (v ∷ vs) =
     plainlyBy (length v) (bare && eqb (length vs) 0) (plainly encoding types bare t (k + 1) vs) (encodedAt encoding types k v 0)
 
 -- how many fields reading counts
-abbrev pub countOf : Bool → ℕ → ℕ → ℕ
-countOf raw configured n = cond raw configured n
+abbrev pub fieldsCounted : Bool → ℕ → ℕ → ℕ
+fieldsCounted raw configured n = cond raw configured n
 
 -- What the writer refuses stands where reading finds it: something follows the header of a RawData message, FieldCount holds the
 -- number of fields, and a field is refused plainly.
-pub record Tellable (types : List ℕ) (g : Given) : Type 0 where
-  pub follows : isRawData g ≡ true → 0 < length (fieldsBytes (isDelta (g .header .kind)) (g .indices) (fieldsOf g)) + g .padding
+pub record Tellable (types : List ℕ) (g : GivenMessage) : Type 0 where
+  pub follows : isRawData g ≡ true → 0 < length (fieldsBytes (isDelta (g .header .kind)) (g .indices) (givenFields g)) + g .padding
   pub counted : isRawData g ≡ false → length (g .lengths) ≤ 65535
-  pub plain : plainly (g .header .encoding) types (eqb (g .padding) 0) (countOf (isRawData g) (length types) (length (g .lengths))) 0 (fieldsOf g) ≡ true
+  pub plain :
+      plainly (g .header .encoding) types (eqb (g .padding) 0)
+      (fieldsCounted (isRawData g) (length types) (length (g .lengths))) 0 (givenFields g) ≡ true
 
 -- an accepted message s, its parts taken as read: the writer accepts them, and they are s again
 pub record Rewritten (types s : List ℕ) (m : Message) : Type 0 where
-  pub accepted : refusalOf types (taken types s m) ≡ 0
-  pub same : encode (taken types s m) ≡ s
+  pub accepted : messageRefusal types (takenAgain types s m) ≡ 0
+  pub same : encode (takenAgain types s m) ≡ s
   pub parts : again s m ≡ s

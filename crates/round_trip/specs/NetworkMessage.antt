@@ -5,6 +5,7 @@ use mathlib.Core.Bool.{true, false, cond}
 use mathlib.Core.List.{List, [], _∷_, _++_}
 use lib.Dec.{leb}
 use lib.ListN.{length, take, drop, getD}
+use Rattle.wire.specs.Lists.{total}
 use Rattle.wire.specs.Constants.{MOST_WRITERS}
 use Rattle.wire.specs.Number.{le, leBytes}
 use Rattle.wire.specs.declared.optional.Optional16.{Optional16}
@@ -20,7 +21,7 @@ use Rattle.network_message.specs.declared.payload.Payload.{Payload}
 use Rattle.network_message.specs.declared.payload.MessagePlace.{MessagePlace}
 use Rattle.network_header.specs.declared.envelope.Envelope.{Envelope}
 use Rattle.network_header.specs.declared.envelope.Places.{Places}
-use Rattle.network_message.specs.Payload.{total, positive, listed, payloadOf}
+use Rattle.network_message.specs.Payload.{allPositive, listed, messagesFrom}
 use Rattle.network_header.specs.Numbers.{configuredSizes}
 use Rattle.network_header.specs.Flags.{flagsAt, flagBytes, flagsFor}
 use Rattle.network_message.specs.WriterId.{writerIdOf}
@@ -29,13 +30,13 @@ use Rattle.network_message.proofs.Accepted.{OfMessages}
 use Rattle.publisher_id.specs.Publisher.{publisherOn, publisherBytes}
 use Rattle.network_header.specs.Group.{groupBytes}
 use Rattle.network_header.specs.Header.{classBytes, payloadHeaderBytes}
-use Rattle.network_message_writer.specs.Envelope.{Given, headerBytes, datagramOf, refusalOf, before, textOf, promotedOf, datagramAgain}
-use Rattle.wire_writer.specs.Writing.{writtenOf, bufferOf}
+use Rattle.network_message_writer.specs.Envelope.{GivenDatagram, envelopeBytes, datagramOf, datagramRefusal, bytesBefore, textOf, promotedOf, datagramAgain}
+use Rattle.wire_writer.specs.Writing.{writtenOf, bufferAfter}
 use Rattle.wire_writer.specs.declared.writing.Written.{Written}
 use Rattle.wire_writer.specs.Fits.{Fits16, Fits32, FitsGuid, FitsI64}
 
 -- where the variable parts of a written envelope end
-abbrev pub placesOf : Given → Envelope → Places
+abbrev pub placesOf : GivenDatagram → Envelope → Places
 placesOf g x =
     record {
       «publisher_end» = length (flagBytes (flagsFor x) ++ publisherBytes (g .text) (x .publisher));
@@ -44,32 +45,39 @@ placesOf g x =
           (flagBytes (flagsFor x)
           ++ (publisherBytes (g .text) (x .publisher)
           ++ (classBytes (x .«class_id») ++ (groupBytes (x .group) ++ payloadHeaderBytes (g .ids) (x .«payload_header»)))));
-      payload = length (headerBytes (g .text) (g .ids) (g .promoted) x);
+      payload = length (envelopeBytes (g .text) (g .ids) (g .promoted) x);
     }
 
 -- the payload of a written envelope, which starts at a position
 abbrev pub payloadFor : PayloadHeader → List ℕ → ℕ → Payload
-payloadFor PayloadHeader.Absent sizes at = cond (positive (configuredSizes sizes)) (payloadOf (length (configuredSizes sizes)) Sizes.Configured at) (payloadOf 1 Sizes.Rest at)
-payloadFor (PayloadHeader.Ids n) sizes at = cond (leb n 1) (payloadOf 1 Sizes.Rest at) (payloadOf n (Sizes.Listed at) (at + 2 * n))
-payloadFor (PayloadHeader.Chunk w) sizes at = payloadOf 0 Sizes.Rest at
+payloadFor PayloadHeader.Absent sizes at =
+    cond (allPositive (configuredSizes sizes)) (messagesFrom (length (configuredSizes sizes)) Sizes.Configured at)
+    (messagesFrom 1 Sizes.Rest at)
+payloadFor (PayloadHeader.Ids n) sizes at = cond (leb n 1) (messagesFrom 1 Sizes.Rest at) (messagesFrom n (Sizes.Listed at) (at + 2 * n))
+payloadFor (PayloadHeader.Chunk w) sizes at = messagesFrom 0 Sizes.Rest at
 
 -- what was written, as reading answers it
-abbrev pub writtenMessage : Given → Envelope → List ℕ → NetworkMessage
+abbrev pub writtenMessage : GivenDatagram → Envelope → List ℕ → NetworkMessage
 writtenMessage g x sizes =
-    record { envelope = x; places = placesOf g x; payload = payloadFor (x .«payload_header») sizes (length (headerBytes (g .text) (g .ids) (g .promoted) x)) }
+    record {
+      envelope = x;
+      places = placesOf g x;
+      payload = payloadFor (x .«payload_header») sizes (length (envelopeBytes (g .text) (g .ids) (g .promoted) x));
+    }
 
 -- the lengths of the messages as given: of several messages their lengths, of one all of its bytes; a chunk has no messages
-abbrev pub givenLengths : Given → PayloadHeader → List ℕ → List ℕ
-givenLengths g PayloadHeader.Absent sizes = cond (leb (length (configuredSizes sizes)) 1) (length (g .messages) ∷ []) (listed (length (configuredSizes sizes)) (g .lengths) 0)
+abbrev pub givenLengths : GivenDatagram → PayloadHeader → List ℕ → List ℕ
+givenLengths g PayloadHeader.Absent sizes =
+    cond (leb (length (configuredSizes sizes)) 1) (length (g .messages) ∷ []) (listed (length (configuredSizes sizes)) (g .lengths) 0)
 givenLengths g (PayloadHeader.Ids n) sizes = cond (leb n 1) (length (g .messages) ∷ []) (listed n (g .lengths) 0)
 givenLengths g (PayloadHeader.Chunk w) sizes = []
 
 -- message k of messages that stand one after the other and have these lengths
-abbrev pub messageOf : List ℕ → List ℕ → ℕ → List ℕ
-messageOf zs messages k = take (getD zs k 0) (drop (total (take k zs)) messages)
+abbrev pub messageGiven : List ℕ → List ℕ → ℕ → List ℕ
+messageGiven zs messages k = take (getD zs k 0) (drop (total (take k zs)) messages)
 
-abbrev pub placeOf : List ℕ → ℕ → ℕ → MessagePlace
-placeOf zs first k = record { index = k; offset = first + total (take k zs); length = getD zs k 0 }
+abbrev pub placeGiven : List ℕ → ℕ → ℕ → MessagePlace
+placeGiven zs first k = record { index = k; offset = first + total (take k zs); length = getD zs k 0 }
 
 -- of several messages with a PayloadHeader, as many lengths are given as its Count says
 abbrev pub AsManyLengths : PayloadHeader → List ℕ → Type 0
@@ -110,7 +118,7 @@ numbersBytes (x ∷ xs) = leBytes 2 x ++ numbersBytes xs
 
 abbrev pub idsGiven : List ℕ → PayloadHeader → ℕ → List ℕ → List ℕ
 idsGiven s PayloadHeader.Absent end configured = numbersBytes (take MOST_WRITERS configured)
-idsGiven s (PayloadHeader.Ids n) end configured = before s end (2 * n)
+idsGiven s (PayloadHeader.Ids n) end configured = bytesBefore s end (2 * n)
 idsGiven s (PayloadHeader.Chunk w) end configured = []
 
 abbrev pub lengthsGiven : List ℕ → PayloadHeader → ℕ → List ℕ → List ℕ
@@ -123,7 +131,7 @@ messagesGiven s PayloadHeader.Absent at = drop at s
 messagesGiven s (PayloadHeader.Ids n) at = cond (leb n 1) (drop at s) (drop (at + 2 * n) s)
 messagesGiven s (PayloadHeader.Chunk w) at = drop at s
 
-abbrev pub givenOf : List ℕ → Envelope → Places → List ℕ → List ℕ → Given
+abbrev pub givenOf : List ℕ → Envelope → Places → List ℕ → List ℕ → GivenDatagram
 givenOf s x p sizes configured =
     record {
       text = textOf s (x .publisher) (p .«publisher_end»);
@@ -168,7 +176,7 @@ pub record FitsEnvelope (x : Envelope) : Type 0 where
   pub picoseconds : Fits16 (x .picoseconds)
 
 -- What the writer accepted reads back, under the same configuration, as what it was given.
-pub record ReadsBack (g : Given) (x : Envelope) (sizes configured : List ℕ) : Type 0 where
+pub record ReadsBack (g : GivenDatagram) (x : Envelope) (sizes configured : List ℕ) : Type 0 where
   -- the envelope, where its parts end, and the payload
   pub whole : networkMessageAt sizes (datagramOf g x) ≡ got (writtenMessage g x sizes) (writtenMessage g x sizes .payload .first)
   -- a string PublisherId and the promoted fields, byte by byte
@@ -176,20 +184,22 @@ pub record ReadsBack (g : Given) (x : Envelope) (sizes configured : List ℕ) : 
   pub promoted : promotedOf (datagramOf g x) (x .promoted) (placesOf g x .payload) ≡ g .promoted
   -- the DataSetWriterId of message k
   pub writerId : (k : ℕ) → 2 * k < length (g .ids)
-      → writerIdOf (x .«payload_header») (placesOf g x .«payload_header_end») configured k (datagramOf g x) ≡ Optional16.Is (le 2 (g .ids) (2 * k))
+      → writerIdOf (x .«payload_header») (placesOf g x .«payload_header_end») configured k (datagramOf g x)
+      ≡ Optional16.Is (le 2 (g .ids) (2 * k))
   -- message k: where it stands, and its bytes
   pub message : OfMessages (x .«payload_header») → (k : ℕ) → k < length (givenLengths g (x .«payload_header») sizes)
       → (messagePlaceAt sizes k (datagramOf g x)
-      ≡ got (placeOf (givenLengths g (x .«payload_header») sizes) (writtenMessage g x sizes .payload .first) k)
+      ≡ got (placeGiven (givenLengths g (x .«payload_header») sizes) (writtenMessage g x sizes .payload .first) k)
       (writtenMessage g x sizes .payload .first + total (take (suc k) (givenLengths g (x .«payload_header») sizes))))
-      × (messageBytes (messagePlaceAt sizes k (datagramOf g x)) (datagramOf g x) ≡ messageOf (givenLengths g (x .«payload_header») sizes) (g .messages) k)
+      × (messageBytes (messagePlaceAt sizes k (datagramOf g x)) (datagramOf g x)
+      ≡ messageGiven (givenLengths g (x .«payload_header») sizes) (g .messages) k)
 
 -- An accepted datagram s, written again: `rewrite` accepts it in the buffer out and leaves `rewritten s` there, and so does the writer
 -- its parts as they were read.
 pub record WritesAgain (s sizes configured out : List ℕ) (m : NetworkMessage) : Type 0 where
   pub answer : writtenOf (length out) (datagramAgain sizes s) ≡ Written.Is (length (rewritten s))
-  pub buffer : bufferOf out (datagramAgain sizes s) ≡ rewritten s ++ drop (length (rewritten s)) out
+  pub buffer : bufferAfter out (datagramAgain sizes s) ≡ rewritten s ++ drop (length (rewritten s)) out
   -- with a PublisherId it is the datagram itself
   pub unchanged : publisherOn (m .envelope .publisher) ≡ true → rewritten s ≡ s
-  pub unrefused : refusalOf (givenOf s (m .envelope) (m .places) sizes configured) (m .envelope) sizes configured ≡ 0
+  pub unrefused : datagramRefusal (givenOf s (m .envelope) (m .places) sizes configured) (m .envelope) sizes configured ≡ 0
   pub same : datagramOf (givenOf s (m .envelope) (m .places) sizes configured) (m .envelope) ≡ rewritten s

@@ -7,7 +7,7 @@ use borrow.Author.Tests.{lt-ltb, le-ltb}
 use lib.ListN.{length}
 use Rattle.wire.specs.Answer.{Answer, got, refused}
 use Rattle.wire_writer.specs.Store.{laid}
-use Rattle.dataset_fields.specs.Fields.{Stepped, stepAt}
+use Rattle.dataset_fields.specs.Fields.{FieldStepped, nextFieldAt}
 use Rattle.dataset_fields.specs.declared.fields.Field.{Field}
 use Rattle.dataset_fields.specs.declared.fields.Cursor.{Cursor}
 use Rattle.records.specs.Numbers.{numberBytes}
@@ -16,31 +16,31 @@ use Rattle.records.specs.Writers.{typesFor}
 use Rattle.message_record.specs.Message.{fieldNumbers, cursorIn, cursorLaid}
 use Rattle.uadp_c.specs.Fields.{stepResult, headAfter, fieldAfter}
 
-abbrev pub Steps : Answer Stepped → List ℕ → List ℕ → ℕ → List ℕ → List ℕ → Type 0
+abbrev pub Steps : Answer FieldStepped → List ℕ → List ℕ → ℕ → List ℕ → List ℕ → Type 0
 Steps a head field x h f = (x ≡ stepResult a head field) × (h ≡ headAfter a head field) × (f ≡ fieldAfter a head field)
 
 -- the step that was made is the one that the records tell of
-pub stepped : (c s ty head : List ℕ) (w : ℕ) (k : Cursor) (y : Answer Stepped) → ty ≡ typesFor c w → k ≡ cursorIn head → y ≡ stepAt k ty s
-    → y ≡ stepAt (cursorIn head) (typesFor c w) s
-stepped c s ty head w k y e d q = q ∙ ap (λ (t : List ℕ). stepAt k t s) e ∙ ap (λ (t : Cursor). stepAt t (typesFor c w) s) d
+pub stepped : (c s ty head : List ℕ) (w : ℕ) (k : Cursor) (y : Answer FieldStepped) → ty ≡ typesFor c w → k ≡ cursorIn head → y ≡ nextFieldAt k ty s
+    → y ≡ nextFieldAt (cursorIn head) (typesFor c w) s
+stepped c s ty head w k y e d q = q ∙ ap (λ (t : List ℕ). nextFieldAt k t s) e ∙ ap (λ (t : Cursor). nextFieldAt t (typesFor c w) s) d
 
-pub step-refused : (a : Answer Stepped) (head field : List ℕ) (n p x : ℕ) → refused n p ≡ a → x ≡ resultOf n p → Steps a head field x head field
-step-refused a head field n p x q h = subst (λ (y : Answer Stepped). Steps y head field x head field) q (h, refl, refl)
+pub step-refused : (a : Answer FieldStepped) (head field : List ℕ) (n p x : ℕ) → refused n p ≡ a → x ≡ resultOf n p → Steps a head field x head field
+step-refused a head field n p x q h = subst (λ (y : Answer FieldStepped). Steps y head field x head field) q (h, refl, refl)
 
-pub step-no-head : (a : Answer Stepped) (head field : List ℕ) (f : Field) (k : Cursor) (next x : ℕ) → got (record { field = f; cursor = k }) next ≡ a
+pub step-no-head : (a : Answer FieldStepped) (head field : List ℕ) (f : Field) (k : Cursor) (next x : ℕ) → got (record { field = f; cursor = k }) next ≡ a
     → length head < 160 → x ≡ resultOf 11 0 → Steps a head field x head field
 step-no-head a head field f k next x q h r =
-    subst (λ (y : Answer Stepped). Steps y head field x head field) q (rw (lt-ltb (length head) 160 h) (r, refl, refl))
+    subst (λ (y : Answer FieldStepped). Steps y head field x head field) q (rw (lt-ltb (length head) 160 h) (r, refl, refl))
 
-pub step-no-field : (a : Answer Stepped) (head field : List ℕ) (f : Field) (k : Cursor) (next x : ℕ) → got (record { field = f; cursor = k }) next ≡ a
+pub step-no-field : (a : Answer FieldStepped) (head field : List ℕ) (f : Field) (k : Cursor) (next x : ℕ) → got (record { field = f; cursor = k }) next ≡ a
     → 160 ≤ length head → length field < 48 → x ≡ resultOf 11 0 → Steps a head field x head field
 step-no-field a head field f k next x q g h r =
-    subst (λ (y : Answer Stepped). Steps y head field x head field) q
+    subst (λ (y : Answer FieldStepped). Steps y head field x head field) q
     (rw (le-ltb (length head) 160 g, lt-ltb (length field) 48 h) (r, refl, refl))
 
-pub step-done : (a : Answer Stepped) (head field h₁ e : List ℕ) (f : Field) (k : Cursor) (next x : ℕ) → got (record { field = f; cursor = k }) next ≡ a
+pub step-done : (a : Answer FieldStepped) (head field h₁ e : List ℕ) (f : Field) (k : Cursor) (next x : ℕ) → got (record { field = f; cursor = k }) next ≡ a
     → 160 ≤ length head → 48 ≤ length field → x ≡ resultOf 0 (f .offset) → h₁ ≡ cursorLaid k head
     → e ≡ laid field 0 (numberBytes (fieldNumbers f)) → Steps a head field x h₁ e
 step-done a head field h₁ e f k next x q g h r p₁ p₂ =
-    subst (λ (y : Answer Stepped). Steps y head field x h₁ e) q
+    subst (λ (y : Answer FieldStepped). Steps y head field x h₁ e) q
     (rw (le-ltb (length head) 160 g, le-ltb (length field) 48 h) (r, p₁, p₂))

@@ -10,7 +10,7 @@ use Rattle.wire_writer.specs.Store.{laid}
 use Rattle.wire.specs.declared.optional.Optional16.{Optional16}
 use Rattle.network_message.specs.Envelope.{NetworkMessage, networkMessageAt}
 use Rattle.network_message.specs.WriterId.{writerIdOf}
-use Rattle.network_message.specs.Payload.{Stepped, stepAt}
+use Rattle.network_message.specs.Payload.{PlaceStepped, placeStepAt}
 use Rattle.network_header.specs.declared.header.PayloadHeader.{PayloadHeader}
 use Rattle.network_message.specs.declared.payload.Payload.{Payload}
 use Rattle.network_message.specs.declared.payload.MessagePlace.{MessagePlace}
@@ -30,11 +30,11 @@ pub envelope-read : (c s z l : List ℕ) (n : ℕ) (y : Answer NetworkMessage) �
 envelope-read c s z l n y a b d q =
     ap (λ (x : Answer NetworkMessage). envelopeFilling x) (q ∙ ap (λ (t : List ℕ). networkMessageAt t s) (first-of c z l n 34 a b d))
 
-pub message-stepped : (c e s z l : List ℕ) (n : ℕ) (p : Payload) (k : MessageCursor) (y : Answer Stepped) → n ≡ writersIn c → l ≡ sixteen 34 c → z ≡ take n l
-    → p ≡ payloadIn e → k ≡ messagesIn e → y ≡ stepAt p z k s → y ≡ messageStep c e s
+pub message-stepped : (c e s z l : List ℕ) (n : ℕ) (p : Payload) (k : MessageCursor) (y : Answer PlaceStepped) → n ≡ writersIn c → l ≡ sixteen 34 c → z ≡ take n l
+    → p ≡ payloadIn e → k ≡ messagesIn e → y ≡ placeStepAt p z k s → y ≡ messageStep c e s
 message-stepped c e s z l n p k y a b d f g q =
-    q ∙ ap (λ (t : List ℕ). stepAt p t k s) (first-of c z l n 34 a b d) ∙ ap (λ (t : Payload). stepAt t (sizesIn c) k s) f
-    ∙ ap (λ (t : MessageCursor). stepAt (payloadIn e) (sizesIn c) t s) g
+    q ∙ ap (λ (t : List ℕ). placeStepAt p t k s) (first-of c z l n 34 a b d) ∙ ap (λ (t : Payload). placeStepAt t (sizesIn c) k s) f
+    ∙ ap (λ (t : MessageCursor). placeStepAt (payloadIn e) (sizesIn c) t s) g
 
 pub writer-named : (c e s z l : List ℕ) (n m k : ℕ) (h : PayloadHeader) (y : Optional16) → n ≡ writersIn c → l ≡ sixteen 2 c → z ≡ take n l → h ≡ payloadHeaderIn e
     → m ≡ payloadHeaderEnd e → y ≡ writerIdOf h m z k s → y ≡ writerAt c e s k
@@ -42,25 +42,25 @@ writer-named c e s z l n m k h y a b d f g q =
     q ∙ ap (λ (t : List ℕ). writerIdOf h m t k s) (first-of c z l n 2 a b d) ∙ ap (λ (t : PayloadHeader). writerIdOf t m (idsIn c) k s) f
     ∙ ap (λ (t : ℕ). writerIdOf (payloadHeaderIn e) t (idsIn c) k s) g
 
-abbrev pub Walks : (ℕ → Optional16) → Answer Stepped → List ℕ → List ℕ → ℕ → List ℕ → List ℕ → Type 0
+abbrev pub Walks : (ℕ → Optional16) → Answer PlaceStepped → List ℕ → List ℕ → ℕ → List ℕ → List ℕ → Type 0
 Walks w a e p x f q = (x ≡ messageResult a e p) × (f ≡ envelopeAfter a e p) × (q ≡ placeAfter w a e p)
 
-pub walk-refused : (w : ℕ → Optional16) (a : Answer Stepped) (e p : List ℕ) (n m x : ℕ) → refused n m ≡ a → x ≡ resultOf n m → Walks w a e p x e p
-walk-refused w a e p n m x q h = subst (λ (y : Answer Stepped). Walks w y e p x e p) q (h, refl, refl)
+pub walk-refused : (w : ℕ → Optional16) (a : Answer PlaceStepped) (e p : List ℕ) (n m x : ℕ) → refused n m ≡ a → x ≡ resultOf n m → Walks w a e p x e p
+walk-refused w a e p n m x q h = subst (λ (y : Answer PlaceStepped). Walks w y e p x e p) q (h, refl, refl)
 
-pub walk-no-envelope : (w : ℕ → Optional16) (a : Answer Stepped) (e p : List ℕ) (m : MessagePlace) (k : MessageCursor) (next x : ℕ)
+pub walk-no-envelope : (w : ℕ → Optional16) (a : Answer PlaceStepped) (e p : List ℕ) (m : MessagePlace) (k : MessageCursor) (next x : ℕ)
     → got (record { place = m; cursor = k }) next ≡ a → length e < 224 → x ≡ resultOf 11 0 → Walks w a e p x e p
 walk-no-envelope w a e p m k next x q h r =
-    subst (λ (y : Answer Stepped). Walks w y e p x e p) q (rw (lt-ltb (length e) 224 h) (r, refl, refl))
+    subst (λ (y : Answer PlaceStepped). Walks w y e p x e p) q (rw (lt-ltb (length e) 224 h) (r, refl, refl))
 
-pub walk-no-place : (w : ℕ → Optional16) (a : Answer Stepped) (e p : List ℕ) (m : MessagePlace) (k : MessageCursor) (next x : ℕ)
+pub walk-no-place : (w : ℕ → Optional16) (a : Answer PlaceStepped) (e p : List ℕ) (m : MessagePlace) (k : MessageCursor) (next x : ℕ)
     → got (record { place = m; cursor = k }) next ≡ a → 224 ≤ length e → length p < 32 → x ≡ resultOf 11 0 → Walks w a e p x e p
 walk-no-place w a e p m k next x q g h r =
-    subst (λ (y : Answer Stepped). Walks w y e p x e p) q (rw (le-ltb (length e) 224 g, lt-ltb (length p) 32 h) (r, refl, refl))
+    subst (λ (y : Answer PlaceStepped). Walks w y e p x e p) q (rw (le-ltb (length e) 224 g, lt-ltb (length p) 32 h) (r, refl, refl))
 
-pub walk-done : (w : ℕ → Optional16) (a : Answer Stepped) (e p e₁ f : List ℕ) (m : MessagePlace) (k : MessageCursor) (v : Optional16) (next x : ℕ)
+pub walk-done : (w : ℕ → Optional16) (a : Answer PlaceStepped) (e p e₁ f : List ℕ) (m : MessagePlace) (k : MessageCursor) (v : Optional16) (next x : ℕ)
     → got (record { place = m; cursor = k }) next ≡ a → 224 ≤ length e → 32 ≤ length p → x ≡ resultOf 0 (m .index) → v ≡ w (m .index)
     → e₁ ≡ messagesLaid k e → f ≡ laid p 0 (numberBytes (placeNumbers m v)) → Walks w a e p x e₁ f
 walk-done w a e p e₁ f m k v next x q g h r u p₁ p₂ =
     let y : f ≡ laid p 0 (numberBytes (placeNumbers m (w (m .index)))) = p₂ ∙ ap (λ (t : Optional16). laid p 0 (numberBytes (placeNumbers m t))) u in
-    subst (λ (y : Answer Stepped). Walks w y e p x e₁ f) q (rw (le-ltb (length e) 224 g, le-ltb (length p) 32 h) (r, p₁, y))
+    subst (λ (y : Answer PlaceStepped). Walks w y e p x e₁ f) q (rw (le-ltb (length e) 224 g, le-ltb (length p) 32 h) (r, p₁, y))

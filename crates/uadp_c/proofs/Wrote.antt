@@ -5,7 +5,7 @@ use mathlib.Core.Path.{_≡_, ap, subst, _∙_}
 use mathlib.Core.Bool.{Bool}
 use mathlib.Core.List.{List}
 use lib.ListN.{take}
-use Rattle.wire_writer.specs.Writing.{answerWritten, Output, bufferOf, Writes}
+use Rattle.wire_writer.specs.Writing.{answerWritten, Output, bufferAfter, Writes}
 use Rattle.wire_writer.specs.declared.writing.Written.{Written}
 use Rattle.dataset_header.specs.declared.header.Header.{Header}
 use Rattle.network_header.specs.declared.envelope.Envelope.{Envelope}
@@ -29,19 +29,19 @@ of-writers at c l configured n a b d = d ∙ ap (λ (x : ℕ). take x l) a ∙ a
 
 -- what a writer promises, as the result and the buffer of the C function around it, whose output is the same in other words
 pub wrote : (out e : List ℕ) (o o′ : Output) (w : Written) (r : ℕ) → o ≡ o′ → Writes o out e w → r ≡ writerResult (answerWritten w)
-    → (r ≡ outputResult out o′) × (e ≡ bufferOf out o′)
+    → (r ≡ outputResult out o′) × (e ≡ bufferAfter out o′)
 wrote out e o o′ w r q a h =
-    subst (λ (y : Output). (r ≡ outputResult out y) × (e ≡ bufferOf out y)) q (h ∙ ap (λ (x : Written). writerResult (answerWritten x)) (a .answer), a .buffer)
+    subst (λ (y : Output). (r ≡ outputResult out y) × (e ≡ bufferAfter out y)) q (h ∙ ap (λ (x : Written). writerResult (answerWritten x)) (a .answer), a .buffer)
 
 -- the outputs under a configuration record
 pub message-output : (c head types values lengths indices : List ℕ) (writer padding : ℕ) (b : Bool) (h : Header) → h ≡ headerIn head → types ≡ typesFor c writer
-    → message.messageOutput types (message.given h b values lengths indices padding)
-    ≡ message.messageOutput (typesFor c writer) (message.given (headerIn head) b values lengths indices padding)
+    → message.messageOutput types (message.givenMessage h b values lengths indices padding)
+    ≡ message.messageOutput (typesFor c writer) (message.givenMessage (headerIn head) b values lengths indices padding)
 message-output c head types values lengths indices writer padding b h p q =
-    ap (λ (y : List ℕ). message.messageOutput y (message.given h b values lengths indices padding)) q
-    ∙ ap (λ (y : Header). message.messageOutput (typesFor c writer) (message.given y b values lengths indices padding)) p
+    ap (λ (y : List ℕ). message.messageOutput y (message.givenMessage h b values lengths indices padding)) q
+    ∙ ap (λ (y : Header). message.messageOutput (typesFor c writer) (message.givenMessage y b values lengths indices padding)) p
 
-pub datagram-output : (c envelope sizes ids : List ℕ) (g : datagram.Given) (x : Envelope) → x ≡ envelopeIn envelope → sizes ≡ sizesIn c → ids ≡ idsIn c
+pub datagram-output : (c envelope sizes ids : List ℕ) (g : datagram.GivenDatagram) (x : Envelope) → x ≡ envelopeIn envelope → sizes ≡ sizesIn c → ids ≡ idsIn c
     → datagram.datagramOutput g x sizes ids ≡ datagram.datagramOutput g (envelopeIn envelope) (sizesIn c) (idsIn c)
 datagram-output c envelope sizes ids g x p q i =
     ap (λ (y : List ℕ). datagram.datagramOutput g x y ids) q ∙ ap (λ (y : List ℕ). datagram.datagramOutput g x (sizesIn c) y) i

@@ -10,7 +10,7 @@ use Rattle.wire.specs.Answer.{Answer, got, refused, mapAnswer}
 use Rattle.wire_writer.specs.Store.{laid}
 use Rattle.dataset_header.specs.Flags.{Valid, notValid, valid}
 use Rattle.dataset_message.specs.Message.{Message}
-use Rattle.dataset_fields.specs.Fields.{Stepped}
+use Rattle.dataset_fields.specs.Fields.{FieldStepped}
 use Rattle.dataset_fields.specs.declared.fields.Field.{Field}
 use Rattle.records.specs.Numbers.{numberBytes}
 use Rattle.records.specs.Result.{resultOf, Filling}
@@ -29,7 +29,7 @@ abbrev pub fieldFilling : Answer Field → Answer Filling
 fieldFilling a = mapAnswer (λ (f : Field). record { value = f .offset; bytes = numberBytes (fieldNumbers f) }) a
 
 -- a step of a head record's field cursor: "11 for either record"
-abbrev pub stepResult : Answer Stepped → List ℕ → List ℕ → ℕ
+abbrev pub stepResult : Answer FieldStepped → List ℕ → List ℕ → ℕ
 stepResult (got x next) head field =
     cond (ltb (length head) HEAD_SIZE) (resultOf NO_ROOM 0)
     (cond (ltb (length field) FIELD_SIZE) (resultOf NO_ROOM 0)
@@ -37,13 +37,13 @@ stepResult (got x next) head field =
 stepResult (refused n place) head field = resultOf n place
 
 -- the head record afterwards: its numbers 12 and 14 are the next field's number and where it starts
-abbrev pub headAfter : Answer Stepped → List ℕ → List ℕ → List ℕ
+abbrev pub headAfter : Answer FieldStepped → List ℕ → List ℕ → List ℕ
 headAfter (got x next) head field =
     cond (ltb (length head) HEAD_SIZE) head
     (cond (ltb (length field) FIELD_SIZE) head (cursorLaid (x .cursor) head))
 headAfter (refused n place) head field = head
 
-abbrev pub fieldAfter : Answer Stepped → List ℕ → List ℕ → List ℕ
+abbrev pub fieldAfter : Answer FieldStepped → List ℕ → List ℕ → List ℕ
 fieldAfter (got x next) head field =
     cond (ltb (length head) HEAD_SIZE) field
     (cond (ltb (length field) FIELD_SIZE) field

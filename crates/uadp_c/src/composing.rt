@@ -9,7 +9,7 @@ use records::writers::writer_count;
 ghost use mathlib.Core.Path.{_≡_};
 ghost use Rattle.network_message_writer.specs.Envelope as datagram;
 ghost use Rattle.dataset_message_writer.specs.Message as message;
-ghost use Rattle.wire_writer.specs.Writing.{bufferOf};
+ghost use Rattle.wire_writer.specs.Writing.{bufferAfter};
 ghost use Rattle.records.specs.Writers.{idsIn, sizesIn, typesFor};
 ghost use Rattle.records.specs.Items.{isOn};
 ghost use Rattle.message_record.specs.Message.{headerIn};
@@ -32,9 +32,9 @@ pub extern "C" fn uadp_write_message(
     ensures { λ r.
         let types = typesFor (now (config .entry)) writer in
         let header = headerIn (now (head .entry)) in
-        let g = message.given header (isOn heartbeat) (now (values .entry)) (now (lengths .entry)) (now (indices .entry)) padding in
+        let g = message.givenMessage header (isOn heartbeat) (now (values .entry)) (now (lengths .entry)) (now (indices .entry)) padding in
         let output = message.messageOutput types g in
-        ⌜ (r ≡ outputResult (now (out .entry)) output) × (now (out .exit) ≡ bufferOf (now (out .entry)) output) ⌝ }
+        ⌜ (r ≡ outputResult (now (out .entry)) output) × (now (out .exit) ≡ bufferAfter (now (out .entry)) output) ⌝ }
 {
     let header = header_in(head);
     let types = types_for(config, writer);
@@ -64,11 +64,11 @@ pub extern "C" fn uadp_write(
     out: &mut [u8],
 ) -> u64
     ensures { λ r.
-        let lists = datagram.given (now (text .entry)) (now (ids .entry)) (now (promoted .entry)) in
+        let lists = datagram.givenDatagram (now (text .entry)) (now (ids .entry)) (now (promoted .entry)) in
         let g = lists (now (lengths .entry)) (now (messages .entry)) in
         let x = envelopeIn (now (envelope .entry)) in
         let output = datagram.datagramOutput g x (sizesIn (now (config .entry))) (idsIn (now (config .entry))) in
-        ⌜ (r ≡ outputResult (now (out .entry)) output) × (now (out .exit) ≡ bufferOf (now (out .entry)) output) ⌝ }
+        ⌜ (r ≡ outputResult (now (out .entry)) output) × (now (out .exit) ≡ bufferAfter (now (out .entry)) output) ⌝ }
 {
     let x = envelope_in(envelope);
     let n = writer_count(config);

@@ -15,7 +15,7 @@ use records::sizes::HEAD_SIZE;
 use records::writers::types_for;
 use wire::constants::NO_ROOM;
 ghost use mathlib.Core.Path.{_≡_};
-ghost use Rattle.dataset_fields.specs.Fields.{stepAt};
+ghost use Rattle.dataset_fields.specs.Fields.{nextFieldAt};
 ghost use Rattle.dataset_message.specs.Message.{messageAt, fieldPlaceAt};
 ghost use Rattle.records.specs.Result.{resultIn, filledIn};
 ghost use Rattle.records.specs.Writers.{typesFor};
@@ -88,7 +88,7 @@ pub extern "C" fn uadp_next_field(
     field: &mut [u8],
 ) -> u64
     ensures { λ r.
-        let step = stepAt (cursorIn (now (head .entry))) (typesFor (now (config .entry)) writer) (now (message .entry)) in
+        let step = nextFieldAt (cursorIn (now (head .entry))) (typesFor (now (config .entry)) writer) (now (message .entry)) in
         ⌜ (r ≡ stepResult step (now (head .entry)) (now (field .entry)))
         × (now (head .exit) ≡ headAfter step (now (head .entry)) (now (field .entry)))
         × (now (field .exit) ≡ fieldAfter step (now (head .entry)) (now (field .entry))) ⌝ }

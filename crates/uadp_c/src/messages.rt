@@ -21,7 +21,7 @@ use wire::constants::NO_ROOM;
 use wire::optional::Optional16;
 ghost use mathlib.Core.Path.{_≡_};
 ghost use Rattle.network_message.specs.Envelope.{networkMessageAt};
-ghost use Rattle.network_message.specs.Payload.{answerStep};
+ghost use Rattle.network_message.specs.Payload.{answerPlaceStep};
 ghost use Rattle.records.specs.Result.{resultIn, filledIn};
 ghost use Rattle.records.specs.Writers.{sizesIn};
 ghost use Rattle.uadp_c.specs.Messages.{envelopeFilling, messageStep, writerAt, messageResult, envelopeAfter, placeAfter};
@@ -48,7 +48,7 @@ pub extern "C" fn uadp_read(datagram: &[u8], config: &[u8], envelope: &mut [u8])
 }
 
 fn step(datagram: &[u8], config: &[u8], envelope: &[u8]) -> MessageStep
-    ensures { λ r. ⌜ answerStep r ≡ messageStep (now (config .entry)) (now (envelope .entry)) (now (datagram .entry)) ⌝ }
+    ensures { λ r. ⌜ answerPlaceStep r ≡ messageStep (now (config .entry)) (now (envelope .entry)) (now (datagram .entry)) ⌝ }
 {
     let n = writer_count(config);
     let list = sizes(config);

@@ -6,8 +6,8 @@ use records::writers::types_for;
 use records::writers::writer_count;
 use wire_writer::writing::Written;
 ghost use mathlib.Core.Path.{_≡_};
-ghost use Rattle.wire_writer.specs.Writing.{answerWritten, bufferOf};
-ghost use Rattle.rewriting.specs.Same.{sameMessage, sameDatagram};
+ghost use Rattle.wire_writer.specs.Writing.{answerWritten, bufferAfter};
+ghost use Rattle.rewriting.specs.Same.{messageSame, datagramSame};
 ghost use Rattle.records.specs.Writers.{sizesIn, typesFor};
 ghost use Rattle.uadp_c.specs.Writing.{writerResult, outputResult};
 
@@ -25,8 +25,8 @@ pub(crate) fn written_result(w: Written) -> u64
 #[no_mangle]
 pub extern "C" fn uadp_rewrite(datagram: &[u8], config: &[u8], out: &mut [u8]) -> u64
     ensures { λ r.
-        let same = sameDatagram (sizesIn (now (config .entry))) (now (datagram .entry)) in
-        ⌜ (r ≡ outputResult (now (out .entry)) same) × (now (out .exit) ≡ bufferOf (now (out .entry)) same) ⌝ }
+        let same = datagramSame (sizesIn (now (config .entry))) (now (datagram .entry)) in
+        ⌜ (r ≡ outputResult (now (out .entry)) same) × (now (out .exit) ≡ bufferAfter (now (out .entry)) same) ⌝ }
 {
     let n = writer_count(config);
     let list = sizes(config);
@@ -44,8 +44,8 @@ pub extern "C" fn uadp_rewrite_message(
     out: &mut [u8],
 ) -> u64
     ensures { λ r.
-        let same = sameMessage (typesFor (now (config .entry)) writer) (now (message .entry)) in
-        ⌜ (r ≡ outputResult (now (out .entry)) same) × (now (out .exit) ≡ bufferOf (now (out .entry)) same) ⌝ }
+        let same = messageSame (typesFor (now (config .entry)) writer) (now (message .entry)) in
+        ⌜ (r ≡ outputResult (now (out .entry)) same) × (now (out .exit) ≡ bufferAfter (now (out .entry)) same) ⌝ }
 {
     let types = types_for(config, writer);
     let written = rewriting::rewrite_message(out, message, types);

@@ -10,7 +10,7 @@ use lib.Dec.{leb, ltb, eqb}
 use lib.ListN.{length, take, drop, length-take, length-drop}
 use Rattle.wire.specs.Answer.{Answer, got, refused}
 use Rattle.wire.proofs.Reading.{got-value, not-got, invert}
-use Rattle.network_message.specs.Payload.{Stepped, stepAt, messageAt}
+use Rattle.network_message.specs.Payload.{PlaceStepped, placeStepAt, placeOfMessage}
 use Rattle.network_message.specs.Envelope.{NetworkMessage, networkMessageAt}
 use Rattle.network_message.specs.declared.payload.MessagePlace.{MessagePlace}
 use Rattle.network_message.specs.declared.payload.MessageCursor.{MessageCursor}
@@ -52,7 +52,7 @@ module _ (w : Writers) (d : List ℕ) where
   field-none zero l p f n place e = refl
   field-none (suc k) l p f n place e = rw e
 
-  message-none : (k : ℕ) (l : Listed) (c : MessageCursor) (n place : ℕ) → stepAt (l .payload) (w .sizes) c d ≡ refused n place → messageLines w d k l c ≡ []
+  message-none : (k : ℕ) (l : Listed) (c : MessageCursor) (n place : ℕ) → placeStepAt (l .payload) (w .sizes) c d ≡ refused n place → messageLines w d k l c ≡ []
   unfolding messageLines
   message-none zero l c n place e = refl
   message-none (suc k) l c n place e = rw e
@@ -65,18 +65,18 @@ module _ (w : Writers) (d : List ℕ) where
   set-lists l c p (refused n place) = refl
 
   -- one message was left, and one fewer is left after it
-  message-passed : (l : Listed) (c : MessageCursor) (x : Stepped) (n : ℕ) → stepAt (l .payload) (w .sizes) c d ≡ got x n
+  message-passed : (l : Listed) (c : MessageCursor) (x : PlaceStepped) (n : ℕ) → placeStepAt (l .payload) (w .sizes) c d ≡ got x n
       → messagesLeft l c ≡ suc (messagesLeft l (x .cursor))
   message-passed l c x n e =
-      let (m, q, r, z) = invert (messageAt (l .payload) (w .sizes) (c .index) d (c .at)) _ e in
+      let (m, q, r, z) = invert (placeOfMessage (l .payload) (w .sizes) (c .index) d (c .at)) _ e in
       let h = message-counted (l .payload) (w .sizes) (c .index) d (c .at) m q r in
       rw (sym (got-value z)) (omega arith)
 
   message-lists : (l : Listed) (c : MessageCursor) → stepLines w d (messageStep w d l c) ≡ messageLines w d (messagesLeft l c) l c
   unfolding messageLines
-  message-lists l c = go (stepAt (l .payload) (w .sizes) c d) refl
+  message-lists l c = go (placeStepAt (l .payload) (w .sizes) c d) refl
     where
-      go : (a : Answer Stepped) → stepAt (l .payload) (w .sizes) c d ≡ a → stepLines w d (nextMessage w d l a) ≡ messageLines w d (messagesLeft l c) l c
+      go : (a : Answer PlaceStepped) → placeStepAt (l .payload) (w .sizes) c d ≡ a → stepLines w d (nextMessage w d l a) ≡ messageLines w d (messagesLeft l c) l c
       go (got x n) e = rw (message-passed l c x n e, e) (set-lists l (x .cursor) (x .place) (readAt (typesAt w d l (x .place)) (bytesAt w d (x .place))))
       go (refused n place) e = sym (message-none (messagesLeft l c) l c n place e)
 

@@ -11,7 +11,7 @@ use Rattle.config.specs.Writers.{atMost, typesOf}
 use Rattle.config.specs.declared.Config.{Config}
 use Rattle.config_text.specs.Config.{configOf}
 use Rattle.network_message.specs.WriterId.{writerIdOf}
-use Rattle.network_message.specs.Payload.{Stepped, stepAt}
+use Rattle.network_message.specs.Payload.{PlaceStepped, placeStepAt}
 use Rattle.network_message.specs.Envelope.{NetworkMessage, networkMessageAt}
 use Rattle.network_message.specs.declared.payload.MessagePlace.{MessagePlace}
 use Rattle.network_message.specs.declared.payload.MessageCursor.{MessageCursor}
@@ -106,13 +106,13 @@ module _ (w : Writers) (d : List ℕ) where
   setLines l p (refused n place) = Line.SetBad (placeAt l p) n place ∷ []
 
   -- ---- the messages, from the cursor on, each "read alone"
-  abbrev pub messageThen : Listed → (MessageCursor → List Line) → Answer Stepped → List Line
+  abbrev pub messageThen : Listed → (MessageCursor → List Line) → Answer PlaceStepped → List Line
   messageThen l more (got x next) = setLines l (x .place) (messageAt (typesAt l (x .place)) (bytesAt (x .place))) ++ more (x .cursor)
   messageThen l more (refused n place) = []
 
   unfoldable pub messageLines : ℕ → Listed → MessageCursor → List Line
   messageLines zero l c = []
-  messageLines (suc left) l c = messageThen l (messageLines left l) (stepAt (l .payload) (w .sizes) c d)
+  messageLines (suc left) l c = messageThen l (messageLines left l) (placeStepAt (l .payload) (w .sizes) c d)
 
   -- ---- the datagram: its `net` line, then its messages. "A chunk has its `net` line only, with 0 messages, its payload unread."
   abbrev pub netLine : Listed → Line
@@ -148,12 +148,12 @@ module _ (w : Writers) (d : List ℕ) where
   abbrev pub setStep : Listed → MessageCursor → MessagePlace → LineStep
   setStep l c p = nextSet l c p (messageAt (typesAt l p) (bytesAt p))
 
-  abbrev pub nextMessage : Listed → Answer Stepped → LineStep
+  abbrev pub nextMessage : Listed → Answer PlaceStepped → LineStep
   nextMessage l (got x next) = setStep l (x .cursor) (x .place)
   nextMessage l (refused n place) = LineStep.None
 
   abbrev pub messageStep : Listed → MessageCursor → LineStep
-  messageStep l c = nextMessage l (stepAt (l .payload) (w .sizes) c d)
+  messageStep l c = nextMessage l (placeStepAt (l .payload) (w .sizes) c d)
 
   abbrev pub nextField : Listed → MessageCursor → MessagePlace → Answer FieldStepped → LineStep
   nextField l c p (got x next) = LineStep.Is (Line.Field (p .index) (inDatagram p (x .field))) (LineCursor.Field l c p (x .cursor))

@@ -8,12 +8,13 @@ use native.Mathlib.Omega.{arith}
 use borrow.Author.Tests.{leb-true, ltb-false}
 use lib.Dec.{leb, ltb, eqb}
 use lib.ListN.{length, length-take}
+use Rattle.wire.specs.Lists.{total}
 use Rattle.wire.specs.Answer.{got, refused}
 use Rattle.wire.proofs.Reading.{got-value, not-got, invert}
 use Rattle.network_header.specs.Flags.{flagsAt}
-use Rattle.network_message.specs.Payload.{total, positive, listed, restAt, listedAt, sizedAt, configuredAt, payloadAt}
+use Rattle.network_message.specs.Payload.{allPositive, listed, restOnlyAt, listedAt, sizedAt, configuredAt, payloadAt}
 use Rattle.network_header.specs.Numbers.{configuredSizes}
-use Rattle.network_message.specs.Envelope.{NetworkMessage, headerAt, networkMessageAt}
+use Rattle.network_message.specs.Envelope.{NetworkMessage, envelopeAt, networkMessageAt}
 use Rattle.network_header.specs.declared.header.PayloadHeader.{PayloadHeader}
 use Rattle.network_message.specs.declared.payload.Payload.{Payload}
 use Rattle.walk.specs.Lines.{Writers, listedOf, firstMessage, messagesLeft}
@@ -24,7 +25,7 @@ use Rattle.walk_records.proofs.Lines.{bare-same}
 
 -- ---- how many messages there are
 module _ (s : List ℕ) (at : ℕ) (p : Payload) (n : ℕ) where
-  rest-count : restAt s at ≡ got p n → p .count ≤ 16 + length s
+  rest-count : restOnlyAt s at ≡ got p n → p .count ≤ 16 + length s
   rest-count e = go (ltb at (length s)) refl
     where
       go : (b : Bool) → ltb at (length s) ≡ b → p .count ≤ 16 + length s
@@ -32,9 +33,9 @@ module _ (s : List ℕ) (at : ℕ) (p : Payload) (n : ℕ) where
       go false t = absurd (not-got (rw t at e))
 
   listed-count : (c : ℕ) → listedAt c s at ≡ got p n → p .count ≤ 16 + length s
-  listed-count c e = go (leb (at + 2 * c) (length s)) refl (positive (listed c s at) && eqb (at + 2 * c + total (listed c s at)) (length s)) refl
+  listed-count c e = go (leb (at + 2 * c) (length s)) refl (allPositive (listed c s at) && eqb (at + 2 * c + total (listed c s at)) (length s)) refl
     where
-      go : (a : Bool) → leb (at + 2 * c) (length s) ≡ a → (b : Bool) → (positive (listed c s at) && eqb (at + 2 * c + total (listed c s at)) (length s)) ≡ b → p .count ≤ 16 + length s
+      go : (a : Bool) → leb (at + 2 * c) (length s) ≡ a → (b : Bool) → (allPositive (listed c s at) && eqb (at + 2 * c + total (listed c s at)) (length s)) ≡ b → p .count ≤ 16 + length s
       go true t true u =
           let z : c ≡ p .count = ap (λ (x : Payload). x .count) (got-value (rw (t, u) at e)) in
           let h : at + 2 * c ≤ length s = leb-true (at + 2 * c) (length s) t in
@@ -52,10 +53,10 @@ module _ (s : List ℕ) (at : ℕ) (p : Payload) (n : ℕ) where
       go false t = absurd (not-got (rw t at e))
 
   configured-count : (sizes : List ℕ) → configuredAt (configuredSizes sizes) s at ≡ got p n → p .count ≤ 16 + length s
-  configured-count sizes e = go (eqb (length (configuredSizes sizes)) 0) (positive (configuredSizes sizes)) (eqb (length (configuredSizes sizes)) 1) e
+  configured-count sizes e = go (eqb (length (configuredSizes sizes)) 0) (allPositive (configuredSizes sizes)) (eqb (length (configuredSizes sizes)) 1) e
     where
       go : (a b c : Bool)
-          → cond a (refused 8 0) (cond b (sizedAt (length (configuredSizes sizes)) (total (configuredSizes sizes)) s at) (cond c (restAt s at) (refused 8 0))) ≡ got p n
+          → cond a (refused 8 0) (cond b (sizedAt (length (configuredSizes sizes)) (total (configuredSizes sizes)) s at) (cond c (restOnlyAt s at) (refused 8 0))) ≡ got p n
           → p .count ≤ 16 + length s
       go true b c q = absurd (not-got q)
       go false true c q = sized-count sizes (total (configuredSizes sizes)) q
@@ -67,7 +68,7 @@ module _ (s : List ℕ) (at : ℕ) (p : Payload) (n : ℕ) where
   payload-count false PayloadHeader.Absent sizes e = configured-count sizes e
   payload-count chunk (PayloadHeader.Ids c) sizes e = go (leb c 1) e
     where
-      go : (b : Bool) → cond b (restAt s at) (listedAt c s at) ≡ got p n → p .count ≤ 16 + length s
+      go : (b : Bool) → cond b (restOnlyAt s at) (listedAt c s at) ≡ got p n → p .count ≤ 16 + length s
       go true q = rest-count q
       go false q = listed-count c q
   payload-count chunk (PayloadHeader.Chunk w) sizes e = let z : 0 ≡ p .count = ap (λ (x : Payload). x .count) (got-value e) in omega arith
@@ -79,7 +80,7 @@ few-messages sizes s m n e = go (ltb 65535 (length s)) refl
     go true t = absurd (not-got (rw t at (sym e)))
     go false t =
         let (f, i, a, b) = invert (flagsAt s 0) _ (rw t at (sym e)) in
-        let (h, j, c, d) = invert (headerAt f (length (configuredSizes sizes)) s i) _ b in
+        let (h, j, c, d) = invert (envelopeAt f (length (configuredSizes sizes)) s i) _ b in
         let (p, k, q, r) = invert (payloadAt (h .envelope .chunk) (h .envelope .«payload_header») sizes s j) _ d in
         let l : length s ≤ 65535 = ltb-false 65535 (length s) t in
         let z : p .count ≡ m .payload .count = ap (λ (x : NetworkMessage). x .payload .count) (got-value r) in

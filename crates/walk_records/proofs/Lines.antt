@@ -12,18 +12,18 @@ use Rattle.wire.specs.Answer.{Answer, got, refused}
 use Rattle.wire.proofs.Reading.{got-value, got-next, not-got, invert}
 use Rattle.wire.specs.declared.optional.Optional16.{Optional16}
 use Rattle.config.specs.Writers.{typesOf}
-use Rattle.network_message.specs.Payload.{Stepped as MessageStepped, stepAt as messageStepAt, sizeOf, messageAt}
+use Rattle.network_message.specs.Payload.{Stepped as MessageStepped, stepAt as messageStepAt, sizeOfMessage, placeOfMessage}
 use Rattle.network_message.specs.declared.payload.Payload.{Payload}
 use Rattle.network_message.specs.declared.payload.MessagePlace.{MessagePlace}
 use Rattle.network_message.specs.declared.payload.MessageCursor.{MessageCursor}
 use Rattle.network_message.proofs.Messages.{message-counted}
 use Rattle.dataset_header.specs.Flags.{Valid, notValid, valid}
-use Rattle.dataset_fields.specs.Fields.{encodedAt, indexAt, fieldAt, Stepped, stepAt, before}
+use Rattle.dataset_fields.specs.Fields.{encodedAt, indexAt, fieldAt, FieldStepped, nextFieldAt, cursorBefore}
 use Rattle.dataset_message.specs.Message.{Message, messageAt as readAt}
 use Rattle.dataset_header.specs.declared.flags.Encoding.{Encoding}
 use Rattle.dataset_fields.specs.declared.fields.Field.{Field}
 use Rattle.dataset_fields.specs.declared.fields.Cursor.{Cursor}
-use Rattle.dataset_message.proofs.Agreement.{field-inside}
+use Rattle.dataset_message.proofs.Agreement.{field-inside, index-within}
 use Rattle.walk.specs.Lines.{placeAt, fieldThen as lineThen, messageThen, Writers, inDatagram, fieldsLeft, messagesLeft, firstMessage, writerAt, typesAt, bytesAt, fieldLines, setLines, messageLines}
 use Rattle.walk.specs.declared.entry.Line.{Line}
 use Rattle.walk.specs.declared.lines.Listed.{Listed}
@@ -31,21 +31,12 @@ use Rattle.walk_records.specs.Walk.{recordsPut}
 use Rattle.walk_records.specs.Parts.{fieldThen, fieldsFrom, setBy, setFrom, bare, payloadLines}
 use Rattle.walk_records.proofs.Records.{some-put}
 
--- ---- a field: it ends after it starts
-index-after : (delta : Bool) (k : ℕ) (s : List ℕ) (q i o : ℕ) → indexAt delta k s q ≡ got i o → q ≤ o
-index-after true k s q i o e = go (leb (q + 2) (length s)) refl
-  where
-    go : (b : Bool) → leb (q + 2) (length s) ≡ b → q ≤ o
-    go true t = let n : q + 2 ≡ o = got-next (rw t at e) in omega arith
-    go false t = absurd (not-got (rw t at e))
-index-after false k s q i o e = let n : q ≡ o = got-next e in omega arith
-
 offset-after : (delta : Bool) (encoding : Encoding) (types : List ℕ) (k : ℕ) (s : List ℕ) (q : ℕ) (f : Field) (e : ℕ)
     → fieldAt delta encoding types k s q ≡ got f e → q ≤ f .offset
 offset-after delta encoding types k s q f e h =
     let a = invert (indexAt delta k s q) (λ i o. _) h in
     let b = invert (encodedAt encoding types k s (a .1)) (λ m z. _) (a .3) in
-    let i = index-after delta k s q (a .0) (a .1) (a .2) in
+    let i = index-within delta k s q (a .0) (a .1) (a .2) in
     let o : a .1 ≡ f .offset = ap (λ (x : Field). x .offset) (got-value (b .3)) in
     omega arith
 
@@ -55,14 +46,14 @@ module _ (types s : List ℕ) where
 
   -- a step is the field's reading, where fields are left
   step-got : (c : Cursor) (f : Field) (e : ℕ) → c .next < c .count → fieldOf c ≡ got f e
-      → stepAt c types s ≡ got (record { field = f; cursor = before c (c .next + 1) e }) e
+      → nextFieldAt c types s ≡ got (record { field = f; cursor = cursorBefore c (c .next + 1) e }) e
   step-got c f e h q =
       let i = field-inside (c .delta) (c .encoding) types (c .next) s (c .at) f e q in
       let l : c .at ≤ length s = i .starts in
       rw (le-ltb (length s) (c .at) l, lt-leb (c .count) (c .next) h, q)
 
   -- what an accepted step says of the positions
-  step-moves : (c : Cursor) (x : Stepped) (e : ℕ) → stepAt c types s ≡ got x e → (c .at < x .cursor .at) × (x .cursor .at ≤ length s)
+  step-moves : (c : Cursor) (x : FieldStepped) (e : ℕ) → nextFieldAt c types s ≡ got x e → (c .at < x .cursor .at) × (x .cursor .at ≤ length s)
   step-moves c x e q = go (ltb (length s) (c .at)) refl (leb (c .count) (c .next)) refl
     where
       go : (a : Bool) → ltb (length s) (c .at) ≡ a → (b : Bool) → leb (c .count) (c .next) ≡ b → (c .at < x .cursor .at) × (x .cursor .at ≤ length s)
@@ -77,7 +68,7 @@ module _ (types s : List ℕ) where
   module _ (p : MessagePlace) where
     -- the lines from a cursor on: of the field that was read and those after it, or none
     pub fields-more : (c : Cursor) (f : Field) (e : ℕ) → c .next < c .count → fieldOf c ≡ got f e
-        → fieldsFrom types s p (fieldsLeft c) c ≡ Line.Field (p .index) (inDatagram p f) ∷ fieldsFrom types s p (c .count - (c .next + 1)) (before c (c .next + 1) e)
+        → fieldsFrom types s p (fieldsLeft c) c ≡ Line.Field (p .index) (inDatagram p f) ∷ fieldsFrom types s p (c .count - (c .next + 1)) (cursorBefore c (c .next + 1) e)
     unfolding fieldsFrom
     fields-more c f e h q =
         let z : fieldsLeft c ≡ suc (c .count - (c .next + 1)) = omega arith in
@@ -101,9 +92,9 @@ module _ (types s : List ℕ) where
     fields-few : (n : ℕ) (c : Cursor) → length (fieldsFrom types s p n c) ≤ length s - c .at
     unfolding fieldsFrom
     fields-few zero c = omega arith
-    fields-few (suc n) c = go (λ d. fields-few n d) (stepAt c types s) refl
+    fields-few (suc n) c = go (λ d. fields-few n d) (nextFieldAt c types s) refl
       where
-        go : ((d : Cursor) → length (fieldsFrom types s p n d) ≤ length s - d .at) → (a : Answer Stepped) → stepAt c types s ≡ a
+        go : ((d : Cursor) → length (fieldsFrom types s p n d) ≤ length s - d .at) → (a : Answer FieldStepped) → nextFieldAt c types s ≡ a
             → length (fieldThen types s p (fieldsFrom types s p n) a) ≤ length s - c .at
         go ih (got x e) q =
             let m = step-moves c x e q in
@@ -128,18 +119,18 @@ module _ (types s : List ℕ) where
     set-few w (refused n place) = omega arith
 
 -- where an accepted message ends
-message-ends : (p : Payload) (sizes : List ℕ) (k : ℕ) (d : List ℕ) (at : ℕ) (m : MessagePlace) (n : ℕ) → messageAt p sizes k d at ≡ got m n
+message-ends : (p : Payload) (sizes : List ℕ) (k : ℕ) (d : List ℕ) (at : ℕ) (m : MessagePlace) (n : ℕ) → placeOfMessage p sizes k d at ≡ got m n
     → (n ≡ at + m .length) × (n ≤ length d)
-message-ends p sizes k d at m n e = go (leb (p .count) k) refl (leb (at + sizeOf (p .sizes) sizes k d at) (length d)) refl
+message-ends p sizes k d at m n e = go (leb (p .count) k) refl (leb (at + sizeOfMessage (p .sizes) sizes k d at) (length d)) refl
   where
-    go : (a : Bool) → leb (p .count) k ≡ a → (b : Bool) → leb (at + sizeOf (p .sizes) sizes k d at) (length d) ≡ b → (n ≡ at + m .length) × (n ≤ length d)
+    go : (a : Bool) → leb (p .count) k ≡ a → (b : Bool) → leb (at + sizeOfMessage (p .sizes) sizes k d at) (length d) ≡ b → (n ≡ at + m .length) × (n ≤ length d)
     go true t b u = absurd (not-got (rw t at e))
     go false t false u = absurd (not-got (rw (t, u) at e))
     go false t true u =
-        let f : at + sizeOf (p .sizes) sizes k d at ≤ length d = leb-true (at + sizeOf (p .sizes) sizes k d at) (length d) u in
-        let z : got (record { index = k; offset = at; length = sizeOf (p .sizes) sizes k d at }) (at + sizeOf (p .sizes) sizes k d at) ≡ got m n = rw (t, u) at e in
-        let a : at + sizeOf (p .sizes) sizes k d at ≡ n = got-next z in
-        let b : sizeOf (p .sizes) sizes k d at ≡ m .length = ap (λ (x : MessagePlace). x .length) (got-value z) in
+        let f : at + sizeOfMessage (p .sizes) sizes k d at ≤ length d = leb-true (at + sizeOfMessage (p .sizes) sizes k d at) (length d) u in
+        let z : got (record { index = k; offset = at; length = sizeOfMessage (p .sizes) sizes k d at }) (at + sizeOfMessage (p .sizes) sizes k d at) ≡ got m n = rw (t, u) at e in
+        let a : at + sizeOfMessage (p .sizes) sizes k d at ≡ n = got-next z in
+        let b : sizeOfMessage (p .sizes) sizes k d at ≡ m .length = ap (λ (x : MessagePlace). x .length) (got-value z) in
         (omega arith, omega arith)
 
 module _ (w : Writers) (d : List ℕ) where
@@ -147,9 +138,9 @@ module _ (w : Writers) (d : List ℕ) where
   fields-same : (n : ℕ) (l : Listed) (p : MessagePlace) (c : Cursor) → fieldLines w d n l p c ≡ fieldsFrom (typesAt w d l p) (bytesAt w d p) p n c
   unfolding fieldLines fieldsFrom
   fields-same zero l p c = refl
-  fields-same (suc n) l p c = go (λ x. fields-same n l p x) (stepAt c (typesAt w d l p) (bytesAt w d p))
+  fields-same (suc n) l p c = go (λ x. fields-same n l p x) (nextFieldAt c (typesAt w d l p) (bytesAt w d p))
     where
-      go : ((x : Cursor) → fieldLines w d n l p x ≡ fieldsFrom (typesAt w d l p) (bytesAt w d p) p n x) → (a : Answer Stepped)
+      go : ((x : Cursor) → fieldLines w d n l p x ≡ fieldsFrom (typesAt w d l p) (bytesAt w d p) p n x) → (a : Answer FieldStepped)
           → lineThen w d p (fieldLines w d n l p) a ≡ fieldThen (typesAt w d l p) (bytesAt w d p) p (fieldsFrom (typesAt w d l p) (bytesAt w d p) p n) a
       go ih (got x e) = ap (λ (t : List Line). Line.Field (p .index) (inDatagram p (x .field)) ∷ t) (ih (x .cursor))
       go ih (refused k place) = refl
@@ -172,7 +163,7 @@ module _ (w : Writers) (d : List ℕ) where
 
   pub passed : (l : Listed) (c : MessageCursor) (x : MessageStepped) (n : ℕ) → messageOf l c ≡ got x n → Passed l c x
   passed l c x n e =
-      let (m, q, r, z) = invert (messageAt (l .payload) (w .sizes) (c .index) d (c .at)) _ e in
+      let (m, q, r, z) = invert (placeOfMessage (l .payload) (w .sizes) (c .index) d (c .at)) _ e in
       let h = message-counted (l .payload) (w .sizes) (c .index) d (c .at) m q r in
       let i = message-ends (l .payload) (w .sizes) (c .index) d (c .at) m q r in
       rw (sym (got-value z)) (record { left = omega arith; next = i .0; ends = i .1 })

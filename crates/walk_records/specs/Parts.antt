@@ -10,7 +10,7 @@ use Rattle.network_header.specs.declared.header.PayloadHeader.{PayloadHeader}
 use Rattle.network_message.specs.declared.payload.Payload.{Payload}
 use Rattle.network_message.specs.declared.payload.MessagePlace.{MessagePlace}
 use Rattle.dataset_header.specs.Flags.{Valid, notValid, valid}
-use Rattle.dataset_fields.specs.Fields.{fieldsAt, Stepped, stepAt}
+use Rattle.dataset_fields.specs.Fields.{fieldsAt, FieldStepped, nextFieldAt}
 use Rattle.dataset_message.specs.Message.{Message, messageAt}
 use Rattle.dataset_fields.specs.declared.fields.Cursor.{Cursor}
 use Rattle.walk.specs.Lines.{Writers, inDatagram, fieldsLeft, messagesLeft, firstMessage, messageLines}
@@ -21,14 +21,14 @@ use Rattle.walk_records.specs.Walk.{recordsPut}
 
 -- ---- the message in place p, of a writer, with its field types, and its bytes
 module _ (types bytes : List ℕ) (p : MessagePlace) where
-  abbrev pub fieldThen : (Cursor → List Line) → Answer Stepped → List Line
+  abbrev pub fieldThen : (Cursor → List Line) → Answer FieldStepped → List Line
   fieldThen more (got x next) = Line.Field (p .index) (inDatagram p (x .field)) ∷ more (x .cursor)
   fieldThen more (refused n place) = []
 
   -- the lines of its fields from the cursor on, as many as are left
   unfoldable pub fieldsFrom : ℕ → Cursor → List Line
   fieldsFrom zero c = []
-  fieldsFrom (suc left) c = fieldThen (fieldsFrom left) (stepAt c types bytes)
+  fieldsFrom (suc left) c = fieldThen (fieldsFrom left) (nextFieldAt c types bytes)
 
   abbrev pub setPlace : Optional16 → SetPlace
   setPlace writer = record { message = p .index; writer = writer; offset = p .offset; length = p .length }

@@ -5,3 +5,4 @@ pub mod Steady
 pub mod Places
 pub mod Each
 pub mod Table
+pub mod Cases

@@ -3,3 +3,4 @@ pub mod Number
 pub mod Answer
 pub mod Items
 pub mod Optional
+pub mod Lists

@@ -11,7 +11,7 @@ use lib.Seq.{take-at, drop-at}
 use borrow.Author.Tests.{ne-eqb, eqb-true, le-ltb, ltb-false}
 use Rattle.wire.specs.Answer.{Answer, got, refused}
 use Rattle.wire_writer.specs.declared.writing.Written.{Written}
-use Rattle.wire_writer.specs.Writing.{roomRefusal, Output, writing, refusing, unless, afterReading, writtenOf, bufferOf, Writes, Puts}
+use Rattle.wire_writer.specs.Writing.{roomRefusal, Output, writing, refusing, unless, afterReading, writtenOf, bufferAfter, Writes, Puts}
 use Rattle.wire_writer.proofs.Putting.{whole}
 use Rattle.wire_writer.proofs.Refusals.{passed}
 
@@ -93,6 +93,6 @@ module _ (k : ℕ) (bytes entry exit : List ℕ) (n : ℕ) where
   reported w = go (eqb k 0) refl (w .answer) (w .buffer)
     where
       go : (t : Bool) → eqb k 0 ≡ t → Written.Is n ≡ writtenOf (length entry) (cond t (writing bytes) (refusing k))
-          → exit ≡ bufferOf entry (cond t (writing bytes) (refusing k)) → Reported k bytes entry exit n
+          → exit ≡ bufferAfter entry (cond t (writing bytes) (refusing k)) → Reported k bytes entry exit n
       go true t a b = all-written (eqb (roomRefusal (length bytes) (length entry)) 0) refl (eqb-true k 0 t) a b
       go false t a b = let y : _≡_ {A = ℕ} 0 1 = cc in absurd (omega arith)

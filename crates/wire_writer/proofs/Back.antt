@@ -14,14 +14,14 @@ use borrow.Author.Tests.{leb-true, eqb-true, le-leb}
 use Rattle.wire.specs.Number.{le, leBytes, signed, unsigned}
 use Rattle.wire.specs.Answer.{Answer, got, refused, Reader, item, signedItem, ruled, run, pure, whenOn, _>>=_}
 use Rattle.wire.specs.Items.{guid, guidBytes}
-use Rattle.wire.specs.Optional.{optional16, optional32, optionalI64}
+use Rattle.wire.specs.Optional.{optional16, optional32, optionalI64, picosecondsRule, picosecondsAt}
 use Rattle.wire.specs.declared.Guid.{Guid}
 use Rattle.wire.specs.declared.optional.Optional16.{Optional16}
 use Rattle.wire.specs.declared.optional.Optional32.{Optional32}
 use Rattle.wire.specs.declared.optional.OptionalI64.{OptionalI64}
 use Rattle.wire.proofs.Reading.{got-value, got-next, not-got, invert, signed-is}
 use Rattle.wire.proofs.Numbers.{unsigned-signed}
-use Rattle.wire_writer.specs.Writing.{on16, on32, onI64, optional16Bytes, optional32Bytes, optionalI64Bytes}
+use Rattle.wire_writer.specs.Writing.{picosecondsRefusal, on16, on32, onI64, optional16Bytes, optional32Bytes, optionalI64Bytes}
 use Rattle.wire_writer.proofs.Trip.{At, fits-at}
 use Rattle.wire_writer.specs.Fits.{Bytes}
 
@@ -188,3 +188,10 @@ ruled16-back rule true s at x next b l h =
     let y = map-back (ruled 2 rule) Optional16.Is s at x next h in
     rw (sym (y .2)) (item-back 2 s at (y .0) next b (ruled-back 2 rule s at (y .0) next (y .1) .0) .0, refl)
 ruled16-back rule false s at x next b l h = absent optional16Bytes on16 x Optional16.Absent s at next refl refl l h
+
+-- picoseconds that were read keep their rule
+pub picoseconds-kept : (on : Bool) (s : List ℕ) (at : ℕ) (x : Optional16) (next : ℕ) → picosecondsAt on s at ≡ got x next → picosecondsRefusal x ≡ 0
+picoseconds-kept true s at x next h =
+    let y = map-back (ruled 2 picosecondsRule) Optional16.Is s at x next h in
+    subst (λ (x : Optional16). picosecondsRefusal x ≡ 0) (y .2) (ruled-back 2 picosecondsRule s at (y .0) next (y .1) .1)
+picoseconds-kept false s at x next h = subst (λ (x : Optional16). picosecondsRefusal x ≡ 0) (got-value h) refl

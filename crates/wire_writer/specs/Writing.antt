@@ -44,15 +44,15 @@ writtenOf room (writing bytes) =
 writtenOf room (refusing n) = Written.Refused n
 
 -- what a writer leaves of the buffer `entry`: the bytes from its start, and then its own rest; of a refusal, all as it was
-abbrev pub bufferOf : List ℕ → Output → List ℕ
-bufferOf entry (writing bytes) = cond (eqb (roomRefusal (length bytes) (length entry)) 0) (bytes ++ drop (length bytes) entry) entry
-bufferOf entry (refusing n) = entry
+abbrev pub bufferAfter : List ℕ → Output → List ℕ
+bufferAfter entry (writing bytes) = cond (eqb (roomRefusal (length bytes) (length entry)) 0) (bytes ++ drop (length bytes) entry) entry
+bufferAfter entry (refusing n) = entry
 
 -- What every writer promises: "A writer refuses what reading would refuse, by the same number in reading order; then .. by 6;
 -- output above 65,535 bytes by 10; then 11. A successful writer changes only the bytes it reports, from the buffer's start".
 pub record Writes (output : Output) (entry exit : List ℕ) (r : Written) : Type 0 where
   pub answer : r ≡ writtenOf (length entry) output
-  pub buffer : exit ≡ bufferOf entry output
+  pub buffer : exit ≡ bufferAfter entry output
 
 -- what the answer of the code says: "a writer's [place] is 0"
 abbrev pub answerWritten : Written → Answer (Unit {0})

@@ -6,8 +6,8 @@ use native.Mathlib.Omega.{arith}
 use native.Mathlib.Nat.{zero-add}
 use borrow.Author.Needs.{needs}
 use lib.ListN.{length, take, drop, length-take}
+use Rattle.wire.specs.Lists.{total}
 use Rattle.config.proofs.Asked.{sum-next, sum-all}
-use Rattle.config.specs.Writers.{total}
 use Rattle.config.proofs.sum_of_sizes.Statement.{statement}
 use Rattle.config.proofs.sum_of_sizes.Tie as tie
 

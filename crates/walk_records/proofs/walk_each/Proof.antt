@@ -6,7 +6,7 @@ use Rattle.walk_records.specs.Walk.{recordsPut}
 use Rattle.walk_records.specs.Parts.{fieldsFrom}
 use Rattle.walk.specs.Lines.{fieldsLeft}
 use Rattle.dataset_fields.proofs.Ending.{fields-on, last-ends}
-use Rattle.dataset_fields.specs.Fields.{fieldsAt, answerField, before}
+use Rattle.dataset_fields.specs.Fields.{fieldsAt, answerField, cursorBefore}
 use Rattle.wire.proofs.Reading.{told}
 use Rattle.wire.specs.Answer.{got}
 use lib.ListN.{length}
@@ -22,8 +22,8 @@ use Rattle.walk_records.proofs.walk_each.Tie as tie
 abbrev Inv-loop : tie.InvT-loop
 Inv-loop out₀ first message types p c end encoding at₀ i₀ k₀ out at i k =
     (length out ≡ length out₀)
-    × ((recordsPut k (fieldsFrom types message p (c .count - i) (before c i at)) out ≡ recordsPut first (fieldsFrom types message p (fieldsLeft c) c) out₀)
-    × ((k + length (fieldsFrom types message p (c .count - i) (before c i at)) ≡ first + length (fieldsFrom types message p (fieldsLeft c) c))
+    × ((recordsPut k (fieldsFrom types message p (c .count - i) (cursorBefore c i at)) out ≡ recordsPut first (fieldsFrom types message p (fieldsLeft c) c) out₀)
+    × ((k + length (fieldsFrom types message p (c .count - i) (cursorBefore c i at)) ≡ first + length (fieldsFrom types message p (fieldsLeft c) c))
     × (fieldsAt (c .delta) (c .encoding) types (c .count - i) i message at ≡ got tt end)))
 
 abbrev μ-loop : tie.MeasureT-loop
@@ -49,8 +49,8 @@ returns c =
     let args = at-loop .before .before .before .before .args in
     let a = args in
     let l = at-loop .loop in
-    all-put (fieldsFrom (now (a .types)) (now (a .message)) (a .p) (a .c .count - l .i) (before (a .c) (l .i) (l .at))) (l .k) (l .out) _ _ (l .inv .1 .0) (l .inv .1 .1 .0)
-    (fields-none (now (a .types)) (now (a .message)) (a .p) (before (a .c) (l .i) (l .at)) _ _ (sym (told answerField (at-field-at .field-at .ensures) (c .enum-told .given .1))))
+    all-put (fieldsFrom (now (a .types)) (now (a .message)) (a .p) (a .c .count - l .i) (cursorBefore (a .c) (l .i) (l .at))) (l .k) (l .out) _ _ (l .inv .1 .0) (l .inv .1 .1 .0)
+    (fields-none (now (a .types)) (now (a .message)) (a .p) (cursorBefore (a .c) (l .i) (l .at)) _ _ (sym (told answerField (at-field-at .field-at .ensures) (c .enum-told .given .1))))
 
 put-field-requires : tie.Need-put-field-requires Inv-loop μ-loop
 put-field-requires c κs =
@@ -60,7 +60,7 @@ put-field-requires c κs =
     let at-pre = at-loop .before .before .before .before in
     let a = at-pre .args in
     let l = at-loop .loop in
-    offset-fits (now (a .types)) (now (a .message)) (a .p) (before (a .c) (l .i) (l .at)) _ _ (sym (told answerField (at-field-at .field-at .ensures) (at-f .f .given .1))) (at-pre .pre .1)
+    offset-fits (now (a .types)) (now (a .message)) (a .p) (cursorBefore (a .c) (l .i) (l .at)) _ _ (sym (told answerField (at-field-at .field-at .ensures) (at-f .f .given .1))) (at-pre .pre .1)
 
 add-k : tie.Need-add-k Inv-loop μ-loop
 add-k c =
@@ -74,7 +74,8 @@ add-k c =
     omega (
       arith,
       next-fits (now (a .types)) (now (a .message)) (a .p) _ _ _ (a .c) (fieldsLeft (a .c)) (l .k) (a .first)
-          (fields-more (now (a .types)) (now (a .message)) (a .p) (before (a .c) (l .i) (l .at)) _ _ (at-if1 .if1 .taken) (sym (told answerField (at-field-at .field-at .ensures) (at-f .f .given .1))))
+          (fields-more (now (a .types)) (now (a .message)) (a .p) (cursorBefore (a .c) (l .i) (l .at)) _ _ (at-if1 .if1 .taken)
+          (sym (told answerField (at-field-at .field-at .ensures) (at-f .f .given .1))))
           (l .inv .1 .1 .0) (at-pre .pre .0),
     )
 
@@ -93,9 +94,9 @@ loop-again c =
     let a = args in
     let l = at-loop .loop in
     let found = sym (told answerField (at-field-at .field-at .ensures) (at-f .f .given .1)) in
-    let z = one-put (fieldsFrom (now (a .types)) (now (a .message)) (a .p) (a .c .count - l .i) (before (a .c) (l .i) (l .at))) (l .k)
+    let z = one-put (fieldsFrom (now (a .types)) (now (a .message)) (a .p) (a .c .count - l .i) (cursorBefore (a .c) (l .i) (l .at))) (l .k)
     (l .out) _ _ (l .inv .1 .0) (l .inv .1 .1 .0) _ _ _
-    (fields-more (now (a .types)) (now (a .message)) (a .p) (before (a .c) (l .i) (l .at)) _ _ (at-if1 .if1 .taken) found) (at-put-field .put-field .ensures) in
+    (fields-more (now (a .types)) (now (a .message)) (a .p) (cursorBefore (a .c) (l .i) (l .at)) _ _ (at-if1 .if1 .taken) found) (at-put-field .put-field .ensures) in
     (search needs, (z .0, (z .1, fields-on (a .c .delta) (a .c .encoding) (now (a .types)) (now (a .message)) (a .c .count) (l .i) (l .at) (l .inv .1 .1 .1) (at-if1 .if1 .taken) found)))
 
 returns-2 : tie.Need-returns-2 Inv-loop μ-loop
@@ -104,8 +105,8 @@ returns-2 c =
     let args = at-loop .before .before .before .before .args in
     let a = args in
     let l = at-loop .loop in
-    all-put (fieldsFrom (now (a .types)) (now (a .message)) (a .p) (a .c .count - l .i) (before (a .c) (l .i) (l .at))) (l .k) (l .out) _ _ (l .inv .1 .0) (l .inv .1 .1 .0)
-    (fields-end (now (a .types)) (now (a .message)) (a .p) (before (a .c) (l .i) (l .at)) (c .if1 .left))
+    all-put (fieldsFrom (now (a .types)) (now (a .message)) (a .p) (a .c .count - l .i) (cursorBefore (a .c) (l .i) (l .at))) (l .k) (l .out) _ _ (l .inv .1 .0) (l .inv .1 .1 .0)
+    (fields-end (now (a .types)) (now (a .message)) (a .p) (cursorBefore (a .c) (l .i) (l .at)) (c .if1 .left))
 
 pub walk-each-spec : {M : Type 1} → statement M
 walk-each-spec =

@@ -7,7 +7,7 @@ use Prim.Native.Nat.{_+_}
 use mathlib.Core.Path.{_≡_, refl, sym}
 use lib.ListN.{length}
 use Rattle.wire.proofs.Reading.{told}
-use Rattle.network_message.specs.Payload.{answerStep}
+use Rattle.network_message.specs.Payload.{answerPlaceStep}
 use Rattle.walk.specs.Lines.{writers, messagesLeft, messageLines}
 use Rattle.walk_records.specs.Parts.{bare, payloadLines}
 use Rattle.walk_records.specs.Walk.{recordsPut}
@@ -39,7 +39,7 @@ returns c =
     (messagesLeft (bare (args .header) (args .end) (args .payload)) (at-loop .loop .c)) (bare (args .header) (args .end) (args .payload)) (at-loop .loop .c))
     (at-loop .loop .k) (at-loop .loop .out) _ _ (at-loop .loop .inv .1 .0) (at-loop .loop .inv .1 .1)
     (messages-none (writers (now (args .ids)) (now (args .sizes)) (now (args .starts)) (now (args .types))) (now (args .s))
-    (bare (args .header) (args .end) (args .payload)) (at-loop .loop .c) _ _ (sym (told answerStep (at-step .step .ensures) (c .enum-told .given .1))))
+    (bare (args .header) (args .end) (args .payload)) (at-loop .loop .c) _ _ (sym (told answerPlaceStep (at-step .step .ensures) (c .enum-told .given .1))))
 
 walk-message-requires : tie.Need-walk-message-requires Inv-loop μ-loop
 walk-message-requires c κs =
@@ -65,7 +65,7 @@ loop-less c =
           (c .before .before .before .before .before .before .before .before .before .before .before .before .before .before .before .before .before .args .end)
           (c .before .before .before .before .before .before .before .before .before .before .before .before .before .before .before .before .before .args .payload))
           (c .before .before .before .before .before .before .before .before .before .before .loop .c) _ _
-          (sym (told answerStep (c .before .before .before .before .before .before .before .before .before .step .ensures)
+          (sym (told answerPlaceStep (c .before .before .before .before .before .before .before .before .before .step .ensures)
           (c .before .before .before .before .before .before .before .p .given .1))) .left,
     )
 
@@ -82,7 +82,7 @@ loop-again c =
       message-put (writers (now (args .ids)) (now (args .sizes)) (now (args .starts)) (now (args .types))) (now (args .s))
           (bare (args .header) (args .end) (args .payload)) (at-loop .loop .c) (at-p .p .given .0 .1 .0) (at-p .p .given .0 .0)
           (at-writer-id .writer-id .result) (now (at-types-of .types-of .result)) (at-loop .loop .k) _ _ _ (at-loop .loop .out) _ _
-          (told answerStep (at-step .step .ensures) (at-p .p .given .1)) (at-writer-id .writer-id .ensures) (at-types-of .types-of .ensures)
+          (told answerPlaceStep (at-step .step .ensures) (at-p .p .given .1)) (at-writer-id .writer-id .ensures) (at-types-of .types-of .ensures)
           (at-loop .loop .inv .1 .0) (at-loop .loop .inv .1 .1) (at-walk-message .walk-message .ensures .1) (at-walk-message .walk-message .ensures .0),
     )
 

@@ -7,7 +7,7 @@ use Prim.Native.Nat.{_+_, _-_}
 use mathlib.Core.Path.{_≡_, refl}
 use lib.ListN.{length}
 use Rattle.wire.specs.Answer.{got}
-use Rattle.dataset_fields.specs.Fields.{fieldsAt, before}
+use Rattle.dataset_fields.specs.Fields.{fieldsAt, cursorBefore}
 use Rattle.dataset_message.proofs.Agreement.{field-inside}
 use Rattle.walk_records.proofs.Raw.{raw-configured, raw-first}
 use Rattle.dataset_fields.proofs.Ending.{fields-on}
@@ -22,8 +22,8 @@ use Rattle.walk_records.proofs.walk_raw.Tie as tie
 abbrev Inv-loop : tie.InvT-loop
 Inv-loop out₀ first message types p c end at₀ i₀ k₀ out at i k =
     (length out ≡ length out₀)
-    × ((recordsPut k (fieldsFrom types message p (c .count - i) (before c i at)) out ≡ recordsPut first (fieldsFrom types message p (fieldsLeft c) c) out₀)
-    × ((k + length (fieldsFrom types message p (c .count - i) (before c i at)) ≡ first + length (fieldsFrom types message p (fieldsLeft c) c))
+    × ((recordsPut k (fieldsFrom types message p (c .count - i) (cursorBefore c i at)) out ≡ recordsPut first (fieldsFrom types message p (fieldsLeft c) c) out₀)
+    × ((k + length (fieldsFrom types message p (c .count - i) (cursorBefore c i at)) ≡ first + length (fieldsFrom types message p (fieldsLeft c) c))
     × (fieldsAt (c .delta) (c .encoding) types (c .count - i) i message at ≡ got tt end)))
 
 abbrev μ-loop : tie.MeasureT-loop
@@ -51,7 +51,7 @@ put-field-requires c κs =
     let at-pre = at-loop .before .before .before .before in
     let a = at-pre .args in
     let l = at-loop .loop in
-    offset-fits (now (a .types)) (now (a .message)) (a .p) (before (a .c) (l .i) (l .at)) _ _
+    offset-fits (now (a .types)) (now (a .message)) (a .p) (cursorBefore (a .c) (l .i) (l .at)) _ _
     (raw-first (now (a .types)) (now (a .message)) (l .i) (l .at) (a .c .delta) (a .c .encoding) (at-pre .pre .3) (at-pre .pre .4)
     (a .c .count) (l .inv .1 .1 .1) (at-if1 .if1 .taken) (at-packed-width .packed-width .result) (at-packed-width .packed-width .ensures .0)) (at-pre .pre .1)
 
@@ -79,7 +79,7 @@ add-k c =
     omega (
       arith,
       next-fits (now (a .types)) (now (a .message)) (a .p) _ _ _ (a .c) (fieldsLeft (a .c)) (l .k) (a .first)
-          (fields-more (now (a .types)) (now (a .message)) (a .p) (before (a .c) (l .i) (l .at)) _ _ (at-if1 .if1 .taken)
+          (fields-more (now (a .types)) (now (a .message)) (a .p) (cursorBefore (a .c) (l .i) (l .at)) _ _ (at-if1 .if1 .taken)
           (raw-first (now (a .types)) (now (a .message)) (l .i) (l .at) (a .c .delta) (a .c .encoding) (at-pre .pre .3) (at-pre .pre .4)
           (a .c .count) (l .inv .1 .1 .1) (at-if1 .if1 .taken) (at-packed-width .packed-width .result) (at-packed-width .packed-width .ensures .0))) (l .inv .1 .1 .0) (at-pre .pre .0),
     )
@@ -99,9 +99,9 @@ loop-again c =
     let l = at-loop .loop in
     let found = raw-first (now (a .types)) (now (a .message)) (l .i) (l .at) (a .c .delta) (a .c .encoding) (at-pre .pre .3)
     (at-pre .pre .4) (a .c .count) (l .inv .1 .1 .1) (at-if1 .if1 .taken) (at-packed-width .packed-width .result) (at-packed-width .packed-width .ensures .0) in
-    let z = one-put (fieldsFrom (now (a .types)) (now (a .message)) (a .p) (a .c .count - l .i) (before (a .c) (l .i) (l .at))) (l .k)
+    let z = one-put (fieldsFrom (now (a .types)) (now (a .message)) (a .p) (a .c .count - l .i) (cursorBefore (a .c) (l .i) (l .at))) (l .k)
     (l .out) _ _ (l .inv .1 .0) (l .inv .1 .1 .0) _ _ _
-    (fields-more (now (a .types)) (now (a .message)) (a .p) (before (a .c) (l .i) (l .at)) _ _ (at-if1 .if1 .taken) found) (at-put-field .put-field .ensures) in
+    (fields-more (now (a .types)) (now (a .message)) (a .p) (cursorBefore (a .c) (l .i) (l .at)) _ _ (at-if1 .if1 .taken) found) (at-put-field .put-field .ensures) in
     (search needs, (z .0, (z .1, fields-on (a .c .delta) (a .c .encoding) (now (a .types)) (now (a .message)) (a .c .count) (l .i) (l .at) (l .inv .1 .1 .1) (at-if1 .if1 .taken) found)))
 
 returns : tie.Need-returns Inv-loop μ-loop
@@ -110,8 +110,8 @@ returns c =
     let args = at-loop .before .before .before .before .args in
     let a = args in
     let l = at-loop .loop in
-    all-put (fieldsFrom (now (a .types)) (now (a .message)) (a .p) (a .c .count - l .i) (before (a .c) (l .i) (l .at))) (l .k) (l .out) _ _
-    (l .inv .1 .0) (l .inv .1 .1 .0) (fields-end (now (a .types)) (now (a .message)) (a .p) (before (a .c) (l .i) (l .at)) (c .if1 .left))
+    all-put (fieldsFrom (now (a .types)) (now (a .message)) (a .p) (a .c .count - l .i) (cursorBefore (a .c) (l .i) (l .at))) (l .k) (l .out) _ _
+    (l .inv .1 .0) (l .inv .1 .1 .0) (fields-end (now (a .types)) (now (a .message)) (a .p) (cursorBefore (a .c) (l .i) (l .at)) (c .if1 .left))
 
 pub walk-raw-spec : {M : Type 1} → statement M
 walk-raw-spec =

@@ -7,8 +7,8 @@ use lib.Dec.{eqb}
 use lib.ListN.{length, drop}
 use Prim.Native.Nat.{_≤_, _-_}
 use mathlib.Core.Path.{_≡_, refl, sym, _∙_}
+use Rattle.wire.specs.Lists.{total}
 use Rattle.dataset_fields.proofs.Judging.{total-step, total-stop, total-done}
-use Rattle.dataset_fields.specs.Fields.{total}
 use Rattle.dataset_fields.proofs.fields.add_up.Statement.{statement}
 use Rattle.dataset_fields.proofs.fields.add_up.Tie as tie
 

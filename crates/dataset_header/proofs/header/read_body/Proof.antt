@@ -3,7 +3,7 @@
 use Prim.Native.Nat.{_-_}
 use mathlib.Core.Path.{sym}
 use borrow.Author.Needs.{needs}
-use Rattle.dataset_header.specs.Header.{answerTimes, answerVersions}
+use Rattle.dataset_header.specs.Header.{answerMessageTimes, answerVersions}
 use Rattle.wire.proofs.Reading.{told}
 use Rattle.dataset_header.proofs.header.read_body.Statement.{statement}
 use Rattle.dataset_header.proofs.header.read_body.Tie as tie
@@ -12,7 +12,7 @@ returns : tie.Need-returns
 returns c =
     let at-number = c .before in
     let at-read-times = at-number .before .before in
-    rw (sym (told answerTimes (at-read-times .read-times .ensures) (at-number .number .given .1)))
+    rw (sym (told answerMessageTimes (at-read-times .read-times .ensures) (at-number .number .given .1)))
 
 returns-2 : tie.Need-returns-2
 returns-2 c =
@@ -20,7 +20,7 @@ returns-2 c =
     let at-read-versions = at-number2 .before .before in
     let at-t = at-read-versions .before .before in
     let at-read-times = at-t .before .before in
-    rw (sym (told answerTimes (at-read-times .read-times .ensures) (at-t .t .given .1)), sym (told answerVersions (at-read-versions .read-versions .ensures) (at-number2 .number2 .given .1)))
+    rw (sym (told answerMessageTimes (at-read-times .read-times .ensures) (at-t .t .given .1)), sym (told answerVersions (at-read-versions .read-versions .ensures) (at-number2 .number2 .given .1)))
 
 returns-3 : tie.Need-returns-3
 returns-3 c =
@@ -29,7 +29,7 @@ returns-3 c =
     let at-t = at-read-versions .before .before in
     let at-read-times = at-t .before .before in
     rw (
-      sym (told answerTimes (at-read-times .read-times .ensures) (at-t .t .given .1)),
+      sym (told answerMessageTimes (at-read-times .read-times .ensures) (at-t .t .given .1)),
       sym (told answerVersions (at-read-versions .read-versions .ensures) (at-v .v .given .1)),
       c .header-of .ensures,
     )

@@ -3,26 +3,26 @@
 use Prim.Native.Nat.{_-_}
 use mathlib.Core.Path.{sym}
 use borrow.Author.Needs.{needs}
-use Rattle.dataset_header.specs.Header.{answerHeader}
+use Rattle.dataset_header.specs.Header.{answerMessageHeader}
 use Rattle.wire.proofs.Reading.{told}
 use Rattle.dataset_message.proofs.message.read.Statement.{statement}
 use Rattle.dataset_message.proofs.message.read.Tie as tie
 
 returns : tie.Need-returns
 returns c =
-    rw (sym (told answerHeader (c .before .before .read-header .ensures) (c .enum-told .given .1)))
+    rw (sym (told answerMessageHeader (c .before .before .read-header .ensures) (c .enum-told .given .1)))
 
 returns-2 : tie.Need-returns-2
 returns-2 c =
     let at-n = c .before in
     let at-read-header = at-n .before .before in
-    rw (sym (told answerHeader (at-read-header .read-header .ensures) (at-n .n .given .1)))
+    rw (sym (told answerMessageHeader (at-read-header .read-header .ensures) (at-n .n .given .1)))
 
 returns-3 : tie.Need-returns-3
 returns-3 c =
     let at-header = c .before .before in
     let at-read-header = at-header .before .before in
-    rw (sym (told answerHeader (at-read-header .read-header .ensures) (at-header .header .given .1))) (c .read-body .ensures)
+    rw (sym (told answerMessageHeader (at-read-header .read-header .ensures) (at-header .header .given .1))) (c .read-body .ensures)
 
 pub read-spec : {M : Type 1} → statement M
 read-spec =

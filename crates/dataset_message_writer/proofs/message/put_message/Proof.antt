@@ -3,7 +3,7 @@
 use denote.Ref.{now}
 use borrow.Author.Needs.{needs}
 use Rattle.dataset_message_writer.proofs.Whole.{put-parts}
-use Rattle.dataset_message_writer.specs.Message.{given}
+use Rattle.dataset_message_writer.specs.Message.{givenMessage}
 use Rattle.dataset_message_writer.proofs.message.put_message.Statement.{statement}
 use Rattle.dataset_message_writer.proofs.message.put_message.Tie as tie
 
@@ -22,7 +22,7 @@ returns c =
     let at-has-fields = at-is-raw .before in
     let at-put-header = at-has-fields .before .before .before .before in
     let args = at-put-header .before .before .before .before .before .before .args in
-    put-parts (given (args .header) (args .heartbeat) (now (args .values)) (now (args .lengths)) (now (args .indices)) (args .padding)) _ _ _
+    put-parts (givenMessage (args .header) (args .heartbeat) (now (args .values)) (now (args .lengths)) (now (args .indices)) (args .padding)) _ _ _
     (at-has-fields .has-fields .ensures) (at-is-raw .is-raw .ensures) (at-is-delta .is-delta .ensures)
     (at-put-header .put-header .ensures) (at-put-count .put-count .ensures) (at-put-fields .put-fields .ensures) (at-put-zeros .put-zeros .ensures)
 

@@ -6,7 +6,7 @@ use mathlib.Core.Bool.{Bool, cond}
 use mathlib.Core.Path.{ap, _∙_}
 use borrow.Author.Needs.{needs}
 use Rattle.dataset_message_writer.proofs.Whole.{refusal-is}
-use Rattle.dataset_message_writer.specs.Message.{given, listsAgree}
+use Rattle.dataset_message_writer.specs.Message.{givenMessage, listsAgree}
 use Rattle.dataset_message_writer.proofs.message.refusal.Statement.{statement}
 use Rattle.dataset_message_writer.proofs.message.refusal.Tie as tie
 
@@ -22,7 +22,7 @@ returns c =
     let at-kind-rule = at-picoseconds-refusal .before in
     let args = at-kind-rule .before .before .before .before .before .args in
     refusal-is (now (args .types))
-    (given (args .header) (args .heartbeat) (now (args .values)) (now (args .lengths)) (now (args .indices)) (args .padding)) _ _ _ _ _ _ _
+    (givenMessage (args .header) (args .heartbeat) (now (args .values)) (now (args .lengths)) (now (args .indices)) (args .padding)) _ _ _ _ _ _ _
     (at-kind-rule .kind-rule .ensures) (at-picoseconds-refusal .picoseconds-refusal .ensures) (at-body-refusal .body-refusal .ensures)
     (at-six-unless .six-unless .ensures
     ∙ ap (λ (t : Bool). cond {A = ℕ} t 0 6)

@@ -9,17 +9,17 @@ use denote.Ref.{now}
 use borrow.Author.Needs.{needs}
 use native.Mathlib.Omega.{arith}
 use Rattle.dataset_header.specs.Flags.{isDelta}
-use Rattle.dataset_header.specs.Header.{headerBytes}
+use Rattle.dataset_header.specs.Header.{messageHeaderBytes}
 use Rattle.dataset_fields.proofs.Fitting.{fits-header}
 use Rattle.wire_writer.specs.Writing.{roomRefusal}
 use Rattle.wire_writer.proofs.Answering.{refused-by, no-room, written}
-use Rattle.dataset_message_writer.specs.Message.{Given, encode, refusalOf, given, isFielded, isRawData, sizeOf, limited, FitsGiven}
+use Rattle.dataset_message_writer.specs.Message.{GivenMessage, encode, messageRefusal, givenMessage, isFielded, isRawData, sizeOfGiven, limited, FitsGiven}
 use Rattle.dataset_message_writer.proofs.Whole.{accepted, size-told, limited-room, limited-fits}
 use Rattle.dataset_message_writer.proofs.message.write.Statement.{statement}
 use Rattle.dataset_message_writer.proofs.message.write.Tie as tie
 
 fitting : (c : tie.After-shared-slice-known3)
-    → FitsGiven (given (c .before .before .before .before .args .header) (c .before .before .before .before .args .heartbeat)
+    → FitsGiven (givenMessage (c .before .before .before .before .args .header) (c .before .before .before .before .args .heartbeat)
     (now (c .before .before .before .before .args .values)) (now (c .before .before .before .before .args .lengths))
     (now (c .before .before .before .before .args .indices)) (c .before .before .before .before .args .padding))
 fitting c =
@@ -30,9 +30,9 @@ fitting c =
     }
 
 -- what the size and its refusal say of the bytes of a message that is not refused
-module _ (types : List ℕ) (g : Given) (room k size full : ℕ) (f r d : Bool) (e : k ≡ refusalOf types g) (z : k ≡ 0) (ef : f ≡ isFielded g) (er : r ≡ isRawData g)
+module _ (types : List ℕ) (g : GivenMessage) (room k size full : ℕ) (f r d : Bool) (e : k ≡ messageRefusal types g) (z : k ≡ 0) (ef : f ≡ isFielded g) (er : r ≡ isRawData g)
     (ed : d ≡ isDelta (g .header .kind))
-    (s : size ≡ limited (sizeOf (length (headerBytes (g .header))) (f && not r) d (length (g .values)) (length (g .lengths)) (g .padding)))
+    (s : size ≡ limited (sizeOfGiven (length (messageHeaderBytes (g .header))) (f && not r) d (length (g .values)) (length (g .lengths)) (g .padding)))
     (q : full ≡ roomRefusal size room) where
   sized : size ≡ limited (length (encode g))
   sized = size-told types g f r d size (accepted types g (sym e ∙ z)) ef er ed s
@@ -48,9 +48,9 @@ returns c =
     let at-refusal = c .before in
     let at-start = at-refusal .before .before in
     let args = at-start .before .before .before .before .args in
-    let g = given (args .header) (args .heartbeat) (now (args .values)) (now (args .lengths)) (now (args .indices)) (args .padding) in (
+    let g = givenMessage (args .header) (args .heartbeat) (now (args .values)) (now (args .lengths)) (now (args .indices)) (args .padding) in (
       fitting at-start,
-      refused-by (refusalOf (now (args .types)) g) (encode g) (now (args .out)) (at-refusal .refusal .result) (at-refusal .refusal .ensures) (c .if1 .taken),
+      refused-by (messageRefusal (now (args .types)) g) (encode g) (now (args .out)) (at-refusal .refusal .result) (at-refusal .refusal .ensures) (c .if1 .taken),
     )
 
 returns-2 : tie.Need-returns-2
@@ -64,9 +64,9 @@ returns-2 c =
     let at-refusal = at-if1 .before in
     let at-start = at-refusal .before .before in
     let args = at-start .before .before .before .before .args in
-    let g = given (args .header) (args .heartbeat) (now (args .values)) (now (args .lengths)) (now (args .indices)) (args .padding) in (
+    let g = givenMessage (args .header) (args .heartbeat) (now (args .values)) (now (args .lengths)) (now (args .indices)) (args .padding) in (
       fitting at-start,
-      no-room (refusalOf (now (args .types)) g) (encode g) (now (args .out)) (sym (at-refusal .refusal .ensures) ∙ at-if1 .if1 .left) (at-room-refusal .room-refusal .result)
+      no-room (messageRefusal (now (args .types)) g) (encode g) (now (args .out)) (sym (at-refusal .refusal .ensures) ∙ at-if1 .if1 .left) (at-room-refusal .room-refusal .result)
           (full-is (now (args .types)) g (length (now (args .out))) (at-refusal .refusal .result) (at-size .size .result)
           (at-room-refusal .room-refusal .result) _ _ _ (at-refusal .refusal .ensures) (at-if1 .if1 .left) (at-has-fields .has-fields .ensures) (at-is-raw .is-raw .ensures)
           (at-is-delta .is-delta .ensures) (at-size .size .ensures) (at-room-refusal .room-refusal .ensures))
@@ -80,7 +80,7 @@ put-message-requires c κs =
     let at-refusal = at-if1 .before in
     let args = at-refusal .before .before .before .before .before .before .args in
     let a = accepted (now (args .types))
-    (given (args .header) (args .heartbeat) (now (args .values)) (now (args .lengths)) (now (args .indices)) (args .padding)) (sym (at-refusal .refusal .ensures) ∙ at-if1 .if1 .left) in a .adds
+    (givenMessage (args .header) (args .heartbeat) (now (args .values)) (now (args .lengths)) (now (args .indices)) (args .padding)) (sym (at-refusal .refusal .ensures) ∙ at-if1 .if1 .left) in a .adds
 
 returns-3 : tie.Need-returns-3
 returns-3 c =
@@ -95,9 +95,9 @@ returns-3 c =
     let at-refusal = at-if1 .before in
     let at-start = at-refusal .before .before in
     let args = at-start .before .before .before .before .args in
-    let g = given (args .header) (args .heartbeat) (now (args .values)) (now (args .lengths)) (now (args .indices)) (args .padding) in (
+    let g = givenMessage (args .header) (args .heartbeat) (now (args .values)) (now (args .lengths)) (now (args .indices)) (args .padding) in (
       fitting at-start,
-      written (refusalOf (now (args .types)) g) (encode g) (now (args .out)) (sym (at-refusal .refusal .ensures) ∙ at-if1 .if1 .left) (at-room-refusal .room-refusal .result)
+      written (messageRefusal (now (args .types)) g) (encode g) (now (args .out)) (sym (at-refusal .refusal .ensures) ∙ at-if1 .if1 .left) (at-room-refusal .room-refusal .result)
           (full-is (now (args .types)) g (length (now (args .out))) (at-refusal .refusal .result) (at-size .size .result)
           (at-room-refusal .room-refusal .result) _ _ _ (at-refusal .refusal .ensures) (at-if1 .if1 .left) (at-has-fields .has-fields .ensures) (at-is-raw .is-raw .ensures)
           (at-is-delta .is-delta .ensures) (at-size .size .ensures) (at-room-refusal .room-refusal .ensures))

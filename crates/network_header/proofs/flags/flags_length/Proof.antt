@@ -14,7 +14,8 @@ returns c =
     let at-announced = at-extended2-of .before in
     let at-extended1-of = at-announced .before in
     let args = at-extended1-of .before .args in (
-      flags-sized (args .f) (at-announced .announced .ensures .0 ∙ ap needed (at-extended1-of .extended1-of .ensures)) (c .announced2 .ensures .0 ∙ ap needed (at-extended2-of .extended2-of .ensures .0)),
+      flags-sized (args .f) (at-announced .announced .ensures .0 ∙ ap needed (at-extended1-of .extended1-of .ensures))
+          (c .announced2 .ensures .0 ∙ ap needed (at-extended2-of .extended2-of .ensures .0)),
       omega (arith, at-announced .announced .ensures .1, c .announced2 .ensures .1),
     )
 

@@ -25,7 +25,12 @@ returns-3 c =
     let at-read16 = at-v .before .before in
     let at-if1 = at-read16 .before in
     let args = at-if1 .before .before .args in
-    rw (not-false (args .on) (at-if1 .if1 .left), sym (told (answer16 (args .at)) (at-read16 .read16 .ensures) (at-v .v .given .1)), sym (at-number-rule .number-rule .ensures), ne-eqb _ _ (c .if2 .taken))
+    rw (
+      not-false (args .on) (at-if1 .if1 .left),
+      sym (told (answer16 (args .at)) (at-read16 .read16 .ensures) (at-v .v .given .1)),
+      sym (at-number-rule .number-rule .ensures),
+      ne-eqb _ _ (c .if2 .taken),
+    )
 
 returns-4 : tie.Need-returns-4
 returns-4 c =
@@ -34,7 +39,12 @@ returns-4 c =
     let at-read16 = at-v .before .before in
     let at-if1 = at-read16 .before in
     let args = at-if1 .before .before .args in
-    rw (not-false (args .on) (at-if1 .if1 .left), sym (told (answer16 (args .at)) (at-read16 .read16 .ensures) (at-v .v .given .1)), sym (at-number-rule .number-rule .ensures), eq-eqb _ _ (c .if2 .left))
+    rw (
+      not-false (args .on) (at-if1 .if1 .left),
+      sym (told (answer16 (args .at)) (at-read16 .read16 .ensures) (at-v .v .given .1)),
+      sym (at-number-rule .number-rule .ensures),
+      eq-eqb _ _ (c .if2 .left),
+    )
 
 pub message-number-spec : {M : Type 1} → statement M
 message-number-spec =

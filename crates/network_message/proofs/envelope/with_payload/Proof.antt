@@ -5,9 +5,9 @@ use mathlib.Core.Path.{_≡_}
 use mathlib.Core.Bool.{Bool, true}
 use mathlib.Core.List.{List}
 use native.Mathlib.Omega.{arith}
-use Rattle.network_message.specs.Payload.{isSingle, restAt, payloadAt}
+use Rattle.network_message.specs.Payload.{isSingle, restOnlyAt, payloadAt}
 use Rattle.network_header.specs.declared.header.PayloadHeader.{PayloadHeader}
-use Rattle.network_message.specs.Payload.{answerPayload}
+use Rattle.network_message.specs.Payload.{answerMessages}
 use Rattle.wire.proofs.Reading.{told}
 use denote.Ref.{now}
 use mathlib.Core.Path.{sym, _∙_}
@@ -15,7 +15,7 @@ use borrow.Author.Needs.{needs}
 use Rattle.network_message.proofs.envelope.with_payload.Statement.{statement}
 use Rattle.network_message.proofs.envelope.with_payload.Tie as tie
 
-single-rest : (chunk : Bool) (x : PayloadHeader) (sizes s : List ℕ) (at : ℕ) → isSingle x ≡ true → restAt s at ≡ payloadAt chunk x sizes s at
+single-rest : (chunk : Bool) (x : PayloadHeader) (sizes s : List ℕ) (at : ℕ) → isSingle x ≡ true → restOnlyAt s at ≡ payloadAt chunk x sizes s at
 single-rest chunk PayloadHeader.Absent sizes s at e = absurd (let z : _≡_ {A = ℕ} 0 1 = cc in omega arith)
 single-rest chunk (PayloadHeader.Ids n) sizes s at e = rw e
 single-rest chunk (PayloadHeader.Chunk w) sizes s at e = absurd (let z : _≡_ {A = ℕ} 0 1 = cc in omega arith)
@@ -33,13 +33,13 @@ returns-2 : tie.Need-returns-2
 returns-2 c =
     let at-number = c .before in
     let at-read-payload = at-number .before .before in
-    rw (sym (told answerPayload (at-read-payload .read-payload .ensures) (at-number .number .given .1)))
+    rw (sym (told answerMessages (at-read-payload .read-payload .ensures) (at-number .number .given .1)))
 
 returns-3 : tie.Need-returns-3
 returns-3 c =
     let at-payload = c .before in
     let at-read-payload = at-payload .before .before in
-    rw (sym (told answerPayload (at-read-payload .read-payload .ensures) (at-payload .payload .given .1)))
+    rw (sym (told answerMessages (at-read-payload .read-payload .ensures) (at-payload .payload .given .1)))
 
 pub with-payload-spec : {M : Type 1} → statement M
 with-payload-spec =

@@ -4,7 +4,8 @@ use Prim.Native.Nat.{_-_}
 use mathlib.Core.Path.{sym, _∙_, ap}
 use borrow.Author.Tests.{eq-eqb, ne-eqb}
 use borrow.Author.Needs.{needs}
-use Rattle.network_message.specs.Payload.{total, positive}
+use Rattle.wire.specs.Lists.{total}
+use Rattle.network_message.specs.Payload.{allPositive}
 use Rattle.network_message.proofs.payload.configured_sizes.Statement.{statement}
 use Rattle.network_message.proofs.payload.configured_sizes.Tie as tie
 
@@ -23,7 +24,7 @@ returns-2 c =
     rw (
       sym (at-writers .writers .ensures .0),
       ne-eqb _ _ (at-if1 .if1 .left),
-      sym (at-tally-configured .tally-configured .ensures .1 ∙ ap positive (at-writers .writers .ensures .3))
+      sym (at-tally-configured .tally-configured .ensures .1 ∙ ap allPositive (at-writers .writers .ensures .3))
           ∙ at-if2 .if2 .taken,
       sym (at-tally-configured .tally-configured .ensures .0 ∙ ap total (at-writers .writers .ensures .3)),
     ) (c .sized .ensures)
@@ -38,7 +39,7 @@ returns-3 c =
     rw (
       sym (at-writers .writers .ensures .0),
       ne-eqb _ _ (at-if1 .if1 .left),
-      sym (at-tally-configured .tally-configured .ensures .1 ∙ ap positive (at-writers .writers .ensures .3))
+      sym (at-tally-configured .tally-configured .ensures .1 ∙ ap allPositive (at-writers .writers .ensures .3))
           ∙ at-if2 .if2 .left,
       eq-eqb _ _ (at-if3 .if3 .taken),
     ) (c .rest .ensures)
@@ -52,7 +53,7 @@ returns-4 c =
     rw (
       sym (at-writers .writers .ensures .0),
       ne-eqb _ _ (at-if1 .if1 .left),
-      sym (at-tally-configured .tally-configured .ensures .1 ∙ ap positive (at-writers .writers .ensures .3))
+      sym (at-tally-configured .tally-configured .ensures .1 ∙ ap allPositive (at-writers .writers .ensures .3))
           ∙ at-if2 .if2 .left,
       ne-eqb _ _ (c .if3 .left),
     )

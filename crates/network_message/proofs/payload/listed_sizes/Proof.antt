@@ -7,7 +7,8 @@ use denote.Ref.{now}
 use lib.ListN.{length}
 use borrow.Author.Tests.{not-true, not-false, eq-eqb, ne-eqb}
 use borrow.Author.Needs.{needs}
-use Rattle.network_message.specs.Payload.{total, positive, listed}
+use Rattle.wire.specs.Lists.{total}
+use Rattle.network_message.specs.Payload.{listed}
 use Rattle.wire.proofs.Reading.{lacks, holds, room}
 use Rattle.network_message.proofs.payload.listed_sizes.Statement.{statement}
 use Rattle.network_message.proofs.payload.listed_sizes.Tie as tie

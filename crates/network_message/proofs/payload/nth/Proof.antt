@@ -5,7 +5,7 @@ use mathlib.Core.Path.{_≡_, sym, ap}
 use native.Mathlib.Omega.{arith}
 use denote.Ref.{now}
 use borrow.Author.Needs.{needs}
-use Rattle.network_message.specs.Payload.{answerMessage, messageAt, passAt}
+use Rattle.network_message.specs.Payload.{answerPlace, placeOfMessage, passAt}
 use Rattle.network_message.proofs.Messages.{pass-none, pass-step, pass-stop}
 use Rattle.wire.specs.Answer.{got, andThen}
 use Rattle.wire.proofs.Reading.{told}
@@ -29,9 +29,9 @@ returns c =
     let at-loop-test = at-message-at .before in
     let at-loop = at-loop-test .before in
     let args = at-loop .before .before .before .args in
-    sym (ap (λ r. andThen r (λ _ q. messageAt (args .p) (now (args .sizes)) (args .k) (now (args .s)) q))
+    sym (ap (λ r. andThen r (λ _ q. placeOfMessage (args .p) (now (args .sizes)) (args .k) (now (args .s)) q))
     (pass-stop (args .p) (now (args .sizes)) (now (args .s)) (args .p .first) (at-loop .loop .i) (args .k) (at-loop .loop .at) _ _
-    (at-loop-test .loop-test .taken) (at-loop .loop .inv .1) (sym (told answerMessage (at-message-at .message-at .ensures) (at-number .number .given .1)))))
+    (at-loop-test .loop-test .taken) (at-loop .loop .inv .1) (sym (told answerPlace (at-message-at .message-at .ensures) (at-number .number .given .1)))))
 
 loop-again : tie.Need-loop-again Inv-loop μ-loop
 loop-again c =
@@ -41,7 +41,7 @@ loop-again c =
     let args = at-loop .before .before .before .args in (
       omega arith,
       pass-step (args .p) (now (args .sizes)) (now (args .s)) (args .p .first) (at-loop .loop .i) (at-loop .loop .at) _ _
-          (at-loop .loop .inv .1) (sym (told answerMessage (at-message-at .message-at .ensures) (at-next .next .given .1))),
+          (at-loop .loop .inv .1) (sym (told answerPlace (at-message-at .message-at .ensures) (at-next .next .given .1))),
     )
 
 returns-2 : tie.Need-returns-2 Inv-loop μ-loop

@@ -7,7 +7,7 @@ use denote.Ref.{now}
 use lib.ListN.{length}
 use borrow.Author.Tests.{leb-false, eq-eqb, ne-eqb}
 use borrow.Author.Needs.{needs}
-use Rattle.network_message.specs.Payload.{total}
+use Rattle.wire.specs.Lists.{total}
 use Rattle.wire.proofs.Reading.{lacks, room}
 use Rattle.network_message.proofs.payload.sized.Statement.{statement}
 use Rattle.network_message.proofs.payload.sized.Tie as tie

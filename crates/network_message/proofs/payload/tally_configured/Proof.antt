@@ -8,14 +8,15 @@ use denote.Ref.{now}
 use lib.Dec.{ltb}
 use lib.ListN.{length, take, getD}
 use borrow.Author.Needs.{needs}
-use Rattle.network_message.specs.Payload.{total, positive}
+use Rattle.wire.specs.Lists.{total}
+use Rattle.network_message.specs.Payload.{allPositive}
 use Rattle.network_message.proofs.Tallies.{total-next, positive-next}
 use Rattle.network_message.proofs.payload.tally_configured.Statement.{statement}
 use Rattle.network_message.proofs.payload.tally_configured.Tie as tie
 
 abbrev Inv-loop : tie.InvT-loop
 Inv-loop sizes n i₀ sum₀ each₀ i sum each =
-    (i ≤ n) × (n ≤ length sizes) × (n ≤ 16) × (sum ≡ total (take i sizes)) × (each ≡ positive (take i sizes)) × (sum ≤ 65535 * i)
+    (i ≤ n) × (n ≤ length sizes) × (n ≤ 16) × (sum ≡ total (take i sizes)) × (each ≡ allPositive (take i sizes)) × (sum ≤ 65535 * i)
 
 abbrev μ-loop : tie.MeasureT-loop
 μ-loop sizes n i₀ sum₀ each₀ i sum each = n - i
@@ -41,7 +42,7 @@ loop-again c =
 returns : tie.Need-returns Inv-loop μ-loop
 returns c =
     let l = c .before .loop in let e : l .i ≡ c .before .before .args .n = omega arith in let s = now (c .before .before .args .sizes) in
-    (l .inv .3 ∙ ap (λ (k : ℕ). total (take k s)) e, l .inv .4 ∙ ap (λ (k : ℕ). positive (take k s)) e, omega arith)
+    (l .inv .3 ∙ ap (λ (k : ℕ). total (take k s)) e, l .inv .4 ∙ ap (λ (k : ℕ). allPositive (take k s)) e, omega arith)
 
 pub tally-configured-spec : {M : Type 1} → statement M
 tally-configured-spec =

@@ -10,7 +10,8 @@ use denote.Ref.{now}
 use lib.Dec.{ltb}
 use lib.ListN.{length}
 use borrow.Author.Needs.{needs}
-use Rattle.network_message.specs.Payload.{total, positive, listed}
+use Rattle.wire.specs.Lists.{total}
+use Rattle.network_message.specs.Payload.{allPositive, listed}
 use Rattle.network_message.proofs.Tallies.{listed-step, listed-done}
 use Rattle.wire.specs.Number.{le}
 use Rattle.network_message.proofs.payload.tally_listed.Statement.{statement}
@@ -19,7 +20,7 @@ use Rattle.network_message.proofs.payload.tally_listed.Tie as tie
 abbrev Inv-loop : tie.InvT-loop
 Inv-loop s at n p₀ left₀ sum₀ each₀ p left sum each =
     (left ≤ n) × (p + 2 * left ≡ at + 2 * n) × (at + 2 * n ≤ length s) × (n ≤ 255) × (sum + total (listed left s p) ≡ total (listed n s at))
-    × ((each && positive (listed left s p)) ≡ positive (listed n s at)) × (sum + 65535 * left ≤ 65535 * n)
+    × ((each && allPositive (listed left s p)) ≡ allPositive (listed n s at)) × (sum + 65535 * left ≤ 65535 * n)
 
 abbrev μ-loop : tie.MeasureT-loop
 μ-loop s at n p₀ left₀ sum₀ each₀ p left sum each = left
@@ -39,8 +40,8 @@ loop-again c =
       omega arith,
       omega arith,
       omega (arith, ap total e, c .number-at .ensures .0, l .inv .4),
-      ap (λ (k : ℕ). (l .each && ltb 0 k) && positive (listed (l .left - 1) s (l .p + 2))) (c .number-at .ensures .0)
-          ∙ and-assoc (l .each) (ltb 0 (le 2 s (l .p))) (positive (listed (l .left - 1) s (l .p + 2))) ∙ ap (λ (x : List ℕ). l .each && positive x) (sym e) ∙ l .inv .5,
+      ap (λ (k : ℕ). (l .each && ltb 0 k) && allPositive (listed (l .left - 1) s (l .p + 2))) (c .number-at .ensures .0)
+          ∙ and-assoc (l .each) (ltb 0 (le 2 s (l .p))) (allPositive (listed (l .left - 1) s (l .p + 2))) ∙ ap (λ (x : List ℕ). l .each && allPositive x) (sym e) ∙ l .inv .5,
       omega arith,
     )
 
@@ -49,7 +50,7 @@ returns c =
     let at-loop = c .before in
     let args = at-loop .before .before .args in
     let s = now (args .s) in let l = at-loop .loop in let e = listed-done (l .left) s (l .p) (c .loop-test .left) in
-    (omega (arith, ap total e, l .inv .4), sym (and-true (l .each)) ∙ ap (λ (x : List ℕ). l .each && positive x) (sym e) ∙ l .inv .5, omega arith)
+    (omega (arith, ap total e, l .inv .4), sym (and-true (l .each)) ∙ ap (λ (x : List ℕ). l .each && allPositive x) (sym e) ∙ l .inv .5, omega arith)
 
 pub tally-listed-spec : {M : Type 1} → statement M
 tally-listed-spec =

@@ -1,7 +1,7 @@
 -- `network_message_writer::envelope::datagram_size` meets its contract.
 -- Assumes nothing.
 use Rattle.network_message_writer.proofs.Sizes.{datagram-sized}
-use Rattle.network_message_writer.specs.Envelope.{given}
+use Rattle.network_message_writer.specs.Envelope.{givenDatagram}
 use denote.Ref.{now}
 use native.Mathlib.Omega.{arith}
 use borrow.Author.Needs.{needs}
@@ -20,7 +20,7 @@ returns : tie.Need-returns
 returns c =
     let at-header-size = c .before in
     let args = at-header-size .before .before .before .before .before .before .args in
-    datagram-sized (given (now (args .text)) (now (args .ids)) (now (args .promoted)) (now (args .lengths)) (now (args .messages)))
+    datagram-sized (givenDatagram (now (args .text)) (now (args .ids)) (now (args .promoted)) (now (args .lengths)) (now (args .messages)))
     (args .x) (at-header-size .header-size .ensures .0) (c .list-size .ensures .0)
 
 pub datagram-size-spec : {M : Type 1} → statement M

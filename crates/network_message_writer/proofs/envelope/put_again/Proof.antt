@@ -1,7 +1,7 @@
 -- `network_message_writer::envelope::put_again` meets its contract.
 -- Assumes nothing.
 use Rattle.network_message_writer.proofs.Sizes.{payload-sized}
-use Rattle.network_message_writer.specs.Envelope.{headerBytes}
+use Rattle.network_message_writer.specs.Envelope.{envelopeBytes}
 use Rattle.wire_writer.proofs.Answering.{no-room, written}
 use Rattle.wire_writer.proofs.Putting.{puts, then}
 use Rattle.wire_writer.specs.Writing.{roomRefusal}
@@ -19,7 +19,7 @@ returns c =
     let at-room-refusal = c .before in
     let at-header-size = at-room-refusal .before in
     let args = at-header-size .before .before .before .before .before .before .args in
-    let h = headerBytes (now (args .text)) (now (args .ids)) (now (args .promoted)) (args .x) in
+    let h = envelopeBytes (now (args .text)) (now (args .ids)) (now (args .promoted)) (args .x) in
     let e = payload-sized h (now (args .payload)) (at-header-size .header-size .ensures .0) in
     no-room 0 (h ++ now (args .payload)) (now (args .out)) refl (at-room-refusal .room-refusal .result)
     (at-room-refusal .room-refusal .ensures ∙ ap (λ (n : ℕ). roomRefusal n (length (now (args .out)))) e) (c .if1 .taken)
@@ -32,7 +32,7 @@ returns-2 c =
     let at-room-refusal = at-if1 .before in
     let at-header-size = at-room-refusal .before in
     let args = at-header-size .before .before .before .before .before .before .args in
-    let h = headerBytes (now (args .text)) (now (args .ids)) (now (args .promoted)) (args .x) in
+    let h = envelopeBytes (now (args .text)) (now (args .ids)) (now (args .promoted)) (args .x) in
     let e = payload-sized h (now (args .payload)) (at-header-size .header-size .ensures .0) in
     written 0 (h ++ now (args .payload)) (now (args .out)) refl (at-room-refusal .room-refusal .result)
     (at-room-refusal .room-refusal .ensures ∙ ap (λ (n : ℕ). roomRefusal n (length (now (args .out)))) e) (at-if1 .if1 .left) _ _ _ e

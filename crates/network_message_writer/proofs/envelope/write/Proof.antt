@@ -2,7 +2,7 @@
 -- Assumes nothing.
 use Rattle.network_message_writer.proofs.Short.{all-short}
 use Rattle.wire_writer.proofs.Parts.{or-as}
-use Rattle.network_message_writer.specs.Envelope.{given, datagramOf, refusalOf}
+use Rattle.network_message_writer.specs.Envelope.{givenDatagram, datagramOf, datagramRefusal}
 use Rattle.wire_writer.proofs.Answering.{refused-by, no-room, written}
 use Rattle.wire_writer.specs.Writing.{roomRefusal}
 use lib.ListN.{length}
@@ -20,9 +20,9 @@ returns c =
     let at-shape-refusal = at-or-else .before in
     let at-reading-refusal = at-shape-refusal .before in
     let args = at-reading-refusal .before .before .before .before .before .before .before .before .before .args in
-    let g = given (now (args .text)) (now (args .ids)) (now (args .promoted)) (now (args .lengths)) (now (args .messages)) in
+    let g = givenDatagram (now (args .text)) (now (args .ids)) (now (args .promoted)) (now (args .lengths)) (now (args .messages)) in
     let refusal = or-as (at-or-else .or-else .ensures) (at-reading-refusal .reading-refusal .ensures) (at-shape-refusal .shape-refusal .ensures) in
-    refused-by (refusalOf g (args .x) (now (args .sizes)) (now (args .configured))) (datagramOf g (args .x)) (now (args .out))
+    refused-by (datagramRefusal g (args .x) (now (args .sizes)) (now (args .configured))) (datagramOf g (args .x)) (now (args .out))
     (at-or-else .or-else .result) refusal (c .if1 .taken)
 
 datagram-size-requires : tie.Need-datagram-size-requires
@@ -32,7 +32,7 @@ datagram-size-requires c κs =
     let at-shape-refusal = at-or-else .before in
     let at-reading-refusal = at-shape-refusal .before in
     let args = at-reading-refusal .before .before .before .before .before .before .before .before .before .args in
-    let g = given (now (args .text)) (now (args .ids)) (now (args .promoted)) (now (args .lengths)) (now (args .messages)) in
+    let g = givenDatagram (now (args .text)) (now (args .ids)) (now (args .promoted)) (now (args .lengths)) (now (args .messages)) in
     let refusal = or-as (at-or-else .or-else .ensures) (at-reading-refusal .reading-refusal .ensures) (at-shape-refusal .shape-refusal .ensures) in
     all-short g (args .x) (now (args .sizes)) (now (args .configured)) (sym refusal ∙ c .if1 .left)
 
@@ -45,12 +45,12 @@ returns-2 c =
     let at-shape-refusal = at-or-else .before in
     let at-reading-refusal = at-shape-refusal .before in
     let args = at-reading-refusal .before .before .before .before .before .before .before .before .before .args in
-    let g = given (now (args .text)) (now (args .ids)) (now (args .promoted)) (now (args .lengths)) (now (args .messages)) in
+    let g = givenDatagram (now (args .text)) (now (args .ids)) (now (args .promoted)) (now (args .lengths)) (now (args .messages)) in
     let refusal = or-as (at-or-else .or-else .ensures) (at-reading-refusal .reading-refusal .ensures) (at-shape-refusal .shape-refusal .ensures) in
     let room = length (now (args .out)) in
     let size = at-datagram-size .datagram-size .ensures in
     let full = at-room-refusal .room-refusal .ensures ∙ ap (λ (n : ℕ). roomRefusal n room) size in
-    no-room (refusalOf g (args .x) (now (args .sizes)) (now (args .configured))) (datagramOf g (args .x)) (now (args .out))
+    no-room (datagramRefusal g (args .x) (now (args .sizes)) (now (args .configured))) (datagramOf g (args .x)) (now (args .out))
     (sym refusal ∙ at-if1 .if1 .left) (at-room-refusal .room-refusal .result) full (c .if2 .taken)
 
 returns-3 : tie.Need-returns-3
@@ -64,12 +64,12 @@ returns-3 c =
     let at-shape-refusal = at-or-else .before in
     let at-reading-refusal = at-shape-refusal .before in
     let args = at-reading-refusal .before .before .before .before .before .before .before .before .before .args in
-    let g = given (now (args .text)) (now (args .ids)) (now (args .promoted)) (now (args .lengths)) (now (args .messages)) in
+    let g = givenDatagram (now (args .text)) (now (args .ids)) (now (args .promoted)) (now (args .lengths)) (now (args .messages)) in
     let refusal = or-as (at-or-else .or-else .ensures) (at-reading-refusal .reading-refusal .ensures) (at-shape-refusal .shape-refusal .ensures) in
     let room = length (now (args .out)) in
     let size = at-datagram-size .datagram-size .ensures in
     let full = at-room-refusal .room-refusal .ensures ∙ ap (λ (n : ℕ). roomRefusal n room) size in
-    written (refusalOf g (args .x) (now (args .sizes)) (now (args .configured))) (datagramOf g (args .x)) (now (args .out))
+    written (datagramRefusal g (args .x) (now (args .sizes)) (now (args .configured))) (datagramOf g (args .x)) (now (args .out))
     (sym refusal ∙ at-if1 .if1 .left) (at-room-refusal .room-refusal .result) full (at-if2 .if2 .left) (at-datagram-size .datagram-size .result) _ _ size
     (at-put-datagram .put-datagram .ensures)
 

@@ -1,7 +1,7 @@
 -- `network_message_writer::payload::payload_number` meets its contract.
 -- Assumes nothing.
-use Rattle.network_message_writer.specs.Payload.{numberIn}
-use Rattle.network_message.specs.Payload.{answerPayload}
+use Rattle.network_message_writer.specs.Payload.{refusalNumber}
+use Rattle.network_message.specs.Payload.{answerMessages}
 use Rattle.wire.proofs.Reading.{told}
 use mathlib.Core.Path.{ap}
 use borrow.Author.Needs.{needs}
@@ -10,13 +10,13 @@ use Rattle.network_message_writer.proofs.payload.payload_number.Tie as 
 
 returns : tie.Need-returns
 returns c =
-    ap numberIn (told answerPayload (c .before .before .read-payload .ensures) (c .enum-told .given .1))
+    ap refusalNumber (told answerMessages (c .before .before .read-payload .ensures) (c .enum-told .given .1))
 
 returns-2 : tie.Need-returns-2
 returns-2 c =
     let at-number = c .before in
     let at-read-payload = at-number .before .before in
-    ap numberIn (told answerPayload (at-read-payload .read-payload .ensures) (at-number .number .given .1))
+    ap refusalNumber (told answerMessages (at-read-payload .read-payload .ensures) (at-number .number .given .1))
 
 pub payload-number-spec : {M : Type 1} → statement M
 payload-number-spec =

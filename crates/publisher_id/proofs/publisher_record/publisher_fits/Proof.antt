@@ -6,7 +6,6 @@ use mathlib.Core.Bool.{Bool, true, false, not}
 use lib.Dec.{leb, ltb}
 use borrow.Author.Tests.{leb-true, leb-false, le-ltb, lt-ltb}
 use borrow.Author.Needs.{needs}
-use Rattle.publisher_id.specs.Publisher.{textTooLong}
 use Rattle.publisher_id.specs.PublisherRecord.{publisherFits}
 use Rattle.publisher_id.proofs.publisher_record.publisher_fits.Statement.{statement}
 use Rattle.publisher_id.proofs.publisher_record.publisher_fits.Tie as tie

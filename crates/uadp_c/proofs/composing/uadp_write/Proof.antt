@@ -1,7 +1,7 @@
 -- `uadp_c::composing::uadp_write` meets its contract.
 -- Assumes nothing.
 use Rattle.uadp_c.proofs.Wrote.{of-writers, datagram-output, wrote}
-use Rattle.network_message_writer.specs.Envelope.{given}
+use Rattle.network_message_writer.specs.Envelope.{givenDatagram}
 use denote.Ref.{now}
 use borrow.Author.Needs.{needs}
 use Rattle.uadp_c.proofs.composing.uadp_write.Statement.{statement}
@@ -19,7 +19,7 @@ returns c =
     let args = at-envelope-in .before .before .before .before .before .before .before .before .before .args in
     wrote (now (args .out)) _ _ _ (at-write .write .result) _
     (datagram-output (now (args .config)) (now (args .envelope)) _ _
-    (given (now (args .text)) (now (args .ids)) (now (args .promoted)) (now (args .lengths)) (now (args .messages)))
+    (givenDatagram (now (args .text)) (now (args .ids)) (now (args .promoted)) (now (args .lengths)) (now (args .messages)))
     (at-envelope-in .envelope-in .result) (at-envelope-in .envelope-in .ensures)
     (of-writers 34 (now (args .config)) _ _ _ (at-writer-count .writer-count .ensures .0) (at-sizes .sizes .ensures) (at-first .first .ensures))
     (of-writers 2 (now (args .config)) _ _ _ (at-writer-count .writer-count .ensures .0) (at-ids .ids .ensures) (at-first2 .first2 .ensures)))

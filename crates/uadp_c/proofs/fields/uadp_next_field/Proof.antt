@@ -1,5 +1,5 @@
 use Rattle.uadp_c.proofs.Stepping.{stepped, step-refused, step-no-head, step-no-field, step-done}
-use Rattle.dataset_fields.specs.Fields.{answerStep}
+use Rattle.dataset_fields.specs.Fields.{answerFieldStep}
 use Rattle.wire.proofs.Reading.{told}
 use native.Mathlib.Omega.{arith}
 use denote.Ref.{now}
@@ -17,7 +17,7 @@ returns c =
     let args = at-cursor-in .before .before .before .before .before .before .args in
     step-no-head _ (now (args .head)) (now (args .field)) _ _ _ _
     (stepped (now (args .config)) (now (args .message)) _ (now (args .head)) (args .writer) _ _ (at-types-for .types-for .ensures)
-    (at-cursor-in .cursor-in .ensures) (told answerStep (at-step .step .ensures) (at-f .f .given .1))) (omega arith) (c .result2 .ensures)
+    (at-cursor-in .cursor-in .ensures) (told answerFieldStep (at-step .step .ensures) (at-f .f .given .1))) (omega arith) (c .result2 .ensures)
 
 -- src/fields.rt:82:17
 returns-2 : tie.Need-returns-2
@@ -29,7 +29,7 @@ returns-2 c =
     let args = at-cursor-in .before .before .before .before .before .before .args in
     step-no-field _ (now (args .head)) (now (args .field)) _ _ _ _
     (stepped (now (args .config)) (now (args .message)) _ (now (args .head)) (args .writer) _ _ (at-types-for .types-for .ensures)
-    (at-cursor-in .cursor-in .ensures) (told answerStep (at-step .step .ensures) (at-f .f .given .1))) (omega arith) (omega arith) (c .result3 .ensures)
+    (at-cursor-in .cursor-in .ensures) (told answerFieldStep (at-step .step .ensures) (at-f .f .given .1))) (omega arith) (omega arith) (c .result3 .ensures)
 
 -- src/fields.rt:64:1
 returns-3 : tie.Need-returns-3
@@ -41,7 +41,7 @@ returns-3 c =
     let args = at-cursor-in .before .before .before .before .before .before .args in
     step-refused _ (now (args .head)) (now (args .field)) _ _ _
     (stepped (now (args .config)) (now (args .message)) _ (now (args .head)) (args .writer) _ _ (at-types-for .types-for .ensures)
-    (at-cursor-in .cursor-in .ensures) (told answerStep (at-step .step .ensures) (at-n .n .given .1))) (c .result .ensures)
+    (at-cursor-in .cursor-in .ensures) (told answerFieldStep (at-step .step .ensures) (at-n .n .given .1))) (c .result .ensures)
 
 -- src/fields.rt:64:1
 returns-4 : tie.Need-returns-4
@@ -57,7 +57,7 @@ returns-4 c =
     let args = at-cursor-in .before .before .before .before .before .before .args in
     step-done _ (now (args .head)) (now (args .field)) _ _ _ _ _ _
     (stepped (now (args .config)) (now (args .message)) _ (now (args .head)) (args .writer) _ _ (at-types-for .types-for .ensures)
-    (at-cursor-in .cursor-in .ensures) (told answerStep (at-step .step .ensures) (at-f .f .given .1)))
+    (at-cursor-in .cursor-in .ensures) (told answerFieldStep (at-step .step .ensures) (at-f .f .given .1)))
     (omega (arith, at-if1 .if1 .left)) (omega (arith, at-if2 .if2 .left)) (c .result4 .ensures) (at-put-cursor .put-cursor .ensures) (at-put-field .put-field .ensures)
 
 pub uadp-next-field-spec : {M : Type 1} → statement M

@@ -1,6 +1,6 @@
 use Rattle.uadp_c.proofs.Walking.{walk-refused, walk-no-envelope, walk-no-place, walk-done}
 use Rattle.uadp_c.specs.Messages.{writerAt}
-use Rattle.network_message.specs.Payload.{answerStep}
+use Rattle.network_message.specs.Payload.{answerPlaceStep}
 use Rattle.wire.proofs.Reading.{told}
 use native.Mathlib.Omega.{arith}
 use denote.Ref.{now}
@@ -15,7 +15,7 @@ returns c =
     let at-step = at-m .before .before in
     let args = at-step .before .before .before .before .before .before .args in
     walk-no-envelope (writerAt (now (args .config)) (now (args .envelope)) (now (args .datagram))) _ (now (args .envelope))
-    (now (args .place)) _ _ _ _ (told answerStep (at-step .step .ensures) (at-m .m .given .1)) (omega arith) (c .result2 .ensures)
+    (now (args .place)) _ _ _ _ (told answerPlaceStep (at-step .step .ensures) (at-m .m .given .1)) (omega arith) (c .result2 .ensures)
 
 -- src/messages.rt:77:17
 returns-2 : tie.Need-returns-2
@@ -24,7 +24,7 @@ returns-2 c =
     let at-step = at-m .before .before in
     let args = at-step .before .before .before .before .before .before .args in
     walk-no-place (writerAt (now (args .config)) (now (args .envelope)) (now (args .datagram))) _ (now (args .envelope))
-    (now (args .place)) _ _ _ _ (told answerStep (at-step .step .ensures) (at-m .m .given .1)) (omega arith) (omega arith) (c .result3 .ensures)
+    (now (args .place)) _ _ _ _ (told answerPlaceStep (at-step .step .ensures) (at-m .m .given .1)) (omega arith) (omega arith) (c .result3 .ensures)
 
 -- src/messages.rt:66:1
 returns-3 : tie.Need-returns-3
@@ -33,7 +33,7 @@ returns-3 c =
     let at-step = at-number .before .before in
     let args = at-step .before .before .before .before .before .before .args in
     walk-refused (writerAt (now (args .config)) (now (args .envelope)) (now (args .datagram))) _ (now (args .envelope))
-    (now (args .place)) _ _ _ (told answerStep (at-step .step .ensures) (at-number .number .given .1)) (c .result .ensures)
+    (now (args .place)) _ _ _ (told answerPlaceStep (at-step .step .ensures) (at-number .number .given .1)) (c .result .ensures)
 
 -- src/messages.rt:66:1
 returns-4 : tie.Need-returns-4
@@ -45,7 +45,7 @@ returns-4 c =
     let at-step = at-m .before .before in
     let args = at-step .before .before .before .before .before .before .args in
     walk-done (writerAt (now (args .config)) (now (args .envelope)) (now (args .datagram))) _ (now (args .envelope))
-    (now (args .place)) _ _ _ _ _ _ _ (told answerStep (at-step .step .ensures) (at-m .m .given .1)) (omega arith) (omega arith)
+    (now (args .place)) _ _ _ _ _ _ _ (told answerPlaceStep (at-step .step .ensures) (at-m .m .given .1)) (omega arith) (omega arith)
     (c .result4 .ensures) (at-writer-at .writer-at .ensures) (at-put-messages .put-messages .ensures) (at-put-place .put-place .ensures)
 
 pub uadp-next-message-spec : {M : Type 1} → statement M

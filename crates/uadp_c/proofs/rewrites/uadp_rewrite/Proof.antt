@@ -1,7 +1,7 @@
 -- `uadp_c::rewrites::uadp_rewrite` meets its contract.
 -- Assumes nothing.
 use Rattle.uadp_c.proofs.Wrote.{of-writers, wrote}
-use Rattle.rewriting.specs.Same.{sameDatagram}
+use Rattle.rewriting.specs.Same.{datagramSame}
 use mathlib.Core.Path.{ap}
 use mathlib.Core.List.{List}
 use Prim.Native.Nat.{ℕ}
@@ -18,7 +18,7 @@ returns c =
     let at-writer-count = at-sizes .before in
     let args = at-writer-count .before .before .before .before .args in
     wrote (now (args .out)) _ _ _ (at-rewrite-datagram .rewrite-datagram .result) _
-    (ap (λ (y : List ℕ). sameDatagram y (now (args .datagram)))
+    (ap (λ (y : List ℕ). datagramSame y (now (args .datagram)))
     (of-writers 34 (now (args .config)) _ _ _ (at-writer-count .writer-count .ensures .0) (at-sizes .sizes .ensures) (at-first .first .ensures)))
     (at-rewrite-datagram .rewrite-datagram .ensures) (c .written-result .ensures)
 

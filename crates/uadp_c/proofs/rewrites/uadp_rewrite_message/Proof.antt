@@ -1,7 +1,7 @@
 -- `uadp_c::rewrites::uadp_rewrite_message` meets its contract.
 -- Assumes nothing.
 use Rattle.uadp_c.proofs.Wrote.{wrote}
-use Rattle.rewriting.specs.Same.{sameMessage}
+use Rattle.rewriting.specs.Same.{messageSame}
 use mathlib.Core.Path.{ap}
 use mathlib.Core.List.{List}
 use Prim.Native.Nat.{ℕ}
@@ -16,7 +16,7 @@ returns c =
     let at-types-for = at-rewrite-message .before .before in
     let args = at-types-for .before .before .before .before .args in
     wrote (now (args .out)) _ _ _ (at-rewrite-message .rewrite-message .result) _
-    (ap (λ (y : List ℕ). sameMessage y (now (args .message))) (at-types-for .types-for .ensures))
+    (ap (λ (y : List ℕ). messageSame y (now (args .message))) (at-types-for .types-for .ensures))
     (at-rewrite-message .rewrite-message .ensures) (c .written-result .ensures)
 
 pub uadp-rewrite-message-spec : {M : Type 1} → statement M

@@ -3,7 +3,7 @@
 use Rattle.walk.proofs.Listing.{field-passed, offset-fits}
 use native.Mathlib.Omega.{arith}
 use denote.Ref.{now}
-use Rattle.dataset_fields.specs.Fields.{answerStep}
+use Rattle.dataset_fields.specs.Fields.{answerFieldStep}
 use Rattle.wire.proofs.Reading.{told}
 use mathlib.Core.Path.{sym}
 use borrow.Author.Needs.{needs}
@@ -23,7 +23,7 @@ add-t20 c =
           (field-passed (c .before .before .before .before .before .before .before .before .before .before .before .before .before .before .args .f)
           (now (c .before .before .before .before .before .before .types-of .result))
           (now (c .before .before .before .before .before .before .before .part .result)) _ _
-          (sym (told answerStep (c .before .before .before .before .before .step .ensures) (c .before .before .before .x .given .1))) .offset),
+          (sym (told answerFieldStep (c .before .before .before .before .before .step .ensures) (c .before .before .before .x .given .1))) .offset),
     )
 
 returns : tie.Need-returns
@@ -33,7 +33,12 @@ returns c =
     let at-types-of = at-step .before in
     let at-part = at-types-of .before in
     let at-writer-id = at-part .before in
-    rw (sym (at-writer-id .writer-id .ensures), sym (at-types-of .types-of .ensures), sym (at-part .part .ensures), sym (told answerStep (at-step .step .ensures) (at-enum-told .enum-told .given .1)))
+    rw (
+      sym (at-writer-id .writer-id .ensures),
+      sym (at-types-of .types-of .ensures),
+      sym (at-part .part .ensures),
+      sym (told answerFieldStep (at-step .step .ensures) (at-enum-told .enum-told .given .1)),
+    )
     (c .message-line .ensures)
 
 returns-2 : tie.Need-returns-2
@@ -43,7 +48,7 @@ returns-2 c =
     let at-types-of = at-step .before in
     let at-part = at-types-of .before in
     let at-writer-id = at-part .before in
-    rw (sym (at-writer-id .writer-id .ensures), sym (at-types-of .types-of .ensures), sym (at-part .part .ensures), sym (told answerStep (at-step .step .ensures) (at-x .x .given .1)))
+    rw (sym (at-writer-id .writer-id .ensures), sym (at-types-of .types-of .ensures), sym (at-part .part .ensures), sym (told answerFieldStep (at-step .step .ensures) (at-x .x .given .1)))
 
 pub field-line-spec : {M : Type 1} → statement M
 field-line-spec =

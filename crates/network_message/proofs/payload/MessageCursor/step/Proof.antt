@@ -5,7 +5,7 @@ use mathlib.Core.Path.{sym}
 use native.Mathlib.Omega.{arith}
 use denote.Ref.{now}
 use borrow.Author.Needs.{needs}
-use Rattle.network_message.specs.Payload.{answerMessage}
+use Rattle.network_message.specs.Payload.{answerPlace}
 use Rattle.network_message.proofs.Messages.{message-counted}
 use Rattle.wire.proofs.Reading.{told}
 use Rattle.network_message.proofs.payload.MessageCursor.step.Statement.{statement}
@@ -19,20 +19,20 @@ add-t12 c =
           (now (c .before .before .before .before .before .before .args .sizes))
           (c .before .before .before .before .before .before .args .self .index)
           (now (c .before .before .before .before .before .before .args .s))
-          (c .before .before .before .before .before .before .args .self .at) _ _ (sym (told answerMessage (c .before .before .before .message-at .ensures) (c .before .m .given .1))),
+          (c .before .before .before .before .before .before .args .self .at) _ _ (sym (told answerPlace (c .before .before .before .message-at .ensures) (c .before .m .given .1))),
     )
 
 returns : tie.Need-returns
 returns c =
     let at-number = c .before in
     let at-message-at = at-number .before .before in
-    rw (sym (told answerMessage (at-message-at .message-at .ensures) (at-number .number .given .1)))
+    rw (sym (told answerPlace (at-message-at .message-at .ensures) (at-number .number .given .1)))
 
 returns-2 : tie.Need-returns-2
 returns-2 c =
     let at-m = c .before in
     let at-message-at = at-m .before .before in
-    rw (sym (told answerMessage (at-message-at .message-at .ensures) (at-m .m .given .1)))
+    rw (sym (told answerPlace (at-message-at .message-at .ensures) (at-m .m .given .1)))
 
 pub step-spec : {M : Type 1} → statement M
 step-spec =
