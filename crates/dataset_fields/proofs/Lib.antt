@@ -4,3 +4,5 @@ pub mod Front
 pub mod Judging
 pub mod Laying
 pub mod Fitting
+pub mod FieldsTrip
+pub mod Inside

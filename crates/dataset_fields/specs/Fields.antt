@@ -150,3 +150,29 @@ fieldsBytes delta indices (v ∷ vs) = indexBytes delta (getD indices 0 0) ++ (v
 unfoldable pub zeros : ℕ → List ℕ
 zeros zero = []
 zeros (suc n) = 0 ∷ zeros n
+
+-- the fields of a message that was read, by the walk: n fields, the first of them field k
+abbrev pub andField : Answer Field → (Field → ℕ → List Field) → List Field
+andField (got f end) onward = f ∷ onward f end
+andField (refused number place) onward = []
+
+unfoldable pub walked : Bool → Encoding → List ℕ → ℕ → ℕ → List ℕ → ℕ → List Field
+walked delta encoding types zero k s at = []
+walked delta encoding types (suc n) k s at =
+    andField (fieldAt delta encoding types k s at) (λ f end. walked delta encoding types n (k + 1) s end)
+
+-- the encoded bytes of a field
+abbrev pub fieldBytesOf : List ℕ → Field → List ℕ
+fieldBytesOf s f = take (f .length) (drop (f .offset) s)
+
+unfoldable pub valuesJoined : List ℕ → List Field → List ℕ
+valuesJoined s [] = []
+valuesJoined s (f ∷ fs) = fieldBytesOf s f ++ valuesJoined s fs
+
+unfoldable pub lengthsOf : List Field → List ℕ
+lengthsOf [] = []
+lengthsOf (f ∷ fs) = f .length ∷ lengthsOf fs
+
+unfoldable pub indicesOf : List Field → List ℕ
+indicesOf [] = []
+indicesOf (f ∷ fs) = f .index ∷ indicesOf fs

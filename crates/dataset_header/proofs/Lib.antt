@@ -1,2 +1,4 @@
 pub mod Front
 pub mod Sizes
+pub mod FlagsTrip
+pub mod HeaderTrip

@@ -12,6 +12,7 @@ use mathlib.Core.List.{List, [], _++_}
 use Rattle.wire.specs.Number.{leBytes}
 use Rattle.network_header.specs.declared.group.GroupFields.{GroupFields}
 use Rattle.wire_writer.specs.Writing.{num, on16, on32, optional16Bytes, optional32Bytes}
+use Rattle.wire_writer.specs.Fits.{Fits16, Fits32}
 
 -- "NetworkMessageNumber 2 (value 0 is 3)"
 abbrev pub numberRule : ℕ → ℕ
@@ -65,3 +66,10 @@ numberRefusal (Optional16.Is v) = numberRule v
 abbrev pub groupRefusal : GroupHeader → ℕ
 groupRefusal GroupHeader.Absent = 0
 groupRefusal (GroupHeader.Is g) = numberRefusal (g .number)
+
+abbrev pub FitsFields : GroupFields → Type 0
+FitsFields g = Fits16 (g .«writer_group») × Fits32 (g .version) × Fits16 (g .number) × Fits16 (g .sequence)
+
+abbrev pub FitsGroup : GroupHeader → Type 0
+FitsGroup GroupHeader.Absent = Unit
+FitsGroup (GroupHeader.Is g) = FitsFields g

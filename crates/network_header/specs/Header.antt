@@ -1,5 +1,5 @@
 -- DataSetClassId, PayloadHeader and promoted fields (document 01, "The envelope").
-use Prim.Native.Nat.{ℕ, _*_}
+use Prim.Native.Nat.{ℕ, _*_, _<_}
 use mathlib.Core.Bool.{Bool, cond, true, false}
 use lib.Dec.{eqb, leb}
 use Rattle.wire.specs.Constants.{DISAGREE, MOST_WRITERS}
@@ -16,6 +16,8 @@ use lib.ListN.{length, take}
 use Rattle.wire.specs.Number.{leBytes}
 use Rattle.wire_writer.specs.Writing.{unused}
 use Rattle.network_header.specs.Numbers.{sameNumbers}
+use Rattle.publisher_id.specs.Publisher.{bytesBefore}
+use Rattle.wire_writer.specs.Fits.{FitsGuid}
 
 -- "DataSetClassId, 16 bytes"
 abbrev pub classAt : Bool → Reader ClassId
@@ -114,3 +116,21 @@ idsShape chunk (PayloadHeader.Chunk w) ids configured = cond chunk (unused (leng
 abbrev pub promotedShape : Promoted → ℕ → ℕ
 promotedShape Promoted.Absent len = unused len
 promotedShape (Promoted.Size n) len = cond (leb 65536 n) DISAGREE (cond (eqb n len) 0 DISAGREE)
+
+abbrev pub idsOf : List ℕ → PayloadHeader → ℕ → List ℕ
+idsOf s PayloadHeader.Absent end = []
+idsOf s (PayloadHeader.Ids n) end = bytesBefore s end (2 * n)
+idsOf s (PayloadHeader.Chunk w) end = []
+
+abbrev pub promotedOf : List ℕ → Promoted → ℕ → List ℕ
+promotedOf s Promoted.Absent end = []
+promotedOf s (Promoted.Size n) end = bytesBefore s end n
+
+abbrev pub FitsClass : ClassId → Type 0
+FitsClass ClassId.Absent = Unit
+FitsClass (ClassId.Is g) = FitsGuid g
+
+abbrev pub FitsPayloadHeader : PayloadHeader → Type 0
+FitsPayloadHeader PayloadHeader.Absent = Unit
+FitsPayloadHeader (PayloadHeader.Ids n) = Unit
+FitsPayloadHeader (PayloadHeader.Chunk w) = w < 65536

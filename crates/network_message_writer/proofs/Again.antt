@@ -19,7 +19,9 @@ use Rattle.network_header.specs.declared.envelope.Places.{Places}
 use Rattle.network_message.specs.Envelope.{NetworkMessage, networkMessageAt}
 use Rattle.wire_writer.specs.declared.writing.Written.{Written}
 use Rattle.wire_writer.specs.Writing.{Writes, writing}
-use Rattle.network_message_writer.specs.Envelope.{envelopeBytes, bytesBefore, textOf, idsOf, promotedOf, againOf}
+use Rattle.network_message_writer.specs.Envelope.{envelopeBytes, againOf}
+use Rattle.publisher_id.specs.Publisher.{bytesBefore, textOf}
+use Rattle.network_header.specs.Header.{idsOf, promotedOf}
 
 pub drop-short : (s : List ℕ) (at k : ℕ) → length s ≤ k → length (drop at s) ≤ k
 drop-short s at k h = omega (arith, length-drop at s)

@@ -25,6 +25,7 @@ use Rattle.publisher_id.specs.Publisher.{publisherRefusal, publisherShape}
 use Rattle.network_header.specs.Header.{countRefusal, promotedRefusal, idsShape, promotedShape}
 use Rattle.network_message_writer.specs.Payload.{listedRefusal, refusalNumber, payloadRefusal, lengthsShape}
 use Rattle.network_message_writer.specs.Envelope.{GivenDatagram, datagramReadingRefusal, shapeRefusal, datagramRefusal}
+use Rattle.network_header.proofs.Sizes.{ids-counted}
 
 -- none of the refusals
 pub record Zeros (g : GivenDatagram) (x : Envelope) (sizes configured : List ℕ) : Type 0 where
@@ -106,13 +107,6 @@ text-short (PublisherId.Text k) n a b =
 chunk-unused : (chunk : Bool) (n : ℕ) → cond chunk (unused n) 6 ≡ 0 → unused n ≡ 0
 chunk-unused true n h = h
 chunk-unused false n h = absurd (omega arith)
-
--- a count that is not refused, and as many ids
-pub ids-counted : (chunk : Bool) (n : ℕ) (ids configured : List ℕ) → idsShape chunk (PayloadHeader.Ids n) ids configured ≡ 0 → (chunk ≡ false) × (n < 256) × (length ids ≡ 2 * n)
-ids-counted chunk n ids configured b =
-    let q1 = passed chunk 5 (cond (leb 256 n) 6 (cond (eqb (length ids) (2 * n)) 0 6)) b in
-    let q2 = passed (leb 256 n) 5 (cond (eqb (length ids) (2 * n)) 0 6) (q1 .1) in
-    (q1 .0, leb-false 256 n (q2 .0), eqb-true (length ids) (2 * n) (held (eqb (length ids) (2 * n)) 5 (q2 .1)))
 
 pub ids-short : (chunk : Bool) (p : PayloadHeader) (ids configured : List ℕ) → idsShape chunk p ids configured ≡ 0 → length ids ≤ 65535
 ids-short chunk PayloadHeader.Absent ids configured b = same-short ids configured b

@@ -1,19 +1,16 @@
 -- The NetworkMessage written (document 01, "Numbers given back", "The envelope" and "The one rewriting exception").
-use Prim.Native.Nat.{ℕ, _-_, _*_}
-use mathlib.Core.List.{List, [], _++_}
-use lib.ListN.{length, take, drop}
-use Rattle.publisher_id.specs.declared.publisher.PublisherId.{PublisherId}
-use Rattle.network_header.specs.declared.header.PayloadHeader.{PayloadHeader}
-use Rattle.network_header.specs.declared.header.Promoted.{Promoted}
+use Prim.Native.Nat.{ℕ}
+use mathlib.Core.List.{List, _++_}
+use lib.ListN.{length, drop}
 use Rattle.network_header.specs.declared.envelope.Envelope.{Envelope}
 use Rattle.network_header.specs.declared.envelope.Places.{Places}
 use Rattle.network_header.specs.Numbers.{configuredSizes}
 use Rattle.network_message.specs.Envelope.{networkMessageAt, messagesOf}
 use Rattle.wire_writer.specs.Writing.{orElse, on16, onI64, optional16Bytes, optionalI64Bytes, picosecondsRefusal, Output, writing, unless, afterReading}
 use Rattle.network_header.specs.Flags.{flagBytes, flagsFor, timesRefusal}
-use Rattle.publisher_id.specs.Publisher.{publisherBytes, publisherRefusal, publisherShape}
+use Rattle.publisher_id.specs.Publisher.{publisherBytes, publisherRefusal, publisherShape, textOf}
 use Rattle.network_header.specs.Group.{groupBytes, groupRefusal}
-use Rattle.network_header.specs.Header.{classBytes, payloadHeaderBytes, promotedBytes, countRefusal, promotedRefusal, idsShape, promotedShape}
+use Rattle.network_header.specs.Header.{classBytes, payloadHeaderBytes, promotedBytes, countRefusal, promotedRefusal, idsShape, promotedShape, idsOf, promotedOf}
 use Rattle.network_message_writer.specs.Payload.{listBytes, payloadRefusal, lengthsShape}
 
 -- what is given beside the envelope: the bytes of a string PublisherId, the DataSetWriterIds (2 bytes each), the promoted
@@ -74,27 +71,6 @@ abbrev pub datagramOutput : GivenDatagram → Envelope → List ℕ → List ℕ
 datagramOutput g x sizes configured = unless (datagramRefusal g x sizes configured) (datagramOf g x)
 
 -- Rewriting: the parts of a datagram as reading found them.
-
--- the n bytes of s before a position
-abbrev pub bytesBefore : List ℕ → ℕ → ℕ → List ℕ
-bytesBefore s end n = take n (drop (end - n) s)
-
-abbrev pub textOf : List ℕ → PublisherId → ℕ → List ℕ
-textOf s PublisherId.Absent end = []
-textOf s (PublisherId.Byte v) end = []
-textOf s (PublisherId.UInt16 v) end = []
-textOf s (PublisherId.UInt32 v) end = []
-textOf s (PublisherId.UInt64 v) end = []
-textOf s (PublisherId.Text n) end = bytesBefore s end n
-
-abbrev pub idsOf : List ℕ → PayloadHeader → ℕ → List ℕ
-idsOf s PayloadHeader.Absent end = []
-idsOf s (PayloadHeader.Ids n) end = bytesBefore s end (2 * n)
-idsOf s (PayloadHeader.Chunk w) end = []
-
-abbrev pub promotedOf : List ℕ → Promoted → ℕ → List ℕ
-promotedOf s Promoted.Absent end = []
-promotedOf s (Promoted.Size n) end = bytesBefore s end n
 
 -- the datagram s, read as this envelope with its places, written again: its header parts, and its payload as it stands
 abbrev pub againOf : List ℕ → Envelope → Places → List ℕ

@@ -52,7 +52,9 @@ ghost use lib.ListN.{length};
 ghost use Rattle.network_header.specs.Numbers.{configuredSizes};
 ghost use Rattle.wire_writer.specs.Writing.{Puts, Writes, writing};
 ghost use Rattle.network_message_writer.specs.Payload.{payloadRefusal};
-ghost use Rattle.network_message_writer.specs.Envelope.{givenDatagram, tailBytes, envelopeBytes, datagramOf, headerRefusal, shapeRefusal, datagramOutput, textOf, idsOf, promotedOf, againOf, datagramAgain};
+ghost use Rattle.network_message_writer.specs.Envelope.{givenDatagram, tailBytes, envelopeBytes, datagramOf, headerRefusal, shapeRefusal, datagramOutput, againOf, datagramAgain};
+ghost use Rattle.publisher_id.specs.Publisher.{textOf};
+ghost use Rattle.network_header.specs.Header.{idsOf, promotedOf};
 ghost use Rattle.wire.specs.Constants.{MOST_DATAGRAM};
 
 fn tail_size(x: Envelope, ids: &[u8], promoted: &[u8]) -> usize

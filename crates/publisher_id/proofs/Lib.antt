@@ -1,1 +1,2 @@
 pub mod Equality
+pub mod PublisherTrip

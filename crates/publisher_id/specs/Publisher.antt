@@ -1,5 +1,5 @@
 -- The PublisherId (document 01, "The envelope").
-use Prim.Native.Nat.{ℕ}
+use Prim.Native.Nat.{ℕ, _-_, _<_}
 use mathlib.Core.Bool.{Bool, cond, true, false}
 use lib.Dec.{ltb, eqb}
 use Rattle.wire.specs.Constants.{BAD_LENGTH, DISAGREE, MOST_TEXT_ID, OVER_LIMIT}
@@ -9,7 +9,7 @@ use Rattle.wire.specs.declared.Length.{Length}
 use Rattle.publisher_id.specs.declared.publisher.PublisherId.{PublisherId}
 use Rattle.publisher_id.specs.declared.publisher.PublisherRead.{PublisherRead}
 use mathlib.Core.List.{List, [], _++_}
-use lib.ListN.{length}
+use lib.ListN.{length, take, drop}
 use Rattle.wire.specs.Number.{leBytes}
 use Rattle.wire_writer.specs.Writing.{unused}
 
@@ -88,3 +88,23 @@ publisherShape (PublisherId.UInt16 v) len = unused len
 publisherShape (PublisherId.UInt32 v) len = unused len
 publisherShape (PublisherId.UInt64 v) len = unused len
 publisherShape (PublisherId.Text n) len = cond (eqb n len) 0 DISAGREE
+
+-- the n bytes of s before a position
+abbrev pub bytesBefore : List ℕ → ℕ → ℕ → List ℕ
+bytesBefore s end n = take n (drop (end - n) s)
+
+abbrev pub textOf : List ℕ → PublisherId → ℕ → List ℕ
+textOf s PublisherId.Absent end = []
+textOf s (PublisherId.Byte v) end = []
+textOf s (PublisherId.UInt16 v) end = []
+textOf s (PublisherId.UInt32 v) end = []
+textOf s (PublisherId.UInt64 v) end = []
+textOf s (PublisherId.Text n) end = bytesBefore s end n
+
+abbrev pub FitsPublisher : PublisherId → Type 0
+FitsPublisher PublisherId.Absent = Unit
+FitsPublisher (PublisherId.Byte v) = v < 256
+FitsPublisher (PublisherId.UInt16 v) = v < 65536
+FitsPublisher (PublisherId.UInt32 v) = v < 4294967296
+FitsPublisher (PublisherId.UInt64 v) = v < 18446744073709551616
+FitsPublisher (PublisherId.Text n) = Unit

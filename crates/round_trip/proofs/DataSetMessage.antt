@@ -22,14 +22,14 @@ use Rattle.dataset_header.specs.Flags.{valid, isDelta, isRaw, kindRule}
 use Rattle.dataset_header.specs.Header.{FitsHeader}
 use Rattle.dataset_fields.specs.Fields.{encodedAt, fieldAt, fieldsAt, paddingAt, valuesOf, endsAt, fieldsRefusal, fieldsWhole, reached, fieldsBytes, zeros}
 use Rattle.dataset_message.specs.Message.{countedAt, countAt, messageAt, fieldPlaceAt}
-use Rattle.dataset_message.proofs.Agreement.{field-inside}
+use Rattle.dataset_fields.proofs.Inside.{field-inside}
 use Rattle.wire_writer.specs.declared.writing.Written.{Written}
 use Rattle.dataset_message_writer.specs.Message.{GivenMessage, FitsGiven, messageOutput, hasFields, isKey, isFielded, isRawData, givenFields, countBytes, configuredRule, countAgrees, encode, messageRefusal}
 use Rattle.dataset_fields.proofs.Judging.{length-values}
 use Rattle.dataset_message_writer.proofs.Whole.{Accepted, accepted}
 use Rattle.round_trip.specs.DataSetMessage.{firstOf, endOf, messageWritten, FieldBack, MessageBack}
 use Rattle.wire_writer.proofs.Answering.{reported}
-use Rattle.round_trip.proofs.DataSetMessageParts.{whole-alone, fields-is, nth-is, zeros-is}
+use Rattle.dataset_fields.proofs.FieldsTrip.{whole-alone, fields-is, nth-is, zeros-is}
 use Rattle.wire_writer.specs.Fits.{Numbers}
 use Rattle.round_trip.proofs.DataSetMessagePlaces.{fieldsPart, countPart, start, body-at, sizes, header-read}
 

@@ -21,13 +21,13 @@ use Rattle.dataset_header.specs.declared.header.Header.{Header}
 use Rattle.dataset_fields.specs.declared.fields.Field.{Field}
 use Rattle.dataset_header.specs.Flags.{Valid, notValid, valid, isDelta, isRaw, kindRule}
 use Rattle.dataset_header.specs.Header.{FitsHeader}
-use Rattle.dataset_fields.specs.Fields.{encodedAt, fieldAt, fieldsAt, paddingAt, endsAt, fieldsWhole, zeros}
+use Rattle.dataset_fields.specs.Fields.{encodedAt, fieldAt, fieldsAt, paddingAt, endsAt, fieldsWhole, zeros, fieldBytesOf}
 use Rattle.dataset_message.specs.Message.{Message, countedAt, countAt, bodyAt, fieldBytes, nthAt}
 use Rattle.dataset_message_writer.specs.Message.{GivenMessage, hasFields, isKey, isFielded, isRawData, givenFields, countBytes, countAgrees, bodyRefusal, bodyAgrees, messageReadingRefusal, encode}
 use Rattle.dataset_fields.proofs.Judging.{length-values}
 use Rattle.dataset_message_writer.proofs.Whole.{count-bytes}
-use Rattle.round_trip.specs.DataSetMessage.{firstOf, endOf, messageWritten, fieldBytesOf, MessageBack}
-use Rattle.round_trip.proofs.DataSetMessageParts.{field-alone}
+use Rattle.round_trip.specs.DataSetMessage.{firstOf, endOf, messageWritten, MessageBack}
+use Rattle.dataset_fields.proofs.FieldsTrip.{field-alone}
 use Rattle.round_trip.proofs.DataSetMessage.{no, reached-all, delta-plain}
 use Rattle.round_trip.proofs.DataSetMessagePlaces.{fieldsPart, countPart, start, body-at, sizes, header-read}
 

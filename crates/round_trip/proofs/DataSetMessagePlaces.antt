@@ -13,7 +13,7 @@ use Rattle.dataset_header.specs.Header.{messageHeaderAt, messageHeaderBytes, Fi
 use Rattle.dataset_fields.specs.Fields.{fieldsBytes, zeros}
 use Rattle.dataset_fields.proofs.Laying.{length-zeros}
 use Rattle.dataset_message_writer.specs.Message.{GivenMessage, isFielded, isRawData, givenFields, countBytes, encode}
-use Rattle.round_trip.proofs.DataSetMessageParts.{header-is}
+use Rattle.dataset_header.proofs.HeaderTrip.{header-is}
 
 module _ (g : GivenMessage) where
   abbrev pub fieldsPart : List ℕ

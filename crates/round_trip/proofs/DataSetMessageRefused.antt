@@ -28,8 +28,8 @@ use Rattle.dataset_message.specs.Message.{countAt, messageAt}
 use Rattle.dataset_message_writer.specs.Message.{GivenMessage, hasFields, isFielded, isRawData, givenFields, countBytes, configuredRule, bodyRefusal, messageReadingRefusal, encode}
 use Rattle.dataset_fields.proofs.Judging.{encoded-steady, length-values}
 use Rattle.round_trip.specs.DataSetMessage.{plainly, Tellable, fieldsCounted}
-use Rattle.round_trip.proofs.DataSetMessageFlags.{flags1-bits, flags2-bits, encoding-rule, kind-rule-is, flagsFor, flags-is}
-use Rattle.round_trip.proofs.DataSetMessageParts.{field-is, index-is}
+use Rattle.dataset_header.proofs.FlagsTrip.{flags1-bits, flags2-bits, encoding-rule, kind-rule-is, flagsFor, flags-is}
+use Rattle.dataset_fields.proofs.FieldsTrip.{field-is, index-is}
 use Rattle.round_trip.proofs.DataSetMessage.{no, counted-is, count-is, delta-plain}
 use Rattle.wire_writer.specs.Fits.{Numbers}
 use Rattle.round_trip.proofs.DataSetMessagePlaces.{fieldsPart, countPart, start, header-at, body-at, sizes, header-read}

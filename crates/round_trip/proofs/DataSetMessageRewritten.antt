@@ -25,11 +25,12 @@ use Rattle.dataset_header.specs.declared.flags.Kind.{Kind}
 use Rattle.dataset_header.specs.declared.header.Header.{Header}
 use Rattle.dataset_header.specs.Flags.{Valid, notValid, valid, isDelta, isRaw}
 use Rattle.dataset_header.specs.Header.{messageHeaderAt, messageHeaderBytes}
-use Rattle.dataset_fields.specs.Fields.{fieldsAt, paddingAt, fieldAt, valuesOf, fieldsBytes, zeros}
+use Rattle.dataset_fields.specs.Fields.{fieldsAt, paddingAt, fieldAt, valuesOf, fieldsBytes, zeros, valuesJoined, lengthsOf, andField, walked}
 use Rattle.dataset_message.specs.Message.{Message, countedAt, countAt, endAt, bodyAt, afterHeader, messageAt, fieldPlaceAt}
 use Rattle.dataset_message_writer.specs.Message.{GivenMessage, hasFields, isKey, isFielded, isRawData, givenFields, countBytes, configuredRule, countAgrees, bodyRefusal, bodyAgrees, listsAgree, messageRefusal, encode, messageOutput}
-use Rattle.round_trip.specs.DataSetMessage.{fieldsRead, valuesJoined, lengthsOf, takenAgain, andField, walked, Rewritten}
-use Rattle.round_trip.proofs.DataSetMessageParts.{HeaderBack, header-back, indicesFor, FieldsTaken, fields-back, zeros-back}
+use Rattle.round_trip.specs.DataSetMessage.{fieldsRead, takenAgain, Rewritten}
+use Rattle.dataset_header.proofs.HeaderTrip.{HeaderBack, header-back}
+use Rattle.dataset_fields.proofs.FieldsTrip.{indicesFor, FieldsTaken, fields-back, zeros-back}
 use Rattle.round_trip.proofs.DataSetMessage.{no, reached-all, delta-plain}
 use Rattle.wire_writer.specs.Fits.{Bytes}
 

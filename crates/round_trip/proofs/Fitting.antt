@@ -31,7 +31,10 @@ use Rattle.network_header.proofs.envelope.Envelope.Laws as envelopeLaws
 use Rattle.network_header.specs.declared.envelope.Envelope.{Envelope}
 use Rattle.wire_writer.specs.Fits.{FitsGuid}
 use Rattle.dataset_fields.proofs.Fitting.{fits16, fits32, fitsI64}
-use Rattle.round_trip.specs.NetworkMessage.{FitsPublisher, FitsClass, FitsFields, FitsGroup, FitsPayloadHeader, FitsEnvelope}
+use Rattle.publisher_id.specs.Publisher.{FitsPublisher}
+use Rattle.network_header.specs.Header.{FitsClass, FitsPayloadHeader}
+use Rattle.network_header.specs.Group.{FitsFields, FitsGroup}
+use Rattle.round_trip.specs.NetworkMessage.{FitsEnvelope}
 
 fits-publisher : (x : PublisherId) (vs : List Val) → Is (enum.row publisher.the-type) x vs → FitsPublisher x
 fits-publisher PublisherId.Absent vs h = tt

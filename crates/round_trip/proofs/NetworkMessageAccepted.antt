@@ -21,19 +21,19 @@ use Rattle.network_message.specs.declared.payload.Payload.{Payload}
 use Rattle.network_header.specs.declared.envelope.Envelope.{Envelope}
 use Rattle.network_header.specs.declared.envelope.Places.{Places}
 use Rattle.network_header.specs.Flags.{flagsAt, timesRefusal}
-use Rattle.network_header.specs.Header.{payloadHeaderAt, idsShape, countRefusal, promotedRefusal, promotedShape}
+use Rattle.network_header.specs.Header.{payloadHeaderAt, idsShape, countRefusal, promotedRefusal, promotedShape, promotedOf}
 use Rattle.network_header.specs.Numbers.{configuredSizes, agree, sameNumbers}
 use Rattle.network_message.specs.Payload.{restOnlyAt, listedAt, payloadAt}
 use Rattle.network_message.specs.Envelope.{Header, NetworkMessage, identityAt, timesAt, messagesOf, envelopeAt, envelopeBodyAt, networkMessageAt}
 use Rattle.wire_writer.specs.Writing.{orElse, on16, onI64, picosecondsRefusal, unused}
 use Rattle.wire_writer.proofs.Trip.{At, le-at}
 use Rattle.wire_writer.proofs.Back.{run-back, map-back, picoseconds-kept}
-use Rattle.publisher_id.specs.Publisher.{publisherRefusal, publisherShape}
+use Rattle.publisher_id.specs.Publisher.{publisherRefusal, publisherShape, bytesBefore, textOf}
 use Rattle.network_header.specs.Group.{groupRefusal}
 use Rattle.network_message_writer.specs.Payload.{listBytes, refusalNumber, payloadRefusal, lengthsShape}
-use Rattle.network_message_writer.specs.Envelope.{datagramOf, datagramRefusal, bytesBefore, textOf, promotedOf, againOf}
+use Rattle.network_message_writer.specs.Envelope.{datagramOf, datagramRefusal, againOf}
 use Rattle.round_trip.specs.NetworkMessage.{rewritten, AsManyLengths, numbersBytes, idsGiven, lengthsGiven, messagesGiven, givenOf}
-use Rattle.round_trip.proofs.NetworkMessageKept.{flags-kept, publisher-kept, group-kept, promoted-kept, HeaderKept, payload-header-kept}
+use Rattle.network_header.proofs.Kept.{flags-kept, publisher-kept, group-kept, promoted-kept, HeaderKept, payload-header-kept}
 use Rattle.round_trip.proofs.NetworkMessageRefused.{payload-number}
 use Rattle.round_trip.proofs.NetworkMessageRewritten.{identity-of, times-of, header-same, flags-of, rewrite-read}
 use Rattle.wire_writer.specs.Fits.{Bytes, Numbers}

@@ -23,13 +23,14 @@ use Rattle.wire_writer.specs.Writing.{optional16Bytes, optionalI64Bytes, unused
 use Rattle.wire_writer.proofs.Trip.{At, first, second, fits-at}
 use Rattle.wire_writer.proofs.Refusals.{passed, held}
 use Rattle.network_header.specs.Flags.{flagsFor, flagBytes}
-use Rattle.publisher_id.specs.Publisher.{publisherBytes, publisherShape}
+use Rattle.publisher_id.specs.Publisher.{publisherBytes, publisherShape, bytesBefore, textOf}
 use Rattle.network_header.specs.Group.{groupBytes}
-use Rattle.network_header.specs.Header.{classBytes, payloadHeaderBytes, promotedBytes, idsShape, promotedShape}
+use Rattle.network_header.specs.Header.{classBytes, payloadHeaderBytes, promotedBytes, idsShape, promotedShape, idsOf, promotedOf}
 use Rattle.network_header.specs.Numbers.{sameNumbers}
 use Rattle.network_message_writer.specs.Payload.{listBytes}
-use Rattle.network_message_writer.specs.Envelope.{GivenDatagram, envelopeBytes, datagramOf, datagramRefusal, bytesBefore, textOf, idsOf, promotedOf}
-use Rattle.network_message_writer.proofs.Short.{zeros, unused-none, same-length, ids-counted}
+use Rattle.network_message_writer.specs.Envelope.{GivenDatagram, envelopeBytes, datagramOf, datagramRefusal}
+use Rattle.network_message_writer.proofs.Short.{zeros, unused-none, same-length}
+use Rattle.network_header.proofs.Sizes.{ids-counted}
 use Rattle.round_trip.specs.NetworkMessage.{placesOf}
 use Rattle.round_trip.proofs.NetworkMessagePayload.{le-moved}
 use Rattle.round_trip.proofs.NetworkMessageMessages.{same-listed}

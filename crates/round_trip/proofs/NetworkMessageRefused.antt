@@ -22,7 +22,7 @@ use Rattle.network_message.specs.declared.payload.Sizes.{Sizes}
 use Rattle.network_header.specs.declared.envelope.Envelope.{Envelope}
 use Rattle.network_header.specs.Flags.{byte0Rule, extended1Rule, flagsAt, extended2Of, extended1Of, byte0Of, flagBytes, flagsFor, timesRefusal}
 use Rattle.publisher_id.specs.Publisher.{publisherAt, publisherOn, idTypeOf, publisherBytes, publisherRefusal, publisherShape}
-use Rattle.network_header.specs.Group.{numberRule, messageNumberAt, groupFlagsRule, groupAt, groupOn, groupFlagsOf, groupFieldsBytes, groupBytes, numberRefusal, groupRefusal}
+use Rattle.network_header.specs.Group.{numberRule, messageNumberAt, groupFlagsRule, groupAt, groupOn, groupFlagsOf, groupFieldsBytes, groupBytes, numberRefusal, groupRefusal, FitsGroup}
 use Rattle.network_header.specs.Header.{countRule, payloadHeaderAt, sizeRule, promotedAt, classBytes, payloadHeaderOn, payloadHeaderBytes, promotedOn, promotedBytes, countRefusal, promotedRefusal, idsShape, promotedShape}
 use Rattle.network_message.specs.Payload.{allPositive, listed, messagesFrom, restOnlyAt, listedAt, sizedAt, configuredAt, payloadAt}
 use Rattle.network_header.specs.Numbers.{configuredSizes}
@@ -33,10 +33,13 @@ use Rattle.wire_writer.proofs.Refusals.{passed, held, or-case, no, Refuses, bro
 use Rattle.wire_writer.proofs.Bits.{num-bound, needed-bound, flag-is}
 use Rattle.network_message_writer.specs.Payload.{listBytes, refusalNumber, payloadRefusal, listedRefusal}
 use Rattle.network_message_writer.specs.Envelope.{GivenDatagram, envelopeBytes, datagramOf, datagramReadingRefusal}
-use Rattle.network_message_writer.proofs.Short.{ids-counted}
-use Rattle.round_trip.specs.NetworkMessage.{AsManyLengths, FitsEnvelope, FitsGroup}
-use Rattle.round_trip.proofs.NetworkMessageFlags.{byte-bits, extended-bits, flags-are}
-use Rattle.round_trip.proofs.NetworkMessageParts.{bits, publisher-is, class-is, group-is, payload-header-is, promoted-is, eight-lengths}
+use Rattle.network_header.proofs.Sizes.{ids-counted}
+use Rattle.round_trip.specs.NetworkMessage.{AsManyLengths, FitsEnvelope}
+use Rattle.network_header.proofs.FlagsTrip.{byte-bits, extended-bits, flags-are}
+use Rattle.network_header.proofs.GroupTrip.{bits, group-is}
+use Rattle.publisher_id.proofs.PublisherTrip.{publisher-is}
+use Rattle.network_header.proofs.HeaderTrip.{class-is, payload-header-is, promoted-is}
+use Rattle.round_trip.proofs.NetworkMessageParts.{eight-lengths}
 use Rattle.round_trip.proofs.NetworkMessagePayload.{listed-at-start}
 use Rattle.round_trip.proofs.NetworkMessageWritten.{kind-below}
 use Rattle.wire_writer.specs.Fits.{Fits16}

@@ -24,9 +24,9 @@ use Rattle.network_message.specs.declared.envelope.Times.{Times}
 use Rattle.network_header.specs.declared.envelope.Envelope.{Envelope}
 use Rattle.network_header.specs.declared.envelope.Places.{Places}
 use Rattle.network_header.specs.Flags.{flagsAt, extended1Of, flagsFor, flagBytes}
-use Rattle.publisher_id.specs.Publisher.{publisherAt, publisherOn, publisherBytes}
+use Rattle.publisher_id.specs.Publisher.{publisherAt, publisherOn, publisherBytes, textOf}
 use Rattle.network_header.specs.Group.{groupAt, groupBytes}
-use Rattle.network_header.specs.Header.{classAt, payloadHeaderAt, promotedAt, classBytes, payloadHeaderBytes, promotedBytes}
+use Rattle.network_header.specs.Header.{classAt, payloadHeaderAt, promotedAt, classBytes, payloadHeaderBytes, promotedBytes, idsOf, promotedOf}
 use Rattle.network_header.specs.Numbers.{configuredSizes}
 use Rattle.network_message.specs.Payload.{payloadAt}
 use Rattle.network_message.specs.Envelope.{Header, NetworkMessage, identityAt, timesAt, messagesOf, envelopeAt, envelopeBodyAt, networkMessageAt}
@@ -34,12 +34,14 @@ use Rattle.wire_writer.specs.declared.writing.Written.{Written}
 use Rattle.wire_writer.specs.Writing.{needed, writing, writtenOf, bufferAfter, optional16Bytes, optionalI64Bytes}
 use Rattle.wire_writer.proofs.Answering.{fitting-written}
 use Rattle.wire_writer.proofs.Back.{Back, join, rest-is, end-fits, map-back, optionalI64-back, ruled16-back}
-use Rattle.network_message_writer.specs.Envelope.{envelopeBytes, textOf, idsOf, promotedOf, againOf, datagramAgain}
+use Rattle.network_message_writer.specs.Envelope.{envelopeBytes, againOf, datagramAgain}
 use Rattle.network_header.proofs.Sizes.{flags-sized}
 use Rattle.network_message_writer.proofs.Again.{accepted-short}
 use Rattle.round_trip.specs.NetworkMessage.{rewrittenFlags, rewrittenAs, rewritten}
-use Rattle.round_trip.proofs.NetworkMessageFlagsBack.{flags-back}
-use Rattle.round_trip.proofs.NetworkMessagePartsBack.{publisher-back, class-back, group-back, payload-header-back, promoted-back}
+use Rattle.network_header.proofs.FlagsBack.{flags-back}
+use Rattle.publisher_id.proofs.PublisherTrip.{publisher-back}
+use Rattle.network_header.proofs.HeaderTrip.{class-back, payload-header-back, promoted-back}
+use Rattle.network_header.proofs.GroupTrip.{group-back}
 use Rattle.wire_writer.specs.Fits.{Bytes}
 
 -- the header of a datagram with its parts taken as read

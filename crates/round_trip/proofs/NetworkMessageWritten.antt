@@ -28,8 +28,11 @@ use Rattle.network_message_writer.specs.Payload.{listBytes}
 use Rattle.network_message_writer.specs.Envelope.{GivenDatagram, envelopeBytes, datagramOf, datagramRefusal}
 use Rattle.network_message_writer.proofs.Short.{zeros}
 use Rattle.round_trip.specs.NetworkMessage.{placesOf, payloadFor, writtenMessage, givenLengths, messageGiven, placeGiven, FitsEnvelope}
-use Rattle.round_trip.proofs.NetworkMessageParts.{publisher-is, class-is, group-is, payload-header-is, promoted-is, eight-lengths}
-use Rattle.round_trip.proofs.NetworkMessageFlags.{flags-are}
+use Rattle.publisher_id.proofs.PublisherTrip.{publisher-is}
+use Rattle.network_header.proofs.HeaderTrip.{class-is, payload-header-is, promoted-is}
+use Rattle.network_header.proofs.GroupTrip.{group-is}
+use Rattle.round_trip.proofs.NetworkMessageParts.{eight-lengths}
+use Rattle.network_header.proofs.FlagsTrip.{flags-are}
 use Rattle.round_trip.proofs.NetworkMessagePayload.{payload-is}
 use Rattle.round_trip.proofs.NetworkMessageMessages.{tiles, first-is}
 

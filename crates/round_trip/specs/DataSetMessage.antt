@@ -2,15 +2,15 @@
 use Prim.Native.Nat.{ℕ, _+_, _-_, _<_, zero, suc, _≤_}
 use mathlib.Core.Path.{_≡_}
 use mathlib.Core.Bool.{Bool, cond, true, false, not, _&&_, _||_}
-use mathlib.Core.List.{_++_, List, [], _∷_}
+use mathlib.Core.List.{List, [], _∷_}
 use lib.Dec.{leb, eqb}
-use lib.ListN.{take, drop, length, getD}
+use lib.ListN.{length, getD}
 use Rattle.value.specs.Value.{Measure}
 use Rattle.wire.specs.Answer.{Answer, got, refused}
 use Rattle.dataset_header.specs.declared.flags.Encoding.{Encoding}
 use Rattle.dataset_fields.specs.declared.fields.Field.{Field}
 use Rattle.dataset_header.specs.Flags.{valid, isDelta}
-use Rattle.dataset_fields.specs.Fields.{fieldAt, encodedAt, fieldsBytes}
+use Rattle.dataset_fields.specs.Fields.{encodedAt, fieldsBytes, walked, valuesJoined, lengthsOf, indicesOf}
 use Rattle.dataset_message.specs.Message.{Message, messageAt, fieldPlaceAt, fieldBytes}
 use Rattle.dataset_header.specs.Header.{messageHeaderBytes}
 use Rattle.dataset_message_writer.specs.Message.{GivenMessage, givenMessage, isKey, isFielded, isRawData, givenFields, countBytes, encode, messageRefusal}
@@ -55,33 +55,7 @@ pub record MessageBack (types : List ℕ) (g : GivenMessage) (s : List ℕ) : Ty
   pub field : (k : ℕ) → k < length (g .lengths) → FieldBack types g s k
   pub padding : length s - endOf g ≡ g .padding
 
--- the fields of a message that was read, by the walk: n fields, the first of them field k
-abbrev pub andField : Answer Field → (Field → ℕ → List Field) → List Field
-andField (got f end) onward = f ∷ onward f end
-andField (refused number place) onward = []
-
-unfoldable pub walked : Bool → Encoding → List ℕ → ℕ → ℕ → List ℕ → ℕ → List Field
-walked delta encoding types zero k s at = []
-walked delta encoding types (suc n) k s at =
-    andField (fieldAt delta encoding types k s at) (λ f end. walked delta encoding types n (k + 1) s end)
-
--- the encoded bytes of a field
-abbrev pub fieldBytesOf : List ℕ → Field → List ℕ
-fieldBytesOf s f = take (f .length) (drop (f .offset) s)
-
 -- the fields' values one after the other, how long each is, and their indices
-
-unfoldable pub valuesJoined : List ℕ → List Field → List ℕ
-valuesJoined s [] = []
-valuesJoined s (f ∷ fs) = fieldBytesOf s f ++ valuesJoined s fs
-
-unfoldable pub lengthsOf : List Field → List ℕ
-lengthsOf [] = []
-lengthsOf (f ∷ fs) = f .length ∷ lengthsOf fs
-
-unfoldable pub indicesOf : List Field → List ℕ
-indicesOf [] = []
-indicesOf (f ∷ fs) = f .index ∷ indicesOf fs
 
 -- the fields of a message that was read
 abbrev pub fieldsRead : List ℕ → List ℕ → Message → List Field

@@ -11,10 +11,6 @@ use Rattle.wire.specs.Number.{le, leBytes}
 use Rattle.wire.specs.declared.optional.Optional16.{Optional16}
 use Rattle.wire.specs.Answer.{Answer, got, refused}
 use Rattle.network_header.specs.declared.flags.Flags.{Flags}
-use Rattle.publisher_id.specs.declared.publisher.PublisherId.{PublisherId}
-use Rattle.network_header.specs.declared.group.GroupFields.{GroupFields}
-use Rattle.network_header.specs.declared.group.GroupHeader.{GroupHeader}
-use Rattle.network_header.specs.declared.header.ClassId.{ClassId}
 use Rattle.network_header.specs.declared.header.PayloadHeader.{PayloadHeader}
 use Rattle.network_message.specs.declared.payload.Sizes.{Sizes}
 use Rattle.network_message.specs.declared.payload.Payload.{Payload}
@@ -27,13 +23,13 @@ use Rattle.network_header.specs.Flags.{flagsAt, flagBytes, flagsFor}
 use Rattle.network_message.specs.WriterId.{writerIdOf}
 use Rattle.network_message.specs.Envelope.{NetworkMessage, networkMessageAt, messagePlaceAt, messageBytes}
 use Rattle.network_message.proofs.Accepted.{OfMessages}
-use Rattle.publisher_id.specs.Publisher.{publisherOn, publisherBytes}
-use Rattle.network_header.specs.Group.{groupBytes}
-use Rattle.network_header.specs.Header.{classBytes, payloadHeaderBytes}
-use Rattle.network_message_writer.specs.Envelope.{GivenDatagram, envelopeBytes, datagramOf, datagramRefusal, bytesBefore, textOf, promotedOf, datagramAgain}
+use Rattle.publisher_id.specs.Publisher.{publisherOn, publisherBytes, bytesBefore, textOf, FitsPublisher}
+use Rattle.network_header.specs.Group.{groupBytes, FitsGroup}
+use Rattle.network_header.specs.Header.{classBytes, payloadHeaderBytes, promotedOf, FitsClass, FitsPayloadHeader}
+use Rattle.network_message_writer.specs.Envelope.{GivenDatagram, envelopeBytes, datagramOf, datagramRefusal, datagramAgain}
 use Rattle.wire_writer.specs.Writing.{writtenOf, bufferAfter}
 use Rattle.wire_writer.specs.declared.writing.Written.{Written}
-use Rattle.wire_writer.specs.Fits.{Fits16, Fits32, FitsGuid, FitsI64}
+use Rattle.wire_writer.specs.Fits.{Fits16, FitsI64}
 
 -- where the variable parts of a written envelope end
 abbrev pub placesOf : GivenDatagram → Envelope → Places
@@ -142,30 +138,6 @@ givenOf s x p sizes configured =
     }
 
 -- each number of an envelope fits its type, as a value of the code does
-
-abbrev pub FitsPublisher : PublisherId → Type 0
-FitsPublisher PublisherId.Absent = Unit
-FitsPublisher (PublisherId.Byte v) = v < 256
-FitsPublisher (PublisherId.UInt16 v) = v < 65536
-FitsPublisher (PublisherId.UInt32 v) = v < 4294967296
-FitsPublisher (PublisherId.UInt64 v) = v < 18446744073709551616
-FitsPublisher (PublisherId.Text n) = Unit
-
-abbrev pub FitsClass : ClassId → Type 0
-FitsClass ClassId.Absent = Unit
-FitsClass (ClassId.Is g) = FitsGuid g
-
-abbrev pub FitsFields : GroupFields → Type 0
-FitsFields g = Fits16 (g .«writer_group») × Fits32 (g .version) × Fits16 (g .number) × Fits16 (g .sequence)
-
-abbrev pub FitsGroup : GroupHeader → Type 0
-FitsGroup GroupHeader.Absent = Unit
-FitsGroup (GroupHeader.Is g) = FitsFields g
-
-abbrev pub FitsPayloadHeader : PayloadHeader → Type 0
-FitsPayloadHeader PayloadHeader.Absent = Unit
-FitsPayloadHeader (PayloadHeader.Ids n) = Unit
-FitsPayloadHeader (PayloadHeader.Chunk w) = w < 65536
 
 pub record FitsEnvelope (x : Envelope) : Type 0 where
   pub publisher : FitsPublisher (x .publisher)

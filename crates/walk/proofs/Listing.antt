@@ -19,7 +19,7 @@ use Rattle.dataset_header.specs.Flags.{Valid, notValid, valid}
 use Rattle.dataset_fields.specs.Fields.{fieldAt, Stepped as FieldStepped, stepAt as fieldStepAt}
 use Rattle.dataset_message.specs.Message.{Message, messageAt as readAt}
 use Rattle.dataset_fields.specs.declared.fields.Cursor.{Cursor}
-use Rattle.dataset_message.proofs.Agreement.{field-inside}
+use Rattle.dataset_fields.proofs.Inside.{field-inside}
 use Rattle.walk.specs.Lines.{Writers, fieldsLeft, messagesLeft, typesAt, bytesAt, fieldLines, messageLines, setLines, linesFrom, stepLines, nextSet, nextMessage, messageStep, nextField, fieldStep, nextLine, startBy, startOf, answerLines, listingOf, lineAt}
 use Rattle.walk.specs.declared.entry.Line.{Line}
 use Rattle.walk.specs.declared.lines.Listed.{Listed}

@@ -23,7 +23,7 @@ use Rattle.dataset_message.specs.Message.{Message, messageAt as readAt}
 use Rattle.dataset_header.specs.declared.flags.Encoding.{Encoding}
 use Rattle.dataset_fields.specs.declared.fields.Field.{Field}
 use Rattle.dataset_fields.specs.declared.fields.Cursor.{Cursor}
-use Rattle.dataset_message.proofs.Agreement.{field-inside, index-within}
+use Rattle.dataset_fields.proofs.Inside.{field-inside, index-within}
 use Rattle.walk.specs.Lines.{placeAt, fieldThen as lineThen, messageThen, Writers, inDatagram, fieldsLeft, messagesLeft, firstMessage, writerAt, typesAt, bytesAt, fieldLines, setLines, messageLines}
 use Rattle.walk.specs.declared.entry.Line.{Line}
 use Rattle.walk.specs.declared.lines.Listed.{Listed}

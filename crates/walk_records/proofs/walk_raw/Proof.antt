@@ -8,7 +8,7 @@ use mathlib.Core.Path.{_≡_, refl}
 use lib.ListN.{length}
 use Rattle.wire.specs.Answer.{got}
 use Rattle.dataset_fields.specs.Fields.{fieldsAt, cursorBefore}
-use Rattle.dataset_message.proofs.Agreement.{field-inside}
+use Rattle.dataset_fields.proofs.Inside.{field-inside}
 use Rattle.walk_records.proofs.Raw.{raw-configured, raw-first}
 use Rattle.dataset_fields.proofs.Ending.{fields-on}
 use Rattle.walk.specs.Lines.{fieldsLeft}

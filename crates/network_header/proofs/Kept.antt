@@ -15,19 +15,18 @@ use Rattle.wire.specs.Items.{lengthOf}
 use Rattle.wire.specs.Optional.{optional16, optional32}
 use Rattle.wire.specs.declared.optional.Optional16.{Optional16}
 use Rattle.wire.proofs.Reading.{got-value, not-got, invert}
 use Rattle.network_header.specs.declared.flags.Flags.{Flags}
 use Rattle.publisher_id.specs.declared.publisher.PublisherId.{PublisherId}
 use Rattle.network_header.specs.declared.group.GroupHeader.{GroupHeader}
 use Rattle.network_header.specs.declared.header.PayloadHeader.{PayloadHeader}
 use Rattle.network_header.specs.declared.header.Promoted.{Promoted}
 use Rattle.network_header.specs.Flags.{byte0Rule, extended1Rule, extended2Rule, flagsOf, flagsAt, timesRefusal}
-use Rattle.publisher_id.specs.Publisher.{stringOf, stringThen, stringAt, publisherAt, publisherRefusal, publisherShape}
+use Rattle.publisher_id.specs.Publisher.{stringOf, stringThen, stringAt, publisherAt, publisherRefusal, publisherShape, bytesBefore, textOf}
 use Rattle.network_header.specs.Group.{numberRule, messageNumberAt, groupFlagsRule, groupFieldsAt, groupAt, numberRefusal, groupRefusal}
-use Rattle.network_header.specs.Header.{countRule, payloadHeaderAt, sizeRule, promotedAt, promotedRefusal, promotedShape}
+use Rattle.network_header.specs.Header.{countRule, payloadHeaderAt, sizeRule, promotedAt, promotedRefusal, promotedShape, promotedOf}
 use Rattle.wire_writer.proofs.Refusals.{passed, no}
 use Rattle.wire_writer.proofs.Back.{item-back, run-back, ruled-back, map-back}
-use Rattle.network_message_writer.specs.Envelope.{bytesBefore, textOf, promotedOf}
-use Rattle.round_trip.proofs.NetworkMessagePartsBack.{before-length}
+use Rattle.publisher_id.proofs.PublisherTrip.{before-length}
 use Rattle.wire_writer.specs.Fits.{Bytes}
 
 -- the flags: PicoSeconds only with Timestamp
