@@ -17,7 +17,7 @@ use Rattle.network_header.specs.Flags.{flagsAt}
 use Rattle.network_message.specs.Envelope.{NetworkMessage, networkMessageAt, messagePlaceAt, messageBytes}
 use Rattle.network_header.specs.declared.envelope.Envelope.{Envelope}
 use Rattle.network_header.specs.declared.flags.Flags.{Flags}
-use Rattle.network_message.proofs.Accepted.{OfMessages}
+use Rattle.network_message.specs.Payload.{OfMessages}
 use Rattle.network_message.proofs.Messages.{tile, tiled}
 use Rattle.network_message_writer.specs.Envelope as N
 use Rattle.dataset_header.specs.Flags.{valid}
@@ -38,7 +38,7 @@ use Rattle.round_trip.proofs.DataSetMessage as DataSetMessage
 use Rattle.rewriting.proofs.Copied as Copied
 use Rattle.round_trip.proofs.DataSetMessageRefused as Refused
 use Rattle.wire_writer.specs.Fits.{Bytes, Numbers}
-use Rattle.walk.specs.Lines.{Writers, linesFrom, stepLines, nextLine, startOf, listingOf}
+use Rattle.walk.specs.Lines.{Writers, linesFrom, stepLines, nextLine, startCursor, listingOf}
 use Rattle.walk.specs.declared.lines.LineCursor.{LineCursor}
 use Rattle.walk.proofs.Listing.{start-lists, step-lists}
 use Rattle.acceptance.proofs.Tiling.{accepted-tiled}
@@ -72,7 +72,7 @@ fields-agree types s m e h k l =
 
 -- The lines of a listing: the cursor that a listing starts with has all of its lines before it, and each step hands out the first of those that are
 -- left, with the cursor before the others.
-pub listing-starts : (w : Writers) (d : List ℕ) (number place : ℕ) → linesFrom w d (startOf number place (w .sizes) d) ≡ listingOf number place w d
+pub listing-starts : (w : Writers) (d : List ℕ) (number place : ℕ) → linesFrom w d (startCursor number place (w .sizes) d) ≡ listingOf number place w d
 listing-starts = start-lists
 
 pub listing-steps : (w : Writers) (d : List ℕ) (c : LineCursor) → stepLines w d (nextLine w d c) ≡ linesFrom w d c

@@ -161,7 +161,7 @@ sized-tells offset t at Length.Negative next hi h u = refuses (at-item (number 5
 data-length-lawful : (offset t : ℕ) → Lawful (P.dataLengthAt offset t)
 data-length-lawful offset t = record { tells = λ s at h. then-tells (length-lawful .tells s at h) (λ l next u. sized-tells offset t at l next (length s) h u) }
 
-end-lawful : Lawful P.endAt
+end-lawful : Lawful P.nothingAfter
 end-lawful = record { tells = λ s at h. cond-tells (eqb at (length s)) (gives h) (refuses (at-item (number 7 refl) h)) }
 
 data-lawful : (n : ℕ) → Lawful (P.dataOf n)

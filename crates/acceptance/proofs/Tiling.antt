@@ -10,12 +10,12 @@ use Rattle.wire.specs.Answer.{got}
 use Rattle.wire.proofs.Reading.{got-value, not-got, invert}
 use Rattle.network_header.specs.Flags.{flagsAt}
 use Rattle.network_header.specs.Numbers.{configuredSizes}
-use Rattle.network_message.specs.Payload.{payloadAt}
+use Rattle.network_message.specs.Payload.{payloadAt, OfMessages}
 use Rattle.network_message.specs.Envelope.{NetworkMessage, envelopeAt, envelopeBodyAt, networkMessageAt}
 use Rattle.network_header.specs.declared.flags.Flags.{Flags}
 use Rattle.network_header.specs.declared.header.PayloadHeader.{PayloadHeader}
 use Rattle.network_message.specs.declared.payload.Payload.{Payload}
-use Rattle.network_message.proofs.Accepted.{Tiled, OfMessages, payload-tiled}
+use Rattle.network_message.proofs.Accepted.{Tiled, payload-tiled}
 
 -- an accepted payload of messages was read as that of no chunk
 no-chunk : (chunk : Bool) (header : PayloadHeader) → OfMessages header → (sizes s : List ℕ) (at : ℕ) (p : Payload) (n : ℕ) → payloadAt chunk header sizes s at ≡ got p n

@@ -29,7 +29,7 @@ use Rattle.chunk.specs.declared.payload.ChunkData.{ChunkData}
 use Rattle.chunk.specs.declared.payload.ChunkPayload.{ChunkPayload}
 use Rattle.chunk.specs.declared.datagram.ChunkPlace.{ChunkPlace}
 use Rattle.chunk.specs.Payload as P
-use Rattle.chunk.specs.Datagram.{placeOf, chunkOf, chunkAt, chunkData}
+use Rattle.chunk.specs.Datagram.{placeOf, chunkFrom, chunkAt, chunkData}
 
 -- every value that a reader accepts has the property
 record Gives {A : Type 0} (P : List ℕ → A → Type 0) (r : Reader A) : Type 0 where
@@ -231,7 +231,7 @@ module _ (offset total : ℕ) where
   data-of-sized k h l = record { told = λ s at v n e. go s at v n (leb (at + k) (length s)) (eqb (at + k) (length s)) refl e }
     where
       go : (s : List ℕ) (at : ℕ) (v : ChunkData) (n : ℕ) (a b : Bool) → eqb (at + k) (length s) ≡ b
-          → andThen (cond a (got k (at + k)) (refused 1 at)) (λ _ z. andThen (P.endAt s z) (λ _ y. got (record { first = at; length = k }) y)) ≡ got v n
+          → andThen (cond a (got k (at + k)) (refused 1 at)) (λ _ z. andThen (P.nothingAfter s z) (λ _ y. got (record { first = at; length = k }) y)) ≡ got v n
           → SizedData s v
       go s at v n true true t q =
           let x : at + k ≡ length s = eqb-true _ _ t in
@@ -242,7 +242,7 @@ module _ (offset total : ℕ) where
   data-sized : Gives SizedData (P.dataAt offset total)
   data-sized = gives-bind length-sized (λ k. record { told = λ s at v n e q. data-of-sized k (q .0) (q .1) .told s at v n e })
 
-rest-sized : (k : ℕ) → Gives Sized (P.restAt k)
+rest-sized : (k : ℕ) → Gives Sized (P.afterNumberAt k)
 rest-sized k =
     gives-next (item 4)
     (λ o. gives-bind total-sized
@@ -259,7 +259,7 @@ pub record Accepted (s : List ℕ) (c : ChunkPlace) : Type 0 where
 
 pub accepted : (sizes s : List ℕ) (c : ChunkPlace) (n : ℕ) → chunkAt sizes s ≡ got c n → Accepted s c
 accepted sizes s c n e =
-    let i = invert (networkMessageAt sizes s) (λ m first. chunkOf (m .envelope) (m .places .«publisher_end») s first) e in
+    let i = invert (networkMessageAt sizes s) (λ m first. chunkFrom (m .envelope) (m .places .«publisher_end») s first) e in
     go (i .0) (i .1) (message-small sizes s (i .0) (i .1) (i .2)) (i .0 .envelope .chunk) (i .3)
   where
     go : (m : NetworkMessage) (at : ℕ) → Small s (m .envelope .publisher) → (b : Bool)

@@ -14,22 +14,22 @@ use Rattle.chunk.specs.declared.datagram.ChunkRead.{ChunkRead}
 use Rattle.chunk.specs.Payload.{chunkPayloadAt}
 
 -- "PayloadHeader: for a chunk, DataSetWriterId 2": an accepted chunk has this one (proofs/Accepted.chunk-writer), so the 0 is never given
-abbrev pub writerOf : PayloadHeader → ℕ
-writerOf PayloadHeader.Absent = 0
-writerOf (PayloadHeader.Ids n) = 0
-writerOf (PayloadHeader.Chunk w) = w
+abbrev pub chunkWriterOf : PayloadHeader → ℕ
+chunkWriterOf PayloadHeader.Absent = 0
+chunkWriterOf (PayloadHeader.Ids n) = 0
+chunkWriterOf (PayloadHeader.Chunk w) = w
 
 abbrev pub placeOf : Envelope → ℕ → ChunkPayload → ChunkPlace
-placeOf e end p = record { publisher = e .publisher; «publisher_end» = end; writer = writerOf (e .«payload_header»); payload = p }
+placeOf e end p = record { publisher = e .publisher; «publisher_end» = end; writer = chunkWriterOf (e .«payload_header»); payload = p }
 
 -- "without the chunk bit 4, place 0"
-abbrev pub chunkOf : Envelope → ℕ → Reader ChunkPlace
-chunkOf e end s at =
+abbrev pub chunkFrom : Envelope → ℕ → Reader ChunkPlace
+chunkFrom e end s at =
     cond (e .chunk) (andThen (chunkPayloadAt s at) (λ p next. got (placeOf e end p) next)) (refused NOT_TAKEN 0)
 
 -- "the chunk's own numbers (its envelope's first ..)"; places count in the datagram
 abbrev pub chunkAt : List ℕ → List ℕ → Answer ChunkPlace
-chunkAt sizes s = andThen (networkMessageAt sizes s) (λ m first. chunkOf (m .envelope) (m .places .«publisher_end») s first)
+chunkAt sizes s = andThen (networkMessageAt sizes s) (λ m first. chunkFrom (m .envelope) (m .places .«publisher_end») s first)
 
 -- a chunk's data as its own part of the datagram: nothing where it is refused
 abbrev pub chunkData : Answer ChunkPlace → List ℕ → List ℕ

@@ -35,15 +35,15 @@ abbrev pub dataLengthAt : ℕ → ℕ → Reader ℕ
 dataLengthAt offset total s at = andThen (lengthItem s at) (lengthThen offset total at)
 
 -- "Nothing may follow (7)"
-abbrev pub endAt : Reader (Unit {0})
-endAt s at = cond (eqb at (length s)) (got tt at) (refused LEFT_OVER at)
+abbrev pub nothingAfter : Reader (Unit {0})
+nothingAfter s at = cond (eqb at (length s)) (got tt at) (refused LEFT_OVER at)
 
 -- data of a length that stands at the position
 abbrev pub dataOf : ℕ → Reader ChunkData
 dataOf n = do
   f ← here
   run n
-  endAt
+  nothingAfter
   pure (record { first = f; length = n })
 
 -- "ChunkData with its length"
@@ -54,8 +54,8 @@ abbrev pub payloadOf : ℕ → ℕ → ℕ → ChunkData → ChunkPayload
 payloadOf n o t d = record { number = n; offset = o; total = t; first = d .first; length = d .length }
 
 -- "ChunkOffset 4, TotalSize 4, ChunkData with its length"
-abbrev pub restAt : ℕ → Reader ChunkPayload
-restAt n = do
+abbrev pub afterNumberAt : ℕ → Reader ChunkPayload
+afterNumberAt n = do
   o ← item 4
   t ← totalAt
   d ← dataAt o t
@@ -63,7 +63,7 @@ restAt n = do
 
 -- "Chunk payload: MessageSequenceNumber 2", and the rest
 abbrev pub chunkPayloadAt : Reader ChunkPayload
-chunkPayloadAt = item 2 >>= restAt
+chunkPayloadAt = item 2 >>= afterNumberAt
 
 -- what the answers of the code say
 

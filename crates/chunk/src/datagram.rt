@@ -9,7 +9,7 @@ use publisher_id::publisher::PublisherId;
 use wire::constants::NOT_TAKEN;
 use wire::part::part;
 ghost use mathlib.Core.Path.{_≡_};
-ghost use Rattle.chunk.specs.Datagram.{writerOf, chunkOf, chunkAt, chunkData, answerChunk};
+ghost use Rattle.chunk.specs.Datagram.{chunkWriterOf, chunkFrom, chunkAt, chunkData, answerChunk};
 
 // Whose chunk it is, where a string PublisherId ends, and the chunk's payload.
 pub struct ChunkPlace {
@@ -27,7 +27,7 @@ pub enum ChunkRead {
 
 // The DataSetWriterId of a chunk's PayloadHeader.
 fn writer_of(header: PayloadHeader) -> u16
-    ensures { λ r. ⌜ r ≡ writerOf header ⌝ }
+    ensures { λ r. ⌜ r ≡ chunkWriterOf header ⌝ }
 {
     match header {
         PayloadHeader::Absent => 0,
@@ -38,7 +38,7 @@ fn writer_of(header: PayloadHeader) -> u16
 
 // The chunk of an envelope whose payload starts at a position.
 fn read_chunk(s: &[u8], e: Envelope, publisher_end: usize, at: usize) -> ChunkRead
-    ensures { λ r. ⌜ answerChunk r ≡ chunkOf e «publisher_end» (now (s .entry)) at ⌝ }
+    ensures { λ r. ⌜ answerChunk r ≡ chunkFrom e «publisher_end» (now (s .entry)) at ⌝ }
 {
     if !e.chunk {
         return ChunkRead::Refused(NOT_TAKEN, 0);

@@ -12,7 +12,7 @@ use wire::constants::OVER_LIMIT;
 ghost use mathlib.Core.Path.{_≡_};
 ghost use Prim.Native.Nat.{_+_};
 ghost use lib.Dec.{ltb};
-ghost use Rattle.chunk.specs.Payload.{totalAt, sizedData, dataLengthAt, dataOf, dataAt, restAt, chunkPayloadAt, answerSize, answerData, answerPayload};
+ghost use Rattle.chunk.specs.Payload.{totalAt, sizedData, dataLengthAt, dataOf, dataAt, afterNumberAt, chunkPayloadAt, answerSize, answerData, answerPayload};
 
 // The numbers of a chunk, and where its data stands.
 pub struct ChunkPayload {
@@ -122,7 +122,7 @@ fn read_data(s: &[u8], offset: usize, total: usize, at: usize) -> DataRead
 
 // What stands after the number: offset, total and data.
 fn read_rest(s: &[u8], number: u16, at: usize) -> ChunkPayloadRead
-    ensures { λ r. ⌜ answerPayload r ≡ restAt number (now (s .entry)) at ⌝ }
+    ensures { λ r. ⌜ answerPayload r ≡ afterNumberAt number (now (s .entry)) at ⌝ }
 {
     let Item32::Is(v, next) = wire::read32(s, at) else {
         return ChunkPayloadRead::Refused(CUT_SHORT, at);

@@ -19,7 +19,7 @@ use Rattle.wire.proofs.Facts.{cases}
 use Rattle.text.proofs.Lists.{either-way}
 use Rattle.text.proofs.Parts.{Taken, part-taken, part-refused, before-end, no-decimal, parted, decimal-is, starts-is, starts-not, contains-place, through-contains, through-place, through-upTo, digits-contain, digits-place, digits-before}
 use Rattle.plain_value.specs.Width.{widthOf}
-use Rattle.config_text.specs.Line.{bad, isDash, positive, sizeOf, writerOf, writerRest, fieldRest, writerWord, fieldWord, saysOf, asLine, lineBy, restAt, lineAt, sizeAt}
+use Rattle.config_text.specs.Line.{bad, isDash, positive, sizeOf, writerOf, writerRest, fieldRest, writerStart, fieldStart, saysOf, asLine, lineBy, restAt, lineFrom, sizeAt}
 use Rattle.config_text.specs.declared.line.Line.the-variants.{Writer, Field, Bad}
 
 -- `-` and the newline
@@ -170,30 +170,30 @@ module _ (s : List ℕ) (at id p : ℕ) (e : decimalAt 65535 9 s at ≡ Is id p)
     writer-is = sym (whole ∙ rw (taken .there, taken .says) (ap (Writer id size) (sym (taken .after))))
 
 -- a line that begins with one of the words
-word-writer : (u : List ℕ) (at : ℕ) → lineBy writerRest u (at + 7) ≡ lineBy saysOf (writerWord ++ u) at
+word-writer : (u : List ℕ) (at : ℕ) → lineBy writerRest u (at + 7) ≡ lineBy saysOf (writerStart ++ u) at
 word-writer u at =
     let k : at + 7 + indexOf 10 u + 1 ≡ at + suc (suc (suc (suc (suc (suc (suc (indexOf 10 u))))))) + 1 = omega arith in
     ap (λ (n : ℕ). cond (contains 10 u) (asLine (writerRest (upTo 10 u)) n) Bad) k
 
-word-field : (u : List ℕ) (at : ℕ) → lineBy fieldRest u (at + 6) ≡ lineBy saysOf (fieldWord ++ u) at
+word-field : (u : List ℕ) (at : ℕ) → lineBy fieldRest u (at + 6) ≡ lineBy saysOf (fieldStart ++ u) at
 word-field u at =
     let k : at + 6 + indexOf 10 u + 1 ≡ at + suc (suc (suc (suc (suc (suc (indexOf 10 u)))))) + 1 = omega arith in
     ap (λ (n : ℕ). cond (contains 10 u) (asLine (fieldRest (upTo 10 u)) n) Bad) k
 
 module _ (s : List ℕ) (at : ℕ) where
-  pub line-writer : startsWith (drop at s) writerWord ≡ true → restAt writerRest s (at + 7) ≡ lineAt s at
+  pub line-writer : startsWith (drop at s) writerStart ≡ true → restAt writerRest s (at + 7) ≡ lineFrom s at
   line-writer h =
       ap (λ (t : List ℕ). lineBy writerRest t (at + 7)) (sym (drop-drop 7 at s)) ∙ word-writer (drop 7 (drop at s)) at
-      ∙ ap (λ (t : List ℕ). lineBy saysOf t at) (sym (starts-is (drop at s) writerWord h))
+      ∙ ap (λ (t : List ℕ). lineBy saysOf t at) (sym (starts-is (drop at s) writerStart h))
 
-  pub line-field : startsWith (drop at s) fieldWord ≡ true → restAt fieldRest s (at + 6) ≡ lineAt s at
+  pub line-field : startsWith (drop at s) fieldStart ≡ true → restAt fieldRest s (at + 6) ≡ lineFrom s at
   line-field h =
       ap (λ (t : List ℕ). lineBy fieldRest t (at + 6)) (sym (drop-drop 6 at s)) ∙ word-field (drop 6 (drop at s)) at
-      ∙ ap (λ (t : List ℕ). lineBy saysOf t at) (sym (starts-is (drop at s) fieldWord h))
+      ∙ ap (λ (t : List ℕ). lineBy saysOf t at) (sym (starts-is (drop at s) fieldStart h))
 
-  pub line-other : startsWith (drop at s) writerWord ≡ false → startsWith (drop at s) fieldWord ≡ false → Bad ≡ lineAt s at
+  pub line-other : startsWith (drop at s) writerStart ≡ false → startsWith (drop at s) fieldStart ≡ false → Bad ≡ lineFrom s at
   line-other h g =
-      rw (starts-not (indexOf 10 (drop at s)) (drop at s) writerWord h, starts-not (indexOf 10 (drop at s)) (drop at s) fieldWord g)
+      rw (starts-not (indexOf 10 (drop at s)) (drop at s) writerStart h, starts-not (indexOf 10 (drop at s)) (drop at s) fieldStart g)
       (sym (either-way (contains 10 (drop at s)) Bad))
 
   -- the word lies within the text

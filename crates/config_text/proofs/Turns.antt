@@ -15,7 +15,7 @@ use Rattle.text.specs.Words.{contains, indexOf, upTo, past}
 use Rattle.wire.proofs.Facts.{and-right, cases}
 use Rattle.text.proofs.Lists.{at-next, at-end}
 use Rattle.text.proofs.Parts.{contains-place}
-use Rattle.config_text.specs.Line.{Says, writer, field, bad, saysOf, asLine, saysIn, lineAt}
+use Rattle.config_text.specs.Line.{Says, writer, field, bad, saysOf, asLine, saysIn, lineFrom}
 use Rattle.config_text.specs.Config.{ended, unended, linesOf, isNew, mayFollow, with, accepted, badLine, readLines, configOf}
 use Rattle.config.specs.Writers.{emptyConfig}
 use Rattle.config.specs.declared.Config.{Config}
@@ -63,7 +63,7 @@ bad-as (field t) k e = let z : _≡_ {A = ℕ} 0 1 = cc in absurd (omega arith)
 bad-as bad k e = refl
 
 module _ (s : List ℕ) (at : ℕ) where
-  writer-was : (id size next : ℕ) → lineAt s at ≡ Writer id size next → LineWas s at (writer id size) next
+  writer-was : (id size next : ℕ) → lineFrom s at ≡ Writer id size next → LineWas s at (writer id size) next
   writer-was id size next e = go (contains 10 (drop at s)) refl
     where
       go : (b : Bool) → contains 10 (drop at s) ≡ b → LineWas s at (writer id size) next
@@ -72,7 +72,7 @@ module _ (s : List ℕ) (at : ℕ) where
           record { there = h; line = k .0; after = k .1 }
       go false h = let w : _≡_ {A = Line} Bad (Writer id size next) = rw h at e in let z : _≡_ {A = ℕ} 0 1 = cc in absurd (omega arith)
 
-  field-was : (kind next : ℕ) → lineAt s at ≡ Field kind next → LineWas s at (field kind) next
+  field-was : (kind next : ℕ) → lineFrom s at ≡ Field kind next → LineWas s at (field kind) next
   field-was kind next e = go (contains 10 (drop at s)) refl
     where
       go : (b : Bool) → contains 10 (drop at s) ≡ b → LineWas s at (field kind) next
@@ -106,7 +106,7 @@ module _ (s : List ℕ) (at : ℕ) (y : Says) (next : ℕ) (was : LineWas s at y
 
 -- a turn with a bad line, and the end
 module _ (s : List ℕ) (at : ℕ) (c : Config) (n : ℕ) (r : ConfigRead) (v : readLines c n (linesOf (drop at s)) ≡ r) where
-  turn-bad : at < length s → lineAt s at ≡ Bad → badLine n ≡ r
+  turn-bad : at < length s → lineFrom s at ≡ Bad → badLine n ≡ r
   turn-bad l e = go (contains 10 (drop at s)) refl
     where
       go : (b : Bool) → contains 10 (drop at s) ≡ b → badLine n ≡ r
@@ -148,7 +148,7 @@ module _ (s : List ℕ) (c : Config) (n at : ℕ) (h : Held s c n at) where
   held-next y next was p f =
       (next-within s at y next was, (omega (arith, h .1 .0, next-later s at y next was), (f, turn-taken s at y next was c n (configOf s) (h .1 .1 .1) p)))
 
-  module _ (r : Line) (e : r ≡ lineAt s at) where
+  module _ (r : Line) (e : r ≡ lineFrom s at) where
     pub held-bad : at < length s → r ≡ Bad → badLine n ≡ configOf s
     held-bad l q = turn-bad s at c n (configOf s) (h .1 .1 .1) l (sym e ∙ q)
 
@@ -156,7 +156,7 @@ module _ (s : List ℕ) (c : Config) (n at : ℕ) (h : Held s c n at) where
       pub held-refused : at < length s → not b ≡ true → badLine n ≡ configOf s
       held-refused l t = go r e (sym p ∙ not-true b t)
         where
-          go : (r : Line) → r ≡ lineAt s at → mayFollow c (saysIn r) ≡ false → badLine n ≡ configOf s
+          go : (r : Line) → r ≡ lineFrom s at → mayFollow c (saysIn r) ≡ false → badLine n ≡ configOf s
           go (Writer id size next) e q = turn-refused s at (writer id size) next (writer-was s at id size next (sym e)) c n (configOf s) (h .1 .1 .1) q
           go (Field kind next) e q = turn-refused s at (field kind) next (field-was s at kind next (sym e)) c n (configOf s) (h .1 .1 .1) q
           go Bad e q = turn-bad s at c n (configOf s) (h .1 .1 .1) l (sym e)

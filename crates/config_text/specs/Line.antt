@@ -21,8 +21,8 @@ pub data Says : Type 0 where
   bad : Says
 
 -- a tab, and a newline
-abbrev pub tab : ℕ
-tab = 9
+abbrev pub tabByte : ℕ
+tabByte = 9
 
 abbrev pub newline : ℕ
 newline = 10
@@ -47,7 +47,7 @@ writerOf (some id) none = bad
 writerOf none size = bad
 
 abbrev pub writerRest : List ℕ → Says
-writerRest r = cond (contains tab r) (writerOf (decimalOf 65535 (upTo tab r)) (sizeOf (past tab r))) bad
+writerRest r = cond (contains tabByte r) (writerOf (decimalOf 65535 (upTo tabByte r)) (sizeOf (past tabByte r))) bad
 
 -- what follows `field` and its tab: a fixed type's number
 abbrev pub fieldOf : Option ℕ → Says
@@ -58,16 +58,16 @@ abbrev pub fieldRest : List ℕ → Says
 fieldRest r = fieldOf (decimalOf 255 r)
 
 -- the fixed words, each with its tab: `writer`, `field`
-abbrev pub writerWord : List ℕ
-writerWord = 119 ∷ 114 ∷ 105 ∷ 116 ∷ 101 ∷ 114 ∷ tab ∷ []
+abbrev pub writerStart : List ℕ
+writerStart = 119 ∷ 114 ∷ 105 ∷ 116 ∷ 101 ∷ 114 ∷ tabByte ∷ []
 
-abbrev pub fieldWord : List ℕ
-fieldWord = 102 ∷ 105 ∷ 101 ∷ 108 ∷ 100 ∷ tab ∷ []
+abbrev pub fieldStart : List ℕ
+fieldStart = 102 ∷ 105 ∷ 101 ∷ 108 ∷ 100 ∷ tabByte ∷ []
 
 -- a line, without its newline
 abbrev pub saysOf : List ℕ → Says
 saysOf line =
-    cond (startsWith line writerWord) (writerRest (drop 7 line)) (cond (startsWith line fieldWord) (fieldRest (drop 6 line)) bad)
+    cond (startsWith line writerStart) (writerRest (drop 7 line)) (cond (startsWith line fieldStart) (fieldRest (drop 6 line)) bad)
 
 -- as the code answers it, with the position after the newline; and back
 abbrev pub asLine : Says → ℕ → Line
@@ -88,8 +88,8 @@ lineBy f t at = cond (contains newline t) (asLine (f (upTo newline t)) (at + ind
 abbrev pub restAt : (List ℕ → Says) → List ℕ → ℕ → Line
 restAt f s at = lineBy f (drop at s) at
 
-abbrev pub lineAt : List ℕ → ℕ → Line
-lineAt s at = restAt saysOf s at
+abbrev pub lineFrom : List ℕ → ℕ → Line
+lineFrom s at = restAt saysOf s at
 
 -- a size up to the newline
 abbrev pub sizeAt : List ℕ → ℕ → Decimal

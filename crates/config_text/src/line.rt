@@ -6,7 +6,7 @@ use text::words::starts_with;
 ghost use mathlib.Core.Path.{_≡_};
 ghost use Prim.Native.Nat.{_≤_};
 ghost use lib.ListN.{length};
-ghost use Rattle.config_text.specs.Line.{lineAt, restAt, writerRest, fieldRest, sizeAt};
+ghost use Rattle.config_text.specs.Line.{lineFrom, restAt, writerRest, fieldRest, sizeAt};
 
 // What a line says, and the position after its newline.
 pub enum Line {
@@ -66,7 +66,7 @@ fn read_field(s: &[u8], at: usize) -> Line
 
 // The line from a position on.
 pub fn read_line(s: &[u8], at: usize) -> Line
-    ensures { λ r. ⌜ r ≡ lineAt (now (s .entry)) at ⌝ }
+    ensures { λ r. ⌜ r ≡ lineFrom (now (s .entry)) at ⌝ }
 {
     if starts_with(s, at, b"writer\t") {
         return read_writer(s, at + 7);

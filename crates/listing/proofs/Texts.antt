@@ -14,7 +14,7 @@ use Rattle.wire_writer.proofs.Stores.{sets-append}
 use Rattle.wire_writer.proofs.Putting.{front}
 use Rattle.wire_writer.specs.declared.writing.Written.{Written}
 use Rattle.listing.specs.Line.{tooLong, lineText, lineRefusal, linePut, lineAfter}
-use Rattle.walk.specs.Lines.{Writers, linesFrom, stepLines, nextLine, startOf, listingOf}
+use Rattle.walk.specs.Lines.{Writers, linesFrom, stepLines, nextLine, startCursor, listingOf}
 use Rattle.walk.specs.declared.entry.Line.{Line}
 use Rattle.listing.specs.declared.line.LinePut.{LinePut}
 use Rattle.walk.specs.declared.lines.LineCursor.{LineCursor}
@@ -127,5 +127,5 @@ module _ (a b u l r : List ℕ) (at : ℕ) (s : u ≡ a ++ b) (h : at + length u
   )
 
 -- a listing's text from the cursor that it starts with
-pub listing-text : (w : Writers) (d : List ℕ) (number place : ℕ) (c : LineCursor) → c ≡ startOf number place (w .sizes) d → linesText d (linesFrom w d c) ≡ linesText d (listingOf number place w d)
+pub listing-text : (w : Writers) (d : List ℕ) (number place : ℕ) (c : LineCursor) → c ≡ startCursor number place (w .sizes) d → linesText d (linesFrom w d c) ≡ linesText d (listingOf number place w d)
 listing-text w d number place c e = ap (λ (x : LineCursor). linesText d (linesFrom w d x)) e ∙ ap (linesText d) (start-lists w d number place)

@@ -12,8 +12,8 @@ use Rattle.text.specs.Decimal.{decimalText}
 abbrev pub tabbed : List ℕ → List ℕ
 tabbed t = 9 ∷ t
 
-abbrev pub newline : List ℕ
-newline = 10 ∷ []
+abbrev pub lineEnd : List ℕ
+lineEnd = 10 ∷ []
 
 -- "An absent item is `-`"
 abbrev pub dash : List ℕ

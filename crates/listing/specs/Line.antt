@@ -13,7 +13,7 @@ use Rattle.publisher_id.specs.Publisher.{textTooLong}
 use Rattle.dataset_header.specs.declared.flags.Kind.{Kind}
 use Rattle.dataset_header.specs.declared.flags.Encoding.{Encoding}
 use Rattle.dataset_fields.specs.declared.fields.Field.{Field}
-use Rattle.listing.specs.Columns.{tabbed, newline, dash, optionalText, shapeText}
+use Rattle.listing.specs.Columns.{tabbed, lineEnd, dash, optionalText, shapeText}
 use Rattle.walk.specs.declared.entry.SetPlace.{SetPlace}
 use Rattle.walk.specs.declared.entry.Line.{Line}
 use Rattle.listing.specs.declared.line.LinePut.{LinePut}
@@ -59,7 +59,7 @@ idText d (PublisherId.Text n) end = tabbed (115 ∷ 116 ∷ 114 ∷ []) ++ tabbe
 -- ---- the lines
 -- "net: length, id type, id, messages"
 abbrev pub netText : List ℕ → ℕ → PublisherId → ℕ → ℕ → List ℕ
-netText d n id end messages = netWord ++ (tabbed (decimalText n) ++ (idText d id end ++ (tabbed (decimalText messages) ++ newline)))
+netText d n id end messages = netWord ++ (tabbed (decimalText n) ++ (idText d id end ++ (tabbed (decimalText messages) ++ lineEnd)))
 
 -- "set: message, writer id, offset, length, .."
 abbrev pub placeText : SetPlace → List ℕ
@@ -74,11 +74,11 @@ headText k e = tabbed (kindWord k) ++ tabbed (encodingWord e)
 
 -- "`bad`, number, place"
 abbrev pub refusalText : ℕ → ℕ → List ℕ
-refusalText n place = tabbed (decimalText n) ++ (tabbed (decimalText place) ++ newline)
+refusalText n place = tabbed (decimalText n) ++ (tabbed (decimalText place) ++ lineEnd)
 
 -- "field: message, index (a delta's own), type (23 for a DataValue), element count .., offset, length"
 abbrev pub valueText : Field → List ℕ
-valueText f = tabbed (shapeText (f .shape)) ++ (tabbed (decimalText (f .offset)) ++ (tabbed (decimalText (f .length)) ++ newline))
+valueText f = tabbed (shapeText (f .shape)) ++ (tabbed (decimalText (f .offset)) ++ (tabbed (decimalText (f .length)) ++ lineEnd))
 
 abbrev pub fieldText : ℕ → Field → List ℕ
 fieldText m f = fieldWord
@@ -88,8 +88,8 @@ fieldText m f = fieldWord
 -- with `invalid`"
 unfoldable pub lineText : List ℕ → Line → List ℕ
 lineText d (Line.Net n id end messages) = netText d n id end messages
-lineText d (Line.Set p k e q) = placeText p ++ (headText k e ++ (tabbed (optionalText q) ++ newline))
-lineText d (Line.SetInvalid p) = placeText p ++ (tabbed invalidWord ++ newline)
+lineText d (Line.Set p k e q) = placeText p ++ (headText k e ++ (tabbed (optionalText q) ++ lineEnd))
+lineText d (Line.SetInvalid p) = placeText p ++ (tabbed invalidWord ++ lineEnd)
 lineText d (Line.SetBad p n place) = placeText p ++ (tabbed badWord ++ refusalText n place)
 lineText d (Line.Field m f) = fieldText m f
 lineText d (Line.Bad n place) = badWord ++ refusalText n place

@@ -9,7 +9,7 @@ ghost use mathlib.Core.Path.{_≡_};
 ghost use lib.ListN.{length, set};
 ghost use Rattle.text.specs.Decimal.{decimalText};
 ghost use Rattle.text.specs.Hex.{hexText};
-ghost use Rattle.listing.specs.Columns.{tabbed, newline, optionalText, shapeText, Put};
+ghost use Rattle.listing.specs.Columns.{tabbed, lineEnd, optionalText, shapeText, Put};
 ghost use Rattle.wire.specs.Constants.{MOST_TEXT_ID};
 
 // A line's first word.
@@ -77,7 +77,7 @@ pub(crate) fn shape(out: &mut [u8], at: usize, x: Shape) -> usize
 // The newline that ends a line.
 pub(crate) fn end(out: &mut [u8], at: usize) -> usize
     requires { ⌜ at + 1 ≤ length (now out) ⌝ }
-    ensures { λ r. ⌜ Put 1 newline (now (out .entry)) at (now (out .exit)) r ⌝ }
+    ensures { λ r. ⌜ Put 1 lineEnd (now (out .entry)) at (now (out .exit)) r ⌝ }
 {
     out[at] = 10;
     at + 1

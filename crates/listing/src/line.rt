@@ -23,7 +23,7 @@ ghost use Prim.Native.Nat.{_+_, _≤_};
 ghost use lib.ListN.{length};
 ghost use mathlib.Core.List.{_++_};
 ghost use Rattle.text.specs.Decimal.{decimalText};
-ghost use Rattle.listing.specs.Columns.{tabbed, newline, optionalText, Put};
+ghost use Rattle.listing.specs.Columns.{tabbed, lineEnd, optionalText, Put};
 ghost use Rattle.listing.specs.Line.{badWord, invalidWord, kindWord, encodingWord, idTooLong, tooLong, idText, netText, placeText, headText, refusalText, valueText, fieldText, lineText, linePut, lineAfter, putLength};
 
 // How many bytes of the buffer are the line, or document 01's number.
@@ -137,7 +137,7 @@ fn encoding_word(out: &mut [u8], at: usize, encoding: Encoding) -> usize
 fn set(out: &mut [u8], place: SetPlace, kind: Kind, encoding: Encoding, q: Optional16) -> usize
     requires { ⌜ 256 ≤ length (now out) ⌝ }
     ensures { λ r.
-        let text = placeText place ++ (headText kind encoding ++ (tabbed (optionalText q) ++ newline)) in
+        let text = placeText place ++ (headText kind encoding ++ (tabbed (optionalText q) ++ lineEnd)) in
         ⌜ Put 256 text (now (out .entry)) 0 (now (out .exit)) r ⌝ }
 {
     let p = set_place(out, place);
@@ -149,7 +149,7 @@ fn set(out: &mut [u8], place: SetPlace, kind: Kind, encoding: Encoding, q: Optio
 
 fn set_invalid(out: &mut [u8], place: SetPlace) -> usize
     requires { ⌜ 256 ≤ length (now out) ⌝ }
-    ensures { λ r. ⌜ Put 256 (placeText place ++ (tabbed invalidWord ++ newline)) (now (out .entry)) 0 (now (out .exit)) r ⌝ }
+    ensures { λ r. ⌜ Put 256 (placeText place ++ (tabbed invalidWord ++ lineEnd)) (now (out .entry)) 0 (now (out .exit)) r ⌝ }
 {
     let p = set_place(out, place);
     let p = word(out, p, b"invalid");

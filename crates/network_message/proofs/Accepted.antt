@@ -10,7 +10,7 @@ use lib.Dec.{leb, ltb, eqb}
 use lib.ListN.{length, getD}
 use borrow.Author.Tests.{le-leb, leb-true, eqb-true, ltb-true}
 use Rattle.wire.specs.Lists.{total}
-use Rattle.network_message.specs.Payload.{allPositive, listed, messagesFrom, restOnlyAt, listedAt, sizedAt, configuredAt, payloadAt, valueOr0}
+use Rattle.network_message.specs.Payload.{allPositive, listed, messagesFrom, restOnlyAt, listedAt, sizedAt, configuredAt, payloadAt, valueOr0, OfMessages}
 use Rattle.network_header.specs.Numbers.{configuredSizes}
 use Rattle.network_header.specs.declared.header.PayloadHeader.{PayloadHeader}
 use Rattle.network_message.specs.declared.payload.Sizes.{Sizes}
@@ -102,12 +102,6 @@ configured-tiles sizes s at p m e = go (eqb (length (configuredSizes sizes)) 0) 
     go false true c o q = sized-tiles sizes s at p m o q
     go false false true o q = rest-tiles sizes s at p m q
     go false false false o q = absurd (not-got q)
-
--- a payload of messages (that is, of no chunk)
-abbrev pub OfMessages : PayloadHeader → Type 0
-OfMessages PayloadHeader.Absent = Unit {0}
-OfMessages (PayloadHeader.Ids n) = Unit {0}
-OfMessages (PayloadHeader.Chunk w) = ⊥
 
 -- An accepted payload's messages tile it exactly: each starts where the one before it ends, the first at the payload's first
 -- message byte, and the last ends where the datagram ends. (`Messages.tile` and `tiled` say what the walk then answers.)

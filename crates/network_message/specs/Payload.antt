@@ -118,3 +118,9 @@ placeStepAt p sizes c s =
 abbrev pub answerPlace : MessageRead → Answer MessagePlace
 answerPlace (MessageRead.Is m next) = got m next
 answerPlace (MessageRead.Refused n place) = refused n place
+
+-- a payload of messages (that is, of no chunk)
+abbrev pub OfMessages : PayloadHeader → Type 0
+OfMessages PayloadHeader.Absent = Unit {0}
+OfMessages (PayloadHeader.Ids n) = Unit {0}
+OfMessages (PayloadHeader.Chunk w) = ⊥

@@ -8,7 +8,7 @@ use lib.ListN.{length, drop}
 use Rattle.wire.specs.Answer.{got}
 use Rattle.publisher_id.specs.PublisherRecord.{publisherOf, recordAt}
 use Rattle.network_message.specs.Envelope.{NetworkMessage, networkMessageAt}
-use Rattle.chunk.specs.Datagram.{writerOf}
+use Rattle.chunk.specs.Datagram.{chunkWriterOf}
 use Rattle.chunk.specs.Cutting.{cutData, chunkBytes, cutRule}
 use Rattle.reassembly.specs.Record.{Identity, identityOf}
 use Rattle.reassembly.specs.Reading.{readingAt}
@@ -48,7 +48,7 @@ module _ (id : Identity) (p : List ℕ) (size : ℕ) where
     pub envelope : networkMessageAt (a .sizes) (a .datagram) ≡ got message at
     pub chunk : message .envelope .chunk ≡ true
     pub publisher : publisherOf (recordAt (message .envelope .publisher) (message .places .«publisher_end») (a .datagram)) ≡ id .publisher
-    pub writer : writerOf (message .envelope .«payload_header») ≡ id .writer
+    pub writer : chunkWriterOf (message .envelope .«payload_header») ≡ id .writer
     pub accepted : cutRule (length p) size k ≡ 0
     pub payload : drop at (a .datagram) ≡ chunkBytes p (id .number) size k
 

@@ -10,9 +10,9 @@ abbrev pub numberAt : List ℕ → ℕ → ℕ
 numberAt s i = valueOr0 (item 8 s (8 * i))
 
 -- the bytes of numbers of w bytes each
-abbrev pub bytesOf : ℕ → List ℕ → List ℕ
-bytesOf w [] = []
-bytesOf w (x ∷ xs) = leBytes w x ++ bytesOf w xs
+abbrev pub bytesEach : ℕ → List ℕ → List ℕ
+bytesEach w [] = []
+bytesEach w (x ∷ xs) = leBytes w x ++ bytesEach w xs
 
 abbrev pub numberBytes : List ℕ → List ℕ
-numberBytes xs = bytesOf 8 xs
+numberBytes xs = bytesEach 8 xs

@@ -12,7 +12,7 @@ use Rattle.config.specs.declared.Config.{Config}
 use Rattle.config_text.specs.declared.ConfigRead.{ConfigRead}
 use Rattle.config.specs.Writers.{atMost, fieldsOfId}
 use Rattle.network_message.specs.Payload.{listed}
-use Rattle.records.specs.Numbers.{bytesOf}
+use Rattle.records.specs.Numbers.{bytesEach}
 use Rattle.records.specs.Result.{Filling}
 
 -- "A configuration record shorter than its layout is the empty configuration"
@@ -52,7 +52,7 @@ typesFor c writer = cond (ltb 65535 writer) [] (fieldsOfId (idsIn c) (startsIn c
 abbrev pub configBytes : Config → List ℕ
 configBytes c =
     ((((leBytes 1 (atMost MOST_WRITERS (c .writers)) ++ leBytes 1 (atMost MOST_FIELDS (c .fields)))
-    ++ bytesOf 2 (c .ids)) ++ bytesOf 2 (c .sizes)) ++ c .starts)
+    ++ bytesEach 2 (c .ids)) ++ bytesEach 2 (c .sizes)) ++ c .starts)
     ++ c .types
 
 -- the record of a configuration text: "Refusals: 16 with the line, counted from 1; 11"

@@ -17,7 +17,7 @@ ghost use Rattle.text.specs.Words.{indexOf};
 ghost use Rattle.config.specs.Writers.{atMost};
 ghost use Rattle.network_message.specs.Payload.{listed};
 ghost use Rattle.records.specs.Writers.{writersIn, fieldsIn, sixteen, startsIn, typesIn, typesFor, configBytes};
-ghost use Rattle.records.specs.Numbers.{bytesOf};
+ghost use Rattle.records.specs.Numbers.{bytesEach};
 ghost use Rattle.wire.specs.Constants.{MOST_FIELDS, MOST_WRITERS};
 
 fn wide(b: u8) -> usize
@@ -150,7 +150,7 @@ pub fn types_for(config: &[u8], writer: u32) -> &[u8]
 
 fn store16(out: &mut [u8], start: usize, list: &[u16])
     requires { ⌜ start + 2 * length (now list) ≤ length (now out) ⌝ }
-    ensures { λ _. ⌜ now (out .exit) ≡ sets (now (out .entry)) start (bytesOf 2 (now (list .entry))) ⌝ }
+    ensures { λ _. ⌜ now (out .exit) ≡ sets (now (out .entry)) start (bytesEach 2 (now (list .entry))) ⌝ }
 {
     let mut i = 0;
     let mut at = start;

@@ -14,10 +14,10 @@ use Rattle.wire.specs.Answer.{item}
 use Rattle.wire.proofs.Facts.{and-left, and-right}
 use Rattle.network_header.specs.declared.header.PayloadHeader.{PayloadHeader}
 use Rattle.network_message.specs.declared.payload.Sizes.{Sizes}
-use Rattle.network_message.specs.Payload.{allPositive, listed, messagesFrom, restOnlyAt, valueOr0}
+use Rattle.network_message.specs.Payload.{allPositive, listed, messagesFrom, restOnlyAt, valueOr0, OfMessages}
 use Rattle.network_header.specs.Numbers.{configuredSizes, agree, sameNumbers}
 use Rattle.network_message.proofs.Messages.{Tiles}
-use Rattle.network_message.proofs.Accepted.{OfMessages, length-listed, listed-at, positive-at}
+use Rattle.network_message.proofs.Accepted.{length-listed, listed-at, positive-at}
 use Rattle.wire_writer.proofs.Refusals.{held}
 use Rattle.wire_writer.specs.Writing.{unused}
 use Rattle.network_message_writer.specs.Payload.{listedRefusal, listBytes, refusalNumber, payloadRefusal, lengthsShape}

@@ -17,7 +17,7 @@ use Rattle.network_header.specs.declared.envelope.Envelope.{Envelope}
 use Rattle.network_header.specs.Numbers.{configuredSizes}
 use Rattle.network_message.specs.Envelope.{NetworkMessage, messagesOf, networkMessageAt, messagePlaceAt, messageBytes}
 use Rattle.network_message.proofs.Messages.{tile, tiled}
-use Rattle.network_message.proofs.Accepted.{OfMessages}
+use Rattle.network_message.specs.Payload.{OfMessages}
 use Rattle.wire_writer.specs.Writing.{optional16Bytes, optionalI64Bytes}
 use Rattle.wire_writer.proofs.Trip.{At, first, second, optionalI64-is, picoseconds-is}
 use Rattle.network_header.specs.Flags.{flagsFor, flagBytes}

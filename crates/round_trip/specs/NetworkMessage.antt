@@ -17,12 +17,11 @@ use Rattle.network_message.specs.declared.payload.Payload.{Payload}
 use Rattle.network_message.specs.declared.payload.MessagePlace.{MessagePlace}
 use Rattle.network_header.specs.declared.envelope.Envelope.{Envelope}
 use Rattle.network_header.specs.declared.envelope.Places.{Places}
-use Rattle.network_message.specs.Payload.{allPositive, listed, messagesFrom}
+use Rattle.network_message.specs.Payload.{allPositive, listed, messagesFrom, OfMessages}
 use Rattle.network_header.specs.Numbers.{configuredSizes}
 use Rattle.network_header.specs.Flags.{flagsAt, flagBytes, flagsFor}
 use Rattle.network_message.specs.WriterId.{writerIdOf}
 use Rattle.network_message.specs.Envelope.{NetworkMessage, networkMessageAt, messagePlaceAt, messageBytes}
-use Rattle.network_message.proofs.Accepted.{OfMessages}
 use Rattle.publisher_id.specs.Publisher.{publisherOn, publisherBytes, bytesBefore, textOf, FitsPublisher}
 use Rattle.network_header.specs.Group.{groupBytes, FitsGroup}
 use Rattle.network_header.specs.Header.{classBytes, payloadHeaderBytes, promotedOf, FitsClass, FitsPayloadHeader}

@@ -10,7 +10,7 @@ use borrow.Author.Tests.{eq-eqb, ne-eqb, le-leb, lt-leb, leb-true, leb-false}
 use lib.Dec.{eqb, leb}
 use lib.ListN.{length, drop, getD}
 use Rattle.text.specs.Words.{contains, indexOf, upTo}
-use Rattle.text.specs.Decimal.{isDigit, allDigits, valueFrom, digitsFrom, digitsAt, decimalAt, plain, placed, endedBy}
+use Rattle.text.specs.Decimal.{isDigit, allDigits, valueFrom, digitsFrom, digitsAt, decimalAt, noLeadingZero, placed, endedBy}
 use Rattle.text.specs.declared.decimal.Decimal.{Decimal}
 use Rattle.text.specs.declared.decimal.Decimal.the-variants.{Is, Not}
 use Rattle.wire.proofs.Facts.{and-left, and-right}
@@ -75,7 +75,7 @@ pub turn-none : (limit end n : ℕ) (s : List ℕ) (i : ℕ) (r : Decimal) → l
 turn-none limit end n s i r h v = rw (at-end s i h) at v
 
 -- a decimal whose first byte is read: it ends at once, its first digit is not 0, or it is 0
-plain-first : (b : ℕ) (bs : List ℕ) → (b ≡ 48 → ⊥) → plain (b ∷ bs) ≡ true
+plain-first : (b : ℕ) (bs : List ℕ) → (b ≡ 48 → ⊥) → noLeadingZero (b ∷ bs) ≡ true
 plain-first b [] e = refl
 plain-first b (x ∷ bs) e = rw (ne-eqb b 48 e)
 

@@ -11,7 +11,7 @@ use native.Mathlib.Omega.{arith}
 use borrow.Author.Tests.{lt-ltb, le-ltb, ltb-true, ltb-false, le-leb, ne-eqb}
 use lib.Dec.{ltb}
 use lib.ListN.{length, length-append}
-use Rattle.text.specs.Decimal.{isDigit, allDigits, valueFrom, valueOf, plain, decimalOf, digitsText, decimalText}
+use Rattle.text.specs.Decimal.{isDigit, allDigits, valueFrom, decimalValueOf, noLeadingZero, decimalOf, digitsText, decimalText}
 use Rattle.wire.proofs.Facts.{cases, and-left, and-right}
 
 -- any bound above n gives the same digits
@@ -58,8 +58,8 @@ digits-last d [] a e = rw e
 digits-last d (x ∷ t) a e = rw (and-left (isDigit x) (allDigits t) a) (digits-last d t (and-right (isDigit x) (allDigits t) a) e)
 
 -- the digits have the number's value
-decimal-value : (n : ℕ) → valueOf (decimalText n) ≡ n
-decimal-value = decimal-ind (λ n t. valueOf t ≡ n) (λ n h. omega arith) (λ n t h e. value-last 0 (48 + n % 10) t ∙ omega (arith, e))
+decimal-value : (n : ℕ) → decimalValueOf (decimalText n) ≡ n
+decimal-value = decimal-ind (λ n t. decimalValueOf t ≡ n) (λ n h. omega arith) (λ n t h e. value-last 0 (48 + n % 10) t ∙ omega (arith, e))
 
 digit-is : (d : ℕ) → d < 10 → isDigit (48 + d) ≡ true
 digit-is d h = rw (le-leb 48 (48 + d) (omega arith), le-leb (48 + d) 57 (omega arith))
@@ -76,7 +76,7 @@ leads-more : (t : List ℕ) (d : ℕ) → Leads t → Leads (t ++ (d ∷ []))
 leads-more [] d h = absurd h
 leads-more (x ∷ t) d h = h
 
-leads-plain : (t : List ℕ) → Leads t → plain t ≡ true
+leads-plain : (t : List ℕ) → Leads t → noLeadingZero t ≡ true
 leads-plain [] h = absurd h
 leads-plain (x ∷ []) h = refl
 leads-plain (x ∷ y ∷ t) h = rw (ne-eqb x 48 h)
@@ -86,7 +86,7 @@ leads : (n : ℕ) → 0 < n → Leads (decimalText n)
 leads = decimal-ind (λ n t. 0 < n → Leads t) (λ n h l e. omega arith) (λ n t h f l. leads-more t (48 + n % 10) (f (omega arith)))
 
 -- no leading zero
-decimal-plain : (n : ℕ) → plain (decimalText n) ≡ true
+decimal-plain : (n : ℕ) → noLeadingZero (decimalText n) ≡ true
 decimal-plain zero = rw (decimal-one 0 (omega arith))
 decimal-plain (suc n) = leads-plain (decimalText (suc n)) (leads (suc n) (omega arith))
 

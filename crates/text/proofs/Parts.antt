@@ -12,7 +12,7 @@ use borrow.Author.Tests.{eq-eqb, ne-eqb, eqb-true, leb-true}
 use lib.Dec.{eqb, leb}
 use lib.ListN.{length, take, drop}
 use Rattle.text.specs.Words.{contains, indexOf, upTo, past, startsWith}
-use Rattle.text.specs.Decimal.{isDigit, allDigits, plain, valueOf, decimalOf, placed, endedBy}
+use Rattle.text.specs.Decimal.{isDigit, allDigits, noLeadingZero, decimalValueOf, decimalOf, placed, endedBy}
 use Rattle.text.specs.declared.decimal.Decimal.{Decimal}
 use Rattle.text.specs.declared.decimal.Decimal.the-variants.{Is, Not}
 use Rattle.wire.proofs.Facts.{cases, and-left, and-right}
@@ -105,17 +105,17 @@ module _ (limit : ℕ) (p : List ℕ) (n : ℕ) where
   no-number : _≡_ {A = Option ℕ} none (some n) → ⊥
   no-number e = let z : _≡_ {A = ℕ} 0 1 = cc in omega arith
 
-  decimal-by : (x y z : Bool) → plain p ≡ x → allDigits p ≡ y → leb (valueOf p) limit ≡ z → decimalOf limit p ≡ some n → (allDigits p ≡ true) × (n ≤ limit)
+  decimal-by : (x y z : Bool) → noLeadingZero p ≡ x → allDigits p ≡ y → leb (decimalValueOf p) limit ≡ z → decimalOf limit p ≡ some n → (allDigits p ≡ true) × (n ≤ limit)
   decimal-by true true true a b c e =
-      let v : _≡_ {A = Option ℕ} (some (valueOf p)) (some n) = rw (a, b, c) at e in
-      let w : valueOf p ≡ n = cc in
-      (b, omega (arith, leb-true (valueOf p) limit c))
+      let v : _≡_ {A = Option ℕ} (some (decimalValueOf p)) (some n) = rw (a, b, c) at e in
+      let w : decimalValueOf p ≡ n = cc in
+      (b, omega (arith, leb-true (decimalValueOf p) limit c))
   decimal-by true true false a b c e = absurd (no-number (rw (a, b, c) at e))
   decimal-by true false z a b c e = absurd (no-number (rw (a, b) at e))
   decimal-by false y z a b c e = absurd (no-number (rw a at e))
 
   pub decimal-is : decimalOf limit p ≡ some n → (allDigits p ≡ true) × (n ≤ limit)
-  decimal-is = decimal-by (plain p) (allDigits p) (leb (valueOf p) limit) refl refl refl
+  decimal-is = decimal-by (noLeadingZero p) (allDigits p) (leb (decimalValueOf p) limit) refl refl refl
 
 -- one byte, which is not the end, more in front
 part-more : (x : ℕ) (f : List ℕ → Option ℕ) (b : ℕ) (t : List ℕ) (at : ℕ) → eqb b x ≡ false → endedBy x f (b ∷ t) at ≡ endedBy x (λ p. f (b ∷ p)) t (at + 1)
@@ -159,7 +159,7 @@ starts-not (suc k) (b ∷ t) (w ∷ ws) h =
 
 -- what contains a byte that is no digit is no decimal
 pub no-decimal : (x limit : ℕ) → isDigit x ≡ false → (p : List ℕ) → contains x p ≡ true → decimalOf limit p ≡ none
-no-decimal x limit n p h = rw (no-digits p h) (either-way {A = Option ℕ} (plain p) none)
+no-decimal x limit n p h = rw (no-digits p h) (either-way {A = Option ℕ} (noLeadingZero p) none)
   where
     no-digits : (p : List ℕ) → contains x p ≡ true → allDigits p ≡ false
     no-digits [] h = absurd (false≢true h)

@@ -22,14 +22,14 @@ abbrev pub valueFrom : ℕ → List ℕ → ℕ
 valueFrom n [] = n
 valueFrom n (d ∷ ds) = valueFrom (n * 10 + (d - 48)) ds
 
-abbrev pub valueOf : List ℕ → ℕ
-valueOf t = valueFrom 0 t
+abbrev pub decimalValueOf : List ℕ → ℕ
+decimalValueOf t = valueFrom 0 t
 
 -- without a leading zero: one byte, or several of which the first is not `0`
-abbrev pub plain : List ℕ → Bool
-plain [] = false
-plain (b ∷ []) = true
-plain (b ∷ c ∷ cs) = not (eqb b 48)
+abbrev pub noLeadingZero : List ℕ → Bool
+noLeadingZero [] = false
+noLeadingZero (b ∷ []) = true
+noLeadingZero (b ∷ c ∷ cs) = not (eqb b 48)
 
 -- the number of a text of digits, read on from n, where it is at most the limit
 abbrev pub digitsFrom : ℕ → ℕ → List ℕ → Option ℕ
@@ -40,7 +40,7 @@ digitsOf limit t = digitsFrom limit 0 t
 
 -- the number of a text that is a decimal without leading zeros
 abbrev pub decimalOf : ℕ → List ℕ → Option ℕ
-decimalOf limit t = cond (plain t) (digitsOf limit t) none
+decimalOf limit t = cond (noLeadingZero t) (digitsOf limit t) none
 
 -- a number with the position after it
 abbrev pub placed : Option ℕ → ℕ → Decimal

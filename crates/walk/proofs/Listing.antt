@@ -20,7 +20,7 @@ use Rattle.dataset_fields.specs.Fields.{fieldAt, Stepped as FieldStepped, stepA
 use Rattle.dataset_message.specs.Message.{Message, messageAt as readAt}
 use Rattle.dataset_fields.specs.declared.fields.Cursor.{Cursor}
 use Rattle.dataset_fields.proofs.Inside.{field-inside}
-use Rattle.walk.specs.Lines.{Writers, fieldsLeft, messagesLeft, typesAt, bytesAt, fieldLines, messageLines, setLines, linesFrom, stepLines, nextSet, nextMessage, messageStep, nextField, fieldStep, nextLine, startBy, startOf, answerLines, listingOf, lineAt}
+use Rattle.walk.specs.Lines.{Writers, fieldsLeft, messagesLeft, typesAt, bytesAt, fieldLines, messageLines, setLines, linesFrom, stepLines, nextSet, nextMessage, messageStep, nextField, fieldStep, nextLine, startBy, startCursor, answerLines, listingOf, lineAt}
 use Rattle.walk.specs.declared.entry.Line.{Line}
 use Rattle.walk.specs.declared.lines.Listed.{Listed}
 use Rattle.walk.specs.declared.lines.LineCursor.{LineCursor}
@@ -100,7 +100,7 @@ module _ (w : Writers) (d : List ℕ) where
   step-lists LineCursor.End = refl
 
   -- The cursor that a listing starts with has all of its lines before it.
-  pub start-lists : (number place : ℕ) → linesFrom w d (startOf number place (w .sizes) d) ≡ listingOf number place w d
+  pub start-lists : (number place : ℕ) → linesFrom w d (startCursor number place (w .sizes) d) ≡ listingOf number place w d
   unfolding listingOf
   start-lists number place = go (eqb number 0)
     where

@@ -179,8 +179,8 @@ abbrev pub startBy : Answer NetworkMessage → LineCursor
 startBy (got m next) = LineCursor.Net (listedOf m)
 startBy (refused n place) = LineCursor.Bad n place
 
-abbrev pub startOf : ℕ → ℕ → List ℕ → List ℕ → LineCursor
-startOf number place sizes d = cond (eqb number 0) (startBy (networkMessageAt sizes d)) (LineCursor.Bad number place)
+abbrev pub startCursor : ℕ → ℕ → List ℕ → List ℕ → LineCursor
+startCursor number place sizes d = cond (eqb number 0) (startBy (networkMessageAt sizes d)) (LineCursor.Bad number place)
 
 -- "A refused configuration, or else datagram, is the one line `bad`, number, place." The listing of datagram d under a configuration
 -- whose reading gave a number and place, and these writers.

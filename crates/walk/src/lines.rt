@@ -21,7 +21,7 @@ use wire::part::part;
 ghost use mathlib.Core.Path.{_≡_};
 ghost use Prim.Native.Nat.{ℕ};
 ghost use mathlib.Core.List.{List};
-ghost use Rattle.walk.specs.Lines.{writers, listedOf, startOf, setStep, messageStep, fieldStep, nextLine, listingOf, lineAt};
+ghost use Rattle.walk.specs.Lines.{writers, listedOf, startCursor, setStep, messageStep, fieldStep, nextLine, listingOf, lineAt};
 
 // What the listing needs of an accepted datagram: its PublisherId and PayloadHeader with the positions where they end, and its messages.
 pub struct Listed {
@@ -71,7 +71,7 @@ fn listed_of(envelope: Envelope, places: Places, payload: Payload) -> Listed
 // The cursor before the first line of a datagram's listing, under a configuration whose reading gave a number (0 where it was accepted)
 // and a place, and the sizes of its writers.
 pub fn start(s: &[u8], number: u8, place: usize, sizes: &[u16]) -> LineCursor
-    ensures { λ r. ⌜ r ≡ startOf number place (now (sizes .entry)) (now (s .entry)) ⌝ }
+    ensures { λ r. ⌜ r ≡ startCursor number place (now (sizes .entry)) (now (s .entry)) ⌝ }
 {
     if number != 0 {
         return LineCursor::Bad(number, place);

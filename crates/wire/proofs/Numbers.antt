@@ -14,7 +14,7 @@ use lib.Signed.{ltZ, leZ, nonNeg}
 use mir.Syntax.{Width, w32, w64}
 use mir.Val.{Fits, SFits, toZ, ofZ, hbits}
 use mir.ValLaws.{toZ-pos}
-use Rattle.wire.specs.Number.{le, leBytes, signed, unsigned}
+use Rattle.wire.specs.Number.{le, leBytes, signed, unsigned, InRange}
 use Rattle.wire.specs.Items.{lengthOf}
 use Rattle.wire.specs.declared.Length.{Length}
 
@@ -87,11 +87,6 @@ negative w (negsuc k) f t =
 pub not-negative : (w : Width) (z : ℤ) → SFits w z → ltZ z (pos 0) ≡ false → (n : ℕ) × (n < 2 ^ hbits w) × (z ≡ pos n)
 not-negative w (pos k) f t = (k, f .sfits, refl)
 not-negative w (negsuc k) f t = let z : _≡_ {A = ℕ} 0 1 = cc in absurd (omega arith)
-
--- a signed number within the range of w bytes
-abbrev pub InRange : ℕ → ℤ → Type 0
-InRange w (pos n) = n < 2 ^ (8 * w - 1)
-InRange w (negsuc n) = n < 2 ^ (8 * w - 1)
 
 double : (w : ℕ) → 1 ≤ w → 2 ^ (8 * w) ≡ 2 * 2 ^ (8 * w - 1)
 double w h =

@@ -1,5 +1,5 @@
 -- Little-endian numbers, over the width w in bytes, and the signed numbers that they stand for.
-use Prim.Native.Nat.{ℕ, zero, suc, _+_, _*_, _-_, _/_, _%_, _^_}
+use Prim.Native.Nat.{ℕ, zero, suc, _+_, _*_, _-_, _/_, _%_, _^_, _<_}
 use mathlib.Core.Bool.{cond}
 use mathlib.Core.List.{List, [], _∷_}
 use lib.Dec.{ltb}
@@ -25,3 +25,8 @@ signed w n = cond (ltb n (2 ^ (8 * w - 1))) (pos n) (negsuc (2 ^ (8 * w) - 1 - n
 abbrev pub unsigned : ℕ → ℤ → ℕ
 unsigned w (pos n) = n
 unsigned w (negsuc k) = 2 ^ (8 * w) - 1 - k
+
+-- a signed number within the range of w bytes
+abbrev pub InRange : ℕ → ℤ → Type 0
+InRange w (pos n) = n < 2 ^ (8 * w - 1)
+InRange w (negsuc n) = n < 2 ^ (8 * w - 1)

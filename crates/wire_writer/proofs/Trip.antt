@@ -9,7 +9,7 @@ use lib.ListN.{length, getD, length-append}
 use lib.IntN.{ℤ, pos, negsuc}
 use lib.Seq.{getD-append-seam}
 use borrow.Author.Tests.{le-leb}
-use Rattle.wire.specs.Number.{le, leBytes, unsigned}
+use Rattle.wire.specs.Number.{le, leBytes, unsigned, InRange}
 use Rattle.wire.specs.Answer.{got, Reader, item, signedItem, ruled, run, pure, _>>=_}
 use Rattle.wire.specs.Items.{guid, guidBytes}
 use Rattle.wire.specs.Optional.{optional16, optional32, optionalI64, picosecondsRule, picosecondsAt}
@@ -17,7 +17,7 @@ use Rattle.wire.specs.declared.Guid.{Guid}
 use Rattle.wire.specs.declared.optional.Optional16.{Optional16}
 use Rattle.wire.specs.declared.optional.Optional32.{Optional32}
 use Rattle.wire.specs.declared.optional.OptionalI64.{OptionalI64}
-use Rattle.wire.proofs.Numbers.{length-leBytes, InRange, signed-unsigned}
+use Rattle.wire.proofs.Numbers.{length-leBytes, signed-unsigned}
 use Rattle.wire_writer.specs.Writing.{on16, on32, onI64, picosecondsRefusal, optional16Bytes, optional32Bytes, optionalI64Bytes}
 use Rattle.wire_writer.specs.Fits.{Fits16, Fits32, FitsGuid, FitsI64}
 

@@ -4,14 +4,14 @@ use native.Mathlib.Omega.{arith}
 use borrow.Author.Needs.{needs}
 use lib.Seq.{sets}
 use lib.ListN.{length, drop}
-use Rattle.records.specs.Numbers.{bytesOf}
+use Rattle.records.specs.Numbers.{bytesEach}
 use Rattle.records.proofs.Storing.{number-stored, all-stored}
 use Rattle.records.proofs.writers.store16.Statement.{statement}
 use Rattle.records.proofs.writers.store16.Tie as tie
 
 abbrev Inv-loop : tie.InvT-loop
 Inv-loop out₀ start list i₀ at₀ out i at =
-    (i ≤ length list) × ((at ≡ start + 2 * i) × ((length out ≡ length out₀) × (sets out at (bytesOf 2 (drop i list)) ≡ sets out₀ start (bytesOf 2 list))))
+    (i ≤ length list) × ((at ≡ start + 2 * i) × ((length out ≡ length out₀) × (sets out at (bytesEach 2 (drop i list)) ≡ sets out₀ start (bytesEach 2 list))))
 
 abbrev μ-loop : tie.MeasureT-loop
 μ-loop out₀ start list i₀ at₀ out i at = length list - i
