@@ -10,7 +10,8 @@ use Rattle.wire.proofs.Reading.{got-next, invert}
 use Rattle.plain_value.specs.Plain.{passing}
 use Rattle.value.specs.Value.{Measure, variantAt}
 use Rattle.value.proofs.FirstItems.{described-is}
-use Rattle.dataset_fields.specs.Fields.{fieldAt, endingAt, plainVariants, hintedAt, fieldsAt}
+use Rattle.dataset_fields.specs.Fields.{fieldAt, fieldsAt}
+use Rattle.dataset_fields.specs.Quick.{endingAt, plainVariants, hintedAt}
 use Rattle.dataset_header.specs.declared.flags.Encoding.{Encoding}
 use Rattle.dataset_fields.specs.declared.fields.Field.{Field}
 

@@ -1,13 +1,12 @@
 -- The fields of a DataSetMessage and the cursor over them (document 01, "The DataSetMessage" and "Values").
 use Prim.Native.Nat.{ℕ, zero, suc, _+_, _-_}
-use mathlib.Core.Bool.{Bool, false, cond, not, _&&_, true}
+use mathlib.Core.Bool.{Bool, false, cond, _&&_, true}
 use mathlib.Core.List.{List, [], _∷_, _++_}
 use lib.Dec.{leb, ltb, eqb}
 use lib.ListN.{length, getD, take, drop}
 use Rattle.wire.specs.Constants.{CUT_SHORT, DISAGREE, LEFT_OVER, OVER_LIMIT}
 use Rattle.wire.specs.Answer.{Answer, got, refused, Reader, item, here, whenOn, pure, andThen, _>>=_, _>>_}
 use Rattle.value.specs.Value.{variantAt, dataValueAt, rawAt, Measure}
-use Rattle.value.specs.Quick.{describedAt}
 use Rattle.dataset_header.specs.declared.flags.Encoding.{Encoding}
 use Rattle.dataset_fields.specs.declared.fields.Field.{Field}
 use Rattle.dataset_fields.specs.declared.fields.FieldRead.{FieldRead}
@@ -35,22 +34,6 @@ fieldAt delta encoding types k = do
   m ← encodedAt encoding types k
   end ← here
   pure (record { index = i; kind = m .kind; shape = m .shape; offset = offset; length = end - offset })
-
--- field k where the fields are Variants without indices, by its first items, where it is known to end at `end`
-abbrev pub endingAt : ℕ → ℕ → Reader Field
-endingAt end k s at =
-    andThen (describedAt end s at) (λ m e. got (record { index = k; kind = m .kind; shape = m .shape; offset = at; length = e - at }) e)
-
--- Variants without indices
-abbrev pub plainVariants : Bool → Encoding → Bool
-plainVariants delta Encoding.Variant = not delta
-plainVariants delta Encoding.RawData = false
-plainVariants delta Encoding.DataValue = false
-
--- field k, where `last` may say that it is known to be accepted and to end at `end`
-abbrev pub hintedAt : Bool → ℕ → Bool → Encoding → List ℕ → ℕ → Reader Field
-hintedAt last end delta encoding types k s at =
-    cond (last && plainVariants delta encoding) (endingAt end k s at) (fieldAt delta encoding types k s at)
 
 -- n fields, the first of them field k
 unfoldable pub fieldsAt : Bool → Encoding → List ℕ → ℕ → ℕ → Reader (Unit {0})

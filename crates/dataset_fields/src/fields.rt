@@ -8,8 +8,6 @@ use value::measure_raw;
 use value::measure_variant;
 use value::pass_element;
 use value::pass_variants;
-use value::quick::described;
-use value::quick::fixed_end;
 use wire::Item16;
 use wire::Reached;
 use wire::constants::CUT_SHORT;
@@ -28,7 +26,7 @@ ghost use Rattle.wire.specs.Lists.{total};
 ghost use Rattle.wire.specs.Answer.{got, andThen};
 ghost use Rattle.wire.specs.Items.{answerReached};
 ghost use Rattle.value.specs.Value.{answerMeasured};
-ghost use Rattle.dataset_fields.specs.Fields.{encodedAt, indexAt, fieldAt, endingAt, hintedAt, fieldsAt, nextFieldAt, zerosAt, paddingAt, answerIndex, answerField, answerFieldStep, valuesOf, reached, fieldsNumber, fieldsBytes, zeros};
+ghost use Rattle.dataset_fields.specs.Fields.{encodedAt, indexAt, fieldAt, fieldsAt, nextFieldAt, zerosAt, paddingAt, answerIndex, answerField, answerFieldStep, valuesOf, reached, fieldsNumber, fieldsBytes, zeros};
 ghost use Rattle.dataset_header.specs.declared.flags.Encoding.{Encoding};
 ghost use lib.Dec.{eqb, leb};
 ghost use lib.Seq.{sets};
@@ -74,7 +72,7 @@ pub enum IndexRead {
 }
 
 // The type number of field k, 0 where none is configured.
-fn type_of(types: &[u8], k: usize) -> u8
+pub(crate) fn type_of(types: &[u8], k: usize) -> u8
     ensures { λ r. ⌜ r ≡ getD (now (types .entry)) k 0 ⌝ }
 {
     if types.len() <= k {
@@ -107,7 +105,7 @@ fn index(s: &[u8], delta: bool, k: usize, at: usize) -> IndexRead
     IndexRead::Is(v as usize, next)
 }
 
-fn located(index: usize, kind: u8, shape: Shape, offset: usize, end: usize) -> FieldRead
+pub(crate) fn located(index: usize, kind: u8, shape: Shape, offset: usize, end: usize) -> FieldRead
     ensures { λ r.
         ⌜ answerField r
         ≡ got (record { index = index; kind = kind; shape = shape; offset = offset; length = end - offset }) end ⌝ }
@@ -125,7 +123,7 @@ fn located(index: usize, kind: u8, shape: Shape, offset: usize, end: usize) -> F
 }
 
 // A field by its index, its value's offset and what measuring the value answered.
-fn measured(index: usize, offset: usize, m: Measured) -> FieldRead
+pub(crate) fn measured(index: usize, offset: usize, m: Measured) -> FieldRead
     ensures { λ r.
         ⌜ answerField r ≡ andThen (answerMeasured m)
         (λ x end. got (record { index = index; kind = x .kind; shape = x .shape; offset = offset; length = end - offset }) end) ⌝ }
@@ -156,60 +154,6 @@ pub fn read_field(
             offset,
             encoded(s, encoding, types, k, offset),
         ),
-    }
-}
-
-// Field k where the fields are Variants without indices; most are scalars of a fixed type.
-fn read_variant(s: &[u8], types: &[u8], k: usize, at: usize) -> FieldRead
-    ensures { λ r. ⌜ answerField r ≡ fieldAt false Encoding.Variant (now (types .entry)) k (now (s .entry)) at ⌝ }
-{
-    let end = fixed_end(s, at);
-    if at < end {
-        return located(k, s[at], Shape::Scalar, at, end);
-    }
-    read_field(&*s, Encoding::Variant, false, &*types, k, at)
-}
-
-// Field k where the fields are Variants without indices, one that is accepted and ends at `end`: only its first items are read.
-fn ending_variant(s: &[u8], k: usize, at: usize, end: usize) -> FieldRead
-    ensures { λ r. ⌜ answerField r ≡ endingAt end k (now (s .entry)) at ⌝ }
-{
-    measured(k, at, described(s, at, end))
-}
-
-// Field k of RawData.
-fn read_raw(s: &[u8], types: &[u8], k: usize, at: usize) -> FieldRead
-    ensures { λ r. ⌜ answerField r ≡ fieldAt false Encoding.RawData (now (types .entry)) k (now (s .entry)) at ⌝ }
-{
-    measured(k, at, measure_raw(s, at, type_of(types, k)))
-}
-
-// Field k, which starts at a position; the two common kinds are read in line. Where `last` says so, a Variant without an index is taken
-// as one that is accepted and ends at `end`, and is not passed over again.
-pub fn field_in_line(
-    s: &[u8],
-    encoding: Encoding,
-    delta: bool,
-    types: &[u8],
-    k: usize,
-    at: usize,
-    last: bool,
-    end: usize,
-) -> FieldRead
-    ensures { λ r. ⌜ answerField r ≡ hintedAt last end delta encoding (now (types .entry)) k (now (s .entry)) at ⌝ }
-{
-    if delta {
-        return read_field(&*s, encoding, true, &*types, k, at);
-    }
-    match encoding {
-        Encoding::Variant => {
-            if last {
-                return ending_variant(s, k, at, end);
-            }
-            read_variant(s, types, k, at)
-        }
-        Encoding::RawData => read_raw(s, types, k, at),
-        Encoding::DataValue => read_field(&*s, encoding, false, &*types, k, at),
     }
 }
 

@@ -1,6 +1,6 @@
-// Quick ways to what measuring says: a Variant that is a scalar of a fixed type, or holds no other value, told by its first byte; a Variant that
-// was passed already told by its first items. Their laws are in proofs/FirstByte, FirstItems and Runs. Worth: a quarter of the time of a scalar,
-// a fifteenth of that of mixed values.
+// Quick ways to what measuring says: a Variant that is a scalar of a fixed type, or holds no other value, told by its first byte; a Variant
+// that was passed already told by its first items. Their laws are in proofs/FirstByte, FirstItems and Runs. Worth: a quarter of the time
+// of a scalar, a fifteenth of that of mixed values.
 use crate::Measured;
 use plain_value::width::packed_width;
 use wire::Item8;

@@ -3,7 +3,7 @@ use config::types_of;
 use dataset_fields::fields::Cursor;
 use dataset_fields::fields::Field;
 use dataset_fields::fields::FieldRead;
-use dataset_fields::fields::field_in_line;
+use dataset_fields::quick::field_in_line;
 use dataset_header::flags::Encoding;
 use dataset_header::flags::is_raw;
 use dataset_message::message::MessageRead;

@@ -1,10 +1,10 @@
--- `dataset_fields::fields::read_variant` meets its contract.
+-- `dataset_fields::quick::read_variant` meets its contract.
 -- Assumes nothing.
 use denote.Ref.{now}
 use borrow.Author.Needs.{needs}
 use Rattle.value.proofs.FirstItems.{fixed-variant}
-use Rattle.dataset_fields.proofs.fields.read_variant.Statement.{statement}
-use Rattle.dataset_fields.proofs.fields.read_variant.Tie as tie
+use Rattle.dataset_fields.proofs.quick.read_variant.Statement.{statement}
+use Rattle.dataset_fields.proofs.quick.read_variant.Tie as tie
 
 shared-slice-read-located : tie.Need-shared-slice-read-located
 shared-slice-read-located c =

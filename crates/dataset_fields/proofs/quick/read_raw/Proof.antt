@@ -1,9 +1,9 @@
--- `dataset_fields::fields::read_raw` meets its contract.
+-- `dataset_fields::quick::read_raw` meets its contract.
 -- Assumes nothing.
 use mathlib.Core.Path.{sym}
 use borrow.Author.Needs.{needs}
-use Rattle.dataset_fields.proofs.fields.read_raw.Statement.{statement}
-use Rattle.dataset_fields.proofs.fields.read_raw.Tie as tie
+use Rattle.dataset_fields.proofs.quick.read_raw.Statement.{statement}
+use Rattle.dataset_fields.proofs.quick.read_raw.Tie as tie
 
 returns : tie.Need-returns
 returns c = rw (sym (c .before .before .type-of .ensures), sym (c .before .measure-raw .ensures)) (c .measured .ensures)

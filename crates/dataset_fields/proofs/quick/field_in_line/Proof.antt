@@ -1,10 +1,10 @@
--- `dataset_fields::fields::field_in_line` meets its contract.
+-- `dataset_fields::quick::field_in_line` meets its contract.
 -- Assumes nothing.
 use mathlib.Core.Bool.{and-false}
 use borrow.Author.Needs.{needs}
 use Rattle.dataset_fields.proofs.Ending.{no-hint}
-use Rattle.dataset_fields.proofs.fields.field_in_line.Statement.{statement}
-use Rattle.dataset_fields.proofs.fields.field_in_line.Tie as tie
+use Rattle.dataset_fields.proofs.quick.field_in_line.Statement.{statement}
+use Rattle.dataset_fields.proofs.quick.field_in_line.Tie as tie
 
 returns : tie.Need-returns
 returns c =

@@ -1,9 +1,9 @@
--- `dataset_fields::fields::ending_variant` meets its contract.
+-- `dataset_fields::quick::ending_variant` meets its contract.
 -- Assumes nothing.
 use mathlib.Core.Path.{sym}
 use borrow.Author.Needs.{needs}
-use Rattle.dataset_fields.proofs.fields.ending_variant.Statement.{statement}
-use Rattle.dataset_fields.proofs.fields.ending_variant.Tie as tie
+use Rattle.dataset_fields.proofs.quick.ending_variant.Statement.{statement}
+use Rattle.dataset_fields.proofs.quick.ending_variant.Tie as tie
 
 returns : tie.Need-returns
 returns c = rw (sym (c .before .described .ensures)) (c .measured .ensures)
