@@ -16,7 +16,7 @@ use Rattle.dataset_fields.specs.Fields.{walked, fieldBytesOf, valuesJoin
 use Rattle.dataset_fields.proofs.Inside.{field-inside}
 use Rattle.wire_writer.proofs.Back.{Back, empty, join, end-fits, part-at, item-back}
 use Rattle.wire.proofs.Reading.{invert, got-value, got-next, not-got}
-use Rattle.wire.specs.Answer.{Answer, got, refused, ruled}
+use Rattle.wire.specs.Answer.{Answer, got, refused}
 use Rattle.wire.proofs.Places.{placed, alone}
 use Rattle.wire.proofs.Facts.{and-left, and-right}
 use Rattle.value.specs.Value.{Measure}

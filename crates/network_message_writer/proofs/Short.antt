@@ -93,7 +93,7 @@ same-short bytes xs h =
     let e = same-length bytes (take 16 xs) (held (sameNumbers bytes (take 16 xs)) 5 h) in
     omega (arith, e, length-take 16 xs, min-le-left 16 (length xs))
 
-pub text-short : (p : PublisherId) (n : ℕ) → publisherRefusal p ≡ 0 → publisherShape p n ≡ 0 → n ≤ 65535
+text-short : (p : PublisherId) (n : ℕ) → publisherRefusal p ≡ 0 → publisherShape p n ≡ 0 → n ≤ 65535
 text-short PublisherId.Absent n a b = none n b
 text-short (PublisherId.Byte v) n a b = none n b
 text-short (PublisherId.UInt16 v) n a b = none n b
@@ -108,14 +108,14 @@ chunk-unused : (chunk : Bool) (n : ℕ) → cond chunk (unused n) 6 ≡ 0 → un
 chunk-unused true n h = h
 chunk-unused false n h = absurd (omega arith)
 
-pub ids-short : (chunk : Bool) (p : PayloadHeader) (ids configured : List ℕ) → idsShape chunk p ids configured ≡ 0 → length ids ≤ 65535
+ids-short : (chunk : Bool) (p : PayloadHeader) (ids configured : List ℕ) → idsShape chunk p ids configured ≡ 0 → length ids ≤ 65535
 ids-short chunk PayloadHeader.Absent ids configured b = same-short ids configured b
 ids-short chunk (PayloadHeader.Ids n) ids configured b =
     let q = ids-counted chunk n ids configured b in
     omega (arith, q .1, q .2)
 ids-short chunk (PayloadHeader.Chunk w) ids configured b = none (length ids) (chunk-unused chunk (length ids) b)
 
-pub promoted-short : (x : Promoted) (n : ℕ) → promotedShape x n ≡ 0 → n ≤ 65535
+promoted-short : (x : Promoted) (n : ℕ) → promotedShape x n ≡ 0 → n ≤ 65535
 promoted-short Promoted.Absent n b = none n b
 promoted-short (Promoted.Size k) n b =
     let q = passed (leb 65536 k) 5 (cond (eqb k n) 0 6) b in
@@ -130,7 +130,7 @@ listed-length n lengths rest h = go (eqb (length lengths) (2 * n)) _ (λ e. e) h
     go true k f q = eqb-true (length lengths) (2 * n) (f refl)
     go false k f q = absurd (omega arith)
 
-pub lengths-short : (chunk : Bool) (p : PayloadHeader) (ids lengths messages sizes configured : List ℕ) → idsShape chunk p ids configured ≡ 0 → payloadRefusal chunk p sizes lengths messages ≡ 0
+lengths-short : (chunk : Bool) (p : PayloadHeader) (ids lengths messages sizes configured : List ℕ) → idsShape chunk p ids configured ≡ 0 → payloadRefusal chunk p sizes lengths messages ≡ 0
     → lengthsShape p lengths sizes ≡ 0 → length lengths ≤ 65535
 lengths-short chunk PayloadHeader.Absent ids lengths messages sizes configured a b c = go (leb (length (configuredSizes sizes)) 1) c
   where

@@ -7,7 +7,7 @@ use Prim.Native.Nat.{ℕ, zero, suc, _+_, _-_, _^_, _*_, _≤_, _<_}
 use native.Mathlib.Omega.{arith}
 use lib.ListN.{length, drop, length-drop, length-append}
 use lib.Seq.{length-take-le}
-use lib.Dec.{eqb, leb, ltb, eqb→eq}
+use lib.Dec.{eqb, leb, ltb}
 use borrow.Author.Tests.{eqb-true, eqb-false, lt-leb, lt-ltb, le-leb, leb-false}
 use Rattle.wire.specs.Number.{le, leBytes, signed}
 use Rattle.wire.specs.Answer.{got, refused, andThen, item, run, pure, _>>=_}

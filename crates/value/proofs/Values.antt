@@ -2,22 +2,22 @@
 -- Assumes nothing.
 use mathlib.Core.Path.{_≡_, refl, subst}
 use mathlib.Core.Bool.{Bool, true, false, cond}
-use mathlib.Core.List.{List, _++_}
+use mathlib.Core.List.{List}
 use Prim.Native.Nat.{ℕ, zero, suc, _+_, _*_, _-_, _<_, _≤_}
 use native.Mathlib.Nat.{le-refl, le-add-right}
 use native.Mathlib.Omega.{arith}
 use lib.Dec.{eqb, leb}
-use lib.ListN.{length, getD, take, drop}
+use lib.ListN.{length}
 use borrow.Author.Tests.{leb-true, leb-false}
 use Rattle.wire.specs.Number.{le}
-use Rattle.wire.specs.Answer.{got, refused, Reader, _>>=_, ruled, bit}
+use Rattle.wire.specs.Answer.{got, Reader, _>>=_, ruled, bit}
 use Rattle.wire.specs.declared.Length.{Length}
 use Rattle.plain_value.specs.Width.{widthOf, fixed}
 use Rattle.plain_value.specs.Parts.{parts}
 use Rattle.plain_value.specs.Plain.{passing, bytes, afterLength, byLength, string, plain, plainValue, plainValues}
 use Rattle.value.specs.Value.{Measure, measure, typeOf, isArray, variantRule, scalar, elements, array, variantOf, maskRule, dataValueOf, tooDeep, valueAt, rawAt}
 use Rattle.value.specs.declared.Shape.{Shape}
-use Rattle.wire.proofs.Places.{movedBy, end-of, within-refused, local, append, append-refused, take-refused, cut, after, placed, alone}
+use Rattle.wire.proofs.Places.{end-of, after}
 use Rattle.wire.proofs.Steady.{Ends, Steady, Onward, steadily, refusing, pure-steady, refuse-steady, item-steady, length-item-steady, run-steady, onward-steady, bind-steady, then-steady, cond-steady, when-steady, each-steady, ruled-ends, ruled-steady, taking-ends, then-ends}
 
 passing-steady : {A : Type 0} {r : Reader A} → Steady r → Steady (passing r)
