@@ -15,7 +15,7 @@ use mathlib.Core.List.{_++_, List}
 use lib.ListN.{length, length-append}
 use Rattle.network_header.specs.declared.group.GroupHeader.{GroupHeader}
 use borrow.Author.Tests.{lt-leb, leb-false}
-use lib.Dec.{eqb, leb}
+use lib.Dec.{eqb, leb, eqb→eq}
 use Rattle.wire.proofs.Table.{below}
 use Rattle.wire.specs.Optional.{optional16, optional32}
 use Rattle.wire.proofs.Reading.{invert, got-value, got-next}
