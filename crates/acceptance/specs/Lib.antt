@@ -1,2 +1,3 @@
 pub mod Edges
 pub mod Refusals
+pub mod Demand3
