@@ -1,103 +1,97 @@
--- DEMAND 3: any list of calls on a sound, just emptied partial answers as document 01's plain machine, and partials combine by the fixed laws.
--- `replies` and `final` say what the code answers and leaves, by the equations of its contracts (`takeIn`, `combine`, `emptied`, `askComplete`,
--- `judgeHandOut`, `handOut`); `machineReplies` and `machineFinal` are the plain machine, which knows no areas and no marks.
--- Assumes nothing.
-use Prim.Native.Nat.{ℕ, _≤_, _<_}
-use mathlib.Core.Path.{_≡_}
-use mathlib.Core.Logic.{_↔_}
-use mathlib.Core.Bool.{true, false}
-use mathlib.Core.List.{List, []}
-use mathlib.Core.Option.{some}
+-- Demand 3 holds: each field by the theorem that proves it. Assumes nothing.
+use Prim.Native.Nat.{ℕ, _≤_}
+use mathlib.Core.Path.{_≡_, refl, subst, sym}
+use mathlib.Core.Bool.{true, false≢true}
+use mathlib.Core.List.{List, [], _∷_}
+use mathlib.Core.Logic.{inl, inr}
+use native.Mathlib.Omega.{arith}
+use lib.Dec.{eqb}
 use lib.ListN.{length}
-use Rattle.wire.specs.Answer.{got}
-use Rattle.chunk.specs.Datagram.{chunkAt, chunkData}
+use borrow.Author.Tests.{eqb-true}
+use Rattle.wire.specs.Answer.{Answer, got, refused}
+use Rattle.chunk.specs.Datagram.{chunkAt}
 use Rattle.chunk.specs.declared.datagram.ChunkPlace.{ChunkPlace}
-use Rattle.reassembly.specs.Record.{Partial, Identity, sound, Good}
-use Rattle.reassembly.specs.Reading.{messageOf, readingAt}
-use Rattle.reassembly.specs.Reading.Reading.{chunk}
-use Rattle.reassembly.specs.Machine.{viewIn}
-use Rattle.reassembly.specs.Machine.State.{idle}
-use Rattle.reassembly.specs.Judge.{stateOf, Complete, Equal, alone}
-use Rattle.reassembly.specs.Operations.{takeIn, combine, askComplete, judgeHandOut, handOut}
-use Rattle.reassembly.specs.declared.verdict.Completeness.the-variants as C
-use Rattle.reassembly.specs.declared.verdict.Verdict.the-variants.{Done}
-use Rattle.reassembly.proofs.JudgeLaws as JudgeLaws
-use Rattle.reassembly.specs.Calls.{Call, replies, final}
-use Rattle.reassembly_laws.specs.History.{machineReplies, machineFinal, brought, Brings, AllOf}
-use Rattle.reassembly_laws.specs.Combining.{Pair, Three, isRefused, someDisagree, leftVerdict, leftResult, rightVerdict, rightResult}
-use Rattle.reassembly_laws.specs.Cutting.{Arrival, takings, dones, IsCut, AllArrive}
-use Rattle.reassembly_laws.proofs.Demand3 as D
+use Rattle.reassembly.specs.Reading.{readingBy, readingAt}
+use Rattle.reassembly.specs.Reading.Reading.{chunk, refusal}
+use Rattle.reassembly.specs.Machine.{Call}
+use Rattle.reassembly.specs.Machine.Call.{Empty, Take, Combine, Ask, HandOut}
+use Rattle.reassembly_laws.specs.Refusing.{oneOf, ByNumber, MayRefuse}
+use Rattle.wire.proofs.Cases.{by-bool}
+use Rattle.reassembly_laws.proofs.Demand3 as laws
+use Rattle.reassembly_laws.proofs.Equality as Equality
+use Rattle.reassembly_laws.proofs.Refusing as Refusing
 use Rattle.reassembly_laws.proofs.Cutting as Cutting
+use Rattle.reassembly_laws.proofs.Layouts as Layouts
+use Rattle.partial_record.proofs.Back as Back
+use Rattle.uadp_c.proofs.Demand3 as lent
+use Rattle.acceptance.specs.Refusals.{Refusal}
+use Rattle.acceptance.specs.Demand3.{Demand3, bytesRead}
+use Rattle.acceptance.proofs.Demand1.{refused-chunk}
 
--- ---- The one claim over any list of calls, and what follows from it. The list is on a partial that is sound and not started.
-module _ (ks : List Call) (s : Partial) (is-sound : sound s ≡ true) (emptied : s .rec .started ≡ false) where
-  good : Good s
-  good = record { is-sound = is-sound }
+-- ---- a refusal's number and place
+module _ (d sizes : List ℕ) (n place : ℕ) where
+  own-number : readingAt sizes d ≡ refusal n place → chunkAt sizes d ≡ refused n place
+  unfolding readingAt
+  own-number e = go (chunkAt sizes d) e
+    where
+      go : (x : Answer ChunkPlace) → readingBy x d ≡ refusal n place → x ≡ refused n place
+      go (got c m) q = let z : _≡_ {A = ℕ} 0 1 = cc in absurd (omega arith)
+      go (refused m p) q = cc
 
-  -- Every answer in the list is the machine's.
-  pub answers-are-the-machine's : replies ks s ≡ machineReplies (length (s .payload)) ks idle
-  answers-are-the-machine's = D.history ks s good emptied .replies-are
+-- every number of a list
+abbrev Every : (ℕ → Type 0) → List ℕ → Type 0
+Every P [] = Unit {0}
+Every P (x ∷ l) = P x × Every P l
 
-  -- The partial afterwards is equal to what the machine keeps.
-  pub partial-is-what-the-machine-keeps : stateOf (final ks s) ≡ machineFinal (length (s .payload)) ks idle
-  partial-is-what-the-machine-keeps = D.history ks s good emptied .partial-is
+numbered : (P : ℕ → Type 0) (n : ℕ) (l : List ℕ) → Every P l → oneOf l n ≡ true → P n
+numbered P n [] a e = absurd (false≢true e)
+numbered P n (x ∷ l) a e = by-bool _ (eqb x n) (λ h. subst P (eqb-true x n h) (a .0)) (λ h. numbered P n l (a .1) (rw h at e))
 
-  -- The partial stays sound.
-  pub stays-sound : sound (final ks s) ≡ true
-  stays-sound = D.history ks s good emptied .stays-good .is-sound
+module _ (bytes : ℕ) where
+  at-zero : (n : ℕ) → 1 ≤ n → n ≤ 16 → Refusal n 0 bytes
+  at-zero n h k = record { some = h; last = k; nowhere = λ _. refl; inside = omega arith }
 
-  -- A byte is covered exactly if one accepted since the last emptying brought it, and it has the value brought.
-  pub covered-exactly-if-brought : (i x : ℕ) → (viewIn (stateOf (final ks s)) i ≡ some x) ↔ Brings (brought (length (s .payload)) ks idle []) i x
-  covered-exactly-if-brought = D.covered-exactly-if-brought ks s good emptied
+  -- by one of these numbers, at 0
+  by-number : (l : List ℕ) (n place : ℕ) → Every (λ x. (1 ≤ x) × (x ≤ 16)) l → ByNumber l n place → Refusal n place bytes
+  by-number l n place a h =
+      let r = numbered (λ x. (1 ≤ x) × (x ≤ 16)) n l a (h .0) in
+      subst (λ (p : ℕ). Refusal n p bytes) (sym (h .1)) (at-zero n (r .0) (r .1))
 
-  -- If all that was brought is of one payload, that payload is handed out.
-  pub one-payload : (p : List ℕ) → AllOf p (brought (length (s .payload)) ks idle []) → judgeHandOut (final ks s) ≡ Done → handOut (final ks s) ≡ p
-  one-payload = D.one-payload ks s good emptied
+by-four : (bytes n place : ℕ) → ByNumber (12 ∷ 11 ∷ 13 ∷ 14 ∷ []) n place → Refusal n place bytes
+by-four bytes n place h =
+    by-number bytes (12 ∷ 11 ∷ 13 ∷ 14 ∷ []) n place
+    ((omega arith, omega arith), ((omega arith, omega arith), ((omega arith, omega arith), ((omega arith, omega arith), tt)))) h
 
--- ---- Complete is said, and handing out is accepted, exactly if the partial is started and covered at every byte below total.
-pub complete-exactly : (s : Partial) → sound s ≡ true → (askComplete s ≡ C.Yes) ↔ Complete s
-complete-exactly s h = D.complete-exactly s (record { is-sound = h })
+placed : (k : Call) (n place : ℕ) → MayRefuse k n place → Refusal n place (bytesRead k)
+placed Empty n place h = absurd h
+placed (Take d sizes) n place (inl h) = by-four (length d) n place h
+placed (Take d sizes) n place (inr e) = refused-chunk sizes d n place (own-number d sizes n place e)
+placed (Combine f) n place h = by-four 0 n place h
+placed Ask n place h = by-number 0 (12 ∷ []) n place ((omega arith, omega arith), tt) h
+placed HandOut n place h = by-number 0 (12 ∷ 15 ∷ []) n place ((omega arith, omega arith), ((omega arith, omega arith), tt)) h
 
-pub hand-out-exactly : (s : Partial) → sound s ≡ true → (judgeHandOut s ≡ Done) ↔ Complete s
-hand-out-exactly s h = D.hand-out-exactly s (record { is-sound = h })
-
--- ---- The laws of combining. `Pair` and `Three` ask that the partials are sound and that no total is above an area that it comes to: of areas of
--- unequal length, one may be too short for what the other holds, and then 11 arises one way only.
-
--- Either order gives equal results or the same refusal.
-pub combine-either-order : (a b : Partial) → Pair a b
-    → (combine a b .verdict ≡ combine b a .verdict) × (combine a b .verdict ≡ Done → Equal (combine a b .after) (combine b a .after))
-combine-either-order a b w = (D.combine-order a b w .same-verdict, D.combine-order a b w .equal)
-
--- An equal one changes nothing, nor does one not started: the answer is done, and record and areas are as they were.
-pub combine-equal : (a b : Partial) → sound a ≡ true → sound b ≡ true → Equal a b → combine a b ≡ record { verdict = Done; after = a }
-combine-equal a b ga gb e = D.combine-equal a b (record { is-sound = ga }) (record { is-sound = gb }) e
-
-pub combine-not-started : (a b : Partial) → sound a ≡ true → sound b ≡ true → b .rec .started ≡ false → combine a b ≡ record { verdict = Done; after = a }
-combine-not-started a b ga gb e = D.combine-not-started a b (record { is-sound = ga }) (record { is-sound = gb }) e
-
--- Either grouping of three gives equal results, or both are refused, and that exactly if two of the three disagree.
-pub combine-either-grouping : (a b c : Partial) → Three a b c
-    → (isRefused (leftVerdict a b c) ≡ someDisagree a b c)
-    × (isRefused (rightVerdict a b c) ≡ someDisagree a b c)
-    × (someDisagree a b c ≡ false → Equal (leftResult a b c) (rightResult a b c))
-combine-either-grouping a b c w = (D.combine-groupings a b c w .left, D.combine-groupings a b c w .right, D.combine-groupings a b c w .equal)
-
--- ---- Taking in a chunk that has no fault of its own equals combining with that chunk alone: the same answer, equal results.
-pub take-in-is-combine : (s f : Partial) → sound s ≡ true → sound f ≡ true → (sizes d : List ℕ) (c : ChunkPlace) (n : ℕ) → chunkAt sizes d ≡ got c n
-    → stateOf f ≡ alone (readingAt sizes d)
-    → (takeIn s (readingAt sizes d) .verdict ≡ combine s f .verdict) × Equal (takeIn s (readingAt sizes d) .after) (combine s f .after)
-take-in-is-combine s f gs gf sizes d c n e q =
-    let r : readingAt sizes d ≡ chunk (messageOf c d) (c .payload .offset) (chunkData (got c n) d) = JudgeLaws.reading-got sizes d c n e in
-    let p = D.chunk-as-partial s f (record { is-sound = gs }) (record { is-sound = gf }) (messageOf c d) (c .payload .offset)
-    (chunkData (got c n) d) (JudgeLaws.proper-got sizes d c n e) (rw r at q) in
-    rw r (p .verdict, p .equal)
-
--- ---- A payload cut into chunks and taken in in any order, some chunks more than once, each from a datagram of the same publisher and writer whose
--- payload is what cutting wrote: every taking in is accepted, complete is said, and the payload is handed out.
-pub cut-and-restored : (id : Identity) (p : List ℕ) (size : ℕ) (l : List Arrival) → AllArrive id p size (IsCut id p size) l → id .number < 65536
-    → (s : Partial) → sound s ≡ true → s .rec .started ≡ false → length p ≤ length (s .payload)
-    → (replies (takings l) s ≡ dones l) × (askComplete (final (takings l) s) ≡ C.Yes) × (handOut (final (takings l) s) ≡ p)
-cut-and-restored id p size l a h s g e r =
-    let w = Cutting.all-cuts-restore id p size l a h s (record { is-sound = g }) e r in
-    (w .accepted, w .says-complete, w .payload)
+pub demand-3 : Demand3
+demand-3 = record {
+  any-list = laws.any-list;
+  complete-exactly = laws.complete-exactly;
+  handed-out-exactly = laws.hand-out-exactly;
+  either-order = λ a b ga gb e. laws.combine-order a b (laws.equal-areas a b ga gb e);
+  equal-changes-nothing = laws.combine-equal;
+  not-started-changes-nothing = laws.combine-not-started;
+  either-grouping = λ a b c ga gb gc ab bc. laws.combine-groupings a b c (laws.three-equal-areas a b c ga gb gc ab bc);
+  equal-exactly = Equality.equal-exactly;
+  chunk-alone = laws.datagram-alone;
+  take-in-is-combine = laws.datagram-is-combine;
+  take-in-as-combine = laws.datagram-as-partial;
+  chunks-restore = Cutting.all-chunks-restore;
+  cut-and-restored = Cutting.all-cuts-restore;
+  refused-leaves = laws.refused-leaves;
+  refused-hands-nothing = laws.handed-nothing;
+  refused-by = Refusing.may-refuse;
+  refused-place = λ k s n place e. placed k n place (Refusing.may-refuse k s n place e);
+  any-lent-list = lent.lent-list;
+  lent-refused = lent.lent-refused;
+  record-read-back = Back.partial-back;
+  same-in-layouts = Layouts.same-from-emptying;
+  like-in-layout = Layouts.in-layout-same;
+}

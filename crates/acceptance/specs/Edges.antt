@@ -14,9 +14,10 @@ use Rattle.value.specs.declared.Shape.{Shape}
 use Rattle.publisher_id.specs.declared.publisher.PublisherId.{PublisherId}
 use Rattle.publisher_id.specs.declared.publisher_record.PublisherRecord.{PublisherRecord}
 use Rattle.reassembly.specs.Record.{Partial, partial}
-use Rattle.reassembly.specs.Calls.{Call, Reply, replies}
-use Rattle.reassembly.specs.Calls.Call.{Take, Ask, HandOut}
-use Rattle.reassembly.specs.Calls.Reply.{done, said, handed, refused as refusal}
+use Rattle.reassembly.specs.Machine.{Call, Reply}
+use Rattle.reassembly.specs.Machine.Call.{Take, Ask, HandOut}
+use Rattle.reassembly.specs.Machine.Reply.{done, said, handed, refused as refusal}
+use Rattle.reassembly.specs.Calls.{replies}
 
 -- a reading: a received sequence number by the last one; a Variant at the start of some bytes; a list of calls on a partial
 pub data EdgeReading : Type 0 where
@@ -26,8 +27,8 @@ pub data EdgeReading : Type 0 where
 
 -- a chunk of publisher 4711, writer 21, message 7 and total 5 with three bytes at an offset: byte 0 D1 (PublisherId, PayloadHeader,
 -- ExtendedFlags1), 81 (UInt16, ExtendedFlags2), 01 (chunk), 67 12, 15 00; then 07 00, the offset, 05 00 00 00, 03 00 00 00 and the bytes
-abbrev pub chunkOf : ℕ → ℕ → ℕ → ℕ → Call
-chunkOf offset a b c =
+abbrev pub chunkCall : ℕ → ℕ → ℕ → ℕ → Call
+chunkCall offset a b c =
     Take
     (209 ∷ 129 ∷ 1 ∷ 103 ∷ 18 ∷ 21 ∷ 0
     ∷ 7 ∷ 0 ∷ offset ∷ 0 ∷ 0 ∷ 0 ∷ 5 ∷ 0 ∷ 0 ∷ 0 ∷ 3 ∷ 0 ∷ 0 ∷ 0 ∷ a ∷ b ∷ c ∷ [])
@@ -57,8 +58,8 @@ table =
     ∷ variant (0 ∷ []) (got (measure 0 Shape.Scalar) 1)
     ∷ variant (133 ∷ 255 ∷ 255 ∷ 255 ∷ 255 ∷ []) (got (measure 5 Shape.NullArray) 5)
     ∷ variant (24 ∷ []) (refused NOT_PERMITTED 0)
-    ∷ calls (chunkOf 0 1 2 3 ∷ chunkOf 2 3 4 5 ∷ Ask ∷ HandOut ∷ []) fresh (done ∷ done ∷ said true ∷ handed (1 ∷ 2 ∷ 3 ∷ 4 ∷ 5 ∷ []) ∷ [])
-    ∷ calls (chunkOf 0 1 2 3 ∷ chunkOf 2 8 4 5 ∷ Ask ∷ HandOut ∷ []) fresh
+    ∷ calls (chunkCall 0 1 2 3 ∷ chunkCall 2 3 4 5 ∷ Ask ∷ HandOut ∷ []) fresh (done ∷ done ∷ said true ∷ handed (1 ∷ 2 ∷ 3 ∷ 4 ∷ 5 ∷ []) ∷ [])
+    ∷ calls (chunkCall 0 1 2 3 ∷ chunkCall 2 8 4 5 ∷ Ask ∷ HandOut ∷ []) fresh
     (done ∷ refusal BYTE_DIFFERS 0 ∷ said false ∷ refusal NOT_COMPLETE 0 ∷ [])
     ∷ []
 

@@ -1,3 +1,4 @@
 pub mod Edges
 pub mod Refusals
 pub mod Sentences
+pub mod Demand3

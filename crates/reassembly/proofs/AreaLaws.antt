@@ -7,7 +7,7 @@ use mathlib.Core.Option.{Option, some, none, orElse, Option·getD}
 use native.Mathlib.Omega.{arith}
 use lib.ListN.{length, getD, take}
 use lib.Seq.{ext-getD, getD-take, length-take-le}
-use Rattle.reassembly.specs.Views.{View, isSome, has, onlyIf, dataView, nowhere, joined, differs, clash, full, bytesOf, laid}
+use Rattle.reassembly.specs.Views.{View, isSome, has, onlyIf, dataView, nowhere, bothViews, differs, clash, full, bytesBelow, overlaid}
 use Rattle.marks.specs.Offsets.{allBelow}
 use Rattle.marks.specs.Marks.{Layout, marksFor, marked, cleared, markAll, markedBelow, allMarked}
 use Rattle.reassembly.specs.Areas.{markedView}
@@ -55,25 +55,25 @@ module _ (L : Layout) where
       ∙ sym (clash-data total (markedView L total p m) at d fits)
 
   -- ---- a view laid in
-  put-none : (t : ℕ) (v : View) (p m : List ℕ) (i : ℕ) → i < t → t ≤ length p → v i ≡ none → markedView L t (laid v p) (markAll L (has v) m) i ≡ markedView L t p m i
+  put-none : (t : ℕ) (v : View) (p m : List ℕ) (i : ℕ) → i < t → t ≤ length p → v i ≡ none → markedView L t (overlaid v p) (markAll L (has v) m) i ≡ markedView L t p m i
   put-none t v p m i l hp e =
-      let a : getD (laid v p) i 0 ≡ getD p i 0 = getD-laid v p i (omega arith) ∙ ap (λ (o : Option ℕ). Option·getD o (getD p i 0)) e in
-      marked-below t (laid v p) (markAll L (has v) m) i l ∙ rw (a, marked-off L (has v) m i (ap isSome e)) (sym (marked-below t p m i l))
+      let a : getD (overlaid v p) i 0 ≡ getD p i 0 = getD-laid v p i (omega arith) ∙ ap (λ (o : Option ℕ). Option·getD o (getD p i 0)) e in
+      marked-below t (overlaid v p) (markAll L (has v) m) i l ∙ rw (a, marked-off L (has v) m i (ap isSome e)) (sym (marked-below t p m i l))
 
-  put-some : (t : ℕ) (v : View) (p m : List ℕ) (i x : ℕ) → i < t → t ≤ length p → marksFor L t ≤ length m → v i ≡ some x → markedView L t (laid v p) (markAll L (has v) m) i ≡ some x
+  put-some : (t : ℕ) (v : View) (p m : List ℕ) (i x : ℕ) → i < t → t ≤ length p → marksFor L t ≤ length m → v i ≡ some x → markedView L t (overlaid v p) (markAll L (has v) m) i ≡ some x
   put-some t v p m i x l hp hm e =
-      let a : getD (laid v p) i 0 ≡ x = getD-laid v p i (omega arith) ∙ ap (λ (o : Option ℕ). Option·getD o (getD p i 0)) e in
-      marked-below t (laid v p) (markAll L (has v) m) i l ∙ rw (a, marked-on L t (has v) m i l hm (ap isSome e))
+      let a : getD (overlaid v p) i 0 ≡ x = getD-laid v p i (omega arith) ∙ ap (λ (o : Option ℕ). Option·getD o (getD p i 0)) e in
+      marked-below t (overlaid v p) (markAll L (has v) m) i l ∙ rw (a, marked-on L t (has v) m i l hm (ap isSome e))
 
   -- laying a view in that differs nowhere: what is covered then is both
   pub view-put : (t : ℕ) (v : View) (p m : List ℕ) → t ≤ length p → marksFor L t ≤ length m → ((i : ℕ) → t ≤ i → v i ≡ none) → clash t (markedView L t p m) v ≡ false
-      → markedView L t (laid v p) (markAll L (has v) m) ≡ joined (markedView L t p m) v
+      → markedView L t (overlaid v p) (markAll L (has v) m) ≡ bothViews (markedView L t p m) v
   unfolding orElse
   view-put t v p m hp hm above free =
       fun-ext (λ i. by-lt _ i t (λ l. below i l (v i) refl)
-      (λ l. marked-above t (laid v p) (markAll L (has v) m) i l ∙ sym (ap₂ orElse (marked-above t p m i l) (above i l))))
+      (λ l. marked-above t (overlaid v p) (markAll L (has v) m) i l ∙ sym (ap₂ orElse (marked-above t p m i l) (above i l))))
     where
-      below : (i : ℕ) → i < t → (o : Option ℕ) → v i ≡ o → markedView L t (laid v p) (markAll L (has v) m) i ≡ joined (markedView L t p m) v i
+      below : (i : ℕ) → i < t → (o : Option ℕ) → v i ≡ o → markedView L t (overlaid v p) (markAll L (has v) m) i ≡ bothViews (markedView L t p m) v i
       below i l none e = put-none t v p m i l hp e ∙ sym (ap (orElse (markedView L t p m i)) e ∙ first-none (markedView L t p m i))
       below i l (some x) e =
           put-some t v p m i x l hp hm e
@@ -85,9 +85,9 @@ module _ (L : Layout) where
       fun-ext (λ i. by-lt _ i t (λ l. marked-below t p (cleared m) i l ∙ rw (marked-cleared L m i)) (λ l. marked-above t p (cleared m) i l))
 
   -- laying in what is covered already changes no byte
-  pub laid-self : (t : ℕ) (p m : List ℕ) → laid (markedView L t p m) p ≡ p
+  pub laid-self : (t : ℕ) (p m : List ℕ) → overlaid (markedView L t p m) p ≡ p
   laid-self t p m =
-      ext-getD 0 (laid (markedView L t p m) p) p (length-laid (markedView L t p m) p)
+      ext-getD 0 (overlaid (markedView L t p m) p) p (length-laid (markedView L t p m) p)
       (λ i h. let k : i < length p = rw length-laid at h in
       getD-laid (markedView L t p m) p i k
       ∙ by-lt _ i t (λ l. rw (marked-below t p m i l) (same (marked L m i) (getD p i 0))) (λ l. rw (marked-above t p m i l)))
@@ -104,9 +104,9 @@ module _ (L : Layout) where
   unfolding allMarked full
   full-marked n p m = ap (allBelow n) (has-marked n p m) ∙ all-ext n _ _ (λ i h. marked-is L n m i h)
 
-  pub full-bytes : (t : ℕ) (p m : List ℕ) → t ≤ length p → full t (markedView L t p m) ≡ true → take t p ≡ bytesOf t (markedView L t p m)
+  pub full-bytes : (t : ℕ) (p m : List ℕ) → t ≤ length p → full t (markedView L t p m) ≡ true → take t p ≡ bytesBelow t (markedView L t p m)
   full-bytes t p m h e =
-      ext-getD 0 (take t p) (bytesOf t (markedView L t p m)) (length-take-le t p h ∙ sym (length-tab t _))
+      ext-getD 0 (take t p) (bytesBelow t (markedView L t p m)) (length-take-le t p h ∙ sym (length-tab t _))
       (λ i k. let l : i < t = rw (length-take-le t p h) at k in
       getD-take t p i 0 l ∙ sym (getD-tab t (λ i. Option·getD (markedView L t p m i) 0) i 0 l ∙ byte i l (full-some t (markedView L t p m) e i l)))
     where

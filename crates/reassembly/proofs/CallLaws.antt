@@ -7,8 +7,9 @@ use native.Mathlib.Omega.{arith}
 use Rattle.reassembly.specs.Record.{Partial, partial}
 use Rattle.reassembly.specs.Reading.{readingAt}
 use Rattle.reassembly.specs.Operations.{Step, stepOf, takeIn, combine, judgeHandOut, handOut}
-use Rattle.reassembly.specs.Calls.{Does, replyOf, saidOf, handedOf, answers}
-use Rattle.reassembly.specs.Calls.Call.{Take, Combine, HandOut}
+use Rattle.reassembly.specs.Machine.{replyOf, handedOf}
+use Rattle.reassembly.specs.Machine.Call.{Take, Combine, HandOut}
+use Rattle.reassembly.specs.Calls.{Does, saidOf, answers}
 use Rattle.reassembly.specs.declared.operations.Outcome.{Outcome}
 use Rattle.reassembly.specs.declared.verdict.Completeness.{Completeness}
 use Rattle.reassembly.specs.declared.verdict.Completeness.the-variants as C
@@ -22,7 +23,7 @@ pub joined : (x : Step) (s f : Partial) → x ≡ combine s f → Does (Combine 
 joined x s f q = record { answer = ap (λ (y : Step). replyOf (y .verdict)) q; left = ap (λ (y : Step). y .after) q }
 
 -- answers tell verdicts apart
-one-verdict : (v w : Verdict) → replyOf v ≡ replyOf w → v ≡ w
+pub one-verdict : (v w : Verdict) → replyOf v ≡ replyOf w → v ≡ w
 one-verdict Done Done e = refl
 one-verdict Done (Refused n p) e = let z : _≡_ {A = ℕ} 0 1 = cc in absurd (omega arith)
 one-verdict (Refused n p) Done e = let z : _≡_ {A = ℕ} 0 1 = cc in absurd (omega arith)

@@ -7,7 +7,7 @@ use native.Mathlib.Omega.{arith}
 use lib.ListN.{length, take, drop}
 use lib.Dec.{leb, eqb}
 use borrow.Author.Tests.{le-leb, leb-true, eqb-true}
-use Rattle.reassembly.specs.Views.{View, dataView, clash, laid}
+use Rattle.reassembly.specs.Views.{View, dataView, clash, overlaid}
 use Rattle.marks.specs.Offsets.{inRange}
 use Rattle.marks.specs.Marks.{marksFor, markAll, markedBelow, allMarked}
 use Rattle.reassembly.specs.Areas.{markedView}
@@ -18,11 +18,11 @@ use Rattle.chunk.specs.Datagram.{chunkAt}
 use Rattle.chunk.specs.declared.datagram.ChunkPlace.{ChunkPlace}
 use Rattle.chunk.proofs.Accepted
 use Rattle.reassembly.specs.Record.{Identity, identityOf, sameMessage, Partial, soundBy, sound}
-use Rattle.reassembly.specs.Reading.{Reading, messageOf, readingBy, readingAt, Proper, ProperReading}
+use Rattle.reassembly.specs.Reading.{Reading, chunkMessage, readingBy, readingAt, GoodChunk, GoodReading}
 use Rattle.reassembly.specs.Reading.Reading.{chunk, refusal}
-use Rattle.reassembly.specs.Machine.{State, judge, judgeState, meet}
+use Rattle.reassembly.specs.Machine.{State, judge, between, viewOf, stateOf, readingVerdict}
 use Rattle.reassembly.specs.Machine.State.{held}
-use Rattle.reassembly.specs.Judge.{viewOf, stateOf, admissionOf, readingVerdict, judgeReading, judgeCombine}
+use Rattle.reassembly.specs.Judge.{admissionOf, judgeReading, judgeCombine}
 use Rattle.reassembly.specs.Operations.{begun, begunMarks, put, putReading, takeIn, combine, yesNo, askComplete, judgeHandOut}
 use Rattle.reassembly.specs.declared.judge.Admission.{Admission}
 use Rattle.reassembly.specs.declared.judge.Admission.the-variants as A
@@ -65,7 +65,7 @@ module _ (s : Partial) (e : sound s ≡ true) where
 
 -- ---- what a datagram reads as
 module _ (sizes s : List ℕ) where
-  pub reading-got : (c : ChunkPlace) (n : ℕ) → chunkAt sizes s ≡ got c n → readingAt sizes s ≡ chunk (messageOf c s) (c .payload .offset) (take (c .payload .length) (drop (c .payload .first) s))
+  pub reading-got : (c : ChunkPlace) (n : ℕ) → chunkAt sizes s ≡ got c n → readingAt sizes s ≡ chunk (chunkMessage c s) (c .payload .offset) (take (c .payload .length) (drop (c .payload .first) s))
   unfolding readingAt
   reading-got c n e = rw e
 
@@ -74,18 +74,18 @@ module _ (sizes s : List ℕ) where
   reading-refusal n p e = rw e
 
   -- an accepted chunk has no fault of its own
-  pub proper-got : (c : ChunkPlace) (n : ℕ) → chunkAt sizes s ≡ got c n → Proper (messageOf c s) (c .payload .offset) (length (take (c .payload .length) (drop (c .payload .first) s)))
+  proper-got : (c : ChunkPlace) (n : ℕ) → chunkAt sizes s ≡ got c n → GoodChunk (chunkMessage c s) (c .payload .offset) (length (take (c .payload .length) (drop (c .payload .first) s)))
   unfolding publisherFits
   proper-got c n e =
       let a = Accepted.accepted sizes s c n e in
       let l : length (take (c .payload .length) (drop (c .payload .first) s)) ≡ c .payload .length = rw e at (Accepted.data-length sizes s c n e) in
       record { publisher = le-leb _ _ (a .publisher); some = a .sized .some; fits = rw l (a .sized .fits) }
 
-  pub reading-proper : ProperReading (readingAt sizes s)
+  pub reading-proper : GoodReading (readingAt sizes s)
   unfolding readingAt
   reading-proper = go (chunkAt sizes s) refl
     where
-      go : (x : Answer ChunkPlace) → chunkAt sizes s ≡ x → ProperReading (readingBy x s)
+      go : (x : Answer ChunkPlace) → chunkAt sizes s ≡ x → GoodReading (readingBy x s)
       go (got c n) e = proper-got c n e
       go (refused n p) e = tt
 
@@ -95,7 +95,7 @@ admitted (A.Refused n) b = Refused n 0
 admitted A.Fresh b = Done
 admitted A.Same b = cond b (Refused 14 0) Done
 
-judge-admits : (s : Partial) (n : ℕ) (m : Message) (v : View) → judge n (stateOf s) (identityOf m) v ≡ admitted (admissionOf (s .rec) n m) (clash (s .rec .message .total) (viewOf s) v)
+judge-admits : (s : Partial) (n : ℕ) (m : Message) (v : View) → judge n (stateOf s) (held (identityOf m) v) ≡ admitted (admissionOf (s .rec) n m) (clash (s .rec .message .total) (viewOf s) v)
 unfolding admissionOf
 judge-admits s n m v =
     by-bool _ (leb (m .total) n)
@@ -127,17 +127,17 @@ admits-same r n m e =
     (λ e₂. absurd (fresh-same (rw (e₁, e₂) at e))))
     (λ e₁. absurd (refused-same _ (rw e₁ at e)))
 
-pub judge-fits : (n : ℕ) (s : State) (m : Identity) (v : View) → judge n s m v ≡ Done → m .total ≤ n
+pub judge-fits : (n : ℕ) (s : State) (m : Identity) (v : View) → judge n s (held m v) ≡ Done → m .total ≤ n
 judge-fits n s m v e =
     by-bool _ (leb (m .total) n) (λ t. leb-true _ _ t) (λ t. absurd (refused-done 11 0 (rw t at e)))
 
-pub judge-meets : (n : ℕ) (s : State) (m : Identity) (v : View) → judge n s m v ≡ Done → meet s m v ≡ Done
+pub judge-meets : (n : ℕ) (s : State) (m : Identity) (v : View) → judge n s (held m v) ≡ Done → between s (held m v) ≡ Done
 judge-meets n s m v e = rw (le-leb (m .total) n (judge-fits n s m v e)) at e
 
-pub meet-same : (k m : Identity) (w v : View) → meet (held k w) m v ≡ Done → sameMessage k m ≡ true
+pub meet-same : (k m : Identity) (w v : View) → between (held k w) (held m v) ≡ Done → sameMessage k m ≡ true
 meet-same k m w v e = by-bool _ (sameMessage k m) (λ t. t) (λ t. absurd (refused-done 13 0 (rw t at e)))
 
-pub meet-free : (k m : Identity) (w v : View) → meet (held k w) m v ≡ Done → clash (k .total) w v ≡ false
+pub meet-free : (k m : Identity) (w v : View) → between (held k w) (held m v) ≡ Done → clash (k .total) w v ≡ false
 meet-free k m w v e =
     by-bool _ (clash (k .total) w v) (λ t. absurd (refused-done 14 0 (rw (meet-same k m w v e, t) at e))) (λ t. t)
 
@@ -170,7 +170,7 @@ module _ (s : Partial) (x : Reading) where
 
 -- a record of a chunk's message whose publisher was copied
 pub message-is : (c : ChunkPlace) (s : List ℕ) (p : PublisherRecord) → p ≡ recordAt (c .publisher) (c .«publisher_end») s
-    → _≡_ {A = Message} (record { publisher = p; writer = c .writer; number = c .payload .number; total = c .payload .total }) (messageOf c s)
+    → _≡_ {A = Message} (record { publisher = p; writer = c .writer; number = c .payload .number; total = c .payload .total }) (chunkMessage c s)
 message-is c s p e = λ i. record { publisher = e i; writer = c .writer; number = c .payload .number; total = c .payload .total }
 
 module _ (s : Partial) (sizes d : List ℕ) where
@@ -178,8 +178,8 @@ module _ (s : Partial) (sizes d : List ℕ) where
   take-refusal e n p q = take-refused s (readingAt sizes d) n p (reading-judged s (readingAt sizes d) e ∙ rw (reading-refusal sizes d n p q))
 
   -- the chunk of an accepted datagram, as the code hands it on
-  module _ (c : ChunkPlace) (n : ℕ) (q : chunkAt sizes d ≡ got c n) (m : Message) (b : List ℕ) (em : m ≡ messageOf c d) (eb : b ≡ take (c .payload .length) (drop (c .payload .first) d)) where
-    pub handed-proper : Proper m (c .payload .offset) (length b)
+  module _ (c : ChunkPlace) (n : ℕ) (q : chunkAt sizes d ≡ got c n) (m : Message) (b : List ℕ) (em : m ≡ chunkMessage c d) (eb : b ≡ take (c .payload .length) (drop (c .payload .first) d)) where
+    pub handed-proper : GoodChunk m (c .payload .offset) (length b)
     handed-proper = rw (em, eb) (proper-got sizes d c n q)
 
     pub handed-taken : takeIn s (chunk m (c .payload .offset) b) ≡ takeIn s (readingAt sizes d)
@@ -191,7 +191,7 @@ module _ (s : Partial) (m : Message) (at : ℕ) (d : List ℕ) where
       reading-judged s (chunk m at d) e ∙ judge-admits s (length (s .payload)) m (dataView at d)
 
   -- the same message: its bytes meet what is held
-  module _ (e : sound s ≡ true) (o : Proper m at (length d)) (g : admissionOf (s .rec) (length (s .payload)) m ≡ A.Same) where
+  module _ (e : sound s ≡ true) (o : GoodChunk m at (length d)) (g : admissionOf (s .rec) (length (s .payload)) m ≡ A.Same) where
     pub data-room : (at + length d ≤ length (s .payload)) × (marksFor (s .layout) (at + length d) ≤ length (s .marks))
     data-room =
         let a = admits-same _ _ _ g in
@@ -207,11 +207,11 @@ module _ (s : Partial) (m : Message) (at : ℕ) (d : List ℕ) where
         (ap (λ (b : Bool). cond b (Refused 14 0) Done) (sym (clash-total (s .layout) (s .rec .message .total) (s .payload) (s .marks) at d h)))
 
   -- an accepted chunk has room
-  module _ (o : Proper m at (length d)) (e : judgeReading s (chunk m at d) ≡ Done) where
+  module _ (o : GoodChunk m at (length d)) (e : judgeReading s (chunk m at d) ≡ Done) where
     pub taken-room : (at + length d ≤ length (s .payload)) × (marksFor (s .layout) (at + length d) ≤ length (s .marks))
     taken-room =
         let ok = reading-sound s (chunk m at d) e in
-        let met : judge (length (s .payload)) (stateOf s) (identityOf m) (dataView at d) ≡ Done = sym (reading-judged s (chunk m at d) ok) ∙ e in
+        let met : judge (length (s .payload)) (stateOf s) (held (identityOf m) (dataView at d)) ≡ Done = sym (reading-judged s (chunk m at d) ok) ∙ e in
         let t : m .total ≤ length (s .payload) = judge-fits (length (s .payload)) (stateOf s) (identityOf m) (dataView at d) met in
         let h : at + length d ≤ length (s .payload) = omega (arith, o .fits) in
         (h, sound-marks s ok _ h)
@@ -219,7 +219,7 @@ module _ (s : Partial) (m : Message) (at : ℕ) (d : List ℕ) where
     pub taken-marks : (n : List ℕ) → n ≡ begunMarks (s .rec) (s .marks) → (at ≤ at + length d) × (marksFor (s .layout) (at + length d) ≤ length n)
     taken-marks n q = (omega arith, rw (length-begun (s .rec) (s .marks) n q) (taken-room .1))
 
-    pub taken : (v : Verdict) (k : PartialRecord) (p z n : List ℕ) → v ≡ Done → k ≡ begun (s .rec) m → p ≡ laid (dataView at d) (s .payload) → n ≡ begunMarks (s .rec) (s .marks)
+    pub taken : (v : Verdict) (k : PartialRecord) (p z n : List ℕ) → v ≡ Done → k ≡ begun (s .rec) m → p ≡ overlaid (dataView at d) (s .payload) → n ≡ begunMarks (s .rec) (s .marks)
         → z ≡ markAll (s .layout) (inRange at (at + length d)) n → record { verdict = v; after = record { rec = k; layout = s .layout; payload = p; marks = z } } ≡ takeIn s (chunk m at d)
     unfolding put
     taken v k p z n ev ek ep en ez =
@@ -235,7 +235,7 @@ module _ (s f : Partial) where
   unfolding judgeCombine
   combine-source-unsound e g = rw (e, g)
 
-  pub combine-judged : sound s ≡ true → sound f ≡ true → judgeCombine s f ≡ judgeState (length (s .payload)) (stateOf s) (stateOf f)
+  pub combine-judged : sound s ≡ true → sound f ≡ true → judgeCombine s f ≡ judge (length (s .payload)) (stateOf s) (stateOf f)
   unfolding judgeCombine
   combine-judged e g = rw (e, g)
 
@@ -253,7 +253,7 @@ module _ (s f : Partial) where
   combine-source-sound e =
       by-bool _ (sound f) (λ t. t) (λ t. absurd (refused-done 12 0 (sym (combine-source-unsound (combine-sound e) t) ∙ e)))
 
-  pub combine-met : judgeCombine s f ≡ Done → f .rec .started ≡ true → judge (length (s .payload)) (stateOf s) (identityOf (f .rec .message)) (viewOf f) ≡ Done
+  pub combine-met : judgeCombine s f ≡ Done → f .rec .started ≡ true → judge (length (s .payload)) (stateOf s) (held (identityOf (f .rec .message)) (viewOf f)) ≡ Done
   combine-met e h = rw h at (sym (combine-judged (combine-sound e) (combine-source-sound e)) ∙ e)
 
   pub combine-refused : (n p : ℕ) → judgeCombine s f ≡ Refused n p → combine s f ≡ record { verdict = Refused n p; after = s }
@@ -296,7 +296,7 @@ module _ (s f : Partial) where
         × (marksFor (f .layout) (f .rec .message .total) ≤ length (f .marks))
     combined-marks n q = (rw (length-begun (s .rec) (s .marks) n q) (combined-room .1), combined-room .3)
 
-    pub combined : (v : Verdict) (k : PartialRecord) (p m n : List ℕ) → v ≡ Done → k ≡ begun (s .rec) (f .rec .message) → p ≡ laid (viewOf f) (s .payload) → n ≡ begunMarks (s .rec) (s .marks)
+    pub combined : (v : Verdict) (k : PartialRecord) (p m n : List ℕ) → v ≡ Done → k ≡ begun (s .rec) (f .rec .message) → p ≡ overlaid (viewOf f) (s .payload) → n ≡ begunMarks (s .rec) (s .marks)
         → m ≡ markAll (s .layout) (markedBelow (f .layout) (f .rec .message .total) (f .marks)) n
         → record { verdict = v; after = record { rec = k; layout = s .layout; payload = p; marks = m } } ≡ combine s f
     unfolding put

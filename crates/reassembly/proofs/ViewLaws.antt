@@ -1,5 +1,5 @@
 -- Laws of views and of lists that a view is laid into. A loop that lays a view in from low offsets to high ones keeps the equation
--- `payload ≡ laid (upTo i v) payload₀`: `laid-start`, `laid-step` and `laid-end` are its steps. Assumes nothing.
+-- `payload ≡ overlaid (upTo i v) payload₀`: `laid-start`, `laid-step` and `laid-end` are its steps. Assumes nothing.
 use Prim.Native.Nat.{ℕ, zero, suc, _+_, _-_, _≤_, _<_}
 use mathlib.Core.Path.{_≡_, refl, sym, ap, _∙_, fun-ext}
 use mathlib.Core.Bool.{Bool, true, false, cond, not, _&&_}
@@ -11,33 +11,33 @@ use lib.ListN.{length, getD, set, length-set}
 use lib.Seq.{ext-getD, getD-set-same, getD-set-other}
 use lib.Dec.{ltb, eqb}
 use borrow.Author.Tests.{lt-ltb, le-ltb, le-leb, lt-leb, eqb-true, not-false}
-use Rattle.reassembly.specs.Views.{View, tab, isSome, has, onlyIf, dataView, nowhere, joined, differs, clash, full, laid}
+use Rattle.reassembly.specs.Views.{View, tabulate, isSome, has, onlyIf, dataView, nowhere, bothViews, differs, clash, full, overlaid}
 use Rattle.marks.specs.Offsets.{anyBelow, inRange}
 use Rattle.wire.proofs.Cases.{by-bool, by-eq, by-lt}
 use Rattle.marks.proofs.OffsetLaws.{any-none, all-every, none-any, every-all}
 
 -- ---- lists by their elements
-pub length-tab : (n : ℕ) (f : ℕ → ℕ) → length (tab n f) ≡ n
+pub length-tab : (n : ℕ) (f : ℕ → ℕ) → length (tabulate n f) ≡ n
 length-tab zero f = refl
 length-tab (suc n) f = ap suc (length-tab n (λ i. f (suc i)))
 
-pub getD-tab : (n : ℕ) (f : ℕ → ℕ) (i d : ℕ) → i < n → getD (tab n f) i d ≡ f i
+pub getD-tab : (n : ℕ) (f : ℕ → ℕ) (i d : ℕ) → i < n → getD (tabulate n f) i d ≡ f i
 getD-tab zero f i d h = absurd (not-suc-le-zero h)
 getD-tab (suc n) f zero d h = refl
 getD-tab (suc n) f (suc i) d h = getD-tab n (λ k. f (suc k)) i d (le-of-suc-le-suc h)
 
-pub length-laid : (v : View) (p : List ℕ) → length (laid v p) ≡ length p
-unfolding laid
+pub length-laid : (v : View) (p : List ℕ) → length (overlaid v p) ≡ length p
+unfolding overlaid
 length-laid v p = length-tab (length p) _
 
-pub getD-laid : (v : View) (p : List ℕ) (i : ℕ) → i < length p → getD (laid v p) i 0 ≡ Option·getD (v i) (getD p i 0)
-unfolding laid
+pub getD-laid : (v : View) (p : List ℕ) (i : ℕ) → i < length p → getD (overlaid v p) i 0 ≡ Option·getD (v i) (getD p i 0)
+unfolding overlaid
 getD-laid v p i h = getD-tab (length p) _ i 0 h
 
 -- two views that agree below the length are laid in alike
-laid-ext : (v w : View) (p : List ℕ) → ((i : ℕ) → i < length p → v i ≡ w i) → laid v p ≡ laid w p
+laid-ext : (v w : View) (p : List ℕ) → ((i : ℕ) → i < length p → v i ≡ w i) → overlaid v p ≡ overlaid w p
 laid-ext v w p e =
-    ext-getD 0 (laid v p) (laid w p) (simp length-laid)
+    ext-getD 0 (overlaid v p) (overlaid w p) (simp length-laid)
     (λ i h. let k : i < length p = rw length-laid at h in
     getD-laid v p i k ∙ ap (λ (o : Option ℕ). Option·getD o (getD p i 0)) (e i k) ∙ sym (getD-laid w p i k))
 
@@ -51,15 +51,15 @@ upTo-below n v i h = rw (lt-ltb i n h)
 upTo-above : (n : ℕ) (v : View) (i : ℕ) → n ≤ i → upTo n v i ≡ none
 upTo-above n v i h = rw (le-ltb i n h)
 
-pub laid-start : (v : View) (p : List ℕ) (n : ℕ) → ((i : ℕ) → i < n → v i ≡ none) → p ≡ laid (upTo n v) p
+pub laid-start : (v : View) (p : List ℕ) (n : ℕ) → ((i : ℕ) → i < n → v i ≡ none) → p ≡ overlaid (upTo n v) p
 laid-start v p n e =
-    ext-getD 0 p (laid (upTo n v) p) (simp length-laid)
+    ext-getD 0 p (overlaid (upTo n v) p) (simp length-laid)
     (λ i h. sym (getD-laid (upTo n v) p i h ∙ ap (λ (o : Option ℕ). Option·getD o (getD p i 0)) (nothing i)))
   where
     nothing : (i : ℕ) → upTo n v i ≡ none
     nothing i = by-lt _ i n (λ l. upTo-below n v i l ∙ e i l) (λ l. upTo-above n v i l)
 
-pub laid-end : (v : View) (p : List ℕ) (n : ℕ) → ((i : ℕ) → n ≤ i → v i ≡ none) → laid (upTo n v) p ≡ laid v p
+pub laid-end : (v : View) (p : List ℕ) (n : ℕ) → ((i : ℕ) → n ≤ i → v i ≡ none) → overlaid (upTo n v) p ≡ overlaid v p
 laid-end v p n e =
     laid-ext (upTo n v) v p
     (λ i h. by-lt _ i n (λ l. upTo-below n v i l) (λ l. upTo-above n v i l ∙ sym (e i l)))
@@ -71,21 +71,21 @@ upTo-more n v i ne =
     (λ l. upTo-above (n + 1) v i (omega arith) ∙ sym (upTo-above n v i l))
 
 -- a turn stores the view's byte at n, or what stands there
-pub laid-step : (v : View) (p : List ℕ) (n x : ℕ) → n < length p → x ≡ Option·getD (v n) (getD p n 0) → set (laid (upTo n v) p) n x ≡ laid (upTo (n + 1) v) p
+pub laid-step : (v : View) (p : List ℕ) (n x : ℕ) → n < length p → x ≡ Option·getD (v n) (getD p n 0) → set (overlaid (upTo n v) p) n x ≡ overlaid (upTo (n + 1) v) p
 laid-step v p n x hn e =
-    ext-getD 0 (set (laid (upTo n v) p) n x) (laid (upTo (n + 1) v) p) (simp (length-set, length-laid))
+    ext-getD 0 (set (overlaid (upTo n v) p) n x) (overlaid (upTo (n + 1) v) p) (simp (length-set, length-laid))
     (λ i h. let k : i < length p = simp (length-set, length-laid) at h in
     by-eq _ i n
     (λ q. rw q
-    (getD-set-same (laid (upTo n v) p) n x 0 (simp length-laid hn) ∙ e
+    (getD-set-same (overlaid (upTo n v) p) n x 0 (simp length-laid hn) ∙ e
     ∙ sym (getD-laid (upTo (n + 1) v) p n hn ∙ ap (λ (o : Option ℕ). Option·getD o (getD p n 0)) (upTo-below (n + 1) v n (omega arith)))))
-    (λ ne. getD-set-other (laid (upTo n v) p) n i x 0 ne
+    (λ ne. getD-set-other (overlaid (upTo n v) p) n i x 0 ne
     ∙ getD-laid (upTo n v) p i k
     ∙ ap (λ (o : Option ℕ). Option·getD o (getD p i 0)) (sym (upTo-more n v i ne))
     ∙ sym (getD-laid (upTo (n + 1) v) p i k)))
 
 -- what stands at n before its turn
-pub laid-at : (v : View) (p : List ℕ) (n : ℕ) → n < length p → getD (laid (upTo n v) p) n 0 ≡ getD p n 0
+pub laid-at : (v : View) (p : List ℕ) (n : ℕ) → n < length p → getD (overlaid (upTo n v) p) n 0 ≡ getD p n 0
 laid-at v p n h =
     getD-laid (upTo n v) p n h ∙ ap (λ (o : Option ℕ). Option·getD o (getD p n 0)) (upTo-above n v n (omega arith))
 
@@ -174,6 +174,6 @@ unfolding orElse
 first-known (some y) x e = ap some (eqb-true y x (not-false (eqb y x) e))
 first-known none x e = refl
 
-pub joined-nowhere : (v : View) → joined nowhere v ≡ v
+pub joined-nowhere : (v : View) → bothViews nowhere v ≡ v
 unfolding orElse
 joined-nowhere v = refl

@@ -1,43 +1,21 @@
--- The calls of demand 3's list: what each answers, and the partial that it leaves. The contracts of src/operations.rt cite these terms.
-use Prim.Native.Nat.{ℕ}
-use mathlib.Core.Bool.{Bool, true, false}
+-- The calls of demand 3's list on a partial: what the code answers to each, and the partial that it leaves. The contracts of
+-- src/operations.rt cite these terms.
+use mathlib.Core.Bool.{true, false}
 use mathlib.Core.List.{List, [], _∷_}
 use mathlib.Core.Path.{_≡_}
 use Rattle.reassembly.specs.Record.{Partial}
 use Rattle.reassembly.specs.Reading.{readingAt}
+use Rattle.reassembly.specs.Machine.{Call, Reply, replyOf, handedOf}
+use Rattle.reassembly.specs.Machine.Call.{Empty, Take, Combine, Ask, HandOut}
+use Rattle.reassembly.specs.Machine.Reply.{done, said, refused}
 use Rattle.reassembly.specs.Operations.{takeIn, combine, emptied, askComplete, judgeHandOut, handOut}
 use Rattle.reassembly.specs.declared.verdict.Completeness.{Completeness}
 use Rattle.reassembly.specs.declared.verdict.Completeness.the-variants as C
-use Rattle.reassembly.specs.declared.verdict.Verdict.{Verdict}
-use Rattle.reassembly.specs.declared.verdict.Verdict.the-variants.{Done, Refused}
-
--- a call, with what it is handed besides the partial
-pub data Call : Type 0 where
-  Empty : Call
-  Take : List ℕ → List ℕ → Call
-  Combine : Partial → Call
-  Ask : Call
-  HandOut : Call
-
--- what a call answers: done, complete or not, the payload, or a refusal's number and place
-pub data Reply : Type 0 where
-  done : Reply
-  said : Bool → Reply
-  handed : List ℕ → Reply
-  refused : ℕ → ℕ → Reply
-
-abbrev pub replyOf : Verdict → Reply
-replyOf Done = done
-replyOf (Refused n p) = refused n p
 
 abbrev pub saidOf : Completeness → Reply
 saidOf C.Yes = said true
 saidOf C.No = said false
 saidOf (C.Refused n p) = refused n p
-
-abbrev pub handedOf : Verdict → List ℕ → Reply
-handedOf Done l = handed l
-handedOf (Refused n p) l = refused n p
 
 -- ---- the code: what a call answers, and the partial that it leaves
 abbrev pub answers : Call → Partial → Reply

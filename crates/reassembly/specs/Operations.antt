@@ -4,13 +4,13 @@ use mathlib.Core.Bool.{Bool, true, false, cond}
 use mathlib.Core.List.{List, []}
 use lib.ListN.{take}
 use Rattle.wire.specs.Constants.{NOT_COMPLETE, UNSOUND}
-use Rattle.reassembly.specs.Views.{View, laid, has, dataView}
+use Rattle.reassembly.specs.Views.{View, overlaid, has, dataView}
 use Rattle.marks.specs.Marks.{cleared, markAll}
 use Rattle.reassembly.specs.Record.{Partial, partial, sound}
 use Rattle.reassembly.specs.Reading.{Reading}
 use Rattle.reassembly.specs.Reading.Reading.{chunk, refusal}
-use Rattle.reassembly.specs.Machine.{complete}
-use Rattle.reassembly.specs.Judge.{viewOf, stateOf, judgeReading, judgeCombine}
+use Rattle.reassembly.specs.Machine.{viewOf, stateOf, isComplete}
+use Rattle.reassembly.specs.Judge.{judgeReading, judgeCombine}
 use Rattle.reassembly.specs.declared.operations.Outcome.{Outcome}
 use Rattle.reassembly.specs.declared.record.Message.{Message}
 use Rattle.reassembly.specs.declared.record.PartialRecord.{PartialRecord}
@@ -44,7 +44,7 @@ unfoldable pub put : Message → View → Partial → Partial
 put m v s = record {
   rec = begun (s .rec) m;
   layout = s .layout;
-  payload = laid v (s .payload);
+  payload = overlaid v (s .payload);
   marks = markAll (s .layout) (has v) (begunMarks (s .rec) (s .marks));
 }
 
@@ -70,7 +70,7 @@ yesNo false = C.No
 
 -- asking if complete: 12, else yes or no
 unfoldable pub askComplete : Partial → Completeness
-askComplete s = cond (sound s) (yesNo (complete (stateOf s))) (C.Refused UNSOUND 0)
+askComplete s = cond (sound s) (yesNo (isComplete (stateOf s))) (C.Refused UNSOUND 0)
 
 abbrev pub handOutBy : Completeness → Verdict
 handOutBy C.Yes = Done

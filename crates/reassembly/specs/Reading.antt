@@ -16,8 +16,8 @@ pub data Reading : Type 0 where
   refusal : ℕ → ℕ → Reading
 
 -- the record of a chunk's message
-abbrev pub messageOf : ChunkPlace → List ℕ → Message
-messageOf c s = record {
+abbrev pub chunkMessage : ChunkPlace → List ℕ → Message
+chunkMessage c s = record {
   publisher = recordAt (c .publisher) (c .«publisher_end») s;
   writer = c .writer;
   number = c .payload .number;
@@ -25,19 +25,19 @@ messageOf c s = record {
 }
 
 abbrev pub readingBy : Answer ChunkPlace → List ℕ → Reading
-readingBy (got c next) s = chunk (messageOf c s) (c .payload .offset) (chunkData (got c next) s)
+readingBy (got c next) s = chunk (chunkMessage c s) (c .payload .offset) (chunkData (got c next) s)
 readingBy (refused n place) s = refusal n place
 
 -- what a datagram s reads as, under the sizes of the configured writers
 unfoldable pub readingAt : List ℕ → List ℕ → Reading
 readingAt sizes s = readingBy (chunkAt sizes s) s
 
--- what a chunk with no fault of its own tells: at is its offset, n the length of its data
-pub record Proper (m : Message) (at n : ℕ) : Type 0 where
+-- a chunk that a sound partial can take in, as every chunk with no fault of its own is: at is its offset, n the length of its data
+pub record GoodChunk (m : Message) (at n : ℕ) : Type 0 where
   pub publisher : publisherFits (m .publisher) ≡ true
   pub some : 1 ≤ m .total
   pub fits : at + n ≤ m .total
 
-abbrev pub ProperReading : Reading → Type 0
-ProperReading (chunk m at d) = Proper m at (length d)
-ProperReading (refusal n p) = Unit {0}
+abbrev pub GoodReading : Reading → Type 0
+GoodReading (chunk m at d) = GoodChunk m at (length d)
+GoodReading (refusal n p) = Unit {0}

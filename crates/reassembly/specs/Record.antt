@@ -36,6 +36,10 @@ pub record Partial : Type 0 where
 abbrev pub partial : PartialRecord → List ℕ → List ℕ → Partial
 partial r p m = record { rec = r; layout = inUse; payload = p; marks = m }
 
+-- its room: how long the payload area is
+abbrev pub roomOf : Partial → ℕ
+roomOf s = length (s .payload)
+
 -- sound over areas of n and k bytes: marks of the length that the layout gives and, if started, total from 1 to that length and a string
 -- publisher of at most 64 bytes
 unfoldable pub soundBy : Layout → PartialRecord → ℕ → ℕ → Bool
@@ -47,6 +51,6 @@ soundBy L r n k =
 abbrev pub sound : Partial → Bool
 sound s = soundBy (s .layout) (s .rec) (length (s .payload)) (length (s .marks))
 
--- what the laws ask of a partial
+-- a partial that is in order, as every claim asks: it is sound
 pub record Good (s : Partial) : Type 0 where
   pub is-sound : sound s ≡ true

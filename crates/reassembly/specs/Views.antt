@@ -11,9 +11,9 @@ abbrev pub View : Type 0
 View = ℕ → Option ℕ
 
 -- the list of n elements that has f i at each i
-abbrev pub tab : ℕ → (ℕ → ℕ) → List ℕ
-tab zero f = []
-tab (suc n) f = f zero ∷ tab n (λ i. f (suc i))
+abbrev pub tabulate : ℕ → (ℕ → ℕ) → List ℕ
+tabulate zero f = []
+tabulate (suc n) f = f zero ∷ tabulate n (λ i. f (suc i))
 
 abbrev pub isSome : Option ℕ → Bool
 isSome (some x) = true
@@ -36,8 +36,8 @@ abbrev pub nowhere : View
 nowhere i = none
 
 -- the bytes of both views; where both have one, the first's
-abbrev pub joined : View → View → View
-joined v w i = orElse (v i) (w i)
+abbrev pub bothViews : View → View → View
+bothViews v w i = orElse (v i) (w i)
 
 -- both known, and not the same
 abbrev pub differs : Option ℕ → Option ℕ → Bool
@@ -54,9 +54,9 @@ unfoldable pub full : ℕ → View → Bool
 full n v = allBelow n (has v)
 
 -- a view's bytes below n as a list, with 0 where it has none
-abbrev pub bytesOf : ℕ → View → List ℕ
-bytesOf n v = tab n (λ i. Option·getD (v i) 0)
+abbrev pub bytesBelow : ℕ → View → List ℕ
+bytesBelow n v = tabulate n (λ i. Option·getD (v i) 0)
 
 -- the list with each byte of the view stored at its offset, and no other byte changed
-unfoldable pub laid : View → List ℕ → List ℕ
-laid v p = tab (length p) (λ i. Option·getD (v i) (getD p i 0))
+unfoldable pub overlaid : View → List ℕ → List ℕ
+overlaid v p = tabulate (length p) (λ i. Option·getD (v i) (getD p i 0))

@@ -2,7 +2,7 @@
 ghost use mathlib.Core.Path.{_≡_};
 ghost use Prim.Native.Nat.{_+_, _≤_};
 ghost use lib.ListN.{length};
-ghost use Rattle.reassembly.specs.Views.{dataView, laid, differs, onlyIf, clash};
+ghost use Rattle.reassembly.specs.Views.{dataView, overlaid, differs, onlyIf, clash};
 ghost use Rattle.marks.specs.Marks.{inUse, marksFor};
 ghost use Rattle.reassembly.specs.Areas.{markedView};
 use marks::choose;
@@ -11,7 +11,7 @@ use marks::is_marked;
 // Stores a chunk's bytes at their offset.
 pub(crate) fn store_data(payload: &mut [u8], offset: usize, bytes: &[u8])
     requires { ⌜ offset + length (now bytes) ≤ length (now payload) ⌝ }
-    ensures { λ r. ⌜ now (payload .exit) ≡ laid (dataView offset (now (bytes .entry))) (now (payload .entry)) ⌝ }
+    ensures { λ r. ⌜ now (payload .exit) ≡ overlaid (dataView offset (now (bytes .entry))) (now (payload .entry)) ⌝ }
 {
     let mut j = 0;
     while j < bytes.len() {
@@ -26,7 +26,7 @@ pub(crate) fn store_covered(payload: &mut [u8], total: usize, from: &[u8], from_
     requires { ⌜ (total ≤ length (now payload)) × (total ≤ length (now «from»)) × (marksFor inUse total ≤ length (now «from_marks»)) ⌝ }
     ensures { λ r.
         let source = markedView inUse total (now («from» .entry)) (now («from_marks» .entry)) in
-        ⌜ now (payload .exit) ≡ laid source (now (payload .entry)) ⌝ }
+        ⌜ now (payload .exit) ≡ overlaid source (now (payload .entry)) ⌝ }
 {
     let mut i = 0;
     while i < total {

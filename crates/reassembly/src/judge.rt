@@ -4,7 +4,7 @@ ghost use mathlib.Core.Bool.{true, cond};
 ghost use Rattle.reassembly.specs.declared.verdict.Verdict.the-variants.{Done, Refused};
 ghost use lib.ListN.{length};
 ghost use Rattle.reassembly.specs.Record.{partial, sound};
-ghost use Rattle.reassembly.specs.Reading.{Proper};
+ghost use Rattle.reassembly.specs.Reading.{GoodChunk};
 ghost use Rattle.reassembly.specs.Reading.Reading.{chunk};
 ghost use Rattle.reassembly.specs.Judge.{admissionOf, judgeReading, judgeCombine};
 ghost use Rattle.wire.specs.Constants.{BYTE_DIFFERS};
@@ -63,7 +63,7 @@ pub(crate) fn judge_chunk(
     offset: usize,
     bytes: &[u8],
 ) -> Verdict
-    requires { ⌜ (sound (partial rec (now payload) (now marks)) ≡ true) × Proper m offset (length (now bytes)) ⌝ }
+    requires { ⌜ (sound (partial rec (now payload) (now marks)) ≡ true) × GoodChunk m offset (length (now bytes)) ⌝ }
     ensures { λ r. ⌜ r ≡ judgeReading (partial rec (now (payload .entry)) (now (marks .entry))) (chunk m offset (now (bytes .entry))) ⌝ }
 {
     match admit(rec, payload.len(), m) {

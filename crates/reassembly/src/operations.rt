@@ -3,12 +3,13 @@ ghost use mathlib.Core.Path.{_≡_};
 ghost use mathlib.Core.Bool.{true};
 ghost use lib.ListN.{length};
 ghost use Rattle.reassembly.specs.Record.{partial, sound};
-ghost use Rattle.reassembly.specs.Reading.{Proper, messageOf};
+ghost use Rattle.reassembly.specs.Reading.{GoodChunk, chunkMessage};
 ghost use Rattle.reassembly.specs.Reading.Reading.{chunk};
 ghost use Rattle.reassembly.specs.Operations.{stepOf, begun, begunMarks, takeIn, handOut};
-ghost use Rattle.reassembly.specs.Calls.{Does, replyOf, saidOf, handedOf, answers};
-ghost use Rattle.reassembly.specs.Calls.Call.{Empty, Take, Combine, Ask, HandOut};
-ghost use Rattle.reassembly.specs.Calls.Reply.{done};
+ghost use Rattle.reassembly.specs.Machine.{replyOf, handedOf};
+ghost use Rattle.reassembly.specs.Machine.Call.{Empty, Take, Combine, Ask, HandOut};
+ghost use Rattle.reassembly.specs.Machine.Reply.{done};
+ghost use Rattle.reassembly.specs.Calls.{Does, saidOf, answers};
 ghost use Prim.Native.Nat.{ℕ};
 ghost use mathlib.Core.List.{List};
 use crate::areas::store_covered;
@@ -60,7 +61,7 @@ fn take_chunk(
     offset: usize,
     bytes: &[u8],
 ) -> Outcome
-    requires { ⌜ (sound (partial rec (now payload) (now marks)) ≡ true) × Proper m offset (length (now bytes)) ⌝ }
+    requires { ⌜ (sound (partial rec (now payload) (now marks)) ≡ true) × GoodChunk m offset (length (now bytes)) ⌝ }
     ensures { λ r.
         let before = partial rec (now (payload .entry)) (now (marks .entry)) in
         ⌜ stepOf r (now (payload .exit)) (now (marks .exit)) ≡ takeIn before (chunk m offset (now (bytes .entry))) ⌝ }
@@ -78,7 +79,7 @@ fn take_chunk(
 
 // The record of a chunk's message.
 fn message_of(s: &[u8], c: ChunkPlace) -> Message
-    ensures { λ r. ⌜ r ≡ messageOf c (now (s .entry)) ⌝ }
+    ensures { λ r. ⌜ r ≡ chunkMessage c (now (s .entry)) ⌝ }
 {
     let id = c.publisher;
     let publisher = publisher_record(s, id, c.publisher_end);

@@ -9,19 +9,19 @@ use borrow.Author.Tests.{le-leb, eq-eqb}
 use Rattle.reassembly.specs.Views.{View, dataView}
 use Rattle.marks.specs.Marks.{Layout, marksFor}
 use Rattle.reassembly.specs.Record.{Partial, soundBy, Good}
-use Rattle.reassembly.specs.Reading.{Proper}
+use Rattle.reassembly.specs.Reading.{GoodChunk}
 use Rattle.reassembly.specs.Reading.Reading.{chunk}
-use Rattle.reassembly.specs.Machine.{State, viewIn, judgeState, acceptState}
+use Rattle.reassembly.specs.Machine.{State, viewIn, judge, accept, viewOf, stateOf, alone, ifAccepted}
 use Rattle.reassembly.specs.Machine.State.{idle, held}
-use Rattle.reassembly.specs.Judge.{viewOf, stateOf, alone, judgeReading, judgeCombine}
+use Rattle.reassembly.specs.Judge.{judgeReading, judgeCombine}
 use Rattle.reassembly.specs.Operations.{put, takeIn, combine}
-use Rattle.reassembly_laws.specs.History.{ifAccepted}
 use Rattle.reassembly.specs.declared.record.Message.{Message}
 use Rattle.reassembly.specs.declared.verdict.Verdict.{Verdict}
 use Rattle.reassembly.specs.declared.verdict.Verdict.the-variants.{Done}
 use Rattle.wire.proofs.Cases.{by-bool}
-use Rattle.reassembly.proofs.ViewLaws.{data-above}
+use Rattle.reassembly.proofs.ViewLaws.{data-above, length-laid}
 use Rattle.reassembly.proofs.JudgeLaws
+use Rattle.reassembly_laws.specs.Alone.{chunkAlone}
 use Rattle.reassembly_laws.proofs.Following
 use Rattle.reassembly_laws.proofs.Combining
 
@@ -34,16 +34,16 @@ pub put-marks : (s : Partial) (m k : Message) (v : View) → put m v s .marks �
 unfolding put
 put-marks s m k v = refl
 
-pub taken-state : (s : Partial) → Good s → (m : Message) (at : ℕ) (d : List ℕ) → Proper m at (length d) → judgeReading s (chunk m at d) ≡ Done
-    → stateOf (takeIn s (chunk m at d) .after) ≡ acceptState (stateOf s) (alone (chunk m at d))
+pub taken-state : (s : Partial) → Good s → (m : Message) (at : ℕ) (d : List ℕ) → GoodChunk m at (length d) → judgeReading s (chunk m at d) ≡ Done
+    → stateOf (takeIn s (chunk m at d) .after) ≡ accept (stateOf s) (alone (chunk m at d))
 taken-state s ok m at d o e =
     Following.take-stepped s ok (chunk m at d) o .state
-    ∙ ap (λ (v : Verdict). ifAccepted v (stateOf s) (acceptState (stateOf s) (alone (chunk m at d)))) (sym (JudgeLaws.reading-judged s (chunk m at d) (ok .is-sound)) ∙ e)
+    ∙ ap (λ (v : Verdict). ifAccepted v (stateOf s) (accept (stateOf s) (alone (chunk m at d)))) (sym (JudgeLaws.reading-judged s (chunk m at d) (ok .is-sound)) ∙ e)
 
 module _ (s f : Partial) (ok : Good s) (okf : Good f) (m : Message) (at : ℕ) (d : List ℕ) (q : stateOf f ≡ alone (chunk m at d)) where
   pub judged : judgeReading s (chunk m at d) ≡ judgeCombine s f
   judged =
-      JudgeLaws.reading-judged s (chunk m at d) (ok .is-sound) ∙ ap (judgeState (length (s .payload)) (stateOf s)) (sym q)
+      JudgeLaws.reading-judged s (chunk m at d) (ok .is-sound) ∙ ap (judge (length (s .payload)) (stateOf s)) (sym q)
       ∙ sym (JudgeLaws.combine-judged s f (ok .is-sound) (okf .is-sound))
 
   on : f .rec .started ≡ true
@@ -59,15 +59,12 @@ module _ (s f : Partial) (ok : Good s) (okf : Good f) (m : Message) (at : ℕ) (
   pub combined : judgeReading s (chunk m at d) ≡ Done → combine s f ≡ record { verdict = Done; after = put (f .rec .message) (dataView at d) s }
   combined e = JudgeLaws.combine-done s f (sym judged ∙ e) on ∙ ap (λ (v : View). record { verdict = Done; after = put (f .rec .message) v s }) view
 
-  pub combined-state : judgeReading s (chunk m at d) ≡ Done → stateOf (combine s f .after) ≡ acceptState (stateOf s) (alone (chunk m at d))
+  pub combined-state : judgeReading s (chunk m at d) ≡ Done → stateOf (combine s f .after) ≡ accept (stateOf s) (alone (chunk m at d))
   combined-state e =
-      Combining.done-state s f ok (Combining.combined-verdict s f ok ∙ sym judged ∙ e) ∙ ap (acceptState (stateOf s)) q
+      Combining.done-state s f ok (Combining.combined-verdict s f ok ∙ sym judged ∙ e) ∙ ap (accept (stateOf s)) q
 
 -- ---- there is one, in areas of n bytes
-abbrev pub chunkAlone : Layout → ℕ → Message → ℕ → List ℕ → Partial
-chunkAlone L n m at d = put m (dataView at d) (record { rec = record { started = false; message = m }; layout = L; payload = replicate n 0; marks = replicate (marksFor L n) 0 })
-
-module _ (L : Layout) (n : ℕ) (m : Message) (at : ℕ) (d : List ℕ) (o : Proper m at (length d)) (room : m .total ≤ n) where
+module _ (L : Layout) (n : ℕ) (m : Message) (at : ℕ) (d : List ℕ) (o : GoodChunk m at (length d)) (room : m .total ≤ n) where
   base : Partial
   base = record { rec = record { started = false; message = m }; layout = L; payload = replicate n 0; marks = replicate (marksFor L n) 0 }
 
@@ -79,7 +76,7 @@ module _ (L : Layout) (n : ℕ) (m : Message) (at : ℕ) (d : List ℕ) (o : Pro
         (ap (marksFor L) (length-replicate {A = ℕ} n 0) ∙ sym (length-replicate {A = ℕ} (marksFor L n) 0)));
   }
 
-  base-fit : Following.Fit m (length (base .payload))
+  base-fit : Following.GoodMessage m (length (base .payload))
   unfolding base
   base-fit = record { some = o .some; room = rw (length-replicate {A = ℕ} n 0) room; publisher = o .publisher }
 
@@ -92,3 +89,7 @@ module _ (L : Layout) (n : ℕ) (m : Message) (at : ℕ) (d : List ℕ) (o : Pro
   chunk-alone-is =
       Following.put-state m (dataView at d) base base-good base-fit (λ i h. data-above at d i (omega (arith, o .fits)))
       (rw (le-leb (m .total) (length {A = ℕ} (replicate n 0)) (base-fit .room)))
+
+  pub chunk-alone-room : length (chunkAlone L n m at d .payload) ≡ n
+  unfolding put
+  chunk-alone-room = length-laid (dataView at d) (replicate n 0) ∙ length-replicate {A = ℕ} n 0

@@ -1,16 +1,15 @@
 -- Good partials whose totals are not above the areas, combined: by their states alone. Assumes nothing.
-use Prim.Native.Nat.{ℕ}
+use Prim.Native.Nat.{ℕ, _≤_}
 use mathlib.Core.Path.{_≡_, refl, sym, ap, _∙_}
 use mathlib.Core.Bool.{Bool, true, false, _||_, true≢false}
 use lib.ListN.{length}
 use borrow.Author.Tests.{le-leb}
 use Rattle.reassembly.specs.Record.{Partial, Good}
-use Rattle.reassembly.specs.Machine.{State, between, judgeState, acceptState}
+use Rattle.reassembly.specs.Machine.{State, between, judge, accept, stateOf, ifAccepted}
 use Rattle.reassembly.specs.Machine.State.{idle, held}
-use Rattle.reassembly.specs.Judge.{stateOf, judgeCombine}
+use Rattle.reassembly.specs.Judge.{judgeCombine}
 use Rattle.reassembly.specs.Operations.{combine}
-use Rattle.reassembly_laws.specs.History.{ifAccepted}
-use Rattle.reassembly_laws.specs.Combining.{isRefused, onDone, disagree, someDisagree, FitsIn, Room, Three, leftVerdict, leftResult, rightVerdict, rightResult}
+use Rattle.reassembly_laws.specs.Combining.{isRefused, onDone, disagree, someDisagree, leftVerdict, leftResult, rightVerdict, rightResult}
 use Rattle.reassembly.specs.declared.verdict.Verdict.{Verdict}
 use Rattle.reassembly.specs.declared.verdict.Verdict.the-variants.{Done, Refused}
 use Rattle.wire.proofs.Cases.{by-bool}
@@ -18,6 +17,32 @@ use Rattle.reassembly.proofs.JudgeLaws.{refused-done, sound-total, combine-judg
 use Rattle.reassembly_laws.proofs.StateLaws
 use Rattle.reassembly_laws.proofs.Following.{source-verdict, combine-stepped}
 use Rattle.reassembly_laws.proofs.Bringing.{bounded}
+
+-- what a machine holds is not longer than n bytes
+abbrev pub FitsIn : ℕ → State → Type 0
+FitsIn n idle = Unit {0}
+FitsIn n (held m v) = m .total ≤ n
+
+-- b's total is not above a's area: combining b into a is not refused by 11
+abbrev pub Room : Partial → Partial → Type 0
+Room a b = FitsIn (length (a .payload)) (stateOf b)
+
+-- what the law of order asks of two: both are sound, and neither's total is above the other's area. Of areas of unequal length one may be
+-- too short for what the other holds; then 11 arises one way only.
+pub record Pair (a b : Partial) : Type 0 where
+  pub first : Good a
+  pub second : Good b
+  pub room : Room a b
+  pub back : Room b a
+
+-- what the law of grouping asks of three: all are sound, and no combining in either grouping is refused by 11
+pub record Three (a b c : Partial) : Type 0 where
+  pub first : Good a
+  pub second : Good b
+  pub third : Good c
+  pub ab : Room a b
+  pub bc : Room b c
+  pub ac : Room a c
 
 module _ (a b : Partial) (ga : Good a) where
   pub combined-verdict : combine a b .verdict ≡ judgeCombine a b
@@ -29,17 +54,17 @@ module _ (a b : Partial) (ga : Good a) where
   pub combined-room : length (combine a b .after .payload) ≡ length (a .payload)
   combined-room = combine-stepped a ga b .room
 
-  pub done-state : combine a b .verdict ≡ Done → stateOf (combine a b .after) ≡ acceptState (stateOf a) (stateOf b)
+  pub done-state : combine a b .verdict ≡ Done → stateOf (combine a b .after) ≡ accept (stateOf a) (stateOf b)
   done-state e =
       combine-stepped a ga b .state
-      ∙ ap (λ (v : Verdict). ifAccepted v (stateOf a) (acceptState (stateOf a) (stateOf b))) (sym (combine-stepped a ga b .verdict) ∙ e)
+      ∙ ap (λ (v : Verdict). ifAccepted v (stateOf a) (accept (stateOf a) (stateOf b))) (sym (combine-stepped a ga b .verdict) ∙ e)
 
 -- what fits is refused by 13 and 14 only
-fits-judged : (n : ℕ) (s t : State) → FitsIn n t → judgeState n s t ≡ between s t
+fits-judged : (n : ℕ) (s t : State) → FitsIn n t → judge n s t ≡ between s t
 fits-judged n s idle h = refl
 fits-judged n s (held m v) h = rw (le-leb (m .total) n h)
 
-fits-accepted : (n : ℕ) (s t : State) → FitsIn n s → FitsIn n t → FitsIn n (acceptState s t)
+fits-accepted : (n : ℕ) (s t : State) → FitsIn n s → FitsIn n t → FitsIn n (accept s t)
 fits-accepted n idle idle h k = tt
 fits-accepted n idle (held m v) h k = k
 fits-accepted n (held l w) idle h k = h
@@ -135,7 +160,7 @@ module _ (a b c : Partial) (w : Three a b c) where
   left-pairs e =
       let e₁ : combine a b .verdict ≡ Done = done-first (combine a b .verdict) (combine (combine a b .after) c .verdict) e in
       let e₂ : combine (combine a b .after) c .verdict ≡ Done = done-second (combine a b .verdict) (combine (combine a b .after) c .verdict) e in
-      let g : StateLaws.Agree (acceptState (stateOf a) (stateOf b)) (stateOf c) = rw (done-state a b ga e₁) at (done-agree (combine a b .after) c (combined-good a b ga) gc left-room e₂) in
+      let g : StateLaws.Agree (accept (stateOf a) (stateOf b)) (stateOf c) = rw (done-state a b ga e₁) at (done-agree (combine a b .after) c (combined-good a b ga) gc left-room e₂) in
       record {
         ab = e₁;
         bc = agree-done b c gb gc (w .bc) (StateLaws.agree-right (stateOf a) (stateOf b) (stateOf c) (done-agree a b ga gb (w .ab) e₁) g);
@@ -155,8 +180,8 @@ module _ (a b c : Partial) (w : Three a b c) where
   right-pairs e =
       let e₁ : combine b c .verdict ≡ Done = done-first (combine b c .verdict) (combine a (combine b c .after) .verdict) e in
       let e₂ : combine a (combine b c .after) .verdict ≡ Done = done-second (combine b c .verdict) (combine a (combine b c .after) .verdict) e in
-      let h : StateLaws.Agree (stateOf a) (acceptState (stateOf b) (stateOf c)) = rw (done-state b c gb e₁) at (done-agree a (combine b c .after) ga (combined-good b c gb) (right-room e₁) e₂) in
-      let g = StateLaws.agree-comm (stateOf a) (acceptState (stateOf b) (stateOf c)) h in
+      let h : StateLaws.Agree (stateOf a) (accept (stateOf b) (stateOf c)) = rw (done-state b c gb e₁) at (done-agree a (combine b c .after) ga (combined-good b c gb) (right-room e₁) e₂) in
+      let g = StateLaws.agree-comm (stateOf a) (accept (stateOf b) (stateOf c)) h in
       record {
         ab = agree-done a b ga gb (w .ab) (StateLaws.agree-comm (stateOf b) (stateOf a) (StateLaws.agree-left (stateOf b) (stateOf c) (stateOf a) g));
         bc = e₁;
@@ -168,7 +193,7 @@ module _ (a b c : Partial) (w : Three a b c) where
       let g = StateLaws.agree-both (stateOf b) (stateOf c) (stateOf a)
       (StateLaws.agree-comm (stateOf a) (stateOf b) (done-agree a b ga gb (w .ab) (p .ab))) (StateLaws.agree-comm (stateOf a) (stateOf c) (done-agree a c ga gc (w .ac) (p .ac))) in
       agree-done a (combine b c .after) ga (combined-good b c gb) (right-room (p .bc))
-      (rw (done-state b c gb (p .bc)) (StateLaws.agree-comm (acceptState (stateOf b) (stateOf c)) (stateOf a) g))
+      (rw (done-state b c gb (p .bc)) (StateLaws.agree-comm (accept (stateOf b) (stateOf c)) (stateOf a) g))
 
   pub pairs-right : Pairwise a b c → rightVerdict a b c ≡ Done
   pairs-right p = done-both _ _ (p .bc) (right-second p)
@@ -176,6 +201,6 @@ module _ (a b c : Partial) (w : Three a b c) where
   pub pairs-equal : Pairwise a b c → stateOf (leftResult a b c) ≡ stateOf (rightResult a b c)
   pairs-equal p =
       done-state (combine a b .after) c (combined-good a b ga) (left-second p)
-      ∙ ap (λ (t : State). acceptState t (stateOf c)) (done-state a b ga (p .ab))
+      ∙ ap (λ (t : State). accept t (stateOf c)) (done-state a b ga (p .ab))
       ∙ StateLaws.accept-assoc (stateOf a) (stateOf b) (stateOf c)
-      ∙ sym (done-state a (combine b c .after) ga (right-second p) ∙ ap (acceptState (stateOf a)) (done-state b c gb (p .bc)))
+      ∙ sym (done-state a (combine b c .after) ga (right-second p) ∙ ap (accept (stateOf a)) (done-state b c gb (p .bc)))

@@ -16,27 +16,25 @@ use Rattle.wire.specs.Answer.{got}
 use Rattle.chunk.specs.Datagram.{placeOf, chunkAt, chunkData}
 use Rattle.chunk.proofs.CutLaws.{cuts, data-most, data-full}
 use Rattle.chunk.proofs.ReadBack.{cutPlace, datagram-back, data-back}
-use Rattle.reassembly.specs.Views.{View, has, isSome, differs, dataView, joined, bytesOf}
+use Rattle.reassembly.specs.Views.{View, has, isSome, differs, dataView, bothViews, bytesBelow}
 use Rattle.marks.specs.Offsets.{inRange}
 use Rattle.reassembly.specs.Record.{Identity, Partial, Good}
-use Rattle.reassembly.specs.Machine.{State, viewIn, judgeState, acceptState, complete}
+use Rattle.reassembly.specs.Machine.{State, viewIn, judge, accept, isComplete, stateOf, alone, readingVerdict, replyOf, whole, machineReplies, machineFinal, ifAccepted}
 use Rattle.reassembly.specs.Machine.State.{idle, held}
-use Rattle.reassembly.specs.Judge.{stateOf, alone, readingVerdict}
-use Rattle.reassembly.specs.Reading.{messageOf, readingAt}
+use Rattle.reassembly.specs.Machine.Call.{Ask, HandOut}
+use Rattle.reassembly.specs.Machine.Reply.{said, handed}
+use Rattle.reassembly.specs.Calls.{replies, final}
+use Rattle.reassembly.specs.Reading.{chunkMessage, readingAt}
 use Rattle.reassembly.specs.Reading.Reading.{chunk}
-use Rattle.reassembly.specs.Operations.{yesNo, askComplete, judgeHandOut, handOut}
-use Rattle.reassembly.specs.declared.verdict.Completeness.the-variants as C
 use Rattle.reassembly.specs.declared.verdict.Verdict.{Verdict}
 use Rattle.reassembly.specs.declared.verdict.Verdict.the-variants.{Done}
 use Rattle.wire.proofs.Cases.{by-lt}
 use Rattle.reassembly.proofs.JudgeLaws.{reading-got}
 use Rattle.reassembly.proofs.ViewLaws.{length-tab, getD-tab, data-at, data-below, data-above, has-data, full-all, clash-none}
 use Rattle.reassembly.proofs.SameLaws.{same-message-yes}
-use Rattle.reassembly.specs.Calls.{replies, final, replyOf}
-use Rattle.reassembly_laws.specs.History.{whole, machineReplies, machineFinal, ifAccepted}
-use Rattle.reassembly_laws.specs.Cutting.{Arrival, takings, dones, IsChunk, IsCut, Only, Among, AllArrive}
+use Rattle.reassembly_laws.specs.Cutting.{Arrival, takings, dones, IsChunk, IsCut, Only, Among, AllArrive, Restored}
 use Rattle.reassembly_laws.proofs.Following
-use Rattle.reassembly_laws.proofs.Demand3.{history}
+use Rattle.reassembly_laws.proofs.Demand3.{any-list}
 
 -- what holds of each arrival
 only-all : {P Q : ℕ → Arrival → Type 0} → ((k : ℕ) (a : Arrival) → P k a → Q k a) → (l : List Arrival) → Only P l → Only Q l
@@ -71,7 +69,7 @@ module _ (id : Identity) (p : List ℕ) (size : ℕ) where
       inr (sym (ap (dataView at d) e) ∙ data-at at d (i - at) l ∙ ap some g, w))
       (λ l. inl (data-above at d i (omega arith))))
 
-  part-joined : (v w : View) → PartOf v → PartOf w → PartOf (joined v w)
+  part-joined : (v w : View) → PartOf v → PartOf w → PartOf (bothViews v w)
   unfolding orElse
   part-joined v w f g i = ⊎-elim (λ e. rw e (g i)) (λ e. inr (rw (e .0), e .1)) (f i)
 
@@ -88,16 +86,16 @@ module _ (id : Identity) (p : List ℕ) (size : ℕ) where
 
   -- a chunk taken in by a machine with an area of n bytes
   module _ (n : ℕ) (room : id .total ≤ n) where
-    chunk-done : (s : State) → OfPayload s → (w : View) → PartOf w → judgeState n s (held id w) ≡ Done
+    chunk-done : (s : State) → OfPayload s → (w : View) → PartOf w → judge n s (held id w) ≡ Done
     chunk-done idle o w g = rw (le-leb (id .total) n room)
     chunk-done (held m v) o w g =
         rw (le-leb (id .total) n room, same-message-yes m id (o .0), clash-none (m .total) v w (λ i h. part-agrees v w (o .1) g i))
 
-    chunk-of : (s : State) → OfPayload s → (w : View) → PartOf w → OfPayload (acceptState s (held id w))
+    chunk-of : (s : State) → OfPayload s → (w : View) → PartOf w → OfPayload (accept s (held id w))
     chunk-of idle o w g = (refl, g)
     chunk-of (held m v) o w g = (o .0, part-joined v w (o .1) g)
 
-    chunk-covers : (s : State) (w : View) (i : ℕ) → has w i ≡ true → has (viewIn (acceptState s (held id w))) i ≡ true
+    chunk-covers : (s : State) (w : View) (i : ℕ) → has w i ≡ true → has (viewIn (accept s (held id w))) i ≡ true
     unfolding orElse
     chunk-covers idle w i h = h
     chunk-covers (held m v) w i h = go (v i) refl
@@ -106,7 +104,7 @@ module _ (id : Identity) (p : List ℕ) (size : ℕ) where
         go (some x) e = rw e
         go none e = rw e h
 
-    chunk-keeps : (s : State) (w : View) (i : ℕ) → has (viewIn s) i ≡ true → has (viewIn (acceptState s (held id w))) i ≡ true
+    chunk-keeps : (s : State) (w : View) (i : ℕ) → has (viewIn s) i ≡ true → has (viewIn (accept s (held id w))) i ≡ true
     unfolding orElse
     chunk-keeps idle w i h = absurd (false≢true h)
     chunk-keeps (held m v) w i h = go (v i) refl h
@@ -119,8 +117,8 @@ module _ (id : Identity) (p : List ℕ) (size : ℕ) where
     chunk-alone : (k : ℕ) (a : Arrival) → IsChunk id p size k a → alone (readingAt (a .sizes) (a .datagram)) ≡ held id (bringsAt k)
     chunk-alone k a c = rw (c .reads) (ap (λ (m : Identity). held m (bringsAt k)) (c .same))
 
-    chunk-verdict : (k : ℕ) (a : Arrival) → IsChunk id p size k a → (s : State) → readingVerdict n s (readingAt (a .sizes) (a .datagram)) ≡ judgeState n s (held id (bringsAt k))
-    chunk-verdict k a c s = rw (c .reads) (ap (λ (m : Identity). judgeState n s (held m (bringsAt k))) (c .same))
+    chunk-verdict : (k : ℕ) (a : Arrival) → IsChunk id p size k a → (s : State) → readingVerdict n s (readingAt (a .sizes) (a .datagram)) ≡ judge n s (held id (bringsAt k))
+    chunk-verdict k a c s = rw (c .reads) (ap (λ (m : Identity). judge n s (held m (bringsAt k))) (c .same))
 
     -- ---- any list of arrivals
     record Walked (l : List Arrival) (s : State) : Type 0 where
@@ -135,10 +133,10 @@ module _ (id : Identity) (p : List ℕ) (size : ℕ) where
         let k = o .0 .0 in
         let c = o .0 .1 in
         let v : readingVerdict n s (readingAt (a .sizes) (a .datagram)) ≡ Done = chunk-verdict k a c s ∙ chunk-done s h (bringsAt k) (part-chunk k) in
-        let t : ifAccepted (readingVerdict n s (readingAt (a .sizes) (a .datagram))) s (acceptState s (alone (readingAt (a .sizes) (a .datagram)))) ≡ acceptState s (held id (bringsAt k)) =
-        ap₂ (λ (x : Verdict) (y : State). ifAccepted x s (acceptState s y)) v (chunk-alone k a c) in
-        let w = walk l (o .1) (acceptState s (held id (bringsAt k))) (chunk-of s h (bringsAt k) (part-chunk k)) in
-        let f : machineFinal n (takings (a ∷ l)) s ≡ machineFinal n (takings l) (acceptState s (held id (bringsAt k))) = ap (machineFinal n (takings l)) t in
+        let t : ifAccepted (readingVerdict n s (readingAt (a .sizes) (a .datagram))) s (accept s (alone (readingAt (a .sizes) (a .datagram)))) ≡ accept s (held id (bringsAt k)) =
+        ap₂ (λ (x : Verdict) (y : State). ifAccepted x s (accept s y)) v (chunk-alone k a c) in
+        let w = walk l (o .1) (accept s (held id (bringsAt k))) (chunk-of s h (bringsAt k) (part-chunk k)) in
+        let f : machineFinal n (takings (a ∷ l)) s ≡ machineFinal n (takings l) (accept s (held id (bringsAt k))) = ap (machineFinal n (takings l)) t in
         record {
           answers = ap₂ _∷_ (ap replyOf v) (ap (machineReplies n (takings l)) t ∙ w .answers);
           of = rw f (w .of);
@@ -163,12 +161,12 @@ module _ (id : Identity) (p : List ℕ) (size : ℕ) where
           let r : inRange (k * size) (k * size + length (cutData p size k)) i ≡ true = rw (le-leb (k * size) i l) (lt-ltb i (k * size + length (cutData p size k)) (omega arith)) in
           (omega arith, ap (λ (g : ℕ → Bool). g i) (has-data (k * size) (cutData p size k)) ∙ r)
 
-      covered-complete : (s : State) → OfPayload s → ((i : ℕ) → i < length p → has (viewIn s) i ≡ true) → (complete s ≡ true) × (whole s ≡ p)
+      covered-complete : (s : State) → OfPayload s → ((i : ℕ) → i < length p → has (viewIn s) i ≡ true) → (isComplete s ≡ true) × (whole s ≡ p)
       covered-complete idle o h = absurd (false≢true (h 0 filled))
       covered-complete (held m v) o h =
           let t : m .total ≡ length p = ap (λ (x : Identity). x .total) (o .0) ∙ long in (
             full-all (m .total) v (λ i l. h i (omega arith)),
-            ext-getD 0 (bytesOf (m .total) v) p (length-tab (m .total) _ ∙ t)
+            ext-getD 0 (bytesBelow (m .total) v) p (length-tab (m .total) _ ∙ t)
                 (λ i l.
                 let j : i < m .total = rw (length-tab (m .total) (λ i. Option·getD (v i) 0)) at l in
                 getD-tab (m .total) (λ i. Option·getD (v i) 0) i 0 j
@@ -185,40 +183,33 @@ module _ (id : Identity) (p : List ℕ) (size : ℕ) where
       let t : length p ≡ id .total = sym long in
       let d₂ : chunkData (got c (length s)) s ≡ cutData p size k = rw e at d in
       record {
-        message = messageOf c s;
+        message = chunkMessage c s;
         same = λ i. record { publisher = w .publisher i; writer = w .writer i; number = id .number; total = t i };
-        reads = reading-got (a .sizes) s c (length s) e ∙ ap (chunk (messageOf c s) (k * size)) d₂;
+        reads = reading-got (a .sizes) s c (length s) e ∙ ap (chunk (chunkMessage c s) (k * size)) d₂;
         inside = cuts (length p) size k (w .accepted) .inside;
       }
 
   -- ---- ALL CHUNKS OF A PAYLOAD, taken in in any order by a sound, just emptied partial whose area is at least that long, some of them more
   -- than once: every taking in is accepted, complete is said, and the payload is handed out
-  pub record Restored (l : List Arrival) (s : Partial) : Type 0 where
-    pub accepted : replies (takings l) s ≡ dones l
-    pub says-complete : askComplete (final (takings l) s) ≡ C.Yes
-    pub number : judgeHandOut (final (takings l) s) ≡ Done
-    pub payload : handOut (final (takings l) s) ≡ p
-
-  all-chunks-restore : (l : List Arrival) → AllArrive id p size (IsChunk id p size) l → (s : Partial) → Good s → s .rec .started ≡ false → length p ≤ length (s .payload) → Restored l s
+  pub all-chunks-restore : (l : List Arrival) → AllArrive id p size (IsChunk id p size) l → (s : Partial) → Good s → s .rec .started ≡ false → length p ≤ length (s .payload) → Restored p l s
   all-chunks-restore l all s ok e room =
       let n = length (s .payload) in
       let r : id .total ≤ n = omega (arith, all .total) in
       let w = walk n r l (all .only) idle tt in
-      let h = history (takings l) s ok e in
+      let h = any-list (takings l) s ok e in
       let covers : (i : ℕ) → i < length p → has (viewIn (machineFinal n (takings l) idle)) i ≡ true =
       λ i u. let c = chunk-has n r (all .some) (all .filled) (all .total) i u in w .brings (i / size) (all .each (i / size) (c .0)) i (c .1) in
       let d = covered-complete n r (all .some) (all .filled) (all .total) (machineFinal n (takings l) idle) (w .of) covers in
-      let c : complete (stateOf (final (takings l) s)) ≡ true = rw (h .partial-is) (d .0) in
+      let c : isComplete (stateOf (final (takings l) s)) ≡ true = rw (h .partial-is) (d .0) in
       record {
         accepted = h .replies-are ∙ w .answers;
-        says-complete = Following.ask-is (final (takings l) s) (h .stays-good) ∙ ap yesNo c;
-        number = Following.hand-is (final (takings l) s) (h .stays-good) ∙ rw c;
-        payload = Following.hand-bytes (final (takings l) s) (h .stays-good) c ∙ rw (h .partial-is) (d .1);
+        says-complete = Following.follow (final (takings l) s) (h .stays-good) Ask .reply ∙ ap said c;
+        hands-out = Following.follow (final (takings l) s) (h .stays-good) HandOut .reply ∙ rw c (ap handed (ap whole (h .partial-is) ∙ d .1));
       }
 
   -- ---- A PAYLOAD CUT AND RESTORED: the same of datagrams with what cutting wrote for the chunks
   pub all-cuts-restore : (l : List Arrival) → AllArrive id p size (IsCut id p size) l → id .number < 65536 → (s : Partial) → Good s → s .rec .started ≡ false → length p ≤ length (s .payload)
-      → Restored l s
+      → Restored p l s
   all-cuts-restore l all hn =
       let f : (k : ℕ) (a : Arrival) → IsCut id p size k a → IsChunk id p size k a = λ k a w. cut-is-chunk k a hn (all .total) w in
       all-chunks-restore l

@@ -1,54 +1,54 @@
 -- Demand 3. Each theorem speaks of the definitions that the contracts of src/operations.rt cite. Assumes nothing.
 use Prim.Native.Nat.{ℕ, _≤_}
-use mathlib.Core.Path.{_≡_, refl, sym, ap, ap₂, _∙_}
-use mathlib.Core.Logic.{_↔_}
+use mathlib.Core.Path.{_≡_, refl, sym, ap, ap₂, subst, _∙_}
+use mathlib.Core.Logic.{_↔_, inl, inr}
 use mathlib.Core.Bool.{Bool, true, false, cond, false≢true}
-use mathlib.Core.List.{List, [], _∷_}
-use mathlib.Core.Option.{some}
+use mathlib.Core.List.{List, [], _∷_, _++_}
 use native.Mathlib.Omega.{arith}
-use lib.ListN.{length}
+use lib.ListN.{length, take}
 use lib.Seq.{length-take-le}
+use Rattle.marks.specs.Marks.{Layout}
 use Rattle.reassembly.specs.Views.{dataView}
 use Rattle.reassembly.specs.Record.{Partial, Good}
-use Rattle.reassembly.specs.Reading.{Reading, Proper, messageOf, readingAt}
-use Rattle.wire.specs.Answer.{got}
-use Rattle.chunk.specs.Datagram.{chunkAt, chunkData}
-use Rattle.chunk.specs.declared.datagram.ChunkPlace.{ChunkPlace}
+use Rattle.reassembly.specs.Reading.{Reading, GoodChunk, GoodReading, readingAt}
 use Rattle.reassembly.specs.Reading.Reading.{chunk}
-use Rattle.reassembly.specs.Machine.{State, viewIn, between, complete}
+use Rattle.reassembly.specs.Machine.{Call, Reply, handedOf, State, viewIn, viewOf, stateOf, alone, between, isComplete, machineReplies, machineFinal, brought, AllOf}
 use Rattle.reassembly.specs.Machine.State.{idle, held}
-use Rattle.reassembly.specs.Judge.{viewOf, stateOf, Complete, Equal, alone, judgeReading, judgeCombine}
-use Rattle.reassembly.specs.Operations.{Step, stepBy, put, putReading, takeIn, combine, yesNo, askComplete, judgeHandOut, handOut}
-use Rattle.reassembly.specs.Calls.{Call, replies, final, leaves}
-use Rattle.reassembly_laws.specs.History.{machineReplies, machineFinal, brought, Brings, AllOf}
-use Rattle.reassembly_laws.specs.Combining.{isRefused, someDisagree, Room, Pair, Three, leftVerdict, leftResult, rightVerdict, rightResult}
+use Rattle.reassembly.specs.Machine.Call.{Empty, Take, Combine, Ask, HandOut}
+use Rattle.reassembly.specs.Machine.Reply.{done, said, handed, refused}
+use Rattle.reassembly.specs.Judge.{Complete, Equal, judgeReading, judgeCombine}
+use Rattle.reassembly.specs.Operations.{stepBy, put, putReading, takeIn, combine, judgeHandOut, ifDone, handOut}
+use Rattle.reassembly.specs.Calls.{replies, final, answers, leaves}
 use Rattle.reassembly.specs.declared.record.Message.{Message}
-use Rattle.reassembly.specs.declared.verdict.Completeness.the-variants as C
 use Rattle.reassembly.specs.declared.verdict.Verdict.{Verdict}
 use Rattle.reassembly.specs.declared.verdict.Verdict.the-variants.{Done, Refused}
+use Rattle.reassembly_laws.specs.AnyList.{AnyList, replyAt, HandsOut}
+use Rattle.reassembly_laws.specs.Alone.{chunkAlone, IsAlone, AsPartial}
+use Rattle.reassembly_laws.specs.Combining.{EqualRoom, EitherOrder, EitherGrouping, someDisagree, leftVerdict, rightVerdict}
 use Rattle.wire.proofs.Cases.{by-bool}
-use Rattle.reassembly_laws.proofs.Alone
 use Rattle.reassembly.proofs.ViewLaws.{full-some, full-all}
 use Rattle.reassembly.proofs.AreaLaws.{laid-self, marks-again}
 use Rattle.reassembly.proofs.JudgeLaws
+use Rattle.reassembly.proofs.CallLaws.{one-verdict}
+use Rattle.reassembly_laws.proofs.Alone
 use Rattle.reassembly_laws.proofs.StateLaws
 use Rattle.reassembly_laws.proofs.Following
 use Rattle.reassembly_laws.proofs.Bringing
 use Rattle.reassembly_laws.proofs.Combining
+use Rattle.reassembly_laws.proofs.Combining.{Pair, Three, Room}
 
--- ---- ANY LIST OF CALLS from a good, just emptied partial: every answer is the plain machine's, the partial afterwards is equal to what the
--- machine keeps, and it stays good; n is the area's length, and from is what the machine starts with
-pub record History (n : ℕ) (ks : List Call) (s : Partial) (from : State) : Type 0 where
-  pub replies-are : replies ks s ≡ machineReplies n ks from
-  pub partial-is : stateOf (final ks s) ≡ machineFinal n ks from
-  pub stays-good : Good (final ks s)
+-- ---- any list of calls from a good partial; n is the area's length, and from is what the machine starts with
+record Followed (n : ℕ) (ks : List Call) (s : Partial) (from : State) : Type 0 where
+  replies-are : replies ks s ≡ machineReplies n ks from
+  partial-is : stateOf (final ks s) ≡ machineFinal n ks from
+  stays-good : Good (final ks s)
   room-stays : length (final ks s .payload) ≡ n
 
-history-from : (ks : List Call) (s : Partial) → Good s → History (length (s .payload)) ks s (stateOf s)
-history-from [] s ok = record { replies-are = refl; partial-is = refl; stays-good = ok; room-stays = refl }
-history-from (k ∷ ks) s ok =
+followed-from : (ks : List Call) (s : Partial) → Good s → Followed (length (s .payload)) ks s (stateOf s)
+followed-from [] s ok = record { replies-are = refl; partial-is = refl; stays-good = ok; room-stays = refl }
+followed-from (k ∷ ks) s ok =
     let f = Following.follow s ok k in
-    let h = history-from ks (leaves k s) (f .good) in
+    let h = followed-from ks (leaves k s) (f .good) in
     record {
       replies-are = ap₂ _∷_ (f .reply) (h .replies-are ∙ ap₂ (λ (n : ℕ) (t : State). machineReplies n ks t) (f .room) (f .state));
       partial-is = h .partial-is ∙ ap₂ (λ (n : ℕ) (t : State). machineFinal n ks t) (f .room) (f .state);
@@ -56,34 +56,54 @@ history-from (k ∷ ks) s ok =
       room-stays = h .room-stays ∙ f .room;
     }
 
-pub history : (ks : List Call) (s : Partial) → Good s → s .rec .started ≡ false → History (length (s .payload)) ks s idle
-history ks s ok e =
+followed : (ks : List Call) (s : Partial) → Good s → s .rec .started ≡ false → Followed (length (s .payload)) ks s idle
+followed ks s ok e =
     let q : stateOf s ≡ idle = rw e in
-    rw q at (history-from ks s ok)
+    rw q at (followed-from ks s ok)
 
--- ---- A BYTE IS COVERED exactly if one accepted since the last emptying brought it, and it has the value brought
-pub covered-exactly-if-brought : (ks : List Call) (s : Partial) → Good s → s .rec .started ≡ false → (i x : ℕ)
-    → (viewIn (stateOf (final ks s)) i ≡ some x) ↔ Brings (brought (length (s .payload)) ks idle []) i x
-covered-exactly-if-brought ks s ok e i x =
-    rw (history ks s ok e .partial-is) (Bringing.log-all (length (s .payload)) ks idle [] Bringing.log-none .bytes i x)
+-- the reply to a call inside the list is its answer on what the calls before it left
+reply-inside : (before : List Call) (k : Call) (after : List Call) (s : Partial) → replyAt (replies (before ++ (k ∷ after)) s) (length before) ≡ answers k (final before s)
+reply-inside [] k after s = refl
+reply-inside (b ∷ before) k after s = reply-inside before k after (leaves b s)
 
 is-complete : (b : Bool) → cond b Done (Refused 15 0) ≡ Done → b ≡ true
 is-complete true q = refl
 is-complete false q = absurd (JudgeLaws.refused-done 15 0 q)
 
--- ---- ONE PAYLOAD: if all that was brought is of one payload, that payload is handed out
-pub one-payload : (ks : List Call) (s : Partial) → Good s → s .rec .started ≡ false → (p : List ℕ) → AllOf p (brought (length (s .payload)) ks idle []) → judgeHandOut (final ks s) ≡ Done
-    → handOut (final ks s) ≡ p
-one-payload ks s ok e p a done =
-    let n = length (s .payload) in
-    let h = history ks s ok e in
-    let c : complete (stateOf (final ks s)) ≡ true = is-complete (complete (stateOf (final ks s))) (sym (Following.hand-is (final ks s) (h .stays-good)) ∙ done) in
-    let d : complete (machineFinal n ks idle) ≡ true = rw (h .partial-is) at c in
-    Following.hand-bytes (final ks s) (h .stays-good) c
-    ∙ rw (h .partial-is) (Bringing.whole-of p (brought n ks idle []) (machineFinal n ks idle) a (Bringing.log-all n ks idle [] Bringing.log-none) d)
+module _ (ks : List Call) (s : Partial) (ok : Good s) (e : s .rec .started ≡ false) (p : List ℕ) (a : AllOf p (brought (length (s .payload)) ks idle [])) where
+  -- what was brought is of the payload p
+  whole-is : isComplete (stateOf (final ks s)) ≡ true → handOut (final ks s) ≡ p
+  whole-is c =
+      let n = length (s .payload) in
+      let h = followed ks s ok e in
+      let d : isComplete (machineFinal n ks idle) ≡ true = rw (h .partial-is) at c in
+      let f : Bringing.Filled (machineFinal n ks idle) = rw (h .partial-is) at (Bringing.filled (final ks s) (h .stays-good .is-sound)) in
+      Following.hand-bytes (final ks s) (h .stays-good) c
+      ∙ rw (h .partial-is) (Bringing.whole-of p (brought n ks idle []) (machineFinal n ks idle) a (Bringing.log-all n ks idle [] Bringing.log-none) f d)
+
+  hands-out : HandsOut p (answers HandOut (final ks s))
+  hands-out =
+      let g = followed ks s ok e .stays-good in
+      by-bool _ (isComplete (stateOf (final ks s)))
+      (λ c. inl (rw (Following.hand-is (final ks s) g, c) (ap handed (whole-is c))))
+      (λ c. inr (rw (Following.hand-is (final ks s) g, c)))
+
+-- ---- ANY LIST OF CALLS from a good, just emptied partial
+pub any-list : (ks : List Call) (s : Partial) → Good s → s .rec .started ≡ false → AnyList ks s
+any-list ks s ok e =
+    let h = followed ks s ok e in
+    record {
+      replies-are = h .replies-are;
+      partial-is = h .partial-is;
+      stays-good = h .stays-good;
+      room-stays = h .room-stays;
+      covered-exactly = λ i x. rw (h .partial-is) (Bringing.log-all (length (s .payload)) ks idle [] Bringing.log-none .bytes i x);
+      one-payload = λ before after p q a.
+          subst (HandsOut p) (sym (ap (λ (l : List Call). replyAt (replies l s) (length before)) q ∙ reply-inside before HandOut after s)) (hands-out before s ok e p a);
+    }
 
 -- ---- COMPLETE, and handing out accepted, exactly if started and covered at every byte below total
-complete-is : (s : Partial) → (complete (stateOf s) ≡ true) ↔ Complete s
+complete-is : (s : Partial) → (isComplete (stateOf s) ≡ true) ↔ Complete s
 complete-is s = (
   λ e. by-bool _ (s .rec .started)
       (λ h. (h, λ i l. rw h (full-some (s .rec .message .total) (viewOf s) (rw h at e) i l)))
@@ -91,21 +111,34 @@ complete-is s = (
   λ p. rw (p .0) (full-all (s .rec .message .total) (viewOf s) (λ i l. rw (p .0) at (p .1 i l))),
 )
 
-pub complete-exactly : (s : Partial) → Good s → (askComplete s ≡ C.Yes) ↔ Complete s
+pub complete-exactly : (s : Partial) → Good s → (answers Ask s ≡ said true) ↔ Complete s
 complete-exactly s ok = (
-  λ e. complete-is s .0 (is-yes (complete (stateOf s)) (sym (Following.ask-is s ok) ∙ e)),
-  λ p. Following.ask-is s ok ∙ ap yesNo (complete-is s .1 p),
+  λ e. complete-is s .0 (is-yes (isComplete (stateOf s)) (sym (Following.follow s ok Ask .reply) ∙ e)),
+  λ p. Following.follow s ok Ask .reply ∙ ap said (complete-is s .1 p),
 )
   where
-    is-yes : (b : Bool) → yesNo b ≡ C.Yes → b ≡ true
-    is-yes true q = refl
-    is-yes false q = let z : _≡_ {A = ℕ} 0 1 = cc in absurd (omega arith)
+    told : Reply → Bool → Bool
+    told (said b) c = b
+    told done c = c
+    told (handed l) c = c
+    told (refused n p) c = c
 
-pub hand-out-exactly : (s : Partial) → Good s → (judgeHandOut s ≡ Done) ↔ Complete s
+    is-yes : (b : Bool) → said b ≡ said true → b ≡ true
+    is-yes b q = ap (λ (r : Reply). told r b) q
+
+hand-done : (s : Partial) → judgeHandOut s ≡ Done → answers HandOut s ≡ handed (take (s .rec .message .total) (s .payload))
+unfolding handOut
+hand-done s e = rw e
+
+pub hand-out-exactly : (s : Partial) → Good s → (answers HandOut s ≡ handed (take (s .rec .message .total) (s .payload))) ↔ Complete s
 hand-out-exactly s ok = (
-  λ e. complete-is s .0 (is-complete (complete (stateOf s)) (sym (Following.hand-is s ok) ∙ e)),
-  λ p. Following.hand-is s ok ∙ rw (complete-is s .1 p),
+  λ e. complete-is s .0 (is-complete (isComplete (stateOf s)) (sym (Following.hand-is s ok) ∙ accepted (judgeHandOut s) _ _ e)),
+  λ p. hand-done s (Following.hand-is s ok ∙ rw (complete-is s .1 p)),
 )
+  where
+    accepted : (v : Verdict) (l k : List ℕ) → handedOf v l ≡ handed k → v ≡ Done
+    accepted Done l k e = refl
+    accepted (Refused n p) l k e = let z : _≡_ {A = ℕ} 0 1 = cc in absurd (omega arith)
 
 -- the part handed out has total bytes where it is accepted, and none where it is refused: a payload is never empty
 pub handed-length : (s : Partial) → judgeHandOut s ≡ Done → (length (handOut s) ≡ s .rec .message .total) × (1 ≤ s .rec .message .total)
@@ -115,16 +148,16 @@ handed-length s e =
     let h = JudgeLaws.hand-started s e in
     (rw e (length-take-le (s .rec .message .total) (s .payload) (JudgeLaws.sound-total s ok h)), JudgeLaws.sound-some s ok h)
 
-pub handed-nothing : (s : Partial) (n p : ℕ) → judgeHandOut s ≡ Refused n p → handOut s ≡ []
+pub handed-nothing : (s : Partial) (n p : ℕ) → answers HandOut s ≡ refused n p → handOut s ≡ []
 unfolding handOut
-handed-nothing s n p e = rw e
+handed-nothing s n p e = go (judgeHandOut s) _ _ e
+  where
+    go : (v : Verdict) (l k : List ℕ) → handedOf v l ≡ refused n p → ifDone v k ≡ []
+    go Done l k q = let z : _≡_ {A = ℕ} 0 1 = cc in absurd (omega arith)
+    go (Refused x y) l k q = refl
 
 -- ---- COMBINING TWO gives equal results in either order, or the same refusal
-pub record Order (a b : Partial) : Type 0 where
-  pub same-verdict : combine a b .verdict ≡ combine b a .verdict
-  pub equal : combine a b .verdict ≡ Done → Equal (combine a b .after) (combine b a .after)
-
-pub combine-order : (a b : Partial) → Pair a b → Order a b
+pub combine-order : (a b : Partial) → Pair a b → EitherOrder a b
 combine-order a b w =
     let same : combine a b .verdict ≡ combine b a .verdict = Combining.verdict-between a b (w .first) (w .second) (w .room) ∙ StateLaws.between-comm (stateOf a) (stateOf b)
     ∙ sym (Combining.verdict-between b a (w .second) (w .first) (w .back)) in
@@ -136,8 +169,18 @@ combine-order a b w =
     }
 
 -- areas of equal length meet what is asked
-pub equal-areas : (a b : Partial) → Good a → Good b → length (a .payload) ≡ length (b .payload) → Pair a b
+pub equal-areas : (a b : Partial) → Good a → Good b → EqualRoom a b → Pair a b
 equal-areas a b ga gb e = record { first = ga; second = gb; room = Combining.equal-room a b gb e; back = Combining.equal-room b a ga (sym e) }
+
+pub three-equal-areas : (a b c : Partial) → Good a → Good b → Good c → EqualRoom a b → EqualRoom b c → Three a b c
+three-equal-areas a b c ga gb gc ab bc = record {
+  first = ga;
+  second = gb;
+  third = gc;
+  ab = Combining.equal-room a b gb ab;
+  bc = Combining.equal-room b c gc bc;
+  ac = Combining.equal-room a c gc (ab ∙ bc);
+}
 
 -- ---- ONE NOT STARTED changes nothing, not even an uncovered byte
 pub combine-not-started : (a b : Partial) → Good a → Good b → b .rec .started ≡ false → combine a b ≡ record { verdict = Done; after = a }
@@ -176,12 +219,7 @@ combine-equal a b ga gb q =
         })
 
 -- ---- THREE IN EITHER GROUPING give equal results, or both are refused, and that exactly if two of the three disagree
-pub record Groupings (a b c : Partial) : Type 0 where
-  pub left : isRefused (leftVerdict a b c) ≡ someDisagree a b c
-  pub right : isRefused (rightVerdict a b c) ≡ someDisagree a b c
-  pub equal : someDisagree a b c ≡ false → Equal (leftResult a b c) (rightResult a b c)
-
-pub combine-groupings : (a b c : Partial) → Three a b c → Groupings a b c
+pub combine-groupings : (a b c : Partial) → Three a b c → EitherGrouping a b c
 combine-groupings a b c w = record {
   left = Combining.refused-exactly (leftVerdict a b c) (someDisagree a b c) (λ e. agree (Combining.left-pairs a b c w e)) (λ e. Combining.pairs-left a b c w (pairs e));
   right = Combining.refused-exactly (rightVerdict a b c) (someDisagree a b c) (λ e. agree (Combining.right-pairs a b c w e)) (λ e. Combining.pairs-right a b c w (pairs e));
@@ -196,13 +234,7 @@ combine-groupings a b c w = record {
 
 -- ---- TAKING IN A CHUNK with no fault of its own equals combining with a partial that is that chunk alone: same answer, equal results, and
 -- the same bytes in both areas
-pub record AsPartial (x y : Step) : Type 0 where
-  pub verdict : x .verdict ≡ y .verdict
-  pub equal : Equal (x .after) (y .after)
-  pub payload : x .after .payload ≡ y .after .payload
-  pub marks : x .after .marks ≡ y .after .marks
-
-pub chunk-as-partial : (s f : Partial) → Good s → Good f → (m : Message) (at : ℕ) (d : List ℕ) → Proper m at (length d) → stateOf f ≡ alone (chunk m at d)
+chunk-as-partial : (s f : Partial) → Good s → Good f → (m : Message) (at : ℕ) (d : List ℕ) → GoodChunk m at (length d) → stateOf f ≡ alone (chunk m at d)
     → AsPartial (takeIn s (chunk m at d)) (combine s f)
 chunk-as-partial s f ok okf m at d o q = go (judgeReading s (chunk m at d)) refl
   where
@@ -222,27 +254,40 @@ chunk-as-partial s f ok okf m at d o q = go (judgeReading s (chunk m at d)) refl
         }
 
 -- with its own record in areas of equal length, all is the same: answer, record and every byte
-take-is-combine : (s : Partial) → Good s → (m : Message) (at : ℕ) (d : List ℕ) → Proper m at (length d) → m .total ≤ length (s .payload)
-    → takeIn s (chunk m at d) ≡ combine s (Alone.chunkAlone (s .layout) (length (s .payload)) m at d)
+take-is-combine : (s : Partial) → Good s → (m : Message) (at : ℕ) (d : List ℕ) → GoodChunk m at (length d) → m .total ≤ length (s .payload)
+    → takeIn s (chunk m at d) ≡ combine s (chunkAlone (s .layout) (length (s .payload)) m at d)
 unfolding put
 take-is-combine s ok m at d o room = go (judgeReading s (chunk m at d)) refl
   where
-    okf : Good (Alone.chunkAlone (s .layout) (length (s .payload)) m at d)
+    okf : Good (chunkAlone (s .layout) (length (s .payload)) m at d)
     okf = Alone.chunk-alone-good (s .layout) (length (s .payload)) m at d o room
 
-    q : stateOf (Alone.chunkAlone (s .layout) (length (s .payload)) m at d) ≡ alone (chunk m at d)
+    q : stateOf (chunkAlone (s .layout) (length (s .payload)) m at d) ≡ alone (chunk m at d)
     q = Alone.chunk-alone-is (s .layout) (length (s .payload)) m at d o room
 
-    go : (v : Verdict) → judgeReading s (chunk m at d) ≡ v → takeIn s (chunk m at d) ≡ combine s (Alone.chunkAlone (s .layout) (length (s .payload)) m at d)
+    go : (v : Verdict) → judgeReading s (chunk m at d) ≡ v → takeIn s (chunk m at d) ≡ combine s (chunkAlone (s .layout) (length (s .payload)) m at d)
     go (Refused n p) e = JudgeLaws.take-refused s (chunk m at d) n p e ∙ sym (JudgeLaws.combine-refused s _ n p (sym (Alone.judged s _ ok okf m at d q) ∙ e))
     go Done e = JudgeLaws.take-done s (chunk m at d) e ∙ sym (Alone.combined s _ ok okf m at d q e)
 
--- so for a datagram that reads as a chunk
-pub datagram-is-combine : (s : Partial) → Good s → (sizes d : List ℕ) (c : ChunkPlace) (n : ℕ) → chunkAt sizes d ≡ got c n → c .payload .total ≤ length (s .payload)
-    → takeIn s (readingAt sizes d) ≡ combine s (Alone.chunkAlone (s .layout) (length (s .payload)) (messageOf c d) (c .payload .offset) (chunkData (got c n) d))
-datagram-is-combine s ok sizes d c n e room =
-    ap (takeIn s) (JudgeLaws.reading-got sizes d c n e)
-    ∙ take-is-combine s ok (messageOf c d) (c .payload .offset) (chunkData (got c n) d) (JudgeLaws.proper-got sizes d c n e) room
+-- ---- so for a datagram that reads as a chunk: bytes are its data, at is its offset
+module _ (sizes d : List ℕ) (m : Message) (at : ℕ) (bytes : List ℕ) (reads : readingAt sizes d ≡ chunk m at bytes) where
+  good-chunk : GoodChunk m at (length bytes)
+  good-chunk = subst GoodReading reads (JudgeLaws.reading-proper sizes d)
+
+  pub datagram-as-partial : (s f : Partial) → Good s → Good f → stateOf f ≡ alone (readingAt sizes d) → AsPartial (takeIn s (readingAt sizes d)) (combine s f)
+  datagram-as-partial s f ok okf q = rw reads (chunk-as-partial s f ok okf m at bytes good-chunk (q ∙ ap alone reads))
+
+  -- a partial that is that chunk alone exists wherever there is room for its total
+  pub datagram-alone : (L : Layout) (n : ℕ) → m .total ≤ n → IsAlone (readingAt sizes d) n (chunkAlone L n m at bytes)
+  datagram-alone L n room = record {
+    good = Alone.chunk-alone-good L n m at bytes good-chunk room;
+    room = Alone.chunk-alone-room L n m at bytes good-chunk room;
+    is = Alone.chunk-alone-is L n m at bytes good-chunk room ∙ ap alone (sym reads);
+  }
+
+  pub datagram-is-combine : (s : Partial) → Good s → m .total ≤ length (s .payload)
+      → takeIn s (readingAt sizes d) ≡ combine s (chunkAlone (s .layout) (length (s .payload)) m at bytes)
+  datagram-is-combine s ok room = ap (takeIn s) reads ∙ take-is-combine s ok m at bytes good-chunk room
 
 -- ---- EVERY REFUSAL leaves the record and both areas as they were
 step-refused : (v : Verdict) (s t : Partial) (n p : ℕ) → stepBy v s t .verdict ≡ Refused n p → stepBy v s t .after ≡ s
@@ -256,3 +301,11 @@ refused-take s x n p e = step-refused (judgeReading s x) s (putReading x s) n p 
 pub refused-combine : (s f : Partial) (n p : ℕ) → combine s f .verdict ≡ Refused n p → combine s f .after ≡ s
 unfolding combine
 refused-combine s f n p e = step-refused (judgeCombine s f) s _ n p e
+
+-- of all five calls
+pub refused-leaves : (k : Call) (s : Partial) (n p : ℕ) → answers k s ≡ refused n p → leaves k s ≡ s
+refused-leaves Empty s n p e = let z : _≡_ {A = ℕ} 0 1 = cc in absurd (omega arith)
+refused-leaves (Take d sizes) s n p e = refused-take s (readingAt sizes d) n p (one-verdict _ (Refused n p) e)
+refused-leaves (Combine f) s n p e = refused-combine s f n p (one-verdict _ (Refused n p) e)
+refused-leaves Ask s n p e = refl
+refused-leaves HandOut s n p e = refl

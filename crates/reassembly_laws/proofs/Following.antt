@@ -8,21 +8,20 @@ use mathlib.Core.Option.{none}
 use native.Mathlib.Omega.{arith}
 use lib.ListN.{length}
 use borrow.Author.Tests.{le-leb, eq-eqb}
-use Rattle.reassembly.specs.Views.{View, clash, full, has, dataView, joined, nowhere, laid}
+use Rattle.reassembly.specs.Views.{View, clash, full, has, dataView, bothViews, nowhere, overlaid}
 use Rattle.marks.specs.Marks.{Layout, marksFor, cleared, markAll}
 use Rattle.reassembly.specs.Areas.{markedView}
 use Rattle.publisher_id.specs.PublisherRecord.{publisherFits}
 use Rattle.reassembly.specs.Record.{Identity, identityOf, Partial, soundBy, Good}
-use Rattle.reassembly.specs.Reading.{Reading, readingAt, ProperReading}
+use Rattle.reassembly.specs.Reading.{Reading, readingAt, GoodReading}
 use Rattle.reassembly.specs.Reading.Reading.{chunk, refusal}
-use Rattle.reassembly.specs.Machine.{State, judge, accept, acceptState, complete}
+use Rattle.reassembly.specs.Machine.{State, judge, accept, isComplete, viewOf, stateOf, alone, readingVerdict, Call, replyOf, handedOf, verdictOf, whole, says, ifAccepted, keeps}
 use Rattle.reassembly.specs.Machine.State.{idle, held}
-use Rattle.reassembly.specs.Judge.{viewOf, stateOf, alone, readingVerdict, judgeReading, judgeCombine}
+use Rattle.reassembly.specs.Machine.Call.{Empty, Take, Combine, Ask, HandOut}
+use Rattle.reassembly.specs.Machine.Reply.{said}
+use Rattle.reassembly.specs.Judge.{judgeReading, judgeCombine}
+use Rattle.reassembly.specs.Calls.{saidOf, answers, leaves}
 use Rattle.reassembly.specs.Operations.{Step, begunMarks, put, takeIn, combine, emptied, yesNo, askComplete, handOutBy, judgeHandOut, handOut}
-use Rattle.reassembly.specs.Calls.{Call, replyOf, saidOf, handedOf, answers, leaves}
-use Rattle.reassembly.specs.Calls.Reply.{said}
-use Rattle.reassembly_laws.specs.History.{verdictOf, whole, says, ifAccepted, keeps}
-use Rattle.reassembly.specs.Calls.Call.{Empty, Take, Combine, Ask, HandOut}
 use Rattle.reassembly.specs.declared.record.Message.{Message}
 use Rattle.reassembly.specs.declared.record.PartialRecord.{PartialRecord}
 use Rattle.reassembly.specs.declared.verdict.Verdict.{Verdict}
@@ -35,12 +34,12 @@ use Rattle.reassembly.proofs.SameLaws.{same-message-true}
 use Rattle.reassembly.proofs.JudgeLaws
 
 -- a message that a sound partial of n bytes can have
-pub record Fit (m : Message) (n : ℕ) : Type 0 where
+pub record GoodMessage (m : Message) (n : ℕ) : Type 0 where
   pub some : 1 ≤ m .total
   pub room : m .total ≤ n
   pub publisher : publisherFits (m .publisher) ≡ true
 
-fit-sound : (L : Layout) (r : PartialRecord) (n k : ℕ) → marksFor L n ≡ k → Fit (r .message) n → soundBy L r n k ≡ true
+fit-sound : (L : Layout) (r : PartialRecord) (n k : ℕ) → marksFor L n ≡ k → GoodMessage (r .message) n → soundBy L r n k ≡ true
 unfolding soundBy
 fit-sound L r n k e f =
     rw (eq-eqb (marksFor L n) k e, le-leb 1 (r .message .total) (f .some), le-leb (r .message .total) n (f .room), f .publisher)
@@ -48,16 +47,16 @@ fit-sound L r n k e f =
 
 -- ---- bytes put into a good partial
 module _ (m : Message) (v : View) (s : Partial) where
-  pub put-started : s .rec .started ≡ true → put m v s ≡ record { rec = s .rec; layout = s .layout; payload = laid v (s .payload); marks = markAll (s .layout) (has v) (s .marks) }
+  pub put-started : s .rec .started ≡ true → put m v s ≡ record { rec = s .rec; layout = s .layout; payload = overlaid v (s .payload); marks = markAll (s .layout) (has v) (s .marks) }
   unfolding put
   put-started e = rw e
 
   put-idle : s .rec .started ≡ false
-      → put m v s ≡ record { rec = record { started = true; message = m }; layout = s .layout; payload = laid v (s .payload); marks = markAll (s .layout) (has v) (cleared (s .marks)) }
+      → put m v s ≡ record { rec = record { started = true; message = m }; layout = s .layout; payload = overlaid v (s .payload); marks = markAll (s .layout) (has v) (cleared (s .marks)) }
   unfolding put
   put-idle e = rw e
 
-module _ (m : Message) (v : View) (s : Partial) (ok : Good s) (fit : Fit m (length (s .payload))) where
+module _ (m : Message) (v : View) (s : Partial) (ok : Good s) (fit : GoodMessage m (length (s .payload))) where
   put-lengths : (length (put m v s .payload) ≡ length (s .payload)) × (length (put m v s .marks) ≡ length (s .marks))
   unfolding put
   put-lengths = (length-laid v (s .payload), length-markAll (s .layout) (has v) (begunMarks (s .rec) (s .marks)) ∙ JudgeLaws.length-begun (s .rec) (s .marks) _ refl)
@@ -70,7 +69,7 @@ module _ (m : Message) (v : View) (s : Partial) (ok : Good s) (fit : Fit m (leng
         (fit-sound (s .layout) (record { started = true; message = m }) (length (s .payload)) (length (s .marks)) (JudgeLaws.sound-lengths s (ok .is-sound)) fit));
   }
 
-  pub put-state : ((i : ℕ) → m .total ≤ i → v i ≡ none) → judge (length (s .payload)) (stateOf s) (identityOf m) v ≡ Done → stateOf (put m v s) ≡ accept (stateOf s) (identityOf m) v
+  pub put-state : ((i : ℕ) → m .total ≤ i → v i ≡ none) → judge (length (s .payload)) (stateOf s) (held (identityOf m) v) ≡ Done → stateOf (put m v s) ≡ accept (stateOf s) (held (identityOf m) v)
   put-state above met =
       by-bool _ (s .rec .started)
       (λ e.
@@ -89,12 +88,12 @@ module _ (m : Message) (v : View) (s : Partial) (ok : Good s) (fit : Fit m (leng
       let free : clash t (markedView (s .layout) t (s .payload) z) v ≡ false = rw none-held (clash-none t nowhere v (λ i h. refl)) in
       let room : marksFor (s .layout) t ≤ length z = rw (length-cleared (s .marks)) (JudgeLaws.sound-marks s (ok .is-sound) t (fit .room)) in
       rw (put-idle m v s e, e)
-      (ap (held (identityOf m)) (view-put (s .layout) t v (s .payload) z (fit .room) room above free ∙ ap (λ (w : View). joined w v) none-held ∙ joined-nowhere v)))
+      (ap (held (identityOf m)) (view-put (s .layout) t v (s .payload) z (fit .room) room above free ∙ ap (λ (w : View). bothViews w v) none-held ∙ joined-nowhere v)))
 
 -- ---- a step that brings t, judged by v
 pub record Stepped (s : Partial) (x : Step) (v : Verdict) (t : State) : Type 0 where
   pub verdict : x .verdict ≡ v
-  pub state : stateOf (x .after) ≡ ifAccepted v (stateOf s) (acceptState (stateOf s) t)
+  pub state : stateOf (x .after) ≡ ifAccepted v (stateOf s) (accept (stateOf s) t)
   pub good : Good (x .after)
   pub room : length (x .after .payload) ≡ length (s .payload)
 
@@ -105,7 +104,7 @@ module _ (s : Partial) (ok : Good s) (x : Step) (v : Verdict) (t : State) where
   step-idle : x ≡ record { verdict = Done; after = s } → v ≡ Done → t ≡ idle → Stepped s x v t
   step-idle e f g = record { verdict = rw (e, f); state = rw (e, f, g); good = rw e ok; room = rw e }
 
-  step-put : (m : Message) (w : View) → Fit m (length (s .payload)) → ((i : ℕ) → m .total ≤ i → w i ≡ none) → judge (length (s .payload)) (stateOf s) (identityOf m) w ≡ Done
+  step-put : (m : Message) (w : View) → GoodMessage m (length (s .payload)) → ((i : ℕ) → m .total ≤ i → w i ≡ none) → judge (length (s .payload)) (stateOf s) (held (identityOf m) w) ≡ Done
       → x ≡ record { verdict = Done; after = put m w s } → v ≡ Done → t ≡ held (identityOf m) w → Stepped s x v t
   step-put m w fit above met e f g = record {
     verdict = rw (e, f);
@@ -116,20 +115,20 @@ module _ (s : Partial) (ok : Good s) (x : Step) (v : Verdict) (t : State) where
 
 module _ (s : Partial) (ok : Good s) where
   -- ---- taking in
-  pub take-stepped : (x : Reading) → ProperReading x → Stepped s (takeIn s x) (readingVerdict (length (s .payload)) (stateOf s) x) (alone x)
+  pub take-stepped : (x : Reading) → GoodReading x → Stepped s (takeIn s x) (readingVerdict (length (s .payload)) (stateOf s) x) (alone x)
   take-stepped (refusal k p) o =
       step-refused s ok _ _ _ k p
       (JudgeLaws.take-refused s (refusal k p) k p (JudgeLaws.reading-judged s (refusal k p) (ok .is-sound))) refl
   take-stepped (chunk m at d) o = go (judgeReading s (chunk m at d)) refl
     where
-      judged : judgeReading s (chunk m at d) ≡ judge (length (s .payload)) (stateOf s) (identityOf m) (dataView at d)
+      judged : judgeReading s (chunk m at d) ≡ judge (length (s .payload)) (stateOf s) (held (identityOf m) (dataView at d))
       judged = JudgeLaws.reading-judged s (chunk m at d) (ok .is-sound)
 
       go : (v : Verdict) → judgeReading s (chunk m at d) ≡ v → Stepped s (takeIn s (chunk m at d)) (readingVerdict (length (s .payload)) (stateOf s) (chunk m at d)) (alone (chunk m at d))
       go (Refused k p) e = step-refused s ok _ _ _ k p (JudgeLaws.take-refused s (chunk m at d) k p e) (sym judged ∙ e)
       go Done e =
           let met = sym judged ∙ e in
-          let fit : Fit m (length (s .payload)) =
+          let fit : GoodMessage m (length (s .payload)) =
           record { some = o .some; room = JudgeLaws.judge-fits (length (s .payload)) (stateOf s) (identityOf m) (dataView at d) met; publisher = o .publisher } in
           step-put s ok _ _ _ m (dataView at d) fit (λ i h. data-above at d i (omega (arith, o .fits))) met (JudgeLaws.take-done s (chunk m at d) e) met refl
 
@@ -148,7 +147,7 @@ module _ (s : Partial) (ok : Good s) where
           (λ h.
           let g = JudgeLaws.combine-source-sound s f e in
           let met = JudgeLaws.combine-met s f e h in
-          let fit : Fit (f .rec .message) (length (s .payload)) =
+          let fit : GoodMessage (f .rec .message) (length (s .payload)) =
           record {
             some = JudgeLaws.sound-some f g h;
             room = JudgeLaws.judge-fits (length (s .payload)) (stateOf s) (identityOf (f .rec .message)) (viewOf f) met;
@@ -160,19 +159,19 @@ module _ (s : Partial) (ok : Good s) where
           (λ h. step-idle s ok _ _ _ (JudgeLaws.combine-done-idle s f e h) (sym (source-verdict f) ∙ e) (rw h))
 
   -- ---- asking and handing out
-  pub ask-is : askComplete s ≡ yesNo (complete (stateOf s))
+  ask-is : askComplete s ≡ yesNo (isComplete (stateOf s))
   unfolding askComplete
   ask-is = rw (ok .is-sound)
 
-  pub hand-is : judgeHandOut s ≡ cond (complete (stateOf s)) Done (Refused 15 0)
+  pub hand-is : judgeHandOut s ≡ cond (isComplete (stateOf s)) Done (Refused 15 0)
   unfolding judgeHandOut
-  hand-is = rw ask-is (by-case (complete (stateOf s)))
+  hand-is = rw ask-is (by-case (isComplete (stateOf s)))
     where
       by-case : (b : Bool) → handOutBy (yesNo b) ≡ cond b Done (Refused 15 0)
       by-case true = refl
       by-case false = refl
 
-  pub hand-bytes : complete (stateOf s) ≡ true → handOut s ≡ whole (stateOf s)
+  pub hand-bytes : isComplete (stateOf s) ≡ true → handOut s ≡ whole (stateOf s)
   unfolding handOut
   hand-bytes e =
       by-bool _ (s .rec .started)
@@ -209,7 +208,7 @@ module _ (s : Partial) (ok : Good s) where
       record { reply = ap replyOf (t .verdict); state = t .state; good = t .good; room = t .room }
 
   follow-ask : Follows Ask s
-  follow-ask = record { reply = ap saidOf (ask-is s ok) ∙ by-case (complete (stateOf s)); state = refl; good = ok; room = refl }
+  follow-ask = record { reply = ap saidOf (ask-is s ok) ∙ by-case (isComplete (stateOf s)); state = refl; good = ok; room = refl }
     where
       by-case : (b : Bool) → saidOf (yesNo b) ≡ said b
       by-case true = refl
@@ -217,7 +216,7 @@ module _ (s : Partial) (ok : Good s) where
 
   follow-hand : Follows HandOut s
   follow-hand = record {
-    reply = by-bool _ (complete (stateOf s)) (λ e. rw (hand-is s ok, e) (ap (handedOf Done) (hand-bytes s ok e))) (λ e. rw (hand-is s ok, e));
+    reply = by-bool _ (isComplete (stateOf s)) (λ e. rw (hand-is s ok, e) (ap (handedOf Done) (hand-bytes s ok e))) (λ e. rw (hand-is s ok, e));
     state = refl;
     good = ok;
     room = refl;

@@ -7,23 +7,21 @@ use native.Mathlib.Omega.{arith}
 use lib.ListN.{length, getD, replicate, length-replicate}
 use lib.Dec.{eqb}
 use borrow.Author.Tests.{eq-eqb}
-use Rattle.reassembly.specs.Views.{View, has, isSome, onlyIf, laid}
-use Rattle.marks.specs.Marks.{Layout, marksFor, marked, cleared, markedBelow}
-use Rattle.reassembly.specs.Areas.{markedView}
+use Rattle.reassembly.specs.Views.{View, has, onlyIf, overlaid}
+use Rattle.marks.specs.Marks.{Layout, marksFor, marked, cleared}
 use Rattle.reassembly.specs.Record.{identityOf, Partial, soundBy, Good}
 use Rattle.reassembly.specs.Reading.{Reading, readingAt}
 use Rattle.reassembly.specs.Reading.Reading.{chunk, refusal}
-use Rattle.reassembly.specs.Machine.{State, viewIn}
+use Rattle.reassembly.specs.Machine.{State, viewIn, viewOf, stateOf, Call, says, keeps}
 use Rattle.reassembly.specs.Machine.State.{held}
-use Rattle.reassembly.specs.Judge.{viewOf, stateOf, judgeReading, judgeCombine}
+use Rattle.reassembly.specs.Judge.{judgeReading, judgeCombine}
+use Rattle.reassembly.specs.Calls.{answers, leaves}
 use Rattle.reassembly.specs.Operations.{Step, stepBy, begun, put, putReading, takeIn, combine, emptied}
 use Rattle.reassembly.specs.declared.record.Message.{Message}
 use Rattle.reassembly.specs.declared.record.PartialRecord.{PartialRecord}
 use Rattle.reassembly.specs.declared.verdict.Verdict.{Verdict}
 use Rattle.reassembly.specs.declared.verdict.Verdict.the-variants.{Done, Refused}
-use Rattle.reassembly.specs.Calls.{Call, answers, leaves, replies, final}
-use Rattle.reassembly_laws.specs.History.{says, keeps}
-use Rattle.reassembly_laws.specs.Layouts.{SameButMarks, SameCall, SameCalls, inLayout}
+use Rattle.reassembly_laws.specs.Layouts.{SameButMarks, SameCall, SameCalls, SameHistory, inLayout}
 use Rattle.reassembly_laws.specs.Layouts.SameCalls.{none, next}
 use Rattle.wire.proofs.Facts.{and-right}
 use Rattle.wire.proofs.Cases.{by-bool, by-lt}
@@ -31,15 +29,7 @@ use Rattle.marks.proofs.MarkLaws.{marked-cleared, length-markAll, marked-on, ma
 use Rattle.reassembly.proofs.AreaLaws.{marked-below, marked-above}
 use Rattle.reassembly.proofs.JudgeLaws
 use Rattle.reassembly_laws.proofs.Following
-
--- ---- what is covered, and the bytes there
-view-by : (L : Layout) (t : ℕ) (p m : List ℕ) (i : ℕ) → markedView L t p m i ≡ onlyIf (has (markedView L t p m) i) (getD p i 0)
-unfolding markedView
-view-by L t p m i = pick (markedBelow L t m i) (getD p i 0)
-  where
-    pick : (b : Bool) (x : ℕ) → onlyIf b x ≡ onlyIf (isSome (onlyIf b x)) x
-    pick true x = refl
-    pick false x = refl
+use Rattle.reassembly_laws.proofs.Equality.{view-by}
 
 module _ (s t : Partial) (same : SameButMarks s t) where
   same-started : (b : Bool) → s .rec .started ≡ b → t .rec .started ≡ b
@@ -75,7 +65,7 @@ module _ (s t : Partial) (same : SameButMarks s t) where
 
   put-payload : (m k : Message) (v w : View) → v ≡ w → put m v s .payload ≡ put k w t .payload
   unfolding put
-  put-payload m k v w e = ap₂ laid e (same .payload)
+  put-payload m k v w e = ap₂ overlaid e (same .payload)
 
   same-judged : (x : Reading) → judgeReading s x ≡ judgeReading t x
   unfolding judgeReading
@@ -158,10 +148,6 @@ module _ (s t : Partial) (same : SameButMarks s t) where
     }
 
 -- ---- ANY HISTORY gives the same answers, and the same record, payload area and covered bytes
-pub record SameHistory (ks ls : List Call) (s t : Partial) : Type 0 where
-  pub answered : replies ks s ≡ replies ls t
-  pub left : SameButMarks (final ks s) (final ls t)
-
 same-history : (ks ls : List Call) (s t : Partial) → SameCalls ks ls → SameButMarks s t → Good s → Good t → SameHistory ks ls s t
 same-history _ _ s t none same ok ok′ = record { answered = refl; left = same }
 same-history _ _ s t (next k l ks ls c cs) same ok ok′ =

@@ -4,6 +4,8 @@ pub mod Following
 pub mod Bringing
 pub mod Combining
 pub mod Alone
+pub mod Equality
 pub mod Demand3
+pub mod Refusing
 pub mod Cutting
 pub mod Layouts

@@ -5,7 +5,7 @@ use mathlib.Core.Bool.{false}
 use mathlib.Core.Option.{none}
 use Rattle.reassembly.specs.Views.{clash, differs}
 use Rattle.reassembly.specs.Record.{Identity, sameMessage}
-use Rattle.reassembly.specs.Machine.{State, between, acceptState}
+use Rattle.reassembly.specs.Machine.{State, between, accept}
 use Rattle.reassembly.specs.Machine.State.{idle, held}
 use Rattle.reassembly.specs.declared.verdict.Verdict.the-variants.{Done}
 use Rattle.wire.proofs.Cases.{by-bool, by-lt}
@@ -53,7 +53,7 @@ between-comm (held k w) (held m v) =
     rw (sym (same-message-comm k m) ∙ e, e, x))
     (λ e. rw (sym (same-message-comm k m) ∙ e, e))
 
-pub accept-comm : (s t : State) → Agree s t → acceptState s t ≡ acceptState t s
+pub accept-comm : (s t : State) → Agree s t → accept s t ≡ accept t s
 accept-comm idle idle a = refl
 accept-comm idle (held m v) a = refl
 accept-comm (held k w) idle a = refl
@@ -70,25 +70,25 @@ agree-comm (held k w) idle a = tt
 agree-comm (held k w) (held m v) a = (sym (a .0), λ i. differs-comm (v i) (w i) ∙ a .1 i)
 
 -- ---- grouping
-pub accept-assoc : (s t u : State) → acceptState (acceptState s t) u ≡ acceptState s (acceptState t u)
+pub accept-assoc : (s t u : State) → accept (accept s t) u ≡ accept s (accept t u)
 accept-assoc s t idle = refl
 accept-assoc s idle (held m v) = refl
 accept-assoc idle (held k w) (held m v) = refl
 accept-assoc (held j x) (held k w) (held m v) = ap (held j) (fun-ext (λ i. first-assoc (x i) (w i) (v i)))
 
-pub agree-both : (s t u : State) → Agree s u → Agree t u → Agree (acceptState s t) u
+pub agree-both : (s t u : State) → Agree s u → Agree t u → Agree (accept s t) u
 agree-both s idle u a b = a
 agree-both idle (held k w) u a b = b
 agree-both (held j x) (held k w) idle a b = tt
 agree-both (held j x) (held k w) (held m v) a b = (a .0, λ i. differs-first (x i) (w i) (v i) (a .1 i) (b .1 i))
 
-pub agree-left : (s t u : State) → Agree (acceptState s t) u → Agree s u
+pub agree-left : (s t u : State) → Agree (accept s t) u → Agree s u
 agree-left s idle u a = a
 agree-left idle (held k w) u a = tt
 agree-left (held j x) (held k w) idle a = tt
 agree-left (held j x) (held k w) (held m v) a = (a .0, λ i. differs-left (x i) (w i) (v i) (a .1 i))
 
-pub agree-right : (s t u : State) → Agree s t → Agree (acceptState s t) u → Agree t u
+pub agree-right : (s t u : State) → Agree s t → Agree (accept s t) u → Agree t u
 agree-right s idle u d a = tt
 agree-right idle (held k w) u d a = a
 agree-right (held j x) (held k w) idle d a = tt

@@ -1,11 +1,9 @@
 -- What the laws of combining speak of.
 use mathlib.Core.Bool.{Bool, true, false, _||_}
-use Prim.Native.Nat.{ℕ, _≤_}
-use lib.ListN.{length}
-use Rattle.reassembly.specs.Record.{Partial, Good}
-use Rattle.reassembly.specs.Machine.{State, between}
-use Rattle.reassembly.specs.Machine.State.{idle, held}
-use Rattle.reassembly.specs.Judge.{stateOf}
+use mathlib.Core.Path.{_≡_}
+use Rattle.reassembly.specs.Record.{Partial, roomOf}
+use Rattle.reassembly.specs.Machine.{stateOf, between}
+use Rattle.reassembly.specs.Judge.{Equal}
 use Rattle.reassembly.specs.Operations.{combine}
 use Rattle.reassembly.specs.declared.verdict.Verdict.{Verdict}
 use Rattle.reassembly.specs.declared.verdict.Verdict.the-variants.{Done, Refused}
@@ -19,7 +17,7 @@ abbrev pub onDone : Verdict → Verdict → Verdict
 onDone Done b = b
 onDone (Refused n p) b = Refused n p
 
--- two disagree exactly if 13 or 14 arises between them
+-- "two disagree exactly if one of these arises between them, by message, total or a byte both cover": 13 or 14
 abbrev pub disagree : Partial → Partial → Bool
 disagree a b = isRefused (between (stateOf a) (stateOf b))
 
@@ -27,31 +25,14 @@ disagree a b = isRefused (between (stateOf a) (stateOf b))
 abbrev pub someDisagree : Partial → Partial → Partial → Bool
 someDisagree a b c = disagree a b || (disagree b c || disagree a c)
 
--- what a machine holds is not longer than n bytes
-abbrev pub FitsIn : ℕ → State → Type 0
-FitsIn n idle = Unit {0}
-FitsIn n (held m v) = m .total ≤ n
+-- areas of equal length
+abbrev pub EqualRoom : Partial → Partial → Type 0
+EqualRoom a b = roomOf a ≡ roomOf b
 
--- b's total is not above a's area: combining b into a is not refused by 11
-abbrev pub Room : Partial → Partial → Type 0
-Room a b = FitsIn (length (a .payload)) (stateOf b)
-
--- what the law of order asks of two: both are sound, and neither's total is above the other's area. Of areas of unequal length one may be
--- too short for what the other holds; then 11 arises one way only.
-pub record Pair (a b : Partial) : Type 0 where
-  pub first : Good a
-  pub second : Good b
-  pub room : Room a b
-  pub back : Room b a
-
--- what the law of grouping asks of three: all are sound, and no combining in either grouping is refused by 11
-pub record Three (a b c : Partial) : Type 0 where
-  pub first : Good a
-  pub second : Good b
-  pub third : Good c
-  pub ab : Room a b
-  pub bc : Room b c
-  pub ac : Room a c
+-- either order gives equal results, or the same refusal
+pub record EitherOrder (a b : Partial) : Type 0 where
+  pub same-verdict : combine a b .verdict ≡ combine b a .verdict
+  pub equal : combine a b .verdict ≡ Done → Equal (combine a b .after) (combine b a .after)
 
 -- b combined into a, and then c into that
 abbrev pub leftVerdict : Partial → Partial → Partial → Verdict
@@ -66,3 +47,9 @@ rightVerdict a b c = onDone (combine b c .verdict) (combine a (combine b c .afte
 
 abbrev pub rightResult : Partial → Partial → Partial → Partial
 rightResult a b c = combine a (combine b c .after) .after
+
+-- either grouping gives equal results, or both are refused, and that exactly if two of the three disagree
+pub record EitherGrouping (a b c : Partial) : Type 0 where
+  pub left : isRefused (leftVerdict a b c) ≡ someDisagree a b c
+  pub right : isRefused (rightVerdict a b c) ≡ someDisagree a b c
+  pub equal : someDisagree a b c ≡ false → Equal (leftResult a b c) (rightResult a b c)

@@ -10,13 +10,14 @@ use Rattle.publisher_id.specs.PublisherRecord.{publisherOf, recordAt}
 use Rattle.network_message.specs.Envelope.{NetworkMessage, networkMessageAt}
 use Rattle.chunk.specs.Datagram.{chunkWriterOf}
 use Rattle.chunk.specs.Cutting.{cutData, chunkBytes, cutRule}
-use Rattle.reassembly.specs.Record.{Identity, identityOf}
+use Rattle.reassembly.specs.Record.{Identity, identityOf, Partial}
 use Rattle.reassembly.specs.Reading.{readingAt}
 use Rattle.reassembly.specs.Reading.Reading.{chunk}
 use Rattle.reassembly.specs.declared.record.Message.{Message}
-use Rattle.reassembly.specs.Calls.{Call, Reply}
-use Rattle.reassembly.specs.Calls.Call.{Take}
-use Rattle.reassembly.specs.Calls.Reply.{done}
+use Rattle.reassembly.specs.Machine.{Call, Reply}
+use Rattle.reassembly.specs.Machine.Call.{Take, Ask, HandOut}
+use Rattle.reassembly.specs.Machine.Reply.{done, said, handed}
+use Rattle.reassembly.specs.Calls.{replies, final, answers}
 
 -- a datagram, and the sizes of the configured writers that it is read under
 pub record Arrival : Type 0 where
@@ -69,3 +70,9 @@ pub record AllArrive (id : Identity) (p : List ℕ) (size : ℕ) (P : ℕ → Ar
   pub total : id .total ≡ length p
   pub only : Only P l
   pub each : (k : ℕ) → k * size < length p → Among P k l
+
+-- what the arrivals do to a partial: every taking in is accepted, complete is said, and the payload p is handed out
+pub record Restored (p : List ℕ) (l : List Arrival) (s : Partial) : Type 0 where
+  pub accepted : replies (takings l) s ≡ dones l
+  pub says-complete : answers Ask (final (takings l) s) ≡ said true
+  pub hands-out : answers HandOut (final (takings l) s) ≡ handed p

@@ -5,9 +5,10 @@ use mathlib.Core.Path.{_≡_}
 use lib.ListN.{length, replicate}
 use Rattle.marks.specs.Marks.{Layout, marksFor, marked, markAll}
 use Rattle.reassembly.specs.Record.{Partial, sound}
+use Rattle.reassembly.specs.Machine.{Call}
+use Rattle.reassembly.specs.Machine.Call.{Empty, Take, Combine, Ask, HandOut}
 use Rattle.reassembly.specs.Judge.{covered}
-use Rattle.reassembly.specs.Calls.{Call}
-use Rattle.reassembly.specs.Calls.Call.{Empty, Take, Combine, Ask, HandOut}
+use Rattle.reassembly.specs.Calls.{replies, final}
 
 -- two partials, each in a layout of its own, have the same record and the same payload area, are both sound or both not, and cover the same
 -- bytes
@@ -28,6 +29,11 @@ pub data SameCall : Call → Call → Type 0 where
 pub data SameCalls : List Call → List Call → Type 0 where
   none : SameCalls [] []
   next : (k l : Call) (ks ls : List Call) → SameCall k l → SameCalls ks ls → SameCalls (k ∷ ks) (l ∷ ls)
+
+-- the same answers, and what is left is the same but for the form of its marks
+pub record SameHistory (ks ls : List Call) (s t : Partial) : Type 0 where
+  pub answered : replies ks s ≡ replies ls t
+  pub left : SameButMarks (final ks s) (final ls t)
 
 -- a partial with its marks in another layout
 abbrev pub inLayout : Layout → Partial → Partial

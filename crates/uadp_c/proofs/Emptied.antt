@@ -1,6 +1,5 @@
 -- Emptying a lent record is emptying the partial that it stands for: the record that `uadp_empty` leaves is read as `emptied` of what was read
--- before, whatever bytes it has and however short it is. So demand 3's histories, which start from a just emptied partial, start here from any
--- lent record after `uadp_empty`.
+-- before, whatever bytes it has and however short it is.
 -- Assumes nothing.
 use mathlib.Core.Path.{_≡_, refl, sym, ap, subst, _∙_}
 use mathlib.Core.Bool.{Bool, true, false, cond}

@@ -10,11 +10,12 @@ use lib.ListN.{length, take}
 use Rattle.wire_writer.specs.Store.{laid}
 use Rattle.reassembly.specs.Record.{Partial, partial, sound, soundBy}
 use Rattle.marks.specs.Marks.{marksFor, inUse}
+use Rattle.reassembly.specs.Machine.{replyOf, handedOf}
+use Rattle.reassembly.specs.Machine.Call.{Take, Combine, Ask, HandOut}
 use Rattle.reassembly.specs.Judge.{judgeCombine}
+use Rattle.reassembly.specs.Calls.{Does, saidOf, answers}
 use Rattle.reassembly.specs.Reading.{readingAt}
 use Rattle.reassembly.specs.Operations.{Step, stepOf, stepBy, takeIn, combine, askComplete, judgeHandOut, handOut}
-use Rattle.reassembly.specs.Calls.{Does, replyOf, saidOf, handedOf, answers}
-use Rattle.reassembly.specs.Calls.Call.{Take, Combine, Ask, HandOut}
 use Rattle.reassembly.proofs.CallLaws.{one-said, handed-verdict, take-told, combine-told}
 use Rattle.reassembly.specs.declared.operations.Outcome.{Outcome}
 use Rattle.reassembly.specs.declared.record.PartialRecord.{PartialRecord}
@@ -26,7 +27,7 @@ use Rattle.records.specs.Writers.{writersIn, sixteen, sizesIn}
 use Rattle.partial_record.specs.Partial.{partialIn, partialBytes, FitsRecord}
 use Rattle.uadp_c.proofs.KeptRecord.{KeptStep, step-reads}
 use native.Mathlib.Omega.{arith}
-use Rattle.uadp_c.specs.Reassembling.{Steps, partialOf, lent, verdictResult, takenOver, recordBy, stepIn, sourceOf, completeResult, completeIn, handResult, handIn}
+use Rattle.uadp_c.specs.Reassembling.{Steps, partialOf, lent, verdictResult, takenOver, recordBy, stepIn, sourceOf, emptiedRecord, completeResult, completeIn, handResult, handIn}
 
 -- a record shorter than its layout
 step-short : (r p m : List ℕ) (x : ℕ) (s : Step) → length r < 112 → x ≡ resultOf 12 0 → lent x r p m ≡ stepIn r p m s
@@ -85,23 +86,26 @@ combine-short g u w r p m x h q = rw (lt-ltb (length g) 112 h, unsound-source (p
     go true = ap (λ (y : ℕ). lent y r p m) q
     go false = ap (λ (y : ℕ). lent y r p m) q
 
-pub complete-short : (r : List ℕ) (x : ℕ) (a : Completeness) → length r < 112 → x ≡ resultOf 12 0 → x ≡ completeIn r a
-complete-short r x a h q = rw (lt-ltb (length r) 112 h) q
+pub emptied-told : (r e p m : List ℕ) (x : ℕ) → x ≡ resultOf 0 0 → e ≡ emptiedRecord r → lent x e p m ≡ lent (resultOf 0 0) (emptiedRecord r) p m
+emptied-told r e p m x q h = ap (λ (y : ℕ). lent y e p m) q ∙ ap (λ (y : List ℕ). lent (resultOf 0 0) y p m) h
+
+pub complete-short : (r p m : List ℕ) (x : ℕ) (a : Completeness) → length r < 112 → x ≡ resultOf 12 0 → lent x r p m ≡ lent (completeIn r a) r p m
+complete-short r p m x a h q = rw (lt-ltb (length r) 112 h) (ap (λ (y : ℕ). lent y r p m) q)
 
 pub complete-ends : (r p m : List ℕ) (x : ℕ) (k : PartialRecord) (a b : Completeness) → 112 ≤ length r → k ≡ partialIn r → saidOf a ≡ answers Ask (partial k p m) → a ≡ b
-    → x ≡ completeResult b → x ≡ completeIn r (askComplete (partialOf r p m))
+    → x ≡ completeResult b → lent x r p m ≡ lent (completeIn r (askComplete (partialOf r p m))) r p m
 complete-ends r p m x k a b h e q t y =
     let z : b ≡ askComplete (partialOf r p m) = sym t ∙ one-said a (askComplete (partial k p m)) q ∙ ap (λ (i : PartialRecord). askComplete (partial i p m)) e in
-    rw (le-ltb (length r) 112 h) (y ∙ ap completeResult z)
+    rw (le-ltb (length r) 112 h) (ap (λ (v : ℕ). lent v r p m) (y ∙ ap completeResult z))
 
-pub hand-short : (r : List ℕ) (x : ℕ) (v : Verdict) → length r < 112 → x ≡ resultOf 12 0 → x ≡ handIn r v
-hand-short r x v h q = rw (lt-ltb (length r) 112 h) q
+pub hand-short : (r p m : List ℕ) (x : ℕ) (v : Verdict) → length r < 112 → x ≡ resultOf 12 0 → lent x r p m ≡ lent (handIn r v) r p m
+hand-short r p m x v h q = rw (lt-ltb (length r) 112 h) (ap (λ (y : ℕ). lent y r p m) q)
 
 pub hand-ends : (r p m : List ℕ) (x : ℕ) (k : PartialRecord) (a b : Verdict) → 112 ≤ length r → k ≡ partialIn r → handedOf a (handOut (partial k p m)) ≡ answers HandOut (partial k p m) → a ≡ b
-    → x ≡ handResult k b → x ≡ handIn r (judgeHandOut (partialOf r p m))
+    → x ≡ handResult k b → lent x r p m ≡ lent (handIn r (judgeHandOut (partialOf r p m))) r p m
 hand-ends r p m x k a b h e q t y =
     let z : b ≡ judgeHandOut (partialOf r p m) = sym t ∙ handed-verdict (partial k p m) a q ∙ ap (λ (i : PartialRecord). judgeHandOut (partial i p m)) e in
-    rw (le-ltb (length r) 112 h) (y ∙ ap (λ (i : PartialRecord). handResult i b) e ∙ ap (λ (v : Verdict). handResult (partialIn r) v) z)
+    rw (le-ltb (length r) 112 h) (ap (λ (v : ℕ). lent v r p m) (y ∙ ap (λ (i : PartialRecord). handResult i b) e ∙ ap (λ (v : Verdict). handResult (partialIn r) v) z))
 
 -- ---- the calls that take a step, in full: the bytes, and what they are read as
 

@@ -13,7 +13,8 @@ use Rattle.marks.specs.Marks.{Layout, inUse}
 use Rattle.reassembly.specs.Record.{Partial, partial}
 use Rattle.reassembly.specs.Reading.{Reading}
 use Rattle.reassembly.specs.Reading.Reading.{chunk, refusal}
-use Rattle.reassembly.specs.Judge.{viewOf, judgeReading, judgeCombine}
+use Rattle.reassembly.specs.Machine.{viewOf}
+use Rattle.reassembly.specs.Judge.{judgeReading, judgeCombine}
 use Rattle.reassembly.specs.Operations.{Step, stepBy, put, takeIn, combine}
 use Rattle.reassembly.specs.declared.operations.Outcome.{Outcome}
 use Rattle.reassembly.specs.declared.record.Message.{Message}

@@ -1,16 +1,21 @@
 -- Demand 3's list of calls on one lent partial: what the contracts of src/reassembling.rt say of each call, and the plain machine's
 -- replies as results.
-use Prim.Native.Nat.{ℕ}
+use Prim.Native.Nat.{ℕ, _≤_}
 use mathlib.Core.Bool.{true, false}
 use mathlib.Core.List.{List, [], _∷_}
+use mathlib.Core.Logic.{_⊎_}
 use mathlib.Core.Path.{_≡_}
-use lib.ListN.{length}
+use lib.ListN.{length, take, replicate}
+use Rattle.marks.specs.Marks.{inUse, marksFor}
 use Rattle.reassembly.specs.Record.{Partial}
 use Rattle.reassembly.specs.Reading.{readingAt}
+use Rattle.reassembly.specs.Machine.{Call, Reply, machineReplies}
+use Rattle.reassembly.specs.Machine.State.{idle}
 use Rattle.reassembly.specs.Operations.{takeIn, combine, askComplete, judgeHandOut}
-use Rattle.reassembly_laws.specs.History as machine
-use Rattle.reassembly.specs.Calls.{Call, Reply}
+use Rattle.reassembly.specs.Calls.{final}
+use Rattle.reassembly_laws.specs.AnyList.{AnyList}
 use Rattle.records.specs.Result.{resultOf}
+use Rattle.records.specs.Sizes.{PARTIAL_SIZE}
 use Rattle.records.specs.Writers.{sizesIn}
 use Rattle.uadp_c.specs.Reassembling.{partialOf, sourceOf, Lent, lent, Steps, emptiedRecord, completeIn, handIn}
 
@@ -57,19 +62,47 @@ Calls [] b (a ∷ ys) = ⊥
 Calls (k ∷ ks) b [] = ⊥
 Calls (k ∷ ks) b (a ∷ ys) = Called k b a × Calls ks a ys
 
-abbrev pub resultsOf : List Lent → List ℕ
-resultsOf [] = []
-resultsOf (a ∷ ys) = a .result ∷ resultsOf ys
-
 abbrev pub callsOf : List LentCall → List Call
 callsOf [] = []
 callsOf (k ∷ ks) = callOf k ∷ callsOf ks
 
-abbrev pub replyResults : List Reply → List ℕ
-replyResults [] = []
-replyResults (x ∷ xs) = replyResult x ∷ replyResults xs
+-- a call's result is the reply, and the bytes that a handing out names are the payload
+abbrev pub Tells : Lent → Reply → Type 0
+Tells a Reply.done = a .result ≡ replyResult Reply.done
+Tells a (Reply.said b) = a .result ≡ replyResult (Reply.said b)
+Tells a (Reply.handed l) = (a .result ≡ replyResult (Reply.handed l)) × (take (length l) (a .payload) ≡ l)
+Tells a (Reply.refused n p) = a .result ≡ replyResult (Reply.refused n p)
+
+-- each call, in order
+abbrev pub AllTell : List Lent → List Reply → Type 0
+AllTell [] [] = Unit
+AllTell [] (x ∷ xs) = ⊥
+AllTell (a ∷ ys) [] = ⊥
+AllTell (a ∷ ys) (x ∷ xs) = Tells a x × AllTell ys xs
 
 -- the lent bytes after the last call
 abbrev pub lastOf : Lent → List Lent → Lent
 lastOf b [] = b
 lastOf b (a ∷ ys) = lastOf a ys
+
+-- no lent byte changed
+pub record Unchanged (b a : Lent) : Type 0 where
+  pub rec : a .rec ≡ b .rec
+  pub payload : a .payload ≡ b .payload
+  pub marks : a .marks ≡ b .marks
+
+-- how a list may begin: a record of full length that is all zeros or was just emptied, over areas of any content, the marks as long as the
+-- payload area asks
+pub record Ready (b : Lent) : Type 0 where
+  pub long : PARTIAL_SIZE ≤ length (b .rec)
+  pub fresh : (b .rec ≡ replicate (length (b .rec)) 0) ⊎ ((r : List ℕ) × (b .rec ≡ emptiedRecord r))
+  pub areas : marksFor inUse (length (b .payload)) ≡ length (b .marks)
+
+-- what is claimed of the list
+pub record LentList (ks : List LentCall) (b : Lent) (ys : List Lent) : Type 0 where
+  -- every result is the plain machine's reply
+  pub results : AllTell ys (machineReplies (length (b .payload)) (callsOf ks) idle)
+  -- what is left in the lent bytes is read as what the list leaves
+  pub left : heldIn (lastOf b ys) ≡ final (callsOf ks) (heldIn b)
+  -- of which all of the one claim holds
+  pub list : AnyList (callsOf ks) (heldIn b)

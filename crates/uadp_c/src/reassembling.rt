@@ -16,17 +16,20 @@ use records::writers::sizes;
 use records::writers::writer_count;
 use wire::constants::UNSOUND;
 use wire_writer::store::put64;
+ghost use Prim.Native.Nat.{ℕ};
 ghost use mathlib.Core.Path.{_≡_};
-ghost use Rattle.reassembly.specs.Operations.{askComplete, judgeHandOut};
-ghost use Rattle.records.specs.Result.{resultOf};
-ghost use Rattle.uadp_c.specs.Reassembling.{partialOf, lent, takenOver, emptiedRecord, completeIn, handIn};
+ghost use mathlib.Core.List.{List};
+ghost use Rattle.uadp_c.specs.Reassembling.{lent, takenOver};
 ghost use Rattle.uadp_c.specs.History.{Called};
-ghost use Rattle.uadp_c.specs.History.LentCall.{Take, Combine};
+ghost use Rattle.uadp_c.specs.History.LentCall.{Empty, Take, Combine, Complete, HandOut};
 
 // Empties a partial.
 #[no_mangle]
 pub extern "C" fn uadp_empty(rec: &mut [u8]) -> u64
-    ensures { λ r. ⌜ (r ≡ resultOf 0 0) × (now (rec .exit) ≡ emptiedRecord (now (rec .entry))) ⌝ }
+    ensures { λ r.
+        let before = now (rec .entry) in
+        let after = now (rec .exit) in
+        ⌜ ((payload marks : List ℕ) → Called Empty (lent 0 before payload marks) (lent r after payload marks)) ⌝ }
 {
     put64(rec, 0, 0);
     result(0, 0)
@@ -120,8 +123,9 @@ pub extern "C" fn uadp_combine(
 #[no_mangle]
 pub extern "C" fn uadp_complete(rec: &[u8], payload: &[u8], marks: &[u8]) -> u64
     ensures { λ r.
-        let held = partialOf (now (rec .entry)) (now (payload .entry)) (now (marks .entry)) in
-        ⌜ r ≡ completeIn (now (rec .entry)) (askComplete held) ⌝ }
+        let before = lent 0 (now (rec .entry)) (now (payload .entry)) (now (marks .entry)) in
+        let after = lent r (now (rec .entry)) (now (payload .entry)) (now (marks .entry)) in
+        ⌜ Called Complete before after ⌝ }
 {
     if rec.len() < PARTIAL_SIZE {
         return result(UNSOUND, 0);
@@ -137,8 +141,9 @@ pub extern "C" fn uadp_complete(rec: &[u8], payload: &[u8], marks: &[u8]) -> u64
 #[no_mangle]
 pub extern "C" fn uadp_hand_out(rec: &[u8], payload: &[u8], marks: &[u8]) -> u64
     ensures { λ r.
-        let held = partialOf (now (rec .entry)) (now (payload .entry)) (now (marks .entry)) in
-        ⌜ r ≡ handIn (now (rec .entry)) (judgeHandOut held) ⌝ }
+        let before = lent 0 (now (rec .entry)) (now (payload .entry)) (now (marks .entry)) in
+        let after = lent r (now (rec .entry)) (now (payload .entry)) (now (marks .entry)) in
+        ⌜ Called HandOut before after ⌝ }
 {
     if rec.len() < PARTIAL_SIZE {
         return result(UNSOUND, 0);

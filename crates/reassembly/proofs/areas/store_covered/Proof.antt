@@ -8,7 +8,7 @@ use native.Mathlib.Omega.{arith}
 use denote.Ref.{now}
 use lib.ListN.{length, getD, length-set}
 use borrow.Author.Needs.{needs}
-use Rattle.reassembly.specs.Views.{laid}
+use Rattle.reassembly.specs.Views.{overlaid}
 use Rattle.reassembly.specs.Areas.{markedView}
 use Rattle.marks.specs.Marks.{inUse}
 use Rattle.reassembly.proofs.ViewLaws.{upTo, laid-start, laid-step, laid-end, laid-at}
@@ -19,7 +19,7 @@ use Rattle.reassembly.proofs.areas.store_covered.Tie as tie
 
 abbrev Inv-loop : tie.InvT-loop
 Inv-loop payload₀ total from from-marks i₀ payload i =
-    (i ≤ total) × (length payload ≡ length payload₀) × (payload ≡ laid (upTo i (markedView inUse total from from-marks)) payload₀)
+    (i ≤ total) × (length payload ≡ length payload₀) × (payload ≡ overlaid (upTo i (markedView inUse total from from-marks)) payload₀)
 
 abbrev μ-loop : tie.MeasureT-loop
 μ-loop payload₀ total from from-marks i₀ payload i = total - i

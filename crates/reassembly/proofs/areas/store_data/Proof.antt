@@ -7,14 +7,14 @@ use native.Mathlib.Nat.{add-assoc}
 use denote.Ref.{now}
 use lib.ListN.{length, getD, length-set}
 use borrow.Author.Needs.{needs}
-use Rattle.reassembly.specs.Views.{dataView, laid}
+use Rattle.reassembly.specs.Views.{dataView, overlaid}
 use Rattle.reassembly.proofs.ViewLaws.{upTo, laid-start, laid-step, laid-end, data-at, data-below, data-above}
 use Rattle.reassembly.proofs.areas.store_data.Statement.{statement}
 use Rattle.reassembly.proofs.areas.store_data.Tie as tie
 
 abbrev Inv-loop : tie.InvT-loop
 Inv-loop payload₀ offset bytes j₀ payload j =
-    (j ≤ length bytes) × (length payload ≡ length payload₀) × (payload ≡ laid (upTo (offset + j) (dataView offset bytes)) payload₀)
+    (j ≤ length bytes) × (length payload ≡ length payload₀) × (payload ≡ overlaid (upTo (offset + j) (dataView offset bytes)) payload₀)
 
 abbrev μ-loop : tie.MeasureT-loop
 μ-loop payload₀ offset bytes j₀ payload j = length bytes - j

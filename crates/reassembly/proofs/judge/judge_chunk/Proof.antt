@@ -3,7 +3,7 @@
 use Rattle.reassembly.proofs.JudgeLaws.{admitted, reading-admits, data-room, reading-same}
 use Rattle.reassembly.specs.declared.judge.Admission.{Admission}
 use Rattle.reassembly.specs.declared.verdict.Verdict.the-variants.{Done, Refused}
-use Rattle.reassembly.specs.Judge.{viewOf}
+use Rattle.reassembly.specs.Machine.{viewOf}
 use Rattle.reassembly.specs.Record.{partial}
 use Rattle.reassembly.specs.Views.{clash, dataView}
 use denote.Ref.{now}

@@ -6,7 +6,7 @@ use borrow.Author.Tests.{not-true, not-false}
 use borrow.Author.Needs.{needs}
 use Rattle.reassembly.specs.Views.{clash}
 use Rattle.reassembly.specs.Record.{partial}
-use Rattle.reassembly.specs.Judge.{viewOf}
+use Rattle.reassembly.specs.Machine.{viewOf}
 use Rattle.reassembly.specs.declared.verdict.Verdict.the-variants.{Done, Refused}
 use Rattle.reassembly.specs.declared.judge.Admission.{Admission}
 use Rattle.reassembly.proofs.JudgeLaws.{admitted, combine-unsound, combine-source-unsound, combine-idle, combine-admits, covered-room, combine-same}

@@ -4,7 +4,7 @@ use denote.Ref.{now}
 use borrow.Author.Needs.{needs}
 use Rattle.reassembly.specs.Record.{partial}
 use Rattle.reassembly.specs.Operations.{handOut}
-use Rattle.reassembly.specs.Calls.{handedOf}
+use Rattle.reassembly.specs.Machine.{handedOf}
 use Rattle.reassembly.specs.declared.verdict.Verdict.{Verdict}
 use Rattle.reassembly.proofs.CallLaws.{one-said}
 use Rattle.reassembly.proofs.JudgeLaws.{hand-refused, hand-no, hand-yes}

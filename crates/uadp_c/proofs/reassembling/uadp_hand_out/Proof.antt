@@ -10,7 +10,8 @@ use Rattle.uadp_c.proofs.reassembling.uadp_hand_out.Tie as tie
 returns : tie.Need-returns
 returns c =
     let args = c .before .before .before .before .before .args in
-    hand-short (now (args .rec)) _ (judgeHandOut (partialOf (now (args .rec)) (now (args .payload)) (now (args .marks)))) (omega arith) (c .result .ensures)
+    hand-short (now (args .rec)) (now (args .payload)) (now (args .marks)) _
+    (judgeHandOut (partialOf (now (args .rec)) (now (args .payload)) (now (args .marks)))) (omega arith) (c .result .ensures)
 
 returns-2 : tie.Need-returns-2
 returns-2 c =

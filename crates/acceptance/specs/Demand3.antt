@@ -1,0 +1,101 @@
+-- DEMAND 3 as one type: a field for each sentence, the sentence above it. proofs/Demand3.antt gives a value of it, with no premise and no
+-- axiom. `answers` and `leaves` are the terms that the contracts of reassembly/src/operations.rt cite, `Called` that of
+-- uadp_c/src/reassembling.rt.
+use Prim.Native.Nat.{ℕ, _≤_, _<_, _%_}
+use mathlib.Core.Path.{_≡_}
+use mathlib.Core.Logic.{_↔_}
+use mathlib.Core.Bool.{true, false}
+use mathlib.Core.List.{List, []}
+use lib.ListN.{length, take}
+use Rattle.wire_writer.specs.Store.{laid}
+use Rattle.marks.specs.Marks.{Layout}
+use Rattle.reassembly.specs.Record.{Partial, Identity, roomOf, Good}
+use Rattle.reassembly.specs.Reading.{readingAt}
+use Rattle.reassembly.specs.Reading.Reading.{chunk}
+use Rattle.reassembly.specs.Machine.{Call, stateOf, alone}
+use Rattle.reassembly.specs.Machine.Call.{Empty, Take, Combine, Ask, HandOut}
+use Rattle.reassembly.specs.Machine.Reply.{said, handed, refused}
+use Rattle.reassembly.specs.Judge.{Complete, Equal}
+use Rattle.reassembly.specs.Operations.{takeIn, combine, handOut}
+use Rattle.reassembly.specs.Calls.{answers, leaves}
+use Rattle.reassembly.specs.declared.record.Message.{Message}
+use Rattle.reassembly.specs.declared.record.PartialRecord.{PartialRecord}
+use Rattle.reassembly.specs.declared.verdict.Verdict.the-variants.{Done}
+use Rattle.reassembly_laws.specs.AnyList.{AnyList}
+use Rattle.reassembly_laws.specs.Combining.{EqualRoom, EitherOrder, EitherGrouping}
+use Rattle.reassembly_laws.specs.Equality.{EqualInWords}
+use Rattle.reassembly_laws.specs.Alone.{chunkAlone, IsAlone, AsPartial}
+use Rattle.reassembly_laws.specs.Cutting.{Arrival, AllArrive, IsChunk, IsCut, Restored}
+use Rattle.reassembly_laws.specs.Refusing.{MayRefuse}
+use Rattle.reassembly_laws.specs.Layouts.{SameButMarks, SameCalls, SameHistory, inLayout}
+use Rattle.records.specs.Sizes.{PARTIAL_SIZE}
+use Rattle.partial_record.specs.Partial.{partialIn, partialBytes, FitsRecord}
+use Rattle.uadp_c.specs.Reassembling.{Lent}
+use Rattle.uadp_c.specs.History.{LentCall, Called, Calls, Ready, LentList, Unchanged}
+use Rattle.acceptance.specs.Refusals.{Refusal}
+
+-- how many bytes a call reads: places count in the datagram
+abbrev pub bytesRead : Call → ℕ
+bytesRead Empty = 0
+bytesRead (Take d sizes) = length d
+bytesRead (Combine f) = 0
+bytesRead Ask = 0
+bytesRead HandOut = 0
+
+pub record Demand3 : Type 0 where
+  -- ---- ONE CLAIM. Take any list of calls on one sound, just emptied partial: every answer in it is the plain machine's, the partial
+  -- afterwards is equal to what the machine keeps and stays sound, a byte is covered exactly if an accepted call since the last emptying
+  -- brought it, and if all that brought bytes are of one payload, handing out hands out that payload.
+  pub any-list : (ks : List Call) (s : Partial) → Good s → s .rec .started ≡ false → AnyList ks s
+  -- ---- Complete is said, and the payload's first total bytes are handed out, exactly if the partial is started and covered at every
+  -- byte below total.
+  pub complete-exactly : (s : Partial) → Good s → (answers Ask s ≡ said true) ↔ Complete s
+  pub handed-out-exactly : (s : Partial) → Good s
+      → (answers HandOut s ≡ handed (take (s .rec .message .total) (s .payload))) ↔ Complete s
+  -- ---- Sound partials of equal room combine by these laws.
+  -- Either order gives equal results, or the same refusal.
+  pub either-order : (a b : Partial) → Good a → Good b → EqualRoom a b → EitherOrder a b
+  -- Combining with an equal one changes nothing, nor does one not started: it is accepted, and record and areas are as they were.
+  pub equal-changes-nothing : (a b : Partial) → Good a → Good b → Equal a b → combine a b ≡ record { verdict = Done; after = a }
+  pub not-started-changes-nothing : (a b : Partial) → Good a → Good b → b .rec .started ≡ false
+      → combine a b ≡ record { verdict = Done; after = a }
+  -- Either grouping of three gives equal results, or both are refused, and that exactly if two of the three disagree.
+  pub either-grouping : (a b c : Partial) → Good a → Good b → Good c → EqualRoom a b → EqualRoom b c → EitherGrouping a b c
+  -- ---- "Started partials are equal if records, covered places and the bytes there agree; all not started are equal."
+  pub equal-exactly : (a b : Partial) → Equal a b ↔ EqualInWords a b
+  -- ---- Taking in a chunk that has no fault of its own and whose total is not above the area equals combining with that chunk alone.
+  -- Here the datagram d reads as the chunk of message m with its data at an offset. There is such a partial, sound, in any room that is
+  -- not below the total.
+  pub chunk-alone : (sizes d : List ℕ) (m : Message) (at : ℕ) (data-of : List ℕ) → readingAt sizes d ≡ chunk m at data-of
+      → (L : Layout) (n : ℕ) → m .total ≤ n → IsAlone (readingAt sizes d) n (chunkAlone L n m at data-of)
+  -- With it all is the same: the answer, the record, and every byte of both areas.
+  pub take-in-is-combine : (sizes d : List ℕ) (m : Message) (at : ℕ) (data-of : List ℕ) → readingAt sizes d ≡ chunk m at data-of
+      → (s : Partial) → Good s → m .total ≤ roomOf s
+      → takeIn s (readingAt sizes d) ≡ combine s (chunkAlone (s .layout) (roomOf s) m at data-of)
+  -- With any other partial that is the chunk alone, the answer and the bytes of both areas are the same, and the results are equal.
+  pub take-in-as-combine : (sizes d : List ℕ) (m : Message) (at : ℕ) (data-of : List ℕ) → readingAt sizes d ≡ chunk m at data-of
+      → (s f : Partial) → Good s → Good f → stateOf f ≡ alone (readingAt sizes d) → AsPartial (takeIn s (readingAt sizes d)) (combine s f)
+  -- ---- All chunks of a payload p, taken in in any order and some more than once, are accepted, complete it, and hand p out: of
+  -- datagrams that read as its chunks, and of datagrams of one publisher and writer whose payloads are what cutting wrote.
+  pub chunks-restore : (id : Identity) (p : List ℕ) (size : ℕ) (l : List Arrival) → AllArrive id p size (IsChunk id p size) l
+      → (s : Partial) → Good s → s .rec .started ≡ false → length p ≤ roomOf s → Restored p l s
+  pub cut-and-restored : (id : Identity) (p : List ℕ) (size : ℕ) (l : List Arrival) → AllArrive id p size (IsCut id p size) l
+      → id .number < 65536 → (s : Partial) → Good s → s .rec .started ≡ false → length p ≤ roomOf s → Restored p l s
+  -- ---- "Every refusal leaves all lent bytes and records unchanged", for sound and unsound partials, and hands nothing out.
+  pub refused-leaves : (k : Call) (s : Partial) (n place : ℕ) → answers k s ≡ refused n place → leaves k s ≡ s
+  pub refused-hands-nothing : (s : Partial) (n place : ℕ) → answers HandOut s ≡ refused n place → handOut s ≡ []
+  -- It "returns the number and a place": each call its own numbers; the place is 0 for 8 and 10 to 15, and else within the datagram.
+  pub refused-by : (k : Call) (s : Partial) (n place : ℕ) → answers k s ≡ refused n place → MayRefuse k n place
+  pub refused-place : (k : Call) (s : Partial) (n place : ℕ) → answers k s ≡ refused n place → Refusal n place (bytesRead k)
+  -- ---- THE SAME THROUGH C. From a record of full length that is zeroed or was just emptied, any list of `uadp_` calls answers as the
+  -- machine, and the one claim holds of what the lent bytes stand for.
+  pub any-lent-list : (ks : List LentCall) (b : Lent) (ys : List Lent) → Ready b → Calls ks b ys → LentList ks b ys
+  -- A refusal, whose number is the result's low byte, leaves every lent byte as it was.
+  pub lent-refused : (k : LentCall) (b a : Lent) → Called k b a → (a .result % 256 ≡ 0 → ⊥) → Unchanged b a
+  -- What is stored in a record is read back, and changes no byte behind it.
+  pub record-read-back : (k : PartialRecord) (r : List ℕ) → FitsRecord k → PARTIAL_SIZE ≤ length r → partialIn (laid r 0 (partialBytes k)) ≡ k
+  -- ---- HOWEVER MARKS ARE HELD. From emptying, calls that are the same but for the form of marks give the same answers, and leave the
+  -- same record, payload area and covered bytes; and every sound partial has its like in either form.
+  pub same-in-layouts : (ks ls : List Call) (s t : Partial) → SameCalls ks ls → Good s → Good t → s .rec ≡ t .rec → s .payload ≡ t .payload
+      → s .rec .started ≡ false → SameHistory ks ls s t
+  pub like-in-layout : (L : Layout) (s : Partial) → Good s → SameButMarks s (inLayout L s)
