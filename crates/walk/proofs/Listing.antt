@@ -16,7 +16,7 @@ use Rattle.network_message.specs.declared.payload.MessagePlace.{MessagePlace}
 use Rattle.network_message.specs.declared.payload.MessageCursor.{MessageCursor}
 use Rattle.network_message.proofs.Messages.{message-counted}
 use Rattle.dataset_header.specs.Flags.{Valid, notValid, valid}
-use Rattle.dataset_fields.specs.Fields.{fieldAt, Stepped as FieldStepped, stepAt as fieldStepAt}
+use Rattle.dataset_fields.specs.Fields.{fieldAt, FieldStepped, nextFieldAt}
 use Rattle.dataset_message.specs.Message.{Message, messageAt as readAt}
 use Rattle.dataset_fields.specs.declared.fields.Cursor.{Cursor}
 use Rattle.dataset_fields.proofs.Inside.{field-inside}
@@ -32,7 +32,7 @@ pub record FieldPassed (f : Cursor) (s : List ℕ) (x : FieldStepped) : Type 0 w
   pub left : fieldsLeft f ≡ suc (fieldsLeft (x .cursor))
   pub offset : x .field .offset < length s
 
-pub field-passed : (f : Cursor) (types s : List ℕ) (x : FieldStepped) (n : ℕ) → fieldStepAt f types s ≡ got x n → FieldPassed f s x
+pub field-passed : (f : Cursor) (types s : List ℕ) (x : FieldStepped) (n : ℕ) → nextFieldAt f types s ≡ got x n → FieldPassed f s x
 field-passed f types s x n e = go (ltb (length s) (f .at)) refl (leb (f .count) (f .next)) refl
   where
     go : (a : Bool) → ltb (length s) (f .at) ≡ a → (b : Bool) → leb (f .count) (f .next) ≡ b → FieldPassed f s x
@@ -46,7 +46,7 @@ field-passed f types s x n e = go (ltb (length s) (f .at)) refl (leb (f .count) 
 
 module _ (w : Writers) (d : List ℕ) where
   -- no step, no lines
-  field-none : (k : ℕ) (l : Listed) (p : MessagePlace) (f : Cursor) (n place : ℕ) → fieldStepAt f (typesAt w d l p) (bytesAt w d p) ≡ refused n place
+  field-none : (k : ℕ) (l : Listed) (p : MessagePlace) (f : Cursor) (n place : ℕ) → nextFieldAt f (typesAt w d l p) (bytesAt w d p) ≡ refused n place
       → fieldLines w d k l p f ≡ []
   unfolding fieldLines
   field-none zero l p f n place e = refl
@@ -83,9 +83,9 @@ module _ (w : Writers) (d : List ℕ) where
   field-lists : (l : Listed) (c : MessageCursor) (p : MessagePlace) (f : Cursor)
       → stepLines w d (fieldStep w d l c p f) ≡ fieldLines w d (fieldsLeft f) l p f ++ messageLines w d (messagesLeft l c) l c
   unfolding fieldLines
-  field-lists l c p f = go (fieldStepAt f (typesAt w d l p) (bytesAt w d p)) refl
+  field-lists l c p f = go (nextFieldAt f (typesAt w d l p) (bytesAt w d p)) refl
     where
-      go : (a : Answer FieldStepped) → fieldStepAt f (typesAt w d l p) (bytesAt w d p) ≡ a
+      go : (a : Answer FieldStepped) → nextFieldAt f (typesAt w d l p) (bytesAt w d p) ≡ a
           → stepLines w d (nextField w d l c p a) ≡ fieldLines w d (fieldsLeft f) l p f ++ messageLines w d (messagesLeft l c) l c
       go (got x n) e = rw (field-passed f (typesAt w d l p) (bytesAt w d p) x n e .left, e)
       go (refused n place) e =

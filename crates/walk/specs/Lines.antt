@@ -16,7 +16,7 @@ use Rattle.network_message.specs.Envelope.{NetworkMessage, networkMessageAt}
 use Rattle.network_message.specs.declared.payload.MessagePlace.{MessagePlace}
 use Rattle.network_message.specs.declared.payload.MessageCursor.{MessageCursor}
 use Rattle.dataset_header.specs.Flags.{Valid, notValid, valid}
-use Rattle.dataset_fields.specs.Fields.{Stepped as FieldStepped, stepAt as fieldStepAt}
+use Rattle.dataset_fields.specs.Fields.{FieldStepped, nextFieldAt}
 use Rattle.dataset_message.specs.Message.{Message, messageAt}
 use Rattle.dataset_fields.specs.declared.fields.Field.{Field}
 use Rattle.dataset_fields.specs.declared.fields.Cursor.{Cursor}
@@ -94,7 +94,7 @@ module _ (w : Writers) (d : List ℕ) where
 
   unfoldable pub fieldLines : ℕ → Listed → MessagePlace → Cursor → List Line
   fieldLines zero l p c = []
-  fieldLines (suc left) l p c = fieldThen p (fieldLines left l p) (fieldStepAt c (typesAt l p) (bytesAt p))
+  fieldLines (suc left) l p c = fieldThen p (fieldLines left l p) (nextFieldAt c (typesAt l p) (bytesAt p))
 
   -- ---- a message: its `set` line, then its field lines. "A refused message ends its `set` line after the length with `bad`, number,
   -- place, one not valid with `invalid`; neither has field lines."
@@ -160,7 +160,7 @@ module _ (w : Writers) (d : List ℕ) where
   nextField l c p (refused n place) = messageStep l c
 
   abbrev pub fieldStep : Listed → MessageCursor → MessagePlace → Cursor → LineStep
-  fieldStep l c p f = nextField l c p (fieldStepAt f (typesAt l p) (bytesAt p))
+  fieldStep l c p f = nextField l c p (nextFieldAt f (typesAt l p) (bytesAt p))
 
   abbrev pub nextLine : LineCursor → LineStep
   nextLine (LineCursor.Bad n place) = LineStep.Is (Line.Bad n place) LineCursor.End

@@ -12,7 +12,7 @@ use Rattle.wire.specs.Answer.{Answer, got, refused}
 use Rattle.wire.proofs.Reading.{got-value, got-next, not-got, invert}
 use Rattle.wire.specs.declared.optional.Optional16.{Optional16}
 use Rattle.config.specs.Writers.{typesOf}
-use Rattle.network_message.specs.Payload.{Stepped as MessageStepped, stepAt as messageStepAt, sizeOfMessage, placeOfMessage}
+use Rattle.network_message.specs.Payload.{PlaceStepped, placeStepAt, sizeOfMessage, placeOfMessage}
 use Rattle.network_message.specs.declared.payload.Payload.{Payload}
 use Rattle.network_message.specs.declared.payload.MessagePlace.{MessagePlace}
 use Rattle.network_message.specs.declared.payload.MessageCursor.{MessageCursor}
@@ -152,30 +152,30 @@ module _ (w : Writers) (d : List ℕ) where
   set-same l p (refused n place) = refl
 
   -- ---- the messages from a cursor on
-  abbrev messageOf : Listed → MessageCursor → Answer MessageStepped
-  messageOf l c = messageStepAt (l .payload) (w .sizes) c d
+  abbrev messageOf : Listed → MessageCursor → Answer PlaceStepped
+  messageOf l c = placeStepAt (l .payload) (w .sizes) c d
 
   -- what an accepted step says: one message was left, one fewer is left after it, and where it ends
-  pub record Passed (l : Listed) (c : MessageCursor) (x : MessageStepped) : Type 0 where
+  pub record Passed (l : Listed) (c : MessageCursor) (x : PlaceStepped) : Type 0 where
     pub left : messagesLeft l c ≡ suc (messagesLeft l (x .cursor))
     pub next : x .cursor .at ≡ c .at + x .place .length
     pub ends : x .cursor .at ≤ length d
 
-  pub passed : (l : Listed) (c : MessageCursor) (x : MessageStepped) (n : ℕ) → messageOf l c ≡ got x n → Passed l c x
+  pub passed : (l : Listed) (c : MessageCursor) (x : PlaceStepped) (n : ℕ) → messageOf l c ≡ got x n → Passed l c x
   passed l c x n e =
       let (m, q, r, z) = invert (placeOfMessage (l .payload) (w .sizes) (c .index) d (c .at)) _ e in
       let h = message-counted (l .payload) (w .sizes) (c .index) d (c .at) m q r in
       let i = message-ends (l .payload) (w .sizes) (c .index) d (c .at) m q r in
       rw (sym (got-value z)) (record { left = omega arith; next = i .0; ends = i .1 })
 
-  messages-more : (l : Listed) (c : MessageCursor) (x : MessageStepped) (n : ℕ) → messageOf l c ≡ got x n
+  messages-more : (l : Listed) (c : MessageCursor) (x : PlaceStepped) (n : ℕ) → messageOf l c ≡ got x n
       → messageLines w d (messagesLeft l c) l c ≡ setFrom (typesAt w d l (x .place)) (x .place) (writerAt w d l (x .place)) d ++ messageLines w d (messagesLeft l (x .cursor)) l (x .cursor)
   unfolding messageLines
   messages-more l c x n e =
       rw (passed l c x n e .left, e)
       (ap (λ (t : List Line). t ++ messageLines w d (messagesLeft l (x .cursor)) l (x .cursor)) (set-same l (x .place) (readAt (typesAt w d l (x .place)) (bytesAt w d (x .place)))))
 
-  messages-by : (l : Listed) (c : MessageCursor) (x : MessageStepped) (n : ℕ) (v : Optional16) (types : List ℕ) → messageOf l c ≡ got x n
+  messages-by : (l : Listed) (c : MessageCursor) (x : PlaceStepped) (n : ℕ) (v : Optional16) (types : List ℕ) → messageOf l c ≡ got x n
       → v ≡ writerAt w d l (x .place) → types ≡ typesOf (w .ids) (w .starts) (w .types) v
       → messageLines w d (messagesLeft l c) l c ≡ setFrom types (x .place) v d ++ messageLines w d (messagesLeft l (x .cursor)) l (x .cursor)
   messages-by l c x n v types e q r =
@@ -197,7 +197,7 @@ module _ (w : Writers) (d : List ℕ) where
   messages-few l zero c = omega arith
   messages-few l (suc n) c = go (λ x. messages-few l n x) (messageOf l c) refl
     where
-      go : ((x : MessageCursor) → length (messageLines w d n l x) ≤ n + (length d - x .at)) → (a : Answer MessageStepped) → messageOf l c ≡ a
+      go : ((x : MessageCursor) → length (messageLines w d n l x) ≤ n + (length d - x .at)) → (a : Answer PlaceStepped) → messageOf l c ≡ a
           → length (messageThen w d l (messageLines w d n l) a) ≤ suc n + (length d - c .at)
       go ih (got x e) q =
           let p : MessagePlace = x .place in
@@ -218,7 +218,7 @@ module _ (w : Writers) (d : List ℕ) where
       b : Listed
       b = bare (l .header) (l .«header_end») (l .payload)
 
-      go : ((x : MessageCursor) → messageLines w d n b x ≡ messageLines w d n l x) → (a : Answer MessageStepped)
+      go : ((x : MessageCursor) → messageLines w d n b x ≡ messageLines w d n l x) → (a : Answer PlaceStepped)
           → messageThen w d b (messageLines w d n b) a ≡ messageThen w d l (messageLines w d n l) a
       go ih (got x e) =
           let p : MessagePlace = x .place in
