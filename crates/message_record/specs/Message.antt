@@ -8,6 +8,7 @@ use Rattle.value.specs.declared.Shape.{Shape}
 use Rattle.dataset_header.specs.Flags.{Valid, notValid, valid, encodingNumber, kindNumber}
 use Rattle.dataset_message.specs.Message.{Message}
 use Rattle.dataset_header.specs.declared.flags.Encoding.{Encoding}
+use Rattle.dataset_header.specs.declared.flags.Kind.{Kind}
 use Rattle.dataset_fields.specs.declared.fields.Field.{Field}
 use Rattle.dataset_fields.specs.declared.fields.Cursor.{Cursor}
 use Rattle.dataset_header.specs.declared.header.Header.{Header}
