@@ -1,251 +1,54 @@
 // Histories of reassembly, written from document 01: R1 and R2, overlaps, holes, refusals, combining, strange marks, emptying and reuse,
-// payloads cut and restored. Each call's answer is a line.
-use libc::STDOUT_FILENO;
-use publisher_id::publisher::PublisherId;
-use publisher_id::publisher_record::PublisherRecord;
-use reassembly::Completeness;
-use reassembly::Message;
-use reassembly::Outcome;
-use reassembly::PartialRecord;
-use reassembly::Verdict;
+// payloads cut and restored. Each line of standard input is a call, and each call's answer is a line.
+//
+// There are eight partials with areas of 8 bytes, told by the letters a to g and `-`, which is one that nobody looks at. A call has a word, the
+// partial that takes what it leaves, the one that it is made on, and the rest: `new`, the payload and marks of a partial not started; `record`, a record
+// in place of its own; `take`, a datagram; `piece`, the number of a chunk of abcdefgh, cut by 3 bytes; `combine`, another partial; `join`, another
+// partial's record, payload and marks; `empty`; `show`, which tells if the partial is complete, what is handed out, and both areas, the marks by their last
+// digit. `unequal` and `large` are histories with areas of their own. A line that begins with `=` is a heading.
+//
+// A record lists its parts: `s` 1 where it is started, `h` a UInt16, `d` a UInt32 or `t` the length of a string as PublisherId, `x` the bytes of the
+// text, `w` DataSetWriterId, `n` number, `l` total.
+use crate::calls::called;
+use crate::partials::blank;
+use libc::STDIN_FILENO;
+use vector_lines::lines::after;
+use vector_lines::lines::item;
+use vector_lines::lines::letter;
+use vector_lines::lines::word;
 use wire::part::part;
-use wire_writer::store::put_run;
-use wire_writer::store::put16;
-use wire_writer::store::put32;
-ghost use Prim.Native.Nat.{_≤_};
+ghost use Prim.Native.Nat.{_<_};
 
-mod combining;
-mod cutting;
-mod refusing;
-mod taking;
+mod answers;
+mod calls;
+mod partials;
 
 fn main() {
-    taking::histories();
-    refusing::histories();
-    combining::histories();
-    cutting::histories();
+    let mut text = io::large_buffer();
+    let n = io::read_full(STDIN_FILENO, &mut text);
+    lines(part(&text, 0, n));
 }
 
-// A partial with areas of 8 bytes.
-struct Part {
-    rec: PartialRecord,
-    payload: [u8; 8],
-    marks: [u8; 8],
-}
-
-fn text(s: &[u8]) {
-    io::write_all(STDOUT_FILENO, s);
-}
-
-fn digit(n: usize) {
-    text(&[last((n % 10) as u8)]);
-}
-
-// A number below 100,000, in decimal.
-fn number(n: usize) {
-    if 10000 <= n {
-        digit(n / 10000);
-    }
-    if 1000 <= n {
-        digit(n / 1000);
-    }
-    if 100 <= n {
-        digit(n / 100);
-    }
-    if 10 <= n {
-        digit(n / 10);
-    }
-    digit(n);
-}
-
-fn refused(n: u8, place: usize) {
-    text(b"refused ");
-    number(n as usize);
-    text(b" ");
-    number(place);
-    text(b"\n");
-}
-
-fn verdict(v: Verdict) {
-    match v {
-        Verdict::Done => {
-            text(b"done\n");
-        }
-        Verdict::Refused(n, place) => {
-            refused(n, place);
-        }
+fn lines(text: &[u8]) {
+    let mut parts = [blank(); 8];
+    let mut at: usize = 0;
+    while at < text.len() {
+        let line = item(text, at, b'\n');
+        let from = place(line, 2);
+        let source = place(line, 3);
+        let to = place(line, 1);
+        parts[to] = called(parts[from], parts[source], line);
+        at = after(text, at, b'\n');
     }
 }
 
-fn completeness(c: Completeness) {
-    match c {
-        Completeness::Yes => {
-            text(b"yes\n");
-        }
-        Completeness::No => {
-            text(b"no\n");
-        }
-        Completeness::Refused(n, place) => {
-            refused(n, place);
-        }
-    }
-}
-
-fn published(publisher: PublisherRecord, writer: u16, number: u16, total: usize) -> Message {
-    Message {
-        publisher,
-        writer,
-        number,
-        total,
-    }
-}
-
-fn message(writer: u16, number: u16, total: usize) -> Message {
-    let publisher = PublisherRecord {
-        id: PublisherId::UInt16(4711),
-        text: [0u8; 64],
-    };
-    published(publisher, writer, number, total)
-}
-
-// Writer 21, number 7.
-fn ours(total: usize) -> Message {
-    message(21, 7, total)
-}
-
-fn fresh(message: Message) -> PartialRecord {
-    PartialRecord {
-        started: false,
-        message,
-    }
-}
-
-fn started(message: Message) -> PartialRecord {
-    PartialRecord {
-        started: true,
-        message,
-    }
-}
-
-// A partial not started whose areas hold one byte and one mark throughout.
-fn blank(byte: u8, mark: u8) -> Part {
-    let rec = fresh(ours(1));
-    Part {
-        rec,
-        payload: [byte; 8],
-        marks: [mark; 8],
-    }
-}
-
-fn with_record(p: Part, rec: PartialRecord) -> Part {
-    let payload = p.payload;
-    let marks = p.marks;
-    Part {
-        rec,
-        payload,
-        marks,
-    }
-}
-
-fn emptied(p: Part) -> Part {
-    let rec = p.rec;
-    with_record(p, reassembly::empty(rec))
-}
-
-// Takes in data of our message.
-fn take_ours(p: Part, total: u32, offset: u32, bytes: &[u8]) -> Part {
-    take_of(p, 21, 7, total, offset, bytes)
-}
-
-// Takes in data of a writer's numbered message, from a datagram of publisher 4711: D1 is version 1 with PublisherId, PayloadHeader and
-// ExtendedFlags1, 81 UInt16 and ExtendedFlags2, 01 chunk; then 67 12 and the DataSetWriterId.
-fn take_of(p: Part, writer: u16, number: u16, total: u32, offset: u32, bytes: &[u8]) -> Part {
-    let mut front = [209u8, 129, 1, 103, 18, 0, 0];
-    put16(&mut front, 5, writer);
-    take_after(p, &front, number, total, offset, bytes)
-}
-
-// A length below 100.
-fn small(n: usize) -> usize
-    ensures { λ r. ⌜ r ≤ 100 ⌝ }
+// Which partial word k names.
+fn place(line: &[u8], k: usize) -> usize
+    ensures { λ r. ⌜ r < 8 ⌝ }
 {
-    if n < 100 {
-        return n;
+    let name = letter(word(line, k));
+    if name < b'a' {
+        return 0;
     }
-    100
-}
-
-// Takes in a datagram that has a chunk's payload after an envelope.
-fn take_after(p: Part, front: &[u8], number: u16, total: u32, offset: u32, bytes: &[u8]) -> Part {
-    let mut d = [0u8; 128];
-    let at = small(front.len());
-    let n = small(bytes.len());
-    put_run(&mut d, 0, front);
-    put16(&mut d, at, number);
-    put32(&mut d, at + 2, offset);
-    put32(&mut d, at + 6, total);
-    put32(&mut d, at + 10, n as u32);
-    put_run(&mut d, at + 14, bytes);
-    take(p, part(&d, 0, at + 14 + n))
-}
-
-// Writes a call's answer, and keeps what it left.
-fn kept(out: Outcome, payload: [u8; 8], marks: [u8; 8]) -> Part {
-    let v = out.verdict;
-    verdict(v);
-    let rec = out.rec;
-    Part {
-        rec,
-        payload,
-        marks,
-    }
-}
-
-fn take(p: Part, datagram: &[u8]) -> Part {
-    let mut payload = p.payload;
-    let mut marks = p.marks;
-    text(b"take ");
-    let out = reassembly::take_in(p.rec, &mut payload, &mut marks, datagram, &[]);
-    kept(out, payload, marks)
-}
-
-fn combine_from(p: Part, source: PartialRecord, from: &[u8], from_marks: &[u8]) -> Part {
-    let mut payload = p.payload;
-    let mut marks = p.marks;
-    text(b"combine ");
-    let out = reassembly::combine_in(p.rec, &mut payload, &mut marks, source, from, from_marks);
-    kept(out, payload, marks)
-}
-
-fn combine(p: Part, source: Part) -> Part {
-    let from = source.payload;
-    let from_marks = source.marks;
-    combine_from(p, source.rec, &from, &from_marks)
-}
-
-// Writes whether a partial is complete; what is handed out, between brackets, with the answer; and both areas, the marks by their last digit.
-fn show(p: Part) {
-    let payload = p.payload;
-    let marks = p.marks;
-    text(b"complete ");
-    completeness(reassembly::ask_complete(p.rec, &payload, &marks));
-    text(b"hand out [");
-    text(reassembly::hand_out(p.rec, &payload, &marks));
-    text(b"] ");
-    verdict(reassembly::hand_out_verdict(p.rec, &payload, &marks));
-    areas(payload, marks);
-}
-
-fn areas(payload: [u8; 8], m: [u8; 8]) {
-    text(b"areas ");
-    text(&payload);
-    text(b" ");
-    text(&[last(m[0]), last(m[1]), last(m[2]), last(m[3])]);
-    text(&[last(m[4]), last(m[5]), last(m[6]), last(m[7])]);
-    text(b"\n");
-}
-
-// A number's last digit.
-fn last(n: u8) -> u8 {
-    48 + n % 10
+    (name % 8) as usize
 }

@@ -1,0 +1,50 @@
+use lib.ListN.{length}
+use Prim.Native.Nat.{_≤_, _-_}
+use borrow.Author.Needs.{needs}
+use Rattle.reading_vectors.proofs.sequence_numbers.history.Statement.{statement}
+use Rattle.reading_vectors.proofs.sequence_numbers.history.Tie as tie
+
+abbrev Inv-loop : tie.InvT-loop
+Inv-loop numbers last₀ at₀ last at = at ≤ length numbers
+
+abbrev μ-loop : tie.MeasureT-loop
+μ-loop numbers last₀ at₀ last at = length numbers - at
+
+loop-holds : tie.Need-loop-holds Inv-loop μ-loop
+loop-holds c = search needs
+
+decimal-at-requires : tie.Need-decimal-at-requires Inv-loop μ-loop
+decimal-at-requires c κs = search needs
+
+low16-requires : tie.Need-low16-requires Inv-loop μ-loop
+low16-requires c κs = search needs
+
+step-requires : tie.Need-step-requires Inv-loop μ-loop
+step-requires c κs = search needs
+
+after-requires : tie.Need-after-requires Inv-loop μ-loop
+after-requires c κs = search needs
+
+loop-less : tie.Need-loop-less Inv-loop μ-loop
+loop-less c = search needs
+
+loop-again : tie.Need-loop-again Inv-loop μ-loop
+loop-again c = search needs
+
+returns : tie.Need-returns Inv-loop μ-loop
+returns c = search needs
+
+pub history-spec : {M : Type 1} → statement M
+history-spec =
+    tie.close
+    (tie.spec
+    Inv-loop
+    μ-loop
+    loop-holds
+    decimal-at-requires
+    low16-requires
+    step-requires
+    after-requires
+    loop-less
+    loop-again
+    returns)

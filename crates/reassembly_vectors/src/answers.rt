@@ -1,0 +1,134 @@
+// What the calls answer, and the histories with areas of their own.
+use crate::partials::Part;
+use crate::partials::record;
+use reassembly::Completeness;
+use reassembly::Outcome;
+use reassembly::PartialRecord;
+use reassembly::Verdict;
+use vector_lines::bytes::word_bytes;
+use vector_lines::lines::letter;
+use vector_lines::lines::word;
+use vector_lines::print::digits;
+use vector_lines::print::number;
+use vector_lines::print::put;
+use wire::part::tail;
+
+// Writes a call's answer, and keeps what it left.
+pub fn kept(out: Outcome, payload: [u8; 8], marks: [u8; 8]) -> Part {
+    let answer = out.verdict;
+    verdict(answer);
+    let rec = out.rec;
+    Part {
+        rec,
+        payload,
+        marks,
+    }
+}
+
+fn verdict(answer: Verdict) {
+    match answer {
+        Verdict::Done => put(b"done\n"),
+        Verdict::Refused(n, place) => refused(n, place),
+    }
+}
+
+fn completeness(answer: Completeness) {
+    match answer {
+        Completeness::Yes => put(b"yes\n"),
+        Completeness::No => put(b"no\n"),
+        Completeness::Refused(n, place) => refused(n, place),
+    }
+}
+
+fn refused(n: u8, place: usize) {
+    put(b"refused");
+    number(n as usize);
+    number(place);
+    put(b"\n");
+}
+
+// What leaves a partial as it is.
+pub fn show(p: Part, line: &[u8]) -> Part {
+    match letter(line) {
+        b's' => all(p),
+        b'u' => unequal(line),
+        b'l' => large(line),
+        _ => {
+            put(tail(line, 2));
+            put(b"\n");
+        }
+    }
+    p
+}
+
+fn all(p: Part) {
+    let payload = p.payload;
+    let marks = p.marks;
+    of_areas(p.rec, &payload, &marks);
+}
+
+fn of_areas(rec: PartialRecord, payload: &[u8], marks: &[u8]) {
+    put(b"complete ");
+    completeness(reassembly::ask_complete(rec, payload, marks));
+    put(b"hand out [");
+    put(reassembly::hand_out(rec, payload, marks));
+    put(b"] ");
+    verdict(reassembly::hand_out_verdict(rec, payload, marks));
+    areas(payload, marks);
+}
+
+fn areas(payload: &[u8], marks: &[u8]) {
+    put(b"areas ");
+    put(payload);
+    put(b" ");
+    last_digits(marks);
+    put(b"\n");
+}
+
+fn last_digits(marks: &[u8]) {
+    let mut i: usize = 0;
+    while i < marks.len() {
+        digits((marks[i] % 10) as u64);
+        i += 1;
+    }
+}
+
+// Areas of unequal length, where nothing is started.
+fn unequal(line: &[u8]) {
+    let mut payload = [b'.'; 3];
+    let mut marks = [1u8; 2];
+    let rec = record(word(line, 3));
+    take_alone(rec, &mut payload, &mut marks, b"\xd2");
+    ask_alone(rec, &payload, &marks);
+}
+
+fn take_alone(rec: PartialRecord, payload: &mut [u8], marks: &mut [u8], datagram: &[u8]) {
+    let out = reassembly::take_in(rec, payload, marks, datagram, &[]);
+    let answer = out.verdict;
+    verdict(answer);
+}
+
+fn ask_alone(rec: PartialRecord, payload: &[u8], marks: &[u8]) {
+    completeness(reassembly::ask_complete(rec, payload, marks));
+    verdict(reassembly::hand_out_verdict(rec, payload, marks));
+}
+
+// A started partial of a larger total than a chunk may have is sound. A chunk's total may be 16,384.
+fn large(line: &[u8]) {
+    let mut payload = [b'.'; 16385];
+    let mut marks = [1u8; 16385];
+    hand_out_length(record(word(line, 3)), &payload, &marks);
+    take_large(line, &mut payload, &mut marks);
+}
+
+fn hand_out_length(rec: PartialRecord, payload: &[u8], marks: &[u8]) {
+    completeness(reassembly::ask_complete(rec, payload, marks));
+    digits(reassembly::hand_out(rec, payload, marks).len() as u64);
+    put(b"\n");
+}
+
+fn take_large(line: &[u8], payload: &mut [u8], marks: &mut [u8]) {
+    let mut datagram = [0u8; 22];
+    word_bytes(&mut datagram, line, 5);
+    take_alone(record(word(line, 4)), payload, marks, &datagram);
+}
