@@ -12,8 +12,8 @@ use vector_lines::lines::letter;
 use vector_lines::lines::word;
 use vector_lines::print::put;
 use wire::part::part;
+use wire_writer::store::put_run;
 use wire_writer::writing::Written;
-use wire_writer::writing::put_run;
 
 // The number of the message that is cut, and the size of its chunks' data.
 const MESSAGE: u16 = 7;

@@ -8,7 +8,7 @@ use text::decimal::read_decimal;
 use text::hex::Hex;
 use text::hex::read_hex;
 use wire::part::tail;
-use wire_writer::writing::put8;
+use wire_writer::store::put8;
 
 // The byte that a byte of a text stands for.
 fn plain(b: u8) -> u8 {
