@@ -1,6 +1,6 @@
--- DEMAND 3 as one type: a field for each sentence, the sentence above it. proofs/Demand3.antt gives a value of it, with no premise and no
--- axiom. `answers` and `leaves` are the terms that the contracts of reassembly/src/operations.rt cite, `Called` that of
--- uadp_c/src/reassembling.rt.
+-- DEMAND 3 as one type: a field for each sentence, the sentence above it. proofs/Demand3.antt gives a value of it. From code to claim:
+-- the contracts of reassembly/src/operations.rt say what each call `answers` and `leaves`, those of uadp_c/src/reassembling.rt that a
+-- call was `Called`. `Good` partials are the sound ones. The plain machine is reassembly/specs/Machine.antt.
 use Prim.Native.Nat.{ℕ, _≤_, _<_, _%_}
 use mathlib.Core.Path.{_≡_}
 use mathlib.Core.Logic.{_↔_}
@@ -75,8 +75,8 @@ pub record Demand3 : Type 0 where
   -- With any other partial that is the chunk alone, the answer and the bytes of both areas are the same, and the results are equal.
   pub take-in-as-combine : (sizes d : List ℕ) (m : Message) (at : ℕ) (data-of : List ℕ) → readingAt sizes d ≡ chunk m at data-of
       → (s f : Partial) → Good s → Good f → stateOf f ≡ alone (readingAt sizes d) → AsPartial (takeIn s (readingAt sizes d)) (combine s f)
-  -- ---- All chunks of a payload p, taken in in any order and some more than once, are accepted, complete it, and hand p out: of
-  -- datagrams that read as its chunks, and of datagrams of one publisher and writer whose payloads are what cutting wrote.
+  -- ---- All chunks of a payload p, taken in in any order and some more than once, are accepted, complete it, and hand p out: datagrams
+  -- that read as its chunks, and datagrams of one publisher and writer whose payloads are what cutting wrote, with a number of 2 bytes.
   pub chunks-restore : (id : Identity) (p : List ℕ) (size : ℕ) (l : List Arrival) → AllArrive id p size (IsChunk id p size) l
       → (s : Partial) → Good s → s .rec .started ≡ false → length p ≤ roomOf s → Restored p l s
   pub cut-and-restored : (id : Identity) (p : List ℕ) (size : ℕ) (l : List Arrival) → AllArrive id p size (IsCut id p size) l
@@ -92,8 +92,9 @@ pub record Demand3 : Type 0 where
   pub any-lent-list : (ks : List LentCall) (b : Lent) (ys : List Lent) → Ready b → Calls ks b ys → LentList ks b ys
   -- A refusal, whose number is the result's low byte, leaves every lent byte as it was.
   pub lent-refused : (k : LentCall) (b a : Lent) → Called k b a → (a .result % 256 ≡ 0 → ⊥) → Unchanged b a
-  -- What is stored in a record is read back, and changes no byte behind it.
-  pub record-read-back : (k : PartialRecord) (r : List ℕ) → FitsRecord k → PARTIAL_SIZE ≤ length r → partialIn (laid r 0 (partialBytes k)) ≡ k
+  -- What is stored in a record, of any that the code's types can hold, is read back.
+  pub record-read-back : (k : PartialRecord) (r : List ℕ) → FitsRecord k → PARTIAL_SIZE ≤ length r
+      → partialIn (laid r 0 (partialBytes k)) ≡ k
   -- ---- HOWEVER MARKS ARE HELD. From emptying, calls that are the same but for the form of marks give the same answers, and leave the
   -- same record, payload area and covered bytes; and every sound partial has its like in either form.
   pub same-in-layouts : (ks ls : List Call) (s t : Partial) → SameCalls ks ls → Good s → Good t → s .rec ≡ t .rec → s .payload ≡ t .payload

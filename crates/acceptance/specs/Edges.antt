@@ -58,7 +58,8 @@ table =
     ∷ variant (0 ∷ []) (got (measure 0 Shape.Scalar) 1)
     ∷ variant (133 ∷ 255 ∷ 255 ∷ 255 ∷ 255 ∷ []) (got (measure 5 Shape.NullArray) 5)
     ∷ variant (24 ∷ []) (refused NOT_PERMITTED 0)
-    ∷ calls (chunkCall 0 1 2 3 ∷ chunkCall 2 3 4 5 ∷ Ask ∷ HandOut ∷ []) fresh (done ∷ done ∷ said true ∷ handed (1 ∷ 2 ∷ 3 ∷ 4 ∷ 5 ∷ []) ∷ [])
+    ∷ calls (chunkCall 0 1 2 3 ∷ chunkCall 2 3 4 5 ∷ Ask ∷ HandOut ∷ []) fresh
+    (done ∷ done ∷ said true ∷ handed (1 ∷ 2 ∷ 3 ∷ 4 ∷ 5 ∷ []) ∷ [])
     ∷ calls (chunkCall 0 1 2 3 ∷ chunkCall 2 8 4 5 ∷ Ask ∷ HandOut ∷ []) fresh
     (done ∷ refusal BYTE_DIFFERS 0 ∷ said false ∷ refusal NOT_COMPLETE 0 ∷ [])
     ∷ []

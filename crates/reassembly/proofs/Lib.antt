@@ -3,3 +3,5 @@ pub mod AreaLaws
 pub mod SameLaws
 pub mod JudgeLaws
 pub mod CallLaws
+pub mod Following
+pub mod Bringing

@@ -22,7 +22,7 @@ use Rattle.wire.proofs.Cases.{by-bool}
 use Rattle.reassembly.proofs.ViewLaws.{data-above, length-laid}
 use Rattle.reassembly.proofs.JudgeLaws
 use Rattle.reassembly_laws.specs.Alone.{chunkAlone}
-use Rattle.reassembly_laws.proofs.Following
+use Rattle.reassembly.proofs.Following
 use Rattle.reassembly_laws.proofs.Combining
 
 -- the areas do not depend on the message

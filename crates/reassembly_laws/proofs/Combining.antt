@@ -15,8 +15,8 @@ use Rattle.reassembly.specs.declared.verdict.Verdict.the-variants.{Done, Refuse
 use Rattle.wire.proofs.Cases.{by-bool}
 use Rattle.reassembly.proofs.JudgeLaws.{refused-done, sound-total, combine-judged}
 use Rattle.reassembly_laws.proofs.StateLaws
-use Rattle.reassembly_laws.proofs.Following.{source-verdict, combine-stepped}
-use Rattle.reassembly_laws.proofs.Bringing.{bounded}
+use Rattle.reassembly.proofs.Following.{source-verdict, combine-stepped}
+use Rattle.reassembly.proofs.Bringing.{bounded}
 
 -- what a machine holds is not longer than n bytes
 abbrev pub FitsIn : ℕ → State → Type 0

@@ -33,7 +33,7 @@ use Rattle.reassembly.proofs.JudgeLaws.{reading-got}
 use Rattle.reassembly.proofs.ViewLaws.{length-tab, getD-tab, data-at, data-below, data-above, has-data, full-all, clash-none}
 use Rattle.reassembly.proofs.SameLaws.{same-message-yes}
 use Rattle.reassembly_laws.specs.Cutting.{Arrival, takings, dones, IsChunk, IsCut, Only, Among, AllArrive, Restored}
-use Rattle.reassembly_laws.proofs.Following
+use Rattle.reassembly.proofs.Following
 use Rattle.reassembly_laws.proofs.Demand3.{any-list}
 
 -- what holds of each arrival

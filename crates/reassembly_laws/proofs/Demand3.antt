@@ -32,8 +32,8 @@ use Rattle.reassembly.proofs.JudgeLaws
 use Rattle.reassembly.proofs.CallLaws.{one-verdict}
 use Rattle.reassembly_laws.proofs.Alone
 use Rattle.reassembly_laws.proofs.StateLaws
-use Rattle.reassembly_laws.proofs.Following
-use Rattle.reassembly_laws.proofs.Bringing
+use Rattle.reassembly.proofs.Following
+use Rattle.reassembly.proofs.Bringing
 use Rattle.reassembly_laws.proofs.Combining
 use Rattle.reassembly_laws.proofs.Combining.{Pair, Three, Room}
 

@@ -28,7 +28,7 @@ use Rattle.wire.proofs.Cases.{by-bool, by-lt}
 use Rattle.marks.proofs.MarkLaws.{marked-cleared, length-markAll, marked-on, marked-off}
 use Rattle.reassembly.proofs.AreaLaws.{marked-below, marked-above}
 use Rattle.reassembly.proofs.JudgeLaws
-use Rattle.reassembly_laws.proofs.Following
+use Rattle.reassembly.proofs.Following
 use Rattle.reassembly_laws.proofs.Equality.{view-by}
 
 module _ (s t : Partial) (same : SameButMarks s t) where

@@ -1,5 +1,5 @@
 -- The combining laws of the plain machine's states: order, sameness, grouping. Assumes nothing.
-use Prim.Native.Nat.{ℕ, _≤_}
+use Prim.Native.Nat.{ℕ}
 use mathlib.Core.Path.{_≡_, refl, sym, ap, ap₂, _∙_, fun-ext}
 use mathlib.Core.Bool.{false}
 use mathlib.Core.Option.{none}
@@ -12,12 +12,8 @@ use Rattle.wire.proofs.Cases.{by-bool, by-lt}
 use Rattle.reassembly.proofs.ViewLaws.{clash-none, none-clash}
 use Rattle.reassembly.proofs.SameLaws.{same-message-true, same-message-yes, same-message-comm}
 use Rattle.reassembly.proofs.JudgeLaws.{meet-same, meet-free}
+use Rattle.reassembly.proofs.Bringing.{Bounded}
 use Rattle.reassembly_laws.proofs.JoinLaws.{clash-comm, differs-refl, differs-comm, first-comm, first-assoc, differs-first, differs-left, differs-right}
-
--- no byte at or above total
-abbrev pub Bounded : State → Type 0
-Bounded idle = Unit {0}
-Bounded (held m v) = (i : ℕ) → m .total ≤ i → v i ≡ none
 
 -- the same message, and no byte differs
 abbrev pub Agree : State → State → Type 0

@@ -8,21 +8,25 @@ use mathlib.Core.Option.{Option, some, none, orElse, Option·getD, Option·none-
 use native.Mathlib.Omega.{arith}
 use lib.ListN.{length, getD}
 use lib.Seq.{ext-getD}
 use Rattle.reassembly.specs.Views.{View, isSome, differs, clash, bothViews, nowhere, bytesBelow}
 use Rattle.reassembly.specs.Record.{Identity, Partial, sound}
 use Rattle.reassembly.specs.Reading.{Reading, readingAt, GoodReading}
 use Rattle.reassembly.specs.Reading.Reading.{chunk, refusal}
 use Rattle.reassembly.specs.Machine.{State, viewIn, judge, accept, isComplete, stateOf, alone, readingVerdict, Call, Delivery, verdictOf, keeps, ifAccepted, whole, machineFinal, withDelivery, broughtBy, brought, OneHas, AllOf}
 use Rattle.reassembly.specs.Machine.State.{idle, held}
 use Rattle.reassembly.specs.Machine.Call.{Empty, Take, Combine, Ask, HandOut}
 use Rattle.reassembly.specs.declared.verdict.Verdict.{Verdict}
 use Rattle.reassembly.specs.declared.verdict.Verdict.the-variants.{Done, Refused}
 use Rattle.wire.proofs.Cases.{by-bool, by-lt}
 use Rattle.reassembly.proofs.ViewLaws.{length-tab, getD-tab, full-some, none-clash, data-above, first-known, differs-none}
 use Rattle.reassembly.proofs.AreaLaws.{marked-above}
 use Rattle.reassembly.proofs.SameLaws.{same-message-true}
 use Rattle.reassembly.proofs.JudgeLaws.{refused-done, sound-some, judge-meets, meet-same, meet-free, reading-proper}
-use Rattle.reassembly_laws.proofs.StateLaws.{Bounded}
+
+-- no byte at or above total
+abbrev pub Bounded : State → Type 0
+Bounded idle = Unit {0}
+Bounded (held m v) = (i : ℕ) → m .total ≤ i → v i ≡ none
 
 pub bounded : (s : Partial) → Bounded (stateOf s)
 bounded s =
