@@ -43,7 +43,8 @@ pub record Sentences : Type 0 where
   pub looked-up : (types s : List ℕ) (m : Message) (end : ℕ) → messageAt types s ≡ got (valid m) end → (none : Field) (k : ℕ)
       → k < m .cursor .count → (next : ℕ) × (fieldPlaceAt types k s ≡ got (getD (fieldsRead types s m) k none) next)
   -- "Cutting writes chunk k's payload": the bytes that it reports read back as that chunk, its data after 14 bytes of numbers
-  pub cut : (p : List ℕ) (number size k : ℕ) → number < 65536 → (out : List ℕ) (n : ℕ) → cutAnswer p number size k (length out) ≡ Written.Is n
+  pub cut : (p : List ℕ) (number size k : ℕ) → number < 65536 → (out : List ℕ) (n : ℕ)
+      → cutAnswer p number size k (length out) ≡ Written.Is n
       → chunkPayloadAt (take n (cutBuffer p number size k out)) 0
       ≡ got (record { number = number; offset = k * size; total = length p; first = 14; length = length (cutData p size k) })
       (length (chunkBytes p number size k))
