@@ -1,6 +1,6 @@
-// Quick ways to a field: the two common kinds read in line, and the last field of an accepted message told by its first items, since reading has
-// told where it ends. Their laws are in proofs/Ending.antt. Worth: half of the time of 100 levels, a fourteenth of that of one array; where
-// the walk shared its reading with the lookup, it took twice as long on RawData.
+// Quick ways to a field: the two common kinds read in line, and the last field of an accepted message told by its first items, since
+// reading has told where it ends. Their laws are in proofs/Ending.antt. Worth: half of the time of 100 levels, a fourteenth of that of
+// one array; where the walk shared its reading with the lookup, it took twice as long on RawData.
 use crate::fields::FieldRead;
 use crate::fields::located;
 use crate::fields::measured;

@@ -1,6 +1,7 @@
-// Configuration texts. `A` has a text: the answer is number, place, and how many writers and fields there are. `X` has a text and a list of ids: after the
-// answer comes a line for each id, its writer's place, size and field types, and a line that tells whether every writer has a size, and the sum of the
-// sizes. `M` has such a list, for a record that no text has: it says more writers and fields than it holds, and starts past its end.
+// Configuration texts. `A` has a text: the answer is number, place, and how many writers and fields there are. `X` has a text and a list
+// of ids: after the answer comes a line for each id, its writer's place, size and field types, and a line that tells whether every writer
+// has a size, and the sum of the sizes. `M` has such a list, for a record that no text has: it says more writers and fields than it
+// holds, and starts past its end.
 use config::Config;
 use config::all_sized;
 use config::fields_of;
@@ -20,6 +21,7 @@ use vector_lines::print::number;
 use vector_lines::print::put;
 use wire::part::part;
 
+// Shows what a configuration of one line of the input says.
 pub fn vector(line: &[u8], text: &[u8]) {
     match letter(line) {
         b'M' => about(made_up(), word(line, 1)),

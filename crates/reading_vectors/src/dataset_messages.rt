@@ -1,8 +1,8 @@
-// DataSetMessages alone: document 01's example and each refusal at each place. A line has a letter for the configured field types and a message: `t` UInt16
-// and Float, `-` or `N` none. The answer is kind, encoding, sequence number and the end of the last field, and each field as index, type, element count,
-// offset and length. `F` has a message and the number of a field: the field, and how many bytes its part of the message has. `S` has a message of ten
-// fields, the number of a field and a position: the field that a cursor there steps over. `K` and `R` have a message: how many fields it has and where the
-// last ends, with no type configured and with 64 times UInt16.
+// DataSetMessages alone: document 01's example and each refusal at each place. A line has a letter for the configured field types and a
+// message: `t` UInt16 and Float, `-` or `N` none. The answer is kind, encoding, sequence number and the end of the last field, and each
+// field as index, type, element count, offset and length. `F` has a message and the number of a field: the field, and how many bytes its
+// part of the message has. `S` has a message of ten fields, the number of a field and a position: the field that a cursor there steps
+// over. `K` and `R` have a message: how many fields it has and where the last ends, with no type configured and with 64 times UInt16.
 use dataset_fields::fields::Cursor;
 use dataset_fields::fields::Field;
 use dataset_fields::fields::FieldRead;
@@ -27,6 +27,7 @@ const UINT16: u8 = 5;
 
 const FLOAT: u8 = 10;
 
+// Shows a DataSetMessage of one line of the input.
 pub fn vector(line: &[u8], bytes: &[u8]) {
     match letter(line) {
         b'F' => one_field(bytes, decimal(line, 2)),

@@ -1,5 +1,6 @@
-// Vectors of what is read, by document 01 and Part 6, and of each refusal at each place. Standard input has a line for each vector, below a heading that
-// names the subject; what a line shows of itself is printed with the answer. The module of each subject says what its lines are.
+// Vectors of what is read, by document 01 and Part 6, and of each refusal at each place. Standard input has a line for each vector, below
+// a heading that names the subject; what a line shows of itself is printed with the answer. The module of each subject says what its
+// lines are.
 use libc::STDIN_FILENO;
 use vector_lines::bytes::word_bytes;
 use vector_lines::lines::after;
@@ -7,6 +8,7 @@ use vector_lines::lines::item;
 use vector_lines::lines::letter;
 use vector_lines::lines::shown;
 use vector_lines::lines::word;
+use vector_lines::print::newline;
 use vector_lines::print::put;
 use wire::part::part;
 
@@ -30,7 +32,7 @@ fn lines(text: &[u8]) {
         let line = item(text, at, b'\n');
         put(shown(line));
         subject = answered(line, subject);
-        put(b"\n");
+        newline();
         at = after(text, at, b'\n');
     }
 }

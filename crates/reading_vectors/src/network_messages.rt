@@ -1,7 +1,8 @@
-// Datagrams: document 01's section "The envelope", Annex A's header layouts, and each refusal at each place. A line has a letter for the configured
-// writers and a datagram: `-` or `N` no writer; `r` one that takes the rest; `s` two, of sizes 3 and 2; `u` two, of which one has no size. The answer is the
-// PublisherId and the number of messages, and each message as writer id, offset and length. `P` has a datagram and the number of a message: the message's
-// place, and the position after it. `C` has two datagrams and the length of the first: whether their PublisherIds, kept by value, are equal.
+// Datagrams: document 01's section "The envelope", Annex A's header layouts, and each refusal at each place. A line has a letter for the
+// configured writers and a datagram: `-` or `N` no writer; `r` one that takes the rest; `s` two, of sizes 3 and 2; `u` two, of which one
+// has no size. The answer is the PublisherId and the number of messages, and each message as writer id, offset and length. `P` has a
+// datagram and the number of a message: the message's place, and the position after it. `C` has two datagrams and the length of the
+// first: whether their PublisherIds, kept by value, are equal.
 use network_header::header::PayloadHeader;
 use network_message::envelope::NetworkMessageRead;
 use network_message::envelope::message;
@@ -27,6 +28,7 @@ use vector_lines::print::refused;
 use wire::part::part;
 use wire::part::tail;
 
+// Shows a NetworkMessage of one line of the input.
 pub fn vector(line: &[u8], bytes: &[u8]) {
     match letter(line) {
         b'P' => place(bytes, decimal(line, 2)),

@@ -1,6 +1,6 @@
-// Sequence numbers. `J` has the last number and the received one, and answers with the judgement. A history has numbers, and answers with a line for
-// each: the number, its judgement by the record so far, and the last number afterwards. `H` starts from the record of no number, `M` from one that has
-// a number though none was seen.
+// Sequence numbers. `J` has the last number and the received one, and answers with the judgement. A history has numbers, and answers with
+// a line for each: the number, its judgement by the record so far, and the last number afterwards. `H` starts from the record of no
+// number, `M` from one that has a number though none was seen.
 use sequence::LastSequenceNumber;
 use sequence::Newness;
 use vector_lines::lines::after;
@@ -10,9 +10,11 @@ use vector_lines::lines::letter;
 use vector_lines::lines::low16;
 use vector_lines::lines::word;
 use vector_lines::print::digits;
+use vector_lines::print::newline;
 use vector_lines::print::number;
 use vector_lines::print::put;
 
+// Shows how a sequence number of one line of the input is judged.
 pub fn vector(line: &[u8]) {
     match letter(line) {
         b'J' => judged(line),
@@ -46,7 +48,7 @@ fn history(first: LastSequenceNumber, numbers: &[u8]) {
 fn step(last: LastSequenceNumber, received: u16) -> LastSequenceNumber {
     let judgement = sequence::judge_by(last, received);
     let next = sequence::after(last, received, judgement);
-    put(b"\n");
+    newline();
     digits(received as u64);
     newness(judgement);
     put(b" last");

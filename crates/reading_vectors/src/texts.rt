@@ -1,8 +1,9 @@
-// Decimals, hex and words. `N` has a number, and answers with the decimal. `R` has a text, a position and a limit: the decimal there up to a tab, and the
-// position after it, or `no`. `F` has a text: where its first tab stands. `S` has a text: `writer` if it goes on so at position 2, else `no`.
+// Decimals, hex and words. `N` has a number, and answers with the decimal. `R` has a text, a position and a limit: the decimal there up
+// to a tab, and the position after it, or `no`. `F` has a text: where its first tab stands. `S` has a text: `writer` if it goes on so at
+// position 2, else `no`.
 //
-// `D`, `H`, `T` and `U` have what is put, as a decimal, as hex, as it is, and as the bytes of hex digits; a buffer of 8 bytes, and a position. The answer is
-// the position after it, or `no`, and the buffer.
+// `D`, `H`, `T` and `U` have what is put, as a decimal, as hex, as it is, and as the bytes of hex digits; a buffer of 8 bytes, and a
+// position. The answer is the position after it, or `no`, and the buffer.
 use text::decimal::Decimal;
 use text::decimal::put_decimal;
 use text::decimal::read_decimal;
@@ -17,12 +18,14 @@ use vector_lines::lines::decimal;
 use vector_lines::lines::letter;
 use vector_lines::lines::word;
 use vector_lines::print::digits;
+use vector_lines::print::newline;
 use vector_lines::print::put;
 use wire::part::part;
 
 // The position after hex digits that are none.
 const NONE: usize = 18446744073709551615;
 
+// Shows a decimal, hex or words of one line of the input.
 pub fn vector(line: &[u8], bytes: &[u8]) {
     match letter(line) {
         b'N' => written(decimal(line, 1)),
@@ -44,7 +47,7 @@ fn read(text: &[u8], line: &[u8]) {
     match read_decimal(text, decimal(line, 2), b'\t', limit) {
         Decimal::Is(n, next) => {
             digits(n);
-            put(b"\n");
+            newline();
             digits(next as u64);
         }
         Decimal::Not => put(b"no"),
@@ -72,7 +75,7 @@ fn position(n: usize) {
     } else {
         digits(n as u64);
     }
-    put(b"\n");
+    newline();
 }
 
 fn store(out: &mut [u8], bytes: &[u8], line: &[u8]) -> usize {

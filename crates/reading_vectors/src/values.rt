@@ -1,6 +1,7 @@
-// Values: document 01's section "Values". A line has a letter with a position, and bytes: `v` or `V` a Variant, `d` or `D` a DataValue, `r` an element of
-// RawData, whose type is the first byte; `E` is such an element in no bytes at all. The answer is type, element count and end. `T` has 17
-// bytes of a Variant and an array: the answer is of both, and of an element of the Variant's type after the array's first byte.
+// Values: document 01's section "Values". A line has a letter with a position, and bytes: `v` or `V` a Variant, `d` or `D` a DataValue,
+// `r` an element of RawData, whose type is the first byte; `E` is such an element in no bytes at all. The answer is type, element count
+// and end. `T` has 17 bytes of a Variant and an array: the answer is of both, and of an element of the Variant's type after the array's
+// first byte.
 use value::Measured;
 use value::measure_data_value;
 use value::measure_raw;
@@ -17,6 +18,7 @@ use wire::part::tail;
 // How many bytes a line `T` has of the Variant.
 const SCALAR: usize = 17;
 
+// Shows a value of one line of the input.
 pub fn vector(line: &[u8], bytes: &[u8]) {
     let first = letter(line);
     if first == b'T' {

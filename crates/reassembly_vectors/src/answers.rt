@@ -9,6 +9,7 @@ use vector_lines::bytes::word_bytes;
 use vector_lines::lines::letter;
 use vector_lines::lines::word;
 use vector_lines::print::digits;
+use vector_lines::print::newline;
 use vector_lines::print::number;
 use vector_lines::print::put;
 use wire::part::tail;
@@ -44,7 +45,7 @@ fn refused(n: u8, place: usize) {
     put(b"refused");
     number(n as usize);
     number(place);
-    put(b"\n");
+    newline();
 }
 
 // What leaves a partial as it is.
@@ -55,7 +56,7 @@ pub fn show(p: Part, line: &[u8]) -> Part {
         b'l' => large(line),
         _ => {
             put(tail(line, 2));
-            put(b"\n");
+            newline();
         }
     }
     p
@@ -82,7 +83,7 @@ fn areas(payload: &[u8], marks: &[u8]) {
     put(payload);
     put(b" ");
     last_digits(marks);
-    put(b"\n");
+    newline();
 }
 
 fn last_digits(marks: &[u8]) {
@@ -124,7 +125,7 @@ fn large(line: &[u8]) {
 fn hand_out_length(rec: PartialRecord, payload: &[u8], marks: &[u8]) {
     completeness(reassembly::ask_complete(rec, payload, marks));
     digits(reassembly::hand_out(rec, payload, marks).len() as u64);
-    put(b"\n");
+    newline();
 }
 
 fn take_large(line: &[u8], payload: &mut [u8], marks: &mut [u8]) {

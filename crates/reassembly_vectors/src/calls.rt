@@ -20,6 +20,7 @@ const MESSAGE: u16 = 7;
 
 const DATA_SIZE: usize = 3;
 
+// Shows what a call of one line of the input answers and leaves.
 pub fn called(p: Part, source: Part, line: &[u8]) -> Part {
     match letter(line) {
         b'n' => new(line),
@@ -33,7 +34,8 @@ pub fn called(p: Part, source: Part, line: &[u8]) -> Part {
     }
 }
 
-fn new(line: &[u8]) -> Part {
+// A new partial over the areas of the line.
+pub fn new(line: &[u8]) -> Part {
     let mut payload = [0u8; 8];
     let mut marks = [0u8; 8];
     word_bytes(&mut payload, line, 3);

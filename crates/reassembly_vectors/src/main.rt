@@ -1,16 +1,17 @@
 // Histories of reassembly, written from document 01: R1 and R2, overlaps, holes, refusals, combining, strange marks, emptying and reuse,
 // payloads cut and restored. Each line of standard input is a call, and each call's answer is a line.
 //
-// There are eight partials with areas of 8 bytes, told by the letters a to g and `-`, which is one that nobody looks at. A call has a word, the
-// partial that takes what it leaves, the one that it is made on, and the rest: `new`, the payload and marks of a partial not started; `record`, a record
-// in place of its own; `take`, a datagram; `piece`, the number of a chunk of abcdefgh, cut by 3 bytes; `combine`, another partial; `join`, another
-// partial's record, payload and marks; `empty`; `show`, which tells if the partial is complete, what is handed out, and both areas, the marks by their last
-// digit. `unequal` and `large` are histories with areas of their own. A line that begins with `=` is a heading.
+// There are eight partials with areas of 8 bytes, told by the letters a to g and `-`, which is one that nobody looks at. A call has a
+// word, the partial that takes what it leaves, the one that it is made on, and the rest: `new`, the payload and marks of a partial not
+// started; `record`, a record in place of its own; `take`, a datagram; `piece`, the number of a chunk of abcdefgh, cut by 3 bytes;
+// `combine`, another partial; `join`, another partial's record, payload and marks; `empty`; `show`, which tells if the partial is
+// complete, what is handed out, and both areas, the marks by their last digit. `unequal` and `large` are histories with areas of their
+// own. A line that begins with `=` is a heading.
 //
-// A record lists its parts: `s` 1 where it is started, `h` a UInt16, `d` a UInt32 or `t` the length of a string as PublisherId, `x` the bytes of the
-// text, `w` DataSetWriterId, `n` number, `l` total.
+// A record lists its parts: `s` 1 where it is started, `h` a UInt16, `d` a UInt32 or `t` the length of a string as PublisherId, `x` the
+// bytes of the text, `w` DataSetWriterId, `n` number, `l` total.
 use crate::calls::called;
-use crate::partials::blank;
+use crate::calls::new;
 use libc::STDIN_FILENO;
 use vector_lines::lines::after;
 use vector_lines::lines::item;
@@ -30,7 +31,7 @@ fn main() {
 }
 
 fn lines(text: &[u8]) {
-    let mut parts = [blank(); 8];
+    let mut parts = [new(b""); 8];
     let mut at: usize = 0;
     while at < text.len() {
         let line = item(text, at, b'\n');

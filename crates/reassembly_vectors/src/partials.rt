@@ -15,14 +15,7 @@ pub struct Part {
     pub marks: [u8; 8],
 }
 
-pub fn blank() -> Part {
-    Part {
-        rec: record(b""),
-        payload: [0u8; 8],
-        marks: [0u8; 8],
-    }
-}
-
+// A partial's record.
 pub fn record(parts: &[u8]) -> PartialRecord {
     PartialRecord {
         started: numbered(parts, b's') == 1,
@@ -38,6 +31,7 @@ pub fn record(parts: &[u8]) -> PartialRecord {
     }
 }
 
+// A partial with another record.
 pub fn with_record(p: Part, rec: PartialRecord) -> Part {
     let payload = p.payload;
     let marks = p.marks;

@@ -31,5 +31,5 @@ numberOr0 (Is n next) = n
 numberOr0 Not = 0
 
 -- the decimal from a position up to the byte b, 0 where there is none
-abbrev pub numberAt : ℕ → List ℕ → ℕ → ℕ
-numberAt b s at = numberOr0 (decimalAt 18446744073709551615 b s at)
+abbrev pub decimalNumberAt : ℕ → List ℕ → ℕ → ℕ
+decimalNumberAt b s at = numberOr0 (decimalAt 18446744073709551615 b s at)

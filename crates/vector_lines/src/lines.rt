@@ -9,7 +9,7 @@ ghost use mathlib.Core.Path.{_≡_};
 ghost use Prim.Native.Nat.{_-_, _%_, _≤_};
 ghost use lib.ListN.{length, drop, getD};
 ghost use Rattle.text.specs.Words.{upTo};
-ghost use Rattle.vector_lines.specs.Items.{afterItem, wordStart, wordOf, shownOf, numberAt};
+ghost use Rattle.vector_lines.specs.Items.{afterItem, wordStart, wordOf, shownOf, decimalNumberAt};
 
 const MOST: u64 = 18446744073709551615;
 
@@ -82,7 +82,7 @@ pub fn shown(line: &[u8]) -> &[u8]
 
 // The decimal from a position up to the byte `end`, 0 where there is none.
 pub fn decimal_at(text: &[u8], at: usize, end: u8) -> usize
-    ensures { λ r. ⌜ r ≡ numberAt end (now (text .entry)) at ⌝ }
+    ensures { λ r. ⌜ r ≡ decimalNumberAt end (now (text .entry)) at ⌝ }
 {
     match read_decimal(text, at, end, MOST) {
         Decimal::Is(n, _) => n as usize,
@@ -92,7 +92,7 @@ pub fn decimal_at(text: &[u8], at: usize, end: u8) -> usize
 
 // The decimal that is word k of a line and not its last word; 0 where it is none.
 pub fn decimal(line: &[u8], k: usize) -> usize
-    ensures { λ r. ⌜ r ≡ numberAt 32 (now (line .entry)) (wordStart k (now (line .entry))) ⌝ }
+    ensures { λ r. ⌜ r ≡ decimalNumberAt 32 (now (line .entry)) (wordStart k (now (line .entry))) ⌝ }
 {
     decimal_at(line, start(line, k), b' ')
 }

@@ -10,20 +10,31 @@ pub fn put(text: &[u8]) {
     io::write_all(STDOUT_FILENO, text);
 }
 
+// The end of a line.
+pub fn newline() {
+    put(b"\n");
+}
+
 // A number without the space.
 pub fn digits(n: u64) {
     io::print_decimal(STDOUT_FILENO, n);
 }
 
+// Prints a space and a number.
 pub fn number(n: usize) {
     put(b" ");
     digits(n as u64);
 }
 
-// A refusal by its number and place.
-pub fn refused(n: u8, place: usize) {
+// A refusal by its number.
+pub fn bad(n: u8) {
     put(b" bad");
     number(n as usize);
+}
+
+// A refusal by its number and place.
+pub fn refused(n: u8, place: usize) {
+    bad(n);
     number(place);
 }
 

@@ -1,11 +1,11 @@
-// DataSetMessages written, and messages read and written again. A line has a letter for the configured field types and a message: `t` UInt16 and Float, `-`
-// none. The answer is `same` or the bytes of its rewriting, and the buffer's next byte, which stays `ee`.
+// DataSetMessages written, and messages read and written again. A line has a letter for the configured field types and a message: `t`
+// UInt16 and Float, `-` none. The answer is `same` or the bytes of its rewriting, and the buffer's next byte, which stays `ee`.
 //
-// `W` has the fields' values with the configured types after them, and a list. The answer is the length, the bytes, the next byte, and the number of fields
-// and the end of the last one as they read back; of a refusal the number and the buffer's first byte. The list has `e` 1 for RawData, 2 for DataValue; `k` 1
-// for delta, 2 for event, 3 for keep alive; `q`, `t`, `p`, `s`, `a` and `i` sequence number, Timestamp, PicoSeconds, Status, major and minor version; `h` 1 for a
-// heartbeat; `l` and `m` the lengths of up to two fields; `x` and `y` their indices in a delta; `z` how many bytes of padding follow. `V` tells how many of the
-// bytes are the values'.
+// `W` has the fields' values with the configured types after them, and a list. The answer is the length, the bytes, the next byte, and
+// the number of fields and the end of the last one as they read back; of a refusal the number and the buffer's first byte. The list has
+// `e` 1 for RawData, 2 for DataValue; `k` 1 for delta, 2 for event, 3 for keep alive; `q`, `t`, `p`, `s`, `a` and `i` sequence number,
+// Timestamp, PicoSeconds, Status, major and minor version; `h` 1 for a heartbeat; `l` and `m` the lengths of up to two fields; `x` and
+// `y` their indices in a delta; `z` how many bytes of padding follow. `V` tells how many of the bytes are the values'.
 use crate::FILL;
 use crate::optional::optional_i64;
 use crate::optional::optional32;
@@ -24,6 +24,7 @@ use vector_lines::lines::lettered16;
 use vector_lines::lines::low16;
 use vector_lines::lines::numbered;
 use vector_lines::lines::word;
+use vector_lines::print::bad;
 use vector_lines::print::hex;
 use vector_lines::print::number;
 use vector_lines::print::put;
@@ -36,6 +37,7 @@ const UINT16: u8 = 5;
 
 const FLOAT: u8 = 10;
 
+// Shows a DataSetMessage written from one line of the input.
 pub fn vector(line: &[u8], bytes: &[u8]) {
     match letter(line) {
         b'W' => written(bytes, word(line, 2)),
@@ -53,8 +55,7 @@ fn again(message: &[u8], types: &[u8]) {
 }
 
 fn refused(n: u8, out: &[u8]) {
-    put(b" bad");
-    number(n as usize);
+    bad(n);
     hex(part(out, 0, 1));
 }
 

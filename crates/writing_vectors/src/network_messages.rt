@@ -1,12 +1,13 @@
-// NetworkMessages written, and datagrams written again. A line has a letter for the configured writers and a datagram: `-` no writer; `r` one that takes the
-// rest; `s` two, of sizes 3 and 2. The answer is the bytes of its rewriting, or `bad` and the number.
+// NetworkMessages written, and datagrams written again. A line has a letter for the configured writers and a datagram: `-` no writer; `r`
+// one that takes the rest; `s` two, of sizes 3 and 2. The answer is the bytes of its rewriting, or `bad` and the number.
 //
-// A capital letter, `N`, `R` with id 7 and `S` with ids 7 and 9, has the bytes that are given and a list. The answer is the bytes written, the two bytes of the
-// buffer after them (it is filled with `ee`), and the number of messages that reading finds; of a refusal the number and the buffer's first two bytes. The list
-// has `b` a Byte, `w` a UInt16 or `s` the length of a string as PublisherId; `l` and `h` the halves of DataSetClassId; `g`, `v`, `n` and `q` the parts of the
-// group header; `x` 1 for the chunk bit; `i` Count or `k` a chunk's DataSetWriterId; `t` Timestamp; `p` PicoSeconds; `f` the size of promoted fields. `T`, `I`,
-// `P` and `L` tell how many of the bytes are the string's, the ids', the promoted fields' and the sizes'; the rest is the messages'. `R` is the buffer's room
-// where it is not 96.
+// A capital letter, `N`, `R` with id 7 and `S` with ids 7 and 9, has the bytes that are given and a list. The answer is the bytes
+// written, the two bytes of the buffer after them (it is filled with `ee`), and the number of messages that reading finds; of a refusal
+// the number and the buffer's first two bytes. The list has `b` a Byte, `w` a UInt16 or `s` the length of a string as PublisherId; `l`
+// and `h` the halves of DataSetClassId; `g`, `v`, `n` and `q` the parts of the group header; `x` 1 for the chunk bit; `i` Count or `k` a
+// chunk's DataSetWriterId; `t` Timestamp; `p` PicoSeconds; `f` the size of promoted fields. `T`, `I`, `P` and `L` tell how many of the
+// bytes are the string's, the ids', the promoted fields' and the sizes'; the rest is the messages'. `R` is how many bytes the buffer
+// lacks of 96.
 use crate::FILL;
 use crate::optional::optional_i64;
 use crate::optional::optional32;
@@ -28,53 +29,61 @@ use vector_lines::lines::lettered16;
 use vector_lines::lines::low16;
 use vector_lines::lines::numbered;
 use vector_lines::lines::word;
+use vector_lines::print::bad;
 use vector_lines::print::hex;
 use vector_lines::print::number;
-use vector_lines::print::put;
 use wire::Guid;
 use wire::part::part;
 use wire::part::tail;
 use wire_writer::writing::Written;
 ghost use Prim.Native.Nat.{_≤_};
 
+// The largest room for a datagram.
+const ROOM: usize = 96;
+
+// Shows a NetworkMessage written from one line of the input.
 pub fn vector(line: &[u8], bytes: &[u8]) {
-    let list = word(line, 2);
-    match letter(line) {
-        b'N' => written(bytes, list, &[], &[]),
-        b'R' => written(bytes, list, &[0], &[7]),
-        b'S' => written(bytes, list, &[3, 2], &[7, 9]),
-        b'r' => again(bytes, &[0]),
-        b's' => again(bytes, &[3, 2]),
-        _ => again(bytes, &[]),
+    let first = letter(line);
+    let sizes = [first_size(first), 2];
+    let ids = [7, 9];
+    let n = writers(first);
+    if (b'A' <= first) & (first <= b'Z') {
+        written(bytes, word(line, 2), &sizes[0..n], &ids[0..n]);
+    } else {
+        again(bytes, &sizes[0..n]);
     }
 }
 
-fn refused(n: u8) {
-    put(b" bad");
-    number(n as usize);
+// How many writers are configured, and the size of the first.
+fn writers(first: u8) -> usize
+    ensures { λ r. ⌜ r ≤ 2 ⌝ }
+{
+    match first {
+        b'r' | b'R' => 1,
+        b's' | b'S' => 2,
+        _ => 0,
+    }
+}
+
+fn first_size(first: u8) -> u16 {
+    match first {
+        b'r' | b'R' => 0,
+        _ => 3,
+    }
 }
 
 fn again(datagram: &[u8], sizes: &[u16]) {
     let mut out = [FILL; 128];
     match rewrite(&mut out, datagram, sizes) {
-        Written::Refused(n) => refused(n),
+        Written::Refused(n) => bad(n),
         Written::Is(n) => hex(part(&out, 0, n)),
     }
 }
 
 fn written(bytes: &[u8], list: &[u8], sizes: &[u16], configured: &[u16]) {
-    let mut out = [FILL; 96];
-    let room = room(list);
+    let mut out = [FILL; ROOM];
+    let room = ROOM - numbered(list, b'R') % ROOM;
     into(&mut out[0..room], bytes, list, sizes, configured);
-}
-
-fn room(list: &[u8]) -> usize
-    ensures { λ r. ⌜ r ≤ 96 ⌝ }
-{
-    match lettered(list, b'R') {
-        Decimal::Is(n, _) => (n % 96) as usize,
-        Decimal::Not => 96,
-    }
 }
 
 fn into(out: &mut [u8], bytes: &[u8], list: &[u8], sizes: &[u16], configured: &[u16]) {
@@ -85,7 +94,7 @@ fn into(out: &mut [u8], bytes: &[u8], list: &[u8], sizes: &[u16], configured: &[
 fn show(answer: Written, out: &[u8], sizes: &[u16]) {
     match answer {
         Written::Refused(n) => {
-            refused(n);
+            bad(n);
             hex(part(out, 0, 2));
         }
         Written::Is(n) => {
@@ -98,7 +107,7 @@ fn show(answer: Written, out: &[u8], sizes: &[u16]) {
 
 fn count(datagram: &[u8], sizes: &[u16]) {
     match read(datagram, sizes) {
-        NetworkMessageRead::Refused(n, _) => refused(n),
+        NetworkMessageRead::Refused(n, _) => bad(n),
         NetworkMessageRead::Is(_, _, p) => number(p.count),
     }
 }

@@ -5,10 +5,10 @@ use Rattle.reading_vectors.proofs.lines.Statement.{statement}
 use Rattle.reading_vectors.proofs.lines.Tie as tie
 
 abbrev Inv-loop : tie.InvT-loop
-Inv-loop text subject₀ at₀ t5 subject at = at ≤ length text
+Inv-loop text subject₀ at₀ subject at = at ≤ length text
 
 abbrev μ-loop : tie.MeasureT-loop
-μ-loop text subject₀ at₀ t5 subject at = length text - at
+μ-loop text subject₀ at₀ subject at = length text - at
 
 loop-holds : tie.Need-loop-holds Inv-loop μ-loop
 loop-holds c = search needs
@@ -25,11 +25,8 @@ put-requires c κs = search needs
 answered-requires : tie.Need-answered-requires Inv-loop μ-loop
 answered-requires c κs = search needs
 
-slice-aggregate-put : tie.Need-slice-aggregate-put Inv-loop μ-loop
-slice-aggregate-put c = search needs
-
-put-requires-2 : tie.Need-put-requires-2 Inv-loop μ-loop
-put-requires-2 c κs = search needs
+newline-requires : tie.Need-newline-requires Inv-loop μ-loop
+newline-requires c κs = search needs
 
 after-requires : tie.Need-after-requires Inv-loop μ-loop
 after-requires c κs = search needs
@@ -54,8 +51,7 @@ lines-spec =
     shown-requires
     put-requires
     answered-requires
-    slice-aggregate-put
-    put-requires-2
+    newline-requires
     after-requires
     loop-less
     loop-again

@@ -11,8 +11,11 @@ Inv-loop text parts₀ at₀ parts at = (at ≤ length text) × (length parts �
 abbrev μ-loop : tie.MeasureT-loop
 μ-loop text parts₀ at₀ parts at = length text - at
 
-blank-requires : tie.Need-blank-requires Inv-loop μ-loop
-blank-requires c κs = search needs
+slice-aggregate-new : tie.Need-slice-aggregate-new Inv-loop μ-loop
+slice-aggregate-new c = search needs
+
+new-requires : tie.Need-new-requires Inv-loop μ-loop
+new-requires c κs = search needs
 
 loop-holds : tie.Need-loop-holds Inv-loop μ-loop
 loop-holds c = search needs
@@ -68,7 +71,8 @@ lines-spec =
     (tie.spec
     Inv-loop
     μ-loop
-    blank-requires
+    slice-aggregate-new
+    new-requires
     loop-holds
     item-requires
     place-requires

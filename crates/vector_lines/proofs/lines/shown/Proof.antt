@@ -1,5 +1,4 @@
 use borrow.Author.Tests.{lt-ltb, le-ltb}
-use mathlib.Core.Path.{sym}
 use borrow.Author.Needs.{needs}
 use Rattle.vector_lines.proofs.lines.shown.Statement.{statement}
 use Rattle.vector_lines.proofs.lines.shown.Tie as tie
