@@ -89,7 +89,7 @@ unfolding marksFor capacity
 marks-cover byBytes t i m l h = omega arith
 marks-cover byBits t i m l h = omega arith
 
-capacity-length : (L : Layout) (m k : List ℕ) → length m ≡ length k → capacity L m ≡ capacity L k
+pub capacity-length : (L : Layout) (m k : List ℕ) → length m ≡ length k → capacity L m ≡ capacity L k
 unfolding capacity
 capacity-length byBytes m k e = e
 capacity-length byBits m k e = rw e
@@ -113,6 +113,12 @@ pub marked-cleared : (L : Layout) (m : List ℕ) (i : ℕ) → marked L (cleared
 unfolding marked
 marked-cleared byBytes m i = rw (cleared-zero m i)
 marked-cleared byBits m i = rw (cleared-zero m (i / 8)) (bit-none (i % 8))
+
+-- no offset past the area is marked
+pub marked-none : (L : Layout) (m : List ℕ) (i : ℕ) → capacity L m ≤ i → marked L m i ≡ false
+unfolding marked capacity
+marked-none byBytes m i h = rw (List·getD-eq-default {A = ℕ} m 0 {n = i} h)
+marked-none byBits m i h = rw (List·getD-eq-default {A = ℕ} m 0 {n = i / 8} (omega arith)) (bit-none (i % 8))
 
 mark-same : (L : Layout) (m : List ℕ) (i : ℕ) → i < capacity L m → marked L (markAt L i m) i ≡ true
 unfolding marked markAt capacity
@@ -198,7 +204,7 @@ module _ (L : Layout) where
   unfolding markAll
   marked-off f m i e = upTo-off (capacity L m) f m i (omega arith) e
 
-  -- loops: nothing below n, one turn, and nothing from i to n
+  -- loops: nothing below n, one turn, and nothing between i and the area's end
   pub marks-start : (n : ℕ) (f : ℕ → Bool) (m : List ℕ) → ((i : ℕ) → i < n → f i ≡ false) → markUpTo L n f m ≡ m
   marks-start zero f m e = refl
   marks-start (suc n) f m e = rw (e n (omega arith)) (marks-start n f m (λ i h. e i (omega arith)))
@@ -206,15 +212,19 @@ module _ (L : Layout) where
   pub marks-step : (i : ℕ) (b : Bool) (f : ℕ → Bool) (m : List ℕ) → f i ≡ b → markUpTo L (i + 1) f m ≡ markIf L b i (markUpTo L i f m)
   marks-step i b f m e = rw (add-one i, e)
 
-  upTo-end : (n i : ℕ) (f : ℕ → Bool) (m : List ℕ) → i ≤ n → ((k : ℕ) → i ≤ k → f k ≡ false) → markUpTo L n f m ≡ markUpTo L i f m
+  upTo-end : (n i : ℕ) (f : ℕ → Bool) (m : List ℕ) → i ≤ n → ((k : ℕ) → i ≤ k → k < n → f k ≡ false) → markUpTo L n f m ≡ markUpTo L i f m
   upTo-end zero i f m h e = let q : 0 ≡ i = omega arith in ap (λ (k : ℕ). markUpTo L k f m) q
   upTo-end (suc n) i f m h e =
       by-eq _ i (suc n) (λ q. ap (λ (k : ℕ). markUpTo L k f m) (sym q))
-      (λ ne. rw (e n (omega arith)) (upTo-end n i f m (omega arith) e))
+      (λ ne. rw (e n (omega arith) (omega arith)) (upTo-end n i f m (omega arith) (λ k a b. e k a (omega arith))))
 
-  pub marks-end : (t i : ℕ) (f : ℕ → Bool) (m : List ℕ) → i ≤ t → marksFor L t ≤ length m → ((k : ℕ) → i ≤ k → f k ≡ false) → markUpTo L i f m ≡ markAll L f m
+  pub marks-end : (i : ℕ) (f : ℕ → Bool) (m : List ℕ) → i ≤ capacity L m → ((k : ℕ) → i ≤ k → k < capacity L m → f k ≡ false) → markUpTo L i f m ≡ markAll L f m
   unfolding markAll
-  marks-end t i f m l h e = sym (upTo-end (capacity L m) i f m (marks-cover L t i m l h) e)
+  marks-end i f m l e = sym (upTo-end (capacity L m) i f m l e)
+
+  pub marks-past : (i : ℕ) (f : ℕ → Bool) (m : List ℕ) → capacity L m ≤ i → ((k : ℕ) → capacity L m ≤ k → k < i → f k ≡ false) → markUpTo L i f m ≡ markAll L f m
+  unfolding markAll
+  marks-past i f m l e = upTo-end i (capacity L m) f m l e
 
   -- marking what is marked already changes nothing
   upTo-self : (n t : ℕ) (m : List ℕ) → markUpTo L n (markedBelow L t m) m ≡ m

@@ -2,7 +2,6 @@
 ghost use mathlib.Core.Path.{_≡_};
 ghost use mathlib.Core.Bool.{cond};
 ghost use Prim.Native.Nat.{_<_, _≤_};
-ghost use lib.ListN.{length};
 ghost use Rattle.marks.specs.Offsets.{inRange};
 ghost use Rattle.marks.specs.Marks.{inUse, marksFor, capacity, marked, markIf, cleared, markedBelow, markAll, allMarked};
 
@@ -11,6 +10,15 @@ pub fn marks_for(n: usize) -> usize
     ensures { λ r. ⌜ r ≡ marksFor inUse n ⌝ }
 {
     n
+}
+
+// The smaller of n and the number of offsets that a marks area has.
+pub(crate) fn within(marks: &[u8], n: usize) -> usize
+    ensures { λ r.
+        let most = capacity inUse (now (marks .entry)) in
+        ⌜ (r ≤ n) × (r ≤ most) × (r < n → r ≡ most) ⌝ }
+{
+    if n <= marks.len() { n } else { marks.len() }
 }
 
 // Whether an offset is marked.
@@ -47,35 +55,37 @@ pub fn clear(marks: &mut [u8])
     }
 }
 
-// Marks the offsets from start up to end.
+// Marks the offsets from start up to end; those past the area are left out.
 pub fn mark_range(marks: &mut [u8], start: usize, end: usize)
-    requires { ⌜ (start ≤ end) × (marksFor inUse end ≤ length (now marks)) ⌝ }
     ensures { λ r. ⌜ now (marks .exit) ≡ markAll inUse (inRange start end) (now (marks .entry)) ⌝ }
 {
+    let stop = within(marks, end);
     let mut i = start;
-    while i < end {
+    while i < stop {
         mark_if(marks, i, true);
         i += 1;
     }
 }
 
-// Marks the offsets below n that are marked in another area.
+// Marks the offsets below n that are marked in another area; those past either area are left out.
 pub fn mark_marked(marks: &mut [u8], n: usize, other: &[u8])
-    requires { ⌜ (marksFor inUse n ≤ length (now marks)) × (marksFor inUse n ≤ length (now other)) ⌝ }
     ensures { λ r. ⌜ now (marks .exit) ≡ markAll inUse (markedBelow inUse n (now (other .entry))) (now (marks .entry)) ⌝ }
 {
+    let stop = within(other, within(marks, n));
     let mut i = 0;
-    while i < n {
+    while i < stop {
         mark_if(marks, i, is_marked(other, i));
         i += 1;
     }
 }
 
-// Whether every offset below n is marked.
+// Whether every offset below n is marked; one past the area is not.
 pub fn all_marked(marks: &[u8], n: usize) -> bool
-    requires { ⌜ marksFor inUse n ≤ length (now marks) ⌝ }
     ensures { λ r. ⌜ r ≡ allMarked inUse n (now (marks .entry)) ⌝ }
 {
+    if within(marks, n) < n {
+        return false;
+    }
     let mut i = 0;
     while i < n {
         if !is_marked(marks, i) {

@@ -1,19 +1,20 @@
 -- Laws of numbers as bytes, compared one after the other.
 -- Assumes nothing.
-use mathlib.Core.Path.{_≡_, ap, ap₂, sym, _∙_}
+use mathlib.Core.Path.{_≡_, refl, ap, ap₂, sym, _∙_}
 use mathlib.Core.Bool.{Bool, true, false, _&&_}
 use mathlib.Core.List.{List, _∷_}
 use Prim.Native.Nat.{ℕ, _+_, _*_, _≤_, _<_}
 use native.Mathlib.Numerals.{add-one}
 use native.Mathlib.Omega.{arith}
-use lib.Dec.{eqb}
+use lib.Dec.{eqb, leb}
 use lib.ListN.{length, getD, take, drop, drop-of-length-le}
 use lib.Seq.{drop-cons, getD-take, length-take-le}
-use borrow.Author.Tests.{eq-eqb, ne-eqb, le-leb}
+use borrow.Author.Tests.{eq-eqb, ne-eqb, leb-false}
 use Rattle.wire.specs.Number.{le}
 use Rattle.network_header.specs.Numbers.{agree, sameNumbers}
 use Rattle.wire.specs.Answer.{item, got, refused}
 use Rattle.wire.proofs.Reading.{got-value, not-got}
+use Rattle.wire.proofs.Facts.{none-past}
 
 module _ (numbers bytes : List ℕ) (n i : ℕ) (l : n ≤ length numbers) (h : i < n) where
   step : agree (drop i (take n numbers)) bytes (2 * i) ≡ (eqb (le 2 bytes (2 * i)) (getD numbers i 0) && agree (drop (i + 1) (take n numbers)) bytes (2 * (i + 1)))
@@ -48,9 +49,20 @@ module _ (bytes xs : List ℕ) where
   unfolding sameNumbers
   same-all h = rw (eq-eqb (length bytes) (2 * length xs) h)
 
--- a size that is there is the number of its two bytes
-pub size-is : (s : List ℕ) (at v n : ℕ) → at + 2 ≤ length s → item 2 s at ≡ got v n → v ≡ le 2 s at
-size-is s at v n h e = sym (got-value (rw (le-leb (at + 2) (length s) h) at e))
+-- an item of 2 bytes that is there is their number; of one that is cut short the second byte counts as 0
+pub two-there : (s : List ℕ) (at v n : ℕ) → item 2 s at ≡ got v n → v ≡ le 2 s at
+two-there s at v n e = go (leb (at + 2) (length s)) refl
+  where
+    go : (b : Bool) → leb (at + 2) (length s) ≡ b → v ≡ le 2 s at
+    go true t = sym (got-value (rw t at e))
+    go false t = absurd (not-got (rw t at e))
 
-pub size-there : (s : List ℕ) (at n p : ℕ) → at + 2 ≤ length s → item 2 s at ≡ refused n p → ⊥
-size-there s at n p h e = not-got (sym (rw (le-leb (at + 2) (length s) h) at e))
+pub two-short : (s : List ℕ) (at n p : ℕ) → item 2 s at ≡ refused n p → getD s at 0 ≡ le 2 s at
+two-short s at n p e = go (leb (at + 2) (length s)) refl
+  where
+    go : (b : Bool) → leb (at + 2) (length s) ≡ b → getD s at 0 ≡ le 2 s at
+    go true t = absurd (not-got (sym (rw t at e)))
+    go false t =
+        let l : length s < at + 2 = leb-false (at + 2) (length s) t in
+        let z : getD s (at + 1) 0 ≡ 0 = none-past s (at + 1) (omega arith) in
+        omega arith

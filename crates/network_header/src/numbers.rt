@@ -3,19 +3,28 @@ use wire::Item16;
 use wire::constants::MOST_WRITERS;
 ghost use mathlib.Core.Path.{_≡_};
 ghost use Prim.Native.Nat.{_+_, _*_, _≤_};
-ghost use lib.ListN.{length, take};
+ghost use lib.ListN.{length, getD, take};
 ghost use Rattle.wire.specs.Number.{le};
 ghost use Rattle.network_header.specs.Numbers.{agree, sameNumbers, configuredSizes};
 ghost use Rattle.wire.specs.Constants.{MOST_WRITERS};
 
-// The number of the two bytes at a position.
+// The byte at a position, 0 where there is none.
+fn byte_at(bytes: &[u8], at: usize) -> u8
+    ensures { λ r. ⌜ r ≡ getD (now (bytes .entry)) at 0 ⌝ }
+{
+    if bytes.len() <= at {
+        return 0;
+    }
+    bytes[at]
+}
+
+// The number of the two bytes at a position; a byte that is not there counts as 0.
 pub fn number_at(bytes: &[u8], at: usize) -> usize
-    requires { ⌜ at + 2 ≤ length (now bytes) ⌝ }
     ensures { λ r. ⌜ (r ≡ le 2 (now (bytes .entry)) at) × (r ≤ 65535) ⌝ }
 {
     match wire::read16(bytes, at) {
         Item16::Is(v, _) => v as usize,
-        Item16::Short => 0,
+        Item16::Short => byte_at(bytes, at) as usize,
     }
 }
 

@@ -8,8 +8,8 @@ use native.Mathlib.Nat.{not-suc-le-zero}
 use native.Mathlib.Numerals.{sub-one, add-one}
 use native.Mathlib.Omega.{arith}
 use lib.Dec.{ltb}
-use lib.ListN.{length, take, getD}
-use lib.Seq.{take-suc}
+use lib.ListN.{length, take, drop, getD}
+use lib.Seq.{take-suc, getD-drop}
 use Rattle.wire.specs.Lists.{total}
 use Rattle.network_message.specs.Payload.{allPositive, listed}
 use Rattle.wire.specs.Number.{le}
@@ -22,6 +22,22 @@ listed-step (suc n) s p h = rw sub-one
 pub listed-done : (left : ℕ) (s : List ℕ) (p : ℕ) → left ≤ 0 → listed left s p ≡ []
 listed-done zero s p h = refl
 listed-done (suc n) s p h = absurd (not-suc-le-zero h)
+
+-- the sizes of a list that begins at a position are those that stand from there on
+le-tail : (w : ℕ) (s : List ℕ) (at p : ℕ) → le w (drop at s) p ≡ le w s (at + p)
+le-tail zero s at p = refl
+le-tail (suc w) s at p =
+    let e : at + (p + 1) ≡ at + p + 1 = omega arith in
+    rw (getD-drop at s p 0, le-tail w s at (p + 1), e)
+
+listed-after : (n : ℕ) (s : List ℕ) (at p : ℕ) → listed n (drop at s) p ≡ listed n s (at + p)
+listed-after zero s at p = refl
+listed-after (suc n) s at p =
+    let e : at + (p + 2) ≡ at + p + 2 = omega arith in
+    rw (le-tail 2 s at p, listed-after n s at (p + 2), e)
+
+pub listed-tail : (n : ℕ) (s t : List ℕ) (at : ℕ) → t ≡ drop at s → listed n t 0 ≡ listed n s at
+listed-tail n s t at e = ap (λ (x : List ℕ). listed n x 0) e ∙ listed-after n s at 0 ∙ ap (listed n s) (omega arith)
 
 total-append : (xs ys : List ℕ) → total (xs ++ ys) ≡ total xs + total ys
 total-append [] ys = omega arith

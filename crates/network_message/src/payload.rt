@@ -8,6 +8,7 @@ use wire::constants::CUT_SHORT;
 use wire::constants::DISAGREE;
 use wire::constants::NOT_CONFIGURED;
 use wire::constants::OVER_LIMIT;
+use wire::part::tail;
 ghost use mathlib.Core.Path.{_≡_};
 ghost use Prim.Native.Nat.{_+_, _*_, _≤_};
 ghost use lib.ListN.{length, take, getD};
@@ -44,19 +45,18 @@ pub struct Tally {
     pub positive: bool,
 }
 
-// The sum of the n sizes that stand from a position on, and whether each is at least 1.
-pub fn tally_listed(s: &[u8], at: usize, n: usize) -> Tally
-    requires { ⌜ (at + 2 * n ≤ length (now s)) × (n ≤ 255) ⌝ }
+// The sum of the n sizes that a list begins with, and whether each is at least 1; a byte that is not there counts as 0.
+pub fn tally_listed(list: &[u8], n: u8) -> Tally
     ensures { λ r.
-        let sizes = listed n (now (s .entry)) at in
+        let sizes = listed n (now (list .entry)) 0 in
         ⌜ (r .total ≡ total sizes) × (r .positive ≡ allPositive sizes) × (r .total ≤ 65535 * n) ⌝ }
 {
-    let mut p = at;
-    let mut left = n;
+    let mut p = 0;
+    let mut left = n as usize;
     let mut sum = 0;
     let mut each = true;
     while 0 < left {
-        let size = number_at(s, p);
+        let size = number_at(list, p);
         sum = sum + size;
         each = each & (0 < size);
         p = p + 2;
@@ -111,7 +111,7 @@ fn listed_sizes(s: &[u8], n: u8, at: usize) -> PayloadRead
     if !wire::has(s.len(), at, 2 * count) {
         return PayloadRead::Refused(CUT_SHORT, at);
     }
-    let tally = tally_listed(s, at, count);
+    let tally = tally_listed(tail(s, at), n);
     if !tally.positive {
         return PayloadRead::Refused(DISAGREE, at);
     }

@@ -122,7 +122,7 @@ fn listed_refusal(n: u8, lengths: &[u8], rest: usize) -> u8
     if lengths.len() != 2 * count {
         return DISAGREE;
     }
-    let tally = tally_listed(lengths, 0, count);
+    let tally = tally_listed(lengths, n);
     if !tally.positive {
         return DISAGREE;
     }

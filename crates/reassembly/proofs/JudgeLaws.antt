@@ -216,9 +216,6 @@ module _ (s : Partial) (m : Message) (at : ℕ) (d : List ℕ) where
         let h : at + length d ≤ length (s .payload) = omega (arith, o .fits) in
         (h, sound-marks s ok _ h)
 
-    pub taken-marks : (n : List ℕ) → n ≡ begunMarks (s .rec) (s .marks) → (at ≤ at + length d) × (marksFor (s .layout) (at + length d) ≤ length n)
-    taken-marks n q = (omega arith, rw (length-begun (s .rec) (s .marks) n q) (taken-room .1))
-
     pub taken : (v : Verdict) (k : PartialRecord) (p z n : List ℕ) → v ≡ Done → k ≡ begun (s .rec) m → p ≡ overlaid (dataView at d) (s .payload) → n ≡ begunMarks (s .rec) (s .marks)
         → z ≡ markAll (s .layout) (inRange at (at + length d)) n → record { verdict = v; after = record { rec = k; layout = s .layout; payload = p; marks = z } } ≡ takeIn s (chunk m at d)
     unfolding put
@@ -291,10 +288,6 @@ module _ (s f : Partial) where
         let a = judge-fits (length (s .payload)) (stateOf s) (identityOf (f .rec .message)) (viewOf f) (combine-met e h) in
         let t = sound-total f (combine-source-sound e) h in
         (a, sound-marks s (combine-sound e) _ a, t, sound-marks f (combine-source-sound e) _ t)
-
-    pub combined-marks : (n : List ℕ) → n ≡ begunMarks (s .rec) (s .marks) → (marksFor (s .layout) (f .rec .message .total) ≤ length n)
-        × (marksFor (f .layout) (f .rec .message .total) ≤ length (f .marks))
-    combined-marks n q = (rw (length-begun (s .rec) (s .marks) n q) (combined-room .1), combined-room .3)
 
     pub combined : (v : Verdict) (k : PartialRecord) (p m n : List ℕ) → v ≡ Done → k ≡ begun (s .rec) (f .rec .message) → p ≡ overlaid (viewOf f) (s .payload) → n ≡ begunMarks (s .rec) (s .marks)
         → m ≡ markAll (s .layout) (markedBelow (f .layout) (f .rec .message .total) (f .marks)) n

@@ -7,8 +7,8 @@ use denote.Ref.{now}
 use borrow.Author.Needs.{needs}
 use borrow.Author.Tests.{not-true, not-false}
 use borrow.Author.Count.{below-more}
-use Rattle.marks.specs.Marks.{inUse, marked}
-use Rattle.marks.proofs.MarkLaws.{marks-room, all-marked-yes, all-marked-no}
+use Rattle.marks.specs.Marks.{inUse, capacity, marked}
+use Rattle.marks.proofs.MarkLaws.{marked-none, all-marked-yes, all-marked-no}
 use Rattle.marks.proofs.all_marked.Statement.{statement}
 use Rattle.marks.proofs.all_marked.Tie as tie
 
@@ -18,35 +18,40 @@ Inv-loop marks n i₀ i = (i ≤ n) × ((k : ℕ) → k < i → marked inUse mar
 abbrev μ-loop : tie.MeasureT-loop
 μ-loop marks n i₀ i = n - i
 
+-- an area that is too short has no mark at its end
+returns : tie.Need-returns Inv-loop μ-loop
+returns c =
+    let at-within = c .before in
+    let a = at-within .before .before .args in
+    let m = now (a .marks) in
+    let full = at-within .within .ensures .2 (omega arith) in
+    sym (all-marked-no inUse (a .n) m (capacity inUse m) (omega arith) (marked-none inUse m (capacity inUse m) (omega arith)))
+
 loop-holds : tie.Need-loop-holds Inv-loop μ-loop
 loop-holds c = (omega arith, λ k h. absurd (omega arith))
 
 is-marked-requires : tie.Need-is-marked-requires Inv-loop μ-loop
 is-marked-requires c κs =
-    let at-loop = c .before in
-    let args = at-loop .before .before .args in
-    let a = args in marks-room inUse (a .n) (at-loop .loop .i) (now (a .marks)) (omega arith) (omega arith)
+    let room = c .before .before .before .within .ensures .1 in omega arith
 
-returns : tie.Need-returns Inv-loop μ-loop
-returns c =
+returns-2 : tie.Need-returns-2 Inv-loop μ-loop
+returns-2 c =
     let at-is-marked = c .before in
     let at-loop = at-is-marked .before .before in
-    let args = at-loop .before .before .args in
-    let a = args in
-    sym (all-marked-no inUse (a .n) (now (a .marks)) (at-loop .loop .i) (omega arith) (sym (at-is-marked .is-marked .ensures) ∙ not-true _ (c .if1 .taken)))
+    let a = at-loop .before .before .before .before .args in
+    sym (all-marked-no inUse (a .n) (now (a .marks)) (at-loop .loop .i) (omega arith) (sym (at-is-marked .is-marked .ensures) ∙ not-true _ (c .if2 .taken)))
 
 loop-again : tie.Need-loop-again Inv-loop μ-loop
 loop-again c =
     let at-is-marked = c .before in
     let at-loop = at-is-marked .before .before in
     let l = at-loop .loop in
-    (omega arith, below-more _ (l .i) (l .inv .1) (sym (at-is-marked .is-marked .ensures) ∙ not-false _ (c .if1 .left)))
+    (omega arith, below-more _ (l .i) (l .inv .1) (sym (at-is-marked .is-marked .ensures) ∙ not-false _ (c .if2 .left)))
 
-returns-2 : tie.Need-returns-2 Inv-loop μ-loop
-returns-2 c =
+returns-3 : tie.Need-returns-3 Inv-loop μ-loop
+returns-3 c =
     let at-loop = c .before in
-    let args = at-loop .before .before .args in
-    let a = args in
+    let a = at-loop .before .before .before .before .args in
     sym (all-marked-yes inUse (a .n) (now (a .marks)) (λ k h. at-loop .loop .inv .1 k (omega arith)))
 
 pub all-marked-spec : {M : Type 1} → statement M
@@ -55,10 +60,12 @@ all-marked-spec =
     (tie.spec
     Inv-loop
     μ-loop
+    (λ c κs. search needs)
+    returns
     loop-holds
     is-marked-requires
-    returns
+    returns-2
     (λ c. search needs)
     (λ c. search needs)
     loop-again
-    returns-2)
+    returns-3)

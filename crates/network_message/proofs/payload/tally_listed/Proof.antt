@@ -18,30 +18,28 @@ use Rattle.network_message.proofs.payload.tally_listed.Statement.{state
 use Rattle.network_message.proofs.payload.tally_listed.Tie as tie
 
 abbrev Inv-loop : tie.InvT-loop
-Inv-loop s at n p₀ left₀ sum₀ each₀ p left sum each =
-    (left ≤ n) × (p + 2 * left ≡ at + 2 * n) × (at + 2 * n ≤ length s) × (n ≤ 255) × (sum + total (listed left s p) ≡ total (listed n s at))
-    × ((each && allPositive (listed left s p)) ≡ allPositive (listed n s at)) × (sum + 65535 * left ≤ 65535 * n)
+Inv-loop s n p₀ left₀ sum₀ each₀ p left sum each =
+    (left ≤ n) × (p + 2 * left ≡ 2 * n) × (sum + total (listed left s p) ≡ total (listed n s 0))
+    × ((each && allPositive (listed left s p)) ≡ allPositive (listed n s 0)) × (sum + 65535 * left ≤ 65535 * n)
 
 abbrev μ-loop : tie.MeasureT-loop
-μ-loop s at n p₀ left₀ sum₀ each₀ p left sum each = left
+μ-loop s n p₀ left₀ sum₀ each₀ p left sum each = left
 
 loop-holds : tie.Need-loop-holds Inv-loop μ-loop
 loop-holds c =
-    (le-refl _, refl, c .before .pre .0, c .before .pre .1, omega arith, refl, omega arith)
+    (le-refl _, omega arith, omega arith, refl, omega arith)
 
 loop-again : tie.Need-loop-again Inv-loop μ-loop
 loop-again c =
     let at-loop-test = c .before in
     let at-loop = at-loop-test .before in
     let args = at-loop .before .before .args in
-    let s = now (args .s) in let l = at-loop .loop in let e = listed-step (l .left) s (l .p) (at-loop-test .loop-test .taken) in let z = c .number-at .result in (
+    let s = now (args .list) in let l = at-loop .loop in let e = listed-step (l .left) s (l .p) (at-loop-test .loop-test .taken) in let z = c .number-at .result in (
       omega arith,
       omega arith,
-      omega arith,
-      omega arith,
-      omega (arith, ap total e, c .number-at .ensures .0, l .inv .4),
+      omega (arith, ap total e, c .number-at .ensures .0, l .inv .2),
       ap (λ (k : ℕ). (l .each && ltb 0 k) && allPositive (listed (l .left - 1) s (l .p + 2))) (c .number-at .ensures .0)
-          ∙ and-assoc (l .each) (ltb 0 (le 2 s (l .p))) (allPositive (listed (l .left - 1) s (l .p + 2))) ∙ ap (λ (x : List ℕ). l .each && allPositive x) (sym e) ∙ l .inv .5,
+          ∙ and-assoc (l .each) (ltb 0 (le 2 s (l .p))) (allPositive (listed (l .left - 1) s (l .p + 2))) ∙ ap (λ (x : List ℕ). l .each && allPositive x) (sym e) ∙ l .inv .3,
       omega arith,
     )
 
@@ -49,8 +47,8 @@ returns : tie.Need-returns Inv-loop μ-loop
 returns c =
     let at-loop = c .before in
     let args = at-loop .before .before .args in
-    let s = now (args .s) in let l = at-loop .loop in let e = listed-done (l .left) s (l .p) (c .loop-test .left) in
-    (omega (arith, ap total e, l .inv .4), sym (and-true (l .each)) ∙ ap (λ (x : List ℕ). l .each && allPositive x) (sym e) ∙ l .inv .5, omega arith)
+    let s = now (args .list) in let l = at-loop .loop in let e = listed-done (l .left) s (l .p) (c .loop-test .left) in
+    (omega (arith, ap total e, l .inv .2), sym (and-true (l .each)) ∙ ap (λ (x : List ℕ). l .each && allPositive x) (sym e) ∙ l .inv .3, omega arith)
 
 pub tally-listed-spec : {M : Type 1} → statement M
 tally-listed-spec =

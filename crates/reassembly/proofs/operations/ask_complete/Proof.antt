@@ -6,7 +6,7 @@ use borrow.Author.Tests.{not-true, not-false}
 use borrow.Author.Needs.{needs}
 use Rattle.reassembly.specs.Record.{partial}
 use Rattle.reassembly.specs.Calls.{saidOf}
-use Rattle.reassembly.proofs.JudgeLaws.{sound-total, sound-marks, ask-unsound, ask-idle, ask-held}
+use Rattle.reassembly.proofs.JudgeLaws.{ask-unsound, ask-idle, ask-held}
 use Rattle.reassembly.proofs.operations.ask_complete.Statement.{statement}
 use Rattle.reassembly.proofs.operations.ask_complete.Tie as tie
 
@@ -24,17 +24,6 @@ returns-2 c =
     let args = at-is-sound .before .before .before .args in
     let a = args in
     ap saidOf (sym (ask-idle (partial (a .rec) (now (a .payload)) (now (a .marks))) (sym (at-is-sound .is-sound .ensures) ∙ not-false _ (at-if1 .if1 .left)) (not-true _ (c .if2 .taken))))
-
-all-marked-requires : tie.Need-all-marked-requires
-all-marked-requires c κs =
-    let at-if2 = c .before in
-    let at-if1 = at-if2 .before .before in
-    let at-is-sound = at-if1 .before in
-    let args = at-is-sound .before .before .before .args in
-    let a = args in
-    let ok = sym (at-is-sound .is-sound .ensures) ∙ not-false _ (at-if1 .if1 .left) in
-    let s = partial (a .rec) (now (a .payload)) (now (a .marks)) in
-    sound-marks s ok (a .rec .message .total) (sound-total s ok (not-false _ (at-if2 .if2 .left)))
 
 returns-3 : tie.Need-returns-3
 returns-3 c =
@@ -61,4 +50,4 @@ returns-4 c =
 pub ask-complete-spec : {M : Type 1} → statement M
 ask-complete-spec =
     tie.close
-    (tie.spec (λ c κs. search needs) returns returns-2 all-marked-requires returns-3 returns-4)
+    (tie.spec (λ c κs. search needs) returns returns-2 (λ c κs. search needs) returns-3 returns-4)

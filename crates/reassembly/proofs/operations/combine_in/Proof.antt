@@ -6,7 +6,7 @@ use Rattle.reassembly.proofs.CallLaws.{joined}
 use borrow.Author.Needs.{needs}
 use Rattle.reassembly.specs.Record.{partial}
 use Rattle.reassembly.specs.declared.verdict.Verdict.{Verdict}
-use Rattle.reassembly.proofs.JudgeLaws.{combine-refused, combine-done-idle, combined-room, combined-marks, combined}
+use Rattle.reassembly.proofs.JudgeLaws.{combine-refused, combine-done-idle, combined-room, combined}
 use Rattle.reassembly.proofs.operations.combine_in.Statement.{statement}
 use Rattle.reassembly.proofs.operations.combine_in.Tie as tie
 
@@ -43,18 +43,6 @@ store-covered-requires c κs =
     let r = combined-room s f (sym (at-judge-combine .judge-combine .ensures) ∙ at-enum-told2 .enum-told2 .given .1) (not-false _ (at-if1 .if1 .left)) in
     (r .0, r .2, r .3)
 
-mark-marked-requires : tie.Need-mark-marked-requires
-mark-marked-requires c κs =
-    let at-begin = c .before .before .before .before .before .before .before in
-    let at-if1 = at-begin .before .before .before in
-    let at-enum-told2 = at-if1 .before .before in
-    let at-judge-combine = at-enum-told2 .before .before in
-    let args = at-judge-combine .before .before .before .before .before .before .before .args in
-    let a = args in
-    let s = partial (a .rec) (now (a .payload)) (now (a .marks)) in
-    let f = partial (a .source) (now (a .from)) (now (a .from-marks)) in
-    combined-marks s f (sym (at-judge-combine .judge-combine .ensures) ∙ at-enum-told2 .enum-told2 .given .1) (not-false _ (at-if1 .if1 .left)) _ (at-begin .begin .ensures .1)
-
 returns-3 : tie.Need-returns-3
 returns-3 c =
     let at-mark-marked = c .before .before in
@@ -86,7 +74,7 @@ combine-in-spec =
     returns-2
     (λ c κs. search needs)
     store-covered-requires
-    mark-marked-requires
+    (λ c κs. search needs)
     (λ c. search needs)
     (λ c. search needs)
     returns-3)

@@ -1,6 +1,6 @@
 -- `reassembly::operations::take_chunk` meets its contract.
 -- Assumes nothing.
-use Rattle.reassembly.proofs.JudgeLaws.{take-refused, taken-room, taken-marks, taken}
+use Rattle.reassembly.proofs.JudgeLaws.{take-refused, taken-room, taken}
 use Rattle.reassembly.specs.declared.verdict.Verdict.{Verdict}
 use Rattle.reassembly.specs.Reading.Reading.{chunk}
 use Rattle.reassembly.specs.Record.{partial}
@@ -40,16 +40,6 @@ store-data-requires c κs =
     taken-room (partial (a .rec) (now (a .payload)) (now (a .marks))) (a .m) (a .offset) (now (a .bytes)) (at-pre .pre .1)
     (sym (at-judge-chunk .judge-chunk .ensures) ∙ at-enum-told2 .enum-told2 .given .1) .0
 
-mark-range-requires : tie.Need-mark-range-requires
-mark-range-requires c κs =
-    let at-begin = c .before .before .before .before .before .before .before in
-    let at-enum-told2 = at-begin .before .before in
-    let at-judge-chunk = at-enum-told2 .before .before in
-    let at-pre = at-judge-chunk .before .before .before .before .before .before in
-    let a = at-pre .args in
-    taken-marks (partial (a .rec) (now (a .payload)) (now (a .marks))) (a .m) (a .offset) (now (a .bytes)) (at-pre .pre .1)
-    (sym (at-judge-chunk .judge-chunk .ensures) ∙ at-enum-told2 .enum-told2 .given .1) _ (at-begin .begin .ensures .1)
-
 returns-2 : tie.Need-returns-2
 returns-2 c =
     let at-mark-range = c .before .before in
@@ -76,7 +66,7 @@ take-chunk-spec =
     add-end
     (λ c κs. search needs)
     store-data-requires
-    mark-range-requires
+    (λ c κs. search needs)
     (λ c. search needs)
     (λ c. search needs)
     returns-2)
