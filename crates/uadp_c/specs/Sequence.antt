@@ -1,15 +1,13 @@
 -- Sequence numbers judged by a lent record (include/uadp.h, `uadp_newness`).
 use Prim.Native.Nat.{ℕ}
 use mathlib.Core.Bool.{cond}
-use mathlib.Core.List.{List, [], _∷_}
+use mathlib.Core.List.{List}
 use lib.Dec.{ltb}
 use lib.ListN.{length}
 use Rattle.records.specs.Sizes.{SEQUENCE_SIZE}
 use Rattle.wire.specs.Constants.{NO_ROOM}
-use Rattle.wire_writer.specs.Store.{laid}
 use Rattle.sequence.specs.Newness.{newnessBy}
 use Rattle.sequence.specs.declared.Newness.{Newness}
-use Rattle.records.specs.Numbers.{numberBytes}
 use Rattle.records.specs.Result.{resultOf}
 use Rattle.records.specs.LastNumber.{lastIn, lastLaid}
 
