@@ -31,7 +31,7 @@ use Rattle.reassembly_laws.specs.Layouts.{SameButMarks, SameCalls, SameHistory,
 use Rattle.records.specs.Sizes.{PARTIAL_SIZE}
 use Rattle.partial_record.specs.Partial.{partialIn, partialBytes, FitsRecord}
 use Rattle.uadp_c.specs.Reassembling.{Lent}
-use Rattle.uadp_c.specs.History.{LentCall, Called, Calls, Ready, LentList, Unchanged}
+use Rattle.uadp_c.specs.History.{LentCall, Called, AllCalled, Ready, LentList, Unchanged}
 use Rattle.acceptance.specs.Refusals.{Refusal}
 
 -- how many bytes a call reads: places count in the datagram
@@ -89,7 +89,7 @@ pub record Demand3 : Type 0 where
   pub refused-place : (k : Call) (s : Partial) (n place : ℕ) → answers k s ≡ refused n place → Refusal n place (bytesRead k)
   -- ---- THE SAME THROUGH C. From a record of full length that is zeroed or was just emptied, any list of `uadp_` calls answers as the
   -- machine, and the one claim holds of what the lent bytes stand for.
-  pub any-lent-list : (ks : List LentCall) (b : Lent) (ys : List Lent) → Ready b → Calls ks b ys → LentList ks b ys
+  pub any-lent-list : (ks : List LentCall) (b : Lent) (ys : List Lent) → Ready b → AllCalled ks b ys → LentList ks b ys
   -- A refusal, whose number is the result's low byte, leaves every lent byte as it was.
   pub lent-refused : (k : LentCall) (b a : Lent) → Called k b a → (a .result % 256 ≡ 0 → ⊥) → Unchanged b a
   -- What is stored in a record, of any that the code's types can hold, is read back.

@@ -23,7 +23,7 @@ use Rattle.records.specs.Numbers.{numberAt, numberBytes}
 use Rattle.records.proofs.Storing.{bytes-length}
 use Rattle.records.specs.Items.{flagNumber}
 use Rattle.records.specs.Publisher.{publisherBy, publisherNumber}
-use Rattle.partial_record.specs.Partial.{partialIn, partialBytes, FitsId, FitsRecord}
+use Rattle.partial_record.specs.Partial.{partialIn, partialNumbers, partialBytes, FitsId, FitsRecord}
 use Rattle.partial_record.proofs.Parts.{partial-length}
 
 -- ---- numbers that stand at the start of a record
@@ -99,7 +99,7 @@ module _ (k : PartialRecord) (r : List ℕ) (f : FitsRecord k) (h : 112 ≤ leng
   text = k .message .publisher .text
 
   abbrev numbers : List ℕ
-  numbers = flagNumber (k .started) ∷ codeOf id ∷ publisherNumber id ∷ k .message .writer ∷ k .message .number ∷ k .message .total ∷ []
+  numbers = partialNumbers k
 
   abbrev s : List ℕ
   s = laid r 0 (partialBytes k)
@@ -109,9 +109,10 @@ module _ (k : PartialRecord) (r : List ℕ) (f : FitsRecord k) (h : 112 ≤ leng
 
   read : (i : ℕ) → i < 6 → numberAt s i ≡ getD numbers i 0
   read i l =
-      let w : k .message .writer < 256 ^ 8 = omega (arith, f .writer) in
-      let n : k .message .number < 256 ^ 8 = omega (arith, f .number) in
-      let fit : AllFit numbers = (flag-fits (k .started), (code-fits id, (number-fits id (f .id), (w, (n, (f .total, tt)))))) in
+      let fit : AllFit numbers = (
+        flag-fits (k .started),
+        (code-fits id, (number-fits id (f .id), (omega (arith, f .writer, f .number), (omega (arith, f .writer, f .number), (f .total, tt))))),
+      ) in
       let z : 0 + i ≡ i = omega arith in
       ap (numberAt s) (sym z) ∙ number-read numbers 0 s (first s 0 (numberBytes numbers) text at) fit i l
 

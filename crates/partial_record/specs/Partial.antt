@@ -29,13 +29,15 @@ messageIn s =
 abbrev pub partialIn : List ℕ → PartialRecord
 partialIn s = record { started = eqb (numberAt s 0) 1; message = messageIn s }
 
+-- the record's numbers, from 0
+abbrev pub partialNumbers : PartialRecord → List ℕ
+partialNumbers r =
+    flagNumber (r .started) ∷ codeOf (r .message .publisher .id) ∷ publisherNumber (r .message .publisher .id) ∷ r .message .writer
+    ∷ r .message .number ∷ r .message .total ∷ []
+
 -- the record's bytes
 abbrev pub partialBytes : PartialRecord → List ℕ
-partialBytes r =
-    numberBytes
-    (flagNumber (r .started) ∷ codeOf (r .message .publisher .id) ∷ publisherNumber (r .message .publisher .id) ∷ r .message .writer
-    ∷ r .message .number ∷ r .message .total ∷ [])
-    ++ r .message .publisher .text
+partialBytes r = numberBytes (partialNumbers r) ++ r .message .publisher .text
 
 -- each number of a record fits its type, and its text has 64 bytes, as a value of the code has
 

@@ -94,7 +94,7 @@ abbrev pub isComplete : State → Bool
 isComplete idle = false
 isComplete (held m v) = full (m .total) v
 
--- by which number and place it refuses a call; a source that is not sound is 12, and handing out what is not complete 15
+-- by which number and place it refuses a call: 12 for a source that is not sound, 15 for handing out what is not complete
 abbrev pub verdictOf : ℕ → Call → State → Verdict
 verdictOf n Empty s = Done
 verdictOf n (Take d sizes) s = readingVerdict n s (readingAt sizes d)
@@ -133,7 +133,7 @@ keeps n (Combine f) s = ifAccepted (verdictOf n (Combine f) s) s (accept s (brin
 keeps n Ask s = s
 keeps n HandOut s = s
 
--- ---- "any list of calls"
+-- ---- a list of calls
 abbrev pub machineReplies : ℕ → List Call → State → List Reply
 machineReplies n [] s = []
 machineReplies n (k ∷ ks) s = says n k s ∷ machineReplies n ks (keeps n k s)
@@ -174,7 +174,7 @@ pub record Of (p : List ℕ) (b : Delivery) : Type 0 where
   pub long : length p ≡ b .message .total
   pub there : (i x : ℕ) → b .bytes i ≡ some x → getD p i 0 ≡ x
 
--- "all that brought bytes .. are of one payload"; one that brought none is not asked
+-- all that brought bytes are of one payload; one that brought none is not asked
 abbrev pub AllOf : List ℕ → List Delivery → Type 0
 AllOf p [] = Unit {0}
 AllOf p (b ∷ l) = ((i x : ℕ) → b .bytes i ≡ some x → Of p b) × AllOf p l

@@ -97,33 +97,33 @@ module _ (s t : Partial) (same : SameButMarks s t) where
 -- ---- one call
 -- the machine takes both for the same
 same-says : (n : ℕ) (k l : Call) (x : State) → SameCall k l → says n k x ≡ says n l x
-same-says n _ _ x SameCall.empty = refl
-same-says n _ _ x (SameCall.take d z) = refl
-same-says n _ _ x (SameCall.combine f g o) = rw (o .sound, same-state f g o)
-same-says n _ _ x SameCall.ask = refl
-same-says n _ _ x SameCall.hand-out = refl
+same-says n _ _ x SameCall.same-empty = refl
+same-says n _ _ x (SameCall.same-take d z) = refl
+same-says n _ _ x (SameCall.same-combine f g o) = rw (o .sound, same-state f g o)
+same-says n _ _ x SameCall.same-ask = refl
+same-says n _ _ x SameCall.same-hand-out = refl
 
 same-keeps : (n : ℕ) (k l : Call) (x : State) → SameCall k l → keeps n k x ≡ keeps n l x
-same-keeps n _ _ x SameCall.empty = refl
-same-keeps n _ _ x (SameCall.take d z) = refl
-same-keeps n _ _ x (SameCall.combine f g o) = rw (o .sound, same-state f g o)
-same-keeps n _ _ x SameCall.ask = refl
-same-keeps n _ _ x SameCall.hand-out = refl
+same-keeps n _ _ x SameCall.same-empty = refl
+same-keeps n _ _ x (SameCall.same-take d z) = refl
+same-keeps n _ _ x (SameCall.same-combine f g o) = rw (o .sound, same-state f g o)
+same-keeps n _ _ x SameCall.same-ask = refl
+same-keeps n _ _ x SameCall.same-hand-out = refl
 
 module _ (s t : Partial) (same : SameButMarks s t) where
   leaves-rec : (k l : Call) → SameCall k l → leaves k s .rec ≡ leaves l t .rec
-  leaves-rec _ _ SameCall.empty = ap emptied (same .rec)
-  leaves-rec _ _ (SameCall.take d z) = same-take s t same (readingAt z d) .rec
-  leaves-rec _ _ (SameCall.combine f g o) = same-combine s t same f g o .rec
-  leaves-rec _ _ SameCall.ask = same .rec
-  leaves-rec _ _ SameCall.hand-out = same .rec
+  leaves-rec _ _ SameCall.same-empty = ap emptied (same .rec)
+  leaves-rec _ _ (SameCall.same-take d z) = same-take s t same (readingAt z d) .rec
+  leaves-rec _ _ (SameCall.same-combine f g o) = same-combine s t same f g o .rec
+  leaves-rec _ _ SameCall.same-ask = same .rec
+  leaves-rec _ _ SameCall.same-hand-out = same .rec
 
   leaves-payload : (k l : Call) → SameCall k l → leaves k s .payload ≡ leaves l t .payload
-  leaves-payload _ _ SameCall.empty = same .payload
-  leaves-payload _ _ (SameCall.take d z) = same-take s t same (readingAt z d) .payload
-  leaves-payload _ _ (SameCall.combine f g o) = same-combine s t same f g o .payload
-  leaves-payload _ _ SameCall.ask = same .payload
-  leaves-payload _ _ SameCall.hand-out = same .payload
+  leaves-payload _ _ SameCall.same-empty = same .payload
+  leaves-payload _ _ (SameCall.same-take d z) = same-take s t same (readingAt z d) .payload
+  leaves-payload _ _ (SameCall.same-combine f g o) = same-combine s t same f g o .payload
+  leaves-payload _ _ SameCall.same-ask = same .payload
+  leaves-payload _ _ SameCall.same-hand-out = same .payload
 
   module _ (ok : Good s) (ok′ : Good t) (k l : Call) (c : SameCall k l) where
     same-room : length (s .payload) ≡ length (t .payload)

@@ -20,11 +20,11 @@ pub record SameButMarks (a b : Partial) : Type 0 where
 
 -- two calls are the same but for the form of a source's marks
 pub data SameCall : Call → Call → Type 0 where
-  empty : SameCall Empty Empty
-  take : (d sizes : List ℕ) → SameCall (Take d sizes) (Take d sizes)
-  combine : (f g : Partial) → SameButMarks f g → SameCall (Combine f) (Combine g)
-  ask : SameCall Ask Ask
-  hand-out : SameCall HandOut HandOut
+  same-empty : SameCall Empty Empty
+  same-take : (d sizes : List ℕ) → SameCall (Take d sizes) (Take d sizes)
+  same-combine : (f g : Partial) → SameButMarks f g → SameCall (Combine f) (Combine g)
+  same-ask : SameCall Ask Ask
+  same-hand-out : SameCall HandOut HandOut
 
 pub data SameCalls : List Call → List Call → Type 0 where
   none : SameCalls [] []

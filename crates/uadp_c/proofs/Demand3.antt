@@ -33,7 +33,7 @@ use Rattle.records.specs.Numbers.{numberAt}
 use Rattle.records.specs.Writers.{sizesIn}
 use Rattle.partial_record.specs.Partial.{partialIn, partialBytes}
 use Rattle.uadp_c.specs.Reassembling.{sourceOf, Lent, lent, Steps, recordBy, stepIn, verdictResult, completeResult, handResult}
-use Rattle.uadp_c.specs.History.{LentCall, callOf, heldIn, Called, Calls, callsOf, Tells, AllTell, lastOf, Unchanged, Ready, LentList}
+use Rattle.uadp_c.specs.History.{LentCall, callOf, heldIn, Called, AllCalled, callsOf, Tells, AllTell, lastOf, Unchanged, Ready, LentList}
 use Rattle.uadp_c.proofs.Emptied.{emptied-is}
 
 -- ---- a record keeps its length
@@ -95,7 +95,7 @@ module _ (b a : Lent) (h : 112 ≤ length (b .rec)) where
   one (LentCall.Combine r p m) w =
       let s = stepped (combine (heldIn b) (sourceOf r p m)) w in
       record { result = s .0; left = w .reads h; long = s .1 }
-  one LentCall.Complete w =
+  one LentCall.Ask w =
       let q : a ≡ lent (completeResult (askComplete (heldIn b))) (b .rec) (b .payload) (b .marks) = rw (le-ltb (length (b .rec)) 112 h) at w in
       record { result = complete-tells a (askComplete (heldIn b)) (ap (λ (x : Lent). x .result) q); left = ap heldIn q; long = omega (arith, ap (λ (x : Lent). length (x .rec)) q) }
   one LentCall.HandOut w =
@@ -112,7 +112,7 @@ record All (ks : List LentCall) (b : Lent) (ys : List Lent) : Type 0 where
   results : AllTell ys (replies (callsOf ks) (heldIn b))
   left : heldIn (lastOf b ys) ≡ final (callsOf ks) (heldIn b)
 
-all : (ks : List LentCall) (b : Lent) (ys : List Lent) → 112 ≤ length (b .rec) → Calls ks b ys → All ks b ys
+all : (ks : List LentCall) (b : Lent) (ys : List Lent) → 112 ≤ length (b .rec) → AllCalled ks b ys → All ks b ys
 all [] b [] h w = record { results = tt; left = refl }
 all [] b (a ∷ ys) h w = absurd w
 all (k ∷ ks) b [] h w = absurd w
@@ -153,7 +153,7 @@ unfolding soundBy
 ready-good b w = record { is-sound = rw (eq-eqb (marksFor inUse (length (b .payload))) (length (b .marks)) (w .areas), not-started b w) }
 
 -- ---- ANY LIST OF CALLS on a lent partial: the plain machine's replies, and what it keeps
-pub lent-list : (ks : List LentCall) (b : Lent) (ys : List Lent) → Ready b → Calls ks b ys → LentList ks b ys
+pub lent-list : (ks : List LentCall) (b : Lent) (ys : List Lent) → Ready b → AllCalled ks b ys → LentList ks b ys
 lent-list ks b ys ready w =
     let r = all ks b ys (ready .long) w in
     let m = machine.any-list (callsOf ks) (heldIn b) (ready-good b ready) (not-started b ready) in
@@ -183,5 +183,5 @@ pub lent-refused : (k : LentCall) (b a : Lent) → Called k b a → (a .result %
 lent-refused LentCall.Empty b a w bad = absurd (bad (ap (λ (y : Lent). y .result % 256) w))
 lent-refused (LentCall.Take d c) b a w bad = step-refused b a _ (machine.refused-take (heldIn b) (readingAt (sizesIn c) d)) (w .bytes) bad
 lent-refused (LentCall.Combine r p m) b a w bad = step-refused b a _ (machine.refused-combine (heldIn b) (sourceOf r p m)) (w .bytes) bad
-lent-refused LentCall.Complete b a w bad = as-before b a _ w
+lent-refused LentCall.Ask b a w bad = as-before b a _ w
 lent-refused LentCall.HandOut b a w bad = as-before b a _ w

@@ -24,7 +24,7 @@ pub data LentCall : Type 0 where
   Empty : LentCall
   Take : List ℕ → List ℕ → LentCall
   Combine : List ℕ → List ℕ → List ℕ → LentCall
-  Complete : LentCall
+  Ask : LentCall
   HandOut : LentCall
 
 -- the machine's call
@@ -32,7 +32,7 @@ abbrev pub callOf : LentCall → Call
 callOf Empty = Call.Empty
 callOf (Take datagram config) = Call.Take datagram (sizesIn config)
 callOf (Combine r p m) = Call.Combine (sourceOf r p m)
-callOf Complete = Call.Ask
+callOf Ask = Call.Ask
 callOf HandOut = Call.HandOut
 
 -- the machine's reply as a result
@@ -52,15 +52,15 @@ abbrev pub Called : LentCall → Lent → Lent → Type 0
 Called Empty b a = a ≡ lent (resultOf 0 0) (emptiedRecord (b .rec)) (b .payload) (b .marks)
 Called (Take datagram config) b a = Steps (b .rec) (b .payload) (b .marks) (takeIn (heldIn b) (readingAt (sizesIn config) datagram)) a
 Called (Combine r p m) b a = Steps (b .rec) (b .payload) (b .marks) (combine (heldIn b) (sourceOf r p m)) a
-Called Complete b a = a ≡ lent (completeIn (b .rec) (askComplete (heldIn b))) (b .rec) (b .payload) (b .marks)
+Called Ask b a = a ≡ lent (completeIn (b .rec) (askComplete (heldIn b))) (b .rec) (b .payload) (b .marks)
 Called HandOut b a = a ≡ lent (handIn (b .rec) (judgeHandOut (heldIn b))) (b .rec) (b .payload) (b .marks)
 
 -- a list of calls, each on what the last one left; the last list has each call's result with the lent bytes after it
-abbrev pub Calls : List LentCall → Lent → List Lent → Type 0
-Calls [] b [] = Unit
-Calls [] b (a ∷ ys) = ⊥
-Calls (k ∷ ks) b [] = ⊥
-Calls (k ∷ ks) b (a ∷ ys) = Called k b a × Calls ks a ys
+abbrev pub AllCalled : List LentCall → Lent → List Lent → Type 0
+AllCalled [] b [] = Unit
+AllCalled [] b (a ∷ ys) = ⊥
+AllCalled (k ∷ ks) b [] = ⊥
+AllCalled (k ∷ ks) b (a ∷ ys) = Called k b a × AllCalled ks a ys
 
 abbrev pub callsOf : List LentCall → List Call
 callsOf [] = []

@@ -21,7 +21,7 @@ ghost use mathlib.Core.Path.{_≡_};
 ghost use mathlib.Core.List.{List};
 ghost use Rattle.uadp_c.specs.Reassembling.{lent, takenOver};
 ghost use Rattle.uadp_c.specs.History.{Called};
-ghost use Rattle.uadp_c.specs.History.LentCall.{Empty, Take, Combine, Complete, HandOut};
+ghost use Rattle.uadp_c.specs.History.LentCall.{Empty, Take, Combine, Ask, HandOut};
 
 // Empties a partial.
 #[no_mangle]
@@ -125,7 +125,7 @@ pub extern "C" fn uadp_complete(rec: &[u8], payload: &[u8], marks: &[u8]) -> u64
     ensures { λ r.
         let before = lent 0 (now (rec .entry)) (now (payload .entry)) (now (marks .entry)) in
         let after = lent r (now (rec .entry)) (now (payload .entry)) (now (marks .entry)) in
-        ⌜ Called Complete before after ⌝ }
+        ⌜ Called Ask before after ⌝ }
 {
     if rec.len() < PARTIAL_SIZE {
         return result(UNSOUND, 0);

@@ -1,6 +1,6 @@
 use Rattle.partial_record.proofs.Parts.{partial-none, partial-put}
 use native.Mathlib.Omega.{arith}
-use mathlib.Core.Path.{_≡_}
+use mathlib.Core.Path.{_≡_, refl}
 use lib.ListN.{length}
 use denote.Ref.{now}
 use borrow.Author.Needs.{needs}
@@ -24,7 +24,7 @@ returns-2 c =
     let at-flag-number = at-code .before in
     let at-if1 = at-flag-number .before .before .before .before in
     let args = at-if1 .before .before .args in
-    partial-put (args .rec) (now (args .out)) _ _ _ _ _ long (omega (arith, at-if1 .if1 .left))
+    partial-put (args .rec) (now (args .out)) _ _ _ _ _ _ long (omega (arith, at-if1 .if1 .left)) refl
     (at-flag-number .flag-number .ensures .0) (at-code .code .ensures) (at-publisher-number .publisher-number .ensures) (at-put-numbers .put-numbers .ensures) (at-put-run .put-run .ensures .stored)
 
 pub put-partial-spec : {M : Type 1} → statement M

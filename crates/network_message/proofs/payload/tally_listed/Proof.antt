@@ -8,7 +8,6 @@ use native.Mathlib.Nat.{le-refl}
 use native.Mathlib.Omega.{arith}
 use denote.Ref.{now}
 use lib.Dec.{ltb}
-use lib.ListN.{length}
 use borrow.Author.Needs.{needs}
 use Rattle.wire.specs.Lists.{total}
 use Rattle.network_message.specs.Payload.{allPositive, listed}
