@@ -36,23 +36,23 @@ pub rest-put : (v : Envelope) (w : Places) (y : Payload) (l e : List ℕ) (a₁ 
     → e
     ≡ laid l 112
     (numberBytes
-    (w .«payload_header_end» ∷ a₁ ∷ a₂ ∷ a₃ ∷ a₄ ∷ a₅ ∷ a₆ ∷ w .payload ∷ y .count ∷ a₇ ∷ a₈ ∷ y .first ∷ 0 ∷ y .first ∷ []))
+    (w .«payload_header_end» ∷ a₁ ∷ a₂ ∷ a₃ ∷ a₄ ∷ a₅ ∷ a₆ ∷ w .payload ∷ y .count ∷ a₇ ∷ a₈ ∷ y .first ∷ 0 ∷ y .first ∷ 0 ∷ 0 ∷ 0 ∷ 0 ∷ []))
     → e ≡ laid l 112 (numberBytes (restNumbers v w y))
 rest-put v w y l e a₁ a₂ a₃ a₄ a₅ a₆ a₇ a₈ p₁ p₂ p₃ p₄ p₅ p₆ p₇ p₈ z =
     let j : w .«payload_header_end» ≡ w .«payload_header_end» = refl in
     let k : w .payload ≡ w .payload = refl in
     let m : y .count ≡ y .count = refl in
-    let t : List ℕ = y .first ∷ 0 ∷ y .first ∷ [] in
+    let t : List ℕ = y .first ∷ 0 ∷ y .first ∷ 0 ∷ 0 ∷ 0 ∷ 0 ∷ [] in
     let s : t ≡ t = refl in
     let x : (w .«payload_header_end» ∷ a₁ ∷ a₂ ∷ a₃ ∷ a₄ ∷ a₅ ∷ a₆ ∷ w .payload ∷ y .count ∷ a₇ ∷ a₈ ∷ t) ≡ restNumbers v w y =
     also j (also p₁ (also p₂ (also p₃ (also p₄ (also p₅ (also p₆ (also k (also m (also p₇ (also p₈ s)))))))))) in
     put-same l 112 x z
 
 -- where the record does not fit, nothing is stored; where it does, one half after the other
-pub envelope-none : (v : Envelope) (w : Places) (y : Payload) (l : List ℕ) → length l < 224
+pub envelope-none : (v : Envelope) (w : Places) (y : Payload) (l : List ℕ) → length l < 256
     → l ≡ laid l 0 (numberBytes (envelopeNumbers (record { envelope = v; places = w; payload = y })))
 envelope-none v w y l h = put-none (envelopeNumbers (record { envelope = v; places = w; payload = y })) l 0 (omega arith)
 
-pub envelope-put : (v : Envelope) (w : Places) (y : Payload) (l e f : List ℕ) → 224 ≤ length l → e ≡ laid l 0 (numberBytes (startNumbers v w))
+pub envelope-put : (v : Envelope) (w : Places) (y : Payload) (l e f : List ℕ) → 256 ≤ length l → e ≡ laid l 0 (numberBytes (startNumbers v w))
     → f ≡ laid e 112 (numberBytes (restNumbers v w y)) → f ≡ laid l 0 (numberBytes (envelopeNumbers (record { envelope = v; places = w; payload = y })))
 envelope-put v w y l e f h p q = put-both (startNumbers v w) (restNumbers v w y) l e f 112 refl (omega arith) p q

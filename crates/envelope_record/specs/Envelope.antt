@@ -96,15 +96,16 @@ startNumbers e w =
     ∷ classHigh (e .«class_id») ∷ groupItems (e .group) ∷ groupWriter (e .group) ∷ groupVersion (e .group) ∷ groupNumber (e .group)
     ∷ groupSequence (e .group) ∷ flagNumber (e .chunk) ∷ headerCode (e .«payload_header») ∷ headerNumber (e .«payload_header») ∷ []
 
--- the other 14: the PayloadHeader's end, times, promoted fields, the payload; the cursor stands before the first message
+-- the other 18: the PayloadHeader's end, times, promoted fields, the payload; the cursor stands before the first message; the last four
+-- are spare and hold 0
 abbrev pub restNumbers : Envelope → Places → Payload → List ℕ
 restNumbers e w p =
     w .«payload_header_end» ∷ hasI64 (e .timestamp) ∷ valueI64 (e .timestamp) ∷ has16 (e .picoseconds) ∷ value16 (e .picoseconds)
     ∷ hasPromoted (e .promoted) ∷ promotedSize (e .promoted) ∷ w .payload ∷ p .count ∷ sizesCode (p .sizes) ∷ sizesPlace (p .sizes)
     ∷ p .first ∷ 0
-    ∷ p .first ∷ []
+    ∷ p .first ∷ 0 ∷ 0 ∷ 0 ∷ 0 ∷ []
 
--- the 28 numbers of an envelope
+-- the 32 numbers of an envelope
 abbrev pub envelopeNumbers : NetworkMessage → List ℕ
 envelopeNumbers m = startNumbers (m .envelope) (m .places) ++ restNumbers (m .envelope) (m .places) (m .payload)
 

@@ -245,6 +245,10 @@ fn put_rest(out: &mut [u8], e: Envelope, places: Places, payload: Payload)
         payload.first as u64,
         0,
         payload.first as u64,
+        0,
+        0,
+        0,
+        0,
     ];
     put_numbers_from(out, 14, &numbers);
 }

@@ -63,9 +63,9 @@ elementsNumber Shape.Scalar = 0
 elementsNumber Shape.NullArray = 0
 elementsNumber (Shape.Array n) = n
 
--- the 6 numbers of a field
+-- the 8 numbers of a field; the last two are spare and hold 0
 abbrev pub fieldNumbers : Field → List ℕ
-fieldNumbers f = f .kind ∷ shapeNumber (f .shape) ∷ elementsNumber (f .shape) ∷ f .index ∷ f .offset ∷ f .length ∷ []
+fieldNumbers f = f .kind ∷ shapeNumber (f .shape) ∷ elementsNumber (f .shape) ∷ f .index ∷ f .offset ∷ f .length ∷ 0 ∷ 0 ∷ []
 
 -- items of which a number tells whether they are present
 

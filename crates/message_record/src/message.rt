@@ -177,6 +177,8 @@ pub fn put_field(out: &mut [u8], f: Field)
         f.index as u64,
         f.offset as u64,
         f.length as u64,
+        0,
+        0,
     ];
     put_numbers(out, &numbers);
 }

@@ -91,7 +91,7 @@ text-back t h =
     stored-at (replicate 64 0) t k ∙ ap (λ (n : ℕ). t ++ drop n (replicate 64 0)) h ∙ append-nil t
 
 -- ---- a record that was stored reads back
-module _ (k : PartialRecord) (r : List ℕ) (f : FitsRecord k) (h : 112 ≤ length r) where
+module _ (k : PartialRecord) (r : List ℕ) (f : FitsRecord k) (h : 144 ≤ length r) where
   abbrev id : PublisherId
   id = k .message .publisher .id
 
@@ -107,28 +107,28 @@ module _ (k : PartialRecord) (r : List ℕ) (f : FitsRecord k) (h : 112 ≤ leng
   at : At s 0 (numberBytes numbers ++ text)
   at = ([], drop (length (partialBytes k)) r, stored-at r (partialBytes k) (omega (arith, partial-length k (f .text))), refl)
 
-  read : (i : ℕ) → i < 6 → numberAt s i ≡ getD numbers i 0
+  read : (i : ℕ) → i < 10 → numberAt s i ≡ getD numbers i 0
   read i l =
       let fit : AllFit numbers = (
         flag-fits (k .started),
-        (code-fits id, (number-fits id (f .id), (omega (arith, f .writer, f .number), (omega (arith, f .writer, f .number), (f .total, tt))))),
+        (code-fits id, (number-fits id (f .id), (omega (arith, f .writer, f .number), (omega (arith, f .writer, f .number), (f .total, (omega arith, (omega arith, (omega arith, (omega arith, tt))))))))),
       ) in
       let z : 0 + i ≡ i = omega arith in
       ap (numberAt s) (sym z) ∙ number-read numbers 0 s (first s 0 (numberBytes numbers) text at) fit i l
 
-  text-read : take 64 (drop 48 s) ≡ text
+  text-read : take 64 (drop 80 s) ≡ text
   text-read =
-      let n : length (numberBytes numbers) ≡ 48 = bytes-length numbers in
+      let n : length (numberBytes numbers) ≡ 80 = bytes-length numbers in
       let a = second s 0 (numberBytes numbers) text at in
-      ap (λ (l : List ℕ). take 64 (drop 48 l)) (a .2)
-      ∙ ap (take 64) (drop-at (a .0) (text ++ a .1) 48 (a .3 ∙ (omega arith)))
+      ap (λ (l : List ℕ). take 64 (drop 80 l)) (a .2)
+      ∙ ap (take 64) (drop-at (a .0) (text ++ a .1) 80 (a .3 ∙ (omega arith)))
       ∙ take-at text (a .1) 64 (f .text)
 
   pub partial-back : partialIn s ≡ k
   partial-back =
       let small : (i x : ℕ) → numberAt s i ≡ x → x < 65536 → numberAt s i % 65536 ≡ x = λ i x e l. (omega arith) in
       let p : publisherBy (numberAt s 1) (numberAt s 2) ≡ id = rw (read 1 (omega arith), read 2 (omega arith)) (publisher-back id (f .id)) in
-      let t : laid (replicate 64 0) 0 (take 64 (drop 48 s)) ≡ text = ap (λ (l : List ℕ). laid (replicate 64 0) 0 l) text-read ∙ text-back text (f .text) in
+      let t : laid (replicate 64 0) 0 (take 64 (drop 80 s)) ≡ text = ap (λ (l : List ℕ). laid (replicate 64 0) 0 l) text-read ∙ text-back text (f .text) in
       let b : eqb (numberAt s 0) 1 ≡ k .started = ap (λ (n : ℕ). eqb n 1) (read 0 (omega arith)) ∙ flag-back (k .started) in
       let w = small 3 (k .message .writer) (read 3 (omega arith)) (f .writer) in
       let n = small 4 (k .message .number) (read 4 (omega arith)) (f .number) in

@@ -23,7 +23,7 @@ messageWith p a b d = record { publisher = p; writer = a % 65536; number = b % 6
 abbrev pub partialWith : ℕ → Message → PartialRecord
 partialWith n m = record { started = eqb n 1; message = m }
 
-pub publisher-taken : (s p u : List ℕ) (id : PublisherId) (a b : ℕ) → p ≡ take 64 (drop 48 s) → u ≡ laid (replicate 64 0) 0 p → a ≡ numberAt s 1 → b ≡ numberAt s 2
+pub publisher-taken : (s p u : List ℕ) (id : PublisherId) (a b : ℕ) → p ≡ take 64 (drop 80 s) → u ≡ laid (replicate 64 0) 0 p → a ≡ numberAt s 1 → b ≡ numberAt s 2
     → id ≡ publisherBy a b → publisherWith id u ≡ publisherIn s
 publisher-taken s p u id a b qp qu qa qb qi =
     ap (λ (i : PublisherId). publisherWith i u) (qi ∙ ap (λ (x : ℕ). publisherBy x b) qa ∙ ap (λ (x : ℕ). publisherBy (numberAt s 1) x) qb)

@@ -15,10 +15,13 @@ use Rattle.records.specs.Numbers.{numberAt, numberBytes}
 use Rattle.records.specs.Publisher.{publisherBy, publisherNumber}
 use Rattle.records.specs.Items.{flagNumber}
 
--- "at offset 48, 64 bytes for a String"
+-- "at offset 80, 64 bytes for a String"
+abbrev pub TEXT_AT : ℕ
+TEXT_AT = 80
+
 abbrev pub publisherIn : List ℕ → PublisherRecord
 publisherIn s =
-    record { id = publisherBy (numberAt s 1) (numberAt s 2); text = laid (replicate MOST_TEXT_ID 0) 0 (take MOST_TEXT_ID (drop 48 s)) }
+    record { id = publisherBy (numberAt s 1) (numberAt s 2); text = laid (replicate MOST_TEXT_ID 0) 0 (take MOST_TEXT_ID (drop TEXT_AT s)) }
 
 -- "3  DataSetWriterId   4  message number   5  total size"
 abbrev pub messageIn : List ℕ → Message
@@ -29,11 +32,11 @@ messageIn s =
 abbrev pub partialIn : List ℕ → PartialRecord
 partialIn s = record { started = eqb (numberAt s 0) 1; message = messageIn s }
 
--- the record's numbers, from 0
+-- the record's numbers, from 0; the last four are spare and hold 0
 abbrev pub partialNumbers : PartialRecord → List ℕ
 partialNumbers r =
     flagNumber (r .started) ∷ codeOf (r .message .publisher .id) ∷ publisherNumber (r .message .publisher .id) ∷ r .message .writer
-    ∷ r .message .number ∷ r .message .total ∷ []
+    ∷ r .message .number ∷ r .message .total ∷ 0 ∷ 0 ∷ 0 ∷ 0 ∷ []
 
 -- the record's bytes
 abbrev pub partialBytes : PartialRecord → List ℕ

@@ -1,4 +1,4 @@
-// The record of a partial: six numbers, and 64 bytes for the text of a string PublisherId.
+// The record of a partial: six numbers, four spare ones that hold 0, and 64 bytes for the text of a string PublisherId.
 use publisher_id::publisher_record::PublisherRecord;
 use publisher_id::publisher_record::code;
 use reassembly::Message;
@@ -16,11 +16,14 @@ ghost use mathlib.Core.Path.{_≡_};
 ghost use Rattle.wire_writer.specs.Store.{laid};
 ghost use Rattle.partial_record.specs.Partial.{publisherIn, messageIn, partialIn, partialBytes};
 
+// Where the text stands.
+const TEXT_AT: usize = 80;
+
 fn publisher_in(s: &[u8]) -> PublisherRecord
     ensures { λ r. ⌜ r ≡ publisherIn (now (s .entry)) ⌝ }
 {
     let mut text = [0u8; MOST_TEXT_ID];
-    put_run(&mut text, 0, part(s, 48, MOST_TEXT_ID));
+    put_run(&mut text, 0, part(s, TEXT_AT, MOST_TEXT_ID));
     let id = publisher_by(number(s, 1), number(s, 2));
     PublisherRecord { id, text }
 }
@@ -66,7 +69,11 @@ pub fn put_partial(out: &mut [u8], rec: PartialRecord)
         message.writer as u64,
         message.number as u64,
         message.total as u64,
+        0,
+        0,
+        0,
+        0,
     ];
     put_numbers(out, &numbers);
-    put_run(out, 48, &text);
+    put_run(out, TEXT_AT, &text);
 }

@@ -7,7 +7,7 @@ CONFIG_SIZE = 146
 
 -- The envelope record's bytes.
 abbrev pub ENVELOPE_SIZE : ℕ
-ENVELOPE_SIZE = 224
+ENVELOPE_SIZE = 256
 
 -- The head record's bytes.
 abbrev pub HEAD_SIZE : ℕ
@@ -15,7 +15,7 @@ HEAD_SIZE = 160
 
 -- The field record's bytes.
 abbrev pub FIELD_SIZE : ℕ
-FIELD_SIZE = 48
+FIELD_SIZE = 64
 
 -- The message record's bytes.
 abbrev pub PLACE_SIZE : ℕ
@@ -23,11 +23,11 @@ PLACE_SIZE = 32
 
 -- The bytes of a record of the walk.
 abbrev pub WALK_SIZE : ℕ
-WALK_SIZE = 64
+WALK_SIZE = 80
 
 -- The partial record's bytes.
 abbrev pub PARTIAL_SIZE : ℕ
-PARTIAL_SIZE = 112
+PARTIAL_SIZE = 144
 
 -- The sequence record's bytes.
 abbrev pub SEQUENCE_SIZE : ℕ

@@ -4,22 +4,22 @@
 pub const CONFIG_SIZE: usize = 146;
 
 // The envelope record's bytes.
-pub const ENVELOPE_SIZE: usize = 224;
+pub const ENVELOPE_SIZE: usize = 256;
 
 // The head record's bytes.
 pub const HEAD_SIZE: usize = 160;
 
 // The field record's bytes.
-pub const FIELD_SIZE: usize = 48;
+pub const FIELD_SIZE: usize = 64;
 
 // The message record's bytes.
 pub const PLACE_SIZE: usize = 32;
 
 // The bytes of a record of the walk.
-pub const WALK_SIZE: usize = 64;
+pub const WALK_SIZE: usize = 80;
 
 // The partial record's bytes.
-pub const PARTIAL_SIZE: usize = 112;
+pub const PARTIAL_SIZE: usize = 144;
 
 // The sequence record's bytes.
 pub const SEQUENCE_SIZE: usize = 16;

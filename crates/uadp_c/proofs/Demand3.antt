@@ -30,6 +30,7 @@ use Rattle.wire.proofs.Cases.{by-bool}
 use Rattle.reassembly_laws.proofs.Demand3 as machine
 use Rattle.records.specs.Result.{resultOf}
 use Rattle.records.specs.Numbers.{numberAt}
+use Rattle.records.specs.Sizes.{PARTIAL_SIZE}
 use Rattle.records.specs.Writers.{sizesIn}
 use Rattle.partial_record.specs.Partial.{partialIn, partialBytes}
 use Rattle.uadp_c.specs.Reassembling.{sourceOf, Lent, lent, Steps, recordBy, stepIn, verdictResult, completeResult, handResult}
@@ -75,12 +76,12 @@ complete-tells a (C.Refused n p) q = q
 pub record One (k : LentCall) (b a : Lent) : Type 0 where
   pub result : Tells a (answers (callOf k) (heldIn b))
   pub left : heldIn a ≡ leaves (callOf k) (heldIn b)
-  pub long : 112 ≤ length (a .rec)
+  pub long : PARTIAL_SIZE ≤ length (a .rec)
 
-module _ (b a : Lent) (h : 112 ≤ length (b .rec)) where
-  stepped : (s : Step) → Steps (b .rec) (b .payload) (b .marks) s a → Tells a (replyOf (s .verdict)) × (112 ≤ length (a .rec))
+module _ (b a : Lent) (h : PARTIAL_SIZE ≤ length (b .rec)) where
+  stepped : (s : Step) → Steps (b .rec) (b .payload) (b .marks) s a → Tells a (replyOf (s .verdict)) × (PARTIAL_SIZE ≤ length (a .rec))
   stepped s w =
-      let q : a ≡ lent (verdictResult (s .verdict)) (recordBy (s .verdict) (b .rec) (s .after .rec)) (s .after .payload) (s .after .marks) = rw (le-ltb (length (b .rec)) 112 h) at (w .bytes) in
+      let q : a ≡ lent (verdictResult (s .verdict)) (recordBy (s .verdict) (b .rec) (s .after .rec)) (s .after .payload) (s .after .marks) = rw (le-ltb (length (b .rec)) PARTIAL_SIZE h) at (w .bytes) in
       (verdict-tells a (s .verdict) (ap (λ (x : Lent). x .result) q), omega (arith, ap (λ (x : Lent). length (x .rec)) q, length-record (s .verdict) (b .rec) (s .after .rec)))
 
   pub one : (k : LentCall) → Called k b a → One k b a
@@ -96,10 +97,10 @@ module _ (b a : Lent) (h : 112 ≤ length (b .rec)) where
       let s = stepped (combine (heldIn b) (sourceOf r p m)) w in
       record { result = s .0; left = w .reads h; long = s .1 }
   one LentCall.Ask w =
-      let q : a ≡ lent (completeResult (askComplete (heldIn b))) (b .rec) (b .payload) (b .marks) = rw (le-ltb (length (b .rec)) 112 h) at w in
+      let q : a ≡ lent (completeResult (askComplete (heldIn b))) (b .rec) (b .payload) (b .marks) = rw (le-ltb (length (b .rec)) PARTIAL_SIZE h) at w in
       record { result = complete-tells a (askComplete (heldIn b)) (ap (λ (x : Lent). x .result) q); left = ap heldIn q; long = omega (arith, ap (λ (x : Lent). length (x .rec)) q) }
   one LentCall.HandOut w =
-      let q : a ≡ lent (handResult (heldIn b .rec) (judgeHandOut (heldIn b))) (b .rec) (b .payload) (b .marks) = rw (le-ltb (length (b .rec)) 112 h) at w in
+      let q : a ≡ lent (handResult (heldIn b .rec) (judgeHandOut (heldIn b))) (b .rec) (b .payload) (b .marks) = rw (le-ltb (length (b .rec)) PARTIAL_SIZE h) at w in
       record {
         result = hand-told a (heldIn b) (judgeHandOut (heldIn b)) refl (ap (λ (x : Lent). x .result) q) (ap (λ (x : Lent). x .payload) q);
         left = ap heldIn q;
@@ -112,7 +113,7 @@ record All (ks : List LentCall) (b : Lent) (ys : List Lent) : Type 0 where
   results : AllTell ys (replies (callsOf ks) (heldIn b))
   left : heldIn (lastOf b ys) ≡ final (callsOf ks) (heldIn b)
 
-all : (ks : List LentCall) (b : Lent) (ys : List Lent) → 112 ≤ length (b .rec) → AllCalled ks b ys → All ks b ys
+all : (ks : List LentCall) (b : Lent) (ys : List Lent) → PARTIAL_SIZE ≤ length (b .rec) → AllCalled ks b ys → All ks b ys
 all [] b [] h w = record { results = tt; left = refl }
 all [] b (a ∷ ys) h w = absurd w
 all (k ∷ ks) b [] h w = absurd w
@@ -166,7 +167,7 @@ module _ (b a : Lent) where
 
   -- of a call that takes a step, where a refused step leaves the partial
   step-refused : (s : Step) → ((n p : ℕ) → s .verdict ≡ Refused n p → s .after ≡ heldIn b) → a ≡ stepIn (b .rec) (b .payload) (b .marks) s → (a .result % 256 ≡ 0 → ⊥) → Unchanged b a
-  step-refused s kept e bad = by-bool _ (ltb (length (b .rec)) 112) (λ t. as-before (resultOf 12 0) (rw t at e)) (λ t. go (s .verdict) refl (rw t at e))
+  step-refused s kept e bad = by-bool _ (ltb (length (b .rec)) PARTIAL_SIZE) (λ t. as-before (resultOf 12 0) (rw t at e)) (λ t. go (s .verdict) refl (rw t at e))
     where
       go : (v : Verdict) → s .verdict ≡ v → a ≡ lent (verdictResult (s .verdict)) (recordBy (s .verdict) (b .rec) (s .after .rec)) (s .after .payload) (s .after .marks)
           → Unchanged b a

@@ -28,10 +28,10 @@ module _ (a b d : List ℕ) (ha : length a ≡ 8) (hb : length b ≡ 8) where
   same-item : (p : ℕ) → item 8 (a ++ d) (8 + p) ≡ item 8 (b ++ d) (8 + p)
   same-item p = item-after a ha p ∙ sym (item-after b hb p)
 
-  drop-after : (x : List ℕ) → length x ≡ 8 → drop 48 (x ++ d) ≡ drop 40 d
-  drop-after x h = subst (λ (n : ℕ). drop (n + 40) (x ++ d) ≡ drop 40 d) h (drop-append-add x d 40)
+  drop-after : (x : List ℕ) → length x ≡ 8 → drop 80 (x ++ d) ≡ drop 72 d
+  drop-after x h = subst (λ (n : ℕ). drop (n + 72) (x ++ d) ≡ drop 72 d) h (drop-append-add x d 72)
 
-  same-text : drop 48 (a ++ d) ≡ drop 48 (b ++ d)
+  same-text : drop 80 (a ++ d) ≡ drop 80 (b ++ d)
   same-text = drop-after a ha ∙ sym (drop-after b hb)
 
 abbrev zeros : List ℕ

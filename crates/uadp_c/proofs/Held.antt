@@ -22,6 +22,7 @@ use Rattle.reassembly.specs.declared.record.PartialRecord.{PartialRecord}
 use Rattle.reassembly.specs.declared.verdict.Verdict.{Verdict}
 use Rattle.reassembly.specs.declared.verdict.Completeness.{Completeness}
 use Rattle.records.specs.Numbers.{numberAt}
+use Rattle.records.specs.Sizes.{PARTIAL_SIZE}
 use Rattle.records.specs.Result.{resultOf}
 use Rattle.records.specs.Writers.{writersIn, sixteen, sizesIn}
 use Rattle.partial_record.specs.Partial.{partialIn, partialBytes, FitsRecord}
@@ -30,8 +31,8 @@ use native.Mathlib.Omega.{arith}
 use Rattle.uadp_c.specs.Reassembling.{Steps, partialOf, lent, verdictResult, takenOver, recordBy, stepIn, sourceOf, emptiedRecord, completeResult, completeIn, handResult, handIn}
 
 -- a record shorter than its layout
-step-short : (r p m : List ℕ) (x : ℕ) (s : Step) → length r < 112 → x ≡ resultOf 12 0 → lent x r p m ≡ stepIn r p m s
-step-short r p m x s h q = rw (lt-ltb (length r) 112 h) (ap (λ (y : ℕ). lent y r p m) q)
+step-short : (r p m : List ℕ) (x : ℕ) (s : Step) → length r < PARTIAL_SIZE → x ≡ resultOf 12 0 → lent x r p m ≡ stepIn r p m s
+step-short r p m x s h q = rw (lt-ltb (length r) PARTIAL_SIZE h) (ap (λ (y : ℕ). lent y r p m) q)
 
 -- a started record, and one that nothing was taken over into, stay; else the record is stored
 pub keeps-started : (r : List ℕ) (k : PartialRecord) (n : ℕ) → n ≡ numberAt r 0 → eqb n 1 ≡ true → r ≡ takenOver r k
@@ -48,14 +49,14 @@ pub takes-over : (r e : List ℕ) (k : PartialRecord) (n : ℕ) → n ≡ number
 takes-over r e k n a t h q = rw (subst (λ (x : ℕ). eqb x 1 ≡ false) a t) (so (k .started) e (laid r 0 (partialBytes k)) r h q)
 
 -- an outcome of the operation, stored
-step-ends : (r p m r₂ p₂ m₂ : List ℕ) (x : ℕ) (o : Outcome) (v : Verdict) (s : Step) → 112 ≤ length r → stepOf o p₂ m₂ ≡ s → o .verdict ≡ v
+step-ends : (r p m r₂ p₂ m₂ : List ℕ) (x : ℕ) (o : Outcome) (v : Verdict) (s : Step) → PARTIAL_SIZE ≤ length r → stepOf o p₂ m₂ ≡ s → o .verdict ≡ v
     → x ≡ verdictResult v → r₂ ≡ recordBy v r (o .rec) → lent x r₂ p₂ m₂ ≡ stepIn r p m s
 step-ends r p m r₂ p₂ m₂ x o v s h q t a b =
     let y : lent x r₂ p₂ m₂ ≡ lent (verdictResult v) (recordBy v r (o .rec)) p₂ m₂ =
     ap (λ (k : ℕ). lent k r₂ p₂ m₂) a ∙ ap (λ (k : List ℕ). lent (verdictResult v) k p₂ m₂) b in
     let z : lent x r₂ p₂ m₂ ≡ lent (verdictResult (o .verdict)) (recordBy (o .verdict) r (o .rec)) p₂ m₂ =
     subst (λ (k : Verdict). lent x r₂ p₂ m₂ ≡ lent (verdictResult k) (recordBy k r (o .rec)) p₂ m₂) (sym t) y in
-    subst (λ (k : Step). lent x r₂ p₂ m₂ ≡ stepIn r p m k) q (rw (le-ltb (length r) 112 h) z)
+    subst (λ (k : Step). lent x r₂ p₂ m₂ ≡ stepIn r p m k) q (rw (le-ltb (length r) PARTIAL_SIZE h) z)
 
 pub taken : (c d r p m z l p₂ m₂ : List ℕ) (n : ℕ) (k : PartialRecord) (o : Outcome) → n ≡ writersIn c → l ≡ sixteen 34 c → z ≡ take n l → k ≡ partialIn r
     → Does (Take d z) (partial k p m) (replyOf (o .verdict)) (partial (o .rec) p₂ m₂) → stepOf o p₂ m₂ ≡ takeIn (partialOf r p m) (readingAt (sizesIn c) d)
@@ -63,10 +64,10 @@ taken c d r p m z l p₂ m₂ n k o a b e f q =
     take-told (partial k p m) o p₂ m₂ d z q ∙ ap (λ (x : PartialRecord). takeIn (partial x p m) (readingAt z d)) f
     ∙ ap (λ (x : List ℕ). takeIn (partialOf r p m) (readingAt x d)) (e ∙ ap (λ (x : ℕ). take x l) a ∙ ap (λ (x : List ℕ). take (writersIn c) x) b)
 
-pub combined : (r p m g u w p₂ m₂ : List ℕ) (k j : PartialRecord) (o : Outcome) → 112 ≤ length g → k ≡ partialIn r → j ≡ partialIn g
+pub combined : (r p m g u w p₂ m₂ : List ℕ) (k j : PartialRecord) (o : Outcome) → PARTIAL_SIZE ≤ length g → k ≡ partialIn r → j ≡ partialIn g
     → Does (Combine (partial j u w)) (partial k p m) (replyOf (o .verdict)) (partial (o .rec) p₂ m₂) → stepOf o p₂ m₂ ≡ combine (partialOf r p m) (sourceOf g u w)
 combined r p m g u w p₂ m₂ k j o h a b q =
-    rw (le-ltb (length g) 112 h)
+    rw (le-ltb (length g) PARTIAL_SIZE h)
     (combine-told (partial k p m) (partial j u w) o p₂ m₂ q
     ∙ ap (λ (x : PartialRecord). combine (partial x p m) (partial j u w)) a ∙ ap (λ (x : PartialRecord). combine (partialOf r p m) (partial x u w)) b)
 
@@ -79,8 +80,8 @@ unsound-source s k = go (sound s) _ _
     go true v t = refl
     go false v t = refl
 
-pub combine-short : (g u w r p m : List ℕ) (x : ℕ) → length g < 112 → x ≡ resultOf 12 0 → Steps r p m (combine (partialOf r p m) (sourceOf g u w)) (lent x r p m)
-combine-short g u w r p m x h q = rw (lt-ltb (length g) 112 h, unsound-source (partialOf r p m) (partialIn g)) (record { bytes = go (ltb (length r) 112); reads = λ l. refl })
+pub combine-short : (g u w r p m : List ℕ) (x : ℕ) → length g < PARTIAL_SIZE → x ≡ resultOf 12 0 → Steps r p m (combine (partialOf r p m) (sourceOf g u w)) (lent x r p m)
+combine-short g u w r p m x h q = rw (lt-ltb (length g) PARTIAL_SIZE h, unsound-source (partialOf r p m) (partialIn g)) (record { bytes = go (ltb (length r) PARTIAL_SIZE); reads = λ l. refl })
   where
     go : (b : Bool) → lent x r p m ≡ cond b (lent (resultOf 12 0) r p m) (lent (resultOf 12 0) r p m)
     go true = ap (λ (y : ℕ). lent y r p m) q
@@ -89,31 +90,31 @@ combine-short g u w r p m x h q = rw (lt-ltb (length g) 112 h, unsound-source (p
 pub emptied-told : (r e p m : List ℕ) (x : ℕ) → x ≡ resultOf 0 0 → e ≡ emptiedRecord r → lent x e p m ≡ lent (resultOf 0 0) (emptiedRecord r) p m
 emptied-told r e p m x q h = ap (λ (y : ℕ). lent y e p m) q ∙ ap (λ (y : List ℕ). lent (resultOf 0 0) y p m) h
 
-pub complete-short : (r p m : List ℕ) (x : ℕ) (a : Completeness) → length r < 112 → x ≡ resultOf 12 0 → lent x r p m ≡ lent (completeIn r a) r p m
-complete-short r p m x a h q = rw (lt-ltb (length r) 112 h) (ap (λ (y : ℕ). lent y r p m) q)
+pub complete-short : (r p m : List ℕ) (x : ℕ) (a : Completeness) → length r < PARTIAL_SIZE → x ≡ resultOf 12 0 → lent x r p m ≡ lent (completeIn r a) r p m
+complete-short r p m x a h q = rw (lt-ltb (length r) PARTIAL_SIZE h) (ap (λ (y : ℕ). lent y r p m) q)
 
-pub complete-ends : (r p m : List ℕ) (x : ℕ) (k : PartialRecord) (a b : Completeness) → 112 ≤ length r → k ≡ partialIn r → saidOf a ≡ answers Ask (partial k p m) → a ≡ b
+pub complete-ends : (r p m : List ℕ) (x : ℕ) (k : PartialRecord) (a b : Completeness) → PARTIAL_SIZE ≤ length r → k ≡ partialIn r → saidOf a ≡ answers Ask (partial k p m) → a ≡ b
     → x ≡ completeResult b → lent x r p m ≡ lent (completeIn r (askComplete (partialOf r p m))) r p m
 complete-ends r p m x k a b h e q t y =
     let z : b ≡ askComplete (partialOf r p m) = sym t ∙ one-said a (askComplete (partial k p m)) q ∙ ap (λ (i : PartialRecord). askComplete (partial i p m)) e in
-    rw (le-ltb (length r) 112 h) (ap (λ (v : ℕ). lent v r p m) (y ∙ ap completeResult z))
+    rw (le-ltb (length r) PARTIAL_SIZE h) (ap (λ (v : ℕ). lent v r p m) (y ∙ ap completeResult z))
 
-pub hand-short : (r p m : List ℕ) (x : ℕ) (v : Verdict) → length r < 112 → x ≡ resultOf 12 0 → lent x r p m ≡ lent (handIn r v) r p m
-hand-short r p m x v h q = rw (lt-ltb (length r) 112 h) (ap (λ (y : ℕ). lent y r p m) q)
+pub hand-short : (r p m : List ℕ) (x : ℕ) (v : Verdict) → length r < PARTIAL_SIZE → x ≡ resultOf 12 0 → lent x r p m ≡ lent (handIn r v) r p m
+hand-short r p m x v h q = rw (lt-ltb (length r) PARTIAL_SIZE h) (ap (λ (y : ℕ). lent y r p m) q)
 
-pub hand-ends : (r p m : List ℕ) (x : ℕ) (k : PartialRecord) (a b : Verdict) → 112 ≤ length r → k ≡ partialIn r → handedOf a (handOut (partial k p m)) ≡ answers HandOut (partial k p m) → a ≡ b
+pub hand-ends : (r p m : List ℕ) (x : ℕ) (k : PartialRecord) (a b : Verdict) → PARTIAL_SIZE ≤ length r → k ≡ partialIn r → handedOf a (handOut (partial k p m)) ≡ answers HandOut (partial k p m) → a ≡ b
     → x ≡ handResult k b → lent x r p m ≡ lent (handIn r (judgeHandOut (partialOf r p m))) r p m
 hand-ends r p m x k a b h e q t y =
     let z : b ≡ judgeHandOut (partialOf r p m) = sym t ∙ handed-verdict (partial k p m) a q ∙ ap (λ (i : PartialRecord). judgeHandOut (partial i p m)) e in
-    rw (le-ltb (length r) 112 h) (ap (λ (v : ℕ). lent v r p m) (y ∙ ap (λ (i : PartialRecord). handResult i b) e ∙ ap (λ (v : Verdict). handResult (partialIn r) v) z))
+    rw (le-ltb (length r) PARTIAL_SIZE h) (ap (λ (v : ℕ). lent v r p m) (y ∙ ap (λ (i : PartialRecord). handResult i b) e ∙ ap (λ (v : Verdict). handResult (partialIn r) v) z))
 
 -- ---- the calls that take a step, in full: the bytes, and what they are read as
 
 -- no record of its layout's length
-pub steps-short : (r p m : List ℕ) (x : ℕ) (s : Step) → length r < 112 → KeptStep (partialIn r) inUse s → x ≡ resultOf 12 0 → Steps r p m s (lent x r p m)
+pub steps-short : (r p m : List ℕ) (x : ℕ) (s : Step) → length r < PARTIAL_SIZE → KeptStep (partialIn r) inUse s → x ≡ resultOf 12 0 → Steps r p m s (lent x r p m)
 steps-short r p m x s h k q = step-reads r p m s _ k (λ l. absurd (omega arith)) (step-short r p m x s h q)
 
-pub steps-end : (r p m r₂ p₂ m₂ : List ℕ) (x : ℕ) (o : Outcome) (v : Verdict) (s : Step) → KeptStep (partialIn r) inUse s → FitsRecord (o .rec) → 112 ≤ length r
+pub steps-end : (r p m r₂ p₂ m₂ : List ℕ) (x : ℕ) (o : Outcome) (v : Verdict) (s : Step) → KeptStep (partialIn r) inUse s → FitsRecord (o .rec) → PARTIAL_SIZE ≤ length r
     → stepOf o p₂ m₂ ≡ s → o .verdict ≡ v → x ≡ verdictResult v → r₂ ≡ recordBy v r (o .rec) → Steps r p m s (lent x r₂ p₂ m₂)
 steps-end r p m r₂ p₂ m₂ x o v s k f h q t a b =
     step-reads r p m s _ k (λ l. subst (λ (y : Step). FitsRecord (y .after .rec)) q f) (step-ends r p m r₂ p₂ m₂ x o v s h q t a b)

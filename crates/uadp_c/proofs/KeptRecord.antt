@@ -22,6 +22,7 @@ use Rattle.reassembly.specs.declared.record.PartialRecord.{PartialRecord}
 use Rattle.reassembly.specs.declared.verdict.Verdict.{Verdict}
 use Rattle.reassembly.specs.declared.verdict.Verdict.the-variants.{Done, Refused}
 use Rattle.partial_record.specs.Partial.{partialIn, partialBytes, FitsRecord}
+use Rattle.records.specs.Sizes.{PARTIAL_SIZE}
 use Rattle.partial_record.proofs.Back.{partial-back}
 use mir.Val.{Val}
 use denote.Laws.{Is}
@@ -90,7 +91,7 @@ combine-kept s f = record { kept = by-verdict (judgeCombine s f) s _ (go (f .rec
     same false = refl
 
 -- the record that was kept or taken over
-over-reads : (r : List ℕ) (k : PartialRecord) → 112 ≤ length r → FitsRecord k → Kept (partialIn r) k → partialIn (takenOver r k) ≡ k
+over-reads : (r : List ℕ) (k : PartialRecord) → PARTIAL_SIZE ≤ length r → FitsRecord k → Kept (partialIn r) k → partialIn (takenOver r k) ≡ k
 over-reads r k h f (inr e) =
     let x = laid r 0 (partialBytes k) in
     ap (λ (b : Bool). partialIn (cond b r (cond (k .started) x r))) (e .0) ∙ ap (λ (b : Bool). partialIn (cond b x r)) (e .1) ∙ partial-back k r f h
@@ -101,17 +102,17 @@ over-reads r k h f (inl e) = go (partialIn r .started) (k .started)
     go false true = partial-back k r f h
     go false false = sym e
 
-record-reads : (v : Verdict) (r : List ℕ) (k : PartialRecord) → 112 ≤ length r → FitsRecord k → KeptBy v (partialIn r) k → partialIn (recordBy v r k) ≡ k
+record-reads : (v : Verdict) (r : List ℕ) (k : PartialRecord) → PARTIAL_SIZE ≤ length r → FitsRecord k → KeptBy v (partialIn r) k → partialIn (recordBy v r k) ≡ k
 record-reads Done r k h f e = over-reads r k h f e
 record-reads (Refused n p) r k h f e = sym e
 
 -- a call in a record of its layout's length; what its step leaves fits its types
-pub step-reads : (r p m : List ℕ) (s : Step) (a : Lent) → KeptStep (partialIn r) inUse s → (112 ≤ length r → FitsRecord (s .after .rec))
+pub step-reads : (r p m : List ℕ) (s : Step) (a : Lent) → KeptStep (partialIn r) inUse s → (PARTIAL_SIZE ≤ length r → FitsRecord (s .after .rec))
     → a ≡ stepIn r p m s → Steps r p m s a
 step-reads r p m s a k f e = record {
   bytes = e;
   reads = λ h.
-      let q : a ≡ lent _ (recordBy (s .verdict) r (s .after .rec)) (s .after .payload) (s .after .marks) = rw (le-ltb (length r) 112 h) at e in
+      let q : a ≡ lent _ (recordBy (s .verdict) r (s .after .rec)) (s .after .payload) (s .after .marks) = rw (le-ltb (length r) PARTIAL_SIZE h) at e in
       ap (λ (x : Lent). partialOf (x .rec) (x .payload) (x .marks)) q
       ∙ ap (λ (x : PartialRecord). partial x (s .after .payload) (s .after .marks)) (record-reads (s .verdict) r (s .after .rec) h (f h) (k .kept))
       ∙ ap (λ (L : Layout). record { rec = s .after .rec; layout = L; payload = s .after .payload; marks = s .after .marks }) (k .layout);

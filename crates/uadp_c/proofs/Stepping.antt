@@ -11,6 +11,7 @@ use Rattle.dataset_fields.specs.Fields.{FieldStepped, nextFieldAt}
 use Rattle.dataset_fields.specs.declared.fields.Field.{Field}
 use Rattle.dataset_fields.specs.declared.fields.Cursor.{Cursor}
 use Rattle.records.specs.Numbers.{numberBytes}
+use Rattle.records.specs.Sizes.{FIELD_SIZE, HEAD_SIZE}
 use Rattle.records.specs.Result.{resultOf}
 use Rattle.records.specs.Writers.{typesFor}
 use Rattle.message_record.specs.Message.{fieldNumbers, cursorIn, cursorLaid}
@@ -28,19 +29,19 @@ pub step-refused : (a : Answer FieldStepped) (head field : List ℕ) (n p x : �
 step-refused a head field n p x q h = subst (λ (y : Answer FieldStepped). Steps y head field x head field) q (h, refl, refl)
 
 pub step-no-head : (a : Answer FieldStepped) (head field : List ℕ) (f : Field) (k : Cursor) (next x : ℕ) → got (record { field = f; cursor = k }) next ≡ a
-    → length head < 160 → x ≡ resultOf 11 0 → Steps a head field x head field
+    → length head < HEAD_SIZE → x ≡ resultOf 11 0 → Steps a head field x head field
 step-no-head a head field f k next x q h r =
-    subst (λ (y : Answer FieldStepped). Steps y head field x head field) q (rw (lt-ltb (length head) 160 h) (r, refl, refl))
+    subst (λ (y : Answer FieldStepped). Steps y head field x head field) q (rw (lt-ltb (length head) HEAD_SIZE h) (r, refl, refl))
 
 pub step-no-field : (a : Answer FieldStepped) (head field : List ℕ) (f : Field) (k : Cursor) (next x : ℕ) → got (record { field = f; cursor = k }) next ≡ a
-    → 160 ≤ length head → length field < 48 → x ≡ resultOf 11 0 → Steps a head field x head field
+    → HEAD_SIZE ≤ length head → length field < FIELD_SIZE → x ≡ resultOf 11 0 → Steps a head field x head field
 step-no-field a head field f k next x q g h r =
     subst (λ (y : Answer FieldStepped). Steps y head field x head field) q
-    (rw (le-ltb (length head) 160 g, lt-ltb (length field) 48 h) (r, refl, refl))
+    (rw (le-ltb (length head) HEAD_SIZE g, lt-ltb (length field) FIELD_SIZE h) (r, refl, refl))
 
 pub step-done : (a : Answer FieldStepped) (head field h₁ e : List ℕ) (f : Field) (k : Cursor) (next x : ℕ) → got (record { field = f; cursor = k }) next ≡ a
-    → 160 ≤ length head → 48 ≤ length field → x ≡ resultOf 0 (f .offset) → h₁ ≡ cursorLaid k head
+    → HEAD_SIZE ≤ length head → FIELD_SIZE ≤ length field → x ≡ resultOf 0 (f .offset) → h₁ ≡ cursorLaid k head
     → e ≡ laid field 0 (numberBytes (fieldNumbers f)) → Steps a head field x h₁ e
 step-done a head field h₁ e f k next x q g h r p₁ p₂ =
     subst (λ (y : Answer FieldStepped). Steps y head field x h₁ e) q
-    (rw (le-ltb (length head) 160 g, le-ltb (length field) 48 h) (r, p₁, p₂))
+    (rw (le-ltb (length head) HEAD_SIZE g, le-ltb (length field) FIELD_SIZE h) (r, p₁, p₂))

@@ -16,6 +16,7 @@ use Rattle.network_message.specs.declared.payload.Payload.{Payload}
 use Rattle.network_message.specs.declared.payload.MessagePlace.{MessagePlace}
 use Rattle.network_message.specs.declared.payload.MessageCursor.{MessageCursor}
 use Rattle.records.specs.Numbers.{numberBytes}
+use Rattle.records.specs.Sizes.{ENVELOPE_SIZE, PLACE_SIZE}
 use Rattle.records.specs.Result.{resultOf}
 use Rattle.records.specs.Writers.{writersIn, sixteen, idsIn, sizesIn}
 use Rattle.envelope_record.specs.Envelope.{payloadIn, messagesIn, messagesLaid, payloadHeaderIn, payloadHeaderEnd, placeNumbers}
@@ -49,18 +50,18 @@ pub walk-refused : (w : ℕ → Optional16) (a : Answer PlaceStepped) (e p : Lis
 walk-refused w a e p n m x q h = subst (λ (y : Answer PlaceStepped). Walks w y e p x e p) q (h, refl, refl)
 
 pub walk-no-envelope : (w : ℕ → Optional16) (a : Answer PlaceStepped) (e p : List ℕ) (m : MessagePlace) (k : MessageCursor) (next x : ℕ)
-    → got (record { place = m; cursor = k }) next ≡ a → length e < 224 → x ≡ resultOf 11 0 → Walks w a e p x e p
+    → got (record { place = m; cursor = k }) next ≡ a → length e < ENVELOPE_SIZE → x ≡ resultOf 11 0 → Walks w a e p x e p
 walk-no-envelope w a e p m k next x q h r =
-    subst (λ (y : Answer PlaceStepped). Walks w y e p x e p) q (rw (lt-ltb (length e) 224 h) (r, refl, refl))
+    subst (λ (y : Answer PlaceStepped). Walks w y e p x e p) q (rw (lt-ltb (length e) ENVELOPE_SIZE h) (r, refl, refl))
 
 pub walk-no-place : (w : ℕ → Optional16) (a : Answer PlaceStepped) (e p : List ℕ) (m : MessagePlace) (k : MessageCursor) (next x : ℕ)
-    → got (record { place = m; cursor = k }) next ≡ a → 224 ≤ length e → length p < 32 → x ≡ resultOf 11 0 → Walks w a e p x e p
+    → got (record { place = m; cursor = k }) next ≡ a → ENVELOPE_SIZE ≤ length e → length p < PLACE_SIZE → x ≡ resultOf 11 0 → Walks w a e p x e p
 walk-no-place w a e p m k next x q g h r =
-    subst (λ (y : Answer PlaceStepped). Walks w y e p x e p) q (rw (le-ltb (length e) 224 g, lt-ltb (length p) 32 h) (r, refl, refl))
+    subst (λ (y : Answer PlaceStepped). Walks w y e p x e p) q (rw (le-ltb (length e) ENVELOPE_SIZE g, lt-ltb (length p) PLACE_SIZE h) (r, refl, refl))
 
 pub walk-done : (w : ℕ → Optional16) (a : Answer PlaceStepped) (e p e₁ f : List ℕ) (m : MessagePlace) (k : MessageCursor) (v : Optional16) (next x : ℕ)
-    → got (record { place = m; cursor = k }) next ≡ a → 224 ≤ length e → 32 ≤ length p → x ≡ resultOf 0 (m .index) → v ≡ w (m .index)
+    → got (record { place = m; cursor = k }) next ≡ a → ENVELOPE_SIZE ≤ length e → PLACE_SIZE ≤ length p → x ≡ resultOf 0 (m .index) → v ≡ w (m .index)
     → e₁ ≡ messagesLaid k e → f ≡ laid p 0 (numberBytes (placeNumbers m v)) → Walks w a e p x e₁ f
 walk-done w a e p e₁ f m k v next x q g h r u p₁ p₂ =
     let y : f ≡ laid p 0 (numberBytes (placeNumbers m (w (m .index)))) = p₂ ∙ ap (λ (t : Optional16). laid p 0 (numberBytes (placeNumbers m t))) u in
-    subst (λ (y : Answer PlaceStepped). Walks w y e p x e₁ f) q (rw (le-ltb (length e) 224 g, le-ltb (length p) 32 h) (r, p₁, y))
+    subst (λ (y : Answer PlaceStepped). Walks w y e p x e₁ f) q (rw (le-ltb (length e) ENVELOPE_SIZE g, le-ltb (length p) PLACE_SIZE h) (r, p₁, y))

@@ -21,19 +21,19 @@ use Rattle.walk.specs.declared.entry.Line.{Line}
 use Rattle.walk_records.specs.Walk.{orNone, recordLaid, recordsPut}
 use Rattle.walk_records.specs.Parts.{fieldsFrom, setPlace, setBy, setFrom}
 
--- a record of 8 numbers that does not fit, and one that is put into its part of the buffer
-pub record-none : (xs l : List ℕ) (k : ℕ) → length xs ≡ 8 → length l / 64 ≤ k → l ≡ laid l (64 * k) (numberBytes xs)
-record-none xs l k n h = rw (lt-leb (64 * k + length (numberBytes xs)) (length l) (omega (arith, bytes-length xs)))
+-- a record of 10 numbers that does not fit, and one that is put into its part of the buffer
+pub record-none : (xs l : List ℕ) (k : ℕ) → length xs ≡ 10 → length l / 80 ≤ k → l ≡ laid l (80 * k) (numberBytes xs)
+record-none xs l k n h = rw (lt-leb (80 * k + length (numberBytes xs)) (length l) (omega (arith, bytes-length xs)))
 
-pub record-put : (xs l e : List ℕ) (k m : ℕ) → length xs ≡ 8 → k < length l / 64 → m ≡ 64 → e ≡ laid (take m (drop (64 * k) l)) 0 (numberBytes xs)
-    → take (64 * k) l ++ (e ++ drop m (drop (64 * k) l)) ≡ laid l (64 * k) (numberBytes xs)
+pub record-put : (xs l e : List ℕ) (k m : ℕ) → length xs ≡ 10 → k < length l / 80 → m ≡ 80 → e ≡ laid (take m (drop (80 * k) l)) 0 (numberBytes xs)
+    → take (80 * k) l ++ (e ++ drop m (drop (80 * k) l)) ≡ laid l (80 * k) (numberBytes xs)
 record-put xs l e k m n h j q =
-    let at : ℕ = 64 * k in
+    let at : ℕ = 80 * k in
     let b : List ℕ = numberBytes xs in
     let part : List ℕ = take m (drop at l) in
-    let lb : length b ≡ 64 = bytes-length xs ∙ ap (λ (i : ℕ). 8 * i) n in
+    let lb : length b ≡ 80 = bytes-length xs ∙ ap (λ (i : ℕ). 8 * i) n in
     let ld : m ≤ length (drop at l) = omega (arith, length-drop at l) in
-    let lp : length part ≡ 64 = length-take-le m (drop at l) ld ∙ j in
+    let lp : length part ≡ 80 = length-take-le m (drop at l) ld ∙ j in
     let s : e ≡ sets part 0 b = rw (le-leb (0 + length b) (length part) (omega arith)) at q in
     let f : e ≡ b = s ∙ sets-eq b part 0 (omega arith) ∙ ap (λ (t : List ℕ). b ++ t) (drop-of-length-le part {i = 0 + length b} (omega arith)) ∙ append-nil b in
     let z : at + m ≡ at + length b = omega arith in
@@ -89,7 +89,7 @@ module _ (types d bytes : List ℕ) (p : MessagePlace) (w : Optional16) (k : ℕ
 
   -- the numbers of a message's record, by three of them
   abbrev numbersBy : ℕ → ℕ → ℕ → ℕ → List ℕ
-  numbersBy what x y z = what ∷ p .index ∷ orNone w ∷ x ∷ y ∷ z ∷ p .offset ∷ p .length ∷ []
+  numbersBy what x y z = what ∷ p .index ∷ orNone w ∷ x ∷ y ∷ z ∷ p .offset ∷ p .length ∷ 0 ∷ 0 ∷ []
 
   numbers-same : (what x y z x₁ y₁ z₁ : ℕ) → x ≡ x₁ → y ≡ y₁ → z ≡ z₁ → numbersBy what x y z ≡ numbersBy what x₁ y₁ z₁
   numbers-same what x y z x₁ y₁ z₁ i j k =
@@ -97,7 +97,7 @@ module _ (types d bytes : List ℕ) (p : MessagePlace) (w : Optional16) (k : ℕ
 
   -- its record, and those of its fields
   pub valid-put : (m : Message) (next r x y z : ℕ) (e f : List ℕ) → got (valid m) next ≡ messageAt types bytes → x ≡ kindNumber (m .header .kind)
-      → y ≡ encodingNumber (m .header .encoding) → z ≡ orNone (m .header .sequence) → e ≡ laid l (64 * k) (numberBytes (numbersBy 1 x y z))
+      → y ≡ encodingNumber (m .header .encoding) → z ≡ orNone (m .header .sequence) → e ≡ laid l (80 * k) (numberBytes (numbersBy 1 x y z))
       → r ≡ k + 1 + length (fieldsFrom types bytes p (fieldsLeft (m .cursor)) (m .cursor))
       → f ≡ recordsPut (k + 1) (fieldsFrom types bytes p (fieldsLeft (m .cursor)) (m .cursor)) e
       → (r ≡ k + length (setFrom types p w d)) × (f ≡ recordsPut k (setFrom types p w d) l)
@@ -105,7 +105,7 @@ module _ (types d bytes : List ℕ) (p : MessagePlace) (w : Optional16) (k : ℕ
       let s = lines-are _ a in
       let n : length (setFrom types p w d) ≡ suc (length (fieldsFrom types bytes p (fieldsLeft (m .cursor)) (m .cursor))) = ap length s in
       let g : e ≡ recordLaid k (Line.Set (setPlace types bytes p w) (m .header .kind) (m .header .encoding) (m .header .sequence)) l =
-      q ∙ ap (λ (t : List ℕ). laid l (64 * k) (numberBytes t)) (numbers-same 1 x y z _ _ _ kx ky kz) in (
+      q ∙ ap (λ (t : List ℕ). laid l (80 * k) (numberBytes t)) (numbers-same 1 x y z _ _ _ kx ky kz) in (
         omega arith,
         v ∙ ap (recordsPut (k + 1) (fieldsFrom types bytes p (fieldsLeft (m .cursor)) (m .cursor))) g ∙ ap (λ (t : List Line). recordsPut k t l) (sym s),
       )

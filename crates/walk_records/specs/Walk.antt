@@ -19,18 +19,18 @@ abbrev pub orNone : Optional16 → ℕ
 orNone Optional16.Absent = 65536
 orNone (Optional16.Is v) = v
 
--- the 8 numbers of a line's record: "0 field, 1 message, 2 message that is not valid, 3 refused message", the number of the message, and
+-- the 10 numbers of a line's record: "0 field, 1 message, 2 message that is not valid, 3 refused message", the number of the message, and
 -- so on in the order of the layout; `net` and `bad` lines do not occur among those that have records
 abbrev pub walkNumbers : Line → List ℕ
-walkNumbers (Line.Field m f) = 0 ∷ m ∷ f .index ∷ f .kind ∷ shapeNumber (f .shape) ∷ elementsNumber (f .shape) ∷ f .offset ∷ f .length ∷ []
+walkNumbers (Line.Field m f) = 0 ∷ m ∷ f .index ∷ f .kind ∷ shapeNumber (f .shape) ∷ elementsNumber (f .shape) ∷ f .offset ∷ f .length ∷ 0 ∷ 0 ∷ []
 walkNumbers (Line.Set p k e q) =
-    1 ∷ p .message ∷ orNone (p .writer) ∷ kindNumber k ∷ encodingNumber e ∷ orNone q ∷ p .offset ∷ p .length ∷ []
-walkNumbers (Line.SetInvalid p) = 2 ∷ p .message ∷ orNone (p .writer) ∷ 0 ∷ 0 ∷ 0 ∷ p .offset ∷ p .length ∷ []
-walkNumbers (Line.SetBad p n place) = 3 ∷ p .message ∷ orNone (p .writer) ∷ n ∷ place ∷ 0 ∷ p .offset ∷ p .length ∷ []
-walkNumbers (Line.Net n id end messages) = replicate 8 0
-walkNumbers (Line.Bad n place) = replicate 8 0
+    1 ∷ p .message ∷ orNone (p .writer) ∷ kindNumber k ∷ encodingNumber e ∷ orNone q ∷ p .offset ∷ p .length ∷ 0 ∷ 0 ∷ []
+walkNumbers (Line.SetInvalid p) = 2 ∷ p .message ∷ orNone (p .writer) ∷ 0 ∷ 0 ∷ 0 ∷ p .offset ∷ p .length ∷ 0 ∷ 0 ∷ []
+walkNumbers (Line.SetBad p n place) = 3 ∷ p .message ∷ orNone (p .writer) ∷ n ∷ place ∷ 0 ∷ p .offset ∷ p .length ∷ 0 ∷ 0 ∷ []
+walkNumbers (Line.Net n id end messages) = replicate 10 0
+walkNumbers (Line.Bad n place) = replicate 10 0
 
--- "record k (from 0) at offset 64 * k"; "A record that does not fit whole is not put; every other byte of records stays as it was"
+-- "record k (from 0) at offset 80 * k"; "A record that does not fit whole is not put; every other byte of records stays as it was"
 abbrev pub recordLaid : ℕ → Line → List ℕ → List ℕ
 recordLaid k x out = laid out (WALK_SIZE * k) (numberBytes (walkNumbers x))
 

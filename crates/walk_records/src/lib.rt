@@ -58,9 +58,9 @@ fn or_none(x: Optional16) -> u64
     }
 }
 
-// Puts record k, which has 8 numbers, where it fits whole.
+// Puts record k, which has 10 numbers, where it fits whole.
 fn put_record(out: &mut [u8], k: usize, numbers: &[u64])
-    requires { ⌜ length (now numbers) ≡ 8 ⌝ }
+    requires { ⌜ length (now numbers) ≡ 10 ⌝ }
     ensures { λ _. ⌜ now (out .exit) ≡ laid (now (out .entry)) (WALK_SIZE * k) (numberBytes (now (numbers .entry))) ⌝ }
 {
     if out.len() / WALK_SIZE <= k {
@@ -86,6 +86,8 @@ fn put_field(out: &mut [u8], k: usize, p: MessagePlace, f: Field)
         elements_number(shape),
         (p.offset + f.offset) as u64,
         f.length as u64,
+        0,
+        0,
     ];
     put_record(out, k, &numbers);
 }
@@ -102,7 +104,7 @@ fn put_message(
     c: u64,
 )
     ensures { λ _.
-        let numbers = what ∷ p .index ∷ orNone writer ∷ a ∷ b ∷ c ∷ p .offset ∷ p .length ∷ [] in
+        let numbers = what ∷ p .index ∷ orNone writer ∷ a ∷ b ∷ c ∷ p .offset ∷ p .length ∷ 0 ∷ 0 ∷ [] in
         ⌜ now (out .exit) ≡ laid (now (out .entry)) (WALK_SIZE * k) (numberBytes numbers) ⌝ }
 {
     let numbers = [
@@ -114,6 +116,8 @@ fn put_message(
         c,
         p.offset as u64,
         p.length as u64,
+        0,
+        0,
     ];
     put_record(out, k, &numbers);
 }

@@ -8,12 +8,12 @@ use crate::reference::value::Shape;
 use crate::reference::Result;
 
 pub const CONFIG_SIZE: usize = 146;
-pub const ENVELOPE_SIZE: usize = 224;
+pub const ENVELOPE_SIZE: usize = 256;
 pub const PLACE_SIZE: usize = 32;
 pub const HEAD_SIZE: usize = 160;
-pub const FIELD_SIZE: usize = 48;
-pub const WALK_SIZE: usize = 64;
-pub const PARTIAL_SIZE: usize = 112;
+pub const FIELD_SIZE: usize = 64;
+pub const WALK_SIZE: usize = 80;
+pub const PARTIAL_SIZE: usize = 144;
 pub const SEQUENCE_SIZE: usize = 16;
 pub const NO_WRITER: u32 = 65_536;
 
@@ -211,7 +211,7 @@ pub fn field(field: &Field) -> [u64; FIELD_SIZE / 8] {
         Shape::NullArray => (1, 0),
         Shape::Array(count) => (2, count as u64),
     };
-    [field.value.kind.into(), shape, count, field.index as u64, field.offset as u64, field.length as u64]
+    [field.value.kind.into(), shape, count, field.index as u64, field.offset as u64, field.length as u64, 0, 0]
 }
 
 /// A walk record.
@@ -247,12 +247,12 @@ fn walk_message(found: &MessagePlace, read: &Result<Option<Message>>) -> Walked 
         Ok(None) => (2, [0; 3]),
         Err(refusal) => (3, [refusal.number as u64, refusal.place as u64, 0]),
     };
-    [what, number, writer, a, b, c, offset, length]
+    [what, number, writer, a, b, c, offset, length, 0, 0]
 }
 
 fn walk_field(message: &MessagePlace, found: &Field) -> Walked {
-    let [kind, shape, count, index, offset, length] = field(found);
-    [0, message.number as u64, index, kind, shape, count, message.offset as u64 + offset, length]
+    let [kind, shape, count, index, offset, length, ..] = field(found);
+    [0, message.number as u64, index, kind, shape, count, message.offset as u64 + offset, length, 0, 0]
 }
 
 /// The header that any message head record stands for.
@@ -343,7 +343,7 @@ fn kept_id_of(record: &[u8]) -> KeptId {
         4 => KeptId::UInt64(id),
         5 => {
             let mut bytes = [0; 64];
-            bytes.copy_from_slice(&record[48..PARTIAL_SIZE]);
+            bytes.copy_from_slice(&record[80..PARTIAL_SIZE]);
             KeptId::String(id, bytes)
         }
         _ => KeptId::Absent,
@@ -364,6 +364,6 @@ pub fn partial(record: &Record) -> Vec<u8> {
             (5, length)
         }
     };
-    let numbers = [1, kind, id, record.writer.into(), record.number.into(), record.total];
+    let numbers = [1, kind, id, record.writer.into(), record.number.into(), record.total, 0, 0, 0, 0];
     [bytes_of(&numbers), text.to_vec()].concat()
 }

@@ -9,17 +9,17 @@ use core::ptr;
 /// Bytes of a configuration record.
 pub const CONFIG_SIZE: usize = 146;
 /// Bytes of an envelope record.
-pub const ENVELOPE_SIZE: usize = 224;
+pub const ENVELOPE_SIZE: usize = 256;
 /// Bytes of a message's place record.
 pub const PLACE_SIZE: usize = 32;
 /// Bytes of a message's head record.
 pub const HEAD_SIZE: usize = 160;
 /// Bytes of a field record.
-pub const FIELD_SIZE: usize = 48;
+pub const FIELD_SIZE: usize = 64;
 /// Bytes of a walk record.
-pub const WALK_SIZE: usize = 64;
+pub const WALK_SIZE: usize = 80;
 /// Bytes of a partial's record.
-pub const PARTIAL_SIZE: usize = 112;
+pub const PARTIAL_SIZE: usize = 144;
 /// Bytes of the record of the last sequence number.
 pub const SEQUENCE_SIZE: usize = 16;
 /// The DataSetWriterId, or sequence number, that stands for none.

@@ -144,5 +144,5 @@ pub mod partial {
     pub const WRITER: usize = 3;
     pub const NUMBER: usize = 4;
     pub const TOTAL: usize = 5;
-    pub const TEXT_AT: usize = 48;
+    pub const TEXT_AT: usize = 80;
 }

@@ -16,7 +16,7 @@ pub type Record = [u8; WALK_SIZE];
 /// # let datagram = [
 /// #     0xD1, 0x01, 0x67, 0x12, 0x01, 0x15, 0x00, 0x09, 0x05, 0x00, 0x02, 0x00, 0x05, 0x03, 0x00, 0x0A, 0x00, 0x00, 0x00, 0x3F,
 /// # ];
-/// let mut room: [Record; 100] = [[0; 64]; 100];
+/// let mut room: [Record; 100] = [[0; 80]; 100];
 /// let walk = walk(&datagram, &Config::default(), &mut room)?;
 /// assert_eq!((walk.total(), walk.is_whole()), (3, true));
 /// for entry in walk.entries() {

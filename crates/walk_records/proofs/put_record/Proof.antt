@@ -18,7 +18,7 @@ returns-2 c =
     let at-put-numbers = c .before .before in
     let at-pre = at-put-numbers .before .before .before .before .before in
     record-put (now (at-pre .args .numbers)) (now (at-pre .args .out)) _ (at-pre .args .k)
-    (64 * (at-pre .args .k) + 64 - 64 * (at-pre .args .k)) (at-pre .pre) (omega arith) (omega arith) (at-put-numbers .put-numbers .ensures)
+    (80 * (at-pre .args .k) + 80 - 80 * (at-pre .args .k)) (at-pre .pre) (omega arith) (omega arith) (at-put-numbers .put-numbers .ensures)
 
 pub put-record-spec : {M : Type 1} → statement M
 put-record-spec =

@@ -120,8 +120,8 @@ impl LentPartial {
                 let (result, mut after) = self.after(|partial| partial.combine(source.view(&known)));
                 // A record that is taken over keeps the source's 64 bytes for a string as they are.
                 if after.record != self.record {
-                    after.record.middle_mut()[48..record::PARTIAL_SIZE]
-                        .copy_from_slice(&source.record.middle()[48..record::PARTIAL_SIZE]);
+                    after.record.middle_mut()[80..record::PARTIAL_SIZE]
+                        .copy_from_slice(&source.record.middle()[80..record::PARTIAL_SIZE]);
                 }
                 (result, after)
             }

@@ -16,7 +16,7 @@ returns c =
     let at-field-place = at-f .before .before in
     let at-types-for = at-field-place .before in
     let args = at-types-for .before .before .before .before .args in
-    fill-none _ (now (args .field)) _ _ 48 _
+    fill-none _ (now (args .field)) _ _ 64 _
     (field-read (now (args .config)) (now (args .message)) _ (args .writer) (args .k) _ (at-types-for .types-for .ensures)
     (told answerField (at-field-place .field-place .ensures) (at-f .f .given .1))) (bytes-length (fieldNumbers (at-f .f .given .0 .0))) (omega arith) (c .result2 .ensures)
 
@@ -39,7 +39,7 @@ returns-3 c =
     let at-field-place = at-f .before .before in
     let at-types-for = at-field-place .before in
     let args = at-types-for .before .before .before .before .args in
-    fill-done _ (now (args .field)) _ _ _ 48 _
+    fill-done _ (now (args .field)) _ _ _ 64 _
     (field-read (now (args .config)) (now (args .message)) _ (args .writer) (args .k) _ (at-types-for .types-for .ensures)
     (told answerField (at-field-place .field-place .ensures) (at-f .f .given .1))) (bytes-length (fieldNumbers (at-f .f .given .0 .0)))
     (omega arith) (c .result3 .ensures) (at-put-field .put-field .ensures)

@@ -19,7 +19,7 @@ returns c =
     let at-sizes = at-first .before .before in
     let at-writer-count = at-sizes .before in
     let args = at-writer-count .before .before .before .before .args in
-    fill-none _ (now (args .envelope)) _ _ 224 _
+    fill-none _ (now (args .envelope)) _ _ 256 _
     (envelope-read (now (args .config)) (now (args .datagram)) _ _ _ _ (at-writer-count .writer-count .ensures .0)
     (at-sizes .sizes .ensures) (at-first .first .ensures) (told answerNetworkMessage (at-read .read .ensures) (at-e .e .given .1)))
     (bytes-length (envelopeNumbers (record { envelope = at-e .e .given .0 .0; places = at-e .e .given .0 .1 .0; payload = at-e .e .given .0 .1 .1 .0 }))) (omega arith) (c .result2 .ensures)
@@ -47,7 +47,7 @@ returns-3 c =
     let at-sizes = at-first .before .before in
     let at-writer-count = at-sizes .before in
     let args = at-writer-count .before .before .before .before .args in
-    fill-done _ (now (args .envelope)) _ _ _ 224 _
+    fill-done _ (now (args .envelope)) _ _ _ 256 _
     (envelope-read (now (args .config)) (now (args .datagram)) _ _ _ _ (at-writer-count .writer-count .ensures .0)
     (at-sizes .sizes .ensures) (at-first .first .ensures) (told answerNetworkMessage (at-read .read .ensures) (at-e .e .given .1)))
     (bytes-length (envelopeNumbers (record { envelope = at-e .e .given .0 .0; places = at-e .e .given .0 .1 .0; payload = at-e .e .given .0 .1 .1 .0 })))
