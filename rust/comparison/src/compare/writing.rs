@@ -29,7 +29,7 @@ struct DatagramParts {
 impl DatagramParts {
     fn of(random: &mut Random, spec: &EnvelopeSpec) -> Self {
         // Numbers that are not read hold anything.
-        let mut numbers: Vec<u64> = (0..28).map(|_| random.number()).collect();
+        let mut numbers: Vec<u64> = (0..record::ENVELOPE_SIZE / 8).map(|_| random.number()).collect();
         let (kind, id) = spec.publisher.clone().unwrap_or_default();
         let is_string = kind == 4 && spec.publisher.is_some();
         numbers[0] = if spec.publisher.is_some() { u64::from(kind) + 1 } else { 0 };

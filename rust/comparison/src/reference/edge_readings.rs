@@ -20,7 +20,7 @@ fn example_lists() {
 #[test]
 fn example_walks() {
     let envelope = network::read(&EXAMPLE, &Config::default()).expect("accepted");
-    let records = [[1, 0, 21, 0, 0, 5, 7, 13], [0, 0, 0, 5, 0, 0, 12, 3], [0, 0, 1, 10, 0, 0, 15, 5]];
+    let records = [[1, 0, 21, 0, 0, 5, 7, 13, 0, 0], [0, 0, 0, 5, 0, 0, 12, 3, 0, 0], [0, 0, 1, 10, 0, 0, 15, 5, 0, 0]];
     assert_eq!(record::walk(&EXAMPLE, &Config::default(), &envelope), records);
 }
 
