@@ -2,7 +2,9 @@ pub mod Edges
 pub mod Refusals
 pub mod RefusedDatagrams
 pub mod RefusedMessages
+pub mod RefusedCalls
 pub mod Tiling
+pub mod FieldsTile
 pub mod Demand1
 pub mod Demand2
 pub mod Demand3

@@ -13,7 +13,7 @@ use Rattle.reassembly.specs.Record.{Partial, Identity, roomOf, Good}
 use Rattle.reassembly.specs.Reading.{readingAt}
 use Rattle.reassembly.specs.Reading.Reading.{chunk}
 use Rattle.reassembly.specs.Machine.{Call, stateOf, alone}
-use Rattle.reassembly.specs.Machine.Call.{Empty, Take, Combine, Ask, HandOut}
+use Rattle.reassembly.specs.Machine.Call.{Ask, HandOut}
 use Rattle.reassembly.specs.Machine.Reply.{said, handed, refused}
 use Rattle.reassembly.specs.Judge.{Complete, Equal}
 use Rattle.reassembly.specs.Operations.{takeIn, combine, handOut}
@@ -32,15 +32,8 @@ use Rattle.records.specs.Sizes.{PARTIAL_SIZE}
 use Rattle.partial_record.specs.Partial.{partialIn, partialBytes, FitsRecord}
 use Rattle.uadp_c.specs.Reassembling.{Lent}
 use Rattle.uadp_c.specs.History.{LentCall, Called, AllCalled, Ready, LentList, Unchanged}
-use Rattle.acceptance.specs.Refusals.{Refusal}
-
--- how many bytes a call reads: places count in the datagram
-abbrev pub bytesRead : Call → ℕ
-bytesRead Empty = 0
-bytesRead (Take d sizes) = length d
-bytesRead (Combine f) = 0
-bytesRead Ask = 0
-bytesRead HandOut = 0
+use Rattle.acceptance.specs.Refusals.{Refusal, callNumbers}
+use Rattle.acceptance.specs.Calls.{bytesRead}
 
 pub record Demand3 : Type 0 where
   -- ---- ONE CLAIM. Take any list of calls on one sound, just emptied partial: every answer in it is the plain machine's, the partial
@@ -86,7 +79,7 @@ pub record Demand3 : Type 0 where
   pub refused-hands-nothing : (s : Partial) (n place : ℕ) → answers HandOut s ≡ refused n place → handOut s ≡ []
   -- It "returns the number and a place": each call its own numbers; the place is 0 for 8 and 10 to 15, and else within the datagram.
   pub refused-by : (k : Call) (s : Partial) (n place : ℕ) → answers k s ≡ refused n place → MayRefuse k n place
-  pub refused-place : (k : Call) (s : Partial) (n place : ℕ) → answers k s ≡ refused n place → Refusal n place (bytesRead k)
+  pub refused-place : (k : Call) (s : Partial) (n place : ℕ) → answers k s ≡ refused n place → Refusal callNumbers n place (bytesRead k)
   -- ---- THE SAME THROUGH C. From a record of full length that is zeroed or was just emptied, any list of `uadp_` calls answers as the
   -- machine, and the one claim holds of what the lent bytes stand for.
   pub any-lent-list : (ks : List LentCall) (b : Lent) (ys : List Lent) → Ready b → AllCalled ks b ys → LentList ks b ys

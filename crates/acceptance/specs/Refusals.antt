@@ -1,16 +1,70 @@
--- What a refusal of reading says (document 01, "Numbers given back").
+-- What a refusal says (document 01, "Numbers given back"), and by which numbers each operation refuses.
 use Prim.Native.Nat.{ℕ, _≤_}
 use mathlib.Core.Path.{_≡_}
 use mathlib.Core.Bool.{Bool, true, _&&_, _||_}
+use mathlib.Core.List.{List, [], _∷_}
+use mathlib.Core.Logic.{_⊎_}
 use lib.Dec.{eqb, leb}
+use Rattle.wire.specs.Constants.{CUT_SHORT, BAD_VERSION, NOT_PERMITTED, NOT_TAKEN, BAD_LENGTH, DISAGREE, LEFT_OVER, NOT_CONFIGURED, TOO_DEEP, OVER_LIMIT, NO_ROOM, UNSOUND, OTHER_MESSAGE, BYTE_DIFFERS, NOT_COMPLETE, BAD_LINE}
+use Rattle.reassembly_laws.specs.Refusing.{oneOf}
 
 -- "0 for 8 and 10 to 15"
 abbrev pub placeless : ℕ → Bool
 placeless n = eqb n 8 || (leb 10 n && leb n 15)
 
--- a refusal of n bytes: its number is one of document 01's, its place is 0 for those numbers, and it is never past the last byte's end
-pub record Refusal (number place bytes : ℕ) : Type 0 where
-  pub some : 1 ≤ number
-  pub last : number ≤ 16
+-- a refusal, by one of these numbers, of so many bytes: its place is 0 for 8 and 10 to 15, and never past the last byte's end
+pub record Refusal (numbers : List ℕ) (number place bytes : ℕ) : Type 0 where
+  pub one : oneOf numbers number ≡ true
   pub nowhere : placeless number ≡ true → place ≡ 0
   pub inside : place ≤ bytes
+
+-- the same of what a caller named a byte for, past the end too: "A made-up cursor is read at the byte it names"
+abbrev pub StepRefusal : List ℕ → ℕ → ℕ → ℕ → ℕ → Type 0
+StepRefusal numbers number place bytes at = Refusal numbers number place bytes ⊎ ((oneOf numbers number ≡ true) × (place ≡ at))
+
+-- ---- by which numbers: of a datagram, of a chunk, of a value, of a DataSetMessage
+
+abbrev pub datagramNumbers : List ℕ
+datagramNumbers = CUT_SHORT ∷ NOT_PERMITTED ∷ BAD_VERSION ∷ NOT_TAKEN ∷ BAD_LENGTH ∷ DISAGREE ∷ NOT_CONFIGURED ∷ OVER_LIMIT ∷ []
+
+abbrev pub chunkNumbers : List ℕ
+chunkNumbers = CUT_SHORT ∷ NOT_PERMITTED ∷ BAD_VERSION ∷ NOT_TAKEN ∷ BAD_LENGTH ∷ DISAGREE ∷ LEFT_OVER ∷ NOT_CONFIGURED ∷ OVER_LIMIT ∷ []
+
+abbrev pub valueNumbers : List ℕ
+valueNumbers = CUT_SHORT ∷ NOT_PERMITTED ∷ NOT_TAKEN ∷ BAD_LENGTH ∷ TOO_DEEP ∷ []
+
+abbrev pub messageNumbers : List ℕ
+messageNumbers = CUT_SHORT ∷ NOT_PERMITTED ∷ NOT_TAKEN ∷ BAD_LENGTH ∷ LEFT_OVER ∷ NOT_CONFIGURED ∷ TOO_DEEP ∷ []
+
+-- of a step from field to field, and of looking field k up: "k at or past the count, or a step after the last field, is 10"
+abbrev pub fieldStepNumbers : List ℕ
+fieldStepNumbers = CUT_SHORT ∷ NOT_PERMITTED ∷ NOT_TAKEN ∷ BAD_LENGTH ∷ NOT_CONFIGURED ∷ TOO_DEEP ∷ OVER_LIMIT ∷ []
+
+abbrev pub fieldNumbers : List ℕ
+fieldNumbers = CUT_SHORT ∷ NOT_PERMITTED ∷ NOT_TAKEN ∷ BAD_LENGTH ∷ LEFT_OVER ∷ NOT_CONFIGURED ∷ TOO_DEEP ∷ OVER_LIMIT ∷ []
+
+-- of the writers: what reading would refuse, 6, 10 and 11
+abbrev pub datagramWriterNumbers : List ℕ
+datagramWriterNumbers = CUT_SHORT ∷ NOT_PERMITTED ∷ DISAGREE ∷ NOT_CONFIGURED ∷ OVER_LIMIT ∷ NO_ROOM ∷ []
+
+abbrev pub messageWriterNumbers : List ℕ
+messageWriterNumbers =
+    CUT_SHORT ∷ NOT_PERMITTED ∷ NOT_TAKEN ∷ BAD_LENGTH ∷ DISAGREE ∷ LEFT_OVER ∷ NOT_CONFIGURED ∷ TOO_DEEP ∷ OVER_LIMIT ∷ NO_ROOM ∷ []
+
+abbrev pub datagramAgainNumbers : List ℕ
+datagramAgainNumbers =
+    CUT_SHORT ∷ NOT_PERMITTED ∷ BAD_VERSION ∷ NOT_TAKEN ∷ BAD_LENGTH ∷ DISAGREE ∷ NOT_CONFIGURED ∷ OVER_LIMIT ∷ NO_ROOM ∷ []
+
+abbrev pub messageAgainNumbers : List ℕ
+messageAgainNumbers =
+    CUT_SHORT ∷ NOT_PERMITTED ∷ NOT_TAKEN ∷ BAD_LENGTH ∷ DISAGREE ∷ LEFT_OVER ∷ NOT_CONFIGURED ∷ TOO_DEEP ∷ OVER_LIMIT ∷ NO_ROOM ∷ []
+
+-- of cutting
+abbrev pub cutNumbers : List ℕ
+cutNumbers = DISAGREE ∷ OVER_LIMIT ∷ NO_ROOM ∷ []
+
+-- of the calls on a partial
+abbrev pub callNumbers : List ℕ
+callNumbers =
+    CUT_SHORT ∷ NOT_PERMITTED ∷ BAD_VERSION ∷ NOT_TAKEN ∷ BAD_LENGTH ∷ DISAGREE ∷ LEFT_OVER ∷ NOT_CONFIGURED ∷ OVER_LIMIT ∷ NO_ROOM
+    ∷ UNSOUND ∷ OTHER_MESSAGE ∷ BYTE_DIFFERS ∷ NOT_COMPLETE ∷ []

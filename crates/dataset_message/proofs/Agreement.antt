@@ -105,6 +105,9 @@ pub record Agrees (c : Cursor) (types s : List ℕ) (k : ℕ) : Type 0 where
   pub walked : walkAt c types k s ≡ got (cursorBefore c k at) at
   pub stepped : nextFieldAt (cursorBefore c k at) types s ≡ got (record { field = place; cursor = cursorBefore c (k + 1) end }) end
   pub looked-up : nthAt c types k s ≡ got place end
+  pub passed : fieldsAt (c .delta) (c .encoding) types k 0 s (c .at) ≡ got tt at
+  pub passed-too : fieldsAt (c .delta) (c .encoding) types (suc k) 0 s (c .at) ≡ got tt end
+  pub read : fieldAt (c .delta) (c .encoding) types k s at ≡ got place end
 
 -- Stepping through all fields visits exactly the fields that reading the whole message accepts, in their order.
 walk-agrees : (c : Cursor) (types s : List ℕ) (e : ℕ) → c .next ≡ 0 → fieldsAt (c .delta) (c .encoding) types (c .count) 0 s (c .at) ≡ got tt e
@@ -120,38 +123,44 @@ walk-agrees c types s e z h k l =
       walked = walk-is c types s k (a .0) (omega arith) z (a .2);
       stepped = step-is c types s k (a .0) (b .0) (a .1) l (a .3);
       looked-up = rw (lt-leb (c .count) k l, a .2, a .3);
+      passed = a .2;
+      passed-too = b .1;
+      read = a .3;
     }
 
 -- and a step after the last is 10
 pub walk-ends : (c : Cursor) (types s : List ℕ) (q : ℕ) → q ≤ length s → nextFieldAt (cursorBefore c (c .count) q) types s ≡ refused 10 0
 walk-ends c types s q h = rw (le-ltb (length s) q h, le-leb (c .count) (c .count) (omega arith))
 
--- What an accepted message tells of its fields: they were passed from the cursor's byte to `end`, and the cursor is before the first.
-pub record Read (types s : List ℕ) (m : Message) : Type 0 where
+-- What an accepted message tells of its fields: they were passed from the cursor's byte to `end`, where its reading ends, and the cursor is
+-- before the first; after them stands padding.
+pub record Read (types s : List ℕ) (m : Message) (e : ℕ) : Type 0 where
   pub first : m .cursor .next ≡ 0
   pub passed : fieldsAt (m .cursor .delta) (m .cursor .encoding) types (m .cursor .count) 0 s (m .cursor .at) ≡ got tt (m .end)
+  pub ends : m .end ≡ e
+  pub padding : (z : ℕ) × (paddingAt s (m .end) ≡ got tt z)
 
-end-read : (h : Header) (c : Cursor) (types s : List ℕ) (m : Message) (e : ℕ) → c .next ≡ 0 → endAt h c types s ≡ got (valid m) e → Read types s m
+end-read : (h : Header) (c : Cursor) (types s : List ℕ) (m : Message) (e : ℕ) → c .next ≡ 0 → endAt h c types s ≡ got (valid m) e → Read types s m e
 end-read h c types s m e z q =
     let a = invert (fieldsAt (c .delta) (c .encoding) types (c .count) 0 s (c .at)) (λ _ n. _) q in
     let b = invert (paddingAt s (a .1)) (λ _ y. _) (a .3) in
     let v : valid (record { header = h; cursor = c; end = a .1 }) ≡ valid m = got-value (b .3) in
     let n : _≡_ {A = Message} (record { header = h; cursor = c; end = a .1 }) m = cc in
-    rw (sym n) (record { first = z; passed = a .2 })
+    rw (sym n) (record { first = z; passed = a .2; ends = got-next (b .3); padding = (b .1, b .2) })
 
-body-read : (h : Header) (types s : List ℕ) (at : ℕ) (m : Message) (e : ℕ) → bodyAt h types s at ≡ got (valid m) e → Read types s m
+body-read : (h : Header) (types s : List ℕ) (at : ℕ) (m : Message) (e : ℕ) → bodyAt h types s at ≡ got (valid m) e → Read types s m e
 body-read h types s at m e q =
     let a = invert (countAt (h .kind) (isRaw (h .encoding)) types s at) (λ n first. _) q in
     end-read h (record { encoding = h .encoding; delta = isDelta (h .kind); next = 0; count = a .0; at = a .1 }) types s m e refl (a .3)
 
-header-read : (v : Valid Header) (types s : List ℕ) (at : ℕ) (m : Message) (e : ℕ) → afterHeader v types s at ≡ got (valid m) e → Read types s m
+header-read : (v : Valid Header) (types s : List ℕ) (at : ℕ) (m : Message) (e : ℕ) → afterHeader v types s at ≡ got (valid m) e → Read types s m e
 header-read notValid types s at m e q =
     let v : _≡_ {A = Valid Message} notValid (valid m) = got-value q in
     let z : _≡_ {A = ℕ} 0 1 = cc in
     absurd (omega arith)
 header-read (valid h) types s at m e q = body-read h types s at m e q
 
-pub message-read : (types s : List ℕ) (m : Message) (e : ℕ) → messageAt types s ≡ got (valid m) e → Read types s m
+pub message-read : (types s : List ℕ) (m : Message) (e : ℕ) → messageAt types s ≡ got (valid m) e → Read types s m e
 message-read types s m e q =
     let a = invert (messageHeaderAt s 0) (λ v at. _) q in
     header-read (a .0) types s (a .1) m e (a .3)

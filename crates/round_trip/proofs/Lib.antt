@@ -8,6 +8,7 @@ pub mod NetworkMessagePayload
 pub mod NetworkMessageMessages
 pub mod NetworkMessageWritten
 pub mod NetworkMessageGiven
+pub mod RewrittenBytes
 pub mod NetworkMessageRewritten
 pub mod NetworkMessageRefused
 pub mod NetworkMessageAccepted

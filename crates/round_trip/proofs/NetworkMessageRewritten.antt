@@ -8,7 +8,7 @@ use native.Mathlib.Omega.{arith}
 use lib.ListN.{length, drop, length-append}
 use lib.Dec.{ltb, eqb}
 use borrow.Author.Tests.{eqb-true, eqb-false}
-use Rattle.wire.specs.Answer.{Answer, got, refused, _>>=_}
+use Rattle.wire.specs.Answer.{got, refused, _>>=_}
 use Rattle.wire.specs.Optional.{optionalI64, picosecondsRule, picosecondsAt}
 use Rattle.wire.specs.declared.optional.Optional16.{Optional16}
 use Rattle.wire.specs.declared.optional.OptionalI64.{OptionalI64}
@@ -37,7 +37,8 @@ use Rattle.wire_writer.proofs.Back.{Back, join, rest-is, end-fits, map-back, op
 use Rattle.network_message_writer.specs.Envelope.{envelopeBytes, againOf, datagramAgain}
 use Rattle.network_header.proofs.Sizes.{flags-sized}
 use Rattle.network_message_writer.proofs.Again.{accepted-short}
-use Rattle.round_trip.specs.NetworkMessage.{rewrittenFlags, rewrittenAs, rewritten}
+use Rattle.round_trip.specs.NetworkMessage.{rewritten}
+use Rattle.round_trip.proofs.RewrittenBytes.{rewrittenFlags, rewritten-flags}
 use Rattle.network_header.proofs.FlagsBack.{flags-back}
 use Rattle.publisher_id.proofs.PublisherTrip.{publisher-back}
 use Rattle.network_header.proofs.HeaderTrip.{class-back, payload-header-back, promoted-back}
@@ -153,7 +154,7 @@ pub rewrite-read : (sizes s : List ℕ) (m : NetworkMessage) (next : ℕ) → By
 rewrite-read sizes s m next b h =
     let f = flags-of sizes s m next h in
     let r = body-same sizes s (f .0) (f .1) m next b (f .2) (f .3) in
-    r .0 ∙ ap (λ (a : Answer Flags). rewrittenAs s a) (sym (f .2))
+    r .0 ∙ rewritten-flags s (f .0) (f .1) b (f .2)
 
 -- Where PublisherId is on, or its type bits are 0, it is the datagram itself.
 pub rewrite-same : (sizes s : List ℕ) (m : NetworkMessage) (next : ℕ) (f : Flags) (n : ℕ) → Bytes s → networkMessageAt sizes s ≡ got m next → flagsAt s 0 ≡ got f n
@@ -175,7 +176,7 @@ rewrite-same sizes s m next f n b h hf e =
       chunk = f .chunk;
       promoted = f .promoted;
     }) e in
-    ap (λ (a : Answer Flags). rewrittenAs s a) hf
+    sym (rewritten-flags s f n b hf)
     ∙ ap (λ (x : Flags). flagBytes x ++ drop n s) z ∙ ap (λ (x : Flags). flagBytes x ++ drop n s) (sym (got-value q)) ∙ ap (λ (k : ℕ). flagBytes (g .0) ++ drop k s) (sym (got-next q)) ∙ sym (r .1)
 
 -- in particular, where a PublisherId was read
@@ -228,7 +229,7 @@ rewritten-short : (sizes s : List ℕ) (m : NetworkMessage) (next : ℕ) → Byt
 rewritten-short sizes s m next b h =
     let f = flags-of sizes s m next h in
     let r = body-same sizes s (f .0) (f .1) m next b (f .2) (f .3) in
-    let e : length (rewritten s) ≡ length (flagBytes (rewrittenFlags (f .0)) ++ drop (f .1) s) = ap (λ (a : Answer Flags). length (rewrittenAs s a)) (f .2) in
+    let e : length (rewritten s) ≡ length (flagBytes (rewrittenFlags (f .0)) ++ drop (f .1) s) = ap length (sym (rewritten-flags s (f .0) (f .1) b (f .2))) in
     omega (arith, e, ap length (r .1), length-append (flagBytes (rewrittenFlags (f .0))) (drop (f .1) s), length-append (flagBytes (f .0)) (drop (f .1) s), flags-shorter (f .0))
 
 -- `rewrite` accepts an accepted datagram wherever the buffer is as long, and stores exactly its rewriting.

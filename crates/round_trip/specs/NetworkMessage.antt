@@ -1,16 +1,15 @@
 -- What the round trips of NetworkMessages say.
-use Prim.Native.Nat.{ℕ, suc, _+_, _*_, _<_}
+use Prim.Native.Nat.{ℕ, suc, _+_, _*_, _-_, _/_, _<_}
 use mathlib.Core.Path.{_≡_}
-use mathlib.Core.Bool.{true, false, cond}
+use mathlib.Core.Bool.{true, false, cond, not, _&&_}
 use mathlib.Core.List.{List, [], _∷_, _++_}
-use lib.Dec.{leb}
+use lib.Dec.{leb, eqb}
 use lib.ListN.{length, take, drop, getD}
 use Rattle.wire.specs.Lists.{total}
 use Rattle.wire.specs.Constants.{MOST_WRITERS}
 use Rattle.wire.specs.Number.{le, leBytes}
 use Rattle.wire.specs.declared.optional.Optional16.{Optional16}
-use Rattle.wire.specs.Answer.{Answer, got, refused}
-use Rattle.network_header.specs.declared.flags.Flags.{Flags}
+use Rattle.wire.specs.Answer.{got, bit}
 use Rattle.network_header.specs.declared.header.PayloadHeader.{PayloadHeader}
 use Rattle.network_message.specs.declared.payload.Sizes.{Sizes}
 use Rattle.network_message.specs.declared.payload.Payload.{Payload}
@@ -19,7 +18,7 @@ use Rattle.network_header.specs.declared.envelope.Envelope.{Envelope}
 use Rattle.network_header.specs.declared.envelope.Places.{Places}
 use Rattle.network_message.specs.Payload.{allPositive, listed, messagesFrom, OfMessages}
 use Rattle.network_header.specs.Numbers.{configuredSizes}
-use Rattle.network_header.specs.Flags.{flagsAt, flagBytes, flagsFor}
+use Rattle.network_header.specs.Flags.{flagBytes, flagsFor}
 use Rattle.network_message.specs.WriterId.{writerIdOf}
 use Rattle.network_message.specs.Envelope.{NetworkMessage, networkMessageAt, messagePlaceAt, messageBytes}
 use Rattle.publisher_id.specs.Publisher.{publisherOn, publisherBytes, bytesBefore, textOf, FitsPublisher}
@@ -80,29 +79,13 @@ AsManyLengths PayloadHeader.Absent lengths = Unit {0}
 AsManyLengths (PayloadHeader.Ids n) lengths = leb n 1 ≡ false → length lengths ≡ 2 * n
 AsManyLengths (PayloadHeader.Chunk w) lengths = Unit {0}
 
--- The one rewriting exception: "With PublisherId off, its type bits are written as 0; if ExtendedFlags1 would then be 0, the
--- byte is left out and bit 7 of byte 0 is 0" (`flagBytes` leaves such a byte out, and the bit with it).
-abbrev pub rewrittenFlags : Flags → Flags
-rewrittenFlags f =
-    record {
-      publisher = f .publisher;
-      group = f .group;
-      «payload_header» = f .«payload_header»;
-      kind = cond (f .publisher) (f .kind) 0;
-      «class_id» = f .«class_id»;
-      timestamp = f .timestamp;
-      picoseconds = f .picoseconds;
-      chunk = f .chunk;
-      promoted = f .promoted;
-    }
-
--- a datagram with its flag bytes, as read, rewritten so, and all else as it stands
-abbrev pub rewrittenAs : List ℕ → Answer Flags → List ℕ
-rewrittenAs s (got f n) = flagBytes (rewrittenFlags f) ++ drop n s
-rewrittenAs s (refused n place) = s
-
+-- The one rewriting exception: "With PublisherId off, its type bits are written as 0; if ExtendedFlags1 would then be 0, the byte is left
+-- out and bit 7 of byte 0 is 0." b is byte 0, whose bit 7 says that ExtendedFlags1 follows, e; every other byte stays.
 abbrev pub rewritten : List ℕ → List ℕ
-rewritten s = rewrittenAs s (flagsAt s 0)
+rewritten [] = []
+rewritten (b ∷ []) = b ∷ []
+rewritten (b ∷ e ∷ s) =
+    cond (bit 7 b && not (bit 4 b)) (cond (eqb (e / 8) 0) (b - 128 ∷ s) (b ∷ 8 * (e / 8) ∷ s)) (b ∷ e ∷ s)
 
 -- the parts of a datagram as reading found them, to be given to the writer
 

@@ -1,0 +1,107 @@
+-- DEMAND 1 as one type: a field for each sentence, the sentence above it. proofs/Demand1.antt gives a value of it. "Any datagram, any
+-- configuration text, any reassembly area, any made-up record or cursor gets an answer; the caller has checked nothing": no public function
+-- has a `requires`, and each contract is an equation with a definition that answers for every argument. What is left to say is what a refusal
+-- tells, and that it leaves every lent byte as it was. The terms are those of the contracts.
+use Prim.Native.Nat.{ℕ, _≤_, _%_}
+use mathlib.Core.Path.{_≡_}
+use mathlib.Core.Bool.{true}
+use mathlib.Core.List.{List, [], _∷_}
+use lib.ListN.{length}
+use Rattle.wire.specs.Constants.{BAD_LINE, CUT_SHORT, NO_ROOM, OVER_LIMIT}
+use Rattle.wire.specs.Answer.{Answer, refused}
+use Rattle.wire_writer.specs.Writing.{Output, Writes, writtenOf, bufferAfter, answerWritten}
+use Rattle.wire_writer.specs.declared.writing.Written.{Written}
+use Rattle.value.specs.Value.{variantAt, dataValueAt, rawAt}
+use Rattle.config_text.specs.Config.{configOf, linesOf}
+use Rattle.network_message.specs.Payload.{placeStepAt}
+use Rattle.network_message.specs.Envelope.{networkMessageAt, messagePlaceAt, messageBytes}
+use Rattle.network_message.specs.declared.payload.Payload.{Payload}
+use Rattle.network_message.specs.declared.payload.MessageCursor.{MessageCursor}
+use Rattle.dataset_fields.specs.Fields.{nextFieldAt, FieldStepped}
+use Rattle.dataset_fields.specs.declared.fields.Cursor.{Cursor}
+use Rattle.dataset_message.specs.Message.{messageAt, fieldPlaceAt, fieldBytes}
+use Rattle.chunk.specs.Datagram.{chunkAt}
+use Rattle.chunk.specs.Cutting.{cutAnswer, cutBuffer}
+use Rattle.walk.specs.Lines.{Writers}
+use Rattle.walk_records.specs.Walk.{walkOf, walkLines, recordsPut}
+use Rattle.walk_records.specs.declared.Walked.{Walked}
+use Rattle.listing.specs.Text.{textWritten, textAfter}
+use Rattle.reassembly.specs.Record.{Partial}
+use Rattle.reassembly.specs.Machine.{Call}
+use Rattle.reassembly.specs.Machine.Reply.{refused as refusedBy}
+use Rattle.reassembly.specs.Calls.{answers, leaves}
+use Rattle.reassembly_laws.specs.Refusing.{oneOf}
+use Rattle.records.specs.Result.{Filling, resultIn, filledIn}
+use Rattle.network_message.specs.Payload.{PlaceStepped}
+use Rattle.wire.specs.declared.optional.Optional16.{Optional16}
+use Rattle.uadp_c.specs.Cutting.{cutResult}
+use Rattle.uadp_c.specs.Fields.{stepResult, headAfter, fieldAfter}
+use Rattle.uadp_c.specs.Messages.{messageResult, envelopeAfter, placeAfter}
+use Rattle.uadp_c.specs.Reassembling.{Lent}
+use Rattle.uadp_c.specs.History.{LentCall, Called, Unchanged}
+use Rattle.uadp_c.specs.Sequence.{newnessResult, newnessAfter}
+use Rattle.uadp_c.specs.Walks.{walkResult}
+use Rattle.uadp_c.specs.Writing.{writerResult, outputResult}
+use Rattle.acceptance.specs.Refusals.{Refusal, StepRefusal, datagramNumbers, chunkNumbers, valueNumbers, messageNumbers, fieldStepNumbers, fieldNumbers, cutNumbers, callNumbers}
+use Rattle.acceptance.specs.Calls.{bytesRead}
+
+-- a C result's number is not 0
+abbrev pub IsRefused : ℕ → Type 0
+IsRefused result = result % 256 ≡ 0 → ⊥
+
+pub record Demand1 : Type 0 where
+  -- ---- "Every refusal .. returns the number and a place: the first byte of the offending item; the line from 1 for number 16; 0 for 8 and
+  -- 10 to 15. Places count from the read slice's start".
+  -- Of a datagram, of a DataSetMessage and of a chunk.
+  pub datagram : (sizes s : List ℕ) (n place : ℕ) → networkMessageAt sizes s ≡ refused n place → Refusal datagramNumbers n place (length s)
+  pub message : (types s : List ℕ) (n place : ℕ) → messageAt types s ≡ refused n place → Refusal messageNumbers n place (length s)
+  pub chunk : (sizes s : List ℕ) (n place : ℕ) → chunkAt sizes s ≡ refused n place → Refusal chunkNumbers n place (length s)
+  -- Of a value measured at any position: a Variant, a DataValue, an element of RawData of any type.
+  pub variant : (s : List ℕ) (at n place : ℕ) → variantAt s at ≡ refused n place → StepRefusal valueNumbers n place (length s) at
+  pub data-value : (s : List ℕ) (at n place : ℕ) → dataValueAt s at ≡ refused n place → StepRefusal valueNumbers n place (length s) at
+  pub raw : (t : ℕ) (s : List ℕ) (at n place : ℕ) → rawAt t s at ≡ refused n place → StepRefusal valueNumbers n place (length s) at
+  -- Of a configuration text: 16, and the line that breaks a rule, counted from 1.
+  pub configuration : (text : List ℕ) → (configOf text .number ≡ 0 → ⊥)
+      → (configOf text .number ≡ BAD_LINE) × (1 ≤ configOf text .place) × (configOf text .place ≤ length (linesOf text))
+  -- ---- Of looking message k up, and of a step from message to message with a cursor and a payload that may be made up. A part that is
+  -- refused is empty.
+  pub message-lookup : (sizes s : List ℕ) (k n place : ℕ) → messagePlaceAt sizes k s ≡ refused n place
+      → Refusal datagramNumbers n place (length s) × (messageBytes (messagePlaceAt sizes k s) s ≡ [])
+  pub message-step : (p : Payload) (sizes : List ℕ) (c : MessageCursor) (s : List ℕ) (n place : ℕ) → placeStepAt p sizes c s ≡ refused n place
+      → StepRefusal (CUT_SHORT ∷ OVER_LIMIT ∷ []) n place (length s) (c .at)
+  -- Of looking field k up, and of a step from field to field with a cursor that may be made up.
+  pub field-lookup : (types s : List ℕ) (k n place : ℕ) → fieldPlaceAt types k s ≡ refused n place
+      → Refusal fieldNumbers n place (length s) × (fieldBytes (fieldPlaceAt types k s) s ≡ [])
+  pub field-step : (c : Cursor) (types s : List ℕ) (n place : ℕ) → nextFieldAt c types s ≡ refused n place
+      → StepRefusal fieldStepNumbers n place (length s) (c .at)
+  -- ---- "Every refusal leaves all lent bytes and records unchanged"; "a writer's [place] is 0".
+  -- Both writers and both rewritings, whatever is to be written; cutting; a listing.
+  pub writer : (output : Output) (entry exit : List ℕ) (n : ℕ) → Writes output entry exit (Written.Refused n)
+      → (exit ≡ entry) × (answerWritten (writtenOf (length entry) output) ≡ refused n 0)
+  pub cut : (p : List ℕ) (number size k : ℕ) (out : List ℕ) (n : ℕ) → cutAnswer p number size k (length out) ≡ Written.Refused n
+      → (oneOf cutNumbers n ≡ true) × (cutBuffer p number size k out ≡ out)
+  pub listing : (out text : List ℕ) (n : ℕ) → textWritten out text ≡ Written.Refused n → (n ≡ NO_ROOM) × (textAfter out text ≡ out)
+  -- A walk: its refusal is the datagram's.
+  pub walk : (w : Writers) (d out : List ℕ) (n place : ℕ) → walkOf w d ≡ Walked.Refused n place
+      → Refusal datagramNumbers n place (length d) × (recordsPut 0 (walkLines w d) out ≡ out)
+  -- The five calls of reassembly, for sound and unsound partials.
+  pub call : (k : Call) (s : Partial) (n place : ℕ) → answers k s ≡ refusedBy n place
+      → Refusal callNumbers n place (bytesRead k) × (leaves k s ≡ s)
+  -- ---- THE SAME THROUGH C, for any bytes in any record: a result whose low byte is not 0 leaves every lent byte as it was.
+  -- uadp_config, uadp_read, uadp_read_message, uadp_field: what is read fills one record.
+  pub lent-filling : (read : Answer Filling) (out : List ℕ) → IsRefused (resultIn read out) → filledIn read out ≡ out
+  -- uadp_next_message, uadp_next_field: a record's cursor moves, and another record is filled.
+  pub lent-message-step : (writer : ℕ → Optional16) (step : Answer PlaceStepped) (envelope place : List ℕ)
+      → IsRefused (messageResult step envelope place)
+      → (envelopeAfter step envelope place ≡ envelope) × (placeAfter writer step envelope place ≡ place)
+  pub lent-field-step : (step : Answer FieldStepped) (head field : List ℕ) → IsRefused (stepResult step head field)
+      → (headAfter step head field ≡ head) × (fieldAfter step head field ≡ field)
+  -- uadp_write, uadp_write_message, uadp_rewrite, uadp_rewrite_message; uadp_cut; uadp_list; uadp_walk; uadp_newness.
+  pub lent-writer : (out : List ℕ) (output : Output) → IsRefused (outputResult out output) → bufferAfter out output ≡ out
+  pub lent-cut : (p : List ℕ) (number size k : ℕ) (out : List ℕ) → IsRefused (cutResult (cutAnswer p number size k (length out)))
+      → cutBuffer p number size k out ≡ out
+  pub lent-listing : (out text : List ℕ) → IsRefused (writerResult (answerWritten (textWritten out text))) → textAfter out text ≡ out
+  pub lent-walk : (w : Writers) (d out : List ℕ) → IsRefused (walkResult (walkOf w d)) → recordsPut 0 (walkLines w d) out ≡ out
+  pub lent-newness : (s : List ℕ) (received : ℕ) → IsRefused (newnessResult s received) → newnessAfter s received ≡ s
+  -- uadp_empty, uadp_take_in, uadp_combine, uadp_complete, uadp_hand_out.
+  pub lent-call : (k : LentCall) (b a : Lent) → Called k b a → IsRefused (a .result) → Unchanged b a
