@@ -44,7 +44,7 @@ keeps b [] h = refl
 keeps b (e ∷ t) (inl h) = rw h
 keeps b (e ∷ t) (inr h) = rw h (and-false (bit 7 b))
   where
-    and-false : (x : Bool) → cond (x && false) (cond (eqb (e / 8) 0) (b - 128 ∷ t) (b ∷ 8 * (e / 8) ∷ t)) (b ∷ e ∷ t) ≡ b ∷ e ∷ t
+    and-false : (x : Bool) → cond (x && false) (cond (eqb (e / 8) 0) ((b - 128) ∷ t) (b ∷ (8 * (e / 8)) ∷ t)) (b ∷ e ∷ t) ≡ b ∷ e ∷ t
     and-false true = refl
     and-false false = refl
 
@@ -77,14 +77,14 @@ module _ (c kind K : ℕ) (x r : List ℕ) (small : c < 128) (hk : kind < 8) (hK
           rw (b, b7, b4)
           (by-bool _ (eqb ((kind + K) % 256 / 8) 0) left-out cleared)
         where
-          abbrev rest : List ℕ
+          rest : List ℕ
           rest = x ++ r
 
-          abbrev now : ℕ
+          now : ℕ
           now = (c + 128 * 1) % 256
 
           left-out : eqb ((kind + K) % 256 / 8) 0 ≡ true → front c K x ++ r
-              ≡ cond (eqb ((kind + K) % 256 / 8) 0) (now - 128 ∷ rest) (now ∷ 8 * ((kind + K) % 256 / 8) ∷ rest)
+              ≡ cond (eqb ((kind + K) % 256 / 8) 0) ((now - 128) ∷ rest) (now ∷ (8 * ((kind + K) % 256 / 8)) ∷ rest)
           left-out t =
               let z : (kind + K) % 256 / 8 ≡ 0 = eqb-true ((kind + K) % 256 / 8) 0 t in
               let k : K ≡ 0 = omega arith in
@@ -92,7 +92,7 @@ module _ (c kind K : ℕ) (x r : List ℕ) (small : c < 128) (hk : kind < 8) (hK
               rw (t, eq-eqb K 0 k) (ap (λ (y : ℕ). y ∷ rest) n)
 
           cleared : eqb ((kind + K) % 256 / 8) 0 ≡ false → front c K x ++ r
-              ≡ cond (eqb ((kind + K) % 256 / 8) 0) (now - 128 ∷ rest) (now ∷ 8 * ((kind + K) % 256 / 8) ∷ rest)
+              ≡ cond (eqb ((kind + K) % 256 / 8) 0) ((now - 128) ∷ rest) (now ∷ (8 * ((kind + K) % 256 / 8)) ∷ rest)
           cleared t =
               let z : (kind + K) % 256 / 8 ≡ 0 → ⊥ = eqb-false ((kind + K) % 256 / 8) 0 t in
               let k : K ≡ 0 → ⊥ = λ q. z (omega arith) in
@@ -128,12 +128,19 @@ flags-rewritten f r h =
     let o = num-bound (f .picoseconds) in
     let m = needed-bound (extended2Of f) in
     let x = byteBytes (extended2Of f) in
-    let w = omega (arith, c, t, o, m) in
-    ap (λ (y : List ℕ). y ++ r) (flags-are (rewrittenFlags f))
-    ∙ by-bool _ (f .publisher)
-    (λ b. rw b (on (byte0Front f) (f .kind) (withoutType f) x r (omega arith) h w (omega arith) (rw b (omega arith))))
-    (λ b. rw b (ap (λ (e : ℕ). front (byte0Front f) e x ++ r) (zero-add (withoutType f)) ∙ off (byte0Front f) (f .kind) (withoutType f) x r (omega arith) h w (omega arith) (rw b (omega arith))))
-    ∙ ap (λ (y : List ℕ). rewritten (y ++ r)) (sym (flags-are f))
+    let w : withoutType f < 256 = omega (arith, c, t, o, m) in
+    let e : withoutType f % 8 ≡ 0 = omega arith in
+    let b : byte0Front f < 128 = omega (arith, p, g, l) in
+    let first = ap (λ (y : List ℕ). y ++ r) (flags-are (rewrittenFlags f)) in
+    let last = ap (λ (y : List ℕ). rewritten (y ++ r)) (sym (flags-are f)) in
+    let typed : Bool → ℕ = λ t. cond t (f .kind) 0 + withoutType f in
+    by-bool _ (f .publisher)
+    (λ q. let n : byte0Front f / 16 % 2 ≡ 1 = rw q (omega (arith, g, l)) in
+    let z : typed (f .publisher) ≡ f .kind + withoutType f = ap typed q in
+    first ∙ ap (λ (y : ℕ). front (byte0Front f) y x ++ r) z ∙ on (byte0Front f) (f .kind) (withoutType f) x r b h w e n ∙ last)
+    (λ q. let n : byte0Front f / 16 % 2 ≡ 0 = rw q (omega (arith, g, l)) in
+    let z : typed (f .publisher) ≡ withoutType f = ap typed q ∙ zero-add (withoutType f) in
+    first ∙ ap (λ (y : ℕ). front (byte0Front f) y x ++ r) z ∙ off (byte0Front f) (f .kind) (withoutType f) x r b h w e n ∙ last)
 
 kind-small : (s : List ℕ) (f : Flags) (n : ℕ) → flagsAt s 0 ≡ got f n → f .kind < 8
 kind-small s f n h =

@@ -85,7 +85,7 @@ abbrev pub rewritten : List ℕ → List ℕ
 rewritten [] = []
 rewritten (b ∷ []) = b ∷ []
 rewritten (b ∷ e ∷ s) =
-    cond (bit 7 b && not (bit 4 b)) (cond (eqb (e / 8) 0) (b - 128 ∷ s) (b ∷ 8 * (e / 8) ∷ s)) (b ∷ e ∷ s)
+    cond (bit 7 b && not (bit 4 b)) (cond (eqb (e / 8) 0) ((b - 128) ∷ s) (b ∷ (8 * (e / 8)) ∷ s)) (b ∷ e ∷ s)
 
 -- the parts of a datagram as reading found them, to be given to the writer
 
