@@ -4,8 +4,9 @@ use mathlib.Core.Path.{_≡_, refl, sym, subst, ap, _∙_}
 use mathlib.Core.Bool.{Bool, true, false, cond, false≢true}
 use mathlib.Core.List.{List, [], _∷_}
 use mathlib.Core.Logic.{_⊎_, inl, inr}
+use native.Mathlib.Nat.{zero-add}
 use native.Mathlib.Omega.{arith}
-use borrow.Author.Tests.{lt-leb, leb-false}
+use borrow.Author.Tests.{lt-leb, leb-false, ltb-false}
 use lib.Dec.{eqb, leb, ltb}
 use lib.ListN.{length, drop}
 use Rattle.wire.specs.Answer.{Answer, got, refused, andThen}
@@ -52,10 +53,10 @@ use Rattle.acceptance.specs.Refusals.{Refusal, StepRefusal, datagramNumb
 use Rattle.acceptance.specs.Demand1.{Demand1, IsRefused}
 use Rattle.acceptance.proofs.Refusals.{Tells, with13, allOf, told, wider, no-place, cond-tells, then-tells, run-lawful}
 use Rattle.acceptance.proofs.Refusals.Tells.{gives, refuses}
-use Rattle.acceptance.proofs.RefusedDatagrams.{D, datagram-tells, chunk-tells}
+use Rattle.acceptance.proofs.RefusedDatagrams.{datagramOthers, datagram-tells, chunk-tells}
 use Rattle.acceptance.proofs.Tiling.{payload-first}
 use Rattle.acceptance.proofs.RefusedCalls.{placed}
-use Rattle.acceptance.proofs.RefusedMessages.{F, M, message-tells, value-lawful, raw-lawful, field-lawful}
+use Rattle.acceptance.proofs.RefusedMessages.{fieldOthers, messageOthers, message-tells, value-lawful, raw-lawful, field-lawful}
 
 -- what an answer tells where it is a refusal, of so many bytes, and of a byte that the caller named
 abbrev ToldAt : {A : Type 0} → List ℕ → ℕ → ℕ → Answer A → Type 0
@@ -63,9 +64,9 @@ ToldAt numbers hi at (got a next) = Unit {0}
 ToldAt numbers hi at (refused n place) = StepRefusal numbers n place hi at
 
 -- within the bytes
-within : {A : Type 0} {numbers others : List ℕ} {hi at : ℕ} {x : Answer A} → allOf numbers (with13 others) ≡ true → Tells others hi x → ToldAt numbers hi at x
-within a (gives h) = tt
-within a (refuses r) = inl (wider a r)
+within : {A : Type 0} {others : List ℕ} {hi : ℕ} {x : Answer A} (numbers : List ℕ) (at : ℕ) → allOf numbers (with13 others) ≡ true → Tells others hi x → ToldAt numbers hi at x
+within numbers at a (gives h) = tt
+within numbers at a (refuses r) = inl (wider a r)
 
 -- ---- values at any position: past the end they are cut short there
 value-past : (levels t : ℕ) (s : List ℕ) (at : ℕ) → length s < at → valueAt levels t s at ≡ refused 1 at
@@ -76,7 +77,7 @@ value-past (suc levels) t s at h = by-bool _ (eqb t 23) (λ b. rw (b, lt-leb (at
 value-told : (t : ℕ) (s : List ℕ) (at : ℕ) → ToldAt valueNumbers (length s) at (valueAt 100 t s at)
 value-told t s at =
     by-lt _ (length s) at (λ h. subst (ToldAt valueNumbers (length s) at) (sym (value-past 100 t s at h)) (inr (refl, refl)))
-    (λ h. within refl (value-lawful 100 t .tells s at h))
+    (λ h. within valueNumbers at refl (value-lawful 100 t .tells s at h))
 
 raw-told : (t : ℕ) (s : List ℕ) (at : ℕ) → ToldAt valueNumbers (length s) at (rawAt t s at)
 raw-told t s at =
@@ -90,33 +91,33 @@ lines-told : (c : Config) (n : ℕ) (ls : List TextLine) → (readLines c n ls .
 lines-told c n [] h = absurd (h refl)
 lines-told c n (l ∷ ls) h =
     by-bool _ (mayFollow c (lineSays l))
-    (λ b. rw b (let r = lines-told (with c (lineSays l)) (n + 1) ls (rw b at h) in (r .0, (omega (arith, r .1 .0), omega (arith, r .1 .1)))))
-    (λ b. rw b (refl, (omega arith, omega arith)))
+    (λ b. rw b (let r = lines-told (with c (lineSays l)) (n + 1) ls (rw b at h) in (r .0, omega (arith, r .1), omega (arith, r .2))))
+    (λ b. rw b (refl, omega arith, omega arith))
 
 configuration-told : (text : List ℕ) → (configOf text .number ≡ 0 → ⊥)
     → (configOf text .number ≡ 16) × (1 ≤ configOf text .place) × (configOf text .place ≤ length (linesOf text))
 unfolding configOf
 configuration-told text h =
     let r = lines-told _ 1 (linesOf text) h in
-    (r .0, (r .1 .0, omega (arith, r .1 .1)))
+    (r .0, r .1, omega (arith, r .2))
 
 -- ---- messages
-place-tells : (p : Payload) (sizes : List ℕ) (k : ℕ) (s : List ℕ) (at : ℕ) → at ≤ length s → Tells D (length s) (placeOfMessage p sizes k s at)
+place-tells : (p : Payload) (sizes : List ℕ) (k : ℕ) (s : List ℕ) (at : ℕ) → at ≤ length s → Tells datagramOthers (length s) (placeOfMessage p sizes k s at)
 place-tells p sizes k s at h =
     cond-tells (leb (p .count) k) (refuses (no-place 10 refl))
     (then-tells (run-lawful (sizeOfMessage (p .sizes) sizes k s at) .tells s at h) (λ n next u. gives u))
 
-pass-tells : (p : Payload) (sizes : List ℕ) (k : ℕ) (s : List ℕ) (at : ℕ) → at ≤ length s → Tells D (length s) (passAt p sizes k s at)
+pass-tells : (p : Payload) (sizes : List ℕ) (k : ℕ) (s : List ℕ) (at : ℕ) → at ≤ length s → Tells datagramOthers (length s) (passAt p sizes k s at)
 unfolding passAt
 pass-tells p sizes zero s at h = gives h
 pass-tells p sizes (suc k) s at h =
     then-tells (pass-tells p sizes k s at h) (λ x q u. then-tells (place-tells p sizes k s q u) (λ y next v. gives v))
 
-lookup-tells : (sizes s : List ℕ) (k : ℕ) → Tells D (length s) (messagePlaceAt sizes k s)
+lookup-tells : (sizes s : List ℕ) (k : ℕ) → Tells datagramOthers (length s) (messagePlaceAt sizes k s)
 lookup-tells sizes s k = go (networkMessageAt sizes s) refl (datagram-tells sizes s)
   where
-    go : (x : Answer NetworkMessage) → networkMessageAt sizes s ≡ x → Tells D (length s) x
-        → Tells D (length s) (andThen x (λ m first. nthPlaceAt (m .payload) sizes k s (m .payload .first)))
+    go : (x : Answer NetworkMessage) → networkMessageAt sizes s ≡ x → Tells datagramOthers (length s) x
+        → Tells datagramOthers (length s) (andThen x (λ m first. nthPlaceAt (m .payload) sizes k s (m .payload .first)))
     go (got m next) e (gives h) =
         let l : m .payload .first ≤ length s = omega (arith, payload-first sizes s m next e) in
         then-tells (pass-tells (m .payload) sizes k s (m .payload .first) l) (λ x at u. place-tells (m .payload) sizes k s at u)
@@ -138,7 +139,7 @@ field-told c types s = go (ltb (length s) (c .at)) refl
     stepped f end =
         record { field = f; cursor = record { encoding = c .encoding; delta = c .delta; next = c .next + 1; count = c .count; at = end } }
 
-    step : (x : Answer Field) → Tells F (length s) x → ToldAt fieldStepNumbers (length s) (c .at) (andThen x (λ f end. got (stepped f end) end))
+    step : (x : Answer Field) → Tells fieldOthers (length s) x → ToldAt fieldStepNumbers (length s) (c .at) (andThen x (λ f end. got (stepped f end) end))
     step (got f end) t = tt
     step (refused n place) (refuses r) = inl (wider refl r)
 
@@ -146,7 +147,7 @@ field-told c types s = go (ltb (length s) (c .at)) refl
     go true e = rw e (inr (refl, refl))
     go false e =
         by-bool _ (leb (c .count) (c .next)) (λ b. rw (e, b) (inl (record { one = refl; nowhere = λ _. refl; inside = omega arith })))
-        (λ b. rw (e, b) (step (fieldAt (c .delta) (c .encoding) types (c .next) s (c .at)) (field-lawful (c .delta) (c .encoding) types (c .next) .tells s (c .at) (omega arith))))
+        (λ b. rw (e, b) (step (fieldAt (c .delta) (c .encoding) types (c .next) s (c .at)) (field-lawful (c .delta) (c .encoding) types (c .next) .tells s (c .at) (ltb-false (length s) (c .at) e))))
 
 field-lookup-told : (types s : List ℕ) (k n place : ℕ) → fieldPlaceAt types k s ≡ refused n place → Refusal fieldNumbers n place (length s)
 field-lookup-told types s k n place e = go (messageAt types s) refl (message-tells types s) e
@@ -163,7 +164,7 @@ field-lookup-told types s k n place e = go (messageAt types s) refl (message-tel
         by-bool _ (leb (m .cursor .count) k) (λ b. rw b past)
         (λ b. let a = message-agrees types s m next q k (leb-false (m .cursor .count) k b) in subst tells (sym (a .looked-up)) tt)
 
-    go : (x : Answer (Valid Message)) → messageAt types s ≡ x → Tells M (length s) x → andThen x (λ m _. ofMessage m types k s) ≡ refused n place
+    go : (x : Answer (Valid Message)) → messageAt types s ≡ x → Tells messageOthers (length s) x → andThen x (λ m _. ofMessage m types k s) ≡ refused n place
         → Refusal fieldNumbers n place (length s)
     go (got notValid next) q t f = subst tells f past
     go (got (valid m) next) q t f = subst tells f (found m next q)
@@ -182,7 +183,7 @@ writer-told output entry exit n w = (unchanged output w, ap answerWritten (sym (
 
 -- the number of a refused cutting
 cut-number : (p : List ℕ) (size k room : ℕ) → (cutFault p size k room ≡ 0) ⊎ (oneOf cutNumbers (cutFault p size k room) ≡ true)
-unfolding cutFault, cutRule
+unfolding cutFault cutRule
 cut-number p size k room =
     let total = length p in
     by-bool _ (eqb size 0) (λ a. rw a (inr refl))
@@ -193,7 +194,7 @@ cut-number p size k room =
 
 cut-told : (p : List ℕ) (number size k : ℕ) (out : List ℕ) (n : ℕ) → cutAnswer p number size k (length out) ≡ Written.Refused n
     → (oneOf cutNumbers n ≡ true) × (cutBuffer p number size k out ≡ out)
-unfolding cutAnswer, cutBuffer
+unfolding cutAnswer cutBuffer
 cut-told p number size k out n e = go (eqb (cutFault p size k (length out)) 0) refl (cut-number p size k (length out))
   where
     go : (b : Bool) → eqb (cutFault p size k (length out)) 0 ≡ b → (cutFault p size k (length out) ≡ 0) ⊎ (oneOf cutNumbers (cutFault p size k (length out)) ≡ true)
@@ -218,11 +219,10 @@ walk-told : (w : Writers) (d out : List ℕ) (n place : ℕ) → walkOf w d ≡ 
     → Refusal datagramNumbers n place (length d) × (recordsPut 0 (walkLines w d) out ≡ out)
 walk-told w d out n place e = go (networkMessageAt (w .sizes) d) refl (datagram-tells (w .sizes) d)
   where
-    go : (x : Answer NetworkMessage) → networkMessageAt (w .sizes) d ≡ x → Tells D (length d) x
+    go : (x : Answer NetworkMessage) → networkMessageAt (w .sizes) d ≡ x → Tells datagramOthers (length d) x
         → Refusal datagramNumbers n place (length d) × (recordsPut 0 (walkLines w d) out ≡ out)
     go (got m next) q t =
-        let z : _≡_ {A = Walked} (Walked.Is (length (walkLines w d))) (Walked.Refused n place) = rw q at e in
-        absurd (walk-clash z)
+        absurd (walk-clash (rw q at e))
     go (refused m p) q (refuses r) =
         let z : _≡_ {A = Walked} (Walked.Refused m p) (Walked.Refused n place) = rw q at e in
         (subst (toldBy (length d)) z r, rw q)
@@ -234,7 +234,8 @@ done-number v = omega arith
 
 filling : (read : Answer Filling) (out : List ℕ) → IsRefused (resultIn read out) → filledIn read out ≡ out
 filling (got x next) out h =
-    by-bool _ (leb (length (x .bytes)) (length out)) (λ b. absurd (h (rw b (done-number (x .value))))) (λ b. rw b)
+    by-bool _ (leb (length (x .bytes)) (length out)) (λ b. absurd (h (rw b (done-number (x .value)))))
+    (λ b. rw (zero-add (length (x .bytes)), b))
 filling (refused n place) out h = refl
 
 message-step : (writer : ℕ → Optional16) (step : Answer PlaceStepped) (envelope place : List ℕ) → IsRefused (messageResult step envelope place)
@@ -257,7 +258,7 @@ writing-out out (Output.writing bytes) h =
 writing-out out (Output.refusing n) h = refl
 
 cutting : (p : List ℕ) (number size k : ℕ) (out : List ℕ) → IsRefused (cutResult (cutAnswer p number size k (length out))) → cutBuffer p number size k out ≡ out
-unfolding cutAnswer, cutBuffer
+unfolding cutAnswer cutBuffer
 cutting p number size k out h =
     by-bool _ (eqb (cutFault p size k (length out)) 0) (λ b. absurd (h (rw b (done-number (length (chunkBytes p number size k)))))) (λ b. rw b)
 

@@ -25,7 +25,7 @@ use Rattle.reassembly_laws.proofs.Layouts as Layouts
 use Rattle.partial_record.proofs.Back as Back
 use Rattle.uadp_c.proofs.Demand3 as lent
 use Rattle.acceptance.specs.Refusals.{Refusal}
-use Rattle.acceptance.specs.Demand3.{Demand3, bytesRead}
+use Rattle.acceptance.specs.Demand3.{Demand3}
 use Rattle.acceptance.proofs.RefusedCalls.{placed}
 
 pub demand-3 : Demand3

@@ -9,6 +9,7 @@ use native.Mathlib.Omega.{arith}
 use lib.ListN.{length}
 use Rattle.wire.specs.Lists.{total}
 use Rattle.wire.specs.Answer.{Answer, got, refused, andThen}
+use Rattle.wire.proofs.Cases.{by-bool}
 use Rattle.wire.proofs.Reading.{got-value, got-next, not-got, invert}
 use Rattle.network_header.specs.Flags.{flagsAt}
 use Rattle.network_header.specs.Numbers.{configuredSizes}
@@ -66,27 +67,25 @@ abbrev FirstIs : Answer Payload → Type 0
 FirstIs (got p n) = p .first ≡ n
 FirstIs (refused n place) = Unit {0}
 
-cond-first : (b : Bool) {x y : Answer Payload} → FirstIs x → FirstIs y → FirstIs (cond b x y)
-cond-first true f h = f
-cond-first false f h = h
+cond-first : (b : Bool) (x y : Answer Payload) → FirstIs x → FirstIs y → FirstIs (cond b x y)
+cond-first true x y f h = f
+cond-first false x y f h = h
 
 rest-first : (s : List ℕ) (at : ℕ) → FirstIs (restOnlyAt s at)
-rest-first s at = cond-first (ltb at (length s)) refl tt
+rest-first s at = cond-first (ltb at (length s)) _ _ refl tt
 
 listed-first : (n : ℕ) (s : List ℕ) (at : ℕ) → FirstIs (listedAt n s at)
-listed-first n s at = go (leb (at + 2 * n) (length s))
-  where
-    go : (b : Bool) → FirstIs (andThen (cond b (got (2 * n) (at + 2 * n)) (refused 1 at)) _)
-    go true = cond-first (allPositive (listed n s at) && eqb (at + 2 * n + total (listed n s at)) (length s)) refl tt
-    go false = tt
+listed-first n s at =
+    by-bool _ (leb (at + 2 * n) (length s))
+    (λ b. rw b (cond-first (allPositive (listed n s at) && eqb (at + 2 * n + total (listed n s at)) (length s)) _ _ refl tt)) (λ b. rw b tt)
 
 header-first : (chunk : Bool) (header : PayloadHeader) (sizes s : List ℕ) (at : ℕ) → FirstIs (payloadAt chunk header sizes s at)
 header-first chunk PayloadHeader.Absent sizes s at =
-    cond-first chunk tt
-    (cond-first (eqb (length (configuredSizes sizes)) 0) tt
-    (cond-first (allPositive (configuredSizes sizes)) (cond-first (eqb (at + total (configuredSizes sizes)) (length s)) refl tt)
-    (cond-first (eqb (length (configuredSizes sizes)) 1) (rest-first s at) tt)))
-header-first chunk (PayloadHeader.Ids n) sizes s at = cond-first (leb n 1) (rest-first s at) (listed-first n s at)
+    cond-first chunk _ _ tt
+    (cond-first (eqb (length (configuredSizes sizes)) 0) _ _ tt
+    (cond-first (allPositive (configuredSizes sizes)) _ _ (cond-first (eqb (at + total (configuredSizes sizes)) (length s)) _ _ refl tt)
+    (cond-first (eqb (length (configuredSizes sizes)) 1) _ _ (rest-first s at) tt)))
+header-first chunk (PayloadHeader.Ids n) sizes s at = cond-first (leb n 1) _ _ (rest-first s at) (listed-first n s at)
 header-first chunk (PayloadHeader.Chunk w) sizes s at = refl
 
 pub payload-first : (sizes s : List ℕ) (m : NetworkMessage) (n : ℕ) → networkMessageAt sizes s ≡ got m n → m .payload .first ≡ n
