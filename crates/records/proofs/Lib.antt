@@ -1,2 +1,4 @@
 pub mod Storing
 pub mod Asked
+pub mod ConfigBack
+pub mod ConfigFits

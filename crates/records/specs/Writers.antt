@@ -1,5 +1,6 @@
 -- The configuration record (include/uadp.h, "Configuration record").
 use Prim.Native.Nat.{ℕ}
+use mathlib.Core.Path.{_≡_}
 use mathlib.Core.Bool.{cond}
 use mathlib.Core.List.{List, [], _++_}
 use lib.Dec.{ltb}
@@ -8,6 +9,7 @@ use Rattle.wire.specs.Constants.{MOST_FIELDS, MOST_WRITERS}
 use Rattle.records.specs.Sizes.{CONFIG_SIZE}
 use Rattle.wire.specs.Number.{leBytes}
 use Rattle.wire.specs.Answer.{Answer, got, refused}
+use Rattle.wire_writer.specs.Fits.{Numbers}
 use Rattle.config.specs.declared.Config.{Config}
 use Rattle.config_text.specs.declared.ConfigRead.{ConfigRead}
 use Rattle.config.specs.Writers.{atMost, fieldsOfId}
@@ -59,3 +61,17 @@ configBytes c =
 abbrev pub configFilling : ConfigRead → Answer Filling
 configFilling r =
     cond (ltb 0 (r .number)) (refused (r .number) (r .place)) (got (record { value = 0; bytes = configBytes (r .config) }) 0)
+
+-- a configuration whose numbers fit their types, with lists of 16 and 64, as a value of the code has
+pub record FitsConfig (c : Config) : Type 0 where
+  pub ids : (length (c .ids) ≡ MOST_WRITERS) × Numbers (c .ids)
+  pub sizes : (length (c .sizes) ≡ MOST_WRITERS) × Numbers (c .sizes)
+  pub starts : length (c .starts) ≡ MOST_WRITERS
+  pub types : length (c .types) ≡ MOST_FIELDS
+
+-- what the library reads in the record r is what the configuration c says
+pub record ConfigBack (r : List ℕ) (c : Config) : Type 0 where
+  pub ids : idsIn r ≡ take (atMost MOST_WRITERS (c .writers)) (c .ids)
+  pub sizes : sizesIn r ≡ take (atMost MOST_WRITERS (c .writers)) (c .sizes)
+  pub starts : startsIn r ≡ take (atMost MOST_WRITERS (c .writers)) (c .starts)
+  pub types : typesIn r ≡ take (atMost MOST_FIELDS (c .fields)) (c .types)
