@@ -1,5 +1,6 @@
 -- The records of a message's head and of a field (include/uadp.h).
-use Prim.Native.Nat.{ℕ, _+_, _*_}
+use Prim.Native.Nat.{ℕ, _+_, _*_, _^_, _<_}
+use mathlib.Core.Path.{_≡_}
 use mathlib.Core.Bool.{cond, not}
 use mathlib.Core.List.{List, [], _∷_}
 use lib.Dec.{eqb}
@@ -12,6 +13,7 @@ use Rattle.dataset_header.specs.declared.flags.Kind.{Kind}
 use Rattle.dataset_fields.specs.declared.fields.Field.{Field}
 use Rattle.dataset_fields.specs.declared.fields.Cursor.{Cursor}
 use Rattle.dataset_header.specs.declared.header.Header.{Header}
+use Rattle.dataset_header.specs.Header.{FitsHeader}
 use Rattle.wire.specs.Number.{leBytes}
 use Rattle.wire_writer.specs.Store.{laid}
 use Rattle.wire.specs.Answer.{bit}
@@ -87,3 +89,16 @@ headerIn s =
       major = given32 (bit 4 (numberAt s 3)) (numberAt s 8);
       minor = given32 (bit 5 (numberAt s 3)) (numberAt s 9);
     }
+
+-- each number of a head fits the record's, as a value of the code does
+pub record FitsHead (m : Message) : Type 0 where
+  pub header : FitsHeader (m .header)
+  pub next : m .cursor .next < 256 ^ 8
+  pub count : m .cursor .count < 256 ^ 8
+  pub at : m .cursor .at < 256 ^ 8
+  pub end : m .end < 256 ^ 8
+
+-- what the library reads in the head record r is the message's header and cursor
+pub record HeadBack (r : List ℕ) (m : Message) : Type 0 where
+  pub header : headerIn r ≡ m .header
+  pub cursor : cursorIn r ≡ m .cursor

@@ -21,64 +21,13 @@ use Rattle.publisher_id.specs.declared.publisher.PublisherId.{PublisherId}
 use Rattle.reassembly.specs.declared.record.PartialRecord.{PartialRecord}
 use Rattle.records.specs.Numbers.{numberAt, numberBytes}
 use Rattle.records.proofs.Storing.{bytes-length}
+use Rattle.records.proofs.ReadBack.{AllFit, number-read, stored-at, publisher-back, number-fits, code-fits, flag-fits}
 use Rattle.records.specs.Items.{flagNumber}
 use Rattle.records.specs.Publisher.{publisherBy, publisherNumber}
-use Rattle.partial_record.specs.Partial.{partialIn, partialNumbers, partialBytes, FitsId, FitsRecord}
+use Rattle.partial_record.specs.Partial.{partialIn, partialNumbers, partialBytes, FitsRecord}
 use Rattle.partial_record.proofs.Parts.{partial-length}
 
--- ---- numbers that stand at the start of a record
-
-abbrev pub AllFit : List ℕ → Type 0
-AllFit [] = Unit
-AllFit (x ∷ xs) = (x < 256 ^ 8) × AllFit xs
-
--- number j + i, where numbers stand from number j on
-number-read : (xs : List ℕ) (j : ℕ) (s : List ℕ) → At s (8 * j) (numberBytes xs) → AllFit xs → (i : ℕ) → i < length xs → numberAt s (j + i) ≡ getD xs i 0
-number-read [] j s a f i h = absurd (omega arith)
-number-read (x ∷ xs) j s a f zero h =
-    ap (numberAt s) (add-zero j) ∙ ap valueOr0 (item-is 8 x (8 * j) (f .0) s (first s (8 * j) (leBytes 8 x) (numberBytes xs) a))
-number-read (x ∷ xs) j s a f (suc i) h =
-    let n : 8 * j + length (leBytes 8 x) ≡ 8 * (j + 1) = omega (arith, length-leBytes 8 x) in
-    let b : At s (8 * (j + 1)) (numberBytes xs) = subst (λ (k : ℕ). At s k (numberBytes xs)) n (second s (8 * j) (leBytes 8 x) (numberBytes xs) a) in
-    let k : j + suc i ≡ j + 1 + i = omega arith in
-    let l : i < length xs = omega arith in
-    ap (numberAt s) k ∙ number-read xs (j + 1) s b (f .1) i l
-
--- bytes stored from the start of a record that has room for them
-stored-at : (r b : List ℕ) → length b ≤ length r → laid r 0 b ≡ b ++ drop (length b) r
-stored-at r b h =
-    let k : 0 + length b ≤ length r = omega arith in
-    rw (le-leb (0 + length b) (length r) k) (front b r h)
-
 -- ---- the parts of a partial's record
-
-publisher-back : (p : PublisherId) → FitsId p → publisherBy (codeOf p) (publisherNumber p) ≡ p
-publisher-back PublisherId.Absent f = refl
-publisher-back (PublisherId.Byte v) f = ap PublisherId.Byte (omega arith)
-publisher-back (PublisherId.UInt16 v) f = ap PublisherId.UInt16 (omega arith)
-publisher-back (PublisherId.UInt32 v) f = ap PublisherId.UInt32 (omega arith)
-publisher-back (PublisherId.UInt64 v) f = refl
-publisher-back (PublisherId.Text n) f = refl
-
-number-fits : (p : PublisherId) → FitsId p → publisherNumber p < 256 ^ 8
-number-fits PublisherId.Absent f = omega arith
-number-fits (PublisherId.Byte v) f = omega arith
-number-fits (PublisherId.UInt16 v) f = omega arith
-number-fits (PublisherId.UInt32 v) f = omega arith
-number-fits (PublisherId.UInt64 v) f = omega arith
-number-fits (PublisherId.Text n) f = omega arith
-
-code-fits : (p : PublisherId) → codeOf p < 256 ^ 8
-code-fits PublisherId.Absent = omega arith
-code-fits (PublisherId.Byte v) = omega arith
-code-fits (PublisherId.UInt16 v) = omega arith
-code-fits (PublisherId.UInt32 v) = omega arith
-code-fits (PublisherId.UInt64 v) = omega arith
-code-fits (PublisherId.Text n) = omega arith
-
-flag-fits : (b : Bool) → flagNumber b < 256 ^ 8
-flag-fits true = omega arith
-flag-fits false = omega arith
 
 flag-back : (b : Bool) → eqb (flagNumber b) 1 ≡ b
 flag-back true = refl

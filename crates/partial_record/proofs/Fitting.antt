@@ -20,7 +20,8 @@ use Rattle.reassembly.proofs.record.PartialRecord as partial
 use Rattle.reassembly.proofs.record.PartialRecord.Laws as partialLaws
 use Rattle.publisher_id.specs.declared.publisher.PublisherId.{PublisherId}
 use Rattle.reassembly.specs.declared.record.PartialRecord.{PartialRecord}
-use Rattle.partial_record.specs.Partial.{FitsId, FitsRecord}
+use Rattle.partial_record.specs.Partial.{FitsRecord}
+use Rattle.records.specs.Publisher.{FitsId}
 
 fits-id : (x : PublisherId) (vs : List Val) → Is (enum.row id.the-type) x vs → FitsId x
 fits-id PublisherId.Absent vs h = tt

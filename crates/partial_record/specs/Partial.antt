@@ -12,7 +12,7 @@ use Rattle.publisher_id.specs.declared.publisher_record.PublisherRecord.{Publis
 use Rattle.reassembly.specs.declared.record.Message.{Message}
 use Rattle.reassembly.specs.declared.record.PartialRecord.{PartialRecord}
 use Rattle.records.specs.Numbers.{numberAt, numberBytes}
-use Rattle.records.specs.Publisher.{publisherBy, publisherNumber}
+use Rattle.records.specs.Publisher.{publisherBy, publisherNumber, FitsId}
 use Rattle.records.specs.Items.{flagNumber}
 
 -- "at offset 80, 64 bytes for a String"
@@ -43,14 +43,6 @@ abbrev pub partialBytes : PartialRecord → List ℕ
 partialBytes r = numberBytes (partialNumbers r) ++ r .message .publisher .text
 
 -- each number of a record fits its type, and its text has 64 bytes, as a value of the code has
-
-abbrev pub FitsId : PublisherId → Type 0
-FitsId PublisherId.Absent = Unit
-FitsId (PublisherId.Byte v) = v < 256
-FitsId (PublisherId.UInt16 v) = v < 65536
-FitsId (PublisherId.UInt32 v) = v < 4294967296
-FitsId (PublisherId.UInt64 v) = v < 256 ^ 8
-FitsId (PublisherId.Text n) = n < 256 ^ 8
 
 pub record FitsRecord (r : PartialRecord) : Type 0 where
   pub id : FitsId (r .message .publisher .id)

@@ -1,4 +1,5 @@
 pub mod Storing
 pub mod Asked
+pub mod ReadBack
 pub mod ConfigBack
 pub mod ConfigFits

@@ -1,5 +1,5 @@
 -- A PublisherId in a record (include/uadp.h, "Envelope record" and "Partial record").
-use Prim.Native.Nat.{ℕ, _%_}
+use Prim.Native.Nat.{ℕ, _%_, _^_, _<_}
 use mathlib.Core.Bool.{cond}
 use lib.Dec.{eqb}
 use Rattle.publisher_id.specs.declared.publisher.PublisherId.{PublisherId}
@@ -21,3 +21,12 @@ publisherNumber (PublisherId.UInt16 v) = v
 publisherNumber (PublisherId.UInt32 v) = v
 publisherNumber (PublisherId.UInt64 v) = v
 publisherNumber (PublisherId.Text n) = n
+
+-- each number fits its type
+abbrev pub FitsId : PublisherId → Type 0
+FitsId PublisherId.Absent = Unit
+FitsId (PublisherId.Byte v) = v < 256
+FitsId (PublisherId.UInt16 v) = v < 65536
+FitsId (PublisherId.UInt32 v) = v < 4294967296
+FitsId (PublisherId.UInt64 v) = v < 256 ^ 8
+FitsId (PublisherId.Text n) = n < 256 ^ 8
