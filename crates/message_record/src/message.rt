@@ -18,12 +18,16 @@ use records::numbers::number;
 use records::numbers::put_numbers;
 use value::Shape;
 use wire_writer::store::put64;
+ghost use Prim.Native.Nat.{_≤_};
 ghost use mathlib.Core.Path.{_≡_};
+ghost use lib.ListN.{length};
 ghost use Rattle.wire_writer.specs.Store.{laid};
 ghost use Rattle.dataset_header.specs.Flags.{valid, notValid, encodingNumber, kindNumber};
+ghost use Rattle.dataset_message.specs.Message.{Message};
+ghost use Rattle.records.specs.Sizes.{HEAD_SIZE};
 ghost use Rattle.records.specs.Numbers.{numberBytes};
 ghost use Rattle.records.specs.Items.{has16, value16, has32, value32, given16, given32};
-ghost use Rattle.message_record.specs.Message.{encodingIn, itemsNumber, headNumbers, cursorIn, cursorLaid, shapeNumber, elementsNumber, fieldNumbers, kindIn, headerIn};
+ghost use Rattle.message_record.specs.Message.{encodingIn, itemsNumber, headNumbers, cursorIn, cursorLaid, shapeNumber, elementsNumber, fieldNumbers, kindIn, headerIn, HeadBack};
 
 // Where the numbers 12 and 14 stand: the cursor's next field and its place.
 const CURSOR_NEXT: usize = 8 * 12;
@@ -73,11 +77,13 @@ fn items_number(h: Header) -> u64
         + 32 * has32(minor)
 }
 
-// Stores the head of a valid message: its header, the cursor before its first field, and where its last field ends.
+// Stores the head of a valid message: its header, the cursor before its first field, and where its last field ends. Where there is room
+// they are read back.
 pub fn put_head(out: &mut [u8], h: Header, cursor: Cursor, end: usize)
     ensures { λ _.
-        ⌜ now (out .exit) ≡ laid (now (out .entry)) 0
-        (numberBytes (headNumbers (valid (record { header = h; cursor = cursor; end = end })))) ⌝ }
+        let m : Message = record { header = h; cursor = cursor; end = end } in
+        ⌜ (now (out .exit) ≡ laid (now (out .entry)) 0 (numberBytes (headNumbers (valid m))))
+        × (HEAD_SIZE ≤ length (now (out .entry)) → HeadBack (now (out .exit)) m) ⌝ }
 {
     let encoding = h.encoding;
     let kind = h.kind;

@@ -17,7 +17,7 @@ use Rattle.dataset_message.specs.Message.{Message, messageAt, fieldPlaceAt}
 use Rattle.dataset_fields.specs.declared.fields.Field.{Field}
 use Rattle.records.specs.Result.{resultOf, Filling, resultIn, filledIn}
 use Rattle.records.specs.Writers.{typesFor, configFilling, configBytes}
-use Rattle.uadp_c.specs.Fields.{headFilling, fieldFilling}
+use Rattle.uadp_c.specs.Fields.{headFilling, HeadReads, fieldFilling}
 
 abbrev pub Ends : Answer Filling → List ℕ → ℕ → List ℕ → Type 0
 Ends a out x e = (x ≡ resultIn a out) × (e ≡ filledIn a out)
@@ -50,6 +50,14 @@ config-good t r q h =
 pub head-read : (c s ty : List ℕ) (w : ℕ) (y : Answer (Valid Message)) → ty ≡ typesFor c w → y ≡ messageAt ty s
     → headFilling y ≡ headFilling (messageAt (typesFor c w) s)
 head-read c s ty w y e q = ap (λ (a : Answer (Valid Message)). headFilling a) (q ∙ ap (λ (t : List ℕ). messageAt t s) e)
+
+pub head-filled : (c s ty : List ℕ) (w : ℕ) (y : Answer (Valid Message)) (entry exit : List ℕ) (x : ℕ) → ty ≡ typesFor c w → y ≡ messageAt ty s
+    → Ends (headFilling (messageAt (typesFor c w) s)) entry x exit → HeadReads y entry exit
+    → (x ≡ resultIn (headFilling (messageAt (typesFor c w) s)) entry)
+    × (exit ≡ filledIn (headFilling (messageAt (typesFor c w) s)) entry)
+    × HeadReads (messageAt (typesFor c w) s) entry exit
+head-filled c s ty w y entry exit x e q f h =
+    (f .0, f .1, subst (λ (a : Answer (Valid Message)). HeadReads a entry exit) (q ∙ ap (λ (t : List ℕ). messageAt t s) e) h)
 
 pub field-read : (c s ty : List ℕ) (w k : ℕ) (y : Answer Field) → ty ≡ typesFor c w → y ≡ fieldPlaceAt ty k s
     → fieldFilling y ≡ fieldFilling (fieldPlaceAt (typesFor c w) k s)

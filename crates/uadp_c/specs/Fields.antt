@@ -1,5 +1,5 @@
 -- A message's head and its fields as records (include/uadp.h, "reading").
-use Prim.Native.Nat.{ℕ}
+use Prim.Native.Nat.{ℕ, _≤_}
 use mathlib.Core.Bool.{cond}
 use mathlib.Core.List.{List}
 use lib.Dec.{ltb}
@@ -14,7 +14,7 @@ use Rattle.dataset_fields.specs.Fields.{FieldStepped}
 use Rattle.dataset_fields.specs.declared.fields.Field.{Field}
 use Rattle.records.specs.Numbers.{numberBytes}
 use Rattle.records.specs.Result.{resultOf, Filling}
-use Rattle.message_record.specs.Message.{headNumbers, fieldNumbers, cursorLaid}
+use Rattle.message_record.specs.Message.{headNumbers, fieldNumbers, cursorLaid, HeadBack}
 
 -- "Value: 1, or 0 for a message that is not valid"
 abbrev pub validNumber : Valid Message → ℕ
@@ -23,6 +23,12 @@ validNumber (valid m) = 1
 
 abbrev pub headFilling : Answer (Valid Message) → Answer Filling
 headFilling a = mapAnswer (λ (m : Valid Message). record { value = validNumber m; bytes = numberBytes (headNumbers m) }) a
+
+-- where there is room, the header and the cursor that were read are what the library reads in the head record afterwards
+abbrev pub HeadReads : Answer (Valid Message) → List ℕ → List ℕ → Type 0
+HeadReads (got notValid next) entry exit = Unit {0}
+HeadReads (got (valid m) next) entry exit = HEAD_SIZE ≤ length entry → HeadBack exit m
+HeadReads (refused n place) entry exit = Unit {0}
 
 -- "Value: the offset of its value"
 abbrev pub fieldFilling : Answer Field → Answer Filling

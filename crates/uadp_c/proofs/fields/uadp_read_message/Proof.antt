@@ -1,4 +1,4 @@
-use Rattle.uadp_c.proofs.Filling.{fill-refused, fill-none, fill-done, head-read}
+use Rattle.uadp_c.proofs.Filling.{fill-refused, fill-none, fill-done, head-read, head-filled}
 use Rattle.message_record.specs.Message.{headNumbers}
 use Rattle.records.proofs.Storing.{bytes-length}
 use Rattle.dataset_header.specs.Flags.{notValid, valid}
@@ -17,9 +17,12 @@ returns c =
     let at-read = at-enum-told .before .before in
     let at-types-for = at-read .before in
     let args = at-types-for .before .before .before .before .args in
-    fill-none _ (now (args .head)) _ _ 160 _
+    head-filled (now (args .config)) (now (args .message)) _ (args .writer) _ (now (args .head)) _ _ (at-types-for .types-for .ensures)
+    (told answerMessage (at-read .read .ensures) (at-enum-told .enum-told .given .1))
+    (fill-none _ (now (args .head)) _ _ 160 _
     (head-read (now (args .config)) (now (args .message)) _ (args .writer) _ (at-types-for .types-for .ensures) (told answerMessage (at-read .read .ensures) (at-enum-told .enum-told .given .1)))
-    (bytes-length (headNumbers notValid)) (omega arith) (c .result2 .ensures)
+    (bytes-length (headNumbers notValid)) (omega arith) (c .result2 .ensures))
+    tt
 
 -- src/fields.rt:38:17
 returns-2 : tie.Need-returns-2
@@ -28,9 +31,12 @@ returns-2 c =
     let at-read = at-h .before .before in
     let at-types-for = at-read .before in
     let args = at-types-for .before .before .before .before .args in
-    fill-none _ (now (args .head)) _ _ 160 _
+    head-filled (now (args .config)) (now (args .message)) _ (args .writer) _ (now (args .head)) _ _ (at-types-for .types-for .ensures)
+    (told answerMessage (at-read .read .ensures) (at-h .h .given .1))
+    (fill-none _ (now (args .head)) _ _ 160 _
     (head-read (now (args .config)) (now (args .message)) _ (args .writer) _ (at-types-for .types-for .ensures) (told answerMessage (at-read .read .ensures) (at-h .h .given .1)))
-    (bytes-length (headNumbers (valid (record { header = at-h .h .given .0 .0; cursor = at-h .h .given .0 .1 .0; end = at-h .h .given .0 .1 .1 .0 })))) (omega arith) (c .result4 .ensures)
+    (bytes-length (headNumbers (valid (record { header = at-h .h .given .0 .0; cursor = at-h .h .given .0 .1 .0; end = at-h .h .given .0 .1 .1 .0 })))) (omega arith) (c .result4 .ensures))
+    (λ l. absurd (omega arith))
 
 -- src/fields.rt:23:1
 returns-3 : tie.Need-returns-3
@@ -39,9 +45,12 @@ returns-3 c =
     let at-read = at-n .before .before in
     let at-types-for = at-read .before in
     let args = at-types-for .before .before .before .before .args in
-    fill-refused _ (now (args .head)) _ _ _
+    head-filled (now (args .config)) (now (args .message)) _ (args .writer) _ (now (args .head)) _ _ (at-types-for .types-for .ensures)
+    (told answerMessage (at-read .read .ensures) (at-n .n .given .1))
+    (fill-refused _ (now (args .head)) _ _ _
     (head-read (now (args .config)) (now (args .message)) _ (args .writer) _ (at-types-for .types-for .ensures) (told answerMessage (at-read .read .ensures) (at-n .n .given .1)))
-    (c .result .ensures)
+    (c .result .ensures))
+    tt
 
 -- src/fields.rt:23:1
 returns-4 : tie.Need-returns-4
@@ -51,9 +60,12 @@ returns-4 c =
     let at-read = at-enum-told .before .before in
     let at-types-for = at-read .before in
     let args = at-types-for .before .before .before .before .args in
-    fill-done _ (now (args .head)) _ _ _ 160 _
+    head-filled (now (args .config)) (now (args .message)) _ (args .writer) _ (now (args .head)) _ _ (at-types-for .types-for .ensures)
+    (told answerMessage (at-read .read .ensures) (at-enum-told .enum-told .given .1))
+    (fill-done _ (now (args .head)) _ _ _ 160 _
     (head-read (now (args .config)) (now (args .message)) _ (args .writer) _ (at-types-for .types-for .ensures) (told answerMessage (at-read .read .ensures) (at-enum-told .enum-told .given .1)))
-    (bytes-length (headNumbers notValid)) (omega arith) (c .result3 .ensures) (at-put-no-head .put-no-head .ensures)
+    (bytes-length (headNumbers notValid)) (omega arith) (c .result3 .ensures) (at-put-no-head .put-no-head .ensures))
+    tt
 
 -- src/fields.rt:23:1
 returns-5 : tie.Need-returns-5
@@ -63,10 +75,13 @@ returns-5 c =
     let at-read = at-h .before .before in
     let at-types-for = at-read .before in
     let args = at-types-for .before .before .before .before .args in
-    fill-done _ (now (args .head)) _ _ _ 160 _
+    head-filled (now (args .config)) (now (args .message)) _ (args .writer) _ (now (args .head)) _ _ (at-types-for .types-for .ensures)
+    (told answerMessage (at-read .read .ensures) (at-h .h .given .1))
+    (fill-done _ (now (args .head)) _ _ _ 160 _
     (head-read (now (args .config)) (now (args .message)) _ (args .writer) _ (at-types-for .types-for .ensures) (told answerMessage (at-read .read .ensures) (at-h .h .given .1)))
     (bytes-length (headNumbers (valid (record { header = at-h .h .given .0 .0; cursor = at-h .h .given .0 .1 .0; end = at-h .h .given .0 .1 .1 .0 }))))
-    (omega arith) (c .result5 .ensures) (at-put-head .put-head .ensures)
+    (omega arith) (c .result5 .ensures) (at-put-head .put-head .ensures .0))
+    (at-put-head .put-head .ensures .1)
 
 pub uadp-read-message-spec : {M : Type 1} → statement M
 uadp-read-message-spec =
