@@ -1,6 +1,6 @@
 -- A head record that was stored is read back: the header and the cursor.
 -- Assumes nothing.
-use Prim.Native.Nat.{ℕ, _≤_, _<_}
+use Prim.Native.Nat.{ℕ, _+_, _*_, _^_, _≤_, _<_}
 use mathlib.Core.Path.{_≡_, refl, ap, sym, _∙_}
 use mathlib.Core.Bool.{Bool, not}
 use mathlib.Core.List.{List, []}
@@ -19,8 +19,10 @@ use Rattle.dataset_message.specs.Message.{Message}
 use Rattle.records.specs.Numbers.{numberAt, numberBytes}
 use Rattle.records.specs.Items.{has16, has32, hasI64, given16, given32, givenI64}
 use Rattle.records.proofs.Storing.{bytes-length}
-use Rattle.records.proofs.ReadBack.{AllFit, number-read, stored-at, given16-back, given32-back, givenI64-back, told16, told32, toldI64, is-on-flag, flag-fits, has16-bound, has32-bound, hasI64-bound, value16-bound, value32-bound, valueI64-bound}
-use Rattle.message_record.specs.Message.{encodingIn, kindIn, itemsNumber, headNumbers, FitsHead, HeadBack}
+use Rattle.wire.specs.Number.{leBytes}
+use Rattle.dataset_fields.specs.declared.fields.Cursor.{Cursor}
+use Rattle.records.proofs.ReadBack.{AllFit, number-laid, number-kept, laid-length, number-read, stored-at, given16-back, given32-back, givenI64-back, told16, told32, toldI64, is-on-flag, flag-fits, has16-bound, has32-bound, hasI64-bound, value16-bound, value32-bound, valueI64-bound}
+use Rattle.message_record.specs.Message.{encodingIn, kindIn, itemsNumber, headNumbers, cursorIn, cursorLaid, FitsHead, HeadBack}
 
 -- two arguments that are the same
 both : {A B D : Type 0} (g : A → B → D) {a x : A} {b y : B} → a ≡ x → b ≡ y → g a b ≡ g x y
@@ -137,3 +139,19 @@ module _ (m : Message) (r : List ℕ) (f : FitsHead m) (h : 160 ≤ length r) wh
         header = λ z. record { encoding = e z; kind = k z; sequence = h0 z; timestamp = h1 z; picoseconds = h2 z; status = h3 z; major = h4 z; minor = h5 z };
         cursor = λ z. record { encoding = ce z; delta = cd z; next = cn z; count = cc z; at = ca z };
       }
+
+-- a cursor that is stored is read back, with the encoding, the indices and the count that the record had
+pub cursor-moved : (c : Cursor) (r : List ℕ) → 160 ≤ length r → c .next < 256 ^ 8 → c .at < 256 ^ 8 → c .encoding ≡ cursorIn r .encoding
+    → c .delta ≡ cursorIn r .delta → c .count ≡ cursorIn r .count → cursorIn (cursorLaid c r) ≡ c
+cursor-moved c r h n a e d k =
+    let u = laid r (8 * 12) (leBytes 8 (c .next)) in
+    let l : length u ≡ length r = laid-length r (8 * 12) (leBytes 8 (c .next)) in
+    let g : 8 * 14 + 8 ≤ length u = omega arith in
+    let kept : (j : ℕ) → (j ≡ 12 → ⊥) → (j ≡ 14 → ⊥) → numberAt (cursorLaid c r) j ≡ numberAt r j =
+    λ j p q. number-kept u 14 (c .at) g j q ∙ number-kept r 12 (c .next) (omega arith) j p in
+    let z10 = ap encodingIn (kept 10 (λ p. omega arith) (λ q. omega arith)) ∙ sym e in
+    let z11 = ap (λ (x : ℕ). not (eqb x 0)) (kept 11 (λ p. omega arith) (λ q. omega arith)) ∙ sym d in
+    let z12 = number-kept u 14 (c .at) g 12 (λ q. omega arith) ∙ number-laid r 12 (c .next) (omega arith) n in
+    let z13 = kept 13 (λ p. omega arith) (λ q. omega arith) ∙ sym k in
+    let z14 = number-laid u 14 (c .at) g a in
+    λ i. record { encoding = z10 i; delta = z11 i; next = z12 i; count = z13 i; at = z14 i }

@@ -1,20 +1,25 @@
 -- What was stored in a record is read back: its numbers, a PublisherId, items that may be absent.
 -- Assumes nothing.
-use Prim.Native.Nat.{ℕ, zero, suc, _+_, _*_, _%_, _^_, _≤_, _<_}
+use Prim.Native.Nat.{ℕ, zero, suc, _+_, _*_, _-_, _^_, _≤_, _<_}
 use mathlib.Core.Path.{_≡_, refl, ap, sym, subst, _∙_}
 use mathlib.Core.Bool.{Bool, true, false}
-use mathlib.Core.List.{List, [], _∷_, _++_}
+use mathlib.Core.List.{List, [], _∷_, _++_, append-assoc}
 use native.Mathlib.Nat.{add-zero}
 use native.Mathlib.Omega.{arith}
 use borrow.Author.Tests.{le-leb}
-use lib.Dec.{eqb}
-use lib.ListN.{length, getD, drop}
+use lib.Dec.{eqb, leb}
+use lib.ListN.{length, getD, take, drop, length-append, length-drop, take-append-drop}
+use lib.Seq.{length-sets, sets-eq, drop-drop, length-take-le}
 use lib.IntN.{ℤ, pos, negsuc}
-use Rattle.wire.specs.Number.{leBytes}
+use Rattle.wire.specs.Number.{le, leBytes}
+use Rattle.wire.specs.Answer.{got, item}
 use Rattle.wire.specs.declared.optional.Optional16.{Optional16}
 use Rattle.wire.specs.declared.optional.Optional32.{Optional32}
 use Rattle.wire.specs.declared.optional.OptionalI64.{OptionalI64}
 use Rattle.wire.proofs.Numbers.{length-leBytes, signed-unsigned}
+use Rattle.wire.proofs.Places.{movedBy, append, after}
+use Rattle.wire.proofs.Steady.{item-steady}
+use Rattle.wire.proofs.Cases.{by-bool, by-lt}
 use Rattle.wire_writer.specs.Store.{laid}
 use Rattle.wire_writer.specs.Writing.{on16, on32, onI64}
 use Rattle.wire_writer.specs.Fits.{Fits16, Fits32, FitsI64}
@@ -146,3 +151,54 @@ pub valueI64-bound : (o : OptionalI64) → FitsI64 o → valueI64 o < 256 ^ 8
 valueI64-bound OptionalI64.Absent f = omega arith
 valueI64-bound (OptionalI64.Is (pos n)) f = omega arith
 valueI64-bound (OptionalI64.Is (negsuc n)) f = omega arith
+
+-- storing changes no length
+pub laid-length : (l : List ℕ) (at : ℕ) (b : List ℕ) → length (laid l at b) ≡ length l
+laid-length l at b = by-bool _ (leb (at + length b) (length l)) (λ t. rw t (length-sets l at b)) (λ t. rw t)
+
+-- ---- one number of a record stored: it is read back, and the others stay
+module _ (l : List ℕ) (i v : ℕ) (h : 8 * i + 8 ≤ length l) where
+  abbrev front-part : List ℕ
+  front-part = take (8 * i) l
+
+  abbrev rest-part : List ℕ
+  rest-part = drop (8 * i + 8) l
+
+  front-length : length front-part ≡ 8 * i
+  front-length = length-take-le (8 * i) l (omega arith)
+
+  -- the record afterwards, and before
+  stored-is : laid l (8 * i) (leBytes 8 v) ≡ front-part ++ (leBytes 8 v ++ rest-part)
+  stored-is = rw (le-leb (8 * i + 8) (length l) h) (sets-eq (leBytes 8 v) l (8 * i) h ∙ append-assoc front-part (leBytes 8 v) rest-part)
+
+  before-is : l ≡ front-part ++ (take 8 (drop (8 * i) l) ++ rest-part)
+  before-is =
+      sym (take-append-drop (8 * i) l)
+      ∙ ap (λ (t : List ℕ). front-part ++ t) (sym (take-append-drop 8 (drop (8 * i) l)) ∙ ap (λ (t : List ℕ). take 8 (drop (8 * i) l) ++ t) (drop-drop 8 (8 * i) l))
+
+  pub number-laid : v < 256 ^ 8 → numberAt (laid l (8 * i) (leBytes 8 v)) i ≡ v
+  number-laid f = ap valueOr0 (item-is 8 v (8 * i) f (laid l (8 * i) (leBytes 8 v)) (front-part, rest-part, stored-is, front-length))
+
+  -- whatever 8 bytes stand there, the numbers before and behind are the same
+  same-before : (j : ℕ) → j < i → (x : List ℕ) → item 8 (front-part ++ x) (8 * j) ≡ item 8 front-part (8 * j)
+  same-before j k x =
+      let e : item 8 front-part (8 * j) ≡ got (le 8 front-part (8 * j)) (8 * j + 8) = rw (le-leb (8 * j + 8) (length front-part) (omega (arith, front-length))) in
+      append (item-steady 8) front-part x (8 * j) e ∙ sym e
+
+  same-behind : (j : ℕ) → i < j → (x : List ℕ) → length x ≡ 8
+      → item 8 (front-part ++ (x ++ rest-part)) (8 * j) ≡ movedBy (8 * i + 8) (item 8 rest-part (8 * j - (8 * i + 8)))
+  same-behind j k x e =
+      let n : length (front-part ++ x) ≡ 8 * i + 8 = length-append front-part x ∙ (omega (arith, front-length)) in
+      let a = after (item-steady 8) (front-part ++ x) rest-part (8 * j - (8 * i + 8)) in
+      let p : 8 * i + 8 + (8 * j - (8 * i + 8)) ≡ 8 * j = omega arith in
+      ap (λ (t : List ℕ). item 8 t (8 * j)) (sym (append-assoc front-part x rest-part)) ∙ ap (item 8 ((front-part ++ x) ++ rest-part)) (sym p) ∙ (rw n at a)
+
+  pub number-kept : (j : ℕ) → (j ≡ i → ⊥) → numberAt (laid l (8 * i) (leBytes 8 v)) j ≡ numberAt l j
+  number-kept j k =
+      let x = take 8 (drop (8 * i) l) in
+      let e : length x ≡ 8 = length-take-le 8 (drop (8 * i) l) (omega (arith, length-drop (8 * i) l)) in
+      ap (λ (t : List ℕ). numberAt t j) stored-is
+      ∙ by-lt _ j i
+      (λ a. ap valueOr0 (same-before j a (leBytes 8 v ++ rest-part) ∙ sym (same-before j a (x ++ rest-part))))
+      (λ a. ap valueOr0 (same-behind j (omega arith) (leBytes 8 v) refl ∙ sym (same-behind j (omega arith) x e)))
+      ∙ ap (λ (t : List ℕ). numberAt t j) (sym before-is)

@@ -20,6 +20,7 @@ use Rattle.network_header.proofs.FlagsBack.{flags-back}
 use Rattle.wire_writer.specs.Fits.{Bytes}
 use Rattle.wire_writer.specs.Writing.{num, needed, byteBytes}
 use Rattle.wire_writer.proofs.Back.{rest-is, map-back}
+use Rattle.wire_writer.proofs.Bits.{num-bound, needed-bound}
 use Rattle.round_trip.specs.NetworkMessage.{rewritten}
 
 -- the flags as they are written again
@@ -100,13 +101,6 @@ module _ (c kind K : ℕ) (x r : List ℕ) (small : c < 128) (hk : kind < 8) (hK
               rw (t, ne-eqb K 0 k) (ap (λ (y : ℕ). now ∷ y ∷ rest) n)
 
 -- ---- the same of flags
-num-bound : (b : Bool) → num b < 2
-num-bound true = omega arith
-num-bound false = omega arith
-
-needed-bound : (e : ℕ) → needed e < 2
-needed-bound e = by-bool _ (eqb e 0) (λ b. rw b (omega arith)) (λ b. rw b (omega arith))
-
 abbrev byte0Front : Flags → ℕ
 byte0Front f = 1 + (16 * num (f .publisher) + (32 * num (f .group) + 64 * num (f .«payload_header»)))
 
