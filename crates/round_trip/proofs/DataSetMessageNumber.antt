@@ -28,7 +28,7 @@ use Rattle.dataset_fields.proofs.Judging.{length-values}
 use Rattle.dataset_fields.proofs.Laying.{values-whole, length-zeros}
 use Rattle.dataset_fields.proofs.Walks.{padding-step, padding-stop}
 use Rattle.dataset_fields.proofs.FieldsTrip.{fields-is}
-use Rattle.dataset_message.specs.Message.{countAt, bodyAt, messageAt}
+use Rattle.dataset_message.specs.Message.{Message, countAt, bodyAt, messageAt}
 use Rattle.dataset_message_writer.specs.Message.{GivenMessage, hasFields, isKey, isFielded, isRawData, givenFields, encode, missingRefusal, leftRefusal, rawRefusal, ownGiven, wholeGiven, listsGiven, layoutGiven, countsGiven, messageReadingRefusal, readsBack, messageRefusal}
 use Rattle.dataset_message_writer.proofs.Whole.{Accepted, acceptable, lists-add, own-none, layout-none, refusal-is, missing-none, missing-short, missing-step, missing-done, none-left, few-fields, many-fields, total-split}
 use Rattle.round_trip.specs.DataSetMessage.{PartsAgree}
@@ -94,14 +94,16 @@ fields-split delta encoding types s zero c k p =
     ap (λ (j : ℕ). fieldsAt delta encoding types j k s p) (zero-add c) ∙ ap (λ (j : ℕ). fieldsAt delta encoding types c j s p) (sym (add-zero k))
 fields-split delta encoding types s (suc n) c k p =
     let e : suc n + c ≡ suc (n + c) = omega arith in
-    ap (λ (j : ℕ). fieldsAt delta encoding types j k s p) e ∙ go (fieldAt delta encoding types k s p)
+    ap (λ (j : ℕ). fieldsAt delta encoding types j k s p) e ∙ go (fieldAt delta encoding types k s p) (fields-split delta encoding types s n c (k + 1))
   where
-    go : (x : Answer Field) → andThen x (λ f r. fieldsAt delta encoding types (n + c) (k + 1) s r)
+    go : (x : Answer Field)
+        → ((r : ℕ) → fieldsAt delta encoding types (n + c) (k + 1) s r ≡ andThen (fieldsAt delta encoding types n (k + 1) s r) (λ _ q. fieldsAt delta encoding types c (k + 1 + n) s q))
+        → andThen x (λ f r. fieldsAt delta encoding types (n + c) (k + 1) s r)
         ≡ andThen (andThen x (λ f r. fieldsAt delta encoding types n (k + 1) s r)) (λ _ q. fieldsAt delta encoding types c (k + suc n) s q)
-    go (got f r) =
+    go (got f r) ih =
         let i : k + 1 + n ≡ k + suc n = omega arith in
-        fields-split delta encoding types s n c (k + 1) r ∙ ap (λ (j : ℕ). andThen (fieldsAt delta encoding types n (k + 1) s r) (λ _ q. fieldsAt delta encoding types c j s q)) i
-    go (refused m z) = refl
+        ih r ∙ ap (λ (j : ℕ). andThen (fieldsAt delta encoding types n (k + 1) s r) (λ _ q. fieldsAt delta encoding types c j s q)) i
+    go (refused m z) ih = refl
 
 module _ (types s : List ℕ) where
   -- those from field k on, where only zeros follow
@@ -165,8 +167,10 @@ body-number : (h : Header) (types s : List ℕ) (at n : ℕ) → countAt (h .kin
     → numberOf (bodyAt h types s at) ≡ numberOf (andThen (fieldsAt (isDelta (h .kind)) (h .encoding) types n 0 s at) (λ _ end. paddingAt s end))
 body-number h types s at n c = rw c (go (fieldsAt (isDelta (h .kind)) (h .encoding) types n 0 s at))
   where
-    go : (x : Answer (Unit {0}))
-        → numberOf (andThen x (λ _ end. andThen (paddingAt s end) (λ _ z. got (valid (record { header = h; cursor = record { encoding = h .encoding; delta = isDelta (h .kind); next = 0; count = n; at = at }; end = end })) end)))
+    read : ℕ → Message
+    read end = record { header = h; cursor = record { encoding = h .encoding; delta = isDelta (h .kind); next = 0; count = n; at = at }; end = end }
+
+    go : (x : Answer (Unit {0})) → numberOf (andThen x (λ _ end. andThen (paddingAt s end) (λ _ z. got (valid (read end)) end)))
         ≡ numberOf (andThen x (λ _ end. paddingAt s end))
     go (got u end) = then-number (paddingAt s end) _ (λ a z. refl)
     go (refused k p) = refl
@@ -208,7 +212,7 @@ module _ (types : List ℕ) (g : GivenMessage) (fits : FitsHeader (g .header)) (
       ap numberOf (read-written types g fits indices (acceptable types g a) .message)
       ∙ sym (layout-none (isFielded g) (isRawData g) (isKey (g .header .kind)) types (g .values) (g .lengths) (g .padding) c adds)
 
-  front : List ℕ
+  abbrev front : List ℕ
   front = messageHeaderBytes (g .header)
 
   -- the bytes of a message without FieldCount and indices
