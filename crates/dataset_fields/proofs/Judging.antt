@@ -21,7 +21,7 @@ use Rattle.value.proofs.Values.{value-steady, raw-steady}
 use Rattle.wire_writer.specs.Writing.{orElse}
 use Rattle.dataset_header.specs.declared.flags.Encoding.{Encoding}
 use Rattle.dataset_fields.specs.declared.fields.Field.{Field}
-use Rattle.dataset_fields.specs.Fields.{configuredAt, encodedAt, fieldAt, valuesOf, numberOf, fieldsRefusal, fieldsWhole, fieldsNumber, reached}
+use Rattle.dataset_fields.specs.Fields.{rawFieldAt, encodedAt, fieldAt, valuesOf, numberOf, fieldsRefusal, fieldsWhole, fieldsNumber, reached}
 use Rattle.wire.proofs.Facts.{eqb-same}
 
 -- lengths that add up
@@ -58,7 +58,7 @@ encoded-either Encoding.RawData types k = go (leb (length types) k) refl
     said : Bool → List ℕ → ℕ → Answer Measure
     said b s at = cond b (refused 8 0) (rawAt (getD types k 0) s at)
 
-    go : (b : Bool) → leb (length types) k ≡ b → Steady (configuredAt types k) ⊎ ((s : List ℕ) (at : ℕ) → configuredAt types k s at ≡ refused 8 0)
+    go : (b : Bool) → leb (length types) k ≡ b → Steady (rawFieldAt types k) ⊎ ((s : List ℕ) (at : ℕ) → rawFieldAt types k s at ≡ refused 8 0)
     go true e = inr (λ s at. rw e)
     go false e = inl (subst Steady (ap said (sym e)) (raw-steady (getD types k 0)))
 encoded-either Encoding.DataValue types k = inl (value-steady 100 23)

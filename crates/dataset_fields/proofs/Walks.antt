@@ -10,7 +10,7 @@ use native.Mathlib.Omega.{arith}
 use lib.Dec.{leb}
 use lib.ListN.{length, getD}
 use borrow.Author.Tests.{eq-eqb, ne-eqb}
-use Rattle.dataset_fields.specs.Fields.{configuredAt, fieldAt, fieldsAt, zerosAt, paddingAt}
+use Rattle.dataset_fields.specs.Fields.{rawFieldAt, fieldAt, fieldsAt, zerosAt, paddingAt}
 use Rattle.dataset_header.specs.declared.flags.Encoding.{Encoding}
 use Rattle.dataset_fields.specs.declared.fields.Field.{Field}
 use Rattle.wire.specs.Answer.{Answer, got, refused, andThen, each}
@@ -42,22 +42,22 @@ module _ (delta : Bool) (encoding : Encoding) (types s : List ℕ) where
 -- fields of RawData, each passed over by its type, and Variants without indices
 
 module _ (types s : List ℕ) where
-  configured-is : (k p : ℕ) {e : ℕ} → passing (configuredAt types k) s p ≡ got tt e → configuredAt types k s p ≡ got (measure (getD types k 0) Shape.Scalar) e
+  configured-is : (k p : ℕ) {e : ℕ} → passing (rawFieldAt types k) s p ≡ got tt e → rawFieldAt types k s p ≡ got (measure (getD types k 0) Shape.Scalar) e
   configured-is k p {e} q = go (leb (length types) k) refl
     where
-      go : (b : Bool) → leb (length types) k ≡ b → configuredAt types k s p ≡ got (measure (getD types k 0) Shape.Scalar) e
+      go : (b : Bool) → leb (length types) k ≡ b → rawFieldAt types k s p ≡ got (measure (getD types k 0) Shape.Scalar) e
       go true t = absurd (not-got (rw t at q))
       go false t = rw t (raw-is (getD types k 0) s p (rw t at q))
 
-  pub raw-step : (left k p : ℕ) {e : ℕ} → 0 < left → passing (configuredAt types k) s p ≡ got tt e
+  pub raw-step : (left k p : ℕ) {e : ℕ} → 0 < left → passing (rawFieldAt types k) s p ≡ got tt e
       → fieldsAt false Encoding.RawData types left k s p ≡ fieldsAt false Encoding.RawData types (left - 1) (k + 1) s e
   raw-step left k p {e} h q =
       let t : ℕ = getD types k 0 in
       let f : Field = record { index = k; kind = t; shape = Shape.Scalar; offset = p; length = e - p } in
       fields-step false Encoding.RawData types s left k p e f h (rw (configured-is k p q))
 
-  pub raw-stop : (left k p : ℕ) {n place : ℕ} → 0 < left → passing (configuredAt types k) s p ≡ refused n place → fieldsAt false Encoding.RawData types left k s p ≡ refused n place
-  raw-stop left k p h q = fields-stop false Encoding.RawData types s left k p _ _ h (rw (unpassed (configuredAt types k s p) q))
+  pub raw-stop : (left k p : ℕ) {n place : ℕ} → 0 < left → passing (rawFieldAt types k) s p ≡ refused n place → fieldsAt false Encoding.RawData types left k s p ≡ refused n place
+  raw-stop left k p h q = fields-stop false Encoding.RawData types s left k p _ _ h (rw (unpassed (rawFieldAt types k s p) q))
 
   pub fields-variants : (n k at : ℕ) → each variantAt n s at ≡ fieldsAt false Encoding.Variant types n k s at
   unfolding fieldsAt each

@@ -17,13 +17,13 @@ use Rattle.wire.specs.Number.{leBytes}
 use Rattle.wire_writer.specs.Writing.{orElse}
 
 -- RawData: "its fields are the configured ones"; of a field past them "the configuration doesn't say"
-abbrev pub configuredAt : List ℕ → ℕ → Reader Measure
-configuredAt types k s at = cond (leb (length types) k) (refused NOT_CONFIGURED 0) (rawAt (getD types k 0) s at)
+abbrev pub rawFieldAt : List ℕ → ℕ → Reader Measure
+rawFieldAt types k s at = cond (leb (length types) k) (refused NOT_CONFIGURED 0) (rawAt (getD types k 0) s at)
 
 -- the value of field k: a Variant, a DataValue, or in RawData an element of its configured type
 abbrev pub encodedAt : Encoding → List ℕ → ℕ → Reader Measure
 encodedAt Encoding.Variant types k = variantAt
-encodedAt Encoding.RawData types k = configuredAt types k
+encodedAt Encoding.RawData types k = rawFieldAt types k
 encodedAt Encoding.DataValue types k = dataValueAt
 
 -- "Delta: .. an index of 2 and a value each"; else field k has the index k

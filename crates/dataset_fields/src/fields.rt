@@ -28,7 +28,7 @@ ghost use Rattle.wire.specs.Answer.{got, andThen};
 ghost use Rattle.wire.specs.Items.{answerReached};
 ghost use Rattle.plain_value.specs.Plain.{passing};
 ghost use Rattle.value.specs.Value.{answerMeasured};
-ghost use Rattle.dataset_fields.specs.Fields.{configuredAt, encodedAt, indexAt, fieldAt, fieldsAt, nextFieldAt, zerosAt, paddingAt, answerIndex, answerField, answerFieldStep, valuesOf, reached, fieldsNumber, fieldsBytes, zeros};
+ghost use Rattle.dataset_fields.specs.Fields.{rawFieldAt, encodedAt, indexAt, fieldAt, fieldsAt, nextFieldAt, zerosAt, paddingAt, answerIndex, answerField, answerFieldStep, valuesOf, reached, fieldsNumber, fieldsBytes, zeros};
 ghost use Rattle.dataset_header.specs.declared.flags.Encoding.{Encoding};
 ghost use lib.Dec.{eqb, leb};
 ghost use lib.Seq.{sets};
@@ -75,7 +75,7 @@ pub enum IndexRead {
 
 // The value of field k of RawData; past the configured fields 8, at 0.
 pub(crate) fn configured(s: &[u8], types: &[u8], k: usize, at: usize) -> Measured
-    ensures { λ r. ⌜ answerMeasured r ≡ configuredAt (now (types .entry)) k (now (s .entry)) at ⌝ }
+    ensures { λ r. ⌜ answerMeasured r ≡ rawFieldAt (now (types .entry)) k (now (s .entry)) at ⌝ }
 {
     if types.len() <= k {
         return Measured::Refused(NOT_CONFIGURED, 0);
@@ -85,7 +85,7 @@ pub(crate) fn configured(s: &[u8], types: &[u8], k: usize, at: usize) -> Measure
 
 // Passes over field k of RawData.
 fn pass_configured(s: &[u8], types: &[u8], k: usize, at: usize) -> Reached
-    ensures { λ r. ⌜ answerReached r ≡ passing (configuredAt (now (types .entry)) k) (now (s .entry)) at ⌝ }
+    ensures { λ r. ⌜ answerReached r ≡ passing (rawFieldAt (now (types .entry)) k) (now (s .entry)) at ⌝ }
 {
     if types.len() <= k {
         return Reached::Refused(NOT_CONFIGURED, 0);

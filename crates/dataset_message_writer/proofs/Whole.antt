@@ -81,7 +81,7 @@ first-is K P F L k p f l x y r ek ep ef el ex ey er =
     er ∙ ap (λ (n : ℕ). orElse n y) ek
     ∙ ap (orElse K) (ey ∙ ap (λ (n : ℕ). orElse n x) ep ∙ ap (orElse P) (ex ∙ ap (λ (n : ℕ). orElse n l) ef ∙ ap (orElse F) el))
 
-pub refusal-is : (types : List ℕ) (g : GivenMessage) → messageRefusal types g ≡ orElse (firstGiven types g) (orElse (layoutGiven types g) (cond (countsGiven types g) 0 6))
+refusal-is : (types : List ℕ) (g : GivenMessage) → messageRefusal types g ≡ orElse (firstGiven types g) (orElse (layoutGiven types g) (cond (countsGiven types g) 0 6))
 refusal-is types g =
     order-is (kindRule (g .header .kind) (g .header .encoding)) (picosecondsRefusal (g .header .picoseconds)) (ownGiven types g) (layoutGiven types g)
     (wholeGiven types g) (listsGiven g) (countsGiven types g)

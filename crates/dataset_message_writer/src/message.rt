@@ -46,7 +46,13 @@ fn is_key(kind: Kind) -> bool
 }
 
 // The first number by which a field is refused alone; then 6 where bytes stand behind a field's value.
-fn own_refusal(fielded: bool, values: &[u8], lengths: &[usize], encoding: Encoding, types: &[u8]) -> u8
+fn own_refusal(
+    fielded: bool,
+    values: &[u8],
+    lengths: &[usize],
+    encoding: Encoding,
+    types: &[u8],
+) -> u8
     ensures { λ r.
         let fields = valuesOf (now (lengths .entry)) (now (values .entry)) in
         let whole = eachWhole fielded encoding (now (types .entry)) fields in
@@ -165,7 +171,14 @@ fn count_agrees(raw: bool, configured: usize, n: usize) -> bool
     n <= 65535
 }
 
-fn counts_agree(fielded: bool, raw: bool, key: bool, configured: usize, n: usize, padding: usize) -> bool
+fn counts_agree(
+    fielded: bool,
+    raw: bool,
+    key: bool,
+    configured: usize,
+    n: usize,
+    padding: usize,
+) -> bool
     ensures { λ r. ⌜ r ≡ countsAgree fielded raw key configured n padding ⌝ }
 {
     if fielded {

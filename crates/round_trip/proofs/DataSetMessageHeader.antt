@@ -18,8 +18,8 @@ use Rattle.dataset_header.specs.declared.flags.Kind.{Kind}
 use Rattle.dataset_header.specs.declared.header.Header.{Header}
 use Rattle.dataset_header.specs.Flags.{flags1Rule, flags2Rule, messageFlagsAt, kindNumber, flags1Of, flags2Of, messageFlagBytes, kindRule}
 use Rattle.dataset_header.specs.Header.{messageTimesAt, messageHeaderAt, timesBytes, versionsBytes, messageHeaderBytes, FitsHeader}
-use Rattle.dataset_message.specs.Message.{messageAt}
 use Rattle.dataset_message_writer.specs.Message.{GivenMessage, encode}
+use Rattle.round_trip.specs.DataSetMessage.{ReadingRefuses}
 use Rattle.dataset_header.proofs.FlagsTrip.{flags1-bits, flags2-bits, encoding-rule, kind-rule-is, flagsFor, flags-is}
 use Rattle.round_trip.proofs.DataSetMessage.{no}
 use Rattle.round_trip.proofs.DataSetMessagePlaces.{header-at}
@@ -76,14 +76,10 @@ header-refuse h s f k r a =
     let q = times-refuse h s (0 + length x) f r (first s (0 + length x) y z b) in
     (0 + length x + length (optional16Bytes (h .sequence)) + length (optionalI64Bytes (h .timestamp)), rw (p, q))
 
--- reading refuses by n what would be written
-abbrev pub Refused : List ℕ → GivenMessage → ℕ → Type 0
-Refused types g n = (place : ℕ) × (messageAt types (encode g) ≡ refused n place)
-
 module _ (types : List ℕ) (g : GivenMessage) where
-  pub kind-refused : eqb (kindRule (g .header .kind) (g .header .encoding)) 0 ≡ false → Refused types g (kindRule (g .header .kind) (g .header .encoding))
+  pub kind-refused : eqb (kindRule (g .header .kind) (g .header .encoding)) 0 ≡ false → ReadingRefuses types g (kindRule (g .header .kind) (g .header .encoding))
   kind-refused r = (1, rw (flags-refuse (g .header) (encode g) r (first (encode g) 0 (messageFlagBytes (g .header)) (timesBytes (g .header) ++ versionsBytes (g .header)) (header-at g))))
 
   pub picoseconds-refused : FitsHeader (g .header) → kindRule (g .header .kind) (g .header .encoding) ≡ 0 → eqb (picosecondsRefusal (g .header .picoseconds)) 0 ≡ false
-      → Refused types g (picosecondsRefusal (g .header .picoseconds))
+      → ReadingRefuses types g (picosecondsRefusal (g .header .picoseconds))
   picoseconds-refused fits k r = let p = header-refuse (g .header) (encode g) fits k r (header-at g) in (p .0, rw (p .1))

@@ -12,7 +12,6 @@ use lib.ListN.{length, getD, take, drop, length-append, length-drop, List·getD-
 use lib.Seq.{getD-append-add, length-take-le, take-all}
 use Rattle.wire.specs.Lists.{total}
 use Rattle.wire.specs.Answer.{Answer, got, refused, andThen}
-use Rattle.wire.proofs.Facts.{and-left, and-right}
 use Rattle.wire_writer.specs.Writing.{orElse, picosecondsRefusal}
 use Rattle.wire_writer.specs.Fits.{Numbers}
 use Rattle.wire_writer.proofs.Trip.{At}
@@ -30,11 +29,11 @@ use Rattle.dataset_fields.proofs.Walks.{padding-step, padding-stop}
 use Rattle.dataset_fields.proofs.FieldsTrip.{fields-is}
 use Rattle.dataset_message.specs.Message.{Message, countAt, bodyAt, messageAt}
 use Rattle.dataset_message_writer.specs.Message.{GivenMessage, hasFields, isKey, isFielded, isRawData, givenFields, encode, missingRefusal, leftRefusal, rawRefusal, ownGiven, wholeGiven, listsGiven, layoutGiven, countsGiven, messageReadingRefusal, readsBack, messageRefusal}
-use Rattle.dataset_message_writer.proofs.Whole.{Accepted, acceptable, lists-add, own-none, layout-none, refusal-is, missing-none, missing-short, missing-step, missing-done, none-left, few-fields, many-fields, total-split}
-use Rattle.round_trip.specs.DataSetMessage.{PartsAgree}
-use Rattle.round_trip.proofs.DataSetMessage.{no, read-written, delta-plain}
-use Rattle.round_trip.proofs.DataSetMessagePlaces.{fieldsPart, countPart, start, header-read}
-use Rattle.round_trip.proofs.DataSetMessageHeader.{Refused, kind-refused, picoseconds-refused}
+use Rattle.dataset_message_writer.proofs.Whole.{Accepted, acceptable, lists-add, own-none, layout-none, missing-none, missing-short, missing-step, missing-done, none-left, few-fields, many-fields, total-split}
+use Rattle.round_trip.specs.DataSetMessage.{PartsAgree, ReadingRefuses}
+use Rattle.round_trip.proofs.DataSetMessage.{no, read-written}
+use Rattle.round_trip.proofs.DataSetMessagePlaces.{fieldsPart, countPart, header-read}
+use Rattle.round_trip.proofs.DataSetMessageHeader.{kind-refused, picoseconds-refused}
 
 -- bytes left over
 
@@ -176,7 +175,8 @@ body-number h types s at n c = rw c (go (fieldsAt (isDelta (h .kind)) (h .encodi
     go (refused k p) = refl
 
 -- a keep alive
-alive-count : (kind : Kind) (heartbeat raw : Bool) (types s : List ℕ) (at : ℕ) → hasFields kind heartbeat ≡ false → isKey kind ≡ false → (countAt kind raw types s at ≡ got 0 at) × (isDelta kind ≡ false)
+alive-count : (kind : Kind) (heartbeat raw : Bool) (types s : List ℕ) (at : ℕ) → hasFields kind heartbeat ≡ false → isKey kind ≡ false
+    → (countAt kind raw types s at ≡ got 0 at) × (isDelta kind ≡ false)
 alive-count Kind.Key heartbeat raw types s at f k = no (sym k)
 alive-count Kind.Delta heartbeat raw types s at f k = no (sym f)
 alive-count Kind.Event heartbeat raw types s at f k = no (sym f)
@@ -372,7 +372,7 @@ number-alike types g fits indices agree =
         only : (o : ℕ) (w l : Bool) → o ≡ 0 → w ≡ true → l ≡ true → orElse o (cond (w && l) (layoutGiven types g) 0) ≡ layoutGiven types g
         only o w l eo ew el = rw (eo, ew, el)
 
-    by : (n m : ℕ) → eqb n 0 ≡ false → Refused types g n → numberOf (messageAt types (encode g)) ≡ orElse n m
+    by : (n m : ℕ) → eqb n 0 ≡ false → ReadingRefuses types g n → numberOf (messageAt types (encode g)) ≡ orElse n m
     by n m z p = ap numberOf (p .1) ∙ sym (ap (λ (t : Bool). cond t m n) z)
 
     go : (a : Bool) → eqb (kindRule (g .header .kind) (g .header .encoding)) 0 ≡ a → (b : Bool) → eqb (picosecondsRefusal (g .header .picoseconds)) 0 ≡ b
@@ -403,7 +403,7 @@ refused-by (refused m p) n z h = (p, ap (λ (k : ℕ). refused k p) h)
 
 -- So reading refuses by n what would be written exactly if the writer's number is n, where that is not 6, "what would read back otherwise".
 pub refused-alike : (types : List ℕ) (g : GivenMessage) → FitsHeader (g .header) → Numbers (g .indices) → PartsAgree types g → (n : ℕ) → (n ≡ 0 → ⊥) → (n ≡ 6 → ⊥)
-    → (messageRefusal types g ≡ n → Refused types g n) × (Refused types g n → messageRefusal types g ≡ n)
+    → (messageRefusal types g ≡ n → ReadingRefuses types g n) × (ReadingRefuses types g n → messageRefusal types g ≡ n)
 refused-alike types g fits indices agree n z s = (there, back)
   where
     six : ℕ
@@ -412,10 +412,10 @@ refused-alike types g fits indices agree n z s = (there, back)
     same : numberOf (messageAt types (encode g)) ≡ messageReadingRefusal types g
     same = number-alike types g fits indices agree
 
-    there : messageRefusal types g ≡ n → Refused types g n
+    there : messageRefusal types g ≡ n → ReadingRefuses types g n
     there h = refused-by (messageAt types (encode g)) n z (same ∙ reading-by (messageReadingRefusal types g) (readsBack types g) n z s h)
 
-    back : Refused types g n → messageRefusal types g ≡ n
+    back : ReadingRefuses types g n → messageRefusal types g ≡ n
     back h =
         let m : messageReadingRefusal types g ≡ n = sym same ∙ ap numberOf (h .1) in
         ap (λ (k : ℕ). orElse k six) m ∙ ap (λ (t : Bool). cond t six n) (ne-eqb n 0 z)

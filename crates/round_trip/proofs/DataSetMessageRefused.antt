@@ -28,10 +28,10 @@ use Rattle.dataset_message.specs.Message.{countAt, messageAt}
 use Rattle.dataset_message_writer.specs.Message.{GivenMessage, isKey, isFielded, isRawData, givenFields, countBytes, ownGiven, wholeGiven, listsGiven, layoutGiven, bodyRefusal, messageReadingRefusal, encode}
 use Rattle.dataset_fields.proofs.Judging.{encoded-either, encoded-refused, length-values}
 use Rattle.dataset_fields.proofs.FieldsTrip.{field-is, index-is}
-use Rattle.round_trip.specs.DataSetMessage.{plainly, Tellable, PartsAgree, fieldsCounted}
+use Rattle.round_trip.specs.DataSetMessage.{plainly, Tellable, PartsAgree, ReadingRefuses, fieldsCounted}
 use Rattle.round_trip.proofs.DataSetMessage.{no, some-of, counted-is, count-is, delta-plain}
 use Rattle.round_trip.proofs.DataSetMessagePlaces.{fieldsPart, countPart, start, body-at, sizes, header-read}
-use Rattle.round_trip.proofs.DataSetMessageHeader.{Refused, kind-refused, picoseconds-refused}
+use Rattle.round_trip.proofs.DataSetMessageHeader.{kind-refused, picoseconds-refused}
 use Rattle.round_trip.proofs.DataSetMessageNumber.{layout-number, refused-by}
 
 -- a field that is refused alone, but not cut short, is refused where it stands
@@ -212,27 +212,27 @@ module _ (types : List ℕ) (g : GivenMessage) (fits : FitsHeader (g .header)) (
         refused-there (encode g) ((start g) + length (countPart g)) there ends in
         (x .0, x .1 ∙ ap (λ (vs : List (List ℕ)). refused (fieldsRefusal (g .header .encoding) types 0 vs) (x .0)) (sym (all (isRawData g))))
 
-    fields-refused : Refused types g (fieldsRefusal (g .header .encoding) types 0 (reached (isRawData g) types (givenFields g)))
+    fields-refused : ReadingRefuses types g (fieldsRefusal (g .header .encoding) types 0 (reached (isRawData g) types (givenFields g)))
     fields-refused = (by .0, rw ((header-read g fits kind pico), counted-read, by .1))
 
   module _ (kind : kindRule (g .header .kind) (g .header .encoding) ≡ 0) (pico : picosecondsRefusal (g .header .picoseconds) ≡ 0) where
-    own-refused : eqb (ownGiven types g) 0 ≡ false → Refused types g (ownGiven types g)
+    own-refused : eqb (ownGiven types g) 0 ≡ false → ReadingRefuses types g (ownGiven types g)
     own-refused r = go (isFielded g) refl
       where
-        go : (f : Bool) → isFielded g ≡ f → Refused types g (ownGiven types g)
+        go : (f : Bool) → isFielded g ≡ f → ReadingRefuses types g (ownGiven types g)
         go true e = let q : eqb (fieldsRefusal (g .header .encoding) types 0 (reached (isRawData g) types (givenFields g))) 0 ≡ false = rw e at r in
-            subst (Refused types g) (let b : fieldsRefusal (g .header .encoding) types 0 (reached (isRawData g) types (givenFields g)) ≡ ownGiven types g = rw e in b) (fields-refused kind pico e q)
+            subst (ReadingRefuses types g) (let b : fieldsRefusal (g .header .encoding) types 0 (reached (isRawData g) types (givenFields g)) ≡ ownGiven types g = rw e in b) (fields-refused kind pico e q)
         go false e = let q : eqb 0 0 ≡ false = rw e at r in no (sym q)
 
     -- where each is whole, by the layout
     layout-refused : ownGiven types g ≡ 0 → eqb (cond (wholeGiven types g && listsGiven g) (layoutGiven types g) 0) 0 ≡ false
-        → Refused types g (cond (wholeGiven types g && listsGiven g) (layoutGiven types g) 0)
+        → ReadingRefuses types g (cond (wholeGiven types g && listsGiven g) (layoutGiven types g) 0)
     layout-refused o r = go (wholeGiven types g && listsGiven g) refl r
       where
         bare : eqb (layoutGiven types g) 0 ≡ false → isFielded g ≡ false → isKey (g .header .kind) ≡ true → (length (g .lengths) ≡ 0) × (g .padding ≡ 0)
         bare n f k = let q : eqb 0 0 ≡ false = rw (f, k) at n in no (sym q)
 
-        go : (t : Bool) → wholeGiven types g && listsGiven g ≡ t → eqb (cond t (layoutGiven types g) 0) 0 ≡ false → Refused types g (cond t (layoutGiven types g) 0)
+        go : (t : Bool) → wholeGiven types g && listsGiven g ≡ t → eqb (cond t (layoutGiven types g) 0) 0 ≡ false → ReadingRefuses types g (cond t (layoutGiven types g) 0)
         go true t n =
             let a : PartsAgree types g = record {
               whole = and-left (wholeGiven types g) (listsGiven g) t;
@@ -243,14 +243,14 @@ module _ (types : List ℕ) (g : GivenMessage) (fits : FitsHeader (g .header)) (
             refused-by (messageAt types (encode g)) (layoutGiven types g) (eqb-false (layoutGiven types g) 0 n) (layout-number types g fits indices a kind pico)
         go false t n = no (sym n)
 
-    body-refused : eqb (bodyRefusal types g) 0 ≡ false → Refused types g (bodyRefusal types g)
-    body-refused r = or-case (Refused types g) (ownGiven types g) (cond (wholeGiven types g && listsGiven g) (layoutGiven types g) 0) r own-refused layout-refused
+    body-refused : eqb (bodyRefusal types g) 0 ≡ false → ReadingRefuses types g (bodyRefusal types g)
+    body-refused r = or-case (ReadingRefuses types g) (ownGiven types g) (cond (wholeGiven types g && listsGiven g) (layoutGiven types g) 0) r own-refused layout-refused
 
 -- The number by which the writer refuses what reading would refuse is reading's number of what would have been written.
 pub refuse-written : (types : List ℕ) (g : GivenMessage) → FitsHeader (g .header) → Numbers (g .indices) → Tellable types g → eqb (messageReadingRefusal types g) 0 ≡ false
     → (place : ℕ) × (messageAt types (encode g) ≡ refused (messageReadingRefusal types g) place)
 refuse-written types g fits indices tells h =
-    or-case (Refused types g) (kindRule (g .header .kind) (g .header .encoding)) (orElse (picosecondsRefusal (g .header .picoseconds)) (bodyRefusal types g)) h
+    or-case (ReadingRefuses types g) (kindRule (g .header .kind) (g .header .encoding)) (orElse (picosecondsRefusal (g .header .picoseconds)) (bodyRefusal types g)) h
     (kind-refused types g)
-    (λ k r. or-case (Refused types g) (picosecondsRefusal (g .header .picoseconds)) (bodyRefusal types g) r
+    (λ k r. or-case (ReadingRefuses types g) (picosecondsRefusal (g .header .picoseconds)) (bodyRefusal types g) r
     (picoseconds-refused types g fits k) (body-refused types g fits indices tells k))

@@ -70,6 +70,10 @@ takenAgain types s m =
     (cond (m .cursor .delta) (indicesOf (fieldsRead types s m)) [])
     (length s - m .end)
 
+-- reading refuses by n what would be written
+abbrev pub ReadingRefuses : List ℕ → GivenMessage → ℕ → Type 0
+ReadingRefuses types g n = (place : ℕ) × (messageAt types (encode g) ≡ refused n place)
+
 -- Each field given is one whole value of its encoding and type, and counts and lists agree, so that what would be written is one thing: the
 -- lengths add up, a delta has as many indices as fields, FieldCount holds the number of fields, and nothing is given with a heartbeat.
 pub record PartsAgree (types : List ℕ) (g : GivenMessage) : Type 0 where

@@ -1,7 +1,6 @@
 -- `dataset_fields::fields::encoded` meets its contract.
 -- Assumes nothing.
 use Prim.Native.Nat.{_-_}
-use mathlib.Core.Path.{sym}
 use borrow.Author.Needs.{needs}
 use Rattle.dataset_fields.proofs.fields.encoded.Statement.{statement}
 use Rattle.dataset_fields.proofs.fields.encoded.Tie as tie

@@ -8,7 +8,7 @@ use lib.ListN.{length, take, drop}
 use borrow.Author.Needs.{needs}
 use Rattle.wire.specs.Lists.{total}
 use Rattle.dataset_fields.proofs.Judging.{total-cons}
-use Rattle.dataset_message_writer.proofs.Whole.{total-split, total-at}
+use Rattle.dataset_message_writer.proofs.Whole.{total-at}
 use Rattle.dataset_message_writer.proofs.message.end_of.Statement.{statement}
 use Rattle.dataset_message_writer.proofs.message.end_of.Tie as tie
 

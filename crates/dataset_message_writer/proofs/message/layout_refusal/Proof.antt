@@ -17,7 +17,7 @@ returns-4 : tie.Need-returns-4
 returns-4 c = rw (c .before .before .if1 .left, c .before .if3 .left) (c .left-over .ensures)
 
 raw-refusal-requires : tie.Need-raw-refusal-requires
-raw-refusal-requires c κs = c .before .before .before .before .before .pre
+raw-refusal-requires c κs = let at-if1 = c .before in at-if1 .before .before .before .before .pre
 
 pub layout-refusal-spec : {M : Type 1} → statement M
 layout-refusal-spec =

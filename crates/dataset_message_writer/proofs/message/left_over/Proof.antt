@@ -1,6 +1,6 @@
 -- `dataset_message_writer::message::left_over` meets its contract.
 -- Assumes nothing.
-use mathlib.Core.Path.{sym, ap, _∙_}
+use mathlib.Core.Path.{ap}
 use borrow.Author.Needs.{needs}
 use Rattle.wire.specs.Items.{answerReached}
 use Rattle.wire.proofs.Reading.{told}

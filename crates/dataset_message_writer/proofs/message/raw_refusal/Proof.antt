@@ -29,7 +29,8 @@ returns-3 c =
 
 end-of-requires : tie.Need-end-of-requires
 end-of-requires c κs =
-    let at-pre = c .before .before .before .before .before .before in
+    let at-if1 = c .before .before in
+    let at-pre = at-if1 .before .before .before .before in
     let a = at-pre .args in
     let l : length (now (a .types)) ≤ length (now (a .lengths)) = omega (arith, c .if3 .left) in
     (at-pre .pre, l)

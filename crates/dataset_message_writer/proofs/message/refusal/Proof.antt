@@ -15,14 +15,17 @@ use Rattle.dataset_message_writer.proofs.message.refusal.Tie as tie
 
 -- the numbers before the layout is judged
 module _ (c : tie.After-or-else3) where
+  abbrev at-six-unless : tie.After-six-unless
+  at-six-unless = c .before .before .before
+
   abbrev at-own-refusal : tie.After-own-refusal
-  at-own-refusal = c .before .before .before .before .before .before
+  at-own-refusal = at-six-unless .before .before .before
 
   abbrev at-kind-rule : tie.After-kind-rule
   at-kind-rule = at-own-refusal .before .before
 
   abbrev at-start : tie.After-shared-slice-known
-  at-start = at-kind-rule .before .before .before .before .before
+  at-start = let at-has-fields = at-kind-rule .before in at-has-fields .before .before .before .before
 
   abbrev given : GivenMessage
   given =
@@ -33,7 +36,6 @@ module _ (c : tie.After-or-else3) where
   first-given =
       let at-or-else2 = c .before in
       let at-or-else = at-or-else2 .before in
-      let at-six-unless = at-or-else .before in
       let at-lists-agree = at-six-unless .before in
       let at-is-delta = at-lists-agree .before in
       let at-has-fields = at-kind-rule .before in
