@@ -175,6 +175,10 @@ or-none a = go (eqb a 0) refl
 pub none-left : (values : List ℕ) (at : ℕ) → length values ≤ at → leftRefusal values at ≡ 0
 none-left values at h = ap numberOf (padding-done values at h)
 
+-- nothing follows the header
+pub bare-raw : (types values lengths : List ℕ) (padding : ℕ) → (eqb (length values) 0 && eqb padding 0) ≡ true → 0 ≡ rawRefusal types values lengths padding
+bare-raw types values lengths padding e = rw e
+
 -- no more fields than are configured: nothing stands past them
 pub few-fields : (types values lengths : List ℕ) (padding : ℕ) → total lengths ≡ length values → length lengths ≤ length types
     → orElse (missingRefusal (drop (length lengths) types) padding) (leftRefusal values (total (take (length types) lengths))) ≡ missingRefusal (drop (length lengths) types) padding

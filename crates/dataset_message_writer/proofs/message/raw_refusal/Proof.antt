@@ -8,12 +8,14 @@ use native.Mathlib.Omega.{arith}
 use borrow.Author.Tests.{eq-eqb, ne-eqb}
 use borrow.Author.Needs.{needs}
 use Rattle.dataset_message_writer.specs.Message.{leftRefusal}
-use Rattle.dataset_message_writer.proofs.Whole.{few-fields, many-fields}
+use Rattle.dataset_message_writer.proofs.Whole.{bare-raw, few-fields, many-fields}
 use Rattle.dataset_message_writer.proofs.message.raw_refusal.Statement.{statement}
 use Rattle.dataset_message_writer.proofs.message.raw_refusal.Tie as tie
 
 returns : tie.Need-returns
-returns c = rw (c .if1 .taken)
+returns c =
+    let a = c .before .before .before .before .args in
+    bare-raw (now (a .types)) (now (a .values)) (now (a .lengths)) (a .padding) (c .if1 .taken)
 
 returns-2 : tie.Need-returns-2
 returns-2 c = rw (c .before .if1 .left, eq-eqb _ _ (c .if2 .taken))
