@@ -11,7 +11,7 @@ use lib.ListN.{length, getD}
 use Rattle.wire.specs.Answer.{got, refused, Reader, bit, andThen}
 use Rattle.wire.specs.declared.Length.{Length}
 use Rattle.plain_value.specs.Width.{widthOf, fixed}
-use Rattle.plain_value.specs.Plain.{passing, bytes, afterLength, byLength, string, plain, plainValue, plainValues}
+use Rattle.plain_value.specs.Plain.{passing, bytes, afterLength, byLength, string, lengthFirst, plain, plainValue, plainValues}
 use Rattle.value.specs.Value.{variantRule, scalar, elements, array, variantOf, maskRule, dataValueOf, valueOf, valueAt, rawAt, typeOf, isArray, hasDimensions, taken, measure, Measure}
 use Rattle.plain_value.specs.Parts.{parts}
 use Rattle.value.specs.declared.Shape.{Shape}
@@ -59,7 +59,7 @@ string-lawful = by-length-lawful (pure-lawful tt) bytes-lawful
 
 plain-lawful : (t : ℕ) → Lawful valueOthers (plainValue t)
 unfolding plainValue
-plain-lawful t = cond-lawful (fixed t) (bytes-lawful (widthOf t)) string-lawful
+plain-lawful t = cond-lawful (fixed t) (bytes-lawful (widthOf t)) (cond-lawful (lengthFirst t) string-lawful (refuse-lawful 4 (number 4 refl)))
 
 plains-lawful : (t n : ℕ) → Lawful valueOthers (plainValues t n)
 unfolding plainValues
@@ -164,7 +164,8 @@ header-tells s = then-tells (flags-lawful .tells s 0 (omega arith)) go
 -- ---- the fields
 encoded-lawful : (e : Encoding) (types : List ℕ) (k : ℕ) → Lawful fieldOthers (encodedAt e types k)
 encoded-lawful Encoding.Variant types k = wider-lawful refl (value-lawful 100 24)
-encoded-lawful Encoding.RawData types k = wider-lawful refl (raw-lawful (getD types k 0))
+encoded-lawful Encoding.RawData types k =
+    record { tells = λ s at h. cond-tells (leb (length types) k) (refuses (no-place 8 refl)) (wider-lawful refl (raw-lawful (getD types k 0)) .tells s at h) }
 encoded-lawful Encoding.DataValue types k = wider-lawful refl (value-lawful 100 23)
 
 pub field-lawful : (delta : Bool) (e : Encoding) (types : List ℕ) (k : ℕ) → Lawful fieldOthers (fieldAt delta e types k)

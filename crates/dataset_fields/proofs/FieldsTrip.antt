@@ -37,7 +37,7 @@ encoded-is : (encoding : Encoding) (types : List ℕ) (k : ℕ) (v : List ℕ) (
     → Reads (encodedAt encoding types k) at v m
 encoded-is encoding types k v m at q s a =
     ap (λ (l : List ℕ). encodedAt encoding types k l at) (a .2) ∙ ap (λ (n : ℕ). encodedAt encoding types k (a .0 ++ (v ++ a .1)) n) (sym (a .3))
-    ∙ placed (encoded-steady encoding types k) (a .0) v (a .1) q ∙ ap (λ (n : ℕ). got m (n + length v)) (a .3)
+    ∙ placed (encoded-steady encoding types k v 0 q) (a .0) v (a .1) q ∙ ap (λ (n : ℕ). got m (n + length v)) (a .3)
 
 pub index-is : (delta : Bool) (k i m : ℕ) → (delta ≡ true → i < 65536) → Reads (indexAt delta k) m (indexBytes delta i) (cond delta i k)
 index-is true k i m l s a = item-is 2 i m (l refl) s a
@@ -73,6 +73,14 @@ field-is delta encoding types k i v x l q s m a =
 pub whole-alone : (x : Answer Measure) (n : ℕ) → endsAt n x ≡ true → (m : Measure) × (x ≡ got m n)
 whole-alone (got m next) n h = (m, ap (got m) (eqb-true next n h))
 whole-alone (refused k place) n h = let z : _≡_ {A = ℕ} 0 1 = cc in absurd (omega arith)
+
+-- whole fields are not refused
+pub whole-number : (encoding : Encoding) (types : List ℕ) (k : ℕ) (vs : List (List ℕ)) → fieldsWhole encoding types k vs ≡ true → fieldsRefusal encoding types k vs ≡ 0
+unfolding fieldsWhole fieldsRefusal
+whole-number encoding types k [] w = refl
+whole-number encoding types k (v ∷ vs) w =
+    let t = whole-alone (encodedAt encoding types k v 0) (length v) (and-left _ (fieldsWhole encoding types (k + 1) vs) w) in
+    rw (t .1) (whole-number encoding types (k + 1) vs (and-right (endsAt (length v) (encodedAt encoding types k v 0)) (fieldsWhole encoding types (k + 1) vs) w))
 
 -- each of a delta's indices fits its type, as a value of the code does
 -- the fields, from field k on
@@ -201,7 +209,7 @@ field-alone delta encoding types k s at f end h =
       b .0,
       ap (λ (q : ℕ). encodedAt encoding types k (take q (drop (f .offset) s)) 0) (sym n)
           ∙ ap (λ (q : ℕ). encodedAt encoding types k (take (b .1 - a .1) (drop q s)) 0) (sym o)
-          ∙ alone (encoded-steady encoding types k) s (a .1) lo (b .2) ∙ ap (got (b .0)) (n ∙ sym size),
+          ∙ alone (encoded-steady encoding types k s (a .1) (b .2)) s (a .1) lo (b .2) ∙ ap (got (b .0)) (n ∙ sym size),
       size,
     )
 

@@ -22,7 +22,7 @@ module _ (delta : Bool) (encoding : Encoding) (types front rest : List ℕ) wher
   field-front k q e f h =
       let a = invert (indexAt delta k front q) (λ i o. _) h in
       let b = invert (encodedAt encoding types k front (a .1)) (λ m z. _) (a .3) in
-      rw (append (index-steady delta k) front rest q (a .2), append (encoded-steady encoding types k) front rest (a .1) (b .2)) (b .3)
+      rw (append (index-steady delta k) front rest q (a .2), append (encoded-steady encoding types k front (a .1) (b .2)) front rest (a .1) (b .2)) (b .3)
 
   -- and so are n fields, one after the other
   fields-front : (n k p e : ℕ) → fieldsAt delta encoding types n k front p ≡ got tt e → fieldsAt delta encoding types n k (front ++ rest) p ≡ got tt e

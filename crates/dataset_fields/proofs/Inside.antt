@@ -11,7 +11,7 @@ use Rattle.wire.proofs.Reading.{got-next, not-got, got-value, invert}
 use native.Mathlib.Omega.{arith}
 use Rattle.plain_value.specs.Width.{widthOf, fixed}
 use Rattle.value.specs.Value.{rawAt, Measure}
-use Rattle.dataset_fields.specs.Fields.{encodedAt, indexAt, fieldAt}
+use Rattle.dataset_fields.specs.Fields.{rawFieldAt, encodedAt, indexAt, fieldAt}
 use Rattle.dataset_header.specs.declared.flags.Encoding.{Encoding}
 use Rattle.value.proofs.Values.{value-within}
 use Rattle.dataset_fields.specs.declared.fields.Field.{Field}
@@ -36,9 +36,16 @@ raw-within t s at e m q = go (fixed t) refl (leb (at + widthOf t) (length s)) re
     go true u false v = absurd (not-got (rw (u, v) at q))
     go false u b v = absurd (not-got (rw u at q))
 
+configured-within : (types : List ℕ) (k : ℕ) (s : List ℕ) (at e : ℕ) (m : Measure) → rawFieldAt types k s at ≡ got m e → (at < e) × (e ≤ length s)
+configured-within types k s at e m q = go (leb (length types) k) refl
+  where
+    go : (b : Bool) → leb (length types) k ≡ b → (at < e) × (e ≤ length s)
+    go true t = absurd (not-got (rw t at q))
+    go false t = raw-within (getD types k 0) s at e m (rw t at q)
+
 encoded-within : (encoding : Encoding) (types : List ℕ) (k : ℕ) (s : List ℕ) (at e : ℕ) (m : Measure) → encodedAt encoding types k s at ≡ got m e → (at < e) × (e ≤ length s)
 encoded-within Encoding.Variant types k s at e m q = value-within 100 24 s at q
-encoded-within Encoding.RawData types k s at e m q = raw-within (getD types k 0) s at e m q
+encoded-within Encoding.RawData types k s at e m q = configured-within types k s at e m q
 encoded-within Encoding.DataValue types k s at e m q = value-within 100 23 s at q
 
 -- where an accepted field starts and ends, and that its value has at least a byte

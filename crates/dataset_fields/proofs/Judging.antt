@@ -1,8 +1,9 @@
 -- Laws of judging: lengths that add up, the fields one by one, and refusals in their order.
 -- Assumes nothing.
-use mathlib.Core.Path.{_≡_, refl, ap, sym, _∙_}
+use mathlib.Core.Path.{_≡_, refl, ap, sym, subst, _∙_}
 use mathlib.Core.Bool.{Bool, true, false, cond, _&&_}
 use mathlib.Core.List.{List, [], _∷_}
+use mathlib.Core.Logic.{_⊎_, inl, inr}
 use Prim.Native.Nat.{ℕ, zero, suc, _+_, _-_, _≤_, _<_}
 use native.Mathlib.Numerals.{add-one}
 use native.Mathlib.Omega.{arith}
@@ -15,17 +16,17 @@ use Rattle.wire.specs.Answer.{Answer, got, refused, andThen}
 use Rattle.wire.proofs.Reading.{invert, got-next, not-got}
 use Rattle.wire.proofs.Steady.{Steady}
 use Rattle.wire.proofs.Places.{within-refused}
-use Rattle.value.specs.Value.{Measure}
+use Rattle.value.specs.Value.{Measure, rawAt}
 use Rattle.value.proofs.Values.{value-steady, raw-steady}
 use Rattle.wire_writer.specs.Writing.{orElse}
 use Rattle.dataset_header.specs.declared.flags.Encoding.{Encoding}
 use Rattle.dataset_fields.specs.declared.fields.Field.{Field}
-use Rattle.dataset_fields.specs.Fields.{encodedAt, fieldAt, valuesOf, fieldsRefusal, fieldsWhole, fieldsNumber, reached}
+use Rattle.dataset_fields.specs.Fields.{rawFieldAt, encodedAt, fieldAt, valuesOf, numberOf, fieldsRefusal, fieldsWhole, fieldsNumber, reached}
 use Rattle.wire.proofs.Facts.{eqb-same}
 
 -- lengths that add up
 
-total-cons : (lengths : List ℕ) (k : ℕ) → k < length lengths → total (drop k lengths) ≡ getD lengths k 0 + total (drop (k + 1) lengths)
+pub total-cons : (lengths : List ℕ) (k : ℕ) → k < length lengths → total (drop k lengths) ≡ getD lengths k 0 + total (drop (k + 1) lengths)
 total-cons lengths k h = rw (drop-cons lengths k 0 h, add-one)
 
 pub total-step : (lengths : List ℕ) (k left : ℕ) → k < length lengths → getD lengths k 0 ≤ left
@@ -48,10 +49,35 @@ total-done lengths k left h =
 
 -- a field alone
 
-pub encoded-steady : (encoding : Encoding) (types : List ℕ) (k : ℕ) → Steady (encodedAt encoding types k)
-encoded-steady Encoding.Variant types k = value-steady 100 24
-encoded-steady Encoding.RawData types k = raw-steady (getD types k 0)
-encoded-steady Encoding.DataValue types k = value-steady 100 23
+-- a field's reader is steady, but past the configured fields of RawData, where it refuses everything by 8 at 0
+pub encoded-either : (encoding : Encoding) (types : List ℕ) (k : ℕ)
+    → Steady (encodedAt encoding types k) ⊎ ((s : List ℕ) (at : ℕ) → encodedAt encoding types k s at ≡ refused 8 0)
+encoded-either Encoding.Variant types k = inl (value-steady 100 24)
+encoded-either Encoding.RawData types k = go (leb (length types) k) refl
+  where
+    said : Bool → List ℕ → ℕ → Answer Measure
+    said b s at = cond b (refused 8 0) (rawAt (getD types k 0) s at)
+
+    go : (b : Bool) → leb (length types) k ≡ b → Steady (rawFieldAt types k) ⊎ ((s : List ℕ) (at : ℕ) → rawFieldAt types k s at ≡ refused 8 0)
+    go true e = inr (λ s at. rw e)
+    go false e = inl (subst Steady (ap said (sym e)) (raw-steady (getD types k 0)))
+encoded-either Encoding.DataValue types k = inl (value-steady 100 23)
+
+-- where it accepts something it is steady
+pub encoded-steady : (encoding : Encoding) (types : List ℕ) (k : ℕ) (s : List ℕ) (at : ℕ) {m : Measure} {e : ℕ} → encodedAt encoding types k s at ≡ got m e → Steady (encodedAt encoding types k)
+encoded-steady encoding types k s at {m} {e} q = go (encoded-either encoding types k)
+  where
+    go : Steady (encodedAt encoding types k) ⊎ ((s : List ℕ) (at : ℕ) → encodedAt encoding types k s at ≡ refused 8 0) → Steady (encodedAt encoding types k)
+    go (inl f) = f
+    go (inr n) = absurd (not-got (sym (n s at) ∙ q))
+
+-- the number of a refusal is not 0
+pub encoded-refused : (encoding : Encoding) (types : List ℕ) (k : ℕ) (v : List ℕ) {n p : ℕ} → encodedAt encoding types k v 0 ≡ refused n p → n ≡ 0 → ⊥
+encoded-refused encoding types k v {n} {p} q z = go (encoded-either encoding types k)
+  where
+    go : Steady (encodedAt encoding types k) ⊎ ((s : List ℕ) (at : ℕ) → encodedAt encoding types k s at ≡ refused 8 0) → ⊥
+    go (inl f) = let l : 0 ≤ length v = omega arith in let w = within-refused f v 0 l q in omega (arith, w .0)
+    go (inr r) = let e : refused 8 0 ≡ refused n p = sym (r v 0) ∙ q in let m : 8 ≡ n = ap (numberOf {A = Measure}) e in omega arith
 
 -- the position n bytes on, at most the slice's end
 abbrev pub forwardTo : ℕ → ℕ → ℕ → ℕ
@@ -128,9 +154,7 @@ module _ (encoding : Encoding) (types lengths values : List ℕ) (count : ℕ) w
   unfolding fieldsRefusal
   judge-stop k at n v whole m p h l i q g =
       let a : encodedAt encoding types k v 0 ≡ refused m p = refused-alone (encodedAt encoding types k v 0) _ m p g in
-      let b : 0 ≤ length v = omega arith in
-      let w = within-refused (encoded-steady encoding types k) v 0 b a in
-      let z : m ≡ 0 → ⊥ = λ e. omega arith in
+      let z : m ≡ 0 → ⊥ = encoded-refused encoding types k v a in
       rw (rest-cons k at (forwardTo (length values) at n) n v h l i q refl, a, ne-eqb m 0 z, ne-eqb m 0 z)
 
 -- the fields that are reached
@@ -175,14 +199,6 @@ or-assoc a b c = go (eqb a 0) refl
     go : (x : Bool) → eqb a 0 ≡ x → orElse (orElse a b) c ≡ orElse a (orElse b c)
     go true e = rw e
     go false e = rw (e, e)
-
--- what would read back otherwise, in two parts
-pub six-and : (n : ℕ) (a b : Bool) → orElse (orElse n (cond a 0 6)) (cond b 0 6) ≡ orElse n (cond (a && b) 0 6)
-six-and n a b = or-assoc n (cond a 0 6) (cond b 0 6) ∙ ap (orElse n) (go a b)
-  where
-    go : (a b : Bool) → _≡_ {A = ℕ} (orElse (cond a 0 6) (cond b 0 6)) (cond (a && b) 0 6)
-    go true b = refl
-    go false b = refl
 
 -- sizes
 

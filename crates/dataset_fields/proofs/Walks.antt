@@ -2,20 +2,22 @@
 -- Assumes nothing.
 use Prim.Native.Nat.{ℕ, zero, suc, _+_, _-_, _≤_, _<_}
 use mathlib.Core.Path.{_≡_, refl}
-use mathlib.Core.Bool.{Bool, false}
+use mathlib.Core.Bool.{Bool, true, false}
 use mathlib.Core.List.{List}
 use native.Mathlib.Nat.{not-suc-le-zero}
 use native.Mathlib.Numerals.{sub-one}
 use native.Mathlib.Omega.{arith}
+use lib.Dec.{leb}
 use lib.ListN.{length, getD}
 use borrow.Author.Tests.{eq-eqb, ne-eqb}
-use Rattle.dataset_fields.specs.Fields.{fieldAt, fieldsAt, zerosAt, paddingAt}
+use Rattle.dataset_fields.specs.Fields.{rawFieldAt, fieldAt, fieldsAt, zerosAt, paddingAt}
 use Rattle.dataset_header.specs.declared.flags.Encoding.{Encoding}
 use Rattle.dataset_fields.specs.declared.fields.Field.{Field}
 use Rattle.wire.specs.Answer.{Answer, got, refused, andThen, each}
 use Rattle.plain_value.specs.Plain.{passing}
-use Rattle.value.specs.Value.{Measure, variantAt, rawAt}
+use Rattle.value.specs.Value.{Measure, measure, variantAt}
 use Rattle.value.specs.declared.Shape.{Shape}
+use Rattle.wire.proofs.Reading.{not-got}
 use Rattle.plain_value.proofs.Passing.{unpassed}
 use Rattle.value.proofs.FirstItems.{raw-is}
 
@@ -40,15 +42,22 @@ module _ (delta : Bool) (encoding : Encoding) (types s : List ℕ) where
 -- fields of RawData, each passed over by its type, and Variants without indices
 
 module _ (types s : List ℕ) where
-  pub raw-step : (left k p : ℕ) {e : ℕ} → 0 < left → passing (rawAt (getD types k 0)) s p ≡ got tt e
+  configured-is : (k p : ℕ) {e : ℕ} → passing (rawFieldAt types k) s p ≡ got tt e → rawFieldAt types k s p ≡ got (measure (getD types k 0) Shape.Scalar) e
+  configured-is k p {e} q = go (leb (length types) k) refl
+    where
+      go : (b : Bool) → leb (length types) k ≡ b → rawFieldAt types k s p ≡ got (measure (getD types k 0) Shape.Scalar) e
+      go true t = absurd (not-got (rw t at q))
+      go false t = rw t (raw-is (getD types k 0) s p (rw t at q))
+
+  pub raw-step : (left k p : ℕ) {e : ℕ} → 0 < left → passing (rawFieldAt types k) s p ≡ got tt e
       → fieldsAt false Encoding.RawData types left k s p ≡ fieldsAt false Encoding.RawData types (left - 1) (k + 1) s e
   raw-step left k p {e} h q =
       let t : ℕ = getD types k 0 in
       let f : Field = record { index = k; kind = t; shape = Shape.Scalar; offset = p; length = e - p } in
-      fields-step false Encoding.RawData types s left k p e f h (rw (raw-is t s p q))
+      fields-step false Encoding.RawData types s left k p e f h (rw (configured-is k p q))
 
-  pub raw-stop : (left k p : ℕ) {n place : ℕ} → 0 < left → passing (rawAt (getD types k 0)) s p ≡ refused n place → fieldsAt false Encoding.RawData types left k s p ≡ refused n place
-  raw-stop left k p h q = fields-stop false Encoding.RawData types s left k p _ _ h (rw (unpassed (rawAt (getD types k 0) s p) q))
+  pub raw-stop : (left k p : ℕ) {n place : ℕ} → 0 < left → passing (rawFieldAt types k) s p ≡ refused n place → fieldsAt false Encoding.RawData types left k s p ≡ refused n place
+  raw-stop left k p h q = fields-stop false Encoding.RawData types s left k p _ _ h (rw (unpassed (rawFieldAt types k s p) q))
 
   pub fields-variants : (n k at : ℕ) → each variantAt n s at ≡ fieldsAt false Encoding.Variant types n k s at
   unfolding fieldsAt each

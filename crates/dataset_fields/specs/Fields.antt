@@ -4,7 +4,7 @@ use mathlib.Core.Bool.{Bool, false, cond, _&&_, true}
 use mathlib.Core.List.{List, [], _∷_, _++_}
 use lib.Dec.{leb, ltb, eqb}
 use lib.ListN.{length, getD, take, drop}
-use Rattle.wire.specs.Constants.{CUT_SHORT, DISAGREE, LEFT_OVER, OVER_LIMIT}
+use Rattle.wire.specs.Constants.{CUT_SHORT, DISAGREE, LEFT_OVER, NOT_CONFIGURED, OVER_LIMIT}
 use Rattle.wire.specs.Answer.{Answer, got, refused, Reader, item, here, whenOn, pure, andThen, _>>=_, _>>_}
 use Rattle.value.specs.Value.{variantAt, dataValueAt, rawAt, Measure}
 use Rattle.dataset_header.specs.declared.flags.Encoding.{Encoding}
@@ -16,10 +16,14 @@ use Rattle.dataset_fields.specs.declared.fields.IndexRead.{IndexRead}
 use Rattle.wire.specs.Number.{leBytes}
 use Rattle.wire_writer.specs.Writing.{orElse}
 
+-- RawData: "its fields are the configured ones"; of a field past them "the configuration doesn't say"
+abbrev pub rawFieldAt : List ℕ → ℕ → Reader Measure
+rawFieldAt types k s at = cond (leb (length types) k) (refused NOT_CONFIGURED 0) (rawAt (getD types k 0) s at)
+
 -- the value of field k: a Variant, a DataValue, or in RawData an element of its configured type
 abbrev pub encodedAt : Encoding → List ℕ → ℕ → Reader Measure
 encodedAt Encoding.Variant types k = variantAt
-encodedAt Encoding.RawData types k = rawAt (getD types k 0)
+encodedAt Encoding.RawData types k = rawFieldAt types k
 encodedAt Encoding.DataValue types k = dataValueAt
 
 -- "Delta: .. an index of 2 and a value each"; else field k has the index k

@@ -13,6 +13,7 @@ use wire::Reached;
 use wire::constants::CUT_SHORT;
 use wire::constants::DISAGREE;
 use wire::constants::LEFT_OVER;
+use wire::constants::NOT_CONFIGURED;
 use wire::constants::OVER_LIMIT;
 use wire::has;
 use wire::part::part;
@@ -25,8 +26,9 @@ ghost use lib.ListN.{getD, length, take};
 ghost use Rattle.wire.specs.Lists.{total};
 ghost use Rattle.wire.specs.Answer.{got, andThen};
 ghost use Rattle.wire.specs.Items.{answerReached};
+ghost use Rattle.plain_value.specs.Plain.{passing};
 ghost use Rattle.value.specs.Value.{answerMeasured};
-ghost use Rattle.dataset_fields.specs.Fields.{encodedAt, indexAt, fieldAt, fieldsAt, nextFieldAt, zerosAt, paddingAt, answerIndex, answerField, answerFieldStep, valuesOf, reached, fieldsNumber, fieldsBytes, zeros};
+ghost use Rattle.dataset_fields.specs.Fields.{rawFieldAt, encodedAt, indexAt, fieldAt, fieldsAt, nextFieldAt, zerosAt, paddingAt, answerIndex, answerField, answerFieldStep, valuesOf, reached, fieldsNumber, fieldsBytes, zeros};
 ghost use Rattle.dataset_header.specs.declared.flags.Encoding.{Encoding};
 ghost use lib.Dec.{eqb, leb};
 ghost use lib.Seq.{sets};
@@ -71,14 +73,24 @@ pub enum IndexRead {
     Refused(u8, usize),
 }
 
-// The type number of field k, 0 where none is configured.
-pub(crate) fn type_of(types: &[u8], k: usize) -> u8
-    ensures { λ r. ⌜ r ≡ getD (now (types .entry)) k 0 ⌝ }
+// The value of field k of RawData; past the configured fields 8, at 0.
+pub(crate) fn configured(s: &[u8], types: &[u8], k: usize, at: usize) -> Measured
+    ensures { λ r. ⌜ answerMeasured r ≡ rawFieldAt (now (types .entry)) k (now (s .entry)) at ⌝ }
 {
     if types.len() <= k {
-        return 0;
+        return Measured::Refused(NOT_CONFIGURED, 0);
     }
-    types[k]
+    measure_raw(s, at, types[k])
+}
+
+// Passes over field k of RawData.
+fn pass_configured(s: &[u8], types: &[u8], k: usize, at: usize) -> Reached
+    ensures { λ r. ⌜ answerReached r ≡ passing (rawFieldAt (now (types .entry)) k) (now (s .entry)) at ⌝ }
+{
+    if types.len() <= k {
+        return Reached::Refused(NOT_CONFIGURED, 0);
+    }
+    pass_element(s, at, types[k])
 }
 
 // The value of field k.
@@ -87,7 +99,7 @@ fn encoded(s: &[u8], encoding: Encoding, types: &[u8], k: usize, at: usize) -> M
 {
     match encoding {
         Encoding::Variant => measure_variant(s, at),
-        Encoding::RawData => measure_raw(s, at, type_of(types, k)),
+        Encoding::RawData => configured(s, types, k, at),
         Encoding::DataValue => measure_data_value(s, at),
     }
 }
@@ -223,7 +235,7 @@ fn pass_raw(s: &[u8], types: &[u8], count: usize, at: usize) -> Reached
     let mut p = at;
     let mut k = 0;
     while k < count {
-        match pass_element(s, p, type_of(types, k)) {
+        match pass_configured(s, types, k, p) {
             Reached::Refused(number, place) => {
                 return Reached::Refused(number, place);
             }

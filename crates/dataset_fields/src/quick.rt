@@ -2,13 +2,12 @@
 // reading has told where it ends. Their laws are in proofs/Ending.antt. Worth: half of the time of 100 levels, a fourteenth of that of
 // one array; where the walk shared its reading with the lookup, it took twice as long on RawData.
 use crate::fields::FieldRead;
+use crate::fields::configured;
 use crate::fields::located;
 use crate::fields::measured;
 use crate::fields::read_field;
-use crate::fields::type_of;
 use dataset_header::flags::Encoding;
 use value::Shape;
-use value::measure_raw;
 use value::quick::described;
 use value::quick::fixed_end;
 ghost use mathlib.Core.Path.{_≡_};
@@ -39,7 +38,7 @@ fn ending_variant(s: &[u8], k: usize, at: usize, end: usize) -> FieldRead
 fn read_raw(s: &[u8], types: &[u8], k: usize, at: usize) -> FieldRead
     ensures { λ r. ⌜ answerField r ≡ fieldAt false Encoding.RawData (now (types .entry)) k (now (s .entry)) at ⌝ }
 {
-    measured(k, at, measure_raw(s, at, type_of(types, k)))
+    measured(k, at, configured(s, types, k, at))
 }
 
 // Field k, which starts at a position; the two common kinds are read in line. Where `last` says so, a Variant without an index is taken

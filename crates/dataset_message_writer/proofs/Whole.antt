@@ -2,12 +2,14 @@
 -- Assumes nothing.
 use mathlib.Core.Path.{_≡_, refl, ap, sym, _∙_, subst}
 use mathlib.Core.Bool.{Bool, true, false, cond, not, _&&_}
-use mathlib.Core.List.{List, [], _++_}
-use Prim.Native.Nat.{ℕ, _+_, _-_, _*_, _/_, _%_, _≤_}
+use mathlib.Core.List.{List, [], _∷_, _++_}
+use Prim.Native.Nat.{ℕ, zero, suc, _+_, _-_, _*_, _/_, _%_, _≤_, _<_}
+use native.Mathlib.Numerals.{add-one}
 use native.Mathlib.Omega.{arith}
-use borrow.Author.Tests.{eqb-true}
-use lib.Dec.{leb, eqb}
-use lib.ListN.{length, length-append, take, drop}
+use borrow.Author.Tests.{eqb-true, eq-eqb, ne-eqb, ltb-true, lt-ltb, le-leb, lt-leb}
+use lib.Dec.{leb, ltb, eqb}
+use lib.ListN.{length, length-append, getD, take, drop}
+use lib.Seq.{drop-cons, take-all}
 use Rattle.wire.specs.Lists.{total}
 use Rattle.dataset_header.specs.Flags.{valid, isDelta, isRaw, kindRule}
 use Rattle.dataset_fields.specs.declared.fields.Cursor.{Cursor}
@@ -25,55 +27,104 @@ use Rattle.dataset_header.specs.declared.flags.Encoding.{Encoding}
 use Rattle.dataset_header.specs.declared.flags.Kind.{Kind}
 use Rattle.dataset_message.specs.Message.{messageAt}
 use Rattle.dataset_header.specs.Header.{messageHeaderBytes}
-use Rattle.dataset_fields.specs.Fields.{fieldsBytes, zeros}
-use Rattle.dataset_message_writer.specs.Message.{GivenMessage, hasFields, isFielded, isRawData, givenFields, countBytes, encode, bodyRefusal, messageReadingRefusal, bodyAgrees, listsAgree, readsBack, messageRefusal, sizeOfGiven, limited}
-use Rattle.dataset_fields.proofs.Judging.{or-assoc, six-and}
+use Rattle.plain_value.specs.Width.{widthOf}
+use Rattle.plain_value.proofs.Widths.{positive}
+use Rattle.dataset_fields.specs.Fields.{fieldsBytes, zeros, numberOf, reached}
+use Rattle.dataset_message_writer.specs.Message.{GivenMessage, hasFields, isFielded, isRawData, givenFields, countBytes, encode, isKey, ownRefusal, eachWhole, missingRefusal, leftRefusal, rawRefusal, layoutRefusal, countAgrees, countsAgree, listsAgree, ownGiven, wholeGiven, listsGiven, layoutGiven, countsGiven, bodyRefusal, messageReadingRefusal, bodyAgrees, readsBack, messageRefusal, sizeOfGiven, limited}
+use Rattle.dataset_fields.proofs.Judging.{or-assoc, past-end}
+use Rattle.dataset_fields.proofs.Walks.{padding-done}
+use Rattle.dataset_fields.proofs.FieldsTrip.{whole-number}
 use Rattle.dataset_fields.proofs.Laying.{length-zeros, values-whole, delta-length}
 
 -- refusals in their order
 
-pub refusal-is : (types : List ℕ) (g : GivenMessage) (k p b l x y r : ℕ) → k ≡ kindRule (g .header .kind) (g .header .encoding)
-    → p ≡ picosecondsRefusal (g .header .picoseconds) → b ≡ orElse (bodyRefusal types g) (cond (bodyAgrees types g) 0 6)
-    → l ≡ cond (listsAgree (isDelta (g .header .kind)) (g .values) (g .lengths) (g .indices)) 0 6
-    → x ≡ orElse b l → y ≡ orElse p x → r ≡ orElse k y → r ≡ messageRefusal types g
-refusal-is types g k p b l x y r ek ep eb el ex ey er =
-    er ∙ ap (orElse k) (ey ∙ ap (orElse p) (ex ∙ inner)) ∙ ap (λ (n : ℕ). orElse n (orElse p back)) ek
-    ∙ ap (λ (n : ℕ). orElse (kindRule (g .header .kind) (g .header .encoding)) (orElse n back)) ep
-    ∙ sym (ap (orElse kind) (or-assoc pico body six)) ∙ sym (or-assoc kind (orElse pico body) six)
+-- what is judged last, by whether each field is whole, the lists agree and the counts do: reading's number of the layout, then 6
+last-is : (n : ℕ) (whole lists counts : Bool)
+    → orElse (cond (whole && lists) n 0) (cond ((whole && counts) && lists) 0 6) ≡ orElse (cond whole 0 6) (orElse (cond lists 0 6) (orElse n (cond counts 0 6)))
+last-is n false lists counts = refl
+last-is n true false true = refl
+last-is n true false false = refl
+last-is n true true true = refl
+last-is n true true false = refl
+
+order-is : (kind pico own layout : ℕ) (whole lists counts : Bool)
+    → orElse (orElse kind (orElse pico (orElse own (cond (whole && lists) layout 0)))) (cond ((whole && counts) && lists) 0 6)
+    ≡ orElse (orElse kind (orElse pico (orElse (orElse own (cond whole 0 6)) (cond lists 0 6)))) (orElse layout (cond counts 0 6))
+order-is kind pico own layout whole lists counts =
+    or-assoc kind (orElse pico (orElse own read)) six
+    ∙ ap (orElse kind)
+    (or-assoc pico (orElse own read) six
+    ∙ ap (orElse pico)
+    (or-assoc own read six ∙ ap (orElse own) (last-is layout whole lists counts)
+    ∙ sym (or-assoc own (cond whole 0 6) (orElse (cond lists 0 6) last)) ∙ sym (or-assoc (orElse own (cond whole 0 6)) (cond lists 0 6) last))
+    ∙ sym (or-assoc pico (orElse (orElse own (cond whole 0 6)) (cond lists 0 6)) last))
+    ∙ sym (or-assoc kind (orElse pico (orElse (orElse own (cond whole 0 6)) (cond lists 0 6))) last)
   where
-    kind : ℕ
-    kind = kindRule (g .header .kind) (g .header .encoding)
-
-    pico : ℕ
-    pico = picosecondsRefusal (g .header .picoseconds)
-
-    body : ℕ
-    body = bodyRefusal types g
+    read : ℕ
+    read = cond (whole && lists) layout 0
 
     six : ℕ
-    six = cond (readsBack types g) 0 6
+    six = cond ((whole && counts) && lists) 0 6
 
-    back : ℕ
-    back = orElse body six
+    last : ℕ
+    last = orElse layout (cond counts 0 6)
 
-    inner : orElse b l ≡ back
-    inner =
-        ap (λ (n : ℕ). orElse n l) eb ∙ ap (orElse (orElse body (cond (bodyAgrees types g) 0 6))) el
-        ∙ six-and body (bodyAgrees types g) (listsAgree (isDelta (g .header .kind)) (g .values) (g .lengths) (g .indices))
+-- the numbers before the layout is judged
+abbrev pub firstGiven : List ℕ → GivenMessage → ℕ
+firstGiven types g =
+    orElse (kindRule (g .header .kind) (g .header .encoding))
+    (orElse (picosecondsRefusal (g .header .picoseconds))
+    (orElse (orElse (ownGiven types g) (cond (wholeGiven types g) 0 6)) (cond (listsGiven g) 0 6)))
 
-pub fields-is : (C F c f s x r : ℕ) (W A : Bool) → c ≡ C → f ≡ orElse F (cond W 0 6) → s ≡ cond A 0 6 → x ≡ orElse f s → r ≡ orElse c x
-    → r ≡ orElse (orElse C F) (cond (W && A) 0 6)
-fields-is C F c f s x r W A ec ef es ex er =
-    er ∙ ap (λ (n : ℕ). orElse n x) ec
-    ∙ ap (orElse C) (ex ∙ ap (λ (n : ℕ). orElse n s) ef ∙ ap (orElse (orElse F (cond W 0 6))) es ∙ six-and F W A)
-    ∙ sym (or-assoc C F (cond (W && A) 0 6))
+pub first-is : (K P F L k p f l x y r : ℕ) → k ≡ K → p ≡ P → f ≡ F → l ≡ L → x ≡ orElse f l → y ≡ orElse p x → r ≡ orElse k y → r ≡ orElse K (orElse P (orElse F L))
+first-is K P F L k p f l x y r ek ep ef el ex ey er =
+    er ∙ ap (λ (n : ℕ). orElse n y) ek
+    ∙ ap (orElse K) (ey ∙ ap (λ (n : ℕ). orElse n x) ep ∙ ap (orElse P) (ex ∙ ap (λ (n : ℕ). orElse n l) ef ∙ ap (orElse F) el))
+
+refusal-is : (types : List ℕ) (g : GivenMessage) → messageRefusal types g ≡ orElse (firstGiven types g) (orElse (layoutGiven types g) (cond (countsGiven types g) 0 6))
+refusal-is types g =
+    order-is (kindRule (g .header .kind) (g .header .encoding)) (picosecondsRefusal (g .header .picoseconds)) (ownGiven types g) (layoutGiven types g)
+    (wholeGiven types g) (listsGiven g) (countsGiven types g)
+
+pub refused-first : (types : List ℕ) (g : GivenMessage) (first : ℕ) → first ≡ firstGiven types g → (first ≡ 0 → ⊥) → first ≡ messageRefusal types g
+refused-first types g first e z =
+    sym (refusal-is types g ∙ ap (λ (n : ℕ). orElse n last) (sym e) ∙ ap (λ (t : Bool). cond t last first) (ne-eqb first 0 z))
+  where
+    last : ℕ
+    last = orElse (layoutGiven types g) (cond (countsGiven types g) 0 6)
+
+pub refused-last : (types : List ℕ) (g : GivenMessage) (first layout six r : ℕ) → first ≡ firstGiven types g → first ≡ 0 → layout ≡ layoutGiven types g
+    → six ≡ cond (countsGiven types g) 0 6 → r ≡ orElse layout six → r ≡ messageRefusal types g
+refused-last types g first layout six r e z el es er =
+    er ∙ ap (λ (n : ℕ). orElse n six) el ∙ ap (orElse (layoutGiven types g)) es
+    ∙ sym (refusal-is types g ∙ ap (λ (n : ℕ). orElse n (orElse (layoutGiven types g) (cond (countsGiven types g) 0 6))) (sym e ∙ z))
+
+pub lists-agree : (delta : Bool) (values lengths indices : List ℕ) → total lengths ≡ length values → length indices ≡ cond delta (length lengths) 0
+    → listsAgree delta values lengths indices ≡ true
+lists-agree delta values lengths indices a i = rw (eq-eqb (total lengths) (length values) a, eq-eqb (length indices) (cond delta (length lengths) 0) i)
+
+pub lists-add : (delta : Bool) (values lengths indices : List ℕ) → listsAgree delta values lengths indices ≡ true
+    → (total lengths ≡ length values) × (length indices ≡ cond delta (length lengths) 0)
+lists-add delta values lengths indices h =
+    let t = eqb (total lengths) (length values) in
+    let i = eqb (length indices) (cond delta (length lengths) 0) in
+    (eqb-true (total lengths) (length values) (and-left t i h), eqb-true (length indices) (cond delta (length lengths) 0) (and-right t i h))
+
+pub first-adds : (types : List ℕ) (g : GivenMessage) (first : ℕ) → first ≡ firstGiven types g → first ≡ 0 → total (g .lengths) ≡ length (g .values)
+first-adds types g first e z =
+    let own : ℕ = orElse (ownGiven types g) (cond (wholeGiven types g) 0 6) in
+    let lists : ℕ = cond (listsGiven g) 0 6 in
+    let k = both-zero (kindRule (g .header .kind) (g .header .encoding)) (orElse (picosecondsRefusal (g .header .picoseconds)) (orElse own lists)) (sym e ∙ z) in
+    let p = both-zero (picosecondsRefusal (g .header .picoseconds)) (orElse own lists) (k .1) in
+    let o = both-zero own lists (p .1) in
+    lists-add (isDelta (g .header .kind)) (g .values) (g .lengths) (g .indices) (held (listsGiven g) 5 (o .1)) .0
 
 -- What an accepted message tells.
 pub record Accepted (types : List ℕ) (g : GivenMessage) : Type 0 where
   pub kind : kindRule (g .header .kind) (g .header .encoding) ≡ 0
   pub picoseconds : picosecondsRefusal (g .header .picoseconds) ≡ 0
-  pub body : bodyRefusal types g ≡ 0
-  pub agrees : bodyAgrees types g ≡ true
+  pub whole : wholeGiven types g ≡ true
+  pub counts : countsGiven types g ≡ true
   pub adds : total (g .lengths) ≡ length (g .values)
   pub indexed : length (g .indices) ≡ cond (isDelta (g .header .kind)) (length (g .lengths)) 0
 
@@ -83,19 +134,130 @@ accepted types g h =
     let s = held (readsBack types g) 5 (n .1) in
     let k = both-zero (kindRule (g .header .kind) (g .header .encoding)) (orElse (picosecondsRefusal (g .header .picoseconds)) (bodyRefusal types g)) (n .0) in
     let p = both-zero (picosecondsRefusal (g .header .picoseconds)) (bodyRefusal types g) (k .1) in
-    let lists = listsAgree (isDelta (g .header .kind)) (g .values) (g .lengths) (g .indices) in
-    let a = and-left (bodyAgrees types g) lists s in
-    let l = and-right (bodyAgrees types g) lists s in
-    let t = eqb (total (g .lengths)) (length (g .values)) in
-    let i = eqb (length (g .indices)) (cond (isDelta (g .header .kind)) (length (g .lengths)) 0) in
+    let a = and-left (bodyAgrees types g) (listsGiven g) s in
+    let l = lists-add (isDelta (g .header .kind)) (g .values) (g .lengths) (g .indices) (and-right (bodyAgrees types g) (listsGiven g) s) in
     record {
       kind = k .0;
       picoseconds = p .0;
-      body = p .1;
-      agrees = a;
-      adds = eqb-true (total (g .lengths)) (length (g .values)) (and-left t i l);
-      indexed = eqb-true (length (g .indices)) (cond (isDelta (g .header .kind)) (length (g .lengths)) 0) (and-right t i l);
+      whole = and-left (wholeGiven types g) (countsGiven types g) a;
+      counts = and-right (wholeGiven types g) (countsGiven types g) a;
+      adds = l .0;
+      indexed = l .1;
     }
+
+-- the layout of RawData
+
+module _ (types : List ℕ) (k left w : ℕ) (h : k < length types) (e : w ≡ widthOf (getD types k 0)) where
+  missing-cons : missingRefusal (drop k types) left ≡ cond (ltb 0 w) (cond (leb w left) (missingRefusal (drop (k + 1) types) (left - w)) 1) 4
+  unfolding missingRefusal
+  missing-cons = rw (drop-cons types k 0 h, add-one, e)
+
+  pub missing-none : w ≡ 0 → 4 ≡ missingRefusal (drop k types) left
+  missing-none z = sym (missing-cons ∙ ap (λ (t : Bool). cond t (cond (leb w left) (missingRefusal (drop (k + 1) types) (left - w)) 1) 4) (ap (ltb 0) z))
+
+  pub missing-short : (w ≡ 0 → ⊥) → left < w → 1 ≡ missingRefusal (drop k types) left
+  missing-short z l = sym (missing-cons ∙ rw (lt-ltb 0 w (positive w z), lt-leb w left l))
+
+  pub missing-step : (w ≡ 0 → ⊥) → w ≤ left → missingRefusal (drop k types) left ≡ missingRefusal (drop (k + 1) types) (left - w)
+  missing-step z l = missing-cons ∙ rw (lt-ltb 0 w (positive w z), le-leb w left l)
+
+pub missing-done : (types : List ℕ) (k left : ℕ) → length types ≤ k → missingRefusal (drop k types) left ≡ 0
+unfolding missingRefusal
+missing-done types k left h = rw (past-end types k h)
+
+or-none : (a : ℕ) → orElse a 0 ≡ a
+or-none a = go (eqb a 0) refl
+  where
+    go : (t : Bool) → eqb a 0 ≡ t → cond t 0 a ≡ a
+    go true e = sym (eqb-true a 0 e)
+    go false e = refl
+
+pub none-left : (values : List ℕ) (at : ℕ) → length values ≤ at → leftRefusal values at ≡ 0
+none-left values at h = ap numberOf (padding-done values at h)
+
+-- nothing follows the header
+pub bare-raw : (types values lengths : List ℕ) (padding : ℕ) → (eqb (length values) 0 && eqb padding 0) ≡ true → 0 ≡ rawRefusal types values lengths padding
+bare-raw types values lengths padding e = rw e
+
+-- no more fields than are configured: nothing stands past them
+pub few-fields : (types values lengths : List ℕ) (padding : ℕ) → total lengths ≡ length values → length lengths ≤ length types
+    → orElse (missingRefusal (drop (length lengths) types) padding) (leftRefusal values (total (take (length types) lengths))) ≡ missingRefusal (drop (length lengths) types) padding
+few-fields types values lengths padding h l =
+    let t : total (take (length types) lengths) ≡ length values = ap total (take-all (length types) lengths l) ∙ h in
+    ap (orElse (missingRefusal (drop (length lengths) types) padding)) (none-left values (total (take (length types) lengths)) (omega arith))
+    ∙ or-none (missingRefusal (drop (length lengths) types) padding)
+
+-- no fewer: none is missing
+pub many-fields : (types values lengths : List ℕ) (padding : ℕ) → length types ≤ length lengths
+    → orElse (missingRefusal (drop (length lengths) types) padding) (leftRefusal values (total (take (length types) lengths))) ≡ leftRefusal values (total (take (length types) lengths))
+many-fields types values lengths padding l =
+    ap (λ (n : ℕ). orElse n (leftRefusal values (total (take (length types) lengths)))) (missing-done types (length lengths) padding l)
+
+-- where the counts agree, reading refuses nothing of the layout
+
+no-total : (lengths : List ℕ) → length lengths ≡ 0 → total lengths ≡ 0
+no-total [] h = refl
+no-total (n ∷ lengths) h = absurd (omega arith)
+
+raw-none : (types values lengths : List ℕ) (padding : ℕ) → countAgrees true (length types) (length lengths) ≡ true → total lengths ≡ length values
+    → rawRefusal types values lengths padding ≡ 0
+raw-none types values lengths padding c h = go (eqb (length values) 0 && eqb padding 0) refl
+  where
+    same : length lengths ≡ length types
+    same = eqb-true (length lengths) (length types) (and-right (ltb 0 (length lengths)) (eqb (length lengths) (length types)) c)
+
+    some : length types ≡ 0 → ⊥
+    some z = let p : 0 < length lengths = ltb-true 0 (length lengths) (and-left (ltb 0 (length lengths)) (eqb (length lengths) (length types)) c) in omega (arith, same)
+
+    few : length lengths ≤ length types
+    few = omega (arith, same)
+
+    many : length types ≤ length lengths
+    many = omega (arith, same)
+
+    go : (t : Bool) → (eqb (length values) 0 && eqb padding 0) ≡ t → rawRefusal types values lengths padding ≡ 0
+    go true e = rw e
+    go false e = rw (e, ne-eqb (length types) 0 some, few-fields types values lengths padding h few) (missing-done types (length lengths) padding many)
+
+pub layout-none : (fielded raw key : Bool) (types values lengths : List ℕ) (padding : ℕ) → countsAgree fielded raw key (length types) (length lengths) padding ≡ true
+    → total lengths ≡ length values → layoutRefusal fielded raw key types values lengths padding ≡ 0
+layout-none true true key types values lengths padding c h = raw-none types values lengths padding c h
+layout-none true false key types values lengths padding c h = refl
+layout-none false raw true types values lengths padding c h = refl
+layout-none false raw false types values lengths padding c h =
+    let z = no-total lengths (eqb-true (length lengths) 0 (and-left (eqb (length lengths) 0) _ c)) in
+    none-left values 0 (omega arith)
+
+pub own-none : (fielded : Bool) (encoding : Encoding) (types : List ℕ) (vs : List (List ℕ)) → eachWhole fielded encoding types vs ≡ true → ownRefusal fielded encoding types vs ≡ 0
+own-none true encoding types vs w = whole-number encoding types 0 (reached (isRaw encoding) types vs) w
+own-none false encoding types vs w = refl
+
+all-none : (kind pico own layout : ℕ) (whole lists counts : Bool) → kind ≡ 0 → pico ≡ 0 → own ≡ 0 → layout ≡ 0 → whole ≡ true → lists ≡ true → counts ≡ true
+    → orElse (orElse kind (orElse pico (orElse (orElse own (cond whole 0 6)) (cond lists 0 6)))) (orElse layout (cond counts 0 6)) ≡ 0
+all-none kind pico own layout whole lists counts ek ep eo en ew el ec = rw (ek, ep, eo, en, ew, el, ec)
+
+-- what tells of an accepted message is enough
+pub acceptable : (types : List ℕ) (g : GivenMessage) → Accepted types g → messageRefusal types g ≡ 0
+acceptable types g a =
+    refusal-is types g
+    ∙ all-none (kindRule (g .header .kind) (g .header .encoding)) (picosecondsRefusal (g .header .picoseconds)) (ownGiven types g) (layoutGiven types g)
+    (wholeGiven types g) (listsGiven g) (countsGiven types g) (a .kind) (a .picoseconds)
+    (own-none (isFielded g) (g .header .encoding) types (givenFields g) (a .whole))
+    (layout-none (isFielded g) (isRawData g) (isKey (g .header .kind)) types (g .values) (g .lengths) (g .padding) (a .counts) (a .adds)) (a .whole)
+    (lists-agree (isDelta (g .header .kind)) (g .values) (g .lengths) (g .indices) (a .adds) (a .indexed)) (a .counts)
+
+-- where the first fields end
+
+pub total-split : (n : ℕ) (lengths : List ℕ) → total (take n lengths) + total (drop n lengths) ≡ total lengths
+total-split zero lengths = omega arith
+total-split (suc n) [] = refl
+total-split (suc n) (x ∷ lengths) = omega (arith, total-split n lengths)
+
+pub total-at : (lengths : List ℕ) (count k at : ℕ) → k ≤ count → count ≤ k → at + total (drop k lengths) ≡ total lengths → at ≡ total (take count lengths)
+total-at lengths count k at l m e =
+    let q : k ≡ count = omega arith in
+    let d : total (drop k lengths) ≡ total (drop count lengths) = ap (λ (n : ℕ). total (drop n lengths)) q in
+    omega (arith, total-split count lengths)
 
 -- its size
 

@@ -13,7 +13,11 @@ use dataset_header::flags::is_raw;
 use dataset_header::flags::kind_rule;
 use dataset_header::header::Header;
 use dataset_header::header::put_header;
+use plain_value::width::packed_width;
+use wire::Reached;
+use wire::constants::CUT_SHORT;
 use wire::constants::NOT_CONFIGURED;
+use wire::constants::NOT_TAKEN;
 use wire_writer::store::put_run;
 use wire_writer::writing::Written;
 use wire_writer::writing::or_else;
@@ -22,12 +26,13 @@ use wire_writer::writing::room_refusal;
 use wire_writer::writing::six_unless;
 ghost use mathlib.Core.Path.{_≡_};
 ghost use mathlib.Core.Bool.{cond};
-ghost use lib.ListN.{length};
+ghost use Prim.Native.Nat.{_≤_};
+ghost use lib.ListN.{length, take, drop};
 ghost use Rattle.wire.specs.Lists.{total};
 ghost use Rattle.wire.specs.Constants.{DISAGREE};
 ghost use Rattle.wire_writer.specs.Writing.{orElse, Puts, Writes};
 ghost use Rattle.dataset_fields.specs.Fields.{valuesOf, fieldsBytes};
-ghost use Rattle.dataset_message_writer.specs.Message.{givenMessage, isKey, fieldedRefusal, fieldedAgrees, configuredRule, countAgrees, listsAgree, encode, bodyRefusal, bodyAgrees, messageRefusal, messageOutput, FitsGiven};
+ghost use Rattle.dataset_message_writer.specs.Message.{givenMessage, isKey, ownRefusal, eachWhole, listsAgree, missingRefusal, leftRefusal, rawRefusal, layoutRefusal, countAgrees, countsAgree, encode, messageRefusal, messageOutput, FitsGiven};
 
 fn is_key(kind: Kind) -> bool
     ensures { λ r. ⌜ r ≡ isKey kind ⌝ }
@@ -40,59 +45,23 @@ fn is_key(kind: Kind) -> bool
     }
 }
 
-// RawData without configured fields is 8.
-fn configured_rule(raw: bool, configured: usize) -> u8
-    ensures { λ r. ⌜ r ≡ configuredRule raw configured ⌝ }
-{
-    if raw & (configured == 0) {
-        return NOT_CONFIGURED;
-    }
-    0
-}
-
-fn count_agrees(raw: bool, configured: usize, n: usize) -> bool
-    ensures { λ r. ⌜ r ≡ countAgrees raw configured n ⌝ }
-{
-    if raw {
-        return n == configured;
-    }
-    n <= 65535
-}
-
-// The number of the fields' refusal: 8, a field's own, 6 for bytes behind a value or another number of fields.
-fn fields_refusal(values: &[u8], lengths: &[usize], encoding: Encoding, types: &[u8]) -> u8
-    ensures { λ r.
-        let fields = valuesOf (now (lengths .entry)) (now (values .entry)) in
-        let agrees = fieldedAgrees encoding (now (types .entry)) (length (now (lengths .entry))) fields in
-        ⌜ r ≡ orElse (fieldedRefusal encoding (now (types .entry)) fields) (cond agrees 0 DISAGREE) ⌝ }
-{
-    let raw = is_raw(encoding);
-    let configured = configured_rule(raw, types.len());
-    let fields = judge_fields(values, lengths, encoding, types);
-    let number = six_unless(count_agrees(raw, types.len(), lengths.len()));
-    or_else(configured, or_else(fields, number))
-}
-
-// What is refused after the header.
-fn body_refusal(
-    header: Header,
-    heartbeat: bool,
+// The first number by which a field is refused alone; then 6 where bytes stand behind a field's value.
+fn own_refusal(
+    fielded: bool,
     values: &[u8],
     lengths: &[usize],
-    indices: &[u16],
+    encoding: Encoding,
     types: &[u8],
-    padding: usize,
 ) -> u8
     ensures { λ r.
-        let g = givenMessage header heartbeat (now (values .entry)) (now (lengths .entry)) (now (indices .entry)) padding in
-        ⌜ r ≡ orElse (bodyRefusal (now (types .entry)) g) (cond (bodyAgrees (now (types .entry)) g) 0 DISAGREE) ⌝ }
+        let fields = valuesOf (now (lengths .entry)) (now (values .entry)) in
+        let whole = eachWhole fielded encoding (now (types .entry)) fields in
+        ⌜ r ≡ orElse (ownRefusal fielded encoding (now (types .entry)) fields) (cond whole 0 DISAGREE) ⌝ }
 {
-    let kind = header.kind;
-    let encoding = header.encoding;
-    if has_fields(kind, heartbeat) {
-        return fields_refusal(values, lengths, encoding, types);
+    if fielded {
+        return judge_fields(values, lengths, encoding, types);
     }
-    six_unless((lengths.len() == 0) & (!is_key(kind) | (padding == 0)))
+    0
 }
 
 fn lists_agree(delta: bool, values: &[u8], lengths: &[usize], indices: &[u16]) -> bool
@@ -105,7 +74,121 @@ fn lists_agree(delta: bool, values: &[u8], lengths: &[usize], indices: &[u16]) -
     up & (indices.len() == 0)
 }
 
-// The number by which a message is refused, 0 where it is not.
+// What reading refuses of the configured fields from field n on, in so many bytes of padding.
+fn missing(types: &[u8], n: usize, padding: usize) -> u8
+    ensures { λ r. ⌜ r ≡ missingRefusal (drop n (now (types .entry))) padding ⌝ }
+{
+    let mut left = padding;
+    let mut k = n;
+    while k < types.len() {
+        let w = packed_width(types[k]);
+        if w == 0 {
+            return NOT_TAKEN;
+        }
+        if left < w {
+            return CUT_SHORT;
+        }
+        left = left - w;
+        k = k + 1;
+    }
+    0
+}
+
+// 7 where one of the bytes from a position on is not 0.
+fn left_over(values: &[u8], at: usize) -> u8
+    ensures { λ r. ⌜ r ≡ leftRefusal (now (values .entry)) at ⌝ }
+{
+    match dataset_fields::fields::padding(values, at) {
+        Reached::To(_) => 0,
+        Reached::Refused(number, _) => number,
+    }
+}
+
+// Where the first count fields end.
+fn end_of(values: &[u8], lengths: &[usize], count: usize) -> usize
+    requires { ⌜ (total (now lengths) ≡ length (now values)) × (count ≤ length (now lengths)) ⌝ }
+    ensures { λ r. ⌜ r ≡ total (take count (now (lengths .entry))) ⌝ }
+{
+    let mut at = 0;
+    let mut k = 0;
+    while k < count {
+        at = at + lengths[k];
+        k = k + 1;
+    }
+    at
+}
+
+// What reading refuses after the header of RawData, where each field given is whole: 8 where nothing is configured, what it finds in the
+// padding for fields that are missing, 7 for bytes past the configured fields.
+fn raw_refusal(values: &[u8], lengths: &[usize], types: &[u8], padding: usize) -> u8
+    requires { ⌜ total (now lengths) ≡ length (now values) ⌝ }
+    ensures { λ r. ⌜ r ≡ rawRefusal (now (types .entry)) (now (values .entry)) (now (lengths .entry)) padding ⌝ }
+{
+    if (values.len() == 0) & (padding == 0) {
+        return 0;
+    }
+    if types.len() == 0 {
+        return NOT_CONFIGURED;
+    }
+    if lengths.len() <= types.len() {
+        return missing(types, lengths.len(), padding);
+    }
+    left_over(values, end_of(values, lengths, types.len()))
+}
+
+// The same after any header.
+fn layout_refusal(
+    fielded: bool,
+    raw: bool,
+    key: bool,
+    values: &[u8],
+    lengths: &[usize],
+    types: &[u8],
+    padding: usize,
+) -> u8
+    requires { ⌜ total (now lengths) ≡ length (now values) ⌝ }
+    ensures { λ r.
+        ⌜ r ≡ layoutRefusal fielded raw key (now (types .entry)) (now (values .entry)) (now (lengths .entry)) padding ⌝ }
+{
+    if fielded {
+        if raw {
+            return raw_refusal(values, lengths, types, padding);
+        }
+        return 0;
+    }
+    if key {
+        return 0;
+    }
+    left_over(values, 0)
+}
+
+fn count_agrees(raw: bool, configured: usize, n: usize) -> bool
+    ensures { λ r. ⌜ r ≡ countAgrees raw configured n ⌝ }
+{
+    if raw {
+        return (0 < n) & (n == configured);
+    }
+    n <= 65535
+}
+
+fn counts_agree(
+    fielded: bool,
+    raw: bool,
+    key: bool,
+    configured: usize,
+    n: usize,
+    padding: usize,
+) -> bool
+    ensures { λ r. ⌜ r ≡ countsAgree fielded raw key configured n padding ⌝ }
+{
+    if fielded {
+        return count_agrees(raw, configured, n);
+    }
+    (n == 0) & (!key | (padding == 0))
+}
+
+// The number by which a message is refused, 0 where it is not. What is read of the fields' layout is judged last: where each is whole and
+// the lists agree.
 fn refusal(
     header: Header,
     heartbeat: bool,
@@ -122,11 +205,20 @@ fn refusal(
     let kind = header.kind;
     let encoding = header.encoding;
     let picoseconds = header.picoseconds;
+    let fielded = has_fields(kind, heartbeat);
     let flags = kind_rule(kind, encoding);
     let times = picoseconds_refusal(picoseconds);
-    let body = body_refusal(header, heartbeat, values, lengths, indices, types, padding);
+    let fields = own_refusal(fielded, values, lengths, encoding, types);
     let lists = six_unless(lists_agree(is_delta(kind), values, lengths, indices));
-    or_else(flags, or_else(times, or_else(body, lists)))
+    let first = or_else(flags, or_else(times, or_else(fields, lists)));
+    if first != 0 {
+        return first;
+    }
+    let raw = is_raw(encoding);
+    let key = is_key(kind);
+    let layout = layout_refusal(fielded, raw, key, values, lengths, types, padding);
+    let agrees = counts_agree(fielded, raw, key, types.len(), lengths.len(), padding);
+    or_else(layout, six_unless(agrees))
 }
 
 fn put_fields(

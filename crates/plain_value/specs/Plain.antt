@@ -2,8 +2,8 @@
 use Prim.Native.Nat.{ℕ, _*_}
 use mathlib.Core.List.{[], _∷_}
 use mathlib.Core.Bool.{Bool, cond, _||_}
-use Rattle.wire.specs.Constants.{BAD_LENGTH}
-use Rattle.wire.specs.Answer.{refused, Reader, andThen, _>>_, pure, run, each}
+use Rattle.wire.specs.Constants.{BAD_LENGTH, NOT_TAKEN}
+use Rattle.wire.specs.Answer.{refused, Reader, andThen, _>>_, pure, refuse, run, each}
 use Rattle.wire.specs.Items.{lengthItem}
 use Rattle.wire.specs.declared.Length.{Length}
 use Rattle.plain_value.specs.Width.{among, widthOf, fixed}
@@ -38,9 +38,9 @@ lengthFirst t = among t (12 ∷ 15 ∷ [])
 unfoldable pub plain : ℕ → Bool
 plain t = fixed t || lengthFirst t
 
--- one value of such a type
+-- one value of such a type; any other type is not taken here
 unfoldable pub plainValue : ℕ → Reader (Unit {0})
-plainValue t = cond (fixed t) (bytes (widthOf t)) string
+plainValue t = cond (fixed t) (bytes (widthOf t)) (cond (lengthFirst t) string (refuse NOT_TAKEN))
 
 -- n of them: "fixed-width elements" are one item, others are items each
 unfoldable pub plainValues : ℕ → ℕ → Reader (Unit {0})

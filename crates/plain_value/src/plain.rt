@@ -4,6 +4,7 @@ use wire::ItemLength;
 use wire::Reached;
 use wire::constants::BAD_LENGTH;
 use wire::constants::CUT_SHORT;
+use wire::constants::NOT_TAKEN;
 use wire::has;
 use wire::read_length;
 ghost use mathlib.Core.Path.{_≡_};
@@ -61,7 +62,7 @@ pub fn is_plain(t: u8) -> bool
     ((1 <= t) & (t <= 15)) | (t == 19)
 }
 
-// One value of a plain type.
+// One value of a plain type; any other type is 4.
 pub fn plain_value(s: &[u8], at: usize, t: u8) -> Reached
     ensures { λ r. ⌜ answerReached r ≡ plainValue t (now (s .entry)) at ⌝ }
 {
@@ -69,5 +70,8 @@ pub fn plain_value(s: &[u8], at: usize, t: u8) -> Reached
     if 0 < w {
         return bytes_at(s, at, w);
     }
-    string_at(s, at)
+    if (t == 12) | (t == 15) {
+        return string_at(s, at);
+    }
+    Reached::Refused(NOT_TAKEN, at)
 }

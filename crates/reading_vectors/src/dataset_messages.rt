@@ -2,7 +2,8 @@
 // message: `t` UInt16 and Float, `-` or `N` none. The answer is kind, encoding, sequence number and the end of the last field, and each
 // field as index, type, element count, offset and length. `F` has a message and the number of a field: the field, and how many bytes its
 // part of the message has. `S` has a message of ten fields, the number of a field and a position: the field that a cursor there steps
-// over. `K` and `R` have a message: how many fields it has and where the last ends, with no type configured and with 64 times UInt16.
+// over; `C` the same of ten fields of RawData, with UInt16, Float and String configured. `K` and `R` have a message: how many fields it
+// has and where the last ends, with no type configured and with 64 times UInt16.
 use dataset_fields::fields::Cursor;
 use dataset_fields::fields::Field;
 use dataset_fields::fields::FieldRead;
@@ -27,11 +28,26 @@ const UINT16: u8 = 5;
 
 const FLOAT: u8 = 10;
 
+const STRING: u8 = 12;
+
 // Shows a DataSetMessage of one line of the input.
 pub fn vector(line: &[u8], bytes: &[u8]) {
     match letter(line) {
         b'F' => one_field(bytes, decimal(line, 2)),
-        b'S' => one_step(bytes, decimal(line, 2), decimal(line, 3)),
+        b'S' => one_step(
+            bytes,
+            Encoding::Variant,
+            &[],
+            decimal(line, 2),
+            decimal(line, 3),
+        ),
+        b'C' => one_step(
+            bytes,
+            Encoding::RawData,
+            &[UINT16, FLOAT, STRING],
+            decimal(line, 2),
+            decimal(line, 3),
+        ),
         b'K' => count(bytes, &[]),
         b'R' => count(bytes, &[UINT16; 64]),
         b't' => show(bytes, &[UINT16, FLOAT]),
@@ -125,15 +141,15 @@ fn one_field(s: &[u8], k: usize) {
     number(field(s, &[], k).len());
 }
 
-fn one_step(s: &[u8], next: usize, at: usize) {
+fn one_step(s: &[u8], encoding: Encoding, types: &[u8], next: usize, at: usize) {
     let cursor = Cursor {
-        encoding: Encoding::Variant,
+        encoding,
         delta: false,
         next,
         count: 10,
         at,
     };
-    match cursor.step(s, &[]) {
+    match cursor.step(s, types) {
         FieldStep::Refused(n, place) => refused(n, place),
         FieldStep::Is(f, _) => show_field(f),
     }

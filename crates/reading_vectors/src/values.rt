@@ -1,7 +1,8 @@
 // Values: document 01's section "Values". A line has a letter with a position, and bytes: `v` or `V` a Variant, `d` or `D` a DataValue,
 // `r` an element of RawData, whose type is the first byte; `E` is such an element in no bytes at all. The answer is type, element count
 // and end. `T` has 17 bytes of a Variant and an array: the answer is of both, and of an element of the Variant's type after the array's
-// first byte.
+// first byte. `p` has a type's number and bytes: the answer is the end of a value of that type alone.
+use plain_value::plain::plain_value;
 use value::Measured;
 use value::measure_data_value;
 use value::measure_raw;
@@ -12,6 +13,7 @@ use vector_lines::print::named;
 use vector_lines::print::number;
 use vector_lines::print::put;
 use vector_lines::print::refused;
+use wire::Reached;
 use wire::part::part;
 use wire::part::tail;
 
@@ -24,7 +26,18 @@ pub fn vector(line: &[u8], bytes: &[u8]) {
     if first == b'T' {
         return each_way(part(bytes, 0, SCALAR), tail(bytes, SCALAR));
     }
-    show(measured(first, bytes, decimal_at(line, 1, b' ')));
+    let at = decimal_at(line, 1, b' ');
+    if first == b'p' {
+        return alone(tail(bytes, 1), at, letter(bytes));
+    }
+    show(measured(first, bytes, at));
+}
+
+fn alone(bytes: &[u8], at: usize, kind: u8) {
+    match plain_value(bytes, at, kind) {
+        Reached::To(end) => number(end),
+        Reached::Refused(n, place) => refused(n, place),
+    }
 }
 
 fn measured(first: u8, bytes: &[u8], at: usize) -> Measured {

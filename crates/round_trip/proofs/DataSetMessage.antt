@@ -6,25 +6,24 @@ use mathlib.Core.List.{List, [], _∷_, _++_}
 use Prim.Native.Nat.{ℕ, _+_, _-_, _≤_, _<_}
 use native.Mathlib.Nat.{add-zero, zero-add}
 use native.Mathlib.Omega.{arith}
-use borrow.Author.Tests.{leb-true, eqb-true, eqb-false, le-leb, lt-leb}
-use lib.Dec.{leb, eqb}
+use borrow.Author.Tests.{leb-true, ltb-true, eqb-true, eqb-false, ne-eqb, le-leb, lt-leb}
+use lib.Dec.{leb, ltb, eqb}
 use lib.ListN.{take, drop, length, getD, length-append}
 use lib.Seq.{take-all}
 use Rattle.wire.specs.Answer.{got}
 use Rattle.wire.proofs.Facts.{and-left, and-right}
 use Rattle.value.specs.Value.{Measure}
-use Rattle.wire_writer.specs.Writing.{orElse, Writes}
+use Rattle.wire_writer.specs.Writing.{Writes}
 use Rattle.wire_writer.proofs.Trip.{At, first, second, item-is}
-use Rattle.wire_writer.proofs.Refusals.{both-zero, passed}
 use Rattle.dataset_header.specs.declared.flags.Encoding.{Encoding}
 use Rattle.dataset_header.specs.declared.flags.Kind.{Kind}
 use Rattle.dataset_header.specs.Flags.{valid, isDelta, isRaw, kindRule}
 use Rattle.dataset_header.specs.Header.{FitsHeader}
-use Rattle.dataset_fields.specs.Fields.{encodedAt, fieldAt, fieldsAt, paddingAt, valuesOf, endsAt, fieldsRefusal, fieldsWhole, reached, fieldsBytes, zeros}
+use Rattle.dataset_fields.specs.Fields.{encodedAt, fieldAt, fieldsAt, paddingAt, valuesOf, endsAt, fieldsWhole, reached, fieldsBytes, zeros}
 use Rattle.dataset_message.specs.Message.{countedAt, countAt, messageAt, fieldPlaceAt}
 use Rattle.dataset_fields.proofs.Inside.{field-inside}
 use Rattle.wire_writer.specs.declared.writing.Written.{Written}
-use Rattle.dataset_message_writer.specs.Message.{GivenMessage, FitsGiven, messageOutput, hasFields, isKey, isFielded, isRawData, givenFields, countBytes, configuredRule, countAgrees, encode, messageRefusal}
+use Rattle.dataset_message_writer.specs.Message.{GivenMessage, FitsGiven, messageOutput, hasFields, isKey, isFielded, isRawData, givenFields, countBytes, countAgrees, encode, messageRefusal}
 use Rattle.dataset_fields.proofs.Judging.{length-values}
 use Rattle.dataset_message_writer.proofs.Whole.{Accepted, accepted}
 use Rattle.round_trip.specs.DataSetMessage.{firstOf, endOf, messageWritten, FieldBack, MessageBack}
@@ -62,7 +61,7 @@ count-is Kind.KeepAlive heartbeat raw types s at n d f b = let z = b refl in ap 
 
 -- a field is never empty, so neither are some
 
-some-of : (encoding : Encoding) (types : List ℕ) (k : ℕ) (v : List ℕ) (x : Measure) → encodedAt encoding types k v 0 ≡ got x (length v) → 0 < length v
+pub some-of : (encoding : Encoding) (types : List ℕ) (k : ℕ) (v : List ℕ) (x : Measure) → encodedAt encoding types k v 0 ≡ got x (length v) → 0 < length v
 some-of encoding types k v x q =
     let r : fieldAt false encoding types k v 0 ≡ got (record { index = k; kind = x .kind; shape = x .shape; offset = 0; length = length v - 0 }) (length v) = rw q in
     let i = field-inside false encoding types k v 0 (record { index = k; kind = x .kind; shape = x .shape; offset = 0; length = length v - 0 }) (length v) r in
@@ -84,7 +83,7 @@ fields-some delta encoding types k indices (v ∷ vs) w l =
 -- all fields are reached
 pub reached-all : (raw : Bool) (types lengths values : List ℕ) → countAgrees raw (length types) (length lengths) ≡ true → reached raw types (valuesOf lengths values) ≡ valuesOf lengths values
 reached-all true types lengths values e =
-    let n : length lengths ≡ length types = eqb-true (length lengths) (length types) e in
+    let n : length lengths ≡ length types = eqb-true (length lengths) (length types) (and-right (ltb 0 (length lengths)) (eqb (length lengths) (length types)) e) in
     let m = length-values lengths values in
     take-all (length types) (valuesOf lengths values) (omega arith)
 reached-all false types lengths values e = refl
@@ -106,10 +105,12 @@ unpadded-is : (key : Bool) (padding : ℕ) → not key || eqb padding 0 ≡ true
 unpadded-is true padding h e = eqb-true padding 0 h
 unpadded-is false padding h e = no e
 
-raw-configured : (raw : Bool) (configured n r : ℕ) → orElse (configuredRule raw configured) r ≡ 0 → countAgrees raw configured n ≡ true → raw ≡ true → (eqb configured 0 ≡ false) × (n ≡ configured)
-raw-configured true configured n r h c e =
-    (passed (eqb configured 0) 7 0 (both-zero (configuredRule true configured) r h .0) .0, eqb-true n configured c)
-raw-configured false configured n r h c e = no e
+raw-configured : (raw : Bool) (configured n : ℕ) → countAgrees raw configured n ≡ true → raw ≡ true → (eqb configured 0 ≡ false) × (n ≡ configured)
+raw-configured true configured n c e =
+    let q : n ≡ configured = eqb-true n configured (and-right (ltb 0 n) (eqb n configured) c) in
+    let p : 0 < n = ltb-true 0 n (and-left (ltb 0 n) (eqb n configured) c) in
+    (ne-eqb configured 0 (λ z. omega arith), q)
+raw-configured false configured n c e = no e
 
 plain-counted : (raw : Bool) (configured n : ℕ) → countAgrees raw configured n ≡ true → raw ≡ false → n ≤ 65535
 plain-counted true configured n c e = no (sym e)
@@ -120,21 +121,18 @@ fielded types g a = go (isFielded g) refl
   where
     go : (f : Bool) → isFielded g ≡ f → Fielded types g
     go true e =
-        let whole = fieldsWhole (g .header .encoding) types 0 (reached (isRawData g) types (givenFields g)) in
-        let w : whole && countAgrees (isRawData g) (length types) (length (g .lengths)) ≡ true = rw e at (a .agrees) in
-        let c = and-right whole (countAgrees (isRawData g) (length types) (length (g .lengths))) w in
+        let w : fieldsWhole (g .header .encoding) types 0 (reached (isRawData g) types (givenFields g)) ≡ true = rw e at (a .whole) in
+        let c : countAgrees (isRawData g) (length types) (length (g .lengths)) ≡ true = rw e at (a .counts) in
         record {
-          whole = subst (λ (vs : List (List ℕ)). fieldsWhole (g .header .encoding) types 0 vs ≡ true)
-              (reached-all (isRawData g) types (g .lengths) (g .values) c) (and-left whole (countAgrees (isRawData g) (length types) (length (g .lengths))) w);
-          configured = λ f r. raw-configured (isRawData g) (length types) (length (g .lengths))
-              (fieldsRefusal (g .header .encoding) types 0 (reached (isRawData g) types (givenFields g))) (rw e at (a .body)) c r;
+          whole = subst (λ (vs : List (List ℕ)). fieldsWhole (g .header .encoding) types 0 vs ≡ true) (reached-all (isRawData g) types (g .lengths) (g .values) c) w;
+          configured = λ f r. raw-configured (isRawData g) (length types) (length (g .lengths)) c r;
           counted = λ f r. plain-counted (isRawData g) (length types) (length (g .lengths)) c r;
           none = λ f. no (sym f ∙ e);
           unpadded = λ f k. no (sym f ∙ e);
         }
     go false e =
         let bare = not (isKey (g .header .kind)) || eqb (g .padding) 0 in
-        let w : eqb (length (g .lengths)) 0 && bare ≡ true = rw e at (a .agrees) in
+        let w : eqb (length (g .lengths)) 0 && bare ≡ true = rw e at (a .counts) in
         let n : length (g .lengths) ≡ 0 = eqb-true (length (g .lengths)) 0 (and-left (eqb (length (g .lengths)) 0) bare w) in
         record {
           whole = none-is (g .header .encoding) types (g .lengths) (g .values) n;

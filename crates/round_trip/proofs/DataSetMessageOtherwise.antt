@@ -1,16 +1,19 @@
--- What the writer refuses by 6 for its fields, its number of fields or its padding would read back otherwise.
+-- What the writer refuses by 6 for its fields, its number of fields or its padding would read back otherwise; and it accepts exactly what
+-- reads back as given.
 -- Assumes nothing.
 use mathlib.Core.Path.{_≡_, refl, ap, sym, _∙_, subst}
-use mathlib.Core.Bool.{Bool, true, false, not, _||_}
+use mathlib.Core.Bool.{Bool, true, false, not, _&&_, _||_}
 use mathlib.Core.List.{List, [], _∷_, _++_, append-nil}
 use Prim.Native.Nat.{ℕ, suc, _+_, _%_, _≤_, _<_}
 use native.Mathlib.Nat.{add-zero, zero-add}
 use native.Mathlib.Omega.{arith}
-use borrow.Author.Tests.{leb-true, eq-eqb, le-leb, lt-leb}
-use lib.Dec.{eqb, leb}
+use borrow.Author.Tests.{leb-true, eqb-true, eq-eqb, eqb-false, lt-ltb, le-leb, lt-leb}
+use lib.Dec.{eqb, leb, ltb}
 use lib.ListN.{length, getD}
+use Rattle.plain_value.proofs.Widths.{positive}
 use Rattle.wire.specs.Number.{leBytes}
 use Rattle.wire.specs.Answer.{Answer, got, andThen}
+use Rattle.wire.proofs.Facts.{and-left, and-right}
 use Rattle.wire.proofs.Reading.{invert, got-value, not-got}
 use Rattle.wire_writer.specs.Writing.{orElse, picosecondsRefusal}
 use Rattle.wire_writer.proofs.Trip.{At, first, second, item-is}
@@ -23,12 +26,14 @@ use Rattle.dataset_header.specs.Flags.{Valid, notValid, valid, isDelta, isRaw, 
 use Rattle.dataset_header.specs.Header.{FitsHeader}
 use Rattle.dataset_fields.specs.Fields.{encodedAt, fieldAt, fieldsAt, paddingAt, endsAt, fieldsWhole, zeros, fieldBytesOf}
 use Rattle.dataset_message.specs.Message.{Message, countedAt, countAt, bodyAt, fieldBytes, nthAt}
-use Rattle.dataset_message_writer.specs.Message.{GivenMessage, hasFields, isKey, isFielded, isRawData, givenFields, countBytes, countAgrees, bodyRefusal, bodyAgrees, messageReadingRefusal, encode}
+use Rattle.dataset_message_writer.specs.Message.{GivenMessage, hasFields, isKey, isFielded, isRawData, givenFields, countBytes, countAgrees, wholeGiven, listsGiven, countsGiven, bodyRefusal, bodyAgrees, messageReadingRefusal, messageRefusal, encode}
 use Rattle.dataset_fields.proofs.Judging.{length-values}
-use Rattle.dataset_message_writer.proofs.Whole.{count-bytes}
+use Rattle.dataset_message_writer.proofs.Whole.{accepted, acceptable, lists-agree, lists-add, count-bytes}
 use Rattle.round_trip.specs.DataSetMessage.{firstOf, endOf, messageWritten, MessageBack}
 use Rattle.dataset_fields.proofs.FieldsTrip.{field-alone}
-use Rattle.round_trip.proofs.DataSetMessage.{no, reached-all, delta-plain}
+use Rattle.wire_writer.specs.Fits.{Numbers}
+use Rattle.round_trip.proofs.DataSetMessage.{no, reached-all, delta-plain, read-written}
+use Rattle.round_trip.proofs.DataSetMessageHeader.{kind-refused, picoseconds-refused}
 use Rattle.round_trip.proofs.DataSetMessagePlaces.{fieldsPart, countPart, start, body-at, sizes, header-read}
 
 whole-at : (s : List ℕ) → At s 0 s
@@ -49,9 +54,13 @@ all-whole encoding types (v ∷ vs) k h =
 counted-agrees : (raw : Bool) (types s : List ℕ) (at n next : ℕ) → At s at (countBytes true raw n) → countedAt raw types s at ≡ got n next → countAgrees raw (length types) n ≡ true
 counted-agrees true types s at n next a h = go (eqb (length types) 0) refl
   where
-    go : (t : Bool) → eqb (length types) 0 ≡ t → eqb n (length types) ≡ true
+    go : (t : Bool) → eqb (length types) 0 ≡ t → ltb 0 n && eqb n (length types) ≡ true
     go true t = absurd (not-got (rw t at h))
-    go false t = eq-eqb n (length types) (sym (got-value (rw t at h)))
+    go false t =
+        let q : length types ≡ n = got-value (rw t at h) in
+        let z = eqb-false (length types) 0 t in
+        let p : 0 < n = positive n (λ e. z (q ∙ e)) in
+        rw (lt-ltb 0 n p, eq-eqb n (length types) (sym q))
 counted-agrees false types s at n next a h =
     let l : n % 65536 < 65536 = omega arith in
     let b : At s at (leBytes 2 (n % 65536)) = subst (At s at) (sym (count-bytes n)) a in
@@ -145,3 +154,39 @@ six-otherwise types g fits r back =
     let a = both-zero (kindRule (g .header .kind) (g .header .encoding)) (orElse (picosecondsRefusal (g .header .picoseconds)) (bodyRefusal types g)) r in
     let b = both-zero (picosecondsRefusal (g .header .picoseconds)) (bodyRefusal types g) (a .1) in
     body-agrees types g fits (a .0) (b .0) back
+
+-- a number that cannot be other than 0
+none-of : (n : ℕ) → (eqb n 0 ≡ false → ⊥) → n ≡ 0
+none-of n h = go (eqb n 0) refl
+  where
+    go : (t : Bool) → eqb n 0 ≡ t → n ≡ 0
+    go true e = eqb-true n 0 e
+    go false e = absurd (h e)
+
+-- The writer accepts exactly what reads back as it is given, where the lists agree.
+pub accepts-exactly : (types : List ℕ) (g : GivenMessage) → FitsHeader (g .header) → Numbers (g .indices)
+    → (messageRefusal types g ≡ 0 → MessageBack types g (encode g) × (listsGiven g ≡ true)) × (MessageBack types g (encode g) × (listsGiven g ≡ true) → messageRefusal types g ≡ 0)
+accepts-exactly types g fits indices = (there, back)
+  where
+    there : messageRefusal types g ≡ 0 → MessageBack types g (encode g) × (listsGiven g ≡ true)
+    there h =
+        let a = accepted types g h in
+        (read-written types g fits indices h, lists-agree (isDelta (g .header .kind)) (g .values) (g .lengths) (g .indices) (a .adds) (a .indexed))
+
+    back : MessageBack types g (encode g) × (listsGiven g ≡ true) → messageRefusal types g ≡ 0
+    back b =
+        let k : kindRule (g .header .kind) (g .header .encoding) ≡ 0 =
+        none-of (kindRule (g .header .kind) (g .header .encoding)) (λ z. not-got (sym (kind-refused types g z .1) ∙ b .0 .message)) in
+        let p : picosecondsRefusal (g .header .picoseconds) ≡ 0 =
+        none-of (picosecondsRefusal (g .header .picoseconds)) (λ z. not-got (sym (picoseconds-refused types g fits k z .1) ∙ b .0 .message)) in
+        let a = body-agrees types g fits k p (b .0) in
+        let l = lists-add (isDelta (g .header .kind)) (g .values) (g .lengths) (g .indices) (b .1) in
+        acceptable types g
+        (record {
+          kind = k;
+          picoseconds = p;
+          whole = and-left (wholeGiven types g) (countsGiven types g) a;
+          counts = and-right (wholeGiven types g) (countsGiven types g) a;
+          adds = l .0;
+          indexed = l .1;
+        })

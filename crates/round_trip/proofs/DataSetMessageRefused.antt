@@ -3,97 +3,49 @@
 use mathlib.Core.Path.{_≡_, refl, ap, sym, _∙_, subst}
 use mathlib.Core.Bool.{Bool, true, false, cond, not, _&&_, _||_}
 use mathlib.Core.List.{List, [], _∷_, _++_, append-assoc, append-nil}
-use Prim.Native.Nat.{ℕ, zero, suc, _+_, _/_, _%_, _≤_, _<_}
+use mathlib.Core.Logic.{_⊎_, inl, inr}
+use Prim.Native.Nat.{ℕ, zero, suc, _+_, _≤_, _<_}
 use native.Mathlib.Nat.{add-zero, le-refl}
 use native.Mathlib.Omega.{arith}
-use borrow.Author.Tests.{eqb-true, eqb-false, eq-eqb, ne-eqb, le-ltb, lt-leb}
-use lib.Dec.{eqb}
+use borrow.Author.Tests.{eqb-true, eqb-false, ltb-true, ne-eqb}
+use lib.Dec.{eqb, ltb}
 use lib.ListN.{length, getD, take, drop, length-append}
 use lib.Seq.{getD-drop, take-all, take-nil}
-use Rattle.wire.specs.Number.{leBytes}
 use Rattle.wire.specs.Answer.{Answer, got, refused}
 use Rattle.wire.proofs.Facts.{and-left, and-right}
-use Rattle.wire.proofs.Places.{after, append-refused, within-refused, movedBy}
+use Rattle.wire.proofs.Steady.{Steady}
+use Rattle.wire.proofs.Places.{after, append-refused, movedBy}
 use Rattle.value.specs.Value.{Measure}
-use Rattle.wire_writer.specs.Writing.{orElse, needed, byteBytes, optional16Bytes, optionalI64Bytes, picosecondsRefusal}
-use Rattle.wire_writer.proofs.Trip.{At, first, second, item-is, optional16-is, optionalI64-is}
-use Rattle.wire_writer.proofs.Refusals.{or-case, number-broken, picoseconds-refuses}
+use Rattle.wire_writer.specs.Writing.{orElse, picosecondsRefusal}
+use Rattle.wire_writer.specs.Fits.{Numbers}
+use Rattle.wire_writer.proofs.Trip.{At, first, second}
+use Rattle.wire_writer.proofs.Refusals.{or-case}
 use Rattle.dataset_header.specs.declared.flags.Encoding.{Encoding}
-use Rattle.dataset_header.specs.declared.flags.Kind.{Kind}
-use Rattle.dataset_header.specs.declared.header.Header.{Header}
-use Rattle.dataset_header.specs.Flags.{flags1Rule, flags2Rule, messageFlagsAt, isDelta, isRaw, kindNumber, flags1Of, flags2Of, messageFlagBytes, kindRule}
-use Rattle.dataset_header.specs.Header.{messageTimesAt, messageHeaderAt, timesBytes, versionsBytes, messageHeaderBytes, FitsHeader}
+use Rattle.dataset_header.specs.Flags.{isDelta, kindRule}
+use Rattle.dataset_header.specs.Header.{FitsHeader}
 use Rattle.dataset_fields.specs.Fields.{encodedAt, fieldsAt, fieldsRefusal, reached, indexBytes, fieldsBytes, zeros}
 use Rattle.dataset_message.specs.Message.{countAt, messageAt}
-use Rattle.dataset_message_writer.specs.Message.{GivenMessage, hasFields, isFielded, isRawData, givenFields, countBytes, configuredRule, bodyRefusal, messageReadingRefusal, encode}
-use Rattle.dataset_fields.proofs.Judging.{encoded-steady, length-values}
-use Rattle.round_trip.specs.DataSetMessage.{plainly, Tellable, fieldsCounted}
-use Rattle.dataset_header.proofs.FlagsTrip.{flags1-bits, flags2-bits, encoding-rule, kind-rule-is, flagsFor, flags-is}
+use Rattle.dataset_message_writer.specs.Message.{GivenMessage, isKey, isFielded, isRawData, givenFields, countBytes, ownGiven, wholeGiven, listsGiven, layoutGiven, bodyRefusal, messageReadingRefusal, encode}
+use Rattle.dataset_fields.proofs.Judging.{encoded-either, encoded-refused, length-values}
 use Rattle.dataset_fields.proofs.FieldsTrip.{field-is, index-is}
-use Rattle.round_trip.proofs.DataSetMessage.{no, counted-is, count-is, delta-plain}
-use Rattle.wire_writer.specs.Fits.{Numbers}
-use Rattle.round_trip.proofs.DataSetMessagePlaces.{fieldsPart, countPart, start, header-at, body-at, sizes, header-read}
-
--- a kind that breaks a rule has a Flags2
-some-kind : (k : Kind) (e : Encoding) → eqb (kindRule k e) 0 ≡ false → 1 ≤ kindNumber k
-some-kind Kind.Key e h = no (sym h)
-some-kind Kind.Delta e h = omega arith
-some-kind Kind.Event e h = omega arith
-some-kind Kind.KeepAlive e h = no (sym h)
-
-needed-one : (f : ℕ) → (f ≡ 0 → ⊥) → needed f ≡ 1
-needed-one f z = rw (ne-eqb f 0 z)
-
-flags-refuse : (h : Header) (s : List ℕ) → eqb (kindRule (h .kind) (h .encoding)) 0 ≡ false → At s 0 (messageFlagBytes h) → messageFlagsAt s 0 ≡ refused (kindRule (h .kind) (h .encoding)) 1
-flags-refuse h s r a =
-    let x = flags1-bits h in
-    let y = flags2-bits h in
-    let k = some-kind (h .kind) (h .encoding) r in
-    let z : flags2Of h ≡ 0 → ⊥ = λ e. let w = y .kind in omega arith in
-    let p = item-is 1 (flags1Of h) 0 (x .small) s (first s 0 (leBytes 1 (flags1Of h)) (byteBytes (flags2Of h)) a) in
-    let even : eqb (flags1Of h % 2) 0 ≡ false = ap (λ (n : ℕ). eqb n 0) (x .odd) in
-    let one : flags1Rule (flags1Of h) ≡ 0 = encoding-rule (h .encoding) (flags1Of h / 2 % 4) (x .encoding) in
-    let high : 128 ≤ flags1Of h = x .high (needed-one (flags2Of h) z) in
-    let b : At s 1 (byteBytes (flags2Of h)) = second s 0 (leBytes 1 (flags1Of h)) (byteBytes (flags2Of h)) a in
-    let c : At s 1 (leBytes 1 (flags2Of h)) = rw (ne-eqb (flags2Of h) 0 z) at b in
-    let rule : flags2Rule (flags1Of h) (flags2Of h) ≡ kindRule (h .kind) (h .encoding) =
-    kind-rule-is (h .kind) (h .encoding) (flags2Of h) (flags2Of h % 16) (flags1Of h / 2 % 4) z (y .small) (y .kind) (x .encoding) in
-    let u : flags2Of h < 256 = let w = y .small in omega arith in
-    let t = number-broken 1 (flags2Rule (flags1Of h)) (flags2Of h) 1 u (ap (λ (n : ℕ). eqb n 0) rule ∙ r) s c in
-    rw (p, even, one, le-ltb (flags1Of h) 128 high, t) (ap (λ (n : ℕ). refused n 1) rule)
-
--- picoseconds that break their rule
-times-refuse : (h : Header) (s : List ℕ) (m : ℕ) → FitsHeader h → eqb (picosecondsRefusal (h .picoseconds)) 0 ≡ false → At s m (timesBytes h)
-    → messageTimesAt (flagsFor h) s m ≡ refused (picosecondsRefusal (h .picoseconds)) (m + length (optional16Bytes (h .sequence)) + length (optionalI64Bytes (h .timestamp)))
-times-refuse h s m f r a =
-    let x = optional16Bytes (h .sequence) in
-    let y = optionalI64Bytes (h .timestamp) in
-    let z = optional16Bytes (h .picoseconds) in
-    let b = second s m x (y ++ z) a in
-    let p = optional16-is (h .sequence) m (f .sequence) s (first s m x (y ++ z) a) in
-    let q = optionalI64-is (h .timestamp) (m + length x) (f .timestamp) s (first s (m + length x) y z b) in
-    let o = picoseconds-refuses (h .picoseconds) (m + length x + length y) (f .picoseconds) r s (second s (m + length x) y z b) in
-    rw (p, q, o)
-
-header-refuse : (h : Header) (s : List ℕ) → FitsHeader h → kindRule (h .kind) (h .encoding) ≡ 0 → eqb (picosecondsRefusal (h .picoseconds)) 0 ≡ false → At s 0 (messageHeaderBytes h)
-    → (place : ℕ) × (messageHeaderAt s 0 ≡ refused (picosecondsRefusal (h .picoseconds)) place)
-header-refuse h s f k r a =
-    let x = messageFlagBytes h in
-    let y = timesBytes h in
-    let z = versionsBytes h in
-    let b = second s 0 x (y ++ z) a in
-    let p = flags-is h k s (first s 0 x (y ++ z) a) in
-    let q = times-refuse h s (0 + length x) f r (first s (0 + length x) y z b) in
-    (0 + length x + length (optional16Bytes (h .sequence)) + length (optionalI64Bytes (h .timestamp)), rw (p, q))
+use Rattle.round_trip.specs.DataSetMessage.{plainly, Tellable, PartsAgree, ReadingRefuses, fieldsCounted}
+use Rattle.round_trip.proofs.DataSetMessage.{no, some-of, counted-is, count-is, delta-plain}
+use Rattle.round_trip.proofs.DataSetMessagePlaces.{fieldsPart, countPart, start, body-at, sizes, header-read}
+use Rattle.round_trip.proofs.DataSetMessageHeader.{kind-refused, picoseconds-refused}
+use Rattle.round_trip.proofs.DataSetMessageNumber.{layout-number, refused-by}
 
 -- a field that is refused alone, but not cut short, is refused where it stands
 encoded-refuse : (encoding : Encoding) (types : List ℕ) (k : ℕ) (v : List ℕ) (n p : ℕ) → encodedAt encoding types k v 0 ≡ refused n p → (n ≡ 1 → ⊥)
     → (s : List ℕ) (m : ℕ) → At s m v → (place : ℕ) × (encodedAt encoding types k s m ≡ refused n place)
-encoded-refuse encoding types k v n p q z s m a =
-    let x = append-refused (encoded-steady encoding types k) v (a .1) 0 q z in
-    let y = after (encoded-steady encoding types k) (a .0) (v ++ a .1) 0 in
-    let l : length (a .0) + 0 ≡ m = add-zero (length (a .0)) ∙ a .3 in
-    (length (a .0) + p, ap (λ (l : List ℕ). encodedAt encoding types k l m) (a .2) ∙ ap (encodedAt encoding types k (a .0 ++ (v ++ a .1))) (sym l) ∙ y ∙ ap (movedBy (length (a .0))) x)
+encoded-refuse encoding types k v n p q z s m a = go (encoded-either encoding types k)
+  where
+    go : Steady (encodedAt encoding types k) ⊎ ((s : List ℕ) (at : ℕ) → encodedAt encoding types k s at ≡ refused 8 0) → (place : ℕ) × (encodedAt encoding types k s m ≡ refused n place)
+    go (inl f) =
+        let x = append-refused f v (a .1) 0 q z in
+        let y = after f (a .0) (v ++ a .1) 0 in
+        let l : length (a .0) + 0 ≡ m = add-zero (length (a .0)) ∙ a .3 in
+        (length (a .0) + p, ap (λ (l : List ℕ). encodedAt encoding types k l m) (a .2) ∙ ap (encodedAt encoding types k (a .0 ++ (v ++ a .1))) (sym l) ∙ y ∙ ap (movedBy (length (a .0))) x)
+    go (inr r) = (p, r s m ∙ sym (r v 0) ∙ q)
 
 -- where nothing follows, so is one that is cut short
 no-length : (l : List ℕ) → length l ≡ 0 → l ≡ []
@@ -102,12 +54,16 @@ no-length (x ∷ l) e = absurd (omega arith)
 
 encoded-last : (encoding : Encoding) (types : List ℕ) (k : ℕ) (v : List ℕ) (n p : ℕ) → encodedAt encoding types k v 0 ≡ refused n p
     → (s : List ℕ) (m : ℕ) → At s m v → length s ≡ m + length v → (place : ℕ) × (encodedAt encoding types k s m ≡ refused n place)
-encoded-last encoding types k v n p q s m a e =
-    let r : length (a .1) ≡ 0 = omega (arith, ap length (a .2), length-append (a .0) (v ++ a .1), length-append v (a .1), a .3) in
-    let x : s ≡ a .0 ++ v = a .2 ∙ ap (λ (l : List ℕ). a .0 ++ (v ++ l)) (no-length (a .1) r) ∙ ap (λ (l : List ℕ). a .0 ++ l) (append-nil v) in
-    let y = after (encoded-steady encoding types k) (a .0) v 0 in
-    let l : length (a .0) + 0 ≡ m = add-zero (length (a .0)) ∙ a .3 in
-    (length (a .0) + p, ap (λ (l : List ℕ). encodedAt encoding types k l m) x ∙ ap (encodedAt encoding types k (a .0 ++ v)) (sym l) ∙ y ∙ ap (movedBy (length (a .0))) q)
+encoded-last encoding types k v n p q s m a e = go (encoded-either encoding types k)
+  where
+    go : Steady (encodedAt encoding types k) ⊎ ((s : List ℕ) (at : ℕ) → encodedAt encoding types k s at ≡ refused 8 0) → (place : ℕ) × (encodedAt encoding types k s m ≡ refused n place)
+    go (inl f) =
+        let r : length (a .1) ≡ 0 = omega (arith, ap length (a .2), length-append (a .0) (v ++ a .1), length-append v (a .1), a .3) in
+        let x : s ≡ a .0 ++ v = a .2 ∙ ap (λ (l : List ℕ). a .0 ++ (v ++ l)) (no-length (a .1) r) ∙ ap (λ (l : List ℕ). a .0 ++ l) (append-nil v) in
+        let y = after f (a .0) v 0 in
+        let l : length (a .0) + 0 ≡ m = add-zero (length (a .0)) ∙ a .3 in
+        (length (a .0) + p, ap (λ (l : List ℕ). encodedAt encoding types k l m) x ∙ ap (encodedAt encoding types k (a .0 ++ v)) (sym l) ∙ y ∙ ap (movedBy (length (a .0))) q)
+    go (inr r) = (p, r s m ∙ sym (r v 0) ∙ q)
 
 abbrev RefusedBy : Answer (Unit {0}) → ℕ → Type 0
 RefusedBy x n = (place : ℕ) × (x ≡ refused n place)
@@ -164,69 +120,64 @@ module _ (delta : Bool) (encoding : Encoding) (types : List ℕ) (bare : Bool) w
           let h = field-is delta encoding types k (getD indices 0 0) v x (λ d. f 0) (q ∙ ap (got x) n) s m (first s m (here ++ v) (fieldsBytes delta (drop 1 indices) vs) there) in
           (y .0, rw (q, h .reads) (y .1))
       go (refused n p) q ih =
-          let u : not (eqb n 1) || (bare && eqb (length vs) 0) ≡ true = rw q at w in
+          let w0 : ltb 0 (length v) && (not (eqb n 1) || (bare && eqb (length vs) 0)) ≡ true = rw q at w in
+          let u = and-right (ltb 0 (length v)) (not (eqb n 1) || (bare && eqb (length vs) 0)) w0 in
           let i = index-is delta k (getD indices 0 0) m (λ d. f 0) s (first s m here v (first s m (here ++ v) (fieldsBytes delta (drop 1 indices) vs) there)) in
           let y = stands n p q (eqb n 1) refl u in
-          let b : 0 ≤ length v = omega arith in
-          let w1 = within-refused (encoded-steady encoding types k) v 0 b q in
-          let z0 : n ≡ 0 → ⊥ = λ e. omega arith in
+          let z0 : n ≡ 0 → ⊥ = encoded-refused encoding types k v q in
           (y .0, rw (q, ne-eqb n 0 z0, i, y .1))
+
+  -- and has a byte, as has each field before it
+  some-byte : (vs : List (List ℕ)) (t k : ℕ) (indices : List ℕ) → plainly encoding types bare t k vs ≡ true → eqb (fieldsRefusal encoding types k (take t vs)) 0 ≡ false
+      → 0 < length (fieldsBytes delta indices vs)
+  unfolding fieldsRefusal plainly fieldsBytes
+  some-byte [] t k indices w r = no (sym (ap (λ (x : List (List ℕ)). eqb (fieldsRefusal encoding types k x) 0) (sym (take-nil t)) ∙ r))
+  some-byte (v ∷ vs) zero k indices w r = no (sym r)
+  some-byte (v ∷ vs) (suc t) k indices w r = go (encodedAt encoding types k v 0) refl
+    where
+      more : 0 < length v → 0 < length (indexBytes delta (getD indices 0 0) ++ (v ++ fieldsBytes delta (drop 1 indices) vs))
+      more l = simp length-append (omega arith)
+
+      go : (x : Answer Measure) → encodedAt encoding types k v 0 ≡ x → 0 < length (indexBytes delta (getD indices 0 0) ++ (v ++ fieldsBytes delta (drop 1 indices) vs))
+      go (got x e) q =
+          let u : eqb e (length v) && plainly encoding types bare t (k + 1) vs ≡ true = rw q at w in
+          let n : e ≡ length v = eqb-true e (length v) (and-left (eqb e (length v)) (plainly encoding types bare t (k + 1) vs) u) in
+          more (some-of encoding types k v x (q ∙ ap (got x) n))
+      go (refused n p) q =
+          let u : ltb 0 (length v) && (not (eqb n 1) || (bare && eqb (length vs) 0)) ≡ true = rw q at w in
+          more (ltb-true 0 (length v) (and-left (ltb 0 (length v)) (not (eqb n 1) || (bare && eqb (length vs) 0)) u))
 
 -- the whole message
 
--- RawData without configured fields
-raw-refuse : (kind : Kind) (encoding : Encoding) (heartbeat : Bool) (types s : List ℕ) (at : ℕ) → kindRule kind encoding ≡ 0 → hasFields kind heartbeat ≡ true → isRaw encoding ≡ true
-    → length types ≡ 0 → at < length s → countAt kind (isRaw encoding) types s at ≡ refused 8 0
-raw-refuse Kind.Key encoding true types s at k f r t l = no f
-raw-refuse Kind.Key encoding false types s at k f r t l = rw (lt-leb (length s) at l, r, eq-eqb (length types) 0 t)
-raw-refuse Kind.Delta encoding heartbeat types s at k f r t l = no (sym (delta-plain Kind.Delta encoding k refl) ∙ r)
-raw-refuse Kind.Event Encoding.Variant heartbeat types s at k f r t l = no r
-raw-refuse Kind.Event Encoding.RawData heartbeat types s at k f r t l = absurd (omega arith)
-raw-refuse Kind.Event Encoding.DataValue heartbeat types s at k f r t l = no r
-raw-refuse Kind.KeepAlive encoding heartbeat types s at k f r t l = no f
-
-raw-none : (raw : Bool) (configured : ℕ) → eqb (configuredRule raw configured) 0 ≡ false → (raw ≡ true) × (configured ≡ 0)
-raw-none true configured h = (refl, go (eqb configured 0) refl h)
+-- where one of the configured fields is refused, some are configured
+some-configured : (encoding : Encoding) (types : List ℕ) (vs : List (List ℕ)) → eqb (fieldsRefusal encoding types 0 (take (length types) vs)) 0 ≡ false → eqb (length types) 0 ≡ false
+unfolding fieldsRefusal
+some-configured encoding types vs r = go (eqb (length types) 0) refl
   where
-    go : (t : Bool) → eqb configured 0 ≡ t → eqb (cond {A = ℕ} t 8 0) 0 ≡ false → configured ≡ 0
-    go true t q = eqb-true configured 0 t
-    go false t q = no (sym q)
-raw-none false configured h = no (sym h)
-
-some-configured : (raw : Bool) (configured : ℕ) → configuredRule raw configured ≡ 0 → raw ≡ true → eqb configured 0 ≡ false
-some-configured true configured h r = go (eqb configured 0) refl h
-  where
-    go : (t : Bool) → eqb configured 0 ≡ t → cond {A = ℕ} t 8 0 ≡ 0 → eqb configured 0 ≡ false
-    go true t q = absurd (omega arith)
-    go false t q = t
-some-configured false configured h r = no r
+    go : (t : Bool) → eqb (length types) 0 ≡ t → eqb (length types) 0 ≡ false
+    go true t = let z : length types ≡ 0 = eqb-true (length types) 0 t in no (sym (rw z at r))
+    go false t = t
 
 module _ (types : List ℕ) (g : GivenMessage) (fits : FitsHeader (g .header)) (indices : Numbers (g .indices)) (tells : Tellable types g) where
-  abbrev Refused : ℕ → Type 0
-  Refused n = (place : ℕ) × (messageAt types (encode g) ≡ refused n place)
-
-  kind-refused : eqb (kindRule (g .header .kind) (g .header .encoding)) 0 ≡ false → Refused (kindRule (g .header .kind) (g .header .encoding))
-  kind-refused r = (1, rw (flags-refuse (g .header) (encode g) r (first (encode g) 0 (messageFlagBytes (g .header)) (timesBytes (g .header) ++ versionsBytes (g .header)) (header-at g))))
-
-  picoseconds-refused : kindRule (g .header .kind) (g .header .encoding) ≡ 0 → eqb (picosecondsRefusal (g .header .picoseconds)) 0 ≡ false → Refused (picosecondsRefusal (g .header .picoseconds))
-  picoseconds-refused k r = let p = header-refuse (g .header) (encode g) fits k r (header-at g) in (p .0, rw (p .1))
-
-  module _ (kind : kindRule (g .header .kind) (g .header .encoding) ≡ 0) (pico : picosecondsRefusal (g .header .picoseconds) ≡ 0) (has : isFielded g ≡ true) where
-    follows : (start g) < length (encode g)
-    follows = go (isRawData g) refl
-      where
-        go : (r : Bool) → isRawData g ≡ r → (start g) < length (encode g)
-        go true r = let f = tells .follows r in omega (arith, (sizes g))
-        go false r = let c : length (countPart g) ≡ 2 = rw (has, r) in omega (arith, (sizes g))
-
-    configured-refused : eqb (configuredRule (isRawData g) (length types)) 0 ≡ false → Refused (configuredRule (isRawData g) (length types))
-    configured-refused r =
-        let n = raw-none (isRawData g) (length types) r in
-        let c = raw-refuse (g .header .kind) (g .header .encoding) (g .heartbeat) types (encode g) (start g) kind has (n .0) (n .1) follows in
-        (0, rw ((header-read g fits kind pico), c, n .0, eq-eqb (length types) 0 (n .1)))
-
+  module _ (kind : kindRule (g .header .kind) (g .header .encoding) ≡ 0) (pico : picosecondsRefusal (g .header .picoseconds) ≡ 0) (has : isFielded g ≡ true)
+      (r : eqb (fieldsRefusal (g .header .encoding) types 0 (reached (isRawData g) types (givenFields g))) 0 ≡ false) where
     abbrev number : ℕ
     number = fieldsCounted (isRawData g) (length types) (length (g .lengths))
+
+    all : (raw : Bool) → reached raw types (givenFields g) ≡ take (fieldsCounted raw (length types) (length (g .lengths))) (givenFields g)
+    all true = refl
+    all false = sym (take-all (length (g .lengths)) (givenFields g) (let m = length-values (g .lengths) (g .values) in omega arith))
+
+    refused-there : eqb (fieldsRefusal (g .header .encoding) types 0 (take number (givenFields g))) 0 ≡ false
+    refused-there = subst (λ (vs : List (List ℕ)). eqb (fieldsRefusal (g .header .encoding) types 0 vs) 0 ≡ false) (all (isRawData g)) r
+
+    follows : (start g) < length (encode g)
+    follows =
+        let b = some-byte (isDelta (g .header .kind)) (g .header .encoding) types (eqb (g .padding) 0) (givenFields g) number 0 (g .indices) (tells .plain) refused-there in
+        omega (arith, (sizes g))
+
+    configured : isRawData g ≡ true → eqb (length types) 0 ≡ false
+    configured e = some-configured (g .header .encoding) types (givenFields g) (rw e at r)
 
     -- FieldCount is written for as many fields as are read, and RawData has none
     count-same : (raw : Bool) → countBytes true raw (length (g .lengths)) ≡ countBytes true raw (fieldsCounted raw (length types) (length (g .lengths)))
@@ -236,58 +187,70 @@ module _ (types : List ℕ) (g : GivenMessage) (fits : FitsHeader (g .header)) (
     part-same : (countPart g) ≡ countBytes (isFielded g) (isRawData g) number
     part-same = rw has (count-same (isRawData g))
 
-    counted-read : configuredRule (isRawData g) (length types) ≡ 0 → countAt (g .header .kind) (isRawData g) types (encode g) (start g) ≡ got number ((start g) + length (countPart g))
-    counted-read c =
+    counted-read : countAt (g .header .kind) (isRawData g) types (encode g) (start g) ≡ got number ((start g) + length (countPart g))
+    counted-read =
         count-is (g .header .kind) (g .heartbeat) (isRawData g) types (encode g) (start g) number (delta-plain (g .header .kind) (g .header .encoding) kind)
         (λ e. (
           follows,
           counted-is (isRawData g) types (encode g) (start g) number
-              (λ r. (some-configured (isRawData g) (length types) c r, rw r)) (λ r. rw r (tells .counted r))
+              (λ r. (configured r, rw r)) (λ r. rw r (tells .counted r))
               (subst (At (encode g) (start g)) (part-same ∙ ap (λ (f : Bool). countBytes f (isRawData g) number) has)
               (first (encode g) (start g) (countPart g) ((fieldsPart g) ++ zeros (g .padding)) (body-at g))),
         ))
         (λ e. no (sym e ∙ has)) ∙ ap (λ (b : List ℕ). got number ((start g) + length b)) (sym part-same)
 
-    fields-refused : configuredRule (isRawData g) (length types) ≡ 0 → eqb (fieldsRefusal (g .header .encoding) types 0 (reached (isRawData g) types (givenFields g))) 0 ≡ false
-        → Refused (fieldsRefusal (g .header .encoding) types 0 (reached (isRawData g) types (givenFields g)))
-    fields-refused c r =
-        let f = by in
-        (f .0, rw ((header-read g fits kind pico), counted-read c, f .1))
+    there : At (encode g) ((start g) + length (countPart g)) (fieldsPart g)
+    there = first (encode g) ((start g) + length (countPart g)) (fieldsPart g) (zeros (g .padding)) (second (encode g) (start g) (countPart g) ((fieldsPart g) ++ zeros (g .padding)) (body-at g))
+
+    ends : eqb (g .padding) 0 ≡ true → length (encode g) ≡ (start g) + length (countPart g) + length (fieldsPart g)
+    ends e = let p = eqb-true (g .padding) 0 e in omega (arith, (sizes g))
+
+    by : RefusedBy (fieldsAt (isDelta (g .header .kind)) (g .header .encoding) types number 0 (encode g) ((start g) + length (countPart g)))
+        (fieldsRefusal (g .header .encoding) types 0 (reached (isRawData g) types (givenFields g)))
+    by =
+        let x = fields-refuse (isDelta (g .header .kind)) (g .header .encoding) types (eqb (g .padding) 0) (givenFields g) number number 0 (g .indices) (le-refl number) indices (tells .plain)
+        refused-there (encode g) ((start g) + length (countPart g)) there ends in
+        (x .0, x .1 ∙ ap (λ (vs : List (List ℕ)). refused (fieldsRefusal (g .header .encoding) types 0 vs) (x .0)) (sym (all (isRawData g))))
+
+    fields-refused : ReadingRefuses types g (fieldsRefusal (g .header .encoding) types 0 (reached (isRawData g) types (givenFields g)))
+    fields-refused = (by .0, rw ((header-read g fits kind pico), counted-read, by .1))
+
+  module _ (kind : kindRule (g .header .kind) (g .header .encoding) ≡ 0) (pico : picosecondsRefusal (g .header .picoseconds) ≡ 0) where
+    own-refused : eqb (ownGiven types g) 0 ≡ false → ReadingRefuses types g (ownGiven types g)
+    own-refused r = go (isFielded g) refl
       where
-        there : At (encode g) ((start g) + length (countPart g)) (fieldsPart g)
-        there = first (encode g) ((start g) + length (countPart g)) (fieldsPart g) (zeros (g .padding)) (second (encode g) (start g) (countPart g) ((fieldsPart g) ++ zeros (g .padding)) (body-at g))
+        go : (f : Bool) → isFielded g ≡ f → ReadingRefuses types g (ownGiven types g)
+        go true e = let q : eqb (fieldsRefusal (g .header .encoding) types 0 (reached (isRawData g) types (givenFields g))) 0 ≡ false = rw e at r in
+            subst (ReadingRefuses types g) (let b : fieldsRefusal (g .header .encoding) types 0 (reached (isRawData g) types (givenFields g)) ≡ ownGiven types g = rw e in b) (fields-refused kind pico e q)
+        go false e = let q : eqb 0 0 ≡ false = rw e at r in no (sym q)
 
-        ends : eqb (g .padding) 0 ≡ true → length (encode g) ≡ (start g) + length (countPart g) + length (fieldsPart g)
-        ends e = let p = eqb-true (g .padding) 0 e in omega (arith, (sizes g))
+    -- where each is whole, by the layout
+    layout-refused : ownGiven types g ≡ 0 → eqb (cond (wholeGiven types g && listsGiven g) (layoutGiven types g) 0) 0 ≡ false
+        → ReadingRefuses types g (cond (wholeGiven types g && listsGiven g) (layoutGiven types g) 0)
+    layout-refused o r = go (wholeGiven types g && listsGiven g) refl r
+      where
+        bare : eqb (layoutGiven types g) 0 ≡ false → isFielded g ≡ false → isKey (g .header .kind) ≡ true → (length (g .lengths) ≡ 0) × (g .padding ≡ 0)
+        bare n f k = let q : eqb 0 0 ≡ false = rw (f, k) at n in no (sym q)
 
-        all : (raw : Bool) → reached raw types (givenFields g) ≡ take (fieldsCounted raw (length types) (length (g .lengths))) (givenFields g)
-        all true = refl
-        all false = sym (take-all (length (g .lengths)) (givenFields g) (let m = length-values (g .lengths) (g .values) in omega arith))
+        go : (t : Bool) → wholeGiven types g && listsGiven g ≡ t → eqb (cond t (layoutGiven types g) 0) 0 ≡ false → ReadingRefuses types g (cond t (layoutGiven types g) 0)
+        go true t n =
+            let a : PartsAgree types g = record {
+              whole = and-left (wholeGiven types g) (listsGiven g) t;
+              lists = and-right (wholeGiven types g) (listsGiven g) t;
+              counted = λ f q. tells .counted q;
+              heartbeat = bare n;
+            } in
+            refused-by (messageAt types (encode g)) (layoutGiven types g) (eqb-false (layoutGiven types g) 0 n) (layout-number types g fits indices a kind pico)
+        go false t n = no (sym n)
 
-        by : RefusedBy (fieldsAt (isDelta (g .header .kind)) (g .header .encoding) types number 0 (encode g) ((start g) + length (countPart g)))
-            (fieldsRefusal (g .header .encoding) types 0 (reached (isRawData g) types (givenFields g)))
-        by =
-            let e = all (isRawData g) in
-            let x = fields-refuse (isDelta (g .header .kind)) (g .header .encoding) types (eqb (g .padding) 0) (givenFields g) number number 0 (g .indices) (le-refl number) indices (tells .plain)
-            (subst (λ (vs : List (List ℕ)). eqb (fieldsRefusal (g .header .encoding) types 0 vs) 0 ≡ false) e r) (encode g) ((start g) + length (countPart g)) there ends in
-            (x .0, x .1 ∙ ap (λ (vs : List (List ℕ)). refused (fieldsRefusal (g .header .encoding) types 0 vs) (x .0)) (sym e))
-
-  body-refused : kindRule (g .header .kind) (g .header .encoding) ≡ 0 → picosecondsRefusal (g .header .picoseconds) ≡ 0 → eqb (bodyRefusal types g) 0 ≡ false → Refused (bodyRefusal types g)
-  body-refused k p r = go (isFielded g) refl
-    where
-      go : (f : Bool) → isFielded g ≡ f → Refused (bodyRefusal types g)
-      go true e =
-          let q : eqb (orElse (configuredRule (isRawData g) (length types)) (fieldsRefusal (g .header .encoding) types 0 (reached (isRawData g) types (givenFields g)))) 0 ≡ false = rw e at r in
-          let b : bodyRefusal types g ≡ orElse (configuredRule (isRawData g) (length types)) (fieldsRefusal (g .header .encoding) types 0 (reached (isRawData g) types (givenFields g))) = rw e in
-          subst Refused (sym b) (or-case Refused (configuredRule (isRawData g) (length types))
-          (fieldsRefusal (g .header .encoding) types 0 (reached (isRawData g) types (givenFields g))) q (configured-refused k p e) (fields-refused k p e))
-      go false e = let q : eqb 0 0 ≡ false = rw e at r in no (sym q)
+    body-refused : eqb (bodyRefusal types g) 0 ≡ false → ReadingRefuses types g (bodyRefusal types g)
+    body-refused r = or-case (ReadingRefuses types g) (ownGiven types g) (cond (wholeGiven types g && listsGiven g) (layoutGiven types g) 0) r own-refused layout-refused
 
 -- The number by which the writer refuses what reading would refuse is reading's number of what would have been written.
 pub refuse-written : (types : List ℕ) (g : GivenMessage) → FitsHeader (g .header) → Numbers (g .indices) → Tellable types g → eqb (messageReadingRefusal types g) 0 ≡ false
     → (place : ℕ) × (messageAt types (encode g) ≡ refused (messageReadingRefusal types g) place)
 refuse-written types g fits indices tells h =
-    or-case (Refused types g fits indices tells) (kindRule (g .header .kind) (g .header .encoding)) (orElse (picosecondsRefusal (g .header .picoseconds)) (bodyRefusal types g)) h
-    (kind-refused types g fits indices tells)
-    (λ k r. or-case (Refused types g fits indices tells) (picosecondsRefusal (g .header .picoseconds)) (bodyRefusal types g) r
-    (picoseconds-refused types g fits indices tells k) (body-refused types g fits indices tells k))
+    or-case (ReadingRefuses types g) (kindRule (g .header .kind) (g .header .encoding)) (orElse (picosecondsRefusal (g .header .picoseconds)) (bodyRefusal types g)) h
+    (kind-refused types g)
+    (λ k r. or-case (ReadingRefuses types g) (picosecondsRefusal (g .header .picoseconds)) (bodyRefusal types g) r
+    (picoseconds-refused types g fits k) (body-refused types g fits indices tells k))

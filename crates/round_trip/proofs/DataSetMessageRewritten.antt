@@ -6,11 +6,11 @@ use mathlib.Core.List.{List, [], _++_}
 use Prim.Native.Nat.{ℕ, _+_, _-_, _≤_, zero, suc, _<_}
 use native.Mathlib.Nat.{zero-add, add-zero}
 use native.Mathlib.Omega.{arith}
-use borrow.Author.Tests.{leb-true, eq-eqb, le-leb, lt-leb}
+use borrow.Author.Tests.{leb-true, eq-eqb, eqb-false, lt-ltb, le-leb, lt-leb}
 use lib.Dec.{eqb, leb}
 use lib.ListN.{length, drop, take, take-append-drop, getD}
 use lib.Seq.{drop-drop}
-use Rattle.wire.specs.Lists.{total}
+use Rattle.plain_value.proofs.Widths.{positive}
 use Rattle.dataset_message.proofs.Agreement.{message-read}
 use Rattle.dataset_fields.specs.declared.fields.Field.{Field}
 use Rattle.dataset_header.specs.declared.flags.Encoding.{Encoding}
@@ -27,7 +27,8 @@ use Rattle.dataset_header.specs.Flags.{Valid, notValid, valid, isDelta, isRaw}
 use Rattle.dataset_header.specs.Header.{messageHeaderAt, messageHeaderBytes}
 use Rattle.dataset_fields.specs.Fields.{fieldsAt, paddingAt, fieldAt, valuesOf, fieldsBytes, zeros, valuesJoined, lengthsOf, andField, walked}
 use Rattle.dataset_message.specs.Message.{Message, countedAt, countAt, endAt, bodyAt, afterHeader, messageAt, fieldPlaceAt}
-use Rattle.dataset_message_writer.specs.Message.{GivenMessage, hasFields, isKey, isFielded, isRawData, givenFields, countBytes, configuredRule, countAgrees, bodyRefusal, bodyAgrees, listsAgree, messageRefusal, encode, messageOutput}
+use Rattle.dataset_message_writer.specs.Message.{GivenMessage, hasFields, isKey, isFielded, isRawData, givenFields, countBytes, countAgrees, wholeGiven, countsGiven, messageRefusal, encode, messageOutput}
+use Rattle.dataset_message_writer.proofs.Whole.{acceptable}
 use Rattle.round_trip.specs.DataSetMessage.{fieldsRead, takenAgain, Rewritten}
 use Rattle.dataset_header.proofs.HeaderTrip.{HeaderBack, header-back}
 use Rattle.dataset_fields.proofs.FieldsTrip.{indicesFor, FieldsTaken, fields-back, zeros-back}
@@ -37,34 +38,35 @@ use Rattle.wire_writer.specs.Fits.{Bytes}
 -- FieldCount, or the configured number, as it was read
 
 counted-back : (raw : Bool) (types s : List ℕ) (at n next : ℕ) → Bytes s → at ≤ length s → countedAt raw types s at ≡ got n next
-    → Back s at (countBytes true raw n) next × (configuredRule raw (length types) ≡ 0) × (countAgrees raw (length types) n ≡ true)
+    → Back s at (countBytes true raw n) next × (countAgrees raw (length types) n ≡ true)
 counted-back true types s at n next bytes l h = go (eqb (length types) 0) refl
   where
-    go : (t : Bool) → eqb (length types) 0 ≡ t → Back s at [] next × (configuredRule true (length types) ≡ 0) × (countAgrees true (length types) n ≡ true)
+    go : (t : Bool) → eqb (length types) 0 ≡ t → Back s at [] next × (countAgrees true (length types) n ≡ true)
     go true t = absurd (not-got (rw t at h))
     go false t =
         let q : got (length types) at ≡ got n next = rw t at h in
-        (subst (λ (e : ℕ). Back s at [] e) (got-next q) (empty s at l), rw t, eq-eqb n (length types) (sym (got-value q)))
+        let v : length types ≡ n = got-value q in
+        let z = eqb-false (length types) 0 t in
+        let p : 0 < n = positive n (λ e. z (v ∙ e)) in
+        (subst (λ (e : ℕ). Back s at [] e) (got-next q) (empty s at l), rw (lt-ltb 0 n p, eq-eqb n (length types) (sym v)))
 counted-back false types s at n next bytes l h =
     let b = item-back 2 s at n next bytes h in
     let u : n ≤ 65535 = let w = b .1 in omega arith in
-    (b .0, refl, le-leb n 65535 u)
+    (b .0, le-leb n 65535 u)
 
 -- what reading the number of fields tells; nothing is left after the header of a heartbeat
 pub record CountBack (kind : Kind) (raw : Bool) (types s : List ℕ) (at n next : ℕ) : Type 0 where
   pub stands : Back s at (countBytes (hasFields kind (leb (length s) at)) raw n) next
-  pub rule : hasFields kind (leb (length s) at) ≡ true → configuredRule raw (length types) ≡ 0
   pub agrees : hasFields kind (leb (length s) at) ≡ true → countAgrees raw (length types) n ≡ true
   pub none : hasFields kind (leb (length s) at) ≡ false → n ≡ 0
   pub ends : hasFields kind (leb (length s) at) ≡ false → isKey kind ≡ true → length s ≤ at
 
 with-fields : (kind : Kind) (raw : Bool) (types s : List ℕ) (at n next : ℕ) → hasFields kind (leb (length s) at) ≡ true
-    → Back s at (countBytes true raw n) next × (configuredRule raw (length types) ≡ 0) × (countAgrees raw (length types) n ≡ true) → CountBack kind raw types s at n next
+    → Back s at (countBytes true raw n) next × (countAgrees raw (length types) n ≡ true) → CountBack kind raw types s at n next
 with-fields kind raw types s at n next e b =
     record {
       stands = rw e (b .0);
-      rule = λ f. b .1;
-      agrees = λ f. b .2;
+      agrees = λ f. b .1;
       none = λ f. no (sym f ∙ e);
       ends = λ f k. no (sym f ∙ e);
     }
@@ -74,7 +76,6 @@ without-fields : (kind : Kind) (raw : Bool) (types s : List ℕ) (at n next : �
 without-fields kind raw types s at n next l e q k =
     record {
       stands = rw e (subst (λ (z : ℕ). Back s at [] z) (got-next q) (empty s at l));
-      rule = λ f. no (sym e ∙ f);
       agrees = λ f. no (sym e ∙ f);
       none = λ f. sym (got-value q);
       ends = λ f x. k x;
@@ -134,13 +135,6 @@ module _ (types s : List ℕ) (h : Header) (n first end : ℕ) (header : HeaderB
   agree : isFielded g ≡ true → countAgrees (isRawData g) (length types) (length (g .lengths)) ≡ true
   agree e = ap (countAgrees (isRawData g) (length types)) (fields .count) ∙ count .agrees e
 
-  body-none : bodyRefusal types g ≡ 0
-  body-none = go (isFielded g) refl
-    where
-      go : (f : Bool) → isFielded g ≡ f → bodyRefusal types g ≡ 0
-      go true e = rw (e, count .rule e, reached-all (isRawData g) types (g .lengths) (g .values) (agree e)) (fields .number)
-      go false e = rw e
-
   -- nothing follows a heartbeat
   unpadded : isFielded g ≡ false → not (isKey (h .kind)) || eqb (g .padding) 0 ≡ true
   unpadded e = go (isKey (h .kind)) refl
@@ -154,22 +148,31 @@ module _ (types s : List ℕ) (h : Header) (n first end : ℕ) (header : HeaderB
           eq-eqb (g .padding) 0 p
       go false k = refl
 
-  body-agrees : bodyAgrees types g ≡ true
-  body-agrees = go (isFielded g) refl
+  whole : wholeGiven types g ≡ true
+  whole = go (isFielded g) refl
     where
-      go : (f : Bool) → isFielded g ≡ f → bodyAgrees types g ≡ true
-      go true e = rw (e, reached-all (isRawData g) types (g .lengths) (g .values) (agree e), fields .whole, agree e)
+      go : (f : Bool) → isFielded g ≡ f → wholeGiven types g ≡ true
+      go true e = rw (e, reached-all (isRawData g) types (g .lengths) (g .values) (agree e)) (fields .whole)
+      go false e = rw e
+
+  counts : countsGiven types g ≡ true
+  counts = go (isFielded g) refl
+    where
+      go : (f : Bool) → isFielded g ≡ f → countsGiven types g ≡ true
+      go true e = rw e (agree e)
       go false e = rw (e, eq-eqb (length (g .lengths)) 0 (fields .count ∙ count .none e), unpadded e)
 
-  lists-agree : listsAgree (isDelta (h .kind)) (g .values) (g .lengths) (g .indices) ≡ true
-  lists-agree =
-      rw (
-        eq-eqb (total (g .lengths)) (length (g .values)) (fields .adds),
-        eq-eqb (length (g .indices)) (cond (isDelta (h .kind)) (length (g .lengths)) 0) (fields .indexed ∙ ap (λ (j : ℕ). cond (isDelta (h .kind)) j 0) (sym (fields .count))),
-      )
-
   none-refused : messageRefusal types g ≡ 0
-  none-refused = rw (header .kind, header .picoseconds, body-none, body-agrees, lists-agree)
+  none-refused =
+      acceptable types g
+      (record {
+        kind = header .kind;
+        picoseconds = header .picoseconds;
+        whole = whole;
+        counts = counts;
+        adds = fields .adds;
+        indexed = fields .indexed ∙ ap (λ (j : ℕ). cond (isDelta (h .kind)) j 0) (sym (fields .count));
+      })
 
   parts-again : Rewritten types s (read h n first end)
   parts-again =

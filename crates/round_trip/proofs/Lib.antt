@@ -1,6 +1,8 @@
 pub mod DataSetMessagePlaces
 pub mod DataSetMessage
 pub mod DataSetMessageRewritten
+pub mod DataSetMessageHeader
+pub mod DataSetMessageNumber
 pub mod DataSetMessageRefused
 pub mod DataSetMessageOtherwise
 pub mod NetworkMessageParts

@@ -3,7 +3,7 @@ use Prim.Native.Nat.{ℕ, _+_, _-_, _<_, zero, suc, _≤_}
 use mathlib.Core.Path.{_≡_}
 use mathlib.Core.Bool.{Bool, cond, true, false, not, _&&_, _||_}
 use mathlib.Core.List.{List, [], _∷_}
-use lib.Dec.{leb, eqb}
+use lib.Dec.{leb, ltb, eqb}
 use lib.ListN.{length, getD}
 use Rattle.value.specs.Value.{Measure}
 use Rattle.wire.specs.Answer.{Answer, got, refused}
@@ -13,7 +13,7 @@ use Rattle.dataset_header.specs.Flags.{valid, isDelta}
 use Rattle.dataset_fields.specs.Fields.{encodedAt, fieldsBytes, walked, valuesJoined, lengthsOf, indicesOf}
 use Rattle.dataset_message.specs.Message.{Message, messageAt, fieldPlaceAt, fieldBytes}
 use Rattle.dataset_header.specs.Header.{messageHeaderBytes}
-use Rattle.dataset_message_writer.specs.Message.{GivenMessage, givenMessage, isKey, isFielded, isRawData, givenFields, countBytes, encode, messageRefusal}
+use Rattle.dataset_message_writer.specs.Message.{GivenMessage, givenMessage, isKey, isFielded, isRawData, givenFields, countBytes, encode, wholeGiven, listsGiven, messageRefusal}
 use Rattle.dataset_message_writer.specs.Rewrite.{again}
 
 -- where the first field of a written message starts, and where its last field ends
@@ -70,12 +70,24 @@ takenAgain types s m =
     (cond (m .cursor .delta) (indicesOf (fieldsRead types s m)) [])
     (length s - m .end)
 
--- Of the first t fields each is whole up to the first that is refused; and where that one is cut short, nothing follows it, since the
--- bytes after it could mend it. `bare` says that no padding follows the fields.
+-- reading refuses by n what would be written
+abbrev pub ReadingRefuses : List ℕ → GivenMessage → ℕ → Type 0
+ReadingRefuses types g n = (place : ℕ) × (messageAt types (encode g) ≡ refused n place)
+
+-- Each field given is one whole value of its encoding and type, and counts and lists agree, so that what would be written is one thing: the
+-- lengths add up, a delta has as many indices as fields, FieldCount holds the number of fields, and nothing is given with a heartbeat.
+pub record PartsAgree (types : List ℕ) (g : GivenMessage) : Type 0 where
+  pub whole : wholeGiven types g ≡ true
+  pub lists : listsGiven g ≡ true
+  pub counted : isFielded g ≡ true → isRawData g ≡ false → length (g .lengths) ≤ 65535
+  pub heartbeat : isFielded g ≡ false → isKey (g .header .kind) ≡ true → (length (g .lengths) ≡ 0) × (g .padding ≡ 0)
+
+-- Of the first t fields each is whole up to the first that is refused, and that one has a byte; where it is cut short, nothing follows it,
+-- since the bytes after it could mend it. `bare` says that no padding follows the fields.
 
 abbrev pub plainlyBy : ℕ → Bool → Bool → Answer Measure → Bool
 plainlyBy n last rest (got m end) = eqb end n && rest
-plainlyBy n last rest (refused number place) = not (eqb number 1) || last
+plainlyBy n last rest (refused number place) = ltb 0 n && (not (eqb number 1) || last)
 
 unfoldable pub plainly : Encoding → List ℕ → Bool → ℕ → ℕ → List (List ℕ) → Bool
 plainly encoding types bare zero k vs = true
@@ -87,10 +99,9 @@ plainly encoding types bare (suc t) k (v ∷ vs) =
 abbrev pub fieldsCounted : Bool → ℕ → ℕ → ℕ
 fieldsCounted raw configured n = cond raw configured n
 
--- What the writer refuses stands where reading finds it: something follows the header of a RawData message, FieldCount holds the
--- number of fields, and a field is refused plainly.
+-- What the writer refuses stands where reading finds it, also where a field is no whole value: FieldCount holds the number of fields, and
+-- a field is refused plainly.
 pub record Tellable (types : List ℕ) (g : GivenMessage) : Type 0 where
-  pub follows : isRawData g ≡ true → 0 < length (fieldsBytes (isDelta (g .header .kind)) (g .indices) (givenFields g)) + g .padding
   pub counted : isRawData g ≡ false → length (g .lengths) ≤ 65535
   pub plain :
       plainly (g .header .encoding) types (eqb (g .padding) 0)

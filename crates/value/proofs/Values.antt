@@ -14,7 +14,7 @@ use Rattle.wire.specs.Answer.{got, Reader, _>>=_, ruled, bit}
 use Rattle.wire.specs.declared.Length.{Length}
 use Rattle.plain_value.specs.Width.{widthOf, fixed}
 use Rattle.plain_value.specs.Parts.{parts}
-use Rattle.plain_value.specs.Plain.{passing, bytes, afterLength, byLength, string, plain, plainValue, plainValues}
+use Rattle.plain_value.specs.Plain.{passing, bytes, afterLength, byLength, string, lengthFirst, plain, plainValue, plainValues}
 use Rattle.value.specs.Value.{Measure, measure, typeOf, isArray, variantRule, scalar, elements, array, variantOf, maskRule, dataValueOf, tooDeep, valueAt, rawAt}
 use Rattle.value.specs.declared.Shape.{Shape}
 use Rattle.wire.proofs.Places.{end-of, after}
@@ -40,7 +40,7 @@ string-steady = by-length-steady (pure-steady tt) bytes-steady
 
 plain-value-steady : (t : ℕ) → Steady (plainValue t)
 unfolding plainValue
-plain-value-steady t = cond-steady (fixed t) (bytes-steady (widthOf t)) string-steady
+plain-value-steady t = cond-steady (fixed t) (bytes-steady (widthOf t)) (cond-steady (lengthFirst t) string-steady (refuse-steady 4 (omega arith)))
 
 plain-values-steady : (t n : ℕ) → Steady (plainValues t n)
 unfolding plainValues

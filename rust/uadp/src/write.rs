@@ -156,7 +156,8 @@ impl<'a> MessageBuilder<'a> {
     /// # Errors
     ///
     /// At place 0, in this order:
-    /// - what reading the message would refuse, by the same number, a field that is not one whole value among them;
+    /// - what reading the message would refuse, by the same number: a field that is not one whole value; in RawData fewer fields than
+    ///   configured without the padding for the others, bytes other than 0 past the configured fields; such bytes of a keep alive;
     /// - [`Disagree`](Reason::Disagree) for what would read back otherwise: bytes behind a field's value, fields of a heartbeat or a
     ///   keep alive, padding of a heartbeat, more or fewer fields than configured or than indices, indices of another kind;
     /// - [`OverLimit`](Reason::OverLimit) above 65,535 bytes;

@@ -189,7 +189,7 @@ impl OwnedMessageParts {
 
     fn make_wrong(&mut self, random: &mut Random) {
         let count = self.lengths.len();
-        match random.below(16) {
+        match random.below(20) {
             0 if count > 0 => {
                 let k = random.below(count);
                 self.lengths[k] = random.pick(&[0, 1, self.lengths[k] + 1, self.lengths[k].saturating_sub(1), usize::MAX]);
@@ -235,7 +235,37 @@ impl OwnedMessageParts {
                 let i = random.within(3, 9);
                 self.numbers[i] = random.edge();
             }
+            15 => self.lose_field(random),
+            16 => {
+                // A field more, of zeros or not.
+                let bytes = if random.one_in(2) { vec![0; random.below(5)] } else { random.bytes(3) };
+                self.lengths.push(bytes.len());
+                self.values.extend(bytes);
+            }
+            17 => {
+                // A keep alive with fields, of zeros or not.
+                self.numbers[2] = 3;
+                self.indices.clear();
+                if random.one_in(2) {
+                    self.values.fill(0);
+                }
+            }
+            18 => {
+                // RawData with padding alone, or with nothing.
+                (self.numbers[1], self.numbers[2], self.heartbeat) = (1, 0, 0);
+                (self.values, self.lengths, self.indices) = Default::default();
+                self.padding = random.pick(&[0, 0, 1, 2, 4, 40, 1000]);
+            }
             _ => self.heartbeat = 1,
+        }
+    }
+
+    /// The last field is missing, and padding may stand in its place.
+    fn lose_field(&mut self, random: &mut Random) {
+        if let Some(length) = self.lengths.pop() {
+            self.values.truncate(self.values.len().saturating_sub(length));
+            self.indices.pop();
+            self.padding = random.pick(&[0, 1, length.saturating_sub(1) as u64, length as u64, length.saturating_add(1) as u64]);
         }
     }
 }
@@ -252,7 +282,7 @@ pub fn write_message(tally: &mut Tally, random: &mut Random) {
     (0..wrongs).for_each(|_| owned.make_wrong(random));
     let writer = match random.below(20) {
         0 => u32::from(generate::writer_id(random, &config)),
-        1 => record::NO_WRITER + random.below(3) as u32,
+        1 | 2 => record::NO_WRITER + random.below(3) as u32,
         _ => id.into(),
     };
     let config = Config::parse(&config.text()).expect("made valid");

@@ -157,8 +157,8 @@ pub fn field_value(reader: &mut Reader, encoding: Encoding, kind: Option<u8>) ->
             Ok(Value { kind: DATA_VALUE, shape: Shape::Scalar })
         }
         Encoding::RawData => {
-            // Only a made-up cursor or configuration leads to a field without a fixed type.
-            let kind = kind.unwrap_or(0);
+            // Only a made-up cursor or configuration leads to a field without a type, or without a fixed one.
+            let kind = kind.ok_or(Number::NotConfigured.nowhere())?;
             let width = width(kind).ok_or(Number::NotTaken.at(reader.position()))?;
             reader.take(width)?;
             Ok(Value { kind, shape: Shape::Scalar })

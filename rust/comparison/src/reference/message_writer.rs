@@ -19,19 +19,34 @@ pub struct Parts<'a> {
 
 const DISAGREE: Refusal = Number::Disagree.nowhere();
 
+/// Padding above this is read as this much of it is: 64 configured fields have at most 1,024 bytes.
+const PADDING_READ: usize = 2_000;
+
 /// Writes a message from parts; the number of bytes written.
 pub fn write(parts: &Parts, types: &[u8], out: &mut [u8]) -> Result<usize> {
-    read_back(parts, types).map_err(|refusal| refusal.number.nowhere())?;
-    if reads_back_otherwise(parts, types) {
-        return Err(DISAGREE);
-    }
-    let header = &parts.header;
-    let counted = has_fields(parts) && header.encoding != Encoding::RawData;
-    let length = header_length(header) + if counted { 2 } else { 0 } + parts.values.len() + 2 * parts.indices.len();
+    refuse_parts(parts, types)?;
+    refuse_read_back(parts, types)?;
     let padding = usize::try_from(parts.padding).unwrap_or(usize::MAX);
-    let mut writer = Writer::of_length(out, length.saturating_add(padding))?;
-    put_header(&mut writer, header);
-    if counted {
+    let mut writer = Writer::of_length(out, length(parts).saturating_add(padding))?;
+    put(&mut writer, parts);
+    writer.put_zeros(padding);
+    Ok(writer.written())
+}
+
+/// Whether FieldCount is written.
+fn is_counted(parts: &Parts) -> bool {
+    has_fields(parts) && parts.header.encoding != Encoding::RawData
+}
+
+/// How many bytes are written before the padding.
+fn length(parts: &Parts) -> usize {
+    header_length(&parts.header) + if is_counted(parts) { 2 } else { 0 } + parts.values.len() + 2 * parts.indices.len()
+}
+
+/// Everything but the padding.
+fn put(writer: &mut Writer, parts: &Parts) {
+    put_header(writer, &parts.header);
+    if is_counted(parts) {
         writer.put(&(parts.lengths.len() as u16).to_le_bytes());
     }
     let mut indices = parts.indices.iter();
@@ -41,8 +56,6 @@ pub fn write(parts: &Parts, types: &[u8], out: &mut [u8]) -> Result<usize> {
         }
         writer.put(value);
     }
-    writer.put_zeros(padding);
-    Ok(writer.written())
 }
 
 /// Writes an accepted message again; one that is not valid is 6. A writer's place is 0.
@@ -73,49 +86,61 @@ fn values<'a>(parts: &Parts<'a>) -> impl Iterator<Item = &'a [u8]> {
     })
 }
 
-/// What reading would refuse, in reading order.
-fn read_back(parts: &Parts, types: &[u8]) -> Result<()> {
+/// The fields with their configured types; in RawData those that have one.
+fn typed<'a>(parts: &Parts<'a>, types: &'a [u8]) -> impl Iterator<Item = (&'a [u8], Option<u8>)> {
+    let raw = parts.header.encoding == Encoding::RawData;
+    let count = if raw { types.len() } else { usize::MAX };
+    values(parts).take(count).enumerate().map(move |(k, value)| (value, types.get(k).copied()))
+}
+
+/// What is refused of the parts one by one: the header's rules, each field measured alone, then 6 where a field is no whole value, lists
+/// disagree, FieldCount does not hold the number of fields, or something is given with a heartbeat.
+fn refuse_parts(parts: &Parts, types: &[u8]) -> Result<()> {
     let header = &parts.header;
     kind_taken(header.kind, header.encoding).map_err(Number::nowhere)?;
     if header.picoseconds.is_some_and(|picoseconds| picoseconds >= PICOSECONDS_END) {
         return Err(Number::NotPermitted.nowhere());
     }
-    if !has_fields(parts) {
-        return Ok(());
-    }
-    if header.encoding == Encoding::RawData {
-        if types.is_empty() {
-            return Err(Number::NotConfigured.nowhere());
+    let mut whole = true;
+    if has_fields(parts) {
+        for (value, kind) in typed(parts, types) {
+            whole &= measure(value, header.encoding, kind)? == value.len();
         }
-        return values(parts).zip(types).try_for_each(|(value, kind)| measure(value, Encoding::RawData, Some(*kind)).map(drop));
     }
-    values(parts).try_for_each(|value| measure(value, header.encoding, None).map(drop))
+    let count = parts.lengths.len();
+    let sum = parts.lengths.iter().try_fold(0_usize, |sum, length| sum.checked_add(*length));
+    let indices = if header.kind == Kind::Delta { count } else { 0 };
+    let lists = sum == Some(parts.values.len()) && parts.indices.len() == indices;
+    let counted = !is_counted(parts) || count <= usize::from(u16::MAX);
+    let bare = !is_heartbeat(parts) || (count == 0 && parts.padding == 0);
+    if whole && lists && counted && bare {
+        Ok(())
+    } else {
+        Err(DISAGREE)
+    }
+}
+
+/// Reads what would be written: reading's number, and 6 where it reads back otherwise.
+fn refuse_read_back(parts: &Parts, types: &[u8]) -> Result<()> {
+    let padding = usize::try_from(parts.padding).unwrap_or(usize::MAX).min(PADDING_READ);
+    let mut bytes = vec![0; length(parts) + padding];
+    put(&mut Writer::over(&mut bytes), parts);
+    let read = message::read(&bytes, types).map_err(|refusal| refusal.number.nowhere())?.ok_or(DISAGREE)?;
+    let key = parts.header.kind == Kind::Key;
+    let same_fields = read.fields.count == parts.lengths.len()
+        && read.walk(&bytes, types).zip(values(parts)).all(|(field, value)| &bytes[field.offset..][..field.length] == value);
+    if same_fields && bytes.len() - read.end == padding && (!key || read.heartbeat == parts.heartbeat) {
+        Ok(())
+    } else {
+        Err(DISAGREE)
+    }
 }
 
 /// How long the value at the start of these bytes is.
 fn measure(value: &[u8], encoding: Encoding, kind: Option<u8>) -> Result<usize> {
     let mut reader = Reader::new(value);
-    field_value(&mut reader, encoding, kind)?;
+    field_value(&mut reader, encoding, kind).map_err(|refusal| refusal.number.nowhere())?;
     Ok(reader.position())
-}
-
-/// Parts that would be accepted but read as others.
-fn reads_back_otherwise(parts: &Parts, types: &[u8]) -> bool {
-    let Header { encoding, kind, .. } = parts.header;
-    let count = parts.lengths.len();
-    let sum = parts.lengths.iter().try_fold(0_usize, |sum, length| sum.checked_add(*length));
-    if sum != Some(parts.values.len()) || parts.indices.len() != if kind == Kind::Delta { count } else { 0 } {
-        return true;
-    }
-    if !has_fields(parts) {
-        return count > 0 || (is_heartbeat(parts) && parts.padding > 0);
-    }
-    if encoding == Encoding::RawData {
-        count != types.len()
-            || values(parts).zip(types).any(|(value, kind)| measure(value, encoding, Some(*kind)) != Ok(value.len()))
-    } else {
-        count > usize::from(u16::MAX) || values(parts).any(|value| measure(value, encoding, None) != Ok(value.len()))
-    }
 }
 
 fn flags2(header: &Header) -> u8 {

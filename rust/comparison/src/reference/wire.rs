@@ -113,6 +113,11 @@ impl<'a> Writer<'a> {
         Ok(Self { buffer, at: 0 })
     }
 
+    /// A writer of the whole buffer.
+    pub fn over(buffer: &'a mut [u8]) -> Self {
+        Self { buffer, at: 0 }
+    }
+
     pub fn put(&mut self, bytes: &[u8]) {
         self.buffer[self.at..][..bytes.len()].copy_from_slice(bytes);
         self.at += bytes.len();

@@ -8,8 +8,6 @@ use denote.Ref.{now}
 use borrow.Author.Needs.{needs}
 use Rattle.wire.specs.Items.{answerReached}
 use Rattle.wire.proofs.Reading.{told}
-use Rattle.plain_value.specs.Plain.{passing}
-use Rattle.value.specs.Value.{rawAt}
 use Rattle.dataset_fields.specs.Fields.{fieldsAt}
 use Rattle.dataset_header.specs.declared.flags.Encoding.{Encoding}
 use Rattle.dataset_fields.proofs.Walks.{fields-done, raw-step, raw-stop}
@@ -32,23 +30,21 @@ loop-holds c =
 returns : tie.Need-returns Inv-loop μ-loop
 returns c =
     let at-number = c .before in
-    let at-pass-element = at-number .before .before in
-    let at-type-of = at-pass-element .before in
-    let at-loop-test = at-type-of .before in
+    let at-pass-configured = at-number .before .before in
+    let at-loop-test = at-pass-configured .before in
     let at-loop = at-loop-test .before in
     let args = at-loop .before .before .before .args in
     let a = args in
     let l = at-loop .loop in
     let some : 0 < a .count - l .k = omega (arith, at-loop-test .loop-test .taken) in
     sym (l .inv .0 ∙ raw-stop (now (a .types)) (now (a .s)) (a .count - l .k) (l .k) (l .p) some
-    (ap (λ t. passing (rawAt t) (now (a .s)) (l .p)) (sym (at-type-of .type-of .ensures)) ∙ sym (told answerReached (at-pass-element .pass-element .ensures) (at-number .number .given .1))))
+    (sym (told answerReached (at-pass-configured .pass-configured .ensures) (at-number .number .given .1))))
 
 loop-again : tie.Need-loop-again Inv-loop μ-loop
 loop-again c =
     let at-end = c .before in
-    let at-pass-element = at-end .before .before in
-    let at-type-of = at-pass-element .before in
-    let at-loop-test = at-type-of .before in
+    let at-pass-configured = at-end .before .before in
+    let at-loop-test = at-pass-configured .before in
     let at-loop = at-loop-test .before in
     let args = at-loop .before .before .before .args in
     let a = args in
@@ -57,7 +53,7 @@ loop-again c =
     let some : 0 < a .count - l .k = omega arith in
     let e : a .count - l .k - 1 ≡ a .count - (l .k + 1) = omega arith in (
       l .inv .0 ∙ raw-step (now (a .types)) (now (a .s)) (a .count - l .k) (l .k) (l .p) some
-          (ap (λ t. passing (rawAt t) (now (a .s)) (l .p)) (sym (at-type-of .type-of .ensures)) ∙ sym (told answerReached (at-pass-element .pass-element .ensures) (at-end .end .given .1)))
+          (sym (told answerReached (at-pass-configured .pass-configured .ensures) (at-end .end .given .1)))
           ∙ ap (λ (n : ℕ). fieldsAt false Encoding.RawData (now (a .types)) n (l .k + 1) (now (a .s)) (at-end .end .given .0 .0)) e,
       omega arith,
     )
@@ -78,7 +74,6 @@ pass-raw-spec =
     Inv-loop
     μ-loop
     loop-holds
-    (λ c κs. search needs)
     (λ c κs. search needs)
     (λ c. search needs)
     returns
