@@ -105,8 +105,8 @@ fn lists_agree(delta: bool, values: &[u8], lengths: &[usize], indices: &[u16]) -
     up & (indices.len() == 0)
 }
 
-// The number by which a message is refused, 0 where it is not.
-fn refusal(
+// The number by which `write` refuses these parts before it looks at the room, or 0.
+pub fn refusal(
     header: Header,
     heartbeat: bool,
     values: &[u8],

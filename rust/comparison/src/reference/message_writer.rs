@@ -15,6 +15,8 @@ pub struct Parts<'a> {
     /// A delta's indices.
     pub indices: &'a [u16],
     pub padding: u64,
+    /// Each number that the caller handed over fits its item; one that does not stands here as the largest that does.
+    pub all_fit: bool,
 }
 
 const DISAGREE: Refusal = Number::Disagree.nowhere();
@@ -22,7 +24,7 @@ const DISAGREE: Refusal = Number::Disagree.nowhere();
 /// Writes a message from parts; the number of bytes written.
 pub fn write(parts: &Parts, types: &[u8], out: &mut [u8]) -> Result<usize> {
     read_back(parts, types).map_err(|refusal| refusal.number.nowhere())?;
-    if reads_back_otherwise(parts, types) {
+    if !parts.all_fit || reads_back_otherwise(parts, types) {
         return Err(DISAGREE);
     }
     let header = &parts.header;
