@@ -33,10 +33,11 @@ payload-refusal-spec =
     (λ c. search needs)
     (λ c κs. search needs)
     (λ c. search needs)
-    (λ c κs. search needs)
     returns
     (λ c κs. search needs)
-    (λ c. search needs)
     returns-2
+    (λ c κs. search needs)
+    (λ c. search needs)
     returns-3
+    returns-4
     (λ c. search needs))
