@@ -139,13 +139,7 @@ fn header_refusal(x: Envelope, text: usize, configured: usize, payload: u8) -> u
     )
 }
 
-fn reading_refusal(
-    x: Envelope,
-    text: &[u8],
-    lengths: &[u8],
-    messages: &[u8],
-    sizes: &[u16],
-) -> u8
+fn reading_refusal(x: Envelope, text: &[u8], lengths: &[u8], messages: &[u8], sizes: &[u16]) -> u8
     ensures { λ r.
         let refusal = payloadRefusal (x .chunk) (x .«payload_header») (now (sizes .entry)) in
         let payload = refusal (now (lengths .entry)) (now (messages .entry)) in
@@ -267,9 +261,7 @@ pub fn write(
         let output = datagramOutput g x (now (sizes .entry)) (now (configured .entry)) in
         ⌜ Writes output (now (out .entry)) (now (out .exit)) r ⌝ }
 {
-    let number = refusal(
-        x, text, ids, promoted, lengths, messages, sizes, configured,
-    );
+    let number = refusal(x, text, ids, promoted, lengths, messages, sizes, configured);
     if number != 0 {
         return Written::Refused(number);
     }

@@ -153,7 +153,8 @@ payload-whole (PayloadHeader.Ids n) s at sizes = go (leb n 1)
     go false = ap (λ (l : List ℕ). take (2 * n) (drop at s) ++ l) (sym (drop-drop (2 * n) at s)) ∙ take-append-drop (2 * n) (drop at s)
 payload-whole (PayloadHeader.Chunk w) s at sizes = refl
 
-many-lengths : (x : PayloadHeader) (chunk : Bool) (sizes s : List ℕ) (at : ℕ) (p : Payload) (next : ℕ) → Counted chunk x → payloadAt chunk x sizes s at ≡ got p next → AsManyLengths x (lengthsGiven s x at sizes)
+many-lengths : (x : PayloadHeader) (chunk : Bool) (sizes s : List ℕ) (at : ℕ) (p : Payload) (next : ℕ) → Counted chunk x → payloadAt chunk x sizes s at ≡ got p next
+    → AsManyLengths x (lengthsGiven s x at sizes)
 many-lengths PayloadHeader.Absent chunk sizes s at p next c h = tt
 many-lengths (PayloadHeader.Ids n) chunk sizes s at p next c h =
     λ e.

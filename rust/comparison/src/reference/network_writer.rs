@@ -132,7 +132,8 @@ fn payload_read_back(parts: &Parts, config: &Config) -> Result<()> {
 /// Parts that would be accepted but read as others.
 fn reads_back_otherwise(parts: &Parts, config: &Config) -> bool {
     let string_disagrees = matches!(parts.publisher, Some(PublisherId::String(id)) if id.len() as u64 != parts.string_length);
-    let promoted_disagrees = parts.promoted.is_some_and(|promoted| promoted.len() as u64 != parts.promoted_size || promoted.len() > 65_535);
+    let promoted_disagrees =
+        parts.promoted.is_some_and(|promoted| promoted.len() as u64 != parts.promoted_size || promoted.len() > 65_535);
     !parts.all_fit
         || string_disagrees
         || promoted_disagrees

@@ -3,7 +3,6 @@
 use borrow.Author.Tests.{lt-ltb, le-ltb}
 use native.Mathlib.Omega.{arith}
 use mathlib.Core.Path.{refl}
-use borrow.Author.Needs.{needs}
 use Rattle.records.proofs.items.at_most.Statement.{statement}
 use Rattle.records.proofs.items.at_most.Tie as tie
 
