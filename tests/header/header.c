@@ -211,6 +211,72 @@ static void forms_of_a_datagram(void)
     CHECK(done(uadp_write(&d, NULL, out, sizeof out), sizeof chunk) && memcmp(out, chunk, sizeof chunk) == 0);
 }
 
+/* A number that does not fit its item is 6, after reading's numbers; the largest that fits is written. */
+static void numbers_that_do_not_fit(void)
+{
+    const uint8_t message[] = {1};
+    const uint16_t id = 21;
+    uint16_t many[257];
+    uint16_t lengths[257];
+    uint8_t messages[257];
+    uint8_t out[2000];
+    uadp_datagram_parts d = UADP_ZERO;
+    uadp_message_parts m = UADP_ZERO;
+    size_t k;
+
+    d.envelope.payload_header = UADP_HEADER_IDS;
+    d.envelope.group = UADP_GROUP_PRESENT | UADP_GROUP_SEQUENCE;
+    d.ids = &id;
+    d.id_count = 1;
+    d.messages = message;
+    d.messages_length = sizeof message;
+    d.envelope.sequence = 65535;
+    CHECK(done(uadp_write(&d, NULL, out, sizeof out), 8) && out[2] == 0xFF && out[3] == 0xFF);
+    d.envelope.sequence = 65536;
+    CHECK(refused(uadp_write(&d, NULL, out, sizeof out), UADP_DISAGREE, 0));
+    d.envelope.group = UADP_GROUP_PRESENT | UADP_GROUP_MESSAGE_NUMBER;
+    d.envelope.message_number = 65536;
+    CHECK(refused(uadp_write(&d, NULL, out, sizeof out), UADP_DISAGREE, 0));
+    d.envelope.message_number = 0;
+    CHECK(refused(uadp_write(&d, NULL, out, sizeof out), UADP_NOT_PERMITTED, 0));
+    d.envelope.group = 0;
+    d.envelope.publisher_type = UADP_ID_BYTE;
+    d.envelope.publisher = 300;
+    CHECK(refused(uadp_write(&d, NULL, out, sizeof out), UADP_DISAGREE, 0));
+    d.envelope.has_timestamp = 1;
+    d.envelope.has_picoseconds = 1;
+    d.envelope.picoseconds = 70000;
+    CHECK(refused(uadp_write(&d, NULL, out, sizeof out), UADP_NOT_PERMITTED, 0));
+    d.envelope.picoseconds = 9999;
+    d.envelope.publisher = 255;
+    CHECK(done(uadp_write(&d, NULL, out, sizeof out), 17));
+
+    for (k = 0; k < 257; k++) {
+        many[k] = 21;
+        lengths[k] = 1;
+        messages[k] = 1;
+    }
+    d.ids = many;
+    d.lengths = lengths;
+    d.messages = messages;
+    d.id_count = d.length_count = d.messages_length = 255;
+    CHECK(done(uadp_write(&d, NULL, out, sizeof out), 14 + 255 * 5));
+    d.id_count = d.length_count = d.messages_length = 256;
+    CHECK(refused(uadp_write(&d, NULL, out, sizeof out), UADP_DISAGREE, 0));
+    d.envelope.picoseconds = 10000;
+    CHECK(refused(uadp_write(&d, NULL, out, sizeof out), UADP_NOT_PERMITTED, 0));
+
+    m.heartbeat = 1;
+    m.head.items = UADP_ITEM_SEQUENCE;
+    m.head.sequence = 65535;
+    CHECK(done(uadp_write_message(&m, NULL, UADP_NO_WRITER, out, sizeof out), 3));
+    m.head.sequence = 70000;
+    CHECK(refused(uadp_write_message(&m, NULL, UADP_NO_WRITER, out, sizeof out), UADP_DISAGREE, 0));
+    m.head.items |= UADP_ITEM_PICOSECONDS;
+    m.head.picoseconds = 70000;
+    CHECK(refused(uadp_write_message(&m, NULL, UADP_NO_WRITER, out, sizeof out), UADP_NOT_PERMITTED, 0));
+}
+
 /* A message cut, taken in by two partials in another order, combined and handed out. */
 static void reassembled(void)
 {
@@ -395,6 +461,7 @@ static void *others(void *unused)
     configuration_by_name();
     written_from_parts();
     forms_of_a_datagram();
+    numbers_that_do_not_fit();
     reassembled();
     newness();
     passed = before;
@@ -458,6 +525,7 @@ int main(int argc, char **argv)
     configuration_by_name();
     written_from_parts();
     forms_of_a_datagram();
+    numbers_that_do_not_fit();
     reassembled();
     newness();
     words_and_version();

@@ -29,10 +29,10 @@ use Rattle.dataset_message_writer.specs.Message as M
 use Rattle.rewriting.specs.Same.{messageSame}
 use Rattle.wire_writer.specs.Writing.{Writes, refusing}
 use Rattle.wire_writer.specs.declared.writing.Written.{Written}
-use Rattle.round_trip.specs.NetworkMessage.{AsManyLengths, givenLengths, messageGiven, rewritten, FitsEnvelope, ReadsBack, WritesAgain}
+use Rattle.round_trip.specs.NetworkMessage.{CountsAgree, PartsAgree, givenLengths, messageGiven, rewritten, FitsEnvelope, ReadsBack, WritesAgain}
 use Rattle.round_trip.specs.DataSetMessage.{MessageBack, Tellable}
 use Rattle.dataset_header.specs.Header.{FitsHeader}
-use Rattle.round_trip.proofs.NetworkMessageRoundTrip.{reads-back, writes-again, refuses-alike}
+use Rattle.round_trip.proofs.NetworkMessageRoundTrip.{reads-back, writes-again, reading-number-first, refuses-alike, accepts-exactly}
 use Rattle.round_trip.proofs.NetworkMessageRewritten as NetworkMessage
 use Rattle.round_trip.proofs.DataSetMessage as DataSetMessage
 use Rattle.rewriting.proofs.Copied as Copied
@@ -123,13 +123,22 @@ message-written-again types s entry = Copied.same-bytes types s entry
 
 -- ---- 3. The writers' refusals by a reading rule are reading's refusals of what would have been written, by the same number.
 
--- Of a NetworkMessage whose parts are as its envelope says.
-pub datagram-refused-alike : (g : N.GivenDatagram) (x : Envelope) (sizes configured : List ℕ) → FitsEnvelope x
-    → AsManyLengths (x .«payload_header») (g .lengths) → N.shapeRefusal g x sizes configured ≡ 0 → length (N.datagramOf g x) ≤ 65535
-    → eqb (N.datagramReadingRefusal g x sizes) 0 ≡ false
-    → (N.datagramOutput g x sizes configured ≡ refusing (N.datagramReadingRefusal g x sizes))
-    × ((place : ℕ) × (networkMessageAt sizes (N.datagramOf g x) ≡ refused (N.datagramReadingRefusal g x sizes) place))
+-- Of a NetworkMessage: the number is reading's first.
+pub datagram-reading-first : (g : N.GivenDatagram) (x : Envelope) (sizes configured : List ℕ) → eqb (N.datagramReadingRefusal g x sizes) 0 ≡ false
+    → N.datagramOutput g x sizes configured ≡ refusing (N.datagramReadingRefusal g x sizes)
+datagram-reading-first = reading-number-first
+
+-- And it is the number of reading what would be written, where that is one thing (`CountsAgree`).
+pub datagram-refused-alike : (g : N.GivenDatagram) (x : Envelope) (sizes : List ℕ) → FitsEnvelope x → CountsAgree g x
+    → length (N.datagramOf g x) ≤ 65535 → eqb (N.datagramReadingRefusal g x sizes) 0 ≡ false
+    → (place : ℕ) × (networkMessageAt sizes (N.datagramOf g x) ≡ refused (N.datagramReadingRefusal g x sizes) place)
 datagram-refused-alike = refuses-alike
+
+-- Of parts that agree with their envelope (`PartsAgree`) the writer accepts those, and only those, that read back as they were given.
+pub datagram-accepted-exactly : (g : N.GivenDatagram) (x : Envelope) (sizes configured : List ℕ) → FitsEnvelope x → PartsAgree g x sizes configured
+    → (N.datagramRefusal g x sizes configured ≡ 0 → length (N.datagramOf g x) ≤ 65535 → ReadsBack g x sizes configured)
+    × (ReadsBack g x sizes configured → N.datagramRefusal g x sizes configured ≡ 0)
+datagram-accepted-exactly = accepts-exactly
 
 -- Of a DataSetMessage in which what is refused stands where reading finds it (`Tellable`).
 pub message-refused-alike : (types : List ℕ) (m : M.GivenMessage) → FitsHeader (m .header) → Numbers (m .indices) → Tellable types m

@@ -65,7 +65,8 @@ publisher-lawful on kind =
     (cond-lawful (eqb kind 0) (bind-lawful (item-lawful 1) (λ v. pure-lawful _))
     (cond-lawful (eqb kind 1) (bind-lawful (item-lawful 2) (λ v. pure-lawful _))
     (cond-lawful (eqb kind 2) (bind-lawful (item-lawful 4) (λ v. pure-lawful _))
-    (cond-lawful (eqb kind 3) (bind-lawful (item-lawful 8) (λ v. pure-lawful _)) string-lawful))))
+    (cond-lawful (eqb kind 3) (bind-lawful (item-lawful 8) (λ v. pure-lawful _))
+    (cond-lawful (eqb kind 4) string-lawful (record { tells = λ s at h. refuses (at-item n3 h) }))))))
 
 class-lawful : (on : Bool) → Lawful datagramOthers (classAt on)
 class-lawful on = when-lawful on _ (bind-lawful guid-lawful (λ v. pure-lawful _))
@@ -139,7 +140,10 @@ configured-lawful sizes =
 payload-lawful : (chunk : Bool) (p : PayloadHeader) (sizes : List ℕ) → Lawful datagramOthers (payloadAt chunk p sizes)
 payload-lawful chunk PayloadHeader.Absent sizes =
     record { tells = λ s at h. cond-tells chunk (refuses (no-place 8 refl)) (configured-lawful (configuredSizes sizes) .tells s at h) }
-payload-lawful chunk (PayloadHeader.Ids n) sizes = record { tells = λ s at h. cond-tells (leb n 1) (rest-lawful .tells s at h) (listed-lawful n .tells s at h) }
+payload-lawful chunk (PayloadHeader.Ids n) sizes =
+    record {
+      tells = λ s at h. cond-tells (eqb n 0) (refuses (at-item (number 6 refl) h)) (cond-tells (leb n 1) (rest-lawful .tells s at h) (listed-lawful n .tells s at h));
+    }
 payload-lawful chunk (PayloadHeader.Chunk w) sizes = record { tells = λ s at h. gives h }
 
 body-lawful : (f : Flags) (sizes : List ℕ) → Lawful datagramOthers (envelopeBodyAt f sizes)

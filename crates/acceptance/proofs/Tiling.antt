@@ -85,7 +85,7 @@ header-first chunk PayloadHeader.Absent sizes s at =
     (cond-first (eqb (length (configuredSizes sizes)) 0) _ _ tt
     (cond-first (allPositive (configuredSizes sizes)) _ _ (cond-first (eqb (at + total (configuredSizes sizes)) (length s)) _ _ refl tt)
     (cond-first (eqb (length (configuredSizes sizes)) 1) _ _ (rest-first s at) tt)))
-header-first chunk (PayloadHeader.Ids n) sizes s at = cond-first (leb n 1) _ _ (rest-first s at) (listed-first n s at)
+header-first chunk (PayloadHeader.Ids n) sizes s at = cond-first (eqb n 0) _ _ tt (cond-first (leb n 1) _ _ (rest-first s at) (listed-first n s at))
 header-first chunk (PayloadHeader.Chunk w) sizes s at = refl
 
 pub payload-first : (sizes s : List ℕ) (m : NetworkMessage) (n : ℕ) → networkMessageAt sizes s ≡ got m n → m .payload .first ≡ n

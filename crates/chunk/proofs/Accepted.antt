@@ -9,7 +9,7 @@ use lib.Dec.{leb, ltb, eqb}
 use lib.ListN.{length, drop, length-drop}
 use lib.Seq.{length-take-le}
 use borrow.Author.Tests.{leb-false, ltb-false, eqb-true, eqb-false}
-use Rattle.wire.specs.Answer.{got, refused, Reader, item, run, here, pure, andThen, _>>=_, _>>_}
+use Rattle.wire.specs.Answer.{got, refused, Reader, item, run, refuse, here, pure, andThen, _>>=_, _>>_}
 use Rattle.wire.specs.Items.{lengthItem}
 use Rattle.wire.specs.declared.Length.{Length}
 use Rattle.wire.proofs.Reading.{got-value, not-got, invert}
@@ -86,16 +86,18 @@ number-small w f z = gives-next (item w) (λ v. gives-pure (f v) (λ s. omega (a
 
 publisher-small : (on : Bool) (kind : ℕ) → Gives Small (publisherAt on kind)
 publisher-small false kind = gives-pure PublisherId.Absent (λ s. omega arith)
-publisher-small true kind = go (eqb kind 0) (eqb kind 1) (eqb kind 2) (eqb kind 3)
+publisher-small true kind = go (eqb kind 0) (eqb kind 1) (eqb kind 2) (eqb kind 3) (eqb kind 4)
   where
-    go : (a b c d : Bool) → Gives Small
+    go : (a b c d e : Bool) → Gives Small
         (cond a (item 1 >>= λ v. pure (PublisherId.Byte v))
-        (cond b (item 2 >>= λ v. pure (PublisherId.UInt16 v)) (cond c (item 4 >>= λ v. pure (PublisherId.UInt32 v)) (cond d (item 8 >>= λ v. pure (PublisherId.UInt64 v)) stringAt))))
-    go true b c d = number-small 1 PublisherId.Byte (λ v. refl)
-    go false true c d = number-small 2 PublisherId.UInt16 (λ v. refl)
-    go false false true d = number-small 4 PublisherId.UInt32 (λ v. refl)
-    go false false false true = number-small 8 PublisherId.UInt64 (λ v. refl)
-    go false false false false = at-small
+        (cond b (item 2 >>= λ v. pure (PublisherId.UInt16 v))
+        (cond c (item 4 >>= λ v. pure (PublisherId.UInt32 v)) (cond d (item 8 >>= λ v. pure (PublisherId.UInt64 v)) (cond e stringAt (refuse 3))))))
+    go true b c d e = number-small 1 PublisherId.Byte (λ v. refl)
+    go false true c d e = number-small 2 PublisherId.UInt16 (λ v. refl)
+    go false false true d e = number-small 4 PublisherId.UInt32 (λ v. refl)
+    go false false false true e = number-small 8 PublisherId.UInt64 (λ v. refl)
+    go false false false false true = at-small
+    go false false false false false = record { told = λ s at v n q. absurd (not-got q) }
 
 identity-small : (f : Flags) → Gives (λ s i. Small s (i .publisher)) (identityAt f)
 identity-small f =

@@ -187,9 +187,9 @@ fn counts_agree(
     (n == 0) & (!key | (padding == 0))
 }
 
-// The number by which a message is refused, 0 where it is not. What is read of the fields' layout is judged last: where each is whole and
-// the lists agree.
-fn refusal(
+// The number by which `write` refuses these parts before it looks at the room, or 0. What is read of the fields' layout is judged last:
+// where each is whole and the lists agree.
+pub fn refusal(
     header: Header,
     heartbeat: bool,
     values: &[u8],

@@ -12,7 +12,7 @@ use Rattle.network_header.specs.declared.header.ClassId.{ClassId}
 use Rattle.network_header.specs.declared.header.PayloadHeader.{PayloadHeader}
 use Rattle.network_header.specs.declared.header.Promoted.{Promoted}
 use Rattle.network_header.specs.declared.envelope.Envelope.{Envelope}
-use Rattle.records.specs.Publisher.{publisherBy}
+use Rattle.records.specs.Publisher.{publisherGiven}
 use Rattle.records.specs.Numbers.{numberAt}
 use Rattle.records.specs.Items.{isOn, given16, givenI64}
 use Rattle.envelope_record.specs.Envelope.{classIn, groupIn, payloadHeaderBy, promotedIn, envelopeIn}
@@ -49,13 +49,13 @@ pub envelope-read : (s : List ℕ) (n₀ n₁ n₃ n₄ n₅ n₆ n₁₁ n₁�
     (g : GroupHeader) (h : PayloadHeader) (t : OptionalI64) (o : Optional16) (m : Promoted) → n₀ ≡ numberAt s 0 → n₁ ≡ numberAt s 1
     → n₃ ≡ numberAt s 3 → n₄ ≡ numberAt s 4 → n₅ ≡ numberAt s 5 → n₆ ≡ numberAt s 6 → n₁₁ ≡ numberAt s 11 → n₁₂ ≡ numberAt s 12
     → n₁₃ ≡ numberAt s 13 → n₁₅ ≡ numberAt s 15 → n₁₆ ≡ numberAt s 16 → n₁₇ ≡ numberAt s 17 → n₁₈ ≡ numberAt s 18 → n₁₉ ≡ numberAt s 19
-    → n₂₀ ≡ numberAt s 20 → c ≡ isOn n₁₁ → b ≡ isOn n₁₅ → d ≡ isOn n₁₇ → p ≡ publisherBy n₀ n₁ → k ≡ classIn n₃ n₄ n₅ → g ≡ groupIn s n₆
+    → n₂₀ ≡ numberAt s 20 → c ≡ isOn n₁₁ → b ≡ isOn n₁₅ → d ≡ isOn n₁₇ → p ≡ publisherGiven n₀ n₁ → k ≡ classIn n₃ n₄ n₅ → g ≡ groupIn s n₆
     → h ≡ payloadHeaderBy n₁₂ n₁₃ → t ≡ givenI64 b n₁₆ → o ≡ given16 d n₁₈ → m ≡ promotedIn n₁₉ n₂₀ → made p k g c h t o m ≡ envelopeIn s
 envelope-read s n₀ n₁ n₃ n₄ n₅ n₆ n₁₁ n₁₂ n₁₃ n₁₅ n₁₆ n₁₇ n₁₈ n₁₉ n₂₀ c b d p k g h t o m e₀ e₁ e₃ e₄ e₅ e₆ e₁₁ e₁₂ e₁₃ e₁₅ e₁₆ e₁₇ e₁₈ e₁₉ e₂₀
     ec eb ed ep ek eg eh et eo em =
     let on : (n m : ℕ) → n ≡ m → isOn n ≡ isOn m = λ n m e. ap (λ (x : ℕ). isOn x) e in
     envelope-made
-    (ep ∙ of-two publisherBy e₀ e₁)
+    (ep ∙ of-two publisherGiven e₀ e₁)
     (ek ∙ ap (λ (x : ℕ). classIn x n₄ n₅) e₃ ∙ of-two (classIn (numberAt s 3)) e₄ e₅)
     (eg ∙ ap (λ (x : ℕ). groupIn s x) e₆)
     (ec ∙ on n₁₁ (numberAt s 11) e₁₁)

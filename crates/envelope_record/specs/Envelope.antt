@@ -1,6 +1,6 @@
 -- The records of an envelope and of a message's place (include/uadp.h).
-use Prim.Native.Nat.{ℕ, _+_, _*_, _%_}
-use mathlib.Core.Bool.{cond}
+use Prim.Native.Nat.{ℕ, _+_, _*_}
+use mathlib.Core.Bool.{Bool, cond, _&&_}
 use mathlib.Core.List.{List, [], _∷_, _++_}
 use lib.Dec.{eqb}
 use Rattle.wire.specs.declared.optional.Optional16.{Optional16}
@@ -20,8 +20,9 @@ use Rattle.wire.specs.Answer.{bit}
 use Rattle.records.specs.Numbers.{numberAt}
 use Rattle.wire.specs.Number.{leBytes}
 use Rattle.wire_writer.specs.Store.{laid}
-use Rattle.records.specs.Publisher.{publisherNumber, publisherBy}
-use Rattle.records.specs.Items.{has16, value16, has32, value32, hasI64, valueI64, flagNumber, given16, given32, isOn, givenI64}
+use Rattle.records.specs.Publisher.{publisherNumber, publisherGiven, publisherNumberFits}
+use Rattle.config.specs.Writers.{atMost}
+use Rattle.records.specs.Items.{has16, value16, has32, value32, hasI64, valueI64, flagNumber, given16, given32, fitsItem, isOn, givenI64}
 
 -- "DataSetClassId: 0 absent, else present; its first 8 bytes; its last 8 bytes, each as a number"
 abbrev pub hasClass : ClassId → ℕ
@@ -152,7 +153,7 @@ groupIn s items =
 -- "PayloadHeader: 0 absent, 1 Count and ids, 2 a chunk's writer id (above 2 counts as absent)"; "Count, or the chunk's writer id"
 abbrev pub payloadHeaderBy : ℕ → ℕ → PayloadHeader
 payloadHeaderBy kind v =
-    cond (eqb kind 1) (PayloadHeader.Ids (v % 256)) (cond (eqb kind 2) (PayloadHeader.Chunk (v % 65536)) PayloadHeader.Absent)
+    cond (eqb kind 1) (PayloadHeader.Ids (atMost 65535 v)) (cond (eqb kind 2) (PayloadHeader.Chunk (atMost 65535 v)) PayloadHeader.Absent)
 
 abbrev pub payloadHeaderIn : List ℕ → PayloadHeader
 payloadHeaderIn s = payloadHeaderBy (numberAt s 12) (numberAt s 13)
@@ -169,7 +170,7 @@ promotedIn present size = cond (eqb present 0) Promoted.Absent (Promoted.Size si
 abbrev pub envelopeIn : List ℕ → Envelope
 envelopeIn s =
     record {
-      publisher = publisherBy (numberAt s 0) (numberAt s 1);
+      publisher = publisherGiven (numberAt s 0) (numberAt s 1);
       «class_id» = classIn (numberAt s 3) (numberAt s 4) (numberAt s 5);
       group = groupIn s (numberAt s 6);
       chunk = isOn (numberAt s 11);
@@ -178,3 +179,22 @@ envelopeIn s =
       picoseconds = given16 (isOn (numberAt s 17)) (numberAt s 18);
       promoted = promotedIn (numberAt s 19) (numberAt s 20);
     }
+
+-- "a number that does not fit its item": whether the number of each item that is present fits it, in the record's order. A timestamp, a
+-- DataSetClassId and a String's length have every number; the size of promoted fields is the writer's to judge.
+
+abbrev pub groupFits : List ℕ → ℕ → Bool
+groupFits s items =
+    fitsItem (bit 0 items) 65535 (numberAt s 7)
+    && (fitsItem (bit 1 items) 4294967295 (numberAt s 8)
+    && (fitsItem (bit 2 items) 65535 (numberAt s 9) && fitsItem (bit 3 items) 65535 (numberAt s 10)))
+
+-- a Count has one byte, a chunk's writer id two
+abbrev pub headerFits : ℕ → ℕ → Bool
+headerFits kind v = fitsItem (eqb kind 1) 255 v && fitsItem (eqb kind 2) 65535 v
+
+abbrev pub envelopeFits : List ℕ → Bool
+envelopeFits s =
+    publisherNumberFits (numberAt s 0) (numberAt s 1)
+    && (groupFits s (numberAt s 6)
+    && (headerFits (numberAt s 12) (numberAt s 13) && fitsItem (isOn (numberAt s 17)) 65535 (numberAt s 18)))

@@ -11,6 +11,8 @@ use network_message::payload::MessagePlace;
 use network_message::payload::Payload;
 use network_message::payload::Sizes;
 use publisher_id::publisher_record::code;
+use records::items::at_most;
+use records::items::fits_item;
 use records::items::flag_number;
 use records::items::given_i64;
 use records::items::given16;
@@ -25,8 +27,9 @@ use records::items::value32;
 use records::numbers::number;
 use records::numbers::put_numbers;
 use records::numbers::put_numbers_from;
-use records::publisher::publisher_by;
+use records::publisher::publisher_given;
 use records::publisher::publisher_number;
+use records::publisher::publisher_number_fits;
 use records::sizes::ENVELOPE_SIZE;
 use wire::Guid;
 use wire::optional::Optional16;
@@ -36,7 +39,7 @@ ghost use Prim.Native.Nat.{_+_, _*_};
 ghost use Rattle.wire_writer.specs.Store.{laid};
 ghost use Rattle.records.specs.Numbers.{numberBytes};
 ghost use Rattle.records.specs.Items.{has16, has32, given16, given32};
-ghost use Rattle.envelope_record.specs.Envelope.{hasClass, classLow, classHigh, groupItems, groupWriter, groupVersion, groupNumber, groupSequence, headerCode, headerNumber, hasPromoted, promotedSize, sizesCode, sizesPlace, startNumbers, restNumbers, envelopeNumbers, sizesBy, payloadIn, messagesIn, messagesLaid, payloadHeaderBy, payloadHeaderIn, payloadHeaderEnd, writerNumber, placeNumbers, classIn, groupIn, promotedIn, envelopeIn};
+ghost use Rattle.envelope_record.specs.Envelope.{hasClass, classLow, classHigh, groupItems, groupWriter, groupVersion, groupNumber, groupSequence, headerCode, headerNumber, hasPromoted, promotedSize, sizesCode, sizesPlace, startNumbers, restNumbers, envelopeNumbers, sizesBy, payloadIn, messagesIn, messagesLaid, payloadHeaderBy, payloadHeaderIn, payloadHeaderEnd, writerNumber, placeNumbers, classIn, groupIn, promotedIn, envelopeIn, groupFits, headerFits, envelopeFits};
 
 // Where the numbers 26 and 27 stand: the cursor's message and its place.
 const CURSOR_INDEX: usize = 8 * 26;
@@ -375,10 +378,10 @@ fn payload_header_by(kind: u64, v: u64) -> PayloadHeader
     ensures { λ r. ⌜ r ≡ payloadHeaderBy kind v ⌝ }
 {
     if kind == 1 {
-        return PayloadHeader::Ids((v % 256) as u8);
+        return PayloadHeader::Ids(at_most(65535, v) as u16);
     }
     if kind == 2 {
-        return PayloadHeader::Chunk((v % 65536) as u16);
+        return PayloadHeader::Chunk(at_most(65535, v) as u16);
     }
     PayloadHeader::Absent
 }
@@ -392,11 +395,11 @@ fn promoted_in(present: u64, size: u64) -> Promoted
     Promoted::Size(size as usize)
 }
 
-// The envelope of an envelope record.
+// The envelope of an envelope record; a number that does not fit its item counts as the largest that does.
 pub fn envelope_in(s: &[u8]) -> Envelope
     ensures { λ r. ⌜ r ≡ envelopeIn (now (s .entry)) ⌝ }
 {
-    let publisher = publisher_by(number(s, 0), number(s, 1));
+    let publisher = publisher_given(number(s, 0), number(s, 1));
     let class_id = class_in(number(s, 3), number(s, 4), number(s, 5));
     let group = group_in(s, number(s, 6));
     let payload_header = payload_header_by(number(s, 12), number(s, 13));
@@ -413,4 +416,29 @@ pub fn envelope_in(s: &[u8]) -> Envelope
         picoseconds,
         promoted,
     }
+}
+
+fn group_fits(s: &[u8], items: u64) -> bool
+    ensures { λ r. ⌜ r ≡ groupFits (now (s .entry)) items ⌝ }
+{
+    fits_item(items % 2 == 1, 65535, number(s, 7))
+        & (fits_item((items >> 1) % 2 == 1, 4294967295, number(s, 8))
+            & (fits_item((items >> 2) % 2 == 1, 65535, number(s, 9))
+                & fits_item((items >> 3) % 2 == 1, 65535, number(s, 10))))
+}
+
+fn header_fits(kind: u64, v: u64) -> bool
+    ensures { λ r. ⌜ r ≡ headerFits kind v ⌝ }
+{
+    fits_item(kind == 1, 255, v) & fits_item(kind == 2, 65535, v)
+}
+
+// Whether the number of each item that is present in an envelope record fits the item.
+pub fn envelope_fits(s: &[u8]) -> bool
+    ensures { λ r. ⌜ r ≡ envelopeFits (now (s .entry)) ⌝ }
+{
+    publisher_number_fits(number(s, 0), number(s, 1))
+        & (group_fits(s, number(s, 6))
+            & (header_fits(number(s, 12), number(s, 13))
+                & fits_item(is_on(number(s, 17)), 65535, number(s, 18))))
 }

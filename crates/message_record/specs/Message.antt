@@ -1,7 +1,7 @@
 -- The records of a message's head and of a field (include/uadp.h).
 use Prim.Native.Nat.{ℕ, _+_, _*_, _^_, _<_}
 use mathlib.Core.Path.{_≡_}
-use mathlib.Core.Bool.{cond, not}
+use mathlib.Core.Bool.{Bool, cond, not, _&&_}
 use mathlib.Core.List.{List, [], _∷_}
 use lib.Dec.{eqb}
 use lib.ListN.{replicate}
@@ -18,7 +18,7 @@ use Rattle.wire.specs.Number.{leBytes}
 use Rattle.wire_writer.specs.Store.{laid}
 use Rattle.wire.specs.Answer.{bit}
 use Rattle.records.specs.Numbers.{numberAt}
-use Rattle.records.specs.Items.{has16, value16, has32, value32, hasI64, valueI64, flagNumber, given16, given32, givenI64}
+use Rattle.records.specs.Items.{has16, value16, has32, value32, hasI64, valueI64, flagNumber, given16, given32, givenI64, fitsItem}
 
 -- "encoding: 0 Variant, 1 RawData, 2 DataValue (above 2 counts as 0)"
 abbrev pub encodingIn : ℕ → Encoding
@@ -89,6 +89,15 @@ headerIn s =
       major = given32 (bit 4 (numberAt s 3)) (numberAt s 8);
       minor = given32 (bit 5 (numberAt s 3)) (numberAt s 9);
     }
+
+-- "a number that does not fit its item": whether the number of each item that is present fits it, in the record's order; a timestamp has
+-- every number
+abbrev pub headFits : List ℕ → Bool
+headFits s =
+    fitsItem (bit 0 (numberAt s 3)) 65535 (numberAt s 4)
+    && (fitsItem (bit 2 (numberAt s 3)) 65535 (numberAt s 6)
+    && (fitsItem (bit 3 (numberAt s 3)) 65535 (numberAt s 7)
+    && (fitsItem (bit 4 (numberAt s 3)) 4294967295 (numberAt s 8) && fitsItem (bit 5 (numberAt s 3)) 4294967295 (numberAt s 9))))
 
 -- each number of a head fits the record's, as a value of the code does
 pub record FitsHead (m : Message) : Type 0 where

@@ -4,6 +4,7 @@ use dataset_fields::fields::Field;
 use dataset_header::flags::Encoding;
 use dataset_header::flags::Kind;
 use dataset_header::header::Header;
+use records::items::fits_item;
 use records::items::flag_number;
 use records::items::given_i64;
 use records::items::given16;
@@ -27,7 +28,7 @@ ghost use Rattle.dataset_message.specs.Message.{Message};
 ghost use Rattle.records.specs.Sizes.{HEAD_SIZE};
 ghost use Rattle.records.specs.Numbers.{numberBytes};
 ghost use Rattle.records.specs.Items.{has16, value16, has32, value32, given16, given32};
-ghost use Rattle.message_record.specs.Message.{encodingIn, itemsNumber, headNumbers, cursorIn, cursorLaid, shapeNumber, elementsNumber, fieldNumbers, kindIn, headerIn, HeadBack};
+ghost use Rattle.message_record.specs.Message.{encodingIn, itemsNumber, headNumbers, cursorIn, cursorLaid, shapeNumber, elementsNumber, fieldNumbers, kindIn, headerIn, headFits, HeadBack};
 
 // Where the numbers 12 and 14 stand: the cursor's next field and its place.
 const CURSOR_NEXT: usize = 8 * 12;
@@ -204,7 +205,7 @@ fn kind_in(n: u64) -> Kind
     Kind::Key
 }
 
-// The header of a head record.
+// The header of a head record; a number that does not fit its item counts as the largest that does.
 pub fn header_in(s: &[u8]) -> Header
     ensures { λ r. ⌜ r ≡ headerIn (now (s .entry)) ⌝ }
 {
@@ -227,4 +228,16 @@ pub fn header_in(s: &[u8]) -> Header
         major,
         minor,
     }
+}
+
+// Whether the number of each item that is present in a head record fits the item.
+pub fn head_fits(s: &[u8]) -> bool
+    ensures { λ r. ⌜ r ≡ headFits (now (s .entry)) ⌝ }
+{
+    let items = number(s, 3);
+    fits_item(items % 2 == 1, 65535, number(s, 4))
+        & (fits_item((items >> 2) % 2 == 1, 65535, number(s, 6))
+            & (fits_item((items >> 3) % 2 == 1, 65535, number(s, 7))
+                & (fits_item((items >> 4) % 2 == 1, 4294967295, number(s, 8))
+                    & fits_item((items >> 5) % 2 == 1, 4294967295, number(s, 9)))))
 }

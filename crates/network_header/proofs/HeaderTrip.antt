@@ -44,6 +44,23 @@ payload-header-is (PayloadHeader.Ids n) chunk ids configured m f a b =
 payload-header-is (PayloadHeader.Chunk w) chunk ids configured m f a b =
     rw (chunk-on chunk w ids configured b) (last (item 2) PayloadHeader.Chunk m (leBytes 2 w) w (item-is 2 w m f))
 
+-- the promoted fields that are written: of the size of the bytes given
+abbrev pub written : List ℕ → Promoted → Promoted
+written bytes Promoted.Absent = Promoted.Absent
+written bytes (Promoted.Size n) = Promoted.Size (length bytes)
+
+pub promoted-written : (x : Promoted) (messages : ℕ) (bytes : List ℕ) (m : ℕ) → promotedRefusal x messages ≡ 0 → length (promotedBytes bytes x) ≤ 65537
+    → Reads (promotedAt (promotedOn x) messages) m (promotedBytes bytes x) (written bytes x)
+promoted-written Promoted.Absent messages bytes m a l = nothing Promoted.Absent m
+promoted-written (Promoted.Size n) messages bytes m a l =
+    let c = leBytes 2 (length bytes) in
+    let h : length bytes < 256 ^ 2 = omega (arith, length-append c bytes) in
+    λ s at. let p = ruled-is 2 (sizeRule messages) (length bytes) m h a s (first s m c bytes at) in
+    let q = run-is (length bytes) (m + length c) bytes refl s (second s m c bytes at) in
+    let z : m + length c + length bytes ≡ m + length (c ++ bytes) = omega (arith, length-append c bytes) in
+    rw (p, q) (ap (λ (j : ℕ). got (Promoted.Size (length bytes)) j) z)
+
+-- and these are the ones given where the size is the said one
 pub promoted-is : (x : Promoted) (messages : ℕ) (bytes : List ℕ) (m : ℕ) → promotedRefusal x messages ≡ 0 → promotedShape x (length bytes) ≡ 0
     → Reads (promotedAt (promotedOn x) messages) m (promotedBytes bytes x) x
 promoted-is Promoted.Absent messages bytes m a b = nothing Promoted.Absent m
@@ -51,12 +68,8 @@ promoted-is (Promoted.Size n) messages bytes m a b =
     let w = passed (leb 65536 n) 5 (cond (eqb n (length bytes)) 0 6) b in
     let e : n ≡ length bytes = eqb-true n (length bytes) (held (eqb n (length bytes)) 5 (w .1)) in
     let k : n < 65536 = leb-false 65536 n (w .0) in
-    let h : length bytes < 256 ^ 2 = omega arith in
-    λ s at. let c = leBytes 2 (length bytes) in
-    let p = ruled-is 2 (sizeRule messages) (length bytes) m h a s (first s m c bytes at) in
-    let q = run-is (length bytes) (m + length c) bytes refl s (second s m c bytes at) in
-    let z : m + length c + length bytes ≡ m + length (c ++ bytes) = omega (arith, length-append c bytes) in
-    rw (p, q, e) (ap (λ (j : ℕ). got (Promoted.Size (length bytes)) j) z)
+    let l : length (promotedBytes bytes (Promoted.Size n)) ≤ 65537 = omega (arith, length-append (leBytes 2 (length bytes)) bytes) in
+    rw e (promoted-written (Promoted.Size (length bytes)) messages bytes m a l)
 
 pub class-back : (on : Bool) (s : List ℕ) (at : ℕ) (x : ClassId) (next : ℕ) → Bytes s → at ≤ length s → classAt on s at ≡ got x next → Back s at (classBytes x) next × (classOn x ≡ on)
 class-back true s at x next b l h =

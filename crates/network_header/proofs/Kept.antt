@@ -10,7 +10,7 @@ use lib.IntN.{pos, negsuc}
 use lib.Dec.{eqb, leb, ltb}
 use borrow.Author.Tests.{eq-eqb, lt-leb}
 use Rattle.wire.specs.Number.{le, signed}
-use Rattle.wire.specs.Answer.{got, refused, andThen, item, ruled, run, pure, whenOn, _>>=_, bit}
+use Rattle.wire.specs.Answer.{got, refused, andThen, item, ruled, run, refuse, pure, whenOn, _>>=_, bit}
 use Rattle.wire.specs.Items.{lengthOf}
 use Rattle.wire.specs.Optional.{optional16, optional32}
 use Rattle.wire.specs.declared.optional.Optional16.{Optional16}
@@ -59,7 +59,7 @@ flags-kept s at f next h =
 -- the PublisherId: a string of at most 64 bytes, and as many bytes as it says
 
 abbrev PublisherKept : List ℕ → PublisherId → ℕ → Type 0
-PublisherKept s p next = (publisherRefusal p ≡ 0) × (publisherShape p (length (textOf s p next)) ≡ 0)
+PublisherKept s p next = (publisherRefusal p (length (textOf s p next)) ≡ 0) × (publisherShape p (length (textOf s p next)) ≡ 0)
 
 module _ (s : List ℕ) (p : PublisherId) (next : ℕ) where
   string-kept : (v start : ℕ) → stringOf v s start ≡ got p next → PublisherKept s p next
@@ -71,7 +71,7 @@ module _ (s : List ℕ) (p : PublisherId) (next : ℕ) where
           let y = map-back (run v) PublisherId.Text s start p next k in
           let r = run-back v s start (y .0) next (y .1) in
           let l : length (bytesBefore s next v) ≡ v = before-length s start v next (r .1) (r .2) in
-          rw (sym (y .2), r .0, e, eq-eqb v (length (bytesBefore s next v)) (sym l)) (refl, refl)
+          rw (sym (y .2), r .0, l, e, eq-eqb v v refl) (refl, refl)
 
   no-length : (at k start : ℕ) → stringThen at (lengthOf (negsuc k)) s start ≡ got p next → ⊥
   no-length at zero start q = not-got q
@@ -88,19 +88,20 @@ module _ (s : List ℕ) (p : PublisherId) (next : ℕ) where
       go true q = signed-kept at (le 4 s at) (at + 4) (2 ^ (8 * 4) - 1 - le 4 s at) (ltb (le 4 s at) (2 ^ (8 * 4 - 1))) q
       go false q = absurd (not-got q)
 
-  kind-kept : (at : ℕ) (a b c d : Bool)
+  kind-kept : (at : ℕ) (a b c d e : Bool)
       → cond a (item 1 >>= λ v. pure (PublisherId.Byte v))
       (cond b (item 2 >>= λ v. pure (PublisherId.UInt16 v))
-      (cond c (item 4 >>= λ v. pure (PublisherId.UInt32 v)) (cond d (item 8 >>= λ v. pure (PublisherId.UInt64 v)) stringAt))) s at ≡ got p next
+      (cond c (item 4 >>= λ v. pure (PublisherId.UInt32 v)) (cond d (item 8 >>= λ v. pure (PublisherId.UInt64 v)) (cond e stringAt (refuse 3))))) s at ≡ got p next
       → PublisherKept s p next
-  kind-kept at true b c d q = rw (sym (map-back (item 1) PublisherId.Byte s at p next q .2)) (refl, refl)
-  kind-kept at false true c d q = rw (sym (map-back (item 2) PublisherId.UInt16 s at p next q .2)) (refl, refl)
-  kind-kept at false false true d q = rw (sym (map-back (item 4) PublisherId.UInt32 s at p next q .2)) (refl, refl)
-  kind-kept at false false false true q = rw (sym (map-back (item 8) PublisherId.UInt64 s at p next q .2)) (refl, refl)
-  kind-kept at false false false false q = text-kept at q
+  kind-kept at true b c d e q = rw (sym (map-back (item 1) PublisherId.Byte s at p next q .2)) (refl, refl)
+  kind-kept at false true c d e q = rw (sym (map-back (item 2) PublisherId.UInt16 s at p next q .2)) (refl, refl)
+  kind-kept at false false true d e q = rw (sym (map-back (item 4) PublisherId.UInt32 s at p next q .2)) (refl, refl)
+  kind-kept at false false false true e q = rw (sym (map-back (item 8) PublisherId.UInt64 s at p next q .2)) (refl, refl)
+  kind-kept at false false false false true q = text-kept at q
+  kind-kept at false false false false false q = absurd (not-got q)
 
   pub publisher-kept : (on : Bool) (kind at : ℕ) → publisherAt on kind s at ≡ got p next → PublisherKept s p next
-  publisher-kept true kind at h = kind-kept at (eqb kind 0) (eqb kind 1) (eqb kind 2) (eqb kind 3) h
+  publisher-kept true kind at h = kind-kept at (eqb kind 0) (eqb kind 1) (eqb kind 2) (eqb kind 3) (eqb kind 4) h
   publisher-kept false kind at h = rw (sym (got-value h)) (refl, refl)
 
 -- the group header

@@ -17,7 +17,7 @@ use lib.Dec.{eqb, leb}
 use borrow.Author.Tests.{eqb-true, leb-false}
 use Rattle.network_header.specs.declared.header.PayloadHeader.{PayloadHeader}
 use Rattle.wire_writer.proofs.Refusals.{passed, held}
-use Rattle.network_header.specs.Header.{idsShape}
+use Rattle.network_header.specs.Header.{countShape, idsShape}
 
 pub flags-sized : (f : Flags) {a b : ℕ} → a ≡ needed (extended1Of f) → b ≡ needed (extended2Of f) → 1 + (a + b) ≡ length (flagBytes f)
 flags-sized f p q =
@@ -37,6 +37,6 @@ group-sized g p = add-sizes (leBytes 1 (groupFlagsOf g)) (groupFieldsBytes g) re
 -- a count that is not refused, and as many ids
 pub ids-counted : (chunk : Bool) (n : ℕ) (ids configured : List ℕ) → idsShape chunk (PayloadHeader.Ids n) ids configured ≡ 0 → (chunk ≡ false) × (n < 256) × (length ids ≡ 2 * n)
 ids-counted chunk n ids configured b =
-    let q1 = passed chunk 5 (cond (leb 256 n) 6 (cond (eqb (length ids) (2 * n)) 0 6)) b in
+    let q1 = passed chunk 5 (countShape n (length ids)) b in
     let q2 = passed (leb 256 n) 5 (cond (eqb (length ids) (2 * n)) 0 6) (q1 .1) in
     (q1 .0, leb-false 256 n (q2 .0), eqb-true (length ids) (2 * n) (held (eqb (length ids) (2 * n)) 5 (q2 .1)))

@@ -104,12 +104,16 @@ promotedRefusal (Promoted.Size n) messages = sizeRule messages n
 
 -- what would read back otherwise is 6
 
+-- "over 255 messages" is 6, as are ids of another number than Count
+abbrev pub countShape : ℕ → ℕ → ℕ
+countShape n len = cond (leb 256 n) DISAGREE (cond (eqb len (2 * n)) 0 DISAGREE)
+
 -- ids: without a PayloadHeader "the configured writers apply in order", of which the first 16 count; a PayloadHeader has as
--- many as it says, "over 255 messages" being 6, and none for a chunk, whose own id it holds; chunk and PayloadHeader go together
+-- many as it says, and none for a chunk, whose own id it holds; chunk and PayloadHeader go together
 abbrev pub idsShape : Bool → PayloadHeader → List ℕ → List ℕ → ℕ
 idsShape chunk PayloadHeader.Absent ids configured = cond (sameNumbers ids (take MOST_WRITERS configured)) 0 DISAGREE
 idsShape chunk (PayloadHeader.Ids n) ids configured =
-    cond chunk DISAGREE (cond (leb 256 n) DISAGREE (cond (eqb (length ids) (2 * n)) 0 DISAGREE))
+    cond chunk DISAGREE (countShape n (length ids))
 idsShape chunk (PayloadHeader.Chunk w) ids configured = cond chunk (unused (length ids)) DISAGREE
 
 -- promoted fields: as many bytes as they say, and a size of 2 bytes

@@ -13,7 +13,7 @@ use wire_writer::store::put8;
 use wire_writer::store::put16;
 use wire_writer::writing::six_unless;
 ghost use mathlib.Core.Path.{_≡_};
-ghost use Rattle.network_header.specs.Header.{classAt, payloadHeaderAt, idsAt, promotedAt, answerClass, answerPayloadHeader, answerPromoted, countRule, classOn, classBytes, payloadHeaderOn, payloadHeaderBytes, promotedOn, promotedBytes, countRefusal, promotedRefusal, idsShape, promotedShape};
+ghost use Rattle.network_header.specs.Header.{classAt, payloadHeaderAt, idsAt, promotedAt, answerClass, answerPayloadHeader, answerPromoted, countRule, classOn, classBytes, payloadHeaderOn, payloadHeaderBytes, promotedOn, promotedBytes, countRefusal, promotedRefusal, countShape, idsShape, promotedShape};
 ghost use mathlib.Core.Bool.{cond};
 ghost use Prim.Native.Nat.{_+_, _≤_};
 ghost use lib.Dec.{eqb, leb};
@@ -33,10 +33,11 @@ pub enum ClassRead {
     Refused(u8, usize),
 }
 
-// The PayloadHeader: how many DataSetWriterIds it has, or a chunk's DataSetWriterId. The ids end where the part ends.
+// The PayloadHeader: how many DataSetWriterIds it has, at most 255 in a datagram, or a chunk's DataSetWriterId. The ids end where the
+// part ends.
 pub enum PayloadHeader {
     Absent,
-    Ids(u8),
+    Ids(u16),
     Chunk(u16),
 }
 
@@ -72,7 +73,7 @@ pub fn read_class_id(s: &[u8], on: bool, at: usize) -> ClassRead
 }
 
 // The number of the rule that Count breaks, or 0.
-fn count_rule(n: u8) -> u8
+fn count_rule(n: u16) -> u8
     ensures { λ r. ⌜ r ≡ countRule n ⌝ }
 {
     if n == 0 {
@@ -87,14 +88,14 @@ fn ids(s: &[u8], at: usize) -> PayloadHeaderRead
     let Item8::Is(count, start) = wire::read8(s, at) else {
         return PayloadHeaderRead::Refused(CUT_SHORT, at);
     };
-    let number = count_rule(count);
+    let number = count_rule(count as u16);
     if number != 0 {
         return PayloadHeaderRead::Refused(number, at);
     }
     let Run::To(next) = wire::skip(s, start, 2 * (count as usize)) else {
         return PayloadHeaderRead::Refused(CUT_SHORT, start);
     };
-    PayloadHeaderRead::Is(PayloadHeader::Ids(count), next)
+    PayloadHeaderRead::Is(PayloadHeader::Ids(count as u16), next)
 }
 
 // Reads the PayloadHeader, where the flags announce one; a chunk has one writer id.
@@ -192,7 +193,7 @@ pub fn put_payload_header(out: &mut [u8], at: usize, x: PayloadHeader, ids: &[u8
     match x {
         PayloadHeader::Absent => at,
         PayloadHeader::Ids(n) => {
-            let start = put8(out, at, n);
+            let start = put8(out, at, (n % 256) as u8);
             put_run(out, start, ids)
         }
         PayloadHeader::Chunk(w) => put16(out, at, w),
@@ -254,7 +255,18 @@ pub fn promoted_refusal(x: Promoted, messages: usize) -> u8
     }
 }
 
-// 6 where these ids would read back otherwise, else 0: with a PayloadHeader as many as its Count, without one the configured ones.
+// A Count that its byte can hold, and as many ids.
+fn count_shape(n: u16, len: usize) -> u8
+    ensures { λ r. ⌜ r ≡ countShape n len ⌝ }
+{
+    if 256 <= n {
+        return DISAGREE;
+    }
+    six_unless(len == 2 * (n as usize))
+}
+
+// 6 where these ids would read back otherwise, else 0: with a PayloadHeader as many as its Count, which is at most 255, without one the
+// configured ones.
 pub fn ids_shape(chunk: bool, x: PayloadHeader, ids: &[u8], configured: &[u16]) -> u8
     ensures { λ r. ⌜ r ≡ idsShape chunk x (now (ids .entry)) (now (configured .entry)) ⌝ }
 {
@@ -264,7 +276,7 @@ pub fn ids_shape(chunk: bool, x: PayloadHeader, ids: &[u8], configured: &[u16]) 
             if chunk {
                 return DISAGREE;
             }
-            six_unless(ids.len() == 2 * (n as usize))
+            count_shape(n, ids.len())
         }
         PayloadHeader::Chunk(_) => {
             if chunk {

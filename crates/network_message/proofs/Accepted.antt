@@ -107,9 +107,10 @@ configured-tiles sizes s at p m e = go (eqb (length (configuredSizes sizes)) 0) 
 -- message byte, and the last ends where the datagram ends. (`Messages.tile` and `tiled` say what the walk then answers.)
 pub payload-tiled : (header : PayloadHeader) → OfMessages header → (sizes s : List ℕ) (at : ℕ) (p : Payload) (n : ℕ) → payloadAt false header sizes s at ≡ got p n → Tiled p sizes s
 payload-tiled PayloadHeader.Absent o sizes s at p n e = configured-tiles sizes s at p n e
-payload-tiled (PayloadHeader.Ids c) o sizes s at p n e = go (leb c 1) e
+payload-tiled (PayloadHeader.Ids c) o sizes s at p n e = go (eqb c 0) (leb c 1) e
   where
-    go : (b : Bool) → cond b (restOnlyAt s at) (listedAt c s at) ≡ got p n → Tiled p sizes s
-    go true q = rest-tiles sizes s at p n q
-    go false q = listed-tiles sizes s c at p n q
+    go : (a b : Bool) → cond a (refused 6 at) (cond b (restOnlyAt s at) (listedAt c s at)) ≡ got p n → Tiled p sizes s
+    go true b q = absurd (not-got q)
+    go false true q = rest-tiles sizes s at p n q
+    go false false q = listed-tiles sizes s c at p n q
 payload-tiled (PayloadHeader.Chunk w) o sizes s at p n e = absurd o

@@ -59,13 +59,15 @@ configuredAt sizes s at =
 -- a payload that is one message, with no list of sizes
 abbrev pub isSingle : PayloadHeader → Bool
 isSingle PayloadHeader.Absent = false
-isSingle (PayloadHeader.Ids n) = leb n 1
+isSingle (PayloadHeader.Ids n) = eqb n 1
 isSingle (PayloadHeader.Chunk w) = false
 
--- "For a chunk, PayloadHeader off is 8". A chunk's payload has no messages of its own.
+-- "For a chunk, PayloadHeader off is 8". A chunk's payload has no messages of its own. "Count 1 (0 is 6)": in a datagram the PayloadHeader
+-- has refused it before.
 abbrev pub payloadAt : Bool → PayloadHeader → List ℕ → Reader Payload
 payloadAt chunk PayloadHeader.Absent sizes s at = cond chunk (refused NOT_CONFIGURED 0) (configuredAt (configuredSizes sizes) s at)
-payloadAt chunk (PayloadHeader.Ids n) sizes s at = cond (leb n 1) (restOnlyAt s at) (listedAt n s at)
+payloadAt chunk (PayloadHeader.Ids n) sizes s at =
+    cond (eqb n 0) (refused DISAGREE at) (cond (leb n 1) (restOnlyAt s at) (listedAt n s at))
 payloadAt chunk (PayloadHeader.Chunk w) sizes s at = got (messagesFrom 0 Sizes.Rest at) at
 
 abbrev pub answerMessages : PayloadRead → Answer Payload

@@ -205,7 +205,7 @@ fn is_single(header: PayloadHeader) -> bool
 {
     match header {
         PayloadHeader::Absent => false,
-        PayloadHeader::Ids(n) => n <= 1,
+        PayloadHeader::Ids(n) => n == 1,
         PayloadHeader::Chunk(_) => false,
     }
 }

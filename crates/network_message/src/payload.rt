@@ -46,7 +46,7 @@ pub struct Tally {
 }
 
 // The sum of the n sizes that a list begins with, and whether each is at least 1; a byte that is not there counts as 0.
-pub fn tally_listed(list: &[u8], n: u8) -> Tally
+pub fn tally_listed(list: &[u8], n: u16) -> Tally
     ensures { λ r.
         let sizes = listed n (now (list .entry)) 0 in
         ⌜ (r .total ≡ total sizes) × (r .positive ≡ allPositive sizes) × (r .total ≤ 65535 * n) ⌝ }
@@ -104,7 +104,7 @@ pub(crate) fn rest(s: &[u8], at: usize) -> PayloadRead
     PayloadRead::Refused(CUT_SHORT, at)
 }
 
-fn listed_sizes(s: &[u8], n: u8, at: usize) -> PayloadRead
+fn listed_sizes(s: &[u8], n: u16, at: usize) -> PayloadRead
     ensures { λ r. ⌜ answerMessages r ≡ listedAt n (now (s .entry)) at ⌝ }
 {
     let count = n as usize;
@@ -160,7 +160,7 @@ fn configured_sizes(s: &[u8], sizes: &[u16], at: usize) -> PayloadRead
     PayloadRead::Refused(NOT_CONFIGURED, 0)
 }
 
-// The payload after a payload header.
+// The payload after a payload header; a Count of 0 is 6.
 pub fn read_payload(
     s: &[u8],
     chunk: bool,
@@ -178,6 +178,9 @@ pub fn read_payload(
             configured_sizes(s, sizes, at)
         }
         PayloadHeader::Ids(n) => {
+            if n == 0 {
+                return PayloadRead::Refused(DISAGREE, at);
+            }
             if n <= 1 {
                 return rest(s, at);
             }

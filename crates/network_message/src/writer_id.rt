@@ -7,7 +7,7 @@ ghost use mathlib.Core.Path.{_≡_};
 ghost use Rattle.network_message.specs.WriterId.{writerIdOf, listedId, configuredId};
 
 // The k-th of n DataSetWriterIds that end at a position.
-fn listed_id(s: &[u8], n: u8, end: usize, k: usize) -> Optional16
+fn listed_id(s: &[u8], n: u16, end: usize, k: usize) -> Optional16
     ensures { λ r. ⌜ r ≡ listedId n end k (now (s .entry)) ⌝ }
 {
     let count = n as usize;

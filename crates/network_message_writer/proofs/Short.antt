@@ -18,7 +18,7 @@ use Rattle.network_header.specs.Numbers.{configuredSizes, agree, sameNumbers}
 use Rattle.network_message.specs.Payload.{restOnlyAt}
 use Rattle.network_message.specs.Envelope.{messagesOf}
 use Rattle.wire_writer.specs.Writing.{orElse, on16, onI64, picosecondsRefusal, unused}
-use Rattle.wire_writer.proofs.Refusals.{passed, held, both-zero}
+use Rattle.wire_writer.proofs.Refusals.{passed, held, both-zero, no}
 use Rattle.network_header.specs.Flags.{timesRefusal}
 use Rattle.network_header.specs.Group.{groupRefusal}
 use Rattle.publisher_id.specs.Publisher.{publisherRefusal, publisherShape}
@@ -30,7 +30,7 @@ use Rattle.network_header.proofs.Sizes.{ids-counted}
 -- none of the refusals
 pub record Zeros (g : GivenDatagram) (x : Envelope) (sizes configured : List ℕ) : Type 0 where
   pub times : timesRefusal (on16 (x .picoseconds)) (onI64 (x .timestamp)) ≡ 0
-  pub publisher : publisherRefusal (x .publisher) ≡ 0
+  pub publisher : publisherRefusal (x .publisher) (length (g .text)) ≡ 0
   pub group : groupRefusal (x .group) ≡ 0
   pub count : countRefusal (x .«payload_header») ≡ 0
   pub picoseconds : picosecondsRefusal (x .picoseconds) ≡ 0
@@ -48,7 +48,7 @@ zeros g x sizes configured h =
     let n5 = picosecondsRefusal (x .picoseconds) in
     let n4 = countRefusal (x .«payload_header») in
     let n3 = groupRefusal (x .group) in
-    let n2 = publisherRefusal (x .publisher) in
+    let n2 = publisherRefusal (x .publisher) (length (g .text)) in
     let n1 = timesRefusal (on16 (x .picoseconds)) (onI64 (x .timestamp)) in
     let m4 = lengthsShape (x .«payload_header») (g .lengths) sizes in
     let m3 = promotedShape (x .promoted) (length (g .promoted)) in
@@ -93,15 +93,14 @@ same-short bytes xs h =
     let e = same-length bytes (take 16 xs) (held (sameNumbers bytes (take 16 xs)) 5 h) in
     omega (arith, e, length-take 16 xs, min-le-left 16 (length xs))
 
-text-short : (p : PublisherId) (n : ℕ) → publisherRefusal p ≡ 0 → publisherShape p n ≡ 0 → n ≤ 65535
+text-short : (p : PublisherId) (n : ℕ) → publisherRefusal p n ≡ 0 → publisherShape p n ≡ 0 → n ≤ 65535
 text-short PublisherId.Absent n a b = none n b
 text-short (PublisherId.Byte v) n a b = none n b
 text-short (PublisherId.UInt16 v) n a b = none n b
 text-short (PublisherId.UInt32 v) n a b = none n b
 text-short (PublisherId.UInt64 v) n a b = none n b
 text-short (PublisherId.Text k) n a b =
-    let s : k < 65 = leb-false 65 k (passed (leb 65 k) 9 0 a .0) in
-    let e : k ≡ n = eqb-true k n (held (eqb k n) 5 b) in
+    let s : n < 65 = leb-false 65 n (passed (leb 65 n) 9 0 a .0) in
     omega arith
 
 chunk-unused : (chunk : Bool) (n : ℕ) → cond chunk (unused n) 6 ≡ 0 → unused n ≡ 0
@@ -137,11 +136,13 @@ lengths-short chunk PayloadHeader.Absent ids lengths messages sizes configured a
     go : (t : Bool) → cond t (unused (length lengths)) (cond (sameNumbers lengths (configuredSizes sizes)) 0 6) ≡ 0 → length lengths ≤ 65535
     go true q = none (length lengths) q
     go false q = same-short lengths sizes q
-lengths-short chunk (PayloadHeader.Ids n) ids lengths messages sizes configured a b c = go (leb n 1) b c
+lengths-short chunk (PayloadHeader.Ids n) ids lengths messages sizes configured a b c = go chunk (leb n 1) (ids-counted chunk n ids configured a .0) b c
   where
-    go : (t : Bool) → cond t (refusalNumber (restOnlyAt messages 0)) (listedRefusal n lengths (length messages)) ≡ 0 → cond t (unused (length lengths)) 0 ≡ 0 → length lengths ≤ 65535
-    go true p q = none (length lengths) q
-    go false p q = omega (arith, ids-counted chunk n ids configured a .1, listed-length n lengths (length messages) p)
+    go : (r t : Bool) → r ≡ false → cond r 0 (cond t (refusalNumber (restOnlyAt messages 0)) (listedRefusal n lengths (length messages))) ≡ 0 → cond t (unused (length lengths)) 0 ≡ 0
+        → length lengths ≤ 65535
+    go true t o p q = absurd (no o)
+    go false true o p q = none (length lengths) q
+    go false false o p q = omega (arith, ids-counted chunk n ids configured a .1, listed-length n lengths (length messages) p)
 lengths-short chunk (PayloadHeader.Chunk w) ids lengths messages sizes configured a b c = none (length lengths) c
 
 pub all-short : (g : GivenDatagram) (x : Envelope) (sizes configured : List ℕ) → datagramRefusal g x sizes configured ≡ 0

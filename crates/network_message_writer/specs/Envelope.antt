@@ -42,10 +42,10 @@ abbrev pub datagramOf : GivenDatagram → Envelope → List ℕ
 datagramOf g x = envelopeBytes (g .text) (g .ids) (g .promoted) x ++ (listBytes (x .«payload_header») (g .lengths) ++ g .messages)
 
 -- "A writer refuses what reading would refuse, by the same number in reading order"
-abbrev pub headerRefusal : Envelope → ℕ → ℕ → ℕ
-headerRefusal x configured payload =
+abbrev pub headerRefusal : Envelope → ℕ → ℕ → ℕ → ℕ
+headerRefusal x text configured payload =
     orElse (timesRefusal (on16 (x .picoseconds)) (onI64 (x .timestamp)))
-    (orElse (publisherRefusal (x .publisher))
+    (orElse (publisherRefusal (x .publisher) text)
     (orElse (groupRefusal (x .group))
     (orElse (countRefusal (x .«payload_header»))
     (orElse (picosecondsRefusal (x .picoseconds))
@@ -53,7 +53,8 @@ headerRefusal x configured payload =
 
 abbrev pub datagramReadingRefusal : GivenDatagram → Envelope → List ℕ → ℕ
 datagramReadingRefusal g x sizes =
-    headerRefusal x (length (configuredSizes sizes)) (payloadRefusal (x .chunk) (x .«payload_header») sizes (g .lengths) (g .messages))
+    headerRefusal x (length (g .text)) (length (configuredSizes sizes))
+    (payloadRefusal (x .chunk) (x .«payload_header») sizes (g .lengths) (g .messages))
 
 -- "then over 255 messages, or what would read back otherwise, by 6": a part of another length than said, one that nothing
 -- announces, ids or lengths that are not the configured ones

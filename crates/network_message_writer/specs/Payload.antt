@@ -32,11 +32,11 @@ refusalNumber (got v next) = 0
 refusalNumber (refused n place) = n
 
 -- what reading refuses: the lengths of several messages by their own rule, and any other payload by reading's own number, of the messages
--- alone
+-- alone; a chunk's payload is refused by whoever takes it in, and a chunk has no Count (ids given for one read back otherwise)
 abbrev pub payloadRefusal : Bool → PayloadHeader → List ℕ → List ℕ → List ℕ → ℕ
 payloadRefusal chunk PayloadHeader.Absent sizes lengths messages = refusalNumber (payloadAt chunk PayloadHeader.Absent sizes messages 0)
 payloadRefusal chunk (PayloadHeader.Ids n) sizes lengths messages =
-    cond (leb n 1) (refusalNumber (restOnlyAt messages 0)) (listedRefusal n lengths (length messages))
+    cond chunk 0 (cond (leb n 1) (refusalNumber (restOnlyAt messages 0)) (listedRefusal n lengths (length messages)))
 payloadRefusal chunk (PayloadHeader.Chunk w) sizes lengths messages = 0
 
 -- what would read back otherwise is 6: lengths of several messages that are not the configured ones, or lengths where none is given

@@ -52,7 +52,7 @@ ghost use lib.ListN.{length};
 ghost use Rattle.network_header.specs.Numbers.{configuredSizes};
 ghost use Rattle.wire_writer.specs.Writing.{Puts, Writes, writing};
 ghost use Rattle.network_message_writer.specs.Payload.{payloadRefusal};
-ghost use Rattle.network_message_writer.specs.Envelope.{givenDatagram, tailBytes, envelopeBytes, datagramOf, headerRefusal, shapeRefusal, datagramOutput, againOf, datagramAgain};
+ghost use Rattle.network_message_writer.specs.Envelope.{givenDatagram, tailBytes, envelopeBytes, datagramOf, headerRefusal, shapeRefusal, datagramRefusal, datagramOutput, againOf, datagramAgain};
 ghost use Rattle.publisher_id.specs.Publisher.{textOf};
 ghost use Rattle.network_header.specs.Header.{idsOf, promotedOf};
 ghost use Rattle.wire.specs.Constants.{MOST_DATAGRAM};
@@ -113,9 +113,9 @@ fn put_header(out: &mut [u8], x: Envelope, text: &[u8], ids: &[u8], promoted: &[
     put_tail(out, after_group, x, ids, promoted)
 }
 
-// The refusals of the header's parts in reading order, and then that of the payload.
-fn header_refusal(x: Envelope, configured: usize, payload: u8) -> u8
-    ensures { λ r. ⌜ r ≡ headerRefusal x configured payload ⌝ }
+// The refusals of the header's parts in reading order, with so many bytes of text, and then that of the payload.
+fn header_refusal(x: Envelope, text: usize, configured: usize, payload: u8) -> u8
+    ensures { λ r. ⌜ r ≡ headerRefusal x text configured payload ⌝ }
 {
     let publisher = x.publisher;
     let group = x.group;
@@ -130,7 +130,7 @@ fn header_refusal(x: Envelope, configured: usize, payload: u8) -> u8
         or_else(picoseconds_refusal(picoseconds), last),
     );
     let head = or_else(
-        publisher_refusal(publisher),
+        publisher_refusal(publisher, text),
         or_else(group_refusal(group), tail),
     );
     or_else(
@@ -139,15 +139,15 @@ fn header_refusal(x: Envelope, configured: usize, payload: u8) -> u8
     )
 }
 
-fn reading_refusal(x: Envelope, lengths: &[u8], messages: &[u8], sizes: &[u16]) -> u8
+fn reading_refusal(x: Envelope, text: &[u8], lengths: &[u8], messages: &[u8], sizes: &[u16]) -> u8
     ensures { λ r.
         let refusal = payloadRefusal (x .chunk) (x .«payload_header») (now (sizes .entry)) in
         let payload = refusal (now (lengths .entry)) (now (messages .entry)) in
-        ⌜ r ≡ headerRefusal x (length (configuredSizes (now (sizes .entry)))) payload ⌝ }
+        ⌜ r ≡ headerRefusal x (length (now (text .entry))) (length (configuredSizes (now (sizes .entry)))) payload ⌝ }
 {
     let payload_header = x.payload_header;
     let payload = payload_refusal(x.chunk, payload_header, sizes, lengths, messages);
-    header_refusal(x, writers(sizes), payload)
+    header_refusal(x, text.len(), writers(sizes), payload)
 }
 
 // What would read back otherwise.
@@ -217,6 +217,29 @@ fn datagram_size(
     header_size(x, text, ids, promoted) + (list_size(payload_header, lengths) + messages.len())
 }
 
+// The number by which `write` refuses these parts before it looks at the room, or 0: reading's number of what would be written, in
+// reading order; then 6 for what would read back otherwise.
+pub fn refusal(
+    x: Envelope,
+    text: &[u8],
+    ids: &[u8],
+    promoted: &[u8],
+    lengths: &[u8],
+    messages: &[u8],
+    sizes: &[u16],
+    configured: &[u16],
+) -> u8
+    ensures { λ r.
+        let lists = givenDatagram (now (text .entry)) (now (ids .entry)) (now (promoted .entry)) in
+        let g = lists (now (lengths .entry)) (now (messages .entry)) in
+        ⌜ r ≡ datagramRefusal g x (now (sizes .entry)) (now (configured .entry)) ⌝ }
+{
+    or_else(
+        reading_refusal(x, text, lengths, messages, sizes),
+        shape_refusal(x, text, ids, promoted, lengths, sizes, configured),
+    )
+}
+
 // Writes a NetworkMessage from the start of a buffer. `text` has the bytes of a string PublisherId, `ids` the
 // DataSetWriterIds and `lengths` the lengths of several messages, each as 2 bytes, lowest first; for one message and for a
 // chunk `lengths` is empty. `messages` has the messages one after the other, or a chunk's payload. `sizes` and `configured`
@@ -238,10 +261,7 @@ pub fn write(
         let output = datagramOutput g x (now (sizes .entry)) (now (configured .entry)) in
         ⌜ Writes output (now (out .entry)) (now (out .exit)) r ⌝ }
 {
-    let number = or_else(
-        reading_refusal(x, lengths, messages, sizes),
-        shape_refusal(x, text, ids, promoted, lengths, sizes, configured),
-    );
+    let number = refusal(x, text, ids, promoted, lengths, messages, sizes, configured);
     if number != 0 {
         return Written::Refused(number);
     }

@@ -39,8 +39,11 @@ pub(crate) fn payload_refusal(
     match x {
         PayloadHeader::Absent => payload_number(messages, chunk, x, sizes),
         PayloadHeader::Ids(n) => {
+            if chunk {
+                return 0;
+            }
             if n <= 1 {
-                return payload_number(messages, chunk, x, sizes);
+                return payload_number(messages, false, PayloadHeader::Ids(1), sizes);
             }
             listed_refusal(n, lengths, messages.len())
         }
@@ -115,7 +118,7 @@ pub(crate) fn put_payload(
 }
 
 // The lengths of n messages of so many bytes.
-fn listed_refusal(n: u8, lengths: &[u8], rest: usize) -> u8
+fn listed_refusal(n: u16, lengths: &[u8], rest: usize) -> u8
     ensures { λ r. ⌜ r ≡ listedRefusal n (now (lengths .entry)) rest ⌝ }
 {
     let count = n as usize;

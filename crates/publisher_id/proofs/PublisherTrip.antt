@@ -1,6 +1,6 @@
 -- Each part between the flags and the payload: what was read is what stands there.
 -- Assumes nothing.
-use mathlib.Core.Path.{_≡_, refl, sym, subst, _∙_, ap, ap₂}
+use mathlib.Core.Path.{_≡_, refl, sym, subst, _∙_, ap}
 use mathlib.Core.List.{List, _++_}
 use mathlib.Core.Bool.{Bool, true, false, cond}
 use Prim.Native.Nat.{ℕ, zero, suc, _+_, _-_, _^_, _*_, _≤_, _<_}
@@ -8,9 +8,9 @@ use native.Mathlib.Omega.{arith}
 use lib.ListN.{length, drop, length-drop, length-append}
 use lib.Seq.{length-take-le}
 use lib.Dec.{eqb, leb, ltb}
-use borrow.Author.Tests.{eqb-true, eqb-false, lt-leb, lt-ltb, le-leb, leb-false}
+use borrow.Author.Tests.{eqb-true, lt-leb, lt-ltb, le-leb, leb-false}
 use Rattle.wire.specs.Number.{le, leBytes, signed}
-use Rattle.wire.specs.Answer.{got, refused, andThen, item, run, pure, _>>=_}
+use Rattle.wire.specs.Answer.{got, refused, andThen, item, run, refuse, pure, _>>=_}
 use Rattle.wire.specs.Items.{lengthOf}
 use lib.IntN.{pos, negsuc}
 use Rattle.wire.proofs.Reading.{got-value, got-next, not-got}
@@ -67,75 +67,77 @@ module _ (s : List ℕ) (at : ℕ) (p : PublisherId) (next : ℕ) (b : Bytes s) 
           signed-length (le 4 s at) (at + 4) (2 ^ (8 * 4) - 1 - le 4 s at) (ltb (le 4 s at) (2 ^ (8 * 4 - 1))) (rw e) q
       go false e q = absurd (not-got q)
 
-publisher-kind : (kind : ℕ) (s : List ℕ) (at : ℕ) (p : PublisherId) (next : ℕ) → Bytes s → kind < 5 → publisherOf kind s at ≡ got p next
+publisher-kind : (kind : ℕ) (s : List ℕ) (at : ℕ) (p : PublisherId) (next : ℕ) → Bytes s → publisherOf kind s at ≡ got p next
     → Back s at (publisherBytes (textOf s p next) p) next × (publisherOn p ≡ true) × (idTypeOf p ≡ kind)
-publisher-kind kind s at p next b hk h = go0 (eqb kind 0) refl h
+publisher-kind kind s at p next b h = go (eqb kind 0) (eqb kind 1) (eqb kind 2) (eqb kind 3) (eqb kind 4) refl refl refl refl refl h
   where
-    text : ((kind ≡ 3) → ⊥) → ((kind ≡ 2) → ⊥) → ((kind ≡ 1) → ⊥) → ((kind ≡ 0) → ⊥) → stringAt s at ≡ got p next → Back s at (publisherBytes (textOf s p next) p) next × (publisherOn p ≡ true)
-        × (idTypeOf p ≡ kind)
-    text k3 k2 k1 k0 q =
-        let x = string-back s at p next b q in
-        let z : kind ≡ 4 = omega arith in
-        (x .1, x .0 .0, x .0 .1 ∙ sym z)
-
-    go3 : (t : Bool) → eqb kind 3 ≡ t → ((kind ≡ 2) → ⊥) → ((kind ≡ 1) → ⊥) → ((kind ≡ 0) → ⊥)
-        → cond t (item 8 >>= λ v. pure (PublisherId.UInt64 v)) stringAt s at ≡ got p next → Back s at (publisherBytes (textOf s p next) p) next × (publisherOn p ≡ true) × (idTypeOf p ≡ kind)
-    go3 true e k2 k1 k0 q =
-        let x = map-back (item 8) PublisherId.UInt64 s at p next q in
-        rw (sym (x .2)) (item-back 8 s at (x .0) next b (x .1) .0, refl, sym (eqb-true kind 3 e))
-    go3 false e k2 k1 k0 q = text (eqb-false kind 3 e) k2 k1 k0 q
-
-    go2 : (t : Bool) → eqb kind 2 ≡ t → ((kind ≡ 1) → ⊥) → ((kind ≡ 0) → ⊥)
-        → cond t (item 4 >>= λ v. pure (PublisherId.UInt32 v)) (cond (eqb kind 3) (item 8 >>= λ v. pure (PublisherId.UInt64 v)) stringAt) s at ≡ got p next
+    go : (t0 t1 t2 t3 t4 : Bool) → eqb kind 0 ≡ t0 → eqb kind 1 ≡ t1 → eqb kind 2 ≡ t2 → eqb kind 3 ≡ t3 → eqb kind 4 ≡ t4
+        → cond t0 (item 1 >>= λ v. pure (PublisherId.Byte v))
+        (cond t1 (item 2 >>= λ v. pure (PublisherId.UInt16 v))
+        (cond t2 (item 4 >>= λ v. pure (PublisherId.UInt32 v)) (cond t3 (item 8 >>= λ v. pure (PublisherId.UInt64 v)) (cond t4 stringAt (refuse 3))))) s at ≡ got p next
         → Back s at (publisherBytes (textOf s p next) p) next × (publisherOn p ≡ true) × (idTypeOf p ≡ kind)
-    go2 true e k1 k0 q =
-        let x = map-back (item 4) PublisherId.UInt32 s at p next q in
-        rw (sym (x .2)) (item-back 4 s at (x .0) next b (x .1) .0, refl, sym (eqb-true kind 2 e))
-    go2 false e k1 k0 q = go3 (eqb kind 3) refl (eqb-false kind 2 e) k1 k0 q
-
-    go1 : (t : Bool) → eqb kind 1 ≡ t → ((kind ≡ 0) → ⊥)
-        → cond t (item 2 >>= λ v. pure (PublisherId.UInt16 v))
-        (cond (eqb kind 2) (item 4 >>= λ v. pure (PublisherId.UInt32 v)) (cond (eqb kind 3) (item 8 >>= λ v. pure (PublisherId.UInt64 v)) stringAt)) s at ≡ got p next
-        → Back s at (publisherBytes (textOf s p next) p) next × (publisherOn p ≡ true) × (idTypeOf p ≡ kind)
-    go1 true e k0 q =
-        let x = map-back (item 2) PublisherId.UInt16 s at p next q in
-        rw (sym (x .2)) (item-back 2 s at (x .0) next b (x .1) .0, refl, sym (eqb-true kind 1 e))
-    go1 false e k0 q = go2 (eqb kind 2) refl (eqb-false kind 1 e) k0 q
-
-    go0 : (t : Bool) → eqb kind 0 ≡ t
-        → cond t (item 1 >>= λ v. pure (PublisherId.Byte v))
-        (cond (eqb kind 1) (item 2 >>= λ v. pure (PublisherId.UInt16 v))
-        (cond (eqb kind 2) (item 4 >>= λ v. pure (PublisherId.UInt32 v)) (cond (eqb kind 3) (item 8 >>= λ v. pure (PublisherId.UInt64 v)) stringAt))) s at ≡ got p next
-        → Back s at (publisherBytes (textOf s p next) p) next × (publisherOn p ≡ true) × (idTypeOf p ≡ kind)
-    go0 true e q =
+    go true t1 t2 t3 t4 e0 e1 e2 e3 e4 q =
         let x = map-back (item 1) PublisherId.Byte s at p next q in
-        rw (sym (x .2)) (item-back 1 s at (x .0) next b (x .1) .0, refl, sym (eqb-true kind 0 e))
-    go0 false e q = go1 (eqb kind 1) refl (eqb-false kind 0 e) q
+        rw (sym (x .2)) (item-back 1 s at (x .0) next b (x .1) .0, refl, sym (eqb-true kind 0 e0))
+    go false true t2 t3 t4 e0 e1 e2 e3 e4 q =
+        let x = map-back (item 2) PublisherId.UInt16 s at p next q in
+        rw (sym (x .2)) (item-back 2 s at (x .0) next b (x .1) .0, refl, sym (eqb-true kind 1 e1))
+    go false false true t3 t4 e0 e1 e2 e3 e4 q =
+        let x = map-back (item 4) PublisherId.UInt32 s at p next q in
+        rw (sym (x .2)) (item-back 4 s at (x .0) next b (x .1) .0, refl, sym (eqb-true kind 2 e2))
+    go false false false true t4 e0 e1 e2 e3 e4 q =
+        let x = map-back (item 8) PublisherId.UInt64 s at p next q in
+        rw (sym (x .2)) (item-back 8 s at (x .0) next b (x .1) .0, refl, sym (eqb-true kind 3 e3))
+    go false false false false true e0 e1 e2 e3 e4 q =
+        let x = string-back s at p next b q in
+        (x .1, x .0 .0, x .0 .1 ∙ sym (eqb-true kind 4 e4))
+    go false false false false false e0 e1 e2 e3 e4 q = absurd (not-got q)
 
-pub publisher-back : (on : Bool) (kind : ℕ) (s : List ℕ) (at : ℕ) (p : PublisherId) (next : ℕ) → Bytes s → at ≤ length s → (on ≡ true → kind < 5) → publisherAt on kind s at ≡ got p next
+pub publisher-back : (on : Bool) (kind : ℕ) (s : List ℕ) (at : ℕ) (p : PublisherId) (next : ℕ) → Bytes s → at ≤ length s → publisherAt on kind s at ≡ got p next
     → Back s at (publisherBytes (textOf s p next) p) next × (publisherOn p ≡ on) × (idTypeOf p ≡ cond on kind 0)
-publisher-back true kind s at p next b l hk h = publisher-kind kind s at p next b (hk refl) h
-publisher-back false kind s at p next b l hk h = rw (sym (got-value h), sym (got-next h)) (empty s at l, refl, refl)
+publisher-back true kind s at p next b l h = publisher-kind kind s at p next b h
+publisher-back false kind s at p next b l h = rw (sym (got-value h), sym (got-next h)) (empty s at l, refl, refl)
 
-text-is : (n : ℕ) (text : List ℕ) (m : ℕ) → n < 65 → n ≡ length text → Reads (publisherAt true 4) m (leBytes 4 (length text) ++ text) (PublisherId.Text n)
-text-is n text m k e s at =
+text-is : (text : List ℕ) (m : ℕ) → length text < 65 → Reads (publisherAt true 4) m (leBytes 4 (length text) ++ text) (PublisherId.Text (length text))
+text-is text m k s at =
     let c = leBytes 4 (length text) in
     let h : length text < 256 ^ 4 = omega arith in
     let l : m + 4 ≤ length s = omega (arith, fits-at s m (c ++ text) at, length-append c text) in
     let p : le 4 s m ≡ length text = le-at 4 (length text) m h s (first s m c text at) in
     let u : length text < 2147483648 = omega arith in
-    let j : length text < 65 = omega arith in
     let q = run-is (length text) (m + 4) text refl s (second s m c text at) in
     let z : m + 4 + length text ≡ m + length (c ++ text) = omega (arith, length-append c text) in
-    rw (le-leb (m + 4) (length s) l, p, lt-ltb (length text) 2147483648 u, lt-leb 65 (length text) j, q)
-    (ap₂ (λ (i : PublisherId) (n : ℕ). got i n) (ap PublisherId.Text (sym e)) z)
+    rw (le-leb (m + 4) (length s) l, p, lt-ltb (length text) 2147483648 u, lt-leb 65 (length text) k, q)
+    (ap (λ (n : ℕ). got (PublisherId.Text (length text)) n) z)
 
-pub publisher-is : (p : PublisherId) (text : List ℕ) (m : ℕ) → FitsPublisher p → publisherRefusal p ≡ 0 → publisherShape p (length text) ≡ 0
+-- the id that is written: a string has as many bytes as are given
+abbrev pub written : List ℕ → PublisherId → PublisherId
+written text PublisherId.Absent = PublisherId.Absent
+written text (PublisherId.Byte v) = PublisherId.Byte v
+written text (PublisherId.UInt16 v) = PublisherId.UInt16 v
+written text (PublisherId.UInt32 v) = PublisherId.UInt32 v
+written text (PublisherId.UInt64 v) = PublisherId.UInt64 v
+written text (PublisherId.Text n) = PublisherId.Text (length text)
+
+pub publisher-written : (p : PublisherId) (text : List ℕ) (m : ℕ) → FitsPublisher p → publisherRefusal p (length text) ≡ 0
+    → Reads (publisherAt (publisherOn p) (idTypeOf p)) m (publisherBytes text p) (written text p)
+publisher-written PublisherId.Absent text m f a = nothing PublisherId.Absent m
+publisher-written (PublisherId.Byte v) text m f a = last (item 1) PublisherId.Byte m (leBytes 1 v) v (item-is 1 v m f)
+publisher-written (PublisherId.UInt16 v) text m f a = last (item 2) PublisherId.UInt16 m (leBytes 2 v) v (item-is 2 v m f)
+publisher-written (PublisherId.UInt32 v) text m f a = last (item 4) PublisherId.UInt32 m (leBytes 4 v) v (item-is 4 v m f)
+publisher-written (PublisherId.UInt64 v) text m f a = last (item 8) PublisherId.UInt64 m (leBytes 8 v) v (item-is 8 v m f)
+publisher-written (PublisherId.Text n) text m f a = text-is text m (leb-false 65 (length text) (passed (leb 65 (length text)) 9 0 a .0))
+
+-- and it is the id given where its text has the said length
+as-said : (p : PublisherId) (text : List ℕ) → publisherShape p (length text) ≡ 0 → written text p ≡ p
+as-said PublisherId.Absent text b = refl
+as-said (PublisherId.Byte v) text b = refl
+as-said (PublisherId.UInt16 v) text b = refl
+as-said (PublisherId.UInt32 v) text b = refl
+as-said (PublisherId.UInt64 v) text b = refl
+as-said (PublisherId.Text n) text b = ap PublisherId.Text (sym (eqb-true n (length text) (held (eqb n (length text)) 5 b)))
+
+pub publisher-is : (p : PublisherId) (text : List ℕ) (m : ℕ) → FitsPublisher p → publisherRefusal p (length text) ≡ 0 → publisherShape p (length text) ≡ 0
     → Reads (publisherAt (publisherOn p) (idTypeOf p)) m (publisherBytes text p) p
-publisher-is PublisherId.Absent text m f a b = nothing PublisherId.Absent m
-publisher-is (PublisherId.Byte v) text m f a b = last (item 1) PublisherId.Byte m (leBytes 1 v) v (item-is 1 v m f)
-publisher-is (PublisherId.UInt16 v) text m f a b = last (item 2) PublisherId.UInt16 m (leBytes 2 v) v (item-is 2 v m f)
-publisher-is (PublisherId.UInt32 v) text m f a b = last (item 4) PublisherId.UInt32 m (leBytes 4 v) v (item-is 4 v m f)
-publisher-is (PublisherId.UInt64 v) text m f a b = last (item 8) PublisherId.UInt64 m (leBytes 8 v) v (item-is 8 v m f)
-publisher-is (PublisherId.Text n) text m f a b =
-    text-is n text m (leb-false 65 n (passed (leb 65 n) 9 0 a .0)) (eqb-true n (length text) (held (eqb n (length text)) 5 b))
+publisher-is p text m f a b =
+    subst (λ (x : PublisherId). Reads (publisherAt (publisherOn p) (idTypeOf p)) m (publisherBytes text p) x) (as-said p text b) (publisher-written p text m f a)

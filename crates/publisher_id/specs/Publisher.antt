@@ -2,8 +2,8 @@
 use Prim.Native.Nat.{ℕ, _-_, _<_}
 use mathlib.Core.Bool.{Bool, cond, true, false}
 use lib.Dec.{ltb, eqb}
-use Rattle.wire.specs.Constants.{BAD_LENGTH, DISAGREE, MOST_TEXT_ID, OVER_LIMIT}
-use Rattle.wire.specs.Answer.{Answer, got, refused, Reader, item, run, whenOn, pure, andThen, _>>=_}
+use Rattle.wire.specs.Constants.{BAD_LENGTH, DISAGREE, MOST_TEXT_ID, NOT_PERMITTED, OVER_LIMIT}
+use Rattle.wire.specs.Answer.{Answer, got, refused, Reader, item, run, refuse, whenOn, pure, andThen, _>>=_}
 use Rattle.wire.specs.Items.{lengthItem}
 use Rattle.wire.specs.declared.Length.{Length}
 use Rattle.publisher_id.specs.declared.publisher.PublisherId.{PublisherId}
@@ -30,13 +30,15 @@ stringThen at Length.Negative s start = refused BAD_LENGTH at
 abbrev pub stringAt : Reader PublisherId
 stringAt s at = andThen (lengthItem s at) (λ length start. stringThen at length s start)
 
--- "PublisherId type: 0 Byte, 1 UInt16, 2 UInt32, 3 UInt64, 4 String" (5 to 7 were refused at ExtendedFlags1)
+-- "PublisherId type: 0 Byte, 1 UInt16, 2 UInt32, 3 UInt64, 4 String; 5 to 7 are 3", as is any other number: in a datagram ExtendedFlags1
+-- has refused it before
 abbrev pub publisherOf : ℕ → Reader PublisherId
 publisherOf kind =
     cond (eqb kind 0) (item 1 >>= λ v. pure (PublisherId.Byte v))
     (cond (eqb kind 1) (item 2 >>= λ v. pure (PublisherId.UInt16 v))
     (cond (eqb kind 2) (item 4 >>= λ v. pure (PublisherId.UInt32 v))
-    (cond (eqb kind 3) (item 8 >>= λ v. pure (PublisherId.UInt64 v)) stringAt)))
+    (cond (eqb kind 3) (item 8 >>= λ v. pure (PublisherId.UInt64 v))
+    (cond (eqb kind 4) stringAt (refuse NOT_PERMITTED)))))
 
 abbrev pub publisherAt : Bool → ℕ → Reader PublisherId
 publisherAt on kind = whenOn on PublisherId.Absent (publisherOf kind)
@@ -71,16 +73,16 @@ publisherBytes text (PublisherId.UInt32 v) = leBytes 4 v
 publisherBytes text (PublisherId.UInt64 v) = leBytes 8 v
 publisherBytes text (PublisherId.Text n) = leBytes 4 (length text) ++ text
 
--- what reading refuses: a string "above 64 is 10"
-abbrev pub publisherRefusal : PublisherId → ℕ
-publisherRefusal PublisherId.Absent = 0
-publisherRefusal (PublisherId.Byte v) = 0
-publisherRefusal (PublisherId.UInt16 v) = 0
-publisherRefusal (PublisherId.UInt32 v) = 0
-publisherRefusal (PublisherId.UInt64 v) = 0
-publisherRefusal (PublisherId.Text n) = cond (textTooLong n) OVER_LIMIT 0
+-- what reading refuses: a string "above 64 is 10", by how many bytes of it are given, since these are written
+abbrev pub publisherRefusal : PublisherId → ℕ → ℕ
+publisherRefusal PublisherId.Absent len = 0
+publisherRefusal (PublisherId.Byte v) len = 0
+publisherRefusal (PublisherId.UInt16 v) len = 0
+publisherRefusal (PublisherId.UInt32 v) len = 0
+publisherRefusal (PublisherId.UInt64 v) len = 0
+publisherRefusal (PublisherId.Text n) len = cond (textTooLong len) OVER_LIMIT 0
 
--- and bytes of a string that are not as many as the id says
+-- what would read back otherwise is 6: bytes of a string that are not as many as the id says
 abbrev pub publisherShape : PublisherId → ℕ → ℕ
 publisherShape PublisherId.Absent len = unused len
 publisherShape (PublisherId.Byte v) len = unused len

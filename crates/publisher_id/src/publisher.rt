@@ -8,6 +8,7 @@ use wire::Run;
 use wire::constants::BAD_LENGTH;
 use wire::constants::CUT_SHORT;
 use wire::constants::MOST_TEXT_ID;
+use wire::constants::NOT_PERMITTED;
 use wire::constants::OVER_LIMIT;
 use wire_writer::store::put_run;
 use wire_writer::store::put8;
@@ -72,7 +73,7 @@ fn string_id(s: &[u8], at: usize) -> PublisherRead
     }
 }
 
-// Reads the PublisherId of a type, where the flags announce one.
+// Reads the PublisherId of a type, where the flags announce one; a number that is no type is 3.
 pub fn read_publisher(s: &[u8], on: bool, kind: u8, at: usize) -> PublisherRead
     ensures { λ r. ⌜ answerPublisher r ≡ publisherAt on kind (now (s .entry)) at ⌝ }
 {
@@ -103,7 +104,10 @@ pub fn read_publisher(s: &[u8], on: bool, kind: u8, at: usize) -> PublisherRead
         };
         return PublisherRead::Is(PublisherId::UInt64(v), next);
     }
-    string_id(s, at)
+    if kind == 4 {
+        return string_id(s, at);
+    }
+    PublisherRead::Refused(NOT_PERMITTED, at)
 }
 
 // Whether there is a PublisherId.
@@ -180,9 +184,9 @@ fn text_refusal(n: usize) -> u8
     0
 }
 
-// The number by which reading refuses a PublisherId, or 0.
-pub fn publisher_refusal(p: PublisherId) -> u8
-    ensures { λ r. ⌜ r ≡ publisherRefusal p ⌝ }
+// The number by which reading refuses a PublisherId, a string with so many bytes of text, or 0.
+pub fn publisher_refusal(p: PublisherId, len: usize) -> u8
+    ensures { λ r. ⌜ r ≡ publisherRefusal p len ⌝ }
 {
     match p {
         PublisherId::Absent => 0,
@@ -190,7 +194,7 @@ pub fn publisher_refusal(p: PublisherId) -> u8
         PublisherId::UInt16(_) => 0,
         PublisherId::UInt32(_) => 0,
         PublisherId::UInt64(_) => 0,
-        PublisherId::Text(n) => text_refusal(n),
+        PublisherId::Text(_) => text_refusal(len),
     }
 }
 

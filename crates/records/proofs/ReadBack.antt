@@ -6,7 +6,7 @@ use mathlib.Core.Bool.{Bool, true, false}
 use mathlib.Core.List.{List, [], _∷_, _++_, append-assoc}
 use native.Mathlib.Nat.{add-zero}
 use native.Mathlib.Omega.{arith}
-use borrow.Author.Tests.{le-leb}
+use borrow.Author.Tests.{le-leb, le-ltb}
 use lib.Dec.{eqb, leb}
 use lib.ListN.{length, getD, take, drop, length-append, length-drop, take-append-drop}
 use lib.Seq.{length-sets, sets-eq, drop-drop, length-take-le}
@@ -90,11 +90,11 @@ flag-fits false = omega arith
 
 pub given16-back : (o : Optional16) → Fits16 o → given16 (on16 o) (value16 o) ≡ o
 given16-back Optional16.Absent f = refl
-given16-back (Optional16.Is v) f = ap Optional16.Is (omega arith)
+given16-back (Optional16.Is v) f = ap Optional16.Is (rw (le-ltb 65535 v (omega arith)))
 
 pub given32-back : (o : Optional32) → Fits32 o → given32 (on32 o) (value32 o) ≡ o
 given32-back Optional32.Absent f = refl
-given32-back (Optional32.Is v) f = ap Optional32.Is (omega arith)
+given32-back (Optional32.Is v) f = ap Optional32.Is (rw (le-ltb 4294967295 v (omega arith)))
 
 pub givenI64-back : (o : OptionalI64) → FitsI64 o → givenI64 (onI64 o) (valueI64 o) ≡ o
 givenI64-back OptionalI64.Absent f = refl

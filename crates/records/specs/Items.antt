@@ -1,11 +1,12 @@
 -- Items that may be absent, as numbers of a record (include/uadp.h).
-use Prim.Native.Nat.{ℕ, _%_}
+use Prim.Native.Nat.{ℕ}
 use Rattle.wire.specs.declared.optional.Optional16.{Optional16}
 use Rattle.wire.specs.declared.optional.Optional32.{Optional32}
 use Rattle.wire.specs.declared.optional.OptionalI64.{OptionalI64}
 use Rattle.wire.specs.Number.{unsigned, signed}
 use mathlib.Core.Bool.{Bool, true, false, not, cond}
-use lib.Dec.{eqb}
+use lib.Dec.{eqb, leb}
+use Rattle.config.specs.Writers.{atMost}
 
 -- "1 sequence number, 2 timestamp, ..": whether an item is present, as a number; and its value, "0 where absent"
 abbrev pub has16 : Optional16 → ℕ
@@ -39,11 +40,16 @@ flagNumber false = 0
 abbrev pub isOn : ℕ → Bool
 isOn n = not (eqb n 0)
 
+-- an item in a record to be written from: "a number that does not fit its item counts as the largest that does"
 abbrev pub given16 : Bool → ℕ → Optional16
-given16 on v = cond on (Optional16.Is (v % 65536)) Optional16.Absent
+given16 on v = cond on (Optional16.Is (atMost 65535 v)) Optional16.Absent
 
 abbrev pub given32 : Bool → ℕ → Optional32
-given32 on v = cond on (Optional32.Is (v % 4294967296)) Optional32.Absent
+given32 on v = cond on (Optional32.Is (atMost 4294967295 v)) Optional32.Absent
+
+-- whether the number of an item, where the item is present, fits it: it is at most the largest that does
+abbrev pub fitsItem : Bool → ℕ → ℕ → Bool
+fitsItem on most v = cond on (leb v most) true
 
 -- "signed (two's complement)"
 abbrev pub givenI64 : Bool → ℕ → OptionalI64

@@ -5,8 +5,9 @@ use wire::optional::OptionalI64;
 use wire::signed64;
 use wire_writer::store::unsigned64;
 ghost use mathlib.Core.Path.{_≡_};
-ghost use Rattle.records.specs.Items.{isOn, given16, given32, givenI64, has16, value16, has32, value32, hasI64, valueI64, flagNumber};
+ghost use Rattle.records.specs.Items.{isOn, given16, given32, givenI64, fitsItem, has16, value16, has32, value32, hasI64, valueI64, flagNumber};
 ghost use Prim.Native.Nat.{_≤_};
+ghost use Rattle.config.specs.Writers.{atMost};
 
 // Whether a number of a record says "present".
 pub fn is_on(n: u64) -> bool
@@ -15,22 +16,42 @@ pub fn is_on(n: u64) -> bool
     n != 0
 }
 
-// An item of 2 bytes where it is said to be present; the lowest bytes count.
+// A number, or the most that it may be.
+pub fn at_most(most: u64, v: u64) -> u64
+    ensures { λ r. ⌜ (r ≡ atMost most v) × (r ≤ most) ⌝ }
+{
+    if most < v {
+        return most;
+    }
+    v
+}
+
+// Whether the number of an item fits it: where the item is present, the number is at most the largest that does.
+pub fn fits_item(on: bool, most: u64, v: u64) -> bool
+    ensures { λ r. ⌜ r ≡ fitsItem on most v ⌝ }
+{
+    if on {
+        return v <= most;
+    }
+    true
+}
+
+// An item of 2 bytes where it is said to be present; a number that does not fit counts as the largest that does.
 pub fn given16(on: bool, v: u64) -> Optional16
     ensures { λ r. ⌜ r ≡ given16 on v ⌝ }
 {
     if on {
-        return Optional16::Is((v % 65536) as u16);
+        return Optional16::Is(at_most(65535, v) as u16);
     }
     Optional16::Absent
 }
 
-// An item of 4 bytes where it is said to be present; the lowest bytes count.
+// An item of 4 bytes where it is said to be present; a number that does not fit counts as the largest that does.
 pub fn given32(on: bool, v: u64) -> Optional32
     ensures { λ r. ⌜ r ≡ given32 on v ⌝ }
 {
     if on {
-        return Optional32::Is((v % 4294967296) as u32);
+        return Optional32::Is(at_most(4294967295, v) as u32);
     }
     Optional32::Absent
 }

@@ -7,10 +7,10 @@ use Prim.Native.Nat.{ℕ, zero, suc, _+_, _*_, _≤_}
 use native.Mathlib.Omega.{arith}
 use lib.ListN.{length, take, drop, length-append, length-drop, take-append-drop}
 use lib.Seq.{length-take-le, drop-drop}
-use lib.Dec.{leb}
+use lib.Dec.{eqb, leb}
 use borrow.Author.Tests.{eq-eqb, lt-leb}
 use Rattle.wire.specs.Number.{le, leBytes}
-use Rattle.wire.specs.Answer.{got, run, signedItem, ruled}
+use Rattle.wire.specs.Answer.{got, refused, run, signedItem, ruled}
 use Rattle.wire.specs.Optional.{optionalI64, picosecondsRule, picosecondsAt}
 use Rattle.wire.specs.declared.optional.Optional16.{Optional16}
 use Rattle.wire.specs.declared.optional.OptionalI64.{OptionalI64}
@@ -34,6 +34,8 @@ use Rattle.network_message_writer.specs.Payload.{listBytes, refusalNumber, payl
 use Rattle.network_message_writer.specs.Envelope.{datagramOf, datagramRefusal, againOf}
 use Rattle.round_trip.specs.NetworkMessage.{rewritten, AsManyLengths, numbersBytes, idsGiven, lengthsGiven, messagesGiven, givenOf}
 use Rattle.network_header.proofs.Kept.{flags-kept, publisher-kept, group-kept, promoted-kept, HeaderKept, payload-header-kept}
+use Rattle.wire_writer.proofs.Refusals.{passed}
+use Rattle.round_trip.proofs.NetworkMessagePayload.{Counted}
 use Rattle.round_trip.proofs.NetworkMessageRefused.{payload-number}
 use Rattle.round_trip.proofs.NetworkMessageRewritten.{identity-of, times-of, header-same, flags-of, rewrite-read}
 use Rattle.wire_writer.specs.Fits.{Bytes, Numbers}
@@ -77,7 +79,7 @@ timestamp-on false s at x next h = subst (λ (x : OptionalI64). onI64 x ≡ fals
 -- no part of a header that was read is refused
 record Kept (s : List ℕ) (x : Envelope) (p : Places) (configured : ℕ) : Type 0 where
   times : timesRefusal (on16 (x .picoseconds)) (onI64 (x .timestamp)) ≡ 0
-  publisher : publisherRefusal (x .publisher) ≡ 0
+  publisher : publisherRefusal (x .publisher) (length (textOf s (x .publisher) (p .«publisher_end»))) ≡ 0
   text : publisherShape (x .publisher) (length (textOf s (x .publisher) (p .«publisher_end»))) ≡ 0
   group : groupRefusal (x .group) ≡ 0
   header : HeaderKept (x .chunk) s (p .«payload_header_end») (x .«payload_header»)
@@ -114,6 +116,11 @@ count-kept HeaderKept.absent = refl
 count-kept (HeaderKept.ids n c r l e) = r
 count-kept (HeaderKept.ofChunk w c) = refl
 
+counted-kept : {chunk : Bool} {s : List ℕ} {next : ℕ} {x : PayloadHeader} → HeaderKept chunk s next x → Counted chunk x
+counted-kept HeaderKept.absent = tt
+counted-kept (HeaderKept.ids n c r l e) = (c, passed (eqb n 0) 5 0 r .0)
+counted-kept (HeaderKept.ofChunk w c) = tt
+
 ids-kept : {chunk : Bool} {s : List ℕ} {next : ℕ} {x : PayloadHeader} (configured : List ℕ) → Numbers configured → HeaderKept chunk s next x
     → idsShape chunk x (idsGiven s x next configured) configured ≡ 0
 ids-kept configured h HeaderKept.absent = rw (numbers-same (take 16 configured) (numbers-take 16 configured h))
@@ -146,23 +153,26 @@ payload-whole (PayloadHeader.Ids n) s at sizes = go (leb n 1)
     go false = ap (λ (l : List ℕ). take (2 * n) (drop at s) ++ l) (sym (drop-drop (2 * n) at s)) ∙ take-append-drop (2 * n) (drop at s)
 payload-whole (PayloadHeader.Chunk w) s at sizes = refl
 
-many-lengths : (x : PayloadHeader) (chunk : Bool) (sizes s : List ℕ) (at : ℕ) (p : Payload) (next : ℕ) → payloadAt chunk x sizes s at ≡ got p next → AsManyLengths x (lengthsGiven s x at sizes)
-many-lengths PayloadHeader.Absent chunk sizes s at p next h = tt
-many-lengths (PayloadHeader.Ids n) chunk sizes s at p next h =
+many-lengths : (x : PayloadHeader) (chunk : Bool) (sizes s : List ℕ) (at : ℕ) (p : Payload) (next : ℕ) → Counted chunk x → payloadAt chunk x sizes s at ≡ got p next
+    → AsManyLengths x (lengthsGiven s x at sizes)
+many-lengths PayloadHeader.Absent chunk sizes s at p next c h = tt
+many-lengths (PayloadHeader.Ids n) chunk sizes s at p next c h =
     λ e.
-    let q : listedAt n s at ≡ got p next = ap (λ (b : Bool). cond b (restOnlyAt s at) (listedAt n s at)) (sym e) ∙ h in
+    let i : cond (leb n 1) (restOnlyAt s at) (listedAt n s at) ≡ got p next =
+    subst (λ (b : Bool). cond b (refused 6 at) (cond (leb n 1) (restOnlyAt s at) (listedAt n s at)) ≡ got p next) (c .1) h in
+    let q : listedAt n s at ≡ got p next = ap (λ (b : Bool). cond b (restOnlyAt s at) (listedAt n s at)) (sym e) ∙ i in
     let r = invert (run (2 * n) s at) (λ k i. _) q in
     let f = run-back (2 * n) s at (r .0) (r .1) (r .2) in
     let k : 2 * n ≤ length (drop at s) = omega (arith, f .2, length-drop at s) in
     ap (λ (b : Bool). length (cond b [] (take (2 * n) (drop at s)))) e ∙ length-take-le (2 * n) (drop at s) k
-many-lengths (PayloadHeader.Chunk w) chunk sizes s at p next h = tt
+many-lengths (PayloadHeader.Chunk w) chunk sizes s at p next c h = tt
 
-payload-kept : (x : PayloadHeader) (chunk : Bool) (sizes s : List ℕ) (at : ℕ) (p : Payload) (next : ℕ) → at ≤ length s → payloadAt chunk x sizes s at ≡ got p next
+payload-kept : (x : PayloadHeader) (chunk : Bool) (sizes s : List ℕ) (at : ℕ) (p : Payload) (next : ℕ) → at ≤ length s → Counted chunk x → payloadAt chunk x sizes s at ≡ got p next
     → payloadRefusal chunk x sizes (lengthsGiven s x at sizes) (messagesGiven s x at) ≡ 0
-payload-kept x chunk sizes s at p next l h =
+payload-kept x chunk sizes s at p next l c h =
     let w : take at s ++ (listBytes x (lengthsGiven s x at sizes) ++ messagesGiven s x at) ≡ s =
     ap (λ (y : List ℕ). take at s ++ y) (payload-whole x s at sizes) ∙ take-append-drop at s in
-    sym (payload-number x chunk sizes (take at s) (lengthsGiven s x at sizes) (messagesGiven s x at) at (length-take-le at s l) (many-lengths x chunk sizes s at p next h))
+    sym (payload-number x chunk sizes (take at s) (lengthsGiven s x at sizes) (messagesGiven s x at) at (length-take-le at s l) c (many-lengths x chunk sizes s at p next c h))
     ∙ ap (λ (y : List ℕ). refusalNumber (payloadAt chunk x sizes y at)) w ∙ ap refusalNumber h
 
 -- the header's bytes do not depend on ids that are not written
@@ -197,7 +207,7 @@ body-kept sizes configured s f n m next b hs hc hf h =
     (all-zero (k .group)
     (all-zero (count-kept (k .header))
     (all-zero (k .picoseconds)
-    (all-zero (k .promoted) (payload-kept (x .«payload_header») (x .chunk) sizes s (q .payload) (P .0) next l o)))))))
+    (all-zero (k .promoted) (payload-kept (x .«payload_header») (x .chunk) sizes s (q .payload) (P .0) next l (counted-kept (k .header)) o)))))))
     (all-zero (k .text)
     (all-zero (ids-kept configured hc (k .header)) (all-zero (k .bytes) (lengths-kept (x .«payload_header») s (q .payload) sizes hs)))))
 

@@ -23,7 +23,7 @@ use Rattle.wire_writer.specs.Writing.{unused}
 use Rattle.network_message_writer.specs.Payload.{listedRefusal, listBytes, refusalNumber, payloadRefusal, lengthsShape}
 use Rattle.network_message_writer.specs.Envelope.{GivenDatagram}
 use Rattle.round_trip.specs.NetworkMessage.{payloadFor, givenLengths}
-use Rattle.round_trip.proofs.NetworkMessagePayload.{listed-at-start, Listed, listed-facts, some-message, Configured, absent-facts}
+use Rattle.round_trip.proofs.NetworkMessagePayload.{Counted, unchunked, listed-at-start, Listed, listed-facts, some-message, Configured, absent-facts}
 
 -- one message, which takes the rest
 one-tiles : (sizes s messages : List ℕ) (at : ℕ) → at + length messages ≡ length s → 0 < length messages → Tiles (messagesFrom 1 Sizes.Rest at) sizes s (length messages ∷ [])
@@ -111,31 +111,31 @@ many-tiles sizes pre lengths messages n at e f = record { many = length-listed n
         rw (le-leb (at + 2 * k + 2) (length (pre ++ (lengths ++ messages))) r) (sym (listed-at n (pre ++ (lengths ++ messages)) at k j) ∙ ap (λ (xs : List ℕ). getD xs k 0) z)
 
 pub tiles : (x : PayloadHeader) → OfMessages x → (chunk : Bool) (sizes pre : List ℕ) (g : GivenDatagram) (m : ℕ) → length pre ≡ m
-    → payloadRefusal chunk x sizes (g .lengths) (g .messages) ≡ 0 → lengthsShape x (g .lengths) sizes ≡ 0
+    → Counted chunk x → payloadRefusal chunk x sizes (g .lengths) (g .messages) ≡ 0 → lengthsShape x (g .lengths) sizes ≡ 0
     → Tiles (payloadFor x sizes m) sizes (pre ++ (listBytes x (g .lengths) ++ g .messages)) (givenLengths g x sizes)
-tiles PayloadHeader.Absent o chunk sizes pre g m e h q =
+tiles PayloadHeader.Absent o chunk sizes pre g m e c h q =
     absent-tiles sizes (pre ++ g .messages) (g .lengths) (g .messages) m (omega (arith, length-append pre (g .messages))) (absent-facts chunk sizes (g .messages) h .1) q
-tiles (PayloadHeader.Ids n) o chunk sizes pre g m e h q = go (leb n 1) h
+tiles (PayloadHeader.Ids n) o chunk sizes pre g m e c h q = go (leb n 1) (unchunked chunk _ (c .0) h)
   where
     go : (b : Bool) → cond b (refusalNumber (restOnlyAt (g .messages) 0)) (listedRefusal n (g .lengths) (length (g .messages))) ≡ 0
         → Tiles (cond b (messagesFrom 1 Sizes.Rest m) (messagesFrom n (Sizes.Listed m) (m + 2 * n))) sizes
         (pre ++ (cond b [] (g .lengths) ++ g .messages)) (cond b (length (g .messages) ∷ []) (listed n (g .lengths) 0))
     go true r = one-tiles sizes (pre ++ g .messages) (g .messages) m (omega (arith, length-append pre (g .messages))) (some-message (g .messages) r)
     go false r = many-tiles sizes pre (g .lengths) (g .messages) n m e (listed-facts n (g .lengths) (length (g .messages)) r)
-tiles (PayloadHeader.Chunk w) o chunk sizes pre g m e h q = absurd o
+tiles (PayloadHeader.Chunk w) o chunk sizes pre g m e c h q = absurd o
 
 -- the first message stands after the list of sizes, where there is one
-pub first-is : (x : PayloadHeader) (chunk : Bool) (sizes lengths messages : List ℕ) (m : ℕ) → payloadRefusal chunk x sizes lengths messages ≡ 0
+pub first-is : (x : PayloadHeader) (chunk : Bool) (sizes lengths messages : List ℕ) (m : ℕ) → Counted chunk x → payloadRefusal chunk x sizes lengths messages ≡ 0
     → payloadFor x sizes m .first ≡ m + length (listBytes x lengths)
-first-is PayloadHeader.Absent chunk sizes lengths messages m h = go (allPositive (configuredSizes sizes))
+first-is PayloadHeader.Absent chunk sizes lengths messages m c h = go (allPositive (configuredSizes sizes))
   where
     go : (b : Bool) → cond b (messagesFrom (length (configuredSizes sizes)) Sizes.Configured m) (messagesFrom 1 Sizes.Rest m) .first ≡ m + 0
     go true = omega arith
     go false = omega arith
-first-is (PayloadHeader.Ids n) chunk sizes lengths messages m h = go (leb n 1) h
+first-is (PayloadHeader.Ids n) chunk sizes lengths messages m c h = go (leb n 1) (unchunked chunk _ (c .0) h)
   where
     go : (b : Bool) → cond b (refusalNumber (restOnlyAt messages 0)) (listedRefusal n lengths (length messages)) ≡ 0
         → cond b (messagesFrom 1 Sizes.Rest m) (messagesFrom n (Sizes.Listed m) (m + 2 * n)) .first ≡ m + length (cond b [] lengths)
     go true q = omega arith
     go false q = omega (arith, listed-facts n lengths (length messages) q .long)
-first-is (PayloadHeader.Chunk w) chunk sizes lengths messages m h = omega arith
+first-is (PayloadHeader.Chunk w) chunk sizes lengths messages m c h = omega arith

@@ -1,6 +1,6 @@
 -- The payload, read as it was written, and its messages.
 -- Assumes nothing.
-use mathlib.Core.Path.{_≡_, refl, _∙_}
+use mathlib.Core.Path.{_≡_, refl, subst, _∙_}
 use mathlib.Core.List.{List, [], _++_}
 use mathlib.Core.Bool.{Bool, true, false, cond}
 use Prim.Native.Nat.{ℕ, zero, suc, _+_, _*_, _≤_, _<_}
@@ -17,7 +17,33 @@ use Rattle.network_message.specs.declared.payload.Sizes.{Sizes}
 use Rattle.network_message.specs.Payload.{allPositive, listed, messagesFrom, restOnlyAt, listedAt, configuredAt, payloadAt}
 use Rattle.network_header.specs.Numbers.{configuredSizes}
 use Rattle.network_message_writer.specs.Payload.{listBytes, refusalNumber, payloadRefusal, listedRefusal}
-use Rattle.round_trip.specs.NetworkMessage.{payloadFor}
+use Rattle.wire_writer.specs.Writing.{unused}
+use Rattle.wire_writer.proofs.Refusals.{passed}
+use Rattle.network_header.specs.Header.{countRefusal, idsShape}
+use Rattle.network_header.proofs.Sizes.{ids-counted}
+use Rattle.network_message_writer.proofs.Short.{unused-none}
+use Rattle.round_trip.specs.NetworkMessage.{AsManyIds, payloadFor}
+
+-- a PayloadHeader with a Count is no chunk's, and its Count is not 0
+abbrev pub Counted : Bool → PayloadHeader → Type 0
+Counted chunk PayloadHeader.Absent = Unit {0}
+Counted chunk (PayloadHeader.Ids n) = (chunk ≡ false) × (eqb n 0 ≡ false)
+Counted chunk (PayloadHeader.Chunk w) = Unit {0}
+
+pub counted : (x : PayloadHeader) (chunk : Bool) (ids : List ℕ) → countRefusal x ≡ 0 → AsManyIds chunk x ids → Counted chunk x
+counted PayloadHeader.Absent chunk ids a b = tt
+counted (PayloadHeader.Ids n) chunk ids a b = (b .0, passed (eqb n 0) 5 0 a .0)
+counted (PayloadHeader.Chunk w) chunk ids a b = tt
+
+chunk-on : (chunk : Bool) (n : ℕ) → cond chunk (unused n) 6 ≡ 0 → (chunk ≡ true) × (n ≡ 0)
+chunk-on true n h = (refl, unused-none n h)
+chunk-on false n h = absurd (omega arith)
+
+-- what the shape of ids says
+pub as-many-ids : (x : PayloadHeader) (chunk : Bool) (ids configured : List ℕ) → idsShape chunk x ids configured ≡ 0 → AsManyIds chunk x ids
+as-many-ids PayloadHeader.Absent chunk ids configured b = tt
+as-many-ids (PayloadHeader.Ids n) chunk ids configured b = ids-counted chunk n ids configured b
+as-many-ids (PayloadHeader.Chunk w) chunk ids configured b = chunk-on chunk (length ids) b
 
 -- numbers that stand in the middle of a slice
 
@@ -116,14 +142,18 @@ configured-is zs messages s m e (Configured.all p n t) =
     rw (ne-eqb (length zs) 0 n, p, eq-eqb (m + total zs) (length s) k)
 configured-is zs messages s m e (Configured.one p n q) = rw (n, p, rest-is messages s m e q)
 
+-- what is refused of a payload that is no chunk's
+pub unchunked : (chunk : Bool) (n : ℕ) → chunk ≡ false → cond chunk 0 n ≡ 0 → n ≡ 0
+unchunked chunk n e h = subst (λ (c : Bool). cond {A = ℕ} c 0 n ≡ 0) e h
+
 -- without a PayloadHeader it is no chunk
 pub absent-facts : (chunk : Bool) (sizes messages : List ℕ) → refusalNumber (payloadAt chunk PayloadHeader.Absent sizes messages 0) ≡ 0 → (chunk ≡ false) × Configured (configuredSizes sizes) messages
 absent-facts true sizes messages h = absurd (omega arith)
 absent-facts false sizes messages h = (refl, configured-facts (configuredSizes sizes) messages h)
 
-pub payload-is : (x : PayloadHeader) (chunk : Bool) (sizes pre lengths messages : List ℕ) (m : ℕ) → length pre ≡ m → payloadRefusal chunk x sizes lengths messages ≡ 0
+pub payload-is : (x : PayloadHeader) (chunk : Bool) (sizes pre lengths messages : List ℕ) (m : ℕ) → length pre ≡ m → Counted chunk x → payloadRefusal chunk x sizes lengths messages ≡ 0
     → payloadAt chunk x sizes (pre ++ (listBytes x lengths ++ messages)) m ≡ got (payloadFor x sizes m) (payloadFor x sizes m .first)
-payload-is PayloadHeader.Absent chunk sizes pre lengths messages m e h =
+payload-is PayloadHeader.Absent chunk sizes pre lengths messages m e o h =
     let f = absent-facts chunk sizes messages h in
     let l : m + length messages ≡ length (pre ++ messages) = omega (arith, length-append pre messages) in
     rw (f .0, configured-is (configuredSizes sizes) messages (pre ++ messages) m l (f .1)) (go (allPositive (configuredSizes sizes)))
@@ -133,11 +163,11 @@ payload-is PayloadHeader.Absent chunk sizes pre lengths messages m e h =
         (cond b (messagesFrom (length (configuredSizes sizes)) Sizes.Configured m) (messagesFrom 1 Sizes.Rest m) .first)
     go true = refl
     go false = refl
-payload-is (PayloadHeader.Ids n) chunk sizes pre lengths messages m e h = go (leb n 1) h
+payload-is (PayloadHeader.Ids n) chunk sizes pre lengths messages m e o h = rw (o .1) (go (leb n 1) (unchunked chunk _ (o .0) h))
   where
     go : (b : Bool) → cond b (refusalNumber (restOnlyAt messages 0)) (listedRefusal n lengths (length messages)) ≡ 0
         → cond b (restOnlyAt (pre ++ (cond b [] lengths ++ messages)) m) (listedAt n (pre ++ (cond b [] lengths ++ messages)) m)
         ≡ got (cond b (messagesFrom 1 Sizes.Rest m) (messagesFrom n (Sizes.Listed m) (m + 2 * n))) (cond b (messagesFrom 1 Sizes.Rest m) (messagesFrom n (Sizes.Listed m) (m + 2 * n)) .first)
     go true q = rest-is messages (pre ++ messages) m (omega (arith, length-append pre messages)) q
     go false q = listed-is n pre lengths messages m e q
-payload-is (PayloadHeader.Chunk w) chunk sizes pre lengths messages m e h = refl
+payload-is (PayloadHeader.Chunk w) chunk sizes pre lengths messages m e o h = refl

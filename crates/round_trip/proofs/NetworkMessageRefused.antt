@@ -7,7 +7,7 @@ use Prim.Native.Nat.{ℕ, suc, _+_, _*_, _/_, _%_, _^_, _≤_, _<_}
 use native.Mathlib.Omega.{arith}
 use lib.ListN.{length, length-append}
 use lib.Dec.{eqb, leb, ltb}
-use borrow.Author.Tests.{le-ltb, le-leb, lt-leb, lt-ltb, leb-false, eqb-true, eq-eqb, ne-eqb}
+use borrow.Author.Tests.{le-ltb, le-leb, lt-leb, lt-ltb, eq-eqb, ne-eqb}
 use Rattle.wire.specs.Lists.{total}
 use Rattle.wire.specs.Number.{le, leBytes}
 use Rattle.wire.specs.Answer.{Answer, got, refused, ruled, bit}
@@ -21,26 +21,25 @@ use Rattle.network_header.specs.declared.header.Promoted.{Promoted}
 use Rattle.network_message.specs.declared.payload.Sizes.{Sizes}
 use Rattle.network_header.specs.declared.envelope.Envelope.{Envelope}
 use Rattle.network_header.specs.Flags.{byte0Rule, extended1Rule, flagsAt, extended2Of, extended1Of, byte0Of, flagBytes, flagsFor, timesRefusal}
-use Rattle.publisher_id.specs.Publisher.{publisherAt, publisherOn, idTypeOf, publisherBytes, publisherRefusal, publisherShape}
+use Rattle.publisher_id.specs.Publisher.{publisherAt, publisherOn, idTypeOf, publisherBytes, publisherRefusal}
 use Rattle.network_header.specs.Group.{numberRule, messageNumberAt, groupFlagsRule, groupAt, groupOn, groupFlagsOf, groupFieldsBytes, groupBytes, numberRefusal, groupRefusal, FitsGroup}
-use Rattle.network_header.specs.Header.{countRule, payloadHeaderAt, sizeRule, promotedAt, classBytes, payloadHeaderOn, payloadHeaderBytes, promotedOn, promotedBytes, countRefusal, promotedRefusal, idsShape, promotedShape}
+use Rattle.network_header.specs.Header.{countRule, payloadHeaderAt, sizeRule, promotedAt, classBytes, payloadHeaderOn, payloadHeaderBytes, promotedOn, promotedBytes, countRefusal, promotedRefusal, FitsPayloadHeader}
 use Rattle.network_message.specs.Payload.{allPositive, listed, messagesFrom, restOnlyAt, listedAt, sizedAt, configuredAt, payloadAt}
 use Rattle.network_header.specs.Numbers.{configuredSizes}
 use Rattle.network_message.specs.Envelope.{messagesOf, networkMessageAt}
 use Rattle.wire_writer.specs.Writing.{orElse, num, needed, byteBytes, on16, on32, onI64, optional16Bytes, optional32Bytes, optionalI64Bytes, picosecondsRefusal}
-use Rattle.wire_writer.proofs.Trip.{At, first, second, fits-at, le-at, item-is, rule-kept, optional16-is, optional32-is, optionalI64-is, picoseconds-is}
-use Rattle.wire_writer.proofs.Refusals.{passed, held, or-case, no, Refuses, broken, number-broken, picoseconds-refuses}
+use Rattle.wire_writer.proofs.Trip.{At, Reads, nothing, first, second, fits-at, le-at, item-is, rule-kept, optional16-is, optional32-is, optionalI64-is, picoseconds-is}
+use Rattle.wire_writer.proofs.Refusals.{or-case, no, Refuses, broken, number-broken, picoseconds-refuses}
 use Rattle.wire_writer.proofs.Bits.{num-bound, needed-bound, flag-is}
 use Rattle.network_message_writer.specs.Payload.{listBytes, refusalNumber, payloadRefusal, listedRefusal}
 use Rattle.network_message_writer.specs.Envelope.{GivenDatagram, envelopeBytes, datagramOf, datagramReadingRefusal}
-use Rattle.network_header.proofs.Sizes.{ids-counted}
-use Rattle.round_trip.specs.NetworkMessage.{AsManyLengths, FitsEnvelope}
+use Rattle.round_trip.specs.NetworkMessage.{AsManyLengths, AsManyIds, CountsAgree, FitsEnvelope}
 use Rattle.network_header.proofs.FlagsTrip.{byte-bits, extended-bits, flags-are}
 use Rattle.network_header.proofs.GroupTrip.{bits, group-is}
-use Rattle.publisher_id.proofs.PublisherTrip.{publisher-is}
-use Rattle.network_header.proofs.HeaderTrip.{class-is, payload-header-is, promoted-is}
+use Rattle.publisher_id.proofs.PublisherTrip.{publisher-written}
+use Rattle.network_header.proofs.HeaderTrip.{class-is, payload-header-is, promoted-written}
 use Rattle.round_trip.proofs.NetworkMessageParts.{eight-lengths}
-use Rattle.round_trip.proofs.NetworkMessagePayload.{listed-at-start}
+use Rattle.round_trip.proofs.NetworkMessagePayload.{Counted, counted, listed-at-start}
 use Rattle.round_trip.proofs.NetworkMessageWritten.{kind-below}
 use Rattle.wire_writer.specs.Fits.{Fits16}
 use Rattle.wire.proofs.Facts.{eqb-same}
@@ -63,40 +62,41 @@ text-rule n h = go (leb 65 n) h
     go true q = refl
     go false q = absurd (no q)
 
-publisher-refuses : (p : PublisherId) (text : List ℕ) (m : ℕ) → length text ≤ 65535 → publisherShape p (length text) ≡ 0 → eqb (publisherRefusal p) 0 ≡ false
-    → (s : List ℕ) → At s m (publisherBytes text p) → publisherAt (publisherOn p) (idTypeOf p) s m ≡ refused (publisherRefusal p) 0
-publisher-refuses PublisherId.Absent text m l b h s at = absurd (no h)
-publisher-refuses (PublisherId.Byte v) text m l b h s at = absurd (no h)
-publisher-refuses (PublisherId.UInt16 v) text m l b h s at = absurd (no h)
-publisher-refuses (PublisherId.UInt32 v) text m l b h s at = absurd (no h)
-publisher-refuses (PublisherId.UInt64 v) text m l b h s at = absurd (no h)
-publisher-refuses (PublisherId.Text n) text m l b h s at =
+publisher-refuses : (p : PublisherId) (text : List ℕ) (m : ℕ) → length (publisherBytes text p) ≤ 65535 → eqb (publisherRefusal p (length text)) 0 ≡ false
+    → (s : List ℕ) → At s m (publisherBytes text p) → publisherAt (publisherOn p) (idTypeOf p) s m ≡ refused (publisherRefusal p (length text)) 0
+publisher-refuses PublisherId.Absent text m l h s at = absurd (no h)
+publisher-refuses (PublisherId.Byte v) text m l h s at = absurd (no h)
+publisher-refuses (PublisherId.UInt16 v) text m l h s at = absurd (no h)
+publisher-refuses (PublisherId.UInt32 v) text m l h s at = absurd (no h)
+publisher-refuses (PublisherId.UInt64 v) text m l h s at = absurd (no h)
+publisher-refuses (PublisherId.Text n) text m l h s at =
     let c = leBytes 4 (length text) in
-    let e : n ≡ length text = eqb-true n (length text) (held (eqb n (length text)) 5 b) in
-    let k : length text < 256 ^ 4 = omega arith in
-    let u : length text < 2147483648 = omega arith in
+    let k : length text < 256 ^ 4 = omega (arith, length-append c text) in
+    let u : length text < 2147483648 = omega (arith, length-append c text) in
     let j : m + 4 ≤ length s = omega (arith, fits-at s m (c ++ text) at, length-append c text) in
     let p : le 4 s m ≡ length text = le-at 4 (length text) m k s (first s m c text at) in
-    let q : leb 65 n ≡ true = text-rule n h in
-    let t : leb 65 (length text) ≡ true = ap (leb 65) (sym e) ∙ q in
-    rw (le-leb (m + 4) (length s) j, p, lt-ltb (length text) 2147483648 u, t, q)
+    let t : leb 65 (length text) ≡ true = text-rule (length text) h in
+    rw (le-leb (m + 4) (length s) j, p, lt-ltb (length text) 2147483648 u, t)
 
-payload-header-refuses : (x : PayloadHeader) (chunk : Bool) (ids configured : List ℕ) (m : ℕ) → idsShape chunk x ids configured ≡ 0 → eqb (countRefusal x) 0 ≡ false
+payload-header-refuses : (x : PayloadHeader) (chunk : Bool) (ids : List ℕ) (m : ℕ) → AsManyIds chunk x ids → eqb (countRefusal x) 0 ≡ false
     → Refuses (payloadHeaderAt (payloadHeaderOn x) chunk) m (payloadHeaderBytes ids x) (countRefusal x)
-payload-header-refuses PayloadHeader.Absent chunk ids configured m b h s at = absurd (no h)
-payload-header-refuses (PayloadHeader.Ids n) chunk ids configured m b h s at =
-    let q = ids-counted chunk n ids configured b in
+payload-header-refuses PayloadHeader.Absent chunk ids m q h s at = absurd (no h)
+payload-header-refuses (PayloadHeader.Ids n) chunk ids m q h s at =
     rw (q .0, number-broken 1 countRule n m (q .1) h s (first s m (leBytes 1 n) ids at))
-payload-header-refuses (PayloadHeader.Chunk w) chunk ids configured m b h s at = absurd (no h)
+payload-header-refuses (PayloadHeader.Chunk w) chunk ids m q h s at = absurd (no h)
 
-promoted-refuses : (x : Promoted) (messages : ℕ) (bytes : List ℕ) (m : ℕ) → promotedShape x (length bytes) ≡ 0 → eqb (promotedRefusal x messages) 0 ≡ false
+payload-header-written : (x : PayloadHeader) (chunk : Bool) (ids : List ℕ) (m : ℕ) → FitsPayloadHeader x → countRefusal x ≡ 0 → AsManyIds chunk x ids
+    → Reads (payloadHeaderAt (payloadHeaderOn x) chunk) m (payloadHeaderBytes ids x) x
+payload-header-written PayloadHeader.Absent chunk ids m f a q = nothing PayloadHeader.Absent m
+payload-header-written (PayloadHeader.Ids n) chunk ids m f a q =
+    payload-header-is (PayloadHeader.Ids n) chunk ids [] m f a (rw (q .0, lt-leb 256 n (q .1), eq-eqb (length ids) (2 * n) (q .2)))
+payload-header-written (PayloadHeader.Chunk w) chunk ids m f a q = payload-header-is (PayloadHeader.Chunk w) chunk ids [] m f a (rw (q .0, q .1))
+
+promoted-refuses : (x : Promoted) (messages : ℕ) (bytes : List ℕ) (m : ℕ) → length (promotedBytes bytes x) ≤ 65535 → eqb (promotedRefusal x messages) 0 ≡ false
     → Refuses (promotedAt (promotedOn x) messages) m (promotedBytes bytes x) (promotedRefusal x messages)
-promoted-refuses Promoted.Absent messages bytes m b h s at = absurd (no h)
-promoted-refuses (Promoted.Size i) messages bytes m b h s at =
-    let w = passed (leb 65536 i) 5 (cond (eqb i (length bytes)) 0 6) b in
-    let k : i < 65536 = leb-false 65536 i (w .0) in
-    let e : i ≡ length bytes = eqb-true i (length bytes) (held (eqb i (length bytes)) 5 (w .1)) in
-    let j : length bytes < 256 ^ 2 = omega arith in
+promoted-refuses Promoted.Absent messages bytes m l h s at = absurd (no h)
+promoted-refuses (Promoted.Size i) messages bytes m l h s at =
+    let j : length bytes < 256 ^ 2 = omega (arith, length-append (leBytes 2 (length bytes)) bytes) in
     rw (number-broken 2 (sizeRule messages) (length bytes) m j h s (first s m (leBytes 2 (length bytes)) bytes at))
 
 -- the group header: NetworkMessageNumber 0 is 3
@@ -218,24 +218,22 @@ listed-number n pre lengths messages m e l =
     go true false = refl
     go false b = refl
 
-pub payload-number : (x : PayloadHeader) (chunk : Bool) (sizes pre lengths messages : List ℕ) (m : ℕ) → length pre ≡ m → AsManyLengths x lengths
+pub payload-number : (x : PayloadHeader) (chunk : Bool) (sizes pre lengths messages : List ℕ) (m : ℕ) → length pre ≡ m → Counted chunk x → AsManyLengths x lengths
     → refusalNumber (payloadAt chunk x sizes (pre ++ (listBytes x lengths ++ messages)) m) ≡ payloadRefusal chunk x sizes lengths messages
-payload-number PayloadHeader.Absent true sizes pre lengths messages m e a = refl
-payload-number PayloadHeader.Absent false sizes pre lengths messages m e a = configured-number (configuredSizes sizes) messages (pre ++ messages) m (omega (arith, length-append pre messages))
-payload-number (PayloadHeader.Ids n) chunk sizes pre lengths messages m e a = go (leb n 1) refl
+payload-number PayloadHeader.Absent true sizes pre lengths messages m e c a = refl
+payload-number PayloadHeader.Absent false sizes pre lengths messages m e c a = configured-number (configuredSizes sizes) messages (pre ++ messages) m (omega (arith, length-append pre messages))
+payload-number (PayloadHeader.Ids n) chunk sizes pre lengths messages m e c a = rw (c .0, c .1) (go (leb n 1) refl)
   where
     go : (b : Bool) → leb n 1 ≡ b
         → refusalNumber (cond b (restOnlyAt (pre ++ (cond b [] lengths ++ messages)) m) (listedAt n (pre ++ (cond b [] lengths ++ messages)) m))
         ≡ cond b (refusalNumber (restOnlyAt messages 0)) (listedRefusal n lengths (length messages))
     go true t = rest-number messages (pre ++ messages) m (omega (arith, length-append pre messages))
     go false t = listed-number n pre lengths messages m e (a t)
-payload-number (PayloadHeader.Chunk w) chunk sizes pre lengths messages m e a = refl
+payload-number (PayloadHeader.Chunk w) chunk sizes pre lengths messages m e c a = refl
 
-module _ (g : GivenDatagram) (x : Envelope) (sizes configured : List ℕ) (f : FitsEnvelope x) (a : AsManyLengths (x .«payload_header») (g .lengths))
-    (st : publisherShape (x .publisher) (length (g .text)) ≡ 0) (si : idsShape (x .chunk) (x .«payload_header») (g .ids) configured ≡ 0)
-    (sp : promotedShape (x .promoted) (length (g .promoted)) ≡ 0) (ls : length (g .text) ≤ 65535) (long : length (datagramOf g x) ≤ 65535) where
-  -- Where the parts are as long as the envelope says and the writer refuses by a reading number, reading what would have been
-  -- written refuses by that number.
+module _ (g : GivenDatagram) (x : Envelope) (sizes : List ℕ) (f : FitsEnvelope x) (a : CountsAgree g x) (long : length (datagramOf g x) ≤ 65535) where
+  -- Where what would be written is one thing and the writer refuses by a reading number, reading what would have been written refuses by
+  -- that number.
   pub refuse-written : eqb (datagramReadingRefusal g x sizes) 0 ≡ false → (place : ℕ) × (networkMessageAt sizes (datagramOf g x) ≡ refused (datagramReadingRefusal g x sizes) place)
   refuse-written h =
       let s = datagramOf g x in
@@ -272,6 +270,11 @@ module _ (g : GivenDatagram) (x : Envelope) (sizes configured : List ℕ) (f : F
       let a6 = first s m5 b6 (b7 ++ b8) at6 in
       let a7 = first s m6 b7 b8 at7 in
       let l = le-ltb 65535 (length s) long in
+      let rest = listBytes (x .«payload_header») (g .lengths) ++ g .messages in
+      let whole = length-append pre rest in
+      let eight = eight-lengths b1 b2 b3 b4 b5 b6 b7 b8 in
+      let l2 : length b2 ≤ 65535 = omega (arith, whole, eight) in
+      let l8 : length b8 ≤ 65535 = omega (arith, whole, eight) in
       let messages = messagesOf (x .chunk) (x .«payload_header») (length (configuredSizes sizes)) in
       let p3 = class-is (x .«class_id») m2 (f .classId) s a3 in
       let p6 = optionalI64-is (x .timestamp) m5 (f .timestamp) s a6 in
@@ -281,28 +284,29 @@ module _ (g : GivenDatagram) (x : Envelope) (sizes configured : List ℕ) (f : F
       let k5 = orElse (picosecondsRefusal (x .picoseconds)) k6 in
       let k4 = orElse (countRefusal (x .«payload_header»)) k5 in
       let k3 = orElse (groupRefusal (x .group)) k4 in
-      let k2 = orElse (publisherRefusal (x .publisher)) k3 in
+      let k2 = orElse (publisherRefusal (x .publisher) (length (g .text))) k3 in
       or-case P (timesRefusal (on16 (x .picoseconds)) (onI64 (x .timestamp))) k2 h
       (λ e. let d = times-broken (on16 (x .picoseconds)) (onI64 (x .timestamp)) e in
       subst P (d .2) (0 + 1, rw (l, flags-refuse (flagsFor x) (kind-below (x .publisher)) (d .0) (d .1) 0 s a1)))
       (λ z1 h1. let p1 = flags-are (flagsFor x) (kind-below (x .publisher)) z1 0 s a1 in
-      or-case P (publisherRefusal (x .publisher)) k3 h1
-      (λ e. (0, rw (l, p1, publisher-refuses (x .publisher) (g .text) m1 ls st e s a2)))
-      (λ z2 h2. let p2 = publisher-is (x .publisher) (g .text) m1 (f .publisher) z2 st s a2 in
+      or-case P (publisherRefusal (x .publisher) (length (g .text))) k3 h1
+      (λ e. (0, rw (l, p1, publisher-refuses (x .publisher) (g .text) m1 l2 e s a2)))
+      (λ z2 h2. let p2 = publisher-written (x .publisher) (g .text) m1 (f .publisher) z2 s a2 in
       or-case P (groupRefusal (x .group)) k4 h2
       (λ e. let q = group-refuses (x .group) m3 (f .group) e s a4 in
       (q .0, rw (l, p1, p2, p3, q .1)))
       (λ z3 h3. let p4 = group-is (x .group) m3 (f .group) z3 s a4 in
       or-case P (countRefusal (x .«payload_header»)) k5 h3
-      (λ e. (m4, rw (l, p1, p2, p3, p4, payload-header-refuses (x .«payload_header») (x .chunk) (g .ids) configured m4 si e s a5)))
-      (λ z4 h4. let p5 = payload-header-is (x .«payload_header») (x .chunk) (g .ids) configured m4 (f .payloadHeader) z4 si s a5 in
+      (λ e. (m4, rw (l, p1, p2, p3, p4, payload-header-refuses (x .«payload_header») (x .chunk) (g .ids) m4 (a .ids) e s a5)))
+      (λ z4 h4. let p5 = payload-header-written (x .«payload_header») (x .chunk) (g .ids) m4 (f .payloadHeader) z4 (a .ids) s a5 in
       or-case P (picosecondsRefusal (x .picoseconds)) k6 h4
       (λ e. (m6, rw (l, p1, p2, p3, p4, p5, p6, picoseconds-refuses (x .picoseconds) m6 (f .picoseconds) e s a7)))
       (λ z5 h5. let p7 = picoseconds-is (x .picoseconds) m6 (f .picoseconds) z5 s a7 in
       or-case P (promotedRefusal (x .promoted) messages) k7 h5
-      (λ e. (m7, rw (l, p1, p2, p3, p4, p5, p6, p7, promoted-refuses (x .promoted) messages (g .promoted) m7 sp e s at8)))
-      (λ z6 h6. let p8 = promoted-is (x .promoted) messages (g .promoted) m7 z6 sp s at8 in
-      let n = payload-number (x .«payload_header») (x .chunk) sizes pre (g .lengths) (g .messages) (m7 + length b8) e8 a in
+      (λ e. (m7, rw (l, p1, p2, p3, p4, p5, p6, p7, promoted-refuses (x .promoted) messages (g .promoted) m7 l8 e s at8)))
+      (λ z6 h6. let p8 = promoted-written (x .promoted) messages (g .promoted) m7 z6 (omega arith) s at8 in
+      let n = payload-number (x .«payload_header») (x .chunk) sizes pre (g .lengths) (g .messages) (m7 + length b8) e8
+      (counted (x .«payload_header») (x .chunk) (g .ids) z4 (a .ids)) (a .lengths) in
       let q = refused-by (payloadAt (x .chunk) (x .«payload_header») sizes s (m7 + length b8)) (ap (λ (k : ℕ). eqb k 0) n ∙ h6) in
       let last : (k place : ℕ) → payloadAt (x .chunk) (x .«payload_header») sizes s (m7 + length b8) ≡ refused k place → P k =
       λ k place e. (place, rw (l, p1, p2, p3, p4, p5, p6, p7, p8, e)) in

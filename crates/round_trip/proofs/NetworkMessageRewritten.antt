@@ -116,7 +116,7 @@ header-same configured s f n L next b hf h =
     let i = identity-of f s n (I .0) (I .1) (I .2) in
     let t = times-of f (messagesOf (f .chunk) (Pl .0) configured) s (Pl .1) (T .0) (T .1) (T .2) in
     let bf = flags-back s 0 f n b hf in
-    let bp = publisher-back (f .publisher) (f .kind) s n (I .0 .publisher) (I .0 .«publisher_end») b (end-fits s 0 (flagBytes f) n (bf .0)) (bf .1) (i .0) in
+    let bp = publisher-back (f .publisher) (f .kind) s n (I .0 .publisher) (I .0 .«publisher_end») b (end-fits s 0 (flagBytes f) n (bf .0)) (i .0) in
     let bc = class-back (f .«class_id») s (I .0 .«publisher_end») (I .0 .«class_id») (i .1) b
     (end-fits s n (publisherBytes (textOf s (I .0 .publisher) (I .0 .«publisher_end»)) (I .0 .publisher)) (I .0 .«publisher_end») (bp .0)) (i .2) in
     let bg = group-back (f .group) s (i .1) (I .0 .group) (I .1) b (end-fits s (I .0 .«publisher_end») (classBytes (I .0 .«class_id»)) (i .1) (bc .0)) (i .3) in

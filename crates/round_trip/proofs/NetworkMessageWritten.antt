@@ -33,7 +33,7 @@ use Rattle.network_header.proofs.HeaderTrip.{class-is, payload-header-is, promo
 use Rattle.network_header.proofs.GroupTrip.{group-is}
 use Rattle.round_trip.proofs.NetworkMessageParts.{eight-lengths}
 use Rattle.network_header.proofs.FlagsTrip.{flags-are}
-use Rattle.round_trip.proofs.NetworkMessagePayload.{payload-is}
+use Rattle.round_trip.proofs.NetworkMessagePayload.{counted, as-many-ids, payload-is}
 use Rattle.round_trip.proofs.NetworkMessageMessages.{tiles, first-is}
 
 pub kind-below : (p : PublisherId) → idTypeOf p < 5
@@ -91,7 +91,8 @@ read-written g x sizes configured f h long =
     let e5 : m5 ≡ length (b1 ++ (b2 ++ (b3 ++ (b4 ++ b5)))) =
     omega (arith, length-append b1 (b2 ++ (b3 ++ (b4 ++ b5))), length-append b2 (b3 ++ (b4 ++ b5)), length-append b3 (b4 ++ b5), length-append b4 b5) in
     let e8 : m7 + length b8 ≡ length (envelopeBytes (g .text) (g .ids) (g .promoted) x) = eight-lengths b1 b2 b3 b4 b5 b6 b7 b8 in
-    let p9 = payload-is (x .«payload_header») (x .chunk) sizes (envelopeBytes (g .text) (g .ids) (g .promoted) x) (g .lengths) (g .messages) (m7 + length b8) (sym e8) (r .payload) in
+    let p9 = payload-is (x .«payload_header») (x .chunk) sizes (envelopeBytes (g .text) (g .ids) (g .promoted) x) (g .lengths) (g .messages) (m7 + length b8) (sym e8)
+    (counted (x .«payload_header») (x .chunk) (g .ids) (r .count) (as-many-ids (x .«payload_header») (x .chunk) (g .ids) configured (r .ids))) (r .payload) in
     rw (le-ltb 65535 (length s) long, p1, p2, p3, p4, p5, p6, p7, p8, p9)
     (same-places x (payloadFor (x .«payload_header») sizes (m7 + length b8)) m2 _ m5 _ (m7 + length b8) _ e2 e5 e8
     ∙ ap (λ (j : ℕ). got (record { envelope = x; places = placesOf g x; payload = payloadFor (x .«payload_header») sizes j }) (payloadFor (x .«payload_header») sizes j .first)) e8)
@@ -115,12 +116,13 @@ message-written g x sizes configured f h long o k l =
     let pre = envelopeBytes (g .text) (g .ids) (g .promoted) x in
     let list = listBytes (x .«payload_header») (g .lengths) in
     let zs = givenLengths g (x .«payload_header») sizes in
-    let t = tiles (x .«payload_header») o (x .chunk) sizes pre g (length pre) refl (r .payload) (r .lengths) in
+    let c = counted (x .«payload_header») (x .chunk) (g .ids) (r .count) (as-many-ids (x .«payload_header») (x .chunk) (g .ids) configured (r .ids)) in
+    let t = tiles (x .«payload_header») o (x .chunk) sizes pre g (length pre) refl c (r .payload) (r .lengths) in
     let p = payloadFor (x .«payload_header») sizes (length pre) in
     let e : messagePlaceAt sizes k s ≡ got (placeGiven zs (p .first) k) (p .first + total (take (suc k) zs)) =
     rw (read-written g x sizes configured f h long, tiled t k (le-of-lt l), tile t k l) in
     let a : p .first + total (take k zs) ≡ length pre + length list + total (take k zs) =
-    ap (λ (j : ℕ). j + total (take k zs)) (first-is (x .«payload_header») (x .chunk) sizes (g .lengths) (g .messages) (length pre) (r .payload)) in (
+    ap (λ (j : ℕ). j + total (take k zs)) (first-is (x .«payload_header») (x .chunk) sizes (g .lengths) (g .messages) (length pre) c (r .payload)) in (
       e,
       ap (λ (y : Answer MessagePlace). messageBytes y s) e
           ∙ ap (λ (j : ℕ). take (getD zs k 0) (drop j s)) a ∙ ap (λ (y : List ℕ). take (getD zs k 0) y) (messages-end pre list (g .messages) (total (take k zs))),

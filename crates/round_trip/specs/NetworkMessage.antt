@@ -1,7 +1,7 @@
 -- What the round trips of NetworkMessages say.
 use Prim.Native.Nat.{ℕ, suc, _+_, _*_, _-_, _/_, _<_}
 use mathlib.Core.Path.{_≡_}
-use mathlib.Core.Bool.{true, false, cond, not, _&&_}
+use mathlib.Core.Bool.{Bool, true, false, cond, not, _&&_}
 use mathlib.Core.List.{List, [], _∷_, _++_}
 use lib.Dec.{leb, eqb}
 use lib.ListN.{length, take, drop, getD}
@@ -24,7 +24,7 @@ use Rattle.network_message.specs.Envelope.{NetworkMessage, networkMessageAt, me
 use Rattle.publisher_id.specs.Publisher.{publisherOn, publisherBytes, bytesBefore, textOf, FitsPublisher}
 use Rattle.network_header.specs.Group.{groupBytes, FitsGroup}
 use Rattle.network_header.specs.Header.{classBytes, payloadHeaderBytes, promotedOf, FitsClass, FitsPayloadHeader}
-use Rattle.network_message_writer.specs.Envelope.{GivenDatagram, envelopeBytes, datagramOf, datagramRefusal, datagramAgain}
+use Rattle.network_message_writer.specs.Envelope.{GivenDatagram, envelopeBytes, datagramOf, shapeRefusal, datagramRefusal, datagramAgain}
 use Rattle.wire_writer.specs.Writing.{writtenOf, bufferAfter}
 use Rattle.wire_writer.specs.declared.writing.Written.{Written}
 use Rattle.wire_writer.specs.Fits.{Fits16, FitsI64}
@@ -78,6 +78,24 @@ abbrev pub AsManyLengths : PayloadHeader → List ℕ → Type 0
 AsManyLengths PayloadHeader.Absent lengths = Unit {0}
 AsManyLengths (PayloadHeader.Ids n) lengths = leb n 1 ≡ false → length lengths ≡ 2 * n
 AsManyLengths (PayloadHeader.Chunk w) lengths = Unit {0}
+
+-- a PayloadHeader goes with its ids: Count, of at most one byte, says how many are given, and is not for a chunk; a chunk's own is for a
+-- chunk, and no ids are given
+abbrev pub AsManyIds : Bool → PayloadHeader → List ℕ → Type 0
+AsManyIds chunk PayloadHeader.Absent ids = Unit {0}
+AsManyIds chunk (PayloadHeader.Ids n) ids = (chunk ≡ false) × (n < 256) × (length ids ≡ 2 * n)
+AsManyIds chunk (PayloadHeader.Chunk w) ids = (chunk ≡ true) × (length ids ≡ 0)
+
+-- What would be written of these parts is one thing: ids and lengths are as many as Count says. (A said length of a string or of promoted
+-- fields plays no part: their bytes are written.)
+pub record CountsAgree (g : GivenDatagram) (x : Envelope) : Type 0 where
+  pub ids : AsManyIds (x .chunk) (x .«payload_header») (g .ids)
+  pub lengths : AsManyLengths (x .«payload_header») (g .lengths)
+
+-- The parts agree with the envelope: none is refused for its shape, and lengths are as many as Count says.
+pub record PartsAgree (g : GivenDatagram) (x : Envelope) (sizes configured : List ℕ) : Type 0 where
+  pub shape : shapeRefusal g x sizes configured ≡ 0
+  pub lengths : AsManyLengths (x .«payload_header») (g .lengths)
 
 -- The one rewriting exception: "With PublisherId off, its type bits are written as 0; if ExtendedFlags1 would then be 0, the byte is left
 -- out and bit 7 of byte 0 is 0." b is byte 0, whose bit 7 says that ExtendedFlags1 follows, e; every other byte stays.

@@ -1,3 +1,4 @@
+pub mod AfterReading
 pub mod Filling
 pub mod Stepping
 pub mod Judged

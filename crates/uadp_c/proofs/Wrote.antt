@@ -1,11 +1,12 @@
 -- The ways out of the writing functions, from what the writers promise.
 -- Assumes nothing.
 use Prim.Native.Nat.{ℕ}
-use mathlib.Core.Path.{_≡_, ap, subst, _∙_}
-use mathlib.Core.Bool.{Bool}
+use mathlib.Core.Path.{_≡_, refl, ap, subst, _∙_}
+use mathlib.Core.Bool.{Bool, true, false, cond}
+use lib.Dec.{eqb}
 use mathlib.Core.List.{List}
 use lib.ListN.{take}
-use Rattle.wire_writer.specs.Writing.{answerWritten, Output, bufferAfter, Writes}
+use Rattle.wire_writer.specs.Writing.{answerWritten, Output, writing, refusing, unless, orElse, bufferAfter, Writes}
 use Rattle.wire_writer.specs.declared.writing.Written.{Written}
 use Rattle.dataset_header.specs.declared.header.Header.{Header}
 use Rattle.network_header.specs.declared.envelope.Envelope.{Envelope}
@@ -20,7 +21,8 @@ use Rattle.uadp_c.specs.Listings.{listingText}
 use Rattle.walk_records.specs.Walk.{recordsPut, walkLines, walkOf}
 use Rattle.walk_records.specs.declared.Walked.{Walked}
 use Rattle.uadp_c.specs.Walks.{configured, walkResult}
-use Rattle.uadp_c.specs.Writing.{writerResult, outputResult}
+use Rattle.uadp_c.specs.Writing.{writerResult, outputResult, fitting}
+use Rattle.records.specs.Result.{resultOf}
 
 -- as many numbers of a configuration record as there are writers: its sizes from 34 on, its ids from 2 on
 pub of-writers : (at : ℕ) (c l configured : List ℕ) (n : ℕ) → n ≡ writersIn c → l ≡ sixteen at c → configured ≡ take n l
@@ -32,6 +34,23 @@ pub wrote : (out e : List ℕ) (o o′ : Output) (w : Written) (r : ℕ) → o �
     → (r ≡ outputResult out o′) × (e ≡ bufferAfter out o′)
 wrote out e o o′ w r q a h =
     subst (λ (y : Output). (r ≡ outputResult out y) × (e ≡ bufferAfter out y)) q (h ∙ ap (λ (x : Written). writerResult (answerWritten x)) (a .answer), a .buffer)
+
+-- the same of a record whose numbers all fit
+pub wrote-fitting : (out e : List ℕ) (o o′ : Output) (w : Written) (r : ℕ) (b : Bool) → b ≡ true → o ≡ o′ → Writes o out e w → r ≡ writerResult (answerWritten w)
+    → (r ≡ outputResult out (fitting b o′)) × (e ≡ bufferAfter out (fitting b o′))
+wrote-fitting out e o o′ w r b t q a h = rw t (wrote out e o o′ w r q a h)
+
+-- and of one with a number that does not fit: nothing is written
+pub refused-not-fitting : (out : List ℕ) (n k r : ℕ) (bytes : List ℕ) (o : Output) (b : Bool) → b ≡ false → n ≡ k → unless k bytes ≡ o → r ≡ resultOf (orElse n 6) 0
+    → (r ≡ outputResult out (fitting b o)) × (out ≡ bufferAfter out (fitting b o))
+refused-not-fitting out n k r bytes o b t q z h =
+    subst (λ (y : Output). (r ≡ outputResult out (fitting b y)) × (out ≡ bufferAfter out (fitting b y))) z
+    (rw t (go (eqb k 0) (h ∙ ap (λ (m : ℕ). resultOf (orElse m 6) 0) q)))
+  where
+    go : (d : Bool) → r ≡ resultOf (cond d 6 k) 0
+        → (r ≡ outputResult out (fitting false (cond d (writing bytes) (refusing k)))) × (out ≡ bufferAfter out (fitting false (cond d (writing bytes) (refusing k))))
+    go true p = (p, refl)
+    go false p = (p, refl)
 
 -- the outputs under a configuration record
 pub message-output : (c head types values lengths indices : List ℕ) (writer padding : ℕ) (b : Bool) (h : Header) → h ≡ headerIn head → types ≡ typesFor c writer

@@ -4,9 +4,13 @@ use records::result::result;
 use records::writers::sizes;
 use records::writers::types_for;
 use records::writers::writer_count;
+use wire::constants::DISAGREE;
 use wire_writer::writing::Written;
+use wire_writer::writing::or_else;
 ghost use mathlib.Core.Path.{_≡_};
-ghost use Rattle.wire_writer.specs.Writing.{answerWritten, bufferAfter};
+ghost use Rattle.wire.specs.Constants.{DISAGREE};
+ghost use Rattle.wire_writer.specs.Writing.{answerWritten, bufferAfter, orElse};
+ghost use Rattle.records.specs.Result.{resultOf};
 ghost use Rattle.rewriting.specs.Same.{messageSame, datagramSame};
 ghost use Rattle.records.specs.Writers.{sizesIn, typesFor};
 ghost use Rattle.uadp_c.specs.Writing.{writerResult, outputResult};
@@ -19,6 +23,13 @@ pub(crate) fn written_result(w: Written) -> u64
         Written::Is(n) => result(0, n),
         Written::Refused(n) => result(n, 0),
     }
+}
+
+// The result where a number of a record does not fit its item: the number of another refusal, or else 6.
+pub(crate) fn not_fitting(number: u8) -> u64
+    ensures { λ r. ⌜ r ≡ resultOf (orElse number DISAGREE) 0 ⌝ }
+{
+    result(or_else(number, DISAGREE), 0)
 }
 
 // Writes an accepted datagram again.

@@ -66,11 +66,12 @@ module _ (s : List ℕ) (at : ℕ) (p : Payload) (n : ℕ) where
   payload-count : (chunk : Bool) (header : PayloadHeader) (sizes : List ℕ) → payloadAt chunk header sizes s at ≡ got p n → p .count ≤ 16 + length s
   payload-count true PayloadHeader.Absent sizes e = absurd (not-got e)
   payload-count false PayloadHeader.Absent sizes e = configured-count sizes e
-  payload-count chunk (PayloadHeader.Ids c) sizes e = go (leb c 1) e
+  payload-count chunk (PayloadHeader.Ids c) sizes e = go (eqb c 0) (leb c 1) e
     where
-      go : (b : Bool) → cond b (restOnlyAt s at) (listedAt c s at) ≡ got p n → p .count ≤ 16 + length s
-      go true q = rest-count q
-      go false q = listed-count c q
+      go : (a b : Bool) → cond a (refused 6 at) (cond b (restOnlyAt s at) (listedAt c s at)) ≡ got p n → p .count ≤ 16 + length s
+      go true b q = absurd (not-got q)
+      go false true q = rest-count q
+      go false false q = listed-count c q
   payload-count chunk (PayloadHeader.Chunk w) sizes e = let z : 0 ≡ p .count = ap (λ (x : Payload). x .count) (got-value e) in omega arith
 
 pub few-messages : (sizes s : List ℕ) (m : NetworkMessage) (n : ℕ) → got m n ≡ networkMessageAt sizes s → (length s ≤ 65535) × (m .payload .count ≤ 65551)

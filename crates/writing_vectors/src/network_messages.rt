@@ -181,7 +181,7 @@ fn group(list: &[u8]) -> GroupHeader {
 
 fn payload_header(list: &[u8]) -> PayloadHeader {
     if let Decimal::Is(n, _) = lettered(list, b'i') {
-        return PayloadHeader::Ids((n % 256) as u8);
+        return PayloadHeader::Ids(low16(n as usize));
     }
     if let Decimal::Is(n, _) = lettered(list, b'k') {
         return PayloadHeader::Chunk(low16(n as usize));

@@ -267,13 +267,43 @@ pub fn header_of(record: &[u8]) -> Header {
             3 => Kind::KeepAlive,
             _ => Kind::Key,
         },
-        sequence: when(1, 4).map(|number| number as u16),
+        sequence: when(1, 4).map(as16),
         timestamp: when(2, 5).map(|number| number as i64),
-        picoseconds: when(4, 6).map(|number| number as u16),
-        status: when(8, 7).map(|number| number as u16),
-        major: when(16, 8).map(|number| number as u32),
-        minor: when(32, 9).map(|number| number as u32),
+        picoseconds: when(4, 6).map(as16),
+        status: when(8, 7).map(as16),
+        major: when(16, 8).map(as32),
+        minor: when(32, 9).map(as32),
     }
+}
+
+/// The largest that fits where a number does not.
+fn as16(number: u64) -> u16 {
+    u16::try_from(number).unwrap_or(u16::MAX)
+}
+
+fn as32(number: u64) -> u32 {
+    u32::try_from(number).unwrap_or(u32::MAX)
+}
+
+/// Whether each of these items that is present, by its bit, has a number of at most so many bits.
+fn items_fit(record: &[u8], present: u64, items: &[(u64, usize, u32)]) -> bool {
+    items.iter().all(|(flag, i, bits)| present & flag == 0 || number(record, *i) >> bits == 0)
+}
+
+/// Whether the number of each present item of a head record fits it.
+pub fn head_fits(record: &[u8]) -> bool {
+    items_fit(record, number(record, 3), &[(1, 4, 16), (4, 6, 16), (8, 7, 16), (16, 8, 32), (32, 9, 32)])
+}
+
+/// Whether the number of each present item of an envelope record fits it.
+fn envelope_fits(record: &[u8]) -> bool {
+    let id_bits = [8, 16, 32].get((number(record, 0) as usize).wrapping_sub(1)).copied();
+    let header_bits = [8, 16].get((number(record, 12) as usize).wrapping_sub(1)).copied();
+    let picoseconds = number(record, 17) == 0 || number(record, 18) >> 16 == 0;
+    id_bits.is_none_or(|bits| number(record, 1) >> bits == 0)
+        && items_fit(record, number(record, 6), &[(1, 7, 16), (2, 8, 32), (4, 9, 16), (8, 10, 16)])
+        && header_bits.is_none_or(|bits| number(record, 13) >> bits == 0)
+        && picoseconds
 }
 
 /// The parts that any envelope record and lists stand for; `class_id` is filled from the record.
@@ -285,9 +315,9 @@ pub fn parts_of<'a>(parts: &uadp::ffi::EnvelopeParts<'a>, class_id: &'a mut [u8;
     let class_id: &'a [u8; 16] = class_id;
     Parts {
         publisher: match number(record, 0) {
-            1 => Some(PublisherId::Byte(number(record, 1) as u8)),
-            2 => Some(PublisherId::UInt16(number(record, 1) as u16)),
-            3 => Some(PublisherId::UInt32(number(record, 1) as u32)),
+            1 => Some(PublisherId::Byte(number(record, 1).min(255) as u8)),
+            2 => Some(PublisherId::UInt16(as16(number(record, 1)))),
+            3 => Some(PublisherId::UInt32(as32(number(record, 1)))),
             4 => Some(PublisherId::UInt64(number(record, 1))),
             5 => Some(PublisherId::String(parts.text)),
             _ => None,
@@ -297,19 +327,20 @@ pub fn parts_of<'a>(parts: &uadp::ffi::EnvelopeParts<'a>, class_id: &'a mut [u8;
         group: present(6).then(|| group_of(record)),
         chunk: present(11),
         payload_header: match number(record, 12) {
-            1 => HeaderPart::Count(usize::from(number(record, 13) as u8)),
-            2 => HeaderPart::ChunkOf(number(record, 13) as u16),
+            1 => HeaderPart::Count(number(record, 13).min(65_535) as usize),
+            2 => HeaderPart::ChunkOf(as16(number(record, 13))),
             _ => HeaderPart::Absent,
         },
         ids: parts.ids,
         timestamp: present(15).then(|| number(record, 16) as i64),
-        picoseconds: present(17).then(|| number(record, 18) as u16),
+        picoseconds: present(17).then(|| as16(number(record, 18))),
         promoted: present(19).then_some(parts.promoted),
         promoted_unasked: !present(19) && !parts.promoted.is_empty(),
         text_unasked: number(record, 0) != 5 && !parts.text.is_empty(),
-        promoted_size: number(record, 20) as u16,
+        promoted_size: number(record, 20),
         lengths: parts.lengths,
         messages: parts.messages,
+        all_fit: envelope_fits(record),
     }
 }
 
@@ -317,10 +348,10 @@ fn group_of(record: &[u8]) -> Group {
     let flags = number(record, 6);
     let when = |flag: u64, i: usize| (flags & flag != 0).then(|| number(record, i));
     Group {
-        writer_group_id: when(1, 7).map(|number| number as u16),
-        version: when(2, 8).map(|number| number as u32),
-        message_number: when(4, 9).map(|number| number as u16),
-        sequence: when(8, 10).map(|number| number as u16),
+        writer_group_id: when(1, 7).map(as16),
+        version: when(2, 8).map(as32),
+        message_number: when(4, 9).map(as16),
+        sequence: when(8, 10).map(as16),
     }
 }
 

@@ -29,8 +29,8 @@ returns c =
     let at-number5 = at-class-in .before in
     let at-number4 = at-number5 .before in
     let at-number3 = at-number4 .before in
-    let at-publisher-by = at-number3 .before in
-    let at-number2 = at-publisher-by .before in
+    let at-publisher-given = at-number3 .before in
+    let at-number2 = at-publisher-given .before in
     let at-number = at-number2 .before in
     let args = at-number .before .before .args in
     envelope-read (now (args .s)) _ _ _ _ _ _ _ _ _ _ _ _ _ _ _ _ _ _ _ _ _ _ _ _ _ (at-number .number .ensures)
@@ -38,7 +38,7 @@ returns c =
     (at-number6 .number6 .ensures) (at-number15 .number15 .ensures) (at-number7 .number7 .ensures) (at-number8 .number8 .ensures)
     (at-number9 .number9 .ensures) (at-number10 .number10 .ensures) (at-number11 .number11 .ensures) (at-number12 .number12 .ensures)
     (at-number13 .number13 .ensures) (at-number14 .number14 .ensures) (c .is-on3 .ensures) (at-is-on .is-on .ensures)
-    (at-is-on2 .is-on2 .ensures) (at-publisher-by .publisher-by .ensures) (at-class-in .class-in .ensures)
+    (at-is-on2 .is-on2 .ensures) (at-publisher-given .publisher-given .ensures) (at-class-in .class-in .ensures)
     (at-group-in .group-in .ensures) (at-payload-header-by .payload-header-by .ensures) (at-given-i64 .given-i64 .ensures) (at-given16 .given16 .ensures) (at-promoted-in .promoted-in .ensures)
 
 pub envelope-in-spec : {M : Type 1} → statement M

@@ -70,15 +70,16 @@ impl DatagramParts {
 
     /// Makes the parts wrong in one way, or nearly so.
     fn make_wrong(&mut self, random: &mut Random) {
-        match random.below(19) {
-            0 => self.numbers[13] = random.pick(&[0, 1, 2, 3, 255, 256]),
-            1 => self.numbers[1] = random.below(70) as u64,
+        match random.below(21) {
+            0 => self.numbers[13] = random.pick(&[0, 1, 2, 3, 255, 256, 257, 65_535, 65_536, 65_537, u64::MAX]),
+            1 => self.numbers[1] = if random.one_in(2) { random.below(70) as u64 } else { random.edge() },
             2 => {
-                self.text = random.bytes(300);
-                (self.numbers[0], self.numbers[1]) = (5, 300);
+                let (given, said) = (random.pick(&[3, 63, 64, 65, 300]), random.pick(&[3, 63, 64, 65, 300]));
+                self.text = random.bytes(given);
+                (self.numbers[0], self.numbers[1]) = (5, if random.one_in(2) { given as u64 } else { said });
             }
-            3 => (self.numbers[17], self.numbers[18]) = (1, random.pick(&[9_999, 10_000, 65_535])),
-            4 if self.numbers[19] != 0 => self.numbers[20] = random.below(12) as u64,
+            3 => (self.numbers[17], self.numbers[18]) = (1, random.pick(&[9_999, 10_000, 65_535, 65_536, 70_000])),
+            4 if self.numbers[19] != 0 => self.numbers[20] += random.pick(&[0, 1, 65_536, u64::MAX - 65_536]),
             5 => generate::damage(random, &mut self.lengths),
             6 => self.lengths.truncate(random.within(0, self.lengths.len())),
             7 => generate::damage(random, &mut self.ids),
@@ -87,13 +88,24 @@ impl DatagramParts {
             10 => self.numbers[11] ^= 1,
             11 => (self.numbers[6], self.numbers[9]) = (random.pick(&[20, 31]), 0),
             12 => (self.numbers[15], self.numbers[17], self.numbers[18]) = (0, 1, 5),
-            13 => self.be_many(random.pick(&[255, 256, 257])),
+            13 => self.be_many(random.pick(&[254, 255, 256, 257])),
             14 => self.messages.clear(),
             15 if random.one_in(4) => self.messages.resize(random.pick(&[65_000, 65_520, 65_535, 65_536, 70_000]), 0),
             16 => self.record_length = random.below(record::ENVELOPE_SIZE),
             17 => {
-                let i = random.pick(&[0, 3, 6, 7, 8, 9, 10, 11, 12, 15, 16, 17, 18, 19]);
+                let i = random.pick(&[0, 1, 3, 6, 7, 8, 9, 10, 11, 12, 13, 15, 16, 17, 18, 19, 20]);
                 self.numbers[i] = random.edge();
+            }
+            // An item's number at the end of its range.
+            18 => {
+                let i = random.pick(&[7, 8, 9, 10]);
+                let most = if i == 8 { u64::from(u32::MAX) } else { u64::from(u16::MAX) };
+                self.numbers[6] = random.pick(&[16, 31, self.numbers[6]]);
+                self.numbers[i] = random.pick(&[most, most + 1, most + 2, most << 8, u64::MAX]);
+            }
+            19 => {
+                let most: u64 = random.pick(&[255, 65_535, 4_294_967_295]);
+                (self.numbers[0], self.numbers[1]) = (random.within(1, 4) as u64, random.pick(&[most, most + 1, most + 45]));
             }
             _ => self.numbers[0] = random.below(8) as u64,
         }
@@ -189,7 +201,7 @@ impl OwnedMessageParts {
 
     fn make_wrong(&mut self, random: &mut Random) {
         let count = self.lengths.len();
-        match random.below(20) {
+        match random.below(21) {
             0 if count > 0 => {
                 let k = random.below(count);
                 self.lengths[k] = random.pick(&[0, 1, self.lengths[k] + 1, self.lengths[k].saturating_sub(1), usize::MAX]);
@@ -228,7 +240,7 @@ impl OwnedMessageParts {
             11 => self.numbers[1] = random.below(4) as u64,
             12 => {
                 self.numbers[3] |= 4;
-                self.numbers[6] = random.pick(&[9_999, 10_000, 65_535]);
+                self.numbers[6] = random.pick(&[9_999, 10_000, 65_535, 65_536, 70_000]);
             }
             13 => self.record_length = random.below(record::HEAD_SIZE),
             14 => {
@@ -255,6 +267,13 @@ impl OwnedMessageParts {
                 (self.numbers[1], self.numbers[2], self.heartbeat) = (1, 0, 0);
                 (self.values, self.lengths, self.indices) = Default::default();
                 self.padding = random.pick(&[0, 0, 1, 2, 4, 40, 1000]);
+            }
+            // An item's number at the end of its range.
+            19 => {
+                let i = random.pick(&[4, 6, 7, 8, 9]);
+                let most = if i >= 8 { u64::from(u32::MAX) } else { u64::from(u16::MAX) };
+                self.numbers[3] |= random.pick(&[0, 1 << (i - 4)]);
+                self.numbers[i] = random.pick(&[most, most + 1, most + 2, most << 8, u64::MAX]);
             }
             _ => self.heartbeat = 1,
         }
@@ -304,6 +323,7 @@ pub fn write_message(tally: &mut Tally, random: &mut Random) {
         lengths: &owned.lengths,
         indices: &owned.indices,
         padding: owned.padding,
+        all_fit: record::head_fits(&head),
     };
     let needed = message_writer::write(&reference_parts, types, &mut vec![0; 65_535]).unwrap_or(20);
     let lengths = bytes_of(&owned.lengths.iter().map(|length| *length as u64).collect::<Vec<_>>());

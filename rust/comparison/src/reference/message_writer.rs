@@ -15,6 +15,8 @@ pub struct Parts<'a> {
     /// A delta's indices.
     pub indices: &'a [u16],
     pub padding: u64,
+    /// Each number that the caller handed over fits its item; one that does not stands here as the largest that does.
+    pub all_fit: bool,
 }
 
 const DISAGREE: Refusal = Number::Disagree.nowhere();
@@ -26,6 +28,9 @@ const PADDING_READ: usize = 2_000;
 pub fn write(parts: &Parts, types: &[u8], out: &mut [u8]) -> Result<usize> {
     refuse_parts(parts, types)?;
     refuse_read_back(parts, types)?;
+    if !parts.all_fit {
+        return Err(DISAGREE);
+    }
     let padding = usize::try_from(parts.padding).unwrap_or(usize::MAX);
     let mut writer = Writer::of_length(out, length(parts).saturating_add(padding))?;
     put(&mut writer, parts);

@@ -30,10 +30,12 @@ pub struct Parts<'a> {
     pub promoted_unasked: bool,
     pub text_unasked: bool,
     /// The size that the caller says the promoted fields have.
-    pub promoted_size: u16,
+    pub promoted_size: u64,
     /// The lengths of several messages.
     pub lengths: &'a [u8],
     pub messages: &'a [u8],
+    /// Each number that the caller handed over fits its item; one that does not stands here as the largest that does.
+    pub all_fit: bool,
 }
 
 const DISAGREE: Refusal = Number::Disagree.nowhere();
@@ -79,7 +81,7 @@ fn read_back(parts: &Parts, config: &Config) -> Result<()> {
     if parts.picoseconds.is_some() && parts.timestamp.is_none() {
         return Err(NOT_PERMITTED);
     }
-    if matches!(parts.publisher, Some(PublisherId::String(_)) if parts.string_length > LONGEST_ID as u64) {
+    if matches!(parts.publisher, Some(PublisherId::String(id)) if id.len() > LONGEST_ID) {
         return Err(Number::OverLimit.nowhere());
     }
     if parts.group.is_some_and(|group| group.message_number == Some(0)) {
@@ -109,6 +111,8 @@ fn payload_read_back(parts: &Parts, config: &Config) -> Result<()> {
         HeaderPart::Absent if parts.chunk => Err(Number::NotConfigured.nowhere()),
         // A chunk's payload is not read.
         HeaderPart::ChunkOf(_) => Ok(()),
+        // A chunk has no Count.
+        HeaderPart::Count(_) if parts.chunk => Ok(()),
         HeaderPart::Count(1) => single,
         HeaderPart::Count(_) => {
             let sum: usize = pairs(parts.lengths).map(usize::from).sum();
@@ -128,8 +132,10 @@ fn payload_read_back(parts: &Parts, config: &Config) -> Result<()> {
 /// Parts that would be accepted but read as others.
 fn reads_back_otherwise(parts: &Parts, config: &Config) -> bool {
     let string_disagrees = matches!(parts.publisher, Some(PublisherId::String(id)) if id.len() as u64 != parts.string_length);
-    let promoted_disagrees = parts.promoted.is_some_and(|promoted| promoted.len() != usize::from(parts.promoted_size));
-    string_disagrees
+    let promoted_disagrees =
+        parts.promoted.is_some_and(|promoted| promoted.len() as u64 != parts.promoted_size || promoted.len() > 65_535);
+    !parts.all_fit
+        || string_disagrees
         || promoted_disagrees
         || parts.promoted_unasked
         || parts.text_unasked

@@ -64,6 +64,7 @@ fn messages_written_from_parts_are_those_put_together() {
             lengths: &lengths,
             indices: &spec.indices,
             padding: spec.padding as u64,
+            all_fit: true,
         };
         let length = message_writer::write(&parts, &[7, 11, 1], &mut out).expect("accepted");
         assert_eq!(out[..length], bytes);

@@ -2,15 +2,13 @@
 -- Assumes nothing.
 use mathlib.Core.Bool.{Bool, cond}
 use mathlib.Core.Path.{ap, _∙_}
-use borrow.Author.Tests.{lt-leb}
-use Prim.Native.Nat.{_<_}
 use borrow.Author.Needs.{needs}
 use Rattle.network_header.proofs.header.ids_shape.Statement.{statement}
 use Rattle.network_header.proofs.header.ids_shape.Tie as tie
 
 returns-2 : tie.Need-returns-2
 returns-2 c =
-    rw (c .before .before .enum-told2 .given .1, c .before .if2 .taken) (c .six-unless3 .ensures)
+    rw (c .before .before .enum-told2 .given .1, c .before .if2 .taken) (c .six-unless2 .ensures)
 
 returns-3 : tie.Need-returns-3
 returns-3 c =
@@ -20,7 +18,7 @@ returns-4 : tie.Need-returns-4
 returns-4 c =
     let at-if1 = c .before in
     let at-x = at-if1 .before .before in
-    let h : at-x .x .given .0 .0 < 256 = search needs in rw (at-x .x .given .1, at-if1 .if1 .left, lt-leb 256 (at-x .x .given .0 .0) h) (c .six-unless2 .ensures)
+    rw (at-x .x .given .1, at-if1 .if1 .left) (c .count-shape .ensures)
 
 pub ids-shape-spec : {M : Type 1} → statement M
 ids-shape-spec =
@@ -29,8 +27,6 @@ ids-shape-spec =
     (λ c. search needs)
     (λ c κs. search needs)
     (λ c κs. search needs)
-    (λ c. search needs)
-    (λ c. search needs)
     (λ c. search needs)
     (λ c. search needs)
     (λ c κs. search needs)

@@ -1,10 +1,22 @@
 -- `network_header::header::put_payload_header` meets its contract.
 -- Assumes nothing.
+use Prim.Native.Nat.{ℕ, _%_}
+use mathlib.Core.Path.{_≡_, ap}
+use mathlib.Core.List.{_∷_, []}
+use native.Mathlib.Omega.{arith}
+use Rattle.wire.specs.Number.{leBytes}
+use Rattle.wire_writer.proofs.Parts.{puts-as}
 use Rattle.wire_writer.proofs.Putting.{puts, then, nothing}
 use denote.Ref.{now}
 use borrow.Author.Needs.{needs}
 use Rattle.network_header.proofs.header.put_payload_header.Statement.{statement}
 use Rattle.network_header.proofs.header.put_payload_header.Tie as tie
+
+-- a Count is stored as its lowest byte
+low : (n : ℕ) → leBytes 1 (n % 256) ≡ leBytes 1 n
+low n =
+    let e : n % 256 % 256 ≡ n % 256 = omega arith in
+    ap (λ (b : ℕ). b ∷ []) e
 
 returns : tie.Need-returns
 returns c =
@@ -16,7 +28,7 @@ returns-2 c =
     let at-put-run = c .before .before in
     let at-put8 = at-put-run .before .before .before .before in
     let at-x = at-put8 .before .before .before in
-    rw (at-x .x .given .1) (then (puts (at-put8 .put8 .ensures)) (puts (at-put-run .put-run .ensures)))
+    rw (at-x .x .given .1) (then (puts-as (low (at-x .x .given .0 .0)) (puts (at-put8 .put8 .ensures))) (puts (at-put-run .put-run .ensures)))
 
 returns-3 : tie.Need-returns-3
 returns-3 c =
@@ -28,6 +40,7 @@ pub put-payload-header-spec : {M : Type 1} → statement M
 put-payload-header-spec =
     tie.close
     (tie.spec
+    (λ c. search needs)
     (λ c. search needs)
     (λ c. search needs)
     (λ c κs. search needs)

@@ -5,6 +5,7 @@ use mathlib.Core.Path.{_≡_}
 use mathlib.Core.Bool.{Bool, true}
 use mathlib.Core.List.{List}
 use native.Mathlib.Omega.{arith}
+use borrow.Author.Tests.{eqb-true}
 use Rattle.network_message.specs.Payload.{isSingle, restOnlyAt, payloadAt}
 use Rattle.network_header.specs.declared.header.PayloadHeader.{PayloadHeader}
 use Rattle.network_message.specs.Payload.{answerMessages}
@@ -17,7 +18,7 @@ use Rattle.network_message.proofs.envelope.with_payload.Tie as tie
 
 single-rest : (chunk : Bool) (x : PayloadHeader) (sizes s : List ℕ) (at : ℕ) → isSingle x ≡ true → restOnlyAt s at ≡ payloadAt chunk x sizes s at
 single-rest chunk PayloadHeader.Absent sizes s at e = absurd (let z : _≡_ {A = ℕ} 0 1 = cc in omega arith)
-single-rest chunk (PayloadHeader.Ids n) sizes s at e = rw e
+single-rest chunk (PayloadHeader.Ids n) sizes s at e = rw (eqb-true n 1 e)
 single-rest chunk (PayloadHeader.Chunk w) sizes s at e = absurd (let z : _≡_ {A = ℕ} 0 1 = cc in omega arith)
 
 returns : tie.Need-returns

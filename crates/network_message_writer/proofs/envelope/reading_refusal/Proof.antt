@@ -2,6 +2,8 @@
 -- Assumes nothing.
 use Rattle.network_message_writer.specs.Envelope.{headerRefusal}
 use Prim.Native.Nat.{ℕ}
+use lib.ListN.{length}
+use denote.Ref.{now}
 use mathlib.Core.Path.{ap₂, _∙_}
 use borrow.Author.Needs.{needs}
 use Rattle.network_message_writer.proofs.envelope.reading_refusal.Statement.{statement}
@@ -11,8 +13,8 @@ returns : tie.Need-returns
 returns c =
     let at-writers = c .before in
     let at-payload-refusal = at-writers .before in
-    let args = at-payload-refusal .before .before .before .before .args in
-    c .header-refusal .ensures ∙ ap₂ (λ (a b : ℕ). headerRefusal (args .x) a b) (at-writers .writers .ensures .0) (at-payload-refusal .payload-refusal .ensures)
+    let args = at-payload-refusal .before .before .before .before .before .args in
+    c .header-refusal .ensures ∙ ap₂ (λ (a b : ℕ). headerRefusal (args .x) (length (now (args .text))) a b) (at-writers .writers .ensures .0) (at-payload-refusal .payload-refusal .ensures)
 
 pub reading-refusal-spec : {M : Type 1} → statement M
 reading-refusal-spec =

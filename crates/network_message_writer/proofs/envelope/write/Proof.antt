@@ -1,7 +1,6 @@
 -- `network_message_writer::envelope::write` meets its contract.
 -- Assumes nothing.
 use Rattle.network_message_writer.proofs.Short.{all-short}
-use Rattle.wire_writer.proofs.Parts.{or-as}
 use Rattle.network_message_writer.specs.Envelope.{givenDatagram, datagramOf, datagramRefusal}
 use Rattle.wire_writer.proofs.Answering.{refused-by, no-room, written}
 use Rattle.wire_writer.specs.Writing.{roomRefusal}
@@ -16,24 +15,20 @@ use Rattle.network_message_writer.proofs.envelope.write.Tie as tie
 returns : tie.Need-returns
 returns c =
     let at-if1 = c in
-    let at-or-else = at-if1 .before in
-    let at-shape-refusal = at-or-else .before in
-    let at-reading-refusal = at-shape-refusal .before in
-    let args = at-reading-refusal .before .before .before .before .before .before .before .before .before .args in
+    let at-refusal = at-if1 .before in
+    let args = at-refusal .before .before .before .before .before .before .before .before .before .args in
     let g = givenDatagram (now (args .text)) (now (args .ids)) (now (args .promoted)) (now (args .lengths)) (now (args .messages)) in
-    let refusal = or-as (at-or-else .or-else .ensures) (at-reading-refusal .reading-refusal .ensures) (at-shape-refusal .shape-refusal .ensures) in
+    let refusal = at-refusal .refusal .ensures in
     refused-by (datagramRefusal g (args .x) (now (args .sizes)) (now (args .configured))) (datagramOf g (args .x)) (now (args .out))
-    (at-or-else .or-else .result) refusal (c .if1 .taken)
+    (at-refusal .refusal .result) refusal (c .if1 .taken)
 
 datagram-size-requires : tie.Need-datagram-size-requires
 datagram-size-requires c κs =
     let at-if1 = c in
-    let at-or-else = at-if1 .before in
-    let at-shape-refusal = at-or-else .before in
-    let at-reading-refusal = at-shape-refusal .before in
-    let args = at-reading-refusal .before .before .before .before .before .before .before .before .before .args in
+    let at-refusal = at-if1 .before in
+    let args = at-refusal .before .before .before .before .before .before .before .before .before .args in
     let g = givenDatagram (now (args .text)) (now (args .ids)) (now (args .promoted)) (now (args .lengths)) (now (args .messages)) in
-    let refusal = or-as (at-or-else .or-else .ensures) (at-reading-refusal .reading-refusal .ensures) (at-shape-refusal .shape-refusal .ensures) in
+    let refusal = at-refusal .refusal .ensures in
     all-short g (args .x) (now (args .sizes)) (now (args .configured)) (sym refusal ∙ c .if1 .left)
 
 returns-2 : tie.Need-returns-2
@@ -41,12 +36,10 @@ returns-2 c =
     let at-room-refusal = c .before in
     let at-datagram-size = at-room-refusal .before in
     let at-if1 = at-datagram-size .before in
-    let at-or-else = at-if1 .before in
-    let at-shape-refusal = at-or-else .before in
-    let at-reading-refusal = at-shape-refusal .before in
-    let args = at-reading-refusal .before .before .before .before .before .before .before .before .before .args in
+    let at-refusal = at-if1 .before in
+    let args = at-refusal .before .before .before .before .before .before .before .before .before .args in
     let g = givenDatagram (now (args .text)) (now (args .ids)) (now (args .promoted)) (now (args .lengths)) (now (args .messages)) in
-    let refusal = or-as (at-or-else .or-else .ensures) (at-reading-refusal .reading-refusal .ensures) (at-shape-refusal .shape-refusal .ensures) in
+    let refusal = at-refusal .refusal .ensures in
     let room = length (now (args .out)) in
     let size = at-datagram-size .datagram-size .ensures in
     let full = at-room-refusal .room-refusal .ensures ∙ ap (λ (n : ℕ). roomRefusal n room) size in
@@ -60,12 +53,10 @@ returns-3 c =
     let at-room-refusal = at-if2 .before in
     let at-datagram-size = at-room-refusal .before in
     let at-if1 = at-datagram-size .before in
-    let at-or-else = at-if1 .before in
-    let at-shape-refusal = at-or-else .before in
-    let at-reading-refusal = at-shape-refusal .before in
-    let args = at-reading-refusal .before .before .before .before .before .before .before .before .before .args in
+    let at-refusal = at-if1 .before in
+    let args = at-refusal .before .before .before .before .before .before .before .before .before .args in
     let g = givenDatagram (now (args .text)) (now (args .ids)) (now (args .promoted)) (now (args .lengths)) (now (args .messages)) in
-    let refusal = or-as (at-or-else .or-else .ensures) (at-reading-refusal .reading-refusal .ensures) (at-shape-refusal .shape-refusal .ensures) in
+    let refusal = at-refusal .refusal .ensures in
     let room = length (now (args .out)) in
     let size = at-datagram-size .datagram-size .ensures in
     let full = at-room-refusal .room-refusal .ensures ∙ ap (λ (n : ℕ). roomRefusal n room) size in
@@ -77,8 +68,6 @@ pub write-spec : {M : Type 1} → statement M
 write-spec =
     tie.close
     (tie.spec
-    (λ c κs. search needs)
-    (λ c κs. search needs)
     (λ c κs. search needs)
     returns
     datagram-size-requires

@@ -5,7 +5,7 @@ use Rattle.publisher_id.proofs.publisher.publisher_refusal.Statement.{s
 use Rattle.publisher_id.proofs.publisher.publisher_refusal.Tie as tie
 
 returns-6 : tie.Need-returns-6
-returns-6 c = rw (c .before .before .p .given .1) (c .text-refusal .ensures)
+returns-6 c = rw (c .before .enum-told6 .given .1) (c .text-refusal .ensures)
 
 pub publisher-refusal-spec : {M : Type 1} → statement M
 publisher-refusal-spec =

@@ -124,14 +124,39 @@ returns-9 c =
 
 returns-10 : tie.Need-returns-10
 returns-10 c =
+    let at-if6 = c .before in
+    let at-if5 = at-if6 .before in
+    let at-if4 = at-if5 .before in
+    let at-if3 = at-if4 .before in
+    let at-if2 = at-if3 .before in
+    let at-if1 = at-if2 .before in
+    let args = at-if1 .before .before .args in
+    rw (
+      not-false (args .on) (at-if1 .if1 .left),
+      ne-eqb _ _ (at-if2 .if2 .left),
+      ne-eqb _ _ (at-if3 .if3 .left),
+      ne-eqb _ _ (at-if4 .if4 .left),
+      ne-eqb _ _ (at-if5 .if5 .left),
+      eq-eqb _ _ (at-if6 .if6 .taken),
+    )
+    (c .string-id .ensures)
+
+returns-11 : tie.Need-returns-11
+returns-11 c =
     let at-if5 = c .before in
     let at-if4 = at-if5 .before in
     let at-if3 = at-if4 .before in
     let at-if2 = at-if3 .before in
     let at-if1 = at-if2 .before in
     let args = at-if1 .before .before .args in
-    rw (not-false (args .on) (at-if1 .if1 .left), ne-eqb _ _ (at-if2 .if2 .left), ne-eqb _ _ (at-if3 .if3 .left), ne-eqb _ _ (at-if4 .if4 .left), ne-eqb _ _ (at-if5 .if5 .left))
-    (c .string-id .ensures)
+    rw (
+      not-false (args .on) (at-if1 .if1 .left),
+      ne-eqb _ _ (at-if2 .if2 .left),
+      ne-eqb _ _ (at-if3 .if3 .left),
+      ne-eqb _ _ (at-if4 .if4 .left),
+      ne-eqb _ _ (at-if5 .if5 .left),
+      ne-eqb _ _ (c .if6 .left),
+    )
 
 pub read-publisher-spec : {M : Type 1} → statement M
 read-publisher-spec =
@@ -159,4 +184,5 @@ read-publisher-spec =
     returns-8
     returns-9
     (λ c κs. search needs)
-    returns-10)
+    returns-10
+    returns-11)
