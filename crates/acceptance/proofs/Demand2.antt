@@ -29,7 +29,8 @@ use Rattle.dataset_message_writer.specs.Message as M
 use Rattle.rewriting.specs.Same.{messageSame}
 use Rattle.wire_writer.specs.Writing.{Writes, refusing}
 use Rattle.wire_writer.specs.declared.writing.Written.{Written}
-use Rattle.round_trip.specs.NetworkMessage.{CountsAgree, PartsAgree, givenLengths, messageGiven, rewritten, FitsEnvelope, ReadsBack, WritesAgain}
+use Rattle.round_trip.specs.NetworkMessage.{CountsAgree, PartsAgree, givenLengths, messageGiven, rewritten, ReadsBack, WritesAgain}
+use Rattle.network_header.specs.Envelope.{FitsEnvelope}
 use Rattle.round_trip.specs.DataSetMessage.{MessageBack, Tellable}
 use Rattle.dataset_header.specs.Header.{FitsHeader}
 use Rattle.round_trip.proofs.NetworkMessageRoundTrip.{reads-back, writes-again, reading-number-first, refuses-alike, accepts-exactly}

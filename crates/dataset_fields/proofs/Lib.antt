@@ -3,6 +3,5 @@ pub mod Ending
 pub mod Front
 pub mod Judging
 pub mod Laying
-pub mod Fitting
 pub mod FieldsTrip
 pub mod Inside

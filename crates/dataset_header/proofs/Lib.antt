@@ -2,3 +2,4 @@ pub mod Front
 pub mod Sizes
 pub mod FlagsTrip
 pub mod HeaderTrip
+pub mod Fitting

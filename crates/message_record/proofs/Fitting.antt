@@ -9,7 +9,7 @@ use denote.Struct.Declared as struct
 use denote.Struct.Laws as structLaws
 use Rattle.dataset_header.proofs.header.Header as header
 use Rattle.dataset_header.specs.declared.header.Header.{Header}
-use Rattle.dataset_fields.proofs.Fitting.{fits-header}
+use Rattle.dataset_header.proofs.Fitting.{fits-header}
 use Rattle.dataset_fields.proofs.fields.Cursor as cursor
 use Rattle.dataset_fields.proofs.fields.Cursor.Laws as cursorLaws
 use Rattle.dataset_fields.specs.declared.fields.Cursor.{Cursor}

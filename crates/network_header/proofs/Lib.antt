@@ -5,3 +5,4 @@ pub mod FlagsBack
 pub mod Kept
 pub mod HeaderTrip
 pub mod GroupTrip
+pub mod Fitting

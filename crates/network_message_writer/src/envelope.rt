@@ -49,6 +49,7 @@ ghost use mathlib.Core.Path.{_≡_};
 ghost use mathlib.Core.List.{[], _++_};
 ghost use Prim.Native.Nat.{_≤_};
 ghost use lib.ListN.{length};
+ghost use Rattle.network_header.specs.Envelope.{FitsEnvelope};
 ghost use Rattle.network_header.specs.Numbers.{configuredSizes};
 ghost use Rattle.wire_writer.specs.Writing.{Puts, Writes, writing};
 ghost use Rattle.network_message_writer.specs.Payload.{payloadRefusal};
@@ -259,7 +260,7 @@ pub fn write(
         let lists = givenDatagram (now (text .entry)) (now (ids .entry)) (now (promoted .entry)) in
         let g = lists (now (lengths .entry)) (now (messages .entry)) in
         let output = datagramOutput g x (now (sizes .entry)) (now (configured .entry)) in
-        ⌜ Writes output (now (out .entry)) (now (out .exit)) r ⌝ }
+        ⌜ FitsEnvelope x × Writes output (now (out .entry)) (now (out .exit)) r ⌝ }
 {
     let number = refusal(x, text, ids, promoted, lengths, messages, sizes, configured);
     if number != 0 {

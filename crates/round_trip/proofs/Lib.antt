@@ -15,4 +15,3 @@ pub mod NetworkMessageRewritten
 pub mod NetworkMessageRefused
 pub mod NetworkMessageAccepted
 pub mod NetworkMessageRoundTrip
-pub mod Fitting

@@ -33,7 +33,8 @@ use Rattle.wire_writer.proofs.Refusals.{or-case, no, Refuses, broken, number-br
 use Rattle.wire_writer.proofs.Bits.{num-bound, needed-bound, flag-is}
 use Rattle.network_message_writer.specs.Payload.{listBytes, refusalNumber, payloadRefusal, listedRefusal}
 use Rattle.network_message_writer.specs.Envelope.{GivenDatagram, envelopeBytes, datagramOf, datagramReadingRefusal}
-use Rattle.round_trip.specs.NetworkMessage.{AsManyLengths, AsManyIds, CountsAgree, FitsEnvelope}
+use Rattle.round_trip.specs.NetworkMessage.{AsManyLengths, AsManyIds, CountsAgree}
+use Rattle.network_header.specs.Envelope.{FitsEnvelope}
 use Rattle.network_header.proofs.FlagsTrip.{byte-bits, extended-bits, flags-are}
 use Rattle.network_header.proofs.GroupTrip.{bits, group-is}
 use Rattle.publisher_id.proofs.PublisherTrip.{publisher-written}

@@ -1,13 +1,14 @@
 -- The round trips of whole NetworkMessages, over the definitions that the contracts of `network_message::envelope` and
 -- `network_message_writer::envelope` cite.
 -- Assumes nothing.
-use mathlib.Core.Path.{_≡_, refl, sym, _∙_}
+use mathlib.Core.Path.{_≡_, refl, sym, subst, _∙_}
 use mathlib.Core.Bool.{Bool, true, false}
-use mathlib.Core.List.{List}
+use mathlib.Core.List.{List, _++_}
 use Prim.Native.Nat.{ℕ, _≤_}
 use borrow.Author.Tests.{eqb-true}
 use lib.Dec.{eqb}
-use lib.ListN.{length}
+use lib.ListN.{length, take, drop}
+use lib.Seq.{drop-at}
 use Rattle.wire.specs.Answer.{got, refused}
 use Rattle.wire.proofs.Reading.{not-got}
 use Rattle.network_header.specs.declared.envelope.Envelope.{Envelope}
@@ -18,10 +19,12 @@ use Rattle.wire_writer.specs.Writing.{orElse, refusing, Writes}
 use Rattle.wire_writer.specs.declared.writing.Written.{Written}
 use Rattle.publisher_id.specs.Publisher.{publisherShape}
 use Rattle.network_header.specs.Header.{idsShape, promotedShape}
-use Rattle.network_message_writer.specs.Payload.{lengthsShape}
+use Rattle.network_header.specs.declared.header.PayloadHeader.{PayloadHeader}
+use Rattle.network_message_writer.specs.Payload.{listBytes, lengthsShape}
 use Rattle.network_message_writer.proofs.Again.{accepted-short}
-use Rattle.network_message_writer.specs.Envelope.{GivenDatagram, datagramOf, datagramReadingRefusal, datagramRefusal, datagramOutput}
-use Rattle.round_trip.specs.NetworkMessage.{CountsAgree, PartsAgree, FitsEnvelope, ReadsBack, WritesAgain}
+use Rattle.network_message_writer.specs.Envelope.{GivenDatagram, envelopeBytes, datagramOf, datagramReadingRefusal, datagramRefusal, datagramOutput}
+use Rattle.round_trip.specs.NetworkMessage.{payloadFor, CountsAgree, PartsAgree, ReadsBack, WritesAgain}
+use Rattle.network_header.specs.Envelope.{FitsEnvelope}
 use Rattle.round_trip.proofs.NetworkMessagePayload.{as-many-ids}
 use Rattle.round_trip.proofs.NetworkMessageWritten.{read-written, message-written}
 use Rattle.round_trip.proofs.NetworkMessageGiven.{text-written, promoted-written, writer-id-written}
@@ -32,8 +35,15 @@ use Rattle.wire_writer.specs.Fits.{Bytes, Numbers}
 
 -- Theorem 1. What the writer accepted reads back, under the same configuration, as what it was given.
 
+-- a chunk's payload stands right after its header
+chunk-written : (h : PayloadHeader) (w : ℕ) → h ≡ PayloadHeader.Chunk w → (front lengths messages sizes : List ℕ)
+    → drop (payloadFor h sizes (length front) .first) (front ++ (listBytes h lengths ++ messages)) ≡ messages
+chunk-written h w e front lengths messages sizes =
+    subst (λ (y : PayloadHeader). drop (payloadFor y sizes (length front) .first) (front ++ (listBytes y lengths ++ messages)) ≡ messages) (sym e)
+    (drop-at front messages (length front) refl)
+
 given-back : (g : GivenDatagram) (x : Envelope) (sizes configured : List ℕ) → FitsEnvelope x → datagramRefusal g x sizes configured ≡ 0
-    → length (datagramOf g x) ≤ 65535 → ReadsBack g x sizes configured
+    → length (datagramOf g x) ≤ 65535 → ReadsBack g x sizes configured (datagramOf g x)
 given-back g x sizes configured f h l =
     record {
       whole = read-written g x sizes configured f h l;
@@ -41,13 +51,15 @@ given-back g x sizes configured f h l =
       promoted = promoted-written g x sizes configured h;
       writerId = writer-id-written g x sizes configured h;
       message = message-written g x sizes configured f h l;
+      chunk = λ w e. chunk-written (x .«payload_header») w e (envelopeBytes (g .text) (g .ids) (g .promoted) x) (g .lengths) (g .messages) sizes;
     }
 
 pub reads-back : (g : GivenDatagram) (x : Envelope) (sizes configured entry exit : List ℕ) (n : ℕ) → FitsEnvelope x
-    → Writes (datagramOutput g x sizes configured) entry exit (Written.Is n) → ReadsBack g x sizes configured
+    → Writes (datagramOutput g x sizes configured) entry exit (Written.Is n)
+    → ReadsBack g x sizes configured (take n exit) × (drop n exit ≡ drop n entry)
 reads-back g x sizes configured entry exit n f w =
     let a = reported (datagramRefusal g x sizes configured) (datagramOf g x) entry exit n w in
-    given-back g x sizes configured f (a .number) (a .limit)
+    (subst (ReadsBack g x sizes configured) (sym (a .front)) (given-back g x sizes configured f (a .number) (a .limit)), a .rest)
 
 -- Theorem 2. An accepted datagram written again gives `rewritten s`: the same bytes but for the one case that document 01
 -- names. `rewrite` accepts it wherever the buffer is as long, and so does the writer its parts as they were read.
@@ -94,8 +106,8 @@ read-unrefused g x sizes m n f a q = go (eqb (datagramReadingRefusal g x sizes) 
     go false t = absurd (not-got (sym (refuses-alike g x sizes f a (accepted-short sizes (datagramOf g x) m n q) t .1) ∙ q))
 
 pub accepts-exactly : (g : GivenDatagram) (x : Envelope) (sizes configured : List ℕ) → FitsEnvelope x → PartsAgree g x sizes configured
-    → (datagramRefusal g x sizes configured ≡ 0 → length (datagramOf g x) ≤ 65535 → ReadsBack g x sizes configured)
-    × (ReadsBack g x sizes configured → datagramRefusal g x sizes configured ≡ 0)
+    → (datagramRefusal g x sizes configured ≡ 0 → length (datagramOf g x) ≤ 65535 → ReadsBack g x sizes configured (datagramOf g x))
+    × (ReadsBack g x sizes configured (datagramOf g x) → datagramRefusal g x sizes configured ≡ 0)
 accepts-exactly g x sizes configured f a = (
   λ h l. given-back g x sizes configured f h l,
   λ r. rw (read-unrefused g x sizes _ _ f (counts-agree g x sizes configured a) (r .whole)) (a .shape),

@@ -27,7 +27,8 @@ use Rattle.network_header.specs.Header.{classBytes, payloadHeaderBytes, promote
 use Rattle.network_message_writer.specs.Payload.{listBytes}
 use Rattle.network_message_writer.specs.Envelope.{GivenDatagram, envelopeBytes, datagramOf, datagramRefusal}
 use Rattle.network_message_writer.proofs.Short.{zeros}
-use Rattle.round_trip.specs.NetworkMessage.{placesOf, payloadFor, writtenMessage, givenLengths, messageGiven, placeGiven, FitsEnvelope}
+use Rattle.round_trip.specs.NetworkMessage.{placesOf, payloadFor, writtenMessage, givenLengths, messageGiven, placeGiven}
+use Rattle.network_header.specs.Envelope.{FitsEnvelope}
 use Rattle.publisher_id.proofs.PublisherTrip.{publisher-is}
 use Rattle.network_header.proofs.HeaderTrip.{class-is, payload-header-is, promoted-is}
 use Rattle.network_header.proofs.GroupTrip.{group-is}

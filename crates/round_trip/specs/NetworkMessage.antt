@@ -21,13 +21,12 @@ use Rattle.network_header.specs.Numbers.{configuredSizes}
 use Rattle.network_header.specs.Flags.{flagBytes, flagsFor}
 use Rattle.network_message.specs.WriterId.{writerIdOf}
 use Rattle.network_message.specs.Envelope.{NetworkMessage, networkMessageAt, messagePlaceAt, messageBytes}
-use Rattle.publisher_id.specs.Publisher.{publisherOn, publisherBytes, bytesBefore, textOf, FitsPublisher}
-use Rattle.network_header.specs.Group.{groupBytes, FitsGroup}
-use Rattle.network_header.specs.Header.{classBytes, payloadHeaderBytes, promotedOf, FitsClass, FitsPayloadHeader}
+use Rattle.publisher_id.specs.Publisher.{publisherOn, publisherBytes, bytesBefore, textOf}
+use Rattle.network_header.specs.Group.{groupBytes}
+use Rattle.network_header.specs.Header.{classBytes, payloadHeaderBytes, promotedOf}
 use Rattle.network_message_writer.specs.Envelope.{GivenDatagram, envelopeBytes, datagramOf, shapeRefusal, datagramRefusal, datagramAgain}
 use Rattle.wire_writer.specs.Writing.{writtenOf, bufferAfter}
 use Rattle.wire_writer.specs.declared.writing.Written.{Written}
-use Rattle.wire_writer.specs.Fits.{Fits16, FitsI64}
 
 -- where the variable parts of a written envelope end
 abbrev pub placesOf : GivenDatagram → Envelope → Places
@@ -137,34 +136,24 @@ givenOf s x p sizes configured =
       messages = messagesGiven s (x .«payload_header») (p .payload);
     }
 
--- each number of an envelope fits its type, as a value of the code does
-
-pub record FitsEnvelope (x : Envelope) : Type 0 where
-  pub publisher : FitsPublisher (x .publisher)
-  pub classId : FitsClass (x .«class_id»)
-  pub group : FitsGroup (x .group)
-  pub payloadHeader : FitsPayloadHeader (x .«payload_header»)
-  pub timestamp : FitsI64 (x .timestamp)
-  pub picoseconds : Fits16 (x .picoseconds)
-
--- What the writer accepted reads back, under the same configuration, as what it was given.
-pub record ReadsBack (g : GivenDatagram) (x : Envelope) (sizes configured : List ℕ) : Type 0 where
+-- The bytes d, which the writer wrote, read back under the same configuration as what it was given.
+pub record ReadsBack (g : GivenDatagram) (x : Envelope) (sizes configured d : List ℕ) : Type 0 where
   -- the envelope, where its parts end, and the payload
-  pub whole : networkMessageAt sizes (datagramOf g x) ≡ got (writtenMessage g x sizes) (writtenMessage g x sizes .payload .first)
+  pub whole : networkMessageAt sizes d ≡ got (writtenMessage g x sizes) (writtenMessage g x sizes .payload .first)
   -- a string PublisherId and the promoted fields, byte by byte
-  pub text : textOf (datagramOf g x) (x .publisher) (placesOf g x .«publisher_end») ≡ g .text
-  pub promoted : promotedOf (datagramOf g x) (x .promoted) (placesOf g x .payload) ≡ g .promoted
+  pub text : textOf d (x .publisher) (placesOf g x .«publisher_end») ≡ g .text
+  pub promoted : promotedOf d (x .promoted) (placesOf g x .payload) ≡ g .promoted
   -- the DataSetWriterId of message k
   pub writerId : (k : ℕ) → 2 * k < length (g .ids)
-      → writerIdOf (x .«payload_header») (placesOf g x .«payload_header_end») configured k (datagramOf g x)
-      ≡ Optional16.Is (le 2 (g .ids) (2 * k))
+      → writerIdOf (x .«payload_header») (placesOf g x .«payload_header_end») configured k d ≡ Optional16.Is (le 2 (g .ids) (2 * k))
   -- message k: where it stands, and its bytes
   pub message : OfMessages (x .«payload_header») → (k : ℕ) → k < length (givenLengths g (x .«payload_header») sizes)
-      → (messagePlaceAt sizes k (datagramOf g x)
+      → (messagePlaceAt sizes k d
       ≡ got (placeGiven (givenLengths g (x .«payload_header») sizes) (writtenMessage g x sizes .payload .first) k)
       (writtenMessage g x sizes .payload .first + total (take (suc k) (givenLengths g (x .«payload_header») sizes))))
-      × (messageBytes (messagePlaceAt sizes k (datagramOf g x)) (datagramOf g x)
-      ≡ messageGiven (givenLengths g (x .«payload_header») sizes) (g .messages) k)
+      × (messageBytes (messagePlaceAt sizes k d) d ≡ messageGiven (givenLengths g (x .«payload_header») sizes) (g .messages) k)
+  -- a chunk's payload
+  pub chunk : (w : ℕ) → x .«payload_header» ≡ PayloadHeader.Chunk w → drop (writtenMessage g x sizes .payload .first) d ≡ g .messages
 
 -- An accepted datagram s, written again: `rewrite` accepts it in the buffer out and leaves `rewritten s` there, and so does the writer
 -- its parts as they were read.

@@ -6,3 +6,4 @@ pub mod Back
 pub mod Refusals
 pub mod Bits
 pub mod Answering
+pub mod Fitting

@@ -10,7 +10,7 @@ use borrow.Author.Needs.{needs}
 use native.Mathlib.Omega.{arith}
 use Rattle.dataset_header.specs.Flags.{isDelta}
 use Rattle.dataset_header.specs.Header.{messageHeaderBytes}
-use Rattle.dataset_fields.proofs.Fitting.{fits-header}
+use Rattle.dataset_header.proofs.Fitting.{fits-header}
 use Rattle.wire_writer.specs.Writing.{roomRefusal}
 use Rattle.wire_writer.proofs.Answering.{refused-by, no-room, written}
 use Rattle.dataset_message_writer.specs.Message.{GivenMessage, encode, messageRefusal, givenMessage, isFielded, isRawData, sizeOfGiven, limited, FitsGiven}

@@ -3,6 +3,7 @@
 use Rattle.network_message_writer.proofs.Short.{all-short}
 use Rattle.network_message_writer.specs.Envelope.{givenDatagram, datagramOf, datagramRefusal}
 use Rattle.wire_writer.proofs.Answering.{refused-by, no-room, written}
+use Rattle.network_header.proofs.Fitting.{fits-envelope}
 use Rattle.wire_writer.specs.Writing.{roomRefusal}
 use lib.ListN.{length}
 use Prim.Native.Nat.{ℕ}
@@ -16,17 +17,19 @@ returns : tie.Need-returns
 returns c =
     let at-if1 = c in
     let at-refusal = at-if1 .before in
-    let args = at-refusal .before .before .before .before .before .before .before .before .before .args in
+    let at-good = at-refusal .before .before .before .before .before .before .before .before .before in
+    let args = at-good .args in
     let g = givenDatagram (now (args .text)) (now (args .ids)) (now (args .promoted)) (now (args .lengths)) (now (args .messages)) in
     let refusal = at-refusal .refusal .ensures in
-    refused-by (datagramRefusal g (args .x) (now (args .sizes)) (now (args .configured))) (datagramOf g (args .x)) (now (args .out))
-    (at-refusal .refusal .result) refusal (c .if1 .taken)
+    (fits-envelope (args .x) _ (at-good .good .1 .0), refused-by (datagramRefusal g (args .x) (now (args .sizes)) (now (args .configured))) (datagramOf g (args .x)) (now (args .out))
+    (at-refusal .refusal .result) refusal (c .if1 .taken))
 
 datagram-size-requires : tie.Need-datagram-size-requires
 datagram-size-requires c κs =
     let at-if1 = c in
     let at-refusal = at-if1 .before in
-    let args = at-refusal .before .before .before .before .before .before .before .before .before .args in
+    let at-good = at-refusal .before .before .before .before .before .before .before .before .before in
+    let args = at-good .args in
     let g = givenDatagram (now (args .text)) (now (args .ids)) (now (args .promoted)) (now (args .lengths)) (now (args .messages)) in
     let refusal = at-refusal .refusal .ensures in
     all-short g (args .x) (now (args .sizes)) (now (args .configured)) (sym refusal ∙ c .if1 .left)
@@ -37,14 +40,15 @@ returns-2 c =
     let at-datagram-size = at-room-refusal .before in
     let at-if1 = at-datagram-size .before in
     let at-refusal = at-if1 .before in
-    let args = at-refusal .before .before .before .before .before .before .before .before .before .args in
+    let at-good = at-refusal .before .before .before .before .before .before .before .before .before in
+    let args = at-good .args in
     let g = givenDatagram (now (args .text)) (now (args .ids)) (now (args .promoted)) (now (args .lengths)) (now (args .messages)) in
     let refusal = at-refusal .refusal .ensures in
     let room = length (now (args .out)) in
     let size = at-datagram-size .datagram-size .ensures in
     let full = at-room-refusal .room-refusal .ensures ∙ ap (λ (n : ℕ). roomRefusal n room) size in
-    no-room (datagramRefusal g (args .x) (now (args .sizes)) (now (args .configured))) (datagramOf g (args .x)) (now (args .out))
-    (sym refusal ∙ at-if1 .if1 .left) (at-room-refusal .room-refusal .result) full (c .if2 .taken)
+    (fits-envelope (args .x) _ (at-good .good .1 .0), no-room (datagramRefusal g (args .x) (now (args .sizes)) (now (args .configured))) (datagramOf g (args .x)) (now (args .out))
+    (sym refusal ∙ at-if1 .if1 .left) (at-room-refusal .room-refusal .result) full (c .if2 .taken))
 
 returns-3 : tie.Need-returns-3
 returns-3 c =
@@ -54,15 +58,16 @@ returns-3 c =
     let at-datagram-size = at-room-refusal .before in
     let at-if1 = at-datagram-size .before in
     let at-refusal = at-if1 .before in
-    let args = at-refusal .before .before .before .before .before .before .before .before .before .args in
+    let at-good = at-refusal .before .before .before .before .before .before .before .before .before in
+    let args = at-good .args in
     let g = givenDatagram (now (args .text)) (now (args .ids)) (now (args .promoted)) (now (args .lengths)) (now (args .messages)) in
     let refusal = at-refusal .refusal .ensures in
     let room = length (now (args .out)) in
     let size = at-datagram-size .datagram-size .ensures in
     let full = at-room-refusal .room-refusal .ensures ∙ ap (λ (n : ℕ). roomRefusal n room) size in
-    written (datagramRefusal g (args .x) (now (args .sizes)) (now (args .configured))) (datagramOf g (args .x)) (now (args .out))
+    (fits-envelope (args .x) _ (at-good .good .1 .0), written (datagramRefusal g (args .x) (now (args .sizes)) (now (args .configured))) (datagramOf g (args .x)) (now (args .out))
     (sym refusal ∙ at-if1 .if1 .left) (at-room-refusal .room-refusal .result) full (at-if2 .if2 .left) (at-datagram-size .datagram-size .result) _ _ size
-    (at-put-datagram .put-datagram .ensures)
+    (at-put-datagram .put-datagram .ensures))
 
 pub write-spec : {M : Type 1} → statement M
 write-spec =

@@ -50,7 +50,7 @@ returns-2 c =
     (at-envelope-in .envelope-in .result) (at-envelope-in .envelope-in .ensures)
     (of-writers 34 (now (args .config)) _ _ _ (at-writer-count .writer-count .ensures .0) (at-sizes .sizes .ensures) (at-first .first .ensures))
     (of-writers 2 (now (args .config)) _ _ _ (at-writer-count .writer-count .ensures .0) (at-ids .ids .ensures) (at-first2 .first2 .ensures)))
-    (at-write .write .ensures) (c .written-result .ensures)
+    (at-write .write .ensures .1) (c .written-result .ensures)
 
 pub uadp-write-spec : {M : Type 1} → statement M
 uadp-write-spec =

@@ -1,4 +1,4 @@
--- What the code's types say of a header: each number fits.
+-- What the code's types say of items that may be absent: each number fits.
 -- Assumes nothing.
 use mathlib.Core.List.{List}
 use native.Mathlib.Omega.{arith}
@@ -6,9 +6,7 @@ use lib.IntN.{pos, negsuc}
 use mir.Val.{Val}
 use denote.Laws.{Is}
 use denote.Enum.Declared as enum
-use denote.Struct.Declared as struct
 use denote.Enum.Laws as enumLaws
-use denote.Struct.Laws as structLaws
 use Rattle.wire.proofs.optional.Optional16 as optional16
 use Rattle.wire.proofs.optional.Optional16.Laws as optional16Laws
 use Rattle.wire.proofs.optional.Optional32 as optional32
@@ -18,11 +16,7 @@ use Rattle.wire.proofs.optional.OptionalI64.Laws as optionalI64Laws
 use Rattle.wire.specs.declared.optional.Optional16.{Optional16}
 use Rattle.wire.specs.declared.optional.Optional32.{Optional32}
 use Rattle.wire.specs.declared.optional.OptionalI64.{OptionalI64}
-use Rattle.dataset_header.proofs.header.Header as header
-use Rattle.dataset_header.proofs.header.Header.Laws as headerLaws
-use Rattle.dataset_header.specs.declared.header.Header.{Header}
 use Rattle.wire_writer.specs.Fits.{Fits16, Fits32, FitsI64}
-use Rattle.dataset_header.specs.Header.{FitsHeader}
 
 pub fits16 : (x : Optional16) (vs : List Val) → Is (enum.row optional16.the-type) x vs → Fits16 x
 fits16 Optional16.Absent vs h = tt
@@ -36,15 +30,3 @@ pub fitsI64 : (x : OptionalI64) (vs : List Val) → Is (enum.row optionalI64.the
 fitsI64 OptionalI64.Absent vs h = tt
 fitsI64 (OptionalI64.Is (pos n)) vs h = let k = enumLaws.owed optionalI64.the-type optionalI64Laws.the-laws (OptionalI64.Is (pos n)) vs h in k .0 .1
 fitsI64 (OptionalI64.Is (negsuc n)) vs h = let k = enumLaws.owed optionalI64.the-type optionalI64Laws.the-laws (OptionalI64.Is (negsuc n)) vs h in k .0 .1
-
-pub fits-header : (x : Header) (vs : List Val) → Is (struct.row header.the-type) x vs → FitsHeader x
-fits-header x vs h =
-    let k = structLaws.owed header.the-type headerLaws.the-laws x vs h in
-    record {
-      sequence = fits16 (x .sequence) _ (k .1 .1 .0);
-      timestamp = fitsI64 (x .timestamp) _ (k .1 .1 .1 .0);
-      picoseconds = fits16 (x .picoseconds) _ (k .1 .1 .1 .1 .0);
-      status = fits16 (x .status) _ (k .1 .1 .1 .1 .1 .0);
-      major = fits32 (x .major) _ (k .1 .1 .1 .1 .1 .1 .0);
-      minor = fits32 (x .minor) _ (k .1 .1 .1 .1 .1 .1 .1 .0);
-    }

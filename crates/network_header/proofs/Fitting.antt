@@ -14,27 +14,27 @@ use Rattle.wire.specs.declared.Guid.{Guid}
 use Rattle.publisher_id.proofs.publisher.PublisherId as publisher
 use Rattle.publisher_id.proofs.publisher.PublisherId.Laws as publisherLaws
 use Rattle.publisher_id.specs.declared.publisher.PublisherId.{PublisherId}
 use Rattle.network_header.proofs.header.ClassId as class
 use Rattle.network_header.proofs.header.ClassId.Laws as classLaws
 use Rattle.network_header.specs.declared.header.ClassId.{ClassId}
 use Rattle.network_header.proofs.header.PayloadHeader as payloadHeader
 use Rattle.network_header.proofs.header.PayloadHeader.Laws as payloadHeaderLaws
 use Rattle.network_header.specs.declared.header.PayloadHeader.{PayloadHeader}
 use Rattle.network_header.proofs.group.GroupFields as fields
 use Rattle.network_header.proofs.group.GroupFields.Laws as fieldsLaws
 use Rattle.network_header.specs.declared.group.GroupFields.{GroupFields}
 use Rattle.network_header.proofs.group.GroupHeader as group
 use Rattle.network_header.proofs.group.GroupHeader.Laws as groupLaws
 use Rattle.network_header.specs.declared.group.GroupHeader.{GroupHeader}
 use Rattle.network_header.proofs.envelope.Envelope as envelope
 use Rattle.network_header.proofs.envelope.Envelope.Laws as envelopeLaws
 use Rattle.network_header.specs.declared.envelope.Envelope.{Envelope}
 use Rattle.wire_writer.specs.Fits.{FitsGuid}
-use Rattle.dataset_fields.proofs.Fitting.{fits16, fits32, fitsI64}
+use Rattle.wire_writer.proofs.Fitting.{fits16, fits32, fitsI64}
 use Rattle.publisher_id.specs.Publisher.{FitsPublisher}
 use Rattle.network_header.specs.Header.{FitsClass, FitsPayloadHeader}
 use Rattle.network_header.specs.Group.{FitsFields, FitsGroup}
-use Rattle.round_trip.specs.NetworkMessage.{FitsEnvelope}
+use Rattle.network_header.specs.Envelope.{FitsEnvelope}
 
 fits-publisher : (x : PublisherId) (vs : List Val) → Is (enum.row publisher.the-type) x vs → FitsPublisher x
 fits-publisher PublisherId.Absent vs h = tt

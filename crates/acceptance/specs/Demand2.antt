@@ -1,0 +1,122 @@
+-- DEMAND 2 as one type: a field for each sentence, the sentence above it. proofs/Demand2.antt gives a value of it. "Headers, messages and
+-- fields are found exactly as document 01 lays them out": each reader's contract is an equation with a definition that reads like document
+-- 01's sentences (docs/TRACE.md leads to them). What is left to say is that nothing is left out, and the round trips. The premises are the
+-- contracts of the writers and of rewriting: what they were given, what they answered, and the buffer before and after.
+use Prim.Native.Nat.{ℕ, _*_, _≤_, _<_}
+use mathlib.Core.Path.{_≡_}
+use mathlib.Core.Bool.{Bool, true, false}
+use mathlib.Core.List.{List, _∷_, _++_}
+use mathlib.Core.Logic.{_⊎_, _↔_}
+use lib.Dec.{eqb}
+use lib.ListN.{length, take, drop}
+use Rattle.wire.specs.Constants.{DISAGREE, MOST_DATAGRAM}
+use Rattle.wire.specs.Number.{le}
+use Rattle.wire.specs.Answer.{got, refused, bit}
+use Rattle.wire.specs.declared.optional.Optional16.{Optional16}
+use Rattle.wire_writer.specs.Writing.{Writes, refusing}
+use Rattle.wire_writer.specs.Fits.{Bytes, Numbers}
+use Rattle.wire_writer.specs.declared.writing.Written.{Written}
+use Rattle.config.specs.Writers.{typesOf}
+use Rattle.network_header.specs.Envelope.{FitsEnvelope}
+use Rattle.network_header.specs.declared.envelope.Envelope.{Envelope}
+use Rattle.network_message.specs.Payload.{OfMessages}
+use Rattle.network_message.specs.WriterId.{writerIdOf}
+use Rattle.network_message.specs.Envelope.{NetworkMessage, networkMessageAt, messagePlaceAt, messageBytes}
+use Rattle.network_message_writer.specs.Envelope as N
+use Rattle.dataset_header.specs.Flags.{valid}
+use Rattle.dataset_message.specs.Message.{Message, messageAt}
+use Rattle.dataset_message_writer.specs.Message as M
+use Rattle.round_trip.specs.NetworkMessage as network
+use Rattle.round_trip.specs.DataSetMessage.{MessageBack, PartsAgree, ReadingRefuses, Tellable}
+use Rattle.rewriting.specs.Same.{messageSame, datagramSame}
+use Rattle.reassembly.specs.Record.{Partial, Identity, roomOf, Good}
+use Rattle.reassembly_laws.specs.Cutting.{Arrival, AllArrive, Restored}
+use Rattle.walk.specs.Lines.{Writers, linesFrom, stepLines, nextLine, startCursor, listingOf}
+use Rattle.walk.specs.declared.lines.LineCursor.{LineCursor}
+use Rattle.acceptance.specs.Tiles.{MessagesTile, FieldsTile}
+use Rattle.acceptance.specs.Again.{CopiedTo}
+use Rattle.acceptance.specs.Chunks.{IsWritten}
+
+-- the types of message k's fields under a configuration, by the DataSetWriterId that was given for it; and by the one that is read back
+abbrev pub typesGiven : Writers → N.GivenDatagram → ℕ → List ℕ
+typesGiven w g k = typesOf (w .ids) (w .starts) (w .types) (Optional16.Is (le 2 (g .ids) (2 * k)))
+
+abbrev pub typesRead : Writers → NetworkMessage → List ℕ → ℕ → List ℕ
+typesRead w m d k =
+    typesOf (w .ids) (w .starts) (w .types) (writerIdOf (m .envelope .«payload_header») (m .places .«payload_header_end») (w .ids) k d)
+
+-- what was written, as a claim about the buffer: its first n bytes are d, which P says something of, and the rest is as it was
+abbrev pub InBuffer : List ℕ → List ℕ → ℕ → (List ℕ → Type 0) → Type 0
+InBuffer entry exit n P = P (take n exit) × (drop n exit ≡ drop n entry)
+
+pub record Demand2 : Type 0 where
+  -- ---- NOTHING IS LEFT OUT. The messages of an accepted datagram tile its payload, and the fields of an accepted DataSetMessage tile it:
+  -- by lookup and by cursor the same is found.
+  pub messages-tile : (sizes s : List ℕ) (m : NetworkMessage) (n : ℕ) → networkMessageAt sizes s ≡ got m n
+      → OfMessages (m .envelope .«payload_header») → MessagesTile sizes s m
+  pub fields-tile : (types s : List ℕ) (m : Message) (n : ℕ) → messageAt types s ≡ got (valid m) n → FieldsTile types s m
+  -- The lines of a listing: the cursor that it starts with has all of its lines before it, and each step hands out the first of those that
+  -- are left.
+  pub listing-starts : (w : Writers) (d : List ℕ) (number place : ℕ)
+      → linesFrom w d (startCursor number place (w .sizes) d) ≡ listingOf number place w d
+  pub listing-steps : (w : Writers) (d : List ℕ) (c : LineCursor) → stepLines w d (nextLine w d c) ≡ linesFrom w d c
+
+  -- ---- WHAT THE WRITER WROTE READS BACK AS WHAT IT WAS GIVEN.
+  -- A NetworkMessage, with and without PayloadHeader: envelope, PublisherId's text, promoted fields, writer ids, each message with its
+  -- offset and bytes, a chunk's payload.
+  pub datagram-reads-back : (g : N.GivenDatagram) (x : Envelope) (sizes configured entry exit : List ℕ) (n : ℕ)
+      → FitsEnvelope x × Writes (N.datagramOutput g x sizes configured) entry exit (Written.Is n)
+      → InBuffer entry exit n (network.ReadsBack g x sizes configured)
+  -- A DataSetMessage of any kind and encoding: header, whether it is a heartbeat, each field's index and bytes, the length of its padding.
+  pub message-reads-back : (types : List ℕ) (m : M.GivenMessage) (entry exit : List ℕ) (n : ℕ)
+      → M.FitsGiven m × Writes (M.messageOutput types m) entry exit (Written.Is n) → InBuffer entry exit n (MessageBack types m)
+  -- Both, under one configuration w: where the message writer wrote the bytes of message k, with the types of its writer's fields, its own
+  -- part of the datagram is those bytes, and reads back as it was given by the types of the writer id that is read back.
+  pub whole-reads-back : (w : Writers) (g : N.GivenDatagram) (x : Envelope) (entry exit : List ℕ) (n : ℕ)
+      → FitsEnvelope x × Writes (N.datagramOutput g x (w .sizes) (w .ids)) entry exit (Written.Is n) → OfMessages (x .«payload_header»)
+      → (k : ℕ) → k < length (network.givenLengths g (x .«payload_header») (w .sizes)) → 2 * k < length (g .ids)
+      → (m : M.GivenMessage) (entry-k exit-k : List ℕ) (n-k : ℕ)
+      → M.FitsGiven m × Writes (M.messageOutput (typesGiven w g k) m) entry-k exit-k (Written.Is n-k)
+      → network.messageGiven (network.givenLengths g (x .«payload_header») (w .sizes)) (g .messages) k ≡ take n-k exit-k
+      → (messageBytes (messagePlaceAt (w .sizes) k (take n exit)) (take n exit) ≡ take n-k exit-k)
+      × MessageBack (typesRead w (network.writtenMessage g x (w .sizes)) (take n exit) k) m
+      (messageBytes (messagePlaceAt (w .sizes) k (take n exit)) (take n exit))
+  -- Cutting, the envelope's writer, taking in and handing out together: datagrams that were written with the payloads that cutting wrote,
+  -- of one publisher and writer, restore the payload, in any order and some of them more than once.
+  pub written-and-restored : (id : Identity) (p : List ℕ) (size : ℕ) (l : List Arrival) → AllArrive id p size (IsWritten id p size) l
+      → id .number < 65536 → (s : Partial) → Good s → s .rec .started ≡ false → length p ≤ roomOf s → Restored p l s
+
+  -- ---- AN ACCEPTED DATAGRAM WRITTEN AGAIN GIVES THE SAME BYTES, BUT FOR THE NAMED CASE.
+  pub datagram-again : (sizes s entry exit : List ℕ) (r : Written) (m : NetworkMessage) (n : ℕ) → networkMessageAt sizes s ≡ got m n
+      → Writes (datagramSame sizes s) entry exit r → CopiedTo (network.rewritten s) entry exit r
+  -- The named case needs ExtendedFlags1 and PublisherId off; no datagram gets longer.
+  pub rewritten-same : (b : ℕ) (s : List ℕ) → (bit 7 b ≡ false) ⊎ (bit 4 b ≡ true) → network.rewritten (b ∷ s) ≡ b ∷ s
+  pub rewritten-shorter : (s : List ℕ) → length (network.rewritten s) ≤ length s
+  -- The writer, given the parts as they were read, writes the same. (Each element of a lent slice of bytes is below 256, of one of u16
+  -- below 65,536.)
+  pub parts-again : (s sizes configured out : List ℕ) (m : NetworkMessage) (n : ℕ) → Bytes s → Numbers sizes → Numbers configured
+      → networkMessageAt sizes s ≡ got m n → length s ≤ length out → network.WritesAgain s sizes configured out m
+  -- "every accepted DataSetMessage, padding length included, is rewritten identically"
+  pub message-again : (types s entry exit : List ℕ) (r : Written) (m : Message) (n : ℕ) → messageAt types s ≡ got (valid m) n
+      → Writes (messageSame types s) entry exit r → CopiedTo s entry exit r
+
+  -- ---- "A writer refuses what reading would refuse, by the same number in reading order; then .. what would read back otherwise .. by 6".
+  -- Reading's number comes first.
+  pub datagram-number-first : (g : N.GivenDatagram) (x : Envelope) (sizes configured : List ℕ)
+      → eqb (N.datagramReadingRefusal g x sizes) 0 ≡ false
+      → N.datagramOutput g x sizes configured ≡ refusing (N.datagramReadingRefusal g x sizes)
+  -- Where what would be written is one thing, it is the number by which reading refuses that.
+  pub datagram-refused-alike : (g : N.GivenDatagram) (x : Envelope) (sizes : List ℕ) → FitsEnvelope x → network.CountsAgree g x
+      → length (N.datagramOf g x) ≤ MOST_DATAGRAM → eqb (N.datagramReadingRefusal g x sizes) 0 ≡ false
+      → (place : ℕ) × (networkMessageAt sizes (N.datagramOf g x) ≡ refused (N.datagramReadingRefusal g x sizes) place)
+  pub message-refused-alike : (types : List ℕ) (m : M.GivenMessage) → M.FitsGiven m → PartsAgree types m → (n : ℕ)
+      → (n ≡ 0 → ⊥) → (n ≡ DISAGREE → ⊥) → (M.messageRefusal types m ≡ n) ↔ ReadingRefuses types m n
+  -- Also where a field is no whole value, as far as reading finds it where it stands.
+  pub message-refused-plainly : (types : List ℕ) (m : M.GivenMessage) → M.FitsGiven m → Tellable types m
+      → eqb (M.messageReadingRefusal types m) 0 ≡ false → ReadingRefuses types m (M.messageReadingRefusal types m)
+  -- The writer accepts exactly what reads back as given.
+  pub datagram-accepted-exactly : (g : N.GivenDatagram) (x : Envelope) (sizes configured : List ℕ) → FitsEnvelope x
+      → network.PartsAgree g x sizes configured → length (N.datagramOf g x) ≤ MOST_DATAGRAM
+      → (N.datagramRefusal g x sizes configured ≡ 0) ↔ network.ReadsBack g x sizes configured (N.datagramOf g x)
+  pub message-accepted-exactly : (types : List ℕ) (m : M.GivenMessage) → M.FitsGiven m
+      → (M.messageRefusal types m ≡ 0) ↔ (MessageBack types m (M.encode m) × (M.listsGiven m ≡ true))
