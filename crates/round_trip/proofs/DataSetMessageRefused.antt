@@ -220,8 +220,10 @@ module _ (types : List ℕ) (g : GivenMessage) (fits : FitsHeader (g .header)) (
     own-refused r = go (isFielded g) refl
       where
         go : (f : Bool) → isFielded g ≡ f → ReadingRefuses types g (ownGiven types g)
-        go true e = let q : eqb (fieldsRefusal (g .header .encoding) types 0 (reached (isRawData g) types (givenFields g))) 0 ≡ false = rw e at r in
-            subst (ReadingRefuses types g) (let b : fieldsRefusal (g .header .encoding) types 0 (reached (isRawData g) types (givenFields g)) ≡ ownGiven types g = rw e in b) (fields-refused kind pico e q)
+        go true e =
+            let q : eqb (fieldsRefusal (g .header .encoding) types 0 (reached (isRawData g) types (givenFields g))) 0 ≡ false = rw e at r in
+            let b : fieldsRefusal (g .header .encoding) types 0 (reached (isRawData g) types (givenFields g)) ≡ ownGiven types g = rw e in
+            subst (ReadingRefuses types g) b (fields-refused kind pico e q)
         go false e = let q : eqb 0 0 ≡ false = rw e at r in no (sym q)
 
     -- where each is whole, by the layout
