@@ -2,6 +2,9 @@ pub mod Edges
 pub mod Refusals
 pub mod Calls
 pub mod Tiles
+pub mod Again
+pub mod Chunks
 pub mod Sentences
 pub mod Demand1
+pub mod Demand2
 pub mod Demand3

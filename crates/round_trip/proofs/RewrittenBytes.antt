@@ -40,7 +40,7 @@ rewrittenFlags f =
 
 
 -- where ExtendedFlags1 is absent, or PublisherId on, nothing changes
-keeps : (b : ℕ) (t : List ℕ) → (bit 7 b ≡ false) ⊎ (bit 4 b ≡ true) → rewritten (b ∷ t) ≡ b ∷ t
+pub keeps : (b : ℕ) (t : List ℕ) → (bit 7 b ≡ false) ⊎ (bit 4 b ≡ true) → rewritten (b ∷ t) ≡ b ∷ t
 keeps b [] h = refl
 keeps b (e ∷ t) (inl h) = rw h
 keeps b (e ∷ t) (inr h) = rw h (and-false (bit 7 b))
