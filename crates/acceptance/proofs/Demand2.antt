@@ -6,7 +6,7 @@
 -- Assumes nothing.
 use Prim.Native.Nat.{ℕ, suc, _+_, _≤_, _<_}
 use mathlib.Core.Path.{_≡_, _∙_}
-use mathlib.Core.Bool.{false, cond}
+use mathlib.Core.Bool.{Bool, false, cond}
 use mathlib.Core.List.{List, _++_}
 use lib.Dec.{eqb}
 use native.Mathlib.Omega.{arith}
@@ -27,7 +27,9 @@ use Rattle.dataset_fields.specs.declared.fields.Field.{Field}
 use Rattle.dataset_message.proofs.Agreement.{message-agrees}
 use Rattle.dataset_message_writer.specs.Message as M
 use Rattle.rewriting.specs.Same.{messageSame}
-use Rattle.wire_writer.specs.Writing.{Writes, refusing}
+use Rattle.wire_writer.specs.Writing.{Writes, refusing, unless, orElse}
+use Rattle.uadp_c.specs.Writing.{fitting}
+use Rattle.uadp_c.proofs.AfterReading.{after-reading}
 use Rattle.wire_writer.specs.declared.writing.Written.{Written}
 use Rattle.round_trip.specs.NetworkMessage.{CountsAgree, PartsAgree, givenLengths, messageGiven, rewritten, FitsEnvelope, ReadsBack, WritesAgain}
 use Rattle.round_trip.specs.DataSetMessage.{MessageBack, Tellable}
@@ -139,6 +141,13 @@ pub datagram-accepted-exactly : (g : N.GivenDatagram) (x : Envelope) (sizes conf
     → (N.datagramRefusal g x sizes configured ≡ 0 → length (N.datagramOf g x) ≤ 65535 → ReadsBack g x sizes configured)
     × (ReadsBack g x sizes configured → N.datagramRefusal g x sizes configured ≡ 0)
 datagram-accepted-exactly = accepts-exactly
+
+-- From an envelope record whose numbers all fit their items, or not: reading's number, then 6 for one that does not fit, then 6 for what would read back
+-- otherwise.
+pub datagram-fits-after-reading : (fits : Bool) (g : N.GivenDatagram) (x : Envelope) (sizes configured : List ℕ)
+    → fitting fits (N.datagramOutput g x sizes configured)
+    ≡ unless (orElse (N.datagramReadingRefusal g x sizes) (orElse (cond fits 0 6) (N.shapeRefusal g x sizes configured))) (N.datagramOf g x)
+datagram-fits-after-reading = after-reading
 
 -- Of a DataSetMessage in which what is refused stands where reading finds it (`Tellable`).
 pub message-refused-alike : (types : List ℕ) (m : M.GivenMessage) → FitsHeader (m .header) → Numbers (m .indices) → Tellable types m
