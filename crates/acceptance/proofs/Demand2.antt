@@ -43,6 +43,7 @@ use Rattle.reassembly_laws.specs.Cutting.{Arrival, IsCut, Only, Among, AllArriv
 use Rattle.reassembly_laws.proofs.Cutting.{all-cuts-restore}
 use Rattle.walk.specs.Lines.{Writers}
 use Rattle.walk.proofs.Listing.{start-lists, step-lists}
+use Rattle.uadp_c.proofs.AfterReading.{after-reading}
 use Rattle.acceptance.specs.Again.{CopiedTo}
 use Rattle.acceptance.specs.Chunks.{IsWritten}
 use Rattle.acceptance.specs.Demand2.{Demand2, typesGiven, typesRead}
@@ -159,4 +160,5 @@ demand-2 = record {
   datagram-accepted-exactly = λ g x sizes configured f a l.
       let e = datagram.accepts-exactly g x sizes configured f a in (λ h. e .0 h l, e .1);
   message-accepted-exactly = λ types m f. otherwise.accepts-exactly types m (f .header) (f .indices);
+  lent-fits-after-reading = after-reading;
 }

@@ -4,7 +4,7 @@
 -- contracts of the writers and of rewriting: what they were given, what they answered, and the buffer before and after.
 use Prim.Native.Nat.{ℕ, _*_, _≤_, _<_}
 use mathlib.Core.Path.{_≡_}
-use mathlib.Core.Bool.{Bool, true, false}
+use mathlib.Core.Bool.{Bool, true, false, cond}
 use mathlib.Core.List.{List, _∷_, _++_}
 use mathlib.Core.Logic.{_⊎_, _↔_}
 use lib.Dec.{eqb}
@@ -13,7 +13,7 @@ use Rattle.wire.specs.Constants.{DISAGREE, MOST_DATAGRAM}
 use Rattle.wire.specs.Number.{le}
 use Rattle.wire.specs.Answer.{got, refused, bit}
 use Rattle.wire.specs.declared.optional.Optional16.{Optional16}
-use Rattle.wire_writer.specs.Writing.{Writes, refusing}
+use Rattle.wire_writer.specs.Writing.{Writes, refusing, unless, orElse}
 use Rattle.wire_writer.specs.Fits.{Bytes, Numbers}
 use Rattle.wire_writer.specs.declared.writing.Written.{Written}
 use Rattle.config.specs.Writers.{typesOf}
@@ -31,6 +31,7 @@ use Rattle.round_trip.specs.DataSetMessage.{MessageBack, PartsAgree, ReadingRef
 use Rattle.rewriting.specs.Same.{messageSame, datagramSame}
 use Rattle.reassembly.specs.Record.{Partial, Identity, roomOf, Good}
 use Rattle.reassembly_laws.specs.Cutting.{Arrival, AllArrive, Restored}
+use Rattle.uadp_c.specs.Writing.{fitting}
 use Rattle.walk.specs.Lines.{Writers, linesFrom, stepLines, nextLine, startCursor, listingOf}
 use Rattle.walk.specs.declared.lines.LineCursor.{LineCursor}
 use Rattle.acceptance.specs.Tiles.{MessagesTile, FieldsTile}
@@ -120,3 +121,7 @@ pub record Demand2 : Type 0 where
       → (N.datagramRefusal g x sizes configured ≡ 0) ↔ network.ReadsBack g x sizes configured (N.datagramOf g x)
   pub message-accepted-exactly : (types : List ℕ) (m : M.GivenMessage) → M.FitsGiven m
       → (M.messageRefusal types m ≡ 0) ↔ (MessageBack types m (M.encode m) × (M.listsGiven m ≡ true))
+  -- Through C "a number that does not fit its item" is 6, after reading's numbers: `fits` says whether all numbers of the record do.
+  pub lent-fits-after-reading : (fits : Bool) (g : N.GivenDatagram) (x : Envelope) (sizes configured : List ℕ)
+      → fitting fits (N.datagramOutput g x sizes configured)
+      ≡ unless (orElse (N.datagramReadingRefusal g x sizes) (orElse (cond fits 0 DISAGREE) (N.shapeRefusal g x sizes configured))) (N.datagramOf g x)

@@ -2,12 +2,12 @@
 -- otherwise. (`fitting` tells it shorter, since the last two are one number.)
 -- Assumes nothing.
 use Prim.Native.Nat.{ℕ, _*_}
-use mathlib.Core.Path.{_≡_, refl, ap, sym, _∙_}
+use mathlib.Core.Path.{_≡_, refl, ap}
 use mathlib.Core.Bool.{Bool, true, false, cond}
 use mathlib.Core.List.{List}
 use lib.Dec.{eqb, leb}
 use lib.ListN.{length, take}
-use Rattle.wire_writer.specs.Writing.{Output, writing, refusing, unless, orElse}
+use Rattle.wire_writer.specs.Writing.{refusing, unless, orElse}
 use Rattle.wire_writer.proofs.Refusals.{no}
 use Rattle.publisher_id.specs.declared.publisher.PublisherId.{PublisherId}
 use Rattle.publisher_id.specs.Publisher.{publisherShape}
