@@ -56,6 +56,7 @@ use Rattle.acceptance.proofs.Refusals.Tells.{gives, refuses}
 use Rattle.acceptance.proofs.RefusedDatagrams.{datagramOthers, datagram-tells, chunk-tells}
 use Rattle.acceptance.proofs.Tiling.{payload-first}
 use Rattle.acceptance.proofs.RefusedCalls.{placed}
+use Rattle.acceptance.proofs.RefusedWriters as refusals
 use Rattle.acceptance.proofs.RefusedMessages.{fieldOthers, messageOthers, message-tells, value-lawful, raw-lawful, field-lawful}
 
 -- what an answer tells where it is a refusal, of so many bytes, and of a byte that the caller named
@@ -290,6 +291,10 @@ demand-1 = record {
   field-lookup = λ types s k n place e. (field-lookup-told types s k n place e, rw e);
   field-step = λ c types s n place e. subst (ToldAt fieldStepNumbers (length s) (c .at)) e (field-told c types s);
   writer = writer-told;
+  datagram-writer = refusals.datagram-writer;
+  message-writer = refusals.message-writer;
+  datagram-again = refusals.datagram-again;
+  message-again = refusals.message-again;
   cut = cut-told;
   listing = listing-told;
   walk = walk-told;

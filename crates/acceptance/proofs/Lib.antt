@@ -3,6 +3,7 @@ pub mod Refusals
 pub mod RefusedDatagrams
 pub mod RefusedMessages
 pub mod RefusedCalls
+pub mod RefusedWriters
 pub mod Tiling
 pub mod FieldsTile
 pub mod Demand1

@@ -162,7 +162,7 @@ header-tells s = then-tells (flags-lawful .tells s 0 (omega arith)) go
     go (valid f) next h = body-lawful f .tells s next h
 
 -- ---- the fields
-encoded-lawful : (e : Encoding) (types : List ℕ) (k : ℕ) → Lawful fieldOthers (encodedAt e types k)
+pub encoded-lawful : (e : Encoding) (types : List ℕ) (k : ℕ) → Lawful fieldOthers (encodedAt e types k)
 encoded-lawful Encoding.Variant types k = wider-lawful refl (value-lawful 100 24)
 encoded-lawful Encoding.RawData types k =
     record { tells = λ s at h. cond-tells (leb (length types) k) (refuses (no-place 8 refl)) (wider-lawful refl (raw-lawful (getD types k 0)) .tells s at h) }

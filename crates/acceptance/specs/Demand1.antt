@@ -20,6 +20,10 @@ use Rattle.network_message.specs.declared.payload.MessageCursor.{MessageCursor}
 use Rattle.dataset_fields.specs.Fields.{nextFieldAt, FieldStepped}
 use Rattle.dataset_fields.specs.declared.fields.Cursor.{Cursor}
 use Rattle.dataset_message.specs.Message.{messageAt, fieldPlaceAt, fieldBytes}
+use Rattle.network_header.specs.declared.envelope.Envelope.{Envelope}
+use Rattle.network_message_writer.specs.Envelope as N
+use Rattle.dataset_message_writer.specs.Message as M
+use Rattle.rewriting.specs.Same.{messageSame, datagramSame}
 use Rattle.chunk.specs.Datagram.{chunkAt}
 use Rattle.chunk.specs.Cutting.{cutAnswer, cutBuffer}
 use Rattle.walk.specs.Lines.{Writers}
@@ -42,7 +46,7 @@ use Rattle.uadp_c.specs.History.{LentCall, Called, Unchanged}
 use Rattle.uadp_c.specs.Sequence.{newnessResult, newnessAfter}
 use Rattle.uadp_c.specs.Walks.{walkResult}
 use Rattle.uadp_c.specs.Writing.{writerResult, outputResult}
-use Rattle.acceptance.specs.Refusals.{Refusal, StepRefusal, datagramNumbers, chunkNumbers, valueNumbers, messageNumbers, fieldStepNumbers, fieldNumbers, cutNumbers, callNumbers}
+use Rattle.acceptance.specs.Refusals.{Refusal, StepRefusal, datagramNumbers, chunkNumbers, valueNumbers, messageNumbers, fieldStepNumbers, fieldNumbers, cutNumbers, callNumbers, datagramWriterNumbers, messageWriterNumbers, datagramAgainNumbers, messageAgainNumbers}
 use Rattle.acceptance.specs.Calls.{bytesRead}
 
 -- a C result's number is not 0
@@ -78,6 +82,16 @@ pub record Demand1 : Type 0 where
   -- Both writers and both rewritings, whatever is to be written; cutting; a listing.
   pub writer : (output : Output) (entry exit : List ℕ) (n : ℕ) → Writes output entry exit (Written.Refused n)
       → (exit ≡ entry) × (answerWritten (writtenOf (length entry) output) ≡ refused n 0)
+  -- The numbers of each: reading's as document 01 names them for writers, 6, 10, 11; of rewriting reading's own, 10, 11, and 6 for a message
+  -- that is not valid.
+  pub datagram-writer : (g : N.GivenDatagram) (x : Envelope) (sizes configured entry exit : List ℕ) (n : ℕ)
+      → Writes (N.datagramOutput g x sizes configured) entry exit (Written.Refused n) → oneOf datagramWriterNumbers n ≡ true
+  pub message-writer : (types : List ℕ) (m : M.GivenMessage) (entry exit : List ℕ) (n : ℕ)
+      → Writes (M.messageOutput types m) entry exit (Written.Refused n) → oneOf messageWriterNumbers n ≡ true
+  pub datagram-again : (sizes s entry exit : List ℕ) (n : ℕ) → Writes (datagramSame sizes s) entry exit (Written.Refused n)
+      → oneOf datagramAgainNumbers n ≡ true
+  pub message-again : (types s entry exit : List ℕ) (n : ℕ) → Writes (messageSame types s) entry exit (Written.Refused n)
+      → oneOf messageAgainNumbers n ≡ true
   pub cut : (p : List ℕ) (number size k : ℕ) (out : List ℕ) (n : ℕ) → cutAnswer p number size k (length out) ≡ Written.Refused n
       → (oneOf cutNumbers n ≡ true) × (cutBuffer p number size k out ≡ out)
   pub listing : (out text : List ℕ) (n : ℕ) → textWritten out text ≡ Written.Refused n → (n ≡ NO_ROOM) × (textAfter out text ≡ out)

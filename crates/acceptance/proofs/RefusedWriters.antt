@@ -1,0 +1,275 @@
+-- By which numbers the writers refuse.
+-- Assumes nothing.
+use Prim.Native.Nat.{ℕ, zero, suc, _+_, _*_, _-_, _≤_}
+use mathlib.Core.Path.{_≡_, refl, sym, subst, _∙_}
+use mathlib.Core.Bool.{Bool, true, false, cond, _&&_, _||_, not}
+use mathlib.Core.List.{List, [], _∷_}
+use mathlib.Core.Logic.{_⊎_, inl, inr}
+use native.Mathlib.Omega.{arith}
+use borrow.Author.Tests.{eqb-true, eqb-false}
+use lib.Dec.{eqb, leb, ltb}
+use lib.ListN.{length, getD, take, drop}
+use Rattle.wire.specs.Lists.{total}
+use Rattle.wire.specs.Answer.{Answer, got, refused}
+use Rattle.wire.specs.Optional.{picosecondsRule}
+use Rattle.wire.specs.declared.optional.Optional16.{Optional16}
+use Rattle.wire.proofs.Cases.{by-bool}
+use Rattle.wire_writer.specs.Writing.{orElse, unused, roomRefusal, Output, unless, afterReading, writtenOf, Writes, on16, onI64, picosecondsRefusal}
+use Rattle.wire_writer.specs.declared.writing.Written.{Written}
+use Rattle.publisher_id.specs.Publisher.{publisherRefusal, publisherShape, textTooLong}
+use Rattle.publisher_id.specs.declared.publisher.PublisherId.{PublisherId}
+use Rattle.network_header.specs.Flags.{timesRefusal}
+use Rattle.network_header.specs.Group.{numberRefusal, groupRefusal}
+use Rattle.network_header.specs.Header.{countRefusal, promotedRefusal, countShape, idsShape, promotedShape}
+use Rattle.network_header.specs.Numbers.{configuredSizes, sameNumbers}
+use Rattle.network_header.specs.declared.envelope.Envelope.{Envelope}
+use Rattle.network_header.specs.declared.group.GroupHeader.{GroupHeader}
+use Rattle.network_header.specs.declared.header.PayloadHeader.{PayloadHeader}
+use Rattle.network_header.specs.declared.header.Promoted.{Promoted}
+use Rattle.network_message.specs.Payload.{allPositive, listed, restOnlyAt, configuredAt}
+use Rattle.network_message.specs.Envelope.{NetworkMessage, networkMessageAt, messagesOf}
+use Rattle.network_message_writer.specs.Payload.{listedRefusal, refusalNumber, payloadRefusal, lengthsShape}
+use Rattle.network_message_writer.specs.Envelope.{GivenDatagram, datagramReadingRefusal, shapeRefusal, datagramRefusal, datagramOf, datagramOutput}
+use Rattle.plain_value.specs.Width.{fixed, widthOf}
+use Rattle.dataset_header.specs.Flags.{Valid, notValid, valid, kindRule, isRaw}
+use Rattle.dataset_header.specs.declared.flags.Encoding.{Encoding}
+use Rattle.dataset_header.specs.declared.flags.Kind.{Kind}
+use Rattle.dataset_fields.specs.Fields.{encodedAt, fieldsRefusal, numberOf, reached, zerosAt, paddingAt}
+use Rattle.dataset_message.specs.Message.{Message, messageAt}
+use Rattle.dataset_message_writer.specs.Message.{GivenMessage, isFielded, isRawData, isKey, givenFields, ownRefusal, missingRefusal, leftRefusal, rawRefusal, layoutRefusal, ownGiven, wholeGiven, listsGiven, layoutGiven, bodyRefusal, messageReadingRefusal, readsBack, messageRefusal, encode, messageOutput}
+use Rattle.dataset_message_writer.specs.Rewrite.{whereValid}
+use Rattle.round_trip.specs.NetworkMessage.{rewritten}
+use Rattle.rewriting.specs.Same.{messageSame, datagramSame}
+use Rattle.reassembly_laws.specs.Refusing.{oneOf}
+use Rattle.acceptance.specs.Refusals.{datagramWriterNumbers, messageWriterNumbers, datagramAgainNumbers, messageAgainNumbers}
+use Rattle.acceptance.proofs.Refusals.{Tells, with13, wider-one}
+use Rattle.acceptance.proofs.Refusals.Tells.{gives, refuses}
+use Rattle.acceptance.proofs.RefusedDatagrams.{datagramOthers, datagram-tells}
+use Rattle.acceptance.proofs.RefusedMessages.{fieldOthers, messageOthers, encoded-lawful, message-tells}
+
+-- no refusal, or one by one of these numbers
+abbrev Number : List ℕ → ℕ → Type 0
+Number ns n = (n ≡ 0) ⊎ (oneOf ns n ≡ true)
+
+either : (ns : List ℕ) (b : Bool) (x y : ℕ) → Number ns x → Number ns y → Number ns (cond b x y)
+either ns true x y f h = f
+either ns false x y f h = h
+
+in-turn : (ns : List ℕ) (a b : ℕ) → Number ns a → Number ns b → Number ns (orElse a b)
+in-turn ns a b f h = either ns (eqb a 0) b a h f
+
+-- ---- the datagram's writer
+abbrev forDatagrams : List ℕ
+forDatagrams = datagramWriterNumbers
+
+held : (b : Bool) → Number forDatagrams (cond b 0 6)
+held b = either forDatagrams b 0 6 (inl refl) (inr refl)
+
+publisher-number : (p : PublisherId) (n : ℕ) → Number forDatagrams (publisherRefusal p n)
+publisher-number PublisherId.Absent n = inl refl
+publisher-number (PublisherId.Byte v) n = inl refl
+publisher-number (PublisherId.UInt16 v) n = inl refl
+publisher-number (PublisherId.UInt32 v) n = inl refl
+publisher-number (PublisherId.UInt64 v) n = inl refl
+publisher-number (PublisherId.Text k) n = either forDatagrams (textTooLong n) 10 0 (inr refl) (inl refl)
+
+optional-number : (o : Optional16) → Number forDatagrams (picosecondsRefusal o)
+optional-number Optional16.Absent = inl refl
+optional-number (Optional16.Is v) = either forDatagrams (leb 10000 v) 3 0 (inr refl) (inl refl)
+
+message-number : (o : Optional16) → Number forDatagrams (numberRefusal o)
+message-number Optional16.Absent = inl refl
+message-number (Optional16.Is v) = either forDatagrams (eqb v 0) 3 0 (inr refl) (inl refl)
+
+group-number : (g : GroupHeader) → Number forDatagrams (groupRefusal g)
+group-number GroupHeader.Absent = inl refl
+group-number (GroupHeader.Is g) = message-number (g .number)
+
+count-number : (h : PayloadHeader) → Number forDatagrams (countRefusal h)
+count-number PayloadHeader.Absent = inl refl
+count-number (PayloadHeader.Ids n) = either forDatagrams (eqb n 0) 6 0 (inr refl) (inl refl)
+count-number (PayloadHeader.Chunk w) = inl refl
+
+promoted-number : (p : Promoted) (messages : ℕ) → Number forDatagrams (promotedRefusal p messages)
+promoted-number Promoted.Absent messages = inl refl
+promoted-number (Promoted.Size n) messages = either forDatagrams (eqb messages 1) 0 6 (inl refl) (inr refl)
+
+times-number : (p t : Bool) → Number forDatagrams (timesRefusal p t)
+times-number p t = either forDatagrams p (cond t 0 3) 0 (either forDatagrams t 0 3 (inl refl) (inr refl)) (inl refl)
+
+rest-number : (s : List ℕ) (at : ℕ) → Number forDatagrams (refusalNumber (restOnlyAt s at))
+rest-number s at = by-bool _ (ltb at (length s)) (λ b. rw b (inl refl)) (λ b. rw b (inr refl))
+
+configured-number : (sizes s : List ℕ) (at : ℕ) → Number forDatagrams (refusalNumber (configuredAt sizes s at))
+configured-number sizes s at =
+    by-bool _ (eqb (length sizes) 0) (λ a. rw a (inr refl))
+    (λ a. by-bool _ (allPositive sizes)
+    (λ b. by-bool _ (eqb (at + total sizes) (length s)) (λ c. rw (a, b, c) (inl refl)) (λ c. rw (a, b, c) (inr refl)))
+    (λ b. by-bool _ (eqb (length sizes) 1) (λ c. rw (a, b, c) (rest-number s at)) (λ c. rw (a, b, c) (inr refl))))
+
+listed-number : (n : ℕ) (lengths : List ℕ) (rest : ℕ) → Number forDatagrams (listedRefusal n lengths rest)
+listed-number n lengths rest =
+    either forDatagrams (eqb (length lengths) (2 * n)) _ 6
+    (either forDatagrams (allPositive (listed n lengths 0)) (cond (eqb (total (listed n lengths 0)) rest) 0 6) 6 (held (eqb (total (listed n lengths 0)) rest)) (inr refl)) (inr refl)
+
+payload-number : (chunk : Bool) (h : PayloadHeader) (sizes lengths messages : List ℕ) → Number forDatagrams (payloadRefusal chunk h sizes lengths messages)
+payload-number true PayloadHeader.Absent sizes lengths messages = inr refl
+payload-number false PayloadHeader.Absent sizes lengths messages = configured-number (configuredSizes sizes) messages 0
+payload-number chunk (PayloadHeader.Ids n) sizes lengths messages =
+    either forDatagrams chunk 0 _ (inl refl) (either forDatagrams (leb n 1) (refusalNumber (restOnlyAt messages 0)) (listedRefusal n lengths (length messages)) (rest-number messages 0) (listed-number n lengths (length messages)))
+payload-number chunk (PayloadHeader.Chunk w) sizes lengths messages = inl refl
+
+reading-number : (g : GivenDatagram) (x : Envelope) (sizes : List ℕ) → Number forDatagrams (datagramReadingRefusal g x sizes)
+reading-number g x sizes =
+    in-turn forDatagrams _ _ (times-number (on16 (x .picoseconds)) (onI64 (x .timestamp)))
+    (in-turn forDatagrams _ _ (publisher-number (x .publisher) (length (g .text)))
+    (in-turn forDatagrams _ _ (group-number (x .group))
+    (in-turn forDatagrams _ _ (count-number (x .«payload_header»))
+    (in-turn forDatagrams _ _ (optional-number (x .picoseconds))
+    (in-turn forDatagrams _ _ (promoted-number (x .promoted) (messagesOf (x .chunk) (x .«payload_header») (length (configuredSizes sizes))))
+    (payload-number (x .chunk) (x .«payload_header») sizes (g .lengths) (g .messages)))))))
+
+publisher-shape : (p : PublisherId) (n : ℕ) → Number forDatagrams (publisherShape p n)
+publisher-shape PublisherId.Absent n = held (eqb n 0)
+publisher-shape (PublisherId.Byte v) n = held (eqb n 0)
+publisher-shape (PublisherId.UInt16 v) n = held (eqb n 0)
+publisher-shape (PublisherId.UInt32 v) n = held (eqb n 0)
+publisher-shape (PublisherId.UInt64 v) n = held (eqb n 0)
+publisher-shape (PublisherId.Text k) n = held (eqb k n)
+
+ids-shape : (chunk : Bool) (h : PayloadHeader) (ids configured : List ℕ) → Number forDatagrams (idsShape chunk h ids configured)
+ids-shape chunk PayloadHeader.Absent ids configured = held (sameNumbers ids (take 16 configured))
+ids-shape chunk (PayloadHeader.Ids n) ids configured =
+    either forDatagrams chunk 6 (countShape n (length ids)) (inr refl)
+    (either forDatagrams (leb 256 n) 6 (cond (eqb (length ids) (2 * n)) 0 6) (inr refl) (held (eqb (length ids) (2 * n))))
+ids-shape chunk (PayloadHeader.Chunk w) ids configured = either forDatagrams chunk (unused (length ids)) 6 (held (eqb (length ids) 0)) (inr refl)
+
+promoted-shape : (p : Promoted) (n : ℕ) → Number forDatagrams (promotedShape p n)
+promoted-shape Promoted.Absent n = held (eqb n 0)
+promoted-shape (Promoted.Size k) n = either forDatagrams (leb 65536 k) 6 (cond (eqb k n) 0 6) (inr refl) (held (eqb k n))
+
+lengths-shape : (h : PayloadHeader) (lengths sizes : List ℕ) → Number forDatagrams (lengthsShape h lengths sizes)
+lengths-shape PayloadHeader.Absent lengths sizes =
+    either forDatagrams (leb (length (configuredSizes sizes)) 1) (unused (length lengths)) (cond (sameNumbers lengths (configuredSizes sizes)) 0 6) (held (eqb (length lengths) 0))
+    (held (sameNumbers lengths (configuredSizes sizes)))
+lengths-shape (PayloadHeader.Ids n) lengths sizes = either forDatagrams (leb n 1) (unused (length lengths)) 0 (held (eqb (length lengths) 0)) (inl refl)
+lengths-shape (PayloadHeader.Chunk w) lengths sizes = held (eqb (length lengths) 0)
+
+shape-number : (g : GivenDatagram) (x : Envelope) (sizes configured : List ℕ) → Number forDatagrams (shapeRefusal g x sizes configured)
+shape-number g x sizes configured =
+    in-turn forDatagrams _ _ (publisher-shape (x .publisher) (length (g .text)))
+    (in-turn forDatagrams _ _ (ids-shape (x .chunk) (x .«payload_header») (g .ids) configured)
+    (in-turn forDatagrams _ _ (promoted-shape (x .promoted) (length (g .promoted))) (lengths-shape (x .«payload_header») (g .lengths) sizes)))
+
+-- ---- the message's writer
+abbrev forMessages : List ℕ
+forMessages = messageWriterNumbers
+
+kind-number : (k : Kind) (e : Encoding) → Number forMessages (kindRule k e)
+kind-number Kind.Key e = inl refl
+kind-number Kind.Delta Encoding.Variant = inl refl
+kind-number Kind.Delta Encoding.RawData = inr refl
+kind-number Kind.Delta Encoding.DataValue = inl refl
+kind-number Kind.Event Encoding.Variant = inl refl
+kind-number Kind.Event Encoding.RawData = inr refl
+kind-number Kind.Event Encoding.DataValue = inr refl
+kind-number Kind.KeepAlive e = inl refl
+
+picoseconds-number : (o : Optional16) → Number forMessages (picosecondsRefusal o)
+picoseconds-number Optional16.Absent = inl refl
+picoseconds-number (Optional16.Is v) = either forMessages (leb 10000 v) 3 0 (inr refl) (inl refl)
+
+-- an answer's number
+told-number : {A : Type 0} {hi : ℕ} {x : Answer A} → Tells fieldOthers hi x → Number forMessages (numberOf x)
+told-number (gives h) = inl refl
+told-number (refuses {n} {place} r) = inr (wider-one (with13 fieldOthers) forMessages refl n (r .one))
+
+fields-number : (e : Encoding) (types : List ℕ) (k : ℕ) (vs : List (List ℕ)) → Number forMessages (fieldsRefusal e types k vs)
+unfolding fieldsRefusal
+fields-number e types k [] = inl refl
+fields-number e types k (v ∷ vs) =
+    in-turn forMessages (numberOf (encodedAt e types k v 0)) _ (told-number (encoded-lawful e types k .tells v 0 (omega arith))) (fields-number e types (k + 1) vs)
+
+missing-number : (types : List ℕ) (padding : ℕ) → Number forMessages (missingRefusal types padding)
+unfolding missingRefusal
+missing-number [] padding = inl refl
+missing-number (t ∷ types) padding =
+    either forMessages (fixed t) _ 4 (either forMessages (leb (widthOf t) padding) (missingRefusal types (padding - widthOf t)) 1 (missing-number types (padding - widthOf t)) (inr refl)) (inr refl)
+
+zeros-number : (n : ℕ) (s : List ℕ) (at : ℕ) → Number forMessages (numberOf (zerosAt n s at))
+unfolding zerosAt
+zeros-number zero s at = inl refl
+zeros-number (suc n) s at = by-bool _ (eqb (getD s at 0) 0) (λ b. rw b (zeros-number n s (at + 1))) (λ b. rw b (inr refl))
+
+left-number : (values : List ℕ) (at : ℕ) → Number forMessages (leftRefusal values at)
+left-number values at = zeros-number (length values - at) values at
+
+layout-number : (fielded raw key : Bool) (types values lengths : List ℕ) (padding : ℕ) → Number forMessages (layoutRefusal fielded raw key types values lengths padding)
+layout-number fielded raw key types values lengths padding =
+    either forMessages fielded _ _
+    (either forMessages raw (rawRefusal types values lengths padding) 0
+    (either forMessages (eqb (length values) 0 && eqb padding 0) 0 _ (inl refl)
+    (either forMessages (eqb (length types) 0) 8 _ (inr refl)
+    (in-turn forMessages (missingRefusal (drop (length lengths) types) padding) _ (missing-number (drop (length lengths) types) padding)
+    (left-number values (total (take (length types) lengths)))))) (inl refl))
+    (either forMessages key 0 (leftRefusal values 0) (inl refl) (left-number values 0))
+
+body-number : (types : List ℕ) (g : GivenMessage) → Number forMessages (bodyRefusal types g)
+body-number types g =
+    in-turn forMessages (ownGiven types g) _
+    (either forMessages (isFielded g) _ 0 (fields-number (g .header .encoding) types 0 (reached (isRaw (g .header .encoding)) types (givenFields g))) (inl refl))
+    (either forMessages (wholeGiven types g && listsGiven g) (layoutGiven types g) 0
+    (layout-number (isFielded g) (isRawData g) (isKey (g .header .kind)) types (g .values) (g .lengths) (g .padding)) (inl refl))
+
+refusal-number : (types : List ℕ) (g : GivenMessage) → Number forMessages (messageRefusal types g)
+refusal-number types g =
+    in-turn forMessages (messageReadingRefusal types g) _
+    (in-turn forMessages _ _ (kind-number (g .header .kind) (g .header .encoding)) (in-turn forMessages _ _ (picoseconds-number (g .header .picoseconds)) (body-number types g)))
+    (either forMessages (readsBack types g) 0 6 (inl refl) (inr refl))
+
+-- ---- what a writer answers
+refusal-of : {n m : ℕ} → _≡_ {A = Written} (Written.Refused n) (Written.Refused m) → n ≡ m
+refusal-of e = cc
+
+not-done : {n m : ℕ} → _≡_ {A = Written} (Written.Refused n) (Written.Is m) → ⊥
+not-done e = let z : _≡_ {A = ℕ} 0 1 = cc in absurd (omega arith)
+
+-- bytes that are written are refused by 10 or 11 only
+room-number : (ns : List ℕ) → oneOf ns 10 ≡ true → oneOf ns 11 ≡ true → (n room : ℕ) (bytes : List ℕ) → Written.Refused n ≡ writtenOf room (Output.writing bytes) → oneOf ns n ≡ true
+room-number ns t e n room bytes q =
+    by-bool _ (ltb 65535 (length bytes)) (λ a. subst (λ (k : ℕ). oneOf ns k ≡ true) (sym (refusal-of (rw a at q))) t)
+    (λ a. by-bool _ (ltb room (length bytes)) (λ b. subst (λ (k : ℕ). oneOf ns k ≡ true) (sym (refusal-of (rw (a, b) at q))) e) (λ b. absurd (not-done (rw (a, b) at q))))
+
+unless-number : (ns : List ℕ) → oneOf ns 10 ≡ true → oneOf ns 11 ≡ true → (k : ℕ) → Number ns k → (n room : ℕ) (bytes : List ℕ)
+    → Written.Refused n ≡ writtenOf room (unless k bytes) → oneOf ns n ≡ true
+unless-number ns t e k (inl z) n room bytes q = room-number ns t e n room bytes (rw z at q)
+unless-number ns t e k (inr z) n room bytes q =
+    by-bool _ (eqb k 0) (λ b. room-number ns t e n room bytes (rw b at q)) (λ b. subst (λ (i : ℕ). oneOf ns i ≡ true) (sym (refusal-of (rw b at q))) z)
+
+pub datagram-writer : (g : GivenDatagram) (x : Envelope) (sizes configured entry exit : List ℕ) (n : ℕ)
+    → Writes (datagramOutput g x sizes configured) entry exit (Written.Refused n) → oneOf datagramWriterNumbers n ≡ true
+datagram-writer g x sizes configured entry exit n w =
+    unless-number forDatagrams refl refl (datagramRefusal g x sizes configured) (in-turn forDatagrams _ _ (reading-number g x sizes) (shape-number g x sizes configured))
+    n (length entry) (datagramOf g x) (w .answer)
+
+pub message-writer : (types : List ℕ) (g : GivenMessage) (entry exit : List ℕ) (n : ℕ)
+    → Writes (messageOutput types g) entry exit (Written.Refused n) → oneOf messageWriterNumbers n ≡ true
+message-writer types g entry exit n w = unless-number forMessages refl refl (messageRefusal types g) (refusal-number types g) n (length entry) (encode g) (w .answer)
+
+-- ---- rewriting
+pub datagram-again : (sizes s entry exit : List ℕ) (n : ℕ) → Writes (datagramSame sizes s) entry exit (Written.Refused n) → oneOf datagramAgainNumbers n ≡ true
+datagram-again sizes s entry exit n w = go (networkMessageAt sizes s) refl (datagram-tells sizes s)
+  where
+    go : (a : Answer NetworkMessage) → networkMessageAt sizes s ≡ a → Tells datagramOthers (length s) a → oneOf datagramAgainNumbers n ≡ true
+    go (got m next) q t = room-number datagramAgainNumbers refl refl n (length entry) (rewritten s) (rw q at (w .answer))
+    go (refused k place) q (refuses r) =
+        subst (λ (i : ℕ). oneOf datagramAgainNumbers i ≡ true) (sym (refusal-of (rw q at (w .answer)))) (wider-one (with13 datagramOthers) datagramAgainNumbers refl k (r .one))
+
+pub message-again : (types s entry exit : List ℕ) (n : ℕ) → Writes (messageSame types s) entry exit (Written.Refused n) → oneOf messageAgainNumbers n ≡ true
+message-again types s entry exit n w = go (messageAt types s) refl (message-tells types s)
+  where
+    go : (a : Answer (Valid Message)) → messageAt types s ≡ a → Tells messageOthers (length s) a → oneOf messageAgainNumbers n ≡ true
+    go (got notValid next) q t = subst (λ (i : ℕ). oneOf messageAgainNumbers i ≡ true) (sym (refusal-of (rw q at (w .answer)))) refl
+    go (got (valid m) next) q t = room-number messageAgainNumbers refl refl n (length entry) s (rw q at (w .answer))
+    go (refused k place) q (refuses r) =
+        subst (λ (i : ℕ). oneOf messageAgainNumbers i ≡ true) (sym (refusal-of (rw q at (w .answer)))) (wider-one (with13 messageOthers) messageAgainNumbers refl k (r .one))
