@@ -1,0 +1,5 @@
+pub mod Structure
+pub mod Deeper
+pub mod Agreement
+pub mod Telling
+pub mod Storing
