@@ -49,7 +49,7 @@ pub extern "C" fn uadp_chunks(total: u64, size: u64) -> u64
     if total == 0 {
         return result(DISAGREE, 0);
     }
-    if MOST_TOTAL as u64 < total {
+    if (MOST_TOTAL as u64) < total {
         return result(OVER_LIMIT, 0);
     }
     let last = (total - 1) / size;

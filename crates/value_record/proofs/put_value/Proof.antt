@@ -1,3 +1,4 @@
+use mathlib.Core.Path.{sym}
 use borrow.Author.Needs.{needs}
 use Rattle.value_record.proofs.put_value.Statement.{statement}
 use Rattle.value_record.proofs.put_value.Tie as tie
@@ -9,57 +10,27 @@ use Rattle.records.proofs.items.flag_number.Reads as flag-number-reads
 use Rattle.records.proofs.numbers.put_numbers.Reads as put-numbers-reads
 use Rattle.wire.proofs.left.Reads as left-reads
 
--- src/lib.rt:23:9
-cast-t6 : tie.Need-cast-t6
-cast-t6 c = search needs
-
--- src/lib.rt:24:9
-shape-number-requires : tie.Need-shape-number-requires
-shape-number-requires c κs = search needs
-
--- src/lib.rt:25:9
-elements-number-requires : tie.Need-elements-number-requires
-elements-number-requires c κs = search needs
-
--- src/lib.rt:28:9
-left-requires : tie.Need-left-requires
-left-requires c κs = search needs
-
--- src/lib.rt:29:9
-flag-number-requires : tie.Need-flag-number-requires
-flag-number-requires c κs = search needs
-
--- src/lib.rt:31:9
-cast-t15 : tie.Need-cast-t15
-cast-t15 c = search needs
-
--- src/lib.rt:48:22
-slice-aggregate-put-numbers : tie.Need-slice-aggregate-put-numbers
-slice-aggregate-put-numbers c = search needs
-
--- src/lib.rt:48:5
-put-numbers-requires : tie.Need-put-numbers-requires
-put-numbers-requires c κs = search needs
-
--- src/lib.rt:17:1
-same-length : tie.Need-same-length
-same-length c = search needs
-
 -- src/lib.rt:17:1
 returns : tie.Need-returns
-returns c = ?
+returns c =
+    let at-put-numbers = c .before .before in
+    let at-flag-number = at-put-numbers .before .before .before .before in
+    let at-left = at-flag-number .before in
+    let at-elements-number = at-left .before in
+    let at-shape-number = at-elements-number .before in
+    rw (sym (at-shape-number .shape-number .ensures), sym (at-elements-number .elements-number .ensures), sym (at-left .left .ensures), sym (at-flag-number .flag-number .ensures .0)) (at-put-numbers .put-numbers .ensures)
 
 pub put-value-spec : {M : Type 1} → statement M
 put-value-spec =
     tie.close
     (tie.spec
-    cast-t6
-    shape-number-requires
-    elements-number-requires
-    left-requires
-    flag-number-requires
-    cast-t15
-    slice-aggregate-put-numbers
-    put-numbers-requires
-    same-length
+    (λ c. search needs)
+    (λ c κs. search needs)
+    (λ c κs. search needs)
+    (λ c κs. search needs)
+    (λ c κs. search needs)
+    (λ c. search needs)
+    (λ c. search needs)
+    (λ c κs. search needs)
+    (λ c. search needs)
     returns)
