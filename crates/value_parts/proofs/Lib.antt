@@ -3,3 +3,4 @@ pub mod Deeper
 pub mod Agreement
 pub mod Telling
 pub mod Storing
+pub mod Trip
