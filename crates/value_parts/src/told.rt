@@ -107,13 +107,13 @@ fn array_parts(s: &[u8], at: usize, t: u8, end: usize, n: usize) -> ValueParts
     requires { ⌜ variantAt (now s) at ≡ got (measure t (Shape.Array n)) end ⌝ }
     ensures { λ r. ⌜ r ≡ partsFrom (now (s .entry)) (at + 1) (measure t (Shape.Array n)) end ⌝ }
 {
-    let items = at + 1;
+    let count_at = at + 1;
     ValueParts {
         kind: t,
         shape: Shape::Array(n),
         width: packed_width(t),
         null: false,
-        first: items + 4,
+        first: count_at + 4,
         end,
     }
 }

@@ -11,8 +11,8 @@ use Rattle.value_parts.proofs.told.array_parts.Lts as lts
 use Rattle.plain_value.proofs.width.packed_width.Reads as packed-width-reads
 
 -- src/told.rt:110:17
-add-items : tie.Need-add-items
-add-items c =
+add-count-at : tie.Need-add-count-at
+add-count-at c =
     omega (arith, value-within 100 24 (now (c .before .args .s)) (c .before .args .at) (c .before .pre) .0)
 
 -- src/told.rt:116:16
@@ -25,4 +25,4 @@ returns : tie.Need-returns
 returns c = rw (sym (c .packed-width .ensures .0))
 
 pub array-parts-spec : {M : Type 1} → statement M
-array-parts-spec = tie.close (tie.spec add-items (λ c κs. search needs) add-t9 returns)
+array-parts-spec = tie.close (tie.spec add-count-at (λ c κs. search needs) add-t9 returns)
