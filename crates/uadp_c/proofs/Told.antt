@@ -1,9 +1,8 @@
 -- The ways out of the functions that tell values and chunks, and put values.
 -- Assumes nothing.
-use Prim.Native.Nat.{ℕ, _≤_, _<_}
+use Prim.Native.Nat.{ℕ, _<_}
 use mathlib.Core.Path.{_≡_, refl, ap, sym, subst, _∙_}
 use mathlib.Core.List.{List}
-use lib.Dec.{ltb}
 use lib.ListN.{take}
 use borrow.Author.Tests.{le-ltb}
 use Rattle.wire.specs.Answer.{Answer, mapAnswer}
@@ -15,7 +14,7 @@ use Rattle.records.specs.Result.{resultOf}
 use Rattle.records.specs.Writers.{writersIn, sixteen, sizesIn}
 use Rattle.message_record.specs.Message.{encodingIn}
 use Rattle.value_parts.specs.Told.{toldElementAt}
-use Rattle.value_parts.specs.DataValue.{aloneParts, toldFieldAt, answerField}
+use Rattle.value_parts.specs.DataValue.{aloneParts, toldFieldAt, answerFieldTold}
 use Rattle.value_parts.specs.Put.{variantOutput}
 use Rattle.value_parts.specs.declared.data_value.FieldParts.{FieldParts}
 use Rattle.value_parts.specs.declared.data_value.FieldTold.{FieldTold}
@@ -27,8 +26,8 @@ use Rattle.uadp_c.proofs.Filling.{Ends}
 use Rattle.uadp_c.proofs.Wrote.{of-writers}
 
 -- what a telling function answered
-pub was-told : {x y : FieldTold} → x ≡ y → valueFilling (answerField y) ≡ valueFilling (answerField x)
-was-told q = ap (λ (z : FieldTold). valueFilling (answerField z)) (sym q)
+pub was-told : {x y : FieldTold} → x ≡ y → valueFilling (answerFieldTold y) ≡ valueFilling (answerFieldTold x)
+was-told q = ap (λ (z : FieldTold). valueFilling (answerFieldTold z)) (sym q)
 
 -- the same in other words
 pub filled-as : (out : List ℕ) {a b : Answer FieldParts} {x : ℕ} {e : List ℕ} → a ≡ b → Ends (valueFilling a) out x e → Ends (valueFilling b) out x e

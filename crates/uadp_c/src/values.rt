@@ -17,7 +17,7 @@ ghost use Rattle.wire_writer.specs.Writing.{bufferAfter};
 ghost use Rattle.records.specs.Result.{resultIn, filledIn};
 ghost use Rattle.message_record.specs.Message.{encodingIn};
 ghost use Rattle.value_parts.specs.Told.{toldElementAt};
-ghost use Rattle.value_parts.specs.DataValue.{aloneParts, answerField, toldFieldAt};
+ghost use Rattle.value_parts.specs.DataValue.{aloneParts, answerFieldTold, toldFieldAt};
 ghost use Rattle.value_parts.specs.Put.{variantOutput};
 ghost use Rattle.uadp_c.specs.Writing.{outputResult};
 ghost use Rattle.uadp_c.specs.Values.{valueFilling, typeIn, formIn};
@@ -64,7 +64,7 @@ fn form_of(shape: u32, null: u32) -> Form
 // Stores what was told of a value.
 fn fill_value(value: &mut [u8], told: FieldTold) -> u64
     ensures { λ r.
-        let filling = valueFilling (answerField told) in
+        let filling = valueFilling (answerFieldTold told) in
         ⌜ (r ≡ resultIn filling (now (value .entry))) × (now (value .exit) ≡ filledIn filling (now (value .entry))) ⌝ }
 {
     match told {

@@ -5,7 +5,7 @@ use mathlib.Core.Path.{_≡_, refl, sym, ap, subst, _∙_}
 use mathlib.Core.Bool.{Bool, true, false, cond, false≢true}
 use mathlib.Core.List.{List}
 use Prim.Native.Nat.{ℕ, _+_}
-use Rattle.wire.specs.Answer.{Answer, got, refused, Reader, andThen, _>>_, pure, item, ruled, whenOn, mapAnswer, bit}
+use Rattle.wire.specs.Answer.{Answer, got, refused, andThen, item, ruled, whenOn, mapAnswer, bit}
 use Rattle.wire.proofs.Reading.{got-value, got-next, not-got, invert}
 use Rattle.wire_writer.proofs.Back.{ruled-back}
 use Rattle.plain_value.specs.Plain.{passing, bytes}
@@ -14,14 +14,10 @@ use Rattle.value_parts.proofs.Deeper.{deeper}
 use Rattle.plain_value.specs.Parts.{parts}
 use Rattle.value.specs.Value.{Measure, measure, maskRule, dataValueOf, valueAt, variantAt, dataValueAt, rawAt}
 use Rattle.value.specs.declared.Shape.{Shape}
-use Rattle.value_parts.specs.Told.{partsFrom, toldInside, toldVariantAt, toldRawAt}
-use Rattle.value_parts.specs.DataValue.{isGot, placedAt, noVariantAt, toldPartsAt, toldAfterMaskAt, toldDataValueAt}
+use Rattle.value_parts.specs.Told.{measureOf, partsFrom, toldInside, toldVariantAt, toldRawAt}
+use Rattle.value_parts.specs.DataValue.{asMeasure, isGot, placedAt, noVariantAt, toldPartsAt, toldAfterMaskAt, toldDataValueAt}
 use Rattle.value_parts.specs.declared.told.ValueParts.{ValueParts}
 use Rattle.value_parts.specs.declared.data_value.FieldParts.{FieldParts}
-
--- what is told of a value's type and shape
-abbrev pub measureOf : ValueParts → Measure
-measureOf p = measure (p .kind) (p .shape)
 
 same-measure : (x : Answer Measure) (f : Measure → ℕ → ValueParts) → ((m : Measure) (e : ℕ) → measureOf (f m e) ≡ m)
     → mapAnswer measureOf (andThen x (λ m e. got (f m e) e)) ≡ x
@@ -45,9 +41,6 @@ map-then f (refused n p) k = refl
 same-then : {A B : Type 0} (x : Answer A) {k l : A → ℕ → Answer B} → ((a : A) (n : ℕ) → k a n ≡ l a n) → andThen x k ≡ andThen x l
 same-then (got a n) h = h a n
 same-then (refused n p) h = refl
-
-abbrev asMeasure : FieldParts → Measure
-asMeasure p = measure 23 Shape.Scalar
 
 module _ (s : List ℕ) where
   -- a part and its place, and what follows it
@@ -112,7 +105,7 @@ module _ (s : List ℕ) where
 
 -- ---- an accepted DataValue
 
-pub is-got : {A : Type 0} (x : Answer A) → isGot x ≡ true → (a : A) × (e : ℕ) × (x ≡ got a e)
+is-got : {A : Type 0} (x : Answer A) → isGot x ≡ true → (a : A) × (e : ℕ) × (x ≡ got a e)
 is-got (got a e) h = (a, e, refl)
 is-got (refused n p) h = absurd (false≢true h)
 

@@ -1,11 +1,11 @@
 -- A value that is accepted inside another is accepted alone, where more levels are left, and measured alike.
 -- Assumes nothing.
-use mathlib.Core.Path.{_≡_, refl}
+use mathlib.Core.Path.{_≡_}
 use mathlib.Core.Bool.{Bool, true, false, cond}
 use mathlib.Core.List.{List}
 use Prim.Native.Nat.{ℕ, zero, suc}
 use lib.Dec.{eqb}
-use Rattle.wire.specs.Answer.{Answer, got, refused, Reader, andThen, _>>=_, _>>_, pure, item, ruled, whenOn, each, bit}
+use Rattle.wire.specs.Answer.{got, refused, Reader, _>>=_, _>>_, pure, item, ruled, whenOn, each, bit}
 use Rattle.wire.specs.Items.{lengthItem}
 use Rattle.wire.specs.declared.Length.{Length}
 use Rattle.wire.proofs.Reading.{not-got, invert}

@@ -4,3 +4,4 @@ pub mod Agreement
 pub mod Telling
 pub mod Storing
 pub mod Trip
+pub mod Filled

@@ -16,7 +16,7 @@ use Rattle.wire_writer.proofs.Putting.{puts, then}
 use Rattle.wire_writer.proofs.Refusals.{both-zero}
 use Rattle.value.specs.Value.{variantRule}
 use Rattle.value_parts.specs.declared.put.Form.{Form}
-use Rattle.value_parts.specs.Put.{firstByte, hasCount, countOf, headBytes, variantBytes, typeRule, formRule, putRule}
+use Rattle.value_parts.specs.Put.{firstByte, hasCount, countGiven, headBytes, variantBytes, typeRule, formRule, putRule}
 
 -- one of two types, or neither, among those that are taken
 pub one-of : (b c p : Bool) → b || c ≡ true → ((b || (c || false)) || p) ≡ true
@@ -30,7 +30,7 @@ none-of false true p h = absurd (let z : _≡_ {A = ℕ} 0 1 = cc in omega arith
 none-of false false p h = refl
 
 -- what stands before a value's own bytes
-pub counted-puts : (t : ℕ) (f : Form) (n : ℕ) {b k at next : ℕ} {entry mid exit : List ℕ} → b ≡ firstByte t f → hasCount t f ≡ true → k ≡ countOf t f n
+pub counted-puts : (t : ℕ) (f : Form) (n : ℕ) {b k at next : ℕ} {entry mid exit : List ℕ} → b ≡ firstByte t f → hasCount t f ≡ true → k ≡ countGiven t f n
     → Stored (leBytes 1 b) entry 0 mid at → Stored (leBytes 4 k) mid at exit next → Puts (headBytes t f n) entry 0 exit next
 counted-puts t f n {b} {k} eb h ek x y =
     let e : leBytes 1 b ++ leBytes 4 k ≡ headBytes t f n = rw (h, sym eb, sym ek) in

@@ -1,21 +1,19 @@
 -- What an accepted Variant's first items are.
 -- Assumes nothing.
-use mathlib.Core.Path.{_≡_, refl, sym, ap, subst, _∙_}
+use mathlib.Core.Path.{_≡_, refl, sym, subst}
 use mathlib.Core.Bool.{Bool, true, false, cond, _||_, false≢true}
 use mathlib.Core.List.{List}
 use mathlib.Core.Logic.{_⊎_, inl, inr}
-use Prim.Native.Nat.{ℕ, suc, _+_, _≤_, _<_}
-use native.Mathlib.Omega.{arith}
+use Prim.Native.Nat.{ℕ, suc, _+_, _≤_}
 use borrow.Author.Tests.{leb-true, eqb-true}
 use lib.Dec.{eqb, leb}
 use lib.ListN.{length}
 use Rattle.wire.specs.Number.{le, signed}
-use Rattle.wire.specs.Answer.{Answer, got, refused, Reader, andThen, pure, item, ruled}
+use Rattle.wire.specs.Answer.{Answer, got, refused, Reader, pure, item, ruled}
 use Rattle.wire.specs.Items.{lengthOf, lengthItem}
-use Rattle.wire.specs.declared.Length.{Length}
 use Rattle.wire.proofs.Reading.{got-value, got-next, not-got, invert}
 use Rattle.wire_writer.proofs.Back.{ruled-back}
-use Rattle.plain_value.specs.Width.{widthOf, fixed}
+use Rattle.plain_value.specs.Width.{widthOf}
 use Rattle.plain_value.specs.Plain.{passing, bytes, afterLength, string, lengthFirst, plain, plainValue}
 use Rattle.value.specs.Value.{Measure, measure, typeOf, isArray, variantRule, scalar, arrayOf, array, variantOf, valueAt}
 use Rattle.value.specs.declared.Shape.{Shape}

@@ -1,18 +1,18 @@
 -- What was put is told as what was given: the same type, shape, count and null, and the very bytes.
 -- Assumes nothing.
-use mathlib.Core.Path.{_≡_, refl, sym, ap, ap₂, subst, _∙_}
-use mathlib.Core.Bool.{Bool, true, false, cond, _||_}
+use mathlib.Core.Path.{_≡_, refl, sym, ap, subst, _∙_}
+use mathlib.Core.Bool.{Bool, true, false, cond}
 use mathlib.Core.List.{List, [], _++_, append-assoc}
 use mathlib.Core.Logic.{_⊎_, inl, inr}
-use Prim.Native.Nat.{ℕ, zero, suc, _+_, _*_, _-_, _/_, _%_, _≤_, _<_}
+use Prim.Native.Nat.{ℕ, suc, _+_, _*_, _-_, _/_, _%_, _≤_, _<_}
 use native.Mathlib.Nat.{div-le-self, div-add-mod', add-zero}
 use native.Mathlib.Omega.{arith}
-use borrow.Author.Tests.{le-leb, lt-leb, leb-true, lt-ltb, le-ltb, ltb-true, eqb-true, eq-eqb, ne-eqb}
-use lib.Dec.{eqb, leb, ltb}
+use borrow.Author.Tests.{le-leb, lt-leb, lt-ltb, le-ltb, ltb-true, eqb-true, ne-eqb}
+use lib.Dec.{eqb}
 use lib.ListN.{length, getD, take, drop, length-append, take-append-drop}
 use lib.Seq.{take-at, drop-at}
-use Rattle.wire.specs.Number.{le, leBytes, signed}
-use Rattle.wire.specs.Answer.{Answer, got, refused, andThen, item}
+use Rattle.wire.specs.Number.{leBytes, signed}
+use Rattle.wire.specs.Answer.{got, item}
 use Rattle.wire.specs.Items.{lengthOf, lengthItem}
 use Rattle.wire.specs.declared.Length.{Length}
 use Rattle.wire.proofs.Numbers.{length-leBytes}
@@ -20,26 +20,24 @@ use Rattle.wire_writer.specs.Writing.{Writes}
 use Rattle.wire_writer.specs.declared.writing.Written.{Written}
 use Rattle.wire_writer.proofs.Answering.{reported}
 use Rattle.wire_writer.proofs.Trip.{At, first, second, fits-at, le-at}
-use Rattle.wire_writer.proofs.Refusals.{passed, held, both-zero}
+use Rattle.wire_writer.proofs.Refusals.{held, both-zero}
 use Rattle.plain_value.specs.Width.{widthOf, fixed}
-use Rattle.plain_value.specs.Plain.{passing, bytes, lengthFirst, afterLength}
-use Rattle.value.specs.Value.{Measure, measure, typeOf, isArray, variantAt, valueAt}
+use Rattle.plain_value.specs.Plain.{lengthFirst}
+use Rattle.value.specs.Value.{measure, variantAt}
 use Rattle.value.specs.Quick.{fixedEnd, unitOf, units, describedAt, arrayAt}
 use Rattle.value.specs.declared.Shape.{Shape}
 use Rattle.value.proofs.FirstByte.{scalar-first, array-first}
 use Rattle.value.proofs.FirstItems.{fixed-first, fixed-variant, described-is}
 use Rattle.value.proofs.Runs.{null-variant, units-variant}
-use Rattle.plain_value.proofs.Widths.{positive}
-use Rattle.value_parts.specs.declared.told.ValueParts.{ValueParts}
 use Rattle.value_parts.specs.declared.put.Form.{Form}
-use Rattle.value_parts.specs.Told.{isCounted, isNull, partsFrom, toldVariantAt}
-use Rattle.value_parts.specs.Put.{firstByte, hasCount, countOf, headBytes, variantBytes, typeRule, formRule, putRule, shapeOf, nullOf, givenParts, variantOutput}
+use Rattle.value_parts.specs.Told.{isCounted, isNull, toldVariantAt}
+use Rattle.value_parts.specs.Put.{firstByte, hasCount, countGiven, headBytes, variantBytes, typeRule, formRule, putRule, shapeOf, nullOf, givenParts, variantOutput}
 use Rattle.value_parts.proofs.Structure.{text-is}
 use Rattle.value_parts.proofs.Storing.{put-small}
 use Rattle.value_parts.proofs.Telling.{fixed-plainly}
 
 -- the very bytes that stand somewhere
-pub there-is : (s : List ℕ) (m : ℕ) (b : List ℕ) → At s m b → take (length b) (drop m s) ≡ b
+there-is : (s : List ℕ) (m : ℕ) (b : List ℕ) → At s m b → take (length b) (drop m s) ≡ b
 there-is s m b a =
     ap (λ (l : List ℕ). take (length b) (drop m l)) (a .2) ∙ ap (take (length b)) (drop-at (a .0) (b ++ a .1) m (a .3)) ∙ take-at b (a .1) (length b) refl
 
@@ -143,7 +141,7 @@ first-true true x k h = (refl, h)
 first-true false x k h = absurd (omega arith)
 
 -- what stands at m is told as what was given
-abbrev pub Told : List ℕ → ℕ → ℕ → Form → List ℕ → Type 0
+abbrev Told : List ℕ → ℕ → ℕ → Form → List ℕ → Type 0
 Told s m t f b = toldVariantAt s m ≡ got (givenParts m t f b) (m + length (variantBytes t f b))
 
 module _ (s : List ℕ) (m t : ℕ) (f : Form) (b : List ℕ) where
@@ -151,10 +149,10 @@ module _ (s : List ℕ) (m t : ℕ) (f : Form) (b : List ℕ) where
       → cond (isCounted t (shapeOf t f (length b))) (m + 1 + 4) (m + 1) ≡ m + length (headBytes t f (length b)) → e ≡ m + length (variantBytes t f b) → Told s m t f b
   told-from q n i e = rw (q, n, i, e)
 
-  counted-at : hasCount t f ≡ true → At s m (variantBytes t f b) → At s m (leBytes 1 (firstByte t f) ++ (leBytes 4 (countOf t f (length b)) ++ b))
+  counted-at : hasCount t f ≡ true → At s m (variantBytes t f b) → At s m (leBytes 1 (firstByte t f) ++ (leBytes 4 (countGiven t f (length b)) ++ b))
   counted-at h a =
-      let e : variantBytes t f b ≡ leBytes 1 (firstByte t f) ++ (leBytes 4 (countOf t f (length b)) ++ b) =
-      rw h (append-assoc (leBytes 1 (firstByte t f)) (leBytes 4 (countOf t f (length b))) b) in
+      let e : variantBytes t f b ≡ leBytes 1 (firstByte t f) ++ (leBytes 4 (countGiven t f (length b)) ++ b) =
+      rw h (append-assoc (leBytes 1 (firstByte t f)) (leBytes 4 (countGiven t f (length b))) b) in
       subst (At s m) e a
 
   counted-length : hasCount t f ≡ true → (length (headBytes t f (length b)) ≡ 5) × (length (variantBytes t f b) ≡ 5 + length b)
@@ -174,7 +172,7 @@ module _ (s : List ℕ) (m t : ℕ) (b : List ℕ) (small : t < 64) (short : len
   array-trip rule a =
       let n : ℕ = length b in
       let w : ℕ = widthOf t in
-      let c : ℕ = countOf t Form.Array n in
+      let c : ℕ = countGiven t Form.Array n in
       let r = first-true (fixed t) _ 3 rule in
       let z : n % w ≡ 0 = eqb-true (n % w) 0 (held (eqb (n % w) 0) 5 (r .1)) in
       let ck : c ≡ n / w = rw (r .0) in
@@ -266,7 +264,7 @@ module _ (s : List ℕ) (m t : ℕ) (b : List ℕ) (small : t < 64) (short : len
   any-trip Form.NullArray = null-array-trip
 
 -- wherever the bytes of an accepted value stand
-pub put-told : (s : List ℕ) (m t : ℕ) (f : Form) (b : List ℕ) → putRule t f (length b) ≡ 0 → length (variantBytes t f b) ≤ 65535 → At s m (variantBytes t f b)
+put-told : (s : List ℕ) (m t : ℕ) (f : Form) (b : List ℕ) → putRule t f (length b) ≡ 0 → length (variantBytes t f b) ≤ 65535 → At s m (variantBytes t f b)
     → Told s m t f b × (take (length b) (drop (m + length (headBytes t f (length b))) s) ≡ b)
 put-told s m t f b rule h a =
     let short : length b ≤ 65535 = omega (arith, length-append (headBytes t f (length b)) b) in (

@@ -1,9 +1,9 @@
 -- Document 01, "Values" (Part 6, source 001): what stands where in a DataValue.
 use Prim.Native.Nat.{ℕ}
 use mathlib.Core.Bool.{Bool, true, false, cond}
-use Rattle.wire.specs.Answer.{Answer, got, refused, Reader, andThen, _>>=_, _>>_, here, pure, ruled, whenOn, bit, mapAnswer}
+use Rattle.wire.specs.Answer.{Answer, got, refused, Reader, _>>=_, _>>_, here, pure, ruled, whenOn, bit, mapAnswer}
 use Rattle.plain_value.specs.Plain.{bytes}
-use Rattle.value.specs.Value.{maskRule}
+use Rattle.value.specs.Value.{Measure, measure, maskRule}
 use Rattle.value.specs.declared.Shape.{Shape}
 use Rattle.value_parts.specs.declared.told.ValueParts.{ValueParts}
 use Rattle.value_parts.specs.declared.data_value.Placed.{Placed}
@@ -11,7 +11,7 @@ use Rattle.value_parts.specs.declared.data_value.FieldParts.{FieldParts}
 use Rattle.value_parts.specs.declared.data_value.FieldTold.{FieldTold}
 use Rattle.value_parts.specs.Told.{toldInside, toldVariantAt, toldRawAt}
 use Rattle.dataset_header.specs.declared.flags.Encoding.{Encoding}
-use Rattle.wire.specs.Constants.{CUT_SHORT}
+use Rattle.wire.specs.Constants.{CUT_SHORT, DATA_VALUE}
 
 -- the place of w bytes that a flag announces, 0 where it is off: no part stands at 0, where the mask does
 abbrev pub placedAt : Bool → ℕ → Reader ℕ
@@ -36,18 +36,18 @@ toldPartsAt m p v = do
   serverPicoseconds ← placedAt (bit 5 m) 2
   end ← here
   pure (
-    record {
-      mask = m;
-      variant = p;
-      value = v;
-      status = status;
-      «source_time» = sourceTime;
-      «source_picoseconds» = sourcePicoseconds;
-      «server_time» = serverTime;
-      «server_picoseconds» = serverPicoseconds;
-      end = end;
-    }
-  )
+      record {
+        mask = m;
+        variant = p;
+        value = v;
+        status = status;
+        «source_time» = sourceTime;
+        «source_picoseconds» = sourcePicoseconds;
+        «server_time» = serverTime;
+        «server_picoseconds» = serverPicoseconds;
+        end = end;
+      }
+      )
 
 -- what follows the mask m: "then by bit 0 a Variant" and the other parts
 abbrev pub toldAfterMaskAt : ℕ → Reader FieldParts
@@ -81,6 +81,10 @@ toldFieldAt Encoding.Variant t s at = mapAnswer aloneParts (toldVariantAt s at)
 toldFieldAt Encoding.RawData t s at = mapAnswer aloneParts (toldRawAt t s at)
 toldFieldAt Encoding.DataValue t s at = toldDataValueAt s at
 
+-- what measuring finds of a DataValue
+abbrev pub asMeasure : FieldParts → Measure
+asMeasure p = measure DATA_VALUE Shape.Scalar
+
 -- an answer that accepts
 abbrev pub isGot : {A : Type 0} → Answer A → Bool
 isGot (got a next) = true
@@ -92,6 +96,6 @@ abbrev pub answerPlaced : ℕ → Placed → Answer ℕ
 answerPlaced at (Placed.Is place next) = got place next
 answerPlaced at Placed.Short = refused CUT_SHORT at
 
-abbrev pub answerField : FieldTold → Answer FieldParts
-answerField (FieldTold.Is p) = got p (p .end)
-answerField (FieldTold.Refused n place) = refused n place
+abbrev pub answerFieldTold : FieldTold → Answer FieldParts
+answerFieldTold (FieldTold.Is p) = got p (p .end)
+answerFieldTold (FieldTold.Refused n place) = refused n place

@@ -33,15 +33,15 @@ abbrev pub NULL : ℕ
 NULL = 4294967295
 
 -- the length of n bytes of a String, how many elements n bytes are; "-1 means null"
-abbrev pub countOf : ℕ → Form → ℕ → ℕ
-countOf t Form.Scalar n = n
-countOf t Form.Null n = NULL
-countOf t Form.Array n = cond (fixed t) (n / widthOf t) 0
-countOf t Form.NullArray n = NULL
+abbrev pub countGiven : ℕ → Form → ℕ → ℕ
+countGiven t Form.Scalar n = n
+countGiven t Form.Null n = NULL
+countGiven t Form.Array n = cond (fixed t) (n / widthOf t) 0
+countGiven t Form.NullArray n = NULL
 
 -- the bytes before the value's own n
 abbrev pub headBytes : ℕ → Form → ℕ → List ℕ
-headBytes t f n = leBytes 1 (firstByte t f) ++ cond (hasCount t f) (leBytes 4 (countOf t f n)) []
+headBytes t f n = leBytes 1 (firstByte t f) ++ cond (hasCount t f) (leBytes 4 (countGiven t f n)) []
 
 abbrev pub variantBytes : ℕ → Form → List ℕ → List ℕ
 variantBytes t f b = headBytes t f (length b) ++ b
@@ -81,7 +81,7 @@ variantOutput t f b = unless (putRule t f (length b)) (variantBytes t f b)
 abbrev pub shapeOf : ℕ → Form → ℕ → Shape
 shapeOf t Form.Scalar n = Shape.Scalar
 shapeOf t Form.Null n = Shape.Scalar
-shapeOf t Form.Array n = Shape.Array (countOf t Form.Array n)
+shapeOf t Form.Array n = Shape.Array (countGiven t Form.Array n)
 shapeOf t Form.NullArray n = Shape.NullArray
 
 abbrev pub nullOf : Form → Bool

@@ -1,5 +1,6 @@
 -- Document 01, "Values" (Part 6, source 001): what stands where in a value that measuring accepts.
-use Prim.Native.Nat.{ℕ, _+_}
+use Prim.Native.Nat.{ℕ, _+_, _*_}
+use mathlib.Core.Path.{_≡_}
 use mathlib.Core.List.{List}
 use mathlib.Core.Bool.{Bool, true, false, cond}
 use lib.Dec.{eqb, leb}
@@ -7,7 +8,7 @@ use Rattle.wire.specs.Constants.{LEVELS, OVER_LIMIT, VARIANT}
 use Rattle.wire.specs.Answer.{Answer, got, refused, Reader, andThen, _>>_, each}
 use Rattle.wire.specs.Items.{lengthItem}
 use Rattle.wire.specs.declared.Length.{Length}
-use Rattle.plain_value.specs.Width.{widthOf}
+use Rattle.plain_value.specs.Width.{widthOf, fixed}
 use Rattle.plain_value.specs.Plain.{lengthFirst, string}
 use Rattle.value.specs.Value.{Measure, measure, valueAt, rawAt}
 use Rattle.value.specs.declared.Shape.{Shape}
@@ -74,3 +75,14 @@ toldStringAt t s at =
 -- before it are passed over
 abbrev pub toldElementAt : ℕ → ℕ → ℕ → Reader ValueParts
 toldElementAt t n k s at = cond (leb n k) (refused OVER_LIMIT 0) ((each string k >> toldStringAt t) s at)
+
+-- what is told of a value's type and shape
+abbrev pub measureOf : ValueParts → Measure
+measureOf p = measure (p .kind) (p .shape)
+
+-- The value itself fills the bytes from `first` up to `end`: a scalar of a fixed type its width, an array so many elements, what is null
+-- none.
+pub record Filled (p : ValueParts) : Type 0 where
+  pub scalar : fixed (p .kind) ≡ true → p .shape ≡ Shape.Scalar → p .end ≡ p .first + p .width
+  pub array : (n : ℕ) → fixed (p .kind) ≡ true → p .shape ≡ Shape.Array n → p .end ≡ p .first + n * p .width
+  pub null : p .null ≡ true → p .end ≡ p .first

@@ -18,7 +18,7 @@ ghost use Rattle.wire.specs.Constants.{VARIANT};
 ghost use Rattle.wire.specs.Answer.{bit, mapAnswer};
 ghost use Rattle.value.specs.Value.{valueAt, dataValueAt};
 ghost use Rattle.value_parts.specs.DataValue.{INSIDE, isGot, placedAt, toldPartsAt, toldAfterMaskAt, toldDataValueAt};
-ghost use Rattle.value_parts.specs.DataValue.{aloneParts, toldFieldAt, answerPlaced, answerField};
+ghost use Rattle.value_parts.specs.DataValue.{aloneParts, toldFieldAt, answerPlaced, answerFieldTold};
 ghost use Rattle.value_parts.specs.Told.{answerTold, toldElementAt};
 
 // What a field's value is told apart into: `value` is the Variant, or RawData's element. Of a DataValue the mask tells which parts it has;
@@ -63,7 +63,7 @@ fn place_if(s: &[u8], on: bool, w: usize, at: usize) -> Placed
 
 // The parts after a DataValue's Variant, which was told as `value` and stands at `variant`.
 fn tell_parts(s: &[u8], m: u8, variant: usize, value: ValueParts, at: usize) -> FieldTold
-    ensures { λ r. ⌜ answerField r ≡ toldPartsAt m variant value (now (s .entry)) at ⌝ }
+    ensures { λ r. ⌜ answerFieldTold r ≡ toldPartsAt m variant value (now (s .entry)) at ⌝ }
 {
     let Placed::Is(status, p1) = place_if(s, (m >> 1) % 2 == 1, 4, at) else {
         return FieldTold::Refused(CUT_SHORT, at);
@@ -96,7 +96,7 @@ fn tell_parts(s: &[u8], m: u8, variant: usize, value: ValueParts, at: usize) -> 
 // What follows the mask m of an accepted DataValue; the mask stands before `at`.
 fn tell_after_mask(s: &[u8], m: u8, at: usize) -> FieldTold
     requires { ⌜ (bit 0 m ≡ true → isGot (valueAt INSIDE VARIANT (now s) at) ≡ true) ⌝ }
-    ensures { λ r. ⌜ answerField r ≡ toldAfterMaskAt m (now (s .entry)) at ⌝ }
+    ensures { λ r. ⌜ answerFieldTold r ≡ toldAfterMaskAt m (now (s .entry)) at ⌝ }
 {
     if m % 2 == 0 {
         let none = ValueParts {
@@ -118,7 +118,7 @@ fn tell_after_mask(s: &[u8], m: u8, at: usize) -> FieldTold
 // An accepted DataValue.
 fn tell_accepted(s: &[u8], at: usize) -> FieldTold
     requires { ⌜ isGot (dataValueAt (now s) at) ≡ true ⌝ }
-    ensures { λ r. ⌜ answerField r ≡ toldDataValueAt (now (s .entry)) at ⌝ }
+    ensures { λ r. ⌜ answerFieldTold r ≡ toldDataValueAt (now (s .entry)) at ⌝ }
 {
     let Item8::Is(m, next) = read8(s, at) else {
         return FieldTold::Refused(CUT_SHORT, at);
@@ -128,7 +128,7 @@ fn tell_accepted(s: &[u8], at: usize) -> FieldTold
 
 // A DataValue at a position. It is measured whole, and then its parts are told.
 pub fn tell_data_value(s: &[u8], at: usize) -> FieldTold
-    ensures { λ r. ⌜ answerField r ≡ toldDataValueAt (now (s .entry)) at ⌝ }
+    ensures { λ r. ⌜ answerFieldTold r ≡ toldDataValueAt (now (s .entry)) at ⌝ }
 {
     match measure_data_value(s, at) {
         Measured::Refused(number, place) => FieldTold::Refused(number, place),
@@ -140,7 +140,7 @@ pub fn tell_data_value(s: &[u8], at: usize) -> FieldTold
 
 // A value that is no DataValue, as a field's.
 fn alone(told: Told) -> FieldTold
-    ensures { λ r. ⌜ answerField r ≡ mapAnswer aloneParts (answerTold told) ⌝ }
+    ensures { λ r. ⌜ answerFieldTold r ≡ mapAnswer aloneParts (answerTold told) ⌝ }
 {
     match told {
         Told::Refused(number, place) => FieldTold::Refused(number, place),
@@ -160,7 +160,7 @@ fn alone(told: Told) -> FieldTold
 
 // A field's value at a position, by the encoding of its message: a Variant, a DataValue, or in RawData an element of type t.
 pub fn tell_field(s: &[u8], at: usize, encoding: Encoding, t: u8) -> FieldTold
-    ensures { λ r. ⌜ answerField r ≡ toldFieldAt encoding t (now (s .entry)) at ⌝ }
+    ensures { λ r. ⌜ answerFieldTold r ≡ toldFieldAt encoding t (now (s .entry)) at ⌝ }
 {
     match encoding {
         Encoding::Variant => alone(tell_variant(s, at)),
@@ -172,7 +172,7 @@ pub fn tell_field(s: &[u8], at: usize, encoding: Encoding, t: u8) -> FieldTold
 // Element k of an array of n Strings or ByteStrings of type t, whose first element stands at a position, as a field's value: k at or past n
 // is 10.
 pub fn tell_text(s: &[u8], at: usize, t: u8, n: usize, k: usize) -> FieldTold
-    ensures { λ r. ⌜ answerField r ≡ mapAnswer aloneParts (toldElementAt t n k (now (s .entry)) at) ⌝ }
+    ensures { λ r. ⌜ answerFieldTold r ≡ mapAnswer aloneParts (toldElementAt t n k (now (s .entry)) at) ⌝ }
 {
     alone(tell_element(s, at, t, n, k))
 }

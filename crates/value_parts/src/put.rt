@@ -10,8 +10,8 @@ use wire::constants::NOT_TAKEN;
 use wire::constants::OVER_LIMIT;
 use wire::constants::VARIANT;
 use wire_writer::store::put_run;
-use wire_writer::store::put32;
 use wire_writer::store::put8;
+use wire_writer::store::put32;
 use wire_writer::writing::Written;
 use wire_writer::writing::or_else;
 use wire_writer::writing::room_refusal;
@@ -22,7 +22,7 @@ ghost use lib.ListN.{length};
 ghost use Rattle.wire_writer.specs.Writing.{Puts, Writes};
 ghost use Rattle.value.specs.Value.{variantRule};
 ghost use Rattle.value_parts.specs.declared.put.Form.{Form};
-ghost use Rattle.value_parts.specs.Put.{firstByte, hasCount, countOf, headBytes, typeRule, formRule, putRule, variantOutput};
+ghost use Rattle.value_parts.specs.Put.{firstByte, hasCount, countGiven, headBytes, typeRule, formRule, putRule, variantOutput};
 
 // The number of 4 bytes that stands for the length -1.
 const NULL: u32 = 4294967295;
@@ -178,7 +178,7 @@ fn has_count(t: u8, form: Form) -> bool
 
 // How many elements n bytes of a type are, 0 where its elements have no fixed width.
 fn elements(t: u8, n: usize) -> usize
-    ensures { λ r. ⌜ (r ≡ countOf t Form.Array n) × (r ≤ n) ⌝ }
+    ensures { λ r. ⌜ (r ≡ countGiven t Form.Array n) × (r ≤ n) ⌝ }
 {
     let w = packed_width(t);
     if 0 < w {
@@ -190,7 +190,7 @@ fn elements(t: u8, n: usize) -> usize
 // The length or count of n bytes.
 fn count(t: u8, form: Form, n: usize) -> u32
     requires { ⌜ n < 65536 ⌝ }
-    ensures { λ r. ⌜ r ≡ countOf t form n ⌝ }
+    ensures { λ r. ⌜ r ≡ countGiven t form n ⌝ }
 {
     match form {
         Form::Scalar => n as u32,

@@ -3,6 +3,7 @@ use message_record::message::elements_number;
 use message_record::message::shape_number;
 use records::items::flag_number;
 use records::numbers::put_numbers;
+use value::Shape;
 use value_parts::data_value::FieldParts;
 use wire::left;
 ghost use mathlib.Core.Path.{_≡_};
@@ -18,7 +19,7 @@ pub fn put_value(out: &mut [u8], f: FieldParts)
     ensures { λ _. ⌜ now (out .exit) ≡ laid (now (out .entry)) 0 (numberBytes (valueNumbers f)) ⌝ }
 {
     let v = f.value;
-    let shape = v.shape;
+    let shape: Shape = v.shape;
     let numbers = [
         v.kind as u64,
         shape_number(shape),

@@ -1,14 +1,10 @@
+-- `chunk_record::put_chunk` meets its contract.
+-- Assumes nothing.
 use mathlib.Core.Path.{sym}
 use borrow.Author.Needs.{needs}
 use Rattle.chunk_record.proofs.put_chunk.Statement.{statement}
 use Rattle.chunk_record.proofs.put_chunk.Tie as tie
-use Rattle.chunk_record.proofs.put_chunk.Reads as reads
-use Rattle.chunk_record.proofs.put_chunk.Lts as lts
-use Rattle.publisher_id.proofs.publisher_record.code.Reads as code-reads
-use Rattle.records.proofs.numbers.put_numbers.Reads as put-numbers-reads
-use Rattle.records.proofs.publisher.publisher_number.Reads as publisher-number-reads
 
--- src/lib.rt:15:1
 returns : tie.Need-returns
 returns c =
     let at-put-numbers = c .before .before in

@@ -1,3 +1,5 @@
+-- `uadp_c::chunks::uadp_chunk` meets its contract.
+-- Assumes nothing.
 use Rattle.uadp_c.proofs.Told.{chunk-read}
 use Rattle.uadp_c.proofs.Filling.{fill-refused, fill-none, fill-done}
 use Rattle.chunk_record.specs.Chunk.{chunkNumbers}
@@ -9,16 +11,7 @@ use native.Mathlib.Omega.{arith}
 use borrow.Author.Needs.{needs}
 use Rattle.uadp_c.proofs.chunks.uadp_chunk.Statement.{statement}
 use Rattle.uadp_c.proofs.chunks.uadp_chunk.Tie as tie
-use Rattle.uadp_c.proofs.chunks.uadp_chunk.Reads as reads
-use Rattle.uadp_c.proofs.chunks.uadp_chunk.Lts as lts
-use Rattle.chunk.proofs.datagram.read.Reads as read-reads
-use Rattle.chunk_record.proofs.put_chunk.Reads as put-chunk-reads
-use Rattle.config.proofs.first.Reads as first-reads
-use Rattle.records.proofs.result.result.Reads as result-reads
-use Rattle.records.proofs.writers.sizes.Reads as sizes-reads
-use Rattle.records.proofs.writers.writer_count.Reads as writer-count-reads
 
--- src/chunks.rt:32:17
 returns : tie.Need-returns
 returns c =
     let at-c = c .before .before .before in
@@ -27,9 +20,11 @@ returns c =
     let at-sizes = at-first .before .before in
     let at-writer-count = at-sizes .before in
     let args = at-writer-count .before .before .before .before .args in
-    fill-none _ (now (args .chunk)) _ _ 128 _ (chunk-read (now (args .config)) (now (args .datagram)) _ _ _ _ (at-writer-count .writer-count .ensures .0) (at-sizes .sizes .ensures) (at-first .first .ensures) (told answerChunk (at-read .read .ensures) (at-c .c .given .1))) (bytes-length (chunkNumbers (at-c .c .given .0 .0))) (omega arith) (c .result2 .ensures)
+    fill-none _ (now (args .chunk)) _ _ 128 _
+    (chunk-read (now (args .config)) (now (args .datagram)) _ _ _ _ (at-writer-count .writer-count .ensures .0)
+    (at-sizes .sizes .ensures) (at-first .first .ensures) (told answerChunk (at-read .read .ensures) (at-c .c .given .1)))
+    (bytes-length (chunkNumbers (at-c .c .given .0 .0))) (omega arith) (c .result2 .ensures)
 
--- src/chunks.rt:20:1
 returns-2 : tie.Need-returns-2
 returns-2 c =
     let at-n = c .before .before in
@@ -38,19 +33,24 @@ returns-2 c =
     let at-sizes = at-first .before .before in
     let at-writer-count = at-sizes .before in
     let args = at-writer-count .before .before .before .before .args in
-    fill-refused _ (now (args .chunk)) _ _ _ (chunk-read (now (args .config)) (now (args .datagram)) _ _ _ _ (at-writer-count .writer-count .ensures .0) (at-sizes .sizes .ensures) (at-first .first .ensures) (told answerChunk (at-read .read .ensures) (at-n .n .given .1))) (c .result .ensures)
+    fill-refused _ (now (args .chunk)) _ _ _
+    (chunk-read (now (args .config)) (now (args .datagram)) _ _ _ _ (at-writer-count .writer-count .ensures .0)
+    (at-sizes .sizes .ensures) (at-first .first .ensures) (told answerChunk (at-read .read .ensures) (at-n .n .given .1))) (c .result .ensures)
 
--- src/chunks.rt:20:1
 returns-3 : tie.Need-returns-3
 returns-3 c =
-    let at-put-chunk = c .before .before .before .before .before in
+    let at-payload = c .before .before in
+    let at-put-chunk = at-payload .before .before .before in
     let at-c = at-put-chunk .before .before .before .before in
     let at-read = at-c .before .before in
     let at-first = at-read .before in
     let at-sizes = at-first .before .before in
     let at-writer-count = at-sizes .before in
     let args = at-writer-count .before .before .before .before .args in
-    fill-done _ (now (args .chunk)) _ _ _ 128 _ (chunk-read (now (args .config)) (now (args .datagram)) _ _ _ _ (at-writer-count .writer-count .ensures .0) (at-sizes .sizes .ensures) (at-first .first .ensures) (told answerChunk (at-read .read .ensures) (at-c .c .given .1))) (bytes-length (chunkNumbers (at-c .c .given .0 .0))) (omega arith) (c .result3 .ensures) (at-put-chunk .put-chunk .ensures)
+    fill-done _ (now (args .chunk)) _ _ _ 128 _
+    (chunk-read (now (args .config)) (now (args .datagram)) _ _ _ _ (at-writer-count .writer-count .ensures .0)
+    (at-sizes .sizes .ensures) (at-first .first .ensures) (told answerChunk (at-read .read .ensures) (at-c .c .given .1)))
+    (bytes-length (chunkNumbers (at-c .c .given .0 .0))) (omega arith) (c .result3 .ensures) (at-put-chunk .put-chunk .ensures)
 
 pub uadp-chunk-spec : {M : Type 1} → statement M
 uadp-chunk-spec =

@@ -1,3 +1,5 @@
+-- `uadp_c::chunks::uadp_chunks` meets its contract.
+-- Assumes nothing.
 use Rattle.chunk.specs.Cutting.{cutRule}
 use Rattle.chunk.proofs.CutLaws.{past-no}
 use Prim.Native.Nat.{_-_}
@@ -7,22 +9,16 @@ use native.Mathlib.Omega.{arith}
 use borrow.Author.Needs.{needs}
 use Rattle.uadp_c.proofs.chunks.uadp_chunks.Statement.{statement}
 use Rattle.uadp_c.proofs.chunks.uadp_chunks.Tie as tie
-use Rattle.uadp_c.proofs.chunks.uadp_chunks.Reads as reads
-use Rattle.uadp_c.proofs.chunks.uadp_chunks.Lts as lts
-use Rattle.records.proofs.result.result.Reads as result-reads
 
--- src/chunks.rt:47:9
 returns : tie.Need-returns
 unfolding cutRule
 returns c = rw (eq-eqb _ _ (c .before .if1 .taken)) (c .result .ensures)
 
--- src/chunks.rt:50:9
 returns-2 : tie.Need-returns-2
 unfolding cutRule
 returns-2 c =
     rw (ne-eqb _ _ (c .before .before .if1 .left), eq-eqb _ _ (c .before .if2 .taken)) (c .result2 .ensures)
 
--- src/chunks.rt:53:9
 returns-3 : tie.Need-returns-3
 unfolding cutRule
 returns-3 c =
@@ -31,12 +27,10 @@ returns-3 c =
     let at-if1 = at-if2 .before in
     rw (ne-eqb _ _ (at-if1 .if1 .left), ne-eqb _ _ (at-if2 .if2 .left), lt-ltb _ _ (at-if3 .if3 .taken)) (c .result3 .ensures)
 
--- src/chunks.rt:56:15
 add-result : tie.Need-add-result
 add-result c =
     omega (arith, div-le-self (c .before .before .before .args .total - 1) (c .before .before .before .args .size))
 
--- src/chunks.rt:42:1
 returns-4 : tie.Need-returns-4
 unfolding cutRule
 returns-4 c =
@@ -44,7 +38,8 @@ returns-4 c =
     let at-if2 = at-if3 .before in
     let at-if1 = at-if2 .before in
     let args = at-if1 .before .args in
-    rw (ne-eqb _ _ (at-if1 .if1 .left), ne-eqb _ _ (at-if2 .if2 .left), le-ltb _ _ (at-if3 .if3 .left), past-no (args .total) (args .size) 0 (at-if1 .if1 .left) (at-if2 .if2 .left) (omega arith)) (c .result4 .ensures)
+    rw (ne-eqb _ _ (at-if1 .if1 .left), ne-eqb _ _ (at-if2 .if2 .left), le-ltb _ _ (at-if3 .if3 .left), past-no (args .total) (args .size) 0 (at-if1 .if1 .left) (at-if2 .if2 .left) (omega arith))
+    (c .result4 .ensures)
 
 pub uadp-chunks-spec : {M : Type 1} → statement M
 uadp-chunks-spec =

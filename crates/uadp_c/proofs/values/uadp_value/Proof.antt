@@ -1,16 +1,11 @@
+-- `uadp_c::values::uadp_value` meets its contract.
+-- Assumes nothing.
 use Rattle.uadp_c.proofs.Told.{filled-as, field-told}
 use denote.Ref.{now}
 use borrow.Author.Needs.{needs}
 use Rattle.uadp_c.proofs.values.uadp_value.Statement.{statement}
 use Rattle.uadp_c.proofs.values.uadp_value.Tie as tie
-use Rattle.uadp_c.proofs.values.uadp_value.Reads as reads
-use Rattle.uadp_c.proofs.values.uadp_value.Lts as lts
-use Rattle.uadp_c.proofs.values.encoding_of.Reads as encoding-of-reads
-use Rattle.uadp_c.proofs.values.fill_value.Reads as fill-value-reads
-use Rattle.uadp_c.proofs.values.type_of.Reads as type-of-reads
-use Rattle.value_parts.proofs.data_value.tell_field.Reads as tell-field-reads
 
--- src/values.rt:83:1
 returns : tie.Need-returns
 returns c =
     let at-fill-value = c .before .before in
@@ -18,7 +13,9 @@ returns c =
     let at-type-of = at-tell-field .before in
     let at-encoding-of = at-type-of .before in
     let args = at-encoding-of .before .before .before .before .args in
-    filled-as (now (args .value)) (field-told (now (args .bytes)) (args .offset) (args .encoding) (args .kind) (at-encoding-of .encoding-of .ensures) (at-type-of .type-of .ensures) (at-tell-field .tell-field .ensures)) (at-fill-value .fill-value .ensures)
+    filled-as (now (args .value))
+    (field-told (now (args .bytes)) (args .offset) (args .encoding) (args .kind) (at-encoding-of .encoding-of .ensures) (at-type-of .type-of .ensures) (at-tell-field .tell-field .ensures))
+    (at-fill-value .fill-value .ensures)
 
 pub uadp-value-spec : {M : Type 1} → statement M
 uadp-value-spec =

@@ -1,3 +1,5 @@
+-- `value_parts::data_value::alone` meets its contract.
+-- Assumes nothing.
 use Rattle.value_parts.specs.declared.told.Told.{Told}
 use Rattle.value_parts.specs.DataValue.{aloneParts}
 use Rattle.value_parts.specs.Told.{answerTold}
@@ -6,15 +8,11 @@ use mathlib.Core.Path.{sym, ap}
 use borrow.Author.Needs.{needs}
 use Rattle.value_parts.proofs.data_value.alone.Statement.{statement}
 use Rattle.value_parts.proofs.data_value.alone.Tie as tie
-use Rattle.value_parts.proofs.data_value.alone.Reads as reads
-use Rattle.value_parts.proofs.data_value.alone.Lts as lts
 
--- src/data_value.rt:142:1
 returns : tie.Need-returns
 returns c =
     sym (ap (λ (x : Told). mapAnswer aloneParts (answerTold x)) (c .before .told .given .1))
 
--- src/data_value.rt:142:1
 returns-2 : tie.Need-returns-2
 returns-2 c =
     sym (ap (λ (x : Told). mapAnswer aloneParts (answerTold x)) (c .before .told2 .given .1))

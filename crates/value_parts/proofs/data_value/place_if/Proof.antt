@@ -1,3 +1,5 @@
+-- `value_parts::data_value::place_if` meets its contract.
+-- Assumes nothing.
 use Prim.Native.Nat.{_+_, _≤_}
 use denote.Ref.{now}
 use lib.ListN.{length}
@@ -7,22 +9,16 @@ use mathlib.Core.Path.{sym, _∙_}
 use borrow.Author.Needs.{needs}
 use Rattle.value_parts.proofs.data_value.place_if.Statement.{statement}
 use Rattle.value_parts.proofs.data_value.place_if.Tie as tie
-use Rattle.value_parts.proofs.data_value.place_if.Reads as reads
-use Rattle.value_parts.proofs.data_value.place_if.Lts as lts
-use Rattle.wire.proofs.has.Reads as has-reads
 
--- src/data_value.rt:56:9
 returns : tie.Need-returns
 returns c = rw (not-true (c .before .before .args .on) (c .if1 .taken))
 
--- src/data_value.rt:59:31
 add-t8 : tie.Need-add-t8
 add-t8 c =
     let at-has = c .before in
     let args = at-has .before .before .before .args in
     let h : args .at + args .w ≤ length (now (args .s)) = leb-true (args .at + args .w) (length (now (args .s))) (sym (at-has .has .ensures) ∙ c .if2 .taken) in omega arith
 
--- src/data_value.rt:59:9
 returns-2 : tie.Need-returns-2
 returns-2 c =
     let at-has = c .before in
@@ -30,7 +26,6 @@ returns-2 c =
     let args = at-if1 .before .before .args in
     rw (not-false (args .on) (at-if1 .if1 .left), sym (at-has .has .ensures) ∙ c .if2 .taken)
 
--- src/data_value.rt:52:1
 returns-3 : tie.Need-returns-3
 returns-3 c =
     let at-has = c .before in

@@ -1,23 +1,18 @@
+-- `value_parts::data_value::tell_accepted` meets its contract.
+-- Assumes nothing.
 use Rattle.value_parts.proofs.Agreement.{mask-of}
 use Rattle.value.proofs.Heads.{told-byte, told-no-byte}
 use denote.Ref.{now}
-use mathlib.Core.Path.{sym, _∙_}
 use borrow.Author.Needs.{needs}
 use Rattle.value_parts.proofs.data_value.tell_accepted.Statement.{statement}
 use Rattle.value_parts.proofs.data_value.tell_accepted.Tie as tie
-use Rattle.value_parts.proofs.data_value.tell_accepted.Reads as reads
-use Rattle.value_parts.proofs.data_value.tell_accepted.Lts as lts
-use Rattle.value_parts.proofs.data_value.tell_after_mask.Reads as tell-after-mask-reads
-use Rattle.wire.proofs.read8.Reads as read8-reads
 
--- src/data_value.rt:124:9
 returns : tie.Need-returns
 returns c =
     let at-read8 = c .before .before in
     let args = at-read8 .before .before .args in
     rw (told-no-byte (args .at) (at-read8 .read8 .ensures) (c .enum-told .given .1))
 
--- src/data_value.rt:126:5
 tell-after-mask-requires : tie.Need-tell-after-mask-requires
 tell-after-mask-requires c κs =
     let at-m = c .before in
@@ -25,7 +20,6 @@ tell-after-mask-requires c κs =
     let at-pre = at-read8 .before .before in
     mask-of (now (at-pre .args .s)) (at-pre .args .at) (at-pre .pre) (told-byte (at-pre .args .at) (at-read8 .read8 .ensures) (at-m .m .given .1)) .1
 
--- src/data_value.rt:119:1
 returns-2 : tie.Need-returns-2
 returns-2 c =
     let at-m = c .before .before in

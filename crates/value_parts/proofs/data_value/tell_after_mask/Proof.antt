@@ -1,41 +1,44 @@
+-- `value_parts::data_value::tell_after_mask` meets its contract.
+-- Assumes nothing.
 use Rattle.value_parts.proofs.Telling.{even-bit, odd-bit}
 use Rattle.value_parts.proofs.Agreement.{told-deeper}
 use Rattle.value_parts.specs.Told.{answerTold}
 use Rattle.wire.proofs.Reading.{told}
 use denote.Ref.{now}
-use mathlib.Core.Path.{sym, _∙_}
+use mathlib.Core.Path.{sym}
 use borrow.Author.Needs.{needs}
 use Rattle.value_parts.proofs.data_value.tell_after_mask.Statement.{statement}
 use Rattle.value_parts.proofs.data_value.tell_after_mask.Tie as tie
-use Rattle.value_parts.proofs.data_value.tell_after_mask.Reads as reads
-use Rattle.value_parts.proofs.data_value.tell_after_mask.Lts as lts
-use Rattle.value_parts.proofs.data_value.tell_parts.Reads as tell-parts-reads
-use Rattle.value_parts.proofs.told.tell_variant.Reads as tell-variant-reads
 
--- src/data_value.rt:110:9
 returns : tie.Need-returns
 returns c =
     let at-if1 = c .before in
     let args = at-if1 .before .before .args in
     rw (even-bit (args .m) (at-if1 .if1 .taken)) (c .tell-parts .ensures)
 
--- src/data_value.rt:97:1
 returns-2 : tie.Need-returns-2
 returns-2 c =
     let at-number = c .before in
     let at-tell-variant = at-number .before .before in
     let at-if1 = at-tell-variant .before in
     let at-pre = at-if1 .before .before in
-    rw (odd-bit (at-pre .args .m) (at-if1 .if1 .left), told-deeper (now (at-pre .args .s)) (at-pre .args .at) (at-pre .pre (odd-bit (at-pre .args .m) (at-if1 .if1 .left))), sym (told answerTold (at-tell-variant .tell-variant .ensures) (at-number .number .given .1)))
+    rw (
+      odd-bit (at-pre .args .m) (at-if1 .if1 .left),
+      told-deeper (now (at-pre .args .s)) (at-pre .args .at) (at-pre .pre (odd-bit (at-pre .args .m) (at-if1 .if1 .left))),
+      sym (told answerTold (at-tell-variant .tell-variant .ensures) (at-number .number .given .1)),
+    )
 
--- src/data_value.rt:97:1
 returns-3 : tie.Need-returns-3
 returns-3 c =
     let at-value = c .before .before in
     let at-tell-variant = at-value .before .before in
     let at-if1 = at-tell-variant .before in
     let at-pre = at-if1 .before .before in
-    rw (odd-bit (at-pre .args .m) (at-if1 .if1 .left), told-deeper (now (at-pre .args .s)) (at-pre .args .at) (at-pre .pre (odd-bit (at-pre .args .m) (at-if1 .if1 .left))), sym (told answerTold (at-tell-variant .tell-variant .ensures) (at-value .value .given .1))) (c .tell-parts2 .ensures)
+    rw (
+      odd-bit (at-pre .args .m) (at-if1 .if1 .left),
+      told-deeper (now (at-pre .args .s)) (at-pre .args .at) (at-pre .pre (odd-bit (at-pre .args .m) (at-if1 .if1 .left))),
+      sym (told answerTold (at-tell-variant .tell-variant .ensures) (at-value .value .given .1)),
+    ) (c .tell-parts2 .ensures)
 
 pub tell-after-mask-spec : {M : Type 1} → statement M
 tell-after-mask-spec =

@@ -1,3 +1,5 @@
+-- `value_parts::data_value::tell_data_value` meets its contract.
+-- Assumes nothing.
 use Rattle.value_parts.proofs.Agreement.{got-is, data-value-refused}
 use Rattle.value.specs.Value.{answerMeasured}
 use Rattle.wire.proofs.Reading.{told}
@@ -6,27 +8,19 @@ use mathlib.Core.Path.{sym}
 use borrow.Author.Needs.{needs}
 use Rattle.value_parts.proofs.data_value.tell_data_value.Statement.{statement}
 use Rattle.value_parts.proofs.data_value.tell_data_value.Tie as tie
-use Rattle.value_parts.proofs.data_value.tell_data_value.Reads as reads
-use Rattle.value_parts.proofs.data_value.tell_data_value.Lts as lts
-use Rattle.value.proofs.measure_data_value.Reads as measure-data-value-reads
-use Rattle.value_parts.proofs.data_value.tell_accepted.Reads as tell-accepted-reads
 
--- src/data_value.rt:135:35
 tell-accepted-requires : tie.Need-tell-accepted-requires
 tell-accepted-requires c κs =
     got-is (sym (told answerMeasured (c .before .before .measure-data-value .ensures) (c .enum-told .given .1)))
 
--- src/data_value.rt:136:38
 tell-accepted-requires-2 : tie.Need-tell-accepted-requires-2
 tell-accepted-requires-2 c κs =
     got-is (sym (told answerMeasured (c .before .before .measure-data-value .ensures) (c .enum-told2 .given .1)))
 
--- src/data_value.rt:137:37
 tell-accepted-requires-3 : tie.Need-tell-accepted-requires-3
 tell-accepted-requires-3 c κs =
     got-is (sym (told answerMeasured (c .before .before .measure-data-value .ensures) (c .enum-told3 .given .1)))
 
--- src/data_value.rt:130:1
 returns : tie.Need-returns
 returns c =
     let at-number = c .before in

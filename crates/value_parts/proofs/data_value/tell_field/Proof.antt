@@ -1,3 +1,5 @@
+-- `value_parts::data_value::tell_field` meets its contract.
+-- Assumes nothing.
 use Rattle.value_parts.specs.declared.told.ValueParts.{ValueParts}
 use Rattle.value_parts.specs.DataValue.{aloneParts, toldFieldAt}
 use Rattle.dataset_header.specs.declared.flags.Encoding.{Encoding}
@@ -7,30 +9,23 @@ use mathlib.Core.Path.{sym, ap, _∙_}
 use borrow.Author.Needs.{needs}
 use Rattle.value_parts.proofs.data_value.tell_field.Statement.{statement}
 use Rattle.value_parts.proofs.data_value.tell_field.Tie as tie
-use Rattle.value_parts.proofs.data_value.tell_field.Reads as reads
-use Rattle.value_parts.proofs.data_value.tell_field.Lts as lts
-use Rattle.value_parts.proofs.data_value.alone.Reads as alone-reads
-use Rattle.value_parts.proofs.data_value.tell_data_value.Reads as tell-data-value-reads
-use Rattle.value_parts.proofs.told.tell_raw.Reads as tell-raw-reads
-use Rattle.value_parts.proofs.told.tell_variant.Reads as tell-variant-reads
 
--- src/data_value.rt:162:1
 returns : tie.Need-returns
 returns c =
     let at-tell-variant = c .before in
     let at-enum-told = at-tell-variant .before in
     let args = at-enum-told .before .before .before .args in
-    c .alone .ensures ∙ ap (λ (x : Answer ValueParts). mapAnswer aloneParts x) (at-tell-variant .tell-variant .ensures) ∙ sym (ap (λ (e : Encoding). toldFieldAt e (args .t) (now (args .s)) (args .at)) (at-enum-told .enum-told .given .1))
+    c .alone .ensures ∙ ap (λ (x : Answer ValueParts). mapAnswer aloneParts x) (at-tell-variant .tell-variant .ensures)
+    ∙ sym (ap (λ (e : Encoding). toldFieldAt e (args .t) (now (args .s)) (args .at)) (at-enum-told .enum-told .given .1))
 
--- src/data_value.rt:162:1
 returns-2 : tie.Need-returns-2
 returns-2 c =
     let at-tell-raw = c .before in
     let at-enum-told2 = at-tell-raw .before in
     let args = at-enum-told2 .before .before .before .args in
-    c .alone2 .ensures ∙ ap (λ (x : Answer ValueParts). mapAnswer aloneParts x) (at-tell-raw .tell-raw .ensures) ∙ sym (ap (λ (e : Encoding). toldFieldAt e (args .t) (now (args .s)) (args .at)) (at-enum-told2 .enum-told2 .given .1))
+    c .alone2 .ensures ∙ ap (λ (x : Answer ValueParts). mapAnswer aloneParts x) (at-tell-raw .tell-raw .ensures)
+    ∙ sym (ap (λ (e : Encoding). toldFieldAt e (args .t) (now (args .s)) (args .at)) (at-enum-told2 .enum-told2 .given .1))
 
--- src/data_value.rt:162:1
 returns-3 : tie.Need-returns-3
 returns-3 c =
     let at-enum-told3 = c .before in

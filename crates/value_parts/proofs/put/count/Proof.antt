@@ -1,12 +1,9 @@
-use mathlib.Core.Path.{sym}
+-- `value_parts::put::count` meets its contract.
+-- Assumes nothing.
 use borrow.Author.Needs.{needs}
 use Rattle.value_parts.proofs.put.count.Statement.{statement}
 use Rattle.value_parts.proofs.put.count.Tie as tie
-use Rattle.value_parts.proofs.put.count.Reads as reads
-use Rattle.value_parts.proofs.put.count.Lts as lts
-use Rattle.value_parts.proofs.put.elements.Reads as elements-reads
 
--- src/put.rt:191:1
 returns-3 : tie.Need-returns-3
 returns-3 c = rw (c .before .enum-told3 .given .1) (c .elements .ensures .0)
 

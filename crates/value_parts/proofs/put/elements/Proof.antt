@@ -1,3 +1,5 @@
+-- `value_parts::put::elements` meets its contract.
+-- Assumes nothing.
 use borrow.Author.Tests.{lt-ltb, le-ltb}
 use native.Mathlib.Nat.{div-le-self}
 use native.Mathlib.Omega.{arith}
@@ -6,16 +8,11 @@ use mathlib.Core.Path.{sym, ap, _∙_}
 use borrow.Author.Needs.{needs}
 use Rattle.value_parts.proofs.put.elements.Statement.{statement}
 use Rattle.value_parts.proofs.put.elements.Tie as tie
-use Rattle.value_parts.proofs.put.elements.Reads as reads
-use Rattle.value_parts.proofs.put.elements.Lts as lts
-use Rattle.plain_value.proofs.width.packed_width.Reads as packed-width-reads
 
--- src/put.rt:185:9
 returns : tie.Need-returns
 returns c =
     (rw (sym (ap (ltb 0) (c .before .packed-width .ensures .0)) ∙ lt-ltb _ _ (c .if1 .taken), sym (c .before .packed-width .ensures .0)), div-le-self (c .before .before .args .n) _)
 
--- src/put.rt:180:1
 returns-2 : tie.Need-returns-2
 returns-2 c =
     (rw (sym (ap (ltb 0) (c .before .packed-width .ensures .0)) ∙ le-ltb _ _ (c .if1 .left)), omega arith)

@@ -1,15 +1,12 @@
-use mathlib.Core.Path.{sym}
+-- `value_parts::put::first_byte` meets its contract.
+-- Assumes nothing.
 use borrow.Author.Needs.{needs}
 use Rattle.value_parts.proofs.put.first_byte.Statement.{statement}
 use Rattle.value_parts.proofs.put.first_byte.Tie as tie
-use Rattle.value_parts.proofs.put.first_byte.Reads as reads
-use Rattle.value_parts.proofs.put.first_byte.Lts as lts
 
--- src/put.rt:155:1
 returns-3 : tie.Need-returns-3
 returns-3 c = rw (c .enum-told3 .given .1)
 
--- src/put.rt:155:1
 returns-4 : tie.Need-returns-4
 returns-4 c = rw (c .enum-told4 .given .1)
 

@@ -1,16 +1,12 @@
-use mathlib.Core.Path.{sym}
+-- `value_parts::put::has_count` meets its contract.
+-- Assumes nothing.
 use borrow.Author.Needs.{needs}
 use Rattle.value_parts.proofs.put.has_count.Statement.{statement}
 use Rattle.value_parts.proofs.put.has_count.Tie as tie
-use Rattle.value_parts.proofs.put.has_count.Reads as reads
-use Rattle.value_parts.proofs.put.has_count.Lts as lts
-use Rattle.value_parts.proofs.told.is_text.Reads as is-text-reads
 
--- src/put.rt:168:1
 returns : tie.Need-returns
 returns c = rw (c .before .enum-told .given .1) (c .is-text .ensures)
 
--- src/put.rt:168:1
 returns-2 : tie.Need-returns-2
 returns-2 c = rw (c .before .enum-told2 .given .1) (c .is-text2 .ensures)
 

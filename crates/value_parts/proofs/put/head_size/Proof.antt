@@ -1,18 +1,15 @@
+-- `value_parts::put::head_size` meets its contract.
+-- Assumes nothing.
 use native.Mathlib.Omega.{arith}
 use mathlib.Core.Path.{sym, _∙_}
 use borrow.Author.Needs.{needs}
 use Rattle.value_parts.proofs.put.head_size.Statement.{statement}
 use Rattle.value_parts.proofs.put.head_size.Tie as tie
-use Rattle.value_parts.proofs.put.head_size.Reads as reads
-use Rattle.value_parts.proofs.put.head_size.Lts as lts
-use Rattle.value_parts.proofs.put.has_count.Reads as has-count-reads
 
--- src/put.rt:208:9
 returns : tie.Need-returns
 returns c =
     (λ n. rw (sym (c .before .has-count .ensures) ∙ c .if1 .taken), omega arith)
 
--- src/put.rt:204:1
 returns-2 : tie.Need-returns-2
 returns-2 c =
     (λ n. rw (sym (c .before .has-count .ensures) ∙ c .if1 .left), omega arith)

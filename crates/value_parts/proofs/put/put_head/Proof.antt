@@ -1,17 +1,11 @@
+-- `value_parts::put::put_head` meets its contract.
+-- Assumes nothing.
 use Rattle.value_parts.proofs.Storing.{counted-puts, plain-puts}
 use mathlib.Core.Path.{sym, _∙_}
 use borrow.Author.Needs.{needs}
 use Rattle.value_parts.proofs.put.put_head.Statement.{statement}
 use Rattle.value_parts.proofs.put.put_head.Tie as tie
-use Rattle.value_parts.proofs.put.put_head.Reads as reads
-use Rattle.value_parts.proofs.put.put_head.Lts as lts
-use Rattle.value_parts.proofs.put.count.Reads as count-reads
-use Rattle.value_parts.proofs.put.first_byte.Reads as first-byte-reads
-use Rattle.value_parts.proofs.put.has_count.Reads as has-count-reads
-use Rattle.wire_writer.proofs.store.put32.Reads as put32-reads
-use Rattle.wire_writer.proofs.store.put8.Reads as put8-reads
 
--- src/put.rt:220:9
 returns : tie.Need-returns
 returns c =
     let at-put32 = c .before .before in
@@ -21,9 +15,9 @@ returns c =
     let at-put8 = at-has-count .before .before .before in
     let at-first-byte = at-put8 .before in
     let args = at-first-byte .before .before .before .args in
-    counted-puts (args .t) (args .form) (args .n) (at-first-byte .first-byte .ensures) (sym (at-has-count .has-count .ensures) ∙ at-if1 .if1 .taken) (at-count .count .ensures) (at-put8 .put8 .ensures) (at-put32 .put32 .ensures)
+    counted-puts (args .t) (args .form) (args .n) (at-first-byte .first-byte .ensures)
+    (sym (at-has-count .has-count .ensures) ∙ at-if1 .if1 .taken) (at-count .count .ensures) (at-put8 .put8 .ensures) (at-put32 .put32 .ensures)
 
--- src/put.rt:214:1
 returns-2 : tie.Need-returns-2
 returns-2 c =
     let at-has-count = c .before in

@@ -1,20 +1,13 @@
+-- `value_parts::put::put_rule` meets its contract.
+-- Assumes nothing.
 use Rattle.value_parts.specs.declared.put.Form.{Form}
-use Rattle.value_parts.specs.Put.{typeRule, formRule}
+use Rattle.value_parts.specs.Put.{formRule}
 use Rattle.wire_writer.proofs.Parts.{or-as}
 use mathlib.Core.Path.{sym, ap, _∙_}
 use borrow.Author.Needs.{needs}
 use Rattle.value_parts.proofs.put.put_rule.Statement.{statement}
 use Rattle.value_parts.proofs.put.put_rule.Tie as tie
-use Rattle.value_parts.proofs.put.put_rule.Reads as reads
-use Rattle.value_parts.proofs.put.put_rule.Lts as lts
-use Rattle.value_parts.proofs.put.array_form.Reads as array-form-reads
-use Rattle.value_parts.proofs.put.null_array_form.Reads as null-array-form-reads
-use Rattle.value_parts.proofs.put.null_form.Reads as null-form-reads
-use Rattle.value_parts.proofs.put.scalar_form.Reads as scalar-form-reads
-use Rattle.value_parts.proofs.put.type_rule.Reads as type-rule-reads
-use Rattle.wire_writer.proofs.writing.or_else.Reads as or-else-reads
 
--- src/put.rt:142:1
 returns : tie.Need-returns
 returns c =
     let at-scalar-form = c .before in
@@ -23,7 +16,6 @@ returns c =
     let args = at-type-rule .before .args in
     or-as (c .or-else .ensures) (at-type-rule .type-rule .ensures) (at-scalar-form .scalar-form .ensures ∙ sym (ap (λ (f : Form). formRule (args .t) f (args .n)) (at-enum-told .enum-told .given .1)))
 
--- src/put.rt:142:1
 returns-2 : tie.Need-returns-2
 returns-2 c =
     let at-null-form = c .before in
@@ -32,7 +24,6 @@ returns-2 c =
     let args = at-type-rule .before .args in
     or-as (c .or-else2 .ensures) (at-type-rule .type-rule .ensures) (at-null-form .null-form .ensures ∙ sym (ap (λ (f : Form). formRule (args .t) f (args .n)) (at-enum-told2 .enum-told2 .given .1)))
 
--- src/put.rt:142:1
 returns-3 : tie.Need-returns-3
 returns-3 c =
     let at-array-form = c .before in
@@ -41,14 +32,14 @@ returns-3 c =
     let args = at-type-rule .before .args in
     or-as (c .or-else3 .ensures) (at-type-rule .type-rule .ensures) (at-array-form .array-form .ensures ∙ sym (ap (λ (f : Form). formRule (args .t) f (args .n)) (at-enum-told3 .enum-told3 .given .1)))
 
--- src/put.rt:142:1
 returns-4 : tie.Need-returns-4
 returns-4 c =
     let at-null-array-form = c .before in
     let at-enum-told4 = at-null-array-form .before in
     let at-type-rule = at-enum-told4 .before .before in
     let args = at-type-rule .before .args in
-    or-as (c .or-else4 .ensures) (at-type-rule .type-rule .ensures) (at-null-array-form .null-array-form .ensures ∙ sym (ap (λ (f : Form). formRule (args .t) f (args .n)) (at-enum-told4 .enum-told4 .given .1)))
+    or-as (c .or-else4 .ensures) (at-type-rule .type-rule .ensures)
+    (at-null-array-form .null-array-form .ensures ∙ sym (ap (λ (f : Form). formRule (args .t) f (args .n)) (at-enum-told4 .enum-told4 .given .1)))
 
 pub put-rule-spec : {M : Type 1} → statement M
 put-rule-spec =

@@ -1,39 +1,31 @@
+-- `value_parts::put::type_rule` meets its contract.
+-- Assumes nothing.
 use borrow.Author.Tests.{lt-ltb, le-ltb}
-use mathlib.Core.Path.{sym, ap, _∙_}
 use borrow.Author.Needs.{needs}
 use Rattle.value_parts.proofs.put.type_rule.Statement.{statement}
 use Rattle.value_parts.proofs.put.type_rule.Tie as tie
-use Rattle.value_parts.proofs.put.type_rule.Reads as reads
-use Rattle.value_parts.proofs.put.type_rule.Lts as lts
-use Rattle.value_parts.proofs.put.array_rule.Reads as array-rule-reads
-use Rattle.value_parts.proofs.put.scalar_rule.Reads as scalar-rule-reads
 
--- src/put.rt:77:9
 returns : tie.Need-returns
 returns c = rw (le-ltb _ _ (c .if1 .taken))
 
--- src/put.rt:73:1
 returns-2 : tie.Need-returns-2
 returns-2 c =
     let at-enum-told = c .before in
     let at-if1 = at-enum-told .before .before in
     rw (lt-ltb _ _ (at-if1 .if1 .left), at-enum-told .enum-told .given .1) (c .scalar-rule .ensures)
 
--- src/put.rt:73:1
 returns-3 : tie.Need-returns-3
 returns-3 c =
     let at-enum-told2 = c .before in
     let at-if1 = at-enum-told2 .before .before in
     rw (lt-ltb _ _ (at-if1 .if1 .left), at-enum-told2 .enum-told2 .given .1) (c .scalar-rule2 .ensures)
 
--- src/put.rt:73:1
 returns-4 : tie.Need-returns-4
 returns-4 c =
     let at-enum-told3 = c .before in
     let at-if1 = at-enum-told3 .before .before in
     rw (lt-ltb _ _ (at-if1 .if1 .left), at-enum-told3 .enum-told3 .given .1) (c .array-rule .ensures)
 
--- src/put.rt:73:1
 returns-5 : tie.Need-returns-5
 returns-5 c =
     let at-enum-told4 = c .before in

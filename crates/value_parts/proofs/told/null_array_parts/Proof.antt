@@ -1,3 +1,5 @@
+-- `value_parts::told::null_array_parts` meets its contract.
+-- Assumes nothing.
 use Rattle.value_parts.proofs.Structure.{counted-there}
 use Rattle.value.proofs.Values.{value-within}
 use denote.Ref.{now}
@@ -6,21 +8,15 @@ use mathlib.Core.Path.{refl, sym}
 use borrow.Author.Needs.{needs}
 use Rattle.value_parts.proofs.told.null_array_parts.Statement.{statement}
 use Rattle.value_parts.proofs.told.null_array_parts.Tie as tie
-use Rattle.value_parts.proofs.told.null_array_parts.Reads as reads
-use Rattle.value_parts.proofs.told.null_array_parts.Lts as lts
-use Rattle.plain_value.proofs.width.packed_width.Reads as packed-width-reads
 
--- src/told.rt:94:17
 add-items : tie.Need-add-items
 add-items c =
     omega (arith, value-within 100 24 (now (c .before .args .s)) (c .before .args .at) (c .before .pre) .0)
 
--- src/told.rt:100:16
 add-t8 : tie.Need-add-t8
 add-t8 c =
     omega (arith, counted-there 99 (now (c .before .before .args .s)) (c .before .before .args .at) (c .before .before .pre) refl)
 
--- src/told.rt:90:1
 returns : tie.Need-returns
 returns c = rw (sym (c .packed-width .ensures .0))
 

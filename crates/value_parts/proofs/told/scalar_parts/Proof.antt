@@ -1,29 +1,25 @@
+-- `value_parts::told::scalar_parts` meets its contract.
+-- Assumes nothing.
 use Rattle.value_parts.proofs.Structure.{counted-there}
 use Rattle.value.proofs.Values.{value-within}
 use denote.Ref.{now}
-use borrow.Author.Tests.{eq-eqb, ne-eqb}
 use native.Mathlib.Omega.{arith}
 use mathlib.Core.Path.{sym, _∙_}
 use borrow.Author.Needs.{needs}
 use Rattle.value_parts.proofs.told.scalar_parts.Statement.{statement}
 use Rattle.value_parts.proofs.told.scalar_parts.Tie as tie
-use Rattle.value_parts.proofs.told.scalar_parts.Reads as reads
-use Rattle.value_parts.proofs.told.scalar_parts.Lts as lts
-use Rattle.plain_value.proofs.width.packed_width.Reads as packed-width-reads
-use Rattle.value_parts.proofs.told.is_text.Reads as is-text-reads
-use Rattle.value_parts.proofs.told.null_at.Reads as null-at-reads
 
--- src/told.rt:68:17
 add-items : tie.Need-add-items
 add-items c =
     omega (arith, value-within 100 24 (now (c .before .before .args .s)) (c .before .before .args .at) (c .before .before .pre) .0)
 
--- src/told.rt:75:20
 add-t10 : tie.Need-add-t10
 add-t10 c =
-    omega (arith, counted-there 99 (now (c .before .before .before .before .before .args .s)) (c .before .before .before .before .before .args .at) (c .before .before .before .before .before .pre) (sym (c .before .before .is-text .ensures) ∙ c .before .if1 .taken))
+    let at-is-text = c .before .before in
+    let at-pre = at-is-text .before .before .before in
+    let a = at-pre .args in
+    omega (arith, counted-there 99 (now (a .s)) (a .at) (at-pre .pre) (sym (at-is-text .is-text .ensures) ∙ c .before .if1 .taken))
 
--- src/told.rt:70:9
 returns : tie.Need-returns
 returns c =
     let at-if1 = c .before in
@@ -31,7 +27,6 @@ returns c =
     let at-packed-width = at-is-text .before in
     rw (sym (at-is-text .is-text .ensures) ∙ at-if1 .if1 .taken, sym (at-packed-width .packed-width .ensures .0), sym (c .null-at .ensures))
 
--- src/told.rt:63:1
 returns-2 : tie.Need-returns-2
 returns-2 c =
     rw (sym (c .before .is-text .ensures) ∙ c .if1 .left, sym (c .before .before .packed-width .ensures .0))

@@ -1,21 +1,16 @@
+-- `value_parts::told::tell_element` meets its contract.
+-- Assumes nothing.
 use Rattle.wire.specs.Items.{answerReached}
 use Rattle.wire.proofs.Reading.{told}
-use denote.Ref.{now}
 use borrow.Author.Tests.{le-leb, lt-leb}
-use mathlib.Core.Path.{sym, ap, _∙_}
+use mathlib.Core.Path.{sym}
 use borrow.Author.Needs.{needs}
 use Rattle.value_parts.proofs.told.tell_element.Statement.{statement}
 use Rattle.value_parts.proofs.told.tell_element.Tie as tie
-use Rattle.value_parts.proofs.told.tell_element.Reads as reads
-use Rattle.value_parts.proofs.told.tell_element.Lts as lts
-use Rattle.plain_value.proofs.plain.strings_at.Reads as strings-at-reads
-use Rattle.value_parts.proofs.told.tell_string.Reads as tell-string-reads
 
--- src/told.rt:173:9
 returns : tie.Need-returns
 returns c = rw (le-leb _ _ (c .if1 .taken))
 
--- src/told.rt:169:1
 returns-2 : tie.Need-returns-2
 returns-2 c =
     let at-number = c .before in
@@ -23,7 +18,6 @@ returns-2 c =
     let at-if1 = at-strings-at .before in
     rw (lt-leb _ _ (at-if1 .if1 .left), sym (told answerReached (at-strings-at .strings-at .ensures) (at-number .number .given .1)))
 
--- src/told.rt:169:1
 returns-3 : tie.Need-returns-3
 returns-3 c =
     let at-p = c .before .before in

@@ -1,17 +1,14 @@
+-- `value_parts::told::tell_raw` meets its contract.
+-- Assumes nothing.
 use Rattle.value_parts.proofs.Telling.{raw-told, raw-untold}
 use Rattle.wire.specs.Items.{answerReached}
 use Rattle.wire.proofs.Reading.{told}
 use denote.Ref.{now}
-use mathlib.Core.Path.{sym, ap, _∙_}
+use mathlib.Core.Path.{sym}
 use borrow.Author.Needs.{needs}
 use Rattle.value_parts.proofs.told.tell_raw.Statement.{statement}
 use Rattle.value_parts.proofs.told.tell_raw.Tie as tie
-use Rattle.value_parts.proofs.told.tell_raw.Reads as reads
-use Rattle.value_parts.proofs.told.tell_raw.Lts as lts
-use Rattle.plain_value.proofs.width.packed_width.Reads as packed-width-reads
-use Rattle.value.proofs.pass_element.Reads as pass-element-reads
 
--- src/told.rt:134:1
 returns : tie.Need-returns
 returns c =
     let at-number = c .before in
@@ -19,7 +16,6 @@ returns c =
     let args = at-pass-element .before .before .args in
     raw-untold (args .t) (now (args .s)) (args .at) (sym (told answerReached (at-pass-element .pass-element .ensures) (at-number .number .given .1)))
 
--- src/told.rt:134:1
 returns-2 : tie.Need-returns-2
 returns-2 c =
     let at-end = c .before .before in

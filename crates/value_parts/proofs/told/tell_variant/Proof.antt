@@ -1,60 +1,48 @@
+-- `value_parts::told::tell_variant` meets its contract.
+-- Assumes nothing.
 use Rattle.value.specs.Value.{answerMeasured}
 use Rattle.wire.proofs.Reading.{told}
-use denote.Ref.{now}
-use mathlib.Core.Path.{sym, ap, _∙_}
+use mathlib.Core.Path.{sym}
 use borrow.Author.Needs.{needs}
 use Rattle.value_parts.proofs.told.tell_variant.Statement.{statement}
 use Rattle.value_parts.proofs.told.tell_variant.Tie as tie
-use Rattle.value_parts.proofs.told.tell_variant.Reads as reads
-use Rattle.value_parts.proofs.told.tell_variant.Lts as lts
-use Rattle.value.proofs.measure_variant.Reads as measure-variant-reads
-use Rattle.value_parts.proofs.told.array_parts.Reads as array-parts-reads
-use Rattle.value_parts.proofs.told.null_array_parts.Reads as null-array-parts-reads
-use Rattle.value_parts.proofs.told.scalar_parts.Reads as scalar-parts-reads
 
--- src/told.rt:126:46
 scalar-parts-requires : tie.Need-scalar-parts-requires
 scalar-parts-requires c κs =
     let at-t = c .before in
     let at-measure-variant = at-t .before .before in
     sym (told answerMeasured (at-measure-variant .measure-variant .ensures) (at-t .t .given .1))
 
--- src/told.rt:127:49
 null-array-parts-requires : tie.Need-null-array-parts-requires
 null-array-parts-requires c κs =
     let at-t2 = c .before in
     let at-measure-variant = at-t2 .before .before in
     sym (told answerMeasured (at-measure-variant .measure-variant .ensures) (at-t2 .t2 .given .1))
 
--- src/told.rt:128:48
 array-parts-requires : tie.Need-array-parts-requires
 array-parts-requires c κs =
     let at-t3 = c .before in
     let at-measure-variant = at-t3 .before .before in
     sym (told answerMeasured (at-measure-variant .measure-variant .ensures) (at-t3 .t3 .given .1))
 
--- src/told.rt:122:1
 returns : tie.Need-returns
 returns c =
     let at-t = c .before .before in
     let at-measure-variant = at-t .before .before in
     rw (sym (told answerMeasured (at-measure-variant .measure-variant .ensures) (at-t .t .given .1)), c .scalar-parts .ensures)
 
--- src/told.rt:122:1
 returns-2 : tie.Need-returns-2
 returns-2 c =
     let at-t2 = c .before .before in
     let at-measure-variant = at-t2 .before .before in
     rw (sym (told answerMeasured (at-measure-variant .measure-variant .ensures) (at-t2 .t2 .given .1)), c .null-array-parts .ensures)
 
--- src/told.rt:122:1
 returns-3 : tie.Need-returns-3
 returns-3 c =
     let at-t3 = c .before .before in
     let at-measure-variant = at-t3 .before .before in
     rw (sym (told answerMeasured (at-measure-variant .measure-variant .ensures) (at-t3 .t3 .given .1)), c .array-parts .ensures)
 
--- src/told.rt:122:1
 returns-4 : tie.Need-returns-4
 returns-4 c =
     let at-number = c .before in
