@@ -1,7 +1,7 @@
-// Parts of values: document 01's section "Values", by Part 6. A line has a letter with a position, and bytes: `v` a Variant, `d` a DataValue,
-// `r` an element of RawData, whose type is the first byte; `e` has the number of an element of the array of Strings in the bytes. The answer
-// is type, element count, width, first byte and end, and whether it is null; of a DataValue that of its Variant, then its mask, the places
-// of its Variant, status, source time, source picoseconds, server time and server picoseconds, and its end.
+// Parts of values: document 01's section "Values", by Part 6. A line has a letter with a position, and bytes: `v` a Variant, `d` a
+// DataValue, `r` an element of RawData, whose type is the first byte; `e` has the number of an element of the array of Strings in the
+// bytes. The answer is type, element count, width, first byte and end, and whether it is null; of a DataValue that of its Variant, then its
+// mask, the places of its Variant, status, source time, source picoseconds, server time and server picoseconds, and its end.
 use value::Shape;
 use value_parts::data_value::FieldTold;
 use value_parts::data_value::tell_data_value;
