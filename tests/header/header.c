@@ -319,6 +319,61 @@ static void reassembled(void)
     CHECK(refused(uadp_complete(&b), UADP_UNSOUND, 0));
 }
 
+/* A DataValue with every part around a Float; a RawData element; Strings in an array; each named number. */
+static void values_by_name(void)
+{
+    static const uint8_t whole[] = {0x3F, 0x0A, 0,    0, 0xC0, 0x7F,                     /* mask, Variant: a NaN */
+                                    1,    2,    3,    4, 11,   12,   13, 14, 15, 16, 17, 18, /* status, source time */
+                                    21,   22,   31,   32, 33,  34,   35, 36, 37, 38, 41, 42};
+    static const uint8_t texts[] = {0x8C, 3, 0, 0, 0, 2, 0, 0, 0, 'o', 'k', 0xFF, 0xFF, 0xFF, 0xFF, 0, 0, 0, 0};
+    uadp_value_record v = UADP_ZERO, w = UADP_ZERO;
+    uint32_t bits = 0;
+    uint8_t out[16];
+
+    CHECK(done(uadp_value(whole, sizeof whole, 0, UADP_DATA_VALUE, 0, &v), sizeof whole));
+    CHECK(v.type == UADP_TYPE_FLOAT && v.shape == UADP_SCALAR && v.elements == 0 && v.width == 4 && v.null == 0);
+    CHECK(v.first == 2 && v.length == 4 && v.end == sizeof whole && v.variant == 1 && v.status == 6);
+    CHECK(v.parts == (UADP_PART_VARIANT | UADP_PART_STATUS | UADP_PART_SOURCE_TIME | UADP_PART_SERVER_TIME |
+                      UADP_PART_SOURCE_PICOSECONDS | UADP_PART_SERVER_PICOSECONDS));
+    CHECK(v.source_time == 10 && v.source_picoseconds == 18 && v.server_time == 20 && v.server_picoseconds == 28);
+    CHECK(uadp_copy(whole, sizeof whole, &v, 0, &bits, sizeof bits) == 1 && bits == 0x7FC00000);
+    CHECK(uadp_copy(whole, sizeof whole, &v, 1, &bits, sizeof bits) == 0);
+    CHECK(uadp_copy(whole, sizeof whole, &v, 0, out, 8) == 0 && uadp_copy(whole, 5, &v, 0, &bits, sizeof bits) == 0);
+    CHECK(refused(uadp_value(whole, sizeof whole - 1, 0, UADP_DATA_VALUE, 0, &w), UADP_CUT_SHORT, 28) && w.type == 0);
+    CHECK(done(uadp_value(whole, sizeof whole, 4, UADP_RAW_DATA, UADP_TYPE_UINT16, &w), 6));
+    CHECK(w.type == UADP_TYPE_UINT16 && w.first == 4 && w.length == 2 && w.parts == 0 && w.variant == 0);
+    CHECK(refused(uadp_value(whole, sizeof whole, 4, UADP_RAW_DATA, UADP_TYPE_STRING, &w), UADP_NOT_TAKEN, 4));
+    CHECK(done(uadp_value(texts, sizeof texts, 0, UADP_VARIANT, 0, &v), sizeof texts));
+    CHECK(v.type == UADP_TYPE_STRING && v.shape == UADP_ARRAY && v.elements == 3 && v.width == 0 && v.first == 5);
+    CHECK(done(uadp_element(texts, sizeof texts, &v, 0, &w), 11) && w.first == 9 && w.length == 2 && w.null == 0);
+    CHECK(done(uadp_element(texts, sizeof texts, &v, 1, &w), 15) && w.null == 1 && w.length == 0);
+    CHECK(done(uadp_element(texts, sizeof texts, &v, 2, &w), 19) && w.null == 0 && w.length == 0);
+    CHECK(w.type == UADP_TYPE_STRING && w.shape == UADP_SCALAR);
+    CHECK(refused(uadp_element(texts, sizeof texts, &v, 3, &w), UADP_END, 0));
+    CHECK(done(uadp_put_value(UADP_TYPE_FLOAT, UADP_SCALAR, 0, &bits, sizeof bits, out, sizeof out), 5));
+    CHECK(memcmp(out, whole + 1, 5) == 0);
+    CHECK(done(uadp_put_value(UADP_TYPE_STRING, UADP_SCALAR, 0, "ok", 2, out, sizeof out), 7));
+    CHECK(done(uadp_value(out, 7, 0, UADP_VARIANT, 0, &v), 7) && v.first == 5 && v.length == 2);
+    CHECK(done(uadp_put_value(UADP_TYPE_UINT16, UADP_NULL_ARRAY, 0, NULL, 0, out, sizeof out), 5));
+    CHECK(refused(uadp_put_value(UADP_TYPE_UINT16, UADP_ARRAY, 0, out, 3, out + 8, 8), UADP_DISAGREE, 0));
+    CHECK(refused(uadp_put_value(UADP_TYPE_VARIANT, UADP_SCALAR, 0, out, 1, out + 8, 8), UADP_NOT_PERMITTED, 0));
+    CHECK(refused(uadp_put_value(UADP_TYPE_FLOAT, UADP_SCALAR, 0, &bits, 4, out, 4), UADP_NO_ROOM, 0));
+}
+
+static void chunks_by_name(void)
+{
+    static const uint8_t chunk[] = {0xD1, 0x81, 0x01, 0x67, 0x12, 21, 0, 7, 8, 4, 0, 0, 0, 11, 0, 0, 0, 2, 0, 0, 0, 9, 9};
+    uadp_chunk_record c = UADP_ZERO;
+
+    CHECK(done(uadp_chunk(chunk, sizeof chunk, NULL, &c), 0x0807));
+    CHECK(c.publisher_type == UADP_ID_UINT16 && c.publisher == 4711 && c.publisher_end == 5 && c.writer == 21);
+    CHECK(c.number == 0x0807 && c.offset == 4 && c.total == 11 && c.data == 21 && c.data_length == 2);
+    CHECK(refused(uadp_chunk(full, sizeof full, NULL, &c), UADP_NOT_TAKEN, 0) && c.total == 11);
+    CHECK(done(uadp_chunks(11, 4), 3) && done(uadp_chunks(12, 4), 3) && done(uadp_chunks(16384, 1), 16384));
+    CHECK(refused(uadp_chunks(11, 0), UADP_DISAGREE, 0) && refused(uadp_chunks(0, 4), UADP_DISAGREE, 0));
+    CHECK(refused(uadp_chunks(16385, 4), UADP_OVER_LIMIT, 0));
+}
+
 static void newness(void)
 {
     uadp_sequence_record s = UADP_ZERO;
@@ -431,10 +486,12 @@ static void *read_it(void *unused)
 {
     uadp_head_record head = UADP_ZERO;
     uadp_field_record field = UADP_ZERO;
+    uadp_value_record value = UADP_ZERO;
 
     (void)uadp_read_message(deep + 4, deep_length - 4, NULL, 21, &head);
     (void)uadp_next_field(deep + 4, deep_length - 4, NULL, 21, &head, &field);
     (void)uadp_field(deep + 4, deep_length - 4, NULL, 21, 0, &field);
+    (void)uadp_value(deep, deep_length, 7, UADP_VARIANT, 0, &value);
     return unused;
 }
 
@@ -463,6 +520,8 @@ static void *others(void *unused)
     forms_of_a_datagram();
     numbers_that_do_not_fit();
     reassembled();
+    values_by_name();
+    chunks_by_name();
     newness();
     passed = before;
     return unused;
@@ -527,6 +586,8 @@ int main(int argc, char **argv)
     forms_of_a_datagram();
     numbers_that_do_not_fit();
     reassembled();
+    values_by_name();
+    chunks_by_name();
     newness();
     words_and_version();
     most_of_a_walk();

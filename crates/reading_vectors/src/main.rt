@@ -15,6 +15,7 @@ use wire::part::part;
 mod configurations;
 mod dataset_messages;
 mod network_messages;
+mod parts;
 mod sequence_numbers;
 mod texts;
 mod values;
@@ -54,6 +55,7 @@ fn vector(subject: u8, line: &[u8], bytes: &[u8]) {
         b's' => sequence_numbers::vector(line),
         b't' => texts::vector(line, bytes),
         b'v' => values::vector(line, bytes),
+        b'p' => parts::vector(line, bytes),
         b'n' => network_messages::vector(line, bytes),
         b'd' => dataset_messages::vector(line, bytes),
         _ => configurations::vector(line, bytes),

@@ -7,3 +7,5 @@ pub mod Writing
 pub mod Listings
 pub mod Walks
 pub mod History
+pub mod Values
+pub mod Chunks

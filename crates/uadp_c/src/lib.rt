@@ -1,5 +1,6 @@
 // The library for C and Rust: its functions take numbers and lent bytes, and answer one number. include/uadp.h tells their arguments, the
 // layouts of their records and their answers.
+pub mod chunks;
 pub mod composing;
 pub mod configuring;
 pub mod cutting;
@@ -9,4 +10,5 @@ pub mod messages;
 pub mod newness;
 pub mod reassembling;
 pub mod rewrites;
+pub mod values;
 pub mod walks;

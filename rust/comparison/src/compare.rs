@@ -2,6 +2,7 @@
 mod histories;
 mod reading;
 mod typed;
+mod values;
 mod writing;
 
 use crate::generate::Random;
@@ -14,6 +15,7 @@ use uadp::ffi::Answer;
 pub use histories::{cut, every_newness, history, newness};
 pub use reading::{config, datagram, every_flag, made_up_field_cursor, made_up_message_cursor, next_message_of};
 pub use typed::{reassembled, typed};
+pub use values::{chunks, put_value, value};
 pub use writing::{write_datagram, write_message};
 
 /// How often each number was answered.

@@ -17,7 +17,7 @@ const SHARES: usize = 256;
 type Compare = fn(&mut Tally, &mut Random);
 
 /// The kinds of case, and how often each is drawn.
-const KINDS: [(Compare, usize); 10] = [
+const KINDS: [(Compare, usize); 13] = [
     (compare::config, 12),
     (compare::datagram, 40),
     (compare::made_up_field_cursor, 5),
@@ -27,6 +27,9 @@ const KINDS: [(Compare, usize); 10] = [
     (compare::history, 8),
     (compare::cut, 2),
     (compare::typed, 10),
+    (compare::value, 16),
+    (compare::put_value, 6),
+    (compare::chunks, 1),
     (compare::reassembled, 1),
 ];
 

@@ -1,9 +1,11 @@
 //! The records of include/uadp.h: laid out from what the reference reads, and read from any bytes.
+use crate::reference::chunk::Chunk;
 use crate::reference::config::{Config, MOST_FIELDS, MOST_WRITERS};
 use crate::reference::message::{self, Cursor, Encoding, Field, Header, Kind, Message};
 use crate::reference::network::{Envelope, Group, MessagePlace, PayloadHeader, PublisherId, Sizes};
 use crate::reference::network_writer::{HeaderPart, Parts};
 use crate::reference::reassembly::{KeptId, Record};
+use crate::reference::told::Told;
 use crate::reference::value::Shape;
 use crate::reference::Result;
 
@@ -13,6 +15,8 @@ pub const PLACE_SIZE: usize = 32;
 pub const HEAD_SIZE: usize = 160;
 pub const FIELD_SIZE: usize = 64;
 pub const WALK_SIZE: usize = 80;
+pub const VALUE_SIZE: usize = 192;
+pub const CHUNK_SIZE: usize = 128;
 pub const PARTIAL_SIZE: usize = 144;
 pub const SEQUENCE_SIZE: usize = 16;
 pub const NO_WRITER: u32 = 65_536;
@@ -397,4 +401,30 @@ pub fn partial(record: &Record) -> Vec<u8> {
     };
     let numbers = [1, kind, id, record.writer.into(), record.number.into(), record.total, 0, 0, 0, 0];
     [bytes_of(&numbers), text.to_vec()].concat()
+}
+
+/// A value record.
+pub fn value(told: &Told) -> [u64; VALUE_SIZE / 8] {
+    let mut record = [0; VALUE_SIZE / 8];
+    let (shape, elements) = match told.shape {
+        Shape::Scalar => (0, 0),
+        Shape::NullArray => (1, 0),
+        Shape::Array(count) => (2, count as u64),
+    };
+    (record[0], record[1], record[2]) = (told.kind.into(), shape, elements);
+    record[3] = told.width as u64;
+    (record[4], record[5]) = (told.first as u64, (told.last - told.first) as u64);
+    (record[6], record[7], record[8]) = (told.null.into(), told.end as u64, told.mask.into());
+    record[9..15].copy_from_slice(&told.places.map(|place| place as u64));
+    record
+}
+
+/// A chunk record; the data ends with the datagram.
+pub fn chunk(datagram: &[u8], envelope: &Envelope, writer: u16, chunk: &Chunk) -> [u64; CHUNK_SIZE / 8] {
+    let mut record = [0; CHUNK_SIZE / 8];
+    (record[0], record[1]) = publisher(envelope.publisher);
+    (record[2], record[3], record[4]) = (envelope.publisher_end as u64, writer.into(), chunk.number.into());
+    (record[5], record[6]) = (chunk.offset as u64, chunk.total.into());
+    (record[7], record[8]) = ((datagram.len() - chunk.data.len()) as u64, chunk.data.len() as u64);
+    record
 }

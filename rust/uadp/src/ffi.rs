@@ -18,6 +18,10 @@ pub const HEAD_SIZE: usize = 160;
 pub const FIELD_SIZE: usize = 64;
 /// Bytes of a walk record.
 pub const WALK_SIZE: usize = 80;
+/// Bytes of a value record.
+pub const VALUE_SIZE: usize = 192;
+/// Bytes of a chunk record.
+pub const CHUNK_SIZE: usize = 128;
 /// Bytes of a partial's record.
 pub const PARTIAL_SIZE: usize = 144;
 /// Bytes of the record of the last sequence number.
@@ -122,6 +126,20 @@ mod raw {
         ) -> u64;
         pub fn uadp_cut(
             payload: *const u8, payload_length: usize, number: u16, size: u64, k: u64, out: *mut u8, out_length: usize,
+        ) -> u64;
+        pub fn uadp_chunks(length: u64, size: u64) -> u64;
+        pub fn uadp_chunk(
+            datagram: *const u8, datagram_length: usize, config: *const u8, config_length: usize, chunk: *mut u8,
+            chunk_length: usize,
+        ) -> u64;
+        pub fn uadp_value(
+            bytes: *const u8, length: usize, offset: u64, encoding: u32, kind: u32, value: *mut u8, value_length: usize,
+        ) -> u64;
+        pub fn uadp_element(
+            bytes: *const u8, length: usize, offset: u64, kind: u32, elements: u64, k: u64, value: *mut u8, value_length: usize,
+        ) -> u64;
+        pub fn uadp_put_value(
+            kind: u32, shape: u32, null: u32, bytes: *const u8, length: usize, out: *mut u8, out_length: usize,
         ) -> u64;
         pub fn uadp_newness(record: *mut u8, record_length: usize, received: u16) -> u64;
     }
@@ -384,4 +402,34 @@ pub fn cut(payload: &[u8], number: u16, size: u64, k: u64, out: &mut [u8]) -> An
 /// Judges a received sequence number. Value: 0 newer, 1 old or same, 2 invalid.
 pub fn newness(record: &mut [u8], received: u16) -> Answer {
     Answer(unsafe { raw::uadp_newness(lent_mut(record), record.len(), received) })
+}
+
+/// How many chunks with so many bytes of data a message of so many bytes has. Value: that.
+pub fn chunks(length: u64, size: u64) -> Answer {
+    Answer(unsafe { raw::uadp_chunks(length, size) })
+}
+
+/// Reads a chunk's datagram into a chunk record. Value: the message's number.
+pub fn chunk(datagram: &[u8], config: &[u8], chunk: &mut [u8]) -> Answer {
+    let (length, chunk_length) = (datagram.len(), chunk.len());
+    Answer(unsafe { raw::uadp_chunk(lent(datagram), length, lent(config), config.len(), lent_mut(chunk), chunk_length) })
+}
+
+/// Tells the value at an offset of the bytes apart into a value record: 0 a Variant, 1 RawData's element of a type, 2 a DataValue.
+/// Value: where it ends.
+pub fn value(bytes: &[u8], offset: u64, encoding: u32, kind: u32, value: &mut [u8]) -> Answer {
+    let value_length = value.len();
+    Answer(unsafe { raw::uadp_value(lent(bytes), bytes.len(), offset, encoding, kind, lent_mut(value), value_length) })
+}
+
+/// Tells element k of an array of Strings or ByteStrings apart, whose first element stands at an offset. Value: where it ends.
+pub fn element(bytes: &[u8], offset: u64, kind: u32, elements: u64, k: u64, value: &mut [u8]) -> Answer {
+    let value_length = value.len();
+    Answer(unsafe { raw::uadp_element(lent(bytes), bytes.len(), offset, kind, elements, k, lent_mut(value), value_length) })
+}
+
+/// Puts a value as a Variant: 0 a scalar, which may be null, 1 a null array, 2 an array. Value: how many bytes.
+pub fn put_value(kind: u32, shape: u32, null: u32, bytes: &[u8], out: &mut [u8]) -> Answer {
+    let out_length = out.len();
+    Answer(unsafe { raw::uadp_put_value(kind, shape, null, lent(bytes), bytes.len(), lent_mut(out), out_length) })
 }

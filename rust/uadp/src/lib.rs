@@ -34,7 +34,8 @@
 //! | read a datagram, its messages and their fields | [`Datagram`], [`MessagePart`], [`Message`], [`Field`] |
 //! | learn of all messages and fields in one call | [`walk()`] |
 //! | list a datagram as text | [`list`] |
-//! | reassemble chunks | [`Partial`] |
+//! | tell a field's value apart | [`Field::value`], [`Value`] |
+//! | reassemble chunks | [`Partial`], [`Chunk`] |
 //! | tell whether a message is newer than the last | [`LastSequence`] |
 //! | write a message and the datagram around it | [`MessageBuilder`], [`Values`], [`DatagramBuilder`] |
 //! | cut a large message into chunks | [`Chunks`] |
@@ -60,6 +61,7 @@ mod partial;
 mod record;
 mod refusal;
 mod sequence;
+mod told;
 mod value;
 pub mod walk;
 mod write;
@@ -68,9 +70,10 @@ pub use config::{Config, Writer};
 pub use datagram::{Datagram, Group, MessagePart, Messages, PublisherId};
 pub use listing::list;
 pub use message::{Encoding, Field, Fields, Kind, Message};
-pub use partial::{marks_size, Partial};
+pub use partial::{marks_size, Chunk, Partial};
 pub use refusal::{Reason, Refusal};
 pub use sequence::{LastSequence, Newness};
+pub use told::Value;
 pub use value::{Shape, Type, Values};
 pub use walk::walk;
 pub use write::{Chunks, DatagramBuilder, MessageBuilder};

@@ -1,7 +1,7 @@
 //! A DataSetMessage and its fields.
 use crate::ffi::{self, FIELD_SIZE, HEAD_SIZE};
 use crate::record::{field, head, number, place};
-use crate::{MessagePart, Shape, Type};
+use crate::{MessagePart, Refusal, Shape, Type, Value};
 use core::fmt;
 use core::iter::FusedIterator;
 
@@ -206,6 +206,15 @@ pub struct Field<'a> {
 }
 
 impl<'a> Field<'a> {
+    /// Its value told apart.
+    ///
+    /// # Errors
+    ///
+    /// None for a field as it was read.
+    pub fn value(&self) -> Result<Value<'a>, Refusal> {
+        Value::read(self.bytes, self.encoding, self.value_type)
+    }
+
     fn of(message: &'a [u8], encoding: Encoding, record: &[u8]) -> Self {
         let offset = place(record, field::OFFSET);
         Self {

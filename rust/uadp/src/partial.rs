@@ -1,6 +1,6 @@
 //! Reassembly of a message that travels in chunks.
-use crate::ffi::{self, PARTIAL_SIZE};
-use crate::record::{number, partial};
+use crate::ffi::{self, CHUNK_SIZE, PARTIAL_SIZE};
+use crate::record::{chunk, number, partial, place};
 use crate::{Config, MessagePart, PublisherId, Refusal, MOST_PUBLISHER_TEXT};
 use core::fmt;
 
@@ -9,12 +9,52 @@ pub const fn marks_size(room: usize) -> usize {
     room
 }
 
+/// A chunk read from its datagram: whose it is, and its data. A receiver with several messages under way finds the partial to take it in
+/// by these.
+#[derive(Clone, Copy, Debug, PartialEq, Eq)]
+#[non_exhaustive]
+pub struct Chunk<'a> {
+    /// Who publishes the message.
+    pub publisher: Option<PublisherId<'a>>,
+    /// The message's DataSetWriterId.
+    pub writer: u16,
+    /// The message's number, by which its chunks belong together.
+    pub number: u16,
+    /// Where the data stands in the message.
+    pub offset: usize,
+    /// How long the message is.
+    pub total: usize,
+    /// The data.
+    pub data: &'a [u8],
+}
+
+impl<'a> Chunk<'a> {
+    /// Reads a chunk's datagram.
+    ///
+    /// # Errors
+    ///
+    /// What [`Partial::take_in`] refuses of a datagram and of its chunk.
+    pub fn read(datagram: &'a [u8], config: &Config) -> Result<Self, Refusal> {
+        let mut record = [0; CHUNK_SIZE];
+        ffi::chunk(datagram, config.as_bytes(), &mut record).into_result()?;
+        let (id, end) = (number(&record, chunk::PUBLISHER), place(&record, chunk::PUBLISHER_END));
+        Ok(Self {
+            publisher: PublisherId::of(number(&record, chunk::PUBLISHER_TYPE), id, || &datagram[end - id as usize..end]),
+            writer: number(&record, chunk::WRITER) as u16,
+            number: number(&record, chunk::NUMBER) as u16,
+            offset: place(&record, chunk::OFFSET),
+            total: place(&record, chunk::TOTAL),
+            data: &datagram[place(&record, chunk::DATA)..][..place(&record, chunk::DATA_LENGTH)],
+        })
+    }
+}
+
 /// A message of which chunks have come in: a record and two areas, for its payload and for the marks of the bytes that are there.
 /// The marks area is [`marks_size`] of the payload area's length. An area is a `Vec<u8>`, an array, or a `&mut [u8]`; what it holds
 /// at first plays no part.
 ///
 /// ```
-/// use uadp::{Chunks, Config, DatagramBuilder, Partial, PublisherId, Reason};
+/// use uadp::{Chunk, Chunks, Config, DatagramBuilder, Partial, PublisherId, Reason};
 ///
 /// let config = Config::default();
 /// let message = [1, 2, 0, 5, 3, 0, 10, 0, 0, 0, 63]; // a key frame of two Variants
@@ -24,7 +64,9 @@ pub const fn marks_size(room: usize) -> usize {
 /// let (mut payload, mut datagram) = ([0; 32], [0; 64]);
 /// while let Some(chunk) = chunks.next_into(&mut payload)? {
 ///     assert_eq!(partial.hand_out().unwrap_err().reason, Reason::NotComplete);
-///     partial.take_in(builder.write_chunk(21, chunk, &mut datagram)?, &config)?;
+///     let datagram = builder.write_chunk(21, chunk, &mut datagram)?;
+///     assert_eq!((Chunk::read(datagram, &config)?.writer, Chunk::read(datagram, &config)?.total), (21, 11));
+///     partial.take_in(datagram, &config)?;
 /// }
 /// assert_eq!(partial.hand_out()?, message);
 /// let message = partial.message(&config)?.read()?.expect("valid");

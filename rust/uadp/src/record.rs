@@ -146,3 +146,33 @@ pub mod partial {
     pub const TOTAL: usize = 5;
     pub const TEXT_AT: usize = 80;
 }
+
+/// Numbers of a value record.
+pub mod told {
+    pub const TYPE: usize = 0;
+    pub const SHAPE: usize = 1;
+    pub const ELEMENTS: usize = 2;
+    pub const WIDTH: usize = 3;
+    pub const FIRST: usize = 4;
+    pub const LENGTH: usize = 5;
+    pub const NULL: usize = 6;
+    pub const END: usize = 7;
+    pub const STATUS: usize = 10;
+    pub const SOURCE_TIME: usize = 11;
+    pub const SOURCE_PICOSECONDS: usize = 12;
+    pub const SERVER_TIME: usize = 13;
+    pub const SERVER_PICOSECONDS: usize = 14;
+}
+
+/// Numbers of a chunk record.
+pub mod chunk {
+    pub const PUBLISHER_TYPE: usize = 0;
+    pub const PUBLISHER: usize = 1;
+    pub const PUBLISHER_END: usize = 2;
+    pub const WRITER: usize = 3;
+    pub const NUMBER: usize = 4;
+    pub const OFFSET: usize = 5;
+    pub const TOTAL: usize = 6;
+    pub const DATA: usize = 7;
+    pub const DATA_LENGTH: usize = 8;
+}

@@ -1,6 +1,6 @@
 //! Values: their types and shapes, and a run of encoded values to be written.
 use crate::record::number;
-use crate::{Reason, Refusal};
+use crate::{ffi, Reason, Refusal};
 use core::fmt;
 
 /// A value's type number, as in OPC UA Part 6.
@@ -129,12 +129,13 @@ impl Shape {
 /// Encoded values one after the other in lent areas, as a message is written from them.
 ///
 /// ```
-/// use uadp::Values;
+/// use uadp::{Type, Values};
 ///
 /// let (mut bytes, mut lengths) = ([0; 64], [0; 8]);
 /// let mut values = Values::new(&mut bytes, &mut lengths);
-/// values.push(&[5, 3, 0])?; // a Variant: UInt16, 3
-/// assert_eq!((values.bytes(), values.lengths()), (&[5, 3, 0][..], &[3][..]));
+/// values.push_scalar(Type::UINT16, &3u16.to_le_bytes())?;
+/// values.push(&[5, 4, 0])?; // the same as it is encoded: UInt16, 4
+/// assert_eq!((values.bytes(), values.lengths()), (&[5, 3, 0, 5, 4, 0][..], &[3, 3][..]));
 /// # Ok::<(), uadp::Refusal>(())
 /// ```
 #[derive(Debug)]
@@ -164,6 +165,54 @@ impl<'b> Values<'b> {
         room.copy_from_slice(value);
         *length = value.len();
         self.used += value.len();
+        self.count += 1;
+        Ok(())
+    }
+
+    /// Adds a Variant: a scalar of a fixed type, a String or a ByteString, by its own bytes as they are to stand.
+    ///
+    /// # Errors
+    ///
+    /// [`NotPermitted`](Reason::NotPermitted), [`NotTaken`](Reason::NotTaken) for other types, [`Disagree`](Reason::Disagree) for
+    /// another number of bytes than the type's, [`NoRoom`](Reason::NoRoom).
+    pub fn push_scalar(&mut self, value_type: Type, bytes: &[u8]) -> Result<(), Refusal> {
+        self.put(value_type, 0, false, bytes)
+    }
+
+    /// Adds a Variant: an array of a fixed type, by the bytes of its elements.
+    ///
+    /// # Errors
+    ///
+    /// As [`push_scalar`](Self::push_scalar); [`Disagree`](Reason::Disagree) for bytes that are not whole elements.
+    pub fn push_array(&mut self, value_type: Type, bytes: &[u8]) -> Result<(), Refusal> {
+        self.put(value_type, 2, false, bytes)
+    }
+
+    /// Adds a null Variant ([`Type::NULL`]), String or ByteString.
+    ///
+    /// # Errors
+    ///
+    /// As [`push_scalar`](Self::push_scalar).
+    pub fn push_null(&mut self, value_type: Type) -> Result<(), Refusal> {
+        self.put(value_type, 0, true, &[])
+    }
+
+    /// Adds a null array of a fixed type.
+    ///
+    /// # Errors
+    ///
+    /// As [`push_scalar`](Self::push_scalar).
+    pub fn push_null_array(&mut self, value_type: Type) -> Result<(), Refusal> {
+        self.put(value_type, 1, true, &[])
+    }
+
+    fn put(&mut self, value_type: Type, shape: u32, null: bool, bytes: &[u8]) -> Result<(), Refusal> {
+        let no_room = Refusal { reason: Reason::NoRoom, place: 0 };
+        let room = &mut self.bytes[self.used..];
+        let length = self.lengths.get_mut(self.count).ok_or(no_room)?;
+        let put = ffi::put_value(value_type.number().into(), shape, null.into(), bytes, room).into_result()?;
+        *length = put as usize;
+        self.used += put as usize;
         self.count += 1;
         Ok(())
     }

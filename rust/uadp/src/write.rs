@@ -370,6 +370,16 @@ impl<'p> Chunks<'p> {
         Self { payload, number, size, next: 0 }
     }
 
+    /// How many chunks there are in all.
+    ///
+    /// # Errors
+    ///
+    /// [`Disagree`](Reason::Disagree) for a size of 0 or an empty message, [`OverLimit`](Reason::OverLimit) for a message above
+    /// 16,384 bytes.
+    pub fn count(&self) -> Result<usize, Refusal> {
+        ffi::chunks(self.payload.len() as u64, self.size as u64).into_result().map(|count| count as usize)
+    }
+
     /// Writes the next chunk's payload at the buffer's start; `None` after the last one. It is
     /// [`CHUNK_HEADER`](crate::CHUNK_HEADER) bytes longer than its data.
     ///

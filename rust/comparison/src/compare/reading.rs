@@ -4,12 +4,12 @@ use crate::generate::{self, Random, Scenario};
 use crate::record::{self, bytes_of, number};
 use crate::reference::config::Config;
 use crate::reference::message::Message;
-use crate::reference::network::{self, MessagePlace};
-use crate::reference::{listing, message, message_writer, network_writer, Number, Result};
+use crate::reference::network::{self, MessagePlace, PayloadHeader};
+use crate::reference::{chunk, listing, message, message_writer, network_writer, Number, Result};
 use uadp::ffi::{self, Answer};
 
 /// A record filled by the library, judged against the expected value and record.
-fn judge_filled(
+pub(super) fn judge_filled(
     tally: &mut Tally, random: &mut Random, operation: &'static str, layout: usize, expected: Result<(u64, Vec<u8>)>,
     input: &[(&str, &[u8])], call: impl FnOnce(&mut [u8]) -> Answer,
 ) -> bool {
@@ -58,6 +58,7 @@ pub fn datagram(tally: &mut Tally, random: &mut Random) {
     case.walk_all(tally, random);
     case.rewrite(tally, random);
     case.read(tally, random);
+    case.chunk(tally, random);
     if random.one_in(4) {
         let writer = u32::from(generate::writer_id(random, &generate::ConfigSpec::default()));
         case.message(tally, random, &datagram, writer);
@@ -167,6 +168,19 @@ impl Case<'_> {
         let reference = |out: &mut [u8]| network_writer::rewrite(self.datagram, self.config, out);
         let call = |out: &mut [u8]| ffi::rewrite(self.datagram, self.record, out);
         judge_put(tally, random, "rewrite", self.datagram.len(), &self.input(), reference, call);
+    }
+
+    /// The datagram read as a chunk.
+    fn chunk(&self, tally: &mut Tally, random: &mut Random) {
+        let expected = network::read(self.datagram, self.config).and_then(|envelope| {
+            let PayloadHeader::ChunkOf(writer) = envelope.payload_header else {
+                return Err(Number::NotTaken.nowhere());
+            };
+            let chunk = chunk::read(self.datagram, envelope.payload_start)?;
+            Ok((chunk.number.into(), bytes_of(&record::chunk(self.datagram, &envelope, writer, &chunk))))
+        });
+        let call = |area: &mut [u8]| ffi::chunk(self.datagram, self.record, area);
+        judge_filled(tally, random, "chunk", record::CHUNK_SIZE, expected, &self.input(), call);
     }
 
     fn read(&self, tally: &mut Tally, random: &mut Random) {

@@ -6,7 +6,7 @@ use crate::reference::config::Config;
 use crate::reference::message::{Field, Header, Message};
 use crate::reference::network::{Envelope, Group, MessagePlace, PublisherId};
 use crate::reference::value::Shape;
-use crate::reference::{listing, message, message_writer, network, network_writer};
+use crate::reference::{listing, message, message_writer, network, network_writer, told};
 use uadp::walk::{Entry, Outcome, Record};
 use uadp::{Chunks, DatagramBuilder, MessageBuilder, Refusal, Values, MOST_DATAGRAM};
 
@@ -259,6 +259,28 @@ fn same_field(found: &uadp::Field, expected: &Field) -> bool {
     };
     (found.index, found.offset, found.bytes.len()) == (expected.index, expected.offset, expected.length)
         && (found.value_type.number(), found.shape) == (expected.value.kind, shape)
+        && same_value(found)
+}
+
+/// A field's value told apart: what it is, its bytes and elements, and a DataValue's other parts.
+fn same_value(found: &uadp::Field) -> bool {
+    let expected = told::field(found.bytes, 0, found.encoding as u32, found.value_type.number().into());
+    let (Ok(value), Ok(expected)) = (found.value(), expected) else { return false };
+    let [_, status, source_time, source_picoseconds, server_time, server_picoseconds] = expected.places;
+    let part = |place: usize, width: usize| {
+        let number = found.bytes[place..].iter().take(width).rev().fold(0, |number, byte| number << 8 | u64::from(*byte));
+        (place > 0).then_some(number)
+    };
+    let bytes = &found.bytes[expected.first..expected.last];
+    let width = Some(expected.width).filter(|width| *width > 0);
+    (value.value_type().number(), value.is_null(), value.width()) == (expected.kind, expected.null, width)
+        && (value.first(), value.end(), value.bytes()) == (expected.first, expected.end, bytes)
+        && (expected.width != 4 || value.elements::<4>().flatten().eq(bytes.iter().copied()))
+        && value.status().map(u64::from) == part(status, 4)
+        && value.source_time().map(|time| time as u64) == part(source_time, 8)
+        && value.source_picoseconds().map(u64::from) == part(source_picoseconds, 2)
+        && value.server_time().map(|time| time as u64) == part(server_time, 8)
+        && value.server_picoseconds().map(u64::from) == part(server_picoseconds, 2)
 }
 
 /// A payload cut, sent as datagrams and put together again in any order, in two partials that are combined.

@@ -8,6 +8,7 @@ pub mod network;
 pub mod network_writer;
 pub mod reassembly;
 pub mod sequence;
+pub mod told;
 pub mod value;
 pub mod wire;
 

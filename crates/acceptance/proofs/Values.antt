@@ -1,0 +1,15 @@
+-- Values told apart and put.
+-- Assumes nothing.
+use Rattle.value_parts.proofs.Agreement.{variant-agrees, raw-agrees, data-value-agrees}
+use Rattle.value_parts.proofs.Filled.{told-filled}
+use Rattle.value_parts.proofs.Trip.{written-told}
+use Rattle.acceptance.specs.Values.{Values}
+
+pub values : Values
+values = record {
+  variant = variant-agrees;
+  raw = raw-agrees;
+  dataValue = data-value-agrees;
+  filled = λ s at p e. told-filled s at;
+  put = written-told;
+}

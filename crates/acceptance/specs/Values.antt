@@ -1,0 +1,27 @@
+-- What is claimed of values that are told apart and put.
+use Prim.Native.Nat.{ℕ, _+_}
+use mathlib.Core.Path.{_≡_}
+use mathlib.Core.List.{List}
+use lib.ListN.{length, take, drop}
+use Rattle.wire.specs.Answer.{got, mapAnswer}
+use Rattle.wire_writer.specs.Writing.{Writes}
+use Rattle.wire_writer.specs.declared.writing.Written.{Written}
+use Rattle.value.specs.Value.{variantAt, rawAt, dataValueAt}
+use Rattle.value_parts.specs.Told.{measureOf, Filled, toldVariantAt, toldRawAt}
+use Rattle.value_parts.specs.DataValue.{asMeasure, toldDataValueAt}
+use Rattle.value_parts.specs.Put.{headBytes, variantBytes, variantOutput, givenParts}
+use Rattle.value_parts.specs.declared.told.ValueParts.{ValueParts}
+use Rattle.value_parts.specs.declared.put.Form.{Form}
+
+pub record Values : Type 0 where
+  -- telling a value apart agrees with measuring it: what measuring accepts is told with the same type, shape and end, and the rest is
+  -- refused by the same number and place
+  pub variant : (s : List ℕ) (at : ℕ) → mapAnswer measureOf (toldVariantAt s at) ≡ variantAt s at
+  pub raw : (t : ℕ) (s : List ℕ) (at : ℕ) → mapAnswer measureOf (toldRawAt t s at) ≡ rawAt t s at
+  pub dataValue : (s : List ℕ) (at : ℕ) → mapAnswer asMeasure (toldDataValueAt s at) ≡ dataValueAt s at
+  -- from its first byte up to its end stand its elements, and nothing else
+  pub filled : (s : List ℕ) (at : ℕ) (p : ValueParts) (e : ℕ) → toldVariantAt s at ≡ got p e → Filled p
+  -- what was put is told in the buffer as what was given: type, shape, count and null, and the very bytes
+  pub put : (t : ℕ) (f : Form) (b entry exit : List ℕ) (n : ℕ) → Writes (variantOutput t f b) entry exit (Written.Is n)
+      → (toldVariantAt exit 0 ≡ got (givenParts 0 t f b) (0 + length (variantBytes t f b)))
+      × (take (length b) (drop (0 + length (headBytes t f (length b))) exit) ≡ b)

@@ -1,0 +1,26 @@
+-- `chunk_record::put_chunk` meets its contract.
+-- Assumes nothing.
+use mathlib.Core.Path.{sym}
+use borrow.Author.Needs.{needs}
+use Rattle.chunk_record.proofs.put_chunk.Statement.{statement}
+use Rattle.chunk_record.proofs.put_chunk.Tie as tie
+
+returns : tie.Need-returns
+returns c =
+    let at-put-numbers = c .before .before in
+    let at-publisher-number = at-put-numbers .before .before .before .before .before in
+    let at-code = at-publisher-number .before in
+    rw (sym (at-code .code .ensures), sym (at-publisher-number .publisher-number .ensures)) (at-put-numbers .put-numbers .ensures)
+
+pub put-chunk-spec : {M : Type 1} → statement M
+put-chunk-spec =
+    tie.close
+    (tie.spec
+    (λ c κs. search needs)
+    (λ c κs. search needs)
+    (λ c. search needs)
+    (λ c. search needs)
+    (λ c. search needs)
+    (λ c κs. search needs)
+    (λ c. search needs)
+    returns)

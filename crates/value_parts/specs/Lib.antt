@@ -1,0 +1,3 @@
+pub mod Told
+pub mod DataValue
+pub mod Put

@@ -1,0 +1,141 @@
+//! Values told apart: what they are, and where their elements and parts stand; and Variants put from their elements.
+use super::value::{self, Shape, Value, BYTE_STRING, DATA_VALUE, LEVELS, STRING, VARIANT};
+use super::wire::{Reader, Writer};
+use super::{Number, Result};
+
+/// What a value is, and where it stands. Of a DataValue it is its Variant; a part that is absent stands at 0.
+#[derive(Clone, Copy, Debug)]
+pub struct Told {
+    pub kind: u8,
+    pub shape: Shape,
+    /// Of an element of a fixed type, else 0.
+    pub width: usize,
+    pub null: bool,
+    pub first: usize,
+    pub last: usize,
+    pub end: usize,
+    pub mask: u8,
+    /// Variant, status, source time, source picoseconds, server time, server picoseconds.
+    pub places: [usize; 6],
+}
+
+impl Told {
+    fn alone(value: Value, null: bool, first: usize, end: usize) -> Self {
+        let width = value::width(value.kind).unwrap_or(0);
+        Self { kind: value.kind, shape: value.shape, width, null, first, last: end, end, mask: 0, places: [0; 6] }
+    }
+}
+
+fn is_text(kind: u8) -> bool {
+    kind == STRING || kind == BYTE_STRING
+}
+
+fn variant(bytes: &[u8], at: usize, levels: u32) -> Result<Told> {
+    let mut reader = Reader::starting_at(bytes, at);
+    let value = value::variant(&mut reader, levels)?;
+    let mut items = Reader::starting_at(bytes, at);
+    items.u8()?;
+    let null = match value.shape {
+        Shape::Scalar if !is_text(value.kind) => value.kind == 0,
+        _ => items.length()?.is_none(),
+    };
+    Ok(Told::alone(value, null, items.position(), reader.position()))
+}
+
+/// A part of a DataValue where its mask announces it: its place, 0 where it does not.
+fn part(reader: &mut Reader, announced: bool, width: usize) -> Result<usize> {
+    let place = reader.position();
+    if !announced {
+        return Ok(0);
+    }
+    reader.take(width).map(|_| place)
+}
+
+fn data_value(bytes: &[u8], at: usize) -> Result<Told> {
+    let mut reader = Reader::starting_at(bytes, at);
+    let mask = reader.u8()?;
+    if mask >= 64 {
+        return Err(Number::NotPermitted.at(at));
+    }
+    let none = Value { kind: 0, shape: Shape::Scalar };
+    let mut told = Told::alone(none, true, at + 1, at + 1);
+    if mask % 2 == 1 {
+        told = variant(bytes, at + 1, LEVELS - 1)?;
+        told.places[0] = at + 1;
+    }
+    let mut reader = Reader::starting_at(bytes, told.end);
+    for (k, (bit, width)) in [(1, 4), (2, 8), (4, 2), (3, 8), (5, 2)].into_iter().enumerate() {
+        told.places[k + 1] = part(&mut reader, mask >> bit & 1 == 1, width)?;
+    }
+    Ok(Told { mask, end: reader.position(), ..told })
+}
+
+/// A value by its encoding: 1 RawData of a type, 2 DataValue, any other number Variant.
+pub fn field(bytes: &[u8], at: usize, encoding: u32, kind: u32) -> Result<Told> {
+    match encoding {
+        1 => {
+            let kind = u8::try_from(kind).unwrap_or(0);
+            let width = value::width(kind).ok_or(Number::NotTaken.at(at))?;
+            Reader::starting_at(bytes, at).take(width)?;
+            Ok(Told::alone(Value { kind, shape: Shape::Scalar }, false, at, at + width))
+        }
+        2 => data_value(bytes, at),
+        _ => variant(bytes, at, LEVELS),
+    }
+}
+
+/// Element k of an array of Strings or ByteStrings.
+pub fn element(bytes: &[u8], at: usize, kind: u32, elements: u64, k: u64) -> Result<Told> {
+    if k >= elements {
+        return Err(Number::OverLimit.nowhere());
+    }
+    let mut reader = Reader::starting_at(bytes, at);
+    let mut left = k;
+    loop {
+        let length = reader.length()?;
+        let first = reader.position();
+        reader.take(length.unwrap_or(0))?;
+        if left == 0 {
+            let value = Value { kind: u8::try_from(kind).unwrap_or(0), shape: Shape::Scalar };
+            return Ok(Told { width: 0, ..Told::alone(value, length.is_none(), first, reader.position()) });
+        }
+        left -= 1;
+    }
+}
+
+/// Which Variants are put, and the number by which others are refused; `array` also of a null one.
+fn putable(kind: u32, array: bool) -> Result<u8> {
+    let kind = u8::try_from(kind).unwrap_or(u8::MAX);
+    match (kind, array) {
+        (0, true) | (VARIANT, false) => Err(Number::NotPermitted.nowhere()),
+        (DATA_VALUE | VARIANT, _) => Err(Number::NotTaken.nowhere()),
+        (0, false) => Ok(kind),
+        _ if is_text(kind) && !array => Ok(kind),
+        _ => value::width(kind).map(|_| kind).ok_or(Number::NotTaken.nowhere()),
+    }
+}
+
+/// Puts a Variant: 1 a null array, 2 an array, any other number a scalar, which may be null.
+pub fn put(kind: u32, shape: u32, null: u32, bytes: &[u8], out: &mut [u8]) -> Result<usize> {
+    let array = shape == 1 || shape == 2;
+    let kind = putable(kind, array)?;
+    let null = shape == 1 || (!array && null != 0);
+    let agrees = match value::width(kind) {
+        _ if null => bytes.is_empty() && (array || value::width(kind).is_none()),
+        Some(width) if array => bytes.len() % width == 0,
+        Some(width) => bytes.len() == width,
+        None => is_text(kind),
+    };
+    if !agrees {
+        return Err(Number::Disagree.nowhere());
+    }
+    let counted = array || is_text(kind);
+    let count = bytes.len() / value::width(kind).filter(|_| array).unwrap_or(1);
+    let mut writer = Writer::of_length(out, 1 + if counted { 4 } else { 0 } + bytes.len())?;
+    writer.put(&[kind | if array { 0x80 } else { 0 }]);
+    if counted {
+        writer.put(&if null { -1 } else { count as i32 }.to_le_bytes());
+    }
+    writer.put(bytes);
+    Ok(writer.written())
+}
