@@ -98,9 +98,11 @@ module _ (w : Writers) (g : N.GivenDatagram) (x : Envelope) (entry exit : List �
       × MessageBack (typesRead w (network.writtenMessage g x (w .sizes)) d k) m (messageBytes (messagePlaceAt (w .sizes) k d) d)
   whole o k l h m entry-k exit-k n-k q e =
       let b : messageBytes (messagePlaceAt (w .sizes) k d) d ≡ take n-k exit-k = back .message o k l .1 ∙ e in
-      let r : MessageBack (typesGiven w g k) m (take n-k exit-k) = message.written-reads (typesGiven w g k) m entry-k exit-k n-k q .0 in
-      (b, subst (λ (t : List ℕ). MessageBack t m (messageBytes (messagePlaceAt (w .sizes) k d) d)) (types-same k h)
-      (subst (λ (y : List ℕ). MessageBack (typesGiven w g k) m y) (sym b) r))
+      let r : MessageBack (typesGiven w g k) m (take n-k exit-k) = message.written-reads (typesGiven w g k) m entry-k exit-k n-k q .0 in (
+        b,
+        subst (λ (t : List ℕ). MessageBack t m (messageBytes (messagePlaceAt (w .sizes) k d) d)) (types-same k h)
+            (subst (λ (y : List ℕ). MessageBack (typesGiven w g k) m y) (sym b) r),
+      )
 
 -- ---- datagrams that were written with what cutting wrote
 module _ (id : Identity) (p : List ℕ) (size : ℕ) where

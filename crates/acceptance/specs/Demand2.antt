@@ -61,7 +61,6 @@ pub record Demand2 : Type 0 where
   pub listing-starts : (w : Writers) (d : List ℕ) (number place : ℕ)
       → linesFrom w d (startCursor number place (w .sizes) d) ≡ listingOf number place w d
   pub listing-steps : (w : Writers) (d : List ℕ) (c : LineCursor) → stepLines w d (nextLine w d c) ≡ linesFrom w d c
-
   -- ---- WHAT THE WRITER WROTE READS BACK AS WHAT IT WAS GIVEN.
   -- A NetworkMessage, with and without PayloadHeader: envelope, PublisherId's text, promoted fields, writer ids, each message with its
   -- offset and bytes, a chunk's payload.
@@ -86,7 +85,6 @@ pub record Demand2 : Type 0 where
   -- of one publisher and writer, restore the payload, in any order and some of them more than once.
   pub written-and-restored : (id : Identity) (p : List ℕ) (size : ℕ) (l : List Arrival) → AllArrive id p size (IsWritten id p size) l
       → id .number < 65536 → (s : Partial) → Good s → s .rec .started ≡ false → length p ≤ roomOf s → Restored p l s
-
   -- ---- AN ACCEPTED DATAGRAM WRITTEN AGAIN GIVES THE SAME BYTES, BUT FOR THE NAMED CASE.
   pub datagram-again : (sizes s entry exit : List ℕ) (r : Written) (m : NetworkMessage) (n : ℕ) → networkMessageAt sizes s ≡ got m n
       → Writes (datagramSame sizes s) entry exit r → CopiedTo (network.rewritten s) entry exit r
@@ -100,7 +98,6 @@ pub record Demand2 : Type 0 where
   -- "every accepted DataSetMessage, padding length included, is rewritten identically"
   pub message-again : (types s entry exit : List ℕ) (r : Written) (m : Message) (n : ℕ) → messageAt types s ≡ got (valid m) n
       → Writes (messageSame types s) entry exit r → CopiedTo s entry exit r
-
   -- ---- "A writer refuses what reading would refuse, by the same number in reading order; then .. what would read back otherwise .. by 6".
   -- Reading's number comes first.
   pub datagram-number-first : (g : N.GivenDatagram) (x : Envelope) (sizes configured : List ℕ)

@@ -1,2 +1,3 @@
-// The records of a message's head and of a field.
+// The records of a message's head, of a field, and of a value.
 pub mod message;
+pub mod value;

@@ -1,1 +1,2 @@
+pub mod Chunk
 pub mod Partial

@@ -85,7 +85,6 @@ pub flag-fits : (b : Bool) → flagNumber b < 256 ^ 8
 flag-fits true = omega arith
 flag-fits false = omega arith
 
-
 -- ---- items that may be absent
 
 pub given16-back : (o : Optional16) → Fits16 o → given16 (on16 o) (value16 o) ≡ o

@@ -6,7 +6,7 @@ use Rattle.config.specs.Writers.{atMost}
 use Rattle.publisher_id.specs.declared.publisher.PublisherId.{PublisherId}
 
 -- "PublisherId: 0 absent, 1 Byte, 2 UInt16, 3 UInt32, 4 UInt64, 5 String (above 5 counts as absent)", and its number, "of a String its
--- length"; "of a number that stands for a narrower one the lowest bytes count"
+-- length"; of a partial's record "the lowest bytes count" of a number that stands for a narrower one
 abbrev pub publisherBy : ℕ → ℕ → PublisherId
 publisherBy code v =
     cond (eqb code 1) (PublisherId.Byte (v % 256))

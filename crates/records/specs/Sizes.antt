@@ -32,3 +32,11 @@ PARTIAL_SIZE = 144
 -- The sequence record's bytes.
 abbrev pub SEQUENCE_SIZE : ℕ
 SEQUENCE_SIZE = 16
+
+-- The value record's bytes.
+abbrev pub VALUE_SIZE : ℕ
+VALUE_SIZE = 192
+
+-- The chunk record's bytes.
+abbrev pub CHUNK_SIZE : ℕ
+CHUNK_SIZE = 128

@@ -23,3 +23,9 @@ pub const PARTIAL_SIZE: usize = 144;
 
 // The sequence record's bytes.
 pub const SEQUENCE_SIZE: usize = 16;
+
+// The value record's bytes.
+pub const VALUE_SIZE: usize = 192;
+
+// The chunk record's bytes.
+pub const CHUNK_SIZE: usize = 128;

@@ -38,7 +38,6 @@ rewrittenFlags f =
       promoted = f .promoted;
     }
 
-
 -- where ExtendedFlags1 is absent, or PublisherId on, nothing changes
 pub keeps : (b : ℕ) (t : List ℕ) → (bit 7 b ≡ false) ⊎ (bit 4 b ≡ true) → rewritten (b ∷ t) ≡ b ∷ t
 keeps b [] h = refl

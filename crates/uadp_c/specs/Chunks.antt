@@ -7,7 +7,7 @@ use Rattle.chunk.specs.Cutting.{cutRule}
 use Rattle.chunk.specs.declared.datagram.ChunkPlace.{ChunkPlace}
 use Rattle.records.specs.Numbers.{numberBytes}
 use Rattle.records.specs.Result.{resultOf, Filling}
-use Rattle.chunk_record.specs.Chunk.{chunkNumbers}
+use Rattle.partial_record.specs.Chunk.{chunkNumbers}
 
 -- "Value: the message's number"
 abbrev pub chunkFilling : Answer ChunkPlace → Answer Filling

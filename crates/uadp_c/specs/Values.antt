@@ -7,7 +7,7 @@ use Rattle.records.specs.Numbers.{numberBytes}
 use Rattle.records.specs.Result.{Filling}
 use Rattle.value_parts.specs.declared.data_value.FieldParts.{FieldParts}
 use Rattle.value_parts.specs.declared.put.Form.{Form}
-use Rattle.value_record.specs.Value.{valueNumbers}
+use Rattle.message_record.specs.Value.{valueNumbers}
 
 -- "Value: where the value ends"
 abbrev pub valueFilling : Answer FieldParts → Answer Filling

@@ -1,9 +1,9 @@
 // A chunk read, and how many chunks a message has.
 use chunk::datagram::ChunkRead;
-use chunk_record::CHUNK_SIZE;
-use chunk_record::put_chunk;
 use config::first;
+use partial_record::chunk::put_chunk;
 use records::result::result;
+use records::sizes::CHUNK_SIZE;
 use records::writers::sizes;
 use records::writers::writer_count;
 use wire::constants::DISAGREE;

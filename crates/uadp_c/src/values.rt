@@ -1,14 +1,14 @@
 // Values told apart, and put.
 use crate::rewrites::written_result;
 use dataset_header::flags::Encoding;
+use message_record::value::put_value;
 use records::result::result;
+use records::sizes::VALUE_SIZE;
 use value_parts::data_value::FieldTold;
 use value_parts::data_value::tell_field;
 use value_parts::data_value::tell_text;
 use value_parts::put::Form;
 use value_parts::put::put_variant;
-use value_record::VALUE_SIZE;
-use value_record::put_value;
 use wire::constants::NO_ROOM;
 use wire::constants::NOT_TAKEN;
 ghost use mathlib.Core.Path.{_≡_};

@@ -20,9 +20,11 @@ returns c =
     let at-good = at-refusal .before .before .before .before .before .before .before .before .before in
     let args = at-good .args in
     let g = givenDatagram (now (args .text)) (now (args .ids)) (now (args .promoted)) (now (args .lengths)) (now (args .messages)) in
-    let refusal = at-refusal .refusal .ensures in
-    (fits-envelope (args .x) _ (at-good .good .1 .0), refused-by (datagramRefusal g (args .x) (now (args .sizes)) (now (args .configured))) (datagramOf g (args .x)) (now (args .out))
-    (at-refusal .refusal .result) refusal (c .if1 .taken))
+    let refusal = at-refusal .refusal .ensures in (
+      fits-envelope (args .x) _ (at-good .good .1 .0),
+      refused-by (datagramRefusal g (args .x) (now (args .sizes)) (now (args .configured))) (datagramOf g (args .x)) (now (args .out))
+          (at-refusal .refusal .result) refusal (c .if1 .taken),
+    )
 
 datagram-size-requires : tie.Need-datagram-size-requires
 datagram-size-requires c κs =
@@ -46,9 +48,11 @@ returns-2 c =
     let refusal = at-refusal .refusal .ensures in
     let room = length (now (args .out)) in
     let size = at-datagram-size .datagram-size .ensures in
-    let full = at-room-refusal .room-refusal .ensures ∙ ap (λ (n : ℕ). roomRefusal n room) size in
-    (fits-envelope (args .x) _ (at-good .good .1 .0), no-room (datagramRefusal g (args .x) (now (args .sizes)) (now (args .configured))) (datagramOf g (args .x)) (now (args .out))
-    (sym refusal ∙ at-if1 .if1 .left) (at-room-refusal .room-refusal .result) full (c .if2 .taken))
+    let full = at-room-refusal .room-refusal .ensures ∙ ap (λ (n : ℕ). roomRefusal n room) size in (
+      fits-envelope (args .x) _ (at-good .good .1 .0),
+      no-room (datagramRefusal g (args .x) (now (args .sizes)) (now (args .configured))) (datagramOf g (args .x)) (now (args .out))
+          (sym refusal ∙ at-if1 .if1 .left) (at-room-refusal .room-refusal .result) full (c .if2 .taken),
+    )
 
 returns-3 : tie.Need-returns-3
 returns-3 c =
@@ -64,10 +68,12 @@ returns-3 c =
     let refusal = at-refusal .refusal .ensures in
     let room = length (now (args .out)) in
     let size = at-datagram-size .datagram-size .ensures in
-    let full = at-room-refusal .room-refusal .ensures ∙ ap (λ (n : ℕ). roomRefusal n room) size in
-    (fits-envelope (args .x) _ (at-good .good .1 .0), written (datagramRefusal g (args .x) (now (args .sizes)) (now (args .configured))) (datagramOf g (args .x)) (now (args .out))
-    (sym refusal ∙ at-if1 .if1 .left) (at-room-refusal .room-refusal .result) full (at-if2 .if2 .left) (at-datagram-size .datagram-size .result) _ _ size
-    (at-put-datagram .put-datagram .ensures))
+    let full = at-room-refusal .room-refusal .ensures ∙ ap (λ (n : ℕ). roomRefusal n room) size in (
+      fits-envelope (args .x) _ (at-good .good .1 .0),
+      written (datagramRefusal g (args .x) (now (args .sizes)) (now (args .configured))) (datagramOf g (args .x)) (now (args .out))
+          (sym refusal ∙ at-if1 .if1 .left) (at-room-refusal .room-refusal .result) full (at-if2 .if2 .left) (at-datagram-size .datagram-size .result) _ _ size
+          (at-put-datagram .put-datagram .ensures),
+    )
 
 pub write-spec : {M : Type 1} → statement M
 write-spec =

@@ -2,7 +2,7 @@
 -- Assumes nothing.
 use Rattle.uadp_c.proofs.Told.{chunk-read}
 use Rattle.uadp_c.proofs.Filling.{fill-refused, fill-none, fill-done}
-use Rattle.chunk_record.specs.Chunk.{chunkNumbers}
+use Rattle.partial_record.specs.Chunk.{chunkNumbers}
 use Rattle.records.proofs.Storing.{bytes-length}
 use Rattle.chunk.specs.Datagram.{answerChunk}
 use Rattle.wire.proofs.Reading.{told}

@@ -2,7 +2,7 @@
 -- Assumes nothing.
 use Rattle.uadp_c.proofs.Told.{was-told}
 use Rattle.uadp_c.proofs.Filling.{fill-refused, fill-none, fill-done}
-use Rattle.value_record.specs.Value.{valueNumbers}
+use Rattle.message_record.specs.Value.{valueNumbers}
 use Rattle.records.proofs.Storing.{bytes-length}
 use denote.Ref.{now}
 use native.Mathlib.Omega.{arith}

@@ -6,10 +6,7 @@ use records::publisher::publisher_number;
 ghost use mathlib.Core.Path.{_≡_};
 ghost use Rattle.wire_writer.specs.Store.{laid};
 ghost use Rattle.records.specs.Numbers.{numberBytes};
-ghost use Rattle.chunk_record.specs.Chunk.{chunkNumbers};
-
-// The chunk record's bytes.
-pub const CHUNK_SIZE: usize = 128;
+ghost use Rattle.partial_record.specs.Chunk.{chunkNumbers};
 
 // Stores a chunk's record at the buffer's start; where it does not fit, nothing.
 pub fn put_chunk(out: &mut [u8], c: ChunkPlace)

@@ -5,10 +5,6 @@ use Rattle.publisher_id.specs.PublisherRecord.{codeOf}
 use Rattle.chunk.specs.declared.datagram.ChunkPlace.{ChunkPlace}
 use Rattle.records.specs.Publisher.{publisherNumber}
 
--- The chunk record's bytes.
-abbrev pub CHUNK_SIZE : ℕ
-CHUNK_SIZE = 128
-
 -- the 16 numbers of a chunk; the last seven are spare
 abbrev pub chunkNumbers : ChunkPlace → List ℕ
 chunkNumbers c =

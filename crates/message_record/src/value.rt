@@ -1,6 +1,6 @@
 // The value record (include/uadp.h): a field's value told apart.
-use message_record::message::elements_number;
-use message_record::message::shape_number;
+use crate::message::elements_number;
+use crate::message::shape_number;
 use records::items::flag_number;
 use records::numbers::put_numbers;
 use value::Shape;
@@ -9,10 +9,7 @@ use wire::left;
 ghost use mathlib.Core.Path.{_≡_};
 ghost use Rattle.wire_writer.specs.Store.{laid};
 ghost use Rattle.records.specs.Numbers.{numberBytes};
-ghost use Rattle.value_record.specs.Value.{valueNumbers};
-
-// The value record's bytes.
-pub const VALUE_SIZE: usize = 192;
+ghost use Rattle.message_record.specs.Value.{valueNumbers};
 
 // Stores a value's record at the buffer's start; where it does not fit, nothing.
 pub fn put_value(out: &mut [u8], f: FieldParts)

@@ -3,11 +3,7 @@ use Prim.Native.Nat.{ℕ, _-_}
 use mathlib.Core.List.{List, [], _∷_}
 use Rattle.value_parts.specs.declared.data_value.FieldParts.{FieldParts}
 use Rattle.records.specs.Items.{flagNumber}
 use Rattle.message_record.specs.Message.{shapeNumber, elementsNumber}
-
--- The value record's bytes.
-abbrev pub VALUE_SIZE : ℕ
-VALUE_SIZE = 192
 
 -- the 24 numbers of a value; the last nine are spare
 abbrev pub valueNumbers : FieldParts → List ℕ
