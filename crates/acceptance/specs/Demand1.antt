@@ -102,7 +102,7 @@ pub record Demand1 : Type 0 where
   pub call : (k : Call) (s : Partial) (n place : ℕ) → answers k s ≡ refusedBy n place
       → Refusal callNumbers n place (bytesRead k) × (leaves k s ≡ s)
   -- ---- THE SAME THROUGH C, for any bytes in any record: a result whose low byte is not 0 leaves every lent byte as it was.
-  -- uadp_config, uadp_read, uadp_read_message, uadp_field: what is read fills one record.
+  -- uadp_config, uadp_read, uadp_read_message, uadp_field, uadp_value, uadp_element, uadp_chunk: what is read fills one record.
   pub lent-filling : (read : Answer Filling) (out : List ℕ) → IsRefused (resultIn read out) → filledIn read out ≡ out
   -- uadp_next_message, uadp_next_field: a record's cursor moves, and another record is filled.
   pub lent-message-step : (writer : ℕ → Optional16) (step : Answer PlaceStepped) (envelope place : List ℕ)
@@ -110,7 +110,7 @@ pub record Demand1 : Type 0 where
       → (envelopeAfter step envelope place ≡ envelope) × (placeAfter writer step envelope place ≡ place)
   pub lent-field-step : (step : Answer FieldStepped) (head field : List ℕ) → IsRefused (stepResult step head field)
       → (headAfter step head field ≡ head) × (fieldAfter step head field ≡ field)
-  -- uadp_write, uadp_write_message, uadp_rewrite, uadp_rewrite_message; uadp_cut; uadp_list; uadp_walk; uadp_newness.
+  -- uadp_write, uadp_write_message, uadp_rewrite, uadp_rewrite_message, uadp_put_value; uadp_cut; uadp_list; uadp_walk; uadp_newness.
   pub lent-writer : (out : List ℕ) (output : Output) → IsRefused (outputResult out output) → bufferAfter out output ≡ out
   pub lent-cut : (p : List ℕ) (number size k : ℕ) (out : List ℕ) → IsRefused (cutResult (cutAnswer p number size k (length out)))
       → cutBuffer p number size k out ≡ out
