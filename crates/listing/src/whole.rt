@@ -51,7 +51,7 @@ fn store_line(out: &mut [u8], at: usize, s: &[u8], line: Line) -> usize
 }
 
 // A text's length where it fits into some room.
-enum TextLength {
+pub enum TextLength {
     Is(usize),
     Long,
 }
@@ -143,4 +143,24 @@ pub fn put_listing<'a>(
             Written::Is(n)
         }
     }
+}
+
+// How long the whole listing of a datagram is, under a configuration whose reading gave a number and a place, where it fits into some
+// room.
+pub fn listing_length<'a>(
+    room: usize,
+    s: &[u8],
+    number: u8,
+    place: usize,
+    ids: &'a [u16],
+    sizes: &[u16],
+    starts: &'a [u8],
+    types: &'a [u8],
+) -> TextLength
+    ensures { λ r.
+        let w = writers (now (ids .entry)) (now (sizes .entry)) (now (starts .entry)) (now (types .entry)) in
+        ⌜ r ≡ lengthIn room (linesText (now (s .entry)) (listingOf number place w (now (s .entry)))) ⌝ }
+{
+    let first = start(s, number, place, sizes);
+    text_length(room, s, first, ids, sizes, starts, types)
 }

@@ -9,7 +9,8 @@ use native.Mathlib.Omega.{arith}
 use lib.Dec.{eqb, leb}
 use lib.ListN.{length}
 use Rattle.wire.specs.Number.{le, signed}
-use Rattle.wire.specs.Answer.{got, refused, Reader, pure}
+use Rattle.wire.specs.Constants.{NOT_TAKEN}
+use Rattle.wire.specs.Answer.{got, refused, Reader, pure, refuse}
 use Rattle.wire.specs.Items.{lengthOf, lengthItem}
 use Rattle.wire.specs.declared.Length.{Length}
 use Rattle.wire.proofs.Reading.{got-value, got-next, not-got, invert}
@@ -87,7 +88,7 @@ module _ (s : List ℕ) (at : ℕ) where
       (subst (λ (x : Measure). Fills s at x (j .1)) (got-value (j .3)) (go (fixed t) refl (lengthFirst t) refl (j .2)))
     where
       go : (x : Bool) → fixed t ≡ x → (y : Bool) → lengthFirst t ≡ y → {k : ℕ} {u : Unit {0}}
-          → cond {A = Reader (Unit {0})} (x || y) (cond x (bytes (widthOf t)) string) (passing (nested t)) s at ≡ got u k
+          → cond {A = Reader (Unit {0})} (x || y) (cond x (bytes (widthOf t)) (cond y string (refuse NOT_TAKEN))) (passing (nested t)) s at ≡ got u k
           → Fills s at (measure t Shape.Scalar) k
       go true ex y ey r = fixedScalar ex (bytes-to (widthOf t) s at r)
       go false ex true ey r = text-fills t ey r
