@@ -1,3 +1,3 @@
 // The records of a message's head, of a field, and of a value.
 pub mod message;
-pub mod value;
+pub mod value_record;

@@ -1,6 +1,6 @@
 // The record of a partial: six numbers, four spare ones that hold 0, and 64 bytes for the text of a string PublisherId. The record of a
 // chunk stands in its own module.
-pub mod chunk;
+pub mod chunk_record;
 
 use publisher_id::publisher_record::PublisherRecord;
 use publisher_id::publisher_record::code;

@@ -1,7 +1,7 @@
 // A chunk read, and how many chunks a message has.
 use chunk::datagram::ChunkRead;
 use config::first;
-use partial_record::chunk::put_chunk;
+use partial_record::chunk_record::put_chunk;
 use records::result::result;
 use records::sizes::CHUNK_SIZE;
 use records::writers::sizes;

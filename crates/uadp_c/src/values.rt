@@ -1,7 +1,7 @@
 // Values told apart, and put.
 use crate::rewrites::written_result;
 use dataset_header::flags::Encoding;
-use message_record::value::put_value;
+use message_record::value_record::put_value;
 use records::result::result;
 use records::sizes::VALUE_SIZE;
 use value_parts::data_value::FieldTold;

@@ -1,9 +1,9 @@
--- `message_record::value::put_value` meets its contract.
+-- `message_record::value_record::put_value` meets its contract.
 -- Assumes nothing.
 use mathlib.Core.Path.{sym}
 use borrow.Author.Needs.{needs}
-use Rattle.message_record.proofs.value.put_value.Statement.{statement}
-use Rattle.message_record.proofs.value.put_value.Tie as tie
+use Rattle.message_record.proofs.value_record.put_value.Statement.{statement}
+use Rattle.message_record.proofs.value_record.put_value.Tie as tie
 
 returns : tie.Need-returns
 returns c =

@@ -1,9 +1,9 @@
--- `partial_record::chunk::put_chunk` meets its contract.
+-- `partial_record::chunk_record::put_chunk` meets its contract.
 -- Assumes nothing.
 use mathlib.Core.Path.{sym}
 use borrow.Author.Needs.{needs}
-use Rattle.partial_record.proofs.chunk.put_chunk.Statement.{statement}
-use Rattle.partial_record.proofs.chunk.put_chunk.Tie as tie
+use Rattle.partial_record.proofs.chunk_record.put_chunk.Statement.{statement}
+use Rattle.partial_record.proofs.chunk_record.put_chunk.Tie as tie
 
 returns : tie.Need-returns
 returns c =
