@@ -436,6 +436,7 @@ static void most_of_a_listing(void)
     most[sizeof most - last + 2] = (uint8_t)(fields / 256);
     r = uadp_list(most, sizeof most, NULL, listing, sizeof listing);
     CHECK(UADP_NUMBER(r) == UADP_DONE && UADP_VALUE(r) > 1800000u);
+    CHECK(uadp_list_length(most, sizeof most, NULL) == r);
 }
 
 /* ---- stack ---- */

@@ -13,11 +13,12 @@ use Rattle.network_header.specs.declared.envelope.Envelope.{Envelope}
 use Rattle.network_message_writer.specs.Envelope as datagram
 use Rattle.dataset_message_writer.specs.Message as message
 use Rattle.walk.specs.Lines.{Writers, writers, listingOf}
-use Rattle.listing.specs.Text.{linesText, textWritten, textAfter}
+use Rattle.listing.specs.Text.{linesText, textWritten, textAfter, lengthIn}
+use Rattle.listing.specs.declared.whole.TextLength.{TextLength}
 use Rattle.records.specs.Writers.{writersIn, sixteen, idsIn, sizesIn, startsIn, typesIn, typesFor}
 use Rattle.message_record.specs.Message.{headerIn}
 use Rattle.envelope_record.specs.Envelope.{envelopeIn}
-use Rattle.uadp_c.specs.Listings.{listingText}
+use Rattle.uadp_c.specs.Listings.{listingText, lengthResult, MOST_VALUE}
 use Rattle.walk_records.specs.Walk.{recordsPut, walkLines, walkOf}
 use Rattle.walk_records.specs.declared.Walked.{Walked}
 use Rattle.uadp_c.specs.Walks.{configured, walkResult}
@@ -70,14 +71,24 @@ datagram-output c envelope sizes ids g x p q i =
 abbrev partsText : List ℕ → List ℕ → List ℕ → List ℕ → List ℕ → List ℕ
 partsText ids sizes starts types d = linesText d (listingOf 0 0 (writers ids sizes starts types) d)
 
+parts-same : (c d ids sizes starts types : List ℕ) → ids ≡ idsIn c → sizes ≡ sizesIn c → starts ≡ startsIn c → types ≡ typesIn c
+    → partsText ids sizes starts types d ≡ listingText c d
+parts-same c d ids sizes starts types i z s t =
+    ap (λ (x : List ℕ). partsText x sizes starts types d) i ∙ ap (λ (x : List ℕ). partsText (idsIn c) x starts types d) z
+    ∙ ap (λ (x : List ℕ). partsText (idsIn c) (sizesIn c) x types d) s ∙ ap (λ (x : List ℕ). partsText (idsIn c) (sizesIn c) (startsIn c) x d) t
+
+-- its length
+pub measured : (c d ids sizes starts types : List ℕ) (r : ℕ) (x : TextLength) → ids ≡ idsIn c → sizes ≡ sizesIn c → starts ≡ startsIn c → types ≡ typesIn c
+    → x ≡ lengthIn MOST_VALUE (partsText ids sizes starts types d) → r ≡ lengthResult x → r ≡ lengthResult (lengthIn MOST_VALUE (listingText c d))
+measured c d ids sizes starts types r x i z s t a h =
+    h ∙ ap lengthResult (a ∙ ap (lengthIn MOST_VALUE) (parts-same c d ids sizes starts types i z s t))
+
 pub listed : (c d ids sizes starts types out e : List ℕ) (w : Written) (r : ℕ) → ids ≡ idsIn c → sizes ≡ sizesIn c → starts ≡ startsIn c → types ≡ typesIn c
     → (w ≡ textWritten out (partsText ids sizes starts types d)) × (e ≡ textAfter out (partsText ids sizes starts types d))
     → r ≡ writerResult (answerWritten w)
     → (r ≡ writerResult (answerWritten (textWritten out (listingText c d)))) × (e ≡ textAfter out (listingText c d))
 listed c d ids sizes starts types out e w r i z s t a h =
-    let same : partsText ids sizes starts types d ≡ listingText c d =
-    ap (λ (x : List ℕ). partsText x sizes starts types d) i ∙ ap (λ (x : List ℕ). partsText (idsIn c) x starts types d) z
-    ∙ ap (λ (x : List ℕ). partsText (idsIn c) (sizesIn c) x types d) s ∙ ap (λ (x : List ℕ). partsText (idsIn c) (sizesIn c) (startsIn c) x d) t in (
+    let same = parts-same c d ids sizes starts types i z s t in (
       h ∙ ap (λ (x : Written). writerResult (answerWritten x)) (a .0) ∙ ap (λ (x : List ℕ). writerResult (answerWritten (textWritten out x))) same,
       a .1 ∙ ap (λ (x : List ℕ). textAfter out x) same,
     )

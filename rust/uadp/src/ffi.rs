@@ -65,6 +65,7 @@ mod raw {
         pub fn uadp_list(
             datagram: *const u8, datagram_length: usize, config: *const u8, config_length: usize, out: *mut u8, out_length: usize,
         ) -> u64;
+        pub fn uadp_list_length(datagram: *const u8, datagram_length: usize, config: *const u8, config_length: usize) -> u64;
         pub fn uadp_walk(
             datagram: *const u8, datagram_length: usize, config: *const u8, config_length: usize, records: *mut u8,
             records_length: usize,
@@ -179,6 +180,11 @@ pub fn config(text: &[u8], config: &mut [u8]) -> Answer {
 pub fn list(datagram: &[u8], config: &[u8], out: &mut [u8]) -> Answer {
     let (length, out_length) = (datagram.len(), out.len());
     Answer(unsafe { raw::uadp_list(lent(datagram), length, lent(config), config.len(), lent_mut(out), out_length) })
+}
+
+/// How long a datagram's listing is. Value: its length.
+pub fn list_length(datagram: &[u8], config: &[u8]) -> Answer {
+    Answer(unsafe { raw::uadp_list_length(lent(datagram), datagram.len(), lent(config), config.len()) })
 }
 
 /// Puts a walk record for each message and field. Value: how many there are in all.

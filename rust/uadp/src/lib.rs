@@ -68,7 +68,7 @@ mod write;
 
 pub use config::{Config, Writer};
 pub use datagram::{Datagram, Group, MessagePart, Messages, PublisherId};
-pub use listing::list;
+pub use listing::{list, list_length};
 pub use message::{Encoding, Field, Fields, Kind, Message};
 pub use partial::{marks_size, Chunk, Partial};
 pub use refusal::{Reason, Refusal};

@@ -25,3 +25,8 @@ pub fn list<'b>(datagram: &[u8], config: &Config, out: &'b mut [u8]) -> Result<&
     let text = ffi::list(datagram, config.as_bytes(), out).written(out)?;
     Ok(core::str::from_utf8(text).expect("a listing is ASCII"))
 }
+
+/// How many bytes [`list`] puts for a datagram.
+pub fn list_length(datagram: &[u8], config: &Config) -> usize {
+    ffi::list_length(datagram, config.as_bytes()).value() as usize
+}

@@ -140,6 +140,9 @@ impl Case<'_> {
             out.copy_from_slice(lines.as_bytes());
             Ok(lines.len())
         };
+        let of = |answer| Found { answer, areas: Vec::new() };
+        let length = ffi::list_length(self.datagram, self.record);
+        tally.judge("list_length", &of(length), &of(answer_of(Ok(lines.len() as u64))), &self.input());
         judge_put(tally, random, "list", lines.len(), &self.input(), reference, |out| ffi::list(self.datagram, self.record, out));
     }
 
