@@ -37,7 +37,7 @@ abbrev pub chunkLocated : Answer ChunkPlace → Located
 chunkLocated (got c next) = foundAt (c .payload .first) (c .payload .length)
 chunkLocated (refused n p) = notFound n p
 
--- handing out: the payload's first total bytes
+-- "Handing out: 12, not complete 15, else the payload's first total bytes"
 abbrev pub payloadLocated : ℕ → Verdict → Located
 payloadLocated total Done = foundAt 0 total
 payloadLocated total (Refused n p) = notFound n p

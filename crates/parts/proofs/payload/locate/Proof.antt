@@ -1,4 +1,4 @@
-use mathlib.Core.Path.{sym, _∙_}
+use mathlib.Core.Path.{refl, sym, _∙_}
 use denote.Ref.{now}
 use borrow.Author.Needs.{needs}
 use Rattle.reassembly.specs.Record.{partial}
@@ -24,7 +24,7 @@ returns c =
     let at-told = c .before in
     let at-call = at-told .before .before in
     let a = at-call .before .before .before .args in
-    rw (sym (handed-verdict (partial (a .rec) (now (a .payload)) (now (a .marks))) _ (at-call .hand-out-verdict .ensures)) ∙ at-told .number .given .1)
+    rw (sym (handed-verdict (partial (a .rec) (now (a .payload)) (now (a .marks))) _ (at-call .hand-out-verdict .ensures)) ∙ at-told .number .given .1) refl
 
 -- src/payload.rt:14:1
 returns-2 : tie.Need-returns-2
@@ -32,7 +32,7 @@ returns-2 c =
     let at-told = c .before in
     let at-call = at-told .before .before in
     let a = at-call .before .before .before .args in
-    rw (sym (handed-verdict (partial (a .rec) (now (a .payload)) (now (a .marks))) _ (at-call .hand-out-verdict .ensures)) ∙ at-told .enum-told .given .1)
+    rw (sym (handed-verdict (partial (a .rec) (now (a .payload)) (now (a .marks))) _ (at-call .hand-out-verdict .ensures)) ∙ at-told .enum-told .given .1) refl
 
 pub locate-spec : {M : Type 1} → statement M
 locate-spec =
