@@ -186,7 +186,7 @@ module _ {M : Type 1} (𝓤 : URA M) (H : Heap 𝓤) (A : Atoms 𝓤) (W : Given
       (λ κs. (LL.tells R.the-type R′.the-laws, (shr-slice-tells (named 0) (κs .0) u8, (shr-slice-tells (named 1) (κs .1 .0) u8, tt))))
       (λ κs qs bounds a g are. via 𝓤 _ (fst∗ 𝓤 _ (emp 𝓤))
       (walk 𝓤 H A W mem run (κs .0) (κs .1 .0) (qs .0) (qs .1 .0) (a .0) (only (LL.vals R.the-type R′.the-laws (a .0))) (a .1 .0)
-          (a .1 .1 .0) C Λ fm known-locate known-part (are .0) (are .1 .0) (are .1 .1 .0)))
+      (a .1 .1 .0) C Λ fm known-locate known-part (are .0) (are .1 .0) (are .1 .1 .0)))
 
 meets : {M : Type 1} (𝓤 : URA M) (H : Heap 𝓤) (A : Atoms 𝓤) (W : Given 𝓤 H A) (mem : Memory → SProp 𝓤) (run : Routine → Fun 𝓤) (𝓣 : Tables 𝓤 H)
     → Triple 𝓤 (𝓣 .C #locate) (Locate 𝓤 H A mem run) → Triple 𝓤 (𝓣 .C #part-of) (PartOf 𝓤 H A mem run)
