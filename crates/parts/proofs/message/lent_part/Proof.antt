@@ -16,7 +16,7 @@ use ghost.Atoms.{Atoms, sem}
 use contract.Lifetimes.{Lfts, Shares}
 use contract.Monad.{Fun, fact}
 use contract.Running.{givenOf, tables, tablesOf}
-use types.Kit.{Given, ‵, raw, _⊛_, ⋆, some, later, _$_, _∵_, !, qed, by, move, drop, use1, use2, split, join, pick, fsplit, fjoin, suffices, frame, await, done}
+use types.Kit.{Given, ‵, raw, _⊛_, ⋆, some, later, _$_, _∵_, !, qed, by, move, drop, use1, use2, split, join, pick, fjoin, suffices, frame, await, done}
 use types.Run.{look, init, forget, stop, from, load, and-then, no-more, land, returns, enter, alloc1, alloc0, params1, pass1, pass0, free1, free0}
 use sound.WpLaws.{FmC, fmOf, WpFn-mono}
 use denote.RattleType.{owns}
@@ -25,7 +25,7 @@ use denote.Plain.{uint-makes, uint-vals, uint-tells}
 use denote.Builtin.{u8, u16, usize}
 use denote.Ref.{RefT, now}
 use denote.Signature.{plain, namedLft}
-use denote.Slice.{sliceVal, ShrSlice, slice-vals, shr-slice-tells, shr-slice-lawful, shr-slice-copy}
+use denote.Slice.{sliceVal, ShrSlice, slice-vals, shr-slice-tells, shr-slice-lawful}
 use denote.Steps.{peeks, heard, nothing, owned}
 use denote.Struct.Laws as LL
 use denote.Triple.Statement.{Contract, Triple}
@@ -42,7 +42,7 @@ use Rattle.network_message.specs.Envelope.{messagePlaceAt}
 use Rattle.parts.specs.Part.{messageLocated}
 use Rattle.parts.specs.declared.part.Part.{Part}
 use Rattle.parts.specs.declared.part.Located.{Located}
-use Rattle.parts.proofs.PartCall.{PartOf, to-part, asks-part, part-said, PartTells}
+use Rattle.parts.proofs.PartCall.{PartOf, to-part, asks-part, part-said, PartTells, kept}
 use Rattle.parts.proofs.PartBytes.{message-told}
 use Rattle.parts.proofs.part.Part as T
 use Rattle.parts.proofs.part.Part.Laws as T′
@@ -111,16 +111,8 @@ module _ {M : Type 1} (𝓤 : URA M) (H : Heap 𝓤) (A : Atoms 𝓤) (W : Given
 
   goes-locate : ent 𝓤 (onEntry 𝓤 H A lent.signature κs qs (s, (t, (k, tt))) at) (sep 𝓤 (Locate 𝓤 H A mem run .pre to-locate) (sep 𝓤 (sem 𝓤 H A S) (sep 𝓤 (sem 𝓤 H A S) (sem 𝓤 H A U))))
   goes-locate =
-      qed W ((‵ (flft κ q) ⊛ ‵ (flft κ′ q′) ⊛ ‵ ftrue) ∷ ‵ given-all ∷ []) ∵
-      move ! (1 ∷ []) $ fsplit ! $ use1 W (‵ S ⊛ ‵ S) (shr-slice-copy 𝓤 H A W (named 0) κ u8 .twice s (v ∷ [])) $ split ! $
-      use1 W (‵ S ⊛ ‵ S) (shr-slice-copy 𝓤 H A W (named 0) κ u8 .twice s (v ∷ [])) $ split ! $
-      -- [s; s; s; t and k; the tokens]
-      move ! (3 ∷ []) $ fsplit ! $ use1 W (‵ U ⊛ ‵ U) (shr-slice-copy 𝓤 H A W (named 1) κ′ u16 .twice t (v′ ∷ [])) $ split ! $
-      -- [t; t; k; s; s; s; the tokens]
-      move ! (1 ∷ 2 ∷ []) $ fjoin ! $ move ! (2 ∷ 0 ∷ []) $ fjoin ! $ move ! (4 ∷ 0 ∷ []) $
-      use2 W (raw (Locate 𝓤 H A mem run .pre to-locate)) (qed W ((‵ (flft κ q) ⊛ ‵ (flft κ′ q′) ⊛ ‵ ftrue) ∷ ‵ given-all ∷ []) ∵ join ! $ frame ! $ done !) $
-      -- [what `locate` asks; t; s; s]
-      frame ! $ move ! (1 ∷ 2 ∷ 0 ∷ []) $ frame ! $ frame ! $ done !
+      kept 𝓤 H A W κ κ′ q q′ s u16 t (usize ∷ []) (k, tt) (vint w64 k ∷ [], tt) (Locate 𝓤 H A mem run .pre to-locate)
+      (qed W ((‵ (flft κ q) ⊛ ‵ (flft κ′ q′) ⊛ ‵ ftrue) ∷ ‵ given-all ∷ []) ∵ join ! $ frame ! $ done !)
 
   locate-said : (l : Located) → ent 𝓤 (ensured 𝓤 H A locate.ended (locate.clauses 𝓤 H A mem run) κs (s, (t, (k, tt))) tt l) (fact 𝓤 (l ≡ found))
   locate-said l = exE 𝓤 _ (λ ws. snd∗ 𝓤 (sem 𝓤 H A (lasts locate.ended κs (s, (t, (k, tt))) ws)) (fact 𝓤 (l ≡ found)))
