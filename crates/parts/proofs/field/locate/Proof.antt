@@ -2,10 +2,10 @@ use mathlib.Core.Path.{refl, sym}
 use Rattle.wire.proofs.Reading.{told}
 use Rattle.dataset_fields.specs.Fields.{answerField}
 use borrow.Author.Needs.{needs}
-use Rattle.field_part.proofs.locate.Statement.{statement}
-use Rattle.field_part.proofs.locate.Tie as tie
-use Rattle.field_part.proofs.locate.Reads as reads
-use Rattle.field_part.proofs.locate.Lts as lts
+use Rattle.parts.proofs.field.locate.Statement.{statement}
+use Rattle.parts.proofs.field.locate.Tie as tie
+use Rattle.parts.proofs.field.locate.Reads as reads
+use Rattle.parts.proofs.field.locate.Lts as lts
 use Rattle.dataset_message.proofs.message.field_place.Reads as field-place-reads
 
 -- src/lib.rt:28:11
