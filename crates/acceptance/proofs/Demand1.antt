@@ -1,6 +1,6 @@
 -- Demand 1 holds: each field by the theorem that proves it. Assumes nothing.
 use Prim.Native.Nat.{ℕ, zero, suc, _+_, _*_, _%_, _≤_, _<_}
-use mathlib.Core.Path.{_≡_, refl, sym, subst, ap, _∙_}
+use mathlib.Core.Path.{_≡_, refl, sym, subst, ap}
 use mathlib.Core.Bool.{Bool, true, false, cond, false≢true}
 use mathlib.Core.List.{List, [], _∷_}
 use mathlib.Core.Logic.{_⊎_, inl, inr}
@@ -27,9 +27,8 @@ use Rattle.dataset_header.specs.Flags.{Valid, notValid, valid}
 use Rattle.dataset_fields.specs.Fields.{fieldAt, nextFieldAt, FieldStepped}
 use Rattle.dataset_fields.specs.declared.fields.Field.{Field}
 use Rattle.dataset_fields.specs.declared.fields.Cursor.{Cursor}
-use Rattle.dataset_message.specs.Message.{Message, messageAt, ofMessage, nthAt, fieldPlaceAt, fieldBytes}
+use Rattle.dataset_message.specs.Message.{Message, messageAt, ofMessage, nthAt, fieldPlaceAt}
 use Rattle.dataset_message.proofs.Agreement.{message-agrees}
-use Rattle.chunk.specs.Datagram.{chunkAt}
 use Rattle.chunk.specs.Cutting.{cutRule, cutData, cutFault, chunkBytes, cutAnswer, cutBuffer}
 use Rattle.walk.specs.Lines.{Writers, answerLines}
 use Rattle.walk_records.specs.Walk.{walkOf, walkLines, recordsPut}
@@ -49,7 +48,7 @@ use Rattle.uadp_c.specs.Messages.{messageResult, envelopeAfter, placeAfter}
 use Rattle.uadp_c.specs.Sequence.{newnessNumber, newnessResult, newnessAfter}
 use Rattle.uadp_c.specs.Walks.{walkResult}
 use Rattle.uadp_c.specs.Writing.{writerResult, outputResult}
-use Rattle.acceptance.specs.Refusals.{Refusal, StepRefusal, datagramNumbers, valueNumbers, fieldStepNumbers, fieldNumbers, cutNumbers}
+use Rattle.acceptance.specs.Refusals.{Refusal, StepRefusal, datagramRefusals, valueRefusals, fieldStepRefusals, fieldRefusals, cutRefusals}
 use Rattle.acceptance.specs.Demand1.{Demand1, IsRefused}
 use Rattle.acceptance.proofs.Refusals.{Tells, with13, allOf, told, wider, no-place, cond-tells, then-tells, run-lawful}
 use Rattle.acceptance.proofs.Refusals.Tells.{gives, refuses}
@@ -57,7 +56,7 @@ use Rattle.acceptance.proofs.RefusedDatagrams.{datagramOthers, datagram
 use Rattle.acceptance.proofs.Tiling.{payload-first}
 use Rattle.acceptance.proofs.RefusedCalls.{placed}
 use Rattle.acceptance.proofs.RefusedWriters as refusals
-use Rattle.acceptance.proofs.RefusedMessages.{fieldOthers, messageOthers, message-tells, value-lawful, raw-lawful, field-lawful}
+use Rattle.acceptance.proofs.RefusedMessages.{fieldOthers, messageOthers, message-tells, value-lawful, field-lawful}
 
 -- what an answer tells where it is a refusal, of so many bytes, and of a byte that the caller named
 abbrev ToldAt : {A : Type 0} → List ℕ → ℕ → ℕ → Answer A → Type 0
@@ -75,12 +74,12 @@ unfolding valueAt
 value-past zero t s at h = rw (lt-leb (at + 1) (length s) (omega arith))
 value-past (suc levels) t s at h = by-bool _ (eqb t 23) (λ b. rw (b, lt-leb (at + 1) (length s) (omega arith))) (λ b. rw (b, lt-leb (at + 1) (length s) (omega arith)))
 
-value-told : (t : ℕ) (s : List ℕ) (at : ℕ) → ToldAt valueNumbers (length s) at (valueAt 100 t s at)
+value-told : (t : ℕ) (s : List ℕ) (at : ℕ) → ToldAt valueRefusals (length s) at (valueAt 100 t s at)
 value-told t s at =
-    by-lt _ (length s) at (λ h. subst (ToldAt valueNumbers (length s) at) (sym (value-past 100 t s at h)) (inr (refl, refl)))
-    (λ h. within valueNumbers at refl (value-lawful 100 t .tells s at h))
+    by-lt _ (length s) at (λ h. subst (ToldAt valueRefusals (length s) at) (sym (value-past 100 t s at h)) (inr (refl, refl)))
+    (λ h. within valueRefusals at refl (value-lawful 100 t .tells s at h))
 
-raw-told : (t : ℕ) (s : List ℕ) (at : ℕ) → ToldAt valueNumbers (length s) at (rawAt t s at)
+raw-told : (t : ℕ) (s : List ℕ) (at : ℕ) → ToldAt valueRefusals (length s) at (rawAt t s at)
 raw-told t s at =
     by-bool _ (fixed t)
     (λ b. by-bool _ (leb (at + widthOf t) (length s)) (λ l. rw (b, l) tt) (λ l. rw (b, l) (inr (refl, refl))))
@@ -133,32 +132,32 @@ step-told p sizes c s =
     (λ b. by-bool _ (leb (c .at + sizeOfMessage (p .sizes) sizes (c .index) s (c .at)) (length s)) (λ l. rw (b, l) tt) (λ l. rw (b, l) (inr (refl, refl))))
 
 -- ---- fields
-field-told : (c : Cursor) (types s : List ℕ) → ToldAt fieldStepNumbers (length s) (c .at) (nextFieldAt c types s)
+field-told : (c : Cursor) (types s : List ℕ) → ToldAt fieldStepRefusals (length s) (c .at) (nextFieldAt c types s)
 field-told c types s = go (ltb (length s) (c .at)) refl
   where
     stepped : Field → ℕ → FieldStepped
     stepped f end =
         record { field = f; cursor = record { encoding = c .encoding; delta = c .delta; next = c .next + 1; count = c .count; at = end } }
 
-    step : (x : Answer Field) → Tells fieldOthers (length s) x → ToldAt fieldStepNumbers (length s) (c .at) (andThen x (λ f end. got (stepped f end) end))
+    step : (x : Answer Field) → Tells fieldOthers (length s) x → ToldAt fieldStepRefusals (length s) (c .at) (andThen x (λ f end. got (stepped f end) end))
     step (got f end) t = tt
     step (refused n place) (refuses r) = inl (wider refl r)
 
-    go : (b : Bool) → ltb (length s) (c .at) ≡ b → ToldAt fieldStepNumbers (length s) (c .at) (nextFieldAt c types s)
+    go : (b : Bool) → ltb (length s) (c .at) ≡ b → ToldAt fieldStepRefusals (length s) (c .at) (nextFieldAt c types s)
     go true e = rw e (inr (refl, refl))
     go false e =
         by-bool _ (leb (c .count) (c .next)) (λ b. rw (e, b) (inl (record { one = refl; nowhere = λ _. refl; inside = omega arith })))
         (λ b. rw (e, b) (step (fieldAt (c .delta) (c .encoding) types (c .next) s (c .at)) (field-lawful (c .delta) (c .encoding) types (c .next) .tells s (c .at) (ltb-false (length s) (c .at) e))))
 
-field-lookup-told : (types s : List ℕ) (k n place : ℕ) → fieldPlaceAt types k s ≡ refused n place → Refusal fieldNumbers n place (length s)
+field-lookup-told : (types s : List ℕ) (k n place : ℕ) → fieldPlaceAt types k s ≡ refused n place → Refusal fieldRefusals n place (length s)
 field-lookup-told types s k n place e = go (messageAt types s) refl (message-tells types s) e
   where
-    past : Refusal fieldNumbers 10 0 (length s)
+    past : Refusal fieldRefusals 10 0 (length s)
     past = record { one = refl; nowhere = λ _. refl; inside = omega arith }
 
     tells : Answer Field → Type 0
     tells (got f next) = Unit {0}
-    tells (refused m p) = Refusal fieldNumbers m p (length s)
+    tells (refused m p) = Refusal fieldRefusals m p (length s)
 
     found : (m : Message) (next : ℕ) → messageAt types s ≡ got (valid m) next → tells (nthAt (m .cursor) types k s)
     found m next q =
@@ -166,7 +165,7 @@ field-lookup-told types s k n place e = go (messageAt types s) refl (message-tel
         (λ b. let a = message-agrees types s m next q k (leb-false (m .cursor .count) k b) in subst tells (sym (a .looked-up)) tt)
 
     go : (x : Answer (Valid Message)) → messageAt types s ≡ x → Tells messageOthers (length s) x → andThen x (λ m _. ofMessage m types k s) ≡ refused n place
-        → Refusal fieldNumbers n place (length s)
+        → Refusal fieldRefusals n place (length s)
     go (got notValid next) q t f = subst tells f past
     go (got (valid m) next) q t f = subst tells f (found m next q)
     go (refused m p) q (refuses r) f = subst tells f (wider refl r)
@@ -183,7 +182,7 @@ writer-told : (output : Output) (entry exit : List ℕ) (n : ℕ) → Writes out
 writer-told output entry exit n w = (unchanged output w, ap answerWritten (sym (w .answer)))
 
 -- the number of a refused cutting
-cut-number : (p : List ℕ) (size k room : ℕ) → (cutFault p size k room ≡ 0) ⊎ (oneOf cutNumbers (cutFault p size k room) ≡ true)
+cut-number : (p : List ℕ) (size k room : ℕ) → (cutFault p size k room ≡ 0) ⊎ (oneOf cutRefusals (cutFault p size k room) ≡ true)
 unfolding cutFault cutRule
 cut-number p size k room =
     let total = length p in
@@ -194,15 +193,15 @@ cut-number p size k room =
     (λ e. by-bool _ (ltb room (14 + length (cutData p size k))) (λ f. rw (a, b, d, e, f) (inr refl)) (λ f. rw (a, b, d, e, f) (inl refl))))))
 
 cut-told : (p : List ℕ) (number size k : ℕ) (out : List ℕ) (n : ℕ) → cutAnswer p number size k (length out) ≡ Written.Refused n
-    → (oneOf cutNumbers n ≡ true) × (cutBuffer p number size k out ≡ out)
+    → (oneOf cutRefusals n ≡ true) × (cutBuffer p number size k out ≡ out)
 unfolding cutAnswer cutBuffer
 cut-told p number size k out n e = go (eqb (cutFault p size k (length out)) 0) refl (cut-number p size k (length out))
   where
-    go : (b : Bool) → eqb (cutFault p size k (length out)) 0 ≡ b → (cutFault p size k (length out) ≡ 0) ⊎ (oneOf cutNumbers (cutFault p size k (length out)) ≡ true)
-        → (oneOf cutNumbers n ≡ true) × (cutBuffer p number size k out ≡ out)
+    go : (b : Bool) → eqb (cutFault p size k (length out)) 0 ≡ b → (cutFault p size k (length out) ≡ 0) ⊎ (oneOf cutRefusals (cutFault p size k (length out)) ≡ true)
+        → (oneOf cutRefusals n ≡ true) × (cutBuffer p number size k out ≡ out)
     go true b c = absurd (not-refused (rw b at e))
     go false b (inl c) = absurd (false≢true (sym (rw c at b)))
-    go false b (inr c) = (subst (λ (m : ℕ). oneOf cutNumbers m ≡ true) (refused-number (rw b at e)) c, rw b)
+    go false b (inr c) = (subst (λ (m : ℕ). oneOf cutRefusals m ≡ true) (refused-number (rw b at e)) c, rw b)
 
 listing-told : (out text : List ℕ) (n : ℕ) → textWritten out text ≡ Written.Refused n → (n ≡ 11) × (textAfter out text ≡ out)
 listing-told out text n e =
@@ -214,14 +213,14 @@ walk-clash e = let z : _≡_ {A = ℕ} 0 1 = cc in absurd (omega arith)
 
 abbrev toldBy : ℕ → Walked → Type 0
 toldBy bytes (Walked.Is k) = Unit {0}
-toldBy bytes (Walked.Refused n place) = Refusal datagramNumbers n place bytes
+toldBy bytes (Walked.Refused n place) = Refusal datagramRefusals n place bytes
 
 walk-told : (w : Writers) (d out : List ℕ) (n place : ℕ) → walkOf w d ≡ Walked.Refused n place
-    → Refusal datagramNumbers n place (length d) × (recordsPut 0 (walkLines w d) out ≡ out)
+    → Refusal datagramRefusals n place (length d) × (recordsPut 0 (walkLines w d) out ≡ out)
 walk-told w d out n place e = go (networkMessageAt (w .sizes) d) refl (datagram-tells (w .sizes) d)
   where
     go : (x : Answer NetworkMessage) → networkMessageAt (w .sizes) d ≡ x → Tells datagramOthers (length d) x
-        → Refusal datagramNumbers n place (length d) × (recordsPut 0 (walkLines w d) out ≡ out)
+        → Refusal datagramRefusals n place (length d) × (recordsPut 0 (walkLines w d) out ≡ out)
     go (got m next) q t =
         absurd (walk-clash (rw q at e))
     go (refused m p) q (refuses r) =
@@ -282,14 +281,14 @@ demand-1 = record {
   datagram = λ sizes s n place e. told (datagram-tells sizes s) e;
   message = λ types s n place e. told (message-tells types s) e;
   chunk = λ sizes s n place e. told (chunk-tells sizes s) e;
-  variant = λ s at n place e. subst (ToldAt valueNumbers (length s) at) e (value-told 24 s at);
-  data-value = λ s at n place e. subst (ToldAt valueNumbers (length s) at) e (value-told 23 s at);
-  raw = λ t s at n place e. subst (ToldAt valueNumbers (length s) at) e (raw-told t s at);
+  variant = λ s at n place e. subst (ToldAt valueRefusals (length s) at) e (value-told 24 s at);
+  data-value = λ s at n place e. subst (ToldAt valueRefusals (length s) at) e (value-told 23 s at);
+  raw = λ t s at n place e. subst (ToldAt valueRefusals (length s) at) e (raw-told t s at);
   configuration = configuration-told;
   message-lookup = λ sizes s k n place e. (told (lookup-tells sizes s k) e, no-part sizes s k n place e);
   message-step = λ p sizes c s n place e. subst (ToldAt (1 ∷ 10 ∷ []) (length s) (c .at)) e (step-told p sizes c s);
   field-lookup = λ types s k n place e. (field-lookup-told types s k n place e, rw e);
-  field-step = λ c types s n place e. subst (ToldAt fieldStepNumbers (length s) (c .at)) e (field-told c types s);
+  field-step = λ c types s n place e. subst (ToldAt fieldStepRefusals (length s) (c .at)) e (field-told c types s);
   writer = writer-told;
   datagram-writer = refusals.datagram-writer;
   message-writer = refusals.message-writer;

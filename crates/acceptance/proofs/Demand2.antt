@@ -1,28 +1,25 @@
 -- Demand 2 holds: each field by the theorem that proves it. Assumes nothing.
 use Prim.Native.Nat.{ℕ, _*_, _/_, _≤_, _<_}
-use mathlib.Core.Path.{_≡_, refl, sym, ap, subst, _∙_}
-use mathlib.Core.Bool.{Bool, true, false, cond, not, _&&_}
-use mathlib.Core.List.{List, [], _∷_, _++_}
-use mathlib.Core.Logic.{_⊎_, inl, inr}
+use mathlib.Core.Path.{_≡_, sym, ap, subst, _∙_}
+use mathlib.Core.Bool.{not, _&&_}
+use mathlib.Core.List.{List, [], _∷_}
+use mathlib.Core.Logic.{inl, inr}
 use native.Mathlib.Omega.{arith}
 use borrow.Author.Tests.{lt-ltb, le-ltb}
 use lib.Dec.{eqb}
 use lib.ListN.{length, take, drop}
 use Rattle.wire.specs.Number.{le}
 use Rattle.wire.specs.Answer.{Answer, got, bit}
-use Rattle.wire.specs.declared.optional.Optional16.{Optional16}
 use Rattle.wire.proofs.Cases.{by-bool}
 use Rattle.wire_writer.specs.Writing.{writing, Writes, afterReading}
 use Rattle.wire_writer.specs.declared.writing.Written.{Written}
-use Rattle.wire_writer.proofs.Answering.{reported, fitting-written}
+use Rattle.wire_writer.proofs.Answering.{fitting-written}
 use Rattle.config.specs.Writers.{typesOf}
 use Rattle.network_header.specs.Envelope.{FitsEnvelope}
 use Rattle.network_header.specs.declared.envelope.Envelope.{Envelope}
-use Rattle.network_header.specs.declared.header.PayloadHeader.{PayloadHeader}
 use Rattle.network_message.specs.Payload.{OfMessages}
 use Rattle.network_message.specs.Envelope.{NetworkMessage, networkMessageAt, messagePlaceAt, messageBytes}
 use Rattle.network_message_writer.specs.Envelope as N
-use Rattle.network_message_writer.proofs.Again.{accepted-short}
 use Rattle.dataset_header.specs.Flags.{Valid, valid}
 use Rattle.dataset_message.specs.Message.{Message, messageAt}
 use Rattle.dataset_message_writer.specs.Message as M
@@ -157,6 +154,7 @@ demand-2 = record {
   message-again = message-copied;
   datagram-number-first = datagram.reading-number-first;
   datagram-refused-alike = datagram.refuses-alike;
+  message-number-alike = λ types m f. number.number-alike types m (f .header) (f .indices);
   message-refused-alike = λ types m f a n z s. number.refused-alike types m (f .header) (f .indices) a n z s;
   message-refused-plainly = λ types m f. plain.refuse-written types m (f .header) (f .indices);
   datagram-accepted-exactly = λ g x sizes configured f a l.

@@ -1,32 +1,29 @@
 -- Demand 3 holds: each field by the theorem that proves it. Assumes nothing.
 use Prim.Native.Nat.{ℕ, _≤_}
-use mathlib.Core.Path.{_≡_, refl, subst, sym}
-use mathlib.Core.Bool.{true, false≢true}
-use mathlib.Core.List.{List, [], _∷_}
-use mathlib.Core.Logic.{inl, inr}
-use native.Mathlib.Omega.{arith}
-use lib.Dec.{eqb}
+use mathlib.Core.Path.{_≡_}
+use mathlib.Core.List.{List}
 use lib.ListN.{length}
-use borrow.Author.Tests.{eqb-true}
-use Rattle.wire.specs.Answer.{Answer, got, refused}
-use Rattle.chunk.specs.Datagram.{chunkAt}
-use Rattle.chunk.specs.declared.datagram.ChunkPlace.{ChunkPlace}
-use Rattle.reassembly.specs.Reading.{readingBy, readingAt}
-use Rattle.reassembly.specs.Reading.Reading.{chunk, refusal}
-use Rattle.reassembly.specs.Machine.{Call}
-use Rattle.reassembly.specs.Machine.Call.{Empty, Take, Combine, Ask, HandOut}
-use Rattle.reassembly_laws.specs.Refusing.{oneOf, ByNumber, MayRefuse}
-use Rattle.wire.proofs.Cases.{by-bool}
+use Rattle.wire.specs.Answer.{refused}
+use Rattle.reassembly.specs.Reading.Reading.{chunk}
 use Rattle.reassembly_laws.proofs.Demand3 as laws
 use Rattle.reassembly_laws.proofs.Equality as Equality
 use Rattle.reassembly_laws.proofs.Refusing as Refusing
 use Rattle.reassembly_laws.proofs.Cutting as Cutting
 use Rattle.reassembly_laws.proofs.Layouts as Layouts
+use Rattle.config_text.specs.Config.{configOf}
+use Rattle.records.specs.Result.{filledIn}
+use Rattle.records.specs.Sizes.{CONFIG_SIZE}
+use Rattle.records.specs.Writers.{ConfigBack, configFilling}
+use Rattle.records.proofs.ConfigBack.{config-back}
+use Rattle.records.proofs.ConfigFits.{config-fits}
 use Rattle.partial_record.proofs.Back as Back
 use Rattle.uadp_c.proofs.Demand3 as lent
-use Rattle.acceptance.specs.Refusals.{Refusal}
 use Rattle.acceptance.specs.Demand3.{Demand3}
 use Rattle.acceptance.proofs.RefusedCalls.{placed}
+
+-- the record of an accepted configuration text
+config-read : (text r : List ℕ) → configOf text .number ≡ 0 → CONFIG_SIZE ≤ length r → ConfigBack (filledIn (configFilling (configOf text)) r) (configOf text .config)
+config-read text r e h = rw e (config-back (configOf text .config) r (config-fits text) h)
 
 pub demand-3 : Demand3
 demand-3 = record {
@@ -50,6 +47,7 @@ demand-3 = record {
   any-lent-list = lent.lent-list;
   lent-refused = lent.lent-refused;
   record-read-back = Back.partial-back;
+  config-read-back = config-read;
   same-in-layouts = Layouts.same-from-emptying;
   like-in-layout = Layouts.in-layout-same;
 }

@@ -3,7 +3,7 @@
 -- Assumes nothing.
 use Prim.Native.Nat.{ℕ, zero, suc, _+_, _≤_}
 use mathlib.Core.Path.{_≡_, refl, sym, subst}
-use mathlib.Core.Bool.{Bool, true, false, cond, not, _&&_, _||_, false≢true}
+use mathlib.Core.Bool.{Bool, true, false, cond, not, _&&_, false≢true}
 use mathlib.Core.List.{List, [], _∷_}
 use mathlib.Core.Logic.{_⊎_, inl, inr}
 use native.Mathlib.Omega.{arith}
@@ -121,7 +121,8 @@ pub guid-lawful : {others : List ℕ} → Lawful others guid
 guid-lawful = record { tells = λ s at h. taking-tells 16 _ s at h }
 
 -- what follows an answer
-pub then-tells : {others : List ℕ} {A B : Type 0} {hi : ℕ} {x : Answer A} {k : A → ℕ → Answer B} → Tells others hi x → ((a : A) (next : ℕ) → next ≤ hi → Tells others hi (k a next)) → Tells others hi (andThen x k)
+pub then-tells : {others : List ℕ} {A B : Type 0} {hi : ℕ} {x : Answer A} {k : A → ℕ → Answer B} → Tells others hi x → ((a : A) (next : ℕ) → next ≤ hi → Tells others hi (k a next))
+    → Tells others hi (andThen x k)
 then-tells (gives {a} {next} h) f = f a next h
 then-tells (refuses r) f = refuses r
 

@@ -14,8 +14,8 @@ use Rattle.reassembly.specs.Reading.{readingBy, readingAt}
 use Rattle.reassembly.specs.Reading.Reading.{chunk, refusal}
 use Rattle.reassembly.specs.Machine.{Call}
 use Rattle.reassembly.specs.Machine.Call.{Empty, Take, Combine, Ask, HandOut}
-use Rattle.reassembly_laws.specs.Refusing.{oneOf, ByNumber, MayRefuse}
-use Rattle.acceptance.specs.Refusals.{Refusal, callNumbers}
+use Rattle.reassembly_laws.specs.Refusing.{ByNumber, MayRefuse}
+use Rattle.acceptance.specs.Refusals.{Refusal, callRefusals}
 use Rattle.acceptance.specs.Calls.{bytesRead}
 use Rattle.acceptance.proofs.Refusals.{allOf, wider, wider-one, told}
 use Rattle.acceptance.proofs.RefusedDatagrams.{chunk-tells}
@@ -30,12 +30,12 @@ own-number d sizes n place e = go (chunkAt sizes d) e
     go (refused m p) q = cc
 
 -- by one of these numbers, at 0
-by-number : (bytes : ℕ) (l : List ℕ) (n place : ℕ) → allOf callNumbers l ≡ true → ByNumber l n place → Refusal callNumbers n place bytes
+by-number : (bytes : ℕ) (l : List ℕ) (n place : ℕ) → allOf callRefusals l ≡ true → ByNumber l n place → Refusal callRefusals n place bytes
 by-number bytes l n place a h =
-    subst (λ (p : ℕ). Refusal callNumbers n p bytes) (sym (h .1))
-    (record { one = wider-one l callNumbers a n (h .0); nowhere = λ _. refl; inside = omega arith })
+    subst (λ (p : ℕ). Refusal callRefusals n p bytes) (sym (h .1))
+    (record { one = wider-one l callRefusals a n (h .0); nowhere = λ _. refl; inside = omega arith })
 
-pub placed : (k : Call) (n place : ℕ) → MayRefuse k n place → Refusal callNumbers n place (bytesRead k)
+pub placed : (k : Call) (n place : ℕ) → MayRefuse k n place → Refusal callRefusals n place (bytesRead k)
 placed Empty n place h = absurd h
 placed (Take d sizes) n place (inl h) = by-number (length d) (12 ∷ 11 ∷ 13 ∷ 14 ∷ []) n place refl h
 placed (Take d sizes) n place (inr e) = wider refl (told (chunk-tells sizes d) (own-number d sizes n place e))

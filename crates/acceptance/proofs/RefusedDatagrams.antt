@@ -23,7 +23,7 @@ use Rattle.network_header.specs.declared.header.PayloadHeader.{PayloadHeader}
 use Rattle.chunk.specs.Payload as P
 use Rattle.chunk.specs.Datagram.{chunkAt}
 use Rattle.acceptance.proofs.Refusals.Tells.{gives, refuses}
-use Rattle.acceptance.proofs.Refusals.{Rule, n3, wider-tells, wider-lawful, Tells, Lawful, at-item, number, n1, no-place, pure-lawful, here-lawful, run-lawful, item-lawful, guid-lawful, length-lawful, ruled-lawful, bind-lawful, after-lawful, then-tells, cond-tells, cond-lawful, when-lawful, cond-rule, kept, optional16-lawful, optional32-lawful, optional-i64-lawful, picoseconds-lawful}
+use Rattle.acceptance.proofs.Refusals.{Rule, n3, wider-tells, Tells, Lawful, at-item, number, n1, no-place, pure-lawful, here-lawful, run-lawful, item-lawful, guid-lawful, length-lawful, ruled-lawful, bind-lawful, after-lawful, then-tells, cond-tells, cond-lawful, when-lawful, cond-rule, kept, optional16-lawful, optional32-lawful, optional-i64-lawful, picoseconds-lawful}
 
 -- the numbers beside 1 and 3: of a datagram, and of a chunk
 abbrev pub datagramOthers : List ℕ

@@ -24,7 +24,7 @@ use Rattle.dataset_header.specs.declared.flags.Encoding.{Encoding}
 use Rattle.dataset_header.specs.declared.flags.Kind.{Kind}
 use Rattle.dataset_header.specs.declared.header.Header.{Header}
 use Rattle.dataset_fields.specs.declared.fields.Cursor.{Cursor}
-use Rattle.acceptance.proofs.Refusals.{Rule, n3, wider-tells, wider-lawful, Tells, Lawful, at-item, number, no-place, pure-lawful, here-lawful, refuse-lawful, run-lawful, item-lawful, length-lawful, ruled-lawful, bind-lawful, after-lawful, then-tells, cond-tells, cond-lawful, when-lawful, each-lawful, cond-rule, kept, optional16-lawful, optional32-lawful, optional-i64-lawful, picoseconds-lawful}
+use Rattle.acceptance.proofs.Refusals.{Rule, n3, wider-lawful, Tells, Lawful, at-item, number, no-place, pure-lawful, here-lawful, refuse-lawful, run-lawful, item-lawful, length-lawful, ruled-lawful, bind-lawful, after-lawful, then-tells, cond-tells, cond-lawful, when-lawful, each-lawful, cond-rule, kept, optional16-lawful, optional32-lawful, optional-i64-lawful, picoseconds-lawful}
 use Rattle.acceptance.proofs.Refusals.Tells.{gives, refuses}
 
 -- the numbers beside 1 and 3: of a value, of a field, and of a DataSetMessage

@@ -1,20 +1,18 @@
 -- By which numbers the writers refuse.
 -- Assumes nothing.
-use Prim.Native.Nat.{ℕ, zero, suc, _+_, _*_, _-_, _≤_}
-use mathlib.Core.Path.{_≡_, refl, sym, subst, _∙_}
-use mathlib.Core.Bool.{Bool, true, false, cond, _&&_, _||_, not}
+use Prim.Native.Nat.{ℕ, zero, suc, _+_, _*_, _-_}
+use mathlib.Core.Path.{_≡_, refl, sym, subst}
+use mathlib.Core.Bool.{Bool, true, false, cond, _&&_, not}
 use mathlib.Core.List.{List, [], _∷_}
 use mathlib.Core.Logic.{_⊎_, inl, inr}
 use native.Mathlib.Omega.{arith}
-use borrow.Author.Tests.{eqb-true, eqb-false}
 use lib.Dec.{eqb, leb, ltb}
 use lib.ListN.{length, getD, take, drop}
 use Rattle.wire.specs.Lists.{total}
 use Rattle.wire.specs.Answer.{Answer, got, refused}
-use Rattle.wire.specs.Optional.{picosecondsRule}
 use Rattle.wire.specs.declared.optional.Optional16.{Optional16}
 use Rattle.wire.proofs.Cases.{by-bool}
-use Rattle.wire_writer.specs.Writing.{orElse, unused, roomRefusal, Output, unless, afterReading, writtenOf, Writes, on16, onI64, picosecondsRefusal}
+use Rattle.wire_writer.specs.Writing.{orElse, unused, Output, unless, writtenOf, Writes, on16, onI64, picosecondsRefusal}
 use Rattle.wire_writer.specs.declared.writing.Written.{Written}
 use Rattle.publisher_id.specs.Publisher.{publisherRefusal, publisherShape, textTooLong}
 use Rattle.publisher_id.specs.declared.publisher.PublisherId.{PublisherId}
@@ -34,14 +32,13 @@ use Rattle.plain_value.specs.Width.{fixed, widthOf}
 use Rattle.dataset_header.specs.Flags.{Valid, notValid, valid, kindRule, isRaw}
 use Rattle.dataset_header.specs.declared.flags.Encoding.{Encoding}
 use Rattle.dataset_header.specs.declared.flags.Kind.{Kind}
-use Rattle.dataset_fields.specs.Fields.{encodedAt, fieldsRefusal, numberOf, reached, zerosAt, paddingAt}
+use Rattle.dataset_fields.specs.Fields.{encodedAt, fieldsRefusal, numberOf, reached, zerosAt}
 use Rattle.dataset_message.specs.Message.{Message, messageAt}
-use Rattle.dataset_message_writer.specs.Message.{GivenMessage, isFielded, isRawData, isKey, givenFields, ownRefusal, missingRefusal, leftRefusal, rawRefusal, layoutRefusal, ownGiven, wholeGiven, listsGiven, layoutGiven, bodyRefusal, messageReadingRefusal, readsBack, messageRefusal, encode, messageOutput}
-use Rattle.dataset_message_writer.specs.Rewrite.{whereValid}
+use Rattle.dataset_message_writer.specs.Message.{GivenMessage, isFielded, isRawData, isKey, givenFields, missingRefusal, leftRefusal, rawRefusal, layoutRefusal, ownGiven, wholeGiven, listsGiven, layoutGiven, bodyRefusal, messageReadingRefusal, readsBack, messageRefusal, encode, messageOutput}
 use Rattle.round_trip.specs.NetworkMessage.{rewritten}
 use Rattle.rewriting.specs.Same.{messageSame, datagramSame}
 use Rattle.reassembly_laws.specs.Refusing.{oneOf}
-use Rattle.acceptance.specs.Refusals.{datagramWriterNumbers, messageWriterNumbers, datagramAgainNumbers, messageAgainNumbers}
+use Rattle.acceptance.specs.Refusals.{datagramWriterRefusals, messageWriterRefusals, datagramAgainRefusals, messageAgainRefusals}
 use Rattle.acceptance.proofs.Refusals.{Tells, with13, wider-one}
 use Rattle.acceptance.proofs.Refusals.Tells.{gives, refuses}
 use Rattle.acceptance.proofs.RefusedDatagrams.{datagramOthers, datagram-tells}
@@ -60,7 +57,7 @@ in-turn ns a b f h = either ns (eqb a 0) b a h f
 
 -- ---- the datagram's writer
 abbrev forDatagrams : List ℕ
-forDatagrams = datagramWriterNumbers
+forDatagrams = datagramWriterRefusals
 
 held : (b : Bool) → Number forDatagrams (cond b 0 6)
 held b = either forDatagrams b 0 6 (inl refl) (inr refl)
@@ -116,7 +113,8 @@ payload-number : (chunk : Bool) (h : PayloadHeader) (sizes lengths messages : Li
 payload-number true PayloadHeader.Absent sizes lengths messages = inr refl
 payload-number false PayloadHeader.Absent sizes lengths messages = configured-number (configuredSizes sizes) messages 0
 payload-number chunk (PayloadHeader.Ids n) sizes lengths messages =
-    either forDatagrams chunk 0 _ (inl refl) (either forDatagrams (leb n 1) (refusalNumber (restOnlyAt messages 0)) (listedRefusal n lengths (length messages)) (rest-number messages 0) (listed-number n lengths (length messages)))
+    either forDatagrams chunk 0 _ (inl refl)
+    (either forDatagrams (leb n 1) (refusalNumber (restOnlyAt messages 0)) (listedRefusal n lengths (length messages)) (rest-number messages 0) (listed-number n lengths (length messages)))
 payload-number chunk (PayloadHeader.Chunk w) sizes lengths messages = inl refl
 
 reading-number : (g : GivenDatagram) (x : Envelope) (sizes : List ℕ) → Number forDatagrams (datagramReadingRefusal g x sizes)
@@ -163,7 +161,7 @@ shape-number g x sizes configured =
 
 -- ---- the message's writer
 abbrev forMessages : List ℕ
-forMessages = messageWriterNumbers
+forMessages = messageWriterRefusals
 
 kind-number : (k : Kind) (e : Encoding) → Number forMessages (kindRule k e)
 kind-number Kind.Key e = inl refl
@@ -247,29 +245,29 @@ unless-number ns t e k (inr z) n room bytes q =
     by-bool _ (eqb k 0) (λ b. room-number ns t e n room bytes (rw b at q)) (λ b. subst (λ (i : ℕ). oneOf ns i ≡ true) (sym (refusal-of (rw b at q))) z)
 
 pub datagram-writer : (g : GivenDatagram) (x : Envelope) (sizes configured entry exit : List ℕ) (n : ℕ)
-    → Writes (datagramOutput g x sizes configured) entry exit (Written.Refused n) → oneOf datagramWriterNumbers n ≡ true
+    → Writes (datagramOutput g x sizes configured) entry exit (Written.Refused n) → oneOf datagramWriterRefusals n ≡ true
 datagram-writer g x sizes configured entry exit n w =
     unless-number forDatagrams refl refl (datagramRefusal g x sizes configured) (in-turn forDatagrams _ _ (reading-number g x sizes) (shape-number g x sizes configured))
     n (length entry) (datagramOf g x) (w .answer)
 
 pub message-writer : (types : List ℕ) (g : GivenMessage) (entry exit : List ℕ) (n : ℕ)
-    → Writes (messageOutput types g) entry exit (Written.Refused n) → oneOf messageWriterNumbers n ≡ true
+    → Writes (messageOutput types g) entry exit (Written.Refused n) → oneOf messageWriterRefusals n ≡ true
 message-writer types g entry exit n w = unless-number forMessages refl refl (messageRefusal types g) (refusal-number types g) n (length entry) (encode g) (w .answer)
 
 -- ---- rewriting
-pub datagram-again : (sizes s entry exit : List ℕ) (n : ℕ) → Writes (datagramSame sizes s) entry exit (Written.Refused n) → oneOf datagramAgainNumbers n ≡ true
+pub datagram-again : (sizes s entry exit : List ℕ) (n : ℕ) → Writes (datagramSame sizes s) entry exit (Written.Refused n) → oneOf datagramAgainRefusals n ≡ true
 datagram-again sizes s entry exit n w = go (networkMessageAt sizes s) refl (datagram-tells sizes s)
   where
-    go : (a : Answer NetworkMessage) → networkMessageAt sizes s ≡ a → Tells datagramOthers (length s) a → oneOf datagramAgainNumbers n ≡ true
-    go (got m next) q t = room-number datagramAgainNumbers refl refl n (length entry) (rewritten s) (rw q at (w .answer))
+    go : (a : Answer NetworkMessage) → networkMessageAt sizes s ≡ a → Tells datagramOthers (length s) a → oneOf datagramAgainRefusals n ≡ true
+    go (got m next) q t = room-number datagramAgainRefusals refl refl n (length entry) (rewritten s) (rw q at (w .answer))
     go (refused k place) q (refuses r) =
-        subst (λ (i : ℕ). oneOf datagramAgainNumbers i ≡ true) (sym (refusal-of (rw q at (w .answer)))) (wider-one (with13 datagramOthers) datagramAgainNumbers refl k (r .one))
+        subst (λ (i : ℕ). oneOf datagramAgainRefusals i ≡ true) (sym (refusal-of (rw q at (w .answer)))) (wider-one (with13 datagramOthers) datagramAgainRefusals refl k (r .one))
 
-pub message-again : (types s entry exit : List ℕ) (n : ℕ) → Writes (messageSame types s) entry exit (Written.Refused n) → oneOf messageAgainNumbers n ≡ true
+pub message-again : (types s entry exit : List ℕ) (n : ℕ) → Writes (messageSame types s) entry exit (Written.Refused n) → oneOf messageAgainRefusals n ≡ true
 message-again types s entry exit n w = go (messageAt types s) refl (message-tells types s)
   where
-    go : (a : Answer (Valid Message)) → messageAt types s ≡ a → Tells messageOthers (length s) a → oneOf messageAgainNumbers n ≡ true
-    go (got notValid next) q t = subst (λ (i : ℕ). oneOf messageAgainNumbers i ≡ true) (sym (refusal-of (rw q at (w .answer)))) refl
-    go (got (valid m) next) q t = room-number messageAgainNumbers refl refl n (length entry) s (rw q at (w .answer))
+    go : (a : Answer (Valid Message)) → messageAt types s ≡ a → Tells messageOthers (length s) a → oneOf messageAgainRefusals n ≡ true
+    go (got notValid next) q t = subst (λ (i : ℕ). oneOf messageAgainRefusals i ≡ true) (sym (refusal-of (rw q at (w .answer)))) refl
+    go (got (valid m) next) q t = room-number messageAgainRefusals refl refl n (length entry) s (rw q at (w .answer))
     go (refused k place) q (refuses r) =
-        subst (λ (i : ℕ). oneOf messageAgainNumbers i ≡ true) (sym (refusal-of (rw q at (w .answer)))) (wider-one (with13 messageOthers) messageAgainNumbers refl k (r .one))
+        subst (λ (i : ℕ). oneOf messageAgainRefusals i ≡ true) (sym (refusal-of (rw q at (w .answer)))) (wider-one (with13 messageOthers) messageAgainRefusals refl k (r .one))

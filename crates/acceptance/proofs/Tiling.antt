@@ -8,7 +8,7 @@ use lib.Dec.{ltb, leb, eqb}
 use native.Mathlib.Omega.{arith}
 use lib.ListN.{length}
 use Rattle.wire.specs.Lists.{total}
-use Rattle.wire.specs.Answer.{Answer, got, refused, andThen}
+use Rattle.wire.specs.Answer.{Answer, got, refused}
 use Rattle.wire.proofs.Cases.{by-bool}
 use Rattle.wire.proofs.Reading.{got-value, got-next, not-got, invert}
 use Rattle.network_header.specs.Flags.{flagsAt}

@@ -1,7 +1,7 @@
 -- DEMAND 1 as one type: a field for each sentence, the sentence above it. proofs/Demand1.antt gives a value of it. "Any datagram, any
 -- configuration text, any reassembly area, any made-up record or cursor gets an answer; the caller has checked nothing": no public function
--- has a `requires`, and each contract is an equation with a definition that answers for every argument. What is left to say is what a refusal
--- tells, and that it leaves every lent byte as it was. The terms are those of the contracts.
+-- has a `requires`, and each contract is an equation with a definition that answers for every argument. What is left to say is what a
+-- refusal tells, and that it leaves every lent byte as it was. The terms are those of the contracts.
 use Prim.Native.Nat.{ℕ, _≤_, _%_}
 use mathlib.Core.Path.{_≡_}
 use mathlib.Core.Bool.{true}
@@ -46,7 +46,7 @@ use Rattle.uadp_c.specs.History.{LentCall, Called, Unchanged}
 use Rattle.uadp_c.specs.Sequence.{newnessResult, newnessAfter}
 use Rattle.uadp_c.specs.Walks.{walkResult}
 use Rattle.uadp_c.specs.Writing.{writerResult, outputResult}
-use Rattle.acceptance.specs.Refusals.{Refusal, StepRefusal, datagramNumbers, chunkNumbers, valueNumbers, messageNumbers, fieldStepNumbers, fieldNumbers, cutNumbers, callNumbers, datagramWriterNumbers, messageWriterNumbers, datagramAgainNumbers, messageAgainNumbers}
+use Rattle.acceptance.specs.Refusals.{Refusal, StepRefusal, datagramRefusals, chunkRefusals, valueRefusals, messageRefusals, fieldStepRefusals, fieldRefusals, cutRefusals, callRefusals, datagramWriterRefusals, messageWriterRefusals, datagramAgainRefusals, messageAgainRefusals}
 use Rattle.acceptance.specs.Calls.{bytesRead}
 
 -- a C result's number is not 0
@@ -57,50 +57,50 @@ pub record Demand1 : Type 0 where
   -- ---- "Every refusal .. returns the number and a place: the first byte of the offending item; the line from 1 for number 16; 0 for 8 and
   -- 10 to 15. Places count from the read slice's start".
   -- Of a datagram, of a DataSetMessage and of a chunk.
-  pub datagram : (sizes s : List ℕ) (n place : ℕ) → networkMessageAt sizes s ≡ refused n place → Refusal datagramNumbers n place (length s)
-  pub message : (types s : List ℕ) (n place : ℕ) → messageAt types s ≡ refused n place → Refusal messageNumbers n place (length s)
-  pub chunk : (sizes s : List ℕ) (n place : ℕ) → chunkAt sizes s ≡ refused n place → Refusal chunkNumbers n place (length s)
+  pub datagram : (sizes s : List ℕ) (n place : ℕ) → networkMessageAt sizes s ≡ refused n place → Refusal datagramRefusals n place (length s)
+  pub message : (types s : List ℕ) (n place : ℕ) → messageAt types s ≡ refused n place → Refusal messageRefusals n place (length s)
+  pub chunk : (sizes s : List ℕ) (n place : ℕ) → chunkAt sizes s ≡ refused n place → Refusal chunkRefusals n place (length s)
   -- Of a value measured at any position: a Variant, a DataValue, an element of RawData of any type.
-  pub variant : (s : List ℕ) (at n place : ℕ) → variantAt s at ≡ refused n place → StepRefusal valueNumbers n place (length s) at
-  pub data-value : (s : List ℕ) (at n place : ℕ) → dataValueAt s at ≡ refused n place → StepRefusal valueNumbers n place (length s) at
-  pub raw : (t : ℕ) (s : List ℕ) (at n place : ℕ) → rawAt t s at ≡ refused n place → StepRefusal valueNumbers n place (length s) at
+  pub variant : (s : List ℕ) (at n place : ℕ) → variantAt s at ≡ refused n place → StepRefusal valueRefusals n place (length s) at
+  pub data-value : (s : List ℕ) (at n place : ℕ) → dataValueAt s at ≡ refused n place → StepRefusal valueRefusals n place (length s) at
+  pub raw : (t : ℕ) (s : List ℕ) (at n place : ℕ) → rawAt t s at ≡ refused n place → StepRefusal valueRefusals n place (length s) at
   -- Of a configuration text: 16, and the line that breaks a rule, counted from 1.
   pub configuration : (text : List ℕ) → (configOf text .number ≡ 0 → ⊥)
       → (configOf text .number ≡ BAD_LINE) × (1 ≤ configOf text .place) × (configOf text .place ≤ length (linesOf text))
   -- ---- Of looking message k up, and of a step from message to message with a cursor and a payload that may be made up. A part that is
   -- refused is empty.
   pub message-lookup : (sizes s : List ℕ) (k n place : ℕ) → messagePlaceAt sizes k s ≡ refused n place
-      → Refusal datagramNumbers n place (length s) × (messageBytes (messagePlaceAt sizes k s) s ≡ [])
-  pub message-step : (p : Payload) (sizes : List ℕ) (c : MessageCursor) (s : List ℕ) (n place : ℕ) → placeStepAt p sizes c s ≡ refused n place
-      → StepRefusal (CUT_SHORT ∷ OVER_LIMIT ∷ []) n place (length s) (c .at)
+      → Refusal datagramRefusals n place (length s) × (messageBytes (messagePlaceAt sizes k s) s ≡ [])
+  pub message-step : (p : Payload) (sizes : List ℕ) (c : MessageCursor) (s : List ℕ) (n place : ℕ)
+      → placeStepAt p sizes c s ≡ refused n place → StepRefusal (CUT_SHORT ∷ OVER_LIMIT ∷ []) n place (length s) (c .at)
   -- Of looking field k up, and of a step from field to field with a cursor that may be made up.
   pub field-lookup : (types s : List ℕ) (k n place : ℕ) → fieldPlaceAt types k s ≡ refused n place
-      → Refusal fieldNumbers n place (length s) × (fieldBytes (fieldPlaceAt types k s) s ≡ [])
+      → Refusal fieldRefusals n place (length s) × (fieldBytes (fieldPlaceAt types k s) s ≡ [])
   pub field-step : (c : Cursor) (types s : List ℕ) (n place : ℕ) → nextFieldAt c types s ≡ refused n place
-      → StepRefusal fieldStepNumbers n place (length s) (c .at)
+      → StepRefusal fieldStepRefusals n place (length s) (c .at)
   -- ---- "Every refusal leaves all lent bytes and records unchanged"; "a writer's [place] is 0".
   -- Both writers and both rewritings, whatever is to be written; cutting; a listing.
   pub writer : (output : Output) (entry exit : List ℕ) (n : ℕ) → Writes output entry exit (Written.Refused n)
       → (exit ≡ entry) × (answerWritten (writtenOf (length entry) output) ≡ refused n 0)
-  -- The numbers of each: reading's as document 01 names them for writers, 6, 10, 11; of rewriting reading's own, 10, 11, and 6 for a message
-  -- that is not valid.
+  -- The numbers of each: reading's as document 01 names them for writers, 6, 10, 11; of rewriting reading's own, 10, 11, and 6 for a
+  -- message that is not valid.
   pub datagram-writer : (g : N.GivenDatagram) (x : Envelope) (sizes configured entry exit : List ℕ) (n : ℕ)
-      → Writes (N.datagramOutput g x sizes configured) entry exit (Written.Refused n) → oneOf datagramWriterNumbers n ≡ true
+      → Writes (N.datagramOutput g x sizes configured) entry exit (Written.Refused n) → oneOf datagramWriterRefusals n ≡ true
   pub message-writer : (types : List ℕ) (m : M.GivenMessage) (entry exit : List ℕ) (n : ℕ)
-      → Writes (M.messageOutput types m) entry exit (Written.Refused n) → oneOf messageWriterNumbers n ≡ true
+      → Writes (M.messageOutput types m) entry exit (Written.Refused n) → oneOf messageWriterRefusals n ≡ true
   pub datagram-again : (sizes s entry exit : List ℕ) (n : ℕ) → Writes (datagramSame sizes s) entry exit (Written.Refused n)
-      → oneOf datagramAgainNumbers n ≡ true
+      → oneOf datagramAgainRefusals n ≡ true
   pub message-again : (types s entry exit : List ℕ) (n : ℕ) → Writes (messageSame types s) entry exit (Written.Refused n)
-      → oneOf messageAgainNumbers n ≡ true
+      → oneOf messageAgainRefusals n ≡ true
   pub cut : (p : List ℕ) (number size k : ℕ) (out : List ℕ) (n : ℕ) → cutAnswer p number size k (length out) ≡ Written.Refused n
-      → (oneOf cutNumbers n ≡ true) × (cutBuffer p number size k out ≡ out)
+      → (oneOf cutRefusals n ≡ true) × (cutBuffer p number size k out ≡ out)
   pub listing : (out text : List ℕ) (n : ℕ) → textWritten out text ≡ Written.Refused n → (n ≡ NO_ROOM) × (textAfter out text ≡ out)
   -- A walk: its refusal is the datagram's.
   pub walk : (w : Writers) (d out : List ℕ) (n place : ℕ) → walkOf w d ≡ Walked.Refused n place
-      → Refusal datagramNumbers n place (length d) × (recordsPut 0 (walkLines w d) out ≡ out)
+      → Refusal datagramRefusals n place (length d) × (recordsPut 0 (walkLines w d) out ≡ out)
   -- The five calls of reassembly, for sound and unsound partials.
   pub call : (k : Call) (s : Partial) (n place : ℕ) → answers k s ≡ refusedBy n place
-      → Refusal callNumbers n place (bytesRead k) × (leaves k s ≡ s)
+      → Refusal callRefusals n place (bytesRead k) × (leaves k s ≡ s)
   -- ---- THE SAME THROUGH C, for any bytes in any record: a result whose low byte is not 0 leaves every lent byte as it was.
   -- uadp_config, uadp_read, uadp_read_message, uadp_field, uadp_value, uadp_element, uadp_chunk: what is read fills one record.
   pub lent-filling : (read : Answer Filling) (out : List ℕ) → IsRefused (resultIn read out) → filledIn read out ≡ out

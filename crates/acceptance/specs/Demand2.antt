@@ -5,7 +5,7 @@
 use Prim.Native.Nat.{ℕ, _*_, _≤_, _<_}
 use mathlib.Core.Path.{_≡_}
 use mathlib.Core.Bool.{Bool, true, false, cond}
-use mathlib.Core.List.{List, _∷_, _++_}
+use mathlib.Core.List.{List, _∷_}
 use mathlib.Core.Logic.{_⊎_, _↔_}
 use lib.Dec.{eqb}
 use lib.ListN.{length, take, drop}
@@ -24,6 +24,7 @@ use Rattle.network_message.specs.WriterId.{writerIdOf}
 use Rattle.network_message.specs.Envelope.{NetworkMessage, networkMessageAt, messagePlaceAt, messageBytes}
 use Rattle.network_message_writer.specs.Envelope as N
 use Rattle.dataset_header.specs.Flags.{valid}
+use Rattle.dataset_fields.specs.Fields.{numberOf}
 use Rattle.dataset_message.specs.Message.{Message, messageAt}
 use Rattle.dataset_message_writer.specs.Message as M
 use Rattle.round_trip.specs.NetworkMessage as network
@@ -107,6 +108,8 @@ pub record Demand2 : Type 0 where
   pub datagram-refused-alike : (g : N.GivenDatagram) (x : Envelope) (sizes : List ℕ) → FitsEnvelope x → network.CountsAgree g x
       → length (N.datagramOf g x) ≤ MOST_DATAGRAM → eqb (N.datagramReadingRefusal g x sizes) 0 ≡ false
       → (place : ℕ) × (networkMessageAt sizes (N.datagramOf g x) ≡ refused (N.datagramReadingRefusal g x sizes) place)
+  pub message-number-alike : (types : List ℕ) (m : M.GivenMessage) → M.FitsGiven m → PartsAgree types m
+      → numberOf (messageAt types (M.encode m)) ≡ M.messageReadingRefusal types m
   pub message-refused-alike : (types : List ℕ) (m : M.GivenMessage) → M.FitsGiven m → PartsAgree types m → (n : ℕ)
       → (n ≡ 0 → ⊥) → (n ≡ DISAGREE → ⊥) → (M.messageRefusal types m ≡ n) ↔ ReadingRefuses types m n
   -- Also where a field is no whole value, as far as reading finds it where it stands.
@@ -121,4 +124,6 @@ pub record Demand2 : Type 0 where
   -- Through C "a number that does not fit its item" is 6, after reading's numbers: `fits` says whether all numbers of the record do.
   pub lent-fits-after-reading : (fits : Bool) (g : N.GivenDatagram) (x : Envelope) (sizes configured : List ℕ)
       → fitting fits (N.datagramOutput g x sizes configured)
-      ≡ unless (orElse (N.datagramReadingRefusal g x sizes) (orElse (cond fits 0 DISAGREE) (N.shapeRefusal g x sizes configured))) (N.datagramOf g x)
+      ≡ unless
+      (orElse (N.datagramReadingRefusal g x sizes) (orElse (cond fits 0 DISAGREE) (N.shapeRefusal g x sizes configured)))
+      (N.datagramOf g x)

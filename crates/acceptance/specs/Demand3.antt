@@ -28,11 +28,14 @@ use Rattle.reassembly_laws.specs.Alone.{chunkAlone, IsAlone, AsPartial}
 use Rattle.reassembly_laws.specs.Cutting.{Arrival, AllArrive, IsChunk, IsCut, Restored}
 use Rattle.reassembly_laws.specs.Refusing.{MayRefuse}
 use Rattle.reassembly_laws.specs.Layouts.{SameButMarks, SameCalls, SameHistory, inLayout}
-use Rattle.records.specs.Sizes.{PARTIAL_SIZE}
+use Rattle.config_text.specs.Config.{configOf}
+use Rattle.records.specs.Result.{filledIn}
+use Rattle.records.specs.Sizes.{CONFIG_SIZE, PARTIAL_SIZE}
+use Rattle.records.specs.Writers.{ConfigBack, configFilling}
 use Rattle.partial_record.specs.Partial.{partialIn, partialBytes, FitsRecord}
 use Rattle.uadp_c.specs.Reassembling.{Lent}
 use Rattle.uadp_c.specs.History.{LentCall, Called, AllCalled, Ready, LentList, Unchanged}
-use Rattle.acceptance.specs.Refusals.{Refusal, callNumbers}
+use Rattle.acceptance.specs.Refusals.{Refusal, callRefusals}
 use Rattle.acceptance.specs.Calls.{bytesRead}
 
 pub record Demand3 : Type 0 where
@@ -79,7 +82,7 @@ pub record Demand3 : Type 0 where
   pub refused-hands-nothing : (s : Partial) (n place : ℕ) → answers HandOut s ≡ refused n place → handOut s ≡ []
   -- It "returns the number and a place": each call its own numbers; the place is 0 for 8 and 10 to 15, and else within the datagram.
   pub refused-by : (k : Call) (s : Partial) (n place : ℕ) → answers k s ≡ refused n place → MayRefuse k n place
-  pub refused-place : (k : Call) (s : Partial) (n place : ℕ) → answers k s ≡ refused n place → Refusal callNumbers n place (bytesRead k)
+  pub refused-place : (k : Call) (s : Partial) (n place : ℕ) → answers k s ≡ refused n place → Refusal callRefusals n place (bytesRead k)
   -- ---- THE SAME THROUGH C. From a record of full length that is zeroed or was just emptied, any list of `uadp_` calls answers as the
   -- machine, and the one claim holds of what the lent bytes stand for.
   pub any-lent-list : (ks : List LentCall) (b : Lent) (ys : List Lent) → Ready b → AllCalled ks b ys → LentList ks b ys
@@ -88,6 +91,9 @@ pub record Demand3 : Type 0 where
   -- What is stored in a record, of any that the code's types can hold, is read back.
   pub record-read-back : (k : PartialRecord) (r : List ℕ) → FitsRecord k → PARTIAL_SIZE ≤ length r
       → partialIn (laid r 0 (partialBytes k)) ≡ k
+  -- And what uadp_config stores for a configuration text is what the library reads in the record.
+  pub config-read-back : (text r : List ℕ) → configOf text .number ≡ 0 → CONFIG_SIZE ≤ length r
+      → ConfigBack (filledIn (configFilling (configOf text)) r) (configOf text .config)
   -- ---- HOWEVER MARKS ARE HELD. From emptying, calls that are the same but for the form of marks give the same answers, and leave the
   -- same record, payload area and covered bytes; and every sound partial has its like in either form.
   pub same-in-layouts : (ks ls : List Call) (s t : Partial) → SameCalls ks ls → Good s → Good t → s .rec ≡ t .rec → s .payload ≡ t .payload

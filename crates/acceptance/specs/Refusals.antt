@@ -5,7 +5,7 @@ use mathlib.Core.Bool.{Bool, true, _&&_, _||_}
 use mathlib.Core.List.{List, [], _∷_}
 use mathlib.Core.Logic.{_⊎_}
 use lib.Dec.{eqb, leb}
-use Rattle.wire.specs.Constants.{CUT_SHORT, BAD_VERSION, NOT_PERMITTED, NOT_TAKEN, BAD_LENGTH, DISAGREE, LEFT_OVER, NOT_CONFIGURED, TOO_DEEP, OVER_LIMIT, NO_ROOM, UNSOUND, OTHER_MESSAGE, BYTE_DIFFERS, NOT_COMPLETE, BAD_LINE}
+use Rattle.wire.specs.Constants.{CUT_SHORT, BAD_VERSION, NOT_PERMITTED, NOT_TAKEN, BAD_LENGTH, DISAGREE, LEFT_OVER, NOT_CONFIGURED, TOO_DEEP, OVER_LIMIT, NO_ROOM, UNSOUND, OTHER_MESSAGE, BYTE_DIFFERS, NOT_COMPLETE}
 use Rattle.reassembly_laws.specs.Refusing.{oneOf}
 
 -- "0 for 8 and 10 to 15"
@@ -24,47 +24,47 @@ StepRefusal numbers number place bytes at = Refusal numbers number place bytes �
 
 -- ---- by which numbers: of a datagram, of a chunk, of a value, of a DataSetMessage
 
-abbrev pub datagramNumbers : List ℕ
-datagramNumbers = CUT_SHORT ∷ NOT_PERMITTED ∷ BAD_VERSION ∷ NOT_TAKEN ∷ BAD_LENGTH ∷ DISAGREE ∷ NOT_CONFIGURED ∷ OVER_LIMIT ∷ []
+abbrev pub datagramRefusals : List ℕ
+datagramRefusals = CUT_SHORT ∷ NOT_PERMITTED ∷ BAD_VERSION ∷ NOT_TAKEN ∷ BAD_LENGTH ∷ DISAGREE ∷ NOT_CONFIGURED ∷ OVER_LIMIT ∷ []
 
-abbrev pub chunkNumbers : List ℕ
-chunkNumbers = CUT_SHORT ∷ NOT_PERMITTED ∷ BAD_VERSION ∷ NOT_TAKEN ∷ BAD_LENGTH ∷ DISAGREE ∷ LEFT_OVER ∷ NOT_CONFIGURED ∷ OVER_LIMIT ∷ []
+abbrev pub chunkRefusals : List ℕ
+chunkRefusals = CUT_SHORT ∷ NOT_PERMITTED ∷ BAD_VERSION ∷ NOT_TAKEN ∷ BAD_LENGTH ∷ DISAGREE ∷ LEFT_OVER ∷ NOT_CONFIGURED ∷ OVER_LIMIT ∷ []
 
-abbrev pub valueNumbers : List ℕ
-valueNumbers = CUT_SHORT ∷ NOT_PERMITTED ∷ NOT_TAKEN ∷ BAD_LENGTH ∷ TOO_DEEP ∷ []
+abbrev pub valueRefusals : List ℕ
+valueRefusals = CUT_SHORT ∷ NOT_PERMITTED ∷ NOT_TAKEN ∷ BAD_LENGTH ∷ TOO_DEEP ∷ []
 
-abbrev pub messageNumbers : List ℕ
-messageNumbers = CUT_SHORT ∷ NOT_PERMITTED ∷ NOT_TAKEN ∷ BAD_LENGTH ∷ LEFT_OVER ∷ NOT_CONFIGURED ∷ TOO_DEEP ∷ []
+abbrev pub messageRefusals : List ℕ
+messageRefusals = CUT_SHORT ∷ NOT_PERMITTED ∷ NOT_TAKEN ∷ BAD_LENGTH ∷ LEFT_OVER ∷ NOT_CONFIGURED ∷ TOO_DEEP ∷ []
 
 -- of a step from field to field, and of looking field k up: "k at or past the count, or a step after the last field, is 10"
-abbrev pub fieldStepNumbers : List ℕ
-fieldStepNumbers = CUT_SHORT ∷ NOT_PERMITTED ∷ NOT_TAKEN ∷ BAD_LENGTH ∷ NOT_CONFIGURED ∷ TOO_DEEP ∷ OVER_LIMIT ∷ []
+abbrev pub fieldStepRefusals : List ℕ
+fieldStepRefusals = CUT_SHORT ∷ NOT_PERMITTED ∷ NOT_TAKEN ∷ BAD_LENGTH ∷ NOT_CONFIGURED ∷ TOO_DEEP ∷ OVER_LIMIT ∷ []
 
-abbrev pub fieldNumbers : List ℕ
-fieldNumbers = CUT_SHORT ∷ NOT_PERMITTED ∷ NOT_TAKEN ∷ BAD_LENGTH ∷ LEFT_OVER ∷ NOT_CONFIGURED ∷ TOO_DEEP ∷ OVER_LIMIT ∷ []
+abbrev pub fieldRefusals : List ℕ
+fieldRefusals = CUT_SHORT ∷ NOT_PERMITTED ∷ NOT_TAKEN ∷ BAD_LENGTH ∷ LEFT_OVER ∷ NOT_CONFIGURED ∷ TOO_DEEP ∷ OVER_LIMIT ∷ []
 
 -- of the writers: what reading would refuse, 6, 10 and 11
-abbrev pub datagramWriterNumbers : List ℕ
-datagramWriterNumbers = CUT_SHORT ∷ NOT_PERMITTED ∷ DISAGREE ∷ NOT_CONFIGURED ∷ OVER_LIMIT ∷ NO_ROOM ∷ []
+abbrev pub datagramWriterRefusals : List ℕ
+datagramWriterRefusals = CUT_SHORT ∷ NOT_PERMITTED ∷ DISAGREE ∷ NOT_CONFIGURED ∷ OVER_LIMIT ∷ NO_ROOM ∷ []
 
-abbrev pub messageWriterNumbers : List ℕ
-messageWriterNumbers =
+abbrev pub messageWriterRefusals : List ℕ
+messageWriterRefusals =
     CUT_SHORT ∷ NOT_PERMITTED ∷ NOT_TAKEN ∷ BAD_LENGTH ∷ DISAGREE ∷ LEFT_OVER ∷ NOT_CONFIGURED ∷ TOO_DEEP ∷ OVER_LIMIT ∷ NO_ROOM ∷ []
 
-abbrev pub datagramAgainNumbers : List ℕ
-datagramAgainNumbers =
+abbrev pub datagramAgainRefusals : List ℕ
+datagramAgainRefusals =
     CUT_SHORT ∷ NOT_PERMITTED ∷ BAD_VERSION ∷ NOT_TAKEN ∷ BAD_LENGTH ∷ DISAGREE ∷ NOT_CONFIGURED ∷ OVER_LIMIT ∷ NO_ROOM ∷ []
 
-abbrev pub messageAgainNumbers : List ℕ
-messageAgainNumbers =
+abbrev pub messageAgainRefusals : List ℕ
+messageAgainRefusals =
     CUT_SHORT ∷ NOT_PERMITTED ∷ NOT_TAKEN ∷ BAD_LENGTH ∷ DISAGREE ∷ LEFT_OVER ∷ NOT_CONFIGURED ∷ TOO_DEEP ∷ OVER_LIMIT ∷ NO_ROOM ∷ []
 
 -- of cutting
-abbrev pub cutNumbers : List ℕ
-cutNumbers = DISAGREE ∷ OVER_LIMIT ∷ NO_ROOM ∷ []
+abbrev pub cutRefusals : List ℕ
+cutRefusals = DISAGREE ∷ OVER_LIMIT ∷ NO_ROOM ∷ []
 
 -- of the calls on a partial
-abbrev pub callNumbers : List ℕ
-callNumbers =
+abbrev pub callRefusals : List ℕ
+callRefusals =
     CUT_SHORT ∷ NOT_PERMITTED ∷ BAD_VERSION ∷ NOT_TAKEN ∷ BAD_LENGTH ∷ DISAGREE ∷ LEFT_OVER ∷ NOT_CONFIGURED ∷ OVER_LIMIT ∷ NO_ROOM
     ∷ UNSOUND ∷ OTHER_MESSAGE ∷ BYTE_DIFFERS ∷ NOT_COMPLETE ∷ []

@@ -1,5 +1,5 @@
 -- How what is found lies in what was read: nothing is left out, and nothing overlaps.
-use Prim.Native.Nat.{ℕ, suc, _+_, _-_, _≤_, _<_}
+use Prim.Native.Nat.{ℕ, suc, _+_, _-_, _<_}
 use mathlib.Core.Path.{_≡_}
 use mathlib.Core.Bool.{cond}
 use mathlib.Core.List.{List}
@@ -14,11 +14,11 @@ use Rattle.dataset_fields.specs.declared.fields.Field.{Field}
 use Rattle.dataset_message.specs.Message.{Message, fieldPlaceAt}
 
 -- where message k of an accepted datagram starts, by the messages' lengths, and its place
-abbrev pub startOf : NetworkMessage → List ℕ → ℕ → ℕ
-startOf m lengths k = m .payload .first + total (take k lengths)
+abbrev pub tileStart : NetworkMessage → List ℕ → ℕ → ℕ
+tileStart m lengths k = m .payload .first + total (take k lengths)
 
-abbrev pub placeOf : NetworkMessage → List ℕ → ℕ → MessagePlace
-placeOf m lengths k = record { index = k; offset = startOf m lengths k; length = getD lengths k 0 }
+abbrev pub tilePlace : NetworkMessage → List ℕ → ℕ → MessagePlace
+tilePlace m lengths k = record { index = k; offset = tileStart m lengths k; length = getD lengths k 0 }
 
 -- The messages of the accepted datagram s: the first stands at the payload's first message byte, each starts where the one before it ends
 -- and has at least a byte, and the last ends where the datagram ends. Lookup of message k and a cursor's step find the same.
@@ -27,10 +27,11 @@ pub record MessagesTile (sizes s : List ℕ) (m : NetworkMessage) : Type 0 where
   pub many : length lengths ≡ m .payload .count
   pub whole : m .payload .first + total lengths ≡ length s
   pub some : (k : ℕ) → k < length lengths → 0 < getD lengths k 0
-  pub looked-up : (k : ℕ) → k < length lengths → messagePlaceAt sizes k s ≡ got (placeOf m lengths k) (startOf m lengths (suc k))
+  pub looked-up : (k : ℕ) → k < length lengths → messagePlaceAt sizes k s ≡ got (tilePlace m lengths k) (tileStart m lengths (suc k))
   pub stepped : (k : ℕ) → k < length lengths
-      → placeStepAt (m .payload) sizes (record { index = k; at = startOf m lengths k }) s
-      ≡ got (record { place = placeOf m lengths k; cursor = record { index = k + 1; at = startOf m lengths (suc k) } }) (startOf m lengths (suc k))
+      → placeStepAt (m .payload) sizes (record { index = k; at = tileStart m lengths k }) s
+      ≡ got (record { place = tilePlace m lengths k; cursor = record { index = k + 1; at = tileStart m lengths (suc k) } })
+      (tileStart m lengths (suc k))
 
 -- Field k of the accepted message s, which fills the bytes from `start` to `end`: a delta's index stands before its value, which has at
 -- least a byte. Lookup of field k and a cursor's step find the same.

@@ -1,29 +1,22 @@
 -- What a stored record reads as.
 -- Assumes nothing.
-use Prim.Native.Nat.{ℕ, zero, suc, _+_, _*_, _%_, _^_, _≤_, _<_}
-use mathlib.Core.Path.{_≡_, refl, ap, sym, subst, _∙_}
+use Prim.Native.Nat.{ℕ, _+_, _%_, _≤_, _<_}
+use mathlib.Core.Path.{_≡_, refl, ap, sym, _∙_}
 use mathlib.Core.Bool.{Bool, true, false}
-use mathlib.Core.List.{List, [], _∷_, _++_, append-nil}
-use native.Mathlib.Nat.{add-zero}
+use mathlib.Core.List.{List, [], _++_, append-nil}
 use native.Mathlib.Omega.{arith}
-use borrow.Author.Tests.{le-leb}
 use lib.Dec.{eqb}
 use lib.ListN.{length, getD, take, drop, replicate}
 use lib.Seq.{take-at, drop-at}
-use Rattle.wire.specs.Number.{leBytes}
-use Rattle.wire.proofs.Numbers.{length-leBytes}
 use Rattle.wire_writer.specs.Store.{laid}
-use Rattle.wire_writer.proofs.Putting.{front}
-use Rattle.wire_writer.proofs.Trip.{At, first, second, item-is}
-use Rattle.network_message.specs.Payload.{valueOr0}
-use Rattle.publisher_id.specs.PublisherRecord.{codeOf}
+use Rattle.wire_writer.proofs.Trip.{At, first, second}
 use Rattle.publisher_id.specs.declared.publisher.PublisherId.{PublisherId}
 use Rattle.reassembly.specs.declared.record.PartialRecord.{PartialRecord}
 use Rattle.records.specs.Numbers.{numberAt, numberBytes}
 use Rattle.records.proofs.Storing.{bytes-length}
 use Rattle.records.proofs.ReadBack.{AllFit, number-read, stored-at, publisher-back, number-fits, code-fits, flag-fits}
 use Rattle.records.specs.Items.{flagNumber}
-use Rattle.records.specs.Publisher.{publisherBy, publisherNumber}
+use Rattle.records.specs.Publisher.{publisherBy}
 use Rattle.partial_record.specs.Partial.{partialIn, partialNumbers, partialBytes, FitsRecord}
 use Rattle.partial_record.proofs.Parts.{partial-length}
 
@@ -60,7 +53,13 @@ module _ (k : PartialRecord) (r : List ℕ) (f : FitsRecord k) (h : 144 ≤ leng
   read i l =
       let fit : AllFit numbers = (
         flag-fits (k .started),
-        (code-fits id, (number-fits id (f .id), (omega (arith, f .writer, f .number), (omega (arith, f .writer, f .number), (f .total, (omega arith, (omega arith, (omega arith, (omega arith, tt))))))))),
+        (
+          code-fits id,
+          (
+            number-fits id (f .id),
+            (omega (arith, f .writer, f .number), (omega (arith, f .writer, f .number), (f .total, (omega arith, (omega arith, (omega arith, (omega arith, tt))))))),
+          ),
+        ),
       ) in
       let z : 0 + i ≡ i = omega arith in
       ap (numberAt s) (sym z) ∙ number-read numbers 0 s (first s 0 (numberBytes numbers) text at) fit i l

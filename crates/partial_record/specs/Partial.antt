@@ -7,7 +7,6 @@ use lib.ListN.{length, take, drop, replicate}
 use Rattle.wire.specs.Constants.{MOST_TEXT_ID}
 use Rattle.wire_writer.specs.Store.{laid}
 use Rattle.publisher_id.specs.PublisherRecord.{codeOf}
-use Rattle.publisher_id.specs.declared.publisher.PublisherId.{PublisherId}
 use Rattle.publisher_id.specs.declared.publisher_record.PublisherRecord.{PublisherRecord}
 use Rattle.reassembly.specs.declared.record.Message.{Message}
 use Rattle.reassembly.specs.declared.record.PartialRecord.{PartialRecord}

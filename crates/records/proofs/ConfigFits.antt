@@ -1,8 +1,8 @@
 -- The configuration of a text fits the record.
 -- Assumes nothing.
-use Prim.Native.Nat.{ℕ, zero, suc, _+_, _≤_, _<_}
-use mathlib.Core.Path.{_≡_, refl, _∙_}
-use mathlib.Core.Bool.{Bool, true, false, cond}
+use Prim.Native.Nat.{ℕ, zero, suc, _+_, _<_}
+use mathlib.Core.Path.{refl, _∙_}
+use mathlib.Core.Bool.{true}
 use mathlib.Core.List.{List, [], _∷_}
 use mathlib.Core.Option.{Option, some, none}
 use native.Mathlib.Omega.{arith}
@@ -16,7 +16,7 @@ use Rattle.text.specs.Decimal.{allDigits, decimalValueOf, noLeadingZero, decima
 use Rattle.plain_value.specs.Width.{fixed}
 use Rattle.config.specs.declared.Config.{Config}
 use Rattle.config.specs.Writers.{emptyConfig}
-use Rattle.config_text.specs.Line.{Says, tabByte, isDash, positive, sizeOf, writerOf, writerRest, fieldOf, fieldRest, writerStart, fieldStart, saysOf}
+use Rattle.config_text.specs.Line.{Says, tabByte, isDash, positive, sizeOf, writerOf, fieldOf, writerStart, fieldStart, saysOf}
 use Rattle.config_text.specs.Line.Says.{writer, field, bad}
 use Rattle.config_text.specs.Config.{TextLine, ended, unended, lineSays, mayFollow, with, readLines, linesOf, configOf}
 use Rattle.records.specs.Writers.{FitsConfig}

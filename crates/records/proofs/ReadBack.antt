@@ -10,7 +10,7 @@ use borrow.Author.Tests.{le-leb, le-ltb}
 use lib.Dec.{eqb, leb}
 use lib.ListN.{length, getD, take, drop, length-append, length-drop, take-append-drop}
 use lib.Seq.{length-sets, sets-eq, drop-drop, length-take-le}
-use lib.IntN.{ℤ, pos, negsuc}
+use lib.IntN.{pos, negsuc}
 use Rattle.wire.specs.Number.{le, leBytes}
 use Rattle.wire.specs.Answer.{got, item}
 use Rattle.wire.specs.declared.optional.Optional16.{Optional16}

@@ -81,7 +81,8 @@ pub record One (k : LentCall) (b a : Lent) : Type 0 where
 module _ (b a : Lent) (h : PARTIAL_SIZE ≤ length (b .rec)) where
   stepped : (s : Step) → Steps (b .rec) (b .payload) (b .marks) s a → Tells a (replyOf (s .verdict)) × (PARTIAL_SIZE ≤ length (a .rec))
   stepped s w =
-      let q : a ≡ lent (verdictResult (s .verdict)) (recordBy (s .verdict) (b .rec) (s .after .rec)) (s .after .payload) (s .after .marks) = rw (le-ltb (length (b .rec)) PARTIAL_SIZE h) at (w .bytes) in
+      let q : a ≡ lent (verdictResult (s .verdict)) (recordBy (s .verdict) (b .rec) (s .after .rec)) (s .after .payload) (s .after .marks) =
+      rw (le-ltb (length (b .rec)) PARTIAL_SIZE h) at (w .bytes) in
       (verdict-tells a (s .verdict) (ap (λ (x : Lent). x .result) q), omega (arith, ap (λ (x : Lent). length (x .rec)) q, length-record (s .verdict) (b .rec) (s .after .rec)))
 
   pub one : (k : LentCall) → Called k b a → One k b a

@@ -102,7 +102,8 @@ complete-ends r p m x k a b h e q t y =
 pub hand-short : (r p m : List ℕ) (x : ℕ) (v : Verdict) → length r < PARTIAL_SIZE → x ≡ resultOf 12 0 → lent x r p m ≡ lent (handIn r v) r p m
 hand-short r p m x v h q = rw (lt-ltb (length r) PARTIAL_SIZE h) (ap (λ (y : ℕ). lent y r p m) q)
 
-pub hand-ends : (r p m : List ℕ) (x : ℕ) (k : PartialRecord) (a b : Verdict) → PARTIAL_SIZE ≤ length r → k ≡ partialIn r → handedOf a (handOut (partial k p m)) ≡ answers HandOut (partial k p m) → a ≡ b
+pub hand-ends : (r p m : List ℕ) (x : ℕ) (k : PartialRecord) (a b : Verdict) → PARTIAL_SIZE ≤ length r → k ≡ partialIn r → handedOf a (handOut (partial k p m)) ≡ answers HandOut (partial k p m)
+    → a ≡ b
     → x ≡ handResult k b → lent x r p m ≡ lent (handIn r (judgeHandOut (partialOf r p m))) r p m
 hand-ends r p m x k a b h e q t y =
     let z : b ≡ judgeHandOut (partialOf r p m) = sym t ∙ handed-verdict (partial k p m) a q ∙ ap (λ (i : PartialRecord). judgeHandOut (partial i p m)) e in

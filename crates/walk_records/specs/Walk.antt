@@ -22,7 +22,8 @@ orNone (Optional16.Is v) = v
 -- the 10 numbers of a line's record: "0 field, 1 message, 2 message that is not valid, 3 refused message", the number of the message, and
 -- so on in the order of the layout; `net` and `bad` lines do not occur among those that have records
 abbrev pub walkNumbers : Line → List ℕ
-walkNumbers (Line.Field m f) = 0 ∷ m ∷ f .index ∷ f .kind ∷ shapeNumber (f .shape) ∷ elementsNumber (f .shape) ∷ f .offset ∷ f .length ∷ 0 ∷ 0 ∷ []
+walkNumbers (Line.Field m f) =
+    0 ∷ m ∷ f .index ∷ f .kind ∷ shapeNumber (f .shape) ∷ elementsNumber (f .shape) ∷ f .offset ∷ f .length ∷ 0 ∷ 0 ∷ []
 walkNumbers (Line.Set p k e q) =
     1 ∷ p .message ∷ orNone (p .writer) ∷ kindNumber k ∷ encodingNumber e ∷ orNone q ∷ p .offset ∷ p .length ∷ 0 ∷ 0 ∷ []
 walkNumbers (Line.SetInvalid p) = 2 ∷ p .message ∷ orNone (p .writer) ∷ 0 ∷ 0 ∷ 0 ∷ p .offset ∷ p .length ∷ 0 ∷ 0 ∷ []
