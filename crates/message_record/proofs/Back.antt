@@ -78,28 +78,67 @@ module _ (m : Message) (r : List ℕ) (f : FitsHead m) (h : 160 ≤ length r) wh
   )
 
   fit : AllFit numbers
-  fit =
-      (omega arith,
-      (omega (arith, encoding-bound (header .encoding)),
-      (omega (arith, kind-bound (header .kind)),
-      (omega (arith, items),
-      (omega (arith, value16-bound (header .sequence) (f .header .sequence)),
-      (valueI64-bound (header .timestamp) (f .header .timestamp),
-      (omega (arith, value16-bound (header .picoseconds) (f .header .picoseconds)),
-      (omega (arith, value16-bound (header .status) (f .header .status)),
-      (omega (arith, value32-bound (header .major) (f .header .major)),
-      (omega (arith, value32-bound (header .minor) (f .header .minor)),
-      (omega (arith, encoding-bound (m .cursor .encoding)),
-      (flag-fits (m .cursor .delta),
-      (f .next,
-      (f .count,
-      (f .at,
-      (f .end,
-      (omega arith,
-      (omega arith,
-      (omega arith,
-      (omega arith,
-      tt))))))))))))))))))))
+  fit = (
+    omega arith,
+    (
+      omega (arith, encoding-bound (header .encoding)),
+      (
+        omega (arith, kind-bound (header .kind)),
+        (
+          omega (arith, items),
+          (
+            omega (arith, value16-bound (header .sequence) (f .header .sequence)),
+            (
+              valueI64-bound (header .timestamp) (f .header .timestamp),
+              (
+                omega (arith, value16-bound (header .picoseconds) (f .header .picoseconds)),
+                (
+                  omega (arith, value16-bound (header .status) (f .header .status)),
+                  (
+                    omega (arith, value32-bound (header .major) (f .header .major)),
+                    (
+                      omega (arith, value32-bound (header .minor) (f .header .minor)),
+                      (
+                        omega (arith, encoding-bound (m .cursor .encoding)),
+                        (
+                          flag-fits (m .cursor .delta),
+                          (
+                            f .next,
+                            (
+                              f .count,
+                              (
+                                f .at,
+                                (
+                                  f .end,
+                                  (
+                                    omega arith,
+                                    (
+                                      omega arith,
+                                      (
+                                        omega arith,
+                                        (
+                                          omega arith,
+                                          tt,
+                                        ),
+                                      ),
+                                    ),
+                                  ),
+                                ),
+                              ),
+                            ),
+                          ),
+                        ),
+                      ),
+                    ),
+                  ),
+                ),
+              ),
+            ),
+          ),
+        ),
+      ),
+    ),
+  )
 
   read : (i : ℕ) → i < 20 → numberAt s i ≡ getD numbers i 0
   read i l = ap (numberAt s) (sym (zero-add i)) ∙ number-read numbers 0 s at fit i l

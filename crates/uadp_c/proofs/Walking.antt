@@ -17,19 +17,27 @@ use Rattle.network_message.specs.declared.payload.MessagePlace.{MessagePlace}
 use Rattle.network_message.specs.declared.payload.MessageCursor.{MessageCursor}
 use Rattle.records.specs.Numbers.{numberBytes}
 use Rattle.records.specs.Sizes.{ENVELOPE_SIZE, PLACE_SIZE}
-use Rattle.records.specs.Result.{resultOf}
+use Rattle.records.specs.Result.{resultOf, resultIn, filledIn}
 use Rattle.records.specs.Writers.{writersIn, sixteen, idsIn, sizesIn}
 use Rattle.envelope_record.specs.Envelope.{payloadIn, messagesIn, messagesLaid, payloadHeaderIn, payloadHeaderEnd, placeNumbers}
-use Rattle.uadp_c.specs.Messages.{envelopeFilling, messageStep, writerAt, messageResult, envelopeAfter, placeAfter}
+use Rattle.uadp_c.specs.Messages.{envelopeFilling, EnvelopeReads, messageStep, writerAt, messageResult, envelopeAfter, placeAfter}
+use Rattle.uadp_c.proofs.Filling.{Ends}
 
 -- the first entries of a list of 16 numbers of a configuration record
 first-of : (c z l : List ℕ) (n at : ℕ) → n ≡ writersIn c → l ≡ sixteen at c → z ≡ take n l → z ≡ take (writersIn c) (sixteen at c)
 first-of c z l n at a b d = d ∙ ap (λ (x : ℕ). take x l) a ∙ ap (λ (x : List ℕ). take (writersIn c) x) b
 
-pub envelope-read : (c s z l : List ℕ) (n : ℕ) (y : Answer NetworkMessage) → n ≡ writersIn c → l ≡ sixteen 34 c → z ≡ take n l → y ≡ networkMessageAt z s
-    → envelopeFilling y ≡ envelopeFilling (networkMessageAt (sizesIn c) s)
-envelope-read c s z l n y a b d q =
-    ap (λ (x : Answer NetworkMessage). envelopeFilling x) (q ∙ ap (λ (t : List ℕ). networkMessageAt t s) (first-of c z l n 34 a b d))
+-- what was read is what the configuration record says
+pub envelope-told : (c s z l : List ℕ) (n : ℕ) (y : Answer NetworkMessage) → n ≡ writersIn c → l ≡ sixteen 34 c → z ≡ take n l → y ≡ networkMessageAt z s
+    → y ≡ networkMessageAt (sizesIn c) s
+envelope-told c s z l n y a b d q = q ∙ ap (λ (t : List ℕ). networkMessageAt t s) (first-of c z l n 34 a b d)
+
+abbrev Filled : Answer NetworkMessage → List ℕ → ℕ → List ℕ → Type 0
+Filled a entry x exit = (x ≡ resultIn (envelopeFilling a) entry) × (exit ≡ filledIn (envelopeFilling a) entry) × EnvelopeReads a entry exit
+
+pub envelope-filled : (a b : Answer NetworkMessage) (entry exit : List ℕ) (x : ℕ) → a ≡ b → Ends (envelopeFilling a) entry x exit → EnvelopeReads a entry exit
+    → Filled b entry x exit
+envelope-filled a b entry exit x q e h = subst (λ (y : Answer NetworkMessage). Filled y entry x exit) q (e .0, e .1, h)
 
 pub message-stepped : (c e s z l : List ℕ) (n : ℕ) (p : Payload) (k : MessageCursor) (y : Answer PlaceStepped) → n ≡ writersIn c → l ≡ sixteen 34 c → z ≡ take n l
     → p ≡ payloadIn e → k ≡ messagesIn e → y ≡ placeStepAt p z k s → y ≡ messageStep c e s

@@ -1,9 +1,10 @@
-use Rattle.uadp_c.proofs.Walking.{envelope-read}
+use Rattle.uadp_c.proofs.Walking.{envelope-told, envelope-filled}
 use Rattle.uadp_c.proofs.Filling.{fill-refused, fill-none, fill-done}
 use Rattle.envelope_record.specs.Envelope.{envelopeNumbers}
 use Rattle.records.proofs.Storing.{bytes-length}
-use Rattle.network_message.specs.Envelope.{answerNetworkMessage}
+use Rattle.network_message.specs.Envelope.{NetworkMessage, answerNetworkMessage}
 use Rattle.wire.proofs.Reading.{told}
+use mathlib.Core.Path.{refl}
 use native.Mathlib.Omega.{arith}
 use denote.Ref.{now}
 use borrow.Author.Needs.{needs}
@@ -19,10 +20,12 @@ returns c =
     let at-sizes = at-first .before .before in
     let at-writer-count = at-sizes .before in
     let args = at-writer-count .before .before .before .before .args in
-    fill-none _ (now (args .envelope)) _ _ 256 _
-    (envelope-read (now (args .config)) (now (args .datagram)) _ _ _ _ (at-writer-count .writer-count .ensures .0)
-    (at-sizes .sizes .ensures) (at-first .first .ensures) (told answerNetworkMessage (at-read .read .ensures) (at-e .e .given .1)))
-    (bytes-length (envelopeNumbers (record { envelope = at-e .e .given .0 .0; places = at-e .e .given .0 .1 .0; payload = at-e .e .given .0 .1 .1 .0 }))) (omega arith) (c .result2 .ensures)
+    let same =
+    envelope-told (now (args .config)) (now (args .datagram)) _ _ _ _ (at-writer-count .writer-count .ensures .0) (at-sizes .sizes .ensures) (at-first .first .ensures)
+    (told answerNetworkMessage (at-read .read .ensures) (at-e .e .given .1)) in
+    let m : NetworkMessage = record { envelope = at-e .e .given .0 .0; places = at-e .e .given .0 .1 .0; payload = at-e .e .given .0 .1 .1 .0 } in
+    envelope-filled _ _ (now (args .envelope)) _ _ same
+    (fill-none _ (now (args .envelope)) _ _ 256 _ refl (bytes-length (envelopeNumbers m)) (omega arith) (c .result2 .ensures)) (λ l. absurd (omega arith))
 
 -- src/messages.rt:27:1
 returns-2 : tie.Need-returns-2
@@ -33,9 +36,10 @@ returns-2 c =
     let at-sizes = at-first .before .before in
     let at-writer-count = at-sizes .before in
     let args = at-writer-count .before .before .before .before .args in
-    fill-refused _ (now (args .envelope)) _ _ _
-    (envelope-read (now (args .config)) (now (args .datagram)) _ _ _ _ (at-writer-count .writer-count .ensures .0)
-    (at-sizes .sizes .ensures) (at-first .first .ensures) (told answerNetworkMessage (at-read .read .ensures) (at-number .number .given .1))) (c .result .ensures)
+    let same =
+    envelope-told (now (args .config)) (now (args .datagram)) _ _ _ _ (at-writer-count .writer-count .ensures .0) (at-sizes .sizes .ensures) (at-first .first .ensures)
+    (told answerNetworkMessage (at-read .read .ensures) (at-number .number .given .1)) in
+    envelope-filled _ _ (now (args .envelope)) _ _ same (fill-refused _ (now (args .envelope)) _ _ _ refl (c .result .ensures)) tt
 
 -- src/messages.rt:27:1
 returns-3 : tie.Need-returns-3
@@ -47,11 +51,13 @@ returns-3 c =
     let at-sizes = at-first .before .before in
     let at-writer-count = at-sizes .before in
     let args = at-writer-count .before .before .before .before .args in
-    fill-done _ (now (args .envelope)) _ _ _ 256 _
-    (envelope-read (now (args .config)) (now (args .datagram)) _ _ _ _ (at-writer-count .writer-count .ensures .0)
-    (at-sizes .sizes .ensures) (at-first .first .ensures) (told answerNetworkMessage (at-read .read .ensures) (at-e .e .given .1)))
-    (bytes-length (envelopeNumbers (record { envelope = at-e .e .given .0 .0; places = at-e .e .given .0 .1 .0; payload = at-e .e .given .0 .1 .1 .0 })))
-    (omega arith) (c .result3 .ensures) (at-put-envelope .put-envelope .ensures)
+    let same =
+    envelope-told (now (args .config)) (now (args .datagram)) _ _ _ _ (at-writer-count .writer-count .ensures .0) (at-sizes .sizes .ensures) (at-first .first .ensures)
+    (told answerNetworkMessage (at-read .read .ensures) (at-e .e .given .1)) in
+    let m : NetworkMessage = record { envelope = at-e .e .given .0 .0; places = at-e .e .given .0 .1 .0; payload = at-e .e .given .0 .1 .1 .0 } in
+    envelope-filled _ _ (now (args .envelope)) _ _ same
+    (fill-done _ (now (args .envelope)) _ _ _ 256 _ refl (bytes-length (envelopeNumbers m)) (omega arith) (c .result3 .ensures) (at-put-envelope .put-envelope .ensures .0))
+    (at-put-envelope .put-envelope .ensures .1)
 
 pub uadp-read-spec : {M : Type 1} → statement M
 uadp-read-spec =
