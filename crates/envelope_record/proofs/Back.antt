@@ -295,6 +295,7 @@ module _ (m : NetworkMessage) (r : List ℕ) (f : FitsEnvelopeRecord m) (h : 256
       let index = read 26 (omega arith) in
       let place = read 27 (omega arith) in
       record {
+        fits = f;
         envelope = λ i. record { publisher = p i; «class_id» = c i; group = g .0 i; chunk = k i; «payload_header» = d i; timestamp = t i; picoseconds = o i; promoted = q i };
         fitting = rw (pf, g .1, df, ok) (and-true (countFits (x .«payload_header»)));
         header = d;

@@ -220,8 +220,9 @@ countFits PayloadHeader.Absent = true
 countFits (PayloadHeader.Ids n) = leb n 255
 countFits (PayloadHeader.Chunk w) = true
 
--- what the library reads in the envelope record r is the datagram's
+-- what the library reads in the envelope record r is the datagram's, each number of which fits the record's
 pub record EnvelopeBack (r : List ℕ) (m : NetworkMessage) : Type 0 where
+  pub fits : FitsEnvelopeRecord m
   -- its envelope, and each number of it fits its item: of a Count this is so where it has one byte, as every Count that was read has
   pub envelope : envelopeIn r ≡ m .envelope
   pub fitting : envelopeFits r ≡ countFits (m .envelope .«payload_header»)

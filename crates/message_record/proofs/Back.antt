@@ -17,11 +17,11 @@ use Rattle.dataset_header.specs.declared.flags.Kind.{Kind}
 use Rattle.dataset_header.specs.declared.header.Header.{Header}
 use Rattle.dataset_message.specs.Message.{Message}
 use Rattle.records.specs.Numbers.{numberAt, numberBytes}
-use Rattle.records.specs.Items.{has16, has32, hasI64, given16, given32, givenI64}
+use Rattle.records.specs.Items.{has16, has32, hasI64, given16, given32, givenI64, fitsItem}
 use Rattle.records.proofs.Storing.{bytes-length}
 use Rattle.wire.specs.Number.{leBytes}
 use Rattle.dataset_fields.specs.declared.fields.Cursor.{Cursor}
-use Rattle.records.proofs.ReadBack.{AllFit, number-laid, number-kept, laid-length, number-read, stored-at, given16-back, given32-back, givenI64-back, told16, told32, toldI64, is-on-flag, flag-fits, has16-bound, has32-bound, hasI64-bound, value16-bound, value32-bound, valueI64-bound}
+use Rattle.records.proofs.ReadBack.{AllFit, number-laid, number-kept, laid-length, number-read, stored-at, given16-back, given32-back, givenI64-back, fits16-back, fits32-back, told16, told32, toldI64, is-on-flag, flag-fits, has16-bound, has32-bound, hasI64-bound, value16-bound, value32-bound, valueI64-bound}
 use Rattle.message_record.specs.Message.{encodingIn, kindIn, itemsNumber, headNumbers, cursorIn, cursorLaid, FitsHead, HeadBack}
 
 -- two arguments that are the same
@@ -174,7 +174,14 @@ module _ (m : Message) (r : List ℕ) (f : FitsHead m) (h : 160 ≤ length r) wh
       let cn = read 12 (omega arith) in
       let cc = read 13 (omega arith) in
       let ca = read 14 (omega arith) in
+      let f0 = both (λ (o : Bool) (v : ℕ). fitsItem o 65535 v) b0 (read 4 (omega arith)) ∙ fits16-back (header .sequence) (f .header .sequence) in
+      let f2 = both (λ (o : Bool) (v : ℕ). fitsItem o 65535 v) b2 (read 6 (omega arith)) ∙ fits16-back (header .picoseconds) (f .header .picoseconds) in
+      let f3 = both (λ (o : Bool) (v : ℕ). fitsItem o 65535 v) b3 (read 7 (omega arith)) ∙ fits16-back (header .status) (f .header .status) in
+      let f4 = both (λ (o : Bool) (v : ℕ). fitsItem o 4294967295 v) b4 (read 8 (omega arith)) ∙ fits32-back (header .major) (f .header .major) in
+      let f5 = both (λ (o : Bool) (v : ℕ). fitsItem o 4294967295 v) b5 (read 9 (omega arith)) ∙ fits32-back (header .minor) (f .header .minor) in
       record {
+        fits = f;
+        fitting = rw (f0, f2, f3, f4, f5) refl;
         header = λ z. record { encoding = e z; kind = k z; sequence = h0 z; timestamp = h1 z; picoseconds = h2 z; status = h3 z; major = h4 z; minor = h5 z };
         cursor = λ z. record { encoding = ce z; delta = cd z; next = cn z; count = cc z; at = ca z };
       }

@@ -8,3 +8,4 @@ pub mod Wrote
 pub mod Emptied
 pub mod KeptRecord
 pub mod Demand3
+pub mod ByCalls

@@ -7,3 +7,4 @@ pub mod Writing
 pub mod Listings
 pub mod Walks
 pub mod History
+pub mod ByCalls

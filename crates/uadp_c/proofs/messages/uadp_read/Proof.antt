@@ -1,10 +1,6 @@
-use Rattle.uadp_c.proofs.Walking.{envelope-told, envelope-filled}
-use Rattle.uadp_c.proofs.Filling.{fill-refused, fill-none, fill-done}
-use Rattle.envelope_record.specs.Envelope.{envelopeNumbers}
-use Rattle.records.proofs.Storing.{bytes-length}
-use Rattle.network_message.specs.Envelope.{NetworkMessage, answerNetworkMessage}
+use Rattle.uadp_c.proofs.Walking.{envelope-told, read-refused, read-short, read-done}
+use Rattle.network_message.specs.Envelope.{answerNetworkMessage}
 use Rattle.wire.proofs.Reading.{told}
-use mathlib.Core.Path.{refl}
 use native.Mathlib.Omega.{arith}
 use denote.Ref.{now}
 use borrow.Author.Needs.{needs}
@@ -23,9 +19,7 @@ returns c =
     let same =
     envelope-told (now (args .config)) (now (args .datagram)) _ _ _ _ (at-writer-count .writer-count .ensures .0) (at-sizes .sizes .ensures) (at-first .first .ensures)
     (told answerNetworkMessage (at-read .read .ensures) (at-e .e .given .1)) in
-    let m : NetworkMessage = record { envelope = at-e .e .given .0 .0; places = at-e .e .given .0 .1 .0; payload = at-e .e .given .0 .1 .1 .0 } in
-    envelope-filled _ _ (now (args .envelope)) _ _ same
-    (fill-none _ (now (args .envelope)) _ _ 256 _ refl (bytes-length (envelopeNumbers m)) (omega arith) (c .result2 .ensures)) (λ l. absurd (omega arith))
+    read-short (at-e .e .given .0 .0) (at-e .e .given .0 .1 .0) (at-e .e .given .0 .1 .1 .0) _ (now (args .envelope)) _ _ same (omega arith) (c .result2 .ensures)
 
 -- src/messages.rt:27:1
 returns-2 : tie.Need-returns-2
@@ -39,7 +33,7 @@ returns-2 c =
     let same =
     envelope-told (now (args .config)) (now (args .datagram)) _ _ _ _ (at-writer-count .writer-count .ensures .0) (at-sizes .sizes .ensures) (at-first .first .ensures)
     (told answerNetworkMessage (at-read .read .ensures) (at-number .number .given .1)) in
-    envelope-filled _ _ (now (args .envelope)) _ _ same (fill-refused _ (now (args .envelope)) _ _ _ refl (c .result .ensures)) tt
+    read-refused _ (now (args .envelope)) _ _ _ same (c .result .ensures)
 
 -- src/messages.rt:27:1
 returns-3 : tie.Need-returns-3
@@ -54,10 +48,8 @@ returns-3 c =
     let same =
     envelope-told (now (args .config)) (now (args .datagram)) _ _ _ _ (at-writer-count .writer-count .ensures .0) (at-sizes .sizes .ensures) (at-first .first .ensures)
     (told answerNetworkMessage (at-read .read .ensures) (at-e .e .given .1)) in
-    let m : NetworkMessage = record { envelope = at-e .e .given .0 .0; places = at-e .e .given .0 .1 .0; payload = at-e .e .given .0 .1 .1 .0 } in
-    envelope-filled _ _ (now (args .envelope)) _ _ same
-    (fill-done _ (now (args .envelope)) _ _ _ 256 _ refl (bytes-length (envelopeNumbers m)) (omega arith) (c .result3 .ensures) (at-put-envelope .put-envelope .ensures .0))
-    (at-put-envelope .put-envelope .ensures .1)
+    read-done (at-e .e .given .0 .0) (at-e .e .given .0 .1 .0) (at-e .e .given .0 .1 .1 .0) _ (now (args .envelope)) _ _ _ same (omega arith) (c .result3 .ensures)
+    (at-put-envelope .put-envelope .ensures .0) (at-put-envelope .put-envelope .ensures .1)
 
 pub uadp-read-spec : {M : Type 1} → statement M
 uadp-read-spec =
