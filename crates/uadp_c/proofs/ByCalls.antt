@@ -182,7 +182,7 @@ module _ (s config : List ℕ) (writer : ℕ) (m : Message) (e : ℕ) (q : messa
       }
 
 -- the head record that reading filled
-read-back : (s config : List ℕ) (writer : ℕ) (m : Message) (e : ℕ) (entry : List ℕ) (r : ℕ) (head : List ℕ) → messageAt (typesFor config writer) s ≡ got (valid m) e
+pub read-back : (s config : List ℕ) (writer : ℕ) (m : Message) (e : ℕ) (entry : List ℕ) (r : ℕ) (head : List ℕ) → messageAt (typesFor config writer) s ≡ got (valid m) e
     → HEAD_SIZE ≤ length entry → HeadRead s config writer entry r head → (HEAD_SIZE ≤ length head) × HeadBack head m
 read-back s config writer m e entry r head q l w =
     let f : head ≡ laid entry 0 (numberBytes (headNumbers (valid m))) = rw q at (w .filled) in

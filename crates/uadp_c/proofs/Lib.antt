@@ -9,3 +9,5 @@ pub mod Emptied
 pub mod KeptRecord
 pub mod Demand3
 pub mod ByCalls
+pub mod MessagesByCalls
+pub mod WrittenAgain
