@@ -12,15 +12,12 @@ use lib.Dec.{eqb, leb}
 use lib.ListN.{length, getD, drop}
 use Rattle.wire.specs.Answer.{bit, bits}
 use Rattle.wire.specs.Number.{leBytes}
-use Rattle.wire.proofs.Cases.{by-bool}
 use Rattle.wire_writer.specs.Store.{laid}
-use Rattle.wire_writer.specs.Writing.{on16, on32}
+use Rattle.wire_writer.specs.Writing.{on16}
 use Rattle.wire_writer.proofs.Trip.{At}
-use Rattle.publisher_id.specs.PublisherRecord.{codeOf}
 use Rattle.network_header.specs.Group.{FitsFields, FitsGroup}
 use Rattle.network_header.specs.Header.{FitsClass}
 use Rattle.network_header.specs.declared.envelope.Envelope.{Envelope}
-use Rattle.network_header.specs.declared.envelope.Places.{Places}
 use Rattle.network_header.specs.declared.group.GroupFields.{GroupFields}
 use Rattle.network_header.specs.declared.group.GroupHeader.{GroupHeader}
 use Rattle.network_header.specs.declared.header.ClassId.{ClassId}
@@ -35,7 +32,7 @@ use Rattle.records.specs.Items.{has16, value16, has32, value32, given16, given3
 use Rattle.records.specs.Publisher.{publisherNumber, publisherGiven, publisherNumberFits}
 use Rattle.records.proofs.Storing.{bytes-length}
 use Rattle.records.proofs.ReadBack.{AllFit, number-read, stored-at, number-laid, number-kept, laid-length, publisher-given-back, publisher-number-fits, number-fits, code-fits, flag-fits, at-most-same, given16-back, given32-back, givenI64-back, fits16-back, fits32-back, told16, told32, is-on16, is-onI64, is-on-flag, has16-bound, has32-bound, hasI64-bound, value16-bound, value32-bound, valueI64-bound}
-use Rattle.envelope_record.specs.Envelope.{hasClass, classLow, classHigh, groupItems, groupWriter, groupVersion, groupNumber, groupSequence, headerCode, headerNumber, hasPromoted, promotedSize, sizesCode, sizesPlace, envelopeNumbers, sizesBy, payloadIn, messagesIn, messagesLaid, classIn, groupIn, payloadHeaderBy, payloadHeaderIn, payloadHeaderEnd, promotedIn, envelopeIn, groupFits, headerFits, envelopeFits, FitsEnvelopeRecord, countFits, EnvelopeBack}
+use Rattle.envelope_record.specs.Envelope.{hasClass, classLow, classHigh, groupItems, groupWriter, groupVersion, groupNumber, groupSequence, headerCode, headerNumber, hasPromoted, promotedSize, sizesCode, sizesPlace, envelopeNumbers, sizesBy, payloadIn, messagesIn, messagesLaid, classIn, groupIn, payloadHeaderBy, payloadHeaderIn, payloadHeaderEnd, promotedIn, groupFits, headerFits, FitsEnvelopeRecord, countFits, EnvelopeBack}
 
 -- two or three arguments that are the same
 both : {A B D : Type 0} (g : A → B → D) {a x : A} {b y : B} → a ≡ x → b ≡ y → g a b ≡ g x y

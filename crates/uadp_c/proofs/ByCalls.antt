@@ -3,16 +3,16 @@
 -- Assumes nothing.
 use Prim.Native.Nat.{ℕ, suc, _+_, _*_, _-_, _^_, _≤_, _<_}
 use mathlib.Core.Path.{_≡_, refl, ap, sym, subst, _∙_}
-use mathlib.Core.Bool.{Bool, true, false, cond}
+use mathlib.Core.Bool.{Bool, true, false}
 use mathlib.Core.List.{List, [], _∷_}
 use native.Mathlib.Numerals.{add-one}
 use native.Mathlib.Nat.{add-zero}
 use native.Mathlib.Omega.{arith}
-use borrow.Author.Tests.{le-leb, le-ltb, leb-true, ltb-false}
+use borrow.Author.Tests.{le-ltb}
 use lib.Dec.{leb, ltb, eqb}
-use lib.ListN.{length, getD, take}
+use lib.ListN.{length}
 use Rattle.wire.specs.Number.{leBytes}
-use Rattle.wire.specs.Answer.{Answer, got, refused, item, andThen}
+use Rattle.wire.specs.Answer.{Answer, got, refused, item}
 use Rattle.wire.proofs.Cases.{by-bool}
 use Rattle.wire.proofs.Reading.{got-value, got-next, not-got, invert}
 use Rattle.wire_writer.specs.Fits.{Bytes, Numbers}
@@ -25,8 +25,8 @@ use Rattle.dataset_header.specs.declared.header.Header.{Header}
 use Rattle.dataset_header.proofs.HeaderTrip.{header-back}
 use Rattle.dataset_fields.specs.Fields.{FieldStepped, fieldsAt, paddingAt, nextFieldAt, cursorBefore}
 use Rattle.dataset_fields.specs.declared.fields.Cursor.{Cursor}
-use Rattle.dataset_message.specs.Message.{Message, countedAt, countAt, afterHeader, messageAt, fieldPlaceAt}
-use Rattle.dataset_message.proofs.Agreement.{Agrees, message-agrees, message-read, walk-ends}
+use Rattle.dataset_message.specs.Message.{Message, countedAt, countAt, afterHeader, messageAt}
+use Rattle.dataset_message.proofs.Agreement.{message-agrees, message-read, walk-ends}
 use Rattle.records.specs.Numbers.{numberBytes}
 use Rattle.records.specs.Sizes.{FIELD_SIZE, HEAD_SIZE}
 use Rattle.records.specs.Result.{resultOf}
@@ -123,7 +123,8 @@ module _ (s config : List ℕ) (writer : ℕ) (m : Message) (e : ℕ) (q : messa
       let end-fits : g .end < 256 ^ 8 = omega arith in
       let after : cursorIn (a .head) ≡ cursorBefore c (k + 1) (g .end) =
       ap cursorIn head
-      ∙ cursor-moved (x .cursor) h (w .long) next-fits end-fits (sym (ap (λ (y : Cursor). y .encoding) before)) (sym (ap (λ (y : Cursor). y .delta) before)) (sym (ap (λ (y : Cursor). y .count) before)) in
+      ∙ cursor-moved (x .cursor) h (w .long) next-fits end-fits (sym (ap (λ (y : Cursor). y .encoding) before)) (sym (ap (λ (y : Cursor). y .delta) before))
+      (sym (ap (λ (y : Cursor). y .count) before)) in
       let told : FieldTold types s c k f a = record {
         place = g .place;
         at = g .at;

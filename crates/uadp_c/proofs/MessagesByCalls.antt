@@ -3,32 +3,31 @@
 -- Assumes nothing.
 use Prim.Native.Nat.{ℕ, zero, suc, _+_, _*_, _^_, _≤_, _<_}
 use mathlib.Core.Path.{_≡_, refl, ap, sym, subst, _∙_}
-use mathlib.Core.Bool.{Bool, true, false, cond}
+use mathlib.Core.Bool.{Bool, true, false}
 use mathlib.Core.List.{List, [], _∷_}
 use native.Mathlib.Numerals.{add-one}
 use native.Mathlib.Nat.{add-zero}
 use native.Mathlib.Omega.{arith}
 use borrow.Author.Tests.{le-leb, le-ltb, ltb-false}
 use lib.Dec.{leb, ltb}
-use lib.ListN.{length, getD, take}
+use lib.ListN.{length, getD}
 use Rattle.wire.specs.Number.{leBytes}
 use Rattle.wire.specs.Lists.{total}
 use Rattle.wire.specs.Answer.{Answer, got, refused}
 use Rattle.wire.specs.declared.optional.Optional16.{Optional16}
-use Rattle.wire.proofs.Cases.{by-bool}
 use Rattle.wire.proofs.Reading.{got-value, not-got, invert}
 use Rattle.wire_writer.specs.Store.{laid}
 use Rattle.network_header.specs.Flags.{flagsAt}
 use Rattle.network_header.specs.Numbers.{configuredSizes}
 use Rattle.network_header.specs.declared.flags.Flags.{Flags}
 use Rattle.network_header.specs.declared.header.PayloadHeader.{PayloadHeader}
-use Rattle.network_message.specs.Envelope.{NetworkMessage, envelopeAt, envelopeBodyAt, networkMessageAt, messagePlaceAt}
+use Rattle.network_message.specs.Envelope.{NetworkMessage, envelopeAt, envelopeBodyAt, networkMessageAt}
 use Rattle.network_message.specs.Payload.{PlaceStepped, payloadAt, placeStepAt, OfMessages}
 use Rattle.network_message.specs.WriterId.{writerIdOf}
 use Rattle.network_message.specs.declared.payload.Payload.{Payload}
 use Rattle.network_message.specs.declared.payload.MessageCursor.{MessageCursor}
 use Rattle.network_message.specs.declared.payload.MessagePlace.{MessagePlace}
-use Rattle.network_message.proofs.Accepted.{Tiled, payload-tiled}
+use Rattle.network_message.proofs.Accepted.{payload-tiled}
 use Rattle.network_message.proofs.Messages.{Tiles, before, tile, tiled}
 use Rattle.records.specs.Numbers.{numberBytes}
 use Rattle.records.specs.Sizes.{ENVELOPE_SIZE, PLACE_SIZE}

@@ -1,7 +1,7 @@
 -- What was read into a record, written again from it and from the parts as they were read, is the same bytes.
 -- Assumes nothing.
-use Prim.Native.Nat.{ℕ, zero, suc, _+_, _*_, _^_, _≤_, _<_}
-use mathlib.Core.Path.{_≡_, refl, ap, sym, subst, _∙_}
+use Prim.Native.Nat.{ℕ, zero, suc, _+_, _≤_, _<_}
+use mathlib.Core.Path.{_≡_, refl, ap, _∙_}
 use mathlib.Core.Bool.{Bool, true, false, cond}
 use mathlib.Core.List.{List, [], _∷_}
 use native.Mathlib.Omega.{arith}
@@ -11,7 +11,7 @@ use lib.ListN.{length, getD, take, replicate}
 use Rattle.wire.specs.Answer.{got}
 use Rattle.wire.specs.Number.{le}
 use Rattle.wire_writer.specs.Fits.{Bytes, Numbers}
-use Rattle.wire_writer.specs.Writing.{Output, writing, unless}
+use Rattle.wire_writer.specs.Writing.{Output, writing, unless, bufferAfter}
 use Rattle.wire_writer.proofs.Refusals.{both-zero}
 use Rattle.dataset_header.specs.Flags.{valid}
 use Rattle.dataset_header.specs.declared.header.Header.{Header}
@@ -33,8 +33,8 @@ use Rattle.records.specs.Sizes.{ENVELOPE_SIZE, HEAD_SIZE}
 use Rattle.records.specs.Writers.{idsIn, sizesIn, sixteen, typesFor, writersIn}
 use Rattle.message_record.specs.Message.{headerIn}
 use Rattle.envelope_record.specs.Envelope.{envelopeIn, countFits}
-use Rattle.uadp_c.specs.Writing.{fitting}
-use Rattle.uadp_c.specs.ByCalls.{HeadRead, EnvelopeRead, datagramFrom, messageFrom}
+use Rattle.uadp_c.specs.Writing.{outputResult, fitting}
+use Rattle.uadp_c.specs.ByCalls.{HeadRead, EnvelopeRead, datagramFrom, messageFrom, Written, DatagramAgain, MessageAgain}
 use Rattle.uadp_c.proofs.ByCalls.{read-back}
 use Rattle.uadp_c.proofs.MessagesByCalls.{envelope-read-back}
 
@@ -79,10 +79,14 @@ count-fits chunk PayloadHeader.Absent ids configured e = refl
 count-fits chunk (PayloadHeader.Ids n) ids configured e = let k = ids-counted chunk n ids configured e in le-leb n 255 (omega (arith, k .1))
 count-fits chunk (PayloadHeader.Chunk w) ids configured e = refl
 
+-- ---- an output that is these bytes
+written : (bytes : List ℕ) (o : Output) (entry : List ℕ) (x : ℕ) (exit : List ℕ) → o ≡ writing bytes → x ≡ outputResult entry o → exit ≡ bufferAfter entry o → Written bytes entry x exit
+written bytes o entry x exit e a b = record { answer = a ∙ ap (outputResult entry) e; buffer = b ∙ ap (bufferAfter entry) e }
+
 -- A DATAGRAM, READ AND WRITTEN AGAIN FROM ITS RECORD: what `uadp_write` writes is the datagram, but for the one exception of document 01
 pub datagram-again : (d config : List ℕ) (m : NetworkMessage) (n : ℕ) (entry : List ℕ) (r : ℕ) (envelope : List ℕ) → Bytes d → Bytes config
     → networkMessageAt (sizesIn config) d ≡ got m n → ENVELOPE_SIZE ≤ length entry → EnvelopeRead d config entry r envelope
-    → datagramFrom d config m envelope ≡ writing (rewritten d)
+    → DatagramAgain d config m envelope
 datagram-again d config m n entry r envelope bd bc q l w =
     let b = envelope-read-back d config m n entry r envelope q l w .1 in
     let x = m .envelope in
@@ -91,22 +95,26 @@ datagram-again d config m n entry r envelope bd bc q l w =
     let shape = both-zero (datagram.datagramReadingRefusal g x (sizesIn config)) (datagram.shapeRefusal g x (sizesIn config) (idsIn config)) (z .0) .1 in
     let ids = both-zero (publisherShape (x .publisher) (length (g .text))) _ shape .1 in
     let counts = count-fits (x .chunk) (x .«payload_header») (g .ids) (idsIn config) (both-zero (idsShape (x .chunk) (x .«payload_header») (g .ids) (idsIn config)) _ ids .0) in
+    let same : datagramFrom config envelope g ≡ writing (rewritten d) =
     ap (λ (t : Bool). fitting t (datagram.datagramOutput g (envelopeIn envelope) (sizesIn config) (idsIn config))) (b .fitting ∙ counts)
     ∙ ap (λ (y : Envelope). datagram.datagramOutput g y (sizesIn config) (idsIn config)) (b .envelope)
     ∙ ap (λ (k : ℕ). unless k (datagram.datagramOf g x)) (z .0)
-    ∙ ap writing (z .1)
+    ∙ ap writing (z .1) in
+    λ out x exit y. written (rewritten d) (datagramFrom config envelope g) out x exit same (y .answer) (y .buffer)
 
 -- A MESSAGE, READ AND WRITTEN AGAIN FROM ITS RECORD: what `uadp_write_message` writes is the message
 pub message-again : (s config : List ℕ) (writer : ℕ) (m : Message) (e : ℕ) (entry : List ℕ) (r : ℕ) (head : List ℕ) → Bytes s
     → messageAt (typesFor config writer) s ≡ got (valid m) e → HEAD_SIZE ≤ length entry → HeadRead s config writer entry r head
-    → messageFrom s config writer m head ≡ writing s
+    → MessageAgain s config writer m head
 message-again s config writer m e entry r head bytes q l w =
     let b = read-back s config writer m e entry r head q l w .1 in
     let types = typesFor config writer in
     let g = takenAgain types s m in
     let z = rewrite-read types s m e bytes q in
     let given : Header → message.GivenMessage = λ h. message.givenMessage h (g .heartbeat) (g .values) (g .lengths) (g .indices) (g .padding) in
+    let same : messageFrom config writer head g ≡ writing s =
     ap (λ (t : Bool). fitting t (message.messageOutput types (given (headerIn head)))) (b .fitting)
     ∙ ap (λ (h : Header). message.messageOutput types (given h)) (b .header)
     ∙ ap (λ (k : ℕ). unless k (message.encode g)) (z .accepted)
-    ∙ ap writing (z .same)
+    ∙ ap writing (z .same) in
+    λ out x exit y. written s (messageFrom config writer head g) out x exit same (y .answer) (y .buffer)

@@ -7,7 +7,7 @@ use lib.ListN.{length}
 use Rattle.wire.specs.Answer.{Answer, got}
 use Rattle.wire.specs.Constants.{OVER_LIMIT}
 use Rattle.wire_writer.specs.Store.{laid}
-use Rattle.wire_writer.specs.Writing.{Output, writing}
+use Rattle.wire_writer.specs.Writing.{Output, writing, bufferAfter}
 use Rattle.dataset_fields.specs.Fields.{FieldStepped, nextFieldAt, walkAt, cursorBefore}
 use Rattle.dataset_fields.specs.declared.fields.Cursor.{Cursor}
 use Rattle.dataset_fields.specs.declared.fields.Field.{Field}
@@ -20,14 +20,14 @@ use Rattle.dataset_message_writer.specs.Message as message
 use Rattle.round_trip.specs.NetworkMessage.{rewritten, givenOf}
 use Rattle.round_trip.specs.DataSetMessage.{takenAgain}
 use Rattle.records.specs.Numbers.{numberBytes}
-use Rattle.records.specs.Sizes.{ENVELOPE_SIZE, FIELD_SIZE, HEAD_SIZE, PLACE_SIZE}
+use Rattle.records.specs.Sizes.{FIELD_SIZE, PLACE_SIZE}
 use Rattle.records.specs.Result.{resultOf, resultIn, filledIn}
 use Rattle.records.specs.Writers.{idsIn, sizesIn, typesFor}
 use Rattle.message_record.specs.Message.{cursorIn, headerIn, headFits, fieldNumbers}
 use Rattle.envelope_record.specs.Envelope.{envelopeIn, envelopeFits, messagesIn, placeNumbers}
 use Rattle.uadp_c.specs.Fields.{headFilling, HeadReads, stepResult, headAfter, fieldAfter}
 use Rattle.uadp_c.specs.Messages.{envelopeFilling, EnvelopeReads, messageStep, writerAt, messageResult, envelopeAfter, placeAfter}
-use Rattle.uadp_c.specs.Writing.{fitting}
+use Rattle.uadp_c.specs.Writing.{outputResult, fitting}
 
 -- each of some lent records has at least so many bytes
 abbrev pub AllLong : ℕ → List (List ℕ) → Type 0
@@ -73,9 +73,9 @@ abbrev pub lastHead : List ℕ → List FieldCall → List ℕ
 lastHead h [] = h
 lastHead h (a ∷ ys) = lastHead (a .head) ys
 
--- Call k, from the cursor c before the first field and on the field record f: document 01's walk is before field k after k steps, and steps
--- over it; `uadp_field` finds the same. The call answers number 0 and the field's offset, fills the field record with its numbers, and leaves
--- a head record whose cursor is before field k + 1.
+-- Call k, from the cursor c before the first field and on the field record f: document 01's walk is before field k after k steps, and
+-- steps over it; `uadp_field` finds the same. The call answers number 0 and the field's offset, fills the field record with its numbers,
+-- and leaves a head record whose cursor is before field k + 1.
 pub record FieldTold (types s : List ℕ) (c : Cursor) (k : ℕ) (f : List ℕ) (a : FieldCall) : Type 0 where
   pub place : Field
   pub at : ℕ
@@ -169,17 +169,46 @@ pub record MessagesByCalls (d config : List ℕ) (m : NetworkMessage) (envelope 
 
 -- ---- what was read, written again from the record
 
--- What `uadp_write` writes, by its contract, from an envelope record and the parts of the datagram d as they were read.
-abbrev pub datagramFrom : List ℕ → List ℕ → NetworkMessage → List ℕ → Output
-datagramFrom d config m envelope =
-    fitting (envelopeFits envelope)
-    (datagram.datagramOutput (givenOf d (m .envelope) (m .places) (sizesIn config) (idsIn config)) (envelopeIn envelope) (sizesIn config)
-    (idsIn config))
+-- what `uadp_write` writes, from an envelope record and the parts g
+abbrev pub datagramFrom : List ℕ → List ℕ → datagram.GivenDatagram → Output
+datagramFrom config envelope g =
+    fitting (envelopeFits envelope) (datagram.datagramOutput g (envelopeIn envelope) (sizesIn config) (idsIn config))
 
--- What `uadp_write_message` writes, by its contract, from a head record and the parts of the message s as they were read.
-abbrev pub messageFrom : List ℕ → List ℕ → ℕ → Message → List ℕ → Output
-messageFrom s config writer m head =
-    let types = typesFor config writer in
-    let g = takenAgain types s m in
+-- what its contract says of a call on the buffer `entry`: its result, and the buffer afterwards
+pub record DatagramWritten (config envelope : List ℕ) (g : datagram.GivenDatagram) (entry : List ℕ) (result : ℕ)
+    (exit : List ℕ) : Type 0 where
+  pub answer : result ≡ outputResult entry (datagramFrom config envelope g)
+  pub buffer : exit ≡ bufferAfter entry (datagramFrom config envelope g)
+
+-- what `uadp_write_message` writes, from a head record and the parts g, whose header is the record's
+abbrev pub messageFrom : List ℕ → ℕ → List ℕ → message.GivenMessage → Output
+messageFrom config writer head g =
     fitting (headFits head)
-    (message.messageOutput types (message.givenMessage (headerIn head) (g .heartbeat) (g .values) (g .lengths) (g .indices) (g .padding)))
+    (message.messageOutput (typesFor config writer)
+    (message.givenMessage (headerIn head) (g .heartbeat) (g .values) (g .lengths) (g .indices) (g .padding)))
+
+-- what its contract says of a call on the buffer `entry`: its result, and the buffer afterwards
+pub record MessageWritten (config : List ℕ) (writer : ℕ) (head : List ℕ) (g : message.GivenMessage) (entry : List ℕ) (result : ℕ)
+    (exit : List ℕ) : Type 0 where
+  pub answer : result ≡ outputResult entry (messageFrom config writer head g)
+  pub buffer : exit ≡ bufferAfter entry (messageFrom config writer head g)
+
+-- What is claimed of such a call: these bytes are written, and nothing but the room can refuse them.
+pub record Written (bytes entry : List ℕ) (result : ℕ) (exit : List ℕ) : Type 0 where
+  pub answer : result ≡ outputResult entry (writing bytes)
+  pub buffer : exit ≡ bufferAfter entry (writing bytes)
+
+-- a datagram that was read into the record `envelope`: written from it and from the parts as they were read, it is the datagram, but for
+-- document 01's one exception
+abbrev pub DatagramAgain : List ℕ → List ℕ → NetworkMessage → List ℕ → Type 0
+DatagramAgain d config m envelope =
+    (entry : List ℕ) (result : ℕ) (exit : List ℕ)
+    → DatagramWritten config envelope (givenOf d (m .envelope) (m .places) (sizesIn config) (idsIn config)) entry result exit
+    → Written (rewritten d) entry result exit
+
+-- a message that was read into the record `head`: written from it and from the parts as they were read, it is the message
+abbrev pub MessageAgain : List ℕ → List ℕ → ℕ → Message → List ℕ → Type 0
+MessageAgain s config writer m head =
+    (entry : List ℕ) (result : ℕ) (exit : List ℕ)
+    → MessageWritten config writer head (takenAgain (typesFor config writer) s m) entry result exit
+    → Written s entry result exit
