@@ -3,7 +3,7 @@
 -- Assumes nothing.
 use Prim.Native.Nat.{ℕ, _+_, _*_, _^_, _≤_, _<_}
 use mathlib.Core.Path.{_≡_, refl, ap, sym, _∙_}
-use mathlib.Core.Bool.{Bool, true, false, _&&_}
+use mathlib.Core.Bool.{Bool, true, false, cond, _&&_}
 use mathlib.Core.List.{List, []}
 use native.Mathlib.Omega.{arith}
 use native.Mathlib.Nat.{zero-add}
@@ -32,7 +32,7 @@ use Rattle.records.specs.Items.{has16, value16, has32, value32, given16, given3
 use Rattle.records.specs.Publisher.{publisherNumber, publisherGiven, publisherNumberFits}
 use Rattle.records.proofs.Storing.{bytes-length}
 use Rattle.records.proofs.ReadBack.{AllFit, number-read, stored-at, number-laid, number-kept, laid-length, publisher-given-back, publisher-number-fits, number-fits, code-fits, flag-fits, at-most-same, given16-back, given32-back, givenI64-back, fits16-back, fits32-back, told16, told32, is-on16, is-onI64, is-on-flag, has16-bound, has32-bound, hasI64-bound, value16-bound, value32-bound, valueI64-bound}
-use Rattle.envelope_record.specs.Envelope.{hasClass, classLow, classHigh, groupItems, groupWriter, groupVersion, groupNumber, groupSequence, headerCode, headerNumber, hasPromoted, promotedSize, sizesCode, sizesPlace, envelopeNumbers, sizesBy, payloadIn, messagesIn, messagesLaid, classIn, groupIn, payloadHeaderBy, payloadHeaderIn, payloadHeaderEnd, promotedIn, groupFits, headerFits, FitsEnvelopeRecord, countFits, EnvelopeBack}
+use Rattle.envelope_record.specs.Envelope.{hasClass, classLow, classHigh, groupItems, groupWriter, groupVersion, groupNumber, groupSequence, headerCode, headerNumber, hasPromoted, promotedSize, sizesCode, sizesPlace, envelopeNumbers, sizesBy, payloadIn, messagesIn, messagesLaid, classIn, groupIn, payloadHeaderBy, payloadHeaderIn, payloadHeaderEnd, promotedIn, envelopeIn, groupFits, headerFits, envelopeFits, FitsEnvelopeRecord, countFits, EnvelopeBack}
 
 -- two or three arguments that are the same
 both : {A B D : Type 0} (g : A → B → D) {a x : A} {b y : B} → a ≡ x → b ≡ y → g a b ≡ g x y
@@ -330,3 +330,50 @@ module _ (c : MessageCursor) (r : List ℕ) (h : 256 ≤ length r) where
 
   pub header-end-stays : payloadHeaderEnd (messagesLaid c r) ≡ payloadHeaderEnd r
   header-end-stays = kept 14 (λ p. omega arith) (λ q. omega arith)
+
+  pub envelope-stays : (envelopeIn (messagesLaid c r) ≡ envelopeIn r) × (envelopeFits (messagesLaid c r) ≡ envelopeFits r)
+  envelope-stays =
+      let k0 = kept 0 (λ p. omega arith) (λ q. omega arith) in
+      let k1 = kept 1 (λ p. omega arith) (λ q. omega arith) in
+      let k3 = kept 3 (λ p. omega arith) (λ q. omega arith) in
+      let k4 = kept 4 (λ p. omega arith) (λ q. omega arith) in
+      let k5 = kept 5 (λ p. omega arith) (λ q. omega arith) in
+      let k6 = kept 6 (λ p. omega arith) (λ q. omega arith) in
+      let k7 = kept 7 (λ p. omega arith) (λ q. omega arith) in
+      let k8 = kept 8 (λ p. omega arith) (λ q. omega arith) in
+      let k9 = kept 9 (λ p. omega arith) (λ q. omega arith) in
+      let k10 = kept 10 (λ p. omega arith) (λ q. omega arith) in
+      let k11 = kept 11 (λ p. omega arith) (λ q. omega arith) in
+      let k12 = kept 12 (λ p. omega arith) (λ q. omega arith) in
+      let k13 = kept 13 (λ p. omega arith) (λ q. omega arith) in
+      let k15 = kept 15 (λ p. omega arith) (λ q. omega arith) in
+      let k16 = kept 16 (λ p. omega arith) (λ q. omega arith) in
+      let k17 = kept 17 (λ p. omega arith) (λ q. omega arith) in
+      let k18 = kept 18 (λ p. omega arith) (λ q. omega arith) in
+      let k19 = kept 19 (λ p. omega arith) (λ q. omega arith) in
+      let k20 = kept 20 (λ p. omega arith) (λ q. omega arith) in (
+        λ i.
+            record {
+              publisher = publisherGiven (k0 i) (k1 i);
+              «class_id» = classIn (k3 i) (k4 i) (k5 i);
+              group =
+                  cond (eqb (k6 i) 0) GroupHeader.Absent
+                  (GroupHeader.Is
+                  (record {
+                    «writer_group» = given16 (bit 0 (k6 i)) (k7 i);
+                    version = given32 (bit 1 (k6 i)) (k8 i);
+                    number = given16 (bit 2 (k6 i)) (k9 i);
+                    sequence = given16 (bit 3 (k6 i)) (k10 i);
+                  }));
+              chunk = isOn (k11 i);
+              «payload_header» = payloadHeaderBy (k12 i) (k13 i);
+              timestamp = givenI64 (isOn (k15 i)) (k16 i);
+              picoseconds = given16 (isOn (k17 i)) (k18 i);
+              promoted = promotedIn (k19 i) (k20 i);
+            },
+        λ i.
+            publisherNumberFits (k0 i) (k1 i)
+            && ((fitsItem (bit 0 (k6 i)) 65535 (k7 i)
+            && (fitsItem (bit 1 (k6 i)) 4294967295 (k8 i) && (fitsItem (bit 2 (k6 i)) 65535 (k9 i) && fitsItem (bit 3 (k6 i)) 65535 (k10 i))))
+            && (headerFits (k12 i) (k13 i) && fitsItem (isOn (k17 i)) 65535 (k18 i))),
+      )

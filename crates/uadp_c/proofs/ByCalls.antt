@@ -32,8 +32,8 @@ use Rattle.records.specs.Sizes.{FIELD_SIZE, HEAD_SIZE}
 use Rattle.records.specs.Result.{resultOf}
 use Rattle.records.specs.Writers.{typesFor}
 use Rattle.records.proofs.ReadBack.{laid-length}
-use Rattle.message_record.specs.Message.{cursorIn, cursorLaid, headNumbers, fieldNumbers, HeadBack}
-use Rattle.message_record.proofs.Back.{cursor-moved}
+use Rattle.message_record.specs.Message.{cursorIn, cursorLaid, headerIn, headFits, headNumbers, fieldNumbers, HeadBack}
+use Rattle.message_record.proofs.Back.{cursor-moved, header-stays}
 use Rattle.uadp_c.specs.Fields.{stepResult, headAfter, fieldAfter}
 use Rattle.uadp_c.specs.ByCalls.{AllLong, HeadRead, FieldCall, fieldCall, fieldStep, NextField, FieldCalls, lastHead, FieldTold, FieldsTold, FieldsByCalls}
 
@@ -106,6 +106,8 @@ module _ (s config : List ℕ) (writer : ℕ) (m : Message) (e : ℕ) (q : messa
     cursor : cursorIn h ≡ cursorBefore c k p
     passes : passed k p
     inside : p ≤ length s
+    header : headerIn h ≡ m .header
+    fitting : headFits h ≡ true
 
   -- one call
   one : (k p : ℕ) (h f : List ℕ) (a : FieldCall) → k < c .count → Stands k p h → FIELD_SIZE ≤ length f → NextField s config writer h f a
@@ -136,11 +138,14 @@ module _ (s config : List ℕ) (writer : ℕ) (m : Message) (e : ℕ) (q : messa
         filled = n .field ∙ ap (λ (y : Answer FieldStepped). fieldAfter y h f) step ∙ made .2;
         cursor = after;
       } in
+      let stays = header-stays (x .cursor) h (w .long) in
       let stands : Stands (k + 1) (g .end) (a .head) = record {
         long = omega (arith, w .long, ap (λ (y : List ℕ). length y) head, cursor-length (x .cursor) h);
         cursor = after;
         passes = ap (λ (j : ℕ). fieldsAt (c .delta) (c .encoding) types j 0 s (c .at)) (add-one k) ∙ g .passed-too;
         inside = end-in;
+        header = ap headerIn head ∙ stays .0 ∙ w .header;
+        fitting = ap headFits head ∙ stays .1 ∙ w .fitting;
       } in
       (told, stands)
 
@@ -165,15 +170,20 @@ module _ (s config : List ℕ) (writer : ℕ) (m : Message) (e : ℕ) (q : messa
       let g = n .field ∙ ap (λ (y : Answer FieldStepped). fieldAfter y h f) step in
       λ i. record { result = r i; head = d i; field = g i }
 
-  by-calls : (h : List ℕ) → HEAD_SIZE ≤ length h → cursorIn h ≡ c → FieldsByCalls s config writer m h
-  by-calls h l k =
+  starts : (h : List ℕ) → HEAD_SIZE ≤ length h → HeadBack h m → Stands 0 (c .at) h
+  starts h l b =
       let first = message-read types s m e q .first in
-      let start : Stands 0 (c .at) h = record {
+      record {
         long = l;
-        cursor = k ∙ (λ i. record { encoding = c .encoding; delta = c .delta; next = first i; count = c .count; at = c .at });
+        cursor = b .cursor ∙ (λ i. record { encoding = c .encoding; delta = c .delta; next = first i; count = c .count; at = c .at });
         passes = none-passed c types s;
         inside = start-inside types s m e bytes q;
-      } in
+        header = b .header;
+        fitting = b .fitting;
+      }
+
+  by-calls : (h : List ℕ) → Stands 0 (c .at) h → FieldsByCalls s config writer m h
+  by-calls h start =
       record {
         told = λ fs ys long n y. all fs ys 0 (c .at) h long (omega arith) start y .0;
         ended = λ fs ys long n y f a t.
@@ -183,16 +193,28 @@ module _ (s config : List ℕ) (writer : ℕ) (m : Message) (e : ℕ) (q : messa
       }
 
 -- the head record that reading filled
-pub read-back : (s config : List ℕ) (writer : ℕ) (m : Message) (e : ℕ) (entry : List ℕ) (r : ℕ) (head : List ℕ) → messageAt (typesFor config writer) s ≡ got (valid m) e
+read-back : (s config : List ℕ) (writer : ℕ) (m : Message) (e : ℕ) (entry : List ℕ) (r : ℕ) (head : List ℕ) → messageAt (typesFor config writer) s ≡ got (valid m) e
     → HEAD_SIZE ≤ length entry → HeadRead s config writer entry r head → (HEAD_SIZE ≤ length head) × HeadBack head m
 read-back s config writer m e entry r head q l w =
     let f : head ≡ laid entry 0 (numberBytes (headNumbers (valid m))) = rw q at (w .filled) in
     let b : HEAD_SIZE ≤ length entry → HeadBack head m = rw q at (w .reads) in
     (omega (arith, ap (λ (y : List ℕ). length y) f, laid-length entry 0 (numberBytes (headNumbers (valid m)))), b l)
 
--- THE FIELDS OF A MESSAGE, BY CALLS, from the head record that `uadp_read_message` filled
-pub fields-by-calls : (s config : List ℕ) (writer : ℕ) (m : Message) (e : ℕ) (entry : List ℕ) (r : ℕ) (head : List ℕ) → Bytes s → length s < 256 ^ 8
-    → messageAt (typesFor config writer) s ≡ got (valid m) e → HEAD_SIZE ≤ length entry → HeadRead s config writer entry r head → FieldsByCalls s config writer m head
-fields-by-calls s config writer m e entry r head b small q l w =
-    let k = read-back s config writer m e entry r head q l w in
-    by-calls s config writer m e q b small (k .1 .fits .count) head (k .0) (k .1 .cursor)
+module _ (s config : List ℕ) (writer : ℕ) (m : Message) (e : ℕ) (entry : List ℕ) (r : ℕ) (head : List ℕ) (bytes : Bytes s) (small : length s < 256 ^ 8)
+    (q : messageAt (typesFor config writer) s ≡ got (valid m) e) (l : HEAD_SIZE ≤ length entry) (w : HeadRead s config writer entry r head) where
+  back : (HEAD_SIZE ≤ length head) × HeadBack head m
+  back = read-back s config writer m e entry r head q l w
+
+  begins : Stands s config writer m e q bytes small (back .1 .fits .count) 0 (m .cursor .at) head
+  begins = starts s config writer m e q bytes small (back .1 .fits .count) head (back .0) (back .1)
+
+  -- THE FIELDS OF A MESSAGE, BY CALLS, from the head record that `uadp_read_message` filled
+  pub fields-by-calls : FieldsByCalls s config writer m head
+  fields-by-calls = by-calls s config writer m e q bytes small (back .1 .fits .count) head begins
+
+  -- and the header that is read in it afterwards
+  pub header-kept : (fs : List (List ℕ)) (ys : List FieldCall) → AllLong FIELD_SIZE fs → length fs ≤ m .cursor .count → FieldCalls s config writer fs head ys
+      → (headerIn (lastHead head ys) ≡ m .header) × (headFits (lastHead head ys) ≡ true)
+  header-kept fs ys long n y =
+      let z = all s config writer m e q bytes small (back .1 .fits .count) fs ys 0 (m .cursor .at) head long (omega arith) begins y .1 .1 in
+      (z .header, z .fitting)

@@ -34,8 +34,8 @@ use Rattle.records.specs.Sizes.{ENVELOPE_SIZE, PLACE_SIZE}
 use Rattle.records.specs.Result.{resultOf}
 use Rattle.records.specs.Writers.{idsIn, sizesIn}
 use Rattle.records.proofs.ReadBack.{laid-length}
-use Rattle.envelope_record.specs.Envelope.{envelopeNumbers, payloadIn, messagesIn, messagesLaid, payloadHeaderIn, payloadHeaderEnd, placeNumbers, EnvelopeBack}
-use Rattle.envelope_record.proofs.Back.{messages-moved, payload-stays, header-stays, header-end-stays}
+use Rattle.envelope_record.specs.Envelope.{envelopeNumbers, envelopeIn, envelopeFits, countFits, payloadIn, messagesIn, messagesLaid, payloadHeaderIn, payloadHeaderEnd, placeNumbers, EnvelopeBack}
+use Rattle.envelope_record.proofs.Back.{messages-moved, envelope-stays, payload-stays, header-stays, header-end-stays}
 use Rattle.uadp_c.specs.Messages.{messageStep, writerAt, messageResult, envelopeAfter, placeAfter}
 use Rattle.uadp_c.specs.ByCalls.{AllLong, EnvelopeRead, MessageCall, messageCall, NextMessage, MessageCalls, lastEnvelope, MessageTold, MessagesTold, MessagesByCalls}
 
@@ -116,6 +116,8 @@ module _ (d config : List ℕ) (m : NetworkMessage) (n : ℕ) (q : networkMessag
     headerEnd : payloadHeaderEnd e ≡ m .places .«payload_header_end»
     payload : payloadIn e ≡ m .payload
     messages : messagesIn e ≡ cursor k at
+    envelope : envelopeIn e ≡ m .envelope
+    fitting : envelopeFits e ≡ countFits (m .envelope .«payload_header»)
 
   -- the step that it tells of
   stepped : (k at : ℕ) (e : List ℕ) → Stands k at e → messageStep config e d ≡ placeStepAt (m .payload) sizes (cursor k at) d
@@ -169,12 +171,15 @@ module _ (d config : List ℕ) (m : NetworkMessage) (n : ℕ) (q : networkMessag
           cursor = moved;
         } in
         let next : start (suc k) ≡ start (k + 1) = ap start (sym (add-one k)) in
+        let stays = envelope-stays (x .cursor) e (w .long) in
         let stands : Stands (k + 1) (start (k + 1)) (a .envelope) = record {
           long = omega (arith, w .long, ap (λ (z : List ℕ). length z) after, messages-length (x .cursor) e);
           header = ap payloadHeaderIn after ∙ header-stays (x .cursor) e (w .long) ∙ w .header;
           headerEnd = ap payloadHeaderEnd after ∙ header-end-stays (x .cursor) e (w .long) ∙ w .headerEnd;
           payload = ap payloadIn after ∙ payload-stays (x .cursor) e (w .long) ∙ w .payload;
           messages = moved ∙ ap (cursor (k + 1)) next;
+          envelope = ap envelopeIn after ∙ stays .0 ∙ w .envelope;
+          fitting = ap envelopeFits after ∙ stays .1 ∙ w .fitting;
         } in
         (told, stands)
 
@@ -214,21 +219,46 @@ module _ (d config : List ℕ) (m : NetworkMessage) (n : ℕ) (q : networkMessag
       none-ended [] (b ∷ ys) long k y p a v = absurd y
       none-ended (r ∷ ps) ys long k y p a v = absurd (omega arith)
 
+  -- what is read in the record after any of the calls
+  still : (e : List ℕ) → Stands 0 (m .payload .first) e → length d ≤ 65535 → Messages (m .payload) sizes d → (ps : List (List ℕ)) (ys : List MessageCall) → AllLong PLACE_SIZE ps
+      → length ps ≤ m .payload .count → MessageCalls d config ps e ys
+      → (envelopeIn (lastEnvelope e ys) ≡ m .envelope) × (envelopeFits (lastEnvelope e ys) ≡ countFits (m .envelope .«payload_header»))
+  still e w limit g [] [] long k y = (w .envelope, w .fitting)
+  still e w limit g [] (a ∷ ys) long k y = absurd y
+  still e w limit g (p ∷ ps) [] long k y = absurd y
+  still e w limit (some zs t) (p ∷ ps) (a ∷ ys) long k y =
+      let begins : Stands 0 (start zs t limit 0) e = subst (λ (i : ℕ). Stands 0 i e) (sym (add-zero (m .payload .first))) w in
+      let z = all zs t limit (p ∷ ps) (a ∷ ys) 0 e long (omega (arith, t .many)) begins y .1 in
+      (z .envelope, z .fitting)
+  still e w limit (none z) (p ∷ ps) (a ∷ ys) long k y = absurd (omega arith)
+
 -- the envelope record that reading filled
-pub envelope-read-back : (d config : List ℕ) (m : NetworkMessage) (n : ℕ) (entry : List ℕ) (r : ℕ) (envelope : List ℕ) → networkMessageAt (sizesIn config) d ≡ got m n
+envelope-read-back : (d config : List ℕ) (m : NetworkMessage) (n : ℕ) (entry : List ℕ) (r : ℕ) (envelope : List ℕ) → networkMessageAt (sizesIn config) d ≡ got m n
     → ENVELOPE_SIZE ≤ length entry → EnvelopeRead d config entry r envelope → (ENVELOPE_SIZE ≤ length envelope) × EnvelopeBack envelope m
 envelope-read-back d config m n entry r envelope q l w =
     let f : envelope ≡ laid entry 0 (numberBytes (envelopeNumbers m)) = rw q at (w .filled) in
     let b : ENVELOPE_SIZE ≤ length entry → EnvelopeBack envelope m = rw q at (w .reads) in
     (omega (arith, ap (λ (y : List ℕ). length y) f, laid-length entry 0 (numberBytes (envelopeNumbers m))), b l)
 
--- THE MESSAGES OF A DATAGRAM, BY CALLS, from the envelope record that `uadp_read` filled
-pub messages-by-calls : (d config : List ℕ) (m : NetworkMessage) (n : ℕ) (entry : List ℕ) (r : ℕ) (envelope : List ℕ) → networkMessageAt (sizesIn config) d ≡ got m n
-    → ENVELOPE_SIZE ≤ length entry → EnvelopeRead d config entry r envelope → MessagesByCalls d config m envelope
-messages-by-calls d config m n entry r envelope q l w =
-    let k = envelope-read-back d config m n entry r envelope q l w in
-    let b = k .1 in
-    let g = accepted (sizesIn config) d m n q in
-    by-calls d config m n q (b .fits .count) envelope
-    (record { long = k .0; header = b .header; headerEnd = b .headerEnd; payload = b .payload; messages = b .messages })
-    (g .limit) (g .messages)
+module _ (d config : List ℕ) (m : NetworkMessage) (n : ℕ) (entry : List ℕ) (r : ℕ) (envelope : List ℕ) (q : networkMessageAt (sizesIn config) d ≡ got m n)
+    (l : ENVELOPE_SIZE ≤ length entry) (w : EnvelopeRead d config entry r envelope) where
+  back : (ENVELOPE_SIZE ≤ length envelope) × EnvelopeBack envelope m
+  back = envelope-read-back d config m n entry r envelope q l w
+
+  begins : Stands d config m n q (back .1 .fits .count) 0 (m .payload .first) envelope
+  begins =
+      let b = back .1 in
+      record { long = back .0; header = b .header; headerEnd = b .headerEnd; payload = b .payload; messages = b .messages; envelope = b .envelope; fitting = b .fitting }
+
+  -- THE MESSAGES OF A DATAGRAM, BY CALLS, from the envelope record that `uadp_read` filled
+  pub messages-by-calls : MessagesByCalls d config m envelope
+  messages-by-calls =
+      let g = accepted (sizesIn config) d m n q in
+      by-calls d config m n q (back .1 .fits .count) envelope begins (g .limit) (g .messages)
+
+  -- and the envelope that is read in it afterwards
+  pub envelope-kept : (ps : List (List ℕ)) (ys : List MessageCall) → AllLong PLACE_SIZE ps → length ps ≤ m .payload .count → MessageCalls d config ps envelope ys
+      → (envelopeIn (lastEnvelope envelope ys) ≡ m .envelope) × (envelopeFits (lastEnvelope envelope ys) ≡ countFits (m .envelope .«payload_header»))
+  envelope-kept ps ys long k y =
+      let g = accepted (sizesIn config) d m n q in
+      still d config m n q (back .1 .fits .count) envelope begins (g .limit) (g .messages) ps ys long k y

@@ -1,6 +1,6 @@
 -- What was read into a record, written again from it and from the parts as they were read, is the same bytes.
 -- Assumes nothing.
-use Prim.Native.Nat.{ℕ, zero, suc, _+_, _≤_, _<_}
+use Prim.Native.Nat.{ℕ, zero, suc, _+_, _^_, _≤_, _<_}
 use mathlib.Core.Path.{_≡_, refl, ap, _∙_}
 use mathlib.Core.Bool.{Bool, true, false, cond}
 use mathlib.Core.List.{List, [], _∷_}
@@ -29,14 +29,14 @@ use Rattle.round_trip.specs.NetworkMessage.{rewritten, givenOf}
 use Rattle.round_trip.specs.DataSetMessage.{takenAgain}
 use Rattle.round_trip.proofs.NetworkMessageAccepted.{write-read}
 use Rattle.round_trip.proofs.DataSetMessageRewritten.{rewrite-read}
-use Rattle.records.specs.Sizes.{ENVELOPE_SIZE, HEAD_SIZE}
+use Rattle.records.specs.Sizes.{ENVELOPE_SIZE, FIELD_SIZE, HEAD_SIZE, PLACE_SIZE}
 use Rattle.records.specs.Writers.{idsIn, sizesIn, sixteen, typesFor, writersIn}
 use Rattle.message_record.specs.Message.{headerIn}
 use Rattle.envelope_record.specs.Envelope.{envelopeIn, countFits}
 use Rattle.uadp_c.specs.Writing.{outputResult, fitting}
-use Rattle.uadp_c.specs.ByCalls.{HeadRead, EnvelopeRead, datagramFrom, messageFrom, Written, DatagramAgain, MessageAgain}
-use Rattle.uadp_c.proofs.ByCalls.{read-back}
-use Rattle.uadp_c.proofs.MessagesByCalls.{envelope-read-back}
+use Rattle.uadp_c.specs.ByCalls.{AllLong, HeadRead, FieldCall, FieldCalls, lastHead, EnvelopeRead, MessageCall, MessageCalls, lastEnvelope, datagramFrom, messageFrom, Written, DatagramAgain, MessageAgain}
+use Rattle.uadp_c.proofs.ByCalls.{header-kept}
+use Rattle.uadp_c.proofs.MessagesByCalls.{envelope-kept}
 
 -- ---- the numbers of a configuration record, whose bytes are bytes, have 2 bytes each
 
@@ -83,38 +83,42 @@ count-fits chunk (PayloadHeader.Chunk w) ids configured e = refl
 written : (bytes : List ℕ) (o : Output) (entry : List ℕ) (x : ℕ) (exit : List ℕ) → o ≡ writing bytes → x ≡ outputResult entry o → exit ≡ bufferAfter entry o → Written bytes entry x exit
 written bytes o entry x exit e a b = record { answer = a ∙ ap (outputResult entry) e; buffer = b ∙ ap (bufferAfter entry) e }
 
--- A DATAGRAM, READ AND WRITTEN AGAIN FROM ITS RECORD: what `uadp_write` writes is the datagram, but for the one exception of document 01
+-- A DATAGRAM, READ AND WRITTEN AGAIN FROM ITS RECORD, also after messages were walked over: what `uadp_write` writes is the datagram, but for the one exception of document 01
 pub datagram-again : (d config : List ℕ) (m : NetworkMessage) (n : ℕ) (entry : List ℕ) (r : ℕ) (envelope : List ℕ) → Bytes d → Bytes config
     → networkMessageAt (sizesIn config) d ≡ got m n → ENVELOPE_SIZE ≤ length entry → EnvelopeRead d config entry r envelope
-    → DatagramAgain d config m envelope
-datagram-again d config m n entry r envelope bd bc q l w =
-    let b = envelope-read-back d config m n entry r envelope q l w .1 in
+    → (ps : List (List ℕ)) (ys : List MessageCall) → AllLong PLACE_SIZE ps → length ps ≤ m .payload .count → MessageCalls d config ps envelope ys
+    → DatagramAgain d config m (lastEnvelope envelope ys)
+datagram-again d config m n entry r envelope bd bc q l w ps ys long k y =
+    let b = envelope-kept d config m n entry r envelope q l w ps ys long k y in
+    let last = lastEnvelope envelope ys in
     let x = m .envelope in
     let g = givenOf d x (m .places) (sizesIn config) (idsIn config) in
     let z = write-read (sizesIn config) (idsIn config) d m n bd (configured-numbers 34 config bc) (configured-numbers 2 config bc) q in
     let shape = both-zero (datagram.datagramReadingRefusal g x (sizesIn config)) (datagram.shapeRefusal g x (sizesIn config) (idsIn config)) (z .0) .1 in
     let ids = both-zero (publisherShape (x .publisher) (length (g .text))) _ shape .1 in
     let counts = count-fits (x .chunk) (x .«payload_header») (g .ids) (idsIn config) (both-zero (idsShape (x .chunk) (x .«payload_header») (g .ids) (idsIn config)) _ ids .0) in
-    let same : datagramFrom config envelope g ≡ writing (rewritten d) =
-    ap (λ (t : Bool). fitting t (datagram.datagramOutput g (envelopeIn envelope) (sizesIn config) (idsIn config))) (b .fitting ∙ counts)
-    ∙ ap (λ (y : Envelope). datagram.datagramOutput g y (sizesIn config) (idsIn config)) (b .envelope)
+    let same : datagramFrom config last g ≡ writing (rewritten d) =
+    ap (λ (t : Bool). fitting t (datagram.datagramOutput g (envelopeIn last) (sizesIn config) (idsIn config))) (b .1 ∙ counts)
+    ∙ ap (λ (y : Envelope). datagram.datagramOutput g y (sizesIn config) (idsIn config)) (b .0)
     ∙ ap (λ (k : ℕ). unless k (datagram.datagramOf g x)) (z .0)
     ∙ ap writing (z .1) in
-    λ out x exit y. written (rewritten d) (datagramFrom config envelope g) out x exit same (y .answer) (y .buffer)
+    λ out x exit v. written (rewritten d) (datagramFrom config last g) out x exit same (v .answer) (v .buffer)
 
--- A MESSAGE, READ AND WRITTEN AGAIN FROM ITS RECORD: what `uadp_write_message` writes is the message
-pub message-again : (s config : List ℕ) (writer : ℕ) (m : Message) (e : ℕ) (entry : List ℕ) (r : ℕ) (head : List ℕ) → Bytes s
+-- A MESSAGE, READ AND WRITTEN AGAIN FROM ITS RECORD, also after fields were walked over: what `uadp_write_message` writes is the message
+pub message-again : (s config : List ℕ) (writer : ℕ) (m : Message) (e : ℕ) (entry : List ℕ) (r : ℕ) (head : List ℕ) → Bytes s → length s < 256 ^ 8
     → messageAt (typesFor config writer) s ≡ got (valid m) e → HEAD_SIZE ≤ length entry → HeadRead s config writer entry r head
-    → MessageAgain s config writer m head
-message-again s config writer m e entry r head bytes q l w =
-    let b = read-back s config writer m e entry r head q l w .1 in
+    → (fs : List (List ℕ)) (ys : List FieldCall) → AllLong FIELD_SIZE fs → length fs ≤ m .cursor .count → FieldCalls s config writer fs head ys
+    → MessageAgain s config writer m (lastHead head ys)
+message-again s config writer m e entry r head bytes small q l w fs ys long k y =
+    let b = header-kept s config writer m e entry r head bytes small q l w fs ys long k y in
+    let last = lastHead head ys in
     let types = typesFor config writer in
     let g = takenAgain types s m in
     let z = rewrite-read types s m e bytes q in
     let given : Header → message.GivenMessage = λ h. message.givenMessage h (g .heartbeat) (g .values) (g .lengths) (g .indices) (g .padding) in
-    let same : messageFrom config writer head g ≡ writing s =
-    ap (λ (t : Bool). fitting t (message.messageOutput types (given (headerIn head)))) (b .fitting)
-    ∙ ap (λ (h : Header). message.messageOutput types (given h)) (b .header)
+    let same : messageFrom config writer last g ≡ writing s =
+    ap (λ (t : Bool). fitting t (message.messageOutput types (given (headerIn last)))) (b .1)
+    ∙ ap (λ (h : Header). message.messageOutput types (given h)) (b .0)
     ∙ ap (λ (k : ℕ). unless k (message.encode g)) (z .accepted)
     ∙ ap writing (z .same) in
-    λ out x exit y. written s (messageFrom config writer head g) out x exit same (y .answer) (y .buffer)
+    λ out x exit v. written s (messageFrom config writer last g) out x exit same (v .answer) (v .buffer)
