@@ -1,2 +1,4 @@
 pub mod Put
 pub mod Envelopes
+pub mod Back
+pub mod Fitting

@@ -1,11 +1,13 @@
 -- The records of an envelope and of a message's place (include/uadp.h).
-use Prim.Native.Nat.{ℕ, _+_, _*_}
-use mathlib.Core.Bool.{Bool, cond, _&&_}
+use Prim.Native.Nat.{ℕ, _+_, _*_, _^_, _<_}
+use mathlib.Core.Path.{_≡_}
+use mathlib.Core.Bool.{Bool, true, cond, _&&_}
 use mathlib.Core.List.{List, [], _∷_, _++_}
-use lib.Dec.{eqb}
+use lib.Dec.{eqb, leb}
 use Rattle.wire.specs.declared.optional.Optional16.{Optional16}
 use Rattle.publisher_id.specs.PublisherRecord.{codeOf}
 use Rattle.network_message.specs.Envelope.{NetworkMessage}
+use Rattle.network_header.specs.Envelope.{FitsEnvelope}
 use Rattle.network_header.specs.declared.envelope.Envelope.{Envelope}
 use Rattle.network_header.specs.declared.envelope.Places.{Places}
 use Rattle.network_header.specs.declared.group.GroupHeader.{GroupHeader}
@@ -20,7 +22,7 @@ use Rattle.wire.specs.Answer.{bit}
 use Rattle.records.specs.Numbers.{numberAt}
 use Rattle.wire.specs.Number.{leBytes}
 use Rattle.wire_writer.specs.Store.{laid}
-use Rattle.records.specs.Publisher.{publisherNumber, publisherGiven, publisherNumberFits}
+use Rattle.records.specs.Publisher.{publisherNumber, publisherGiven, publisherNumberFits, FitsId}
 use Rattle.config.specs.Writers.{atMost}
 use Rattle.records.specs.Items.{has16, value16, has32, value32, hasI64, valueI64, flagNumber, given16, given32, fitsItem, isOn, givenI64}
 
@@ -198,3 +200,35 @@ envelopeFits s =
     publisherNumberFits (numberAt s 0) (numberAt s 1)
     && (groupFits s (numberAt s 6)
     && (headerFits (numberAt s 12) (numberAt s 13) && fitsItem (isOn (numberAt s 17)) 65535 (numberAt s 18)))
+
+-- each number of a datagram's envelope fits the record's, as a value of the code does
+pub record FitsEnvelopeRecord (m : NetworkMessage) : Type 0 where
+  pub envelope : FitsEnvelope (m .envelope)
+  pub publisher : FitsId (m .envelope .publisher)
+  pub header : headerNumber (m .envelope .«payload_header») < 65536
+  pub promoted : promotedSize (m .envelope .promoted) < 256 ^ 8
+  pub publisherEnd : m .places .«publisher_end» < 256 ^ 8
+  pub headerEnd : m .places .«payload_header_end» < 256 ^ 8
+  pub start : m .places .payload < 256 ^ 8
+  pub count : m .payload .count < 256 ^ 8
+  pub sizes : sizesPlace (m .payload .sizes) < 256 ^ 8
+  pub first : m .payload .first < 256 ^ 8
+
+-- whether a Count has one byte
+abbrev pub countFits : PayloadHeader → Bool
+countFits PayloadHeader.Absent = true
+countFits (PayloadHeader.Ids n) = leb n 255
+countFits (PayloadHeader.Chunk w) = true
+
+-- what the library reads in the envelope record r is the datagram's, each number of which fits the record's
+pub record EnvelopeBack (r : List ℕ) (m : NetworkMessage) : Type 0 where
+  pub fits : FitsEnvelopeRecord m
+  -- its envelope, and each number of it fits its item: of a Count this is so where it has one byte, as every Count that was read has
+  pub envelope : envelopeIn r ≡ m .envelope
+  pub fitting : envelopeFits r ≡ countFits (m .envelope .«payload_header»)
+  -- its PayloadHeader and where it ends, from which the DataSetWriterIds are known
+  pub header : payloadHeaderIn r ≡ m .envelope .«payload_header»
+  pub headerEnd : payloadHeaderEnd r ≡ m .places .«payload_header_end»
+  -- its messages, and the cursor before the first of them
+  pub payload : payloadIn r ≡ m .payload
+  pub messages : messagesIn r ≡ record { index = 0; at = m .payload .first }

@@ -35,11 +35,14 @@ use wire::Guid;
 use wire::optional::Optional16;
 use wire_writer::store::put64;
 ghost use mathlib.Core.Path.{_≡_};
-ghost use Prim.Native.Nat.{_+_, _*_};
+ghost use lib.ListN.{length};
+ghost use Prim.Native.Nat.{_+_, _*_, _≤_};
+ghost use Rattle.network_message.specs.Envelope.{NetworkMessage};
+ghost use Rattle.records.specs.Sizes.{ENVELOPE_SIZE};
 ghost use Rattle.wire_writer.specs.Store.{laid};
 ghost use Rattle.records.specs.Numbers.{numberBytes};
 ghost use Rattle.records.specs.Items.{has16, has32, given16, given32};
-ghost use Rattle.envelope_record.specs.Envelope.{hasClass, classLow, classHigh, groupItems, groupWriter, groupVersion, groupNumber, groupSequence, headerCode, headerNumber, hasPromoted, promotedSize, sizesCode, sizesPlace, startNumbers, restNumbers, envelopeNumbers, sizesBy, payloadIn, messagesIn, messagesLaid, payloadHeaderBy, payloadHeaderIn, payloadHeaderEnd, writerNumber, placeNumbers, classIn, groupIn, promotedIn, envelopeIn, groupFits, headerFits, envelopeFits};
+ghost use Rattle.envelope_record.specs.Envelope.{hasClass, classLow, classHigh, groupItems, groupWriter, groupVersion, groupNumber, groupSequence, headerCode, headerNumber, hasPromoted, promotedSize, sizesCode, sizesPlace, startNumbers, restNumbers, envelopeNumbers, sizesBy, payloadIn, messagesIn, messagesLaid, payloadHeaderBy, payloadHeaderIn, payloadHeaderEnd, writerNumber, placeNumbers, classIn, groupIn, promotedIn, envelopeIn, groupFits, headerFits, envelopeFits, EnvelopeBack};
 
 // Where the numbers 26 and 27 stand: the cursor's message and its place.
 const CURSOR_INDEX: usize = 8 * 26;
@@ -256,11 +259,13 @@ fn put_rest(out: &mut [u8], e: Envelope, places: Places, payload: Payload)
     put_numbers_from(out, 14, &numbers);
 }
 
-// Stores an envelope record, whose cursor stands before the first message; where it does not fit, nothing.
+// Stores an envelope record, whose cursor stands before the first message; where it does not fit, nothing. Where there is room its parts
+// are read back.
 pub fn put_envelope(out: &mut [u8], e: Envelope, places: Places, payload: Payload)
     ensures { λ _.
-        ⌜ now (out .exit) ≡ laid (now (out .entry)) 0
-        (numberBytes (envelopeNumbers (record { envelope = e; places = places; payload = payload }))) ⌝ }
+        let m : NetworkMessage = record { envelope = e; places = places; payload = payload } in
+        ⌜ (now (out .exit) ≡ laid (now (out .entry)) 0 (numberBytes (envelopeNumbers m)))
+        × (ENVELOPE_SIZE ≤ length (now (out .entry)) → EnvelopeBack (now (out .exit)) m) ⌝ }
 {
     if out.len() < ENVELOPE_SIZE {
         return;

@@ -1,7 +1,7 @@
 -- The records of a message's head and of a field (include/uadp.h).
 use Prim.Native.Nat.{ℕ, _+_, _*_, _^_, _<_}
 use mathlib.Core.Path.{_≡_}
-use mathlib.Core.Bool.{Bool, cond, not, _&&_}
+use mathlib.Core.Bool.{Bool, true, cond, not, _&&_}
 use mathlib.Core.List.{List, [], _∷_}
 use lib.Dec.{eqb}
 use lib.ListN.{replicate}
@@ -107,7 +107,9 @@ pub record FitsHead (m : Message) : Type 0 where
   pub at : m .cursor .at < 256 ^ 8
   pub end : m .end < 256 ^ 8
 
--- what the library reads in the head record r is the message's header and cursor
+-- what the library reads in the head record r is the message's header and cursor; each number fits the record's, and its item
 pub record HeadBack (r : List ℕ) (m : Message) : Type 0 where
+  pub fits : FitsHead m
+  pub fitting : headFits r ≡ true
   pub header : headerIn r ≡ m .header
   pub cursor : cursorIn r ≡ m .cursor

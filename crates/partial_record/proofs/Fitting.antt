@@ -6,30 +6,17 @@ use native.Mathlib.Omega.{arith}
 use borrow.Author.Needs.{length-unmapped}
 use mir.Val.{Val}
 use denote.Laws.{Is}
-use denote.Enum.Declared as enum
 use denote.Struct.Declared as struct
-use denote.Enum.Laws as enumLaws
 use denote.Struct.Laws as structLaws
-use Rattle.publisher_id.proofs.publisher.PublisherId as id
-use Rattle.publisher_id.proofs.publisher.PublisherId.Laws as idLaws
 use Rattle.publisher_id.proofs.publisher_record.PublisherRecord as publisher
 use Rattle.publisher_id.proofs.publisher_record.PublisherRecord.Laws as publisherLaws
 use Rattle.reassembly.proofs.record.Message as message
 use Rattle.reassembly.proofs.record.Message.Laws as messageLaws
 use Rattle.reassembly.proofs.record.PartialRecord as partial
 use Rattle.reassembly.proofs.record.PartialRecord.Laws as partialLaws
-use Rattle.publisher_id.specs.declared.publisher.PublisherId.{PublisherId}
 use Rattle.reassembly.specs.declared.record.PartialRecord.{PartialRecord}
 use Rattle.partial_record.specs.Partial.{FitsRecord}
-use Rattle.records.specs.Publisher.{FitsId}
-
-fits-id : (x : PublisherId) (vs : List Val) → Is (enum.row id.the-type) x vs → FitsId x
-fits-id PublisherId.Absent vs h = tt
-fits-id (PublisherId.Byte v) vs h = omega (arith, enumLaws.owed id.the-type idLaws.the-laws (PublisherId.Byte v) vs h .0)
-fits-id (PublisherId.UInt16 v) vs h = omega (arith, enumLaws.owed id.the-type idLaws.the-laws (PublisherId.UInt16 v) vs h .0)
-fits-id (PublisherId.UInt32 v) vs h = omega (arith, enumLaws.owed id.the-type idLaws.the-laws (PublisherId.UInt32 v) vs h .0)
-fits-id (PublisherId.UInt64 v) vs h = omega (arith, enumLaws.owed id.the-type idLaws.the-laws (PublisherId.UInt64 v) vs h .0)
-fits-id (PublisherId.Text n) vs h = omega (arith, enumLaws.owed id.the-type idLaws.the-laws (PublisherId.Text n) vs h .0)
+use Rattle.records.proofs.Fitting.{fits-id}
 
 pub fits-record : (k : PartialRecord) (vs : List Val) → Is (struct.row partial.the-type) k vs → FitsRecord k
 fits-record k vs h =

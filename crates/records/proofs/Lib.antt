@@ -3,3 +3,4 @@ pub mod Asked
 pub mod ReadBack
 pub mod ConfigBack
 pub mod ConfigFits
+pub mod Fitting

@@ -24,13 +24,14 @@ use Rattle.wire_writer.specs.Store.{laid}
 use Rattle.wire_writer.specs.Writing.{on16, on32, onI64}
 use Rattle.wire_writer.specs.Fits.{Fits16, Fits32, FitsI64}
 use Rattle.wire_writer.proofs.Putting.{front}
+use Rattle.config.specs.Writers.{atMost}
 use Rattle.wire_writer.proofs.Trip.{At, first, second, item-is}
 use Rattle.network_message.specs.Payload.{valueOr0}
 use Rattle.publisher_id.specs.PublisherRecord.{codeOf}
 use Rattle.publisher_id.specs.declared.publisher.PublisherId.{PublisherId}
 use Rattle.records.specs.Numbers.{numberAt, numberBytes}
-use Rattle.records.specs.Items.{has16, value16, has32, value32, hasI64, valueI64, flagNumber, given16, given32, givenI64, isOn}
-use Rattle.records.specs.Publisher.{publisherBy, publisherNumber, FitsId}
+use Rattle.records.specs.Items.{has16, value16, has32, value32, hasI64, valueI64, flagNumber, given16, given32, givenI64, fitsItem, isOn}
+use Rattle.records.specs.Publisher.{publisherBy, publisherMost, publisherGiven, publisherNumber, publisherNumberFits, FitsId}
 
 -- ---- numbers that stand at the start of a record
 
@@ -65,6 +66,24 @@ publisher-back (PublisherId.UInt32 v) f = ap PublisherId.UInt32 (omega arith)
 publisher-back (PublisherId.UInt64 v) f = refl
 publisher-back (PublisherId.Text n) f = refl
 
+-- of numbers that fit, the largest that does plays no part
+pub at-most-same : (most v : ℕ) → v ≤ most → atMost most v ≡ v
+at-most-same most v h = rw (le-ltb most v h)
+
+publisher-bound : (p : PublisherId) → FitsId p → publisherNumber p ≤ publisherMost (codeOf p)
+publisher-bound PublisherId.Absent f = omega arith
+publisher-bound (PublisherId.Byte v) f = omega arith
+publisher-bound (PublisherId.UInt16 v) f = omega arith
+publisher-bound (PublisherId.UInt32 v) f = omega arith
+publisher-bound (PublisherId.UInt64 v) f = omega arith
+publisher-bound (PublisherId.Text n) f = omega arith
+
+pub publisher-given-back : (p : PublisherId) → FitsId p → publisherGiven (codeOf p) (publisherNumber p) ≡ p
+publisher-given-back p f = ap (publisherBy (codeOf p)) (at-most-same (publisherMost (codeOf p)) (publisherNumber p) (publisher-bound p f)) ∙ publisher-back p f
+
+pub publisher-number-fits : (p : PublisherId) → FitsId p → publisherNumberFits (codeOf p) (publisherNumber p) ≡ true
+publisher-number-fits p f = le-leb (publisherNumber p) (publisherMost (codeOf p)) (publisher-bound p f)
+
 pub number-fits : (p : PublisherId) → FitsId p → publisherNumber p < 256 ^ 8
 number-fits PublisherId.Absent f = omega arith
 number-fits (PublisherId.Byte v) f = omega arith
@@ -98,6 +117,14 @@ given32-back (Optional32.Is v) f = ap Optional32.Is (rw (le-ltb 4294967295 v (om
 pub givenI64-back : (o : OptionalI64) → FitsI64 o → givenI64 (onI64 o) (valueI64 o) ≡ o
 givenI64-back OptionalI64.Absent f = refl
 givenI64-back (OptionalI64.Is v) f = ap OptionalI64.Is (signed-unsigned 8 v (omega arith) f)
+
+pub fits16-back : (o : Optional16) → Fits16 o → fitsItem (on16 o) 65535 (value16 o) ≡ true
+fits16-back Optional16.Absent f = refl
+fits16-back (Optional16.Is v) f = le-leb v 65535 (omega arith)
+
+pub fits32-back : (o : Optional32) → Fits32 o → fitsItem (on32 o) 4294967295 (value32 o) ≡ true
+fits32-back Optional32.Absent f = refl
+fits32-back (Optional32.Is v) f = le-leb v 4294967295 (omega arith)
 
 -- whether one is there, as the record's number tells it
 pub told16 : (o : Optional16) → eqb (has16 o) 1 ≡ on16 o

@@ -9,3 +9,6 @@ pub mod Emptied
 pub mod KeptRecord
 pub mod Demand3
 pub mod Told
+pub mod ByCalls
+pub mod MessagesByCalls
+pub mod WrittenAgain

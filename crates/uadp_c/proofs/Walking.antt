@@ -3,6 +3,7 @@
 use Prim.Native.Nat.{ℕ, _≤_, _<_}
 use mathlib.Core.Path.{_≡_, refl, ap, subst, _∙_}
 use mathlib.Core.List.{List}
+use native.Mathlib.Omega.{arith}
 use borrow.Author.Tests.{lt-ltb, le-ltb}
 use lib.ListN.{length, take}
 use Rattle.wire.specs.Answer.{Answer, got, refused}
@@ -11,25 +12,50 @@ use Rattle.wire.specs.declared.optional.Optional16.{Optional16}
 use Rattle.network_message.specs.Envelope.{NetworkMessage, networkMessageAt}
 use Rattle.network_message.specs.WriterId.{writerIdOf}
 use Rattle.network_message.specs.Payload.{PlaceStepped, placeStepAt}
+use Rattle.network_header.specs.declared.envelope.Envelope.{Envelope}
+use Rattle.network_header.specs.declared.envelope.Places.{Places}
 use Rattle.network_header.specs.declared.header.PayloadHeader.{PayloadHeader}
 use Rattle.network_message.specs.declared.payload.Payload.{Payload}
 use Rattle.network_message.specs.declared.payload.MessagePlace.{MessagePlace}
 use Rattle.network_message.specs.declared.payload.MessageCursor.{MessageCursor}
 use Rattle.records.specs.Numbers.{numberBytes}
 use Rattle.records.specs.Sizes.{ENVELOPE_SIZE, PLACE_SIZE}
-use Rattle.records.specs.Result.{resultOf}
+use Rattle.records.specs.Result.{resultOf, resultIn, filledIn}
+use Rattle.records.proofs.Storing.{bytes-length}
 use Rattle.records.specs.Writers.{writersIn, sixteen, idsIn, sizesIn}
-use Rattle.envelope_record.specs.Envelope.{payloadIn, messagesIn, messagesLaid, payloadHeaderIn, payloadHeaderEnd, placeNumbers}
-use Rattle.uadp_c.specs.Messages.{envelopeFilling, messageStep, writerAt, messageResult, envelopeAfter, placeAfter}
+use Rattle.envelope_record.specs.Envelope.{payloadIn, messagesIn, messagesLaid, payloadHeaderIn, payloadHeaderEnd, placeNumbers, envelopeNumbers, EnvelopeBack}
+use Rattle.uadp_c.specs.Messages.{envelopeFilling, EnvelopeReads, messageStep, writerAt, messageResult, envelopeAfter, placeAfter}
+use Rattle.uadp_c.proofs.Filling.{fill-none, fill-done}
 
 -- the first entries of a list of 16 numbers of a configuration record
 first-of : (c z l : List ℕ) (n at : ℕ) → n ≡ writersIn c → l ≡ sixteen at c → z ≡ take n l → z ≡ take (writersIn c) (sixteen at c)
 first-of c z l n at a b d = d ∙ ap (λ (x : ℕ). take x l) a ∙ ap (λ (x : List ℕ). take (writersIn c) x) b
 
-pub envelope-read : (c s z l : List ℕ) (n : ℕ) (y : Answer NetworkMessage) → n ≡ writersIn c → l ≡ sixteen 34 c → z ≡ take n l → y ≡ networkMessageAt z s
-    → envelopeFilling y ≡ envelopeFilling (networkMessageAt (sizesIn c) s)
-envelope-read c s z l n y a b d q =
-    ap (λ (x : Answer NetworkMessage). envelopeFilling x) (q ∙ ap (λ (t : List ℕ). networkMessageAt t s) (first-of c z l n 34 a b d))
+-- what was read is what the configuration record says
+pub envelope-told : (c s z l : List ℕ) (n : ℕ) (y : Answer NetworkMessage) → n ≡ writersIn c → l ≡ sixteen 34 c → z ≡ take n l → y ≡ networkMessageAt z s
+    → y ≡ networkMessageAt (sizesIn c) s
+envelope-told c s z l n y a b d q = q ∙ ap (λ (t : List ℕ). networkMessageAt t s) (first-of c z l n 34 a b d)
+
+abbrev pub Filled : Answer NetworkMessage → List ℕ → ℕ → List ℕ → Type 0
+Filled a entry x exit = (x ≡ resultIn (envelopeFilling a) entry) × (exit ≡ filledIn (envelopeFilling a) entry) × EnvelopeReads a entry exit
+
+pub read-refused : (b : Answer NetworkMessage) (out : List ℕ) (n p x : ℕ) → refused n p ≡ b → x ≡ resultOf n p → Filled b out x out
+read-refused b out n p x q h = subst (λ (y : Answer NetworkMessage). Filled y out x out) q (h, refl, tt)
+
+module _ (v : Envelope) (w : Places) (y : Payload) (b : Answer NetworkMessage) (out : List ℕ) (x next : ℕ) where
+  abbrev read : NetworkMessage
+  read = record { envelope = v; places = w; payload = y }
+
+  pub read-short : got read next ≡ b → length out < ENVELOPE_SIZE → x ≡ resultOf 11 0 → Filled b out x out
+  read-short q h r =
+      let e = fill-none (envelopeFilling (got read next)) out _ next ENVELOPE_SIZE x refl (bytes-length (envelopeNumbers read)) h r in
+      subst (λ (a : Answer NetworkMessage). Filled a out x out) q (e .0, e .1, λ l. absurd (omega arith))
+
+  pub read-done : (e : List ℕ) → got read next ≡ b → ENVELOPE_SIZE ≤ length out → x ≡ resultOf 0 (y .count) → e ≡ laid out 0 (numberBytes (envelopeNumbers read))
+      → (ENVELOPE_SIZE ≤ length out → EnvelopeBack e read) → Filled b out x e
+  read-done e q h r s k =
+      let f = fill-done (envelopeFilling (got read next)) out e _ next ENVELOPE_SIZE x refl (bytes-length (envelopeNumbers read)) h r s in
+      subst (λ (a : Answer NetworkMessage). Filled a out x e) q (f .0, f .1, k)
 
 pub message-stepped : (c e s z l : List ℕ) (n : ℕ) (p : Payload) (k : MessageCursor) (y : Answer PlaceStepped) → n ≡ writersIn c → l ≡ sixteen 34 c → z ≡ take n l
     → p ≡ payloadIn e → k ≡ messagesIn e → y ≡ placeStepAt p z k s → y ≡ messageStep c e s

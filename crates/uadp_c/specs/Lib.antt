@@ -9,3 +9,4 @@ pub mod Walks
 pub mod History
 pub mod Values
 pub mod Chunks
+pub mod ByCalls

@@ -1,5 +1,5 @@
 -- An envelope and its messages' places as records (include/uadp.h, "reading").
-use Prim.Native.Nat.{ℕ}
+use Prim.Native.Nat.{ℕ, _≤_}
 use mathlib.Core.Bool.{cond}
 use mathlib.Core.List.{List}
 use lib.Dec.{ltb}
@@ -15,11 +15,16 @@ use Rattle.network_message.specs.Payload.{PlaceStepped, placeStepAt}
 use Rattle.records.specs.Numbers.{numberBytes}
 use Rattle.records.specs.Result.{resultOf, Filling}
 use Rattle.records.specs.Writers.{idsIn, sizesIn}
-use Rattle.envelope_record.specs.Envelope.{envelopeNumbers, payloadIn, messagesIn, messagesLaid, payloadHeaderIn, payloadHeaderEnd, placeNumbers}
+use Rattle.envelope_record.specs.Envelope.{envelopeNumbers, payloadIn, messagesIn, messagesLaid, payloadHeaderIn, payloadHeaderEnd, placeNumbers, EnvelopeBack}
 
 -- "Value: the number of messages (0 for a chunk)"
 abbrev pub envelopeFilling : Answer NetworkMessage → Answer Filling
 envelopeFilling a = mapAnswer (λ (m : NetworkMessage). record { value = m .payload .count; bytes = numberBytes (envelopeNumbers m) }) a
+
+-- where there is room, the parts that were read are what the library reads in the envelope record afterwards
+abbrev pub EnvelopeReads : Answer NetworkMessage → List ℕ → List ℕ → Type 0
+EnvelopeReads (got m next) entry exit = ENVELOPE_SIZE ≤ length entry → EnvelopeBack exit m
+EnvelopeReads (refused n place) entry exit = Unit {0}
 
 -- the message that an envelope record's cursor stands before, and the cursor before the next one
 abbrev pub messageStep : List ℕ → List ℕ → List ℕ → Answer PlaceStepped

@@ -1,7 +1,4 @@
-use Rattle.uadp_c.proofs.Walking.{envelope-read}
-use Rattle.uadp_c.proofs.Filling.{fill-refused, fill-none, fill-done}
-use Rattle.envelope_record.specs.Envelope.{envelopeNumbers}
-use Rattle.records.proofs.Storing.{bytes-length}
+use Rattle.uadp_c.proofs.Walking.{envelope-told, read-refused, read-short, read-done}
 use Rattle.network_message.specs.Envelope.{answerNetworkMessage}
 use Rattle.wire.proofs.Reading.{told}
 use native.Mathlib.Omega.{arith}
@@ -19,10 +16,10 @@ returns c =
     let at-sizes = at-first .before .before in
     let at-writer-count = at-sizes .before in
     let args = at-writer-count .before .before .before .before .args in
-    fill-none _ (now (args .envelope)) _ _ 256 _
-    (envelope-read (now (args .config)) (now (args .datagram)) _ _ _ _ (at-writer-count .writer-count .ensures .0)
-    (at-sizes .sizes .ensures) (at-first .first .ensures) (told answerNetworkMessage (at-read .read .ensures) (at-e .e .given .1)))
-    (bytes-length (envelopeNumbers (record { envelope = at-e .e .given .0 .0; places = at-e .e .given .0 .1 .0; payload = at-e .e .given .0 .1 .1 .0 }))) (omega arith) (c .result2 .ensures)
+    let same =
+    envelope-told (now (args .config)) (now (args .datagram)) _ _ _ _ (at-writer-count .writer-count .ensures .0) (at-sizes .sizes .ensures) (at-first .first .ensures)
+    (told answerNetworkMessage (at-read .read .ensures) (at-e .e .given .1)) in
+    read-short (at-e .e .given .0 .0) (at-e .e .given .0 .1 .0) (at-e .e .given .0 .1 .1 .0) _ (now (args .envelope)) _ _ same (omega arith) (c .result2 .ensures)
 
 -- src/messages.rt:27:1
 returns-2 : tie.Need-returns-2
@@ -33,9 +30,10 @@ returns-2 c =
     let at-sizes = at-first .before .before in
     let at-writer-count = at-sizes .before in
     let args = at-writer-count .before .before .before .before .args in
-    fill-refused _ (now (args .envelope)) _ _ _
-    (envelope-read (now (args .config)) (now (args .datagram)) _ _ _ _ (at-writer-count .writer-count .ensures .0)
-    (at-sizes .sizes .ensures) (at-first .first .ensures) (told answerNetworkMessage (at-read .read .ensures) (at-number .number .given .1))) (c .result .ensures)
+    let same =
+    envelope-told (now (args .config)) (now (args .datagram)) _ _ _ _ (at-writer-count .writer-count .ensures .0) (at-sizes .sizes .ensures) (at-first .first .ensures)
+    (told answerNetworkMessage (at-read .read .ensures) (at-number .number .given .1)) in
+    read-refused _ (now (args .envelope)) _ _ _ same (c .result .ensures)
 
 -- src/messages.rt:27:1
 returns-3 : tie.Need-returns-3
@@ -47,11 +45,11 @@ returns-3 c =
     let at-sizes = at-first .before .before in
     let at-writer-count = at-sizes .before in
     let args = at-writer-count .before .before .before .before .args in
-    fill-done _ (now (args .envelope)) _ _ _ 256 _
-    (envelope-read (now (args .config)) (now (args .datagram)) _ _ _ _ (at-writer-count .writer-count .ensures .0)
-    (at-sizes .sizes .ensures) (at-first .first .ensures) (told answerNetworkMessage (at-read .read .ensures) (at-e .e .given .1)))
-    (bytes-length (envelopeNumbers (record { envelope = at-e .e .given .0 .0; places = at-e .e .given .0 .1 .0; payload = at-e .e .given .0 .1 .1 .0 })))
-    (omega arith) (c .result3 .ensures) (at-put-envelope .put-envelope .ensures)
+    let same =
+    envelope-told (now (args .config)) (now (args .datagram)) _ _ _ _ (at-writer-count .writer-count .ensures .0) (at-sizes .sizes .ensures) (at-first .first .ensures)
+    (told answerNetworkMessage (at-read .read .ensures) (at-e .e .given .1)) in
+    read-done (at-e .e .given .0 .0) (at-e .e .given .0 .1 .0) (at-e .e .given .0 .1 .1 .0) _ (now (args .envelope)) _ _ _ same (omega arith) (c .result3 .ensures)
+    (at-put-envelope .put-envelope .ensures .0) (at-put-envelope .put-envelope .ensures .1)
 
 pub uadp-read-spec : {M : Type 1} → statement M
 uadp-read-spec =

@@ -1,0 +1,220 @@
+-- Walking by calls: from a head record that `uadp_read_message` filled, and from an envelope record that `uadp_read` filled, the calls tell what document
+-- 01's walk finds; what was read, written again from its record, is the same bytes. The premises are the contracts, and lent bytes that are bytes.
+-- Assumes nothing.
+use Prim.Native.Nat.{ℕ, suc, _+_, _*_, _-_, _^_, _≤_, _<_}
+use mathlib.Core.Path.{_≡_, refl, ap, sym, subst, _∙_}
+use mathlib.Core.Bool.{Bool, true, false}
+use mathlib.Core.List.{List, [], _∷_}
+use native.Mathlib.Numerals.{add-one}
+use native.Mathlib.Nat.{add-zero}
+use native.Mathlib.Omega.{arith}
+use borrow.Author.Tests.{le-ltb}
+use lib.Dec.{leb, ltb, eqb}
+use lib.ListN.{length}
+use Rattle.wire.specs.Number.{leBytes}
+use Rattle.wire.specs.Answer.{Answer, got, refused, item}
+use Rattle.wire.proofs.Cases.{by-bool}
+use Rattle.wire.proofs.Reading.{got-value, got-next, not-got, invert}
+use Rattle.wire_writer.specs.Fits.{Bytes, Numbers}
+use Rattle.wire_writer.specs.Store.{laid}
+use Rattle.wire_writer.proofs.Back.{end-fits, item-back}
+use Rattle.dataset_header.specs.Flags.{Valid, notValid, valid, isDelta, isRaw}
+use Rattle.dataset_header.specs.Header.{messageHeaderAt, messageHeaderBytes}
+use Rattle.dataset_header.specs.declared.flags.Kind.{Kind}
+use Rattle.dataset_header.specs.declared.header.Header.{Header}
+use Rattle.dataset_header.proofs.HeaderTrip.{header-back}
+use Rattle.dataset_fields.specs.Fields.{FieldStepped, fieldsAt, paddingAt, nextFieldAt, cursorBefore}
+use Rattle.dataset_fields.specs.declared.fields.Cursor.{Cursor}
+use Rattle.dataset_message.specs.Message.{Message, countedAt, countAt, afterHeader, messageAt}
+use Rattle.dataset_message.proofs.Agreement.{message-agrees, message-read, walk-ends}
+use Rattle.records.specs.Numbers.{numberBytes}
+use Rattle.records.specs.Sizes.{FIELD_SIZE, HEAD_SIZE}
+use Rattle.records.specs.Result.{resultOf}
+use Rattle.records.specs.Writers.{typesFor}
+use Rattle.records.proofs.ReadBack.{laid-length}
+use Rattle.message_record.specs.Message.{cursorIn, cursorLaid, headerIn, headFits, headNumbers, fieldNumbers, HeadBack}
+use Rattle.message_record.proofs.Back.{cursor-moved, header-stays}
+use Rattle.uadp_c.specs.Fields.{stepResult, headAfter, fieldAfter}
+use Rattle.uadp_c.specs.ByCalls.{AllLong, HeadRead, FieldCall, fieldCall, fieldStep, NextField, FieldCalls, lastHead, FieldTold, FieldsTold, FieldsByCalls}
+
+-- ---- the first field of an accepted message starts within its bytes
+
+counted-inside : (raw : Bool) (types s : List ℕ) (at n first : ℕ) → Bytes s → at ≤ length s → countedAt raw types s at ≡ got n first → first ≤ length s
+counted-inside true types s at n first b l e =
+    by-bool _ (eqb (length types) 0) (λ t. absurd (not-got (rw t at e))) (λ t. omega (arith, got-next (rw t at e)))
+counted-inside false types s at n first b l e = end-fits s at (leBytes 2 n) first (item-back 2 s at n first b e .0)
+
+count-inside : (kind : Kind) (raw : Bool) (types s : List ℕ) (at n first : ℕ) → Bytes s → at ≤ length s → countAt kind raw types s at ≡ got n first → first ≤ length s
+count-inside Kind.Key raw types s at n first b l e =
+    by-bool _ (leb (length s) at) (λ t. omega (arith, got-next (rw t at e))) (λ t. counted-inside raw types s at n first b l (rw t at e))
+count-inside Kind.Delta raw types s at n first b l e = counted-inside false types s at n first b l e
+count-inside Kind.Event raw types s at n first b l e = counted-inside raw types s at n first b l e
+count-inside Kind.KeepAlive raw types s at n first b l e = omega (arith, got-next e)
+
+after-header : (v : Valid Header) (types s : List ℕ) (at : ℕ) (m : Message) (e : ℕ) → Bytes s → messageHeaderAt s 0 ≡ got v at → afterHeader v types s at ≡ got (valid m) e
+    → m .cursor .at ≤ length s
+after-header notValid types s at m e b p q =
+    let v : _≡_ {A = Valid Message} notValid (valid m) = got-value q in
+    let z : _≡_ {A = ℕ} 0 1 = cc in
+    absurd (omega arith)
+after-header (valid h) types s at m e b p q =
+    let l = end-fits s 0 (messageHeaderBytes h) at (header-back s h at b p .stands) in
+    let c = invert (countAt (h .kind) (isRaw (h .encoding)) types s at) (λ n first. _) q in
+    let o = count-inside (h .kind) (isRaw (h .encoding)) types s at (c .0) (c .1) b l (c .2) in
+    let k : Cursor = record { encoding = h .encoding; delta = isDelta (h .kind); next = 0; count = c .0; at = c .1 } in
+    let d = invert (fieldsAt (k .delta) (k .encoding) types (k .count) 0 s (k .at)) (λ _ n. _) (c .3) in
+    let f = invert (paddingAt s (d .1)) (λ _ y. _) (d .3) in
+    let v : valid (record { header = h; cursor = k; end = d .1 }) ≡ valid m = got-value (f .3) in
+    let n : _≡_ {A = Message} (record { header = h; cursor = k; end = d .1 }) m = cc in
+    subst (λ (x : Message). x .cursor .at ≤ length s) n o
+
+start-inside : (types s : List ℕ) (m : Message) (e : ℕ) → Bytes s → messageAt types s ≡ got (valid m) e → m .cursor .at ≤ length s
+start-inside types s m e b q =
+    let a = invert (messageHeaderAt s 0) (λ v at. afterHeader v types s at) q in
+    after-header (a .0) types s (a .1) m e b (a .2) (a .3)
+
+none-passed : (c : Cursor) (types s : List ℕ) → fieldsAt (c .delta) (c .encoding) types 0 0 s (c .at) ≡ got tt (c .at)
+unfolding fieldsAt
+none-passed c types s = refl
+
+-- ---- a step that is made where there is room, and one that is refused
+
+field-made : (x : FieldStepped) (n : ℕ) (h f : List ℕ) → HEAD_SIZE ≤ length h → FIELD_SIZE ≤ length f
+    → (stepResult (got x n) h f ≡ resultOf 0 (x .field .offset)) × (headAfter (got x n) h f ≡ cursorLaid (x .cursor) h)
+    × (fieldAfter (got x n) h f ≡ laid f 0 (numberBytes (fieldNumbers (x .field))))
+field-made x n h f l k = rw (le-ltb (length h) HEAD_SIZE l, le-ltb (length f) FIELD_SIZE k) (refl, refl, refl)
+
+cursor-length : (c : Cursor) (h : List ℕ) → length (cursorLaid c h) ≡ length h
+cursor-length c h =
+    let u = laid h (8 * 12) (leBytes 8 (c .next)) in
+    laid-length u (8 * 14) (leBytes 8 (c .at)) ∙ laid-length h (8 * 12) (leBytes 8 (c .next))
+
+module _ (s config : List ℕ) (writer : ℕ) (m : Message) (e : ℕ) (q : messageAt (typesFor config writer) s ≡ got (valid m) e) (bytes : Bytes s) (small : length s < 256 ^ 8)
+    (counted : m .cursor .count < 256 ^ 8) where
+  abbrev types : List ℕ
+  types = typesFor config writer
+
+  abbrev c : Cursor
+  c = m .cursor
+
+  abbrev passed : ℕ → ℕ → Type 0
+  passed k p = fieldsAt (c .delta) (c .encoding) types k 0 s (c .at) ≡ got tt p
+
+  -- a head record whose cursor is before field k, which starts at p
+  record Stands (k p : ℕ) (h : List ℕ) : Type 0 where
+    long : HEAD_SIZE ≤ length h
+    cursor : cursorIn h ≡ cursorBefore c k p
+    passes : passed k p
+    inside : p ≤ length s
+    header : headerIn h ≡ m .header
+    fitting : headFits h ≡ true
+
+  -- one call
+  one : (k p : ℕ) (h f : List ℕ) (a : FieldCall) → k < c .count → Stands k p h → FIELD_SIZE ≤ length f → NextField s config writer h f a
+      → (t : FieldTold types s c k f a) × Stands (k + 1) (t .end) (a .head)
+  one k p h f a l w lf n =
+      let g = message-agrees types s m e q k l in
+      let at : g .at ≡ p = got-next (sym (g .passed) ∙ w .passes) in
+      let x : FieldStepped = record { field = g .place; cursor = cursorBefore c (k + 1) (g .end) } in
+      let before : cursorIn h ≡ cursorBefore c k (g .at) = w .cursor ∙ ap (cursorBefore c k) (sym at) in
+      let step : fieldStep s config writer h ≡ got x (g .end) = ap (λ (y : Cursor). nextFieldAt y types s) before ∙ g .stepped in
+      let made = field-made x (g .end) h f (w .long) lf in
+      let head : a .head ≡ cursorLaid (x .cursor) h = n .head ∙ ap (λ (y : Answer FieldStepped). headAfter y h f) step ∙ made .1 in
+      let end-in : g .end ≤ length s = g .inside .ends in
+      let next-fits : k + 1 < 256 ^ 8 = omega arith in
+      let end-fits : g .end < 256 ^ 8 = omega arith in
+      let after : cursorIn (a .head) ≡ cursorBefore c (k + 1) (g .end) =
+      ap cursorIn head
+      ∙ cursor-moved (x .cursor) h (w .long) next-fits end-fits (sym (ap (λ (y : Cursor). y .encoding) before)) (sym (ap (λ (y : Cursor). y .delta) before))
+      (sym (ap (λ (y : Cursor). y .count) before)) in
+      let told : FieldTold types s c k f a = record {
+        place = g .place;
+        at = g .at;
+        end = g .end;
+        walked = g .walked;
+        stepped = g .stepped;
+        looked-up = rw q (g .looked-up);
+        result = n .result ∙ ap (λ (y : Answer FieldStepped). stepResult y h f) step ∙ made .0;
+        filled = n .field ∙ ap (λ (y : Answer FieldStepped). fieldAfter y h f) step ∙ made .2;
+        cursor = after;
+      } in
+      let stays = header-stays (x .cursor) h (w .long) in
+      let stands : Stands (k + 1) (g .end) (a .head) = record {
+        long = omega (arith, w .long, ap (λ (y : List ℕ). length y) head, cursor-length (x .cursor) h);
+        cursor = after;
+        passes = ap (λ (j : ℕ). fieldsAt (c .delta) (c .encoding) types j 0 s (c .at)) (add-one k) ∙ g .passed-too;
+        inside = end-in;
+        header = ap headerIn head ∙ stays .0 ∙ w .header;
+        fitting = ap headFits head ∙ stays .1 ∙ w .fitting;
+      } in
+      (told, stands)
+
+  -- any calls, the first of them call k: what they tell, and where the last head record stands
+  all : (fs : List (List ℕ)) (ys : List FieldCall) (k p : ℕ) (h : List ℕ) → AllLong FIELD_SIZE fs → k + length fs ≤ c .count → Stands k p h
+      → FieldCalls s config writer fs h ys → FieldsTold types s c k fs ys × ((z : ℕ) × Stands (k + length fs) z (lastHead h ys))
+  all [] [] k p h long l w y = (tt, (p, subst (λ (j : ℕ). Stands j p h) (sym (add-zero k)) w))
+  all [] (a ∷ ys) k p h long l w y = absurd y
+  all (f ∷ fs) [] k p h long l w y = absurd y
+  all (f ∷ fs) (a ∷ ys) k p h long l w y =
+      let o = one k p h f a (omega arith) w (long .0) (y .0) in
+      let r = all fs ys (k + 1) (o .0 .end) (a .head) (long .1) (omega arith) (o .1) (y .1) in
+      let n : k + 1 + length fs ≡ k + suc (length fs) = omega arith in
+      ((o .0, r .0), (r .1 .0, subst (λ (j : ℕ). Stands j (r .1 .0) (lastHead (a .head) ys)) n (r .1 .1)))
+
+  -- the call after the last
+  after-last : (p : ℕ) (h f : List ℕ) (a : FieldCall) → Stands (c .count) p h → NextField s config writer h f a → a ≡ fieldCall (resultOf 10 0) h f
+  after-last p h f a w n =
+      let step : fieldStep s config writer h ≡ refused 10 0 = ap (λ (y : Cursor). nextFieldAt y types s) (w .cursor) ∙ walk-ends c types s p (w .inside) in
+      let r = n .result ∙ ap (λ (y : Answer FieldStepped). stepResult y h f) step in
+      let d = n .head ∙ ap (λ (y : Answer FieldStepped). headAfter y h f) step in
+      let g = n .field ∙ ap (λ (y : Answer FieldStepped). fieldAfter y h f) step in
+      λ i. record { result = r i; head = d i; field = g i }
+
+  starts : (h : List ℕ) → HEAD_SIZE ≤ length h → HeadBack h m → Stands 0 (c .at) h
+  starts h l b =
+      let first = message-read types s m e q .first in
+      record {
+        long = l;
+        cursor = b .cursor ∙ (λ i. record { encoding = c .encoding; delta = c .delta; next = first i; count = c .count; at = c .at });
+        passes = none-passed c types s;
+        inside = start-inside types s m e bytes q;
+        header = b .header;
+        fitting = b .fitting;
+      }
+
+  by-calls : (h : List ℕ) → Stands 0 (c .at) h → FieldsByCalls s config writer m h
+  by-calls h start =
+      record {
+        told = λ fs ys long n y. all fs ys 0 (c .at) h long (omega arith) start y .0;
+        ended = λ fs ys long n y f a t.
+            let r = all fs ys 0 (c .at) h long (omega arith) start y .1 in
+            let z : 0 + length fs ≡ c .count = omega arith in
+            after-last (r .0) (lastHead h ys) f a (subst (λ (j : ℕ). Stands j (r .0) (lastHead h ys)) z (r .1)) t;
+      }
+
+-- the head record that reading filled
+read-back : (s config : List ℕ) (writer : ℕ) (m : Message) (e : ℕ) (entry : List ℕ) (r : ℕ) (head : List ℕ) → messageAt (typesFor config writer) s ≡ got (valid m) e
+    → HEAD_SIZE ≤ length entry → HeadRead s config writer entry r head → (HEAD_SIZE ≤ length head) × HeadBack head m
+read-back s config writer m e entry r head q l w =
+    let f : head ≡ laid entry 0 (numberBytes (headNumbers (valid m))) = rw q at (w .filled) in
+    let b : HEAD_SIZE ≤ length entry → HeadBack head m = rw q at (w .reads) in
+    (omega (arith, ap (λ (y : List ℕ). length y) f, laid-length entry 0 (numberBytes (headNumbers (valid m)))), b l)
+
+module _ (s config : List ℕ) (writer : ℕ) (m : Message) (e : ℕ) (entry : List ℕ) (r : ℕ) (head : List ℕ) (bytes : Bytes s) (small : length s < 256 ^ 8)
+    (q : messageAt (typesFor config writer) s ≡ got (valid m) e) (l : HEAD_SIZE ≤ length entry) (w : HeadRead s config writer entry r head) where
+  back : (HEAD_SIZE ≤ length head) × HeadBack head m
+  back = read-back s config writer m e entry r head q l w
+
+  begins : Stands s config writer m e q bytes small (back .1 .fits .count) 0 (m .cursor .at) head
+  begins = starts s config writer m e q bytes small (back .1 .fits .count) head (back .0) (back .1)
+
+  -- THE FIELDS OF A MESSAGE, BY CALLS, from the head record that `uadp_read_message` filled
+  pub fields-by-calls : FieldsByCalls s config writer m head
+  fields-by-calls = by-calls s config writer m e q bytes small (back .1 .fits .count) head begins
+
+  -- and the header that is read in it afterwards
+  pub header-kept : (fs : List (List ℕ)) (ys : List FieldCall) → AllLong FIELD_SIZE fs → length fs ≤ m .cursor .count → FieldCalls s config writer fs head ys
+      → (headerIn (lastHead head ys) ≡ m .header) × (headFits (lastHead head ys) ≡ true)
+  header-kept fs ys long n y =
+      let z = all s config writer m e q bytes small (back .1 .fits .count) fs ys 0 (m .cursor .at) head long (omega arith) begins y .1 .1 in
+      (z .header, z .fitting)
