@@ -18,6 +18,9 @@ use Rattle.records.proofs.ConfigBack.{config-back}
 use Rattle.records.proofs.ConfigFits.{config-fits}
 use Rattle.partial_record.proofs.Back as Back
 use Rattle.uadp_c.proofs.Demand3 as lent
+use Rattle.uadp_c.proofs.ByCalls.{fields-by-calls}
+use Rattle.uadp_c.proofs.MessagesByCalls.{messages-by-calls}
+use Rattle.uadp_c.proofs.WrittenAgain as again
 use Rattle.acceptance.specs.Demand3.{Demand3}
 use Rattle.acceptance.proofs.RefusedCalls.{placed}
 
@@ -48,6 +51,10 @@ demand-3 = record {
   lent-refused = lent.lent-refused;
   record-read-back = Back.partial-back;
   config-read-back = config-read;
+  messages-by-calls = messages-by-calls;
+  fields-by-calls = fields-by-calls;
+  datagram-again-by-calls = again.datagram-again;
+  message-again-by-calls = again.message-again;
   same-in-layouts = Layouts.same-from-emptying;
   like-in-layout = Layouts.in-layout-same;
 }

@@ -1,7 +1,7 @@
 -- DEMAND 3 as one type: a field for each sentence, the sentence above it. proofs/Demand3.antt gives a value of it. From code to claim:
 -- the contracts of reassembly/src/operations.rt say what each call `answers` and `leaves`, those of uadp_c/src/reassembling.rt that a
 -- call was `Called`. `Good` partials are the sound ones. The plain machine is reassembly/specs/Machine.antt.
-use Prim.Native.Nat.{ℕ, _≤_, _<_, _%_}
+use Prim.Native.Nat.{ℕ, _≤_, _<_, _%_, _^_}
 use mathlib.Core.Path.{_≡_}
 use mathlib.Core.Logic.{_↔_}
 use mathlib.Core.Bool.{true, false}
@@ -30,10 +30,16 @@ use Rattle.reassembly_laws.specs.Refusing.{MayRefuse}
 use Rattle.reassembly_laws.specs.Layouts.{SameButMarks, SameCalls, SameHistory, inLayout}
 use Rattle.config_text.specs.Config.{configOf}
 use Rattle.records.specs.Result.{filledIn}
-use Rattle.records.specs.Sizes.{CONFIG_SIZE, PARTIAL_SIZE}
-use Rattle.records.specs.Writers.{ConfigBack, configFilling}
+use Rattle.wire.specs.Answer.{got}
+use Rattle.wire_writer.specs.Fits.{Bytes}
+use Rattle.network_message.specs.Envelope.{NetworkMessage, networkMessageAt}
+use Rattle.dataset_header.specs.Flags.{valid}
+use Rattle.dataset_message.specs.Message.{messageAt, Message as DataSetMessage}
+use Rattle.records.specs.Sizes.{CONFIG_SIZE, ENVELOPE_SIZE, PLACE_SIZE, HEAD_SIZE, FIELD_SIZE, PARTIAL_SIZE}
+use Rattle.records.specs.Writers.{sizesIn, typesFor, ConfigBack, configFilling}
 use Rattle.partial_record.specs.Partial.{partialIn, partialBytes, FitsRecord}
 use Rattle.uadp_c.specs.Reassembling.{Lent}
+use Rattle.uadp_c.specs.ByCalls.{AllLong, HeadRead, FieldCall, FieldCalls, lastHead, FieldsByCalls, EnvelopeRead, MessageCall, MessageCalls, lastEnvelope, MessagesByCalls, DatagramAgain, MessageAgain}
 use Rattle.uadp_c.specs.History.{LentCall, Called, AllCalled, Ready, LentList, Unchanged}
 use Rattle.acceptance.specs.Refusals.{Refusal, callRefusals}
 use Rattle.acceptance.specs.Calls.{bytesRead}
@@ -94,6 +100,24 @@ pub record Demand3 : Type 0 where
   -- And what uadp_config stores for a configuration text is what the library reads in the record.
   pub config-read-back : (text r : List ℕ) → configOf text .number ≡ 0 → CONFIG_SIZE ≤ length r
       → ConfigBack (filledIn (configFilling (configOf text)) r) (configOf text .config)
+  -- Walking by calls is document 01's walk: from the record that uadp_read filled uadp_next_message tells the messages one after the other,
+  -- from that of uadp_read_message uadp_next_field the fields, each found where lookup finds it; the call after the last answers 10. (Each
+  -- element of a lent slice of bytes is below 256, and its length is a number of 8 bytes.)
+  pub messages-by-calls : (d config : List ℕ) (m : NetworkMessage) (n : ℕ) (entry : List ℕ) (result : ℕ) (envelope : List ℕ)
+      → networkMessageAt (sizesIn config) d ≡ got m n → ENVELOPE_SIZE ≤ length entry → EnvelopeRead d config entry result envelope
+      → MessagesByCalls d config m envelope
+  pub fields-by-calls : (s config : List ℕ) (writer : ℕ) (m : DataSetMessage) (n : ℕ) (entry : List ℕ) (result : ℕ) (head : List ℕ)
+      → Bytes s → length s < 256 ^ 8 → messageAt (typesFor config writer) s ≡ got (valid m) n → HEAD_SIZE ≤ length entry
+      → HeadRead s config writer entry result head → FieldsByCalls s config writer m head
+  -- Read, then write the record, gives the bytes, also after some steps of its cursor: a datagram, but for the one exception, and a message.
+  pub datagram-again-by-calls : (d config : List ℕ) (m : NetworkMessage) (n : ℕ) (entry : List ℕ) (result : ℕ) (envelope : List ℕ)
+      → Bytes d → Bytes config → networkMessageAt (sizesIn config) d ≡ got m n → ENVELOPE_SIZE ≤ length entry
+      → EnvelopeRead d config entry result envelope → (ps : List (List ℕ)) (ys : List MessageCall) → AllLong PLACE_SIZE ps
+      → length ps ≤ m .payload .count → MessageCalls d config ps envelope ys → DatagramAgain d config m (lastEnvelope envelope ys)
+  pub message-again-by-calls : (s config : List ℕ) (writer : ℕ) (m : DataSetMessage) (n : ℕ) (entry : List ℕ) (result : ℕ) (head : List ℕ)
+      → Bytes s → length s < 256 ^ 8 → messageAt (typesFor config writer) s ≡ got (valid m) n → HEAD_SIZE ≤ length entry
+      → HeadRead s config writer entry result head → (fs : List (List ℕ)) (ys : List FieldCall) → AllLong FIELD_SIZE fs
+      → length fs ≤ m .cursor .count → FieldCalls s config writer fs head ys → MessageAgain s config writer m (lastHead head ys)
   -- ---- HOWEVER MARKS ARE HELD. From emptying, calls that are the same but for the form of marks give the same answers, and leave the
   -- same record, payload area and covered bytes; and every sound partial has its like in either form.
   pub same-in-layouts : (ks ls : List Call) (s t : Partial) → SameCalls ks ls → Good s → Good t → s .rec ≡ t .rec → s .payload ≡ t .payload
