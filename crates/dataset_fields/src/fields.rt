@@ -21,7 +21,8 @@ use wire_writer::store::put_run;
 use wire_writer::store::put16;
 ghost use mathlib.Core.Path.{_≡_};
 ghost use mathlib.Core.Bool.{false, cond, true, _&&_};
-ghost use Prim.Native.Nat.{_-_, _+_, _≤_};
+ghost use mathlib.Core.List.{List};
+ghost use Prim.Native.Nat.{ℕ, _-_, _+_, _≤_};
 ghost use lib.ListN.{getD, length, take};
 ghost use Rattle.wire.specs.Lists.{total};
 ghost use Rattle.wire.specs.Answer.{got, andThen};
@@ -33,6 +34,7 @@ ghost use Rattle.dataset_header.specs.declared.flags.Encoding.{Encoding};
 ghost use lib.Dec.{eqb, leb};
 ghost use lib.Seq.{sets};
 ghost use Rattle.dataset_header.specs.Flags.{isRaw};
+ghost use Rattle.wire_writer.specs.Store.{Stored};
 ghost use Rattle.wire_writer.specs.Writing.{Puts};
 
 // Where a field stands: its index (a delta's own), type number and shape, and its value's offset and length. Length and offset stand apart,
@@ -371,8 +373,23 @@ fn index_of(indices: &[u16], k: usize) -> u16
     indices[k]
 }
 
-// The fields of a delta, each with its index.
-pub fn put_delta(
+// How many bytes the fields of a delta take: two for each index, and the values as far as there are any.
+fn delta_size(values: &[u8], lengths: &[usize]) -> usize
+    ensures { λ r.
+        let fields = valuesOf (now (lengths .entry)) (now (values .entry)) in
+        ⌜ ((indices : List ℕ) → r ≡ length (fieldsBytes true indices fields)) ⌝ }
+{
+    let mut start = 0;
+    let mut k = 0;
+    while k < lengths.len() {
+        start = forward(values.len(), start, lengths[k]);
+        k = k + 1;
+    }
+    2 * k + start
+}
+
+// The fields of a delta, each with its index, where there is room for them.
+fn store_delta(
     out: &mut [u8],
     at: usize,
     values: &[u8],
@@ -396,6 +413,25 @@ pub fn put_delta(
     p
 }
 
+// Stores the fields of a delta, each with its index, and answers the position after them; where they do not fit, nothing is stored
+// and the position stays.
+pub fn put_delta(
+    out: &mut [u8],
+    at: usize,
+    values: &[u8],
+    lengths: &[usize],
+    indices: &[u16],
+) -> usize
+    ensures { λ r.
+        let fields = valuesOf (now (lengths .entry)) (now (values .entry)) in
+        ⌜ Stored (fieldsBytes true (now (indices .entry)) fields) (now (out .entry)) at (now (out .exit)) r ⌝ }
+{
+    if !has(out.len(), at, delta_size(values, lengths)) {
+        return at;
+    }
+    store_delta(out, at, values, lengths, indices)
+}
+
 // n zero bytes.
 fn fill(out: &mut [u8], at: usize, n: usize)
     requires { ⌜ at + n ≤ length (now out) ⌝ }
@@ -408,9 +444,9 @@ fn fill(out: &mut [u8], at: usize, n: usize)
     }
 }
 
-// Stores n zero bytes, and answers the position after them.
+// Stores n zero bytes, and answers the position after them; where they do not fit, nothing is stored and the position stays.
 pub fn put_zeros(out: &mut [u8], at: usize, n: usize) -> usize
-    ensures { λ r. ⌜ Puts (zeros n) (now (out .entry)) at (now (out .exit)) r ⌝ }
+    ensures { λ r. ⌜ Stored (zeros n) (now (out .entry)) at (now (out .exit)) r ⌝ }
 {
     if has(out.len(), at, n) {
         fill(out, at, n);

@@ -238,7 +238,7 @@ fn flags1_of(header: Header, flags2: u8) -> u8
 }
 
 // Flags1, and Flags2 where it is not 0.
-pub fn put_flags(out: &mut [u8], header: Header) -> usize
+pub(crate) fn put_flags(out: &mut [u8], header: Header) -> usize
     ensures { λ r. ⌜ Puts (messageFlagBytes header) (now (out .entry)) 0 (now (out .exit)) r ⌝ }
 {
     let flags2 = flags2_of(header);

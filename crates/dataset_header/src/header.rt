@@ -6,6 +6,7 @@ use crate::flags::Kind;
 use crate::flags::flags2_of;
 use crate::flags::put_flags;
 use crate::flags::read_flags;
+use wire::has;
 use wire::optional::Optional16;
 use wire::optional::Optional16Read;
 use wire::optional::Optional32;
@@ -27,6 +28,7 @@ ghost use mathlib.Core.Path.{_≡_};
 ghost use Rattle.dataset_header.specs.Header.{messageTimesAt, versionsAt, headerOf, messageItemsAt, messageHeaderAt, answerMessageTimes, answerVersions, answerMessageHeader, timesBytes, versionsBytes, messageHeaderBytes};
 ghost use Prim.Native.Nat.{_≤_};
 ghost use lib.ListN.{length};
+ghost use Rattle.wire_writer.specs.Store.{Stored};
 ghost use Rattle.wire_writer.specs.Writing.{Puts};
 
 // The header of a message, with each item that its flags announce.
@@ -186,10 +188,14 @@ fn put_versions(out: &mut [u8], at: usize, header: Header) -> usize
     put_optional32(out, next, minor)
 }
 
-// Stores a header from the buffer's start, and answers the position after it.
+// Stores a header from the buffer's start, and answers the position after it; where it does not fit, nothing is stored and the answer
+// is 0.
 pub fn put_header(out: &mut [u8], header: Header) -> usize
-    ensures { λ r. ⌜ Puts (messageHeaderBytes header) (now (out .entry)) 0 (now (out .exit)) r ⌝ }
+    ensures { λ r. ⌜ Stored (messageHeaderBytes header) (now (out .entry)) 0 (now (out .exit)) r ⌝ }
 {
+    if !has(out.len(), 0, header_size(header)) {
+        return 0;
+    }
     let next = put_flags(out, header);
     let next = put_times(out, next, header);
     put_versions(out, next, header)

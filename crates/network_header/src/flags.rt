@@ -12,6 +12,7 @@ use wire::constants::BAD_VERSION;
 use wire::constants::CUT_SHORT;
 use wire::constants::NOT_PERMITTED;
 use wire::constants::NOT_TAKEN;
+use wire::has;
 use wire_writer::store::put8;
 use wire_writer::writing::announced;
 use wire_writer::writing::flag;
@@ -24,6 +25,7 @@ ghost use Rattle.wire.specs.Items.{answerByte};
 ghost use Rattle.network_header.specs.Flags.{byte0Rule, extended1Rule, extended2Rule, flagsAt, flagsOf, answerFlags, extended2Of, extended1Of, byte0Of, flagBytes, flagsFor, timesRefusal};
 ghost use Prim.Native.Nat.{_≤_};
 ghost use lib.ListN.{length};
+ghost use Rattle.wire_writer.specs.Store.{Stored};
 ghost use Rattle.wire_writer.specs.Writing.{Puts};
 
 // What the flag bytes say.
@@ -241,11 +243,15 @@ fn put_flag_bytes(out: &mut [u8], at: usize, f: Flags) -> usize
     put_flag_byte(out, second, extended2_of(f))
 }
 
-// Stores the flag bytes of an envelope, and answers the position after them.
+// Stores the flag bytes of an envelope, and answers the position after them; where they do not fit, nothing is stored and the position stays.
 pub fn put_flags(out: &mut [u8], at: usize, x: Envelope) -> usize
-    ensures { λ r. ⌜ Puts (flagBytes (flagsFor x)) (now (out .entry)) at (now (out .exit)) r ⌝ }
+    ensures { λ r. ⌜ Stored (flagBytes (flagsFor x)) (now (out .entry)) at (now (out .exit)) r ⌝ }
 {
-    put_flag_bytes(out, at, flags_for(x))
+    let flags = flags_for(x);
+    if !has(out.len(), at, flags_length(flags)) {
+        return at;
+    }
+    put_flag_bytes(out, at, flags)
 }
 
 // The number by which reading refuses picoseconds without a timestamp, or 0.

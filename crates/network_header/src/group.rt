@@ -3,6 +3,7 @@ use wire::Item8;
 use wire::Item16;
 use wire::constants::CUT_SHORT;
 use wire::constants::NOT_PERMITTED;
+use wire::has;
 use wire::optional::Optional16;
 use wire::optional::Optional16Read;
 use wire::optional::Optional32;
@@ -22,6 +23,7 @@ ghost use Rattle.wire.specs.Optional.{answerOptional16};
 ghost use Rattle.network_header.specs.Group.{messageNumberAt, groupFieldsAt, groupAt, answerGroup, numberRule, groupOn, groupFlagsOf, groupFieldsBytes, groupBytes, numberRefusal, groupRefusal};
 ghost use Prim.Native.Nat.{_≤_};
 ghost use lib.ListN.{length};
+ghost use Rattle.wire_writer.specs.Store.{Stored};
 ghost use Rattle.wire_writer.specs.Writing.{Puts};
 
 // The items of a group header.
@@ -175,13 +177,16 @@ fn put_fields(out: &mut [u8], at: usize, g: GroupFields) -> usize
     put_optional16(out, after_number, sequence)
 }
 
-// Stores a group header, and answers the position after it.
+// Stores a group header, and answers the position after it; where it does not fit, nothing is stored and the position stays.
 pub fn put_group(out: &mut [u8], at: usize, x: GroupHeader) -> usize
-    ensures { λ r. ⌜ Puts (groupBytes x) (now (out .entry)) at (now (out .exit)) r ⌝ }
+    ensures { λ r. ⌜ Stored (groupBytes x) (now (out .entry)) at (now (out .exit)) r ⌝ }
 {
     match x {
         GroupHeader::Absent => at,
         GroupHeader::Is(g) => {
+            if !has(out.len(), at, 1 + fields_size(g)) {
+                return at;
+            }
             let start = put8(out, at, group_flags(g));
             put_fields(out, start, g)
         }

@@ -7,6 +7,7 @@ use wire::ItemGuid;
 use wire::Run;
 use wire::constants::CUT_SHORT;
 use wire::constants::DISAGREE;
+use wire::has;
 use wire_writer::store::put_guid;
 use wire_writer::store::put_run;
 use wire_writer::store::put8;
@@ -18,7 +19,7 @@ ghost use mathlib.Core.Bool.{cond};
 ghost use Prim.Native.Nat.{_+_, _≤_};
 ghost use lib.Dec.{eqb, leb};
 ghost use lib.ListN.{length};
-ghost use Rattle.wire_writer.specs.Writing.{Puts};
+ghost use Rattle.wire_writer.specs.Store.{Stored};
 ghost use Rattle.wire.specs.Constants.{DISAGREE};
 
 // A DataSetClassId.
@@ -154,9 +155,9 @@ pub fn class_size(x: ClassId) -> usize
     }
 }
 
-// Stores a DataSetClassId, and answers the position after it.
+// Stores a DataSetClassId, and answers the position after it; where it does not fit, nothing is stored and the position stays.
 pub fn put_class(out: &mut [u8], at: usize, x: ClassId) -> usize
-    ensures { λ r. ⌜ Puts (classBytes x) (now (out .entry)) at (now (out .exit)) r ⌝ }
+    ensures { λ r. ⌜ Stored (classBytes x) (now (out .entry)) at (now (out .exit)) r ⌝ }
 {
     match x {
         ClassId::Absent => at,
@@ -186,13 +187,16 @@ pub fn payload_header_size(x: PayloadHeader, ids: &[u8]) -> usize
     }
 }
 
-// Stores a PayloadHeader with these ids, and answers the position after it.
+// Stores a PayloadHeader with these ids, and answers the position after it; where it does not fit, nothing is stored and the position stays.
 pub fn put_payload_header(out: &mut [u8], at: usize, x: PayloadHeader, ids: &[u8]) -> usize
-    ensures { λ r. ⌜ Puts (payloadHeaderBytes (now (ids .entry)) x) (now (out .entry)) at (now (out .exit)) r ⌝ }
+    ensures { λ r. ⌜ Stored (payloadHeaderBytes (now (ids .entry)) x) (now (out .entry)) at (now (out .exit)) r ⌝ }
 {
     match x {
         PayloadHeader::Absent => at,
         PayloadHeader::Ids(n) => {
+            if !has(out.len(), at, 1 + ids.len()) {
+                return at;
+            }
             let start = put8(out, at, (n % 256) as u8);
             put_run(out, start, ids)
         }
@@ -220,14 +224,17 @@ pub fn promoted_size(x: Promoted, bytes: &[u8]) -> usize
     }
 }
 
-// Stores promoted fields with their size, and answers the position after them.
+// Stores promoted fields with their size, and answers the position after them; where they do not fit, nothing is stored and the position stays.
 pub fn put_promoted(out: &mut [u8], at: usize, x: Promoted, bytes: &[u8]) -> usize
-    ensures { λ r. ⌜ Puts (promotedBytes (now (bytes .entry)) x) (now (out .entry)) at (now (out .exit)) r ⌝ }
+    ensures { λ r. ⌜ Stored (promotedBytes (now (bytes .entry)) x) (now (out .entry)) at (now (out .exit)) r ⌝ }
 {
     match x {
         Promoted::Absent => at,
         Promoted::Size(_) => {
             let n = bytes.len();
+            if !has(out.len(), at, 2 + n) {
+                return at;
+            }
             let start = put16(out, at, (n % 65536) as u16);
             put_run(out, start, bytes)
         }

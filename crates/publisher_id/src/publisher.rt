@@ -10,6 +10,7 @@ use wire::constants::CUT_SHORT;
 use wire::constants::MOST_TEXT_ID;
 use wire::constants::NOT_PERMITTED;
 use wire::constants::OVER_LIMIT;
+use wire::has;
 use wire_writer::store::put_run;
 use wire_writer::store::put8;
 use wire_writer::store::put16;
@@ -23,7 +24,7 @@ ghost use mathlib.Core.List.{_++_};
 ghost use Prim.Native.Nat.{_+_, _≤_};
 ghost use lib.ListN.{length};
 ghost use Rattle.wire.specs.Number.{leBytes};
-ghost use Rattle.wire_writer.specs.Writing.{Puts};
+ghost use Rattle.wire_writer.specs.Store.{Stored};
 ghost use Rattle.wire.specs.Constants.{OVER_LIMIT};
 
 // A PublisherId. Of a string, its length: its bytes end where the part ends.
@@ -154,16 +155,19 @@ pub fn publisher_size(p: PublisherId, text: &[u8]) -> usize
 
 // The length of a string and its bytes.
 fn put_text(out: &mut [u8], at: usize, text: &[u8]) -> usize
-    ensures { λ r. ⌜ Puts (leBytes 4 (length (now (text .entry))) ++ now (text .entry)) (now (out .entry)) at (now (out .exit)) r ⌝ }
+    ensures { λ r. ⌜ Stored (leBytes 4 (length (now (text .entry))) ++ now (text .entry)) (now (out .entry)) at (now (out .exit)) r ⌝ }
 {
     let n = text.len();
+    if !has(out.len(), at, 4 + n) {
+        return at;
+    }
     let start = put32(out, at, (n % 4294967296) as u32);
     put_run(out, start, text)
 }
 
-// Stores a PublisherId, a string with its text, and answers the position after it.
+// Stores a PublisherId, a string with its text, and answers the position after it; where it does not fit, nothing is stored and the position stays.
 pub fn put_publisher(out: &mut [u8], at: usize, p: PublisherId, text: &[u8]) -> usize
-    ensures { λ r. ⌜ Puts (publisherBytes (now (text .entry)) p) (now (out .entry)) at (now (out .exit)) r ⌝ }
+    ensures { λ r. ⌜ Stored (publisherBytes (now (text .entry)) p) (now (out .entry)) at (now (out .exit)) r ⌝ }
 {
     match p {
         PublisherId::Absent => at,

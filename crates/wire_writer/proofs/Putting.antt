@@ -1,7 +1,7 @@
 -- Laws of items stored one after the other.
 -- Assumes nothing.
 use mathlib.Core.Path.{_≡_, refl, ap, sym, subst, _∙_}
-use mathlib.Core.Bool.{Bool, true, false, cond}
+use mathlib.Core.Bool.{Bool, true, false, cond, not}
 use mathlib.Core.List.{List, [], _++_}
 use Prim.Native.Nat.{ℕ, _+_, _≤_}
 use native.Mathlib.Nat.{add-zero, zero-add}
@@ -10,13 +10,13 @@ use lib.Dec.{leb}
 use lib.IntN.{ℤ}
 use lib.ListN.{length, drop, length-append}
 use lib.Seq.{sets, sets-eq, length-sets}
-use borrow.Author.Tests.{le-leb}
+use borrow.Author.Tests.{le-leb, leb-true, not-true, not-false}
 use mir.Syntax.{w64}
 use mir.Val.{SFits, toZ, ofZ}
 use mir.ValLaws.{toZ-ofZ}
 use Rattle.wire.specs.Number.{leBytes, unsigned}
 use Rattle.wire_writer.specs.Store.{Stored}
-use Rattle.wire_writer.proofs.Stores.{sets-append}
+use Rattle.wire_writer.proofs.Stores.{stored-none, sets-append}
 use Rattle.wire_writer.specs.Writing.{Puts}
 
 pub stored-nothing : (entry : List ℕ) (at : ℕ) → Stored [] entry at entry at
@@ -41,6 +41,20 @@ puts {b} {entry} {exit} {at} {next} s =
     record {
       stored = λ h. s .stored ∙ ap (λ (t : Bool). cond t (sets entry at b) entry) (le-leb (at + length b) (length entry) h);
       after = λ h. s .after ∙ ap (λ (t : Bool). cond t (at + length b) at) (le-leb (at + length b) (length entry) h);
+    }
+
+-- all or nothing: what a put function did that tests first whether there is room for all n bytes, and stores none where there is not
+pub none-of : (b entry : List ℕ) (at : ℕ) {n : ℕ} {room : Bool} → n ≡ length b → room ≡ leb (at + n) (length entry) → not room ≡ true → Stored b entry at entry at
+none-of b entry at {n} {room} e r t = stored-none b entry at (ap (λ (m : ℕ). leb (at + m) (length entry)) (sym e) ∙ sym r ∙ not-true room t)
+
+pub all-of : {b entry exit : List ℕ} {at n next : ℕ} {room : Bool} → n ≡ length b → room ≡ leb (at + n) (length entry) → not room ≡ false
+    → Puts b entry at exit next → Stored b entry at exit next
+all-of {b} {entry} {exit} {at} {n} {next} {room} e r t p =
+    let fits : leb (at + length b) (length entry) ≡ true = ap (λ (m : ℕ). leb (at + m) (length entry)) (sym e) ∙ sym r ∙ not-false room t in
+    let h : at + length b ≤ length entry = leb-true (at + length b) (length entry) fits in
+    record {
+      stored = p .stored h ∙ ap (λ (q : Bool). cond q (sets entry at b) entry) (sym fits);
+      after = p .after h ∙ ap (λ (q : Bool). cond q (at + length b) at) (sym fits);
     }
 
 pub nothing : (entry : List ℕ) (at : ℕ) → Puts [] entry at entry at

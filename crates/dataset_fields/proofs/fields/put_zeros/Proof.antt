@@ -25,8 +25,10 @@ add-result c =
 returns : tie.Need-returns
 returns c =
     let at-fill = c .before .before in
-    let args = at-fill .before .before .before .before .before .args in
-    zeros-put (args .n) (now (args .out)) (args .at) _ (at-fill .fill .ensures)
+    let at-if1 = at-fill .before .before in
+    let at-has = at-if1 .before in
+    let args = at-has .before .before .args in
+    zeros-put (args .n) (now (args .out)) (args .at) _ (sym (at-has .has .ensures) ∙ at-if1 .if1 .taken) (at-fill .fill .ensures)
 
 returns-2 : tie.Need-returns-2
 returns-2 c =

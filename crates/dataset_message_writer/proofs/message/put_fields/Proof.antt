@@ -11,7 +11,7 @@ returns : tie.Need-returns
 returns c =
     let at-put-delta = c .before .before in
     let at-if1 = at-put-delta .before .before in
-    rw (at-if1 .if1 .taken) (at-put-delta .put-delta .ensures)
+    rw (at-if1 .if1 .taken) (puts (at-put-delta .put-delta .ensures))
 
 returns-2 : tie.Need-returns-2
 returns-2 c =

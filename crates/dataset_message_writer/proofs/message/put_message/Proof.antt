@@ -2,6 +2,7 @@
 -- Assumes nothing.
 use denote.Ref.{now}
 use borrow.Author.Needs.{needs}
+use Rattle.wire_writer.proofs.Putting.{puts}
 use Rattle.dataset_message_writer.proofs.Whole.{put-parts}
 use Rattle.dataset_message_writer.specs.Message.{givenMessage}
 use Rattle.dataset_message_writer.proofs.message.put_message.Statement.{statement}
@@ -24,7 +25,7 @@ returns c =
     let args = at-put-header .before .before .before .before .before .before .args in
     put-parts (givenMessage (args .header) (args .heartbeat) (now (args .values)) (now (args .lengths)) (now (args .indices)) (args .padding)) _ _ _
     (at-has-fields .has-fields .ensures) (at-is-raw .is-raw .ensures) (at-is-delta .is-delta .ensures)
-    (at-put-header .put-header .ensures) (at-put-count .put-count .ensures) (at-put-fields .put-fields .ensures) (at-put-zeros .put-zeros .ensures)
+    (puts (at-put-header .put-header .ensures)) (at-put-count .put-count .ensures) (at-put-fields .put-fields .ensures) (puts (at-put-zeros .put-zeros .ensures))
 
 pub put-message-spec : {M : Type 1} → statement M
 put-message-spec =

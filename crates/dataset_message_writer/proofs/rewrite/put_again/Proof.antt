@@ -16,7 +16,8 @@ returns c =
     let at-put-header = at-is-raw .before .before .before .before in
     let args = at-put-header .before .before .before .before .args in
     again-parts (args .header) (args .fielded) (at-is-raw .is-raw .result) (args .count) (now (args .fields)) (args .padding)
-    (at-is-raw .is-raw .ensures) (at-put-header .put-header .ensures) (at-put-count .put-count .ensures) (puts (at-put-run .put-run .ensures)) (at-put-zeros .put-zeros .ensures)
+    (at-is-raw .is-raw .ensures) (puts (at-put-header .put-header .ensures)) (at-put-count .put-count .ensures) (puts (at-put-run .put-run .ensures))
+    (puts (at-put-zeros .put-zeros .ensures))
 
 pub put-again-spec : {M : Type 1} → statement M
 put-again-spec =

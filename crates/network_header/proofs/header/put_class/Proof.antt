@@ -1,6 +1,6 @@
 -- `network_header::header::put_class` meets its contract.
 -- Assumes nothing.
-use Rattle.wire_writer.proofs.Putting.{puts, nothing}
+use Rattle.wire_writer.proofs.Putting.{stored-nothing}
 use denote.Ref.{now}
 use borrow.Author.Needs.{needs}
 use Rattle.network_header.proofs.header.put_class.Statement.{statement}
@@ -9,13 +9,13 @@ use Rattle.network_header.proofs.header.put_class.Tie as tie
 returns : tie.Need-returns
 returns c =
     let args = c .before .before .before .args in
-    rw (c .enum-told .given .1) (nothing (now (args .out)) (args .at))
+    rw (c .enum-told .given .1) (stored-nothing (now (args .out)) (args .at))
 
 returns-2 : tie.Need-returns-2
 returns-2 c =
     let at-put-guid = c .before .before in
     let at-x = at-put-guid .before .before .before in
-    rw (at-x .x .given .1) (puts (at-put-guid .put-guid .ensures))
+    rw (at-x .x .given .1) (at-put-guid .put-guid .ensures)
 
 pub put-class-spec : {M : Type 1} → statement M
 put-class-spec =

@@ -1,6 +1,6 @@
 -- `network_message_writer::envelope::put_header` meets its contract.
 -- Assumes nothing.
-use Rattle.wire_writer.proofs.Putting.{then}
+use Rattle.wire_writer.proofs.Putting.{puts, then}
 use borrow.Author.Needs.{needs}
 use Rattle.network_message_writer.proofs.envelope.put_header.Statement.{statement}
 use Rattle.network_message_writer.proofs.envelope.put_header.Tie as tie
@@ -12,8 +12,9 @@ returns c =
     let at-put-class = at-put-group .before .before .before .before in
     let at-put-publisher = at-put-class .before .before .before .before in
     let at-put-flags = at-put-publisher .before .before .before .before in
-    then (at-put-flags .put-flags .ensures)
-    (then (at-put-publisher .put-publisher .ensures) (then (at-put-class .put-class .ensures) (then (at-put-group .put-group .ensures) (at-put-tail .put-tail .ensures))))
+    then (puts (at-put-flags .put-flags .ensures))
+    (then (puts (at-put-publisher .put-publisher .ensures))
+    (then (puts (at-put-class .put-class .ensures)) (then (puts (at-put-group .put-group .ensures)) (at-put-tail .put-tail .ensures))))
 
 pub put-header-spec : {M : Type 1} → statement M
 put-header-spec =

@@ -11,8 +11,8 @@ returns c =
     let at-put-optional16 = at-put-promoted .before .before .before .before in
     let at-put-optional-i64 = at-put-optional16 .before .before .before .before in
     let at-put-payload-header = at-put-optional-i64 .before .before .before .before in
-    then (at-put-payload-header .put-payload-header .ensures)
-    (then (puts (at-put-optional-i64 .put-optional-i64 .ensures)) (then (puts (at-put-optional16 .put-optional16 .ensures)) (at-put-promoted .put-promoted .ensures)))
+    then (puts (at-put-payload-header .put-payload-header .ensures))
+    (then (puts (at-put-optional-i64 .put-optional-i64 .ensures)) (then (puts (at-put-optional16 .put-optional16 .ensures)) (puts (at-put-promoted .put-promoted .ensures))))
 
 pub put-tail-spec : {M : Type 1} → statement M
 put-tail-spec =

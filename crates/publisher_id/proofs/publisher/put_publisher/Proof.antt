@@ -1,6 +1,6 @@
 -- `publisher_id::publisher::put_publisher` meets its contract.
 -- Assumes nothing.
-use Rattle.wire_writer.proofs.Putting.{puts, nothing}
+use Rattle.wire_writer.proofs.Putting.{stored-nothing}
 use denote.Ref.{now}
 use borrow.Author.Needs.{needs}
 use Rattle.publisher_id.proofs.publisher.put_publisher.Statement.{statement}
@@ -9,31 +9,31 @@ use Rattle.publisher_id.proofs.publisher.put_publisher.Tie as tie
 returns : tie.Need-returns
 returns c =
     let args = c .before .before .before .before .args in
-    rw (c .enum-told .given .1) (nothing (now (args .out)) (args .at))
+    rw (c .enum-told .given .1) (stored-nothing (now (args .out)) (args .at))
 
 returns-2 : tie.Need-returns-2
 returns-2 c =
     let at-put8 = c .before .before in
     let at-p = at-put8 .before .before .before in
-    rw (at-p .p .given .1) (puts (at-put8 .put8 .ensures))
+    rw (at-p .p .given .1) (at-put8 .put8 .ensures)
 
 returns-3 : tie.Need-returns-3
 returns-3 c =
     let at-put16 = c .before .before in
     let at-p2 = at-put16 .before .before .before in
-    rw (at-p2 .p2 .given .1) (puts (at-put16 .put16 .ensures))
+    rw (at-p2 .p2 .given .1) (at-put16 .put16 .ensures)
 
 returns-4 : tie.Need-returns-4
 returns-4 c =
     let at-put32 = c .before .before in
     let at-p3 = at-put32 .before .before .before in
-    rw (at-p3 .p3 .given .1) (puts (at-put32 .put32 .ensures))
+    rw (at-p3 .p3 .given .1) (at-put32 .put32 .ensures)
 
 returns-5 : tie.Need-returns-5
 returns-5 c =
     let at-put64 = c .before .before in
     let at-p4 = at-put64 .before .before .before in
-    rw (at-p4 .p4 .given .1) (puts (at-put64 .put64 .ensures))
+    rw (at-p4 .p4 .given .1) (at-put64 .put64 .ensures)
 
 returns-6 : tie.Need-returns-6
 returns-6 c =
