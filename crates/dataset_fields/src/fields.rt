@@ -413,8 +413,7 @@ fn store_delta(
     p
 }
 
-// Stores the fields of a delta, each with its index, and answers the position after them; where they do not fit, nothing is stored
-// and the position stays.
+// Stores the fields of a delta, each with its index, all or nothing: answers the position after them, or `at` where they do not fit.
 pub fn put_delta(
     out: &mut [u8],
     at: usize,
@@ -444,7 +443,7 @@ fn fill(out: &mut [u8], at: usize, n: usize)
     }
 }
 
-// Stores n zero bytes, and answers the position after them; where they do not fit, nothing is stored and the position stays.
+// Stores n zero bytes, all or nothing: answers the position after them, or `at` where they do not fit.
 pub fn put_zeros(out: &mut [u8], at: usize, n: usize) -> usize
     ensures { λ r. ⌜ Stored (zeros n) (now (out .entry)) at (now (out .exit)) r ⌝ }
 {

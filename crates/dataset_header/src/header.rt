@@ -188,8 +188,7 @@ fn put_versions(out: &mut [u8], at: usize, header: Header) -> usize
     put_optional32(out, next, minor)
 }
 
-// Stores a header from the buffer's start, and answers the position after it; where it does not fit, nothing is stored and the answer
-// is 0.
+// Stores a header from the buffer's start, all or nothing: answers the position after it, or 0 where it does not fit.
 pub fn put_header(out: &mut [u8], header: Header) -> usize
     ensures { λ r. ⌜ Stored (messageHeaderBytes header) (now (out .entry)) 0 (now (out .exit)) r ⌝ }
 {

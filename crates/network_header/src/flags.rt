@@ -243,7 +243,7 @@ fn put_flag_bytes(out: &mut [u8], at: usize, f: Flags) -> usize
     put_flag_byte(out, second, extended2_of(f))
 }
 
-// Stores the flag bytes of an envelope, and answers the position after them; where they do not fit, nothing is stored and the position stays.
+// Stores the flag bytes of an envelope, all or nothing: answers the position after them, or `at` where they do not fit.
 pub fn put_flags(out: &mut [u8], at: usize, x: Envelope) -> usize
     ensures { λ r. ⌜ Stored (flagBytes (flagsFor x)) (now (out .entry)) at (now (out .exit)) r ⌝ }
 {

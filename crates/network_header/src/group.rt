@@ -177,7 +177,7 @@ fn put_fields(out: &mut [u8], at: usize, g: GroupFields) -> usize
     put_optional16(out, after_number, sequence)
 }
 
-// Stores a group header, and answers the position after it; where it does not fit, nothing is stored and the position stays.
+// Stores a group header, all or nothing: answers the position after it, or `at` where it does not fit.
 pub fn put_group(out: &mut [u8], at: usize, x: GroupHeader) -> usize
     ensures { λ r. ⌜ Stored (groupBytes x) (now (out .entry)) at (now (out .exit)) r ⌝ }
 {

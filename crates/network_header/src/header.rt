@@ -155,7 +155,7 @@ pub fn class_size(x: ClassId) -> usize
     }
 }
 
-// Stores a DataSetClassId, and answers the position after it; where it does not fit, nothing is stored and the position stays.
+// Stores a DataSetClassId, all or nothing: answers the position after it, or `at` where it does not fit.
 pub fn put_class(out: &mut [u8], at: usize, x: ClassId) -> usize
     ensures { λ r. ⌜ Stored (classBytes x) (now (out .entry)) at (now (out .exit)) r ⌝ }
 {
@@ -187,7 +187,7 @@ pub fn payload_header_size(x: PayloadHeader, ids: &[u8]) -> usize
     }
 }
 
-// Stores a PayloadHeader with these ids, and answers the position after it; where it does not fit, nothing is stored and the position stays.
+// Stores a PayloadHeader with these ids, all or nothing: answers the position after it, or `at` where it does not fit.
 pub fn put_payload_header(out: &mut [u8], at: usize, x: PayloadHeader, ids: &[u8]) -> usize
     ensures { λ r. ⌜ Stored (payloadHeaderBytes (now (ids .entry)) x) (now (out .entry)) at (now (out .exit)) r ⌝ }
 {
@@ -224,7 +224,7 @@ pub fn promoted_size(x: Promoted, bytes: &[u8]) -> usize
     }
 }
 
-// Stores promoted fields with their size, and answers the position after them; where they do not fit, nothing is stored and the position stays.
+// Stores promoted fields with their size, all or nothing: answers the position after them, or `at` where they do not fit.
 pub fn put_promoted(out: &mut [u8], at: usize, x: Promoted, bytes: &[u8]) -> usize
     ensures { λ r. ⌜ Stored (promotedBytes (now (bytes .entry)) x) (now (out .entry)) at (now (out .exit)) r ⌝ }
 {

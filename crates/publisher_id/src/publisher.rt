@@ -165,7 +165,7 @@ fn put_text(out: &mut [u8], at: usize, text: &[u8]) -> usize
     put_run(out, start, text)
 }
 
-// Stores a PublisherId, a string with its text, and answers the position after it; where it does not fit, nothing is stored and the position stays.
+// Stores a PublisherId, a string with its text, all or nothing: answers the position after it, or `at` where it does not fit.
 pub fn put_publisher(out: &mut [u8], at: usize, p: PublisherId, text: &[u8]) -> usize
     ensures { λ r. ⌜ Stored (publisherBytes (now (text .entry)) p) (now (out .entry)) at (now (out .exit)) r ⌝ }
 {

@@ -31,6 +31,12 @@ use Rattle.round_trip.proofs.NetworkMessageRewritten as datagram
 pub bytes : (s : List ℕ) → ((i : ℕ) → Fits w8 (getD s i 0)) → Bytes s
 bytes s h i = omega (arith, h i)
 
+-- a message that reading accepts, within the limit, into a buffer with room: the same bytes, and the buffer goes on as it was
+pub same-bytes : (types s entry exit : List ℕ) (r : Written) (m : Message) (e : ℕ) → messageAt types s ≡ got (valid m) e → length s ≤ 65535 → length s ≤ length entry
+    → Writes (messageSame types s) entry exit r → (r ≡ Written.Is (length s)) × (exit ≡ s ++ drop (length s) entry)
+same-bytes types s entry exit r m e q l room w =
+    fitting-written l room (subst (λ (a : Answer (Valid Message)). Writes (afterReading a (whereValid (λ m. s))) entry exit r) q w)
+
 -- a PublisherId of another variant than the first is on
 pub publisher-on : (p : PublisherId) → OneOf (1 ∷ 2 ∷ 3 ∷ 4 ∷ 5 ∷ []) (tagOf publisher.the-type p) → publisherOn p ≡ true
 publisher-on PublisherId.Absent h = absurd (miss (1 ∷ 2 ∷ 3 ∷ 4 ∷ 5 ∷ []) 0 tt h)
