@@ -1,7 +1,7 @@
 /*
- * noise_filter FILE: what a filter between two links does. Each Float of the datagram's first message, alone or in an array, in a
- * Variant, a DataValue or RawData (of the writers in readers.txt), is replaced by the median of itself and its neighbours, which
- * touches no bit: the median is one of the three. All values go out again as Variants of a key frame, which is printed in hex.
+ * noise_filter FILE..: what the module does. Each file is a datagram with a chunk of a ping, a key frame of Variants.
+ * One that is complete and newer than the last is published as publisher 4712, in chunks of 64 bytes, printed in hex:
+ * its columns of Floats are cleaned, every other field goes out as it stands.
  */
 #include "uadp.h"
 
@@ -9,34 +9,25 @@
 #include <stdlib.h>
 #include <string.h>
 
-enum { MOST_FIELDS = 1000 };
+enum { PUBLISHER = 4712, CHUNK = 64 };
 
-static uint8_t datagram[UADP_MOST_DATAGRAM + 1], values[UADP_MOST_DATAGRAM], out[UADP_MOST_DATAGRAM];
-static float samples[UADP_MOST_DATAGRAM / 4], filtered[UADP_MOST_DATAGRAM / 4];
-static size_t lengths[MOST_FIELDS];
+static uint8_t ping[UADP_MOST_PAYLOAD], marks[UADP_MARKS_SIZE(UADP_MOST_PAYLOAD)];
+static uadp_partial partial = {UADP_ZERO, ping, marks, sizeof ping};
+static uadp_sequence_record last;
+static uint16_t published;
 
-static size_t load(const char *name, uint8_t *into, size_t room)
+/* Is the call done? A refusal is told. */
+static int is_done(uadp_result result)
 {
-    FILE *file = fopen(name, "rb");
-    size_t length;
+    unsigned number = (unsigned)UADP_NUMBER(result);
 
-    if (file == NULL) {
-        return 0;
+    if (number != UADP_DONE) {
+        (void)printf("refused by %u at %zu: %s\n", number, (size_t)UADP_PLACE(result), uadp_number_text(number));
     }
-    length = fread(into, 1, room, file);
-    (void)fclose(file);
-    return length;
+    return number == UADP_DONE;
 }
 
-static uint64_t done(const char *what, uadp_result result)
-{
-    if (UADP_NUMBER(result) != UADP_DONE) {
-        (void)printf("%s: %s\n", what, uadp_number_text(UADP_NUMBER(result)));
-        exit(EXIT_FAILURE);
-    }
-    return UADP_VALUE(result);
-}
-
+/* The one in the middle, so that no bit of a sample changes. */
 static float median(float a, float b, float c)
 {
     if (a < b) {
@@ -45,66 +36,114 @@ static float median(float a, float b, float c)
     return a < c ? a : (b < c ? c : b);
 }
 
-/* Puts a field's value, filtered where it is of Floats; answers how many bytes, 0 for a type that is not put. */
-static size_t put_filtered(const uint8_t *message, size_t length, const uadp_value_record *value, uint8_t *to, size_t room)
+/* Puts a column of Floats, each sample replaced by the median of itself and its neighbours. */
+static uadp_result put_cleaned(const uadp_value_record *column, size_t length, uint8_t *out, size_t room)
 {
-    const uint8_t *from = message + value->first;
-    size_t size = value->length, count = 0, k;
-    uadp_result result;
+    static float samples[UADP_MOST_PAYLOAD / 4], cleaned[UADP_MOST_PAYLOAD / 4];
+    size_t count = 0, k;
 
-    if (value->type == UADP_TYPE_FLOAT) {
-        while (uadp_copy(message, length, value, count, &samples[count], sizeof samples[count])) {
-            count++;
-        }
-        for (k = 0; k < count; k++) {
-            filtered[k] = median(samples[k > 0 ? k - 1 : k], samples[k], samples[k + 1 < count ? k + 1 : k]);
-        }
-        from = UADP_CONST_BYTES(filtered);
-        size = count * sizeof filtered[0];
+    while (uadp_copy(ping, length, column, count, &samples[count], sizeof samples[count])) {
+        count++;
     }
-    result = uadp_put_value((uint32_t)value->type, (uint32_t)value->shape, (uint32_t)value->null, from, size, to, room);
-    return UADP_NUMBER(result) == UADP_NOT_TAKEN ? 0 : done("value", result);
+    for (k = 0; k < count; k++) {
+        cleaned[k] = median(samples[k > 0 ? k - 1 : k], samples[k], samples[k + 1 < count ? k + 1 : k]);
+    }
+    return uadp_put_value(UADP_TYPE_FLOAT, UADP_ARRAY, 0, cleaned, count * sizeof cleaned[0], out, room);
 }
 
-static void filter(const uint8_t *message, size_t length, const uadp_config_record *config, uint32_t writer)
+/* Sends a message in chunks. */
+static void send_message(const uint8_t *message, size_t length, uint32_t writer)
 {
-    uadp_head_record head;
+    uint8_t chunk[UADP_CHUNK_HEADER + CHUNK], datagram[sizeof chunk + 16];
+    uadp_datagram_parts parts = UADP_ZERO;
+    uadp_result chunks = uadp_chunks(length, CHUNK);
+    uint64_t k, i, size, count = is_done(chunks) ? UADP_VALUE(chunks) : 0;
+
+    parts.envelope.publisher_type = UADP_ID_UINT16;
+    parts.envelope.publisher = PUBLISHER;
+    parts.envelope.payload_header = UADP_HEADER_CHUNK;
+    parts.envelope.chunk_writer = writer;
+    parts.messages = chunk;
+    for (k = 0; k < count; k++) {
+        parts.messages_length = UADP_VALUE(uadp_cut(message, length, published, CHUNK, k, chunk, sizeof chunk));
+        size = UADP_VALUE(uadp_write(&parts, NULL, datagram, sizeof datagram));
+        for (i = 0; i < size; i++) {
+            (void)printf("%02X%c", datagram[i], i + 1 < size ? ' ' : '\n');
+        }
+    }
+}
+
+static int is_newer(const uadp_head_record *head)
+{
+    return (head->items & UADP_ITEM_SEQUENCE) == 0 ||
+           UADP_VALUE(uadp_newness(&last, (uint16_t)head->sequence)) == UADP_NEWER;
+}
+
+/* Publishes a complete ping. Each field goes out as long as it came in. */
+static void publish(size_t length, uint32_t writer)
+{
+    static uint8_t values[sizeof ping], out[UADP_MOST_DATAGRAM];
+    static size_t lengths[sizeof ping];
+    uadp_message_parts parts = UADP_ZERO;
+    uadp_head_record *head = &parts.head;
     uadp_field_record field;
     uadp_value_record value;
-    uadp_message_parts parts = UADP_ZERO;
-    size_t used = 0, fields = 0, k, written;
+    uadp_result result;
 
-    if (done("message", uadp_read_message(message, length, config, writer, &head)) == 0) {
-        (void)printf("not valid\n");
+    if (!is_done(uadp_read_message(ping, length, NULL, writer, head))) {
         return;
     }
-    while (UADP_NUMBER(uadp_next_field(message, length, config, writer, &head, &field)) == UADP_DONE && fields < MOST_FIELDS) {
-        (void)done("value", uadp_value(message, length, field.offset, (uint32_t)head.encoding, (uint32_t)field.type, &value));
-        lengths[fields] = put_filtered(message, length, &value, values + used, sizeof values - used);
-        used += lengths[fields];
-        fields += lengths[fields] > 0;
+    if (!head->valid || head->kind != UADP_KEY || head->encoding != UADP_VARIANT || !is_newer(head)) {
+        (void)printf("ping left out\n");
+        return;
     }
+    while (UADP_NUMBER(uadp_next_field(ping, length, NULL, writer, head, &field)) == UADP_DONE) {
+        uint8_t *to = values + parts.values_length;
+        (void)memcpy(to, ping + field.offset, field.length);
+        (void)uadp_value(ping, length, field.offset, UADP_VARIANT, 0, &value);
+        if (value.type == UADP_TYPE_FLOAT && value.shape == UADP_ARRAY) {
+            (void)put_cleaned(&value, length, to, field.length);
+        }
+        parts.values_length += field.length;
+        lengths[parts.length_count++] = field.length;
+    }
+    head->items |= UADP_ITEM_SEQUENCE;
+    head->sequence = ++published;
     parts.values = values;
-    parts.values_length = used;
     parts.lengths = lengths;
-    parts.length_count = fields;
-    written = done("written", uadp_write_message(&parts, NULL, writer, out, sizeof out));
-    for (k = 0; k < written; k++) {
-        (void)printf("%02X%c", out[k], k + 1 < written ? ' ' : '\n');
+    result = uadp_write_message(&parts, NULL, writer, out, sizeof out);
+    if (is_done(result)) {
+        send_message(out, UADP_VALUE(result), writer);
+    }
+}
+
+static void receive(const uint8_t *datagram, size_t length)
+{
+    uadp_result result = uadp_take_in(&partial, datagram, length, NULL);
+
+    if (UADP_NUMBER(result) == UADP_OTHER_MESSAGE) { /* the ping before is given up */
+        (void)uadp_empty(&partial);
+        result = uadp_take_in(&partial, datagram, length, NULL);
+    }
+    if (is_done(result) && UADP_VALUE(uadp_complete(&partial))) {
+        publish(UADP_VALUE(uadp_hand_out(&partial)), (uint32_t)partial.record.writer);
+        (void)uadp_empty(&partial);
     }
 }
 
 int main(int argc, char **argv)
 {
-    static char text[4096];
-    uadp_config_record config;
-    uadp_envelope_record envelope;
-    uadp_place_record place;
-    size_t length = argc == 2 ? load(argv[1], datagram, sizeof datagram) : 0;
+    static uint8_t datagram[UADP_MOST_DATAGRAM + 1];
+    int k;
 
-    (void)done("configuration", uadp_config(text, load("readers.txt", UADP_BYTES(text), sizeof text), &config));
-    (void)done("datagram", uadp_read(datagram, length, &config, &envelope));
-    (void)done("message", uadp_next_message(datagram, length, &config, &envelope, &place));
-    filter(datagram + place.offset, place.length, &config, (uint32_t)place.writer);
+    for (k = 1; k < argc; k++) {
+        FILE *file = fopen(argv[k], "rb");
+        if (file == NULL) {
+            perror(argv[k]);
+            return EXIT_FAILURE;
+        }
+        receive(datagram, fread(datagram, 1, sizeof datagram, file));
+        (void)fclose(file);
+    }
     return EXIT_SUCCESS;
 }

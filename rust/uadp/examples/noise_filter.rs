@@ -1,66 +1,79 @@
-//! `noise_filter FILE`: what a filter between two links does. Each Float of the datagram's first message, alone or in an array, in a
-//! Variant, a DataValue or RawData (of the writers in readers.txt), is replaced by the median of itself and its neighbours, which
-//! touches no bit: the median is one of the three. All values go out again as Variants of a key frame, which is printed in hex.
-use std::{env, fs, process};
-use uadp::{Config, Datagram, Encoding, MessageBuilder, Reason, Refusal, Shape, Type, Value, Values, MOST_DATAGRAM};
+//! `noise_filter FILE..`: what the module does. Each file is a datagram with a chunk of a ping, a key frame of Variants. One that is
+//! complete and newer than the last is published as publisher 4712, in chunks of 64 bytes, printed in hex: its columns of Floats are
+//! cleaned, every other field goes out as it stands.
+use std::{env, error::Error, fs};
+use uadp::{
+    marks_size, Chunks, Config, DatagramBuilder, Encoding, Kind, LastSequence, Message, MessageBuilder, Newness, Partial,
+    PublisherId, Reason, Refusal, Shape, Type, Value, Values, CHUNK_HEADER, MOST_DATAGRAM, MOST_PAYLOAD,
+};
 
+const CHUNK: usize = 64;
+
+/// The one in the middle, so that no bit of a sample changes.
 fn median(a: f32, b: f32, c: f32) -> f32 {
-    if a < b {
-        return if b < c { b } else { [a, c][usize::from(a < c)] };
-    }
-    if a < c {
-        a
-    } else {
-        [b, c][usize::from(b < c)]
+    match (a < b, b < c, a < c) {
+        (true, true, _) | (false, false, false) => b,
+        (true, false, true) | (false, true, false) => c,
+        (true, false, false) | (false, _, true) => a,
     }
 }
 
-fn filtered(value: &Value) -> Vec<u8> {
-    if value.value_type() != Type::FLOAT {
-        return value.bytes().to_vec();
-    }
-    let samples: Vec<f32> = value.elements().map(f32::from_le_bytes).collect();
+/// A column of Floats, each sample replaced by the median of itself and its neighbours.
+fn cleaned(column: &Value) -> Vec<u8> {
+    let samples: Vec<f32> = column.elements().map(f32::from_le_bytes).collect();
     let at = |k: usize| samples[k.min(samples.len() - 1)];
     (0..samples.len()).flat_map(|k| median(at(k.saturating_sub(1)), at(k), at(k + 1)).to_le_bytes()).collect()
 }
 
-/// Adds a field's value, filtered where it is of Floats; a type that is not put is left out.
-fn push(values: &mut Values, value: &Value) -> Result<(), Refusal> {
-    let (kind, bytes) = (value.value_type(), filtered(value));
-    let pushed = match value.shape() {
-        Shape::Scalar if value.is_null() => values.push_null(kind),
-        Shape::Scalar => values.push_scalar(kind, &bytes),
-        Shape::NullArray => values.push_null_array(kind),
-        Shape::Array(_) => values.push_array(kind, &bytes),
-    };
-    pushed.or_else(|refusal| if refusal.reason == Reason::NotTaken { Ok(()) } else { Err(refusal) })
-}
-
-fn filter(datagram: &[u8], config: &Config) -> Result<String, (&'static str, Refusal)> {
-    let datagram = Datagram::read(datagram, config).map_err(|refusal| ("datagram", refusal))?;
-    let end = Refusal { reason: Reason::OverLimit, place: 0 };
-    let part = datagram.messages().next().ok_or(("message", end))?;
-    let Some(message) = part.read().map_err(|refusal| ("message", refusal))? else { return Ok("not valid".into()) };
-    let (mut bytes, mut lengths) = (vec![0; MOST_DATAGRAM], vec![0; 1000]);
-    let mut values = Values::new(&mut bytes, &mut lengths);
-    for field in message.fields().take(1000) {
-        field.value().and_then(|value| push(&mut values, &value)).map_err(|refusal| ("value", refusal))?;
+/// Sends a message in chunks.
+fn send(message: &[u8], number: u16, writer: u16) -> Result<(), Refusal> {
+    let (mut chunk, mut out) = ([0; CHUNK_HEADER + CHUNK], [0; CHUNK_HEADER + CHUNK + 16]);
+    let mut chunks = Chunks::new(message, number, CHUNK);
+    while let Some(chunk) = chunks.next_into(&mut chunk)? {
+        let datagram = DatagramBuilder::new().publisher(PublisherId::UInt16(4712)).write_chunk(writer, chunk, &mut out)?;
+        println!("{}", datagram.iter().map(|byte| format!("{byte:02X}")).collect::<Vec<_>>().join(" "));
     }
-    let mut out = vec![0; MOST_DATAGRAM];
-    let builder = MessageBuilder::key(Encoding::Variant).fields(&values);
-    let written = builder.write(&Config::new(), part.writer(), &mut out).map_err(|refusal| ("written", refusal))?;
-    Ok(written.iter().map(|byte| format!("{byte:02X}")).collect::<Vec<_>>().join(" "))
+    Ok(())
 }
 
-fn main() {
-    let text = fs::read("readers.txt").unwrap_or_default();
-    let datagram = env::args().nth(1).and_then(|name| fs::read(name).ok()).unwrap_or_default();
-    let config = Config::parse(&text).map_err(|refusal| ("configuration", refusal));
-    match config.and_then(|config| filter(&datagram, &config)) {
-        Ok(line) => println!("{line}"),
-        Err((what, refusal)) => {
-            println!("{what}: {}", refusal.reason);
-            process::exit(1);
+/// Publishes a complete ping.
+fn publish(ping: &Partial<Vec<u8>>, last: &mut LastSequence, published: &mut u16, config: &Config) -> Result<(), Refusal> {
+    let part = ping.message(config)?;
+    let is_newer = |message: &Message| message.sequence().is_none_or(|sequence| last.judge(sequence) == Newness::Newer);
+    let message = part.read()?.filter(|message| message.kind() == Kind::Key && message.encoding() == Encoding::Variant);
+    let Some(message) = message.filter(is_newer) else {
+        println!("ping left out");
+        return Ok(());
+    };
+    let (mut bytes, mut lengths) = (vec![0; MOST_PAYLOAD], vec![0; message.fields().len()]);
+    let mut values = Values::new(&mut bytes, &mut lengths);
+    for field in message.fields() {
+        match (field.value_type, field.shape) {
+            (Type::FLOAT, Shape::Array(_)) => values.push_array(Type::FLOAT, &cleaned(&field.value()?))?,
+            _ => values.push(field.bytes)?,
         }
     }
+    *published = published.wrapping_add(1);
+    let (builder, mut out) = (MessageBuilder::like(&message).sequence(*published), vec![0; MOST_DATAGRAM]);
+    let written = builder.fields(&values).write(config, part.writer(), &mut out)?;
+    send(written, *published, part.writer().unwrap_or(0))
+}
+
+fn main() -> Result<(), Box<dyn Error>> {
+    let (config, mut last, mut published) = (Config::new(), LastSequence::new(), 0);
+    let mut ping = Partial::new(vec![0; MOST_PAYLOAD], vec![0; marks_size(MOST_PAYLOAD)]);
+    for file in env::args().skip(1) {
+        let datagram = fs::read(file)?;
+        let mut taken = ping.take_in(&datagram, &config);
+        if let Err(Refusal { reason: Reason::OtherMessage, .. }) = taken {
+            ping.empty(); // the ping before is given up
+            taken = ping.take_in(&datagram, &config);
+        }
+        if taken.is_ok() && ping.is_complete()? {
+            taken = publish(&ping, &mut last, &mut published, &config);
+            ping.empty();
+        }
+        taken.unwrap_or_else(|refusal| println!("{refusal}"));
+    }
+    Ok(())
 }

@@ -1,7 +1,7 @@
 //! Messages, datagrams and chunks written.
 use crate::ffi::{self, ENVELOPE_SIZE, HEAD_SIZE, NONE};
 use crate::record::{envelope, head, set, set_present};
-use crate::{Config, Encoding, Group, Kind, PublisherId, Reason, Refusal, Values};
+use crate::{Config, Encoding, Group, Kind, Message, PublisherId, Reason, Refusal, Values};
 
 /// A DataSetMessage to be written. An item is given as it is or as an `Option`, so that what was read can be handed on.
 ///
@@ -38,6 +38,18 @@ impl<'a> MessageBuilder<'a> {
     /// A message of a kind and an encoding, without items, fields and padding.
     pub fn new(kind: Kind, encoding: Encoding) -> Self {
         Self { kind, encoding, ..Self::default() }
+    }
+
+    /// A message of another's kind, encoding and items, without fields and padding. What it says of a sequence number is that
+    /// message's, until another is set.
+    pub fn like(message: &Message<'_>) -> Self {
+        Self::new(message.kind(), message.encoding())
+            .sequence(message.sequence())
+            .timestamp(message.timestamp())
+            .picoseconds(message.picoseconds())
+            .status(message.status())
+            .major_version(message.major_version())
+            .minor_version(message.minor_version())
     }
 
     /// A key frame.
