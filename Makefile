@@ -1,7 +1,7 @@
 # make                      proves and builds: the static and the shared library, uadp.pc, the listing program
 # make test                 what the gate runs, from nothing (.ci/run)
 # make check                program, header, installation, examples and crate tried, without the proofs and edits that make test runs from nothing
-# make bench                times the library beside plain Rust (docs/BENCHMARKS.md)
+# make bench                times the library beside tuned Rust, and says which rows miss the bar (docs/BENCHMARKS.md)
 # make install PREFIX=DIR   header, libraries, uadp.pc, uadp_list and its manual page; /usr/local if none is given. DESTDIR is honoured.
 # make uninstall PREFIX=DIR takes them away again
 # make clean                takes away what this file built; what was proved stays (rt clean)

@@ -5,31 +5,84 @@ use uadp_comparison::reference::config::Config;
 
 /// A datagram with the configuration that it is read under.
 pub struct Input {
-    pub name: String,
     pub datagram: Vec<u8>,
     pub config: Config,
     pub config_record: Vec<u8>,
 }
 
 impl Input {
-    fn new(name: impl Into<String>, datagram: Vec<u8>, text: &[u8]) -> Self {
+    fn new(datagram: Vec<u8>, text: &[u8]) -> Self {
         let config = Config::parse(text).expect("a valid text");
-        Self { name: name.into(), datagram, config_record: record::config(&config), config }
+        Self { datagram, config_record: record::config(&config), config }
     }
 }
 
 const EXAMPLE: [u8; 20] =
     [0xD1, 0x01, 0x67, 0x12, 0x01, 0x15, 0x00, 0x09, 0x05, 0x00, 0x02, 0x00, 0x05, 0x03, 0x00, 0x0A, 0x00, 0x00, 0x00, 0x3F];
 
-/// The inputs of the table.
-pub fn standard() -> Vec<Input> {
+/// An input with its name, made when it is timed.
+pub type Named = (&'static str, fn() -> Input);
+
+/// The inputs of the tables.
+pub fn standard() -> Vec<Named> {
     vec![
-        Input::new("document 01's example", EXAMPLE.to_vec(), b""),
-        mixed_variants(),
-        raw_messages(),
-        one_array(60_000),
-        hundred_levels(),
+        ("document 01's example", || Input::new(EXAMPLE.to_vec(), b"")),
+        ("100 mixed Variants", mixed_variants),
+        ("1,000 UInt32", || of_variants(vec![vec![7, 1, 2, 3, 4]; 1_000])),
+        ("500 Strings", || of_variants(vec![vec![12, 8, 0, 0, 0, 1, 2, 3, 4, 5, 6, 7, 8]; 500])),
+        ("500 arrays of one element", || of_variants(vec![vec![0x87, 1, 0, 0, 0, 1, 2, 3, 4]; 500])),
+        ("200 DataValues", data_values),
+        ("a delta of 500 UInt32", delta),
+        ("2,000 fields of random fixed types", || random_types(1)),
+        ("2,000 fields of random types", || random_types(2)),
+        ("20 messages of 5 fields", || {
+            let message = key_frame(0, vec![vec![7, 1, 2, 3, 4]; 5]);
+            Input::new(datagram((0..20).map(|id| (id, message.clone())).collect()), b"")
+        }),
+        ("16 RawData messages", raw_messages),
+        ("60,000 bytes of one array", || one_array(60_000)),
+        ("100 levels", hundred_levels),
+        ("a string id", || without_header(Some((4, b"adapter".to_vec())), true)),
+        ("no PayloadHeader", || without_header(Some((1, vec![0x67, 0x12])), false)),
     ]
+}
+
+/// A datagram with one key frame of encoded Variants.
+fn of_variants(values: Vec<Vec<u8>>) -> Input {
+    Input::new(datagram(vec![(21, key_frame(0, values))]), b"")
+}
+
+/// 10 UInt32 of one writer, which is configured, or named in a PayloadHeader.
+fn without_header(publisher: Option<(u8, Vec<u8>)>, payload_header: bool) -> Input {
+    let messages = vec![key_frame(0, vec![vec![7, 1, 2, 3, 4]; 10])];
+    let spec = EnvelopeSpec { publisher, payload_header, ids: vec![21], messages, ..EnvelopeSpec::default() };
+    Input::new(spec.bytes(), b"writer\t21\t-\n")
+}
+
+/// A Double with status and source time each.
+fn data_values() -> Input {
+    let value = [&[7, 11][..], &[0x3f; 8], &[0; 4], &[1; 8]].concat();
+    Input::new(datagram(vec![(21, key_frame(2, vec![value; 200]))]), b"")
+}
+
+fn delta() -> Input {
+    let values = vec![vec![7, 1, 2, 3, 4]; 500];
+    let spec = MessageSpec { kind: 1, indices: (0..500).collect(), values, ..plain_message() };
+    Input::new(datagram(vec![(21, spec.bytes())]), b"")
+}
+
+/// Variants of random types: fixed ones, or with Strings and arrays among them.
+fn random_types(levels: usize) -> Input {
+    let mut random = Random::new(2_000);
+    let values = (0..2_000).map(|_| {
+        let mut value = Vec::new();
+        while value.is_empty() || (levels == 1 && !(1..64).contains(&value[0])) || value.len() > 30 {
+            value.clear();
+            variant(&mut random, &mut value, 1);
+        }
+        value
+    });
+    of_variants(values.collect())
 }
 
 /// A datagram of messages, each with its writer's id.
@@ -41,8 +94,13 @@ fn datagram(messages: Vec<(u16, Vec<u8>)>) -> Vec<u8> {
 
 /// A key frame of encoded values.
 fn key_frame(encoding: u8, values: Vec<Vec<u8>>) -> Vec<u8> {
+    MessageSpec { encoding, values, ..plain_message() }.bytes()
+}
+
+/// A key frame of no Variants.
+const fn plain_message() -> MessageSpec {
     MessageSpec {
-        encoding,
+        encoding: 0,
         kind: 0,
         sequence: Some(5),
         timestamp: None,
@@ -52,10 +110,9 @@ fn key_frame(encoding: u8, values: Vec<Vec<u8>>) -> Vec<u8> {
         minor: None,
         heartbeat: false,
         indices: Vec::new(),
-        values,
+        values: Vec::new(),
         padding: 0,
     }
-    .bytes()
 }
 
 fn mixed_variants() -> Input {
@@ -65,7 +122,7 @@ fn mixed_variants() -> Input {
         variant(&mut random, &mut value, 3);
         value
     });
-    Input::new("100 mixed Variants", datagram(vec![(21, key_frame(0, values.collect()))]), b"")
+    of_variants(values.collect())
 }
 
 fn raw_messages() -> Input {
@@ -77,25 +134,24 @@ fn raw_messages() -> Input {
         (id, key_frame(1, vec![vec![1; 8], vec![2; 4], vec![3; 4], vec![1]]))
     });
     let messages = messages.collect();
-    Input::new("16 RawData messages", datagram(messages), text.as_bytes())
+    Input::new(datagram(messages), text.as_bytes())
 }
 
 /// A datagram of about so many bytes: one array of Doubles.
 pub fn one_array(length: usize) -> Input {
     let count = (length - 24) / 8;
     let value = [&[0x8b][..], &(count as u32).to_le_bytes(), &vec![0x3f; 8 * count]].concat();
-    Input::new(format!("{length} bytes of one array"), datagram(vec![(21, key_frame(0, vec![value]))]), b"")
+    of_variants(vec![value])
 }
 
 /// A datagram of about so many bytes: Variants of 5 bytes each.
 pub fn small_fields(length: usize) -> Input {
-    let values = vec![vec![7, 1, 2, 3, 4]; (length - 24) / 5];
-    Input::new(format!("{length} bytes of UInt32 Variants"), datagram(vec![(21, key_frame(0, values))]), b"")
+    of_variants(vec![vec![7, 1, 2, 3, 4]; (length - 24) / 5])
 }
 
 fn hundred_levels() -> Input {
     let value = [[0x98, 1, 0, 0, 0].repeat(99), vec![0]].concat();
-    Input::new("100 levels", datagram(vec![(21, key_frame(0, vec![value]))]), b"")
+    of_variants(vec![value])
 }
 
 /// 16 writers with 4 fields each.

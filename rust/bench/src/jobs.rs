@@ -1,11 +1,27 @@
-//! What is done with the inputs, by the library and in Rust. Each job answers a number that both have to agree on.
+//! What is done with the inputs, by the library and in tuned Rust. Both sides of a pair answer a number that has to be the same.
 use crate::inputs::{Input, TOTAL};
 use std::hint::black_box;
 use uadp::ffi;
 use uadp_comparison::record::{self, number};
 use uadp_comparison::reference::config::Config;
+use uadp_comparison::reference::network;
 use uadp_comparison::reference::reassembly::{Partial, Record};
-use uadp_comparison::reference::{message, message_writer, network, network_writer};
+use uadp_comparison::tuned;
+
+/// What one call does.
+pub type Job = Box<dyn FnMut() -> u64>;
+
+/// The same job, by the library and in Rust.
+pub struct Pair {
+    pub ours: Job,
+    pub rust: Job,
+}
+
+impl Pair {
+    fn new(ours: impl FnMut() -> u64 + 'static, rust: impl FnMut() -> u64 + 'static) -> Self {
+        Self { ours: Box::new(ours), rust: Box::new(rust) }
+    }
+}
 
 /// Mixes two answers.
 fn mix(sum: u64, a: u64, b: u64) -> u64 {
@@ -14,73 +30,73 @@ fn mix(sum: u64, a: u64, b: u64) -> u64 {
 
 /// More records than any datagram of the table has.
 const RECORDS: usize = 65_535;
+/// Room for any datagram.
+const ROOM: usize = 65_535;
+/// Room for any listing.
+const TEXT: usize = 2_000_000;
 
-/// One call, which puts the records of all messages and fields into memory; it answers how many.
-pub fn read_ours(input: &Input) -> impl FnMut() -> u64 + '_ {
-    let mut records = vec![0; RECORDS * record::WALK_SIZE];
+/// The walk in Rust, which puts the records of all messages and fields into memory; it answers how many.
+fn walk_in_rust(input: &Input) -> impl FnMut() -> u64 + 'static {
+    let (datagram, config) = (input.datagram.clone(), input.config.clone());
+    let mut records = Vec::with_capacity(RECORDS);
     move || {
+        records.clear();
+        let walked = tuned::walk_into(&mut records, black_box(&datagram), &config);
+        black_box(&records);
+        walked.map_or(u64::MAX, |()| records.len() as u64)
+    }
+}
+
+/// All records by one call. Each record is compared before it is timed.
+pub fn walk(input: Input) -> Pair {
+    let mut records = vec![0; RECORDS * record::WALK_SIZE];
+    let mut expected = Vec::new();
+    tuned::walk_into(&mut expected, &input.datagram, &input.config).expect("an accepted datagram");
+    ffi::walk(&input.datagram, &input.config_record, &mut records);
+    let expected = record::bytes_of(expected.as_flattened());
+    assert_eq!(records[..expected.len()], expected, "the records are the same");
+    let rust = walk_in_rust(&input);
+    let ours = move || {
         let answer = ffi::walk(black_box(&input.datagram), &input.config_record, &mut records);
         black_box(&records);
         answer.value()
-    }
+    };
+    Pair::new(ours, rust)
 }
 
-/// The same records, in Rust.
-pub fn read_rust(input: &Input) -> impl FnMut() -> u64 + '_ {
-    let mut records = Vec::with_capacity(RECORDS);
-    move || {
-        let datagram = black_box(&input.datagram[..]);
-        let Ok(envelope) = network::read(datagram, &input.config) else {
-            return u64::MAX;
-        };
-        records.clear();
-        record::walk_into(&mut records, datagram, &input.config, &envelope);
-        black_box(&records);
-        records.len() as u64
-    }
+/// No room for records: all messages and fields are walked over, nothing is stored, and it answers how many there are.
+pub fn count(input: Input) -> Pair {
+    let (datagram, config) = (input.datagram.clone(), input.config.clone());
+    let ours = move || ffi::walk(black_box(&input.datagram), &input.config_record, &mut []).value();
+    Pair::new(ours, move || tuned::count(black_box(&datagram), &config).unwrap_or(u64::MAX))
 }
 
-/// One call with no room for records: it walks over all messages and fields, stores nothing and answers how many there are.
-pub fn count_ours(input: &Input) -> impl FnMut() -> u64 + '_ {
-    move || ffi::walk(black_box(&input.datagram), &input.config_record, &mut []).value()
+/// The whole listing; it answers how long it is.
+pub fn list(input: Input) -> Pair {
+    let (datagram, config) = (input.datagram.clone(), input.config.clone());
+    let (mut out, mut text) = (vec![0; TEXT], Vec::with_capacity(TEXT));
+    let ours = move || {
+        let answer = ffi::list(black_box(&input.datagram), &input.config_record, &mut out);
+        black_box(&out);
+        answer.value()
+    };
+    let rust = move || {
+        text.clear();
+        tuned::list_into(&mut text, black_box(&datagram), &config);
+        black_box(&text);
+        text.len() as u64
+    };
+    Pair::new(ours, rust)
 }
 
-/// The same walk, in Rust.
-pub fn count_rust(input: &Input) -> impl FnMut() -> u64 + '_ {
-    move || {
-        let datagram = black_box(&input.datagram[..]);
-        let Ok(envelope) = network::read(datagram, &input.config) else {
-            return u64::MAX;
-        };
-        let mut count = 0;
-        for place in envelope.messages(datagram, &input.config) {
-            let bytes = &datagram[place.offset..][..place.length];
-            let types = input.config.types_of(place.writer);
-            count += 1;
-            if let Ok(Some(message)) = message::read(bytes, types) {
-                count += message.walk(bytes, types).count();
-            }
-        }
-        count as u64
-    }
-}
-
-/// Whether both put the same records.
-pub fn reads_alike(input: &Input) -> bool {
-    let mut records = vec![0; RECORDS * record::WALK_SIZE];
-    let count = ffi::walk(&input.datagram, &input.config_record, &mut records).value() as usize;
-    let envelope = network::read(&input.datagram, &input.config).expect("an accepted datagram");
-    let walked = record::walk(&input.datagram, &input.config, &envelope);
-    records[..count * record::WALK_SIZE] == record::bytes_of(walked.as_flattened())
-}
-
-/// A call for each message and each field; it answers how many there are of both.
-pub fn read_by_calls(input: &Input) -> impl FnMut() -> u64 + '_ {
+/// A call for each message and each field by the library, one pass in Rust; both answer how many there are.
+pub fn by_calls(input: Input) -> Pair {
     let mut envelope = [0; record::ENVELOPE_SIZE];
     let mut place = [0; record::PLACE_SIZE];
     let mut head = [0; record::HEAD_SIZE];
     let mut field = [0; record::FIELD_SIZE];
-    move || {
+    let rust = walk_in_rust(&input);
+    let ours = move || {
         let datagram = black_box(&input.datagram[..]);
         let config = &input.config_record[..];
         let mut count = 0;
@@ -98,69 +114,64 @@ pub fn read_by_calls(input: &Input) -> impl FnMut() -> u64 + '_ {
             }
         }
         count
-    }
+    };
+    Pair::new(ours, rust)
 }
 
-pub fn rewrite_ours(input: &Input) -> impl FnMut() -> u64 + '_ {
-    let mut out = vec![0; 65_535];
-    move || {
+/// A datagram written again; in Rust it is read and copied, which gives the same bytes as its PublisherId is there.
+pub fn rewrite(input: Input) -> Pair {
+    let (datagram, config) = (input.datagram.clone(), input.config.clone());
+    let (mut out, mut copy) = (vec![0; ROOM], vec![0; ROOM]);
+    let ours = move || {
         let answer = ffi::rewrite(black_box(&input.datagram), &input.config_record, &mut out);
         black_box(&out);
         answer.value()
-    }
+    };
+    let rust = move || {
+        let read = network::read(black_box(&datagram), &config);
+        copy[..datagram.len()].copy_from_slice(&datagram);
+        black_box(&copy);
+        read.map_or(u64::MAX, |_| datagram.len() as u64)
+    };
+    Pair::new(ours, rust)
 }
 
-pub fn rewrite_rust(input: &Input) -> impl FnMut() -> u64 + '_ {
-    let mut out = vec![0; 65_535];
-    move || {
-        let length = network_writer::rewrite(black_box(&input.datagram), &input.config, &mut out);
-        black_box(&out);
-        length.map_or(u64::MAX, |length| length as u64)
-    }
-}
-
-/// The first message of an input, and its writer's id.
-fn first_message(input: &Input) -> (&[u8], u16) {
+/// The first message written again; in Rust it is read and copied.
+pub fn rewrite_message(input: Input) -> Pair {
     let envelope = network::read(&input.datagram, &input.config).expect("an accepted datagram");
     let place = envelope.messages(&input.datagram, &input.config).next().expect("a message");
-    (&input.datagram[place.offset..][..place.length], place.writer.unwrap_or(0))
-}
-
-pub fn rewrite_message_ours(input: &Input) -> impl FnMut() -> u64 + '_ {
-    let (message, writer) = first_message(input);
-    let mut out = vec![0; 65_535];
-    move || {
-        let answer = ffi::rewrite_message(black_box(message), &input.config_record, writer.into(), &mut out);
+    let message = input.datagram[place.offset..][..place.length].to_vec();
+    let (copied, config, writer) = (message.clone(), input.config.clone(), place.writer);
+    let (mut out, mut copy) = (vec![0; ROOM], vec![0; ROOM]);
+    let ours = move || {
+        let id = u32::from(writer.unwrap_or(0));
+        let answer = ffi::rewrite_message(black_box(&message), &input.config_record, id, &mut out);
         black_box(&out);
         answer.value()
-    }
+    };
+    let rust = move || {
+        let read = tuned::count_message(black_box(&copied), config.types_of(writer));
+        copy[..copied.len()].copy_from_slice(&copied);
+        black_box(&copy);
+        read.map_or(u64::MAX, |_| copied.len() as u64)
+    };
+    Pair::new(ours, rust)
 }
 
-pub fn rewrite_message_rust(input: &Input) -> impl FnMut() -> u64 + '_ {
-    let (message, writer) = first_message(input);
-    let mut out = vec![0; 65_535];
-    move || {
-        let types = input.config.types_of(Some(writer));
-        let length = message_writer::rewrite(black_box(message), types, &mut out);
-        black_box(&out);
-        length.map_or(u64::MAX, |length| length as u64)
-    }
-}
-
-pub fn config_ours(text: &[u8]) -> impl FnMut() -> u64 + '_ {
+/// A configuration text; both answer the number.
+pub fn config(text: Vec<u8>) -> Pair {
     let mut config = [0; record::CONFIG_SIZE];
-    move || {
-        let answer = ffi::config(black_box(text), &mut config);
+    let copied = text.clone();
+    let ours = move || {
+        let answer = ffi::config(black_box(&text), &mut config);
         black_box(&config);
         u64::from(answer.number())
-    }
-}
-
-pub fn config_rust(text: &[u8]) -> impl FnMut() -> u64 + '_ {
-    move || match black_box(Config::parse(black_box(text))) {
+    };
+    let rust = move || match black_box(Config::parse(black_box(&copied))) {
         Ok(_) => 0,
         Err(refusal) => refusal.number as u64,
-    }
+    };
+    Pair::new(ours, rust)
 }
 
 /// A partial of the library.
@@ -217,67 +228,58 @@ impl Rust {
     }
 
     fn take_in(&mut self, datagram: &[u8]) -> u64 {
-        self.lent().take_in(black_box(datagram), &Config::default()).map_or_else(|refusal| refusal.number as u64, |()| 0)
+        tuned::take_in(&mut self.lent(), black_box(datagram), &Config::default())
+            .map_or_else(|refusal| refusal.number as u64, |()| 0)
     }
 
     fn complete(&mut self) -> u64 {
-        u64::from(black_box(self.lent()).view().complete() == Ok(true))
+        u64::from(tuned::complete(&black_box(self.lent()).view()) == Ok(true))
     }
 }
 
-pub fn take_in_ours(datagrams: &[Vec<u8>]) -> impl FnMut() -> u64 + '_ {
-    let mut partial = Ours::new();
-    move || {
+/// Chunks taken in from empty, completeness asked after each or not.
+pub fn take_in(datagrams: Vec<Vec<u8>>, asked: bool) -> Pair {
+    let (mut partial, mut other, copied) = (Ours::new(), Rust::new(), datagrams.clone());
+    let ours = move || {
         ffi::empty(&mut partial.record);
         datagrams.iter().fold(0, |sum, datagram| {
             let taken = partial.take_in(datagram);
-            mix(sum, taken, partial.complete())
+            mix(sum, taken, if asked { partial.complete() } else { 0 })
         })
-    }
-}
-
-pub fn take_in_rust(datagrams: &[Vec<u8>]) -> impl FnMut() -> u64 + '_ {
-    let mut partial = Rust::new();
-    move || {
-        partial.record = None;
-        datagrams.iter().fold(0, |sum, datagram| {
-            let taken = partial.take_in(datagram);
-            mix(sum, taken, partial.complete())
+    };
+    let rust = move || {
+        other.record = None;
+        copied.iter().fold(0, |sum, datagram| {
+            let taken = other.take_in(datagram);
+            mix(sum, taken, if asked { other.complete() } else { 0 })
         })
-    }
+    };
+    Pair::new(ours, rust)
 }
 
-pub fn complete_ours(datagrams: &[Vec<u8>]) -> impl FnMut() -> u64 {
-    let partial = Ours::filled(datagrams);
-    move || partial.complete()
+pub fn complete(datagrams: Vec<Vec<u8>>) -> Pair {
+    let (partial, mut other) = (Ours::filled(&datagrams), Rust::filled(&datagrams));
+    Pair::new(move || partial.complete(), move || other.complete())
 }
 
-pub fn complete_rust(datagrams: &[Vec<u8>]) -> impl FnMut() -> u64 {
-    let mut partial = Rust::filled(datagrams);
-    move || partial.complete()
-}
-
-pub fn combine_ours(datagrams: &[Vec<u8>], empty_first: bool) -> impl FnMut() -> u64 {
-    let source = Ours::filled(datagrams);
-    let mut target = Ours::filled(datagrams);
-    move || {
+/// A complete partial combined into an empty one, or into one that is the same.
+pub fn combine(datagrams: Vec<Vec<u8>>, empty_first: bool) -> Pair {
+    let (source, mut target) = (Ours::filled(&datagrams), Ours::filled(&datagrams));
+    let (mut rust_source, mut rust_target) = (Rust::filled(&datagrams), Rust::filled(&datagrams));
+    let ours = move || {
         if empty_first {
             ffi::empty(&mut target.record);
         }
         let from = [&source.record[..], &source.payload, &source.marks];
         let answer = ffi::combine(&mut target.record, &mut target.payload, &mut target.marks, black_box(from));
         u64::from(answer.number())
-    }
-}
-
-pub fn combine_rust(datagrams: &[Vec<u8>], empty_first: bool) -> impl FnMut() -> u64 {
-    let mut source = Rust::filled(datagrams);
-    let mut target = Rust::filled(datagrams);
-    move || {
+    };
+    let rust = move || {
         if empty_first {
-            target.record = None;
+            rust_target.record = None;
         }
-        let lent = source.lent();
-        target.lent().combine(black_box(lent.view())).map_or_else(|refusal| refusal.number as u64, |()| 0)
-    }
+        let lent = rust_source.lent();
+        tuned::combine(&mut rust_target.lent(), black_box(lent.view())).map_or_else(|refusal| refusal.number as u64, |()| 0)
+    };
+    Pair::new(ours, rust)
 }

@@ -1,18 +1,70 @@
-//! Times the library beside the implementation in Rust: same inputs, same run, best of many batches, alternately.
-//! `uadp-bench [ROUNDS]`. Each row's answers are compared before it is timed.
+//! Times the library beside the tuned implementation in Rust: same inputs, same run, best of many batches, alternately; and counts the
+//! instructions of both, which a busy machine does not change.
+//!
+//! `uadp-bench [ROUNDS]` prints a table and which rows miss the bar; without valgrind its last column is empty. Each row's answers are
+//! compared before it is timed. `uadp-bench --calls ROW SIDE CALLS` makes so many calls of one side of a row, for valgrind.
 mod inputs;
 mod jobs;
 
-use inputs::Input;
+use jobs::{Job, Pair};
+use std::env;
 use std::hint::black_box;
+use std::process::{Command, ExitCode};
 use std::time::{Duration, Instant};
 
 const ROUNDS: usize = 300;
 /// About how long a batch takes.
 const BATCH: Duration = Duration::from_micros(300);
+/// A ratio up to this holds the bar: times vary by some hundredths.
+const BAR: f64 = 1.005;
+
+/// A row of the table. What it is about is made when it is run.
+struct Row {
+    name: String,
+    pair: Box<dyn Fn() -> Pair>,
+}
+
+fn row<T: 'static>(name: impl Into<String>, input: impl Fn() -> T + 'static, pair: fn(T) -> Pair) -> Row {
+    Row { name: name.into(), pair: Box::new(move || pair(input())) }
+}
+
+/// The rows, in tables.
+fn tables() -> Vec<(&'static str, Vec<Row>)> {
+    let each = |job: &'static str, pair: fn(inputs::Input) -> Pair| {
+        inputs::standard().into_iter().map(move |(name, input)| row(format!("{job}: {name}"), input, pair)).collect::<Vec<_>>()
+    };
+    let some = |count: usize, job: &'static str, pair: fn(inputs::Input) -> Pair| {
+        each(job, pair).into_iter().take(count).collect::<Vec<_>>()
+    };
+    let growth = [1_000, 2_000, 4_000, 8_000, 16_000, 32_000, 60_000].into_iter().flat_map(|length| {
+        let array = row(format!("walk: {length} bytes of one array"), move || inputs::one_array(length), jobs::walk);
+        [array, row(format!("walk: {length} bytes of UInt32 Variants"), move || inputs::small_fields(length), jobs::walk)]
+    });
+    let chunks = vec![
+        row("a full configuration text", inputs::full_text, jobs::config),
+        row("16 chunks of 1,024 bytes taken in from empty", inputs::chunk_datagrams, |datagrams| jobs::take_in(datagrams, false)),
+        row("the same, completeness asked after each", inputs::chunk_datagrams, |datagrams| jobs::take_in(datagrams, true)),
+        row("completeness of 16,384 bytes", inputs::chunk_datagrams, jobs::complete),
+        row("16,384 bytes combined into empty", inputs::chunk_datagrams, |datagrams| jobs::combine(datagrams, true)),
+        row("16,384 bytes combined into the same", inputs::chunk_datagrams, |datagrams| jobs::combine(datagrams, false)),
+    ];
+    vec![
+        ("Walking in one call", each("walk", jobs::walk)),
+        ("Listing", each("list", jobs::list)),
+        ("Writing again, beside a copy after reading", each("rewrite", jobs::rewrite)),
+        (
+            "Writing the first message again, beside a copy after reading",
+            each("rewrite the first message", jobs::rewrite_message),
+        ),
+        ("Walking with no room for records", some(6, "count", jobs::count)),
+        ("Walking with a call for each message and field, beside one pass", some(6, "by calls", jobs::by_calls)),
+        ("Configuration, chunks", chunks),
+        ("Growth with the length", growth.collect()),
+    ]
+}
 
 /// The time of one call in a batch of `calls`.
-fn time_batch(calls: u32, job: &mut dyn FnMut() -> u64) -> f64 {
+fn time_batch(calls: u32, job: &mut Job) -> f64 {
     let start = Instant::now();
     for _ in 0..calls {
         black_box(job());
@@ -21,91 +73,77 @@ fn time_batch(calls: u32, job: &mut dyn FnMut() -> u64) -> f64 {
 }
 
 /// How many calls make a batch.
-fn calls_per_batch(job: &mut dyn FnMut() -> u64) -> u32 {
+fn calls_per_batch(job: &mut Job) -> u32 {
     let once = time_batch(10, job).max(1.0);
     (BATCH.as_nanos() as f64 / once).clamp(1.0, 20_000.0) as u32
 }
 
-/// Times both and prints a line of the table.
-fn row(rounds: usize, name: &str, ours: &mut dyn FnMut() -> u64, rust: &mut dyn FnMut() -> u64) -> bool {
-    let (our_answer, rust_answer) = (ours(), rust());
-    if our_answer != rust_answer {
-        println!("| {name} | answers differ: {our_answer} and {rust_answer} | | |");
-        return false;
+/// The best times of both sides; none where the answers differ.
+fn times(rounds: usize, Pair { mut ours, mut rust }: Pair) -> Option<(f64, f64)> {
+    if ours() != rust() {
+        return None;
     }
-    let calls = calls_per_batch(ours).min(calls_per_batch(rust));
+    let calls = calls_per_batch(&mut ours).min(calls_per_batch(&mut rust));
     let (mut our_best, mut rust_best) = (f64::INFINITY, f64::INFINITY);
     for _ in 0..rounds {
-        our_best = our_best.min(time_batch(calls, ours));
-        rust_best = rust_best.min(time_batch(calls, rust));
+        our_best = our_best.min(time_batch(calls, &mut ours));
+        rust_best = rust_best.min(time_batch(calls, &mut rust));
     }
-    println!("| {name} | {our_best:.0} | {rust_best:.0} | {:.2} |", our_best / rust_best);
-    true
+    Some((our_best, rust_best))
 }
 
-fn heading(title: &str) {
-    println!("\n{title}\n\n| | library, ns | Rust, ns | library / Rust |\n|---|---:|---:|---:|");
+/// How many instructions this program takes for so many calls of one side of a row.
+fn instructions(row: &str, side: &str, calls: &str) -> Option<f64> {
+    let program = env::current_exe().ok()?;
+    let tool = ["--tool=cachegrind", "--cache-sim=no", "--cachegrind-out-file=/dev/null"];
+    let output = Command::new("valgrind").args(tool).arg(program).args(["--calls", row, side, calls]).output().ok()?;
+    let text = String::from_utf8(output.stderr).ok()?;
+    let line = text.lines().find(|line| line.contains("refs:"))?;
+    line.rsplit(':').next()?.trim().replace(',', "").parse().ok()
 }
 
-fn main() {
-    let rounds = std::env::args().nth(1).and_then(|rounds| rounds.parse().ok()).unwrap_or(ROUNDS);
-    let mut equal = true;
-    heading("Reading and walking, rewriting");
-    for input in inputs::standard() {
-        equal &= reading(rounds, &input);
-    }
-    for input in inputs::standard() {
-        let name = format!("rewrite: {}", input.name);
-        equal &= row(rounds, &name, &mut jobs::rewrite_ours(&input), &mut jobs::rewrite_rust(&input));
-        let name = format!("rewrite the first message: {}", input.name);
-        equal &= row(rounds, &name, &mut jobs::rewrite_message_ours(&input), &mut jobs::rewrite_message_rust(&input));
-    }
-    heading("Reading without storing");
-    for input in inputs::standard() {
-        let name = format!("count: {}", input.name);
-        equal &= row(rounds, &name, &mut jobs::count_ours(&input), &mut jobs::count_rust(&input));
-    }
-    heading("Reading with a call for each message and field");
-    for input in &inputs::standard()[..2] {
-        let name = format!("read by calls: {}", input.name);
-        equal &= row(rounds, &name, &mut jobs::read_by_calls(input), &mut jobs::read_rust(input));
-    }
-    heading("Configuration, chunks");
-    let text = inputs::full_text();
-    equal &= row(rounds, "a full configuration text", &mut jobs::config_ours(&text), &mut jobs::config_rust(&text));
-    equal &= chunks(rounds);
-    heading("Growth with the length: reading and walking");
-    for length in [1_000, 2_000, 4_000, 8_000, 16_000, 32_000, 60_000] {
-        equal &= reading(rounds, &inputs::one_array(length));
-        equal &= reading(rounds, &inputs::small_fields(length));
-    }
-    if !equal {
-        std::process::exit(1);
-    }
+/// Instructions of the library by those of Rust, for a call.
+fn instruction_ratio(row: &str) -> Option<f64> {
+    let of = |side| Some(instructions(row, side, "110")? - instructions(row, side, "10")?);
+    Some(of("ours")? / of("rust")?)
 }
 
-fn reading(rounds: usize, input: &Input) -> bool {
-    let name = format!("read: {}", input.name);
-    if !jobs::reads_alike(input) {
-        println!("| {name} | records differ | | |");
-        return false;
-    }
-    row(rounds, &name, &mut jobs::read_ours(input), &mut jobs::read_rust(input))
+/// Makes the calls that are to be counted.
+fn make_calls(name: &str, side: &str, calls: u32) {
+    let found = tables().into_iter().flat_map(|(_, rows)| rows).find(|row| row.name == name);
+    let Pair { mut ours, mut rust } = (found.expect("a row").pair)();
+    let job = if side == "ours" { &mut ours } else { &mut rust };
+    (0..calls).for_each(|_| {
+        black_box(job());
+    });
 }
 
-fn chunks(rounds: usize) -> bool {
-    let datagrams = inputs::chunk_datagrams();
-    let mut equal = row(
-        rounds,
-        "16 chunks of 1,024 bytes taken in from empty, completeness asked after each",
-        &mut jobs::take_in_ours(&datagrams),
-        &mut jobs::take_in_rust(&datagrams),
-    );
-    equal &=
-        row(rounds, "completeness of 16,384 bytes", &mut jobs::complete_ours(&datagrams), &mut jobs::complete_rust(&datagrams));
-    for (name, empty_first) in [("16,384 bytes combined into empty", true), ("16,384 bytes combined into the same", false)] {
-        let (mut ours, mut rust) = (jobs::combine_ours(&datagrams, empty_first), jobs::combine_rust(&datagrams, empty_first));
-        equal &= row(rounds, name, &mut ours, &mut rust);
+fn main() -> ExitCode {
+    let arguments: Vec<String> = env::args().skip(1).collect();
+    if let [flag, row, side, calls] = &arguments[..] {
+        if flag == "--calls" {
+            make_calls(row, side, calls.parse().unwrap_or(0));
+            return ExitCode::SUCCESS;
+        }
     }
-    equal
+    let rounds = arguments.first().and_then(|rounds| rounds.parse().ok()).unwrap_or(ROUNDS);
+    let (mut missing, mut differing) = (Vec::new(), 0);
+    for (title, rows) in tables() {
+        println!("\n{title}\n\n| | library, ns | Rust, ns | library / Rust | by instructions |\n|---|---:|---:|---:|---:|");
+        for Row { name, pair } in rows {
+            let Some((ours, rust)) = times(rounds, pair()) else {
+                println!("| {name} | answers differ | | | |");
+                differing += 1;
+                continue;
+            };
+            let ratio = ours / rust;
+            let by_instructions = instruction_ratio(&name).map_or_else(String::new, |ratio| format!("{ratio:.2}"));
+            println!("| {name} | {ours:.0} | {rust:.0} | {ratio:.2} | {by_instructions} |");
+            if ratio > BAR {
+                missing.push(format!("{name} ({ratio:.2})"));
+            }
+        }
+    }
+    println!("\n{} rows miss the bar{} {}", missing.len(), if missing.is_empty() { "." } else { ":" }, missing.join(", "));
+    ExitCode::from(u8::from(differing > 0))
 }

@@ -3,3 +3,4 @@ pub mod compare;
 pub mod generate;
 pub mod record;
 pub mod reference;
+pub mod tuned;

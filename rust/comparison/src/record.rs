@@ -131,7 +131,7 @@ pub fn place(place: &MessagePlace) -> [u64; PLACE_SIZE / 8] {
     [place.number as u64, place.offset as u64, place.length as u64, writer.into()]
 }
 
-const fn encoding_number(encoding: Encoding) -> u64 {
+pub(crate) const fn encoding_number(encoding: Encoding) -> u64 {
     match encoding {
         Encoding::Variant => 0,
         Encoding::RawData => 1,
@@ -147,7 +147,7 @@ const fn encoding_of(number: u64) -> Encoding {
     }
 }
 
-const fn kind_number(kind: Kind) -> u64 {
+pub(crate) const fn kind_number(kind: Kind) -> u64 {
     match kind {
         Kind::Key => 0,
         Kind::Delta => 1,
@@ -208,13 +208,18 @@ pub fn cursor_of(record: &[u8]) -> Cursor {
     }
 }
 
-/// A field record.
-pub fn field(field: &Field) -> [u64; FIELD_SIZE / 8] {
-    let (shape, count) = match field.value.shape {
+/// A shape's number, and how many elements an array has.
+pub(crate) const fn shape_numbers(shape: Shape) -> (u64, u64) {
+    match shape {
         Shape::Scalar => (0, 0),
         Shape::NullArray => (1, 0),
         Shape::Array(count) => (2, count as u64),
-    };
+    }
+}
+
+/// A field record.
+pub fn field(field: &Field) -> [u64; FIELD_SIZE / 8] {
+    let (shape, count) = shape_numbers(field.value.shape);
     [field.value.kind.into(), shape, count, field.index as u64, field.offset as u64, field.length as u64, 0, 0]
 }
 
@@ -406,11 +411,7 @@ pub fn partial(record: &Record) -> Vec<u8> {
 /// A value record.
 pub fn value(told: &Told) -> [u64; VALUE_SIZE / 8] {
     let mut record = [0; VALUE_SIZE / 8];
-    let (shape, elements) = match told.shape {
-        Shape::Scalar => (0, 0),
-        Shape::NullArray => (1, 0),
-        Shape::Array(count) => (2, count as u64),
-    };
+    let (shape, elements) = shape_numbers(told.shape);
     (record[0], record[1], record[2]) = (told.kind.into(), shape, elements);
     record[3] = told.width as u64;
     (record[4], record[5]) = (told.first as u64, (told.last - told.first) as u64);

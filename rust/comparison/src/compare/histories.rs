@@ -6,6 +6,7 @@ use crate::reference::config::Config;
 use crate::reference::reassembly::{Partial, PartialView, Record};
 use crate::reference::sequence::{note, Newness};
 use crate::reference::{chunk, Number, Result};
+use crate::tuned;
 use uadp::ffi::{self, Answer};
 
 /// A partial as it is lent to the library.
@@ -102,9 +103,19 @@ impl LentPartial {
         tally.judge(operation, &found, &expected, &input)
     }
 
+    /// What the tuned implementation makes of this partial, judged as the library is.
+    fn judge_tuned(
+        &self, tally: &mut Tally, operation: &'static str, expected: &(Result<u64>, Self), tuned: &(Result<u64>, Self),
+    ) {
+        let found = |side: &(Result<u64>, Self)| Found { answer: answer_of(side.0), areas: side.1.areas() };
+        let [record, payload, marks] = self.slices();
+        tally.judge(operation, &found(tuned), &found(expected), &[("record", record), ("payload", payload), ("marks", marks)]);
+    }
+
     fn take_in(&mut self, tally: &mut Tally, datagram: &[u8], config: &Config) -> bool {
         let config_record = record::config(config);
         let expected = self.after(|partial| partial.take_in(datagram, config));
+        self.judge_tuned(tally, "tuned take_in", &expected, &self.after(|partial| tuned::take_in(partial, datagram, config)));
         let others = [("datagram", datagram), ("configuration record", &config_record[..])];
         let kept = ReadOnly::keep(&others);
         let equal = self.judge(tally, "take_in", expected, &others, |partial| {
@@ -117,7 +128,14 @@ impl LentPartial {
     fn combine(&mut self, tally: &mut Tally, source: &Self) -> bool {
         let expected = match source.known() {
             Ok(known) => {
-                let (result, mut after) = self.after(|partial| partial.combine(source.view(&known)));
+                let combined = self.after(|partial| partial.combine(source.view(&known)));
+                self.judge_tuned(
+                    tally,
+                    "tuned combine",
+                    &combined,
+                    &self.after(|partial| tuned::combine(partial, source.view(&known))),
+                );
+                let (result, mut after) = combined;
                 // A record that is taken over keeps the source's 64 bytes for a string as they are.
                 if after.record != self.record {
                     after.record.middle_mut()[80..record::PARTIAL_SIZE]
@@ -148,6 +166,8 @@ impl LentPartial {
     fn complete(&mut self, tally: &mut Tally) -> bool {
         let expected = self.known().and_then(|known| self.view(&known).complete()).map(u64::from);
         let expected = (expected, self.clone());
+        let tuned = self.known().and_then(|known| tuned::complete(&self.view(&known))).map(u64::from);
+        self.judge_tuned(tally, "tuned complete", &expected, &(tuned, self.clone()));
         self.judge(tally, "complete", expected, &[], |partial| {
             let [record, payload, marks] = partial.slices();
             ffi::complete(record, payload, marks)

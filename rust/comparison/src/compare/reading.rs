@@ -6,6 +6,7 @@ use crate::reference::config::Config;
 use crate::reference::message::Message;
 use crate::reference::network::{self, MessagePlace, PayloadHeader};
 use crate::reference::{chunk, listing, message, message_writer, network_writer, Number, Result};
+use crate::tuned;
 use uadp::ffi::{self, Answer};
 
 /// A record filled by the library, judged against the expected value and record.
@@ -140,6 +141,9 @@ impl Case<'_> {
             out.copy_from_slice(lines.as_bytes());
             Ok(lines.len())
         };
+        let mut tuned = Vec::new();
+        tuned::list_into(&mut tuned, self.datagram, self.config);
+        tally.judge_equal("tuned list", 0, tuned == lines.as_bytes(), &self.input());
         let of = |answer| Found { answer, areas: Vec::new() };
         let length = ffi::list_length(self.datagram, self.record);
         tally.judge("list_length", &of(length), &of(answer_of(Ok(lines.len() as u64))), &self.input());
@@ -150,6 +154,10 @@ impl Case<'_> {
     fn walk_all(&self, tally: &mut Tally, random: &mut Random) {
         let records =
             network::read(self.datagram, self.config).map(|envelope| record::walk(self.datagram, self.config, &envelope));
+        let mut tuned = Vec::new();
+        let tuned = tuned::walk_into(&mut tuned, self.datagram, self.config).map(|()| tuned);
+        let number = records.as_ref().map_or_else(|refusal| refusal.number as u8, |_| 0);
+        tally.judge_equal("tuned walk", number, tuned == records, &self.input());
         let length = walk_length(random, record::WALK_SIZE * records.as_ref().map_or(3, Vec::len));
         let before = Lent::of_length(random, length);
         let mut after = before.clone();

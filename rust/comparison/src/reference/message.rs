@@ -94,7 +94,7 @@ pub fn read(message: &[u8], types: &[u8]) -> Result<Option<Message>> {
 }
 
 /// The header; none with bit 0 off.
-fn header(reader: &mut Reader) -> Result<Option<Header>> {
+pub(crate) fn header(reader: &mut Reader) -> Result<Option<Header>> {
     let flags1 = reader.u8()?;
     if flags1 & 1 == 0 {
         return Ok(None);

@@ -67,7 +67,7 @@ pub struct PartialView<'a> {
 }
 
 impl PartialView<'_> {
-    fn sound(&self) -> Result<()> {
+    pub(crate) fn sound(&self) -> Result<()> {
         let sound = self.payload.len() == self.marks.len()
             && self.record.is_none_or(|record| {
                 let total = record.total;
@@ -161,7 +161,7 @@ impl Partial<'_> {
     }
 
     /// Total above the area is 11, another message 13.
-    fn admit(&self, record: &Record) -> Result<()> {
+    pub(crate) fn admit(&self, record: &Record) -> Result<()> {
         if record.total > self.payload.len() as u64 {
             return Err(Number::NoRoom.nowhere());
         }
@@ -172,7 +172,7 @@ impl Partial<'_> {
     }
 
     /// One not started takes the record over, with every mark cleared.
-    fn start(&mut self, record: &Record) {
+    pub(crate) fn start(&mut self, record: &Record) {
         if self.record.is_none() {
             *self.record = Some(*record);
             self.marks.fill(0);

@@ -10,7 +10,7 @@ pub const DATA_VALUE: u8 = 23;
 pub const VARIANT: u8 = 24;
 
 /// The widths of the fixed types by type number; 0 for the others.
-const WIDTHS: [u8; 64] = widths();
+pub(crate) const WIDTHS: [u8; 64] = widths();
 
 const fn widths() -> [u8; 64] {
     let mut widths = [0; 64];
