@@ -350,11 +350,15 @@ pub fn list_into(out: &mut Vec<u8>, datagram: &[u8], config: &Config) {
 /// How many bytes are tested before a loop may end.
 const BLOCK: usize = 256;
 
+/// Whether every mark of a block is 1.
+fn all_one(block: &[u8]) -> bool {
+    block.iter().fold(0, |other, mark| other | (mark ^ 1)) == 0
+}
+
 /// Whether every byte below total is covered.
 pub fn complete(partial: &PartialView) -> Result<bool> {
     partial.sound()?;
-    let all_one = |marks: &[u8]| marks.chunks(BLOCK).all(|block| block.iter().fold(0, |other, mark| other | (mark ^ 1)) == 0);
-    Ok(partial.record.is_some_and(|record| all_one(&partial.marks[..record.total as usize])))
+    Ok(partial.record.is_some_and(|record| partial.marks[..record.total as usize].chunks(BLOCK).all(all_one)))
 }
 
 /// Takes a chunk in from a datagram.
@@ -397,6 +401,19 @@ fn clash(held: &[u8], held_marks: &[u8], bytes: &[u8], marks: Option<&[u8]>) -> 
     })
 }
 
+/// Stores and marks each covered byte of a block.
+fn take_over(held: &mut [u8], held_marks: &mut [u8], bytes: &[u8], marks: &[u8]) {
+    if all_one(marks) {
+        held.copy_from_slice(bytes);
+        held_marks.fill(1);
+        return;
+    }
+    for k in (0..marks.len()).filter(|k| marks[*k] == 1) {
+        held[k] = bytes[k];
+        held_marks[k] = 1;
+    }
+}
+
 /// Combines another partial into this one.
 pub fn combine(partial: &mut Partial, source: PartialView) -> Result<()> {
     partial.view().sound()?;
@@ -411,11 +428,9 @@ pub fn combine(partial: &mut Partial, source: PartialView) -> Result<()> {
         return Err(Number::ByteDiffers.nowhere());
     }
     partial.start(record);
-    let own = partial.payload[..total].iter_mut().zip(&mut partial.marks[..total]);
-    for ((held, held_mark), (byte, mark)) in own.zip(payload.iter().zip(marks)) {
-        let covered = *mark == 1;
-        *held = if covered { *byte } else { *held };
-        *held_mark = if covered { 1 } else { *held_mark };
+    let own = partial.payload[..total].chunks_mut(BLOCK).zip(partial.marks[..total].chunks_mut(BLOCK));
+    for ((held, held_marks), (bytes, marks)) in own.zip(payload.chunks(BLOCK).zip(marks.chunks(BLOCK))) {
+        take_over(held, held_marks, bytes, marks);
     }
     Ok(())
 }
