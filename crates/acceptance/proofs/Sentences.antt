@@ -1,5 +1,6 @@
 -- The single sentences hold.
-use Prim.Native.Nat.{ℕ, suc}
+use Prim.Native.Nat.{ℕ, suc, _≤_, _<_}
+use mathlib.Core.Path.{_≡_}
 use mathlib.Core.List.{List, [], _∷_}
 use Rattle.wire_writer.specs.Fits.{Bytes}
 use Rattle.acceptance.specs.Sentences.{Sentences}
@@ -9,12 +10,31 @@ use Rattle.config_text.proofs.Joined.{config-within}
 use Rattle.dataset_message.proofs.Agreement.{walk-ends}
 use Rattle.round_trip.proofs.DataSetMessageRewritten.{walked-is}
 use Rattle.round_trip.proofs.DataSetMessageOtherwise.{six-otherwise}
+use native.Mathlib.Omega.{arith}
+use borrow.Author.Tests.{ne-eqb, le-ltb}
+use Rattle.wire.specs.Constants.{MOST_TOTAL, OVER_LIMIT}
+use Rattle.chunk.specs.Cutting.{cutRule}
+use Rattle.chunk.proofs.CutLaws.{cuts, past-yes, past-no}
 use Rattle.chunk.proofs.ReadBack.{written-back}
+use Rattle.uadp_c.specs.Chunks.{chunkCount}
 
 -- bytes by their places are bytes one after the other
 each-byte : (s : List ℕ) → Bytes s → EachByte s
 each-byte [] w = tt
 each-byte (b ∷ s) w = (w 0, each-byte s (λ i. w (suc i)))
+
+-- which chunks are cut
+counted-cuts : (total size k : ℕ) → cutRule total size 0 ≡ 0
+    → (k < chunkCount total size → cutRule total size k ≡ 0) × (chunkCount total size ≤ k → cutRule total size k ≡ OVER_LIMIT)
+unfolding cutRule
+counted-cuts total size k h =
+    let c = cuts total size 0 h in
+    let a : size ≡ 0 → ⊥ = λ z. omega (arith, c .some) in
+    let b : total ≡ 0 → ⊥ = λ z. omega (arith, c .filled) in
+    let l = le-ltb MOST_TOTAL total (c .small) in (
+      (λ i. rw (ne-eqb size 0 a, ne-eqb total 0 b, l, past-no total size k a b (omega arith))),
+      (λ i. rw (ne-eqb size 0 a, ne-eqb total 0 b, l, past-yes total size k a b (omega arith))),
+    )
 
 pub sentences : Sentences
 sentences = record {
@@ -25,5 +45,6 @@ sentences = record {
   after-the-last = walk-ends;
   looked-up = walked-is;
   cut = written-back;
+  counted = counted-cuts;
   six = six-otherwise;
 }

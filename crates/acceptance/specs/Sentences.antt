@@ -23,7 +23,8 @@ use Rattle.dataset_message.specs.Message.{Message, messageAt, fieldPlaceAt}
 use Rattle.dataset_message_writer.specs.Message.{GivenMessage, messageReadingRefusal, bodyAgrees, encode}
 use Rattle.round_trip.specs.DataSetMessage.{MessageBack, fieldsRead}
 use Rattle.chunk.specs.Payload.{chunkPayloadAt}
-use Rattle.chunk.specs.Cutting.{cutAnswer, cutBuffer, cutData, chunkBytes}
+use Rattle.chunk.specs.Cutting.{cutRule, cutAnswer, cutBuffer, cutData, chunkBytes}
+use Rattle.uadp_c.specs.Chunks.{chunkCount}
 
 pub record Sentences : Type 0 where
   -- "d = (received - 1 - last) modulo 65,536": the number by which the last one and 1 reach the received one
@@ -48,6 +49,9 @@ pub record Sentences : Type 0 where
       → chunkPayloadAt (take n (cutBuffer p number size k out)) 0
       ≡ got (record { number = number; offset = k * size; total = length p; first = 14; length = length (cutData p size k) })
       (length (chunkBytes p number size k))
+  -- "k past the last 10": where the first chunk is cut, all below the number that uadp_chunks tells are, and none from there on
+  pub counted : (total size k : ℕ) → cutRule total size 0 ≡ 0
+      → (k < chunkCount total size → cutRule total size k ≡ 0) × (chunkCount total size ≤ k → cutRule total size k ≡ OVER_LIMIT)
   -- "what would read back otherwise .. by 6": what reading accepts and reads back as given is not refused by 6 for its body
   pub six : (types : List ℕ) (g : GivenMessage) → FitsHeader (g .header) → messageReadingRefusal types g ≡ 0
       → MessageBack types g (encode g) → bodyAgrees types g ≡ true
