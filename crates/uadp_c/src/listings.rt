@@ -49,7 +49,7 @@ const MOST_VALUE: usize = 72057594037927935;
 pub extern "C" fn uadp_list_length(datagram: &[u8], config: &[u8]) -> u64
     ensures { λ r. ⌜ r ≡ lengthResult (lengthIn MOST_VALUE (listingText (now (config .entry)) (now (datagram .entry)))) ⌝ }
 {
-    let n = writer_count(config);
+    let writers = writer_count(config);
     let all_ids = ids(config);
     let all_sizes = sizes(config);
     let length = listing_length(
@@ -57,8 +57,8 @@ pub extern "C" fn uadp_list_length(datagram: &[u8], config: &[u8]) -> u64
         datagram,
         0,
         0,
-        first(&all_ids, n),
-        first(&all_sizes, n),
+        first(&all_ids, writers),
+        first(&all_sizes, writers),
         starts(config),
         types(config),
     );
