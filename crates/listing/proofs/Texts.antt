@@ -24,30 +24,30 @@ use Rattle.listing.specs.Text.{lineOut, linesText, lengthIn, textWritten
 use Rattle.listing.specs.declared.whole.TextLength.{TextLength}
 
 -- the bytes at the start of a buffer that holds them
-first-part : (t l : List ℕ) → length t ≤ length l → take (length t) (sets l 0 t) ≡ t
+pub first-part : (t l : List ℕ) → length t ≤ length l → take (length t) (sets l 0 t) ≡ t
 first-part t l h = ap (take (length t)) (front t l h) ∙ take-at t (drop (length t) l) (length t) refl
 
 -- what a line put into 256 bytes says
 module _ (l d e : List ℕ) (x : Line) (t : LinePut) (k : length l ≡ 256) (a : t ≡ linePut l d x) (b : e ≡ lineAfter l d x) where
-  pub line-put : (n : ℕ) → t ≡ LinePut.Is n → n ≤ 256 → (n ≡ length (lineOut d x)) × (take n e ≡ lineOut d x) × (n ≤ 256)
+  pub line-put : (n : ℕ) → t ≡ LinePut.Is n → n ≤ 256 → (n ≡ length (lineOut d x)) × (e ≡ sets l 0 (lineOut d x)) × (n ≤ 256)
   unfolding lineRefusal
   line-put n q h = go (tooLong x) refl
     where
-      go : (y : Bool) → tooLong x ≡ y → (n ≡ length (lineOut d x)) × (take n e ≡ lineOut d x) × (n ≤ 256)
+      go : (y : Bool) → tooLong x ≡ y → (n ≡ length (lineOut d x)) × (e ≡ sets l 0 (lineOut d x)) × (n ≤ 256)
       go true z = let p : LinePut.Is n ≡ LinePut.Refused 10 = sym q ∙ a ∙ rw z in let w : _≡_ {A = ℕ} 0 1 = cc in absurd (omega arith)
       go false z =
           let f = le-ltb (length l) 256 (omega arith) in
           let p : LinePut.Is n ≡ LinePut.Is (length (lineText d x)) = sym q ∙ a ∙ rw (z, f) in
           let m : n ≡ length (lineText d x) = cc in
           let s : e ≡ sets l 0 (lineText d x) = b ∙ rw (z, f) in
-          rw z (m, rw (s, m) (first-part (lineText d x) l (omega arith)), h)
+          rw z (m, s, h)
 
-  pub line-none : (n : ℕ) → t ≡ LinePut.Refused n → (0 ≡ length (lineOut d x)) × (take 0 e ≡ lineOut d x) × (0 ≤ 256)
+  pub line-none : (n : ℕ) → t ≡ LinePut.Refused n → (0 ≡ length (lineOut d x)) × (e ≡ sets l 0 (lineOut d x)) × (0 ≤ 256)
   unfolding lineRefusal
   line-none n q = go (tooLong x) refl
     where
-      go : (y : Bool) → tooLong x ≡ y → (0 ≡ length (lineOut d x)) × (take 0 e ≡ lineOut d x) × (0 ≤ 256)
-      go true z = rw z (refl, refl, omega arith)
+      go : (y : Bool) → tooLong x ≡ y → (0 ≡ length (lineOut d x)) × (e ≡ sets l 0 (lineOut d x)) × (0 ≤ 256)
+      go true z = let s : e ≡ l = b ∙ rw z in rw z (refl, s, omega arith)
       go false z =
           let f = le-ltb (length l) 256 (omega arith) in
           let p : LinePut.Refused n ≡ LinePut.Is (length (lineText d x)) = sym q ∙ a ∙ rw (z, f) in
@@ -66,10 +66,6 @@ module _ (w : Writers) (d : List ℕ) (c : LineCursor) (t : LineStep) (e : t ≡
 
   pub fewer-lines : (x : Line) (n : LineCursor) → t ≡ LineStep.Is x n → length (linesFrom w d n) < length (linesFrom w d c)
   fewer-lines x n q = omega (arith, ap length (lines ∙ ap (stepLines w d) q))
-
--- one line more is stored
-text-stored : (a b l r e : List ℕ) (at : ℕ) → e ≡ sets l at a → sets l at (a ++ b) ≡ r → sets e (at + length a) b ≡ r
-text-stored a b l r e at s v = ap (λ (y : List ℕ). sets y (at + length a) b) s ∙ sets-append a b l at ∙ v
 
 -- the answers
 pub long-length : (room : ℕ) (t : List ℕ) → room < length t → TextLength.Long ≡ lengthIn room t
@@ -98,11 +94,6 @@ put-all out t e n q s =
     let f = le-ltb (length out) (length t) (r .1) in
     (rw f (ap Written.Is (r .0)), rw f s)
 
-pub stored-line : (l e p t : List ℕ) (at n : ℕ) → e ≡ laid l at p → p ≡ t → at + length t ≤ length l → n ≡ length t → (e ≡ sets l at t) × (at + n ≡ at + length t)
-stored-line l e p t at n a b h k =
-    let f = le-leb (at + length t) (length l) h in
-    (a ∙ ap (laid l at) b ∙ rw f, ap (λ (j : ℕ). at + j) k)
-
 -- the length so far, with that of what is left
 module _ (t r u : List ℕ) (n total room all : ℕ) (k : n ≡ length t) (s : u ≡ t ++ r) (h : total ≤ room) (q : total + length u ≡ all) where
   both : length u ≡ n + length r
@@ -113,18 +104,6 @@ module _ (t r u : List ℕ) (n total room all : ℕ) (k : n ≡ length t) (s : u
 
   pub counted : n ≤ room - total → (total + n ≤ room) × (total + n + length r ≡ all)
   counted l = (omega arith, omega (arith, both))
-
--- the lines stored so far, with those that are left
-module _ (a b u l r : List ℕ) (at : ℕ) (s : u ≡ a ++ b) (h : at + length u ≤ length l) where
-  pub line-room : at + length a ≤ length l
-  line-room = omega (arith, ap length s, length-append a b)
-
-  pub line-stored : (e : List ℕ) (next : ℕ) → e ≡ sets l at a → next ≡ at + length a → length e ≡ length l → sets l at u ≡ r
-      → (next + length b ≤ length e) × (sets e next b ≡ r)
-  line-stored e next v k m q = (
-    omega (arith, ap length s, length-append a b),
-    ap (λ (j : ℕ). sets e j b) k ∙ text-stored a b l r e at v (ap (sets l at) (sym s) ∙ q),
-  )
 
 -- a listing's text from the cursor that it starts with
 pub listing-text : (w : Writers) (d : List ℕ) (number place : ℕ) (c : LineCursor) → c ≡ startCursor number place (w .sizes) d → linesText d (linesFrom w d c) ≡ linesText d (listingOf number place w d)

@@ -1,53 +1,24 @@
 // A whole listing as text in a lent buffer: first its length, then its lines one after the other.
-use crate::line::LinePut;
-use crate::line::put_line;
+use crate::block::line_in;
+use crate::block::put_block;
 use walk::entry::Line;
 use walk::lines::LineCursor;
 use walk::lines::LineStep;
 use walk::lines::next_line;
 use walk::lines::start;
 use wire::constants::NO_ROOM;
-use wire::part::part;
-use wire_writer::store::put_run;
 use wire_writer::writing::Written;
 ghost use mathlib.Core.Path.{_≡_};
-ghost use Prim.Native.Nat.{_+_, _≤_};
-ghost use lib.ListN.{length, take};
-ghost use lib.Seq.{sets};
+ghost use Prim.Native.Nat.{_≤_};
+ghost use lib.ListN.{length};
 ghost use Rattle.walk.specs.Lines.{writers, linesFrom, listingOf};
 ghost use Rattle.listing.specs.Text.{lineOut, linesText, lengthIn, textWritten, textAfter};
-
-// Puts a line's text at the start of a buffer of 256 bytes, and answers how long it is.
-fn line_in(text: &mut [u8], s: &[u8], line: Line) -> usize
-    requires { ⌜ length (now text) ≡ 256 ⌝ }
-    ensures { λ r.
-        let bytes = lineOut (now (s .entry)) line in
-        ⌜ (r ≡ length bytes) × (take r (now (text .exit)) ≡ bytes) × (r ≤ 256) ⌝ }
-{
-    match put_line(text, s, line) {
-        LinePut::Is(n) => n,
-        LinePut::Refused(_) => 0,
-    }
-}
 
 fn line_length(s: &[u8], line: Line) -> usize
     ensures { λ r. ⌜ (r ≡ length (lineOut (now (s .entry)) line)) × (r ≤ 256) ⌝ }
 {
     let mut text = [0u8; 256];
     line_in(&mut text, s, line)
-}
-
-// Stores a line's text from a position on.
-fn store_line(out: &mut [u8], at: usize, s: &[u8], line: Line) -> usize
-    requires { ⌜ at + length (lineOut (now s) line) ≤ length (now out) ⌝ }
-    ensures { λ r.
-        let bytes = lineOut (now (s .entry)) line in
-        ⌜ (now (out .exit) ≡ sets (now (out .entry)) at bytes) × (r ≡ at + length bytes) ⌝ }
-{
-    let mut text = [0u8; 256];
-    let n = line_in(&mut text, s, line);
-    put_run(out, at, part(&text, 0, n));
-    at + n
 }
 
 // A text's length where it fits into some room.
@@ -88,36 +59,6 @@ fn text_length<'a>(
     }
 }
 
-fn store_text<'a>(
-    out: &mut [u8],
-    s: &[u8],
-    first: LineCursor,
-    ids: &'a [u16],
-    sizes: &[u16],
-    starts: &'a [u8],
-    types: &'a [u8],
-)
-    requires { let w = writers (now ids) (now sizes) (now starts) (now types) in
-        ⌜ length (linesText (now s) (linesFrom w (now s) first)) ≤ length (now out) ⌝ }
-    ensures { λ _.
-        let w = writers (now (ids .entry)) (now (sizes .entry)) (now (starts .entry)) (now (types .entry)) in
-        ⌜ now (out .exit) ≡ sets (now (out .entry)) 0 (linesText (now (s .entry)) (linesFrom w (now (s .entry)) first)) ⌝ }
-{
-    let mut cursor = first;
-    let mut at = 0;
-    loop {
-        match next_line(s, ids, sizes, starts, types, cursor) {
-            LineStep::None => {
-                return;
-            }
-            LineStep::Is(line, next) => {
-                at = store_line(out, at, s, line);
-                cursor = next;
-            }
-        }
-    }
-}
-
 // Puts the whole listing of a datagram at the start of a buffer, under a configuration whose reading gave a number and a place; 11 where
 // it does not fit.
 pub fn put_listing<'a>(
@@ -139,7 +80,7 @@ pub fn put_listing<'a>(
     match text_length(out.len(), s, first, ids, sizes, starts, types) {
         TextLength::Long => Written::Refused(NO_ROOM),
         TextLength::Is(n) => {
-            store_text(out, s, first, ids, sizes, starts, types);
+            put_block(out, s, ids, sizes, starts, types, first);
             Written::Is(n)
         }
     }

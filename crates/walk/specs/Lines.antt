@@ -169,6 +169,15 @@ module _ (w : Writers) (d : List ℕ) where
   nextLine (LineCursor.Field l c p f) = fieldStep l c p f
   nextLine LineCursor.End = LineStep.None
 
+  -- the cursor k lines on; after the last line it stays
+  abbrev pub afterStep : LineCursor → (LineCursor → LineCursor) → LineStep → LineCursor
+  afterStep c more (LineStep.Is x next) = more next
+  afterStep c more LineStep.None = c
+
+  abbrev pub cursorAfter : ℕ → LineCursor → LineCursor
+  cursorAfter zero c = c
+  cursorAfter (suc k) c = afterStep c (cursorAfter k) (nextLine c)
+
   -- what a step says of the lines that are left: the first, and those after it; or that there is none
   abbrev pub stepLines : LineStep → List Line
   stepLines (LineStep.Is x c) = x ∷ linesFrom c

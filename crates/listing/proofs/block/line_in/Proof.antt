@@ -1,10 +1,10 @@
--- `listing::whole::line_in` meets its contract.
+-- `listing::block::line_in` meets its contract.
 -- Assumes nothing.
 use Rattle.listing.proofs.Texts.{line-put, line-none}
 use denote.Ref.{now}
 use borrow.Author.Needs.{needs}
-use Rattle.listing.proofs.whole.line_in.Statement.{statement}
-use Rattle.listing.proofs.whole.line_in.Tie as tie
+use Rattle.listing.proofs.block.line_in.Statement.{statement}
+use Rattle.listing.proofs.block.line_in.Tie as tie
 
 returns : tie.Need-returns
 returns c =
