@@ -1,3 +1,4 @@
 pub mod Lines
 pub mod Turns
 pub mod Joined
+pub mod Long

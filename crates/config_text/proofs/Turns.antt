@@ -24,7 +24,7 @@ use Rattle.config_text.specs.declared.line.Line.{Line}
 use Rattle.config_text.specs.declared.line.Line.the-variants.{Writer, Field, Bad}
 
 -- a text with a newline: the first line, and the lines after it
-lines-next : (t : List ℕ) → contains 10 t ≡ true → linesOf t ≡ ended (upTo 10 t) ∷ linesOf (past 10 t)
+pub lines-next : (t : List ℕ) → contains 10 t ≡ true → linesOf t ≡ ended (upTo 10 t) ∷ linesOf (past 10 t)
 lines-next [] h = absurd (false≢true h)
 lines-next (b ∷ t) h =
     ⊎-elim
@@ -33,7 +33,7 @@ lines-next (b ∷ t) h =
     (cases (eqb b 10))
 
 -- a text without one is a line that lacks it
-lines-last : (b : ℕ) (t : List ℕ) → contains 10 (b ∷ t) ≡ false → linesOf (b ∷ t) ≡ unended (b ∷ t) ∷ []
+pub lines-last : (b : ℕ) (t : List ℕ) → contains 10 (b ∷ t) ≡ false → linesOf (b ∷ t) ≡ unended (b ∷ t) ∷ []
 lines-last b [] h = ⊎-elim (λ e. let z : true ≡ false = rw e at h in absurd (true≢false z)) (λ e. rw e) (cases (eqb b 10))
 lines-last b (c ∷ t) h =
     ⊎-elim
