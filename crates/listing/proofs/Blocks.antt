@@ -1,9 +1,9 @@
 -- Lines in blocks: a line's text put from a position on, and as many lines as fit.
 -- Assumes nothing.
-use Prim.Native.Nat.{ℕ, suc, _+_, _-_, _≤_, _<_}
+use Prim.Native.Nat.{ℕ, zero, suc, _+_, _-_, _≤_, _<_}
 use mathlib.Core.Path.{_≡_, refl, sym, ap, _∙_}
 use mathlib.Core.Bool.{Bool, true, false}
-use mathlib.Core.List.{List, [], _∷_, _++_}
+use mathlib.Core.List.{List, [], _∷_, _++_, append-assoc}
 use lib.Dec.{ltb}
 use native.Mathlib.Omega.{arith}
 use native.Mathlib.Nat.{add-zero, zero-add, add-suc, suc-add}
@@ -16,10 +16,10 @@ use Rattle.walk.specs.Lines.{Writers, linesFrom, stepLines, nextLine, cursorAft
 use Rattle.walk.specs.declared.entry.Line.{Line}
 use Rattle.walk.specs.declared.lines.LineCursor.{LineCursor}
 use Rattle.walk.specs.declared.lines.LineStep.{LineStep}
-use Rattle.walk.proofs.Listing.{step-lists}
+use Rattle.walk.proofs.Listing.{step-lists, lines-after}
 use Rattle.listing.specs.Text.{lineOut, linesText, linePlaced, placedAfter, fitting, blockText}
 use Rattle.listing.specs.declared.block.LinePlaced.{LinePlaced}
-use Rattle.listing.proofs.Texts.{first-part}
+use Rattle.listing.proofs.Texts.{first-part, text-none, text-more}
 
 -- ---- a part of a list, stored to
 set-middle : (p m q : List ℕ) (i a : ℕ) → i < length m → p ++ (set m i a ++ q) ≡ set (p ++ (m ++ q)) (length p + i) a
@@ -49,27 +49,27 @@ part-stored l e t at n h k q =
     ∙ ap (λ (x : ℕ). sets l x t) place
 
 -- ---- a line's text from a position on
-pub not-placed : (l t : List ℕ) (at n : ℕ) → n ≡ length t → length l - at < n → (LinePlaced.NoRoom ≡ linePlaced l at t) × (l ≡ placedAfter l at t)
-not-placed l t at n e h = let f = lt-ltb (length l - at) (length t) (omega arith) in (rw f, rw f)
+pub not-placed : (l t : List ℕ) (at n : ℕ) → n ≡ length t → length l - at < n → n ≤ 256 → (LinePlaced.NoRoom ≡ linePlaced l at t) × (l ≡ placedAfter l at t) × (length t ≤ 256)
+not-placed l t at n e h k = let f = lt-ltb (length l - at) (length t) (omega arith) in (rw f, rw f, omega arith)
 
-pub placed : (l e t : List ℕ) (at n : ℕ) → n ≡ length t → n ≤ length l - at → e ≡ sets l at t
-    → (LinePlaced.To (at + n) ≡ linePlaced l at t) × (e ≡ placedAfter l at t)
-placed l e t at n k h s =
+pub placed : (l e t : List ℕ) (at n : ℕ) → n ≡ length t → n ≤ length l - at → n ≤ 256 → e ≡ sets l at t
+    → (LinePlaced.To (at + n) ≡ linePlaced l at t) × (e ≡ placedAfter l at t) × (length t ≤ 256)
+placed l e t at n k h m s =
     let f = le-ltb (length l - at) (length t) (omega arith) in
-    (rw f (ap (λ (j : ℕ). LinePlaced.To (at + j)) k), rw f s)
+    (rw f (ap (λ (j : ℕ). LinePlaced.To (at + j)) k), rw f s, omega arith)
 
 -- by way of a buffer of its own
-pub copied : (l e t b b′ p : List ℕ) (at n : ℕ) → at ≤ length l → n ≡ length t → n ≤ length l - at → b′ ≡ sets b 0 t → n ≤ length b → p ≡ take n b′
-    → e ≡ laid l at p → (LinePlaced.To (at + n) ≡ linePlaced l at t) × (e ≡ placedAfter l at t)
-copied l e t b b′ p at n a k h s r q z =
+pub copied : (l e t b b′ p : List ℕ) (at n : ℕ) → at ≤ length l → n ≡ length t → n ≤ length l - at → b′ ≡ sets b 0 t → n ≤ length b → n ≤ 256
+    → p ≡ take n b′ → e ≡ laid l at p → (LinePlaced.To (at + n) ≡ linePlaced l at t) × (e ≡ placedAfter l at t) × (length t ≤ 256)
+copied l e t b b′ p at n a k h s r m q z =
     let text : p ≡ t = q ∙ ap (take n) s ∙ ap (λ (j : ℕ). take j (sets b 0 t)) k ∙ first-part t b (omega arith) in
     let f = le-leb (at + length t) (length l) (omega arith) in
-    placed l e t at n k h (z ∙ ap (laid l at) text ∙ rw f)
+    placed l e t at n k h m (z ∙ ap (laid l at) text ∙ rw f)
 
 -- in place
-pub in-place : (l e t : List ℕ) (at n m : ℕ) → at + m ≤ length l → n ≡ length t → n ≤ m → e ≡ sets (take m (drop at l)) 0 t
-    → (LinePlaced.To (at + n) ≡ linePlaced l at t) × (take at l ++ (e ++ drop m (drop at l)) ≡ placedAfter l at t)
-in-place l e t at n m h k r s = placed l _ t at n k (omega arith) (part-stored l e t at m h (omega arith) s)
+pub in-place : (l e t : List ℕ) (at n m : ℕ) → at + m ≤ length l → n ≡ length t → n ≤ m → m ≤ 256 → e ≡ sets (take m (drop at l)) 0 t
+    → (LinePlaced.To (at + n) ≡ linePlaced l at t) × (take at l ++ (e ++ drop m (drop at l)) ≡ placedAfter l at t) × (length t ≤ 256)
+in-place l e t at n m h k r q s = placed l _ t at n k (omega arith) (omega arith) (part-stored l e t at m h (omega arith) s)
 
 -- ---- what is left to be put into some room, of the lines from a cursor on; and the cursor after them
 abbrev pub leftText : Writers → List ℕ → ℕ → LineCursor → List ℕ
@@ -116,6 +116,17 @@ pub record Putting (w : Writers) (d l₀ : List ℕ) (c₀ : LineCursor) (l : Li
   pub stored : sets l at (leftText w d (length l - at) c) ≡ sets l₀ 0 (leftText w d (length l₀) c₀)
   pub long : at + length (leftText w d (length l - at) c) ≡ length (leftText w d (length l₀) c₀)
   pub cursor : leftCursor w d (length l - at) c ≡ leftCursor w d (length l₀) c₀
+  pub whole : at + length (linesText d (linesFrom w d c)) ≡ length (linesText d (linesFrom w d c₀))
+
+-- what the loop leaves
+abbrev pub Done : Writers → List ℕ → List ℕ → LineCursor → List ℕ → ℕ → LineCursor → Type 0
+Done w d l₀ c₀ l at c =
+    (at ≡ length (leftText w d (length l₀) c₀)) × (l ≡ sets l₀ 0 (leftText w d (length l₀) c₀)) × (c ≡ leftCursor w d (length l₀) c₀)
+    × (256 ≤ length l₀ → at ≡ 0 → linesText d (linesFrom w d c₀) ≡ [])
+
+no-text : (t : List ℕ) → length t ≡ 0 → t ≡ []
+no-text [] h = refl
+no-text (x ∷ t) h = absurd (omega arith)
 
 pub begun : (w : Writers) (d l : List ℕ) (c : LineCursor) → Putting w d l c l 0 c
 begun w d l c =
@@ -127,21 +138,26 @@ begun w d l c =
       stored = ap (sets l 0) text;
       long = omega (arith, ap length text);
       cursor = ap (λ (k : ℕ). leftCursor w d k c) all;
+      whole = omega arith;
     }
 
 module _ (w : Writers) (d l₀ : List ℕ) (c₀ : LineCursor) (l : List ℕ) (at : ℕ) (c : LineCursor) (p : Putting w d l₀ c₀ l at c) where
   -- nothing is left, or what is left does not fit
   block-done : (leftText w d (length l - at) c ≡ []) × (leftCursor w d (length l - at) c ≡ c)
-      → (at ≡ length (leftText w d (length l₀) c₀)) × (l ≡ sets l₀ 0 (leftText w d (length l₀) c₀)) × (c ≡ leftCursor w d (length l₀) c₀)
-  block-done h =
+      → (256 ≤ length l₀ → at ≡ 0 → length (linesText d (linesFrom w d c)) ≡ 0) → Done w d l₀ c₀ l at c
+  block-done h end =
       let none : length (leftText w d (length l - at) c) ≡ 0 = ap length (h .0) in
-      (omega (arith, p .long), sym (ap (sets l at) (h .0)) ∙ p .stored, sym (h .1) ∙ p .cursor)
+      (omega (arith, p .long),
+      sym (ap (sets l at) (h .0)) ∙ p .stored,
+      sym (h .1) ∙ p .cursor,
+      λ room start. no-text (linesText d (linesFrom w d c₀)) (omega (arith, p .whole, end room start)))
 
   -- one line more
   block-more : (t l′ : List ℕ) (n : LineCursor) → length t ≤ length l - at
+      → linesText d (linesFrom w d c) ≡ t ++ linesText d (linesFrom w d n)
       → (leftText w d (length l - at) c ≡ t ++ leftText w d (length l - at - length t) n) × (leftCursor w d (length l - at) c ≡ leftCursor w d (length l - at - length t) n)
       → l′ ≡ sets l at t → Putting w d l₀ c₀ l′ (at + length t) n
-  block-more t l′ n h b s =
+  block-more t l′ n h y b s =
       let size : length l′ ≡ length l = ap length s ∙ length-sets l at t in
       let room : length l′ - (at + length t) ≡ length l - at - length t = omega (arith, size) in
       let rest : List ℕ = leftText w d (length l - at - length t) n in
@@ -156,6 +172,7 @@ module _ (w : Writers) (d l₀ : List ℕ) (c₀ : LineCursor) (l : List ℕ) (a
             ∙ ap (sets l at) (sym (b .0)) ∙ p .stored;
         long = omega (arith, sum, tail, p .long);
         cursor = ap (λ (k : ℕ). leftCursor w d k n) room ∙ sym (b .1) ∙ p .cursor;
+        whole = omega (arith, p .whole, ap length y ∙ length-append t (linesText d (linesFrom w d n)));
       }
 
 -- what the answer of putting a line says
@@ -178,26 +195,26 @@ a-place l t at end q = go (ltb (length l - at) (length t)) refl
 
 module _ (w : Writers) (d l₀ : List ℕ) (c₀ : LineCursor) (l : List ℕ) (at : ℕ) (c : LineCursor) (p : Putting w d l₀ c₀ l at c) (t : LineStep)
     (e : t ≡ nextLine w d c) where
-  pub ended : t ≡ LineStep.None
-      → (at ≡ length (leftText w d (length l₀) c₀)) × (l ≡ sets l₀ 0 (leftText w d (length l₀) c₀)) × (c ≡ leftCursor w d (length l₀) c₀)
-  ended q = block-done w d l₀ c₀ l at c p (left-none w d c t e (length l - at) q)
+  pub ended : t ≡ LineStep.None → Done w d l₀ c₀ l at c
+  ended q =
+      block-done w d l₀ c₀ l at c p (left-none w d c t e (length l - at) q) (λ room start. ap length (text-none w d c t e q))
 
   module _ (x : Line) (n : LineCursor) (q : t ≡ LineStep.Is x n) (r : LinePlaced) (g : r ≡ linePlaced l at (lineOut d x)) (l′ : List ℕ)
-      (s : l′ ≡ placedAfter l at (lineOut d x)) where
-    pub filled : r ≡ LinePlaced.NoRoom
-        → (at ≡ length (leftText w d (length l₀) c₀)) × (l′ ≡ sets l₀ 0 (leftText w d (length l₀) c₀)) × (c ≡ leftCursor w d (length l₀) c₀)
+      (s : l′ ≡ placedAfter l at (lineOut d x)) (short : length (lineOut d x) ≤ 256) where
+    pub filled : r ≡ LinePlaced.NoRoom → Done w d l₀ c₀ l′ at c
     filled k =
         let h = no-place l (lineOut d x) at (sym k ∙ g) in
         let f = lt-ltb (length l - at) (length (lineOut d x)) h in
-        let done = block-done w d l₀ c₀ l at c p (left-full w d c t e (length l - at) x n q h) in
+        let end = block-done w d l₀ c₀ l at c p (left-full w d c t e (length l - at) x n q h) (λ room start. absurd (omega (arith, h, p .same))) in
         let kept : l′ ≡ l = s ∙ rw f in
-        (done .0, kept ∙ done .1, done .2)
+        (end .0, kept ∙ end .1, end .2, end .3)
 
     pub went-on : (end : ℕ) → r ≡ LinePlaced.To end → Putting w d l₀ c₀ l′ end n
     went-on end k =
         let h = a-place l (lineOut d x) at end (sym k ∙ g) in
         let f = le-ltb (length l - at) (length (lineOut d x)) (h .0) in
-        rw (h .1) (block-more w d l₀ c₀ l at c p (lineOut d x) l′ n (h .0) (left-more w d c t e (length l - at) x n q (h .0)) (s ∙ rw f))
+        rw (h .1)
+        (block-more w d l₀ c₀ l at c p (lineOut d x) l′ n (h .0) (text-more w d c t e x n q) (left-more w d c t e (length l - at) x n q (h .0)) (s ∙ rw f))
 
 -- ---- a block and the lines that are left make the text
 -- where all of some lines fit, the block is their text
@@ -207,3 +224,16 @@ all-fit d (x ∷ xs) room h =
     let sum = length-append (lineOut d x) (linesText d xs) in
     rw (le-ltb room (length (lineOut d x)) (omega (arith, sum)))
     (ap (λ (t : List ℕ). lineOut d x ++ t) (all-fit d xs (room - length (lineOut d x)) (omega (arith, sum))))
+
+lines-split : (d : List ℕ) (xs : List Line) (k : ℕ) → linesText d xs ≡ linesText d (take k xs) ++ linesText d (drop k xs)
+lines-split d xs zero = refl
+lines-split d [] (suc k) = refl
+lines-split d (x ∷ xs) (suc k) =
+    ap (λ (t : List ℕ). lineOut d x ++ t) (lines-split d xs k) ∙ sym (append-assoc (lineOut d x) (linesText d (take k xs)) (linesText d (drop k xs)))
+
+-- the text from a cursor on is the block and the text from the cursor after it
+pub block-and-rest : (w : Writers) (d : List ℕ) (room : ℕ) (c : LineCursor)
+    → linesText d (linesFrom w d c) ≡ leftText w d room c ++ linesText d (linesFrom w d (leftCursor w d room c))
+block-and-rest w d room c =
+    let k = fitting d room (linesFrom w d c) in
+    lines-split d (linesFrom w d c) k ∙ ap (λ (xs : List Line). leftText w d room c ++ linesText d xs) (sym (lines-after w d k c))

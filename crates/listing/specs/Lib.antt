@@ -1,3 +1,4 @@
 pub mod Columns
 pub mod Line
 pub mod Text
+pub mod Program

@@ -9,10 +9,11 @@ use wire::part::part;
 use wire_writer::store::put_run;
 ghost use mathlib.Core.Path.{_≡_};
 ghost use Prim.Native.Nat.{_≤_};
-ghost use lib.ListN.{length, take};
+ghost use mathlib.Core.List.{[]};
+ghost use lib.ListN.{length};
 ghost use lib.Seq.{sets};
 ghost use Rattle.walk.specs.Lines.{writers, linesFrom, cursorAfter};
-ghost use Rattle.listing.specs.Text.{lineOut, linePlaced, placedAfter, fitting, blockText};
+ghost use Rattle.listing.specs.Text.{lineOut, linesText, linePlaced, placedAfter, fitting, blockText};
 
 // The position after a line's text, or that it does not fit.
 pub enum LinePlaced {
@@ -44,7 +45,9 @@ fn place_near_end(out: &mut [u8], at: usize, s: &[u8], line: Line) -> LinePlaced
     requires { ⌜ at ≤ length (now out) ⌝ }
     ensures { λ r.
         let bytes = lineOut (now (s .entry)) line in
-        ⌜ (r ≡ linePlaced (now (out .entry)) at bytes) × (now (out .exit) ≡ placedAfter (now (out .entry)) at bytes) ⌝ }
+        ⌜ (r ≡ linePlaced (now (out .entry)) at bytes)
+        × (now (out .exit) ≡ placedAfter (now (out .entry)) at bytes)
+        × (length bytes ≤ 256) ⌝ }
 {
     let mut text = [0u8; 256];
     let n = line_in(&mut text, s, line);
@@ -60,7 +63,9 @@ fn place_line(out: &mut [u8], at: usize, s: &[u8], line: Line) -> LinePlaced
     requires { ⌜ at ≤ length (now out) ⌝ }
     ensures { λ r.
         let bytes = lineOut (now (s .entry)) line in
-        ⌜ (r ≡ linePlaced (now (out .entry)) at bytes) × (now (out .exit) ≡ placedAfter (now (out .entry)) at bytes) ⌝ }
+        ⌜ (r ≡ linePlaced (now (out .entry)) at bytes)
+        × (now (out .exit) ≡ placedAfter (now (out .entry)) at bytes)
+        × (length bytes ≤ 256) ⌝ }
 {
     if out.len() - at < 256 {
         return place_near_end(out, at, s, line);
@@ -70,7 +75,8 @@ fn place_line(out: &mut [u8], at: usize, s: &[u8], line: Line) -> LinePlaced
     LinePlaced::To(at + n)
 }
 
-// Puts the lines from a cursor on at the start of a buffer, as many as fit one after the other.
+// Puts the lines from a cursor on at the start of a buffer, as many as fit one after the other. No line is longer than 256 bytes: where the
+// buffer is not shorter, an empty block is the end.
 pub fn put_block<'a>(
     out: &mut [u8],
     s: &[u8],
@@ -87,7 +93,8 @@ pub fn put_block<'a>(
         let text = blockText (now (s .entry)) room lines in
         ⌜ (r .length ≡ length text)
         × (now (out .exit) ≡ sets (now (out .entry)) 0 text)
-        × (r .next ≡ cursorAfter w (now (s .entry)) (fitting (now (s .entry)) room lines) first) ⌝ }
+        × (r .next ≡ cursorAfter w (now (s .entry)) (fitting (now (s .entry)) room lines) first)
+        × (256 ≤ room → r .length ≡ 0 → linesText (now (s .entry)) lines ≡ []) ⌝ }
 {
     let mut cursor = first;
     let mut at = 0;

@@ -2,4 +2,5 @@
 pub mod block;
 mod columns;
 pub mod line;
+pub mod program;
 pub mod whole;

@@ -1,17 +1,16 @@
-// The listing program: the configuration from `readers.txt`, a datagram from standard input, its listing to standard output. What is
-// listed, and how, is the library's (`listing`); a read error gets a message on standard error.
-use config::Config;
+// The listing program: the configuration from `readers.txt`, a datagram from standard input, its listing to standard output. Here stand the
+// calls of the system; what is listed, and how, is the library's (`listing`). A read or write that fails gets a message on standard error.
 use config::first;
 use config::writer_count;
+use config_text::ConfigRead;
+use config_text::read_config;
 use libc::ENOENT;
 use libc::STDIN_FILENO;
 use libc::STDOUT_FILENO;
-use listing::line::LinePut;
-use listing::line::put_line;
-use walk::entry::Line;
-use walk::lines::LineStep;
-use walk::lines::next_line;
-use walk::lines::start;
+use listing::block::put_block;
+use listing::program::TEXT_ROOM;
+use listing::program::first_line;
+use walk::lines::LineCursor;
 use wire::constants::MOST_DATAGRAM;
 use wire::part::part;
 
@@ -32,8 +31,7 @@ fn take(file: i32, buffer: &mut [u8]) -> Taken {
     Taken { count, rest }
 }
 
-// The text of `readers.txt`: none where the file is absent. A longer text than the buffer has a bad line within it, since 16 writers and
-// 64 fields fill fewer bytes.
+// The text of `readers.txt`: none where the file is absent. A longer text than the buffer is refused by its front.
 fn load(text: &mut [u8]) -> Taken {
     let file = os::open_read(b"readers.txt");
     if file < 0 {
@@ -51,39 +49,34 @@ fn load(text: &mut [u8]) -> Taken {
     taken
 }
 
-fn print(s: &[u8], line: Line) {
-    let mut text = [0u8; 256];
-    if let LinePut::Is(n) = put_line(&mut text, s, line) {
-        io::write_all(STDOUT_FILENO, part(&text, 0, n));
-    }
-}
-
-// Prints the lines from the first to the last.
+// Prints the lines from a cursor on, in blocks of whole lines. A failed write gets a message on standard error.
 fn print_lines<'a>(
     s: &[u8],
-    number: u8,
-    place: usize,
     ids: &'a [u16],
     sizes: &[u16],
     starts: &'a [u8],
     types: &'a [u8],
+    first: LineCursor,
 ) {
-    let mut cursor = start(s, number, place, sizes);
+    let mut text = [0u8; 65536];
+    let mut cursor = first;
     loop {
-        match next_line(s, ids, sizes, starts, types, cursor) {
-            LineStep::None => {
-                return;
-            }
-            LineStep::Is(line, next) => {
-                print(s, line);
-                cursor = next;
-            }
+        let block = put_block(&mut text, s, ids, sizes, starts, types, cursor);
+        let n = block.length;
+        if n == 0 {
+            return;
         }
+        if !io::write_all(STDOUT_FILENO, part(&text, 0, n)) {
+            os::fail(b"standard output");
+            return;
+        }
+        cursor = block.next;
     }
 }
 
-// The listing of a datagram under a configuration, whose reading gave a number and a place.
-fn list(s: &[u8], number: u8, place: usize, c: Config) {
+// The listing of what is held of a datagram, under a configuration that was read.
+fn list(s: &[u8], more: bool, read: ConfigRead) {
+    let c = read.config;
     let n = writer_count(c.writers);
     let ids = c.ids;
     let sizes = c.sizes;
@@ -91,25 +84,23 @@ fn list(s: &[u8], number: u8, place: usize, c: Config) {
     let types = c.types;
     print_lines(
         s,
-        number,
-        place,
         first(&ids, n),
         first(&sizes, n),
         part(&starts, 0, n),
         part(&types, 0, c.fields),
+        first_line(s, more, read.number, read.place, first(&sizes, n)),
     );
 }
 
 fn main() {
-    let mut text = [0u8; 4096];
+    let mut text = [0u8; TEXT_ROOM];
     let loaded = load(&mut text);
     if loaded.rest < 0 {
         return;
     }
-    let read = config_text::read_config(part(&text, 0, loaded.count));
-    let c = read.config;
+    let read = read_config(part(&text, 0, loaded.count));
     if read.number != 0 {
-        list(&[], read.number, read.place, c);
+        list(&[], false, read);
         return;
     }
     let mut datagram = [0u8; MOST_DATAGRAM];
@@ -118,9 +109,5 @@ fn main() {
         os::fail(b"standard input");
         return;
     }
-    if 0 < taken.rest {
-        list(&[], 10, 0, c);
-        return;
-    }
-    list(part(&datagram, 0, taken.count), 0, 0, c);
+    list(part(&datagram, 0, taken.count), 0 < taken.rest, read);
 }

@@ -20,12 +20,11 @@ use Rattle.dataset_fields.specs.Fields.{fieldAt, FieldStepped, nextFieldAt}
 use Rattle.dataset_message.specs.Message.{Message, messageAt as readAt}
 use Rattle.dataset_fields.specs.declared.fields.Cursor.{Cursor}
 use Rattle.dataset_fields.proofs.Inside.{field-inside}
-use Rattle.walk.specs.Lines.{Writers, fieldsLeft, messagesLeft, typesAt, bytesAt, fieldLines, messageLines, setLines, linesFrom, stepLines, nextSet, nextMessage, messageStep, nextField, fieldStep, nextLine, startBy, startCursor, answerLines, listingOf, lineAt}
+use Rattle.walk.specs.Lines.{Writers, fieldsLeft, messagesLeft, typesAt, bytesAt, fieldLines, messageLines, setLines, linesFrom, stepLines, nextSet, nextMessage, messageStep, nextField, fieldStep, nextLine, startBy, startCursor, answerLines, listingOf, afterStep, cursorAfter}
 use Rattle.walk.specs.declared.entry.Line.{Line}
 use Rattle.walk.specs.declared.lines.Listed.{Listed}
 use Rattle.walk.specs.declared.lines.LineCursor.{LineCursor}
 use Rattle.walk.specs.declared.lines.LineStep.{LineStep}
-use Rattle.walk.specs.declared.lines.LineRead.{LineRead}
 
 -- what an accepted step over the fields says: one field was left, one fewer is left after it, and its value starts within the message
 pub record FieldPassed (f : Cursor) (s : List ℕ) (x : FieldStepped) : Type 0 where
@@ -113,21 +112,19 @@ module _ (w : Writers) (d : List ℕ) where
       go true = by (networkMessageAt (w .sizes) d)
       go false = refl
 
-  -- line k of what is left, by the step that was taken
-  module _ (c : LineCursor) (t : LineStep) (e : t ≡ nextLine w d c) where
-    lines : linesFrom w d c ≡ stepLines w d t
-    lines = sym (step-lists c) ∙ ap (stepLines w d) (sym e)
-
-    pub line-none : (k : ℕ) → t ≡ LineStep.None → LineRead.None ≡ lineAt (linesFrom w d c) k
-    line-none k q = sym (ap (λ (x : List Line). lineAt x k) (lines ∙ ap (stepLines w d) q))
-
-    pub line-first : (x : Line) (n : LineCursor) → t ≡ LineStep.Is x n → LineRead.Is x ≡ lineAt (linesFrom w d c) 0
-    line-first x n q = sym (ap (λ (x : List Line). lineAt x 0) (lines ∙ ap (stepLines w d) q))
-
-    pub line-later : (k : ℕ) (x : Line) (n : LineCursor) → 0 < k → t ≡ LineStep.Is x n → lineAt (linesFrom w d n) (k - 1) ≡ lineAt (linesFrom w d c) k
-    line-later k x n h q =
-        let j : k ≡ suc (k - 1) = omega arith in
-        sym (ap (λ (x : List Line). lineAt x k) (lines ∙ ap (stepLines w d) q) ∙ ap (λ (i : ℕ). lineAt (x ∷ linesFrom w d n) i) j)
+  -- The cursor k lines on has the lines before it that are left then.
+  pub lines-after : (k : ℕ) (c : LineCursor) → linesFrom w d (cursorAfter w d k c) ≡ drop k (linesFrom w d c)
+  lines-after zero c = refl
+  lines-after (suc k) c = go (nextLine w d c) refl (lines-after k)
+    where
+      go : (t : LineStep) → nextLine w d c ≡ t → ((n : LineCursor) → linesFrom w d (cursorAfter w d k n) ≡ drop k (linesFrom w d n))
+          → linesFrom w d (afterStep w d c (cursorAfter w d k) (nextLine w d c)) ≡ drop (suc k) (linesFrom w d c)
+      go (LineStep.Is x n) e more =
+          let l : linesFrom w d c ≡ x ∷ linesFrom w d n = sym (step-lists c) ∙ ap (stepLines w d) e in
+          ap (λ (t : LineStep). linesFrom w d (afterStep w d c (cursorAfter w d k) t)) e ∙ more n ∙ ap (drop (suc k)) (sym l)
+      go LineStep.None e more =
+          let l : linesFrom w d c ≡ [] = sym (step-lists c) ∙ ap (stepLines w d) e in
+          ap (λ (t : LineStep). linesFrom w d (afterStep w d c (cursorAfter w d k) t)) e ∙ l ∙ ap (drop (suc k)) (sym l)
 
 -- A field's offset in the datagram is no larger than the datagram.
 pub offset-fits : (d b : List ℕ) (at n o : ℕ) → b ≡ take n (drop at d) → o < length b → at + o ≤ length d

@@ -25,7 +25,6 @@ use Rattle.walk.specs.declared.entry.Line.{Line}
 use Rattle.walk.specs.declared.lines.Listed.{Listed}
 use Rattle.walk.specs.declared.lines.LineCursor.{LineCursor}
 use Rattle.walk.specs.declared.lines.LineStep.{LineStep}
-use Rattle.walk.specs.declared.lines.LineRead.{LineRead}
 
 -- what a configuration says, as lists: the writers' ids, sizes (0 for none) and starts of their fields, and the types of all fields
 pub record Writers : Type 0 where
@@ -199,9 +198,3 @@ listingOf number place w d = cond (eqb number 0) (datagramLines w d) (Line.Bad n
 -- the listing of datagram d under a configuration text
 abbrev pub listing : List ℕ → List ℕ → List Line
 listing text d = listingOf (configOf text .number) (configOf text .place) (writersOf (configOf text .config)) d
-
--- line k of some lines, from 0
-abbrev pub lineAt : List Line → ℕ → LineRead
-lineAt [] k = LineRead.None
-lineAt (x ∷ xs) zero = LineRead.Is x
-lineAt (x ∷ xs) (suc k) = lineAt xs k

@@ -21,7 +21,7 @@ use wire::part::part;
 ghost use mathlib.Core.Path.{_≡_};
 ghost use Prim.Native.Nat.{ℕ};
 ghost use mathlib.Core.List.{List};
-ghost use Rattle.walk.specs.Lines.{writers, listedOf, startCursor, setStep, messageStep, fieldStep, nextLine, listingOf, lineAt};
+ghost use Rattle.walk.specs.Lines.{writers, listedOf, startCursor, setStep, messageStep, fieldStep, nextLine};
 
 // What the listing needs of an accepted datagram: its PublisherId and PayloadHeader with the positions where they end, and its messages.
 pub struct Listed {
@@ -45,12 +45,6 @@ pub enum LineCursor {
 // The line that the cursor stands before, and the cursor before the next one.
 pub enum LineStep {
     Is(Line, LineCursor),
-    None,
-}
-
-// Line k, or that there are not so many.
-pub enum LineRead {
-    Is(Line),
     None,
 }
 
@@ -218,39 +212,5 @@ pub fn next_line<'a>(
         LineCursor::Message(l, c) => message_line(s, ids, sizes, starts, types, l, c),
         LineCursor::Field(l, c, p, f) => field_line(s, ids, sizes, starts, types, l, c, p, f),
         LineCursor::End => LineStep::None,
-    }
-}
-
-// Line k of a datagram's listing, from 0; a whole listing is walked by `next_line`.
-pub fn nth_line<'a>(
-    s: &[u8],
-    number: u8,
-    place: usize,
-    ids: &'a [u16],
-    sizes: &[u16],
-    starts: &'a [u8],
-    types: &'a [u8],
-    k: usize,
-) -> LineRead
-    ensures { λ r.
-        let w = writers (now (ids .entry)) (now (sizes .entry)) (now (starts .entry)) (now (types .entry)) in
-        ⌜ r ≡ lineAt (listingOf number place w (now (s .entry))) k ⌝ }
-{
-    let mut cursor = start(s, number, place, sizes);
-    let mut left = k;
-    while 0 < left {
-        match next_line(s, ids, sizes, starts, types, cursor) {
-            LineStep::None => {
-                return LineRead::None;
-            }
-            LineStep::Is(_, next) => {
-                cursor = next;
-            }
-        }
-        left = left - 1;
-    }
-    match next_line(s, ids, sizes, starts, types, cursor) {
-        LineStep::None => LineRead::None,
-        LineStep::Is(x, _) => LineRead::Is(x),
     }
 }

@@ -60,7 +60,7 @@ returns-2 : tie.Need-returns-2
 returns-2 c =
     let at-line-in = c .before .before in
     let args = at-line-in .before .before .before .before .before .args in
-    in-place (now (args .out)) _ (lineOut (now (args .s)) (args .line)) (args .at) (at-line-in .line-in .result) (args .at + 256 - args .at) (omega arith) (at-line-in .line-in .ensures .0) (omega arith) (at-line-in .line-in .ensures .1)
+    in-place (now (args .out)) _ (lineOut (now (args .s)) (args .line)) (args .at) (at-line-in .line-in .result) (args .at + 256 - args .at) (omega arith) (at-line-in .line-in .ensures .0) (omega arith) (omega arith) (at-line-in .line-in .ensures .1)
 
 pub place-line-spec : {M : Type 1} → statement M
 place-line-spec =

@@ -69,7 +69,7 @@ returns-2 c =
     let at-next-line = at-line .before .before in
     let at-loop = at-next-line .before in
     let args = at-loop .before .before .before .before .before .before .before .args in
-    let w = writers (now (args .ids)) (now (args .sizes)) (now (args .starts)) (now (args .types)) in filled w (now (args .s)) (now (args .out)) (args .first) (at-loop .loop .out) (at-loop .loop .at) (at-loop .loop .cursor) (at-loop .loop .inv) _ (at-next-line .next-line .ensures) _ _ (at-line .line .given .1) _ (at-place-line .place-line .ensures .0) _ (at-place-line .place-line .ensures .1) (c .enum-told2 .given .1)
+    let w = writers (now (args .ids)) (now (args .sizes)) (now (args .starts)) (now (args .types)) in filled w (now (args .s)) (now (args .out)) (args .first) (at-loop .loop .out) (at-loop .loop .at) (at-loop .loop .cursor) (at-loop .loop .inv) _ (at-next-line .next-line .ensures) _ _ (at-line .line .given .1) _ (at-place-line .place-line .ensures .0) _ (at-place-line .place-line .ensures .1) (at-place-line .place-line .ensures .2) (c .enum-told2 .given .1)
 
 -- src/block.rt:109:32
 enum-known-end : tie.Need-enum-known-end Inv-loop μ-loop
@@ -93,7 +93,7 @@ loop-again c =
     let at-next-line = at-line .before .before in
     let at-loop = at-next-line .before in
     let args = at-loop .before .before .before .before .before .before .before .args in
-    let w = writers (now (args .ids)) (now (args .sizes)) (now (args .starts)) (now (args .types)) in went-on w (now (args .s)) (now (args .out)) (args .first) (at-loop .loop .out) (at-loop .loop .at) (at-loop .loop .cursor) (at-loop .loop .inv) _ (at-next-line .next-line .ensures) _ _ (at-line .line .given .1) _ (at-place-line .place-line .ensures .0) _ (at-place-line .place-line .ensures .1) _ (at-end .end .given .1)
+    let w = writers (now (args .ids)) (now (args .sizes)) (now (args .starts)) (now (args .types)) in went-on w (now (args .s)) (now (args .out)) (args .first) (at-loop .loop .out) (at-loop .loop .at) (at-loop .loop .cursor) (at-loop .loop .inv) _ (at-next-line .next-line .ensures) _ _ (at-line .line .given .1) _ (at-place-line .place-line .ensures .0) _ (at-place-line .place-line .ensures .1) (at-place-line .place-line .ensures .2) _ (at-end .end .given .1)
 
 pub put-block-spec : {M : Type 1} → statement M
 put-block-spec =
