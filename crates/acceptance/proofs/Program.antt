@@ -1,0 +1,72 @@
+-- The listing program lists the listing, and a configuration means what its text says.
+use Prim.Native.Nat.{ℕ, _≤_, _<_}
+use mathlib.Core.Path.{_≡_, refl, sym, ap, _∙_}
+use mathlib.Core.Bool.{Bool, true, false}
+use mathlib.Core.List.{List, []}
+use native.Mathlib.Omega.{arith}
+use borrow.Author.Tests.{ltb-true, ltb-false, le-ltb}
+use lib.Dec.{ltb, eqb}
+use lib.ListN.{length, take}
+use lib.Seq.{take-all}
+use Rattle.wire.specs.Constants.{MOST_DATAGRAM, MOST_WRITERS}
+use Rattle.config.specs.Writers.{fieldsOfId}
+use Rattle.config_text.specs.Config.{configOf}
+use Rattle.config_text.specs.declared.ConfigRead.{ConfigRead}
+use Rattle.config_text.specs.Meaning.{meaningOf, idsOf, typesById}
+use Rattle.config_text.proofs.Joined.{config-within}
+use Rattle.config_text.proofs.Long as long
+use Rattle.config_text.proofs.Meant.{config-means}
+use Rattle.walk.specs.Lines.{Writers, writersOf, linesFrom, listingOf, startCursor, listing}
+use Rattle.walk.proofs.Listing.{start-lists}
+use Rattle.listing.specs.Line.{lineText}
+use Rattle.listing.specs.Text.{linesText}
+use Rattle.listing.specs.Program.{TEXT_ROOM, programCursor}
+use Rattle.listing.proofs.Blocks as blocks
+use Rattle.acceptance.specs.Program.{Program, Means, programText}
+
+-- the front of a text that the program holds is read as the text
+same-config : (text : List ℕ) → configOf (take TEXT_ROOM text) ≡ configOf text
+same-config text = go (ltb (length text) TEXT_ROOM) refl
+  where
+    go : (b : Bool) → ltb (length text) TEXT_ROOM ≡ b → configOf (take TEXT_ROOM text) ≡ configOf text
+    go true e = ap configOf (take-all TEXT_ROOM text (omega (arith, ltb-true (length text) TEXT_ROOM e)))
+    go false e = long.long-text text TEXT_ROOM (omega arith) (ltb-false (length text) TEXT_ROOM e) .0
+
+-- what is listed of the front of a datagram, under a configuration whose reading gave a number and a place
+module _ (w : Writers) (number place : ℕ) (d : List ℕ) where
+  front-lists : linesText (take MOST_DATAGRAM d) (linesFrom w (take MOST_DATAGRAM d) (programCursor (ltb MOST_DATAGRAM (length d)) number place (w .sizes) (take MOST_DATAGRAM d)))
+      ≡ linesText d (listingOf number place w d)
+  unfolding listingOf lineText
+  front-lists = go (eqb number 0) (ltb MOST_DATAGRAM (length d)) refl refl
+    where
+      go : (a b : Bool) → eqb number 0 ≡ a → ltb MOST_DATAGRAM (length d) ≡ b
+          → linesText (take MOST_DATAGRAM d) (linesFrom w (take MOST_DATAGRAM d) (programCursor (ltb MOST_DATAGRAM (length d)) number place (w .sizes) (take MOST_DATAGRAM d)))
+          ≡ linesText d (listingOf number place w d)
+      go false b p q = rw p
+      go true true p q = rw (p, q)
+      go true false p q =
+          let whole : take MOST_DATAGRAM d ≡ d = take-all MOST_DATAGRAM d (ltb-false MOST_DATAGRAM (length d) q) in
+          rw (p, q) (ap (λ (s : List ℕ). linesText s (linesFrom w s (startCursor 0 0 (w .sizes) s))) whole ∙ ap (linesText d) (start-lists w d 0 0))
+
+meant : (text : List ℕ) → configOf text .number ≡ 0 → Means text (writersOf (configOf text .config))
+meant text h =
+    let (starts, types, l, by-id) = config-means text h in
+    let c = configOf text .config in
+    let few = le-ltb MOST_WRITERS (c .writers) (config-within text .0) in
+    record {
+      ids = rw few (l .ids-are);
+      sizes = rw few (l .sizes-are);
+      types = λ id. rw (few, l .ids-are, l .starts-are, l .types-are) (by-id id);
+    }
+
+pub program : Program
+program = record {
+  means = meant;
+  lists = λ text d.
+      ap (λ (r : ConfigRead). linesText (take MOST_DATAGRAM d)
+      (linesFrom (writersOf (r .config)) (take MOST_DATAGRAM d)
+      (programCursor (ltb MOST_DATAGRAM (length d)) (r .number) (r .place) (writersOf (r .config) .sizes) (take MOST_DATAGRAM d)))) (same-config text)
+      ∙ front-lists (writersOf (configOf text .config)) (configOf text .number) (configOf text .place) d;
+  long-text = λ text h. long.long-text text TEXT_ROOM (omega arith) h;
+  block-and-rest = blocks.block-and-rest;
+}
