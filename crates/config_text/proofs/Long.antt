@@ -1,22 +1,21 @@
 -- A configuration that is accepted is short, so of a long text the front tells the answer: its first bad line stands in it.
 -- Assumes nothing.
 use mathlib.Core.Path.{_≡_, refl, sym, _∙_, ap}
-use mathlib.Core.Bool.{Bool, true, false, cond, _&&_, true≢false, false≢true}
-use mathlib.Core.List.{List, [], _∷_, _++_}
-use mathlib.Core.Logic.{⊎-elim}
+use mathlib.Core.Bool.{Bool, true, false, false≢true}
+use mathlib.Core.List.{List, [], _∷_}
 use mathlib.Core.Option.{Option, none, some}
 use Prim.Native.Nat.{ℕ, zero, suc, _+_, _-_, _*_, _≤_, _<_}
 use native.Mathlib.Omega.{arith}
-use borrow.Author.Tests.{leb-true, leb-false, eqb-true, ltb-true, ltb-false}
+use borrow.Author.Tests.{leb-true, leb-false, ltb-true, ltb-false}
 use lib.Dec.{eqb, leb, ltb}
-use lib.ListN.{length, take, drop, length-append, length-drop, length-take}
+use lib.ListN.{length, take, drop, length-drop, length-take}
 use lib.Seq.{take-take, take-add, drop-at, length-take-le}
-use Rattle.wire.proofs.Facts.{and-left, cases}
+use Rattle.wire.proofs.Facts.{and-left}
 use Rattle.text.specs.Words.{contains, indexOf, upTo, past, startsWith}
 use Rattle.text.specs.Decimal.{isDigit, allDigits, valueFrom, decimalValueOf, noLeadingZero, decimalOf}
 use Rattle.text.proofs.Digits.{digit-low}
 use Rattle.text.proofs.Parts.{contains-place, lacks-place}
-use Rattle.config_text.specs.Line.{Says, writer, field, bad, writerStart, fieldStart, saysOf, writerRest, writerOf, fieldRest, fieldOf, sizeOf, isDash, positive}
+use Rattle.config_text.specs.Line.{Says, writer, field, bad, writerStart, fieldStart, saysOf, writerRest, writerOf, fieldOf, sizeOf, positive}
 use Rattle.config_text.specs.Config.{linesOf, mayFollow, with, badLine, readLines, configOf}
 use Rattle.config.specs.Writers.{emptyConfig}
 use Rattle.config.specs.declared.Config.{Config}
@@ -54,7 +53,7 @@ module _ (limit : ℕ) (small : limit < 100000) where
           let z : false ≡ true = sym (rw s) ∙ h in
           absurd (false≢true z)
 
-  pub decimal-short : (p : List ℕ) (n : ℕ) → decimalOf limit p ≡ some n → length p ≤ 5
+  decimal-short : (p : List ℕ) (n : ℕ) → decimalOf limit p ≡ some n → length p ≤ 5
   decimal-short [] n e = omega arith
   decimal-short (b ∷ []) n e = omega arith
   decimal-short (b ∷ c ∷ cs) n e = go (noLeadingZero (b ∷ c ∷ cs)) (allDigits (b ∷ c ∷ cs)) (leb (decimalValueOf (b ∷ c ∷ cs)) limit) refl refl refl
@@ -256,9 +255,9 @@ module _ (t : List ℕ) (m n : ℕ) (c : Config) (b : left c < m) (d : m ≤ len
         let long = length-drop (indexOf 10 t + 1) t in
         let more = again (with c y) (m - (indexOf 10 t + 1)) (omega (arith, fit, size)) (omega (arith, long)) in
         let front =
-            first-taken c n (take m t) (same .0) (ap (λ (l : List ℕ). mayFollow c (saysOf l)) line ∙ p)
-            ∙ ap (λ (l : List ℕ). readLines (with c (saysOf l)) (n + 1) (linesOf (past 10 (take m t)))) line
-            ∙ ap (λ (r : List ℕ). readLines (with c y) (n + 1) (linesOf r)) rest in
+        first-taken c n (take m t) (same .0) (ap (λ (l : List ℕ). mayFollow c (saysOf l)) line ∙ p)
+        ∙ ap (λ (l : List ℕ). readLines (with c (saysOf l)) (n + 1) (linesOf (past 10 (take m t)))) line
+        ∙ ap (λ (r : List ℕ). readLines (with c y) (n + 1) (linesOf r)) rest in
         let whole = first-taken c n t has p in
         (front ∙ more .0 ∙ sym whole, ap (λ r. r .number) whole ∙ more .1)
 

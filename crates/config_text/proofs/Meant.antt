@@ -3,18 +3,18 @@
 use mathlib.Core.Path.{_≡_, refl, sym, _∙_, ap}
 use mathlib.Core.Bool.{Bool, true, false, cond}
 use mathlib.Core.List.{List, [], _∷_, _++_, append-assoc, append-nil}
-use Prim.Native.Nat.{ℕ, zero, suc, _+_, _-_, _≤_, _<_}
-use native.Mathlib.Nat.{add-zero, zero-add}
+use Prim.Native.Nat.{ℕ, zero, suc, _+_, _-_, _<_}
+use native.Mathlib.Nat.{add-zero}
 use native.Mathlib.Numerals.{add-one}
 use native.Mathlib.Omega.{arith}
 use lib.Dec.{eqb}
 use lib.ListN.{length, getD, take, drop, set, length-append, length-set}
-use lib.Seq.{take-suc-set, take-append-seam, drop-at}
+use lib.Seq.{take-suc-set, drop-at}
 use Rattle.text.specs.Words.{contains, indexOf}
 use Rattle.config_text.specs.Line.{Says, writer, field, bad}
 use Rattle.config_text.specs.Config.{TextLine, linesOf, lineSays, mayFollow, with, readLines, configOf}
-use Rattle.config_text.specs.Meaning.{allSay, typesUnder, writersIn, meaningOf, idsOf, sizesOf, typesById}
-use Rattle.config.specs.Writers.{emptyConfig, startOf, fieldsOf, fieldsOfId}
+use Rattle.config_text.specs.Meaning.{allSay, typesUnder, writersSaid, meaningOf, writerIds, writerSizes, typesById}
+use Rattle.config.specs.Writers.{emptyConfig, fieldsOf, fieldsOfId}
 use Rattle.config.specs.declared.Config.{Config}
 use Rattle.config_text.proofs.Turns.{new-within, field-within}
 
@@ -46,11 +46,11 @@ under-first (bad ∷ ls) = under-first ls
 
 -- the fields by a writer's id, after those of the writers before
 types-by-id : (ls : List Says) (p : List ℕ) (f id : ℕ) → length p ≡ f
-    → fieldsOfId (idsOf (writersIn ls)) (startsFrom f ls) (p ++ typesIn ls) id ≡ typesById (writersIn ls) id
+    → fieldsOfId (writerIds (writersSaid ls)) (startsFrom f ls) (p ++ typesIn ls) id ≡ typesById (writersSaid ls) id
 types-by-id [] p f id h = refl
 types-by-id (field t ∷ ls) p f id h =
     let k : length (p ++ (t ∷ [])) ≡ f + 1 = length-append p (t ∷ []) ∙ omega arith in
-    ap (λ (u : List ℕ). fieldsOfId (idsOf (writersIn ls)) (startsFrom (f + 1) ls) u id) (sym (append-assoc p (t ∷ []) (typesIn ls)))
+    ap (λ (u : List ℕ). fieldsOfId (writerIds (writersSaid ls)) (startsFrom (f + 1) ls) u id) (sym (append-assoc p (t ∷ []) (typesIn ls)))
     ∙ types-by-id ls (p ++ (t ∷ [])) (f + 1) id k
 types-by-id (bad ∷ ls) p f id h = types-by-id ls p f id h
 types-by-id (writer i size ∷ ls) p f id h = go (eqb i id) refl (types-by-id ls p f id h)
@@ -64,13 +64,13 @@ types-by-id (writer i size ∷ ls) p f id h = go (eqb i id) refl (types-by-id ls
         let size : getD (startsFrom f ls) 0 (length all) - f ≡ length (typesUnder ls) = omega (arith, start) in
         ap (λ (n : ℕ). take n (drop f all)) size ∙ ap (take (length (typesUnder ls))) (drop-at p (typesIn ls) f h) ∙ under-first ls
 
-    go : (b : Bool) → eqb i id ≡ b → fieldsOfId (idsOf (writersIn ls)) (startsFrom f ls) all id ≡ typesById (writersIn ls) id
-        → fieldsOfId (i ∷ idsOf (writersIn ls)) (f ∷ startsFrom f ls) all id ≡ cond (eqb i id) (typesUnder ls) (typesById (writersIn ls) id)
+    go : (b : Bool) → eqb i id ≡ b → fieldsOfId (writerIds (writersSaid ls)) (startsFrom f ls) all id ≡ typesById (writersSaid ls) id
+        → fieldsOfId (i ∷ writerIds (writersSaid ls)) (f ∷ startsFrom f ls) all id ≡ cond (eqb i id) (typesUnder ls) (typesById (writersSaid ls) id)
     go true e more = rw e own
     go false e more =
-        let k : suc (indexOf id (idsOf (writersIn ls))) + 1 ≡ suc (indexOf id (idsOf (writersIn ls)) + 1) = omega arith in
-        let same : fieldsOf (f ∷ startsFrom f ls) all (suc (indexOf id (idsOf (writersIn ls)))) ≡ fieldsOf (startsFrom f ls) all (indexOf id (idsOf (writersIn ls))) = rw k in
-        rw e (ap (λ (u : List ℕ). cond (contains id (idsOf (writersIn ls))) u []) same ∙ more)
+        let k : suc (indexOf id (writerIds (writersSaid ls))) + 1 ≡ suc (indexOf id (writerIds (writersSaid ls)) + 1) = omega arith in
+        let same : fieldsOf (f ∷ startsFrom f ls) all (suc (indexOf id (writerIds (writersSaid ls)))) ≡ fieldsOf (startsFrom f ls) all (indexOf id (writerIds (writersSaid ls))) = rw k in
+        rw e (ap (λ (u : List ℕ). cond (contains id (writerIds (writersSaid ls))) u []) same ∙ more)
 
 -- ---- the record that is read
 pub record Lists (c : Config) (ids sizes starts types : List ℕ) : Type 0 where
@@ -106,15 +106,15 @@ arrays-with c bad a = a
 -- what is read from some lines comes after what was read before
 abbrev After : Config → Config → List Says → Type 0
 After c r ys =
-    Lists r (take (c .writers) (c .ids) ++ idsOf (writersIn ys)) (take (c .writers) (c .sizes) ++ sizesOf (writersIn ys))
+    Lists r (take (c .writers) (c .ids) ++ writerIds (writersSaid ys)) (take (c .writers) (c .sizes) ++ writerSizes (writersSaid ys))
     (take (c .writers) (c .starts) ++ startsFrom (c .fields) ys) (take (c .fields) (c .types) ++ typesIn ys)
 
 after-one : (c r : Config) (y : Says) (ys : List Says) → Arrays c → mayFollow c y ≡ true → After (with c y) r ys → After c r (y ∷ ys)
 after-one c r (writer id size) ys a p m =
     let h = new-within (c .ids) (c .writers) id p in
     record {
-      ids-are = m .ids-are ∙ one-more (c .ids) (idsOf (writersIn ys)) (c .writers) id (omega (arith, a .ids-long, h));
-      sizes-are = m .sizes-are ∙ one-more (c .sizes) (sizesOf (writersIn ys)) (c .writers) size (omega (arith, a .sizes-long, h));
+      ids-are = m .ids-are ∙ one-more (c .ids) (writerIds (writersSaid ys)) (c .writers) id (omega (arith, a .ids-long, h));
+      sizes-are = m .sizes-are ∙ one-more (c .sizes) (writerSizes (writersSaid ys)) (c .writers) size (omega (arith, a .sizes-long, h));
       starts-are = m .starts-are ∙ one-more (c .starts) (startsFrom (c .fields) ys) (c .writers) (c .fields) (omega (arith, a .starts-long, h));
       types-are = m .types-are;
     }
@@ -146,11 +146,13 @@ lines-mean (l ∷ ls) c n a h = go (mayFollow c (lineSays l)) refl (lines-mean l
 
 -- an accepted text: its ids and sizes, and the types by each id
 pub config-means : (t : List ℕ) → configOf t .number ≡ 0 → (starts : List ℕ)
-    × (types : List ℕ) × Lists (configOf t .config) (idsOf (meaningOf t)) (sizesOf (meaningOf t)) starts types
-    × ((id : ℕ) → fieldsOfId (idsOf (meaningOf t)) starts types id ≡ typesById (meaningOf t) id)
+    × (types : List ℕ) × Lists (configOf t .config) (writerIds (meaningOf t)) (writerSizes (meaningOf t)) starts types
+    × ((id : ℕ) → fieldsOfId (writerIds (meaningOf t)) starts types id ≡ typesById (meaningOf t) id)
 unfolding configOf
 config-means t h =
-    let ys = allSay (linesOf t) in
-    (startsFrom 0 ys, typesIn ys,
-    lines-mean (linesOf t) emptyConfig 1 (record { ids-long = refl; sizes-long = refl; starts-long = refl; types-long = refl }) h,
-    λ id. types-by-id ys [] 0 id refl)
+    let ys = allSay (linesOf t) in (
+      startsFrom 0 ys,
+      typesIn ys,
+      lines-mean (linesOf t) emptyConfig 1 (record { ids-long = refl; sizes-long = refl; starts-long = refl; types-long = refl }) h,
+      λ id. types-by-id ys [] 0 id refl,
+    )

@@ -26,23 +26,23 @@ typesUnder (writer id size ∷ ls) = []
 typesUnder (bad ∷ ls) = typesUnder ls
 
 -- "`writer`, id, size": a writer for each `writer` line, with the fields under it
-abbrev pub writersIn : List Says → List ConfiguredWriter
-writersIn [] = []
-writersIn (writer id size ∷ ls) = record { id = id; size = size; types = typesUnder ls } ∷ writersIn ls
-writersIn (field t ∷ ls) = writersIn ls
-writersIn (bad ∷ ls) = writersIn ls
+abbrev pub writersSaid : List Says → List ConfiguredWriter
+writersSaid [] = []
+writersSaid (writer id size ∷ ls) = record { id = id; size = size; types = typesUnder ls } ∷ writersSaid ls
+writersSaid (field t ∷ ls) = writersSaid ls
+writersSaid (bad ∷ ls) = writersSaid ls
 
 abbrev pub meaningOf : List ℕ → List ConfiguredWriter
-meaningOf text = writersIn (allSay (linesOf text))
+meaningOf text = writersSaid (allSay (linesOf text))
 
 -- of some writers: their ids, their sizes, and the types of the one with an id, none where no writer has it
-abbrev pub idsOf : List ConfiguredWriter → List ℕ
-idsOf [] = []
-idsOf (w ∷ ws) = w .id ∷ idsOf ws
+abbrev pub writerIds : List ConfiguredWriter → List ℕ
+writerIds [] = []
+writerIds (w ∷ ws) = w .id ∷ writerIds ws
 
-abbrev pub sizesOf : List ConfiguredWriter → List ℕ
-sizesOf [] = []
-sizesOf (w ∷ ws) = w .size ∷ sizesOf ws
+abbrev pub writerSizes : List ConfiguredWriter → List ℕ
+writerSizes [] = []
+writerSizes (w ∷ ws) = w .size ∷ writerSizes ws
 
 abbrev pub typesById : List ConfiguredWriter → ℕ → List ℕ
 typesById [] id = []

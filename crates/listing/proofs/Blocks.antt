@@ -9,7 +9,7 @@ use native.Mathlib.Omega.{arith}
 use native.Mathlib.Nat.{add-zero, zero-add, add-suc, suc-add}
 use borrow.Author.Tests.{lt-ltb, le-ltb, le-leb, ltb-true, ltb-false}
 use lib.ListN.{length, take, drop, set, length-append, length-set, length-take, length-drop, take-append-drop}
-use lib.Seq.{sets, length-sets, length-take-le, set-append-left, take-length, take-append-le, sets-eq}
+use lib.Seq.{sets, length-sets, length-take-le, set-append-left}
 use Rattle.wire_writer.specs.Store.{laid}
 use Rattle.wire_writer.proofs.Stores.{sets-append}
 use Rattle.walk.specs.Lines.{Writers, linesFrom, stepLines, nextLine, cursorAfter, afterStep}
@@ -17,7 +17,7 @@ use Rattle.walk.specs.declared.entry.Line.{Line}
 use Rattle.walk.specs.declared.lines.LineCursor.{LineCursor}
 use Rattle.walk.specs.declared.lines.LineStep.{LineStep}
 use Rattle.walk.proofs.Listing.{step-lists, lines-after}
-use Rattle.listing.specs.Text.{lineOut, linesText, linePlaced, placedAfter, fitting, blockText}
+use Rattle.listing.specs.Text.{lineOut, linesText, linePlaced, placedAfter, linesFitting, blockText}
 use Rattle.listing.specs.declared.block.LinePlaced.{LinePlaced}
 use Rattle.listing.proofs.Texts.{first-part, text-none, text-more}
 
@@ -35,7 +35,7 @@ sets-middle (a ∷ t) p m q i h =
     ∙ ap (λ (k : ℕ). sets (set (p ++ (m ++ q)) (length p + i) a) k t) (add-suc (length p) i)
 
 -- a text stored at the start of a part of n bytes, where it fits, is stored in the whole from where the part begins
-pub part-stored : (l e t : List ℕ) (at n : ℕ) → at + n ≤ length l → length t ≤ n → e ≡ sets (take n (drop at l)) 0 t
+part-stored : (l e t : List ℕ) (at n : ℕ) → at + n ≤ length l → length t ≤ n → e ≡ sets (take n (drop at l)) 0 t
     → take at l ++ (e ++ drop n (drop at l)) ≡ sets l at t
 part-stored l e t at n h k q =
     let room : n ≤ length (drop at l) = omega (arith, length-drop at l) in
@@ -76,7 +76,7 @@ abbrev pub leftText : Writers → List ℕ → ℕ → LineCursor → List ℕ
 leftText w d room c = blockText d room (linesFrom w d c)
 
 abbrev pub leftCursor : Writers → List ℕ → ℕ → LineCursor → LineCursor
-leftCursor w d room c = cursorAfter w d (fitting d room (linesFrom w d c)) c
+leftCursor w d room c = cursorAfter w d (linesFitting d room (linesFrom w d c)) c
 
 module _ (w : Writers) (d : List ℕ) (c : LineCursor) (t : LineStep) (e : t ≡ nextLine w d c) (room : ℕ) where
   lines : linesFrom w d c ≡ stepLines w d t
@@ -86,7 +86,7 @@ module _ (w : Writers) (d : List ℕ) (c : LineCursor) (t : LineStep) (e : t ≡
   left-none : t ≡ LineStep.None → (leftText w d room c ≡ []) × (leftCursor w d room c ≡ c)
   left-none q =
       let l : linesFrom w d c ≡ [] = lines ∙ ap (stepLines w d) q in
-      (ap (blockText d room) l, ap (λ (k : List Line). cursorAfter w d (fitting d room k) c) l)
+      (ap (blockText d room) l, ap (λ (k : List Line). cursorAfter w d (linesFitting d room k) c) l)
 
   module _ (x : Line) (n : LineCursor) (q : t ≡ LineStep.Is x n) where
     first-line : linesFrom w d c ≡ x ∷ linesFrom w d n
@@ -96,7 +96,7 @@ module _ (w : Writers) (d : List ℕ) (c : LineCursor) (t : LineStep) (e : t ≡
     left-full : room < length (lineOut d x) → (leftText w d room c ≡ []) × (leftCursor w d room c ≡ c)
     left-full h =
         let f = lt-ltb room (length (lineOut d x)) h in
-        (ap (blockText d room) first-line ∙ rw f, ap (λ (k : List Line). cursorAfter w d (fitting d room k) c) first-line ∙ rw f)
+        (ap (blockText d room) first-line ∙ rw f, ap (λ (k : List Line). cursorAfter w d (linesFitting d room k) c) first-line ∙ rw f)
 
     -- a line that fits
     left-more : length (lineOut d x) ≤ room
@@ -104,10 +104,11 @@ module _ (w : Writers) (d : List ℕ) (c : LineCursor) (t : LineStep) (e : t ≡
         × (leftCursor w d room c ≡ leftCursor w d (room - length (lineOut d x)) n)
     left-more h =
         let f = le-ltb room (length (lineOut d x)) h in
-        let k : LineStep.Is x n ≡ nextLine w d c = sym q ∙ e in
-        (ap (blockText d room) first-line ∙ rw f,
-        ap (λ (k : List Line). cursorAfter w d (fitting d room k) c) first-line ∙ rw f
-        (ap (afterStep w d c (cursorAfter w d (fitting d (room - length (lineOut d x)) (linesFrom w d n)))) (sym k)))
+        let k : LineStep.Is x n ≡ nextLine w d c = sym q ∙ e in (
+          ap (blockText d room) first-line ∙ rw f,
+          ap (λ (k : List Line). cursorAfter w d (linesFitting d room k) c) first-line ∙ rw f
+              (ap (afterStep w d c (cursorAfter w d (linesFitting d (room - length (lineOut d x)) (linesFrom w d n)))) (sym k)),
+        )
 
 -- ---- the loop: what was put and what is left make the block
 pub record Putting (w : Writers) (d l₀ : List ℕ) (c₀ : LineCursor) (l : List ℕ) (at : ℕ) (c : LineCursor) : Type 0 where
@@ -146,11 +147,12 @@ module _ (w : Writers) (d l₀ : List ℕ) (c₀ : LineCursor) (l : List ℕ) (a
   block-done : (leftText w d (length l - at) c ≡ []) × (leftCursor w d (length l - at) c ≡ c)
       → (256 ≤ length l₀ → at ≡ 0 → length (linesText d (linesFrom w d c)) ≡ 0) → Done w d l₀ c₀ l at c
   block-done h end =
-      let none : length (leftText w d (length l - at) c) ≡ 0 = ap length (h .0) in
-      (omega (arith, p .long),
-      sym (ap (sets l at) (h .0)) ∙ p .stored,
-      sym (h .1) ∙ p .cursor,
-      λ room start. no-text (linesText d (linesFrom w d c₀)) (omega (arith, p .whole, end room start)))
+      let none : length (leftText w d (length l - at) c) ≡ 0 = ap length (h .0) in (
+        omega (arith, p .long),
+        sym (ap (sets l at) (h .0)) ∙ p .stored,
+        sym (h .1) ∙ p .cursor,
+        λ room start. no-text (linesText d (linesFrom w d c₀)) (omega (arith, p .whole, end room start)),
+      )
 
   -- one line more
   block-more : (t l′ : List ℕ) (n : LineCursor) → length t ≤ length l - at
@@ -235,5 +237,5 @@ lines-split d (x ∷ xs) (suc k) =
 pub block-and-rest : (w : Writers) (d : List ℕ) (room : ℕ) (c : LineCursor)
     → linesText d (linesFrom w d c) ≡ leftText w d room c ++ linesText d (linesFrom w d (leftCursor w d room c))
 block-and-rest w d room c =
-    let k = fitting d room (linesFrom w d c) in
+    let k = linesFitting d room (linesFrom w d c) in
     lines-split d (linesFrom w d c) k ∙ ap (λ (xs : List Line). leftText w d room c ++ linesText d xs) (sym (lines-after w d k c))

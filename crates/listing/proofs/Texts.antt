@@ -5,12 +5,10 @@ use mathlib.Core.Path.{_≡_, refl, sym, ap, _∙_}
 use mathlib.Core.Bool.{Bool, true, false}
 use mathlib.Core.List.{List, [], _++_}
 use native.Mathlib.Omega.{arith}
-use borrow.Author.Tests.{lt-ltb, le-ltb, le-leb, ltb-false}
+use borrow.Author.Tests.{lt-ltb, le-ltb, ltb-false}
 use lib.Dec.{ltb}
 use lib.ListN.{length, take, drop, length-append}
 use lib.Seq.{sets, take-at}
-use Rattle.wire_writer.specs.Store.{laid}
-use Rattle.wire_writer.proofs.Stores.{sets-append}
 use Rattle.wire_writer.proofs.Putting.{front}
 use Rattle.wire_writer.specs.declared.writing.Written.{Written}
 use Rattle.listing.specs.Line.{tooLong, lineText, lineRefusal, linePut, lineAfter}

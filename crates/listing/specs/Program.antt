@@ -12,7 +12,8 @@ use Rattle.walk.specs.declared.lines.LineCursor.{LineCursor}
 abbrev pub TEXT_ROOM : ℕ
 TEXT_ROOM = 4096
 
--- the cursor before its first line: "A refused configuration, or else datagram"; a datagram of which there is more than the buffer holds is 10
+-- the cursor before its first line: "A refused configuration, or else datagram"; a datagram of which there is more than the buffer holds
+-- is 10
 abbrev pub programCursor : Bool → ℕ → ℕ → List ℕ → List ℕ → LineCursor
 programCursor more number place sizes s =
     cond (eqb number 0) (cond more (LineCursor.Bad OVER_LIMIT 0) (startCursor 0 0 sizes s)) (LineCursor.Bad number place)

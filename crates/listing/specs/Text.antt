@@ -40,10 +40,10 @@ abbrev pub placedAfter : List ℕ → ℕ → List ℕ → List ℕ
 placedAfter out at t = cond (ltb (length out - at) (length t)) out (sets out at t)
 
 -- how many of some lines fit one after the other into some room
-abbrev pub fitting : List ℕ → ℕ → List Line → ℕ
-fitting d room [] = 0
-fitting d room (x ∷ xs) = cond (ltb room (length (lineOut d x))) 0 (suc (fitting d (room - length (lineOut d x)) xs))
+abbrev pub linesFitting : List ℕ → ℕ → List Line → ℕ
+linesFitting d room [] = 0
+linesFitting d room (x ∷ xs) = cond (ltb room (length (lineOut d x))) 0 (suc (linesFitting d (room - length (lineOut d x)) xs))
 
 -- a block: the text of those that fit
 abbrev pub blockText : List ℕ → ℕ → List Line → List ℕ
-blockText d room xs = linesText d (take (fitting d room xs) xs)
+blockText d room xs = linesText d (take (linesFitting d room xs) xs)

@@ -13,7 +13,7 @@ ghost use mathlib.Core.List.{[]};
 ghost use lib.ListN.{length};
 ghost use lib.Seq.{sets};
 ghost use Rattle.walk.specs.Lines.{writers, linesFrom, cursorAfter};
-ghost use Rattle.listing.specs.Text.{lineOut, linesText, linePlaced, placedAfter, fitting, blockText};
+ghost use Rattle.listing.specs.Text.{lineOut, linesText, linePlaced, placedAfter, linesFitting, blockText};
 
 // The position after a line's text, or that it does not fit.
 pub enum LinePlaced {
@@ -21,7 +21,8 @@ pub enum LinePlaced {
     NoRoom,
 }
 
-// How many bytes at the buffer's start are the block, and the cursor before the line after it.
+// How many bytes at the buffer's start are the block, and the cursor before the line after it, which holds what `network_header::header`
+// and `network_message::payload` declare.
 pub struct Block {
     pub length: usize,
     pub next: LineCursor,
@@ -93,7 +94,7 @@ pub fn put_block<'a>(
         let text = blockText (now (s .entry)) room lines in
         ⌜ (r .length ≡ length text)
         × (now (out .exit) ≡ sets (now (out .entry)) 0 text)
-        × (r .next ≡ cursorAfter w (now (s .entry)) (fitting (now (s .entry)) room lines) first)
+        × (r .next ≡ cursorAfter w (now (s .entry)) (linesFitting (now (s .entry)) room lines) first)
         × (256 ≤ room → r .length ≡ 0 → linesText (now (s .entry)) lines ≡ []) ⌝ }
 {
     let mut cursor = first;

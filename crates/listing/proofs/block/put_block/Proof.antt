@@ -1,17 +1,13 @@
+-- `listing::block::put_block` meets its contract.
+-- Assumes nothing.
 use Rattle.listing.proofs.Blocks.{Putting, begun, ended, filled, went-on}
 use Rattle.listing.proofs.Texts.{fewer-lines}
-use Rattle.listing.specs.Text.{lineOut}
 use Rattle.walk.specs.Lines.{writers, linesFrom}
 use lib.ListN.{length}
 use denote.Ref.{now}
-use native.Mathlib.Omega.{arith}
 use borrow.Author.Needs.{needs}
 use Rattle.listing.proofs.block.put_block.Statement.{statement}
 use Rattle.listing.proofs.block.put_block.Tie as tie
-use Rattle.listing.proofs.block.put_block.Reads as reads
-use Rattle.listing.proofs.block.put_block.Lts as lts
-use Rattle.listing.proofs.block.place_line.Reads as place-line-reads
-use Rattle.walk.proofs.lines.next_line.Reads as next-line-reads
 
 abbrev Inv-loop : tie.InvT-loop
 Inv-loop out₀ s ids sizes starts types cursor₀ at₀ out cursor at = Putting (writers ids sizes starts types) s out₀ cursor₀ out at cursor
@@ -19,49 +15,20 @@ Inv-loop out₀ s ids sizes starts types cursor₀ at₀ out cursor at = Putting
 abbrev μ-loop : tie.MeasureT-loop
 μ-loop out₀ s ids sizes starts types cursor₀ at₀ out cursor at = length (linesFrom (writers ids sizes starts types) s cursor)
 
--- src/block.rt:94:5
 loop-holds : tie.Need-loop-holds Inv-loop μ-loop
 loop-holds c =
     let args = c .before .before .before .before .before .before .args in
     begun (writers (now (args .ids)) (now (args .sizes)) (now (args .starts)) (now (args .types))) (now (args .s)) (now (args .out)) (args .first)
 
--- src/block.rt:95:15
-next-line-requires : tie.Need-next-line-requires Inv-loop μ-loop
-next-line-requires c κs = search needs
-
--- src/block.rt:97:17
-enum-told : tie.Need-enum-told Inv-loop μ-loop
-enum-told c = search needs
-
--- src/block.rt:97:17
-same-length : tie.Need-same-length Inv-loop μ-loop
-same-length c = search needs
-
--- src/block.rt:97:17
 returns : tie.Need-returns Inv-loop μ-loop
 returns c =
     let at-next-line = c .before .before in
     let at-loop = at-next-line .before in
     let args = at-loop .before .before .before .before .before .before .before .args in
-    let w = writers (now (args .ids)) (now (args .sizes)) (now (args .starts)) (now (args .types)) in ended w (now (args .s)) (now (args .out)) (args .first) (at-loop .loop .out) (at-loop .loop .at) (at-loop .loop .cursor) (at-loop .loop .inv) _ (at-next-line .next-line .ensures) (c .enum-told .given .1)
+    let w = writers (now (args .ids)) (now (args .sizes)) (now (args .starts)) (now (args .types)) in
+    ended w (now (args .s)) (now (args .out)) (args .first) (at-loop .loop .out) (at-loop .loop .at) (at-loop .loop .cursor)
+    (at-loop .loop .inv) _ (at-next-line .next-line .ensures) (c .enum-told .given .1)
 
--- src/block.rt:102:26
-enum-known-line : tie.Need-enum-known-line Inv-loop μ-loop
-enum-known-line c = search needs
-
--- src/block.rt:102:47
-place-line-requires : tie.Need-place-line-requires Inv-loop μ-loop
-place-line-requires c κs = search needs
-
--- src/block.rt:104:21
-enum-told-2 : tie.Need-enum-told-2 Inv-loop μ-loop
-enum-told-2 c = search needs
-
--- src/block.rt:104:21
-same-length-2 : tie.Need-same-length-2 Inv-loop μ-loop
-same-length-2 c = search needs
-
--- src/block.rt:104:21
 returns-2 : tie.Need-returns-2 Inv-loop μ-loop
 returns-2 c =
     let at-place-line = c .before .before .before .before in
@@ -69,22 +36,20 @@ returns-2 c =
     let at-next-line = at-line .before .before in
     let at-loop = at-next-line .before in
     let args = at-loop .before .before .before .before .before .before .before .args in
-    let w = writers (now (args .ids)) (now (args .sizes)) (now (args .starts)) (now (args .types)) in filled w (now (args .s)) (now (args .out)) (args .first) (at-loop .loop .out) (at-loop .loop .at) (at-loop .loop .cursor) (at-loop .loop .inv) _ (at-next-line .next-line .ensures) _ _ (at-line .line .given .1) _ (at-place-line .place-line .ensures .0) _ (at-place-line .place-line .ensures .1) (at-place-line .place-line .ensures .2) (c .enum-told2 .given .1)
+    let w = writers (now (args .ids)) (now (args .sizes)) (now (args .starts)) (now (args .types)) in
+    filled w (now (args .s)) (now (args .out)) (args .first) (at-loop .loop .out) (at-loop .loop .at) (at-loop .loop .cursor)
+    (at-loop .loop .inv) _ (at-next-line .next-line .ensures) _ _ (at-line .line .given .1) _ (at-place-line .place-line .ensures .0) _
+    (at-place-line .place-line .ensures .1) (at-place-line .place-line .ensures .2) (c .enum-told2 .given .1)
 
--- src/block.rt:109:32
-enum-known-end : tie.Need-enum-known-end Inv-loop μ-loop
-enum-known-end c = search needs
-
--- src/block.rt:94:5
 loop-less : tie.Need-loop-less Inv-loop μ-loop
 loop-less c =
     let at-line = c .before .before .before .before .before .before .before .before in
     let at-next-line = at-line .before .before in
     let at-loop = at-next-line .before in
     let args = at-loop .before .before .before .before .before .before .before .args in
-    let w = writers (now (args .ids)) (now (args .sizes)) (now (args .starts)) (now (args .types)) in fewer-lines w (now (args .s)) (at-loop .loop .cursor) _ (at-next-line .next-line .ensures) _ _ (at-line .line .given .1)
+    let w = writers (now (args .ids)) (now (args .sizes)) (now (args .starts)) (now (args .types)) in
+    fewer-lines w (now (args .s)) (at-loop .loop .cursor) _ (at-next-line .next-line .ensures) _ _ (at-line .line .given .1)
 
--- src/block.rt:94:5
 loop-again : tie.Need-loop-again Inv-loop μ-loop
 loop-again c =
     let at-end = c .before in
@@ -93,7 +58,10 @@ loop-again c =
     let at-next-line = at-line .before .before in
     let at-loop = at-next-line .before in
     let args = at-loop .before .before .before .before .before .before .before .args in
-    let w = writers (now (args .ids)) (now (args .sizes)) (now (args .starts)) (now (args .types)) in went-on w (now (args .s)) (now (args .out)) (args .first) (at-loop .loop .out) (at-loop .loop .at) (at-loop .loop .cursor) (at-loop .loop .inv) _ (at-next-line .next-line .ensures) _ _ (at-line .line .given .1) _ (at-place-line .place-line .ensures .0) _ (at-place-line .place-line .ensures .1) (at-place-line .place-line .ensures .2) _ (at-end .end .given .1)
+    let w = writers (now (args .ids)) (now (args .sizes)) (now (args .starts)) (now (args .types)) in
+    went-on w (now (args .s)) (now (args .out)) (args .first) (at-loop .loop .out) (at-loop .loop .at) (at-loop .loop .cursor)
+    (at-loop .loop .inv) _ (at-next-line .next-line .ensures) _ _ (at-line .line .given .1) _ (at-place-line .place-line .ensures .0) _
+    (at-place-line .place-line .ensures .1) (at-place-line .place-line .ensures .2) _ (at-end .end .given .1)
 
 pub put-block-spec : {M : Type 1} → statement M
 put-block-spec =
@@ -102,15 +70,15 @@ put-block-spec =
     Inv-loop
     μ-loop
     loop-holds
-    next-line-requires
-    enum-told
-    same-length
+    (λ c κs. search needs)
+    (λ c. search needs)
+    (λ c. search needs)
     returns
-    enum-known-line
-    place-line-requires
-    enum-told-2
-    same-length-2
+    (λ c. search needs)
+    (λ c κs. search needs)
+    (λ c. search needs)
+    (λ c. search needs)
     returns-2
-    enum-known-end
+    (λ c. search needs)
     loop-less
     loop-again)

@@ -1,6 +1,5 @@
 -- `listing::program::first_line` meets its contract.
 -- Assumes nothing.
-use mathlib.Core.Path.{sym, _∙_}
 use borrow.Author.Needs.{needs}
 use borrow.Author.Tests.{ne-eqb, eq-eqb}
 use Rattle.listing.proofs.program.first_line.Statement.{statement}
