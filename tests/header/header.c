@@ -102,6 +102,7 @@ static void walk_by_name(void)
 {
     uadp_walk_record w[3];
     const uint8_t two[] = {0x41, 2, 21, 0, 22, 0, 1, 0, 2, 0, 0, 0x01, 0x09};
+    const uint8_t cut[] = {0x41, 1, 21, 0, 0x05, 2, 0, 0x01, 0x03, 42, 0xC0};
 
     CHECK(done(uadp_walk(full, sizeof full, NULL, w, 3), 3));
     CHECK(w[0].what == UADP_WALKED_MESSAGE && w[0].message == 0 && w[0].writer == 0x5152 && w[0].kind == UADP_DELTA);
@@ -111,7 +112,11 @@ static void walk_by_name(void)
     CHECK(w[2].shape == UADP_ARRAY && w[2].elements == 2 && w[2].offset == MESSAGE_AT + 33 && w[2].length == 13);
     CHECK(done(uadp_walk(two, sizeof two, NULL, w, 1), 2) && w[0].what == UADP_WALKED_NOT_VALID);
     CHECK(done(uadp_walk(two, sizeof two, NULL, w, 2), 2) && w[1].what == UADP_WALKED_REFUSED && w[1].message == 1);
-    CHECK(w[1].writer == 22 && w[1].refusal == UADP_CUT_SHORT && w[1].refusal_place == 1 && w[1].sequence == 0);
+    CHECK(w[1].writer == 22 && w[1].refusal == UADP_CUT_SHORT && w[1].refusal_place == 1 && w[1].fields == 0);
+    CHECK(done(uadp_walk(cut, sizeof cut, NULL, w, 3), 2) && w[0].what == UADP_WALKED_REFUSED && w[0].refusal_place == 6);
+    CHECK(w[0].refusal == UADP_NOT_PERMITTED && w[0].fields == 1 && w[0].fields_encoding == UADP_DATA_VALUE);
+    CHECK(w[1].what == UADP_WALKED_FIELD && w[1].message == 0 && w[1].index == 0 && w[1].type == UADP_TYPE_DATA_VALUE);
+    CHECK(w[1].offset == 7 && w[1].length == 3 && w[1].fields_encoding == 0);
 }
 
 static void configuration_by_name(void)

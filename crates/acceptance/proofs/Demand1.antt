@@ -8,7 +8,7 @@ use native.Mathlib.Nat.{zero-add}
 use native.Mathlib.Omega.{arith}
 use borrow.Author.Tests.{lt-leb, leb-false, ltb-false}
 use lib.Dec.{eqb, leb, ltb}
-use lib.ListN.{length, drop}
+use lib.ListN.{length}
 use Rattle.wire.specs.Answer.{Answer, got, refused, andThen}
 use Rattle.wire.specs.declared.optional.Optional16.{Optional16}
 use Rattle.wire.proofs.Cases.{by-bool, by-lt}
@@ -30,8 +30,8 @@ use Rattle.dataset_fields.specs.declared.fields.Cursor.{Cursor}
 use Rattle.dataset_message.specs.Message.{Message, messageAt, ofMessage, nthAt, fieldPlaceAt}
 use Rattle.dataset_message.proofs.Agreement.{message-agrees}
 use Rattle.chunk.specs.Cutting.{cutRule, cutData, cutFault, chunkBytes, cutAnswer, cutBuffer}
-use Rattle.walk.specs.Lines.{Writers, answerLines}
-use Rattle.walk_records.specs.Walk.{walkOf, walkLines, recordsPut}
+use Rattle.walk.specs.Lines.{Writers}
+use Rattle.walk_records.specs.Walk.{walkOf, walkRecords, recordsOf, recordsPut}
 use Rattle.walk_records.specs.declared.Walked.{Walked}
 use Rattle.listing.specs.Text.{textWritten, textAfter}
 use Rattle.records.specs.Result.{Filling, resultOf, resultIn, filledIn}
@@ -216,11 +216,11 @@ toldBy bytes (Walked.Is k) = Unit {0}
 toldBy bytes (Walked.Refused n place) = Refusal datagramRefusals n place bytes
 
 walk-told : (w : Writers) (d out : List ℕ) (n place : ℕ) → walkOf w d ≡ Walked.Refused n place
-    → Refusal datagramRefusals n place (length d) × (recordsPut 0 (walkLines w d) out ≡ out)
+    → Refusal datagramRefusals n place (length d) × (recordsPut 0 (walkRecords w d) out ≡ out)
 walk-told w d out n place e = go (networkMessageAt (w .sizes) d) refl (datagram-tells (w .sizes) d)
   where
     go : (x : Answer NetworkMessage) → networkMessageAt (w .sizes) d ≡ x → Tells datagramOthers (length d) x
-        → Refusal datagramRefusals n place (length d) × (recordsPut 0 (walkLines w d) out ≡ out)
+        → Refusal datagramRefusals n place (length d) × (recordsPut 0 (walkRecords w d) out ≡ out)
     go (got m next) q t =
         absurd (walk-clash (rw q at e))
     go (refused m p) q (refuses r) =
@@ -265,11 +265,11 @@ cutting p number size k out h =
 listing-out : (out text : List ℕ) → IsRefused (writerResult (answerWritten (textWritten out text))) → textAfter out text ≡ out
 listing-out out text h = by-bool _ (ltb (length out) (length text)) (λ b. rw b) (λ b. absurd (h (rw b (done-number (length text)))))
 
-walking : (w : Writers) (d out : List ℕ) → IsRefused (walkResult (walkOf w d)) → recordsPut 0 (walkLines w d) out ≡ out
+walking : (w : Writers) (d out : List ℕ) → IsRefused (walkResult (walkOf w d)) → recordsPut 0 (walkRecords w d) out ≡ out
 walking w d out h = go (networkMessageAt (w .sizes) d) refl
   where
-    go : (x : Answer NetworkMessage) → networkMessageAt (w .sizes) d ≡ x → recordsPut 0 (walkLines w d) out ≡ out
-    go (got m next) q = absurd (h (rw q (done-number (length (drop 1 (answerLines w d (got m next)))))))
+    go : (x : Answer NetworkMessage) → networkMessageAt (w .sizes) d ≡ x → recordsPut 0 (walkRecords w d) out ≡ out
+    go (got m next) q = absurd (h (rw q (done-number (length (recordsOf w d (got m next))))))
     go (refused n place) q = rw q
 
 newness : (s : List ℕ) (received : ℕ) → IsRefused (newnessResult s received) → newnessAfter s received ≡ s

@@ -40,6 +40,7 @@ use Rattle.reassembly_laws.specs.Cutting.{Arrival, IsCut, Only, Among, AllArriv
 use Rattle.reassembly_laws.proofs.Cutting.{all-cuts-restore}
 use Rattle.walk.specs.Lines.{Writers}
 use Rattle.walk.proofs.Listing.{start-lists, step-lists}
+use Rattle.walk_records.proofs.Accepted.{walk-listed}
 use Rattle.uadp_c.proofs.AfterReading.{after-reading}
 use Rattle.acceptance.specs.Again.{CopiedTo}
 use Rattle.acceptance.specs.Chunks.{IsWritten}
@@ -143,6 +144,7 @@ demand-2 = record {
   fields-tile = λ types s m n e. fields-tile types s m n e;
   listing-starts = start-lists;
   listing-steps = step-lists;
+  walk-listed = walk-listed;
   datagram-reads-back = λ g x sizes configured entry exit n p. datagram.reads-back g x sizes configured entry exit n (p .0) (p .1);
   message-reads-back = message.written-reads;
   whole-reads-back = λ w g x entry exit n p. whole w g x entry exit n p;

@@ -27,7 +27,7 @@ use Rattle.rewriting.specs.Same.{messageSame, datagramSame}
 use Rattle.chunk.specs.Datagram.{chunkAt}
 use Rattle.chunk.specs.Cutting.{cutAnswer, cutBuffer}
 use Rattle.walk.specs.Lines.{Writers}
-use Rattle.walk_records.specs.Walk.{walkOf, walkLines, recordsPut}
+use Rattle.walk_records.specs.Walk.{walkOf, walkRecords, recordsPut}
 use Rattle.walk_records.specs.declared.Walked.{Walked}
 use Rattle.listing.specs.Text.{textWritten, textAfter}
 use Rattle.reassembly.specs.Record.{Partial}
@@ -97,7 +97,7 @@ pub record Demand1 : Type 0 where
   pub listing : (out text : List ℕ) (n : ℕ) → textWritten out text ≡ Written.Refused n → (n ≡ NO_ROOM) × (textAfter out text ≡ out)
   -- A walk: its refusal is the datagram's.
   pub walk : (w : Writers) (d out : List ℕ) (n place : ℕ) → walkOf w d ≡ Walked.Refused n place
-      → Refusal datagramRefusals n place (length d) × (recordsPut 0 (walkLines w d) out ≡ out)
+      → Refusal datagramRefusals n place (length d) × (recordsPut 0 (walkRecords w d) out ≡ out)
   -- The five calls of reassembly, for sound and unsound partials.
   pub call : (k : Call) (s : Partial) (n place : ℕ) → answers k s ≡ refusedBy n place
       → Refusal callRefusals n place (bytesRead k) × (leaves k s ≡ s)
@@ -115,7 +115,7 @@ pub record Demand1 : Type 0 where
   pub lent-cut : (p : List ℕ) (number size k : ℕ) (out : List ℕ) → IsRefused (cutResult (cutAnswer p number size k (length out)))
       → cutBuffer p number size k out ≡ out
   pub lent-listing : (out text : List ℕ) → IsRefused (writerResult (answerWritten (textWritten out text))) → textAfter out text ≡ out
-  pub lent-walk : (w : Writers) (d out : List ℕ) → IsRefused (walkResult (walkOf w d)) → recordsPut 0 (walkLines w d) out ≡ out
+  pub lent-walk : (w : Writers) (d out : List ℕ) → IsRefused (walkResult (walkOf w d)) → recordsPut 0 (walkRecords w d) out ≡ out
   pub lent-newness : (s : List ℕ) (received : ℕ) → IsRefused (newnessResult s received) → newnessAfter s received ≡ s
   -- uadp_empty, uadp_take_in, uadp_combine, uadp_complete, uadp_hand_out.
   pub lent-call : (k : LentCall) (b a : Lent) → Called k b a → IsRefused (a .result) → Unchanged b a

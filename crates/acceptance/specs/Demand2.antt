@@ -33,8 +33,9 @@ use Rattle.rewriting.specs.Same.{messageSame, datagramSame}
 use Rattle.reassembly.specs.Record.{Partial, Identity, roomOf, Good}
 use Rattle.reassembly_laws.specs.Cutting.{Arrival, AllArrive, Restored}
 use Rattle.uadp_c.specs.Writing.{fitting}
-use Rattle.walk.specs.Lines.{Writers, linesFrom, stepLines, nextLine, startCursor, listingOf}
+use Rattle.walk.specs.Lines.{Writers, linesFrom, stepLines, nextLine, startCursor, listingOf, datagramLines}
 use Rattle.walk.specs.declared.lines.LineCursor.{LineCursor}
+use Rattle.walk_records.specs.Walk.{walkRecords, lineRecords, NoneRefused}
 use Rattle.acceptance.specs.Tiles.{MessagesTile, FieldsTile}
 use Rattle.acceptance.specs.Again.{CopiedTo}
 use Rattle.acceptance.specs.Chunks.{IsWritten}
@@ -62,6 +63,9 @@ pub record Demand2 : Type 0 where
   pub listing-starts : (w : Writers) (d : List ℕ) (number place : ℕ)
       → linesFrom w d (startCursor number place (w .sizes) d) ≡ listingOf number place w d
   pub listing-steps : (w : Writers) (d : List ℕ) (c : LineCursor) → stepLines w d (nextLine w d c) ≡ linesFrom w d c
+  -- A walk in one call tells the same: where no message is refused, its records are those of the lines after the first.
+  pub walk-listed : (w : Writers) (d : List ℕ) → NoneRefused (datagramLines w d)
+      → walkRecords w d ≡ lineRecords (drop 1 (datagramLines w d))
   -- ---- WHAT THE WRITER WROTE READS BACK AS WHAT IT WAS GIVEN.
   -- A NetworkMessage, with and without PayloadHeader: envelope, PublisherId's text, promoted fields, writer ids, each message with its
   -- offset and bytes, a chunk's payload.

@@ -1,5 +1,4 @@
 pub mod Walks
-pub mod Ending
 pub mod Front
 pub mod Judging
 pub mod Laying

@@ -107,7 +107,7 @@ fn encoded(s: &[u8], encoding: Encoding, types: &[u8], k: usize, at: usize) -> M
 }
 
 // The index of field k: a delta's own, else k.
-fn index(s: &[u8], delta: bool, k: usize, at: usize) -> IndexRead
+pub(crate) fn index(s: &[u8], delta: bool, k: usize, at: usize) -> IndexRead
     ensures { λ r. ⌜ answerIndex r ≡ indexAt delta k (now (s .entry)) at ⌝ }
 {
     if !delta {

@@ -165,14 +165,6 @@ message-read types s m e q =
     let a = invert (messageHeaderAt s 0) (λ v at. _) q in
     header-read (a .0) types s (a .1) m e (a .3)
 
--- before the first field of an accepted message all are left
-pub all-left : (types s : List ℕ) (m : Message) (n : ℕ) → messageAt types s ≡ got (valid m) n
-    → fieldsAt (m .cursor .delta) (m .cursor .encoding) types (m .cursor .count - m .cursor .next) (m .cursor .next) s (m .cursor .at) ≡ got tt (m .end)
-all-left types s m n q =
-    let r = message-read types s m n q in
-    let z : m .cursor .count - m .cursor .next ≡ m .cursor .count = omega (arith, r .first) in
-    rw (z, r .first) (r .passed)
-
 -- The walk over an accepted message visits exactly its fields, in their order, and lookup gives the same places.
 pub message-agrees : (types s : List ℕ) (m : Message) (e : ℕ) → messageAt types s ≡ got (valid m) e → (k : ℕ) → k < m .cursor .count → Agrees (m .cursor) types s k
 message-agrees types s m e q k l =

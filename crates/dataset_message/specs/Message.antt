@@ -1,6 +1,6 @@
 -- A DataSetMessage whole (document 01, "The DataSetMessage"), and looking a field up ("Values").
 use Prim.Native.Nat.{ℕ}
-use mathlib.Core.Bool.{Bool, false, cond}
+use mathlib.Core.Bool.{Bool, true, false, cond}
 use mathlib.Core.List.{List, []}
 use lib.Dec.{leb, eqb}
 use lib.ListN.{length, take, drop}
@@ -39,19 +39,36 @@ endAt h c types s =
     andThen (fieldsAt (c .delta) (c .encoding) types (c .count) 0 s (c .at))
     (λ _ end. andThen (paddingAt s end) (λ _ z. got (valid (record { header = h; cursor = c; end = end })) end))
 
--- what follows the header
-abbrev pub bodyAt : Header → List ℕ → Reader (Valid Message)
-bodyAt h types s at =
-    andThen (countAt (h .kind) (isRaw (h .encoding)) types s at)
-    (λ n first. endAt h (record { encoding = h .encoding; delta = isDelta (h .kind); next = 0; count = n; at = first }) types s)
+-- the front of a message ends before its first field: nothing more is read, and `end` is where that field starts
+abbrev pub openedAt : Header → Cursor → List ℕ → List ℕ → Answer (Valid Message)
+openedAt h c types s = got (valid (record { header = h; cursor = c; end = c .at })) (c .at)
 
-abbrev pub afterHeader : Valid Header → List ℕ → Reader (Valid Message)
-afterHeader notValid types s at = got notValid 0
-afterHeader (valid h) types s at = bodyAt h types s at
+-- what follows the header: the count, and from the cursor before the first field on what `rest` reads
+abbrev pub bodyBy : (Header → Cursor → List ℕ → List ℕ → Answer (Valid Message)) → Header → List ℕ → Reader (Valid Message)
+bodyBy rest h types s at =
+    andThen (countAt (h .kind) (isRaw (h .encoding)) types s at)
+    (λ n first. rest h (record { encoding = h .encoding; delta = isDelta (h .kind); next = 0; count = n; at = first }) types s)
+
+abbrev pub afterHeaderBy : (Header → Cursor → List ℕ → List ℕ → Answer (Valid Message)) → Valid Header → List ℕ → Reader (Valid Message)
+afterHeaderBy rest notValid types s at = got notValid 0
+afterHeaderBy rest (valid h) types s at = bodyBy rest h types s at
+
+abbrev pub messageBy : (Header → Cursor → List ℕ → List ℕ → Answer (Valid Message)) → List ℕ → List ℕ → Answer (Valid Message)
+messageBy rest types s = andThen (messageHeaderAt s 0) (λ h at. afterHeaderBy rest h types s at)
 
 -- a message alone, with the configured field types of its writer; of one not valid nothing more is read
+abbrev pub bodyAt : Header → List ℕ → Reader (Valid Message)
+bodyAt = bodyBy endAt
+
+abbrev pub afterHeader : Valid Header → List ℕ → Reader (Valid Message)
+afterHeader = afterHeaderBy endAt
+
 abbrev pub messageAt : List ℕ → List ℕ → Answer (Valid Message)
-messageAt types s = andThen (messageHeaderAt s 0) (λ h at. afterHeader h types s at)
+messageAt = messageBy endAt
+
+-- its front alone
+abbrev pub frontAt : List ℕ → List ℕ → Answer (Valid Message)
+frontAt = messageBy openedAt
 
 -- field k from the cursor before the first: "k at or past the count .. is 10"
 abbrev pub nthAt : Cursor → List ℕ → ℕ → List ℕ → Answer Field
@@ -82,3 +99,8 @@ abbrev pub answerMessage : MessageRead → Answer (Valid Message)
 answerMessage MessageRead.NotValid = got notValid 0
 answerMessage (MessageRead.Is h c end) = got (valid (record { header = h; cursor = c; end = end })) end
 answerMessage (MessageRead.Refused n place) = refused n place
+
+-- the whole message, or its front alone
+abbrev pub wholeOrFront : Bool → Header → Cursor → List ℕ → List ℕ → Answer (Valid Message)
+wholeOrFront true = endAt
+wholeOrFront false = openedAt

@@ -18,7 +18,7 @@ use wire::constants::NOT_CONFIGURED;
 use wire::constants::OVER_LIMIT;
 ghost use mathlib.Core.Path.{_≡_};
 ghost use Rattle.dataset_fields.specs.Fields.{answerField};
-ghost use Rattle.dataset_message.specs.Message.{countedAt, countAt, endAt, bodyAt, messageAt, fieldPlaceAt, fieldBytes, nthAt};
+ghost use Rattle.dataset_message.specs.Message.{countedAt, countAt, bodyBy, messageBy, messageAt, frontAt, wholeOrFront, fieldPlaceAt, fieldBytes, nthAt};
 ghost use Rattle.dataset_message.specs.Message.{answerCount, answerMessage};
 
 // A message that is not valid, or its header, the cursor before its first field, and where its last field ends; what follows is
@@ -67,10 +67,13 @@ fn count(s: &[u8], kind: Kind, raw: bool, types: &[u8], at: usize) -> CountRead
     }
 }
 
-// The fields from the cursor on, and the padding after them.
-fn finish(s: &[u8], header: Header, cursor: Cursor, types: &[u8]) -> MessageRead
-    ensures { λ r. ⌜ answerMessage r ≡ endAt header cursor (now (types .entry)) (now (s .entry)) ⌝ }
+// The fields from the cursor on, and the padding after them; where only the front is wanted, nothing more.
+fn finish(s: &[u8], header: Header, cursor: Cursor, types: &[u8], whole: bool) -> MessageRead
+    ensures { λ r. ⌜ answerMessage r ≡ wholeOrFront whole header cursor (now (types .entry)) (now (s .entry)) ⌝ }
 {
+    if !whole {
+        return MessageRead::Is(header, cursor, cursor.at);
+    }
     match pass_fields(s, cursor, types) {
         Reached::Refused(n, place) => MessageRead::Refused(n, place),
         Reached::To(end) => match padding(s, end) {
@@ -80,8 +83,8 @@ fn finish(s: &[u8], header: Header, cursor: Cursor, types: &[u8]) -> MessageRead
     }
 }
 
-fn read_body(s: &[u8], header: Header, types: &[u8], at: usize) -> MessageRead
-    ensures { λ r. ⌜ answerMessage r ≡ bodyAt header (now (types .entry)) (now (s .entry)) at ⌝ }
+fn read_body(s: &[u8], header: Header, types: &[u8], at: usize, whole: bool) -> MessageRead
+    ensures { λ r. ⌜ answerMessage r ≡ bodyBy (wholeOrFront whole) header (now (types .entry)) (now (s .entry)) at ⌝ }
 {
     let kind = header.kind;
     let encoding = header.encoding;
@@ -95,8 +98,19 @@ fn read_body(s: &[u8], header: Header, types: &[u8], at: usize) -> MessageRead
                 count: n,
                 at: first,
             };
-            finish(s, header, cursor, types)
+            finish(s, header, cursor, types, whole)
         }
+    }
+}
+
+// A message, or its front alone. Both are read here, since the header's reader is put in line only where it has one caller.
+fn read_up_to(s: &[u8], types: &[u8], whole: bool) -> MessageRead
+    ensures { λ r. ⌜ answerMessage r ≡ messageBy (wholeOrFront whole) (now (types .entry)) (now (s .entry)) ⌝ }
+{
+    match read_header(s) {
+        HeaderRead::NotValid(_) => MessageRead::NotValid,
+        HeaderRead::Refused(n, place) => MessageRead::Refused(n, place),
+        HeaderRead::Is(header, at) => read_body(s, header, types, at, whole),
     }
 }
 
@@ -104,11 +118,14 @@ fn read_body(s: &[u8], header: Header, types: &[u8], at: usize) -> MessageRead
 pub fn read(s: &[u8], types: &[u8]) -> MessageRead
     ensures { λ r. ⌜ answerMessage r ≡ messageAt (now (types .entry)) (now (s .entry)) ⌝ }
 {
-    match read_header(s) {
-        HeaderRead::NotValid(_) => MessageRead::NotValid,
-        HeaderRead::Refused(n, place) => MessageRead::Refused(n, place),
-        HeaderRead::Is(header, at) => read_body(s, header, types, at),
-    }
+    read_up_to(&*s, &*types, true)
+}
+
+// The front of a message: its header and the cursor before its first field, which starts at the last number. No field is read yet.
+pub fn front(s: &[u8], types: &[u8]) -> MessageRead
+    ensures { λ r. ⌜ answerMessage r ≡ frontAt (now (types .entry)) (now (s .entry)) ⌝ }
+{
+    read_up_to(&*s, &*types, false)
 }
 
 // Field k from the cursor before the first field.

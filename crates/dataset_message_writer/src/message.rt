@@ -13,7 +13,7 @@ use dataset_header::flags::is_raw;
 use dataset_header::flags::kind_rule;
 use dataset_header::header::Header;
 use dataset_header::header::put_header;
-use plain_value::width::packed_width;
+use plain_value::width::width;
 use wire::Reached;
 use wire::constants::CUT_SHORT;
 use wire::constants::NOT_CONFIGURED;
@@ -81,7 +81,7 @@ fn missing(types: &[u8], n: usize, padding: usize) -> u8
     let mut left = padding;
     let mut k = n;
     while k < types.len() {
-        let w = packed_width(types[k]);
+        let w = width(types[k]);
         if w == 0 {
             return NOT_TAKEN;
         }

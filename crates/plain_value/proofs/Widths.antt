@@ -1,16 +1,16 @@
--- The rule of the widths, in an array and in one number: at all of its entries, and past them.
+-- The rule of the widths: at all entries of their array, and past them.
 -- Assumes nothing.
-use mathlib.Core.Path.{_≡_, refl, sym}
+use mathlib.Core.Path.{_≡_, refl, sym, _∙_, ap}
 use mathlib.Core.Bool.{Bool, true, false, _&&_, _||_, Bool·beq, and-false}
 use mathlib.Core.List.{List, [], _∷_}
-use Prim.Native.Nat.{ℕ, zero, suc, _*_, _/_, _%_, _^_, _<_, _≤_}
+use Prim.Native.Nat.{ℕ, zero, suc, _<_, _≤_}
 use native.Mathlib.Omega.{arith}
 use borrow.Author.Tests.{ne-eqb, lt-leb, leb-true, leb-false}
 use lib.ListN.{length, getD}
 use lib.Dec.{T, eqb, leb, ltb, eqb→eq, leb→le, ltb→lt}
 use Rattle.plain_value.specs.Width.{among, widthOf}
 use Rattle.plain_value.specs.Plain.{plain}
-use Rattle.wire.proofs.Table.{every, at, allBelow, below, and-left, and-right}
+use Rattle.wire.proofs.Table.{every, at, below, and-left, and-right}
 
 -- an entry x at the place k is the width of type k, and at most 16
 unfoldable pub right : ℕ → ℕ → Bool
@@ -22,17 +22,6 @@ right-at k x p = (eqb→eq x (widthOf k) (and-left (eqb x (widthOf k)) (leb x 16
 
 pub entry : (xs : List ℕ) → T (every right 0 xs) → (t : ℕ) → t < length xs → (getD xs t 0 ≡ widthOf t) × (getD xs t 0 ≤ 16)
 entry xs r t h = right-at t (getD xs t 0) (at right xs r t h)
-
--- the same of the widths in one number n, three bits each, as the code computes them
-abbrev packed : ℕ → ℕ → ℕ
-packed n t = 1 * 2 ^ (n / 2 ^ (3 * t) % 8) % 18446744073709551616 / 2
-
-unfoldable pub rightly : ℕ → ℕ → Bool
-rightly n t = right t (packed n t)
-
-pub packed-entry : (n : ℕ) → T (allBelow (rightly n) 20) → (t : ℕ) → t < 20 → (packed n t ≡ widthOf t) × (packed n t ≤ 16)
-unfolding rightly
-packed-entry n r t h = right-at t (packed n t) (below (rightly n) 20 r t h)
 
 -- every number of the list is below n
 abbrev lower : ℕ → List ℕ → Bool
@@ -51,6 +40,20 @@ unfolding widthOf
 past t h =
     let none : (xs : List ℕ) → T (lower 20 xs) → among t xs ≡ false = λ xs. not-among 20 t xs h in
     rw (none (1 ∷ 2 ∷ 3 ∷ []) tt, none (4 ∷ 5 ∷ []) tt, none (6 ∷ 7 ∷ 10 ∷ 19 ∷ []) tt, none (8 ∷ 9 ∷ 11 ∷ 13 ∷ []) tt, none (14 ∷ []) tt)
+
+-- the entry that is kept while all are passed
+pub kept : (xs : List ℕ) → T (every right 0 xs) → T (leb 26 (length xs)) → (t i w : ℕ) → i ≡ t → i < 26 → w ≡ getD xs i 0 → (w ≡ widthOf t) × (w ≤ 16)
+kept xs r n t i w e h q =
+    let x = entry xs r i (omega (arith, h, leb→le 26 (length xs) n)) in
+    (q ∙ x .0 ∙ ap widthOf e, omega (arith, q, x .1))
+
+-- and none past them
+pub kept-all : (t w : ℕ) → (t < 26 → w ≡ widthOf t) → (26 ≤ t → w ≡ 0) → w ≡ widthOf t
+kept-all t w inside outside = go (leb 26 t) refl
+  where
+    go : (b : Bool) → leb 26 t ≡ b → w ≡ widthOf t
+    go true e = outside (leb-true 26 t e) ∙ past t (omega (arith, leb-true 26 t e))
+    go false e = inside (leb-false 26 t e)
 
 -- the plain types are 1 to 15 and 19
 

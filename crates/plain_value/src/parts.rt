@@ -46,7 +46,7 @@ fn width_if(on: bool, w: usize) -> usize
 }
 
 // How many bytes a DataValue's parts after its Variant have together.
-fn parts_width(m: u8) -> usize
+pub fn parts_width(m: u8) -> usize
     ensures { λ r. ⌜ r ≡ partsWidth m ⌝ }
 {
     width_if((m >> 1) % 2 == 1, 4)

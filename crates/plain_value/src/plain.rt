@@ -1,5 +1,5 @@
 // Values that hold no other value: of fixed width, or with their length first.
-use crate::width::packed_width;
+use crate::width::width;
 use wire::ItemLength;
 use wire::Reached;
 use wire::constants::BAD_LENGTH;
@@ -66,7 +66,7 @@ pub fn is_plain(t: u8) -> bool
 pub fn plain_value(s: &[u8], at: usize, t: u8) -> Reached
     ensures { λ r. ⌜ answerReached r ≡ plainValue t (now (s .entry)) at ⌝ }
 {
-    let w = packed_width(t);
+    let w = width(t);
     if 0 < w {
         return bytes_at(s, at, w);
     }

@@ -33,27 +33,19 @@ const WIDTHS: [u8; 26] = [
     0,
 ];
 
-// The width of a fixed type, 0 for any other number.
+// The width of a fixed type, 0 for any other number. The entry is kept while all are passed, which is compiled to one look into a table;
+// an index would have the array laid out anew at each look.
 pub fn width(t: u8) -> usize
     ensures { λ r. ⌜ (r ≡ widthOf t) × (r ≤ 16) ⌝ }
 {
-    if 26 <= t {
-        return 0;
+    let widths = WIDTHS;
+    let mut w = 0;
+    let mut i = 0;
+    while i < 26 {
+        if i == t as usize {
+            w = widths[i];
+        }
+        i += 1;
     }
-    WIDTHS[t as usize] as usize
-}
-
-// The same widths in one number, three bits for each type from 0 to 19, the lowest for type 0: 1, 2, 3, 4, 5 for 1, 2, 4, 8, 16 bytes. It
-// serves measuring, where laying out the array at each look would take longer than the rest.
-const PACKED: u64 = 0x0600_1608_e46d_2248;
-
-// The width of a fixed type, 0 for any other number.
-pub fn packed_width(t: u8) -> usize
-    ensures { λ r. ⌜ (r ≡ widthOf t) × (r ≤ 16) ⌝ }
-{
-    if 20 <= t {
-        return 0;
-    }
-    let code = (PACKED >> (3 * t)) % 8;
-    (1usize << code) / 2
+    w as usize
 }

@@ -19,7 +19,7 @@ use Rattle.records.specs.Writers.{writersIn, sixteen, idsIn, sizesIn, startsIn,
 use Rattle.message_record.specs.Message.{headerIn}
 use Rattle.envelope_record.specs.Envelope.{envelopeIn}
 use Rattle.uadp_c.specs.Listings.{listingText, lengthResult, MOST_VALUE}
-use Rattle.walk_records.specs.Walk.{recordsPut, walkLines, walkOf}
+use Rattle.walk_records.specs.Walk.{recordsPut, walkRecords, walkOf}
 use Rattle.walk_records.specs.declared.Walked.{Walked}
 use Rattle.uadp_c.specs.Walks.{configured, walkResult}
 use Rattle.uadp_c.specs.Writing.{writerResult, outputResult, fitting}
@@ -95,10 +95,10 @@ listed c d ids sizes starts types out e w r i z s t a h =
 
 -- a walk, under the writers of a configuration record
 pub walks : (c d ids sizes starts types out e : List ℕ) (v : Walked) (r : ℕ) → ids ≡ idsIn c → sizes ≡ sizesIn c → starts ≡ startsIn c → types ≡ typesIn c
-    → (v ≡ walkOf (writers ids sizes starts types) d) × (e ≡ recordsPut 0 (walkLines (writers ids sizes starts types) d) out) → r ≡ walkResult v
-    → (r ≡ walkResult (walkOf (configured c) d)) × (e ≡ recordsPut 0 (walkLines (configured c) d) out)
+    → (v ≡ walkOf (writers ids sizes starts types) d) × (e ≡ recordsPut 0 (walkRecords (writers ids sizes starts types) d) out) → r ≡ walkResult v
+    → (r ≡ walkResult (walkOf (configured c) d)) × (e ≡ recordsPut 0 (walkRecords (configured c) d) out)
 walks c d ids sizes starts types out e v r i z s t a h =
     let w : writers ids sizes starts types ≡ configured c =
     ap (λ (x : List ℕ). writers x sizes starts types) i ∙ ap (λ (x : List ℕ). writers (idsIn c) x starts types) z
     ∙ ap (λ (x : List ℕ). writers (idsIn c) (sizesIn c) x types) s ∙ ap (λ (x : List ℕ). writers (idsIn c) (sizesIn c) (startsIn c) x) t in
-    (h ∙ ap walkResult (a .0) ∙ ap (λ (x : Writers). walkResult (walkOf x d)) w, a .1 ∙ ap (λ (x : Writers). recordsPut 0 (walkLines x d) out) w)
+    (h ∙ ap walkResult (a .0) ∙ ap (λ (x : Writers). walkResult (walkOf x d)) w, a .1 ∙ ap (λ (x : Writers). recordsPut 0 (walkRecords x d) out) w)

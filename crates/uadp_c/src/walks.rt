@@ -9,7 +9,7 @@ use records::writers::writer_count;
 use walk_records::Walked;
 use walk_records::walk;
 ghost use mathlib.Core.Path.{_≡_};
-ghost use Rattle.walk_records.specs.Walk.{recordsPut, walkLines, walkOf};
+ghost use Rattle.walk_records.specs.Walk.{recordsPut, walkRecords, walkOf};
 ghost use Rattle.uadp_c.specs.Walks.{configured, walkResult};
 
 fn walked_result(walked: Walked) -> u64
@@ -21,13 +21,13 @@ fn walked_result(walked: Walked) -> u64
     }
 }
 
-// Puts a record for each message of a datagram and each of its fields.
+// Puts a record for each message of a datagram and each of its fields, of a refused message of those before the fault.
 #[no_mangle]
 pub extern "C" fn uadp_walk(datagram: &[u8], config: &[u8], records: &mut [u8]) -> u64
     ensures { λ r.
         let w = configured (now (config .entry)) in
         ⌜ (r ≡ walkResult (walkOf w (now (datagram .entry))))
-        × (now (records .exit) ≡ recordsPut 0 (walkLines w (now (datagram .entry))) (now (records .entry))) ⌝ }
+        × (now (records .exit) ≡ recordsPut 0 (walkRecords w (now (datagram .entry))) (now (records .entry))) ⌝ }
 {
     let n = writer_count(config);
     let all_ids = ids(config);

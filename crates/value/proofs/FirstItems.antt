@@ -3,7 +3,7 @@
 use mathlib.Core.Path.{_≡_, refl, sym, ap, _∙_}
 use mathlib.Core.Bool.{Bool, true, false, cond, not, _&&_, _||_}
 use mathlib.Core.List.{List}
-use Prim.Native.Nat.{ℕ, _+_, _*_, _-_, _<_, _≤_}
+use Prim.Native.Nat.{ℕ, suc, _+_, _*_, _-_, _<_, _≤_}
 use native.Mathlib.Omega.{arith}
 use borrow.Author.Tests.{leb-true, leb-false, le-leb, ltb-true, lt-ltb, eqb-true, eqb-false}
 use lib.Dec.{T, eqb, leb, ltb, eqb→eq}
@@ -72,10 +72,10 @@ fixed-first b e = go (leb 20 b) refl
     go false h = tested b e (fine-below b (leb-false 20 b h))
 
 -- such a Variant that fits is measured by its width
-fixed-measured : (s : List ℕ) (at : ℕ) → 0 < widthOf (getD s at 0) → at + widthOf (getD s at 0) + 1 ≤ length s
-    → variantAt s at ≡ got (measure (getD s at 0) Shape.Scalar) (at + widthOf (getD s at 0) + 1)
+pub fixed-measured : (l : ℕ) (s : List ℕ) (at : ℕ) → 0 < widthOf (getD s at 0) → at + widthOf (getD s at 0) + 1 ≤ length s
+    → valueAt (suc l) 24 s at ≡ got (measure (getD s at 0) Shape.Scalar) (at + widthOf (getD s at 0) + 1)
 unfolding valueAt scalar plainValue
-fixed-measured s at f h =
+fixed-measured l s at f h =
     let b : ℕ = getD s at 0 in
     let w : ℕ = widthOf b in
     let fx : fixed b ≡ true = lt-ltb 0 w f in
@@ -86,17 +86,17 @@ fixed-measured s at f h =
     let end : at + 1 + w ≡ at + w + 1 = omega arith in
     rw (here, byte, first .0, first .1, first .3, first .2, first .4, fx, fits, end)
 
-pub fixed-variant : (s : List ℕ) (at : ℕ) {e : ℕ} → e ≡ fixedEnd s at → at < e → (at < length s) × (variantAt s at ≡ got (measure (getD s at 0) Shape.Scalar) e)
-fixed-variant s at {e} q l = go (leb (length s) at) refl (eqb (widthOf (getD s at 0)) 0) refl (leb (length s - at) (widthOf (getD s at 0))) refl
+pub fixed-variant : (l : ℕ) (s : List ℕ) (at : ℕ) {e : ℕ} → e ≡ fixedEnd s at → at < e → (at < length s) × (valueAt (suc l) 24 s at ≡ got (measure (getD s at 0) Shape.Scalar) e)
+fixed-variant l s at {e} q up = go (leb (length s) at) refl (eqb (widthOf (getD s at 0)) 0) refl (leb (length s - at) (widthOf (getD s at 0))) refl
   where
     w : ℕ
     w = widthOf (getD s at 0)
 
-    same : e ≡ at → (at < length s) × (variantAt s at ≡ got (measure (getD s at 0) Shape.Scalar) e)
+    same : e ≡ at → (at < length s) × (valueAt (suc l) 24 s at ≡ got (measure (getD s at 0) Shape.Scalar) e)
     same z = absurd (omega arith)
 
     go : (x : Bool) → leb (length s) at ≡ x → (y : Bool) → eqb w 0 ≡ y → (z : Bool) → leb (length s - at) w ≡ z
-        → (at < length s) × (variantAt s at ≡ got (measure (getD s at 0) Shape.Scalar) e)
+        → (at < length s) × (valueAt (suc l) 24 s at ≡ got (measure (getD s at 0) Shape.Scalar) e)
     go true ex y ey z ez = same (q ∙ rw ex)
     go false ex true ey z ez = same (q ∙ rw (ex, ey))
     go false ex false ey true ez = same (q ∙ rw (ex, ey, ez))
@@ -105,7 +105,7 @@ fixed-variant s at {e} q l = go (leb (length s) at) refl (eqb (widthOf (getD s a
         let some : w ≡ 0 → ⊥ = eqb-false w 0 ey in
         let fits : w < length s - at = leb-false (length s - at) w ez in
         let end : e ≡ at + w + 1 = q ∙ rw (ex, ey, ez) in
-        (inside, fixed-measured s at (positive w some) (omega arith) ∙ ap (got (measure (getD s at 0) Shape.Scalar)) (sym end))
+        (inside, fixed-measured l s at (positive w some) (omega arith) ∙ ap (got (measure (getD s at 0) Shape.Scalar)) (sym end))
 
 -- ---- any accepted Variant
 

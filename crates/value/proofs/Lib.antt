@@ -4,3 +4,4 @@ pub mod FirstByte
 pub mod Runs
 pub mod Lengths
 pub mod Values
+pub mod Looks

@@ -62,7 +62,7 @@ array-units t f p (got (Length.Of n) next) s at = rw (p, f) (sym (pass-found (by
 array-units t f p (got Length.Negative next) s at = refl
 array-units t f p (refused n place) s at = refl
 
-or-true : (a : Bool) → (a || true) ≡ true
+pub or-true : (a : Bool) → (a || true) ≡ true
 or-true true = refl
 or-true false = refl
 

@@ -1,16 +1,18 @@
 -- What the quick ways of measuring answer. No part of document 01: their laws (FirstByte, FirstItems, Runs) tie them to its definitions.
 use Prim.Native.Nat.{ℕ, _+_, _-_, _*_}
+use mathlib.Core.Path.{_≡_}
 use mathlib.Core.Bool.{cond, _||_}
 use mathlib.Core.List.{List}
 use lib.Dec.{eqb, leb, ltb}
 use lib.ListN.{length, getD}
 use Rattle.plain_value.specs.Width.{widthOf}
-use Rattle.wire.specs.Answer.{Reader, pure, Answer, got, refused, andThen, item}
-use Rattle.plain_value.specs.Plain.{bytes, byLength}
+use Rattle.wire.specs.Answer.{Reader, pure, Answer, got, refused, andThen, item, _>>_}
+use Rattle.plain_value.specs.Plain.{bytes, byLength, string}
 use Rattle.wire.specs.Constants.{BAD_LENGTH}
 use Rattle.wire.specs.declared.Length.{Length}
 use Rattle.value.specs.Value.{Measure, measure, typeOf, isArray}
 use Rattle.value.specs.declared.Shape.{Shape}
+use Rattle.value.specs.declared.quick.Plain.{Plain}
 use Rattle.wire.specs.Items.{lengthItem}
 
 -- the position after a Variant that is a scalar of a fixed type and fits; for any other the position itself
@@ -41,3 +43,17 @@ arrayAt end t s at = andThen (lengthItem s at) (λ l next. byShape end t at l)
 abbrev pub describedAt : ℕ → Reader Measure
 describedAt end s at =
     andThen (item 1 s at) (λ b next. cond (isArray b) (arrayAt end (typeOf b) s next) (got (measure (typeOf b) Shape.Scalar) end))
+
+-- What follows the first byte of a String or ByteString, whose type is t, and of an array of the fixed type t of w bytes, measured.
+abbrev pub textAt : ℕ → Reader Measure
+textAt t = string >> pure (measure t Shape.Scalar)
+
+abbrev pub runAt : ℕ → ℕ → Reader Measure
+runAt t w = byLength (pure (measure t Shape.NullArray)) (λ n. bytes (n * w) >> pure (measure t (Shape.Array n)))
+
+-- what one look says of what measuring answers; where it does not tell, nothing
+abbrev pub LookTells : Plain → Answer Measure → Type 0
+LookTells (Plain.Scalar t next) a = a ≡ got (measure t Shape.Scalar) next
+LookTells (Plain.NullArray t next) a = a ≡ got (measure t Shape.NullArray) next
+LookTells (Plain.Array t next n) a = a ≡ got (measure t (Shape.Array n)) next
+LookTells Plain.Not a = Unit {0}

@@ -3,7 +3,7 @@ use plain_value::plain::bytes_at;
 use plain_value::plain::is_plain;
 use plain_value::plain::plain_value;
 use plain_value::plain::strings_at;
-use plain_value::width::packed_width;
+use plain_value::width::width;
 use wire::Item8;
 use wire::ItemLength;
 use wire::Reached;
@@ -67,7 +67,7 @@ fn plain_values(s: &[u8], at: usize, t: u8, n: usize) -> Reached
     requires { ⌜ n < 2147483648 ⌝ }
     ensures { λ r. ⌜ answerReached r ≡ plainValues t n (now (s .entry)) at ⌝ }
 {
-    let w = packed_width(t);
+    let w = width(t);
     if 0 < w {
         return bytes_at(s, at, n * w);
     }

@@ -8,7 +8,7 @@ use crate::quick::plain_end;
 use head::Head;
 use head::head_at;
 use plain_value::parts::parts_at;
-use plain_value::width::packed_width;
+use plain_value::width::width;
 use wire::Reached;
 use wire::constants::CUT_SHORT;
 use wire::constants::DATA_VALUE;
@@ -139,7 +139,7 @@ pub fn measure_data_value(s: &[u8], at: usize) -> Measured
 pub fn pass_element(s: &[u8], at: usize, t: u8) -> Reached
     ensures { λ r. ⌜ answerReached r ≡ passing (rawAt t) (now (s .entry)) at ⌝ }
 {
-    let w = packed_width(t);
+    let w = width(t);
     if w == 0 {
         return Reached::Refused(NOT_TAKEN, at);
     }

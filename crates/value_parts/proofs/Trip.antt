@@ -132,7 +132,7 @@ module _ (s : List ℕ) (m t : ℕ) (small : t < 64) where
       let l1 : length s - m ≤ widthOf t → ⊥ = λ z. omega arith in
       let end : m + widthOf t + 1 ≡ fixedEnd s m =
       rw (sym (x .1), lt-leb (length s) m (x .0), ne-eqb (widthOf t) 0 (λ z. omega arith), lt-leb (length s - m) (widthOf t) (omega arith)) in
-      fixed-variant s m end (omega arith) .1 ∙ rw (sym (x .1))
+      fixed-variant 99 s m end (omega arith) .1 ∙ rw (sym (x .1))
 
 -- ---- the whole
 

@@ -1,7 +1,7 @@
 // A Variant put into a lent buffer from its type and its elements' bytes.
 use crate::told::is_text;
 use plain_value::plain::is_plain;
-use plain_value::width::packed_width;
+use plain_value::width::width;
 use wire::constants::DATA_VALUE;
 use wire::constants::DISAGREE;
 use wire::constants::MOST_DATAGRAM;
@@ -88,7 +88,7 @@ fn type_rule(t: u8, form: Form) -> u8
 fn scalar_form(t: u8, n: usize) -> u8
     ensures { λ r. ⌜ r ≡ formRule t Form.Scalar n ⌝ }
 {
-    let w = packed_width(t);
+    let w = width(t);
     if 0 < w {
         return six_unless(n == w);
     }
@@ -105,7 +105,7 @@ fn scalar_form(t: u8, n: usize) -> u8
 fn null_form(t: u8, n: usize) -> u8
     ensures { λ r. ⌜ r ≡ formRule t Form.Null n ⌝ }
 {
-    if 0 < packed_width(t) {
+    if 0 < width(t) {
         return DISAGREE;
     }
     if is_text(t) {
@@ -121,7 +121,7 @@ fn null_form(t: u8, n: usize) -> u8
 fn array_form(t: u8, n: usize) -> u8
     ensures { λ r. ⌜ r ≡ formRule t Form.Array n ⌝ }
 {
-    let w = packed_width(t);
+    let w = width(t);
     if 0 < w {
         return six_unless(n % w == 0);
     }
@@ -132,7 +132,7 @@ fn array_form(t: u8, n: usize) -> u8
 fn null_array_form(t: u8, n: usize) -> u8
     ensures { λ r. ⌜ r ≡ formRule t Form.NullArray n ⌝ }
 {
-    if 0 < packed_width(t) {
+    if 0 < width(t) {
         return six_unless(n == 0);
     }
     NOT_TAKEN
@@ -180,7 +180,7 @@ fn has_count(t: u8, form: Form) -> bool
 fn elements(t: u8, n: usize) -> usize
     ensures { λ r. ⌜ (r ≡ countGiven t Form.Array n) × (r ≤ n) ⌝ }
 {
-    let w = packed_width(t);
+    let w = width(t);
     if 0 < w {
         return n / w;
     }

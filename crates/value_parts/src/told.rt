@@ -1,6 +1,6 @@
 // A Variant, an element of RawData, a String or ByteString told apart.
 use plain_value::plain::strings_at;
-use plain_value::width::packed_width;
+use plain_value::width::width;
 use value::Measured;
 use value::Shape;
 use value::measure_variant;
@@ -64,7 +64,7 @@ fn scalar_parts(s: &[u8], at: usize, t: u8, end: usize) -> ValueParts
     requires { ⌜ variantAt (now s) at ≡ got (measure t Shape.Scalar) end ⌝ }
     ensures { λ r. ⌜ r ≡ partsFrom (now (s .entry)) (at + 1) (measure t Shape.Scalar) end ⌝ }
 {
-    let width = packed_width(t);
+    let width = width(t);
     let items = at + 1;
     if is_text(t) {
         return ValueParts {
@@ -95,7 +95,7 @@ fn null_array_parts(s: &[u8], at: usize, t: u8, end: usize) -> ValueParts
     ValueParts {
         kind: t,
         shape: Shape::NullArray,
-        width: packed_width(t),
+        width: width(t),
         null: true,
         first: items + 4,
         end,
@@ -111,7 +111,7 @@ fn array_parts(s: &[u8], at: usize, t: u8, end: usize, n: usize) -> ValueParts
     ValueParts {
         kind: t,
         shape: Shape::Array(n),
-        width: packed_width(t),
+        width: width(t),
         null: false,
         first: count_at + 4,
         end,
@@ -139,7 +139,7 @@ pub fn tell_raw(s: &[u8], at: usize, t: u8) -> Told
         Reached::To(end) => Told::Is(ValueParts {
             kind: t,
             shape: Shape::Scalar,
-            width: packed_width(t),
+            width: width(t),
             null: false,
             first: at,
             end,

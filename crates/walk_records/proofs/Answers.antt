@@ -4,6 +4,7 @@ use Prim.Native.Nat.{ℕ, _+_, _*_, _≤_}
 use mathlib.Core.Path.{_≡_, refl, ap, sym, _∙_}
 use mathlib.Core.Bool.{Bool, true, false, cond, _&&_}
 use mathlib.Core.List.{List}
+use native.Mathlib.Nat.{zero-add}
 use native.Mathlib.Omega.{arith}
 use borrow.Author.Tests.{leb-true, ltb-false}
 use lib.Dec.{leb, ltb, eqb}
@@ -19,9 +20,9 @@ use Rattle.network_header.specs.declared.header.PayloadHeader.{PayloadHeader}
 use Rattle.network_message.specs.declared.payload.Payload.{Payload}
 use Rattle.walk.specs.Lines.{Writers, listedOf, firstMessage, messagesLeft}
 use Rattle.walk_records.specs.declared.Walked.{Walked}
-use Rattle.walk_records.specs.Walk.{recordsPut, walkLines, walkOf}
-use Rattle.walk_records.specs.Parts.{bare, payloadLines}
-use Rattle.walk_records.proofs.Lines.{bare-same}
+use Rattle.walk_records.specs.Walk.{recordsPut, payloadRecords, walkRecords, walkOf}
+use Rattle.walk_records.specs.Parts.{bare, RecordsPut}
+use Rattle.walk_records.proofs.Messages.{bare-same}
 
 -- ---- how many messages there are
 module _ (s : List ℕ) (at : ℕ) (p : Payload) (n : ℕ) where
@@ -89,13 +90,12 @@ few-messages sizes s m n e = go (ltb 65535 (length s)) refl
 
 -- ---- the answers
 module _ (w : Writers) (d out : List ℕ) where
-  pub walk-refused : (n place : ℕ) → refused n place ≡ networkMessageAt (w .sizes) d → (Walked.Refused n place ≡ walkOf w d) × (out ≡ recordsPut 0 (walkLines w d) out)
+  pub walk-refused : (n place : ℕ) → refused n place ≡ networkMessageAt (w .sizes) d → (Walked.Refused n place ≡ walkOf w d) × (out ≡ recordsPut 0 (walkRecords w d) out)
   walk-refused n place q = rw (sym q) (refl, refl)
 
   pub walk-done : (m : NetworkMessage) (n k : ℕ) (e : List ℕ) → got m n ≡ networkMessageAt (w .sizes) d
-      → k ≡ length (payloadLines w d (bare (m .envelope .«payload_header») (m .places .«payload_header_end») (m .payload)))
-      → e ≡ recordsPut 0 (payloadLines w d (bare (m .envelope .«payload_header») (m .places .«payload_header_end») (m .payload))) out
-      → (Walked.Is k ≡ walkOf w d) × (e ≡ recordsPut 0 (walkLines w d) out)
-  walk-done m n k e q a b =
+      → RecordsPut (payloadRecords w d (bare (m .envelope .«payload_header») (m .places .«payload_header_end») (m .payload))) 0 k out e
+      → (Walked.Is k ≡ walkOf w d) × (e ≡ recordsPut 0 (walkRecords w d) out)
+  walk-done m n k e q r =
       let s = bare-same w d (messagesLeft (listedOf m) (firstMessage (listedOf m))) (listedOf m) (firstMessage (listedOf m)) in
-      rw (sym q) (ap Walked.Is (a ∙ ap length s), b ∙ ap (λ t. recordsPut 0 t out) s)
+      rw (sym q) (ap Walked.Is (r .number ∙ zero-add _ ∙ ap length s), r .buffer ∙ ap (λ t. recordsPut 0 t out) s)

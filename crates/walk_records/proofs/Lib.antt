@@ -1,4 +1,5 @@
 pub mod Records
-pub mod Lines
+pub mod Fields
+pub mod Messages
 pub mod Answers
-pub mod Raw
+pub mod Accepted

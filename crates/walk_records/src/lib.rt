@@ -1,13 +1,17 @@
-// A datagram walked in one call: a record of 8 numbers for each of its messages and fields.
+// A datagram walked in one call and one pass: a record of 10 numbers for each of its messages and fields, a field's as soon as its end is
+// known, a message's when it was read. The worth of the loops' shape: half of the time of reading each message first and its fields then.
 use config::types_of;
 use dataset_fields::fields::Cursor;
 use dataset_fields::fields::Field;
 use dataset_fields::fields::FieldRead;
-use dataset_fields::quick::field_in_line;
+use dataset_fields::fields::padding;
+use dataset_fields::quick::data_value_field;
+use dataset_fields::quick::raw_field;
+use dataset_fields::quick::variant_field;
 use dataset_header::flags::Encoding;
-use dataset_header::flags::is_raw;
+use dataset_header::header::Header;
 use dataset_message::message::MessageRead;
-use dataset_message::message::read;
+use dataset_message::message::front;
 use message_record::message::elements_number;
 use message_record::message::encoding_number;
 use message_record::message::kind_number;
@@ -19,33 +23,34 @@ use network_message::payload::MessagePlace;
 use network_message::payload::MessageStep;
 use network_message::payload::Payload;
 use network_message::writer_id::writer_id;
-use plain_value::width::packed_width;
 use records::numbers::put_numbers;
 use records::sizes::WALK_SIZE;
 use value::Shape;
+use wire::Reached;
 use wire::optional::Optional16;
 use wire::part::part;
 ghost use mathlib.Core.Path.{_≡_};
-ghost use mathlib.Core.Bool.{true, false};
-ghost use mathlib.Core.List.{[], _∷_};
+ghost use mathlib.Core.List.{[]};
 ghost use Prim.Native.Nat.{_+_, _*_, _≤_};
 ghost use lib.ListN.{length};
 ghost use Rattle.wire_writer.specs.Store.{laid};
-ghost use Rattle.wire.specs.Answer.{got};
-ghost use Rattle.dataset_header.specs.Flags.{isRaw};
-ghost use Rattle.dataset_fields.specs.Fields.{fieldAt, answerField};
-ghost use Rattle.dataset_fields.specs.declared.fields.Field.{Field};
+ghost use Rattle.dataset_header.specs.declared.flags.Encoding.{Encoding};
 ghost use Rattle.records.specs.Numbers.{numberBytes};
-ghost use Rattle.walk.specs.Lines.{writers, inDatagram};
-ghost use Rattle.walk.specs.declared.entry.Line.{Line};
-ghost use Rattle.walk_records.specs.Walk.{orNone, recordLaid, recordsPut, walkLines, walkOf};
-ghost use Rattle.walk_records.specs.Parts.{setFrom, bare, payloadLines, Accepted, Word, FieldsPut};
 ghost use Rattle.records.specs.Sizes.{WALK_SIZE};
+ghost use Rattle.walk.specs.Lines.{writers, inDatagram};
+ghost use Rattle.walk_records.specs.Walk.{orNone, fieldRecord, messageRecord, setPlace, recordLaid, recordsPut, payloadRecords, walkRecords, walkOf};
+ghost use Rattle.walk_records.specs.Parts.{setFrom, openedRecords, bare, Word, FieldsPut, RestPut, RecordsPut};
 
 // How many records there are in all, or the datagram's refusal.
 pub enum Walked {
     Is(usize),
     Refused(u8, usize),
+}
+
+// How a message's fields went: the number of the record after theirs, and where they end or the refusal of the first that is refused.
+pub enum FieldsWalked {
+    To(usize, usize),
+    Refused(usize, u8, usize),
 }
 
 // A number of 2 bytes, 65536 for none.
@@ -74,9 +79,9 @@ fn put_record(out: &mut [u8], k: usize, numbers: &[u64])
 // Puts record k, of a field of the message in a place.
 fn put_field(out: &mut [u8], k: usize, p: MessagePlace, f: Field)
     requires { ⌜ Word (p .offset + f .offset) ⌝ }
-    ensures { λ _. ⌜ now (out .exit) ≡ recordLaid k (Line.Field (p .index) (inDatagram p f)) (now (out .entry)) ⌝ }
+    ensures { λ _. ⌜ now (out .exit) ≡ recordLaid k (fieldRecord (p .index) (inDatagram p f)) (now (out .entry)) ⌝ }
 {
-    let shape = f.shape;
+    let shape: Shape = f.shape;
     let numbers = [
         0,
         p.index as u64,
@@ -92,7 +97,7 @@ fn put_field(out: &mut [u8], k: usize, p: MessagePlace, f: Field)
     put_record(out, k, &numbers);
 }
 
-// Puts record k, of the message in a place: what it is, and three numbers that depend on it.
+// Puts record k, of the message in a place: what it is, three numbers that depend on it, and one that only a refused message has.
 fn put_message(
     out: &mut [u8],
     k: usize,
@@ -102,10 +107,9 @@ fn put_message(
     a: u64,
     b: u64,
     c: u64,
+    e: u64,
 )
-    ensures { λ _.
-        let numbers = what ∷ p .index ∷ orNone writer ∷ a ∷ b ∷ c ∷ p .offset ∷ p .length ∷ 0 ∷ 0 ∷ [] in
-        ⌜ now (out .exit) ≡ laid (now (out .entry)) (WALK_SIZE * k) (numberBytes numbers) ⌝ }
+    ensures { λ _. ⌜ now (out .exit) ≡ recordLaid k (messageRecord (setPlace [] [] p writer) what a b c e) (now (out .entry)) ⌝ }
 {
     let numbers = [
         what,
@@ -116,91 +120,31 @@ fn put_message(
         c,
         p.offset as u64,
         p.length as u64,
-        0,
+        e,
         0,
     ];
     put_record(out, k, &numbers);
 }
 
-// Field k of a message, which starts at a position. Of the last field it is known that it is accepted and ends at `end`.
-fn field_at(
-    s: &[u8],
-    encoding: Encoding,
-    delta: bool,
-    types: &[u8],
-    k: usize,
-    at: usize,
-    last: bool,
-    end: usize,
-) -> FieldRead
-    requires { ⌜ (last ≡ true → (f : Field) × (fieldAt delta encoding (now types) k (now s) at ≡ got f end)) ⌝ }
-    ensures { λ r. ⌜ answerField r ≡ fieldAt delta encoding (now (types .entry)) k (now (s .entry)) at ⌝ }
-{
-    field_in_line(s, encoding, delta, types, k, at, last, end)
-}
-
-// Puts the records of the fields of RawData from the cursor on, which are accepted and end at `end`, the first as record `first`: each
-// has its type's width, and nothing is tested again. Answers the number of the record after them. `message` and `end` stand in the
-// contract only.
-fn walk_raw(
+// Puts the records of a message's fields from the cursor on, the first as record `first`: Variants.
+fn walk_variants(
     out: &mut [u8],
     first: usize,
     message: &[u8],
     types: &[u8],
     p: MessagePlace,
     c: Cursor,
-    end: usize,
-) -> usize
-    requires { ⌜ Word (first + length (now message)) × Word (p .offset + length (now message))
-        × Accepted (now types) (now message) c end × (c .delta ≡ false) × (isRaw (c .encoding) ≡ true) ⌝ }
+) -> FieldsWalked
+    requires { ⌜ Word (first + length (now message)) × Word (p .offset + length (now message)) × (c .encoding ≡ Encoding.Variant) ⌝ }
     ensures { λ r. ⌜ FieldsPut (now (types .entry)) (now (message .entry)) p c first r (now (out .entry)) (now (out .exit)) ⌝ }
 {
     let mut at = c.at;
     let mut i = c.next;
     let mut k = first;
     while i < c.count {
-        let kind = types[i];
-        let length = packed_width(kind);
-        let shape = Shape::Scalar;
-        let field = Field {
-            length,
-            index: i,
-            kind,
-            shape,
-            offset: at,
-        };
-        put_field(out, k, p, field);
-        at += length;
-        i += 1;
-        k += 1;
-    }
-    k
-}
-
-// Puts the records of a message's fields from the cursor on, which end at `end`, the first as record `first`; answers the number of the
-// record after them.
-fn walk_each(
-    out: &mut [u8],
-    first: usize,
-    message: &[u8],
-    types: &[u8],
-    p: MessagePlace,
-    c: Cursor,
-    end: usize,
-) -> usize
-    requires { ⌜ Word (first + length (now message)) × Word (p .offset + length (now message))
-        × Accepted (now types) (now message) c end ⌝ }
-    ensures { λ r. ⌜ FieldsPut (now (types .entry)) (now (message .entry)) p c first r (now (out .entry)) (now (out .exit)) ⌝ }
-{
-    let encoding = c.encoding;
-    let mut at = c.at;
-    let mut i = c.next;
-    let mut k = first;
-    while i < c.count {
-        let last = i + 1 == c.count;
-        match field_at(message, encoding, c.delta, types, i, at, last, end) {
-            FieldRead::Refused(_, _) => {
-                return k;
+        match variant_field(message, c.delta, i, at) {
+            FieldRead::Refused(n, place) => {
+                return FieldsWalked::Refused(k, n, place);
             }
             FieldRead::Is(f, next) => {
                 put_field(out, k, p, f);
@@ -210,10 +154,72 @@ fn walk_each(
         i += 1;
         k += 1;
     }
-    k
+    FieldsWalked::To(k, at)
 }
 
-// Puts the records of a message's fields from the cursor on: of RawData by their types alone, of others by reading each again.
+// Puts the records of a message's fields from the cursor on, the first as record `first`: RawData.
+fn walk_raw(
+    out: &mut [u8],
+    first: usize,
+    message: &[u8],
+    types: &[u8],
+    p: MessagePlace,
+    c: Cursor,
+) -> FieldsWalked
+    requires { ⌜ Word (first + length (now message)) × Word (p .offset + length (now message)) × (c .encoding ≡ Encoding.RawData) ⌝ }
+    ensures { λ r. ⌜ FieldsPut (now (types .entry)) (now (message .entry)) p c first r (now (out .entry)) (now (out .exit)) ⌝ }
+{
+    let mut at = c.at;
+    let mut i = c.next;
+    let mut k = first;
+    while i < c.count {
+        match raw_field(message, c.delta, types, i, at) {
+            FieldRead::Refused(n, place) => {
+                return FieldsWalked::Refused(k, n, place);
+            }
+            FieldRead::Is(f, next) => {
+                put_field(out, k, p, f);
+                at = next;
+            }
+        }
+        i += 1;
+        k += 1;
+    }
+    FieldsWalked::To(k, at)
+}
+
+// Puts the records of a message's fields from the cursor on, the first as record `first`: DataValues.
+fn walk_data_values(
+    out: &mut [u8],
+    first: usize,
+    message: &[u8],
+    types: &[u8],
+    p: MessagePlace,
+    c: Cursor,
+) -> FieldsWalked
+    requires { ⌜ Word (first + length (now message)) × Word (p .offset + length (now message)) × (c .encoding ≡ Encoding.DataValue) ⌝ }
+    ensures { λ r. ⌜ FieldsPut (now (types .entry)) (now (message .entry)) p c first r (now (out .entry)) (now (out .exit)) ⌝ }
+{
+    let mut at = c.at;
+    let mut i = c.next;
+    let mut k = first;
+    while i < c.count {
+        match data_value_field(message, c.delta, i, at) {
+            FieldRead::Refused(n, place) => {
+                return FieldsWalked::Refused(k, n, place);
+            }
+            FieldRead::Is(f, next) => {
+                put_field(out, k, p, f);
+                at = next;
+            }
+        }
+        i += 1;
+        k += 1;
+    }
+    FieldsWalked::To(k, at)
+}
+
+// Puts the records of a message's fields from the cursor on, each encoding in a loop of its own.
 fn walk_fields(
     out: &mut [u8],
     first: usize,
@@ -221,17 +227,81 @@ fn walk_fields(
     types: &[u8],
     p: MessagePlace,
     c: Cursor,
-    end: usize,
-) -> usize
-    requires { ⌜ Word (first + length (now message)) × Word (p .offset + length (now message))
-        × Accepted (now types) (now message) c end ⌝ }
+) -> FieldsWalked
+    requires { ⌜ Word (first + length (now message)) × Word (p .offset + length (now message)) ⌝ }
     ensures { λ r. ⌜ FieldsPut (now (types .entry)) (now (message .entry)) p c first r (now (out .entry)) (now (out .exit)) ⌝ }
 {
     let encoding = c.encoding;
-    if !c.delta & is_raw(encoding) {
-        return walk_raw(out, first, message, types, p, c, end);
+    match encoding {
+        Encoding::Variant => walk_variants(out, first, message, types, p, c),
+        Encoding::RawData => walk_raw(out, first, message, types, p, c),
+        Encoding::DataValue => walk_data_values(out, first, message, types, p, c),
     }
-    walk_each(out, first, message, types, p, c, end)
+}
+
+// The fields of a message and the padding after them: the number of the record after the fields', and whether the message is refused.
+fn walk_rest(
+    out: &mut [u8],
+    first: usize,
+    message: &[u8],
+    types: &[u8],
+    p: MessagePlace,
+    c: Cursor,
+) -> FieldsWalked
+    requires { ⌜ Word (first + length (now message)) × Word (p .offset + length (now message)) ⌝ }
+    ensures { λ r. ⌜ RestPut (now (types .entry)) (now (message .entry)) p c first r (now (out .entry)) (now (out .exit)) ⌝ }
+{
+    match walk_fields(out, first, message, types, p, c) {
+        FieldsWalked::Refused(next, n, place) => FieldsWalked::Refused(next, n, place),
+        FieldsWalked::To(next, end) => match padding(message, end) {
+            Reached::Refused(n, place) => FieldsWalked::Refused(next, n, place),
+            Reached::To(_) => FieldsWalked::To(next, end),
+        },
+    }
+}
+
+// Puts the records of the message in a place that was read up to the cursor before its first field, its own, record k, last; answers the
+// number of the record after them.
+fn walk_opened(
+    out: &mut [u8],
+    k: usize,
+    message: &[u8],
+    types: &[u8],
+    writer: Optional16,
+    p: MessagePlace,
+    h: Header,
+    c: Cursor,
+) -> usize
+    requires { ⌜ Word (k + 1 + length (now message)) × Word (p .offset + length (now message)) × (c .next ≡ 0) ⌝ }
+    ensures { λ r.
+        let entries = openedRecords (now (types .entry)) (now (message .entry)) p writer h c in
+        ⌜ RecordsPut entries k r (now (out .entry)) (now (out .exit)) ⌝ }
+{
+    let encoding = h.encoding;
+    let b = encoding_number(encoding);
+    match walk_rest(out, k + 1, message, types, p, c) {
+        FieldsWalked::Refused(next, n, place) => {
+            let told = next - (k + 1);
+            put_message(out, k, p, writer, 3, n as u64, place as u64, told as u64, b);
+            next
+        }
+        FieldsWalked::To(next, _) => {
+            let kind = h.kind;
+            let sequence = h.sequence;
+            put_message(
+                out,
+                k,
+                p,
+                writer,
+                1,
+                kind_number(kind),
+                b,
+                or_none(sequence),
+                0,
+            );
+            next
+        }
+    }
 }
 
 // Puts the records of the message in a place, the first of them record k; answers the number of the record after them.
@@ -244,29 +314,19 @@ fn walk_message(
     p: MessagePlace,
 ) -> usize
     requires { ⌜ Word (k + 1 + length (now s)) ⌝ }
-    ensures { λ r.
-        let entries = setFrom (now (types .entry)) p writer (now (s .entry)) in
-        ⌜ (r ≡ k + length entries) × (now (out .exit) ≡ recordsPut k entries (now (out .entry))) ⌝ }
+    ensures { λ r. ⌜ RecordsPut (setFrom (now (types .entry)) p writer (now (s .entry))) k r (now (out .entry)) (now (out .exit)) ⌝ }
 {
     let message = part(s, p.offset, p.length);
-    match read(&*message, &*types) {
+    match front(message, types) {
         MessageRead::NotValid => {
-            put_message(out, k, p, writer, 2, 0, 0, 0);
+            put_message(out, k, p, writer, 2, 0, 0, 0, 0);
             k + 1
         }
         MessageRead::Refused(n, place) => {
-            put_message(out, k, p, writer, 3, n as u64, place as u64, 0);
+            put_message(out, k, p, writer, 3, n as u64, place as u64, 0, 0);
             k + 1
         }
-        MessageRead::Is(h, c, end) => {
-            let kind = h.kind;
-            let encoding = h.encoding;
-            let sequence = h.sequence;
-            let a = kind_number(kind);
-            let b = encoding_number(encoding);
-            put_message(out, k, p, writer, 1, a, b, or_none(sequence));
-            walk_fields(out, k + 1, message, types, p, c, end)
-        }
+        MessageRead::Is(h, c, _) => walk_opened(out, k, message, types, writer, p, h, c),
     }
 }
 
@@ -285,8 +345,7 @@ fn walk_messages<'a>(
     requires { ⌜ (length (now s) ≤ 65535) × (payload .count ≤ 65551) ⌝ }
     ensures { λ r.
         let w = writers (now (ids .entry)) (now (sizes .entry)) (now (starts .entry)) (now (types .entry)) in
-        let entries = payloadLines w (now (s .entry)) (bare header end payload) in
-        ⌜ (r ≡ length entries) × (now (out .exit) ≡ recordsPut 0 entries (now (out .entry))) ⌝ }
+        ⌜ RecordsPut (payloadRecords w (now (s .entry)) (bare header end payload)) 0 r (now (out .entry)) (now (out .exit)) ⌝ }
 {
     let mut c = MessageCursor {
         index: 0,
@@ -308,7 +367,8 @@ fn walk_messages<'a>(
     }
 }
 
-// Puts a record for each message of a datagram and each of its fields, under the ids, sizes, starts and types of the configured writers.
+// Puts a record for each message of a datagram and each of its fields, of a refused message of those before the fault, under the ids,
+// sizes, starts and types of the configured writers.
 pub fn walk<'a>(
     out: &mut [u8],
     s: &[u8],
@@ -319,7 +379,7 @@ pub fn walk<'a>(
 ) -> Walked
     ensures { λ r.
         let w = writers (now (ids .entry)) (now (sizes .entry)) (now (starts .entry)) (now (types .entry)) in
-        ⌜ (r ≡ walkOf w (now (s .entry))) × (now (out .exit) ≡ recordsPut 0 (walkLines w (now (s .entry))) (now (out .entry))) ⌝ }
+        ⌜ (r ≡ walkOf w (now (s .entry))) × (now (out .exit) ≡ recordsPut 0 (walkRecords w (now (s .entry))) (now (out .entry))) ⌝ }
 {
     match network_message::envelope::read(&*s, &*sizes) {
         NetworkMessageRead::Refused(n, place) => Walked::Refused(n, place),

@@ -8,6 +8,7 @@ use lib.Dec.{leb}
 use lib.ListN.{length}
 use mathlib.Core.List.{List}
 use borrow.Author.Tests.{leb-true, le-leb, not-true, not-false}
+use Rattle.wire.specs.Items.{lengthOf, lengthItem}
 use Rattle.wire.specs.Answer.{Answer, got, refused, andThen, item, signedItem}
 use Rattle.wire.specs.Number.{signed}
 
@@ -50,6 +51,14 @@ not-got e = let z : _≡_ {A = ℕ} 0 1 = cc in omega arith
 pub invert : {A B : Type 0} (a : Answer A) (k : A → ℕ → Answer B) {y : B} {z : ℕ} → andThen a k ≡ got y z → (x : A) × (n : ℕ) × (a ≡ got x n) × (k x n ≡ got y z)
 invert (got x n) k h = (x, n, refl, h)
 invert (refused n p) k h = absurd (not-got h)
+
+-- a length is the signed item, and what it says
+pub length-is : (s : List ℕ) (at : ℕ) → lengthItem s at ≡ andThen (signedItem 4 s at) (λ v next. got (lengthOf v) next)
+length-is s at = go (leb (at + 4) (length s)) refl
+  where
+    go : (b : Bool) → leb (at + 4) (length s) ≡ b → lengthItem s at ≡ andThen (signedItem 4 s at) (λ v next. got (lengthOf v) next)
+    go true e = rw e
+    go false e = rw e
 
 -- a signed item is the item with the signed number that it stands for
 pub signed-is : (w : ℕ) (s : List ℕ) (at : ℕ) → signedItem w s at ≡ andThen (item w s at) (λ v next. got (signed w v) next)

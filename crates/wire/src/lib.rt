@@ -262,11 +262,10 @@ pub fn length_of(n: i32) -> Length
 pub fn read_length(s: &[u8], at: usize) -> ItemLength
     ensures { λ r. ⌜ answerLength at r ≡ lengthItem (now (s .entry)) at ⌝ }
 {
-    if !has(s.len(), at, 4) {
+    let ItemI32::Is(n, next) = read_i32(s, at) else {
         return ItemLength::Short;
-    }
-    let next = at + 4;
-    match length_of(signed32(number4(s, at) as u32)) {
+    };
+    match length_of(n) {
         Length::Null => ItemLength::Null(next),
         Length::Of(n) => ItemLength::Of(next, n),
         Length::Negative => ItemLength::Negative(next),

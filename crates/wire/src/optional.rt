@@ -1,14 +1,13 @@
 // Items that a flag announces: absent where the flag is off.
 use crate::Item16;
 use crate::Item32;
-use crate::Item64;
+use crate::ItemI64;
 use crate::constants::CUT_SHORT;
 use crate::constants::NOT_PERMITTED;
 use crate::constants::PICOSECONDS_END;
+use crate::read_i64;
 use crate::read16;
 use crate::read32;
-use crate::read64;
-use crate::signed64;
 ghost use mathlib.Core.Path.{_≡_};
 ghost use Rattle.wire.specs.Optional.{optional16, optional32, optionalI64, picosecondsRule, picosecondsAt};
 ghost use Rattle.wire.specs.Optional.{answerOptional16, answerOptional32, answerOptionalI64};
@@ -83,10 +82,10 @@ pub fn read_optional_i64(s: &[u8], on: bool, at: usize) -> OptionalI64Read
     if !on {
         return OptionalI64Read::Is(OptionalI64::Absent, at);
     }
-    let Item64::Is(v, next) = read64(s, at) else {
+    let ItemI64::Is(v, next) = read_i64(s, at) else {
         return OptionalI64Read::Refused(CUT_SHORT, at);
     };
-    OptionalI64Read::Is(OptionalI64::Is(signed64(v)), next)
+    OptionalI64Read::Is(OptionalI64::Is(v), next)
 }
 
 // The number of the rule that picoseconds break, or 0.

@@ -238,25 +238,29 @@ pub fn walk_into(records: &mut Vec<Walked>, datagram: &[u8], config: &Config, en
     for place in envelope.messages(datagram, config) {
         let bytes = &datagram[place.offset..][..place.length];
         let types = config.types_of(place.writer);
-        let read = message::read(bytes, types);
-        records.push(walk_message(&place, &read));
-        if let Ok(Some(message)) = read {
-            records.extend(message.walk(bytes, types).map(|found| walk_field(&place, &found)));
-        }
+        let front = message::front(bytes, types).ok().flatten();
+        let fields: Vec<Walked> =
+            front.iter().flat_map(|front| front.walk(bytes, types)).map(|found| walk_field(&place, &found)).collect();
+        records.push(walk_message(&place, &message::read(bytes, types), front.as_ref(), fields.len()));
+        records.extend(fields);
     }
 }
 
-fn walk_message(found: &MessagePlace, read: &Result<Option<Message>>) -> Walked {
+/// A message's record; of a refused one it says how many fields follow, and their encoding.
+fn walk_message(found: &MessagePlace, read: &Result<Option<Message>>, front: Option<&Message>, fields: usize) -> Walked {
     let or_none = |number: Option<u16>| u64::from(number.map_or(NO_WRITER, u32::from));
     let [number, offset, length, writer] = place(found);
-    let (what, [a, b, c]) = match read {
+    let (what, [a, b, c, e]) = match read {
         Ok(Some(Message { header, .. })) => {
-            (1, [kind_number(header.kind), encoding_number(header.encoding), or_none(header.sequence)])
+            (1, [kind_number(header.kind), encoding_number(header.encoding), or_none(header.sequence), 0])
         }
-        Ok(None) => (2, [0; 3]),
-        Err(refusal) => (3, [refusal.number as u64, refusal.place as u64, 0]),
+        Ok(None) => (2, [0; 4]),
+        Err(refusal) => {
+            let encoding = front.map_or(0, |front| encoding_number(front.header.encoding));
+            (3, [refusal.number as u64, refusal.place as u64, fields as u64, encoding])
+        }
     };
-    [what, number, writer, a, b, c, offset, length, 0, 0]
+    [what, number, writer, a, b, c, offset, length, e, 0]
 }
 
 fn walk_field(message: &MessagePlace, found: &Field) -> Walked {

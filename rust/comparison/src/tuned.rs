@@ -9,31 +9,32 @@ use crate::reference::value::{self, Shape, Value, BYTE_STRING, DATA_VALUE, LEVEL
 use crate::reference::wire::Reader;
 use crate::reference::{chunk, Number, Refusal, Result};
 
-/// What is told of a message on the way.
+/// What is told of a message on the way: its header when its count is known, then its fields.
 trait Told {
     fn head(&mut self, header: &Header);
     fn field(&mut self, field: Field);
 }
 
-/// Reads a message in one pass; whether it is valid. Fields are told until the fault of a refused one.
+/// Reads a message in one pass; whether it is valid. Fields are told up to the fault of a refused one.
 fn read(told: &mut impl Told, message: &[u8], types: &[u8]) -> Result<bool> {
     let mut reader = Reader::new(message);
     let Some(header) = message::header(&mut reader)? else {
         return Ok(false);
     };
-    told.head(&header);
     let is_bare = header.kind == Kind::KeepAlive || (header.kind == Kind::Key && reader.rest().is_empty());
+    let count = match header.encoding {
+        _ if is_bare => 0,
+        Encoding::RawData if types.is_empty() => return Err(Number::NotConfigured.nowhere()),
+        Encoding::RawData => types.len(),
+        _ => usize::from(reader.u16()?),
+    };
+    told.head(&header);
+    let indexed = header.kind == Kind::Delta;
     let end = match header.encoding {
         _ if is_bare => reader.position(),
         Encoding::RawData => raw(told, message, reader.position(), types)?,
-        encoding => {
-            let count = usize::from(reader.u16()?);
-            let indexed = header.kind == Kind::Delta;
-            match encoding {
-                Encoding::Variant => encoded(told, message, reader.position(), (count, indexed), variant)?,
-                _ => encoded(told, message, reader.position(), (count, indexed), data_value)?,
-            }
-        }
+        Encoding::Variant => encoded(told, message, reader.position(), (count, indexed), variant)?,
+        Encoding::DataValue => encoded(told, message, reader.position(), (count, indexed), data_value)?,
     };
     match message[end..].iter().position(|byte| *byte != 0) {
         Some(other) => Err(Number::LeftOver.at(end + other)),
@@ -42,9 +43,6 @@ fn read(told: &mut impl Told, message: &[u8], types: &[u8]) -> Result<bool> {
 }
 
 fn raw(told: &mut impl Told, message: &[u8], mut at: usize, types: &[u8]) -> Result<usize> {
-    if types.is_empty() {
-        return Err(Number::NotConfigured.nowhere());
-    }
     for (index, kind) in types.iter().copied().enumerate() {
         let length = value::width(kind).ok_or(Number::NotTaken.at(at))?;
         if length > message.len() - at {
@@ -188,15 +186,14 @@ pub fn walk_into(records: &mut Vec<Walked>, datagram: &[u8], config: &Config) ->
         records.push([0; 10]);
         let mut told = Records { records, number: number as u64, offset: offset as u64, head: [0; 3] };
         let read = read(&mut told, &datagram[offset..][..length], config.types_of(writer));
-        let (what, [a, b, c]) = match read {
-            Ok(true) => (1, told.head),
-            Ok(false) => (2, [0; 3]),
-            Err(refusal) => (3, [refusal.number as u64, refusal.place as u64, 0]),
+        let head = told.head;
+        let fields = (records.len() - first - 1) as u64;
+        let (what, [a, b, c], e) = match read {
+            Ok(true) => (1, head, 0),
+            Ok(false) => (2, [0; 3], 0),
+            Err(refusal) => (3, [refusal.number as u64, refusal.place as u64, fields], head[1]),
         };
-        if read.is_err() {
-            records.truncate(first + 1);
-        }
-        records[first] = [what, number as u64, or_none(writer), a, b, c, offset as u64, length as u64, 0, 0];
+        records[first] = [what, number as u64, or_none(writer), a, b, c, offset as u64, length as u64, e, 0];
     }
     Ok(())
 }
@@ -224,7 +221,10 @@ pub fn count(datagram: &[u8], config: &Config) -> Result<u64> {
     let envelope = network::read(datagram, config)?;
     let messages = envelope.messages(datagram, config).map(|place| {
         let message = &datagram[place.offset..][..place.length];
-        1 + count_message(message, config.types_of(place.writer)).unwrap_or(0)
+        let mut fields = Count(0);
+        // Of a refused message the fields before the fault count.
+        read(&mut fields, message, config.types_of(place.writer)).ok();
+        1 + fields.0
     });
     Ok(messages.sum())
 }

@@ -124,11 +124,13 @@ pub mod walked {
     pub const TYPE: usize = 3;
     pub const SHAPE: usize = 4;
     pub const ELEMENTS: usize = 5;
-    /// Of a message; of a refused one `KIND` and `ENCODING` are the refusal's number and place.
+    /// Of a message; of a refused one `KIND` and `ENCODING` are the refusal's number and place, `SEQUENCE` is how many of its fields
+    /// follow, and `FIELDS_ENCODING` their encoding.
     pub const WRITER: usize = 2;
     pub const KIND: usize = 3;
     pub const ENCODING: usize = 4;
     pub const SEQUENCE: usize = 5;
+    pub const FIELDS_ENCODING: usize = 8;
 
     /// Values of `WHAT`.
     pub const FIELD: u64 = 0;

@@ -30,7 +30,8 @@ pub type Record = [u8; WALK_SIZE];
 ///
 /// # Errors
 ///
-/// What [`Datagram::read`](crate::Datagram::read) refuses. A refused message is an entry, and so is one that is not valid.
+/// What [`Datagram::read`](crate::Datagram::read) refuses. A refused message is an entry, and so is one that is not valid; the fields of
+/// a refused message before its fault follow it.
 pub fn walk<'a, 'r>(datagram: &'a [u8], config: &Config, room: &'r mut [Record]) -> Result<Walk<'a, 'r>, Refusal> {
     let total = ffi::walk(datagram, config.as_bytes(), room.as_flattened_mut()).into_result()? as usize;
     let kept = total.min(room.len());
@@ -106,7 +107,7 @@ pub enum Outcome {
     },
     /// Its publisher marked it as not valid.
     NotValid,
-    /// It is refused, with the place in the message.
+    /// It is refused, with the place in the message; its fields before the fault follow.
     Refused(Refusal),
 }
 
@@ -135,9 +136,10 @@ impl<'a> Entries<'a, '_> {
             return Entry::Field { message: place(record, walked::MESSAGE), field };
         }
         let outcome = outcome(record);
-        if let Outcome::Accepted { encoding, .. } = outcome {
-            self.encoding = encoding;
-        }
+        self.encoding = match outcome {
+            Outcome::Accepted { encoding, .. } => encoding,
+            _ => Encoding::of(number(record, walked::FIELDS_ENCODING)),
+        };
         let writer = optional(number(record, walked::WRITER));
         Entry::Message(WalkedMessage { number: place(record, walked::MESSAGE), writer, offset, bytes, outcome })
     }

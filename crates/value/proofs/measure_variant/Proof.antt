@@ -17,7 +17,7 @@ shared-slice-read-t9 c =
     let at-fixed-end = at-if1 .before in
     let args = at-fixed-end .before .before .args in
     let a = args in
-    fixed-variant (now (a .s)) (a .at) (at-fixed-end .fixed-end .ensures) (at-if1 .if1 .taken) .0
+    fixed-variant 99 (now (a .s)) (a .at) (at-fixed-end .fixed-end .ensures) (at-if1 .if1 .taken) .0
 
 returns : tie.Need-returns
 returns c =
@@ -25,7 +25,7 @@ returns c =
     let at-fixed-end = at-if1 .before in
     let args = at-fixed-end .before .before .args in
     let a = args in
-    sym (fixed-variant (now (a .s)) (a .at) (at-fixed-end .fixed-end .ensures) (at-if1 .if1 .taken) .1)
+    sym (fixed-variant 99 (now (a .s)) (a .at) (at-fixed-end .fixed-end .ensures) (at-if1 .if1 .taken) .1)
 
 returns-2 : tie.Need-returns-2
 returns-2 c =

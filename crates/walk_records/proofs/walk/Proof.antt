@@ -31,7 +31,7 @@ returns-2 c =
     let at-read = at-e .before .before in
     let args = at-read .before .before .before .before .before .before .before .args in
     walk-done (writers (now (args .ids)) (now (args .sizes)) (now (args .starts)) (now (args .types))) (now (args .s))
-    (now (args .out)) _ _ _ _ (told answerNetworkMessage (at-read .read .ensures) (at-e .e .given .1)) (at-walk-messages .walk-messages .ensures .0) (at-walk-messages .walk-messages .ensures .1)
+    (now (args .out)) _ _ _ _ (told answerNetworkMessage (at-read .read .ensures) (at-e .e .given .1)) (at-walk-messages .walk-messages .ensures)
 
 pub walk-spec : {M : Type 1} → statement M
 walk-spec =

@@ -7,7 +7,7 @@ use crate::reference::message::{Field, Header, Message};
 use crate::reference::network::{Envelope, Group, MessagePlace, PublisherId};
 use crate::reference::value::Shape;
 use crate::reference::{listing, message, message_writer, network, network_writer, told};
-use uadp::walk::{Entry, Outcome, Record};
+use uadp::walk::{Entries, Entry, Outcome, Record};
 use uadp::{Chunks, DatagramBuilder, MessageBuilder, Refusal, Values, MOST_DATAGRAM};
 
 /// A refusal as number and place.
@@ -184,16 +184,28 @@ impl Case<'_> {
                 Ok(None) => Outcome::NotValid,
                 Err(refusal) => Outcome::Refused(*refusal),
             };
-            let fields = read.ok().flatten().into_iter().flat_map(|message| message.fields());
             let place = (walked.number, walked.writer, walked.offset, walked.bytes);
-            place == (part.number(), part.writer(), part.offset(), part.bytes()) && walked.outcome == outcome && { fields }.all(
-                |mut expected| {
-                    expected.offset += part.offset();
-                    entries.next() == Some(Entry::Field { message: part.number(), field: expected })
-                },
-            )
+            if place != (part.number(), part.writer(), part.offset(), part.bytes()) || walked.outcome != outcome {
+                return false;
+            }
+            let Ok(message) = read else { return self.salvaged_alike(&mut entries, part) };
+            { message }.into_iter().flat_map(|message| message.fields()).all(|mut expected| {
+                expected.offset += part.offset();
+                entries.next() == Some(Entry::Field { message: part.number(), field: expected })
+            })
         });
         equal && entries.next().is_none() && walk.is_whole()
+    }
+
+    /// The fields that follow a refused message are those before its fault.
+    fn salvaged_alike(&self, entries: &mut Entries, part: uadp::MessagePart) -> bool {
+        let types = self.config.types_of(part.writer());
+        let Ok(Some(front)) = message::front(part.bytes(), types) else { return true };
+        front.walk(part.bytes(), types).all(|mut expected| {
+            expected.offset += part.offset();
+            let Some(Entry::Field { message, field }) = entries.next() else { return false };
+            message == part.number() && field.encoding as u8 == front.header.encoding as u8 && same_field(&field, &expected)
+        })
     }
 }
 

@@ -69,6 +69,18 @@ pub struct Message {
 
 /// Reads a message with the configured types of its writer; none for one that is not valid.
 pub fn read(message: &[u8], types: &[u8]) -> Result<Option<Message>> {
+    let Some(front) = front(message, types)? else {
+        return Ok(None);
+    };
+    let end = front.fields.skip_all(message, types)?;
+    match message[end..].iter().position(|byte| *byte != 0) {
+        Some(other) => Err(Number::LeftOver.at(end + other)),
+        None => Ok(Some(Message { end, ..front })),
+    }
+}
+
+/// Reads a message up to its first field, which starts at its `end`.
+pub fn front(message: &[u8], types: &[u8]) -> Result<Option<Message>> {
     let mut reader = Reader::new(message);
     let Some(header) = header(&mut reader)? else {
         return Ok(None);
@@ -85,12 +97,9 @@ pub fn read(message: &[u8], types: &[u8]) -> Result<Option<Message>> {
     } else {
         usize::from(reader.u16()?)
     };
-    let fields = Cursor { encoding: header.encoding, indexed: header.kind == Kind::Delta, next: 0, count, at: reader.position() };
-    let end = fields.skip_all(message, types)?;
-    match message[end..].iter().position(|byte| *byte != 0) {
-        Some(other) => Err(Number::LeftOver.at(end + other)),
-        None => Ok(Some(Message { header, fields, body, end, heartbeat })),
-    }
+    let end = reader.position();
+    let fields = Cursor { encoding: header.encoding, indexed: header.kind == Kind::Delta, next: 0, count, at: end };
+    Ok(Some(Message { header, fields, body, end, heartbeat }))
 }
 
 /// The header; none with bit 0 off.

@@ -21,32 +21,32 @@ loop-holds c = refl
 
 returns : tie.Need-returns Inv-loop μ-loop
 returns c =
-    let at-packed-width = c .before in
-    let at-loop-test = at-packed-width .before .before in
+    let at-width = c .before in
+    let at-loop-test = at-width .before .before in
     let at-loop = at-loop-test .before in
     let args = at-loop .before .before .args in
-    missing-none (now (args .types)) (at-loop .loop .k) (at-loop .loop .left) (at-packed-width .packed-width .result) (at-loop-test .loop-test .taken) (at-packed-width .packed-width .ensures .0)
+    missing-none (now (args .types)) (at-loop .loop .k) (at-loop .loop .left) (at-width .width .result) (at-loop-test .loop-test .taken) (at-width .width .ensures .0)
     (c .if1 .taken) ∙ sym (at-loop .loop .inv)
 
 returns-2 : tie.Need-returns-2 Inv-loop μ-loop
 returns-2 c =
     let at-if1 = c .before in
-    let at-packed-width = at-if1 .before in
-    let at-loop-test = at-packed-width .before .before in
+    let at-width = at-if1 .before in
+    let at-loop-test = at-width .before .before in
     let at-loop = at-loop-test .before in
     let args = at-loop .before .before .args in
-    missing-short (now (args .types)) (at-loop .loop .k) (at-loop .loop .left) (at-packed-width .packed-width .result) (at-loop-test .loop-test .taken) (at-packed-width .packed-width .ensures .0)
+    missing-short (now (args .types)) (at-loop .loop .k) (at-loop .loop .left) (at-width .width .result) (at-loop-test .loop-test .taken) (at-width .width .ensures .0)
     (at-if1 .if1 .left) (c .if2 .taken) ∙ sym (at-loop .loop .inv)
 
 loop-again : tie.Need-loop-again Inv-loop μ-loop
 loop-again c =
     let at-if1 = c .before in
-    let at-packed-width = at-if1 .before in
-    let at-loop-test = at-packed-width .before .before in
+    let at-width = at-if1 .before in
+    let at-loop-test = at-width .before .before in
     let at-loop = at-loop-test .before in
     let args = at-loop .before .before .args in
     at-loop .loop .inv
-    ∙ missing-step (now (args .types)) (at-loop .loop .k) (at-loop .loop .left) (at-packed-width .packed-width .result) (at-loop-test .loop-test .taken) (at-packed-width .packed-width .ensures .0)
+    ∙ missing-step (now (args .types)) (at-loop .loop .k) (at-loop .loop .left) (at-width .width .result) (at-loop-test .loop-test .taken) (at-width .width .ensures .0)
     (at-if1 .if1 .left) (c .if2 .left)
 
 returns-3 : tie.Need-returns-3 Inv-loop μ-loop

@@ -12,17 +12,17 @@ use Rattle.plain_value.proofs.plain.plain_value.Tie as tie
 returns : tie.Need-returns
 unfolding plainValue
 returns c =
-    rw (sym (ap (ltb 0) (c .before .before .packed-width .ensures .0)) ∙ lt-ltb _ _ (c .before .if1 .taken), sym (c .before .before .packed-width .ensures .0)) (c .bytes-at .ensures)
+    rw (sym (ap (ltb 0) (c .before .before .width .ensures .0)) ∙ lt-ltb _ _ (c .before .if1 .taken), sym (c .before .before .width .ensures .0)) (c .bytes-at .ensures)
 
 returns-2 : tie.Need-returns-2
 unfolding plainValue
 returns-2 c =
-    rw (sym (ap (ltb 0) (c .before .before .before .packed-width .ensures .0)) ∙ le-ltb _ _ (c .before .before .if1 .left), or-false, c .before .if2 .taken) (c .string-at .ensures)
+    rw (sym (ap (ltb 0) (c .before .before .before .width .ensures .0)) ∙ le-ltb _ _ (c .before .before .if1 .left), or-false, c .before .if2 .taken) (c .string-at .ensures)
 
 returns-3 : tie.Need-returns-3
 unfolding plainValue
 returns-3 c =
-    rw (sym (ap (ltb 0) (c .before .before .packed-width .ensures .0)) ∙ le-ltb _ _ (c .before .if1 .left), or-false, c .if2 .left)
+    rw (sym (ap (ltb 0) (c .before .before .width .ensures .0)) ∙ le-ltb _ _ (c .before .if1 .left), or-false, c .if2 .left)
 
 pub plain-value-spec : {M : Type 1} → statement M
 plain-value-spec =

@@ -12,17 +12,17 @@ use Rattle.value.proofs.head.plain_values.Tie as tie
 
 mul-bytes-at : tie.Need-mul-bytes-at
 mul-bytes-at c =
-    omega (arith, mul-le-mul-left (c .before .before .before .args .n) (c .before .packed-width .ensures .1))
+    omega (arith, mul-le-mul-left (c .before .before .before .args .n) (c .before .width .ensures .1))
 
 returns : tie.Need-returns
 unfolding plainValues
 returns c =
-    rw (sym (ap (ltb 0) (c .before .before .packed-width .ensures .0)) ∙ lt-ltb _ _ (c .before .if1 .taken), sym (c .before .before .packed-width .ensures .0)) (c .bytes-at .ensures)
+    rw (sym (ap (ltb 0) (c .before .before .width .ensures .0)) ∙ lt-ltb _ _ (c .before .if1 .taken), sym (c .before .before .width .ensures .0)) (c .bytes-at .ensures)
 
 returns-2 : tie.Need-returns-2
 unfolding plainValues
 returns-2 c =
-    rw (sym (ap (ltb 0) (c .before .before .packed-width .ensures .0)) ∙ le-ltb _ _ (c .before .if1 .left)) (c .strings-at .ensures)
+    rw (sym (ap (ltb 0) (c .before .before .width .ensures .0)) ∙ le-ltb _ _ (c .before .if1 .left)) (c .strings-at .ensures)
 
 pub plain-values-spec : {M : Type 1} → statement M
 plain-values-spec =

@@ -18,7 +18,7 @@ returns c =
     let at-fixed-end = c .before in
     let args = at-fixed-end .before .before .args in
     let a = args in
-    λ h. ap (λ x. andThen x (λ m next. got tt next)) (fixed-variant (now (a .s)) (a .at) (at-fixed-end .fixed-end .ensures) (c .if1 .taken) .1)
+    λ h. ap (λ x. andThen x (λ m next. got tt next)) (fixed-variant 99 (now (a .s)) (a .at) (at-fixed-end .fixed-end .ensures) (c .if1 .taken) .1)
 
 returns-2 : tie.Need-returns-2
 returns-2 c = λ h. absurd (omega (arith, h))

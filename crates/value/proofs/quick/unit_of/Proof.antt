@@ -14,7 +14,7 @@ returns-2 c = (rw (c .before .if1 .left, lt-ltb _ _ (c .if2 .taken)), omega arit
 
 returns-3 : tie.Need-returns-3
 returns-3 c =
-    (rw (c .before .before .if1 .left, le-ltb _ _ (c .before .if2 .left)) (c .packed-width .ensures .0), c .packed-width .ensures .1)
+    (rw (c .before .before .if1 .left, le-ltb _ _ (c .before .if2 .left)) (c .width .ensures .0), c .width .ensures .1)
 
 pub unit-of-spec : {M : Type 1} → statement M
 unit-of-spec = tie.close (tie.spec returns returns-2 (λ c κs. search needs) returns-3)

@@ -24,12 +24,12 @@ returns : tie.Need-returns
 returns c =
     let at-if1 = c .before in
     let at-is-text = at-if1 .before in
-    let at-packed-width = at-is-text .before in
-    rw (sym (at-is-text .is-text .ensures) ∙ at-if1 .if1 .taken, sym (at-packed-width .packed-width .ensures .0), sym (c .null-at .ensures))
+    let at-width = at-is-text .before in
+    rw (sym (at-is-text .is-text .ensures) ∙ at-if1 .if1 .taken, sym (at-width .width .ensures .0), sym (c .null-at .ensures))
 
 returns-2 : tie.Need-returns-2
 returns-2 c =
-    rw (sym (c .before .is-text .ensures) ∙ c .if1 .left, sym (c .before .before .packed-width .ensures .0))
+    rw (sym (c .before .is-text .ensures) ∙ c .if1 .left, sym (c .before .before .width .ensures .0))
 
 pub scalar-parts-spec : {M : Type 1} → statement M
 scalar-parts-spec =

@@ -21,7 +21,7 @@ returns-2 c =
     let at-end = c .before .before in
     let at-pass-element = at-end .before .before in
     let args = at-pass-element .before .before .args in
-    raw-told (args .t) (now (args .s)) (args .at) (sym (told answerReached (at-pass-element .pass-element .ensures) (at-end .end .given .1))) (c .packed-width .ensures .0)
+    raw-told (args .t) (now (args .s)) (args .at) (sym (told answerReached (at-pass-element .pass-element .ensures) (at-end .end .given .1))) (c .width .ensures .0)
 
 pub tell-raw-spec : {M : Type 1} → statement M
 tell-raw-spec =

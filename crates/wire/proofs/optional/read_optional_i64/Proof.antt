@@ -1,13 +1,13 @@
 -- `wire::optional::read_optional_i64` meets its contract.
 -- Assumes nothing.
 use borrow.Author.Tests.{not-true, not-false}
-use denote.Ref.{now}
 use mir.ValLaws.{toZ-ofZ}
+use mir.Val.{SFits}
 use mir.Syntax.{w64}
-use mathlib.Core.Path.{sym, _∙_}
+use mathlib.Core.Path.{sym}
 use borrow.Author.Needs.{needs}
-use Rattle.wire.proofs.Reading.{told, signed-is}
-use Rattle.wire.specs.Items.{answer64}
+use Rattle.wire.proofs.Reading.{told}
+use Rattle.wire.specs.Items.{answerI64}
 use Rattle.wire.proofs.optional.read_optional_i64.Statement.{statement}
 use Rattle.wire.proofs.optional.read_optional_i64.Tie as tie
 
@@ -16,25 +16,19 @@ returns c = rw (not-true (c .before .before .args .on) (c .if1 .taken))
 
 returns-2 : tie.Need-returns-2
 returns-2 c =
-    let at-read64 = c .before .before in
-    let at-if1 = at-read64 .before in
+    let at-read-i64 = c .before .before in
+    let at-if1 = at-read-i64 .before in
     let args = at-if1 .before .before .args in
-    rw (not-false (args .on) (at-if1 .if1 .left), signed-is 8 (now (args .s)) (args .at), sym (told (answer64 (args .at)) (at-read64 .read64 .ensures) (c .enum-told .given .1)))
+    rw (not-false (args .on) (at-if1 .if1 .left), sym (told (answerI64 (args .at)) (at-read-i64 .read-i64 .ensures) (c .enum-told .given .1)))
 
 returns-3 : tie.Need-returns-3
 returns-3 c =
-    let at-v = c .before .before in
-    let at-read64 = at-v .before .before in
-    let at-if1 = at-read64 .before in
+    let at-v = c .before in
+    let at-read-i64 = at-v .before .before in
+    let at-if1 = at-read-i64 .before in
     let args = at-if1 .before .before .args in
-    rw (
-      not-false (args .on) (at-if1 .if1 .left),
-      signed-is 8 (now (args .s)) (args .at),
-      sym (told (answer64 (args .at)) (at-read64 .read64 .ensures) (at-v .v .given .1)),
-      toZ-ofZ w64 _ (record { sfits = c .signed64 .ok }) ∙ c .signed64 .ensures,
-    )
+    let q : SFits w64 (at-v .v .given .0 .0) = search needs in
+    rw (not-false (args .on) (at-if1 .if1 .left), sym (told (answerI64 (args .at)) (at-read-i64 .read-i64 .ensures) (at-v .v .given .1)), toZ-ofZ w64 (at-v .v .given .0 .0) q)
 
 pub read-optional-i64-spec : {M : Type 1} → statement M
-read-optional-i64-spec =
-    tie.close
-    (tie.spec returns (λ c κs. search needs) (λ c. search needs) (λ c. search needs) returns-2 (λ c κs. search needs) returns-3)
+read-optional-i64-spec = tie.close (tie.spec returns (λ c κs. search needs) (λ c. search needs) (λ c. search needs) returns-2 returns-3)

@@ -1,12 +1,12 @@
--- `dataset_message::message::read` meets its contract.
+-- `dataset_message::message::read_up_to` meets its contract.
 -- Assumes nothing.
 use Prim.Native.Nat.{_-_}
 use mathlib.Core.Path.{sym}
 use borrow.Author.Needs.{needs}
 use Rattle.dataset_header.specs.Header.{answerMessageHeader}
 use Rattle.wire.proofs.Reading.{told}
-use Rattle.dataset_message.proofs.message.read.Statement.{statement}
-use Rattle.dataset_message.proofs.message.read.Tie as tie
+use Rattle.dataset_message.proofs.message.read_up_to.Statement.{statement}
+use Rattle.dataset_message.proofs.message.read_up_to.Tie as tie
 
 returns : tie.Need-returns
 returns c =
@@ -24,8 +24,8 @@ returns-3 c =
     let at-read-header = at-header .before .before in
     rw (sym (told answerMessageHeader (at-read-header .read-header .ensures) (at-header .header .given .1))) (c .read-body .ensures)
 
-pub read-spec : {M : Type 1} → statement M
-read-spec =
+pub read-up-to-spec : {M : Type 1} → statement M
+read-up-to-spec =
     tie.close
     (tie.spec
     (λ c κs. search needs)
