@@ -1,11 +1,12 @@
 -- A DataSetMessage header's round trip: read as it was written, and what was read is what stands there.
-use mathlib.Core.Path.{_≡_, refl, ap, subst, _∙_}
+use mathlib.Core.Path.{_≡_, refl, ap, sym, subst, _∙_}
 use mathlib.Core.Bool.{true}
 use Prim.Native.Nat.{ℕ, _+_, _≤_}
 use Rattle.wire.specs.Answer.{got}
 use mathlib.Core.List.{List, _++_, append-assoc}
 use native.Mathlib.Omega.{arith}
 use lib.ListN.{length, drop, length-append}
+use lib.Seq.{sets}
 use borrow.Author.Tests.{ne-eqb}
 use Rattle.dataset_header.specs.Header.{FitsHeader, timesBytes, messageTimesAt, versionsBytes, versionsAt, messageHeaderBytes, messageHeaderAt, headerOf, messageItemsAt, afterFlags, picosecondsPlace, messageHeld}
 use Rattle.wire_writer.specs.Writing.{optional16Bytes, optionalI64Bytes, picosecondsRefusal, picosecondsHeld, optional32Bytes, on16, onI64, on32, byteBytes}
@@ -15,7 +16,7 @@ use Rattle.dataset_header.proofs.FlagsTrip.{flagsFor, flags-is, FlagsBa
 use Rattle.dataset_header.specs.Flags.{valid, messageFlagBytes, flags2Of, kindRule, Valid, notValid, messageFlagsAt}
 use Rattle.dataset_header.specs.declared.header.Times.{Times}
 use Rattle.dataset_header.specs.declared.flags.Flags.{Flags}
-use Rattle.wire_writer.proofs.Back.{Back, PicosecondsBack, join, end-fits, optional16-back, optionalI64-back, picoseconds-back, picoseconds-kept, optional32-back, held-between}
+use Rattle.wire_writer.proofs.Back.{Back, PicosecondsBack, join, end-fits, optional16-back, optionalI64-back, picoseconds-back, picoseconds-kept, optional32-back, held-between, held-stored, two-bytes}
 use Rattle.wire.proofs.Reading.{invert, got-value, got-next}
 use Rattle.wire.specs.Optional.{optional16, optionalI64, picosecondsAt, optional32}
 use Rattle.wire.specs.declared.optional.Optional16.{Optional16}
@@ -112,11 +113,14 @@ versions-back f s at v next bytes l h =
     subst (λ (u : Versions). VersionsBack f s at u next) (got-value (c .3))
     (subst (λ (n : ℕ). VersionsBack f s at (record { status = a .0; major = b .0; minor = c .0 }) n) (got-next (c .3)) o)
 
--- What a header that was read tells: how long it is, and that it and all that follows it are the message with its picoseconds held.
+-- What a header that was read tells: how long it is, that it and all that follows it are the message with its picoseconds held, and that
+-- these are held by storing them where they stand.
 pub record HeaderBack (s : List ℕ) (h : Header) (next : ℕ) : Type 0 where
   pub sized : next ≡ length (messageHeaderBytes h)
   pub fits : next ≤ length s
   pub again : messageHeaderBytes h ++ drop next s ≡ messageHeld h s
+  pub stored : sets s (picosecondsPlace h) (optional16Bytes (h .picoseconds)) ≡ messageHeld h s
+  pub room : on16 (h .picoseconds) ≡ true → picosecondsPlace h + 2 ≤ length s
   pub kind : kindRule (h .kind) (h .encoding) ≡ 0
   pub picoseconds : picosecondsRefusal (h .picoseconds) ≡ 0
 
@@ -127,6 +131,10 @@ two-flags h e =
     rw (ne-eqb (flags2Of h) 0 n)
 
 -- only where picoseconds are there does it matter where they stand
+stored-there : (x : Optional16) (a b : ℕ) (s : List ℕ) → (on16 x ≡ true → a ≡ b) → sets s a (optional16Bytes x) ≡ sets s b (optional16Bytes x)
+stored-there Optional16.Absent a b s e = refl
+stored-there (Optional16.Is v) a b s e = ap (λ (k : ℕ). sets s k (optional16Bytes (Optional16.Is v))) (e refl)
+
 held-there : (x : Optional16) (a b : ℕ) (s : List ℕ) → (on16 x ≡ true → a ≡ b) → picosecondsHeld x a s ≡ picosecondsHeld x b s
 held-there Optional16.Absent a b s e = refl
 held-there (Optional16.Is v) a b s e = ap (λ (k : ℕ). picosecondsHeld (Optional16.Is v) k s) (e refl)
@@ -179,6 +187,10 @@ body-back s f n h next bytes r q =
           again =
               in-a-row fb qb tb pb vb (drop next s) ∙ held-between s (fb ++ (qb ++ tb)) place (h .picoseconds) k vb next all pico versions
               ∙ held-there (h .picoseconds) place (picosecondsPlace h) s there;
+          stored =
+              sym (stored-there (h .picoseconds) place (picosecondsPlace h) s there) ∙ held-stored s place (h .picoseconds) k pico
+              ∙ held-there (h .picoseconds) place (picosecondsPlace h) s there;
+          room = λ e. omega (arith, there e, two-bytes (h .picoseconds) e, pico .ends, pico .fits);
           kind = kind;
           picoseconds = kept;
         }
@@ -194,3 +206,28 @@ pub header-back : (s : List ℕ) (h : Header) (next : ℕ) → Bytes s → messa
 header-back s h next bytes q =
     let a = invert (messageFlagsAt s 0) (λ f n. afterFlags f s n) q in
     flagged-back (a .0) s (a .1) h next bytes (a .2) (a .3)
+
+-- Of any bytes, picoseconds that were read are below 10,000.
+times-kept : (f : Flags) (s : List ℕ) (at : ℕ) (t : Times) (next : ℕ) → messageTimesAt f s at ≡ got t next → picosecondsRefusal (t .picoseconds) ≡ 0
+times-kept f s at t next h =
+    let a = invert (optional16 (f .sequence) s at) (λ q n. _) h in
+    let b = invert (optionalI64 (f .timestamp) s (a .1)) (λ q n. _) (a .3) in
+    let c = invert (picosecondsAt (f .picoseconds) s (b .1)) (λ q n. _) (b .3) in
+    subst (λ (v : Times). picosecondsRefusal (v .picoseconds) ≡ 0) (got-value (c .3)) (picoseconds-kept (f .picoseconds) s (b .1) (c .0) (c .1) (c .2))
+
+flagged-kept : (v : Valid Flags) (s : List ℕ) (n : ℕ) (h : Header) (next : ℕ) → afterFlags v s n ≡ got (valid h) next → picosecondsRefusal (h .picoseconds) ≡ 0
+flagged-kept notValid s n h next q =
+    let e : _≡_ {A = Valid Header} notValid (valid h) = got-value q in
+    let z : _≡_ {A = ℕ} 0 1 = cc in
+    absurd (omega arith)
+flagged-kept (valid f) s n h next q =
+    let a = invert (messageTimesAt f s n) (λ t z. _) q in
+    let b = invert (versionsAt f s (a .1)) (λ v z. _) (a .3) in
+    let e : valid (headerOf f (a .0) (b .0)) ≡ valid h = got-value (b .3) in
+    let x : headerOf f (a .0) (b .0) ≡ h = cc in
+    subst (λ (y : Header). picosecondsRefusal (y .picoseconds) ≡ 0) x (times-kept f s n (a .0) (a .1) (a .2))
+
+pub header-kept : (s : List ℕ) (h : Header) (next : ℕ) → messageHeaderAt s 0 ≡ got (valid h) next → picosecondsRefusal (h .picoseconds) ≡ 0
+header-kept s h next q =
+    let a = invert (messageFlagsAt s 0) (λ f n. afterFlags f s n) q in
+    flagged-kept (a .0) s (a .1) h next (a .3)

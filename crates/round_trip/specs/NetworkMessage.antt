@@ -99,16 +99,16 @@ pub record PartsAgree (g : GivenDatagram) (x : Envelope) (sizes configured : Lis
 
 -- The first rewriting exception: "With PublisherId off, its type bits are written as 0; if ExtendedFlags1 would then be 0, the byte is left
 -- out and bit 7 of byte 0 is 0." b is byte 0, whose bit 7 says that ExtendedFlags1 follows, e; every other byte stays.
-abbrev pub withoutType : List ℕ → List ℕ
-withoutType [] = []
-withoutType (b ∷ []) = b ∷ []
-withoutType (b ∷ e ∷ s) =
+abbrev pub typeCleared : List ℕ → List ℕ
+typeCleared [] = []
+typeCleared (b ∷ []) = b ∷ []
+typeCleared (b ∷ e ∷ s) =
     cond (bit 7 b && not (bit 4 b)) (cond (eqb (e / 8) 0) ((b - 128) ∷ s) (b ∷ (8 * (e / 8)) ∷ s)) (b ∷ e ∷ s)
 
 -- A datagram that was read as m, written again: the same bytes but for that exception and the second, "the rewritten envelope .. holds 9,999
 -- there", where its PicoSeconds are 10,000 or more. All else, the messages too, stands as it stood: "a message handed on as bytes keeps its own".
 abbrev pub rewritten : NetworkMessage → List ℕ → List ℕ
-rewritten m s = withoutType (envelopeHeld (m .envelope) (m .places) s)
+rewritten m s = typeCleared (envelopeHeld (m .envelope) (m .places) s)
 
 -- the parts of a datagram as reading found them, to be given to the writer
 

@@ -8,7 +8,7 @@ use native.Mathlib.Nat.{add-zero, zero-add, pow-suc}
 use native.Mathlib.Numerals.{add-one}
 use native.Mathlib.Omega.{arith}
 use lib.ListN.{length, getD, take, drop, length-append, length-drop, take-append-drop}
-use lib.Seq.{drop-cons, drop-at, take-at, length-take-le, sets, sets-eq}
+use lib.Seq.{drop-cons, drop-at, take-at, length-take-le, sets, sets-eq, length-sets}
 use lib.Dec.{leb, eqb}
 use borrow.Author.Tests.{leb-true, eqb-true, le-leb}
 use Rattle.wire.specs.Number.{le, leBytes, signed, unsigned}
@@ -203,6 +203,11 @@ picoseconds-kept true s at x next h =
     subst (λ (x : Optional16). picosecondsRefusal x ≡ 0) (y .2) (read-kept (y .0))
 picoseconds-kept false s at x next h = subst (λ (x : Optional16). picosecondsRefusal x ≡ 0) (got-value h) refl
 
+-- an item of 2 bytes that is there
+pub two-bytes : (x : Optional16) → on16 x ≡ true → length (optional16Bytes x) ≡ 2
+two-bytes Optional16.Absent e = let z : _≡_ {A = ℕ} 0 1 = cc in absurd (omega arith)
+two-bytes (Optional16.Is v) e = refl
+
 -- What picoseconds that were read tell: whether they are there, where they end, and that the bytes with them held are all before them,
 -- their own bytes as they were read, and all behind them.
 pub record PicosecondsBack (on : Bool) (s : List ℕ) (at : ℕ) (x : Optional16) (next : ℕ) : Type 0 where
@@ -240,3 +245,18 @@ pub held-between : {on : Bool} (s f : List ℕ) (at : ℕ) (x : Optional16) (k :
     → f ++ (optional16Bytes x ++ (c ++ drop next s)) ≡ picosecondsHeld x at s
 held-between s f at x k c next a p y =
     sym (p .held ∙ ap (λ (l : List ℕ). l ++ (optional16Bytes x ++ drop k s)) (front-is s f at a) ∙ ap (λ (l : List ℕ). f ++ (optional16Bytes x ++ l)) (rest-is s k c next y))
+
+-- they are held by storing them as they were read
+pub held-stored : {on : Bool} (s : List ℕ) (at : ℕ) (x : Optional16) (next : ℕ) → PicosecondsBack on s at x next → sets s at (optional16Bytes x) ≡ picosecondsHeld x at s
+held-stored s at x next p =
+    let b = optional16Bytes x in
+    let fits : at + length b ≤ length s = omega (arith, p .ends, p .fits) in
+    sets-eq b s at fits ∙ append-assoc (take at s) b (drop (at + length b) s) ∙ ap (λ (k : ℕ). take at s ++ (b ++ drop k s)) (sym (p .ends)) ∙ sym (p .held)
+
+pub held-length : (x : Optional16) (at : ℕ) (s : List ℕ) → length (picosecondsHeld x at s) ≡ length s
+held-length Optional16.Absent at s = refl
+held-length (Optional16.Is v) at s = go (leb 10000 (le 2 s at))
+  where
+    go : (t : Bool) → length (cond t (sets s at (leBytes 2 9999)) s) ≡ length s
+    go true = length-sets s at (leBytes 2 9999)
+    go false = refl
