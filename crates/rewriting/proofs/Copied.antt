@@ -54,17 +54,18 @@ sets-left (a ∷ b) s r i h =
 pub put-over : (s out mid exit : List ℕ) (at n next : ℕ) (x : Optional16) → (on16 x ≡ true → at + 2 ≤ length s) → Puts s out 0 mid n → Stored (optional16Bytes x) mid at exit next
     → Puts (sets s at (optional16Bytes x)) out 0 exit (length s)
 put-over s out mid exit at n next x inside p q =
-    record { stored = λ h. there x inside q (subst (λ (k : ℕ). k ≤ length out) (length-sets s at (optional16Bytes x)) h); after = λ h. sym (length-sets s at (optional16Bytes x)) }
+    let k = length-sets s at (optional16Bytes x) in
+    record { stored = λ h. there x inside q (omega (arith, k)); after = λ h. omega (arith, k) }
   where
     there : (x : Optional16) → (on16 x ≡ true → at + 2 ≤ length s) → Stored (optional16Bytes x) mid at exit next → length s ≤ length out → exit ≡ sets out 0 (sets s at (optional16Bytes x))
-    there Optional16.Absent inside q l = q .stored ∙ either (roomFor mid at []) ∙ p .stored l
+    there Optional16.Absent inside q l = q .stored ∙ either (roomFor mid at []) ∙ p .stored (omega arith)
       where
         either : (t : Bool) → cond t mid mid ≡ mid
         either true = refl
         either false = refl
     there (Optional16.Is v) inside q l =
         let b = leBytes 2 v in
-        let e : mid ≡ s ++ drop (length s) out = p .stored l ∙ front s out l in
+        let e : mid ≡ s ++ drop (length s) out = p .stored (omega arith) ∙ front s out l in
         let i : at + 2 ≤ length s = inside refl in
         let room : at + length b ≤ length mid = omega (arith, ap length e, length-append s (drop (length s) out)) in
         let w : exit ≡ sets mid at b = puts q .stored room in
@@ -72,14 +73,18 @@ put-over s out mid exit at n next x inside p q =
         w ∙ ap (λ (y : List ℕ). sets y at b) e ∙ sets-left b s (drop (length s) out) at i
         ∙ sym (front (sets s at b) out (subst (λ (m : ℕ). m ≤ length out) (sym k) l) ∙ ap (λ (m : ℕ). sets s at b ++ drop m out) k)
 
+-- what `copy_with` promises
+abbrev pub CopiedWith : List ℕ → ℕ → Optional16 → List ℕ → List ℕ → Written → Type 0
+CopiedWith s at x entry exit r = (on16 x ≡ true → at + 2 ≤ length s) → Writes (writing (sets s at (optional16Bytes x))) entry exit r
+
 -- an accepted message, copied with its picoseconds
-pub message-copied : (types s entry exit : List ℕ) (r : Written) (m : Message) (e : ℕ) → Bytes s → messageAt types s ≡ got (valid m) e
-    → ((on16 (m .header .picoseconds) ≡ true → picosecondsPlace (m .header) + 2 ≤ length s)
-    → Writes (writing (sets s (picosecondsPlace (m .header)) (optional16Bytes (m .header .picoseconds)))) entry exit r) → Writes (messageSame types s) entry exit r
-message-copied types s entry exit r m e b q w =
+pub message-copied : (types s entry exit : List ℕ) (r : Written) (m : Message) (e at : ℕ) → Bytes s → messageAt types s ≡ got (valid m) e → at ≡ picosecondsPlace (m .header)
+    → CopiedWith s at (m .header .picoseconds) entry exit r → Writes (messageSame types s) entry exit r
+message-copied types s entry exit r m e at b q a w =
     let p = header-of types s m e q in
     let h = header-back s (m .header) (p .0) b (p .1) in
-    reading-accepts (whereValid (λ m. messageHeld (m .header) s)) q (subst (λ (y : List ℕ). Writes (writing y) entry exit r) (h .stored) (w (h .room)))
+    let c : CopiedWith s (picosecondsPlace (m .header)) (m .header .picoseconds) entry exit r = subst (λ (k : ℕ). CopiedWith s k (m .header .picoseconds) entry exit r) a w in
+    reading-accepts (whereValid (λ m. messageHeld (m .header) s)) q (subst (λ (y : List ℕ). Writes (writing y) entry exit r) (h .stored) (c (h .room)))
 
 -- a PublisherId of another variant than the first is on
 pub publisher-on : (p : PublisherId) → OneOf (1 ∷ 2 ∷ 3 ∷ 4 ∷ 5 ∷ []) (tagOf publisher.the-type p) → publisherOn p ≡ true
@@ -95,17 +100,17 @@ pub place-fits : (sizes s : List ℕ) (m : NetworkMessage) (next : ℕ) → Byte
 place-fits sizes s m next b q = omega (arith, datagram.picoseconds-stored sizes s m next b q .1, accepted-short sizes s m next q)
 
 -- an accepted datagram with a PublisherId, copied with its PicoSeconds
-pub datagram-copied : (sizes s entry exit : List ℕ) (r : Written) (m : NetworkMessage) (next : ℕ) → Bytes s → networkMessageAt sizes s ≡ got m next
-    → publisherOn (m .envelope .publisher) ≡ true
-    → ((on16 (m .envelope .picoseconds) ≡ true → envelope.picosecondsPlace (m .envelope) (m .places) + 2 ≤ length s)
-    → Writes (writing (sets s (envelope.picosecondsPlace (m .envelope) (m .places)) (optional16Bytes (m .envelope .picoseconds)))) entry exit r)
+pub datagram-copied : (sizes s entry exit : List ℕ) (r : Written) (m : NetworkMessage) (next at : ℕ) → Bytes s → networkMessageAt sizes s ≡ got m next
+    → publisherOn (m .envelope .publisher) ≡ true → at ≡ envelope.picosecondsPlace (m .envelope) (m .places) → CopiedWith s at (m .envelope .picoseconds) entry exit r
     → Writes (datagramSame sizes s) entry exit r
-datagram-copied sizes s entry exit r m next b q on w =
+datagram-copied sizes s entry exit r m next at b q on a w =
+    let x = m .envelope in
+    let place = envelope.picosecondsPlace x (m .places) in
     let p = datagram.picoseconds-stored sizes s m next b q in
-    let at = envelope.picosecondsPlace (m .envelope) (m .places) in
-    let there : on16 (m .envelope .picoseconds) ≡ true → at + 2 ≤ length s = λ e. omega (arith, p .1, two-bytes (m .envelope .picoseconds) e) in
+    let there : on16 (x .picoseconds) ≡ true → place + 2 ≤ length s = λ e. omega (arith, p .1, two-bytes (x .picoseconds) e) in
+    let c : CopiedWith s place (x .picoseconds) entry exit r = subst (λ (k : ℕ). CopiedWith s k (x .picoseconds) entry exit r) a w in
     reading-accepts (λ m. writing (rewritten m s)) q
-    (subst (λ (l : List ℕ). Writes (writing l) entry exit r) (p .0 ∙ sym (datagram.same-with-publisher sizes s m next b q on)) (w there))
+    (subst (λ (l : List ℕ). Writes (writing l) entry exit r) (p .0 ∙ sym (datagram.same-with-publisher sizes s m next b q on)) (c there))
 
 -- what the writer's own rewriting writes, in the bytes that were read
 pub datagram-said : (sizes s entry exit : List ℕ) (r : Written) → Bytes s → Writes (datagramAgain sizes s) entry exit r → Writes (datagramSame sizes s) entry exit r

@@ -24,9 +24,9 @@ ghost use Rattle.rewriting.specs.Same.{messageSame, datagramSame};
 // All of a slice, from the start of a buffer, with the picoseconds that were read at their place in it.
 fn copy_with(out: &mut [u8], s: &[u8], at: usize, picoseconds: Optional16) -> Written
     ensures { λ r.
-        let inside = on16 picoseconds ≡ true → at + 2 ≤ length (now (s .entry)) in
         let bytes = sets (now (s .entry)) at (optional16Bytes picoseconds) in
-        ⌜ inside → Writes (writing bytes) (now (out .entry)) (now (out .exit)) r ⌝ }
+        ⌜ ((on16 picoseconds ≡ true → at + 2 ≤ length (now (s .entry)))
+        → Writes (writing bytes) (now (out .entry)) (now (out .exit)) r) ⌝ }
 {
     let size = s.len();
     let full = room_refusal(size, out.len());
