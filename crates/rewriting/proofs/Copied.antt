@@ -1,7 +1,7 @@
 -- What was read and is copied whole, with its picoseconds stored, is what the writers' own rewriting makes of it.
 -- Assumes nothing.
 use mathlib.Core.Path.{_≡_, refl, ap, sym, subst, _∙_}
-use mathlib.Core.Bool.{Bool, true, false, cond}
+use mathlib.Core.Bool.{true}
 use mathlib.Core.List.{List, [], _∷_, _++_}
 use Prim.Native.Nat.{ℕ, suc, _+_, _≤_, _<_}
 use native.Mathlib.Omega.{arith}
@@ -15,11 +15,10 @@ use Rattle.wire.specs.Answer.{Answer, got, refused}
 use Rattle.wire_writer.specs.Fits.{Bytes}
 use Rattle.wire.specs.Number.{leBytes}
 use Rattle.wire.specs.declared.optional.Optional16.{Optional16}
-use Rattle.wire_writer.specs.Store.{Stored, roomFor}
-use Rattle.wire_writer.specs.Writing.{Output, writing, afterReading, Writes, Puts, on16, optional16Bytes}
+use Rattle.wire_writer.specs.Writing.{Output, writing, afterReading, Writes, Puts, on16, optional16Bytes, picosecondsHeld}
 use Rattle.wire_writer.specs.declared.writing.Written.{Written}
 use Rattle.wire_writer.proofs.Answering.{reading-accepts}
-use Rattle.wire_writer.proofs.Putting.{front, puts}
+use Rattle.wire_writer.proofs.Putting.{front}
 use Rattle.wire_writer.proofs.Back.{two-bytes}
 use Rattle.publisher_id.proofs.publisher.PublisherId as publisher
 use Rattle.publisher_id.specs.declared.publisher.PublisherId.{PublisherId}
@@ -50,41 +49,48 @@ sets-left (a ∷ b) s r i h =
     let l : suc i + length b ≤ length (set s i a) = rw length-set (omega arith) in
     rw (set-append-left s r i a k) (sets-left b (set s i a) r (suc i) l)
 
--- A whole slice put at a buffer's start, and then an item put over it: what stands there is the slice with the item stored in it.
-pub put-over : (s out mid exit : List ℕ) (at n next : ℕ) (x : Optional16) → (on16 x ≡ true → at + 2 ≤ length s) → Puts s out 0 mid n → Stored (optional16Bytes x) mid at exit next
-    → Puts (sets s at (optional16Bytes x)) out 0 exit (length s)
-put-over s out mid exit at n next x inside p q =
-    let k = length-sets s at (optional16Bytes x) in
-    record { stored = λ h. there x inside q (omega (arith, k)); after = λ h. omega (arith, k) }
+-- A whole slice put at a buffer's start, and then bytes put over it: what stands there is the slice with those bytes stored in it.
+pub put-over : (s b out mid exit : List ℕ) (at n next : ℕ) → at + length b ≤ length s → Puts s out 0 mid n → Puts b mid at exit next → Puts (sets s at b) out 0 exit (length s)
+put-over s b out mid exit at n next inside p q =
+    record { stored = λ h. there (omega (arith, k)); after = λ h. omega (arith, k) }
   where
-    there : (x : Optional16) → (on16 x ≡ true → at + 2 ≤ length s) → Stored (optional16Bytes x) mid at exit next → length s ≤ length out → exit ≡ sets out 0 (sets s at (optional16Bytes x))
-    there Optional16.Absent inside q l = q .stored ∙ either (roomFor mid at []) ∙ p .stored (omega arith)
-      where
-        either : (t : Bool) → cond t mid mid ≡ mid
-        either true = refl
-        either false = refl
-    there (Optional16.Is v) inside q l =
-        let b = leBytes 2 v in
+    k : length (sets s at b) ≡ length s
+    k = length-sets s at b
+
+    there : length s ≤ length out → exit ≡ sets out 0 (sets s at b)
+    there l =
         let e : mid ≡ s ++ drop (length s) out = p .stored (omega arith) ∙ front s out l in
-        let i : at + 2 ≤ length s = inside refl in
         let room : at + length b ≤ length mid = omega (arith, ap length e, length-append s (drop (length s) out)) in
-        let w : exit ≡ sets mid at b = puts q .stored room in
-        let k = length-sets s at b in
-        w ∙ ap (λ (y : List ℕ). sets y at b) e ∙ sets-left b s (drop (length s) out) at i
+        q .stored room ∙ ap (λ (y : List ℕ). sets y at b) e ∙ sets-left b s (drop (length s) out) at inside
         ∙ sym (front (sets s at b) out (subst (λ (m : ℕ). m ≤ length out) (sym k) l) ∙ ap (λ (m : ℕ). sets s at b ++ drop m out) k)
 
 -- what `copy_with` promises
-abbrev pub CopiedWith : List ℕ → ℕ → Optional16 → List ℕ → List ℕ → Written → Type 0
-CopiedWith s at x entry exit r = (on16 x ≡ true → at + 2 ≤ length s) → Writes (writing (sets s at (optional16Bytes x))) entry exit r
+abbrev pub CopiedWith : List ℕ → ℕ → ℕ → List ℕ → List ℕ → Written → Type 0
+CopiedWith s at v entry exit r = at + 2 ≤ length s → Writes (writing (sets s at (leBytes 2 v))) entry exit r
 
--- an accepted message, copied with its picoseconds
-pub message-copied : (types s entry exit : List ℕ) (r : Written) (m : Message) (e at : ℕ) → Bytes s → messageAt types s ≡ got (valid m) e → at ≡ picosecondsPlace (m .header)
-    → CopiedWith s at (m .header .picoseconds) entry exit r → Writes (messageSame types s) entry exit r
-message-copied types s entry exit r m e at b q a w =
-    let p = header-of types s m e q in
-    let h = header-back s (m .header) (p .0) b (p .1) in
-    let c : CopiedWith s (picosecondsPlace (m .header)) (m .header .picoseconds) entry exit r = subst (λ (k : ℕ). CopiedWith s k (m .header .picoseconds) entry exit r) a w in
-    reading-accepts (whereValid (λ m. messageHeld (m .header) s)) q (subst (λ (y : List ℕ). Writes (writing y) entry exit r) (h .stored) (c (h .room)))
+-- Bytes whose picoseconds are held by storing them: copied as they stand where there are none, and else copied with them.
+held-copied : (x : Optional16) (place : ℕ) (s entry exit : List ℕ) (r : Written) → x ≡ Optional16.Absent → Writes (writing s) entry exit r → Writes (writing (picosecondsHeld x place s)) entry exit r
+held-copied x place s entry exit r e w = subst (λ (o : Optional16). Writes (writing (picosecondsHeld o place s)) entry exit r) (sym e) w
+
+held-with : (x : Optional16) (place at v : ℕ) (s entry exit : List ℕ) (r : Written) → sets s place (optional16Bytes x) ≡ picosecondsHeld x place s → (on16 x ≡ true → place + 2 ≤ length s)
+    → x ≡ Optional16.Is v → at ≡ place → CopiedWith s at v entry exit r → Writes (writing (picosecondsHeld x place s)) entry exit r
+held-with x place at v s entry exit r stored room e a w =
+    let c : CopiedWith s place v entry exit r = subst (λ (k : ℕ). CopiedWith s k v entry exit r) a w in
+    subst (λ (y : List ℕ). Writes (writing y) entry exit r) (ap (λ (o : Optional16). sets s place (optional16Bytes o)) (sym e) ∙ stored) (c (room (ap on16 e)))
+
+-- an accepted message, copied, and copied with its picoseconds
+module _ (types s entry exit : List ℕ) (r : Written) (m : Message) (e : ℕ) (q : messageAt types s ≡ got (valid m) e) where
+  held : Writes (writing (messageHeld (m .header) s)) entry exit r → Writes (messageSame types s) entry exit r
+  held w = reading-accepts (whereValid (λ m. messageHeld (m .header) s)) q w
+
+  pub message-copied : m .header .picoseconds ≡ Optional16.Absent → Writes (writing s) entry exit r → Writes (messageSame types s) entry exit r
+  message-copied h w = held (held-copied (m .header .picoseconds) (picosecondsPlace (m .header)) s entry exit r h w)
+
+  pub message-with : Bytes s → (at v : ℕ) → m .header .picoseconds ≡ Optional16.Is v → at ≡ picosecondsPlace (m .header) → CopiedWith s at v entry exit r → Writes (messageSame types s) entry exit r
+  message-with b at v h a w =
+      let p = header-of types s m e q in
+      let k = header-back s (m .header) (p .0) b (p .1) in
+      held (held-with (m .header .picoseconds) (picosecondsPlace (m .header)) at v s entry exit r (k .stored) (k .room) h a w)
 
 -- a PublisherId of another variant than the first is on
 pub publisher-on : (p : PublisherId) → OneOf (1 ∷ 2 ∷ 3 ∷ 4 ∷ 5 ∷ []) (tagOf publisher.the-type p) → publisherOn p ≡ true
@@ -99,18 +105,23 @@ publisher-on (PublisherId.Text n) h = refl
 pub place-fits : (sizes s : List ℕ) (m : NetworkMessage) (next : ℕ) → Bytes s → networkMessageAt sizes s ≡ got m next → envelope.picosecondsPlace (m .envelope) (m .places) ≤ 65535
 place-fits sizes s m next b q = omega (arith, datagram.picoseconds-stored sizes s m next b q .1, accepted-short sizes s m next q)
 
--- an accepted datagram with a PublisherId, copied with its PicoSeconds
-pub datagram-copied : (sizes s entry exit : List ℕ) (r : Written) (m : NetworkMessage) (next at : ℕ) → Bytes s → networkMessageAt sizes s ≡ got m next
-    → publisherOn (m .envelope .publisher) ≡ true → at ≡ envelope.picosecondsPlace (m .envelope) (m .places) → CopiedWith s at (m .envelope .picoseconds) entry exit r
-    → Writes (datagramSame sizes s) entry exit r
-datagram-copied sizes s entry exit r m next at b q on a w =
-    let x = m .envelope in
-    let place = envelope.picosecondsPlace x (m .places) in
-    let p = datagram.picoseconds-stored sizes s m next b q in
-    let there : on16 (x .picoseconds) ≡ true → place + 2 ≤ length s = λ e. omega (arith, p .1, two-bytes (x .picoseconds) e) in
-    let c : CopiedWith s place (x .picoseconds) entry exit r = subst (λ (k : ℕ). CopiedWith s k (x .picoseconds) entry exit r) a w in
-    reading-accepts (λ m. writing (rewritten m s)) q
-    (subst (λ (l : List ℕ). Writes (writing l) entry exit r) (p .0 ∙ sym (datagram.same-with-publisher sizes s m next b q on)) (c there))
+-- an accepted datagram with a PublisherId, copied, and copied with its PicoSeconds
+module _ (sizes s entry exit : List ℕ) (r : Written) (m : NetworkMessage) (next : ℕ) (b : Bytes s) (q : networkMessageAt sizes s ≡ got m next) (on : publisherOn (m .envelope .publisher) ≡ true) where
+  datagram-held : Writes (writing (envelope.envelopeHeld (m .envelope) (m .places) s)) entry exit r → Writes (datagramSame sizes s) entry exit r
+  datagram-held w =
+      reading-accepts (λ m. writing (rewritten m s)) q (subst (λ (l : List ℕ). Writes (writing l) entry exit r) (sym (datagram.same-with-publisher sizes s m next b q on)) w)
+
+  pub datagram-copied : m .envelope .picoseconds ≡ Optional16.Absent → Writes (writing s) entry exit r → Writes (datagramSame sizes s) entry exit r
+  datagram-copied h w = datagram-held (held-copied (m .envelope .picoseconds) (envelope.picosecondsPlace (m .envelope) (m .places)) s entry exit r h w)
+
+  pub datagram-with : (at v : ℕ) → m .envelope .picoseconds ≡ Optional16.Is v → at ≡ envelope.picosecondsPlace (m .envelope) (m .places) → CopiedWith s at v entry exit r
+      → Writes (datagramSame sizes s) entry exit r
+  datagram-with at v h a w =
+      let x = m .envelope in
+      let place = envelope.picosecondsPlace x (m .places) in
+      let p = datagram.picoseconds-stored sizes s m next b q in
+      let room : on16 (x .picoseconds) ≡ true → place + 2 ≤ length s = λ e. omega (arith, p .1, two-bytes (x .picoseconds) e) in
+      datagram-held (held-with (x .picoseconds) place at v s entry exit r (p .0) room h a w)
 
 -- what the writer's own rewriting writes, in the bytes that were read
 pub datagram-said : (sizes s entry exit : List ℕ) (r : Written) → Bytes s → Writes (datagramAgain sizes s) entry exit r → Writes (datagramSame sizes s) entry exit r

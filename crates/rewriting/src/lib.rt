@@ -9,24 +9,21 @@ use publisher_id::publisher::PublisherId;
 use wire::constants::DISAGREE;
 use wire::optional::Optional16;
 use wire_writer::store::put_run;
+use wire_writer::store::put16;
 use wire_writer::writing::Written;
-use wire_writer::writing::put_optional16;
 use wire_writer::writing::room_refusal;
 use wire_writer::writing::size_i64;
 ghost use mathlib.Core.Path.{_≡_};
-ghost use mathlib.Core.Bool.{true};
 ghost use Prim.Native.Nat.{_+_, _≤_};
 ghost use lib.ListN.{length};
 ghost use lib.Seq.{sets};
-ghost use Rattle.wire_writer.specs.Writing.{Writes, writing, on16, optional16Bytes};
+ghost use Rattle.wire.specs.Number.{leBytes};
+ghost use Rattle.wire_writer.specs.Writing.{Writes, writing};
 ghost use Rattle.rewriting.specs.Same.{messageSame, datagramSame};
 
-// All of a slice, from the start of a buffer, with the picoseconds that were read at their place in it.
-fn copy_with(out: &mut [u8], s: &[u8], at: usize, picoseconds: Optional16) -> Written
-    ensures { λ r.
-        let bytes = sets (now (s .entry)) at (optional16Bytes picoseconds) in
-        ⌜ ((on16 picoseconds ≡ true → at + 2 ≤ length (now (s .entry)))
-        → Writes (writing bytes) (now (out .entry)) (now (out .exit)) r) ⌝ }
+// All of a slice, from the start of a buffer.
+fn copy_whole(out: &mut [u8], s: &[u8]) -> Written
+    ensures { λ r. ⌜ Writes (writing (now (s .entry))) (now (out .entry)) (now (out .exit)) r ⌝ }
 {
     let size = s.len();
     let full = room_refusal(size, out.len());
@@ -34,7 +31,22 @@ fn copy_with(out: &mut [u8], s: &[u8], at: usize, picoseconds: Optional16) -> Wr
         return Written::Refused(full);
     }
     put_run(out, 0, s);
-    put_optional16(out, at, picoseconds);
+    Written::Is(size)
+}
+
+// The same, with the picoseconds that were read at their place in it.
+fn copy_with(out: &mut [u8], s: &[u8], at: usize, picoseconds: u16) -> Written
+    ensures { λ r.
+        let bytes = sets (now (s .entry)) at (leBytes 2 picoseconds) in
+        ⌜ (at + 2 ≤ length (now (s .entry)) → Writes (writing bytes) (now (out .entry)) (now (out .exit)) r) ⌝ }
+{
+    let size = s.len();
+    let full = room_refusal(size, out.len());
+    if full != 0 {
+        return Written::Refused(full);
+    }
+    put_run(out, 0, s);
+    put16(out, at, picoseconds);
     Written::Is(size)
 }
 
@@ -50,7 +62,10 @@ pub fn rewrite_message(out: &mut [u8], message: &[u8], types: &[u8]) -> Written
         MessageRead::Refused(number, _) => Written::Refused(number),
         MessageRead::Is(header, _, _) => {
             let picoseconds = header.picoseconds;
-            copy_with(out, message, picoseconds_place(header), picoseconds)
+            match picoseconds {
+                Optional16::Absent => copy_whole(out, message),
+                Optional16::Is(v) => copy_with(out, message, picoseconds_place(header), v),
+            }
         }
     }
 }
@@ -70,7 +85,10 @@ pub fn rewrite_datagram(out: &mut [u8], datagram: &[u8], sizes: &[u16]) -> Writt
             let picoseconds = envelope.picoseconds;
             match publisher {
                 PublisherId::Absent => rewrite(out, datagram, sizes),
-                _ => copy_with(out, datagram, places.payload_header_end + size_i64(timestamp), picoseconds),
+                _ => match picoseconds {
+                    Optional16::Absent => copy_whole(out, datagram),
+                    Optional16::Is(v) => copy_with(out, datagram, places.payload_header_end + size_i64(timestamp), v),
+                },
             }
         }
     }
