@@ -1,10 +1,11 @@
 -- What was read and is copied whole, with its picoseconds stored, is what the writers' own rewriting makes of it.
 -- Assumes nothing.
 use mathlib.Core.Path.{_≡_, refl, ap, sym, subst, _∙_}
-use mathlib.Core.Bool.{true}
+use mathlib.Core.Bool.{Bool, true, false, cond}
 use mathlib.Core.List.{List, [], _∷_, _++_}
 use Prim.Native.Nat.{ℕ, suc, _+_, _≤_, _<_}
 use native.Mathlib.Omega.{arith}
+use lib.Dec.{eqb}
 use lib.ListN.{length, drop, getD, set, length-set, length-append}
 use lib.Seq.{sets, length-sets, set-append-left}
 use mir.Val.{Fits}
@@ -15,10 +16,9 @@ use Rattle.wire.specs.Answer.{Answer, got, refused}
 use Rattle.wire_writer.specs.Fits.{Bytes}
 use Rattle.wire.specs.Number.{leBytes}
 use Rattle.wire.specs.declared.optional.Optional16.{Optional16}
-use Rattle.wire_writer.specs.Writing.{Output, writing, afterReading, Writes, Puts, on16, optional16Bytes, picosecondsHeld}
+use Rattle.wire_writer.specs.Writing.{roomRefusal, Output, writing, afterReading, Writes, Puts, on16, optional16Bytes, picosecondsHeld}
 use Rattle.wire_writer.specs.declared.writing.Written.{Written}
 use Rattle.wire_writer.proofs.Answering.{reading-accepts}
-use Rattle.wire_writer.proofs.Putting.{front}
 use Rattle.wire_writer.proofs.Back.{two-bytes}
 use Rattle.publisher_id.proofs.publisher.PublisherId as publisher
 use Rattle.publisher_id.specs.declared.publisher.PublisherId.{PublisherId}
@@ -49,20 +49,41 @@ sets-left (a ∷ b) s r i h =
     let l : suc i + length b ≤ length (set s i a) = rw length-set (omega arith) in
     rw (set-append-left s r i a k) (sets-left b (set s i a) r (suc i) l)
 
--- A whole slice put at a buffer's start, and then bytes put over it: what stands there is the slice with those bytes stored in it.
-pub put-over : (s b out mid exit : List ℕ) (at n next : ℕ) → at + length b ≤ length s → Puts s out 0 mid n → Puts b mid at exit next → Puts (sets s at b) out 0 exit (length s)
-put-over s b out mid exit at n next inside p q =
-    record { stored = λ h. there (omega (arith, k)); after = λ h. omega (arith, k) }
-  where
-    k : length (sets s at b) ≡ length s
-    k = length-sets s at b
+-- A slice that was copied, and then bytes put over it where it was: what is written is the slice with those bytes stored in it.
+module _ (s b entry mid : List ℕ) (at : ℕ) (r : Written) (w : Writes (writing s) entry mid r) where
+  as-long : length (sets s at b) ≡ length s
+  as-long = length-sets s at b
 
-    there : length s ≤ length out → exit ≡ sets out 0 (sets s at b)
-    there l =
-        let e : mid ≡ s ++ drop (length s) out = p .stored (omega arith) ∙ front s out l in
-        let room : at + length b ≤ length mid = omega (arith, ap length e, length-append s (drop (length s) out)) in
-        q .stored room ∙ ap (λ (y : List ℕ). sets y at b) e ∙ sets-left b s (drop (length s) out) at inside
-        ∙ sym (front (sets s at b) out (subst (λ (m : ℕ). m ≤ length out) (sym k) l) ∙ ap (λ (m : ℕ). sets s at b ++ drop m out) k)
+  writes : (exit : List ℕ) → exit ≡ cond (eqb (roomRefusal (length s) (length entry)) 0) (sets s at b ++ drop (length s) entry) entry → Writes (writing (sets s at b)) entry exit r
+  writes exit e =
+      record {
+        answer = w .answer
+            ∙ ap (λ (n : ℕ). cond (eqb (roomRefusal n (length entry)) 0) (Written.Is n) (Written.Refused (roomRefusal n (length entry)))) (sym as-long);
+        buffer = e ∙ ap (λ (n : ℕ). cond (eqb (roomRefusal n (length entry)) 0) (sets s at b ++ drop n entry) entry) (sym as-long);
+      }
+
+  pub copy-refused : (n : ℕ) → r ≡ Written.Refused n → Writes (writing (sets s at b)) entry mid r
+  copy-refused n e = go (eqb (roomRefusal (length s) (length entry)) 0) refl
+    where
+      go : (t : Bool) → eqb (roomRefusal (length s) (length entry)) 0 ≡ t → Writes (writing (sets s at b)) entry mid r
+      go true t =
+          let a : r ≡ Written.Is (length s) = w .answer ∙ rw t in
+          let z : _≡_ {A = ℕ} 0 1 = cc in
+          absurd (omega arith)
+      go false t = writes mid (rw t (rw t at (w .buffer)))
+
+  pub copied-over : (n next : ℕ) (exit : List ℕ) → r ≡ Written.Is n → at + length b ≤ length s → Puts b mid at exit next → Writes (writing (sets s at b)) entry exit r
+  copied-over n next exit e inside q = go (eqb (roomRefusal (length s) (length entry)) 0) refl
+    where
+      go : (t : Bool) → eqb (roomRefusal (length s) (length entry)) 0 ≡ t → Writes (writing (sets s at b)) entry exit r
+      go true t =
+          let m : mid ≡ s ++ drop (length s) entry = rw t at (w .buffer) in
+          let room : at + length b ≤ length mid = omega (arith, ap length m, length-append s (drop (length s) entry)) in
+          writes exit (rw t (q .stored room ∙ ap (λ (y : List ℕ). sets y at b) m ∙ sets-left b s (drop (length s) entry) at inside))
+      go false t =
+          let a : r ≡ Written.Refused (roomRefusal (length s) (length entry)) = w .answer ∙ rw t in
+          let z : _≡_ {A = ℕ} 0 1 = cc in
+          absurd (omega arith)
 
 -- what `copy_with` promises
 abbrev pub CopiedWith : List ℕ → ℕ → ℕ → List ℕ → List ℕ → Written → Type 0

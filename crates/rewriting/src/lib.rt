@@ -40,14 +40,11 @@ fn copy_with(out: &mut [u8], s: &[u8], at: usize, picoseconds: u16) -> Written
         let bytes = sets (now (s .entry)) at (leBytes 2 picoseconds) in
         ⌜ (at + 2 ≤ length (now (s .entry)) → Writes (writing bytes) (now (out .entry)) (now (out .exit)) r) ⌝ }
 {
-    let size = s.len();
-    let full = room_refusal(size, out.len());
-    if full != 0 {
-        return Written::Refused(full);
+    let copied = copy_whole(out, s);
+    if let Written::Is(_) = copied {
+        put16(out, at, picoseconds);
     }
-    put_run(out, 0, s);
-    put16(out, at, picoseconds);
-    Written::Is(size)
+    copied
 }
 
 // An accepted, valid DataSetMessage written again, picoseconds of 10,000 or more as 9,999; what reading refuses is refused, and
