@@ -23,7 +23,7 @@ use Rattle.network_message.specs.Payload.{OfMessages}
 use Rattle.network_message.specs.Envelope.{NetworkMessage, networkMessageAt, messagePlaceAt, messageBytes}
 use Rattle.network_message_writer.specs.Envelope as N
 use Rattle.dataset_header.specs.Flags.{Valid, valid}
-use Rattle.dataset_header.specs.Header.{picosecondsPlace, messageHeld}
+use Rattle.dataset_header.specs.Header.{messagePicosecondsPlace, messageHeld}
 use Rattle.dataset_header.proofs.HeaderTrip.{header-back}
 use Rattle.dataset_message.proofs.Agreement.{header-of}
 use Rattle.dataset_message.specs.Message.{Message, messageAt}
@@ -91,10 +91,10 @@ handed-on : (sizes s : List ℕ) (m : NetworkMessage) (n : ℕ) → Bytes s → 
 handed-on sizes s m n b q = (rewritten.headerOf s (m .envelope) (m .places), sym (rewritten.rewrite-read sizes s m n b q))
 
 message-holds : (types s : List ℕ) (m : Message) (n : ℕ) → Bytes s → messageAt types s ≡ got (valid m) n → on16 (m .header .picoseconds) ≡ true
-    → 10000 ≤ le 2 s (picosecondsPlace (m .header)) → Holds (picosecondsPlace (m .header)) s (messageHeld (m .header) s)
+    → 10000 ≤ le 2 s (messagePicosecondsPlace (m .header)) → Holds (messagePicosecondsPlace (m .header)) s (messageHeld (m .header) s)
 message-holds types s m n b q o h =
     let p = header-of types s m n q in
-    held-holds (m .header .picoseconds) (picosecondsPlace (m .header)) s o h (header-back s (m .header) (p .0) b (p .1) .room o)
+    held-holds (m .header .picoseconds) (messagePicosecondsPlace (m .header)) s o h (header-back s (m .header) (p .0) b (p .1) .room o)
 
 -- ---- a whole datagram under one configuration
 module _ (w : Writers) (g : N.GivenDatagram) (x : Envelope) (entry exit : List ℕ) (n : ℕ)
@@ -175,7 +175,7 @@ demand-2 = record {
   payload-handed-on = handed-on;
   parts-again = datagram.writes-again;
   message-again = message-copied;
-  message-same = λ m s l. held-below (m .header .picoseconds) (picosecondsPlace (m .header)) s l;
+  message-same = λ m s l. held-below (m .header .picoseconds) (messagePicosecondsPlace (m .header)) s l;
   message-holds = message-holds;
   datagram-number-first = datagram.reading-number-first;
   datagram-picoseconds = datagram.picoseconds-refused;

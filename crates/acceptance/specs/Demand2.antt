@@ -109,15 +109,16 @@ pub record Demand2 : Type 0 where
   -- below 65,536.)
   pub parts-again : (s sizes configured out : List ℕ) (m : NetworkMessage) (n : ℕ) → Bytes s → Numbers sizes → Numbers configured
       → networkMessageAt sizes s ≡ got m n → length s ≤ length out → network.WritesAgain s sizes configured out m
-  -- "every accepted DataSetMessage, padding length included, is rewritten identically", but for picoseconds of 10,000 or more in its header.
+  -- "every accepted DataSetMessage, padding length included, is rewritten identically", but for picoseconds of 10,000 or more in its
+  -- header.
   pub message-again : (types s entry exit : List ℕ) (r : Written) (m : Message) (n : ℕ) → messageAt types s ≡ got (valid m) n
       → Writes (messageSame types s) entry exit r → CopiedTo (message.messageHeld (m .header) s) entry exit r
-  pub message-same : (m : Message) (s : List ℕ) → Below (m .header .picoseconds) (message.picosecondsPlace (m .header)) s
+  pub message-same : (m : Message) (s : List ℕ) → Below (m .header .picoseconds) (message.messagePicosecondsPlace (m .header)) s
       → message.messageHeld (m .header) s ≡ s
   -- Req 02: "the rewritten .. message header holds 9,999 there"
   pub message-holds : (types s : List ℕ) (m : Message) (n : ℕ) → Bytes s → messageAt types s ≡ got (valid m) n
-      → on16 (m .header .picoseconds) ≡ true → PICOSECONDS_END ≤ le 2 s (message.picosecondsPlace (m .header))
-      → Holds (message.picosecondsPlace (m .header)) s (message.messageHeld (m .header) s)
+      → on16 (m .header .picoseconds) ≡ true → PICOSECONDS_END ≤ le 2 s (message.messagePicosecondsPlace (m .header))
+      → Holds (message.messagePicosecondsPlace (m .header)) s (message.messageHeld (m .header) s)
   -- ---- "A writer refuses what reading would refuse, by the same number in reading order; then .. what would read back otherwise .. by 6".
   -- The number in reading order comes first.
   pub datagram-number-first : (g : N.GivenDatagram) (x : Envelope) (sizes configured : List ℕ)
@@ -126,26 +127,29 @@ pub record Demand2 : Type 0 where
   -- Req 02: "The writers still refuse 10,000 or more there with 3", at that item's turn: where nothing before it is refused.
   pub datagram-picoseconds : (g : N.GivenDatagram) (x : Envelope) (sizes configured : List ℕ) → N.picosecondsTurn g x ≡ true
       → N.datagramOutput g x sizes configured ≡ refusing NOT_PERMITTED
-  pub message-picoseconds : (types : List ℕ) (m : M.GivenMessage) → M.picosecondsTurn m ≡ true
+  pub message-picoseconds : (types : List ℕ) (m : M.GivenMessage) → M.messagePicosecondsTurn m ≡ true
       → M.messageOutput types m ≡ refusing NOT_PERMITTED
   -- In every other case, where what would be written is one thing, it is the number by which reading refuses that.
   pub datagram-refused-alike : (g : N.GivenDatagram) (x : Envelope) (sizes : List ℕ) → FitsEnvelope x → network.CountsAgree g x
       → length (N.datagramOf g x) ≤ MOST_DATAGRAM → N.picosecondsTurn g x ≡ false → eqb (N.datagramReadingRefusal g x sizes) 0 ≡ false
       → (place : ℕ) × (networkMessageAt sizes (N.datagramOf g x) ≡ refused (N.datagramReadingRefusal g x sizes) place)
-  pub message-number-alike : (types : List ℕ) (m : M.GivenMessage) → M.FitsGiven m → PartsAgree types m → M.picosecondsTurn m ≡ false
-      → numberOf (messageAt types (M.encode m)) ≡ M.messageReadingRefusal types m
-  pub message-refused-alike : (types : List ℕ) (m : M.GivenMessage) → M.FitsGiven m → PartsAgree types m → M.picosecondsTurn m ≡ false
-      → (n : ℕ) → (n ≡ 0 → ⊥) → (n ≡ DISAGREE → ⊥) → (M.messageRefusal types m ≡ n) ↔ ReadingRefuses types m n
+  pub message-number-alike : (types : List ℕ) (m : M.GivenMessage) → M.FitsGiven m → PartsAgree types m
+      → M.messagePicosecondsTurn m ≡ false → numberOf (messageAt types (M.encode m)) ≡ M.messageReadingRefusal types m
+  pub message-refused-alike : (types : List ℕ) (m : M.GivenMessage) → M.FitsGiven m → PartsAgree types m
+      → M.messagePicosecondsTurn m ≡ false → (n : ℕ) → (n ≡ 0 → ⊥) → (n ≡ DISAGREE → ⊥)
+      → (M.messageRefusal types m ≡ n) ↔ ReadingRefuses types m n
   -- Also where a field is no whole value, as far as reading finds it where it stands.
-  pub message-refused-plainly : (types : List ℕ) (m : M.GivenMessage) → M.FitsGiven m → Tellable types m → M.picosecondsTurn m ≡ false
-      → eqb (M.messageReadingRefusal types m) 0 ≡ false → ReadingRefuses types m (M.messageReadingRefusal types m)
+  pub message-refused-plainly : (types : List ℕ) (m : M.GivenMessage) → M.FitsGiven m → Tellable types m
+      → M.messagePicosecondsTurn m ≡ false → eqb (M.messageReadingRefusal types m) 0 ≡ false
+      → ReadingRefuses types m (M.messageReadingRefusal types m)
   -- The writer accepts exactly what reads back as given.
   pub datagram-accepted-exactly : (g : N.GivenDatagram) (x : Envelope) (sizes configured : List ℕ) → FitsEnvelope x
       → network.PartsAgree g x sizes configured → length (N.datagramOf g x) ≤ MOST_DATAGRAM
       → (N.datagramRefusal g x sizes configured ≡ 0) ↔ network.ReadsBack g x sizes configured (N.datagramOf g x)
   pub message-accepted-exactly : (types : List ℕ) (m : M.GivenMessage) → M.FitsGiven m
       → (M.messageRefusal types m ≡ 0) ↔ (MessageBack types m (M.encode m) × (M.listsGiven m ≡ true))
-  -- Through C "a number that does not fit its item" is 6, after the numbers in reading order: `fits` says whether all numbers of the record do.
+  -- Through C "a number that does not fit its item" is 6, after the numbers in reading order: `fits` says whether all numbers of the
+  -- record do.
   pub lent-fits-after-reading : (fits : Bool) (g : N.GivenDatagram) (x : Envelope) (sizes configured : List ℕ)
       → fitting fits (N.datagramOutput g x sizes configured)
       ≡ unless

@@ -8,7 +8,7 @@ use native.Mathlib.Omega.{arith}
 use lib.ListN.{length, drop, length-append}
 use lib.Seq.{sets}
 use borrow.Author.Tests.{ne-eqb}
-use Rattle.dataset_header.specs.Header.{FitsHeader, timesBytes, messageTimesAt, versionsBytes, versionsAt, messageHeaderBytes, messageHeaderAt, headerOf, messageItemsAt, afterFlags, picosecondsPlace, messageHeld}
+use Rattle.dataset_header.specs.Header.{FitsHeader, timesBytes, messageTimesAt, versionsBytes, versionsAt, messageHeaderBytes, messageHeaderAt, headerOf, messageItemsAt, afterFlags, messagePicosecondsPlace, messageHeld}
 use Rattle.wire_writer.specs.Writing.{optional16Bytes, optionalI64Bytes, picosecondsRefusal, picosecondsHeld, optional32Bytes, on16, onI64, on32, byteBytes}
 use Rattle.wire_writer.proofs.Trip.{Reads, first, second, optional16-is, optionalI64-is, picoseconds-is, optional32-is}
 use Rattle.dataset_header.specs.declared.header.Header.{Header}
@@ -119,8 +119,8 @@ pub record HeaderBack (s : List ℕ) (h : Header) (next : ℕ) : Type 0 where
   pub sized : next ≡ length (messageHeaderBytes h)
   pub fits : next ≤ length s
   pub again : messageHeaderBytes h ++ drop next s ≡ messageHeld h s
-  pub stored : sets s (picosecondsPlace h) (optional16Bytes (h .picoseconds)) ≡ messageHeld h s
-  pub room : on16 (h .picoseconds) ≡ true → picosecondsPlace h + 2 ≤ length s
+  pub stored : sets s (messagePicosecondsPlace h) (optional16Bytes (h .picoseconds)) ≡ messageHeld h s
+  pub room : on16 (h .picoseconds) ≡ true → messagePicosecondsPlace h + 2 ≤ length s
   pub kind : kindRule (h .kind) (h .encoding) ≡ 0
   pub picoseconds : picosecondsRefusal (h .picoseconds) ≡ 0
 
@@ -180,16 +180,28 @@ body-back s f n h next bytes r q =
         let pb = optional16Bytes (h .picoseconds) in
         let vb = versionsBytes h in
         let all = join s 0 fb n (qb ++ tb) place flags times in
-        let there : on16 (h .picoseconds) ≡ true → place ≡ picosecondsPlace h = λ e. omega (arith, all .1, length-append fb (qb ++ tb), length-append qb tb, two-flags h e) in
+        let there : on16 (h .picoseconds) ≡ true → place ≡ messagePicosecondsPlace h = λ e. omega (arith, all .1, length-append fb (qb ++ tb), length-append qb tb, two-flags h e) in
         record {
-          sized = omega (arith, all .1, pico .ends, versions .1, length-append fb ((qb ++ (tb ++ pb)) ++ vb), length-append (qb ++ (tb ++ pb)) vb, length-append qb (tb ++ pb), length-append tb pb, length-append fb (qb ++ tb), length-append qb tb);
+          sized =
+              omega (
+                arith,
+                all .1,
+                pico .ends,
+                versions .1,
+                length-append fb ((qb ++ (tb ++ pb)) ++ vb),
+                length-append (qb ++ (tb ++ pb)) vb,
+                length-append qb (tb ++ pb),
+                length-append tb pb,
+                length-append fb (qb ++ tb),
+                length-append qb tb,
+              );
           fits = end-fits s k vb next versions;
           again =
               in-a-row fb qb tb pb vb (drop next s) ∙ held-between s (fb ++ (qb ++ tb)) place (h .picoseconds) k vb next all pico versions
-              ∙ held-there (h .picoseconds) place (picosecondsPlace h) s there;
+              ∙ held-there (h .picoseconds) place (messagePicosecondsPlace h) s there;
           stored =
-              sym (stored-there (h .picoseconds) place (picosecondsPlace h) s there) ∙ held-stored s place (h .picoseconds) k pico
-              ∙ held-there (h .picoseconds) place (picosecondsPlace h) s there;
+              sym (stored-there (h .picoseconds) place (messagePicosecondsPlace h) s there) ∙ held-stored s place (h .picoseconds) k pico
+              ∙ held-there (h .picoseconds) place (messagePicosecondsPlace h) s there;
           room = λ e. omega (arith, there e, two-bytes (h .picoseconds) e, pico .ends, pico .fits);
           kind = kind;
           picoseconds = kept;

@@ -148,8 +148,9 @@ messageReadingRefusal types g =
 
 -- whether it is the turn of the picoseconds, and they are refused: nothing that stands before them is, and they are 10,000 or more. This
 -- refusal alone is the writer's own.
-abbrev pub picosecondsTurn : GivenMessage → Bool
-picosecondsTurn g = eqb (kindRule (g .header .kind) (g .header .encoding)) 0 && not (eqb (picosecondsRefusal (g .header .picoseconds)) 0)
+abbrev pub messagePicosecondsTurn : GivenMessage → Bool
+messagePicosecondsTurn g =
+    eqb (kindRule (g .header .kind) (g .header .encoding)) 0 && not (eqb (picosecondsRefusal (g .header .picoseconds)) 0)
 
 -- what follows the header reads back as it is given: each field whole, as many as are read, and the padding
 abbrev pub bodyAgrees : List ℕ → GivenMessage → Bool

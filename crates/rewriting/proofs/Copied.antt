@@ -28,7 +28,7 @@ use Rattle.network_message_writer.specs.Envelope.{againOf, datagramAgain}
 use Rattle.network_header.specs.Envelope as envelope
 use Rattle.network_message_writer.proofs.Again.{accepted-short}
 use Rattle.dataset_header.specs.Flags.{valid}
-use Rattle.dataset_header.specs.Header.{picosecondsPlace, messageHeld}
+use Rattle.dataset_header.specs.Header.{messagePicosecondsPlace, messageHeld}
 use Rattle.dataset_header.proofs.HeaderTrip.{header-back}
 use Rattle.dataset_message.specs.Message.{Message, messageAt}
 use Rattle.dataset_message.proofs.Agreement.{header-of}
@@ -105,13 +105,14 @@ module _ (types s entry exit : List ℕ) (r : Written) (m : Message) (e : ℕ) (
   held w = reading-accepts (whereValid (λ m. messageHeld (m .header) s)) q w
 
   pub message-copied : m .header .picoseconds ≡ Optional16.Absent → Writes (writing s) entry exit r → Writes (messageSame types s) entry exit r
-  message-copied h w = held (held-copied (m .header .picoseconds) (picosecondsPlace (m .header)) s entry exit r h w)
+  message-copied h w = held (held-copied (m .header .picoseconds) (messagePicosecondsPlace (m .header)) s entry exit r h w)
 
-  pub message-with : Bytes s → (at v : ℕ) → m .header .picoseconds ≡ Optional16.Is v → at ≡ picosecondsPlace (m .header) → CopiedWith s at v entry exit r → Writes (messageSame types s) entry exit r
+  pub message-with : Bytes s → (at v : ℕ) → m .header .picoseconds ≡ Optional16.Is v → at ≡ messagePicosecondsPlace (m .header) → CopiedWith s at v entry exit r
+      → Writes (messageSame types s) entry exit r
   message-with b at v h a w =
       let p = header-of types s m e q in
       let k = header-back s (m .header) (p .0) b (p .1) in
-      held (held-with (m .header .picoseconds) (picosecondsPlace (m .header)) at v s entry exit r (k .stored) (k .room) h a w)
+      held (held-with (m .header .picoseconds) (messagePicosecondsPlace (m .header)) at v s entry exit r (k .stored) (k .room) h a w)
 
 -- a PublisherId of another variant than the first is on
 pub publisher-on : (p : PublisherId) → OneOf (1 ∷ 2 ∷ 3 ∷ 4 ∷ 5 ∷ []) (tagOf publisher.the-type p) → publisherOn p ≡ true

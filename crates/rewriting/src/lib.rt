@@ -84,7 +84,12 @@ pub fn rewrite_datagram(out: &mut [u8], datagram: &[u8], sizes: &[u16]) -> Writt
                 PublisherId::Absent => rewrite(out, datagram, sizes),
                 _ => match picoseconds {
                     Optional16::Absent => copy_whole(out, datagram),
-                    Optional16::Is(v) => copy_with(out, datagram, places.payload_header_end + size_i64(timestamp), v),
+                    Optional16::Is(v) => copy_with(
+                        out,
+                        datagram,
+                        places.payload_header_end + size_i64(timestamp),
+                        v,
+                    ),
                 },
             }
         }

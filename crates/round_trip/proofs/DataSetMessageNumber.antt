@@ -28,7 +28,7 @@ use Rattle.dataset_fields.proofs.Laying.{values-whole, length-zeros}
 use Rattle.dataset_fields.proofs.Walks.{padding-step, padding-stop}
 use Rattle.dataset_fields.proofs.FieldsTrip.{fields-is}
 use Rattle.dataset_message.specs.Message.{Message, countAt, bodyAt, messageAt}
-use Rattle.dataset_message_writer.specs.Message.{GivenMessage, hasFields, isKey, isFielded, isRawData, givenFields, encode, missingRefusal, leftRefusal, rawRefusal, ownGiven, wholeGiven, listsGiven, layoutGiven, countsGiven, picosecondsTurn, messageReadingRefusal, readsBack, messageRefusal}
+use Rattle.dataset_message_writer.specs.Message.{GivenMessage, hasFields, isKey, isFielded, isRawData, givenFields, encode, missingRefusal, leftRefusal, rawRefusal, ownGiven, wholeGiven, listsGiven, layoutGiven, countsGiven, messagePicosecondsTurn, messageReadingRefusal, readsBack, messageRefusal}
 use Rattle.dataset_message_writer.proofs.Whole.{Accepted, acceptable, lists-add, own-none, layout-none, missing-none, missing-short, missing-step, missing-done, none-left, few-fields, many-fields, total-split}
 use Rattle.round_trip.specs.DataSetMessage.{PartsAgree, ReadingRefuses}
 use Rattle.round_trip.proofs.DataSetMessage.{no, read-written}
@@ -360,7 +360,7 @@ module _ (types : List ℕ) (g : GivenMessage) (fits : FitsHeader (g .header)) (
 
 -- Where each field given is one whole value, counts and lists agree, and it is not the turn of picoseconds of 10,000 or more, the writer's
 -- number in reading order is reading's number of what would be written.
-pub number-alike : (types : List ℕ) (g : GivenMessage) → FitsHeader (g .header) → Numbers (g .indices) → PartsAgree types g → picosecondsTurn g ≡ false
+pub number-alike : (types : List ℕ) (g : GivenMessage) → FitsHeader (g .header) → Numbers (g .indices) → PartsAgree types g → messagePicosecondsTurn g ≡ false
     → numberOf (messageAt types (encode g)) ≡ messageReadingRefusal types g
 number-alike types g fits indices agree turn =
     go (eqb (kindRule (g .header .kind) (g .header .encoding)) 0) refl (eqb (picosecondsRefusal (g .header .picoseconds)) 0) refl
@@ -399,7 +399,7 @@ refused-by (got a e) n z h = absurd (z (sym h))
 refused-by (refused m p) n z h = (p, ap (λ (k : ℕ). refused k p) h)
 
 -- So reading refuses by n what would be written exactly if the writer's number is n, where that is not 6, "what would read back otherwise".
-pub refused-alike : (types : List ℕ) (g : GivenMessage) → FitsHeader (g .header) → Numbers (g .indices) → PartsAgree types g → picosecondsTurn g ≡ false → (n : ℕ) → (n ≡ 0 → ⊥) → (n ≡ 6 → ⊥)
+pub refused-alike : (types : List ℕ) (g : GivenMessage) → FitsHeader (g .header) → Numbers (g .indices) → PartsAgree types g → messagePicosecondsTurn g ≡ false → (n : ℕ) → (n ≡ 0 → ⊥) → (n ≡ 6 → ⊥)
     → (messageRefusal types g ≡ n → ReadingRefuses types g n) × (ReadingRefuses types g n → messageRefusal types g ≡ n)
 refused-alike types g fits indices agree turn n z s = (there, back)
   where

@@ -25,7 +25,7 @@ use Rattle.dataset_header.specs.Flags.{isDelta, kindRule}
 use Rattle.dataset_header.specs.Header.{FitsHeader}
 use Rattle.dataset_fields.specs.Fields.{encodedAt, fieldsAt, fieldsRefusal, reached, indexBytes, fieldsBytes, zeros}
 use Rattle.dataset_message.specs.Message.{countAt, messageAt}
-use Rattle.dataset_message_writer.specs.Message.{GivenMessage, isKey, isFielded, isRawData, givenFields, countBytes, ownGiven, wholeGiven, listsGiven, layoutGiven, bodyRefusal, picosecondsTurn, messageReadingRefusal, readsBack, encode, messageOutput}
+use Rattle.dataset_message_writer.specs.Message.{GivenMessage, isKey, isFielded, isRawData, givenFields, countBytes, ownGiven, wholeGiven, listsGiven, layoutGiven, bodyRefusal, messagePicosecondsTurn, messageReadingRefusal, readsBack, encode, messageOutput}
 use Rattle.dataset_fields.proofs.Judging.{encoded-either, encoded-refused, length-values}
 use Rattle.dataset_fields.proofs.FieldsTrip.{field-is, index-is}
 use Rattle.round_trip.specs.DataSetMessage.{plainly, Tellable, PartsAgree, ReadingRefuses, fieldsCounted}
@@ -251,8 +251,8 @@ module _ (types : List ℕ) (g : GivenMessage) (fits : FitsHeader (g .header)) (
 
 -- The number by which the writer refuses in reading order, but not picoseconds at their turn, is reading's number of what would have been
 -- written.
-pub refuse-written : (types : List ℕ) (g : GivenMessage) → FitsHeader (g .header) → Numbers (g .indices) → Tellable types g → picosecondsTurn g ≡ false → eqb (messageReadingRefusal types g) 0 ≡ false
-    → (place : ℕ) × (messageAt types (encode g) ≡ refused (messageReadingRefusal types g) place)
+pub refuse-written : (types : List ℕ) (g : GivenMessage) → FitsHeader (g .header) → Numbers (g .indices) → Tellable types g → messagePicosecondsTurn g ≡ false
+    → eqb (messageReadingRefusal types g) 0 ≡ false → (place : ℕ) × (messageAt types (encode g) ≡ refused (messageReadingRefusal types g) place)
 refuse-written types g fits indices tells turn h =
     or-case (ReadingRefuses types g) (kindRule (g .header .kind) (g .header .encoding)) (orElse (picosecondsRefusal (g .header .picoseconds)) (bodyRefusal types g)) h
     (kind-refused types g)
@@ -260,7 +260,7 @@ refuse-written types g fits indices tells turn h =
     (λ e. no (sym (rw (k, e) at turn))) (body-refused types g fits indices tells k))
 
 -- Picoseconds of 10,000 and up are refused by 3, at their turn.
-pub picoseconds-refused : (types : List ℕ) (g : GivenMessage) → picosecondsTurn g ≡ true → messageOutput types g ≡ refusing 3
+pub picoseconds-refused : (types : List ℕ) (g : GivenMessage) → messagePicosecondsTurn g ≡ true → messageOutput types g ≡ refusing 3
 picoseconds-refused types g h =
     let k = kindRule (g .header .kind) (g .header .encoding) in
     let p = picosecondsRefusal (g .header .picoseconds) in

@@ -24,7 +24,7 @@ use Rattle.wire_writer.proofs.Back.{Back, empty, rest-is, end-fits, item-back, 
 use Rattle.dataset_header.specs.declared.flags.Kind.{Kind}
 use Rattle.dataset_header.specs.declared.header.Header.{Header}
 use Rattle.dataset_header.specs.Flags.{Valid, notValid, valid, isDelta, isRaw}
-use Rattle.dataset_header.specs.Header.{messageHeaderAt, messageHeaderBytes, picosecondsPlace, messageHeld}
+use Rattle.dataset_header.specs.Header.{messageHeaderAt, messageHeaderBytes, messagePicosecondsPlace, messageHeld}
 use Rattle.dataset_fields.specs.Fields.{fieldsAt, paddingAt, fieldAt, valuesOf, fieldsBytes, zeros, valuesJoined, lengthsOf, andField, walked}
 use Rattle.dataset_message.specs.Message.{Message, countedAt, countAt, endAt, bodyAt, afterHeader, messageAt, fieldPlaceAt}
 use Rattle.dataset_message_writer.specs.Message.{GivenMessage, hasFields, isKey, isFielded, isRawData, givenFields, countBytes, countAgrees, wholeGiven, countsGiven, messageRefusal, encode, messageOutput}
@@ -222,7 +222,7 @@ rewrite-read types s m e bytes q =
 as-long : (h : Header) (s entry exit : List ℕ) (r : Written) → length s ≤ 65535 → length s ≤ length entry → Writes (writing (messageHeld h s)) entry exit r
     → (r ≡ Written.Is (length s)) × (exit ≡ messageHeld h s ++ drop (length s) entry)
 as-long h s entry exit r l room w =
-    let n = held-length (h .picoseconds) (picosecondsPlace h) s in
+    let n = held-length (h .picoseconds) (messagePicosecondsPlace h) s in
     let x = fitting-written {bytes = messageHeld h s} (rw n l) (rw n room) w in
     (x .0 ∙ ap Written.Is n, x .1 ∙ ap (λ (k : ℕ). messageHeld h s ++ drop k entry) n)
 

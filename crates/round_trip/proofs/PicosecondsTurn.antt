@@ -22,7 +22,7 @@ three (Optional16.Is v) h = go (leb 10000 v) h
 
 -- their turn: what stands before them is not refused, and they are
 module _ (before p : ℕ) (h : eqb before 0 && not (eqb p 0) ≡ true) where
-  pub nothing-before : before ≡ 0
+  nothing-before : before ≡ 0
   nothing-before = eqb-true before 0 (and-left (eqb before 0) (not (eqb p 0)) h)
 
   pub their-refusal : eqb p 0 ≡ false

@@ -105,8 +105,8 @@ typeCleared (b ∷ []) = b ∷ []
 typeCleared (b ∷ e ∷ s) =
     cond (bit 7 b && not (bit 4 b)) (cond (eqb (e / 8) 0) ((b - 128) ∷ s) (b ∷ (8 * (e / 8)) ∷ s)) (b ∷ e ∷ s)
 
--- A datagram that was read as m, written again: the same bytes but for that exception and the second, "the rewritten envelope .. holds 9,999
--- there", where its PicoSeconds are 10,000 or more. All else, the messages too, stands as it stood: "a message handed on as bytes keeps its own".
+-- A datagram that was read as m, written again: the same bytes but for that exception and the second, "the rewritten envelope .. holds
+-- 9,999 there", where its PicoSeconds are 10,000 or more. All else stands as it stood: "a message handed on as bytes keeps its own".
 abbrev pub rewritten : NetworkMessage → List ℕ → List ℕ
 rewritten m s = typeCleared (envelopeHeld (m .envelope) (m .places) s)
 
