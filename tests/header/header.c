@@ -282,6 +282,27 @@ static void numbers_that_do_not_fit(void)
     CHECK(refused(uadp_write_message(&m, NULL, UADP_NO_WRITER, out, sizeof out), UADP_NOT_PERMITTED, 0));
 }
 
+/* Picoseconds of 10,000 and up read as 9,999; a datagram written again holds that, and its message keeps its own. */
+static void picoseconds_held(void)
+{
+    uint8_t sent[] = {0xD1, 0x60, 9, 1, 21, 0, 1, 2, 3, 4, 5, 6, 7, 8, 0x10, 0x27, 0x81, 0x20, 0xFF, 0xFF};
+    uint8_t held[] = {0xD1, 0x60, 9, 1, 21, 0, 1, 2, 3, 4, 5, 6, 7, 8, 0x0F, 0x27, 0x81, 0x20, 0xFF, 0xFF};
+    uint8_t message[] = {0x81, 0x20, 0x0F, 0x27};
+    uint8_t out[32];
+    uadp_envelope_record e = UADP_ZERO;
+    uadp_head_record h = UADP_ZERO;
+
+    CHECK(done(uadp_read(sent, sizeof sent, NULL, &e), 1));
+    CHECK(e.has_picoseconds != 0 && e.picoseconds == 9999);
+    CHECK(done(uadp_rewrite(sent, sizeof sent, NULL, out, sizeof out), sizeof sent));
+    CHECK(memcmp(out, held, sizeof held) == 0);
+    CHECK(done(uadp_read_message(sent + 16, 4, NULL, UADP_NO_WRITER, &h), 1));
+    CHECK(h.items == UADP_ITEM_PICOSECONDS && h.picoseconds == 9999);
+    CHECK(done(uadp_rewrite_message(sent + 16, 4, NULL, UADP_NO_WRITER, out, sizeof out), sizeof message));
+    CHECK(memcmp(out, message, sizeof message) == 0);
+    CHECK(refused(uadp_read(sent, 15, NULL, &e), UADP_CUT_SHORT, 14));
+}
+
 /* A message cut, taken in by two partials in another order, combined and handed out. */
 static void reassembled(void)
 {
@@ -525,6 +546,7 @@ static void *others(void *unused)
     written_from_parts();
     forms_of_a_datagram();
     numbers_that_do_not_fit();
+    picoseconds_held();
     reassembled();
     values_by_name();
     chunks_by_name();
@@ -591,6 +613,7 @@ int main(int argc, char **argv)
     written_from_parts();
     forms_of_a_datagram();
     numbers_that_do_not_fit();
+    picoseconds_held();
     reassembled();
     values_by_name();
     chunks_by_name();

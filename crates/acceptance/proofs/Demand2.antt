@@ -1,26 +1,31 @@
 -- Demand 2 holds: each field by the theorem that proves it. Assumes nothing.
-use Prim.Native.Nat.{ℕ, _*_, _/_, _≤_, _<_}
+use Prim.Native.Nat.{ℕ, _+_, _*_, _≤_, _<_}
 use mathlib.Core.Path.{_≡_, sym, ap, subst, _∙_}
-use mathlib.Core.Bool.{not, _&&_}
-use mathlib.Core.List.{List, [], _∷_}
-use mathlib.Core.Logic.{inl, inr}
+use mathlib.Core.Bool.{true, false}
+use mathlib.Core.List.{List, [], _∷_, _++_}
+use mathlib.Core.Logic.{_⊎_, inl, inr}
 use native.Mathlib.Omega.{arith}
 use borrow.Author.Tests.{lt-ltb, le-ltb}
-use lib.Dec.{eqb}
 use lib.ListN.{length, take, drop}
 use Rattle.wire.specs.Number.{le}
 use Rattle.wire.specs.Answer.{Answer, got, bit}
-use Rattle.wire.proofs.Cases.{by-bool}
-use Rattle.wire_writer.specs.Writing.{writing, Writes, afterReading}
+use Rattle.wire_writer.specs.Writing.{writing, Writes, afterReading, on16}
+use Rattle.wire_writer.specs.Fits.{Bytes}
 use Rattle.wire_writer.specs.declared.writing.Written.{Written}
 use Rattle.wire_writer.proofs.Answering.{fitting-written}
+use Rattle.wire_writer.proofs.Back.{two-bytes}
 use Rattle.config.specs.Writers.{typesOf}
+use Rattle.publisher_id.specs.Publisher.{publisherOn}
+use Rattle.network_header.specs.Envelope as envelope
 use Rattle.network_header.specs.Envelope.{FitsEnvelope}
 use Rattle.network_header.specs.declared.envelope.Envelope.{Envelope}
 use Rattle.network_message.specs.Payload.{OfMessages}
 use Rattle.network_message.specs.Envelope.{NetworkMessage, networkMessageAt, messagePlaceAt, messageBytes}
 use Rattle.network_message_writer.specs.Envelope as N
 use Rattle.dataset_header.specs.Flags.{Valid, valid}
+use Rattle.dataset_header.specs.Header.{messagePicosecondsPlace, messageHeld}
+use Rattle.dataset_header.proofs.HeaderTrip.{header-back}
+use Rattle.dataset_message.proofs.Agreement.{header-of}
 use Rattle.dataset_message.specs.Message.{Message, messageAt}
 use Rattle.dataset_message_writer.specs.Message as M
 use Rattle.dataset_message_writer.specs.Rewrite.{whereValid}
@@ -28,6 +33,7 @@ use Rattle.round_trip.specs.NetworkMessage as network
 use Rattle.round_trip.specs.DataSetMessage.{MessageBack}
 use Rattle.round_trip.proofs.NetworkMessageRoundTrip as datagram
 use Rattle.round_trip.proofs.RewrittenBytes.{keeps}
+use Rattle.round_trip.proofs.NetworkMessageRewritten as rewritten
 use Rattle.round_trip.proofs.DataSetMessage as message
 use Rattle.round_trip.proofs.DataSetMessageNumber as number
 use Rattle.round_trip.proofs.DataSetMessageRefused as plain
@@ -42,11 +48,12 @@ use Rattle.walk.specs.Lines.{Writers}
 use Rattle.walk.proofs.Listing.{start-lists, step-lists}
 use Rattle.walk_records.proofs.Accepted.{walk-listed}
 use Rattle.uadp_c.proofs.AfterReading.{after-reading}
-use Rattle.acceptance.specs.Again.{CopiedTo}
+use Rattle.acceptance.specs.Again.{CopiedTo, Below, Holds}
 use Rattle.acceptance.specs.Chunks.{IsWritten}
 use Rattle.acceptance.specs.Demand2.{Demand2, typesGiven, typesRead}
 use Rattle.acceptance.proofs.Tiling.{messages-tile}
 use Rattle.acceptance.proofs.FieldsTile.{fields-tile}
+use Rattle.acceptance.proofs.Held.{held-below, held-holds}
 
 -- ---- bytes that are written
 copied : (bytes entry exit : List ℕ) (r : Written) → Writes (writing bytes) entry exit r → CopiedTo bytes entry exit r
@@ -57,24 +64,38 @@ copied bytes entry exit r w = record {
 }
 
 datagram-copied : (sizes s entry exit : List ℕ) (r : Written) (m : NetworkMessage) (n : ℕ) → networkMessageAt sizes s ≡ got m n
-    → Writes (datagramSame sizes s) entry exit r → CopiedTo (network.rewritten s) entry exit r
+    → Writes (datagramSame sizes s) entry exit r → CopiedTo (network.rewritten m s) entry exit r
 datagram-copied sizes s entry exit r m n e w =
-    copied (network.rewritten s) entry exit r
-    (subst (λ (a : Answer NetworkMessage). Writes (afterReading a (λ x. writing (network.rewritten s))) entry exit r) e w)
+    copied (network.rewritten m s) entry exit r
+    (subst (λ (a : Answer NetworkMessage). Writes (afterReading a (λ x. writing (network.rewritten x s))) entry exit r) e w)
 
 message-copied : (types s entry exit : List ℕ) (r : Written) (m : Message) (n : ℕ) → messageAt types s ≡ got (valid m) n
-    → Writes (messageSame types s) entry exit r → CopiedTo s entry exit r
+    → Writes (messageSame types s) entry exit r → CopiedTo (messageHeld (m .header) s) entry exit r
 message-copied types s entry exit r m n e w =
-    copied s entry exit r (subst (λ (a : Answer (Valid Message)). Writes (afterReading a (whereValid (λ x. s))) entry exit r) e w)
+    copied (messageHeld (m .header) s) entry exit r (subst (λ (a : Answer (Valid Message)). Writes (afterReading a (whereValid (λ x. messageHeld (x .header) s))) entry exit r) e w)
 
--- ---- rewriting makes no datagram longer
-shorter : (s : List ℕ) → length (network.rewritten s) ≤ length s
-shorter [] = omega arith
-shorter (b ∷ []) = omega arith
-shorter (b ∷ e ∷ s) =
-    by-bool _ (bit 7 b && not (bit 4 b))
-    (λ t. by-bool _ (eqb (e / 8) 0) (λ u. rw (t, u) (omega arith)) (λ u. rw (t, u) (omega arith)))
-    (λ t. rw t (omega arith))
+-- ---- the two exceptions
+kept : (m : NetworkMessage) (b : ℕ) (s : List ℕ) → (bit 7 b ≡ false) ⊎ (bit 4 b ≡ true)
+    → Below (m .envelope .picoseconds) (envelope.picosecondsPlace (m .envelope) (m .places)) (b ∷ s) → network.rewritten m (b ∷ s) ≡ b ∷ s
+kept m b s h l = ap network.typeCleared (held-below (m .envelope .picoseconds) (envelope.picosecondsPlace (m .envelope) (m .places)) (b ∷ s) l) ∙ keeps b s h
+
+datagram-holds : (sizes s : List ℕ) (m : NetworkMessage) (n : ℕ) → Bytes s → networkMessageAt sizes s ≡ got m n → publisherOn (m .envelope .publisher) ≡ true
+    → on16 (m .envelope .picoseconds) ≡ true → 10000 ≤ le 2 s (envelope.picosecondsPlace (m .envelope) (m .places))
+    → Holds (envelope.picosecondsPlace (m .envelope) (m .places)) s (network.rewritten m s)
+datagram-holds sizes s m n b q p o h =
+    let at = envelope.picosecondsPlace (m .envelope) (m .places) in
+    let room = rewritten.picoseconds-stored sizes s m n b q .1 in
+    let l : at + 2 ≤ length s = omega (arith, room, two-bytes (m .envelope .picoseconds) o) in
+    subst (Holds at s) (sym (rewritten.same-with-publisher sizes s m n b q p)) (held-holds (m .envelope .picoseconds) at s o h l)
+
+handed-on : (sizes s : List ℕ) (m : NetworkMessage) (n : ℕ) → Bytes s → networkMessageAt sizes s ≡ got m n → (header : List ℕ) × (network.rewritten m s ≡ header ++ drop (m .places .payload) s)
+handed-on sizes s m n b q = (rewritten.headerOf s (m .envelope) (m .places), sym (rewritten.rewrite-read sizes s m n b q))
+
+message-holds : (types s : List ℕ) (m : Message) (n : ℕ) → Bytes s → messageAt types s ≡ got (valid m) n → on16 (m .header .picoseconds) ≡ true
+    → 10000 ≤ le 2 s (messagePicosecondsPlace (m .header)) → Holds (messagePicosecondsPlace (m .header)) s (messageHeld (m .header) s)
+message-holds types s m n b q o h =
+    let p = header-of types s m n q in
+    held-holds (m .header .picoseconds) (messagePicosecondsPlace (m .header)) s o h (header-back s (m .header) (p .0) b (p .1) .room o)
 
 -- ---- a whole datagram under one configuration
 module _ (w : Writers) (g : N.GivenDatagram) (x : Envelope) (entry exit : List ℕ) (n : ℕ)
@@ -150,14 +171,20 @@ demand-2 = record {
   whole-reads-back = λ w g x entry exit n p. whole w g x entry exit n p;
   written-and-restored = λ id p size l h. all-cuts-restore id p size l (all-cut id p size l h);
   datagram-again = datagram-copied;
-  rewritten-same = keeps;
-  rewritten-shorter = shorter;
+  rewritten-same = kept;
+  rewritten-shorter = rewritten.rewritten-shorter;
+  rewritten-holds = datagram-holds;
+  payload-handed-on = handed-on;
   parts-again = datagram.writes-again;
   message-again = message-copied;
+  message-same = λ m s l. held-below (m .header .picoseconds) (messagePicosecondsPlace (m .header)) s l;
+  message-holds = message-holds;
   datagram-number-first = datagram.reading-number-first;
+  datagram-picoseconds = datagram.picoseconds-refused;
+  message-picoseconds = plain.picoseconds-refused;
   datagram-refused-alike = datagram.refuses-alike;
   message-number-alike = λ types m f. number.number-alike types m (f .header) (f .indices);
-  message-refused-alike = λ types m f a n z s. number.refused-alike types m (f .header) (f .indices) a n z s;
+  message-refused-alike = λ types m f a t n z s. number.refused-alike types m (f .header) (f .indices) a t n z s;
   message-refused-plainly = λ types m f. plain.refuse-written types m (f .header) (f .indices);
   datagram-accepted-exactly = λ g x sizes configured f a l.
       let e = datagram.accepts-exactly g x sizes configured f a in (λ h. e .0 h l, e .1);

@@ -12,3 +12,4 @@ pub mod Demand3
 pub mod Sentences
 pub mod Values
 pub mod Program
+pub mod Held

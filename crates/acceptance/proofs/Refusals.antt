@@ -12,7 +12,7 @@ use lib.Dec.{leb, eqb}
 use lib.ListN.{length}
 use Rattle.wire.specs.Answer.{Answer, got, refused, Reader, andThen, _>>=_, _>>_, pure, here, refuse, item, signedItem, ruled, run, whenOn, each}
 use Rattle.wire.specs.Items.{guid, lengthItem}
-use Rattle.wire.specs.Optional.{optional16, optional32, optionalI64, picosecondsAt, picosecondsRule}
+use Rattle.wire.specs.Optional.{optional16, optional32, optionalI64, picosecondsAt}
 use Rattle.wire.proofs.Facts.{and-left, and-right}
 use Rattle.wire.proofs.Cases.{by-bool}
 use Rattle.reassembly_laws.specs.Refusing.{oneOf}
@@ -178,4 +178,4 @@ pub optional-i64-lawful : {others : List ℕ} (on : Bool) → Lawful others (opt
 optional-i64-lawful on = when-lawful on _ (bind-lawful (signed-lawful 8) (λ v. pure-lawful _))
 
 pub picoseconds-lawful : {others : List ℕ} (on : Bool) → Lawful others (picosecondsAt on)
-picoseconds-lawful on = when-lawful on _ (bind-lawful (ruled-lawful 2 picosecondsRule (λ v. cond-rule (leb 10000 v) (inr n3) kept)) (λ v. pure-lawful _))
+picoseconds-lawful on = when-lawful on _ (bind-lawful (item-lawful 2) (λ v. pure-lawful _))

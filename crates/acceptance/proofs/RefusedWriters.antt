@@ -30,6 +30,7 @@ use Rattle.network_message_writer.specs.Payload.{listedRefusal, refusalNumber, 
 use Rattle.network_message_writer.specs.Envelope.{GivenDatagram, datagramReadingRefusal, shapeRefusal, datagramRefusal, datagramOf, datagramOutput}
 use Rattle.plain_value.specs.Width.{fixed, widthOf}
 use Rattle.dataset_header.specs.Flags.{Valid, notValid, valid, kindRule, isRaw}
+use Rattle.dataset_header.specs.Header.{messageHeld}
 use Rattle.dataset_header.specs.declared.flags.Encoding.{Encoding}
 use Rattle.dataset_header.specs.declared.flags.Kind.{Kind}
 use Rattle.dataset_fields.specs.Fields.{encodedAt, fieldsRefusal, numberOf, reached, zerosAt}
@@ -259,7 +260,7 @@ pub datagram-again : (sizes s entry exit : List ℕ) (n : ℕ) → Writes (datag
 datagram-again sizes s entry exit n w = go (networkMessageAt sizes s) refl (datagram-tells sizes s)
   where
     go : (a : Answer NetworkMessage) → networkMessageAt sizes s ≡ a → Tells datagramOthers (length s) a → oneOf datagramAgainRefusals n ≡ true
-    go (got m next) q t = room-number datagramAgainRefusals refl refl n (length entry) (rewritten s) (rw q at (w .answer))
+    go (got m next) q t = room-number datagramAgainRefusals refl refl n (length entry) (rewritten m s) (rw q at (w .answer))
     go (refused k place) q (refuses r) =
         subst (λ (i : ℕ). oneOf datagramAgainRefusals i ≡ true) (sym (refusal-of (rw q at (w .answer)))) (wider-one (with13 datagramOthers) datagramAgainRefusals refl k (r .one))
 
@@ -268,6 +269,6 @@ message-again types s entry exit n w = go (messageAt types s) refl (message-tell
   where
     go : (a : Answer (Valid Message)) → messageAt types s ≡ a → Tells messageOthers (length s) a → oneOf messageAgainRefusals n ≡ true
     go (got notValid next) q t = subst (λ (i : ℕ). oneOf messageAgainRefusals i ≡ true) (sym (refusal-of (rw q at (w .answer)))) refl
-    go (got (valid m) next) q t = room-number messageAgainRefusals refl refl n (length entry) s (rw q at (w .answer))
+    go (got (valid m) next) q t = room-number messageAgainRefusals refl refl n (length entry) (messageHeld (m .header) s) (rw q at (w .answer))
     go (refused k place) q (refuses r) =
         subst (λ (i : ℕ). oneOf messageAgainRefusals i ≡ true) (sym (refusal-of (rw q at (w .answer)))) (wider-one (with13 messageOthers) messageAgainRefusals refl k (r .one))

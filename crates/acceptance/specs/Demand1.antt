@@ -82,8 +82,8 @@ pub record Demand1 : Type 0 where
   -- Both writers and both rewritings, whatever is to be written; cutting; a listing.
   pub writer : (output : Output) (entry exit : List ℕ) (n : ℕ) → Writes output entry exit (Written.Refused n)
       → (exit ≡ entry) × (answerWritten (writtenOf (length entry) output) ≡ refused n 0)
-  -- The numbers of each: reading's as document 01 names them for writers, 6, 10, 11; of rewriting reading's own, 10, 11, and 6 for a
-  -- message that is not valid.
+  -- The numbers of each: reading's as document 01 names them for writers, 3 for picoseconds of 10,000 and up, 6, 10, 11; of rewriting
+  -- reading's own, 10, 11, and 6 for a message that is not valid.
   pub datagram-writer : (g : N.GivenDatagram) (x : Envelope) (sizes configured entry exit : List ℕ) (n : ℕ)
       → Writes (N.datagramOutput g x sizes configured) entry exit (Written.Refused n) → oneOf datagramWriterRefusals n ≡ true
   pub message-writer : (types : List ℕ) (m : M.GivenMessage) (entry exit : List ℕ) (n : ℕ)

@@ -5,18 +5,20 @@
 use Prim.Native.Nat.{ℕ, _*_, _≤_, _<_}
 use mathlib.Core.Path.{_≡_}
 use mathlib.Core.Bool.{Bool, true, false, cond}
-use mathlib.Core.List.{List, _∷_}
+use mathlib.Core.List.{List, _∷_, _++_}
 use mathlib.Core.Logic.{_⊎_, _↔_}
 use lib.Dec.{eqb}
 use lib.ListN.{length, take, drop}
-use Rattle.wire.specs.Constants.{DISAGREE, MOST_DATAGRAM}
+use Rattle.wire.specs.Constants.{DISAGREE, MOST_DATAGRAM, NOT_PERMITTED, PICOSECONDS_END}
 use Rattle.wire.specs.Number.{le}
 use Rattle.wire.specs.Answer.{got, refused, bit}
 use Rattle.wire.specs.declared.optional.Optional16.{Optional16}
-use Rattle.wire_writer.specs.Writing.{Writes, refusing, unless, orElse}
+use Rattle.wire_writer.specs.Writing.{Writes, refusing, unless, orElse, on16}
 use Rattle.wire_writer.specs.Fits.{Bytes, Numbers}
 use Rattle.wire_writer.specs.declared.writing.Written.{Written}
 use Rattle.config.specs.Writers.{typesOf}
+use Rattle.publisher_id.specs.Publisher.{publisherOn}
+use Rattle.network_header.specs.Envelope as envelope
 use Rattle.network_header.specs.Envelope.{FitsEnvelope}
 use Rattle.network_header.specs.declared.envelope.Envelope.{Envelope}
 use Rattle.network_message.specs.Payload.{OfMessages}
@@ -24,6 +26,7 @@ use Rattle.network_message.specs.WriterId.{writerIdOf}
 use Rattle.network_message.specs.Envelope.{NetworkMessage, networkMessageAt, messagePlaceAt, messageBytes}
 use Rattle.network_message_writer.specs.Envelope as N
 use Rattle.dataset_header.specs.Flags.{valid}
+use Rattle.dataset_header.specs.Header as message
 use Rattle.dataset_fields.specs.Fields.{numberOf}
 use Rattle.dataset_message.specs.Message.{Message, messageAt}
 use Rattle.dataset_message_writer.specs.Message as M
@@ -37,7 +40,7 @@ use Rattle.walk.specs.Lines.{Writers, linesFrom, stepLines, nextLine, startCurs
 use Rattle.walk.specs.declared.lines.LineCursor.{LineCursor}
 use Rattle.walk_records.specs.Walk.{walkRecords, lineRecords, NoneRefused}
 use Rattle.acceptance.specs.Tiles.{MessagesTile, FieldsTile}
-use Rattle.acceptance.specs.Again.{CopiedTo}
+use Rattle.acceptance.specs.Again.{CopiedTo, Below, Holds}
 use Rattle.acceptance.specs.Chunks.{IsWritten}
 
 -- the types of message k's fields under a configuration, by the DataSetWriterId that was given for it; and by the one that is read back
@@ -90,42 +93,67 @@ pub record Demand2 : Type 0 where
   -- of one publisher and writer, restore the payload, in any order and some of them more than once.
   pub written-and-restored : (id : Identity) (p : List ℕ) (size : ℕ) (l : List Arrival) → AllArrive id p size (IsWritten id p size) l
       → id .number < 65536 → (s : Partial) → Good s → s .rec .started ≡ false → length p ≤ roomOf s → Restored p l s
-  -- ---- AN ACCEPTED DATAGRAM WRITTEN AGAIN GIVES THE SAME BYTES, BUT FOR THE NAMED CASE.
+  -- ---- AN ACCEPTED DATAGRAM WRITTEN AGAIN GIVES THE SAME BYTES, BUT FOR THE TWO NAMED CASES.
   pub datagram-again : (sizes s entry exit : List ℕ) (r : Written) (m : NetworkMessage) (n : ℕ) → networkMessageAt sizes s ≡ got m n
-      → Writes (datagramSame sizes s) entry exit r → CopiedTo (network.rewritten s) entry exit r
-  -- The named case needs ExtendedFlags1 and PublisherId off; no datagram gets longer.
-  pub rewritten-same : (b : ℕ) (s : List ℕ) → (bit 7 b ≡ false) ⊎ (bit 4 b ≡ true) → network.rewritten (b ∷ s) ≡ b ∷ s
-  pub rewritten-shorter : (s : List ℕ) → length (network.rewritten s) ≤ length s
+      → Writes (datagramSame sizes s) entry exit r → CopiedTo (network.rewritten m s) entry exit r
+  -- The first case needs ExtendedFlags1 and PublisherId off, the second PicoSeconds of 10,000 or more in the envelope; no datagram gets
+  -- longer.
+  pub rewritten-same : (m : NetworkMessage) (b : ℕ) (s : List ℕ) → (bit 7 b ≡ false) ⊎ (bit 4 b ≡ true)
+      → Below (m .envelope .picoseconds) (envelope.picosecondsPlace (m .envelope) (m .places)) (b ∷ s) → network.rewritten m (b ∷ s) ≡ b ∷ s
+  pub rewritten-shorter : (m : NetworkMessage) (s : List ℕ) → length (network.rewritten m s) ≤ length s
+  -- Req 02: "the rewritten envelope .. holds 9,999 there": with a PublisherId it differs in the two bytes of its PicoSeconds alone.
+  pub rewritten-holds : (sizes s : List ℕ) (m : NetworkMessage) (n : ℕ) → Bytes s → networkMessageAt sizes s ≡ got m n
+      → publisherOn (m .envelope .publisher) ≡ true → on16 (m .envelope .picoseconds) ≡ true
+      → PICOSECONDS_END ≤ le 2 s (envelope.picosecondsPlace (m .envelope) (m .places))
+      → Holds (envelope.picosecondsPlace (m .envelope) (m .places)) s (network.rewritten m s)
+  -- "a message handed on as bytes keeps its own": whatever the header, the payload stands behind it as it stood.
+  pub payload-handed-on : (sizes s : List ℕ) (m : NetworkMessage) (n : ℕ) → Bytes s → networkMessageAt sizes s ≡ got m n
+      → (header : List ℕ) × (network.rewritten m s ≡ header ++ drop (m .places .payload) s)
   -- The writer, given the parts as they were read, writes the same. (Each element of a lent slice of bytes is below 256, of one of u16
   -- below 65,536.)
   pub parts-again : (s sizes configured out : List ℕ) (m : NetworkMessage) (n : ℕ) → Bytes s → Numbers sizes → Numbers configured
       → networkMessageAt sizes s ≡ got m n → length s ≤ length out → network.WritesAgain s sizes configured out m
-  -- "every accepted DataSetMessage, padding length included, is rewritten identically"
+  -- "every accepted DataSetMessage, padding length included, is rewritten identically", but for picoseconds of 10,000 or more in its
+  -- header.
   pub message-again : (types s entry exit : List ℕ) (r : Written) (m : Message) (n : ℕ) → messageAt types s ≡ got (valid m) n
-      → Writes (messageSame types s) entry exit r → CopiedTo s entry exit r
+      → Writes (messageSame types s) entry exit r → CopiedTo (message.messageHeld (m .header) s) entry exit r
+  pub message-same : (m : Message) (s : List ℕ) → Below (m .header .picoseconds) (message.messagePicosecondsPlace (m .header)) s
+      → message.messageHeld (m .header) s ≡ s
+  -- Req 02: "the rewritten .. message header holds 9,999 there"
+  pub message-holds : (types s : List ℕ) (m : Message) (n : ℕ) → Bytes s → messageAt types s ≡ got (valid m) n
+      → on16 (m .header .picoseconds) ≡ true → PICOSECONDS_END ≤ le 2 s (message.messagePicosecondsPlace (m .header))
+      → Holds (message.messagePicosecondsPlace (m .header)) s (message.messageHeld (m .header) s)
   -- ---- "A writer refuses what reading would refuse, by the same number in reading order; then .. what would read back otherwise .. by 6".
-  -- Reading's number comes first.
+  -- The number in reading order comes first.
   pub datagram-number-first : (g : N.GivenDatagram) (x : Envelope) (sizes configured : List ℕ)
       → eqb (N.datagramReadingRefusal g x sizes) 0 ≡ false
       → N.datagramOutput g x sizes configured ≡ refusing (N.datagramReadingRefusal g x sizes)
-  -- Where what would be written is one thing, it is the number by which reading refuses that.
+  -- Req 02: "The writers still refuse 10,000 or more there with 3", at that item's turn: where nothing before it is refused.
+  pub datagram-picoseconds : (g : N.GivenDatagram) (x : Envelope) (sizes configured : List ℕ) → N.picosecondsTurn g x ≡ true
+      → N.datagramOutput g x sizes configured ≡ refusing NOT_PERMITTED
+  pub message-picoseconds : (types : List ℕ) (m : M.GivenMessage) → M.messagePicosecondsTurn m ≡ true
+      → M.messageOutput types m ≡ refusing NOT_PERMITTED
+  -- In every other case, where what would be written is one thing, it is the number by which reading refuses that.
   pub datagram-refused-alike : (g : N.GivenDatagram) (x : Envelope) (sizes : List ℕ) → FitsEnvelope x → network.CountsAgree g x
-      → length (N.datagramOf g x) ≤ MOST_DATAGRAM → eqb (N.datagramReadingRefusal g x sizes) 0 ≡ false
+      → length (N.datagramOf g x) ≤ MOST_DATAGRAM → N.picosecondsTurn g x ≡ false → eqb (N.datagramReadingRefusal g x sizes) 0 ≡ false
       → (place : ℕ) × (networkMessageAt sizes (N.datagramOf g x) ≡ refused (N.datagramReadingRefusal g x sizes) place)
   pub message-number-alike : (types : List ℕ) (m : M.GivenMessage) → M.FitsGiven m → PartsAgree types m
-      → numberOf (messageAt types (M.encode m)) ≡ M.messageReadingRefusal types m
-  pub message-refused-alike : (types : List ℕ) (m : M.GivenMessage) → M.FitsGiven m → PartsAgree types m → (n : ℕ)
-      → (n ≡ 0 → ⊥) → (n ≡ DISAGREE → ⊥) → (M.messageRefusal types m ≡ n) ↔ ReadingRefuses types m n
+      → M.messagePicosecondsTurn m ≡ false → numberOf (messageAt types (M.encode m)) ≡ M.messageReadingRefusal types m
+  pub message-refused-alike : (types : List ℕ) (m : M.GivenMessage) → M.FitsGiven m → PartsAgree types m
+      → M.messagePicosecondsTurn m ≡ false → (n : ℕ) → (n ≡ 0 → ⊥) → (n ≡ DISAGREE → ⊥)
+      → (M.messageRefusal types m ≡ n) ↔ ReadingRefuses types m n
   -- Also where a field is no whole value, as far as reading finds it where it stands.
   pub message-refused-plainly : (types : List ℕ) (m : M.GivenMessage) → M.FitsGiven m → Tellable types m
-      → eqb (M.messageReadingRefusal types m) 0 ≡ false → ReadingRefuses types m (M.messageReadingRefusal types m)
+      → M.messagePicosecondsTurn m ≡ false → eqb (M.messageReadingRefusal types m) 0 ≡ false
+      → ReadingRefuses types m (M.messageReadingRefusal types m)
   -- The writer accepts exactly what reads back as given.
   pub datagram-accepted-exactly : (g : N.GivenDatagram) (x : Envelope) (sizes configured : List ℕ) → FitsEnvelope x
       → network.PartsAgree g x sizes configured → length (N.datagramOf g x) ≤ MOST_DATAGRAM
       → (N.datagramRefusal g x sizes configured ≡ 0) ↔ network.ReadsBack g x sizes configured (N.datagramOf g x)
   pub message-accepted-exactly : (types : List ℕ) (m : M.GivenMessage) → M.FitsGiven m
       → (M.messageRefusal types m ≡ 0) ↔ (MessageBack types m (M.encode m) × (M.listsGiven m ≡ true))
-  -- Through C "a number that does not fit its item" is 6, after reading's numbers: `fits` says whether all numbers of the record do.
+  -- Through C "a number that does not fit its item" is 6, after the numbers in reading order: `fits` says whether all numbers of the
+  -- record do.
   pub lent-fits-after-reading : (fits : Bool) (g : N.GivenDatagram) (x : Envelope) (sizes configured : List ℕ)
       → fitting fits (N.datagramOutput g x sizes configured)
       ≡ unless

@@ -109,8 +109,8 @@ pub record Demand3 : Type 0 where
   pub fields-by-calls : (s config : List ℕ) (writer : ℕ) (m : DataSetMessage) (n : ℕ) (entry : List ℕ) (result : ℕ) (head : List ℕ)
       → Bytes s → length s < 256 ^ 8 → messageAt (typesFor config writer) s ≡ got (valid m) n → HEAD_SIZE ≤ length entry
       → HeadRead s config writer entry result head → FieldsByCalls s config writer m head
-  -- Read, then write the record, gives the bytes, also after some steps of its cursor: of a datagram, but for the one exception, and of a
-  -- message.
+  -- Read, then write the record, gives the bytes, also after some steps of its cursor: of a datagram, but for the two exceptions, and of a
+  -- message, but for the second.
   pub datagram-again-by-calls : (d config : List ℕ) (m : NetworkMessage) (n : ℕ) (entry : List ℕ) (result : ℕ) (envelope : List ℕ)
       → Bytes d → Bytes config → networkMessageAt (sizesIn config) d ≡ got m n → ENVELOPE_SIZE ≤ length entry
       → EnvelopeRead d config entry result envelope → (ps : List (List ℕ)) (ys : List MessageCall) → AllLong PLACE_SIZE ps

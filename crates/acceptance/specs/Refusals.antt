@@ -43,7 +43,7 @@ fieldStepRefusals = CUT_SHORT ∷ NOT_PERMITTED ∷ NOT_TAKEN ∷ BAD_LENGTH ∷
 abbrev pub fieldRefusals : List ℕ
 fieldRefusals = CUT_SHORT ∷ NOT_PERMITTED ∷ NOT_TAKEN ∷ BAD_LENGTH ∷ LEFT_OVER ∷ NOT_CONFIGURED ∷ TOO_DEEP ∷ OVER_LIMIT ∷ []
 
--- of the writers: what reading would refuse, 6, 10 and 11
+-- of the writers: what reading would refuse, 3 for picoseconds of 10,000 and up, 6, 10 and 11
 abbrev pub datagramWriterRefusals : List ℕ
 datagramWriterRefusals = CUT_SHORT ∷ NOT_PERMITTED ∷ DISAGREE ∷ NOT_CONFIGURED ∷ OVER_LIMIT ∷ NO_ROOM ∷ []
 

@@ -8,7 +8,7 @@ use native.Mathlib.Omega.{arith}
 use borrow.Author.Tests.{eqb-false}
 use lib.Dec.{eqb, ltb}
 use Rattle.wire.specs.Answer.{got, refused, Reader}
-use Rattle.wire.specs.Optional.{optional16, optional32, optionalI64, picosecondsRule, picosecondsAt}
+use Rattle.wire.specs.Optional.{optional16, optional32, optionalI64, picosecondsRead, picosecondsAt}
 use Rattle.wire.specs.declared.optional.Optional16.{Optional16}
 use Rattle.wire.specs.declared.optional.Optional32.{Optional32}
 use Rattle.wire.specs.declared.optional.OptionalI64.{OptionalI64}
@@ -46,7 +46,7 @@ timestamp-steady : (on : Bool) → Steady (optionalI64 on)
 timestamp-steady on = when-steady on OptionalI64.Absent (bind-steady (signed-item-steady 8) (λ v. pure-steady (OptionalI64.Is v)))
 
 picoseconds-steady : (on : Bool) → Steady (picosecondsAt on)
-picoseconds-steady on = when-steady on Optional16.Absent (bind-steady (ruled-steady 2 picosecondsRule) (λ v. pure-steady (Optional16.Is v)))
+picoseconds-steady on = when-steady on Optional16.Absent (bind-steady (item-steady 2) (λ v. pure-steady (Optional16.Is (picosecondsRead v))))
 
 times-steady : (f : Flags) → Steady (messageTimesAt f)
 times-steady f =

@@ -1,5 +1,5 @@
 -- The header of a DataSetMessage (document 01, "The DataSetMessage").
-use Prim.Native.Nat.{ℕ}
+use Prim.Native.Nat.{ℕ, _+_}
 use Rattle.wire.specs.Answer.{Answer, got, refused, Reader, pure, andThen, _>>=_}
 use Rattle.wire.specs.Optional.{optional16, optional32, optionalI64, picosecondsAt}
 use Rattle.dataset_header.specs.declared.flags.Flags.{Flags}
@@ -11,10 +11,11 @@ use Rattle.dataset_header.specs.declared.header.Versions.{Versions}
 use Rattle.dataset_header.specs.declared.header.VersionsRead.{VersionsRead}
 use Rattle.dataset_header.specs.Flags.{Valid, notValid, valid, messageFlagsAt, messageFlagBytes}
 use mathlib.Core.List.{List, _++_}
-use Rattle.wire_writer.specs.Writing.{optional16Bytes, optional32Bytes, optionalI64Bytes}
+use lib.ListN.{length}
+use Rattle.wire_writer.specs.Writing.{optional16Bytes, optional32Bytes, optionalI64Bytes, picosecondsHeld}
 use Rattle.wire_writer.specs.Fits.{Fits16, Fits32, FitsI64}
 
--- "Then sequence 2, timestamp 8, picoseconds 2 (as above), status 2, major 4, minor 4, each by its flag"
+-- "Then sequence 2, timestamp 8, picoseconds 2 (as above), status 2, major 4, minor 4, each by its flag"; they read as the envelope's
 abbrev pub messageTimesAt : Flags → Reader Times
 messageTimesAt f = do
   q ← optional16 (f .sequence)
@@ -80,6 +81,14 @@ versionsBytes h = optional16Bytes (h .status) ++ (optional32Bytes (h .major) ++ 
 
 abbrev pub messageHeaderBytes : Header → List ℕ
 messageHeaderBytes h = messageFlagBytes h ++ (timesBytes h ++ versionsBytes h)
+
+-- where the picoseconds of a message stand: behind Flags1 and Flags2, which announces them, the sequence and the timestamp
+abbrev pub messagePicosecondsPlace : Header → ℕ
+messagePicosecondsPlace h = 2 + (length (optional16Bytes (h .sequence)) + length (optionalI64Bytes (h .timestamp)))
+
+-- a message that was read with this header, written again: "the rewritten .. message header holds 9,999 there", where it had 10,000 or more
+abbrev pub messageHeld : Header → List ℕ → List ℕ
+messageHeld h s = picosecondsHeld (h .picoseconds) (messagePicosecondsPlace h) s
 
 -- each number of a header fits its type, as a value of the code does
 pub record FitsHeader (h : Header) : Type 0 where

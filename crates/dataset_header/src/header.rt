@@ -25,7 +25,7 @@ use wire_writer::writing::size_i64;
 use wire_writer::writing::size16;
 use wire_writer::writing::size32;
 ghost use mathlib.Core.Path.{_≡_};
-ghost use Rattle.dataset_header.specs.Header.{messageTimesAt, versionsAt, headerOf, messageItemsAt, messageHeaderAt, answerMessageTimes, answerVersions, answerMessageHeader, timesBytes, versionsBytes, messageHeaderBytes};
+ghost use Rattle.dataset_header.specs.Header.{messageTimesAt, versionsAt, headerOf, messageItemsAt, messageHeaderAt, answerMessageTimes, answerVersions, answerMessageHeader, timesBytes, versionsBytes, messageHeaderBytes, messagePicosecondsPlace};
 ghost use Prim.Native.Nat.{_≤_};
 ghost use lib.ListN.{length};
 ghost use Rattle.wire_writer.specs.Store.{Stored};
@@ -198,6 +198,15 @@ pub fn put_header(out: &mut [u8], header: Header) -> usize
     let next = put_flags(out, header);
     let next = put_times(out, next, header);
     put_versions(out, next, header)
+}
+
+// Where the picoseconds of a message stand: behind its two flag bytes, the sequence and the timestamp.
+pub fn picoseconds_place(header: Header) -> usize
+    ensures { λ r. ⌜ (r ≡ messagePicosecondsPlace header) × (r ≤ 12) ⌝ }
+{
+    let sequence = header.sequence;
+    let timestamp = header.timestamp;
+    2 + (size16(sequence) + size_i64(timestamp))
 }
 
 // How many bytes the header takes.

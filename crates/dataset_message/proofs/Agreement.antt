@@ -165,6 +165,26 @@ message-read types s m e q =
     let a = invert (messageHeaderAt s 0) (λ v at. _) q in
     header-read (a .0) types s (a .1) m e (a .3)
 
+-- the header of an accepted message is the one that was read
+body-header : (v : Valid Header) (types s : List ℕ) (at : ℕ) (m : Message) (e : ℕ) → afterHeader v types s at ≡ got (valid m) e → v ≡ valid (m .header)
+body-header notValid types s at m e q =
+    let v : _≡_ {A = Valid Message} notValid (valid m) = got-value q in
+    let z : _≡_ {A = ℕ} 0 1 = cc in
+    absurd (omega arith)
+body-header (valid h) types s at m e q =
+    let a = invert (countAt (h .kind) (isRaw (h .encoding)) types s at) (λ n first. _) q in
+    let c : Cursor = record { encoding = h .encoding; delta = isDelta (h .kind); next = 0; count = a .0; at = a .1 } in
+    let b = invert (fieldsAt (c .delta) (c .encoding) types (c .count) 0 s (c .at)) (λ _ n. _) (a .3) in
+    let p = invert (paddingAt s (b .1)) (λ _ y. _) (b .3) in
+    let v : valid (record { header = h; cursor = c; end = b .1 }) ≡ valid m = got-value (p .3) in
+    let n : _≡_ {A = Message} (record { header = h; cursor = c; end = b .1 }) m = cc in
+    ap (λ (x : Message). valid (x .header)) n
+
+pub header-of : (types s : List ℕ) (m : Message) (e : ℕ) → messageAt types s ≡ got (valid m) e → (at : ℕ) × (messageHeaderAt s 0 ≡ got (valid (m .header)) at)
+header-of types s m e q =
+    let a = invert (messageHeaderAt s 0) (λ v at. _) q in
+    (a .1, a .2 ∙ ap (λ (v : Valid Header). got v (a .1)) (body-header (a .0) types s (a .1) m e (a .3)))
+
 -- The walk over an accepted message visits exactly its fields, in their order, and lookup gives the same places.
 pub message-agrees : (types s : List ℕ) (m : Message) (e : ℕ) → messageAt types s ≡ got (valid m) e → (k : ℕ) → k < m .cursor .count → Agrees (m .cursor) types s k
 message-agrees types s m e q k l =

@@ -1,5 +1,5 @@
 -- A DataSetMessage as it is written: its bytes, and what the writer refuses (document 01, "Numbers given back" and
--- "The DataSetMessage").
+-- "The DataSetMessage"; document 02, Req 02).
 use Prim.Native.Nat.{ℕ, _+_, _-_}
 use mathlib.Core.Bool.{Bool, true, false, cond, not, _&&_, _||_}
 use mathlib.Core.List.{List, [], _∷_, _++_}
@@ -138,12 +138,19 @@ countsGiven types g =
 abbrev pub bodyRefusal : List ℕ → GivenMessage → ℕ
 bodyRefusal types g = orElse (ownGiven types g) (cond (wholeGiven types g && listsGiven g) (layoutGiven types g) 0)
 
--- "A writer refuses what reading would refuse, by the same number in reading order"
+-- "A writer refuses what reading would refuse, by the same number in reading order"; at their turn picoseconds of 10,000 and up, by 3
+-- (Req 02), though reading takes them as 9,999
 abbrev pub messageReadingRefusal : List ℕ → GivenMessage → ℕ
 messageReadingRefusal types g =
     orElse (kindRule (g .header .kind) (g .header .encoding))
     (orElse (picosecondsRefusal (g .header .picoseconds))
     (bodyRefusal types g))
+
+-- whether it is the turn of the picoseconds, and they are refused: nothing that stands before them is, and they are 10,000 or more. This
+-- refusal alone is the writer's own.
+abbrev pub messagePicosecondsTurn : GivenMessage → Bool
+messagePicosecondsTurn g =
+    eqb (kindRule (g .header .kind) (g .header .encoding)) 0 && not (eqb (picosecondsRefusal (g .header .picoseconds)) 0)
 
 -- what follows the header reads back as it is given: each field whole, as many as are read, and the padding
 abbrev pub bodyAgrees : List ℕ → GivenMessage → Bool

@@ -1,4 +1,4 @@
--- A DataSetMessage that was read, written again from its parts (document 01, "The one rewriting exception").
+-- A DataSetMessage that was read, written again from its parts (document 01, "The one rewriting exception"; document 02, Req 02).
 use Prim.Native.Nat.{ℕ, _-_}
 use mathlib.Core.Bool.{Bool}
 use mathlib.Core.List.{List, _++_}

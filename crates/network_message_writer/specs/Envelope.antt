@@ -1,6 +1,8 @@
--- The NetworkMessage written (document 01, "Numbers given back", "The envelope" and "The one rewriting exception").
+-- The NetworkMessage written (document 01, "Numbers given back", "The envelope" and "The one rewriting exception"; document 02, Req 02).
 use Prim.Native.Nat.{ℕ}
+use mathlib.Core.Bool.{Bool, not, _&&_}
 use mathlib.Core.List.{List, _++_}
+use lib.Dec.{eqb}
 use lib.ListN.{length, drop}
 use Rattle.network_header.specs.declared.envelope.Envelope.{Envelope}
 use Rattle.network_header.specs.declared.envelope.Places.{Places}
@@ -41,7 +43,8 @@ envelopeBytes text ids promoted x =
 abbrev pub datagramOf : GivenDatagram → Envelope → List ℕ
 datagramOf g x = envelopeBytes (g .text) (g .ids) (g .promoted) x ++ (listBytes (x .«payload_header») (g .lengths) ++ g .messages)
 
--- "A writer refuses what reading would refuse, by the same number in reading order"
+-- "A writer refuses what reading would refuse, by the same number in reading order"; at their turn PicoSeconds of 10,000 and up, by 3
+-- (Req 02), though reading takes them as 9,999
 abbrev pub headerRefusal : Envelope → ℕ → ℕ → ℕ → ℕ
 headerRefusal x text configured payload =
     orElse (timesRefusal (on16 (x .picoseconds)) (onI64 (x .timestamp)))
@@ -51,10 +54,23 @@ headerRefusal x text configured payload =
     (orElse (picosecondsRefusal (x .picoseconds))
     (orElse (promotedRefusal (x .promoted) (messagesOf (x .chunk) (x .«payload_header») configured)) payload)))))
 
+-- what stands before the PicoSeconds of these
+abbrev pub beforePicoseconds : Envelope → ℕ → ℕ
+beforePicoseconds x text =
+    orElse (timesRefusal (on16 (x .picoseconds)) (onI64 (x .timestamp)))
+    (orElse (publisherRefusal (x .publisher) text)
+    (orElse (groupRefusal (x .group)) (countRefusal (x .«payload_header»))))
+
+-- the refusals in reading order of a datagram given
 abbrev pub datagramReadingRefusal : GivenDatagram → Envelope → List ℕ → ℕ
 datagramReadingRefusal g x sizes =
     headerRefusal x (length (g .text)) (length (configuredSizes sizes))
     (payloadRefusal (x .chunk) (x .«payload_header») sizes (g .lengths) (g .messages))
+
+-- whether it is the turn of the PicoSeconds, and they are refused: nothing that stands before them is, and they are 10,000 or more. This
+-- refusal alone is the writer's own.
+abbrev pub picosecondsTurn : GivenDatagram → Envelope → Bool
+picosecondsTurn g x = eqb (beforePicoseconds x (length (g .text))) 0 && not (eqb (picosecondsRefusal (x .picoseconds)) 0)
 
 -- "then over 255 messages, or what would read back otherwise, by 6": a part of another length than said, one that nothing
 -- announces, ids or lengths that are not the configured ones

@@ -1,16 +1,18 @@
--- What was read, written again: "an accepted datagram written again gives the same bytes" (document 01, "The one rewriting exception").
+-- What was read, written again: "an accepted datagram written again gives the same bytes" (document 01, "The one rewriting exception"), but
+-- for that and the second one (document 02, Req 02).
 use Prim.Native.Nat.{ℕ}
 use mathlib.Core.List.{List}
 use Rattle.wire_writer.specs.Writing.{Output, writing, afterReading}
+use Rattle.dataset_header.specs.Header.{messageHeld}
 use Rattle.dataset_message.specs.Message.{messageAt}
 use Rattle.dataset_message_writer.specs.Rewrite.{whereValid}
 use Rattle.network_message.specs.Envelope.{networkMessageAt}
 use Rattle.round_trip.specs.NetworkMessage.{rewritten}
 
--- a message: reading's refusal is the writer's, one not valid is 6; an accepted one is s again
+-- a message: reading's refusal is the writer's, one not valid is 6; an accepted one is s again, but for picoseconds of 10,000 or more
 abbrev pub messageSame : List ℕ → List ℕ → Output
-messageSame types s = afterReading (messageAt types s) (whereValid (λ m. s))
+messageSame types s = afterReading (messageAt types s) (whereValid (λ m. messageHeld (m .header) s))
 
--- a datagram: reading's refusal is the writer's; an accepted one is s again, but for the one case
+-- a datagram: reading's refusal is the writer's; an accepted one is s again, but for the two cases
 abbrev pub datagramSame : List ℕ → List ℕ → Output
-datagramSame sizes s = afterReading (networkMessageAt sizes s) (λ m. writing (rewritten s))
+datagramSame sizes s = afterReading (networkMessageAt sizes s) (λ m. writing (rewritten m s))

@@ -3,24 +3,26 @@
 use mathlib.Core.Path.{_≡_, ap, sym, _∙_}
 use mathlib.Core.Bool.{false}
 use mathlib.Core.List.{List, _++_}
-use Prim.Native.Nat.{ℕ, _+_, _/_, _%_, _≤_, _<_}
+use Prim.Native.Nat.{ℕ, _/_, _%_, _≤_, _<_}
 use native.Mathlib.Omega.{arith}
 use borrow.Author.Tests.{ne-eqb, le-ltb}
 use lib.Dec.{eqb}
-use lib.ListN.{length}
 use Rattle.wire.specs.Number.{leBytes}
-use Rattle.wire.specs.Answer.{refused}
-use Rattle.wire_writer.specs.Writing.{needed, byteBytes, optional16Bytes, optionalI64Bytes, picosecondsRefusal}
-use Rattle.wire_writer.proofs.Trip.{At, first, second, item-is, optional16-is, optionalI64-is}
-use Rattle.wire_writer.proofs.Refusals.{number-broken, picoseconds-refuses}
+use Rattle.wire.specs.Answer.{got, refused}
+use Rattle.wire_writer.specs.Writing.{needed, byteBytes, picosecondsRefusal}
+use Rattle.wire_writer.proofs.Trip.{At, first, second, item-is}
+use Rattle.wire_writer.proofs.Refusals.{number-broken}
 use Rattle.dataset_header.specs.declared.flags.Encoding.{Encoding}
 use Rattle.dataset_header.specs.declared.flags.Kind.{Kind}
 use Rattle.dataset_header.specs.declared.header.Header.{Header}
-use Rattle.dataset_header.specs.Flags.{flags1Rule, flags2Rule, messageFlagsAt, kindNumber, flags1Of, flags2Of, messageFlagBytes, kindRule}
-use Rattle.dataset_header.specs.Header.{messageTimesAt, messageHeaderAt, timesBytes, versionsBytes, messageHeaderBytes, FitsHeader}
+use Rattle.dataset_header.specs.Flags.{valid, flags1Rule, flags2Rule, messageFlagsAt, kindNumber, flags1Of, flags2Of, messageFlagBytes, kindRule}
+use Rattle.dataset_header.specs.Header.{timesBytes, versionsBytes}
+use Rattle.dataset_header.proofs.HeaderTrip.{header-kept}
+use Rattle.dataset_message.specs.Message.{Message, messageAt}
+use Rattle.dataset_message.proofs.Agreement.{header-of}
 use Rattle.dataset_message_writer.specs.Message.{GivenMessage, encode}
 use Rattle.round_trip.specs.DataSetMessage.{ReadingRefuses}
-use Rattle.dataset_header.proofs.FlagsTrip.{flags1-bits, flags2-bits, encoding-rule, kind-rule-is, flagsFor, flags-is}
+use Rattle.dataset_header.proofs.FlagsTrip.{flags1-bits, flags2-bits, encoding-rule, kind-rule-is}
 use Rattle.round_trip.proofs.DataSetMessage.{no}
 use Rattle.round_trip.proofs.DataSetMessagePlaces.{header-at}
 
@@ -52,34 +54,10 @@ flags-refuse h s r a =
     let t = number-broken 1 (flags2Rule (flags1Of h)) (flags2Of h) 1 u (ap (λ (n : ℕ). eqb n 0) rule ∙ r) s c in
     rw (p, even, one, le-ltb (flags1Of h) 128 high, t) (ap (λ (n : ℕ). refused n 1) rule)
 
--- picoseconds that break their rule
-times-refuse : (h : Header) (s : List ℕ) (m : ℕ) → FitsHeader h → eqb (picosecondsRefusal (h .picoseconds)) 0 ≡ false → At s m (timesBytes h)
-    → messageTimesAt (flagsFor h) s m ≡ refused (picosecondsRefusal (h .picoseconds)) (m + length (optional16Bytes (h .sequence)) + length (optionalI64Bytes (h .timestamp)))
-times-refuse h s m f r a =
-    let x = optional16Bytes (h .sequence) in
-    let y = optionalI64Bytes (h .timestamp) in
-    let z = optional16Bytes (h .picoseconds) in
-    let b = second s m x (y ++ z) a in
-    let p = optional16-is (h .sequence) m (f .sequence) s (first s m x (y ++ z) a) in
-    let q = optionalI64-is (h .timestamp) (m + length x) (f .timestamp) s (first s (m + length x) y z b) in
-    let o = picoseconds-refuses (h .picoseconds) (m + length x + length y) (f .picoseconds) r s (second s (m + length x) y z b) in
-    rw (p, q, o)
-
-header-refuse : (h : Header) (s : List ℕ) → FitsHeader h → kindRule (h .kind) (h .encoding) ≡ 0 → eqb (picosecondsRefusal (h .picoseconds)) 0 ≡ false → At s 0 (messageHeaderBytes h)
-    → (place : ℕ) × (messageHeaderAt s 0 ≡ refused (picosecondsRefusal (h .picoseconds)) place)
-header-refuse h s f k r a =
-    let x = messageFlagBytes h in
-    let y = timesBytes h in
-    let z = versionsBytes h in
-    let b = second s 0 x (y ++ z) a in
-    let p = flags-is h k s (first s 0 x (y ++ z) a) in
-    let q = times-refuse h s (0 + length x) f r (first s (0 + length x) y z b) in
-    (0 + length x + length (optional16Bytes (h .sequence)) + length (optionalI64Bytes (h .timestamp)), rw (p, q))
-
 module _ (types : List ℕ) (g : GivenMessage) where
   pub kind-refused : eqb (kindRule (g .header .kind) (g .header .encoding)) 0 ≡ false → ReadingRefuses types g (kindRule (g .header .kind) (g .header .encoding))
   kind-refused r = (1, rw (flags-refuse (g .header) (encode g) r (first (encode g) 0 (messageFlagBytes (g .header)) (timesBytes (g .header) ++ versionsBytes (g .header)) (header-at g))))
 
-  pub picoseconds-refused : FitsHeader (g .header) → kindRule (g .header .kind) (g .header .encoding) ≡ 0 → eqb (picosecondsRefusal (g .header .picoseconds)) 0 ≡ false
-      → ReadingRefuses types g (picosecondsRefusal (g .header .picoseconds))
-  picoseconds-refused fits k r = let p = header-refuse (g .header) (encode g) fits k r (header-at g) in (p .0, rw (p .1))
+-- picoseconds of an accepted message are below 10,000
+pub picoseconds-kept : (types s : List ℕ) (m : Message) (e : ℕ) → messageAt types s ≡ got (valid m) e → picosecondsRefusal (m .header .picoseconds) ≡ 0
+picoseconds-kept types s m e q = let h = header-of types s m e q in header-kept s (m .header) (h .0) (h .1)

@@ -28,12 +28,12 @@ use Rattle.dataset_fields.proofs.Laying.{values-whole, length-zeros}
 use Rattle.dataset_fields.proofs.Walks.{padding-step, padding-stop}
 use Rattle.dataset_fields.proofs.FieldsTrip.{fields-is}
 use Rattle.dataset_message.specs.Message.{Message, countAt, bodyAt, messageAt}
-use Rattle.dataset_message_writer.specs.Message.{GivenMessage, hasFields, isKey, isFielded, isRawData, givenFields, encode, missingRefusal, leftRefusal, rawRefusal, ownGiven, wholeGiven, listsGiven, layoutGiven, countsGiven, messageReadingRefusal, readsBack, messageRefusal}
+use Rattle.dataset_message_writer.specs.Message.{GivenMessage, hasFields, isKey, isFielded, isRawData, givenFields, encode, missingRefusal, leftRefusal, rawRefusal, ownGiven, wholeGiven, listsGiven, layoutGiven, countsGiven, messagePicosecondsTurn, messageReadingRefusal, readsBack, messageRefusal}
 use Rattle.dataset_message_writer.proofs.Whole.{Accepted, acceptable, lists-add, own-none, layout-none, missing-none, missing-short, missing-step, missing-done, none-left, few-fields, many-fields, total-split}
 use Rattle.round_trip.specs.DataSetMessage.{PartsAgree, ReadingRefuses}
 use Rattle.round_trip.proofs.DataSetMessage.{no, read-written}
 use Rattle.round_trip.proofs.DataSetMessagePlaces.{fieldsPart, countPart, header-read}
-use Rattle.round_trip.proofs.DataSetMessageHeader.{kind-refused, picoseconds-refused}
+use Rattle.round_trip.proofs.DataSetMessageHeader.{kind-refused}
 
 -- bytes left over
 
@@ -358,11 +358,11 @@ module _ (types : List ℕ) (g : GivenMessage) (fits : FitsHeader (g .header)) (
           counted-number (rw (f, k, eq-eqb (length (g .lengths)) 0 (h .0), eq-eqb (g .padding) 0 (h .1)))
       go false f r e false k = alive-number f k ∙ rw (f, k)
 
--- Where each field given is one whole value, and counts and lists agree, the writer's number of what reading would refuse is reading's
--- number of what would be written.
-pub number-alike : (types : List ℕ) (g : GivenMessage) → FitsHeader (g .header) → Numbers (g .indices) → PartsAgree types g
+-- Where each field given is one whole value, counts and lists agree, and it is not the turn of picoseconds of 10,000 or more, the writer's
+-- number in reading order is reading's number of what would be written.
+pub number-alike : (types : List ℕ) (g : GivenMessage) → FitsHeader (g .header) → Numbers (g .indices) → PartsAgree types g → messagePicosecondsTurn g ≡ false
     → numberOf (messageAt types (encode g)) ≡ messageReadingRefusal types g
-number-alike types g fits indices agree =
+number-alike types g fits indices agree turn =
     go (eqb (kindRule (g .header .kind) (g .header .encoding)) 0) refl (eqb (picosecondsRefusal (g .header .picoseconds)) 0) refl
     ∙ ap (λ (n : ℕ). orElse (kindRule (g .header .kind) (g .header .encoding)) (orElse (picosecondsRefusal (g .header .picoseconds)) n)) (sym body)
   where
@@ -378,10 +378,7 @@ number-alike types g fits indices agree =
     go : (a : Bool) → eqb (kindRule (g .header .kind) (g .header .encoding)) 0 ≡ a → (b : Bool) → eqb (picosecondsRefusal (g .header .picoseconds)) 0 ≡ b
         → numberOf (messageAt types (encode g)) ≡ orElse (kindRule (g .header .kind) (g .header .encoding)) (orElse (picosecondsRefusal (g .header .picoseconds)) (layoutGiven types g))
     go false ea b eb = by (kindRule (g .header .kind) (g .header .encoding)) _ ea (kind-refused types g ea)
-    go true ea false eb =
-        let k = eqb-true (kindRule (g .header .kind) (g .header .encoding)) 0 ea in
-        by (picosecondsRefusal (g .header .picoseconds)) (layoutGiven types g) eb (picoseconds-refused types g fits k eb)
-        ∙ sym (ap (λ (t : Bool). cond t (orElse (picosecondsRefusal (g .header .picoseconds)) (layoutGiven types g)) (kindRule (g .header .kind) (g .header .encoding))) ea)
+    go true ea false eb = no (sym (rw (ea, eb) at turn))
     go true ea true eb =
         let k = eqb-true (kindRule (g .header .kind) (g .header .encoding)) 0 ea in
         let p = eqb-true (picosecondsRefusal (g .header .picoseconds)) 0 eb in
@@ -402,15 +399,15 @@ refused-by (got a e) n z h = absurd (z (sym h))
 refused-by (refused m p) n z h = (p, ap (λ (k : ℕ). refused k p) h)
 
 -- So reading refuses by n what would be written exactly if the writer's number is n, where that is not 6, "what would read back otherwise".
-pub refused-alike : (types : List ℕ) (g : GivenMessage) → FitsHeader (g .header) → Numbers (g .indices) → PartsAgree types g → (n : ℕ) → (n ≡ 0 → ⊥) → (n ≡ 6 → ⊥)
+pub refused-alike : (types : List ℕ) (g : GivenMessage) → FitsHeader (g .header) → Numbers (g .indices) → PartsAgree types g → messagePicosecondsTurn g ≡ false → (n : ℕ) → (n ≡ 0 → ⊥) → (n ≡ 6 → ⊥)
     → (messageRefusal types g ≡ n → ReadingRefuses types g n) × (ReadingRefuses types g n → messageRefusal types g ≡ n)
-refused-alike types g fits indices agree n z s = (there, back)
+refused-alike types g fits indices agree turn n z s = (there, back)
   where
     six : ℕ
     six = cond (readsBack types g) 0 6
 
     same : numberOf (messageAt types (encode g)) ≡ messageReadingRefusal types g
-    same = number-alike types g fits indices agree
+    same = number-alike types g fits indices agree turn
 
     there : messageRefusal types g ≡ n → ReadingRefuses types g n
     there h = refused-by (messageAt types (encode g)) n z (same ∙ reading-by (messageReadingRefusal types g) (readsBack types g) n z s h)

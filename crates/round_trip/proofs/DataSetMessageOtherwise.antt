@@ -33,7 +33,7 @@ use Rattle.round_trip.specs.DataSetMessage.{firstOf, endOf, messageWritt
 use Rattle.dataset_fields.proofs.FieldsTrip.{field-alone}
 use Rattle.wire_writer.specs.Fits.{Numbers}
 use Rattle.round_trip.proofs.DataSetMessage.{no, reached-all, delta-plain, read-written}
-use Rattle.round_trip.proofs.DataSetMessageHeader.{kind-refused, picoseconds-refused}
+use Rattle.round_trip.proofs.DataSetMessageHeader.{kind-refused, picoseconds-kept}
 use Rattle.round_trip.proofs.DataSetMessagePlaces.{fieldsPart, countPart, start, body-at, sizes, header-read}
 
 whole-at : (s : List ℕ) → At s 0 s
@@ -177,8 +177,7 @@ accepts-exactly types g fits indices = (there, back)
     back b =
         let k : kindRule (g .header .kind) (g .header .encoding) ≡ 0 =
         none-of (kindRule (g .header .kind) (g .header .encoding)) (λ z. not-got (sym (kind-refused types g z .1) ∙ b .0 .message)) in
-        let p : picosecondsRefusal (g .header .picoseconds) ≡ 0 =
-        none-of (picosecondsRefusal (g .header .picoseconds)) (λ z. not-got (sym (picoseconds-refused types g fits k z .1) ∙ b .0 .message)) in
+        let p : picosecondsRefusal (g .header .picoseconds) ≡ 0 = picoseconds-kept types (encode g) (messageWritten g) (endOf g) (b .0 .message) in
         let a = body-agrees types g fits k p (b .0) in
         let l = lists-add (isDelta (g .header .kind)) (g .values) (g .lengths) (g .indices) (b .1) in
         acceptable types g

@@ -16,7 +16,7 @@ use Rattle.wire.proofs.Facts.{and-left, and-right}
 use Rattle.wire.proofs.Steady.{Steady}
 use Rattle.wire.proofs.Places.{after, append-refused, movedBy}
 use Rattle.value.specs.Value.{Measure}
-use Rattle.wire_writer.specs.Writing.{orElse, picosecondsRefusal}
+use Rattle.wire_writer.specs.Writing.{orElse, refusing, picosecondsRefusal}
 use Rattle.wire_writer.specs.Fits.{Numbers}
 use Rattle.wire_writer.proofs.Trip.{At, first, second}
 use Rattle.wire_writer.proofs.Refusals.{or-case}
@@ -25,14 +25,15 @@ use Rattle.dataset_header.specs.Flags.{isDelta, kindRule}
 use Rattle.dataset_header.specs.Header.{FitsHeader}
 use Rattle.dataset_fields.specs.Fields.{encodedAt, fieldsAt, fieldsRefusal, reached, indexBytes, fieldsBytes, zeros}
 use Rattle.dataset_message.specs.Message.{countAt, messageAt}
-use Rattle.dataset_message_writer.specs.Message.{GivenMessage, isKey, isFielded, isRawData, givenFields, countBytes, ownGiven, wholeGiven, listsGiven, layoutGiven, bodyRefusal, messageReadingRefusal, encode}
+use Rattle.dataset_message_writer.specs.Message.{GivenMessage, isKey, isFielded, isRawData, givenFields, countBytes, ownGiven, wholeGiven, listsGiven, layoutGiven, bodyRefusal, messagePicosecondsTurn, messageReadingRefusal, readsBack, encode, messageOutput}
 use Rattle.dataset_fields.proofs.Judging.{encoded-either, encoded-refused, length-values}
 use Rattle.dataset_fields.proofs.FieldsTrip.{field-is, index-is}
 use Rattle.round_trip.specs.DataSetMessage.{plainly, Tellable, PartsAgree, ReadingRefuses, fieldsCounted}
 use Rattle.round_trip.proofs.DataSetMessage.{no, some-of, counted-is, count-is, delta-plain}
 use Rattle.round_trip.proofs.DataSetMessagePlaces.{fieldsPart, countPart, start, body-at, sizes, header-read}
-use Rattle.round_trip.proofs.DataSetMessageHeader.{kind-refused, picoseconds-refused}
+use Rattle.round_trip.proofs.DataSetMessageHeader.{kind-refused}
 use Rattle.round_trip.proofs.DataSetMessageNumber.{layout-number, refused-by}
+use Rattle.round_trip.proofs.PicosecondsTurn.{three, their-refusal, behind-one}
 
 -- a field that is refused alone, but not cut short, is refused where it stands
 encoded-refuse : (encoding : Encoding) (types : List ℕ) (k : ℕ) (v : List ℕ) (n p : ℕ) → encodedAt encoding types k v 0 ≡ refused n p → (n ≡ 1 → ⊥)
@@ -248,11 +249,19 @@ module _ (types : List ℕ) (g : GivenMessage) (fits : FitsHeader (g .header)) (
     body-refused : eqb (bodyRefusal types g) 0 ≡ false → ReadingRefuses types g (bodyRefusal types g)
     body-refused r = or-case (ReadingRefuses types g) (ownGiven types g) (cond (wholeGiven types g && listsGiven g) (layoutGiven types g) 0) r own-refused layout-refused
 
--- The number by which the writer refuses what reading would refuse is reading's number of what would have been written.
-pub refuse-written : (types : List ℕ) (g : GivenMessage) → FitsHeader (g .header) → Numbers (g .indices) → Tellable types g → eqb (messageReadingRefusal types g) 0 ≡ false
-    → (place : ℕ) × (messageAt types (encode g) ≡ refused (messageReadingRefusal types g) place)
-refuse-written types g fits indices tells h =
+-- The number by which the writer refuses in reading order, but not picoseconds at their turn, is reading's number of what would have been
+-- written.
+pub refuse-written : (types : List ℕ) (g : GivenMessage) → FitsHeader (g .header) → Numbers (g .indices) → Tellable types g → messagePicosecondsTurn g ≡ false
+    → eqb (messageReadingRefusal types g) 0 ≡ false → (place : ℕ) × (messageAt types (encode g) ≡ refused (messageReadingRefusal types g) place)
+refuse-written types g fits indices tells turn h =
     or-case (ReadingRefuses types g) (kindRule (g .header .kind) (g .header .encoding)) (orElse (picosecondsRefusal (g .header .picoseconds)) (bodyRefusal types g)) h
     (kind-refused types g)
     (λ k r. or-case (ReadingRefuses types g) (picosecondsRefusal (g .header .picoseconds)) (bodyRefusal types g) r
-    (picoseconds-refused types g fits k) (body-refused types g fits indices tells k))
+    (λ e. no (sym (rw (k, e) at turn))) (body-refused types g fits indices tells k))
+
+-- Picoseconds of 10,000 and up are refused by 3, at their turn.
+pub picoseconds-refused : (types : List ℕ) (g : GivenMessage) → messagePicosecondsTurn g ≡ true → messageOutput types g ≡ refusing 3
+picoseconds-refused types g h =
+    let k = kindRule (g .header .kind) (g .header .encoding) in
+    let p = picosecondsRefusal (g .header .picoseconds) in
+    behind-one k p (bodyRefusal types g) (cond (readsBack types g) 0 6) (encode g) h ∙ ap refusing (three (g .header .picoseconds) (their-refusal k p h))

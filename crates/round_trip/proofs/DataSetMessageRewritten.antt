@@ -1,4 +1,4 @@
--- Every accepted DataSetMessage is rewritten identically.
+-- Every accepted DataSetMessage is rewritten identically, but for picoseconds of 10,000 or more, which become 9,999.
 -- Assumes nothing.
 use mathlib.Core.Path.{_≡_, refl, ap, sym, _∙_, subst}
 use mathlib.Core.Bool.{Bool, true, false, cond, not, _||_}
@@ -20,11 +20,11 @@ use Rattle.wire.proofs.Reading.{invert, got-value, got-next, not-got}
 use Rattle.wire_writer.specs.Writing.{Writes, writing, unless, afterReading}
 use Rattle.wire_writer.proofs.Answering.{fitting-written}
 use Rattle.wire_writer.specs.declared.writing.Written.{Written}
-use Rattle.wire_writer.proofs.Back.{Back, empty, rest-is, end-fits, item-back}
+use Rattle.wire_writer.proofs.Back.{Back, empty, rest-is, end-fits, item-back, held-length}
 use Rattle.dataset_header.specs.declared.flags.Kind.{Kind}
 use Rattle.dataset_header.specs.declared.header.Header.{Header}
 use Rattle.dataset_header.specs.Flags.{Valid, notValid, valid, isDelta, isRaw}
-use Rattle.dataset_header.specs.Header.{messageHeaderAt, messageHeaderBytes}
+use Rattle.dataset_header.specs.Header.{messageHeaderAt, messageHeaderBytes, messagePicosecondsPlace, messageHeld}
 use Rattle.dataset_fields.specs.Fields.{fieldsAt, paddingAt, fieldAt, valuesOf, fieldsBytes, zeros, valuesJoined, lengthsOf, andField, walked}
 use Rattle.dataset_message.specs.Message.{Message, countedAt, countAt, endAt, bodyAt, afterHeader, messageAt, fieldPlaceAt}
 use Rattle.dataset_message_writer.specs.Message.{GivenMessage, hasFields, isKey, isFielded, isRawData, givenFields, countBytes, countAgrees, wholeGiven, countsGiven, messageRefusal, encode, messageOutput}
@@ -98,13 +98,13 @@ count-back Kind.KeepAlive raw types s at n next bytes l d h = without-fields Kin
 abbrev read : Header → ℕ → ℕ → ℕ → Message
 read h n first end = record { header = h; cursor = record { encoding = h .encoding; delta = isDelta (h .kind); next = 0; count = n; at = first }; end = end }
 
--- The parts of an accepted message, one after the other as `rewrite` writes them, are the message.
+-- The parts of an accepted message, one after the other as `rewrite` writes them, are the message with its picoseconds held.
 
 again-parts : (types s : List ℕ) (h : Header) (n first end : ℕ) → HeaderBack s h (length (messageHeaderBytes h))
     → CountBack (h .kind) (isRaw (h .encoding)) types s (length (messageHeaderBytes h)) n first → first ≤ end → drop end s ≡ zeros (length s - end)
-    → again s (read h n first end) ≡ s
+    → again s (read h n first end) ≡ messageHeld h s
 again-parts types s h n first end header count l rest =
-    sym (rest-is s 0 (messageHeaderBytes h) (length (messageHeaderBytes h)) (header .stands)
+    sym (sym (header .again)
     ∙ ap (λ (x : List ℕ). messageHeaderBytes h ++ x)
     (rest-is s (length (messageHeaderBytes h)) (countBytes (hasFields (h .kind) (leb (length s) (length (messageHeaderBytes h)))) (isRaw (h .encoding)) n) first (count .stands)
     ∙ ap (λ (x : List ℕ). countBytes (hasFields (h .kind) (leb (length s) (length (messageHeaderBytes h)))) (isRaw (h .encoding)) n ++ x)
@@ -120,9 +120,9 @@ module _ (types s : List ℕ) (h : Header) (n first end : ℕ) (header : HeaderB
   abbrev g : GivenMessage
   g = takenAgain types s (read h n first end)
 
-  bytes-same : encode g ≡ s
+  bytes-same : encode g ≡ messageHeld h s
   bytes-same =
-      sym (rest-is s 0 (messageHeaderBytes h) (length (messageHeaderBytes h)) (header .stands)
+      sym (sym (header .again)
       ∙ ap (λ (l : List ℕ). messageHeaderBytes h ++ l)
       (rest-is s (length (messageHeaderBytes h)) (countBytes (isFielded g) (isRawData g) (length (g .lengths))) first counted
       ∙ ap (λ (l : List ℕ). countBytes (isFielded g) (isRawData g) (length (g .lengths)) ++ l)
@@ -205,37 +205,45 @@ after-header notValid types s at m e bytes p q =
     absurd (omega arith)
 after-header (valid h) types s at m e bytes p q =
     let b = header-back s h at bytes p in
-    let n : at ≡ length (messageHeaderBytes h) = b .stands .1 ∙ zero-add (length (messageHeaderBytes h)) in
+    let n : at ≡ length (messageHeaderBytes h) = b .sized in
     let x : bodyAt h types s (length (messageHeaderBytes h)) ≡ got (valid m) e = ap (bodyAt h types s) (sym n) ∙ q in
     let c = invert (countAt (h .kind) (isRaw (h .encoding)) types s (length (messageHeaderBytes h))) (λ j first. _) x in
     let t = subst (HeaderBack s h) n b in
-    let l = end-fits s 0 (messageHeaderBytes h) (length (messageHeaderBytes h)) (t .stands) in
     after-count types s h (c .0) (c .1) m e bytes t
-    (count-back (h .kind) (isRaw (h .encoding)) types s (length (messageHeaderBytes h)) (c .0) (c .1) bytes l (delta-plain (h .kind) (h .encoding) (b .kind)) (c .2)) (c .3)
+    (count-back (h .kind) (isRaw (h .encoding)) types s (length (messageHeaderBytes h)) (c .0) (c .1) bytes (t .fits) (delta-plain (h .kind) (h .encoding) (b .kind)) (c .2)) (c .3)
 
--- Every accepted DataSetMessage, taken as it was read, is accepted by the writer and rewritten identically, padding included.
+-- Every accepted DataSetMessage, taken as it was read, is accepted by the writer and rewritten, padding included, with its picoseconds held.
 pub rewrite-read : (types s : List ℕ) (m : Message) (e : ℕ) → Bytes s → messageAt types s ≡ got (valid m) e → Rewritten types s m
 rewrite-read types s m e bytes q =
     let a = invert (messageHeaderAt s 0) (λ v at. afterHeader v types s at) q in
     after-header (a .0) types s (a .1) m e bytes (a .2) (a .3)
 
+-- a message with its picoseconds held is as long as it was
+as-long : (h : Header) (s entry exit : List ℕ) (r : Written) → length s ≤ 65535 → length s ≤ length entry → Writes (writing (messageHeld h s)) entry exit r
+    → (r ≡ Written.Is (length s)) × (exit ≡ messageHeld h s ++ drop (length s) entry)
+as-long h s entry exit r l room w =
+    let n = held-length (h .picoseconds) (messagePicosecondsPlace h) s in
+    let x = fitting-written {bytes = messageHeld h s} (rw n l) (rw n room) w in
+    (x .0 ∙ ap Written.Is n, x .1 ∙ ap (λ (k : ℕ). messageHeld h s ++ drop k entry) n)
+
 -- The same of the writer itself, where the message is within the limit and the buffer has room: it reports the message's length, and
--- the buffer begins with the message and goes on as it was.
+-- the buffer begins with the message, its picoseconds held, and goes on as it was.
 pub rewrite-written : (types s : List ℕ) (m : Message) (e : ℕ) → Bytes s → messageAt types s ≡ got (valid m) e → length s ≤ 65535
     → (entry exit : List ℕ) (r : Written) → length s ≤ length entry → Writes (messageOutput types (takenAgain types s m)) entry exit r
-    → (r ≡ Written.Is (length s)) × (exit ≡ s ++ drop (length s) entry)
+    → (r ≡ Written.Is (length s)) × (exit ≡ messageHeld (m .header) s ++ drop (length s) entry)
 rewrite-written types s m e bytes q l entry exit r room w =
     let x = rewrite-read types s m e bytes q in
     let v = subst (λ (k : ℕ). Writes (unless k (encode (takenAgain types s m))) entry exit r) (x .accepted) w in
-    fitting-written l room (subst (λ (b : List ℕ). Writes (writing b) entry exit r) (x .same) v)
+    as-long (m .header) s entry exit r l room (subst (λ (b : List ℕ). Writes (writing b) entry exit r) (x .same) v)
 
 -- and of `rewrite`
 pub rewrite-same : (types s : List ℕ) (m : Message) (e : ℕ) → Bytes s → messageAt types s ≡ got (valid m) e → length s ≤ 65535
-    → (entry exit : List ℕ) (r : Written) → length s ≤ length entry → Writes (messageAgain types s) entry exit r → (r ≡ Written.Is (length s)) × (exit ≡ s ++ drop (length s) entry)
+    → (entry exit : List ℕ) (r : Written) → length s ≤ length entry → Writes (messageAgain types s) entry exit r
+    → (r ≡ Written.Is (length s)) × (exit ≡ messageHeld (m .header) s ++ drop (length s) entry)
 rewrite-same types s m e bytes q l entry exit r room w =
     let x = rewrite-read types s m e bytes q in
     let v = subst (λ (a : Answer (Valid Message)). Writes (afterReading a (whereValid (again s))) entry exit r) q w in
-    fitting-written l room (subst (λ (b : List ℕ). Writes (writing b) entry exit r) (x .parts) v)
+    as-long (m .header) s entry exit r l room (subst (λ (b : List ℕ). Writes (writing b) entry exit r) (x .parts) v)
 
 -- The fields that are written again are those that lookup gives.
 

@@ -15,3 +15,4 @@ pub mod NetworkMessageRewritten
 pub mod NetworkMessageRefused
 pub mod NetworkMessageAccepted
 pub mod NetworkMessageRoundTrip
+pub mod PicosecondsTurn

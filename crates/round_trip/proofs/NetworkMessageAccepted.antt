@@ -10,8 +10,8 @@ use lib.Seq.{length-take-le, drop-drop}
 use lib.Dec.{eqb, leb}
 use borrow.Author.Tests.{eq-eqb, lt-leb}
 use Rattle.wire.specs.Number.{le, leBytes}
-use Rattle.wire.specs.Answer.{got, refused, run, signedItem, ruled}
-use Rattle.wire.specs.Optional.{optionalI64, picosecondsRule, picosecondsAt}
+use Rattle.wire.specs.Answer.{got, refused, run, item, signedItem}
+use Rattle.wire.specs.Optional.{optionalI64, picosecondsRead, picosecondsAt}
 use Rattle.wire.specs.declared.optional.Optional16.{Optional16}
 use Rattle.wire.specs.declared.optional.OptionalI64.{OptionalI64}
 use Rattle.wire.proofs.Reading.{got-value, invert}
@@ -69,7 +69,7 @@ numbers-same xs h = rw (eq-eqb (length (numbersBytes xs)) (2 * length xs) (numbe
 -- the flags of items that were read
 
 picoseconds-on : (on : Bool) (s : List ℕ) (at : ℕ) (x : Optional16) (next : ℕ) → picosecondsAt on s at ≡ got x next → on16 x ≡ on
-picoseconds-on true s at x next h = subst (λ (x : Optional16). on16 x ≡ true) (map-back (ruled 2 picosecondsRule) Optional16.Is s at x next h .2) refl
+picoseconds-on true s at x next h = subst (λ (x : Optional16). on16 x ≡ true) (map-back (item 2) (λ v. Optional16.Is (picosecondsRead v)) s at x next h .2) refl
 picoseconds-on false s at x next h = subst (λ (x : Optional16). on16 x ≡ false) (got-value h) refl
 
 timestamp-on : (on : Bool) (s : List ℕ) (at : ℕ) (x : OptionalI64) (next : ℕ) → optionalI64 on s at ≡ got x next → onI64 x ≡ on
@@ -198,8 +198,8 @@ body-kept sizes configured s f n m next b hs hc hf h =
     let P = map-back (payloadAt (x .chunk) (x .«payload_header») sizes) (λ p. record { envelope = x; places = q; payload = p }) s (H .1) m next (H .3) in
     let S = header-same (length (configuredSizes sizes)) s f n (H .0) (H .1) b hf (H .2) in
     let k = header-kept (length (configuredSizes sizes)) s f n (H .0) (H .1) b hf (H .2) in
-    let l : q .payload ≤ length s = omega (arith, S .2, S .3) in
-    let o : payloadAt (x .chunk) (x .«payload_header») sizes s (q .payload) ≡ got (P .0) next = ap (λ (i : ℕ). payloadAt (x .chunk) (x .«payload_header») sizes s i) (S .2) ∙ P .1 in
+    let l : q .payload ≤ length s = omega (arith, S .ends, S .fits) in
+    let o : payloadAt (x .chunk) (x .«payload_header») sizes s (q .payload) ≡ got (P .0) next = ap (λ (i : ℕ). payloadAt (x .chunk) (x .«payload_header») sizes s i) (S .ends) ∙ P .1 in
     subst (λ (m : NetworkMessage). datagramRefusal (givenOf s (m .envelope) (m .places) sizes configured) (m .envelope) sizes configured ≡ 0) (P .2)
     (all-zero
     (all-zero (k .times)
@@ -214,7 +214,7 @@ body-kept sizes configured s f n m next b hs hc hf h =
 -- The writer, given an accepted datagram's parts as they were read, refuses nothing, and what it writes is the rewritten datagram.
 pub write-read : (sizes configured s : List ℕ) (m : NetworkMessage) (next : ℕ) → Bytes s → Numbers sizes → Numbers configured → networkMessageAt sizes s ≡ got m next
     → (datagramRefusal (givenOf s (m .envelope) (m .places) sizes configured) (m .envelope) sizes configured ≡ 0)
-    × (datagramOf (givenOf s (m .envelope) (m .places) sizes configured) (m .envelope) ≡ rewritten s)
+    × (datagramOf (givenOf s (m .envelope) (m .places) sizes configured) (m .envelope) ≡ rewritten m s)
 write-read sizes configured s m next b hs hc h =
     let f = flags-of sizes s m next h in (
       body-kept sizes configured s (f .0) (f .1) m next b hs hc (f .2) (f .3),

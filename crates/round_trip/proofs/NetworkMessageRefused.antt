@@ -2,7 +2,7 @@
 -- Assumes nothing.
 use mathlib.Core.Path.{_≡_, refl, ap, sym, subst, _∙_}
 use mathlib.Core.List.{List, [], _++_}
-use mathlib.Core.Bool.{Bool, true, false, cond, _&&_}
+use mathlib.Core.Bool.{Bool, true, false, cond, _&&_, not}
 use Prim.Native.Nat.{ℕ, suc, _+_, _*_, _/_, _%_, _^_, _≤_, _<_}
 use native.Mathlib.Omega.{arith}
 use lib.ListN.{length, length-append}
@@ -29,10 +29,10 @@ use Rattle.network_header.specs.Numbers.{configuredSizes}
 use Rattle.network_message.specs.Envelope.{messagesOf, networkMessageAt}
 use Rattle.wire_writer.specs.Writing.{orElse, num, needed, byteBytes, on16, on32, onI64, optional16Bytes, optional32Bytes, optionalI64Bytes, picosecondsRefusal}
 use Rattle.wire_writer.proofs.Trip.{At, Reads, nothing, first, second, fits-at, le-at, item-is, rule-kept, optional16-is, optional32-is, optionalI64-is, picoseconds-is}
-use Rattle.wire_writer.proofs.Refusals.{or-case, no, Refuses, broken, number-broken, picoseconds-refuses}
+use Rattle.wire_writer.proofs.Refusals.{or-case, no, Refuses, broken, number-broken}
 use Rattle.wire_writer.proofs.Bits.{num-bound, needed-bound, flag-is}
 use Rattle.network_message_writer.specs.Payload.{listBytes, refusalNumber, payloadRefusal, listedRefusal}
-use Rattle.network_message_writer.specs.Envelope.{GivenDatagram, envelopeBytes, datagramOf, datagramReadingRefusal}
+use Rattle.network_message_writer.specs.Envelope.{GivenDatagram, envelopeBytes, datagramOf, datagramReadingRefusal, picosecondsTurn}
 use Rattle.round_trip.specs.NetworkMessage.{AsManyLengths, AsManyIds, CountsAgree}
 use Rattle.network_header.specs.Envelope.{FitsEnvelope}
 use Rattle.network_header.proofs.FlagsTrip.{byte-bits, extended-bits, flags-are}
@@ -232,9 +232,13 @@ payload-number (PayloadHeader.Ids n) chunk sizes pre lengths messages m e c a = 
     go false t = listed-number n pre lengths messages m e (a t)
 payload-number (PayloadHeader.Chunk w) chunk sizes pre lengths messages m e c a = refl
 
-module _ (g : GivenDatagram) (x : Envelope) (sizes : List ℕ) (f : FitsEnvelope x) (a : CountsAgree g x) (long : length (datagramOf g x) ≤ 65535) where
-  -- Where what would be written is one thing and the writer refuses by a reading number, reading what would have been written refuses by
-  -- that number.
+-- the turn of the PicoSeconds has come where nothing before them is refused
+their-turn : (a b c d p : ℕ) → a ≡ 0 → b ≡ 0 → c ≡ 0 → d ≡ 0 → eqb p 0 ≡ false → eqb (orElse a (orElse b (orElse c d))) 0 && not (eqb p 0) ≡ false → ⊥
+their-turn a b c d p ea eb ec ed ep h = no (rw (ea, eb, ec, ed, ep) at h)
+
+module _ (g : GivenDatagram) (x : Envelope) (sizes : List ℕ) (f : FitsEnvelope x) (a : CountsAgree g x) (long : length (datagramOf g x) ≤ 65535) (turn : picosecondsTurn g x ≡ false) where
+  -- Where what would be written is one thing and the writer refuses in reading order, but not the PicoSeconds at their turn, reading what
+  -- would have been written refuses by that number.
   pub refuse-written : eqb (datagramReadingRefusal g x sizes) 0 ≡ false → (place : ℕ) × (networkMessageAt sizes (datagramOf g x) ≡ refused (datagramReadingRefusal g x sizes) place)
   refuse-written h =
       let s = datagramOf g x in
@@ -301,7 +305,8 @@ module _ (g : GivenDatagram) (x : Envelope) (sizes : List ℕ) (f : FitsEnvelope
       (λ e. (m4, rw (l, p1, p2, p3, p4, payload-header-refuses (x .«payload_header») (x .chunk) (g .ids) m4 (a .ids) e s a5)))
       (λ z4 h4. let p5 = payload-header-written (x .«payload_header») (x .chunk) (g .ids) m4 (f .payloadHeader) z4 (a .ids) s a5 in
       or-case P (picosecondsRefusal (x .picoseconds)) k6 h4
-      (λ e. (m6, rw (l, p1, p2, p3, p4, p5, p6, picoseconds-refuses (x .picoseconds) m6 (f .picoseconds) e s a7)))
+      (λ e. absurd (their-turn (timesRefusal (on16 (x .picoseconds)) (onI64 (x .timestamp))) (publisherRefusal (x .publisher) (length (g .text))) (groupRefusal (x .group))
+      (countRefusal (x .«payload_header»)) (picosecondsRefusal (x .picoseconds)) z1 z2 z3 z4 e turn))
       (λ z5 h5. let p7 = picoseconds-is (x .picoseconds) m6 (f .picoseconds) z5 s a7 in
       or-case P (promotedRefusal (x .promoted) messages) k7 h5
       (λ e. (m7, rw (l, p1, p2, p3, p4, p5, p6, p7, promoted-refuses (x .promoted) messages (g .promoted) m7 l8 e s at8)))

@@ -1,8 +1,8 @@
 -- The round trips of whole NetworkMessages, over the definitions that the contracts of `network_message::envelope` and
 -- `network_message_writer::envelope` cite.
 -- Assumes nothing.
-use mathlib.Core.Path.{_≡_, refl, sym, subst, _∙_}
-use mathlib.Core.Bool.{Bool, true, false}
+use mathlib.Core.Path.{_≡_, refl, ap, sym, subst, _∙_}
+use mathlib.Core.Bool.{Bool, true, false, _&&_}
 use mathlib.Core.List.{List, _++_}
 use Prim.Native.Nat.{ℕ, _≤_}
 use borrow.Author.Tests.{eqb-true}
@@ -15,21 +15,24 @@ use Rattle.network_header.specs.declared.envelope.Envelope.{Envelope}
 use Rattle.network_message.specs.Envelope.{NetworkMessage, networkMessageAt}
 use Rattle.wire_writer.proofs.Refusals.{both-zero}
 use Rattle.wire_writer.proofs.Answering.{reported}
-use Rattle.wire_writer.specs.Writing.{orElse, refusing, Writes}
+use Rattle.wire_writer.specs.Writing.{orElse, refusing, Writes, on16, onI64, picosecondsRefusal}
 use Rattle.wire_writer.specs.declared.writing.Written.{Written}
-use Rattle.publisher_id.specs.Publisher.{publisherShape}
-use Rattle.network_header.specs.Header.{idsShape, promotedShape}
+use Rattle.publisher_id.specs.Publisher.{publisherRefusal, publisherShape}
+use Rattle.network_header.specs.Flags.{timesRefusal}
+use Rattle.network_header.specs.Group.{groupRefusal}
+use Rattle.network_header.specs.Header.{countRefusal, idsShape, promotedShape}
 use Rattle.network_header.specs.declared.header.PayloadHeader.{PayloadHeader}
 use Rattle.network_message_writer.specs.Payload.{listBytes, lengthsShape}
 use Rattle.network_message_writer.proofs.Again.{accepted-short}
-use Rattle.network_message_writer.specs.Envelope.{GivenDatagram, envelopeBytes, datagramOf, datagramReadingRefusal, datagramRefusal, datagramOutput}
+use Rattle.network_message_writer.specs.Envelope.{GivenDatagram, envelopeBytes, datagramOf, beforePicoseconds, picosecondsTurn, datagramReadingRefusal, shapeRefusal, datagramRefusal, datagramOutput}
 use Rattle.round_trip.specs.NetworkMessage.{payloadFor, CountsAgree, PartsAgree, ReadsBack, WritesAgain}
 use Rattle.network_header.specs.Envelope.{FitsEnvelope}
 use Rattle.round_trip.proofs.NetworkMessagePayload.{as-many-ids}
 use Rattle.round_trip.proofs.NetworkMessageWritten.{read-written, message-written}
 use Rattle.round_trip.proofs.NetworkMessageGiven.{text-written, promoted-written, writer-id-written}
-use Rattle.round_trip.proofs.NetworkMessageRewritten.{rewrite-accepted, same-with-publisher}
+use Rattle.round_trip.proofs.NetworkMessageRewritten.{rewrite-accepted, same-with-publisher, accepted-picoseconds}
 use Rattle.round_trip.proofs.NetworkMessageRefused.{refuse-written}
+use Rattle.round_trip.proofs.PicosecondsTurn.{three, their-refusal, behind-four}
 use Rattle.round_trip.proofs.NetworkMessageAccepted.{write-read}
 use Rattle.wire_writer.specs.Fits.{Bytes, Numbers}
 
@@ -61,8 +64,8 @@ reads-back g x sizes configured entry exit n f w =
     let a = reported (datagramRefusal g x sizes configured) (datagramOf g x) entry exit n w in
     (subst (ReadsBack g x sizes configured) (sym (a .front)) (given-back g x sizes configured f (a .number) (a .limit)), a .rest)
 
--- Theorem 2. An accepted datagram written again gives `rewritten s`: the same bytes but for the one case that document 01
--- names. `rewrite` accepts it wherever the buffer is as long, and so does the writer its parts as they were read.
+-- Theorem 2. An accepted datagram written again gives `rewritten m s`: the same bytes but for the two cases that documents 01 and 02
+-- name. `rewrite` accepts it wherever the buffer is as long, and so does the writer its parts as they were read.
 
 pub writes-again : (s sizes configured out : List ℕ) (m : NetworkMessage) (next : ℕ) → Bytes s → Numbers sizes → Numbers configured → networkMessageAt sizes s ≡ got m next → length s ≤ length out
     → WritesAgain s sizes configured out m
@@ -71,18 +74,27 @@ writes-again s sizes configured out m next b hs hc h l =
     let w = write-read sizes configured s m next b hs hc h in
     record { answer = r .0; buffer = r .1; unchanged = same-with-publisher sizes s m next b h; unrefused = w .0; same = w .1 }
 
--- Theorem 3. A refusal by a reading rule is the writer's answer, since these rules come first.
+-- Theorem 3. A refusal in reading order is the writer's answer, since these rules come first.
 
 pub reading-number-first : (g : GivenDatagram) (x : Envelope) (sizes configured : List ℕ) → eqb (datagramReadingRefusal g x sizes) 0 ≡ false
     → datagramOutput g x sizes configured ≡ refusing (datagramReadingRefusal g x sizes)
 reading-number-first g x sizes configured h = rw (h, h)
 
--- And where what would be written is one thing, it is reading's refusal of what would have been written, by the same number.
+-- PicoSeconds of 10,000 and up are refused by 3, at their turn.
 
-pub refuses-alike : (g : GivenDatagram) (x : Envelope) (sizes : List ℕ) → FitsEnvelope x → CountsAgree g x → length (datagramOf g x) ≤ 65535
+pub picoseconds-refused : (g : GivenDatagram) (x : Envelope) (sizes configured : List ℕ) → picosecondsTurn g x ≡ true → datagramOutput g x sizes configured ≡ refusing 3
+picoseconds-refused g x sizes configured h =
+    let p = picosecondsRefusal (x .picoseconds) in
+    behind-four (timesRefusal (on16 (x .picoseconds)) (onI64 (x .timestamp))) (publisherRefusal (x .publisher) (length (g .text))) (groupRefusal (x .group)) (countRefusal (x .«payload_header»)) p _
+    (shapeRefusal g x sizes configured) (datagramOf g x) h
+    ∙ ap refusing (three (x .picoseconds) (their-refusal (beforePicoseconds x (length (g .text))) p h))
+
+-- Else, and where what would be written is one thing, it is reading's refusal of what would have been written, by the same number.
+
+pub refuses-alike : (g : GivenDatagram) (x : Envelope) (sizes : List ℕ) → FitsEnvelope x → CountsAgree g x → length (datagramOf g x) ≤ 65535 → picosecondsTurn g x ≡ false
     → eqb (datagramReadingRefusal g x sizes) 0 ≡ false
     → (place : ℕ) × (networkMessageAt sizes (datagramOf g x) ≡ refused (datagramReadingRefusal g x sizes) place)
-refuses-alike g x sizes f a l h = refuse-written g x sizes f a l h
+refuses-alike g x sizes f a l t h = refuse-written g x sizes f a l t h
 
 -- Theorem 4. Of parts that agree with their envelope the writer accepts those, and only those, that read back as they were given.
 
@@ -96,19 +108,26 @@ counts-agree g x sizes configured a =
     let s2 = both-zero m2 (orElse m3 m4) (s1 .1) in
     record { ids = as-many-ids (x .«payload_header») (x .chunk) (g .ids) configured (s2 .0); lengths = a .lengths }
 
--- what reading accepts is not refused by a reading rule
+-- what reading accepts is not refused in reading order, where its PicoSeconds are below 10,000
 read-unrefused : (g : GivenDatagram) (x : Envelope) (sizes : List ℕ) (m : NetworkMessage) (n : ℕ) → FitsEnvelope x → CountsAgree g x
-    → networkMessageAt sizes (datagramOf g x) ≡ got m n → datagramReadingRefusal g x sizes ≡ 0
-read-unrefused g x sizes m n f a q = go (eqb (datagramReadingRefusal g x sizes) 0) refl
+    → networkMessageAt sizes (datagramOf g x) ≡ got m n → picosecondsRefusal (x .picoseconds) ≡ 0 → datagramReadingRefusal g x sizes ≡ 0
+read-unrefused g x sizes m n f a q p = go (eqb (datagramReadingRefusal g x sizes) 0) refl
   where
+    no-turn : picosecondsTurn g x ≡ false
+    no-turn = rw p (and-none (eqb (beforePicoseconds x (length (g .text))) 0))
+      where
+        and-none : (b : Bool) → b && false ≡ false
+        and-none true = refl
+        and-none false = refl
+
     go : (b : Bool) → eqb (datagramReadingRefusal g x sizes) 0 ≡ b → datagramReadingRefusal g x sizes ≡ 0
     go true t = eqb-true (datagramReadingRefusal g x sizes) 0 t
-    go false t = absurd (not-got (sym (refuses-alike g x sizes f a (accepted-short sizes (datagramOf g x) m n q) t .1) ∙ q))
+    go false t = absurd (not-got (sym (refuses-alike g x sizes f a (accepted-short sizes (datagramOf g x) m n q) no-turn t .1) ∙ q))
 
 pub accepts-exactly : (g : GivenDatagram) (x : Envelope) (sizes configured : List ℕ) → FitsEnvelope x → PartsAgree g x sizes configured
     → (datagramRefusal g x sizes configured ≡ 0 → length (datagramOf g x) ≤ 65535 → ReadsBack g x sizes configured (datagramOf g x))
     × (ReadsBack g x sizes configured (datagramOf g x) → datagramRefusal g x sizes configured ≡ 0)
 accepts-exactly g x sizes configured f a = (
   λ h l. given-back g x sizes configured f h l,
-  λ r. rw (read-unrefused g x sizes _ _ f (counts-agree g x sizes configured a) (r .whole)) (a .shape),
+  λ r. rw (read-unrefused g x sizes _ _ f (counts-agree g x sizes configured a) (r .whole) (accepted-picoseconds sizes (datagramOf g x) _ _ (r .whole))) (a .shape),
 )

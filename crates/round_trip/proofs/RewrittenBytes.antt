@@ -1,27 +1,25 @@
--- The one exception, said of the flags that were read, is what it is said of the bytes.
+-- The first exception, said of the flags that were read, is what it is said of the bytes.
 -- Assumes nothing.
-use Prim.Native.Nat.{ℕ, _+_, _*_, _-_, _/_, _%_, _<_}
+use Prim.Native.Nat.{ℕ, _+_, _*_, _-_, _/_, _%_, _<_, _≤_}
 use mathlib.Core.Path.{_≡_, refl, ap, sym, subst, _∙_}
-use mathlib.Core.Bool.{Bool, true, false, cond, _&&_}
+use mathlib.Core.Bool.{Bool, true, false, cond, not, _&&_}
 use mathlib.Core.List.{List, [], _∷_, _++_}
 use mathlib.Core.Logic.{_⊎_, inl, inr}
 use native.Mathlib.Nat.{zero-add}
 use native.Mathlib.Omega.{arith}
 use borrow.Author.Tests.{eqb-true, eqb-false, ne-eqb, eq-eqb}
 use lib.Dec.{eqb}
-use lib.ListN.{drop}
+use lib.ListN.{length}
 use Rattle.wire.specs.Number.{leBytes}
 use Rattle.wire.specs.Answer.{got, ruled, whenOn, bit}
 use Rattle.wire.proofs.Reading.{invert}
 use Rattle.wire.proofs.Cases.{by-bool}
 use Rattle.network_header.specs.declared.flags.Flags.{Flags}
 use Rattle.network_header.specs.Flags.{flagsAt, flagsOf, byte0Rule, extended1Rule, extended2Rule, extended1Of, extended2Of, byte0Of, flagBytes}
-use Rattle.network_header.proofs.FlagsBack.{flags-back}
-use Rattle.wire_writer.specs.Fits.{Bytes}
 use Rattle.wire_writer.specs.Writing.{num, needed, byteBytes}
-use Rattle.wire_writer.proofs.Back.{rest-is, map-back}
+use Rattle.wire_writer.proofs.Back.{map-back}
 use Rattle.wire_writer.proofs.Bits.{num-bound, needed-bound}
-use Rattle.round_trip.specs.NetworkMessage.{rewritten}
+use Rattle.round_trip.specs.NetworkMessage.{typeCleared}
 
 -- the flags as they are written again
 abbrev pub rewrittenFlags : Flags → Flags
@@ -39,7 +37,7 @@ rewrittenFlags f =
     }
 
 -- where ExtendedFlags1 is absent, or PublisherId on, nothing changes
-pub keeps : (b : ℕ) (t : List ℕ) → (bit 7 b ≡ false) ⊎ (bit 4 b ≡ true) → rewritten (b ∷ t) ≡ b ∷ t
+pub keeps : (b : ℕ) (t : List ℕ) → (bit 7 b ≡ false) ⊎ (bit 4 b ≡ true) → typeCleared (b ∷ t) ≡ b ∷ t
 keeps b [] h = refl
 keeps b (e ∷ t) (inl h) = rw h
 keeps b (e ∷ t) (inr h) = rw h (and-false (bit 7 b))
@@ -54,23 +52,23 @@ front c e x = leBytes 1 (c + 128 * needed e) ++ (byteBytes e ++ x)
 
 module _ (c kind K : ℕ) (x r : List ℕ) (small : c < 128) (hk : kind < 8) (hK : K < 256) (whole : K % 8 ≡ 0) where
   -- with PublisherId on
-  on : c / 16 % 2 ≡ 1 → front c (kind + K) x ++ r ≡ rewritten (front c (kind + K) x ++ r)
+  on : c / 16 % 2 ≡ 1 → front c (kind + K) x ++ r ≡ typeCleared (front c (kind + K) x ++ r)
   on h =
       sym (keeps ((c + 128 * needed (kind + K)) % 256) (byteBytes (kind + K) ++ x ++ r)
       (inr (eq-eqb ((c + 128 * needed (kind + K)) % 256 / 16 % 2) 1 (by-bool _ (eqb (kind + K) 0) (λ b. rw b (omega arith)) (λ b. rw b (omega arith))))))
 
   -- with PublisherId off
-  off : c / 16 % 2 ≡ 0 → front c K x ++ r ≡ rewritten (front c (kind + K) x ++ r)
+  off : c / 16 % 2 ≡ 0 → front c K x ++ r ≡ typeCleared (front c (kind + K) x ++ r)
   off h = by-bool _ (eqb (kind + K) 0) none some
     where
-      none : eqb (kind + K) 0 ≡ true → front c K x ++ r ≡ rewritten (front c (kind + K) x ++ r)
+      none : eqb (kind + K) 0 ≡ true → front c K x ++ r ≡ typeCleared (front c (kind + K) x ++ r)
       none b =
           let z : kind + K ≡ 0 = eqb-true (kind + K) 0 b in
           let y : K ≡ kind + K = omega arith in
           ap (λ (e : ℕ). front c e x ++ r) y
           ∙ sym (keeps ((c + 128 * needed (kind + K)) % 256) (byteBytes (kind + K) ++ x ++ r) (inl (ne-eqb ((c + 128 * needed (kind + K)) % 256 / 128 % 2) 1 (rw b (λ q. omega arith)))))
 
-      some : eqb (kind + K) 0 ≡ false → front c K x ++ r ≡ rewritten (front c (kind + K) x ++ r)
+      some : eqb (kind + K) 0 ≡ false → front c K x ++ r ≡ typeCleared (front c (kind + K) x ++ r)
       some b =
           let b7 : eqb ((c + 128 * 1) % 256 / 128 % 2) 1 ≡ true = eq-eqb ((c + 128 * 1) % 256 / 128 % 2) 1 (omega arith) in
           let b4 : eqb ((c + 128 * 1) % 256 / 16 % 2) 1 ≡ false = ne-eqb ((c + 128 * 1) % 256 / 16 % 2) 1 (λ q. omega arith) in
@@ -111,7 +109,7 @@ flags-are f =
     let z : byte0Of f ≡ byte0Front f + 128 * needed (f .kind + withoutType f) = omega arith in
     ap (λ (b : ℕ). leBytes 1 b ++ (byteBytes (extended1Of f) ++ byteBytes (extended2Of f))) z
 
-flags-rewritten : (f : Flags) (r : List ℕ) → f .kind < 8 → flagBytes (rewrittenFlags f) ++ r ≡ rewritten (flagBytes f ++ r)
+flags-rewritten : (f : Flags) (r : List ℕ) → f .kind < 8 → flagBytes (rewrittenFlags f) ++ r ≡ typeCleared (flagBytes f ++ r)
 flags-rewritten f r h =
     let p = num-bound (f .publisher) in
     let g = num-bound (f .group) in
@@ -125,7 +123,7 @@ flags-rewritten f r h =
     let e : withoutType f % 8 ≡ 0 = omega arith in
     let b : byte0Front f < 128 = omega (arith, p, g, l) in
     let first = ap (λ (y : List ℕ). y ++ r) (flags-are (rewrittenFlags f)) in
-    let last = ap (λ (y : List ℕ). rewritten (y ++ r)) (sym (flags-are f)) in
+    let last = ap (λ (y : List ℕ). typeCleared (y ++ r)) (sym (flags-are f)) in
     let typed : Bool → ℕ = λ t. cond t (f .kind) 0 + withoutType f in
     by-bool _ (f .publisher)
     (λ q. let n : byte0Front f / 16 % 2 ≡ 1 = rw q (omega (arith, g, l)) in
@@ -142,6 +140,15 @@ kind-small s f n h =
     let G = map-back (whenOn (eqb (E .0 / 128) 1) 0 (ruled 1 extended2Rule)) (λ g. flagsOf (B .0) (E .0) g) s (E .1) f n (E .3) in
     subst (λ (y : Flags). y .kind < 8) (G .2) (omega arith)
 
-pub rewritten-flags : (s : List ℕ) (f : Flags) (n : ℕ) → Bytes s → flagsAt s 0 ≡ got f n → flagBytes (rewrittenFlags f) ++ drop n s ≡ rewritten s
-rewritten-flags s f n b h =
-    flags-rewritten f (drop n s) (kind-small s f n h) ∙ ap rewritten (sym (rest-is s 0 (flagBytes f) n (flags-back s 0 f n b h .0)))
+-- flags that were read, and whatever follows them
+pub flags-cleared : (s : List ℕ) (f : Flags) (n : ℕ) → flagsAt s 0 ≡ got f n → (r : List ℕ) → flagBytes (rewrittenFlags f) ++ r ≡ typeCleared (flagBytes f ++ r)
+flags-cleared s f n h r = flags-rewritten f r (kind-small s f n h)
+
+-- no bytes get longer
+pub cleared-shorter : (s : List ℕ) → length (typeCleared s) ≤ length s
+cleared-shorter [] = omega arith
+cleared-shorter (b ∷ []) = omega arith
+cleared-shorter (b ∷ e ∷ s) =
+    by-bool _ (bit 7 b && not (bit 4 b))
+    (λ t. by-bool _ (eqb (e / 8) 0) (λ u. rw (t, u) (omega arith)) (λ u. rw (t, u) (omega arith)))
+    (λ t. rw t (omega arith))

@@ -12,7 +12,7 @@ use Rattle.dataset_fields.specs.declared.fields.Field.{Field}
 use Rattle.dataset_header.specs.Flags.{valid, isDelta}
 use Rattle.dataset_fields.specs.Fields.{encodedAt, fieldsBytes, walked, valuesJoined, lengthsOf, indicesOf}
 use Rattle.dataset_message.specs.Message.{Message, messageAt, fieldPlaceAt, fieldBytes}
-use Rattle.dataset_header.specs.Header.{messageHeaderBytes}
+use Rattle.dataset_header.specs.Header.{messageHeaderBytes, messageHeld}
 use Rattle.dataset_message_writer.specs.Message.{GivenMessage, givenMessage, isKey, isFielded, isRawData, givenFields, countBytes, encode, wholeGiven, listsGiven, messageRefusal}
 use Rattle.dataset_message_writer.specs.Rewrite.{again}
 
@@ -107,8 +107,8 @@ pub record Tellable (types : List ℕ) (g : GivenMessage) : Type 0 where
       plainly (g .header .encoding) types (eqb (g .padding) 0)
       (fieldsCounted (isRawData g) (length types) (length (g .lengths))) 0 (givenFields g) ≡ true
 
--- an accepted message s, its parts taken as read: the writer accepts them, and they are s again
+-- an accepted message s, its parts taken as read: the writer accepts them, and they are s again, with its picoseconds held
 pub record Rewritten (types s : List ℕ) (m : Message) : Type 0 where
   pub accepted : messageRefusal types (takenAgain types s m) ≡ 0
-  pub same : encode (takenAgain types s m) ≡ s
-  pub parts : again s m ≡ s
+  pub same : encode (takenAgain types s m) ≡ messageHeld (m .header) s
+  pub parts : again s m ≡ messageHeld (m .header) s

@@ -19,6 +19,7 @@ use Rattle.network_header.specs.declared.envelope.Places.{Places}
 use Rattle.network_message.specs.Payload.{allPositive, listed, messagesFrom, OfMessages}
 use Rattle.network_header.specs.Numbers.{configuredSizes}
 use Rattle.network_header.specs.Flags.{flagBytes, flagsFor}
+use Rattle.network_header.specs.Envelope.{envelopeHeld}
 use Rattle.network_message.specs.WriterId.{writerIdOf}
 use Rattle.network_message.specs.Envelope.{NetworkMessage, networkMessageAt, messagePlaceAt, messageBytes}
 use Rattle.publisher_id.specs.Publisher.{publisherOn, publisherBytes, bytesBefore, textOf}
@@ -96,13 +97,18 @@ pub record PartsAgree (g : GivenDatagram) (x : Envelope) (sizes configured : Lis
   pub shape : shapeRefusal g x sizes configured ≡ 0
   pub lengths : AsManyLengths (x .«payload_header») (g .lengths)
 
--- The one rewriting exception: "With PublisherId off, its type bits are written as 0; if ExtendedFlags1 would then be 0, the byte is left
+-- The first rewriting exception: "With PublisherId off, its type bits are written as 0; if ExtendedFlags1 would then be 0, the byte is left
 -- out and bit 7 of byte 0 is 0." b is byte 0, whose bit 7 says that ExtendedFlags1 follows, e; every other byte stays.
-abbrev pub rewritten : List ℕ → List ℕ
-rewritten [] = []
-rewritten (b ∷ []) = b ∷ []
-rewritten (b ∷ e ∷ s) =
+abbrev pub typeCleared : List ℕ → List ℕ
+typeCleared [] = []
+typeCleared (b ∷ []) = b ∷ []
+typeCleared (b ∷ e ∷ s) =
     cond (bit 7 b && not (bit 4 b)) (cond (eqb (e / 8) 0) ((b - 128) ∷ s) (b ∷ (8 * (e / 8)) ∷ s)) (b ∷ e ∷ s)
+
+-- A datagram that was read as m, written again: the same bytes but for that exception and the second, "the rewritten envelope .. holds
+-- 9,999 there", where its PicoSeconds are 10,000 or more. All else stands as it stood: "a message handed on as bytes keeps its own".
+abbrev pub rewritten : NetworkMessage → List ℕ → List ℕ
+rewritten m s = typeCleared (envelopeHeld (m .envelope) (m .places) s)
 
 -- the parts of a datagram as reading found them, to be given to the writer
 
@@ -155,12 +161,12 @@ pub record ReadsBack (g : GivenDatagram) (x : Envelope) (sizes configured d : Li
   -- a chunk's payload
   pub chunk : (w : ℕ) → x .«payload_header» ≡ PayloadHeader.Chunk w → drop (writtenMessage g x sizes .payload .first) d ≡ g .messages
 
--- An accepted datagram s, written again: `rewrite` accepts it in the buffer out and leaves `rewritten s` there, and so does the writer
+-- An accepted datagram s, written again: `rewrite` accepts it in the buffer out and leaves `rewritten m s` there, and so does the writer
 -- its parts as they were read.
 pub record WritesAgain (s sizes configured out : List ℕ) (m : NetworkMessage) : Type 0 where
-  pub answer : writtenOf (length out) (datagramAgain sizes s) ≡ Written.Is (length (rewritten s))
-  pub buffer : bufferAfter out (datagramAgain sizes s) ≡ rewritten s ++ drop (length (rewritten s)) out
-  -- with a PublisherId it is the datagram itself
-  pub unchanged : publisherOn (m .envelope .publisher) ≡ true → rewritten s ≡ s
+  pub answer : writtenOf (length out) (datagramAgain sizes s) ≡ Written.Is (length (rewritten m s))
+  pub buffer : bufferAfter out (datagramAgain sizes s) ≡ rewritten m s ++ drop (length (rewritten m s)) out
+  -- with a PublisherId nothing but the PicoSeconds can differ
+  pub unchanged : publisherOn (m .envelope .publisher) ≡ true → rewritten m s ≡ envelopeHeld (m .envelope) (m .places) s
   pub unrefused : datagramRefusal (givenOf s (m .envelope) (m .places) sizes configured) (m .envelope) sizes configured ≡ 0
-  pub same : datagramOf (givenOf s (m .envelope) (m .places) sizes configured) (m .envelope) ≡ rewritten s
+  pub same : datagramOf (givenOf s (m .envelope) (m .places) sizes configured) (m .envelope) ≡ rewritten m s

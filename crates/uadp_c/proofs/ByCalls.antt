@@ -19,7 +19,7 @@ use Rattle.wire_writer.specs.Fits.{Bytes, Numbers}
 use Rattle.wire_writer.specs.Store.{laid}
 use Rattle.wire_writer.proofs.Back.{end-fits, item-back}
 use Rattle.dataset_header.specs.Flags.{Valid, notValid, valid, isDelta, isRaw}
-use Rattle.dataset_header.specs.Header.{messageHeaderAt, messageHeaderBytes}
+use Rattle.dataset_header.specs.Header.{messageHeaderAt}
 use Rattle.dataset_header.specs.declared.flags.Kind.{Kind}
 use Rattle.dataset_header.specs.declared.header.Header.{Header}
 use Rattle.dataset_header.proofs.HeaderTrip.{header-back}
@@ -58,7 +58,7 @@ after-header notValid types s at m e b p q =
     let z : _≡_ {A = ℕ} 0 1 = cc in
     absurd (omega arith)
 after-header (valid h) types s at m e b p q =
-    let l = end-fits s 0 (messageHeaderBytes h) at (header-back s h at b p .stands) in
+    let l = header-back s h at b p .fits in
     let c = invert (countAt (h .kind) (isRaw (h .encoding)) types s at) (λ n first. _) q in
     let o = count-inside (h .kind) (isRaw (h .encoding)) types s at (c .0) (c .1) b l (c .2) in
     let k : Cursor = record { encoding = h .encoding; delta = isDelta (h .kind); next = 0; count = c .0; at = c .1 } in

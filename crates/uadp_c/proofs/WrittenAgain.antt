@@ -18,6 +18,7 @@ use Rattle.dataset_header.specs.declared.header.Header.{Header}
 use Rattle.dataset_message.specs.Message.{Message, messageAt}
 use Rattle.dataset_message_writer.specs.Message as message
 use Rattle.network_header.specs.Header.{idsShape}
+use Rattle.dataset_header.specs.Header.{messageHeld}
 use Rattle.network_header.specs.declared.envelope.Envelope.{Envelope}
 use Rattle.network_header.specs.declared.header.PayloadHeader.{PayloadHeader}
 use Rattle.network_header.proofs.Sizes.{ids-counted}
@@ -83,7 +84,7 @@ count-fits chunk (PayloadHeader.Chunk w) ids configured e = refl
 written : (bytes : List ℕ) (o : Output) (entry : List ℕ) (x : ℕ) (exit : List ℕ) → o ≡ writing bytes → x ≡ outputResult entry o → exit ≡ bufferAfter entry o → Written bytes entry x exit
 written bytes o entry x exit e a b = record { answer = a ∙ ap (outputResult entry) e; buffer = b ∙ ap (bufferAfter entry) e }
 
--- A DATAGRAM, READ AND WRITTEN AGAIN FROM ITS RECORD, also after messages were walked over: what `uadp_write` writes is the datagram, but for the one exception of document 01
+-- A DATAGRAM, READ AND WRITTEN AGAIN FROM ITS RECORD, also after messages were walked over: what `uadp_write` writes is the datagram, but for the two exceptions
 pub datagram-again : (d config : List ℕ) (m : NetworkMessage) (n : ℕ) (entry : List ℕ) (r : ℕ) (envelope : List ℕ) → Bytes d → Bytes config
     → networkMessageAt (sizesIn config) d ≡ got m n → ENVELOPE_SIZE ≤ length entry → EnvelopeRead d config entry r envelope
     → (ps : List (List ℕ)) (ys : List MessageCall) → AllLong PLACE_SIZE ps → length ps ≤ m .payload .count → MessageCalls d config ps envelope ys
@@ -97,14 +98,14 @@ datagram-again d config m n entry r envelope bd bc q l w ps ys long k y =
     let shape = both-zero (datagram.datagramReadingRefusal g x (sizesIn config)) (datagram.shapeRefusal g x (sizesIn config) (idsIn config)) (z .0) .1 in
     let ids = both-zero (publisherShape (x .publisher) (length (g .text))) _ shape .1 in
     let counts = count-fits (x .chunk) (x .«payload_header») (g .ids) (idsIn config) (both-zero (idsShape (x .chunk) (x .«payload_header») (g .ids) (idsIn config)) _ ids .0) in
-    let same : datagramFrom config last g ≡ writing (rewritten d) =
+    let same : datagramFrom config last g ≡ writing (rewritten m d) =
     ap (λ (t : Bool). fitting t (datagram.datagramOutput g (envelopeIn last) (sizesIn config) (idsIn config))) (b .1 ∙ counts)
     ∙ ap (λ (y : Envelope). datagram.datagramOutput g y (sizesIn config) (idsIn config)) (b .0)
     ∙ ap (λ (k : ℕ). unless k (datagram.datagramOf g x)) (z .0)
     ∙ ap writing (z .1) in
-    λ out x exit v. written (rewritten d) (datagramFrom config last g) out x exit same (v .answer) (v .buffer)
+    λ out x exit v. written (rewritten m d) (datagramFrom config last g) out x exit same (v .answer) (v .buffer)
 
--- A MESSAGE, READ AND WRITTEN AGAIN FROM ITS RECORD, also after fields were walked over: what `uadp_write_message` writes is the message
+-- A MESSAGE, READ AND WRITTEN AGAIN FROM ITS RECORD, also after fields were walked over: what `uadp_write_message` writes is the message, but for picoseconds of 10,000 or more
 pub message-again : (s config : List ℕ) (writer : ℕ) (m : Message) (e : ℕ) (entry : List ℕ) (r : ℕ) (head : List ℕ) → Bytes s → length s < 256 ^ 8
     → messageAt (typesFor config writer) s ≡ got (valid m) e → HEAD_SIZE ≤ length entry → HeadRead s config writer entry r head
     → (fs : List (List ℕ)) (ys : List FieldCall) → AllLong FIELD_SIZE fs → length fs ≤ m .cursor .count → FieldCalls s config writer fs head ys
@@ -116,9 +117,9 @@ message-again s config writer m e entry r head bytes small q l w fs ys long k y 
     let g = takenAgain types s m in
     let z = rewrite-read types s m e bytes q in
     let given : Header → message.GivenMessage = λ h. message.givenMessage h (g .heartbeat) (g .values) (g .lengths) (g .indices) (g .padding) in
-    let same : messageFrom config writer last g ≡ writing s =
+    let same : messageFrom config writer last g ≡ writing (messageHeld (m .header) s) =
     ap (λ (t : Bool). fitting t (message.messageOutput types (given (headerIn last)))) (b .1)
     ∙ ap (λ (h : Header). message.messageOutput types (given h)) (b .0)
     ∙ ap (λ (k : ℕ). unless k (message.encode g)) (z .accepted)
     ∙ ap writing (z .same) in
-    λ out x exit v. written s (messageFrom config writer last g) out x exit same (v .answer) (v .buffer)
+    λ out x exit v. written (messageHeld (m .header) s) (messageFrom config writer last g) out x exit same (v .answer) (v .buffer)

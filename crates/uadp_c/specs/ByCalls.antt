@@ -11,6 +11,7 @@ use Rattle.wire_writer.specs.Writing.{Output, writing, bufferAfter}
 use Rattle.dataset_fields.specs.Fields.{FieldStepped, nextFieldAt, walkAt, cursorBefore}
 use Rattle.dataset_fields.specs.declared.fields.Cursor.{Cursor}
 use Rattle.dataset_fields.specs.declared.fields.Field.{Field}
+use Rattle.dataset_header.specs.Header.{messageHeld}
 use Rattle.dataset_message.specs.Message.{Message, messageAt, fieldPlaceAt}
 use Rattle.network_message.specs.Envelope.{NetworkMessage, networkMessageAt, messagePlaceAt}
 use Rattle.network_message.specs.WriterId.{writerIdOf}
@@ -199,16 +200,17 @@ pub record Written (bytes entry : List ℕ) (result : ℕ) (exit : List ℕ) : T
   pub buffer : exit ≡ bufferAfter entry (writing bytes)
 
 -- a datagram that was read into the record `envelope`: written from it and from the parts as they were read, it is the datagram, but for
--- document 01's one exception
+-- the two exceptions of documents 01 and 02
 abbrev pub DatagramAgain : List ℕ → List ℕ → NetworkMessage → List ℕ → Type 0
 DatagramAgain d config m envelope =
     (entry : List ℕ) (result : ℕ) (exit : List ℕ)
     → DatagramWritten config envelope (givenOf d (m .envelope) (m .places) (sizesIn config) (idsIn config)) entry result exit
-    → Written (rewritten d) entry result exit
+    → Written (rewritten m d) entry result exit
 
--- a message that was read into the record `head`: written from it and from the parts as they were read, it is the message
+-- a message that was read into the record `head`: written from it and from the parts as they were read, it is the message, but for
+-- picoseconds of 10,000 or more
 abbrev pub MessageAgain : List ℕ → List ℕ → ℕ → Message → List ℕ → Type 0
 MessageAgain s config writer m head =
     (entry : List ℕ) (result : ℕ) (exit : List ℕ)
     → MessageWritten config writer head (takenAgain (typesFor config writer) s m) entry result exit
-    → Written s entry result exit
+    → Written (messageHeld (m .header) s) entry result exit

@@ -85,9 +85,13 @@ MOST_WRITERS = 16
 abbrev pub MOST_FIELDS : ℕ
 MOST_FIELDS = 64
 
--- The first number of picoseconds that is not permitted.
+-- The first number of picoseconds that the writers refuse and that reading takes as the one below it.
 abbrev pub PICOSECONDS_END : ℕ
 PICOSECONDS_END = 10000
+
+-- The most picoseconds: what more than these read as.
+abbrev pub MOST_PICOSECONDS : ℕ
+MOST_PICOSECONDS = 9999
 
 -- How deep values nest: the field's own value is level 1.
 abbrev pub LEVELS : ℕ

@@ -1,9 +1,9 @@
--- Items that a flag announces, and the rule of picoseconds, which envelope and DataSetMessage share.
+-- Items that a flag announces, and how picoseconds read, in the envelope and in the DataSetMessage header alike.
 use Prim.Native.Nat.{ℕ}
 use mathlib.Core.Bool.{Bool, cond}
 use lib.Dec.{leb}
-use Rattle.wire.specs.Constants.{NOT_PERMITTED, PICOSECONDS_END}
-use Rattle.wire.specs.Answer.{Answer, got, refused, Reader, item, signedItem, ruled, whenOn, pure, _>>=_}
+use Rattle.wire.specs.Constants.{MOST_PICOSECONDS, PICOSECONDS_END}
+use Rattle.wire.specs.Answer.{Answer, got, refused, Reader, item, signedItem, whenOn, pure, _>>=_}
 use Rattle.wire.specs.declared.optional.Optional16.{Optional16}
 use Rattle.wire.specs.declared.optional.Optional16Read.{Optional16Read}
 use Rattle.wire.specs.declared.optional.Optional32.{Optional32}
@@ -21,12 +21,13 @@ optional32 on = whenOn on Optional32.Absent (item 4 >>= λ v. pure (Optional32.I
 abbrev pub optionalI64 : Bool → Reader OptionalI64
 optionalI64 on = whenOn on OptionalI64.Absent (signedItem 8 >>= λ v. pure (OptionalI64.Is v))
 
--- "PicoSeconds 2: 10,000 or more is 3"
-abbrev pub picosecondsRule : ℕ → ℕ
-picosecondsRule v = cond (leb PICOSECONDS_END v) NOT_PERMITTED 0
+-- Req 02: "Picoseconds of 10,000 and up .. read it as 9,999 and no longer as 3, in the envelope and in the DataSetMessage header"
+abbrev pub picosecondsRead : ℕ → ℕ
+picosecondsRead v = cond (leb PICOSECONDS_END v) MOST_PICOSECONDS v
 
+-- "PicoSeconds 2"
 abbrev pub picosecondsAt : Bool → Reader Optional16
-picosecondsAt on = whenOn on Optional16.Absent (ruled 2 picosecondsRule >>= λ v. pure (Optional16.Is v))
+picosecondsAt on = whenOn on Optional16.Absent (item 2 >>= λ v. pure (Optional16.Is (picosecondsRead v)))
 
 -- what the answers of the code say
 

@@ -63,8 +63,11 @@ pub const MOST_WRITERS: usize = 16;
 // The most configured fields of all writers together.
 pub const MOST_FIELDS: usize = 64;
 
-// The first number of picoseconds that is not permitted.
+// The first number of picoseconds that the writers refuse and that reading takes as the one below it.
 pub const PICOSECONDS_END: u16 = 10000;
+
+// The most picoseconds: what more than these read as.
+pub const MOST_PICOSECONDS: u16 = 9999;
 
 // How deep values nest: the field's own value is level 1.
 pub const LEVELS: usize = 100;

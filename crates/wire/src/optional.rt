@@ -3,13 +3,13 @@ use crate::Item16;
 use crate::Item32;
 use crate::ItemI64;
 use crate::constants::CUT_SHORT;
-use crate::constants::NOT_PERMITTED;
+use crate::constants::MOST_PICOSECONDS;
 use crate::constants::PICOSECONDS_END;
 use crate::read_i64;
 use crate::read16;
 use crate::read32;
 ghost use mathlib.Core.Path.{_≡_};
-ghost use Rattle.wire.specs.Optional.{optional16, optional32, optionalI64, picosecondsRule, picosecondsAt};
+ghost use Rattle.wire.specs.Optional.{optional16, optional32, optionalI64, picosecondsRead, picosecondsAt};
 ghost use Rattle.wire.specs.Optional.{answerOptional16, answerOptional32, answerOptionalI64};
 
 // An item of 2 bytes that a flag announces.
@@ -88,17 +88,17 @@ pub fn read_optional_i64(s: &[u8], on: bool, at: usize) -> OptionalI64Read
     OptionalI64Read::Is(OptionalI64::Is(v), next)
 }
 
-// The number of the rule that picoseconds break, or 0.
-pub fn picoseconds_rule(v: u16) -> u8
-    ensures { λ r. ⌜ r ≡ picosecondsRule v ⌝ }
+// What picoseconds read as: 10,000 or more as 9,999.
+pub fn picoseconds_read(v: u16) -> u16
+    ensures { λ r. ⌜ r ≡ picosecondsRead v ⌝ }
 {
     if PICOSECONDS_END <= v {
-        return NOT_PERMITTED;
+        return MOST_PICOSECONDS;
     }
-    0
+    v
 }
 
-// Picoseconds where their flag is on: "10,000 or more is 3".
+// Picoseconds where their flag is on; no value of them is refused.
 pub fn read_picoseconds(s: &[u8], on: bool, at: usize) -> Optional16Read
     ensures { λ r. ⌜ answerOptional16 r ≡ picosecondsAt on (now (s .entry)) at ⌝ }
 {
@@ -108,9 +108,5 @@ pub fn read_picoseconds(s: &[u8], on: bool, at: usize) -> Optional16Read
     let Item16::Is(v, next) = read16(s, at) else {
         return Optional16Read::Refused(CUT_SHORT, at);
     };
-    let n = picoseconds_rule(v);
-    if n != 0 {
-        return Optional16Read::Refused(n, at);
-    }
-    Optional16Read::Is(Optional16::Is(v), next)
+    Optional16Read::Is(Optional16::Is(picoseconds_read(v)), next)
 }

@@ -4,24 +4,24 @@ use mathlib.Core.Path.{_≡_, refl, ap, sym, _∙_, subst}
 use mathlib.Core.List.{List, [], _∷_, _++_, append-assoc}
 use mathlib.Core.Bool.{Bool, true, false, cond}
 use Prim.Native.Nat.{ℕ, zero, suc, _+_, _-_, _*_, _/_, _%_, _^_, _≤_, _<_}
-use native.Mathlib.Nat.{add-zero, pow-suc}
+use native.Mathlib.Nat.{add-zero, zero-add, pow-suc}
 use native.Mathlib.Numerals.{add-one}
 use native.Mathlib.Omega.{arith}
 use lib.ListN.{length, getD, take, drop, length-append, length-drop, take-append-drop}
-use lib.Seq.{drop-cons, drop-at, length-take-le}
+use lib.Seq.{drop-cons, drop-at, take-at, length-take-le, sets, sets-eq, length-sets}
 use lib.Dec.{leb, eqb}
 use borrow.Author.Tests.{leb-true, eqb-true, le-leb}
 use Rattle.wire.specs.Number.{le, leBytes, signed, unsigned}
-use Rattle.wire.specs.Answer.{Answer, got, refused, Reader, item, signedItem, ruled, run, pure, whenOn, _>>=_}
+use Rattle.wire.specs.Answer.{Answer, got, refused, Reader, item, signedItem, ruled, run, pure, whenOn, andThen, _>>=_}
 use Rattle.wire.specs.Items.{guid, guidBytes}
-use Rattle.wire.specs.Optional.{optional16, optional32, optionalI64, picosecondsRule, picosecondsAt}
+use Rattle.wire.specs.Optional.{optional16, optional32, optionalI64, picosecondsRead, picosecondsAt}
 use Rattle.wire.specs.declared.Guid.{Guid}
 use Rattle.wire.specs.declared.optional.Optional16.{Optional16}
 use Rattle.wire.specs.declared.optional.Optional32.{Optional32}
 use Rattle.wire.specs.declared.optional.OptionalI64.{OptionalI64}
 use Rattle.wire.proofs.Reading.{got-value, got-next, not-got, invert, signed-is}
 use Rattle.wire.proofs.Numbers.{unsigned-signed}
-use Rattle.wire_writer.specs.Writing.{picosecondsRefusal, on16, on32, onI64, optional16Bytes, optional32Bytes, optionalI64Bytes}
+use Rattle.wire_writer.specs.Writing.{picosecondsRule, picosecondsRefusal, picosecondsHeld, on16, on32, onI64, optional16Bytes, optional32Bytes, optionalI64Bytes}
 use Rattle.wire_writer.proofs.Trip.{At, fits-at}
 use Rattle.wire_writer.specs.Fits.{Bytes}
 
@@ -189,9 +189,74 @@ ruled16-back rule true s at x next b l h =
     rw (sym (y .2)) (item-back 2 s at (y .0) next b (ruled-back 2 rule s at (y .0) next (y .1) .0) .0, refl)
 ruled16-back rule false s at x next b l h = absent optional16Bytes on16 x Optional16.Absent s at next refl refl l h
 
--- picoseconds that were read keep their rule
+-- what picoseconds read as the writers do not refuse
+read-kept : (v : ℕ) → picosecondsRule (picosecondsRead v) ≡ 0
+read-kept v = go (leb 10000 v) refl
+  where
+    go : (b : Bool) → leb 10000 v ≡ b → picosecondsRule (cond b 9999 v) ≡ 0
+    go true e = refl
+    go false e = rw e
+
 pub picoseconds-kept : (on : Bool) (s : List ℕ) (at : ℕ) (x : Optional16) (next : ℕ) → picosecondsAt on s at ≡ got x next → picosecondsRefusal x ≡ 0
 picoseconds-kept true s at x next h =
-    let y = map-back (ruled 2 picosecondsRule) Optional16.Is s at x next h in
-    subst (λ (x : Optional16). picosecondsRefusal x ≡ 0) (y .2) (ruled-back 2 picosecondsRule s at (y .0) next (y .1) .1)
+    let y = map-back (item 2) (λ v. Optional16.Is (picosecondsRead v)) s at x next h in
+    subst (λ (x : Optional16). picosecondsRefusal x ≡ 0) (y .2) (read-kept (y .0))
 picoseconds-kept false s at x next h = subst (λ (x : Optional16). picosecondsRefusal x ≡ 0) (got-value h) refl
+
+-- an item of 2 bytes that is there
+pub two-bytes : (x : Optional16) → on16 x ≡ true → length (optional16Bytes x) ≡ 2
+two-bytes Optional16.Absent e = let z : _≡_ {A = ℕ} 0 1 = cc in absurd (omega arith)
+two-bytes (Optional16.Is v) e = refl
+
+-- What picoseconds that were read tell: whether they are there, where they end, and that the bytes with them held are all before them,
+-- their own bytes as they were read, and all behind them.
+pub record PicosecondsBack (on : Bool) (s : List ℕ) (at : ℕ) (x : Optional16) (next : ℕ) : Type 0 where
+  pub there : on16 x ≡ on
+  pub ends : next ≡ at + length (optional16Bytes x)
+  pub fits : next ≤ length s
+  pub held : picosecondsHeld x at s ≡ take at s ++ (optional16Bytes x ++ drop next s)
+
+number-held : (s : List ℕ) (at : ℕ) → Bytes s → at + 2 ≤ length s → picosecondsHeld (Optional16.Is 0) at s ≡ take at s ++ (leBytes 2 (picosecondsRead (le 2 s at)) ++ drop (at + 2) s)
+number-held s at b h = go (leb 10000 (le 2 s at))
+  where
+    go : (t : Bool) → cond t (sets s at (leBytes 2 9999)) s ≡ take at s ++ (leBytes 2 (cond t 9999 (le 2 s at)) ++ drop (at + 2) s)
+    go true = sets-eq (leBytes 2 9999) s at h ∙ append-assoc (take at s) (leBytes 2 9999) (drop (at + 2) s)
+    go false = sym (take-append-drop at s) ∙ ap (λ (l : List ℕ). take at s ++ l) (rest-is s at (leBytes 2 (le 2 s at)) (at + 2) (number-there 2 s at b h))
+
+pub picoseconds-back : (on : Bool) (s : List ℕ) (at : ℕ) (x : Optional16) (next : ℕ) → Bytes s → at ≤ length s → picosecondsAt on s at ≡ got x next → PicosecondsBack on s at x next
+picoseconds-back true s at x next b l h = go (leb (at + 2) (length s)) refl h
+  where
+    go : (t : Bool) → leb (at + 2) (length s) ≡ t
+        → andThen (cond t (got (le 2 s at) (at + 2)) (refused 1 at)) (λ v n. got (Optional16.Is (picosecondsRead v)) n) ≡ got x next → PicosecondsBack true s at x next
+    go true e q =
+        let k : at + 2 ≤ length s = leb-true (at + 2) (length s) e in
+        rw (sym (got-value q), sym (got-next q)) (record { there = refl; ends = refl; fits = k; held = number-held s at b k })
+    go false e q = absurd (not-got q)
+picoseconds-back false s at x next b l h =
+    rw (sym (got-value h), sym (got-next h)) (record { there = refl; ends = sym (add-zero at); fits = l; held = sym (take-append-drop at s) })
+
+-- with the bytes before them at hand, from the start
+pub front-is : (s : List ℕ) (b : List ℕ) (n : ℕ) → Back s 0 b n → take n s ≡ b
+front-is s b n x =
+    ap (take n) (rest-is s 0 b n x) ∙ take-at b (drop n s) n (sym (zero-add (length b)) ∙ sym (x .1))
+
+-- Behind a front f, the picoseconds as they were read and a part behind them, with all that follows it, are the bytes with them held.
+pub held-between : {on : Bool} (s f : List ℕ) (at : ℕ) (x : Optional16) (k : ℕ) (c : List ℕ) (next : ℕ) → Back s 0 f at → PicosecondsBack on s at x k → Back s k c next
+    → f ++ (optional16Bytes x ++ (c ++ drop next s)) ≡ picosecondsHeld x at s
+held-between s f at x k c next a p y =
+    sym (p .held ∙ ap (λ (l : List ℕ). l ++ (optional16Bytes x ++ drop k s)) (front-is s f at a) ∙ ap (λ (l : List ℕ). f ++ (optional16Bytes x ++ l)) (rest-is s k c next y))
+
+-- they are held by storing them as they were read
+pub held-stored : {on : Bool} (s : List ℕ) (at : ℕ) (x : Optional16) (next : ℕ) → PicosecondsBack on s at x next → sets s at (optional16Bytes x) ≡ picosecondsHeld x at s
+held-stored s at x next p =
+    let b = optional16Bytes x in
+    let fits : at + length b ≤ length s = omega (arith, p .ends, p .fits) in
+    sets-eq b s at fits ∙ append-assoc (take at s) b (drop (at + length b) s) ∙ ap (λ (k : ℕ). take at s ++ (b ++ drop k s)) (sym (p .ends)) ∙ sym (p .held)
+
+pub held-length : (x : Optional16) (at : ℕ) (s : List ℕ) → length (picosecondsHeld x at s) ≡ length s
+held-length Optional16.Absent at s = refl
+held-length (Optional16.Is v) at s = go (leb 10000 (le 2 s at))
+  where
+    go : (t : Bool) → length (cond t (sets s at (leBytes 2 9999)) s) ≡ length s
+    go true = length-sets s at (leBytes 2 9999)
+    go false = refl

@@ -9,11 +9,8 @@ use lib.Dec.{eqb}
 use borrow.Author.Tests.{eqb-true, eqb-false}
 use Rattle.wire.specs.Number.{leBytes}
 use Rattle.wire.specs.Answer.{refused, Reader, item, ruled}
-use Rattle.wire.specs.Optional.{picosecondsRule, picosecondsAt}
-use Rattle.wire.specs.declared.optional.Optional16.{Optional16}
-use Rattle.wire_writer.specs.Writing.{orElse, on16, optional16Bytes, picosecondsRefusal}
+use Rattle.wire_writer.specs.Writing.{orElse}
 use Rattle.wire_writer.proofs.Trip.{At, Reads, item-is}
-use Rattle.wire_writer.specs.Fits.{Fits16}
 
 -- a refusal on true, and a rest on false
 pub passed : (b : Bool) (k r : ℕ) → cond b (suc k) r ≡ 0 → (b ≡ false) × (r ≡ 0)
@@ -55,7 +52,3 @@ broken w rule m b v h f s a = rw (f s a, h)
 
 pub number-broken : (w : ℕ) (rule : ℕ → ℕ) (v m : ℕ) → v < 256 ^ w → eqb (rule v) 0 ≡ false → Refuses (ruled w rule) m (leBytes w v) (rule v)
 number-broken w rule v m h e = broken w rule m (leBytes w v) v e (item-is w v m h)
-
-pub picoseconds-refuses : (x : Optional16) (m : ℕ) → Fits16 x → eqb (picosecondsRefusal x) 0 ≡ false → Refuses (picosecondsAt (on16 x)) m (optional16Bytes x) (picosecondsRefusal x)
-picoseconds-refuses Optional16.Absent m f h s at = absurd (no h)
-picoseconds-refuses (Optional16.Is v) m f h s at = rw (number-broken 2 picosecondsRule v m f h s at)

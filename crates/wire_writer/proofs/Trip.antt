@@ -1,6 +1,7 @@
 -- Reading what was written, item by item: a reader at position m, over bytes b that stand there, answers x and the position after b.
 -- Assumes nothing.
-use mathlib.Core.Path.{_≡_, ap, sym, _∙_}
+use mathlib.Core.Path.{_≡_, refl, ap, sym, _∙_}
+use mathlib.Core.Bool.{Bool, true, false, cond}
 use mathlib.Core.List.{List, [], _∷_, _++_, append-assoc}
 use Prim.Native.Nat.{ℕ, zero, suc, _+_, _/_, _%_, _^_, _≤_, _<_}
 use native.Mathlib.Nat.{add-zero, pow-suc}
@@ -8,17 +9,18 @@ use native.Mathlib.Omega.{arith}
 use lib.ListN.{length, getD, length-append}
 use lib.IntN.{ℤ, pos, negsuc}
 use lib.Seq.{getD-append-seam}
+use lib.Dec.{leb}
 use borrow.Author.Tests.{le-leb}
 use Rattle.wire.specs.Number.{le, leBytes, unsigned, InRange}
 use Rattle.wire.specs.Answer.{got, Reader, item, signedItem, ruled, run, pure, _>>=_}
 use Rattle.wire.specs.Items.{guid, guidBytes}
-use Rattle.wire.specs.Optional.{optional16, optional32, optionalI64, picosecondsRule, picosecondsAt}
+use Rattle.wire.specs.Optional.{optional16, optional32, optionalI64, picosecondsRead, picosecondsAt}
 use Rattle.wire.specs.declared.Guid.{Guid}
 use Rattle.wire.specs.declared.optional.Optional16.{Optional16}
 use Rattle.wire.specs.declared.optional.Optional32.{Optional32}
 use Rattle.wire.specs.declared.optional.OptionalI64.{OptionalI64}
 use Rattle.wire.proofs.Numbers.{length-leBytes, signed-unsigned}
-use Rattle.wire_writer.specs.Writing.{on16, on32, onI64, picosecondsRefusal, optional16Bytes, optional32Bytes, optionalI64Bytes}
+use Rattle.wire_writer.specs.Writing.{on16, on32, onI64, picosecondsRule, picosecondsRefusal, optional16Bytes, optional32Bytes, optionalI64Bytes}
 use Rattle.wire_writer.specs.Fits.{Fits16, Fits32, FitsGuid, FitsI64}
 
 -- the bytes b stand at position m of s
@@ -119,6 +121,15 @@ pub optionalI64-is : (x : OptionalI64) (m : ℕ) → FitsI64 x → Reads (option
 optionalI64-is OptionalI64.Absent m f = nothing OptionalI64.Absent m
 optionalI64-is (OptionalI64.Is z) m f = last (signedItem 8) OptionalI64.Is m (leBytes 8 (unsigned 8 z)) z (signed-item-is z m f)
 
+-- picoseconds that the writers do not refuse read as they are
+read-same : (v : ℕ) → picosecondsRule v ≡ 0 → picosecondsRead v ≡ v
+read-same v h = go (leb 10000 v) h
+  where
+    go : (b : Bool) → _≡_ {A = ℕ} (cond b 3 0) 0 → cond b 9999 v ≡ v
+    go true h = absurd (omega arith)
+    go false h = refl
+
 pub picoseconds-is : (x : Optional16) (m : ℕ) → Fits16 x → picosecondsRefusal x ≡ 0 → Reads (picosecondsAt (on16 x)) m (optional16Bytes x) x
-picoseconds-is Optional16.Absent m f h = nothing Optional16.Absent m
-picoseconds-is (Optional16.Is v) m f h = last (ruled 2 picosecondsRule) Optional16.Is m (leBytes 2 v) v (ruled-is 2 picosecondsRule v m f h)
+picoseconds-is Optional16.Absent m f h s a = nothing Optional16.Absent m s a
+picoseconds-is (Optional16.Is v) m f h s a =
+    last (item 2) (λ w. Optional16.Is (picosecondsRead w)) m (leBytes 2 v) v (item-is 2 v m f) s a ∙ ap (λ (w : ℕ). got (Optional16.Is w) (m + length (leBytes 2 v))) (read-same v h)

@@ -3,13 +3,12 @@ use Prim.Native.Nat.{ℕ, _+_, _≤_}
 use mathlib.Core.Path.{_≡_}
 use mathlib.Core.Bool.{Bool, true, false, cond}
 use mathlib.Core.List.{List, [], _++_}
-use lib.Dec.{eqb, ltb}
+use lib.Dec.{eqb, leb, ltb}
 use lib.ListN.{length, drop}
 use lib.Seq.{sets}
-use Rattle.wire.specs.Constants.{DISAGREE, MOST_DATAGRAM, NO_ROOM, OVER_LIMIT}
-use Rattle.wire.specs.Number.{leBytes, unsigned}
+use Rattle.wire.specs.Constants.{DISAGREE, MOST_DATAGRAM, MOST_PICOSECONDS, NO_ROOM, NOT_PERMITTED, OVER_LIMIT, PICOSECONDS_END}
+use Rattle.wire.specs.Number.{le, leBytes, unsigned}
 use Rattle.wire.specs.Answer.{Answer, got, refused}
-use Rattle.wire.specs.Optional.{picosecondsRule}
 use Rattle.wire.specs.declared.optional.Optional16.{Optional16}
 use Rattle.wire.specs.declared.optional.Optional32.{Optional32}
 use Rattle.wire.specs.declared.optional.OptionalI64.{OptionalI64}
@@ -103,10 +102,20 @@ abbrev pub optionalI64Bytes : OptionalI64 → List ℕ
 optionalI64Bytes OptionalI64.Absent = []
 optionalI64Bytes (OptionalI64.Is v) = leBytes 8 (unsigned 8 v)
 
--- the number of the rule that picoseconds break, or 0: "10,000 or more is 3"
+-- Req 02: "The writers still refuse 10,000 or more there with 3", in the envelope and in the DataSetMessage header; 0 where they do not
+abbrev pub picosecondsRule : ℕ → ℕ
+picosecondsRule v = cond (leb PICOSECONDS_END v) NOT_PERMITTED 0
+
 abbrev pub picosecondsRefusal : Optional16 → ℕ
 picosecondsRefusal Optional16.Absent = 0
 picosecondsRefusal (Optional16.Is v) = picosecondsRule v
+
+-- Req 02: "a second rewriting exception: the rewritten envelope or message header holds 9,999 there". Of the bytes s, whose header has
+-- these picoseconds at a place: 10,000 or more become 9,999, and no other byte differs. (`sets s at b` is s with its bytes from `at` on
+-- replaced by those of b.)
+abbrev pub picosecondsHeld : Optional16 → ℕ → List ℕ → List ℕ
+picosecondsHeld Optional16.Absent at s = s
+picosecondsHeld (Optional16.Is v) at s = cond (leb PICOSECONDS_END (le 2 s at)) (sets s at (leBytes 2 MOST_PICOSECONDS)) s
 
 -- what would read back otherwise is 6: here a part of this length that nothing announces
 abbrev pub unused : ℕ → ℕ

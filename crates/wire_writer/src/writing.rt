@@ -6,7 +6,9 @@ use crate::store::put32;
 use wire::constants::DISAGREE;
 use wire::constants::MOST_DATAGRAM;
 use wire::constants::NO_ROOM;
+use wire::constants::NOT_PERMITTED;
 use wire::constants::OVER_LIMIT;
+use wire::constants::PICOSECONDS_END;
 use wire::optional::Optional16;
 use wire::optional::Optional32;
 use wire::optional::OptionalI64;
@@ -16,7 +18,7 @@ ghost use Prim.Native.Nat.{_≤_};
 ghost use lib.ListN.{length};
 ghost use Rattle.wire.specs.Constants.{DISAGREE};
 ghost use Rattle.wire_writer.specs.Store.{Stored};
-ghost use Rattle.wire_writer.specs.Writing.{orElse, roomRefusal, num, on16, on32, onI64, picosecondsRefusal, byteBytes, needed, optional16Bytes, optional32Bytes, optionalI64Bytes};
+ghost use Rattle.wire_writer.specs.Writing.{orElse, roomRefusal, num, on16, on32, onI64, picosecondsRule, picosecondsRefusal, byteBytes, needed, optional16Bytes, optional32Bytes, optionalI64Bytes};
 
 // What a writer answers: how many bytes it wrote, or the number of its refusal, whose place is 0.
 pub enum Written {
@@ -167,13 +169,23 @@ pub fn put_optional_i64(out: &mut [u8], at: usize, x: OptionalI64) -> usize
     }
 }
 
-// The number of the rule that picoseconds break, or 0.
+// 3 for picoseconds of 10,000 or more, which the writers refuse; else 0.
+pub fn picoseconds_rule(v: u16) -> u8
+    ensures { λ r. ⌜ r ≡ picosecondsRule v ⌝ }
+{
+    if PICOSECONDS_END <= v {
+        return NOT_PERMITTED;
+    }
+    0
+}
+
+// The same of picoseconds that a flag announces.
 pub fn picoseconds_refusal(x: Optional16) -> u8
     ensures { λ r. ⌜ r ≡ picosecondsRefusal x ⌝ }
 {
     match x {
         Optional16::Absent => 0,
-        Optional16::Is(v) => wire::optional::picoseconds_rule(v),
+        Optional16::Is(v) => picoseconds_rule(v),
     }
 }
 

@@ -335,10 +335,10 @@ impl MessageSpec {
 }
 
 fn picoseconds(random: &mut Random) -> u16 {
-    if random.one_in(25) {
-        random.pick(&[10_000, 10_001, 65_535])
+    if random.one_in(4) {
+        random.pick(&[10_000, 10_001, 16_384, 65_534, 65_535])
     } else {
-        random.pick(&[0, 1, 9_999, 5_000])
+        random.pick(&[0, 1, 9_998, 9_999, 5_000])
     }
 }
 

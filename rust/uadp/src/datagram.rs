@@ -161,7 +161,7 @@ impl<'a> Datagram<'a> {
         self.item(envelope::HAS_TIMESTAMP, envelope::TIMESTAMP).map(|item| item as i64)
     }
 
-    /// The PicoSeconds, in steps of 10 ps.
+    /// The PicoSeconds, in steps of 10 ps; 10,000 and up read as 9,999.
     pub fn picoseconds(&self) -> Option<u16> {
         self.item(envelope::HAS_PICOSECONDS, envelope::PICOSECONDS).map(|item| item as u16)
     }
@@ -183,7 +183,8 @@ impl<'a> Datagram<'a> {
         Messages { bytes: self.bytes, config: self.config, record: self.record }
     }
 
-    /// Writes the datagram again at the buffer's start: the same bytes, but that type bits of an absent PublisherId become 0.
+    /// Writes the datagram again at the buffer's start: the same bytes, but that type bits of an absent PublisherId become 0, and
+    /// PicoSeconds of 10,000 and up 9,999. Its messages stay as they are.
     ///
     /// # Errors
     ///
@@ -308,7 +309,7 @@ impl<'a> MessagePart<'a> {
         Ok((valid != 0).then(|| Message::new(*self, head)))
     }
 
-    /// Writes the message again at the buffer's start: the same bytes.
+    /// Writes the message again at the buffer's start: the same bytes, but that picoseconds of 10,000 and up become 9,999.
     ///
     /// # Errors
     ///

@@ -101,7 +101,7 @@ impl<'a> Message<'a> {
         self.item(head::HAS_TIMESTAMP, head::TIMESTAMP).map(|item| item as i64)
     }
 
-    /// The picoseconds, in steps of 10 ps.
+    /// The picoseconds, in steps of 10 ps; 10,000 and up read as 9,999.
     pub fn picoseconds(&self) -> Option<u16> {
         self.item(head::HAS_PICOSECONDS, head::PICOSECONDS).map(|item| item as u16)
     }

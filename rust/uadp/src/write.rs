@@ -202,9 +202,9 @@ impl<'a> MessageBuilder<'a> {
 ///
 /// # Errors
 ///
-/// Each `write` function refuses, at place 0 and in this order: what reading the datagram would refuse, by the same number (an empty
-/// message 1, picoseconds without a timestamp or above 9,999 and NetworkMessageNumber 0 by 3, promoted fields of several messages or
-/// lengths that don't add up 6, a String PublisherId above 64 bytes 10); lists that disagree, or more than 255 messages,
+/// Each `write` function refuses, at place 0 and in this order: in reading order what reading the datagram would refuse, by the same
+/// number (an empty message 1, picoseconds without a timestamp and NetworkMessageNumber 0 by 3, promoted fields of several messages or
+/// lengths that don't add up 6, a String PublisherId above 64 bytes 10), and picoseconds of 10,000 and up by 3; lists that disagree, or more than 255 messages,
 /// [`Disagree`](Reason::Disagree); above 65,535 bytes [`OverLimit`](Reason::OverLimit); [`NoRoom`](Reason::NoRoom).
 #[derive(Clone, Copy, Debug, Default)]
 #[must_use = "nothing is written before a `write` function is called"]

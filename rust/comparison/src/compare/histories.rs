@@ -254,7 +254,7 @@ impl Sent {
         let mut spec = EnvelopeSpec::with_chunk(random, self.writer, chunk);
         spec.payload_header = true;
         spec.publisher.clone_from(&self.publisher);
-        if spec.timestamp.is_none() || spec.picoseconds.is_some_and(|picoseconds| picoseconds > 9_999) {
+        if spec.timestamp.is_none() {
             spec.picoseconds = None;
         }
         if spec.group.is_some_and(|(_, _, number, _)| number == Some(0)) {

@@ -4,7 +4,7 @@ use super::reassembly::{Partial, Record};
 use super::sequence::{judge, Newness};
 use super::value::{variant, Shape, Value, LEVELS};
 use super::wire::Reader;
-use super::{chunk, listing, message, network, network_writer, Number, Refusal, Result};
+use super::{chunk, listing, message, message_writer, network, network_writer, Number, Refusal, Result};
 use crate::record;
 
 const EXAMPLE: [u8; 20] =
@@ -100,6 +100,28 @@ fn rewriting_exception() {
     let datagram = [0xC1, 0x27, 1, 21, 0, 1, 2, 3, 4, 5, 6, 7, 8, 0];
     assert_eq!(network_writer::rewrite(&datagram, &config, &mut out), Ok(14));
     assert_eq!(out[..14], [0xC1, 0x20, 1, 21, 0, 1, 2, 3, 4, 5, 6, 7, 8, 0]);
+}
+
+/// A datagram with a Timestamp and these PicoSeconds, whose message has the same picoseconds in its header.
+fn with_picoseconds(picoseconds: u16) -> Vec<u8> {
+    let [low, high] = picoseconds.to_le_bytes();
+    [&[0xD1, 0x60, 9, 1, 21, 0, 1, 2, 3, 4, 5, 6, 7, 8, low, high][..], &[0x81, 0x20, low, high]].concat()
+}
+
+#[test]
+fn picoseconds() {
+    let (config, mut out) = (Config::default(), [0xAA; 20]);
+    for (sent, read) in [(0, 0), (9_999, 9_999), (10_000, 9_999), (10_001, 9_999), (65_535, 9_999)] {
+        let datagram = with_picoseconds(sent);
+        assert_eq!(network::read(&datagram, &config).map(|envelope| envelope.picoseconds), Ok(Some(read)));
+        // The envelope holds what was read; the message keeps its own, and holds it where it is rewritten alone.
+        assert_eq!(network_writer::rewrite(&datagram, &config, &mut out), Ok(20));
+        assert_eq!(out, [&with_picoseconds(read)[..16], &datagram[16..]].concat()[..]);
+        assert_eq!(message_writer::rewrite(&datagram[16..], &[], &mut out), Ok(4));
+        assert_eq!(out[..4], with_picoseconds(read)[16..]);
+    }
+    assert_eq!(network::read(&with_picoseconds(10_000)[..15], &config).map(drop), Err(Number::CutShort.at(14)));
+    assert_eq!(message::read(&with_picoseconds(10_000)[16..19], &[]).map(drop), Err(Number::CutShort.at(2)));
 }
 
 #[test]

@@ -98,7 +98,7 @@ fn typed<'a>(parts: &Parts<'a>, types: &'a [u8]) -> impl Iterator<Item = (&'a [u
     values(parts).take(count).enumerate().map(move |(k, value)| (value, types.get(k).copied()))
 }
 
-/// What is refused of the parts one by one: the header's rules, each field measured alone, then 6 where a field is no whole value, lists
+/// What is refused of the parts one by one: the header's rules, with picoseconds of 10,000 and more, each field measured alone, then 6 where a field is no whole value, lists
 /// disagree, FieldCount does not hold the number of fields, or something is given with a heartbeat.
 fn refuse_parts(parts: &Parts, types: &[u8]) -> Result<()> {
     let header = &parts.header;

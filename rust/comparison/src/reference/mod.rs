@@ -1,4 +1,4 @@
-//! Document 01 in plain Rust, written from the documents alone.
+//! Document 01, and of document 02 what has landed, in plain Rust, written from the documents alone.
 pub mod chunk;
 pub mod config;
 pub mod listing;
@@ -62,5 +62,5 @@ impl Number {
 
 /// The longest datagram.
 pub const LONGEST_DATAGRAM: usize = 65_535;
-/// PicoSeconds stay below this.
+/// PicoSeconds from here on are read as one less than this, and refused by the writers.
 pub const PICOSECONDS_END: u16 = 10_000;

@@ -76,7 +76,7 @@ pub fn rewrite(datagram: &[u8], config: &Config, out: &mut [u8]) -> Result<usize
     Front::from(&envelope).put_with(sizes, &datagram[envelope.first_message..], out)
 }
 
-/// What reading would refuse, in reading order.
+/// What reading would refuse, in reading order; at their turn PicoSeconds of 10,000 and more, which reading takes as 9,999.
 fn read_back(parts: &Parts, config: &Config) -> Result<()> {
     if parts.picoseconds.is_some() && parts.timestamp.is_none() {
         return Err(NOT_PERMITTED);

@@ -5,9 +5,20 @@ use crate::generate::{MessageSpec, Random, Scenario};
 use std::fs;
 use std::path::Path;
 
-/// What a datagram is rewritten to: with PublisherId off its type bits are 0, and an ExtendedFlags1 of 0 is left out.
-fn rewritten(datagram: &[u8]) -> Vec<u8> {
+/// Picoseconds of 10,000 and more at a place become 9,999.
+fn hold(bytes: &mut [u8], at: usize) {
+    if u16::from_le_bytes([bytes[at], bytes[at + 1]]) >= 10_000 {
+        bytes[at..at + 2].copy_from_slice(&[0x0f, 0x27]);
+    }
+}
+
+/// What a datagram is rewritten to: PicoSeconds, which stand behind the Timestamp, are held; with PublisherId off its type bits are 0, and
+/// an ExtendedFlags1 of 0 is left out.
+fn rewritten(datagram: &[u8], envelope: &network::Envelope) -> Vec<u8> {
     let mut bytes = datagram.to_vec();
+    if envelope.picoseconds.is_some() {
+        hold(&mut bytes, envelope.payload_header_end + 8);
+    }
     if bytes[0] & 0x90 == 0x80 {
         bytes[1] &= 0xf8;
         if bytes[1] == 0 {
@@ -18,10 +29,21 @@ fn rewritten(datagram: &[u8]) -> Vec<u8> {
     bytes
 }
 
+/// What a message is rewritten to: picoseconds, which stand behind two flag bytes, the sequence and the timestamp, are held.
+fn rewritten_message(message: &[u8]) -> Vec<u8> {
+    let mut bytes = message.to_vec();
+    if bytes[0] & 0x80 != 0 && bytes[1] & 0x20 != 0 {
+        let sequence = if bytes[0] & 0x08 != 0 { 2 } else { 0 };
+        let timestamp = if bytes[1] & 0x10 != 0 { 8 } else { 0 };
+        hold(&mut bytes, 2 + sequence + timestamp);
+    }
+    bytes
+}
+
 #[test]
 fn accepted_datagrams_and_messages_are_rewritten() {
     let mut random = Random::new(3);
-    let (mut datagrams, mut messages, mut exceptions) = (0, 0, 0);
+    let (mut datagrams, mut messages, mut exceptions, mut held) = (0, 0, 0, 0);
     let mut out = vec![0; 65_535];
     for _ in 0..40_000 {
         let Scenario { text, datagram } = Scenario::any(&mut random);
@@ -30,7 +52,7 @@ fn accepted_datagrams_and_messages_are_rewritten() {
             continue;
         };
         let length = network_writer::rewrite(&datagram, &config, &mut out).expect("accepted");
-        assert_eq!(out[..length], rewritten(&datagram));
+        assert_eq!(out[..length], rewritten(&datagram, &envelope));
         datagrams += 1;
         exceptions += usize::from(out[..length] != datagram);
         for place in envelope.messages(&datagram, &config) {
@@ -38,12 +60,14 @@ fn accepted_datagrams_and_messages_are_rewritten() {
             let types = config.types_of(place.writer);
             if let Ok(Some(_)) = message::read(bytes, types) {
                 let length = message_writer::rewrite(bytes, types, &mut out).expect("accepted");
-                assert_eq!(out[..length], *bytes);
+                assert_eq!(out[..length], rewritten_message(bytes));
+                held += usize::from(out[..length] != *bytes);
                 messages += 1;
             }
         }
     }
-    assert!(datagrams > 5_000 && messages > 5_000 && exceptions > 20, "{datagrams} {messages} {exceptions}");
+    assert!(datagrams > 5_000 && messages > 5_000, "{datagrams} {messages}");
+    assert!(exceptions > 20 && held > 20, "{exceptions} {held}");
 }
 
 #[test]
@@ -67,7 +91,7 @@ fn messages_written_from_parts_are_those_put_together() {
             all_fit: true,
         };
         let length = message_writer::write(&parts, &[7, 11, 1], &mut out).expect("accepted");
-        assert_eq!(out[..length], bytes);
+        assert_eq!(out[..length], rewritten_message(&bytes));
         written += 1;
     }
     assert!(written > 10_000, "{written}");

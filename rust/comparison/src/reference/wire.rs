@@ -73,15 +73,9 @@ impl<'a> Reader<'a> {
         flag.then(|| read(self)).transpose()
     }
 
-    /// PicoSeconds: 10,000 and more is 3.
+    /// PicoSeconds: 10,000 and more reads as 9,999.
     pub fn picoseconds(&mut self) -> Result<u16> {
-        let place = self.at;
-        let picoseconds = self.u16()?;
-        if picoseconds < super::PICOSECONDS_END {
-            Ok(picoseconds)
-        } else {
-            Err(Number::NotPermitted.at(place))
-        }
+        Ok(self.u16()?.min(super::PICOSECONDS_END - 1))
     }
 }
 

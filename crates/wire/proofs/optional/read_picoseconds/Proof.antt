@@ -1,6 +1,6 @@
 -- `wire::optional::read_picoseconds` meets its contract.
 -- Assumes nothing.
-use borrow.Author.Tests.{not-true, not-false, eq-eqb, ne-eqb}
+use borrow.Author.Tests.{not-true, not-false}
 use mathlib.Core.Path.{sym}
 use borrow.Author.Needs.{needs}
 use Rattle.wire.proofs.Reading.{told}
@@ -20,41 +20,16 @@ returns-2 c =
 
 returns-3 : tie.Need-returns-3
 returns-3 c =
-    let at-picoseconds-rule = c .before in
-    let at-v = at-picoseconds-rule .before .before in
+    let at-v = c .before .before in
     let at-read16 = at-v .before .before in
     let at-if1 = at-read16 .before in
     let args = at-if1 .before .before .args in
     rw (
       not-false (args .on) (at-if1 .if1 .left),
       sym (told (answer16 (args .at)) (at-read16 .read16 .ensures) (at-v .v .given .1)),
-      sym (at-picoseconds-rule .picoseconds-rule .ensures),
-      ne-eqb _ _ (c .if2 .taken),
-    )
-
-returns-4 : tie.Need-returns-4
-returns-4 c =
-    let at-picoseconds-rule = c .before in
-    let at-v = at-picoseconds-rule .before .before in
-    let at-read16 = at-v .before .before in
-    let at-if1 = at-read16 .before in
-    let args = at-if1 .before .before .args in
-    rw (
-      not-false (args .on) (at-if1 .if1 .left),
-      sym (told (answer16 (args .at)) (at-read16 .read16 .ensures) (at-v .v .given .1)),
-      sym (at-picoseconds-rule .picoseconds-rule .ensures),
-      eq-eqb _ _ (c .if2 .left),
+      sym (c .picoseconds-read .ensures),
     )
 
 pub read-picoseconds-spec : {M : Type 1} → statement M
 read-picoseconds-spec =
-    tie.close
-    (tie.spec
-    returns
-    (λ c κs. search needs)
-    (λ c. search needs)
-    (λ c. search needs)
-    returns-2
-    (λ c κs. search needs)
-    returns-3
-    returns-4)
+    tie.close (tie.spec returns (λ c κs. search needs) (λ c. search needs) (λ c. search needs) returns-2 (λ c κs. search needs) returns-3)

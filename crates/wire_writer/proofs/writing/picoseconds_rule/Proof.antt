@@ -1,8 +1,8 @@
--- `wire::optional::picoseconds_rule` meets its contract.
+-- `wire_writer::writing::picoseconds_rule` meets its contract.
 -- Assumes nothing.
 use borrow.Author.Tests.{le-leb, lt-leb}
-use Rattle.wire.proofs.optional.picoseconds_rule.Statement.{statement}
-use Rattle.wire.proofs.optional.picoseconds_rule.Tie as tie
+use Rattle.wire_writer.proofs.writing.picoseconds_rule.Statement.{statement}
+use Rattle.wire_writer.proofs.writing.picoseconds_rule.Tie as tie
 
 returns : tie.Need-returns
 returns c = rw (le-leb _ _ (c .if1 .taken))
