@@ -1,5 +1,5 @@
-// The benchmark's own: whether all is marked, looked at one mark after another, as `marks::all_marked` did before document 02's Req 03, beside
-// what it does now. Both promise the same. No part of the library.
+// The benchmark's own: whether all is marked, looked at one mark after another, as `marks::all_marked` did before Req 03 of document 02,
+// beside what it does now. Both promise the same. No part of the library.
 ghost use mathlib.Core.Path.{_≡_};
 ghost use mathlib.Core.Bool.{cond};
 ghost use Prim.Native.Nat.{_<_};
