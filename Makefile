@@ -17,6 +17,7 @@ VERSION := $(shell cat VERSION)
 MAJOR := $(firstword $(subst ., ,$(VERSION)))
 OUT := target/make
 ARCHIVE := target/staticlib/libuadp_c.a
+BY_ONE := target/staticlib/libmarks_by_one.a
 PROGRAM := target/bin/uadp_list
 SHARED := $(OUT)/libuadp.so.$(VERSION)
 
@@ -75,7 +76,13 @@ check: all
 test:
 	.ci/run
 
-bench: $(ARCHIVE)
+# The benchmark's own library, with the loops that it times beside the library's.
+$(BY_ONE): $(SOURCES)
+	$(NEEDS_RT)
+	rt staticlib marks_by_one
+	@touch $@
+
+bench: $(ARCHIVE) $(BY_ONE)
 	cd rust && CARGO_TARGET_DIR=../target/bench cargo run --offline --profile timed -p uadp-bench
 
 install: all

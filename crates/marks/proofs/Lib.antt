@@ -1,2 +1,3 @@
+mod EightLaws
 pub mod MarkLaws
 pub mod OffsetLaws

@@ -156,8 +156,14 @@ range-in start end i h k = rw (le-leb start i h, lt-ltb i end k)
 pub range-above : (start end i : ℕ) → end ≤ i → inRange start end i ≡ false
 range-above start end i h = rw (le-ltb i end h) (and-false (leb start i))
 
+-- a loop's end by the area is the end asked for where the area has room
+pub within-all : (L : Layout) (r n : ℕ) (m : List ℕ) → marksFor L n ≤ length m → (r ≤ n) × (r ≤ capacity L m) × (r < n → r ≡ capacity L m) → r ≡ n
+within-all L r n m h w =
+    let room = marks-cover L n n m (omega arith) h in
+    by-lt _ r n (λ l. let full = w .2 l in absurd (omega arith)) (λ l. let below = w .0 in omega arith)
+
 module _ (L : Layout) where
-  pub marks-room : (t i : ℕ) (m : List ℕ) → i < t → marksFor L t ≤ length m → i < capacity L m
+  marks-room : (t i : ℕ) (m : List ℕ) → i < t → marksFor L t ≤ length m → i < capacity L m
   marks-room t i m l h = marks-cover L t (suc i) m l h
 
   length-markIf : (b : Bool) (i : ℕ) (m : List ℕ) → length (markIf L b i m) ≡ length m

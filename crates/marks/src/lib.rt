@@ -1,9 +1,16 @@
 // The marks of a partial. How they are held, a byte for each byte of the payload area and 1 where it is covered, is known here only.
+mod quick;
+
 ghost use mathlib.Core.Path.{_≡_};
-ghost use mathlib.Core.Bool.{cond};
+ghost use mathlib.Core.Bool.{cond, _&&_};
 ghost use Prim.Native.Nat.{_<_, _≤_};
-ghost use Rattle.marks.specs.Offsets.{inRange};
+ghost use lib.Dec.{leb};
+ghost use Rattle.marks.specs.Offsets.{anyBelow, inRange};
 ghost use Rattle.marks.specs.Marks.{inUse, marksFor, capacity, marked, markIf, cleared, markedBelow, markAll, allMarked};
+use quick::BLOCK;
+use quick::BLOCK_EIGHTS;
+use quick::each_marked;
+use quick::eights_marked;
 
 // How many bytes of marks a payload area of n bytes has.
 pub fn marks_for(n: usize) -> usize
@@ -13,7 +20,7 @@ pub fn marks_for(n: usize) -> usize
 }
 
 // The smaller of n and the number of offsets that a marks area has.
-pub(crate) fn within(marks: &[u8], n: usize) -> usize
+pub fn within(marks: &[u8], n: usize) -> usize
     ensures { λ r.
         let most = capacity inUse (now (marks .entry)) in
         ⌜ (r ≤ n) × (r ≤ most) × (r < n → r ≡ most) ⌝ }
@@ -21,11 +28,13 @@ pub(crate) fn within(marks: &[u8], n: usize) -> usize
     if n <= marks.len() { n } else { marks.len() }
 }
 
-// Whether an offset is marked.
+// Whether an offset is marked; one past the area is not. In a loop up to `within` the test of the area's end costs nothing.
 pub fn is_marked(marks: &[u8], i: usize) -> bool
-    requires { ⌜ i < capacity inUse (now marks) ⌝ }
     ensures { λ r. ⌜ r ≡ marked inUse (now (marks .entry)) i ⌝ }
 {
+    if marks.len() <= i {
+        return false;
+    }
     marks[i] == 1
 }
 
@@ -87,11 +96,29 @@ pub fn all_marked(marks: &[u8], n: usize) -> bool
         return false;
     }
     let mut i = 0;
-    while i < n {
-        if !is_marked(marks, i) {
+    while BLOCK <= n - i {
+        if !eights_marked(marks, i, BLOCK_EIGHTS) {
             return false;
         }
+        i += BLOCK;
+    }
+    let eights = (n - i) / 8;
+    if !eights_marked(marks, i, eights) {
+        return false;
+    }
+    each_marked(marks, i + 8 * eights, n)
+}
+
+// Whether an offset from start up to end is marked; one past the area is not.
+pub fn any_marked(marks: &[u8], start: usize, end: usize) -> bool
+    ensures { λ r. ⌜ r ≡ anyBelow end (λ i. leb start i && marked inUse (now (marks .entry)) i) ⌝ }
+{
+    let stop = within(marks, end);
+    let mut any = false;
+    let mut i = start;
+    while i < stop {
+        any = is_marked(marks, i) | any;
         i += 1;
     }
-    true
+    any
 }

@@ -1,19 +1,21 @@
 -- Laws of what two areas cover: what a view laid into them makes of it, and what is handed out of a full one. Assumes nothing.
 use Prim.Native.Nat.{ℕ, _+_, _≤_, _<_}
 use mathlib.Core.Path.{_≡_, refl, sym, ap, ap₂, _∙_, fun-ext}
-use mathlib.Core.Bool.{Bool, true, false, cond, false≢true}
+use mathlib.Core.Bool.{Bool, true, false, cond, _&&_, false≢true}
 use mathlib.Core.List.{List}
 use mathlib.Core.Option.{Option, some, none, orElse, Option·getD}
 use native.Mathlib.Omega.{arith}
 use lib.ListN.{length, getD, take}
+use lib.Dec.{leb}
 use lib.Seq.{ext-getD, getD-take, length-take-le}
+use borrow.Author.Tests.{le-leb}
 use Rattle.reassembly.specs.Views.{View, isSome, has, onlyIf, dataView, nowhere, bothViews, differs, clash, full, bytesBelow, overlaid}
-use Rattle.marks.specs.Offsets.{allBelow}
+use Rattle.marks.specs.Offsets.{anyBelow, allBelow}
 use Rattle.marks.specs.Marks.{Layout, marksFor, marked, cleared, markAll, markedBelow, allMarked}
 use Rattle.reassembly.specs.Areas.{markedView}
 use Rattle.wire.proofs.Cases.{by-lt}
 use Rattle.reassembly.proofs.ViewLaws.{length-tab, getD-tab, length-laid, getD-laid, has-only, data-at, none-clash, clash-data, differsAt, full-some, first-none, first-known}
-use Rattle.marks.proofs.OffsetLaws.{any-ext, all-ext}
+use Rattle.marks.proofs.OffsetLaws.{any-none, none-any, any-ext, all-ext}
 use Rattle.marks.proofs.MarkLaws.{marked-is, marked-past, marked-on, marked-off, marked-cleared, marks-self}
 
 module _ (L : Layout) where
@@ -53,6 +55,16 @@ module _ (L : Layout) where
       clash-data (at + length d) (markedView L (at + length d) p m) at d (omega arith)
       ∙ any-ext (length d) _ _ (λ j h. clash-step-data (at + length d) p m at d j (omega arith) h ∙ sym (clash-step-data total p m at d j (omega arith) h))
       ∙ sym (clash-data total (markedView L total p m) at d fits)
+
+  -- where nothing is marked, a chunk's data meets no byte
+  pub clash-none : (p m : List ℕ) (at : ℕ) (d : List ℕ) → anyBelow (at + length d) (λ i. leb at i && marked L m i) ≡ false
+      → clash (at + length d) (markedView L (at + length d) p m) (dataView at d) ≡ false
+  clash-none p m at d e =
+      clash-data (at + length d) (markedView L (at + length d) p m) at d (omega arith)
+      ∙ any-none (length d) _ (λ j h. clash-step-data (at + length d) p m at d j (omega arith) h ∙ rw (free j h))
+    where
+      free : (j : ℕ) → j < length d → marked L m (at + j) ≡ false
+      free j h = rw (le-leb at (at + j) (omega arith)) at (none-any (at + length d) (λ i. leb at i && marked L m i) e (at + j) (omega arith))
 
   -- ---- a view laid in
   put-none : (t : ℕ) (v : View) (p m : List ℕ) (i : ℕ) → i < t → t ≤ length p → v i ≡ none → markedView L t (overlaid v p) (markAll L (has v) m) i ≡ markedView L t p m i

@@ -5,8 +5,10 @@ ghost use lib.ListN.{length};
 ghost use Rattle.reassembly.specs.Views.{dataView, overlaid, differs, onlyIf, clash};
 ghost use Rattle.marks.specs.Marks.{inUse, marksFor};
 ghost use Rattle.reassembly.specs.Areas.{markedView};
+use marks::any_marked;
 use marks::choose;
 use marks::is_marked;
+use marks::within;
 
 // Stores a chunk's bytes at their offset.
 pub(crate) fn store_data(payload: &mut [u8], offset: usize, bytes: &[u8])
@@ -28,8 +30,9 @@ pub(crate) fn store_covered(payload: &mut [u8], total: usize, from: &[u8], from_
         let source = markedView inUse total (now («from» .entry)) (now («from_marks» .entry)) in
         ⌜ now (payload .exit) ≡ overlaid source (now (payload .entry)) ⌝ }
 {
+    let stop = within(from_marks, total);
     let mut i = 0;
-    while i < total {
+    while i < stop {
         payload[i] = choose(is_marked(from_marks, i), from[i], payload[i]);
         i += 1;
     }
@@ -42,7 +45,27 @@ fn differ(mark: bool, held: u8, other_mark: bool, byte: u8) -> bool
     mark & other_mark & (held != byte)
 }
 
-// Whether a covered byte differs from a chunk's byte there.
+// Whether a covered byte differs from a chunk's byte there, byte by byte.
+fn clash_each(payload: &[u8], marks: &[u8], offset: usize, bytes: &[u8]) -> bool
+    requires { let end = offset + length (now bytes) in
+        ⌜ (end ≤ length (now payload)) × (marksFor inUse end ≤ length (now marks)) ⌝ }
+    ensures { λ r.
+        let end = offset + length (now (bytes .entry)) in
+        let held = markedView inUse end (now (payload .entry)) (now (marks .entry)) in
+        ⌜ r ≡ clash end held (dataView offset (now (bytes .entry))) ⌝ }
+{
+    let stop = within(marks, offset + bytes.len());
+    let mut found = false;
+    let mut i = offset;
+    while i < stop {
+        let clash = differ(is_marked(marks, i), payload[i], true, bytes[i - offset]);
+        found = clash | found;
+        i += 1;
+    }
+    found
+}
+
+// Whether a covered byte differs from a chunk's byte there. Where nothing is covered yet, as in most chunks, only the marks are looked at.
 pub(crate) fn clash_data(payload: &[u8], marks: &[u8], offset: usize, bytes: &[u8]) -> bool
     requires { let end = offset + length (now bytes) in
         ⌜ (end ≤ length (now payload)) × (marksFor inUse end ≤ length (now marks)) ⌝ }
@@ -51,15 +74,11 @@ pub(crate) fn clash_data(payload: &[u8], marks: &[u8], offset: usize, bytes: &[u
         let held = markedView inUse end (now (payload .entry)) (now (marks .entry)) in
         ⌜ r ≡ clash end held (dataView offset (now (bytes .entry))) ⌝ }
 {
-    let mut found = false;
-    let mut j = 0;
-    while j < bytes.len() {
-        let at = offset + j;
-        let clash = differ(is_marked(marks, at), payload[at], true, bytes[j]);
-        found = clash | found;
-        j += 1;
+    let end = offset + bytes.len();
+    if !any_marked(marks, offset, end) {
+        return false;
     }
-    found
+    clash_each(payload, marks, offset, bytes)
 }
 
 // Whether a byte that both cover differs.
@@ -77,9 +96,10 @@ pub(crate) fn clash_covered(
         let source = markedView inUse total (now («from» .entry)) (now («from_marks» .entry)) in
         ⌜ r ≡ clash total held source ⌝ }
 {
+    let stop = within(marks, within(from_marks, total));
     let mut found = false;
     let mut i = 0;
-    while i < total {
+    while i < stop {
         let clash = differ(
             is_marked(marks, i),
             payload[i],

@@ -6,12 +6,14 @@ use reassembly::Outcome;
 use reassembly::PartialRecord;
 use reassembly::Verdict;
 use vector_lines::bytes::word_bytes;
+use vector_lines::lines::decimal;
 use vector_lines::lines::letter;
 use vector_lines::lines::word;
 use vector_lines::print::digits;
 use vector_lines::print::newline;
 use vector_lines::print::number;
 use vector_lines::print::put;
+use wire::part::part;
 use wire::part::tail;
 
 // Writes a call's answer, and keeps what it left.
@@ -54,6 +56,7 @@ pub fn show(p: Part, line: &[u8]) -> Part {
         b's' => all(p),
         b'u' => unequal(line),
         b'l' => large(line),
+        b'm' => all_marked(line),
         _ => {
             put(tail(line, 2));
             newline();
@@ -92,6 +95,22 @@ fn last_digits(marks: &[u8]) {
         digits((marks[i] % 10) as u64);
         i += 1;
     }
+}
+
+// Whether the bytes of the line, as marks, are all marked below its number.
+fn all_marked(line: &[u8]) {
+    let mut bytes = [0u8; 2048];
+    let n = word_bytes(&mut bytes, line, 4);
+    put(b"all marked ");
+    say(marks::all_marked(part(&bytes, 0, n), decimal(line, 3)));
+}
+
+fn say(yes: bool) {
+    if yes {
+        put(b"yes\n");
+        return;
+    }
+    put(b"no\n");
 }
 
 // Areas of unequal length, where nothing is started.

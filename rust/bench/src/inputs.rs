@@ -164,6 +164,24 @@ pub fn full_text() -> Vec<u8> {
     text.into_bytes()
 }
 
+/// A marks area with its name: its length, and the place of a byte that is missing.
+pub type Marks = (&'static str, usize, Option<usize>);
+
+/// Areas that are complete, or miss one byte.
+pub const MARKS: [Marks; 6] = [
+    ("16,384 bytes", TOTAL, None),
+    ("16,384 bytes, the first missing", TOTAL, Some(0)),
+    ("16,384 bytes, the middle one missing", TOTAL, Some(TOTAL / 2)),
+    ("16,384 bytes, the last missing", TOTAL, Some(TOTAL - 1)),
+    ("16,383 bytes", TOTAL - 1, None),
+    ("7 bytes", 7, None),
+];
+
+/// The marks of such an area.
+pub fn marks(length: usize, missing: Option<usize>) -> Vec<u8> {
+    (0..length).map(|at| u8::from(Some(at) != missing)).collect()
+}
+
 pub const TOTAL: usize = 16_384;
 const PART: usize = 1_024;
 

@@ -1,4 +1,5 @@
 //! What is done with the inputs, by the library and in tuned Rust. Both sides of a pair answer a number that has to be the same.
+use crate::by_one;
 use crate::inputs::{Input, TOTAL};
 use std::hint::black_box;
 use uadp::ffi;
@@ -260,6 +261,18 @@ pub fn take_in(datagrams: Vec<Vec<u8>>, asked: bool) -> Pair {
 pub fn complete(datagrams: Vec<Vec<u8>>) -> Pair {
     let (partial, mut other) = (Ours::filled(&datagrams), Rust::filled(&datagrams));
     Pair::new(move || partial.complete(), move || other.complete())
+}
+
+/// Whether all of an area is marked; the other side one mark after another, as the library did before Req 03.
+pub fn marks_by_one(marks: Vec<u8>) -> Pair {
+    let same = marks.clone();
+    Pair::new(move || by_one::eight_by_eight(black_box(&marks)), move || by_one::one_by_one(black_box(&same)))
+}
+
+/// Whether all of an area is marked; in Rust by blocks.
+pub fn marks(marks: Vec<u8>) -> Pair {
+    let same = marks.clone();
+    Pair::new(move || by_one::eight_by_eight(black_box(&marks)), move || u64::from(tuned::all_marked(black_box(&same))))
 }
 
 /// A complete partial combined into an empty one, or into one that is the same.

@@ -3,6 +3,7 @@
 //!
 //! `uadp-bench [ROUNDS]` prints a table and which rows miss the bar; without valgrind its last column is empty. Each row's answers are
 //! compared before it is timed. `uadp-bench --calls ROW SIDE CALLS` makes so many calls of one side of a row, for valgrind.
+mod by_one;
 mod inputs;
 mod jobs;
 
@@ -15,6 +16,8 @@ use std::time::{Duration, Instant};
 const ROUNDS: usize = 300;
 /// About how long a batch takes.
 const BATCH: Duration = Duration::from_micros(300);
+/// What stands beside the library in most tables.
+const RUST: &str = "Rust";
 /// A ratio up to this holds the bar: times vary by some hundredths.
 const BAR: f64 = 1.005;
 
@@ -28,13 +31,20 @@ fn row<T: 'static>(name: impl Into<String>, input: impl Fn() -> T + 'static, pai
     Row { name: name.into(), pair: Box::new(move || pair(input())) }
 }
 
-/// The rows, in tables.
-fn tables() -> Vec<(&'static str, Vec<Row>)> {
+/// A table: its title, what stands beside the library, its rows.
+type Table = (&'static str, &'static str, Vec<Row>);
+
+fn tables() -> Vec<Table> {
     let each = |job: &'static str, pair: fn(inputs::Input) -> Pair| {
         inputs::standard().into_iter().map(move |(name, input)| row(format!("{job}: {name}"), input, pair)).collect::<Vec<_>>()
     };
     let some = |count: usize, job: &'static str, pair: fn(inputs::Input) -> Pair| {
         each(job, pair).into_iter().take(count).collect::<Vec<_>>()
+    };
+    let marks = |job: &'static str, pair: fn(Vec<u8>) -> Pair| {
+        let rows = inputs::MARKS.into_iter();
+        rows.map(move |(name, length, missing)| row(format!("{job}: {name}"), move || inputs::marks(length, missing), pair))
+            .collect::<Vec<_>>()
     };
     let growth = [1_000, 2_000, 4_000, 8_000, 16_000, 32_000, 60_000].into_iter().flat_map(|length| {
         let array = row(format!("walk: {length} bytes of one array"), move || inputs::one_array(length), jobs::walk);
@@ -49,17 +59,20 @@ fn tables() -> Vec<(&'static str, Vec<Row>)> {
         row("16,384 bytes combined into the same", inputs::chunk_datagrams, |datagrams| jobs::combine(datagrams, false)),
     ];
     vec![
-        ("Walking in one call", each("walk", jobs::walk)),
-        ("Listing", each("list", jobs::list)),
-        ("Writing again, beside a copy after reading", each("rewrite", jobs::rewrite)),
+        ("Walking in one call", RUST, each("walk", jobs::walk)),
+        ("Listing", RUST, each("list", jobs::list)),
+        ("Writing again, beside a copy after reading", RUST, each("rewrite", jobs::rewrite)),
         (
             "Writing the first message again, beside a copy after reading",
+            RUST,
             each("rewrite the first message", jobs::rewrite_message),
         ),
-        ("Walking with no room for records", some(6, "count", jobs::count)),
-        ("Walking with a call for each message and field, beside one pass", some(6, "by calls", jobs::by_calls)),
-        ("Configuration, chunks", chunks),
-        ("Growth with the length", growth.collect()),
+        ("Walking with no room for records", RUST, some(6, "count", jobs::count)),
+        ("Walking with a call for each message and field, beside one pass", RUST, some(6, "by calls", jobs::by_calls)),
+        ("Configuration, chunks", RUST, chunks),
+        ("Marks, beside Rust by blocks", RUST, marks("all marked", jobs::marks)),
+        ("Marks, beside the loop before Req 03", "one by one", marks("all marked, as before", jobs::marks_by_one)),
+        ("Growth with the length", RUST, growth.collect()),
     ]
 }
 
@@ -110,7 +123,7 @@ fn instruction_ratio(row: &str) -> Option<f64> {
 
 /// Makes the calls that are to be counted.
 fn make_calls(name: &str, side: &str, calls: u32) {
-    let found = tables().into_iter().flat_map(|(_, rows)| rows).find(|row| row.name == name);
+    let found = tables().into_iter().flat_map(|(_, _, rows)| rows).find(|row| row.name == name);
     let Pair { mut ours, mut rust } = (found.expect("a row").pair)();
     let job = if side == "ours" { &mut ours } else { &mut rust };
     (0..calls).for_each(|_| {
@@ -128,8 +141,10 @@ fn main() -> ExitCode {
     }
     let rounds = arguments.first().and_then(|rounds| rounds.parse().ok()).unwrap_or(ROUNDS);
     let (mut missing, mut differing) = (Vec::new(), 0);
-    for (title, rows) in tables() {
-        println!("\n{title}\n\n| | library, ns | Rust, ns | library / Rust | by instructions |\n|---|---:|---:|---:|---:|");
+    for (title, beside, rows) in tables() {
+        println!(
+            "\n{title}\n\n| | library, ns | {beside}, ns | library / {beside} | by instructions |\n|---|---:|---:|---:|---:|"
+        );
         for Row { name, pair } in rows {
             let Some((ours, rust)) = times(rounds, pair()) else {
                 println!("| {name} | answers differ | | | |");

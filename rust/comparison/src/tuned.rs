@@ -355,10 +355,15 @@ fn all_one(block: &[u8]) -> bool {
     block.iter().fold(0, |other, mark| other | (mark ^ 1)) == 0
 }
 
+/// Whether every mark is 1.
+pub fn all_marked(marks: &[u8]) -> bool {
+    marks.chunks(BLOCK).all(all_one)
+}
+
 /// Whether every byte below total is covered.
 pub fn complete(partial: &PartialView) -> Result<bool> {
     partial.sound()?;
-    Ok(partial.record.is_some_and(|record| partial.marks[..record.total as usize].chunks(BLOCK).all(all_one)))
+    Ok(partial.record.is_some_and(|record| all_marked(&partial.marks[..record.total as usize])))
 }
 
 /// Takes a chunk in from a datagram.

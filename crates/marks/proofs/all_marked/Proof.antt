@@ -1,19 +1,21 @@
 -- `marks::all_marked` meets its contract. Assumes nothing.
-use Prim.Native.Nat.{ℕ, _-_, _≤_, _<_}
-use mathlib.Core.Bool.{true}
-use mathlib.Core.Path.{_≡_, sym, _∙_}
+use Prim.Native.Nat.{_+_, _*_, _-_, _/_, _≤_}
+use mathlib.Core.Bool.{Bool, _&&_}
+use mathlib.Core.Path.{_≡_, sym, ap, _∙_}
 use native.Mathlib.Omega.{arith}
 use denote.Ref.{now}
 use borrow.Author.Needs.{needs}
 use borrow.Author.Tests.{not-true, not-false}
-use borrow.Author.Count.{below-more}
-use Rattle.marks.specs.Marks.{inUse, capacity, marked}
-use Rattle.marks.proofs.MarkLaws.{marked-none, all-marked-yes, all-marked-no}
+use Rattle.marks.specs.Offsets.{allBelow}
+use Rattle.marks.specs.Marks.{inUse, capacity, marked, allMarked}
+use Rattle.marks.proofs.OffsetLaws.{left-run, left-all}
+use Rattle.marks.proofs.MarkLaws.{marked-none, all-marked-no}
 use Rattle.marks.proofs.all_marked.Statement.{statement}
 use Rattle.marks.proofs.all_marked.Tie as tie
 
+-- what is left gives the same answer
 abbrev Inv-loop : tie.InvT-loop
-Inv-loop marks n i₀ i = (i ≤ n) × ((k : ℕ) → k < i → marked inUse marks k ≡ true)
+Inv-loop marks n i₀ i = (i ≤ n) × (allBelow (n - i) (λ j. marked inUse marks (i + j)) ≡ allMarked inUse n marks)
 
 abbrev μ-loop : tie.MeasureT-loop
 μ-loop marks n i₀ i = n - i
@@ -28,31 +30,70 @@ returns c =
     sym (all-marked-no inUse (a .n) m (capacity inUse m) (omega arith) (marked-none inUse m (capacity inUse m) (omega arith)))
 
 loop-holds : tie.Need-loop-holds Inv-loop μ-loop
-loop-holds c = (omega arith, λ k h. absurd (omega arith))
+unfolding allMarked
+loop-holds c =
+    let a = c .before .before .before .args in (omega arith, left-all (a .n) (marked inUse (now (a .marks))))
 
-is-marked-requires : tie.Need-is-marked-requires Inv-loop μ-loop
-is-marked-requires c κs =
+eights-marked-requires : tie.Need-eights-marked-requires Inv-loop μ-loop
+eights-marked-requires c κs =
     let room = c .before .before .before .within .ensures .1 in omega arith
 
 returns-2 : tie.Need-returns-2 Inv-loop μ-loop
 returns-2 c =
-    let at-is-marked = c .before in
-    let at-loop = at-is-marked .before .before in
+    let at-eights = c .before in
+    let at-loop = at-eights .before .before in
     let a = at-loop .before .before .before .before .args in
-    sym (all-marked-no inUse (a .n) (now (a .marks)) (at-loop .loop .i) (omega arith) (sym (at-is-marked .is-marked .ensures) ∙ not-true _ (c .if2 .taken)))
+    let l = at-loop .loop in
+    let f = marked inUse (now (a .marks)) in
+    let rest = allBelow (a .n - (l .i + 512)) (λ j. f (l .i + 512 + j)) in
+    let no = sym (at-eights .eights-marked .ensures) ∙ not-true _ (c .if2 .taken) in
+    sym (sym (l .inv .1) ∙ left-run (a .n) (l .i) 512 f (omega arith) ∙ ap (λ (b : Bool). b && rest) no)
 
 loop-again : tie.Need-loop-again Inv-loop μ-loop
 loop-again c =
-    let at-is-marked = c .before in
-    let at-loop = at-is-marked .before .before in
+    let at-eights = c .before in
+    let at-loop = at-eights .before .before in
+    let a = at-loop .before .before .before .before .args in
     let l = at-loop .loop in
-    (omega arith, below-more _ (l .i) (l .inv .1) (sym (at-is-marked .is-marked .ensures) ∙ not-false _ (c .if2 .left)))
+    let f = marked inUse (now (a .marks)) in
+    let rest = allBelow (a .n - (l .i + 512)) (λ j. f (l .i + 512 + j)) in
+    let yes = sym (at-eights .eights-marked .ensures) ∙ not-false _ (c .if2 .left) in
+    (omega arith, sym (left-run (a .n) (l .i) 512 f (omega arith) ∙ ap (λ (b : Bool). b && rest) yes) ∙ l .inv .1)
+
+eights-marked-requires-2 : tie.Need-eights-marked-requires-2 Inv-loop μ-loop
+eights-marked-requires-2 c κs =
+    let room = c .before .before .before .within .ensures .1 in omega arith
 
 returns-3 : tie.Need-returns-3 Inv-loop μ-loop
 returns-3 c =
-    let at-loop = c .before in
+    let at-eights = c .before in
+    let at-loop = at-eights .before .before in
     let a = at-loop .before .before .before .before .args in
-    sym (all-marked-yes inUse (a .n) (now (a .marks)) (λ k h. at-loop .loop .inv .1 k (omega arith)))
+    let l = at-loop .loop in
+    let f = marked inUse (now (a .marks)) in
+    let run = 8 * ((a .n - l .i) / 8) in
+    let rest = allBelow (a .n - (l .i + run)) (λ j. f (l .i + run + j)) in
+    let no = sym (at-eights .eights-marked2 .ensures) ∙ not-true _ (c .if3 .taken) in
+    sym (sym (l .inv .1) ∙ left-run (a .n) (l .i) run f (omega arith) ∙ ap (λ (b : Bool). b && rest) no)
+
+mul-each-marked : tie.Need-mul-each-marked Inv-loop μ-loop
+mul-each-marked c = search needs
+
+add-each-marked : tie.Need-add-each-marked Inv-loop μ-loop
+add-each-marked c = search needs
+
+returns-4 : tie.Need-returns-4 Inv-loop μ-loop
+returns-4 c =
+    let at-if3 = c .before in
+    let at-eights = at-if3 .before in
+    let at-loop = at-eights .before .before in
+    let a = at-loop .before .before .before .before .args in
+    let l = at-loop .loop in
+    let f = marked inUse (now (a .marks)) in
+    let run = 8 * ((a .n - l .i) / 8) in
+    let rest = allBelow (a .n - (l .i + run)) (λ j. f (l .i + run + j)) in
+    let yes = sym (at-eights .eights-marked2 .ensures) ∙ not-false _ (at-if3 .if3 .left) in
+    c .each-marked .ensures ∙ sym (left-run (a .n) (l .i) run f (omega arith) ∙ ap (λ (b : Bool). b && rest) yes) ∙ l .inv .1
 
 pub all-marked-spec : {M : Type 1} → statement M
 all-marked-spec =
@@ -63,9 +104,16 @@ all-marked-spec =
     (λ c κs. search needs)
     returns
     loop-holds
-    is-marked-requires
+    (λ c. search needs)
+    eights-marked-requires
     returns-2
     (λ c. search needs)
     (λ c. search needs)
     loop-again
-    returns-3)
+    (λ c. search needs)
+    eights-marked-requires-2
+    returns-3
+    mul-each-marked
+    add-each-marked
+    (λ c κs. search needs)
+    returns-4)

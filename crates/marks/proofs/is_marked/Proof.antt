@@ -1,16 +1,20 @@
 -- `marks::is_marked` meets its contract. Assumes nothing.
-use mathlib.Core.Path.{refl}
-use Rattle.marks.specs.Marks.{capacity, marked}
+use mathlib.Core.Path.{refl, sym}
+use denote.Ref.{now}
+use borrow.Author.Needs.{needs}
+use Rattle.marks.specs.Marks.{inUse, capacity, marked}
+use Rattle.marks.proofs.MarkLaws.{marked-none}
 use Rattle.marks.proofs.is_marked.Statement.{statement}
 use Rattle.marks.proofs.is_marked.Tie as tie
 
-shared-slice-read-result : tie.Need-shared-slice-read-result
-unfolding capacity
-shared-slice-read-result c = c .before .pre
-
 returns : tie.Need-returns
+unfolding capacity
+returns c =
+    let a = c .before .args in sym (marked-none inUse (now (a .marks)) (a .i) (c .if1 .taken))
+
+returns-2 : tie.Need-returns-2
 unfolding marked
-returns c = refl
+returns-2 c = refl
 
 pub is-marked-spec : {M : Type 1} → statement M
-is-marked-spec = tie.close (tie.spec shared-slice-read-result returns)
+is-marked-spec = tie.close (tie.spec returns (λ c. search needs) returns-2)

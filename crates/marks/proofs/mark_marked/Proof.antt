@@ -23,10 +23,6 @@ abbrev μ-loop : tie.MeasureT-loop
 loop-holds : tie.Need-loop-holds Inv-loop μ-loop
 loop-holds c = (omega arith, refl, refl)
 
-is-marked-requires : tie.Need-is-marked-requires Inv-loop μ-loop
-is-marked-requires c κs =
-    let room = c .before .before .before .within2 .ensures .1 in omega arith
-
 mark-if-requires : tie.Need-mark-if-requires Inv-loop μ-loop
 mark-if-requires c κs =
     let at-loop = c .before .before .before in
@@ -89,7 +85,7 @@ mark-marked-spec =
     (λ c κs. search needs)
     (λ c κs. search needs)
     loop-holds
-    is-marked-requires
+    (λ c κs. search needs)
     mark-if-requires
     (λ c. search needs)
     (λ c. search needs)
