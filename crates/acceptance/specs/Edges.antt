@@ -40,7 +40,7 @@ nobody = record { id = PublisherId.Absent; text = [] }
 
 abbrev pub fresh : Partial
 fresh =
-    partial (record { started = false; message = record { publisher = nobody; writer = 0; number = 0; total = 0 } })
+    partial (record { started = false; message = record { origin = record { publisher = nobody; writer = 0; number = 0 }; total = 0 } })
     (9 ∷ 9 ∷ 9 ∷ 9 ∷ 9 ∷ []) (1 ∷ 1 ∷ 7 ∷ 1 ∷ 1 ∷ [])
 
 -- "N1 to N7, last 5: received 6 newer, 5 old, 16,389 newer, 16,390 invalid, 49,158 invalid, 49,159 old; last 65,535: 0 newer. V1 `00` is

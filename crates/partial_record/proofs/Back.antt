@@ -35,10 +35,10 @@ text-back t h =
 -- ---- a record that was stored reads back
 module _ (k : PartialRecord) (r : List ℕ) (f : FitsRecord k) (h : 144 ≤ length r) where
   abbrev id : PublisherId
-  id = k .message .publisher .id
+  id = k .message .origin .publisher .id
 
   abbrev text : List ℕ
-  text = k .message .publisher .text
+  text = k .message .origin .publisher .text
 
   abbrev numbers : List ℕ
   numbers = partialNumbers k
@@ -78,7 +78,7 @@ module _ (k : PartialRecord) (r : List ℕ) (f : FitsRecord k) (h : 144 ≤ leng
       let p : publisherBy (numberAt s 1) (numberAt s 2) ≡ id = rw (read 1 (omega arith), read 2 (omega arith)) (publisher-back id (f .id)) in
       let t : laid (replicate 64 0) 0 (take 64 (drop 80 s)) ≡ text = ap (λ (l : List ℕ). laid (replicate 64 0) 0 l) text-read ∙ text-back text (f .text) in
       let b : eqb (numberAt s 0) 1 ≡ k .started = ap (λ (n : ℕ). eqb n 1) (read 0 (omega arith)) ∙ flag-back (k .started) in
-      let w = small 3 (k .message .writer) (read 3 (omega arith)) (f .writer) in
-      let n = small 4 (k .message .number) (read 4 (omega arith)) (f .number) in
+      let w = small 3 (k .message .origin .writer) (read 3 (omega arith)) (f .writer) in
+      let n = small 4 (k .message .origin .number) (read 4 (omega arith)) (f .number) in
       let z = read 5 (omega arith) in
-      λ i. record { started = b i; message = record { publisher = record { id = p i; text = t i }; writer = w i; number = n i; total = z i } }
+      λ i. record { started = b i; message = record { origin = record { publisher = record { id = p i; text = t i }; writer = w i; number = n i }; total = z i } }

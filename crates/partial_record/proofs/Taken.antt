@@ -18,7 +18,7 @@ abbrev pub publisherWith : PublisherId → List ℕ → PublisherRecord
 publisherWith i t = record { id = i; text = t }
 
 abbrev pub messageWith : PublisherRecord → ℕ → ℕ → ℕ → Message
-messageWith p a b d = record { publisher = p; writer = a % 65536; number = b % 65536; total = d }
+messageWith p a b d = record { origin = record { publisher = p; writer = a % 65536; number = b % 65536 }; total = d }
 
 abbrev pub partialWith : ℕ → Message → PartialRecord
 partialWith n m = record { started = eqb n 1; message = m }

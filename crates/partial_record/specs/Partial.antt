@@ -25,7 +25,10 @@ publisherIn s =
 -- "3  DataSetWriterId   4  message number   5  total size"
 abbrev pub messageIn : List ℕ → Message
 messageIn s =
-    record { publisher = publisherIn s; writer = numberAt s 3 % 65536; number = numberAt s 4 % 65536; total = numberAt s 5 }
+    record {
+      origin = record { publisher = publisherIn s; writer = numberAt s 3 % 65536; number = numberAt s 4 % 65536 };
+      total = numberAt s 5;
+    }
 
 -- "0  1 started, else not"
 abbrev pub partialIn : List ℕ → PartialRecord
@@ -34,18 +37,19 @@ partialIn s = record { started = eqb (numberAt s 0) 1; message = messageIn s }
 -- the record's numbers, from 0; the last four are spare and hold 0
 abbrev pub partialNumbers : PartialRecord → List ℕ
 partialNumbers r =
-    flagNumber (r .started) ∷ codeOf (r .message .publisher .id) ∷ publisherNumber (r .message .publisher .id) ∷ r .message .writer
-    ∷ r .message .number ∷ r .message .total ∷ 0 ∷ 0 ∷ 0 ∷ 0 ∷ []
+    flagNumber (r .started) ∷ codeOf (r .message .origin .publisher .id) ∷ publisherNumber (r .message .origin .publisher .id)
+    ∷ r .message .origin .writer
+    ∷ r .message .origin .number ∷ r .message .total ∷ 0 ∷ 0 ∷ 0 ∷ 0 ∷ []
 
 -- the record's bytes
 abbrev pub partialBytes : PartialRecord → List ℕ
-partialBytes r = numberBytes (partialNumbers r) ++ r .message .publisher .text
+partialBytes r = numberBytes (partialNumbers r) ++ r .message .origin .publisher .text
 
 -- each number of a record fits its type, and its text has 64 bytes, as a value of the code has
 
 pub record FitsRecord (r : PartialRecord) : Type 0 where
-  pub id : FitsId (r .message .publisher .id)
-  pub text : length (r .message .publisher .text) ≡ MOST_TEXT_ID
-  pub writer : r .message .writer < 65536
-  pub number : r .message .number < 65536
+  pub id : FitsId (r .message .origin .publisher .id)
+  pub text : length (r .message .origin .publisher .text) ≡ MOST_TEXT_ID
+  pub writer : r .message .origin .writer < 65536
+  pub number : r .message .origin .number < 65536
   pub total : r .message .total < 256 ^ 8

@@ -5,6 +5,7 @@ pub mod chunk_record;
 use publisher_id::publisher_record::PublisherRecord;
 use publisher_id::publisher_record::code;
 use reassembly::Message;
+use reassembly::MessageOrigin;
 use reassembly::PartialRecord;
 use records::items::flag_number;
 use records::numbers::number;
@@ -35,10 +36,13 @@ fn message_in(s: &[u8]) -> Message
     ensures { λ r. ⌜ r ≡ messageIn (now (s .entry)) ⌝ }
 {
     let publisher = publisher_in(s);
-    Message {
+    let origin = MessageOrigin {
         publisher,
         writer: (number(s, 3) % 65536) as u16,
         number: (number(s, 4) % 65536) as u16,
+    };
+    Message {
+        origin,
         total: number(s, 5) as usize,
     }
 }
@@ -62,15 +66,16 @@ pub fn put_partial(out: &mut [u8], rec: PartialRecord)
         return;
     }
     let message = rec.message;
-    let publisher = message.publisher;
+    let origin = message.origin;
+    let publisher = origin.publisher;
     let id = publisher.id;
     let text = publisher.text;
     let numbers = [
         flag_number(rec.started),
         code(id),
         publisher_number(id),
-        message.writer as u64,
-        message.number as u64,
+        origin.writer as u64,
+        origin.number as u64,
         message.total as u64,
         0,
         0,

@@ -8,22 +8,31 @@ use lib.Dec.{leb, eqb}
 use Rattle.marks.specs.Marks.{Layout, inUse, marksFor}
 use Rattle.publisher_id.specs.PublisherRecord.{Publisher, publisherOf, samePublisher, publisherFits}
 use Rattle.reassembly.specs.declared.record.Message.{Message}
+use Rattle.reassembly.specs.declared.record.MessageOrigin.{MessageOrigin}
 use Rattle.reassembly.specs.declared.record.PartialRecord.{PartialRecord}
 
--- which message: publisher, writer id, message number and total
-pub record Identity : Type 0 where
+-- where a message comes from: publisher, writer id and message number
+pub record Origin : Type 0 where
   pub publisher : Publisher
   pub writer : ℕ
   pub number : ℕ
+
+abbrev pub originOf : MessageOrigin → Origin
+originOf o = record { publisher = publisherOf (o .publisher); writer = o .writer; number = o .number }
+
+-- which message: its origin and total
+pub record Identity : Type 0 where
+  pub origin : Origin
   pub total : ℕ
 
 abbrev pub identityOf : Message → Identity
-identityOf m = record { publisher = publisherOf (m .publisher); writer = m .writer; number = m .number; total = m .total }
+identityOf m = record { origin = originOf (m .origin); total = m .total }
+
+unfoldable pub sameOrigin : Origin → Origin → Bool
+sameOrigin a b = samePublisher (a .publisher) (b .publisher) && (eqb (a .writer) (b .writer) && eqb (a .number) (b .number))
 
 unfoldable pub sameMessage : Identity → Identity → Bool
-sameMessage a b =
-    samePublisher (a .publisher) (b .publisher)
-    && (eqb (a .writer) (b .writer) && (eqb (a .number) (b .number) && eqb (a .total) (b .total)))
+sameMessage a b = sameOrigin (a .origin) (b .origin) && eqb (a .total) (b .total)
 
 -- a partial is a record with two lent areas, payload and marks, and the layout of its marks
 pub record Partial : Type 0 where
@@ -46,7 +55,7 @@ unfoldable pub soundBy : Layout → PartialRecord → ℕ → ℕ → Bool
 soundBy L r n k =
     eqb (marksFor L n) k
     && (not (r .started)
-    || (leb 1 (r .message .total) && (leb (r .message .total) n && publisherFits (r .message .publisher))))
+    || (leb 1 (r .message .total) && (leb (r .message .total) n && publisherFits (r .message .origin .publisher))))
 
 abbrev pub sound : Partial → Bool
 sound s = soundBy (s .layout) (s .rec) (length (s .payload)) (length (s .marks))

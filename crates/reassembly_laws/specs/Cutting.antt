@@ -48,10 +48,11 @@ module _ (id : Identity) (p : List ℕ) (size : ℕ) where
     pub at : ℕ
     pub envelope : networkMessageAt (a .sizes) (a .datagram) ≡ got message at
     pub chunk : message .envelope .chunk ≡ true
-    pub publisher : publisherOf (recordAt (message .envelope .publisher) (message .places .«publisher_end») (a .datagram)) ≡ id .publisher
-    pub writer : chunkWriterOf (message .envelope .«payload_header») ≡ id .writer
+    pub publisher : publisherOf
+        (recordAt (message .envelope .publisher) (message .places .«publisher_end») (a .datagram)) ≡ id .origin .publisher
+    pub writer : chunkWriterOf (message .envelope .«payload_header») ≡ id .origin .writer
     pub accepted : cutRule (length p) size k ≡ 0
-    pub payload : drop at (a .datagram) ≡ chunkBytes p (id .number) size k
+    pub payload : drop at (a .datagram) ≡ chunkBytes p (id .origin .number) size k
 
 -- every arrival is of some chunk k
 abbrev pub Only : (ℕ → Arrival → Type 0) → List Arrival → Type 0

@@ -2,6 +2,7 @@
 use publisher_id::publisher::PublisherId;
 use publisher_id::publisher_record::PublisherRecord;
 use reassembly::Message;
+use reassembly::MessageOrigin;
 use reassembly::PartialRecord;
 use text::decimal::Decimal;
 use vector_lines::lines::lettered;
@@ -20,12 +21,14 @@ pub fn record(parts: &[u8]) -> PartialRecord {
     PartialRecord {
         started: numbered(parts, b's') == 1,
         message: Message {
-            publisher: PublisherRecord {
-                id: publisher(parts),
-                text: [(numbered(parts, b'x') % 256) as u8; 64],
+            origin: MessageOrigin {
+                publisher: PublisherRecord {
+                    id: publisher(parts),
+                    text: [(numbered(parts, b'x') % 256) as u8; 64],
+                },
+                writer: low16(numbered(parts, b'w')),
+                number: low16(numbered(parts, b'n')),
             },
-            writer: low16(numbered(parts, b'w')),
-            number: low16(numbered(parts, b'n')),
             total: numbered(parts, b'l'),
         },
     }

@@ -1,7 +1,7 @@
+use Rattle.partial_record.proofs.Fitting.{fits-record}
 use Rattle.partial_record.proofs.Parts.{partial-none, partial-put}
 use native.Mathlib.Omega.{arith}
-use mathlib.Core.Path.{_≡_, refl}
-use lib.ListN.{length}
+use mathlib.Core.Path.{refl}
 use denote.Ref.{now}
 use borrow.Author.Needs.{needs}
 use Rattle.partial_record.proofs.put_partial.Statement.{statement}
@@ -15,15 +15,15 @@ returns c =
 -- src/lib.rt:96:1
 returns-2 : tie.Need-returns-2
 returns-2 c =
-    let long : length (c .before .before .before .before .before .before .before .before .before .before .before .before .before .before .before .before .before
-    .before .before .before .args .rec .message .publisher .text) ≡ 64 = search needs in
     let at-put-run = c .before .before in
     let at-put-numbers = at-put-run .before .before .before .before .before in
     let at-publisher-number = at-put-numbers .before .before .before .before .before in
     let at-code = at-publisher-number .before in
     let at-flag-number = at-code .before in
-    let at-if1 = at-flag-number .before .before .before .before in
-    let args = at-if1 .before .before .args in
+    let at-if1 = at-flag-number .before .before .before .before .before in
+    let start = at-if1 .before .before in
+    let args = start .args in
+    let long = fits-record (args .rec) _ (start .good .1 .0) .text in
     partial-put (args .rec) (now (args .out)) _ _ _ _ _ _ long (omega (arith, at-if1 .if1 .left)) refl
     (at-flag-number .flag-number .ensures .0) (at-code .code .ensures) (at-publisher-number .publisher-number .ensures) (at-put-numbers .put-numbers .ensures) (at-put-run .put-run .ensures .stored)
 
