@@ -114,6 +114,7 @@ module _ (id : Identity) (p : List ℕ) (size : ℕ) where
         envelope = ap (networkMessageAt (a .sizes)) (t .datagram) ∙ b .whole;
         chunk = t .chunk;
         publisher = t .publisher;
+        group = t .group;
         writer = ap chunkWriterOf (t .writer);
         accepted = c .rule;
         payload = ap (drop (m .payload .first)) (t .datagram) ∙ b .chunk (id .origin .writer) (t .writer) ∙ t .payload ∙ c .bytes;

@@ -19,6 +19,7 @@ use Rattle.reassembly.proofs.record.PartialRecord.Laws as partialLaws
 use Rattle.reassembly.specs.declared.record.PartialRecord.{PartialRecord}
 use Rattle.partial_record.specs.Partial.{FitsRecord}
 use Rattle.records.proofs.Fitting.{fits-id}
+use Rattle.wire_writer.proofs.Fitting.{fits16}
 
 pub fits-record : (k : PartialRecord) (vs : List Val) → Is (struct.row partial.the-type) k vs → FitsRecord k
 fits-record k vs h =
@@ -29,7 +30,8 @@ fits-record k vs h =
     record {
       id = fits-id (k .message .origin .publisher .id) _ (p .0);
       text = length-unmapped ℕ (k .message .origin .publisher .text) 64 (p .1 .0 .1 .0 .1);
-      writer = omega (arith, o .1 .0);
-      number = omega (arith, o .1 .1 .0);
+      group = fits16 (k .message .origin .group) _ (o .1 .0);
+      writer = omega (arith, o .1 .1 .0);
+      number = omega (arith, o .1 .1 .1 .0);
       total = omega (arith, m .1 .0);
     }

@@ -170,8 +170,8 @@ module _ (s : Partial) (x : Reading) where
 
 -- a record of a chunk's message whose publisher was copied
 pub message-is : (c : ChunkPlace) (s : List ℕ) (p : PublisherRecord) → p ≡ recordAt (c .publisher) (c .«publisher_end») s
-    → _≡_ {A = Message} (record { origin = record { publisher = p; writer = c .writer; number = c .payload .number }; total = c .payload .total }) (chunkMessage c s)
-message-is c s p e = λ i. record { origin = record { publisher = e i; writer = c .writer; number = c .payload .number }; total = c .payload .total }
+    → _≡_ {A = Message} (record { origin = record { publisher = p; group = c .group; writer = c .writer; number = c .payload .number }; total = c .payload .total }) (chunkMessage c s)
+message-is c s p e = λ i. record { origin = record { publisher = e i; group = c .group; writer = c .writer; number = c .payload .number }; total = c .payload .total }
 
 module _ (s : Partial) (sizes d : List ℕ) where
   pub take-refusal : sound s ≡ true → (n p : ℕ) → chunkAt sizes d ≡ refused n p → takeIn s (readingAt sizes d) ≡ record { verdict = Refused n p; after = s }

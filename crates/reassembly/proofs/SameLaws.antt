@@ -1,33 +1,50 @@
 -- The tests of sameness decide equality, and one law for each way out of them. Assumes nothing.
-use mathlib.Core.Path.{_≡_, refl, sym, _∙_}
+use mathlib.Core.Path.{_≡_, refl, sym, ap, _∙_}
 use mathlib.Core.Bool.{true, false, _&&_, true≢false}
 use lib.Dec.{eqb}
 use borrow.Author.Tests.{eq-eqb, eqb-true}
 use Rattle.publisher_id.specs.PublisherRecord.{samePublisher}
 use Rattle.publisher_id.proofs.Equality.{same-publisher-true, same-publisher-refl}
-use Rattle.reassembly.specs.Record.{Origin, sameOrigin, Identity, sameMessage}
+use Rattle.reassembly.specs.Record.{sameGroup, Origin, sameOrigin, Identity, sameMessage}
+use Rattle.wire.specs.declared.optional.Optional16.{Optional16}
 use Rattle.wire.proofs.Cases.{by-bool}
 use Rattle.wire.proofs.Facts.{and-left, and-right}
+
+-- ---- group ids
+same-group-true : (a b : Optional16) → sameGroup a b ≡ true → a ≡ b
+same-group-true Optional16.Absent Optional16.Absent e = refl
+same-group-true Optional16.Absent (Optional16.Is y) e = absurd (true≢false (sym e))
+same-group-true (Optional16.Is x) Optional16.Absent e = absurd (true≢false (sym e))
+same-group-true (Optional16.Is x) (Optional16.Is y) e = ap Optional16.Is (eqb-true x y e)
+
+same-group-refl : (a : Optional16) → sameGroup a a ≡ true
+same-group-refl Optional16.Absent = refl
+same-group-refl (Optional16.Is x) = eq-eqb x x refl
 
 -- ---- origins
 same-origin-true : (a b : Origin) → sameOrigin a b ≡ true → a ≡ b
 unfolding sameOrigin
 same-origin-true a b e =
-    let t₂ = eqb (a .number) (b .number) in
-    let t₁ = eqb (a .writer) (b .writer) && t₂ in
+    let t₃ = eqb (a .number) (b .number) in
+    let t₂ = eqb (a .writer) (b .writer) && t₃ in
+    let t₁ = sameGroup (a .group) (b .group) && t₂ in
     let e₁ = and-right (samePublisher (a .publisher) (b .publisher)) t₁ e in
+    let e₂ = and-right (sameGroup (a .group) (b .group)) t₂ e₁ in
     let p : a .publisher ≡ b .publisher = same-publisher-true _ _ (and-left (samePublisher (a .publisher) (b .publisher)) t₁ e) in
-    let q : a .writer ≡ b .writer = eqb-true _ _ (and-left (eqb (a .writer) (b .writer)) t₂ e₁) in
-    let r : a .number ≡ b .number = eqb-true _ _ (and-right (eqb (a .writer) (b .writer)) t₂ e₁) in
-    λ i. record { publisher = p i; writer = q i; number = r i }
+    let g : a .group ≡ b .group = same-group-true _ _ (and-left (sameGroup (a .group) (b .group)) t₂ e₁) in
+    let q : a .writer ≡ b .writer = eqb-true _ _ (and-left (eqb (a .writer) (b .writer)) t₃ e₂) in
+    let r : a .number ≡ b .number = eqb-true _ _ (and-right (eqb (a .writer) (b .writer)) t₃ e₂) in
+    λ i. record { publisher = p i; group = g i; writer = q i; number = r i }
 
 same-origin-refl : (a : Origin) → sameOrigin a a ≡ true
 unfolding sameOrigin
-same-origin-refl a = rw (same-publisher-refl (a .publisher), eq-eqb (a .writer) (a .writer) refl) (eq-eqb (a .number) (a .number) refl)
+same-origin-refl a =
+    rw (same-publisher-refl (a .publisher), same-group-refl (a .group), eq-eqb (a .writer) (a .writer) refl) (eq-eqb (a .number) (a .number) refl)
 
-pub same-origin-number : (a b : Origin) → samePublisher (a .publisher) (b .publisher) ≡ true → a .writer ≡ b .writer → sameOrigin a b ≡ eqb (a .number) (b .number)
+pub same-origin-number : (a b : Origin) → samePublisher (a .publisher) (b .publisher) ≡ true → sameGroup (a .group) (b .group) ≡ true → a .writer ≡ b .writer
+    → sameOrigin a b ≡ eqb (a .number) (b .number)
 unfolding sameOrigin
-same-origin-number a b e f = rw (e, eq-eqb (a .writer) (b .writer) f)
+same-origin-number a b e g f = rw (e, g, eq-eqb (a .writer) (b .writer) f)
 
 -- ---- messages
 pub same-message-true : (a b : Identity) → sameMessage a b ≡ true → a ≡ b

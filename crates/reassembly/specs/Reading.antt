@@ -18,7 +18,12 @@ pub data Reading : Type 0 where
 -- the record of a chunk's message
 abbrev pub chunkMessage : ChunkPlace → List ℕ → Message
 chunkMessage c s = record {
-  origin = record { publisher = recordAt (c .publisher) (c .«publisher_end») s; writer = c .writer; number = c .payload .number };
+  origin = record {
+    publisher = recordAt (c .publisher) (c .«publisher_end») s;
+    group = c .group;
+    writer = c .writer;
+    number = c .payload .number;
+  };
   total = c .payload .total;
 }
 

@@ -1,24 +1,26 @@
 -- A partial: its record and its two areas, and when it is sound.
 use Prim.Native.Nat.{ℕ}
-use mathlib.Core.Bool.{Bool, true, not, _&&_, _||_}
+use mathlib.Core.Bool.{Bool, true, false, not, _&&_, _||_}
 use mathlib.Core.Path.{_≡_}
 use mathlib.Core.List.{List}
 use lib.ListN.{length}
 use lib.Dec.{leb, eqb}
+use Rattle.wire.specs.declared.optional.Optional16.{Optional16}
 use Rattle.marks.specs.Marks.{Layout, inUse, marksFor}
 use Rattle.publisher_id.specs.PublisherRecord.{Publisher, publisherOf, samePublisher, publisherFits}
 use Rattle.reassembly.specs.declared.record.Message.{Message}
 use Rattle.reassembly.specs.declared.record.MessageOrigin.{MessageOrigin}
 use Rattle.reassembly.specs.declared.record.PartialRecord.{PartialRecord}
 
--- where a message comes from: publisher, writer id and message number
+-- where a message comes from: publisher, group id or that there was none, writer id and message number
 pub record Origin : Type 0 where
   pub publisher : Publisher
+  pub group : Optional16
   pub writer : ℕ
   pub number : ℕ
 
 abbrev pub originOf : MessageOrigin → Origin
-originOf o = record { publisher = publisherOf (o .publisher); writer = o .writer; number = o .number }
+originOf o = record { publisher = publisherOf (o .publisher); group = o .group; writer = o .writer; number = o .number }
 
 -- which message: its origin and total
 pub record Identity : Type 0 where
@@ -28,8 +30,17 @@ pub record Identity : Type 0 where
 abbrev pub identityOf : Message → Identity
 identityOf m = record { origin = originOf (m .origin); total = m .total }
 
+-- "Absent equals only absent" (document 02, Req 06)
+abbrev pub sameGroup : Optional16 → Optional16 → Bool
+sameGroup Optional16.Absent Optional16.Absent = true
+sameGroup Optional16.Absent (Optional16.Is b) = false
+sameGroup (Optional16.Is a) Optional16.Absent = false
+sameGroup (Optional16.Is a) (Optional16.Is b) = eqb a b
+
 unfoldable pub sameOrigin : Origin → Origin → Bool
-sameOrigin a b = samePublisher (a .publisher) (b .publisher) && (eqb (a .writer) (b .writer) && eqb (a .number) (b .number))
+sameOrigin a b =
+    samePublisher (a .publisher) (b .publisher)
+    && (sameGroup (a .group) (b .group) && (eqb (a .writer) (b .writer) && eqb (a .number) (b .number)))
 
 unfoldable pub sameMessage : Identity → Identity → Bool
 sameMessage a b = sameOrigin (a .origin) (b .origin) && eqb (a .total) (b .total)

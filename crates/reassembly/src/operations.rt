@@ -84,9 +84,11 @@ fn message_of(s: &[u8], c: ChunkPlace) -> Message
 {
     let id = c.publisher;
     let publisher = publisher_record(s, id, c.publisher_end);
+    let group = c.group;
     let p = c.payload;
     let origin = MessageOrigin {
         publisher,
+        group,
         writer: c.writer,
         number: p.number,
     };

@@ -1,15 +1,17 @@
 // The record of a partial, and when it is sound.
 ghost use mathlib.Core.Path.{_≡_};
-ghost use Rattle.reassembly.specs.Record.{originOf, sameOrigin, identityOf, sameMessage, soundBy};
+ghost use Rattle.reassembly.specs.Record.{sameGroup, originOf, sameOrigin, identityOf, sameMessage, soundBy};
 ghost use Rattle.marks.specs.Marks.{inUse};
 use marks::marks_for;
 use publisher_id::publisher_record::PublisherRecord;
 use publisher_id::publisher_record::publisher_fits;
 use publisher_id::publisher_record::same_publisher;
+use wire::optional::Optional16;
 
-// Where a message comes from: publisher, DataSetWriterId and MessageSequenceNumber.
+// Where a message comes from: publisher, WriterGroupId where there is one, DataSetWriterId and MessageSequenceNumber.
 pub struct MessageOrigin {
     pub publisher: PublisherRecord,
+    pub group: Optional16,
     pub writer: u16,
     pub number: u16,
 }
@@ -26,13 +28,34 @@ pub struct PartialRecord {
     pub message: Message,
 }
 
-// Whether two messages have the same origin: publisher, writer and number.
+// Whether two messages have the same WriterGroupId: absent equals only absent.
+fn same_group(a: Optional16, b: Optional16) -> bool
+    ensures { λ r. ⌜ r ≡ sameGroup a b ⌝ }
+{
+    match a {
+        Optional16::Absent => match b {
+            Optional16::Absent => true,
+            Optional16::Is(_) => false,
+        },
+        Optional16::Is(x) => match b {
+            Optional16::Absent => false,
+            Optional16::Is(y) => x == y,
+        },
+    }
+}
+
+// Whether two messages have the same origin: publisher, group, writer and number.
 pub(crate) fn same_origin(a: MessageOrigin, b: MessageOrigin) -> bool
     ensures { λ r. ⌜ r ≡ sameOrigin (originOf a) (originOf b) ⌝ }
 {
     let p = a.publisher;
     let q = b.publisher;
     if !same_publisher(p, q) {
+        return false;
+    }
+    let g = a.group;
+    let h = b.group;
+    if !same_group(g, h) {
         return false;
     }
     if a.writer != b.writer {

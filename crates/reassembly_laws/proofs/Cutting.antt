@@ -185,7 +185,7 @@ module _ (id : Identity) (p : List ℕ) (size : ℕ) where
       let d₂ : chunkData (got c (length s)) s ≡ cutData p size k = rw e at d in
       record {
         message = chunkMessage c s;
-        same = λ i. record { origin = record { publisher = w .publisher i; writer = w .writer i; number = id .origin .number }; total = t i };
+        same = λ i. record { origin = record { publisher = w .publisher i; group = w .group i; writer = w .writer i; number = id .origin .number }; total = t i };
         reads = reading-got (a .sizes) s c (length s) e ∙ ap (chunk (chunkMessage c s) (k * size)) d₂;
         inside = cuts (length p) size k (w .accepted) .inside;
       }

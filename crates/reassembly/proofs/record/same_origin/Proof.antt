@@ -15,17 +15,38 @@ returns c =
 returns-2 : tie.Need-returns-2
 unfolding sameOrigin
 returns-2 c =
-    let at-if1 = c .before .before .before in
+    let at-same-group = c .before in
+    let at-if1 = at-same-group .before in
     let at-same-publisher = at-if1 .before in
-    simp (sym (at-same-publisher .same-publisher .ensures) ∙ not-false _ (at-if1 .if1 .left), ne-eqb _ _ (c .if2 .taken))
+    simp (
+      sym (at-same-publisher .same-publisher .ensures) ∙ not-false _ (at-if1 .if1 .left),
+      sym (at-same-group .same-group .ensures) ∙ not-true _ (c .if2 .taken),
+    )
 
 returns-3 : tie.Need-returns-3
+unfolding sameOrigin
 returns-3 c =
-    let at-if2 = c .before .before in
-    let at-if1 = at-if2 .before .before .before in
+    let at-if2 = c .before .before .before in
+    let at-same-group = at-if2 .before in
+    let at-if1 = at-same-group .before in
+    let at-same-publisher = at-if1 .before in
+    simp (
+      sym (at-same-publisher .same-publisher .ensures) ∙ not-false _ (at-if1 .if1 .left),
+      sym (at-same-group .same-group .ensures) ∙ not-false _ (at-if2 .if2 .left),
+      ne-eqb _ _ (c .if3 .taken),
+    )
+
+returns-4 : tie.Need-returns-4
+returns-4 c =
+    let at-if3 = c .before .before in
+    let at-if2 = at-if3 .before .before .before in
+    let at-same-group = at-if2 .before in
+    let at-if1 = at-same-group .before in
     let at-same-publisher = at-if1 .before in
     let a = at-same-publisher .before .before .before .args in
-    sym (same-origin-number (originOf (a .a)) (originOf (a .b)) (sym (at-same-publisher .same-publisher .ensures) ∙ not-false _ (at-if1 .if1 .left)) (at-if2 .if2 .left))
+    sym (same-origin-number (originOf (a .a)) (originOf (a .b)) (sym (at-same-publisher .same-publisher .ensures) ∙ not-false _ (at-if1 .if1 .left))
+    (sym (at-same-group .same-group .ensures) ∙ not-false _ (at-if2 .if2 .left)) (at-if3 .if3 .left))
 
 pub same-origin-spec : {M : Type 1} → statement M
-same-origin-spec = tie.close (tie.spec (λ c κs. search needs) returns returns-2 returns-3)
+same-origin-spec =
+    tie.close (tie.spec (λ c κs. search needs) returns (λ c κs. search needs) returns-2 returns-3 returns-4)
