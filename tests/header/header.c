@@ -325,6 +325,8 @@ static void reassembled(void)
     d.text_length = 3;
     d.envelope.payload_header = UADP_HEADER_CHUNK;
     d.envelope.chunk_writer = 21;
+    d.envelope.group = UADP_GROUP_PRESENT | UADP_GROUP_WRITER_GROUP_ID;
+    d.envelope.writer_group_id = 0x0605;
     d.messages = cut;
     for (k = 0; k < 3; k++) {
         uadp_result r = uadp_cut(message, sizeof message, 0x0807, 4, k, cut, sizeof cut);
@@ -339,7 +341,13 @@ static void reassembled(void)
     CHECK(memcmp(a.payload, message, sizeof message) == 0);
     CHECK(a.record.started == 1 && a.record.publisher_type == UADP_ID_STRING && a.record.publisher == 3);
     CHECK(a.record.writer == 21 && a.record.number == 0x0807 && a.record.total == sizeof message);
-    CHECK(memcmp(a.record.text, "abc", 3) == 0);
+    CHECK(a.record.has_group == 1 && a.record.writer_group_id == 0x0605 && memcmp(a.record.text, "abc", 3) == 0);
+    d.envelope.writer_group_id = 0x0606;
+    k = UADP_VALUE(uadp_write(&d, NULL, datagram, sizeof datagram));
+    CHECK(k > 0 && refused(uadp_take_in(&a, datagram, k, NULL), UADP_OTHER_MESSAGE, 0));
+    d.envelope.group = UADP_GROUP_PRESENT;
+    k = UADP_VALUE(uadp_write(&d, NULL, datagram, sizeof datagram));
+    CHECK(k > 0 && refused(uadp_take_in(&a, datagram, k, NULL), UADP_OTHER_MESSAGE, 0));
     CHECK(done(uadp_empty(&a), 0) && a.record.started == 0 && done(uadp_complete(&a), 0));
     b.room = 4;
     CHECK(refused(uadp_complete(&b), UADP_UNSOUND, 0));
@@ -389,11 +397,16 @@ static void values_by_name(void)
 static void chunks_by_name(void)
 {
     static const uint8_t chunk[] = {0xD1, 0x81, 0x01, 0x67, 0x12, 21, 0, 7, 8, 4, 0, 0, 0, 11, 0, 0, 0, 2, 0, 0, 0, 9, 9};
+    static const uint8_t grouped[] = {0xF1, 0x81, 0x01, 0x67, 0x12, 1, 5, 6, 21, 0, 7, 8, 4, 0, 0, 0,
+                                      11,   0,    0,    0,    2,    0, 0, 0, 9,  9};
     uadp_chunk_record c = UADP_ZERO;
 
     CHECK(done(uadp_chunk(chunk, sizeof chunk, NULL, &c), 0x0807));
     CHECK(c.publisher_type == UADP_ID_UINT16 && c.publisher == 4711 && c.publisher_end == 5 && c.writer == 21);
     CHECK(c.number == 0x0807 && c.offset == 4 && c.total == 11 && c.data == 21 && c.data_length == 2);
+    CHECK(c.has_group == 0 && c.writer_group_id == 0);
+    CHECK(done(uadp_chunk(grouped, sizeof grouped, NULL, &c), 0x0807) && c.data == 24);
+    CHECK(c.has_group == 1 && c.writer_group_id == 0x0605 && c.writer == 21);
     CHECK(refused(uadp_chunk(full, sizeof full, NULL, &c), UADP_NOT_TAKEN, 0) && c.total == 11);
     CHECK(done(uadp_chunks(11, 4), 3) && done(uadp_chunks(12, 4), 3) && done(uadp_chunks(16384, 1), 16384));
     CHECK(refused(uadp_chunks(11, 0), UADP_DISAGREE, 0) && refused(uadp_chunks(0, 4), UADP_DISAGREE, 0));

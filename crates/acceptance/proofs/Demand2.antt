@@ -128,7 +128,7 @@ module _ (id : Identity) (p : List ℕ) (size : ℕ) where
   is-cut : (k : ℕ) (a : Arrival) → IsWritten id p size k a → IsCut id p size k a
   is-cut k a t =
       let b = datagram.reads-back (t .given) (t .envelope) (a .sizes) (t .configured) (t .entry) (t .exit) (t .n) (t .wrote .0) (t .wrote .1) .0 in
-      let c = cut-wrote p (id .number) size k (t .buffer) (t .m) (t .cut) in
+      let c = cut-wrote p (id .origin .number) size k (t .buffer) (t .m) (t .cut) in
       let m = network.writtenMessage (t .given) (t .envelope) (a .sizes) in
       record {
         message = m;
@@ -136,9 +136,10 @@ module _ (id : Identity) (p : List ℕ) (size : ℕ) where
         envelope = ap (networkMessageAt (a .sizes)) (t .datagram) ∙ b .whole;
         chunk = t .chunk;
         publisher = t .publisher;
+        group = t .group;
         writer = ap chunkWriterOf (t .writer);
         accepted = c .rule;
-        payload = ap (drop (m .payload .first)) (t .datagram) ∙ b .chunk (id .writer) (t .writer) ∙ t .payload ∙ c .bytes;
+        payload = ap (drop (m .payload .first)) (t .datagram) ∙ b .chunk (id .origin .writer) (t .writer) ∙ t .payload ∙ c .bytes;
       }
 
   only-cut : (l : List Arrival) → Only (IsWritten id p size) l → Only (IsCut id p size) l

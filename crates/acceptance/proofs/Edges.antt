@@ -8,7 +8,7 @@ use Rattle.publisher_id.specs.PublisherRecord.{sameText, samePublisher, publish
 use Rattle.reassembly.specs.Views.{dataView, clash, full, overlaid}
 use Rattle.marks.specs.Marks.{marksFor, capacity, marked, markAt, cleared, markAll}
 use Rattle.reassembly.specs.Areas.{markedView}
-use Rattle.reassembly.specs.Record.{sameMessage, soundBy}
+use Rattle.reassembly.specs.Record.{sameOrigin, sameMessage, soundBy}
 use Rattle.reassembly.specs.Reading.{readingAt}
 use Rattle.reassembly.specs.Judge.{judgeReading}
 use Rattle.reassembly.specs.Operations.{put, takeIn, askComplete, judgeHandOut, handOut}
@@ -18,5 +18,5 @@ use Rattle.acceptance.specs.Edges.{table, AllHold}
 -- Every entry of the table holds.
 pub edge-readings : AllHold table
 unfolding widthOf plain variantRule array valueAt orElse overlaid dataView clash full marksFor capacity marked markAt
-    cleared markAll markedView sameText samePublisher publisherFits sameMessage soundBy readingAt judgeReading put takeIn askComplete judgeHandOut handOut
+    cleared markAll markedView sameText samePublisher publisherFits sameOrigin sameMessage soundBy readingAt judgeReading put takeIn askComplete judgeHandOut handOut
 edge-readings = (refl, (refl, (refl, (refl, (refl, (refl, (refl, (refl, (refl, (refl, (refl, (refl, tt))))))))))))

@@ -13,6 +13,7 @@ use Rattle.network_header.specs.declared.header.PayloadHeader.{PayloadHeader}
 use Rattle.network_message_writer.specs.Envelope.{GivenDatagram, datagramOutput}
 use Rattle.round_trip.specs.NetworkMessage.{placesOf}
 use Rattle.chunk.specs.Cutting.{cutAnswer, cutBuffer}
+use Rattle.chunk.specs.Datagram.{chunkGroupOf}
 use Rattle.reassembly.specs.Record.{Identity}
 use Rattle.reassembly_laws.specs.Cutting.{Arrival}
 
@@ -28,9 +29,11 @@ pub record IsWritten (id : Identity) (p : List ℕ) (size k : ℕ) (a : Arrival)
   pub wrote : FitsEnvelope envelope × Writes (datagramOutput given envelope (a .sizes) configured) entry exit (Written.Is n)
   pub datagram : a .datagram ≡ take n exit
   pub chunk : envelope .chunk ≡ true
-  pub writer : envelope .«payload_header» ≡ PayloadHeader.Chunk (id .writer)
-  pub publisher : publisherOf (recordAt (envelope .publisher) (placesOf given envelope .«publisher_end») (a .datagram)) ≡ id .publisher
+  pub writer : envelope .«payload_header» ≡ PayloadHeader.Chunk (id .origin .writer)
+  pub group : chunkGroupOf (envelope .group) ≡ id .origin .group
+  pub publisher : publisherOf
+      (recordAt (envelope .publisher) (placesOf given envelope .«publisher_end») (a .datagram)) ≡ id .origin .publisher
   pub buffer : List ℕ
   pub m : ℕ
-  pub cut : cutAnswer p (id .number) size k (length buffer) ≡ Written.Is m
-  pub payload : given .messages ≡ take m (cutBuffer p (id .number) size k buffer)
+  pub cut : cutAnswer p (id .origin .number) size k (length buffer) ≡ Written.Is m
+  pub payload : given .messages ≡ take m (cutBuffer p (id .origin .number) size k buffer)

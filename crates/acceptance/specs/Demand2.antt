@@ -92,7 +92,7 @@ pub record Demand2 : Type 0 where
   -- Cutting, the envelope's writer, taking in and handing out together: datagrams that were written with the payloads that cutting wrote,
   -- of one publisher and writer, restore the payload, in any order and some of them more than once.
   pub written-and-restored : (id : Identity) (p : List ℕ) (size : ℕ) (l : List Arrival) → AllArrive id p size (IsWritten id p size) l
-      → id .number < 65536 → (s : Partial) → Good s → s .rec .started ≡ false → length p ≤ roomOf s → Restored p l s
+      → id .origin .number < 65536 → (s : Partial) → Good s → s .rec .started ≡ false → length p ≤ roomOf s → Restored p l s
   -- ---- AN ACCEPTED DATAGRAM WRITTEN AGAIN GIVES THE SAME BYTES, BUT FOR THE TWO NAMED CASES.
   pub datagram-again : (sizes s entry exit : List ℕ) (r : Written) (m : NetworkMessage) (n : ℕ) → networkMessageAt sizes s ≡ got m n
       → Writes (datagramSame sizes s) entry exit r → CopiedTo (network.rewritten m s) entry exit r

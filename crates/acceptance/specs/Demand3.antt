@@ -82,7 +82,7 @@ pub record Demand3 : Type 0 where
   pub chunks-restore : (id : Identity) (p : List ℕ) (size : ℕ) (l : List Arrival) → AllArrive id p size (IsChunk id p size) l
       → (s : Partial) → Good s → s .rec .started ≡ false → length p ≤ roomOf s → Restored p l s
   pub cut-and-restored : (id : Identity) (p : List ℕ) (size : ℕ) (l : List Arrival) → AllArrive id p size (IsCut id p size) l
-      → id .number < 65536 → (s : Partial) → Good s → s .rec .started ≡ false → length p ≤ roomOf s → Restored p l s
+      → id .origin .number < 65536 → (s : Partial) → Good s → s .rec .started ≡ false → length p ≤ roomOf s → Restored p l s
   -- ---- "Every refusal leaves all lent bytes and records unchanged", for sound and unsound partials, and hands nothing out.
   pub refused-leaves : (k : Call) (s : Partial) (n place : ℕ) → answers k s ≡ refused n place → leaves k s ≡ s
   pub refused-hands-nothing : (s : Partial) (n place : ℕ) → answers HandOut s ≡ refused n place → handOut s ≡ []

@@ -13,6 +13,7 @@ use Rattle.value.specs.Value.{Measure}
 use Rattle.value.specs.declared.Shape.{Shape}
 use Rattle.publisher_id.specs.declared.publisher.PublisherId.{PublisherId}
 use Rattle.publisher_id.specs.declared.publisher_record.PublisherRecord.{PublisherRecord}
+use Rattle.wire.specs.declared.optional.Optional16.{Optional16}
 use Rattle.reassembly.specs.Record.{Partial, partial}
 use Rattle.reassembly.specs.Machine.{Call, Reply}
 use Rattle.reassembly.specs.Machine.Call.{Take, Ask, HandOut}
@@ -40,7 +41,11 @@ nobody = record { id = PublisherId.Absent; text = [] }
 
 abbrev pub fresh : Partial
 fresh =
-    partial (record { started = false; message = record { publisher = nobody; writer = 0; number = 0; total = 0 } })
+    partial
+    (record {
+      started = false;
+      message = record { origin = record { publisher = nobody; group = Optional16.Absent; writer = 0; number = 0 }; total = 0 };
+    })
     (9 ∷ 9 ∷ 9 ∷ 9 ∷ 9 ∷ []) (1 ∷ 1 ∷ 7 ∷ 1 ∷ 1 ∷ [])
 
 -- "N1 to N7, last 5: received 6 newer, 5 old, 16,389 newer, 16,390 invalid, 49,158 invalid, 49,159 old; last 65,535: 0 newer. V1 `00` is

@@ -5,8 +5,10 @@ use mathlib.Core.List.{List, []}
 use lib.ListN.{take, drop}
 use Rattle.wire.specs.Constants.{NOT_TAKEN}
 use Rattle.wire.specs.Answer.{Answer, got, refused, Reader, andThen}
+use Rattle.wire.specs.declared.optional.Optional16.{Optional16}
 use Rattle.network_message.specs.Envelope.{networkMessageAt}
 use Rattle.network_header.specs.declared.envelope.Envelope.{Envelope}
+use Rattle.network_header.specs.declared.group.GroupHeader.{GroupHeader}
 use Rattle.network_header.specs.declared.header.PayloadHeader.{PayloadHeader}
 use Rattle.chunk.specs.declared.payload.ChunkPayload.{ChunkPayload}
 use Rattle.chunk.specs.declared.datagram.ChunkPlace.{ChunkPlace}
@@ -19,8 +21,20 @@ chunkWriterOf PayloadHeader.Absent = 0
 chunkWriterOf (PayloadHeader.Ids n) = 0
 chunkWriterOf (PayloadHeader.Chunk w) = w
 
+-- "The reassembly record now carries the WriterGroupId, or that there was none" (document 02, Req 06): none without a group header, or
+-- where its flag is off
+abbrev pub chunkGroupOf : GroupHeader → Optional16
+chunkGroupOf GroupHeader.Absent = Optional16.Absent
+chunkGroupOf (GroupHeader.Is g) = g .«writer_group»
+
 abbrev pub placeOf : Envelope → ℕ → ChunkPayload → ChunkPlace
-placeOf e end p = record { publisher = e .publisher; «publisher_end» = end; writer = chunkWriterOf (e .«payload_header»); payload = p }
+placeOf e end p = record {
+  publisher = e .publisher;
+  «publisher_end» = end;
+  group = chunkGroupOf (e .group);
+  writer = chunkWriterOf (e .«payload_header»);
+  payload = p;
+}
 
 -- "without the chunk bit 4, place 0"
 abbrev pub chunkFrom : Envelope → ℕ → Reader ChunkPlace

@@ -3,18 +3,21 @@ use crate::payload::ChunkPayload;
 use crate::payload::ChunkPayloadRead;
 use crate::payload::read_payload;
 use network_header::envelope::Envelope;
+use network_header::group::GroupHeader;
 use network_header::header::PayloadHeader;
 use network_message::envelope::NetworkMessageRead;
 use publisher_id::publisher::PublisherId;
 use wire::constants::NOT_TAKEN;
+use wire::optional::Optional16;
 use wire::part::part;
 ghost use mathlib.Core.Path.{_≡_};
-ghost use Rattle.chunk.specs.Datagram.{chunkWriterOf, chunkFrom, chunkAt, chunkData, answerChunk};
+ghost use Rattle.chunk.specs.Datagram.{chunkWriterOf, chunkGroupOf, chunkFrom, chunkAt, chunkData, answerChunk};
 
-// Whose chunk it is, where a string PublisherId ends, and the chunk's payload.
+// Whose chunk it is, where a string PublisherId ends, its WriterGroupId where it has one, and the chunk's payload.
 pub struct ChunkPlace {
     pub publisher: PublisherId,
     pub publisher_end: usize,
+    pub group: Optional16,
     pub writer: u16,
     pub payload: ChunkPayload,
 }
@@ -36,6 +39,19 @@ fn writer_of(header: PayloadHeader) -> u16
     }
 }
 
+// The WriterGroupId of a chunk's group header: none without a header, or where its flag is off.
+fn group_of(header: GroupHeader) -> Optional16
+    ensures { λ r. ⌜ r ≡ chunkGroupOf header ⌝ }
+{
+    match header {
+        GroupHeader::Absent => Optional16::Absent,
+        GroupHeader::Is(fields) => {
+            let group = fields.writer_group;
+            group
+        }
+    }
+}
+
 // The chunk of an envelope whose payload starts at a position.
 fn read_chunk(s: &[u8], e: Envelope, publisher_end: usize, at: usize) -> ChunkRead
     ensures { λ r. ⌜ answerChunk r ≡ chunkFrom e «publisher_end» (now (s .entry)) at ⌝ }
@@ -46,12 +62,15 @@ fn read_chunk(s: &[u8], e: Envelope, publisher_end: usize, at: usize) -> ChunkRe
     let publisher = e.publisher;
     let header = e.payload_header;
     let writer = writer_of(header);
+    let group_header = e.group;
+    let group = group_of(group_header);
     match read_payload(s, at) {
         ChunkPayloadRead::Refused(n, place) => ChunkRead::Refused(n, place),
         ChunkPayloadRead::Is(payload, next) => ChunkRead::Is(
             ChunkPlace {
                 publisher,
                 publisher_end,
+                group,
                 writer,
                 payload,
             },

@@ -2,22 +2,24 @@
 -- Assumes nothing.
 use Prim.Native.Nat.{ℕ, _+_, _%_, _≤_, _<_}
 use mathlib.Core.Path.{_≡_, refl, ap, sym, _∙_}
-use mathlib.Core.Bool.{Bool, true, false}
-use mathlib.Core.List.{List, [], _++_, append-nil}
+use mathlib.Core.Bool.{Bool, true, false, cond}
+use mathlib.Core.List.{List, [], _∷_, _++_, append-nil}
 use native.Mathlib.Omega.{arith}
 use lib.Dec.{eqb}
 use lib.ListN.{length, getD, take, drop, replicate}
 use lib.Seq.{take-at, drop-at}
+use Rattle.wire.specs.declared.optional.Optional16.{Optional16}
 use Rattle.wire_writer.specs.Store.{laid}
+use Rattle.wire_writer.specs.Fits.{Fits16}
 use Rattle.wire_writer.proofs.Trip.{At, first, second}
 use Rattle.publisher_id.specs.declared.publisher.PublisherId.{PublisherId}
 use Rattle.reassembly.specs.declared.record.PartialRecord.{PartialRecord}
 use Rattle.records.specs.Numbers.{numberAt, numberBytes}
 use Rattle.records.proofs.Storing.{bytes-length}
-use Rattle.records.proofs.ReadBack.{AllFit, number-read, stored-at, publisher-back, number-fits, code-fits, flag-fits}
-use Rattle.records.specs.Items.{flagNumber}
+use Rattle.records.proofs.ReadBack.{AllFit, number-read, stored-at, publisher-back, number-fits, code-fits, flag-fits, has16-bound, value16-bound}
+use Rattle.records.specs.Items.{flagNumber, isOn, has16, value16}
 use Rattle.records.specs.Publisher.{publisherBy}
-use Rattle.partial_record.specs.Partial.{partialIn, partialNumbers, partialBytes, FitsRecord}
+use Rattle.partial_record.specs.Partial.{groupIdIn, partialIn, partialNumbers, partialBytes, FitsRecord}
 use Rattle.partial_record.proofs.Parts.{partial-length}
 
 -- ---- the parts of a partial's record
@@ -32,13 +34,21 @@ text-back t h =
     let k : length t ≤ length (replicate {A = ℕ} 64 0) = omega arith in
     stored-at (replicate 64 0) t k ∙ ap (λ (n : ℕ). t ++ drop n (replicate 64 0)) h ∙ append-nil t
 
+-- a group id, or that there is none
+group-back : (o : Optional16) → Fits16 o → cond (isOn (has16 o)) (Optional16.Is (value16 o % 65536)) Optional16.Absent ≡ o
+group-back Optional16.Absent f = refl
+group-back (Optional16.Is v) f = let e : v % 65536 ≡ v = omega arith in ap Optional16.Is e
+
 -- ---- a record that was stored reads back
 module _ (k : PartialRecord) (r : List ℕ) (f : FitsRecord k) (h : 144 ≤ length r) where
   abbrev id : PublisherId
-  id = k .message .publisher .id
+  id = k .message .origin .publisher .id
 
   abbrev text : List ℕ
-  text = k .message .publisher .text
+  text = k .message .origin .publisher .text
+
+  abbrev group : Optional16
+  group = k .message .origin .group
 
   abbrev numbers : List ℕ
   numbers = partialNumbers k
@@ -51,13 +61,14 @@ module _ (k : PartialRecord) (r : List ℕ) (f : FitsRecord k) (h : 144 ≤ leng
 
   read : (i : ℕ) → i < 10 → numberAt s i ≡ getD numbers i 0
   read i l =
+      let rest : AllFit (has16 group ∷ value16 group ∷ 0 ∷ 0 ∷ []) = (omega (arith, has16-bound group), (omega (arith, value16-bound group (f .group)), (omega arith, (omega arith, tt)))) in
       let fit : AllFit numbers = (
         flag-fits (k .started),
         (
           code-fits id,
           (
             number-fits id (f .id),
-            (omega (arith, f .writer, f .number), (omega (arith, f .writer, f .number), (f .total, (omega arith, (omega arith, (omega arith, (omega arith, tt))))))),
+            (omega (arith, f .writer, f .number), (omega (arith, f .writer, f .number), (f .total, rest))),
           ),
         ),
       ) in
@@ -78,7 +89,8 @@ module _ (k : PartialRecord) (r : List ℕ) (f : FitsRecord k) (h : 144 ≤ leng
       let p : publisherBy (numberAt s 1) (numberAt s 2) ≡ id = rw (read 1 (omega arith), read 2 (omega arith)) (publisher-back id (f .id)) in
       let t : laid (replicate 64 0) 0 (take 64 (drop 80 s)) ≡ text = ap (λ (l : List ℕ). laid (replicate 64 0) 0 l) text-read ∙ text-back text (f .text) in
       let b : eqb (numberAt s 0) 1 ≡ k .started = ap (λ (n : ℕ). eqb n 1) (read 0 (omega arith)) ∙ flag-back (k .started) in
-      let w = small 3 (k .message .writer) (read 3 (omega arith)) (f .writer) in
-      let n = small 4 (k .message .number) (read 4 (omega arith)) (f .number) in
+      let w = small 3 (k .message .origin .writer) (read 3 (omega arith)) (f .writer) in
+      let n = small 4 (k .message .origin .number) (read 4 (omega arith)) (f .number) in
       let z = read 5 (omega arith) in
-      λ i. record { started = b i; message = record { publisher = record { id = p i; text = t i }; writer = w i; number = n i; total = z i } }
+      let g : groupIdIn s ≡ group = rw (read 6 (omega arith), read 7 (omega arith)) (group-back group (f .group)) in
+      λ i. record { started = b i; message = record { origin = record { publisher = record { id = p i; text = t i }; group = g i; writer = w i; number = n i }; total = z i } }

@@ -5,6 +5,7 @@ use mathlib.Core.Path.{_≡_, ap, _∙_}
 use mathlib.Core.List.{List}
 use lib.Dec.{eqb}
 use lib.ListN.{take, drop, replicate}
+use Rattle.wire.specs.declared.optional.Optional16.{Optional16}
 use Rattle.wire_writer.specs.Store.{laid}
 use Rattle.publisher_id.specs.declared.publisher.PublisherId.{PublisherId}
 use Rattle.publisher_id.specs.declared.publisher_record.PublisherRecord.{PublisherRecord}
@@ -12,13 +13,13 @@ use Rattle.reassembly.specs.declared.record.Message.{Message}
 use Rattle.reassembly.specs.declared.record.PartialRecord.{PartialRecord}
 use Rattle.records.specs.Numbers.{numberAt}
 use Rattle.records.specs.Publisher.{publisherBy}
-use Rattle.partial_record.specs.Partial.{publisherIn, messageIn, partialIn}
+use Rattle.partial_record.specs.Partial.{publisherIn, groupIdIn, messageIn, partialIn}
 
 abbrev pub publisherWith : PublisherId → List ℕ → PublisherRecord
 publisherWith i t = record { id = i; text = t }
 
-abbrev pub messageWith : PublisherRecord → ℕ → ℕ → ℕ → Message
-messageWith p a b d = record { publisher = p; writer = a % 65536; number = b % 65536; total = d }
+abbrev pub messageWith : PublisherRecord → Optional16 → ℕ → ℕ → ℕ → Message
+messageWith p g a b d = record { origin = record { publisher = p; group = g; writer = a % 65536; number = b % 65536 }; total = d }
 
 abbrev pub partialWith : ℕ → Message → PartialRecord
 partialWith n m = record { started = eqb n 1; message = m }
@@ -29,11 +30,12 @@ publisher-taken s p u id a b qp qu qa qb qi =
     ap (λ (i : PublisherId). publisherWith i u) (qi ∙ ap (λ (x : ℕ). publisherBy x b) qa ∙ ap (λ (x : ℕ). publisherBy (numberAt s 1) x) qb)
     ∙ ap (λ (t : List ℕ). publisherWith (publisherBy (numberAt s 1) (numberAt s 2)) t) (qu ∙ ap (λ (x : List ℕ). laid (replicate 64 0) 0 x) qp)
 
-pub message-taken : (s : List ℕ) (p : PublisherRecord) (a b d : ℕ) → p ≡ publisherIn s → a ≡ numberAt s 3 → b ≡ numberAt s 4 → d ≡ numberAt s 5
-    → messageWith p a b d ≡ messageIn s
-message-taken s p a b d qp qa qb qd =
-    ap (λ (x : PublisherRecord). messageWith x a b d) qp ∙ ap (λ (x : ℕ). messageWith (publisherIn s) x b d) qa
-    ∙ ap (λ (x : ℕ). messageWith (publisherIn s) (numberAt s 3) x d) qb ∙ ap (λ (x : ℕ). messageWith (publisherIn s) (numberAt s 3) (numberAt s 4) x) qd
+pub message-taken : (s : List ℕ) (p : PublisherRecord) (g : Optional16) (a b d : ℕ) → p ≡ publisherIn s → g ≡ groupIdIn s → a ≡ numberAt s 3 → b ≡ numberAt s 4
+    → d ≡ numberAt s 5 → messageWith p g a b d ≡ messageIn s
+message-taken s p g a b d qp qg qa qb qd =
+    ap (λ (x : PublisherRecord). messageWith x g a b d) qp ∙ ap (λ (x : Optional16). messageWith (publisherIn s) x a b d) qg
+    ∙ ap (λ (x : ℕ). messageWith (publisherIn s) (groupIdIn s) x b d) qa ∙ ap (λ (x : ℕ). messageWith (publisherIn s) (groupIdIn s) (numberAt s 3) x d) qb
+    ∙ ap (λ (x : ℕ). messageWith (publisherIn s) (groupIdIn s) (numberAt s 3) (numberAt s 4) x) qd
 
 pub partial-taken : (s : List ℕ) (n : ℕ) (m : Message) → n ≡ numberAt s 0 → m ≡ messageIn s → partialWith n m ≡ partialIn s
 partial-taken s n m qn qm = ap (λ (x : ℕ). partialWith x m) qn ∙ ap (λ (x : Message). partialWith (numberAt s 0) x) qm

@@ -1,6 +1,8 @@
 // The chunk record (include/uadp.h): whose chunk a datagram is, and where its data stands.
 use chunk::datagram::ChunkPlace;
 use publisher_id::publisher_record::code;
+use records::items::has16;
+use records::items::value16;
 use records::numbers::put_numbers;
 use records::publisher::publisher_number;
 ghost use mathlib.Core.Path.{_≡_};
@@ -13,6 +15,7 @@ pub fn put_chunk(out: &mut [u8], c: ChunkPlace)
     ensures { λ _. ⌜ now (out .exit) ≡ laid (now (out .entry)) 0 (numberBytes (chunkNumbers c)) ⌝ }
 {
     let publisher = c.publisher;
+    let group = c.group;
     let payload = c.payload;
     let numbers = [
         code(publisher),
@@ -24,8 +27,8 @@ pub fn put_chunk(out: &mut [u8], c: ChunkPlace)
         payload.total as u64,
         payload.first as u64,
         payload.length as u64,
-        0,
-        0,
+        has16(group),
+        value16(group),
         0,
         0,
         0,

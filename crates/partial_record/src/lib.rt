@@ -1,23 +1,28 @@
-// The record of a partial: six numbers, four spare ones that hold 0, and 64 bytes for the text of a string PublisherId. The record of a
+// The record of a partial: eight numbers, two spare ones that hold 0, and 64 bytes for the text of a string PublisherId. The record of a
 // chunk stands in its own module.
 pub mod chunk_record;
 
 use publisher_id::publisher_record::PublisherRecord;
 use publisher_id::publisher_record::code;
 use reassembly::Message;
+use reassembly::MessageOrigin;
 use reassembly::PartialRecord;
 use records::items::flag_number;
+use records::items::has16;
+use records::items::is_on;
+use records::items::value16;
 use records::numbers::number;
 use records::numbers::put_numbers;
 use records::publisher::publisher_by;
 use records::publisher::publisher_number;
 use records::sizes::PARTIAL_SIZE;
 use wire::constants::MOST_TEXT_ID;
+use wire::optional::Optional16;
 use wire::part::part;
 use wire_writer::store::put_run;
 ghost use mathlib.Core.Path.{_≡_};
 ghost use Rattle.wire_writer.specs.Store.{laid};
-ghost use Rattle.partial_record.specs.Partial.{publisherIn, messageIn, partialIn, partialBytes};
+ghost use Rattle.partial_record.specs.Partial.{publisherIn, groupIdIn, messageIn, partialIn, partialBytes};
 
 // Where the text stands.
 const TEXT_AT: usize = 80;
@@ -31,14 +36,29 @@ fn publisher_in(s: &[u8]) -> PublisherRecord
     PublisherRecord { id, text }
 }
 
+// The WriterGroupId, where it is said to be there.
+fn group_id_in(s: &[u8]) -> Optional16
+    ensures { λ r. ⌜ r ≡ groupIdIn (now (s .entry)) ⌝ }
+{
+    if is_on(number(s, 6)) {
+        return Optional16::Is((number(s, 7) % 65536) as u16);
+    }
+    Optional16::Absent
+}
+
 fn message_in(s: &[u8]) -> Message
     ensures { λ r. ⌜ r ≡ messageIn (now (s .entry)) ⌝ }
 {
     let publisher = publisher_in(s);
-    Message {
+    let group = group_id_in(s);
+    let origin = MessageOrigin {
         publisher,
+        group,
         writer: (number(s, 3) % 65536) as u16,
         number: (number(s, 4) % 65536) as u16,
+    };
+    Message {
+        origin,
         total: number(s, 5) as usize,
     }
 }
@@ -62,18 +82,20 @@ pub fn put_partial(out: &mut [u8], rec: PartialRecord)
         return;
     }
     let message = rec.message;
-    let publisher = message.publisher;
+    let origin = message.origin;
+    let publisher = origin.publisher;
+    let group = origin.group;
     let id = publisher.id;
     let text = publisher.text;
     let numbers = [
         flag_number(rec.started),
         code(id),
         publisher_number(id),
-        message.writer as u64,
-        message.number as u64,
+        origin.writer as u64,
+        origin.number as u64,
         message.total as u64,
-        0,
-        0,
+        has16(group),
+        value16(group),
         0,
         0,
     ];

@@ -37,7 +37,7 @@ use Rattle.reassembly.proofs.JudgeLaws
 pub record GoodMessage (m : Message) (n : ℕ) : Type 0 where
   pub some : 1 ≤ m .total
   pub room : m .total ≤ n
-  pub publisher : publisherFits (m .publisher) ≡ true
+  pub publisher : publisherFits (m .origin .publisher) ≡ true
 
 fit-sound : (L : Layout) (r : PartialRecord) (n k : ℕ) → marksFor L n ≡ k → GoodMessage (r .message) n → soundBy L r n k ≡ true
 unfolding soundBy

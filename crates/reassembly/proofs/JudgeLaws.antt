@@ -47,7 +47,7 @@ module _ (s : Partial) (e : sound s ≡ true) where
   unfolding soundBy
   sound-lengths = eqb-true (marksFor (s .layout) (length (s .payload))) (length (s .marks)) (and-left (eqb (marksFor (s .layout) (length (s .payload))) (length (s .marks))) _ e)
 
-  sound-started : s .rec .started ≡ true → (leb 1 (s .rec .message .total) && (leb (s .rec .message .total) (length (s .payload)) && publisherFits (s .rec .message .publisher))) ≡ true
+  sound-started : s .rec .started ≡ true → (leb 1 (s .rec .message .total) && (leb (s .rec .message .total) (length (s .payload)) && publisherFits (s .rec .message .origin .publisher))) ≡ true
   unfolding soundBy
   sound-started h = rw h at (and-right (eqb (marksFor (s .layout) (length (s .payload))) (length (s .marks))) _ e)
 
@@ -57,7 +57,7 @@ module _ (s : Partial) (e : sound s ≡ true) where
   pub sound-total : s .rec .started ≡ true → s .rec .message .total ≤ length (s .payload)
   sound-total h = leb-true _ _ (and-left (leb (s .rec .message .total) (length (s .payload))) _ (and-right (leb 1 (s .rec .message .total)) _ (sound-started h)))
 
-  pub sound-publisher : s .rec .started ≡ true → publisherFits (s .rec .message .publisher) ≡ true
+  pub sound-publisher : s .rec .started ≡ true → publisherFits (s .rec .message .origin .publisher) ≡ true
   sound-publisher h = and-right (leb (s .rec .message .total) (length (s .payload))) _ (and-right (leb 1 (s .rec .message .total)) _ (sound-started h))
 
   pub sound-marks : (t : ℕ) → t ≤ length (s .payload) → marksFor (s .layout) t ≤ length (s .marks)
@@ -170,8 +170,8 @@ module _ (s : Partial) (x : Reading) where
 
 -- a record of a chunk's message whose publisher was copied
 pub message-is : (c : ChunkPlace) (s : List ℕ) (p : PublisherRecord) → p ≡ recordAt (c .publisher) (c .«publisher_end») s
-    → _≡_ {A = Message} (record { publisher = p; writer = c .writer; number = c .payload .number; total = c .payload .total }) (chunkMessage c s)
-message-is c s p e = λ i. record { publisher = e i; writer = c .writer; number = c .payload .number; total = c .payload .total }
+    → _≡_ {A = Message} (record { origin = record { publisher = p; group = c .group; writer = c .writer; number = c .payload .number }; total = c .payload .total }) (chunkMessage c s)
+message-is c s p e = λ i. record { origin = record { publisher = e i; group = c .group; writer = c .writer; number = c .payload .number }; total = c .payload .total }
 
 module _ (s : Partial) (sizes d : List ℕ) where
   pub take-refusal : sound s ≡ true → (n p : ℕ) → chunkAt sizes d ≡ refused n p → takeIn s (readingAt sizes d) ≡ record { verdict = Refused n p; after = s }

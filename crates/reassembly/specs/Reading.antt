@@ -18,9 +18,12 @@ pub data Reading : Type 0 where
 -- the record of a chunk's message
 abbrev pub chunkMessage : ChunkPlace → List ℕ → Message
 chunkMessage c s = record {
-  publisher = recordAt (c .publisher) (c .«publisher_end») s;
-  writer = c .writer;
-  number = c .payload .number;
+  origin = record {
+    publisher = recordAt (c .publisher) (c .«publisher_end») s;
+    group = c .group;
+    writer = c .writer;
+    number = c .payload .number;
+  };
   total = c .payload .total;
 }
 
@@ -34,7 +37,7 @@ readingAt sizes s = readingBy (chunkAt sizes s) s
 
 -- a chunk that a sound partial can take in, as every chunk with no fault of its own is: at is its offset, n the length of its data
 pub record GoodChunk (m : Message) (at n : ℕ) : Type 0 where
-  pub publisher : publisherFits (m .publisher) ≡ true
+  pub publisher : publisherFits (m .origin .publisher) ≡ true
   pub some : 1 ≤ m .total
   pub fits : at + n ≤ m .total
 

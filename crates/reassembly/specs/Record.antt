@@ -1,29 +1,49 @@
 -- A partial: its record and its two areas, and when it is sound.
 use Prim.Native.Nat.{ℕ}
-use mathlib.Core.Bool.{Bool, true, not, _&&_, _||_}
+use mathlib.Core.Bool.{Bool, true, false, not, _&&_, _||_}
 use mathlib.Core.Path.{_≡_}
 use mathlib.Core.List.{List}
 use lib.ListN.{length}
 use lib.Dec.{leb, eqb}
+use Rattle.wire.specs.declared.optional.Optional16.{Optional16}
 use Rattle.marks.specs.Marks.{Layout, inUse, marksFor}
 use Rattle.publisher_id.specs.PublisherRecord.{Publisher, publisherOf, samePublisher, publisherFits}
 use Rattle.reassembly.specs.declared.record.Message.{Message}
+use Rattle.reassembly.specs.declared.record.MessageOrigin.{MessageOrigin}
 use Rattle.reassembly.specs.declared.record.PartialRecord.{PartialRecord}
 
--- which message: publisher, writer id, message number and total
-pub record Identity : Type 0 where
+-- where a message comes from: publisher, group id or that there was none, writer id and message number
+pub record Origin : Type 0 where
   pub publisher : Publisher
+  pub group : Optional16
   pub writer : ℕ
   pub number : ℕ
+
+abbrev pub originOf : MessageOrigin → Origin
+originOf o = record { publisher = publisherOf (o .publisher); group = o .group; writer = o .writer; number = o .number }
+
+-- which message: its origin and total
+pub record Identity : Type 0 where
+  pub origin : Origin
   pub total : ℕ
 
 abbrev pub identityOf : Message → Identity
-identityOf m = record { publisher = publisherOf (m .publisher); writer = m .writer; number = m .number; total = m .total }
+identityOf m = record { origin = originOf (m .origin); total = m .total }
+
+-- "Absent equals only absent" (document 02, Req 06)
+abbrev pub sameGroup : Optional16 → Optional16 → Bool
+sameGroup Optional16.Absent Optional16.Absent = true
+sameGroup Optional16.Absent (Optional16.Is b) = false
+sameGroup (Optional16.Is a) Optional16.Absent = false
+sameGroup (Optional16.Is a) (Optional16.Is b) = eqb a b
+
+unfoldable pub sameOrigin : Origin → Origin → Bool
+sameOrigin a b =
+    samePublisher (a .publisher) (b .publisher)
+    && (sameGroup (a .group) (b .group) && (eqb (a .writer) (b .writer) && eqb (a .number) (b .number)))
 
 unfoldable pub sameMessage : Identity → Identity → Bool
-sameMessage a b =
-    samePublisher (a .publisher) (b .publisher)
-    && (eqb (a .writer) (b .writer) && (eqb (a .number) (b .number) && eqb (a .total) (b .total)))
+sameMessage a b = sameOrigin (a .origin) (b .origin) && eqb (a .total) (b .total)
 
 -- a partial is a record with two lent areas, payload and marks, and the layout of its marks
 pub record Partial : Type 0 where
@@ -46,7 +66,7 @@ unfoldable pub soundBy : Layout → PartialRecord → ℕ → ℕ → Bool
 soundBy L r n k =
     eqb (marksFor L n) k
     && (not (r .started)
-    || (leb 1 (r .message .total) && (leb (r .message .total) n && publisherFits (r .message .publisher))))
+    || (leb 1 (r .message .total) && (leb (r .message .total) n && publisherFits (r .message .origin .publisher))))
 
 abbrev pub sound : Partial → Bool
 sound s = soundBy (s .layout) (s .rec) (length (s .payload)) (length (s .marks))

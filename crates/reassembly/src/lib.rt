@@ -14,6 +14,7 @@ pub use operations::hand_out;
 pub use operations::hand_out_verdict;
 pub use operations::take_in;
 pub use record::Message;
+pub use record::MessageOrigin;
 pub use record::PartialRecord;
 pub use verdict::Completeness;
 pub use verdict::Verdict;

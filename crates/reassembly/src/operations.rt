@@ -17,6 +17,7 @@ use crate::areas::store_data;
 use crate::judge::judge_chunk;
 use crate::judge::judge_combine;
 use crate::record::Message;
+use crate::record::MessageOrigin;
 use crate::record::PartialRecord;
 use crate::record::is_sound;
 use crate::verdict::Completeness;
@@ -83,11 +84,16 @@ fn message_of(s: &[u8], c: ChunkPlace) -> Message
 {
     let id = c.publisher;
     let publisher = publisher_record(s, id, c.publisher_end);
+    let group = c.group;
     let p = c.payload;
-    Message {
+    let origin = MessageOrigin {
         publisher,
+        group,
         writer: c.writer,
         number: p.number,
+    };
+    Message {
+        origin,
         total: p.total,
     }
 }

@@ -1,17 +1,24 @@
 // The record of a partial, and when it is sound.
 ghost use mathlib.Core.Path.{_≡_};
-ghost use Rattle.reassembly.specs.Record.{identityOf, sameMessage, soundBy};
+ghost use Rattle.reassembly.specs.Record.{sameGroup, originOf, sameOrigin, identityOf, sameMessage, soundBy};
 ghost use Rattle.marks.specs.Marks.{inUse};
 use marks::marks_for;
 use publisher_id::publisher_record::PublisherRecord;
 use publisher_id::publisher_record::publisher_fits;
 use publisher_id::publisher_record::same_publisher;
+use wire::optional::Optional16;
 
-// Which message: publisher, DataSetWriterId, MessageSequenceNumber and TotalSize.
-pub struct Message {
+// Where a message comes from: publisher, WriterGroupId where there is one, DataSetWriterId and MessageSequenceNumber.
+pub struct MessageOrigin {
     pub publisher: PublisherRecord,
+    pub group: Optional16,
     pub writer: u16,
     pub number: u16,
+}
+
+// Which message: its origin and TotalSize.
+pub struct Message {
+    pub origin: MessageOrigin,
     pub total: usize,
 }
 
@@ -21,19 +28,49 @@ pub struct PartialRecord {
     pub message: Message,
 }
 
-// Whether two messages are the same: publisher, writer, number and total.
-pub(crate) fn same_message(a: Message, b: Message) -> bool
-    ensures { λ r. ⌜ r ≡ sameMessage (identityOf a) (identityOf b) ⌝ }
+// Whether two messages have the same WriterGroupId: absent equals only absent.
+fn same_group(a: Optional16, b: Optional16) -> bool
+    ensures { λ r. ⌜ r ≡ sameGroup a b ⌝ }
+{
+    match a {
+        Optional16::Absent => match b {
+            Optional16::Absent => true,
+            Optional16::Is(_) => false,
+        },
+        Optional16::Is(x) => match b {
+            Optional16::Absent => false,
+            Optional16::Is(y) => x == y,
+        },
+    }
+}
+
+// Whether two messages have the same origin: publisher, group, writer and number.
+pub(crate) fn same_origin(a: MessageOrigin, b: MessageOrigin) -> bool
+    ensures { λ r. ⌜ r ≡ sameOrigin (originOf a) (originOf b) ⌝ }
 {
     let p = a.publisher;
     let q = b.publisher;
     if !same_publisher(p, q) {
         return false;
     }
+    let g = a.group;
+    let h = b.group;
+    if !same_group(g, h) {
+        return false;
+    }
     if a.writer != b.writer {
         return false;
     }
-    if a.number != b.number {
+    a.number == b.number
+}
+
+// Whether two messages are the same: origin and total.
+pub(crate) fn same_message(a: Message, b: Message) -> bool
+    ensures { λ r. ⌜ r ≡ sameMessage (identityOf a) (identityOf b) ⌝ }
+{
+    let p = a.origin;
+    let q = b.origin;
+    if !same_origin(p, q) {
         return false;
     }
     a.total == b.total
@@ -56,6 +93,7 @@ pub(crate) fn is_sound(rec: PartialRecord, payload_len: usize, marks_len: usize)
     if payload_len < m.total {
         return false;
     }
-    let p = m.publisher;
-    publisher_fits(p)
+    let origin = m.origin;
+    let publisher = origin.publisher;
+    publisher_fits(publisher)
 }

@@ -174,17 +174,18 @@ module _ (id : Identity) (p : List ℕ) (size : ℕ) where
           )
 
   -- ---- WHAT CUTTING WROTE, after an accepted chunk's envelope, reads as that chunk
-  cut-is-chunk : (k : ℕ) (a : Arrival) → id .number < 65536 → id .total ≡ length p → IsCut id p size k a → IsChunk id p size k a
+  cut-is-chunk : (k : ℕ) (a : Arrival) → id .origin .number < 65536 → id .total ≡ length p → IsCut id p size k a → IsChunk id p size k a
   cut-is-chunk k a hn long w =
       let s = a .datagram in
-      let c = placeOf (w .message .envelope) (w .message .places .«publisher_end») (cutPlace p (id .number) size k hn (w .accepted) (w .at)) in
-      let e : chunkAt (a .sizes) s ≡ got c (length s) = datagram-back p (id .number) size k hn (w .accepted) (a .sizes) s (w .message) (w .at) (w .envelope) (w .chunk) (w .payload) in
-      let d : chunkData (chunkAt (a .sizes) s) s ≡ cutData p size k = data-back p (id .number) size k hn (w .accepted) (a .sizes) s (w .message) (w .at) (w .envelope) (w .chunk) (w .payload) in
+      let c = placeOf (w .message .envelope) (w .message .places .«publisher_end») (cutPlace p (id .origin .number) size k hn (w .accepted) (w .at)) in
+      let e : chunkAt (a .sizes) s ≡ got c (length s) = datagram-back p (id .origin .number) size k hn (w .accepted) (a .sizes) s (w .message) (w .at) (w .envelope) (w .chunk) (w .payload) in
+      let d : chunkData (chunkAt (a .sizes) s) s ≡ cutData p size k =
+      data-back p (id .origin .number) size k hn (w .accepted) (a .sizes) s (w .message) (w .at) (w .envelope) (w .chunk) (w .payload) in
       let t : length p ≡ id .total = sym long in
       let d₂ : chunkData (got c (length s)) s ≡ cutData p size k = rw e at d in
       record {
         message = chunkMessage c s;
-        same = λ i. record { publisher = w .publisher i; writer = w .writer i; number = id .number; total = t i };
+        same = λ i. record { origin = record { publisher = w .publisher i; group = w .group i; writer = w .writer i; number = id .origin .number }; total = t i };
         reads = reading-got (a .sizes) s c (length s) e ∙ ap (chunk (chunkMessage c s) (k * size)) d₂;
         inside = cuts (length p) size k (w .accepted) .inside;
       }
@@ -208,7 +209,7 @@ module _ (id : Identity) (p : List ℕ) (size : ℕ) where
       }
 
   -- ---- A PAYLOAD CUT AND RESTORED: the same of datagrams with what cutting wrote for the chunks
-  pub all-cuts-restore : (l : List Arrival) → AllArrive id p size (IsCut id p size) l → id .number < 65536 → (s : Partial) → Good s → s .rec .started ≡ false → length p ≤ length (s .payload)
+  pub all-cuts-restore : (l : List Arrival) → AllArrive id p size (IsCut id p size) l → id .origin .number < 65536 → (s : Partial) → Good s → s .rec .started ≡ false → length p ≤ length (s .payload)
       → Restored p l s
   all-cuts-restore l all hn =
       let f : (k : ℕ) (a : Arrival) → IsCut id p size k a → IsChunk id p size k a = λ k a w. cut-is-chunk k a hn (all .total) w in

@@ -8,7 +8,7 @@ use lib.ListN.{length, drop}
 use Rattle.wire.specs.Answer.{got}
 use Rattle.publisher_id.specs.PublisherRecord.{publisherOf, recordAt}
 use Rattle.network_message.specs.Envelope.{NetworkMessage, networkMessageAt}
-use Rattle.chunk.specs.Datagram.{chunkWriterOf}
+use Rattle.chunk.specs.Datagram.{chunkWriterOf, chunkGroupOf}
 use Rattle.chunk.specs.Cutting.{cutData, chunkBytes, cutRule}
 use Rattle.reassembly.specs.Record.{Identity, identityOf, Partial}
 use Rattle.reassembly.specs.Reading.{readingAt}
@@ -42,16 +42,18 @@ module _ (id : Identity) (p : List ℕ) (size : ℕ) where
     pub reads : readingAt (a .sizes) (a .datagram) ≡ chunk message (k * size) (cutData p size k)
     pub inside : k * size < length p
 
-  -- it has an accepted chunk's envelope of that publisher and writer, and its payload is what cutting wrote for chunk k
+  -- it has an accepted chunk's envelope of that publisher, group and writer, and its payload is what cutting wrote for chunk k
   pub record IsCut (k : ℕ) (a : Arrival) : Type 0 where
     pub message : NetworkMessage
     pub at : ℕ
     pub envelope : networkMessageAt (a .sizes) (a .datagram) ≡ got message at
     pub chunk : message .envelope .chunk ≡ true
-    pub publisher : publisherOf (recordAt (message .envelope .publisher) (message .places .«publisher_end») (a .datagram)) ≡ id .publisher
-    pub writer : chunkWriterOf (message .envelope .«payload_header») ≡ id .writer
+    pub publisher : publisherOf
+        (recordAt (message .envelope .publisher) (message .places .«publisher_end») (a .datagram)) ≡ id .origin .publisher
+    pub group : chunkGroupOf (message .envelope .group) ≡ id .origin .group
+    pub writer : chunkWriterOf (message .envelope .«payload_header») ≡ id .origin .writer
     pub accepted : cutRule (length p) size k ≡ 0
-    pub payload : drop at (a .datagram) ≡ chunkBytes p (id .number) size k
+    pub payload : drop at (a .datagram) ≡ chunkBytes p (id .origin .number) size k
 
 -- every arrival is of some chunk k
 abbrev pub Only : (ℕ → Arrival → Type 0) → List Arrival → Type 0

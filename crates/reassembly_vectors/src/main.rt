@@ -10,7 +10,7 @@
 // is a heading.
 //
 // A record lists its parts: `s` 1 where it is started, `h` a UInt16, `d` a UInt32 or `t` the length of a string as PublisherId, `x` the
-// bytes of the text, `w` DataSetWriterId, `n` number, `l` total.
+// bytes of the text, `g` WriterGroupId where there is one, `w` DataSetWriterId, `n` number, `l` total.
 use crate::calls::called;
 use crate::calls::new;
 use libc::STDIN_FILENO;

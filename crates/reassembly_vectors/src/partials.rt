@@ -2,11 +2,13 @@
 use publisher_id::publisher::PublisherId;
 use publisher_id::publisher_record::PublisherRecord;
 use reassembly::Message;
+use reassembly::MessageOrigin;
 use reassembly::PartialRecord;
 use text::decimal::Decimal;
 use vector_lines::lines::lettered;
 use vector_lines::lines::low16;
 use vector_lines::lines::numbered;
+use wire::optional::Optional16;
 
 // A partial with areas of 8 bytes.
 pub struct Part {
@@ -20,12 +22,15 @@ pub fn record(parts: &[u8]) -> PartialRecord {
     PartialRecord {
         started: numbered(parts, b's') == 1,
         message: Message {
-            publisher: PublisherRecord {
-                id: publisher(parts),
-                text: [(numbered(parts, b'x') % 256) as u8; 64],
+            origin: MessageOrigin {
+                publisher: PublisherRecord {
+                    id: publisher(parts),
+                    text: [(numbered(parts, b'x') % 256) as u8; 64],
+                },
+                group: group(parts),
+                writer: low16(numbered(parts, b'w')),
+                number: low16(numbered(parts, b'n')),
             },
-            writer: low16(numbered(parts, b'w')),
-            number: low16(numbered(parts, b'n')),
             total: numbered(parts, b'l'),
         },
     }
@@ -40,6 +45,13 @@ pub fn with_record(p: Part, rec: PartialRecord) -> Part {
         payload,
         marks,
     }
+}
+
+fn group(parts: &[u8]) -> Optional16 {
+    if let Decimal::Is(n, _) = lettered(parts, b'g') {
+        return Optional16::Is((n % 65536) as u16);
+    }
+    Optional16::Absent
 }
 
 fn publisher(parts: &[u8]) -> PublisherId {

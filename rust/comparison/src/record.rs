@@ -372,6 +372,7 @@ fn group_of(record: &[u8]) -> Group {
 pub fn partial_of(record: &[u8]) -> Option<Record> {
     (number(record, 0) == 1).then(|| Record {
         publisher: kept_id_of(record),
+        group: (number(record, 6) != 0).then(|| number(record, 7) as u16),
         writer: number(record, 3) as u16,
         number: number(record, 4) as u16,
         total: number(record, 5),
@@ -394,6 +395,11 @@ fn kept_id_of(record: &[u8]) -> KeptId {
     }
 }
 
+/// Whether an item of 2 bytes is there, and its number.
+fn optional(item: Option<u16>) -> (u64, u64) {
+    item.map_or((0, 0), |item| (1, item.into()))
+}
+
 /// A partial record.
 pub fn partial(record: &Record) -> Vec<u8> {
     let mut text = [0; 64];
@@ -408,7 +414,8 @@ pub fn partial(record: &Record) -> Vec<u8> {
             (5, length)
         }
     };
-    let numbers = [1, kind, id, record.writer.into(), record.number.into(), record.total, 0, 0, 0, 0];
+    let (has_group, group) = optional(record.group);
+    let numbers = [1, kind, id, record.writer.into(), record.number.into(), record.total, has_group, group, 0, 0];
     [bytes_of(&numbers), text.to_vec()].concat()
 }
 
@@ -431,5 +438,6 @@ pub fn chunk(datagram: &[u8], envelope: &Envelope, writer: u16, chunk: &Chunk) -
     (record[2], record[3], record[4]) = (envelope.publisher_end as u64, writer.into(), chunk.number.into());
     (record[5], record[6]) = (chunk.offset as u64, chunk.total.into());
     (record[7], record[8]) = ((datagram.len() - chunk.data.len()) as u64, chunk.data.len() as u64);
+    (record[9], record[10]) = optional(envelope.group.and_then(|group| group.writer_group_id));
     record
 }

@@ -374,7 +374,8 @@ pub fn take_in(partial: &mut Partial, datagram: &[u8], config: &Config) -> Resul
         return Err(Number::NotTaken.nowhere());
     };
     let chunk = chunk::read(datagram, envelope.payload_start)?;
-    let record = Record { publisher: envelope.publisher.into(), writer, number: chunk.number, total: chunk.total.into() };
+    let group = envelope.group.and_then(|group| group.writer_group_id);
+    let record = Record { publisher: envelope.publisher.into(), group, writer, number: chunk.number, total: chunk.total.into() };
     partial.admit(&record)?;
     let covered = chunk.offset..chunk.offset + chunk.data.len();
     if partial.record.is_some() {

@@ -16,6 +16,8 @@ pub const fn marks_size(room: usize) -> usize {
 pub struct Chunk<'a> {
     /// Who publishes the message.
     pub publisher: Option<PublisherId<'a>>,
+    /// The WriterGroupId of its group header, where it has one.
+    pub writer_group_id: Option<u16>,
     /// The message's DataSetWriterId.
     pub writer: u16,
     /// The message's number, by which its chunks belong together.
@@ -40,6 +42,7 @@ impl<'a> Chunk<'a> {
         let (id, end) = (number(&record, chunk::PUBLISHER), place(&record, chunk::PUBLISHER_END));
         Ok(Self {
             publisher: PublisherId::of(number(&record, chunk::PUBLISHER_TYPE), id, || &datagram[end - id as usize..end]),
+            writer_group_id: (number(&record, chunk::HAS_GROUP) != 0).then(|| number(&record, chunk::WRITER_GROUP_ID) as u16),
             writer: number(&record, chunk::WRITER) as u16,
             number: number(&record, chunk::NUMBER) as u16,
             offset: place(&record, chunk::OFFSET),
@@ -98,6 +101,12 @@ impl<P, M> Partial<P, M> {
 
     fn item(&self, i: usize) -> Option<u64> {
         self.is_started().then(|| number(&self.record, i))
+    }
+
+    /// The message's WriterGroupId, where it has one; a message without any is another one than that of group 0.
+    pub fn writer_group_id(&self) -> Option<u16> {
+        let present = self.item(partial::HAS_GROUP)? != 0;
+        present.then(|| number(&self.record, partial::WRITER_GROUP_ID) as u16)
     }
 
     /// The message's DataSetWriterId.

@@ -146,6 +146,8 @@ pub mod partial {
     pub const WRITER: usize = 3;
     pub const NUMBER: usize = 4;
     pub const TOTAL: usize = 5;
+    pub const HAS_GROUP: usize = 6;
+    pub const WRITER_GROUP_ID: usize = 7;
     pub const TEXT_AT: usize = 80;
 }
 
@@ -177,4 +179,6 @@ pub mod chunk {
     pub const TOTAL: usize = 6;
     pub const DATA: usize = 7;
     pub const DATA_LENGTH: usize = 8;
+    pub const HAS_GROUP: usize = 9;
+    pub const WRITER_GROUP_ID: usize = 10;
 }

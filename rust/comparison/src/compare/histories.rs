@@ -37,6 +37,7 @@ impl LentPartial {
                 let numbers = [1, random.below(7) as u64, random.edge(), random.number() & 0xffff, random.number() & 0xffff];
                 record[..40].copy_from_slice(&bytes_of(&numbers));
                 record[40..48].copy_from_slice(&(random.within(0, length + 1) as u64).to_le_bytes());
+                record[48..64].copy_from_slice(&bytes_of(&[random.below(3) as u64, random.number() & 0x1_ffff]));
             }
             2..=4 => {}
             _ => record[..8].fill(0),
@@ -201,6 +202,7 @@ impl LentPartial {
 #[derive(Clone, Debug)]
 struct Sent {
     publisher: Option<IdSpec>,
+    group: Option<u16>,
     writer: u16,
     number: u16,
     payload: Vec<u8>,
@@ -215,13 +217,17 @@ impl Sent {
         };
         let publisher = (!random.one_in(4)).then(|| generate::publisher(random));
         let publisher = publisher.filter(|(_, id)| id.len() <= 64);
-        Self { publisher, writer: random.number() as u16, number: random.number() as u16, payload: random.bytes(length) }
+        let group = random.maybe(2, |random| random.pick(&[0, 1, 256, 65_535]));
+        let (writer, number) = (random.number() as u16, random.number() as u16);
+        Self { publisher, group, writer, number, payload: random.bytes(length) }
     }
 
     /// Another message that is like this one but for one thing.
     fn other(&self, random: &mut Random) -> Self {
         let mut other = self.clone();
-        match random.below(6) {
+        match random.below(8) {
+            6 => other.group = other.group.map_or(Some(0), |group| Some(group ^ (1 << random.below(16)))),
+            7 => other.group = if other.group.is_none() { Some(0) } else { None },
             0 => other.publisher = Some(generate::publisher(random)).filter(|(_, id)| id.len() <= 64),
             1 => other.writer ^= 1 << random.below(16),
             2 => other.number ^= 1 << random.below(16),
@@ -260,6 +266,14 @@ impl Sent {
         if spec.group.is_some_and(|(_, _, number, _)| number == Some(0)) {
             spec.group = None;
         }
+        // Without a group id there is a group header or not.
+        spec.group = match (self.group, spec.group) {
+            (None, None) => None,
+            (group, header) => {
+                let (_, version, number, sequence) = header.unwrap_or_default();
+                Some((group, version, number, sequence))
+            }
+        };
         spec.bytes()
     }
 

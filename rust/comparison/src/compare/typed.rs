@@ -303,23 +303,29 @@ pub fn reassembled(tally: &mut Tally, random: &mut Random) {
     let id = generate::publisher(random);
     let text = &id.1[..id.1.len().min(64)];
     let publisher = random.pick(&[uadp::PublisherId::UInt32(7), uadp::PublisherId::String(text)]);
-    let equal = reassemble(random, &payload, size, writer, number, publisher);
+    let group = random.maybe(2, |random| random.pick(&[0, 21, 65_535]));
+    let equal = reassemble(random, &payload, size, (group, writer, number), publisher);
     tally.judge_equal("Partial", 0, equal == Ok(true), &[("payload", &payload), ("text", text)]);
 }
 
 fn reassemble(
-    random: &mut Random, payload: &[u8], size: usize, writer: u16, number: u16, publisher: uadp::PublisherId,
+    random: &mut Random, payload: &[u8], size: usize, (group, writer, number): (Option<u16>, u16, u16),
+    publisher: uadp::PublisherId,
 ) -> Result<bool, Refusal> {
     let (config, builder) = (uadp::Config::new(), DatagramBuilder::new().publisher(publisher));
+    let builder = builder.group(group.map(|id| uadp::Group { writer_group_id: Some(id), ..uadp::Group::default() }));
     let (mut chunk, mut out) = (vec![0; size + 14], vec![0; MOST_DATAGRAM]);
     let (mut chunks, mut datagrams) = (Chunks::new(payload, number, size), Vec::new());
     while let Some(chunk) = chunks.next_into(&mut chunk)? {
-        datagrams.push(builder.write_chunk(writer, chunk, &mut out)?.to_vec());
+        let datagram = builder.write_chunk(writer, chunk, &mut out)?;
+        datagrams.push(datagram.to_vec());
     }
     let mut equal = datagrams.len() == payload.len().div_ceil(size);
     let mut whole = uadp::Partial::new(vec![7; payload.len()], vec![1; payload.len()]);
     let mut other = whole.clone();
-    equal &= (whole.is_started(), whole.writer(), whole.publisher()) == (false, None, None);
+    equal &= (whole.is_started(), whole.writer(), whole.writer_group_id(), whole.publisher()) == (false, None, None, None);
+    let read = uadp::Chunk::read(&datagrams[0], &config)?;
+    equal &= (read.writer_group_id, read.writer, read.number) == (group, writer, number);
     for left in (1..=datagrams.len()).rev() {
         equal &= !whole.is_complete()?;
         let datagram = datagrams.swap_remove(random.below(left));
@@ -333,6 +339,7 @@ fn reassemble(
     let message = whole.message(&config)?;
     equal &= (message.bytes(), message.writer()) == (payload, Some(writer)) && whole.is_complete()?;
     equal &= (whole.number(), whole.total(), whole.publisher()) == (Some(number), Some(payload.len()), Some(publisher));
+    equal &= whole.writer_group_id() == group;
     whole.empty();
     Ok(equal && whole.hand_out().map_err(of_crate) == Err((15, 0)))
 }

@@ -53,6 +53,8 @@ impl From<Option<PublisherId<'_>>> for KeptId {
 #[derive(Clone, Copy, Debug, PartialEq)]
 pub struct Record {
     pub publisher: KeptId,
+    /// The WriterGroupId; none without a group header, or without one in it.
+    pub group: Option<u16>,
     pub writer: u16,
     pub number: u16,
     pub total: u64,
@@ -117,7 +119,9 @@ impl Partial<'_> {
             return Err(Number::NotTaken.nowhere());
         };
         let chunk = chunk::read(datagram, envelope.payload_start)?;
-        let record = Record { publisher: envelope.publisher.into(), writer, number: chunk.number, total: chunk.total.into() };
+        let group = envelope.group.and_then(|group| group.writer_group_id);
+        let publisher = envelope.publisher.into();
+        let record = Record { publisher, group, writer, number: chunk.number, total: chunk.total.into() };
         self.admit(&record)?;
         let covered = chunk.offset..chunk.offset + chunk.data.len();
         if self.record.is_some() {

@@ -17,7 +17,7 @@ returns-2 : tie.Need-returns-2
 returns-2 c =
     let at-n = c .before in
     let at-read-payload = at-n .before .before in
-    let at-if1 = at-read-payload .before .before in
+    let at-if1 = at-read-payload .before .before .before in
     let args = at-if1 .before .before .before .args in
     rw (not-false (args .e .chunk) (at-if1 .if1 .left), sym (told answerPayload (at-read-payload .read-payload .ensures) (at-n .n .given .1)))
 
@@ -25,16 +25,23 @@ returns-3 : tie.Need-returns-3
 returns-3 c =
     let at-payload = c .before in
     let at-read-payload = at-payload .before .before in
-    let at-writer-of = at-read-payload .before in
+    let at-group-of = at-read-payload .before in
+    let at-writer-of = at-group-of .before in
     let at-if1 = at-writer-of .before in
     let args = at-if1 .before .before .before .args in
-    rw (not-false (args .e .chunk) (at-if1 .if1 .left), sym (told answerPayload (at-read-payload .read-payload .ensures) (at-payload .payload .given .1)), sym (at-writer-of .writer-of .ensures))
+    rw (
+      not-false (args .e .chunk) (at-if1 .if1 .left),
+      sym (told answerPayload (at-read-payload .read-payload .ensures) (at-payload .payload .given .1)),
+      sym (at-group-of .group-of .ensures),
+      sym (at-writer-of .writer-of .ensures),
+    )
 
 pub read-chunk-spec : {M : Type 1} → statement M
 read-chunk-spec =
     tie.close
     (tie.spec
     returns
+    (λ c κs. search needs)
     (λ c κs. search needs)
     (λ c κs. search needs)
     (λ c. search needs)

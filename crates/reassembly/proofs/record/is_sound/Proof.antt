@@ -38,7 +38,7 @@ returns-4 c =
 returns-5 : tie.Need-returns-5
 unfolding soundBy
 returns-5 c =
-    let at-if4 = c .before .before in
+    let at-if4 = c .before .before .before in
     let at-if3 = at-if4 .before .before in
     let at-if2 = at-if3 .before .before .before in
     let at-if1 = at-if2 .before .before in
