@@ -337,7 +337,15 @@ static void reassembled(void)
     }
     CHECK(refused(uadp_cut(message, sizeof message, 0x0807, 4, 3, cut, sizeof cut), UADP_END, 0));
     CHECK(done(uadp_complete(&a), 0) && refused(uadp_hand_out(&a), UADP_NOT_COMPLETE, 0));
+    k = 0;
+    CHECK(done(uadp_progress(&a, &k), 4) && k == sizeof message && a.record.covered == 4);
     CHECK(done(uadp_combine(&a, &b), 0) && done(uadp_complete(&a), 1) && done(uadp_hand_out(&a), sizeof message));
+    CHECK(done(uadp_progress(&a, NULL), sizeof message) && a.record.covered == sizeof message);
+    a.record.covered = 12;
+    CHECK(refused(uadp_complete(&a), UADP_UNSOUND, 0) && refused(uadp_progress(&a, &k), UADP_UNSOUND, 0));
+    a.record.covered = 10;
+    CHECK(done(uadp_complete(&a), 0) && refused(uadp_hand_out(&a), UADP_UNSOUND, 0));
+    a.record.covered = sizeof message;
     CHECK(memcmp(a.payload, message, sizeof message) == 0);
     CHECK(a.record.started == 1 && a.record.publisher_type == UADP_ID_STRING && a.record.publisher == 3);
     CHECK(a.record.writer == 21 && a.record.number == 0x0807 && a.record.total == sizeof message);

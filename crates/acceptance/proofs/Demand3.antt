@@ -1,18 +1,22 @@
 -- Demand 3 holds: each field by the theorem that proves it. Assumes nothing.
 use Prim.Native.Nat.{ℕ, _≤_}
-use mathlib.Core.Path.{_≡_}
+use mathlib.Core.Path.{_≡_, sym, subst}
 use mathlib.Core.List.{List}
 use lib.ListN.{length}
 use Rattle.wire.specs.Answer.{refused}
 use Rattle.reassembly.specs.Reading.Reading.{chunk}
 use Rattle.reassembly_laws.proofs.Demand3 as laws
 use Rattle.reassembly_laws.proofs.Equality as Equality
+use Rattle.reassembly_laws.proofs.Numbers as Numbers
 use Rattle.reassembly_laws.proofs.Refusing as Refusing
 use Rattle.reassembly_laws.proofs.Cutting as Cutting
 use Rattle.reassembly_laws.proofs.Layouts as Layouts
 use Rattle.config_text.specs.Config.{configOf}
 use Rattle.records.specs.Result.{filledIn}
-use Rattle.records.specs.Sizes.{CONFIG_SIZE}
+use Rattle.records.specs.Sizes.{CONFIG_SIZE, PARTIAL_SIZE}
+use Rattle.reassembly.specs.Record.{Right}
+use Rattle.uadp_c.specs.Reassembling.{Lent}
+use Rattle.uadp_c.specs.History.{LentCall, callOf, heldIn, Called}
 use Rattle.records.specs.Writers.{ConfigBack, configFilling}
 use Rattle.records.proofs.ConfigBack.{config-back}
 use Rattle.records.proofs.ConfigFits.{config-fits}
@@ -28,11 +32,17 @@ use Rattle.acceptance.proofs.RefusedCalls.{placed}
 config-read : (text r : List ℕ) → configOf text .number ≡ 0 → CONFIG_SIZE ≤ length r → ConfigBack (filledIn (configFilling (configOf text)) r) (configOf text .config)
 config-read text r e h = rw e (config-back (configOf text .config) r (config-fits text) h)
 
+lent-right : (k : LentCall) (b a : Lent) → PARTIAL_SIZE ≤ length (b .rec) → Called k b a → Right (heldIn b) → Right (heldIn a)
+lent-right k b a h w r = subst Right (sym (lent.one b a h k w .left)) (Numbers.right-stays (callOf k) (heldIn b) r)
+
 pub demand-3 : Demand3
 demand-3 = record {
   any-list = laws.any-list;
   complete-exactly = laws.complete-exactly;
   handed-out-exactly = laws.hand-out-exactly;
+  number-stays-right = Numbers.right-stays;
+  complete-by-number = laws.complete-by-number;
+  lent-number-stays-right = lent-right;
   either-order = λ a b ga gb e. laws.combine-order a b (laws.equal-areas a b ga gb e);
   equal-changes-nothing = laws.combine-equal;
   not-started-changes-nothing = laws.combine-not-started;

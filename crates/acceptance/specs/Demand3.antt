@@ -1,6 +1,7 @@
 -- DEMAND 3 as one type: a field for each sentence, the sentence above it. proofs/Demand3.antt gives a value of it. From code to claim:
 -- the contracts of reassembly/src/operations.rt say what each call `answers` and `leaves`, those of uadp_c/src/reassembling.rt that a
--- call was `Called`. `Good` partials are the sound ones. The plain machine is reassembly/specs/Machine.antt.
+-- call was `Called`. `Good` partials are the sound ones whose number of covered bytes is right, as that of one not started always is. The
+-- plain machine is reassembly/specs/Machine.antt; its state knows no number.
 use Prim.Native.Nat.{ℕ, _≤_, _<_, _%_, _^_}
 use mathlib.Core.Path.{_≡_}
 use mathlib.Core.Logic.{_↔_}
@@ -9,7 +10,7 @@ use mathlib.Core.List.{List, []}
 use lib.ListN.{length, take}
 use Rattle.wire_writer.specs.Store.{laid}
 use Rattle.marks.specs.Marks.{Layout}
-use Rattle.reassembly.specs.Record.{Partial, Identity, roomOf, Good}
+use Rattle.reassembly.specs.Record.{Partial, Identity, roomOf, sound, Right, Good}
 use Rattle.reassembly.specs.Reading.{readingAt}
 use Rattle.reassembly.specs.Reading.Reading.{chunk}
 use Rattle.reassembly.specs.Machine.{Call, stateOf, alone}
@@ -40,7 +41,7 @@ use Rattle.records.specs.Writers.{sizesIn, typesFor, ConfigBack, configFilling}
 use Rattle.partial_record.specs.Partial.{partialIn, partialBytes, FitsRecord}
 use Rattle.uadp_c.specs.Reassembling.{Lent}
 use Rattle.uadp_c.specs.ByCalls.{AllLong, HeadRead, FieldCall, FieldCalls, lastHead, FieldsByCalls, EnvelopeRead, MessageCall, MessageCalls, lastEnvelope, MessagesByCalls, DatagramAgain, MessageAgain}
-use Rattle.uadp_c.specs.History.{LentCall, Called, AllCalled, Ready, LentList, Unchanged}
+use Rattle.uadp_c.specs.History.{LentCall, heldIn, Called, AllCalled, Ready, LentList, Unchanged}
 use Rattle.acceptance.specs.Refusals.{Refusal, callRefusals}
 use Rattle.acceptance.specs.Calls.{bytesRead}
 
@@ -54,7 +55,14 @@ pub record Demand3 : Type 0 where
   pub complete-exactly : (s : Partial) → Good s → (answers Ask s ≡ said true) ↔ Complete s
   pub handed-out-exactly : (s : Partial) → Good s
       → (answers HandOut s ≡ handed (take (s .rec .message .total) (s .payload))) ↔ Complete s
-  -- ---- Sound partials of equal room combine by these laws.
+  -- ---- THE NUMBER OF COVERED BYTES (document 02, Req 07). "If the number was right before a call (one not started always counts as
+  -- right) it is right after it": every call, any source, of any partial.
+  pub number-stays-right : (k : Call) (s : Partial) → Right s → Right (leaves k s)
+  -- "Complete" is said from it, exactly when a started one's number is its total: of any sound partial, whether the number is right or not.
+  pub complete-by-number : (s : Partial) → sound s ≡ true
+      → (answers Ask s ≡ said true) ↔ ((s .rec .started ≡ true) × (s .rec .covered ≡ s .rec .message .total))
+  -- A refused call adds nothing: `refused-leaves` below.
+  -- ---- Sound partials of equal room, whose numbers are right, combine by these laws.
   -- Either order gives equal results, or the same refusal.
   pub either-order : (a b : Partial) → Good a → Good b → EqualRoom a b → EitherOrder a b
   -- Combining with an equal one changes nothing, nor does one not started: it is accepted, and record and areas are as they were.
@@ -92,6 +100,9 @@ pub record Demand3 : Type 0 where
   -- ---- THE SAME THROUGH C. From a record of full length that is zeroed or was just emptied, any list of `uadp_` calls answers as the
   -- machine, and the one claim holds of what the lent bytes stand for.
   pub any-lent-list : (ks : List LentCall) (b : Lent) (ys : List Lent) → Ready b → AllCalled ks b ys → LentList ks b ys
+  -- The number stays right through C too, from any record of full length.
+  pub lent-number-stays-right : (k : LentCall) (b a : Lent) → PARTIAL_SIZE ≤ length (b .rec) → Called k b a
+      → Right (heldIn b) → Right (heldIn a)
   -- A refusal, whose number is the result's low byte, leaves every lent byte as it was.
   pub lent-refused : (k : LentCall) (b a : Lent) → Called k b a → (a .result % 256 ≡ 0 → ⊥) → Unchanged b a
   -- What is stored in a record, of any that the code's types can hold, is read back.

@@ -45,6 +45,7 @@ fresh =
     (record {
       started = false;
       message = record { origin = record { publisher = nobody; group = Optional16.Absent; writer = 0; number = 0 }; total = 0 };
+      covered = 4;
     })
     (9 ∷ 9 ∷ 9 ∷ 9 ∷ 9 ∷ []) (1 ∷ 1 ∷ 7 ∷ 1 ∷ 1 ∷ [])
 

@@ -1,3 +1,4 @@
+pub mod CountLaws
 mod EightLaws
 pub mod MarkLaws
 pub mod OffsetLaws

@@ -84,7 +84,7 @@ unfolding marksFor
 marks-mono byBytes a b h = h
 marks-mono byBits a b h = omega arith
 
-marks-cover : (L : Layout) (t i : ℕ) (m : List ℕ) → i ≤ t → marksFor L t ≤ length m → i ≤ capacity L m
+pub marks-cover : (L : Layout) (t i : ℕ) (m : List ℕ) → i ≤ t → marksFor L t ≤ length m → i ≤ capacity L m
 unfolding marksFor capacity
 marks-cover byBytes t i m l h = omega arith
 marks-cover byBits t i m l h = omega arith
@@ -227,10 +227,6 @@ module _ (L : Layout) where
   pub marks-end : (i : ℕ) (f : ℕ → Bool) (m : List ℕ) → i ≤ capacity L m → ((k : ℕ) → i ≤ k → k < capacity L m → f k ≡ false) → markUpTo L i f m ≡ markAll L f m
   unfolding markAll
   marks-end i f m l e = sym (upTo-end (capacity L m) i f m l e)
-
-  pub marks-past : (i : ℕ) (f : ℕ → Bool) (m : List ℕ) → capacity L m ≤ i → ((k : ℕ) → capacity L m ≤ k → k < i → f k ≡ false) → markUpTo L i f m ≡ markAll L f m
-  unfolding markAll
-  marks-past i f m l e = upTo-end i (capacity L m) f m l e
 
   -- marking what is marked already changes nothing
   upTo-self : (n t : ℕ) (m : List ℕ) → markUpTo L n (markedBelow L t m) m ≡ m

@@ -1,11 +1,11 @@
 -- The marks of a partial. How they are held is known to the first names only, down to the five that go by the layout.
 use Prim.Native.Nat.{ℕ, zero, suc, _+_, _*_, _/_, _%_, _^_}
-use mathlib.Core.Bool.{Bool, true, false, cond, _&&_}
+use mathlib.Core.Bool.{Bool, true, false, cond, not, _&&_}
 use mathlib.Core.List.{List}
 use lib.ListN.{length, getD, set, replicate}
 use lib.Dec.{ltb, eqb}
 use Rattle.wire.specs.Answer.{bit}
-use Rattle.marks.specs.Offsets.{allBelow}
+use Rattle.marks.specs.Offsets.{allBelow, countBelow}
 
 -- a byte for each byte of the payload area, 1 where it is covered, where any other value means not covered; or a bit for each, eight to a
 -- byte, the lowest position in the lowest bit
@@ -66,3 +66,11 @@ markedBelow L n m i = ltb i n && marked L m i
 -- whether every offset below n is marked
 unfoldable pub allMarked : Layout → ℕ → List ℕ → Bool
 allMarked L n m = allBelow n (marked L m)
+
+-- how many offsets below n are marked
+unfoldable pub countMarked : Layout → ℕ → List ℕ → ℕ
+countMarked L n m = countBelow n (marked L m)
+
+-- how many of the offsets that pass the test are not marked: what marking them adds
+unfoldable pub newMarks : Layout → (ℕ → Bool) → List ℕ → ℕ
+newMarks L f m = countBelow (capacity L m) (λ i. f i && not (marked L m i))

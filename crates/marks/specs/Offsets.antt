@@ -1,6 +1,6 @@
 -- Offsets that pass a test.
-use Prim.Native.Nat.{ℕ, zero, suc}
-use mathlib.Core.Bool.{Bool, false, _||_, not, _&&_}
+use Prim.Native.Nat.{ℕ, zero, suc, _+_}
+use mathlib.Core.Bool.{Bool, true, false, cond, _||_, not, _&&_}
 use lib.Dec.{ltb, leb}
 
 -- whether some i below n passes the test
@@ -12,6 +12,19 @@ anyBelow (suc n) f = f n || anyBelow n f
 abbrev pub allBelow : ℕ → (ℕ → Bool) → Bool
 allBelow n f = not (anyBelow n (λ i. not (f i)))
 
+-- how many i below n pass the test
+abbrev pub countBelow : ℕ → (ℕ → Bool) → ℕ
+countBelow zero f = 0
+countBelow (suc n) f = cond (f n) 1 0 + countBelow n f
+
 -- the offsets from start up to end
 abbrev pub inRange : ℕ → ℕ → ℕ → Bool
 inRange start end i = leb start i && ltb i end
+
+-- the offsets from start up to end that pass the test
+abbrev pub inRangeAnd : (ℕ → Bool) → ℕ → ℕ → ℕ → Bool
+inRangeAnd f start end i = inRange start end i && f i
+
+-- a test that every offset passes
+abbrev pub always : ℕ → Bool
+always i = true

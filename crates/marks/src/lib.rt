@@ -1,4 +1,5 @@
 // The marks of a partial. How they are held, a byte for each byte of the payload area and 1 where it is covered, is known here only.
+mod counting;
 mod quick;
 
 ghost use mathlib.Core.Path.{_≡_};
@@ -6,7 +7,11 @@ ghost use mathlib.Core.Bool.{cond, _&&_};
 ghost use Prim.Native.Nat.{_<_, _≤_};
 ghost use lib.Dec.{leb};
 ghost use Rattle.marks.specs.Offsets.{anyBelow, inRange};
-ghost use Rattle.marks.specs.Marks.{inUse, marksFor, capacity, marked, markIf, cleared, markedBelow, markAll, allMarked};
+ghost use Rattle.marks.specs.Marks.{inUse, marksFor, capacity, marked, markIf, cleared, markedBelow, markAll, allMarked, countMarked, newMarks};
+use counting::FEW;
+use counting::count_few;
+use counting::mark_few;
+use counting::mark_few_marked;
 use quick::BLOCK;
 use quick::BLOCK_EIGHTS;
 use quick::each_marked;
@@ -64,28 +69,54 @@ pub fn clear(marks: &mut [u8])
     }
 }
 
-// Marks the offsets from start up to end; those past the area are left out.
-pub fn mark_range(marks: &mut [u8], start: usize, end: usize)
-    ensures { λ r. ⌜ now (marks .exit) ≡ markAll inUse (inRange start end) (now (marks .entry)) ⌝ }
+// Marks the offsets from start up to end, and tells how many were not marked; those past the area are left out.
+pub fn mark_range(marks: &mut [u8], start: usize, end: usize) -> usize
+    ensures { λ r.
+        let before = now (marks .entry) in
+        ⌜ (now (marks .exit) ≡ markAll inUse (inRange start end) before) × (r ≡ newMarks inUse (inRange start end) before) ⌝ }
 {
     let stop = within(marks, end);
-    let mut i = start;
-    while i < stop {
-        mark_if(marks, i, true);
-        i += 1;
+    if stop <= start {
+        return 0;
     }
+    let mut fresh = 0;
+    let mut i = start;
+    while FEW <= stop - i {
+        fresh += mark_few(marks, i, i + FEW);
+        i += FEW;
+    }
+    fresh + mark_few(marks, i, stop)
 }
 
-// Marks the offsets below n that are marked in another area; those past either area are left out.
-pub fn mark_marked(marks: &mut [u8], n: usize, other: &[u8])
-    ensures { λ r. ⌜ now (marks .exit) ≡ markAll inUse (markedBelow inUse n (now (other .entry))) (now (marks .entry)) ⌝ }
+// Marks the offsets below n that are marked in another area, and tells how many were not marked; those past either area are left out.
+pub fn mark_marked(marks: &mut [u8], n: usize, other: &[u8]) -> usize
+    ensures { λ r.
+        let before = now (marks .entry) in
+        let source = markedBelow inUse n (now (other .entry)) in
+        ⌜ (now (marks .exit) ≡ markAll inUse source before) × (r ≡ newMarks inUse source before) ⌝ }
 {
     let stop = within(other, within(marks, n));
+    let mut fresh = 0;
     let mut i = 0;
-    while i < stop {
-        mark_if(marks, i, is_marked(other, i));
-        i += 1;
+    while FEW <= stop - i {
+        fresh += mark_few_marked(marks, i, i + FEW, other);
+        i += FEW;
     }
+    fresh + mark_few_marked(marks, i, stop, other)
+}
+
+// How many offsets below n are marked; one past the area is not.
+pub fn count_marked(marks: &[u8], n: usize) -> usize
+    ensures { λ r. ⌜ r ≡ countMarked inUse n (now (marks .entry)) ⌝ }
+{
+    let stop = within(marks, n);
+    let mut count = 0;
+    let mut i = 0;
+    while FEW <= stop - i {
+        count += count_few(marks, i, i + FEW);
+        i += FEW;
+    }
+    count + count_few(marks, i, stop)
 }
 
 // Whether every offset below n is marked; one past the area is not.

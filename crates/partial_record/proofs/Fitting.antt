@@ -34,4 +34,5 @@ fits-record k vs h =
       writer = omega (arith, o .1 .1 .0);
       number = omega (arith, o .1 .1 .1 .0);
       total = omega (arith, m .1 .0);
+      covered = omega (arith, r .1 .1 .0);
     }

@@ -21,8 +21,8 @@ publisherWith i t = record { id = i; text = t }
 abbrev pub messageWith : PublisherRecord → Optional16 → ℕ → ℕ → ℕ → Message
 messageWith p g a b d = record { origin = record { publisher = p; group = g; writer = a % 65536; number = b % 65536 }; total = d }
 
-abbrev pub partialWith : ℕ → Message → PartialRecord
-partialWith n m = record { started = eqb n 1; message = m }
+abbrev pub partialWith : ℕ → Message → ℕ → PartialRecord
+partialWith n m c = record { started = eqb n 1; message = m; covered = c }
 
 pub publisher-taken : (s p u : List ℕ) (id : PublisherId) (a b : ℕ) → p ≡ take 64 (drop 80 s) → u ≡ laid (replicate 64 0) 0 p → a ≡ numberAt s 1 → b ≡ numberAt s 2
     → id ≡ publisherBy a b → publisherWith id u ≡ publisherIn s
@@ -37,5 +37,6 @@ message-taken s p g a b d qp qg qa qb qd =
     ∙ ap (λ (x : ℕ). messageWith (publisherIn s) (groupIdIn s) x b d) qa ∙ ap (λ (x : ℕ). messageWith (publisherIn s) (groupIdIn s) (numberAt s 3) x d) qb
     ∙ ap (λ (x : ℕ). messageWith (publisherIn s) (groupIdIn s) (numberAt s 3) (numberAt s 4) x) qd
 
-pub partial-taken : (s : List ℕ) (n : ℕ) (m : Message) → n ≡ numberAt s 0 → m ≡ messageIn s → partialWith n m ≡ partialIn s
-partial-taken s n m qn qm = ap (λ (x : ℕ). partialWith x m) qn ∙ ap (λ (x : Message). partialWith (numberAt s 0) x) qm
+pub partial-taken : (s : List ℕ) (n : ℕ) (m : Message) (c : ℕ) → n ≡ numberAt s 0 → m ≡ messageIn s → c ≡ numberAt s 8 → partialWith n m c ≡ partialIn s
+partial-taken s n m c qn qm qc =
+    ap (λ (x : ℕ). partialWith x m c) qn ∙ ap (λ (x : Message). partialWith (numberAt s 0) x c) qm ∙ ap (λ (x : ℕ). partialWith (numberAt s 0) (messageIn s) x) qc

@@ -37,17 +37,21 @@ messageIn s =
       total = numberAt s 5;
     }
 
--- "0  1 started, else not"
-abbrev pub partialIn : List ℕ → PartialRecord
-partialIn s = record { started = eqb (numberAt s 0) 1; message = messageIn s }
+-- which number is that of the covered bytes
+abbrev pub COVERED : ℕ
+COVERED = 8
 
--- the record's numbers, from 0; the last two are spare and hold 0
+-- "0  1 started, else not   8  covered bytes"
+abbrev pub partialIn : List ℕ → PartialRecord
+partialIn s = record { started = eqb (numberAt s 0) 1; message = messageIn s; covered = numberAt s COVERED }
+
+-- the record's numbers, from 0; the last one is spare and holds 0
 abbrev pub partialNumbers : PartialRecord → List ℕ
 partialNumbers r =
     flagNumber (r .started) ∷ codeOf (r .message .origin .publisher .id) ∷ publisherNumber (r .message .origin .publisher .id)
     ∷ r .message .origin .writer
     ∷ r .message .origin .number ∷ r .message .total
-    ∷ has16 (r .message .origin .group) ∷ value16 (r .message .origin .group) ∷ 0 ∷ 0 ∷ []
+    ∷ has16 (r .message .origin .group) ∷ value16 (r .message .origin .group) ∷ r .covered ∷ 0 ∷ []
 
 -- the record's bytes
 abbrev pub partialBytes : PartialRecord → List ℕ
@@ -62,3 +66,4 @@ pub record FitsRecord (r : PartialRecord) : Type 0 where
   pub writer : r .message .origin .writer < 65536
   pub number : r .message .origin .number < 65536
   pub total : r .message .total < 256 ^ 8
+  pub covered : r .covered < 256 ^ 8

@@ -1,4 +1,4 @@
-// The record of a partial: eight numbers, two spare ones that hold 0, and 64 bytes for the text of a string PublisherId. The record of a
+// The record of a partial: nine numbers, a spare one that holds 0, and 64 bytes for the text of a string PublisherId. The record of a
 // chunk stands in its own module.
 pub mod chunk_record;
 
@@ -23,6 +23,9 @@ use wire_writer::store::put_run;
 ghost use mathlib.Core.Path.{_≡_};
 ghost use Rattle.wire_writer.specs.Store.{laid};
 ghost use Rattle.partial_record.specs.Partial.{publisherIn, groupIdIn, messageIn, partialIn, partialBytes};
+
+// Which number of the record is that of the covered bytes.
+pub const COVERED: usize = 8;
 
 // Where the text stands.
 const TEXT_AT: usize = 80;
@@ -71,6 +74,7 @@ pub fn partial_in(s: &[u8]) -> PartialRecord
     PartialRecord {
         started: number(s, 0) == 1,
         message,
+        covered: number(s, COVERED) as usize,
     }
 }
 
@@ -96,7 +100,7 @@ pub fn put_partial(out: &mut [u8], rec: PartialRecord)
         message.total as u64,
         has16(group),
         value16(group),
-        0,
+        rec.covered as u64,
         0,
     ];
     put_numbers(out, &numbers);

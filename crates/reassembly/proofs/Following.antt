@@ -1,18 +1,19 @@
 -- Each call on a good partial answers as the plain machine does, and leaves a good partial that is equal to what the machine keeps.
 -- Assumes nothing.
-use Prim.Native.Nat.{ℕ, _≤_}
+use Prim.Native.Nat.{ℕ, _+_, _≤_}
 use mathlib.Core.Path.{_≡_, refl, sym, ap, _∙_}
 use mathlib.Core.Bool.{Bool, true, false, cond, not, or-true, false≢true}
 use mathlib.Core.List.{List}
 use mathlib.Core.Option.{none}
 use native.Mathlib.Omega.{arith}
 use lib.ListN.{length}
+use lib.Dec.{eqb}
 use borrow.Author.Tests.{le-leb, eq-eqb}
-use Rattle.reassembly.specs.Views.{View, clash, full, has, dataView, bothViews, nowhere, overlaid}
-use Rattle.marks.specs.Marks.{Layout, marksFor, cleared, markAll}
+use Rattle.reassembly.specs.Views.{View, clash, full, isSome, has, dataView, bothViews, nowhere, overlaid}
+use Rattle.marks.specs.Marks.{Layout, marksFor, cleared, markAll, countMarked, newMarks}
 use Rattle.reassembly.specs.Areas.{markedView}
 use Rattle.publisher_id.specs.PublisherRecord.{publisherFits}
-use Rattle.reassembly.specs.Record.{Identity, identityOf, Partial, soundBy, Good}
+use Rattle.reassembly.specs.Record.{Identity, identityOf, Partial, soundBy, markedCount, Good}
 use Rattle.reassembly.specs.Reading.{Reading, readingAt, GoodReading}
 use Rattle.reassembly.specs.Reading.Reading.{chunk, refusal}
 use Rattle.reassembly.specs.Machine.{State, judge, accept, isComplete, viewOf, stateOf, alone, readingVerdict, Call, replyOf, handedOf, verdictOf, whole, says, ifAccepted, keeps}
@@ -21,7 +22,7 @@ use Rattle.reassembly.specs.Machine.Call.{Empty, Take, Combine, Ask, Han
 use Rattle.reassembly.specs.Machine.Reply.{said}
 use Rattle.reassembly.specs.Judge.{judgeReading, judgeCombine}
 use Rattle.reassembly.specs.Calls.{saidOf, answers, leaves}
-use Rattle.reassembly.specs.Operations.{Step, begunMarks, put, takeIn, combine, emptied, yesNo, askComplete, handOutBy, judgeHandOut, handOut}
+use Rattle.reassembly.specs.Operations.{Step, begunMarks, withNew, put, takeIn, combine, emptied, yesNo, saysComplete, askComplete, numberRight, judgeHandOut, handOut}
 use Rattle.reassembly.specs.declared.record.Message.{Message}
 use Rattle.reassembly.specs.declared.record.PartialRecord.{PartialRecord}
 use Rattle.reassembly.specs.declared.verdict.Verdict.{Verdict}
@@ -29,7 +30,8 @@ use Rattle.reassembly.specs.declared.verdict.Verdict.the-variants.{Done,
 use Rattle.wire.proofs.Cases.{by-bool}
 use Rattle.reassembly.proofs.ViewLaws.{length-laid, data-above, clash-none, joined-nowhere}
 use Rattle.marks.proofs.MarkLaws.{length-cleared, length-markAll}
-use Rattle.reassembly.proofs.AreaLaws.{marked-above, cleared-nowhere, view-put, full-bytes}
+use Rattle.marks.proofs.CountLaws.{count-put, count-cleared, count-all, marked-most}
+use Rattle.reassembly.proofs.AreaLaws.{marked-above, cleared-nowhere, view-put, full-marked, full-bytes}
 use Rattle.reassembly.proofs.SameLaws.{same-message-true}
 use Rattle.reassembly.proofs.JudgeLaws
 
@@ -39,35 +41,64 @@ pub record GoodMessage (m : Message) (n : ℕ) : Type 0 where
   pub room : m .total ≤ n
   pub publisher : publisherFits (m .origin .publisher) ≡ true
 
-fit-sound : (L : Layout) (r : PartialRecord) (n k : ℕ) → marksFor L n ≡ k → GoodMessage (r .message) n → soundBy L r n k ≡ true
+fit-sound : (L : Layout) (r : PartialRecord) (n k : ℕ) → marksFor L n ≡ k → GoodMessage (r .message) n → r .covered ≤ r .message .total → soundBy L r n k ≡ true
 unfolding soundBy
-fit-sound L r n k e f =
-    rw (eq-eqb (marksFor L n) k e, le-leb 1 (r .message .total) (f .some), le-leb (r .message .total) n (f .room), f .publisher)
+fit-sound L r n k e f c =
+    rw (eq-eqb (marksFor L n) k e, le-leb 1 (r .message .total) (f .some), le-leb (r .message .total) n (f .room), le-leb (r .covered) (r .message .total) c, f .publisher)
     (or-true (not (r .started)))
 
 -- ---- bytes put into a good partial
 module _ (m : Message) (v : View) (s : Partial) where
-  pub put-started : s .rec .started ≡ true → put m v s ≡ record { rec = s .rec; layout = s .layout; payload = overlaid v (s .payload); marks = markAll (s .layout) (has v) (s .marks) }
+  pub put-started : s .rec .started ≡ true
+      → put m v s ≡ record { rec = withNew (s .rec) (newMarks (s .layout) (has v) (s .marks)); layout = s .layout; payload = overlaid v (s .payload); marks = markAll (s .layout) (has v) (s .marks) }
   unfolding put
   put-started e = rw e
 
   put-idle : s .rec .started ≡ false
-      → put m v s ≡ record { rec = record { started = true; message = m }; layout = s .layout; payload = overlaid v (s .payload); marks = markAll (s .layout) (has v) (cleared (s .marks)) }
+      → put m v s ≡ record {
+        rec = record { started = true; message = m; covered = 0 + newMarks (s .layout) (has v) (cleared (s .marks)) };
+        layout = s .layout;
+        payload = overlaid v (s .payload);
+        marks = markAll (s .layout) (has v) (cleared (s .marks));
+      }
   unfolding put
   put-idle e = rw e
+
+-- a partial whose parts are known
+good-by : (x : Partial) (k : PartialRecord) (L : Layout) (p z : List ℕ) → x ≡ record { rec = k; layout = L; payload = p; marks = z } → marksFor L (length p) ≡ length z
+    → GoodMessage (k .message) (length p)
+    → k .covered ≡ countMarked L (k .message .total) z → Good x
+good-by x k L p z e l f c =
+    rw e (record { is-sound = fit-sound L k (length p) (length z) l f (rw c (marked-most L (k .message .total) z)); is-right = λ t. c })
 
 module _ (m : Message) (v : View) (s : Partial) (ok : Good s) (fit : GoodMessage m (length (s .payload))) where
   put-lengths : (length (put m v s .payload) ≡ length (s .payload)) × (length (put m v s .marks) ≡ length (s .marks))
   unfolding put
   put-lengths = (length-laid v (s .payload), length-markAll (s .layout) (has v) (begunMarks (s .rec) (s .marks)) ∙ JudgeLaws.length-begun (s .rec) (s .marks) _ refl)
 
-  pub put-good : Good (put m v s)
-  put-good = record {
-    is-sound = by-bool _ (s .rec .started)
-        (λ e. rw (put-started m v s e, length-laid v (s .payload), length-markAll (s .layout) (has v) (s .marks)) (ok .is-sound))
-        (λ e. rw (put-idle m v s e, length-laid v (s .payload), length-markAll (s .layout) (has v) (cleared (s .marks)), length-cleared (s .marks))
-        (fit-sound (s .layout) (record { started = true; message = m }) (length (s .payload)) (length (s .marks)) (JudgeLaws.sound-lengths s (ok .is-sound)) fit));
-  }
+  pub put-good : ((i : ℕ) → m .total ≤ i → v i ≡ none) → judge (length (s .payload)) (stateOf s) (held (identityOf m) v) ≡ Done → Good (put m v s)
+  put-good above met =
+      by-bool _ (s .rec .started)
+      (λ e.
+      let t = s .rec .message .total in
+      let k = identityOf (s .rec .message) in
+      let met₁ = JudgeLaws.judge-meets (length (s .payload)) (held k (viewOf s)) (identityOf m) v (rw e at met) in
+      let same : t ≡ m .total = ap (λ (x : Identity). x .total) (same-message-true k (identityOf m) (JudgeLaws.meet-same k (identityOf m) (viewOf s) v met₁)) in
+      let u : t ≤ length (s .payload) = JudgeLaws.sound-total s (ok .is-sound) e in
+      let p = length-laid v (s .payload) in
+      let z = length-markAll (s .layout) (has v) (s .marks) in
+      let room = JudgeLaws.sound-marks s (ok .is-sound) t u in
+      good-by (put m v s) _ (s .layout) _ _ (put-started m v s e) (ap (marksFor (s .layout)) p ∙ JudgeLaws.sound-lengths s (ok .is-sound) ∙ sym z)
+      (record { some = JudgeLaws.sound-some s (ok .is-sound) e; room = rw p u; publisher = JudgeLaws.sound-publisher s (ok .is-sound) e })
+      (ap (λ (n : ℕ). n + newMarks (s .layout) (has v) (s .marks)) (ok .is-right e) ∙ sym (count-put (s .layout) t (has v) (s .marks) room (λ i h. ap isSome (above i (omega arith))))))
+      (λ e.
+      let p = length-laid v (s .payload) in
+      let z = length-markAll (s .layout) (has v) (cleared (s .marks)) ∙ length-cleared (s .marks) in
+      let room : marksFor (s .layout) (m .total) ≤ length (cleared (s .marks)) = rw (length-cleared (s .marks)) (JudgeLaws.sound-marks s (ok .is-sound) (m .total) (fit .room)) in
+      good-by (put m v s) _ (s .layout) _ _ (put-idle m v s e) (ap (marksFor (s .layout)) p ∙ JudgeLaws.sound-lengths s (ok .is-sound) ∙ sym z)
+      (record { some = fit .some; room = rw p (fit .room); publisher = fit .publisher })
+      (ap (λ (n : ℕ). n + newMarks (s .layout) (has v) (cleared (s .marks))) (sym (count-cleared (s .layout) (m .total) (s .marks)))
+      ∙ sym (count-put (s .layout) (m .total) (has v) (cleared (s .marks)) room (λ i h. ap isSome (above i h)))))
 
   pub put-state : ((i : ℕ) → m .total ≤ i → v i ≡ none) → judge (length (s .payload)) (stateOf s) (held (identityOf m) v) ≡ Done → stateOf (put m v s) ≡ accept (stateOf s) (held (identityOf m) v)
   put-state above met =
@@ -109,7 +140,7 @@ module _ (s : Partial) (ok : Good s) (x : Step) (v : Verdict) (t : State) where
   step-put m w fit above met e f g = record {
     verdict = rw (e, f);
     state = rw (e, f, g) (put-state m w s ok fit above met);
-    good = rw e (put-good m w s ok fit);
+    good = rw e (put-good m w s ok fit above met);
     room = rw e (put-lengths m w s ok fit .0);
   }
 
@@ -159,17 +190,26 @@ module _ (s : Partial) (ok : Good s) where
           (λ h. step-idle s ok _ _ _ (JudgeLaws.combine-done-idle s f e h) (sym (source-verdict f) ∙ e) (rw h))
 
   -- ---- asking and handing out
+  -- complete is said from the number as it is from what is covered
+  says-is : saysComplete s ≡ isComplete (stateOf s)
+  says-is =
+      by-bool _ (s .rec .started)
+      (λ e. rw e
+      (ap (λ (n : ℕ). eqb n (s .rec .message .total)) (ok .is-right e)
+      ∙ count-all (s .layout) (s .rec .message .total) (s .marks) ∙ sym (full-marked (s .layout) (s .rec .message .total) (s .payload) (s .marks))))
+      (λ e. rw e)
+
+  right-is : numberRight s ≡ true
+  right-is =
+      by-bool _ (s .rec .started) (λ e. rw e (eq-eqb (markedCount s) (s .rec .covered) (sym (ok .is-right e)))) (λ e. rw e)
+
   ask-is : askComplete s ≡ yesNo (isComplete (stateOf s))
   unfolding askComplete
-  ask-is = rw (ok .is-sound)
+  ask-is = rw (ok .is-sound) (ap yesNo says-is)
 
   pub hand-is : judgeHandOut s ≡ cond (isComplete (stateOf s)) Done (Refused 15 0)
   unfolding judgeHandOut
-  hand-is = rw ask-is (by-case (isComplete (stateOf s)))
-    where
-      by-case : (b : Bool) → handOutBy (yesNo b) ≡ cond b Done (Refused 15 0)
-      by-case true = refl
-      by-case false = refl
+  hand-is = rw (ok .is-sound, right-is) (ap (λ (b : Bool). cond b Done (Refused 15 0)) says-is)
 
   pub hand-bytes : isComplete (stateOf s) ≡ true → handOut s ≡ whole (stateOf s)
   unfolding handOut
@@ -193,7 +233,10 @@ module _ (s : Partial) (ok : Good s) where
   follow-empty = record {
     reply = refl;
     state = refl;
-    good = record { is-sound = rw (eq-eqb (marksFor (s .layout) (length (s .payload))) (length (s .marks)) (JudgeLaws.sound-lengths s (ok .is-sound))) };
+    good = record {
+      is-sound = rw (eq-eqb (marksFor (s .layout) (length (s .payload))) (length (s .marks)) (JudgeLaws.sound-lengths s (ok .is-sound)));
+      is-right = λ t. absurd (false≢true t);
+    };
     room = refl;
   }
 

@@ -9,7 +9,7 @@ use lib.Dec.{leb, eqb}
 use borrow.Author.Tests.{le-leb, leb-true, eqb-true}
 use Rattle.reassembly.specs.Views.{View, dataView, clash, overlaid}
 use Rattle.marks.specs.Offsets.{inRange}
-use Rattle.marks.specs.Marks.{marksFor, markAll, markedBelow, allMarked}
+use Rattle.marks.specs.Marks.{inUse, marksFor, markAll, markedBelow, newMarks}
 use Rattle.reassembly.specs.Areas.{markedView}
 use Rattle.wire.specs.Answer.{Answer, got, refused}
 use Rattle.publisher_id.specs.PublisherRecord.{publisherFits, recordAt}
@@ -17,25 +17,26 @@ use Rattle.publisher_id.specs.declared.publisher_record.PublisherRecord.{Publis
 use Rattle.chunk.specs.Datagram.{chunkAt}
 use Rattle.chunk.specs.declared.datagram.ChunkPlace.{ChunkPlace}
 use Rattle.chunk.proofs.Accepted
-use Rattle.reassembly.specs.Record.{Identity, identityOf, sameMessage, Partial, soundBy, sound}
+use Rattle.reassembly.specs.Record.{Identity, identityOf, sameMessage, Partial, soundBy, sound, markedCount}
 use Rattle.reassembly.specs.Reading.{Reading, chunkMessage, readingBy, readingAt, GoodChunk, GoodReading}
 use Rattle.reassembly.specs.Reading.Reading.{chunk, refusal}
 use Rattle.reassembly.specs.Machine.{State, judge, between, viewOf, stateOf, readingVerdict}
 use Rattle.reassembly.specs.Machine.State.{held}
 use Rattle.reassembly.specs.Judge.{admissionOf, judgeReading, judgeCombine}
-use Rattle.reassembly.specs.Operations.{begun, begunMarks, put, putReading, takeIn, combine, yesNo, askComplete, judgeHandOut}
+use Rattle.reassembly.specs.Operations.{begun, begunMarks, withNew, put, putReading, takeIn, combine, yesNo, askComplete, progressOf, judgeHandOut}
 use Rattle.reassembly.specs.declared.judge.Admission.{Admission}
 use Rattle.reassembly.specs.declared.judge.Admission.the-variants as A
 use Rattle.reassembly.specs.declared.record.Message.{Message}
 use Rattle.reassembly.specs.declared.record.PartialRecord.{PartialRecord}
 use Rattle.reassembly.specs.declared.verdict.Completeness.the-variants as C
+use Rattle.reassembly.specs.declared.verdict.Progress.the-variants as P
 use Rattle.reassembly.specs.declared.verdict.Verdict.{Verdict}
 use Rattle.reassembly.specs.declared.verdict.Verdict.the-variants.{Done, Refused}
 use Rattle.wire.proofs.Cases.{by-bool}
 use Rattle.wire.proofs.Facts.{and-left, and-right}
 use Rattle.reassembly.proofs.ViewLaws.{has-data}
 use Rattle.marks.proofs.MarkLaws.{marks-mono, length-cleared}
-use Rattle.reassembly.proofs.AreaLaws.{clash-total, has-marked, full-marked}
+use Rattle.reassembly.proofs.AreaLaws.{clash-total, has-marked}
 use Rattle.reassembly.proofs.SameLaws.{same-message-true}
 
 pub refused-done : (n p : ℕ) → Refused n p ≡ Done → ⊥
@@ -47,7 +48,9 @@ module _ (s : Partial) (e : sound s ≡ true) where
   unfolding soundBy
   sound-lengths = eqb-true (marksFor (s .layout) (length (s .payload))) (length (s .marks)) (and-left (eqb (marksFor (s .layout) (length (s .payload))) (length (s .marks))) _ e)
 
-  sound-started : s .rec .started ≡ true → (leb 1 (s .rec .message .total) && (leb (s .rec .message .total) (length (s .payload)) && publisherFits (s .rec .message .origin .publisher))) ≡ true
+  sound-started : s .rec .started ≡ true
+      → (leb 1 (s .rec .message .total) &&
+      (leb (s .rec .message .total) (length (s .payload)) && (leb (s .rec .covered) (s .rec .message .total) && publisherFits (s .rec .message .origin .publisher)))) ≡ true
   unfolding soundBy
   sound-started h = rw h at (and-right (eqb (marksFor (s .layout) (length (s .payload))) (length (s .marks))) _ e)
 
@@ -57,11 +60,22 @@ module _ (s : Partial) (e : sound s ≡ true) where
   pub sound-total : s .rec .started ≡ true → s .rec .message .total ≤ length (s .payload)
   sound-total h = leb-true _ _ (and-left (leb (s .rec .message .total) (length (s .payload))) _ (and-right (leb 1 (s .rec .message .total)) _ (sound-started h)))
 
+  sound-rest : s .rec .started ≡ true → (leb (s .rec .covered) (s .rec .message .total) && publisherFits (s .rec .message .origin .publisher)) ≡ true
+  sound-rest h = and-right (leb (s .rec .message .total) (length (s .payload))) _ (and-right (leb 1 (s .rec .message .total)) _ (sound-started h))
+
+  sound-covered : s .rec .started ≡ true → s .rec .covered ≤ s .rec .message .total
+  sound-covered h = leb-true _ _ (and-left (leb (s .rec .covered) (s .rec .message .total)) _ (sound-rest h))
+
   pub sound-publisher : s .rec .started ≡ true → publisherFits (s .rec .message .origin .publisher) ≡ true
-  sound-publisher h = and-right (leb (s .rec .message .total) (length (s .payload))) _ (and-right (leb 1 (s .rec .message .total)) _ (sound-started h))
+  sound-publisher h = and-right (leb (s .rec .covered) (s .rec .message .total)) _ (sound-rest h)
 
   pub sound-marks : (t : ℕ) → t ≤ length (s .payload) → marksFor (s .layout) t ≤ length (s .marks)
   sound-marks t h = let l = sound-lengths in omega (arith, marks-mono (s .layout) t (length (s .payload)) h)
+
+-- a payload area in the code's layout is as long as its marks area
+pub sound-even : (s : Partial) → sound s ≡ true → s .layout ≡ inUse → length (s .payload) ≡ length (s .marks)
+unfolding marksFor
+sound-even s e l = rw l at (sound-lengths s e)
 
 -- ---- what a datagram reads as
 module _ (sizes s : List ℕ) where
@@ -216,11 +230,13 @@ module _ (s : Partial) (m : Message) (at : ℕ) (d : List ℕ) where
         let h : at + length d ≤ length (s .payload) = omega (arith, o .fits) in
         (h, sound-marks s ok _ h)
 
-    pub taken : (v : Verdict) (k : PartialRecord) (p z n : List ℕ) → v ≡ Done → k ≡ begun (s .rec) m → p ≡ overlaid (dataView at d) (s .payload) → n ≡ begunMarks (s .rec) (s .marks)
-        → z ≡ markAll (s .layout) (inRange at (at + length d)) n → record { verdict = v; after = record { rec = k; layout = s .layout; payload = p; marks = z } } ≡ takeIn s (chunk m at d)
+    pub taken : (v : Verdict) (k after : PartialRecord) (c : ℕ) (p z n : List ℕ) → v ≡ Done → k ≡ begun (s .rec) m → after ≡ withNew k c → p ≡ overlaid (dataView at d) (s .payload)
+        → n ≡ begunMarks (s .rec) (s .marks)
+        → z ≡ markAll (s .layout) (inRange at (at + length d)) n → c ≡ newMarks (s .layout) (inRange at (at + length d)) n
+        → record { verdict = v; after = record { rec = after; layout = s .layout; payload = p; marks = z } } ≡ takeIn s (chunk m at d)
     unfolding put
-    taken v k p z n ev ek ep en ez =
-        rw (ev, ek, ep, ez, en, take-done s (chunk m at d) e, has-data at d)
+    taken v k after c p z n ev ek ea ep en ez ec =
+        rw (ev, ea, ek, ep, ez, ec, en, take-done s (chunk m at d) e, has-data at d)
 
 -- ---- combining
 module _ (s f : Partial) where
@@ -243,7 +259,7 @@ module _ (s f : Partial) where
       → judgeCombine s f ≡ admitted (admissionOf (s .rec) (length (s .payload)) (f .rec .message)) (clash (s .rec .message .total) (viewOf s) (viewOf f))
   combine-admits e g h = combine-judged e g ∙ rw h (judge-admits s (length (s .payload)) (f .rec .message) (viewOf f))
 
-  combine-sound : judgeCombine s f ≡ Done → sound s ≡ true
+  pub combine-sound : judgeCombine s f ≡ Done → sound s ≡ true
   combine-sound e = by-bool _ (sound s) (λ t. t) (λ t. absurd (refused-done 12 0 (sym (combine-unsound t) ∙ e)))
 
   pub combine-source-sound : judgeCombine s f ≡ Done → sound f ≡ true
@@ -289,12 +305,22 @@ module _ (s f : Partial) where
         let t = sound-total f (combine-source-sound e) h in
         (a, sound-marks s (combine-sound e) _ a, t, sound-marks f (combine-source-sound e) _ t)
 
-    pub combined : (v : Verdict) (k : PartialRecord) (p m n : List ℕ) → v ≡ Done → k ≡ begun (s .rec) (f .rec .message) → p ≡ overlaid (viewOf f) (s .payload) → n ≡ begunMarks (s .rec) (s .marks)
-        → m ≡ markAll (s .layout) (markedBelow (f .layout) (f .rec .message .total) (f .marks)) n
-        → record { verdict = v; after = record { rec = k; layout = s .layout; payload = p; marks = m } } ≡ combine s f
+    pub combined : (v : Verdict) (k after : PartialRecord) (c : ℕ) (p m n : List ℕ) → v ≡ Done → k ≡ begun (s .rec) (f .rec .message) → after ≡ withNew k c → p ≡ overlaid (viewOf f) (s .payload)
+        → n ≡ begunMarks (s .rec) (s .marks) → m ≡ markAll (s .layout) (markedBelow (f .layout) (f .rec .message .total) (f .marks)) n
+        → c ≡ newMarks (s .layout) (markedBelow (f .layout) (f .rec .message .total) (f .marks)) n
+        → record { verdict = v; after = record { rec = after; layout = s .layout; payload = p; marks = m } } ≡ combine s f
     unfolding put
-    combined v k p m n ev ek ep en em =
-        rw (ev, ek, ep, em, en, combine-done e h, has-marked (f .layout) (f .rec .message .total) (f .payload) (f .marks))
+    combined v k after c p m n ev ek ea ep en em ec =
+        rw (ev, ea, ek, ep, em, ec, en, combine-done e h, has-marked (f .layout) (f .rec .message .total) (f .payload) (f .marks))
+
+-- ---- what is covered and what is added fit a word: areas are shorter than 2^63
+module _ (s : Partial) (m : Message) (e : sound s ≡ true) (k : PartialRecord) (q : k ≡ begun (s .rec) m) where
+  pub begun-covered : k .covered ≤ length (s .payload)
+  begun-covered =
+      by-bool _ (s .rec .started)
+      (λ t. let z : k ≡ s .rec = q ∙ rw t in let c : k .covered ≡ s .rec .covered = ap (λ (x : PartialRecord). x .covered) z in
+      omega (arith, sound-covered s e t, sound-total s e t))
+      (λ t. let z : k ≡ record { started = true; message = m; covered = 0 } = q ∙ rw t in let c : k .covered ≡ 0 = ap (λ (x : PartialRecord). x .covered) z in omega arith)
 
 -- ---- asking
 module _ (s : Partial) where
@@ -306,26 +332,43 @@ module _ (s : Partial) where
   unfolding askComplete
   ask-idle e f = rw (e, f)
 
-  pub ask-held : sound s ≡ true → s .rec .started ≡ true → (b : Bool) → allMarked (s .layout) (s .rec .message .total) (s .marks) ≡ b → askComplete s ≡ yesNo b
+  pub ask-held : sound s ≡ true → s .rec .started ≡ true → (b : Bool) → eqb (s .rec .covered) (s .rec .message .total) ≡ b → askComplete s ≡ yesNo b
   unfolding askComplete
-  ask-held e f b g = rw (e, f, full-marked (s .layout) (s .rec .message .total) (s .payload) (s .marks), g)
+  ask-held e f b g = rw (e, f, g)
+
+  -- ---- how far it is
+  pub progress-unsound : sound s ≡ false → progressOf s ≡ P.Refused 12 0
+  unfolding progressOf
+  progress-unsound e = rw e
+
+  pub progress-idle : sound s ≡ true → s .rec .started ≡ false → progressOf s ≡ P.Is 0 0
+  unfolding progressOf
+  progress-idle e f = rw (e, f)
+
+  pub progress-held : sound s ≡ true → s .rec .started ≡ true → progressOf s ≡ P.Is (s .rec .covered) (s .rec .message .total)
+  unfolding progressOf
+  progress-held e f = rw (e, f)
 
   -- ---- handing out
-  pub hand-refused : (n p : ℕ) → askComplete s ≡ C.Refused n p → judgeHandOut s ≡ Refused n p
+  pub hand-unsound : sound s ≡ false → judgeHandOut s ≡ Refused 12 0
   unfolding judgeHandOut
-  hand-refused n p e = rw e
+  hand-unsound e = rw e
 
-  pub hand-no : askComplete s ≡ C.No → judgeHandOut s ≡ Refused 15 0
+  pub hand-idle : sound s ≡ true → s .rec .started ≡ false → judgeHandOut s ≡ Refused 15 0
   unfolding judgeHandOut
-  hand-no e = rw e
+  hand-idle e f = rw (e, f)
 
-  pub hand-yes : askComplete s ≡ C.Yes → judgeHandOut s ≡ Done
+  pub hand-wrong : sound s ≡ true → s .rec .started ≡ true → eqb (markedCount s) (s .rec .covered) ≡ false → judgeHandOut s ≡ Refused 12 0
   unfolding judgeHandOut
-  hand-yes e = rw e
+  hand-wrong e f g = rw (e, f, g)
+
+  pub hand-held : sound s ≡ true → s .rec .started ≡ true → eqb (markedCount s) (s .rec .covered) ≡ true → (b : Bool) → eqb (s .rec .covered) (s .rec .message .total) ≡ b
+      → judgeHandOut s ≡ cond b Done (Refused 15 0)
+  unfolding judgeHandOut
+  hand-held e f g b h = rw (e, f, g, h)
 
   pub hand-sound : judgeHandOut s ≡ Done → sound s ≡ true
-  hand-sound e = by-bool _ (sound s) (λ t. t) (λ t. absurd (refused-done 12 0 (sym (hand-refused 12 0 (ask-unsound t)) ∙ e)))
+  hand-sound e = by-bool _ (sound s) (λ t. t) (λ t. absurd (refused-done 12 0 (sym (hand-unsound t) ∙ e)))
 
   pub hand-started : judgeHandOut s ≡ Done → s .rec .started ≡ true
-  hand-started e =
-      by-bool _ (s .rec .started) (λ t. t) (λ t. absurd (refused-done 15 0 (sym (hand-no (ask-idle (hand-sound e) t)) ∙ e)))
+  hand-started e = by-bool _ (s .rec .started) (λ t. t) (λ t. absurd (refused-done 15 0 (sym (hand-idle (hand-sound e) t) ∙ e)))

@@ -29,9 +29,11 @@ Covers s i x = viewIn (stateOf s) i ≡ some x
 abbrev pub Complete : Partial → Type 0
 Complete s = (s .rec .started ≡ true) × ((i : ℕ) → i < s .rec .message .total → covered s i ≡ true)
 
--- started partials are equal if records, covered places and the bytes there agree; all not started are equal
-abbrev pub Equal : Partial → Partial → Type 0
-Equal a b = stateOf a ≡ stateOf b
+-- started partials are equal if records, covered places and the bytes there agree; all not started are equal. "Equality of started partials
+-- includes the number" of covered bytes (document 02, Req 07)
+pub record Equal (a b : Partial) : Type 0 where
+  pub states : stateOf a ≡ stateOf b
+  pub numbers : a .rec .started ≡ true → a .rec .covered ≡ b .rec .covered
 
 -- whether bytes of message m may come: 11 above the area, 13 of another message
 unfoldable pub admissionOf : PartialRecord → ℕ → Message → Admission

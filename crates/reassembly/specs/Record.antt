@@ -6,7 +6,7 @@ use mathlib.Core.List.{List}
 use lib.ListN.{length}
 use lib.Dec.{leb, eqb}
 use Rattle.wire.specs.declared.optional.Optional16.{Optional16}
-use Rattle.marks.specs.Marks.{Layout, inUse, marksFor}
+use Rattle.marks.specs.Marks.{Layout, inUse, marksFor, countMarked}
 use Rattle.publisher_id.specs.PublisherRecord.{Publisher, publisherOf, samePublisher, publisherFits}
 use Rattle.reassembly.specs.declared.record.Message.{Message}
 use Rattle.reassembly.specs.declared.record.MessageOrigin.{MessageOrigin}
@@ -60,17 +60,28 @@ partial r p m = record { rec = r; layout = inUse; payload = p; marks = m }
 abbrev pub roomOf : Partial → ℕ
 roomOf s = length (s .payload)
 
--- sound over areas of n and k bytes: marks of the length that the layout gives and, if started, total from 1 to that length and a string
--- publisher of at most 64 bytes
+-- sound over areas of n and k bytes: marks of the length that the layout gives and, if started, total from 1 to that length, a number of
+-- covered bytes not above total ("a started record's number above total is 12", document 02, Req 07) and a string publisher of at most 64
+-- bytes
 unfoldable pub soundBy : Layout → PartialRecord → ℕ → ℕ → Bool
 soundBy L r n k =
     eqb (marksFor L n) k
     && (not (r .started)
-    || (leb 1 (r .message .total) && (leb (r .message .total) n && publisherFits (r .message .origin .publisher))))
+    || (leb 1 (r .message .total)
+    && (leb (r .message .total) n && (leb (r .covered) (r .message .total) && publisherFits (r .message .origin .publisher)))))
 
 abbrev pub sound : Partial → Bool
 sound s = soundBy (s .layout) (s .rec) (length (s .payload)) (length (s .marks))
 
--- a partial that is in order, as every claim asks: it is sound
+-- how many bytes below total are marked
+abbrev pub markedCount : Partial → ℕ
+markedCount s = countMarked (s .layout) (s .rec .message .total) (s .marks)
+
+-- its number is right: that of the covered bytes; "one not started always counts as right" (document 02, Req 07)
+abbrev pub Right : Partial → Type 0
+Right s = s .rec .started ≡ true → s .rec .covered ≡ markedCount s
+
+-- a partial that is in order, as every claim asks: it is sound, and its number is right
 pub record Good (s : Partial) : Type 0 where
   pub is-sound : sound s ≡ true
+  pub is-right : Right s

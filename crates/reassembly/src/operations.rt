@@ -5,12 +5,14 @@ ghost use lib.ListN.{length};
 ghost use Rattle.reassembly.specs.Record.{partial, sound};
 ghost use Rattle.reassembly.specs.Reading.{GoodChunk, chunkMessage};
 ghost use Rattle.reassembly.specs.Reading.Reading.{chunk};
-ghost use Rattle.reassembly.specs.Operations.{stepOf, begun, begunMarks, takeIn, handOut};
+ghost use Rattle.reassembly.specs.Operations.{stepOf, begun, begunMarks, withNew, takeIn, handOut, progressOf};
+ghost use Rattle.marks.specs.Marks.{inUse, countMarked};
+ghost use lib.Dec.{eqb};
 ghost use Rattle.reassembly.specs.Machine.{replyOf, handedOf};
 ghost use Rattle.reassembly.specs.Machine.Call.{Empty, Take, Combine, Ask, HandOut};
 ghost use Rattle.reassembly.specs.Machine.Reply.{done};
 ghost use Rattle.reassembly.specs.Calls.{Does, saidOf, answers};
-ghost use Prim.Native.Nat.{ℕ};
+ghost use Prim.Native.Nat.{ℕ, _+_, _<_, _^_};
 ghost use mathlib.Core.List.{List};
 use crate::areas::store_covered;
 use crate::areas::store_data;
@@ -21,11 +23,13 @@ use crate::record::MessageOrigin;
 use crate::record::PartialRecord;
 use crate::record::is_sound;
 use crate::verdict::Completeness;
+use crate::verdict::Progress;
 use crate::verdict::Verdict;
 use chunk::datagram::ChunkPlace;
 use chunk::datagram::ChunkRead;
 use marks::all_marked;
 use marks::clear;
+use marks::count_marked;
 use marks::mark_marked;
 use marks::mark_range;
 use publisher_id::publisher_record::publisher_record;
@@ -39,9 +43,11 @@ pub struct Outcome {
     pub rec: PartialRecord,
 }
 
-// A partial not started takes over the message, and every mark is cleared; a started one stays as it is.
+// A partial not started takes over the message, nothing of it covered, and every mark is cleared; a started one stays as it is.
 fn begin(rec: PartialRecord, marks: &mut [u8], message: Message) -> PartialRecord
-    ensures { λ r. ⌜ (r ≡ begun rec message) × (now (marks .exit) ≡ begunMarks rec (now (marks .entry))) ⌝ }
+    ensures { λ r.
+        let before = now (marks .entry) in
+        ⌜ (r ≡ begun rec message) × (now (marks .exit) ≡ begunMarks rec before) × (length before < 2 ^ 63) ⌝ }
 {
     if rec.started {
         return rec;
@@ -50,6 +56,20 @@ fn begin(rec: PartialRecord, marks: &mut [u8], message: Message) -> PartialRecor
     PartialRecord {
         started: true,
         message,
+        covered: 0,
+    }
+}
+
+// A record with so many bytes more covered.
+fn with_new(rec: PartialRecord, fresh: usize) -> PartialRecord
+    requires { ⌜ rec .covered + fresh < 2 ^ 64 ⌝ }
+    ensures { λ r. ⌜ r ≡ withNew rec fresh ⌝ }
+{
+    let message = rec.message;
+    PartialRecord {
+        started: rec.started,
+        message,
+        covered: rec.covered + fresh,
     }
 }
 
@@ -74,8 +94,12 @@ fn take_chunk(
     let end = offset + bytes.len();
     let next = begin(rec, marks, m);
     store_data(payload, offset, bytes);
-    mark_range(marks, offset, end);
-    Outcome { verdict, rec: next }
+    let fresh = mark_range(marks, offset, end);
+    let after = with_new(next, fresh);
+    Outcome {
+        verdict,
+        rec: after,
+    }
 }
 
 // The record of a chunk's message.
@@ -161,8 +185,12 @@ pub fn combine_in(
     let m = source.message;
     let next = begin(rec, marks, m);
     store_covered(payload, m.total, from, from_marks);
-    mark_marked(marks, m.total, from_marks);
-    Outcome { verdict, rec: next }
+    let fresh = mark_marked(marks, m.total, from_marks);
+    let after = with_new(next, fresh);
+    Outcome {
+        verdict,
+        rec: after,
+    }
 }
 
 // Empties a partial: not started, and no area changes. Never refused.
@@ -173,10 +201,11 @@ pub fn empty(rec: PartialRecord) -> PartialRecord
     PartialRecord {
         started: false,
         message,
+        covered: rec.covered,
     }
 }
 
-// Whether a partial is complete: yes, no, or 12.
+// Whether a partial is complete, by its number of covered bytes: yes, no, or 12.
 pub fn ask_complete(rec: PartialRecord, payload: &[u8], marks: &[u8]) -> Completeness
     ensures { λ r. ⌜ saidOf r ≡ answers Ask (partial rec (now (payload .entry)) (now (marks .entry))) ⌝ }
 {
@@ -187,23 +216,56 @@ pub fn ask_complete(rec: PartialRecord, payload: &[u8], marks: &[u8]) -> Complet
         return Completeness::No;
     }
     let m = rec.message;
-    if all_marked(marks, m.total) {
+    if rec.covered == m.total {
         return Completeness::Yes;
     }
     Completeness::No
 }
 
-// What handing out answers: 12, 15, or done.
+// How far a partial is, for a progress bar: covered and total bytes of a started one, 0 and 0 of one not started; or 12.
+pub fn progress(rec: PartialRecord, payload: &[u8], marks: &[u8]) -> Progress
+    ensures { λ r. ⌜ r ≡ progressOf (partial rec (now (payload .entry)) (now (marks .entry))) ⌝ }
+{
+    if !is_sound(rec, payload.len(), marks.len()) {
+        return Progress::Refused(UNSOUND, 0);
+    }
+    if !rec.started {
+        return Progress::Is(0, 0);
+    }
+    let m = rec.message;
+    Progress::Is(rec.covered, m.total)
+}
+
+// Whether so many offsets below a total are marked. That all are is asked by eights.
+fn is_counted(marks: &[u8], total: usize, covered: usize) -> bool
+    ensures { λ r. ⌜ r ≡ eqb (countMarked inUse total (now (marks .entry))) covered ⌝ }
+{
+    if covered == total {
+        return all_marked(marks, total);
+    }
+    count_marked(marks, total) == covered
+}
+
+// What handing out answers: 12, 12 where the number is not that of the marks, 15, or done.
 pub fn hand_out_verdict(rec: PartialRecord, payload: &[u8], marks: &[u8]) -> Verdict
     ensures { λ r.
         let before = partial rec (now (payload .entry)) (now (marks .entry)) in
         ⌜ handedOf r (handOut before) ≡ answers HandOut before ⌝ }
 {
-    match ask_complete(rec, payload, marks) {
-        Completeness::Yes => Verdict::Done,
-        Completeness::No => Verdict::Refused(NOT_COMPLETE, 0),
-        Completeness::Refused(n, place) => Verdict::Refused(n, place),
+    if !is_sound(rec, payload.len(), marks.len()) {
+        return Verdict::Refused(UNSOUND, 0);
     }
+    if !rec.started {
+        return Verdict::Refused(NOT_COMPLETE, 0);
+    }
+    let m = rec.message;
+    if !is_counted(marks, m.total, rec.covered) {
+        return Verdict::Refused(UNSOUND, 0);
+    }
+    if rec.covered != m.total {
+        return Verdict::Refused(NOT_COMPLETE, 0);
+    }
+    Verdict::Done
 }
 
 // The complete payload, as a part of the lent area; nothing where `hand_out_verdict` refuses.

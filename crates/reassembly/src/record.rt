@@ -22,10 +22,12 @@ pub struct Message {
     pub total: usize,
 }
 
-// A partial's record: whether it is started, and the message it then has.
+// A partial's record: whether it is started, the message it then has, and how many of its bytes are covered. Where a caller made the number
+// up it may be wrong: above the total it is unsound, else handing out refuses it.
 pub struct PartialRecord {
     pub started: bool,
     pub message: Message,
+    pub covered: usize,
 }
 
 // Whether two messages have the same WriterGroupId: absent equals only absent.
@@ -91,6 +93,9 @@ pub(crate) fn is_sound(rec: PartialRecord, payload_len: usize, marks_len: usize)
         return false;
     }
     if payload_len < m.total {
+        return false;
+    }
+    if m.total < rec.covered {
         return false;
     }
     let origin = m.origin;

@@ -66,7 +66,7 @@ module _ (s f : Partial) (ok : Good s) (okf : Good f) (m : Message) (at : ℕ) (
 -- ---- there is one, in areas of n bytes
 module _ (L : Layout) (n : ℕ) (m : Message) (at : ℕ) (d : List ℕ) (o : GoodChunk m at (length d)) (room : m .total ≤ n) where
   base : Partial
-  base = record { rec = record { started = false; message = m }; layout = L; payload = replicate n 0; marks = replicate (marksFor L n) 0 }
+  base = record { rec = record { started = false; message = m; covered = 0 }; layout = L; payload = replicate n 0; marks = replicate (marksFor L n) 0 }
 
   base-good : Good base
   unfolding base soundBy
@@ -74,6 +74,7 @@ module _ (L : Layout) (n : ℕ) (m : Message) (at : ℕ) (d : List ℕ) (o : Goo
     is-sound =
         rw (eq-eqb (marksFor L (length {A = ℕ} (replicate n 0))) (length {A = ℕ} (replicate (marksFor L n) 0))
         (ap (marksFor L) (length-replicate {A = ℕ} n 0) ∙ sym (length-replicate {A = ℕ} (marksFor L n) 0)));
+    is-right = λ t. absurd (false≢true t);
   }
 
   base-fit : Following.GoodMessage m (length (base .payload))
@@ -82,7 +83,9 @@ module _ (L : Layout) (n : ℕ) (m : Message) (at : ℕ) (d : List ℕ) (o : Goo
 
   pub chunk-alone-good : Good (chunkAlone L n m at d)
   unfolding base
-  chunk-alone-good = Following.put-good m (dataView at d) base base-good base-fit
+  chunk-alone-good =
+      Following.put-good m (dataView at d) base base-good base-fit (λ i h. data-above at d i (omega (arith, o .fits)))
+      (rw (le-leb (m .total) (length {A = ℕ} (replicate n 0)) (base-fit .room)))
 
   pub chunk-alone-is : stateOf (chunkAlone L n m at d) ≡ alone (chunk m at d)
   unfolding base

@@ -48,7 +48,7 @@ module _ (a b : Partial) (ga : Good a) where
   pub combined-verdict : combine a b .verdict ≡ judgeCombine a b
   combined-verdict = combine-stepped a ga b .verdict ∙ sym (source-verdict a ga b)
 
-  combined-good : Good (combine a b .after)
+  pub combined-good : Good (combine a b .after)
   combined-good = combine-stepped a ga b .good
 
   pub combined-room : length (combine a b .after .payload) ≡ length (a .payload)

@@ -1,5 +1,5 @@
 -- Demand 3. Each theorem speaks of the definitions that the contracts of src/operations.rt cite. Assumes nothing.
-use Prim.Native.Nat.{ℕ, _≤_}
+use Prim.Native.Nat.{ℕ, _+_, _≤_}
 use mathlib.Core.Path.{_≡_, refl, sym, ap, ap₂, subst, _∙_}
 use mathlib.Core.Logic.{_↔_, inl, inr}
 use mathlib.Core.Bool.{Bool, true, false, cond, false≢true}
@@ -7,9 +7,10 @@ use mathlib.Core.List.{List, [], _∷_, _++_}
 use native.Mathlib.Omega.{arith}
 use lib.ListN.{length, take}
 use lib.Seq.{length-take-le}
-use Rattle.marks.specs.Marks.{Layout}
-use Rattle.reassembly.specs.Views.{dataView}
-use Rattle.reassembly.specs.Record.{Partial, Good}
+use Rattle.marks.specs.Marks.{Layout, newMarks}
+use Rattle.marks.proofs.CountLaws.{new-again}
+use Rattle.reassembly.specs.Views.{has, dataView}
+use Rattle.reassembly.specs.Record.{Partial, sound, Good}
 use Rattle.reassembly.specs.Reading.{Reading, GoodChunk, GoodReading, readingAt}
 use Rattle.reassembly.specs.Reading.Reading.{chunk}
 use Rattle.reassembly.specs.Machine.{Call, Reply, handedOf, State, viewIn, viewOf, stateOf, alone, between, isComplete, machineReplies, machineFinal, brought, AllOf}
@@ -17,7 +18,7 @@ use Rattle.reassembly.specs.Machine.State.{idle, held}
 use Rattle.reassembly.specs.Machine.Call.{Empty, Take, Combine, Ask, HandOut}
 use Rattle.reassembly.specs.Machine.Reply.{done, said, handed, refused}
 use Rattle.reassembly.specs.Judge.{Complete, Equal, judgeReading, judgeCombine}
-use Rattle.reassembly.specs.Operations.{stepBy, put, putReading, takeIn, combine, judgeHandOut, ifDone, handOut}
+use Rattle.reassembly.specs.Operations.{stepBy, withNew, put, putReading, takeIn, combine, askComplete, judgeHandOut, ifDone, handOut}
 use Rattle.reassembly.specs.Calls.{replies, final, answers, leaves}
 use Rattle.reassembly.specs.declared.record.Message.{Message}
 use Rattle.reassembly.specs.declared.verdict.Verdict.{Verdict}
@@ -25,12 +26,14 @@ use Rattle.reassembly.specs.declared.verdict.Verdict.the-variants.{Done, Refuse
 use Rattle.reassembly_laws.specs.AnyList.{AnyList, replyAt, HandsOut}
 use Rattle.reassembly_laws.specs.Alone.{chunkAlone, IsAlone, AsPartial}
 use Rattle.reassembly_laws.specs.Combining.{EqualRoom, EitherOrder, EitherGrouping, someDisagree, leftVerdict, rightVerdict}
-use Rattle.wire.proofs.Cases.{by-bool}
+use borrow.Author.Tests.{eq-eqb, ne-eqb}
+use Rattle.wire.proofs.Cases.{by-bool, by-eq}
 use Rattle.reassembly.proofs.ViewLaws.{full-some, full-all}
-use Rattle.reassembly.proofs.AreaLaws.{laid-self, marks-again}
+use Rattle.reassembly.proofs.AreaLaws.{has-marked, laid-self, marks-again}
 use Rattle.reassembly.proofs.JudgeLaws
 use Rattle.reassembly.proofs.CallLaws.{one-verdict}
 use Rattle.reassembly_laws.proofs.Alone
+use Rattle.reassembly_laws.proofs.Numbers.{equal-right, equal-self}
 use Rattle.reassembly_laws.proofs.StateLaws
 use Rattle.reassembly.proofs.Following
 use Rattle.reassembly.proofs.Bringing
@@ -111,6 +114,19 @@ complete-is s = (
   λ p. rw (p .0) (full-all (s .rec .message .total) (viewOf s) (λ i l. rw (p .0) at (p .1 i l))),
 )
 
+-- "complete" is said from the number: exactly when a started one's number is its total, of any sound partial
+pub complete-by-number : (s : Partial) → sound s ≡ true → (answers Ask s ≡ said true) ↔ ((s .rec .started ≡ true) × (s .rec .covered ≡ s .rec .message .total))
+unfolding askComplete
+complete-by-number s e = (
+  λ q. by-bool _ (s .rec .started)
+      (λ t. (t, by-eq _ (s .rec .covered) (s .rec .message .total) (λ h. h) (λ h. absurd (no-yes (rw (e, t, ne-eqb (s .rec .covered) (s .rec .message .total) h) at q)))))
+      (λ t. absurd (no-yes (rw (e, t) at q))),
+  λ p. rw (e, p .0, eq-eqb (s .rec .covered) (s .rec .message .total) (p .1)),
+)
+  where
+    no-yes : said false ≡ said true → ⊥
+    no-yes q = let z : _≡_ {A = ℕ} 0 1 = cc in omega arith
+
 pub complete-exactly : (s : Partial) → Good s → (answers Ask s ≡ said true) ↔ Complete s
 complete-exactly s ok = (
   λ e. complete-is s .0 (is-yes (isComplete (stateOf s)) (sym (Following.follow s ok Ask .reply) ∙ e)),
@@ -163,9 +179,10 @@ combine-order a b w =
     ∙ sym (Combining.verdict-between b a (w .second) (w .first) (w .back)) in
     record {
       same-verdict = same;
-      equal = λ e. Combining.done-state a b (w .first) e
+      equal = λ e. equal-right (combine a b .after) (combine b a .after) (Combining.combined-good a b (w .first)) (Combining.combined-good b a (w .second))
+          (Combining.done-state a b (w .first) e
           ∙ StateLaws.accept-comm (stateOf a) (stateOf b) (Combining.done-agree a b (w .first) (w .second) (w .room) e)
-          ∙ sym (Combining.done-state b a (w .second) (sym same ∙ e));
+          ∙ sym (Combining.done-state b a (w .second) (sym same ∙ e)));
     }
 
 -- areas of equal length meet what is asked
@@ -186,9 +203,18 @@ three-equal-areas a b c ga gb gc ab bc = record {
 pub combine-not-started : (a b : Partial) → Good a → Good b → b .rec .started ≡ false → combine a b ≡ record { verdict = Done; after = a }
 combine-not-started a b ga gb e = JudgeLaws.combine-done-idle a b (JudgeLaws.combine-idle a b (ga .is-sound) (gb .is-sound) e) e
 
+-- what is marked already is not new
+nothing-new : (a : Partial) → withNew (a .rec) (newMarks (a .layout) (has (viewOf a)) (a .marks)) ≡ a .rec
+nothing-new a =
+    let z : a .rec .covered + newMarks (a .layout) (has (viewOf a)) (a .marks) ≡ a .rec .covered =
+    (let n = ap (λ (f : ℕ → Bool). newMarks (a .layout) f (a .marks)) (has-marked (a .layout) (a .rec .message .total) (a .payload) (a .marks))
+    ∙ new-again (a .layout) (a .rec .message .total) (a .marks) in omega arith) in
+    λ i. record { started = a .rec .started; message = a .rec .message; covered = z i }
+
 -- ---- AN EQUAL ONE changes nothing, not even an uncovered byte
 pub combine-equal : (a b : Partial) → Good a → Good b → Equal a b → combine a b ≡ record { verdict = Done; after = a }
-combine-equal a b ga gb q =
+combine-equal a b ga gb w =
+    let q = w .states in
     by-bool _ (b .rec .started)
     (λ e. by-bool _ (a .rec .started)
     (λ f.
@@ -202,16 +228,16 @@ combine-equal a b ga gb q =
     isHeld (held m v) = true
 
     room : Room a b
-    room = rw q at (Combining.own-room a ga)
+    room = rw (w .states) at (Combining.own-room a ga)
 
     done : judgeCombine a b ≡ Done
-    done = Combining.judged-between a b ga gb room ∙ ap (between (stateOf a)) (sym q) ∙ StateLaws.agree-done (stateOf a) (stateOf a) (StateLaws.agree-refl (stateOf a))
+    done = Combining.judged-between a b ga gb room ∙ ap (between (stateOf a)) (sym (w .states)) ∙ StateLaws.agree-done (stateOf a) (stateOf a) (StateLaws.agree-refl (stateOf a))
 
     unchanged : a .rec .started ≡ true → viewOf b ≡ viewOf a → put (b .rec .message) (viewOf b) a ≡ a
     unchanged f v =
         Following.put-started (b .rec .message) (viewOf b) a f
         ∙ rw v (λ i. record {
-          rec = a .rec;
+          rec = nothing-new a i;
           layout = a .layout;
           payload = laid-self (a .layout) (a .rec .message .total) (a .payload) (a .marks) i;
           marks =
@@ -223,7 +249,8 @@ pub combine-groupings : (a b c : Partial) → Three a b c → EitherGrouping a b
 combine-groupings a b c w = record {
   left = Combining.refused-exactly (leftVerdict a b c) (someDisagree a b c) (λ e. agree (Combining.left-pairs a b c w e)) (λ e. Combining.pairs-left a b c w (pairs e));
   right = Combining.refused-exactly (rightVerdict a b c) (someDisagree a b c) (λ e. agree (Combining.right-pairs a b c w e)) (λ e. Combining.pairs-right a b c w (pairs e));
-  equal = λ e. Combining.pairs-equal a b c w (pairs e);
+  equal = λ e. equal-right _ _ (Combining.combined-good (combine a b .after) c (Combining.combined-good a b (w .first))) (Combining.combined-good a (combine b c .after) (w .first))
+      (Combining.pairs-equal a b c w (pairs e));
 }
   where
     pairs : someDisagree a b c ≡ false → Combining.Pairwise a b c
@@ -242,13 +269,14 @@ chunk-as-partial s f ok okf m at d o q = go (judgeReading s (chunk m at d)) refl
     go (Refused n p) e =
         let x = JudgeLaws.take-refused s (chunk m at d) n p e in
         let y = JudgeLaws.combine-refused s f n p (sym (Alone.judged s f ok okf m at d q) ∙ e) in
-        record { verdict = rw (x, y); equal = rw (x, y); payload = rw (x, y); marks = rw (x, y) }
+        record { verdict = rw (x, y); equal = rw (x, y) (equal-self s); payload = rw (x, y); marks = rw (x, y) }
     go Done e =
         let x = JudgeLaws.take-done s (chunk m at d) e in
         let y = Alone.combined s f ok okf m at d q e in
         record {
           verdict = rw (x, y);
-          equal = Alone.taken-state s ok m at d o e ∙ sym (Alone.combined-state s f ok okf m at d q e);
+          equal = equal-right _ _ (Following.take-stepped s ok (chunk m at d) o .good) (Combining.combined-good s f ok)
+              (Alone.taken-state s ok m at d o e ∙ sym (Alone.combined-state s f ok okf m at d q e));
           payload = rw (x, y) (Alone.put-payload s m (f .rec .message) (dataView at d));
           marks = rw (x, y) (Alone.put-marks s m (f .rec .message) (dataView at d));
         }

@@ -10,7 +10,7 @@ use Rattle.marks.specs.Marks.{Layout, markedBelow}
 use Rattle.reassembly.specs.Views.{has, isSome, onlyIf}
 use Rattle.reassembly.specs.Areas.{markedView}
 use Rattle.reassembly.specs.Record.{Identity, Partial}
-use Rattle.reassembly.specs.Machine.{State, viewIn, viewOf}
+use Rattle.reassembly.specs.Machine.{State, viewIn, viewOf, stateOf}
 use Rattle.reassembly.specs.Machine.State.{idle, held}
 use Rattle.reassembly.specs.Judge.{covered, Equal}
 use Rattle.reassembly_laws.specs.Equality.{EqualStarted, EqualInWords}
@@ -43,7 +43,8 @@ module _ (a b : Partial) where
 
   to-words : Equal a b → EqualInWords a b
   unfolding isHeld
-  to-words q =
+  to-words w =
+      let q = w .states in
       by-bool _ (a .rec .started)
       (λ e. by-bool _ (b .rec .started)
       (λ f. inr (record {
@@ -51,15 +52,16 @@ module _ (a b : Partial) where
         second = f;
         records = same-held _ _ _ _ (rw (e, f) at q);
         places = λ i. ap (λ (s : State). has (viewIn s) i) q;
-        bytes = λ i c. bytes-there i e f c;
+        numbers = w .numbers e;
+        bytes = λ i c. bytes-there (w .states) i e f c;
       }))
       (λ f. absurd (false≢true (sym (rw (e, f) at (ap isHeld q))))))
       (λ e. by-bool _ (b .rec .started)
       (λ f. absurd (false≢true (rw (e, f) at (ap isHeld q))))
       (λ f. inl (e, f)))
     where
-      bytes-there : (i : ℕ) → a .rec .started ≡ true → b .rec .started ≡ true → covered a i ≡ true → getD (a .payload) i 0 ≡ getD (b .payload) i 0
-      bytes-there i e f c =
+      bytes-there : stateOf a ≡ stateOf b → (i : ℕ) → a .rec .started ≡ true → b .rec .started ≡ true → covered a i ≡ true → getD (a .payload) i 0 ≡ getD (b .payload) i 0
+      bytes-there q i e f c =
           let d : covered b i ≡ true = ap (λ (s : State). has (viewIn s) i) (sym q) ∙ c in
           let v : viewOf a i ≡ viewOf b i = rw (e, f) at (ap (λ (s : State). viewIn s i) q) in
           let x : viewOf a i ≡ onlyIf true (getD (a .payload) i 0) = byte-of a i e ∙ ap (λ (t : Bool). onlyIf t (getD (a .payload) i 0)) c in
@@ -67,7 +69,7 @@ module _ (a b : Partial) where
           ap (λ (o : Option ℕ). Option·getD o 0) (sym x ∙ v ∙ y)
 
   from-started : EqualStarted a b → Equal a b
-  from-started w = rw (w .first, w .second) (ap₂ held (w .records) (fun-ext same-byte))
+  from-started w = record { states = rw (w .first, w .second) (ap₂ held (w .records) (fun-ext same-byte)); numbers = λ t. w .numbers }
     where
       only-same : (t u : Bool) (x y : ℕ) → t ≡ u → (t ≡ true → x ≡ y) → onlyIf t x ≡ onlyIf u y
       only-same true true x y e h = ap (onlyIf true) (h refl)
@@ -81,7 +83,7 @@ module _ (a b : Partial) where
           ∙ sym (byte-of b i (w .second))
 
   from-words : EqualInWords a b → Equal a b
-  from-words (inl e) = rw (e .0, e .1)
+  from-words (inl e) = record { states = rw (e .0, e .1); numbers = λ t. absurd (false≢true (sym (e .0) ∙ t)) }
   from-words (inr w) = from-started w
 
   -- ---- EQUAL IN DOCUMENT 01'S WORDS

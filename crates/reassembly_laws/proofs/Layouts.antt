@@ -8,7 +8,8 @@ use lib.ListN.{length, getD, replicate, length-replicate}
 use lib.Dec.{eqb}
 use borrow.Author.Tests.{eq-eqb}
 use Rattle.reassembly.specs.Views.{View, has, onlyIf, overlaid}
-use Rattle.marks.specs.Marks.{Layout, marksFor, marked, cleared}
+use Rattle.marks.specs.Marks.{Layout, marksFor, marked, cleared, countMarked}
+use Rattle.marks.proofs.CountLaws.{count-ext}
 use Rattle.reassembly.specs.Record.{identityOf, Partial, soundBy, Good}
 use Rattle.reassembly.specs.Reading.{Reading, readingAt}
 use Rattle.reassembly.specs.Reading.Reading.{chunk, refusal}
@@ -30,6 +31,7 @@ use Rattle.reassembly.proofs.AreaLaws.{marked-below, marked-above}
 use Rattle.reassembly.proofs.JudgeLaws
 use Rattle.reassembly.proofs.Following
 use Rattle.reassembly_laws.proofs.Equality.{view-by}
+use Rattle.reassembly_laws.proofs.Numbers.{equal-right}
 
 module _ (s t : Partial) (same : SameButMarks s t) where
   same-started : (b : Bool) → s .rec .started ≡ b → t .rec .started ≡ b
@@ -55,13 +57,19 @@ record SameStep (x y : Step) : Type 0 where
 
 module _ (s t : Partial) (same : SameButMarks s t) where
   -- by one verdict and of the same bytes
-  same-step : (v w : Verdict) (a b : Partial) → v ≡ w → a .rec ≡ b .rec → a .payload ≡ b .payload → SameStep (stepBy v s a) (stepBy w t b)
-  same-step Done w a b e r p = rw (sym e) (record { verdict = refl; rec = r; payload = p })
+  same-step : (v w : Verdict) (a b : Partial) → v ≡ w → (v ≡ Done → a .rec ≡ b .rec) → a .payload ≡ b .payload → SameStep (stepBy v s a) (stepBy w t b)
+  same-step Done w a b e r p = rw (sym e) (record { verdict = refl; rec = r refl; payload = p })
   same-step (Refused n q) w a b e r p = rw (sym e) (record { verdict = refl; rec = same .rec; payload = same .payload })
 
-  put-rec : (m k : Message) (v w : View) → m ≡ k → put m v s .rec ≡ put k w t .rec
+  put-rec : (m k : Message) (v w : View) → m ≡ k → put m v s .rec .covered ≡ put k w t .rec .covered → put m v s .rec ≡ put k w t .rec
   unfolding put
-  put-rec m k v w e = ap₂ begun (same .rec) e
+  put-rec m k v w e c =
+      let b = ap₂ begun (same .rec) e in
+      λ i. record { started = b i .started; message = b i .message; covered = c i }
+
+  put-on : (m : Message) (v : View) → put m v s .rec .started ≡ true
+  unfolding put
+  put-on m v = by-bool _ (s .rec .started) (λ e. rw e) (λ e. rw e)
 
   put-payload : (m k : Message) (v w : View) → v ≡ w → put m v s .payload ≡ put k w t .payload
   unfolding put
@@ -75,23 +83,31 @@ module _ (s t : Partial) (same : SameButMarks s t) where
   unfolding judgeCombine
   same-source f g o = rw (same .sound, o .sound, same-state s t same, same-state f g o, same .payload)
 
-  same-take : (x : Reading) → SameStep (takeIn s x) (takeIn t x)
+  -- the numbers of covered bytes afterwards are the same where one is started
+  abbrev SameNumber : Step → Step → Type 0
+  SameNumber x y = x .after .rec .started ≡ true → x .after .rec .covered ≡ y .after .rec .covered
+
+  same-take : (x : Reading) → SameNumber (takeIn s x) (takeIn t x) → SameStep (takeIn s x) (takeIn t x)
   unfolding takeIn
-  same-take x = same-step (judgeReading s x) (judgeReading t x) (putReading x s) (putReading x t) (same-judged x) (after-rec x) (after-payload x)
+  same-take x num = same-step (judgeReading s x) (judgeReading t x) (putReading x s) (putReading x t) (same-judged x) (after-rec x num) (after-payload x)
     where
-      after-rec : (x : Reading) → putReading x s .rec ≡ putReading x t .rec
-      after-rec (chunk m at d) = put-rec m m _ _ refl
-      after-rec (refusal n p) = same .rec
+      after-rec : (x : Reading) → SameNumber (stepBy (judgeReading s x) s (putReading x s)) (stepBy (judgeReading t x) t (putReading x t)) → judgeReading s x ≡ Done
+          → putReading x s .rec ≡ putReading x t .rec
+      after-rec (chunk m at d) n e = put-rec m m _ _ refl ((rw (e, sym (same-judged (chunk m at d)) ∙ e) at n) (put-on m _))
+      after-rec (refusal k p) n e = same .rec
 
       after-payload : (x : Reading) → putReading x s .payload ≡ putReading x t .payload
       after-payload (chunk m at d) = put-payload m m _ _ refl
       after-payload (refusal n p) = same .payload
 
-  same-combine : (f g : Partial) → SameButMarks f g → SameStep (combine s f) (combine t g)
+  same-combine : (f g : Partial) → SameButMarks f g → SameNumber (combine s f) (combine t g) → SameStep (combine s f) (combine t g)
   unfolding combine
-  same-combine f g o =
+  same-combine f g o num =
       same-step (judgeCombine s f) (judgeCombine t g) _ _ (same-source f g o)
-      (by-bool _ (f .rec .started) (λ e. rw (e, same-started f g o true e) (put-rec _ _ _ _ (ap (λ (r : PartialRecord). r .message) (o .rec)))) (λ e. rw (e, same-started f g o false e) (same .rec)))
+      (λ d. by-bool _ (f .rec .started)
+      (λ e. rw (e, same-started f g o true e)
+      (put-rec _ _ _ _ (ap (λ (r : PartialRecord). r .message) (o .rec)) ((rw (d, sym (same-source f g o) ∙ d, e, same-started f g o true e) at num) (put-on _ _))))
+      (λ e. rw (e, same-started f g o false e) (same .rec)))
       (by-bool _ (f .rec .started) (λ e. rw (e, same-started f g o true e) (put-payload _ _ _ _ (same-view f g o e))) (λ e. rw (e, same-started f g o false e) (same .payload)))
 
 -- ---- one call
@@ -111,19 +127,22 @@ same-keeps n _ _ x SameCall.same-ask = refl
 same-keeps n _ _ x SameCall.same-hand-out = refl
 
 module _ (s t : Partial) (same : SameButMarks s t) where
-  leaves-rec : (k l : Call) → SameCall k l → leaves k s .rec ≡ leaves l t .rec
-  leaves-rec _ _ SameCall.same-empty = ap emptied (same .rec)
-  leaves-rec _ _ (SameCall.same-take d z) = same-take s t same (readingAt z d) .rec
-  leaves-rec _ _ (SameCall.same-combine f g o) = same-combine s t same f g o .rec
-  leaves-rec _ _ SameCall.same-ask = same .rec
-  leaves-rec _ _ SameCall.same-hand-out = same .rec
+  abbrev SameLeft : Call → Call → Type 0
+  SameLeft k l = leaves k s .rec .started ≡ true → leaves k s .rec .covered ≡ leaves l t .rec .covered
 
-  leaves-payload : (k l : Call) → SameCall k l → leaves k s .payload ≡ leaves l t .payload
-  leaves-payload _ _ SameCall.same-empty = same .payload
-  leaves-payload _ _ (SameCall.same-take d z) = same-take s t same (readingAt z d) .payload
-  leaves-payload _ _ (SameCall.same-combine f g o) = same-combine s t same f g o .payload
-  leaves-payload _ _ SameCall.same-ask = same .payload
-  leaves-payload _ _ SameCall.same-hand-out = same .payload
+  leaves-rec : (k l : Call) → SameCall k l → SameLeft k l → leaves k s .rec ≡ leaves l t .rec
+  leaves-rec _ _ SameCall.same-empty n = ap emptied (same .rec)
+  leaves-rec _ _ (SameCall.same-take d z) n = same-take s t same (readingAt z d) n .rec
+  leaves-rec _ _ (SameCall.same-combine f g o) n = same-combine s t same f g o n .rec
+  leaves-rec _ _ SameCall.same-ask n = same .rec
+  leaves-rec _ _ SameCall.same-hand-out n = same .rec
+
+  leaves-payload : (k l : Call) → SameCall k l → SameLeft k l → leaves k s .payload ≡ leaves l t .payload
+  leaves-payload _ _ SameCall.same-empty n = same .payload
+  leaves-payload _ _ (SameCall.same-take d z) n = same-take s t same (readingAt z d) n .payload
+  leaves-payload _ _ (SameCall.same-combine f g o) n = same-combine s t same f g o n .payload
+  leaves-payload _ _ SameCall.same-ask n = same .payload
+  leaves-payload _ _ SameCall.same-hand-out n = same .payload
 
   module _ (ok : Good s) (ok′ : Good t) (k l : Call) (c : SameCall k l) where
     same-room : length (s .payload) ≡ length (t .payload)
@@ -139,10 +158,13 @@ module _ (s t : Partial) (same : SameButMarks s t) where
         Following.follow s ok k .state ∙ ap₂ (λ (n : ℕ) (x : State). keeps n k x) same-room (same-state s t same)
         ∙ same-keeps (length (t .payload)) k l (stateOf t) c ∙ sym (Following.follow t ok′ l .state)
 
+    number : SameLeft k l
+    number = equal-right (leaves k s) (leaves l t) (Following.follow s ok k .good) (Following.follow t ok′ l .good) left-state .numbers
+
     same-left : SameButMarks (leaves k s) (leaves l t)
     same-left = record {
-      rec = leaves-rec k l c;
-      payload = leaves-payload k l c;
+      rec = leaves-rec k l c number;
+      payload = leaves-payload k l c number;
       sound = Following.follow s ok k .good .is-sound ∙ sym (Following.follow t ok′ l .good .is-sound);
       covered = λ i. ap (λ (x : State). has (viewIn x) i) left-state;
     }
@@ -176,18 +198,21 @@ module _ (L : Layout) (s : Partial) (ok : Good s) where
   unfolding blank
   length-blank = length-replicate {A = ℕ} (marksFor L (length (s .payload))) 0
 
-  in-layout-good : Good (inLayout L s)
-  unfolding blank soundBy
-  in-layout-good =
-      let e : marksFor L (length (s .payload)) ≡ length (inLayout L s .marks) = sym (length-markAll L (marked (s .layout) (s .marks)) blank ∙ length-blank) in
-      record { is-sound = rw (eq-eqb _ _ e) (and-right (eqb (marksFor (s .layout) (length (s .payload))) (length (s .marks))) _ (ok .is-sound)) }
-
   marked-same : (i : ℕ) → i < length (s .payload) → marked (s .layout) (s .marks) i ≡ marked L (inLayout L s .marks) i
   unfolding blank
   marked-same i h =
       by-bool _ (marked (s .layout) (s .marks) i)
       (λ e. e ∙ sym (marked-on L (length (s .payload)) (marked (s .layout) (s .marks)) blank i h (rw length-blank (omega arith)) e))
       (λ e. e ∙ sym (marked-off L (marked (s .layout) (s .marks)) blank i e ∙ marked-blank L (marksFor L (length (s .payload))) i))
+
+  in-layout-good : Good (inLayout L s)
+  unfolding blank soundBy countMarked
+  in-layout-good =
+      let e : marksFor L (length (s .payload)) ≡ length (inLayout L s .marks) = sym (length-markAll L (marked (s .layout) (s .marks)) blank ∙ length-blank) in
+      record {
+        is-sound = rw (eq-eqb _ _ e) (and-right (eqb (marksFor (s .layout) (length (s .payload))) (length (s .marks))) _ (ok .is-sound));
+        is-right = λ t. ok .is-right t ∙ count-ext (s .rec .message .total) _ _ (λ i h. marked-same i (omega (arith, JudgeLaws.sound-total s (ok .is-sound) t)));
+      }
 
   view-same : s .rec .started ≡ true → viewOf s ≡ viewOf (inLayout L s)
   view-same e =

@@ -1,6 +1,7 @@
 pub mod JoinLaws
 pub mod StateLaws
 pub mod Combining
+pub mod Numbers
 pub mod Alone
 pub mod Equality
 pub mod Demand3

@@ -9,12 +9,12 @@ use Rattle.reassembly.specs.Views.{clash}
 use Rattle.reassembly.specs.Record.{sameMessage, Partial, sound}
 use Rattle.reassembly.specs.Reading.{Reading, readingAt}
 use Rattle.reassembly.specs.Reading.Reading.{chunk, refusal}
-use Rattle.reassembly.specs.Machine.{Call, Reply, replyOf, handedOf, State, stateOf, alone, judge, readingVerdict, isComplete}
+use Rattle.reassembly.specs.Machine.{Call, Reply, replyOf, handedOf, State, stateOf, alone, judge, readingVerdict}
 use Rattle.reassembly.specs.Machine.State.{idle, held}
 use Rattle.reassembly.specs.Machine.Call.{Empty, Take, Combine, Ask, HandOut}
 use Rattle.reassembly.specs.Machine.Reply.{done, said, handed, refused}
 use Rattle.reassembly.specs.Judge.{judgeReading, judgeCombine}
-use Rattle.reassembly.specs.Operations.{stepBy, takeIn, combine, yesNo, askComplete, handOutBy, judgeHandOut}
+use Rattle.reassembly.specs.Operations.{stepBy, takeIn, combine, yesNo, saysComplete, askComplete, numberRight, judgeHandOut}
 use Rattle.reassembly.specs.Calls.{saidOf, answers}
 use Rattle.reassembly.specs.declared.verdict.Completeness.the-variants as C
 use Rattle.reassembly.specs.declared.verdict.Verdict.{Verdict}
@@ -81,7 +81,7 @@ module _ (d sizes : List ℕ) where
 
 ask-passes : (s : Partial) → Replies (ByNumber (12 ∷ [])) (saidOf (askComplete s))
 unfolding askComplete
-ask-passes s = go (sound s) (isComplete (stateOf s))
+ask-passes s = go (sound s) (saysComplete s)
   where
     go : (b c : Bool) → Replies (ByNumber (12 ∷ [])) (saidOf (cond b (yesNo c) (C.Refused 12 0)))
     go true true = tt
@@ -89,13 +89,14 @@ ask-passes s = go (sound s) (isComplete (stateOf s))
     go false c = (refl, refl)
 
 hand-passes : (s : Partial) → Passes (ByNumber (12 ∷ 15 ∷ [])) (judgeHandOut s)
-unfolding judgeHandOut askComplete
-hand-passes s = go (sound s) (isComplete (stateOf s))
+unfolding judgeHandOut
+hand-passes s = go (sound s) (numberRight s) (saysComplete s)
   where
-    go : (b c : Bool) → Passes (ByNumber (12 ∷ 15 ∷ [])) (handOutBy (cond b (yesNo c) (C.Refused 12 0)))
-    go true true = Passes.fine
-    go true false = Passes.by 15 0 (refl, refl)
-    go false c = Passes.by 12 0 (refl, refl)
+    go : (b r c : Bool) → Passes (ByNumber (12 ∷ 15 ∷ [])) (cond b (cond r (cond c Done (Refused 15 0)) (Refused 12 0)) (Refused 12 0))
+    go true true true = Passes.fine
+    go true true false = Passes.by 15 0 (refl, refl)
+    go true false c = Passes.by 12 0 (refl, refl)
+    go false r c = Passes.by 12 0 (refl, refl)
 
 passing : (k : Call) (s : Partial) → Replies (MayRefuse k) (answers k s)
 unfolding takeIn combine

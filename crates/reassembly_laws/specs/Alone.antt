@@ -18,7 +18,12 @@ use Rattle.reassembly.specs.declared.record.Message.{Message}
 abbrev pub chunkAlone : Layout → ℕ → Message → ℕ → List ℕ → Partial
 chunkAlone L n m at d =
     put m (dataView at d)
-    (record { rec = record { started = false; message = m }; layout = L; payload = replicate n 0; marks = replicate (marksFor L n) 0 })
+    (record {
+      rec = record { started = false; message = m; covered = 0 };
+      layout = L;
+      payload = replicate n 0;
+      marks = replicate (marksFor L n) 0;
+    })
 
 -- f is the chunk x alone, in order, with room for n bytes
 pub record IsAlone (x : Reading) (n : ℕ) (f : Partial) : Type 0 where

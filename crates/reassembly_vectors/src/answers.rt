@@ -4,6 +4,7 @@ use crate::partials::record;
 use reassembly::Completeness;
 use reassembly::Outcome;
 use reassembly::PartialRecord;
+use reassembly::Progress;
 use reassembly::Verdict;
 use vector_lines::bytes::word_bytes;
 use vector_lines::lines::decimal;
@@ -57,6 +58,7 @@ pub fn show(p: Part, line: &[u8]) -> Part {
         b'u' => unequal(line),
         b'l' => large(line),
         b'm' => all_marked(line),
+        b'f' => far(p),
         _ => {
             put(tail(line, 2));
             newline();
@@ -94,6 +96,21 @@ fn last_digits(marks: &[u8]) {
     while i < marks.len() {
         digits((marks[i] % 10) as u64);
         i += 1;
+    }
+}
+
+// How far the partial is.
+fn far(p: Part) {
+    let payload = p.payload;
+    let marks = p.marks;
+    match reassembly::progress(p.rec, &payload, &marks) {
+        Progress::Is(covered, total) => {
+            put(b"covered");
+            number(covered);
+            number(total);
+            newline();
+        }
+        Progress::Refused(n, place) => refused(n, place),
     }
 }
 

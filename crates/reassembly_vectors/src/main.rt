@@ -6,11 +6,11 @@
 // started; `record`, a record in place of its own; `take`, a datagram; `piece`, the number of a chunk of abcdefgh, cut by 3 bytes;
 // `combine`, another partial; `join`, another partial's record, payload and marks; `empty`; `show`, which tells if the partial is
 // complete, what is handed out, and both areas, the marks by their last digit. `unequal` and `large` are histories with areas of their
-// own. `marks` has no partial: it asks if the marks of a number's offsets are all 1, and then lists the marks. A line that begins with `=`
-// is a heading.
+// own. `far` tells how many bytes are covered, of how many. `marks` has no partial: it asks if the marks of a number's offsets are all 1,
+// and then lists the marks. A line that begins with `=` is a heading.
 //
 // A record lists its parts: `s` 1 where it is started, `h` a UInt16, `d` a UInt32 or `t` the length of a string as PublisherId, `x` the
-// bytes of the text, `g` WriterGroupId where there is one, `w` DataSetWriterId, `n` number, `l` total.
+// bytes of the text, `g` WriterGroupId where there is one, `w` DataSetWriterId, `n` number, `l` total, `c` covered bytes.
 use crate::calls::called;
 use crate::calls::new;
 use libc::STDIN_FILENO;

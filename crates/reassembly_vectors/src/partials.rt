@@ -33,6 +33,7 @@ pub fn record(parts: &[u8]) -> PartialRecord {
             },
             total: numbered(parts, b'l'),
         },
+        covered: numbered(parts, b'c'),
     }
 }
 

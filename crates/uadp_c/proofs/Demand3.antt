@@ -3,7 +3,7 @@
 -- Assumes nothing.
 use Prim.Native.Nat.{ℕ, zero, suc, _+_, _%_, _≤_}
 use mathlib.Core.Path.{_≡_, refl, ap, ap₂, sym, subst, _∙_}
-use mathlib.Core.Bool.{Bool, true, false, cond}
+use mathlib.Core.Bool.{Bool, true, false, cond, false≢true}
 use mathlib.Core.List.{List, [], _∷_}
 use mathlib.Core.Logic.{⊎-elim}
 use native.Mathlib.Omega.{arith}
@@ -49,8 +49,8 @@ length-record : (v : Verdict) (r : List ℕ) (k : PartialRecord) → length (rec
 length-record (Refused n p) r k = refl
 length-record Done r k = go (partialIn r .started) (k .started)
   where
-    go : (a b : Bool) → length (cond a r (cond b (laid r 0 (partialBytes k)) r)) ≡ length r
-    go true b = refl
+    go : (a b : Bool) → length (cond a (laid r 64 (leBytes 8 (k .covered))) (cond b (laid r 0 (partialBytes k)) r)) ≡ length r
+    go true b = length-kept r 64 (leBytes 8 (k .covered))
     go false true = length-kept r 0 (partialBytes k)
     go false false = refl
 
@@ -152,7 +152,10 @@ not-started b w = ⊎-elim
 
 ready-good : (b : Lent) → Ready b → Good (heldIn b)
 unfolding soundBy
-ready-good b w = record { is-sound = rw (eq-eqb (marksFor inUse (length (b .payload))) (length (b .marks)) (w .areas), not-started b w) }
+ready-good b w = record {
+  is-sound = rw (eq-eqb (marksFor inUse (length (b .payload))) (length (b .marks)) (w .areas), not-started b w);
+  is-right = λ t. absurd (false≢true (sym (not-started b w) ∙ t));
+}
 
 -- ---- ANY LIST OF CALLS on a lent partial: the plain machine's replies, and what it keeps
 pub lent-list : (ks : List LentCall) (b : Lent) (ys : List Lent) → Ready b → AllCalled ks b ys → LentList ks b ys

@@ -52,7 +52,7 @@ emptied-long : (f d : List ℕ) → length f ≡ 8 → partialIn (zeros ++ d) �
 unfolding emptied
 emptied-long f d h =
     let s = same-item zeros f d refl h in
-    rw (not-started d, s 0, s 8, s 16, s 24, s 32, s 40, s 48, same-text zeros f d refl h)
+    rw (not-started d, s 0, s 8, s 16, s 24, s 32, s 40, s 48, s 56, same-text zeros f d refl h)
 
 pub emptied-is : (r : List ℕ) → partialIn (emptiedRecord r) ≡ emptied (partialIn r)
 unfolding emptied

@@ -7,6 +7,7 @@ use mathlib.Core.List.{List, [], _∷_}
 use borrow.Author.Tests.{lt-ltb, le-ltb}
 use lib.Dec.{eqb, ltb}
 use lib.ListN.{length, take}
+use Rattle.wire.specs.Number.{leBytes}
 use Rattle.wire_writer.specs.Store.{laid}
 use Rattle.reassembly.specs.Record.{Partial, partial, sound, soundBy}
 use Rattle.marks.specs.Marks.{marksFor, inUse}
@@ -15,12 +16,13 @@ use Rattle.reassembly.specs.Machine.Call.{Take, Combine, Ask, HandOut}
 use Rattle.reassembly.specs.Judge.{judgeCombine}
 use Rattle.reassembly.specs.Calls.{Does, saidOf, answers}
 use Rattle.reassembly.specs.Reading.{readingAt}
-use Rattle.reassembly.specs.Operations.{Step, stepOf, stepBy, takeIn, combine, askComplete, judgeHandOut, handOut}
+use Rattle.reassembly.specs.Operations.{Step, stepOf, stepBy, takeIn, combine, askComplete, judgeHandOut, handOut, progressOf}
 use Rattle.reassembly.proofs.CallLaws.{one-said, handed-verdict, take-told, combine-told}
 use Rattle.reassembly.specs.declared.operations.Outcome.{Outcome}
 use Rattle.reassembly.specs.declared.record.PartialRecord.{PartialRecord}
 use Rattle.reassembly.specs.declared.verdict.Verdict.{Verdict}
 use Rattle.reassembly.specs.declared.verdict.Completeness.{Completeness}
+use Rattle.reassembly.specs.declared.verdict.Progress.{Progress}
 use Rattle.records.specs.Numbers.{numberAt}
 use Rattle.records.specs.Sizes.{PARTIAL_SIZE}
 use Rattle.records.specs.Result.{resultOf}
@@ -28,15 +30,15 @@ use Rattle.records.specs.Writers.{writersIn, sixteen, sizesIn}
 use Rattle.partial_record.specs.Partial.{partialIn, partialBytes, FitsRecord}
 use Rattle.uadp_c.proofs.KeptRecord.{KeptStep, step-reads}
 use native.Mathlib.Omega.{arith}
-use Rattle.uadp_c.specs.Reassembling.{Steps, partialOf, lent, verdictResult, takenOver, recordBy, stepIn, sourceOf, emptiedRecord, completeResult, completeIn, handResult, handIn}
+use Rattle.uadp_c.specs.Reassembling.{Steps, partialOf, lent, verdictResult, takenOver, recordBy, stepIn, sourceOf, emptiedRecord, completeResult, completeIn, handResult, handIn, progressResult, progressIn}
 
 -- a record shorter than its layout
 step-short : (r p m : List ℕ) (x : ℕ) (s : Step) → length r < PARTIAL_SIZE → x ≡ resultOf 12 0 → lent x r p m ≡ stepIn r p m s
 step-short r p m x s h q = rw (lt-ltb (length r) PARTIAL_SIZE h) (ap (λ (y : ℕ). lent y r p m) q)
 
--- a started record, and one that nothing was taken over into, stay; else the record is stored
-pub keeps-started : (r : List ℕ) (k : PartialRecord) (n : ℕ) → n ≡ numberAt r 0 → eqb n 1 ≡ true → r ≡ takenOver r k
-keeps-started r k n a t = rw (subst (λ (x : ℕ). eqb x 1 ≡ true) a t) refl
+-- of a started record the number is stored, one that nothing was taken over into stays; else the record is stored
+pub keeps-started : (r e : List ℕ) (k : PartialRecord) (n : ℕ) → n ≡ numberAt r 0 → eqb n 1 ≡ true → e ≡ laid r 64 (leBytes 8 (k .covered)) → e ≡ takenOver r k
+keeps-started r e k n a t q = rw (subst (λ (x : ℕ). eqb x 1 ≡ true) a t) q
 
 pub keeps-empty : (r : List ℕ) (k : PartialRecord) (n : ℕ) → n ≡ numberAt r 0 → eqb n 1 ≡ false → k .started ≡ false → r ≡ takenOver r k
 keeps-empty r k n a t h = rw (subst (λ (x : ℕ). eqb x 1 ≡ false) a t, h) refl
@@ -89,6 +91,14 @@ combine-short g u w r p m x h q = rw (lt-ltb (length g) PARTIAL_SIZE h, unsound-
 
 pub emptied-told : (r e p m : List ℕ) (x : ℕ) → x ≡ resultOf 0 0 → e ≡ emptiedRecord r → lent x e p m ≡ lent (resultOf 0 0) (emptiedRecord r) p m
 emptied-told r e p m x q h = ap (λ (y : ℕ). lent y e p m) q ∙ ap (λ (y : List ℕ). lent (resultOf 0 0) y p m) h
+
+pub progress-ends : (r p m : List ℕ) (x : ℕ) (k : PartialRecord) (a b : Progress) → PARTIAL_SIZE ≤ length r → k ≡ partialIn r → a ≡ progressOf (partial k p m) → a ≡ b → x ≡ progressResult b
+    → x ≡ progressIn r (progressOf (partialOf r p m))
+progress-ends r p m x k a b h e q t y =
+    rw (le-ltb (length r) PARTIAL_SIZE h) (y ∙ ap progressResult (sym t ∙ q ∙ ap (λ (z : PartialRecord). progressOf (partial z p m)) e))
+
+pub progress-short : (r : List ℕ) (x : ℕ) (a : Progress) → length r < PARTIAL_SIZE → x ≡ resultOf 12 0 → x ≡ progressIn r a
+progress-short r x a h q = rw (lt-ltb (length r) PARTIAL_SIZE h) q
 
 pub complete-short : (r p m : List ℕ) (x : ℕ) (a : Completeness) → length r < PARTIAL_SIZE → x ≡ resultOf 12 0 → lent x r p m ≡ lent (completeIn r a) r p m
 complete-short r p m x a h q = rw (lt-ltb (length r) PARTIAL_SIZE h) (ap (λ (y : ℕ). lent y r p m) q)

@@ -23,7 +23,9 @@ use Rattle.reassembly.specs.declared.verdict.Verdict.{Verdict}
 use Rattle.reassembly.specs.declared.verdict.Verdict.the-variants.{Done, Refused}
 use Rattle.partial_record.specs.Partial.{partialIn, partialBytes, FitsRecord}
 use Rattle.records.specs.Sizes.{PARTIAL_SIZE}
-use Rattle.partial_record.proofs.Back.{partial-back}
+use Rattle.partial_record.proofs.Back.{partial-back, covered-laid}
+use Rattle.wire.specs.Number.{leBytes}
+use Rattle.wire.proofs.Cases.{by-bool}
 use mir.Val.{Val}
 use denote.Laws.{Is}
 use denote.Struct.Declared as struct
@@ -33,17 +35,14 @@ use Rattle.reassembly.proofs.operations.Outcome.Laws as outcomeLaws
 use Rattle.partial_record.proofs.Fitting.{fits-record}
 use Rattle.uadp_c.specs.Reassembling.{partialOf, Lent, lent, takenOver, recordBy, stepIn, Steps}
 
--- a record is as it was, or one not started was taken over
+-- a record is as it was, or a started one is but for its number, or one not started was taken over
 abbrev pub Kept : PartialRecord → PartialRecord → Type 0
-Kept k after = (after ≡ k) ⊎ ((k .started ≡ false) × (after .started ≡ true))
+Kept k after =
+    (after ≡ k) ⊎ (((k .started ≡ true) × (after ≡ record { started = k .started; message = k .message; covered = after .covered })) ⊎ ((k .started ≡ false) × (after .started ≡ true)))
 
 put-kept : (m : Message) (v : View) (s : Partial) → Kept (s .rec) (put m v s .rec)
 unfolding put
-put-kept m v s = go (s .rec .started) refl
-  where
-    go : (b : Bool) → s .rec .started ≡ b → Kept (s .rec) (cond (s .rec .started) (s .rec) (record { started = true; message = m }))
-    go true e = inl (rw e refl)
-    go false e = inr (e, rw e refl)
+put-kept m v s = by-bool _ (s .rec .started) (λ e. inr (inl (e, rw e))) (λ e. inr (inr (e, rw e)))
 
 -- and a refusal leaves it
 abbrev pub KeptBy : Verdict → PartialRecord → PartialRecord → Type 0
@@ -92,13 +91,21 @@ combine-kept s f = record { kept = by-verdict (judgeCombine s f) s _ (go (f .rec
 
 -- the record that was kept or taken over
 over-reads : (r : List ℕ) (k : PartialRecord) → PARTIAL_SIZE ≤ length r → FitsRecord k → Kept (partialIn r) k → partialIn (takenOver r k) ≡ k
-over-reads r k h f (inr e) =
+over-reads r k h f (inr (inr e)) =
     let x = laid r 0 (partialBytes k) in
-    ap (λ (b : Bool). partialIn (cond b r (cond (k .started) x r))) (e .0) ∙ ap (λ (b : Bool). partialIn (cond b x r)) (e .1) ∙ partial-back k r f h
+    let y = laid r 64 (leBytes 8 (k .covered)) in
+    ap (λ (b : Bool). partialIn (cond b y (cond (k .started) x r))) (e .0) ∙ ap (λ (b : Bool). partialIn (cond b x r)) (e .1) ∙ partial-back k r f h
+over-reads r k h f (inr (inl e)) =
+    let x = laid r 0 (partialBytes k) in
+    let y = laid r 64 (leBytes 8 (k .covered)) in
+    ap (λ (b : Bool). partialIn (cond b y (cond (k .started) x r))) (e .0) ∙ covered-laid r (k .covered) h (f .covered) ∙ sym (e .1)
 over-reads r k h f (inl e) = go (partialIn r .started) (k .started)
   where
-    go : (a b : Bool) → partialIn (cond a r (cond b (laid r 0 (partialBytes k)) r)) ≡ k
-    go true b = sym e
+    same : record { started = partialIn r .started; message = partialIn r .message; covered = k .covered } ≡ k
+    same = let q = sym e in λ i. record { started = q i .started; message = q i .message; covered = k .covered }
+
+    go : (a b : Bool) → partialIn (cond a (laid r 64 (leBytes 8 (k .covered))) (cond b (laid r 0 (partialBytes k)) r)) ≡ k
+    go true b = covered-laid r (k .covered) h (f .covered) ∙ same
     go false true = partial-back k r f h
     go false false = sym e
 

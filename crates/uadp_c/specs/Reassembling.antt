@@ -1,5 +1,5 @@
 -- Reassembly on lent records and areas (include/uadp.h, "chunks and reassembly").
-use Prim.Native.Nat.{ℕ, _≤_}
+use Prim.Native.Nat.{ℕ, _*_, _≤_}
 use mathlib.Core.Path.{_≡_}
 use mathlib.Core.Bool.{cond}
 use mathlib.Core.List.{List, [], _∷_}
@@ -14,8 +14,9 @@ use Rattle.reassembly.specs.Operations.{Step}
 use Rattle.reassembly.specs.declared.record.PartialRecord.{PartialRecord}
 use Rattle.reassembly.specs.declared.verdict.Verdict.{Verdict}
 use Rattle.reassembly.specs.declared.verdict.Completeness.{Completeness}
+use Rattle.reassembly.specs.declared.verdict.Progress.{Progress}
 use Rattle.records.specs.Result.{resultOf}
-use Rattle.partial_record.specs.Partial.{partialIn, partialBytes}
+use Rattle.partial_record.specs.Partial.{COVERED, partialIn, partialBytes}
 
 -- a partial: its record and its two areas, payload and marks
 abbrev pub partialOf : List ℕ → List ℕ → List ℕ → Partial
@@ -35,9 +36,11 @@ abbrev pub verdictResult : Verdict → ℕ
 verdictResult Verdict.Done = resultOf 0 0
 verdictResult (Verdict.Refused n place) = resultOf n place
 
--- "A target not started takes over the record"; else no byte of it changes
+-- "A target not started takes over the record"; of a started one the number of covered bytes is stored, and no other byte changes
 abbrev pub takenOver : List ℕ → PartialRecord → List ℕ
-takenOver r after = cond (partialIn r .started) r (cond (after .started) (laid r 0 (partialBytes after)) r)
+takenOver r after =
+    cond (partialIn r .started) (laid r (8 * COVERED) (leBytes 8 (after .covered)))
+    (cond (after .started) (laid r 0 (partialBytes after)) r)
 
 -- a refusal leaves the record as it was
 abbrev pub recordBy : Verdict → List ℕ → PartialRecord → List ℕ
@@ -71,6 +74,14 @@ completeResult (Completeness.Refused n place) = resultOf n place
 
 abbrev pub completeIn : List ℕ → Completeness → ℕ
 completeIn r a = cond (ltb (length r) PARTIAL_SIZE) (resultOf UNSOUND 0) (completeResult a)
+
+-- "Value: how many bytes have come in"; how many there are in all stands in the record
+abbrev pub progressResult : Progress → ℕ
+progressResult (Progress.Is covered total) = resultOf 0 covered
+progressResult (Progress.Refused n place) = resultOf n place
+
+abbrev pub progressIn : List ℕ → Progress → ℕ
+progressIn r a = cond (ltb (length r) PARTIAL_SIZE) (resultOf UNSOUND 0) (progressResult a)
 
 -- "Value: how many bytes at the payload area's start are the complete payload"
 abbrev pub handResult : PartialRecord → Verdict → ℕ

@@ -1,13 +1,16 @@
 // Reassembly: a partial is a lent record and two lent areas, payload and marks.
 use config::first;
+use partial_record::COVERED;
 use partial_record::partial_in;
 use partial_record::put_partial;
 use reassembly::Completeness;
 use reassembly::PartialRecord;
+use reassembly::Progress;
 use reassembly::Verdict;
 use reassembly::ask_complete;
 use reassembly::combine_in;
 use reassembly::hand_out_verdict;
+use reassembly::progress;
 use reassembly::take_in;
 use records::numbers::number;
 use records::result::result;
@@ -19,7 +22,8 @@ use wire_writer::store::put64;
 ghost use Prim.Native.Nat.{ℕ};
 ghost use mathlib.Core.Path.{_≡_};
 ghost use mathlib.Core.List.{List};
-ghost use Rattle.uadp_c.specs.Reassembling.{lent, takenOver};
+ghost use Rattle.uadp_c.specs.Reassembling.{lent, takenOver, partialOf, progressIn};
+ghost use Rattle.reassembly.specs.Operations.{progressOf};
 ghost use Rattle.uadp_c.specs.History.{Called};
 ghost use Rattle.uadp_c.specs.History.LentCall.{Empty, Take, Combine, Ask, HandOut};
 
@@ -35,11 +39,12 @@ pub extern "C" fn uadp_empty(rec: &mut [u8]) -> u64
     result(0, 0)
 }
 
-// Stores the record where a partial not started took it over; of a started one, and where nothing was taken over, no byte changes.
+// Stores the record where a partial not started took it over, and of a started one its number of covered bytes; no other byte changes.
 fn keep_record(rec: &mut [u8], after: PartialRecord)
     ensures { λ _. ⌜ now (rec .exit) ≡ takenOver (now (rec .entry)) after ⌝ }
 {
     if number(rec, 0) == 1 {
+        put64(rec, 8 * COVERED, after.covered as u64);
         return;
     }
     if !after.started {
@@ -134,6 +139,22 @@ pub extern "C" fn uadp_complete(rec: &[u8], payload: &[u8], marks: &[u8]) -> u64
         Completeness::Yes => result(0, 1),
         Completeness::No => result(0, 0),
         Completeness::Refused(number, place) => result(number, place),
+    }
+}
+
+// How many bytes of a partial's message have come in.
+#[no_mangle]
+pub extern "C" fn uadp_progress(rec: &[u8], payload: &[u8], marks: &[u8]) -> u64
+    ensures { λ r.
+        let held = partialOf (now (rec .entry)) (now (payload .entry)) (now (marks .entry)) in
+        ⌜ r ≡ progressIn (now (rec .entry)) (progressOf held) ⌝ }
+{
+    if rec.len() < PARTIAL_SIZE {
+        return result(UNSOUND, 0);
+    }
+    match progress(partial_in(rec), payload, marks) {
+        Progress::Is(covered, _) => result(0, covered),
+        Progress::Refused(number, place) => result(number, place),
     }
 }
 

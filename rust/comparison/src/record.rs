@@ -376,6 +376,7 @@ pub fn partial_of(record: &[u8]) -> Option<Record> {
         writer: number(record, 3) as u16,
         number: number(record, 4) as u16,
         total: number(record, 5),
+        covered: number(record, 8),
     })
 }
 
@@ -415,7 +416,7 @@ pub fn partial(record: &Record) -> Vec<u8> {
         }
     };
     let (has_group, group) = optional(record.group);
-    let numbers = [1, kind, id, record.writer.into(), record.number.into(), record.total, has_group, group, 0, 0];
+    let numbers = [1, kind, id, record.writer.into(), record.number.into(), record.total, has_group, group, record.covered, 0];
     [bytes_of(&numbers), text.to_vec()].concat()
 }
 

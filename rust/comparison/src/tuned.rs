@@ -360,10 +360,14 @@ pub fn all_marked(marks: &[u8]) -> bool {
     marks.chunks(BLOCK).all(all_one)
 }
 
-/// Whether every byte below total is covered.
+/// Whether every byte below total is covered, by the number.
 pub fn complete(partial: &PartialView) -> Result<bool> {
-    partial.sound()?;
-    Ok(partial.record.is_some_and(|record| all_marked(&partial.marks[..record.total as usize])))
+    partial.complete()
+}
+
+/// How many marks are not 1, counted in bytes by blocks that such a count fits.
+fn count_new(marks: &[u8]) -> u64 {
+    marks.chunks(128).map(|block| u64::from(block.iter().fold(0_u8, |count, mark| count + u8::from(*mark != 1)))).sum()
 }
 
 /// Takes a chunk in from a datagram.
@@ -375,7 +379,14 @@ pub fn take_in(partial: &mut Partial, datagram: &[u8], config: &Config) -> Resul
     };
     let chunk = chunk::read(datagram, envelope.payload_start)?;
     let group = envelope.group.and_then(|group| group.writer_group_id);
-    let record = Record { publisher: envelope.publisher.into(), group, writer, number: chunk.number, total: chunk.total.into() };
+    let record = Record {
+        publisher: envelope.publisher.into(),
+        group,
+        writer,
+        number: chunk.number,
+        total: chunk.total.into(),
+        covered: 0,
+    };
     partial.admit(&record)?;
     let covered = chunk.offset..chunk.offset + chunk.data.len();
     if partial.record.is_some() {
@@ -387,7 +398,12 @@ pub fn take_in(partial: &mut Partial, datagram: &[u8], config: &Config) -> Resul
     }
     partial.start(&record);
     partial.payload[covered.clone()].copy_from_slice(chunk.data);
-    partial.marks[covered].fill(1);
+    let marks = &mut partial.marks[covered];
+    let new = count_new(marks);
+    marks.fill(1);
+    if let Some(record) = partial.record.as_mut() {
+        record.covered += new;
+    }
     Ok(())
 }
 
@@ -407,17 +423,21 @@ fn clash(held: &[u8], held_marks: &[u8], bytes: &[u8], marks: Option<&[u8]>) -> 
     })
 }
 
-/// Stores and marks each covered byte of a block.
-fn take_over(held: &mut [u8], held_marks: &mut [u8], bytes: &[u8], marks: &[u8]) {
+/// Stores and marks each covered byte of a block; how many were not marked.
+fn take_over(held: &mut [u8], held_marks: &mut [u8], bytes: &[u8], marks: &[u8]) -> u64 {
     if all_one(marks) {
+        let new = count_new(held_marks);
         held.copy_from_slice(bytes);
         held_marks.fill(1);
-        return;
+        return new;
     }
+    let mut new = 0;
     for k in (0..marks.len()).filter(|k| marks[*k] == 1) {
         held[k] = bytes[k];
+        new += u64::from(held_marks[k] != 1);
         held_marks[k] = 1;
     }
+    new
 }
 
 /// Combines another partial into this one.
@@ -435,8 +455,12 @@ pub fn combine(partial: &mut Partial, source: PartialView) -> Result<()> {
     }
     partial.start(record);
     let own = partial.payload[..total].chunks_mut(BLOCK).zip(partial.marks[..total].chunks_mut(BLOCK));
+    let mut new = 0;
     for ((held, held_marks), (bytes, marks)) in own.zip(payload.chunks(BLOCK).zip(marks.chunks(BLOCK))) {
-        take_over(held, held_marks, bytes, marks);
+        new += take_over(held, held_marks, bytes, marks);
+    }
+    if let Some(record) = partial.record.as_mut() {
+        record.covered += new;
     }
     Ok(())
 }

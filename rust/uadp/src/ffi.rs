@@ -121,6 +121,10 @@ mod raw {
             record: *const u8, record_length: usize, payload: *const u8, payload_length: usize, marks: *const u8,
             marks_length: usize,
         ) -> u64;
+        pub fn uadp_progress(
+            record: *const u8, record_length: usize, payload: *const u8, payload_length: usize, marks: *const u8,
+            marks_length: usize,
+        ) -> u64;
         pub fn uadp_hand_out(
             record: *const u8, record_length: usize, payload: *const u8, payload_length: usize, marks: *const u8,
             marks_length: usize,
@@ -392,6 +396,11 @@ pub fn combine(record: &mut [u8], payload: &mut [u8], marks: &mut [u8], source: 
 /// Value: 1 where the partial is complete, else 0.
 pub fn complete(record: &[u8], payload: &[u8], marks: &[u8]) -> Answer {
     Answer(unsafe { raw::uadp_complete(lent(record), record.len(), lent(payload), payload.len(), lent(marks), marks.len()) })
+}
+
+/// Value: how many bytes of the message have come in.
+pub fn progress(record: &[u8], payload: &[u8], marks: &[u8]) -> Answer {
+    Answer(unsafe { raw::uadp_progress(lent(record), record.len(), lent(payload), payload.len(), lent(marks), marks.len()) })
 }
 
 /// Value: how many bytes at the payload area's start are the complete payload.

@@ -71,6 +71,7 @@ impl<'a> Chunk<'a> {
 ///     assert_eq!((Chunk::read(datagram, &config)?.writer, Chunk::read(datagram, &config)?.total), (21, 11));
 ///     partial.take_in(datagram, &config)?;
 /// }
+/// assert_eq!(partial.progress()?, (11, 11));
 /// assert_eq!(partial.hand_out()?, message);
 /// let message = partial.message(&config)?.read()?.expect("valid");
 /// assert_eq!((message.part().writer(), message.fields().len()), (Some(21), 2));
@@ -141,6 +142,16 @@ impl<P: AsRef<[u8]>, M: AsRef<[u8]>> Partial<P, M> {
     pub fn is_complete(&self) -> Result<bool, Refusal> {
         let answer = ffi::complete(&self.record, self.payload.as_ref(), self.marks.as_ref());
         answer.into_result().map(|complete| complete != 0)
+    }
+
+    /// How many bytes of the message have come in, and how many there are in all: 0 and 0 where it is not started.
+    ///
+    /// # Errors
+    ///
+    /// [`Unsound`](crate::Reason::Unsound) as in [`is_complete`](Self::is_complete).
+    pub fn progress(&self) -> Result<(usize, usize), Refusal> {
+        let answer = ffi::progress(&self.record, self.payload.as_ref(), self.marks.as_ref());
+        answer.into_result().map(|covered| (covered as usize, self.total().unwrap_or(0)))
     }
 
     /// The complete message.

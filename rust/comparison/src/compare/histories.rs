@@ -38,6 +38,7 @@ impl LentPartial {
                 record[..40].copy_from_slice(&bytes_of(&numbers));
                 record[40..48].copy_from_slice(&(random.within(0, length + 1) as u64).to_le_bytes());
                 record[48..64].copy_from_slice(&bytes_of(&[random.below(3) as u64, random.number() & 0x1_ffff]));
+                record[64..72].copy_from_slice(&(random.within(0, length + 1) as u64).to_le_bytes());
             }
             2..=4 => {}
             _ => record[..8].fill(0),
@@ -81,11 +82,14 @@ impl LentPartial {
             Ok(known) => known,
             Err(refusal) => return (Err(refusal), after),
         };
-        let started = known.is_some();
+        let before = known;
         let mut partial = Partial { record: &mut known, payload: after.payload.middle_mut(), marks: after.marks.middle_mut() };
         let result = change(&mut partial);
-        if let (false, Some(record)) = (started, known) {
-            after.record = after.record.with(&record::partial(&record));
+        match (before, known) {
+            (None, Some(record)) => after.record = after.record.with(&record::partial(&record)),
+            // Of a started record the number of covered bytes changes, and no other byte.
+            (Some(_), Some(record)) => after.record.middle_mut()[64..72].copy_from_slice(&record.covered.to_le_bytes()),
+            _ => {}
         }
         (result.map(|()| 0), after)
     }
@@ -138,7 +142,7 @@ impl LentPartial {
                 );
                 let (result, mut after) = combined;
                 // A record that is taken over keeps the source's 64 bytes for a string as they are.
-                if after.record != self.record {
+                if self.known().is_ok_and(|held| held.is_none()) && after.record != self.record {
                     after.record.middle_mut()[80..record::PARTIAL_SIZE]
                         .copy_from_slice(&source.record.middle()[80..record::PARTIAL_SIZE]);
                 }
@@ -172,6 +176,15 @@ impl LentPartial {
         self.judge(tally, "complete", expected, &[], |partial| {
             let [record, payload, marks] = partial.slices();
             ffi::complete(record, payload, marks)
+        })
+    }
+
+    fn progress(&mut self, tally: &mut Tally) -> bool {
+        let expected = self.known().and_then(|known| self.view(&known).progress());
+        let expected = (expected, self.clone());
+        self.judge(tally, "progress", expected, &[], |partial| {
+            let [record, payload, marks] = partial.slices();
+            ffi::progress(record, payload, marks)
         })
     }
 
@@ -317,7 +330,8 @@ pub fn history(tally: &mut Tally, random: &mut Random) {
                 partials[k].combine(tally, &source)
             }
             17 => partials[k].empty(tally),
-            18..=20 => partials[k].complete(tally),
+            18 => partials[k].progress(tally),
+            19 | 20 => partials[k].complete(tally),
             21 | 22 => partials[k].hand_out(tally),
             _ => {
                 partials[k].tamper(random);

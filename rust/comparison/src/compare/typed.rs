@@ -339,7 +339,7 @@ fn reassemble(
     let message = whole.message(&config)?;
     equal &= (message.bytes(), message.writer()) == (payload, Some(writer)) && whole.is_complete()?;
     equal &= (whole.number(), whole.total(), whole.publisher()) == (Some(number), Some(payload.len()), Some(publisher));
-    equal &= whole.writer_group_id() == group;
+    equal &= whole.writer_group_id() == group && whole.progress()? == (payload.len(), payload.len());
     whole.empty();
     Ok(equal && whole.hand_out().map_err(of_crate) == Err((15, 0)))
 }

@@ -58,6 +58,15 @@ pub struct Record {
     pub writer: u16,
     pub number: u16,
     pub total: u64,
+    /// How many bytes are covered, if the caller did not make it up.
+    pub covered: u64,
+}
+
+impl Record {
+    /// The message's record with nothing covered: what makes it this message.
+    fn message(&self) -> Self {
+        Self { covered: 0, ..*self }
+    }
 }
 
 /// A partial that is only looked at; its record is none if not started.
@@ -74,7 +83,7 @@ impl PartialView<'_> {
             && self.record.is_none_or(|record| {
                 let total = record.total;
                 let id_fits = !matches!(record.publisher, KeptId::String(length, _) if length > LONGEST_ID as u64);
-                total >= 1 && total <= self.payload.len() as u64 && id_fits
+                total >= 1 && total <= self.payload.len() as u64 && record.covered <= total && id_fits
             });
         if sound {
             Ok(())
@@ -83,18 +92,32 @@ impl PartialView<'_> {
         }
     }
 
-    /// Whether every byte below total is covered.
+    /// Whether every byte below total is covered, by the number.
     pub fn complete(&self) -> Result<bool> {
         self.sound()?;
-        Ok(self.record.is_some_and(|record| self.marks[..record.total as usize].iter().all(|mark| *mark == 1)))
+        Ok(self.record.is_some_and(|record| record.covered == record.total))
+    }
+
+    /// How many bytes are covered: none if not started.
+    pub fn progress(&self) -> Result<u64> {
+        self.sound()?;
+        Ok(self.record.map_or(0, |record| record.covered))
     }
 
     /// How many bytes at the payload area's start are the complete payload.
     pub fn hand_out(&self) -> Result<usize> {
-        match self.record {
-            Some(record) if self.complete()? => Ok(record.total as usize),
-            _ => self.sound().and(Err(Number::NotComplete.nowhere())),
+        self.sound()?;
+        let Some(record) = self.record else {
+            return Err(Number::NotComplete.nowhere());
+        };
+        let marked = self.marks[..record.total as usize].iter().filter(|mark| **mark == 1).count();
+        if marked as u64 != record.covered {
+            return Err(Number::Unsound.nowhere());
         }
+        if record.covered < record.total {
+            return Err(Number::NotComplete.nowhere());
+        }
+        Ok(record.total as usize)
     }
 }
 
@@ -121,7 +144,7 @@ impl Partial<'_> {
         let chunk = chunk::read(datagram, envelope.payload_start)?;
         let group = envelope.group.and_then(|group| group.writer_group_id);
         let publisher = envelope.publisher.into();
-        let record = Record { publisher, group, writer, number: chunk.number, total: chunk.total.into() };
+        let record = Record { publisher, group, writer, number: chunk.number, total: chunk.total.into(), covered: 0 };
         self.admit(&record)?;
         let covered = chunk.offset..chunk.offset + chunk.data.len();
         if self.record.is_some() {
@@ -132,7 +155,9 @@ impl Partial<'_> {
         }
         self.start(&record);
         self.payload[covered.clone()].copy_from_slice(chunk.data);
-        self.marks[covered].fill(1);
+        for at in covered {
+            self.mark(at);
+        }
         Ok(())
     }
 
@@ -154,12 +179,9 @@ impl Partial<'_> {
             }
         }
         self.start(record);
-        let own = self.payload.iter_mut().zip(self.marks.iter_mut());
-        for ((held, held_mark), (byte, mark)) in own.zip(payload.iter().zip(marks)) {
-            if *mark == 1 {
-                *held = *byte;
-                *held_mark = 1;
-            }
+        for at in (0..total).filter(|at| marks[*at] == 1) {
+            self.payload[at] = payload[at];
+            self.mark(at);
         }
         Ok(())
     }
@@ -170,7 +192,7 @@ impl Partial<'_> {
             return Err(Number::NoRoom.nowhere());
         }
         match self.record.as_ref() {
-            Some(held) if held != record => Err(Number::OtherMessage.nowhere()),
+            Some(held) if held.message() != record.message() => Err(Number::OtherMessage.nowhere()),
             _ => Ok(()),
         }
     }
@@ -178,8 +200,16 @@ impl Partial<'_> {
     /// One not started takes the record over, with every mark cleared.
     pub(crate) fn start(&mut self, record: &Record) {
         if self.record.is_none() {
-            *self.record = Some(*record);
+            *self.record = Some(record.message());
             self.marks.fill(0);
         }
+    }
+
+    /// Marks a byte, and counts it where it was not marked.
+    fn mark(&mut self, at: usize) {
+        if let (Some(record), true) = (self.record.as_mut(), self.marks[at] != 1) {
+            record.covered += 1;
+        }
+        self.marks[at] = 1;
     }
 }

@@ -2,7 +2,7 @@
 use mathlib.Core.Bool.{true, false}
 use mathlib.Core.Path.{ap, sym, _∙_}
 use denote.Ref.{now}
-use borrow.Author.Tests.{not-true, not-false}
+use borrow.Author.Tests.{eq-eqb, ne-eqb, not-true, not-false}
 use borrow.Author.Needs.{needs}
 use Rattle.reassembly.specs.Record.{partial}
 use Rattle.reassembly.specs.Calls.{saidOf}
@@ -27,27 +27,21 @@ returns-2 c =
 
 returns-3 : tie.Need-returns-3
 returns-3 c =
-    let at-all-marked = c .before in
-    let at-if2 = at-all-marked .before .before in
+    let at-if2 = c .before .before .before .before in
     let at-if1 = at-if2 .before .before in
     let at-is-sound = at-if1 .before in
-    let args = at-is-sound .before .before .before .args in
-    let a = args in
+    let a = at-is-sound .before .before .before .args in
     ap saidOf (sym (ask-held (partial (a .rec) (now (a .payload)) (now (a .marks)))
-    (sym (at-is-sound .is-sound .ensures) ∙ not-false _ (at-if1 .if1 .left)) (not-false _ (at-if2 .if2 .left)) true (sym (at-all-marked .all-marked .ensures) ∙ c .if3 .taken)))
+    (sym (at-is-sound .is-sound .ensures) ∙ not-false _ (at-if1 .if1 .left)) (not-false _ (at-if2 .if2 .left)) true (eq-eqb _ _ (c .if3 .taken))))
 
 returns-4 : tie.Need-returns-4
 returns-4 c =
-    let at-all-marked = c .before in
-    let at-if2 = at-all-marked .before .before in
+    let at-if2 = c .before .before .before .before in
     let at-if1 = at-if2 .before .before in
     let at-is-sound = at-if1 .before in
-    let args = at-is-sound .before .before .before .args in
-    let a = args in
+    let a = at-is-sound .before .before .before .args in
     ap saidOf (sym (ask-held (partial (a .rec) (now (a .payload)) (now (a .marks)))
-    (sym (at-is-sound .is-sound .ensures) ∙ not-false _ (at-if1 .if1 .left)) (not-false _ (at-if2 .if2 .left)) false (sym (at-all-marked .all-marked .ensures) ∙ c .if3 .left)))
+    (sym (at-is-sound .is-sound .ensures) ∙ not-false _ (at-if1 .if1 .left)) (not-false _ (at-if2 .if2 .left)) false (ne-eqb _ _ (c .if3 .left))))
 
 pub ask-complete-spec : {M : Type 1} → statement M
-ask-complete-spec =
-    tie.close
-    (tie.spec (λ c κs. search needs) returns returns-2 (λ c κs. search needs) returns-3 returns-4)
+ask-complete-spec = tie.close (tie.spec (λ c κs. search needs) returns returns-2 returns-3 returns-4)

@@ -1,12 +1,14 @@
 -- `reassembly::operations::combine_in` meets its contract. Assumes nothing.
-use mathlib.Core.Path.{sym, ap, _∙_}
+use mathlib.Core.Path.{refl, sym, ap, _∙_}
 use denote.Ref.{now}
+use native.Mathlib.Omega.{arith}
 use borrow.Author.Tests.{not-true, not-false}
 use Rattle.reassembly.proofs.CallLaws.{joined}
 use borrow.Author.Needs.{needs}
 use Rattle.reassembly.specs.Record.{partial}
 use Rattle.reassembly.specs.declared.verdict.Verdict.{Verdict}
-use Rattle.reassembly.proofs.JudgeLaws.{combine-refused, combine-done-idle, combined-room, combined}
+use Rattle.reassembly.proofs.JudgeLaws.{combine-sound, combine-refused, combine-done-idle, combined-room, combined, begun-covered, length-begun, sound-even}
+use Rattle.marks.proofs.CountLaws.{new-most}
 use Rattle.reassembly.proofs.operations.combine_in.Statement.{statement}
 use Rattle.reassembly.proofs.operations.combine_in.Tie as tie
 
@@ -43,21 +45,37 @@ store-covered-requires c κs =
     let r = combined-room s f (sym (at-judge-combine .judge-combine .ensures) ∙ at-enum-told2 .enum-told2 .given .1) (not-false _ (at-if1 .if1 .left)) in
     (r .0, r .2, r .3)
 
+-- what is covered and what is new are each at most an area's length
+with-new-requires : tie.Need-with-new-requires
+with-new-requires c κs =
+    let at-mark-marked = c .before .before in
+    let at-begin = at-mark-marked .before .before .before .before .before .before .before .before in
+    let at-enum-told2 = at-begin .before .before .before .before .before in
+    let at-judge-combine = at-enum-told2 .before .before in
+    let a = at-judge-combine .before .before .before .before .before .before .before .args in
+    let s = partial (a .rec) (now (a .payload)) (now (a .marks)) in
+    let f = partial (a .source) (now (a .from)) (now (a .from-marks)) in
+    let ok = combine-sound s f (sym (at-judge-combine .judge-combine .ensures) ∙ at-enum-told2 .enum-told2 .given .1) in
+    let held = begun-covered s (a .source .message) ok (at-begin .begin .result) (at-begin .begin .ensures .0) in
+    let long = at-begin .begin .ensures .2 in
+    let even = sound-even s ok refl in
+    let same = length-begun (a .rec) (now (a .marks)) _ (at-begin .begin .ensures .1) in
+    let fresh = new-most _ _ _ (at-mark-marked .mark-marked .ensures .1) in omega arith
+
 returns-3 : tie.Need-returns-3
 returns-3 c =
-    let at-mark-marked = c .before .before in
+    let at-mark-marked = c .before .before .before in
     let at-store-covered = at-mark-marked .before .before .before .before in
     let at-begin = at-store-covered .before .before .before .before in
     let at-if1 = at-begin .before .before .before in
     let at-enum-told2 = at-if1 .before .before in
     let at-judge-combine = at-enum-told2 .before .before in
-    let args = at-judge-combine .before .before .before .before .before .before .before .args in
-    let a = args in
+    let a = at-judge-combine .before .before .before .before .before .before .before .args in
     let s = partial (a .rec) (now (a .payload)) (now (a .marks)) in
     let f = partial (a .source) (now (a .from)) (now (a .from-marks)) in
     joined _ s f (combined s f (sym (at-judge-combine .judge-combine .ensures) ∙ at-enum-told2 .enum-told2 .given .1)
-    (not-false _ (at-if1 .if1 .left)) _ _ _ _ _ (at-enum-told2 .enum-told2 .given .1) (at-begin .begin .ensures .0)
-    (at-store-covered .store-covered .ensures) (at-begin .begin .ensures .1) (at-mark-marked .mark-marked .ensures))
+    (not-false _ (at-if1 .if1 .left)) _ _ _ _ _ _ _ (at-enum-told2 .enum-told2 .given .1) (at-begin .begin .ensures .0) (c .with-new .ensures)
+    (at-store-covered .store-covered .ensures) (at-begin .begin .ensures .1) (at-mark-marked .mark-marked .ensures .0) (at-mark-marked .mark-marked .ensures .1))
 
 pub combine-in-spec : {M : Type 1} → statement M
 combine-in-spec =
@@ -75,6 +93,7 @@ combine-in-spec =
     (λ c κs. search needs)
     store-covered-requires
     (λ c κs. search needs)
+    with-new-requires
     (λ c. search needs)
     (λ c. search needs)
     returns-3)

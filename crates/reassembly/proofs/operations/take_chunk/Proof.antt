@@ -1,12 +1,13 @@
 -- `reassembly::operations::take_chunk` meets its contract.
 -- Assumes nothing.
-use Rattle.reassembly.proofs.JudgeLaws.{take-refused, taken-room, taken}
+use Rattle.reassembly.proofs.JudgeLaws.{take-refused, taken-room, taken, begun-covered, length-begun, sound-even}
+use Rattle.marks.proofs.CountLaws.{new-most}
 use Rattle.reassembly.specs.declared.verdict.Verdict.{Verdict}
 use Rattle.reassembly.specs.Reading.Reading.{chunk}
 use Rattle.reassembly.specs.Record.{partial}
 use denote.Ref.{now}
 use native.Mathlib.Omega.{arith}
-use mathlib.Core.Path.{sym, ap, _∙_}
+use mathlib.Core.Path.{refl, sym, ap, _∙_}
 use borrow.Author.Needs.{needs}
 use Rattle.reassembly.proofs.operations.take_chunk.Statement.{statement}
 use Rattle.reassembly.proofs.operations.take_chunk.Tie as tie
@@ -40,9 +41,24 @@ store-data-requires c κs =
     taken-room (partial (a .rec) (now (a .payload)) (now (a .marks))) (a .m) (a .offset) (now (a .bytes)) (at-pre .pre .1)
     (sym (at-judge-chunk .judge-chunk .ensures) ∙ at-enum-told2 .enum-told2 .given .1) .0
 
+-- what is covered and what is new are each at most an area's length
+with-new-requires : tie.Need-with-new-requires
+with-new-requires c κs =
+    let at-mark-range = c .before .before in
+    let at-begin = at-mark-range .before .before .before .before .before .before .before .before in
+    let at-judge-chunk = at-begin .before .before .before .before in
+    let at-pre = at-judge-chunk .before .before .before .before .before .before in
+    let a = at-pre .args in
+    let s = partial (a .rec) (now (a .payload)) (now (a .marks)) in
+    let held = begun-covered s (a .m) (at-pre .pre .0) (at-begin .begin .result) (at-begin .begin .ensures .0) in
+    let long = at-begin .begin .ensures .2 in
+    let even = sound-even s (at-pre .pre .0) refl in
+    let same = length-begun (a .rec) (now (a .marks)) _ (at-begin .begin .ensures .1) in
+    let fresh = new-most _ _ _ (at-mark-range .mark-range .ensures .1) in omega arith
+
 returns-2 : tie.Need-returns-2
 returns-2 c =
-    let at-mark-range = c .before .before in
+    let at-mark-range = c .before .before .before in
     let at-store-data = at-mark-range .before .before .before .before in
     let at-begin = at-store-data .before .before .before .before in
     let at-enum-told2 = at-begin .before .before in
@@ -50,8 +66,9 @@ returns-2 c =
     let at-pre = at-judge-chunk .before .before .before .before .before .before in
     let a = at-pre .args in
     taken (partial (a .rec) (now (a .payload)) (now (a .marks))) (a .m) (a .offset) (now (a .bytes)) (at-pre .pre .1)
-    (sym (at-judge-chunk .judge-chunk .ensures) ∙ at-enum-told2 .enum-told2 .given .1) _ _ _ _ _ (at-enum-told2 .enum-told2 .given .1)
-    (at-begin .begin .ensures .0) (at-store-data .store-data .ensures) (at-begin .begin .ensures .1) (at-mark-range .mark-range .ensures)
+    (sym (at-judge-chunk .judge-chunk .ensures) ∙ at-enum-told2 .enum-told2 .given .1) _ _ _ _ _ _ _ (at-enum-told2 .enum-told2 .given .1)
+    (at-begin .begin .ensures .0) (c .with-new .ensures) (at-store-data .store-data .ensures) (at-begin .begin .ensures .1)
+    (at-mark-range .mark-range .ensures .0) (at-mark-range .mark-range .ensures .1)
 
 pub take-chunk-spec : {M : Type 1} → statement M
 take-chunk-spec =
@@ -67,6 +84,7 @@ take-chunk-spec =
     (λ c κs. search needs)
     store-data-requires
     (λ c κs. search needs)
+    with-new-requires
     (λ c. search needs)
     (λ c. search needs)
     returns-2)

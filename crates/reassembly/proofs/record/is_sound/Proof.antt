@@ -43,7 +43,24 @@ returns-5 c =
     let at-if2 = at-if3 .before .before .before in
     let at-if1 = at-if2 .before .before in
     let at-marks-for = at-if1 .before in
-    simp (eq-eqb _ _ (sym (at-marks-for .marks-for .ensures) ∙ at-if1 .if1 .left), at-if2 .if2 .left, le-leb _ _ (at-if3 .if3 .left), le-leb _ _ (at-if4 .if4 .left))
+    simp (eq-eqb _ _ (sym (at-marks-for .marks-for .ensures) ∙ at-if1 .if1 .left), at-if2 .if2 .left, le-leb _ _ (at-if3 .if3 .left), le-leb _ _ (at-if4 .if4 .left), lt-leb _ _ (c .if5 .taken))
+
+returns-6 : tie.Need-returns-6
+unfolding soundBy
+returns-6 c =
+    let at-if5 = c .before .before .before in
+    let at-if4 = at-if5 .before .before .before in
+    let at-if3 = at-if4 .before .before in
+    let at-if2 = at-if3 .before .before .before in
+    let at-if1 = at-if2 .before .before in
+    let at-marks-for = at-if1 .before in
+    simp (
+      eq-eqb _ _ (sym (at-marks-for .marks-for .ensures) ∙ at-if1 .if1 .left),
+      at-if2 .if2 .left,
+      le-leb _ _ (at-if3 .if3 .left),
+      le-leb _ _ (at-if4 .if4 .left),
+      le-leb _ _ (at-if5 .if5 .left),
+    )
     (c .publisher-fits .ensures)
 
 pub is-sound-spec : {M : Type 1} → statement M
@@ -55,5 +72,6 @@ is-sound-spec =
     returns-2
     returns-3
     returns-4
+    returns-5
     (λ c κs. search needs)
-    returns-5)
+    returns-6)

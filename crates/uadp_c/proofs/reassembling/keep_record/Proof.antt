@@ -7,9 +7,11 @@ use Rattle.uadp_c.proofs.reassembling.keep_record.Tie as tie
 
 returns : tie.Need-returns
 returns c =
-    let at-number = c .before in
+    let at-put64 = c .before .before in
+    let at-if1 = at-put64 .before .before in
+    let at-number = at-if1 .before in
     let args = at-number .before .before .before .args in
-    keeps-started (now (args .rec)) (args .after) _ (at-number .number .ensures) (eq-eqb _ 1 (c .if1 .taken))
+    keeps-started (now (args .rec)) _ (args .after) _ (at-number .number .ensures) (eq-eqb _ 1 (at-if1 .if1 .taken)) (at-put64 .put64 .ensures .stored)
 
 returns-2 : tie.Need-returns-2
 returns-2 c =
@@ -31,6 +33,8 @@ pub keep-record-spec : {M : Type 1} → statement M
 keep-record-spec =
     tie.close
     (tie.spec
+    (λ c κs. search needs)
+    (λ c. search needs)
     (λ c κs. search needs)
     (λ c. search needs)
     returns
