@@ -46,8 +46,9 @@ fn history(first: LastSequenceNumber, numbers: &[u8]) {
 }
 
 fn step(last: LastSequenceNumber, received: u16) -> LastSequenceNumber {
-    let judgement = sequence::judge_by(last, received);
-    let next = sequence::after(last, received, judgement);
+    let judged = sequence::noted(last, received);
+    let judgement = judged.newness;
+    let next = judged.last;
     newline();
     digits(received as u64);
     newness(judgement);

@@ -15,6 +15,12 @@ pub struct LastSequenceNumber {
     pub number: u16,
 }
 
+// What was said of a received number, and the record after it.
+pub struct Judged {
+    pub newness: Newness,
+    pub last: LastSequenceNumber,
+}
+
 // The record before any number.
 pub fn no_number() -> LastSequenceNumber
     ensures { λ r. ⌜ r ≡ noNumber ⌝ }
@@ -77,4 +83,16 @@ pub fn note(last: &mut LastSequenceNumber, received: u16) -> Newness
     let newness = judge_by(*last, received);
     *last = after(*last, received, newness);
     newness
+}
+
+// The same for a record by value: it is lent to `note`, and handed back with what `note` said.
+pub fn noted(last: LastSequenceNumber, received: u16) -> Judged
+    ensures { λ r. ⌜ (r .newness ≡ newnessBy last received) × (r .last ≡ lastAfter last received) ⌝ }
+{
+    let mut kept = last;
+    let newness = note(&mut kept, received);
+    Judged {
+        newness,
+        last: kept,
+    }
 }

@@ -4,7 +4,7 @@ use records::last_number::put_last;
 use records::result::result;
 use records::sizes::SEQUENCE_SIZE;
 use sequence::Newness;
-use sequence::judge_by;
+use sequence::noted;
 use wire::constants::NO_ROOM;
 ghost use mathlib.Core.Path.{_≡_};
 ghost use Rattle.uadp_c.specs.Sequence.{newnessResult, newnessAfter};
@@ -17,10 +17,12 @@ pub extern "C" fn uadp_newness(last: &mut [u8], received: u16) -> u64
     if last.len() < SEQUENCE_SIZE {
         return result(NO_ROOM, 0);
     }
-    let known = last_in(last);
-    match judge_by(known, received) {
+    let judged = noted(last_in(last), received);
+    let newness = judged.newness;
+    match newness {
         Newness::Newer => {
-            put_last(last, received);
+            let kept = judged.last;
+            put_last(last, kept.number);
             result(0, 0)
         }
         Newness::OldOrSame => result(0, 1),

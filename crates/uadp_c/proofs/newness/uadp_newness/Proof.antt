@@ -1,4 +1,4 @@
-use Rattle.uadp_c.proofs.Judged.{judge-no-room, judged}
+use Rattle.uadp_c.proofs.Judged.{judge-no-room, judged, judged-newer}
 use Rattle.sequence.specs.declared.Newness.{Newness}
 use mathlib.Core.Path.{refl}
 use native.Mathlib.Omega.{arith}
@@ -17,32 +17,32 @@ returns c =
 returns-2 : tie.Need-returns-2
 returns-2 c =
     let at-put-last = c .before .before .before in
-    let at-enum-told = at-put-last .before .before in
-    let at-judge-by = at-enum-told .before .before in
-    let at-last-in = at-judge-by .before in
+    let at-enum-told = at-put-last .before .before .before in
+    let at-noted = at-enum-told .before .before in
+    let at-last-in = at-noted .before in
     let args = at-last-in .before .before .before .before .args in
-    judged (now (args .last)) _ (args .received) _ _ _ Newness.Newer (omega arith) (at-last-in .last-in .ensures)
-    (at-judge-by .judge-by .ensures) (at-enum-told .enum-told .given .1) (c .result2 .ensures) (at-put-last .put-last .ensures)
+    judged-newer (now (args .last)) _ (args .received) _ _ _ _ (omega arith) (at-last-in .last-in .ensures) (at-noted .noted .ensures .0)
+    (at-noted .noted .ensures .1) (at-enum-told .enum-told .given .1) (c .result2 .ensures) (at-put-last .put-last .ensures)
 
 -- src/newness.rt:22:1
 returns-3 : tie.Need-returns-3
 returns-3 c =
     let at-enum-told2 = c .before in
-    let at-judge-by = at-enum-told2 .before .before in
-    let at-last-in = at-judge-by .before in
+    let at-noted = at-enum-told2 .before .before in
+    let at-last-in = at-noted .before in
     let args = at-last-in .before .before .before .before .args in
     judged (now (args .last)) _ (args .received) _ _ _ Newness.OldOrSame (omega arith) (at-last-in .last-in .ensures)
-    (at-judge-by .judge-by .ensures) (at-enum-told2 .enum-told2 .given .1) (c .result3 .ensures) refl
+    (at-noted .noted .ensures .0) (at-enum-told2 .enum-told2 .given .1) (c .result3 .ensures) refl
 
 -- src/newness.rt:22:1
 returns-4 : tie.Need-returns-4
 returns-4 c =
     let at-enum-told3 = c .before in
-    let at-judge-by = at-enum-told3 .before .before in
-    let at-last-in = at-judge-by .before in
+    let at-noted = at-enum-told3 .before .before in
+    let at-last-in = at-noted .before in
     let args = at-last-in .before .before .before .before .args in
     judged (now (args .last)) _ (args .received) _ _ _ Newness.Invalid (omega arith) (at-last-in .last-in .ensures)
-    (at-judge-by .judge-by .ensures) (at-enum-told3 .enum-told3 .given .1) (c .result4 .ensures) refl
+    (at-noted .noted .ensures .0) (at-enum-told3 .enum-told3 .given .1) (c .result4 .ensures) refl
 
 pub uadp-newness-spec : {M : Type 1} → statement M
 uadp-newness-spec =
