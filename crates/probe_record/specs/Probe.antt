@@ -1,0 +1,107 @@
+-- The records of a probe and of one of its ids or strings (include/uadp.h).
+use Prim.Native.Nat.{ℕ, _+_, _*_}
+use mathlib.Core.Bool.{Bool, cond, _&&_}
+use mathlib.Core.List.{List, [], _∷_}
+use lib.Dec.{eqb, leb, ltb}
+use Rattle.wire.specs.Number.{leBytes}
+use Rattle.wire.specs.Constants.{MOST_DATAGRAM}
+use Rattle.wire_writer.specs.Store.{laid}
+use Rattle.config.specs.Writers.{atMost}
+use Rattle.probe.specs.declared.body.ListCount.{ListCount}
+use Rattle.probe.specs.declared.body.Probe.{Probe}
+use Rattle.probe.specs.declared.items.ProbeCursor.{ProbeCursor}
+use Rattle.probe.specs.declared.items.ProbeItem.{ProbeItem}
+use Rattle.probe.specs.Body.{informationRule}
+use Rattle.probe.specs.Items.{itemCount}
+use Rattle.probe.specs.Put.{informationOf}
+use Rattle.records.specs.Numbers.{numberAt}
+use Rattle.records.specs.Items.{isOn, fitsItem}
+
+-- "1 for a null list, else 0"
+abbrev pub nullNumber : ListCount → ℕ
+nullNumber ListCount.Null = 1
+nullNumber (ListCount.Of n) = 0
+
+abbrev pub probeNull : Probe → ℕ
+probeNull (Probe.MetaData l) = nullNumber l
+probeNull (Probe.Writers l) = nullNumber l
+probeNull (Probe.Group g b) = 0
+probeNull (Probe.Connections l g w) = nullNumber l
+
+-- "where the first id or string stands": behind ProbeType, InformationType and count; 0 for a WriterGroup's, and for a start above the most
+-- bytes of a datagram, which no probe has
+abbrev pub placeOf : Probe → ℕ → ℕ
+placeOf (Probe.MetaData l) start = start + 6
+placeOf (Probe.Writers l) start = start + 6
+placeOf (Probe.Group g b) start = 0
+placeOf (Probe.Connections l g w) start = start + 6
+
+abbrev pub listPlace : Probe → ℕ → ℕ
+listPlace p start = cond (ltb MOST_DATAGRAM start) 0 (placeOf p start)
+
+-- "WriterGroupId"; "IncludeDataSetWriters of a WriterGroup, IncludeWriterGroups of connections"; "IncludeDataSetWriters of connections"
+abbrev pub groupNumber : Probe → ℕ
+groupNumber (Probe.MetaData l) = 0
+groupNumber (Probe.Writers l) = 0
+groupNumber (Probe.Group g b) = g
+groupNumber (Probe.Connections l g w) = 0
+
+abbrev pub firstInclude : Probe → ℕ
+firstInclude (Probe.MetaData l) = 0
+firstInclude (Probe.Writers l) = 0
+firstInclude (Probe.Group g b) = b
+firstInclude (Probe.Connections l g w) = g
+
+abbrev pub secondInclude : Probe → ℕ
+secondInclude (Probe.MetaData l) = 0
+secondInclude (Probe.Writers l) = 0
+secondInclude (Probe.Group g b) = 0
+secondInclude (Probe.Connections l g w) = w
+
+-- the 16 numbers of a probe that starts at a position: InformationType, null, count, where the list stands, WriterGroupId, two Booleans;
+-- the cursor stands before the first item; the last seven are spare and hold 0
+abbrev pub probeNumbers : Probe → ℕ → List ℕ
+probeNumbers p start =
+    informationOf p ∷ probeNull p ∷ itemCount p ∷ listPlace p start ∷ groupNumber p ∷ firstInclude p ∷ secondInclude p
+    ∷ 0 ∷ listPlace p start
+    ∷ 0 ∷ 0 ∷ 0 ∷ 0 ∷ 0 ∷ 0 ∷ 0 ∷ []
+
+-- a probe in a record to be written from, or walked over
+
+abbrev pub listGiven : ℕ → ℕ → ListCount
+listGiven null count = cond (isOn null) ListCount.Null (ListCount.Of count)
+
+-- "another type lists nothing"
+abbrev pub probeBy : ℕ → ListCount → ℕ → ℕ → ℕ → Probe
+probeBy t l g a b =
+    cond (eqb t 2) (Probe.MetaData l) (cond (eqb t 3) (Probe.Writers l) (cond (eqb t 5) (Probe.Connections l a b) (Probe.Group g a)))
+
+-- "the numbers 0, 1, 2, 4, 5 and 6 are read"; "a number that does not fit its item counts as the largest that does"
+abbrev pub probeIn : List ℕ → Probe
+probeIn s =
+    probeBy (numberAt s 0) (listGiven (numberAt s 1) (numberAt s 2)) (atMost 65535 (numberAt s 4)) (atMost 255 (numberAt s 5))
+    (atMost 255 (numberAt s 6))
+
+-- "types by number as in reading"
+abbrev pub typeRule : List ℕ → ℕ
+typeRule s = informationRule (atMost 255 (numberAt s 0))
+
+-- "a number that does not fit its item": whether the number of each item that is present fits it; a count is the writer's to judge
+abbrev pub probeFits : List ℕ → Bool
+probeFits s =
+    fitsItem (eqb (numberAt s 0) 4) 65535 (numberAt s 4)
+    && (fitsItem (leb 4 (numberAt s 0)) 255 (numberAt s 5) && fitsItem (eqb (numberAt s 0) 5) 255 (numberAt s 6))
+
+-- the item cursor, the numbers 7 and 8; and the record with its cursor moved
+abbrev pub cursorIn : List ℕ → ProbeCursor
+cursorIn s = record { index = numberAt s 7; at = numberAt s 8 }
+
+abbrev pub cursorLaid : ProbeCursor → List ℕ → List ℕ
+cursorLaid c s = laid (laid s (8 * 7) (leBytes 8 (c .index))) (8 * 8) (leBytes 8 (c .at))
+
+-- the 4 numbers of an item: its number, "offset of its bytes", their length, "the id; of a string 1 if null, else 0"
+abbrev pub valueNumber : Bool → ℕ → ℕ
+valueNumber null id = cond null 1 id
+
+abbrev pub itemNumbers : ProbeItem → List ℕ
+itemNumbers x = x .index ∷ x .offset ∷ x .length ∷ valueNumber (x .null) (x .id) ∷ []
