@@ -211,7 +211,7 @@ fn information(s: &[u8], at: usize) -> ProbeRead
 }
 
 // A probe that starts at a position.
-fn probe(s: &[u8], at: usize) -> ProbeRead
+fn read_probe(s: &[u8], at: usize) -> ProbeRead
     ensures { λ r. ⌜ answerProbe r ≡ probeAt (now (s .entry)) at ⌝ }
 {
     let Item8::Is(t, next) = wire::read8(s, at) else {
@@ -228,7 +228,7 @@ fn probe(s: &[u8], at: usize) -> ProbeRead
 pub fn read_body(s: &[u8], at: usize) -> ProbeRead
     ensures { λ r. ⌜ answerProbe r ≡ probeBodyAt (now (s .entry)) at ⌝ }
 {
-    match probe(s, at) {
+    match read_probe(s, at) {
         ProbeRead::Refused(number, place) => ProbeRead::Refused(number, place),
         ProbeRead::Is(p, next) => {
             if next != s.len() {
