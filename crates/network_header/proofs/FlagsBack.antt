@@ -6,7 +6,7 @@ use mathlib.Core.Bool.{Bool, true, false, _&&_}
 use Prim.Native.Nat.{ℕ, _+_, _*_, _/_, _%_, _≤_, _<_}
 use native.Mathlib.Omega.{arith}
 use lib.ListN.{length}
-use lib.Dec.{eqb, leb, eqb→eq}
+use lib.Dec.{eqb, leb, ltb, eqb→eq, ltb→lt}
 use borrow.Author.Tests.{eqb-true, eqb-false, leb-false, ne-eqb}
 use Rattle.wire.specs.Number.{leBytes}
 use Rattle.wire.specs.Answer.{got, ruled, whenOn, bit}
@@ -115,9 +115,16 @@ facts3 p g r = go (eqb (g / 4 % 8) 1) refl
         no : false ≡ true → ⊥
         no c = let y : _≡_ {A = ℕ} 0 1 = cc in omega arith
 
+-- of ExtendedFlags2 below 8
+second-sum : (g : ℕ) → g < 8 → g % 2 + (2 * (g / 2 % 2) + 4 * (g / 4 % 8)) ≡ g
+second-sum g h = eqb→eq _ _ (below (λ g. eqb (g % 2 + (2 * (g / 2 % 2) + 4 * (g / 4 % 8))) g) 8 tt g h)
+
+second-type : (g : ℕ) → g < 8 → g / 4 % 8 < 2
+second-type g h = ltb→lt (g / 4 % 8) 2 (below (λ g. ltb (g / 4 % 8) 2) 8 tt g h)
+
 module _ (b e g : ℕ) (hb : b < 256) (he : e < 256) (hg : g < 8) (vb : b % 16 ≡ 1) (ve : e / 16 % 2 ≡ 0) (nb : needed e ≡ b / 128) (ne : needed g ≡ e / 128) where
   second-is : extended2Of (flagsOf b e g) ≡ g
-  second-is = rw (num-bit (g % 2) (omega arith), num-bit (g / 2 % 2) (omega arith), num-bit (g / 4 % 8) (omega arith)) (omega arith)
+  second-is = rw (num-bit (g % 2) (omega arith), num-bit (g / 2 % 2) (omega arith), num-bit (g / 4 % 8) (second-type g hg)) (second-sum g hg)
 
   first-is : extended1Of (flagsOf b e g) ≡ e
   first-is = rw (second-is, ne, num-bit (e / 8 % 2) (omega arith), num-bit (e / 32 % 2) (omega arith), num-bit (e / 64 % 2) (omega arith)) (extended-sum e he ve)

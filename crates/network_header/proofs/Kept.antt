@@ -53,7 +53,7 @@ pub flags-kept : (s : List ℕ) (at : ℕ) (f : Flags) (next : ℕ) → flagsAt 
 flags-kept s at f next h =
     let B = invert (ruled 1 byte0Rule s at) (λ b n. _) h in
     let E = invert (whenOn (eqb (B .0 / 128) 1) 0 (ruled 1 (extended1Rule (bit 4 (B .0)))) s (B .1)) (λ e n. _) (B .3) in
-    let G = map-back (whenOn (eqb (E .0 / 128) 1) 0 (ruled 1 extended2Rule)) (λ g. flagsOf (B .0) (E .0) g) s (E .1) f next (E .3) in
+    let G = map-back (whenOn (eqb (E .0 / 128) 1) 0 (ruled 1 (extended2Rule (bit 6 (B .0))))) (λ g. flagsOf (B .0) (E .0) g) s (E .1) f next (E .3) in
     subst (λ (x : Flags). timesRefusal (x .picoseconds) (x .timestamp) ≡ 0) (G .2) (extended-kept (eqb (B .0 / 128) 1) (bit 4 (B .0)) s (B .1) (E .0) (E .1) (E .2))
 
 -- the PublisherId: a string of at most 64 bytes, and as many bytes as it says

@@ -35,13 +35,12 @@ probeMessageAt sizes s = andThen (networkMessageAt sizes s) (λ m next. probeFro
 
 -- the same in the steps of the code: what follows the header, and what follows the flags
 
-abbrev pub probeThenAt : Envelope → Places → List ℕ → List ℕ → Answer ProbeMessage
-probeThenAt e w sizes s =
-    andThen (payloadAt (e .chunk) (e .«payload_header») sizes s (w .payload)) (λ p next. probeFrom e w s)
+abbrev pub probeThenAt : Envelope → Places → List ℕ → Reader ProbeMessage
+probeThenAt e w sizes s at = andThen (payloadAt (e .chunk) (e .«payload_header») sizes s at) (λ p next. probeFrom e w s)
 
 abbrev pub probeAfterAt : Flags → List ℕ → Reader ProbeMessage
 probeAfterAt f sizes s at =
-    andThen (envelopeAt f (length (configuredSizes sizes)) s at) (λ h next. probeThenAt (h .envelope) (h .places) sizes s)
+    andThen (envelopeAt f (length (configuredSizes sizes)) s at) (λ h next. probeThenAt (h .envelope) (h .places) sizes s next)
 
 -- the probe of an envelope that announces one; in a datagram ExtendedFlags2 has refused a chunked one before
 abbrev pub probeOfAt : Envelope → Places → List ℕ → Answer ProbeMessage

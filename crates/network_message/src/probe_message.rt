@@ -40,7 +40,7 @@ fn probe_of(s: &[u8], envelope: Envelope, places: Places) -> ProbeMessageRead
 
 // What follows the header: a datagram of another kind that is accepted is 4.
 fn probe_then(s: &[u8], envelope: Envelope, places: Places, sizes: &[u16]) -> ProbeMessageRead
-    ensures { λ r. ⌜ answerProbeMessage r ≡ probeThenAt envelope places (now (sizes .entry)) (now (s .entry)) ⌝ }
+    ensures { λ r. ⌜ answerProbeMessage r ≡ probeThenAt envelope places (now (sizes .entry)) (now (s .entry)) (places .payload) ⌝ }
 {
     let header = envelope.payload_header;
     if probe_on(header) {
