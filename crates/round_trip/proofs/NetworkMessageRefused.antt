@@ -190,6 +190,11 @@ no-pico true false h = absurd (omega arith)
 no-pico false true h = refl
 no-pico false false h = refl
 
+-- ExtendedFlags1 passes
+first-passes : (p : Bool) (e k : ℕ) (pc t : Bool) → eqb e 0 ≡ false → e % 8 ≡ k → k < 5 → e / 16 % 2 ≡ 0 → e / 64 % 2 ≡ num pc → e / 32 % 2 ≡ num t → timesRefusal pc t ≡ 0
+    → extended1Rule p e ≡ 0
+first-passes p e k pc t nz ke hk se pe te ht = rw (nz, ke, lt-leb 5 k hk, both-no p, se, pe, te, no-pico pc t ht)
+
 -- of a probe, what ExtendedFlags2 breaks is what the writer refuses it by
 as-refused : (e : ℕ) (c m h : Bool) → eqb e 0 ≡ false → e < 32 → e / 4 % 8 ≡ 1 → eqb (e % 2) 1 ≡ c → eqb (e / 2 % 2) 1 ≡ m → h ≡ false → extended2Rule h e ≡ probeRefusal true c m
 as-refused e c m h q k t x y z = rw (q, lt-leb 32 e k, t, x, y, z)
@@ -218,7 +223,7 @@ probe-refuse f hk ht hh hp m s at =
     let r0 : byte0Rule (byte0Of f) ≡ 0 = rw (b0 .0) in
     let p1 = rule-kept 1 byte0Rule m b (byte0Of f) r0 (item-is 1 (byte0Of f) m k) s (first s m b (byteBytes e ++ byteBytes g) at) in
     let r1 : extended1Rule (bit 4 (byte0Of f)) e ≡ 0 =
-    rw (en, b1 .0, lt-leb 5 (f .kind) hk, both-no (bit 4 (byte0Of f)), b1 .2, b1 .4, b1 .3, no-pico (f .picoseconds) (f .timestamp) ht) in
+    first-passes (bit 4 (byte0Of f)) e (f .kind) (f .picoseconds) (f .timestamp) en (b1 .0) hk (b1 .2) (b1 .4) (b1 .3) ht in
     let at2 = second s m b (byteBytes e ++ byteBytes g) at in
     let at3 : At s (m + 1) (leBytes 1 e ++ leBytes 1 g) =
     subst (λ (t : Bool). At s (m + 1) (leBytes 1 e ++ cond t [] (leBytes 1 g))) gn

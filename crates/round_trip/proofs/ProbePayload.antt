@@ -61,7 +61,7 @@ module _ (pre messages : List ℕ) (m : ℕ) (e : length pre ≡ m) where
       go : (x : Answer Probe) → probeBodyAt messages 0 ≡ x → refusalNumber (andThen x (λ p next. got (messagesFrom 0 Sizes.Rest 0) 0)) ≡ 0
           → andThen (movedBy (length pre) x) (λ p next. got (messagesFrom 0 Sizes.Rest m) m) ≡ got (messagesFrom 0 Sizes.Rest m) m
       go (got p n) q k = refl
-      go (refused n place) q k = absurd (omega (arith, body-refused messages 0 {n} {place} (omega arith) q .0, k))
+      go (refused n place) q k = absurd (omega (arith, body-refused messages 0 {n = n} {place = place} (omega arith) q .0, k))
 
 -- a probe has no PayloadHeader
 pub no-header : (h : PayloadHeader) → probeOn h ≡ true → payloadHeaderOn h ≡ false
