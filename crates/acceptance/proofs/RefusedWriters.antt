@@ -9,7 +9,9 @@ use native.Mathlib.Omega.{arith}
 use lib.Dec.{eqb, leb, ltb}
 use lib.ListN.{length, getD, take, drop}
 use Rattle.wire.specs.Lists.{total}
-use Rattle.wire.specs.Answer.{Answer, got, refused, andThen, each}
+use Rattle.wire.specs.Answer.{Answer, got, refused, andThen, run, pure, each}
+use Rattle.wire.specs.Items.{lengthItem}
+use Rattle.wire.specs.declared.Length.{Length}
 use Rattle.wire.specs.declared.optional.Optional16.{Optional16}
 use Rattle.wire.proofs.Cases.{by-bool}
 use Rattle.wire_writer.specs.Writing.{orElse, unused, Output, unless, writtenOf, Writes, on16, onI64, picosecondsRefusal}
@@ -17,7 +19,7 @@ use Rattle.wire_writer.specs.declared.writing.Written.{Written}
 use Rattle.publisher_id.specs.Publisher.{publisherRefusal, publisherShape, textTooLong}
 use Rattle.publisher_id.specs.declared.publisher.PublisherId.{PublisherId}
 use Rattle.network_header.specs.Flags.{timesRefusal, probeRefusal}
-use Rattle.plain_value.specs.Plain.{string}
+use Rattle.plain_value.specs.Plain.{bytes, afterLength, string}
 use Rattle.probe.specs.declared.body.ListCount.{ListCount}
 use Rattle.probe.specs.declared.body.Probe.{Probe}
 use Rattle.probe.specs.Body.{probeBodyAt}
@@ -48,7 +50,7 @@ use Rattle.reassembly_laws.specs.Refusing.{oneOf}
 use Rattle.acceptance.specs.Refusals.{datagramWriterRefusals, messageWriterRefusals, datagramAgainRefusals, messageAgainRefusals, probeWriterRefusals}
 use Rattle.acceptance.proofs.Refusals.{Tells, with13, wider-one}
 use Rattle.acceptance.proofs.Refusals.Tells.{gives, refuses}
-use Rattle.acceptance.proofs.RefusedDatagrams.{datagramOthers, probeOthers, datagram-tells, body-tells, strings-lawful}
+use Rattle.acceptance.proofs.RefusedDatagrams.{datagramOthers, probeOthers, datagram-tells, body-tells}
 use Rattle.acceptance.proofs.RefusedMessages.{fieldOthers, messageOthers, encoded-lawful, message-tells}
 
 -- no refusal, or one by one of these numbers
@@ -282,13 +284,40 @@ id-list-number : (l : ListCount) (n : ℕ) → Number forProbes (idListRule l n)
 id-list-number ListCount.Null n = probe-held (eqb n 0)
 id-list-number (ListCount.Of k) n = either forProbes (leb 2147483648 k) 6 (cond (eqb n (2 * k)) 0 6) (inr refl) (probe-held (eqb n (2 * k)))
 
+-- strings are refused by 1 and 5 only
+abbrev OneOrFive : {A : Type 0} → Answer A → Type 0
+OneOrFive (got a next) = Unit {0}
+OneOrFive (refused n place) = oneOf (1 ∷ 5 ∷ []) n ≡ true
+
+then-numbers : {A B : Type 0} (x : Answer A) (k : A → ℕ → Answer B) → OneOrFive x → ((a : A) (n : ℕ) → OneOrFive (k a n)) → OneOrFive (andThen x k)
+then-numbers (got a n) k t f = f a n
+then-numbers (refused n place) k t f = t
+
+taking-numbers : {A : Type 0} (b : Bool) (a : A) (next at : ℕ) → OneOrFive (cond b (got a next) (refused 1 at))
+taking-numbers true a next at = tt
+taking-numbers false a next at = refl
+
+string-numbers : (s : List ℕ) (at : ℕ) → OneOrFive (string s at)
+unfolding string
+string-numbers s at = then-numbers (lengthItem s at) _ (taking-numbers (leb (at + 4) (length s)) _ _ at) by-length
+  where
+    by-length : (l : Length) (next : ℕ) → OneOrFive (afterLength (pure tt) bytes at l s next)
+    by-length Length.Null next = tt
+    by-length (Length.Of n) next = then-numbers (run n s next) _ (taking-numbers (leb (next + n) (length s)) n (next + n) next) (λ a m. tt)
+    by-length Length.Negative next = refl
+
+strings-numbers : (n : ℕ) (s : List ℕ) (at : ℕ) → OneOrFive (each string n s at)
+unfolding each
+strings-numbers zero s at = tt
+strings-numbers (suc n) s at = then-numbers (string s at) _ (string-numbers s at) (λ a next. strings-numbers n s next)
+
 string-list-number : (l : ListCount) (list : List ℕ) → Number forProbes (stringListRule l list)
 string-list-number ListCount.Null list = probe-held (eqb (length list) 0)
-string-list-number (ListCount.Of k) list = go (each string k list 0) (strings-lawful k .tells list 0 (omega arith))
+string-list-number (ListCount.Of k) list = go (each string k list 0) (strings-numbers k list 0)
   where
-    go : (x : Answer (Unit {0})) → Tells (5 ∷ []) (length list) x → Number forProbes (stringsEnd k (length list) x)
+    go : (x : Answer (Unit {0})) → OneOrFive x → Number forProbes (stringsEnd k (length list) x)
     go (got a end) t = either forProbes (leb 2147483648 k) 6 (cond (eqb end (length list)) 0 6) (inr refl) (probe-held (eqb end (length list)))
-    go (refused n place) (refuses r) = inr (wider-one (1 ∷ 5 ∷ []) forProbes refl n (no-three n (r .one)))
+    go (refused n place) t = inr (wider-one (1 ∷ 5 ∷ []) forProbes refl n t)
 
 probe-body-number : (list : List ℕ) (p : Probe) → Number forProbes (probeBodyRefusal list p)
 probe-body-number list (Probe.MetaData l) = id-list-number l (length list)

@@ -1,0 +1,89 @@
+use mathlib.Core.Path.{sym}
+use borrow.Author.Needs.{needs}
+use Rattle.probe_record.proofs.put_probe.Statement.{statement}
+use Rattle.probe_record.proofs.put_probe.Tie as tie
+use Rattle.probe_record.proofs.put_probe.Reads as reads
+use Rattle.probe_record.proofs.put_probe.Lts as lts
+use Rattle.probe.proofs.items.item_count.Reads as item-count-reads
+use Rattle.probe.proofs.put.information_of.Reads as information-of-reads
+use Rattle.probe_record.proofs.first_include.Reads as first-include-reads
+use Rattle.probe_record.proofs.group_number.Reads as group-number-reads
+use Rattle.probe_record.proofs.list_place.Reads as list-place-reads
+use Rattle.probe_record.proofs.probe_null.Reads as probe-null-reads
+use Rattle.probe_record.proofs.second_include.Reads as second-include-reads
+use Rattle.records.proofs.numbers.put_numbers.Reads as put-numbers-reads
+
+-- src/lib.rt:98:17
+list-place-requires : tie.Need-list-place-requires
+list-place-requires c κs = search needs
+
+-- src/lib.rt:100:9
+information-of-requires : tie.Need-information-of-requires
+information-of-requires c κs = search needs
+
+-- src/lib.rt:100:9
+cast-t8 : tie.Need-cast-t8
+cast-t8 c = search needs
+
+-- src/lib.rt:101:9
+probe-null-requires : tie.Need-probe-null-requires
+probe-null-requires c κs = search needs
+
+-- src/lib.rt:102:9
+item-count-requires : tie.Need-item-count-requires
+item-count-requires c κs = search needs
+
+-- src/lib.rt:104:9
+group-number-requires : tie.Need-group-number-requires
+group-number-requires c κs = search needs
+
+-- src/lib.rt:105:9
+first-include-requires : tie.Need-first-include-requires
+first-include-requires c κs = search needs
+
+-- src/lib.rt:106:9
+second-include-requires : tie.Need-second-include-requires
+second-include-requires c κs = search needs
+
+-- src/lib.rt:117:22
+slice-aggregate-put-numbers : tie.Need-slice-aggregate-put-numbers
+slice-aggregate-put-numbers c = search needs
+
+-- src/lib.rt:117:5
+put-numbers-requires : tie.Need-put-numbers-requires
+put-numbers-requires c κs = search needs
+
+-- src/lib.rt:95:1
+same-length : tie.Need-same-length
+same-length c = search needs
+
+-- src/lib.rt:95:1
+returns : tie.Need-returns
+returns c =
+    let at-put-numbers = c .before .before in
+    let at-second-include = at-put-numbers .before .before .before in
+    let at-first-include = at-second-include .before in
+    let at-group-number = at-first-include .before in
+    let at-item-count = at-group-number .before in
+    let at-probe-null = at-item-count .before in
+    let at-information-of = at-probe-null .before in
+    let at-list-place = at-information-of .before in
+    rw (sym (at-information-of .information-of .ensures), sym (at-probe-null .probe-null .ensures), sym (at-item-count .item-count .ensures), sym (at-list-place .list-place .ensures), sym (at-group-number .group-number .ensures), sym (at-first-include .first-include .ensures), sym (at-second-include .second-include .ensures))
+    (at-put-numbers .put-numbers .ensures)
+
+pub put-probe-spec : {M : Type 1} → statement M
+put-probe-spec =
+    tie.close
+    (tie.spec
+    list-place-requires
+    information-of-requires
+    cast-t8
+    probe-null-requires
+    item-count-requires
+    group-number-requires
+    first-include-requires
+    second-include-requires
+    slice-aggregate-put-numbers
+    put-numbers-requires
+    same-length
+    returns)
