@@ -70,9 +70,20 @@ list-back pre list (Probe.Connections l g w) h =
     let two = leBytes 1 g ++ leBytes 1 w in
     let head = leBytes 1 1 ++ leBytes 1 5 in
     let n : length (pre ++ (head ++ (countBytes l ++ (list ++ two)))) - 2 - (length pre + 6) ≡ length list =
-    omega (arith, length-append pre (head ++ (countBytes l ++ (list ++ two))), length-append head (countBytes l ++ (list ++ two)), length-append (leBytes 1 1) (leBytes 1 5),
-    length-append (countBytes l) (list ++ two), length-append list two, length-append (leBytes 1 g) (leBytes 1 w), length-leBytes 1 1, length-leBytes 1 5, length-leBytes 1 g, length-leBytes 1 w,
-    count-long l) in
+    omega (
+      arith,
+      length-append pre (head ++ (countBytes l ++ (list ++ two))),
+      length-append head (countBytes l ++ (list ++ two)),
+      length-append (leBytes 1 1) (leBytes 1 5),
+      length-append (countBytes l) (list ++ two),
+      length-append list two,
+      length-append (leBytes 1 g) (leBytes 1 w),
+      length-leBytes 1 1,
+      length-leBytes 1 5,
+      length-leBytes 1 g,
+      length-leBytes 1 w,
+      count-long l,
+    ) in
     ap (λ (k : ℕ). take k (drop (length pre + 6) (pre ++ (head ++ (countBytes l ++ (list ++ two)))))) n ∙ ap (take (length list)) (behind pre 5 l (list ++ two)) ∙ take-at list two (length list) refl
 
 -- ---- a body

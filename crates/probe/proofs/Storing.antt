@@ -17,13 +17,30 @@ count-long (ListCount.Of n) = length-leBytes 4 n
 -- behind two bytes: a count with its list
 pub list-sized : (t : ℕ) (l : ListCount) (list : List ℕ) → 6 + length list ≡ length ((leBytes 1 1 ++ leBytes 1 t) ++ (countBytes l ++ list))
 list-sized t l list =
-    omega (arith, count-long l, length-append (leBytes 1 1 ++ leBytes 1 t) (countBytes l ++ list), length-append (leBytes 1 1) (leBytes 1 t), length-leBytes 1 1, length-leBytes 1 t,
-    length-append (countBytes l) list)
+    omega (
+      arith,
+      count-long l,
+      length-append (leBytes 1 1 ++ leBytes 1 t) (countBytes l ++ list),
+      length-append (leBytes 1 1) (leBytes 1 t),
+      length-leBytes 1 1,
+      length-leBytes 1 t,
+      length-append (countBytes l) list,
+    )
 
 -- and two Booleans
 pub connections-sized : (l : ListCount) (g w : ℕ) (list : List ℕ)
     → 8 + length list ≡ length ((leBytes 1 1 ++ leBytes 1 5) ++ (countBytes l ++ (list ++ (leBytes 1 g ++ leBytes 1 w))))
 connections-sized l g w list =
-    omega (arith, count-long l, length-append (leBytes 1 1 ++ leBytes 1 5) (countBytes l ++ (list ++ (leBytes 1 g ++ leBytes 1 w))), length-append (leBytes 1 1) (leBytes 1 5),
-    length-leBytes 1 1, length-leBytes 1 5, length-append (countBytes l) (list ++ (leBytes 1 g ++ leBytes 1 w)), length-append list (leBytes 1 g ++ leBytes 1 w),
-    length-append (leBytes 1 g) (leBytes 1 w), length-leBytes 1 g, length-leBytes 1 w)
+    omega (
+      arith,
+      count-long l,
+      length-append (leBytes 1 1 ++ leBytes 1 5) (countBytes l ++ (list ++ (leBytes 1 g ++ leBytes 1 w))),
+      length-append (leBytes 1 1) (leBytes 1 5),
+      length-leBytes 1 1,
+      length-leBytes 1 5,
+      length-append (countBytes l) (list ++ (leBytes 1 g ++ leBytes 1 w)),
+      length-append list (leBytes 1 g ++ leBytes 1 w),
+      length-append (leBytes 1 g) (leBytes 1 w),
+      length-leBytes 1 g,
+      length-leBytes 1 w,
+    )

@@ -1,6 +1,7 @@
 -- The records of a probe and of one of its ids or strings (include/uadp.h).
 use Prim.Native.Nat.{ℕ, _+_, _*_}
-use mathlib.Core.Bool.{Bool, cond, _&&_}
+use mathlib.Core.Path.{_≡_}
+use mathlib.Core.Bool.{Bool, true, cond, _&&_}
 use mathlib.Core.List.{List, [], _∷_}
 use lib.Dec.{eqb, leb, ltb}
 use Rattle.wire.specs.Number.{leBytes}
@@ -105,3 +106,11 @@ valueNumber null id = cond null 1 id
 
 abbrev pub itemNumbers : ProbeItem → List ℕ
 itemNumbers x = x .index ∷ x .offset ∷ x .length ∷ valueNumber (x .null) (x .id) ∷ []
+
+-- what the library reads in the probe record r is the probe that starts at a position, each number of which fits its item, and the cursor
+-- before its first id or string
+pub record ProbeRecordBack (r : List ℕ) (p : Probe) (start : ℕ) : Type 0 where
+  pub probe : probeIn r ≡ p
+  pub type : typeRule r ≡ 0
+  pub fitting : probeFits r ≡ true
+  pub cursor : cursorIn r ≡ record { index = 0; at = listPlace p start }

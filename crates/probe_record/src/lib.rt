@@ -16,7 +16,10 @@ use wire_writer::store::put64;
 ghost use mathlib.Core.Path.{_≡_};
 ghost use Rattle.wire_writer.specs.Store.{laid};
 ghost use Rattle.records.specs.Numbers.{numberBytes};
-ghost use Rattle.probe_record.specs.Probe.{nullNumber, probeNull, listPlace, groupNumber, firstInclude, secondInclude, probeNumbers, listGiven, probeBy, probeIn, typeRule, probeFits, cursorIn, cursorLaid, valueNumber, itemNumbers};
+ghost use Rattle.probe_record.specs.Probe.{nullNumber, probeNull, listPlace, groupNumber, firstInclude, secondInclude, probeNumbers, listGiven, probeBy, probeIn, typeRule, probeFits, cursorIn, cursorLaid, valueNumber, itemNumbers, ProbeRecordBack};
+ghost use Rattle.records.specs.Sizes.{PROBE_SIZE};
+ghost use lib.ListN.{length};
+ghost use Prim.Native.Nat.{_≤_};
 
 // Where the numbers 7 and 8 stand: the cursor's item and its place.
 const CURSOR_INDEX: usize = 8 * 7;
@@ -92,8 +95,11 @@ fn second_include(p: Probe) -> u64
 }
 
 // Stores the record of a probe that starts at a position, whose cursor stands before the first item; where it does not fit, nothing.
+// Where there is room its parts are read back.
 pub fn put_probe(out: &mut [u8], p: Probe, start: usize)
-    ensures { λ _. ⌜ now (out .exit) ≡ laid (now (out .entry)) 0 (numberBytes (probeNumbers p start)) ⌝ }
+    ensures { λ _.
+        ⌜ (now (out .exit) ≡ laid (now (out .entry)) 0 (numberBytes (probeNumbers p start)))
+        × (PROBE_SIZE ≤ length (now (out .entry)) → ProbeRecordBack (now (out .exit)) p start) ⌝ }
 {
     let first = list_place(p, start) as u64;
     let numbers = [

@@ -66,7 +66,10 @@ fn count(list: ListCount) {
 }
 
 fn items(s: &[u8], p: Probe, first: usize) {
-    let mut cursor = ProbeCursor { index: 0, at: first };
+    let mut cursor = ProbeCursor {
+        index: 0,
+        at: first,
+    };
     let mut left = item_count(p);
     while 0 < left {
         match cursor.step(s, p) {

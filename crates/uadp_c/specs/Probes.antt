@@ -1,5 +1,5 @@
 -- A probe, its ids and strings as records, and a probe's body written (include/uadp.h, "probes").
-use Prim.Native.Nat.{ℕ}
+use Prim.Native.Nat.{ℕ, _≤_}
 use mathlib.Core.Bool.{cond}
 use mathlib.Core.List.{List}
 use lib.Dec.{eqb, ltb}
@@ -14,7 +14,7 @@ use Rattle.probe.specs.Put.{probeOutput}
 use Rattle.records.specs.Numbers.{numberBytes}
 use Rattle.records.specs.Result.{resultOf, Filling}
 use Rattle.records.specs.Sizes.{ITEM_SIZE, PROBE_SIZE}
-use Rattle.probe_record.specs.Probe.{probeNumbers, probeIn, typeRule, probeFits, cursorIn, cursorLaid, itemNumbers}
+use Rattle.probe_record.specs.Probe.{probeNumbers, probeIn, typeRule, probeFits, cursorIn, cursorLaid, itemNumbers, ProbeRecordBack}
 use Rattle.uadp_c.specs.Writing.{fitting}
 
 -- "Value: where the probe starts"
@@ -22,6 +22,11 @@ abbrev pub probeFilling : Answer ProbeMessage → Answer Filling
 probeFilling a =
     mapAnswer
     (λ (m : ProbeMessage). record { value = m .places .payload; bytes = numberBytes (probeNumbers (m .probe) (m .places .payload)) }) a
+
+-- where there is room, what was read is what the library reads in the probe record afterwards
+abbrev pub ProbeReads : Answer ProbeMessage → List ℕ → List ℕ → Type 0
+ProbeReads (got m next) entry exit = PROBE_SIZE ≤ length entry → ProbeRecordBack exit (m .probe) (m .places .payload)
+ProbeReads (refused n place) entry exit = Unit {0}
 
 -- the id or string that a probe record's cursor stands before, and the cursor before the next one
 abbrev pub itemStep : List ℕ → List ℕ → Answer ItemStepped

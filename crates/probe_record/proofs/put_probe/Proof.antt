@@ -1,4 +1,8 @@
+use denote.Ref.{now}
 use mathlib.Core.Path.{sym}
+use Rattle.probe.proofs.Fitting.{fits-probe}
+use Rattle.probe_record.proofs.Fitting.{fits-items}
+use Rattle.probe_record.proofs.Back.{stored-back}
 use borrow.Author.Needs.{needs}
 use Rattle.probe_record.proofs.put_probe.Statement.{statement}
 use Rattle.probe_record.proofs.put_probe.Tie as tie
@@ -13,51 +17,51 @@ use Rattle.probe_record.proofs.probe_null.Reads as probe-null-reads
 use Rattle.probe_record.proofs.second_include.Reads as second-include-reads
 use Rattle.records.proofs.numbers.put_numbers.Reads as put-numbers-reads
 
--- src/lib.rt:98:17
+-- src/lib.rt:104:17
 list-place-requires : tie.Need-list-place-requires
 list-place-requires c κs = search needs
 
--- src/lib.rt:100:9
+-- src/lib.rt:106:9
 information-of-requires : tie.Need-information-of-requires
 information-of-requires c κs = search needs
 
--- src/lib.rt:100:9
+-- src/lib.rt:106:9
 cast-t8 : tie.Need-cast-t8
 cast-t8 c = search needs
 
--- src/lib.rt:101:9
+-- src/lib.rt:107:9
 probe-null-requires : tie.Need-probe-null-requires
 probe-null-requires c κs = search needs
 
--- src/lib.rt:102:9
+-- src/lib.rt:108:9
 item-count-requires : tie.Need-item-count-requires
 item-count-requires c κs = search needs
 
--- src/lib.rt:104:9
+-- src/lib.rt:110:9
 group-number-requires : tie.Need-group-number-requires
 group-number-requires c κs = search needs
 
--- src/lib.rt:105:9
+-- src/lib.rt:111:9
 first-include-requires : tie.Need-first-include-requires
 first-include-requires c κs = search needs
 
--- src/lib.rt:106:9
+-- src/lib.rt:112:9
 second-include-requires : tie.Need-second-include-requires
 second-include-requires c κs = search needs
 
--- src/lib.rt:117:22
+-- src/lib.rt:123:22
 slice-aggregate-put-numbers : tie.Need-slice-aggregate-put-numbers
 slice-aggregate-put-numbers c = search needs
 
--- src/lib.rt:117:5
+-- src/lib.rt:123:5
 put-numbers-requires : tie.Need-put-numbers-requires
 put-numbers-requires c κs = search needs
 
--- src/lib.rt:95:1
+-- src/lib.rt:99:1
 same-length : tie.Need-same-length
 same-length c = search needs
 
--- src/lib.rt:95:1
+-- src/lib.rt:99:1
 returns : tie.Need-returns
 returns c =
     let at-put-numbers = c .before .before in
@@ -68,8 +72,10 @@ returns c =
     let at-probe-null = at-item-count .before in
     let at-information-of = at-probe-null .before in
     let at-list-place = at-information-of .before in
-    rw (sym (at-information-of .information-of .ensures), sym (at-probe-null .probe-null .ensures), sym (at-item-count .item-count .ensures), sym (at-list-place .list-place .ensures), sym (at-group-number .group-number .ensures), sym (at-first-include .first-include .ensures), sym (at-second-include .second-include .ensures))
-    (at-put-numbers .put-numbers .ensures)
+    let at-good = at-list-place .before .before in
+    stored-back (at-good .args .p) (at-good .args .start) (now (at-good .args .out)) _ (fits-probe (at-good .args .p) _ (at-good .good .1 .0)) (fits-items (at-good .args .p) _ (at-good .good .1 .0))
+    (rw (sym (at-information-of .information-of .ensures), sym (at-probe-null .probe-null .ensures), sym (at-item-count .item-count .ensures), sym (at-list-place .list-place .ensures), sym (at-group-number .group-number .ensures), sym (at-first-include .first-include .ensures), sym (at-second-include .second-include .ensures))
+    (at-put-numbers .put-numbers .ensures))
 
 pub put-probe-spec : {M : Type 1} → statement M
 put-probe-spec =

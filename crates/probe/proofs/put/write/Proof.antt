@@ -26,9 +26,10 @@ refusal-requires c κs = search needs
 returns : tie.Need-returns
 returns c =
     let at-refusal = c .before in
-    let at-good = at-refusal .before .before .before in
-    (fits-probe (at-good .args .p) _ (at-good .good .1 .0),
-    refused-by (bodyRefusal (now (at-good .args .bytes)) (at-good .args .p)) (probeBytes (now (at-good .args .bytes)) (at-good .args .p)) (now (at-good .args .out)) (at-refusal .refusal .result) (at-refusal .refusal .ensures) (c .if1 .taken))
+    let at-good = at-refusal .before .before .before in (
+      fits-probe (at-good .args .p) _ (at-good .good .1 .0),
+      refused-by (bodyRefusal (now (at-good .args .bytes)) (at-good .args .p)) (probeBytes (now (at-good .args .bytes)) (at-good .args .p)) (now (at-good .args .out)) (at-refusal .refusal .result) (at-refusal .refusal .ensures) (c .if1 .taken),
+    )
 
 -- src/put.rt:180:9
 body-size-requires : tie.Need-body-size-requires
@@ -45,10 +46,11 @@ returns-2 c =
     let at-body-size = at-room-refusal .before in
     let at-if1 = at-body-size .before in
     let at-refusal = at-if1 .before in
-    let at-good = at-refusal .before .before .before in
-    (fits-probe (at-good .args .p) _ (at-good .good .1 .0),
-    no-room (bodyRefusal (now (at-good .args .bytes)) (at-good .args .p)) (probeBytes (now (at-good .args .bytes)) (at-good .args .p)) (now (at-good .args .out)) (sym (at-refusal .refusal .ensures) ∙ at-if1 .if1 .left)
-    (at-room-refusal .room-refusal .result) (at-room-refusal .room-refusal .ensures ∙ ap (λ (n : ℕ). roomRefusal n (length (now (at-good .args .out)))) (at-body-size .body-size .ensures)) (c .if2 .taken))
+    let at-good = at-refusal .before .before .before in (
+      fits-probe (at-good .args .p) _ (at-good .good .1 .0),
+      no-room (bodyRefusal (now (at-good .args .bytes)) (at-good .args .p)) (probeBytes (now (at-good .args .bytes)) (at-good .args .p)) (now (at-good .args .out)) (sym (at-refusal .refusal .ensures) ∙ at-if1 .if1 .left)
+          (at-room-refusal .room-refusal .result) (at-room-refusal .room-refusal .ensures ∙ ap (λ (n : ℕ). roomRefusal n (length (now (at-good .args .out)))) (at-body-size .body-size .ensures)) (c .if2 .taken),
+    )
 
 -- src/put.rt:185:9
 put-head-requires : tie.Need-put-head-requires
@@ -72,11 +74,12 @@ returns-3 c =
     let at-body-size = at-room-refusal .before in
     let at-if1 = at-body-size .before in
     let at-refusal = at-if1 .before in
-    let at-good = at-refusal .before .before .before in
-    (fits-probe (at-good .args .p) _ (at-good .good .1 .0),
-    written (bodyRefusal (now (at-good .args .bytes)) (at-good .args .p)) (probeBytes (now (at-good .args .bytes)) (at-good .args .p)) (now (at-good .args .out)) (sym (at-refusal .refusal .ensures) ∙ at-if1 .if1 .left)
-    (at-room-refusal .room-refusal .result) (at-room-refusal .room-refusal .ensures ∙ ap (λ (n : ℕ). roomRefusal n (length (now (at-good .args .out)))) (at-body-size .body-size .ensures)) (at-if2 .if2 .left)
-    (at-body-size .body-size .result) _ _ (at-body-size .body-size .ensures) (then (at-put-head .put-head .ensures) (at-put-parts .put-parts .ensures)))
+    let at-good = at-refusal .before .before .before in (
+      fits-probe (at-good .args .p) _ (at-good .good .1 .0),
+      written (bodyRefusal (now (at-good .args .bytes)) (at-good .args .p)) (probeBytes (now (at-good .args .bytes)) (at-good .args .p)) (now (at-good .args .out)) (sym (at-refusal .refusal .ensures) ∙ at-if1 .if1 .left)
+          (at-room-refusal .room-refusal .result) (at-room-refusal .room-refusal .ensures ∙ ap (λ (n : ℕ). roomRefusal n (length (now (at-good .args .out)))) (at-body-size .body-size .ensures)) (at-if2 .if2 .left)
+          (at-body-size .body-size .result) _ _ (at-body-size .body-size .ensures) (then (at-put-head .put-head .ensures) (at-put-parts .put-parts .ensures)),
+    )
 
 pub write-spec : {M : Type 1} → statement M
 write-spec =
