@@ -2,14 +2,13 @@
 -- Assumes nothing.
 use Prim.Native.Nat.{ℕ, _+_, _*_, _-_, _≤_}
 use mathlib.Core.Path.{_≡_, refl, sym, ap, subst, _∙_}
-use mathlib.Core.Bool.{Bool, true, false, cond}
+use mathlib.Core.Bool.{true, cond}
 use mathlib.Core.List.{List, [], _∷_, _++_, append-assoc, append-nil}
-use native.Mathlib.Nat.{add-zero}
 use native.Mathlib.Omega.{arith}
 use lib.Dec.{eqb, leb}
 use lib.ListN.{length, take, drop, length-append}
 use lib.Seq.{take-at, drop-at, drop-append-add}
-use borrow.Author.Tests.{eqb-true, eq-eqb}
+use borrow.Author.Tests.{eqb-true}
 use Rattle.wire.specs.Answer.{Answer, got, refused, andThen}
 use Rattle.wire.specs.Number.{leBytes}
 use Rattle.wire.proofs.Numbers.{length-leBytes}
@@ -22,22 +21,22 @@ use Rattle.probe.specs.declared.body.ListCount.{ListCount}
 use Rattle.probe.specs.declared.body.Probe.{Probe}
 use Rattle.probe.specs.Body.{probeBodyAt}
 use Rattle.probe.specs.Items.{countIn}
-use Rattle.probe.specs.Put.{FitsProbe, informationOf, headBytes, countBytes, partsBytes, probeBytes, idListRule, bodyRefusal, probeOutput, listIn}
+use Rattle.probe.specs.Put.{FitsProbe, listCountBytes, probeBytes, idListRule, probeBodyRefusal, probeOutput, listIn}
 use Rattle.probe.proofs.Steadily.{body-tail}
 use Rattle.probe.proofs.Trip.{body-is}
 use Rattle.network_header.specs.declared.envelope.Envelope.{Envelope}
 use Rattle.network_header.specs.declared.header.PayloadHeader.{PayloadHeader}
 use Rattle.network_header.specs.Envelope.{FitsEnvelope}
 use Rattle.network_header.specs.Header.{probeOn}
-use Rattle.network_message.specs.ProbeMessage.{ProbeMessage, probeFrom, probeMessageAt}
+use Rattle.network_message.specs.ProbeMessage.{probeFrom}
 use Rattle.network_message_writer.specs.Payload.{listBytes}
 use Rattle.network_message_writer.specs.Envelope.{GivenDatagram, envelopeBytes, datagramOf, datagramRefusal, datagramOutput}
-use Rattle.round_trip.specs.NetworkMessage.{placesOf, writtenMessage, ReadsBack}
+use Rattle.round_trip.specs.NetworkMessage.{placesOf, ReadsBack}
 use Rattle.round_trip.proofs.NetworkMessageRoundTrip.{reads-back}
 use Rattle.acceptance.specs.Probes.{ProbeBack, writtenProbe, ProbeDatagramBack}
 
 -- ---- ids and strings, where a body stands
-count-long : (l : ListCount) → length (countBytes l) ≡ 4
+count-long : (l : ListCount) → length (listCountBytes l) ≡ 4
 count-long ListCount.Null = length-leBytes 4 4294967295
 count-long (ListCount.Of n) = length-leBytes 4 n
 
@@ -46,12 +45,13 @@ none [] h = refl
 none (x ∷ l) h = absurd (omega (arith, h))
 
 -- what stands 6 bytes behind a body's start
-behind : (pre : List ℕ) (t : ℕ) (l : ListCount) (rest : List ℕ) → drop (length pre + 6) (pre ++ ((leBytes 1 1 ++ leBytes 1 t) ++ (countBytes l ++ rest))) ≡ rest
+behind : (pre : List ℕ) (t : ℕ) (l : ListCount) (rest : List ℕ) → drop (length pre + 6) (pre ++ ((leBytes 1 1 ++ leBytes 1 t) ++ (listCountBytes l ++ rest))) ≡ rest
 behind pre t l rest =
     let head = leBytes 1 1 ++ leBytes 1 t in
-    let e : head ++ (countBytes l ++ rest) ≡ (head ++ countBytes l) ++ rest = sym (append-assoc head (countBytes l) rest) in
-    let six : length (head ++ countBytes l) ≡ 6 = omega (arith, length-append head (countBytes l), length-append (leBytes 1 1) (leBytes 1 t), length-leBytes 1 1, length-leBytes 1 t, count-long l) in
-    drop-append-add pre (head ++ (countBytes l ++ rest)) 6 ∙ ap (drop 6) e ∙ drop-at (head ++ countBytes l) rest 6 six
+    let e : head ++ (listCountBytes l ++ rest) ≡ (head ++ listCountBytes l) ++ rest = sym (append-assoc head (listCountBytes l) rest) in
+    let six : length (head ++ listCountBytes l) ≡ 6 =
+    omega (arith, length-append head (listCountBytes l), length-append (leBytes 1 1) (leBytes 1 t), length-leBytes 1 1, length-leBytes 1 t, count-long l) in
+    drop-append-add pre (head ++ (listCountBytes l ++ rest)) 6 ∙ ap (drop 6) e ∙ drop-at (head ++ listCountBytes l) rest 6 six
 
 ids-long : (l : ListCount) (n : ℕ) → idListRule l n ≡ 0 → n ≡ 2 * countIn l
 ids-long ListCount.Null n h = eqb-true n 0 (held (eqb n 0) 5 h)
@@ -62,20 +62,20 @@ ids-long (ListCount.Of k) n h =
 all-of : (n : ℕ) (list : List ℕ) → length list ≡ n → take n list ≡ list
 all-of n list e = ap (take n) (sym (append-nil list)) ∙ take-at list [] n e
 
-pub list-back : (pre list : List ℕ) (p : Probe) → bodyRefusal list p ≡ 0 → listIn (pre ++ probeBytes list p) (length pre) p ≡ list
+pub list-back : (pre list : List ℕ) (p : Probe) → probeBodyRefusal list p ≡ 0 → listIn (pre ++ probeBytes list p) (length pre) p ≡ list
 list-back pre list (Probe.MetaData l) h = ap (take (2 * countIn l)) (behind pre 2 l list) ∙ all-of (2 * countIn l) list (ids-long l (length list) h)
 list-back pre list (Probe.Writers l) h = ap (take (2 * countIn l)) (behind pre 3 l list) ∙ all-of (2 * countIn l) list (ids-long l (length list) h)
 list-back pre list (Probe.Group g b) h = none list (eqb-true (length list) 0 (held (eqb (length list) 0) 5 h))
 list-back pre list (Probe.Connections l g w) h =
     let two = leBytes 1 g ++ leBytes 1 w in
     let head = leBytes 1 1 ++ leBytes 1 5 in
-    let n : length (pre ++ (head ++ (countBytes l ++ (list ++ two)))) - 2 - (length pre + 6) ≡ length list =
+    let n : length (pre ++ (head ++ (listCountBytes l ++ (list ++ two)))) - 2 - (length pre + 6) ≡ length list =
     omega (
       arith,
-      length-append pre (head ++ (countBytes l ++ (list ++ two))),
-      length-append head (countBytes l ++ (list ++ two)),
+      length-append pre (head ++ (listCountBytes l ++ (list ++ two))),
+      length-append head (listCountBytes l ++ (list ++ two)),
       length-append (leBytes 1 1) (leBytes 1 5),
-      length-append (countBytes l) (list ++ two),
+      length-append (listCountBytes l) (list ++ two),
       length-append list two,
       length-append (leBytes 1 g) (leBytes 1 w),
       length-leBytes 1 1,
@@ -84,18 +84,19 @@ list-back pre list (Probe.Connections l g w) h =
       length-leBytes 1 w,
       count-long l,
     ) in
-    ap (λ (k : ℕ). take k (drop (length pre + 6) (pre ++ (head ++ (countBytes l ++ (list ++ two)))))) n ∙ ap (take (length list)) (behind pre 5 l (list ++ two)) ∙ take-at list two (length list) refl
+    ap (λ (k : ℕ). take k (drop (length pre + 6) (pre ++ (head ++ (listCountBytes l ++ (list ++ two)))))) n ∙ ap (take (length list)) (behind pre 5 l (list ++ two))
+    ∙ take-at list two (length list) refl
 
 -- ---- a body
 pub probe-reads-back : (list : List ℕ) (p : Probe) (entry exit : List ℕ) (n : ℕ) → FitsProbe p × Writes (probeOutput list p) entry exit (Written.Is n)
     → ProbeBack list p (take n exit) × (drop n exit ≡ drop n entry)
 probe-reads-back list p entry exit n (f, w) =
-    let r = reported (bodyRefusal list p) (probeBytes list p) entry exit n w in
+    let r = reported (probeBodyRefusal list p) (probeBytes list p) entry exit n w in
     (subst (ProbeBack list p) (sym (r .front)) (record { whole = body-is p list f (r .number); same = list-back [] list p (r .number) }), r .rest)
 
 -- ---- a datagram with that body
 module _ (list : List ℕ) (p : Probe) (g : GivenDatagram) (x : Envelope) (sizes configured d : List ℕ) where
-  back : bodyRefusal list p ≡ 0 → probeBodyAt (probeBytes list p) 0 ≡ got p (length (probeBytes list p)) → x .«payload_header» ≡ PayloadHeader.Probe → g .messages ≡ probeBytes list p
+  back : probeBodyRefusal list p ≡ 0 → probeBodyAt (probeBytes list p) 0 ≡ got p (length (probeBytes list p)) → x .«payload_header» ≡ PayloadHeader.Probe → g .messages ≡ probeBytes list p
       → d ≡ datagramOf g x → ReadsBack g x sizes configured d → ProbeDatagramBack list p g x sizes d
   back refusal body header given whole r =
       let pre = envelopeBytes (g .text) (g .ids) (g .promoted) x in
@@ -126,7 +127,7 @@ pub probe-datagram-reads-back : (list : List ℕ) (p : Probe) (entry-p exit-p : 
     → (g : GivenDatagram) (x : Envelope) (sizes configured entry exit : List ℕ) (n : ℕ) → FitsEnvelope x × Writes (datagramOutput g x sizes configured) entry exit (Written.Is n)
     → x .«payload_header» ≡ PayloadHeader.Probe → g .messages ≡ take n-p exit-p → ProbeDatagramBack list p g x sizes (take n exit) × (drop n exit ≡ drop n entry)
 probe-datagram-reads-back list p entry-p exit-p n-p (f, w) g x sizes configured entry exit n (fx, wx) header given =
-    let a = reported (bodyRefusal list p) (probeBytes list p) entry-p exit-p n-p w in
+    let a = reported (probeBodyRefusal list p) (probeBytes list p) entry-p exit-p n-p w in
     let b = reported (datagramRefusal g x sizes configured) (datagramOf g x) entry exit n wx in
     let r = reads-back g x sizes configured entry exit n fx wx in
     (back list p g x sizes configured (take n exit) (a .number) (body-is p list f (a .number)) header (given ∙ a .front) (b .front) (r .0), r .1)

@@ -2,14 +2,14 @@
 -- Assumes nothing.
 use Prim.Native.Nat.{ℕ, _+_, _≤_}
 use mathlib.Core.Path.{_≡_, refl, sym, ap, subst, _∙_}
-use mathlib.Core.Bool.{Bool, true, false, cond}
-use mathlib.Core.List.{List, [], _∷_}
+use mathlib.Core.Bool.{Bool, true, false}
+use mathlib.Core.List.{List}
 use mathlib.Core.Logic.{inl, inr}
 use native.Mathlib.Omega.{arith}
 use lib.Dec.{leb}
 use lib.ListN.{length}
 use borrow.Author.Tests.{leb-true}
-use Rattle.wire.specs.Answer.{Answer, got, refused, andThen, run}
+use Rattle.wire.specs.Answer.{Answer, got, refused, andThen}
 use Rattle.wire.specs.Items.{lengthOf}
 use Rattle.wire.specs.Number.{le, signed}
 use Rattle.wire.specs.declared.Length.{Length}
@@ -20,7 +20,7 @@ use Rattle.plain_value.specs.Plain.{afterLength}
 use Rattle.probe.specs.declared.body.Probe.{Probe}
 use Rattle.probe.specs.declared.items.ProbeCursor.{ProbeCursor}
 use Rattle.probe.specs.Body.{probeBodyAt}
-use Rattle.probe.specs.Items.{itemCount, nullOf, textOf, idItemAt, textItemAt, itemOf, itemStepAt}
+use Rattle.probe.specs.Items.{itemCount, nullItemAt, textBytesAt, idItemAt, textItemAt, itemOf, itemStepAt}
 use Rattle.network_header.specs.declared.flags.Flags.{Flags}
 use Rattle.network_header.specs.declared.header.PayloadHeader.{PayloadHeader}
 use Rattle.network_header.specs.Header.{payloadHeaderAt, probeOn}
@@ -31,10 +31,9 @@ use Rattle.network_message.specs.declared.payload.Sizes.{Sizes}
 use Rattle.network_message.specs.Envelope.{Header, NetworkMessage, identityAt, timesAt, messagesOf, envelopeAt, networkMessageAt}
 use Rattle.network_message.specs.ProbeMessage.{ProbeMessage, probeFrom, probeMessageAt}
 use Rattle.round_trip.proofs.NetworkMessageRewritten.{flags-of}
-use Rattle.reassembly_laws.specs.Refusing.{oneOf}
 use Rattle.acceptance.specs.Refusals.{Refusal, StepRefusal, datagramRefusals, probeStepRefusals}
-use Rattle.acceptance.proofs.Refusals.{Tells, at-item, number, no-place}
-use Rattle.acceptance.proofs.Refusals.Tells.{gives, refuses}
+use Rattle.acceptance.proofs.Refusals.{Tells, at-item, number}
+use Rattle.acceptance.proofs.Refusals.Tells.{refuses}
 use Rattle.acceptance.proofs.RefusedDatagrams.{datagramOthers, datagram-tells}
 
 -- a header ends where the payload starts
@@ -101,14 +100,14 @@ id-told : (k : ℕ) (s : List ℕ) (at : ℕ) → StepTold (length s) at (idItem
 id-told k s at = by-bool _ (leb (at + 2) (length s)) (λ b. rw b tt) (λ b. rw b (inr (refl, refl)))
 
 -- a string's bytes, behind its length
-text-told : (k at n : ℕ) (s : List ℕ) (start : ℕ) → start ≤ length s → StepTold (length s) at (textOf k n s start)
+text-told : (k at n : ℕ) (s : List ℕ) (start : ℕ) → start ≤ length s → StepTold (length s) at (textBytesAt k n s start)
 text-told k at n s start h =
     by-bool _ (leb (start + n) (length s)) (λ b. rw b tt) (λ b. rw b (inl (record { one = refl; nowhere = λ e. absurd (no e); inside = h })))
   where
     no : false ≡ true → ⊥
     no c = let y : _≡_ {A = ℕ} 0 1 = cc in omega arith
 
-length-told : (k at : ℕ) (l : Length) (s : List ℕ) (start : ℕ) → start ≤ length s → StepTold (length s) at (afterLength (nullOf k) (textOf k) at l s start)
+length-told : (k at : ℕ) (l : Length) (s : List ℕ) (start : ℕ) → start ≤ length s → StepTold (length s) at (afterLength (nullItemAt k) (textBytesAt k) at l s start)
 length-told k at Length.Null s start h = tt
 length-told k at (Length.Of n) s start h = text-told k at n s start h
 length-told k at Length.Negative s start h = inr (refl, refl)

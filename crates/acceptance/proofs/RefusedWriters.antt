@@ -23,7 +23,7 @@ use Rattle.plain_value.specs.Plain.{bytes, afterLength, string}
 use Rattle.probe.specs.declared.body.ListCount.{ListCount}
 use Rattle.probe.specs.declared.body.Probe.{Probe}
 use Rattle.probe.specs.Body.{probeBodyAt}
-use Rattle.probe.specs.Put.{idListRule, stringsEnd, stringListRule, bodyRefusal as probeBodyRefusal, probeBytes, probeOutput}
+use Rattle.probe.specs.Put.{idListRule, stringsEnd, stringListRule, probeBodyRefusal, probeBytes, probeOutput}
 use Rattle.network_header.specs.Group.{numberRefusal, groupRefusal}
 use Rattle.network_header.specs.Header.{countRefusal, promotedRefusal, countShape, idsShape, promotedShape, probeOn, promotedOn}
 use Rattle.network_header.specs.Numbers.{configuredSizes, sameNumbers}

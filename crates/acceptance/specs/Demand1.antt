@@ -126,7 +126,8 @@ pub record Demand1 : Type 0 where
       → (headAfter step head field ≡ head) × (fieldAfter step head field ≡ field)
   pub lent-probe-step : (step : Answer ItemStepped) (probe item : List ℕ) → IsRefused (itemResult step probe item)
       → (probeAfter step probe item ≡ probe) × (itemAfter step probe item ≡ item)
-  -- uadp_write, uadp_write_message, uadp_rewrite, uadp_rewrite_message, uadp_put_value, uadp_put_probe; uadp_cut; uadp_list; uadp_walk; uadp_newness.
+  -- uadp_write, uadp_write_message, uadp_rewrite, uadp_rewrite_message, uadp_put_value, uadp_put_probe; uadp_cut; uadp_list; uadp_walk;
+  -- uadp_newness.
   pub lent-writer : (out : List ℕ) (output : Output) → IsRefused (outputResult out output) → bufferAfter out output ≡ out
   pub lent-cut : (p : List ℕ) (number size k : ℕ) (out : List ℕ) → IsRefused (cutResult (cutAnswer p number size k (length out)))
       → cutBuffer p number size k out ≡ out

@@ -24,7 +24,7 @@ use Rattle.network_header.specs.declared.envelope.Envelope.{Envelope}
 use Rattle.network_header.specs.declared.header.PayloadHeader.{PayloadHeader}
 use Rattle.probe.specs.declared.body.Probe.{Probe}
 use Rattle.probe.specs.Body.{probeBodyAt}
-use Rattle.probe.specs.Put.{FitsProbe, bodyRefusal, listIn, probeBytes, probeOutput}
+use Rattle.probe.specs.Put.{FitsProbe, probeBodyRefusal, listIn, probeBytes, probeOutput}
 use Rattle.network_message.specs.Payload.{OfMessages}
 use Rattle.network_message.specs.WriterId.{writerIdOf}
 use Rattle.network_message.specs.Envelope.{NetworkMessage, networkMessageAt, messagePlaceAt, messageBytes}
@@ -130,7 +130,7 @@ pub record Demand2 : Type 0 where
       → networkMessageAt sizes s ≡ got m n → length s ≤ length out → network.WritesAgain s sizes configured out m
   -- A probe's body that is accepted, written again from its parts as they were read, is the same bytes.
   pub probe-again : (s : List ℕ) (at : ℕ) (p : Probe) (n : ℕ) → Bytes s → at ≤ length s → probeBodyAt s at ≡ got p n
-      → (bodyRefusal (listIn s at p) p ≡ 0) × (probeBytes (listIn s at p) p ≡ drop at s)
+      → (probeBodyRefusal (listIn s at p) p ≡ 0) × (probeBytes (listIn s at p) p ≡ drop at s)
   -- "every accepted DataSetMessage, padding length included, is rewritten identically", but for picoseconds of 10,000 or more in its
   -- header.
   pub message-again : (types s entry exit : List ℕ) (r : Written) (m : Message) (n : ℕ) → messageAt types s ≡ got (valid m) n

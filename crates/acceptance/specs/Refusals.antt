@@ -25,7 +25,8 @@ StepRefusal numbers number place bytes at = Refusal numbers number place bytes �
 -- ---- by which numbers: of a datagram, of a chunk, of a value, of a DataSetMessage
 
 abbrev pub datagramRefusals : List ℕ
-datagramRefusals = CUT_SHORT ∷ NOT_PERMITTED ∷ BAD_VERSION ∷ NOT_TAKEN ∷ BAD_LENGTH ∷ DISAGREE ∷ LEFT_OVER ∷ NOT_CONFIGURED ∷ OVER_LIMIT ∷ []
+datagramRefusals =
+    CUT_SHORT ∷ NOT_PERMITTED ∷ BAD_VERSION ∷ NOT_TAKEN ∷ BAD_LENGTH ∷ DISAGREE ∷ LEFT_OVER ∷ NOT_CONFIGURED ∷ OVER_LIMIT ∷ []
 
 abbrev pub chunkRefusals : List ℕ
 chunkRefusals = CUT_SHORT ∷ NOT_PERMITTED ∷ BAD_VERSION ∷ NOT_TAKEN ∷ BAD_LENGTH ∷ DISAGREE ∷ LEFT_OVER ∷ NOT_CONFIGURED ∷ OVER_LIMIT ∷ []

@@ -107,6 +107,7 @@ module _ (f : Flags) (hk : f .kind < 5) (ht : timesRefusal (f .picoseconds) (f .
       let k : byte0Of f < 256 ^ 1 = bits0 .5 in
       let p1 = rule-kept 1 byte0Rule m b (byte0Of f) rule0 (item-is 1 (byte0Of f) m k) s (first s m b (e ++ g) at) in
       let p2 = byte-is (extended1Rule (bit 4 (byte0Of f))) (byte0Of f / 128) (extended1Of f) (m + length b) (bits0 .4) (bits1 .6) (rule1 (bit 4 (byte0Of f))) s (first s (m + length b) e g at2) in
-      let p3 = byte-is (extended2Rule (bit 6 (byte0Of f))) (extended1Of f / 128) (extended2Of f) (m + length b + length e) (bits1 .5) (omega (arith, bits2 .3)) rule2 s (second s (m + length b) e g at2) in
+      let p3 = byte-is (extended2Rule (bit 6 (byte0Of f))) (extended1Of f / 128) (extended2Of f) (m + length b + length e) (bits1 .5) (omega (arith, bits2 .3)) rule2 s
+      (second s (m + length b) e g at2) in
       let z : m + length b + length e + length g ≡ m + length (flagBytes f) = omega (arith, length-append b (e ++ g), length-append e g) in
       rw (p1, p2, p3, same) (ap (λ (j : ℕ). got f j) z)

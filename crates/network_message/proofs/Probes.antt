@@ -69,7 +69,7 @@ module _ (f : Payload → NetworkMessage) where
 
 -- reading the whole datagram first, and then its probe, is the same step by step
 module _ (sizes s : List ℕ) where
-  pub in-steps : (x : Answer Header)
+  in-steps : (x : Answer Header)
       → andThen (andThen x (λ h at. andThen (payloadAt (h .envelope .chunk) (h .envelope .«payload_header») sizes s at) (λ p next. got (withPayload (h .envelope) (h .places) p) next)))
       (λ m next. probeFrom (m .envelope) (m .places) s)
       ≡ andThen x (λ h at. andThen (payloadAt (h .envelope .chunk) (h .envelope .«payload_header») sizes s at) (λ p next. probeFrom (h .envelope) (h .places) s))

@@ -33,7 +33,8 @@ refusalNumber (got v next) = 0
 refusalNumber (refused n place) = n
 
 -- what reading refuses: the lengths of several messages by their own rule, and any other payload by reading's own number, of the messages
--- alone, a probe's body too; a chunk's payload is refused by whoever takes it in, and a chunk has no Count (ids given for one read back otherwise)
+-- alone, a probe's body too; a chunk's payload is refused by whoever takes it in, and a chunk has no Count (ids given for one read back
+-- otherwise)
 abbrev pub payloadRefusal : Bool → PayloadHeader → List ℕ → List ℕ → List ℕ → ℕ
 payloadRefusal chunk PayloadHeader.Absent sizes lengths messages = refusalNumber (payloadAt chunk PayloadHeader.Absent sizes messages 0)
 payloadRefusal chunk (PayloadHeader.Ids n) sizes lengths messages =

@@ -12,13 +12,13 @@ use lib.Seq.{length-take-le}
 use borrow.Author.Tests.{eqb-true, eqb-false, eq-eqb, ne-eqb}
 use Rattle.wire.specs.Answer.{Answer, got, refused, Reader, andThen, each}
 use Rattle.wire.specs.declared.Length.{Length}
-use Rattle.wire.proofs.Reading.{got-value, got-next, not-got, invert}
-use Rattle.wire.proofs.Places.{movedBy, after, within, within-refused}
+use Rattle.wire.proofs.Reading.{got-next, not-got, invert}
+use Rattle.wire.proofs.Places.{movedBy, after}
 use Rattle.wire.proofs.Steady.{Steady, Onward, steadily, refusing, pure-steady, item-steady, length-item-steady, run-steady, onward-steady, bind-steady, then-steady, cond-steady, each-steady, ruled-steady}
-use Rattle.plain_value.specs.Plain.{bytes, afterLength, byLength, string}
+use Rattle.plain_value.specs.Plain.{afterLength, byLength, string}
 use Rattle.probe.specs.declared.body.ListCount.{ListCount}
 use Rattle.probe.specs.declared.body.Probe.{Probe}
-use Rattle.probe.specs.Body.{probeTypeRule, informationRule, idListAt, stringListAt, includesAt, connectionsAt, groupAt, probeOf, informationAt, probeAt, bodyEnds, probeBodyAt}
+use Rattle.probe.specs.Body.{probeTypeRule, informationRule, idListAt, stringListAt, includesAt, groupProbeAt, probeOf, probeAt, bodyEnds, probeBodyAt}
 
 by-length-steady : {A : Type 0} {null : Reader A} {counted : ℕ → Reader A} → Steady null → ((n : ℕ) → Steady (counted n)) → Steady (byLength null counted)
 by-length-steady {A} {null} {counted} f h = onward-steady length-item-steady onward
@@ -41,7 +41,7 @@ id-list-steady = by-length-steady (pure-steady ListCount.Null) (λ n. then-stead
 string-list-steady : Steady stringListAt
 string-list-steady = by-length-steady (pure-steady ListCount.Null) (λ n. then-steady (strings-steady n) (pure-steady (ListCount.Of n)))
 
-group-steady : Steady groupAt
+group-steady : Steady groupProbeAt
 group-steady = bind-steady (item-steady 2) (λ g. bind-steady (item-steady 1) (λ b. pure-steady (Probe.Group g b)))
 
 includes-steady : (l : ListCount) → Steady (includesAt l)

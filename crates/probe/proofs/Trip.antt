@@ -3,7 +3,7 @@
 use mathlib.Core.Path.{_≡_, refl, sym, ap, subst, _∙_}
 use mathlib.Core.Bool.{Bool, true, false, cond}
 use mathlib.Core.List.{List, [], _++_, append-assoc, append-nil}
-use Prim.Native.Nat.{ℕ, zero, suc, _+_, _*_, _-_, _^_, _≤_, _<_}
+use Prim.Native.Nat.{ℕ, zero, suc, _+_, _*_, _-_, _≤_, _<_}
 use native.Mathlib.Nat.{zero-add}
 use native.Mathlib.Omega.{arith}
 use lib.Dec.{eqb, leb, ltb}
@@ -12,7 +12,7 @@ use lib.ListN.{length, take, drop, length-append, length-drop, drop-of-length-le
 use lib.Seq.{length-take-le}
 use borrow.Author.Tests.{le-leb, lt-leb, lt-ltb, leb-false, ltb-true, ltb-false, eqb-true, eqb-false, eq-eqb}
 use Rattle.wire.specs.Number.{le, leBytes, signed}
-use Rattle.wire.specs.Answer.{Answer, got, refused, Reader, item, ruled, run, each, andThen}
+use Rattle.wire.specs.Answer.{Answer, got, refused, Reader, item, ruled, run, each}
 use Rattle.wire.specs.Items.{lengthOf, lengthItem}
 use Rattle.wire.specs.declared.Length.{Length}
 use Rattle.wire.proofs.Numbers.{length-leBytes}
@@ -26,10 +26,10 @@ use Rattle.wire_writer.proofs.Refusals.{passed, held}
 use Rattle.plain_value.specs.Plain.{afterLength, byLength, string}
 use Rattle.probe.specs.declared.body.ListCount.{ListCount}
 use Rattle.probe.specs.declared.body.Probe.{Probe}
-use Rattle.probe.specs.Body.{probeTypeRule, informationRule, idsOf, stringsOf, idListAt, stringListAt, metaDataAt, writersAt, groupAt, includesAt, connectionsAt, probeOf, informationAt, probeAt, bodyEnds, probeBodyAt}
+use Rattle.probe.specs.Body.{probeTypeRule, informationRule, listedIds, listedStrings, idListAt, stringListAt, metaDataAt, writersAt, groupProbeAt, includesAt, connectionsAt, probeOf, informationAt, probeAt, probeBodyAt}
 use Rattle.probe.specs.Items.{countIn}
-use Rattle.probe.specs.Put.{informationOf, headBytes, countBytes, partsBytes, probeBytes, idsRule, idListRule, stringsEnd, stringsRule, stringListRule, bodyRefusal, FitsProbe, listIn}
-use Rattle.probe.proofs.Steadily.{strings-steady, body-ended, body-tail}
+use Rattle.probe.specs.Put.{informationOf, probeHeadBytes, listCountBytes, partsBytes, probeBytes, idListRule, stringsEnd, stringsRule, stringListRule, probeBodyRefusal, FitsProbe, listIn}
+use Rattle.probe.proofs.Steadily.{strings-steady, body-ended}
 
 -- ---- read as it was written
 
@@ -67,12 +67,12 @@ some-list r n list m h f s a =
     let e : m + 4 + length list ≡ m + length (c ++ list) = omega (arith, length-append c list) in
     rw (count-there s m n h (first s m c list a), f s at-list) (ap (λ (j : ℕ). got (ListCount.Of n) j) e)
 
-ids-are : (l : ListCount) (list : List ℕ) (m : ℕ) → idListRule l (length list) ≡ 0 → Reads idListAt m (countBytes l ++ list) l
-ids-are ListCount.Null list m h = null-list idsOf list m (eqb-true (length list) 0 (held (eqb (length list) 0) 5 h))
+ids-are : (l : ListCount) (list : List ℕ) (m : ℕ) → idListRule l (length list) ≡ 0 → Reads idListAt m (listCountBytes l ++ list) l
+ids-are ListCount.Null list m h = null-list listedIds list m (eqb-true (length list) 0 (held (eqb (length list) 0) 5 h))
 ids-are (ListCount.Of n) list m h =
     let q = passed (leb 2147483648 n) 5 (cond (eqb (length list) (2 * n)) 0 6) h in
     let e : length list ≡ 2 * n = eqb-true (length list) (2 * n) (held (eqb (length list) (2 * n)) 5 (q .1)) in
-    some-list idsOf n list m (leb-false 2147483648 n (q .0)) (λ s a. rw (run-is (2 * n) (m + 4) list e s a))
+    some-list listedIds n list m (leb-false 2147483648 n (q .0)) (λ s a. rw (run-is (2 * n) (m + 4) list e s a))
 
 -- strings that are not refused are all of their list
 strings-whole : (n : ℕ) (list : List ℕ) → stringsRule n list ≡ 0 → (n < 2147483648) × (each string n list 0 ≡ got tt (length list))
@@ -84,14 +84,14 @@ strings-whole n list h = go (each string n list 0) refl h
         (leb-false 2147483648 n (a .0), e ∙ ap (got tt) (eqb-true end (length list) (held (eqb end (length list)) 5 (a .1))))
     go (refused k place) e q = absurd (omega (arith, within-refused (strings-steady n) list 0 (omega arith) e .0, q))
 
-strings-are : (l : ListCount) (list : List ℕ) (m : ℕ) → stringListRule l list ≡ 0 → Reads stringListAt m (countBytes l ++ list) l
-strings-are ListCount.Null list m h = null-list stringsOf list m (eqb-true (length list) 0 (held (eqb (length list) 0) 5 h))
+strings-are : (l : ListCount) (list : List ℕ) (m : ℕ) → stringListRule l list ≡ 0 → Reads stringListAt m (listCountBytes l ++ list) l
+strings-are ListCount.Null list m h = null-list listedStrings list m (eqb-true (length list) 0 (held (eqb (length list) 0) 5 h))
 strings-are (ListCount.Of n) list m h =
     let q = strings-whole n list h in
-    some-list stringsOf n list m (q .0) (λ s a. rw (steady-is (strings-steady n) (m + 4) list tt (q .1) s a))
+    some-list listedStrings n list m (q .0) (λ s a. rw (steady-is (strings-steady n) (m + 4) list tt (q .1) s a))
 
 -- what follows an InformationType
-parts-are : (p : Probe) (list : List ℕ) (m : ℕ) → FitsProbe p → bodyRefusal list p ≡ 0 → Reads (probeOf (informationOf p)) m (partsBytes list p) p
+parts-are : (p : Probe) (list : List ℕ) (m : ℕ) → FitsProbe p → probeBodyRefusal list p ≡ 0 → Reads (probeOf (informationOf p)) m (partsBytes list p) p
 parts-are (Probe.MetaData l) list m f h s a = rw (ids-are l list m h s a)
 parts-are (Probe.Writers l) list m f h s a = rw (ids-are l list m h s a)
 parts-are (Probe.Group g b) list m f h s a =
@@ -102,7 +102,7 @@ parts-are (Probe.Group g b) list m f h s a =
     let e : m + length x + length y ≡ m + length (x ++ y) = omega (arith, length-append x y) in
     rw (p, q) (ap (λ (j : ℕ). got (Probe.Group g b) j) e)
 parts-are (Probe.Connections l g w) list m f h s a =
-    let c = countBytes l in
+    let c = listCountBytes l in
     let x = leBytes 1 g in
     let y = leBytes 1 w in
     let z : c ++ (list ++ (x ++ y)) ≡ (c ++ list) ++ (x ++ y) = sym (append-assoc c list (x ++ y)) in
@@ -122,7 +122,7 @@ information-passes (Probe.Group g b) = (refl, omega arith)
 information-passes (Probe.Connections l g w) = (refl, omega arith)
 
 -- wherever the bytes of a probe stand that is not refused, that probe is read
-pub probe-is : (p : Probe) (list : List ℕ) (m : ℕ) → FitsProbe p → bodyRefusal list p ≡ 0 → Reads probeAt m (probeBytes list p) p
+pub probe-is : (p : Probe) (list : List ℕ) (m : ℕ) → FitsProbe p → probeBodyRefusal list p ≡ 0 → Reads probeAt m (probeBytes list p) p
 unfolding probeAt
 probe-is p list m f h s a =
     let x = leBytes 1 1 in
@@ -138,7 +138,7 @@ probe-is p list m f h s a =
     rw (t, u, v) (ap (λ (j : ℕ). got p j) e)
 
 -- all of it: the body that was written
-pub body-is : (p : Probe) (list : List ℕ) → FitsProbe p → bodyRefusal list p ≡ 0 → probeBodyAt (probeBytes list p) 0 ≡ got p (length (probeBytes list p))
+pub body-is : (p : Probe) (list : List ℕ) → FitsProbe p → probeBodyRefusal list p ≡ 0 → probeBodyAt (probeBytes list p) 0 ≡ got p (length (probeBytes list p))
 body-is p list f h =
     let b = probeBytes list p in
     rw (probe-is p list 0 f h b ([], [], sym (append-nil b), refl), zero-add (length b), eq-eqb (length b) (length b) refl)
@@ -179,7 +179,7 @@ four n x = omega (arith, x .1, length-leBytes 4 n)
 module _ (s : List ℕ) (at : ℕ) (l : ListCount) (next : ℕ) (b : Bytes s) (h : at ≤ length s) where
   -- the bytes of a list between its count and its end
   abbrev ListBack : (ListCount → List ℕ → ℕ) → (ListCount → ℕ) → Type 0
-  ListBack rule size = (next ≡ at + 4 + size l) × (at + 4 + size l ≤ length s) × (Back s at (countBytes l ++ take (size l) (drop (at + 4) s)) next) × (rule l (take (size l) (drop (at + 4) s)) ≡ 0)
+  ListBack rule size = (next ≡ at + 4 + size l) × (at + 4 + size l ≤ length s) × (Back s at (listCountBytes l ++ take (size l) (drop (at + 4) s)) next) × (rule l (take (size l) (drop (at + 4) s)) ≡ 0)
 
   part-long : (n : ℕ) → at + 4 + n ≤ length s → length (take n (drop (at + 4) s)) ≡ n
   part-long n k = length-take-le n (drop (at + 4) s) (omega (arith, length-drop (at + 4) s))
@@ -193,10 +193,10 @@ module _ (s : List ℕ) (at : ℕ) (l : ListCount) (next : ℕ) (b : Bytes s) (h
 
   ids-back : idListAt s at ≡ got l next → ListBack (λ l b. idListRule l (length b)) (λ l. 2 * countIn l)
   ids-back q =
-      let i = invert (lengthItem s at) (λ c start. afterLength (λ s at. got ListCount.Null at) idsOf at c s start) q in
+      let i = invert (lengthItem s at) (λ c start. afterLength (λ s at. got ListCount.Null at) listedIds at c s start) q in
       go (i .0) (i .1) (length-back s at (i .0) (i .1) b (i .2)) (i .3)
     where
-      go : (c : Length) (start : ℕ) → LengthBack s at start c → afterLength (λ s at. got ListCount.Null at) idsOf at c s start ≡ got l next
+      go : (c : Length) (start : ℕ) → LengthBack s at start c → afterLength (λ s at. got ListCount.Null at) listedIds at c s start ≡ got l next
           → ListBack (λ l b. idListRule l (length b)) (λ l. 2 * countIn l)
       go Length.Null start x k =
           let e : start ≡ next = got-next k in
@@ -204,7 +204,7 @@ module _ (s : List ℕ) (at : ℕ) (l : ListCount) (next : ℕ) (b : Bytes s) (h
           let y : at + 4 + 0 ≤ length s = omega (arith, end-fits s at (leBytes 4 4294967295) start x) in
           let n0 : next ≡ start + 0 = omega arith in
           subst (λ (z : ListCount). (next ≡ at + 4 + 2 * countIn z) × (at + 4 + 2 * countIn z ≤ length s)
-          × (Back s at (countBytes z ++ take (2 * countIn z) (drop (at + 4) s)) next) × (idListRule z (length (take (2 * countIn z) (drop (at + 4) s))) ≡ 0)) (got-value k)
+          × (Back s at (listCountBytes z ++ take (2 * countIn z) (drop (at + 4) s)) next) × (idListRule z (length (take (2 * countIn z) (drop (at + 4) s))) ≡ 0)) (got-value k)
           (omega arith, y, listed 4294967295 0 start x y n0, rw (part-long 0 y))
       go (Length.Of n) start x k =
           let r = map-back (run (2 * n)) (λ u. ListCount.Of n) s start l next k in
@@ -212,16 +212,16 @@ module _ (s : List ℕ) (at : ℕ) (l : ListCount) (next : ℕ) (b : Bytes s) (h
           let f : start ≡ at + 4 = four n (x .0) in
           let y : at + 4 + 2 * n ≤ length s = omega (arith, u .2) in
           subst (λ (z : ListCount). (next ≡ at + 4 + 2 * countIn z) × (at + 4 + 2 * countIn z ≤ length s)
-          × (Back s at (countBytes z ++ take (2 * countIn z) (drop (at + 4) s)) next) × (idListRule z (length (take (2 * countIn z) (drop (at + 4) s))) ≡ 0)) (r .2)
+          × (Back s at (listCountBytes z ++ take (2 * countIn z) (drop (at + 4) s)) next) × (idListRule z (length (take (2 * countIn z) (drop (at + 4) s))) ≡ 0)) (r .2)
           (omega (arith, u .1), y, listed n (2 * n) start (x .0) y (u .1), rw (part-long (2 * n) y, lt-leb 2147483648 n (x .1), eq-eqb (2 * n) (2 * n) refl))
       go Length.Negative start x k = absurd (not-got k)
 
   strings-back : stringListAt s at ≡ got l next → ListBack stringListRule (λ l. next - (at + 4))
   strings-back q =
-      let i = invert (lengthItem s at) (λ c start. afterLength (λ s at. got ListCount.Null at) stringsOf at c s start) q in
+      let i = invert (lengthItem s at) (λ c start. afterLength (λ s at. got ListCount.Null at) listedStrings at c s start) q in
       go (i .0) (i .1) (length-back s at (i .0) (i .1) b (i .2)) (i .3)
     where
-      go : (c : Length) (start : ℕ) → LengthBack s at start c → afterLength (λ s at. got ListCount.Null at) stringsOf at c s start ≡ got l next → ListBack stringListRule (λ l. next - (at + 4))
+      go : (c : Length) (start : ℕ) → LengthBack s at start c → afterLength (λ s at. got ListCount.Null at) listedStrings at c s start ≡ got l next → ListBack stringListRule (λ l. next - (at + 4))
       go Length.Null start x k =
           let e : start ≡ next = got-next k in
           let f : start ≡ at + 4 = four 4294967295 x in
@@ -229,7 +229,7 @@ module _ (s : List ℕ) (at : ℕ) (l : ListCount) (next : ℕ) (b : Bytes s) (h
           let n0 : next ≡ start + (next - (at + 4)) = omega arith in
           let z0 : next - (at + 4) ≡ 0 = omega arith in
           subst (λ (z : ListCount). (next ≡ at + 4 + (next - (at + 4))) × (at + 4 + (next - (at + 4)) ≤ length s)
-          × (Back s at (countBytes z ++ take (next - (at + 4)) (drop (at + 4) s)) next) × (stringListRule z (take (next - (at + 4)) (drop (at + 4) s)) ≡ 0)) (got-value k)
+          × (Back s at (listCountBytes z ++ take (next - (at + 4)) (drop (at + 4) s)) next) × (stringListRule z (take (next - (at + 4)) (drop (at + 4) s)) ≡ 0)) (got-value k)
           (omega arith, y, listed 4294967295 (next - (at + 4)) start x y n0, rw (part-long (next - (at + 4)) y, z0))
       go (Length.Of n) start x k =
           let r = map-back (each string n) (λ u. ListCount.Of n) s start l next k in
@@ -241,7 +241,7 @@ module _ (s : List ℕ) (at : ℕ) (l : ListCount) (next : ℕ) (b : Bytes s) (h
           let aln : each string n (take (next - (at + 4)) (drop (at + 4) s)) 0 ≡ got tt (next - (at + 4)) =
           subst (λ (j : ℕ). each string n (take (next - j) (drop j s)) 0 ≡ got tt (next - j)) f (alone (strings-steady n) s start o (r .1)) in
           subst (λ (z : ListCount). (next ≡ at + 4 + (next - (at + 4))) × (at + 4 + (next - (at + 4)) ≤ length s)
-          × (Back s at (countBytes z ++ take (next - (at + 4)) (drop (at + 4) s)) next) × (stringListRule z (take (next - (at + 4)) (drop (at + 4) s)) ≡ 0)) (r .2) (
+          × (Back s at (listCountBytes z ++ take (next - (at + 4)) (drop (at + 4) s)) next) × (stringListRule z (take (next - (at + 4)) (drop (at + 4) s)) ≡ 0)) (r .2) (
             omega (arith, w .0),
             y,
             listed n (next - (at + 4)) start (x .0) y n0,
@@ -265,10 +265,10 @@ from-is s at (Probe.Connections l g w) = let e : at + 2 + 4 ≡ at + 6 = omega a
 -- what follows an InformationType t
 module _ (s : List ℕ) (at : ℕ) (p : Probe) (next : ℕ) (b : Bytes s) (h : at ≤ length s) (whole : next ≡ length s) where
   abbrev PartsBack : ℕ → Type 0
-  PartsBack t = (informationOf p ≡ t) × (Back s at (partsBytes (listFrom s at p) p) next) × (bodyRefusal (listFrom s at p) p ≡ 0)
+  PartsBack t = (informationOf p ≡ t) × (Back s at (partsBytes (listFrom s at p) p) next) × (probeBodyRefusal (listFrom s at p) p ≡ 0)
 
   abbrev PartsOf : ℕ → Probe → Type 0
-  PartsOf t z = (informationOf z ≡ t) × (Back s at (partsBytes (listFrom s at z) z) next) × (bodyRefusal (listFrom s at z) z ≡ 0)
+  PartsOf t z = (informationOf z ≡ t) × (Back s at (partsBytes (listFrom s at z) z) next) × (probeBodyRefusal (listFrom s at z) z ≡ 0)
 
   connections-back : (t : ℕ) → t ≡ 5 → connectionsAt s at ≡ got p next → PartsOf t p
   connections-back t e q =
@@ -284,14 +284,14 @@ module _ (s : List ℕ) (at : ℕ) (p : Probe) (next : ℕ) (b : Bytes s) (h : a
       let wy = leBytes 1 (k .0) in
       let z : n1 + 2 ≡ length s = omega (arith, x .0 .1, y .0 .1, length-leBytes 1 (j .0), length-leBytes 1 (k .0)) in
       let m : n1 - (at + 4) ≡ length s - 2 - (at + 4) = omega arith in
-      let c = countBytes l in
+      let c = listCountBytes l in
       let list = take (length s - 2 - (at + 4)) (drop (at + 4) s) in
       let o2 : Back s at (c ++ list) n1 = subst (λ (i : ℕ). Back s at (c ++ take i (drop (at + 4) s)) n1) m (o .2) in
       let r2 : stringListRule l list ≡ 0 = subst (λ (i : ℕ). stringListRule l (take i (drop (at + 4) s)) ≡ 0) m (o .3) in
       let all = join s at (c ++ list) n1 (gx ++ wy) next o2 (join s n1 gx (j .1) wy next (x .0) (y .0)) in
       subst (PartsOf t) (k .2) (sym e, subst (λ (d : List ℕ). Back s at d next) (append-assoc c list (gx ++ wy)) all, r2)
 
-  group-back : (t : ℕ) → t ≡ 4 → groupAt s at ≡ got p next → PartsOf t p
+  group-back : (t : ℕ) → t ≡ 4 → groupProbeAt s at ≡ got p next → PartsOf t p
   group-back t e q =
       let j = invert (item 2 s at) (λ g n. _) q in
       let k = map-back (item 1) (λ w. Probe.Group (j .0) w) s (j .1) p next (j .3) in
@@ -314,7 +314,7 @@ module _ (s : List ℕ) (at : ℕ) (p : Probe) (next : ℕ) (b : Bytes s) (h : a
           let n4 : t ≡ 4 → ⊥ = eqb-false t 4 e4 in
           omega arith
 
-      go : (t2 t3 t4 : Bool) → eqb t 2 ≡ t2 → eqb t 3 ≡ t3 → eqb t 4 ≡ t4 → cond t2 metaDataAt (cond t3 writersAt (cond t4 groupAt connectionsAt)) s at ≡ got p next → PartsOf t p
+      go : (t2 t3 t4 : Bool) → eqb t 2 ≡ t2 → eqb t 3 ≡ t3 → eqb t 4 ≡ t4 → cond t2 metaDataAt (cond t3 writersAt (cond t4 groupProbeAt connectionsAt)) s at ≡ got p next → PartsOf t p
       go true t3 t4 e2 e3 e4 k =
           let y = map-back idListAt Probe.MetaData s at p next k in
           let o = ids-back s at (y .0) next b h (y .1) in
@@ -336,7 +336,7 @@ type-one v h = go (eqb v 1) refl (eqb v 2) h
 
 -- an accepted body, written again from its parts as they were read, is not refused and is the same bytes
 pub body-back : (s : List ℕ) (at : ℕ) (p : Probe) (n : ℕ) → Bytes s → at ≤ length s → probeBodyAt s at ≡ got p n
-    → (bodyRefusal (listIn s at p) p ≡ 0) × (probeBytes (listIn s at p) p ≡ drop at s)
+    → (probeBodyRefusal (listIn s at p) p ≡ 0) × (probeBytes (listIn s at p) p ≡ drop at s)
 unfolding probeAt
 body-back s at p n b h q =
     let e = body-ended s at p n q in
@@ -351,11 +351,11 @@ body-back s at p n b h q =
     let fits : at + 2 ≤ length s = omega (arith, end-fits s (T .1) (leBytes 1 (I .0)) (I .1) (ii .0)) in
     let of2 : probeOf (I .0) s (at + 2) ≡ got p n = ap (probeOf (I .0) s) (sym two) ∙ I .3 in
     let o = parts-back s (at + 2) p n b fits (e .1) (I .0) (ir .1) of2 in
-    let head : Back s at (headBytes p) (at + 2) =
-    subst (λ (j : ℕ). Back s at (headBytes p) j) two
+    let head : Back s at (probeHeadBytes p) (at + 2) =
+    subst (λ (j : ℕ). Back s at (probeHeadBytes p) j) two
     (subst (λ (v : ℕ). Back s at (leBytes 1 v ++ leBytes 1 (informationOf p)) (I .1)) one
     (join s at (leBytes 1 (T .0)) (T .1) (leBytes 1 (informationOf p)) (I .1) (ti .0) (subst (λ (v : ℕ). Back s (T .1) (leBytes 1 v) (I .1)) (sym (o .0)) (ii .0)))) in
-    let all = join s at (headBytes p) (at + 2) (partsBytes (listFrom s (at + 2) p) p) n head (o .1) in
+    let all = join s at (probeHeadBytes p) (at + 2) (partsBytes (listFrom s (at + 2) p) p) n head (o .1) in
     let same : drop at s ≡ probeBytes (listFrom s (at + 2) p) p =
     rest-is s at (probeBytes (listFrom s (at + 2) p) p) n all ∙ ap (λ (l : List ℕ). probeBytes (listFrom s (at + 2) p) p ++ l) (drop-of-length-le s {i = n} (omega (arith, e .1))) ∙ append-nil _ in
-    subst (λ (l : List ℕ). (bodyRefusal l p ≡ 0) × (probeBytes l p ≡ drop at s)) (from-is s at p) (o .2, sym same)
+    subst (λ (l : List ℕ). (probeBodyRefusal l p ≡ 0) × (probeBytes l p ≡ drop at s)) (from-is s at p) (o .2, sym same)

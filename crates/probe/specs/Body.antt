@@ -22,20 +22,20 @@ abbrev pub informationRule : ℕ → ℕ
 informationRule t = cond (eqb t 1) NOT_TAKEN (cond (ltb t 2) NOT_PERMITTED (cond (ltb 5 t) NOT_PERMITTED 0))
 
 -- n ids of 2 bytes, one item
-abbrev pub idsOf : ℕ → Reader ListCount
-idsOf n = run (2 * n) >> pure (ListCount.Of n)
+abbrev pub listedIds : ℕ → Reader ListCount
+listedIds n = run (2 * n) >> pure (ListCount.Of n)
 
 -- "writer id lists for data set probes (Int32 count)"; "An array that is null lists nothing"
 abbrev pub idListAt : Reader ListCount
-idListAt = byLength (pure ListCount.Null) idsOf
+idListAt = byLength (pure ListCount.Null) listedIds
 
 -- n strings, one after the other
-abbrev pub stringsOf : ℕ → Reader ListCount
-stringsOf n = each string n >> pure (ListCount.Of n)
+abbrev pub listedStrings : ℕ → Reader ListCount
+listedStrings n = each string n >> pure (ListCount.Of n)
 
 -- "the string list for connections"
 abbrev pub stringListAt : Reader ListCount
-stringListAt = byLength (pure ListCount.Null) stringsOf
+stringListAt = byLength (pure ListCount.Null) listedStrings
 
 -- the two data set probes
 abbrev pub metaDataAt : Reader Probe
@@ -45,8 +45,8 @@ abbrev pub writersAt : Reader Probe
 writersAt = idListAt >>= λ l. pure (Probe.Writers l)
 
 -- "group id with its Boolean (any byte, kept)"
-abbrev pub groupAt : Reader Probe
-groupAt = do
+abbrev pub groupProbeAt : Reader Probe
+groupProbeAt = do
   g ← item 2
   b ← item 1
   pure (Probe.Group g b)
@@ -63,7 +63,7 @@ connectionsAt = stringListAt >>= includesAt
 
 -- what follows an InformationType
 abbrev pub probeOf : ℕ → Reader Probe
-probeOf t = cond (eqb t 2) metaDataAt (cond (eqb t 3) writersAt (cond (eqb t 4) groupAt connectionsAt))
+probeOf t = cond (eqb t 2) metaDataAt (cond (eqb t 3) writersAt (cond (eqb t 4) groupProbeAt connectionsAt))
 
 abbrev pub informationAt : Reader Probe
 informationAt = ruled 1 informationRule >>= probeOf

@@ -30,14 +30,15 @@ abbrev pub idItemAt : ℕ → Reader ProbeItem
 idItemAt k s at = andThen (item 2 s at) (λ v next. got (record { index = k; offset = at; length = 2; id = v; null = false }) next)
 
 -- string k: the part of the slice behind its length; null and empty are kept apart
-abbrev pub nullOf : ℕ → Reader ProbeItem
-nullOf k s start = got (record { index = k; offset = start; length = 0; id = 0; null = true }) start
+abbrev pub nullItemAt : ℕ → Reader ProbeItem
+nullItemAt k s start = got (record { index = k; offset = start; length = 0; id = 0; null = true }) start
 
-abbrev pub textOf : ℕ → ℕ → Reader ProbeItem
-textOf k n s start = andThen (run n s start) (λ m next. got (record { index = k; offset = start; length = n; id = 0; null = false }) next)
+abbrev pub textBytesAt : ℕ → ℕ → Reader ProbeItem
+textBytesAt k n s start =
+    andThen (run n s start) (λ m next. got (record { index = k; offset = start; length = n; id = 0; null = false }) next)
 
 abbrev pub textItemAt : ℕ → Reader ProbeItem
-textItemAt k = byLength (nullOf k) (textOf k)
+textItemAt k = byLength (nullItemAt k) (textBytesAt k)
 
 -- item k of a probe, which stands at a position; a WriterGroup's probe lists none
 abbrev pub itemOf : Probe → ℕ → Reader ProbeItem
@@ -55,7 +56,8 @@ pub record ItemStepped : Type 0 where
 abbrev pub itemStepAt : Probe → ProbeCursor → List ℕ → Answer ItemStepped
 itemStepAt p c s =
     cond (leb (itemCount p) (c .index)) (refused OVER_LIMIT 0)
-    (andThen (itemOf p (c .index) s (c .at)) (λ x next. got (record { item = x; cursor = record { index = c .index + 1; at = next } }) next))
+    (andThen (itemOf p (c .index) s (c .at))
+    (λ x next. got (record { item = x; cursor = record { index = c .index + 1; at = next } }) next))
 
 -- what the answers of the code say
 

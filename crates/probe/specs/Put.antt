@@ -19,8 +19,8 @@ abbrev pub INFORMATION_PROBE : ℕ
 INFORMATION_PROBE = 1
 
 -- the number of 4 bytes that stands for -1
-abbrev pub NULL : ℕ
-NULL = 4294967295
+abbrev pub NULL_COUNT : ℕ
+NULL_COUNT = 4294967295
 
 -- the first count that is no Int32
 abbrev pub COUNT_END : ℕ
@@ -34,23 +34,23 @@ informationOf (Probe.Group g b) = 4
 informationOf (Probe.Connections l g w) = 5
 
 -- ProbeType 1, InformationType 1
-abbrev pub headBytes : Probe → List ℕ
-headBytes p = leBytes 1 INFORMATION_PROBE ++ leBytes 1 (informationOf p)
+abbrev pub probeHeadBytes : Probe → List ℕ
+probeHeadBytes p = leBytes 1 INFORMATION_PROBE ++ leBytes 1 (informationOf p)
 
 -- "Int32 count"; null is -1
-abbrev pub countBytes : ListCount → List ℕ
-countBytes ListCount.Null = leBytes 4 NULL
-countBytes (ListCount.Of n) = leBytes 4 n
+abbrev pub listCountBytes : ListCount → List ℕ
+listCountBytes ListCount.Null = leBytes 4 NULL_COUNT
+listCountBytes (ListCount.Of n) = leBytes 4 n
 
 -- what follows the InformationType: a count and its ids; the group id with its Boolean; a count, its strings and two Booleans
 abbrev pub partsBytes : List ℕ → Probe → List ℕ
-partsBytes list (Probe.MetaData l) = countBytes l ++ list
-partsBytes list (Probe.Writers l) = countBytes l ++ list
+partsBytes list (Probe.MetaData l) = listCountBytes l ++ list
+partsBytes list (Probe.Writers l) = listCountBytes l ++ list
 partsBytes list (Probe.Group g b) = leBytes 2 g ++ leBytes 1 b
-partsBytes list (Probe.Connections l g w) = countBytes l ++ (list ++ (leBytes 1 g ++ leBytes 1 w))
+partsBytes list (Probe.Connections l g w) = listCountBytes l ++ (list ++ (leBytes 1 g ++ leBytes 1 w))
 
 abbrev pub probeBytes : List ℕ → Probe → List ℕ
-probeBytes list p = headBytes p ++ partsBytes list p
+probeBytes list p = probeHeadBytes p ++ partsBytes list p
 
 -- what would read back otherwise is 6: ids of another number than the count, a count that is no Int32, a list where none is
 abbrev pub idsRule : ℕ → ℕ → ℕ
@@ -73,15 +73,15 @@ stringListRule ListCount.Null list = unused (length list)
 stringListRule (ListCount.Of n) list = stringsRule n list
 
 -- the number by which a probe with this list is refused, 0 for none
-abbrev pub bodyRefusal : List ℕ → Probe → ℕ
-bodyRefusal list (Probe.MetaData l) = idListRule l (length list)
-bodyRefusal list (Probe.Writers l) = idListRule l (length list)
-bodyRefusal list (Probe.Group g b) = unused (length list)
-bodyRefusal list (Probe.Connections l g w) = stringListRule l list
+abbrev pub probeBodyRefusal : List ℕ → Probe → ℕ
+probeBodyRefusal list (Probe.MetaData l) = idListRule l (length list)
+probeBodyRefusal list (Probe.Writers l) = idListRule l (length list)
+probeBodyRefusal list (Probe.Group g b) = unused (length list)
+probeBodyRefusal list (Probe.Connections l g w) = stringListRule l list
 
 -- what is written of a probe: its bytes, unless it is refused
 abbrev pub probeOutput : List ℕ → Probe → Output
-probeOutput list p = unless (bodyRefusal list p) (probeBytes list p)
+probeOutput list p = unless (probeBodyRefusal list p) (probeBytes list p)
 
 -- each number of a probe fits its type, as of every value of the code
 abbrev pub FitsProbe : Probe → Type 0

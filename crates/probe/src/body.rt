@@ -14,7 +14,7 @@ ghost use mathlib.Core.Path.{_≡_};
 ghost use Prim.Native.Nat.{_*_};
 ghost use Rattle.wire.specs.Answer.{run};
 ghost use Rattle.wire.specs.Items.{answerRun};
-ghost use Rattle.probe.specs.Body.{probeTypeRule, informationRule, idsOf, stringsOf, idListAt, stringListAt, metaDataAt, writersAt, groupAt, includesAt, connectionsAt, probeOf, informationAt, probeAt, probeBodyAt, answerList, answerProbe};
+ghost use Rattle.probe.specs.Body.{probeTypeRule, informationRule, listedIds, listedStrings, idListAt, stringListAt, metaDataAt, writersAt, groupProbeAt, includesAt, connectionsAt, probeOf, informationAt, probeAt, probeBodyAt, answerList, answerProbe};
 
 // How many elements a list has. One that is null lists nothing, and is kept apart from an empty one.
 pub enum ListCount {
@@ -89,7 +89,7 @@ fn id_run(s: &[u8], at: usize, n: usize) -> Run
 }
 
 fn ids_of(s: &[u8], n: usize, start: usize) -> ListRead
-    ensures { λ r. ⌜ answerList r ≡ idsOf n (now (s .entry)) start ⌝ }
+    ensures { λ r. ⌜ answerList r ≡ listedIds n (now (s .entry)) start ⌝ }
 {
     let Run::To(next) = id_run(s, start, n) else {
         return ListRead::Refused(CUT_SHORT, start);
@@ -109,7 +109,7 @@ fn id_list(s: &[u8], at: usize) -> ListRead
 }
 
 fn strings_of(s: &[u8], n: usize, start: usize) -> ListRead
-    ensures { λ r. ⌜ answerList r ≡ stringsOf n (now (s .entry)) start ⌝ }
+    ensures { λ r. ⌜ answerList r ≡ listedStrings n (now (s .entry)) start ⌝ }
 {
     match strings_at(s, start, n) {
         Reached::To(next) => ListRead::Is(ListCount::Of(n), next),
@@ -147,7 +147,7 @@ fn writers(s: &[u8], at: usize) -> ProbeRead
 }
 
 fn group(s: &[u8], at: usize) -> ProbeRead
-    ensures { λ r. ⌜ answerProbe r ≡ groupAt (now (s .entry)) at ⌝ }
+    ensures { λ r. ⌜ answerProbe r ≡ groupProbeAt (now (s .entry)) at ⌝ }
 {
     let Item16::Is(id, include_at) = wire::read16(s, at) else {
         return ProbeRead::Refused(CUT_SHORT, at);

@@ -8,7 +8,7 @@ use wire::constants::BAD_LENGTH;
 use wire::constants::CUT_SHORT;
 use wire::constants::OVER_LIMIT;
 ghost use mathlib.Core.Path.{_≡_};
-ghost use Rattle.probe.specs.Items.{countIn, itemCount, idItemAt, textOf, textItemAt, itemOf, itemStepAt, answerItem, answerItemStep};
+ghost use Rattle.probe.specs.Items.{countIn, itemCount, idItemAt, textBytesAt, textItemAt, itemOf, itemStepAt, answerItem, answerItemStep};
 
 // An id or a string of a probe: its number from 0, and where its bytes stand; an id's value, and whether a string is null.
 pub struct ProbeItem {
@@ -79,7 +79,7 @@ fn id_item(s: &[u8], k: usize, at: usize) -> ItemRead
 
 // The n bytes of string k.
 fn text_of(s: &[u8], k: usize, n: usize, start: usize) -> ItemRead
-    ensures { λ r. ⌜ answerItem r ≡ textOf k n (now (s .entry)) start ⌝ }
+    ensures { λ r. ⌜ answerItem r ≡ textBytesAt k n (now (s .entry)) start ⌝ }
 {
     let Run::To(next) = wire::skip(s, start, n) else {
         return ItemRead::Refused(CUT_SHORT, start);

@@ -16,13 +16,13 @@ ghost use mathlib.Core.List.{_++_};
 ghost use lib.ListN.{length};
 ghost use Rattle.wire.specs.Number.{leBytes};
 ghost use Rattle.wire_writer.specs.Writing.{Puts, Writes};
-ghost use Rattle.probe.specs.Put.{FitsProbe, informationOf, idsRule, idListRule, stringsRule, stringListRule, bodyRefusal, headBytes, countBytes, partsBytes, probeBytes, probeOutput};
+ghost use Rattle.probe.specs.Put.{FitsProbe, informationOf, idsRule, idListRule, stringsRule, stringListRule, probeBodyRefusal, probeHeadBytes, listCountBytes, partsBytes, probeBytes, probeOutput};
 
 // The ProbeType of the Publisher information probe.
 const INFORMATION_PROBE: u8 = 1;
 
 // The number of 4 bytes that stands for the count -1.
-const NULL: u32 = 4294967295;
+const NULL_COUNT: u32 = 4294967295;
 
 // The first count that is no Int32.
 const COUNT_END: usize = 2147483648;
@@ -84,7 +84,7 @@ fn string_list_rule(list: ListCount, bytes: &[u8]) -> u8
 
 // The number by which `write` refuses a probe with these ids or strings before it looks at the room, or 0.
 pub fn refusal(p: Probe, bytes: &[u8]) -> u8
-    ensures { λ r. ⌜ r ≡ bodyRefusal (now (bytes .entry)) p ⌝ }
+    ensures { λ r. ⌜ r ≡ probeBodyRefusal (now (bytes .entry)) p ⌝ }
 {
     match p {
         Probe::MetaData(list) => id_list_rule(list, bytes.len()),
@@ -107,16 +107,16 @@ fn body_size(p: Probe, bytes: &[u8]) -> usize
 }
 
 fn put_count(out: &mut [u8], at: usize, list: ListCount) -> usize
-    ensures { λ r. ⌜ Puts (countBytes list) (now (out .entry)) at (now (out .exit)) r ⌝ }
+    ensures { λ r. ⌜ Puts (listCountBytes list) (now (out .entry)) at (now (out .exit)) r ⌝ }
 {
     match list {
-        ListCount::Null => put32(out, at, NULL),
+        ListCount::Null => put32(out, at, NULL_COUNT),
         ListCount::Of(n) => put32(out, at, (n % 4294967296) as u32),
     }
 }
 
 fn put_list(out: &mut [u8], at: usize, list: ListCount, bytes: &[u8]) -> usize
-    ensures { λ r. ⌜ Puts (countBytes list ++ now (bytes .entry)) (now (out .entry)) at (now (out .exit)) r ⌝ }
+    ensures { λ r. ⌜ Puts (listCountBytes list ++ now (bytes .entry)) (now (out .entry)) at (now (out .exit)) r ⌝ }
 {
     let start = put_count(out, at, list);
     put_run(out, start, bytes)
@@ -138,7 +138,7 @@ fn put_connections(
     bytes: &[u8],
 ) -> usize
     ensures { λ r.
-        let b = countBytes list ++ (now (bytes .entry) ++ (leBytes 1 groups ++ leBytes 1 include)) in
+        let b = listCountBytes list ++ (now (bytes .entry) ++ (leBytes 1 groups ++ leBytes 1 include)) in
         ⌜ Puts b (now (out .entry)) at (now (out .exit)) r ⌝ }
 {
     let start = put_count(out, at, list);
@@ -163,7 +163,7 @@ fn put_parts(out: &mut [u8], at: usize, p: Probe, bytes: &[u8]) -> usize
 
 // Stores ProbeType and InformationType at the buffer's start.
 fn put_head(out: &mut [u8], p: Probe) -> usize
-    ensures { λ r. ⌜ Puts (headBytes p) (now (out .entry)) 0 (now (out .exit)) r ⌝ }
+    ensures { λ r. ⌜ Puts (probeHeadBytes p) (now (out .entry)) 0 (now (out .exit)) r ⌝ }
 {
     let at = put8(out, 0, INFORMATION_PROBE);
     put8(out, at, information_of(p))

@@ -1,6 +1,6 @@
 -- A probe record that was stored is read back: the probe, and the cursor before its first id or string.
 -- Assumes nothing.
-use Prim.Native.Nat.{ℕ, _*_, _^_, _≤_, _<_}
+use Prim.Native.Nat.{ℕ, _^_, _≤_, _<_}
 use mathlib.Core.Path.{_≡_, refl, ap, sym, subst, _∙_}
 use mathlib.Core.Bool.{Bool, true, false, cond, _&&_}
 use mathlib.Core.List.{List, []}
@@ -22,7 +22,7 @@ use Rattle.records.specs.Numbers.{numberAt, numberBytes}
 use Rattle.records.specs.Items.{fitsItem}
 use Rattle.records.proofs.Storing.{bytes-length}
 use Rattle.records.proofs.ReadBack.{AllFit, number-read, stored-at, at-most-same}
-use Rattle.probe_record.specs.Probe.{nullNumber, probeNull, placeOf, listPlace, groupNumber, firstInclude, secondInclude, probeNumbers, listGiven, probeBy, probeIn, typeRule, probeFits, cursorIn, ProbeRecordBack}
+use Rattle.probe_record.specs.Probe.{nullNumber, probeNull, listStart, listPlace, probeGroup, firstInclude, secondInclude, probeNumbers, listGiven, probeBy, probeIn, informationRefusal, probeFits, ProbeRecordBack}
 
 -- ---- each number fits a record's
 information-bound : (p : Probe) → informationOf p < 256 ^ 8
@@ -41,7 +41,7 @@ null-bound (Probe.Writers l) = list-bound l
 null-bound (Probe.Group g b) = omega arith
 null-bound (Probe.Connections l g w) = list-bound l
 
-place-of-bound : (p : Probe) (start : ℕ) → start ≤ 65535 → placeOf p start < 256 ^ 8
+place-of-bound : (p : Probe) (start : ℕ) → start ≤ 65535 → listStart p start < 256 ^ 8
 place-of-bound (Probe.MetaData l) start h = omega arith
 place-of-bound (Probe.Writers l) start h = omega arith
 place-of-bound (Probe.Group g b) start h = omega arith
@@ -50,7 +50,7 @@ place-of-bound (Probe.Connections l g w) start h = omega arith
 place-bound : (p : Probe) (start : ℕ) → listPlace p start < 256 ^ 8
 place-bound p start = by-bool _ (ltb 65535 start) (λ b. rw b (omega arith)) (λ b. rw b (place-of-bound p start (ltb-false 65535 start b)))
 
-group-bound : (p : Probe) → FitsProbe p → groupNumber p < 65536
+group-bound : (p : Probe) → FitsProbe p → probeGroup p < 65536
 group-bound (Probe.MetaData l) f = omega arith
 group-bound (Probe.Writers l) f = omega arith
 group-bound (Probe.Group g b) f = f .0
@@ -74,7 +74,7 @@ list-back ListCount.Null = refl
 list-back (ListCount.Of n) = refl
 
 probe-back : (p : Probe) → FitsProbe p
-    → probeBy (informationOf p) (listGiven (probeNull p) (itemCount p)) (atMost 65535 (groupNumber p)) (atMost 255 (firstInclude p)) (atMost 255 (secondInclude p)) ≡ p
+    → probeBy (informationOf p) (listGiven (probeNull p) (itemCount p)) (atMost 65535 (probeGroup p)) (atMost 255 (firstInclude p)) (atMost 255 (secondInclude p)) ≡ p
 probe-back (Probe.MetaData l) f = ap Probe.MetaData (list-back l)
 probe-back (Probe.Writers l) f = ap Probe.Writers (list-back l)
 probe-back (Probe.Group g b) f = rw (at-most-same 65535 g (omega (arith, f .0)), at-most-same 255 b (omega (arith, f .1)))
@@ -89,7 +89,7 @@ type-back (Probe.Connections l g w) = refl
 abbrev allFit : ℕ → ℕ → ℕ → ℕ → Bool
 allFit t g a b = fitsItem (eqb t 4) 65535 g && (fitsItem (leb 4 t) 255 a && fitsItem (eqb t 5) 255 b)
 
-fits-back : (p : Probe) → FitsProbe p → allFit (informationOf p) (groupNumber p) (firstInclude p) (secondInclude p) ≡ true
+fits-back : (p : Probe) → FitsProbe p → allFit (informationOf p) (probeGroup p) (firstInclude p) (secondInclude p) ≡ true
 fits-back (Probe.MetaData l) f = refl
 fits-back (Probe.Writers l) f = refl
 fits-back (Probe.Group g b) f = rw (le-leb g 65535 (omega (arith, f .0)), le-leb b 255 (omega (arith, f .1)))
@@ -142,7 +142,7 @@ module _ (p : Probe) (start : ℕ) (r : List ℕ) (f : FitsProbe p) (c : itemCou
   read : (i : ℕ) → i < 16 → numberAt s i ≡ getD numbers i 0
   read i l = ap (numberAt s) (sym (zero-add i)) ∙ number-read numbers 0 s at fit i l
 
-  pub record-back : ProbeRecordBack s p start
+  record-back : ProbeRecordBack s p start
   record-back =
       let n0 = read 0 (omega arith) in
       let n1 = read 1 (omega arith) in
@@ -152,10 +152,10 @@ module _ (p : Probe) (start : ℕ) (r : List ℕ) (f : FitsProbe p) (c : itemCou
       let n6 = read 6 (omega arith) in
       let n7 = read 7 (omega arith) in
       let n8 = read 8 (omega arith) in
-      let whole : probeIn s ≡ probeBy (informationOf p) (listGiven (probeNull p) (itemCount p)) (atMost 65535 (groupNumber p)) (atMost 255 (firstInclude p)) (atMost 255 (secondInclude p)) =
+      let whole : probeIn s ≡ probeBy (informationOf p) (listGiven (probeNull p) (itemCount p)) (atMost 65535 (probeGroup p)) (atMost 255 (firstInclude p)) (atMost 255 (secondInclude p)) =
       λ i. probeBy (n0 i) (listGiven (n1 i) (n2 i)) (atMost 65535 (n4 i)) (atMost 255 (n5 i)) (atMost 255 (n6 i)) in
-      let type : typeRule s ≡ informationRule (atMost 255 (informationOf p)) = λ i. informationRule (atMost 255 (n0 i)) in
-      let fitting : probeFits s ≡ allFit (informationOf p) (groupNumber p) (firstInclude p) (secondInclude p) = λ i. allFit (n0 i) (n4 i) (n5 i) (n6 i) in
+      let type : informationRefusal s ≡ informationRule (atMost 255 (informationOf p)) = λ i. informationRule (atMost 255 (n0 i)) in
+      let fitting : probeFits s ≡ allFit (informationOf p) (probeGroup p) (firstInclude p) (secondInclude p) = λ i. allFit (n0 i) (n4 i) (n5 i) (n6 i) in
       record {
         probe = whole ∙ probe-back p f;
         type = type ∙ type-back p;

@@ -31,21 +31,21 @@ probeNull (Probe.Connections l g w) = nullNumber l
 
 -- "where the first id or string stands": behind ProbeType, InformationType and count; 0 for a WriterGroup's, and for a start above the most
 -- bytes of a datagram, which no probe has
-abbrev pub placeOf : Probe → ℕ → ℕ
-placeOf (Probe.MetaData l) start = start + 6
-placeOf (Probe.Writers l) start = start + 6
-placeOf (Probe.Group g b) start = 0
-placeOf (Probe.Connections l g w) start = start + 6
+abbrev pub listStart : Probe → ℕ → ℕ
+listStart (Probe.MetaData l) start = start + 6
+listStart (Probe.Writers l) start = start + 6
+listStart (Probe.Group g b) start = 0
+listStart (Probe.Connections l g w) start = start + 6
 
 abbrev pub listPlace : Probe → ℕ → ℕ
-listPlace p start = cond (ltb MOST_DATAGRAM start) 0 (placeOf p start)
+listPlace p start = cond (ltb MOST_DATAGRAM start) 0 (listStart p start)
 
 -- "WriterGroupId"; "IncludeDataSetWriters of a WriterGroup, IncludeWriterGroups of connections"; "IncludeDataSetWriters of connections"
-abbrev pub groupNumber : Probe → ℕ
-groupNumber (Probe.MetaData l) = 0
-groupNumber (Probe.Writers l) = 0
-groupNumber (Probe.Group g b) = g
-groupNumber (Probe.Connections l g w) = 0
+abbrev pub probeGroup : Probe → ℕ
+probeGroup (Probe.MetaData l) = 0
+probeGroup (Probe.Writers l) = 0
+probeGroup (Probe.Group g b) = g
+probeGroup (Probe.Connections l g w) = 0
 
 abbrev pub firstInclude : Probe → ℕ
 firstInclude (Probe.MetaData l) = 0
@@ -63,7 +63,7 @@ secondInclude (Probe.Connections l g w) = w
 -- the cursor stands before the first item; the last seven are spare and hold 0
 abbrev pub probeNumbers : Probe → ℕ → List ℕ
 probeNumbers p start =
-    informationOf p ∷ probeNull p ∷ itemCount p ∷ listPlace p start ∷ groupNumber p ∷ firstInclude p ∷ secondInclude p
+    informationOf p ∷ probeNull p ∷ itemCount p ∷ listPlace p start ∷ probeGroup p ∷ firstInclude p ∷ secondInclude p
     ∷ 0 ∷ listPlace p start
     ∷ 0 ∷ 0 ∷ 0 ∷ 0 ∷ 0 ∷ 0 ∷ 0 ∷ []
 
@@ -84,8 +84,8 @@ probeIn s =
     (atMost 255 (numberAt s 6))
 
 -- "types by number as in reading"
-abbrev pub typeRule : List ℕ → ℕ
-typeRule s = informationRule (atMost 255 (numberAt s 0))
+abbrev pub informationRefusal : List ℕ → ℕ
+informationRefusal s = informationRule (atMost 255 (numberAt s 0))
 
 -- "a number that does not fit its item": whether the number of each item that is present fits it; a count is the writer's to judge
 abbrev pub probeFits : List ℕ → Bool
@@ -94,11 +94,11 @@ probeFits s =
     && (fitsItem (leb 4 (numberAt s 0)) 255 (numberAt s 5) && fitsItem (eqb (numberAt s 0) 5) 255 (numberAt s 6))
 
 -- the item cursor, the numbers 7 and 8; and the record with its cursor moved
-abbrev pub cursorIn : List ℕ → ProbeCursor
-cursorIn s = record { index = numberAt s 7; at = numberAt s 8 }
+abbrev pub itemCursorIn : List ℕ → ProbeCursor
+itemCursorIn s = record { index = numberAt s 7; at = numberAt s 8 }
 
-abbrev pub cursorLaid : ProbeCursor → List ℕ → List ℕ
-cursorLaid c s = laid (laid s (8 * 7) (leBytes 8 (c .index))) (8 * 8) (leBytes 8 (c .at))
+abbrev pub itemCursorLaid : ProbeCursor → List ℕ → List ℕ
+itemCursorLaid c s = laid (laid s (8 * 7) (leBytes 8 (c .index))) (8 * 8) (leBytes 8 (c .at))
 
 -- the 4 numbers of an item: its number, "offset of its bytes", their length, "the id; of a string 1 if null, else 0"
 abbrev pub valueNumber : Bool → ℕ → ℕ
@@ -111,6 +111,6 @@ itemNumbers x = x .index ∷ x .offset ∷ x .length ∷ valueNumber (x .null) (
 -- before its first id or string
 pub record ProbeRecordBack (r : List ℕ) (p : Probe) (start : ℕ) : Type 0 where
   pub probe : probeIn r ≡ p
-  pub type : typeRule r ≡ 0
+  pub type : informationRefusal r ≡ 0
   pub fitting : probeFits r ≡ true
-  pub cursor : cursorIn r ≡ record { index = 0; at = listPlace p start }
+  pub cursor : itemCursorIn r ≡ record { index = 0; at = listPlace p start }

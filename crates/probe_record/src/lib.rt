@@ -16,7 +16,7 @@ use wire_writer::store::put64;
 ghost use mathlib.Core.Path.{_≡_};
 ghost use Rattle.wire_writer.specs.Store.{laid};
 ghost use Rattle.records.specs.Numbers.{numberBytes};
-ghost use Rattle.probe_record.specs.Probe.{nullNumber, probeNull, listPlace, groupNumber, firstInclude, secondInclude, probeNumbers, listGiven, probeBy, probeIn, typeRule, probeFits, cursorIn, cursorLaid, valueNumber, itemNumbers, ProbeRecordBack};
+ghost use Rattle.probe_record.specs.Probe.{nullNumber, probeNull, listPlace, probeGroup, firstInclude, secondInclude, probeNumbers, listGiven, probeBy, probeIn, informationRefusal, probeFits, itemCursorIn, itemCursorLaid, valueNumber, itemNumbers, ProbeRecordBack};
 ghost use Rattle.records.specs.Sizes.{PROBE_SIZE};
 ghost use lib.ListN.{length};
 ghost use Prim.Native.Nat.{_≤_};
@@ -62,7 +62,7 @@ fn list_place(p: Probe, start: usize) -> usize
 }
 
 fn group_number(p: Probe) -> u64
-    ensures { λ r. ⌜ r ≡ groupNumber p ⌝ }
+    ensures { λ r. ⌜ r ≡ probeGroup p ⌝ }
 {
     match p {
         Probe::MetaData(_) => 0,
@@ -164,7 +164,7 @@ pub fn probe_in(s: &[u8]) -> Probe
 
 // The number by which reading refuses the InformationType of a probe record, or 0.
 pub fn type_rule(s: &[u8]) -> u8
-    ensures { λ r. ⌜ r ≡ typeRule (now (s .entry)) ⌝ }
+    ensures { λ r. ⌜ r ≡ informationRefusal (now (s .entry)) ⌝ }
 {
     information_rule(at_most(255, number(s, 0)) as u8)
 }
@@ -180,7 +180,7 @@ pub fn probe_fits(s: &[u8]) -> bool
 
 // The item cursor of a probe record.
 pub fn cursor_in(s: &[u8]) -> ProbeCursor
-    ensures { λ r. ⌜ r ≡ cursorIn (now (s .entry)) ⌝ }
+    ensures { λ r. ⌜ r ≡ itemCursorIn (now (s .entry)) ⌝ }
 {
     ProbeCursor {
         index: number(s, 7) as usize,
@@ -190,7 +190,7 @@ pub fn cursor_in(s: &[u8]) -> ProbeCursor
 
 // Stores the item cursor of a probe record.
 pub fn put_cursor(out: &mut [u8], cursor: ProbeCursor)
-    ensures { λ _. ⌜ now (out .exit) ≡ cursorLaid cursor (now (out .entry)) ⌝ }
+    ensures { λ _. ⌜ now (out .exit) ≡ itemCursorLaid cursor (now (out .entry)) ⌝ }
 {
     put64(out, CURSOR_INDEX, cursor.index as u64);
     put64(out, CURSOR_AT, cursor.at as u64);

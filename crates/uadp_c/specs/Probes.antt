@@ -14,7 +14,7 @@ use Rattle.probe.specs.Put.{probeOutput}
 use Rattle.records.specs.Numbers.{numberBytes}
 use Rattle.records.specs.Result.{resultOf, Filling}
 use Rattle.records.specs.Sizes.{ITEM_SIZE, PROBE_SIZE}
-use Rattle.probe_record.specs.Probe.{probeNumbers, probeIn, typeRule, probeFits, cursorIn, cursorLaid, itemNumbers, ProbeRecordBack}
+use Rattle.probe_record.specs.Probe.{probeNumbers, probeIn, informationRefusal, probeFits, itemCursorIn, itemCursorLaid, itemNumbers, ProbeRecordBack}
 use Rattle.uadp_c.specs.Writing.{fitting}
 
 -- "Value: where the probe starts"
@@ -30,7 +30,7 @@ ProbeReads (refused n place) entry exit = Unit {0}
 
 -- the id or string that a probe record's cursor stands before, and the cursor before the next one
 abbrev pub itemStep : List ℕ → List ℕ → Answer ItemStepped
-itemStep probe d = itemStepAt (probeIn probe) (cursorIn probe) d
+itemStep probe d = itemStepAt (probeIn probe) (itemCursorIn probe) d
 
 -- "Value: the item's number"; "11 for either record"
 abbrev pub itemResult : Answer ItemStepped → List ℕ → List ℕ → ℕ
@@ -45,7 +45,7 @@ abbrev pub probeAfter : Answer ItemStepped → List ℕ → List ℕ → List �
 probeAfter (got x next) probe item =
     cond (ltb (length probe) PROBE_SIZE) probe
     (cond (ltb (length item) ITEM_SIZE) probe
-    (cursorLaid (x .cursor) probe))
+    (itemCursorLaid (x .cursor) probe))
 probeAfter (refused n p) probe item = probe
 
 -- the item record afterwards
@@ -58,4 +58,5 @@ itemAfter (refused n p) probe item = item
 -- what is written from a probe record and a list: the InformationType's own number first, then as other writers have it
 abbrev pub probePut : List ℕ → List ℕ → Output
 probePut probe list =
-    cond (eqb (typeRule probe) 0) (fitting (probeFits probe) (probeOutput list (probeIn probe))) (refusing (typeRule probe))
+    cond (eqb (informationRefusal probe) 0) (fitting (probeFits probe) (probeOutput list (probeIn probe)))
+    (refusing (informationRefusal probe))

@@ -44,7 +44,15 @@ returns c =
     let at-fits-item = at-number3 .before in
     let at-number2 = at-fits-item .before in
     let at-number = at-number2 .before in
-    rw (at-fits-item .fits-item .ensures, at-fits-item2 .fits-item2 .ensures, c .fits-item3 .ensures, at-number .number .ensures, at-number2 .number2 .ensures, at-number3 .number3 .ensures, at-number4 .number4 .ensures) refl
+    rw (
+      at-fits-item .fits-item .ensures,
+      at-fits-item2 .fits-item2 .ensures,
+      c .fits-item3 .ensures,
+      at-number .number .ensures,
+      at-number2 .number2 .ensures,
+      at-number3 .number3 .ensures,
+      at-number4 .number4 .ensures,
+    ) refl
 
 pub probe-fits-spec : {M : Type 1} → statement M
 probe-fits-spec =

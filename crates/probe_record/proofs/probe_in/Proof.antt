@@ -78,7 +78,18 @@ returns c =
     let at-list-given = at-number3 .before in
     let at-number2 = at-list-given .before in
     let at-number = at-number2 .before in
-    c .probe-by .ensures ∙ rw (at-list-given .list-given .ensures, at-at-most .at-most .ensures .0, at-at-most2 .at-most2 .ensures .0, at-at-most3 .at-most3 .ensures .0, at-number .number .ensures, at-number2 .number2 .ensures, at-number3 .number3 .ensures, at-number4 .number4 .ensures, at-number5 .number5 .ensures, at-number6 .number6 .ensures) refl
+    c .probe-by .ensures ∙ rw (
+      at-list-given .list-given .ensures,
+      at-at-most .at-most .ensures .0,
+      at-at-most2 .at-most2 .ensures .0,
+      at-at-most3 .at-most3 .ensures .0,
+      at-number .number .ensures,
+      at-number2 .number2 .ensures,
+      at-number3 .number3 .ensures,
+      at-number4 .number4 .ensures,
+      at-number5 .number5 .ensures,
+      at-number6 .number6 .ensures,
+    ) refl
 
 pub probe-in-spec : {M : Type 1} → statement M
 probe-in-spec =

@@ -74,7 +74,15 @@ returns c =
     let at-list-place = at-information-of .before in
     let at-good = at-list-place .before .before in
     stored-back (at-good .args .p) (at-good .args .start) (now (at-good .args .out)) _ (fits-probe (at-good .args .p) _ (at-good .good .1 .0)) (fits-items (at-good .args .p) _ (at-good .good .1 .0))
-    (rw (sym (at-information-of .information-of .ensures), sym (at-probe-null .probe-null .ensures), sym (at-item-count .item-count .ensures), sym (at-list-place .list-place .ensures), sym (at-group-number .group-number .ensures), sym (at-first-include .first-include .ensures), sym (at-second-include .second-include .ensures))
+    (rw (
+      sym (at-information-of .information-of .ensures),
+      sym (at-probe-null .probe-null .ensures),
+      sym (at-item-count .item-count .ensures),
+      sym (at-list-place .list-place .ensures),
+      sym (at-group-number .group-number .ensures),
+      sym (at-first-include .first-include .ensures),
+      sym (at-second-include .second-include .ensures),
+    )
     (at-put-numbers .put-numbers .ensures))
 
 pub put-probe-spec : {M : Type 1} → statement M

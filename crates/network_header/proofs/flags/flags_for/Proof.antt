@@ -60,7 +60,17 @@ returns c =
     let at-payload-header-on = at-kind-of .before in
     let at-group-on = at-payload-header-on .before in
     let at-publisher-on = at-group-on .before in (
-      rw (at-publisher-on .publisher-on .ensures, at-group-on .group-on .ensures, at-payload-header-on .payload-header-on .ensures, at-kind-of .kind-of .ensures .0, at-class-on .class-on .ensures, at-is-on-i64 .is-on-i64 .ensures, at-is-on16 .is-on16 .ensures, at-promoted-on .promoted-on .ensures, c .probe-on .ensures),
+      rw (
+        at-publisher-on .publisher-on .ensures,
+        at-group-on .group-on .ensures,
+        at-payload-header-on .payload-header-on .ensures,
+        at-kind-of .kind-of .ensures .0,
+        at-class-on .class-on .ensures,
+        at-is-on-i64 .is-on-i64 .ensures,
+        at-is-on16 .is-on16 .ensures,
+        at-promoted-on .promoted-on .ensures,
+        c .probe-on .ensures,
+      ),
       at-kind-of .kind-of .ensures .1,
     )
 

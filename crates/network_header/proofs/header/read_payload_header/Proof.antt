@@ -54,7 +54,12 @@ returns-4 c =
     let at-if2 = at-if3 .before in
     let at-if1 = at-if2 .before in
     let args = at-if1 .before .before .args in
-    rw (at-if1 .if1 .left, not-false (args .on) (at-if2 .if2 .left), not-false (args .chunk) (at-if3 .if3 .left), sym (told (answer16 (args .at)) (at-read16 .read16 .ensures) (c .enum-told .given .1)))
+    rw (
+      at-if1 .if1 .left,
+      not-false (args .on) (at-if2 .if2 .left),
+      not-false (args .chunk) (at-if3 .if3 .left),
+      sym (told (answer16 (args .at)) (at-read16 .read16 .ensures) (c .enum-told .given .1)),
+    )
 
 -- src/header.rt:104:1
 returns-5 : tie.Need-returns-5

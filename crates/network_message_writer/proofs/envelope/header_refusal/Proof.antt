@@ -121,7 +121,8 @@ returns c =
     let at-messages-of = at-promoted-refusal .before in
     let args = at-messages-of .before .args in
     or-as (c .or-else7 .ensures) (at-times-refusal .times-refusal .ensures ∙ ap₂ timesRefusal (at-is-on16 .is-on16 .ensures) (at-is-on-i64 .is-on-i64 .ensures))
-    (or-as (at-or-else6 .or-else6 .ensures) (at-probe-refusal .probe-refusal .ensures ∙ ap₂ (λ (p m : Bool). probeRefusal p (args .x .chunk) m) (at-probe-on .probe-on .ensures) (at-promoted-on .promoted-on .ensures))
+    (or-as (at-or-else6 .or-else6 .ensures)
+    (at-probe-refusal .probe-refusal .ensures ∙ ap₂ (λ (p m : Bool). probeRefusal p (args .x .chunk) m) (at-probe-on .probe-on .ensures) (at-promoted-on .promoted-on .ensures))
     (or-as (at-or-else5 .or-else5 .ensures) (at-publisher-refusal .publisher-refusal .ensures)
     (or-as (at-or-else4 .or-else4 .ensures) (at-group-refusal .group-refusal .ensures)
     (or-as (at-or-else3 .or-else3 .ensures) (at-count-refusal .count-refusal .ensures)

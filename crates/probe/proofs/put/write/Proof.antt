@@ -3,7 +3,7 @@ use mathlib.Core.Path.{sym, ap, _∙_}
 use Prim.Native.Nat.{ℕ}
 use lib.ListN.{length}
 use Rattle.probe.proofs.Fitting.{fits-probe}
-use Rattle.probe.specs.Put.{bodyRefusal, probeBytes}
+use Rattle.probe.specs.Put.{probeBodyRefusal, probeBytes}
 use Rattle.wire_writer.specs.Writing.{roomRefusal}
 use Rattle.wire_writer.proofs.Putting.{then}
 use Rattle.wire_writer.proofs.Answering.{refused-by, no-room, written}
@@ -28,7 +28,8 @@ returns c =
     let at-refusal = c .before in
     let at-good = at-refusal .before .before .before in (
       fits-probe (at-good .args .p) _ (at-good .good .1 .0),
-      refused-by (bodyRefusal (now (at-good .args .bytes)) (at-good .args .p)) (probeBytes (now (at-good .args .bytes)) (at-good .args .p)) (now (at-good .args .out)) (at-refusal .refusal .result) (at-refusal .refusal .ensures) (c .if1 .taken),
+      refused-by (probeBodyRefusal (now (at-good .args .bytes)) (at-good .args .p)) (probeBytes (now (at-good .args .bytes)) (at-good .args .p)) (now (at-good .args .out))
+          (at-refusal .refusal .result) (at-refusal .refusal .ensures) (c .if1 .taken),
     )
 
 -- src/put.rt:180:9
@@ -48,8 +49,10 @@ returns-2 c =
     let at-refusal = at-if1 .before in
     let at-good = at-refusal .before .before .before in (
       fits-probe (at-good .args .p) _ (at-good .good .1 .0),
-      no-room (bodyRefusal (now (at-good .args .bytes)) (at-good .args .p)) (probeBytes (now (at-good .args .bytes)) (at-good .args .p)) (now (at-good .args .out)) (sym (at-refusal .refusal .ensures) ∙ at-if1 .if1 .left)
-          (at-room-refusal .room-refusal .result) (at-room-refusal .room-refusal .ensures ∙ ap (λ (n : ℕ). roomRefusal n (length (now (at-good .args .out)))) (at-body-size .body-size .ensures)) (c .if2 .taken),
+      no-room (probeBodyRefusal (now (at-good .args .bytes)) (at-good .args .p)) (probeBytes (now (at-good .args .bytes)) (at-good .args .p)) (now (at-good .args .out))
+          (sym (at-refusal .refusal .ensures) ∙ at-if1 .if1 .left)
+          (at-room-refusal .room-refusal .result)
+          (at-room-refusal .room-refusal .ensures ∙ ap (λ (n : ℕ). roomRefusal n (length (now (at-good .args .out)))) (at-body-size .body-size .ensures)) (c .if2 .taken),
     )
 
 -- src/put.rt:185:9
@@ -76,8 +79,10 @@ returns-3 c =
     let at-refusal = at-if1 .before in
     let at-good = at-refusal .before .before .before in (
       fits-probe (at-good .args .p) _ (at-good .good .1 .0),
-      written (bodyRefusal (now (at-good .args .bytes)) (at-good .args .p)) (probeBytes (now (at-good .args .bytes)) (at-good .args .p)) (now (at-good .args .out)) (sym (at-refusal .refusal .ensures) ∙ at-if1 .if1 .left)
-          (at-room-refusal .room-refusal .result) (at-room-refusal .room-refusal .ensures ∙ ap (λ (n : ℕ). roomRefusal n (length (now (at-good .args .out)))) (at-body-size .body-size .ensures)) (at-if2 .if2 .left)
+      written (probeBodyRefusal (now (at-good .args .bytes)) (at-good .args .p)) (probeBytes (now (at-good .args .bytes)) (at-good .args .p)) (now (at-good .args .out))
+          (sym (at-refusal .refusal .ensures) ∙ at-if1 .if1 .left)
+          (at-room-refusal .room-refusal .result)
+          (at-room-refusal .room-refusal .ensures ∙ ap (λ (n : ℕ). roomRefusal n (length (now (at-good .args .out)))) (at-body-size .body-size .ensures)) (at-if2 .if2 .left)
           (at-body-size .body-size .result) _ _ (at-body-size .body-size .ensures) (then (at-put-head .put-head .ensures) (at-put-parts .put-parts .ensures)),
     )
 

@@ -1,4 +1,3 @@
-use native.Mathlib.Omega.{arith}
 use borrow.Author.Tests.{le-leb, lt-leb}
 use Rattle.probe.specs.Items.{answerItem}
 use mathlib.Core.Path.{sym}
