@@ -52,7 +52,7 @@ use Rattle.acceptance.specs.Again.{CopiedTo, Below, Holds}
 use Rattle.acceptance.specs.Chunks.{IsWritten}
 use Rattle.acceptance.specs.Demand2.{Demand2, typesGiven, typesRead}
 use Rattle.probe.proofs.Trip.{body-back}
-use Rattle.acceptance.proofs.Probes.{probe-reads-back, probe-datagram-reads-back}
+use Rattle.acceptance.proofs.Probes.{probe-reads-back, probe-datagram-reads-back, lent-probe-again}
 use Rattle.acceptance.proofs.Tiling.{messages-tile}
 use Rattle.acceptance.proofs.FieldsTile.{fields-tile}
 use Rattle.acceptance.proofs.Held.{held-below, held-holds}
@@ -196,4 +196,5 @@ demand-2 = record {
       let e = datagram.accepts-exactly g x sizes configured f a in (λ h. e .0 h l, e .1);
   message-accepted-exactly = λ types m f. otherwise.accepts-exactly types m (f .header) (f .indices);
   lent-fits-after-reading = after-reading;
+  lent-probe-again = lent-probe-again;
 }

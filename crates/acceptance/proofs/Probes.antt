@@ -2,33 +2,42 @@
 -- Assumes nothing.
 use Prim.Native.Nat.{ℕ, _+_, _*_, _-_, _≤_}
 use mathlib.Core.Path.{_≡_, refl, sym, ap, subst, _∙_}
-use mathlib.Core.Bool.{true, cond}
+use mathlib.Core.Bool.{Bool, true, false, cond}
 use mathlib.Core.List.{List, [], _∷_, _++_, append-assoc, append-nil}
 use native.Mathlib.Omega.{arith}
 use lib.Dec.{eqb, leb}
 use lib.ListN.{length, take, drop, length-append}
 use lib.Seq.{take-at, drop-at, drop-append-add}
-use borrow.Author.Tests.{eqb-true}
-use Rattle.wire.specs.Answer.{Answer, got, refused, andThen}
-use Rattle.wire.specs.Number.{leBytes}
+use borrow.Author.Tests.{eqb-true, leb-true}
+use Rattle.wire.specs.Answer.{Answer, got, refused, andThen, ruled}
+use Rattle.wire.specs.Number.{le, leBytes}
 use Rattle.wire.proofs.Numbers.{length-leBytes}
 use Rattle.wire.proofs.Places.{movedBy}
-use Rattle.wire_writer.specs.Writing.{Writes}
+use Rattle.wire.proofs.Reading.{got-value, not-got, invert}
+use Rattle.wire_writer.specs.Fits.{Bytes}
+use Rattle.wire_writer.specs.Writing.{Writes, writing, refusing, unless}
 use Rattle.wire_writer.specs.declared.writing.Written.{Written}
 use Rattle.wire_writer.proofs.Answering.{reported}
 use Rattle.wire_writer.proofs.Refusals.{passed, held}
+use Rattle.wire_writer.proofs.Back.{ruled-back}
 use Rattle.probe.specs.declared.body.ListCount.{ListCount}
 use Rattle.probe.specs.declared.body.Probe.{Probe}
-use Rattle.probe.specs.Body.{probeBodyAt}
+use Rattle.probe.specs.Body.{probeTypeRule, informationAt, probeAt, probeBodyAt}
 use Rattle.probe.specs.Items.{countIn}
 use Rattle.probe.specs.Put.{FitsProbe, listCountBytes, probeBytes, idListRule, probeBodyRefusal, probeOutput, listIn}
-use Rattle.probe.proofs.Steadily.{body-tail}
-use Rattle.probe.proofs.Trip.{body-is}
+use Rattle.probe.proofs.Steadily.{body-tail, body-ended}
+use Rattle.probe.proofs.Trip.{body-is, body-back}
 use Rattle.network_header.specs.declared.envelope.Envelope.{Envelope}
+use Rattle.network_header.specs.declared.envelope.Places.{Places}
 use Rattle.network_header.specs.declared.header.PayloadHeader.{PayloadHeader}
 use Rattle.network_header.specs.Envelope.{FitsEnvelope}
 use Rattle.network_header.specs.Header.{probeOn}
-use Rattle.network_message.specs.ProbeMessage.{probeFrom}
+use Rattle.network_message.specs.Envelope.{networkMessageAt}
+use Rattle.network_message.specs.ProbeMessage.{ProbeMessage, probeFrom, probeMessageAt}
+use Rattle.records.specs.Sizes.{PROBE_SIZE}
+use Rattle.probe_record.specs.Probe.{probeIn, informationRefusal, probeFits, ProbeRecordBack}
+use Rattle.uadp_c.specs.Writing.{fitting}
+use Rattle.uadp_c.specs.Probes.{ProbeReads, probePut}
 use Rattle.network_message_writer.specs.Payload.{listBytes}
 use Rattle.network_message_writer.specs.Envelope.{GivenDatagram, envelopeBytes, datagramOf, datagramRefusal, datagramOutput}
 use Rattle.round_trip.specs.NetworkMessage.{placesOf, ReadsBack}
@@ -131,3 +140,47 @@ probe-datagram-reads-back list p entry-p exit-p n-p (f, w) g x sizes configured 
     let b = reported (datagramRefusal g x sizes configured) (datagramOf g x) entry exit n wx in
     let r = reads-back g x sizes configured entry exit n fx wx in
     (back list p g x sizes configured (take n exit) (a .number) (body-is p list f (a .number)) header (given ∙ a .front) (b .front) (r .0), r .1)
+
+-- ---- through C
+
+-- an accepted body starts within the slice
+body-inside : (s : List ℕ) (at : ℕ) (p : Probe) (n : ℕ) → probeBodyAt s at ≡ got p n → at ≤ length s
+unfolding probeAt
+body-inside s at p n h =
+    let T = invert (ruled 1 probeTypeRule s at) (λ v m. informationAt s m) (body-ended s at p n h .0) in
+    go (T .0) (T .1) (leb (at + 1) (length s)) refl (ruled-back 1 probeTypeRule s at (T .0) (T .1) (T .2) .0)
+  where
+    go : (v m : ℕ) (t : Bool) → leb (at + 1) (length s) ≡ t → cond t (got (le 1 s at) (at + 1)) (refused 1 at) ≡ got v m → at ≤ length s
+    go v m true e q = omega (arith, leb-true (at + 1) (length s) e)
+    go v m false e q = absurd (not-got q)
+
+-- the probe of an accepted datagram is its body
+body-of : (sizes d : List ℕ) (m : ProbeMessage) (n : ℕ) → probeMessageAt sizes d ≡ got m n → (k : ℕ) × (probeBodyAt d (m .places .payload) ≡ got (m .probe) k)
+body-of sizes d m n e =
+    let x = invert (networkMessageAt sizes d) (λ y next. probeFrom (y .envelope) (y .places) d) e in
+    go (x .0 .envelope) (x .0 .places) (probeOn (x .0 .envelope .«payload_header»)) (x .3)
+  where
+    go : (a : Envelope) (w : Places) (t : Bool)
+        → cond t (andThen (probeBodyAt d (w .payload)) (λ p next. got (record { envelope = a; places = w; probe = p }) (w .payload))) (refused 4 0) ≡ got m n
+        → (k : ℕ) × (probeBodyAt d (m .places .payload) ≡ got (m .probe) k)
+    go a w true q =
+        let b = invert (probeBodyAt d (w .payload)) (λ p next. got (record { envelope = a; places = w; probe = p }) (w .payload)) q in
+        subst (λ (z : ProbeMessage). (k : ℕ) × (probeBodyAt d (z .places .payload) ≡ got (z .probe) k)) (got-value (b .3)) (b .1, b .2)
+    go a w false q = absurd (not-got q)
+
+put-as : (t : ℕ) (b : Bool) (q p : Probe) (list : List ℕ) → t ≡ 0 → b ≡ true → q ≡ p → cond (eqb t 0) (fitting b (probeOutput list q)) (refusing t) ≡ probeOutput list p
+put-as t b q p list e f g = rw (e, f, g)
+
+all-written : (k : ℕ) (bytes : List ℕ) → k ≡ 0 → unless k bytes ≡ writing bytes
+all-written k bytes e = rw e
+
+pub lent-probe-again : (sizes d entry exit : List ℕ) (m : ProbeMessage) (n : ℕ) → Bytes d → probeMessageAt sizes d ≡ got m n → PROBE_SIZE ≤ length entry
+    → ProbeReads (probeMessageAt sizes d) entry exit → probePut exit (listIn d (m .places .payload) (m .probe)) ≡ writing (drop (m .places .payload) d)
+lent-probe-again sizes d entry exit m n b e long reads =
+    let at = m .places .payload in
+    let p = m .probe in
+    let a = body-of sizes d m n e in
+    let again = body-back d at p (a .0) b (body-inside d at p (a .0) (a .1)) (a .1) in
+    let r : ProbeRecordBack exit p at = subst (λ (y : Answer ProbeMessage). ProbeReads y entry exit) e reads long in
+    put-as (informationRefusal exit) (probeFits exit) (probeIn exit) p (listIn d at p) (r .type) (r .fitting) (r .probe)
+    ∙ all-written (probeBodyRefusal (listIn d at p) p) (probeBytes (listIn d at p) p) (again .0) ∙ ap writing (again .1)

@@ -13,7 +13,7 @@ use Rattle.wire.specs.Constants.{DISAGREE, MOST_DATAGRAM, NOT_PERMITTED, PICOSE
 use Rattle.wire.specs.Number.{le}
 use Rattle.wire.specs.Answer.{got, refused, bit}
 use Rattle.wire.specs.declared.optional.Optional16.{Optional16}
-use Rattle.wire_writer.specs.Writing.{Writes, refusing, unless, orElse, on16}
+use Rattle.wire_writer.specs.Writing.{Writes, writing, refusing, unless, orElse, on16}
 use Rattle.wire_writer.specs.Fits.{Bytes, Numbers}
 use Rattle.wire_writer.specs.declared.writing.Written.{Written}
 use Rattle.config.specs.Writers.{typesOf}
@@ -39,7 +39,10 @@ use Rattle.round_trip.specs.DataSetMessage.{MessageBack, PartsAgree, ReadingRef
 use Rattle.rewriting.specs.Same.{messageSame, datagramSame}
 use Rattle.reassembly.specs.Record.{Partial, Identity, roomOf, Good}
 use Rattle.reassembly_laws.specs.Cutting.{Arrival, AllArrive, Restored}
+use Rattle.records.specs.Sizes.{PROBE_SIZE}
+use Rattle.network_message.specs.ProbeMessage.{ProbeMessage, probeMessageAt}
 use Rattle.uadp_c.specs.Writing.{fitting}
+use Rattle.uadp_c.specs.Probes.{ProbeReads, probePut}
 use Rattle.walk.specs.Lines.{Writers, linesFrom, stepLines, nextLine, startCursor, listingOf, datagramLines}
 use Rattle.walk.specs.declared.lines.LineCursor.{LineCursor}
 use Rattle.walk_records.specs.Walk.{walkRecords, lineRecords, NoneRefused}
@@ -177,3 +180,7 @@ pub record Demand2 : Type 0 where
       ≡ unless
       (orElse (N.datagramReadingRefusal g x sizes) (orElse (cond fits 0 DISAGREE) (N.shapeRefusal g x sizes configured)))
       (N.datagramOf g x)
+  -- From the record that uadp_probe filled, and the ids or strings as they stand, uadp_put_probe writes the same body.
+  pub lent-probe-again : (sizes d entry exit : List ℕ) (m : ProbeMessage) (n : ℕ) → Bytes d → probeMessageAt sizes d ≡ got m n
+      → PROBE_SIZE ≤ length entry → ProbeReads (probeMessageAt sizes d) entry exit
+      → probePut exit (listIn d (m .places .payload) (m .probe)) ≡ writing (drop (m .places .payload) d)

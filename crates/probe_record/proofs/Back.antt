@@ -22,7 +22,7 @@ use Rattle.records.specs.Numbers.{numberAt, numberBytes}
 use Rattle.records.specs.Items.{fitsItem}
 use Rattle.records.proofs.Storing.{bytes-length}
 use Rattle.records.proofs.ReadBack.{AllFit, number-read, stored-at, at-most-same}
-use Rattle.probe_record.specs.Probe.{nullNumber, probeNull, listStart, listPlace, probeGroup, firstInclude, secondInclude, probeNumbers, listGiven, probeBy, probeIn, informationRefusal, probeFits, ProbeRecordBack}
+use Rattle.probe_record.specs.Probe.{nullNumber, probeNull, listStart, listPlace, probeGroup, includeGroups, includeWriters, probeNumbers, listGiven, probeBy, probeIn, informationRefusal, probeFits, ProbeRecordBack}
 
 -- ---- each number fits a record's
 information-bound : (p : Probe) → informationOf p < 256 ^ 8
@@ -56,17 +56,17 @@ group-bound (Probe.Writers l) f = omega arith
 group-bound (Probe.Group g b) f = f .0
 group-bound (Probe.Connections l g w) f = omega arith
 
-first-bound : (p : Probe) → FitsProbe p → firstInclude p < 256
-first-bound (Probe.MetaData l) f = omega arith
-first-bound (Probe.Writers l) f = omega arith
-first-bound (Probe.Group g b) f = f .1
-first-bound (Probe.Connections l g w) f = f .0
+groups-bound : (p : Probe) → FitsProbe p → includeGroups p < 256
+groups-bound (Probe.MetaData l) f = omega arith
+groups-bound (Probe.Writers l) f = omega arith
+groups-bound (Probe.Group g b) f = omega arith
+groups-bound (Probe.Connections l g w) f = f .0
 
-second-bound : (p : Probe) → FitsProbe p → secondInclude p < 256
-second-bound (Probe.MetaData l) f = omega arith
-second-bound (Probe.Writers l) f = omega arith
-second-bound (Probe.Group g b) f = omega arith
-second-bound (Probe.Connections l g w) f = f .1
+writers-bound : (p : Probe) → FitsProbe p → includeWriters p < 256
+writers-bound (Probe.MetaData l) f = omega arith
+writers-bound (Probe.Writers l) f = omega arith
+writers-bound (Probe.Group g b) f = f .1
+writers-bound (Probe.Connections l g w) f = f .1
 
 -- ---- each part, from its numbers
 list-back : (l : ListCount) → listGiven (nullNumber l) (countIn l) ≡ l
@@ -74,7 +74,7 @@ list-back ListCount.Null = refl
 list-back (ListCount.Of n) = refl
 
 probe-back : (p : Probe) → FitsProbe p
-    → probeBy (informationOf p) (listGiven (probeNull p) (itemCount p)) (atMost 65535 (probeGroup p)) (atMost 255 (firstInclude p)) (atMost 255 (secondInclude p)) ≡ p
+    → probeBy (informationOf p) (listGiven (probeNull p) (itemCount p)) (atMost 65535 (probeGroup p)) (atMost 255 (includeGroups p)) (atMost 255 (includeWriters p)) ≡ p
 probe-back (Probe.MetaData l) f = ap Probe.MetaData (list-back l)
 probe-back (Probe.Writers l) f = ap Probe.Writers (list-back l)
 probe-back (Probe.Group g b) f = rw (at-most-same 65535 g (omega (arith, f .0)), at-most-same 255 b (omega (arith, f .1)))
@@ -87,9 +87,9 @@ type-back (Probe.Group g b) = refl
 type-back (Probe.Connections l g w) = refl
 
 abbrev allFit : ℕ → ℕ → ℕ → ℕ → Bool
-allFit t g a b = fitsItem (eqb t 4) 65535 g && (fitsItem (leb 4 t) 255 a && fitsItem (eqb t 5) 255 b)
+allFit t g a b = fitsItem (eqb t 4) 65535 g && (fitsItem (eqb t 5) 255 a && fitsItem (leb 4 t) 255 b)
 
-fits-back : (p : Probe) → FitsProbe p → allFit (informationOf p) (probeGroup p) (firstInclude p) (secondInclude p) ≡ true
+fits-back : (p : Probe) → FitsProbe p → allFit (informationOf p) (probeGroup p) (includeGroups p) (includeWriters p) ≡ true
 fits-back (Probe.MetaData l) f = refl
 fits-back (Probe.Writers l) f = refl
 fits-back (Probe.Group g b) f = rw (le-leb g 65535 (omega (arith, f .0)), le-leb b 255 (omega (arith, f .1)))
@@ -121,9 +121,9 @@ module _ (p : Probe) (start : ℕ) (r : List ℕ) (f : FitsProbe p) (c : itemCou
           (
             omega (arith, group-bound p f),
             (
-              omega (arith, first-bound p f),
+              omega (arith, groups-bound p f),
               (
-                omega (arith, second-bound p f),
+                omega (arith, writers-bound p f),
                 (
                   omega arith,
                   (
@@ -152,10 +152,10 @@ module _ (p : Probe) (start : ℕ) (r : List ℕ) (f : FitsProbe p) (c : itemCou
       let n6 = read 6 (omega arith) in
       let n7 = read 7 (omega arith) in
       let n8 = read 8 (omega arith) in
-      let whole : probeIn s ≡ probeBy (informationOf p) (listGiven (probeNull p) (itemCount p)) (atMost 65535 (probeGroup p)) (atMost 255 (firstInclude p)) (atMost 255 (secondInclude p)) =
+      let whole : probeIn s ≡ probeBy (informationOf p) (listGiven (probeNull p) (itemCount p)) (atMost 65535 (probeGroup p)) (atMost 255 (includeGroups p)) (atMost 255 (includeWriters p)) =
       λ i. probeBy (n0 i) (listGiven (n1 i) (n2 i)) (atMost 65535 (n4 i)) (atMost 255 (n5 i)) (atMost 255 (n6 i)) in
       let type : informationRefusal s ≡ informationRule (atMost 255 (informationOf p)) = λ i. informationRule (atMost 255 (n0 i)) in
-      let fitting : probeFits s ≡ allFit (informationOf p) (probeGroup p) (firstInclude p) (secondInclude p) = λ i. allFit (n0 i) (n4 i) (n5 i) (n6 i) in
+      let fitting : probeFits s ≡ allFit (informationOf p) (probeGroup p) (includeGroups p) (includeWriters p) = λ i. allFit (n0 i) (n4 i) (n5 i) (n6 i) in
       record {
         probe = whole ∙ probe-back p f;
         type = type ∙ type-back p;

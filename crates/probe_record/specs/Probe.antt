@@ -40,30 +40,30 @@ listStart (Probe.Connections l g w) start = start + 6
 abbrev pub listPlace : Probe → ℕ → ℕ
 listPlace p start = cond (ltb MOST_DATAGRAM start) 0 (listStart p start)
 
--- "WriterGroupId"; "IncludeDataSetWriters of a WriterGroup, IncludeWriterGroups of connections"; "IncludeDataSetWriters of connections"
+-- "WriterGroupId"; "IncludeWriterGroups of connections"; "IncludeDataSetWriters of a WriterGroup and of connections"
 abbrev pub probeGroup : Probe → ℕ
 probeGroup (Probe.MetaData l) = 0
 probeGroup (Probe.Writers l) = 0
 probeGroup (Probe.Group g b) = g
 probeGroup (Probe.Connections l g w) = 0
 
-abbrev pub firstInclude : Probe → ℕ
-firstInclude (Probe.MetaData l) = 0
-firstInclude (Probe.Writers l) = 0
-firstInclude (Probe.Group g b) = b
-firstInclude (Probe.Connections l g w) = g
+abbrev pub includeGroups : Probe → ℕ
+includeGroups (Probe.MetaData l) = 0
+includeGroups (Probe.Writers l) = 0
+includeGroups (Probe.Group g b) = 0
+includeGroups (Probe.Connections l g w) = g
 
-abbrev pub secondInclude : Probe → ℕ
-secondInclude (Probe.MetaData l) = 0
-secondInclude (Probe.Writers l) = 0
-secondInclude (Probe.Group g b) = 0
-secondInclude (Probe.Connections l g w) = w
+abbrev pub includeWriters : Probe → ℕ
+includeWriters (Probe.MetaData l) = 0
+includeWriters (Probe.Writers l) = 0
+includeWriters (Probe.Group g b) = b
+includeWriters (Probe.Connections l g w) = w
 
 -- the 16 numbers of a probe that starts at a position: InformationType, null, count, where the list stands, WriterGroupId, two Booleans;
 -- the cursor stands before the first item; the last seven are spare and hold 0
 abbrev pub probeNumbers : Probe → ℕ → List ℕ
 probeNumbers p start =
-    informationOf p ∷ probeNull p ∷ itemCount p ∷ listPlace p start ∷ probeGroup p ∷ firstInclude p ∷ secondInclude p
+    informationOf p ∷ probeNull p ∷ itemCount p ∷ listPlace p start ∷ probeGroup p ∷ includeGroups p ∷ includeWriters p
     ∷ 0 ∷ listPlace p start
     ∷ 0 ∷ 0 ∷ 0 ∷ 0 ∷ 0 ∷ 0 ∷ 0 ∷ []
 
@@ -75,7 +75,7 @@ listGiven null count = cond (isOn null) ListCount.Null (ListCount.Of count)
 -- "another type lists nothing"
 abbrev pub probeBy : ℕ → ListCount → ℕ → ℕ → ℕ → Probe
 probeBy t l g a b =
-    cond (eqb t 2) (Probe.MetaData l) (cond (eqb t 3) (Probe.Writers l) (cond (eqb t 5) (Probe.Connections l a b) (Probe.Group g a)))
+    cond (eqb t 2) (Probe.MetaData l) (cond (eqb t 3) (Probe.Writers l) (cond (eqb t 5) (Probe.Connections l a b) (Probe.Group g b)))
 
 -- "the numbers 0, 1, 2, 4, 5 and 6 are read"; "a number that does not fit its item counts as the largest that does"
 abbrev pub probeIn : List ℕ → Probe
@@ -91,7 +91,7 @@ informationRefusal s = informationRule (atMost 255 (numberAt s 0))
 abbrev pub probeFits : List ℕ → Bool
 probeFits s =
     fitsItem (eqb (numberAt s 0) 4) 65535 (numberAt s 4)
-    && (fitsItem (leb 4 (numberAt s 0)) 255 (numberAt s 5) && fitsItem (eqb (numberAt s 0) 5) 255 (numberAt s 6))
+    && (fitsItem (eqb (numberAt s 0) 5) 255 (numberAt s 5) && fitsItem (leb 4 (numberAt s 0)) 255 (numberAt s 6))
 
 -- the item cursor, the numbers 7 and 8; and the record with its cursor moved
 abbrev pub itemCursorIn : List ℕ → ProbeCursor

@@ -16,7 +16,7 @@ use wire_writer::store::put64;
 ghost use mathlib.Core.Path.{_≡_};
 ghost use Rattle.wire_writer.specs.Store.{laid};
 ghost use Rattle.records.specs.Numbers.{numberBytes};
-ghost use Rattle.probe_record.specs.Probe.{nullNumber, probeNull, listPlace, probeGroup, firstInclude, secondInclude, probeNumbers, listGiven, probeBy, probeIn, informationRefusal, probeFits, itemCursorIn, itemCursorLaid, valueNumber, itemNumbers, ProbeRecordBack};
+ghost use Rattle.probe_record.specs.Probe.{nullNumber, probeNull, listPlace, probeGroup, includeGroups, includeWriters, probeNumbers, listGiven, probeBy, probeIn, informationRefusal, probeFits, itemCursorIn, itemCursorLaid, valueNumber, itemNumbers, ProbeRecordBack};
 ghost use Rattle.records.specs.Sizes.{PROBE_SIZE};
 ghost use lib.ListN.{length};
 ghost use Prim.Native.Nat.{_≤_};
@@ -72,24 +72,24 @@ fn group_number(p: Probe) -> u64
     }
 }
 
-fn first_include(p: Probe) -> u64
-    ensures { λ r. ⌜ r ≡ firstInclude p ⌝ }
-{
-    match p {
-        Probe::MetaData(_) => 0,
-        Probe::Writers(_) => 0,
-        Probe::Group(_, include) => include as u64,
-        Probe::Connections(_, groups, _) => groups as u64,
-    }
-}
-
-fn second_include(p: Probe) -> u64
-    ensures { λ r. ⌜ r ≡ secondInclude p ⌝ }
+fn include_groups(p: Probe) -> u64
+    ensures { λ r. ⌜ r ≡ includeGroups p ⌝ }
 {
     match p {
         Probe::MetaData(_) => 0,
         Probe::Writers(_) => 0,
         Probe::Group(_, _) => 0,
+        Probe::Connections(_, groups, _) => groups as u64,
+    }
+}
+
+fn include_writers(p: Probe) -> u64
+    ensures { λ r. ⌜ r ≡ includeWriters p ⌝ }
+{
+    match p {
+        Probe::MetaData(_) => 0,
+        Probe::Writers(_) => 0,
+        Probe::Group(_, include) => include as u64,
         Probe::Connections(_, _, include) => include as u64,
     }
 }
@@ -108,8 +108,8 @@ pub fn put_probe(out: &mut [u8], p: Probe, start: usize)
         item_count(p) as u64,
         first,
         group_number(p),
-        first_include(p),
-        second_include(p),
+        include_groups(p),
+        include_writers(p),
         0,
         first,
         0,
@@ -133,8 +133,8 @@ fn list_given(null: u64, count: u64) -> ListCount
 }
 
 // The probe of an InformationType; another type lists nothing, as a WriterGroup's.
-fn probe_by(t: u64, list: ListCount, id: u16, first: u8, second: u8) -> Probe
-    ensures { λ r. ⌜ r ≡ probeBy t list id first second ⌝ }
+fn probe_by(t: u64, list: ListCount, id: u16, groups: u8, include: u8) -> Probe
+    ensures { λ r. ⌜ r ≡ probeBy t list id groups include ⌝ }
 {
     if t == 2 {
         return Probe::MetaData(list);
@@ -143,9 +143,9 @@ fn probe_by(t: u64, list: ListCount, id: u16, first: u8, second: u8) -> Probe
         return Probe::Writers(list);
     }
     if t == 5 {
-        return Probe::Connections(list, first, second);
+        return Probe::Connections(list, groups, include);
     }
-    Probe::Group(id, first)
+    Probe::Group(id, include)
 }
 
 // The probe of a probe record; a number that does not fit its item counts as the largest that does.
@@ -175,7 +175,7 @@ pub fn probe_fits(s: &[u8]) -> bool
 {
     let t = number(s, 0);
     fits_item(t == 4, 65535, number(s, 4))
-        & (fits_item(4 <= t, 255, number(s, 5)) & fits_item(t == 5, 255, number(s, 6)))
+        & (fits_item(t == 5, 255, number(s, 5)) & fits_item(4 <= t, 255, number(s, 6)))
 }
 
 // The item cursor of a probe record.

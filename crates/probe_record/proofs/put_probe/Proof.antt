@@ -10,11 +10,11 @@ use Rattle.probe_record.proofs.put_probe.Reads as reads
 use Rattle.probe_record.proofs.put_probe.Lts as lts
 use Rattle.probe.proofs.items.item_count.Reads as item-count-reads
 use Rattle.probe.proofs.put.information_of.Reads as information-of-reads
-use Rattle.probe_record.proofs.first_include.Reads as first-include-reads
+use Rattle.probe_record.proofs.include_groups.Reads as include-groups-reads
 use Rattle.probe_record.proofs.group_number.Reads as group-number-reads
 use Rattle.probe_record.proofs.list_place.Reads as list-place-reads
 use Rattle.probe_record.proofs.probe_null.Reads as probe-null-reads
-use Rattle.probe_record.proofs.second_include.Reads as second-include-reads
+use Rattle.probe_record.proofs.include_writers.Reads as include-writers-reads
 use Rattle.records.proofs.numbers.put_numbers.Reads as put-numbers-reads
 
 -- src/lib.rt:104:17
@@ -42,12 +42,12 @@ group-number-requires : tie.Need-group-number-requires
 group-number-requires c κs = search needs
 
 -- src/lib.rt:111:9
-first-include-requires : tie.Need-first-include-requires
-first-include-requires c κs = search needs
+include-groups-requires : tie.Need-include-groups-requires
+include-groups-requires c κs = search needs
 
 -- src/lib.rt:112:9
-second-include-requires : tie.Need-second-include-requires
-second-include-requires c κs = search needs
+include-writers-requires : tie.Need-include-writers-requires
+include-writers-requires c κs = search needs
 
 -- src/lib.rt:123:22
 slice-aggregate-put-numbers : tie.Need-slice-aggregate-put-numbers
@@ -65,9 +65,9 @@ same-length c = search needs
 returns : tie.Need-returns
 returns c =
     let at-put-numbers = c .before .before in
-    let at-second-include = at-put-numbers .before .before .before in
-    let at-first-include = at-second-include .before in
-    let at-group-number = at-first-include .before in
+    let at-include-writers = at-put-numbers .before .before .before in
+    let at-include-groups = at-include-writers .before in
+    let at-group-number = at-include-groups .before in
     let at-item-count = at-group-number .before in
     let at-probe-null = at-item-count .before in
     let at-information-of = at-probe-null .before in
@@ -80,8 +80,8 @@ returns c =
       sym (at-item-count .item-count .ensures),
       sym (at-list-place .list-place .ensures),
       sym (at-group-number .group-number .ensures),
-      sym (at-first-include .first-include .ensures),
-      sym (at-second-include .second-include .ensures),
+      sym (at-include-groups .include-groups .ensures),
+      sym (at-include-writers .include-writers .ensures),
     )
     (at-put-numbers .put-numbers .ensures))
 
@@ -95,8 +95,8 @@ put-probe-spec =
     probe-null-requires
     item-count-requires
     group-number-requires
-    first-include-requires
-    second-include-requires
+    include-groups-requires
+    include-writers-requires
     slice-aggregate-put-numbers
     put-numbers-requires
     same-length
