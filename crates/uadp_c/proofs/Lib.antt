@@ -6,7 +6,6 @@ pub mod Walking
 pub mod Held
 pub mod Wrote
 pub mod Probing
-pub mod Probing
 pub mod Emptied
 pub mod KeptRecord
 pub mod Demand3

@@ -17,6 +17,7 @@ use Rattle.wire.specs.Answer.{Answer, got, refused}
 use Rattle.wire.specs.declared.optional.Optional16.{Optional16}
 use Rattle.wire.proofs.Reading.{got-value, not-got, invert}
 use Rattle.wire_writer.specs.Store.{laid}
+use Rattle.probe.specs.Body.{probeBodyAt}
 use Rattle.network_header.specs.Flags.{flagsAt}
 use Rattle.network_header.specs.Numbers.{configuredSizes}
 use Rattle.network_header.specs.declared.flags.Flags.{Flags}
@@ -65,7 +66,7 @@ payload-messages chunk (PayloadHeader.Ids c) sizes s at p n e =
 payload-messages chunk (PayloadHeader.Chunk w) sizes s at p n e = none (sym (ap (λ (x : Payload). x .count) (got-value e)))
 payload-messages true PayloadHeader.Probe sizes s at p n e = absurd (not-got e)
 payload-messages false PayloadHeader.Probe sizes s at p n e =
-    let b = invert _ (λ q next. got (messagesFrom 0 Sizes.Rest at) at) e in
+    let b = invert (probeBodyAt s at) (λ q next. got (messagesFrom 0 Sizes.Rest at) at) e in
     none (sym (ap (λ (x : Payload). x .count) (got-value (b .3))))
 
 -- it has at most 65,535 bytes

@@ -12,6 +12,7 @@ use lib.ListN.{length, length-take}
 use Rattle.wire.specs.Lists.{total}
 use Rattle.wire.specs.Answer.{got, refused}
 use Rattle.wire.proofs.Reading.{got-value, not-got, invert}
+use Rattle.probe.specs.Body.{probeBodyAt}
 use Rattle.network_header.specs.Flags.{flagsAt}
 use Rattle.network_message.specs.Payload.{allPositive, listed, messagesFrom, restOnlyAt, listedAt, sizedAt, configuredAt, payloadAt}
 use Rattle.network_header.specs.Numbers.{configuredSizes}
@@ -77,7 +78,7 @@ module _ (s : List ℕ) (at : ℕ) (p : Payload) (n : ℕ) where
   payload-count chunk (PayloadHeader.Chunk w) sizes e = let z : 0 ≡ p .count = ap (λ (x : Payload). x .count) (got-value e) in omega arith
   payload-count true PayloadHeader.Probe sizes e = absurd (not-got e)
   payload-count false PayloadHeader.Probe sizes e =
-      let b = invert _ (λ q next. got (messagesFrom 0 Sizes.Rest at) at) e in
+      let b = invert (probeBodyAt s at) (λ q next. got (messagesFrom 0 Sizes.Rest at) at) e in
       let z : 0 ≡ p .count = ap (λ (x : Payload). x .count) (got-value (b .3)) in
       omega arith
 
