@@ -1,27 +1,17 @@
+-- `uadp_c::probes::step` meets its contract.
+-- Assumes nothing.
+use denote.Ref.{now}
+use Rattle.uadp_c.proofs.Probing.{item-stepped}
 use borrow.Author.Needs.{needs}
 use Rattle.uadp_c.proofs.probes.step.Statement.{statement}
 use Rattle.uadp_c.proofs.probes.step.Tie as tie
-use Rattle.uadp_c.proofs.probes.step.Reads as reads
-use Rattle.uadp_c.proofs.probes.step.Lts as lts
-use Rattle.probe.proofs.items.ProbeCursor.step.Reads as step-reads
-use Rattle.probe_record.proofs.cursor_in.Reads as cursor-in-reads
-use Rattle.probe_record.proofs.probe_in.Reads as probe-in-reads
 
--- src/probes.rt:56:9
-probe-in-requires : tie.Need-probe-in-requires
-probe-in-requires c κs = search needs
-
--- src/probes.rt:57:9
-cursor-in-requires : tie.Need-cursor-in-requires
-cursor-in-requires c κs = search needs
-
--- src/probes.rt:58:5
-step-requires : tie.Need-step-requires
-step-requires c κs = search needs
-
--- src/probes.rt:53:1
 returns : tie.Need-returns
-returns c = ?
+returns c =
+    let at-cursor-in = c .before in
+    let at-probe-in = at-cursor-in .before in
+    let args = at-probe-in .before .before .before .args in
+    item-stepped (now (args .probe)) (now (args .datagram)) _ _ _ (at-probe-in .probe-in .ensures) (at-cursor-in .cursor-in .ensures) (c .step .ensures)
 
 pub step-spec : {M : Type 1} → statement M
-step-spec = tie.close (tie.spec probe-in-requires cursor-in-requires step-requires returns)
+step-spec = tie.close (tie.spec (λ c κs. search needs) (λ c κs. search needs) (λ c κs. search needs) returns)

@@ -1,91 +1,71 @@
+-- `uadp_c::probes::uadp_probe` meets its contract.
+-- Assumes nothing.
+use denote.Ref.{now}
+use native.Mathlib.Omega.{arith}
+use Rattle.wire.proofs.Reading.{told}
+use Rattle.network_message.specs.ProbeMessage.{answerProbeMessage}
+use Rattle.uadp_c.proofs.Probing.{probe-read, probed-refused, probed-short, probed-done}
 use borrow.Author.Needs.{needs}
 use Rattle.uadp_c.proofs.probes.uadp_probe.Statement.{statement}
 use Rattle.uadp_c.proofs.probes.uadp_probe.Tie as tie
-use Rattle.uadp_c.proofs.probes.uadp_probe.Reads as reads
-use Rattle.uadp_c.proofs.probes.uadp_probe.Lts as lts
-use Rattle.config.proofs.first.Reads as first-reads
-use Rattle.network_message.proofs.probe_message.read_probe.Reads as read-probe-reads
-use Rattle.probe_record.proofs.put_probe.Reads as put-probe-reads
-use Rattle.records.proofs.result.result.Reads as result-reads
-use Rattle.records.proofs.writers.sizes.Reads as sizes-reads
-use Rattle.records.proofs.writers.writer_count.Reads as writer-count-reads
 
--- src/probes.rt:39:9
-writer-count-requires : tie.Need-writer-count-requires
-writer-count-requires c κs = search needs
-
--- src/probes.rt:40:16
-sizes-requires : tie.Need-sizes-requires
-sizes-requires c κs = search needs
-
--- src/probes.rt:41:38
-slice-aggregate-first : tie.Need-slice-aggregate-first
-slice-aggregate-first c = search needs
-
--- src/probes.rt:41:32
-first-requires : tie.Need-first-requires
-first-requires c κs = search needs
-
--- src/probes.rt:41:11
-read-probe-requires : tie.Need-read-probe-requires
-read-probe-requires c κs = search needs
-
--- src/probes.rt:42:35
-enum-known-number : tie.Need-enum-known-number
-enum-known-number c = search needs
-
--- src/probes.rt:42:53
-result-requires : tie.Need-result-requires
-result-requires c κs = search needs
-
--- src/probes.rt:43:33
-enum-known-places : tie.Need-enum-known-places
-enum-known-places c = search needs
-
--- src/probes.rt:45:17
-result-requires-2 : tie.Need-result-requires-2
-result-requires-2 c κs = search needs
-
--- src/probes.rt:45:17
 returns : tie.Need-returns
-returns c = ?
+returns c =
+    let at-places = c .before .before .before in
+    let at-read-probe = at-places .before .before in
+    let at-first = at-read-probe .before in
+    let at-sizes = at-first .before .before in
+    let at-writer-count = at-sizes .before in
+    let args = at-writer-count .before .before .before .before .args in
+    let same =
+    probe-read (now (args .config)) (now (args .datagram)) _ _ _ _ (at-writer-count .writer-count .ensures .0) (at-sizes .sizes .ensures) (at-first .first .ensures)
+    (told answerProbeMessage (at-read-probe .read-probe .ensures) (at-places .places .given .1)) in
+    probed-short (at-places .places .given .0 .0) (at-places .places .given .0 .1 .0) (at-places .places .given .0 .1 .1 .0) _ (now (args .probe)) _ _ same (omega arith) (c .result2 .ensures)
 
--- src/probes.rt:47:13
-put-probe-requires : tie.Need-put-probe-requires
-put-probe-requires c κs = search needs
-
--- src/probes.rt:48:13
-result-requires-3 : tie.Need-result-requires-3
-result-requires-3 c κs = search needs
-
--- src/probes.rt:31:1
 returns-2 : tie.Need-returns-2
-returns-2 c = ?
+returns-2 c =
+    let at-number = c .before .before in
+    let at-read-probe = at-number .before .before in
+    let at-first = at-read-probe .before in
+    let at-sizes = at-first .before .before in
+    let at-writer-count = at-sizes .before in
+    let args = at-writer-count .before .before .before .before .args in
+    let same =
+    probe-read (now (args .config)) (now (args .datagram)) _ _ _ _ (at-writer-count .writer-count .ensures .0) (at-sizes .sizes .ensures) (at-first .first .ensures)
+    (told answerProbeMessage (at-read-probe .read-probe .ensures) (at-number .number .given .1)) in
+    probed-refused _ (now (args .probe)) _ _ _ same (c .result .ensures)
 
--- src/probes.rt:31:1
-same-length : tie.Need-same-length
-same-length c = search needs
-
--- src/probes.rt:31:1
 returns-3 : tie.Need-returns-3
-returns-3 c = ?
+returns-3 c =
+    let at-put-probe = c .before .before .before in
+    let at-places = at-put-probe .before .before .before .before in
+    let at-read-probe = at-places .before .before in
+    let at-first = at-read-probe .before in
+    let at-sizes = at-first .before .before in
+    let at-writer-count = at-sizes .before in
+    let args = at-writer-count .before .before .before .before .args in
+    let same =
+    probe-read (now (args .config)) (now (args .datagram)) _ _ _ _ (at-writer-count .writer-count .ensures .0) (at-sizes .sizes .ensures) (at-first .first .ensures)
+    (told answerProbeMessage (at-read-probe .read-probe .ensures) (at-places .places .given .1)) in
+    probed-done (at-places .places .given .0 .0) (at-places .places .given .0 .1 .0) (at-places .places .given .0 .1 .1 .0) _ (now (args .probe)) _ _ _ same (omega arith) (c .result3 .ensures)
+    (at-put-probe .put-probe .ensures .0) (at-put-probe .put-probe .ensures .1)
 
 pub uadp-probe-spec : {M : Type 1} → statement M
 uadp-probe-spec =
     tie.close
     (tie.spec
-    writer-count-requires
-    sizes-requires
-    slice-aggregate-first
-    first-requires
-    read-probe-requires
-    enum-known-number
-    result-requires
-    enum-known-places
-    result-requires-2
+    (λ c κs. search needs)
+    (λ c κs. search needs)
+    (λ c. search needs)
+    (λ c κs. search needs)
+    (λ c κs. search needs)
+    (λ c. search needs)
+    (λ c κs. search needs)
+    (λ c. search needs)
+    (λ c κs. search needs)
     returns
-    put-probe-requires
-    result-requires-3
+    (λ c κs. search needs)
+    (λ c κs. search needs)
     returns-2
-    same-length
+    (λ c. search needs)
     returns-3)

@@ -1,78 +1,61 @@
+-- `uadp_c::probes::uadp_put_probe` meets its contract.
+-- Assumes nothing.
+use denote.Ref.{now}
+use borrow.Author.Tests.{not-true, not-false}
+use mathlib.Core.Path.{sym, ap, _∙_}
+use Rattle.probe.specs.Put.{probeOutput}
+use Rattle.uadp_c.proofs.Wrote.{wrote-fitting, refused-not-fitting}
+use Rattle.uadp_c.proofs.Probing.{type-refused, type-taken}
 use borrow.Author.Needs.{needs}
 use Rattle.uadp_c.proofs.probes.uadp_put_probe.Statement.{statement}
 use Rattle.uadp_c.proofs.probes.uadp_put_probe.Tie as tie
-use Rattle.uadp_c.proofs.probes.uadp_put_probe.Reads as reads
-use Rattle.uadp_c.proofs.probes.uadp_put_probe.Lts as lts
-use Rattle.probe.proofs.put.refusal.Reads as refusal-reads
-use Rattle.probe.proofs.put.write.Reads as write-reads
-use Rattle.probe_record.proofs.probe_fits.Reads as probe-fits-reads
-use Rattle.probe_record.proofs.probe_in.Reads as probe-in-reads
-use Rattle.probe_record.proofs.type_rule.Reads as type-rule-reads
-use Rattle.records.proofs.result.result.Reads as result-reads
-use Rattle.uadp_c.proofs.rewrites.not_fitting.Reads as not-fitting-reads
-use Rattle.uadp_c.proofs.rewrites.written_result.Reads as written-result-reads
 
--- src/probes.rt:94:9
-type-rule-requires : tie.Need-type-rule-requires
-type-rule-requires c κs = search needs
-
--- src/probes.rt:96:9
-result-requires : tie.Need-result-requires
-result-requires c κs = search needs
-
--- src/probes.rt:96:9
 returns : tie.Need-returns
-returns c = ?
+returns c =
+    let at-if1 = c .before in
+    let at-type-rule = at-if1 .before in
+    let args = at-type-rule .before .before .before .before .args in
+    type-refused (now (args .probe)) (now (args .list)) (now (args .out)) _ _ (at-type-rule .type-rule .ensures) (at-if1 .if1 .taken) (c .result .ensures)
 
--- src/probes.rt:98:9
-probe-in-requires : tie.Need-probe-in-requires
-probe-in-requires c κs = search needs
-
--- src/probes.rt:99:9
-probe-fits-requires : tie.Need-probe-fits-requires
-probe-fits-requires c κs = search needs
-
--- src/probes.rt:100:28
-refusal-requires : tie.Need-refusal-requires
-refusal-requires c κs = search needs
-
--- src/probes.rt:100:9
-not-fitting-requires : tie.Need-not-fitting-requires
-not-fitting-requires c κs = search needs
-
--- src/probes.rt:100:9
 returns-2 : tie.Need-returns-2
-returns-2 c = ?
+returns-2 c =
+    let at-refusal = c .before in
+    let at-if2 = at-refusal .before in
+    let at-probe-fits = at-if2 .before in
+    let at-probe-in = at-probe-fits .before in
+    let at-if1 = at-probe-in .before in
+    let at-type-rule = at-if1 .before in
+    let args = at-type-rule .before .before .before .before .args in
+    type-taken (now (args .probe)) (now (args .list)) (now (args .out)) _ _ _ (at-type-rule .type-rule .ensures) (at-if1 .if1 .left)
+    (refused-not-fitting (now (args .out)) (at-refusal .refusal .result) _ _ _ _ _ (sym (at-probe-fits .probe-fits .ensures) ∙ not-true (at-probe-fits .probe-fits .result) (at-if2 .if2 .taken))
+    (at-refusal .refusal .ensures) (ap (probeOutput (now (args .list))) (at-probe-in .probe-in .ensures)) (c .not-fitting .ensures))
 
--- src/probes.rt:102:20
-write-requires : tie.Need-write-requires
-write-requires c κs = search needs
-
--- src/probes.rt:102:5
-written-result-requires : tie.Need-written-result-requires
-written-result-requires c κs = search needs
-
--- src/probes.rt:88:1
-same-length : tie.Need-same-length
-same-length c = search needs
-
--- src/probes.rt:88:1
 returns-3 : tie.Need-returns-3
-returns-3 c = ?
+returns-3 c =
+    let at-write = c .before .before .before in
+    let at-if2 = at-write .before .before in
+    let at-probe-fits = at-if2 .before in
+    let at-probe-in = at-probe-fits .before in
+    let at-if1 = at-probe-in .before in
+    let at-type-rule = at-if1 .before in
+    let args = at-type-rule .before .before .before .before .args in
+    type-taken (now (args .probe)) (now (args .list)) (now (args .out)) _ _ _ (at-type-rule .type-rule .ensures) (at-if1 .if1 .left)
+    (wrote-fitting (now (args .out)) _ _ _ (at-write .write .result) _ _ (sym (at-probe-fits .probe-fits .ensures) ∙ not-false (at-probe-fits .probe-fits .result) (at-if2 .if2 .left))
+    (ap (probeOutput (now (args .list))) (at-probe-in .probe-in .ensures)) (at-write .write .ensures .1) (c .written-result .ensures))
 
 pub uadp-put-probe-spec : {M : Type 1} → statement M
 uadp-put-probe-spec =
     tie.close
     (tie.spec
-    type-rule-requires
-    result-requires
+    (λ c κs. search needs)
+    (λ c κs. search needs)
     returns
-    probe-in-requires
-    probe-fits-requires
-    refusal-requires
-    not-fitting-requires
+    (λ c κs. search needs)
+    (λ c κs. search needs)
+    (λ c κs. search needs)
+    (λ c κs. search needs)
     returns-2
-    write-requires
-    written-result-requires
-    same-length
+    (λ c κs. search needs)
+    (λ c κs. search needs)
+    (λ c. search needs)
     returns-3)
