@@ -8,6 +8,9 @@ Inv-loop s p first cursor₀ left₀ cursor left = Unit {0}
 abbrev μ-loop : tie.MeasureT-loop
 μ-loop s p first cursor₀ left₀ cursor left = left
 
+item-count-requires : tie.Need-item-count-requires Inv-loop μ-loop
+item-count-requires c κs = search needs
+
 loop-holds : tie.Need-loop-holds Inv-loop μ-loop
 loop-holds c = search needs
 
@@ -44,6 +47,7 @@ items-spec =
     (tie.spec
     Inv-loop
     μ-loop
+    item-count-requires
     loop-holds
     step-requires
     enum-known-n
