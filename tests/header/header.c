@@ -421,6 +421,56 @@ static void chunks_by_name(void)
     CHECK(refused(uadp_chunks(16385, 4), UADP_OVER_LIMIT, 0));
 }
 
+/* Document 02's probes: a list of writers, connections with one profile and a null string, a WriterGroup. */
+static void probes_by_name(void)
+{
+    static const uint8_t writers[] = {0x91, 0x81, 4, 0x67, 0x12, 1, 3, 2, 0, 0, 0, 21, 0, 0x2C, 1};
+    static const uint8_t profiles[] = {0x91, 0x81, 4, 0x67, 0x12, 1,    5,    2,    0,    0,    0, 4,
+                                       0,    0,    0, 'u',  'd',  'p', ':', 0xFF, 0xFF, 0xFF, 0xFF, 2, 3};
+    static const uint8_t group[] = {0x81, 0x80, 4, 1, 4, 7, 0, 9};
+    uadp_envelope_record e = UADP_ZERO;
+    uadp_probe_record p = UADP_ZERO;
+    uadp_probe_item item = UADP_ZERO;
+    uadp_datagram_parts d = UADP_ZERO;
+    uint8_t list[64], body[64], out[64];
+    size_t n;
+
+    CHECK(done(uadp_read(writers, sizeof writers, NULL, &e), 0) && e.payload_header == UADP_HEADER_PROBE);
+    CHECK(done(uadp_probe(writers, sizeof writers, NULL, &p), 5) && p.information_type == UADP_ASKS_WRITERS);
+    CHECK(p.is_null == 0 && p.count == 2 && p.list_at == 11 && p.next == 0 && p.next_at == 11);
+    CHECK(done(uadp_next_probe_item(writers, sizeof writers, &p, &item), 0) && item.value == 21 && item.number == 0);
+    CHECK(done(uadp_next_probe_item(writers, sizeof writers, &p, &item), 1) && item.value == 300);
+    CHECK(item.offset == 13 && item.length == 2 && p.next == 2 && p.next_at == 15);
+    CHECK(refused(uadp_next_probe_item(writers, sizeof writers, &p, &item), UADP_END, 0) && item.value == 300);
+    CHECK(done(uadp_put_probe(&p, writers + 11, 4, body, sizeof body), 10) && memcmp(body, writers + 5, 10) == 0);
+    d.envelope.publisher_type = UADP_ID_UINT16;
+    d.envelope.publisher = 4711;
+    d.envelope.payload_header = UADP_HEADER_PROBE;
+    d.messages = body;
+    d.messages_length = 10;
+    CHECK(done(uadp_write(&d, NULL, out, sizeof out), sizeof writers) && memcmp(out, writers, sizeof writers) == 0);
+    CHECK(done(uadp_rewrite(writers, sizeof writers, NULL, out, sizeof out), sizeof writers));
+    CHECK(refused(uadp_put_probe(&p, writers + 11, 2, body, sizeof body), UADP_DISAGREE, 0));
+    CHECK(refused(uadp_put_probe(&p, writers + 11, 4, body, 9), UADP_NO_ROOM, 0));
+    p.information_type = 1;
+    CHECK(refused(uadp_put_probe(&p, writers + 11, 4, body, sizeof body), UADP_NOT_TAKEN, 0));
+
+    CHECK(done(uadp_probe(profiles, sizeof profiles, NULL, &p), 5) && p.information_type == UADP_ASKS_CONNECTIONS);
+    CHECK(p.include_writer_groups == 2 && p.include_data_set_writers == 3 && p.count == 2);
+    CHECK(done(uadp_next_probe_item(profiles, sizeof profiles, &p, &item), 0) && item.value == 0 && item.offset == 15);
+    CHECK(item.length == 4 && done(uadp_next_probe_item(profiles, sizeof profiles, &p, &item), 1) && item.value == 1);
+    n = UADP_VALUE(uadp_put_string("udp:", 4, list, sizeof list));
+    CHECK(n == 8 && done(uadp_put_string(NULL, 0, list + n, sizeof list - n), 4));
+    CHECK(done(uadp_put_probe(&p, list, 12, body, sizeof body), 20) && memcmp(body, profiles + 5, 20) == 0);
+    CHECK(refused(uadp_put_string("udp:", 4, list, 7), UADP_NO_ROOM, 0));
+
+    CHECK(done(uadp_probe(group, sizeof group, NULL, &p), 3) && p.information_type == UADP_ASKS_WRITER_GROUP);
+    CHECK(p.writer_group_id == 7 && p.include_data_set_writers == 9 && p.count == 0 && p.is_null == 0);
+    CHECK(refused(uadp_next_probe_item(group, sizeof group, &p, &item), UADP_END, 0));
+    CHECK(done(uadp_put_probe(&p, NULL, 0, body, sizeof body), 5) && memcmp(body, group + 3, 5) == 0);
+    CHECK(refused(uadp_probe(full, sizeof full, NULL, &p), UADP_NOT_TAKEN, 0) && p.writer_group_id == 7);
+}
+
 static void newness(void)
 {
     uadp_sequence_record s = UADP_ZERO;
@@ -571,6 +621,7 @@ static void *others(void *unused)
     reassembled();
     values_by_name();
     chunks_by_name();
+    probes_by_name();
     newness();
     passed = before;
     return unused;
@@ -638,6 +689,7 @@ int main(int argc, char **argv)
     reassembled();
     values_by_name();
     chunks_by_name();
+    probes_by_name();
     newness();
     words_and_version();
     most_of_a_walk();

@@ -35,7 +35,8 @@ use Rattle.walk_records.specs.Walk.{walkOf, walkRecords, recordsOf, recordsPut}
 use Rattle.walk_records.specs.declared.Walked.{Walked}
 use Rattle.listing.specs.Text.{textWritten, textAfter}
 use Rattle.records.specs.Result.{Filling, resultOf, resultIn, filledIn}
-use Rattle.records.specs.Sizes.{ENVELOPE_SIZE, PLACE_SIZE, HEAD_SIZE, FIELD_SIZE, SEQUENCE_SIZE}
+use Rattle.records.specs.Sizes.{ENVELOPE_SIZE, PLACE_SIZE, HEAD_SIZE, FIELD_SIZE, SEQUENCE_SIZE, PROBE_SIZE, ITEM_SIZE}
+use Rattle.probe.specs.Items.{ItemStepped}
 use Rattle.records.specs.LastNumber.{lastIn}
 use Rattle.sequence.specs.Newness.{newnessBy}
 use Rattle.reassembly_laws.specs.Refusing.{oneOf}
@@ -45,6 +46,7 @@ use Rattle.uadp_c.proofs.Demand3 as lent
 use Rattle.uadp_c.specs.Cutting.{cutResult}
 use Rattle.uadp_c.specs.Fields.{stepResult, headAfter, fieldAfter}
 use Rattle.uadp_c.specs.Messages.{messageResult, envelopeAfter, placeAfter}
+use Rattle.uadp_c.specs.Probes.{itemResult, probeAfter, itemAfter}
 use Rattle.uadp_c.specs.Sequence.{newnessNumber, newnessResult, newnessAfter}
 use Rattle.uadp_c.specs.Walks.{walkResult}
 use Rattle.uadp_c.specs.Writing.{writerResult, outputResult}
@@ -53,6 +55,7 @@ use Rattle.acceptance.specs.Demand1.{Demand1, IsRefused}
 use Rattle.acceptance.proofs.Refusals.{Tells, with13, allOf, told, wider, no-place, cond-tells, then-tells, run-lawful}
 use Rattle.acceptance.proofs.Refusals.Tells.{gives, refuses}
 use Rattle.acceptance.proofs.RefusedDatagrams.{datagramOthers, datagram-tells, chunk-tells}
+use Rattle.acceptance.proofs.RefusedProbes.{probe-told, probe-step-told}
 use Rattle.acceptance.proofs.Tiling.{payload-first}
 use Rattle.acceptance.proofs.RefusedCalls.{placed}
 use Rattle.acceptance.proofs.RefusedWriters as refusals
@@ -252,6 +255,12 @@ field-step (got x next) head field h =
     (λ a. by-bool _ (ltb (length field) FIELD_SIZE) (λ b. rw (a, b) (refl, refl)) (λ b. absurd (h (rw (a, b) (done-number (x .field .offset))))))
 field-step (refused n p) head field h = (refl, refl)
 
+item-step : (step : Answer ItemStepped) (probe item : List ℕ) → IsRefused (itemResult step probe item) → (probeAfter step probe item ≡ probe) × (itemAfter step probe item ≡ item)
+item-step (got x next) probe item h =
+    by-bool _ (ltb (length probe) PROBE_SIZE) (λ a. rw a (refl, refl))
+    (λ a. by-bool _ (ltb (length item) ITEM_SIZE) (λ b. rw (a, b) (refl, refl)) (λ b. absurd (h (rw (a, b) (done-number (x .item .index))))))
+item-step (refused n p) probe item h = (refl, refl)
+
 writing-out : (out : List ℕ) (output : Output) → IsRefused (outputResult out output) → bufferAfter out output ≡ out
 writing-out out (Output.writing bytes) h =
     by-bool _ (eqb (roomRefusal (length bytes) (length out)) 0) (λ b. absurd (h (rw b (done-number (length bytes))))) (λ b. rw b)
@@ -281,6 +290,7 @@ demand-1 = record {
   datagram = λ sizes s n place e. told (datagram-tells sizes s) e;
   message = λ types s n place e. told (message-tells types s) e;
   chunk = λ sizes s n place e. told (chunk-tells sizes s) e;
+  probe = probe-told;
   variant = λ s at n place e. subst (ToldAt valueRefusals (length s) at) e (value-told 24 s at);
   data-value = λ s at n place e. subst (ToldAt valueRefusals (length s) at) e (value-told 23 s at);
   raw = λ t s at n place e. subst (ToldAt valueRefusals (length s) at) e (raw-told t s at);
@@ -289,9 +299,11 @@ demand-1 = record {
   message-step = λ p sizes c s n place e. subst (ToldAt (1 ∷ 10 ∷ []) (length s) (c .at)) e (step-told p sizes c s);
   field-lookup = λ types s k n place e. (field-lookup-told types s k n place e, rw e);
   field-step = λ c types s n place e. subst (ToldAt fieldStepRefusals (length s) (c .at)) e (field-told c types s);
+  probe-step = probe-step-told;
   writer = writer-told;
   datagram-writer = refusals.datagram-writer;
   message-writer = refusals.message-writer;
+  probe-writer = refusals.probe-writer;
   datagram-again = refusals.datagram-again;
   message-again = refusals.message-again;
   cut = cut-told;
@@ -301,6 +313,7 @@ demand-1 = record {
   lent-filling = filling;
   lent-message-step = message-step;
   lent-field-step = field-step;
+  lent-probe-step = item-step;
   lent-writer = writing-out;
   lent-cut = cutting;
   lent-listing = listing-out;

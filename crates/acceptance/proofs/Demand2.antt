@@ -51,6 +51,8 @@ use Rattle.uadp_c.proofs.AfterReading.{after-reading}
 use Rattle.acceptance.specs.Again.{CopiedTo, Below, Holds}
 use Rattle.acceptance.specs.Chunks.{IsWritten}
 use Rattle.acceptance.specs.Demand2.{Demand2, typesGiven, typesRead}
+use Rattle.probe.proofs.Trip.{body-back}
+use Rattle.acceptance.proofs.Probes.{probe-reads-back, probe-datagram-reads-back, lent-probe-again}
 use Rattle.acceptance.proofs.Tiling.{messages-tile}
 use Rattle.acceptance.proofs.FieldsTile.{fields-tile}
 use Rattle.acceptance.proofs.Held.{held-below, held-holds}
@@ -170,6 +172,8 @@ demand-2 = record {
   datagram-reads-back = λ g x sizes configured entry exit n p. datagram.reads-back g x sizes configured entry exit n (p .0) (p .1);
   message-reads-back = message.written-reads;
   whole-reads-back = λ w g x entry exit n p. whole w g x entry exit n p;
+  probe-reads-back = probe-reads-back;
+  probe-datagram-reads-back = probe-datagram-reads-back;
   written-and-restored = λ id p size l h. all-cuts-restore id p size l (all-cut id p size l h);
   datagram-again = datagram-copied;
   rewritten-same = kept;
@@ -177,6 +181,7 @@ demand-2 = record {
   rewritten-holds = datagram-holds;
   payload-handed-on = handed-on;
   parts-again = datagram.writes-again;
+  probe-again = body-back;
   message-again = message-copied;
   message-same = λ m s l. held-below (m .header .picoseconds) (messagePicosecondsPlace (m .header)) s l;
   message-holds = message-holds;
@@ -191,4 +196,5 @@ demand-2 = record {
       let e = datagram.accepts-exactly g x sizes configured f a in (λ h. e .0 h l, e .1);
   message-accepted-exactly = λ types m f. otherwise.accepts-exactly types m (f .header) (f .indices);
   lent-fits-after-reading = after-reading;
+  lent-probe-again = lent-probe-again;
 }

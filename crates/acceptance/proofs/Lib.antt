@@ -4,6 +4,8 @@ pub mod RefusedDatagrams
 pub mod RefusedMessages
 pub mod RefusedCalls
 pub mod RefusedWriters
+pub mod RefusedProbes
+pub mod Probes
 pub mod Tiling
 pub mod FieldsTile
 pub mod Demand1

@@ -9,22 +9,30 @@ use native.Mathlib.Omega.{arith}
 use lib.Dec.{eqb, leb, ltb}
 use lib.ListN.{length, getD, take, drop}
 use Rattle.wire.specs.Lists.{total}
-use Rattle.wire.specs.Answer.{Answer, got, refused}
+use Rattle.wire.specs.Answer.{Answer, got, refused, andThen, run, pure, each}
+use Rattle.wire.specs.Items.{lengthItem}
+use Rattle.wire.specs.declared.Length.{Length}
 use Rattle.wire.specs.declared.optional.Optional16.{Optional16}
 use Rattle.wire.proofs.Cases.{by-bool}
 use Rattle.wire_writer.specs.Writing.{orElse, unused, Output, unless, writtenOf, Writes, on16, onI64, picosecondsRefusal}
 use Rattle.wire_writer.specs.declared.writing.Written.{Written}
 use Rattle.publisher_id.specs.Publisher.{publisherRefusal, publisherShape, textTooLong}
 use Rattle.publisher_id.specs.declared.publisher.PublisherId.{PublisherId}
-use Rattle.network_header.specs.Flags.{timesRefusal}
+use Rattle.network_header.specs.Flags.{timesRefusal, probeRefusal}
+use Rattle.plain_value.specs.Plain.{bytes, afterLength, string}
+use Rattle.probe.specs.declared.body.ListCount.{ListCount}
+use Rattle.probe.specs.declared.body.Probe.{Probe}
+use Rattle.probe.specs.Body.{probeBodyAt}
+use Rattle.probe.specs.Put.{idListRule, stringsEnd, stringListRule, probeBodyRefusal, probeBytes, probeOutput}
 use Rattle.network_header.specs.Group.{numberRefusal, groupRefusal}
-use Rattle.network_header.specs.Header.{countRefusal, promotedRefusal, countShape, idsShape, promotedShape}
+use Rattle.network_header.specs.Header.{countRefusal, promotedRefusal, countShape, idsShape, promotedShape, probeOn, promotedOn}
 use Rattle.network_header.specs.Numbers.{configuredSizes, sameNumbers}
 use Rattle.network_header.specs.declared.envelope.Envelope.{Envelope}
 use Rattle.network_header.specs.declared.group.GroupHeader.{GroupHeader}
 use Rattle.network_header.specs.declared.header.PayloadHeader.{PayloadHeader}
 use Rattle.network_header.specs.declared.header.Promoted.{Promoted}
-use Rattle.network_message.specs.Payload.{allPositive, listed, restOnlyAt, configuredAt}
+use Rattle.network_message.specs.Payload.{allPositive, listed, messagesFrom, restOnlyAt, configuredAt}
+use Rattle.network_message.specs.declared.payload.Sizes.{Sizes}
 use Rattle.network_message.specs.Envelope.{NetworkMessage, networkMessageAt, messagesOf}
 use Rattle.network_message_writer.specs.Payload.{listedRefusal, refusalNumber, payloadRefusal, lengthsShape}
 use Rattle.network_message_writer.specs.Envelope.{GivenDatagram, datagramReadingRefusal, shapeRefusal, datagramRefusal, datagramOf, datagramOutput}
@@ -39,10 +47,10 @@ use Rattle.dataset_message_writer.specs.Message.{GivenMessage, isFielded, isRaw
 use Rattle.round_trip.specs.NetworkMessage.{rewritten}
 use Rattle.rewriting.specs.Same.{messageSame, datagramSame}
 use Rattle.reassembly_laws.specs.Refusing.{oneOf}
-use Rattle.acceptance.specs.Refusals.{datagramWriterRefusals, messageWriterRefusals, datagramAgainRefusals, messageAgainRefusals}
+use Rattle.acceptance.specs.Refusals.{datagramWriterRefusals, messageWriterRefusals, datagramAgainRefusals, messageAgainRefusals, probeWriterRefusals}
 use Rattle.acceptance.proofs.Refusals.{Tells, with13, wider-one}
 use Rattle.acceptance.proofs.Refusals.Tells.{gives, refuses}
-use Rattle.acceptance.proofs.RefusedDatagrams.{datagramOthers, datagram-tells}
+use Rattle.acceptance.proofs.RefusedDatagrams.{datagramOthers, probeOthers, datagram-tells, body-tells}
 use Rattle.acceptance.proofs.RefusedMessages.{fieldOthers, messageOthers, encoded-lawful, message-tells}
 
 -- no refusal, or one by one of these numbers
@@ -87,6 +95,7 @@ count-number : (h : PayloadHeader) → Number forDatagrams (countRefusal h)
 count-number PayloadHeader.Absent = inl refl
 count-number (PayloadHeader.Ids n) = either forDatagrams (eqb n 0) 6 0 (inr refl) (inl refl)
 count-number (PayloadHeader.Chunk w) = inl refl
+count-number PayloadHeader.Probe = inl refl
 
 promoted-number : (p : Promoted) (messages : ℕ) → Number forDatagrams (promotedRefusal p messages)
 promoted-number Promoted.Absent messages = inl refl
@@ -94,6 +103,10 @@ promoted-number (Promoted.Size n) messages = either forDatagrams (eqb messages 1
 
 times-number : (p t : Bool) → Number forDatagrams (timesRefusal p t)
 times-number p t = either forDatagrams p (cond t 0 3) 0 (either forDatagrams t 0 3 (inl refl) (inr refl)) (inl refl)
+
+probe-number : (p c m : Bool) → Number forDatagrams (probeRefusal p c m)
+probe-number p c m =
+    either forDatagrams p (cond c 4 (cond m 3 0)) 0 (either forDatagrams c 4 (cond m 3 0) (inr refl) (either forDatagrams m 3 0 (inr refl) (inl refl))) (inl refl)
 
 rest-number : (s : List ℕ) (at : ℕ) → Number forDatagrams (refusalNumber (restOnlyAt s at))
 rest-number s at = by-bool _ (ltb at (length s)) (λ b. rw b (inl refl)) (λ b. rw b (inr refl))
@@ -117,16 +130,23 @@ payload-number chunk (PayloadHeader.Ids n) sizes lengths messages =
     either forDatagrams chunk 0 _ (inl refl)
     (either forDatagrams (leb n 1) (refusalNumber (restOnlyAt messages 0)) (listedRefusal n lengths (length messages)) (rest-number messages 0) (listed-number n lengths (length messages)))
 payload-number chunk (PayloadHeader.Chunk w) sizes lengths messages = inl refl
+payload-number true PayloadHeader.Probe sizes lengths messages = inr refl
+payload-number false PayloadHeader.Probe sizes lengths messages = go (probeBodyAt messages 0) (body-tells messages 0 (omega arith))
+  where
+    go : (x : Answer Probe) → Tells probeOthers (length messages) x → Number forDatagrams (refusalNumber (andThen x (λ p next. got (messagesFrom 0 Sizes.Rest 0) 0)))
+    go (got p n) t = inl refl
+    go (refused k place) (refuses r) = inr (wider-one (with13 probeOthers) forDatagrams refl k (r .one))
 
 reading-number : (g : GivenDatagram) (x : Envelope) (sizes : List ℕ) → Number forDatagrams (datagramReadingRefusal g x sizes)
 reading-number g x sizes =
     in-turn forDatagrams _ _ (times-number (on16 (x .picoseconds)) (onI64 (x .timestamp)))
+    (in-turn forDatagrams _ _ (probe-number (probeOn (x .«payload_header»)) (x .chunk) (promotedOn (x .promoted)))
     (in-turn forDatagrams _ _ (publisher-number (x .publisher) (length (g .text)))
     (in-turn forDatagrams _ _ (group-number (x .group))
     (in-turn forDatagrams _ _ (count-number (x .«payload_header»))
     (in-turn forDatagrams _ _ (optional-number (x .picoseconds))
     (in-turn forDatagrams _ _ (promoted-number (x .promoted) (messagesOf (x .chunk) (x .«payload_header») (length (configuredSizes sizes))))
-    (payload-number (x .chunk) (x .«payload_header») sizes (g .lengths) (g .messages)))))))
+    (payload-number (x .chunk) (x .«payload_header») sizes (g .lengths) (g .messages))))))))
 
 publisher-shape : (p : PublisherId) (n : ℕ) → Number forDatagrams (publisherShape p n)
 publisher-shape PublisherId.Absent n = held (eqb n 0)
@@ -142,6 +162,7 @@ ids-shape chunk (PayloadHeader.Ids n) ids configured =
     either forDatagrams chunk 6 (countShape n (length ids)) (inr refl)
     (either forDatagrams (leb 256 n) 6 (cond (eqb (length ids) (2 * n)) 0 6) (inr refl) (held (eqb (length ids) (2 * n))))
 ids-shape chunk (PayloadHeader.Chunk w) ids configured = either forDatagrams chunk (unused (length ids)) 6 (held (eqb (length ids) 0)) (inr refl)
+ids-shape chunk PayloadHeader.Probe ids configured = held (eqb (length ids) 0)
 
 promoted-shape : (p : Promoted) (n : ℕ) → Number forDatagrams (promotedShape p n)
 promoted-shape Promoted.Absent n = held (eqb n 0)
@@ -153,6 +174,7 @@ lengths-shape PayloadHeader.Absent lengths sizes =
     (held (sameNumbers lengths (configuredSizes sizes)))
 lengths-shape (PayloadHeader.Ids n) lengths sizes = either forDatagrams (leb n 1) (unused (length lengths)) 0 (held (eqb (length lengths) 0)) (inl refl)
 lengths-shape (PayloadHeader.Chunk w) lengths sizes = held (eqb (length lengths) 0)
+lengths-shape PayloadHeader.Probe lengths sizes = held (eqb (length lengths) 0)
 
 shape-number : (g : GivenDatagram) (x : Envelope) (sizes configured : List ℕ) → Number forDatagrams (shapeRefusal g x sizes configured)
 shape-number g x sizes configured =
@@ -250,6 +272,61 @@ pub datagram-writer : (g : GivenDatagram) (x : Envelope) (sizes configured entry
 datagram-writer g x sizes configured entry exit n w =
     unless-number forDatagrams refl refl (datagramRefusal g x sizes configured) (in-turn forDatagrams _ _ (reading-number g x sizes) (shape-number g x sizes configured))
     n (length entry) (datagramOf g x) (w .answer)
+
+-- ---- a probe's body
+abbrev forProbes : List ℕ
+forProbes = probeWriterRefusals
+
+probe-held : (b : Bool) → Number forProbes (cond b 0 6)
+probe-held b = either forProbes b 0 6 (inl refl) (inr refl)
+
+id-list-number : (l : ListCount) (n : ℕ) → Number forProbes (idListRule l n)
+id-list-number ListCount.Null n = probe-held (eqb n 0)
+id-list-number (ListCount.Of k) n = either forProbes (leb 2147483648 k) 6 (cond (eqb n (2 * k)) 0 6) (inr refl) (probe-held (eqb n (2 * k)))
+
+-- strings are refused by 1 and 5 only
+abbrev OneOrFive : {A : Type 0} → Answer A → Type 0
+OneOrFive (got a next) = Unit {0}
+OneOrFive (refused n place) = oneOf (1 ∷ 5 ∷ []) n ≡ true
+
+then-numbers : {A B : Type 0} (x : Answer A) (k : A → ℕ → Answer B) → OneOrFive x → ((a : A) (n : ℕ) → OneOrFive (k a n)) → OneOrFive (andThen x k)
+then-numbers (got a n) k t f = f a n
+then-numbers (refused n place) k t f = t
+
+taking-numbers : {A : Type 0} (b : Bool) (a : A) (next at : ℕ) → OneOrFive (cond b (got a next) (refused 1 at))
+taking-numbers true a next at = tt
+taking-numbers false a next at = refl
+
+string-numbers : (s : List ℕ) (at : ℕ) → OneOrFive (string s at)
+unfolding string
+string-numbers s at = then-numbers (lengthItem s at) _ (taking-numbers (leb (at + 4) (length s)) _ _ at) by-length
+  where
+    by-length : (l : Length) (next : ℕ) → OneOrFive (afterLength (pure tt) bytes at l s next)
+    by-length Length.Null next = tt
+    by-length (Length.Of n) next = then-numbers (run n s next) _ (taking-numbers (leb (next + n) (length s)) n (next + n) next) (λ a m. tt)
+    by-length Length.Negative next = refl
+
+strings-numbers : (n : ℕ) (s : List ℕ) (at : ℕ) → OneOrFive (each string n s at)
+unfolding each
+strings-numbers zero s at = tt
+strings-numbers (suc n) s at = then-numbers (string s at) _ (string-numbers s at) (λ a next. strings-numbers n s next)
+
+string-list-number : (l : ListCount) (list : List ℕ) → Number forProbes (stringListRule l list)
+string-list-number ListCount.Null list = probe-held (eqb (length list) 0)
+string-list-number (ListCount.Of k) list = go (each string k list 0) (strings-numbers k list 0)
+  where
+    go : (x : Answer (Unit {0})) → OneOrFive x → Number forProbes (stringsEnd k (length list) x)
+    go (got a end) t = either forProbes (leb 2147483648 k) 6 (cond (eqb end (length list)) 0 6) (inr refl) (probe-held (eqb end (length list)))
+    go (refused n place) t = inr (wider-one (1 ∷ 5 ∷ []) forProbes refl n t)
+
+probe-body-number : (list : List ℕ) (p : Probe) → Number forProbes (probeBodyRefusal list p)
+probe-body-number list (Probe.MetaData l) = id-list-number l (length list)
+probe-body-number list (Probe.Writers l) = id-list-number l (length list)
+probe-body-number list (Probe.Group g b) = probe-held (eqb (length list) 0)
+probe-body-number list (Probe.Connections l g w) = string-list-number l list
+
+pub probe-writer : (list : List ℕ) (p : Probe) (entry exit : List ℕ) (n : ℕ) → Writes (probeOutput list p) entry exit (Written.Refused n) → oneOf probeWriterRefusals n ≡ true
+probe-writer list p entry exit n w = unless-number forProbes refl refl (probeBodyRefusal list p) (probe-body-number list p) n (length entry) (probeBytes list p) (w .answer)
 
 pub message-writer : (types : List ℕ) (g : GivenMessage) (entry exit : List ℕ) (n : ℕ)
     → Writes (messageOutput types g) entry exit (Written.Refused n) → oneOf messageWriterRefusals n ≡ true

@@ -8,16 +8,19 @@ use lib.Dec.{ltb, leb, eqb}
 use native.Mathlib.Omega.{arith}
 use lib.ListN.{length}
 use Rattle.wire.specs.Lists.{total}
-use Rattle.wire.specs.Answer.{Answer, got, refused}
+use Rattle.wire.specs.Answer.{Answer, got, refused, andThen}
 use Rattle.wire.proofs.Cases.{by-bool}
 use Rattle.wire.proofs.Reading.{got-value, got-next, not-got, invert}
 use Rattle.network_header.specs.Flags.{flagsAt}
 use Rattle.network_header.specs.Numbers.{configuredSizes}
-use Rattle.network_message.specs.Payload.{payloadAt, restOnlyAt, listedAt, allPositive, listed, OfMessages}
+use Rattle.probe.specs.declared.body.Probe.{Probe}
+use Rattle.probe.specs.Body.{probeBodyAt}
+use Rattle.network_message.specs.Payload.{messagesFrom, payloadAt, restOnlyAt, listedAt, allPositive, listed, OfMessages}
 use Rattle.network_message.specs.Envelope.{NetworkMessage, envelopeAt, envelopeBodyAt, networkMessageAt}
 use Rattle.network_header.specs.declared.flags.Flags.{Flags}
 use Rattle.network_header.specs.declared.header.PayloadHeader.{PayloadHeader}
 use Rattle.network_message.specs.declared.payload.Payload.{Payload}
+use Rattle.network_message.specs.declared.payload.Sizes.{Sizes}
 use Rattle.network_message.proofs.Accepted.{Tiled, payload-tiled}
 use Rattle.network_message.proofs.Messages.{tile, tiled}
 use Rattle.acceptance.specs.Tiles.{MessagesTile}
@@ -29,6 +32,7 @@ no-chunk true PayloadHeader.Absent o sizes s at p n e = absurd (not-got e)
 no-chunk false PayloadHeader.Absent o sizes s at p n e = e
 no-chunk chunk (PayloadHeader.Ids c) o sizes s at p n e = e
 no-chunk chunk (PayloadHeader.Chunk w) o sizes s at p n e = absurd o
+no-chunk chunk PayloadHeader.Probe o sizes s at p n e = absurd o
 
 pub accepted-tiled : (sizes s : List ℕ) (m : NetworkMessage) (n : ℕ) → networkMessageAt sizes s ≡ got m n → OfMessages (m .envelope .«payload_header») → Tiled (m .payload) sizes s
 accepted-tiled sizes s m n e o = go (ltb 65535 (length s)) refl
@@ -87,6 +91,11 @@ header-first chunk PayloadHeader.Absent sizes s at =
     (cond-first (eqb (length (configuredSizes sizes)) 1) _ _ (rest-first s at) tt)))
 header-first chunk (PayloadHeader.Ids n) sizes s at = cond-first (eqb n 0) _ _ tt (cond-first (leb n 1) _ _ (rest-first s at) (listed-first n s at))
 header-first chunk (PayloadHeader.Chunk w) sizes s at = refl
+header-first chunk PayloadHeader.Probe sizes s at = cond-first chunk _ _ tt (probe-first (probeBodyAt s at))
+  where
+    probe-first : (x : Answer Probe) → FirstIs (andThen x (λ p next. got (messagesFrom 0 Sizes.Rest at) at))
+    probe-first (got p n) = refl
+    probe-first (refused n place) = tt
 
 pub payload-first : (sizes s : List ℕ) (m : NetworkMessage) (n : ℕ) → networkMessageAt sizes s ≡ got m n → m .payload .first ≡ n
 payload-first sizes s m n e = go (ltb 65535 (length s)) refl

@@ -15,6 +15,7 @@ use Rattle.value.specs.Value.{variantAt, dataValueAt, rawAt}
 use Rattle.config_text.specs.Config.{configOf, linesOf}
 use Rattle.network_message.specs.Payload.{placeStepAt}
 use Rattle.network_message.specs.Envelope.{networkMessageAt, messagePlaceAt, messageBytes}
+use Rattle.network_message.specs.ProbeMessage.{probeMessageAt}
 use Rattle.network_message.specs.declared.payload.Payload.{Payload}
 use Rattle.network_message.specs.declared.payload.MessageCursor.{MessageCursor}
 use Rattle.dataset_fields.specs.Fields.{nextFieldAt, FieldStepped}
@@ -24,6 +25,10 @@ use Rattle.network_header.specs.declared.envelope.Envelope.{Envelope}
 use Rattle.network_message_writer.specs.Envelope as N
 use Rattle.dataset_message_writer.specs.Message as M
 use Rattle.rewriting.specs.Same.{messageSame, datagramSame}
+use Rattle.probe.specs.Items.{ItemStepped, itemStepAt}
+use Rattle.probe.specs.Put.{probeOutput}
+use Rattle.probe.specs.declared.body.Probe.{Probe}
+use Rattle.probe.specs.declared.items.ProbeCursor.{ProbeCursor}
 use Rattle.chunk.specs.Datagram.{chunkAt}
 use Rattle.chunk.specs.Cutting.{cutAnswer, cutBuffer}
 use Rattle.walk.specs.Lines.{Writers}
@@ -41,12 +46,13 @@ use Rattle.wire.specs.declared.optional.Optional16.{Optional16}
 use Rattle.uadp_c.specs.Cutting.{cutResult}
 use Rattle.uadp_c.specs.Fields.{stepResult, headAfter, fieldAfter}
 use Rattle.uadp_c.specs.Messages.{messageResult, envelopeAfter, placeAfter}
+use Rattle.uadp_c.specs.Probes.{itemResult, probeAfter, itemAfter}
 use Rattle.uadp_c.specs.Reassembling.{Lent}
 use Rattle.uadp_c.specs.History.{LentCall, Called, Unchanged}
 use Rattle.uadp_c.specs.Sequence.{newnessResult, newnessAfter}
 use Rattle.uadp_c.specs.Walks.{walkResult}
 use Rattle.uadp_c.specs.Writing.{writerResult, outputResult}
-use Rattle.acceptance.specs.Refusals.{Refusal, StepRefusal, datagramRefusals, chunkRefusals, valueRefusals, messageRefusals, fieldStepRefusals, fieldRefusals, cutRefusals, callRefusals, datagramWriterRefusals, messageWriterRefusals, datagramAgainRefusals, messageAgainRefusals}
+use Rattle.acceptance.specs.Refusals.{Refusal, StepRefusal, datagramRefusals, chunkRefusals, valueRefusals, messageRefusals, fieldStepRefusals, fieldRefusals, cutRefusals, callRefusals, datagramWriterRefusals, messageWriterRefusals, datagramAgainRefusals, messageAgainRefusals, probeStepRefusals, probeWriterRefusals}
 use Rattle.acceptance.specs.Calls.{bytesRead}
 
 -- a C result's number is not 0
@@ -60,6 +66,8 @@ pub record Demand1 : Type 0 where
   pub datagram : (sizes s : List ℕ) (n place : ℕ) → networkMessageAt sizes s ≡ refused n place → Refusal datagramRefusals n place (length s)
   pub message : (types s : List ℕ) (n place : ℕ) → messageAt types s ≡ refused n place → Refusal messageRefusals n place (length s)
   pub chunk : (sizes s : List ℕ) (n place : ℕ) → chunkAt sizes s ≡ refused n place → Refusal chunkRefusals n place (length s)
+  -- Of a probe's datagram, where only a probe is asked for.
+  pub probe : (sizes s : List ℕ) (n place : ℕ) → probeMessageAt sizes s ≡ refused n place → Refusal datagramRefusals n place (length s)
   -- Of a value measured at any position: a Variant, a DataValue, an element of RawData of any type.
   pub variant : (s : List ℕ) (at n place : ℕ) → variantAt s at ≡ refused n place → StepRefusal valueRefusals n place (length s) at
   pub data-value : (s : List ℕ) (at n place : ℕ) → dataValueAt s at ≡ refused n place → StepRefusal valueRefusals n place (length s) at
@@ -78,6 +86,9 @@ pub record Demand1 : Type 0 where
       → Refusal fieldRefusals n place (length s) × (fieldBytes (fieldPlaceAt types k s) s ≡ [])
   pub field-step : (c : Cursor) (types s : List ℕ) (n place : ℕ) → nextFieldAt c types s ≡ refused n place
       → StepRefusal fieldStepRefusals n place (length s) (c .at)
+  -- Of a step over the ids and strings of a probe, with a probe and a cursor that may be made up.
+  pub probe-step : (p : Probe) (c : ProbeCursor) (s : List ℕ) (n place : ℕ) → itemStepAt p c s ≡ refused n place
+      → StepRefusal probeStepRefusals n place (length s) (c .at)
   -- ---- "Every refusal leaves all lent bytes and records unchanged"; "a writer's [place] is 0".
   -- Both writers and both rewritings, whatever is to be written; cutting; a listing.
   pub writer : (output : Output) (entry exit : List ℕ) (n : ℕ) → Writes output entry exit (Written.Refused n)
@@ -88,6 +99,8 @@ pub record Demand1 : Type 0 where
       → Writes (N.datagramOutput g x sizes configured) entry exit (Written.Refused n) → oneOf datagramWriterRefusals n ≡ true
   pub message-writer : (types : List ℕ) (m : M.GivenMessage) (entry exit : List ℕ) (n : ℕ)
       → Writes (M.messageOutput types m) entry exit (Written.Refused n) → oneOf messageWriterRefusals n ≡ true
+  pub probe-writer : (list : List ℕ) (p : Probe) (entry exit : List ℕ) (n : ℕ) → Writes (probeOutput list p) entry exit (Written.Refused n)
+      → oneOf probeWriterRefusals n ≡ true
   pub datagram-again : (sizes s entry exit : List ℕ) (n : ℕ) → Writes (datagramSame sizes s) entry exit (Written.Refused n)
       → oneOf datagramAgainRefusals n ≡ true
   pub message-again : (types s entry exit : List ℕ) (n : ℕ) → Writes (messageSame types s) entry exit (Written.Refused n)
@@ -102,15 +115,19 @@ pub record Demand1 : Type 0 where
   pub call : (k : Call) (s : Partial) (n place : ℕ) → answers k s ≡ refusedBy n place
       → Refusal callRefusals n place (bytesRead k) × (leaves k s ≡ s)
   -- ---- THE SAME THROUGH C, for any bytes in any record: a result whose low byte is not 0 leaves every lent byte as it was.
-  -- uadp_config, uadp_read, uadp_read_message, uadp_field, uadp_value, uadp_element, uadp_chunk: what is read fills one record.
+  -- uadp_config, uadp_read, uadp_read_message, uadp_field, uadp_value, uadp_element, uadp_chunk, uadp_probe: what is read fills
+  -- one record.
   pub lent-filling : (read : Answer Filling) (out : List ℕ) → IsRefused (resultIn read out) → filledIn read out ≡ out
-  -- uadp_next_message, uadp_next_field: a record's cursor moves, and another record is filled.
+  -- uadp_next_message, uadp_next_field, uadp_next_probe_item: a record's cursor moves, and another record is filled.
   pub lent-message-step : (writer : ℕ → Optional16) (step : Answer PlaceStepped) (envelope place : List ℕ)
       → IsRefused (messageResult step envelope place)
       → (envelopeAfter step envelope place ≡ envelope) × (placeAfter writer step envelope place ≡ place)
   pub lent-field-step : (step : Answer FieldStepped) (head field : List ℕ) → IsRefused (stepResult step head field)
       → (headAfter step head field ≡ head) × (fieldAfter step head field ≡ field)
-  -- uadp_write, uadp_write_message, uadp_rewrite, uadp_rewrite_message, uadp_put_value; uadp_cut; uadp_list; uadp_walk; uadp_newness.
+  pub lent-probe-step : (step : Answer ItemStepped) (probe item : List ℕ) → IsRefused (itemResult step probe item)
+      → (probeAfter step probe item ≡ probe) × (itemAfter step probe item ≡ item)
+  -- uadp_write, uadp_write_message, uadp_rewrite, uadp_rewrite_message, uadp_put_value, uadp_put_probe; uadp_cut; uadp_list; uadp_walk;
+  -- uadp_newness.
   pub lent-writer : (out : List ℕ) (output : Output) → IsRefused (outputResult out output) → bufferAfter out output ≡ out
   pub lent-cut : (p : List ℕ) (number size k : ℕ) (out : List ℕ) → IsRefused (cutResult (cutAnswer p number size k (length out)))
       → cutBuffer p number size k out ≡ out

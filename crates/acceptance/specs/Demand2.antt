@@ -13,7 +13,7 @@ use Rattle.wire.specs.Constants.{DISAGREE, MOST_DATAGRAM, NOT_PERMITTED, PICOSE
 use Rattle.wire.specs.Number.{le}
 use Rattle.wire.specs.Answer.{got, refused, bit}
 use Rattle.wire.specs.declared.optional.Optional16.{Optional16}
-use Rattle.wire_writer.specs.Writing.{Writes, refusing, unless, orElse, on16}
+use Rattle.wire_writer.specs.Writing.{Writes, writing, refusing, unless, orElse, on16}
 use Rattle.wire_writer.specs.Fits.{Bytes, Numbers}
 use Rattle.wire_writer.specs.declared.writing.Written.{Written}
 use Rattle.config.specs.Writers.{typesOf}
@@ -21,6 +21,10 @@ use Rattle.publisher_id.specs.Publisher.{publisherOn}
 use Rattle.network_header.specs.Envelope as envelope
 use Rattle.network_header.specs.Envelope.{FitsEnvelope}
 use Rattle.network_header.specs.declared.envelope.Envelope.{Envelope}
+use Rattle.network_header.specs.declared.header.PayloadHeader.{PayloadHeader}
+use Rattle.probe.specs.declared.body.Probe.{Probe}
+use Rattle.probe.specs.Body.{probeBodyAt}
+use Rattle.probe.specs.Put.{FitsProbe, probeBodyRefusal, listIn, probeBytes, probeOutput}
 use Rattle.network_message.specs.Payload.{OfMessages}
 use Rattle.network_message.specs.WriterId.{writerIdOf}
 use Rattle.network_message.specs.Envelope.{NetworkMessage, networkMessageAt, messagePlaceAt, messageBytes}
@@ -35,13 +39,17 @@ use Rattle.round_trip.specs.DataSetMessage.{MessageBack, PartsAgree, ReadingRef
 use Rattle.rewriting.specs.Same.{messageSame, datagramSame}
 use Rattle.reassembly.specs.Record.{Partial, Identity, roomOf, Good}
 use Rattle.reassembly_laws.specs.Cutting.{Arrival, AllArrive, Restored}
+use Rattle.records.specs.Sizes.{PROBE_SIZE}
+use Rattle.network_message.specs.ProbeMessage.{ProbeMessage, probeMessageAt}
 use Rattle.uadp_c.specs.Writing.{fitting}
+use Rattle.uadp_c.specs.Probes.{ProbeReads, probePut}
 use Rattle.walk.specs.Lines.{Writers, linesFrom, stepLines, nextLine, startCursor, listingOf, datagramLines}
 use Rattle.walk.specs.declared.lines.LineCursor.{LineCursor}
 use Rattle.walk_records.specs.Walk.{walkRecords, lineRecords, NoneRefused}
 use Rattle.acceptance.specs.Tiles.{MessagesTile, FieldsTile}
 use Rattle.acceptance.specs.Again.{CopiedTo, Below, Holds}
 use Rattle.acceptance.specs.Chunks.{IsWritten}
+use Rattle.acceptance.specs.Probes.{ProbeBack, ProbeDatagramBack}
 
 -- the types of message k's fields under a configuration, by the DataSetWriterId that was given for it; and by the one that is read back
 abbrev pub typesGiven : Writers → N.GivenDatagram → ℕ → List ℕ
@@ -89,6 +97,16 @@ pub record Demand2 : Type 0 where
       → (messageBytes (messagePlaceAt (w .sizes) k (take n exit)) (take n exit) ≡ take n-k exit-k)
       × MessageBack (typesRead w (network.writtenMessage g x (w .sizes)) (take n exit) k) m
       (messageBytes (messagePlaceAt (w .sizes) k (take n exit)) (take n exit))
+  -- A probe's body: what it asks for, and its ids or strings byte by byte.
+  pub probe-reads-back : (list : List ℕ) (p : Probe) (entry exit : List ℕ) (n : ℕ)
+      → FitsProbe p × Writes (probeOutput list p) entry exit (Written.Is n) → InBuffer entry exit n (ProbeBack list p)
+  -- Both: a datagram that was written with a probe's body reads back as that probe.
+  pub probe-datagram-reads-back : (list : List ℕ) (p : Probe) (entry-p exit-p : List ℕ) (n-p : ℕ)
+      → FitsProbe p × Writes (probeOutput list p) entry-p exit-p (Written.Is n-p)
+      → (g : N.GivenDatagram) (x : Envelope) (sizes configured entry exit : List ℕ) (n : ℕ)
+      → FitsEnvelope x × Writes (N.datagramOutput g x sizes configured) entry exit (Written.Is n)
+      → x .«payload_header» ≡ PayloadHeader.Probe → g .messages ≡ take n-p exit-p
+      → InBuffer entry exit n (ProbeDatagramBack list p g x sizes)
   -- Cutting, the envelope's writer, taking in and handing out together: datagrams that were written with the payloads that cutting wrote,
   -- of one publisher and writer, restore the payload, in any order and some of them more than once.
   pub written-and-restored : (id : Identity) (p : List ℕ) (size : ℕ) (l : List Arrival) → AllArrive id p size (IsWritten id p size) l
@@ -113,6 +131,9 @@ pub record Demand2 : Type 0 where
   -- below 65,536.)
   pub parts-again : (s sizes configured out : List ℕ) (m : NetworkMessage) (n : ℕ) → Bytes s → Numbers sizes → Numbers configured
       → networkMessageAt sizes s ≡ got m n → length s ≤ length out → network.WritesAgain s sizes configured out m
+  -- A probe's body that is accepted, written again from its parts as they were read, is the same bytes.
+  pub probe-again : (s : List ℕ) (at : ℕ) (p : Probe) (n : ℕ) → Bytes s → at ≤ length s → probeBodyAt s at ≡ got p n
+      → (probeBodyRefusal (listIn s at p) p ≡ 0) × (probeBytes (listIn s at p) p ≡ drop at s)
   -- "every accepted DataSetMessage, padding length included, is rewritten identically", but for picoseconds of 10,000 or more in its
   -- header.
   pub message-again : (types s entry exit : List ℕ) (r : Written) (m : Message) (n : ℕ) → messageAt types s ≡ got (valid m) n
@@ -159,3 +180,7 @@ pub record Demand2 : Type 0 where
       ≡ unless
       (orElse (N.datagramReadingRefusal g x sizes) (orElse (cond fits 0 DISAGREE) (N.shapeRefusal g x sizes configured)))
       (N.datagramOf g x)
+  -- From the record that uadp_probe filled, and the ids or strings as they stand, uadp_put_probe writes the same body.
+  pub lent-probe-again : (sizes d entry exit : List ℕ) (m : ProbeMessage) (n : ℕ) → Bytes d → probeMessageAt sizes d ≡ got m n
+      → PROBE_SIZE ≤ length entry → ProbeReads (probeMessageAt sizes d) entry exit
+      → probePut exit (listIn d (m .places .payload) (m .probe)) ≡ writing (drop (m .places .payload) d)

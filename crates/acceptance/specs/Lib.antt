@@ -4,6 +4,7 @@ pub mod Calls
 pub mod Tiles
 pub mod Again
 pub mod Chunks
+pub mod Probes
 pub mod Sentences
 pub mod Demand1
 pub mod Demand2

@@ -25,7 +25,8 @@ StepRefusal numbers number place bytes at = Refusal numbers number place bytes �
 -- ---- by which numbers: of a datagram, of a chunk, of a value, of a DataSetMessage
 
 abbrev pub datagramRefusals : List ℕ
-datagramRefusals = CUT_SHORT ∷ NOT_PERMITTED ∷ BAD_VERSION ∷ NOT_TAKEN ∷ BAD_LENGTH ∷ DISAGREE ∷ NOT_CONFIGURED ∷ OVER_LIMIT ∷ []
+datagramRefusals =
+    CUT_SHORT ∷ NOT_PERMITTED ∷ BAD_VERSION ∷ NOT_TAKEN ∷ BAD_LENGTH ∷ DISAGREE ∷ LEFT_OVER ∷ NOT_CONFIGURED ∷ OVER_LIMIT ∷ []
 
 abbrev pub chunkRefusals : List ℕ
 chunkRefusals = CUT_SHORT ∷ NOT_PERMITTED ∷ BAD_VERSION ∷ NOT_TAKEN ∷ BAD_LENGTH ∷ DISAGREE ∷ LEFT_OVER ∷ NOT_CONFIGURED ∷ OVER_LIMIT ∷ []
@@ -43,9 +44,10 @@ fieldStepRefusals = CUT_SHORT ∷ NOT_PERMITTED ∷ NOT_TAKEN ∷ BAD_LENGTH ∷
 abbrev pub fieldRefusals : List ℕ
 fieldRefusals = CUT_SHORT ∷ NOT_PERMITTED ∷ NOT_TAKEN ∷ BAD_LENGTH ∷ LEFT_OVER ∷ NOT_CONFIGURED ∷ TOO_DEEP ∷ OVER_LIMIT ∷ []
 
--- of the writers: what reading would refuse, 3 for picoseconds of 10,000 and up, 6, 10 and 11
+-- of the writers: what reading would refuse, a probe's body too, 3 for picoseconds of 10,000 and up, 6, 10 and 11
 abbrev pub datagramWriterRefusals : List ℕ
-datagramWriterRefusals = CUT_SHORT ∷ NOT_PERMITTED ∷ DISAGREE ∷ NOT_CONFIGURED ∷ OVER_LIMIT ∷ NO_ROOM ∷ []
+datagramWriterRefusals =
+    CUT_SHORT ∷ NOT_PERMITTED ∷ NOT_TAKEN ∷ BAD_LENGTH ∷ DISAGREE ∷ LEFT_OVER ∷ NOT_CONFIGURED ∷ OVER_LIMIT ∷ NO_ROOM ∷ []
 
 abbrev pub messageWriterRefusals : List ℕ
 messageWriterRefusals =
@@ -53,11 +55,19 @@ messageWriterRefusals =
 
 abbrev pub datagramAgainRefusals : List ℕ
 datagramAgainRefusals =
-    CUT_SHORT ∷ NOT_PERMITTED ∷ BAD_VERSION ∷ NOT_TAKEN ∷ BAD_LENGTH ∷ DISAGREE ∷ NOT_CONFIGURED ∷ OVER_LIMIT ∷ NO_ROOM ∷ []
+    CUT_SHORT ∷ NOT_PERMITTED ∷ BAD_VERSION ∷ NOT_TAKEN ∷ BAD_LENGTH ∷ DISAGREE ∷ LEFT_OVER ∷ NOT_CONFIGURED ∷ OVER_LIMIT ∷ NO_ROOM
+    ∷ []
 
 abbrev pub messageAgainRefusals : List ℕ
 messageAgainRefusals =
     CUT_SHORT ∷ NOT_PERMITTED ∷ NOT_TAKEN ∷ BAD_LENGTH ∷ DISAGREE ∷ LEFT_OVER ∷ NOT_CONFIGURED ∷ TOO_DEEP ∷ OVER_LIMIT ∷ NO_ROOM ∷ []
+
+-- of a step over a probe's ids and strings, and of a probe's body written
+abbrev pub probeStepRefusals : List ℕ
+probeStepRefusals = CUT_SHORT ∷ BAD_LENGTH ∷ OVER_LIMIT ∷ []
+
+abbrev pub probeWriterRefusals : List ℕ
+probeWriterRefusals = CUT_SHORT ∷ BAD_LENGTH ∷ DISAGREE ∷ OVER_LIMIT ∷ NO_ROOM ∷ []
 
 -- of cutting
 abbrev pub cutRefusals : List ℕ

@@ -107,7 +107,7 @@ identity-small f =
 header-small : (f : Flags) (configured : ℕ) → Gives (λ s h. Small s (h .envelope .publisher)) (envelopeAt f configured)
 header-small f configured =
     gives-bind (identity-small f)
-    (λ i. gives-next (payloadHeaderAt (f .«payload_header») (f .chunk))
+    (λ i. gives-next (payloadHeaderAt (f .«payload_header») (f .chunk) (f .probe))
     (λ p. gives-next here (λ e. gives-next (timesAt f (messagesOf (f .chunk) p configured)) (λ t. gives-next here (λ z. gives-pure _ (λ s q. q))))))
 
 body-small : (f : Flags) (sizes : List ℕ) → Gives (λ s m. Small s (m .envelope .publisher)) (envelopeBodyAt f sizes)
@@ -127,22 +127,27 @@ abbrev NoIds : PayloadHeader → Type 0
 NoIds PayloadHeader.Absent = Unit {0}
 NoIds (PayloadHeader.Ids n) = ⊥
 NoIds (PayloadHeader.Chunk w) = Unit {0}
+NoIds PayloadHeader.Probe = Unit {0}
 
 abbrev Present : PayloadHeader → Type 0
 Present PayloadHeader.Absent = ⊥
 Present (PayloadHeader.Ids n) = Unit {0}
 Present (PayloadHeader.Chunk w) = Unit {0}
+Present PayloadHeader.Probe = ⊥
 
-header-no-ids : (on chunk : Bool) → Gives (λ s h. chunk ≡ true → NoIds h) (payloadHeaderAt on chunk)
-header-no-ids false chunk = gives-pure PayloadHeader.Absent (λ s e. tt)
-header-no-ids true true = gives-next (item 2) (λ v. gives-pure (PayloadHeader.Chunk v) (λ s e. tt))
-header-no-ids true false = record { told = λ s at v n e q. absurd (false≢true q) }
+header-no-ids : (on chunk probe : Bool) → Gives (λ s h. chunk ≡ true → NoIds h) (payloadHeaderAt on chunk probe)
+header-no-ids on chunk true = gives-pure PayloadHeader.Probe (λ s e. tt)
+header-no-ids false chunk false = gives-pure PayloadHeader.Absent (λ s e. tt)
+header-no-ids true true false = gives-next (item 2) (λ v. gives-pure (PayloadHeader.Chunk v) (λ s e. tt))
+header-no-ids true false false = record { told = λ s at v n e q. absurd (false≢true q) }
 
 payload-present : (chunk : Bool) (h : PayloadHeader) (sizes : List ℕ) → Gives (λ s p. chunk ≡ true → Present h) (payloadAt chunk h sizes)
 payload-present true PayloadHeader.Absent sizes = record { told = λ s at v n e q. absurd (not-got e) }
 payload-present false PayloadHeader.Absent sizes = record { told = λ s at v n e q. absurd (false≢true q) }
 payload-present chunk (PayloadHeader.Ids n) sizes = record { told = λ s at v m e q. tt }
 payload-present chunk (PayloadHeader.Chunk w) sizes = record { told = λ s at v m e q. tt }
+payload-present true PayloadHeader.Probe sizes = record { told = λ s at v n e q. absurd (not-got e) }
+payload-present false PayloadHeader.Probe sizes = record { told = λ s at v n e q. absurd (false≢true q) }
 
 abbrev ChunkHeader : List ℕ → Envelope → Type 0
 ChunkHeader s e = e .chunk ≡ true → (w : ℕ) × (e .«payload_header» ≡ PayloadHeader.Chunk w)
@@ -151,6 +156,7 @@ chunk-id : (h : PayloadHeader) → NoIds h → Present h → (w : ℕ) × (h ≡
 chunk-id PayloadHeader.Absent a b = absurd b
 chunk-id (PayloadHeader.Ids n) a b = absurd a
 chunk-id (PayloadHeader.Chunk w) a b = (w, refl)
+chunk-id PayloadHeader.Probe a b = absurd b
 
 body-writer : (f : Flags) (sizes : List ℕ) → Gives (λ s m. ChunkHeader s (m .envelope)) (envelopeBodyAt f sizes)
 body-writer f sizes =
@@ -161,7 +167,7 @@ body-writer f sizes =
     header-kind : (configured : ℕ) → Gives (λ s h. h .envelope .chunk ≡ true → NoIds (h .envelope .«payload_header»)) (envelopeAt f configured)
     header-kind configured =
         gives-next (identityAt f)
-        (λ i. gives-bind (header-no-ids (f .«payload_header») (f .chunk))
+        (λ i. gives-bind (header-no-ids (f .«payload_header») (f .chunk) (f .probe))
         (λ p. gives-next here (λ e. gives-next (timesAt f (messagesOf (f .chunk) p configured)) (λ t. gives-next here (λ z. gives-pure _ (λ s q. q))))))
 
 pub chunk-writer : (sizes s : List ℕ) (m : NetworkMessage) (n : ℕ) → networkMessageAt sizes s ≡ got m n → m .envelope .chunk ≡ true → (w : ℕ) × (m .envelope .«payload_header» ≡ PayloadHeader.Chunk w)

@@ -20,6 +20,7 @@ abbrev pub chunkWriterOf : PayloadHeader → ℕ
 chunkWriterOf PayloadHeader.Absent = 0
 chunkWriterOf (PayloadHeader.Ids n) = 0
 chunkWriterOf (PayloadHeader.Chunk w) = w
+chunkWriterOf PayloadHeader.Probe = 0
 
 -- "The reassembly record now carries the WriterGroupId, or that there was none" (document 02, Req 06): none without a group header, or
 -- where its flag is off

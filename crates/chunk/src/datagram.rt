@@ -36,6 +36,7 @@ fn writer_of(header: PayloadHeader) -> u16
         PayloadHeader::Absent => 0,
         PayloadHeader::Ids(_) => 0,
         PayloadHeader::Chunk(w) => w,
+        PayloadHeader::Probe => 0,
     }
 }
 

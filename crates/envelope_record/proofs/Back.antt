@@ -63,6 +63,7 @@ header-back : (x : PayloadHeader) → headerNumber x < 65536 → payloadHeaderBy
 header-back PayloadHeader.Absent f = refl
 header-back (PayloadHeader.Ids n) f = ap PayloadHeader.Ids (at-most-same 65535 n (omega arith))
 header-back (PayloadHeader.Chunk w) f = ap PayloadHeader.Chunk (at-most-same 65535 w (omega arith))
+header-back PayloadHeader.Probe f = refl
 
 and-true : (b : Bool) → (b && true) ≡ b
 and-true true = refl
@@ -72,11 +73,13 @@ header-fitting : (x : PayloadHeader) → headerNumber x < 65536 → headerFits (
 header-fitting PayloadHeader.Absent f = refl
 header-fitting (PayloadHeader.Ids n) f = and-true (leb n 255)
 header-fitting (PayloadHeader.Chunk w) f = le-leb w 65535 (omega arith)
+header-fitting PayloadHeader.Probe f = refl
 
 header-code-fits : (x : PayloadHeader) → headerCode x < 256 ^ 8
 header-code-fits PayloadHeader.Absent = omega arith
 header-code-fits (PayloadHeader.Ids n) = omega arith
 header-code-fits (PayloadHeader.Chunk w) = omega arith
+header-code-fits PayloadHeader.Probe = omega arith
 
 promoted-back : (x : Promoted) → promotedIn (hasPromoted x) (promotedSize x) ≡ x
 promoted-back Promoted.Absent = refl

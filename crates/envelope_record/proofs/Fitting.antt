@@ -35,6 +35,7 @@ fits-header : (x : PayloadHeader) (vs : List Val) → Is (enum.row payloadHeader
 fits-header PayloadHeader.Absent vs h = omega arith
 fits-header (PayloadHeader.Ids n) vs h = omega (arith, enumLaws.owed payloadHeader.the-type payloadHeaderLaws.the-laws (PayloadHeader.Ids n) vs h .0)
 fits-header (PayloadHeader.Chunk w) vs h = omega (arith, enumLaws.owed payloadHeader.the-type payloadHeaderLaws.the-laws (PayloadHeader.Chunk w) vs h .0)
+fits-header PayloadHeader.Probe vs h = omega arith
 
 fits-promoted : (x : Promoted) (vs : List Val) → Is (enum.row promoted.the-type) x vs → promotedSize x < 256 ^ 8
 fits-promoted Promoted.Absent vs h = omega arith

@@ -61,16 +61,18 @@ abbrev pub groupSequence : GroupHeader → ℕ
 groupSequence GroupHeader.Absent = 0
 groupSequence (GroupHeader.Is g) = value16 (g .sequence)
 
--- "PayloadHeader: 0 absent, 1 Count and ids, 2 a chunk's writer id"; "Count, or the chunk's writer id"
+-- "PayloadHeader: 0 absent, 1 Count and ids, 2 a chunk's writer id, 3 absent and the payload is a probe"; "Count, or the chunk's writer id"
 abbrev pub headerCode : PayloadHeader → ℕ
 headerCode PayloadHeader.Absent = 0
 headerCode (PayloadHeader.Ids n) = 1
 headerCode (PayloadHeader.Chunk w) = 2
+headerCode PayloadHeader.Probe = 3
 
 abbrev pub headerNumber : PayloadHeader → ℕ
 headerNumber PayloadHeader.Absent = 0
 headerNumber (PayloadHeader.Ids n) = n
 headerNumber (PayloadHeader.Chunk w) = w
+headerNumber PayloadHeader.Probe = 0
 
 -- "promoted fields: 0 absent, else present; their size"
 abbrev pub hasPromoted : Promoted → ℕ
@@ -152,10 +154,12 @@ groupIn s items =
       sequence = given16 (bit 3 items) (numberAt s 10);
     }))
 
--- "PayloadHeader: 0 absent, 1 Count and ids, 2 a chunk's writer id (above 2 counts as absent)"; "Count, or the chunk's writer id"
+-- "PayloadHeader: 0 absent, 1 Count and ids, 2 a chunk's writer id, 3 absent and the payload is a probe (above 3 counts as absent)";
+-- "Count, or the chunk's writer id"
 abbrev pub payloadHeaderBy : ℕ → ℕ → PayloadHeader
 payloadHeaderBy kind v =
-    cond (eqb kind 1) (PayloadHeader.Ids (atMost 65535 v)) (cond (eqb kind 2) (PayloadHeader.Chunk (atMost 65535 v)) PayloadHeader.Absent)
+    cond (eqb kind 1) (PayloadHeader.Ids (atMost 65535 v))
+    (cond (eqb kind 2) (PayloadHeader.Chunk (atMost 65535 v)) (cond (eqb kind 3) PayloadHeader.Probe PayloadHeader.Absent))
 
 abbrev pub payloadHeaderIn : List ℕ → PayloadHeader
 payloadHeaderIn s = payloadHeaderBy (numberAt s 12) (numberAt s 13)
@@ -219,6 +223,7 @@ abbrev pub countFits : PayloadHeader → Bool
 countFits PayloadHeader.Absent = true
 countFits (PayloadHeader.Ids n) = leb n 255
 countFits (PayloadHeader.Chunk w) = true
+countFits PayloadHeader.Probe = true
 
 -- what the library reads in the envelope record r is the datagram's, each number of which fits the record's
 pub record EnvelopeBack (r : List ℕ) (m : NetworkMessage) : Type 0 where

@@ -150,6 +150,7 @@ fn header_code(x: PayloadHeader) -> u64
         PayloadHeader::Absent => 0,
         PayloadHeader::Ids(_) => 1,
         PayloadHeader::Chunk(_) => 2,
+        PayloadHeader::Probe => 3,
     }
 }
 
@@ -160,6 +161,7 @@ fn header_number(x: PayloadHeader) -> u64
         PayloadHeader::Absent => 0,
         PayloadHeader::Ids(n) => n as u64,
         PayloadHeader::Chunk(w) => w as u64,
+        PayloadHeader::Probe => 0,
     }
 }
 
@@ -387,6 +389,9 @@ fn payload_header_by(kind: u64, v: u64) -> PayloadHeader
     }
     if kind == 2 {
         return PayloadHeader::Chunk(at_most(65535, v) as u16);
+    }
+    if kind == 3 {
+        return PayloadHeader::Probe;
     }
     PayloadHeader::Absent
 }

@@ -64,6 +64,7 @@ fits-payload-header : (x : PayloadHeader) (vs : List Val) → Is (enum.row paylo
 fits-payload-header PayloadHeader.Absent vs h = tt
 fits-payload-header (PayloadHeader.Ids n) vs h = tt
 fits-payload-header (PayloadHeader.Chunk w) vs h = omega (arith, enumLaws.owed payloadHeader.the-type payloadHeaderLaws.the-laws (PayloadHeader.Chunk w) vs h .0)
+fits-payload-header PayloadHeader.Probe vs h = tt
 
 pub fits-envelope : (x : Envelope) (vs : List Val) → Is (struct.row envelope.the-type) x vs → FitsEnvelope x
 fits-envelope x vs h =

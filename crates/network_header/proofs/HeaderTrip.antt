@@ -2,7 +2,7 @@
 use Prim.Native.Nat.{ℕ, _+_, _*_, _^_, _<_, _≤_}
 use Rattle.wire.specs.Items.{guid, guidBytes}
 use Rattle.network_header.specs.declared.header.ClassId.{ClassId}
-use Rattle.network_header.specs.Header.{classAt, classOn, classBytes, FitsClass, idsShape, countRule, payloadHeaderAt, payloadHeaderOn, payloadHeaderBytes, countRefusal, FitsPayloadHeader, sizeRule, promotedAt, promotedOn, promotedBytes, promotedRefusal, promotedShape, idsOf, promotedOf}
+use Rattle.network_header.specs.Header.{classAt, classOn, classBytes, FitsClass, idsShape, countRule, payloadHeaderAt, payloadHeaderOn, probeOn, payloadHeaderBytes, countRefusal, FitsPayloadHeader, sizeRule, promotedAt, promotedOn, promotedBytes, promotedRefusal, promotedShape, idsOf, promotedOf}
 use Rattle.wire_writer.proofs.Trip.{Reads, last, nothing, guid-is, first, second, run-is, item-is, ruled-is}
 use mathlib.Core.Path.{_≡_, refl, ap, sym, subst}
 use mathlib.Core.List.{List, _++_}
@@ -32,7 +32,7 @@ chunk-on true w ids configured h = refl
 chunk-on false w ids configured h = absurd (omega arith)
 
 pub payload-header-is : (x : PayloadHeader) (chunk : Bool) (ids configured : List ℕ) (m : ℕ) → FitsPayloadHeader x → countRefusal x ≡ 0 → idsShape chunk x ids configured ≡ 0
-    → Reads (payloadHeaderAt (payloadHeaderOn x) chunk) m (payloadHeaderBytes ids x) x
+    → Reads (payloadHeaderAt (payloadHeaderOn x) chunk (probeOn x)) m (payloadHeaderBytes ids x) x
 payload-header-is PayloadHeader.Absent chunk ids configured m f a b = nothing PayloadHeader.Absent m
 payload-header-is (PayloadHeader.Ids n) chunk ids configured m f a b =
     let q1 = ids-counted chunk n ids configured b in
@@ -43,6 +43,7 @@ payload-header-is (PayloadHeader.Ids n) chunk ids configured m f a b =
     rw (q1 .0, p, q) (ap (λ (j : ℕ). got (PayloadHeader.Ids n) j) z)
 payload-header-is (PayloadHeader.Chunk w) chunk ids configured m f a b =
     rw (chunk-on chunk w ids configured b) (last (item 2) PayloadHeader.Chunk m (leBytes 2 w) w (item-is 2 w m f))
+payload-header-is PayloadHeader.Probe chunk ids configured m f a b = nothing PayloadHeader.Probe m
 
 -- the promoted fields that are written: of the size of the bytes given
 abbrev pub written : List ℕ → Promoted → Promoted
@@ -78,18 +79,19 @@ class-back true s at x next b l h =
     rw (sym (y .2)) (g .0, refl)
 class-back false s at x next b l h = rw (sym (got-value h), sym (got-next h)) (empty s at l, refl)
 
-pub payload-header-back : (on chunk : Bool) (s : List ℕ) (at : ℕ) (x : PayloadHeader) (next : ℕ) → Bytes s → at ≤ length s → payloadHeaderAt on chunk s at ≡ got x next
-    → Back s at (payloadHeaderBytes (idsOf s x next) x) next × (payloadHeaderOn x ≡ on)
-payload-header-back true true s at x next b l h =
+pub payload-header-back : (on chunk probe : Bool) (s : List ℕ) (at : ℕ) (x : PayloadHeader) (next : ℕ) → Bytes s → at ≤ length s → (probe ≡ true → on ≡ false)
+    → payloadHeaderAt on chunk probe s at ≡ got x next → Back s at (payloadHeaderBytes (idsOf s x next) x) next × (payloadHeaderOn x ≡ on) × (probeOn x ≡ probe)
+payload-header-back on chunk true s at x next b l p h = rw (sym (got-value h), sym (got-next h)) (empty s at l, sym (p refl), refl)
+payload-header-back true true false s at x next b l p h =
     let y = map-back (item 2) PayloadHeader.Chunk s at x next h in
-    rw (sym (y .2)) (item-back 2 s at (y .0) next b (y .1) .0, refl)
-payload-header-back true false s at x next b l h =
+    rw (sym (y .2)) (item-back 2 s at (y .0) next b (y .1) .0, refl, refl)
+payload-header-back true false false s at x next b l p h =
     let f = invert (ruled 1 countRule s at) (λ n i. (run (2 * n) >>= λ k. pure (PayloadHeader.Ids n)) s i) h in
     let i = item-back 1 s at (f .0) (f .1) b (ruled-back 1 countRule s at (f .0) (f .1) (f .2) .0) in
     let y = map-back (run (2 * f .0)) (λ k. PayloadHeader.Ids (f .0)) s (f .1) x next (f .3) in
     let r = run-back (2 * f .0) s (f .1) (y .0) next (y .1) in
-    rw (sym (y .2)) (join s at (leBytes 1 (f .0)) (f .1) (bytesBefore s next (2 * f .0)) next (i .0) (run-part s (f .1) (2 * f .0) next (r .1) (r .2)), refl)
-payload-header-back false chunk s at x next b l h = rw (sym (got-value h), sym (got-next h)) (empty s at l, refl)
+    rw (sym (y .2)) (join s at (leBytes 1 (f .0)) (f .1) (bytesBefore s next (2 * f .0)) next (i .0) (run-part s (f .1) (2 * f .0) next (r .1) (r .2)), refl, refl)
+payload-header-back false chunk false s at x next b l p h = rw (sym (got-value h), sym (got-next h)) (empty s at l, refl, refl)
 
 pub promoted-back : (on : Bool) (messages : ℕ) (s : List ℕ) (at : ℕ) (x : Promoted) (next : ℕ) → Bytes s → at ≤ length s → promotedAt on messages s at ≡ got x next
     → Back s at (promotedBytes (promotedOf s x next) x) next × (promotedOn x ≡ on)

@@ -53,7 +53,7 @@ pub flags-kept : (s : List ℕ) (at : ℕ) (f : Flags) (next : ℕ) → flagsAt 
 flags-kept s at f next h =
     let B = invert (ruled 1 byte0Rule s at) (λ b n. _) h in
     let E = invert (whenOn (eqb (B .0 / 128) 1) 0 (ruled 1 (extended1Rule (bit 4 (B .0)))) s (B .1)) (λ e n. _) (B .3) in
-    let G = map-back (whenOn (eqb (E .0 / 128) 1) 0 (ruled 1 extended2Rule)) (λ g. flagsOf (B .0) (E .0) g) s (E .1) f next (E .3) in
+    let G = map-back (whenOn (eqb (E .0 / 128) 1) 0 (ruled 1 (extended2Rule (bit 6 (B .0))))) (λ g. flagsOf (B .0) (E .0) g) s (E .1) f next (E .3) in
     subst (λ (x : Flags). timesRefusal (x .picoseconds) (x .timestamp) ≡ 0) (G .2) (extended-kept (eqb (B .0 / 128) 1) (bit 4 (B .0)) s (B .1) (E .0) (E .1) (E .2))
 
 -- the PublisherId: a string of at most 64 bytes, and as many bytes as it says
@@ -139,21 +139,24 @@ promoted-kept true messages s at x next b h =
 promoted-kept false messages s at x next b h =
     subst (λ (x : Promoted). (promotedRefusal x messages ≡ 0) × (promotedShape x (length (promotedOf s x next)) ≡ 0)) (got-value h) (refl, refl)
 
--- the PayloadHeader: a chunk's id for a chunk, else a Count and as many ids
+-- the PayloadHeader: a chunk's id for a chunk, else a Count and as many ids; none of a probe
 pub data HeaderKept (chunk : Bool) (s : List ℕ) (next : ℕ) : PayloadHeader → Type 0 where
   absent : HeaderKept chunk s next PayloadHeader.Absent
   ids : (n : ℕ) → chunk ≡ false → countRule n ≡ 0 → n < 256 → length (bytesBefore s next (2 * n)) ≡ 2 * n → HeaderKept chunk s next (PayloadHeader.Ids n)
   ofChunk : (w : ℕ) → chunk ≡ true → HeaderKept chunk s next (PayloadHeader.Chunk w)
+  ofProbe : HeaderKept chunk s next PayloadHeader.Probe
 
-pub payload-header-kept : (on chunk : Bool) (s : List ℕ) (at : ℕ) (x : PayloadHeader) (next : ℕ) → Bytes s → payloadHeaderAt on chunk s at ≡ got x next → HeaderKept chunk s next x
-payload-header-kept true true s at x next b h =
+pub payload-header-kept : (on chunk probe : Bool) (s : List ℕ) (at : ℕ) (x : PayloadHeader) (next : ℕ) → Bytes s → payloadHeaderAt on chunk probe s at ≡ got x next
+    → HeaderKept chunk s next x
+payload-header-kept on chunk true s at x next b h = subst (HeaderKept chunk s next) (got-value h) HeaderKept.ofProbe
+payload-header-kept true true false s at x next b h =
     let y = map-back (item 2) PayloadHeader.Chunk s at x next h in
     subst (HeaderKept true s next) (y .2) (HeaderKept.ofChunk (y .0) refl)
-payload-header-kept true false s at x next b h =
+payload-header-kept true false false s at x next b h =
     let f = invert (ruled 1 countRule s at) (λ n i. (run (2 * n) >>= λ k. pure (PayloadHeader.Ids n)) s i) h in
     let r = ruled-back 1 countRule s at (f .0) (f .1) (f .2) in
     let i = item-back 1 s at (f .0) (f .1) b (r .0) in
     let y = map-back (run (2 * f .0)) (λ k. PayloadHeader.Ids (f .0)) s (f .1) x next (f .3) in
     let q = run-back (2 * f .0) s (f .1) (y .0) next (y .1) in
     subst (HeaderKept false s next) (y .2) (HeaderKept.ids (f .0) refl (r .1) (i .1) (before-length s (f .1) (2 * f .0) next (q .1) (q .2)))
-payload-header-kept false chunk s at x next b h = subst (HeaderKept chunk s next) (got-value h) HeaderKept.absent
+payload-header-kept false chunk false s at x next b h = subst (HeaderKept chunk s next) (got-value h) HeaderKept.absent

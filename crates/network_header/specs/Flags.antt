@@ -12,7 +12,7 @@ use Rattle.network_header.specs.declared.envelope.Envelope.{Envelope}
 use Rattle.wire_writer.specs.Writing.{num, needed, byteBytes, on16, onI64}
 use Rattle.publisher_id.specs.Publisher.{publisherOn, idTypeOf}
 use Rattle.network_header.specs.Group.{groupOn}
-use Rattle.network_header.specs.Header.{classOn, payloadHeaderOn, promotedOn}
+use Rattle.network_header.specs.Header.{classOn, payloadHeaderOn, promotedOn, probeOn}
 
 -- "bits 0-3 version 1 (else 2)"
 abbrev pub byte0Rule : ℕ → ℕ
@@ -26,13 +26,20 @@ extended1Rule publisher e =
     (cond (bit 4 e) NOT_TAKEN
     (cond (bit 6 e && eqb (bits 5 1 e) 0) NOT_PERMITTED 0)))
 
--- ExtendedFlags2: "0 is 3. Bits 5-7 set, or type (bits 2-4) 3 to 7, is 3; type 1 or 2 is 4"
-abbrev pub extended2Rule : ℕ → ℕ
-extended2Rule e =
+-- Req 01: "a probe with PayloadHeader or promoted fields on is 3 .. A chunked probe stays 4, ahead of that 3; both stand at the
+-- ExtendedFlags2 byte"
+abbrev pub probeRule : Bool → ℕ → ℕ
+probeRule header e = cond (bit 0 e) NOT_TAKEN (cond header NOT_PERMITTED (cond (bit 1 e) NOT_PERMITTED 0))
+
+-- ExtendedFlags2, with byte 0's bit for the PayloadHeader: "0 is 3. Bits 5-7 set, or type (bits 2-4) 3 to 7, is 3"; type 2 is 4, and
+-- type 1 is a probe
+abbrev pub extended2Rule : Bool → ℕ → ℕ
+extended2Rule header e =
     cond (eqb e 0) NOT_PERMITTED
     (cond (leb 32 e) NOT_PERMITTED
     (cond (leb 3 (bits 2 3 e)) NOT_PERMITTED
-    (cond (leb 1 (bits 2 3 e)) NOT_TAKEN 0)))
+    (cond (eqb (bits 2 3 e) 2) NOT_TAKEN
+    (cond (eqb (bits 2 3 e) 1) (probeRule header e) 0))))
 
 -- what the three bytes say: a byte that is not there counts as 0
 abbrev pub flagsOf : ℕ → ℕ → ℕ → Flags
@@ -47,13 +54,14 @@ flagsOf b e f =
       picoseconds = bit 6 e;
       chunk = bit 0 f;
       promoted = bit 1 f;
+      probe = eqb (bits 2 3 f) 1;
     }
 
 abbrev pub flagsAt : Reader Flags
 flagsAt = do
   b ← ruled 1 byte0Rule
   e ← whenOn (eqb (b / 128) 1) 0 (ruled 1 (extended1Rule (bit 4 b)))
-  f ← whenOn (eqb (e / 128) 1) 0 (ruled 1 extended2Rule)
+  f ← whenOn (eqb (e / 128) 1) 0 (ruled 1 (extended2Rule (bit 6 b)))
   pure (flagsOf b e f)
 
 abbrev pub answerFlags : FlagsRead → Answer Flags
@@ -73,11 +81,12 @@ flagsFor x =
       picoseconds = on16 (x .picoseconds);
       chunk = x .chunk;
       promoted = promotedOn (x .promoted);
+      probe = probeOn (x .«payload_header»);
     }
 
--- bit 0 chunk; bit 1 promoted
+-- bit 0 chunk; bit 1 promoted; bits 2-4 the type, of a probe 1
 abbrev pub extended2Of : Flags → ℕ
-extended2Of f = num (f .chunk) + 2 * num (f .promoted)
+extended2Of f = num (f .chunk) + (2 * num (f .promoted) + 4 * num (f .probe))
 
 -- bits 0-2 PublisherId type, bit 3 DataSetClassId, 5 Timestamp, 6 PicoSeconds, 7 ExtendedFlags2
 abbrev pub extended1Of : Flags → ℕ
@@ -96,3 +105,7 @@ flagBytes f = leBytes 1 (byte0Of f) ++ (byteBytes (extended1Of f) ++ byteBytes (
 -- what reading refuses: "PicoSeconds, without [Timestamp] is 3"
 abbrev pub timesRefusal : Bool → Bool → ℕ
 timesRefusal picoseconds timestamp = cond picoseconds (cond timestamp 0 NOT_PERMITTED) 0
+
+-- what reading refuses: a chunked probe is 4, "ahead of" a probe with promoted fields, which is 3
+abbrev pub probeRefusal : Bool → Bool → Bool → ℕ
+probeRefusal probe chunk promoted = cond probe (cond chunk NOT_TAKEN (cond promoted NOT_PERMITTED 0)) 0

@@ -35,8 +35,12 @@ idsAt = do
   pure (PayloadHeader.Ids n)
 
 -- "PayloadHeader: for a chunk, DataSetWriterId 2; else Count and the ids"
-abbrev pub payloadHeaderAt : Bool → Bool → Reader PayloadHeader
-payloadHeaderAt on chunk = whenOn on PayloadHeader.Absent (cond chunk (item 2 >>= λ v. pure (PayloadHeader.Chunk v)) idsAt)
+abbrev pub announcedAt : Bool → Bool → Reader PayloadHeader
+announcedAt on chunk = whenOn on PayloadHeader.Absent (cond chunk (item 2 >>= λ v. pure (PayloadHeader.Chunk v)) idsAt)
+
+-- Req 01: a probe has no PayloadHeader, and its payload is a probe
+abbrev pub payloadHeaderAt : Bool → Bool → Bool → Reader PayloadHeader
+payloadHeaderAt on chunk probe = cond probe (pure PayloadHeader.Probe) (announcedAt on chunk)
 
 -- "Promoted: Size 2 (6 if the number of messages isn't one), then that many bytes"
 abbrev pub sizeRule : ℕ → ℕ → ℕ
@@ -75,12 +79,21 @@ abbrev pub payloadHeaderOn : PayloadHeader → Bool
 payloadHeaderOn PayloadHeader.Absent = false
 payloadHeaderOn (PayloadHeader.Ids n) = true
 payloadHeaderOn (PayloadHeader.Chunk w) = true
+payloadHeaderOn PayloadHeader.Probe = false
+
+-- whether the payload is a probe
+abbrev pub probeOn : PayloadHeader → Bool
+probeOn PayloadHeader.Absent = false
+probeOn (PayloadHeader.Ids n) = false
+probeOn (PayloadHeader.Chunk w) = false
+probeOn PayloadHeader.Probe = true
 
 -- "for a chunk, DataSetWriterId 2; else Count 1, then Count ids of 2": the ids are given as they stand, 2 bytes each
 abbrev pub payloadHeaderBytes : List ℕ → PayloadHeader → List ℕ
 payloadHeaderBytes ids PayloadHeader.Absent = []
 payloadHeaderBytes ids (PayloadHeader.Ids n) = leBytes 1 n ++ ids
 payloadHeaderBytes ids (PayloadHeader.Chunk w) = leBytes 2 w
+payloadHeaderBytes ids PayloadHeader.Probe = []
 
 -- "Promoted: Size 2, then that many bytes"
 abbrev pub promotedOn : Promoted → Bool
@@ -97,6 +110,7 @@ abbrev pub countRefusal : PayloadHeader → ℕ
 countRefusal PayloadHeader.Absent = 0
 countRefusal (PayloadHeader.Ids n) = countRule n
 countRefusal (PayloadHeader.Chunk w) = 0
+countRefusal PayloadHeader.Probe = 0
 
 abbrev pub promotedRefusal : Promoted → ℕ → ℕ
 promotedRefusal Promoted.Absent messages = 0
@@ -109,12 +123,13 @@ abbrev pub countShape : ℕ → ℕ → ℕ
 countShape n len = cond (leb 256 n) DISAGREE (cond (eqb len (2 * n)) 0 DISAGREE)
 
 -- ids: without a PayloadHeader "the configured writers apply in order", of which the first 16 count; a PayloadHeader has as
--- many as it says, and none for a chunk, whose own id it holds; chunk and PayloadHeader go together
+-- many as it says, and none for a chunk, whose own id it holds; chunk and PayloadHeader go together; a probe has none
 abbrev pub idsShape : Bool → PayloadHeader → List ℕ → List ℕ → ℕ
 idsShape chunk PayloadHeader.Absent ids configured = cond (sameNumbers ids (take MOST_WRITERS configured)) 0 DISAGREE
 idsShape chunk (PayloadHeader.Ids n) ids configured =
     cond chunk DISAGREE (countShape n (length ids))
 idsShape chunk (PayloadHeader.Chunk w) ids configured = cond chunk (unused (length ids)) DISAGREE
+idsShape chunk PayloadHeader.Probe ids configured = unused (length ids)
 
 -- promoted fields: as many bytes as they say, and a size of 2 bytes
 abbrev pub promotedShape : Promoted → ℕ → ℕ
@@ -125,6 +140,7 @@ abbrev pub idsOf : List ℕ → PayloadHeader → ℕ → List ℕ
 idsOf s PayloadHeader.Absent end = []
 idsOf s (PayloadHeader.Ids n) end = bytesBefore s end (2 * n)
 idsOf s (PayloadHeader.Chunk w) end = []
+idsOf s PayloadHeader.Probe end = []
 
 abbrev pub promotedOf : List ℕ → Promoted → ℕ → List ℕ
 promotedOf s Promoted.Absent end = []
@@ -138,3 +154,4 @@ abbrev pub FitsPayloadHeader : PayloadHeader → Type 0
 FitsPayloadHeader PayloadHeader.Absent = Unit
 FitsPayloadHeader (PayloadHeader.Ids n) = Unit
 FitsPayloadHeader (PayloadHeader.Chunk w) = w < 65536
+FitsPayloadHeader PayloadHeader.Probe = Unit

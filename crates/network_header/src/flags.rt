@@ -3,6 +3,7 @@ use crate::envelope::Envelope;
 use crate::group::group_on;
 use crate::header::class_on;
 use crate::header::payload_header_on;
+use crate::header::probe_on;
 use crate::header::promoted_on;
 use publisher_id::publisher::kind_of;
 use publisher_id::publisher::publisher_on;
@@ -22,7 +23,7 @@ use wire_writer::writing::put_flag_byte;
 ghost use mathlib.Core.Path.{_≡_};
 ghost use Rattle.wire.specs.Answer.{ruled, whenOn};
 ghost use Rattle.wire.specs.Items.{answerByte};
-ghost use Rattle.network_header.specs.Flags.{byte0Rule, extended1Rule, extended2Rule, flagsAt, flagsOf, answerFlags, extended2Of, extended1Of, byte0Of, flagBytes, flagsFor, timesRefusal};
+ghost use Rattle.network_header.specs.Flags.{byte0Rule, extended1Rule, probeRule, extended2Rule, flagsAt, flagsOf, answerFlags, extended2Of, extended1Of, byte0Of, flagBytes, flagsFor, timesRefusal, probeRefusal};
 ghost use Prim.Native.Nat.{_≤_};
 ghost use lib.ListN.{length};
 ghost use Rattle.wire_writer.specs.Store.{Stored};
@@ -40,6 +41,7 @@ pub struct Flags {
     pub picoseconds: bool,
     pub chunk: bool,
     pub promoted: bool,
+    pub probe: bool,
 }
 
 // The flag bytes with the position after them, or a refusal with its number and place.
@@ -75,8 +77,24 @@ fn extended1_rule(publisher: bool, e: u8) -> u8
     0
 }
 
-fn extended2_rule(e: u8) -> u8
-    ensures { λ r. ⌜ r ≡ extended2Rule e ⌝ }
+// A probe's ExtendedFlags2, where the PayloadHeader is on or off.
+fn probe_rule(header: bool, e: u8) -> u8
+    ensures { λ r. ⌜ r ≡ probeRule header e ⌝ }
+{
+    if e % 2 == 1 {
+        return NOT_TAKEN;
+    }
+    if header {
+        return NOT_PERMITTED;
+    }
+    if (e >> 1) % 2 == 1 {
+        return NOT_PERMITTED;
+    }
+    0
+}
+
+fn extended2_rule(header: bool, e: u8) -> u8
+    ensures { λ r. ⌜ r ≡ extended2Rule header e ⌝ }
 {
     if e == 0 {
         return NOT_PERMITTED;
@@ -88,8 +106,11 @@ fn extended2_rule(e: u8) -> u8
     if 3 <= kind {
         return NOT_PERMITTED;
     }
-    if 1 <= kind {
+    if kind == 2 {
         return NOT_TAKEN;
+    }
+    if kind == 1 {
+        return probe_rule(header, e);
     }
     0
 }
@@ -123,8 +144,8 @@ fn extended1(s: &[u8], on: bool, publisher: bool, at: usize) -> FlagByte
     FlagByte::Is(e, next)
 }
 
-fn extended2(s: &[u8], on: bool, at: usize) -> FlagByte
-    ensures { λ r. ⌜ answerByte r ≡ whenOn on 0 (ruled 1 extended2Rule) (now (s .entry)) at ⌝ }
+fn extended2(s: &[u8], on: bool, header: bool, at: usize) -> FlagByte
+    ensures { λ r. ⌜ answerByte r ≡ whenOn on 0 (ruled 1 (extended2Rule header)) (now (s .entry)) at ⌝ }
 {
     if !on {
         return FlagByte::Is(0, at);
@@ -132,7 +153,7 @@ fn extended2(s: &[u8], on: bool, at: usize) -> FlagByte
     let Item8::Is(e, next) = wire::read8(s, at) else {
         return FlagByte::Refused(CUT_SHORT, at);
     };
-    let number = extended2_rule(e);
+    let number = extended2_rule(header, e);
     if number != 0 {
         return FlagByte::Refused(number, at);
     }
@@ -152,6 +173,7 @@ fn flags_of(b: u8, e: u8, f: u8) -> Flags
         picoseconds: (e >> 6) % 2 == 1,
         chunk: f % 2 == 1,
         promoted: (f >> 1) % 2 == 1,
+        probe: (f >> 2) % 8 == 1,
     }
 }
 
@@ -163,7 +185,7 @@ pub fn read_flags(s: &[u8]) -> FlagsRead
         FlagByte::Refused(number, place) => FlagsRead::Refused(number, place),
         FlagByte::Is(b, at) => match extended1(s, b / 128 == 1, (b >> 4) % 2 == 1, at) {
             FlagByte::Refused(number, place) => FlagsRead::Refused(number, place),
-            FlagByte::Is(e, at) => match extended2(s, e / 128 == 1, at) {
+            FlagByte::Is(e, at) => match extended2(s, e / 128 == 1, (b >> 6) % 2 == 1, at) {
                 FlagByte::Refused(number, place) => FlagsRead::Refused(number, place),
                 FlagByte::Is(f, at) => FlagsRead::Is(flags_of(b, e, f), at),
             },
@@ -172,9 +194,9 @@ pub fn read_flags(s: &[u8]) -> FlagsRead
 }
 
 fn extended2_of(f: Flags) -> u8
-    ensures { λ r. ⌜ (r ≡ extended2Of f) × (r ≤ 3) ⌝ }
+    ensures { λ r. ⌜ (r ≡ extended2Of f) × (r ≤ 7) ⌝ }
 {
-    flag(f.chunk) + 2 * flag(f.promoted)
+    flag(f.chunk) + (2 * flag(f.promoted) + 4 * flag(f.probe))
 }
 
 fn extended1_of(f: Flags) -> u8
@@ -217,6 +239,7 @@ fn flags_for(x: Envelope) -> Flags
         picoseconds: is_on16(picoseconds),
         chunk: x.chunk,
         promoted: promoted_on(promoted),
+        probe: probe_on(payload_header),
     }
 }
 
@@ -265,4 +288,20 @@ pub fn times_refusal(picoseconds: bool, timestamp: bool) -> u8
         return 0;
     }
     NOT_PERMITTED
+}
+
+// The number by which reading refuses a probe that is a chunk, or has promoted fields; or 0.
+pub fn probe_refusal(probe: bool, chunk: bool, promoted: bool) -> u8
+    ensures { λ r. ⌜ r ≡ probeRefusal probe chunk promoted ⌝ }
+{
+    if !probe {
+        return 0;
+    }
+    if chunk {
+        return NOT_TAKEN;
+    }
+    if promoted {
+        return NOT_PERMITTED;
+    }
+    0
 }

@@ -14,7 +14,7 @@ use wire_writer::store::put8;
 use wire_writer::store::put16;
 use wire_writer::writing::six_unless;
 ghost use mathlib.Core.Path.{_≡_};
-ghost use Rattle.network_header.specs.Header.{classAt, payloadHeaderAt, idsAt, promotedAt, answerClass, answerPayloadHeader, answerPromoted, countRule, classOn, classBytes, payloadHeaderOn, payloadHeaderBytes, promotedOn, promotedBytes, countRefusal, promotedRefusal, countShape, idsShape, promotedShape};
+ghost use Rattle.network_header.specs.Header.{classAt, payloadHeaderAt, idsAt, promotedAt, answerClass, answerPayloadHeader, answerPromoted, countRule, classOn, classBytes, payloadHeaderOn, probeOn, payloadHeaderBytes, promotedOn, promotedBytes, countRefusal, promotedRefusal, countShape, idsShape, promotedShape};
 ghost use mathlib.Core.Bool.{cond};
 ghost use Prim.Native.Nat.{_+_, _≤_};
 ghost use lib.Dec.{eqb, leb};
@@ -35,11 +35,12 @@ pub enum ClassRead {
 }
 
 // The PayloadHeader: how many DataSetWriterIds it has, at most 255 in a datagram, or a chunk's DataSetWriterId. The ids end where the
-// part ends.
+// part ends. A probe has none, and its payload is a probe.
 pub enum PayloadHeader {
     Absent,
     Ids(u16),
     Chunk(u16),
+    Probe,
 }
 
 // A PayloadHeader with the position after it, or a refusal with its number and place.
@@ -99,10 +100,19 @@ fn ids(s: &[u8], at: usize) -> PayloadHeaderRead
     PayloadHeaderRead::Is(PayloadHeader::Ids(count as u16), next)
 }
 
-// Reads the PayloadHeader, where the flags announce one; a chunk has one writer id.
-pub fn read_payload_header(s: &[u8], on: bool, chunk: bool, at: usize) -> PayloadHeaderRead
-    ensures { λ r. ⌜ answerPayloadHeader r ≡ payloadHeaderAt on chunk (now (s .entry)) at ⌝ }
+// Reads the PayloadHeader, where the flags announce one; a chunk has one writer id, a probe none.
+pub fn read_payload_header(
+    s: &[u8],
+    on: bool,
+    chunk: bool,
+    probe: bool,
+    at: usize,
+) -> PayloadHeaderRead
+    ensures { λ r. ⌜ answerPayloadHeader r ≡ payloadHeaderAt on chunk probe (now (s .entry)) at ⌝ }
 {
+    if probe {
+        return PayloadHeaderRead::Is(PayloadHeader::Probe, at);
+    }
     if !on {
         return PayloadHeaderRead::Is(PayloadHeader::Absent, at);
     }
@@ -173,6 +183,19 @@ pub(crate) fn payload_header_on(x: PayloadHeader) -> bool
         PayloadHeader::Absent => false,
         PayloadHeader::Ids(_) => true,
         PayloadHeader::Chunk(_) => true,
+        PayloadHeader::Probe => false,
+    }
+}
+
+// Whether the payload is a probe.
+pub fn probe_on(x: PayloadHeader) -> bool
+    ensures { λ r. ⌜ r ≡ probeOn x ⌝ }
+{
+    match x {
+        PayloadHeader::Absent => false,
+        PayloadHeader::Ids(_) => false,
+        PayloadHeader::Chunk(_) => false,
+        PayloadHeader::Probe => true,
     }
 }
 
@@ -184,6 +207,7 @@ pub fn payload_header_size(x: PayloadHeader, ids: &[u8]) -> usize
         PayloadHeader::Absent => 0,
         PayloadHeader::Ids(_) => 1 + ids.len(),
         PayloadHeader::Chunk(_) => 2,
+        PayloadHeader::Probe => 0,
     }
 }
 
@@ -201,11 +225,12 @@ pub fn put_payload_header(out: &mut [u8], at: usize, x: PayloadHeader, ids: &[u8
             put_run(out, start, ids)
         }
         PayloadHeader::Chunk(w) => put16(out, at, w),
+        PayloadHeader::Probe => at,
     }
 }
 
 // Whether there are promoted fields.
-pub(crate) fn promoted_on(x: Promoted) -> bool
+pub fn promoted_on(x: Promoted) -> bool
     ensures { λ r. ⌜ r ≡ promotedOn x ⌝ }
 {
     match x {
@@ -249,6 +274,7 @@ pub fn count_refusal(x: PayloadHeader) -> u8
         PayloadHeader::Absent => 0,
         PayloadHeader::Ids(n) => count_rule(n),
         PayloadHeader::Chunk(_) => 0,
+        PayloadHeader::Probe => 0,
     }
 }
 
@@ -273,7 +299,7 @@ fn count_shape(n: u16, len: usize) -> u8
 }
 
 // 6 where these ids would read back otherwise, else 0: with a PayloadHeader as many as its Count, which is at most 255, without one the
-// configured ones.
+// configured ones, for a probe none.
 pub fn ids_shape(chunk: bool, x: PayloadHeader, ids: &[u8], configured: &[u16]) -> u8
     ensures { λ r. ⌜ r ≡ idsShape chunk x (now (ids .entry)) (now (configured .entry)) ⌝ }
 {
@@ -291,6 +317,7 @@ pub fn ids_shape(chunk: bool, x: PayloadHeader, ids: &[u8], configured: &[u16]) 
             }
             DISAGREE
         }
+        PayloadHeader::Probe => six_unless(ids.len() == 0),
     }
 }
 

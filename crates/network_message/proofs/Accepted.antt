@@ -114,3 +114,4 @@ payload-tiled (PayloadHeader.Ids c) o sizes s at p n e = go (eqb c 0) (leb c 1) 
     go false true q = rest-tiles sizes s at p n q
     go false false q = listed-tiles sizes s c at p n q
 payload-tiled (PayloadHeader.Chunk w) o sizes s at p n e = absurd o
+payload-tiled PayloadHeader.Probe o sizes s at p n e = absurd o

@@ -1,3 +1,4 @@
 pub mod Tallies
 pub mod Messages
 pub mod Accepted
+pub mod Probes

@@ -53,11 +53,12 @@ timesAt f messages = do
   m ← promotedAt (f .promoted) messages
   pure (record { timestamp = t; picoseconds = p; promoted = m })
 
--- "the number of messages .. a chunk counts as one, without a PayloadHeader the configured writers count"
+-- "the number of messages .. a chunk counts as one, without a PayloadHeader the configured writers count"; a probe has none
 abbrev pub countOf : PayloadHeader → ℕ → ℕ
 countOf PayloadHeader.Absent configured = configured
 countOf (PayloadHeader.Ids n) configured = n
 countOf (PayloadHeader.Chunk w) configured = 1
+countOf PayloadHeader.Probe configured = 0
 
 abbrev pub messagesOf : Bool → PayloadHeader → ℕ → ℕ
 messagesOf chunk p configured = cond chunk 1 (countOf p configured)
@@ -79,7 +80,7 @@ envelopeOf f i p t =
 abbrev pub envelopeAt : Flags → ℕ → Reader Header
 envelopeAt f configured = do
   i ← identityAt f
-  p ← payloadHeaderAt (f .«payload_header») (f .chunk)
+  p ← payloadHeaderAt (f .«payload_header») (f .chunk) (f .probe)
   e ← here
   t ← timesAt f (messagesOf (f .chunk) p configured)
   z ← here

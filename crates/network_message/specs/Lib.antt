@@ -1,3 +1,4 @@
 pub mod Payload
 pub mod Envelope
 pub mod WriterId
+pub mod ProbeMessage

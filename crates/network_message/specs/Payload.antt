@@ -5,7 +5,7 @@ use mathlib.Core.List.{List, [], _∷_}
 use lib.ListN.{length, getD}
 use lib.Dec.{leb, ltb, eqb}
 use Rattle.wire.specs.Lists.{total}
-use Rattle.wire.specs.Constants.{CUT_SHORT, DISAGREE, NOT_CONFIGURED, OVER_LIMIT}
+use Rattle.wire.specs.Constants.{CUT_SHORT, DISAGREE, NOT_CONFIGURED, NOT_TAKEN, OVER_LIMIT}
 use Rattle.wire.specs.Number.{le}
 use Rattle.wire.specs.Answer.{Answer, got, refused, Reader, item, run, andThen}
 use Rattle.network_header.specs.declared.header.PayloadHeader.{PayloadHeader}
@@ -17,6 +17,7 @@ use Rattle.network_message.specs.declared.payload.MessageCursor.{Message
 use Rattle.network_message.specs.declared.payload.MessageStep.{MessageStep}
 use Rattle.network_message.specs.declared.payload.MessageRead.{MessageRead}
 use Rattle.network_header.specs.Numbers.{configuredSizes}
+use Rattle.probe.specs.Body.{probeBodyAt}
 
 -- whether each size is at least 1
 abbrev pub allPositive : List ℕ → Bool
@@ -61,14 +62,20 @@ abbrev pub isSingle : PayloadHeader → Bool
 isSingle PayloadHeader.Absent = false
 isSingle (PayloadHeader.Ids n) = eqb n 1
 isSingle (PayloadHeader.Chunk w) = false
+isSingle PayloadHeader.Probe = false
 
--- "For a chunk, PayloadHeader off is 8". A chunk's payload has no messages of its own. "Count 1 (0 is 6)": in a datagram the PayloadHeader
--- has refused it before.
+-- Req 01: a probe's payload is its body, whose refusal is the datagram's; it has no messages
+abbrev pub probePayloadAt : Reader Payload
+probePayloadAt s at = andThen (probeBodyAt s at) (λ p next. got (messagesFrom 0 Sizes.Rest at) at)
+
+-- "For a chunk, PayloadHeader off is 8". A chunk's payload has no messages of its own. "Count 1 (0 is 6)", "A chunked probe stays 4": in a
+-- datagram the PayloadHeader and ExtendedFlags2 have refused them before.
 abbrev pub payloadAt : Bool → PayloadHeader → List ℕ → Reader Payload
 payloadAt chunk PayloadHeader.Absent sizes s at = cond chunk (refused NOT_CONFIGURED 0) (configuredAt (configuredSizes sizes) s at)
 payloadAt chunk (PayloadHeader.Ids n) sizes s at =
     cond (eqb n 0) (refused DISAGREE at) (cond (leb n 1) (restOnlyAt s at) (listedAt n s at))
 payloadAt chunk (PayloadHeader.Chunk w) sizes s at = got (messagesFrom 0 Sizes.Rest at) at
+payloadAt chunk PayloadHeader.Probe sizes s at = cond chunk (refused NOT_TAKEN at) (probePayloadAt s at)
 
 abbrev pub answerMessages : PayloadRead → Answer Payload
 answerMessages (PayloadRead.Is p) = got p (p .first)
@@ -121,8 +128,9 @@ abbrev pub answerPlace : MessageRead → Answer MessagePlace
 answerPlace (MessageRead.Is m next) = got m next
 answerPlace (MessageRead.Refused n place) = refused n place
 
--- a payload of messages (that is, of no chunk)
+-- a payload of messages (that is, of no chunk and no probe)
 abbrev pub OfMessages : PayloadHeader → Type 0
 OfMessages PayloadHeader.Absent = Unit {0}
 OfMessages (PayloadHeader.Ids n) = Unit {0}
 OfMessages (PayloadHeader.Chunk w) = ⊥
+OfMessages PayloadHeader.Probe = ⊥

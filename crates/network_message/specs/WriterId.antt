@@ -22,8 +22,9 @@ abbrev pub configuredId : List ℕ → ℕ → Optional16
 configuredId ids k = cond (leb (length (take MOST_WRITERS ids)) k) Optional16.Absent (Optional16.Is (getD ids k 0))
 
 -- the DataSetWriterId of message k: its id in the PayloadHeader, which ends at a position; without a PayloadHeader "the
--- configured writers apply in order"
+-- configured writers apply in order"; a probe has no messages
 abbrev pub writerIdOf : PayloadHeader → ℕ → List ℕ → ℕ → List ℕ → Optional16
 writerIdOf PayloadHeader.Absent end ids k s = configuredId ids k
 writerIdOf (PayloadHeader.Ids n) end ids k s = listedId n end k s
 writerIdOf (PayloadHeader.Chunk w) end ids k s = Optional16.Is w
+writerIdOf PayloadHeader.Probe end ids k s = Optional16.Absent

@@ -132,7 +132,8 @@ fn read_times(s: &[u8], flags: Flags, messages: usize, at: usize) -> TimesRead
     }
 }
 
-// The number of messages for the promoted fields: a chunk counts as one, without a PayloadHeader the configured writers count.
+// The number of messages for the promoted fields: a chunk counts as one, without a PayloadHeader the configured writers count; a probe
+// has none.
 pub fn messages_of(chunk: bool, header: PayloadHeader, configured: usize) -> usize
     ensures { λ r. ⌜ r ≡ messagesOf chunk header configured ⌝ }
 {
@@ -143,6 +144,7 @@ pub fn messages_of(chunk: bool, header: PayloadHeader, configured: usize) -> usi
         PayloadHeader::Absent => configured,
         PayloadHeader::Ids(n) => n as usize,
         PayloadHeader::Chunk(_) => 1,
+        PayloadHeader::Probe => 0,
     }
 }
 
@@ -167,7 +169,7 @@ fn envelope_of(flags: Flags, i: Identity, header: PayloadHeader, t: Times) -> En
     }
 }
 
-fn read_header(s: &[u8], flags: Flags, configured: usize, at: usize) -> HeaderRead
+pub(crate) fn read_header(s: &[u8], flags: Flags, configured: usize, at: usize) -> HeaderRead
     ensures { λ r. ⌜ answerEnvelope r ≡ envelopeAt flags configured (now (s .entry)) at ⌝ }
 {
     match read_identity(s, flags, at) {
@@ -176,6 +178,7 @@ fn read_header(s: &[u8], flags: Flags, configured: usize, at: usize) -> HeaderRe
             s,
             flags.payload_header,
             flags.chunk,
+            flags.probe,
             at,
         ) {
             PayloadHeaderRead::Refused(number, place) => HeaderRead::Refused(number, place),
@@ -207,6 +210,7 @@ fn is_single(header: PayloadHeader) -> bool
         PayloadHeader::Absent => false,
         PayloadHeader::Ids(n) => n == 1,
         PayloadHeader::Chunk(_) => false,
+        PayloadHeader::Probe => false,
     }
 }
 
@@ -223,7 +227,12 @@ fn with_rest(s: &[u8], envelope: Envelope, places: Places) -> NetworkMessageRead
 }
 
 // A NetworkMessage after its header. A single message, the common one, has a way of its own, so that its payload is not copied in pieces.
-fn with_payload(s: &[u8], envelope: Envelope, places: Places, sizes: &[u16]) -> NetworkMessageRead
+pub(crate) fn with_payload(
+    s: &[u8],
+    envelope: Envelope,
+    places: Places,
+    sizes: &[u16],
+) -> NetworkMessageRead
     ensures { λ r.
         let payload = payloadAt (envelope .chunk) (envelope .«payload_header») (now (sizes .entry)) (now (s .entry)) (places .payload) in
         ⌜ answerNetworkMessage r ≡ andThen payload

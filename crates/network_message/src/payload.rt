@@ -2,11 +2,14 @@
 use network_header::header::PayloadHeader;
 use network_header::numbers::number_at;
 use network_header::numbers::writers;
+use probe::body::ProbeRead;
+use probe::body::read_body;
 use wire::Item16;
 use wire::Run;
 use wire::constants::CUT_SHORT;
 use wire::constants::DISAGREE;
 use wire::constants::NOT_CONFIGURED;
+use wire::constants::NOT_TAKEN;
 use wire::constants::OVER_LIMIT;
 use wire::part::tail;
 ghost use mathlib.Core.Path.{_≡_};
@@ -15,7 +18,7 @@ ghost use lib.ListN.{length, take, getD};
 ghost use Rattle.wire.specs.Lists.{total};
 ghost use Rattle.wire.specs.Number.{le};
 ghost use Rattle.wire.specs.Answer.{item};
-ghost use Rattle.network_message.specs.Payload.{allPositive, listed, restOnlyAt, listedAt, sizedAt, configuredAt, payloadAt, sizeOfMessage, valueOr0, placeOfMessage, nthPlaceAt, placeStepAt, answerMessages, answerPlaceStep, answerPlace};
+ghost use Rattle.network_message.specs.Payload.{allPositive, listed, restOnlyAt, listedAt, sizedAt, configuredAt, probePayloadAt, payloadAt, sizeOfMessage, valueOr0, placeOfMessage, nthPlaceAt, placeStepAt, answerMessages, answerPlaceStep, answerPlace};
 ghost use Rattle.network_header.specs.Numbers.{configuredSizes};
 ghost use Rattle.wire.specs.Constants.{MOST_WRITERS};
 
@@ -160,7 +163,21 @@ fn configured_sizes(s: &[u8], sizes: &[u16], at: usize) -> PayloadRead
     PayloadRead::Refused(NOT_CONFIGURED, 0)
 }
 
-// The payload after a payload header; a Count of 0 is 6.
+// The payload of a probe, which has no messages.
+fn probe_payload(s: &[u8], at: usize) -> PayloadRead
+    ensures { λ r. ⌜ answerMessages r ≡ probePayloadAt (now (s .entry)) at ⌝ }
+{
+    match read_body(s, at) {
+        ProbeRead::Refused(number, place) => PayloadRead::Refused(number, place),
+        ProbeRead::Is(_, _) => PayloadRead::Is(Payload {
+            count: 0,
+            sizes: Sizes::Rest,
+            first: at,
+        }),
+    }
+}
+
+// The payload after a payload header; a Count of 0 is 6, a chunked probe 4.
 pub fn read_payload(
     s: &[u8],
     chunk: bool,
@@ -191,6 +208,12 @@ pub fn read_payload(
             sizes: Sizes::Rest,
             first: at,
         }),
+        PayloadHeader::Probe => {
+            if chunk {
+                return PayloadRead::Refused(NOT_TAKEN, at);
+            }
+            probe_payload(s, at)
+        }
     }
 }
 

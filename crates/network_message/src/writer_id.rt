@@ -38,5 +38,6 @@ pub fn writer_id(s: &[u8], header: PayloadHeader, end: usize, ids: &[u16], k: us
         PayloadHeader::Absent => configured_id(ids, k),
         PayloadHeader::Ids(n) => listed_id(s, n, end, k),
         PayloadHeader::Chunk(w) => Optional16::Is(w),
+        PayloadHeader::Probe => Optional16::Absent,
     }
 }

@@ -41,6 +41,7 @@ pub ids-within : (s : List ℕ) (p : PayloadHeader) (end k : ℕ) → length s �
 ids-within s PayloadHeader.Absent end k h = omega arith
 ids-within s (PayloadHeader.Ids n) end k h = before-short s end (2 * n) k h
 ids-within s (PayloadHeader.Chunk w) end k h = omega arith
+ids-within s PayloadHeader.Probe end k h = omega arith
 
 pub promoted-within : (s : List ℕ) (p : Promoted) (end k : ℕ) → length s ≤ k → length (promotedOf s p end) ≤ k
 promoted-within s Promoted.Absent end k h = omega arith

@@ -19,10 +19,10 @@ use Rattle.network_message.specs.Payload.{restOnlyAt}
 use Rattle.network_message.specs.Envelope.{messagesOf}
 use Rattle.wire_writer.specs.Writing.{orElse, on16, onI64, picosecondsRefusal, unused}
 use Rattle.wire_writer.proofs.Refusals.{passed, held, both-zero, no}
-use Rattle.network_header.specs.Flags.{timesRefusal}
+use Rattle.network_header.specs.Flags.{timesRefusal, probeRefusal}
 use Rattle.network_header.specs.Group.{groupRefusal}
 use Rattle.publisher_id.specs.Publisher.{publisherRefusal, publisherShape}
-use Rattle.network_header.specs.Header.{countRefusal, promotedRefusal, idsShape, promotedShape}
+use Rattle.network_header.specs.Header.{countRefusal, promotedRefusal, idsShape, promotedShape, probeOn, promotedOn}
 use Rattle.network_message_writer.specs.Payload.{listedRefusal, refusalNumber, payloadRefusal, lengthsShape}
 use Rattle.network_message_writer.specs.Envelope.{GivenDatagram, datagramReadingRefusal, shapeRefusal, datagramRefusal}
 use Rattle.network_header.proofs.Sizes.{ids-counted}
@@ -30,6 +30,7 @@ use Rattle.network_header.proofs.Sizes.{ids-counted}
 -- none of the refusals
 pub record Zeros (g : GivenDatagram) (x : Envelope) (sizes configured : List ℕ) : Type 0 where
   pub times : timesRefusal (on16 (x .picoseconds)) (onI64 (x .timestamp)) ≡ 0
+  pub probe : probeRefusal (probeOn (x .«payload_header»)) (x .chunk) (promotedOn (x .promoted)) ≡ 0
   pub publisher : publisherRefusal (x .publisher) (length (g .text)) ≡ 0
   pub group : groupRefusal (x .group) ≡ 0
   pub count : countRefusal (x .«payload_header») ≡ 0
@@ -49,14 +50,16 @@ zeros g x sizes configured h =
     let n4 = countRefusal (x .«payload_header») in
     let n3 = groupRefusal (x .group) in
     let n2 = publisherRefusal (x .publisher) (length (g .text)) in
+    let n0 = probeRefusal (probeOn (x .«payload_header»)) (x .chunk) (promotedOn (x .promoted)) in
     let n1 = timesRefusal (on16 (x .picoseconds)) (onI64 (x .timestamp)) in
     let m4 = lengthsShape (x .«payload_header») (g .lengths) sizes in
     let m3 = promotedShape (x .promoted) (length (g .promoted)) in
     let m2 = idsShape (x .chunk) (x .«payload_header») (g .ids) configured in
     let m1 = publisherShape (x .publisher) (length (g .text)) in
     let r0 = both-zero (datagramReadingRefusal g x sizes) (shapeRefusal g x sizes configured) h in
-    let r1 = both-zero n1 (orElse n2 (orElse n3 (orElse n4 (orElse n5 (orElse n6 n7))))) (r0 .0) in
-    let r2 = both-zero n2 (orElse n3 (orElse n4 (orElse n5 (orElse n6 n7)))) (r1 .1) in
+    let r1 = both-zero n1 (orElse n0 (orElse n2 (orElse n3 (orElse n4 (orElse n5 (orElse n6 n7)))))) (r0 .0) in
+    let rp = both-zero n0 (orElse n2 (orElse n3 (orElse n4 (orElse n5 (orElse n6 n7))))) (r1 .1) in
+    let r2 = both-zero n2 (orElse n3 (orElse n4 (orElse n5 (orElse n6 n7)))) (rp .1) in
     let r3 = both-zero n3 (orElse n4 (orElse n5 (orElse n6 n7))) (r2 .1) in
     let r4 = both-zero n4 (orElse n5 (orElse n6 n7)) (r3 .1) in
     let r5 = both-zero n5 (orElse n6 n7) (r4 .1) in
@@ -66,6 +69,7 @@ zeros g x sizes configured h =
     let s3 = both-zero m3 m4 (s2 .1) in
     record {
       times = r1 .0;
+      probe = rp .0;
       publisher = r2 .0;
       group = r3 .0;
       count = r4 .0;
@@ -113,6 +117,7 @@ ids-short chunk (PayloadHeader.Ids n) ids configured b =
     let q = ids-counted chunk n ids configured b in
     omega (arith, q .1, q .2)
 ids-short chunk (PayloadHeader.Chunk w) ids configured b = none (length ids) (chunk-unused chunk (length ids) b)
+ids-short chunk PayloadHeader.Probe ids configured b = none (length ids) b
 
 promoted-short : (x : Promoted) (n : ℕ) → promotedShape x n ≡ 0 → n ≤ 65535
 promoted-short Promoted.Absent n b = none n b
@@ -144,6 +149,7 @@ lengths-short chunk (PayloadHeader.Ids n) ids lengths messages sizes configured 
     go false true o p q = none (length lengths) q
     go false false o p q = omega (arith, ids-counted chunk n ids configured a .1, listed-length n lengths (length messages) p)
 lengths-short chunk (PayloadHeader.Chunk w) ids lengths messages sizes configured a b c = none (length lengths) c
+lengths-short chunk PayloadHeader.Probe ids lengths messages sizes configured a b c = none (length lengths) c
 
 pub all-short : (g : GivenDatagram) (x : Envelope) (sizes configured : List ℕ) → datagramRefusal g x sizes configured ≡ 0
     → (length (g .text) ≤ 65535) × (length (g .ids) ≤ 65535) × (length (g .promoted) ≤ 65535) × (length (g .lengths) ≤ 65535)

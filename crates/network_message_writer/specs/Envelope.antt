@@ -9,14 +9,14 @@ use Rattle.network_header.specs.declared.envelope.Places.{Places}
 use Rattle.network_header.specs.Numbers.{configuredSizes}
 use Rattle.network_message.specs.Envelope.{networkMessageAt, messagesOf}
 use Rattle.wire_writer.specs.Writing.{orElse, on16, onI64, optional16Bytes, optionalI64Bytes, picosecondsRefusal, Output, writing, unless, afterReading}
-use Rattle.network_header.specs.Flags.{flagBytes, flagsFor, timesRefusal}
+use Rattle.network_header.specs.Flags.{flagBytes, flagsFor, timesRefusal, probeRefusal}
 use Rattle.publisher_id.specs.Publisher.{publisherBytes, publisherRefusal, publisherShape, textOf}
 use Rattle.network_header.specs.Group.{groupBytes, groupRefusal}
-use Rattle.network_header.specs.Header.{classBytes, payloadHeaderBytes, promotedBytes, countRefusal, promotedRefusal, idsShape, promotedShape, idsOf, promotedOf}
+use Rattle.network_header.specs.Header.{classBytes, payloadHeaderBytes, promotedBytes, countRefusal, promotedRefusal, idsShape, promotedShape, idsOf, promotedOf, probeOn, promotedOn}
 use Rattle.network_message_writer.specs.Payload.{listBytes, payloadRefusal, lengthsShape}
 
 -- what is given beside the envelope: the bytes of a string PublisherId, the DataSetWriterIds (2 bytes each), the promoted
--- fields, the lengths of several messages (2 bytes each), and the messages one after the other or a chunk's payload
+-- fields, the lengths of several messages (2 bytes each), and the messages one after the other, a chunk's payload or a probe's body
 pub record GivenDatagram : Type 0 where
   pub text : List ℕ
   pub ids : List ℕ
@@ -44,22 +44,24 @@ abbrev pub datagramOf : GivenDatagram → Envelope → List ℕ
 datagramOf g x = envelopeBytes (g .text) (g .ids) (g .promoted) x ++ (listBytes (x .«payload_header») (g .lengths) ++ g .messages)
 
 -- "A writer refuses what reading would refuse, by the same number in reading order"; at their turn PicoSeconds of 10,000 and up, by 3
--- (Req 02), though reading takes them as 9,999
+-- (Req 02), though reading takes them as 9,999. ExtendedFlags2 refuses a probe that is a chunk or has promoted fields (Req 01).
 abbrev pub headerRefusal : Envelope → ℕ → ℕ → ℕ → ℕ
 headerRefusal x text configured payload =
     orElse (timesRefusal (on16 (x .picoseconds)) (onI64 (x .timestamp)))
+    (orElse (probeRefusal (probeOn (x .«payload_header»)) (x .chunk) (promotedOn (x .promoted)))
     (orElse (publisherRefusal (x .publisher) text)
     (orElse (groupRefusal (x .group))
     (orElse (countRefusal (x .«payload_header»))
     (orElse (picosecondsRefusal (x .picoseconds))
-    (orElse (promotedRefusal (x .promoted) (messagesOf (x .chunk) (x .«payload_header») configured)) payload)))))
+    (orElse (promotedRefusal (x .promoted) (messagesOf (x .chunk) (x .«payload_header») configured)) payload))))))
 
 -- what stands before the PicoSeconds of these
 abbrev pub beforePicoseconds : Envelope → ℕ → ℕ
 beforePicoseconds x text =
     orElse (timesRefusal (on16 (x .picoseconds)) (onI64 (x .timestamp)))
+    (orElse (probeRefusal (probeOn (x .«payload_header»)) (x .chunk) (promotedOn (x .promoted)))
     (orElse (publisherRefusal (x .publisher) text)
-    (orElse (groupRefusal (x .group)) (countRefusal (x .«payload_header»))))
+    (orElse (groupRefusal (x .group)) (countRefusal (x .«payload_header»)))))
 
 -- the refusals in reading order of a datagram given
 abbrev pub datagramReadingRefusal : GivenDatagram → Envelope → List ℕ → ℕ

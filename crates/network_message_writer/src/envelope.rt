@@ -6,6 +6,7 @@ use crate::payload::put_payload;
 use network_header::envelope::Envelope;
 use network_header::envelope::Places;
 use network_header::flags::flags_size;
+use network_header::flags::probe_refusal;
 use network_header::flags::put_flags;
 use network_header::flags::times_refusal;
 use network_header::group::group_refusal;
@@ -17,6 +18,8 @@ use network_header::header::class_size;
 use network_header::header::count_refusal;
 use network_header::header::ids_shape;
 use network_header::header::payload_header_size;
+use network_header::header::probe_on;
+use network_header::header::promoted_on;
 use network_header::header::promoted_refusal;
 use network_header::header::promoted_shape;
 use network_header::header::promoted_size;
@@ -134,9 +137,14 @@ fn header_refusal(x: Envelope, text: usize, configured: usize, payload: u8) -> u
         publisher_refusal(publisher, text),
         or_else(group_refusal(group), tail),
     );
+    let probe = probe_refusal(
+        probe_on(payload_header),
+        x.chunk,
+        promoted_on(promoted_header),
+    );
     or_else(
         times_refusal(is_on16(picoseconds), is_on_i64(timestamp)),
-        head,
+        or_else(probe, head),
     )
 }
 
@@ -243,8 +251,8 @@ pub fn refusal(
 
 // Writes a NetworkMessage from the start of a buffer. `text` has the bytes of a string PublisherId, `ids` the
 // DataSetWriterIds and `lengths` the lengths of several messages, each as 2 bytes, lowest first; for one message and for a
-// chunk `lengths` is empty. `messages` has the messages one after the other, or a chunk's payload. `sizes` and `configured`
-// are the sizes and ids of the configured writers.
+// chunk `lengths` is empty. `messages` has the messages one after the other, a chunk's payload, or a probe. `sizes` and
+// `configured` are the sizes and ids of the configured writers.
 pub fn write(
     out: &mut [u8],
     x: Envelope,
@@ -296,6 +304,7 @@ fn ids_of<'a>(s: &'a [u8], x: PayloadHeader, end: usize) -> &'a [u8]
         PayloadHeader::Absent => part(s, 0, 0),
         PayloadHeader::Ids(n) => part(s, wire::left(end, 2 * (n as usize)), 2 * (n as usize)),
         PayloadHeader::Chunk(_) => part(s, 0, 0),
+        PayloadHeader::Probe => part(s, 0, 0),
     }
 }
 

@@ -48,6 +48,7 @@ pub(crate) fn payload_refusal(
             listed_refusal(n, lengths, messages.len())
         }
         PayloadHeader::Chunk(_) => 0,
+        PayloadHeader::Probe => payload_number(messages, chunk, x, sizes),
     }
 }
 
@@ -69,6 +70,7 @@ pub(crate) fn lengths_shape(x: PayloadHeader, lengths: &[u8], sizes: &[u16]) -> 
             0
         }
         PayloadHeader::Chunk(_) => six_unless(lengths.len() == 0),
+        PayloadHeader::Probe => six_unless(lengths.len() == 0),
     }
 }
 
@@ -85,6 +87,7 @@ pub(crate) fn list_size(x: PayloadHeader, lengths: &[u8]) -> usize
             lengths.len()
         }
         PayloadHeader::Chunk(_) => 0,
+        PayloadHeader::Probe => 0,
     }
 }
 
@@ -100,6 +103,7 @@ fn put_list(out: &mut [u8], at: usize, x: PayloadHeader, lengths: &[u8]) -> usiz
             put_run(out, at, lengths)
         }
         PayloadHeader::Chunk(_) => at,
+        PayloadHeader::Probe => at,
     }
 }
 

@@ -12,6 +12,7 @@ use vector_lines::print::newline;
 use vector_lines::print::put;
 use wire::part::part;
 
+mod asked;
 mod configurations;
 mod dataset_messages;
 mod network_messages;
@@ -58,6 +59,7 @@ fn vector(subject: u8, line: &[u8], bytes: &[u8]) {
         b'p' => parts::vector(line, bytes),
         b'n' => network_messages::vector(line, bytes),
         b'd' => dataset_messages::vector(line, bytes),
+        b'a' => asked::vector(line, bytes),
         _ => configurations::vector(line, bytes),
     }
 }

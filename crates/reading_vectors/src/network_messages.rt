@@ -54,7 +54,7 @@ fn show(s: &[u8], sizes: &[u16]) {
 }
 
 // The id's type and its number; of a string its length.
-fn publisher(id: PublisherId) {
+pub fn publisher(id: PublisherId) {
     match id {
         PublisherId::Absent => put(b" -"),
         PublisherId::Byte(v) => typed(0, v as usize),

@@ -40,3 +40,11 @@ VALUE_SIZE = 192
 -- The chunk record's bytes.
 abbrev pub CHUNK_SIZE : ℕ
 CHUNK_SIZE = 128
+
+-- The probe record's bytes.
+abbrev pub PROBE_SIZE : ℕ
+PROBE_SIZE = 128
+
+-- The bytes of the record of a probe's id or string.
+abbrev pub ITEM_SIZE : ℕ
+ITEM_SIZE = 32

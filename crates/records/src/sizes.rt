@@ -29,3 +29,9 @@ pub const VALUE_SIZE: usize = 192;
 
 // The chunk record's bytes.
 pub const CHUNK_SIZE: usize = 128;
+
+// The probe record's bytes.
+pub const PROBE_SIZE: usize = 128;
+
+// The bytes of the record of a probe's id or string.
+pub const ITEM_SIZE: usize = 32;

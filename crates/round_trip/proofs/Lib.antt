@@ -5,6 +5,7 @@ pub mod DataSetMessageHeader
 pub mod DataSetMessageNumber
 pub mod DataSetMessageRefused
 pub mod DataSetMessageOtherwise
+pub mod ProbePayload
 pub mod NetworkMessageParts
 pub mod NetworkMessagePayload
 pub mod NetworkMessageMessages

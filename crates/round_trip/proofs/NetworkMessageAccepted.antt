@@ -10,7 +10,7 @@ use lib.Seq.{length-take-le, drop-drop}
 use lib.Dec.{eqb, leb}
 use borrow.Author.Tests.{eq-eqb, lt-leb}
 use Rattle.wire.specs.Number.{le, leBytes}
-use Rattle.wire.specs.Answer.{got, refused, run, item, signedItem}
+use Rattle.wire.specs.Answer.{got, refused, run, ruled, item, signedItem, pure, _>>=_}
 use Rattle.wire.specs.Optional.{optionalI64, picosecondsRead, picosecondsAt}
 use Rattle.wire.specs.declared.optional.Optional16.{Optional16}
 use Rattle.wire.specs.declared.optional.OptionalI64.{OptionalI64}
@@ -20,8 +20,9 @@ use Rattle.network_header.specs.declared.header.PayloadHeader.{PayloadHeader}
 use Rattle.network_message.specs.declared.payload.Payload.{Payload}
 use Rattle.network_header.specs.declared.envelope.Envelope.{Envelope}
 use Rattle.network_header.specs.declared.envelope.Places.{Places}
-use Rattle.network_header.specs.Flags.{flagsAt, timesRefusal}
-use Rattle.network_header.specs.Header.{payloadHeaderAt, idsShape, countRefusal, promotedRefusal, promotedShape, promotedOf}
+use Rattle.network_header.specs.Flags.{flagsAt, timesRefusal, probeRefusal}
+use Rattle.network_header.specs.Header.{countRule, payloadHeaderAt, probeOn, idsShape, countRefusal, sizeRule, promotedAt, promotedOn, promotedRefusal, promotedShape, promotedOf}
+use Rattle.network_header.specs.declared.header.Promoted.{Promoted}
 use Rattle.network_header.specs.Numbers.{configuredSizes, agree, sameNumbers}
 use Rattle.network_message.specs.Payload.{restOnlyAt, listedAt, payloadAt}
 use Rattle.network_message.specs.Envelope.{Header, NetworkMessage, identityAt, timesAt, messagesOf, envelopeAt, envelopeBodyAt, networkMessageAt}
@@ -33,6 +34,7 @@ use Rattle.network_header.specs.Group.{groupRefusal}
 use Rattle.network_message_writer.specs.Payload.{listBytes, refusalNumber, payloadRefusal, lengthsShape}
 use Rattle.network_message_writer.specs.Envelope.{datagramOf, datagramRefusal, againOf}
 use Rattle.round_trip.specs.NetworkMessage.{rewritten, AsManyLengths, numbersBytes, idsGiven, lengthsGiven, messagesGiven, givenOf}
+use Rattle.network_header.proofs.FlagsBack.{flags-back}
 use Rattle.network_header.proofs.Kept.{flags-kept, publisher-kept, group-kept, promoted-kept, HeaderKept, payload-header-kept}
 use Rattle.wire_writer.proofs.Refusals.{passed}
 use Rattle.round_trip.proofs.NetworkMessagePayload.{Counted}
@@ -76,9 +78,25 @@ timestamp-on : (on : Bool) (s : List ℕ) (at : ℕ) (x : OptionalI64) (next : �
 timestamp-on true s at x next h = subst (λ (x : OptionalI64). onI64 x ≡ true) (map-back (signedItem 8) OptionalI64.Is s at x next h .2) refl
 timestamp-on false s at x next h = subst (λ (x : OptionalI64). onI64 x ≡ false) (got-value h) refl
 
+-- the PayloadHeader and promoted fields
+probe-on : (on chunk probe : Bool) (s : List ℕ) (at : ℕ) (x : PayloadHeader) (next : ℕ) → payloadHeaderAt on chunk probe s at ≡ got x next → probeOn x ≡ probe
+probe-on on chunk true s at x next h = subst (λ (x : PayloadHeader). probeOn x ≡ true) (got-value h) refl
+probe-on false chunk false s at x next h = subst (λ (x : PayloadHeader). probeOn x ≡ false) (got-value h) refl
+probe-on true true false s at x next h = subst (λ (x : PayloadHeader). probeOn x ≡ false) (map-back (item 2) PayloadHeader.Chunk s at x next h .2) refl
+probe-on true false false s at x next h =
+    let f = invert (ruled 1 countRule s at) (λ n i. (run (2 * n) >>= λ k. pure (PayloadHeader.Ids n)) s i) h in
+    subst (λ (x : PayloadHeader). probeOn x ≡ false) (map-back (run (2 * f .0)) (λ k. PayloadHeader.Ids (f .0)) s (f .1) x next (f .3) .2) refl
+
+promoted-on : (on : Bool) (messages : ℕ) (s : List ℕ) (at : ℕ) (x : Promoted) (next : ℕ) → promotedAt on messages s at ≡ got x next → promotedOn x ≡ on
+promoted-on true messages s at x next h =
+    let f = invert (ruled 2 (sizeRule messages) s at) (λ n i. (run n >>= λ k. pure (Promoted.Size n)) s i) h in
+    subst (λ (x : Promoted). promotedOn x ≡ true) (map-back (run (f .0)) (λ k. Promoted.Size (f .0)) s (f .1) x next (f .3) .2) refl
+promoted-on false messages s at x next h = subst (λ (x : Promoted). promotedOn x ≡ false) (got-value h) refl
+
 -- no part of a header that was read is refused
 record Kept (s : List ℕ) (x : Envelope) (p : Places) (configured : ℕ) : Type 0 where
   times : timesRefusal (on16 (x .picoseconds)) (onI64 (x .timestamp)) ≡ 0
+  probe : probeRefusal (probeOn (x .«payload_header»)) (x .chunk) (promotedOn (x .promoted)) ≡ 0
   publisher : publisherRefusal (x .publisher) (length (textOf s (x .publisher) (p .«publisher_end»))) ≡ 0
   text : publisherShape (x .publisher) (length (textOf s (x .publisher) (p .«publisher_end»))) ≡ 0
   group : groupRefusal (x .group) ≡ 0
@@ -91,7 +109,7 @@ header-kept : (configured : ℕ) (s : List ℕ) (f : Flags) (n : ℕ) (L : Heade
     → Kept s (L .envelope) (L .places) configured
 header-kept configured s f n L next b hf h =
     let I = invert (identityAt f s n) (λ i k. _) h in
-    let Pl = invert (payloadHeaderAt (f .«payload_header») (f .chunk) s (I .1)) (λ p k. _) (I .3) in
+    let Pl = invert (payloadHeaderAt (f .«payload_header») (f .chunk) (f .probe) s (I .1)) (λ p k. _) (I .3) in
     let T = invert (timesAt f (messagesOf (f .chunk) (Pl .0) configured) s (Pl .1)) (λ t k. _) (Pl .3) in
     let i = identity-of f s n (I .0) (I .1) (I .2) in
     let t = times-of f (messagesOf (f .chunk) (Pl .0) configured) s (Pl .1) (T .0) (T .1) (T .2) in
@@ -101,10 +119,13 @@ header-kept configured s f n L next b hf h =
     record {
       times = ap₂ timesRefusal (picoseconds-on (f .picoseconds) s (t .0) (T .0 .picoseconds) (t .1) (t .3)) (timestamp-on (f .timestamp) s (Pl .1) (T .0 .timestamp) (t .0) (t .2))
           ∙ flags-kept s 0 f n hf;
+      probe = ap₂ (λ (a b : Bool). probeRefusal a (f .chunk) b) (probe-on (f .«payload_header») (f .chunk) (f .probe) s (I .1) (Pl .0) (Pl .1) (Pl .2))
+          (promoted-on (f .promoted) (messagesOf (f .chunk) (Pl .0) configured) s (t .1) (T .0 .promoted) (T .1) (t .4))
+          ∙ flags-back s 0 f n b hf .1 .probe;
       publisher = kp .0;
       text = kp .1;
       group = group-kept (f .group) s (i .1) (I .0 .group) (I .1) (i .3);
-      header = payload-header-kept (f .«payload_header») (f .chunk) s (I .1) (Pl .0) (Pl .1) b (Pl .2);
+      header = payload-header-kept (f .«payload_header») (f .chunk) (f .probe) s (I .1) (Pl .0) (Pl .1) b (Pl .2);
       picoseconds = picoseconds-kept (f .picoseconds) s (t .0) (T .0 .picoseconds) (t .1) (t .3);
       promoted = km .0;
       bytes = km .1;
@@ -115,17 +136,20 @@ count-kept : {chunk : Bool} {s : List ℕ} {next : ℕ} {x : PayloadHeader} → 
 count-kept HeaderKept.absent = refl
 count-kept (HeaderKept.ids n c r l e) = r
 count-kept (HeaderKept.ofChunk w c) = refl
+count-kept HeaderKept.ofProbe = refl
 
 counted-kept : {chunk : Bool} {s : List ℕ} {next : ℕ} {x : PayloadHeader} → HeaderKept chunk s next x → Counted chunk x
 counted-kept HeaderKept.absent = tt
 counted-kept (HeaderKept.ids n c r l e) = (c, passed (eqb n 0) 5 0 r .0)
 counted-kept (HeaderKept.ofChunk w c) = tt
+counted-kept HeaderKept.ofProbe = tt
 
 ids-kept : {chunk : Bool} {s : List ℕ} {next : ℕ} {x : PayloadHeader} (configured : List ℕ) → Numbers configured → HeaderKept chunk s next x
     → idsShape chunk x (idsGiven s x next configured) configured ≡ 0
 ids-kept configured h HeaderKept.absent = rw (numbers-same (take 16 configured) (numbers-take 16 configured h))
 ids-kept {s = s} {next = next} configured h (HeaderKept.ids n c r l e) = rw (c, lt-leb 256 n l, eq-eqb (length (bytesBefore s next (2 * n))) (2 * n) e)
 ids-kept configured h (HeaderKept.ofChunk w c) = rw c
+ids-kept configured h HeaderKept.ofProbe = refl
 
 -- the payload
 
@@ -142,6 +166,7 @@ lengths-kept (PayloadHeader.Ids n) s at sizes h = go (leb n 1)
     go true = refl
     go false = refl
 lengths-kept (PayloadHeader.Chunk w) s at sizes h = refl
+lengths-kept PayloadHeader.Probe s at sizes h = refl
 
 -- sizes and messages stand one after the other
 payload-whole : (x : PayloadHeader) (s : List ℕ) (at : ℕ) (sizes : List ℕ) → listBytes x (lengthsGiven s x at sizes) ++ messagesGiven s x at ≡ drop at s
@@ -152,6 +177,7 @@ payload-whole (PayloadHeader.Ids n) s at sizes = go (leb n 1)
     go true = refl
     go false = ap (λ (l : List ℕ). take (2 * n) (drop at s) ++ l) (sym (drop-drop (2 * n) at s)) ∙ take-append-drop (2 * n) (drop at s)
 payload-whole (PayloadHeader.Chunk w) s at sizes = refl
+payload-whole PayloadHeader.Probe s at sizes = refl
 
 many-lengths : (x : PayloadHeader) (chunk : Bool) (sizes s : List ℕ) (at : ℕ) (p : Payload) (next : ℕ) → Counted chunk x → payloadAt chunk x sizes s at ≡ got p next
     → AsManyLengths x (lengthsGiven s x at sizes)
@@ -166,6 +192,7 @@ many-lengths (PayloadHeader.Ids n) chunk sizes s at p next c h =
     let k : 2 * n ≤ length (drop at s) = omega (arith, f .2, length-drop at s) in
     ap (λ (b : Bool). length (cond b [] (take (2 * n) (drop at s)))) e ∙ length-take-le (2 * n) (drop at s) k
 many-lengths (PayloadHeader.Chunk w) chunk sizes s at p next c h = tt
+many-lengths PayloadHeader.Probe chunk sizes s at p next c h = tt
 
 payload-kept : (x : PayloadHeader) (chunk : Bool) (sizes s : List ℕ) (at : ℕ) (p : Payload) (next : ℕ) → at ≤ length s → Counted chunk x → payloadAt chunk x sizes s at ≡ got p next
     → payloadRefusal chunk x sizes (lengthsGiven s x at sizes) (messagesGiven s x at) ≡ 0
@@ -184,6 +211,7 @@ header-given x s p sizes configured = go (x .«payload_header») refl
     go PayloadHeader.Absent e = rw (e, payload-whole PayloadHeader.Absent s (p .payload) sizes)
     go (PayloadHeader.Ids n) e = rw (e, payload-whole (PayloadHeader.Ids n) s (p .payload) sizes)
     go (PayloadHeader.Chunk w) e = rw (e, payload-whole (PayloadHeader.Chunk w) s (p .payload) sizes)
+    go PayloadHeader.Probe e = rw (e, payload-whole PayloadHeader.Probe s (p .payload) sizes)
 
 all-zero : {a b : ℕ} → a ≡ 0 → b ≡ 0 → orElse a b ≡ 0
 all-zero e f = rw (e, f)
@@ -203,11 +231,12 @@ body-kept sizes configured s f n m next b hs hc hf h =
     subst (λ (m : NetworkMessage). datagramRefusal (givenOf s (m .envelope) (m .places) sizes configured) (m .envelope) sizes configured ≡ 0) (P .2)
     (all-zero
     (all-zero (k .times)
+    (all-zero (k .probe)
     (all-zero (k .publisher)
     (all-zero (k .group)
     (all-zero (count-kept (k .header))
     (all-zero (k .picoseconds)
-    (all-zero (k .promoted) (payload-kept (x .«payload_header») (x .chunk) sizes s (q .payload) (P .0) next l (counted-kept (k .header)) o)))))))
+    (all-zero (k .promoted) (payload-kept (x .«payload_header») (x .chunk) sizes s (q .payload) (P .0) next l (counted-kept (k .header)) o))))))))
     (all-zero (k .text)
     (all-zero (ids-kept configured hc (k .header)) (all-zero (k .bytes) (lengths-kept (x .«payload_header») s (q .payload) sizes hs)))))
 

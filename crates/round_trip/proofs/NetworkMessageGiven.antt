@@ -93,6 +93,7 @@ writer-id-back (PayloadHeader.Ids n) chunk ids configured s m end k h a e l =
     id-at s (m + length c) ids n k end (second s m c ids a) (q .2) (omega (arith, q .2)) (omega (arith, q .2, length-append c ids))
 writer-id-back (PayloadHeader.Chunk w) true ids configured s m end k h a e l = absurd (omega (arith, unused-none (length ids) h))
 writer-id-back (PayloadHeader.Chunk w) false ids configured s m end k h a e l = absurd (omega arith)
+writer-id-back PayloadHeader.Probe chunk ids configured s m end k h a e l = absurd (omega (arith, unused-none (length ids) h))
 
 ids-back : (n : ℕ) (chunk : Bool) (ids configured s : List ℕ) (m end : ℕ) → idsShape chunk (PayloadHeader.Ids n) ids configured ≡ 0 → At s m (payloadHeaderBytes ids (PayloadHeader.Ids n))
     → end ≡ m + length (payloadHeaderBytes ids (PayloadHeader.Ids n)) → idsOf s (PayloadHeader.Ids n) end ≡ ids

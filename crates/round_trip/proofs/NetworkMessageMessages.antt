@@ -123,6 +123,7 @@ tiles (PayloadHeader.Ids n) o chunk sizes pre g m e c h q = go (leb n 1) (unchun
     go true r = one-tiles sizes (pre ++ g .messages) (g .messages) m (omega (arith, length-append pre (g .messages))) (some-message (g .messages) r)
     go false r = many-tiles sizes pre (g .lengths) (g .messages) n m e (listed-facts n (g .lengths) (length (g .messages)) r)
 tiles (PayloadHeader.Chunk w) o chunk sizes pre g m e c h q = absurd o
+tiles PayloadHeader.Probe o chunk sizes pre g m e c h q = absurd o
 
 -- the first message stands after the list of sizes, where there is one
 pub first-is : (x : PayloadHeader) (chunk : Bool) (sizes lengths messages : List ℕ) (m : ℕ) → Counted chunk x → payloadRefusal chunk x sizes lengths messages ≡ 0
@@ -139,3 +140,4 @@ first-is (PayloadHeader.Ids n) chunk sizes lengths messages m c h = go (leb n 1)
     go true q = omega arith
     go false q = omega (arith, listed-facts n lengths (length messages) q .long)
 first-is (PayloadHeader.Chunk w) chunk sizes lengths messages m c h = omega arith
+first-is PayloadHeader.Probe chunk sizes lengths messages m c h = omega arith

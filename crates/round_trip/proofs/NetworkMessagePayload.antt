@@ -23,17 +23,20 @@ use Rattle.network_header.specs.Header.{countRefusal, idsShape}
 use Rattle.network_header.proofs.Sizes.{ids-counted}
 use Rattle.network_message_writer.proofs.Short.{unused-none}
 use Rattle.round_trip.specs.NetworkMessage.{AsManyIds, payloadFor}
+use Rattle.round_trip.proofs.ProbePayload.{probe-is}
 
 -- a PayloadHeader with a Count is no chunk's, and its Count is not 0
 abbrev pub Counted : Bool → PayloadHeader → Type 0
 Counted chunk PayloadHeader.Absent = Unit {0}
 Counted chunk (PayloadHeader.Ids n) = (chunk ≡ false) × (eqb n 0 ≡ false)
 Counted chunk (PayloadHeader.Chunk w) = Unit {0}
+Counted chunk PayloadHeader.Probe = Unit {0}
 
 pub counted : (x : PayloadHeader) (chunk : Bool) (ids : List ℕ) → countRefusal x ≡ 0 → AsManyIds chunk x ids → Counted chunk x
 counted PayloadHeader.Absent chunk ids a b = tt
 counted (PayloadHeader.Ids n) chunk ids a b = (b .0, passed (eqb n 0) 5 0 a .0)
 counted (PayloadHeader.Chunk w) chunk ids a b = tt
+counted PayloadHeader.Probe chunk ids a b = tt
 
 chunk-on : (chunk : Bool) (n : ℕ) → cond chunk (unused n) 6 ≡ 0 → (chunk ≡ true) × (n ≡ 0)
 chunk-on true n h = (refl, unused-none n h)
@@ -44,6 +47,7 @@ pub as-many-ids : (x : PayloadHeader) (chunk : Bool) (ids configured : List ℕ)
 as-many-ids PayloadHeader.Absent chunk ids configured b = tt
 as-many-ids (PayloadHeader.Ids n) chunk ids configured b = ids-counted chunk n ids configured b
 as-many-ids (PayloadHeader.Chunk w) chunk ids configured b = chunk-on chunk (length ids) b
+as-many-ids PayloadHeader.Probe chunk ids configured b = unused-none (length ids) b
 
 -- numbers that stand in the middle of a slice
 
@@ -171,3 +175,4 @@ payload-is (PayloadHeader.Ids n) chunk sizes pre lengths messages m e o h = rw (
     go true q = rest-is messages (pre ++ messages) m (omega (arith, length-append pre messages)) q
     go false q = listed-is n pre lengths messages m e q
 payload-is (PayloadHeader.Chunk w) chunk sizes pre lengths messages m e o h = refl
+payload-is PayloadHeader.Probe chunk sizes pre lengths messages m e o h = probe-is pre messages m e chunk sizes h

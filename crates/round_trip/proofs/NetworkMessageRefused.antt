@@ -20,10 +20,10 @@ use Rattle.network_header.specs.declared.header.PayloadHeader.{PayloadHeader}
 use Rattle.network_header.specs.declared.header.Promoted.{Promoted}
 use Rattle.network_message.specs.declared.payload.Sizes.{Sizes}
 use Rattle.network_header.specs.declared.envelope.Envelope.{Envelope}
-use Rattle.network_header.specs.Flags.{byte0Rule, extended1Rule, flagsAt, extended2Of, extended1Of, byte0Of, flagBytes, flagsFor, timesRefusal}
+use Rattle.network_header.specs.Flags.{byte0Rule, extended1Rule, extended2Rule, flagsAt, extended2Of, extended1Of, byte0Of, flagBytes, flagsFor, timesRefusal, probeRefusal}
 use Rattle.publisher_id.specs.Publisher.{publisherAt, publisherOn, idTypeOf, publisherBytes, publisherRefusal}
 use Rattle.network_header.specs.Group.{numberRule, messageNumberAt, groupFlagsRule, groupAt, groupOn, groupFlagsOf, groupFieldsBytes, groupBytes, numberRefusal, groupRefusal, FitsGroup}
-use Rattle.network_header.specs.Header.{countRule, payloadHeaderAt, sizeRule, promotedAt, classBytes, payloadHeaderOn, payloadHeaderBytes, promotedOn, promotedBytes, countRefusal, promotedRefusal, FitsPayloadHeader}
+use Rattle.network_header.specs.Header.{countRule, payloadHeaderAt, sizeRule, promotedAt, classBytes, payloadHeaderOn, probeOn, payloadHeaderBytes, promotedOn, promotedBytes, countRefusal, promotedRefusal, FitsPayloadHeader}
 use Rattle.network_message.specs.Payload.{allPositive, listed, messagesFrom, restOnlyAt, listedAt, sizedAt, configuredAt, payloadAt}
 use Rattle.network_header.specs.Numbers.{configuredSizes}
 use Rattle.network_message.specs.Envelope.{messagesOf, networkMessageAt}
@@ -42,6 +42,7 @@ use Rattle.network_header.proofs.HeaderTrip.{class-is, payload-header-is, promo
 use Rattle.round_trip.proofs.NetworkMessageParts.{eight-lengths}
 use Rattle.round_trip.proofs.NetworkMessagePayload.{Counted, counted, listed-at-start}
 use Rattle.round_trip.proofs.NetworkMessageWritten.{kind-below}
+use Rattle.round_trip.proofs.ProbePayload.{probe-number, no-header}
 use Rattle.wire_writer.specs.Fits.{Fits16}
 use Rattle.wire.proofs.Facts.{eqb-same}
 
@@ -80,18 +81,20 @@ publisher-refuses (PublisherId.Text n) text m l h s at =
     rw (le-leb (m + 4) (length s) j, p, lt-ltb (length text) 2147483648 u, t)
 
 payload-header-refuses : (x : PayloadHeader) (chunk : Bool) (ids : List ℕ) (m : ℕ) → AsManyIds chunk x ids → eqb (countRefusal x) 0 ≡ false
-    → Refuses (payloadHeaderAt (payloadHeaderOn x) chunk) m (payloadHeaderBytes ids x) (countRefusal x)
+    → Refuses (payloadHeaderAt (payloadHeaderOn x) chunk (probeOn x)) m (payloadHeaderBytes ids x) (countRefusal x)
 payload-header-refuses PayloadHeader.Absent chunk ids m q h s at = absurd (no h)
 payload-header-refuses (PayloadHeader.Ids n) chunk ids m q h s at =
     rw (q .0, number-broken 1 countRule n m (q .1) h s (first s m (leBytes 1 n) ids at))
 payload-header-refuses (PayloadHeader.Chunk w) chunk ids m q h s at = absurd (no h)
+payload-header-refuses PayloadHeader.Probe chunk ids m q h s at = absurd (no h)
 
 payload-header-written : (x : PayloadHeader) (chunk : Bool) (ids : List ℕ) (m : ℕ) → FitsPayloadHeader x → countRefusal x ≡ 0 → AsManyIds chunk x ids
-    → Reads (payloadHeaderAt (payloadHeaderOn x) chunk) m (payloadHeaderBytes ids x) x
+    → Reads (payloadHeaderAt (payloadHeaderOn x) chunk (probeOn x)) m (payloadHeaderBytes ids x) x
 payload-header-written PayloadHeader.Absent chunk ids m f a q = nothing PayloadHeader.Absent m
 payload-header-written (PayloadHeader.Ids n) chunk ids m f a q =
     payload-header-is (PayloadHeader.Ids n) chunk ids [] m f a (rw (q .0, lt-leb 256 n (q .1), eq-eqb (length ids) (2 * n) (q .2)))
 payload-header-written (PayloadHeader.Chunk w) chunk ids m f a q = payload-header-is (PayloadHeader.Chunk w) chunk ids [] m f a (rw (q .0, q .1))
+payload-header-written PayloadHeader.Probe chunk ids m f a q = nothing PayloadHeader.Probe m
 
 promoted-refuses : (x : Promoted) (messages : ℕ) (bytes : List ℕ) (m : ℕ) → length (promotedBytes bytes x) ≤ 65535 → eqb (promotedRefusal x messages) 0 ≡ false
     → Refuses (promotedAt (promotedOn x) messages) m (promotedBytes bytes x) (promotedRefusal x messages)
@@ -171,6 +174,71 @@ times-broken true true h = absurd (no h)
 times-broken true false h = (refl, refl, refl)
 times-broken false t h = absurd (no h)
 
+-- a probe that is a chunk, or has promoted fields, at ExtendedFlags2
+
+second-bits : (a b c : ℕ) → a ≤ 1 → b ≤ 1 → c ≤ 1
+    → ((a + (2 * b + 4 * c)) % 2 ≡ a) × ((a + (2 * b + 4 * c)) / 2 % 2 ≡ b) × ((a + (2 * b + 4 * c)) / 4 % 8 ≡ c) × (a + (2 * b + 4 * c) < 8)
+second-bits a b c ha hb hc = omega arith
+
+probe-broken : (p c m : Bool) → eqb (probeRefusal p c m) 0 ≡ false → p ≡ true
+probe-broken true c m h = refl
+probe-broken false c m h = absurd (no h)
+
+no-pico : (p t : Bool) → timesRefusal p t ≡ 0 → (eqb (num p) 1 && eqb (num t) 0) ≡ false
+no-pico true true h = refl
+no-pico true false h = absurd (omega arith)
+no-pico false true h = refl
+no-pico false false h = refl
+
+-- ExtendedFlags1 passes
+first-passes : (p : Bool) (e k : ℕ) (pc t : Bool) → eqb e 0 ≡ false → e % 8 ≡ k → k < 5 → e / 16 % 2 ≡ 0 → e / 64 % 2 ≡ num pc → e / 32 % 2 ≡ num t → timesRefusal pc t ≡ 0
+    → extended1Rule p e ≡ 0
+first-passes p e k pc t nz ke hk se pe te ht = rw (nz, ke, lt-leb 5 k hk, both-no p, se, pe, te, no-pico pc t ht)
+
+-- of a probe, what ExtendedFlags2 breaks is what the writer refuses it by
+as-refused : (e : ℕ) (c m h : Bool) → eqb e 0 ≡ false → e < 32 → e / 4 % 8 ≡ 1 → eqb (e % 2) 1 ≡ c → eqb (e / 2 % 2) 1 ≡ m → h ≡ false → extended2Rule h e ≡ probeRefusal true c m
+as-refused e c m h q k t x y z = rw (q, lt-leb 32 e k, t, x, y, z)
+
+probe-refuse : (f : Flags) → f .kind < 5 → timesRefusal (f .picoseconds) (f .timestamp) ≡ 0 → (f .probe ≡ true → f .«payload_header» ≡ false)
+    → eqb (probeRefusal (f .probe) (f .chunk) (f .promoted)) 0 ≡ false → (m : ℕ) (s : List ℕ) → At s m (flagBytes f)
+    → (place : ℕ) × (flagsAt s m ≡ refused (probeRefusal (f .probe) (f .chunk) (f .promoted)) place)
+probe-refuse f hk ht hh hp m s at =
+    let on : f .probe ≡ true = probe-broken (f .probe) (f .chunk) (f .promoted) hp in
+    let e = extended1Of f in
+    let g = extended2Of f in
+    let b = leBytes 1 (byte0Of f) in
+    let b0 = byte-bits _ _ _ _ (num-bound (f .publisher)) (num-bound (f .group)) (num-bound (f .«payload_header»)) (needed-bound e) in
+    let b1 =
+    extended-bits (f .kind) (num (f .«class_id»)) (num (f .timestamp)) (num (f .picoseconds)) (needed g) (omega arith) (num-bound (f .«class_id»)) (num-bound (f .timestamp))
+    (num-bound (f .picoseconds)) (needed-bound g) in
+    let b2 = second-bits (num (f .chunk)) (num (f .promoted)) (num (f .probe)) (num-bound (f .chunk)) (num-bound (f .promoted)) (num-bound (f .probe)) in
+    let one : g / 4 % 8 ≡ 1 = b2 .2 ∙ ap num on in
+    let gz : g ≡ 0 → ⊥ = λ q. omega arith in
+    let gn : eqb g 0 ≡ false = ne-eqb g 0 gz in
+    let e7 : e / 128 ≡ 1 = b1 .5 ∙ ap (λ (t : Bool). cond t 0 1) gn in
+    let ez : e ≡ 0 → ⊥ = λ q. omega arith in
+    let en : eqb e 0 ≡ false = ne-eqb e 0 ez in
+    let b7 : byte0Of f / 128 ≡ 1 = b0 .4 ∙ ap (λ (t : Bool). cond t 0 1) en in
+    let k : byte0Of f < 256 ^ 1 = b0 .5 in
+    let r0 : byte0Rule (byte0Of f) ≡ 0 = rw (b0 .0) in
+    let p1 = rule-kept 1 byte0Rule m b (byte0Of f) r0 (item-is 1 (byte0Of f) m k) s (first s m b (byteBytes e ++ byteBytes g) at) in
+    let r1 : extended1Rule (bit 4 (byte0Of f)) e ≡ 0 =
+    first-passes (bit 4 (byte0Of f)) e (f .kind) (f .picoseconds) (f .timestamp) en (b1 .0) hk (b1 .2) (b1 .4) (b1 .3) ht in
+    let at2 = second s m b (byteBytes e ++ byteBytes g) at in
+    let at3 : At s (m + 1) (leBytes 1 e ++ leBytes 1 g) =
+    subst (λ (t : Bool). At s (m + 1) (leBytes 1 e ++ cond t [] (leBytes 1 g))) gn
+    (subst (λ (t : Bool). At s (m + 1) (cond t [] (leBytes 1 e) ++ byteBytes g)) en at2) in
+    let p2 = rule-kept 1 (extended1Rule (bit 4 (byte0Of f))) (m + 1) (leBytes 1 e) e r1 (item-is 1 e (m + 1) (b1 .6)) s (first s (m + 1) (leBytes 1 e) (leBytes 1 g) at3) in
+    let header : bit 6 (byte0Of f) ≡ false = flag-is (f .«payload_header») _ (b0 .3) ∙ hh on in
+    let r2 : extended2Rule (bit 6 (byte0Of f)) g ≡ probeRefusal (f .probe) (f .chunk) (f .promoted) =
+    as-refused g (f .chunk) (f .promoted) (bit 6 (byte0Of f)) gn (omega (arith, b2 .3)) one (flag-is (f .chunk) _ (b2 .0)) (flag-is (f .promoted) _ (b2 .1)) header
+    ∙ ap (λ (t : Bool). probeRefusal t (f .chunk) (f .promoted)) (sym on) in
+    let nr : eqb (extended2Rule (bit 6 (byte0Of f)) g) 0 ≡ false = ap (λ (n : ℕ). eqb n 0) r2 ∙ hp in
+    let p3 = broken 1 (extended2Rule (bit 6 (byte0Of f))) (m + 1 + 1) (leBytes 1 g) g nr (item-is 1 g (m + 1 + 1) (omega (arith, b2 .3))) s (second s (m + 1) (leBytes 1 e) (leBytes 1 g) at3) in
+    let p4 : ruled 1 (extended2Rule (bit 6 (byte0Of f))) s (m + 1 + 1) ≡ refused (probeRefusal (f .probe) (f .chunk) (f .promoted)) (m + 1 + 1) =
+    p3 ∙ ap (λ (n : ℕ). refused n (m + 1 + 1)) r2 in
+    (m + 1 + 1, rw (p1, b7, p2, e7, p4))
+
 -- the payload: reading it where it stands has the number of reading the messages alone
 
 rest-number : (messages s : List ℕ) (m : ℕ) → m + length messages ≡ length s → refusalNumber (restOnlyAt s m) ≡ refusalNumber (restOnlyAt messages 0)
@@ -231,10 +299,11 @@ payload-number (PayloadHeader.Ids n) chunk sizes pre lengths messages m e c a = 
     go true t = rest-number messages (pre ++ messages) m (omega (arith, length-append pre messages))
     go false t = listed-number n pre lengths messages m e (a t)
 payload-number (PayloadHeader.Chunk w) chunk sizes pre lengths messages m e c a = refl
+payload-number PayloadHeader.Probe chunk sizes pre lengths messages m e c a = probe-number pre messages m e chunk sizes
 
 -- the turn of the PicoSeconds has come where nothing before them is refused
-their-turn : (a b c d p : ℕ) → a ≡ 0 → b ≡ 0 → c ≡ 0 → d ≡ 0 → eqb p 0 ≡ false → eqb (orElse a (orElse b (orElse c d))) 0 && not (eqb p 0) ≡ false → ⊥
-their-turn a b c d p ea eb ec ed ep h = no (rw (ea, eb, ec, ed, ep) at h)
+their-turn : (a b c d e p : ℕ) → a ≡ 0 → b ≡ 0 → c ≡ 0 → d ≡ 0 → e ≡ 0 → eqb p 0 ≡ false → eqb (orElse a (orElse b (orElse c (orElse d e)))) 0 && not (eqb p 0) ≡ false → ⊥
+their-turn a b c d e p ea eb ec ed ee ep h = no (rw (ea, eb, ec, ed, ee, ep) at h)
 
 module _ (g : GivenDatagram) (x : Envelope) (sizes : List ℕ) (f : FitsEnvelope x) (a : CountsAgree g x) (long : length (datagramOf g x) ≤ 65535) (turn : picosecondsTurn g x ≡ false) where
   -- Where what would be written is one thing and the writer refuses in reading order, but not the PicoSeconds at their turn, reading what
@@ -290,10 +359,16 @@ module _ (g : GivenDatagram) (x : Envelope) (sizes : List ℕ) (f : FitsEnvelope
       let k4 = orElse (countRefusal (x .«payload_header»)) k5 in
       let k3 = orElse (groupRefusal (x .group)) k4 in
       let k2 = orElse (publisherRefusal (x .publisher) (length (g .text))) k3 in
-      or-case P (timesRefusal (on16 (x .picoseconds)) (onI64 (x .timestamp))) k2 h
+      let probe = probeRefusal (probeOn (x .«payload_header»)) (x .chunk) (promotedOn (x .promoted)) in
+      let k1 = orElse probe k2 in
+      or-case P (timesRefusal (on16 (x .picoseconds)) (onI64 (x .timestamp))) k1 h
       (λ e. let d = times-broken (on16 (x .picoseconds)) (onI64 (x .timestamp)) e in
       subst P (d .2) (0 + 1, rw (l, flags-refuse (flagsFor x) (kind-below (x .publisher)) (d .0) (d .1) 0 s a1)))
-      (λ z1 h1. let p1 = flags-are (flagsFor x) (kind-below (x .publisher)) z1 0 s a1 in
+      (λ z1 h0.
+      or-case P probe k2 h0
+      (λ e. let q = probe-refuse (flagsFor x) (kind-below (x .publisher)) z1 (no-header (x .«payload_header»)) e 0 s a1 in
+      (q .0, rw (l, q .1)))
+      (λ z0 h1. let p1 = flags-are (flagsFor x) (kind-below (x .publisher)) z1 z0 (no-header (x .«payload_header»)) 0 s a1 in
       or-case P (publisherRefusal (x .publisher) (length (g .text))) k3 h1
       (λ e. (0, rw (l, p1, publisher-refuses (x .publisher) (g .text) m1 l2 e s a2)))
       (λ z2 h2. let p2 = publisher-written (x .publisher) (g .text) m1 (f .publisher) z2 s a2 in
@@ -305,8 +380,8 @@ module _ (g : GivenDatagram) (x : Envelope) (sizes : List ℕ) (f : FitsEnvelope
       (λ e. (m4, rw (l, p1, p2, p3, p4, payload-header-refuses (x .«payload_header») (x .chunk) (g .ids) m4 (a .ids) e s a5)))
       (λ z4 h4. let p5 = payload-header-written (x .«payload_header») (x .chunk) (g .ids) m4 (f .payloadHeader) z4 (a .ids) s a5 in
       or-case P (picosecondsRefusal (x .picoseconds)) k6 h4
-      (λ e. absurd (their-turn (timesRefusal (on16 (x .picoseconds)) (onI64 (x .timestamp))) (publisherRefusal (x .publisher) (length (g .text))) (groupRefusal (x .group))
-      (countRefusal (x .«payload_header»)) (picosecondsRefusal (x .picoseconds)) z1 z2 z3 z4 e turn))
+      (λ e. absurd (their-turn (timesRefusal (on16 (x .picoseconds)) (onI64 (x .timestamp))) probe (publisherRefusal (x .publisher) (length (g .text))) (groupRefusal (x .group))
+      (countRefusal (x .«payload_header»)) (picosecondsRefusal (x .picoseconds)) z1 z0 z2 z3 z4 e turn))
       (λ z5 h5. let p7 = picoseconds-is (x .picoseconds) m6 (f .picoseconds) z5 s a7 in
       or-case P (promotedRefusal (x .promoted) messages) k7 h5
       (λ e. (m7, rw (l, p1, p2, p3, p4, p5, p6, p7, promoted-refuses (x .promoted) messages (g .promoted) m7 l8 e s at8)))
@@ -316,4 +391,4 @@ module _ (g : GivenDatagram) (x : Envelope) (sizes : List ℕ) (f : FitsEnvelope
       let q = refused-by (payloadAt (x .chunk) (x .«payload_header») sizes s (m7 + length b8)) (ap (λ (k : ℕ). eqb k 0) n ∙ h6) in
       let last : (k place : ℕ) → payloadAt (x .chunk) (x .«payload_header») sizes s (m7 + length b8) ≡ refused k place → P k =
       λ k place e. (place, rw (l, p1, p2, p3, p4, p5, p6, p7, p8, e)) in
-      subst P n (last (refusalNumber (payloadAt (x .chunk) (x .«payload_header») sizes s (m7 + length b8))) (q .0) (q .1))))))))
+      subst P n (last (refusalNumber (payloadAt (x .chunk) (x .«payload_header») sizes s (m7 + length b8))) (q .0) (q .1)))))))))

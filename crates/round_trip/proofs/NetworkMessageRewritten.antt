@@ -127,7 +127,7 @@ times-of f messages s at x next h =
 pub header-same : (configured : ℕ) (s : List ℕ) (f : Flags) (n : ℕ) (L : Header) (next : ℕ) → Bytes s → flagsAt s 0 ≡ got f n → envelopeAt f configured s n ≡ got L next → Same s f L next
 header-same configured s f n L next b hf h =
     let I = invert (identityAt f s n) (λ i k. _) h in
-    let Pl = invert (payloadHeaderAt (f .«payload_header») (f .chunk) s (I .1)) (λ p k. _) (I .3) in
+    let Pl = invert (payloadHeaderAt (f .«payload_header») (f .chunk) (f .probe) s (I .1)) (λ p k. _) (I .3) in
     let T = invert (timesAt f (messagesOf (f .chunk) (Pl .0) configured) s (Pl .1)) (λ t k. _) (Pl .3) in
     let i = identity-of f s n (I .0) (I .1) (I .2) in
     let t = times-of f (messagesOf (f .chunk) (Pl .0) configured) s (Pl .1) (T .0) (T .1) (T .2) in
@@ -136,7 +136,7 @@ header-same configured s f n L next b hf h =
     let bc = class-back (f .«class_id») s (I .0 .«publisher_end») (I .0 .«class_id») (i .1) b
     (end-fits s n (publisherBytes (textOf s (I .0 .publisher) (I .0 .«publisher_end»)) (I .0 .publisher)) (I .0 .«publisher_end») (bp .0)) (i .2) in
     let bg = group-back (f .group) s (i .1) (I .0 .group) (I .1) b (end-fits s (I .0 .«publisher_end») (classBytes (I .0 .«class_id»)) (i .1) (bc .0)) (i .3) in
-    let bl = payload-header-back (f .«payload_header») (f .chunk) s (I .1) (Pl .0) (Pl .1) b (end-fits s (i .1) (groupBytes (I .0 .group)) (I .1) (bg .0)) (Pl .2) in
+    let bl = payload-header-back (f .«payload_header») (f .chunk) (f .probe) s (I .1) (Pl .0) (Pl .1) b (end-fits s (i .1) (groupBytes (I .0 .group)) (I .1) (bg .0)) (bf .1 .header) (Pl .2) in
     let bt = optionalI64-back (f .timestamp) s (Pl .1) (T .0 .timestamp) (t .0) b (end-fits s (I .1) (payloadHeaderBytes (idsOf s (Pl .0) (Pl .1)) (Pl .0)) (Pl .1) (bl .0)) (t .2) in
     let bo = picoseconds-back (f .picoseconds) s (t .0) (T .0 .picoseconds) (t .1) b (end-fits s (Pl .1) (optionalI64Bytes (T .0 .timestamp)) (t .0) (bt .0)) (t .3) in
     let bm = promoted-back (f .promoted) (messagesOf (f .chunk) (Pl .0) configured) s (t .1) (T .0 .promoted) (T .1) b
@@ -144,7 +144,7 @@ header-same configured s f n L next b hf h =
     let a = assemble s f (I .0 .publisher) (I .0 .«class_id») (I .0 .group) (Pl .0) (T .0 .timestamp) (T .0 .picoseconds)
     (T .0 .promoted) n (I .0 .«publisher_end») (i .1) (I .1) (Pl .1) (t .0) (t .1) (T .1)
     (bf .0) (bp .0) (bc .0) (bg .0) (bl .0) (bt .0) bo (bm .0)
-    (rw (bp .1, bp .2, bg .1, bl .1, bc .1, bt .1, bo .there, bm .1)) in
+    (rw (bp .1, bp .2, bg .1, bl .1, bl .2, bc .1, bt .1, bo .there, bm .1)) in
     subst (λ (z : ℕ). Same s f L z) (got-next (T .3)) (subst (λ (K : Header). Same s f K (T .1)) (got-value (T .3)) a)
 
 -- the same of a datagram
@@ -189,7 +189,7 @@ accepted-picoseconds sizes s m next h =
     let P = map-back (payloadAt (H .0 .envelope .chunk) (H .0 .envelope .«payload_header») sizes)
     (λ p. record { envelope = H .0 .envelope; places = H .0 .places; payload = p }) s (H .1) m next (H .3) in
     let I = invert (identityAt (f .0) s (f .1)) (λ i k. _) (H .2) in
-    let Pl = invert (payloadHeaderAt (f .0 .«payload_header») (f .0 .chunk) s (I .1)) (λ p k. _) (I .3) in
+    let Pl = invert (payloadHeaderAt (f .0 .«payload_header») (f .0 .chunk) (f .0 .probe) s (I .1)) (λ p k. _) (I .3) in
     let T = invert (timesAt (f .0) (messagesOf (f .0 .chunk) (Pl .0) (length (configuredSizes sizes))) s (Pl .1)) (λ t k. _) (Pl .3) in
     let t = times-of (f .0) (messagesOf (f .0 .chunk) (Pl .0) (length (configuredSizes sizes))) s (Pl .1) (T .0) (T .1) (T .2) in
     let k = picoseconds-kept (f .0 .picoseconds) s (t .0) (T .0 .picoseconds) (t .1) (t .3) in
@@ -212,6 +212,7 @@ rewrite-same sizes s m next f n b hf h on =
           f .picoseconds;
       chunk = f .chunk;
       promoted = f .promoted;
+      probe = f .probe;
     }) on in
     ap typeCleared (r .held) ∙ sym (flags-cleared s f n hf (r .rest)) ∙ ap (λ (x : Flags). flagBytes x ++ r .rest) z ∙ sym (r .held)
 
@@ -222,7 +223,7 @@ publisher-flag false kind s at p next h e = ap publisherOn (got-value h) ∙ e
 header-flag : (configured : ℕ) (s : List ℕ) (f : Flags) (n : ℕ) (L : Header) (next : ℕ) → envelopeAt f configured s n ≡ got L next → publisherOn (L .envelope .publisher) ≡ true → f .publisher ≡ true
 header-flag configured s f n L next h =
     let I = invert (identityAt f s n) (λ i k. _) h in
-    let Pl = invert (payloadHeaderAt (f .«payload_header») (f .chunk) s (I .1)) (λ p k. _) (I .3) in
+    let Pl = invert (payloadHeaderAt (f .«payload_header») (f .chunk) (f .probe) s (I .1)) (λ p k. _) (I .3) in
     let T = invert (timesAt f (messagesOf (f .chunk) (Pl .0) configured) s (Pl .1)) (λ t k. _) (Pl .3) in
     let i = identity-of f s n (I .0) (I .1) (I .2) in
     subst (λ (K : Header). publisherOn (K .envelope .publisher) ≡ true → f .publisher ≡ true) (got-value (T .3))

@@ -18,9 +18,9 @@ use Rattle.wire_writer.proofs.Answering.{reported}
 use Rattle.wire_writer.specs.Writing.{orElse, refusing, Writes, on16, onI64, picosecondsRefusal}
 use Rattle.wire_writer.specs.declared.writing.Written.{Written}
 use Rattle.publisher_id.specs.Publisher.{publisherRefusal, publisherShape}
-use Rattle.network_header.specs.Flags.{timesRefusal}
+use Rattle.network_header.specs.Flags.{timesRefusal, probeRefusal}
 use Rattle.network_header.specs.Group.{groupRefusal}
-use Rattle.network_header.specs.Header.{countRefusal, idsShape, promotedShape}
+use Rattle.network_header.specs.Header.{countRefusal, idsShape, promotedShape, probeOn, promotedOn}
 use Rattle.network_header.specs.declared.header.PayloadHeader.{PayloadHeader}
 use Rattle.network_message_writer.specs.Payload.{listBytes, lengthsShape}
 use Rattle.network_message_writer.proofs.Again.{accepted-short}
@@ -32,7 +32,7 @@ use Rattle.round_trip.proofs.NetworkMessageWritten.{read-written, messa
 use Rattle.round_trip.proofs.NetworkMessageGiven.{text-written, promoted-written, writer-id-written}
 use Rattle.round_trip.proofs.NetworkMessageRewritten.{rewrite-accepted, same-with-publisher, accepted-picoseconds}
 use Rattle.round_trip.proofs.NetworkMessageRefused.{refuse-written}
-use Rattle.round_trip.proofs.PicosecondsTurn.{three, their-refusal, behind-four}
+use Rattle.round_trip.proofs.PicosecondsTurn.{three, their-refusal, behind-five}
 use Rattle.round_trip.proofs.NetworkMessageAccepted.{write-read}
 use Rattle.wire_writer.specs.Fits.{Bytes, Numbers}
 
@@ -45,6 +45,11 @@ chunk-written h w e front lengths messages sizes =
     subst (λ (y : PayloadHeader). drop (payloadFor y sizes (length front) .first) (front ++ (listBytes y lengths ++ messages)) ≡ messages) (sym e)
     (drop-at front messages (length front) refl)
 
+-- and so does a probe's body
+probe-written : (h : PayloadHeader) → h ≡ PayloadHeader.Probe → (front lengths messages : List ℕ) → drop (length front) (front ++ (listBytes h lengths ++ messages)) ≡ messages
+probe-written h e front lengths messages =
+    subst (λ (y : PayloadHeader). drop (length front) (front ++ (listBytes y lengths ++ messages)) ≡ messages) (sym e) (drop-at front messages (length front) refl)
+
 given-back : (g : GivenDatagram) (x : Envelope) (sizes configured : List ℕ) → FitsEnvelope x → datagramRefusal g x sizes configured ≡ 0
     → length (datagramOf g x) ≤ 65535 → ReadsBack g x sizes configured (datagramOf g x)
 given-back g x sizes configured f h l =
@@ -55,6 +60,7 @@ given-back g x sizes configured f h l =
       writerId = writer-id-written g x sizes configured h;
       message = message-written g x sizes configured f h l;
       chunk = λ w e. chunk-written (x .«payload_header») w e (envelopeBytes (g .text) (g .ids) (g .promoted) x) (g .lengths) (g .messages) sizes;
+      probe = λ e. probe-written (x .«payload_header») e (envelopeBytes (g .text) (g .ids) (g .promoted) x) (g .lengths) (g .messages);
     }
 
 pub reads-back : (g : GivenDatagram) (x : Envelope) (sizes configured entry exit : List ℕ) (n : ℕ) → FitsEnvelope x
@@ -85,7 +91,8 @@ reading-number-first g x sizes configured h = rw (h, h)
 pub picoseconds-refused : (g : GivenDatagram) (x : Envelope) (sizes configured : List ℕ) → picosecondsTurn g x ≡ true → datagramOutput g x sizes configured ≡ refusing 3
 picoseconds-refused g x sizes configured h =
     let p = picosecondsRefusal (x .picoseconds) in
-    behind-four (timesRefusal (on16 (x .picoseconds)) (onI64 (x .timestamp))) (publisherRefusal (x .publisher) (length (g .text))) (groupRefusal (x .group)) (countRefusal (x .«payload_header»)) p _
+    behind-five (timesRefusal (on16 (x .picoseconds)) (onI64 (x .timestamp))) (probeRefusal (probeOn (x .«payload_header»)) (x .chunk) (promotedOn (x .promoted)))
+    (publisherRefusal (x .publisher) (length (g .text))) (groupRefusal (x .group)) (countRefusal (x .«payload_header»)) p _
     (shapeRefusal g x sizes configured) (datagramOf g x) h
     ∙ ap refusing (three (x .picoseconds) (their-refusal (beforePicoseconds x (length (g .text))) p h))
 

@@ -35,6 +35,7 @@ use Rattle.network_header.proofs.GroupTrip.{group-is}
 use Rattle.round_trip.proofs.NetworkMessageParts.{eight-lengths}
 use Rattle.network_header.proofs.FlagsTrip.{flags-are}
 use Rattle.round_trip.proofs.NetworkMessagePayload.{counted, as-many-ids, payload-is}
+use Rattle.round_trip.proofs.ProbePayload.{no-header}
 use Rattle.round_trip.proofs.NetworkMessageMessages.{tiles, first-is}
 
 pub kind-below : (p : PublisherId) → idTypeOf p < 5
@@ -80,7 +81,7 @@ read-written g x sizes configured f h long =
     let at6 = second s m4 b5 (b6 ++ (b7 ++ b8)) at5 in
     let at7 = second s m5 b6 (b7 ++ b8) at6 in
     let at8 = second s m6 b7 b8 at7 in
-    let p1 = flags-are (flagsFor x) (kind-below (x .publisher)) (r .times) 0 s (first s 0 b1 (b2 ++ (b3 ++ (b4 ++ (b5 ++ (b6 ++ (b7 ++ b8)))))) at1) in
+    let p1 = flags-are (flagsFor x) (kind-below (x .publisher)) (r .times) (r .probe) (no-header (x .«payload_header»)) 0 s (first s 0 b1 (b2 ++ (b3 ++ (b4 ++ (b5 ++ (b6 ++ (b7 ++ b8)))))) at1) in
     let p2 = publisher-is (x .publisher) (g .text) m1 (f .publisher) (r .publisher) (r .text) s (first s m1 b2 (b3 ++ (b4 ++ (b5 ++ (b6 ++ (b7 ++ b8))))) at2) in
     let p3 = class-is (x .«class_id») m2 (f .classId) s (first s m2 b3 (b4 ++ (b5 ++ (b6 ++ (b7 ++ b8)))) at3) in
     let p4 = group-is (x .group) m3 (f .group) (r .group) s (first s m3 b4 (b5 ++ (b6 ++ (b7 ++ b8))) at4) in

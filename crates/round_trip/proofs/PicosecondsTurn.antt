@@ -28,18 +28,19 @@ module _ (before p : ℕ) (h : eqb before 0 && not (eqb p 0) ≡ true) where
   pub their-refusal : eqb p 0 ≡ false
   their-refusal = not-true (eqb p 0) (and-right (eqb before 0) (not (eqb p 0)) h)
 
--- behind one rule, and behind four
+-- behind one rule, and behind five
 pub behind-one : (k p r b : ℕ) (bytes : List ℕ) → eqb k 0 && not (eqb p 0) ≡ true → unless (orElse (orElse k (orElse p r)) b) bytes ≡ refusing p
 behind-one k p r b bytes h =
     let y = their-refusal k p h in
     rw (nothing-before k p h, y, y, y)
 
-pub behind-four : (a b c d p r k : ℕ) (bytes : List ℕ) → eqb (orElse a (orElse b (orElse c d))) 0 && not (eqb p 0) ≡ true
-    → unless (orElse (orElse a (orElse b (orElse c (orElse d (orElse p r))))) k) bytes ≡ refusing p
-behind-four a b c d p r k bytes h =
-    let before = orElse a (orElse b (orElse c d)) in
-    let z1 = both-zero a (orElse b (orElse c d)) (nothing-before before p h) in
-    let z2 = both-zero b (orElse c d) (z1 .1) in
-    let z3 = both-zero c d (z2 .1) in
+pub behind-five : (a b c d e p r k : ℕ) (bytes : List ℕ) → eqb (orElse a (orElse b (orElse c (orElse d e)))) 0 && not (eqb p 0) ≡ true
+    → unless (orElse (orElse a (orElse b (orElse c (orElse d (orElse e (orElse p r)))))) k) bytes ≡ refusing p
+behind-five a b c d e p r k bytes h =
+    let before = orElse a (orElse b (orElse c (orElse d e))) in
+    let z1 = both-zero a (orElse b (orElse c (orElse d e))) (nothing-before before p h) in
+    let z2 = both-zero b (orElse c (orElse d e)) (z1 .1) in
+    let z3 = both-zero c (orElse d e) (z2 .1) in
+    let z4 = both-zero d e (z3 .1) in
     let y = their-refusal before p h in
-    rw (z1 .0, z2 .0, z3 .0, z3 .1, y, y, y)
+    rw (z1 .0, z2 .0, z3 .0, z4 .0, z4 .1, y, y, y)

@@ -34,6 +34,7 @@ rewrittenFlags f =
       picoseconds = f .picoseconds;
       chunk = f .chunk;
       promoted = f .promoted;
+      probe = f .probe;
     }
 
 -- where ExtendedFlags1 is absent, or PublisherId on, nothing changes
@@ -137,7 +138,7 @@ kind-small : (s : List ℕ) (f : Flags) (n : ℕ) → flagsAt s 0 ≡ got f n �
 kind-small s f n h =
     let B = invert (ruled 1 byte0Rule s 0) (λ b k. _) h in
     let E = invert (whenOn (eqb (B .0 / 128) 1) 0 (ruled 1 (extended1Rule (bit 4 (B .0)))) s (B .1)) (λ e k. _) (B .3) in
-    let G = map-back (whenOn (eqb (E .0 / 128) 1) 0 (ruled 1 extended2Rule)) (λ g. flagsOf (B .0) (E .0) g) s (E .1) f n (E .3) in
+    let G = map-back (whenOn (eqb (E .0 / 128) 1) 0 (ruled 1 (extended2Rule (bit 6 (B .0))))) (λ g. flagsOf (B .0) (E .0) g) s (E .1) f n (E .3) in
     subst (λ (y : Flags). y .kind < 8) (G .2) (omega arith)
 
 -- flags that were read, and whatever follows them

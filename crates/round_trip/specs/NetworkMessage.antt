@@ -49,6 +49,7 @@ payloadFor PayloadHeader.Absent sizes at =
     (messagesFrom 1 Sizes.Rest at)
 payloadFor (PayloadHeader.Ids n) sizes at = cond (leb n 1) (messagesFrom 1 Sizes.Rest at) (messagesFrom n (Sizes.Listed at) (at + 2 * n))
 payloadFor (PayloadHeader.Chunk w) sizes at = messagesFrom 0 Sizes.Rest at
+payloadFor PayloadHeader.Probe sizes at = messagesFrom 0 Sizes.Rest at
 
 -- what was written, as reading answers it
 abbrev pub writtenMessage : GivenDatagram → Envelope → List ℕ → NetworkMessage
@@ -59,12 +60,13 @@ writtenMessage g x sizes =
       payload = payloadFor (x .«payload_header») sizes (length (envelopeBytes (g .text) (g .ids) (g .promoted) x));
     }
 
--- the lengths of the messages as given: of several messages their lengths, of one all of its bytes; a chunk has no messages
+-- the lengths of the messages as given: of several messages their lengths, of one all of its bytes; a chunk has no messages, nor a probe
 abbrev pub givenLengths : GivenDatagram → PayloadHeader → List ℕ → List ℕ
 givenLengths g PayloadHeader.Absent sizes =
     cond (leb (length (configuredSizes sizes)) 1) (length (g .messages) ∷ []) (listed (length (configuredSizes sizes)) (g .lengths) 0)
 givenLengths g (PayloadHeader.Ids n) sizes = cond (leb n 1) (length (g .messages) ∷ []) (listed n (g .lengths) 0)
 givenLengths g (PayloadHeader.Chunk w) sizes = []
+givenLengths g PayloadHeader.Probe sizes = []
 
 -- message k of messages that stand one after the other and have these lengths
 abbrev pub messageGiven : List ℕ → List ℕ → ℕ → List ℕ
@@ -78,13 +80,15 @@ abbrev pub AsManyLengths : PayloadHeader → List ℕ → Type 0
 AsManyLengths PayloadHeader.Absent lengths = Unit {0}
 AsManyLengths (PayloadHeader.Ids n) lengths = leb n 1 ≡ false → length lengths ≡ 2 * n
 AsManyLengths (PayloadHeader.Chunk w) lengths = Unit {0}
+AsManyLengths PayloadHeader.Probe lengths = Unit {0}
 
 -- a PayloadHeader goes with its ids: Count, of at most one byte, says how many are given, and is not for a chunk; a chunk's own is for a
--- chunk, and no ids are given
+-- chunk, and no ids are given, as for a probe
 abbrev pub AsManyIds : Bool → PayloadHeader → List ℕ → Type 0
 AsManyIds chunk PayloadHeader.Absent ids = Unit {0}
 AsManyIds chunk (PayloadHeader.Ids n) ids = (chunk ≡ false) × (n < 256) × (length ids ≡ 2 * n)
 AsManyIds chunk (PayloadHeader.Chunk w) ids = (chunk ≡ true) × (length ids ≡ 0)
+AsManyIds chunk PayloadHeader.Probe ids = length ids ≡ 0
 
 -- What would be written of these parts is one thing: ids and lengths are as many as Count says. (A said length of a string or of promoted
 -- fields plays no part: their bytes are written.)
@@ -121,16 +125,19 @@ abbrev pub idsGiven : List ℕ → PayloadHeader → ℕ → List ℕ → List �
 idsGiven s PayloadHeader.Absent end configured = numbersBytes (take MOST_WRITERS configured)
 idsGiven s (PayloadHeader.Ids n) end configured = bytesBefore s end (2 * n)
 idsGiven s (PayloadHeader.Chunk w) end configured = []
+idsGiven s PayloadHeader.Probe end configured = []
 
 abbrev pub lengthsGiven : List ℕ → PayloadHeader → ℕ → List ℕ → List ℕ
 lengthsGiven s PayloadHeader.Absent at sizes = cond (leb (length (configuredSizes sizes)) 1) [] (numbersBytes (configuredSizes sizes))
 lengthsGiven s (PayloadHeader.Ids n) at sizes = cond (leb n 1) [] (take (2 * n) (drop at s))
 lengthsGiven s (PayloadHeader.Chunk w) at sizes = []
+lengthsGiven s PayloadHeader.Probe at sizes = []
 
 abbrev pub messagesGiven : List ℕ → PayloadHeader → ℕ → List ℕ
 messagesGiven s PayloadHeader.Absent at = drop at s
 messagesGiven s (PayloadHeader.Ids n) at = cond (leb n 1) (drop at s) (drop (at + 2 * n) s)
 messagesGiven s (PayloadHeader.Chunk w) at = drop at s
+messagesGiven s PayloadHeader.Probe at = drop at s
 
 abbrev pub givenOf : List ℕ → Envelope → Places → List ℕ → List ℕ → GivenDatagram
 givenOf s x p sizes configured =
@@ -160,6 +167,8 @@ pub record ReadsBack (g : GivenDatagram) (x : Envelope) (sizes configured d : Li
       × (messageBytes (messagePlaceAt sizes k d) d ≡ messageGiven (givenLengths g (x .«payload_header») sizes) (g .messages) k)
   -- a chunk's payload
   pub chunk : (w : ℕ) → x .«payload_header» ≡ PayloadHeader.Chunk w → drop (writtenMessage g x sizes .payload .first) d ≡ g .messages
+  -- a probe's body
+  pub probe : x .«payload_header» ≡ PayloadHeader.Probe → drop (placesOf g x .payload) d ≡ g .messages
 
 -- An accepted datagram s, written again: `rewrite` accepts it in the buffer out and leaves `rewritten m s` there, and so does the writer
 -- its parts as they were read.

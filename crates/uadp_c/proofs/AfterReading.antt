@@ -57,6 +57,7 @@ ids-six chunk PayloadHeader.Absent ids configured = held (sameNumbers ids (take 
 ids-six chunk (PayloadHeader.Ids n) ids configured =
     of-either chunk 6 (countShape n (length ids)) six (of-either (leb 256 n) 6 (cond (eqb (length ids) (2 * n)) 0 6) six (held (eqb (length ids) (2 * n))))
 ids-six chunk (PayloadHeader.Chunk w) ids configured = of-either chunk (cond (eqb (length ids) 0) 0 6) 6 (held (eqb (length ids) 0)) six
+ids-six chunk PayloadHeader.Probe ids configured = held (eqb (length ids) 0)
 
 promoted-six : (x : Promoted) (n : ℕ) → Six (promotedShape x n)
 promoted-six Promoted.Absent n = held (eqb n 0)
@@ -68,6 +69,7 @@ lengths-six PayloadHeader.Absent lengths sizes =
     (held (eqb (length lengths) 0)) (held (sameNumbers lengths (configuredSizes sizes)))
 lengths-six (PayloadHeader.Ids n) lengths sizes = of-either (leb n 1) (cond (eqb (length lengths) 0) 0 6) 0 (held (eqb (length lengths) 0)) none
 lengths-six (PayloadHeader.Chunk w) lengths sizes = held (eqb (length lengths) 0)
+lengths-six PayloadHeader.Probe lengths sizes = held (eqb (length lengths) 0)
 
 shape-six : (g : GivenDatagram) (x : Envelope) (sizes configured : List ℕ) → Six (shapeRefusal g x sizes configured)
 shape-six g x sizes configured =

@@ -5,6 +5,7 @@ pub mod Judged
 pub mod Walking
 pub mod Held
 pub mod Wrote
+pub mod Probing
 pub mod Emptied
 pub mod KeptRecord
 pub mod Demand3

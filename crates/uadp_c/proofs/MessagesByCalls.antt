@@ -17,14 +17,16 @@ use Rattle.wire.specs.Answer.{Answer, got, refused}
 use Rattle.wire.specs.declared.optional.Optional16.{Optional16}
 use Rattle.wire.proofs.Reading.{got-value, not-got, invert}
 use Rattle.wire_writer.specs.Store.{laid}
+use Rattle.probe.specs.Body.{probeBodyAt}
 use Rattle.network_header.specs.Flags.{flagsAt}
 use Rattle.network_header.specs.Numbers.{configuredSizes}
 use Rattle.network_header.specs.declared.flags.Flags.{Flags}
 use Rattle.network_header.specs.declared.header.PayloadHeader.{PayloadHeader}
 use Rattle.network_message.specs.Envelope.{NetworkMessage, envelopeAt, envelopeBodyAt, networkMessageAt}
-use Rattle.network_message.specs.Payload.{PlaceStepped, payloadAt, placeStepAt, OfMessages}
+use Rattle.network_message.specs.Payload.{PlaceStepped, messagesFrom, payloadAt, placeStepAt, OfMessages}
 use Rattle.network_message.specs.WriterId.{writerIdOf}
 use Rattle.network_message.specs.declared.payload.Payload.{Payload}
+use Rattle.network_message.specs.declared.payload.Sizes.{Sizes}
 use Rattle.network_message.specs.declared.payload.MessageCursor.{MessageCursor}
 use Rattle.network_message.specs.declared.payload.MessagePlace.{MessagePlace}
 use Rattle.network_message.proofs.Accepted.{payload-tiled}
@@ -39,7 +41,7 @@ use Rattle.envelope_record.proofs.Back.{messages-moved, envelope-stays, payload
 use Rattle.uadp_c.specs.Messages.{messageStep, writerAt, messageResult, envelopeAfter, placeAfter}
 use Rattle.uadp_c.specs.ByCalls.{AllLong, EnvelopeRead, MessageCall, messageCall, NextMessage, MessageCalls, lastEnvelope, MessageTold, MessagesTold, MessagesByCalls}
 
--- ---- what an accepted datagram's payload is: messages that tile it, or a chunk's, which has no messages of its own
+-- ---- what an accepted datagram's payload is: messages that tile it, or a chunk's or a probe, which have no messages of their own
 
 no-chunk : (chunk : Bool) (header : PayloadHeader) → OfMessages header → (sizes s : List ℕ) (at : ℕ) (p : Payload) (n : ℕ) → payloadAt chunk header sizes s at ≡ got p n
     → payloadAt false header sizes s at ≡ got p n
@@ -47,6 +49,7 @@ no-chunk true PayloadHeader.Absent o sizes s at p n e = absurd (not-got e)
 no-chunk false PayloadHeader.Absent o sizes s at p n e = e
 no-chunk chunk (PayloadHeader.Ids c) o sizes s at p n e = e
 no-chunk chunk (PayloadHeader.Chunk w) o sizes s at p n e = absurd o
+no-chunk chunk PayloadHeader.Probe o sizes s at p n e = absurd o
 
 -- the messages' lengths, or none
 pub data Messages (p : Payload) (sizes s : List ℕ) : Type 0 where
@@ -61,6 +64,10 @@ payload-messages chunk (PayloadHeader.Ids c) sizes s at p n e =
     let t = payload-tiled (PayloadHeader.Ids c) tt sizes s at p n (no-chunk chunk (PayloadHeader.Ids c) tt sizes s at p n e) in
     some (t .0) (t .1)
 payload-messages chunk (PayloadHeader.Chunk w) sizes s at p n e = none (sym (ap (λ (x : Payload). x .count) (got-value e)))
+payload-messages true PayloadHeader.Probe sizes s at p n e = absurd (not-got e)
+payload-messages false PayloadHeader.Probe sizes s at p n e =
+    let b = invert (probeBodyAt s at) (λ q next. got (messagesFrom 0 Sizes.Rest at) at) e in
+    none (sym (ap (λ (x : Payload). x .count) (got-value (b .3))))
 
 -- it has at most 65,535 bytes
 pub record Accepted (sizes s : List ℕ) (m : NetworkMessage) : Type 0 where

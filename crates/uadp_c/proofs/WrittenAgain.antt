@@ -79,6 +79,7 @@ count-fits : (chunk : Bool) (header : PayloadHeader) (ids configured : List ℕ)
 count-fits chunk PayloadHeader.Absent ids configured e = refl
 count-fits chunk (PayloadHeader.Ids n) ids configured e = let k = ids-counted chunk n ids configured e in le-leb n 255 (omega (arith, k .1))
 count-fits chunk (PayloadHeader.Chunk w) ids configured e = refl
+count-fits chunk PayloadHeader.Probe ids configured e = refl
 
 -- ---- an output that is these bytes
 written : (bytes : List ℕ) (o : Output) (entry : List ℕ) (x : ℕ) (exit : List ℕ) → o ≡ writing bytes → x ≡ outputResult entry o → exit ≡ bufferAfter entry o → Written bytes entry x exit

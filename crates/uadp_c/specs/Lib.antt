@@ -9,4 +9,5 @@ pub mod Walks
 pub mod History
 pub mod Values
 pub mod Chunks
+pub mod Probes
 pub mod ByCalls

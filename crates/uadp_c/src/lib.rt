@@ -8,6 +8,7 @@ pub mod fields;
 pub mod listings;
 pub mod messages;
 pub mod newness;
+pub mod probes;
 pub mod reassembling;
 pub mod rewrites;
 pub mod values;

@@ -12,12 +12,14 @@ use lib.ListN.{length, length-take}
 use Rattle.wire.specs.Lists.{total}
 use Rattle.wire.specs.Answer.{got, refused}
 use Rattle.wire.proofs.Reading.{got-value, not-got, invert}
+use Rattle.probe.specs.Body.{probeBodyAt}
 use Rattle.network_header.specs.Flags.{flagsAt}
-use Rattle.network_message.specs.Payload.{allPositive, listed, restOnlyAt, listedAt, sizedAt, configuredAt, payloadAt}
+use Rattle.network_message.specs.Payload.{allPositive, listed, messagesFrom, restOnlyAt, listedAt, sizedAt, configuredAt, payloadAt}
 use Rattle.network_header.specs.Numbers.{configuredSizes}
 use Rattle.network_message.specs.Envelope.{NetworkMessage, envelopeAt, networkMessageAt}
 use Rattle.network_header.specs.declared.header.PayloadHeader.{PayloadHeader}
 use Rattle.network_message.specs.declared.payload.Payload.{Payload}
+use Rattle.network_message.specs.declared.payload.Sizes.{Sizes}
 use Rattle.walk.specs.Lines.{Writers, listedOf, firstMessage, messagesLeft}
 use Rattle.walk_records.specs.declared.Walked.{Walked}
 use Rattle.walk_records.specs.Walk.{recordsPut, payloadRecords, walkRecords, walkOf}
@@ -74,6 +76,11 @@ module _ (s : List ℕ) (at : ℕ) (p : Payload) (n : ℕ) where
       go false true q = rest-count q
       go false false q = listed-count c q
   payload-count chunk (PayloadHeader.Chunk w) sizes e = let z : 0 ≡ p .count = ap (λ (x : Payload). x .count) (got-value e) in omega arith
+  payload-count true PayloadHeader.Probe sizes e = absurd (not-got e)
+  payload-count false PayloadHeader.Probe sizes e =
+      let b = invert (probeBodyAt s at) (λ q next. got (messagesFrom 0 Sizes.Rest at) at) e in
+      let z : 0 ≡ p .count = ap (λ (x : Payload). x .count) (got-value (b .3)) in
+      omega arith
 
 pub few-messages : (sizes s : List ℕ) (m : NetworkMessage) (n : ℕ) → got m n ≡ networkMessageAt sizes s → (length s ≤ 65535) × (m .payload .count ≤ 65551)
 few-messages sizes s m n e = go (ltb 65535 (length s)) refl

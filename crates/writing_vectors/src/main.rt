@@ -1,4 +1,5 @@
-// Vectors of what is written: NetworkMessages, DataSetMessages and chunk payloads, with bytes and numbers worked out from document 01.
+// Vectors of what is written: NetworkMessages, DataSetMessages, probes and chunk payloads, with bytes and numbers worked out from
+// documents 01 and 02.
 // Standard input has a line for each vector, below a heading that names the subject; what a line shows of itself is printed with the
 // answer. The module of each subject says what its lines are.
 use libc::STDIN_FILENO;
@@ -16,6 +17,7 @@ mod chunks;
 mod dataset_messages;
 mod network_messages;
 mod optional;
+mod probes;
 
 // What the buffers of both writers hold before.
 const FILL: u8 = 0xee;
@@ -61,6 +63,7 @@ fn vector(subject: u8, line: &[u8], bytes: &[u8]) {
     match subject {
         b'n' => network_messages::vector(line, bytes),
         b'd' => dataset_messages::vector(line, bytes),
+        b'p' => probes::vector(line, bytes),
         _ => chunks::vector(line, bytes),
     }
 }

@@ -5,9 +5,9 @@
 // written, the two bytes of the buffer after them (it is filled with `ee`), and the number of messages that reading finds; of a refusal
 // the number and the buffer's first two bytes. The list has `b` a Byte, `w` a UInt16 or `s` the length of a string as PublisherId; `l`
 // and `h` the halves of DataSetClassId; `g`, `v`, `n` and `q` the parts of the group header; `x` 1 for the chunk bit; `i` Count or `k` a
-// chunk's DataSetWriterId; `t` Timestamp; `p` PicoSeconds; `f` the size of promoted fields. `T`, `I`, `P` and `L` tell how many of the
-// bytes are the string's, the ids', the promoted fields' and the sizes'; the rest is the messages'. `R` is how many bytes the buffer
-// lacks of 96.
+// chunk's DataSetWriterId; `a` 1 for a probe; `t` Timestamp; `p` PicoSeconds; `f` the size of promoted fields. `T`, `I`, `P` and `L`
+// tell how many of the bytes are the string's, the ids', the promoted fields' and the sizes'; the rest is the messages'. `R` is how many
+// bytes the buffer lacks of 96.
 use crate::FILL;
 use crate::optional::optional_i64;
 use crate::optional::optional32;
@@ -185,6 +185,9 @@ fn payload_header(list: &[u8]) -> PayloadHeader {
     }
     if let Decimal::Is(n, _) = lettered(list, b'k') {
         return PayloadHeader::Chunk(low16(n as usize));
+    }
+    if numbered(list, b'a') == 1 {
+        return PayloadHeader::Probe;
     }
     PayloadHeader::Absent
 }

@@ -1,5 +1,6 @@
 //! Each operation of the library on an input, compared with the reference: the answer and every lent byte.
 mod histories;
+mod probes;
 mod reading;
 mod typed;
 mod values;
@@ -13,6 +14,7 @@ use std::hint::black_box;
 use uadp::ffi::Answer;
 
 pub use histories::{cut, every_newness, history, newness};
+pub use probes::{made_up_probe_cursor, put_probe};
 pub use reading::{config, datagram, every_flag, made_up_field_cursor, made_up_message_cursor, next_message_of};
 pub use typed::{reassembled, typed};
 pub use values::{chunks, put_value, value};

@@ -377,13 +377,14 @@ pub struct EnvelopeSpec {
     pub class_id: Option<[u8; 16]>,
     pub group: Option<GroupSpec>,
     pub chunk: bool,
+    pub probe: bool,
     pub payload_header: bool,
     /// A chunk has one.
     pub ids: Vec<u16>,
     pub timestamp: Option<u64>,
     pub picoseconds: Option<u16>,
     pub promoted: Option<Vec<u8>>,
-    /// A chunk's payload is one.
+    /// A chunk's payload is one, and so is a probe.
     pub messages: Vec<Vec<u8>>,
 }
 
@@ -442,9 +443,21 @@ impl EnvelopeSpec {
         spec
     }
 
+    /// A datagram with a probe, valid but for rare faults.
+    pub fn with_probe(random: &mut Random) -> Self {
+        let mut spec = Self::front(random);
+        spec.probe = true;
+        spec.chunk = random.one_in(60);
+        spec.payload_header = random.one_in(60);
+        spec.ids = vec![3; usize::from(spec.payload_header)];
+        spec.messages = vec![probe(random)];
+        spec.promoted = random.maybe(60, small_bytes);
+        spec
+    }
+
     pub fn bytes(&self) -> Vec<u8> {
         let flag = |present: bool, flag: u8| if present { flag } else { 0 };
-        let extended2 = flag(self.chunk, 1) | flag(self.promoted.is_some(), 2);
+        let extended2 = flag(self.chunk, 1) | flag(self.promoted.is_some(), 2) | flag(self.probe, 4);
         let extended1 = self.publisher.as_ref().map_or(0, |(kind, _)| *kind)
             | flag(self.class_id.is_some(), 8)
             | flag(self.timestamp.is_some(), 32)
@@ -538,12 +551,14 @@ pub struct Scenario {
 impl Scenario {
     pub fn any(random: &mut Random) -> Self {
         let mut config = ConfigSpec::any(random);
-        let mut datagram = if random.one_in(8) {
-            let payload = chunk_payload(random);
-            let writer = writer_id(random, &config);
-            EnvelopeSpec::with_chunk(random, writer, payload).bytes()
-        } else {
-            EnvelopeSpec::with_messages(random, &mut config).bytes()
+        let mut datagram = match random.below(8) {
+            0 => {
+                let payload = chunk_payload(random);
+                let writer = writer_id(random, &config);
+                EnvelopeSpec::with_chunk(random, writer, payload).bytes()
+            }
+            1 => EnvelopeSpec::with_probe(random).bytes(),
+            _ => EnvelopeSpec::with_messages(random, &mut config).bytes(),
         };
         match random.below(20) {
             0..=6 => {}
@@ -564,6 +579,65 @@ impl Scenario {
         }
         Self { text: config.text(), datagram }
     }
+}
+
+/// The parts of a probe: its InformationType, its list's count and elements, and what stands behind them.
+#[derive(Clone, Debug)]
+pub struct ProbeSpec {
+    pub information: u8,
+    /// None for a null list, and for a WriterGroup, which has no list.
+    pub count: Option<usize>,
+    /// Ids of 2 bytes, or strings each after its length.
+    pub list: Vec<u8>,
+    pub group: u16,
+    pub booleans: [u8; 2],
+}
+
+impl ProbeSpec {
+    pub fn any(random: &mut Random) -> Self {
+        let information = random.pick(&[2, 3, 4, 5, 5]);
+        let count = if random.one_in(20) { random.within(20, 300) } else { random.within(0, 4) };
+        let count = (information != 4 && !random.one_in(6)).then_some(count);
+        let mut list = Vec::new();
+        for _ in 0..count.unwrap_or(0) {
+            if information == 5 {
+                string(random, &mut list);
+            } else {
+                list.extend((random.number() as u16).to_le_bytes());
+            }
+        }
+        let boolean = |random: &mut Random| if random.one_in(3) { random.number() as u8 } else { random.below(2) as u8 };
+        Self { information, count, list, group: random.number() as u16, booleans: [boolean(random), boolean(random)] }
+    }
+
+    pub fn bytes(&self) -> Vec<u8> {
+        let mut bytes = vec![1, self.information];
+        if self.information == 4 {
+            bytes.extend(self.group.to_le_bytes());
+        } else {
+            bytes.extend(self.count.map_or(-1, |count| count as i32).to_le_bytes());
+            bytes.extend(&self.list);
+        }
+        let first = match self.information {
+            4 => 1,
+            5 => 0,
+            _ => 2,
+        };
+        bytes.extend(&self.booleans[first..]);
+        bytes
+    }
+}
+
+/// A probe, rarely of another type than is taken, or damaged.
+fn probe(random: &mut Random) -> Vec<u8> {
+    let mut bytes = ProbeSpec::any(random).bytes();
+    match random.below(30) {
+        0 => bytes[0] = random.below(4) as u8,
+        1 => bytes[1] = random.pick(&[0, 1, 6, 7, 255]),
+        2 | 3 => damage(random, &mut bytes),
+        _ => {}
+    }
+    bytes
 }
 
 /// A chunk payload, sometimes with other numbers than it should have.

@@ -17,11 +17,13 @@ const SHARES: usize = 256;
 type Compare = fn(&mut Tally, &mut Random);
 
 /// The kinds of case, and how often each is drawn.
-const KINDS: [(Compare, usize); 13] = [
+const KINDS: [(Compare, usize); 15] = [
     (compare::config, 12),
     (compare::datagram, 40),
     (compare::made_up_field_cursor, 5),
     (compare::made_up_message_cursor, 3),
+    (compare::made_up_probe_cursor, 3),
+    (compare::put_probe, 5),
     (compare::write_datagram, 14),
     (compare::write_message, 14),
     (compare::history, 8),

@@ -4,6 +4,7 @@ use crate::reference::config::{Config, MOST_FIELDS, MOST_WRITERS};
 use crate::reference::message::{self, Cursor, Encoding, Field, Header, Kind, Message};
 use crate::reference::network::{Envelope, Group, MessagePlace, PayloadHeader, PublisherId, Sizes};
 use crate::reference::network_writer::{HeaderPart, Parts};
+use crate::reference::probe::{self, Probe};
 use crate::reference::reassembly::{KeptId, Record};
 use crate::reference::told::Told;
 use crate::reference::value::Shape;
@@ -17,6 +18,8 @@ pub const FIELD_SIZE: usize = 64;
 pub const WALK_SIZE: usize = 80;
 pub const VALUE_SIZE: usize = 192;
 pub const CHUNK_SIZE: usize = 128;
+pub const PROBE_SIZE: usize = 128;
+pub const PROBE_ITEM_SIZE: usize = 32;
 pub const PARTIAL_SIZE: usize = 144;
 pub const SEQUENCE_SIZE: usize = 16;
 pub const NO_WRITER: u32 = 65_536;
@@ -98,6 +101,7 @@ pub fn envelope(envelope: &Envelope) -> [u64; ENVELOPE_SIZE / 8] {
         PayloadHeader::Absent => (0, 0),
         PayloadHeader::Writers(ids) => (1, ids.len() as u64 / 2),
         PayloadHeader::ChunkOf(writer) => (2, writer.into()),
+        PayloadHeader::Probe => (3, 0),
     };
     record[14] = envelope.payload_header_end as u64;
     (record[15], record[16]) = envelope.timestamp.map_or((0, 0), |time| (1, time as u64));
@@ -342,6 +346,7 @@ pub fn parts_of<'a>(parts: &uadp::ffi::EnvelopeParts<'a>, class_id: &'a mut [u8;
         payload_header: match number(record, 12) {
             1 => HeaderPart::Count(number(record, 13).min(65_535) as usize),
             2 => HeaderPart::ChunkOf(as16(number(record, 13))),
+            3 => HeaderPart::Probe,
             _ => HeaderPart::Absent,
         },
         ids: parts.ids,
@@ -441,4 +446,45 @@ pub fn chunk(datagram: &[u8], envelope: &Envelope, writer: u16, chunk: &Chunk) -
     (record[7], record[8]) = ((datagram.len() - chunk.data.len()) as u64, chunk.data.len() as u64);
     (record[9], record[10]) = optional(envelope.group.and_then(|group| group.writer_group_id));
     record
+}
+
+/// A probe record whose cursor stands before the first item.
+pub fn probe(probe: &Probe) -> [u64; PROBE_SIZE / 8] {
+    let mut record = [0; PROBE_SIZE / 8];
+    (record[0], record[1], record[2]) = (probe.information.into(), probe.null.into(), probe.count as u64);
+    (record[3], record[4]) = (probe.list as u64, probe.group.into());
+    (record[5], record[6]) = (probe.writer_groups.into(), probe.data_set_writers.into());
+    record[8] = probe.list as u64;
+    record
+}
+
+/// The item before which the cursor of any probe record stands, and where the next one stands.
+pub fn probe_item(record: &[u8], datagram: &[u8]) -> Result<([u64; PROBE_ITEM_SIZE / 8], usize)> {
+    let n = |i: usize| number(record, i) as usize;
+    let count = if n(1) == 0 { n(2) } else { 0 };
+    let (item, next) = probe::item(datagram, u8::try_from(n(0)).unwrap_or(u8::MAX), count, n(7), n(8))?;
+    Ok(([n(7) as u64, item.offset as u64, item.length as u64, item.value.into()], next))
+}
+
+/// The parts that any probe record and a list stand for.
+pub fn probe_parts<'a>(record: &[u8], list: &'a [u8]) -> probe::Parts<'a> {
+    let byte = |i: usize| number(record, i).min(255) as u8;
+    let information = byte(0);
+    let null = number(record, 1) != 0;
+    let fits = match information {
+        probe::GROUP => number(record, 4) >> 16 == 0 && number(record, 6) >> 8 == 0,
+        probe::CONNECTIONS => number(record, 5) >> 8 == 0 && number(record, 6) >> 8 == 0,
+        _ => true,
+    };
+    let counted = information == probe::GROUP || null || number(record, 2) <= i32::MAX as u64;
+    let probe = Probe {
+        information,
+        null,
+        count: number(record, 2) as usize,
+        list: 0,
+        group: as16(number(record, 4)),
+        writer_groups: byte(5),
+        data_set_writers: byte(6),
+    };
+    probe::Parts { probe, list, all_fit: fits && counted }
 }

@@ -1,7 +1,7 @@
 //! A datagram's envelope and its messages.
 use crate::ffi::{self, ENVELOPE_SIZE, HEAD_SIZE, NONE, PLACE_SIZE};
 use crate::record::{envelope, message_place, number, place};
-use crate::{Config, Message, Refusal};
+use crate::{Config, Message, Probe, Refusal};
 use core::fmt;
 use core::iter::FusedIterator;
 
@@ -98,8 +98,11 @@ impl<'a> Datagram<'a> {
     /// With the first byte of the offending item:
     /// - [`CutShort`](crate::Reason::CutShort) where an item doesn't fit in what is left,
     /// - [`BadVersion`](crate::Reason::BadVersion), [`NotPermitted`](crate::Reason::NotPermitted) for flags and numbers that the
-    ///   standard forbids, [`NotTaken`](crate::Reason::NotTaken) for a secured or a discovery message,
-    /// - [`BadLength`](crate::Reason::BadLength) for a null or negative String PublisherId,
+    ///   standard forbids, [`NotTaken`](crate::Reason::NotTaken) for a secured message, an announcement, a probe in chunks or for what
+    ///   [`Information`](crate::Information) doesn't have,
+    /// - [`BadLength`](crate::Reason::BadLength) for a null or negative String PublisherId, and for negative lengths of a probe that are
+    ///   not null,
+    /// - [`LeftOver`](crate::Reason::LeftOver) for bytes after a probe,
     /// - [`Disagree`](crate::Reason::Disagree) where the messages' sizes don't add up to the payload.
     ///
     /// At 0: [`NotConfigured`](crate::Reason::NotConfigured) without a PayloadHeader where the writers are not configured, or only
@@ -150,6 +153,12 @@ impl<'a> Datagram<'a> {
         number(&self.record, envelope::IS_CHUNK) != 0
     }
 
+    /// The probe, if it is one. A probe has no messages.
+    pub fn probe(&self) -> Option<Probe<'a>> {
+        let header = number(&self.record, envelope::PAYLOAD_HEADER);
+        (header == envelope::HEADER_PROBE).then(|| Probe::read(self.bytes, self.config.as_bytes()).ok()).flatten()
+    }
+
     /// A chunk's DataSetWriterId.
     pub fn chunk_writer(&self) -> Option<u16> {
         let header = number(&self.record, envelope::PAYLOAD_HEADER);
@@ -173,12 +182,12 @@ impl<'a> Datagram<'a> {
         Some(&self.bytes[end - size..end])
     }
 
-    /// The payload: sizes and messages, or a chunk's payload.
+    /// The payload: sizes and messages, or a chunk's payload, or a probe.
     pub fn payload(&self) -> &'a [u8] {
         &self.bytes[place(&self.record, envelope::PAYLOAD)..]
     }
 
-    /// The messages, in order; none of a chunk.
+    /// The messages, in order; none of a chunk and of a probe.
     pub const fn messages(&self) -> Messages<'a> {
         Messages { bytes: self.bytes, config: self.config, record: self.record }
     }

@@ -22,6 +22,10 @@ pub const WALK_SIZE: usize = 80;
 pub const VALUE_SIZE: usize = 192;
 /// Bytes of a chunk record.
 pub const CHUNK_SIZE: usize = 128;
+/// Bytes of a probe record.
+pub const PROBE_SIZE: usize = 128;
+/// Bytes of the record of an item that a probe lists.
+pub const PROBE_ITEM_SIZE: usize = 32;
 /// Bytes of a partial's record.
 pub const PARTIAL_SIZE: usize = 144;
 /// Bytes of the record of the last sequence number.
@@ -136,6 +140,16 @@ mod raw {
         pub fn uadp_chunk(
             datagram: *const u8, datagram_length: usize, config: *const u8, config_length: usize, chunk: *mut u8,
             chunk_length: usize,
+        ) -> u64;
+        pub fn uadp_probe(
+            datagram: *const u8, datagram_length: usize, config: *const u8, config_length: usize, probe: *mut u8,
+            probe_length: usize,
+        ) -> u64;
+        pub fn uadp_next_probe_item(
+            datagram: *const u8, datagram_length: usize, probe: *mut u8, probe_length: usize, item: *mut u8, item_length: usize,
+        ) -> u64;
+        pub fn uadp_put_probe(
+            probe: *const u8, probe_length: usize, list: *const u8, list_length: usize, out: *mut u8, out_length: usize,
         ) -> u64;
         pub fn uadp_value(
             bytes: *const u8, length: usize, offset: u64, encoding: u32, kind: u32, value: *mut u8, value_length: usize,
@@ -428,6 +442,27 @@ pub fn chunks(length: u64, size: u64) -> Answer {
 pub fn chunk(datagram: &[u8], config: &[u8], chunk: &mut [u8]) -> Answer {
     let (length, chunk_length) = (datagram.len(), chunk.len());
     Answer(unsafe { raw::uadp_chunk(lent(datagram), length, lent(config), config.len(), lent_mut(chunk), chunk_length) })
+}
+
+/// Reads a probe's datagram into a probe record, whose cursor stands before the first item. Value: where the probe stands.
+pub fn probe(datagram: &[u8], config: &[u8], probe: &mut [u8]) -> Answer {
+    let (length, probe_length) = (datagram.len(), probe.len());
+    Answer(unsafe { raw::uadp_probe(lent(datagram), length, lent(config), config.len(), lent_mut(probe), probe_length) })
+}
+
+/// Steps a probe record's cursor over the next id or string, whose record is filled. Value: its number, from 0.
+pub fn next_probe_item(datagram: &[u8], probe: &mut [u8], item: &mut [u8]) -> Answer {
+    let (length, probe_length, item_length) = (datagram.len(), probe.len(), item.len());
+    Answer(unsafe {
+        raw::uadp_next_probe_item(lent(datagram), length, lent_mut(probe), probe_length, lent_mut(item), item_length)
+    })
+}
+
+/// Writes a probe, without its datagram, from a probe record and its list: ids of 2 bytes, or strings each after its length. Value: how
+/// many bytes.
+pub fn put_probe(probe: &[u8], list: &[u8], out: &mut [u8]) -> Answer {
+    let out_length = out.len();
+    Answer(unsafe { raw::uadp_put_probe(lent(probe), probe.len(), lent(list), list.len(), lent_mut(out), out_length) })
 }
 
 /// Tells the value at an offset of the bytes apart into a value record: 0 a Variant, 1 RawData's element of a type, 2 a DataValue.

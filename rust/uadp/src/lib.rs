@@ -39,6 +39,7 @@
 //! | tell whether a message is newer than the last | [`LastSequence`] |
 //! | write a message and the datagram around it | [`MessageBuilder`], [`Values`], [`DatagramBuilder`] |
 //! | cut a large message into chunks | [`Chunks`] |
+//! | read and write a discovery probe | [`Datagram::probe`], [`Probe`], [`ProbeBuilder`] |
 //! | write an accepted datagram or message again | [`Datagram::rewrite`], [`MessagePart::rewrite`] |
 //! | call the C functions themselves | [`ffi`] |
 //!
@@ -58,6 +59,7 @@ mod datagram;
 mod listing;
 mod message;
 mod partial;
+mod probe;
 mod record;
 mod refusal;
 mod sequence;
@@ -71,6 +73,7 @@ pub use datagram::{Datagram, Group, MessagePart, Messages, PublisherId};
 pub use listing::{list, list_length};
 pub use message::{Encoding, Field, Fields, Kind, Message};
 pub use partial::{marks_size, Chunk, Partial};
+pub use probe::{Information, Probe, ProbeBuilder, ProbeIds, ProbeStrings, Strings};
 pub use refusal::{Reason, Refusal};
 pub use sequence::{LastSequence, Newness};
 pub use told::Value;

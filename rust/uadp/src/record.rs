@@ -63,6 +63,7 @@ pub mod envelope {
     /// Values of `PAYLOAD_HEADER`.
     pub const HEADER_IDS: u64 = 1;
     pub const HEADER_CHUNK: u64 = 2;
+    pub const HEADER_PROBE: u64 = 3;
     /// Bits of `GROUP`.
     pub const HAS_WRITER_GROUP_ID: u64 = 1;
     pub const HAS_GROUP_VERSION: u64 = 2;
@@ -181,4 +182,22 @@ pub mod chunk {
     pub const DATA_LENGTH: usize = 8;
     pub const HAS_GROUP: usize = 9;
     pub const WRITER_GROUP_ID: usize = 10;
+}
+
+/// Numbers of a probe record.
+pub mod probe {
+    pub const INFORMATION_TYPE: usize = 0;
+    pub const IS_NULL: usize = 1;
+    pub const COUNT: usize = 2;
+    pub const WRITER_GROUP_ID: usize = 4;
+    pub const INCLUDE_WRITER_GROUPS: usize = 5;
+    pub const INCLUDE_DATA_SET_WRITERS: usize = 6;
+    pub const NEXT: usize = 7;
+}
+
+/// Numbers of a probe item record.
+pub mod probe_item {
+    pub const OFFSET: usize = 1;
+    pub const LENGTH: usize = 2;
+    pub const VALUE: usize = 3;
 }

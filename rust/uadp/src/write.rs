@@ -350,6 +350,17 @@ impl<'a> DatagramBuilder<'a> {
         let payload = Payload { header: envelope::HEADER_CHUNK, count: writer.into(), messages: chunk, ..Payload::default() };
         self.write(&payload, &[], out)
     }
+
+    /// Writes the datagram of a probe at the buffer's start; [`ProbeBuilder`](crate::ProbeBuilder) makes its payload.
+    ///
+    /// # Errors
+    ///
+    /// As [told above](Self#errors); [`NotPermitted`](Reason::NotPermitted) with promoted fields; for a payload that is no probe what
+    /// reading it would refuse.
+    pub fn write_probe<'b>(&self, probe: &[u8], out: &'b mut [u8]) -> Result<&'b [u8], Refusal> {
+        let payload = Payload { header: envelope::HEADER_PROBE, messages: probe, ..Payload::default() };
+        self.write(&payload, &[], out)
+    }
 }
 
 fn set_group(record: &mut [u8], group: &Group) {

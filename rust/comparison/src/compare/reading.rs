@@ -1,5 +1,5 @@
 //! The configuration, listing, reading, walking, and rewriting of datagrams.
-use super::{answer_of, buffer_length, record_length, Found, Lent, ReadOnly, Tally};
+use super::{answer_of, buffer_length, probes, record_length, Found, Lent, ReadOnly, Tally};
 use crate::generate::{self, Random, Scenario};
 use crate::record::{self, bytes_of, number};
 use crate::reference::config::Config;
@@ -60,6 +60,7 @@ pub fn datagram(tally: &mut Tally, random: &mut Random) {
     case.rewrite(tally, random);
     case.read(tally, random);
     case.chunk(tally, random);
+    probes::read(tally, random, &datagram, &config, &config_record);
     if random.one_in(4) {
         let writer = u32::from(generate::writer_id(random, &generate::ConfigSpec::default()));
         case.message(tally, random, &datagram, writer);
@@ -364,6 +365,7 @@ pub fn next_message_of(envelope: &[u8], datagram: &[u8], config: &Config) -> Res
     let writer = match n(12) {
         1 => n(13).checked_mul(2).and_then(|length| n(14).checked_sub(length)).and_then(entry),
         2 => Some(n(13) as u16),
+        3 => None,
         _ => config.writers().get(next).map(|writer| writer.id),
     };
     Ok(MessagePlace { number: next, offset: at, length, writer })

@@ -8,7 +8,7 @@ use crate::reference::network::{Envelope, Group, MessagePlace, PublisherId};
 use crate::reference::value::Shape;
 use crate::reference::{listing, message, message_writer, network, network_writer, told};
 use uadp::walk::{Entries, Entry, Outcome, Record};
-use uadp::{Chunks, DatagramBuilder, MessageBuilder, Refusal, Values, MOST_DATAGRAM};
+use uadp::{Chunks, DatagramBuilder, Information, MessageBuilder, Probe, ProbeBuilder, Refusal, Strings, Values, MOST_DATAGRAM};
 
 /// A refusal as number and place.
 fn of_crate(refusal: Refusal) -> (u8, usize) {
@@ -72,6 +72,7 @@ impl Case<'_> {
         };
         tally.judge_equal("Datagram", 0, same_envelope(found, expected), input);
         tally.judge_equal("DatagramBuilder", 0, self.built_alike(found), input);
+        tally.judge_equal("Probe", 0, same_probe(found, self.datagram, self.config), input);
         let places: Vec<MessagePlace> = expected.messages(self.datagram, self.config).collect();
         let walked = found.messages().zip(&places).all(|(part, place)| same_place(part, place));
         tally.judge_equal("Messages", 0, walked && found.messages().len() == places.len(), input);
@@ -104,6 +105,9 @@ impl Case<'_> {
     ) -> Result<&'b [u8], Refusal> {
         if let Some(writer) = found.chunk_writer() {
             return builder.write_chunk(writer, found.payload(), out);
+        }
+        if let Some(probe) = found.probe() {
+            return builder.write_probe(probe_built(&probe, &mut vec![0; self.datagram.len()])?, out);
         }
         let messages: Vec<u8> = found.messages().flat_map(|part| part.bytes().iter().copied()).collect();
         if self.datagram[0] & 0x40 == 0 {
@@ -207,6 +211,53 @@ impl Case<'_> {
             message == part.number() && field.encoding as u8 == front.header.encoding as u8 && same_field(&field, &expected)
         })
     }
+}
+
+/// A probe built again from what was read of it.
+fn probe_built<'b>(found: &Probe, out: &'b mut [u8]) -> Result<&'b [u8], Refusal> {
+    let ids: Vec<u16> = found.ids().collect();
+    let mut room = vec![0; out.len()];
+    let mut strings = Strings::new(&mut room);
+    found.strings().try_for_each(|string| strings.push(string))?;
+    let builder = match (found.information(), found.is_null()) {
+        (Information::MetaData, false) => ProbeBuilder::meta_data(&ids),
+        (Information::MetaData, true) => ProbeBuilder::meta_data_of_null(),
+        (Information::Writers, false) => ProbeBuilder::writers(&ids),
+        (Information::Writers, true) => ProbeBuilder::writers_of_null(),
+        (Information::WriterGroup, _) => ProbeBuilder::writer_group(found.writer_group_id().unwrap_or_default()),
+        (Information::Connections, false) => ProbeBuilder::connections_of(&strings),
+        (Information::Connections, true) => ProbeBuilder::connections(),
+    };
+    let groups = found.include_writer_groups().unwrap_or_default();
+    let writers = found.include_data_set_writers().unwrap_or_default();
+    builder.include_writer_groups(groups).include_data_set_writers(writers).write(out)
+}
+
+/// A datagram's probe, with what it lists.
+fn same_probe(found: &uadp::Datagram, datagram: &[u8], config: &Config) -> bool {
+    let (Some(found), Ok((_, expected))) = (found.probe(), network::read_probe(datagram, config)) else {
+        return found.probe().is_none() && network::read_probe(datagram, config).is_err();
+    };
+    let mut at = expected.list;
+    let items: Vec<reference::probe::Item> = (0..expected.count)
+        .map_while(|k| {
+            let (item, next) = reference::probe::item(datagram, expected.information, expected.count, k, at).ok()?;
+            at = next;
+            Some(item)
+        })
+        .collect();
+    let connections = expected.information == reference::probe::CONNECTIONS;
+    let (ids, strings) = if connections { (&[][..], &items[..]) } else { (&items[..], &[][..]) };
+    let text = |item: &reference::probe::Item| (item.value == 0).then(|| &datagram[item.offset..][..item.length]);
+    let group = expected.information == reference::probe::GROUP;
+    found.information() as u8 == expected.information
+        && found.is_null() == expected.null
+        && (found.ids().len(), found.strings().len()) == (ids.len(), strings.len())
+        && found.ids().eq(ids.iter().map(|item| item.value))
+        && found.strings().eq(strings.iter().map(text))
+        && found.writer_group_id() == group.then_some(expected.group)
+        && found.include_writer_groups() == connections.then_some(expected.writer_groups)
+        && found.include_data_set_writers() == (group || connections).then_some(expected.data_set_writers)
 }
 
 fn publisher_of(id: uadp::PublisherId) -> PublisherId {

@@ -48,6 +48,7 @@ impl DatagramParts {
         }
         numbers[11] = spec.chunk.into();
         (numbers[12], numbers[13]) = match (spec.payload_header, spec.chunk) {
+            _ if spec.probe => (3, random.edge()),
             (false, _) => (0, 0),
             (true, false) => (1, spec.ids.len() as u64),
             (true, true) => (2, spec.ids[0].into()),
@@ -61,7 +62,7 @@ impl DatagramParts {
             numbers,
             record_length: record::ENVELOPE_SIZE,
             text: if is_string { id } else { Vec::new() },
-            ids: if spec.chunk { Vec::new() } else { pairs(&spec.ids) },
+            ids: if spec.chunk || spec.probe { Vec::new() } else { pairs(&spec.ids) },
             promoted: spec.promoted.clone().unwrap_or_default(),
             lengths: pairs(&lengths),
             messages: spec.messages.concat(),
@@ -84,7 +85,7 @@ impl DatagramParts {
             6 => self.lengths.truncate(random.within(0, self.lengths.len())),
             7 => generate::damage(random, &mut self.ids),
             8 => generate::damage(random, &mut self.messages),
-            9 => self.numbers[12] = random.below(4) as u64,
+            9 => self.numbers[12] = random.below(5) as u64,
             10 => self.numbers[11] ^= 1,
             11 => (self.numbers[6], self.numbers[9]) = (random.pick(&[20, 31]), 0),
             12 => (self.numbers[15], self.numbers[17], self.numbers[18]) = (0, 1, 5),
@@ -123,12 +124,14 @@ impl DatagramParts {
 /// A datagram written from parts.
 pub fn write_datagram(tally: &mut Tally, random: &mut Random) {
     let mut config = ConfigSpec::any(random);
-    let spec = if random.one_in(5) {
-        let length = random.within(0, 30);
-        let payload = random.bytes(length);
-        EnvelopeSpec::with_chunk(random, 7, payload)
-    } else {
-        EnvelopeSpec::with_messages(random, &mut config)
+    let spec = match random.below(5) {
+        0 if random.one_in(2) => EnvelopeSpec::with_probe(random),
+        0 => {
+            let length = random.within(0, 30);
+            let payload = random.bytes(length);
+            EnvelopeSpec::with_chunk(random, 7, payload)
+        }
+        _ => EnvelopeSpec::with_messages(random, &mut config),
     };
     let mut owned = DatagramParts::of(random, &spec);
     let wrongs = random.pick(&[0, 0, 0, 1, 1, 1, 1, 2, 3]);

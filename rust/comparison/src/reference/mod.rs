@@ -6,6 +6,7 @@ pub mod message;
 pub mod message_writer;
 pub mod network;
 pub mod network_writer;
+pub mod probe;
 pub mod reassembly;
 pub mod sequence;
 pub mod told;

@@ -1,8 +1,11 @@
 //! The envelope of a datagram, and where its messages lie.
 use super::config::Config;
+use super::probe;
 use super::wire::{pair, pairs, Reader};
 use super::{Number, Result, LONGEST_DATAGRAM};
 
+/// The bit of ExtendedFlags2 that a probe has, and no other datagram that is taken.
+pub const PROBE: u8 = 4;
 /// The longest string PublisherId.
 pub const LONGEST_ID: usize = 64;
 
@@ -32,6 +35,8 @@ pub enum PayloadHeader<'a> {
     /// Ids of 2 bytes.
     Writers(&'a [u8]),
     ChunkOf(u16),
+    /// There is none, and the payload is a probe.
+    Probe,
 }
 
 /// How long the messages are.
@@ -79,6 +84,16 @@ struct Flags {
     extended2: u8,
 }
 
+/// Reads a datagram as a probe; another accepted datagram is 4.
+pub fn read_probe<'a>(datagram: &'a [u8], config: &Config) -> Result<(Envelope<'a>, probe::Probe)> {
+    let envelope = read(datagram, config)?;
+    if envelope.payload_header != PayloadHeader::Probe {
+        return Err(Number::NotTaken.nowhere());
+    }
+    let probe = probe::read(&mut Reader::starting_at(datagram, envelope.payload_start))?;
+    Ok((envelope, probe))
+}
+
 /// Reads a datagram's envelope under a configuration.
 pub fn read<'a>(datagram: &'a [u8], config: &Config) -> Result<Envelope<'a>> {
     if datagram.len() > LONGEST_DATAGRAM {
@@ -92,6 +107,7 @@ pub fn read<'a>(datagram: &'a [u8], config: &Config) -> Result<Envelope<'a>> {
     let class_id = reader.when(flags.extended1 & 0x08 != 0, class_id)?;
     let group = reader.when(flags.first & 0x20 != 0, group)?;
     let payload_header = match (flags.first & 0x40 != 0, chunk) {
+        (false, _) if flags.extended2 & PROBE != 0 => PayloadHeader::Probe,
         (false, _) => PayloadHeader::Absent,
         (true, true) => PayloadHeader::ChunkOf(reader.u16()?),
         (true, false) => PayloadHeader::Writers(writer_ids(&mut reader)?),
@@ -129,8 +145,8 @@ fn flags(reader: &mut Reader) -> Result<Flags> {
     }
     let extended1 = reader.when(first & 0x80 != 0, |reader| extended_flags1(reader, first & 0x10 != 0))?;
     let extended1 = extended1.unwrap_or(0);
-    let extended2 = reader.when(extended1 & 0x80 != 0, extended_flags2)?.unwrap_or(0);
-    Ok(Flags { first, extended1, extended2 })
+    let extended2 = reader.when(extended1 & 0x80 != 0, |reader| extended_flags2(reader, first & 0x40 != 0))?;
+    Ok(Flags { first, extended1, extended2: extended2.unwrap_or(0) })
 }
 
 fn extended_flags1(reader: &mut Reader, publisher: bool) -> Result<u8> {
@@ -148,15 +164,19 @@ fn extended_flags1(reader: &mut Reader, publisher: bool) -> Result<u8> {
     Ok(flags)
 }
 
-fn extended_flags2(reader: &mut Reader) -> Result<u8> {
+fn extended_flags2(reader: &mut Reader, payload_header: bool) -> Result<u8> {
     let place = reader.position();
     let flags = reader.u8()?;
     let kind = flags >> 2 & 7;
     if flags == 0 || flags & 0xe0 != 0 || kind > 2 {
         return Err(Number::NotPermitted.at(place));
     }
-    if kind > 0 {
+    // An announcement, and a probe in chunks.
+    if kind == 2 || (kind == 1 && flags & 1 != 0) {
         return Err(Number::NotTaken.at(place));
+    }
+    if kind == 1 && (payload_header || flags & 2 != 0) {
+        return Err(Number::NotPermitted.at(place));
     }
     Ok(flags)
 }
@@ -226,6 +246,7 @@ fn promoted<'a>(reader: &mut Reader<'a>, one_message: bool) -> Result<&'a [u8]> 
 fn message_count(payload_header: PayloadHeader, chunk: bool, config: &Config) -> usize {
     match payload_header {
         _ if chunk => 0,
+        PayloadHeader::Probe => 0,
         PayloadHeader::Writers(ids) => ids.len() / 2,
         _ => config.writers().len(),
     }
@@ -236,6 +257,7 @@ fn sizes<'a>(reader: &mut Reader<'a>, payload_header: PayloadHeader, chunk: bool
     let place = reader.position();
     match payload_header {
         PayloadHeader::ChunkOf(_) => Ok(Sizes::Rest),
+        PayloadHeader::Probe => probe::read(&mut reader.clone()).map(|_| Sizes::Rest),
         PayloadHeader::Writers(ids) if ids.len() > 2 => {
             let sizes = reader.take(ids.len())?;
             let sum: usize = pairs(sizes).map(usize::from).sum();
@@ -284,6 +306,7 @@ impl Envelope<'_> {
                 PayloadHeader::Writers(ids) => pair(ids, number),
                 PayloadHeader::ChunkOf(writer) => Some(writer),
                 PayloadHeader::Absent => config.writers().get(number).map(|writer| writer.id),
+                PayloadHeader::Probe => None,
             };
             let offset = *at;
             *at += length;

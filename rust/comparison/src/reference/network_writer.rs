@@ -1,7 +1,8 @@
 //! Datagrams written from parts, and written again.
 use super::config::Config;
-use super::network::{self, Envelope, Group, PayloadHeader, PublisherId, Sizes, LONGEST_ID};
-use super::wire::{pairs, Writer};
+use super::network::{self, Envelope, Group, PayloadHeader, PublisherId, Sizes, LONGEST_ID, PROBE};
+use super::probe;
+use super::wire::{pairs, Reader, Writer};
 use super::{Number, Refusal, Result, PICOSECONDS_END};
 
 /// What the caller says of the PayloadHeader.
@@ -10,6 +11,7 @@ pub enum HeaderPart {
     Absent,
     Count(usize),
     ChunkOf(u16),
+    Probe,
 }
 
 /// The parts of a datagram.
@@ -51,6 +53,7 @@ pub fn write(parts: &Parts, config: &Config, out: &mut [u8]) -> Result<usize> {
         HeaderPart::Absent => PayloadHeader::Absent,
         HeaderPart::Count(_) => PayloadHeader::Writers(parts.ids),
         HeaderPart::ChunkOf(writer) => PayloadHeader::ChunkOf(writer),
+        HeaderPart::Probe => PayloadHeader::Probe,
     };
     let sizes = if parts.payload_header == HeaderPart::Absent { &[] } else { parts.lengths };
     let front = Front {
@@ -81,6 +84,12 @@ fn read_back(parts: &Parts, config: &Config) -> Result<()> {
     if parts.picoseconds.is_some() && parts.timestamp.is_none() {
         return Err(NOT_PERMITTED);
     }
+    if parts.payload_header == HeaderPart::Probe && parts.chunk {
+        return Err(Number::NotTaken.nowhere());
+    }
+    if parts.payload_header == HeaderPart::Probe && parts.promoted.is_some() {
+        return Err(NOT_PERMITTED);
+    }
     if matches!(parts.publisher, Some(PublisherId::String(id)) if id.len() > LONGEST_ID) {
         return Err(Number::OverLimit.nowhere());
     }
@@ -109,6 +118,7 @@ fn payload_read_back(parts: &Parts, config: &Config) -> Result<()> {
     let single = if total == 0 { Err(Number::CutShort.nowhere()) } else { Ok(()) };
     match parts.payload_header {
         HeaderPart::Absent if parts.chunk => Err(Number::NotConfigured.nowhere()),
+        HeaderPart::Probe => probe::read(&mut Reader::new(parts.messages)).map(drop).map_err(|refusal| refusal.number.nowhere()),
         // A chunk's payload is not read.
         HeaderPart::ChunkOf(_) => Ok(()),
         // A chunk has no Count.
@@ -141,6 +151,7 @@ fn reads_back_otherwise(parts: &Parts, config: &Config) -> bool {
         || parts.text_unasked
         || match parts.payload_header {
             HeaderPart::ChunkOf(_) => !parts.chunk || !parts.ids.is_empty() || !parts.lengths.is_empty(),
+            HeaderPart::Probe => !parts.ids.is_empty() || !parts.lengths.is_empty(),
             HeaderPart::Count(count) => {
                 parts.chunk || count > 255 || parts.ids.len() != 2 * count || parts.lengths.len() != lengths_length(count)
             }
@@ -203,7 +214,7 @@ impl Front<'_> {
     }
 
     fn extended2(&self) -> u8 {
-        flag(self.chunk, 1) | flag(self.promoted.is_some(), 2)
+        flag(self.chunk, 1) | flag(self.promoted.is_some(), 2) | flag(self.payload_header == PayloadHeader::Probe, PROBE)
     }
 
     fn extended1(&self) -> u8 {
@@ -221,7 +232,7 @@ impl Front<'_> {
     fn first_flags(&self) -> u8 {
         1 | flag(self.publisher.is_some(), 0x10)
             | flag(self.group.is_some(), 0x20)
-            | flag(self.payload_header != PayloadHeader::Absent, 0x40)
+            | flag(!matches!(self.payload_header, PayloadHeader::Absent | PayloadHeader::Probe), 0x40)
             | flag(self.extended1() != 0, 0x80)
     }
 
@@ -234,7 +245,7 @@ impl Front<'_> {
             PublisherId::String(id) => 4 + id.len(),
         });
         let payload_header = match self.payload_header {
-            PayloadHeader::Absent => 0,
+            PayloadHeader::Absent | PayloadHeader::Probe => 0,
             PayloadHeader::Writers(ids) => 1 + ids.len(),
             PayloadHeader::ChunkOf(_) => 2,
         };
@@ -260,7 +271,7 @@ impl Front<'_> {
         self.class_id.iter().for_each(|class_id| writer.put(*class_id));
         self.group.iter().for_each(|group| put_group(writer, group));
         match self.payload_header {
-            PayloadHeader::Absent => {}
+            PayloadHeader::Absent | PayloadHeader::Probe => {}
             PayloadHeader::Writers(ids) => {
                 writer.put(&[(ids.len() / 2) as u8]);
                 writer.put(ids);

@@ -1,49 +1,87 @@
--- `network_header::header::read_payload_header` meets its contract.
--- Assumes nothing.
-use mathlib.Core.Path.{sym}
-use borrow.Author.Tests.{not-true, not-false}
-use borrow.Author.Needs.{needs}
 use Rattle.wire.specs.Items.{answer16}
+use borrow.Author.Tests.{not-true, not-false}
+use mathlib.Core.Path.{sym}
 use Rattle.wire.proofs.Reading.{told}
+use borrow.Author.Needs.{needs}
 use Rattle.network_header.proofs.header.read_payload_header.Statement.{statement}
 use Rattle.network_header.proofs.header.read_payload_header.Tie as tie
+use Rattle.network_header.proofs.header.read_payload_header.Reads as reads
+use Rattle.network_header.proofs.header.read_payload_header.Lts as lts
+use Rattle.network_header.proofs.header.ids.Reads as ids-reads
+use Rattle.wire.proofs.read16.Reads as read16-reads
 
+-- src/header.rt:114:9
 returns : tie.Need-returns
-returns c = rw (not-true (c .before .before .args .on) (c .if1 .taken))
+returns c = rw (c .if1 .taken)
 
+-- src/header.rt:117:9
 returns-2 : tie.Need-returns-2
 returns-2 c =
-    let at-if2 = c .before in
-    let at-if1 = at-if2 .before in
+    let at-if1 = c .before in
     let args = at-if1 .before .before .args in
-    rw (not-false (args .on) (at-if1 .if1 .left), not-true (args .chunk) (at-if2 .if2 .taken)) (c .ids .ensures)
+    rw (at-if1 .if1 .left, not-true (args .on) (c .if2 .taken))
 
+-- src/header.rt:120:9
+ids-requires : tie.Need-ids-requires
+ids-requires c κs = search needs
+
+-- src/header.rt:120:9
 returns-3 : tie.Need-returns-3
 returns-3 c =
-    let at-read16 = c .before .before in
-    let at-if2 = at-read16 .before in
+    let at-if3 = c .before in
+    let at-if2 = at-if3 .before in
     let at-if1 = at-if2 .before in
     let args = at-if1 .before .before .args in
-    rw (not-false (args .on) (at-if1 .if1 .left), not-false (args .chunk) (at-if2 .if2 .left), sym (told (answer16 (args .at)) (at-read16 .read16 .ensures) (c .enum-told .given .1)))
+    rw (at-if1 .if1 .left, not-false (args .on) (at-if2 .if2 .left), not-true (args .chunk) (at-if3 .if3 .taken)) (c .ids .ensures)
 
+-- src/header.rt:122:31
+read16-requires : tie.Need-read16-requires
+read16-requires c κs = search needs
+
+-- src/header.rt:122:20
+enum-known-v : tie.Need-enum-known-v
+enum-known-v c = search needs
+
+-- src/header.rt:123:9
+enum-told : tie.Need-enum-told
+enum-told c = search needs
+
+-- src/header.rt:123:9
 returns-4 : tie.Need-returns-4
 returns-4 c =
-    let at-v = c .before in
-    let at-read16 = at-v .before .before in
-    let at-if2 = at-read16 .before in
+    let at-read16 = c .before .before in
+    let at-if3 = at-read16 .before in
+    let at-if2 = at-if3 .before in
     let at-if1 = at-if2 .before in
     let args = at-if1 .before .before .args in
-    rw (not-false (args .on) (at-if1 .if1 .left), not-false (args .chunk) (at-if2 .if2 .left), sym (told (answer16 (args .at)) (at-read16 .read16 .ensures) (at-v .v .given .1)))
+    rw (
+      at-if1 .if1 .left,
+      not-false (args .on) (at-if2 .if2 .left),
+      not-false (args .chunk) (at-if3 .if3 .left),
+      sym (told (answer16 (args .at)) (at-read16 .read16 .ensures) (c .enum-told .given .1)),
+    )
+
+-- src/header.rt:104:1
+returns-5 : tie.Need-returns-5
+returns-5 c =
+    let at-v = c .before in
+    let at-read16 = at-v .before .before in
+    let at-if3 = at-read16 .before in
+    let at-if2 = at-if3 .before in
+    let at-if1 = at-if2 .before in
+    let args = at-if1 .before .before .args in
+    rw (at-if1 .if1 .left, not-false (args .on) (at-if2 .if2 .left), not-false (args .chunk) (at-if3 .if3 .left), sym (told (answer16 (args .at)) (at-read16 .read16 .ensures) (at-v .v .given .1)))
 
 pub read-payload-header-spec : {M : Type 1} → statement M
 read-payload-header-spec =
     tie.close
     (tie.spec
     returns
-    (λ c κs. search needs)
     returns-2
-    (λ c κs. search needs)
-    (λ c. search needs)
-    (λ c. search needs)
+    ids-requires
     returns-3
-    returns-4)
+    read16-requires
+    enum-known-v
+    enum-told
+    returns-4
+    returns-5)

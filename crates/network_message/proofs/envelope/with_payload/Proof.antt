@@ -20,6 +20,7 @@ single-rest : (chunk : Bool) (x : PayloadHeader) (sizes s : List ℕ) (at : ℕ)
 single-rest chunk PayloadHeader.Absent sizes s at e = absurd (let z : _≡_ {A = ℕ} 0 1 = cc in omega arith)
 single-rest chunk (PayloadHeader.Ids n) sizes s at e = rw (eqb-true n 1 e)
 single-rest chunk (PayloadHeader.Chunk w) sizes s at e = absurd (let z : _≡_ {A = ℕ} 0 1 = cc in omega arith)
+single-rest chunk PayloadHeader.Probe sizes s at e = absurd (let z : _≡_ {A = ℕ} 0 1 = cc in omega arith)
 
 returns : tie.Need-returns
 returns c =

@@ -1,0 +1,4 @@
+pub mod Storing
+pub mod Fitting
+pub mod Steadily
+pub mod Trip
