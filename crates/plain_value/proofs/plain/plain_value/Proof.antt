@@ -4,7 +4,6 @@ use Rattle.plain_value.specs.Plain.{plainValue}
 use lib.Dec.{ltb}
 use borrow.Author.Tests.{lt-ltb, le-ltb}
 use mathlib.Core.Path.{sym, ap, _∙_}
-use mathlib.Core.Bool.{or-false}
 use borrow.Author.Needs.{needs}
 use Rattle.plain_value.proofs.plain.plain_value.Statement.{statement}
 use Rattle.plain_value.proofs.plain.plain_value.Tie as tie
@@ -17,13 +16,13 @@ returns c =
 returns-2 : tie.Need-returns-2
 unfolding plainValue
 returns-2 c =
-    rw (sym (ap (ltb 0) (c .before .before .before .width .ensures .0)) ∙ le-ltb _ _ (c .before .before .if1 .left), or-false, c .before .if2 .taken) (c .string-at .ensures)
+    rw (sym (ap (ltb 0) (c .before .before .before .before .width .ensures .0)) ∙ le-ltb _ _ (c .before .before .before .if1 .left), sym (c .before .before .is-text .ensures) ∙ c .before .if2 .taken) (c .text-at .ensures)
 
 returns-3 : tie.Need-returns-3
 unfolding plainValue
 returns-3 c =
-    rw (sym (ap (ltb 0) (c .before .before .width .ensures .0)) ∙ le-ltb _ _ (c .before .if1 .left), or-false, c .if2 .left)
+    rw (sym (ap (ltb 0) (c .before .before .before .width .ensures .0)) ∙ le-ltb _ _ (c .before .before .if1 .left), sym (c .before .is-text .ensures) ∙ c .if2 .left)
 
 pub plain-value-spec : {M : Type 1} → statement M
 plain-value-spec =
-    tie.close (tie.spec (λ c κs. search needs) (λ c κs. search needs) returns (λ c κs. search needs) returns-2 returns-3)
+    tie.close (tie.spec (λ c κs. search needs) (λ c κs. search needs) returns (λ c κs. search needs) (λ c κs. search needs) returns-2 returns-3)
