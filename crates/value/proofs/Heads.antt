@@ -7,7 +7,7 @@ use Prim.Native.Nat.{ℕ, zero, suc, _<_, _-_, _%_}
 use native.Mathlib.Numerals.{sub-one}
 use native.Mathlib.Omega.{arith}
 use lib.Dec.{eqb}
-use Rattle.wire.specs.Answer.{Answer, got, refused, Reader, andThen, _>>=_, _>>_, item, ruled, whenOn, each, bit}
+use Rattle.wire.specs.Answer.{Answer, got, refused, Reader, andThen, _>>=_, item, ruled, whenOn, each, bit}
 use Rattle.wire.specs.Items.{answer8, answerReached}
 use Rattle.wire.specs.declared.Item8.{Item8}
 use Rattle.wire.specs.declared.Reached.{Reached}
@@ -16,7 +16,7 @@ use Rattle.plain_value.specs.Plain.{passing, plain, plainValues}
 use Rattle.plain_value.specs.Dimensions.{dimensions}
 use Rattle.value.specs.Value.{Measure, measure, variantRule, maskRule, scalar, elements, arrayOf, dimensioned, matrixOf, variantOf, dataValueOf, valueOf, tooDeep, valueAt}
 use Rattle.plain_value.specs.Parts.{parts}
-use Rattle.value.specs.Head.{ended, rest, finish}
+use Rattle.value.specs.Head.{ended, plainMatrix, rest, finish, judged}
 use Rattle.value.specs.declared.Shape.{Shape}
 use Rattle.value.specs.declared.head.Head.{Head}
 use Rattle.plain_value.proofs.PartLaws.{then-none}
@@ -78,7 +78,7 @@ module _ (nested : ℕ → Reader Measure) (s : List ℕ) where
   listed t n (got a p) = pass-made (dimensions n s p) (λ d. measure t (Shape.Matrix n d))
   listed t n (refused k place) = refl
 
-  pub plain-listed : (t n at : ℕ) → plain t ≡ true → (r : Reached) {h : Head} → answerReached r ≡ (plainValues t n >> passing (dimensions n)) s at → h ≡ ended r
+  pub plain-listed : (t n at : ℕ) → plain t ≡ true → (r : Reached) {h : Head} → answerReached r ≡ plainMatrix t n s at → h ≡ ended r
       → finish nested s h ≡ passing (matrixOf nested t n) s at
   unfolding elements
   plain-listed t n at e r f q = rw e (ap (finish nested s) q ∙ ended-is r ∙ f ∙ listed t n (plainValues t n s at))
@@ -109,6 +109,15 @@ head-short nested t s at e = go (eqb t 23)
     go : (b : Bool) → refused 1 at ≡ passing (cond b (ruled 1 maskRule >>= dataValueOf nested) (ruled 1 variantRule >>= variantOf nested)) s at
     go true = rw e
     go false = rw e
+
+-- a Variant by its first byte
+pub variant-short : (s : List ℕ) (at : ℕ) → item 1 s at ≡ refused 1 at → refused 1 at ≡ valueAt 100 24 s at
+unfolding valueAt
+variant-short s at e = rw e
+
+pub variant-judged : (s : List ℕ) (at : ℕ) {b next : ℕ} → item 1 s at ≡ got b next → valueAt 100 24 s at ≡ judged variantRule b at (variantOf (valueAt 99)) s next
+unfolding valueAt
+variant-judged s at e = rw e
 
 -- a value by the levels left
 

@@ -5,7 +5,7 @@ use mathlib.Core.List.{List}
 use lib.Dec.{eqb}
 use Rattle.wire.specs.Answer.{Answer, got, refused, Reader, andThen, _>>_, each}
 use Rattle.wire.specs.declared.Reached.{Reached}
-use Rattle.plain_value.specs.Plain.{passing}
+use Rattle.plain_value.specs.Plain.{passing, plainValues}
 use Rattle.plain_value.specs.Parts.{parts}
 use Rattle.plain_value.specs.Dimensions.{dimensions}
 use Rattle.value.specs.Value.{Measure}
@@ -23,6 +23,10 @@ LIST = 64
 -- what follows the n values inside: a DataValue's parts by its mask, or an array's dimensions list
 abbrev pub rest : ℕ → ℕ → Reader (Unit {0})
 rest n after = cond (eqb after LIST) (passing (dimensions n)) (parts after)
+
+-- the n elements of a plain type t, and the dimensions list after them
+abbrev pub plainMatrix : ℕ → ℕ → Reader (Unit {0})
+plainMatrix t n = plainValues t n >> passing (dimensions n)
 
 -- how the values inside, by `nested`, and what follows them finish a value, all passed over
 abbrev pub finish : (ℕ → Reader Measure) → List ℕ → Head → Answer (Unit {0})

@@ -21,12 +21,12 @@ use wire::read8;
 ghost use mathlib.Core.Path.{_≡_};
 ghost use mathlib.Core.List.{List};
 ghost use Prim.Native.Nat.{ℕ, _+_, _<_};
-ghost use Rattle.wire.specs.Answer.{Reader, _>>_};
+ghost use Rattle.wire.specs.Answer.{Reader};
 ghost use Rattle.wire.specs.Items.{answerReached};
 ghost use Rattle.plain_value.specs.Plain.{passing, plainValues};
 ghost use Rattle.plain_value.specs.Dimensions.{dimensions};
 ghost use Rattle.value.specs.Value.{Measure, taken, variantRule, maskRule, scalar, arrayOf, array, matrixOf, matrix, variantOf, dataValueOf, valueOf};
-ghost use Rattle.value.specs.Head.{ended, rest, finish, judged};
+ghost use Rattle.value.specs.Head.{ended, plainMatrix, rest, finish, judged};
 
 // What follows the values inside where it is an array's dimensions list: no mask has this bit.
 const LIST: u8 = 64;
@@ -130,7 +130,7 @@ pub(crate) fn pass_rest(s: &[u8], at: usize, n: u32, after: u8) -> Reached
 // The n elements of an array of a plain type t, and its dimensions list.
 fn plain_matrix(s: &[u8], at: usize, t: u8, n: usize) -> Reached
     requires { ⌜ n < 2147483648 ⌝ }
-    ensures { λ r. ⌜ answerReached r ≡ (plainValues t n >> passing (dimensions n)) (now (s .entry)) at ⌝ }
+    ensures { λ r. ⌜ answerReached r ≡ plainMatrix t n (now (s .entry)) at ⌝ }
 {
     match plain_values(s, at, t, n) {
         Reached::To(end) => pass_list(s, end, n as u32),

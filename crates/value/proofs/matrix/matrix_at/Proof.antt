@@ -1,0 +1,46 @@
+use mathlib.Core.Path.{sym, _∙_}
+use borrow.Author.Tests.{eq-eqb, ne-eqb}
+use Rattle.value.proofs.FirstByte.{matrix-first}
+use borrow.Author.Needs.{needs}
+use Rattle.value.proofs.matrix.matrix_at.Statement.{statement}
+use Rattle.value.proofs.matrix.matrix_at.Tie as tie
+use Rattle.value.proofs.matrix.matrix_at.Reads as reads
+use Rattle.value.proofs.matrix.matrix_at.Lts as lts
+use Rattle.value.proofs.head.is_taken.Reads as is-taken-reads
+use Rattle.value.proofs.matrix.after_first.Reads as after-first-reads
+
+-- src/matrix.rt:73:9
+returns : tie.Need-returns
+returns c =
+    rw (matrix-first (c .before .before .args .t) (c .before .before .pre) .rule, eq-eqb _ _ (c .if1 .taken))
+
+-- src/matrix.rt:75:8
+is-taken-requires : tie.Need-is-taken-requires
+is-taken-requires c κs = search needs
+
+-- src/matrix.rt:76:9
+after-first-requires : tie.Need-after-first-requires
+after-first-requires c κs = search needs
+
+-- src/matrix.rt:76:9
+returns-2 : tie.Need-returns-2
+returns-2 c =
+    let at-if2 = c .before in
+    let at-is-taken = at-if2 .before in
+    let at-if1 = at-is-taken .before in
+    let at-pre = at-if1 .before .before in
+    let f = matrix-first (at-pre .args .t) (at-pre .pre) in
+    rw (f .rule, sym (at-is-taken .is-taken .ensures) ∙ at-if2 .if2 .taken, ne-eqb _ _ (at-if1 .if1 .left), f .type, ne-eqb _ _ (at-if1 .if1 .left), f .array, f .dimensions) (c .after-first .ensures)
+
+-- src/matrix.rt:68:1
+returns-3 : tie.Need-returns-3
+returns-3 c =
+    let at-is-taken = c .before in
+    let at-if1 = at-is-taken .before in
+    let at-pre = at-if1 .before .before in
+    let f = matrix-first (at-pre .args .t) (at-pre .pre) in
+    rw (f .rule, sym (at-is-taken .is-taken .ensures) ∙ c .if2 .left, ne-eqb _ _ (at-if1 .if1 .left))
+
+pub matrix-at-spec : {M : Type 1} → statement M
+matrix-at-spec =
+    tie.close (tie.spec returns is-taken-requires after-first-requires returns-2 returns-3)
