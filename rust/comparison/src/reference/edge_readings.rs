@@ -59,8 +59,8 @@ fn measure(bytes: &[u8]) -> Result<(Value, usize)> {
 
 #[test]
 fn v1_to_v3() {
-    assert_eq!(measure(&[0]), Ok((Value { kind: 0, shape: Shape::Scalar }, 1)));
-    let null_array = Value { kind: 5, shape: Shape::NullArray };
+    assert_eq!(measure(&[0]), Ok((Value::scalar(0), 1)));
+    let null_array = Value::array(5, None);
     assert_eq!(measure(&[0x85, 0xFF, 0xFF, 0xFF, 0xFF]), Ok((null_array, 5)));
     assert_eq!(measure(&[0x18]), Err(Number::NotPermitted.at(0)));
 }
