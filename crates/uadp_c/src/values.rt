@@ -74,7 +74,9 @@ fn fill_value(bytes: &[u8], value: &mut [u8], told: FieldTold) -> u64
             if value.len() < VALUE_SIZE {
                 return result(NO_ROOM, 0);
             }
-            put_value(value, f, tell_name(bytes, f.value));
+            let told = f.value;
+            let name = tell_name(bytes, told);
+            put_value(value, f, name);
             result(0, f.end)
         }
     }
