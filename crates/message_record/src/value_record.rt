@@ -12,11 +12,11 @@ use wire::left;
 ghost use mathlib.Core.Path.{_≡_};
 ghost use Rattle.wire_writer.specs.Store.{laid};
 ghost use Rattle.records.specs.Numbers.{numberBytes};
-ghost use Rattle.message_record.specs.Value.{listBytes, sizesPlace, valueNumbers};
+ghost use Rattle.message_record.specs.Value.{dimensionsLength, dimensionsPlace, valueNumbers};
 
 // How many bytes the dimensions list of a shape has.
 fn list_bytes(shape: Shape) -> usize
-    ensures { λ r. ⌜ r ≡ listBytes shape ⌝ }
+    ensures { λ r. ⌜ r ≡ dimensionsLength shape ⌝ }
 {
     match shape {
         Shape::Scalar => 0,
@@ -28,7 +28,7 @@ fn list_bytes(shape: Shape) -> usize
 
 // Where the dimensions of a value that ends at `end` stand, 0 where it has no list.
 fn sizes_place(shape: Shape, end: usize) -> usize
-    ensures { λ r. ⌜ r ≡ sizesPlace shape end ⌝ }
+    ensures { λ r. ⌜ r ≡ dimensionsPlace shape end ⌝ }
 {
     match shape {
         Shape::Scalar => 0,

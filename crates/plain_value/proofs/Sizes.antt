@@ -19,7 +19,7 @@ use Rattle.plain_value.specs.Dimensions.{fours, belowOne, anyBelowOne, p
 
 -- the first of the dimensions, and those after it
 module _ (k : ℕ) (s : List ℕ) (at : ℕ) (h : le 4 s at < 4294967296) where
-  pub fours-next : fours (suc k) (le (4 * suc k) s at) ≡ le 4 s at ∷ fours k (le (4 * k) s (at + 4))
+  fours-next : fours (suc k) (le (4 * suc k) s at) ≡ le 4 s at ∷ fours k (le (4 * k) s (at + 4))
   unfolding fours
   fours-next =
       let a : ℕ = le 4 s at in
@@ -38,11 +38,11 @@ pub from-one : (n : ℕ) (ds : List ℕ) → sizesRule n ds ≡ sizesFrom n 1 ds
 from-one n ds = ap (λ (x : ℕ). cond (anyBelowOne ds) 5 (cond (eqb x n) 0 6)) (sym (one-mul (product ds)))
 
 -- a dimension that is not below 1
-pub at-least : (d : ℕ) → belowOne (signed 4 d) ≡ false → 1 ≤ d
+at-least : (d : ℕ) → belowOne (signed 4 d) ≡ false → 1 ≤ d
 at-least zero e = absurd (false≢true (sym e))
 at-least (suc d) e = omega arith
 
-pub positive-product : (ds : List ℕ) → anyBelowOne ds ≡ false → 1 ≤ product ds
+positive-product : (ds : List ℕ) → anyBelowOne ds ≡ false → 1 ≤ product ds
 unfolding anyBelowOne product
 positive-product [] e = omega arith
 positive-product (d ∷ ds) e = go (λ q. positive-product ds q) (belowOne (signed 4 d)) refl e
@@ -66,12 +66,12 @@ over n acc ds h = go (anyBelowOne ds) refl
 
 module _ (n acc d : ℕ) (ds : List ℕ) where
   -- a dimension below 1
-  pub sizes-stop : belowOne (signed 4 d) ≡ true → sizesFrom n acc (d ∷ ds) ≡ 5
+  sizes-stop : belowOne (signed 4 d) ≡ true → sizesFrom n acc (d ∷ ds) ≡ 5
   unfolding anyBelowOne
   sizes-stop e = rw e
 
   -- any other, by the product with it
-  pub sizes-next : belowOne (signed 4 d) ≡ false → sizesFrom n acc (d ∷ ds) ≡ sizesFrom n (cond (ltb n acc) acc (acc * d)) ds
+  sizes-next : belowOne (signed 4 d) ≡ false → sizesFrom n acc (d ∷ ds) ≡ sizesFrom n (cond (ltb n acc) acc (acc * d)) ds
   unfolding anyBelowOne product
   sizes-next e = go (ltb n acc) refl
     where

@@ -16,9 +16,10 @@ ghost use Rattle.wire.specs.Answer.{andThen, each, whenOn};
 ghost use Rattle.wire.specs.Items.{answerReached};
 ghost use Rattle.plain_value.specs.Plain.{bytes, string, qualifiedName, localizedText, lengthFirst, named, text, plain, plainValue};
 
-// The types of a name and of a text with its locale.
+// The type of a name.
 pub const QUALIFIED_NAME: u8 = 20;
 
+// The type of a text with its locale.
 pub const LOCALIZED_TEXT: u8 = 21;
 
 // n bytes, one item.
@@ -94,8 +95,29 @@ pub fn text_at(s: &[u8], at: usize, t: u8) -> Reached
     string_at(s, at)
 }
 
-// n values made of Strings, one after the other.
-pub fn texts_at(s: &[u8], at: usize, t: u8, n: usize) -> Reached
+// n Strings or ByteStrings, one after the other. The loop has no test of the type, which would cost a quarter of its time.
+fn strings_at(s: &[u8], at: usize, n: usize) -> Reached
+    ensures { λ r. ⌜ answerReached r ≡ each string n (now (s .entry)) at ⌝ }
+{
+    let mut p = at;
+    let mut left = n;
+    while 0 < left {
+        let r = string_at(s, p);
+        match r {
+            Reached::To(e) => {
+                p = e;
+                left -= 1;
+            }
+            Reached::Refused(number, place) => {
+                return Reached::Refused(number, place);
+            }
+        }
+    }
+    Reached::To(p)
+}
+
+// n names of type t, one after the other.
+fn names_at(s: &[u8], at: usize, t: u8, n: usize) -> Reached
     ensures { λ r. ⌜ answerReached r ≡ each (text t) n (now (s .entry)) at ⌝ }
 {
     let mut p = at;
@@ -113,6 +135,19 @@ pub fn texts_at(s: &[u8], at: usize, t: u8, n: usize) -> Reached
         }
     }
     Reached::To(p)
+}
+
+// n values made of Strings, one after the other.
+pub fn texts_at(s: &[u8], at: usize, t: u8, n: usize) -> Reached
+    ensures { λ r. ⌜ answerReached r ≡ each (text t) n (now (s .entry)) at ⌝ }
+{
+    if t == QUALIFIED_NAME {
+        return names_at(s, at, t, n);
+    }
+    if t == LOCALIZED_TEXT {
+        return names_at(s, at, t, n);
+    }
+    strings_at(&*s, at, n)
 }
 
 // Whether a type's values hold no other value.

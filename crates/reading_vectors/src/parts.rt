@@ -38,10 +38,7 @@ fn element(bytes: &[u8], k: usize) {
         Told::Refused(n, place) => refused(n, place),
         Told::Is(p) => {
             let shape = p.shape;
-            show(
-                bytes,
-                tell_element(bytes, p.first, p.kind, count(shape), k),
-            );
+            show(bytes, tell_element(bytes, p.first, p.kind, count(shape), k));
         }
     }
 }

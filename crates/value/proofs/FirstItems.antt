@@ -147,7 +147,8 @@ module _ (s : List ℕ) (e : ℕ) {m : Measure} where
       go Length.Negative after h r = absurd (not-got r)
 
   -- what follows its first byte
-  by-first : (b next : ℕ) → variantRule b ≡ 0 → hasDimensions b ≡ false → variantOf (valueAt 99) b s next ≡ got m e → got m e ≡ cond (isArray b) (arrayAt e (typeOf b) s next) (got (measure (typeOf b) Shape.Scalar) e)
+  by-first : (b next : ℕ) → variantRule b ≡ 0 → hasDimensions b ≡ false → variantOf (valueAt 99) b s next ≡ got m e
+      → got m e ≡ cond (isArray b) (arrayAt e (typeOf b) s next) (got (measure (typeOf b) Shape.Scalar) e)
   unfolding scalar
   by-first b next r f q = go (eqb (typeOf b) 0) refl (isArray b) refl (rw f at q)
     where

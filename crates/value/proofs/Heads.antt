@@ -48,7 +48,7 @@ pub pass-found : {A : Type 0} (x : Answer (Unit {0})) (m : A) → x ≡ andThen 
 pass-found (got tt next) m = refl
 pass-found (refused n place) m = refl
 
-pub pass-made : {A B : Type 0} (x : Answer A) (f : A → B) → andThen x (λ a next. got tt next) ≡ andThen (andThen x (λ a next. got (f a) next)) (λ a next. got (tt {0}) next)
+pass-made : {A B : Type 0} (x : Answer A) (f : A → B) → andThen x (λ a next. got tt next) ≡ andThen (andThen x (λ a next. got (f a) next)) (λ a next. got (tt {0}) next)
 pass-made (got a next) f = refl
 pass-made (refused n place) f = refl
 

@@ -44,8 +44,8 @@ pub enum Shape {
     Matrix(usize, u32),
 }
 
-// A measured value: its type number and the position after it, of an array with elements also their count, and of one with a dimensions list
-// how many these are; or the number and place of its refusal. It is flat, so that an answer crosses a call in whole words.
+// A measured value: its type number and the position after it, of an array with elements also their count, and of one with a dimensions
+// list how many these are; or the number and place of its refusal. It is flat, so that an answer crosses a call in whole words.
 pub enum Measured {
     Scalar(u8, usize),
     NullArray(u8, usize),
@@ -156,14 +156,10 @@ pub fn pass_variants(s: &[u8], at: usize, n: usize) -> Reached
     Reached::To(p)
 }
 
-// A Variant at a position.
-pub fn measure_variant(s: &[u8], at: usize) -> Measured
+// A Variant at a position, by its first byte: an array with dimensions in one pass, any other is passed over and told by its first items.
+pub(crate) fn measure_other(s: &[u8], at: usize) -> Measured
     ensures { λ r. ⌜ answerMeasured r ≡ variantAt (now (s .entry)) at ⌝ }
 {
-    let end = fixed_end(s, at);
-    if at < end {
-        return Measured::Scalar(s[at], end);
-    }
     let Item8::Is(b, next) = read8(s, at) else {
         return Measured::Refused(CUT_SHORT, at);
     };
@@ -174,6 +170,17 @@ pub fn measure_variant(s: &[u8], at: usize) -> Measured
         Reached::Refused(number, place) => Measured::Refused(number, place),
         Reached::To(end) => described(s, at, end),
     }
+}
+
+// A Variant at a position.
+pub fn measure_variant(s: &[u8], at: usize) -> Measured
+    ensures { λ r. ⌜ answerMeasured r ≡ variantAt (now (s .entry)) at ⌝ }
+{
+    let end = fixed_end(s, at);
+    if at < end {
+        return Measured::Scalar(s[at], end);
+    }
+    measure_other(&*s, at)
 }
 
 // A DataValue at a position.

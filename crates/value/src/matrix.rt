@@ -1,4 +1,5 @@
-// A field's own value that is an array with dimensions, measured: in one pass over its elements, since its dimensions list stands after them.
+// A field's own value that is an array with dimensions, measured: in one pass over its elements, since its dimensions list stands after
+// them.
 use crate::Measured;
 use crate::head::is_taken;
 use crate::head::plain_values;

@@ -254,7 +254,8 @@ module _ (s : List ℕ) (m t : ℕ) (b : List ℕ) (small : t < 64) (short : len
           let e1 : m + 1 ≡ m + length (headBytes t Form.Null (length b)) = omega (arith, l .0) in
           let e : m + 1 ≡ m + length (variantBytes t Form.Null b) = omega (arith, l .1, z) in
           told-from s m t Form.Null b
-          (described-is s m (item-there s m t big p) (omega arith) (null-variant s m (x .0) (sym (x .1) ∙ eqb-true t 0 ek)) ∙ rw (item-there s m t big p, sf .no-array, sf .type)) (rw (ey, ek)) (here ey ∙ e1) e
+          (described-is s m (item-there s m t big p) (omega arith) (null-variant s m (x .0) (sym (x .1) ∙ eqb-true t 0 ek)) ∙ rw (item-there s m t big p, sf .no-array, sf .type))
+          (rw (ey, ek)) (here ey ∙ e1) e
       go false false ey false ek q = absurd (omega (arith, q))
 
   any-trip : (f : Form) → formRule t f (length b) ≡ 0 → At s m (variantBytes t f b) → Told s m t f b

@@ -17,15 +17,15 @@ abbrev pub noText : Text
 noText = record { place = 0; length = 0 }
 
 -- the bytes of a String by its length: none where it is null
-abbrev pub textOf : Answer Length → Text
-textOf (got Length.Null next) = noText
-textOf (got (Length.Of n) next) = record { place = next; length = n }
-textOf (got Length.Negative next) = noText
-textOf (refused n place) = noText
+abbrev pub textBy : Answer Length → Text
+textBy (got Length.Null next) = noText
+textBy (got (Length.Of n) next) = record { place = next; length = n }
+textBy (got Length.Negative next) = noText
+textBy (refused n place) = noText
 
 -- the String at a position, where there is one
-abbrev pub textAt : Bool → List ℕ → ℕ → Text
-textAt on s at = cond on (textOf (lengthItem s at)) noText
+abbrev pub textHere : Bool → List ℕ → ℕ → Text
+textHere on s at = cond on (textBy (lengthItem s at)) noText
 
 -- the position after what was read; the same position where it is refused
 abbrev pub afterIt : {A : Type 0} → ℕ → Answer A → ℕ
@@ -37,9 +37,9 @@ abbrev pub afterText : Bool → List ℕ → ℕ → ℕ
 afterText on s at = cond on (afterIt at (string s at)) at
 
 -- an item's number, 0 where it is not there
-abbrev pub numberOr0 : Answer ℕ → ℕ
-numberOr0 (got v next) = v
-numberOr0 (refused n place) = 0
+abbrev pub itemOr0 : Answer ℕ → ℕ
+itemOr0 (got v next) = v
+itemOr0 (refused n place) = 0
 
 -- no name
 abbrev pub noName : Name
@@ -47,15 +47,15 @@ noName = record { number = 0; locale = noText; text = noText }
 
 -- a QualifiedName: its NamespaceIndex, and its name
 abbrev pub qualifiedAt : List ℕ → ℕ → Name
-qualifiedAt s at = record { number = numberOr0 (item 2 s at); locale = noText; text = textAt true s (afterIt at (item 2 s at)) }
+qualifiedAt s at = record { number = itemOr0 (item 2 s at); locale = noText; text = textHere true s (afterIt at (item 2 s at)) }
 
 -- a LocalizedText by its mask m, which stands before `at`: by bit 0 its locale, by bit 1 its text
 abbrev pub localizedBy : ℕ → List ℕ → ℕ → Name
 localizedBy m s at =
-    record { number = m; locale = textAt (bit 0 m) s at; text = textAt (bit 1 m) s (afterText (bit 0 m) s at) }
+    record { number = m; locale = textHere (bit 0 m) s at; text = textHere (bit 1 m) s (afterText (bit 0 m) s at) }
 
 abbrev pub localizedAt : List ℕ → ℕ → Name
-localizedAt s at = localizedBy (numberOr0 (item 1 s at)) s (afterIt at (item 1 s at))
+localizedAt s at = localizedBy (itemOr0 (item 1 s at)) s (afterIt at (item 1 s at))
 
 -- the name at a position, of type t
 abbrev pub nameAt : ℕ → List ℕ → ℕ → Name

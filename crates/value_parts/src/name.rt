@@ -14,7 +14,7 @@ use wire::read8;
 use wire::read16;
 ghost use mathlib.Core.Path.{_≡_};
 ghost use mathlib.Core.Bool.{true};
-ghost use Rattle.value_parts.specs.Name.{textAt, afterText, noName, qualifiedAt, localizedBy, localizedAt, nameAt, nameOf};
+ghost use Rattle.value_parts.specs.Name.{textHere, afterText, noName, qualifiedAt, localizedBy, localizedAt, nameAt, nameOf};
 
 // The bytes of a String: where they start, and how many; both 0 where it is absent or null.
 pub struct Text {
@@ -22,8 +22,8 @@ pub struct Text {
     pub length: usize,
 }
 
-// What a name is told apart into: of a QualifiedName its index and, as text, its name; of a LocalizedText its mask, its locale and its text.
-// Of any other value all are 0.
+// What a name is told apart into: of a QualifiedName its index and, as text, its name; of a LocalizedText its mask, its locale and its
+// text. Of any other value all are 0.
 pub struct Name {
     pub number: u16,
     pub locale: Text,
@@ -32,19 +32,31 @@ pub struct Name {
 
 // The String at a position, where there is one.
 fn text_if(s: &[u8], on: bool, at: usize) -> Text
-    ensures { λ r. ⌜ r ≡ textAt on (now (s .entry)) at ⌝ }
+    ensures { λ r. ⌜ r ≡ textHere on (now (s .entry)) at ⌝ }
 {
     if !on {
-        return Text { place: 0, length: 0 };
+        return Text {
+            place: 0,
+            length: 0,
+        };
     }
     match read_length(s, at) {
-        ItemLength::Null(_) => Text { place: 0, length: 0 },
+        ItemLength::Null(_) => Text {
+            place: 0,
+            length: 0,
+        },
         ItemLength::Of(next, n) => Text {
             place: next,
             length: n,
         },
-        ItemLength::Negative(_) => Text { place: 0, length: 0 },
-        ItemLength::Short => Text { place: 0, length: 0 },
+        ItemLength::Negative(_) => Text {
+            place: 0,
+            length: 0,
+        },
+        ItemLength::Short => Text {
+            place: 0,
+            length: 0,
+        },
     }
 }
 
@@ -65,7 +77,10 @@ fn after_text(s: &[u8], on: bool, at: usize) -> usize
 fn no_name() -> Name
     ensures { λ r. ⌜ r ≡ noName ⌝ }
 {
-    let none = Text { place: 0, length: 0 };
+    let none = Text {
+        place: 0,
+        length: 0,
+    };
     Name {
         number: 0,
         locale: none,
@@ -77,7 +92,10 @@ fn no_name() -> Name
 fn qualified(s: &[u8], at: usize) -> Name
     ensures { λ r. ⌜ r ≡ qualifiedAt (now (s .entry)) at ⌝ }
 {
-    let locale = Text { place: 0, length: 0 };
+    let locale = Text {
+        place: 0,
+        length: 0,
+    };
     match read16(s, at) {
         Item16::Is(number, next) => {
             let text = text_if(s, true, next);

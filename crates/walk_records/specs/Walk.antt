@@ -35,7 +35,8 @@ orNone (Optional16.Is v) = v
 -- a field of message m, whose offset counts in the datagram
 abbrev pub fieldRecord : ℕ → Field → List ℕ
 fieldRecord m f =
-    0 ∷ m ∷ f .index ∷ f .kind ∷ shapeNumber (f .shape) ∷ elementsNumber (f .shape) ∷ f .offset ∷ f .length ∷ dimensionsOf (f .shape) ∷ 0 ∷ []
+    0 ∷ m ∷ f .index ∷ f .kind ∷ shapeNumber (f .shape) ∷ elementsNumber (f .shape) ∷ f .offset ∷ f .length ∷ dimensionsOf (f .shape) ∷ 0
+    ∷ []
 
 -- a message: what it is, three numbers that depend on it, and one that only a refused message has
 abbrev pub messageRecord : SetPlace → ℕ → ℕ → ℕ → ℕ → ℕ → List ℕ

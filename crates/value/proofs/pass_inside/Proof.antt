@@ -1,3 +1,5 @@
+-- `value::pass_inside` meets its contract.
+-- Assumes nothing.
 use borrow.Author.Needs.{needs}
 use Rattle.plain_value.proofs.Passing.{pass-step, pass-stop}
 use Rattle.value.specs.Value.{valueAt}
@@ -8,9 +10,6 @@ use Rattle.wire.specs.Answer.{each}
 use mathlib.Core.Path.{_≡_, sym, _∙_}
 use Rattle.value.proofs.pass_inside.Statement.{statement}
 use Rattle.value.proofs.pass_inside.Tie as tie
-use Rattle.value.proofs.pass_inside.Reads as reads
-use Rattle.value.proofs.pass_inside.Lts as lts
-use Rattle.value.proofs.pass_value.Reads as pass-value-reads
 
 abbrev Inv-loop : tie.InvT-loop
 Inv-loop s at t n p₀ left₀ p left = each (valueAt 99 t) n s at ≡ each (valueAt 99 t) left s p
@@ -18,27 +17,6 @@ Inv-loop s at t n p₀ left₀ p left = each (valueAt 99 t) n s at ≡ each (val
 abbrev μ-loop : tie.MeasureT-loop
 μ-loop s at t n p₀ left₀ p left = left
 
--- src/lib.rt:114:5
-loop-holds : tie.Need-loop-holds Inv-loop μ-loop
-loop-holds c = search needs
-
--- src/lib.rt:115:15
-pass-value-requires : tie.Need-pass-value-requires Inv-loop μ-loop
-pass-value-requires c κs = search needs
-
--- src/lib.rt:116:25
-enum-known-end : tie.Need-enum-known-end Inv-loop μ-loop
-enum-known-end c = search needs
-
--- src/lib.rt:118:17
-sub-left : tie.Need-sub-left Inv-loop μ-loop
-sub-left c = search needs
-
--- src/lib.rt:114:5
-loop-less : tie.Need-loop-less Inv-loop μ-loop
-loop-less c = search needs
-
--- src/lib.rt:114:5
 loop-again : tie.Need-loop-again Inv-loop μ-loop
 loop-again c =
     let at-end = c .before in
@@ -48,11 +26,6 @@ loop-again c =
     let l = at-loop .loop in
     l .inv ∙ pass-step (valueAt 99 _) _ (l .left) (l .p) (at-loop-test .loop-test .taken) (sym (told answerReached (at-pass-value .pass-value .ensures) (at-end .end .given .1)))
 
--- src/lib.rt:120:30
-enum-known-number : tie.Need-enum-known-number Inv-loop μ-loop
-enum-known-number c = search needs
-
--- src/lib.rt:121:17
 returns : tie.Need-returns Inv-loop μ-loop
 returns c =
     let at-number = c .before in
@@ -62,7 +35,6 @@ returns c =
     let l = at-loop .loop in
     sym (l .inv ∙ pass-stop (valueAt 99 _) _ (l .left) (l .p) (at-loop-test .loop-test .taken) (sym (told answerReached (at-pass-value .pass-value .ensures) (at-number .number .given .1))))
 
--- src/lib.rt:109:1
 returns-2 : tie.Need-returns-2 Inv-loop μ-loop
 returns-2 c =
     let l = c .before .loop in
@@ -74,12 +46,12 @@ pass-inside-spec =
     (tie.spec
     Inv-loop
     μ-loop
-    loop-holds
-    pass-value-requires
-    enum-known-end
-    sub-left
-    loop-less
+    (λ c. search needs)
+    (λ c κs. search needs)
+    (λ c. search needs)
+    (λ c. search needs)
+    (λ c. search needs)
     loop-again
-    enum-known-number
+    (λ c. search needs)
     returns
     returns-2)

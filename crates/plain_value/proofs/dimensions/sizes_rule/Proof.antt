@@ -1,7 +1,9 @@
+-- `plain_value::dimensions::sizes_rule` meets its contract.
+-- Assumes nothing.
 use borrow.Author.Needs.{needs}
 use denote.Ref.{now}
 use native.Mathlib.Omega.{arith}
-use mathlib.Core.Path.{_≡_, sym, ap, _∙_}
+use mathlib.Core.Path.{_≡_, sym, _∙_}
 use lib.ListN.{length}
 use borrow.Author.Tests.{eq-eqb, ne-eqb}
 use Prim.Native.Nat.{_+_, _*_, _≤_}
@@ -12,11 +14,6 @@ use Rattle.plain_value.specs.Dimensions.{fours, sizesRule}
 use Rattle.plain_value.proofs.Sizes.{sizesFrom, from-one, size-there, size-stop, size-again, size-done, next-is}
 use Rattle.plain_value.proofs.dimensions.sizes_rule.Statement.{statement}
 use Rattle.plain_value.proofs.dimensions.sizes_rule.Tie as tie
-use Rattle.plain_value.proofs.dimensions.sizes_rule.Reads as reads
-use Rattle.plain_value.proofs.dimensions.sizes_rule.Lts as lts
-use Rattle.plain_value.proofs.dimensions.below_one.Reads as below-one-reads
-use Rattle.plain_value.proofs.dimensions.times.Reads as times-reads
-use Rattle.wire.proofs.read32.Reads as read32-reads
 
 abbrev Inv-loop : tie.InvT-loop
 Inv-loop s at k n product₀ p₀ left₀ product p left =
@@ -25,36 +22,18 @@ Inv-loop s at k n product₀ p₀ left₀ product p left =
 abbrev μ-loop : tie.MeasureT-loop
 μ-loop s at k n product₀ p₀ left₀ product p left = left
 
--- src/dimensions.rt:52:5
 loop-holds : tie.Need-loop-holds Inv-loop μ-loop
 loop-holds c = (from-one _ _, c .before .pre)
 
--- src/dimensions.rt:53:35
-read32-requires : tie.Need-read32-requires Inv-loop μ-loop
-read32-requires c κs = search needs
-
--- src/dimensions.rt:53:24
-enum-known-d : tie.Need-enum-known-d Inv-loop μ-loop
-enum-known-d c = search needs
-
--- src/dimensions.rt:54:13
-enum-told : tie.Need-enum-told Inv-loop μ-loop
-enum-told c = search needs
-
--- src/dimensions.rt:54:13
 returns : tie.Need-returns Inv-loop μ-loop
 returns c =
     let at-read32 = c .before .before in
     let at-loop-test = at-read32 .before in
     let at-loop = at-loop-test .before in
     let args = at-loop .before .before .args in
-    absurd (not-got (told (answer32 (at-loop .loop .p)) (at-read32 .read32 .ensures) (c .enum-told .given .1) ∙ size-there (now (args .s)) (at-loop .loop .p) (at-loop .loop .left) (at-loop .loop .inv .1) (at-loop-test .loop-test .taken)))
+    absurd (not-got (told (answer32 (at-loop .loop .p)) (at-read32 .read32 .ensures) (c .enum-told .given .1) ∙ size-there (now (args .s)) (at-loop .loop .p) (at-loop .loop .left)
+    (at-loop .loop .inv .1) (at-loop-test .loop-test .taken)))
 
--- src/dimensions.rt:56:12
-below-one-requires : tie.Need-below-one-requires Inv-loop μ-loop
-below-one-requires c κs = search needs
-
--- src/dimensions.rt:57:13
 returns-2 : tie.Need-returns-2 Inv-loop μ-loop
 returns-2 c =
     let at-below-one = c .before in
@@ -63,21 +42,10 @@ returns-2 c =
     let at-read32 = at-d .before .before in
     let at-loop-test = at-read32 .before in
     let at-loop = at-loop-test .before in
-    sym (at-loop .loop .inv .0 ∙ size-stop _ _ _ (at-loop .loop .left) (at-loop .loop .p) (at-d .d .given .0 .0) (at-d .d .given .0 .1 .0) (at-loop-test .loop-test .taken) (told (answer32 (at-loop .loop .p)) (at-read32 .read32 .ensures) (at-d .d .given .1)) (at-loop .loop .inv .1) (omega (arith, at-known-told .known-told .given)) (sym (at-below-one .below-one .ensures) ∙ c .if1 .taken))
+    sym (at-loop .loop .inv .0 ∙ size-stop _ _ _ (at-loop .loop .left) (at-loop .loop .p) (at-d .d .given .0 .0) (at-d .d .given .0 .1 .0) (at-loop-test .loop-test .taken)
+    (told (answer32 (at-loop .loop .p)) (at-read32 .read32 .ensures) (at-d .d .given .1)) (at-loop .loop .inv .1) (omega (arith, at-known-told .known-told .given))
+    (sym (at-below-one .below-one .ensures) ∙ c .if1 .taken))
 
--- src/dimensions.rt:59:9
-times-requires : tie.Need-times-requires Inv-loop μ-loop
-times-requires c κs = search needs
-
--- src/dimensions.rt:61:9
-sub-left : tie.Need-sub-left Inv-loop μ-loop
-sub-left c = search needs
-
--- src/dimensions.rt:52:5
-loop-less : tie.Need-loop-less Inv-loop μ-loop
-loop-less c = search needs
-
--- src/dimensions.rt:52:5
 loop-again : tie.Need-loop-again Inv-loop μ-loop
 loop-again c =
     let at-if1 = c .before in
@@ -87,10 +55,19 @@ loop-again c =
     let at-read32 = at-d .before .before in
     let at-loop-test = at-read32 .before in
     let at-loop = at-loop-test .before in
-    let args = at-loop .before .before .args in
-    (at-loop .loop .inv .0 ∙ size-again _ _ _ (at-loop .loop .left) (at-loop .loop .p) (at-d .d .given .0 .0) (at-d .d .given .0 .1 .0) (at-loop-test .loop-test .taken) (told (answer32 (at-loop .loop .p)) (at-read32 .read32 .ensures) (at-d .d .given .1)) (at-loop .loop .inv .1) (omega (arith, at-known-told .known-told .given)) (sym (at-below-one .below-one .ensures) ∙ at-if1 .if1 .left) (c .times .ensures), omega (arith, at-loop .loop .inv .1, at-loop-test .loop-test .taken, next-is (now (args .s)) 0 0 (at-loop .loop .left) (at-loop .loop .p) _ _ (at-loop-test .loop-test .taken) (told (answer32 (at-loop .loop .p)) (at-read32 .read32 .ensures) (at-d .d .given .1)) (at-loop .loop .inv .1) (omega (arith, at-known-told .known-told .given))))
+    let args = at-loop .before .before .args in (
+      at-loop .loop .inv .0 ∙ size-again _ _ _ (at-loop .loop .left) (at-loop .loop .p) (at-d .d .given .0 .0) (at-d .d .given .0 .1 .0) (at-loop-test .loop-test .taken)
+          (told (answer32 (at-loop .loop .p)) (at-read32 .read32 .ensures) (at-d .d .given .1)) (at-loop .loop .inv .1) (omega (arith, at-known-told .known-told .given))
+          (sym (at-below-one .below-one .ensures) ∙ at-if1 .if1 .left) (c .times .ensures),
+      omega (
+        arith,
+        at-loop .loop .inv .1,
+        at-loop-test .loop-test .taken,
+        next-is (now (args .s)) 0 0 (at-loop .loop .left) (at-loop .loop .p) _ _ (at-loop-test .loop-test .taken)
+            (told (answer32 (at-loop .loop .p)) (at-read32 .read32 .ensures) (at-d .d .given .1)) (at-loop .loop .inv .1) (omega (arith, at-known-told .known-told .given)),
+      ),
+    )
 
--- src/dimensions.rt:64:9
 returns-3 : tie.Need-returns-3 Inv-loop μ-loop
 returns-3 c =
     let at-loop-test = c .before in
@@ -98,7 +75,6 @@ returns-3 c =
     let args = at-loop .before .before .args in
     sym (at-loop .loop .inv .0 ∙ size-done (now (args .s)) _ _ (at-loop .loop .left) _ (at-loop-test .loop-test .left) ∙ rw (eq-eqb _ _ (c .if2 .taken)))
 
--- src/dimensions.rt:45:1
 returns-4 : tie.Need-returns-4 Inv-loop μ-loop
 returns-4 c =
     let at-loop-test = c .before in
@@ -113,15 +89,15 @@ sizes-rule-spec =
     Inv-loop
     μ-loop
     loop-holds
-    read32-requires
-    enum-known-d
-    enum-told
+    (λ c κs. search needs)
+    (λ c. search needs)
+    (λ c. search needs)
     returns
-    below-one-requires
+    (λ c κs. search needs)
     returns-2
-    times-requires
-    sub-left
-    loop-less
+    (λ c κs. search needs)
+    (λ c. search needs)
+    (λ c. search needs)
     loop-again
     returns-3
     returns-4)

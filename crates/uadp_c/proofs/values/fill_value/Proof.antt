@@ -1,68 +1,57 @@
+-- `uadp_c::values::fill_value` meets its contract.
+-- Assumes nothing.
+use native.Mathlib.Omega.{arith}
+use denote.Ref.{now}
+use mathlib.Core.Path.{ap, _∙_}
+use Rattle.records.proofs.Storing.{bytes-length}
+use Rattle.records.specs.Numbers.{numberBytes}
+use Rattle.wire_writer.specs.Store.{laid}
+use Rattle.value_parts.specs.declared.name.Name.{Name}
+use Rattle.value_parts.specs.Name.{nameOf}
+use Rattle.message_record.specs.Value.{valueNumbers}
+use Rattle.uadp_c.proofs.Filling.{fill-refused, fill-none, fill-done}
+use Rattle.uadp_c.proofs.Told.{was-told}
 use borrow.Author.Needs.{needs}
 use Rattle.uadp_c.proofs.values.fill_value.Statement.{statement}
 use Rattle.uadp_c.proofs.values.fill_value.Tie as tie
-use Rattle.uadp_c.proofs.values.fill_value.Reads as reads
-use Rattle.uadp_c.proofs.values.fill_value.Lts as lts
-use Rattle.message_record.proofs.value_record.put_value.Reads as put-value-reads
-use Rattle.records.proofs.result.result.Reads as result-reads
-use Rattle.value_parts.proofs.name.tell_name.Reads as tell-name-reads
 
--- src/values.rt:72:28
-enum-known-told : tie.Need-enum-known-told
-enum-known-told c = search needs
-
--- src/values.rt:72:41
-result-requires : tie.Need-result-requires
-result-requires c κs = search needs
-
--- src/values.rt:73:23
-enum-known-told-2 : tie.Need-enum-known-told-2
-enum-known-told-2 c = search needs
-
--- src/values.rt:75:17
-result-requires-2 : tie.Need-result-requires-2
-result-requires-2 c κs = search needs
-
--- src/values.rt:75:17
 returns : tie.Need-returns
-returns c = ?
+returns c =
+    let at-told2 = c .before .before .before in
+    let args = at-told2 .before .before .before .before .args in
+    let f = at-told2 .told2 .given .0 .0 in
+    let s = now (args .bytes) in
+    fill-none _ (now (args .value)) _ _ 192 _ (was-told s (at-told2 .told2 .given .1)) (bytes-length (valueNumbers f (nameOf s (f .value)))) (omega arith) (c .result2 .ensures)
 
--- src/values.rt:78:17
-tell-name-requires : tie.Need-tell-name-requires
-tell-name-requires c κs = search needs
-
--- src/values.rt:79:13
-put-value-requires : tie.Need-put-value-requires
-put-value-requires c κs = search needs
-
--- src/values.rt:80:13
-result-requires-3 : tie.Need-result-requires-3
-result-requires-3 c κs = search needs
-
--- src/values.rt:66:1
 returns-2 : tie.Need-returns-2
-returns-2 c = ?
+returns-2 c =
+    let at-told = c .before .before in
+    let args = at-told .before .before .before .before .args in
+    fill-refused _ (now (args .value)) _ _ _ (was-told (now (args .bytes)) (at-told .told .given .1)) (c .result .ensures)
 
--- src/values.rt:66:1
-same-length : tie.Need-same-length
-same-length c = search needs
-
--- src/values.rt:66:1
 returns-3 : tie.Need-returns-3
-returns-3 c = ?
+returns-3 c =
+    let at-put-value = c .before .before .before in
+    let at-tell-name = at-put-value .before .before in
+    let at-told2 = at-tell-name .before .before .before .before in
+    let args = at-told2 .before .before .before .before .args in
+    let f = at-told2 .told2 .given .0 .0 in
+    let s = now (args .bytes) in
+    fill-done _ (now (args .value)) _ _ _ 192 _ (was-told s (at-told2 .told2 .given .1)) (bytes-length (valueNumbers f (nameOf s (f .value)))) (omega arith) (c .result3 .ensures)
+    (at-put-value .put-value .ensures ∙ ap (λ (n : Name). laid (now (args .value)) 0 (numberBytes (valueNumbers f n))) (at-tell-name .tell-name .ensures))
 
 pub fill-value-spec : {M : Type 1} → statement M
 fill-value-spec =
     tie.close
     (tie.spec
-    enum-known-told
-    result-requires
-    enum-known-told-2
-    result-requires-2
+    (λ c. search needs)
+    (λ c κs. search needs)
+    (λ c. search needs)
+    (λ c κs. search needs)
     returns
-    tell-name-requires
-    put-value-requires
-    result-requires-3
+    (λ c κs. search needs)
+    (λ c κs. search needs)
+    (λ c κs. search needs)
     returns-2
-    same-length
+    (λ c. search needs)
     returns-3)

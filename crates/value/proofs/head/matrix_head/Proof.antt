@@ -1,3 +1,5 @@
+-- `value::head::matrix_head` meets its contract.
+-- Assumes nothing.
 use mathlib.Core.Path.{sym}
 use denote.Ref.{now}
 use Rattle.wire.proofs.Reading.{told}
@@ -8,34 +10,7 @@ use Rattle.value.proofs.Heads.{list-found}
 use borrow.Author.Needs.{needs}
 use Rattle.value.proofs.head.matrix_head.Statement.{statement}
 use Rattle.value.proofs.head.matrix_head.Tie as tie
-use Rattle.value.proofs.head.matrix_head.Reads as reads
-use Rattle.value.proofs.head.matrix_head.Lts as lts
-use Rattle.value.proofs.head.done.Reads as done-reads
-use Rattle.value.proofs.head.listed_head.Reads as listed-head-reads
-use Rattle.value.proofs.head.pass_list.Reads as pass-list-reads
-use Rattle.wire.proofs.read_length.Reads as read-length-reads
 
--- src/head.rt:158:11
-read-length-requires : tie.Need-read-length-requires
-read-length-requires c κs = search needs
-
--- src/head.rt:159:26
-enum-known-next : tie.Need-enum-known-next
-enum-known-next c = search needs
-
--- src/head.rt:159:40
-pass-list-requires : tie.Need-pass-list-requires
-pass-list-requires c κs = search needs
-
--- src/head.rt:159:35
-done-requires : tie.Need-done-requires
-done-requires c κs = search needs
-
--- src/head.rt:160:24
-enum-known-next-2 : tie.Need-enum-known-next-2
-enum-known-next-2 c = search needs
-
--- src/head.rt:160:36
 listed-head-requires : tie.Need-listed-head-requires
 listed-head-requires c κs =
     let at-next2 = c .before in
@@ -43,15 +18,6 @@ listed-head-requires c κs =
     let args = at-read-length .before .before .args in
     count-small (now (args .s)) (args .at) (sym (told (answerLength (args .at)) (at-read-length .read-length .ensures) (at-next2 .next2 .given .1)))
 
--- src/head.rt:161:36
-enum-told : tie.Need-enum-told
-enum-told c = search needs
-
--- src/head.rt:162:30
-enum-told-2 : tie.Need-enum-told-2
-enum-told-2 c = search needs
-
--- src/head.rt:155:1
 returns : tie.Need-returns
 unfolding matrix
 returns c =
@@ -59,9 +25,9 @@ returns c =
     let at-next = at-pass-list .before .before in
     let at-read-length = at-next .before .before in
     let args = at-read-length .before .before .args in
-    λ nested. rw (sym (told (answerLength (args .at)) (at-read-length .read-length .ensures) (at-next .next .given .1))) (list-found nested (now (args .s)) (args .t) 0 _ (at-pass-list .pass-list .result) (at-pass-list .pass-list .ensures) (c .done .ensures))
+    λ nested. rw (sym (told (answerLength (args .at)) (at-read-length .read-length .ensures) (at-next .next .given .1)))
+    (list-found nested (now (args .s)) (args .t) 0 _ (at-pass-list .pass-list .result) (at-pass-list .pass-list .ensures) (c .done .ensures))
 
--- src/head.rt:155:1
 returns-2 : tie.Need-returns-2
 unfolding matrix
 returns-2 c =
@@ -70,7 +36,6 @@ returns-2 c =
     let args = at-read-length .before .before .args in
     λ nested. rw (sym (told (answerLength (args .at)) (at-read-length .read-length .ensures) (at-next2 .next2 .given .1))) (c .listed-head .ensures nested)
 
--- src/head.rt:155:1
 returns-3 : tie.Need-returns-3
 unfolding matrix
 returns-3 c =
@@ -78,7 +43,6 @@ returns-3 c =
     let args = at-read-length .before .before .args in
     λ nested. rw (sym (told (answerLength (args .at)) (at-read-length .read-length .ensures) (c .enum-told .given .1)))
 
--- src/head.rt:155:1
 returns-4 : tie.Need-returns-4
 unfolding matrix
 returns-4 c =
@@ -90,14 +54,14 @@ pub matrix-head-spec : {M : Type 1} → statement M
 matrix-head-spec =
     tie.close
     (tie.spec
-    read-length-requires
-    enum-known-next
-    pass-list-requires
-    done-requires
-    enum-known-next-2
+    (λ c κs. search needs)
+    (λ c. search needs)
+    (λ c κs. search needs)
+    (λ c κs. search needs)
+    (λ c. search needs)
     listed-head-requires
-    enum-told
-    enum-told-2
+    (λ c. search needs)
+    (λ c. search needs)
     returns
     returns-2
     returns-3

@@ -1,3 +1,5 @@
+-- `value::head::variant_head` meets its contract.
+-- Assumes nothing.
 use mathlib.Core.Path.{_≡_, ap, subst, _∙_}
 use Prim.Native.Nat.{ℕ, _+_, _-_}
 use denote.Ref.{now}
@@ -9,21 +11,7 @@ use Rattle.value.proofs.FirstByte.{no-array-but-dimensions}
 use borrow.Author.Needs.{needs}
 use Rattle.value.proofs.head.variant_head.Statement.{statement}
 use Rattle.value.proofs.head.variant_head.Tie as tie
-use Rattle.value.proofs.head.variant_head.Reads as reads
-use Rattle.value.proofs.head.variant_head.Lts as lts
-use Rattle.value.proofs.head.array_variant.Reads as array-variant-reads
-use Rattle.value.proofs.head.matrix_variant.Reads as matrix-variant-reads
-use Rattle.value.proofs.head.scalar_variant.Reads as scalar-variant-reads
 
--- src/head.rt:225:9
-scalar-variant-requires : tie.Need-scalar-variant-requires
-scalar-variant-requires c κs = search needs
-
--- src/head.rt:225:9
-returns : tie.Need-returns
-returns c = search needs
-
--- src/head.rt:228:9
 returns-2 : tie.Need-returns-2
 returns-2 c =
     let at-if1 = c .before in
@@ -32,11 +20,6 @@ returns-2 c =
     let q : b ≡ b - 64 + 64 = omega (arith, at-if1 .if1 .left) in
     λ nested. rw (ap variantRule q ∙ no-array-but-dimensions (b - 64) (omega (arith, at-if1 .if1 .left, c .if2 .taken)))
 
--- src/head.rt:231:9
-array-variant-requires : tie.Need-array-variant-requires
-array-variant-requires c κs = search needs
-
--- src/head.rt:231:9
 returns-3 : tie.Need-returns-3
 returns-3 c =
     let at-if2 = c .before .before in
@@ -46,12 +29,10 @@ returns-3 c =
     λ nested. subst (λ (x : ℕ). finish nested (now (a .s)) (c .array-variant .result) ≡ passing (judged variantRule x (a .at) (variantOf nested)) (now (a .s)) (a .next)) q
     (c .array-variant .ensures nested)
 
--- src/head.rt:233:5
 matrix-variant-requires : tie.Need-matrix-variant-requires
 matrix-variant-requires c κs =
     omega (arith, c .if3 .left, c .before .before .before .before .fits .b)
 
--- src/head.rt:219:1
 returns-4 : tie.Need-returns-4
 returns-4 c =
     let at-if3 = c .before in
@@ -65,10 +46,10 @@ pub variant-head-spec : {M : Type 1} → statement M
 variant-head-spec =
     tie.close
     (tie.spec
-    scalar-variant-requires
-    returns
+    (λ c κs. search needs)
+    (λ c. search needs)
     returns-2
-    array-variant-requires
+    (λ c κs. search needs)
     returns-3
     matrix-variant-requires
     returns-4)

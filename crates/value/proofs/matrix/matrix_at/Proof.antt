@@ -1,28 +1,16 @@
+-- `value::matrix::matrix_at` meets its contract.
+-- Assumes nothing.
 use mathlib.Core.Path.{sym, _∙_}
 use borrow.Author.Tests.{eq-eqb, ne-eqb}
 use Rattle.value.proofs.FirstByte.{matrix-first}
 use borrow.Author.Needs.{needs}
 use Rattle.value.proofs.matrix.matrix_at.Statement.{statement}
 use Rattle.value.proofs.matrix.matrix_at.Tie as tie
-use Rattle.value.proofs.matrix.matrix_at.Reads as reads
-use Rattle.value.proofs.matrix.matrix_at.Lts as lts
-use Rattle.value.proofs.head.is_taken.Reads as is-taken-reads
-use Rattle.value.proofs.matrix.after_first.Reads as after-first-reads
 
--- src/matrix.rt:73:9
 returns : tie.Need-returns
 returns c =
     rw (matrix-first (c .before .before .args .t) (c .before .before .pre) .rule, eq-eqb _ _ (c .if1 .taken))
 
--- src/matrix.rt:75:8
-is-taken-requires : tie.Need-is-taken-requires
-is-taken-requires c κs = search needs
-
--- src/matrix.rt:76:9
-after-first-requires : tie.Need-after-first-requires
-after-first-requires c κs = search needs
-
--- src/matrix.rt:76:9
 returns-2 : tie.Need-returns-2
 returns-2 c =
     let at-if2 = c .before in
@@ -32,7 +20,6 @@ returns-2 c =
     let f = matrix-first (at-pre .args .t) (at-pre .pre) in
     rw (f .rule, sym (at-is-taken .is-taken .ensures) ∙ at-if2 .if2 .taken, ne-eqb _ _ (at-if1 .if1 .left), f .type, ne-eqb _ _ (at-if1 .if1 .left), f .array, f .dimensions) (c .after-first .ensures)
 
--- src/matrix.rt:68:1
 returns-3 : tie.Need-returns-3
 returns-3 c =
     let at-is-taken = c .before in
@@ -43,4 +30,4 @@ returns-3 c =
 
 pub matrix-at-spec : {M : Type 1} → statement M
 matrix-at-spec =
-    tie.close (tie.spec returns is-taken-requires after-first-requires returns-2 returns-3)
+    tie.close (tie.spec returns (λ c κs. search needs) (λ c κs. search needs) returns-2 returns-3)

@@ -1,3 +1,5 @@
+-- `value_parts::name::text_if` meets its contract.
+-- Assumes nothing.
 use mathlib.Core.Path.{sym}
 use borrow.Author.Tests.{not-true, not-false}
 use Rattle.wire.proofs.Reading.{told}
@@ -5,35 +7,10 @@ use Rattle.wire.specs.Items.{answerLength}
 use borrow.Author.Needs.{needs}
 use Rattle.value_parts.proofs.name.text_if.Statement.{statement}
 use Rattle.value_parts.proofs.name.text_if.Tie as tie
-use Rattle.value_parts.proofs.name.text_if.Reads as reads
-use Rattle.value_parts.proofs.name.text_if.Lts as lts
-use Rattle.wire.proofs.read_length.Reads as read-length-reads
 
--- src/name.rt:38:9
 returns : tie.Need-returns
 returns c = rw (not-true (c .before .before .args .on) (c .if1 .taken))
 
--- src/name.rt:40:11
-read-length-requires : tie.Need-read-length-requires
-read-length-requires c κs = search needs
-
--- src/name.rt:41:32
-enum-told : tie.Need-enum-told
-enum-told c = search needs
-
--- src/name.rt:42:24
-enum-known-next : tie.Need-enum-known-next
-enum-known-next c = search needs
-
--- src/name.rt:46:36
-enum-told-2 : tie.Need-enum-told-2
-enum-told-2 c = search needs
-
--- src/name.rt:47:30
-enum-told-3 : tie.Need-enum-told-3
-enum-told-3 c = search needs
-
--- src/name.rt:34:1
 returns-2 : tie.Need-returns-2
 returns-2 c =
     let at-read-length = c .before .before in
@@ -41,7 +18,6 @@ returns-2 c =
     let args = at-if1 .before .before .args in
     rw (not-false (args .on) (at-if1 .if1 .left), sym (told (answerLength (args .at)) (at-read-length .read-length .ensures) (c .enum-told .given .1)))
 
--- src/name.rt:34:1
 returns-3 : tie.Need-returns-3
 returns-3 c =
     let at-next = c .before in
@@ -50,7 +26,6 @@ returns-3 c =
     let args = at-if1 .before .before .args in
     rw (not-false (args .on) (at-if1 .if1 .left), sym (told (answerLength (args .at)) (at-read-length .read-length .ensures) (at-next .next .given .1)))
 
--- src/name.rt:34:1
 returns-4 : tie.Need-returns-4
 returns-4 c =
     let at-read-length = c .before .before in
@@ -58,7 +33,6 @@ returns-4 c =
     let args = at-if1 .before .before .args in
     rw (not-false (args .on) (at-if1 .if1 .left), sym (told (answerLength (args .at)) (at-read-length .read-length .ensures) (c .enum-told2 .given .1)))
 
--- src/name.rt:34:1
 returns-5 : tie.Need-returns-5
 returns-5 c =
     let at-read-length = c .before .before in
@@ -71,11 +45,11 @@ text-if-spec =
     tie.close
     (tie.spec
     returns
-    read-length-requires
-    enum-told
-    enum-known-next
-    enum-told-2
-    enum-told-3
+    (λ c κs. search needs)
+    (λ c. search needs)
+    (λ c. search needs)
+    (λ c. search needs)
+    (λ c. search needs)
     returns-2
     returns-3
     returns-4

@@ -1,15 +1,13 @@
+-- `value_parts::told::is_name` meets its contract.
+-- Assumes nothing.
 use Rattle.value_parts.proofs.Telling.{or-none}
 use borrow.Author.Tests.{eq-eqb, ne-eqb}
 use Rattle.value_parts.proofs.told.is_name.Statement.{statement}
 use Rattle.value_parts.proofs.told.is_name.Tie as tie
-use Rattle.value_parts.proofs.told.is_name.Reads as reads
-use Rattle.value_parts.proofs.told.is_name.Lts as lts
 
--- src/told.rt:61:9
 returns : tie.Need-returns
 returns c = rw (eq-eqb _ _ (c .if1 .taken))
 
--- src/told.rt:57:1
 returns-2 : tie.Need-returns-2
 returns-2 c = rw (ne-eqb _ _ (c .if1 .left)) (or-none _)
 
