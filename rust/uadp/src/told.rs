@@ -4,6 +4,24 @@ use crate::record::{number, place, told};
 use crate::{Encoding, Refusal, Shape, Type};
 use core::fmt;
 
+/// A name qualified by a namespace.
+#[derive(Clone, Copy, Debug, PartialEq, Eq)]
+pub struct QualifiedName<'a> {
+    /// The index of its namespace.
+    pub namespace_index: u16,
+    /// The name's bytes; `None` where it is null.
+    pub name: Option<&'a [u8]>,
+}
+
+/// A text with its locale.
+#[derive(Clone, Copy, Debug, PartialEq, Eq)]
+pub struct LocalizedText<'a> {
+    /// The locale's bytes; `None` where it is absent or null.
+    pub locale: Option<&'a [u8]>,
+    /// The text's bytes; `None` where it is absent or null.
+    pub text: Option<&'a [u8]>,
+}
+
 /// A value told apart, over the bytes that it stands in. Nothing is copied, and no bit is touched: a Float is its four bytes.
 ///
 /// ```
@@ -192,16 +210,20 @@ impl<'a> Value<'a> {
         self.shape() == Shape::Scalar && self.value_type() == kind
     }
 
-    /// A QualifiedName: its namespace index and its name, `None` where that is null.
-    pub fn as_qualified_name(&self) -> Option<(u16, Option<&'a [u8]>)> {
-        let name = || (number(&self.record, told::NAME) as u16, self.string(told::TEXT, told::TEXT_LENGTH));
-        self.is_scalar(Type::QUALIFIED_NAME).then(name)
+    /// A QualifiedName.
+    pub fn as_qualified_name(&self) -> Option<QualifiedName<'a>> {
+        self.is_scalar(Type::QUALIFIED_NAME).then(|| QualifiedName {
+            namespace_index: number(&self.record, told::NAME) as u16,
+            name: self.string(told::TEXT, told::TEXT_LENGTH),
+        })
     }
 
-    /// A LocalizedText: its locale and its text, each `None` where it is absent or null.
-    pub fn as_localized_text(&self) -> Option<(Option<&'a [u8]>, Option<&'a [u8]>)> {
-        let both = || (self.string(told::LOCALE, told::LOCALE_LENGTH), self.string(told::TEXT, told::TEXT_LENGTH));
-        self.is_scalar(Type::LOCALIZED_TEXT).then(both)
+    /// A LocalizedText.
+    pub fn as_localized_text(&self) -> Option<LocalizedText<'a>> {
+        self.is_scalar(Type::LOCALIZED_TEXT).then(|| LocalizedText {
+            locale: self.string(told::LOCALE, told::LOCALE_LENGTH),
+            text: self.string(told::TEXT, told::TEXT_LENGTH),
+        })
     }
 
     /// Element k of an array of Strings, ByteStrings, QualifiedNames or LocalizedTexts; the elements before it are passed over.

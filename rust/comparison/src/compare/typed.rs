@@ -279,8 +279,9 @@ fn same_name(value: &uadp::Value, expected: &told::Told, bytes: &[u8]) -> bool {
     let string = |(start, length): (usize, usize)| (start > 0).then(|| &bytes[start..][..length]);
     let scalar = |kind| expected.shape == Shape::Scalar && expected.kind == kind;
     let (locale, text) = (string(expected.name.locale), string(expected.name.text));
-    value.as_qualified_name() == scalar(QUALIFIED_NAME).then_some((expected.name.number, text))
-        && value.as_localized_text() == scalar(LOCALIZED_TEXT).then_some((locale, text))
+    let name = uadp::QualifiedName { namespace_index: expected.name.number, name: text };
+    value.as_qualified_name() == scalar(QUALIFIED_NAME).then_some(name)
+        && value.as_localized_text() == scalar(LOCALIZED_TEXT).then_some(uadp::LocalizedText { locale, text })
 }
 
 /// An array's dimensions.

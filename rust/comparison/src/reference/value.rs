@@ -77,7 +77,8 @@ pub fn variant(reader: &mut Reader, levels: u32) -> Result<Value> {
     let place = reader.position();
     let first = first_byte(reader, levels)?;
     let (kind, array, dimensions) = (first & 0x3f, first & 0x80 != 0, first & 0x40 != 0);
-    if (dimensions && !array) || (kind == 0 && array) || (kind == VARIANT && !array) {
+    let permitted = if array { kind != 0 } else { !dimensions && kind != VARIANT };
+    if !permitted {
         return Err(Number::NotPermitted.at(place));
     }
     let is_text = [STRING, BYTE_STRING, QUALIFIED_NAME, LOCALIZED_TEXT].contains(&kind);
