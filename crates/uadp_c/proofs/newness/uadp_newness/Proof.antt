@@ -1,5 +1,3 @@
--- `uadp_c::newness::uadp_newness` meets its contract.
--- Assumes nothing.
 use Rattle.uadp_c.proofs.Judged.{judge-no-room, judged}
 use Rattle.sequence.specs.declared.Newness.{Newness}
 use mathlib.Core.Path.{refl}
@@ -9,11 +7,13 @@ use borrow.Author.Needs.{needs}
 use Rattle.uadp_c.proofs.newness.uadp_newness.Statement.{statement}
 use Rattle.uadp_c.proofs.newness.uadp_newness.Tie as tie
 
+-- src/newness.rt:27:9
 returns : tie.Need-returns
 returns c =
     let args = c .before .before .before .args in
     judge-no-room (now (args .last)) _ _ (omega arith) (c .result .ensures)
 
+-- src/newness.rt:22:1
 returns-2 : tie.Need-returns-2
 returns-2 c =
     let at-put-last = c .before .before .before in
@@ -24,6 +24,7 @@ returns-2 c =
     judged (now (args .last)) _ (args .received) _ _ _ Newness.Newer (omega arith) (at-last-in .last-in .ensures)
     (at-judge-by .judge-by .ensures) (at-enum-told .enum-told .given .1) (c .result2 .ensures) (at-put-last .put-last .ensures)
 
+-- src/newness.rt:22:1
 returns-3 : tie.Need-returns-3
 returns-3 c =
     let at-enum-told2 = c .before in
@@ -33,6 +34,7 @@ returns-3 c =
     judged (now (args .last)) _ (args .received) _ _ _ Newness.OldOrSame (omega arith) (at-last-in .last-in .ensures)
     (at-judge-by .judge-by .ensures) (at-enum-told2 .enum-told2 .given .1) (c .result3 .ensures) refl
 
+-- src/newness.rt:22:1
 returns-4 : tie.Need-returns-4
 returns-4 c =
     let at-enum-told3 = c .before in
