@@ -673,6 +673,7 @@ int main(int argc, char **argv)
     picoseconds_held();
     reassembled();
     values_by_name();
+    names_and_matrices();
     chunks_by_name();
     newness();
     words_and_version();
