@@ -12,6 +12,7 @@ pub mod Demand1
 pub mod Demand2
 pub mod Demand3
 pub mod Sentences
+pub mod ToldSizes
 pub mod Values
 pub mod Program
 pub mod Held

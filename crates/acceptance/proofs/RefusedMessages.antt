@@ -11,8 +11,9 @@ use lib.ListN.{length, getD}
 use Rattle.wire.specs.Answer.{got, refused, Reader, bit, andThen}
 use Rattle.wire.specs.declared.Length.{Length}
 use Rattle.plain_value.specs.Width.{widthOf, fixed}
-use Rattle.plain_value.specs.Plain.{passing, bytes, afterLength, byLength, string, lengthFirst, plain, plainValue, plainValues}
-use Rattle.value.specs.Value.{variantRule, scalar, elements, array, variantOf, maskRule, dataValueOf, valueOf, valueAt, rawAt, typeOf, isArray, hasDimensions, taken, measure, Measure}
+use Rattle.plain_value.specs.Plain.{passing, bytes, afterLength, byLength, string, lengthFirst, named, qualifiedName, textMaskRule, localizedText, text, plain, plainValue, plainValues}
+use Rattle.plain_value.specs.Dimensions.{fours, anyBelowOne, product, sizesRule, sizes, afterListLength, dimensions}
+use Rattle.value.specs.Value.{variantRule, scalar, elements, array, dimensioned, matrix, variantOf, maskRule, dataValueOf, valueOf, valueAt, rawAt, typeOf, isArray, hasDimensions, taken, measure, Measure}
 use Rattle.plain_value.specs.Parts.{parts}
 use Rattle.value.specs.declared.Shape.{Shape}
 use Rattle.dataset_header.specs.Flags.{messageFlagsOf, flags1Rule, flags2Rule, flags2At, Valid, notValid, valid, messageFlagsAt, isRaw}
@@ -29,13 +30,13 @@ use Rattle.acceptance.proofs.Refusals.Tells.{gives, refuses}
 
 -- the numbers beside 1 and 3: of a value, of a field, and of a DataSetMessage
 abbrev pub valueOthers : List ℕ
-valueOthers = 4 ∷ 5 ∷ 9 ∷ []
+valueOthers = 4 ∷ 5 ∷ 6 ∷ 9 ∷ []
 
 abbrev pub fieldOthers : List ℕ
-fieldOthers = 4 ∷ 5 ∷ 8 ∷ 9 ∷ []
+fieldOthers = 4 ∷ 5 ∷ 6 ∷ 8 ∷ 9 ∷ []
 
 abbrev pub messageOthers : List ℕ
-messageOthers = 4 ∷ 5 ∷ 7 ∷ 8 ∷ 9 ∷ []
+messageOthers = 4 ∷ 5 ∷ 6 ∷ 7 ∷ 8 ∷ 9 ∷ []
 
 -- ---- values
 passing-lawful : {A : Type 0} {r : Reader A} → Lawful valueOthers r → Lawful valueOthers (passing r)
@@ -57,13 +58,48 @@ string-lawful : Lawful valueOthers string
 unfolding string
 string-lawful = by-length-lawful (pure-lawful tt) bytes-lawful
 
+-- names
+qualified-name-lawful : Lawful valueOthers qualifiedName
+unfolding qualifiedName
+qualified-name-lawful = after-lawful (bytes-lawful 2) string-lawful
+
+localized-text-lawful : Lawful valueOthers localizedText
+unfolding localizedText
+localized-text-lawful =
+    bind-lawful (ruled-lawful 1 textMaskRule (λ m. cond-rule (ltb 3 m) (inr n3) kept))
+    (λ m. after-lawful (when-lawful (bit 0 m) tt string-lawful) (when-lawful (bit 1 m) tt string-lawful))
+
+text-lawful : (t : ℕ) → Lawful valueOthers (text t)
+unfolding text
+text-lawful t = cond-lawful (eqb t 20) qualified-name-lawful (cond-lawful (eqb t 21) localized-text-lawful string-lawful)
+
+-- a dimensions list
+sizes-lawful : (n k : ℕ) → Lawful valueOthers (sizes n k)
+sizes-lawful n k =
+    after-lawful
+    (ruled-lawful (4 * k) (λ v. sizesRule n (fours k v))
+    (λ v. cond-rule (anyBelowOne (fours k v)) (inr (number 5 refl)) (cond-rule (eqb (product (fours k v)) n) kept (inr (number 6 refl)))))
+    (pure-lawful k)
+
+list-tells : (n place : ℕ) (l : Length) (s : List ℕ) (at : ℕ) → place ≤ length s → at ≤ length s → Tells valueOthers (length s) (afterListLength n place l s at)
+list-tells n place Length.Null s at u v = refuses (at-item (number 5 refl) u)
+list-tells n place (Length.Of k) s at u v = cond-tells (ltb 0 k) (sizes-lawful n k .tells s at v) (refuses (at-item (number 5 refl) u))
+list-tells n place Length.Negative s at u v = refuses (at-item (number 5 refl) u)
+
+dimensions-lawful : (n : ℕ) → Lawful valueOthers (dimensions n)
+unfolding dimensions
+dimensions-lawful n = record { tells = λ s at u. then-tells (length-lawful .tells s at u) (λ l next v. list-tells n at l s next u v) }
+
+dimensioned-lawful : (t n : ℕ) → Lawful valueOthers (dimensioned t n)
+dimensioned-lawful t n = bind-lawful (dimensions-lawful n) (λ d. pure-lawful (measure t (Shape.Matrix n d)))
+
 plain-lawful : (t : ℕ) → Lawful valueOthers (plainValue t)
 unfolding plainValue
-plain-lawful t = cond-lawful (fixed t) (bytes-lawful (widthOf t)) (cond-lawful (lengthFirst t) string-lawful (refuse-lawful 4 (number 4 refl)))
+plain-lawful t = cond-lawful (fixed t) (bytes-lawful (widthOf t)) (cond-lawful (lengthFirst t || named t) (text-lawful t) (refuse-lawful 4 (number 4 refl)))
 
 plains-lawful : (t n : ℕ) → Lawful valueOthers (plainValues t n)
 unfolding plainValues
-plains-lawful t n = cond-lawful (fixed t) (bytes-lawful (n * widthOf t)) (each-lawful string-lawful n)
+plains-lawful t n = cond-lawful (fixed t) (bytes-lawful (n * widthOf t)) (each-lawful (text-lawful t) n)
 
 module _ {nested : ℕ → Reader Measure} (h : (t : ℕ) → Lawful valueOthers (nested t)) where
   scalar-lawful : (t : ℕ) → Lawful valueOthers (scalar nested t)
@@ -78,10 +114,14 @@ module _ {nested : ℕ → Reader Measure} (h : (t : ℕ) → Lawful valueOthers
   unfolding array
   array-lawful t = by-length-lawful (pure-lawful (measure t Shape.NullArray)) (λ n. after-lawful (elements-lawful t n) (pure-lawful (measure t (Shape.Array n))))
 
+  matrix-lawful : (t : ℕ) → Lawful valueOthers (matrix nested t)
+  unfolding matrix
+  matrix-lawful t = by-length-lawful (dimensioned-lawful t 0) (λ n. after-lawful (elements-lawful t n) (dimensioned-lawful t n))
+
   variant-lawful : (b : ℕ) → Lawful valueOthers (variantOf nested b)
   variant-lawful b =
       cond-lawful (eqb (typeOf b) 0) (pure-lawful (measure 0 Shape.Scalar))
-      (cond-lawful (isArray b) (array-lawful (typeOf b)) (scalar-lawful (typeOf b)))
+      (cond-lawful (isArray b) (cond-lawful (hasDimensions b) (matrix-lawful (typeOf b)) (array-lawful (typeOf b))) (scalar-lawful (typeOf b)))
 
   parts-lawful : (m : ℕ) → Lawful valueOthers (parts m)
   unfolding parts
@@ -99,10 +139,9 @@ module _ {nested : ℕ → Reader Measure} (h : (t : ℕ) → Lawful valueOthers
   unfolding variantRule
   variant-rule b =
       cond-rule (hasDimensions b && not (isArray b)) (inr n3)
-      (cond-rule (hasDimensions b) (inr (number 4 refl))
       (cond-rule (eqb (typeOf b) 0 && isArray b) (inr n3)
       (cond-rule (eqb (typeOf b) 24 && not (isArray b)) (inr n3)
-      (cond-rule (taken (typeOf b)) kept (inr (number 4 refl))))))
+      (cond-rule (taken (typeOf b)) kept (inr (number 4 refl)))))
 
   value-of-lawful : (t : ℕ) → Lawful valueOthers (valueOf nested t)
   value-of-lawful t =

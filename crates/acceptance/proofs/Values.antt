@@ -4,6 +4,7 @@ use Rattle.value_parts.proofs.Agreement.{variant-agrees, raw-agrees, data-value
 use Rattle.value_parts.proofs.Filled.{told-filled}
 use Rattle.value_parts.proofs.Trip.{written-told}
 use Rattle.acceptance.specs.Values.{Values}
+use Rattle.acceptance.proofs.ToldSizes.{told-sizes}
 
 pub values : Values
 values = record {
@@ -11,5 +12,6 @@ values = record {
   raw = raw-agrees;
   dataValue = data-value-agrees;
   filled = λ s at p e. told-filled s at;
+  dimensions = told-sizes;
   put = written-told;
 }

@@ -32,17 +32,17 @@ abbrev pub chunkRefusals : List ℕ
 chunkRefusals = CUT_SHORT ∷ NOT_PERMITTED ∷ BAD_VERSION ∷ NOT_TAKEN ∷ BAD_LENGTH ∷ DISAGREE ∷ LEFT_OVER ∷ NOT_CONFIGURED ∷ OVER_LIMIT ∷ []
 
 abbrev pub valueRefusals : List ℕ
-valueRefusals = CUT_SHORT ∷ NOT_PERMITTED ∷ NOT_TAKEN ∷ BAD_LENGTH ∷ TOO_DEEP ∷ []
+valueRefusals = CUT_SHORT ∷ NOT_PERMITTED ∷ NOT_TAKEN ∷ BAD_LENGTH ∷ DISAGREE ∷ TOO_DEEP ∷ []
 
 abbrev pub messageRefusals : List ℕ
-messageRefusals = CUT_SHORT ∷ NOT_PERMITTED ∷ NOT_TAKEN ∷ BAD_LENGTH ∷ LEFT_OVER ∷ NOT_CONFIGURED ∷ TOO_DEEP ∷ []
+messageRefusals = CUT_SHORT ∷ NOT_PERMITTED ∷ NOT_TAKEN ∷ BAD_LENGTH ∷ DISAGREE ∷ LEFT_OVER ∷ NOT_CONFIGURED ∷ TOO_DEEP ∷ []
 
 -- of a step from field to field, and of looking field k up: "k at or past the count, or a step after the last field, is 10"
 abbrev pub fieldStepRefusals : List ℕ
-fieldStepRefusals = CUT_SHORT ∷ NOT_PERMITTED ∷ NOT_TAKEN ∷ BAD_LENGTH ∷ NOT_CONFIGURED ∷ TOO_DEEP ∷ OVER_LIMIT ∷ []
+fieldStepRefusals = CUT_SHORT ∷ NOT_PERMITTED ∷ NOT_TAKEN ∷ BAD_LENGTH ∷ DISAGREE ∷ NOT_CONFIGURED ∷ TOO_DEEP ∷ OVER_LIMIT ∷ []
 
 abbrev pub fieldRefusals : List ℕ
-fieldRefusals = CUT_SHORT ∷ NOT_PERMITTED ∷ NOT_TAKEN ∷ BAD_LENGTH ∷ LEFT_OVER ∷ NOT_CONFIGURED ∷ TOO_DEEP ∷ OVER_LIMIT ∷ []
+fieldRefusals = CUT_SHORT ∷ NOT_PERMITTED ∷ NOT_TAKEN ∷ BAD_LENGTH ∷ DISAGREE ∷ LEFT_OVER ∷ NOT_CONFIGURED ∷ TOO_DEEP ∷ OVER_LIMIT ∷ []
 
 -- of the writers: what reading would refuse, a probe's body too, 3 for picoseconds of 10,000 and up, 6, 10 and 11
 abbrev pub datagramWriterRefusals : List ℕ

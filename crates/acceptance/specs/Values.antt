@@ -1,12 +1,15 @@
 -- What is claimed of values that are told apart and put.
-use Prim.Native.Nat.{ℕ, _+_}
+use Prim.Native.Nat.{ℕ, _+_, _*_, _-_, _≤_}
 use mathlib.Core.Path.{_≡_}
 use mathlib.Core.List.{List}
 use lib.ListN.{length, take, drop}
+use Rattle.wire.specs.Number.{le}
 use Rattle.wire.specs.Answer.{got, mapAnswer}
 use Rattle.wire_writer.specs.Writing.{Writes}
 use Rattle.wire_writer.specs.declared.writing.Written.{Written}
+use Rattle.plain_value.specs.Dimensions.{fours, sizesRule}
 use Rattle.value.specs.Value.{variantAt, rawAt, dataValueAt}
+use Rattle.value.specs.declared.Shape.{Shape}
 use Rattle.value_parts.specs.Told.{measureOf, Filled, toldVariantAt, toldRawAt}
 use Rattle.value_parts.specs.DataValue.{asMeasure, toldDataValueAt}
 use Rattle.value_parts.specs.Put.{headBytes, variantBytes, variantOutput, givenParts}
@@ -21,6 +24,9 @@ pub record Values : Type 0 where
   pub dataValue : (s : List ℕ) (at : ℕ) → mapAnswer asMeasure (toldDataValueAt s at) ≡ dataValueAt s at
   -- from its first byte up to its end stand its elements, and nothing else
   pub filled : (s : List ℕ) (at : ℕ) (p : ValueParts) (e : ℕ) → toldVariantAt s at ≡ got p e → Filled p
+  -- an array's dimensions, of 4 bytes each, stand before its end: each is 1 or more, and their product is its number of elements
+  pub dimensions : (s : List ℕ) (at : ℕ) (p : ValueParts) (e n d : ℕ) → toldVariantAt s at ≡ got p e → p .shape ≡ Shape.Matrix n d
+      → (1 ≤ d) × (sizesRule n (fours d (le (4 * d) s (e - 4 * d))) ≡ 0)
   -- what was put is told in the buffer as what was given: type, shape, count and null, and the very bytes
   pub put : (t : ℕ) (f : Form) (b entry exit : List ℕ) (n : ℕ) → Writes (variantOutput t f b) entry exit (Written.Is n)
       → (toldVariantAt exit 0 ≡ got (givenParts 0 t f b) (0 + length (variantBytes t f b)))

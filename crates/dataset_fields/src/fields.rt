@@ -146,6 +146,7 @@ pub(crate) fn measured(index: usize, offset: usize, m: Measured) -> FieldRead
         Measured::Scalar(kind, end) => located(index, kind, Shape::Scalar, offset, end),
         Measured::NullArray(kind, end) => located(index, kind, Shape::NullArray, offset, end),
         Measured::Array(kind, end, n) => located(index, kind, Shape::Array(n), offset, end),
+        Measured::Matrix(kind, end, n, d) => located(index, kind, Shape::Matrix(n, d), offset, end),
         Measured::Refused(number, place) => FieldRead::Refused(number, place),
     }
 }

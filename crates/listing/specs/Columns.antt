@@ -28,6 +28,7 @@ abbrev pub shapeText : Shape → List ℕ
 shapeText Shape.Scalar = dash
 shapeText Shape.NullArray = 45 ∷ 49 ∷ []
 shapeText (Shape.Array n) = decimalText n
+shapeText (Shape.Matrix n d) = decimalText n
 
 -- what putting a part into a buffer did: its text t, of at most `most` bytes, stands from position at on, every other byte is as it was,
 -- and next is the position after it

@@ -12,6 +12,7 @@ use Rattle.publisher_id.specs.declared.publisher.PublisherId.{PublisherId}
 use Rattle.publisher_id.specs.Publisher.{textTooLong}
 use Rattle.dataset_header.specs.declared.flags.Kind.{Kind}
 use Rattle.dataset_header.specs.declared.flags.Encoding.{Encoding}
+use Rattle.value.specs.Value.{dimensionsOf}
 use Rattle.dataset_fields.specs.declared.fields.Field.{Field}
 use Rattle.listing.specs.Columns.{tabbed, lineEnd, dash, optionalText, shapeText}
 use Rattle.walk.specs.declared.entry.SetPlace.{SetPlace}
@@ -76,9 +77,13 @@ headText k e = tabbed (kindWord k) ++ tabbed (encodingWord e)
 abbrev pub refusalText : ℕ → ℕ → List ℕ
 refusalText n place = tabbed (decimalText n) ++ (tabbed (decimalText place) ++ lineEnd)
 
--- "field: message, index (a delta's own), type (23 for a DataValue), element count .., offset, length"
+-- "field: message, index (a delta's own), type (23 for a DataValue), element count .., offset, length"; "how many dimensions it has .. as a
+-- last column of `field` lines"
 abbrev pub valueText : Field → List ℕ
-valueText f = tabbed (shapeText (f .shape)) ++ (tabbed (decimalText (f .offset)) ++ (tabbed (decimalText (f .length)) ++ lineEnd))
+valueText f =
+    tabbed (shapeText (f .shape))
+    ++ (tabbed (decimalText (f .offset))
+    ++ (tabbed (decimalText (f .length)) ++ (tabbed (decimalText (dimensionsOf (f .shape))) ++ lineEnd)))
 
 abbrev pub fieldText : ℕ → Field → List ℕ
 fieldText m f = fieldWord

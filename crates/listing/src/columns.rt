@@ -71,6 +71,7 @@ pub(crate) fn shape(out: &mut [u8], at: usize, x: Shape) -> usize
         Shape::Scalar => word(out, at, b"-"),
         Shape::NullArray => word(out, at, b"-1"),
         Shape::Array(n) => decimal(out, at, n as u64),
+        Shape::Matrix(n, _) => decimal(out, at, n as u64),
     }
 }
 

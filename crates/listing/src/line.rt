@@ -11,6 +11,7 @@ use dataset_header::flags::Encoding;
 use dataset_header::flags::Kind;
 use publisher_id::publisher::PublisherId;
 use publisher_id::publisher::text_too_long;
+use value::dimensions;
 use walk::entry::Line;
 use walk::entry::SetPlace;
 use wire::constants::NO_ROOM;
@@ -182,15 +183,16 @@ fn bad(out: &mut [u8], n: u8, place: usize) -> usize
     refusal(out, p, n, place)
 }
 
-// The element count of a field's value, and where it stands.
+// The element count of a field's value, where it stands, and how many dimensions it has.
 fn field_value(out: &mut [u8], at: usize, f: Field) -> usize
-    requires { ⌜ at + 64 ≤ length (now out) ⌝ }
-    ensures { λ r. ⌜ Put 64 (valueText f) (now (out .entry)) at (now (out .exit)) r ⌝ }
+    requires { ⌜ at + 85 ≤ length (now out) ⌝ }
+    ensures { λ r. ⌜ Put 85 (valueText f) (now (out .entry)) at (now (out .exit)) r ⌝ }
 {
     let elements = f.shape;
     let p = shape(out, at, elements);
     let p = decimal(out, p, f.offset as u64);
     let p = decimal(out, p, f.length as u64);
+    let p = decimal(out, p, dimensions(elements) as u64);
     end(out, p)
 }
 

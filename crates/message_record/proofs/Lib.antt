@@ -1,3 +1,4 @@
 pub mod Heads
 pub mod Back
 pub mod Fitting
+pub mod Values

@@ -5,6 +5,7 @@ use mathlib.Core.Bool.{Bool, true, cond, not, _&&_}
 use mathlib.Core.List.{List, [], _∷_}
 use lib.Dec.{eqb}
 use lib.ListN.{replicate}
+use Rattle.value.specs.Value.{dimensionsOf}
 use Rattle.value.specs.declared.Shape.{Shape}
 use Rattle.dataset_header.specs.Flags.{Valid, notValid, valid, encodingNumber, kindNumber}
 use Rattle.dataset_message.specs.Message.{Message}
@@ -59,15 +60,18 @@ abbrev pub shapeNumber : Shape → ℕ
 shapeNumber Shape.Scalar = 0
 shapeNumber Shape.NullArray = 1
 shapeNumber (Shape.Array n) = 2
+shapeNumber (Shape.Matrix n d) = 2
 
 abbrev pub elementsNumber : Shape → ℕ
 elementsNumber Shape.Scalar = 0
 elementsNumber Shape.NullArray = 0
 elementsNumber (Shape.Array n) = n
+elementsNumber (Shape.Matrix n d) = n
 
--- the 8 numbers of a field; the last two are spare and hold 0
+-- the 8 numbers of a field, with "how many dimensions it has"; the last is spare and holds 0
 abbrev pub fieldNumbers : Field → List ℕ
-fieldNumbers f = f .kind ∷ shapeNumber (f .shape) ∷ elementsNumber (f .shape) ∷ f .index ∷ f .offset ∷ f .length ∷ 0 ∷ 0 ∷ []
+fieldNumbers f =
+    f .kind ∷ shapeNumber (f .shape) ∷ elementsNumber (f .shape) ∷ f .index ∷ f .offset ∷ f .length ∷ dimensionsOf (f .shape) ∷ 0 ∷ []
 
 -- items of which a number tells whether they are present
 

@@ -18,6 +18,7 @@ use records::items::value32;
 use records::numbers::number;
 use records::numbers::put_numbers;
 use value::Shape;
+use value::dimensions;
 use wire_writer::store::put64;
 ghost use Prim.Native.Nat.{_≤_};
 ghost use mathlib.Core.Path.{_≡_};
@@ -150,7 +151,7 @@ pub fn cursor_in(s: &[u8]) -> Cursor
     }
 }
 
-// A shape's number: 0 a scalar, 1 a null array, 2 an array.
+// A shape's number: 0 a scalar, 1 a null array, 2 an array, with dimensions or without.
 pub fn shape_number(x: Shape) -> u64
     ensures { λ r. ⌜ r ≡ shapeNumber x ⌝ }
 {
@@ -158,6 +159,7 @@ pub fn shape_number(x: Shape) -> u64
         Shape::Scalar => 0,
         Shape::NullArray => 1,
         Shape::Array(_) => 2,
+        Shape::Matrix(_, _) => 2,
     }
 }
 
@@ -169,6 +171,7 @@ pub fn elements_number(x: Shape) -> u64
         Shape::Scalar => 0,
         Shape::NullArray => 0,
         Shape::Array(n) => n as u64,
+        Shape::Matrix(n, _) => n as u64,
     }
 }
 
@@ -184,7 +187,7 @@ pub fn put_field(out: &mut [u8], f: Field)
         f.index as u64,
         f.offset as u64,
         f.length as u64,
-        0,
+        dimensions(shape) as u64,
         0,
     ];
     put_numbers(out, &numbers);

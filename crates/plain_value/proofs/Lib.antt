@@ -1,3 +1,5 @@
 pub mod Widths
 pub mod PartLaws
 pub mod Passing
+pub mod Sizes
+pub mod Lengths

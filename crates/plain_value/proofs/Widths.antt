@@ -55,10 +55,10 @@ kept-all t w inside outside = go (leb 26 t) refl
     go true e = outside (leb-true 26 t e) ∙ past t (omega (arith, leb-true 26 t e))
     go false e = inside (leb-false 26 t e)
 
--- the plain types are 1 to 15 and 19
+-- the plain types are 1 to 15 and 19 to 21
 
 abbrev pub inRange : ℕ → Bool
-inRange t = (leb 1 t && leb t 15) || eqb t 19
+inRange t = (leb 1 t && leb t 15) || (leb 19 t && leb t 21)
 
 unfoldable same-plain : ℕ → Bool
 same-plain t = Bool·beq (inRange t) (plain t)
@@ -69,20 +69,29 @@ beq-same false false h = refl
 beq-same true false h = absurd h
 beq-same false true h = absurd h
 
-above : (t : ℕ) → 20 ≤ t → inRange t ≡ plain t
+above : (t : ℕ) → 22 ≤ t → inRange t ≡ plain t
 unfolding plain
-above t h = simp (lt-leb t 15 (omega arith), ne-eqb t 19 (λ e. omega arith), sym (past t h), not-among 20 t (12 ∷ 15 ∷ []) h tt, and-false)
+above t h =
+    simp (lt-leb t 15 (omega arith), lt-leb t 21 (omega arith), sym (past t (omega arith)), not-among 22 t (12 ∷ 15 ∷ []) h tt, not-among 22 t (20 ∷ 21 ∷ []) h tt, and-false)
 
-inside : (t : ℕ) → t < 20 → T (Bool·beq (inRange t) (plain t))
+inside : (t : ℕ) → t < 22 → T (Bool·beq (inRange t) (plain t))
 unfolding same-plain plain widthOf
-inside t h = below same-plain 20 tt t h
+inside t h = below same-plain 22 tt t h
 
 pub plain-range : (t : ℕ) → inRange t ≡ plain t
-plain-range t = go (leb 20 t) refl
+plain-range t = go (leb 22 t) refl
   where
-    go : (b : Bool) → leb 20 t ≡ b → inRange t ≡ plain t
-    go true e = above t (leb-true 20 t e)
-    go false e = beq-same (inRange t) (plain t) (inside t (leb-false 20 t e))
+    go : (b : Bool) → leb 22 t ≡ b → inRange t ≡ plain t
+    go true e = above t (leb-true 22 t e)
+    go false e = beq-same (inRange t) (plain t) (inside t (leb-false 22 t e))
+
+-- the types made of Strings, tested one after the other
+pub or4 : (a b c d : Bool) → (((a || b) || c) || d) ≡ ((a || (b || false)) || (c || (d || false)))
+or4 true b c d = refl
+or4 false true c d = refl
+or4 false false true d = refl
+or4 false false false true = refl
+or4 false false false false = refl
 
 -- a width that is not 0
 pub positive : (n : ℕ) → (n ≡ 0 → ⊥) → 0 < n

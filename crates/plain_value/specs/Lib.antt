@@ -1,3 +1,4 @@
 pub mod Width
 pub mod Plain
 pub mod Parts
+pub mod Dimensions

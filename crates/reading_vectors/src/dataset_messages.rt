@@ -117,6 +117,11 @@ fn show_field(f: Field) {
         Shape::Scalar => put(b" -"),
         Shape::NullArray => put(b" -1"),
         Shape::Array(n) => number(n),
+        Shape::Matrix(n, d) => {
+            number(n);
+            put(b" in");
+            number(d as usize);
+        }
     }
     number(f.offset);
     number(f.length);

@@ -1,10 +1,15 @@
 // Parts of values: document 01's section "Values", by Part 6. A line has a letter with a position, and bytes: `v` a Variant, `d` a
 // DataValue, `r` an element of RawData, whose type is the first byte; `e` has the number of an element of the array of Strings in the
-// bytes. The answer is type, element count, width, first byte and end, and whether it is null; of a DataValue that of its Variant, then its
+// bytes. The answer is type, element count (and in how many dimensions, where they are listed), width, first byte and end, and whether it
+// is null; of a name also its number, and place and length of its locale and of its text; of a DataValue that of its Variant, then its
 // mask, the places of its Variant, status, source time, source picoseconds, server time and server picoseconds, and its end.
+use plain_value::plain::LOCALIZED_TEXT;
+use plain_value::plain::QUALIFIED_NAME;
 use value::Shape;
 use value_parts::data_value::FieldTold;
 use value_parts::data_value::tell_data_value;
+use value_parts::name::Name;
+use value_parts::name::tell_name;
 use value_parts::told::Told;
 use value_parts::told::ValueParts;
 use value_parts::told::tell_element;
@@ -22,9 +27,9 @@ pub fn vector(line: &[u8], bytes: &[u8]) {
     let at = decimal_at(line, 1, b' ');
     match letter(line) {
         b'd' => show_field(tell_data_value(bytes, at)),
-        b'r' => show(tell_raw(bytes, at, letter(bytes))),
+        b'r' => show(bytes, tell_raw(bytes, at, letter(bytes))),
         b'e' => element(bytes, at),
-        _ => show(tell_variant(bytes, at)),
+        _ => show(bytes, tell_variant(bytes, at)),
     }
 }
 
@@ -33,7 +38,7 @@ fn element(bytes: &[u8], k: usize) {
         Told::Refused(n, place) => refused(n, place),
         Told::Is(p) => {
             let shape = p.shape;
-            show(tell_element(bytes, p.first, p.kind, count(shape), k));
+            show(bytes, tell_element(bytes, p.first, p.kind, count(shape), k));
         }
     }
 }
@@ -43,14 +48,30 @@ fn count(shape: Shape) -> usize {
         Shape::Scalar => 0,
         Shape::NullArray => 0,
         Shape::Array(n) => n,
+        Shape::Matrix(n, _) => n,
     }
 }
 
-fn show(told: Told) {
+fn show(bytes: &[u8], told: Told) {
     match told {
         Told::Refused(n, place) => refused(n, place),
-        Told::Is(p) => show_parts(p),
+        Told::Is(p) => {
+            show_parts(p);
+            if (p.kind == QUALIFIED_NAME) | (p.kind == LOCALIZED_TEXT) {
+                show_name(tell_name(bytes, p));
+            }
+        }
     }
+}
+
+fn show_name(name: Name) {
+    let locale = name.locale;
+    let text = name.text;
+    number(name.number as usize);
+    number(locale.place);
+    number(locale.length);
+    number(text.place);
+    number(text.length);
 }
 
 fn show_parts(p: ValueParts) {
@@ -60,6 +81,11 @@ fn show_parts(p: ValueParts) {
         Shape::Scalar => named(b"- -1", 0),
         Shape::NullArray => named(b"- -1", 1),
         Shape::Array(n) => number(n),
+        Shape::Matrix(n, d) => {
+            number(n);
+            put(b" in");
+            number(d as usize);
+        }
     }
     number(p.width);
     number(p.first);

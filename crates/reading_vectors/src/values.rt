@@ -66,6 +66,13 @@ fn show(answer: Measured) {
             number(n);
             number(end);
         }
+        Measured::Matrix(kind, end, n, d) => {
+            number(kind as usize);
+            number(n);
+            put(b" in");
+            number(d as usize);
+            number(end);
+        }
         Measured::Refused(n, place) => refused(n, place),
     }
 }

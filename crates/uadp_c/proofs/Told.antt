@@ -26,12 +26,12 @@ use Rattle.uadp_c.proofs.Filling.{Ends}
 use Rattle.uadp_c.proofs.Wrote.{of-writers}
 
 -- what a telling function answered
-pub was-told : {x y : FieldTold} → x ≡ y → valueFilling (answerFieldTold y) ≡ valueFilling (answerFieldTold x)
-was-told q = ap (λ (z : FieldTold). valueFilling (answerFieldTold z)) (sym q)
+pub was-told : (s : List ℕ) {x y : FieldTold} → x ≡ y → valueFilling s (answerFieldTold y) ≡ valueFilling s (answerFieldTold x)
+was-told s q = ap (λ (z : FieldTold). valueFilling s (answerFieldTold z)) (sym q)
 
 -- the same in other words
-pub filled-as : (out : List ℕ) {a b : Answer FieldParts} {x : ℕ} {e : List ℕ} → a ≡ b → Ends (valueFilling a) out x e → Ends (valueFilling b) out x e
-filled-as out {x = x} {e = e} q h = subst (λ (y : Answer FieldParts). Ends (valueFilling y) out x e) q h
+pub filled-as : (s out : List ℕ) {a b : Answer FieldParts} {x : ℕ} {e : List ℕ} → a ≡ b → Ends (valueFilling s a) out x e → Ends (valueFilling s b) out x e
+filled-as s out {x = x} {e = e} q h = subst (λ (y : Answer FieldParts). Ends (valueFilling s y) out x e) q h
 
 pub field-told : (s : List ℕ) (at n k : ℕ) {t : ℕ} {e : Encoding} {a : Answer FieldParts} → e ≡ encodingIn n → t ≡ typeIn k → a ≡ toldFieldAt e t s at
     → a ≡ toldFieldAt (encodingIn n) (typeIn k) s at

@@ -7,6 +7,7 @@ use records::sizes::VALUE_SIZE;
 use value_parts::data_value::FieldTold;
 use value_parts::data_value::tell_field;
 use value_parts::data_value::tell_text;
+use value_parts::name::tell_name;
 use value_parts::put::Form;
 use value_parts::put::put_variant;
 use wire::constants::NO_ROOM;
@@ -61,10 +62,10 @@ fn form_of(shape: u32, null: u32) -> Form
     Form::Null
 }
 
-// Stores what was told of a value.
-fn fill_value(value: &mut [u8], told: FieldTold) -> u64
+// Stores what was told of a value that stands in the bytes.
+fn fill_value(bytes: &[u8], value: &mut [u8], told: FieldTold) -> u64
     ensures { λ r.
-        let filling = valueFilling (answerFieldTold told) in
+        let filling = valueFilling (now (bytes .entry)) (answerFieldTold told) in
         ⌜ (r ≡ resultIn filling (now (value .entry))) × (now (value .exit) ≡ filledIn filling (now (value .entry))) ⌝ }
 {
     match told {
@@ -73,7 +74,9 @@ fn fill_value(value: &mut [u8], told: FieldTold) -> u64
             if value.len() < VALUE_SIZE {
                 return result(NO_ROOM, 0);
             }
-            put_value(value, f);
+            let told = f.value;
+            let name = tell_name(bytes, told);
+            put_value(value, f, name);
             result(0, f.end)
         }
     }
@@ -89,16 +92,18 @@ pub extern "C" fn uadp_value(
     value: &mut [u8],
 ) -> u64
     ensures { λ r.
-        let told = valueFilling (toldFieldAt (encodingIn encoding) (typeIn kind) (now (bytes .entry)) offset) in
+        let s = now (bytes .entry) in
+        let told = valueFilling s (toldFieldAt (encodingIn encoding) (typeIn kind) s offset) in
         ⌜ (r ≡ resultIn told (now (value .entry))) × (now (value .exit) ≡ filledIn told (now (value .entry))) ⌝ }
 {
     fill_value(
+        bytes,
         value,
         tell_field(bytes, offset as usize, encoding_of(encoding), type_of(kind)),
     )
 }
 
-// Tells element k of an array of Strings or ByteStrings apart, whose first element stands at an offset of the bytes.
+// Tells element k of an array of Strings, ByteStrings or names apart, whose first element stands at an offset of the bytes.
 #[no_mangle]
 pub extern "C" fn uadp_element(
     bytes: &[u8],
@@ -109,10 +114,12 @@ pub extern "C" fn uadp_element(
     value: &mut [u8],
 ) -> u64
     ensures { λ r.
-        let told = valueFilling (mapAnswer aloneParts (toldElementAt (typeIn kind) elements k (now (bytes .entry)) offset)) in
+        let s = now (bytes .entry) in
+        let told = valueFilling s (mapAnswer aloneParts (toldElementAt (typeIn kind) elements k s offset)) in
         ⌜ (r ≡ resultIn told (now (value .entry))) × (now (value .exit) ≡ filledIn told (now (value .entry))) ⌝ }
 {
     fill_value(
+        bytes,
         value,
         tell_text(
             bytes,

@@ -8,7 +8,7 @@ use lib.Dec.{T, eqb, eqb→eq}
 use Rattle.wire.proofs.Table.{below, and-left, and-right}
 use Rattle.plain_value.specs.Width.{widthOf}
 use Rattle.plain_value.specs.Plain.{plain}
-use Rattle.value.specs.Value.{typeOf, isArray, taken, variantRule}
+use Rattle.value.specs.Value.{typeOf, isArray, hasDimensions, taken, variantRule}
 use Rattle.value.proofs.FirstItems.{yes, no}
 
 -- a scalar of type t holds bytes or a DataValue
@@ -25,13 +25,13 @@ unfoldable scalar-fine : ℕ → Bool
 scalar-fine t = eqb (variantRule t) (scalarRule t) && (eqb (typeOf t) t && (not (isArray t) && not (full t && eqb t 0)))
 
 unfoldable array-fine : ℕ → Bool
-array-fine t = eqb (variantRule (t + 128)) (arrayRule t) && (eqb (typeOf (t + 128)) t && isArray (t + 128))
+array-fine t = eqb (variantRule (t + 128)) (arrayRule t) && (eqb (typeOf (t + 128)) t && (isArray (t + 128) && not (hasDimensions (t + 128))))
+
+unfoldable matrix-fine : ℕ → Bool
+matrix-fine t = eqb (variantRule (t + 192)) (arrayRule t) && (eqb (typeOf (t + 192)) t && (isArray (t + 192) && hasDimensions (t + 192)))
 
 unfoldable three : ℕ → Bool
 three t = eqb (variantRule (t + 64)) 3
-
-unfoldable four : ℕ → Bool
-four t = eqb (variantRule (t + 192)) 4
 
 pub record Scalar (t : ℕ) : Type 0 where
   pub rule : variantRule t ≡ scalarRule t
@@ -43,6 +43,13 @@ pub record Array (t : ℕ) : Type 0 where
   pub rule : variantRule (t + 128) ≡ arrayRule t
   pub type : typeOf (t + 128) ≡ t
   pub array : isArray (t + 128) ≡ true
+  pub flat : hasDimensions (t + 128) ≡ false
+
+pub record Matrix (t : ℕ) : Type 0 where
+  pub rule : variantRule (t + 192) ≡ arrayRule t
+  pub type : typeOf (t + 192) ≡ t
+  pub array : isArray (t + 192) ≡ true
+  pub dimensions : hasDimensions (t + 192) ≡ true
 
 apart : (a b : Bool) → T (not (a && b)) → a ≡ true → b ≡ false
 apart true true t e = absurd t
@@ -72,16 +79,29 @@ array-first t h = of (below array-fine 64 tt t h)
     of : T (array-fine t) → Array t
     of p =
         let p1 = and-right (eqb (variantRule (t + 128)) (arrayRule t)) _ p in
+        let p2 = and-right (eqb (typeOf (t + 128)) t) _ p1 in
         record {
           rule = eqb→eq _ _ (and-left (eqb (variantRule (t + 128)) (arrayRule t)) _ p);
           type = eqb→eq _ _ (and-left (eqb (typeOf (t + 128)) t) _ p1);
-          array = yes _ (and-right (eqb (typeOf (t + 128)) t) _ p1);
+          array = yes _ (and-left (isArray (t + 128)) _ p2);
+          flat = no _ (and-right (isArray (t + 128)) _ p2);
+        }
+
+pub matrix-first : (t : ℕ) → t < 64 → Matrix t
+unfolding matrix-fine variantRule plain widthOf
+matrix-first t h = of (below matrix-fine 64 tt t h)
+  where
+    of : T (matrix-fine t) → Matrix t
+    of p =
+        let p1 = and-right (eqb (variantRule (t + 192)) (arrayRule t)) _ p in
+        let p2 = and-right (eqb (typeOf (t + 192)) t) _ p1 in
+        record {
+          rule = eqb→eq _ _ (and-left (eqb (variantRule (t + 192)) (arrayRule t)) _ p);
+          type = eqb→eq _ _ (and-left (eqb (typeOf (t + 192)) t) _ p1);
+          array = yes _ (and-left (isArray (t + 192)) _ p2);
+          dimensions = yes _ (and-right (isArray (t + 192)) _ p2);
         }
 
 pub no-array-but-dimensions : (t : ℕ) → t < 64 → variantRule (t + 64) ≡ 3
 unfolding three variantRule plain widthOf
 no-array-but-dimensions t h = eqb→eq _ _ (below three 64 tt t h)
-
-pub dimensions : (t : ℕ) → t < 64 → variantRule (t + 192) ≡ 4
-unfolding four variantRule plain widthOf
-dimensions t h = eqb→eq _ _ (below four 64 tt t h)

@@ -5,7 +5,7 @@ use mathlib.Core.Bool.{Bool, true, false, cond, not, _&&_, _||_}
 use mathlib.Core.List.{List}
 use Prim.Native.Nat.{ℕ, suc, _+_, _*_, _-_, _<_, _≤_}
 use native.Mathlib.Omega.{arith}
-use borrow.Author.Tests.{leb-true, leb-false, le-leb, ltb-true, lt-ltb, eqb-true, eqb-false}
+use borrow.Author.Tests.{leb-true, leb-false, le-leb, ltb-true, lt-ltb, eq-eqb, eqb-true, eqb-false}
 use lib.Dec.{T, eqb, leb, ltb, eqb→eq}
 use lib.ListN.{length, getD}
 use Rattle.wire.specs.Answer.{got, refused, Reader, andThen, _>>_, pure, refuse, item, ruled, whenOn, bit}
@@ -116,8 +116,19 @@ null-scalar b e r = go (isArray b) refl (hasDimensions b) refl
   where
     go : (x : Bool) → isArray b ≡ x → (y : Bool) → hasDimensions b ≡ y → x ≡ false
     go false ex y ey = refl
-    go true ex true ey = absurd (let z : 4 ≡ 0 = sym (rw (ex, ey)) ∙ r in omega arith)
+    go true ex true ey = absurd (let z : 3 ≡ 0 = sym (rw (ex, ey, e)) ∙ r in omega arith)
     go true ex false ey = absurd (let z : 3 ≡ 0 = sym (rw (ex, ey, e)) ∙ r in omega arith)
+
+-- a first byte below 192 that breaks no rule has no dimensions
+unfoldable flat-fine : ℕ → Bool
+flat-fine b = not (eqb (variantRule b) 0) || not (hasDimensions b)
+
+flat : (b : ℕ) → b < 192 → variantRule b ≡ 0 → hasDimensions b ≡ false
+unfolding flat-fine variantRule plain widthOf
+flat b h r = go (below flat-fine 192 tt b h)
+  where
+    go : T (flat-fine b) → hasDimensions b ≡ false
+    go p = no (hasDimensions b) (second (eqb (variantRule b) 0) (not (hasDimensions b)) (eq-eqb (variantRule b) 0 r) p)
 
 abbrev null : ℕ → Reader Measure
 null t = pure (measure t Shape.NullArray)
@@ -136,9 +147,10 @@ module _ (s : List ℕ) (e : ℕ) {m : Measure} where
       go Length.Negative after h r = absurd (not-got r)
 
   -- what follows its first byte
-  by-first : (b next : ℕ) → variantRule b ≡ 0 → variantOf (valueAt 99) b s next ≡ got m e → got m e ≡ cond (isArray b) (arrayAt e (typeOf b) s next) (got (measure (typeOf b) Shape.Scalar) e)
+  by-first : (b next : ℕ) → variantRule b ≡ 0 → hasDimensions b ≡ false → variantOf (valueAt 99) b s next ≡ got m e
+      → got m e ≡ cond (isArray b) (arrayAt e (typeOf b) s next) (got (measure (typeOf b) Shape.Scalar) e)
   unfolding scalar
-  by-first b next r q = go (eqb (typeOf b) 0) refl (isArray b) refl q
+  by-first b next r f q = go (eqb (typeOf b) 0) refl (isArray b) refl (rw f at q)
     where
       go : (x : Bool) → eqb (typeOf b) 0 ≡ x → (y : Bool) → isArray b ≡ y
           → cond x (λ z p. got (measure 0 Shape.Scalar) p) (cond y (array (valueAt 99) (typeOf b)) (scalar (valueAt 99) (typeOf b))) s next ≡ got m e
@@ -162,13 +174,15 @@ ruled-got rule s at q = let i = invert (item 1 s at) (λ v after. cond (eqb (rul
 by-item : (s : List ℕ) (at e : ℕ) {b next : ℕ} → item 1 s at ≡ got b next → describedAt e s at ≡ cond (isArray b) (arrayAt e (typeOf b) s next) (got (measure (typeOf b) Shape.Scalar) e)
 by-item s at e h = rw h
 
-pub described-is : (s : List ℕ) (at : ℕ) {e : ℕ} → passing variantAt s at ≡ got tt e → variantAt s at ≡ describedAt e s at
+-- such a Variant whose first byte is below 192
+pub described-is : (s : List ℕ) (at : ℕ) {b n e : ℕ} → item 1 s at ≡ got b n → b < 192 → passing variantAt s at ≡ got tt e → variantAt s at ≡ describedAt e s at
 unfolding valueAt
-described-is s at {e} q =
+described-is s at {e = e} here small q =
     let x = passed (variantAt s at) q in
     let i = invert (ruled 1 variantRule s at) (λ b next. variantOf (valueAt 99) b s next) (x .1) in
     let f = ruled-got variantRule s at (i .2) in
-    x .1 ∙ by-first s e (i .0) (i .1) (f .1) (i .3) ∙ sym (by-item s at e (f .0))
+    let below : i .0 < 192 = omega (arith, small, got-value (sym here ∙ f .0)) in
+    x .1 ∙ by-first s e (i .0) (i .1) (f .1) (flat (i .0) below (f .1)) (i .3) ∙ sym (by-item s at e (f .0))
 
 -- ---- an accepted DataValue
 

@@ -11,10 +11,12 @@ use Rattle.wire.specs.Answer.{Answer, got, refused, Reader, andThen, _>>=_, ite
 use Rattle.wire.specs.Items.{answer8, answerReached}
 use Rattle.wire.specs.declared.Item8.{Item8}
 use Rattle.wire.specs.declared.Reached.{Reached}
-use Rattle.plain_value.specs.Plain.{passing, plain}
-use Rattle.value.specs.Value.{Measure, measure, variantRule, maskRule, scalar, elements, arrayOf, variantOf, dataValueOf, valueOf, tooDeep, valueAt}
+use borrow.Author.Tests.{eqb-true}
+use Rattle.plain_value.specs.Plain.{passing, plain, plainValues}
+use Rattle.plain_value.specs.Dimensions.{dimensions}
+use Rattle.value.specs.Value.{Measure, measure, variantRule, maskRule, scalar, elements, arrayOf, dimensioned, matrixOf, variantOf, dataValueOf, valueOf, tooDeep, valueAt}
 use Rattle.plain_value.specs.Parts.{parts}
-use Rattle.value.specs.Head.{ended, finish}
+use Rattle.value.specs.Head.{ended, plainMatrix, rest, finish, judged}
 use Rattle.value.specs.declared.Shape.{Shape}
 use Rattle.value.specs.declared.head.Head.{Head}
 use Rattle.plain_value.proofs.PartLaws.{then-none}
@@ -46,6 +48,10 @@ pub pass-found : {A : Type 0} (x : Answer (Unit {0})) (m : A) → x ≡ andThen 
 pass-found (got tt next) m = refl
 pass-found (refused n place) m = refl
 
+pass-made : {A B : Type 0} (x : Answer A) (f : A → B) → andThen x (λ a next. got tt next) ≡ andThen (andThen x (λ a next. got (f a) next)) (λ a next. got (tt {0}) next)
+pass-made (got a next) f = refl
+pass-made (refused n place) f = refl
+
 pub pass-after : {A : Type 0} (x : Answer (Unit {0})) (k : ℕ → Answer (Unit {0})) (m : A)
     → andThen x (λ a next. k next) ≡ andThen (andThen x (λ a next. andThen (k next) (λ b after. got m after))) (λ a next. got tt next)
 pass-after (got tt next) k m = pass-found (k next) m
@@ -66,9 +72,35 @@ module _ (nested : ℕ → Reader Measure) (s : List ℕ) where
   unfolding scalar each parts
   holds-scalar t at e = rw e (sym (then-none (passing (nested t) s at)) ∙ pass-found (passing (nested t) s at) (measure t Shape.Scalar))
 
+  -- an array's elements and its dimensions list
+  listed : (t n : ℕ) (x : Answer (Unit {0}))
+      → andThen x (λ a p. passing (dimensions n) s p) ≡ andThen (andThen x (λ a p. dimensioned t n s p)) (λ a q. got tt q)
+  listed t n (got a p) = pass-made (dimensions n s p) (λ d. measure t (Shape.Matrix n d))
+  listed t n (refused k place) = refl
+
+  pub plain-listed : (t n at : ℕ) → plain t ≡ true → (r : Reached) {h : Head} → answerReached r ≡ plainMatrix t n s at → h ≡ ended r
+      → finish nested s h ≡ passing (matrixOf nested t n) s at
+  unfolding elements
+  plain-listed t n at e r f q = rw e (ap (finish nested s) q ∙ ended-is r ∙ f ∙ listed t n (plainValues t n s at))
+
+  pub holds-listed : (t n at : ℕ) → plain t ≡ false → finish nested s (Head.Holds at n t 64) ≡ passing (matrixOf nested t n) s at
+  unfolding elements
+  holds-listed t n at e = rw e (listed t n (each (nested t) n s at))
+
+  pub list-found : (t n at : ℕ) (r : Reached) {h : Head} → answerReached r ≡ passing (dimensions n) s at → h ≡ ended r → finish nested s h ≡ passing (dimensioned t n) s at
+  list-found t n at r f q = ap (finish nested s) q ∙ ended-is r ∙ f ∙ pass-made (dimensions n s at) (λ d. measure t (Shape.Matrix n d))
+
   pub holds-elements : (t n at : ℕ) → plain t ≡ false → finish nested s (Head.Holds at n t 0) ≡ passing (arrayOf nested t n) s at
   unfolding elements parts
   holds-elements t n at e = rw e (sym (then-none (each (nested t) n s at)) ∙ pass-found (each (nested t) n s at) (measure t (Shape.Array n)))
+
+-- a mask that is permitted is not the sign of a dimensions list
+pub no-list : (m : ℕ) → (bit 6 m || bit 7 m) ≡ false → eqb m 64 ≡ false
+no-list m h = go (eqb m 64) refl
+  where
+    go : (b : Bool) → eqb m 64 ≡ b → b ≡ false
+    go false e = refl
+    go true e = sym (ap (λ (k : ℕ). bit 6 k || bit 7 k) (eqb-true m 64 e)) ∙ h
 
 -- no byte is there
 pub head-short : (nested : ℕ → Reader Measure) (t : ℕ) (s : List ℕ) (at : ℕ) → item 1 s at ≡ refused 1 at → refused 1 at ≡ passing (valueOf nested t) s at
@@ -77,6 +109,15 @@ head-short nested t s at e = go (eqb t 23)
     go : (b : Bool) → refused 1 at ≡ passing (cond b (ruled 1 maskRule >>= dataValueOf nested) (ruled 1 variantRule >>= variantOf nested)) s at
     go true = rw e
     go false = rw e
+
+-- a Variant by its first byte
+pub variant-short : (s : List ℕ) (at : ℕ) → item 1 s at ≡ refused 1 at → refused 1 at ≡ valueAt 100 24 s at
+unfolding valueAt
+variant-short s at e = rw e
+
+pub variant-judged : (s : List ℕ) (at : ℕ) {b next : ℕ} → item 1 s at ≡ got b next → valueAt 100 24 s at ≡ judged variantRule b at (variantOf (valueAt 99)) s next
+unfolding valueAt
+variant-judged s at e = rw e
 
 -- a value by the levels left
 
@@ -93,9 +134,9 @@ by-head (suc levels) t s at n e q = ap (finish (valueAt (suc levels - 1)) s) (sy
 
 -- the values inside are refused, or end at p
 
-module _ (nested : ℕ → Reader Measure) (s : List ℕ) (from count inner mask : ℕ) where
-  pub inside-refused : {n place : ℕ} → each (nested inner) count s from ≡ refused n place → refused n place ≡ finish nested s (Head.Holds from count inner mask)
+module _ (nested : ℕ → Reader Measure) (s : List ℕ) (from count inner after : ℕ) where
+  pub inside-refused : {n place : ℕ} → each (nested inner) count s from ≡ refused n place → refused n place ≡ finish nested s (Head.Holds from count inner after)
   inside-refused e = rw e
 
-  pub inside-ends : {p : ℕ} → each (nested inner) count s from ≡ got tt p → {r : Answer (Unit {0})} → r ≡ parts mask s p → r ≡ finish nested s (Head.Holds from count inner mask)
+  pub inside-ends : {p : ℕ} → each (nested inner) count s from ≡ got tt p → {r : Answer (Unit {0})} → r ≡ rest count after s p → r ≡ finish nested s (Head.Holds from count inner after)
   inside-ends e q = rw (e, q)

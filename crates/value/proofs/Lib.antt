@@ -2,6 +2,5 @@ pub mod Heads
 pub mod FirstItems
 pub mod FirstByte
 pub mod Runs
-pub mod Lengths
 pub mod Values
 pub mod Looks

@@ -14,7 +14,7 @@ use Rattle.wire.specs.declared.Length.{Length}
 use Rattle.wire.proofs.Table.{below}
 use Rattle.plain_value.specs.Width.{among, widthOf, fixed}
 use Rattle.plain_value.specs.Parts.{parts, partsWidth}
-use Rattle.plain_value.specs.Plain.{passing, bytes, plain, plainValue, plainValues, afterLength}
+use Rattle.plain_value.specs.Plain.{passing, bytes, text, plain, plainValue, plainValues, afterLength}
 use Rattle.plain_value.proofs.PartLaws.{parts-fit}
 use Rattle.plain_value.proofs.Widths.{positive}
 use Rattle.value.specs.Value.{measure, taken, variantRule, maskRule, scalar, elements, arrayOf, array, valueAt, variantAt, dataValueAt}
@@ -35,11 +35,11 @@ module _ (s : List ℕ) (at : ℕ) (h : at < length s) where
 
   -- a String or ByteString
   look-12 : getD s at 0 ≡ 12 → variantAt s at ≡ textAt 12 s (at + 1)
-  unfolding valueAt variantRule plain widthOf scalar plainValue
+  unfolding valueAt variantRule plain widthOf scalar plainValue text
   look-12 e = rw (here, e)
 
   look-15 : getD s at 0 ≡ 15 → variantAt s at ≡ textAt 15 s (at + 1)
-  unfolding valueAt variantRule plain widthOf scalar plainValue
+  unfolding valueAt variantRule plain widthOf scalar plainValue text
   look-15 e = rw (here, e)
 
   pub text-look : (t : ℕ) → getD s at 0 ≡ t → (eqb t 12 || eqb t 15) ≡ true → variantAt s at ≡ textAt t s (at + 1)
@@ -68,7 +68,7 @@ array-look s at t w h e small some same =
     let first = fixed-first t f in
     let a = array-first t small in
     let all : taken t ≡ true = rw (first .4) (or-true (among t (0 ∷ 23 ∷ 24 ∷ []))) in
-    rw (here s at h, e, byte, a .rule, all, first .3, a .type, first .3, a .array, same) (run-look t f (first .4) (lengthItem s (at + 1)) s (at + 1))
+    rw (here s at h, e, byte, a .rule, all, first .3, a .type, first .3, a .array, a .flat, same) (run-look t f (first .4) (lengthItem s (at + 1)) s (at + 1))
 
 -- a DataValue, whose mask has neither of its two highest bits
 

@@ -12,7 +12,7 @@ use Rattle.wire.specs.Answer.{Answer, got, refused, andThen}
 use Rattle.wire.specs.Items.{lengthItem}
 use Rattle.wire.specs.declared.Length.{Length}
 use Rattle.plain_value.specs.Width.{among, widthOf, fixed}
-use Rattle.plain_value.specs.Plain.{passing, bytes, string, plain, plainValue, plainValues, afterLength}
+use Rattle.plain_value.specs.Plain.{passing, bytes, string, text, plain, plainValue, plainValues, afterLength}
 use Rattle.value.specs.Value.{measure, taken, variantRule, scalar, elements, arrayOf, array, valueAt, variantAt}
 use Rattle.value.specs.Quick.{unitOf, units}
 use Rattle.value.specs.declared.Shape.{Shape}
@@ -41,13 +41,13 @@ unfolding string
 string-units s at = same-units (lengthItem s at) s at
 
 string-12 : (s : List ℕ) (at : ℕ) → at < length s → getD s at 0 ≡ 12 → passing variantAt s at ≡ string s (at + 1)
-unfolding valueAt variantRule plain widthOf scalar plainValue
+unfolding valueAt variantRule plain widthOf scalar plainValue text
 string-12 s at h e =
     let here : leb (at + 1) (length s) ≡ true = le-leb (at + 1) (length s) (omega arith) in
     rw (here, e) (sym (pass-found (string s (at + 1)) (measure 12 Shape.Scalar)))
 
 string-15 : (s : List ℕ) (at : ℕ) → at < length s → getD s at 0 ≡ 15 → passing variantAt s at ≡ string s (at + 1)
-unfolding valueAt variantRule plain widthOf scalar plainValue
+unfolding valueAt variantRule plain widthOf scalar plainValue text
 string-15 s at h e =
     let here : leb (at + 1) (length s) ≡ true = le-leb (at + 1) (length s) (omega arith) in
     rw (here, e) (sym (pass-found (string s (at + 1)) (measure 15 Shape.Scalar)))
@@ -74,7 +74,7 @@ array-variant t f l s at h e =
     let first = fixed-first t f in
     let a = array-first t l in
     let all : taken t ≡ true = rw (first .4) (or-true (among t (0 ∷ 23 ∷ 24 ∷ []))) in
-    rw (here, e, byte, a .rule, all, first .3, a .type, first .3, a .array) (array-units t f (first .4) (lengthItem s (at + 1)) s (at + 1))
+    rw (here, e, byte, a .rule, all, first .3, a .type, first .3, a .array, a .flat) (array-units t f (first .4) (lengthItem s (at + 1)) s (at + 1))
 
 pub units-variant : (s : List ℕ) (at b : ℕ) → at < length s → b ≡ getD s at 0 → 0 < unitOf b → passing variantAt s at ≡ units (unitOf b) s (at + 1)
 units-variant s at b h e some = go (eqb b 12) refl (eqb b 15) refl (ltb b 128) refl

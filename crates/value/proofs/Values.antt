@@ -1,12 +1,12 @@
 -- Measuring a value is steady: its answer lies within the slice, depends on the bytes measured only, and moves with them.
 -- Assumes nothing.
 use mathlib.Core.Path.{_≡_, refl, subst}
-use mathlib.Core.Bool.{Bool, true, false, cond}
+use mathlib.Core.Bool.{Bool, true, false, cond, _||_}
 use mathlib.Core.List.{List}
 use Prim.Native.Nat.{ℕ, zero, suc, _+_, _*_, _-_, _<_, _≤_}
 use native.Mathlib.Nat.{le-refl, le-add-right}
 use native.Mathlib.Omega.{arith}
-use lib.Dec.{eqb, leb}
+use lib.Dec.{eqb, leb, ltb}
 use lib.ListN.{length}
 use borrow.Author.Tests.{leb-true, leb-false}
 use Rattle.wire.specs.Number.{le}
@@ -14,11 +14,12 @@ use Rattle.wire.specs.Answer.{got, Reader, _>>=_, ruled, bit}
 use Rattle.wire.specs.declared.Length.{Length}
 use Rattle.plain_value.specs.Width.{widthOf, fixed}
 use Rattle.plain_value.specs.Parts.{parts}
-use Rattle.plain_value.specs.Plain.{passing, bytes, afterLength, byLength, string, lengthFirst, plain, plainValue, plainValues}
-use Rattle.value.specs.Value.{Measure, measure, typeOf, isArray, variantRule, scalar, elements, array, variantOf, maskRule, dataValueOf, tooDeep, valueAt, rawAt}
+use Rattle.plain_value.specs.Plain.{passing, bytes, afterLength, byLength, string, lengthFirst, named, qualifiedName, textMaskRule, localizedText, text, plain, plainValue, plainValues}
+use Rattle.plain_value.specs.Dimensions.{fours, sizesRule, afterListLength, dimensions}
+use Rattle.value.specs.Value.{Measure, measure, typeOf, isArray, hasDimensions, variantRule, scalar, elements, array, dimensioned, matrix, variantOf, maskRule, dataValueOf, tooDeep, valueAt, rawAt}
 use Rattle.value.specs.declared.Shape.{Shape}
 use Rattle.wire.proofs.Places.{end-of, after}
-use Rattle.wire.proofs.Steady.{Ends, Steady, Onward, steadily, refusing, pure-steady, refuse-steady, item-steady, length-item-steady, run-steady, onward-steady, bind-steady, then-steady, cond-steady, when-steady, each-steady, ruled-ends, ruled-steady, taking-ends, then-ends}
+use Rattle.wire.proofs.Steady.{Ends, Steady, Onward, steadily, refusing, pure-steady, refuse-steady, item-steady, length-item-steady, run-steady, onward-steady, bind-steady, then-steady, cond-onward, cond-steady, when-steady, each-steady, ruled-ends, ruled-steady, taking-ends, then-ends}
 
 passing-steady : {A : Type 0} {r : Reader A} → Steady r → Steady (passing r)
 passing-steady f = then-steady f (pure-steady tt)
@@ -38,13 +39,41 @@ string-steady : Steady string
 unfolding string
 string-steady = by-length-steady (pure-steady tt) bytes-steady
 
+-- names
+
+qualified-name-steady : Steady qualifiedName
+unfolding qualifiedName
+qualified-name-steady = then-steady (bytes-steady 2) string-steady
+
+localized-text-steady : Steady localizedText
+unfolding localizedText
+localized-text-steady = bind-steady (ruled-steady 1 textMaskRule) (λ m. then-steady (when-steady (bit 0 m) tt string-steady) (when-steady (bit 1 m) tt string-steady))
+
+text-steady : (t : ℕ) → Steady (text t)
+unfolding text
+text-steady t = cond-steady (eqb t 20) qualified-name-steady (cond-steady (eqb t 21) localized-text-steady string-steady)
+
+-- a dimensions list
+dimensions-steady : (n : ℕ) → Steady (dimensions n)
+unfolding dimensions
+dimensions-steady n = onward-steady length-item-steady onward
+  where
+    onward : (l : Length) → Onward (λ p. afterListLength n p l)
+    onward Length.Null = refusing 5 (omega arith)
+    onward (Length.Of k) =
+        cond-onward (ltb 0 k) (λ e. steadily (then-steady (ruled-steady (4 * k) (λ v. sizesRule n (fours k v))) (pure-steady k))) (λ e. refusing 5 (omega arith))
+    onward Length.Negative = refusing 5 (omega arith)
+
+dimensioned-steady : (t n : ℕ) → Steady (dimensioned t n)
+dimensioned-steady t n = bind-steady (dimensions-steady n) (λ d. pure-steady (measure t (Shape.Matrix n d)))
+
 plain-value-steady : (t : ℕ) → Steady (plainValue t)
 unfolding plainValue
-plain-value-steady t = cond-steady (fixed t) (bytes-steady (widthOf t)) (cond-steady (lengthFirst t) string-steady (refuse-steady 4 (omega arith)))
+plain-value-steady t = cond-steady (fixed t) (bytes-steady (widthOf t)) (cond-steady (lengthFirst t || named t) (text-steady t) (refuse-steady 4 (omega arith)))
 
 plain-values-steady : (t n : ℕ) → Steady (plainValues t n)
 unfolding plainValues
-plain-values-steady t n = cond-steady (fixed t) (bytes-steady (n * widthOf t)) (each-steady string-steady n)
+plain-values-steady t n = cond-steady (fixed t) (bytes-steady (n * widthOf t)) (each-steady (text-steady t) n)
 
 parts-steady : (m : ℕ) → Steady (parts m)
 unfolding parts
@@ -68,10 +97,14 @@ module _ (nested : ℕ → Reader Measure) (h : (t : ℕ) → Steady (nested t))
   unfolding array
   array-steady t = by-length-steady (pure-steady (measure t Shape.NullArray)) λ n. then-steady (elements-steady t n) (pure-steady (measure t (Shape.Array n)))
 
+  matrix-steady : (t : ℕ) → Steady (matrix nested t)
+  unfolding matrix
+  matrix-steady t = by-length-steady (dimensioned-steady t 0) λ n. then-steady (elements-steady t n) (dimensioned-steady t n)
+
   after-first : (b : ℕ) → Steady (variantOf nested b)
   after-first b =
       cond-steady (eqb (typeOf b) 0) (pure-steady (measure 0 Shape.Scalar))
-      (cond-steady (isArray b) (array-steady (typeOf b)) (scalar-steady (typeOf b)))
+      (cond-steady (isArray b) (cond-steady (hasDimensions b) (matrix-steady (typeOf b)) (array-steady (typeOf b))) (scalar-steady (typeOf b)))
 
   after-mask : (m : ℕ) → Steady (dataValueOf nested m)
   after-mask m =

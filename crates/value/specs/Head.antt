@@ -5,7 +5,9 @@ use mathlib.Core.List.{List}
 use lib.Dec.{eqb}
 use Rattle.wire.specs.Answer.{Answer, got, refused, Reader, andThen, _>>_, each}
 use Rattle.wire.specs.declared.Reached.{Reached}
+use Rattle.plain_value.specs.Plain.{passing, plainValues}
 use Rattle.plain_value.specs.Parts.{parts}
+use Rattle.plain_value.specs.Dimensions.{dimensions}
 use Rattle.value.specs.Value.{Measure}
 use Rattle.value.specs.declared.head.Head.{Head}
 
@@ -14,11 +16,23 @@ abbrev pub ended : Reached → Head
 ended (Reached.To end) = Head.To end
 ended (Reached.Refused n place) = Head.Refused n place
 
--- how the values inside, by `nested`, and a DataValue's parts finish a value, all passed over
+-- no mask: "bits 6 or 7 set is 3"
+abbrev pub LIST : ℕ
+LIST = 64
+
+-- what follows the n values inside: a DataValue's parts by its mask, or an array's dimensions list
+abbrev pub rest : ℕ → ℕ → Reader (Unit {0})
+rest n after = cond (eqb after LIST) (passing (dimensions n)) (parts after)
+
+-- the n elements of a plain type t, and the dimensions list after them
+abbrev pub plainMatrix : ℕ → ℕ → Reader (Unit {0})
+plainMatrix t n = plainValues t n >> passing (dimensions n)
+
+-- how the values inside, by `nested`, and what follows them finish a value, all passed over
 abbrev pub finish : (ℕ → Reader Measure) → List ℕ → Head → Answer (Unit {0})
 finish nested s (Head.To end) = got tt end
 finish nested s (Head.Refused n place) = refused n place
-finish nested s (Head.Holds from count inner mask) = (each (nested inner) count >> parts mask) s from
+finish nested s (Head.Holds from count inner after) = (each (nested inner) count >> rest count after) s from
 
 -- an item v at `place` is judged by its rule, and k follows
 abbrev pub judged : (ℕ → ℕ) → ℕ → ℕ → (ℕ → Reader Measure) → Reader Measure

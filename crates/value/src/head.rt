@@ -1,8 +1,11 @@
 // What a value's own items say, before any value inside it is passed over.
+use plain_value::dimensions::Dimensions;
+use plain_value::dimensions::dimensions_at;
+use plain_value::parts::parts_at;
 use plain_value::plain::bytes_at;
 use plain_value::plain::is_plain;
 use plain_value::plain::plain_value;
-use plain_value::plain::strings_at;
+use plain_value::plain::texts_at;
 use plain_value::width::width;
 use wire::Item8;
 use wire::ItemLength;
@@ -21,19 +24,24 @@ ghost use Prim.Native.Nat.{ℕ, _+_, _<_};
 ghost use Rattle.wire.specs.Answer.{Reader};
 ghost use Rattle.wire.specs.Items.{answerReached};
 ghost use Rattle.plain_value.specs.Plain.{passing, plainValues};
-ghost use Rattle.value.specs.Value.{Measure, taken, variantRule, maskRule, scalar, arrayOf, array, variantOf, dataValueOf, valueOf};
-ghost use Rattle.value.specs.Head.{ended, finish, judged};
+ghost use Rattle.plain_value.specs.Dimensions.{dimensions};
+ghost use Rattle.value.specs.Value.{Measure, taken, variantRule, maskRule, scalar, arrayOf, array, matrixOf, matrix, variantOf, dataValueOf, valueOf};
+ghost use Rattle.value.specs.Head.{ended, plainMatrix, rest, finish, judged};
 
-// Where a value that holds no other ends, its refusal, or what it holds: from where, how many values, their type (23 or 24), and the mask
-// of the parts that follow them. It is flat, with a place at the same offset in each case, so that it stays in registers.
+// What follows the values inside where it is an array's dimensions list: no mask has this bit.
+const LIST: u8 = 64;
+
+// Where a value that holds no other ends, its refusal, or what it holds: from where, how many values, their type (23 or 24), and what
+// follows them, a mask's parts or the dimensions list. It is flat, with a place at the same offset in each case, so that it stays in
+// registers.
 pub(crate) enum Head {
     To(usize),
     Refused(u8, usize),
-    Holds(usize, usize, u8, u8),
+    Holds(usize, u32, u8, u8),
 }
 
 // Whether a type is taken at all.
-fn is_taken(t: u8) -> bool
+pub(crate) fn is_taken(t: u8) -> bool
     ensures { λ r. ⌜ r ≡ taken t ⌝ }
 {
     if (t == 0) | (t == DATA_VALUE) | (t == VARIANT) {
@@ -63,7 +71,7 @@ fn scalar_head(s: &[u8], at: usize, t: u8) -> Head
 }
 
 // n values of a plain type. A count is below 2^31.
-fn plain_values(s: &[u8], at: usize, t: u8, n: usize) -> Reached
+pub(crate) fn plain_values(s: &[u8], at: usize, t: u8, n: usize) -> Reached
     requires { ⌜ n < 2147483648 ⌝ }
     ensures { λ r. ⌜ answerReached r ≡ plainValues t n (now (s .entry)) at ⌝ }
 {
@@ -71,7 +79,7 @@ fn plain_values(s: &[u8], at: usize, t: u8, n: usize) -> Reached
     if 0 < w {
         return bytes_at(s, at, n * w);
     }
-    strings_at(s, at, n)
+    texts_at(s, at, t, n)
 }
 
 // The n elements of an array of type t.
@@ -84,7 +92,7 @@ fn elements_head(s: &[u8], at: usize, t: u8, n: usize) -> Head
     if is_plain(t) {
         return done(plain_values(s, at, t, n));
     }
-    Head::Holds(at, n, t, 0)
+    Head::Holds(at, n as u32, t, 0)
 }
 
 // What follows the first byte of an array of type t.
@@ -94,6 +102,62 @@ fn array_head(s: &[u8], at: usize, t: u8) -> Head
     match read_length(s, at) {
         ItemLength::Null(next) => Head::To(next),
         ItemLength::Of(next, n) => elements_head(s, next, t, n),
+        ItemLength::Negative(_) => Head::Refused(BAD_LENGTH, at),
+        ItemLength::Short => Head::Refused(CUT_SHORT, at),
+    }
+}
+
+// Passes over the dimensions list of an array of n elements.
+fn pass_list(s: &[u8], at: usize, n: u32) -> Reached
+    ensures { λ r. ⌜ answerReached r ≡ passing (dimensions n) (now (s .entry)) at ⌝ }
+{
+    match dimensions_at(s, at, n) {
+        Dimensions::Are(_, end) => Reached::To(end),
+        Dimensions::Refused(number, place) => Reached::Refused(number, place),
+    }
+}
+
+// Passes over what follows the n values inside.
+pub(crate) fn pass_rest(s: &[u8], at: usize, n: u32, after: u8) -> Reached
+    ensures { λ r. ⌜ answerReached r ≡ rest n after (now (s .entry)) at ⌝ }
+{
+    if after == LIST {
+        return pass_list(&*s, at, n);
+    }
+    parts_at(s, at, after)
+}
+
+// The n elements of an array of a plain type t, and its dimensions list.
+fn plain_matrix(s: &[u8], at: usize, t: u8, n: usize) -> Reached
+    requires { ⌜ n < 2147483648 ⌝ }
+    ensures { λ r. ⌜ answerReached r ≡ plainMatrix t n (now (s .entry)) at ⌝ }
+{
+    match plain_values(s, at, t, n) {
+        Reached::To(end) => pass_list(s, end, n as u32),
+        Reached::Refused(number, place) => Reached::Refused(number, place),
+    }
+}
+
+// The n elements of an array of type t, and its dimensions list.
+fn listed_head(s: &[u8], at: usize, t: u8, n: usize) -> Head
+    requires { ⌜ n < 2147483648 ⌝ }
+    ensures { λ h.
+        ⌜ ((nested : ℕ → Reader Measure)
+        → finish nested (now (s .entry)) h ≡ passing (matrixOf nested t n) (now (s .entry)) at) ⌝ }
+{
+    if is_plain(t) {
+        return done(plain_matrix(s, at, t, n));
+    }
+    Head::Holds(at, n as u32, t, LIST)
+}
+
+// What follows the first byte of an array of type t with dimensions.
+fn matrix_head(s: &[u8], at: usize, t: u8) -> Head
+    ensures { λ h. ⌜ ((nested : ℕ → Reader Measure) → finish nested (now (s .entry)) h ≡ passing (matrix nested t) (now (s .entry)) at) ⌝ }
+{
+    match read_length(s, at) {
+        ItemLength::Null(next) => done(pass_list(s, next, 0)),
+        ItemLength::Of(next, n) => listed_head(s, next, t, n),
         ItemLength::Negative(_) => Head::Refused(BAD_LENGTH, at),
         ItemLength::Short => Head::Refused(CUT_SHORT, at),
     }
@@ -134,8 +198,24 @@ fn array_variant(s: &[u8], first: usize, at: usize, t: u8) -> Head
     Head::Refused(NOT_TAKEN, first)
 }
 
+// A Variant that is an array of type t with dimensions; its first byte, t + 192, stands at `first`, before `at`.
+fn matrix_variant(s: &[u8], first: usize, at: usize, t: u8) -> Head
+    requires { ⌜ t < 64 ⌝ }
+    ensures { λ h.
+        ⌜ ((nested : ℕ → Reader Measure)
+        → finish nested (now (s .entry)) h ≡ passing (judged variantRule (t + 192) first (variantOf nested)) (now (s .entry)) at) ⌝ }
+{
+    if t == 0 {
+        return Head::Refused(NOT_PERMITTED, first);
+    }
+    if is_taken(t) {
+        return matrix_head(s, at, t);
+    }
+    Head::Refused(NOT_TAKEN, first)
+}
+
 // A Variant whose first byte b stands at `at`, before `next`. Its two highest bits part the bytes into scalars, dimensions without an
-// array, arrays, and dimensions.
+// array, arrays, and arrays with dimensions.
 fn variant_head(s: &[u8], at: usize, next: usize, b: u8) -> Head
     ensures { λ h.
         ⌜ ((nested : ℕ → Reader Measure)
@@ -150,7 +230,7 @@ fn variant_head(s: &[u8], at: usize, next: usize, b: u8) -> Head
     if b < 192 {
         return array_variant(s, at, next, b - 128);
     }
-    Head::Refused(NOT_TAKEN, at)
+    matrix_variant(s, at, next, b - 192)
 }
 
 // A DataValue whose mask m stands at `at`, before `next`.
@@ -162,7 +242,7 @@ fn data_value_head(at: usize, next: usize, m: u8) -> Head
     if ((m >> 6) % 2 == 1) | ((m >> 7) % 2 == 1) {
         return Head::Refused(NOT_PERMITTED, at);
     }
-    Head::Holds(next, (m % 2) as usize, VARIANT, m)
+    Head::Holds(next, (m % 2) as u32, VARIANT, m)
 }
 
 // A DataValue where t is 23, else a Variant.

@@ -1,5 +1,6 @@
 // Encoded values of Part 6, measured at a position of a slice: a Variant, a DataValue, an element of RawData.
 mod head;
+mod matrix;
 pub mod quick;
 
 use crate::quick::described;
@@ -7,8 +8,10 @@ use crate::quick::fixed_end;
 use crate::quick::plain_end;
 use head::Head;
 use head::head_at;
-use plain_value::parts::parts_at;
+use head::pass_rest;
+use matrix::matrix_at;
 use plain_value::width::width;
+use wire::Item8;
 use wire::Reached;
 use wire::constants::CUT_SHORT;
 use wire::constants::DATA_VALUE;
@@ -18,27 +21,49 @@ use wire::constants::TOO_DEEP;
 use wire::constants::VARIANT;
 use wire::has;
 use wire::left;
+use wire::read8;
 ghost use mathlib.Core.Path.{_≡_};
 ghost use Prim.Native.Nat.{_<_};
 ghost use Rattle.wire.specs.Answer.{each};
 ghost use Rattle.wire.specs.Items.{answerReached};
 ghost use Rattle.plain_value.specs.Plain.{passing};
-ghost use Rattle.value.specs.Value.{answerMeasured, tooDeep, valueAt, variantAt, dataValueAt, rawAt};
+ghost use Rattle.value.specs.Value.{dimensionsOf, answerMeasured, INSIDE, tooDeep, valueAt, variantAt, dataValueAt, rawAt};
 
-// A scalar, a null array, or an array with its element count.
+// The levels left inside a field's own value.
+const INSIDE: usize = 99;
+
+// The bits of an array and of dimensions in a Variant's first byte.
+const MATRIX: u8 = 192;
+
+// A scalar, a null array, an array with its element count, or one with a dimensions list: the count of all its elements, and how many
+// dimensions it has.
 pub enum Shape {
     Scalar,
     NullArray,
     Array(usize),
+    Matrix(usize, u32),
 }
 
-// A measured value: its type number and the position after it, of an array with elements also their count; or the number and place of its
-// refusal. It is flat, so that an answer crosses a call in whole words.
+// A measured value: its type number and the position after it, of an array with elements also their count, and of one with a dimensions
+// list how many these are; or the number and place of its refusal. It is flat, so that an answer crosses a call in whole words.
 pub enum Measured {
     Scalar(u8, usize),
     NullArray(u8, usize),
     Array(u8, usize, usize),
+    Matrix(u8, usize, usize, u32),
     Refused(u8, usize),
+}
+
+// How many dimensions a value of a shape has.
+pub fn dimensions(shape: Shape) -> u32
+    ensures { λ r. ⌜ r ≡ dimensionsOf shape ⌝ }
+{
+    match shape {
+        Shape::Scalar => 0,
+        Shape::NullArray => 1,
+        Shape::Array(_) => 1,
+        Shape::Matrix(_, d) => d,
+    }
 }
 
 // A value past the last level.
@@ -61,7 +86,7 @@ fn pass_value(s: &[u8], at: usize, levels: usize, t: u8) -> Reached
     match head_at(s, at, t) {
         Head::To(end) => Reached::To(end),
         Head::Refused(number, place) => Reached::Refused(number, place),
-        Head::Holds(from, count, inner, mask) => {
+        Head::Holds(from, count, inner, after) => {
             let mut p = from;
             let mut left = count;
             while 0 < left {
@@ -75,9 +100,29 @@ fn pass_value(s: &[u8], at: usize, levels: usize, t: u8) -> Reached
                     }
                 }
             }
-            parts_at(s, p, mask)
+            pass_rest(s, p, count, after)
         }
     }
+}
+
+// Passes over n values of type t inside a field's own value.
+pub(crate) fn pass_inside(s: &[u8], at: usize, t: u8, n: usize) -> Reached
+    ensures { λ r. ⌜ answerReached r ≡ each (valueAt INSIDE t) n (now (s .entry)) at ⌝ }
+{
+    let mut p = at;
+    let mut left = n;
+    while 0 < left {
+        match pass_value(&*s, p, INSIDE, t) {
+            Reached::To(end) => {
+                p = end;
+                left -= 1;
+            }
+            Reached::Refused(number, place) => {
+                return Reached::Refused(number, place);
+            }
+        }
+    }
+    Reached::To(p)
 }
 
 // Passes over a Variant; most hold no other value.
@@ -111,6 +156,22 @@ pub fn pass_variants(s: &[u8], at: usize, n: usize) -> Reached
     Reached::To(p)
 }
 
+// A Variant at a position, by its first byte: an array with dimensions in one pass, any other is passed over and told by its first items.
+pub(crate) fn measure_other(s: &[u8], at: usize) -> Measured
+    ensures { λ r. ⌜ answerMeasured r ≡ variantAt (now (s .entry)) at ⌝ }
+{
+    let Item8::Is(b, next) = read8(s, at) else {
+        return Measured::Refused(CUT_SHORT, at);
+    };
+    if MATRIX <= b {
+        return matrix_at(&*s, at, next, b - MATRIX);
+    }
+    match pass_value(&*s, at, LEVELS, VARIANT) {
+        Reached::Refused(number, place) => Measured::Refused(number, place),
+        Reached::To(end) => described(s, at, end),
+    }
+}
+
 // A Variant at a position.
 pub fn measure_variant(s: &[u8], at: usize) -> Measured
     ensures { λ r. ⌜ answerMeasured r ≡ variantAt (now (s .entry)) at ⌝ }
@@ -119,10 +180,7 @@ pub fn measure_variant(s: &[u8], at: usize) -> Measured
     if at < end {
         return Measured::Scalar(s[at], end);
     }
-    match pass_value(&*s, at, LEVELS, VARIANT) {
-        Reached::Refused(number, place) => Measured::Refused(number, place),
-        Reached::To(end) => described(s, at, end),
-    }
+    measure_other(&*s, at)
 }
 
 // A DataValue at a position.

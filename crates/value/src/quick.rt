@@ -4,7 +4,7 @@
 // the time of a scalar, a fifteenth of that of mixed values; of the look, half of the time of Strings and arrays, and of DataValues.
 use crate::Measured;
 use crate::measure_data_value;
-use crate::measure_variant;
+use crate::measure_other;
 use plain_value::parts::parts_width;
 use plain_value::width::width;
 use wire::Item8;
@@ -223,7 +223,7 @@ fn plain_variant(s: &[u8], at: usize) -> Plain
     Plain::Not
 }
 
-// A Variant at a position: in one look where it tells, else by `measure_variant`. It has one caller, so that it is put in line there.
+// A Variant at a position: in one look where it tells, else by `measure_other`. It has one caller, so that it is put in line there.
 pub fn variant_in_line(s: &[u8], at: usize) -> Measured
     ensures { λ r. ⌜ answerMeasured r ≡ variantAt (now (s .entry)) at ⌝ }
 {
@@ -231,7 +231,7 @@ pub fn variant_in_line(s: &[u8], at: usize) -> Measured
         Plain::Scalar(t, end) => Measured::Scalar(t, end),
         Plain::NullArray(t, end) => Measured::NullArray(t, end),
         Plain::Array(t, end, n) => Measured::Array(t, end, n),
-        Plain::Not => measure_variant(&*s, at),
+        Plain::Not => measure_other(&*s, at),
     }
 }
 

@@ -11,7 +11,7 @@ use Rattle.wire.specs.declared.Length.{Length}
 use Rattle.wire.proofs.Reading.{not-got, invert}
 use Rattle.plain_value.specs.Plain.{passing, plain, plainValue, plainValues, afterLength, byLength}
 use Rattle.plain_value.specs.Parts.{parts}
-use Rattle.value.specs.Value.{Measure, measure, typeOf, isArray, variantRule, maskRule, scalar, elements, arrayOf, array, variantOf, dataValueOf, valueOf, valueAt}
+use Rattle.value.specs.Value.{Measure, measure, typeOf, isArray, hasDimensions, variantRule, maskRule, scalar, elements, arrayOf, array, dimensioned, matrixOf, matrix, variantOf, dataValueOf, valueOf, valueAt}
 use Rattle.value.specs.declared.Shape.{Shape}
 
 -- what r accepts, q accepts alike
@@ -75,11 +75,24 @@ module _ (f g : ℕ → Reader Measure) (more : (t : ℕ) → Keeps (f t) (g t))
       keeps-length (pure (measure t Shape.NullArray)) (arrayOf f t) (arrayOf g t)
       (λ n. keeps-then (elements f t n) (elements g t n) (pure (measure t (Shape.Array n))) (pure (measure t (Shape.Array n))) (elements-keeps t n) (same (pure (measure t (Shape.Array n)))))
 
+  matrix-keeps : (t : ℕ) → Keeps (matrix f t) (matrix g t)
+  unfolding matrix
+  matrix-keeps t =
+      keeps-length (dimensioned t 0) (matrixOf f t) (matrixOf g t)
+      (λ n. keeps-then (elements f t n) (elements g t n) (dimensioned t n) (dimensioned t n) (elements-keeps t n) (same (dimensioned t n)))
+
+  -- arrays, with dimensions and without
+  arrays-keep : (b : ℕ) → Keeps (cond (hasDimensions b) (matrix f (typeOf b)) (array f (typeOf b))) (cond (hasDimensions b) (matrix g (typeOf b)) (array g (typeOf b)))
+  arrays-keep b =
+      keeps-cond (hasDimensions b) (matrix f (typeOf b)) (matrix g (typeOf b)) (array f (typeOf b)) (array g (typeOf b)) (matrix-keeps (typeOf b)) (array-keeps (typeOf b))
+
   variant-keeps : (b : ℕ) → Keeps (variantOf f b) (variantOf g b)
   variant-keeps b =
-      keeps-cond (eqb (typeOf b) 0) (pure (measure 0 Shape.Scalar)) (pure (measure 0 Shape.Scalar)) (cond (isArray b) (array f (typeOf b)) (scalar f (typeOf b)))
-      (cond (isArray b) (array g (typeOf b)) (scalar g (typeOf b))) (same (pure (measure 0 Shape.Scalar)))
-      (keeps-cond (isArray b) (array f (typeOf b)) (array g (typeOf b)) (scalar f (typeOf b)) (scalar g (typeOf b)) (array-keeps (typeOf b)) (scalar-keeps (typeOf b)))
+      keeps-cond (eqb (typeOf b) 0) (pure (measure 0 Shape.Scalar)) (pure (measure 0 Shape.Scalar))
+      (cond (isArray b) (cond (hasDimensions b) (matrix f (typeOf b)) (array f (typeOf b))) (scalar f (typeOf b)))
+      (cond (isArray b) (cond (hasDimensions b) (matrix g (typeOf b)) (array g (typeOf b))) (scalar g (typeOf b))) (same (pure (measure 0 Shape.Scalar)))
+      (keeps-cond (isArray b) (cond (hasDimensions b) (matrix f (typeOf b)) (array f (typeOf b))) (cond (hasDimensions b) (matrix g (typeOf b)) (array g (typeOf b)))
+      (scalar f (typeOf b)) (scalar g (typeOf b)) (arrays-keep b) (scalar-keeps (typeOf b)))
 
   data-value-keeps : (m : ℕ) → Keeps (dataValueOf f m) (dataValueOf g m)
   data-value-keeps m =

@@ -14,8 +14,8 @@ use Rattle.wire.specs.Items.{lengthOf, lengthItem}
 use Rattle.wire.proofs.Reading.{got-value, got-next, not-got, invert}
 use Rattle.wire_writer.proofs.Back.{ruled-back}
 use Rattle.plain_value.specs.Width.{widthOf}
-use Rattle.plain_value.specs.Plain.{passing, bytes, afterLength, string, lengthFirst, plain, plainValue}
-use Rattle.value.specs.Value.{Measure, measure, typeOf, isArray, variantRule, scalar, arrayOf, array, variantOf, valueAt}
+use Rattle.plain_value.specs.Plain.{passing, bytes, afterLength, string, lengthFirst, text, plain, plainValue}
+use Rattle.value.specs.Value.{Measure, measure, typeOf, isArray, hasDimensions, variantRule, scalar, arrayOf, array, dimensioned, matrixOf, matrix, variantOf, valueAt}
 use Rattle.value.specs.declared.Shape.{Shape}
 use Rattle.value_parts.specs.Told.{isCounted}
 
@@ -74,12 +74,18 @@ array-there nested t s at q =
     let i = invert (lengthItem s at) (λ l next. afterLength (pure (measure t Shape.NullArray)) (arrayOf nested t) at l s next) q in
     there 4 s at (lengthOf (signed 4 (le 4 s at))) (i .2) .1
 
+matrix-there : (nested : ℕ → Reader Measure) (t : ℕ) (s : List ℕ) (at : ℕ) {m : Measure} {e : ℕ} → matrix nested t s at ≡ got m e → at + 4 ≤ length s
+unfolding matrix
+matrix-there nested t s at q =
+    let i = invert (lengthItem s at) (λ l next. afterLength (dimensioned t 0) (matrixOf nested t) at l s next) q in
+    there 4 s at (lengthOf (signed 4 (le 4 s at))) (i .2) .1
+
 twelve-there : (nested : ℕ → Reader Measure) (s : List ℕ) (at : ℕ) {m : Measure} {e : ℕ} → scalar nested 12 s at ≡ got m e → at + 4 ≤ length s
-unfolding scalar plain plainValue widthOf
+unfolding scalar plain plainValue text widthOf
 twelve-there nested s at h = string-there s at (invert (string s at) (λ x last. got (measure 12 Shape.Scalar) last) h .2)
 
 fifteen-there : (nested : ℕ → Reader Measure) (s : List ℕ) (at : ℕ) {m : Measure} {e : ℕ} → scalar nested 15 s at ≡ got m e → at + 4 ≤ length s
-unfolding scalar plain plainValue widthOf
+unfolding scalar plain plainValue text widthOf
 fifteen-there nested s at h = string-there s at (invert (string s at) (λ x last. got (measure 15 Shape.Scalar) last) h .2)
 
 text-there : (nested : ℕ → Reader Measure) (t : ℕ) (s : List ℕ) (at : ℕ) {m : Measure} {e : ℕ} → lengthFirst t ≡ true → scalar nested t s at ≡ got m e → at + 4 ≤ length s
@@ -97,13 +103,15 @@ scalar-is nested t s at q =
 
 -- an accepted Variant that has a length or count has these 4 bytes after its first
 pub counted-there : (levels : ℕ) (s : List ℕ) (at : ℕ) {m : Measure} {e : ℕ} → valueAt (suc levels) 24 s at ≡ got m e → isCounted (m .kind) (m .shape) ≡ true → at + 1 + 4 ≤ length s
-counted-there levels s at {m} {e} q c = let f = first-of levels s at q in go (f .b) (eqb (typeOf (f .b)) 0) (isArray (f .b)) (f .rest)
+counted-there levels s at {m} {e} q c = let f = first-of levels s at q in go (f .b) (eqb (typeOf (f .b)) 0) (isArray (f .b)) (hasDimensions (f .b)) (f .rest)
   where
-    go : (b : ℕ) (x y : Bool)
-        → cond x (λ z p. got (measure 0 Shape.Scalar) p) (cond y (array (valueAt levels) (typeOf b)) (scalar (valueAt levels) (typeOf b))) s (at + 1) ≡ got m e
+    go : (b : ℕ) (x y z : Bool)
+        → cond x (λ z p. got (measure 0 Shape.Scalar) p)
+        (cond y (cond z (matrix (valueAt levels) (typeOf b)) (array (valueAt levels) (typeOf b))) (scalar (valueAt levels) (typeOf b))) s (at + 1) ≡ got m e
         → at + 1 + 4 ≤ length s
-    go b true y h = absurd (false≢true (subst (λ (k : Measure). isCounted (k .kind) (k .shape) ≡ true) (sym (got-value h)) c))
-    go b false true h = array-there (valueAt levels) (typeOf b) s (at + 1) h
-    go b false false h =
+    go b true y z h = absurd (false≢true (subst (λ (k : Measure). isCounted (k .kind) (k .shape) ≡ true) (sym (got-value h)) c))
+    go b false true true h = matrix-there (valueAt levels) (typeOf b) s (at + 1) h
+    go b false true false h = array-there (valueAt levels) (typeOf b) s (at + 1) h
+    go b false false z h =
         text-there (valueAt levels) (typeOf b) s (at + 1)
         (subst (λ (k : Measure). isCounted (k .kind) (k .shape) ≡ true) (sym (scalar-is (valueAt levels) (typeOf b) s (at + 1) h)) c) h

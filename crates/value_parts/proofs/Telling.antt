@@ -7,12 +7,11 @@ use mathlib.Core.Logic.{_⊎_, inl, inr}
 use Prim.Native.Nat.{ℕ, zero, suc, _%_, _<_}
 use native.Mathlib.Omega.{arith}
 use borrow.Author.Tests.{eq-eqb, ne-eqb}
-use Rattle.wire.specs.Answer.{Answer, got, refused, Reader, andThen, each, bit}
+use Rattle.wire.specs.Answer.{Answer, got, refused, Reader, andThen, bit}
 use Rattle.wire.proofs.Reading.{not-got}
 use Rattle.plain_value.specs.Width.{widthOf, fixed}
-use Rattle.plain_value.specs.Plain.{passing, bytes, string, lengthFirst}
+use Rattle.plain_value.specs.Plain.{passing, bytes, string, text, lengthFirst}
 use Rattle.plain_value.proofs.Passing.{passed, unpassed}
-use Rattle.plain_value.proofs.PartLaws.{then-none}
 use Rattle.value.specs.Value.{Measure, measure, rawAt}
 use Rattle.value.specs.declared.Shape.{Shape}
 use Rattle.value.proofs.FirstItems.{raw-is, fixed-first}
@@ -23,10 +22,11 @@ pub or-none : (b : Bool) → b ≡ (b || false)
 or-none true = refl
 or-none false = refl
 
--- one String is a String
-pub one-string : (s : List ℕ) (at : ℕ) → each string 1 s at ≡ string s at
-unfolding each
-one-string s at = sym (then-none (string s at))
+-- a value of type 12 is a String, and so is one of type 15
+pub text-string : (t : ℕ) → (t ≡ 12) ⊎ (t ≡ 15) → (s : List ℕ) (at : ℕ) → text t s at ≡ string s at
+unfolding text
+text-string t (inl z) s at = ap (λ (k : ℕ). text k s at) z
+text-string t (inr z) s at = ap (λ (k : ℕ). text k s at) z
 
 -- ---- RawData
 

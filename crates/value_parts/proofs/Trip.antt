@@ -80,8 +80,8 @@ module _ (s : List ℕ) (m b : ℕ) (h : b < 256) (a : At s m (leBytes 1 b)) whe
       let fits : m + 1 ≤ length s = omega (arith, x .0) in
       rw (le-leb (m + 1) (length s) fits, le-at 1 b m h s a)
 
-  by-units : {e : ℕ} → 0 < unitOf b → units (unitOf b) s (m + 1) ≡ got tt e → variantAt s m ≡ describedAt e s m
-  by-units some q = let x = byte-there s m b h a in described-is s m (units-variant s m b (x .0) (x .1) some ∙ q)
+  by-units : {e : ℕ} → b < 192 → 0 < unitOf b → units (unitOf b) s (m + 1) ≡ got tt e → variantAt s m ≡ describedAt e s m
+  by-units low some q = let x = byte-there s m b h a in described-is s m item-there low (units-variant s m b (x .0) (x .1) some ∙ q)
 
 -- the units of an array of a fixed type, and of a String
 array-unit : (t : ℕ) → unitOf (t + 128) ≡ widthOf t
@@ -111,7 +111,7 @@ module _ (s : List ℕ) (m t : ℕ) (small : t < 64) where
         let u = array-unit t in
         let x = array-first t small in
         let big : t + 128 < 256 = omega arith in
-        by-units s m (t + 128) big a {e = e} (rw u (ltb-true 0 (widthOf t) f)) (rw u q) ∙ rw (item-there s m (t + 128) big a, x .array, x .type)
+        by-units s m (t + 128) big a {e = e} (omega arith) (rw u (ltb-true 0 (widthOf t) f)) (rw u q) ∙ rw (item-there s m (t + 128) big a, x .array, x .type)
 
   -- Strings
   module _ (l : lengthFirst t ≡ true) (a : At s m (leBytes 1 t)) where
@@ -120,7 +120,7 @@ module _ (s : List ℕ) (m t : ℕ) (small : t < 64) where
         let u = text-unit t l in
         let x = scalar-first t small in
         let big : t < 256 = omega arith in
-        by-units s m t big a {e = e} (rw u (omega arith)) (rw u q) ∙ rw (item-there s m t big a, x .no-array, x .type)
+        by-units s m t big a {e = e} (omega arith) (rw u (omega arith)) (rw u q) ∙ rw (item-there s m t big a, x .no-array, x .type)
 
   -- scalars of a fixed type
   scalar-is : fixed t ≡ true → (b : List ℕ) → length b ≡ widthOf t → At s m (leBytes 1 t ++ b) → variantAt s m ≡ got (measure t Shape.Scalar) (m + widthOf t + 1)
@@ -254,7 +254,8 @@ module _ (s : List ℕ) (m t : ℕ) (b : List ℕ) (small : t < 64) (short : len
           let e1 : m + 1 ≡ m + length (headBytes t Form.Null (length b)) = omega (arith, l .0) in
           let e : m + 1 ≡ m + length (variantBytes t Form.Null b) = omega (arith, l .1, z) in
           told-from s m t Form.Null b
-          (described-is s m (null-variant s m (x .0) (sym (x .1) ∙ eqb-true t 0 ek)) ∙ rw (item-there s m t big p, sf .no-array, sf .type)) (rw (ey, ek)) (here ey ∙ e1) e
+          (described-is s m (item-there s m t big p) (omega arith) (null-variant s m (x .0) (sym (x .1) ∙ eqb-true t 0 ek)) ∙ rw (item-there s m t big p, sf .no-array, sf .type))
+          (rw (ey, ek)) (here ey ∙ e1) e
       go false false ey false ek q = absurd (omega (arith, q))
 
   any-trip : (f : Form) → formRule t f (length b) ≡ 0 → At s m (variantBytes t f b) → Told s m t f b

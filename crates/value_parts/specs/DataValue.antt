@@ -3,7 +3,7 @@ use Prim.Native.Nat.{ℕ}
 use mathlib.Core.Bool.{Bool, true, false, cond}
 use Rattle.wire.specs.Answer.{Answer, got, refused, Reader, _>>=_, _>>_, here, pure, ruled, whenOn, bit, mapAnswer}
 use Rattle.plain_value.specs.Plain.{bytes}
-use Rattle.value.specs.Value.{Measure, measure, maskRule}
+use Rattle.value.specs.Value.{Measure, measure, maskRule, INSIDE}
 use Rattle.value.specs.declared.Shape.{Shape}
 use Rattle.value_parts.specs.declared.told.ValueParts.{ValueParts}
 use Rattle.value_parts.specs.declared.data_value.Placed.{Placed}
@@ -20,10 +20,6 @@ placedAt on w = whenOn on 0 (here >>= λ place. bytes w >> pure place)
 -- no Variant: told as a null one of no bytes
 abbrev pub noVariantAt : Reader ValueParts
 noVariantAt s at = got (record { kind = 0; shape = Shape.Scalar; width = 0; null = true; first = at; end = at }) at
-
--- the levels left inside a field's own value: "a Variant or DataValue inside another lies one level deeper"
-abbrev pub INSIDE : ℕ
-INSIDE = 99
 
 -- after the mask's Variant, which is told as v and stands at the place p, "1 status 4, 2 source time 8, 4 source picoseconds 2, 3 server
 -- time 8, 5 server picoseconds 2"

@@ -1,3 +1,4 @@
 pub mod Told
+pub mod Name
 pub mod DataValue
 pub mod Put

@@ -9,7 +9,7 @@ use Rattle.wire.specs.Answer.{Answer, got, refused, Reader, andThen, _>>_, each
 use Rattle.wire.specs.Items.{lengthItem}
 use Rattle.wire.specs.declared.Length.{Length}
 use Rattle.plain_value.specs.Width.{widthOf, fixed}
-use Rattle.plain_value.specs.Plain.{lengthFirst, string}
+use Rattle.plain_value.specs.Plain.{lengthFirst, string, named, text}
 use Rattle.value.specs.Value.{Measure, measure, valueAt, rawAt}
 use Rattle.value.specs.declared.Shape.{Shape}
 use Rattle.value_parts.specs.declared.told.ValueParts.{ValueParts}
@@ -33,12 +33,14 @@ abbrev pub isCounted : ℕ → Shape → Bool
 isCounted t Shape.Scalar = lengthFirst t
 isCounted t Shape.NullArray = true
 isCounted t (Shape.Array n) = true
+isCounted t (Shape.Matrix n d) = true
 
 -- null is a null String or ByteString, by the length at `at`; "Type 0 is null"; a null array
 abbrev pub isNull : List ℕ → ℕ → ℕ → Shape → Bool
 isNull s at t Shape.Scalar = cond (lengthFirst t) (saysNull (lengthItem s at)) (eqb t 0)
 isNull s at t Shape.NullArray = true
 isNull s at t (Shape.Array n) = false
+isNull s at t (Shape.Matrix n d) = false
 
 -- A value of type and shape m, whose items after a Variant's first byte start at `at`, and which ends at `end`: the value itself, of an
 -- array its elements, stands after its length or count.
@@ -71,18 +73,25 @@ toldStringAt t s at =
     andThen (string s at) (λ x end.
     got (record { kind = t; shape = Shape.Scalar; width = 0; null = saysNull (lengthItem s at); first = at + 4; end = end }) end)
 
--- element k of an array of n Strings or ByteStrings, from the first element's position: "k at or past the count .. is 10"; the elements
--- before it are passed over
+-- a QualifiedName or LocalizedText alone
+abbrev pub toldNameAt : ℕ → Reader ValueParts
+toldNameAt t s at =
+    andThen (text t s at) (λ x end.
+    got (record { kind = t; shape = Shape.Scalar; width = 0; null = false; first = at; end = end }) end)
+
+-- element k of an array of n Strings, ByteStrings, QualifiedNames or LocalizedTexts, from the first element's position: "k at or past the
+-- count .. is 10"; the elements before it are passed over
 abbrev pub toldElementAt : ℕ → ℕ → ℕ → Reader ValueParts
-toldElementAt t n k s at = cond (leb n k) (refused OVER_LIMIT 0) ((each string k >> toldStringAt t) s at)
+toldElementAt t n k s at = cond (leb n k) (refused OVER_LIMIT 0) ((each (text t) k >> cond (named t) (toldNameAt t) (toldStringAt t)) s at)
 
 -- what is told of a value's type and shape
 abbrev pub measureOf : ValueParts → Measure
 measureOf p = measure (p .kind) (p .shape)
 
--- The value itself fills the bytes from `first` up to `end`: a scalar of a fixed type its width, an array so many elements, what is null
--- none.
+-- The value itself fills the bytes from `first` up to `end`: a scalar of a fixed type its width, an array so many elements, one with
+-- dimensions then its dimensions list, what is null none.
 pub record Filled (p : ValueParts) : Type 0 where
   pub scalar : fixed (p .kind) ≡ true → p .shape ≡ Shape.Scalar → p .end ≡ p .first + p .width
   pub array : (n : ℕ) → fixed (p .kind) ≡ true → p .shape ≡ Shape.Array n → p .end ≡ p .first + n * p .width
+  pub matrix : (n d : ℕ) → fixed (p .kind) ≡ true → p .shape ≡ Shape.Matrix n d → p .end ≡ p .first + n * p .width + (4 + 4 * d)
   pub null : p .null ≡ true → p .end ≡ p .first

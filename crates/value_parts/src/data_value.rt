@@ -16,8 +16,8 @@ ghost use mathlib.Core.Path.{_≡_};
 ghost use mathlib.Core.Bool.{true};
 ghost use Rattle.wire.specs.Constants.{VARIANT};
 ghost use Rattle.wire.specs.Answer.{bit, mapAnswer};
-ghost use Rattle.value.specs.Value.{valueAt, dataValueAt};
-ghost use Rattle.value_parts.specs.DataValue.{INSIDE, isGot, placedAt, toldPartsAt, toldAfterMaskAt, toldDataValueAt};
+ghost use Rattle.value.specs.Value.{INSIDE, valueAt, dataValueAt};
+ghost use Rattle.value_parts.specs.DataValue.{isGot, placedAt, toldPartsAt, toldAfterMaskAt, toldDataValueAt};
 ghost use Rattle.value_parts.specs.DataValue.{aloneParts, toldFieldAt, answerPlaced, answerFieldTold};
 ghost use Rattle.value_parts.specs.Told.{answerTold, toldElementAt};
 
@@ -135,6 +135,7 @@ pub fn tell_data_value(s: &[u8], at: usize) -> FieldTold
         Measured::Scalar(_, _) => tell_accepted(s, at),
         Measured::NullArray(_, _) => tell_accepted(s, at),
         Measured::Array(_, _, _) => tell_accepted(s, at),
+        Measured::Matrix(_, _, _, _) => tell_accepted(s, at),
     }
 }
 
@@ -169,8 +170,8 @@ pub fn tell_field(s: &[u8], at: usize, encoding: Encoding, t: u8) -> FieldTold
     }
 }
 
-// Element k of an array of n Strings or ByteStrings of type t, whose first element stands at a position, as a field's value: k at or past n
-// is 10.
+// Element k of an array of n Strings, ByteStrings or names of type t, whose first element stands at a position, as a field's value: k at or
+// past n is 10.
 pub fn tell_text(s: &[u8], at: usize, t: u8, n: usize, k: usize) -> FieldTold
     ensures { λ r. ⌜ answerFieldTold r ≡ mapAnswer aloneParts (toldElementAt t n k (now (s .entry)) at) ⌝ }
 {

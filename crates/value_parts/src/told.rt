@@ -1,5 +1,8 @@
 // A Variant, an element of RawData, a String or ByteString told apart.
-use plain_value::plain::strings_at;
+use plain_value::plain::LOCALIZED_TEXT;
+use plain_value::plain::QUALIFIED_NAME;
+use plain_value::plain::text_at;
+use plain_value::plain::texts_at;
 use plain_value::width::width;
 use value::Measured;
 use value::Shape;
@@ -13,15 +16,18 @@ ghost use mathlib.Core.Path.{_≡_};
 ghost use Prim.Native.Nat.{_+_};
 ghost use Rattle.wire.specs.Answer.{got};
 ghost use Rattle.wire.specs.Items.{lengthItem};
-ghost use Rattle.plain_value.specs.Plain.{lengthFirst};
+ghost use Rattle.plain_value.specs.Plain.{lengthFirst, named};
 ghost use Rattle.value.specs.Value.{measure, variantAt};
 ghost use Rattle.value.specs.declared.Shape.{Shape};
 ghost use Rattle.value_parts.specs.Told.{answerTold, saysNull, isCounted, partsFrom};
-ghost use Rattle.value_parts.specs.Told.{toldVariantAt, toldRawAt, toldStringAt, toldElementAt};
+ghost use Rattle.value_parts.specs.Told.{toldVariantAt, toldRawAt, toldStringAt, toldNameAt, toldElementAt};
+
+// The type of a String.
+pub(crate) const STRING: u8 = 12;
 
 // What a value is told apart into: its type number and shape; the bytes of an element of a fixed type, 0 for any other type; whether it is
 // null (a null Variant, String, ByteString or array); and the value itself, of an array its elements, of a String its bytes: from `first`
-// up to `end`, where the whole value ends.
+// up to `end`, where the whole value ends, or up to the dimensions list before it.
 pub struct ValueParts {
     pub kind: u8,
     pub shape: Shape,
@@ -45,6 +51,16 @@ pub fn is_text(t: u8) -> bool
         return true;
     }
     t == 15
+}
+
+// Whether a type is QualifiedName or LocalizedText.
+fn is_name(t: u8) -> bool
+    ensures { λ r. ⌜ r ≡ named t ⌝ }
+{
+    if t == QUALIFIED_NAME {
+        return true;
+    }
+    t == LOCALIZED_TEXT
 }
 
 // Whether the length at a position is null.
@@ -118,6 +134,22 @@ fn array_parts(s: &[u8], at: usize, t: u8, end: usize, n: usize) -> ValueParts
     }
 }
 
+// The parts of an accepted array of n elements of type t and d dimensions, which starts at `at` and ends at `end`.
+fn matrix_parts(s: &[u8], at: usize, t: u8, end: usize, n: usize, d: u32) -> ValueParts
+    requires { ⌜ variantAt (now s) at ≡ got (measure t (Shape.Matrix n d)) end ⌝ }
+    ensures { λ r. ⌜ r ≡ partsFrom (now (s .entry)) (at + 1) (measure t (Shape.Matrix n d)) end ⌝ }
+{
+    let items = at + 1;
+    ValueParts {
+        kind: t,
+        shape: Shape::Matrix(n, d),
+        width: width(t),
+        null: false,
+        first: items + 4,
+        end,
+    }
+}
+
 // A Variant at a position.
 pub fn tell_variant(s: &[u8], at: usize) -> Told
     ensures { λ r. ⌜ answerTold r ≡ toldVariantAt (now (s .entry)) at ⌝ }
@@ -126,6 +158,7 @@ pub fn tell_variant(s: &[u8], at: usize) -> Told
         Measured::Scalar(t, end) => Told::Is(scalar_parts(s, at, t, end)),
         Measured::NullArray(t, end) => Told::Is(null_array_parts(s, at, t, end)),
         Measured::Array(t, end, n) => Told::Is(array_parts(s, at, t, end, n)),
+        Measured::Matrix(t, end, n, d) => Told::Is(matrix_parts(s, at, t, end, n, d)),
         Measured::Refused(number, place) => Told::Refused(number, place),
     }
 }
@@ -151,7 +184,7 @@ pub fn tell_raw(s: &[u8], at: usize, t: u8) -> Told
 pub fn tell_string(s: &[u8], at: usize, t: u8) -> Told
     ensures { λ r. ⌜ answerTold r ≡ toldStringAt t (now (s .entry)) at ⌝ }
 {
-    match strings_at(s, at, 1) {
+    match text_at(s, at, STRING) {
         Reached::Refused(number, place) => Told::Refused(number, place),
         Reached::To(end) => Told::Is(ValueParts {
             kind: t,
@@ -164,16 +197,38 @@ pub fn tell_string(s: &[u8], at: usize, t: u8) -> Told
     }
 }
 
-// Element k of an array of n Strings or ByteStrings, whose first element stands at a position: k at or past n is 10. The elements before
-// it are passed over, so this takes as long as they are many.
+// A QualifiedName or LocalizedText alone at a position.
+fn tell_alone(s: &[u8], at: usize, t: u8) -> Told
+    ensures { λ r. ⌜ answerTold r ≡ toldNameAt t (now (s .entry)) at ⌝ }
+{
+    match text_at(s, at, t) {
+        Reached::Refused(number, place) => Told::Refused(number, place),
+        Reached::To(end) => Told::Is(ValueParts {
+            kind: t,
+            shape: Shape::Scalar,
+            width: 0,
+            null: false,
+            first: at,
+            end,
+        }),
+    }
+}
+
+// Element k of an array of n Strings, ByteStrings, QualifiedNames or LocalizedTexts, whose first element stands at a position: k at or past
+// n is 10. The elements before it are passed over, so this takes as long as they are many.
 pub fn tell_element(s: &[u8], at: usize, t: u8, n: usize, k: usize) -> Told
     ensures { λ r. ⌜ answerTold r ≡ toldElementAt t n k (now (s .entry)) at ⌝ }
 {
     if n <= k {
         return Told::Refused(OVER_LIMIT, 0);
     }
-    match strings_at(s, at, k) {
+    match texts_at(s, at, t, k) {
         Reached::Refused(number, place) => Told::Refused(number, place),
-        Reached::To(p) => tell_string(s, p, t),
+        Reached::To(p) => {
+            if is_name(t) {
+                return tell_alone(s, p, t);
+            }
+            tell_string(s, p, t)
+        }
     }
 }

@@ -13,7 +13,12 @@ use lib.Seq.{sets, sets-eq, length-sets, drop-drop, length-take-le}
 use Rattle.wire_writer.specs.Store.{laid}
 use Rattle.records.specs.Numbers.{numberBytes}
 use Rattle.records.proofs.Storing.{bytes-length}
-use Rattle.walk_records.specs.Walk.{recordLaid, recordsPut}
+use Rattle.value.specs.Value.{dimensionsOf}
+use Rattle.dataset_fields.specs.declared.fields.Field.{Field}
+use Rattle.network_message.specs.declared.payload.MessagePlace.{MessagePlace}
+use Rattle.message_record.specs.Message.{shapeNumber, elementsNumber}
+use Rattle.walk.specs.Lines.{inDatagram}
+use Rattle.walk_records.specs.Walk.{fieldRecord, recordLaid, recordsPut}
 
 -- a record of 10 numbers that does not fit, and one that is put into its part of the buffer
 pub record-none : (xs l : List ℕ) (k : ℕ) → length xs ≡ 10 → length l / 80 ≤ k → l ≡ laid l (80 * k) (numberBytes xs)
@@ -96,3 +101,8 @@ put-last [] x l k j n h = refl
 put-last (y ∷ ys) x l k j n h =
     let z : 80 * k + length (numberBytes x) ≤ 80 * j = omega (arith, bytes-length x) in
     put-last ys x (recordLaid j y l) k (j + 1) n (omega arith) ∙ ap (recordsPut (j + 1) ys) (sym (laid-apart (numberBytes x) (numberBytes y) l (80 * k) (80 * j) z))
+
+-- the numbers of a field's record, as the code computes them
+pub field-as : (p : MessagePlace) (f : Field) {shape elements dimensions : ℕ} → shape ≡ shapeNumber (f .shape) → elements ≡ elementsNumber (f .shape) → dimensions ≡ dimensionsOf (f .shape)
+    → (0 ∷ p .index ∷ f .index ∷ f .kind ∷ shape ∷ elements ∷ (p .offset + f .offset) ∷ f .length ∷ dimensions ∷ 0 ∷ []) ≡ fieldRecord (p .index) (inDatagram p f)
+field-as p f e1 e2 e3 = rw (sym e1, sym e2, sym e3)

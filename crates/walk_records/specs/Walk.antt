@@ -20,6 +20,7 @@ use Rattle.walk.specs.declared.entry.SetPlace.{SetPlace}
 use Rattle.walk.specs.declared.entry.Line.{Line}
 use Rattle.walk.specs.declared.lines.Listed.{Listed}
 use Rattle.records.specs.Numbers.{numberBytes}
+use Rattle.value.specs.Value.{dimensionsOf}
 use Rattle.message_record.specs.Message.{shapeNumber, elementsNumber}
 use Rattle.walk_records.specs.declared.Walked.{Walked}
 
@@ -33,7 +34,9 @@ orNone (Optional16.Is v) = v
 
 -- a field of message m, whose offset counts in the datagram
 abbrev pub fieldRecord : ℕ → Field → List ℕ
-fieldRecord m f = 0 ∷ m ∷ f .index ∷ f .kind ∷ shapeNumber (f .shape) ∷ elementsNumber (f .shape) ∷ f .offset ∷ f .length ∷ 0 ∷ 0 ∷ []
+fieldRecord m f =
+    0 ∷ m ∷ f .index ∷ f .kind ∷ shapeNumber (f .shape) ∷ elementsNumber (f .shape) ∷ f .offset ∷ f .length ∷ dimensionsOf (f .shape) ∷ 0
+    ∷ []
 
 -- a message: what it is, three numbers that depend on it, and one that only a refused message has
 abbrev pub messageRecord : SetPlace → ℕ → ℕ → ℕ → ℕ → ℕ → List ℕ

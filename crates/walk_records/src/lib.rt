@@ -26,6 +26,7 @@ use network_message::writer_id::writer_id;
 use records::numbers::put_numbers;
 use records::sizes::WALK_SIZE;
 use value::Shape;
+use value::dimensions;
 use wire::Reached;
 use wire::optional::Optional16;
 use wire::part::part;
@@ -91,7 +92,7 @@ fn put_field(out: &mut [u8], k: usize, p: MessagePlace, f: Field)
         elements_number(shape),
         (p.offset + f.offset) as u64,
         f.length as u64,
-        0,
+        dimensions(shape) as u64,
         0,
     ];
     put_record(out, k, &numbers);

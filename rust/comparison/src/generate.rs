@@ -1,5 +1,5 @@
 //! Inputs made from a seed: configuration texts, datagrams, messages, values, chunks, and damages of them.
-use crate::reference::value::{width, BYTE_STRING, DATA_VALUE, STRING, VARIANT};
+use crate::reference::value::{width, BYTE_STRING, DATA_VALUE, LOCALIZED_TEXT, QUALIFIED_NAME, STRING, VARIANT};
 
 /// The fixed types.
 pub const FIXED: [u8; 14] = [1, 2, 3, 4, 5, 6, 7, 8, 9, 10, 11, 13, 14, 19];
@@ -155,6 +155,9 @@ fn many_lines(random: &mut Random) -> Vec<u8> {
 
 /// Puts a Variant that nests at most `levels` deep.
 pub fn variant(random: &mut Random, out: &mut Vec<u8>, levels: usize) {
+    if random.one_in(6) {
+        return named_or_matrix(random, out, levels);
+    }
     match random.below(if levels > 1 { 12 } else { 9 }) {
         0 => out.push(0),
         1..=3 => {
@@ -200,6 +203,66 @@ fn array_length(random: &mut Random, out: &mut Vec<u8>) -> usize {
     let count = random.pick(&[0, 1, 1, 2, 2, 3, 4, 7]);
     out.extend((count as i32).to_le_bytes());
     count
+}
+
+/// Puts a name, an array of names, or any array with a dimensions list, good or at the edge of a rule.
+fn named_or_matrix(random: &mut Random, out: &mut Vec<u8>, levels: usize) {
+    match random.below(4) {
+        0 => {
+            let kind = random.pick(&[QUALIFIED_NAME, LOCALIZED_TEXT]);
+            out.push(kind);
+            name(random, out, kind);
+        }
+        1 => {
+            let kind = random.pick(&[QUALIFIED_NAME, LOCALIZED_TEXT]);
+            out.push(0x80 | kind);
+            (0..array_length(random, out)).for_each(|_| name(random, out, kind));
+        }
+        _ => matrix(random, out, levels),
+    }
+}
+
+fn name(random: &mut Random, out: &mut Vec<u8>, kind: u8) {
+    if kind == QUALIFIED_NAME {
+        out.extend(random.bytes(2));
+        return string(random, out);
+    }
+    let mask = if random.one_in(30) { random.below(256) as u8 } else { random.below(4) as u8 };
+    out.push(mask);
+    (0..(mask & 3).count_ones()).for_each(|_| string(random, out));
+}
+
+/// Puts an array with dimensions, mostly such that their product is its number of elements.
+fn matrix(random: &mut Random, out: &mut Vec<u8>, levels: usize) {
+    let kind = match random.below(if levels > 1 { 8 } else { 5 }) {
+        0..=2 => random.pick(&FIXED),
+        3 => random.pick(&[STRING, BYTE_STRING]),
+        4 => random.pick(&[QUALIFIED_NAME, LOCALIZED_TEXT]),
+        5 => DATA_VALUE,
+        _ => VARIANT,
+    };
+    let rank = random.pick(&[0, 1, 1, 2, 2, 2, 3, 3, 4, 9]);
+    let mut sizes: Vec<i32> = (0..rank).map(|_| random.pick(&[1, 1, 2, 2, 3, 4])).collect();
+    let count = sizes.iter().product::<i32>().min(300);
+    out.push(0xc0 | kind);
+    out.extend(if random.one_in(20) { (-1_i32).to_le_bytes() } else { count.to_le_bytes() });
+    let null = out.ends_with(&(-1_i32).to_le_bytes());
+    for _ in 0..if null { 0 } else { count } {
+        match kind {
+            STRING | BYTE_STRING => string(random, out),
+            QUALIFIED_NAME | LOCALIZED_TEXT => name(random, out, kind),
+            DATA_VALUE => data_value(random, out, levels - 1),
+            VARIANT => variant(random, out, levels - 1),
+            _ => out.extend(random.bytes(width(kind).unwrap_or(0))),
+        }
+    }
+    if random.one_in(6) && !sizes.is_empty() {
+        let k = random.below(sizes.len());
+        sizes[k] = random.pick(&[0, -1, i32::MIN, i32::MAX, 1 << 30, 65_536, 2, 5]);
+    }
+    let listed = if random.one_in(20) { random.pick(&[-1, -2, 0, i32::MAX]) } else { rank };
+    out.extend(listed.to_le_bytes());
+    sizes.iter().for_each(|size| out.extend(size.to_le_bytes()));
 }
 
 fn string(random: &mut Random, out: &mut Vec<u8>) {

@@ -6,7 +6,7 @@ use crate::reference::network::{Envelope, Group, MessagePlace, PayloadHeader, Pu
 use crate::reference::network_writer::{HeaderPart, Parts};
 use crate::reference::probe::{self, Probe};
 use crate::reference::reassembly::{KeptId, Record};
-use crate::reference::told::Told;
+use crate::reference::told::{Name, Told};
 use crate::reference::value::Shape;
 use crate::reference::Result;
 
@@ -224,7 +224,16 @@ pub(crate) const fn shape_numbers(shape: Shape) -> (u64, u64) {
 /// A field record.
 pub fn field(field: &Field) -> [u64; FIELD_SIZE / 8] {
     let (shape, count) = shape_numbers(field.value.shape);
-    [field.value.kind.into(), shape, count, field.index as u64, field.offset as u64, field.length as u64, 0, 0]
+    [
+        field.value.kind.into(),
+        shape,
+        count,
+        field.index as u64,
+        field.offset as u64,
+        field.length as u64,
+        field.value.dimensions as u64,
+        0,
+    ]
 }
 
 /// A walk record.
@@ -268,8 +277,8 @@ fn walk_message(found: &MessagePlace, read: &Result<Option<Message>>, front: Opt
 }
 
 fn walk_field(message: &MessagePlace, found: &Field) -> Walked {
-    let [kind, shape, count, index, offset, length, ..] = field(found);
-    [0, message.number as u64, index, kind, shape, count, message.offset as u64 + offset, length, 0, 0]
+    let [kind, shape, count, index, offset, length, dimensions, _] = field(found);
+    [0, message.number as u64, index, kind, shape, count, message.offset as u64 + offset, length, dimensions, 0]
 }
 
 /// The header that any message head record stands for.
@@ -434,6 +443,10 @@ pub fn value(told: &Told) -> [u64; VALUE_SIZE / 8] {
     (record[4], record[5]) = (told.first as u64, (told.last - told.first) as u64);
     (record[6], record[7], record[8]) = (told.null.into(), told.end as u64, told.mask.into());
     record[9..15].copy_from_slice(&told.places.map(|place| place as u64));
+    (record[15], record[16]) = (told.dimensions as u64, told.sizes as u64);
+    let Name { number, locale, text } = told.name;
+    record[17] = number.into();
+    record[18..22].copy_from_slice(&[locale.0, locale.1, text.0, text.1].map(|number| number as u64));
     record
 }
 

@@ -48,7 +48,7 @@ fn raw(told: &mut impl Told, message: &[u8], mut at: usize, types: &[u8]) -> Res
         if length > message.len() - at {
             return Err(Number::CutShort.at(at));
         }
-        told.field(Field { value: Value { kind, shape: Shape::Scalar }, index, offset: at, length });
+        told.field(Field { value: Value::scalar(kind), index, offset: at, length });
         at += length;
     }
     Ok(at)
@@ -102,7 +102,8 @@ fn plain(bytes: &[u8], at: usize) -> Option<(Value, usize)> {
         (0, 0) if kind == STRING || kind == BYTE_STRING => (Shape::Scalar, 4 + length(rest)?.unwrap_or(0)),
         _ => return None,
     };
-    (length <= rest.len()).then_some((Value { kind, shape }, at + 1 + length))
+    let dimensions = usize::from(shape != Shape::Scalar);
+    (length <= rest.len()).then_some((Value { kind, shape, dimensions }, at + 1 + length))
 }
 
 /// A length: none for null, and nothing for one that is refused.
@@ -135,7 +136,7 @@ const fn parts() -> [u8; 32] {
 #[inline(always)]
 fn data_value(message: &[u8], at: usize) -> Result<(Value, usize)> {
     let end = plain_data_value(message, at).map_or_else(|| nested_data_value(message, at), Ok)?;
-    Ok((Value { kind: DATA_VALUE, shape: Shape::Scalar }, end))
+    Ok((Value::scalar(DATA_VALUE), end))
 }
 
 #[inline(always)]
@@ -170,7 +171,8 @@ impl Told for Records<'_> {
     fn field(&mut self, field: Field) {
         let (shape, count) = shape_numbers(field.value.shape);
         let (index, offset) = (field.index as u64, self.offset + field.offset as u64);
-        self.records.push([0, self.number, index, field.value.kind.into(), shape, count, offset, field.length as u64, 0, 0]);
+        let (length, dimensions) = (field.length as u64, field.value.dimensions as u64);
+        self.records.push([0, self.number, index, field.value.kind.into(), shape, count, offset, length, dimensions, 0]);
     }
 }
 
@@ -287,7 +289,7 @@ impl Told for Lines<'_> {
             Shape::NullArray => self.out.extend_from_slice(b"\t-1"),
             Shape::Array(count) => put_numbers(self.out, [count]),
         }
-        put_numbers(self.out, [self.offset + field.offset, field.length]);
+        put_numbers(self.out, [self.offset + field.offset, field.length, field.value.dimensions]);
         self.out.push(b'\n');
     }
 }

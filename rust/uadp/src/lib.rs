@@ -76,7 +76,7 @@ pub use partial::{marks_size, Chunk, Partial};
 pub use probe::{Information, Probe, ProbeBuilder, ProbeIds, ProbeStrings, Strings};
 pub use refusal::{Reason, Refusal};
 pub use sequence::{LastSequence, Newness};
-pub use told::Value;
+pub use told::{LocalizedText, QualifiedName, Value};
 pub use value::{Shape, Type, Values};
 pub use walk::walk;
 pub use write::{Chunks, DatagramBuilder, MessageBuilder};

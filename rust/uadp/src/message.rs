@@ -197,6 +197,8 @@ pub struct Field<'a> {
     pub value_type: Type,
     /// Whether it is an array.
     pub shape: Shape,
+    /// How many dimensions it has: 0 for a scalar and for every DataValue, 1 for a plain array.
+    pub dimensions: usize,
     /// How its bytes are encoded.
     pub encoding: Encoding,
     /// Where its value starts, counted in what was read: the message, or in a [`walk`](crate::walk()) the datagram.
@@ -221,6 +223,7 @@ impl<'a> Field<'a> {
             index: place(record, field::INDEX),
             value_type: Type::from_number(number(record, field::TYPE) as u8),
             shape: Shape::of(record, field::SHAPE, field::ELEMENTS),
+            dimensions: place(record, field::DIMENSIONS),
             encoding,
             offset,
             bytes: &message[offset..][..place(record, field::LENGTH)],

@@ -112,6 +112,7 @@ pub mod field {
     pub const INDEX: usize = 3;
     pub const OFFSET: usize = 4;
     pub const LENGTH: usize = 5;
+    pub const DIMENSIONS: usize = 6;
 }
 
 /// Numbers of a walk record.
@@ -125,6 +126,7 @@ pub mod walked {
     pub const TYPE: usize = 3;
     pub const SHAPE: usize = 4;
     pub const ELEMENTS: usize = 5;
+    pub const DIMENSIONS: usize = 8;
     /// Of a message; of a refused one `KIND` and `ENCODING` are the refusal's number and place, `SEQUENCE` is how many of its fields
     /// follow, and `FIELDS_ENCODING` their encoding.
     pub const WRITER: usize = 2;
@@ -167,6 +169,13 @@ pub mod told {
     pub const SOURCE_PICOSECONDS: usize = 12;
     pub const SERVER_TIME: usize = 13;
     pub const SERVER_PICOSECONDS: usize = 14;
+    pub const DIMENSIONS: usize = 15;
+    pub const SIZES: usize = 16;
+    pub const NAME: usize = 17;
+    pub const LOCALE: usize = 18;
+    pub const LOCALE_LENGTH: usize = 19;
+    pub const TEXT: usize = 20;
+    pub const TEXT_LENGTH: usize = 21;
 }
 
 /// Numbers of a chunk record.

@@ -4,6 +4,24 @@ use crate::record::{number, place, told};
 use crate::{Encoding, Refusal, Shape, Type};
 use core::fmt;
 
+/// A name qualified by a namespace.
+#[derive(Clone, Copy, Debug, PartialEq, Eq)]
+pub struct QualifiedName<'a> {
+    /// The index of its namespace.
+    pub namespace_index: u16,
+    /// The name's bytes; `None` where it is null.
+    pub name: Option<&'a [u8]>,
+}
+
+/// A text with its locale.
+#[derive(Clone, Copy, Debug, PartialEq, Eq)]
+pub struct LocalizedText<'a> {
+    /// The locale's bytes; `None` where it is absent or null.
+    pub locale: Option<&'a [u8]>,
+    /// The text's bytes; `None` where it is absent or null.
+    pub text: Option<&'a [u8]>,
+}
+
 /// A value told apart, over the bytes that it stands in. Nothing is copied, and no bit is touched: a Float is its four bytes.
 ///
 /// ```
@@ -158,10 +176,60 @@ impl<'a> Value<'a> {
         bytes.chunks_exact(N.max(1)).map(|element| *element.first_chunk().unwrap_or(&[0; N]))
     }
 
-    /// Element k of an array of Strings or ByteStrings; the elements before it are passed over.
+    /// How many dimensions it has: 0 for a scalar, 1 for a plain array.
+    pub fn dimensions(&self) -> usize {
+        place(&self.record, told::DIMENSIONS)
+    }
+
+    /// Each dimension of an array; that of a plain array is its number of elements, and a null array's is 0.
+    ///
+    /// ```
+    /// use uadp::{Encoding, Type, Value};
+    ///
+    /// let bytes = [0xC3, 6, 0, 0, 0, 1, 2, 3, 4, 5, 6, 2, 0, 0, 0, 2, 0, 0, 0, 3, 0, 0, 0]; // two rows of three Bytes
+    /// let value = Value::read(&bytes, Encoding::Variant, Type::NULL)?;
+    /// assert_eq!(value.sizes().collect::<Vec<_>>(), [2, 3]);
+    /// assert_eq!(value.bytes(), [1, 2, 3, 4, 5, 6]);
+    /// # Ok::<(), uadp::Refusal>(())
+    /// ```
+    pub fn sizes(&self) -> impl Iterator<Item = usize> + 'a {
+        let (bytes, listed) = (self.bytes, place(&self.record, told::SIZES));
+        let elements = place(&self.record, told::ELEMENTS);
+        (0..self.dimensions()).map(move |k| match listed {
+            0 => elements,
+            _ => bytes[listed + 4 * k..].first_chunk().map_or(0, |size| u32::from_le_bytes(*size) as usize),
+        })
+    }
+
+    fn string(&self, place_at: usize, length_at: usize) -> Option<&'a [u8]> {
+        let start = Some(place(&self.record, place_at)).filter(|start| *start > 0)?;
+        self.bytes.get(start..)?.get(..place(&self.record, length_at))
+    }
+
+    fn is_scalar(&self, kind: Type) -> bool {
+        self.shape() == Shape::Scalar && self.value_type() == kind
+    }
+
+    /// A QualifiedName.
+    pub fn as_qualified_name(&self) -> Option<QualifiedName<'a>> {
+        self.is_scalar(Type::QUALIFIED_NAME).then(|| QualifiedName {
+            namespace_index: number(&self.record, told::NAME) as u16,
+            name: self.string(told::TEXT, told::TEXT_LENGTH),
+        })
+    }
+
+    /// A LocalizedText.
+    pub fn as_localized_text(&self) -> Option<LocalizedText<'a>> {
+        self.is_scalar(Type::LOCALIZED_TEXT).then(|| LocalizedText {
+            locale: self.string(told::LOCALE, told::LOCALE_LENGTH),
+            text: self.string(told::TEXT, told::TEXT_LENGTH),
+        })
+    }
+
+    /// Element k of an array of Strings, ByteStrings, QualifiedNames or LocalizedTexts; the elements before it are passed over.
     pub fn text(&self, k: usize) -> Option<Self> {
         let (Shape::Array(count), kind) = (self.shape(), self.value_type()) else { return None };
-        if ![Type::STRING, Type::BYTE_STRING].contains(&kind) {
+        if ![Type::STRING, Type::BYTE_STRING, Type::QUALIFIED_NAME, Type::LOCALIZED_TEXT].contains(&kind) {
             return None;
         }
         let (mut record, first) = ([0; VALUE_SIZE], self.first() as u64);

@@ -8,7 +8,7 @@ use core::fmt;
 pub struct Type(u8);
 
 /// The types with their names.
-const NAMES: [(Type, &str); 19] = [
+const NAMES: [(Type, &str); 21] = [
     (Type::NULL, "Null"),
     (Type::BOOLEAN, "Boolean"),
     (Type::SBYTE, "SByte"),
@@ -26,6 +26,8 @@ const NAMES: [(Type, &str); 19] = [
     (Type::GUID, "Guid"),
     (Type::BYTE_STRING, "ByteString"),
     (Type::STATUS_CODE, "StatusCode"),
+    (Type::QUALIFIED_NAME, "QualifiedName"),
+    (Type::LOCALIZED_TEXT, "LocalizedText"),
     (Type::DATA_VALUE, "DataValue"),
     (Type::VARIANT, "Variant"),
 ];
@@ -65,6 +67,10 @@ impl Type {
     pub const BYTE_STRING: Self = Self(15);
     /// 4 bytes.
     pub const STATUS_CODE: Self = Self(19);
+    /// A namespace index and a name.
+    pub const QUALIFIED_NAME: Self = Self(20);
+    /// A text with its locale, either of which may be absent.
+    pub const LOCALIZED_TEXT: Self = Self(21);
     /// A value with status and times; every field of a message in DataValue encoding.
     pub const DATA_VALUE: Self = Self(23);
     /// Only in arrays.
@@ -111,7 +117,7 @@ pub enum Shape {
     Scalar,
     /// An array that is null.
     NullArray,
-    /// An array of so many elements.
+    /// An array of so many elements, in all its dimensions together.
     Array(usize),
 }
 

@@ -129,6 +129,7 @@ impl<'a> Entries<'a, '_> {
                 index: place(record, walked::INDEX),
                 value_type: Type::from_number(number(record, walked::TYPE) as u8),
                 shape: Shape::of(record, walked::SHAPE, walked::ELEMENTS),
+                dimensions: place(record, walked::DIMENSIONS),
                 encoding: self.encoding,
                 offset,
                 bytes,

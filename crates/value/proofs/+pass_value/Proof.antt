@@ -17,7 +17,7 @@ use Rattle.value.proofs.pass_value.Reads as pass-value
 use Rattle.value.proofs.pass_value.Kinds as pass-value-kinds
 use Rattle.value.proofs.+pass_value.Lts-pass_value as pass-value-lts
 use Rattle.value.proofs.head.head_at.Reads as head-at-reads
-use Rattle.plain_value.proofs.parts.parts_at.Reads as parts-at-reads
+use Rattle.value.proofs.head.pass_rest.Reads as pass-rest-reads
 use Rattle.value.proofs.too_deep.Reads as too-deep-reads
 use Rattle.value.proofs.+pass_value.{statement}
 use Rattle.value.proofs.+pass_value.Tie.{close}
@@ -34,13 +34,13 @@ pass-value-below t =
     and 1 pass-value-kinds.ps (falls 1 pass-value-kinds.ps _<_ μ-pass-value t) pass-value.Pre
 
 abbrev pass-value-claims : ℕ → pass-value-lts.Claims
-pass-value-claims t = (too-deep-reads.Asked, too-deep-reads.Learnt, head-at-reads.Asked, head-at-reads.Learnt, pass-value-below t, pass-value.Post, parts-at-reads.Asked, parts-at-reads.Learnt)
+pass-value-claims t = (too-deep-reads.Asked, too-deep-reads.Learnt, head-at-reads.Asked, head-at-reads.Learnt, pass-value-below t, pass-value.Post, pass-rest-reads.Asked, pass-rest-reads.Learnt)
 
 abbrev pass-value-Inv-loop : pass-value-lts.InvT-loop
-pass-value-Inv-loop s at levels t from count inner mask p₀ left₀ p left = each (valueAt (levels - 1) inner) left₀ s p₀ ≡ each (valueAt (levels - 1) inner) left s p
+pass-value-Inv-loop s at levels t from count inner after p₀ left₀ p left = each (valueAt (levels - 1) inner) left₀ s p₀ ≡ each (valueAt (levels - 1) inner) left s p
 
 abbrev pass-value-μ-loop : pass-value-lts.MeasureT-loop
-pass-value-μ-loop s at levels t from count inner mask p₀ left₀ p left = left
+pass-value-μ-loop s at levels t from count inner after p₀ left₀ p left = left
 
 pass-value-returns : (t : ℕ) → pass-value-lts.Need-returns (pass-value-claims t) (pass-value-at t) pass-value.Post pass-value-Inv-loop pass-value-μ-loop
 pass-value-returns t c =
@@ -103,7 +103,7 @@ pass-value-returns-5 t c =
     let a = args in
     let l = at-loop .loop in
     inside-ends (valueAt (a .levels - 1)) (now (a .s)) (at-from .from .given .0 .0) (at-from .from .given .0 .1 .0)
-    (at-from .from .given .0 .1 .1 .0) (at-from .from .given .0 .1 .1 .1 .0) (l .inv ∙ each-done (valueAt _ _) _ (l .left) (l .p) (at-loop-test .loop-test .left)) (c .parts-at .ensures)
+    (at-from .from .given .0 .1 .1 .0) (at-from .from .given .0 .1 .1 .1 .0) (l .inv ∙ each-done (valueAt _ _) _ (l .left) (l .p) (at-loop-test .loop-test .left)) (c .pass-rest .ensures)
     ∙ by-head (a .levels) (a .t) (now (a .s)) (a .at) (at-if1 .if1 .left) (at-head-at .head-at .ensures (valueAt (a .levels - 1))) (at-from .from .given .1)
 
 pub +pass-value-spec : {M : Type 1} → statement M

@@ -5,7 +5,7 @@ use crate::reference;
 use crate::reference::config::Config;
 use crate::reference::message::{Field, Header, Message};
 use crate::reference::network::{Envelope, Group, MessagePlace, PublisherId};
-use crate::reference::value::Shape;
+use crate::reference::value::{Shape, LOCALIZED_TEXT, QUALIFIED_NAME};
 use crate::reference::{listing, message, message_writer, network, network_writer, told};
 use uadp::walk::{Entries, Entry, Outcome, Record};
 use uadp::{Chunks, DatagramBuilder, Information, MessageBuilder, Probe, ProbeBuilder, Refusal, Strings, Values, MOST_DATAGRAM};
@@ -321,8 +321,27 @@ fn same_field(found: &uadp::Field, expected: &Field) -> bool {
         Shape::Array(count) => uadp::Shape::Array(count),
     };
     (found.index, found.offset, found.bytes.len()) == (expected.index, expected.offset, expected.length)
-        && (found.value_type.number(), found.shape) == (expected.value.kind, shape)
+        && (found.value_type.number(), found.shape, found.dimensions) == (expected.value.kind, shape, expected.value.dimensions)
         && same_value(found)
+}
+
+/// A name's parts.
+fn same_name(value: &uadp::Value, expected: &told::Told, bytes: &[u8]) -> bool {
+    let string = |(start, length): (usize, usize)| (start > 0).then(|| &bytes[start..][..length]);
+    let scalar = |kind| expected.shape == Shape::Scalar && expected.kind == kind;
+    let (locale, text) = (string(expected.name.locale), string(expected.name.text));
+    let name = uadp::QualifiedName { namespace_index: expected.name.number, name: text };
+    value.as_qualified_name() == scalar(QUALIFIED_NAME).then_some(name)
+        && value.as_localized_text() == scalar(LOCALIZED_TEXT).then_some(uadp::LocalizedText { locale, text })
+}
+
+/// An array's dimensions.
+fn same_sizes(value: &uadp::Value, expected: &told::Told, bytes: &[u8]) -> bool {
+    let elements = if let Shape::Array(count) = expected.shape { count } else { 0 };
+    let listed =
+        |k| bytes[expected.sizes + 4 * k..].iter().take(4).rev().fold(0, |number, byte| number << 8 | usize::from(*byte));
+    let size = |k| if expected.sizes == 0 { elements } else { listed(k) };
+    value.dimensions() == expected.dimensions && value.sizes().eq((0..expected.dimensions).map(size))
 }
 
 /// A field's value told apart: what it is, its bytes and elements, and a DataValue's other parts.
@@ -338,6 +357,8 @@ fn same_value(found: &uadp::Field) -> bool {
     let width = Some(expected.width).filter(|width| *width > 0);
     (value.value_type().number(), value.is_null(), value.width()) == (expected.kind, expected.null, width)
         && (value.first(), value.end(), value.bytes()) == (expected.first, expected.end, bytes)
+        && same_name(&value, &expected, found.bytes)
+        && same_sizes(&value, &expected, found.bytes)
         && (expected.width != 4 || value.elements::<4>().flatten().eq(bytes.iter().copied()))
         && value.status().map(u64::from) == part(status, 4)
         && value.source_time().map(|time| time as u64) == part(source_time, 8)

@@ -5,7 +5,7 @@ use crate::generate::{self, Random};
 use crate::record::{self, bytes_of, VALUE_SIZE};
 use crate::reference::chunk::LONGEST_PAYLOAD;
 use crate::reference::told::{self, Told};
-use crate::reference::value::{Shape, BYTE_STRING, STRING};
+use crate::reference::value::{Shape, BYTE_STRING, LOCALIZED_TEXT, QUALIFIED_NAME, STRING};
 use crate::reference::{Number, Result};
 use uadp::ffi;
 
@@ -18,7 +18,7 @@ fn kind(random: &mut Random) -> u32 {
     match random.below(8) {
         0 => random.edge() as u32,
         1 => random.below(64) as u32,
-        _ => random.pick(&[0, 1, 2, 3, 4, 5, 6, 7, 8, 9, 10, 11, 12, 13, 14, 15, 19, 23, 24]),
+        _ => random.pick(&[0, 1, 2, 3, 4, 5, 6, 7, 8, 9, 10, 11, 12, 13, 14, 15, 19, 20, 21, 23, 24]),
     }
 }
 
@@ -41,7 +41,7 @@ pub fn value(tally: &mut Tally, random: &mut Random) {
     let call = |area: &mut [u8]| ffi::value(&bytes, at, encoding, kind, area);
     judge_filled(tally, random, "value", VALUE_SIZE, filling(&expected), &input, call);
     match expected {
-        Ok(Told { kind: STRING | BYTE_STRING, shape: Shape::Array(count), first, .. }) => {
+        Ok(Told { kind: STRING | BYTE_STRING | QUALIFIED_NAME | LOCALIZED_TEXT, shape: Shape::Array(count), first, .. }) => {
             elements(tally, random, &bytes, first, count as u64);
         }
         _ if random.one_in(10) => {

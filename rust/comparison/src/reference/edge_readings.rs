@@ -2,7 +2,7 @@
 use super::config::Config;
 use super::reassembly::{Partial, Record};
 use super::sequence::{judge, Newness};
-use super::value::{variant, Shape, Value, LEVELS};
+use super::value::{variant, Value, LEVELS};
 use super::wire::Reader;
 use super::{chunk, listing, message, message_writer, network, network_writer, Number, Refusal, Result};
 use crate::record;
@@ -13,7 +13,7 @@ const EXAMPLE: [u8; 20] =
 #[test]
 fn example_lists() {
     let expected = "net\t20\tu16\t4711\t1\nset\t0\t21\t7\t13\tkey\tvariant\t5\n\
-                    field\t0\t0\t5\t-\t12\t3\nfield\t0\t1\t10\t-\t15\t5\n";
+                    field\t0\t0\t5\t-\t12\t3\t0\nfield\t0\t1\t10\t-\t15\t5\t0\n";
     assert_eq!(listing::list(&EXAMPLE, &Config::default()), expected);
 }
 
@@ -59,10 +59,27 @@ fn measure(bytes: &[u8]) -> Result<(Value, usize)> {
 
 #[test]
 fn v1_to_v3() {
-    assert_eq!(measure(&[0]), Ok((Value { kind: 0, shape: Shape::Scalar }, 1)));
-    let null_array = Value { kind: 5, shape: Shape::NullArray };
+    assert_eq!(measure(&[0]), Ok((Value::scalar(0), 1)));
+    let null_array = Value::array(5, None);
     assert_eq!(measure(&[0x85, 0xFF, 0xFF, 0xFF, 0xFF]), Ok((null_array, 5)));
     assert_eq!(measure(&[0x18]), Err(Number::NotPermitted.at(0)));
+}
+
+/// Six Bytes, and the dimensions list that is given.
+fn six_bytes(list: &[i32]) -> Vec<u8> {
+    let mut bytes = vec![0xC3, 6, 0, 0, 0, 1, 2, 3, 4, 5, 6];
+    bytes.extend(list.iter().flat_map(|number| number.to_le_bytes()));
+    bytes
+}
+
+#[test]
+fn matrices() {
+    let two_by_three = Value { dimensions: 2, ..Value::array(3, Some(6)) };
+    assert_eq!(measure(&six_bytes(&[2, 2, 3])), Ok((two_by_three, 23)));
+    assert_eq!(measure(&six_bytes(&[2, 2, 2])), Err(Number::Disagree.at(15)));
+    assert_eq!(measure(&six_bytes(&[2, 2, 0])), Err(Number::BadLength.at(15)));
+    assert_eq!(measure(&six_bytes(&[0])), Err(Number::BadLength.at(11)));
+    assert_eq!(measure(&six_bytes(&[2, 2, 3])[..18]), Err(Number::CutShort.at(15)));
 }
 
 /// Takes in two chunks of 3 bytes, at 0 and 2, of a payload of 5.

@@ -121,5 +121,5 @@ fn put_set(out: &mut String, datagram: &[u8], config: &Config, place: MessagePla
 fn put_field(out: &mut String, place: MessagePlace, field: Field) -> fmt::Result {
     let Field { value, index, offset, length } = field;
     let offset = place.offset + offset;
-    writeln!(out, "field\t{}\t{index}\t{}\t{}\t{offset}\t{length}", place.number, value.kind, value.shape)
+    writeln!(out, "field\t{}\t{index}\t{}\t{}\t{offset}\t{length}\t{}", place.number, value.kind, value.shape, value.dimensions)
 }

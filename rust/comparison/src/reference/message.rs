@@ -1,5 +1,5 @@
 //! The DataSetMessage: its header, and a cursor over its fields.
-use super::value::{data_value, variant, width, Shape, Value, DATA_VALUE, LEVELS};
+use super::value::{data_value, variant, width, Value, DATA_VALUE, LEVELS};
 use super::wire::Reader;
 use super::{Number, Result};
 
@@ -163,14 +163,14 @@ pub fn field_value(reader: &mut Reader, encoding: Encoding, kind: Option<u8>) ->
         Encoding::Variant => variant(reader, LEVELS),
         Encoding::DataValue => {
             data_value(reader, LEVELS)?;
-            Ok(Value { kind: DATA_VALUE, shape: Shape::Scalar })
+            Ok(Value::scalar(DATA_VALUE))
         }
         Encoding::RawData => {
             // Only a made-up cursor or configuration leads to a field without a type, or without a fixed one.
             let kind = kind.ok_or(Number::NotConfigured.nowhere())?;
             let width = width(kind).ok_or(Number::NotTaken.at(reader.position()))?;
             reader.take(width)?;
-            Ok(Value { kind, shape: Shape::Scalar })
+            Ok(Value::scalar(kind))
         }
     }
 }

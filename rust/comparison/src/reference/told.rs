@@ -1,5 +1,5 @@
 //! Values told apart: what they are, and where their elements and parts stand; and Variants put from their elements.
-use super::value::{self, Shape, Value, BYTE_STRING, DATA_VALUE, LEVELS, STRING, VARIANT};
+use super::value::{self, Shape, Value, BYTE_STRING, DATA_VALUE, LEVELS, LOCALIZED_TEXT, QUALIFIED_NAME, STRING, VARIANT};
 use super::wire::{Reader, Writer};
 use super::{Number, Result};
 
@@ -17,12 +17,55 @@ pub struct Told {
     pub mask: u8,
     /// Variant, status, source time, source picoseconds, server time, server picoseconds.
     pub places: [usize; 6],
+    pub dimensions: usize,
+    /// Where a dimensions list's dimensions stand, else 0.
+    pub sizes: usize,
+    pub name: Name,
+}
+
+/// A QualifiedName's index or a LocalizedText's mask, and its Strings: where each starts and how long it is, zeros where it is absent or
+/// null.
+#[derive(Clone, Copy, Debug, Default)]
+pub struct Name {
+    pub number: u16,
+    pub locale: (usize, usize),
+    pub text: (usize, usize),
+}
+
+/// The name that stands at a position of bytes where it was accepted.
+fn name(bytes: &[u8], at: usize, kind: u8) -> Result<Name> {
+    let mut reader = Reader::starting_at(bytes, at);
+    let (number, strings) = match kind {
+        QUALIFIED_NAME => (reader.u16()?, [false, true]),
+        LOCALIZED_TEXT => reader.u8().map(|mask| (mask.into(), [mask & 1 != 0, mask & 2 != 0]))?,
+        _ => return Ok(Name::default()),
+    };
+    let mut string = |present: bool| match present.then(|| reader.length()).transpose()?.flatten() {
+        Some(length) => Ok((reader.position(), reader.take(length)?.len())),
+        None => Ok((0, 0)),
+    };
+    let [locale, text] = strings;
+    Ok(Name { number, locale: string(locale)?, text: string(text)? })
 }
 
 impl Told {
     fn alone(value: Value, null: bool, first: usize, end: usize) -> Self {
         let width = value::width(value.kind).unwrap_or(0);
-        Self { kind: value.kind, shape: value.shape, width, null, first, last: end, end, mask: 0, places: [0; 6] }
+        let (dimensions, name) = (value.dimensions, Name::default());
+        Self {
+            kind: value.kind,
+            shape: value.shape,
+            width,
+            null,
+            first,
+            last: end,
+            end,
+            mask: 0,
+            places: [0; 6],
+            dimensions,
+            sizes: 0,
+            name,
+        }
     }
 }
 
@@ -39,7 +82,13 @@ fn variant(bytes: &[u8], at: usize, levels: u32) -> Result<Told> {
         Shape::Scalar if !is_text(value.kind) => value.kind == 0,
         _ => items.length()?.is_none(),
     };
-    Ok(Told::alone(value, null, items.position(), reader.position()))
+    let told = Told::alone(value, null, items.position(), reader.position());
+    if bytes[at] & 0x40 != 0 {
+        let sizes = told.end - 4 * value.dimensions;
+        return Ok(Told { sizes, last: sizes - 4, ..told });
+    }
+    let name = if value.shape == Shape::Scalar { name(bytes, told.first, value.kind)? } else { Name::default() };
+    Ok(Told { name, ..told })
 }
 
 /// A part of a DataValue where its mask announces it: its place, 0 where it does not.
@@ -57,7 +106,7 @@ fn data_value(bytes: &[u8], at: usize) -> Result<Told> {
     if mask >= 64 {
         return Err(Number::NotPermitted.at(at));
     }
-    let none = Value { kind: 0, shape: Shape::Scalar };
+    let none = Value::scalar(0);
     let mut told = Told::alone(none, true, at + 1, at + 1);
     if mask % 2 == 1 {
         told = variant(bytes, at + 1, LEVELS - 1)?;
@@ -77,30 +126,32 @@ pub fn field(bytes: &[u8], at: usize, encoding: u32, kind: u32) -> Result<Told> 
             let kind = u8::try_from(kind).unwrap_or(0);
             let width = value::width(kind).ok_or(Number::NotTaken.at(at))?;
             Reader::starting_at(bytes, at).take(width)?;
-            Ok(Told::alone(Value { kind, shape: Shape::Scalar }, false, at, at + width))
+            Ok(Told::alone(Value::scalar(kind), false, at, at + width))
         }
         2 => data_value(bytes, at),
         _ => variant(bytes, at, LEVELS),
     }
 }
 
-/// Element k of an array of Strings or ByteStrings.
+/// Element k of an array of Strings, ByteStrings, QualifiedNames or LocalizedTexts.
 pub fn element(bytes: &[u8], at: usize, kind: u32, elements: u64, k: u64) -> Result<Told> {
     if k >= elements {
         return Err(Number::OverLimit.nowhere());
     }
     let mut reader = Reader::starting_at(bytes, at);
-    let mut left = k;
-    loop {
-        let length = reader.length()?;
-        let first = reader.position();
-        reader.take(length.unwrap_or(0))?;
-        if left == 0 {
-            let value = Value { kind: u8::try_from(kind).unwrap_or(0), shape: Shape::Scalar };
-            return Ok(Told { width: 0, ..Told::alone(value, length.is_none(), first, reader.position()) });
-        }
-        left -= 1;
+    let kind = u8::try_from(kind).unwrap_or(0);
+    for _ in 0..k {
+        value::text(&mut reader, kind)?;
     }
+    let (first, value) = (reader.position(), Value::scalar(kind));
+    if [QUALIFIED_NAME, LOCALIZED_TEXT].contains(&kind) {
+        value::text(&mut reader, kind)?;
+        return Ok(Told { name: name(bytes, first, kind)?, ..Told::alone(value, false, first, reader.position()) });
+    }
+    let length = reader.length()?;
+    let first = reader.position();
+    reader.take(length.unwrap_or(0))?;
+    Ok(Told { width: 0, ..Told::alone(value, length.is_none(), first, reader.position()) })
 }
 
 /// Which Variants are put, and the number by which others are refused; `array` also of a null one.
@@ -108,7 +159,7 @@ fn putable(kind: u32, array: bool) -> Result<u8> {
     let kind = u8::try_from(kind).unwrap_or(u8::MAX);
     match (kind, array) {
         (0, true) | (VARIANT, false) => Err(Number::NotPermitted.nowhere()),
-        (DATA_VALUE | VARIANT, _) => Err(Number::NotTaken.nowhere()),
+        (QUALIFIED_NAME | LOCALIZED_TEXT | DATA_VALUE | VARIANT, _) => Err(Number::NotTaken.nowhere()),
         (0, false) => Ok(kind),
         _ if is_text(kind) && !array => Ok(kind),
         _ => value::width(kind).map(|_| kind).ok_or(Number::NotTaken.nowhere()),

@@ -6,6 +6,8 @@ use super::{Number, Result};
 pub const LEVELS: u32 = 100;
 pub const STRING: u8 = 12;
 pub const BYTE_STRING: u8 = 15;
+pub const QUALIFIED_NAME: u8 = 20;
+pub const LOCALIZED_TEXT: u8 = 21;
 pub const DATA_VALUE: u8 = 23;
 pub const VARIANT: u8 = 24;
 
@@ -41,11 +43,23 @@ pub enum Shape {
     Array(usize),
 }
 
-/// The type number and shape of a value.
+/// The type number and shape of a value, and how many dimensions it has.
 #[derive(Clone, Copy, Debug, PartialEq, Eq)]
 pub struct Value {
     pub kind: u8,
     pub shape: Shape,
+    pub dimensions: usize,
+}
+
+impl Value {
+    pub const fn scalar(kind: u8) -> Self {
+        Self { kind, shape: Shape::Scalar, dimensions: 0 }
+    }
+
+    /// An array without a dimensions list: of so many elements, or null.
+    pub fn array(kind: u8, count: Option<usize>) -> Self {
+        Self { kind, shape: count.map_or(Shape::NullArray, Shape::Array), dimensions: 1 }
+    }
 }
 
 /// The first byte of a value with `levels` levels left: 1, then 9.
@@ -63,47 +77,76 @@ pub fn variant(reader: &mut Reader, levels: u32) -> Result<Value> {
     let place = reader.position();
     let first = first_byte(reader, levels)?;
     let (kind, array, dimensions) = (first & 0x3f, first & 0x80 != 0, first & 0x40 != 0);
-    if dimensions {
-        let number = if array { Number::NotTaken } else { Number::NotPermitted };
-        return Err(number.at(place));
+    let permitted = if array { kind != 0 } else { !dimensions && kind != VARIANT };
+    if !permitted {
+        return Err(Number::NotPermitted.at(place));
     }
-    match (kind, array) {
-        (0, false) => {}
-        (0, true) | (VARIANT, false) => return Err(Number::NotPermitted.at(place)),
-        (STRING | BYTE_STRING, false) => string(reader)?,
-        (DATA_VALUE, false) => data_value(reader, levels - 1)?,
-        (STRING | BYTE_STRING | DATA_VALUE | VARIANT, true) => return elements(reader, kind, levels),
-        _ => {
-            let width = width(kind).ok_or(Number::NotTaken.at(place))?;
-            if array {
-                return fixed_elements(reader, kind, width);
-            }
-            reader.take(width)?;
-        }
+    let is_text = [STRING, BYTE_STRING, QUALIFIED_NAME, LOCALIZED_TEXT].contains(&kind);
+    if !(is_text || [0, DATA_VALUE, VARIANT].contains(&kind) || width(kind).is_some()) {
+        return Err(Number::NotTaken.at(place));
     }
-    Ok(Value { kind, shape: Shape::Scalar })
+    if kind == 0 {
+        return Ok(Value::scalar(kind));
+    }
+    if !array {
+        elements(reader, kind, 1, levels)?;
+        return Ok(Value::scalar(kind));
+    }
+    let count = reader.length()?;
+    elements(reader, kind, count.unwrap_or(0), levels)?;
+    let plain = Value::array(kind, count);
+    if !dimensions {
+        return Ok(plain);
+    }
+    Ok(Value { dimensions: list(reader, count.unwrap_or(0))?, ..plain })
 }
 
-/// An array's length and its elements of a fixed width, which are one item.
-fn fixed_elements(reader: &mut Reader, kind: u8, width: usize) -> Result<Value> {
-    let Some(count) = reader.length()? else {
-        return Ok(Value { kind, shape: Shape::NullArray });
-    };
-    reader.take(count * width)?;
-    Ok(Value { kind, shape: Shape::Array(count) })
+/// So many values of a type: those of a fixed width are one item, others are items each.
+fn elements(reader: &mut Reader, kind: u8, count: usize, levels: u32) -> Result<()> {
+    if let Some(width) = width(kind) {
+        return reader.take(count * width).map(drop);
+    }
+    (0..count).try_for_each(|_| match kind {
+        VARIANT => variant(reader, levels - 1).map(drop),
+        DATA_VALUE => data_value(reader, levels - 1),
+        _ => text(reader, kind),
+    })
 }
 
-/// An array's length and its elements, which are items each.
-fn elements(reader: &mut Reader, kind: u8, levels: u32) -> Result<Value> {
-    let Some(count) = reader.length()? else {
-        return Ok(Value { kind, shape: Shape::NullArray });
-    };
+/// The dimensions list of an array of so many elements, a null one of none: how many dimensions there are.
+fn list(reader: &mut Reader, elements: usize) -> Result<usize> {
+    let place = reader.position();
+    let count = reader.length()?.filter(|count| *count > 0).ok_or(Number::BadLength.at(place))?;
+    let place = reader.position();
+    let sizes: Vec<i32> =
+        reader.take(4 * count)?.chunks(4).map(|size| i32::from_le_bytes([size[0], size[1], size[2], size[3]])).collect();
+    if sizes.iter().any(|size| *size < 1) {
+        return Err(Number::BadLength.at(place));
+    }
+    let product = sizes.iter().fold(1, |product: u128, size| product.saturating_mul(size.unsigned_abs().into()));
+    if product != elements as u128 {
+        return Err(Number::Disagree.at(place));
+    }
+    Ok(count)
+}
+
+/// A String or ByteString, a QualifiedName or a LocalizedText.
+pub(crate) fn text(reader: &mut Reader, kind: u8) -> Result<()> {
     match kind {
-        VARIANT => (0..count).try_for_each(|_| variant(reader, levels - 1).map(drop))?,
-        DATA_VALUE => (0..count).try_for_each(|_| data_value(reader, levels - 1))?,
-        _ => (0..count).try_for_each(|_| string(reader))?,
+        QUALIFIED_NAME => {
+            reader.u16()?;
+            string(reader)
+        }
+        LOCALIZED_TEXT => {
+            let place = reader.position();
+            let mask = reader.u8()?;
+            if mask > 3 {
+                return Err(Number::NotPermitted.at(place));
+            }
+            (0..mask.count_ones()).try_for_each(|_| string(reader))
+        }
+        _ => string(reader),
     }
-    Ok(Value { kind, shape: Shape::Array(count) })
 }
 
 /// A length and so many bytes.

@@ -14,7 +14,10 @@ returns-3 : tie.Need-returns-3
 returns-3 c = rw (c .before .before .m3 .given .1) (c .located3 .ensures)
 
 returns-4 : tie.Need-returns-4
-returns-4 c = rw (c .before .m4 .given .1)
+returns-4 c = rw (c .before .before .m4 .given .1) (c .located4 .ensures)
+
+returns-5 : tie.Need-returns-5
+returns-5 c = rw (c .before .m5 .given .1)
 
 pub measured-spec : {M : Type 1} → statement M
 measured-spec =
@@ -27,7 +30,10 @@ measured-spec =
     (λ c. search needs)
     (λ c κs. search needs)
     (λ c. search needs)
+    (λ c κs. search needs)
+    (λ c. search needs)
     returns
     returns-2
     returns-3
-    returns-4)
+    returns-4
+    returns-5)

@@ -12,7 +12,7 @@ returns c =
     let at-tell-text = at-fill-value .before in
     let at-type-of = at-tell-text .before in
     let args = at-type-of .before .before .before .before .args in
-    filled-as (now (args .value))
+    filled-as (now (args .bytes)) (now (args .value))
     (element-told (now (args .bytes)) (args .offset) (args .elements) (args .k) (args .kind) (at-type-of .type-of .ensures) (at-tell-text .tell-text .ensures)) (at-fill-value .fill-value .ensures)
 
 pub uadp-element-spec : {M : Type 1} → statement M

@@ -13,7 +13,7 @@ returns c =
     let at-type-of = at-tell-field .before in
     let at-encoding-of = at-type-of .before in
     let args = at-encoding-of .before .before .before .before .args in
-    filled-as (now (args .value))
+    filled-as (now (args .bytes)) (now (args .value))
     (field-told (now (args .bytes)) (args .offset) (args .encoding) (args .kind) (at-encoding-of .encoding-of .ensures) (at-type-of .type-of .ensures) (at-tell-field .tell-field .ensures))
     (at-fill-value .fill-value .ensures)
 

@@ -5,7 +5,7 @@ use Rattle.value.specs.Value.{array}
 use mathlib.Core.Path.{sym}
 use Rattle.wire.specs.Items.{answerLength}
 use Rattle.wire.proofs.Reading.{told}
-use Rattle.value.proofs.Lengths.{count-small}
+use Rattle.plain_value.proofs.Lengths.{count-small}
 use borrow.Author.Needs.{needs}
 use Rattle.value.proofs.head.array_head.Statement.{statement}
 use Rattle.value.proofs.head.array_head.Tie as tie

@@ -18,7 +18,8 @@ returns-2 c =
     let at-if1 = at-is-taken .before in
     let at-pre = at-if1 .before .before in
     let f = array-first (at-pre .args .t) (at-pre .pre) in
-    λ nested. rw (f .rule, sym (at-is-taken .is-taken .ensures) ∙ at-if2 .if2 .taken, ne-eqb _ _ (at-if1 .if1 .left), f .type, ne-eqb _ _ (at-if1 .if1 .left), f .array) (c .array-head .ensures nested)
+    λ nested. rw (f .rule, sym (at-is-taken .is-taken .ensures) ∙ at-if2 .if2 .taken, ne-eqb _ _ (at-if1 .if1 .left), f .type, ne-eqb _ _ (at-if1 .if1 .left), f .array, f .flat)
+    (c .array-head .ensures nested)
 
 returns-3 : tie.Need-returns-3
 returns-3 c =

@@ -30,4 +30,4 @@ returns-2 c =
 pub elements-head-spec : {M : Type 1} → statement M
 elements-head-spec =
     tie.close
-    (tie.spec (λ c κs. search needs) (λ c κs. search needs) (λ c κs. search needs) returns returns-2)
+    (tie.spec (λ c κs. search needs) (λ c κs. search needs) (λ c κs. search needs) returns (λ c. search needs) returns-2)

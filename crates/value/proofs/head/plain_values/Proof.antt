@@ -22,7 +22,7 @@ returns c =
 returns-2 : tie.Need-returns-2
 unfolding plainValues
 returns-2 c =
-    rw (sym (ap (ltb 0) (c .before .before .width .ensures .0)) ∙ le-ltb _ _ (c .before .if1 .left)) (c .strings-at .ensures)
+    rw (sym (ap (ltb 0) (c .before .before .width .ensures .0)) ∙ le-ltb _ _ (c .before .if1 .left)) (c .texts-at .ensures)
 
 pub plain-values-spec : {M : Type 1} → statement M
 plain-values-spec =

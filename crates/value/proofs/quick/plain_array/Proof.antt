@@ -7,7 +7,7 @@ use borrow.Author.Tests.{leb-true}
 use native.Mathlib.Nat.{mul-le-mul-left}
 use native.Mathlib.Omega.{arith}
 use mathlib.Core.Path.{sym, _∙_}
-use Rattle.value.proofs.Lengths.{count-small}
+use Rattle.plain_value.proofs.Lengths.{count-small}
 use Rattle.wire.specs.Items.{answerLength}
 use Rattle.wire.proofs.Reading.{told}
 use borrow.Author.Needs.{needs}

@@ -1,6 +1,6 @@
 -- `value::quick::units_end` meets its contract.
 -- Assumes nothing.
-use Rattle.value.proofs.Lengths.{count-small}
+use Rattle.plain_value.proofs.Lengths.{count-small}
 use Rattle.wire.proofs.Reading.{told}
 use Rattle.wire.specs.Items.{answerLength}
 use native.Mathlib.Omega.{arith}

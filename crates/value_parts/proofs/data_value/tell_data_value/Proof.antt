@@ -1,10 +1,10 @@
 -- `value_parts::data_value::tell_data_value` meets its contract.
 -- Assumes nothing.
-use Rattle.value_parts.proofs.Agreement.{got-is, data-value-refused}
-use Rattle.value.specs.Value.{answerMeasured}
-use Rattle.wire.proofs.Reading.{told}
-use denote.Ref.{now}
 use mathlib.Core.Path.{sym}
+use Rattle.wire.proofs.Reading.{told}
+use Rattle.value.specs.Value.{answerMeasured}
+use denote.Ref.{now}
+use Rattle.value_parts.proofs.Agreement.{got-is, data-value-refused}
 use borrow.Author.Needs.{needs}
 use Rattle.value_parts.proofs.data_value.tell_data_value.Statement.{statement}
 use Rattle.value_parts.proofs.data_value.tell_data_value.Tie as tie
@@ -20,6 +20,10 @@ tell-accepted-requires-2 c κs =
 tell-accepted-requires-3 : tie.Need-tell-accepted-requires-3
 tell-accepted-requires-3 c κs =
     got-is (sym (told answerMeasured (c .before .before .measure-data-value .ensures) (c .enum-told3 .given .1)))
+
+tell-accepted-requires-4 : tie.Need-tell-accepted-requires-4
+tell-accepted-requires-4 c κs =
+    got-is (sym (told answerMeasured (c .before .before .measure-data-value .ensures) (c .enum-told4 .given .1)))
 
 returns : tie.Need-returns
 returns c =
@@ -40,7 +44,10 @@ tell-data-value-spec =
     tell-accepted-requires-2
     (λ c. search needs)
     tell-accepted-requires-3
+    (λ c. search needs)
+    tell-accepted-requires-4
     returns
+    (λ c. search needs)
     (λ c. search needs)
     (λ c. search needs)
     (λ c. search needs))

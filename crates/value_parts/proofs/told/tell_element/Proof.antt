@@ -1,9 +1,9 @@
 -- `value_parts::told::tell_element` meets its contract.
 -- Assumes nothing.
-use Rattle.wire.specs.Items.{answerReached}
-use Rattle.wire.proofs.Reading.{told}
 use borrow.Author.Tests.{le-leb, lt-leb}
-use mathlib.Core.Path.{sym}
+use mathlib.Core.Path.{sym, _∙_}
+use Rattle.wire.proofs.Reading.{told}
+use Rattle.wire.specs.Items.{answerReached}
 use borrow.Author.Needs.{needs}
 use Rattle.value_parts.proofs.told.tell_element.Statement.{statement}
 use Rattle.value_parts.proofs.told.tell_element.Tie as tie
@@ -13,17 +13,28 @@ returns c = rw (le-leb _ _ (c .if1 .taken))
 
 returns-2 : tie.Need-returns-2
 returns-2 c =
-    let at-number = c .before in
-    let at-strings-at = at-number .before .before in
-    let at-if1 = at-strings-at .before in
-    rw (lt-leb _ _ (at-if1 .if1 .left), sym (told answerReached (at-strings-at .strings-at .ensures) (at-number .number .given .1)))
+    let at-if2 = c .before in
+    let at-is-name = at-if2 .before in
+    let at-p = at-is-name .before .before in
+    let at-texts-at = at-p .before .before in
+    let at-if1 = at-texts-at .before in
+    rw (lt-leb _ _ (at-if1 .if1 .left), sym (told answerReached (at-texts-at .texts-at .ensures) (at-p .p .given .1)), sym (at-is-name .is-name .ensures) ∙ at-if2 .if2 .taken) (c .tell-alone .ensures)
 
 returns-3 : tie.Need-returns-3
 returns-3 c =
-    let at-p = c .before .before in
-    let at-strings-at = at-p .before .before in
-    let at-if1 = at-strings-at .before in
-    rw (lt-leb _ _ (at-if1 .if1 .left), sym (told answerReached (at-strings-at .strings-at .ensures) (at-p .p .given .1))) (c .tell-string .ensures)
+    let at-number = c .before in
+    let at-texts-at = at-number .before .before in
+    let at-if1 = at-texts-at .before in
+    rw (lt-leb _ _ (at-if1 .if1 .left), sym (told answerReached (at-texts-at .texts-at .ensures) (at-number .number .given .1)))
+
+returns-4 : tie.Need-returns-4
+returns-4 c =
+    let at-if2 = c .before in
+    let at-is-name = at-if2 .before in
+    let at-p = at-is-name .before .before in
+    let at-texts-at = at-p .before .before in
+    let at-if1 = at-texts-at .before in
+    rw (lt-leb _ _ (at-if1 .if1 .left), sym (told answerReached (at-texts-at .texts-at .ensures) (at-p .p .given .1)), sym (at-is-name .is-name .ensures) ∙ at-if2 .if2 .left) (c .tell-string .ensures)
 
 pub tell-element-spec : {M : Type 1} → statement M
 tell-element-spec =
@@ -34,5 +45,8 @@ tell-element-spec =
     (λ c. search needs)
     (λ c. search needs)
     (λ c κs. search needs)
+    (λ c κs. search needs)
     returns-2
-    returns-3)
+    (λ c κs. search needs)
+    returns-3
+    returns-4)

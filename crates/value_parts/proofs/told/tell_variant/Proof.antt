@@ -1,8 +1,8 @@
 -- `value_parts::told::tell_variant` meets its contract.
 -- Assumes nothing.
-use Rattle.value.specs.Value.{answerMeasured}
-use Rattle.wire.proofs.Reading.{told}
 use mathlib.Core.Path.{sym}
+use Rattle.wire.proofs.Reading.{told}
+use Rattle.value.specs.Value.{answerMeasured}
 use borrow.Author.Needs.{needs}
 use Rattle.value_parts.proofs.told.tell_variant.Statement.{statement}
 use Rattle.value_parts.proofs.told.tell_variant.Tie as tie
@@ -25,6 +25,12 @@ array-parts-requires c κs =
     let at-measure-variant = at-t3 .before .before in
     sym (told answerMeasured (at-measure-variant .measure-variant .ensures) (at-t3 .t3 .given .1))
 
+matrix-parts-requires : tie.Need-matrix-parts-requires
+matrix-parts-requires c κs =
+    let at-t4 = c .before in
+    let at-measure-variant = at-t4 .before .before in
+    sym (told answerMeasured (at-measure-variant .measure-variant .ensures) (at-t4 .t4 .given .1))
+
 returns : tie.Need-returns
 returns c =
     let at-t = c .before .before in
@@ -45,6 +51,12 @@ returns-3 c =
 
 returns-4 : tie.Need-returns-4
 returns-4 c =
+    let at-t4 = c .before .before in
+    let at-measure-variant = at-t4 .before .before in
+    rw (sym (told answerMeasured (at-measure-variant .measure-variant .ensures) (at-t4 .t4 .given .1)), c .matrix-parts .ensures)
+
+returns-5 : tie.Need-returns-5
+returns-5 c =
     let at-number = c .before in
     let at-measure-variant = at-number .before .before in
     rw (sym (told answerMeasured (at-measure-variant .measure-variant .ensures) (at-number .number .given .1)))
@@ -61,7 +73,10 @@ tell-variant-spec =
     (λ c. search needs)
     array-parts-requires
     (λ c. search needs)
+    matrix-parts-requires
+    (λ c. search needs)
     returns
     returns-2
     returns-3
-    returns-4)
+    returns-4
+    returns-5)
