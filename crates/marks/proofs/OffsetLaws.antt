@@ -1,13 +1,14 @@
 -- Laws of offsets that pass a test. Assumes nothing.
 use Prim.Native.Nat.{ℕ, zero, suc, _≤_, _<_, _+_, _-_}
 use mathlib.Core.Path.{_≡_, refl, sym, _∙_, ap}
-use mathlib.Core.Bool.{Bool, false, true, or-true, false≢true, _||_, _&&_, not}
+use mathlib.Core.Bool.{Bool, false, true, cond, or-true, false≢true, _||_, _&&_, not}
 use native.Mathlib.Omega.{arith}
-use Rattle.marks.specs.Offsets.{anyBelow, allBelow}
+use Rattle.marks.specs.Offsets.{anyBelow, anyFrom, allBelow, countBelow}
 use native.Mathlib.Nat.{not-suc-le-zero}
 use Rattle.wire.proofs.Cases.{by-eq, by-lt, by-bool}
 use native.Mathlib.Numerals.{add-one}
-use borrow.Author.Tests.{not-true, not-false}
+use lib.Dec.{leb}
+use borrow.Author.Tests.{le-leb, lt-leb, not-true, not-false}
 
 -- ---- a test at every offset below n
 pub any-none : (n : ℕ) (f : ℕ → Bool) → ((i : ℕ) → i < n → f i ≡ false) → anyBelow n f ≡ false
@@ -88,3 +89,42 @@ pub left-all : (n : ℕ) (f : ℕ → Bool) → allBelow (n - 0) (λ j. f (0 + j
 left-all n f =
     let q : n - 0 ≡ n = omega arith in
     ap (λ (k : ℕ). allBelow k (λ j. f (0 + j))) q ∙ all-ext n (λ j. f (0 + j)) f (λ j h. let e : 0 + j ≡ j = omega arith in ap f e)
+
+-- ---- a test at the offsets from a up to b
+pub from-none : (a b : ℕ) (f : ℕ → Bool) → ((k : ℕ) → a ≤ k → k < b → f k ≡ false) → anyFrom a b f ≡ false
+from-none a b f e = any-none b _ (λ k h. by-lt _ k a (λ l. rw (lt-leb a k l)) (λ l. rw (le-leb a k l) (e k l h)))
+
+pub none-from : (a b : ℕ) (f : ℕ → Bool) → anyFrom a b f ≡ false → (k : ℕ) → a ≤ k → k < b → f k ≡ false
+none-from a b f e k h l = rw (le-leb a k h) at (none-any b (λ i. leb a i && f i) e k l)
+
+pub from-ext : (a b : ℕ) (f g : ℕ → Bool) → ((k : ℕ) → a ≤ k → k < b → f k ≡ g k) → anyFrom a b f ≡ anyFrom a b g
+from-ext a b f g e = any-ext b _ _ (λ k h. by-lt _ k a (λ l. rw (lt-leb a k l)) (λ l. rw (le-leb a k l) (e k l h)))
+
+pub from-zero : (n : ℕ) (f : ℕ → Bool) → anyFrom 0 n f ≡ anyBelow n f
+from-zero n f = any-ext n _ _ (λ k h. rw (le-leb 0 k (omega arith)))
+
+-- one more
+pub from-step : (a b : ℕ) (f : ℕ → Bool) → a ≤ b → anyFrom a (b + 1) f ≡ (f b || anyFrom a b f)
+from-step a b f h = any-step b (λ i. leb a i && f i) ∙ ap (λ (t : Bool). t && f b || anyFrom a b f) (le-leb a b h)
+
+-- two runs, the second behind the first
+pub from-more : (a b c : ℕ) (f : ℕ → Bool) → a ≤ b → b ≤ c → anyFrom a c f ≡ (anyFrom a b f || anyFrom b c f)
+from-more a b c f h l =
+    by-bool _ (anyFrom a c f)
+    (λ t. by-bool _ (anyFrom a b f) (λ x. rw (t, x))
+    (λ x. by-bool _ (anyFrom b c f) (λ y. rw (t, x, y)) (λ y. absurd (false≢true (sym (from-none a c f (both x y)) ∙ t)))))
+    (λ t. rw (t, from-none a b f (λ k p q. none-from a c f t k p (omega arith)), from-none b c f (λ k p q. none-from a c f t k (omega arith) q)))
+  where
+    both : anyFrom a b f ≡ false → anyFrom b c f ≡ false → (k : ℕ) → a ≤ k → k < c → f k ≡ false
+    both x y k p q = by-lt _ k b (λ z. none-from a b f x k p z) (λ z. none-from b c f y k z q)
+
+pub from-three : (a b c d : ℕ) (f : ℕ → Bool) → a ≤ b → b ≤ c → c ≤ d → ((anyFrom a b f || anyFrom b c f) || anyFrom c d f) ≡ anyFrom a d f
+from-three a b c d f h l k =
+    ap (λ (t : Bool). t || anyFrom c d f) (sym (from-more a b c f h l)) ∙ sym (from-more a c d f (omega arith) k)
+
+-- ---- counting: the first, and the others
+pub count-first : (n : ℕ) (f : ℕ → Bool) → countBelow (suc n) f ≡ cond (f 0) 1 0 + countBelow n (λ k. f (suc k))
+count-first zero f = refl
+count-first (suc n) f =
+    let ih = count-first n f in
+    let z : cond (f (suc n)) 1 0 + countBelow (suc n) f ≡ cond (f 0) 1 0 + (cond (f (suc n)) 1 0 + countBelow n (λ k. f (suc k))) = omega arith in z

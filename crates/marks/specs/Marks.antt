@@ -15,7 +15,7 @@ pub data Layout : Type 0 where
 
 -- the layout that the code has
 abbrev pub inUse : Layout
-inUse = byBytes
+inUse = byBits
 
 -- a byte with bit k set, where bit 0 is the lowest
 abbrev pub withBit : ℕ → ℕ → ℕ
