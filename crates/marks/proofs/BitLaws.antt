@@ -1,10 +1,10 @@
 -- Bits of a byte, one after another: bit 0 is the remainder by 2, and the others are those of the half. Assumes nothing.
 use Prim.Native.Nat.{ℕ, zero, suc, _+_, _*_, _/_, _%_, _^_, _≤_, _<_, max}
 use mathlib.Core.Path.{_≡_, refl, sym, ap, ap₂, _∙_}
-use mathlib.Core.Bool.{Bool, true, false, cond, _||_}
+use mathlib.Core.Bool.{Bool, true, false, cond, _&&_, _||_}
 use native.Mathlib.Nat.{not-suc-le-zero, pow-suc, max-eq-right, max-zero}
 use native.Mathlib.Omega.{arith}
-use lib.Bits.{bitOr, or-step, or-zero-r, shifted-half, shifted-even}
+use lib.Bits.{bitOr, bitXor, or-step, or-zero-l, or-zero-r, or-add-and, xor-add-and, xor-self, and-le-l, and-le-r, shifted-half, shifted-even}
 use lib.Count.{ones, ones-step, ones-le}
 use lib.Dec.{eqb}
 use lib.Pow.{shr-shr, shl-exact}
@@ -155,3 +155,15 @@ ones-count (suc n) a h =
     lowest zero h = refl
     lowest (suc zero) h = refl
     lowest (suc (suc x)) h = absurd (omega arith)
+
+-- ---- what is gathered in a loop without an exit: 0 as long as every number was 0, or was the one asked for
+pub or-none : (a b : ℕ) → eqb (bitOr a b) 0 ≡ (eqb a 0 && eqb b 0)
+or-none a b =
+    by-eq _ a 0
+    (λ p. by-eq _ b 0 (λ q. rw (p, q)) (λ q. rw (p, or-zero-l b)))
+    (λ p. rw (ne-eqb a 0 p) (ne-eqb (bitOr a b) 0 (λ z. p (let s = or-add-and a b in let r = and-le-r a b in omega arith))))
+
+pub xor-none : (a b : ℕ) → eqb (bitXor a b) 0 ≡ eqb a b
+xor-none a b =
+    by-eq _ a b (λ p. rw (p, xor-self b, eq-eqb b b refl))
+    (λ p. rw (ne-eqb a b p) (ne-eqb (bitXor a b) 0 (λ z. p (let s = xor-add-and a b in let l = and-le-l a b in let r = and-le-r a b in omega arith))))

@@ -1,4 +1,4 @@
-mod BitLaws
+pub mod BitLaws
 pub mod CountLaws
 pub mod MarkLaws
 pub mod OffsetLaws

@@ -42,6 +42,15 @@ every-all n f e i h = not-false (f i) (none-any n (λ k. not (f k)) (not-true (a
 pub all-ext : (n : ℕ) (f g : ℕ → Bool) → ((i : ℕ) → i < n → f i ≡ g i) → allBelow n f ≡ allBelow n g
 all-ext n f g e = ap not (any-ext n (λ i. not (f i)) (λ i. not (g i)) (λ i h. ap not (e i h)))
 
+pub all-step : (n : ℕ) (f : ℕ → Bool) → allBelow (n + 1) f ≡ (allBelow n f && f n)
+all-step n f = ap not (any-step n (λ i. not (f i))) ∙ either (f n) (anyBelow n (λ i. not (f i)))
+  where
+    either : (a b : Bool) → not (not a || b) ≡ (not b && a)
+    either true true = refl
+    either true false = refl
+    either false true = refl
+    either false false = refl
+
 -- none from a up to b
 pub any-between : (a b : ℕ) (f : ℕ → Bool) → a ≤ b → ((k : ℕ) → a ≤ k → k < b → f k ≡ false) → anyBelow b f ≡ anyBelow a f
 any-between a zero f h e = let q : 0 ≡ a = omega arith in ap (λ (n : ℕ). anyBelow n f) q
@@ -117,6 +126,11 @@ from-more a b c f h l =
   where
     both : anyFrom a b f ≡ false → anyFrom b c f ≡ false → (k : ℕ) → a ≤ k → k < c → f k ≡ false
     both x y k p q = by-lt _ k b (λ z. none-from a b f x k p z) (λ z. none-from b c f y k z q)
+
+-- some of a run that lies inside
+pub from-found : (a b c d : ℕ) (f : ℕ → Bool) → a ≤ b → c ≤ d → anyFrom b c f ≡ true → anyFrom a d f ≡ true
+from-found a b c d f h l e =
+    by-bool _ (anyFrom a d f) (λ t. t) (λ t. absurd (false≢true (sym (from-none b c f (λ k p q. none-from a d f t k (omega arith) (omega arith))) ∙ e)))
 
 pub from-three : (a b c d : ℕ) (f : ℕ → Bool) → a ≤ b → b ≤ c → c ≤ d → ((anyFrom a b f || anyFrom b c f) || anyFrom c d f) ≡ anyFrom a d f
 from-three a b c d f h l k =

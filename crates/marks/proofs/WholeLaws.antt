@@ -4,7 +4,7 @@ use mathlib.Core.Path.{_≡_, refl, sym, ap, ap₂, _∙_, subst}
 use mathlib.Core.Bool.{Bool, true, false, not, _&&_, _||_, or-true, or-false, false≢true}
 use mathlib.Core.List.{List}
 use native.Mathlib.Omega.{arith}
-use lib.Bits.{bitOr, and-le-r, or-add-and, or-zero-l, or-lt}
+use lib.Bits.{bitOr, or-lt}
 use lib.Count.{ones, ones-le, ones-cat}
 use lib.ListN.{length, getD, set, take, drop, length-set, length-drop, List·getD-eq-default}
 use lib.Seq.{ext-getD, getD-set-same, getD-set-other, length-take-le, getD-take, getD-drop}
@@ -19,7 +19,7 @@ use Rattle.marks.specs.Marks.{withBit, marksFor, capacity, marked, markA
 use Rattle.marks.specs.Marks.Layout.{byBits}
 use Rattle.wire.proofs.Cases.{by-bool, by-eq, by-lt}
 use Rattle.marks.proofs.OffsetLaws.{every-all, from-none, none-from, from-more}
-use Rattle.marks.proofs.BitLaws.{digit, bit-digit, digit-none, digit-or, digit-same-all, with-byte, ones-count}
+use Rattle.marks.proofs.BitLaws.{digit, bit-digit, digit-none, digit-or, digit-same-all, with-byte, or-none, ones-count}
 use Rattle.marks.proofs.MarkLaws.{marked-on, marked-off, length-markAll}
 use Rattle.marks.proofs.CountLaws.{count-ext, count-most, count-more, cut-in, cut-below, cut-above}
 
@@ -179,12 +179,6 @@ byte-any m k h =
     (λ i l q. let e : i / 8 ≡ k = omega arith in marked-by m i ∙ ap (λ (n : ℕ). digit (i % 8) (getD m n 0)) e ∙ ap (digit (i % 8)) z ∙ digit-none (i % 8)))))
     (λ z. rw (ne-eqb (getD m k 0) 0 z) (by-bool _ (anyFrom (8 * k) (8 * (k + 1)) (marked byBits m)) (λ t. sym t) (λ t. absurd (z (digit-same-all 8 (getD m k 0) 0 h (omega arith)
     (λ j l. sym (marked-in m k j l) ∙ none-from (8 * k) (8 * (k + 1)) (marked byBits m) t (8 * k + j) (omega arith) (omega arith) ∙ sym (digit-none j)))))))
-
-or-none : (a b : ℕ) → eqb (bitOr a b) 0 ≡ (eqb a 0 && eqb b 0)
-or-none a b =
-    by-eq _ a 0
-    (λ p. by-eq _ b 0 (λ q. rw (p, q)) (λ q. rw (p, or-zero-l b)))
-    (λ p. rw (ne-eqb a 0 p) (ne-eqb (bitOr a b) 0 (λ z. p (let s = or-add-and a b in let r = and-le-r a b in omega arith))))
 
 pub any-step : (m : List ℕ) (first k any : ℕ) → first ≤ k → getD m k 0 < 256 → not (eqb any 0) ≡ anyFrom (8 * first) (8 * k) (marked byBits m)
     → not (eqb (bitOr any (getD m k 0)) 0) ≡ anyFrom (8 * first) (8 * (k + 1)) (marked byBits m)

@@ -1,12 +1,13 @@
 -- Laws of what two areas cover: what a view laid into them makes of it, and what is handed out of a full one. Assumes nothing.
 use Prim.Native.Nat.{ℕ, _+_, _-_, _≤_, _<_}
 use mathlib.Core.Path.{_≡_, refl, sym, ap, ap₂, _∙_, fun-ext}
-use mathlib.Core.Bool.{Bool, true, false, cond, false≢true}
+use mathlib.Core.Bool.{Bool, true, false, cond, _&&_, false≢true}
 use mathlib.Core.List.{List}
 use mathlib.Core.Option.{Option, some, none, orElse, Option·getD}
 use native.Mathlib.Omega.{arith}
 use lib.ListN.{length, getD, take}
-use lib.Dec.{leb, eqb}
+use lib.Bits.{bitOr, bitXor}
+use lib.Dec.{eqb}
 use lib.Seq.{ext-getD, getD-take, length-take-le}
 use borrow.Author.Tests.{le-leb, lt-leb}
 use Rattle.reassembly.specs.Views.{View, isSome, has, onlyIf, dataView, nowhere, bothViews, differs, clash, full, bytesBelow, overlaid}
@@ -15,9 +16,19 @@ use Rattle.marks.specs.Marks.{Layout, marksFor, marked, cleared, markAll, marke
 use Rattle.reassembly.specs.Areas.{markedView}
 use Rattle.wire.proofs.Cases.{by-lt}
 use Rattle.reassembly.proofs.ViewLaws.{length-tab, getD-tab, length-laid, getD-laid, has-only, data-at, data-below, differs-none, differs-same, none-clash, clash-data, differsAt, full-some, first-none, first-known}
-use Rattle.marks.proofs.OffsetLaws.{any-ext, all-ext, every-all, from-none, none-from, from-ext}
+use Rattle.marks.proofs.OffsetLaws.{any-ext, all-ext, all-step, every-all, from-none, none-from, from-ext, from-zero}
+use Rattle.marks.proofs.BitLaws.{or-none, xor-none}
 use Rattle.marks.proofs.CountLaws.{count-zero, count-each}
 use Rattle.marks.proofs.MarkLaws.{marked-is, marked-past, marked-on, marked-off, marked-cleared, marks-self}
+
+-- a clash is one from the start on
+pub clash-whole : (n : ℕ) (v w : View) → clash n v w ≡ anyFrom 0 n (λ k. differs (v k) (w k))
+unfolding clash
+clash-whole n v w = sym (from-zero n (λ k. differs (v k) (w k)))
+
+-- a turn of comparing bytes without an exit
+pub same-step : (other x y j : ℕ) (f : ℕ → Bool) → eqb other 0 ≡ allBelow j f → eqb x y ≡ f j → eqb (bitOr other (bitXor x y)) 0 ≡ allBelow (j + 1) f
+same-step other x y j f e t = or-none other (bitXor x y) ∙ ap₂ _&&_ e (xor-none x y ∙ t) ∙ sym (all-step j f)
 
 module _ (L : Layout) where
   pub marked-below : (total : ℕ) (p m : List ℕ) (i : ℕ) → i < total → markedView L total p m i ≡ onlyIf (marked L m i) (getD p i 0)

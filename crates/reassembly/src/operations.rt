@@ -42,9 +42,7 @@ pub struct Outcome {
 
 // A partial not started takes over the message, nothing of it covered, and every mark is cleared; a started one stays as it is.
 fn begin(rec: PartialRecord, marks: &mut [u8], message: Message) -> PartialRecord
-    ensures { λ r.
-        let before = now (marks .entry) in
-        ⌜ (r ≡ begun rec message) × (now (marks .exit) ≡ begunMarks rec before) × (length before < 2 ^ 63) ⌝ }
+    ensures { λ r. ⌜ (r ≡ begun rec message) × (now (marks .exit) ≡ begunMarks rec (now (marks .entry))) ⌝ }
 {
     if rec.started {
         return rec;
