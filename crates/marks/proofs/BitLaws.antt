@@ -1,5 +1,5 @@
 -- Bits of a byte, one after another: bit 0 is the remainder by 2, and the others are those of the half. Assumes nothing.
-use Prim.Native.Nat.{ℕ, zero, suc, _+_, _*_, _/_, _%_, _^_, _≤_, _<_, max}
+use Prim.Native.Nat.{ℕ, zero, suc, _+_, _*_, _/_, _%_, _^_, _<_, max}
 use mathlib.Core.Path.{_≡_, refl, sym, ap, ap₂, _∙_}
 use mathlib.Core.Bool.{Bool, true, false, cond, _&&_, _||_}
 use native.Mathlib.Nat.{not-suc-le-zero, pow-suc, max-eq-right, max-zero}
@@ -40,7 +40,7 @@ bit-digit (suc k) b = halved-digit (suc k) b
 pub bit-half : (k b : ℕ) → eqb (b / 2 ^ k % 2) 1 ≡ bit k b
 bit-half k b = halved-digit k b ∙ sym (bit-digit k b)
 
-pub with-digit : (k b : ℕ) → withBit k b ≡ withDigit k b
+with-digit : (k b : ℕ) → withBit k b ≡ withDigit k b
 with-digit zero b =
     by-bool _ (eqb (b % 2) 1) (λ t. let h = eqb-true (b % 2) 1 t in rw t (omega arith)) (λ t. let h = eqb-false (b % 2) 1 t in rw t (omega arith))
 with-digit (suc k) b =

@@ -5,7 +5,6 @@ use mathlib.Core.Bool.{Bool, true, false, cond, not, _&&_, and-false}
 use mathlib.Core.List.{List}
 use lib.ListN.{length}
 use native.Mathlib.Omega.{arith}
-use native.Mathlib.Numerals.{add-one}
 use lib.Dec.{leb, ltb, eqb}
 use borrow.Author.Tests.{lt-ltb, le-ltb, le-leb, eq-eqb, ne-eqb}
 use Rattle.marks.specs.Offsets.{inRange, anyFrom, allBelow, countBelow, inRangeAnd, always}
@@ -41,7 +40,7 @@ count-more n (suc c) f =
     ap (λ (k : ℕ). countBelow k f) q ∙ (let z : cond (f (n + c)) 1 0 + countBelow (n + c) f ≡ countBelow n f + (cond (f (n + c)) 1 0 + countBelow c (λ j. f (n + j))) = omega arith in z)
 
 -- counted up to i, and then from i up to j
-pub count-run : (i j n d : ℕ) (f : ℕ → Bool) → i ≤ j → n ≡ countBelow i f → d ≡ countBelow (j - i) (λ k. f (i + k)) → n + d ≡ countBelow j f
+count-run : (i j n d : ℕ) (f : ℕ → Bool) → i ≤ j → n ≡ countBelow i f → d ≡ countBelow (j - i) (λ k. f (i + k)) → n + d ≡ countBelow j f
 count-run i j n d f h e q =
     let all : i + (j - i) ≡ j = omega arith in
     ap₂ _+_ e q ∙ sym (count-more i (j - i) f) ∙ ap (λ (k : ℕ). countBelow k f) all

@@ -1,5 +1,5 @@
 -- Laws of the marks. Those down to `layout-laws` are all that other files use of how a mark is held. Assumes nothing.
-use Prim.Native.Nat.{ℕ, zero, suc, _+_, _*_, _/_, _%_, _≤_, _<_}
+use Prim.Native.Nat.{ℕ, zero, suc, _+_, _/_, _%_, _≤_, _<_}
 use mathlib.Core.Path.{_≡_, refl, sym, ap, _∙_}
 use mathlib.Core.Bool.{Bool, true, false, cond, and-false, false≢true}
 use mathlib.Core.List.{List}
@@ -11,11 +11,10 @@ use lib.Seq.{set-getD, getD-set-same, getD-set-other}
 use lib.Dec.{leb}
 use borrow.Author.Tests.{lt-ltb, le-ltb, le-leb, lt-leb, eqb-true}
 use Rattle.marks.specs.Offsets.{inRange}
-use Rattle.marks.specs.Marks.{Layout, withBit, marksFor, capacity, marked, markAt, cleared, markIf, markUpTo, markAll, markedBelow, allMarked}
+use Rattle.marks.specs.Marks.{Layout, withBit, marksFor, capacity, marked, markAt, cleared, markIf, markUpTo, markAll, markedBelow}
 use Rattle.marks.specs.Marks.Layout.{byBytes, byBits}
 use Rattle.marks.specs.Layouts.{LayoutLaws}
 use Rattle.wire.proofs.Cases.{by-bool, by-eq, by-lt}
-use Rattle.marks.proofs.OffsetLaws.{all-every, all-but}
 use Rattle.marks.proofs.BitLaws.{bit-none, bit-same, bit-other, bit-again}
 
 -- ---- what is true of either layout
@@ -115,12 +114,6 @@ range-in start end i h k = rw (le-leb start i h, lt-ltb i end k)
 pub range-above : (start end i : ℕ) → end ≤ i → inRange start end i ≡ false
 range-above start end i h = rw (le-ltb i end h) (and-false (leb start i))
 
--- a loop's end by the area is the end asked for where the area has room
-pub within-all : (L : Layout) (r n : ℕ) (m : List ℕ) → marksFor L n ≤ length m → (r ≤ n) × (r ≤ capacity L m) × (r < n → r ≡ capacity L m) → r ≡ n
-within-all L r n m h w =
-    let room = marks-cover L n n m (omega arith) h in
-    by-lt _ r n (λ l. let full = w .2 l in absurd (omega arith)) (λ l. let below = w .0 in omega arith)
-
 module _ (L : Layout) where
   marks-room : (t i : ℕ) (m : List ℕ) → i < t → marksFor L t ≤ length m → i < capacity L m
   marks-room t i m l h = marks-cover L t (suc i) m l h
@@ -206,12 +199,3 @@ module _ (L : Layout) where
 
   pub marked-past : (t : ℕ) (m : List ℕ) (i : ℕ) → t ≤ i → markedBelow L t m i ≡ false
   marked-past t m i h = rw (le-ltb i t h)
-
-  -- ---- every offset below n
-  pub all-marked-yes : (n : ℕ) (m : List ℕ) → ((i : ℕ) → i < n → marked L m i ≡ true) → allMarked L n m ≡ true
-  unfolding allMarked
-  all-marked-yes n m e = all-every n (marked L m) e
-
-  pub all-marked-no : (n : ℕ) (m : List ℕ) (i : ℕ) → i < n → marked L m i ≡ false → allMarked L n m ≡ false
-  unfolding allMarked
-  all-marked-no n m i h e = all-but n (marked L m) i h e

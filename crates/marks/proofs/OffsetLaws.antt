@@ -33,9 +33,6 @@ any-step n f = rw (add-one n)
 pub all-every : (n : ℕ) (f : ℕ → Bool) → ((i : ℕ) → i < n → f i ≡ true) → allBelow n f ≡ true
 all-every n f e = ap not (any-none n (λ i. not (f i)) (λ i h. ap not (e i h)))
 
-pub all-but : (n : ℕ) (f : ℕ → Bool) (i : ℕ) → i < n → f i ≡ false → allBelow n f ≡ false
-all-but n f i h e = ap not (any-some n (λ k. not (f k)) i h (ap not e))
-
 pub every-all : (n : ℕ) (f : ℕ → Bool) → allBelow n f ≡ true → (i : ℕ) → i < n → f i ≡ true
 every-all n f e i h = not-false (f i) (none-any n (λ k. not (f k)) (not-true (anyBelow n (λ k. not (f k))) e) i h)
 
@@ -57,47 +54,6 @@ any-between a zero f h e = let q : 0 ≡ a = omega arith in ap (λ (n : ℕ). an
 any-between a (suc b) f h e =
     by-eq _ a (suc b) (λ q. ap (λ (n : ℕ). anyBelow n f) (sym q))
     (λ ne. rw (e b (omega arith) (omega arith)) (any-between a b f (omega arith) (λ k l m. e k l (omega arith))))
-
--- ---- every offset of two runs, the second behind the first
-pub all-more : (n c : ℕ) (f : ℕ → Bool) → allBelow (n + c) f ≡ (allBelow n f && allBelow c (λ j. f (n + j)))
-all-more n c f =
-    by-bool _ (allBelow (n + c) f)
-    (λ t. rw (t, all-every n f (λ i h. every-all (n + c) f t i (omega arith)), all-every c (λ j. f (n + j)) (λ j h. every-all (n + c) f t (n + j) (omega arith))))
-    (λ t. by-bool _ (allBelow n f)
-    (λ a. by-bool _ (allBelow c (λ j. f (n + j))) (λ b. absurd (false≢true (sym t ∙ all-every (n + c) f (both a b)))) (λ b. rw (t, a, b))) (λ a. rw (t, a)))
-  where
-    both : allBelow n f ≡ true → allBelow c (λ j. f (n + j)) ≡ true → (i : ℕ) → i < n + c → f i ≡ true
-    both a b i h =
-        by-lt _ i n (λ l. every-all n f a i l)
-        (λ l. let q : i ≡ n + (i - n) = omega arith in ap f q ∙ every-all c (λ j. f (n + j)) b (i - n) (omega arith))
-
--- what is left from i on: a run of c, and what is left behind it
-pub left-run : (n i c : ℕ) (f : ℕ → Bool) → i + c ≤ n
-    → allBelow (n - i) (λ j. f (i + j)) ≡ (allBelow c (λ j. f (i + j)) && allBelow (n - (i + c)) (λ j. f (i + c + j)))
-left-run n i c f h =
-    let q : n - i ≡ c + (n - (i + c)) = omega arith in
-    ap (λ (k : ℕ). allBelow k (λ j. f (i + j))) q ∙ all-more c (n - (i + c)) (λ j. f (i + j))
-    ∙ ap (_&&_ (allBelow c (λ j. f (i + j)))) (all-ext (n - (i + c)) _ _ (λ j l. ap f (later j)))
-  where
-    later : (j : ℕ) → i + (c + j) ≡ i + c + j
-    later j = omega arith
-
-pub left-one : (n i : ℕ) (f : ℕ → Bool) → i < n → allBelow (n - i) (λ j. f (i + j)) ≡ (f i && allBelow (n - (i + 1)) (λ j. f (i + 1 + j)))
-left-one n i f h = left-run n i 1 f (omega arith) ∙ ap (λ (b : Bool). b && allBelow (n - (i + 1)) (λ j. f (i + 1 + j))) one
-  where
-    one : allBelow 1 (λ j. f (i + j)) ≡ f i
-    one =
-        let q : i + 0 ≡ i = omega arith in
-        by-bool _ (f i) (λ t. all-every 1 _ (λ j l. let e : i + j ≡ i = omega arith in ap f e ∙ t) ∙ sym t) (λ t. all-but 1 (λ j. f (i + j)) 0 (omega arith) (ap f q ∙ t) ∙ sym t)
-
-pub left-none : (n i : ℕ) (f : ℕ → Bool) → n ≤ i → allBelow (n - i) f ≡ true
-left-none n i f h = all-every (n - i) f (λ j l. absurd (omega arith))
-
--- from the start on
-pub left-all : (n : ℕ) (f : ℕ → Bool) → allBelow (n - 0) (λ j. f (0 + j)) ≡ allBelow n f
-left-all n f =
-    let q : n - 0 ≡ n = omega arith in
-    ap (λ (k : ℕ). allBelow k (λ j. f (0 + j))) q ∙ all-ext n (λ j. f (0 + j)) f (λ j h. let e : 0 + j ≡ j = omega arith in ap f e)
 
 -- ---- a test at the offsets from a up to b
 pub from-none : (a b : ℕ) (f : ℕ → Bool) → ((k : ℕ) → a ≤ k → k < b → f k ≡ false) → anyFrom a b f ≡ false

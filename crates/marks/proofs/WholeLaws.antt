@@ -1,7 +1,7 @@
 -- Whole bytes of marks by bits: the eight offsets of a byte, and eight bytes as one number. Assumes nothing.
 use Prim.Native.Nat.{ℕ, zero, suc, _+_, _*_, _-_, _/_, _%_, _^_, _≤_, _<_}
 use mathlib.Core.Path.{_≡_, refl, sym, ap, ap₂, _∙_, subst}
-use mathlib.Core.Bool.{Bool, true, false, not, _&&_, _||_, or-true, or-false, false≢true}
+use mathlib.Core.Bool.{Bool, true, false, not, _&&_, _||_, or-true, or-false}
 use mathlib.Core.List.{List}
 use native.Mathlib.Omega.{arith}
 use lib.Bits.{bitOr, or-lt}
@@ -9,7 +9,7 @@ use lib.Count.{ones, ones-le, ones-cat}
 use lib.ListN.{length, getD, set, take, drop, length-set, length-drop, List·getD-eq-default}
 use lib.Seq.{ext-getD, getD-set-same, getD-set-other, length-take-le, getD-take, getD-drop}
 use lib.Dec.{leb, eqb}
-use borrow.Author.Tests.{ne-eqb, eq-eqb, eqb-true, le-leb, not-true}
+use borrow.Author.Tests.{ne-eqb, eq-eqb, le-leb}
 use Rattle.wire.specs.Constants.{CUT_SHORT}
 use Rattle.wire.specs.Number.{le}
 use Rattle.wire.specs.Answer.{item}

@@ -32,7 +32,11 @@ pub fn within(marks: &[u8], n: usize) -> usize
         let most = capacity inUse (now (marks .entry)) in
         ⌜ (r ≤ n) × (r ≤ most) × (r < n → r ≡ most) ⌝ }
 {
-    if n / 8 < marks.len() { n } else { 8 * marks.len() }
+    if n / 8 < marks.len() {
+        n
+    } else {
+        8 * marks.len()
+    }
 }
 
 // Whether an offset is marked; one past the area is not.

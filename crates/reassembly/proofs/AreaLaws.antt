@@ -52,7 +52,7 @@ module _ (L : Layout) where
       pick false = refl
 
   -- ---- what the code tests at an offset is what the views say there
-  pub clash-step-data : (total : ℕ) (p m : List ℕ) (at : ℕ) (d : List ℕ) (j : ℕ) → at + j < total → j < length d
+  clash-step-data : (total : ℕ) (p m : List ℕ) (at : ℕ) (d : List ℕ) (j : ℕ) → at + j < total → j < length d
       → differsAt (markedView L total p m) at d j ≡ differs (onlyIf (marked L m (at + j)) (getD p (at + j) 0)) (some (getD d j 0))
   clash-step-data total p m at d j h k = rw (marked-below total p m (at + j) h, data-at at d j k)
 

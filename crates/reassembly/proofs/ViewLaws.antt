@@ -84,11 +84,6 @@ laid-step v p n x hn e =
     ∙ ap (λ (o : Option ℕ). Option·getD o (getD p i 0)) (sym (upTo-more n v i ne))
     ∙ sym (getD-laid (upTo (n + 1) v) p i k)))
 
--- what stands at n before its turn
-pub laid-at : (v : View) (p : List ℕ) (n : ℕ) → n < length p → getD (overlaid (upTo n v) p) n 0 ≡ getD p n 0
-laid-at v p n h =
-    getD-laid (upTo n v) p n h ∙ ap (λ (o : Option ℕ). Option·getD o (getD p n 0)) (upTo-above n v n (omega arith))
-
 -- ---- a view laid in by runs: `payload ≡ overlaid (between start i v) payload₀`
 -- nothing of it
 pub run-none : (v : View) (p : List ℕ) (a b : ℕ) → ((i : ℕ) → a ≤ i → i < b → v i ≡ none) → p ≡ overlaid (between a b v) p

@@ -122,7 +122,14 @@ fn differ(mark: bool, held: u8, other_mark: bool, byte: u8) -> bool
 }
 
 // Whether a covered byte from start up to end differs from a chunk's byte there, offset by offset.
-fn clash_each(payload: &[u8], marks: &[u8], offset: usize, bytes: &[u8], start: usize, end: usize) -> bool
+fn clash_each(
+    payload: &[u8],
+    marks: &[u8],
+    offset: usize,
+    bytes: &[u8],
+    start: usize,
+    end: usize,
+) -> bool
     requires { ⌜ (offset ≤ start) × (start ≤ end) × (end ≤ offset + length (now bytes)) × (end ≤ length (now payload)) ⌝ }
     ensures { λ r.
         let held = markedView inUse end (now (payload .entry)) (now (marks .entry)) in
@@ -139,7 +146,14 @@ fn clash_each(payload: &[u8], marks: &[u8], offset: usize, bytes: &[u8], start: 
 }
 
 // The same; where the bytes are the same or nothing is covered, no offset is looked at alone.
-fn clash_run(payload: &[u8], marks: &[u8], offset: usize, bytes: &[u8], start: usize, end: usize) -> bool
+fn clash_run(
+    payload: &[u8],
+    marks: &[u8],
+    offset: usize,
+    bytes: &[u8],
+    start: usize,
+    end: usize,
+) -> bool
     requires { ⌜ (offset ≤ start) × (start ≤ end) × (end ≤ offset + length (now bytes)) × (end ≤ length (now payload)) ⌝ }
     ensures { λ r.
         let held = markedView inUse end (now (payload .entry)) (now (marks .entry)) in

@@ -1,3 +1,4 @@
+-- `marks::any_marked` meets its contract. Assumes nothing.
 use Rattle.marks.proofs.WholeLaws.{first-byte, capacity-bytes}
 use Rattle.marks.proofs.CountLaws.{area-any}
 use Rattle.marks.proofs.OffsetLaws.{from-three}
@@ -5,8 +6,8 @@ use Rattle.marks.specs.Marks.{inUse, marked}
 use mathlib.Core.Bool.{_||_}
 use denote.Ref.{now}
 use native.Mathlib.Omega.{arith}
-use mathlib.Core.Path.{_≡_, refl, sym, ap, ap₂, _∙_}
-use Prim.Native.Nat.{ℕ, _+_, _*_, _-_, _/_, _≤_, _<_}
+use mathlib.Core.Path.{ap, ap₂, _∙_}
+use Prim.Native.Nat.{_*_, _-_, _/_}
 use borrow.Author.Needs.{needs}
 use Rattle.marks.proofs.any_marked.Statement.{statement}
 use Rattle.marks.proofs.any_marked.Tie as tie
@@ -17,34 +18,12 @@ use Rattle.marks.proofs.marks_for.Reads as marks-for-reads
 use Rattle.marks.proofs.whole.any_whole.Reads as any-whole-reads
 use Rattle.marks.proofs.within.Reads as within-reads
 
--- src/lib.rt:139:9
-within-requires : tie.Need-within-requires
-within-requires c κs = search needs
-
--- src/lib.rt:140:9
-marks-for-requires : tie.Need-marks-for-requires
-marks-for-requires c κs = search needs
-
--- src/lib.rt:143:9
-any-each-requires : tie.Need-any-each-requires
-any-each-requires c κs = search needs
-
--- src/lib.rt:143:9
 returns : tie.Need-returns
 returns c =
     let at-within = c .before .before .before in
     let args = at-within .before .before .args in
     c .any-each .ensures ∙ area-any inUse (now (args .marks)) (args .start) (at-within .within .result) (args .end) (at-within .within .ensures .0) (at-within .within .ensures .2)
 
--- src/lib.rt:145:39
-mul-any-each : tie.Need-mul-any-each
-mul-any-each c = search needs
-
--- src/lib.rt:145:9
-any-each-requires-2 : tie.Need-any-each-requires-2
-any-each-requires-2 c κs = search needs
-
--- src/lib.rt:146:9
 any-whole-requires : tie.Need-any-whole-requires
 any-whole-requires c κs =
     let at-within = c .before .before .before in
@@ -52,15 +31,6 @@ any-whole-requires c κs =
     let room = at-within .within .ensures .1 in
     let most = capacity-bytes (now (args .marks)) in (omega arith, omega arith)
 
--- src/lib.rt:147:37
-mul-any-each-2 : tie.Need-mul-any-each-2
-mul-any-each-2 c = search needs
-
--- src/lib.rt:147:21
-any-each-requires-3 : tie.Need-any-each-requires-3
-any-each-requires-3 c κs = search needs
-
--- src/lib.rt:136:1
 returns-2 : tie.Need-returns-2
 returns-2 c =
     let at-any-whole = c .before in
@@ -70,20 +40,21 @@ returns-2 c =
     let args = at-within .before .before .args in
     let first = first-byte (args .start) (at-marks-for .marks-for .result) (at-marks-for .marks-for .ensures) in
     ap₂ _||_ (ap₂ _||_ (at-any-each2 .any-each2 .ensures) (at-any-whole .any-whole .ensures)) (c .any-each3 .ensures)
-    ∙ from-three (args .start) (8 * at-marks-for .marks-for .result) (8 * (at-within .within .result / 8)) (at-within .within .result) (marked inUse (now (args .marks))) (first .0) (omega arith) (omega arith)
+    ∙ from-three (args .start) (8 * at-marks-for .marks-for .result) (8 * (at-within .within .result / 8)) (at-within .within .result) (marked inUse (now (args .marks))) (first .0)
+    (omega arith) (omega arith)
     ∙ area-any inUse (now (args .marks)) (args .start) (at-within .within .result) (args .end) (at-within .within .ensures .0) (at-within .within .ensures .2)
 
 pub any-marked-spec : {M : Type 1} → statement M
 any-marked-spec =
     tie.close
     (tie.spec
-    within-requires
-    marks-for-requires
-    any-each-requires
+    (λ c κs. search needs)
+    (λ c κs. search needs)
+    (λ c κs. search needs)
     returns
-    mul-any-each
-    any-each-requires-2
+    (λ c. search needs)
+    (λ c κs. search needs)
     any-whole-requires
-    mul-any-each-2
-    any-each-requires-3
+    (λ c. search needs)
+    (λ c κs. search needs)
     returns-2)

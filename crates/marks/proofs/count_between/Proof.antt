@@ -1,11 +1,12 @@
+-- `marks::count_between` meets its contract. Assumes nothing.
 use Rattle.marks.proofs.WholeLaws.{first-byte, capacity-bytes}
 use Rattle.marks.proofs.CountLaws.{count-most, count-join, area-count}
 use Rattle.marks.specs.Marks.{inUse, marked}
 use Rattle.marks.specs.Offsets.{countBelow}
 use denote.Ref.{now}
 use native.Mathlib.Omega.{arith}
-use mathlib.Core.Path.{_≡_, refl, sym, ap, ap₂, _∙_}
-use Prim.Native.Nat.{ℕ, _+_, _*_, _-_, _/_, _≤_, _<_}
+use mathlib.Core.Path.{_≡_, ap, _∙_}
+use Prim.Native.Nat.{ℕ, _+_, _*_, _-_, _/_}
 use borrow.Author.Needs.{needs}
 use Rattle.marks.proofs.count_between.Statement.{statement}
 use Rattle.marks.proofs.count_between.Tie as tie
@@ -16,34 +17,12 @@ use Rattle.marks.proofs.marks_for.Reads as marks-for-reads
 use Rattle.marks.proofs.whole.count_whole.Reads as count-whole-reads
 use Rattle.marks.proofs.within.Reads as within-reads
 
--- src/lib.rt:117:9
-within-requires : tie.Need-within-requires
-within-requires c κs = search needs
-
--- src/lib.rt:118:9
-marks-for-requires : tie.Need-marks-for-requires
-marks-for-requires c κs = search needs
-
--- src/lib.rt:121:9
-count-each-requires : tie.Need-count-each-requires
-count-each-requires c κs = search needs
-
--- src/lib.rt:121:9
 returns : tie.Need-returns
 returns c =
     let at-within = c .before .before .before in
     let args = at-within .before .before .args in
     c .count-each .ensures ∙ area-count inUse (now (args .marks)) (args .start) (at-within .within .result) (args .end) (at-within .within .ensures .0) (at-within .within .ensures .2)
 
--- src/lib.rt:123:41
-mul-count-each : tie.Need-mul-count-each
-mul-count-each c = search needs
-
--- src/lib.rt:123:9
-count-each-requires-2 : tie.Need-count-each-requires-2
-count-each-requires-2 c κs = search needs
-
--- src/lib.rt:124:9
 count-whole-requires : tie.Need-count-whole-requires
 count-whole-requires c κs =
     let at-within = c .before .before .before in
@@ -52,7 +31,6 @@ count-whole-requires c κs =
     let room = at-within .within .ensures .1 in
     let most = capacity-bytes (now (args .marks)) in (omega arith, omega arith, omega arith)
 
--- src/lib.rt:125:5
 add-result : tie.Need-add-result
 add-result c =
     let at-count-each2 = c .before in
@@ -68,15 +46,6 @@ add-result c =
     let few = count-most (8 * at-marks-for .marks-for .result - args .start) (λ j. f (args .start + j)) in
     let many = count-most (8 * (at-within .within .result / 8 - at-marks-for .marks-for .result)) (λ j. f (8 * at-marks-for .marks-for .result + j)) in omega arith
 
--- src/lib.rt:125:39
-mul-count-each-2 : tie.Need-mul-count-each-2
-mul-count-each-2 c = search needs
-
--- src/lib.rt:125:21
-count-each-requires-3 : tie.Need-count-each-requires-3
-count-each-requires-3 c κs = search needs
-
--- src/lib.rt:125:5
 add-result-2 : tie.Need-add-result-2
 add-result-2 c =
     let at-count-whole = c .before in
@@ -95,7 +64,6 @@ add-result-2 c =
     let many = count-most (8 * (at-within .within .result / 8 - at-marks-for .marks-for .result)) (λ j. f (8 * at-marks-for .marks-for .result + j)) in
     let last = count-most (at-within .within .result - 8 * (at-within .within .result / 8)) (λ j. f (8 * (at-within .within .result / 8) + j)) in omega arith
 
--- src/lib.rt:114:1
 returns-2 : tie.Need-returns-2
 returns-2 c =
     let at-count-whole = c .before in
@@ -117,15 +85,15 @@ pub count-between-spec : {M : Type 1} → statement M
 count-between-spec =
     tie.close
     (tie.spec
-    within-requires
-    marks-for-requires
-    count-each-requires
+    (λ c κs. search needs)
+    (λ c κs. search needs)
+    (λ c κs. search needs)
     returns
-    mul-count-each
-    count-each-requires-2
+    (λ c. search needs)
+    (λ c κs. search needs)
     count-whole-requires
     add-result
-    mul-count-each-2
-    count-each-requires-3
+    (λ c. search needs)
+    (λ c κs. search needs)
     add-result-2
     returns-2)

@@ -1,3 +1,4 @@
+-- `marks::count_marked` meets its contract. Assumes nothing.
 use Rattle.marks.proofs.CountLaws.{count-start}
 use Rattle.marks.specs.Marks.{inUse, marked, countMarked}
 use denote.Ref.{now}
@@ -9,15 +10,10 @@ use Rattle.marks.proofs.count_marked.Reads as reads
 use Rattle.marks.proofs.count_marked.Lts as lts
 use Rattle.marks.proofs.count_between.Reads as count-between-reads
 
--- src/lib.rt:132:5
-count-between-requires : tie.Need-count-between-requires
-count-between-requires c κs = search needs
-
--- src/lib.rt:129:1
 returns : tie.Need-returns
 unfolding countMarked
 returns c =
     c .count-between .ensures ∙ count-start (c .before .before .args .n) (marked inUse (now (c .before .before .args .marks)))
 
 pub count-marked-spec : {M : Type 1} → statement M
-count-marked-spec = tie.close (tie.spec count-between-requires returns)
+count-marked-spec = tie.close (tie.spec (λ c κs. search needs) returns)

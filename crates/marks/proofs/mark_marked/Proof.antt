@@ -1,3 +1,4 @@
+-- `marks::mark_marked` meets its contract. Assumes nothing.
 use Rattle.marks.proofs.WholeLaws.{capacity-bytes}
 use Rattle.marks.proofs.CountLaws.{cut-on, cut-above, all-same, new-same, run-marked, count-put}
 use Rattle.marks.proofs.MarkLaws.{length-markAll, marks-fit}
@@ -6,8 +7,8 @@ use Rattle.marks.specs.Offsets.{inRangeAnd}
 use lib.ListN.{length}
 use denote.Ref.{now}
 use native.Mathlib.Omega.{arith}
-use mathlib.Core.Path.{_≡_, refl, sym, ap, ap₂, _∙_}
-use Prim.Native.Nat.{ℕ, _+_, _*_, _-_, _/_, _≤_, _<_}
+use mathlib.Core.Path.{_≡_, ap, _∙_}
+use Prim.Native.Nat.{ℕ, _*_, _-_, _/_, _<_}
 use borrow.Author.Needs.{needs}
 use Rattle.marks.proofs.mark_marked.Statement.{statement}
 use Rattle.marks.proofs.mark_marked.Tie as tie
@@ -18,19 +19,6 @@ use Rattle.marks.proofs.each.mark_each_marked.Reads as mark-each-marked
 use Rattle.marks.proofs.whole.mark_whole_marked.Reads as mark-whole-marked-reads
 use Rattle.marks.proofs.within.Reads as within-reads
 
--- src/lib.rt:105:30
-within-requires : tie.Need-within-requires
-within-requires c κs = search needs
-
--- src/lib.rt:105:9
-within-requires-2 : tie.Need-within-requires-2
-within-requires-2 c κs = search needs
-
--- src/lib.rt:106:9
-count-marked-requires : tie.Need-count-marked-requires
-count-marked-requires c κs = search needs
-
--- src/lib.rt:108:5
 mark-whole-marked-requires : tie.Need-mark-whole-marked-requires
 mark-whole-marked-requires c κs =
     let at-within2 = c .before .before .before in
@@ -42,11 +30,6 @@ mark-whole-marked-requires c κs =
     let most = capacity-bytes (now (args .marks)) in
     let all = capacity-bytes (now (args .other)) in (omega arith, omega arith)
 
--- src/lib.rt:109:29
-mul-mark-each-marked : tie.Need-mul-mark-each-marked
-mul-mark-each-marked c = search needs
-
--- src/lib.rt:109:5
 mark-each-marked-requires : tie.Need-mark-each-marked-requires
 unfolding capacity
 mark-each-marked-requires c κs =
@@ -56,14 +39,10 @@ mark-each-marked-requires c κs =
     let args = at-within .before .before .before .before .args in
     let inner = at-within .within .ensures .1 in
     let below = at-within2 .within2 .ensures .0 in
-    let same = ap length (at-mark-whole-marked .mark-whole-marked .ensures) ∙ length-markAll inUse (inRangeAnd (marked inUse (now (args .other))) 0 (8 * (at-within2 .within2 .result / 8))) (now (args .marks)) in
+    let same = ap length (at-mark-whole-marked .mark-whole-marked .ensures)
+    ∙ length-markAll inUse (inRangeAnd (marked inUse (now (args .other))) 0 (8 * (at-within2 .within2 .result / 8))) (now (args .marks)) in
     (omega arith, omega arith)
 
--- src/lib.rt:110:5
-count-marked-requires-2 : tie.Need-count-marked-requires-2
-count-marked-requires-2 c κs = search needs
-
--- src/lib.rt:110:5
 sub-result : tie.Need-sub-result
 sub-result c =
     let at-mark-each-marked = c .before .before .before .before in
@@ -78,16 +57,12 @@ sub-result c =
     let f = inRangeAnd (marked inUse o) 0 stop in
     let inner = at-within .within .ensures .1 in
     let below = at-within2 .within2 .ensures .0 in
-    let after = cut-on inUse (marked inUse o) 0 m (8 * (stop / 8)) stop _ _ (omega arith) (omega arith) (at-mark-whole-marked .mark-whole-marked .ensures) (at-mark-each-marked .mark-each-marked .ensures) in
+    let after = cut-on inUse (marked inUse o) 0 m (8 * (stop / 8)) stop _ _ (omega arith) (omega arith) (at-mark-whole-marked .mark-whole-marked .ensures)
+    (at-mark-each-marked .mark-each-marked .ensures) in
     let put = count-put inUse stop f m (marks-fit inUse stop m (omega arith)) (λ i h. cut-above (marked inUse o) 0 stop i h) in
     let held = at-count-marked .count-marked .ensures in
     let got = c .count-marked2 .ensures ∙ ap (countMarked inUse stop) after ∙ put in omega arith
 
--- src/lib.rt:99:1
-same-length : tie.Need-same-length
-same-length c = search needs
-
--- src/lib.rt:99:1
 returns : tie.Need-returns
 returns c =
     let at-mark-each-marked = c .before .before .before .before in
@@ -104,11 +79,13 @@ returns c =
     let outer = at-within2 .within2 .ensures in
     let top = inner .1 in
     let below = outer .0 in
-    let after = cut-on inUse (marked inUse o) 0 m (8 * (stop / 8)) stop _ _ (omega arith) (omega arith) (at-mark-whole-marked .mark-whole-marked .ensures) (at-mark-each-marked .mark-each-marked .ensures) in
+    let after = cut-on inUse (marked inUse o) 0 m (8 * (stop / 8)) stop _ _ (omega arith) (omega arith) (at-mark-whole-marked .mark-whole-marked .ensures)
+    (at-mark-each-marked .mark-each-marked .ensures) in
     let put = count-put inUse stop f m (marks-fit inUse stop m (omega arith)) (λ i h. cut-above (marked inUse o) 0 stop i h) in
     let held = at-count-marked .count-marked .ensures in
     let got = c .count-marked2 .ensures ∙ ap (countMarked inUse stop) after ∙ put in
-    let same : (k : ℕ) → k < capacity inUse m → f k ≡ markedBelow inUse (args .n) o k = λ k h. run-marked inUse o (args .n) (at-within .within .result) stop (capacity inUse m) k (inner .0) (inner .2) (outer .0) (outer .2) h in
+    let same : (k : ℕ) → k < capacity inUse m
+    → f k ≡ markedBelow inUse (args .n) o k = λ k h. run-marked inUse o (args .n) (at-within .within .result) stop (capacity inUse m) k (inner .0) (inner .2) (outer .0) (outer .2) h in
     let fresh : c .count-marked2 .result - at-count-marked .count-marked .result ≡ newMarks inUse f m = omega arith in
     (after ∙ all-same inUse f (markedBelow inUse (args .n) o) m same, fresh ∙ new-same inUse f (markedBelow inUse (args .n) o) m same)
 
@@ -116,13 +93,13 @@ pub mark-marked-spec : {M : Type 1} → statement M
 mark-marked-spec =
     tie.close
     (tie.spec
-    within-requires
-    within-requires-2
-    count-marked-requires
+    (λ c κs. search needs)
+    (λ c κs. search needs)
+    (λ c κs. search needs)
     mark-whole-marked-requires
-    mul-mark-each-marked
+    (λ c. search needs)
     mark-each-marked-requires
-    count-marked-requires-2
+    (λ c κs. search needs)
     sub-result
-    same-length
+    (λ c. search needs)
     returns)

@@ -1,3 +1,4 @@
+-- `marks::mark_run` meets its contract. Assumes nothing.
 use Rattle.marks.proofs.WholeLaws.{first-byte, capacity-bytes}
 use Rattle.marks.proofs.CountLaws.{cut-on}
 use Rattle.marks.proofs.MarkLaws.{length-markAll}
@@ -6,8 +7,8 @@ use Rattle.marks.specs.Offsets.{inRangeAnd, always}
 use lib.ListN.{length}
 use denote.Ref.{now}
 use native.Mathlib.Omega.{arith}
-use mathlib.Core.Path.{_≡_, refl, sym, ap, ap₂, _∙_}
-use Prim.Native.Nat.{ℕ, _+_, _*_, _-_, _/_, _≤_, _<_}
+use mathlib.Core.Path.{ap, _∙_}
+use Prim.Native.Nat.{_*_, _-_, _/_}
 use borrow.Author.Needs.{needs}
 use Rattle.marks.proofs.mark_run.Statement.{statement}
 use Rattle.marks.proofs.mark_run.Tie as tie
@@ -17,27 +18,6 @@ use Rattle.marks.proofs.each.mark_each.Reads as mark-each-reads
 use Rattle.marks.proofs.marks_for.Reads as marks-for-reads
 use Rattle.marks.proofs.whole.fill.Reads as fill-reads
 
--- src/lib.rt:72:9
-marks-for-requires : tie.Need-marks-for-requires
-marks-for-requires c κs = search needs
-
--- src/lib.rt:75:9
-mark-each-requires : tie.Need-mark-each-requires
-mark-each-requires c κs = search needs
-
--- src/lib.rt:76:9
-same-length : tie.Need-same-length
-same-length c = search needs
-
--- src/lib.rt:76:9
-returns : tie.Need-returns
-returns c = search needs
-
--- src/lib.rt:78:29
-mul-mark-each : tie.Need-mul-mark-each
-mul-mark-each c = search needs
-
--- src/lib.rt:78:5
 mark-each-requires-2 : tie.Need-mark-each-requires-2
 mark-each-requires-2 c κs =
     let at-marks-for = c .before .before in
@@ -46,7 +26,6 @@ mark-each-requires-2 c κs =
     let low = first .0 in
     let room = at-pre .pre .1 in (omega arith, omega arith)
 
--- src/lib.rt:79:5
 fill-requires : tie.Need-fill-requires
 fill-requires c κs =
     let at-mark-each2 = c .before .before .before in
@@ -56,11 +35,6 @@ fill-requires c κs =
     let room = at-pre .pre .1 in
     let most = capacity-bytes (now (at-pre .args .marks)) in (omega arith, omega arith)
 
--- src/lib.rt:80:22
-mul-mark-each-2 : tie.Need-mul-mark-each-2
-mul-mark-each-2 c = search needs
-
--- src/lib.rt:80:5
 mark-each-requires-3 : tie.Need-mark-each-requires-3
 unfolding capacity
 mark-each-requires-3 c κs =
@@ -73,11 +47,6 @@ mark-each-requires-3 c κs =
     let same = inside ∙ head in
     let room = at-pre .pre .1 in (omega arith, omega arith)
 
--- src/lib.rt:68:1
-same-length-2 : tie.Need-same-length-2
-same-length-2 c = search needs
-
--- src/lib.rt:68:1
 returns-2 : tie.Need-returns-2
 returns-2 c =
     let at-mark-each3 = c .before .before in
@@ -88,20 +57,21 @@ returns-2 c =
     let first = first-byte (args .start) (at-marks-for .marks-for .result) (at-marks-for .marks-for .ensures) in
     let m = now (args .marks) in
     cut-on inUse always (args .start) m (8 * (args .end / 8)) (args .end) _ _ (omega (arith, first .0)) (omega arith)
-    (cut-on inUse always (args .start) m (8 * at-marks-for .marks-for .result) (8 * (args .end / 8)) _ _ (first .0) (omega arith) (at-mark-each2 .mark-each2 .ensures) (at-fill .fill .ensures)) (at-mark-each3 .mark-each3 .ensures)
+    (cut-on inUse always (args .start) m (8 * at-marks-for .marks-for .result) (8 * (args .end / 8)) _ _ (first .0) (omega arith) (at-mark-each2 .mark-each2 .ensures)
+    (at-fill .fill .ensures)) (at-mark-each3 .mark-each3 .ensures)
 
 pub mark-run-spec : {M : Type 1} → statement M
 mark-run-spec =
     tie.close
     (tie.spec
-    marks-for-requires
-    mark-each-requires
-    same-length
-    returns
-    mul-mark-each
+    (λ c κs. search needs)
+    (λ c κs. search needs)
+    (λ c. search needs)
+    (λ c. search needs)
+    (λ c. search needs)
     mark-each-requires-2
     fill-requires
-    mul-mark-each-2
+    (λ c. search needs)
     mark-each-requires-3
-    same-length-2
+    (λ c. search needs)
     returns-2)

@@ -1,3 +1,4 @@
+-- `marks_by_one::count_each` meets its contract. Assumes nothing.
 use Rattle.marks.proofs.CountLaws.{count-next, count-start, area-count}
 use Rattle.marks.specs.Marks.{inUse, marked, countMarked}
 use Rattle.marks.specs.Offsets.{countBelow}
@@ -22,35 +23,12 @@ Inv-loop marks n stop count₀ i₀ count i =
 abbrev μ-loop : tie.MeasureT-loop
 μ-loop marks n stop count₀ i₀ count i = stop - i
 
--- src/lib.rt:22:9
-within-requires : tie.Need-within-requires Inv-loop μ-loop
-within-requires c κs = search needs
-
--- src/lib.rt:25:5
 loop-holds : tie.Need-loop-holds Inv-loop μ-loop
 loop-holds c = (omega arith, refl, omega arith)
 
--- src/lib.rt:26:25
-is-marked-requires : tie.Need-is-marked-requires Inv-loop μ-loop
-is-marked-requires c κs = search needs
-
--- src/lib.rt:26:18
-one-if-requires : tie.Need-one-if-requires Inv-loop μ-loop
-one-if-requires c κs = search needs
-
--- src/lib.rt:26:9
 add-count : tie.Need-add-count Inv-loop μ-loop
 add-count c = let most = c .one-if .ensures .1 in omega arith
 
--- src/lib.rt:27:9
-add-i : tie.Need-add-i Inv-loop μ-loop
-add-i c = search needs
-
--- src/lib.rt:25:5
-loop-less : tie.Need-loop-less Inv-loop μ-loop
-loop-less c = search needs
-
--- src/lib.rt:25:5
 loop-again : tie.Need-loop-again Inv-loop μ-loop
 loop-again c =
     let at-is-marked = c .before in
@@ -60,7 +38,6 @@ loop-again c =
     let most = c .one-if .ensures .1 in
     (omega arith, count-next 0 (at-loop .loop .i) (at-loop .loop .count) _ (marked inUse (now (args .marks))) (omega arith) (at-loop .loop .inv .1) d, omega arith)
 
--- src/lib.rt:19:1
 returns : tie.Need-returns Inv-loop μ-loop
 unfolding countMarked
 returns c =
@@ -78,12 +55,12 @@ count-each-spec =
     (tie.spec
     Inv-loop
     μ-loop
-    within-requires
+    (λ c κs. search needs)
     loop-holds
-    is-marked-requires
-    one-if-requires
+    (λ c κs. search needs)
+    (λ c κs. search needs)
     add-count
-    add-i
-    loop-less
+    (λ c. search needs)
+    (λ c. search needs)
     loop-again
     returns)

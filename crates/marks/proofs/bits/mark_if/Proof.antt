@@ -1,3 +1,4 @@
+-- `marks::bits::mark_if` meets its contract. Assumes nothing.
 use Rattle.marks.proofs.MarkLaws.{mark-chosen}
 use Rattle.marks.specs.Marks.{capacity}
 use lib.ListN.{set}
@@ -12,25 +13,14 @@ use Rattle.marks.proofs.bits.mark_if.Reads as reads
 use Rattle.marks.proofs.bits.mark_if.Lts as lts
 use Rattle.marks.proofs.bits.with_bit.Reads as with-bit-reads
 
--- src/bits.rt:33:26
 slice-read-with-bit : tie.Need-slice-read-with-bit
 unfolding capacity
 slice-read-with-bit c = omega (arith, c .before .before .pre)
 
--- src/bits.rt:33:17
-with-bit-requires : tie.Need-with-bit-requires
-with-bit-requires c κs = search needs
-
--- src/bits.rt:33:5
 slice-write-marks : tie.Need-slice-write-marks
 unfolding capacity
 slice-write-marks c = omega (arith, c .before .before .before .pre)
 
--- src/bits.rt:28:1
-same-length : tie.Need-same-length
-same-length c = search needs
-
--- src/bits.rt:28:1
 returns : tie.Need-returns
 returns c =
     let args = c .before .before .before .args in
@@ -39,4 +29,4 @@ returns c =
 pub mark-if-spec : {M : Type 1} → statement M
 mark-if-spec =
     tie.close
-    (tie.spec slice-read-with-bit with-bit-requires slice-write-marks same-length returns)
+    (tie.spec slice-read-with-bit (λ c κs. search needs) slice-write-marks (λ c. search needs) returns)

@@ -1,3 +1,4 @@
+-- `marks::each::any_each` meets its contract. Assumes nothing.
 use Rattle.marks.proofs.OffsetLaws.{from-none, from-step}
 use Rattle.marks.specs.Marks.{inUse, marked}
 use Rattle.marks.specs.Offsets.{anyFrom}
@@ -21,31 +22,20 @@ Inv-loop marks start end any₀ i₀ any i =
 abbrev μ-loop : tie.MeasureT-loop
 μ-loop marks start end any₀ i₀ any i = end - i
 
--- src/each.rt:62:5
 loop-holds : tie.Need-loop-holds Inv-loop μ-loop
 loop-holds c =
     (omega arith, λ h. refl, sym (from-none (c .before .args .start) (c .before .args .start) (marked inUse (now (c .before .args .marks))) (λ k h l. absurd (omega arith))))
 
--- src/each.rt:63:15
-is-marked-requires : tie.Need-is-marked-requires Inv-loop μ-loop
-is-marked-requires c κs = search needs
-
--- src/each.rt:64:9
-add-i : tie.Need-add-i Inv-loop μ-loop
-add-i c = search needs
-
--- src/each.rt:62:5
-loop-less : tie.Need-loop-less Inv-loop μ-loop
-loop-less c = search needs
-
--- src/each.rt:62:5
 loop-again : tie.Need-loop-again Inv-loop μ-loop
 loop-again c =
     let at-loop = c .before .before in
-    let args = at-loop .before .before .args in
-    (omega arith, λ h. absurd (omega arith), ap₂ _||_ (c .is-marked .ensures) (at-loop .loop .inv .2) ∙ sym (from-step (args .start) (at-loop .loop .i) (marked inUse (now (args .marks))) (at-loop .loop .inv .0)))
+    let args = at-loop .before .before .args in (
+      omega arith,
+      λ h. absurd (omega arith),
+      ap₂ _||_ (c .is-marked .ensures) (at-loop .loop .inv .2)
+          ∙ sym (from-step (args .start) (at-loop .loop .i) (marked inUse (now (args .marks))) (at-loop .loop .inv .0)),
+    )
 
--- src/each.rt:57:1
 returns : tie.Need-returns Inv-loop μ-loop
 returns c =
     let at-loop = c .before in
@@ -58,4 +48,4 @@ returns c =
 pub any-each-spec : {M : Type 1} → statement M
 any-each-spec =
     tie.close
-    (tie.spec Inv-loop μ-loop loop-holds is-marked-requires add-i loop-less loop-again returns)
+    (tie.spec Inv-loop μ-loop loop-holds (λ c κs. search needs) (λ c. search needs) (λ c. search needs) loop-again returns)

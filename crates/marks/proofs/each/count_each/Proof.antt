@@ -1,3 +1,4 @@
+-- `marks::each::count_each` meets its contract. Assumes nothing.
 use Rattle.marks.proofs.CountLaws.{count-next}
 use Rattle.marks.specs.Marks.{inUse, marked}
 use Rattle.marks.specs.Offsets.{countBelow}
@@ -22,43 +23,28 @@ Inv-loop marks start end count₀ i₀ count i =
 abbrev μ-loop : tie.MeasureT-loop
 μ-loop marks start end count₀ i₀ count i = end - i
 
--- src/each.rt:49:5
 loop-holds : tie.Need-loop-holds Inv-loop μ-loop
 loop-holds c =
     let none : 0 ≡ c .before .args .start - c .before .args .start = omega arith in
     (omega arith, λ h. refl, ap (λ (n : ℕ). countBelow n (λ j. marked inUse (now (c .before .args .marks)) (c .before .args .start + j))) none, omega arith)
 
--- src/each.rt:50:25
-is-marked-requires : tie.Need-is-marked-requires Inv-loop μ-loop
-is-marked-requires c κs = search needs
-
--- src/each.rt:50:18
-one-if-requires : tie.Need-one-if-requires Inv-loop μ-loop
-one-if-requires c κs = search needs
-
--- src/each.rt:50:9
 add-count : tie.Need-add-count Inv-loop μ-loop
 add-count c = let most = c .one-if .ensures .1 in omega arith
 
--- src/each.rt:51:9
-add-i : tie.Need-add-i Inv-loop μ-loop
-add-i c = search needs
-
--- src/each.rt:49:5
-loop-less : tie.Need-loop-less Inv-loop μ-loop
-loop-less c = search needs
-
--- src/each.rt:49:5
 loop-again : tie.Need-loop-again Inv-loop μ-loop
 loop-again c =
     let at-is-marked = c .before in
     let at-loop = at-is-marked .before .before in
     let args = at-loop .before .before .args in
     let d = c .one-if .ensures .0 ∙ ap (λ (b : Bool). cond b 1 0) (at-is-marked .is-marked .ensures) in
-    let most = c .one-if .ensures .1 in
-    (omega arith, λ h. absurd (omega arith), count-next (args .start) (at-loop .loop .i) (at-loop .loop .count) _ (marked inUse (now (args .marks))) (at-loop .loop .inv .0) (at-loop .loop .inv .2) d, omega arith)
+    let most = c .one-if .ensures .1 in (
+      omega arith,
+      λ h. absurd (omega arith),
+      count-next (args .start) (at-loop .loop .i) (at-loop .loop .count) _ (marked inUse (now (args .marks))) (at-loop .loop .inv .0)
+          (at-loop .loop .inv .2) d,
+      omega arith,
+    )
 
--- src/each.rt:44:1
 returns : tie.Need-returns Inv-loop μ-loop
 returns c =
     let at-loop = c .before in
@@ -73,10 +59,10 @@ count-each-spec =
     Inv-loop
     μ-loop
     loop-holds
-    is-marked-requires
-    one-if-requires
+    (λ c κs. search needs)
+    (λ c κs. search needs)
     add-count
-    add-i
-    loop-less
+    (λ c. search needs)
+    (λ c. search needs)
     loop-again
     returns)

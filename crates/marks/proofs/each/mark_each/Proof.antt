@@ -1,3 +1,4 @@
+-- `marks::each::mark_each` meets its contract. Assumes nothing.
 use Rattle.marks.proofs.CountLaws.{cut-start, cut-next}
 use Rattle.marks.proofs.MarkLaws.{capacity-length}
 use Rattle.marks.specs.Marks.{inUse, capacity, markAll}
@@ -22,12 +23,10 @@ Inv-loop marks₀ start end i₀ marks i =
 abbrev μ-loop : tie.MeasureT-loop
 μ-loop marks₀ start end i₀ marks i = end - i
 
--- src/each.rt:23:5
 loop-holds : tie.Need-loop-holds Inv-loop μ-loop
 loop-holds c =
     (omega arith, omega arith, refl, sym (cut-start inUse always (c .before .args .start) (now (c .before .args .marks))))
 
--- src/each.rt:24:9
 mark-if-requires : tie.Need-mark-if-requires Inv-loop μ-loop
 mark-if-requires c κs =
     let at-loop = c .before .before in
@@ -35,29 +34,23 @@ mark-if-requires c κs =
     let room = at-pre .pre .1 in
     let same = capacity-length inUse (at-loop .loop .marks) (now (at-pre .args .marks)) (at-loop .loop .inv .2) in omega arith
 
--- src/each.rt:25:9
-add-i : tie.Need-add-i Inv-loop μ-loop
-add-i c = search needs
-
--- src/each.rt:23:5
-loop-less : tie.Need-loop-less Inv-loop μ-loop
-loop-less c = search needs
-
--- src/each.rt:23:5
 loop-again : tie.Need-loop-again Inv-loop μ-loop
 loop-again c =
     let at-mark-if = c .before .before in
     let at-loop = at-mark-if .before .before .before in
     let at-pre = at-loop .before .before in
     let room = at-pre .pre .1 in
-    let same = capacity-length inUse (at-loop .loop .marks) (now (at-pre .args .marks)) (at-loop .loop .inv .2) in
-    (omega arith, omega arith, search needs, cut-next inUse always (at-pre .args .start) (now (at-pre .args .marks)) (at-loop .loop .i) (at-loop .loop .marks) _ true (at-loop .loop .inv .0) (omega arith) (at-loop .loop .inv .3) refl (at-mark-if .mark-if .ensures))
+    let same = capacity-length inUse (at-loop .loop .marks) (now (at-pre .args .marks)) (at-loop .loop .inv .2) in (
+      omega arith,
+      omega arith,
+      search needs,
+      cut-next inUse always (at-pre .args .start) (now (at-pre .args .marks)) (at-loop .loop .i) (at-loop .loop .marks) _ true (at-loop .loop .inv .0)
+          (omega arith) (at-loop .loop .inv .3) refl (at-mark-if .mark-if .ensures),
+    )
 
--- src/each.rt:18:1
 same-length : tie.Need-same-length Inv-loop μ-loop
 same-length c = c .before .loop .inv .2
 
--- src/each.rt:18:1
 returns : tie.Need-returns Inv-loop μ-loop
 returns c =
     let at-loop = c .before in
@@ -73,8 +66,8 @@ mark-each-spec =
     μ-loop
     loop-holds
     mark-if-requires
-    add-i
-    loop-less
+    (λ c. search needs)
+    (λ c. search needs)
     loop-again
     same-length
     returns)

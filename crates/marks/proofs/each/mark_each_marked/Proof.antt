@@ -1,3 +1,4 @@
+-- `marks::each::mark_each_marked` meets its contract. Assumes nothing.
 use Rattle.marks.proofs.CountLaws.{cut-start, cut-next}
 use Rattle.marks.proofs.MarkLaws.{capacity-length}
 use Rattle.marks.specs.Marks.{inUse, capacity, marked, markAll}
@@ -22,16 +23,10 @@ Inv-loop marks₀ start end other i₀ marks i =
 abbrev μ-loop : tie.MeasureT-loop
 μ-loop marks₀ start end other i₀ marks i = end - i
 
--- src/each.rt:37:5
 loop-holds : tie.Need-loop-holds Inv-loop μ-loop
 loop-holds c =
     (omega arith, omega arith, refl, sym (cut-start inUse (marked inUse (now (c .before .before .args .other))) (c .before .before .args .start) (now (c .before .before .args .marks))))
 
--- src/each.rt:38:27
-is-marked-requires : tie.Need-is-marked-requires Inv-loop μ-loop
-is-marked-requires c κs = search needs
-
--- src/each.rt:38:9
 mark-if-requires : tie.Need-mark-if-requires Inv-loop μ-loop
 mark-if-requires c κs =
     let at-loop = c .before .before .before in
@@ -39,15 +34,6 @@ mark-if-requires c κs =
     let room = at-pre .pre .1 in
     let same = capacity-length inUse (at-loop .loop .marks) (now (at-pre .args .marks)) (at-loop .loop .inv .2) in omega arith
 
--- src/each.rt:39:9
-add-i : tie.Need-add-i Inv-loop μ-loop
-add-i c = search needs
-
--- src/each.rt:37:5
-loop-less : tie.Need-loop-less Inv-loop μ-loop
-loop-less c = search needs
-
--- src/each.rt:37:5
 loop-again : tie.Need-loop-again Inv-loop μ-loop
 loop-again c =
     let at-mark-if = c .before .before in
@@ -55,14 +41,17 @@ loop-again c =
     let at-loop = at-is-marked .before .before .before in
     let at-pre = at-loop .before .before .before in
     let room = at-pre .pre .1 in
-    let same = capacity-length inUse (at-loop .loop .marks) (now (at-pre .args .marks)) (at-loop .loop .inv .2) in
-    (omega arith, omega arith, search needs, cut-next inUse (marked inUse (now (at-pre .args .other))) (at-pre .args .start) (now (at-pre .args .marks)) (at-loop .loop .i) (at-loop .loop .marks) _ _ (at-loop .loop .inv .0) (omega arith) (at-loop .loop .inv .3) (at-is-marked .is-marked .ensures) (at-mark-if .mark-if .ensures))
+    let same = capacity-length inUse (at-loop .loop .marks) (now (at-pre .args .marks)) (at-loop .loop .inv .2) in (
+      omega arith,
+      omega arith,
+      search needs,
+      cut-next inUse (marked inUse (now (at-pre .args .other))) (at-pre .args .start) (now (at-pre .args .marks)) (at-loop .loop .i)
+          (at-loop .loop .marks) _ _ (at-loop .loop .inv .0) (omega arith) (at-loop .loop .inv .3) (at-is-marked .is-marked .ensures) (at-mark-if .mark-if .ensures),
+    )
 
--- src/each.rt:30:1
 same-length : tie.Need-same-length Inv-loop μ-loop
 same-length c = c .before .loop .inv .2
 
--- src/each.rt:30:1
 returns : tie.Need-returns Inv-loop μ-loop
 returns c =
     let at-loop = c .before in
@@ -77,10 +66,10 @@ mark-each-marked-spec =
     Inv-loop
     μ-loop
     loop-holds
-    is-marked-requires
+    (λ c κs. search needs)
     mark-if-requires
-    add-i
-    loop-less
+    (λ c. search needs)
+    (λ c. search needs)
     loop-again
     same-length
     returns)

@@ -1,3 +1,4 @@
+-- `marks::whole::count_bytes` meets its contract. Assumes nothing.
 use Rattle.marks.proofs.WholeLaws.{byte-step}
 use Rattle.marks.specs.Marks.{inUse, marked}
 use Rattle.marks.specs.Offsets.{countBelow}
@@ -20,26 +21,22 @@ Inv-loop marks first last count₀ k₀ count k =
 abbrev μ-loop : tie.MeasureT-loop
 μ-loop marks first last count₀ k₀ count k = last - k
 
--- src/whole.rt:74:5
 loop-holds : tie.Need-loop-holds Inv-loop μ-loop
 loop-holds c =
     let none : 0 ≡ 8 * (c .args .first - c .args .first) = omega arith in
     (omega arith, omega arith, ap (λ (n : ℕ). countBelow n (λ j. marked inUse (now (c .args .marks)) (8 * c .args .first + j))) none, omega arith)
 
--- src/whole.rt:75:33
 shared-slice-read-count : tie.Need-shared-slice-read-count Inv-loop μ-loop
 shared-slice-read-count c =
     let at-pre = c .before .before .before in
     let room = at-pre .pre .1 in omega arith
 
--- src/whole.rt:75:18
 cast-count : tie.Need-cast-count Inv-loop μ-loop
 cast-count c =
     let at-loop = c .before .before in
     let args = at-loop .before .args in
     let most = ones-le 8 (getD (now (args .marks)) (at-loop .loop .k) 0) (omega (arith, c .shared-slice-known .given (at-loop .loop .k))) in omega arith
 
--- src/whole.rt:75:9
 add-count : tie.Need-add-count Inv-loop μ-loop
 add-count c =
     let at-loop = c .before .before in
@@ -47,23 +44,18 @@ add-count c =
     let most = ones-le 8 (getD (now (at-pre .args .marks)) (at-loop .loop .k) 0) (omega (arith, c .shared-slice-known .given (at-loop .loop .k))) in
     let top = at-pre .pre .2 in omega arith
 
--- src/whole.rt:76:9
-add-k : tie.Need-add-k Inv-loop μ-loop
-add-k c = search needs
-
--- src/whole.rt:74:5
-loop-less : tie.Need-loop-less Inv-loop μ-loop
-loop-less c = search needs
-
--- src/whole.rt:74:5
 loop-again : tie.Need-loop-again Inv-loop μ-loop
 loop-again c =
     let at-loop = c .before .before in
     let args = at-loop .before .args in
-    let most = ones-le 8 (getD (now (args .marks)) (at-loop .loop .k) 0) (omega (arith, c .shared-slice-known .given (at-loop .loop .k))) in
-    (omega arith, omega arith, byte-step (now (args .marks)) (args .first) (at-loop .loop .k) (at-loop .loop .count) _ (λ i. omega (arith, c .shared-slice-known .given i)) (at-loop .loop .inv .0) (at-loop .loop .inv .2) refl, omega arith)
+    let most = ones-le 8 (getD (now (args .marks)) (at-loop .loop .k) 0) (omega (arith, c .shared-slice-known .given (at-loop .loop .k))) in (
+      omega arith,
+      omega arith,
+      byte-step (now (args .marks)) (args .first) (at-loop .loop .k) (at-loop .loop .count) _ (λ i. omega (arith, c .shared-slice-known .given i))
+          (at-loop .loop .inv .0) (at-loop .loop .inv .2) refl,
+      omega arith,
+    )
 
--- src/whole.rt:68:1
 returns : tie.Need-returns Inv-loop μ-loop
 returns c =
     let e : 8 * (c .before .loop .k - c .before .before .args .first) ≡ 8 * (c .before .before .args .last - c .before .before .args .first) = omega arith in
@@ -79,7 +71,7 @@ count-bytes-spec =
     shared-slice-read-count
     cast-count
     add-count
-    add-k
-    loop-less
+    (λ c. search needs)
+    (λ c. search needs)
     loop-again
     returns)

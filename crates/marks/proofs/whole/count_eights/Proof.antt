@@ -1,8 +1,9 @@
+-- `marks::whole::count_eights` meets its contract. Assumes nothing.
 use Rattle.marks.proofs.WholeLaws.{eight-step, eight-most}
 use Rattle.marks.specs.Marks.{inUse, marked}
 use Rattle.marks.specs.Offsets.{countBelow}
 use borrow.Author.Needs.{needs}
-use lib.Count.{ones, ones-le}
+use lib.Count.{ones}
 use denote.Ref.{now}
 use native.Mathlib.Omega.{arith}
 use mathlib.Core.Path.{_≡_, refl, ap, _∙_}
@@ -20,36 +21,30 @@ Inv-loop marks first eights count₀ k₀ count k =
 abbrev μ-loop : tie.MeasureT-loop
 μ-loop marks first eights count₀ k₀ count k = eights - k
 
--- src/whole.rt:60:5
 loop-holds : tie.Need-loop-holds Inv-loop μ-loop
 loop-holds c = (omega arith, refl, omega arith)
 
--- src/whole.rt:61:55
 mul-eight : tie.Need-mul-eight Inv-loop μ-loop
 mul-eight c =
     let at-pre = c .before .before .before in
     let room = at-pre .pre .0 in omega arith
 
--- src/whole.rt:61:47
 add-eight : tie.Need-add-eight Inv-loop μ-loop
 add-eight c =
     let at-pre = c .before .before .before in
     let room = at-pre .pre .0 in omega arith
 
--- src/whole.rt:61:34
 eight-requires : tie.Need-eight-requires Inv-loop μ-loop
 eight-requires c κs =
     let at-pre = c .before .before .before in
     let room = at-pre .pre .0 in omega arith
 
--- src/whole.rt:61:18
 cast-count : tie.Need-cast-count Inv-loop μ-loop
 cast-count c =
     let at-shared-slice-known = c .before .before .before in
     let args = at-shared-slice-known .before .args in
     let most = eight-most (now (args .marks)) _ (c .eight .result) (λ i. omega (arith, at-shared-slice-known .shared-slice-known .given i)) (c .eight .ensures) in omega arith
 
--- src/whole.rt:61:9
 add-count : tie.Need-add-count Inv-loop μ-loop
 add-count c =
     let at-shared-slice-known = c .before .before .before in
@@ -57,24 +52,18 @@ add-count c =
     let most = eight-most (now (at-pre .args .marks)) _ (c .eight .result) (λ i. omega (arith, at-shared-slice-known .shared-slice-known .given i)) (c .eight .ensures) in
     let top = at-pre .pre .1 in omega arith
 
--- src/whole.rt:62:9
-add-k : tie.Need-add-k Inv-loop μ-loop
-add-k c = search needs
-
--- src/whole.rt:60:5
-loop-less : tie.Need-loop-less Inv-loop μ-loop
-loop-less c = search needs
-
--- src/whole.rt:60:5
 loop-again : tie.Need-loop-again Inv-loop μ-loop
 loop-again c =
     let at-loop = c .before .before in
     let at-shared-slice-known = at-loop .before in
     let args = at-shared-slice-known .before .args in
-    let most = eight-most (now (args .marks)) _ (c .eight .result) (λ i. omega (arith, at-shared-slice-known .shared-slice-known .given i)) (c .eight .ensures) in
-    (omega arith, eight-step (now (args .marks)) (args .first) (at-loop .loop .k) (at-loop .loop .count) _ (λ i. omega (arith, at-shared-slice-known .shared-slice-known .given i)) (at-loop .loop .inv .1) (ap ones (c .eight .ensures)), omega arith)
+    let most = eight-most (now (args .marks)) _ (c .eight .result) (λ i. omega (arith, at-shared-slice-known .shared-slice-known .given i)) (c .eight .ensures) in (
+      omega arith,
+      eight-step (now (args .marks)) (args .first) (at-loop .loop .k) (at-loop .loop .count) _ (λ i. omega (arith, at-shared-slice-known .shared-slice-known .given i))
+          (at-loop .loop .inv .1) (ap ones (c .eight .ensures)),
+      omega arith,
+    )
 
--- src/whole.rt:54:1
 returns : tie.Need-returns Inv-loop μ-loop
 returns c =
     let at-loop = c .before in
@@ -94,7 +83,7 @@ count-eights-spec =
     eight-requires
     cast-count
     add-count
-    add-k
-    loop-less
+    (λ c. search needs)
+    (λ c. search needs)
     loop-again
     returns)

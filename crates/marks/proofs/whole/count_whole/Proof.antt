@@ -1,10 +1,10 @@
+-- `marks::whole::count_whole` meets its contract. Assumes nothing.
 use Rattle.marks.proofs.WholeLaws.{whole-join}
 use Rattle.marks.proofs.CountLaws.{count-most}
 use Rattle.marks.specs.Marks.{inUse, marked}
 use denote.Ref.{now}
 use native.Mathlib.Omega.{arith}
-use mathlib.Core.Path.{_≡_, refl, sym, ap, ap₂, _∙_}
-use Prim.Native.Nat.{ℕ, _+_, _*_, _-_, _/_, _≤_, _<_}
+use Prim.Native.Nat.{_+_, _*_, _-_, _/_}
 use borrow.Author.Needs.{needs}
 use Rattle.marks.proofs.whole.count_whole.Statement.{statement}
 use Rattle.marks.proofs.whole.count_whole.Tie as tie
@@ -13,27 +13,6 @@ use Rattle.marks.proofs.whole.count_whole.Lts as lts
 use Rattle.marks.proofs.whole.count_bytes.Reads as count-bytes-reads
 use Rattle.marks.proofs.whole.count_eights.Reads as count-eights-reads
 
--- src/whole.rt:86:19
-sub-eights : tie.Need-sub-eights
-sub-eights c = search needs
-
--- src/whole.rt:87:24
-mul-rest : tie.Need-mul-rest
-mul-rest c = search needs
-
--- src/whole.rt:87:16
-add-rest : tie.Need-add-rest
-add-rest c = search needs
-
--- src/whole.rt:88:5
-count-eights-requires : tie.Need-count-eights-requires
-count-eights-requires c κs = search needs
-
--- src/whole.rt:88:42
-count-bytes-requires : tie.Need-count-bytes-requires
-count-bytes-requires c κs = search needs
-
--- src/whole.rt:88:5
 add-result : tie.Need-add-result
 add-result c =
     let at-count-eights = c .before in
@@ -46,7 +25,6 @@ add-result c =
     let rest = count-most (8 * (at-pre .args .last - (at-pre .args .first + 8 * eights))) (λ j. marked inUse m (8 * (at-pre .args .first + 8 * eights) + j)) in
     let top = at-pre .pre .2 in omega arith
 
--- src/whole.rt:82:1
 returns : tie.Need-returns
 returns c =
     let at-count-eights = c .before in
@@ -57,10 +35,10 @@ pub count-whole-spec : {M : Type 1} → statement M
 count-whole-spec =
     tie.close
     (tie.spec
-    sub-eights
-    mul-rest
-    add-rest
-    count-eights-requires
-    count-bytes-requires
+    (λ c. search needs)
+    (λ c. search needs)
+    (λ c. search needs)
+    (λ c κs. search needs)
+    (λ c κs. search needs)
     add-result
     returns)

@@ -1,3 +1,4 @@
+-- `marks::whole::fill` meets its contract. Assumes nothing.
 use Rattle.marks.proofs.WholeLaws.{full-byte}
 use Rattle.marks.proofs.CountLaws.{cut-start, cut-on}
 use Rattle.marks.specs.Marks.{inUse, markAll}
@@ -20,52 +21,39 @@ Inv-loop marks₀ first last k₀ marks k =
 abbrev μ-loop : tie.MeasureT-loop
 μ-loop marks₀ first last k₀ marks k = last - k
 
--- src/whole.rt:21:5
 loop-holds : tie.Need-loop-holds Inv-loop μ-loop
 loop-holds c =
     (omega arith, omega arith, refl, sym (cut-start inUse always (8 * c .args .first) (now (c .args .marks))))
 
--- src/whole.rt:22:20
 slice-read-marks : tie.Need-slice-read-marks Inv-loop μ-loop
 slice-read-marks c =
     let at-loop = c .before .before in
     let at-pre = at-loop .before in
     let room = at-pre .pre .1 in let same = at-loop .loop .inv .2 in omega arith
 
--- src/whole.rt:22:9
 slice-write-marks : tie.Need-slice-write-marks Inv-loop μ-loop
 slice-write-marks c =
     let at-loop = c .before .before in
     let at-pre = at-loop .before in
     let room = at-pre .pre .1 in let same = at-loop .loop .inv .2 in omega arith
 
--- src/whole.rt:23:9
-add-k : tie.Need-add-k Inv-loop μ-loop
-add-k c = search needs
-
--- src/whole.rt:21:5
-loop-less : tie.Need-loop-less Inv-loop μ-loop
-loop-less c = search needs
-
--- src/whole.rt:21:5
 loop-again : tie.Need-loop-again Inv-loop μ-loop
 loop-again c =
     let at-loop = c .before .before in
     let at-pre = at-loop .before in
     let room = at-pre .pre .1 in
     let same = at-loop .loop .inv .2 in (
-    omega arith,
-    omega arith,
-    search needs,
-    cut-on inUse always (8 * at-pre .args .first) (now (at-pre .args .marks)) (8 * at-loop .loop .k) (8 * (at-loop .loop .k + 1)) (at-loop .loop .marks) _ (omega arith) (omega arith) (at-loop .loop .inv .3)
-    (full-byte (at-loop .loop .marks) (at-loop .loop .k) (omega arith) (λ i. omega (arith, c .slice-known .given i))),
+      omega arith,
+      omega arith,
+      search needs,
+      cut-on inUse always (8 * at-pre .args .first) (now (at-pre .args .marks)) (8 * at-loop .loop .k) (8 * (at-loop .loop .k + 1)) (at-loop .loop .marks) _ (omega arith) (omega arith)
+          (at-loop .loop .inv .3)
+          (full-byte (at-loop .loop .marks) (at-loop .loop .k) (omega arith) (λ i. omega (arith, c .slice-known .given i))),
     )
 
--- src/whole.rt:16:1
 same-length : tie.Need-same-length Inv-loop μ-loop
 same-length c = c .before .loop .inv .2
 
--- src/whole.rt:16:1
 returns : tie.Need-returns Inv-loop μ-loop
 returns c =
     let e : 8 * c .before .loop .k ≡ 8 * c .before .before .args .last = omega arith in
@@ -80,8 +68,8 @@ fill-spec =
     loop-holds
     slice-read-marks
     slice-write-marks
-    add-k
-    loop-less
+    (λ c. search needs)
+    (λ c. search needs)
     loop-again
     same-length
     returns)

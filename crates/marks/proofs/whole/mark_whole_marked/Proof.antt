@@ -1,3 +1,4 @@
+-- `marks::whole::mark_whole_marked` meets its contract. Assumes nothing.
 use Rattle.marks.proofs.WholeLaws.{or-byte}
 use Rattle.marks.proofs.CountLaws.{cut-start, cut-on}
 use Rattle.marks.specs.Marks.{inUse, marked, markAll}
@@ -20,40 +21,27 @@ Inv-loop marks₀ last other k₀ marks k =
 abbrev μ-loop : tie.MeasureT-loop
 μ-loop marks₀ last other k₀ marks k = last - k
 
--- src/whole.rt:35:5
 loop-holds : tie.Need-loop-holds Inv-loop μ-loop
 loop-holds c =
     (omega arith, refl, sym (cut-start inUse (marked inUse (now (c .args .other))) 0 (now (c .args .marks))))
 
--- src/whole.rt:36:20
 slice-read-marks : tie.Need-slice-read-marks Inv-loop μ-loop
 slice-read-marks c =
     let at-loop = c .before .before in
     let at-pre = at-loop .before in
     let room = at-pre .pre .0 in let same = at-loop .loop .inv .1 in omega arith
 
--- src/whole.rt:36:31
 shared-slice-read-marks : tie.Need-shared-slice-read-marks Inv-loop μ-loop
 shared-slice-read-marks c =
     let at-pre = c .before .before .before .before in
     let room = at-pre .pre .1 in omega arith
 
--- src/whole.rt:36:9
 slice-write-marks : tie.Need-slice-write-marks Inv-loop μ-loop
 slice-write-marks c =
     let at-loop = c .before .before .before in
     let at-pre = at-loop .before in
     let room = at-pre .pre .0 in let same = at-loop .loop .inv .1 in omega arith
 
--- src/whole.rt:37:9
-add-k : tie.Need-add-k Inv-loop μ-loop
-add-k c = search needs
-
--- src/whole.rt:35:5
-loop-less : tie.Need-loop-less Inv-loop μ-loop
-loop-less c = search needs
-
--- src/whole.rt:35:5
 loop-again : tie.Need-loop-again Inv-loop μ-loop
 loop-again c =
     let at-slice-known = c .before in
@@ -61,17 +49,17 @@ loop-again c =
     let at-pre = at-loop .before in
     let room = at-pre .pre .0 in
     let same = at-loop .loop .inv .1 in (
-    omega arith,
-    search needs,
-    cut-on inUse (marked inUse (now (at-pre .args .other))) 0 (now (at-pre .args .marks)) (8 * at-loop .loop .k) (8 * (at-loop .loop .k + 1)) (at-loop .loop .marks) _ (omega arith) (omega arith) (at-loop .loop .inv .2)
-    (or-byte (at-loop .loop .marks) (now (at-pre .args .other)) (at-loop .loop .k) (omega arith) (λ i. omega (arith, at-slice-known .slice-known .given i)) (λ i. omega (arith, c .shared-slice-known .given i))),
+      omega arith,
+      search needs,
+      cut-on inUse (marked inUse (now (at-pre .args .other))) 0 (now (at-pre .args .marks)) (8 * at-loop .loop .k) (8 * (at-loop .loop .k + 1)) (at-loop .loop .marks) _ (omega arith)
+          (omega arith) (at-loop .loop .inv .2)
+          (or-byte (at-loop .loop .marks) (now (at-pre .args .other)) (at-loop .loop .k) (omega arith) (λ i. omega (arith, at-slice-known .slice-known .given i))
+          (λ i. omega (arith, c .shared-slice-known .given i))),
     )
 
--- src/whole.rt:28:1
 same-length : tie.Need-same-length Inv-loop μ-loop
 same-length c = c .before .loop .inv .1
 
--- src/whole.rt:28:1
 returns : tie.Need-returns Inv-loop μ-loop
 returns c =
     let e : 8 * c .before .loop .k ≡ 8 * c .before .before .args .last = omega arith in
@@ -87,8 +75,8 @@ mark-whole-marked-spec =
     slice-read-marks
     shared-slice-read-marks
     slice-write-marks
-    add-k
-    loop-less
+    (λ c. search needs)
+    (λ c. search needs)
     loop-again
     same-length
     returns)

@@ -1,3 +1,4 @@
+-- `reassembly::areas::both_each` meets its contract. Assumes nothing.
 use Rattle.reassembly.proofs.AreaLaws.{clash-step-marked}
 use Rattle.marks.proofs.OffsetLaws.{from-none, from-step}
 use Rattle.reassembly.specs.Areas.{markedView}
@@ -6,11 +7,11 @@ use Rattle.marks.specs.Marks.{inUse}
 use Rattle.marks.specs.Offsets.{anyFrom}
 use mathlib.Core.Bool.{Bool, _||_}
 use borrow.Author.Needs.{needs}
-use lib.ListN.{length, getD}
+use lib.ListN.{getD}
 use denote.Ref.{now}
 use native.Mathlib.Omega.{arith}
-use mathlib.Core.Path.{_≡_, refl, sym, ap, ap₂, _∙_}
-use Prim.Native.Nat.{ℕ, _+_, _-_, _≤_, _<_}
+use mathlib.Core.Path.{_≡_, sym, ap, ap₂, _∙_}
+use Prim.Native.Nat.{ℕ, _-_, _≤_}
 use Rattle.reassembly.proofs.areas.both_each.Statement.{statement}
 use Rattle.reassembly.proofs.areas.both_each.Tie as tie
 use Rattle.reassembly.proofs.areas.both_each.Reads as reads
@@ -25,45 +26,29 @@ Inv-loop payload marks from from-marks start end found₀ i₀ found i =
 abbrev μ-loop : tie.MeasureT-loop
 μ-loop payload marks from from-marks start end found₀ i₀ found i = end - i
 
--- src/areas.rt:198:5
 loop-holds : tie.Need-loop-holds Inv-loop μ-loop
 loop-holds c =
-    let args = c .before .before .before .before .args in
-    (omega arith, omega arith, sym (from-none (args .start) (args .start) (λ k. differs (markedView inUse (args .end) (now (args .payload)) (now (args .marks)) k) (markedView inUse (args .end) (now (args .from)) (now (args .from-marks)) k)) (λ k h l. absurd (omega arith))))
+    let args = c .before .before .before .before .args in (
+      omega arith,
+      omega arith,
+      sym
+          (from-none (args .start) (args .start)
+          (λ k. differs (markedView inUse (args .end) (now (args .payload)) (now (args .marks)) k) (markedView inUse (args .end) (now (args .from)) (now (args .from-marks)) k))
+          (λ k h l. absurd (omega arith))),
+    )
 
--- src/areas.rt:200:13
-is-marked-requires : tie.Need-is-marked-requires Inv-loop μ-loop
-is-marked-requires c κs = search needs
-
--- src/areas.rt:201:13
 shared-slice-read-differ : tie.Need-shared-slice-read-differ Inv-loop μ-loop
 shared-slice-read-differ c =
-    let at-pre = c .before .before .before .before .before .before .before .before in
+    let near = c .before .before .before .before in
+    let at-pre = near .before .before .before .before in
     let room = at-pre .pre .1 in omega arith
 
--- src/areas.rt:202:13
-is-marked-requires-2 : tie.Need-is-marked-requires-2 Inv-loop μ-loop
-is-marked-requires-2 c κs = search needs
-
--- src/areas.rt:203:13
 shared-slice-read-differ-2 : tie.Need-shared-slice-read-differ-2 Inv-loop μ-loop
 shared-slice-read-differ-2 c =
-    let at-pre = c .before .before .before .before .before .before .before .before .before .before in
+    let near = c .before .before .before .before in
+    let at-pre = near .before .before .before .before .before .before in
     let room = at-pre .pre .2 in omega arith
 
--- src/areas.rt:199:13
-differ-requires : tie.Need-differ-requires Inv-loop μ-loop
-differ-requires c κs = search needs
-
--- src/areas.rt:206:9
-add-i : tie.Need-add-i Inv-loop μ-loop
-add-i c = search needs
-
--- src/areas.rt:198:5
-loop-less : tie.Need-loop-less Inv-loop μ-loop
-loop-less c = search needs
-
--- src/areas.rt:198:5
 loop-again : tie.Need-loop-again Inv-loop μ-loop
 loop-again c =
     let at-is-marked2 = c .before .before in
@@ -76,18 +61,21 @@ loop-again c =
     let n = now (args .from-marks) in
     let test = c .differ .ensures
     ∙ ap₂ (λ (b c : Bool). differs (onlyIf b (getD p (at-loop .loop .i) 0)) (onlyIf c (getD q (at-loop .loop .i) 0))) (at-is-marked .is-marked .ensures) (at-is-marked2 .is-marked2 .ensures)
-    ∙ sym (clash-step-marked inUse (args .end) p m q n (at-loop .loop .i) (omega arith)) in
-    (omega arith, omega arith, ap₂ _||_ test (at-loop .loop .inv .2)
-    ∙ sym (from-step (args .start) (at-loop .loop .i) (λ k. differs (markedView inUse (args .end) p m k) (markedView inUse (args .end) q n k)) (at-loop .loop .inv .0)))
+    ∙ sym (clash-step-marked inUse (args .end) p m q n (at-loop .loop .i) (omega arith)) in (
+      omega arith,
+      omega arith,
+      ap₂ _||_ test (at-loop .loop .inv .2)
+          ∙ sym (from-step (args .start) (at-loop .loop .i) (λ k. differs (markedView inUse (args .end) p m k) (markedView inUse (args .end) q n k)) (at-loop .loop .inv .0)),
+    )
 
--- src/areas.rt:182:1
 returns : tie.Need-returns Inv-loop μ-loop
 returns c =
     let at-loop = c .before in
     let args = at-loop .before .before .before .before .before .args in
     let e : at-loop .loop .i ≡ args .end = omega arith in
     at-loop .loop .inv .2
-    ∙ ap (λ (n : ℕ). anyFrom (args .start) n (λ k. differs (markedView inUse (args .end) (now (args .payload)) (now (args .marks)) k) (markedView inUse (args .end) (now (args .from)) (now (args .from-marks)) k))) e
+    ∙ ap (λ (n : ℕ). anyFrom (args .start) n
+    (λ k. differs (markedView inUse (args .end) (now (args .payload)) (now (args .marks)) k) (markedView inUse (args .end) (now (args .from)) (now (args .from-marks)) k))) e
 
 pub both-each-spec : {M : Type 1} → statement M
 both-each-spec =
@@ -96,12 +84,12 @@ both-each-spec =
     Inv-loop
     μ-loop
     loop-holds
-    is-marked-requires
+    (λ c κs. search needs)
     shared-slice-read-differ
-    is-marked-requires-2
+    (λ c κs. search needs)
     shared-slice-read-differ-2
-    differ-requires
-    add-i
-    loop-less
+    (λ c κs. search needs)
+    (λ c. search needs)
+    (λ c. search needs)
     loop-again
     returns)

@@ -1,3 +1,4 @@
+-- `reassembly::areas::clash_data` meets its contract. Assumes nothing.
 use Rattle.reassembly.proofs.AreaLaws.{clash-from, run-free, data-run}
 use Rattle.marks.proofs.OffsetLaws.{from-none, from-more, from-found}
 use Rattle.reassembly.specs.Areas.{markedView}
@@ -7,11 +8,11 @@ use mathlib.Core.Bool.{true, false, _||_}
 use Rattle.marks.specs.Marks.{inUse}
 use borrow.Author.Tests.{not-true}
 use borrow.Author.Needs.{needs}
-use lib.ListN.{length, getD}
+use lib.ListN.{length}
 use denote.Ref.{now}
 use native.Mathlib.Omega.{arith}
 use mathlib.Core.Path.{_≡_, refl, sym, ap, ap₂, _∙_}
-use Prim.Native.Nat.{ℕ, _+_, _-_, _≤_, _<_}
+use Prim.Native.Nat.{ℕ, _+_, _-_, _≤_}
 use Rattle.reassembly.proofs.areas.clash_data.Statement.{statement}
 use Rattle.reassembly.proofs.areas.clash_data.Tie as tie
 use Rattle.reassembly.proofs.areas.clash_data.Reads as reads
@@ -27,15 +28,6 @@ Inv-loop payload marks offset bytes end i₀ i =
 abbrev μ-loop : tie.MeasureT-loop
 μ-loop payload marks offset bytes end i₀ i = end - i
 
--- src/areas.rt:166:15
-add-end : tie.Need-add-end Inv-loop μ-loop
-add-end c = search needs
-
--- src/areas.rt:167:9
-any-marked-requires : tie.Need-any-marked-requires Inv-loop μ-loop
-any-marked-requires c κs = search needs
-
--- src/areas.rt:168:9
 returns : tie.Need-returns Inv-loop μ-loop
 returns c =
     let at-any-marked = c .before in
@@ -46,28 +38,28 @@ returns c =
     sym (clash-from inUse p m (args .offset) d ∙ run-free inUse (args .offset + length d) p m (args .offset) d (args .offset) (args .offset + length d) (omega arith) (omega arith) (omega arith)
     (sym (at-any-marked .any-marked .ensures) ∙ not-true _ (c .if1 .taken)))
 
--- src/areas.rt:171:5
 loop-holds : tie.Need-loop-holds Inv-loop μ-loop
 loop-holds c =
-    let args = c .before .before .before .before .before .args in
+    let near = c .before .before .before .before in
+    let args = near .before .args in
     let p = now (args .payload) in
     let m = now (args .marks) in
-    let d = now (args .bytes) in
-    (omega arith, omega arith, refl, from-none (args .offset) (args .offset) (λ k. differs (markedView inUse (args .offset + length d) p m k) (dataView (args .offset) d k)) (λ k h l. absurd (omega arith)))
+    let d = now (args .bytes) in (
+      omega arith,
+      omega arith,
+      refl,
+      from-none (args .offset) (args .offset) (λ k. differs (markedView inUse (args .offset + length d) p m k) (dataView (args .offset) d k))
+          (λ k h l. absurd (omega arith)),
+    )
 
--- src/areas.rt:172:13
-run-end-requires : tie.Need-run-end-requires Inv-loop μ-loop
-run-end-requires c κs = search needs
-
--- src/areas.rt:173:12
 clash-run-requires : tie.Need-clash-run-requires Inv-loop μ-loop
 clash-run-requires c κs =
-    let at-pre = c .before .before .before .before .before .before .before .before in
+    let near = c .before .before .before .before in
+    let at-pre = near .before .before .before .before in
     let room = at-pre .pre .0 in
     let more = c .run-end .ensures .0 in
     let within = c .run-end .ensures .1 in (omega arith, omega arith, omega arith, omega arith)
 
--- src/areas.rt:174:13
 returns-2 : tie.Need-returns-2 Inv-loop μ-loop
 returns-2 c =
     let at-clash-run = c .before in
@@ -79,15 +71,16 @@ returns-2 c =
     let d = now (args .bytes) in
     let more = at-run-end .run-end .ensures .0 in
     let within = at-run-end .run-end .ensures .1 in
-    let found = sym (data-run inUse (at-run-end .run-end .result) (args .offset + length d) p m (args .offset) d (at-loop .loop .i) (at-run-end .run-end .result) (at-loop .loop .inv .0) (omega arith) (omega arith) (omega arith))
+    let found = sym (data-run inUse (at-run-end .run-end .result) (args .offset + length d) p m (args .offset) d (at-loop .loop .i) (at-run-end .run-end .result) (at-loop .loop .inv .0)
+    (omega arith) (omega arith) (omega arith))
     ∙ sym (at-clash-run .clash-run .ensures) ∙ c .if2 .taken in
-    sym (clash-from inUse p m (args .offset) d ∙ from-found (args .offset) (at-loop .loop .i) (at-run-end .run-end .result) (args .offset + length d) (λ k. differs (markedView inUse (args .offset + length d) p m k) (dataView (args .offset) d k)) (at-loop .loop .inv .0) (omega arith) found)
+    sym (clash-from inUse p m (args .offset) d
+    ∙ from-found (args .offset) (at-loop .loop .i) (at-run-end .run-end .result) (args .offset + length d)
+    (λ k. differs (markedView inUse (args .offset + length d) p m k) (dataView (args .offset) d k)) (at-loop .loop .inv .0) (omega arith) found)
 
--- src/areas.rt:171:5
 loop-less : tie.Need-loop-less Inv-loop μ-loop
 loop-less c = let more = c .before .before .run-end .ensures .0 in omega arith
 
--- src/areas.rt:171:5
 loop-again : tie.Need-loop-again Inv-loop μ-loop
 loop-again c =
     let at-clash-run = c .before in
@@ -99,11 +92,16 @@ loop-again c =
     let d = now (args .bytes) in
     let more = at-run-end .run-end .ensures .0 in
     let within = at-run-end .run-end .ensures .1 in
-    let none = sym (data-run inUse (at-run-end .run-end .result) (args .offset + length d) p m (args .offset) d (at-loop .loop .i) (at-run-end .run-end .result) (at-loop .loop .inv .0) (omega arith) (omega arith) (omega arith))
-    ∙ sym (at-clash-run .clash-run .ensures) ∙ c .if2 .left in
-    (omega arith, omega arith, at-loop .loop .inv .2, from-more (args .offset) (at-loop .loop .i) (at-run-end .run-end .result) (λ k. differs (markedView inUse (args .offset + length d) p m k) (dataView (args .offset) d k)) (at-loop .loop .inv .0) (omega arith) ∙ ap₂ _||_ (at-loop .loop .inv .3) none)
+    let none = sym (data-run inUse (at-run-end .run-end .result) (args .offset + length d) p m (args .offset) d (at-loop .loop .i) (at-run-end .run-end .result) (at-loop .loop .inv .0)
+    (omega arith) (omega arith) (omega arith))
+    ∙ sym (at-clash-run .clash-run .ensures) ∙ c .if2 .left in (
+      omega arith,
+      omega arith,
+      at-loop .loop .inv .2,
+      from-more (args .offset) (at-loop .loop .i) (at-run-end .run-end .result)
+          (λ k. differs (markedView inUse (args .offset + length d) p m k) (dataView (args .offset) d k)) (at-loop .loop .inv .0) (omega arith) ∙ ap₂ _||_ (at-loop .loop .inv .3) none,
+    )
 
--- src/areas.rt:158:1
 returns-3 : tie.Need-returns-3 Inv-loop μ-loop
 returns-3 c =
     let at-loop = c .before in
@@ -112,7 +110,8 @@ returns-3 c =
     let m = now (args .marks) in
     let d = now (args .bytes) in
     let e : args .offset + length d ≡ at-loop .loop .i = omega arith in
-    sym (clash-from inUse p m (args .offset) d ∙ ap (λ (n : ℕ). anyFrom (args .offset) n (λ k. differs (markedView inUse (args .offset + length d) p m k) (dataView (args .offset) d k))) e ∙ at-loop .loop .inv .3)
+    sym (clash-from inUse p m (args .offset) d ∙ ap (λ (n : ℕ). anyFrom (args .offset) n (λ k. differs (markedView inUse (args .offset + length d) p m k) (dataView (args .offset) d k))) e
+    ∙ at-loop .loop .inv .3)
 
 pub clash-data-spec : {M : Type 1} → statement M
 clash-data-spec =
@@ -120,11 +119,11 @@ clash-data-spec =
     (tie.spec
     Inv-loop
     μ-loop
-    add-end
-    any-marked-requires
+    (λ c. search needs)
+    (λ c κs. search needs)
     returns
     loop-holds
-    run-end-requires
+    (λ c κs. search needs)
     clash-run-requires
     returns-2
     loop-less

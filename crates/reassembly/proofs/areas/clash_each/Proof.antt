@@ -1,3 +1,4 @@
+-- `reassembly::areas::clash_each` meets its contract. Assumes nothing.
 use Rattle.reassembly.proofs.AreaLaws.{data-test}
 use Rattle.marks.proofs.OffsetLaws.{from-none, from-step}
 use Rattle.reassembly.specs.Areas.{markedView}
@@ -7,11 +8,11 @@ use Rattle.marks.specs.Offsets.{anyFrom}
 use mathlib.Core.Bool.{Bool, _||_}
 use mathlib.Core.Option.{some}
 use borrow.Author.Needs.{needs}
-use lib.ListN.{length, getD}
+use lib.ListN.{getD}
 use denote.Ref.{now}
 use native.Mathlib.Omega.{arith}
-use mathlib.Core.Path.{_≡_, refl, sym, ap, ap₂, _∙_}
-use Prim.Native.Nat.{ℕ, _+_, _-_, _≤_, _<_}
+use mathlib.Core.Path.{_≡_, sym, ap, ap₂, _∙_}
+use Prim.Native.Nat.{ℕ, _-_, _≤_}
 use Rattle.reassembly.proofs.areas.clash_each.Statement.{statement}
 use Rattle.reassembly.proofs.areas.clash_each.Tie as tie
 use Rattle.reassembly.proofs.areas.clash_each.Reads as reads
@@ -26,48 +27,35 @@ Inv-loop payload marks offset bytes start end found₀ i₀ found i =
 abbrev μ-loop : tie.MeasureT-loop
 μ-loop payload marks offset bytes start end found₀ i₀ found i = end - i
 
--- src/areas.rt:133:5
 loop-holds : tie.Need-loop-holds Inv-loop μ-loop
 loop-holds c =
-    let args = c .before .before .before .args in
-    (omega arith, omega arith, sym (from-none (args .start) (args .start) (λ k. differs (markedView inUse (args .end) (now (args .payload)) (now (args .marks)) k) (dataView (args .offset) (now (args .bytes)) k)) (λ k h l. absurd (omega arith))))
+    let args = c .before .before .before .args in (
+      omega arith,
+      omega arith,
+      sym
+          (from-none (args .start) (args .start) (λ k. differs (markedView inUse (args .end) (now (args .payload)) (now (args .marks)) k) (dataView (args .offset) (now (args .bytes)) k))
+          (λ k h l. absurd (omega arith))),
+    )
 
--- src/areas.rt:134:28
-is-marked-requires : tie.Need-is-marked-requires Inv-loop μ-loop
-is-marked-requires c κs = search needs
-
--- src/areas.rt:134:49
 shared-slice-read-differ : tie.Need-shared-slice-read-differ Inv-loop μ-loop
 shared-slice-read-differ c =
-    let at-pre = c .before .before .before .before .before .before .before in
+    let near = c .before .before .before .before in
+    let at-pre = near .before .before .before in
     let room = at-pre .pre .3 in omega arith
 
--- src/areas.rt:134:73
 sub-differ : tie.Need-sub-differ Inv-loop μ-loop
 sub-differ c =
-    let at-pre = c .before .before .before .before .before .before .before in
+    let near = c .before .before .before .before in
+    let at-pre = near .before .before .before in
     let low = at-pre .pre .0 in omega arith
 
--- src/areas.rt:134:67
 shared-slice-read-differ-2 : tie.Need-shared-slice-read-differ-2 Inv-loop μ-loop
 shared-slice-read-differ-2 c =
-    let at-pre = c .before .before .before .before .before .before .before .before in
+    let near = c .before .before .before .before in
+    let at-pre = near .before .before .before .before in
     let low = at-pre .pre .0 in
     let high = at-pre .pre .2 in omega arith
 
--- src/areas.rt:134:13
-differ-requires : tie.Need-differ-requires Inv-loop μ-loop
-differ-requires c κs = search needs
-
--- src/areas.rt:136:9
-add-i : tie.Need-add-i Inv-loop μ-loop
-add-i c = search needs
-
--- src/areas.rt:133:5
-loop-less : tie.Need-loop-less Inv-loop μ-loop
-loop-less c = search needs
-
--- src/areas.rt:133:5
 loop-again : tie.Need-loop-again Inv-loop μ-loop
 loop-again c =
     let at-is-marked = c .before .before .before in
@@ -80,11 +68,13 @@ loop-again c =
     let high = at-pre .pre .2 in
     let test = c .differ .ensures
     ∙ ap (λ (b : Bool). differs (onlyIf b (getD p (at-loop .loop .i) 0)) (some (getD d (at-loop .loop .i - at-pre .args .offset) 0))) (at-is-marked .is-marked .ensures)
-    ∙ sym (data-test inUse (at-pre .args .end) p m (at-pre .args .offset) d (at-loop .loop .i) (omega arith) (omega arith) (omega arith)) in
-    (omega arith, omega arith, ap₂ _||_ test (at-loop .loop .inv .2)
-    ∙ sym (from-step (at-pre .args .start) (at-loop .loop .i) (λ k. differs (markedView inUse (at-pre .args .end) p m k) (dataView (at-pre .args .offset) d k)) (at-loop .loop .inv .0)))
+    ∙ sym (data-test inUse (at-pre .args .end) p m (at-pre .args .offset) d (at-loop .loop .i) (omega arith) (omega arith) (omega arith)) in (
+      omega arith,
+      omega arith,
+      ap₂ _||_ test (at-loop .loop .inv .2)
+          ∙ sym (from-step (at-pre .args .start) (at-loop .loop .i) (λ k. differs (markedView inUse (at-pre .args .end) p m k) (dataView (at-pre .args .offset) d k)) (at-loop .loop .inv .0)),
+    )
 
--- src/areas.rt:125:1
 returns : tie.Need-returns Inv-loop μ-loop
 returns c =
     let at-loop = c .before in
@@ -100,12 +90,12 @@ clash-each-spec =
     Inv-loop
     μ-loop
     loop-holds
-    is-marked-requires
+    (λ c κs. search needs)
     shared-slice-read-differ
     sub-differ
     shared-slice-read-differ-2
-    differ-requires
-    add-i
-    loop-less
+    (λ c κs. search needs)
+    (λ c. search needs)
+    (λ c. search needs)
     loop-again
     returns)

@@ -1,12 +1,13 @@
+-- `reassembly::areas::same_bytes` meets its contract. Assumes nothing.
 use Rattle.reassembly.proofs.AreaLaws.{same-step}
 use Rattle.marks.specs.Offsets.{allBelow}
 use lib.Dec.{eqb}
 use borrow.Author.Needs.{needs}
-use lib.ListN.{length, getD}
+use lib.ListN.{getD}
 use denote.Ref.{now}
 use native.Mathlib.Omega.{arith}
-use mathlib.Core.Path.{_≡_, refl, sym, ap, ap₂, _∙_}
-use Prim.Native.Nat.{ℕ, _+_, _-_, _≤_, _<_}
+use mathlib.Core.Path.{_≡_, refl, ap, _∙_}
+use Prim.Native.Nat.{ℕ, _+_, _-_, _≤_}
 use Rattle.reassembly.proofs.areas.same_bytes.Statement.{statement}
 use Rattle.reassembly.proofs.areas.same_bytes.Tie as tie
 use Rattle.reassembly.proofs.areas.same_bytes.Reads as reads
@@ -19,52 +20,42 @@ Inv-loop a at b from count other₀ j₀ other j =
 abbrev μ-loop : tie.MeasureT-loop
 μ-loop a at b from count other₀ j₀ other j = count - j
 
--- src/areas.rt:110:5
 loop-holds : tie.Need-loop-holds Inv-loop μ-loop
 loop-holds c = (omega arith, refl)
 
--- src/areas.rt:111:28
 add-other : tie.Need-add-other Inv-loop μ-loop
 add-other c = let room = c .before .before .pre .0 in omega arith
 
--- src/areas.rt:111:26
 shared-slice-read-other : tie.Need-shared-slice-read-other Inv-loop μ-loop
 shared-slice-read-other c =
     let at-pre = c .before .before .before in
     let room = at-pre .pre .0 in omega arith
 
--- src/areas.rt:111:40
 add-other-2 : tie.Need-add-other-2 Inv-loop μ-loop
 add-other-2 c =
     let at-pre = c .before .before .before in
     let room = at-pre .pre .1 in omega arith
 
--- src/areas.rt:111:38
 shared-slice-read-other-2 : tie.Need-shared-slice-read-other-2 Inv-loop μ-loop
 shared-slice-read-other-2 c =
     let at-pre = c .before .before .before .before in
     let room = at-pre .pre .1 in omega arith
 
--- src/areas.rt:112:9
-add-j : tie.Need-add-j Inv-loop μ-loop
-add-j c = search needs
-
--- src/areas.rt:110:5
-loop-less : tie.Need-loop-less Inv-loop μ-loop
-loop-less c = search needs
-
--- src/areas.rt:110:5
 loop-again : tie.Need-loop-again Inv-loop μ-loop
 loop-again c =
     let at-loop = c .before .before .before in
-    let args = at-loop .before .args in
-    (omega arith, same-step (at-loop .loop .other) (getD (now (args .a)) (args .at + at-loop .loop .j) 0) (getD (now (args .b)) (args .from + at-loop .loop .j) 0) (at-loop .loop .j) (λ i. eqb (getD (now (args .a)) (args .at + i) 0) (getD (now (args .b)) (args .from + i) 0)) (at-loop .loop .inv .1) refl)
+    let args = at-loop .before .args in (
+      omega arith,
+      same-step (at-loop .loop .other) (getD (now (args .a)) (args .at + at-loop .loop .j) 0) (getD (now (args .b)) (args .from + at-loop .loop .j) 0) (at-loop .loop .j)
+          (λ i. eqb (getD (now (args .a)) (args .at + i) 0) (getD (now (args .b)) (args .from + i) 0)) (at-loop .loop .inv .1) refl,
+    )
 
--- src/areas.rt:104:1
 returns : tie.Need-returns Inv-loop μ-loop
 returns c =
     let e : c .before .loop .j ≡ c .before .before .args .count = omega arith in
-    c .before .loop .inv .1 ∙ ap (λ (n : ℕ). allBelow n (λ i. eqb (getD (now (c .before .before .args .a)) (c .before .before .args .at + i) 0) (getD (now (c .before .before .args .b)) (c .before .before .args .from + i) 0))) e
+    c .before .loop .inv .1
+    ∙ ap (λ (n : ℕ). allBelow n
+    (λ i. eqb (getD (now (c .before .before .args .a)) (c .before .before .args .at + i) 0) (getD (now (c .before .before .args .b)) (c .before .before .args .from + i) 0))) e
 
 pub same-bytes-spec : {M : Type 1} → statement M
 same-bytes-spec =
@@ -77,7 +68,7 @@ same-bytes-spec =
     shared-slice-read-other
     add-other-2
     shared-slice-read-other-2
-    add-j
-    loop-less
+    (λ c. search needs)
+    (λ c. search needs)
     loop-again
     returns)

@@ -1,12 +1,13 @@
+-- `reassembly::areas::store_all` meets its contract. Assumes nothing.
 use Rattle.reassembly.proofs.ViewLaws.{run-none, run-turn}
 use Rattle.reassembly.specs.Views.{overlaid, between, bytesView}
 use lib.ListN.{length-set}
 use borrow.Author.Needs.{needs}
-use lib.ListN.{length, getD}
+use lib.ListN.{length}
 use denote.Ref.{now}
 use native.Mathlib.Omega.{arith}
-use mathlib.Core.Path.{_≡_, refl, sym, ap, ap₂, _∙_}
-use Prim.Native.Nat.{ℕ, _+_, _-_, _≤_, _<_}
+use mathlib.Core.Path.{_≡_, refl, ap, _∙_}
+use Prim.Native.Nat.{ℕ, _-_, _≤_}
 use Rattle.reassembly.proofs.areas.store_all.Statement.{statement}
 use Rattle.reassembly.proofs.areas.store_all.Tie as tie
 use Rattle.reassembly.proofs.areas.store_all.Reads as reads
@@ -19,18 +20,15 @@ Inv-loop payload₀ start end from i₀ payload i =
 abbrev μ-loop : tie.MeasureT-loop
 μ-loop payload₀ start end from i₀ payload i = end - i
 
--- src/areas.rt:50:5
 loop-holds : tie.Need-loop-holds Inv-loop μ-loop
 loop-holds c =
     (omega arith, omega arith, refl, run-none (bytesView (now (c .args .from))) (now (c .args .payload)) (c .args .start) (c .args .start) (λ i h l. absurd (omega arith)))
 
--- src/areas.rt:51:22
 shared-slice-read-payload : tie.Need-shared-slice-read-payload Inv-loop μ-loop
 shared-slice-read-payload c =
     let at-pre = c .before .before .before in
     let room = at-pre .pre .2 in omega arith
 
--- src/areas.rt:51:9
 slice-write-payload : tie.Need-slice-write-payload Inv-loop μ-loop
 slice-write-payload c =
     let at-loop = c .before .before in
@@ -38,27 +36,21 @@ slice-write-payload c =
     let room = at-pre .pre .1 in
     let same = at-loop .loop .inv .2 in omega arith
 
--- src/areas.rt:52:9
-add-i : tie.Need-add-i Inv-loop μ-loop
-add-i c = search needs
-
--- src/areas.rt:50:5
-loop-less : tie.Need-loop-less Inv-loop μ-loop
-loop-less c = search needs
-
--- src/areas.rt:50:5
 loop-again : tie.Need-loop-again Inv-loop μ-loop
 loop-again c =
     let at-loop = c .before .before in
     let at-pre = at-loop .before in
-    let room = at-pre .pre .1 in
-    (omega arith, omega arith, simp length-set (at-loop .loop .inv .2), run-turn (bytesView (now (at-pre .args .from))) (now (at-pre .args .payload)) (at-loop .loop .payload) (at-pre .args .start) (at-loop .loop .i) _ (at-loop .loop .inv .0) (omega arith) (at-loop .loop .inv .3) refl)
+    let room = at-pre .pre .1 in (
+      omega arith,
+      omega arith,
+      simp length-set (at-loop .loop .inv .2),
+      run-turn (bytesView (now (at-pre .args .from))) (now (at-pre .args .payload)) (at-loop .loop .payload)
+          (at-pre .args .start) (at-loop .loop .i) _ (at-loop .loop .inv .0) (omega arith) (at-loop .loop .inv .3) refl,
+    )
 
--- src/areas.rt:45:1
 same-length : tie.Need-same-length Inv-loop μ-loop
 same-length c = c .before .loop .inv .2
 
--- src/areas.rt:45:1
 returns : tie.Need-returns Inv-loop μ-loop
 returns c =
     let e : c .before .loop .i ≡ c .before .before .args .end = omega arith in
@@ -73,8 +65,8 @@ store-all-spec =
     loop-holds
     shared-slice-read-payload
     slice-write-payload
-    add-i
-    loop-less
+    (λ c. search needs)
+    (λ c. search needs)
     loop-again
     same-length
     returns)

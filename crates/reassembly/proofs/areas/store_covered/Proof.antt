@@ -1,15 +1,15 @@
+-- `reassembly::areas::store_covered` meets its contract. Assumes nothing.
 use Rattle.reassembly.proofs.AreaLaws.{marked-below, marked-above}
 use Rattle.reassembly.proofs.ViewLaws.{length-laid, run-none, run-same, run-more, run-whole}
 use Rattle.reassembly.specs.Areas.{markedView}
 use Rattle.reassembly.specs.Views.{overlaid, between}
 use Rattle.marks.specs.Marks.{inUse}
-use borrow.Author.Tests.{not-true}
 use borrow.Author.Needs.{needs}
-use lib.ListN.{length, getD}
+use lib.ListN.{length}
 use denote.Ref.{now}
 use native.Mathlib.Omega.{arith}
-use mathlib.Core.Path.{_≡_, refl, sym, ap, ap₂, _∙_}
-use Prim.Native.Nat.{ℕ, _+_, _-_, _≤_, _<_}
+use mathlib.Core.Path.{_≡_, refl, sym, ap, _∙_}
+use Prim.Native.Nat.{ℕ, _-_, _≤_}
 use Rattle.reassembly.proofs.areas.store_covered.Statement.{statement}
 use Rattle.reassembly.proofs.areas.store_covered.Tie as tie
 use Rattle.reassembly.proofs.areas.store_covered.Reads as reads
@@ -24,17 +24,11 @@ Inv-loop payload₀ total from from-marks i₀ payload i =
 abbrev μ-loop : tie.MeasureT-loop
 μ-loop payload₀ total from from-marks i₀ payload i = total - i
 
--- src/areas.rt:96:5
 loop-holds : tie.Need-loop-holds Inv-loop μ-loop
 loop-holds c =
     let args = c .before .before .before .args in
     (omega arith, refl, run-none (markedView inUse (args .total) (now (args .from)) (now (args .from-marks))) (now (args .payload)) 0 0 (λ i h l. absurd (omega arith)))
 
--- src/areas.rt:97:13
-run-end-requires : tie.Need-run-end-requires Inv-loop μ-loop
-run-end-requires c κs = search needs
-
--- src/areas.rt:98:9
 store-run-requires : tie.Need-store-run-requires Inv-loop μ-loop
 store-run-requires c κs =
     let at-run-end = c .before in
@@ -46,13 +40,11 @@ store-run-requires c κs =
     let there = at-pre .pre .1 in
     let same = at-loop .loop .inv .1 in (omega arith, omega arith, omega arith)
 
--- src/areas.rt:96:5
 loop-less : tie.Need-loop-less Inv-loop μ-loop
 loop-less c =
     let at-run-end = c .before .before .before .before in
     let more = at-run-end .run-end .ensures .0 in omega arith
 
--- src/areas.rt:96:5
 loop-again : tie.Need-loop-again Inv-loop μ-loop
 loop-again c =
     let at-store-run = c .before .before in
@@ -66,14 +58,16 @@ loop-again c =
     let more = at-run-end .run-end .ensures .0 in
     let within = at-run-end .run-end .ensures .1 in
     let stored = at-store-run .store-run .ensures ∙ run-same (markedView inUse next q n) v (at-loop .loop .payload) (at-loop .loop .i) next
-    (λ k h l. marked-below inUse next q n k l ∙ sym (marked-below inUse (args .total) q n k (omega arith))) in
-    (omega arith, ap length stored ∙ length-laid (between (at-loop .loop .i) next v) (at-loop .loop .payload) ∙ at-loop .loop .inv .1, run-more v (now (args .payload)) (at-loop .loop .payload) _ 0 (at-loop .loop .i) next (omega arith) (omega arith) (at-loop .loop .inv .2) stored)
+    (λ k h l. marked-below inUse next q n k l ∙ sym (marked-below inUse (args .total) q n k (omega arith))) in (
+      omega arith,
+      ap length stored ∙ length-laid (between (at-loop .loop .i) next v) (at-loop .loop .payload)
+          ∙ at-loop .loop .inv .1,
+      run-more v (now (args .payload)) (at-loop .loop .payload) _ 0 (at-loop .loop .i) next (omega arith) (omega arith) (at-loop .loop .inv .2) stored,
+    )
 
--- src/areas.rt:89:1
 same-length : tie.Need-same-length Inv-loop μ-loop
 same-length c = c .before .loop .inv .1
 
--- src/areas.rt:89:1
 returns : tie.Need-returns Inv-loop μ-loop
 returns c =
     let at-loop = c .before in
@@ -90,7 +84,7 @@ store-covered-spec =
     Inv-loop
     μ-loop
     loop-holds
-    run-end-requires
+    (λ c κs. search needs)
     store-run-requires
     loop-less
     loop-again

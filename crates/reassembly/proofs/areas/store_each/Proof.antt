@@ -1,3 +1,4 @@
+-- `reassembly::areas::store_each` meets its contract. Assumes nothing.
 use Rattle.reassembly.proofs.AreaLaws.{chosen}
 use Rattle.reassembly.proofs.ViewLaws.{run-none, run-turn}
 use Rattle.reassembly.specs.Areas.{markedView}
@@ -9,8 +10,8 @@ use borrow.Author.Needs.{needs}
 use lib.ListN.{length, getD}
 use denote.Ref.{now}
 use native.Mathlib.Omega.{arith}
-use mathlib.Core.Path.{_≡_, refl, sym, ap, ap₂, _∙_}
-use Prim.Native.Nat.{ℕ, _+_, _-_, _≤_, _<_}
+use mathlib.Core.Path.{_≡_, refl, ap, _∙_}
+use Prim.Native.Nat.{ℕ, _-_, _≤_}
 use Rattle.reassembly.proofs.areas.store_each.Statement.{statement}
 use Rattle.reassembly.proofs.areas.store_each.Tie as tie
 use Rattle.reassembly.proofs.areas.store_each.Reads as reads
@@ -25,23 +26,22 @@ Inv-loop payload₀ start end from from-marks i₀ payload i =
 abbrev μ-loop : tie.MeasureT-loop
 μ-loop payload₀ start end from from-marks i₀ payload i = end - i
 
--- src/areas.rt:64:5
 loop-holds : tie.Need-loop-holds Inv-loop μ-loop
 loop-holds c =
-    let args = c .before .before .before .args in
-    (omega arith, omega arith, refl, run-none (markedView inUse (args .end) (now (args .from)) (now (args .from-marks))) (now (args .payload)) (args .start) (args .start) (λ i h l. absurd (omega arith)))
+    let args = c .before .before .before .args in (
+      omega arith,
+      omega arith,
+      refl,
+      run-none (markedView inUse (args .end) (now (args .from)) (now (args .from-marks))) (now (args .payload)) (args .start) (args .start)
+          (λ i h l. absurd (omega arith)),
+    )
 
--- src/areas.rt:65:29
-is-marked-requires : tie.Need-is-marked-requires Inv-loop μ-loop
-is-marked-requires c κs = search needs
-
--- src/areas.rt:65:55
 shared-slice-read-choose : tie.Need-shared-slice-read-choose Inv-loop μ-loop
 shared-slice-read-choose c =
-    let at-pre = c .before .before .before .before .before .before .before in
+    let near = c .before .before .before .before in
+    let at-pre = near .before .before .before in
     let room = at-pre .pre .2 in omega arith
 
--- src/areas.rt:65:64
 slice-read-choose : tie.Need-slice-read-choose Inv-loop μ-loop
 slice-read-choose c =
     let at-loop = c .before .before .before .before in
@@ -49,27 +49,14 @@ slice-read-choose c =
     let room = at-pre .pre .1 in
     let same = at-loop .loop .inv .2 in omega arith
 
--- src/areas.rt:65:22
-choose-requires : tie.Need-choose-requires Inv-loop μ-loop
-choose-requires c κs = search needs
-
--- src/areas.rt:65:9
 slice-write-payload : tie.Need-slice-write-payload Inv-loop μ-loop
 slice-write-payload c =
-    let at-loop = c .before .before .before .before .before in
+    let near = c .before .before .before .before in
+    let at-loop = near .before in
     let at-pre = at-loop .before .before .before .before in
     let room = at-pre .pre .1 in
     let same = at-loop .loop .inv .2 in omega arith
 
--- src/areas.rt:66:9
-add-i : tie.Need-add-i Inv-loop μ-loop
-add-i c = search needs
-
--- src/areas.rt:64:5
-loop-less : tie.Need-loop-less Inv-loop μ-loop
-loop-less c = search needs
-
--- src/areas.rt:64:5
 loop-again : tie.Need-loop-again Inv-loop μ-loop
 loop-again c =
     let at-is-marked = c .before .before .before in
@@ -79,14 +66,17 @@ loop-again c =
     let q = now (at-pre .args .from) in
     let n = now (at-pre .args .from-marks) in
     let byte = c .choose .ensures ∙ ap (λ (b : Bool). cond b (getD q (at-loop .loop .i) 0) (getD (at-loop .loop .payload) (at-loop .loop .i) 0)) (at-is-marked .is-marked .ensures)
-    ∙ chosen inUse (at-pre .args .end) q n (at-loop .loop .i) (getD (at-loop .loop .payload) (at-loop .loop .i) 0) (omega arith) in
-    (omega arith, omega arith, simp length-set (at-loop .loop .inv .2), run-turn (markedView inUse (at-pre .args .end) q n) (now (at-pre .args .payload)) (at-loop .loop .payload) (at-pre .args .start) (at-loop .loop .i) _ (at-loop .loop .inv .0) (omega arith) (at-loop .loop .inv .3) byte)
+    ∙ chosen inUse (at-pre .args .end) q n (at-loop .loop .i) (getD (at-loop .loop .payload) (at-loop .loop .i) 0) (omega arith) in (
+      omega arith,
+      omega arith,
+      simp length-set (at-loop .loop .inv .2),
+      run-turn (markedView inUse (at-pre .args .end) q n) (now (at-pre .args .payload)) (at-loop .loop .payload)
+          (at-pre .args .start) (at-loop .loop .i) _ (at-loop .loop .inv .0) (omega arith) (at-loop .loop .inv .3) byte,
+    )
 
--- src/areas.rt:57:1
 same-length : tie.Need-same-length Inv-loop μ-loop
 same-length c = c .before .loop .inv .2
 
--- src/areas.rt:57:1
 returns : tie.Need-returns Inv-loop μ-loop
 returns c =
     let at-loop = c .before in
@@ -101,13 +91,13 @@ store-each-spec =
     Inv-loop
     μ-loop
     loop-holds
-    is-marked-requires
+    (λ c κs. search needs)
     shared-slice-read-choose
     slice-read-choose
-    choose-requires
+    (λ c κs. search needs)
     slice-write-payload
-    add-i
-    loop-less
+    (λ c. search needs)
+    (λ c. search needs)
     loop-again
     same-length
     returns)
