@@ -393,7 +393,7 @@ impl MarkBytes {
 fn count_ones(bytes: &[u8]) -> u64 {
     let eights = bytes.chunks_exact(8);
     let rest = eights.remainder().iter().map(|byte| byte.count_ones()).sum::<u32>();
-    let number = |eight: &[u8]| eight.iter().rev().fold(0_u64, |number, byte| number << 8 | u64::from(*byte));
+    let number = |eight: &[u8]| <[u8; 8]>::try_from(eight).map_or(0, u64::from_le_bytes);
     u64::from(rest) + eights.map(|eight| u64::from(number(eight).count_ones())).sum::<u64>()
 }
 
@@ -460,7 +460,8 @@ pub fn take_in(partial: &mut Partial, datagram: &[u8], config: &Config) -> Resul
 
 /// Whether bytes differ at an offset that passes the test; they begin at an offset. Blocks that hold the same are passed over.
 fn clash(held: &[u8], bytes: &[u8], offset: usize, both: impl Fn(usize) -> bool) -> bool {
-    held.chunks(BLOCK).zip(bytes.chunks(BLOCK)).enumerate().filter(|(_, (held, bytes))| held != bytes).any(|(k, (held, bytes))| {
+    let mut blocks = held.chunks(BLOCK).zip(bytes.chunks(BLOCK)).enumerate().filter(|(_, (held, bytes))| held != bytes);
+    blocks.any(|(k, (held, bytes))| {
         let start = offset + k * BLOCK;
         held.iter().zip(bytes).enumerate().any(|(j, (held, byte))| held != byte && both(start + j))
     })
