@@ -1,4 +1,4 @@
--- What a layout of marks has to be. Whatever is said of partials rests on this alone; how a mark is held plays no other part.
+-- What a layout of marks has to be: what is claimed of partials asks no more of how a mark is held.
 use Prim.Native.Nat.{ℕ, _≤_, _<_}
 use mathlib.Core.Bool.{true, false}
 use mathlib.Core.Path.{_≡_}

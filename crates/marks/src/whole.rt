@@ -12,7 +12,7 @@ use wire::read64;
 // A byte whose eight offsets are all marked.
 const FULL: u8 = 255;
 
-// Marks every offset of the bytes from first up to last.
+// Marks every offset of the bytes from first up to last. The or is compiled to a store of the full byte.
 pub(crate) fn fill(marks: &mut [u8], first: usize, last: usize)
     requires { ⌜ (first ≤ last) × (last ≤ length (now marks)) ⌝ }
     ensures { λ r. ⌜ now (marks .exit) ≡ markAll inUse (inRangeAnd always (8 * first) (8 * last)) (now (marks .entry)) ⌝ }
