@@ -336,6 +336,8 @@ static void reassembled(void)
         CHECK(UADP_NUMBER(r) == UADP_DONE && done(uadp_take_in(into[k], datagram, UADP_VALUE(r), NULL), 0));
     }
     CHECK(refused(uadp_cut(message, sizeof message, 0x0807, 4, 3, cut, sizeof cut), UADP_END, 0));
+    CHECK(UADP_MARKS_SIZE(1) == 1 && UADP_MARKS_SIZE(8) == 1 && UADP_MARKS_SIZE(9) == 2 && UADP_MARKS_SIZE(0) == 0);
+    CHECK(sizeof marks[0] == 8 && a.marks[0] == 0xF0 && a.marks[1] == 0 && b.marks[0] == 0x0F && b.marks[1] == 0x07);
     CHECK(done(uadp_complete(&a), 0) && refused(uadp_hand_out(&a), UADP_NOT_COMPLETE, 0));
     k = 0;
     CHECK(done(uadp_progress(&a, &k), 4) && k == sizeof message && a.record.covered == 4);

@@ -5,6 +5,7 @@ use mathlib.Core.List.{List}
 use lib.ListN.{length}
 use Rattle.wire.specs.Answer.{refused}
 use Rattle.reassembly.specs.Reading.Reading.{chunk}
+use Rattle.marks.proofs.MarkLaws.{layout-laws}
 use Rattle.reassembly_laws.proofs.Demand3 as laws
 use Rattle.reassembly_laws.proofs.Equality as Equality
 use Rattle.reassembly_laws.proofs.Numbers as Numbers
@@ -65,6 +66,7 @@ demand-3 = record {
   fields-by-calls = fields-by-calls;
   datagram-again-by-calls = again.datagram-again;
   message-again-by-calls = again.message-again;
+  laws-of-layouts = layout-laws;
   same-in-layouts = Layouts.same-from-emptying;
   like-in-layout = Layouts.in-layout-same;
 }

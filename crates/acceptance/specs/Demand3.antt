@@ -10,6 +10,7 @@ use mathlib.Core.List.{List, []}
 use lib.ListN.{length, take}
 use Rattle.wire_writer.specs.Store.{laid}
 use Rattle.marks.specs.Marks.{Layout}
+use Rattle.marks.specs.Layouts.{LayoutLaws}
 use Rattle.reassembly.specs.Record.{Partial, Identity, roomOf, sound, Right, Good}
 use Rattle.reassembly.specs.Reading.{readingAt}
 use Rattle.reassembly.specs.Reading.Reading.{chunk}
@@ -130,8 +131,10 @@ pub record Demand3 : Type 0 where
       → Bytes s → length s < 256 ^ 8 → messageAt (typesFor config writer) s ≡ got (valid m) n → HEAD_SIZE ≤ length entry
       → HeadRead s config writer entry result head → (fs : List (List ℕ)) (ys : List FieldCall) → AllLong FIELD_SIZE fs
       → length fs ≤ m .cursor .count → FieldCalls s config writer fs head ys → MessageAgain s config writer m (lastHead head ys)
-  -- ---- HOWEVER MARKS ARE HELD. From emptying, calls that are the same but for the form of marks give the same answers, and leave the
-  -- same record, payload area and covered bytes; and every sound partial has its like in either form.
+  -- ---- HOWEVER MARKS ARE HELD (document 02, Req 11). Both forms are what a form of marks has to be. From emptying, calls that are the
+  -- same but for the form of marks give the same answers, and leave the same record, payload area and covered bytes; and every sound
+  -- partial has its like in either form.
+  pub laws-of-layouts : (L : Layout) → LayoutLaws L
   pub same-in-layouts : (ks ls : List Call) (s t : Partial) → SameCalls ks ls → Good s → Good t → s .rec ≡ t .rec → s .payload ≡ t .payload
       → s .rec .started ≡ false → SameHistory ks ls s t
   pub like-in-layout : (L : Layout) (s : Partial) → Good s → SameButMarks s (inLayout L s)

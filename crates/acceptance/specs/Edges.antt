@@ -47,7 +47,7 @@ fresh =
       message = record { origin = record { publisher = nobody; group = Optional16.Absent; writer = 0; number = 0 }; total = 0 };
       covered = 4;
     })
-    (9 ∷ 9 ∷ 9 ∷ 9 ∷ 9 ∷ []) (1 ∷ 1 ∷ 7 ∷ 1 ∷ 1 ∷ [])
+    (9 ∷ 9 ∷ 9 ∷ 9 ∷ 9 ∷ []) (251 ∷ [])
 
 -- "N1 to N7, last 5: received 6 newer, 5 old, 16,389 newer, 16,390 invalid, 49,158 invalid, 49,159 old; last 65,535: 0 newer. V1 `00` is
 -- null, length 1. V2 `85 FF FF FF FF` null array, length 5. V3 `18` is 3. R1: total 5, chunks at 0 and 2 of 3 bytes agreeing at 2:

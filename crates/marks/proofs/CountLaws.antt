@@ -5,13 +5,12 @@ use mathlib.Core.Bool.{Bool, true, false, cond, not, _&&_, and-false}
 use mathlib.Core.List.{List}
 use lib.ListN.{length}
 use native.Mathlib.Omega.{arith}
-use native.Mathlib.Numerals.{add-one}
 use lib.Dec.{leb, ltb, eqb}
 use borrow.Author.Tests.{lt-ltb, le-ltb, le-leb, eq-eqb, ne-eqb}
-use Rattle.marks.specs.Offsets.{inRange, allBelow, countBelow, inRangeAnd, always}
-use Rattle.marks.specs.Marks.{Layout, inUse, capacity, marked, markIf, markUpTo, markAll, markedBelow, allMarked, cleared, countMarked, newMarks, marksFor}
+use Rattle.marks.specs.Offsets.{inRange, anyFrom, allBelow, countBelow, inRangeAnd, always}
+use Rattle.marks.specs.Marks.{Layout, capacity, marked, markIf, markUpTo, markAll, markedBelow, allMarked, cleared, countMarked, newMarks, marksFor}
 use Rattle.wire.proofs.Cases.{by-bool, by-eq, by-lt}
-use Rattle.marks.proofs.OffsetLaws.{all-every, every-all}
+use Rattle.marks.proofs.OffsetLaws.{all-every, every-all, any-between}
 use Rattle.marks.proofs.MarkLaws.{capacity-length, length-markAll, marked-on, marked-off, marked-none, marked-cleared, range-below, range-in, range-above, marks-start, marks-end, marks-step, marks-cover}
 
 -- ---- counting
@@ -33,7 +32,7 @@ count-both zero f g h e = refl
 count-both (suc n) f g h e = let a = e n (omega arith) in let b = count-both n f g h (λ i l. e i (omega arith)) in omega arith
 
 -- two runs, the second behind the first
-count-more : (n c : ℕ) (f : ℕ → Bool) → countBelow (n + c) f ≡ countBelow n f + countBelow c (λ j. f (n + j))
+pub count-more : (n c : ℕ) (f : ℕ → Bool) → countBelow (n + c) f ≡ countBelow n f + countBelow c (λ j. f (n + j))
 count-more n zero f = let q : n + 0 ≡ n = omega arith in ap (λ (k : ℕ). countBelow k f) q ∙ (let z : countBelow n f ≡ countBelow n f + 0 = omega arith in z)
 count-more n (suc c) f =
     let q : n + suc c ≡ suc (n + c) = omega arith in
@@ -41,10 +40,27 @@ count-more n (suc c) f =
     ap (λ (k : ℕ). countBelow k f) q ∙ (let z : cond (f (n + c)) 1 0 + countBelow (n + c) f ≡ countBelow n f + (cond (f (n + c)) 1 0 + countBelow c (λ j. f (n + j))) = omega arith in z)
 
 -- counted up to i, and then from i up to j
-pub count-run : (i j n d : ℕ) (f : ℕ → Bool) → i ≤ j → n ≡ countBelow i f → d ≡ countBelow (j - i) (λ k. f (i + k)) → n + d ≡ countBelow j f
+count-run : (i j n d : ℕ) (f : ℕ → Bool) → i ≤ j → n ≡ countBelow i f → d ≡ countBelow (j - i) (λ k. f (i + k)) → n + d ≡ countBelow j f
 count-run i j n d f h e q =
     let all : i + (j - i) ≡ j = omega arith in
     ap₂ _+_ e q ∙ sym (count-more i (j - i) f) ∙ ap (λ (k : ℕ). countBelow k f) all
+
+-- counted from a up to b, and then from b up to c
+pub count-join : (a b c n d : ℕ) (f : ℕ → Bool) → a ≤ b → b ≤ c → n ≡ countBelow (b - a) (λ j. f (a + j)) → d ≡ countBelow (c - b) (λ j. f (b + j)) → n + d ≡ countBelow (c - a) (λ j. f (a + j))
+count-join a b c n d f h l e q =
+    ap₂ _+_ e (q ∙ count-ext (c - b) _ _ (λ j k. ap f (later j))) ∙ sym (count-more (b - a) (c - b) (λ j. f (a + j))) ∙ ap (λ (k : ℕ). countBelow k (λ j. f (a + j))) all
+  where
+    later : (j : ℕ) → b + j ≡ a + (b - a + j)
+    later j = omega arith
+
+    all : b - a + (c - b) ≡ c - a
+    all = omega arith
+
+-- counted from the start on
+pub count-start : (n : ℕ) (f : ℕ → Bool) → countBelow (n - 0) (λ j. f (0 + j)) ≡ countBelow n f
+count-start n f =
+    let q : n - 0 ≡ n = omega arith in
+    ap (λ (k : ℕ). countBelow k (λ j. f (0 + j))) q ∙ count-ext n (λ j. f (0 + j)) f (λ j h. let e : 0 + j ≡ j = omega arith in ap f e)
 
 -- one more of a run
 pub count-next : (start i n d : ℕ) (f : ℕ → Bool) → start ≤ i → n ≡ countBelow (i - start) (λ j. f (start + j)) → d ≡ cond (f i) 1 0 → n + d ≡ countBelow (i + 1 - start) (λ j. f (start + j))
@@ -62,6 +78,21 @@ count-between a (suc b) f h e =
     by-eq _ a (suc b) (λ q. ap (λ (n : ℕ). countBelow n f) (sym q))
     (λ ne. rw (e b (omega arith) (omega arith)) (let ih = count-between a b f (omega arith) (λ k l m. e k l (omega arith)) in omega arith))
 
+-- none passes where the count is 0, and all where it is as many as there are
+pub count-zero : (n : ℕ) (f : ℕ → Bool) → countBelow n f ≡ 0 → (i : ℕ) → i < n → f i ≡ false
+count-zero zero f e i h = absurd (omega arith)
+count-zero (suc n) f e i h =
+    by-bool _ (f n)
+    (λ t. let x : 1 + countBelow n f ≡ 0 = rw t at e in absurd (omega arith))
+    (λ t. by-eq _ i n (λ q. rw q t) (λ ne. let x : 0 + countBelow n f ≡ 0 = rw t at e in count-zero n f (omega arith) i (omega arith)))
+
+pub count-each : (n : ℕ) (f : ℕ → Bool) → countBelow n f ≡ n → (i : ℕ) → i < n → f i ≡ true
+count-each zero f e i h = absurd (omega arith)
+count-each (suc n) f e i h =
+    by-bool _ (f n)
+    (λ t. by-eq _ i n (λ q. rw q t) (λ ne. let c : countBelow n f ≡ n = (let x : 1 + countBelow n f ≡ suc n = rw t at e in omega arith) in count-each n f c i (omega arith)))
+    (λ t. let x : 0 + countBelow n f ≡ suc n = rw t at e in let m = count-most n f in absurd (omega arith))
+
 -- all pass exactly if as many pass as there are
 count-full : (n : ℕ) (f : ℕ → Bool) → eqb (countBelow n f) n ≡ allBelow n f
 count-full n f =
@@ -72,24 +103,17 @@ count-full n f =
     every zero f e = refl
     every (suc n) f e = rw (e n (omega arith)) (let h = every n f (λ i h. e i (omega arith)) in omega arith)
 
-    each : (n : ℕ) (f : ℕ → Bool) → countBelow n f ≡ n → (i : ℕ) → i < n → f i ≡ true
-    each zero f e i h = absurd (omega arith)
-    each (suc n) f e i h =
-        by-bool _ (f n)
-        (λ t. by-eq _ i n (λ q. rw q t) (λ ne. let c : countBelow n f ≡ n = (let x : 1 + countBelow n f ≡ suc n = rw t at e in omega arith) in each n f c i (omega arith)))
-        (λ t. let x : 0 + countBelow n f ≡ suc n = rw t at e in let m = count-most n f in absurd (omega arith))
-
     not-all : (n : ℕ) (f : ℕ → Bool) → countBelow n f ≡ n → allBelow n f ≡ false → ⊥
-    not-all n f e a = let z : _≡_ {A = Bool} true false = sym (all-every n f (each n f e)) ∙ a in let q : _≡_ {A = ℕ} 0 1 = cc in omega arith
+    not-all n f e a = let z : _≡_ {A = Bool} true false = sym (all-every n f (count-each n f e)) ∙ a in let q : _≡_ {A = ℕ} 0 1 = cc in omega arith
 
 -- ---- the offsets from a up to b that pass a test
-cut-below : (f : ℕ → Bool) (a b i : ℕ) → i < a → inRangeAnd f a b i ≡ false
+pub cut-below : (f : ℕ → Bool) (a b i : ℕ) → i < a → inRangeAnd f a b i ≡ false
 cut-below f a b i h = rw (range-below a b i h)
 
-cut-above : (f : ℕ → Bool) (a b i : ℕ) → b ≤ i → inRangeAnd f a b i ≡ false
+pub cut-above : (f : ℕ → Bool) (a b i : ℕ) → b ≤ i → inRangeAnd f a b i ≡ false
 cut-above f a b i h = rw (range-above a b i h)
 
-cut-in : (f : ℕ → Bool) (a b i : ℕ) → a ≤ i → i < b → inRangeAnd f a b i ≡ f i
+pub cut-in : (f : ℕ → Bool) (a b i : ℕ) → a ≤ i → i < b → inRangeAnd f a b i ≡ f i
 cut-in f a b i h k = rw (range-in a b i h k)
 
 -- below b it does not matter how far it goes beyond b; from b on it does not matter where it started
@@ -104,11 +128,11 @@ module _ (L : Layout) where
   upTo-ext zero f g m e = refl
   upTo-ext (suc n) f g m e = rw (e n (omega arith), upTo-ext n f g m (λ i h. e i (omega arith)))
 
-  all-same : (f g : ℕ → Bool) (m : List ℕ) → ((i : ℕ) → i < capacity L m → f i ≡ g i) → markAll L f m ≡ markAll L g m
+  pub all-same : (f g : ℕ → Bool) (m : List ℕ) → ((i : ℕ) → i < capacity L m → f i ≡ g i) → markAll L f m ≡ markAll L g m
   unfolding markAll
   all-same f g m e = upTo-ext (capacity L m) f g m e
 
-  new-same : (f g : ℕ → Bool) (m : List ℕ) → ((i : ℕ) → i < capacity L m → f i ≡ g i) → newMarks L f m ≡ newMarks L g m
+  pub new-same : (f g : ℕ → Bool) (m : List ℕ) → ((i : ℕ) → i < capacity L m → f i ≡ g i) → newMarks L f m ≡ newMarks L g m
   unfolding newMarks
   new-same f g m e = count-ext (capacity L m) _ _ (λ i h. ap (λ (b : Bool). b && not (marked L m i)) (e i h))
 
@@ -130,30 +154,10 @@ module _ (L : Layout) where
         (capacity-length L (markUpTo L (capacity L m) (inRangeAnd f a b) m) m (length-markAll L (inRangeAnd f a b) m))
         ∙ upTo-cut (capacity L m) m
 
-    cut-new : (m : List ℕ) → newMarks L (inRangeAnd f a c) m ≡ newMarks L (inRangeAnd f a b) m + newMarks L (inRangeAnd f b c) (markAll L (inRangeAnd f a b) m)
-    unfolding newMarks
-    cut-new m =
-        count-both (capacity L m) (λ i. inRangeAnd f a b i && not (marked L m i)) (λ i. inRangeAnd f b c i && not (marked L (markAll L (inRangeAnd f a b) m) i)) _ (λ i h. each i)
-        ∙ ap (λ (n : ℕ). countBelow (capacity L m) (λ i. inRangeAnd f a b i && not (marked L m i)) + countBelow n (λ i. inRangeAnd f b c i && not (marked L (markAll L (inRangeAnd f a b) m) i)))
-        (sym (capacity-length L (markAll L (inRangeAnd f a b) m) m (length-markAll L (inRangeAnd f a b) m)))
-      where
-        each : (i : ℕ) → cond (inRangeAnd f a c i && not (marked L m i)) 1 0 ≡ cond (inRangeAnd f a b i && not (marked L m i)) 1 0 + cond
-            (inRangeAnd f b c i && not (marked L (markAll L (inRangeAnd f a b) m) i)) 1 0
-        each i =
-            by-lt _ i b
-            (λ h. rw (cut-below f b c i h, sym (cut-end f a b c i h bc))
-            (let z : cond (inRangeAnd f a b i && not (marked L m i)) 1 0 ≡ cond (inRangeAnd f a b i && not (marked L m i)) 1 0 + 0 = omega arith in z))
-            (λ h. rw (cut-above f a b i h, marked-off L (inRangeAnd f a b) m i (cut-above f a b i h), sym (cut-from f a b c i ab h))
-            (let z : cond (inRangeAnd f b c i && not (marked L m i)) 1 0 ≡ 0 + cond (inRangeAnd f b c i && not (marked L m i)) 1 0 = omega arith in z))
-
   -- nothing yet, and one offset
-  cut-start : (f : ℕ → Bool) (a : ℕ) (m : List ℕ) → markAll L (inRangeAnd f a a) m ≡ m
+  pub cut-start : (f : ℕ → Bool) (a : ℕ) (m : List ℕ) → markAll L (inRangeAnd f a a) m ≡ m
   unfolding markAll
   cut-start f a m = marks-start L (capacity L m) (inRangeAnd f a a) m (λ i h. by-lt _ i a (λ l. cut-below f a a i l) (λ l. cut-above f a a i l))
-
-  cut-new-start : (f : ℕ → Bool) (a : ℕ) (m : List ℕ) → newMarks L (inRangeAnd f a a) m ≡ 0
-  unfolding newMarks
-  cut-new-start f a m = count-none (capacity L m) _ (λ i h. by-lt _ i a (λ l. rw (cut-below f a a i l)) (λ l. rw (cut-above f a a i l)))
 
   module _ (f : ℕ → Bool) (i : ℕ) (m : List ℕ) (room : i < capacity L m) where
     one-mark : markAll L (inRangeAnd f i (i + 1)) m ≡ markIf L (f i) i m
@@ -162,43 +166,64 @@ module _ (L : Layout) where
         ∙ marks-step L i (f i) (inRangeAnd f i (i + 1)) m (cut-in f i (i + 1) i (omega arith) (omega arith))
         ∙ ap (markIf L (f i) i) (marks-start L i (inRangeAnd f i (i + 1)) m (λ k h. cut-below f i (i + 1) k h))
 
-    one-new : newMarks L (inRangeAnd f i (i + 1)) m ≡ cond (f i && not (marked L m i)) 1 0
-    unfolding newMarks
-    one-new =
-        count-between (i + 1) (capacity L m) g (omega arith) (λ k h l. rw (cut-above f i (i + 1) k h))
-        ∙ ap (λ (n : ℕ). countBelow n g) (add-one i)
-        ∙ ap₂ _+_ (ap (λ (b : Bool). cond (b && not (marked L m i)) 1 0) (cut-in f i (i + 1) i (omega arith) (omega arith))) (count-none i g (λ k h. rw (cut-below f i (i + 1) k h)))
-        ∙ (let z : cond (f i && not (marked L m i)) 1 0 + 0 ≡ cond (f i && not (marked L m i)) 1 0 = omega arith in z)
-      where
-        g : ℕ → Bool
-        g k = inRangeAnd f i (i + 1) k && not (marked L m k)
-
 -- ---- loops: what was marked from start up to i, and then from i up to j
-pub record Ran (L : Layout) (f : ℕ → Bool) (start i : ℕ) (before m : List ℕ) (n : ℕ) : Type 0 where
-  pub marks : m ≡ markAll L (inRangeAnd f start i) before
-  pub new : n ≡ newMarks L (inRangeAnd f start i) before
-
 module _ (L : Layout) (f : ℕ → Bool) (start : ℕ) (before : List ℕ) where
-  pub ran-start : Ran L f start start before before 0
-  ran-start = record { marks = sym (cut-start L f start before); new = sym (cut-new-start L f start before) }
+  pub cut-on : (i j : ℕ) (m k : List ℕ) → start ≤ i → i ≤ j → m ≡ markAll L (inRangeAnd f start i) before → k ≡ markAll L (inRangeAnd f i j) m → k ≡ markAll L (inRangeAnd f start j) before
+  cut-on i j m k h l e q = q ∙ ap (markAll L (inRangeAnd f i j)) e ∙ cut-marks L f start i j h l before
 
-  pub ran-on : (i j : ℕ) (m k : List ℕ) (n d : ℕ) → start ≤ i → i ≤ j → Ran L f start i before m n → k ≡ markAll L (inRangeAnd f i j) m → d ≡ newMarks L (inRangeAnd f i j) m
-      → Ran L f start j before k (n + d)
-  ran-on i j m k n d h l r e q = record {
-    marks = e ∙ ap (markAll L (inRangeAnd f i j)) (r .marks) ∙ cut-marks L f start i j h l before;
-    new = ap₂ _+_ (r .new) (q ∙ ap (newMarks L (inRangeAnd f i j)) (r .marks)) ∙ sym (cut-new L f start i j h l before);
-  }
+  pub cut-next : (i : ℕ) (m k : List ℕ) (on : Bool) → start ≤ i → i < capacity L m → m ≡ markAll L (inRangeAnd f start i) before → on ≡ f i → k ≡ markIf L on i m
+      → k ≡ markAll L (inRangeAnd f start (i + 1)) before
+  cut-next i m k on h l e t q = cut-on i (i + 1) m k h (omega arith) e (q ∙ ap (λ (b : Bool). markIf L b i m) t ∙ sym (one-mark L f i m l))
 
-  pub ran-one : (i : ℕ) (m k : List ℕ) (n d : ℕ) (on : Bool) → start ≤ i → i < capacity L m → Ran L f start i before m n → on ≡ f i → k ≡ markIf L on i m → d ≡ cond (on && not (marked L m i)) 1 0
-      → Ran L f start (i + 1) before k (n + d)
-  ran-one i m k n d on h l r t e q =
-      ran-on i (i + 1) m k n d h (omega arith) r (e ∙ ap (λ (b : Bool). markIf L b i m) t ∙ sym (one-mark L f i m l))
-      (q ∙ ap (λ (b : Bool). cond (b && not (marked L m i)) 1 0) t ∙ sym (one-new L f i m l))
+-- what is new of a range is what was not marked of it
+module _ (L : Layout) (m : List ℕ) (a b : ℕ) (ab : a ≤ b) (room : b ≤ capacity L m) where
+  pub new-range : newMarks L (inRangeAnd always a b) m ≡ b - a - countBelow (b - a) (λ j. marked L m (a + j))
+  unfolding newMarks
+  new-range =
+      let all = count-both (b - a) (λ j. marked L m (a + j)) (λ j. not (marked L m (a + j))) always (λ j h. either (marked L m (a + j))) in
+      let full = count-every (b - a) in
+      let cut = count-between b (capacity L m) g room (λ k h l. rw (cut-above always a b k h)) in
+      let two = count-run a b (countBelow a g) _ g ab refl refl in
+      let none = count-none a g (λ k h. rw (cut-below always a b k h)) in
+      let same = count-ext (b - a) (λ j. g (a + j)) (λ j. not (marked L m (a + j))) (λ j h. rw (cut-in always a b (a + j) (omega arith) (omega arith))) in
+      let z : countBelow (capacity L m) g ≡ b - a - countBelow (b - a) (λ j. marked L m (a + j)) = omega arith in z
+    where
+      g : ℕ → Bool
+      g k = inRangeAnd always a b k && not (marked L m k)
 
-  -- what is left of the area passes no test
-  pub ran-all : (i : ℕ) (g : ℕ → Bool) (m : List ℕ) (n : ℕ) → Ran L f start i before m n → ((k : ℕ) → k < capacity L before → inRangeAnd f start i k ≡ g k) → (m ≡ markAll L g before)
-      × (n ≡ newMarks L g before)
-  ran-all i g m n r e = (r .marks ∙ all-same L (inRangeAnd f start i) g before e, r .new ∙ new-same L (inRangeAnd f start i) g before e)
+      either : (t : Bool) → _≡_ {A = ℕ} 1 (cond t 1 0 + cond (not t) 1 0)
+      either true = refl
+      either false = refl
+
+      count-every : (n : ℕ) → countBelow n always ≡ n
+      count-every zero = refl
+      count-every (suc n) = let ih = count-every n in let z : 1 + countBelow n always ≡ suc n = omega arith in z
+
+-- no more are new than there are offsets up to where the test holds
+pub new-most : (L : Layout) (t : ℕ) (f : ℕ → Bool) (m : List ℕ) (n : ℕ) → t ≤ capacity L m → ((i : ℕ) → t ≤ i → f i ≡ false) → n ≡ newMarks L f m → n ≤ t
+unfolding newMarks
+new-most L t f m n room above e =
+    let cut = count-between t (capacity L m) (λ i. f i && not (marked L m i)) room (λ k h l. rw (above k h)) in
+    let most = count-most t (λ i. f i && not (marked L m i)) in
+    let q : n ≡ countBelow (capacity L m) (λ i. f i && not (marked L m i)) = e in
+    omega arith
+
+-- where none of the area's offsets passes the test
+pub none-new : (L : Layout) (f : ℕ → Bool) (m : List ℕ) → ((i : ℕ) → i < capacity L m → f i ≡ false) → (m ≡ markAll L f m) × (0 ≡ newMarks L f m)
+unfolding markAll newMarks
+none-new L f m e = (sym (marks-start L (capacity L m) f m e), sym (count-none (capacity L m) _ (λ i h. rw (e i h))))
+
+-- ---- offsets past the area are not marked
+module _ (L : Layout) (m : List ℕ) (start stop end : ℕ) (below : stop ≤ end) (full : stop < end → stop ≡ capacity L m) where
+  pub area-any : anyFrom start stop (marked L m) ≡ anyFrom start end (marked L m)
+  area-any =
+      sym (any-between stop end (λ i. leb start i && marked L m i) below
+      (λ k h l. let e = full (omega arith) in rw (marked-none L m k (omega arith)) (and-false (leb start k))))
+
+  pub area-count : countBelow (stop - start) (λ j. marked L m (start + j)) ≡ countBelow (end - start) (λ j. marked L m (start + j))
+  area-count =
+      sym (count-between (stop - start) (end - start) (λ j. marked L m (start + j)) (omega arith)
+      (λ k h l. let e = full (omega arith) in marked-none L m (start + k) (omega arith)))
 
 -- ---- where a loop ends by the area, the offsets past it play no part
 module _ (start end stop most k : ℕ) (below : stop ≤ end) (full : stop < end → stop ≡ most) (inside : k < most) where
@@ -257,11 +282,6 @@ module _ (L : Layout) where
       each : (i : ℕ) → i < t → (b : Bool) → f i ≡ b → cond (marked L (markAll L f m) i) 1 0 ≡ cond (marked L m i) 1 0 + cond (f i && not (marked L m i)) 1 0
       each i h true e = rw (marked-on L t f m i h room e, e) (by-bool _ (marked L m i) (λ q. rw q) (λ q. rw q))
       each i h false e = rw (marked-off L f m i e, e) (let z : _≡_ {A = ℕ} (cond (marked L m i) 1 0) (cond (marked L m i) 1 0 + 0) = omega arith in z)
-
--- no more are new than the area has bytes
-pub new-most : (f : ℕ → Bool) (m : List ℕ) (n : ℕ) → n ≡ newMarks inUse f m → n ≤ length m
-unfolding newMarks capacity
-new-most f m n e = rw e (count-most (length m) (λ i. f i && not (marked inUse m i)))
 
 -- what is marked already is not new
 pub new-again : (L : Layout) (t : ℕ) (m : List ℕ) → newMarks L (markedBelow L t m) m ≡ 0

@@ -1,4 +1,5 @@
+pub mod BitLaws
 pub mod CountLaws
-mod EightLaws
 pub mod MarkLaws
 pub mod OffsetLaws
+mod WholeLaws

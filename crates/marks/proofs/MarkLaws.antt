@@ -1,82 +1,21 @@
--- Laws of the marks. Those down to `mark-chosen` are all that other files use of how a mark is held. Assumes nothing.
-use Prim.Native.Nat.{ℕ, zero, suc, _+_, _*_, _/_, _%_, _^_, _≤_, _<_}
+-- Laws of the marks. Those down to `layout-laws` are all that other files use of how a mark is held. Assumes nothing.
+use Prim.Native.Nat.{ℕ, zero, suc, _+_, _/_, _%_, _≤_, _<_}
 use mathlib.Core.Path.{_≡_, refl, sym, ap, _∙_}
 use mathlib.Core.Bool.{Bool, true, false, cond, and-false, false≢true}
 use mathlib.Core.List.{List}
-use native.Mathlib.Nat.{not-suc-le-zero, pow-suc}
+use native.Mathlib.Nat.{not-suc-le-zero}
 use native.Mathlib.Numerals.{add-one}
 use native.Mathlib.Omega.{arith}
 use lib.ListN.{length, getD, set, replicate, length-set, getD-replicate, length-replicate, List·getD-eq-default}
 use lib.Seq.{set-getD, getD-set-same, getD-set-other}
-use lib.Dec.{leb, eqb}
-use lib.Pow.{shr-shr}
-use borrow.Author.Tests.{lt-ltb, le-ltb, le-leb, lt-leb, eqb-true, eqb-false}
-use Rattle.wire.specs.Answer.{bit}
+use lib.Dec.{leb}
+use borrow.Author.Tests.{lt-ltb, le-ltb, le-leb, lt-leb, eqb-true}
 use Rattle.marks.specs.Offsets.{inRange}
-use Rattle.marks.specs.Marks.{Layout, withBit, marksFor, capacity, marked, markAt, cleared, markIf, markUpTo, markAll, markedBelow, allMarked}
+use Rattle.marks.specs.Marks.{Layout, withBit, marksFor, capacity, marked, markAt, cleared, markIf, markUpTo, markAll, markedBelow}
 use Rattle.marks.specs.Marks.Layout.{byBytes, byBits}
+use Rattle.marks.specs.Layouts.{LayoutLaws}
 use Rattle.wire.proofs.Cases.{by-bool, by-eq, by-lt}
-use Rattle.marks.proofs.OffsetLaws.{all-every, all-but}
-
--- ---- bits of a byte, one after another: bit 0 is the remainder by 2, and the others are those of the half
-abbrev digit : ℕ → ℕ → Bool
-digit zero b = eqb (b % 2) 1
-digit (suc k) b = digit k (b / 2)
-
-abbrev withDigit : ℕ → ℕ → ℕ
-withDigit zero b = b / 2 * 2 + 1
-withDigit (suc k) b = withDigit k (b / 2) * 2 + b % 2
-
-halved-digit : (k b : ℕ) → eqb (b / 2 ^ k % 2) 1 ≡ digit k b
-halved-digit zero b = let e : b / 1 ≡ b = omega arith in rw e
-halved-digit (suc k) b =
-    let e : b / 2 ^ suc k ≡ b / 2 / 2 ^ k = ap (λ (n : ℕ). b / 2 ^ n) (sym (one-add k)) ∙ sym (shr-shr b 1 k) in
-    rw e (halved-digit k (b / 2))
-  where
-    one-add : (k : ℕ) → 1 + k ≡ suc k
-    one-add k = omega arith
-
-bit-digit : (k b : ℕ) → bit k b ≡ digit k b
-bit-digit zero b = refl
-bit-digit (suc k) b = halved-digit (suc k) b
-
-with-digit : (k b : ℕ) → withBit k b ≡ withDigit k b
-with-digit zero b =
-    by-bool _ (eqb (b % 2) 1) (λ t. let h = eqb-true (b % 2) 1 t in rw t (omega arith)) (λ t. let h = eqb-false (b % 2) 1 t in rw t (omega arith))
-with-digit (suc k) b =
-    let ih = with-digit k (b / 2) in
-    by-bool _ (digit k (b / 2))
-    (λ t. let h : b / 2 ≡ withDigit k (b / 2) = rw (bit-digit k (b / 2), t) at ih in rw (bit-digit (suc k) b, t) (omega arith))
-    (λ t. let h : b / 2 + 2 ^ k ≡ withDigit k (b / 2) = rw (bit-digit k (b / 2), t) at ih in rw (bit-digit (suc k) b, t, pow-suc 2 k) (omega arith))
-
-digit-none : (k : ℕ) → digit k 0 ≡ false
-digit-none zero = refl
-digit-none (suc k) = digit-none k
-
-digit-same : (k b : ℕ) → digit k (withDigit k b) ≡ true
-digit-same zero b = let e : (b / 2 * 2 + 1) % 2 ≡ 1 = omega arith in rw e
-digit-same (suc k) b =
-    let e : (withDigit k (b / 2) * 2 + b % 2) / 2 ≡ withDigit k (b / 2) = omega arith in rw e (digit-same k (b / 2))
-
-digit-other : (k j b : ℕ) → (j ≡ k → ⊥) → digit j (withDigit k b) ≡ digit j b
-digit-other zero zero b ne = absurd (ne refl)
-digit-other zero (suc j) b ne = let e : (b / 2 * 2 + 1) / 2 ≡ b / 2 = omega arith in rw e
-digit-other (suc k) zero b ne = let e : (withDigit k (b / 2) * 2 + b % 2) % 2 ≡ b % 2 = omega arith in rw e
-digit-other (suc k) (suc j) b ne =
-    let e : (withDigit k (b / 2) * 2 + b % 2) / 2 ≡ withDigit k (b / 2) = omega arith in
-    rw e (digit-other k j (b / 2) (λ q. ne (ap suc q)))
-
-bit-none : (k : ℕ) → bit k 0 ≡ false
-bit-none k = bit-digit k 0 ∙ digit-none k
-
-bit-same : (k b : ℕ) → bit k (withBit k b) ≡ true
-bit-same k b = bit-digit k (withBit k b) ∙ ap (digit k) (with-digit k b) ∙ digit-same k b
-
-bit-other : (k j b : ℕ) → (j ≡ k → ⊥) → bit j (withBit k b) ≡ bit j b
-bit-other k j b ne = bit-digit j (withBit k b) ∙ ap (digit j) (with-digit k b) ∙ digit-other k j b ne ∙ sym (bit-digit j b)
-
-bit-again : (k b : ℕ) → bit k b ≡ true → withBit k b ≡ b
-bit-again k b e = rw e
+use Rattle.marks.proofs.BitLaws.{bit-none, bit-same, bit-other, bit-again}
 
 -- ---- what is true of either layout
 pub marks-mono : (L : Layout) (a b : ℕ) → a ≤ b → marksFor L a ≤ marksFor L b
@@ -88,6 +27,11 @@ pub marks-cover : (L : Layout) (t i : ℕ) (m : List ℕ) → i ≤ t → marksF
 unfolding marksFor capacity
 marks-cover byBytes t i m l h = omega arith
 marks-cover byBits t i m l h = omega arith
+
+pub marks-fit : (L : Layout) (n : ℕ) (m : List ℕ) → n ≤ capacity L m → marksFor L n ≤ length m
+unfolding marksFor capacity
+marks-fit byBytes n m h = h
+marks-fit byBits n m h = omega arith
 
 pub capacity-length : (L : Layout) (m k : List ℕ) → length m ≡ length k → capacity L m ≡ capacity L k
 unfolding capacity
@@ -140,10 +84,24 @@ mark-again byBytes m n e = ap (set m n) (sym (eqb-true (getD m n 0) 1 e)) ∙ se
 mark-again byBits m n e = ap (set m (n / 8)) (bit-again (n % 8) (getD m (n / 8) 0) e) ∙ set-getD m (n / 8) 0
 
 -- a turn of the code's
-pub mark-chosen : (b : Bool) (i : ℕ) (m : List ℕ) → set m i (cond b 1 (getD m i 0)) ≡ markIf byBytes b i m
+pub mark-chosen : (b : Bool) (i : ℕ) (m : List ℕ) → set m (i / 8) (cond b (withBit (i % 8) (getD m (i / 8) 0)) (getD m (i / 8) 0)) ≡ markIf byBits b i m
 unfolding markAt
 mark-chosen true i m = refl
-mark-chosen false i m = set-getD m i 0
+mark-chosen false i m = set-getD m (i / 8) 0
+
+-- both layouts are what a layout has to be
+pub layout-laws : (L : Layout) → LayoutLaws L
+layout-laws L = record {
+  more = marks-mono L;
+  enough = marks-cover L;
+  even = capacity-length L;
+  none-past = marked-none L;
+  none-cleared = marked-cleared L;
+  length-stays = length-markAt L;
+  then-marked = mark-same L;
+  others-stay = mark-other L;
+  again-same = mark-again L;
+}
 
 -- ---- from here on nothing depends on how a mark is held
 -- ---- the test of a range
@@ -155,12 +113,6 @@ range-in start end i h k = rw (le-leb start i h, lt-ltb i end k)
 
 pub range-above : (start end i : ℕ) → end ≤ i → inRange start end i ≡ false
 range-above start end i h = rw (le-ltb i end h) (and-false (leb start i))
-
--- a loop's end by the area is the end asked for where the area has room
-pub within-all : (L : Layout) (r n : ℕ) (m : List ℕ) → marksFor L n ≤ length m → (r ≤ n) × (r ≤ capacity L m) × (r < n → r ≡ capacity L m) → r ≡ n
-within-all L r n m h w =
-    let room = marks-cover L n n m (omega arith) h in
-    by-lt _ r n (λ l. let full = w .2 l in absurd (omega arith)) (λ l. let below = w .0 in omega arith)
 
 module _ (L : Layout) where
   marks-room : (t i : ℕ) (m : List ℕ) → i < t → marksFor L t ≤ length m → i < capacity L m
@@ -247,12 +199,3 @@ module _ (L : Layout) where
 
   pub marked-past : (t : ℕ) (m : List ℕ) (i : ℕ) → t ≤ i → markedBelow L t m i ≡ false
   marked-past t m i h = rw (le-ltb i t h)
-
-  -- ---- every offset below n
-  pub all-marked-yes : (n : ℕ) (m : List ℕ) → ((i : ℕ) → i < n → marked L m i ≡ true) → allMarked L n m ≡ true
-  unfolding allMarked
-  all-marked-yes n m e = all-every n (marked L m) e
-
-  pub all-marked-no : (n : ℕ) (m : List ℕ) (i : ℕ) → i < n → marked L m i ≡ false → allMarked L n m ≡ false
-  unfolding allMarked
-  all-marked-no n m i h e = all-but n (marked L m) i h e

@@ -1,13 +1,14 @@
 -- Laws of offsets that pass a test. Assumes nothing.
 use Prim.Native.Nat.{ℕ, zero, suc, _≤_, _<_, _+_, _-_}
 use mathlib.Core.Path.{_≡_, refl, sym, _∙_, ap}
-use mathlib.Core.Bool.{Bool, false, true, or-true, false≢true, _||_, _&&_, not}
+use mathlib.Core.Bool.{Bool, false, true, cond, or-true, false≢true, _||_, _&&_, not}
 use native.Mathlib.Omega.{arith}
-use Rattle.marks.specs.Offsets.{anyBelow, allBelow}
+use Rattle.marks.specs.Offsets.{anyBelow, anyFrom, allBelow, countBelow}
 use native.Mathlib.Nat.{not-suc-le-zero}
 use Rattle.wire.proofs.Cases.{by-eq, by-lt, by-bool}
 use native.Mathlib.Numerals.{add-one}
-use borrow.Author.Tests.{not-true, not-false}
+use lib.Dec.{leb}
+use borrow.Author.Tests.{le-leb, lt-leb, not-true, not-false}
 
 -- ---- a test at every offset below n
 pub any-none : (n : ℕ) (f : ℕ → Bool) → ((i : ℕ) → i < n → f i ≡ false) → anyBelow n f ≡ false
@@ -32,14 +33,20 @@ any-step n f = rw (add-one n)
 pub all-every : (n : ℕ) (f : ℕ → Bool) → ((i : ℕ) → i < n → f i ≡ true) → allBelow n f ≡ true
 all-every n f e = ap not (any-none n (λ i. not (f i)) (λ i h. ap not (e i h)))
 
-pub all-but : (n : ℕ) (f : ℕ → Bool) (i : ℕ) → i < n → f i ≡ false → allBelow n f ≡ false
-all-but n f i h e = ap not (any-some n (λ k. not (f k)) i h (ap not e))
-
 pub every-all : (n : ℕ) (f : ℕ → Bool) → allBelow n f ≡ true → (i : ℕ) → i < n → f i ≡ true
 every-all n f e i h = not-false (f i) (none-any n (λ k. not (f k)) (not-true (anyBelow n (λ k. not (f k))) e) i h)
 
 pub all-ext : (n : ℕ) (f g : ℕ → Bool) → ((i : ℕ) → i < n → f i ≡ g i) → allBelow n f ≡ allBelow n g
 all-ext n f g e = ap not (any-ext n (λ i. not (f i)) (λ i. not (g i)) (λ i h. ap not (e i h)))
+
+pub all-step : (n : ℕ) (f : ℕ → Bool) → allBelow (n + 1) f ≡ (allBelow n f && f n)
+all-step n f = ap not (any-step n (λ i. not (f i))) ∙ either (f n) (anyBelow n (λ i. not (f i)))
+  where
+    either : (a b : Bool) → not (not a || b) ≡ (not b && a)
+    either true true = refl
+    either true false = refl
+    either false true = refl
+    either false false = refl
 
 -- none from a up to b
 pub any-between : (a b : ℕ) (f : ℕ → Bool) → a ≤ b → ((k : ℕ) → a ≤ k → k < b → f k ≡ false) → anyBelow b f ≡ anyBelow a f
@@ -48,43 +55,46 @@ any-between a (suc b) f h e =
     by-eq _ a (suc b) (λ q. ap (λ (n : ℕ). anyBelow n f) (sym q))
     (λ ne. rw (e b (omega arith) (omega arith)) (any-between a b f (omega arith) (λ k l m. e k l (omega arith))))
 
--- ---- every offset of two runs, the second behind the first
-pub all-more : (n c : ℕ) (f : ℕ → Bool) → allBelow (n + c) f ≡ (allBelow n f && allBelow c (λ j. f (n + j)))
-all-more n c f =
-    by-bool _ (allBelow (n + c) f)
-    (λ t. rw (t, all-every n f (λ i h. every-all (n + c) f t i (omega arith)), all-every c (λ j. f (n + j)) (λ j h. every-all (n + c) f t (n + j) (omega arith))))
-    (λ t. by-bool _ (allBelow n f)
-    (λ a. by-bool _ (allBelow c (λ j. f (n + j))) (λ b. absurd (false≢true (sym t ∙ all-every (n + c) f (both a b)))) (λ b. rw (t, a, b))) (λ a. rw (t, a)))
+-- ---- a test at the offsets from a up to b
+pub from-none : (a b : ℕ) (f : ℕ → Bool) → ((k : ℕ) → a ≤ k → k < b → f k ≡ false) → anyFrom a b f ≡ false
+from-none a b f e = any-none b _ (λ k h. by-lt _ k a (λ l. rw (lt-leb a k l)) (λ l. rw (le-leb a k l) (e k l h)))
+
+pub none-from : (a b : ℕ) (f : ℕ → Bool) → anyFrom a b f ≡ false → (k : ℕ) → a ≤ k → k < b → f k ≡ false
+none-from a b f e k h l = rw (le-leb a k h) at (none-any b (λ i. leb a i && f i) e k l)
+
+pub from-ext : (a b : ℕ) (f g : ℕ → Bool) → ((k : ℕ) → a ≤ k → k < b → f k ≡ g k) → anyFrom a b f ≡ anyFrom a b g
+from-ext a b f g e = any-ext b _ _ (λ k h. by-lt _ k a (λ l. rw (lt-leb a k l)) (λ l. rw (le-leb a k l) (e k l h)))
+
+pub from-zero : (n : ℕ) (f : ℕ → Bool) → anyFrom 0 n f ≡ anyBelow n f
+from-zero n f = any-ext n _ _ (λ k h. rw (le-leb 0 k (omega arith)))
+
+-- one more
+pub from-step : (a b : ℕ) (f : ℕ → Bool) → a ≤ b → anyFrom a (b + 1) f ≡ (f b || anyFrom a b f)
+from-step a b f h = any-step b (λ i. leb a i && f i) ∙ ap (λ (t : Bool). t && f b || anyFrom a b f) (le-leb a b h)
+
+-- two runs, the second behind the first
+pub from-more : (a b c : ℕ) (f : ℕ → Bool) → a ≤ b → b ≤ c → anyFrom a c f ≡ (anyFrom a b f || anyFrom b c f)
+from-more a b c f h l =
+    by-bool _ (anyFrom a c f)
+    (λ t. by-bool _ (anyFrom a b f) (λ x. rw (t, x))
+    (λ x. by-bool _ (anyFrom b c f) (λ y. rw (t, x, y)) (λ y. absurd (false≢true (sym (from-none a c f (both x y)) ∙ t)))))
+    (λ t. rw (t, from-none a b f (λ k p q. none-from a c f t k p (omega arith)), from-none b c f (λ k p q. none-from a c f t k (omega arith) q)))
   where
-    both : allBelow n f ≡ true → allBelow c (λ j. f (n + j)) ≡ true → (i : ℕ) → i < n + c → f i ≡ true
-    both a b i h =
-        by-lt _ i n (λ l. every-all n f a i l)
-        (λ l. let q : i ≡ n + (i - n) = omega arith in ap f q ∙ every-all c (λ j. f (n + j)) b (i - n) (omega arith))
+    both : anyFrom a b f ≡ false → anyFrom b c f ≡ false → (k : ℕ) → a ≤ k → k < c → f k ≡ false
+    both x y k p q = by-lt _ k b (λ z. none-from a b f x k p z) (λ z. none-from b c f y k z q)
 
--- what is left from i on: a run of c, and what is left behind it
-pub left-run : (n i c : ℕ) (f : ℕ → Bool) → i + c ≤ n
-    → allBelow (n - i) (λ j. f (i + j)) ≡ (allBelow c (λ j. f (i + j)) && allBelow (n - (i + c)) (λ j. f (i + c + j)))
-left-run n i c f h =
-    let q : n - i ≡ c + (n - (i + c)) = omega arith in
-    ap (λ (k : ℕ). allBelow k (λ j. f (i + j))) q ∙ all-more c (n - (i + c)) (λ j. f (i + j))
-    ∙ ap (_&&_ (allBelow c (λ j. f (i + j)))) (all-ext (n - (i + c)) _ _ (λ j l. ap f (later j)))
-  where
-    later : (j : ℕ) → i + (c + j) ≡ i + c + j
-    later j = omega arith
+-- some of a run that lies inside
+pub from-found : (a b c d : ℕ) (f : ℕ → Bool) → a ≤ b → c ≤ d → anyFrom b c f ≡ true → anyFrom a d f ≡ true
+from-found a b c d f h l e =
+    by-bool _ (anyFrom a d f) (λ t. t) (λ t. absurd (false≢true (sym (from-none b c f (λ k p q. none-from a d f t k (omega arith) (omega arith))) ∙ e)))
 
-pub left-one : (n i : ℕ) (f : ℕ → Bool) → i < n → allBelow (n - i) (λ j. f (i + j)) ≡ (f i && allBelow (n - (i + 1)) (λ j. f (i + 1 + j)))
-left-one n i f h = left-run n i 1 f (omega arith) ∙ ap (λ (b : Bool). b && allBelow (n - (i + 1)) (λ j. f (i + 1 + j))) one
-  where
-    one : allBelow 1 (λ j. f (i + j)) ≡ f i
-    one =
-        let q : i + 0 ≡ i = omega arith in
-        by-bool _ (f i) (λ t. all-every 1 _ (λ j l. let e : i + j ≡ i = omega arith in ap f e ∙ t) ∙ sym t) (λ t. all-but 1 (λ j. f (i + j)) 0 (omega arith) (ap f q ∙ t) ∙ sym t)
+pub from-three : (a b c d : ℕ) (f : ℕ → Bool) → a ≤ b → b ≤ c → c ≤ d → ((anyFrom a b f || anyFrom b c f) || anyFrom c d f) ≡ anyFrom a d f
+from-three a b c d f h l k =
+    ap (λ (t : Bool). t || anyFrom c d f) (sym (from-more a b c f h l)) ∙ sym (from-more a c d f (omega arith) k)
 
-pub left-none : (n i : ℕ) (f : ℕ → Bool) → n ≤ i → allBelow (n - i) f ≡ true
-left-none n i f h = all-every (n - i) f (λ j l. absurd (omega arith))
-
--- from the start on
-pub left-all : (n : ℕ) (f : ℕ → Bool) → allBelow (n - 0) (λ j. f (0 + j)) ≡ allBelow n f
-left-all n f =
-    let q : n - 0 ≡ n = omega arith in
-    ap (λ (k : ℕ). allBelow k (λ j. f (0 + j))) q ∙ all-ext n (λ j. f (0 + j)) f (λ j h. let e : 0 + j ≡ j = omega arith in ap f e)
+-- ---- counting: the first, and the others
+pub count-first : (n : ℕ) (f : ℕ → Bool) → countBelow (suc n) f ≡ cond (f 0) 1 0 + countBelow n (λ k. f (suc k))
+count-first zero f = refl
+count-first (suc n) f =
+    let ih = count-first n f in
+    let z : cond (f (suc n)) 1 0 + countBelow (suc n) f ≡ cond (f 0) 1 0 + (cond (f (suc n)) 1 0 + countBelow n (λ k. f (suc k))) = omega arith in z

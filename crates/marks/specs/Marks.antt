@@ -7,21 +7,22 @@ use lib.Dec.{ltb, eqb}
 use Rattle.wire.specs.Answer.{bit}
 use Rattle.marks.specs.Offsets.{allBelow, countBelow}
 
--- a byte for each byte of the payload area, 1 where it is covered, where any other value means not covered; or a bit for each, eight to a
--- byte, the lowest position in the lowest bit
+-- a byte for each byte of the payload area, 1 where it is covered, where any other value means not covered (document 01); or a bit for
+-- each: "hold eight to a byte, lowest position in the lowest bit" (document 02, Req 11)
 pub data Layout : Type 0 where
   byBytes : Layout
   byBits : Layout
 
 -- the layout that the code has
 abbrev pub inUse : Layout
-inUse = byBytes
+inUse = byBits
 
 -- a byte with bit k set, where bit 0 is the lowest
 abbrev pub withBit : ℕ → ℕ → ℕ
 withBit k b = cond (bit k b) b (b + 2 ^ k)
 
--- how many bytes of marks a payload area of n bytes has: both areas are equally long; or one eighth, rounded up
+-- how many bytes of marks a payload area of n bytes has: both areas are equally long; or "exactly one eighth of the payload area, rounded
+-- up"
 unfoldable pub marksFor : Layout → ℕ → ℕ
 marksFor byBytes n = n
 marksFor byBits n = (n + 7) / 8
@@ -41,7 +42,7 @@ unfoldable pub markAt : Layout → ℕ → List ℕ → List ℕ
 markAt byBytes i m = set m i 1
 markAt byBits i m = set m (i / 8) (withBit (i % 8) (getD m (i / 8) 0))
 
--- with no offset marked: every byte is 0
+-- with no offset marked: "clearing zeroes the marks area whole"
 unfoldable pub cleared : List ℕ → List ℕ
 cleared m = replicate (length m) 0
 
@@ -55,7 +56,7 @@ abbrev pub markUpTo : Layout → ℕ → (ℕ → Bool) → List ℕ → List �
 markUpTo L zero f m = m
 markUpTo L (suc i) f m = markIf L (f i) i (markUpTo L i f m)
 
--- with every offset that passes the test marked, and no other mark changed
+-- with every offset that passes the test marked: "storing changes no other bit"
 unfoldable pub markAll : Layout → (ℕ → Bool) → List ℕ → List ℕ
 markAll L f m = markUpTo L (capacity L m) f m
 

@@ -8,6 +8,10 @@ abbrev pub anyBelow : ℕ → (ℕ → Bool) → Bool
 anyBelow zero f = false
 anyBelow (suc n) f = f n || anyBelow n f
 
+-- whether some i from start up to end passes the test
+abbrev pub anyFrom : ℕ → ℕ → (ℕ → Bool) → Bool
+anyFrom start end f = anyBelow end (λ i. leb start i && f i)
+
 -- whether every i below n passes the test: none fails it
 abbrev pub allBelow : ℕ → (ℕ → Bool) → Bool
 allBelow n f = not (anyBelow n (λ i. not (f i)))

@@ -1,27 +1,29 @@
-// The marks of a partial. How they are held, a byte for each byte of the payload area and 1 where it is covered, is known here only.
-mod counting;
-mod quick;
+// The marks of a partial: a bit for each byte of the payload area, eight to a byte, the lowest position in the lowest bit, set where the
+// byte is covered. How they are held is known here only.
+mod bits;
+mod each;
+mod whole;
 
 ghost use mathlib.Core.Path.{_≡_};
-ghost use mathlib.Core.Bool.{cond, _&&_};
-ghost use Prim.Native.Nat.{_<_, _≤_};
-ghost use lib.Dec.{leb};
-ghost use Rattle.marks.specs.Offsets.{anyBelow, inRange};
-ghost use Rattle.marks.specs.Marks.{inUse, marksFor, capacity, marked, markIf, cleared, markedBelow, markAll, allMarked, countMarked, newMarks};
-use counting::FEW;
-use counting::count_few;
-use counting::mark_few;
-use counting::mark_few_marked;
-use quick::BLOCK;
-use quick::BLOCK_EIGHTS;
-use quick::each_marked;
-use quick::eights_marked;
+ghost use mathlib.Core.Bool.{cond};
+ghost use Prim.Native.Nat.{_+_, _-_, _<_, _≤_};
+ghost use Rattle.marks.specs.Offsets.{countBelow, anyFrom, inRange, inRangeAnd, always};
+ghost use Rattle.marks.specs.Marks.{inUse, marksFor, capacity, marked, cleared, markedBelow, markAll, countMarked, newMarks};
+use bits::bit_of;
+use each::any_each;
+use each::count_each;
+use each::mark_each;
+use each::mark_each_marked;
+use whole::any_whole;
+use whole::count_whole;
+use whole::fill;
+use whole::mark_whole_marked;
 
 // How many bytes of marks a payload area of n bytes has.
 pub fn marks_for(n: usize) -> usize
     ensures { λ r. ⌜ r ≡ marksFor inUse n ⌝ }
 {
-    n
+    n / 8 + (n % 8 + 7) / 8
 }
 
 // The smaller of n and the number of offsets that a marks area has.
@@ -30,17 +32,22 @@ pub fn within(marks: &[u8], n: usize) -> usize
         let most = capacity inUse (now (marks .entry)) in
         ⌜ (r ≤ n) × (r ≤ most) × (r < n → r ≡ most) ⌝ }
 {
-    if n <= marks.len() { n } else { marks.len() }
+    if n / 8 < marks.len() {
+        n
+    } else {
+        8 * marks.len()
+    }
 }
 
-// Whether an offset is marked; one past the area is not. In a loop up to `within` the test of the area's end costs nothing.
+// Whether an offset is marked; one past the area is not.
 pub fn is_marked(marks: &[u8], i: usize) -> bool
     ensures { λ r. ⌜ r ≡ marked inUse (now (marks .entry)) i ⌝ }
 {
-    if marks.len() <= i {
+    let at = i / 8;
+    if marks.len() <= at {
         return false;
     }
-    marks[i] == 1
+    bit_of(marks[at], i % 8)
 }
 
 // One of two bytes.
@@ -48,14 +55,6 @@ pub fn choose(b: bool, x: u8, y: u8) -> u8
     ensures { λ r. ⌜ r ≡ cond b x y ⌝ }
 {
     if b { x } else { y }
-}
-
-// Marks an offset if told so.
-pub(crate) fn mark_if(marks: &mut [u8], i: usize, on: bool)
-    requires { ⌜ i < capacity inUse (now marks) ⌝ }
-    ensures { λ r. ⌜ now (marks .exit) ≡ markIf inUse on i (now (marks .entry)) ⌝ }
-{
-    marks[i] = choose(on, 1, marks[i]);
 }
 
 // Clears every mark.
@@ -69,6 +68,22 @@ pub fn clear(marks: &mut [u8])
     }
 }
 
+// Marks the offsets from start up to end: whole bytes inside, and bits at the ends.
+fn mark_run(marks: &mut [u8], start: usize, end: usize)
+    requires { ⌜ (start ≤ end) × (end ≤ capacity inUse (now marks)) ⌝ }
+    ensures { λ r. ⌜ now (marks .exit) ≡ markAll inUse (inRangeAnd always start end) (now (marks .entry)) ⌝ }
+{
+    let first = marks_for(start);
+    let last = end / 8;
+    if last <= first {
+        mark_each(marks, start, end);
+        return;
+    }
+    mark_each(marks, start, 8 * first);
+    fill(marks, first, last);
+    mark_each(marks, 8 * last, end);
+}
+
 // Marks the offsets from start up to end, and tells how many were not marked; those past the area are left out.
 pub fn mark_range(marks: &mut [u8], start: usize, end: usize) -> usize
     ensures { λ r.
@@ -79,13 +94,9 @@ pub fn mark_range(marks: &mut [u8], start: usize, end: usize) -> usize
     if stop <= start {
         return 0;
     }
-    let mut fresh = 0;
-    let mut i = start;
-    while FEW <= stop - i {
-        fresh += mark_few(marks, i, i + FEW);
-        i += FEW;
-    }
-    fresh + mark_few(marks, i, stop)
+    let held = count_between(marks, start, stop);
+    mark_run(marks, start, stop);
+    stop - start - held
 }
 
 // Marks the offsets below n that are marked in another area, and tells how many were not marked; those past either area are left out.
@@ -96,60 +107,46 @@ pub fn mark_marked(marks: &mut [u8], n: usize, other: &[u8]) -> usize
         ⌜ (now (marks .exit) ≡ markAll inUse source before) × (r ≡ newMarks inUse source before) ⌝ }
 {
     let stop = within(other, within(marks, n));
-    let mut fresh = 0;
-    let mut i = 0;
-    while FEW <= stop - i {
-        fresh += mark_few_marked(marks, i, i + FEW, other);
-        i += FEW;
+    let held = count_marked(marks, stop);
+    let last = stop / 8;
+    mark_whole_marked(marks, last, other);
+    mark_each_marked(marks, 8 * last, stop, other);
+    count_marked(marks, stop) - held
+}
+
+// How many offsets from start up to end are marked; one past the area is not. Whole bytes inside, and bits at the ends.
+pub fn count_between(marks: &[u8], start: usize, end: usize) -> usize
+    ensures { λ r. ⌜ r ≡ countBelow (end - start) (λ j. marked inUse (now (marks .entry)) (start + j)) ⌝ }
+{
+    let stop = within(marks, end);
+    let first = marks_for(start);
+    let last = stop / 8;
+    if last <= first {
+        return count_each(marks, start, stop);
     }
-    fresh + mark_few_marked(marks, i, stop, other)
+    let head = count_each(marks, start, 8 * first);
+    let inside = count_whole(marks, first, last);
+    head + inside + count_each(marks, 8 * last, stop)
 }
 
 // How many offsets below n are marked; one past the area is not.
 pub fn count_marked(marks: &[u8], n: usize) -> usize
     ensures { λ r. ⌜ r ≡ countMarked inUse n (now (marks .entry)) ⌝ }
 {
-    let stop = within(marks, n);
-    let mut count = 0;
-    let mut i = 0;
-    while FEW <= stop - i {
-        count += count_few(marks, i, i + FEW);
-        i += FEW;
-    }
-    count + count_few(marks, i, stop)
+    count_between(marks, 0, n)
 }
 
-// Whether every offset below n is marked; one past the area is not.
-pub fn all_marked(marks: &[u8], n: usize) -> bool
-    ensures { λ r. ⌜ r ≡ allMarked inUse n (now (marks .entry)) ⌝ }
-{
-    if within(marks, n) < n {
-        return false;
-    }
-    let mut i = 0;
-    while BLOCK <= n - i {
-        if !eights_marked(marks, i, BLOCK_EIGHTS) {
-            return false;
-        }
-        i += BLOCK;
-    }
-    let eights = (n - i) / 8;
-    if !eights_marked(marks, i, eights) {
-        return false;
-    }
-    each_marked(marks, i + 8 * eights, n)
-}
-
-// Whether an offset from start up to end is marked; one past the area is not.
+// Whether an offset from start up to end is marked; one past the area is not. Whole bytes inside, and bits at the ends.
 pub fn any_marked(marks: &[u8], start: usize, end: usize) -> bool
-    ensures { λ r. ⌜ r ≡ anyBelow end (λ i. leb start i && marked inUse (now (marks .entry)) i) ⌝ }
+    ensures { λ r. ⌜ r ≡ anyFrom start end (marked inUse (now (marks .entry))) ⌝ }
 {
     let stop = within(marks, end);
-    let mut any = false;
-    let mut i = start;
-    while i < stop {
-        any = is_marked(marks, i) | any;
-        i += 1;
+    let first = marks_for(start);
+    let last = stop / 8;
+    if last <= first {
+        return any_each(marks, start, stop);
     }
-    any
+    let head = any_each(marks, start, 8 * first);
+    let inside = any_whole(marks, first, last);
+    head | inside | any_each(marks, 8 * last, stop)
 }

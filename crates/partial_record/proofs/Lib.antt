@@ -1,3 +1,4 @@
+pub mod Asked
 pub mod Parts
 pub mod Taken
 pub mod Back

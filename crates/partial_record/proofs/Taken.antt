@@ -13,7 +13,7 @@ use Rattle.reassembly.specs.declared.record.Message.{Message}
 use Rattle.reassembly.specs.declared.record.PartialRecord.{PartialRecord}
 use Rattle.records.specs.Numbers.{numberAt}
 use Rattle.records.specs.Publisher.{publisherBy}
-use Rattle.partial_record.specs.Partial.{publisherIn, groupIdIn, messageIn, partialIn}
+use Rattle.partial_record.specs.Partial.{publisherIn, groupIdIn, messageIn, partialIn, askedIn}
 
 abbrev pub publisherWith : PublisherId → List ℕ → PublisherRecord
 publisherWith i t = record { id = i; text = t }
@@ -40,3 +40,14 @@ message-taken s p g a b d qp qg qa qb qd =
 pub partial-taken : (s : List ℕ) (n : ℕ) (m : Message) (c : ℕ) → n ≡ numberAt s 0 → m ≡ messageIn s → c ≡ numberAt s 8 → partialWith n m c ≡ partialIn s
 partial-taken s n m c qn qm qc =
     ap (λ (x : ℕ). partialWith x m c) qn ∙ ap (λ (x : Message). partialWith (numberAt s 0) x c) qm ∙ ap (λ (x : ℕ). partialWith (numberAt s 0) (messageIn s) x) qc
+
+abbrev pub askedWith : ℕ → PublisherId → ℕ → ℕ → PartialRecord
+askedWith n i d c = partialWith n (messageWith (publisherWith i (replicate 64 0)) Optional16.Absent 0 0 d) c
+
+pub asked-taken : (s : List ℕ) (id : PublisherId) (a b d n c : ℕ) → id ≡ publisherBy a b → a ≡ numberAt s 1 → b ≡ numberAt s 2 → d ≡ numberAt s 5 → n ≡ numberAt s 0 → c ≡ numberAt s 8
+    → askedWith n id d c ≡ askedIn s
+asked-taken s id a b d n c qi qa qb qd qn qc =
+    ap (λ (i : PublisherId). askedWith n i d c) (qi ∙ ap (λ (x : ℕ). publisherBy x b) qa ∙ ap (λ (x : ℕ). publisherBy (numberAt s 1) x) qb)
+    ∙ ap (λ (x : ℕ). askedWith n (publisherBy (numberAt s 1) (numberAt s 2)) x c) qd
+    ∙ ap (λ (x : ℕ). askedWith x (publisherBy (numberAt s 1) (numberAt s 2)) (numberAt s 5) c) qn
+    ∙ ap (λ (x : ℕ). askedWith (numberAt s 0) (publisherBy (numberAt s 1) (numberAt s 2)) (numberAt s 5) x) qc

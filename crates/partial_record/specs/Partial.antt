@@ -45,6 +45,25 @@ COVERED = 8
 abbrev pub partialIn : List ℕ → PartialRecord
 partialIn s = record { started = eqb (numberAt s 0) 1; message = messageIn s; covered = numberAt s COVERED }
 
+-- what a question of how far it is looks at: the record with no text, group, writer and message number
+abbrev pub askedIn : List ℕ → PartialRecord
+askedIn s =
+    record {
+      started = eqb (numberAt s 0) 1;
+      message =
+          record {
+            origin =
+                record {
+                  publisher = record { id = publisherBy (numberAt s 1) (numberAt s 2); text = replicate MOST_TEXT_ID 0 };
+                  group = Optional16.Absent;
+                  writer = 0;
+                  number = 0;
+                };
+            total = numberAt s 5;
+          };
+      covered = numberAt s COVERED;
+    }
+
 -- the record's numbers, from 0; the last one is spare and holds 0
 abbrev pub partialNumbers : PartialRecord → List ℕ
 partialNumbers r =

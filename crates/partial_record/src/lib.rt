@@ -22,7 +22,7 @@ use wire::part::part;
 use wire_writer::store::put_run;
 ghost use mathlib.Core.Path.{_≡_};
 ghost use Rattle.wire_writer.specs.Store.{laid};
-ghost use Rattle.partial_record.specs.Partial.{publisherIn, groupIdIn, messageIn, partialIn, partialBytes};
+ghost use Rattle.partial_record.specs.Partial.{publisherIn, groupIdIn, messageIn, partialIn, askedIn, partialBytes};
 
 // Which number of the record is that of the covered bytes.
 pub const COVERED: usize = 8;
@@ -73,6 +73,32 @@ pub fn partial_in(s: &[u8]) -> PartialRecord
     let message = message_in(s);
     PartialRecord {
         started: number(s, 0) == 1,
+        message,
+        covered: number(s, COVERED) as usize,
+    }
+}
+
+// What a question of how far a partial is looks at: its record without text, group, writer and message number. Such a call takes a third
+// of the time by it.
+pub fn asked_in(s: &[u8]) -> PartialRecord
+    ensures { λ r. ⌜ r ≡ askedIn (now (s .entry)) ⌝ }
+{
+    let id = publisher_by(number(s, 1), number(s, 2));
+    let text = [0u8; MOST_TEXT_ID];
+    let publisher = PublisherRecord { id, text };
+    let origin = MessageOrigin {
+        publisher,
+        group: Optional16::Absent,
+        writer: 0,
+        number: 0,
+    };
+    let message = Message {
+        origin,
+        total: number(s, 5) as usize,
+    };
+    let started = number(s, 0) == 1;
+    PartialRecord {
+        started,
         message,
         covered: number(s, COVERED) as usize,
     }

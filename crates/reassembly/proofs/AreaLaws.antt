@@ -1,22 +1,34 @@
 -- Laws of what two areas cover: what a view laid into them makes of it, and what is handed out of a full one. Assumes nothing.
-use Prim.Native.Nat.{ℕ, _+_, _≤_, _<_}
+use Prim.Native.Nat.{ℕ, _+_, _-_, _≤_, _<_}
 use mathlib.Core.Path.{_≡_, refl, sym, ap, ap₂, _∙_, fun-ext}
 use mathlib.Core.Bool.{Bool, true, false, cond, _&&_, false≢true}
 use mathlib.Core.List.{List}
 use mathlib.Core.Option.{Option, some, none, orElse, Option·getD}
 use native.Mathlib.Omega.{arith}
 use lib.ListN.{length, getD, take}
-use lib.Dec.{leb}
+use lib.Bits.{bitOr, bitXor}
+use lib.Dec.{eqb}
 use lib.Seq.{ext-getD, getD-take, length-take-le}
-use borrow.Author.Tests.{le-leb}
+use borrow.Author.Tests.{le-leb, lt-leb}
 use Rattle.reassembly.specs.Views.{View, isSome, has, onlyIf, dataView, nowhere, bothViews, differs, clash, full, bytesBelow, overlaid}
-use Rattle.marks.specs.Offsets.{anyBelow, allBelow}
+use Rattle.marks.specs.Offsets.{anyFrom, allBelow, countBelow}
 use Rattle.marks.specs.Marks.{Layout, marksFor, marked, cleared, markAll, markedBelow, allMarked}
 use Rattle.reassembly.specs.Areas.{markedView}
 use Rattle.wire.proofs.Cases.{by-lt}
-use Rattle.reassembly.proofs.ViewLaws.{length-tab, getD-tab, length-laid, getD-laid, has-only, data-at, none-clash, clash-data, differsAt, full-some, first-none, first-known}
-use Rattle.marks.proofs.OffsetLaws.{any-none, none-any, any-ext, all-ext}
+use Rattle.reassembly.proofs.ViewLaws.{length-tab, getD-tab, length-laid, getD-laid, has-only, data-at, data-below, differs-none, differs-same, none-clash, clash-data, differsAt, full-some, first-none, first-known}
+use Rattle.marks.proofs.OffsetLaws.{any-ext, all-ext, all-step, every-all, from-none, none-from, from-ext, from-zero}
+use Rattle.marks.proofs.BitLaws.{or-none, xor-none}
+use Rattle.marks.proofs.CountLaws.{count-zero, count-each}
 use Rattle.marks.proofs.MarkLaws.{marked-is, marked-past, marked-on, marked-off, marked-cleared, marks-self}
+
+-- a clash is one from the start on
+pub clash-whole : (n : ℕ) (v w : View) → clash n v w ≡ anyFrom 0 n (λ k. differs (v k) (w k))
+unfolding clash
+clash-whole n v w = sym (from-zero n (λ k. differs (v k) (w k)))
+
+-- a turn of comparing bytes without an exit
+pub same-step : (other x y j : ℕ) (f : ℕ → Bool) → eqb other 0 ≡ allBelow j f → eqb x y ≡ f j → eqb (bitOr other (bitXor x y)) 0 ≡ allBelow (j + 1) f
+same-step other x y j f e t = or-none other (bitXor x y) ∙ ap₂ _&&_ e (xor-none x y ∙ t) ∙ sym (all-step j f)
 
 module _ (L : Layout) where
   pub marked-below : (total : ℕ) (p m : List ℕ) (i : ℕ) → i < total → markedView L total p m i ≡ onlyIf (marked L m i) (getD p i 0)
@@ -40,7 +52,7 @@ module _ (L : Layout) where
       pick false = refl
 
   -- ---- what the code tests at an offset is what the views say there
-  pub clash-step-data : (total : ℕ) (p m : List ℕ) (at : ℕ) (d : List ℕ) (j : ℕ) → at + j < total → j < length d
+  clash-step-data : (total : ℕ) (p m : List ℕ) (at : ℕ) (d : List ℕ) (j : ℕ) → at + j < total → j < length d
       → differsAt (markedView L total p m) at d j ≡ differs (onlyIf (marked L m (at + j)) (getD p (at + j) 0)) (some (getD d j 0))
   clash-step-data total p m at d j h k = rw (marked-below total p m (at + j) h, data-at at d j k)
 
@@ -56,15 +68,80 @@ module _ (L : Layout) where
       ∙ any-ext (length d) _ _ (λ j h. clash-step-data (at + length d) p m at d j (omega arith) h ∙ sym (clash-step-data total p m at d j (omega arith) h))
       ∙ sym (clash-data total (markedView L total p m) at d fits)
 
-  -- where nothing is marked, a chunk's data meets no byte
-  pub clash-none : (p m : List ℕ) (at : ℕ) (d : List ℕ) → anyBelow (at + length d) (λ i. leb at i && marked L m i) ≡ false
-      → clash (at + length d) (markedView L (at + length d) p m) (dataView at d) ≡ false
-  clash-none p m at d e =
-      clash-data (at + length d) (markedView L (at + length d) p m) at d (omega arith)
-      ∙ any-none (length d) _ (λ j h. clash-step-data (at + length d) p m at d j (omega arith) h ∙ rw (free j h))
-    where
-      free : (j : ℕ) → j < length d → marked L m (at + j) ≡ false
-      free j h = rw (le-leb at (at + j) (omega arith)) at (none-any (at + length d) (λ i. leb at i && marked L m i) e (at + j) (omega arith))
+  -- the test at an offset of a chunk's data
+  pub data-test : (total : ℕ) (p m : List ℕ) (at : ℕ) (d : List ℕ) (k : ℕ) → at ≤ k → k < total → k < at + length d
+      → differs (markedView L total p m k) (dataView at d k) ≡ differs (onlyIf (marked L m k) (getD p k 0)) (some (getD d (k - at) 0))
+  data-test total p m at d k h l u =
+      let q : at + (k - at) ≡ k = omega arith in
+      rw q at (clash-step-data total p m at d (k - at) (omega arith) (omega arith))
+
+  -- a chunk's data clashes from its own offset on
+  pub clash-from : (p m : List ℕ) (at : ℕ) (d : List ℕ)
+      → clash (at + length d) (markedView L (at + length d) p m) (dataView at d) ≡ anyFrom at (at + length d) (λ k. differs (markedView L (at + length d) p m k) (dataView at d k))
+  unfolding clash
+  clash-from p m at d =
+      any-ext (at + length d) _ _ (λ k h. by-lt _ k at
+      (λ l. rw (lt-leb at k l, data-below at d k l) (differs-none (markedView L (at + length d) p m k))) (λ l. rw (le-leb at k l)))
+
+  -- where nothing is marked, or the bytes are the same, a run of a chunk's data meets no other byte
+  module _ (total : ℕ) (p m : List ℕ) (at : ℕ) (d : List ℕ) (a b : ℕ) (low : at ≤ a) (high : b ≤ at + length d) (all : b ≤ total) where
+    pub run-free : anyFrom a b (marked L m) ≡ false → anyFrom a b (λ k. differs (markedView L total p m k) (dataView at d k)) ≡ false
+    run-free e =
+        from-none a b _ (λ k h l. data-test total p m at d k (omega arith) (omega arith) (omega arith) ∙ rw (none-from a b (marked L m) e k h l))
+
+    pub run-equal : allBelow (b - a) (λ j. eqb (getD p (a + j) 0) (getD d (a - at + j) 0)) ≡ true
+        → anyFrom a b (λ k. differs (markedView L total p m k) (dataView at d k)) ≡ false
+    run-equal e =
+        from-none a b _
+        (λ k h l. data-test total p m at d k (omega arith) (omega arith) (omega arith) ∙ differs-same (marked L m k) true (getD p k 0) (getD d (k - at) 0) (equal k h l))
+      where
+        equal : (k : ℕ) → a ≤ k → k < b → eqb (getD p k 0) (getD d (k - at) 0) ≡ true
+        equal k h l =
+            let q : a + (k - a) ≡ k = omega arith in
+            let r : a - at + (k - a) ≡ k - at = omega arith in
+            ap₂ (λ (x y : ℕ). eqb (getD p x 0) (getD d y 0)) (sym q) (sym r) ∙ every-all (b - a) (λ j. eqb (getD p (a + j) 0) (getD d (a - at + j) 0)) e (k - a) (omega arith)
+
+  -- the same of two areas
+  module _ (total : ℕ) (p m q n : List ℕ) (a b : ℕ) (all : b ≤ total) where
+    pub both-free : anyFrom a b (marked L m) ≡ false → anyFrom a b (λ k. differs (markedView L total p m k) (markedView L total q n k)) ≡ false
+    both-free e = from-none a b _ (λ k h l. clash-step-marked total p m q n k (omega arith) ∙ rw (none-from a b (marked L m) e k h l))
+
+    pub both-idle : anyFrom a b (marked L n) ≡ false → anyFrom a b (λ k. differs (markedView L total p m k) (markedView L total q n k)) ≡ false
+    both-idle e =
+        from-none a b _ (λ k h l. clash-step-marked total p m q n k (omega arith) ∙ rw (none-from a b (marked L n) e k h l) (differs-none (onlyIf (marked L m k) (getD p k 0))))
+
+    pub both-equal : allBelow (b - a) (λ j. eqb (getD p (a + j) 0) (getD q (a + j) 0)) ≡ true
+        → anyFrom a b (λ k. differs (markedView L total p m k) (markedView L total q n k)) ≡ false
+    both-equal e =
+        from-none a b _
+        (λ k h l. clash-step-marked total p m q n k (omega arith) ∙ differs-same (marked L m k) (marked L n k) (getD p k 0) (getD q k 0) (equal k h l))
+      where
+        equal : (k : ℕ) → a ≤ k → k < b → eqb (getD p k 0) (getD q k 0) ≡ true
+        equal k h l =
+            let z : a + (k - a) ≡ k = omega arith in
+            ap (λ (x : ℕ). eqb (getD p x 0) (getD q x 0)) (sym z) ∙ every-all (b - a) (λ j. eqb (getD p (a + j) 0) (getD q (a + j) 0)) e (k - a) (omega arith)
+
+  -- a run's test does not see how far the views go beyond it
+  pub data-run : (t u : ℕ) (p m : List ℕ) (at : ℕ) (d : List ℕ) (a b : ℕ) → at ≤ a → b ≤ at + length d → b ≤ t → b ≤ u
+      → anyFrom a b (λ k. differs (markedView L t p m k) (dataView at d k)) ≡ anyFrom a b (λ k. differs (markedView L u p m k) (dataView at d k))
+  data-run t u p m at d a b low high h l =
+      from-ext a b _ _ (λ k x y. data-test t p m at d k (omega arith) (omega arith) (omega arith) ∙ sym (data-test u p m at d k (omega arith) (omega arith) (omega arith)))
+
+  pub both-run : (t u : ℕ) (p m q n : List ℕ) (a b : ℕ) → b ≤ t → b ≤ u
+      → anyFrom a b (λ k. differs (markedView L t p m k) (markedView L t q n k)) ≡ anyFrom a b (λ k. differs (markedView L u p m k) (markedView L u q n k))
+  both-run t u p m q n a b h l =
+      from-ext a b _ _ (λ k x y. clash-step-marked t p m q n k (omega arith) ∙ sym (clash-step-marked u p m q n k (omega arith)))
+
+  -- a run of which none, or all, is marked
+  pub source-none : (t : ℕ) (q n : List ℕ) (a b : ℕ) → b ≤ t → countBelow (b - a) (λ j. marked L n (a + j)) ≡ 0 → (i : ℕ) → a ≤ i → i < b → markedView L t q n i ≡ none
+  source-none t q n a b h e i l u =
+      let z : a + (i - a) ≡ i = omega arith in
+      marked-below t q n i (omega arith) ∙ rw (ap (marked L n) (sym z) ∙ count-zero (b - a) (λ j. marked L n (a + j)) e (i - a) (omega arith))
+
+  pub source-all : (t : ℕ) (q n : List ℕ) (a b : ℕ) → b ≤ t → countBelow (b - a) (λ j. marked L n (a + j)) ≡ b - a → (i : ℕ) → a ≤ i → i < b → markedView L t q n i ≡ some (getD q i 0)
+  source-all t q n a b h e i l u =
+      let z : a + (i - a) ≡ i = omega arith in
+      marked-below t q n i (omega arith) ∙ rw (ap (marked L n) (sym z) ∙ count-each (b - a) (λ j. marked L n (a + j)) e (i - a) (omega arith))
 
   -- ---- a view laid in
   put-none : (t : ℕ) (v : View) (p m : List ℕ) (i : ℕ) → i < t → t ≤ length p → v i ≡ none → markedView L t (overlaid v p) (markAll L (has v) m) i ≡ markedView L t p m i

@@ -9,7 +9,7 @@ use lib.Dec.{leb, eqb}
 use borrow.Author.Tests.{le-leb, leb-true, eqb-true}
 use Rattle.reassembly.specs.Views.{View, dataView, clash, overlaid}
 use Rattle.marks.specs.Offsets.{inRange}
-use Rattle.marks.specs.Marks.{inUse, marksFor, markAll, markedBelow, newMarks}
+use Rattle.marks.specs.Marks.{marksFor, markAll, markedBelow, newMarks}
 use Rattle.reassembly.specs.Areas.{markedView}
 use Rattle.wire.specs.Answer.{Answer, got, refused}
 use Rattle.publisher_id.specs.PublisherRecord.{publisherFits, recordAt}
@@ -71,11 +71,6 @@ module _ (s : Partial) (e : sound s ≡ true) where
 
   pub sound-marks : (t : ℕ) → t ≤ length (s .payload) → marksFor (s .layout) t ≤ length (s .marks)
   sound-marks t h = let l = sound-lengths in omega (arith, marks-mono (s .layout) t (length (s .payload)) h)
-
--- a payload area in the code's layout is as long as its marks area
-pub sound-even : (s : Partial) → sound s ≡ true → s .layout ≡ inUse → length (s .payload) ≡ length (s .marks)
-unfolding marksFor
-sound-even s e l = rw l at (sound-lengths s e)
 
 -- ---- what a datagram reads as
 module _ (sizes s : List ℕ) where

@@ -11,7 +11,7 @@ use lib.ListN.{length, getD, set, length-set}
 use lib.Seq.{ext-getD, getD-set-same, getD-set-other}
 use lib.Dec.{ltb, eqb}
 use borrow.Author.Tests.{lt-ltb, le-ltb, le-leb, lt-leb, eqb-true, not-false}
-use Rattle.reassembly.specs.Views.{View, tabulate, isSome, has, onlyIf, dataView, nowhere, bothViews, differs, clash, full, overlaid}
+use Rattle.reassembly.specs.Views.{View, tabulate, isSome, has, onlyIf, dataView, between, nowhere, bothViews, differs, clash, full, overlaid}
 use Rattle.marks.specs.Offsets.{anyBelow, inRange}
 use Rattle.wire.proofs.Cases.{by-bool, by-eq, by-lt}
 use Rattle.marks.proofs.OffsetLaws.{any-none, all-every, none-any, every-all}
@@ -84,10 +84,61 @@ laid-step v p n x hn e =
     ∙ ap (λ (o : Option ℕ). Option·getD o (getD p i 0)) (sym (upTo-more n v i ne))
     ∙ sym (getD-laid (upTo (n + 1) v) p i k)))
 
--- what stands at n before its turn
-pub laid-at : (v : View) (p : List ℕ) (n : ℕ) → n < length p → getD (overlaid (upTo n v) p) n 0 ≡ getD p n 0
-laid-at v p n h =
-    getD-laid (upTo n v) p n h ∙ ap (λ (o : Option ℕ). Option·getD o (getD p n 0)) (upTo-above n v n (omega arith))
+-- ---- a view laid in by runs: `payload ≡ overlaid (between start i v) payload₀`
+-- nothing of it
+pub run-none : (v : View) (p : List ℕ) (a b : ℕ) → ((i : ℕ) → a ≤ i → i < b → v i ≡ none) → p ≡ overlaid (between a b v) p
+run-none v p a b e =
+    ext-getD 0 p (overlaid (between a b v) p) (simp length-laid)
+    (λ i h. sym (getD-laid (between a b v) p i h ∙ ap (λ (o : Option ℕ). Option·getD o (getD p i 0)) (nothing i)))
+  where
+    nothing : (i : ℕ) → between a b v i ≡ none
+    nothing i =
+        by-lt _ i a (λ l. rw (lt-leb a i l))
+        (λ l. by-lt _ i b (λ k. rw (le-leb a i l, lt-ltb i b k) (e i l k)) (λ k. rw (le-leb a i l, le-ltb i b k)))
+
+-- a view that agrees there
+pub run-same : (v w : View) (p : List ℕ) (a b : ℕ) → ((i : ℕ) → a ≤ i → i < b → v i ≡ w i) → overlaid (between a b v) p ≡ overlaid (between a b w) p
+run-same v w p a b e =
+    laid-ext (between a b v) (between a b w) p
+    (λ i h. by-lt _ i a (λ l. rw (lt-leb a i l)) (λ l. by-lt _ i b (λ k. rw (le-leb a i l, lt-ltb i b k) (e i l k)) (λ k. rw (le-leb a i l, le-ltb i b k))))
+
+-- all of it
+pub run-whole : (v : View) (p : List ℕ) (b : ℕ) → ((i : ℕ) → b ≤ i → v i ≡ none) → overlaid (between 0 b v) p ≡ overlaid v p
+run-whole v p b e =
+    laid-ext (between 0 b v) v p
+    (λ i h. by-lt _ i b (λ k. rw (le-leb 0 i (omega arith), lt-ltb i b k)) (λ k. rw (le-leb 0 i (omega arith), le-ltb i b k) (sym (e i k))))
+
+-- one run behind another
+pub run-more : (v : View) (p q k : List ℕ) (a b c : ℕ) → a ≤ b → b ≤ c → q ≡ overlaid (between a b v) p → k ≡ overlaid (between b c v) q → k ≡ overlaid (between a c v) p
+run-more v p q k a b c ab bc e f =
+    f ∙ ap (overlaid (between b c v)) e
+    ∙ ext-getD 0 (overlaid (between b c v) (overlaid (between a b v) p)) (overlaid (between a c v) p) (simp length-laid)
+    (λ i h. let l : i < length p = simp length-laid at h in
+    getD-laid (between b c v) (overlaid (between a b v) p) i (simp length-laid l)
+    ∙ ap (Option·getD (between b c v i)) (getD-laid (between a b v) p i l) ∙ each i (getD p i 0) ∙ sym (getD-laid (between a c v) p i l))
+  where
+    each : (i x : ℕ) → Option·getD (between b c v i) (Option·getD (between a b v i) x) ≡ Option·getD (between a c v i) x
+    each i x =
+        by-lt _ i b
+        (λ h. rw (lt-leb b i h, lt-ltb i b h, lt-ltb i c (omega arith)))
+        (λ h. rw (le-ltb i b h, le-leb b i h, le-leb a i (omega arith)))
+
+-- a turn stores the view's byte at i, or what stands there
+pub run-turn : (v : View) (p q : List ℕ) (a i x : ℕ) → a ≤ i → i < length p → q ≡ overlaid (between a i v) p → x ≡ Option·getD (v i) (getD q i 0) → set q i x ≡ overlaid (between a (i + 1) v) p
+run-turn v p q a i x h l e t =
+    run-more v p q (set q i x) a i (i + 1) h (omega arith) e
+    (ext-getD 0 (set q i x) (overlaid (between i (i + 1) v) q) (simp (length-set, length-laid))
+    (λ j k. let m : j < length q = simp length-set at k in
+    by-eq _ j i
+    (λ z. rw z (getD-set-same q i x 0 (rw (ap length e ∙ length-laid (between a i v) p) l) ∙ t ∙ sym (getD-laid (between i (i + 1) v) q i (rw z at m)
+    ∙ ap (λ (o : Option ℕ). Option·getD o (getD q i 0)) (here refl))))
+    (λ z. getD-set-other q i j x 0 z ∙ sym (getD-laid (between i (i + 1) v) q j m ∙ ap (λ (o : Option ℕ). Option·getD o (getD q j 0)) (elsewhere j z)))))
+  where
+    here : i ≡ i → between i (i + 1) v i ≡ v i
+    here q = rw (le-leb i i (omega arith), lt-ltb i (i + 1) (omega arith))
+
+    elsewhere : (j : ℕ) → (j ≡ i → ⊥) → between i (i + 1) v j ≡ none
+    elsewhere j z = by-lt _ j i (λ y. rw (lt-leb i j y)) (λ y. rw (le-leb i j y, le-ltb j (i + 1) (omega arith)))
 
 -- ---- a chunk's data
 pub data-at : (at : ℕ) (d : List ℕ) (j : ℕ) → j < length d → dataView at d (at + j) ≡ some (getD d j 0)
@@ -125,6 +176,12 @@ unfolding full
 full-all n v e = all-every n (has v) e
 
 -- ---- clashes
+-- the same byte, or none, differs nowhere
+pub differs-same : (b c : Bool) (x y : ℕ) → eqb x y ≡ true → differs (onlyIf b x) (onlyIf c y) ≡ false
+differs-same true true x y e = ap not e
+differs-same true false x y e = refl
+differs-same false c x y e = refl
+
 pub differs-none : (o : Option ℕ) → differs o none ≡ false
 differs-none (some x) = refl
 differs-none none = refl

@@ -1,6 +1,6 @@
 -- A view says, for each offset of a payload, which byte is known there, if any. What a chunk brings and what a partial covers are views.
 use Prim.Native.Nat.{ℕ, zero, suc, _+_, _-_}
-use mathlib.Core.Bool.{Bool, true, false, not}
+use mathlib.Core.Bool.{Bool, true, false, cond, not}
 use mathlib.Core.List.{List, [], _∷_}
 use mathlib.Core.Option.{Option, some, none, orElse, Option·getD}
 use lib.ListN.{length, getD}
@@ -30,6 +30,14 @@ onlyIf false x = none
 -- a chunk's data at its offset
 unfoldable pub dataView : ℕ → List ℕ → View
 dataView at d i = onlyIf (inRange at (at + length d) i) (getD d (i - at) 0)
+
+-- each byte of a list at its own offset
+abbrev pub bytesView : List ℕ → View
+bytesView p i = some (getD p i 0)
+
+-- a view from start up to end
+abbrev pub between : ℕ → ℕ → View → View
+between start end v i = cond (inRange start end i) (v i) none
 
 -- no byte anywhere
 abbrev pub nowhere : View

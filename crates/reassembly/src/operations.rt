@@ -6,8 +6,6 @@ ghost use Rattle.reassembly.specs.Record.{partial, sound};
 ghost use Rattle.reassembly.specs.Reading.{GoodChunk, chunkMessage};
 ghost use Rattle.reassembly.specs.Reading.Reading.{chunk};
 ghost use Rattle.reassembly.specs.Operations.{stepOf, begun, begunMarks, withNew, takeIn, handOut, progressOf};
-ghost use Rattle.marks.specs.Marks.{inUse, countMarked};
-ghost use lib.Dec.{eqb};
 ghost use Rattle.reassembly.specs.Machine.{replyOf, handedOf};
 ghost use Rattle.reassembly.specs.Machine.Call.{Empty, Take, Combine, Ask, HandOut};
 ghost use Rattle.reassembly.specs.Machine.Reply.{done};
@@ -27,7 +25,6 @@ use crate::verdict::Progress;
 use crate::verdict::Verdict;
 use chunk::datagram::ChunkPlace;
 use chunk::datagram::ChunkRead;
-use marks::all_marked;
 use marks::clear;
 use marks::count_marked;
 use marks::mark_marked;
@@ -45,9 +42,7 @@ pub struct Outcome {
 
 // A partial not started takes over the message, nothing of it covered, and every mark is cleared; a started one stays as it is.
 fn begin(rec: PartialRecord, marks: &mut [u8], message: Message) -> PartialRecord
-    ensures { λ r.
-        let before = now (marks .entry) in
-        ⌜ (r ≡ begun rec message) × (now (marks .exit) ≡ begunMarks rec before) × (length before < 2 ^ 63) ⌝ }
+    ensures { λ r. ⌜ (r ≡ begun rec message) × (now (marks .exit) ≡ begunMarks rec (now (marks .entry))) ⌝ }
 {
     if rec.started {
         return rec;
@@ -236,16 +231,6 @@ pub fn progress(rec: PartialRecord, payload: &[u8], marks: &[u8]) -> Progress
     Progress::Is(rec.covered, m.total)
 }
 
-// Whether so many offsets below a total are marked. That all are is asked by eights.
-fn is_counted(marks: &[u8], total: usize, covered: usize) -> bool
-    ensures { λ r. ⌜ r ≡ eqb (countMarked inUse total (now (marks .entry))) covered ⌝ }
-{
-    if covered == total {
-        return all_marked(marks, total);
-    }
-    count_marked(marks, total) == covered
-}
-
 // What handing out answers: 12, 12 where the number is not that of the marks, 15, or done.
 pub fn hand_out_verdict(rec: PartialRecord, payload: &[u8], marks: &[u8]) -> Verdict
     ensures { λ r.
@@ -259,7 +244,7 @@ pub fn hand_out_verdict(rec: PartialRecord, payload: &[u8], marks: &[u8]) -> Ver
         return Verdict::Refused(NOT_COMPLETE, 0);
     }
     let m = rec.message;
-    if !is_counted(marks, m.total, rec.covered) {
+    if count_marked(marks, m.total) != rec.covered {
         return Verdict::Refused(UNSOUND, 0);
     }
     if rec.covered != m.total {

@@ -18,7 +18,7 @@ use wire::part::part;
 use wire::part::tail;
 
 // Writes a call's answer, and keeps what it left.
-pub fn kept(out: Outcome, payload: [u8; 8], marks: [u8; 8]) -> Part {
+pub fn kept(out: Outcome, payload: [u8; 8], marks: [u8; 1]) -> Part {
     let answer = out.verdict;
     verdict(answer);
     let rec = out.rec;
@@ -57,7 +57,9 @@ pub fn show(p: Part, line: &[u8]) -> Part {
         b's' => all(p),
         b'u' => unequal(line),
         b'l' => large(line),
-        b'm' => all_marked(line),
+        b'm' => counted(line),
+        b'w' => wide(line),
+        b'o' => octets(line),
         b'f' => far(p),
         _ => {
             put(tail(line, 2));
@@ -87,16 +89,28 @@ fn areas(payload: &[u8], marks: &[u8]) {
     put(b"areas ");
     put(payload);
     put(b" ");
-    last_digits(marks);
+    all_bits(marks);
     newline();
 }
 
-fn last_digits(marks: &[u8]) {
+// The marks as bits, the lowest of each byte first.
+fn all_bits(marks: &[u8]) {
     let mut i: usize = 0;
     while i < marks.len() {
-        digits((marks[i] % 10) as u64);
+        bits(marks[i]);
         i += 1;
     }
+}
+
+fn bits(b: u8) {
+    digits((b % 2) as u64);
+    digits((b / 2 % 2) as u64);
+    digits((b / 4 % 2) as u64);
+    digits((b / 8 % 2) as u64);
+    digits((b / 16 % 2) as u64);
+    digits((b / 32 % 2) as u64);
+    digits((b / 64 % 2) as u64);
+    digits((b / 128) as u64);
 }
 
 // How far the partial is.
@@ -114,20 +128,66 @@ fn far(p: Part) {
     }
 }
 
-// Whether the bytes of the line, as marks, are all marked below its number.
-fn all_marked(line: &[u8]) {
-    let mut bytes = [0u8; 2048];
+// How many of a number's offsets the bytes of the line, as marks, have marked.
+fn counted(line: &[u8]) {
+    let mut bytes = [0u8; 2049];
     let n = word_bytes(&mut bytes, line, 4);
-    put(b"all marked ");
-    say(marks::all_marked(part(&bytes, 0, n), decimal(line, 3)));
+    put(b"counted");
+    number(marks::count_marked(part(&bytes, 0, n), decimal(line, 3)));
+    newline();
 }
 
-fn say(yes: bool) {
-    if yes {
-        put(b"yes\n");
+// A history over areas of other lengths.
+fn wide(line: &[u8]) {
+    let mut payload = [b'.'; 64];
+    let mut marks = [0u8; 8];
+    word_bytes(&mut marks, line, 5);
+    of_length(&mut payload, &mut marks, line);
+}
+
+fn of_length(payload: &mut [u8], marks: &mut [u8], line: &[u8]) {
+    let n = decimal(line, 3);
+    let m = marks::marks_for(n);
+    if payload.len() < n {
         return;
     }
-    put(b"no\n");
+    if marks.len() < m {
+        return;
+    }
+    history(&mut payload[0..n], &mut marks[0..m], line);
+}
+
+fn history(payload: &mut [u8], marks: &mut [u8], line: &[u8]) {
+    let first = take_word(record(word(line, 4)), payload, marks, line, 6);
+    let second = take_word(first, payload, marks, line, 7);
+    of_areas(second, payload, marks);
+}
+
+fn take_word(
+    rec: PartialRecord,
+    payload: &mut [u8],
+    marks: &mut [u8],
+    line: &[u8],
+    k: usize,
+) -> PartialRecord {
+    let mut datagram = [0u8; 128];
+    let n = word_bytes(&mut datagram, line, k);
+    put(b"take ");
+    let out = reassembly::take_in(rec, payload, marks, part(&datagram, 0, n), &[]);
+    let answer = out.verdict;
+    verdict(answer);
+    out.rec
+}
+
+// Areas of the line's two lengths, where nothing is started.
+fn octets(line: &[u8]) {
+    let payload = [b'.'; 64];
+    let marks = [0u8; 16];
+    ask_alone(
+        record(word(line, 5)),
+        part(&payload, 0, decimal(line, 3)),
+        part(&marks, 0, decimal(line, 4)),
+    );
 }
 
 // Areas of unequal length, where nothing is started.
@@ -153,7 +213,7 @@ fn ask_alone(rec: PartialRecord, payload: &[u8], marks: &[u8]) {
 // A started partial of a larger total than a chunk may have is sound. A chunk's total may be 16,384.
 fn large(line: &[u8]) {
     let mut payload = [b'.'; 16385];
-    let mut marks = [1u8; 16385];
+    let mut marks = [255u8; 2049];
     hand_out_length(record(word(line, 3)), &payload, &marks);
     take_large(line, &mut payload, &mut marks);
 }

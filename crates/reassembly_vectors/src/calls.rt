@@ -37,7 +37,7 @@ pub fn called(p: Part, source: Part, line: &[u8]) -> Part {
 // A new partial over the areas of the line.
 pub fn new(line: &[u8]) -> Part {
     let mut payload = [0u8; 8];
-    let mut marks = [0u8; 8];
+    let mut marks = [0u8; 1];
     word_bytes(&mut payload, line, 3);
     word_bytes(&mut marks, line, 4);
     Part {

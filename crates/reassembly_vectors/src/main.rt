@@ -1,13 +1,14 @@
 // Histories of reassembly, written from document 01: R1 and R2, overlaps, holes, refusals, combining, strange marks, emptying and reuse,
 // payloads cut and restored. Each line of standard input is a call, and each call's answer is a line.
 //
-// There are eight partials with areas of 8 bytes, told by the letters a to g and `-`, which is one that nobody looks at. A call has a
-// word, the partial that takes what it leaves, the one that it is made on, and the rest: `new`, the payload and marks of a partial not
-// started; `record`, a record in place of its own; `take`, a datagram; `piece`, the number of a chunk of abcdefgh, cut by 3 bytes;
+// There are eight partials with payload areas of 8 bytes, told by the letters a to g and `-`, which is one that nobody looks at. A call
+// has a word, the partial that takes what it leaves, the one that it is made on, and the rest: `new`, the payload and marks of a partial
+// not started; `record`, a record in place of its own; `take`, a datagram; `piece`, the number of a chunk of abcdefgh, cut by 3 bytes;
 // `combine`, another partial; `join`, another partial's record, payload and marks; `empty`; `show`, which tells if the partial is
-// complete, what is handed out, and both areas, the marks by their last digit. `unequal` and `large` are histories with areas of their
-// own. `far` tells how many bytes are covered, of how many. `marks` has no partial: it asks if the marks of a number's offsets are all 1,
-// and then lists the marks. A line that begins with `=` is a heading.
+// complete, what is handed out, and both areas, the marks as bits, the lowest first. `unequal` and `large` are histories with areas of
+// their own. `far` tells how many bytes are covered, of how many. `marks` has no partial: it counts a number's offsets by the marks that
+// follow. `wide` has areas of the length that it names, with a record and marks, and takes two datagrams; `octets` asks with areas of the
+// two lengths that it names. A line that begins with `=` is a heading.
 //
 // A record lists its parts: `s` 1 where it is started, `h` a UInt16, `d` a UInt32 or `t` the length of a string as PublisherId, `x` the
 // bytes of the text, `g` WriterGroupId where there is one, `w` DataSetWriterId, `n` number, `l` total, `c` covered bytes.

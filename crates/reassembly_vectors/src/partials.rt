@@ -10,11 +10,11 @@ use vector_lines::lines::low16;
 use vector_lines::lines::numbered;
 use wire::optional::Optional16;
 
-// A partial with areas of 8 bytes.
+// A partial with a payload area of 8 bytes.
 pub struct Part {
     pub rec: PartialRecord,
     pub payload: [u8; 8],
-    pub marks: [u8; 8],
+    pub marks: [u8; 1],
 }
 
 // A partial's record.

@@ -27,7 +27,8 @@ use Rattle.records.specs.Numbers.{numberAt}
 use Rattle.records.specs.Sizes.{PARTIAL_SIZE}
 use Rattle.records.specs.Result.{resultOf}
 use Rattle.records.specs.Writers.{writersIn, sixteen, sizesIn}
-use Rattle.partial_record.specs.Partial.{partialIn, partialBytes, FitsRecord}
+use Rattle.partial_record.specs.Partial.{partialIn, partialBytes, FitsRecord, askedIn}
+use Rattle.partial_record.proofs.Asked.{asked-complete, asked-progress}
 use Rattle.uadp_c.proofs.KeptRecord.{KeptStep, step-reads}
 use native.Mathlib.Omega.{arith}
 use Rattle.uadp_c.specs.Reassembling.{Steps, partialOf, lent, verdictResult, takenOver, recordBy, stepIn, sourceOf, emptiedRecord, completeResult, completeIn, handResult, handIn, progressResult, progressIn}
@@ -92,10 +93,10 @@ combine-short g u w r p m x h q = rw (lt-ltb (length g) PARTIAL_SIZE h, unsound-
 pub emptied-told : (r e p m : List ℕ) (x : ℕ) → x ≡ resultOf 0 0 → e ≡ emptiedRecord r → lent x e p m ≡ lent (resultOf 0 0) (emptiedRecord r) p m
 emptied-told r e p m x q h = ap (λ (y : ℕ). lent y e p m) q ∙ ap (λ (y : List ℕ). lent (resultOf 0 0) y p m) h
 
-pub progress-ends : (r p m : List ℕ) (x : ℕ) (k : PartialRecord) (a b : Progress) → PARTIAL_SIZE ≤ length r → k ≡ partialIn r → a ≡ progressOf (partial k p m) → a ≡ b → x ≡ progressResult b
+pub progress-ends : (r p m : List ℕ) (x : ℕ) (k : PartialRecord) (a b : Progress) → PARTIAL_SIZE ≤ length r → k ≡ askedIn r → a ≡ progressOf (partial k p m) → a ≡ b → x ≡ progressResult b
     → x ≡ progressIn r (progressOf (partialOf r p m))
 progress-ends r p m x k a b h e q t y =
-    rw (le-ltb (length r) PARTIAL_SIZE h) (y ∙ ap progressResult (sym t ∙ q ∙ ap (λ (z : PartialRecord). progressOf (partial z p m)) e))
+    rw (le-ltb (length r) PARTIAL_SIZE h) (y ∙ ap progressResult (sym t ∙ q ∙ ap (λ (z : PartialRecord). progressOf (partial z p m)) e ∙ asked-progress r p m))
 
 pub progress-short : (r : List ℕ) (x : ℕ) (a : Progress) → length r < PARTIAL_SIZE → x ≡ resultOf 12 0 → x ≡ progressIn r a
 progress-short r x a h q = rw (lt-ltb (length r) PARTIAL_SIZE h) q
@@ -103,10 +104,10 @@ progress-short r x a h q = rw (lt-ltb (length r) PARTIAL_SIZE h) q
 pub complete-short : (r p m : List ℕ) (x : ℕ) (a : Completeness) → length r < PARTIAL_SIZE → x ≡ resultOf 12 0 → lent x r p m ≡ lent (completeIn r a) r p m
 complete-short r p m x a h q = rw (lt-ltb (length r) PARTIAL_SIZE h) (ap (λ (y : ℕ). lent y r p m) q)
 
-pub complete-ends : (r p m : List ℕ) (x : ℕ) (k : PartialRecord) (a b : Completeness) → PARTIAL_SIZE ≤ length r → k ≡ partialIn r → saidOf a ≡ answers Ask (partial k p m) → a ≡ b
+pub complete-ends : (r p m : List ℕ) (x : ℕ) (k : PartialRecord) (a b : Completeness) → PARTIAL_SIZE ≤ length r → k ≡ askedIn r → saidOf a ≡ answers Ask (partial k p m) → a ≡ b
     → x ≡ completeResult b → lent x r p m ≡ lent (completeIn r (askComplete (partialOf r p m))) r p m
 complete-ends r p m x k a b h e q t y =
-    let z : b ≡ askComplete (partialOf r p m) = sym t ∙ one-said a (askComplete (partial k p m)) q ∙ ap (λ (i : PartialRecord). askComplete (partial i p m)) e in
+    let z : b ≡ askComplete (partialOf r p m) = sym t ∙ one-said a (askComplete (partial k p m)) q ∙ ap (λ (i : PartialRecord). askComplete (partial i p m)) e ∙ asked-complete r p m in
     rw (le-ltb (length r) PARTIAL_SIZE h) (ap (λ (v : ℕ). lent v r p m) (y ∙ ap completeResult z))
 
 pub hand-short : (r p m : List ℕ) (x : ℕ) (v : Verdict) → length r < PARTIAL_SIZE → x ≡ resultOf 12 0 → lent x r p m ≡ lent (handIn r v) r p m

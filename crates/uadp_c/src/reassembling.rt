@@ -1,6 +1,7 @@
 // Reassembly: a partial is a lent record and two lent areas, payload and marks.
 use config::first;
 use partial_record::COVERED;
+use partial_record::asked_in;
 use partial_record::partial_in;
 use partial_record::put_partial;
 use reassembly::Completeness;
@@ -135,7 +136,7 @@ pub extern "C" fn uadp_complete(rec: &[u8], payload: &[u8], marks: &[u8]) -> u64
     if rec.len() < PARTIAL_SIZE {
         return result(UNSOUND, 0);
     }
-    match ask_complete(partial_in(rec), payload, marks) {
+    match ask_complete(asked_in(rec), payload, marks) {
         Completeness::Yes => result(0, 1),
         Completeness::No => result(0, 0),
         Completeness::Refused(number, place) => result(number, place),
@@ -152,7 +153,7 @@ pub extern "C" fn uadp_progress(rec: &[u8], payload: &[u8], marks: &[u8]) -> u64
     if rec.len() < PARTIAL_SIZE {
         return result(UNSOUND, 0);
     }
-    match progress(partial_in(rec), payload, marks) {
+    match progress(asked_in(rec), payload, marks) {
         Progress::Is(covered, _) => result(0, covered),
         Progress::Refused(number, place) => result(number, place),
     }

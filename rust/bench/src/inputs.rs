@@ -164,7 +164,7 @@ pub fn full_text() -> Vec<u8> {
     text.into_bytes()
 }
 
-/// A marks area with its name: its length, and the place of a byte that is missing.
+/// A marks area with its name: how many bytes it is for, and the place of one that is missing.
 pub type Marks = (&'static str, usize, Option<usize>);
 
 /// Areas that are complete, or miss one byte.
@@ -177,9 +177,13 @@ pub const MARKS: [Marks; 6] = [
     ("7 bytes", 7, None),
 ];
 
-/// The marks of such an area.
-pub fn marks(length: usize, missing: Option<usize>) -> Vec<u8> {
-    (0..length).map(|at| u8::from(Some(at) != missing)).collect()
+/// The marks of such an area, and how many bytes it is for.
+pub fn marks(length: usize, missing: Option<usize>) -> (Vec<u8>, usize) {
+    let mut marks = vec![0; length.div_ceil(8)];
+    for at in (0..length).filter(|at| Some(*at) != missing) {
+        marks[at / 8] |= 1 << (at % 8);
+    }
+    (marks, length)
 }
 
 pub const TOTAL: usize = 16_384;

@@ -184,7 +184,7 @@ struct Ours {
 
 impl Ours {
     fn new() -> Self {
-        Self { record: [0; record::PARTIAL_SIZE], payload: vec![0; TOTAL], marks: vec![0; TOTAL] }
+        Self { record: [0; record::PARTIAL_SIZE], payload: vec![0; TOTAL], marks: vec![0; TOTAL / 8] }
     }
 
     fn filled(datagrams: &[Vec<u8>]) -> Self {
@@ -202,6 +202,10 @@ impl Ours {
     fn complete(&self) -> u64 {
         ffi::complete(black_box(&self.record), &self.payload, &self.marks).value()
     }
+
+    fn hand_out(&self) -> u64 {
+        ffi::hand_out(black_box(&self.record), &self.payload, &self.marks).value()
+    }
 }
 
 /// A partial in Rust.
@@ -213,7 +217,7 @@ struct Rust {
 
 impl Rust {
     fn new() -> Self {
-        Self { record: None, payload: vec![0; TOTAL], marks: vec![0; TOTAL] }
+        Self { record: None, payload: vec![0; TOTAL], marks: vec![0; TOTAL / 8] }
     }
 
     fn filled(datagrams: &[Vec<u8>]) -> Self {
@@ -235,6 +239,10 @@ impl Rust {
 
     fn complete(&mut self) -> u64 {
         u64::from(tuned::complete(&black_box(self.lent()).view()) == Ok(true))
+    }
+
+    fn hand_out(&mut self) -> u64 {
+        tuned::hand_out(&black_box(self.lent()).view()).map_or(0, |total| total as u64)
     }
 }
 
@@ -263,16 +271,22 @@ pub fn complete(datagrams: Vec<Vec<u8>>) -> Pair {
     Pair::new(move || partial.complete(), move || other.complete())
 }
 
-/// Whether all of an area is marked; the other side one mark after another, as the library did before Req 03.
-pub fn marks_by_one(marks: Vec<u8>) -> Pair {
+/// How many bytes of an area are marked, as handing out counts them; the other side one mark after another.
+pub fn marks_by_one((marks, length): (Vec<u8>, usize)) -> Pair {
     let same = marks.clone();
-    Pair::new(move || by_one::eight_by_eight(black_box(&marks)), move || by_one::one_by_one(black_box(&same)))
+    Pair::new(move || by_one::by_eight_bytes(black_box(&marks), length), move || by_one::one_by_one(black_box(&same), length))
 }
 
-/// Whether all of an area is marked; in Rust by blocks.
-pub fn marks(marks: Vec<u8>) -> Pair {
+/// How many bytes of an area are marked; in Rust eight bytes of marks at a time too.
+pub fn marks((marks, length): (Vec<u8>, usize)) -> Pair {
     let same = marks.clone();
-    Pair::new(move || by_one::eight_by_eight(black_box(&marks)), move || u64::from(tuned::all_marked(black_box(&same))))
+    Pair::new(move || by_one::by_eight_bytes(black_box(&marks), length), move || tuned::count_marked(black_box(&same), length))
+}
+
+/// A complete message handed out.
+pub fn hand_out(datagrams: Vec<Vec<u8>>) -> Pair {
+    let (partial, mut other) = (Ours::filled(&datagrams), Rust::filled(&datagrams));
+    Pair::new(move || partial.hand_out(), move || other.hand_out())
 }
 
 /// A complete partial combined into an empty one, or into one that is the same.

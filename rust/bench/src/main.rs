@@ -41,7 +41,7 @@ fn tables() -> Vec<Table> {
     let some = |count: usize, job: &'static str, pair: fn(inputs::Input) -> Pair| {
         each(job, pair).into_iter().take(count).collect::<Vec<_>>()
     };
-    let marks = |job: &'static str, pair: fn(Vec<u8>) -> Pair| {
+    let marks = |job: &'static str, pair: fn((Vec<u8>, usize)) -> Pair| {
         let rows = inputs::MARKS.into_iter();
         rows.map(move |(name, length, missing)| row(format!("{job}: {name}"), move || inputs::marks(length, missing), pair))
             .collect::<Vec<_>>()
@@ -55,6 +55,7 @@ fn tables() -> Vec<Table> {
         row("16 chunks of 1,024 bytes taken in from empty", inputs::chunk_datagrams, |datagrams| jobs::take_in(datagrams, false)),
         row("the same, completeness asked after each", inputs::chunk_datagrams, |datagrams| jobs::take_in(datagrams, true)),
         row("completeness of 16,384 bytes", inputs::chunk_datagrams, jobs::complete),
+        row("16,384 bytes handed out", inputs::chunk_datagrams, jobs::hand_out),
         row("16,384 bytes combined into empty", inputs::chunk_datagrams, |datagrams| jobs::combine(datagrams, true)),
         row("16,384 bytes combined into the same", inputs::chunk_datagrams, |datagrams| jobs::combine(datagrams, false)),
     ];
@@ -70,8 +71,8 @@ fn tables() -> Vec<Table> {
         ("Walking with no room for records", RUST, some(6, "count", jobs::count)),
         ("Walking with a call for each message and field, beside one pass", RUST, some(6, "by calls", jobs::by_calls)),
         ("Configuration, chunks", RUST, chunks),
-        ("Marks, beside Rust by blocks", RUST, marks("all marked", jobs::marks)),
-        ("Marks, beside the loop before Req 03", "one by one", marks("all marked, as before", jobs::marks_by_one)),
+        ("Marks, beside Rust", RUST, marks("count", jobs::marks)),
+        ("Marks, beside one after another", "one by one", marks("count, one by one", jobs::marks_by_one)),
         ("Growth with the length", RUST, growth.collect()),
     ]
 }

@@ -1,13 +1,14 @@
 //! The reference's work tuned for time, the benchmark's bar: one pass over the bytes, what a field is known by told at once, text put digit by
-//! digit, marks tested in blocks. It is compared with the reference wherever the library is.
+//! digit, marks counted eight bytes at a time. It is compared with the reference wherever the library is.
 use crate::record::{encoding_number, kind_number, shape_numbers, Walked, NO_WRITER};
 use crate::reference::config::Config;
 use crate::reference::message::{self, Encoding, Field, Header, Kind};
 use crate::reference::network::{self, Envelope, MessagePlace, PayloadHeader, PublisherId};
-use crate::reference::reassembly::{Partial, PartialView, Record};
+use crate::reference::reassembly::{marked, Partial, PartialView, Record};
 use crate::reference::value::{self, Shape, Value, BYTE_STRING, DATA_VALUE, LEVELS, STRING, WIDTHS};
 use crate::reference::wire::Reader;
 use crate::reference::{chunk, Number, Refusal, Result};
+use core::ops::Range;
 
 /// What is told of a message on the way: its header when its count is known, then its fields.
 trait Told {
@@ -349,17 +350,58 @@ pub fn list_into(out: &mut Vec<u8>, datagram: &[u8], config: &Config) {
     }
 }
 
-/// How many bytes are tested before a loop may end.
+/// How many bytes are looked at together: those of 32 mark bytes.
 const BLOCK: usize = 256;
 
-/// Whether every mark of a block is 1.
-fn all_one(block: &[u8]) -> bool {
-    block.iter().fold(0, |other, mark| other | (mark ^ 1)) == 0
+/// The mark bytes of a range of offsets: those that it fills, and its ends, each with the bits that belong to it.
+struct MarkBytes {
+    whole: Range<usize>,
+    ends: [(usize, u8); 2],
 }
 
-/// Whether every mark is 1.
-pub fn all_marked(marks: &[u8]) -> bool {
-    marks.chunks(BLOCK).all(all_one)
+fn mark_bytes(range: &Range<usize>) -> MarkBytes {
+    let (first, last) = (range.start / 8, range.end / 8);
+    let (head, tail) = (0xff_u8 << (range.start % 8), !(0xff_u8 << (range.end % 8)));
+    if first == last {
+        return MarkBytes { whole: first..first, ends: [(first, head & tail), (first, 0)] };
+    }
+    let aligned = head == 0xff;
+    MarkBytes { whole: first + usize::from(!aligned)..last, ends: [(first, if aligned { 0 } else { head }), (last, tail)] }
+}
+
+impl MarkBytes {
+    fn ends<'a>(&'a self, marks: &'a [u8]) -> impl Iterator<Item = u8> + 'a {
+        self.ends.iter().filter(|(_, mask)| *mask != 0).map(|(at, mask)| marks[*at] & mask)
+    }
+
+    fn any(&self, marks: &[u8]) -> bool {
+        self.ends(marks).chain([marks[self.whole.clone()].iter().fold(0, |any, byte| any | byte)]).any(|bits| bits != 0)
+    }
+
+    fn count(&self, marks: &[u8]) -> u64 {
+        let ends = self.ends(marks).map(u8::count_ones).sum::<u32>();
+        u64::from(ends) + count_ones(&marks[self.whole.clone()])
+    }
+
+    fn fill(&self, marks: &mut [u8]) {
+        marks[self.whole.clone()].fill(0xff);
+        for (at, mask) in self.ends.iter().filter(|(_, mask)| *mask != 0) {
+            marks[*at] |= mask;
+        }
+    }
+}
+
+/// How many bits of the bytes are set, eight bytes at a time.
+fn count_ones(bytes: &[u8]) -> u64 {
+    let eights = bytes.chunks_exact(8);
+    let rest = eights.remainder().iter().map(|byte| byte.count_ones()).sum::<u32>();
+    let number = |eight: &[u8]| <[u8; 8]>::try_from(eight).map_or(0, u64::from_le_bytes);
+    u64::from(rest) + eights.map(|eight| u64::from(number(eight).count_ones())).sum::<u64>()
+}
+
+/// How many offsets below n are marked.
+pub fn count_marked(marks: &[u8], n: usize) -> u64 {
+    mark_bytes(&(0..n)).count(marks)
 }
 
 /// Whether every byte below total is covered, by the number.
@@ -367,9 +409,19 @@ pub fn complete(partial: &PartialView) -> Result<bool> {
     partial.complete()
 }
 
-/// How many marks are not 1, counted in bytes by blocks that such a count fits.
-fn count_new(marks: &[u8]) -> u64 {
-    marks.chunks(128).map(|block| u64::from(block.iter().fold(0_u8, |count, mark| count + u8::from(*mark != 1)))).sum()
+/// How many bytes at the payload area's start are the complete payload.
+pub fn hand_out(partial: &PartialView) -> Result<usize> {
+    partial.sound()?;
+    let Some(record) = partial.record else {
+        return Err(Number::NotComplete.nowhere());
+    };
+    if count_marked(partial.marks, record.total as usize) != record.covered {
+        return Err(Number::Unsound.nowhere());
+    }
+    if record.covered < record.total {
+        return Err(Number::NotComplete.nowhere());
+    }
+    Ok(record.total as usize)
 }
 
 /// Takes a chunk in from a datagram.
@@ -391,53 +443,46 @@ pub fn take_in(partial: &mut Partial, datagram: &[u8], config: &Config) -> Resul
     };
     partial.admit(&record)?;
     let covered = chunk.offset..chunk.offset + chunk.data.len();
-    if partial.record.is_some() {
-        let marks = &partial.marks[covered.clone()];
-        let any = marks.iter().fold(0, |any, mark| any | u8::from(*mark == 1)) != 0;
-        if any && clash(&partial.payload[covered.clone()], marks, chunk.data, None) {
+    let bytes = mark_bytes(&covered);
+    if partial.record.is_some() && bytes.any(partial.marks) {
+        let held = &partial.payload[covered.clone()];
+        if clash(held, chunk.data, chunk.offset, |at| marked(partial.marks, at)) {
             return Err(Number::ByteDiffers.nowhere());
         }
     }
     partial.start(&record);
     partial.payload[covered.clone()].copy_from_slice(chunk.data);
-    let marks = &mut partial.marks[covered];
-    let new = count_new(marks);
-    marks.fill(1);
+    let new = covered.len() as u64 - bytes.count(partial.marks);
+    bytes.fill(partial.marks);
     if let Some(record) = partial.record.as_mut() {
         record.covered += new;
     }
     Ok(())
 }
 
-/// Whether a byte that both have differs; without marks the second has each.
-fn clash(held: &[u8], held_marks: &[u8], bytes: &[u8], marks: Option<&[u8]>) -> bool {
-    let blocks = held.chunks(BLOCK).zip(held_marks.chunks(BLOCK)).zip(bytes.chunks(BLOCK)).enumerate();
-    blocks.into_iter().any(|(k, ((held, held_marks), bytes))| {
-        let differ =
-            held.iter().zip(held_marks).zip(bytes).map(|((held, mark), byte)| u8::from(*mark == 1) & u8::from(held != byte));
-        match marks {
-            None => differ.fold(0, |any, differs| any | differs) != 0,
-            Some(marks) => {
-                let marks = &marks[k * BLOCK..][..bytes.len()];
-                differ.zip(marks).fold(0, |any, (differs, mark)| any | (differs & u8::from(*mark == 1))) != 0
-            }
-        }
+/// Whether bytes differ at an offset that passes the test; they begin at an offset. Blocks that hold the same are passed over.
+fn clash(held: &[u8], bytes: &[u8], offset: usize, both: impl Fn(usize) -> bool) -> bool {
+    let mut blocks = held.chunks(BLOCK).zip(bytes.chunks(BLOCK)).enumerate().filter(|(_, (held, bytes))| held != bytes);
+    blocks.any(|(k, (held, bytes))| {
+        let start = offset + k * BLOCK;
+        held.iter().zip(bytes).enumerate().any(|(j, (held, byte))| held != byte && both(start + j))
     })
 }
 
 /// Stores and marks each covered byte of a block; how many were not marked.
 fn take_over(held: &mut [u8], held_marks: &mut [u8], bytes: &[u8], marks: &[u8]) -> u64 {
-    if all_one(marks) {
-        let new = count_new(held_marks);
+    let all = mark_bytes(&(0..bytes.len()));
+    if all.count(marks) == bytes.len() as u64 {
+        let new = bytes.len() as u64 - all.count(held_marks);
         held.copy_from_slice(bytes);
-        held_marks.fill(1);
+        all.fill(held_marks);
         return new;
     }
     let mut new = 0;
-    for k in (0..marks.len()).filter(|k| marks[*k] == 1) {
-        held[k] = bytes[k];
-        new += u64::from(held_marks[k] != 1);
-        held_marks[k] = 1;
+    for at in (0..bytes.len()).filter(|at| marked(marks, *at)) {
+        held[at] = bytes[at];
+        new += u64::from(!marked(held_marks, at));
+        held_marks[at / 8] |= 1 << (at % 8);
     }
     new
 }
@@ -451,14 +496,17 @@ pub fn combine(partial: &mut Partial, source: PartialView) -> Result<()> {
     };
     partial.admit(record)?;
     let total = record.total as usize;
-    let (payload, marks) = (&source.payload[..total], &source.marks[..total]);
-    if partial.record.is_some() && clash(&partial.payload[..total], &partial.marks[..total], payload, Some(marks)) {
-        return Err(Number::ByteDiffers.nowhere());
+    let payload = &source.payload[..total];
+    if partial.record.is_some() {
+        let both = |at| marked(partial.marks, at) && marked(source.marks, at);
+        if clash(&partial.payload[..total], payload, 0, both) {
+            return Err(Number::ByteDiffers.nowhere());
+        }
     }
     partial.start(record);
-    let own = partial.payload[..total].chunks_mut(BLOCK).zip(partial.marks[..total].chunks_mut(BLOCK));
+    let own = partial.payload[..total].chunks_mut(BLOCK).zip(partial.marks.chunks_mut(BLOCK / 8));
     let mut new = 0;
-    for ((held, held_marks), (bytes, marks)) in own.zip(payload.chunks(BLOCK).zip(marks.chunks(BLOCK))) {
+    for ((held, held_marks), (bytes, marks)) in own.zip(payload.chunks(BLOCK).zip(source.marks.chunks(BLOCK / 8))) {
         new += take_over(held, held_marks, bytes, marks);
     }
     if let Some(record) = partial.record.as_mut() {

@@ -4,9 +4,9 @@ use crate::record::{chunk, number, partial, place};
 use crate::{Config, MessagePart, PublisherId, Refusal, MOST_PUBLISHER_TEXT};
 use core::fmt;
 
-/// How long the marks area beside a payload area of so many bytes has to be.
+/// How long the marks area beside a payload area of so many bytes has to be: one eighth, rounded up.
 pub const fn marks_size(room: usize) -> usize {
-    room
+    room.div_ceil(8)
 }
 
 /// A chunk read from its datagram: whose it is, and its data. A receiver with several messages under way finds the partial to take it in
@@ -52,8 +52,8 @@ impl<'a> Chunk<'a> {
     }
 }
 
-/// A message of which chunks have come in: a record and two areas, for its payload and for the marks of the bytes that are there.
-/// The marks area is [`marks_size`] of the payload area's length. An area is a `Vec<u8>`, an array, or a `&mut [u8]`; what it holds
+/// A message of which chunks have come in: a record and two areas, for its payload and for the marks of the bytes that are there,
+/// a bit for each. The marks area is [`marks_size`] of the payload area's length. An area is a `Vec<u8>`, an array, or a `&mut [u8]`; what it holds
 /// at first plays no part.
 ///
 /// ```
@@ -62,7 +62,7 @@ impl<'a> Chunk<'a> {
 /// let config = Config::default();
 /// let message = [1, 2, 0, 5, 3, 0, 10, 0, 0, 0, 63]; // a key frame of two Variants
 /// let builder = DatagramBuilder::new().publisher(PublisherId::UInt16(4711));
-/// let mut partial = Partial::new([0; 64], [0; 64]);
+/// let mut partial = Partial::new([0; 64], [0; 8]);
 /// let mut chunks = Chunks::new(&message, 7, 4);
 /// let (mut payload, mut datagram) = ([0; 32], [0; 64]);
 /// while let Some(chunk) = chunks.next_into(&mut payload)? {

@@ -1,68 +1,60 @@
 -- `marks::any_marked` meets its contract. Assumes nothing.
-use Prim.Native.Nat.{_-_, _≤_, _<_}
-use mathlib.Core.Bool.{Bool, _&&_, _||_, and-false}
-use mathlib.Core.Path.{_≡_, refl, sym, ap, ap₂, _∙_}
-use native.Mathlib.Omega.{arith}
-use denote.Ref.{now}
-use lib.Dec.{leb}
-use borrow.Author.Needs.{needs}
-use borrow.Author.Tests.{le-leb, lt-leb}
-use Rattle.wire.proofs.Cases.{by-lt}
-use Rattle.marks.specs.Offsets.{anyBelow}
+use Rattle.marks.proofs.WholeLaws.{first-byte, capacity-bytes}
+use Rattle.marks.proofs.CountLaws.{area-any}
+use Rattle.marks.proofs.OffsetLaws.{from-three}
 use Rattle.marks.specs.Marks.{inUse, marked}
-use Rattle.marks.proofs.OffsetLaws.{any-none, any-step, any-between}
-use Rattle.marks.proofs.MarkLaws.{marked-none}
+use mathlib.Core.Bool.{_||_}
+use denote.Ref.{now}
+use native.Mathlib.Omega.{arith}
+use mathlib.Core.Path.{ap, ap₂, _∙_}
+use Prim.Native.Nat.{_*_, _-_, _/_}
+use borrow.Author.Needs.{needs}
 use Rattle.marks.proofs.any_marked.Statement.{statement}
 use Rattle.marks.proofs.any_marked.Tie as tie
+use Rattle.marks.proofs.any_marked.Reads as reads
+use Rattle.marks.proofs.any_marked.Lts as lts
+use Rattle.marks.proofs.each.any_each.Reads as any-each-reads
+use Rattle.marks.proofs.marks_for.Reads as marks-for-reads
+use Rattle.marks.proofs.whole.any_whole.Reads as any-whole-reads
+use Rattle.marks.proofs.within.Reads as within-reads
 
-abbrev Inv-loop : tie.InvT-loop
-Inv-loop marks start end stop any₀ i₀ any i =
-    (start ≤ i) × (stop < i → i ≡ start) × (any ≡ anyBelow i (λ k. leb start k && marked inUse marks k))
-
-abbrev μ-loop : tie.MeasureT-loop
-μ-loop marks start end stop any₀ i₀ any i = stop - i
-
-loop-holds : tie.Need-loop-holds Inv-loop μ-loop
-loop-holds c =
-    let a = c .before .before .args in
-    (omega arith, λ h. refl, sym (any-none (a .start) (λ k. leb (a .start) k && marked inUse (now (a .marks)) k) (λ k h. rw (lt-leb (a .start) k h))))
-
-loop-again : tie.Need-loop-again Inv-loop μ-loop
-loop-again c =
-    let at-loop = c .before .before in
-    let a = at-loop .before .before .before .args in
-    let l = at-loop .loop in
-    let m = now (a .marks) in
-    let test = c .is-marked .ensures ∙ sym (ap (λ (b : Bool). b && marked inUse m (l .i)) (le-leb (a .start) (l .i) (l .inv .0))) in
-    (omega arith, λ h. absurd (omega arith), ap₂ _||_ test (l .inv .2) ∙ sym (any-step (l .i) (λ k. leb (a .start) k && marked inUse m k)))
-
--- none of those between the last looked at and the end is marked: they stand before the start or past the area
-returns : tie.Need-returns Inv-loop μ-loop
+returns : tie.Need-returns
 returns c =
-    let at-loop = c .before in
-    let at-within = at-loop .before in
-    let a = at-within .before .before .args in
-    let l = at-loop .loop in
-    let m = now (a .marks) in
-    let room = at-within .within .ensures in
-    let start = l .inv .1 in
-    l .inv .2
-    ∙ by-lt _ (l .i) (a .end)
-    (λ h. sym (any-between (l .i) (a .end) (λ k. leb (a .start) k && marked inUse m k) (omega arith)
-    (λ k from to. let full = room .2 (omega arith) in rw (marked-none inUse m k (omega arith)) (and-false (leb (a .start) k)))))
-    (λ h. any-between (a .end) (l .i) (λ k. leb (a .start) k && marked inUse m k) h
-    (λ k from to. let e = start (omega arith) in rw (lt-leb (a .start) k (omega arith))))
+    let at-within = c .before .before .before in
+    let args = at-within .before .before .args in
+    c .any-each .ensures ∙ area-any inUse (now (args .marks)) (args .start) (at-within .within .result) (args .end) (at-within .within .ensures .0) (at-within .within .ensures .2)
+
+any-whole-requires : tie.Need-any-whole-requires
+any-whole-requires c κs =
+    let at-within = c .before .before .before in
+    let args = at-within .before .before .args in
+    let room = at-within .within .ensures .1 in
+    let most = capacity-bytes (now (args .marks)) in (omega arith, omega arith)
+
+returns-2 : tie.Need-returns-2
+returns-2 c =
+    let at-any-whole = c .before in
+    let at-any-each2 = at-any-whole .before in
+    let at-marks-for = at-any-each2 .before .before in
+    let at-within = at-marks-for .before in
+    let args = at-within .before .before .args in
+    let first = first-byte (args .start) (at-marks-for .marks-for .result) (at-marks-for .marks-for .ensures) in
+    ap₂ _||_ (ap₂ _||_ (at-any-each2 .any-each2 .ensures) (at-any-whole .any-whole .ensures)) (c .any-each3 .ensures)
+    ∙ from-three (args .start) (8 * at-marks-for .marks-for .result) (8 * (at-within .within .result / 8)) (at-within .within .result) (marked inUse (now (args .marks))) (first .0)
+    (omega arith) (omega arith)
+    ∙ area-any inUse (now (args .marks)) (args .start) (at-within .within .result) (args .end) (at-within .within .ensures .0) (at-within .within .ensures .2)
 
 pub any-marked-spec : {M : Type 1} → statement M
 any-marked-spec =
     tie.close
     (tie.spec
-    Inv-loop
-    μ-loop
     (λ c κs. search needs)
-    loop-holds
     (λ c κs. search needs)
+    (λ c κs. search needs)
+    returns
     (λ c. search needs)
+    (λ c κs. search needs)
+    any-whole-requires
     (λ c. search needs)
-    loop-again
-    returns)
+    (λ c κs. search needs)
+    returns-2)

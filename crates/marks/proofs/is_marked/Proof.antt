@@ -1,5 +1,6 @@
 -- `marks::is_marked` meets its contract. Assumes nothing.
-use mathlib.Core.Path.{refl, sym}
+use mathlib.Core.Path.{sym}
+use native.Mathlib.Omega.{arith}
 use denote.Ref.{now}
 use borrow.Author.Needs.{needs}
 use Rattle.marks.specs.Marks.{inUse, capacity, marked}
@@ -10,11 +11,11 @@ use Rattle.marks.proofs.is_marked.Tie as tie
 returns : tie.Need-returns
 unfolding capacity
 returns c =
-    let a = c .before .args in sym (marked-none inUse (now (a .marks)) (a .i) (c .if1 .taken))
+    let a = c .before .before .args in sym (marked-none inUse (now (a .marks)) (a .i) (omega (arith, c .if1 .taken)))
 
 returns-2 : tie.Need-returns-2
 unfolding marked
-returns-2 c = refl
+returns-2 c = c .bit-of .ensures
 
 pub is-marked-spec : {M : Type 1} → statement M
-is-marked-spec = tie.close (tie.spec returns (λ c. search needs) returns-2)
+is-marked-spec = tie.close (tie.spec returns (λ c. search needs) (λ c κs. search needs) returns-2)

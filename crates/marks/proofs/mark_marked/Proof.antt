@@ -1,110 +1,105 @@
 -- `marks::mark_marked` meets its contract. Assumes nothing.
-use Prim.Native.Nat.{_+_, _-_, _≤_}
-use mathlib.Core.Path.{_≡_, refl}
-use native.Mathlib.Omega.{arith}
-use denote.Ref.{now}
+use Rattle.marks.proofs.WholeLaws.{capacity-bytes}
+use Rattle.marks.proofs.CountLaws.{cut-on, cut-above, all-same, new-same, run-marked, count-put}
+use Rattle.marks.proofs.MarkLaws.{length-markAll, marks-fit}
+use Rattle.marks.specs.Marks.{inUse, capacity, marked, markedBelow, countMarked, newMarks}
+use Rattle.marks.specs.Offsets.{inRangeAnd}
 use lib.ListN.{length}
+use denote.Ref.{now}
+use native.Mathlib.Omega.{arith}
+use mathlib.Core.Path.{_≡_, ap, _∙_}
+use Prim.Native.Nat.{ℕ, _*_, _-_, _/_, _<_}
 use borrow.Author.Needs.{needs}
-use Rattle.marks.specs.Marks.{inUse, capacity, marked, markedBelow}
-use Rattle.marks.proofs.MarkLaws.{capacity-length}
-use Rattle.marks.proofs.CountLaws.{Ran, ran-start, ran-on, ran-all, run-marked}
 use Rattle.marks.proofs.mark_marked.Statement.{statement}
 use Rattle.marks.proofs.mark_marked.Tie as tie
+use Rattle.marks.proofs.mark_marked.Reads as reads
+use Rattle.marks.proofs.mark_marked.Lts as lts
+use Rattle.marks.proofs.count_marked.Reads as count-marked-reads
+use Rattle.marks.proofs.each.mark_each_marked.Reads as mark-each-marked-reads
+use Rattle.marks.proofs.whole.mark_whole_marked.Reads as mark-whole-marked-reads
+use Rattle.marks.proofs.within.Reads as within-reads
 
-abbrev Inv-loop : tie.InvT-loop
-Inv-loop marks₀ n other stop fresh₀ i₀ marks fresh i =
-    (i ≤ stop) × (length marks ≡ length marks₀) × Ran inUse (marked inUse other) 0 i marks₀ marks fresh × (fresh ≤ i)
-
-abbrev μ-loop : tie.MeasureT-loop
-μ-loop marks₀ n other stop fresh₀ i₀ marks fresh i = stop - i
-
-loop-holds : tie.Need-loop-holds Inv-loop μ-loop
-loop-holds c =
-    let at-within = c .before in
-    let a = at-within .before .before .before .before .args in
-    (omega arith, refl, ran-start inUse (marked inUse (now (a .other))) 0 (now (a .marks)), omega arith)
-
-mark-few-marked-requires : tie.Need-mark-few-marked-requires Inv-loop μ-loop
-mark-few-marked-requires c κs =
-    let at-loop = c .before .before in
-    let at-within2 = at-loop .before in
+mark-whole-marked-requires : tie.Need-mark-whole-marked-requires
+mark-whole-marked-requires c κs =
+    let at-within2 = c .before .before .before in
     let at-within = at-within2 .before in
-    let a = at-within .before .before .before .before .args in
-    let below = at-within2 .within2 .ensures .0 in
+    let args = at-within .before .before .before .before .args in
     let inner = at-within .within .ensures .1 in
+    let below = at-within2 .within2 .ensures .0 in
     let outer = at-within2 .within2 .ensures .1 in
-    let same = capacity-length inUse (at-loop .loop .marks) (now (a .marks)) (at-loop .loop .inv .1) in
-    (omega arith, omega arith, omega arith, omega arith)
+    let most = capacity-bytes (now (args .marks)) in
+    let all = capacity-bytes (now (args .other)) in (omega arith, omega arith)
 
-add-fresh : tie.Need-add-fresh Inv-loop μ-loop
-add-fresh c =
-    let more = c .before .before .mark-few-marked .ensures .2 in omega arith
-
-loop-again : tie.Need-loop-again Inv-loop μ-loop
-loop-again c =
-    let at-mark = c .before .before in
-    let at-loop = at-mark .before .before .before in
-    let a = at-loop .before .before .before .before .before .before .args in
-    let l = at-loop .loop in
-    let e = at-mark .mark-few-marked .ensures in
-    let more = e .2 in (
-      omega arith,
-      search needs,
-      ran-on inUse (marked inUse (now (a .other))) 0 (now (a .marks)) (l .i) (l .i + 128) (l .marks) _ (l .fresh) _ (omega arith) (omega arith) (l .inv .2) (e .0) (e .1),
-      omega arith,
-    )
-
-mark-few-marked-requires-2 : tie.Need-mark-few-marked-requires-2 Inv-loop μ-loop
-mark-few-marked-requires-2 c κs =
-    let at-loop = c .before .before in
-    let at-within2 = at-loop .before in
+mark-each-marked-requires : tie.Need-mark-each-marked-requires
+unfolding capacity
+mark-each-marked-requires c κs =
+    let at-mark-whole-marked = c .before .before .before in
+    let at-within2 = at-mark-whole-marked .before .before .before .before in
     let at-within = at-within2 .before in
-    let a = at-within .before .before .before .before .args in
-    let below = at-within2 .within2 .ensures .0 in
+    let args = at-within .before .before .before .before .args in
     let inner = at-within .within .ensures .1 in
-    let outer = at-within2 .within2 .ensures .1 in
-    let same = capacity-length inUse (at-loop .loop .marks) (now (a .marks)) (at-loop .loop .inv .1) in
-    (omega arith, omega arith, omega arith, omega arith)
+    let below = at-within2 .within2 .ensures .0 in
+    let same = ap length (at-mark-whole-marked .mark-whole-marked .ensures)
+    ∙ length-markAll inUse (inRangeAnd (marked inUse (now (args .other))) 0 (8 * (at-within2 .within2 .result / 8))) (now (args .marks)) in
+    (omega arith, omega arith)
 
-add-result : tie.Need-add-result Inv-loop μ-loop
-add-result c =
-    let more = c .before .before .mark-few-marked2 .ensures .2 in omega arith
+sub-result : tie.Need-sub-result
+sub-result c =
+    let at-mark-each-marked = c .before .before .before .before in
+    let at-mark-whole-marked = at-mark-each-marked .before .before .before .before in
+    let at-count-marked = at-mark-whole-marked .before .before in
+    let at-within2 = at-count-marked .before .before in
+    let at-within = at-within2 .before in
+    let args = at-within .before .before .before .before .args in
+    let m = now (args .marks) in
+    let o = now (args .other) in
+    let stop = at-within2 .within2 .result in
+    let f = inRangeAnd (marked inUse o) 0 stop in
+    let inner = at-within .within .ensures .1 in
+    let below = at-within2 .within2 .ensures .0 in
+    let after = cut-on inUse (marked inUse o) 0 m (8 * (stop / 8)) stop _ _ (omega arith) (omega arith) (at-mark-whole-marked .mark-whole-marked .ensures)
+    (at-mark-each-marked .mark-each-marked .ensures) in
+    let put = count-put inUse stop f m (marks-fit inUse stop m (omega arith)) (λ i h. cut-above (marked inUse o) 0 stop i h) in
+    let held = at-count-marked .count-marked .ensures in
+    let got = c .count-marked2 .ensures ∙ ap (countMarked inUse stop) after ∙ put in omega arith
 
-returns : tie.Need-returns Inv-loop μ-loop
+returns : tie.Need-returns
 returns c =
-    let at-mark = c .before .before in
-    let at-loop = at-mark .before .before .before in
-    let at-within2 = at-loop .before in
+    let at-mark-each-marked = c .before .before .before .before in
+    let at-mark-whole-marked = at-mark-each-marked .before .before .before .before in
+    let at-count-marked = at-mark-whole-marked .before .before in
+    let at-within2 = at-count-marked .before .before in
     let at-within = at-within2 .before in
-    let a = at-within .before .before .before .before .args in
-    let l = at-loop .loop in
-    let e = at-mark .mark-few-marked2 .ensures in
-    let m = now (a .marks) in
-    let o = now (a .other) in
+    let args = at-within .before .before .before .before .args in
+    let m = now (args .marks) in
+    let o = now (args .other) in
+    let stop = at-within2 .within2 .result in
+    let f = inRangeAnd (marked inUse o) 0 stop in
     let inner = at-within .within .ensures in
     let outer = at-within2 .within2 .ensures in
-    let stop = at-within2 .within2 .result in
-    ran-all inUse (marked inUse o) 0 m stop (markedBelow inUse (a .n) o) _ _
-    (ran-on inUse (marked inUse o) 0 m (l .i) stop (l .marks) _ (l .fresh) _ (omega arith) (l .inv .0) (l .inv .2) (e .0) (e .1))
-    (λ k h. run-marked inUse o (a .n) (at-within .within .result) stop (capacity inUse m) k (inner .0) (inner .2) (outer .0) (outer .2) h)
+    let top = inner .1 in
+    let below = outer .0 in
+    let after = cut-on inUse (marked inUse o) 0 m (8 * (stop / 8)) stop _ _ (omega arith) (omega arith) (at-mark-whole-marked .mark-whole-marked .ensures)
+    (at-mark-each-marked .mark-each-marked .ensures) in
+    let put = count-put inUse stop f m (marks-fit inUse stop m (omega arith)) (λ i h. cut-above (marked inUse o) 0 stop i h) in
+    let held = at-count-marked .count-marked .ensures in
+    let got = c .count-marked2 .ensures ∙ ap (countMarked inUse stop) after ∙ put in
+    let same : (k : ℕ) → k < capacity inUse m
+    → f k ≡ markedBelow inUse (args .n) o k = λ k h. run-marked inUse o (args .n) (at-within .within .result) stop (capacity inUse m) k (inner .0) (inner .2) (outer .0) (outer .2) h in
+    let fresh : c .count-marked2 .result - at-count-marked .count-marked .result ≡ newMarks inUse f m = omega arith in
+    (after ∙ all-same inUse f (markedBelow inUse (args .n) o) m same, fresh ∙ new-same inUse f (markedBelow inUse (args .n) o) m same)
 
 pub mark-marked-spec : {M : Type 1} → statement M
 mark-marked-spec =
     tie.close
     (tie.spec
-    Inv-loop
-    μ-loop
     (λ c κs. search needs)
     (λ c κs. search needs)
-    loop-holds
+    (λ c κs. search needs)
+    mark-whole-marked-requires
     (λ c. search needs)
-    (λ c. search needs)
-    mark-few-marked-requires
-    add-fresh
-    (λ c. search needs)
-    (λ c. search needs)
-    loop-again
-    mark-few-marked-requires-2
-    add-result
+    mark-each-marked-requires
+    (λ c κs. search needs)
+    sub-result
     (λ c. search needs)
     returns)

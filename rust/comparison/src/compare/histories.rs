@@ -24,11 +24,14 @@ impl LentPartial {
             1..=5 => total,
             _ => total + random.within(1, 12),
         };
-        let marks_length = if random.one_in(25) { length + random.within(1, 3) - 2 * usize::from(length > 2) } else { length };
+        let marks_length = match random.below(25) {
+            0 => random.pick(&[length, length / 8, length.div_ceil(8) + 1]),
+            _ => length.div_ceil(8),
+        };
         let payload = random.bytes(length);
         let mut marks = if random.one_in(2) { random.bytes(marks_length) } else { vec![0; marks_length] };
         if random.one_in(3) {
-            marks.iter_mut().for_each(|mark| *mark &= 1);
+            marks.iter_mut().for_each(|byte| *byte = if *byte < 128 { 0 } else { 0xff });
         }
         let mut record = random.bytes(record::PARTIAL_SIZE);
         match random.below(10) {
@@ -191,6 +194,8 @@ impl LentPartial {
     fn hand_out(&mut self, tally: &mut Tally) -> bool {
         let expected = self.known().and_then(|known| self.view(&known).hand_out()).map(|total| total as u64);
         let expected = (expected, self.clone());
+        let tuned = self.known().and_then(|known| tuned::hand_out(&self.view(&known))).map(|total| total as u64);
+        self.judge_tuned(tally, "tuned hand_out", &expected, &(tuned, self.clone()));
         self.judge(tally, "hand_out", expected, &[], |partial| {
             let [record, payload, marks] = partial.slices();
             ffi::hand_out(record, payload, marks)
@@ -206,7 +211,7 @@ impl LentPartial {
         };
         if !area.is_empty() {
             let at = random.below(area.len());
-            area[at] = random.pick(&[0, 1, 2, 255, 5, 64]);
+            area[at] = random.pick(&[0, 1, 2, 255, 5, 64, 128]);
         }
     }
 }
@@ -226,6 +231,7 @@ impl Sent {
         let length = match random.below(200) {
             0 => random.pick(&[16_383, 16_384, 16_385]),
             1..=8 => random.within(200, 1500),
+            9..=60 => random.pick(&[1, 7, 8, 9, 15, 16, 17, 63, 64, 65]),
             _ => random.within(1, 24),
         };
         let publisher = (!random.one_in(4)).then(|| generate::publisher(random));

@@ -393,7 +393,7 @@ fn reassemble(
         datagrams.push(datagram.to_vec());
     }
     let mut equal = datagrams.len() == payload.len().div_ceil(size);
-    let mut whole = uadp::Partial::new(vec![7; payload.len()], vec![1; payload.len()]);
+    let mut whole = uadp::Partial::new(vec![7; payload.len()], vec![1; uadp::marks_size(payload.len())]);
     let mut other = whole.clone();
     equal &= (whole.is_started(), whole.writer(), whole.writer_group_id(), whole.publisher()) == (false, None, None, None);
     let read = uadp::Chunk::read(&datagrams[0], &config)?;

@@ -84,7 +84,7 @@ fn matrices() {
 
 /// Takes in two chunks of 3 bytes, at 0 and 2, of a payload of 5.
 fn take_in_two(second: &[u8; 3]) -> (Result<()>, Result<bool>, [u8; 5]) {
-    let (mut payload, mut marks) = ([0; 5], [0; 5]);
+    let (mut payload, mut marks) = ([0; 5], [0; 1]);
     let mut record: Option<Record> = None;
     let mut partial = Partial { record: &mut record, payload: &mut payload, marks: &mut marks };
     let config = Config::default();

@@ -69,6 +69,11 @@ impl Record {
     }
 }
 
+/// Whether a byte is covered: its bit is set, eight to a byte, the lowest position in the lowest bit.
+pub(crate) fn marked(marks: &[u8], at: usize) -> bool {
+    (marks[at / 8] >> (at % 8)) & 1 == 1
+}
+
 /// A partial that is only looked at; its record is none if not started.
 #[derive(Clone, Copy, Debug)]
 pub struct PartialView<'a> {
@@ -79,7 +84,7 @@ pub struct PartialView<'a> {
 
 impl PartialView<'_> {
     pub(crate) fn sound(&self) -> Result<()> {
-        let sound = self.payload.len() == self.marks.len()
+        let sound = self.marks.len() == self.payload.len().div_ceil(8)
             && self.record.is_none_or(|record| {
                 let total = record.total;
                 let id_fits = !matches!(record.publisher, KeptId::String(length, _) if length > LONGEST_ID as u64);
@@ -110,7 +115,7 @@ impl PartialView<'_> {
         let Some(record) = self.record else {
             return Err(Number::NotComplete.nowhere());
         };
-        let marked = self.marks[..record.total as usize].iter().filter(|mark| **mark == 1).count();
+        let marked = (0..record.total as usize).filter(|at| marked(self.marks, *at)).count();
         if marked as u64 != record.covered {
             return Err(Number::Unsound.nowhere());
         }
@@ -148,8 +153,8 @@ impl Partial<'_> {
         self.admit(&record)?;
         let covered = chunk.offset..chunk.offset + chunk.data.len();
         if self.record.is_some() {
-            let held = self.payload[covered.clone()].iter().zip(&self.marks[covered.clone()]);
-            if held.zip(chunk.data).any(|((held, mark), byte)| *mark == 1 && held != byte) {
+            let mut both = covered.clone().zip(chunk.data);
+            if both.any(|(at, byte)| marked(self.marks, at) && self.payload[at] != *byte) {
                 return Err(Number::ByteDiffers.nowhere());
             }
         }
@@ -170,17 +175,13 @@ impl Partial<'_> {
         };
         self.admit(record)?;
         let total = record.total as usize;
-        let (payload, marks) = (&source.payload[..total], &source.marks[..total]);
-        if self.record.is_some() {
-            let held = self.payload.iter().zip(self.marks.iter());
-            let mut both = held.zip(payload.iter().zip(marks));
-            if both.any(|((held, held_mark), (byte, mark))| *mark == 1 && *held_mark == 1 && held != byte) {
-                return Err(Number::ByteDiffers.nowhere());
-            }
+        let brought = || (0..total).filter(|at| marked(source.marks, *at));
+        if self.record.is_some() && brought().any(|at| marked(self.marks, at) && self.payload[at] != source.payload[at]) {
+            return Err(Number::ByteDiffers.nowhere());
         }
         self.start(record);
-        for at in (0..total).filter(|at| marks[*at] == 1) {
-            self.payload[at] = payload[at];
+        for at in brought() {
+            self.payload[at] = source.payload[at];
             self.mark(at);
         }
         Ok(())
@@ -207,9 +208,9 @@ impl Partial<'_> {
 
     /// Marks a byte, and counts it where it was not marked.
     fn mark(&mut self, at: usize) {
-        if let (Some(record), true) = (self.record.as_mut(), self.marks[at] != 1) {
+        if let (Some(record), false) = (self.record.as_mut(), marked(self.marks, at)) {
             record.covered += 1;
         }
-        self.marks[at] = 1;
+        self.marks[at / 8] |= 1 << (at % 8);
     }
 }

@@ -1,5 +1,6 @@
 -- `reassembly::operations::combine_in` meets its contract. Assumes nothing.
-use mathlib.Core.Path.{refl, sym, ap, _∙_}
+use Prim.Native.Nat.{ℕ, _≤_}
+use mathlib.Core.Path.{sym, ap, _∙_, subst}
 use denote.Ref.{now}
 use native.Mathlib.Omega.{arith}
 use borrow.Author.Tests.{not-true, not-false}
@@ -7,7 +8,9 @@ use Rattle.reassembly.proofs.CallLaws.{joined}
 use borrow.Author.Needs.{needs}
 use Rattle.reassembly.specs.Record.{partial}
 use Rattle.reassembly.specs.declared.verdict.Verdict.{Verdict}
-use Rattle.reassembly.proofs.JudgeLaws.{combine-sound, combine-refused, combine-done-idle, combined-room, combined, begun-covered, length-begun, sound-even}
+use Rattle.reassembly.proofs.JudgeLaws.{combine-sound, combine-refused, combine-done-idle, combined-room, combined, begun-covered, length-begun}
+use Rattle.marks.specs.Marks.{inUse, marksFor, markedBelow}
+use Rattle.marks.proofs.MarkLaws.{marks-cover, marked-past}
 use Rattle.marks.proofs.CountLaws.{new-most}
 use Rattle.reassembly.proofs.operations.combine_in.Statement.{statement}
 use Rattle.reassembly.proofs.operations.combine_in.Tie as tie
@@ -45,22 +48,29 @@ store-covered-requires c κs =
     let r = combined-room s f (sym (at-judge-combine .judge-combine .ensures) ∙ at-enum-told2 .enum-told2 .given .1) (not-false _ (at-if1 .if1 .left)) in
     (r .0, r .2, r .3)
 
--- what is covered and what is new are each at most an area's length
+-- what is covered and what is new are each at most the payload area's length
 with-new-requires : tie.Need-with-new-requires
 with-new-requires c κs =
     let at-mark-marked = c .before .before in
     let at-begin = at-mark-marked .before .before .before .before .before .before .before .before in
-    let at-enum-told2 = at-begin .before .before .before .before .before in
+    let at-if1 = at-begin .before .before .before in
+    let at-enum-told2 = at-if1 .before .before in
     let at-judge-combine = at-enum-told2 .before .before in
-    let a = at-judge-combine .before .before .before .before .before .before .before .args in
+    let at-pre = at-judge-combine .before .before .before .before .before .before .before in
+    let a = at-pre .args in
     let s = partial (a .rec) (now (a .payload)) (now (a .marks)) in
     let f = partial (a .source) (now (a .from)) (now (a .from-marks)) in
-    let ok = combine-sound s f (sym (at-judge-combine .judge-combine .ensures) ∙ at-enum-told2 .enum-told2 .given .1) in
+    let done = sym (at-judge-combine .judge-combine .ensures) ∙ at-enum-told2 .enum-told2 .given .1 in
+    let ok = combine-sound s f done in
     let held = begun-covered s (a .source .message) ok (at-begin .begin .result) (at-begin .begin .ensures .0) in
-    let long = at-begin .begin .ensures .2 in
-    let even = sound-even s ok refl in
+    let room = combined-room s f done (not-false _ (at-if1 .if1 .left)) in
+    let long = at-pre .good .1 .0 .1 in
     let same = length-begun (a .rec) (now (a .marks)) _ (at-begin .begin .ensures .1) in
-    let fresh = new-most _ _ _ (at-mark-marked .mark-marked .ensures .1) in omega arith
+    let total = a .source .message .total in
+    let fits = subst (λ (n : ℕ). marksFor inUse total ≤ n) (sym same) (room .1) in
+    let area = marks-cover inUse total total _ (omega arith) fits in
+    let fresh = new-most inUse total (markedBelow inUse total (now (a .from-marks))) _ _ area (λ i h. marked-past inUse total (now (a .from-marks)) i h) (at-mark-marked .mark-marked .ensures .1) in
+    omega (arith, room .0)
 
 returns-3 : tie.Need-returns-3
 returns-3 c =

@@ -1,7 +1,9 @@
 -- `reassembly::operations::hand_out_verdict` meets its contract. Assumes nothing.
+use Prim.Native.Nat.{ℕ}
 use mathlib.Core.Bool.{true, false}
 use mathlib.Core.Path.{ap, sym, _∙_}
 use denote.Ref.{now}
+use lib.Dec.{eqb}
 use borrow.Author.Tests.{eq-eqb, ne-eqb, not-true, not-false}
 use borrow.Author.Needs.{needs}
 use Rattle.reassembly.specs.Record.{partial}
@@ -29,41 +31,41 @@ returns-2 c =
 
 returns-3 : tie.Need-returns-3
 returns-3 c =
-    let at-is-counted = c .before in
-    let at-if2 = at-is-counted .before .before in
+    let at-count = c .before .before in
+    let at-if2 = at-count .before .before in
     let at-if1 = at-if2 .before .before in
     let at-is-sound = at-if1 .before in
     let a = at-is-sound .before .before .before .args in
     let s = partial (a .rec) (now (a .payload)) (now (a .marks)) in
     ap (λ (v : Verdict). handedOf v (handOut s))
     (sym (hand-wrong s (sym (at-is-sound .is-sound .ensures) ∙ not-false _ (at-if1 .if1 .left)) (not-false _ (at-if2 .if2 .left))
-    (sym (at-is-counted .is-counted .ensures) ∙ not-true _ (c .if3 .taken))))
+    (ap (λ (n : ℕ). eqb n (a .rec .covered)) (sym (at-count .count-marked .ensures)) ∙ ne-eqb _ _ (c .if3 .taken))))
 
 returns-4 : tie.Need-returns-4
 returns-4 c =
     let at-if3 = c .before .before .before in
-    let at-is-counted = at-if3 .before in
-    let at-if2 = at-is-counted .before .before in
+    let at-count = at-if3 .before .before in
+    let at-if2 = at-count .before .before in
     let at-if1 = at-if2 .before .before in
     let at-is-sound = at-if1 .before in
     let a = at-is-sound .before .before .before .args in
     let s = partial (a .rec) (now (a .payload)) (now (a .marks)) in
     ap (λ (v : Verdict). handedOf v (handOut s))
     (sym (hand-held s (sym (at-is-sound .is-sound .ensures) ∙ not-false _ (at-if1 .if1 .left)) (not-false _ (at-if2 .if2 .left))
-    (sym (at-is-counted .is-counted .ensures) ∙ not-false _ (at-if3 .if3 .left)) false (ne-eqb _ _ (c .if4 .taken))))
+    (ap (λ (n : ℕ). eqb n (a .rec .covered)) (sym (at-count .count-marked .ensures)) ∙ eq-eqb _ _ (at-if3 .if3 .left)) false (ne-eqb _ _ (c .if4 .taken))))
 
 returns-5 : tie.Need-returns-5
 returns-5 c =
     let at-if3 = c .before .before .before in
-    let at-is-counted = at-if3 .before in
-    let at-if2 = at-is-counted .before .before in
+    let at-count = at-if3 .before .before in
+    let at-if2 = at-count .before .before in
     let at-if1 = at-if2 .before .before in
     let at-is-sound = at-if1 .before in
     let a = at-is-sound .before .before .before .args in
     let s = partial (a .rec) (now (a .payload)) (now (a .marks)) in
     ap (λ (v : Verdict). handedOf v (handOut s))
     (sym (hand-held s (sym (at-is-sound .is-sound .ensures) ∙ not-false _ (at-if1 .if1 .left)) (not-false _ (at-if2 .if2 .left))
-    (sym (at-is-counted .is-counted .ensures) ∙ not-false _ (at-if3 .if3 .left)) true (eq-eqb _ _ (c .if4 .left))))
+    (ap (λ (n : ℕ). eqb n (a .rec .covered)) (sym (at-count .count-marked .ensures)) ∙ eq-eqb _ _ (at-if3 .if3 .left)) true (eq-eqb _ _ (c .if4 .left))))
 
 pub hand-out-verdict-spec : {M : Type 1} → statement M
 hand-out-verdict-spec =

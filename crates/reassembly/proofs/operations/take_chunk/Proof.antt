@@ -1,13 +1,18 @@
 -- `reassembly::operations::take_chunk` meets its contract.
 -- Assumes nothing.
-use Rattle.reassembly.proofs.JudgeLaws.{take-refused, taken-room, taken, begun-covered, length-begun, sound-even}
+use Rattle.reassembly.proofs.JudgeLaws.{take-refused, taken-room, taken, begun-covered, length-begun}
+use Prim.Native.Nat.{ℕ, _+_, _≤_}
+use lib.ListN.{length}
+use Rattle.marks.specs.Offsets.{inRange}
+use Rattle.marks.specs.Marks.{inUse, marksFor}
+use Rattle.marks.proofs.MarkLaws.{marks-cover, range-above}
 use Rattle.marks.proofs.CountLaws.{new-most}
 use Rattle.reassembly.specs.declared.verdict.Verdict.{Verdict}
 use Rattle.reassembly.specs.Reading.Reading.{chunk}
 use Rattle.reassembly.specs.Record.{partial}
 use denote.Ref.{now}
 use native.Mathlib.Omega.{arith}
-use mathlib.Core.Path.{refl, sym, ap, _∙_}
+use mathlib.Core.Path.{sym, ap, _∙_, subst}
 use borrow.Author.Needs.{needs}
 use Rattle.reassembly.proofs.operations.take_chunk.Statement.{statement}
 use Rattle.reassembly.proofs.operations.take_chunk.Tie as tie
@@ -41,20 +46,25 @@ store-data-requires c κs =
     taken-room (partial (a .rec) (now (a .payload)) (now (a .marks))) (a .m) (a .offset) (now (a .bytes)) (at-pre .pre .1)
     (sym (at-judge-chunk .judge-chunk .ensures) ∙ at-enum-told2 .enum-told2 .given .1) .0
 
--- what is covered and what is new are each at most an area's length
+-- what is covered and what is new are each at most the payload area's length
 with-new-requires : tie.Need-with-new-requires
 with-new-requires c κs =
     let at-mark-range = c .before .before in
     let at-begin = at-mark-range .before .before .before .before .before .before .before .before in
-    let at-judge-chunk = at-begin .before .before .before .before in
+    let at-told = at-begin .before .before in
+    let at-judge-chunk = at-told .before .before in
     let at-pre = at-judge-chunk .before .before .before .before .before .before in
     let a = at-pre .args in
     let s = partial (a .rec) (now (a .payload)) (now (a .marks)) in
     let held = begun-covered s (a .m) (at-pre .pre .0) (at-begin .begin .result) (at-begin .begin .ensures .0) in
-    let long = at-begin .begin .ensures .2 in
-    let even = sound-even s (at-pre .pre .0) refl in
+    let room = taken-room s (a .m) (a .offset) (now (a .bytes)) (at-pre .pre .1) (sym (at-judge-chunk .judge-chunk .ensures) ∙ at-told .enum-told2 .given .1) in
+    let long = at-pre .good .1 .0 .1 in
     let same = length-begun (a .rec) (now (a .marks)) _ (at-begin .begin .ensures .1) in
-    let fresh = new-most _ _ _ (at-mark-range .mark-range .ensures .1) in omega arith
+    let end = a .offset + length (now (a .bytes)) in
+    let fits = subst (λ (n : ℕ). marksFor inUse end ≤ n) (sym same) (room .1) in
+    let area = marks-cover inUse end end _ (omega arith) fits in
+    let fresh = new-most inUse end (inRange (a .offset) end) _ _ area (λ i h. range-above (a .offset) end i h) (at-mark-range .mark-range .ensures .1) in
+    omega (arith, room .0)
 
 returns-2 : tie.Need-returns-2
 returns-2 c =

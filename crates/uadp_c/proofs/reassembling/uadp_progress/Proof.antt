@@ -19,18 +19,18 @@ returns-2 : tie.Need-returns-2
 returns-2 c =
     let at-covered = c .before .before in
     let at-progress = at-covered .before .before in
-    let at-partial-in = at-progress .before in
-    let args = at-partial-in .before .before .before .before .before .args in
-    progress-ends (now (args .rec)) (now (args .payload)) (now (args .marks)) _ _ _ _ (omega arith) (at-partial-in .partial-in .ensures)
+    let at-asked-in = at-progress .before in
+    let args = at-asked-in .before .before .before .before .before .args in
+    progress-ends (now (args .rec)) (now (args .payload)) (now (args .marks)) _ _ _ _ (omega arith) (at-asked-in .asked-in .ensures)
     (at-progress .progress .ensures) (at-covered .covered .given .1) (c .result2 .ensures)
 
 returns-3 : tie.Need-returns-3
 returns-3 c =
     let at-number = c .before .before in
     let at-progress = at-number .before .before in
-    let at-partial-in = at-progress .before in
-    let args = at-partial-in .before .before .before .before .before .args in
-    progress-ends (now (args .rec)) (now (args .payload)) (now (args .marks)) _ _ _ _ (omega arith) (at-partial-in .partial-in .ensures)
+    let at-asked-in = at-progress .before in
+    let args = at-asked-in .before .before .before .before .before .args in
+    progress-ends (now (args .rec)) (now (args .payload)) (now (args .marks)) _ _ _ _ (omega arith) (at-asked-in .asked-in .ensures)
     (at-progress .progress .ensures) (at-number .number .given .1) (c .result3 .ensures)
 
 pub uadp-progress-spec : {M : Type 1} → statement M

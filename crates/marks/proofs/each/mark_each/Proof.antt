@@ -1,0 +1,73 @@
+-- `marks::each::mark_each` meets its contract. Assumes nothing.
+use Rattle.marks.proofs.CountLaws.{cut-start, cut-next}
+use Rattle.marks.proofs.MarkLaws.{capacity-length}
+use Rattle.marks.specs.Marks.{inUse, capacity, markAll}
+use Rattle.marks.specs.Offsets.{inRangeAnd, always}
+use borrow.Author.Needs.{needs}
+use lib.ListN.{length}
+use denote.Ref.{now}
+use native.Mathlib.Omega.{arith}
+use mathlib.Core.Path.{_≡_, refl, sym, ap, _∙_}
+use mathlib.Core.Bool.{true}
+use Prim.Native.Nat.{ℕ, _-_, _≤_}
+use Rattle.marks.proofs.each.mark_each.Statement.{statement}
+use Rattle.marks.proofs.each.mark_each.Tie as tie
+use Rattle.marks.proofs.each.mark_each.Reads as reads
+use Rattle.marks.proofs.each.mark_each.Lts as lts
+use Rattle.marks.proofs.bits.mark_if.Reads as mark-if-reads
+
+abbrev Inv-loop : tie.InvT-loop
+Inv-loop marks₀ start end i₀ marks i =
+    (start ≤ i) × (i ≤ end) × (length marks ≡ length marks₀) × (marks ≡ markAll inUse (inRangeAnd always start i) marks₀)
+
+abbrev μ-loop : tie.MeasureT-loop
+μ-loop marks₀ start end i₀ marks i = end - i
+
+loop-holds : tie.Need-loop-holds Inv-loop μ-loop
+loop-holds c =
+    (omega arith, omega arith, refl, sym (cut-start inUse always (c .before .args .start) (now (c .before .args .marks))))
+
+mark-if-requires : tie.Need-mark-if-requires Inv-loop μ-loop
+mark-if-requires c κs =
+    let at-loop = c .before .before in
+    let at-pre = at-loop .before .before in
+    let room = at-pre .pre .1 in
+    let same = capacity-length inUse (at-loop .loop .marks) (now (at-pre .args .marks)) (at-loop .loop .inv .2) in omega arith
+
+loop-again : tie.Need-loop-again Inv-loop μ-loop
+loop-again c =
+    let at-mark-if = c .before .before in
+    let at-loop = at-mark-if .before .before .before in
+    let at-pre = at-loop .before .before in
+    let room = at-pre .pre .1 in
+    let same = capacity-length inUse (at-loop .loop .marks) (now (at-pre .args .marks)) (at-loop .loop .inv .2) in (
+      omega arith,
+      omega arith,
+      search needs,
+      cut-next inUse always (at-pre .args .start) (now (at-pre .args .marks)) (at-loop .loop .i) (at-loop .loop .marks) _ true (at-loop .loop .inv .0)
+          (omega arith) (at-loop .loop .inv .3) refl (at-mark-if .mark-if .ensures),
+    )
+
+same-length : tie.Need-same-length Inv-loop μ-loop
+same-length c = c .before .loop .inv .2
+
+returns : tie.Need-returns Inv-loop μ-loop
+returns c =
+    let at-loop = c .before in
+    let args = at-loop .before .before .args in
+    let e : at-loop .loop .i ≡ args .end = omega arith in
+    at-loop .loop .inv .3 ∙ ap (λ (n : ℕ). markAll inUse (inRangeAnd always (args .start) n) (now (args .marks))) e
+
+pub mark-each-spec : {M : Type 1} → statement M
+mark-each-spec =
+    tie.close
+    (tie.spec
+    Inv-loop
+    μ-loop
+    loop-holds
+    mark-if-requires
+    (λ c. search needs)
+    (λ c. search needs)
+    loop-again
+    same-length
+    returns)

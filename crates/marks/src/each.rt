@@ -1,0 +1,67 @@
+// Offsets one after another, for the ends of a range: fewer than eight of them fill no byte.
+ghost use mathlib.Core.Path.{_≡_};
+ghost use mathlib.Core.Bool.{cond};
+ghost use Prim.Native.Nat.{_+_, _-_, _≤_};
+ghost use Rattle.marks.specs.Offsets.{countBelow, anyFrom, inRangeAnd, always};
+ghost use Rattle.marks.specs.Marks.{inUse, capacity, marked, markAll};
+use crate::bits::mark_if;
+use crate::is_marked;
+
+// 1 or 0.
+fn one_if(yes: bool) -> usize
+    ensures { λ r. ⌜ (r ≡ cond yes 1 0) × (r ≤ 1) ⌝ }
+{
+    if yes { 1 } else { 0 }
+}
+
+// Marks the offsets from start up to end.
+pub(crate) fn mark_each(marks: &mut [u8], start: usize, end: usize)
+    requires { ⌜ (start ≤ end) × (end ≤ capacity inUse (now marks)) ⌝ }
+    ensures { λ r. ⌜ now (marks .exit) ≡ markAll inUse (inRangeAnd always start end) (now (marks .entry)) ⌝ }
+{
+    let mut i = start;
+    while i < end {
+        mark_if(marks, i, true);
+        i += 1;
+    }
+}
+
+// Marks those of the offsets from start up to end that are marked in another area.
+pub(crate) fn mark_each_marked(marks: &mut [u8], start: usize, end: usize, other: &[u8])
+    requires { ⌜ (start ≤ end) × (end ≤ capacity inUse (now marks)) ⌝ }
+    ensures { λ r.
+        let source = inRangeAnd (marked inUse (now (other .entry))) start end in
+        ⌜ now (marks .exit) ≡ markAll inUse source (now (marks .entry)) ⌝ }
+{
+    let mut i = start;
+    while i < end {
+        mark_if(marks, i, is_marked(other, i));
+        i += 1;
+    }
+}
+
+// How many offsets from start up to end are marked.
+pub(crate) fn count_each(marks: &[u8], start: usize, end: usize) -> usize
+    ensures { λ r. ⌜ r ≡ countBelow (end - start) (λ j. marked inUse (now (marks .entry)) (start + j)) ⌝ }
+{
+    let mut count = 0;
+    let mut i = start;
+    while i < end {
+        count += one_if(is_marked(marks, i));
+        i += 1;
+    }
+    count
+}
+
+// Whether an offset from start up to end is marked.
+pub(crate) fn any_each(marks: &[u8], start: usize, end: usize) -> bool
+    ensures { λ r. ⌜ r ≡ anyFrom start end (marked inUse (now (marks .entry))) ⌝ }
+{
+    let mut any = false;
+    let mut i = start;
+    while i < end {
+        any = is_marked(marks, i) | any;
+        i += 1;
+    }
+    any
+}
