@@ -13,6 +13,7 @@ pub struct Salvage {
     pub promised: Option<usize>,
     /// How many bytes come before the first hole.
     pub front: usize,
+    /// Of the fields, where their number is known.
     pub encoding: Encoding,
 }
 
@@ -46,9 +47,8 @@ impl Salvage {
             self.promised = Some(0);
             return Ok(());
         };
-        self.encoding = header.encoding;
         let count = count(reader, &header, types)?;
-        self.promised = Some(count);
+        (self.promised, self.encoding) = (Some(count), header.encoding);
         let indexed = header.kind == Kind::Delta;
         let mut cursor = Cursor { encoding: header.encoding, indexed, next: 0, count, at: reader.position() };
         while cursor.next < count {
