@@ -1,7 +1,6 @@
 //! What is timed.
 use uadp_comparison::generate::{chunk_bytes, variant, EnvelopeSpec, MessageSpec, Random, FIXED};
 use uadp_comparison::record;
-use uadp_comparison::record;
 use uadp_comparison::reference::config::Config;
 use uadp_comparison::reference::reassembly::{KeptId, Record};
 
@@ -204,7 +203,7 @@ pub fn ping(holes: usize, length: usize) -> Ping {
     payload.push(15);
     payload.extend(((TOTAL - payload.len() - 4) as u32).to_le_bytes());
     payload.resize(TOTAL, 9);
-    let mut marks = vec![0xff; TOTAL / 8];
+    let mut marks = vec![0xff_u8; TOTAL / 8];
     for at in (0..holes).flat_map(|hole| 8_000 + 8 * hole..8_000 + 8 * hole + length) {
         marks[at / 8] &= !(1 << (at % 8));
     }
