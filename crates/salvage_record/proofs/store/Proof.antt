@@ -63,11 +63,11 @@ put-fields-requires c κs =
 -- src/lib.rt:237:18
 add-t15 : tie.Need-add-t15
 add-t15 c =
-    let at-near = c .before .before .before .before in
-    let at-near-2 = at-near .before .before .before .before in
-    let at-if3 = at-near-2 .before .before .before .before in
-    let at-if2 = at-if3 .before in
-    omega (arith, at-if3 .if3 .left, at-if2 .if2 .left)
+    omega (
+      arith,
+      ((c .before .before .before .before) .before .before .before .before) .before .before .before .before .if3 .left,
+      (((c .before .before .before .before) .before .before .before .before) .before .before .before .before) .before .if2 .left,
+    )
 
 -- src/lib.rt:199:1
 returns-4 : tie.Need-returns-4
