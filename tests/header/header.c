@@ -516,7 +516,7 @@ static void salvaged_by_name(void)
     static const uint8_t six[] = {0xD1, 0x81, 1, 0x67, 0x12, 21, 0, 7, 0, 0, 0, 0, 0, 9, 0, 0, 0, 6, 0, 0, 0,
                                   1,    2,    0, 3,    7,    0x99};
     static const uint8_t one[] = {0xD1, 0x81, 1, 0x67, 0x12, 21, 0, 7, 0, 0, 0, 0, 0, 2, 0, 0, 0, 1, 0, 0, 0, 1};
-    uint8_t payload[16], marks[UADP_MARKS_SIZE(16)];
+    uint8_t payload[16] = UADP_ZERO, marks[UADP_MARKS_SIZE(16)] = UADP_ZERO;
     uadp_partial p = UADP_ZERO;
     uadp_salvage_record told = UADP_ZERO;
     uadp_field_record list[4];
