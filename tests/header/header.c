@@ -508,6 +508,38 @@ static void probes_by_name(void)
     CHECK(refused(uadp_probe(full, sizeof full, NULL, &p), UADP_NOT_TAKEN, 0) && p.writer_group_id == 7);
 }
 
+/* Document 02's salvage as it is read: total 9 with 5 and with 6 bytes covered, total 2 with 1. */
+static void salvaged_by_name(void)
+{
+    static const uint8_t five[] = {0xD1, 0x81, 1, 0x67, 0x12, 21, 0, 7, 0, 0, 0, 0, 0, 9, 0, 0, 0, 5, 0, 0, 0,
+                                   1,    2,    0, 3,    7};
+    static const uint8_t six[] = {0xD1, 0x81, 1, 0x67, 0x12, 21, 0, 7, 0, 0, 0, 0, 0, 9, 0, 0, 0, 6, 0, 0, 0,
+                                  1,    2,    0, 3,    7,    0x99};
+    static const uint8_t one[] = {0xD1, 0x81, 1, 0x67, 0x12, 21, 0, 7, 0, 0, 0, 0, 0, 2, 0, 0, 0, 1, 0, 0, 0, 1};
+    uint8_t payload[16] = UADP_ZERO, marks[UADP_MARKS_SIZE(16)] = UADP_ZERO;
+    uadp_partial p = UADP_ZERO;
+    uadp_salvage_record told = UADP_ZERO;
+    uadp_field_record list[4];
+
+    p.payload = payload;
+    p.marks = marks;
+    p.room = sizeof payload;
+    CHECK(done(uadp_salvage(&p, NULL, &told, list, 0), 0) && told.holes == 0 && told.count_known == 0);
+    CHECK(done(uadp_take_in(&p, five, sizeof five, NULL), 0));
+    CHECK(refused(uadp_salvage(&p, NULL, &told, list, 1), UADP_NO_ROOM, 0) && told.total == 0);
+    CHECK(done(uadp_salvage(&p, NULL, &told, list, 4), 2) && told.holes == 1 && told.fields == 1);
+    CHECK(told.count_known == 1 && told.promised == 2 && told.front == 5 && told.total == 9);
+    CHECK(told.encoding == UADP_VARIANT && list[0].offset == 5 && list[0].length == 4);
+    CHECK(list[1].type == UADP_TYPE_BYTE && list[1].index == 0 && list[1].offset == 3 && list[1].length == 2);
+    CHECK(list[1].dimensions == 0 && list[1].shape == UADP_SCALAR);
+    CHECK(done(uadp_take_in(&p, six, sizeof six, NULL), 0));
+    CHECK(refused(uadp_salvage(&p, NULL, &told, list, 0), UADP_NOT_TAKEN, 5) && told.front == 5);
+    p.record.covered = 10;
+    CHECK(refused(uadp_salvage(&p, NULL, &told, list, 4), UADP_UNSOUND, 0));
+    CHECK(done(uadp_empty(&p), 0) && done(uadp_take_in(&p, one, sizeof one, NULL), 0));
+    CHECK(refused(uadp_salvage(&p, NULL, &told, list, 4), UADP_CUT_SHORT, 1));
+}
+
 static void newness(void)
 {
     uadp_sequence_record s = UADP_ZERO;
@@ -660,6 +692,7 @@ static void *others(void *unused)
     names_and_matrices();
     chunks_by_name();
     probes_by_name();
+    salvaged_by_name();
     newness();
     passed = before;
     return unused;
@@ -729,6 +762,7 @@ int main(int argc, char **argv)
     names_and_matrices();
     chunks_by_name();
     probes_by_name();
+    salvaged_by_name();
     newness();
     words_and_version();
     most_of_a_walk();

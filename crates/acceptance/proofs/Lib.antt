@@ -11,6 +11,7 @@ pub mod FieldsTile
 pub mod Demand1
 pub mod Demand2
 pub mod Demand3
+pub mod Salvage
 pub mod Sentences
 pub mod ToldSizes
 pub mod Values

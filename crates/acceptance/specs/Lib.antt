@@ -9,5 +9,6 @@ pub mod Sentences
 pub mod Demand1
 pub mod Demand2
 pub mod Demand3
+pub mod Salvage
 pub mod Values
 pub mod Program

@@ -20,12 +20,17 @@ use Rattle.dataset_fields.specs.Fields.{fieldAt, fieldsAt, paddingAt}
 abbrev pub countedAt : Bool → List ℕ → Reader ℕ
 countedAt raw types s at = cond raw (cond (eqb (length types) 0) (refused NOT_CONFIGURED 0) (got (length types) at)) (item 2 s at)
 
--- "A key frame with nothing left is a heartbeat. Else key and event: FieldCount ..; Delta: FieldCount"; a keep alive has no fields
+-- "A key frame with nothing left is a heartbeat. Else key and event: FieldCount ..; Delta: FieldCount"; a keep alive has no fields. The
+-- message ends at `end`, also where only its front can be read (document 02, Req 13).
+abbrev pub countTo : ℕ → Kind → Bool → List ℕ → Reader ℕ
+countTo end Kind.Key raw types s at = cond (leb end at) (got 0 at) (countedAt raw types s at)
+countTo end Kind.Delta raw types s at = countedAt false types s at
+countTo end Kind.Event raw types s at = countedAt raw types s at
+countTo end Kind.KeepAlive raw types s at = got 0 at
+
+-- of a message that is all of a slice
 abbrev pub countAt : Kind → Bool → List ℕ → Reader ℕ
-countAt Kind.Key raw types s at = cond (leb (length s) at) (got 0 at) (countedAt raw types s at)
-countAt Kind.Delta raw types s at = countedAt false types s at
-countAt Kind.Event raw types s at = countedAt raw types s at
-countAt Kind.KeepAlive raw types s at = got 0 at
+countAt kind raw types s at = countTo (length s) kind raw types s at
 
 -- what is read of a valid message: its header, the cursor before its first field, and where its last field ends
 pub record Message : Type 0 where

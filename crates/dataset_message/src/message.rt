@@ -18,7 +18,7 @@ use wire::constants::NOT_CONFIGURED;
 use wire::constants::OVER_LIMIT;
 ghost use mathlib.Core.Path.{_≡_};
 ghost use Rattle.dataset_fields.specs.Fields.{answerField};
-ghost use Rattle.dataset_message.specs.Message.{countedAt, countAt, bodyBy, messageBy, messageAt, frontAt, wholeOrFront, fieldPlaceAt, fieldBytes, nthAt};
+ghost use Rattle.dataset_message.specs.Message.{countedAt, countTo, bodyBy, messageBy, messageAt, frontAt, wholeOrFront, fieldPlaceAt, fieldBytes, nthAt};
 ghost use Rattle.dataset_message.specs.Message.{answerCount, answerMessage};
 
 // A message that is not valid, or its header, the cursor before its first field, and where its last field ends; what follows is
@@ -51,12 +51,13 @@ fn counted(s: &[u8], raw: bool, types: &[u8], at: usize) -> CountRead
     CountRead::Is(n as usize, next)
 }
 
-fn count(s: &[u8], kind: Kind, raw: bool, types: &[u8], at: usize) -> CountRead
-    ensures { λ r. ⌜ answerCount r ≡ countAt kind raw (now (types .entry)) (now (s .entry)) at ⌝ }
+// How many fields a message that ends at `end` has; of a key frame that ends there none.
+pub fn count_to(s: &[u8], kind: Kind, raw: bool, types: &[u8], end: usize, at: usize) -> CountRead
+    ensures { λ r. ⌜ answerCount r ≡ countTo end kind raw (now (types .entry)) (now (s .entry)) at ⌝ }
 {
     match kind {
         Kind::Key => {
-            if s.len() <= at {
+            if end <= at {
                 return CountRead::Is(0, at);
             }
             counted(s, raw, types, at)
@@ -88,7 +89,7 @@ fn read_body(s: &[u8], header: Header, types: &[u8], at: usize, whole: bool) -> 
 {
     let kind = header.kind;
     let encoding = header.encoding;
-    match count(s, kind, is_raw(encoding), types, at) {
+    match count_to(s, kind, is_raw(encoding), types, s.len(), at) {
         CountRead::Refused(n, place) => MessageRead::Refused(n, place),
         CountRead::Is(n, first) => {
             let cursor = Cursor {

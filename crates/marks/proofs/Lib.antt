@@ -2,4 +2,5 @@ pub mod BitLaws
 pub mod CountLaws
 pub mod MarkLaws
 pub mod OffsetLaws
+pub mod NextLaws
 mod WholeLaws

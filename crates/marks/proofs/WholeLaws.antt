@@ -40,7 +40,7 @@ marked-in m k j h =
     let r : (8 * k + j) % 8 ≡ j = omega arith in
     rw (q, r) (bit-digit j (getD m k 0))
 
-marked-by : (m : List ℕ) (i : ℕ) → marked byBits m i ≡ digit (i % 8) (getD m (i / 8) 0)
+pub marked-by : (m : List ℕ) (i : ℕ) → marked byBits m i ≡ digit (i % 8) (getD m (i / 8) 0)
 unfolding marked
 marked-by m i = bit-digit (i % 8) (getD m (i / 8) 0)
 

@@ -1,5 +1,5 @@
 -- Offsets that pass a test.
-use Prim.Native.Nat.{ℕ, zero, suc, _+_}
+use Prim.Native.Nat.{ℕ, zero, suc, _+_, _-_}
 use mathlib.Core.Bool.{Bool, true, false, cond, _||_, not, _&&_}
 use lib.Dec.{ltb, leb}
 
@@ -32,3 +32,17 @@ inRangeAnd f start end i = inRange start end i && f i
 -- a test that every offset passes
 abbrev pub always : ℕ → Bool
 always i = true
+
+-- the first of the k offsets from i on that passes the test; i + k where none does
+unfoldable pub firstPassing : (ℕ → Bool) → ℕ → ℕ → ℕ
+firstPassing f zero i = i
+firstPassing f (suc k) i = cond (f i) i (firstPassing f k (i + 1))
+
+-- the first offset from i on and below n that passes the test; n where none does
+abbrev pub nextPassing : (ℕ → Bool) → ℕ → ℕ → ℕ
+nextPassing f n i = firstPassing f (n - i) i
+
+-- whether a test's answer is the wanted one
+abbrev pub wanted : Bool → Bool → Bool
+wanted true b = b
+wanted false b = not b

@@ -2,18 +2,20 @@
 // byte is covered. How they are held is known here only.
 mod bits;
 mod each;
+mod next;
 mod whole;
 
 ghost use mathlib.Core.Path.{_≡_};
-ghost use mathlib.Core.Bool.{cond};
+ghost use mathlib.Core.Bool.{cond, not};
 ghost use Prim.Native.Nat.{_+_, _-_, _<_, _≤_};
-ghost use Rattle.marks.specs.Offsets.{countBelow, anyFrom, inRange, inRangeAnd, always};
+ghost use Rattle.marks.specs.Offsets.{countBelow, anyFrom, nextPassing, inRange, inRangeAnd, always};
 ghost use Rattle.marks.specs.Marks.{inUse, marksFor, capacity, marked, cleared, markedBelow, markAll, countMarked, newMarks};
 use bits::bit_of;
 use each::any_each;
 use each::count_each;
 use each::mark_each;
 use each::mark_each_marked;
+use next::next_wanted;
 use whole::any_whole;
 use whole::count_whole;
 use whole::fill;
@@ -149,4 +151,27 @@ pub fn any_marked(marks: &[u8], start: usize, end: usize) -> bool
     let head = any_each(marks, start, 8 * first);
     let inside = any_whole(marks, first, last);
     head | inside | any_each(marks, 8 * last, stop)
+}
+
+// The first offset from `from` on and below end that is marked; end where none is. Those past the area are not.
+pub fn next_marked(marks: &[u8], from: usize, end: usize) -> usize
+    ensures { λ r. ⌜ r ≡ nextPassing (marked inUse (now (marks .entry))) end from ⌝ }
+{
+    let stop = within(marks, end);
+    let i = next_wanted(marks, from, stop, true);
+    if i < stop {
+        return i;
+    }
+    if i < end {
+        return end;
+    }
+    i
+}
+
+// The first offset from `from` on and below end that is not marked; end where each is. Those past the area are not.
+pub fn next_unmarked(marks: &[u8], from: usize, end: usize) -> usize
+    ensures { λ r. ⌜ r ≡ nextPassing (λ i. not (marked inUse (now (marks .entry)) i)) end from ⌝ }
+{
+    let stop = within(marks, end);
+    next_wanted(marks, from, stop, false)
 }

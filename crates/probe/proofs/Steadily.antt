@@ -6,7 +6,7 @@ use mathlib.Core.List.{List, _++_}
 use Prim.Native.Nat.{ℕ, _+_, _*_, _-_, _≤_}
 use native.Mathlib.Nat.{add-zero}
 use native.Mathlib.Omega.{arith}
-use lib.Dec.{eqb}
+use lib.Dec.{eqb, ltb}
 use lib.ListN.{length, take, drop, length-append, take-append-drop}
 use lib.Seq.{length-take-le}
 use borrow.Author.Tests.{eqb-true, eqb-false, eq-eqb, ne-eqb}
@@ -14,7 +14,7 @@ use Rattle.wire.specs.Answer.{Answer, got, refused, Reader, andThen, each}
 use Rattle.wire.specs.declared.Length.{Length}
 use Rattle.wire.proofs.Reading.{got-next, not-got, invert}
 use Rattle.wire.proofs.Places.{movedBy, after}
-use Rattle.wire.proofs.Steady.{Steady, Onward, steadily, refusing, pure-steady, item-steady, length-item-steady, run-steady, onward-steady, bind-steady, then-steady, cond-steady, each-steady, ruled-steady}
+use Rattle.wire.proofs.Steady.{Steady, Onward, steadily, refusing, pure-steady, item-steady, length-item-steady, run-steady, onward-steady, bind-steady, then-steady, cond-steady, each-steady, ruled-steady, Fair, fair, fair-cond}
 use Rattle.plain_value.specs.Plain.{afterLength, byLength, string}
 use Rattle.probe.specs.declared.body.ListCount.{ListCount}
 use Rattle.probe.specs.declared.body.Probe.{Probe}
@@ -53,9 +53,17 @@ probe-of-steady t =
     (cond-steady (eqb t 3) (bind-steady id-list-steady (λ l. pure-steady (Probe.Writers l)))
     (cond-steady (eqb t 4) group-steady (bind-steady string-list-steady includes-steady)))
 
+-- no rule of a type refuses by 1
+
+type-fair : (t : ℕ) → Fair (probeTypeRule t)
+type-fair t = fair-cond (eqb t 1) (fair 0 refl) (fair-cond (eqb t 2) (fair 4 refl) (fair 3 refl))
+
+information-fair : (t : ℕ) → Fair (informationRule t)
+information-fair t = fair-cond (eqb t 1) (fair 4 refl) (fair-cond (ltb t 2) (fair 3 refl) (fair-cond (ltb 5 t) (fair 3 refl) (fair 0 refl)))
+
 pub probe-steady : Steady probeAt
 unfolding probeAt
-probe-steady = then-steady (ruled-steady 1 probeTypeRule) (bind-steady (ruled-steady 1 informationRule) probe-of-steady)
+probe-steady = then-steady (ruled-steady 1 probeTypeRule type-fair) (bind-steady (ruled-steady 1 informationRule information-fair) probe-of-steady)
 
 -- two numbers moved alike
 eqb-moved : (d a b : ℕ) → eqb (d + a) (d + b) ≡ eqb a b

@@ -4,6 +4,7 @@ pub mod Stepping
 pub mod Judged
 pub mod Walking
 pub mod Held
+pub mod SavedLent
 pub mod Wrote
 pub mod Probing
 pub mod Emptied

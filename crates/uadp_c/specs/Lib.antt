@@ -11,3 +11,4 @@ pub mod Values
 pub mod Chunks
 pub mod Probes
 pub mod ByCalls
+pub mod Salvaging

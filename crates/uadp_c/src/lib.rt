@@ -11,5 +11,6 @@ pub mod newness;
 pub mod probes;
 pub mod reassembling;
 pub mod rewrites;
+pub mod salvaging;
 pub mod values;
 pub mod walks;

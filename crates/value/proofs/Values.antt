@@ -1,7 +1,7 @@
 -- Measuring a value is steady: its answer lies within the slice, depends on the bytes measured only, and moves with them.
 -- Assumes nothing.
 use mathlib.Core.Path.{_≡_, refl, subst}
-use mathlib.Core.Bool.{Bool, true, false, cond, _||_}
+use mathlib.Core.Bool.{Bool, true, false, cond, not, _&&_, _||_}
 use mathlib.Core.List.{List}
 use Prim.Native.Nat.{ℕ, zero, suc, _+_, _*_, _-_, _<_, _≤_}
 use native.Mathlib.Nat.{le-refl, le-add-right}
@@ -15,11 +15,29 @@ use Rattle.wire.specs.declared.Length.{Length}
 use Rattle.plain_value.specs.Width.{widthOf, fixed}
 use Rattle.plain_value.specs.Parts.{parts}
 use Rattle.plain_value.specs.Plain.{passing, bytes, afterLength, byLength, string, lengthFirst, named, qualifiedName, textMaskRule, localizedText, text, plain, plainValue, plainValues}
-use Rattle.plain_value.specs.Dimensions.{fours, sizesRule, afterListLength, dimensions}
-use Rattle.value.specs.Value.{Measure, measure, typeOf, isArray, hasDimensions, variantRule, scalar, elements, array, dimensioned, matrix, variantOf, maskRule, dataValueOf, tooDeep, valueAt, rawAt}
+use Rattle.plain_value.specs.Dimensions.{fours, anyBelowOne, product, sizesRule, afterListLength, dimensions}
+use Rattle.value.specs.Value.{Measure, measure, typeOf, isArray, hasDimensions, taken, variantRule, scalar, elements, array, dimensioned, matrix, variantOf, maskRule, dataValueOf, tooDeep, valueAt, rawAt}
 use Rattle.value.specs.declared.Shape.{Shape}
 use Rattle.wire.proofs.Places.{end-of, after}
-use Rattle.wire.proofs.Steady.{Ends, Steady, Onward, steadily, refusing, pure-steady, refuse-steady, item-steady, length-item-steady, run-steady, onward-steady, bind-steady, then-steady, cond-onward, cond-steady, when-steady, each-steady, ruled-ends, ruled-steady, taking-ends, then-ends}
+use Rattle.wire.proofs.Steady.{Ends, Steady, Onward, steadily, refusing, pure-steady, refuse-steady, item-steady, length-item-steady, run-steady, onward-steady, bind-steady, then-steady, cond-onward, cond-steady, Fair, fair, fair-cond, when-steady, each-steady, ruled-ends, ruled-steady, taking-ends, then-ends}
+
+-- no rule of a value refuses by 1
+
+text-mask-fair : (m : ℕ) → Fair (textMaskRule m)
+text-mask-fair m = fair-cond (ltb 3 m) (fair 3 refl) (fair 0 refl)
+
+sizes-fair : (n : ℕ) (ds : List ℕ) → Fair (sizesRule n ds)
+sizes-fair n ds = fair-cond (anyBelowOne ds) (fair 5 refl) (fair-cond (eqb (product ds) n) (fair 0 refl) (fair 6 refl))
+
+mask-fair : (m : ℕ) → Fair (maskRule m)
+mask-fair m = fair-cond (bit 6 m || bit 7 m) (fair 3 refl) (fair 0 refl)
+
+variant-fair : (b : ℕ) → Fair (variantRule b)
+unfolding variantRule
+variant-fair b =
+    fair-cond (hasDimensions b && not (isArray b)) (fair 3 refl)
+    (fair-cond (eqb (typeOf b) 0 && isArray b) (fair 3 refl)
+    (fair-cond (eqb (typeOf b) 24 && not (isArray b)) (fair 3 refl) (fair-cond (taken (typeOf b)) (fair 0 refl) (fair 4 refl))))
 
 passing-steady : {A : Type 0} {r : Reader A} → Steady r → Steady (passing r)
 passing-steady f = then-steady f (pure-steady tt)
@@ -47,7 +65,7 @@ qualified-name-steady = then-steady (bytes-steady 2) string-steady
 
 localized-text-steady : Steady localizedText
 unfolding localizedText
-localized-text-steady = bind-steady (ruled-steady 1 textMaskRule) (λ m. then-steady (when-steady (bit 0 m) tt string-steady) (when-steady (bit 1 m) tt string-steady))
+localized-text-steady = bind-steady (ruled-steady 1 textMaskRule text-mask-fair) (λ m. then-steady (when-steady (bit 0 m) tt string-steady) (when-steady (bit 1 m) tt string-steady))
 
 text-steady : (t : ℕ) → Steady (text t)
 unfolding text
@@ -61,7 +79,7 @@ dimensions-steady n = onward-steady length-item-steady onward
     onward : (l : Length) → Onward (λ p. afterListLength n p l)
     onward Length.Null = refusing 5 (omega arith)
     onward (Length.Of k) =
-        cond-onward (ltb 0 k) (λ e. steadily (then-steady (ruled-steady (4 * k) (λ v. sizesRule n (fours k v))) (pure-steady k))) (λ e. refusing 5 (omega arith))
+        cond-onward (ltb 0 k) (λ e. steadily (then-steady (ruled-steady (4 * k) (λ v. sizesRule n (fours k v)) (λ v. sizes-fair n (fours k v))) (pure-steady k))) (λ e. refusing 5 (omega arith))
     onward Length.Negative = refusing 5 (omega arith)
 
 dimensioned-steady : (t n : ℕ) → Steady (dimensioned t n)
@@ -120,8 +138,8 @@ value-steady zero t = too-deep-steady
 value-steady (suc levels) t =
     let h : (t : ℕ) → Steady (valueAt levels t) = value-steady levels in
     cond-steady (eqb t 23)
-    (bind-steady (ruled-steady 1 maskRule) (after-mask (valueAt levels) h))
-    (bind-steady (ruled-steady 1 variantRule) (after-first (valueAt levels) h))
+    (bind-steady (ruled-steady 1 maskRule mask-fair) (after-mask (valueAt levels) h))
+    (bind-steady (ruled-steady 1 variantRule variant-fair) (after-first (valueAt levels) h))
 
 -- an accepted value takes at least a byte
 
@@ -135,8 +153,8 @@ value-ends zero t s at hi l u = then-ends (λ b. refusing 9 (omega arith)) s (le
 value-ends (suc levels) t s at hi l u =
     let h : (t : ℕ) → Steady (valueAt levels t) = value-steady levels in
     cond-ends (eqb t 23) (ruled 1 maskRule >>= dataValueOf (valueAt levels)) (ruled 1 variantRule >>= variantOf (valueAt levels)) s at
-    (then-ends (λ m. steadily (after-mask (valueAt levels) h m)) s (le-add-right at 1) u (ruled-ends 1 maskRule s at hi l u))
-    (then-ends (λ b. steadily (after-first (valueAt levels) h b)) s (le-add-right at 1) u (ruled-ends 1 variantRule s at hi l u))
+    (then-ends (λ m. steadily (after-mask (valueAt levels) h m)) s (le-add-right at 1) u (ruled-ends 1 maskRule mask-fair s at hi l u))
+    (then-ends (λ b. steadily (after-first (valueAt levels) h b)) s (le-add-right at 1) u (ruled-ends 1 variantRule variant-fair s at hi l u))
 
 -- a fixed-width element of RawData is steady too
 pub raw-steady : (t : ℕ) → Steady (rawAt t)

@@ -2,6 +2,7 @@ pub mod Facts
 pub mod Numbers
 pub mod Reading
 pub mod Steady
+pub mod Frontal
 pub mod Places
 pub mod Each
 pub mod Table

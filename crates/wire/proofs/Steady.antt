@@ -6,7 +6,7 @@ use mathlib.Core.Bool.{Bool, true, false, cond}
 use mathlib.Core.List.{List}
 use Prim.Native.Nat.{ℕ, zero, suc, _+_, _*_, _<_, _≤_}
 use native.Mathlib.Omega.{arith}
-use native.Mathlib.Nat.{le-refl, le-trans, le-add-right, le-add-left, add-zero}
+use native.Mathlib.Nat.{le-refl, le-trans, le-add-right, le-add-left, add-zero, zero-add}
 use borrow.Author.Tests.{leb-true, leb-false, eqb-false}
 use lib.Dec.{leb, eqb}
 use lib.ListN.{length, getD}
@@ -35,9 +35,26 @@ pub data Follows {A : Type 0} (d n ls ls′ : ℕ) : Answer A → Answer A → T
   short : {p : ℕ} {y : Answer A} → n + (d + n) < ls + ls′ → Follows d n ls ls′ (refused 1 p) y
   lost : {k p : ℕ} {y : Answer A} → n < ls → Follows d n ls ls′ (refused k p) y
 
+-- f is the front of s and of s′, which are equally long
+pub record Fronts (f s s′ : List ℕ) : Type 0 where
+  pub one : Part 0 (length f) f s
+  pub other : Part 0 (length f) f s′
+  pub long : length s ≡ length s′
+
+-- the item at p was passed: what comes after it ends behind p, and where it is cut short, that is behind p
+pub data Passed {A : Type 0} (p : ℕ) : Answer A → Type 0 where
+  on : {a : A} {next : ℕ} → p < next → Passed p (got a next)
+  faulty : {k q : ℕ} → (k ≡ 1 → p < q) → Passed p (refused k q)
+
+-- What a front tells of two wholes: all three answer the same; or the front ends in the item at p, which fits in both wholes.
+pub data Fronted {A : Type 0} : Answer A → Answer A → Answer A → Type 0 where
+  alike : {x : Answer A} → Fronted x x x
+  ends : {p : ℕ} {y z : Answer A} → Passed p y → Passed p z → Fronted (refused 1 p) y z
+
 pub record Steady {A : Type 0} (r : Reader A) : Type 0 where
   pub within : (s : List ℕ) (at hi : ℕ) → at ≤ hi → length s ≤ hi → Ends at at hi (r s at)
   pub follows : (d n : ℕ) (s s′ : List ℕ) → Part d n s s′ → (at q : ℕ) → q ≡ d + at → Follows d n (length s) (length s′) (r s at) (r s′ q)
+  pub fronts : (f s s′ : List ℕ) → Fronts f s s′ → (at : ℕ) → at ≤ length f → Fronted (r f at) (r s at) (r s′ at)
 
 -- lower bounds hold too
 ends-from : {A : Type 0} {p p′ lo lo′ hi : ℕ} {x : Answer A} → p ≤ p′ → lo ≤ lo′ → Ends p′ lo′ hi x → Ends p lo hi x
@@ -47,12 +64,23 @@ ends-from g h (stopped k l u) = stopped k (le-trans g l) u
 -- nothing read
 
 pub pure-steady : {A : Type 0} (a : A) → Steady (pure a)
-pure-steady a = record { within = λ s at hi l u. ended (le-refl at) l; follows = λ d n s s′ part at q e. moved e }
+pure-steady a = record {
+  within = λ s at hi l u. ended (le-refl at) l;
+  follows = λ d n s s′ part at q e. moved e;
+  fronts = λ f s s′ front at l. alike;
+}
 
 pub refuse-steady : {A : Type 0} (n : ℕ) → 1 ≤ n → Steady (refuse {A = A} n)
-refuse-steady n h = record { within = λ s at hi l u. stopped h (le-refl at) l; follows = λ d n s s′ part at q e. stays e }
+refuse-steady n h = record {
+  within = λ s at hi l u. stopped h (le-refl at) l;
+  follows = λ d n s s′ part at q e. stays e;
+  fronts = λ f s s′ front at l. alike;
+}
 
 -- an item
+
+neither : {A : Type 0} {m n : ℕ} → m ≤ n → n < m → A
+neither {m = m} {n} h l = absurd (omega (arith, h, l))
 
 -- f tells of the w bytes from a position on only
 abbrev pub Local : {A : Type 0} → ℕ → (List ℕ → ℕ → A) → Type 0
@@ -71,7 +99,11 @@ taking-ends w f s at hi l u = go (leb (at + w) (length s)) refl
 
 taking-steady : {A : Type 0} (w : ℕ) (f : List ℕ → ℕ → A) → Local w f → Steady (taking w f)
 taking-steady {A} w f local =
-    record { within = λ s at hi l u. ends-from (le-refl at) (le-add-right at w) (taking-ends w f s at hi l u); follows = walk }
+    record {
+      within = λ s at hi l u. ends-from (le-refl at) (le-add-right at w) (taking-ends w f s at hi l u);
+      follows = walk;
+      fronts = λ g s s′ front at l. shown g s s′ front at l (leb (at + w) (length g)) (leb (at + w) (length s)) (leb (at + w) (length s′)) refl refl refl;
+    }
   where
     both : (d n : ℕ) (s s′ : List ℕ) → Part d n s s′ → (at q : ℕ) → q ≡ d + at → at + w ≤ length s
         → (b : Bool) → leb (at + w) n ≡ b → Follows d n (length s) (length s′) (got (f s at) (at + w)) (got (f s′ q) (q + w))
@@ -98,6 +130,32 @@ taking-steady {A} w f local =
         short (omega arith)
     go d n s s′ part at q e false false i j = stays e
 
+    read-in : (g s : List ℕ) → Part 0 (length g) g s → (at : ℕ) → at + w ≤ length g → f s at ≡ f g at
+    read-in g s part at h = local g s at at (λ j l. ap (λ (x : ℕ). getD s x 0) (sym (zero-add (at + j))) ∙ part .same (at + j) (omega arith))
+
+    shown : (g s s′ : List ℕ) → Fronts g s s′ → (at : ℕ) → at ≤ length g
+        → (b b₁ b₂ : Bool) → leb (at + w) (length g) ≡ b → leb (at + w) (length s) ≡ b₁ → leb (at + w) (length s′) ≡ b₂
+        → Fronted (cond b (got (f g at) (at + w)) (refused 1 at)) (cond b₁ (got (f s at) (at + w)) (refused 1 at)) (cond b₂ (got (f s′ at) (at + w)) (refused 1 at))
+    shown g s s′ front at l true true true i i₁ i₂ =
+        let h : at + w ≤ length g = leb-true _ _ i in
+        subst (λ (x : A). Fronted (got (f g at) (at + w)) (got x (at + w)) (got (f s′ at) (at + w))) (sym (read-in g s (front .one) at h))
+        (subst (λ (x : A). Fronted (got (f g at) (at + w)) (got (f g at) (at + w)) (got x (at + w))) (sym (read-in g s′ (front .other) at h)) alike)
+    shown g s s′ front at l true true false i i₁ i₂ =
+        neither (subst (λ (x : ℕ). at + w ≤ x) (front .long) (leb-true _ _ i₁)) (leb-false _ _ i₂)
+    shown g s s′ front at l true false b₂ i i₁ i₂ =
+        let h : at + w ≤ length g = leb-true _ _ i in
+        let k : at + w ≤ length s = omega (arith, h, front .one .second) in
+        neither k (leb-false _ _ i₁)
+    shown g s s′ front at l false true true i i₁ i₂ =
+        let h : length g < at + w = leb-false _ _ i in
+        let k : at < at + w = omega (arith, h, l) in
+        ends (on k) (on k)
+    shown g s s′ front at l false true false i i₁ i₂ =
+        neither (subst (λ (x : ℕ). at + w ≤ x) (front .long) (leb-true _ _ i₁)) (leb-false _ _ i₂)
+    shown g s s′ front at l false false true i i₁ i₂ =
+        neither (subst (λ (x : ℕ). at + w ≤ x) (sym (front .long)) (leb-true _ _ i₂)) (leb-false _ _ i₁)
+    shown g s s′ front at l false false false i i₁ i₂ = alike
+
     walk : (d n : ℕ) (s s′ : List ℕ) → Part d n s s′ → (at q : ℕ) → q ≡ d + at → Follows d n (length s) (length s′) (taking w f s at) (taking w f s′ q)
     walk d n s s′ part at q e = go d n s s′ part at q e (leb (at + w) (length s)) (leb (q + w) (length s′)) refl refl
 
@@ -123,24 +181,40 @@ run-steady n = taking-steady n (λ s at. n) (λ s s′ at q h. refl)
 
 -- joined readers
 
--- what comes after an item at p, and may refuse there
+-- a refusal by 1 stands at lo or behind it
+abbrev pub ShortFrom : {A : Type 0} → ℕ → Answer A → Type 0
+ShortFrom lo (got a next) = Unit {0}
+ShortFrom lo (refused k q) = k ≡ 1 → lo ≤ q
+
+-- what comes after an item at p, and may refuse there, but not by 1
 pub record Onward {A : Type 0} (k : ℕ → Reader A) : Type 0 where
   pub within : (s : List ℕ) (p at hi : ℕ) → p ≤ at → at ≤ hi → length s ≤ hi → Ends p at hi (k p s at)
   pub follows : (d n : ℕ) (s s′ : List ℕ) → Part d n s s′ → (p p′ at q : ℕ) → p′ ≡ d + p → q ≡ d + at
       → Follows d n (length s) (length s′) (k p s at) (k p′ s′ q)
+  pub fronts : (f s s′ : List ℕ) → Fronts f s s′ → (p at : ℕ) → at ≤ length f → Fronted (k p f at) (k p s at) (k p s′ at)
+  shorts : (s : List ℕ) (p at : ℕ) → ShortFrom at (k p s at)
+
+-- a refusal of a steady reader stands where it starts or behind
+short-from : {A : Type 0} {at hi : ℕ} {x : Answer A} → Ends at at hi x → ShortFrom at x
+short-from (ended l u) = tt
+short-from (stopped i l u) = λ e. l
 
 -- a steady reader, wherever the item stood
 pub steadily : {A : Type 0} {r : Reader A} → Steady r → Onward (λ p. r)
 steadily f = record {
   within = λ s p at hi l u v. ends-from l (le-refl at) (f .within s at hi u v);
   follows = λ d n s s′ part p p′ at q i e. f .follows d n s s′ part at q e;
+  fronts = λ g s s′ front p at l. f .fronts g s s′ front at l;
+  shorts = λ s p at. short-from (f .within s at (at + length s) (le-add-right at (length s)) (le-add-left (length s) at));
 }
 
--- a refusal of the item
-pub refusing : {A : Type 0} (n : ℕ) → 1 ≤ n → Onward {A = A} (λ p s at. refused n p)
+-- a refusal of the item, by no 1
+pub refusing : {A : Type 0} (n : ℕ) → 2 ≤ n → Onward {A = A} (λ p s at. refused n p)
 refusing n h = record {
-  within = λ s p at hi l u v. stopped h (le-refl p) (le-trans l u);
+  within = λ s p at hi l u v. stopped (le-trans (omega arith) h) (le-refl p) (le-trans l u);
   follows = λ d n s s′ part p p′ at q i e. stays i;
+  fronts = λ f s s′ front p at l. alike;
+  shorts = λ s p at e. neither h (subst (λ (x : ℕ). x < 2) (sym e) (omega arith));
 }
 
 pub cond-onward : {A : Type 0} (b : Bool) {x y : ℕ → Reader A} → (b ≡ true → Onward x) → (b ≡ false → Onward y) → Onward (λ p s at. cond b (x p s at) (y p s at))
@@ -167,29 +241,67 @@ module _ {A B : Type 0} {k : A → ℕ → Reader B} (h : (a : A) → Onward (k 
   then-follows d n s′ part at q e m (short l) = short l
   then-follows d n s′ part at q e m (lost l) = lost l
 
+-- what comes after an item that was passed has passed it too
+then-passed : {A B : Type 0} {k : A → ℕ → Reader B} (h : (a : A) → Onward (k a)) (s : List ℕ) {at p : ℕ} {y : Answer A}
+    → Ends at at (at + length s) y → Passed p y → Passed p (andThen y (λ a next. k a at s next))
+then-passed {k = k} h s {at} {p} (ended {a} {next} l u) (on m) =
+    behind (h a .within s at next (next + length s) l (le-add-right next (length s)) (le-add-left (length s) next)) (h a .shorts s at next)
+  where
+    behind : {B : Type 0} {x : Answer B} → Ends at next (next + length s) x → ShortFrom next x → Passed p x
+    behind (ended i j) z = on (le-trans m i)
+    behind (stopped g i j) z = faulty (λ e. le-trans m (z e))
+then-passed h s w (faulty g) = faulty g
+
+then-fronted : {A B : Type 0} {k : A → ℕ → Reader B} (h : (a : A) → Onward (k a)) (f s s′ : List ℕ) → Fronts f s s′ → (at : ℕ)
+    → {x y z : Answer A} → Ends at at (length f) x → Ends at at (at + length s) y → Ends at at (at + length s′) z → Fronted x y z
+    → Fronted (andThen x (λ a next. k a at f next)) (andThen y (λ a next. k a at s next)) (andThen z (λ a next. k a at s′ next))
+then-fronted h f s s′ front at (ended {a} {next} l u) w w′ alike = h a .fronts f s s′ front at next u
+then-fronted h f s s′ front at (stopped i l u) w w′ alike = alike
+then-fronted h f s s′ front at v w w′ (ends i j) = ends (then-passed h s w i) (then-passed h s′ w′ j)
+
 pub onward-steady : {A B : Type 0} {r : Reader A} {k : A → ℕ → Reader B} → Steady r → ((a : A) → Onward (k a)) → Steady (λ s at. andThen (r s at) (λ a next. k a at s next))
 onward-steady f h = record {
   within = λ s at hi l u. then-ends h s (le-refl at) u (f .within s at hi l u);
   follows = λ d n s s′ part at q e. then-follows h s d n s′ part at q e (f .within s at (at + length s) (le-add-right at (length s)) (le-add-left (length s) at)) (f .follows d n s s′ part at q e);
+  fronts = λ g s s′ front at l.
+      then-fronted h g s s′ front at (f .within g at (length g) l (le-refl (length g)))
+      (f .within s at (at + length s) (le-add-right at (length s)) (le-add-left (length s) at))
+      (f .within s′ at (at + length s′) (le-add-right at (length s′)) (le-add-left (length s′) at)) (f .fronts g s s′ front at l);
 }
 
 le-of-ne-zero : (n : ℕ) → (n ≡ 0 → ⊥) → 1 ≤ n
 le-of-ne-zero n h = omega arith
 
-ruling : (w : ℕ) (rule : ℕ → ℕ) (v : ℕ) → Onward (λ p s at. cond (eqb (rule v) 0) (got v at) (refused (rule v) p))
-ruling w rule v =
+-- no number of a rule is 1, which says that an item does not fit
+abbrev pub Fair : ℕ → Type 0
+Fair n = n ≡ 1 → ⊥
+
+pub fair-cond : (b : Bool) {x y : ℕ} → Fair x → Fair y → Fair (cond b x y)
+fair-cond true f h = f
+fair-cond false f h = h
+
+pub fair : (n : ℕ) → eqb n 1 ≡ false → Fair n
+fair n e = eqb-false n 1 e
+
+pub two-of-fair : (n : ℕ) → 1 ≤ n → Fair n → 2 ≤ n
+two-of-fair zero h f = neither h (omega arith)
+two-of-fair (suc zero) h f = absurd (f refl)
+two-of-fair (suc (suc n)) h f = omega arith
+
+ruling : (w : ℕ) (rule : ℕ → ℕ) → ((v : ℕ) → Fair (rule v)) → (v : ℕ) → Onward (λ p s at. cond (eqb (rule v) 0) (got v at) (refused (rule v) p))
+ruling w rule no-one v =
     cond-onward (eqb (rule v) 0) (λ e. steadily (pure-steady v))
-    (λ e. refusing (rule v) (le-of-ne-zero (rule v) (eqb-false (rule v) 0 e)))
+    (λ e. refusing (rule v) (two-of-fair (rule v) (le-of-ne-zero (rule v) (eqb-false (rule v) 0 e)) (no-one v)))
 
 pub bind-steady : {A B : Type 0} {r : Reader A} {k : A → Reader B} → Steady r → ((a : A) → Steady (k a)) → Steady (r >>= k)
 bind-steady f h = onward-steady f (λ a. steadily (h a))
 
 -- an item and its rules
-pub ruled-ends : (w : ℕ) (rule : ℕ → ℕ) (s : List ℕ) (at hi : ℕ) → at ≤ hi → length s ≤ hi → Ends at (at + w) hi (ruled w rule s at)
-ruled-ends w rule s at hi l u = then-ends (ruling w rule) s (le-add-right at w) u (taking-ends w (le w) s at hi l u)
+pub ruled-ends : (w : ℕ) (rule : ℕ → ℕ) → ((v : ℕ) → Fair (rule v)) → (s : List ℕ) (at hi : ℕ) → at ≤ hi → length s ≤ hi → Ends at (at + w) hi (ruled w rule s at)
+ruled-ends w rule no-one s at hi l u = then-ends (ruling w rule no-one) s (le-add-right at w) u (taking-ends w (le w) s at hi l u)
 
-pub ruled-steady : (w : ℕ) (rule : ℕ → ℕ) → Steady (ruled w rule)
-ruled-steady w rule = onward-steady (item-steady w) (ruling w rule)
+pub ruled-steady : (w : ℕ) (rule : ℕ → ℕ) → ((v : ℕ) → Fair (rule v)) → Steady (ruled w rule)
+ruled-steady w rule no-one = onward-steady (item-steady w) (ruling w rule no-one)
 
 pub then-steady : {A B : Type 0} {r : Reader A} {k : Reader B} → Steady r → Steady k → Steady (r >> k)
 then-steady f h = bind-steady f (λ a. h)

@@ -2,6 +2,7 @@
 use uadp_comparison::generate::{chunk_bytes, variant, EnvelopeSpec, MessageSpec, Random, FIXED};
 use uadp_comparison::record;
 use uadp_comparison::reference::config::Config;
+use uadp_comparison::reference::reassembly::{KeptId, Record};
 
 /// A datagram with the configuration that it is read under.
 pub struct Input {
@@ -184,6 +185,32 @@ pub fn marks(length: usize, missing: Option<usize>) -> (Vec<u8>, usize) {
         marks[at / 8] |= 1 << (at % 8);
     }
     (marks, length)
+}
+
+/// A message of 16,384 bytes of which some are missing: as many holes of so many bytes, from byte 8,000 on and each 8 bytes after the last.
+#[derive(Clone)]
+pub struct Ping {
+    pub record: Vec<u8>,
+    pub payload: Vec<u8>,
+    pub marks: Vec<u8>,
+}
+
+/// 1,000 settings of 5 bytes, and a column that takes the rest.
+pub fn ping(holes: usize, length: usize) -> Ping {
+    let mut payload = vec![1];
+    payload.extend(1_001_u16.to_le_bytes());
+    (0..1_000_u32).for_each(|k| payload.extend([&[7][..], &k.to_le_bytes()].concat()));
+    payload.push(15);
+    payload.extend(((TOTAL - payload.len() - 4) as u32).to_le_bytes());
+    payload.resize(TOTAL, 9);
+    let mut marks = vec![0xff_u8; TOTAL / 8];
+    for at in (0..holes).flat_map(|hole| 8_000 + 8 * hole..8_000 + 8 * hole + length) {
+        marks[at / 8] &= !(1 << (at % 8));
+    }
+    let covered = marks.iter().map(|byte| u64::from(byte.count_ones())).sum();
+    let publisher = KeptId::UInt16(4711);
+    let record = Record { publisher, group: None, writer: 21, number: 7, total: TOTAL as u64, covered };
+    Ping { record: record::partial(&record), payload, marks }
 }
 
 pub const TOTAL: usize = 16_384;

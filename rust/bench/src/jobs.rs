@@ -1,12 +1,12 @@
 //! What is done with the inputs, by the library and in tuned Rust. Both sides of a pair answer a number that has to be the same.
 use crate::by_one;
-use crate::inputs::{Input, TOTAL};
+use crate::inputs::{Input, Ping, TOTAL};
 use std::hint::black_box;
 use uadp::ffi;
 use uadp_comparison::record::{self, number};
 use uadp_comparison::reference::config::Config;
-use uadp_comparison::reference::network;
 use uadp_comparison::reference::reassembly::{Partial, Record};
+use uadp_comparison::reference::{message, network};
 use uadp_comparison::tuned;
 
 /// What one call does.
@@ -281,6 +281,42 @@ pub fn marks_by_one((marks, length): (Vec<u8>, usize)) -> Pair {
 pub fn marks((marks, length): (Vec<u8>, usize)) -> Pair {
     let same = marks.clone();
     Pair::new(move || by_one::by_eight_bytes(black_box(&marks), length), move || tuned::count_marked(black_box(&same), length))
+}
+
+/// What came of a message: holes by the marks' eight bytes at a time, fields one after the other.
+fn salvage_in_rust(ping: &Ping, entries: &mut Vec<[u64; record::FIELD_SIZE / 8]>) -> u64 {
+    entries.clear();
+    let mut start = None;
+    for (word, eight) in ping.marks.chunks_exact(8).enumerate() {
+        let mut changes = u64::from_le_bytes(eight.try_into().unwrap_or_default());
+        changes ^= changes << 1 | u64::from(start.is_none());
+        while changes != 0 {
+            let at = 64 * word + changes.trailing_zeros() as usize;
+            changes &= changes - 1;
+            match start.take() {
+                None => start = Some(at),
+                Some(from) => entries.push([0, 0, 0, 0, from as u64, (at - from) as u64, 0, 0]),
+            }
+        }
+    }
+    entries.extend(start.map(|from| [0, 0, 0, 0, from as u64, (TOTAL - from) as u64, 0, 0]));
+    let front = entries.first().map_or(TOTAL, |hole| hole[4] as usize);
+    let Ok(Some(message)) = message::front(&ping.payload[..front], &[]) else { return 0 };
+    entries.extend(message.walk(&ping.payload[..front], &[]).map(|field| record::field(&field)));
+    entries.len() as u64
+}
+
+/// A message with holes salvaged.
+pub fn salvage(ping: Ping) -> Pair {
+    let (mut told, mut list, other) = ([0; record::SALVAGE_SIZE], vec![0; record::FIELD_SIZE * TOTAL], ping.clone());
+    let ours = move || ffi::salvage(black_box(&ping.record), &ping.payload, &ping.marks, &[], &mut told, &mut list).value();
+    let mut entries = Vec::with_capacity(TOTAL);
+    let rust = move || {
+        let count = salvage_in_rust(black_box(&other), &mut entries);
+        black_box(&entries);
+        count
+    };
+    Pair::new(ours, rust)
 }
 
 /// A complete message handed out.

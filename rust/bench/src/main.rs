@@ -59,6 +59,11 @@ fn tables() -> Vec<Table> {
         row("16,384 bytes combined into empty", inputs::chunk_datagrams, |datagrams| jobs::combine(datagrams, true)),
         row("16,384 bytes combined into the same", inputs::chunk_datagrams, |datagrams| jobs::combine(datagrams, false)),
     ];
+    let salvage = vec![
+        row("16,384 bytes salvaged, no hole", || inputs::ping(0, 0), jobs::salvage),
+        row("16,384 bytes salvaged, one hole", || inputs::ping(1, 1_000), jobs::salvage),
+        row("16,384 bytes salvaged, 1,000 holes", || inputs::ping(1_000, 1), jobs::salvage),
+    ];
     vec![
         ("Walking in one call", RUST, each("walk", jobs::walk)),
         ("Listing", RUST, each("list", jobs::list)),
@@ -73,6 +78,7 @@ fn tables() -> Vec<Table> {
         ("Configuration, chunks", RUST, chunks),
         ("Marks, beside Rust", RUST, marks("count", jobs::marks)),
         ("Marks, beside one after another", "one by one", marks("count, one by one", jobs::marks_by_one)),
+        ("Salvaging", RUST, salvage),
         ("Growth with the length", RUST, growth.collect()),
     ]
 }

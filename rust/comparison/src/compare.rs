@@ -2,6 +2,7 @@
 mod histories;
 mod probes;
 mod reading;
+mod salvage;
 mod typed;
 mod values;
 mod writing;
@@ -16,6 +17,7 @@ use uadp::ffi::Answer;
 pub use histories::{cut, every_newness, history, newness};
 pub use probes::{made_up_probe_cursor, put_probe};
 pub use reading::{config, datagram, every_flag, made_up_field_cursor, made_up_message_cursor, next_message_of};
+pub use salvage::salvage;
 pub use typed::{reassembled, typed};
 pub use values::{chunks, put_value, value};
 pub use writing::{write_datagram, write_message};

@@ -17,7 +17,7 @@ const SHARES: usize = 256;
 type Compare = fn(&mut Tally, &mut Random);
 
 /// The kinds of case, and how often each is drawn.
-const KINDS: [(Compare, usize); 15] = [
+const KINDS: [(Compare, usize); 16] = [
     (compare::config, 12),
     (compare::datagram, 40),
     (compare::made_up_field_cursor, 5),
@@ -27,6 +27,7 @@ const KINDS: [(Compare, usize); 15] = [
     (compare::write_datagram, 14),
     (compare::write_message, 14),
     (compare::history, 8),
+    (compare::salvage, 2),
     (compare::cut, 2),
     (compare::typed, 10),
     (compare::value, 16),

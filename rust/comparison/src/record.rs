@@ -6,6 +6,7 @@ use crate::reference::network::{Envelope, Group, MessagePlace, PayloadHeader, Pu
 use crate::reference::network_writer::{HeaderPart, Parts};
 use crate::reference::probe::{self, Probe};
 use crate::reference::reassembly::{KeptId, Record};
+use crate::reference::salvage::Salvage;
 use crate::reference::told::{Name, Told};
 use crate::reference::value::Shape;
 use crate::reference::Result;
@@ -21,6 +22,7 @@ pub const CHUNK_SIZE: usize = 128;
 pub const PROBE_SIZE: usize = 128;
 pub const PROBE_ITEM_SIZE: usize = 32;
 pub const PARTIAL_SIZE: usize = 144;
+pub const SALVAGE_SIZE: usize = 64;
 pub const SEQUENCE_SIZE: usize = 16;
 pub const NO_WRITER: u32 = 65_536;
 
@@ -500,4 +502,17 @@ pub fn probe_parts<'a>(record: &[u8], list: &'a [u8]) -> probe::Parts<'a> {
         data_set_writers: byte(6),
     };
     probe::Parts { probe, list, all_fit: fits && counted }
+}
+
+/// A salvage record, of a message of so many bytes.
+pub fn salvage(salvage: &Salvage, total: usize) -> [u64; SALVAGE_SIZE / 8] {
+    let (known, promised) = salvage.promised.map_or((0, 0), |promised| (1, promised as u64));
+    let (holes, fields) = (salvage.holes.len() as u64, salvage.fields.len() as u64);
+    [holes, fields, known, promised, salvage.front as u64, total as u64, encoding_number(salvage.encoding), 0]
+}
+
+/// The entries of its list: the holes, then the fields.
+pub fn salvaged(salvage: &Salvage) -> Vec<[u64; FIELD_SIZE / 8]> {
+    let hole = |(offset, length): &(usize, usize)| [0, 0, 0, 0, *offset as u64, *length as u64, 0, 0];
+    salvage.holes.iter().map(hole).chain(salvage.fields.iter().map(field)).collect()
 }

@@ -28,6 +28,8 @@ pub const PROBE_SIZE: usize = 128;
 pub const PROBE_ITEM_SIZE: usize = 32;
 /// Bytes of a partial's record.
 pub const PARTIAL_SIZE: usize = 144;
+/// Bytes of a salvage record; an entry of its list has those of a field record.
+pub const SALVAGE_SIZE: usize = 64;
 /// Bytes of the record of the last sequence number.
 pub const SEQUENCE_SIZE: usize = 16;
 /// The DataSetWriterId, or sequence number, that stands for none.
@@ -132,6 +134,11 @@ mod raw {
         pub fn uadp_hand_out(
             record: *const u8, record_length: usize, payload: *const u8, payload_length: usize, marks: *const u8,
             marks_length: usize,
+        ) -> u64;
+        pub fn uadp_salvage(
+            record: *const u8, record_length: usize, payload: *const u8, payload_length: usize, marks: *const u8,
+            marks_length: usize, config: *const u8, config_length: usize, told: *mut u8, told_length: usize, list: *mut u8,
+            list_length: usize,
         ) -> u64;
         pub fn uadp_cut(
             payload: *const u8, payload_length: usize, number: u16, size: u64, k: u64, out: *mut u8, out_length: usize,
@@ -420,6 +427,27 @@ pub fn progress(record: &[u8], payload: &[u8], marks: &[u8]) -> Answer {
 /// Value: how many bytes at the payload area's start are the complete payload.
 pub fn hand_out(record: &[u8], payload: &[u8], marks: &[u8]) -> Answer {
     Answer(unsafe { raw::uadp_hand_out(lent(record), record.len(), lent(payload), payload.len(), lent(marks), marks.len()) })
+}
+
+/// Salvages what came of a message: a salvage record, and a field record for each hole and then for each field that is whole. Value: how
+/// many these are.
+pub fn salvage(record: &[u8], payload: &[u8], marks: &[u8], config: &[u8], told: &mut [u8], list: &mut [u8]) -> Answer {
+    Answer(unsafe {
+        raw::uadp_salvage(
+            lent(record),
+            record.len(),
+            lent(payload),
+            payload.len(),
+            lent(marks),
+            marks.len(),
+            lent(config),
+            config.len(),
+            lent_mut(told),
+            told.len(),
+            lent_mut(list),
+            list.len(),
+        )
+    })
 }
 
 /// Writes chunk k of a payload. Value: how many bytes.

@@ -36,6 +36,7 @@
 //! | list a datagram as text | [`list`] |
 //! | tell a field's value apart | [`Field::value`], [`Value`] |
 //! | reassemble chunks | [`Partial`], [`Chunk`] |
+//! | save what came of a message that never completes | [`Partial::salvage`], [`Salvage`] |
 //! | tell whether a message is newer than the last | [`LastSequence`] |
 //! | write a message and the datagram around it | [`MessageBuilder`], [`Values`], [`DatagramBuilder`] |
 //! | cut a large message into chunks | [`Chunks`] |
@@ -62,6 +63,7 @@ mod partial;
 mod probe;
 mod record;
 mod refusal;
+pub mod salvage;
 mod sequence;
 mod told;
 mod value;
@@ -75,6 +77,7 @@ pub use message::{Encoding, Field, Fields, Kind, Message};
 pub use partial::{marks_size, Chunk, Partial};
 pub use probe::{Information, Probe, ProbeBuilder, ProbeIds, ProbeStrings, Strings};
 pub use refusal::{Reason, Refusal};
+pub use salvage::{Hole, Salvage};
 pub use sequence::{LastSequence, Newness};
 pub use told::{LocalizedText, QualifiedName, Value};
 pub use value::{Shape, Type, Values};

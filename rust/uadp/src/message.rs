@@ -217,7 +217,7 @@ impl<'a> Field<'a> {
         Value::read(self.bytes, self.encoding, self.value_type)
     }
 
-    fn of(message: &'a [u8], encoding: Encoding, record: &[u8]) -> Self {
+    pub(crate) fn of(message: &'a [u8], encoding: Encoding, record: &[u8]) -> Self {
         let offset = place(record, field::OFFSET);
         Self {
             index: place(record, field::INDEX),

@@ -1,7 +1,8 @@
 //! Reassembly of a message that travels in chunks.
 use crate::ffi::{self, CHUNK_SIZE, PARTIAL_SIZE};
 use crate::record::{chunk, number, partial, place};
-use crate::{Config, MessagePart, PublisherId, Refusal, MOST_PUBLISHER_TEXT};
+use crate::salvage::Entry;
+use crate::{Config, MessagePart, PublisherId, Refusal, Salvage, MOST_PUBLISHER_TEXT};
 use core::fmt;
 
 /// How long the marks area beside a payload area of so many bytes has to be: one eighth, rounded up.
@@ -170,6 +171,19 @@ impl<P: AsRef<[u8]>, M: AsRef<[u8]>> Partial<P, M> {
     /// As [`hand_out`](Self::hand_out).
     pub fn message<'a>(&'a self, config: &'a Config) -> Result<MessagePart<'a>, Refusal> {
         Ok(MessagePart::alone(self.hand_out()?, config, self.writer()))
+    }
+
+    /// What came of a message that is not complete, and may never be: its holes, and its leading fields that are whole. The room is for
+    /// an entry for each.
+    ///
+    /// # Errors
+    ///
+    /// - [`Unsound`](crate::Reason::Unsound) as in [`is_complete`](Self::is_complete).
+    /// - What [`MessagePart::read`] refuses, as far as the bytes before the first hole show it; the complete message would be refused
+    ///   alike.
+    /// - [`NoRoom`](crate::Reason::NoRoom).
+    pub fn salvage<'r>(&self, config: &Config, room: &'r mut [Entry]) -> Result<Salvage<'_, 'r>, Refusal> {
+        Salvage::of([&self.record, self.payload.as_ref(), self.marks.as_ref()], config, room)
     }
 }
 

@@ -210,3 +210,14 @@ pub mod probe_item {
     pub const LENGTH: usize = 2;
     pub const VALUE: usize = 3;
 }
+
+/// Numbers of a salvage record.
+pub mod salvage {
+    pub const HOLES: usize = 0;
+    pub const FIELDS: usize = 1;
+    pub const COUNT_KNOWN: usize = 2;
+    pub const PROMISED: usize = 3;
+    pub const FRONT: usize = 4;
+    pub const TOTAL: usize = 5;
+    pub const ENCODING: usize = 6;
+}

@@ -184,10 +184,14 @@ impl Cursor {
         if self.next >= self.count {
             return Err(Number::OverLimit.nowhere());
         }
-        let mut reader = Reader::starting_at(message, self.at);
+        self.step_in(&mut Reader::starting_at(message, self.at), types)
+    }
+
+    /// The field that the reader stands before.
+    pub(crate) fn step_in(self, reader: &mut Reader, types: &[u8]) -> Result<(Field, Self)> {
         let index = if self.indexed { usize::from(reader.u16()?) } else { self.next };
         let offset = reader.position();
-        let value = field_value(&mut reader, self.encoding, types.get(self.next).copied())?;
+        let value = field_value(reader, self.encoding, types.get(self.next).copied())?;
         let at = reader.position();
         Ok((Field { value, index, offset, length: at - offset }, Self { next: self.next + 1, at, ..self }))
     }

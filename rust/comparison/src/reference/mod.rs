@@ -8,6 +8,7 @@ pub mod network;
 pub mod network_writer;
 pub mod probe;
 pub mod reassembly;
+pub mod salvage;
 pub mod sequence;
 pub mod told;
 pub mod value;
@@ -38,6 +39,8 @@ pub enum Number {
     ByteDiffers = 14,
     NotComplete = 15,
     BadLine = 16,
+    /// Not given back: an item reaches a hole.
+    Hole = 17,
 }
 
 /// A refusal: its number and the first byte of the offending item (the line for a bad configuration line).

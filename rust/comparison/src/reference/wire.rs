@@ -6,15 +6,22 @@ use super::{Number, Result};
 pub struct Reader<'a> {
     bytes: &'a [u8],
     at: usize,
+    /// Where the first hole starts; an item that reaches it ends the reading.
+    front: usize,
 }
 
 impl<'a> Reader<'a> {
     pub const fn new(bytes: &'a [u8]) -> Self {
-        Self { bytes, at: 0 }
+        Self::starting_at(bytes, 0)
     }
 
     pub const fn starting_at(bytes: &'a [u8], at: usize) -> Self {
-        Self { bytes, at }
+        Self { bytes, at, front: usize::MAX }
+    }
+
+    /// Of bytes that have their first hole at a position.
+    pub const fn up_to(bytes: &'a [u8], front: usize) -> Self {
+        Self { bytes, at: 0, front }
     }
 
     pub const fn position(&self) -> usize {
@@ -26,16 +33,28 @@ impl<'a> Reader<'a> {
         self.bytes.get(self.at..).unwrap_or(&[])
     }
 
+    /// What is left before the first hole.
+    pub fn covered_rest(&self) -> &'a [u8] {
+        self.bytes.get(self.at..self.front).unwrap_or(&[])
+    }
+
+    /// An item that fits; it must not reach the hole.
+    fn pass(&mut self, length: usize) -> Result<()> {
+        if self.at + length > self.front {
+            return Err(Number::Hole.at(self.at));
+        }
+        self.at += length;
+        Ok(())
+    }
+
     pub fn take(&mut self, length: usize) -> Result<&'a [u8]> {
         let item = self.rest().get(..length).ok_or(Number::CutShort.at(self.at))?;
-        self.at += length;
-        Ok(item)
+        self.pass(length).map(|()| item)
     }
 
     pub fn array<const N: usize>(&mut self) -> Result<[u8; N]> {
         let item = self.rest().first_chunk().ok_or(Number::CutShort.at(self.at))?;
-        self.at += N;
-        Ok(*item)
+        self.pass(N).map(|()| *item)
     }
 
     pub fn u8(&mut self) -> Result<u8> {

@@ -13,7 +13,7 @@ returns c =
     let at-n = c .before in
     let at-count = at-n .before .before in
     let at-is-raw = at-count .before in
-    rw (sym (at-is-raw .is-raw .ensures), sym (told answerCount (at-count .count .ensures) (at-n .n .given .1)))
+    rw (sym (at-is-raw .is-raw .ensures), sym (told answerCount (at-count .count-to .ensures) (at-n .n .given .1)))
 
 returns-2 : tie.Need-returns-2
 returns-2 c =
@@ -21,7 +21,7 @@ returns-2 c =
     let at-n2 = at-is-delta .before .before in
     let at-count = at-n2 .before .before in
     let at-is-raw = at-count .before in
-    rw (sym (at-is-raw .is-raw .ensures), sym (told answerCount (at-count .count .ensures) (at-n2 .n2 .given .1)), sym (at-is-delta .is-delta .ensures)) (c .finish .ensures)
+    rw (sym (at-is-raw .is-raw .ensures), sym (told answerCount (at-count .count-to .ensures) (at-n2 .n2 .given .1)), sym (at-is-delta .is-delta .ensures)) (c .finish .ensures)
 
 pub read-body-spec : {M : Type 1} → statement M
 read-body-spec =

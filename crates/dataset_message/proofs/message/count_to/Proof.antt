@@ -1,10 +1,10 @@
--- `dataset_message::message::count` meets its contract.
+-- `dataset_message::message::count_to` meets its contract.
 -- Assumes nothing.
 use Prim.Native.Nat.{_-_}
 use borrow.Author.Tests.{le-leb, lt-leb}
 use borrow.Author.Needs.{needs}
-use Rattle.dataset_message.proofs.message.count.Statement.{statement}
-use Rattle.dataset_message.proofs.message.count.Tie as tie
+use Rattle.dataset_message.proofs.message.count_to.Statement.{statement}
+use Rattle.dataset_message.proofs.message.count_to.Tie as tie
 
 returns : tie.Need-returns
 returns c = rw (c .before .enum-told .given .1, le-leb _ _ (c .if1 .taken))
@@ -22,8 +22,8 @@ returns-4 c = rw (c .before .enum-told3 .given .1) (c .counted3 .ensures)
 returns-5 : tie.Need-returns-5
 returns-5 c = rw (c .enum-told4 .given .1)
 
-pub count-spec : {M : Type 1} → statement M
-count-spec =
+pub count-to-spec : {M : Type 1} → statement M
+count-to-spec =
     tie.close
     (tie.spec
     (λ c. search needs)

@@ -1,0 +1,109 @@
+-- The first offset that passes a test. Assumes nothing.
+use Prim.Native.Nat.{ℕ, zero, suc, _+_, _-_, _*_, _/_, _%_, _≤_, _<_}
+use mathlib.Core.Path.{_≡_, refl, sym, ap, _∙_}
+use mathlib.Core.Bool.{Bool, true, false, cond, not, false≢true}
+use mathlib.Core.List.{List}
+use native.Mathlib.Omega.{arith}
+use lib.ListN.{getD}
+use Rattle.wire.proofs.Cases.{by-bool, by-eq, by-lt}
+use Rattle.marks.specs.Offsets.{firstPassing, nextPassing, wanted}
+use Rattle.marks.specs.Marks.{marked}
+use Rattle.marks.specs.Marks.Layout.{byBits}
+use Rattle.marks.proofs.OffsetLaws.{every-all}
+use Rattle.marks.proofs.BitLaws.{digit, digit-none}
+use Rattle.marks.proofs.WholeLaws.{marked-by}
+
+-- what r is: no offset from i up to it passes the test, and r does where it is below n
+pub record Next (f : ℕ → Bool) (n i r : ℕ) : Type 0 where
+  pub from : i ≤ r
+  pub upto : n < r → r ≡ i
+  pub none : (j : ℕ) → i ≤ j → j < r → f j ≡ false
+  pub some : r < n → f r ≡ true
+
+first-next : (f : ℕ → Bool) (n k i : ℕ) → k ≡ n - i → Next f n i (firstPassing f k i)
+unfolding firstPassing
+first-next f n zero i e = record { from = omega arith; upto = λ l. refl; none = λ j l u. absurd (omega arith); some = λ l. absurd (omega arith) }
+first-next f n (suc k) i e =
+    by-bool _ (f i)
+    (λ t. rw t (record { from = omega arith; upto = λ l. refl; none = λ j l u. absurd (omega arith); some = λ l. t }))
+    (λ t. rw t (later t (firstPassing f k (i + 1)) (first-next f n k (i + 1) (omega arith))))
+  where
+    later : f i ≡ false → (r : ℕ) → Next f n (i + 1) r → Next f n i r
+    later t r h = let l = h .from in record {
+      from = omega arith;
+      upto = λ u. let q = h .upto u in absurd (omega arith);
+      none = λ j a b. by-eq _ j i (λ q. rw q t) (λ q. h .none j (omega arith) b);
+      some = h .some;
+    }
+
+pub next-next : (f : ℕ → Bool) (n i : ℕ) → Next f n i (nextPassing f n i)
+next-next f n i = first-next f n (n - i) i refl
+
+-- and there is one only
+one-next : (f : ℕ → Bool) (n i r q : ℕ) → Next f n i r → Next f n i q → r < q → ⊥
+one-next f n i r q h g l =
+    by-lt _ r n (λ u. false≢true (sym (g .none r (h .from) l) ∙ h .some u))
+    (λ u. let a = h .from in let e = g .upto (omega arith) in omega arith)
+
+pub next-is : (f : ℕ → Bool) (n i r : ℕ) → Next f n i r → r ≡ nextPassing f n i
+next-is f n i r h =
+    by-lt _ r (nextPassing f n i) (λ l. absurd (one-next f n i r (nextPassing f n i) h (next-next f n i) l))
+    (λ l. by-lt _ (nextPassing f n i) r (λ u. absurd (one-next f n i (nextPassing f n i) r (next-next f n i) h u)) (λ u. omega arith))
+
+-- ---- a whole byte of marks that are alike
+alike-none : (m : List ℕ) (k j : ℕ) → getD m k 0 ≡ 0 → 8 * k ≤ j → j < 8 * k + 8 → marked byBits m j ≡ false
+alike-none m k j e l u =
+    let q : j / 8 ≡ k = omega arith in
+    marked-by m j ∙ ap (λ (n : ℕ). digit (j % 8) (getD m n 0)) q ∙ ap (digit (j % 8)) e ∙ digit-none (j % 8)
+
+alike-all : (m : List ℕ) (k j : ℕ) → getD m k 0 ≡ 255 → 8 * k ≤ j → j < 8 * k + 8 → marked byBits m j ≡ true
+alike-all m k j e l u =
+    let q : j / 8 ≡ k = omega arith in
+    marked-by m j ∙ ap (λ (n : ℕ). digit (j % 8) (getD m n 0)) q ∙ ap (digit (j % 8)) e ∙ every-all 8 (λ i. digit i 255) refl (j % 8) (omega arith)
+
+pub alike-byte : (m : List ℕ) (i : ℕ) (want : Bool) → i % 8 ≡ 0 → getD m (i / 8) 0 ≡ cond want 0 255 → (j : ℕ) → i ≤ j → j < i + 8
+    → wanted want (marked byBits m j) ≡ false
+alike-byte m i true z e j l u = alike-none m (i / 8) j e (omega arith) (omega arith)
+alike-byte m i false z e j l u = ap not (alike-all m (i / 8) j e (omega arith) (omega arith))
+
+-- one offset alone
+pub alike-one : (f : ℕ → Bool) (i : ℕ) → f i ≡ false → (j : ℕ) → i ≤ j → j < i + 1 → f j ≡ false
+alike-one f i e j l u = let q : j ≡ i = omega arith in rw q e
+
+-- ---- offsets past the area are not marked
+module _ (f : ℕ → Bool) (stop end most : ℕ) (below : stop ≤ end) (full : stop < end → stop ≡ most) (past : (i : ℕ) → most ≤ i → f i ≡ false)
+    (from r : ℕ) where
+  pub next-within : r ≡ nextPassing f stop from → r < stop → r ≡ nextPassing f end from
+  next-within e l = next-is f end from r (go (rw (sym e) at (next-next f stop from)))
+    where
+      go : Next f stop from r → Next f end from r
+      go h = record { from = h .from; upto = λ z. absurd (omega arith); none = h .none; some = λ z. h .some l }
+
+  pub next-past : r ≡ nextPassing f stop from → stop ≤ r → r < end → end ≡ nextPassing f end from
+  next-past e l u = next-is f end from end (go (rw (sym e) at (next-next f stop from)))
+    where
+      go : Next f stop from r → Next f end from end
+      go h = let a = h .from in record {
+        from = omega arith;
+        upto = λ z. absurd (omega arith);
+        none = λ j x y. by-lt _ j r (λ z. h .none j x z) (λ z. let q = full (omega arith) in past j (omega arith));
+        some = λ z. absurd (omega arith);
+      }
+
+  pub next-end : r ≡ nextPassing f stop from → end ≤ r → r ≡ nextPassing f end from
+  next-end e u = next-is f end from r (go (rw (sym e) at (next-next f stop from)))
+    where
+      go : Next f stop from r → Next f end from r
+      go h = record { from = h .from; upto = λ z. h .upto (omega arith); none = h .none; some = λ z. absurd (omega arith) }
+
+pub next-none-past : (f : ℕ → Bool) (stop end most : ℕ) → stop ≤ end → (stop < end → stop ≡ most) → ((i : ℕ) → most ≤ i → f i ≡ false)
+    → (from r : ℕ) → r ≡ nextPassing (λ i. not (f i)) stop from → r ≡ nextPassing (λ i. not (f i)) end from
+next-none-past f stop end most below full past from r e = next-is (λ i. not (f i)) end from r (go (rw (sym e) at (next-next (λ i. not (f i)) stop from)))
+  where
+    go : Next (λ i. not (f i)) stop from r → Next (λ i. not (f i)) end from r
+    go h = record {
+      from = h .from;
+      upto = λ z. h .upto (omega arith);
+      none = h .none;
+      some = λ z. by-lt _ r stop (λ l. h .some l) (λ l. let q = full (omega arith) in ap not (past r (omega arith)));
+    }

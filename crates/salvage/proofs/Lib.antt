@@ -1,0 +1,4 @@
+pub mod Told
+pub mod HoleLaws
+pub mod Tiling
+pub mod Steps

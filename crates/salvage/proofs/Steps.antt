@@ -1,0 +1,131 @@
+-- The fields of a front, step by step.
+-- Assumes nothing.
+use Prim.Native.Nat.{ℕ, suc, _+_, _-_, _<_}
+use mathlib.Core.Path.{_≡_, refl, sym, ap, _∙_}
+use mathlib.Core.Bool.{Bool, true, false, false≢true}
+use mathlib.Core.List.{List, []}
+use native.Mathlib.Omega.{arith}
+use borrow.Author.Tests.{leb-true, leb-false}
+use lib.Dec.{leb}
+use lib.ListN.{length}
+use Rattle.wire.specs.Answer.{Answer, got, refused}
+use Rattle.dataset_header.specs.Flags.{Valid, notValid, valid, isRaw}
+use Rattle.dataset_header.specs.declared.header.Header.{Header}
+use Rattle.dataset_header.specs.Header.{messageHeaderAt}
+use Rattle.dataset_fields.specs.Fields.{fieldAt, paddingAt}
+use Rattle.dataset_fields.specs.declared.fields.Field.{Field}
+use Rattle.dataset_fields.specs.declared.fields.Cursor.{Cursor}
+use Rattle.dataset_message.specs.Message.{countTo}
+use Rattle.salvage.specs.Front.{Shown, shown, bad, ends, shownAt, promised, Salvage, salvaged, refusal, withField, afterLast, onField, fieldsShown, onCount, onHeader, salvageAt, opensCount, opensHeader, openAt, shownStep, lastBy, nextShown, salvageFrom, salvageOpened, tallyFrom}
+use Rattle.salvage.specs.declared.front.FieldShown.{FieldShown}
+use Rattle.salvage.specs.declared.front.Tally.{Tally}
+
+module _ (types f s : List ℕ) where
+  -- what a step leaves
+  abbrev pub thenSaved : ℕ → FieldShown → Salvage
+  thenSaved count (FieldShown.Is x after) = withField x (salvageFrom types f s after)
+  thenSaved count FieldShown.Ends = salvaged (promised count) []
+  thenSaved count FieldShown.Last = salvaged (promised count) []
+  thenSaved count (FieldShown.Refused n place) = refusal n place
+
+  abbrev fieldOf : Cursor → Shown Field
+  fieldOf c = shownAt (fieldAt (c .delta) (c .encoding) types (c .next)) f s (c .at)
+
+  last-saved : (count : ℕ) (a : Answer (Unit {0})) → afterLast count a ≡ thenSaved count (lastBy a)
+  last-saved count (got u z) = refl
+  last-saved count (refused n place) = refl
+
+  field-saved : (c : Cursor) (x : Shown Field)
+      → onField (c .count) x (λ end. fieldsShown (c .count) (c .delta) (c .encoding) types (c .count - (c .next + 1)) (c .next + 1) f s end) ≡ thenSaved (c .count) (shownStep c x)
+  field-saved c (shown x end) = refl
+  field-saved c (bad n place) = refl
+  field-saved c ends = refl
+
+  pub saved-step : (c : Cursor) → salvageFrom types f s c ≡ thenSaved (c .count) (nextShown types f s c)
+  unfolding fieldsShown
+  saved-step c = go (leb (c .count) (c .next)) refl
+    where
+      go : (b : Bool) → leb (c .count) (c .next) ≡ b → salvageFrom types f s c ≡ thenSaved (c .count) (nextShown types f s c)
+      go true t =
+          let l = leb-true (c .count) (c .next) t in
+          let z : c .count - c .next ≡ 0 = omega arith in
+          rw (z, t) (last-saved (c .count) (paddingAt f (c .at)))
+      go false t =
+          let l = leb-false (c .count) (c .next) t in
+          let z : c .count - c .next ≡ suc (c .count - (c .next + 1)) = omega arith in
+          rw (z, t) (field-saved c (fieldOf c))
+
+  -- a step that hands out a field goes on
+  pub record Onward (c after : Cursor) : Type 0 where
+    pub left : c .next < c .count
+    pub next : after .next ≡ c .next + 1
+    pub count : after .count ≡ c .count
+
+  pub step-on : (c : Cursor) (x : Field) (after : Cursor) → FieldShown.Is x after ≡ nextShown types f s c → Onward c after
+  step-on c x after e = go (leb (c .count) (c .next)) refl
+    where
+      is-after : {x y : Field} {a b : Cursor} → FieldShown.Is x a ≡ FieldShown.Is y b → a ≡ b
+      is-after e = cc
+
+      none : FieldShown → Bool
+      none (FieldShown.Is x a) = false
+      none FieldShown.Ends = true
+      none FieldShown.Last = true
+      none (FieldShown.Refused n p) = true
+
+      not-ends : {x : Field} {a : Cursor} → FieldShown.Is x a ≡ FieldShown.Ends → ⊥
+      not-ends e = false≢true (ap none e)
+
+      not-last : {x : Field} {a : Cursor} → FieldShown.Is x a ≡ FieldShown.Last → ⊥
+      not-last e = false≢true (ap none e)
+
+      not-bad : {x : Field} {a : Cursor} {n p : ℕ} → FieldShown.Is x a ≡ FieldShown.Refused n p → ⊥
+      not-bad e = false≢true (ap none e)
+
+      padded : (a : Answer (Unit {0})) → FieldShown.Is x after ≡ lastBy a → ⊥
+      padded (got u z) q = not-last q
+      padded (refused n p) q = not-bad q
+
+      stepped : c .next < c .count → (y : Shown Field) → FieldShown.Is x after ≡ shownStep c y → Onward c after
+      stepped l (shown y end) q = record { left = l; next = ap (λ (d : Cursor). d .next) (is-after q); count = ap (λ (d : Cursor). d .count) (is-after q) }
+      stepped l (bad n p) q = absurd (not-bad q)
+      stepped l ends q = absurd (not-ends q)
+
+      go : (b : Bool) → leb (c .count) (c .next) ≡ b → Onward c after
+      go true t = absurd (padded (paddingAt f (c .at)) (rw t at e))
+      go false t = stepped (leb-false (c .count) (c .next) t) (fieldOf c) (rw t at e)
+
+  -- ---- counting
+  tally-field : (k : ℕ) (x : Field) (v : Salvage) → tallyFrom k (withField x v) ≡ tallyFrom (k + 1) v
+  tally-field k x (salvaged p fs) = let z : k + suc (length fs) ≡ k + 1 + length fs = omega arith in ap Tally.Is z
+  tally-field k x (refusal n place) = refl
+
+  pub tally-on : (k : ℕ) (c : Cursor) (x : Field) (after : Cursor) → FieldShown.Is x after ≡ nextShown types f s c
+      → tallyFrom (k + 1) (salvageFrom types f s after) ≡ tallyFrom k (salvageFrom types f s c)
+  tally-on k c x after e =
+      sym (tally-field k x (salvageFrom types f s after)) ∙ ap (λ (y : FieldShown). tallyFrom k (thenSaved (c .count) y)) e ∙ sym (ap (tallyFrom k) (saved-step c))
+
+  pub tally-ends : (k : ℕ) (c : Cursor) (y : FieldShown) → y ≡ nextShown types f s c → thenSaved (c .count) y ≡ salvaged (promised (c .count)) []
+      → Tally.Is k ≡ tallyFrom k (salvageFrom types f s c)
+  tally-ends k c y e q =
+      let z : k ≡ k + 0 = omega arith in
+      ap Tally.Is z ∙ ap (tallyFrom k) (sym q ∙ ap (thenSaved (c .count)) e ∙ sym (saved-step c))
+
+  pub tally-refused : (k : ℕ) (c : Cursor) (n place : ℕ) → FieldShown.Refused n place ≡ nextShown types f s c → Tally.Refused n place ≡ tallyFrom k (salvageFrom types f s c)
+  tally-refused k c n place e = ap (λ (y : FieldShown). tallyFrom k (thenSaved (c .count) y)) e ∙ sym (ap (tallyFrom k) (saved-step c))
+
+-- the front read at once, and opened and then read on
+module _ (total : ℕ) (types f s : List ℕ) where
+  count-opened : (h : Header) (x : Shown ℕ) → onCount h types f s x ≡ salvageOpened types f s (opensCount h x)
+  count-opened h (shown n first) = let z : n ≡ n - 0 = omega arith in ap (λ (k : ℕ). fieldsShown n _ _ types k 0 f s first) z
+  count-opened h (bad n place) = refl
+  count-opened h ends = refl
+
+  header-opened : (x : Shown (Valid Header)) → onHeader total types f s x ≡ salvageOpened types f s (opensHeader total types f s x)
+  header-opened (shown notValid at) = refl
+  header-opened (shown (valid h) at) = count-opened h (shownAt (countTo total (h .kind) (isRaw (h .encoding)) types) f s at)
+  header-opened (bad n place) = refl
+  header-opened ends = refl
+
+  pub salvage-opened : salvageAt total types f s ≡ salvageOpened types f s (openAt total types f s)
+  salvage-opened = header-opened (shownAt messageHeaderAt f s 0)

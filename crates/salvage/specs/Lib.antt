@@ -1,0 +1,4 @@
+pub mod Holes
+pub mod Tiles
+pub mod Front
+pub mod Whole

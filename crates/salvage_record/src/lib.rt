@@ -1,0 +1,320 @@
+// What is salvaged of a partial, put into lent buffers: a record of 8 numbers that tells of it, and a list of its holes and fields, 8
+// numbers each (include/uadp.h, `uadp_salvage`).
+use dataset_fields::fields::Cursor;
+use dataset_fields::fields::Field;
+use dataset_header::flags::Encoding;
+use marks::next_unmarked;
+use message_record::message::elements_number;
+use message_record::message::encoding_number;
+use message_record::message::shape_number;
+use records::items::flag_number;
+use records::numbers::put_numbers;
+use records::numbers::put_numbers_from;
+use salvage::front::FieldShown;
+use salvage::front::Opening;
+use salvage::front::Tally;
+use salvage::front::count_fields;
+use salvage::front::next;
+use salvage::front::open;
+use salvage::holes::Hole;
+use salvage::holes::HoleStep;
+use salvage::holes::count_holes;
+use salvage::holes::next_hole;
+use value::Shape;
+use value::dimensions;
+use wire::constants::NO_ROOM;
+use wire::part::part;
+ghost use Prim.Native.Nat.{_+_, _*_, _≤_};
+ghost use mathlib.Core.Path.{_≡_};
+ghost use mathlib.Core.Bool.{true, cond};
+ghost use lib.Dec.{eqb};
+ghost use lib.ListN.{length};
+ghost use Rattle.wire_writer.specs.Store.{laid};
+ghost use Rattle.marks.specs.Marks.{inUse, marked};
+ghost use Rattle.dataset_header.specs.Flags.{encodingNumber};
+ghost use Rattle.records.specs.Numbers.{numberBytes};
+ghost use Rattle.message_record.specs.Message.{fieldNumbers};
+ghost use Rattle.salvage.specs.Holes.{holesOf};
+ghost use Rattle.salvage.specs.Front.{salvaged, openAt, salvageFrom, savedFields};
+ghost use Rattle.salvage.specs.declared.front.Opening.{Opening};
+ghost use Rattle.salvage_record.specs.List.{holeNumbers, holeEntries, fieldEntries, entryLaid, entriesPut, promisedNumber, toldNumbers, savedPut, putSaved, salvagePut, promiseBy, noneAt, isSaved};
+
+// How many bytes an entry of the list has, and the record that tells of it.
+const ENTRY_SIZE: usize = 64;
+
+const SALVAGE_SIZE: usize = 64;
+
+// How many entries the list has, or a refusal.
+pub enum Salvaged {
+    Is(usize),
+    Refused(u8, usize),
+}
+
+// Puts entry k, which has 8 numbers, where it fits whole.
+fn put_entry(out: &mut [u8], k: usize, numbers: &[u64])
+    requires { ⌜ length (now numbers) ≡ 8 ⌝ }
+    ensures { λ _. ⌜ now (out .exit) ≡ entryLaid k (now (numbers .entry)) (now (out .entry)) ⌝ }
+{
+    if out.len() / ENTRY_SIZE <= k {
+        return;
+    }
+    put_numbers_from(out, 8 * k, numbers);
+}
+
+fn put_hole(out: &mut [u8], k: usize, h: Hole)
+    ensures { λ _. ⌜ now (out .exit) ≡ entryLaid k (holeNumbers h) (now (out .entry)) ⌝ }
+{
+    let numbers = [0, 0, 0, 0, h.offset as u64, h.length as u64, 0, 0];
+    put_entry(out, k, &numbers);
+}
+
+fn put_field(out: &mut [u8], k: usize, f: Field)
+    ensures { λ _. ⌜ now (out .exit) ≡ entryLaid k (fieldNumbers f) (now (out .entry)) ⌝ }
+{
+    let shape: Shape = f.shape;
+    let numbers = [
+        f.kind as u64,
+        shape_number(shape),
+        elements_number(shape),
+        f.index as u64,
+        f.offset as u64,
+        f.length as u64,
+        dimensions(shape) as u64,
+        0,
+    ];
+    put_entry(out, k, &numbers);
+}
+
+// Puts the entries of the holes below total, from the first entry on.
+fn put_holes(out: &mut [u8], marks: &[u8], total: usize)
+    ensures { λ _.
+        let entries = holeEntries (holesOf (marked inUse (now (marks .entry))) total) in
+        ⌜ now (out .exit) ≡ entriesPut 0 entries (now (out .entry)) ⌝ }
+{
+    let mut at = 0;
+    let mut k = 0;
+    loop {
+        match next_hole(marks, total, at) {
+            HoleStep::Last => {
+                return;
+            }
+            HoleStep::Is(h, end) => {
+                put_hole(out, k, h);
+                at = end;
+                k += 1;
+            }
+        }
+    }
+}
+
+// Puts the entries of the fields from a cursor on, none of which is refused, the first of them as entry `start`.
+fn put_fields(out: &mut [u8], start: usize, front: &[u8], area: &[u8], types: &[u8], first: Cursor)
+    requires { let saved = salvageFrom (now types) (now front) (now area) first in
+        ⌜ (isSaved saved ≡ true) × (start + length (savedFields saved) ≤ 18446744073709551615) ⌝ }
+    ensures { λ _.
+        let saved = salvageFrom (now (types .entry)) (now (front .entry)) (now (area .entry)) first in
+        ⌜ now (out .exit) ≡ entriesPut start (fieldEntries (savedFields saved)) (now (out .entry)) ⌝ }
+{
+    let mut c = first;
+    let mut k = start;
+    loop {
+        match next(front, area, types, c) {
+            FieldShown::Refused(_, _) => {
+                return;
+            }
+            FieldShown::Ends => {
+                return;
+            }
+            FieldShown::Last => {
+                return;
+            }
+            FieldShown::Is(f, after) => {
+                put_field(out, k, f);
+                c = after;
+                k += 1;
+            }
+        }
+    }
+}
+
+fn promised_number(known: bool, count: usize) -> usize
+    ensures { λ r. ⌜ r ≡ promisedNumber (promiseBy known count) ⌝ }
+{
+    if known {
+        return count;
+    }
+    0
+}
+
+// Stores the record.
+fn put_told(
+    told: &mut [u8],
+    holes: usize,
+    fields: usize,
+    known: bool,
+    count: usize,
+    covered: usize,
+    total: usize,
+    encoding: Encoding,
+)
+    ensures { λ _.
+        let numbers = toldNumbers holes fields (promiseBy known count) covered total (encodingNumber encoding) in
+        ⌜ now (told .exit) ≡ laid (now (told .entry)) 0 (numberBytes numbers) ⌝ }
+{
+    let numbers = [
+        holes as u64,
+        fields as u64,
+        flag_number(known),
+        promised_number(known, count) as u64,
+        covered as u64,
+        total as u64,
+        encoding_number(encoding),
+        0,
+    ];
+    put_numbers(told, &numbers);
+}
+
+// A cursor that stands behind the front, before no field.
+fn none_at(at: usize) -> Cursor
+    ensures { λ r. ⌜ r ≡ noneAt at ⌝ }
+{
+    Cursor {
+        encoding: Encoding::Variant,
+        delta: false,
+        next: 0,
+        count: 0,
+        at,
+    }
+}
+
+// Stores the record and the list, where both fit.
+fn store(
+    told: &mut [u8],
+    list: &mut [u8],
+    front: &[u8],
+    area: &[u8],
+    types: &[u8],
+    marks: &[u8],
+    total: usize,
+    covered: usize,
+    known: bool,
+    c: Cursor,
+    fields: usize,
+) -> Salvaged
+    requires { let saved = salvageFrom (now types) (now front) (now area) c in
+        ⌜ (isSaved saved ≡ true) × (fields ≡ length (savedFields saved)) ⌝ }
+    ensures { λ r.
+        let fs = savedFields (salvageFrom (now (types .entry)) (now (front .entry)) (now (area .entry)) c) in
+        let hs = holesOf (marked inUse (now (marks .entry))) total in
+        ⌜ savedPut r (now (told .exit)) (now (list .exit))
+        ≡ putSaved hs covered total (encodingNumber (c .encoding)) (now (told .entry)) (now (list .entry))
+        (salvaged (promiseBy known (c .count)) fs) ⌝ }
+{
+    let holes = count_holes(marks, total);
+    if told.len() < SALVAGE_SIZE {
+        return Salvaged::Refused(NO_ROOM, 0);
+    }
+    let room = list.len() / ENTRY_SIZE;
+    if room < holes {
+        return Salvaged::Refused(NO_ROOM, 0);
+    }
+    if room - holes < fields {
+        return Salvaged::Refused(NO_ROOM, 0);
+    }
+    let encoding = c.encoding;
+    put_told(
+        told,
+        holes,
+        fields,
+        known,
+        c.count,
+        covered,
+        total,
+        encoding,
+    );
+    put_holes(list, marks, total);
+    put_fields(list, holes, front, area, types, c);
+    Salvaged::Is(holes + fields)
+}
+
+// The front opened; that of a partial not started, whose total is 0, has no count.
+fn open_in(front: &[u8], area: &[u8], types: &[u8], total: usize) -> Opening
+    ensures { λ r.
+        let s = now (area .entry) in
+        ⌜ r ≡ cond (eqb total 0) Opening.Missing (openAt (length s) (now (types .entry)) (now (front .entry)) s) ⌝ }
+{
+    if total == 0 {
+        return Opening::Missing;
+    }
+    open(front, area, types)
+}
+
+// What is salvaged of a partial of so many bytes, by its two areas and the configured field types of its writer.
+pub fn salvage(
+    told: &mut [u8],
+    list: &mut [u8],
+    payload: &[u8],
+    marks: &[u8],
+    types: &[u8],
+    total: usize,
+) -> Salvaged
+    ensures { λ r.
+        ⌜ savedPut r (now (told .exit)) (now (list .exit))
+        ≡ salvagePut (now (types .entry)) (now (payload .entry)) (now (marks .entry)) total (now (told .entry)) (now (list .entry)) ⌝ }
+{
+    let covered = next_unmarked(marks, 0, total);
+    let front = part(payload, 0, covered);
+    let area = part(payload, 0, total);
+    let none = none_at(front.len());
+    match open_in(front, area, types, total) {
+        Opening::Refused(n, place) => Salvaged::Refused(n, place),
+        Opening::Missing => {
+            store(
+                told,
+                list,
+                front,
+                area,
+                types,
+                marks,
+                total,
+                covered,
+                false,
+                none,
+                0,
+            )
+        }
+        Opening::NotValid => {
+            store(
+                told,
+                list,
+                front,
+                area,
+                types,
+                marks,
+                total,
+                covered,
+                true,
+                none,
+                0,
+            )
+        }
+        Opening::At(c) => match count_fields(front, area, types, c) {
+            Tally::Refused(n, place) => Salvaged::Refused(n, place),
+            Tally::Is(k) => {
+                store(
+                    told,
+                    list,
+                    front,
+                    area,
+                    types,
+                    marks,
+                    total,
+                    covered,
+                    true,
+                    c,
+                    k,
+                )
+            }
+        },
+    }
+}
