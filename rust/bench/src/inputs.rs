@@ -2,7 +2,9 @@
 use uadp_comparison::generate::{chunk_bytes, variant, EnvelopeSpec, MessageSpec, Random, FIXED};
 use uadp_comparison::record;
 use uadp_comparison::reference::config::Config;
+use uadp_comparison::reference::message::{self, Encoding};
 use uadp_comparison::reference::reassembly::{KeptId, Record};
+use uadp_comparison::reference::wire::Reader;
 
 /// A datagram with the configuration that it is read under.
 pub struct Input {
@@ -73,11 +75,17 @@ fn delta() -> Input {
 }
 
 /// Variants of random types: fixed ones, or with Strings and arrays among them.
+/// Whether these bytes are one Variant that is accepted: the generator draws refused ones too.
+fn accepted(value: &[u8]) -> bool {
+    let mut reader = Reader::new(value);
+    message::field_value(&mut reader, Encoding::Variant, None).is_ok() && reader.position() == value.len()
+}
+
 fn random_types(levels: usize) -> Input {
     let mut random = Random::new(2_000);
     let values = (0..2_000).map(|_| {
         let mut value = Vec::new();
-        while value.is_empty() || (levels == 1 && !(1..64).contains(&value[0])) || value.len() > 30 {
+        while !accepted(&value) || (levels == 1 && !(1..64).contains(&value[0])) || value.len() > 30 {
             value.clear();
             variant(&mut random, &mut value, 1);
         }
@@ -120,7 +128,10 @@ fn mixed_variants() -> Input {
     let mut random = Random::new(100);
     let values = (0..100).map(|_| {
         let mut value = Vec::new();
-        variant(&mut random, &mut value, 3);
+        while !accepted(&value) {
+            value.clear();
+            variant(&mut random, &mut value, 3);
+        }
         value
     });
     of_variants(values.collect())

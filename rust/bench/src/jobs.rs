@@ -31,6 +31,8 @@ fn mix(sum: u64, a: u64, b: u64) -> u64 {
 
 /// More records than any datagram of the table has.
 const RECORDS: usize = 65_535;
+/// What the walk record of a refused message begins with.
+const REFUSED: u64 = 3;
 /// Room for any datagram.
 const ROOM: usize = 65_535;
 /// Room for any listing.
@@ -53,6 +55,7 @@ pub fn walk(input: Input) -> Pair {
     let mut records = vec![0; RECORDS * record::WALK_SIZE];
     let mut expected = Vec::new();
     tuned::walk_into(&mut expected, &input.datagram, &input.config).expect("an accepted datagram");
+    assert!(expected.iter().all(|record| record[0] != REFUSED), "no message is refused");
     ffi::walk(&input.datagram, &input.config_record, &mut records);
     let expected = record::bytes_of(expected.as_flattened());
     assert_eq!(records[..expected.len()], expected, "the records are the same");
