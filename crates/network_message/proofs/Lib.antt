@@ -1,4 +1,3 @@
 pub mod Tallies
 pub mod Messages
 pub mod Accepted
-pub mod Probes

@@ -169,7 +169,7 @@ fn envelope_of(flags: Flags, i: Identity, header: PayloadHeader, t: Times) -> En
     }
 }
 
-pub(crate) fn read_header(s: &[u8], flags: Flags, configured: usize, at: usize) -> HeaderRead
+fn read_header(s: &[u8], flags: Flags, configured: usize, at: usize) -> HeaderRead
     ensures { λ r. ⌜ answerEnvelope r ≡ envelopeAt flags configured (now (s .entry)) at ⌝ }
 {
     match read_identity(s, flags, at) {
@@ -227,7 +227,7 @@ fn with_rest(s: &[u8], envelope: Envelope, places: Places) -> NetworkMessageRead
 }
 
 // A NetworkMessage after its header. A single message, the common one, has a way of its own, so that its payload is not copied in pieces.
-pub(crate) fn with_payload(
+fn with_payload(
     s: &[u8],
     envelope: Envelope,
     places: Places,
