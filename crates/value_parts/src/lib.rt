@@ -3,4 +3,6 @@
 pub mod data_value;
 pub mod name;
 pub mod put;
+pub mod put_matrix;
+pub mod put_name;
 pub mod told;

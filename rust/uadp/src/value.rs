@@ -212,11 +212,46 @@ impl<'b> Values<'b> {
         self.put(value_type, 1, true, &[])
     }
 
+    /// Adds a Variant: an array of a fixed type with dimensions, by the length of each and the bytes of its elements, the last
+    /// dimension's index rising first.
+    ///
+    /// # Errors
+    ///
+    /// As [`push_array`](Self::push_array); [`BadLength`](Reason::BadLength) for no dimension or one below 1,
+    /// [`Disagree`](Reason::Disagree) for dimensions whose product is not the number of elements.
+    pub fn push_matrix(&mut self, value_type: Type, sizes: &[i32], bytes: &[u8]) -> Result<(), Refusal> {
+        self.put_by(|room| ffi::put_matrix(value_type.number().into(), ffi::bytes_of_sizes(sizes), bytes, room))
+    }
+
+    /// Adds a Variant: a QualifiedName.
+    ///
+    /// # Errors
+    ///
+    /// [`OverLimit`](Reason::OverLimit), [`NoRoom`](Reason::NoRoom).
+    pub fn push_qualified_name(&mut self, index: u16, name: &[u8]) -> Result<(), Refusal> {
+        self.put_by(|room| ffi::put_name(Type::QUALIFIED_NAME.number().into(), index.into(), &[], name, room))
+    }
+
+    /// Adds a Variant: a LocalizedText, with a locale and a text where they are given.
+    ///
+    /// # Errors
+    ///
+    /// As [`push_qualified_name`](Self::push_qualified_name).
+    pub fn push_localized_text(&mut self, locale: Option<&[u8]>, text: Option<&[u8]>) -> Result<(), Refusal> {
+        let mask = u32::from(locale.is_some()) + 2 * u32::from(text.is_some());
+        let (locale, text) = (locale.unwrap_or_default(), text.unwrap_or_default());
+        self.put_by(|room| ffi::put_name(Type::LOCALIZED_TEXT.number().into(), mask, locale, text, room))
+    }
+
     fn put(&mut self, value_type: Type, shape: u32, null: bool, bytes: &[u8]) -> Result<(), Refusal> {
+        self.put_by(|room| ffi::put_value(value_type.number().into(), shape, null.into(), bytes, room))
+    }
+
+    fn put_by(&mut self, put: impl FnOnce(&mut [u8]) -> ffi::Answer) -> Result<(), Refusal> {
         let no_room = Refusal { reason: Reason::NoRoom, place: 0 };
         let room = &mut self.bytes[self.used..];
         let length = self.lengths.get_mut(self.count).ok_or(no_room)?;
-        let put = ffi::put_value(value_type.number().into(), shape, null.into(), bytes, room).into_result()?;
+        let put = put(room).into_result()?;
         *length = put as usize;
         self.used += put as usize;
         self.count += 1;
