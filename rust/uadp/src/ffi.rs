@@ -536,7 +536,5 @@ pub fn put_name(kind: u32, number: u32, locale: &[u8], text: &[u8], out: &mut [u
 /// Puts an array with dimensions, 4 bytes each, lowest first. Value: how many bytes.
 pub fn put_matrix(kind: u32, sizes: &[u8], bytes: &[u8], out: &mut [u8]) -> Answer {
     let out_length = out.len();
-    Answer(unsafe {
-        raw::uadp_put_matrix(kind, lent(sizes), sizes.len(), lent(bytes), bytes.len(), lent_mut(out), out_length)
-    })
+    Answer(unsafe { raw::uadp_put_matrix(kind, lent(sizes), sizes.len(), lent(bytes), bytes.len(), lent_mut(out), out_length) })
 }

@@ -142,6 +142,13 @@ impl Shape {
 /// values.push_scalar(Type::UINT16, &3u16.to_le_bytes())?;
 /// values.push(&[5, 4, 0])?; // the same as it is encoded: UInt16, 4
 /// assert_eq!((values.bytes(), values.lengths()), (&[5, 3, 0, 5, 4, 0][..], &[3, 3][..]));
+///
+/// values.clear();
+/// values.push_matrix(Type::BYTE, &[1, 2], &[8, 9])?; // one row of two
+/// values.push_qualified_name(7, b"x")?;
+/// values.push_localized_text(None, Some(b"y"))?;
+/// assert_eq!(values.lengths(), [19, 8, 7]);
+/// assert_eq!(values.bytes()[19..], [20, 7, 0, 1, 0, 0, 0, b'x', 21, 2, 1, 0, 0, 0, b'y']);
 /// # Ok::<(), uadp::Refusal>(())
 /// ```
 #[derive(Debug)]
