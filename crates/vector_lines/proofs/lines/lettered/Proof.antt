@@ -30,8 +30,7 @@ loop-again c =
     let at-if1 = c .before in
     let at-test = at-if1 .before .before in
     let at-loop = at-test .before in
-    let args = at-loop .before .before .args in
-    (
+    let args = at-loop .before .before .args in (
       search needs,
       passed (args .letter) (now (args .word)) (at-loop .loop .at) (c .after .result) (at-loop .loop .inv .1) (at-test .loop-test .taken) (at-if1 .if1 .left) (c .after .ensures .0) (c .after .ensures .2),
     )
