@@ -62,13 +62,13 @@ pub times-ends : (n : ℕ) (b : List ℕ) → n ≤ 0 → times n b ≡ []
 times-ends zero b h = refl
 times-ends (suc n) b h = absurd (omega arith)
 
-pub times-none : (n : ℕ) → times n [] ≡ []
+times-none : (n : ℕ) → times n [] ≡ []
 times-none zero = refl
 times-none (suc n) = times-none n
 
 -- a word's items: so many suffice
 module _ (s : List ℕ) where
-  pub word-turn : (n at : ℕ) → at < length s → length s - at ≤ n → wordFrom n s at ≡ itemBytes (upTo 44 (drop at s)) ++ wordFrom (n - 1) s (afterItem 44 s at)
+  word-turn : (n at : ℕ) → at < length s → length s - at ≤ n → wordFrom n s at ≡ itemBytes (upTo 44 (drop at s)) ++ wordFrom (n - 1) s (afterItem 44 s at)
   word-turn zero at h l = absurd (omega arith)
   word-turn (suc n) at h l = let e : suc n - 1 ≡ n = omega arith in rw (lt-ltb at (length s) h, e)
 
@@ -85,7 +85,7 @@ module _ (s : List ℕ) where
       let rest : wordFrom k s at ≡ itemBytes item ++ wordFrom (k - 1) s (afterItem 44 s at) = rw (e) (word-turn k at h l) in
       (k - 1, omega arith, laid-as (ap (wordFrom (k - 1) s) (sym a)) (laid-more (laid-as rest laid) p))
 
-  pub word-ends : (n at : ℕ) → length s ≤ at → wordFrom n s at ≡ []
+  word-ends : (n at : ℕ) → length s ≤ at → wordFrom n s at ≡ []
   word-ends zero at h = refl
   word-ends (suc n) at h = rw (le-ltb at (length s) h)
 

@@ -7,8 +7,7 @@ use native.Mathlib.Omega.{arith}
 use borrow.Author.Tests.{lt-ltb, le-ltb, eq-eqb, ne-eqb}
 use lib.ListN.{length, getD}
 use Rattle.text.specs.Decimal.{decimalAt}
-use Rattle.text.specs.declared.decimal.Decimal.{Decimal}
-use Rattle.text.specs.declared.decimal.Decimal.the-variants.{Is, Not}
+use Rattle.text.specs.declared.decimal.Decimal.the-variants.{Not}
 use Rattle.vector_lines.specs.Items.{afterItem, letteredFrom, letteredIn}
 
 module _ (b : ℕ) (s : List ℕ) where

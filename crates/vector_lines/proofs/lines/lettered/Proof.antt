@@ -32,7 +32,8 @@ loop-again c =
     let at-loop = at-test .before in
     let args = at-loop .before .before .args in (
       search needs,
-      passed (args .letter) (now (args .word)) (at-loop .loop .at) (c .after .result) (at-loop .loop .inv .1) (at-test .loop-test .taken) (at-if1 .if1 .left) (c .after .ensures .0) (c .after .ensures .2),
+      passed (args .letter) (now (args .word)) (at-loop .loop .at) (c .after .result) (at-loop .loop .inv .1) (at-test .loop-test .taken)
+          (at-if1 .if1 .left) (c .after .ensures .0) (c .after .ensures .2),
     )
 
 returns-2 : tie.Need-returns-2 Inv-loop μ-loop
