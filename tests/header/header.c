@@ -439,6 +439,50 @@ static void names_and_matrices(void)
     CHECK(uadp_copy(message, sizeof message, &v, 6, &byte, 1) == 0);
 }
 
+/* Names and a matrix put: the bytes of Part 6's layouts, told again; each refusal. */
+static void names_and_matrices_put(void)
+{
+    static const uint8_t name[] = {20, 7, 0, 4, 0, 0, 0, 'H', 'o', 'u', 's'};
+    static const uint8_t text[] = {21, 3, 2, 0, 0, 0, 'e', 'n', 1, 0, 0, 0, 'W'};
+    static const uint8_t only_text[] = {21, 2, 1, 0, 0, 0, 'W'};
+    static const uint8_t matrix[] = {0xC3, 6, 0, 0, 0, 1, 2, 3, 4, 5, 6, 2, 0, 0, 0, 2, 0, 0, 0, 3, 0, 0, 0};
+    static const int32_t sizes[] = {2, 3}, none[] = {6, 0}, wrong[] = {2, 2}, negative[] = {-2, -3};
+    uint8_t out[32], before[32];
+    uadp_value_record v = UADP_ZERO;
+
+    memset(out, 0xA5, sizeof out);
+    memcpy(before, out, sizeof out);
+    CHECK(done(uadp_put_qualified_name(7, "Hous", 4, out, sizeof out), sizeof name));
+    CHECK(memcmp(out, name, sizeof name) == 0 && memcmp(out + 11, before + 11, sizeof out - 11) == 0);
+    CHECK(done(uadp_value(out, sizeof name, 0, UADP_VARIANT, 0, &v), sizeof name) && v.name == 7 && v.text_length == 4);
+    CHECK(done(uadp_put_localized_text("en", 2, "W", 1, out, sizeof out), sizeof text));
+    CHECK(memcmp(out, text, sizeof text) == 0);
+    CHECK(done(uadp_put_localized_text(NULL, 0, "W", 1, out, sizeof out), sizeof only_text));
+    CHECK(memcmp(out, only_text, sizeof only_text) == 0);
+    CHECK(done(uadp_put_localized_text(NULL, 0, NULL, 0, out, sizeof out), 2) && out[0] == 21 && out[1] == 0);
+    CHECK(done(uadp_put_matrix(UADP_TYPE_BYTE, sizes, 2, matrix + 5, 6, out, sizeof out), sizeof matrix));
+    CHECK(memcmp(out, matrix, sizeof matrix) == 0);
+    CHECK(done(uadp_value(out, sizeof matrix, 0, UADP_VARIANT, 0, &v), sizeof matrix) && v.dimensions == 2);
+    CHECK(uadp_dimension(out, sizeof matrix, &v, 0) == 2 && uadp_dimension(out, sizeof matrix, &v, 1) == 3);
+    memcpy(out, before, sizeof out);
+    CHECK(refused(uadp_put_qualified_name(65536, "Hous", 4, out, sizeof out), UADP_DISAGREE, 0));
+    CHECK(refused(uadp_put_qualified_name(7, "Hous", 4, out, 10), UADP_NO_ROOM, 0));
+    CHECK(refused(uadp_lent_put_name(UADP_TYPE_QUALIFIED_NAME, 7, name, 1, name, 1, out, 32), UADP_DISAGREE, 0));
+    CHECK(refused(uadp_lent_put_name(UADP_TYPE_LOCALIZED_TEXT, 4, name, 0, name, 0, out, 32), UADP_NOT_PERMITTED, 0));
+    CHECK(refused(uadp_lent_put_name(UADP_TYPE_LOCALIZED_TEXT, 1, name, 1, name, 1, out, 32), UADP_DISAGREE, 0));
+    CHECK(refused(uadp_lent_put_name(UADP_TYPE_STRING, 0, name, 0, name, 0, out, 32), UADP_NOT_TAKEN, 0));
+    CHECK(refused(uadp_lent_put_name(276, 0, name, 0, name, 0, out, 32), UADP_NOT_TAKEN, 0));
+    CHECK(refused(uadp_put_matrix(UADP_TYPE_BYTE, none, 2, matrix, 6, out, sizeof out), UADP_BAD_LENGTH, 0));
+    CHECK(refused(uadp_put_matrix(UADP_TYPE_BYTE, negative, 2, matrix, 6, out, sizeof out), UADP_BAD_LENGTH, 0));
+    CHECK(refused(uadp_put_matrix(UADP_TYPE_BYTE, sizes, 0, matrix, 6, out, sizeof out), UADP_BAD_LENGTH, 0));
+    CHECK(refused(uadp_put_matrix(UADP_TYPE_BYTE, wrong, 2, matrix, 6, out, sizeof out), UADP_DISAGREE, 0));
+    CHECK(refused(uadp_put_matrix(UADP_TYPE_UINT16, sizes, 2, matrix, 7, out, sizeof out), UADP_DISAGREE, 0));
+    CHECK(refused(uadp_put_matrix(UADP_TYPE_STRING, sizes, 2, matrix, 6, out, sizeof out), UADP_NOT_TAKEN, 0));
+    CHECK(refused(uadp_put_matrix(UADP_TYPE_NULL, sizes, 2, matrix, 6, out, sizeof out), UADP_NOT_PERMITTED, 0));
+    CHECK(refused(uadp_put_matrix(UADP_TYPE_BYTE, sizes, 2, matrix, 6, out, 22), UADP_NO_ROOM, 0));
+    CHECK(memcmp(out, before, sizeof out) == 0);
+}
+
 static void chunks_by_name(void)
 {
     static const uint8_t chunk[] = {0xD1, 0x81, 0x01, 0x67, 0x12, 21, 0, 7, 8, 4, 0, 0, 0, 11, 0, 0, 0, 2, 0, 0, 0, 9, 9};
@@ -690,6 +734,7 @@ static void *others(void *unused)
     reassembled();
     values_by_name();
     names_and_matrices();
+    names_and_matrices_put();
     chunks_by_name();
     probes_by_name();
     salvaged_by_name();
@@ -760,6 +805,7 @@ int main(int argc, char **argv)
     reassembled();
     values_by_name();
     names_and_matrices();
+    names_and_matrices_put();
     chunks_by_name();
     probes_by_name();
     salvaged_by_name();

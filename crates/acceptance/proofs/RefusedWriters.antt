@@ -1,6 +1,6 @@
 -- By which numbers the writers refuse.
 -- Assumes nothing.
-use Prim.Native.Nat.{ℕ, zero, suc, _+_, _*_, _-_}
+use Prim.Native.Nat.{ℕ, zero, suc, _+_, _*_, _-_, _/_, _%_}
 use mathlib.Core.Path.{_≡_, refl, sym, subst}
 use mathlib.Core.Bool.{Bool, true, false, cond, _&&_, not}
 use mathlib.Core.List.{List, [], _∷_}
@@ -9,6 +9,7 @@ use native.Mathlib.Omega.{arith}
 use lib.Dec.{eqb, leb, ltb}
 use lib.ListN.{length, getD, take, drop}
 use Rattle.wire.specs.Lists.{total}
+use Rattle.wire.specs.Number.{le}
 use Rattle.wire.specs.Answer.{Answer, got, refused, andThen, run, pure, each}
 use Rattle.wire.specs.Items.{lengthItem}
 use Rattle.wire.specs.declared.Length.{Length}
@@ -19,7 +20,8 @@ use Rattle.wire_writer.specs.declared.writing.Written.{Written}
 use Rattle.publisher_id.specs.Publisher.{publisherRefusal, publisherShape, textTooLong}
 use Rattle.publisher_id.specs.declared.publisher.PublisherId.{PublisherId}
 use Rattle.network_header.specs.Flags.{timesRefusal, probeRefusal}
-use Rattle.plain_value.specs.Plain.{bytes, afterLength, string}
+use Rattle.plain_value.specs.Plain.{bytes, afterLength, string, lengthFirst}
+use Rattle.plain_value.specs.Dimensions.{fours, anyBelowOne, product, givenSizesRule}
 use Rattle.probe.specs.declared.body.ListCount.{ListCount}
 use Rattle.probe.specs.declared.body.Probe.{Probe}
 use Rattle.probe.specs.Body.{probeBodyAt}
@@ -47,7 +49,12 @@ use Rattle.dataset_message_writer.specs.Message.{GivenMessage, isFielded, isRaw
 use Rattle.round_trip.specs.NetworkMessage.{rewritten}
 use Rattle.rewriting.specs.Same.{messageSame, datagramSame}
 use Rattle.reassembly_laws.specs.Refusing.{oneOf}
-use Rattle.acceptance.specs.Refusals.{datagramWriterRefusals, messageWriterRefusals, datagramAgainRefusals, messageAgainRefusals, probeWriterRefusals}
+use Rattle.value.specs.Value.{typeOf, isArray, hasDimensions, taken, variantRule}
+use Rattle.value_parts.specs.declared.put.Form.{Form}
+use Rattle.value_parts.specs.Put.{firstByte, countGiven, variantBytes, typeRule, formRule, putRule, variantOutput}
+use Rattle.value_parts.specs.PutName.{hasLocale, hasText, nameBytes, nameKindRule, absentRule, nameRule, nameOutput}
+use Rattle.value_parts.specs.PutMatrix.{matrixBytes, matrixRule, matrixOutput}
+use Rattle.acceptance.specs.Refusals.{datagramWriterRefusals, messageWriterRefusals, datagramAgainRefusals, messageAgainRefusals, probeWriterRefusals, valueWriterRefusals, matrixWriterRefusals}
 use Rattle.acceptance.proofs.Refusals.{Tells, with13, wider-one}
 use Rattle.acceptance.proofs.Refusals.Tells.{gives, refuses}
 use Rattle.acceptance.proofs.RefusedDatagrams.{datagramOthers, probeOthers, datagram-tells, body-tells}
@@ -349,3 +356,79 @@ message-again types s entry exit n w = go (messageAt types s) refl (message-tell
     go (got (valid m) next) q t = room-number messageAgainRefusals refl refl n (length entry) (messageHeld (m .header) s) (rw q at (w .answer))
     go (refused k place) q (refuses r) =
         subst (λ (i : ℕ). oneOf messageAgainRefusals i ≡ true) (sym (refusal-of (rw q at (w .answer)))) (wider-one (with13 messageOthers) messageAgainRefusals refl k (r .one))
+
+-- ---- values that are put
+abbrev forValues : List ℕ
+forValues = valueWriterRefusals
+
+six-or-none : (b : Bool) → Number forValues (cond b 0 6)
+six-or-none b = either forValues b 0 6 (inl refl) (inr refl)
+
+first-byte-number : (b : ℕ) → Number forValues (variantRule b)
+unfolding variantRule
+first-byte-number b =
+    either forValues (hasDimensions b && not (isArray b)) 3 _ (inr refl)
+    (either forValues (eqb (typeOf b) 0 && isArray b) 3 _ (inr refl)
+    (either forValues (eqb (typeOf b) 24 && not (isArray b)) 3 _ (inr refl) (either forValues (taken (typeOf b)) 0 4 (inl refl) (inr refl))))
+
+form-number : (t : ℕ) (f : Form) (n : ℕ) → Number forValues (formRule t f n)
+form-number t Form.Scalar n =
+    either forValues (fixed t) _ _ (six-or-none (eqb n (widthOf t)))
+    (either forValues (lengthFirst t) 0 _ (inl refl) (either forValues (eqb t 0) 6 4 (inr refl) (inr refl)))
+form-number t Form.Null n =
+    either forValues (fixed t) 6 _ (inr refl)
+    (either forValues (lengthFirst t) _ _ (six-or-none (eqb n 0)) (either forValues (eqb t 0) _ 4 (six-or-none (eqb n 0)) (inr refl)))
+form-number t Form.Array n = either forValues (fixed t) _ 4 (six-or-none (eqb (n % widthOf t) 0)) (inr refl)
+form-number t Form.NullArray n = either forValues (fixed t) _ 4 (six-or-none (eqb n 0)) (inr refl)
+
+put-number : (t : ℕ) (f : Form) (n : ℕ) → Number forValues (putRule t f n)
+put-number t f n = in-turn forValues (typeRule t f) (formRule t f n) (either forValues (ltb t 64) _ 4 (first-byte-number (firstByte t f)) (inr refl)) (form-number t f n)
+
+pub value-writer : (t : ℕ) (f : Form) (b entry exit : List ℕ) (n : ℕ) → Writes (variantOutput t f b) entry exit (Written.Refused n) → oneOf valueWriterRefusals n ≡ true
+value-writer t f b entry exit n w = unless-number forValues refl refl (putRule t f (length b)) (put-number t f (length b)) n (length entry) (variantBytes t f b) (w .answer)
+
+absent-number : (on : Bool) (k : ℕ) → Number forValues (absentRule on k)
+absent-number on k = either forValues on 0 _ (inl refl) (six-or-none (eqb k 0))
+
+name-kind-number : (t n : ℕ) → Number forValues (nameKindRule t n)
+name-kind-number t n =
+    either forValues (eqb t 20) 0 _ (inl refl) (either forValues (eqb t 21) _ 4 (either forValues (ltb 3 n) 3 0 (inr refl) (inl refl)) (inr refl))
+
+name-number : (t n l k : ℕ) → Number forValues (nameRule t n l k)
+name-number t n l k =
+    in-turn forValues (nameKindRule t n) _ (name-kind-number t n)
+    (in-turn forValues _ _ (six-or-none (leb n 65535)) (in-turn forValues _ _ (absent-number (hasLocale t n) l) (absent-number (hasText t n) k)))
+
+pub name-writer : (t number : ℕ) (locale text entry exit : List ℕ) (n : ℕ) → Writes (nameOutput t number locale text) entry exit (Written.Refused n)
+    → oneOf valueWriterRefusals n ≡ true
+name-writer t number locale text entry exit n w =
+    unless-number forValues refl refl (nameRule t number (length locale) (length text)) (name-number t number (length locale) (length text)) n (length entry)
+    (nameBytes t number locale text) (w .answer)
+
+-- what a value is refused by, a matrix is too
+abbrev forMatrices : List ℕ
+forMatrices = matrixWriterRefusals
+
+as-matrix : (k : ℕ) → Number forValues k → Number forMatrices k
+as-matrix k (inl z) = inl z
+as-matrix k (inr z) = inr (wider-one forValues forMatrices refl k z)
+
+sizes-number : (n : ℕ) (b : List ℕ) → Number forMatrices (givenSizesRule n b)
+sizes-number n b =
+    either forMatrices (eqb (length b % 4) 0) _ 6
+    (either forMatrices (eqb (length b) 0) 5 _ (inr refl)
+    (either forMatrices (anyBelowOne ds) 5 _ (inr refl) (either forMatrices (eqb (product ds) n) 0 6 (inl refl) (inr refl))))
+    (inr refl)
+  where
+    ds : List ℕ
+    ds = fours (length b / 4) (le (4 * (length b / 4)) b 0)
+
+matrix-number : (t : ℕ) (sizes : List ℕ) (n : ℕ) → Number forMatrices (matrixRule t sizes n)
+matrix-number t sizes n =
+    in-turn forMatrices _ _
+    (as-matrix _ (either forValues (ltb t 64) _ 4 (in-turn forValues (variantRule (t + 192)) _ (first-byte-number (t + 192)) (form-number t Form.Array n)) (inr refl)))
+    (either forMatrices (ltb 65535 n) 10 _ (inr refl) (sizes-number (countGiven t Form.Array n) sizes))
+
+pub matrix-writer : (t : ℕ) (sizes b entry exit : List ℕ) (n : ℕ) → Writes (matrixOutput t sizes b) entry exit (Written.Refused n) → oneOf matrixWriterRefusals n ≡ true
+matrix-writer t sizes b entry exit n w =
+    unless-number forMatrices refl refl (matrixRule t sizes (length b)) (matrix-number t sizes (length b)) n (length entry) (matrixBytes t sizes b) (w .answer)

@@ -52,7 +52,11 @@ use Rattle.uadp_c.specs.History.{LentCall, Called, Unchanged}
 use Rattle.uadp_c.specs.Sequence.{newnessResult, newnessAfter}
 use Rattle.uadp_c.specs.Walks.{walkResult}
 use Rattle.uadp_c.specs.Writing.{writerResult, outputResult}
-use Rattle.acceptance.specs.Refusals.{Refusal, StepRefusal, datagramRefusals, chunkRefusals, valueRefusals, messageRefusals, fieldStepRefusals, fieldRefusals, cutRefusals, callRefusals, datagramWriterRefusals, messageWriterRefusals, datagramAgainRefusals, messageAgainRefusals, probeStepRefusals, probeWriterRefusals}
+use Rattle.value_parts.specs.declared.put.Form.{Form}
+use Rattle.value_parts.specs.Put.{variantOutput}
+use Rattle.value_parts.specs.PutName.{nameOutput}
+use Rattle.value_parts.specs.PutMatrix.{matrixOutput}
+use Rattle.acceptance.specs.Refusals.{Refusal, StepRefusal, datagramRefusals, chunkRefusals, valueRefusals, messageRefusals, fieldStepRefusals, fieldRefusals, cutRefusals, callRefusals, datagramWriterRefusals, messageWriterRefusals, datagramAgainRefusals, messageAgainRefusals, probeStepRefusals, probeWriterRefusals, valueWriterRefusals, matrixWriterRefusals}
 use Rattle.acceptance.specs.Calls.{bytesRead}
 
 -- a C result's number is not 0
@@ -101,6 +105,12 @@ pub record Demand1 : Type 0 where
       → Writes (M.messageOutput types m) entry exit (Written.Refused n) → oneOf messageWriterRefusals n ≡ true
   pub probe-writer : (list : List ℕ) (p : Probe) (entry exit : List ℕ) (n : ℕ) → Writes (probeOutput list p) entry exit (Written.Refused n)
       → oneOf probeWriterRefusals n ≡ true
+  pub value-writer : (t : ℕ) (f : Form) (b entry exit : List ℕ) (n : ℕ) → Writes (variantOutput t f b) entry exit (Written.Refused n)
+      → oneOf valueWriterRefusals n ≡ true
+  pub name-writer : (t number : ℕ) (locale text entry exit : List ℕ) (n : ℕ)
+      → Writes (nameOutput t number locale text) entry exit (Written.Refused n) → oneOf valueWriterRefusals n ≡ true
+  pub matrix-writer : (t : ℕ) (sizes b entry exit : List ℕ) (n : ℕ) → Writes (matrixOutput t sizes b) entry exit (Written.Refused n)
+      → oneOf matrixWriterRefusals n ≡ true
   pub datagram-again : (sizes s entry exit : List ℕ) (n : ℕ) → Writes (datagramSame sizes s) entry exit (Written.Refused n)
       → oneOf datagramAgainRefusals n ≡ true
   pub message-again : (types s entry exit : List ℕ) (n : ℕ) → Writes (messageSame types s) entry exit (Written.Refused n)
@@ -126,8 +136,8 @@ pub record Demand1 : Type 0 where
       → (headAfter step head field ≡ head) × (fieldAfter step head field ≡ field)
   pub lent-probe-step : (step : Answer ItemStepped) (probe item : List ℕ) → IsRefused (itemResult step probe item)
       → (probeAfter step probe item ≡ probe) × (itemAfter step probe item ≡ item)
-  -- uadp_write, uadp_write_message, uadp_rewrite, uadp_rewrite_message, uadp_put_value, uadp_put_probe; uadp_cut; uadp_list; uadp_walk;
-  -- uadp_newness.
+  -- uadp_write, uadp_write_message, uadp_rewrite, uadp_rewrite_message, uadp_put_value, uadp_put_name, uadp_put_matrix, uadp_put_probe;
+  -- uadp_cut; uadp_list; uadp_walk; uadp_newness.
   pub lent-writer : (out : List ℕ) (output : Output) → IsRefused (outputResult out output) → bufferAfter out output ≡ out
   pub lent-cut : (p : List ℕ) (number size k : ℕ) (out : List ℕ) → IsRefused (cutResult (cutAnswer p number size k (length out)))
       → cutBuffer p number size k out ≡ out

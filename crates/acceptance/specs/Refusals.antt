@@ -69,6 +69,14 @@ probeStepRefusals = CUT_SHORT ∷ BAD_LENGTH ∷ OVER_LIMIT ∷ []
 abbrev pub probeWriterRefusals : List ℕ
 probeWriterRefusals = CUT_SHORT ∷ BAD_LENGTH ∷ DISAGREE ∷ OVER_LIMIT ∷ NO_ROOM ∷ []
 
+-- of putting a value
+abbrev pub valueWriterRefusals : List ℕ
+valueWriterRefusals = NOT_PERMITTED ∷ NOT_TAKEN ∷ DISAGREE ∷ OVER_LIMIT ∷ NO_ROOM ∷ []
+
+-- of putting a matrix: its dimensions' 5 too
+abbrev pub matrixWriterRefusals : List ℕ
+matrixWriterRefusals = NOT_PERMITTED ∷ NOT_TAKEN ∷ BAD_LENGTH ∷ DISAGREE ∷ OVER_LIMIT ∷ NO_ROOM ∷ []
+
 -- of cutting
 abbrev pub cutRefusals : List ℕ
 cutRefusals = DISAGREE ∷ OVER_LIMIT ∷ NO_ROOM ∷ []

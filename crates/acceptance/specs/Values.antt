@@ -13,6 +13,9 @@ use Rattle.value.specs.declared.Shape.{Shape}
 use Rattle.value_parts.specs.Told.{measureOf, Filled, toldVariantAt, toldRawAt}
 use Rattle.value_parts.specs.DataValue.{asMeasure, toldDataValueAt}
 use Rattle.value_parts.specs.Put.{headBytes, variantBytes, variantOutput, givenParts}
+use Rattle.value_parts.specs.Name.{nameOf}
+use Rattle.value_parts.specs.PutName.{nameBytes, nameOutput, givenName, givenNameParts}
+use Rattle.value_parts.specs.PutMatrix.{matrixBytes, matrixOutput, givenMatrixParts}
 use Rattle.value_parts.specs.declared.told.ValueParts.{ValueParts}
 use Rattle.value_parts.specs.declared.put.Form.{Form}
 
@@ -31,3 +34,13 @@ pub record Values : Type 0 where
   pub put : (t : ℕ) (f : Form) (b entry exit : List ℕ) (n : ℕ) → Writes (variantOutput t f b) entry exit (Written.Is n)
       → (toldVariantAt exit 0 ≡ got (givenParts 0 t f b) (0 + length (variantBytes t f b)))
       × (take (length b) (drop (0 + length (headBytes t f (length b))) exit) ≡ b)
+  -- the same of a name: its type, number and Strings
+  pub put-name : (t n : ℕ) (locale text entry exit : List ℕ) (k : ℕ) → Writes (nameOutput t n locale text) entry exit (Written.Is k)
+      → (toldVariantAt exit 0 ≡ got (givenNameParts 0 t n locale text) (0 + length (nameBytes t n locale text)))
+      × (nameOf exit (givenNameParts 0 t n locale text) ≡ givenName 0 t n locale text)
+      × (take (length locale) (drop (givenName 0 t n locale text .locale .place) exit) ≡ locale)
+      × (take (length text) (drop (givenName 0 t n locale text .text .place) exit) ≡ text)
+  -- and of an array with dimensions: its type and counts, the very bytes of its elements and of its dimensions
+  pub put-matrix : (t : ℕ) (sizes b entry exit : List ℕ) (n : ℕ) → Writes (matrixOutput t sizes b) entry exit (Written.Is n)
+      → (toldVariantAt exit 0 ≡ got (givenMatrixParts 0 t sizes b) (0 + length (matrixBytes t sizes b)))
+      × (take (length b) (drop 5 exit) ≡ b) × (take (length sizes) (drop (9 + length b) exit) ≡ sizes)

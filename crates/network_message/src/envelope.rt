@@ -227,12 +227,7 @@ fn with_rest(s: &[u8], envelope: Envelope, places: Places) -> NetworkMessageRead
 }
 
 // A NetworkMessage after its header. A single message, the common one, has a way of its own, so that its payload is not copied in pieces.
-fn with_payload(
-    s: &[u8],
-    envelope: Envelope,
-    places: Places,
-    sizes: &[u16],
-) -> NetworkMessageRead
+fn with_payload(s: &[u8], envelope: Envelope, places: Places, sizes: &[u16]) -> NetworkMessageRead
     ensures { λ r.
         let payload = payloadAt (envelope .chunk) (envelope .«payload_header») (now (sizes .entry)) (now (s .entry)) (places .payload) in
         ⌜ answerNetworkMessage r ≡ andThen payload

@@ -3,3 +3,4 @@ pub mod PartLaws
 pub mod Passing
 pub mod Sizes
 pub mod Lengths
+pub mod Steadily

@@ -4,8 +4,9 @@ use mathlib.Core.Bool.{Bool, true, false, cond, _||_}
 use mathlib.Core.List.{List, [], _∷_}
 use lib.Dec.{eqb, ltb}
 use lib.IntN.{ℤ, pos, negsuc}
+use lib.ListN.{length}
 use Rattle.wire.specs.Constants.{BAD_LENGTH, DISAGREE}
-use Rattle.wire.specs.Number.{signed}
+use Rattle.wire.specs.Number.{signed, le}
 use Rattle.wire.specs.Answer.{Answer, got, refused, Reader, andThen, _>>_, pure, ruled}
 use Rattle.wire.specs.Items.{lengthItem}
 use Rattle.wire.specs.declared.Length.{Length}
@@ -54,3 +55,11 @@ dimensions n s at = andThen (lengthItem s at) (λ l next. afterListLength n at l
 abbrev pub answerDimensions : Dimensions → Answer ℕ
 answerDimensions (Dimensions.Are k next) = got k next
 answerDimensions (Dimensions.Refused n place) = refused n place
+
+-- the rules of dimensions that are handed over as they are to stand, of an array of n elements: bytes that are not whole dimensions are 6;
+-- "a null or empty dimensions list .. is 5"
+abbrev pub givenSizesRule : ℕ → List ℕ → ℕ
+givenSizesRule n b =
+    cond (eqb (length b % 4) 0)
+    (cond (eqb (length b) 0) BAD_LENGTH (sizesRule n (fours (length b / 4) (le (4 * (length b / 4)) b 0))))
+    DISAGREE

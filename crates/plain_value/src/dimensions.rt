@@ -13,7 +13,7 @@ ghost use Prim.Native.Nat.{_+_, _*_, _≤_, _<_};
 ghost use lib.Dec.{ltb};
 ghost use lib.ListN.{length};
 ghost use Rattle.wire.specs.Number.{le, signed};
-ghost use Rattle.plain_value.specs.Dimensions.{fours, belowOne, sizesRule, sizes, dimensions, answerDimensions};
+ghost use Rattle.plain_value.specs.Dimensions.{fours, belowOne, sizesRule, sizes, dimensions, answerDimensions, givenSizesRule};
 
 // How many dimensions an array has and the position after their list, or the number and place of its refusal.
 pub enum Dimensions {
@@ -97,4 +97,17 @@ pub fn dimensions_at(s: &[u8], at: usize, n: u32) -> Dimensions
         ItemLength::Negative(_) => Dimensions::Refused(BAD_LENGTH, at),
         ItemLength::Short => Dimensions::Refused(CUT_SHORT, at),
     }
+}
+
+// The first rule that dimensions handed over as they are to stand break, 4 bytes each, of an array of n elements; or 0.
+pub fn given_sizes_rule(sizes: &[u8], n: u32) -> u8
+    ensures { λ r. ⌜ r ≡ givenSizesRule n (now (sizes .entry)) ⌝ }
+{
+    if sizes.len() % 4 != 0 {
+        return DISAGREE;
+    }
+    if sizes.len() == 0 {
+        return BAD_LENGTH;
+    }
+    sizes_rule(sizes, 0, sizes.len() / 4, n)
 }

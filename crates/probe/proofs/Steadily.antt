@@ -10,27 +10,15 @@ use lib.Dec.{eqb, ltb}
 use lib.ListN.{length, take, drop, length-append, take-append-drop}
 use lib.Seq.{length-take-le}
 use borrow.Author.Tests.{eqb-true, eqb-false, eq-eqb, ne-eqb}
-use Rattle.wire.specs.Answer.{Answer, got, refused, Reader, andThen, each}
-use Rattle.wire.specs.declared.Length.{Length}
+use Rattle.wire.specs.Answer.{Answer, got, refused, andThen, each}
 use Rattle.wire.proofs.Reading.{got-next, not-got, invert}
 use Rattle.wire.proofs.Places.{movedBy, after}
-use Rattle.wire.proofs.Steady.{Steady, Onward, steadily, refusing, pure-steady, item-steady, length-item-steady, run-steady, onward-steady, bind-steady, then-steady, cond-steady, each-steady, ruled-steady, Fair, fair, fair-cond}
-use Rattle.plain_value.specs.Plain.{afterLength, byLength, string}
+use Rattle.wire.proofs.Steady.{Steady, pure-steady, item-steady, run-steady, bind-steady, then-steady, cond-steady, each-steady, ruled-steady, Fair, fair, fair-cond}
+use Rattle.plain_value.specs.Plain.{string}
+use Rattle.plain_value.proofs.Steadily.{by-length-steady, string-steady}
 use Rattle.probe.specs.declared.body.ListCount.{ListCount}
 use Rattle.probe.specs.declared.body.Probe.{Probe}
 use Rattle.probe.specs.Body.{probeTypeRule, informationRule, idListAt, stringListAt, includesAt, groupProbeAt, probeOf, probeAt, bodyEnds, probeBodyAt}
-
-by-length-steady : {A : Type 0} {null : Reader A} {counted : ℕ → Reader A} → Steady null → ((n : ℕ) → Steady (counted n)) → Steady (byLength null counted)
-by-length-steady {A} {null} {counted} f h = onward-steady length-item-steady onward
-  where
-    onward : (l : Length) → Onward (λ p. afterLength null counted p l)
-    onward Length.Null = steadily f
-    onward (Length.Of n) = steadily (h n)
-    onward Length.Negative = refusing 5 (omega arith)
-
-string-steady : Steady string
-unfolding string
-string-steady = by-length-steady (pure-steady tt) (λ n. then-steady (run-steady n) (pure-steady tt))
 
 pub strings-steady : (n : ℕ) → Steady (each string n)
 strings-steady n = each-steady string-steady n

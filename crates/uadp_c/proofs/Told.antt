@@ -4,7 +4,8 @@ use Prim.Native.Nat.{ℕ, _<_}
 use mathlib.Core.Path.{_≡_, refl, ap, sym, subst, _∙_}
 use mathlib.Core.List.{List}
 use lib.ListN.{take}
-use borrow.Author.Tests.{le-ltb}
+use native.Mathlib.Omega.{arith}
+use borrow.Author.Tests.{le-ltb, ne-eqb}
 use Rattle.wire.specs.Answer.{Answer, mapAnswer}
 use Rattle.wire_writer.specs.Writing.{bufferAfter}
 use Rattle.chunk.specs.Datagram.{chunkAt}
@@ -16,6 +17,8 @@ use Rattle.message_record.specs.Message.{encodingIn}
 use Rattle.value_parts.specs.Told.{toldElementAt}
 use Rattle.value_parts.specs.DataValue.{aloneParts, toldFieldAt, answerFieldTold}
 use Rattle.value_parts.specs.Put.{variantOutput}
+use Rattle.value_parts.specs.PutName.{nameOutput}
+use Rattle.value_parts.specs.PutMatrix.{matrixOutput}
 use Rattle.value_parts.specs.declared.data_value.FieldParts.{FieldParts}
 use Rattle.value_parts.specs.declared.data_value.FieldTold.{FieldTold}
 use Rattle.value_parts.specs.declared.put.Form.{Form}
@@ -45,6 +48,14 @@ element-told s at n k j q h = h ∙ ap (λ (x : ℕ). mapAnswer aloneParts (told
 pub not-put : (t : ℕ) (f : Form) (b out : List ℕ) {x : ℕ} → 63 < t → x ≡ resultOf 4 0
     → (x ≡ outputResult out (variantOutput t f b)) × (out ≡ bufferAfter out (variantOutput t f b))
 not-put t f b out h r = rw (le-ltb t 64 h) (r, refl)
+
+pub no-name-put : (t n : ℕ) (locale text out : List ℕ) {x : ℕ} → 63 < t → x ≡ resultOf 4 0
+    → (x ≡ outputResult out (nameOutput t n locale text)) × (out ≡ bufferAfter out (nameOutput t n locale text))
+no-name-put t n locale text out h r = rw (ne-eqb t 20 (λ e. omega (arith, h, e)), ne-eqb t 21 (λ e. omega (arith, h, e))) (r, refl)
+
+pub no-matrix-put : (t : ℕ) (sizes b out : List ℕ) {x : ℕ} → 63 < t → x ≡ resultOf 4 0
+    → (x ≡ outputResult out (matrixOutput t sizes b)) × (out ≡ bufferAfter out (matrixOutput t sizes b))
+no-matrix-put t sizes b out h r = rw (le-ltb t 64 h) (r, refl)
 
 pub chunk-read : (c s z l : List ℕ) (n : ℕ) (y : Answer ChunkPlace) → n ≡ writersIn c → l ≡ sixteen 34 c → z ≡ take n l → y ≡ chunkAt z s
     → chunkFilling y ≡ chunkFilling (chunkAt (sizesIn c) s)

@@ -7,7 +7,9 @@ use records::sizes::VALUE_SIZE;
 use value_parts::data_value::FieldTold;
 use value_parts::data_value::tell_field;
 use value_parts::data_value::tell_text;
+use value_parts::matrix_put::put_matrix;
 use value_parts::name::tell_name;
+use value_parts::name_put::put_name;
 use value_parts::put::Form;
 use value_parts::put::put_variant;
 use wire::constants::NO_ROOM;
@@ -20,6 +22,8 @@ ghost use Rattle.message_record.specs.Message.{encodingIn};
 ghost use Rattle.value_parts.specs.Told.{toldElementAt};
 ghost use Rattle.value_parts.specs.DataValue.{aloneParts, answerFieldTold, toldFieldAt};
 ghost use Rattle.value_parts.specs.Put.{variantOutput};
+ghost use Rattle.value_parts.specs.PutName.{nameOutput};
+ghost use Rattle.value_parts.specs.PutMatrix.{matrixOutput};
 ghost use Rattle.uadp_c.specs.Writing.{outputResult};
 ghost use Rattle.uadp_c.specs.Values.{valueFilling, typeIn, formIn};
 
@@ -148,4 +152,36 @@ pub extern "C" fn uadp_put_value(
         return result(NOT_TAKEN, 0);
     }
     written_result(put_variant(out, kind as u8, form_of(shape, null), bytes))
+}
+
+// Puts a QualifiedName or LocalizedText as a Variant at the buffer's start, from what `uadp_value` tells of one.
+#[no_mangle]
+pub extern "C" fn uadp_put_name(
+    kind: u32,
+    number: u32,
+    locale: &[u8],
+    text: &[u8],
+    out: &mut [u8],
+) -> u64
+    ensures { λ r.
+        let output = nameOutput kind number (now (locale .entry)) (now (text .entry)) in
+        ⌜ (r ≡ outputResult (now (out .entry)) output) × (now (out .exit) ≡ bufferAfter (now (out .entry)) output) ⌝ }
+{
+    if 63 < kind {
+        return result(NOT_TAKEN, 0);
+    }
+    written_result(put_name(out, kind as u8, number, locale, text))
+}
+
+// Puts an array with dimensions as a Variant at the buffer's start: the bytes of its elements and its dimensions, as they are to stand.
+#[no_mangle]
+pub extern "C" fn uadp_put_matrix(kind: u32, sizes: &[u8], bytes: &[u8], out: &mut [u8]) -> u64
+    ensures { λ r.
+        let output = matrixOutput kind (now (sizes .entry)) (now (bytes .entry)) in
+        ⌜ (r ≡ outputResult (now (out .entry)) output) × (now (out .exit) ≡ bufferAfter (now (out .entry)) output) ⌝ }
+{
+    if 63 < kind {
+        return result(NOT_TAKEN, 0);
+    }
+    written_result(put_matrix(out, kind as u8, sizes, bytes))
 }

@@ -14,17 +14,15 @@ use Rattle.wire.specs.Answer.{got, Reader, _>>=_, ruled, bit}
 use Rattle.wire.specs.declared.Length.{Length}
 use Rattle.plain_value.specs.Width.{widthOf, fixed}
 use Rattle.plain_value.specs.Parts.{parts}
-use Rattle.plain_value.specs.Plain.{passing, bytes, afterLength, byLength, string, lengthFirst, named, qualifiedName, textMaskRule, localizedText, text, plain, plainValue, plainValues}
+use Rattle.plain_value.specs.Plain.{passing, bytes, lengthFirst, named, text, plain, plainValue, plainValues}
 use Rattle.plain_value.specs.Dimensions.{fours, anyBelowOne, product, sizesRule, afterListLength, dimensions}
 use Rattle.value.specs.Value.{Measure, measure, typeOf, isArray, hasDimensions, taken, variantRule, scalar, elements, array, dimensioned, matrix, variantOf, maskRule, dataValueOf, tooDeep, valueAt, rawAt}
 use Rattle.value.specs.declared.Shape.{Shape}
+use Rattle.plain_value.proofs.Steadily.{passing-steady, bytes-steady, by-length-steady, text-steady}
 use Rattle.wire.proofs.Places.{end-of, after}
-use Rattle.wire.proofs.Steady.{Ends, Steady, Onward, steadily, refusing, pure-steady, refuse-steady, item-steady, length-item-steady, run-steady, onward-steady, bind-steady, then-steady, cond-onward, cond-steady, Fair, fair, fair-cond, when-steady, each-steady, ruled-ends, ruled-steady, taking-ends, then-ends}
+use Rattle.wire.proofs.Steady.{Ends, Steady, Onward, steadily, refusing, pure-steady, refuse-steady, item-steady, length-item-steady, onward-steady, bind-steady, then-steady, cond-onward, cond-steady, Fair, fair, fair-cond, when-steady, each-steady, ruled-ends, ruled-steady, taking-ends, then-ends}
 
 -- no rule of a value refuses by 1
-
-text-mask-fair : (m : ℕ) → Fair (textMaskRule m)
-text-mask-fair m = fair-cond (ltb 3 m) (fair 3 refl) (fair 0 refl)
 
 sizes-fair : (n : ℕ) (ds : List ℕ) → Fair (sizesRule n ds)
 sizes-fair n ds = fair-cond (anyBelowOne ds) (fair 5 refl) (fair-cond (eqb (product ds) n) (fair 0 refl) (fair 6 refl))
@@ -38,38 +36,6 @@ variant-fair b =
     fair-cond (hasDimensions b && not (isArray b)) (fair 3 refl)
     (fair-cond (eqb (typeOf b) 0 && isArray b) (fair 3 refl)
     (fair-cond (eqb (typeOf b) 24 && not (isArray b)) (fair 3 refl) (fair-cond (taken (typeOf b)) (fair 0 refl) (fair 4 refl))))
-
-passing-steady : {A : Type 0} {r : Reader A} → Steady r → Steady (passing r)
-passing-steady f = then-steady f (pure-steady tt)
-
-bytes-steady : (n : ℕ) → Steady (bytes n)
-bytes-steady n = passing-steady (run-steady n)
-
-by-length-steady : {A : Type 0} {null : Reader A} {counted : ℕ → Reader A} → Steady null → ((n : ℕ) → Steady (counted n)) → Steady (byLength null counted)
-by-length-steady {A} {null} {counted} f h = onward-steady length-item-steady onward
-  where
-    onward : (l : Length) → Onward (λ p. afterLength null counted p l)
-    onward Length.Null = steadily f
-    onward (Length.Of n) = steadily (h n)
-    onward Length.Negative = refusing 5 (omega arith)
-
-string-steady : Steady string
-unfolding string
-string-steady = by-length-steady (pure-steady tt) bytes-steady
-
--- names
-
-qualified-name-steady : Steady qualifiedName
-unfolding qualifiedName
-qualified-name-steady = then-steady (bytes-steady 2) string-steady
-
-localized-text-steady : Steady localizedText
-unfolding localizedText
-localized-text-steady = bind-steady (ruled-steady 1 textMaskRule text-mask-fair) (λ m. then-steady (when-steady (bit 0 m) tt string-steady) (when-steady (bit 1 m) tt string-steady))
-
-text-steady : (t : ℕ) → Steady (text t)
-unfolding text
-text-steady t = cond-steady (eqb t 20) qualified-name-steady (cond-steady (eqb t 21) localized-text-steady string-steady)
 
 -- a dimensions list
 dimensions-steady : (n : ℕ) → Steady (dimensions n)

@@ -3,5 +3,7 @@ pub mod Deeper
 pub mod Agreement
 pub mod Telling
 pub mod Storing
+pub mod StoringNames
 pub mod Trip
+pub mod TripNames
 pub mod Filled

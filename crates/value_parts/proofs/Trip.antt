@@ -37,7 +37,7 @@ use Rattle.value_parts.proofs.Storing.{put-small}
 use Rattle.value_parts.proofs.Telling.{fixed-plainly}
 
 -- the very bytes that stand somewhere
-there-is : (s : List ℕ) (m : ℕ) (b : List ℕ) → At s m b → take (length b) (drop m s) ≡ b
+pub there-is : (s : List ℕ) (m : ℕ) (b : List ℕ) → At s m b → take (length b) (drop m s) ≡ b
 there-is s m b a =
     ap (λ (l : List ℕ). take (length b) (drop m l)) (a .2) ∙ ap (take (length b)) (drop-at (a .0) (b ++ a .1) m (a .3)) ∙ take-at b (a .1) (length b) refl
 
@@ -48,7 +48,7 @@ module _ (s : List ℕ) (m : ℕ) where
       let fits : m + 4 ≤ length s = omega (arith, fits-at s m (leBytes 4 k) a, length-leBytes 4 k) in
       rw (le-leb (m + 4) (length s) fits, le-at 4 k m h s a)
 
-  count-there : (k : ℕ) → k < 2147483648 → At s m (leBytes 4 k) → lengthItem s m ≡ got (Length.Of k) (m + 4)
+  pub count-there : (k : ℕ) → k < 2147483648 → At s m (leBytes 4 k) → lengthItem s m ≡ got (Length.Of k) (m + 4)
   count-there k h a = length-there k (omega arith) a ∙ rw (lt-ltb k 2147483648 h)
 
   null-there : At s m (leBytes 4 4294967295) → lengthItem s m ≡ got Length.Null (m + 4)
@@ -136,7 +136,7 @@ module _ (s : List ℕ) (m t : ℕ) (small : t < 64) where
 
 -- ---- the whole
 
-first-true : (b : Bool) (x k : ℕ) → cond b x (suc k) ≡ 0 → (b ≡ true) × (x ≡ 0)
+pub first-true : (b : Bool) (x k : ℕ) → cond b x (suc k) ≡ 0 → (b ≡ true) × (x ≡ 0)
 first-true true x k h = (refl, h)
 first-true false x k h = absurd (omega arith)
 

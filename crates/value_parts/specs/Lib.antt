@@ -2,3 +2,5 @@ pub mod Told
 pub mod Name
 pub mod DataValue
 pub mod Put
+pub mod PutName
+pub mod PutMatrix

@@ -53,7 +53,7 @@ fn scalar_rule(t: u8) -> u8
 }
 
 // The rule that the first byte of an array of type t breaks.
-fn array_rule(t: u8) -> u8
+pub(crate) fn array_rule(t: u8) -> u8
     requires { ⌜ t < 64 ⌝ }
     ensures { λ r. ⌜ r ≡ variantRule (t + 128) ⌝ }
 {
@@ -118,7 +118,7 @@ fn null_form(t: u8, n: usize) -> u8
 }
 
 // The rule that an array of n bytes breaks.
-fn array_form(t: u8, n: usize) -> u8
+pub(crate) fn array_form(t: u8, n: usize) -> u8
     ensures { λ r. ⌜ r ≡ formRule t Form.Array n ⌝ }
 {
     let w = width(t);
@@ -177,7 +177,7 @@ fn has_count(t: u8, form: Form) -> bool
 }
 
 // How many elements n bytes of a type are, 0 where its elements have no fixed width.
-fn elements(t: u8, n: usize) -> usize
+pub(crate) fn elements(t: u8, n: usize) -> usize
     ensures { λ r. ⌜ (r ≡ countGiven t Form.Array n) × (r ≤ n) ⌝ }
 {
     let w = width(t);

@@ -9,7 +9,7 @@ ghost use mathlib.Core.Path.{_≡_};
 ghost use Prim.Native.Nat.{_-_, _%_, _≤_};
 ghost use lib.ListN.{length, drop, getD};
 ghost use Rattle.text.specs.Words.{upTo};
-ghost use Rattle.vector_lines.specs.Items.{afterItem, wordStart, wordOf, shownOf, decimalNumberAt};
+ghost use Rattle.vector_lines.specs.Items.{afterItem, wordStart, wordOf, shownOf, decimalNumberAt, numberOr0, letteredIn, low16Of};
 
 const MOST: u64 = 18446744073709551615;
 
@@ -105,7 +105,9 @@ pub fn low16(n: usize) -> u16
 }
 
 // The number that stands after a letter in a word that lists numbers.
-pub fn lettered(word: &[u8], letter: u8) -> Decimal {
+pub fn lettered(word: &[u8], letter: u8) -> Decimal
+    ensures { λ r. ⌜ r ≡ letteredIn letter (now (word .entry)) ⌝ }
+{
     let mut at = 0;
     while at < word.len() {
         if word[at] == letter {
@@ -117,7 +119,9 @@ pub fn lettered(word: &[u8], letter: u8) -> Decimal {
 }
 
 // The same as an item of two bytes, absent where the letter is.
-pub fn lettered16(word: &[u8], letter: u8) -> Optional16 {
+pub fn lettered16(word: &[u8], letter: u8) -> Optional16
+    ensures { λ r. ⌜ r ≡ low16Of (letteredIn letter (now (word .entry))) ⌝ }
+{
     match lettered(word, letter) {
         Decimal::Is(n, _) => Optional16::Is(low16(n as usize)),
         Decimal::Not => Optional16::Absent,
@@ -125,7 +129,9 @@ pub fn lettered16(word: &[u8], letter: u8) -> Optional16 {
 }
 
 // The number that stands after a letter, 0 where the letter is absent.
-pub fn numbered(word: &[u8], letter: u8) -> usize {
+pub fn numbered(word: &[u8], letter: u8) -> usize
+    ensures { λ r. ⌜ r ≡ numberOr0 (letteredIn letter (now (word .entry))) ⌝ }
+{
     match lettered(word, letter) {
         Decimal::Is(n, _) => n as usize,
         Decimal::Not => 0,

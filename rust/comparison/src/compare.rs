@@ -19,7 +19,7 @@ pub use probes::{made_up_probe_cursor, put_probe};
 pub use reading::{config, datagram, every_flag, made_up_field_cursor, made_up_message_cursor, next_message_of};
 pub use salvage::salvage;
 pub use typed::{reassembled, typed};
-pub use values::{chunks, put_value, value};
+pub use values::{chunks, put_matrix, put_name, put_value, value};
 pub use writing::{write_datagram, write_message};
 
 /// How often each number was answered.

@@ -17,7 +17,7 @@ const SHARES: usize = 256;
 type Compare = fn(&mut Tally, &mut Random);
 
 /// The kinds of case, and how often each is drawn.
-const KINDS: [(Compare, usize); 16] = [
+const KINDS: [(Compare, usize); 18] = [
     (compare::config, 12),
     (compare::datagram, 40),
     (compare::made_up_field_cursor, 5),
@@ -32,6 +32,8 @@ const KINDS: [(Compare, usize); 16] = [
     (compare::typed, 10),
     (compare::value, 16),
     (compare::put_value, 6),
+    (compare::put_name, 6),
+    (compare::put_matrix, 6),
     (compare::chunks, 1),
     (compare::reassembled, 1),
 ];

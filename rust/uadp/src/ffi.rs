@@ -167,6 +167,13 @@ mod raw {
         pub fn uadp_put_value(
             kind: u32, shape: u32, null: u32, bytes: *const u8, length: usize, out: *mut u8, out_length: usize,
         ) -> u64;
+        pub fn uadp_put_name(
+            kind: u32, number: u32, locale: *const u8, locale_length: usize, text: *const u8, text_length: usize, out: *mut u8,
+            out_length: usize,
+        ) -> u64;
+        pub fn uadp_put_matrix(
+            kind: u32, sizes: *const u8, sizes_length: usize, bytes: *const u8, length: usize, out: *mut u8, out_length: usize,
+        ) -> u64;
         pub fn uadp_newness(record: *mut u8, record_length: usize, received: u16) -> u64;
     }
 }
@@ -175,6 +182,12 @@ mod raw {
 pub(crate) fn bytes_of(numbers: &[u16]) -> &[u8] {
     // SAFETY: the bytes of the borrowed numbers, all of them initialised; a byte may stand anywhere.
     unsafe { core::slice::from_raw_parts(numbers.as_ptr().cast(), 2 * numbers.len()) }
+}
+
+/// Numbers of 4 bytes likewise.
+pub(crate) fn bytes_of_sizes(numbers: &[i32]) -> &[u8] {
+    // SAFETY: the bytes of the borrowed numbers, all of them initialised; a byte may stand anywhere.
+    unsafe { core::slice::from_raw_parts(numbers.as_ptr().cast(), 4 * numbers.len()) }
 }
 
 fn lent<T>(slice: &[T]) -> *const T {
@@ -510,4 +523,18 @@ pub fn element(bytes: &[u8], offset: u64, kind: u32, elements: u64, k: u64, valu
 pub fn put_value(kind: u32, shape: u32, null: u32, bytes: &[u8], out: &mut [u8]) -> Answer {
     let out_length = out.len();
     Answer(unsafe { raw::uadp_put_value(kind, shape, null, lent(bytes), bytes.len(), lent_mut(out), out_length) })
+}
+
+/// Puts a QualifiedName by its index and, as text, its name, or a LocalizedText by its mask, locale and text. Value: how many bytes.
+pub fn put_name(kind: u32, number: u32, locale: &[u8], text: &[u8], out: &mut [u8]) -> Answer {
+    let out_length = out.len();
+    Answer(unsafe {
+        raw::uadp_put_name(kind, number, lent(locale), locale.len(), lent(text), text.len(), lent_mut(out), out_length)
+    })
+}
+
+/// Puts an array with dimensions, 4 bytes each, lowest first. Value: how many bytes.
+pub fn put_matrix(kind: u32, sizes: &[u8], bytes: &[u8], out: &mut [u8]) -> Answer {
+    let out_length = out.len();
+    Answer(unsafe { raw::uadp_put_matrix(kind, lent(sizes), sizes.len(), lent(bytes), bytes.len(), lent_mut(out), out_length) })
 }

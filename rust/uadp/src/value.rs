@@ -142,6 +142,13 @@ impl Shape {
 /// values.push_scalar(Type::UINT16, &3u16.to_le_bytes())?;
 /// values.push(&[5, 4, 0])?; // the same as it is encoded: UInt16, 4
 /// assert_eq!((values.bytes(), values.lengths()), (&[5, 3, 0, 5, 4, 0][..], &[3, 3][..]));
+///
+/// values.clear();
+/// values.push_matrix(Type::BYTE, &[1, 2], &[8, 9])?; // one row of two
+/// values.push_qualified_name(7, b"x")?;
+/// values.push_localized_text(None, Some(b"y"))?;
+/// assert_eq!(values.lengths(), [19, 8, 7]);
+/// assert_eq!(values.bytes()[19..], [20, 7, 0, 1, 0, 0, 0, b'x', 21, 2, 1, 0, 0, 0, b'y']);
 /// # Ok::<(), uadp::Refusal>(())
 /// ```
 #[derive(Debug)]
@@ -212,11 +219,46 @@ impl<'b> Values<'b> {
         self.put(value_type, 1, true, &[])
     }
 
+    /// Adds a Variant: an array of a fixed type with dimensions, by the length of each and the bytes of its elements, the last
+    /// dimension's index rising first.
+    ///
+    /// # Errors
+    ///
+    /// As [`push_array`](Self::push_array); [`BadLength`](Reason::BadLength) for no dimension or one below 1,
+    /// [`Disagree`](Reason::Disagree) for dimensions whose product is not the number of elements.
+    pub fn push_matrix(&mut self, value_type: Type, sizes: &[i32], bytes: &[u8]) -> Result<(), Refusal> {
+        self.put_by(|room| ffi::put_matrix(value_type.number().into(), ffi::bytes_of_sizes(sizes), bytes, room))
+    }
+
+    /// Adds a Variant: a QualifiedName.
+    ///
+    /// # Errors
+    ///
+    /// [`OverLimit`](Reason::OverLimit), [`NoRoom`](Reason::NoRoom).
+    pub fn push_qualified_name(&mut self, index: u16, name: &[u8]) -> Result<(), Refusal> {
+        self.put_by(|room| ffi::put_name(Type::QUALIFIED_NAME.number().into(), index.into(), &[], name, room))
+    }
+
+    /// Adds a Variant: a LocalizedText, with a locale and a text where they are given.
+    ///
+    /// # Errors
+    ///
+    /// As [`push_qualified_name`](Self::push_qualified_name).
+    pub fn push_localized_text(&mut self, locale: Option<&[u8]>, text: Option<&[u8]>) -> Result<(), Refusal> {
+        let mask = u32::from(locale.is_some()) + 2 * u32::from(text.is_some());
+        let (locale, text) = (locale.unwrap_or_default(), text.unwrap_or_default());
+        self.put_by(|room| ffi::put_name(Type::LOCALIZED_TEXT.number().into(), mask, locale, text, room))
+    }
+
     fn put(&mut self, value_type: Type, shape: u32, null: bool, bytes: &[u8]) -> Result<(), Refusal> {
+        self.put_by(|room| ffi::put_value(value_type.number().into(), shape, null.into(), bytes, room))
+    }
+
+    fn put_by(&mut self, put: impl FnOnce(&mut [u8]) -> ffi::Answer) -> Result<(), Refusal> {
         let no_room = Refusal { reason: Reason::NoRoom, place: 0 };
         let room = &mut self.bytes[self.used..];
         let length = self.lengths.get_mut(self.count).ok_or(no_room)?;
-        let put = ffi::put_value(value_type.number().into(), shape, null.into(), bytes, room).into_result()?;
+        let put = put(room).into_result()?;
         *length = put as usize;
         self.used += put as usize;
         self.count += 1;

@@ -92,6 +92,55 @@ pub fn put_value(tally: &mut Tally, random: &mut Random) {
     judge_put(tally, random, "put_value", length + 5, &input, reference, call);
 }
 
+/// A name put as a Variant, of any type, number and Strings.
+pub fn put_name(tally: &mut Tally, random: &mut Random) {
+    let kind = if random.one_in(8) { kind(random) } else { random.pick(&[20, 21, 21]) };
+    let number = if random.one_in(3) { random.edge() as u32 } else { random.below(5) as u32 };
+    let text = |random: &mut Random| {
+        let length = match random.below(16) {
+            0 => random.within(65_520, 65_545),
+            1..=6 => 0,
+            _ => random.below(12),
+        };
+        random.bytes(length)
+    };
+    let (locale, text) = (text(random), text(random));
+    let input = [("locale", &locale[..]), ("text", &text[..]), ("type and number", &[kind as u8, number as u8][..])];
+    let reference = |out: &mut [u8]| told::put_name(kind, number, &locale, &text, out);
+    let call = |out: &mut [u8]| ffi::put_name(kind, number, &locale, &text, out);
+    judge_put(tally, random, "put_name", locale.len() + text.len() + 10, &input, reference, call);
+}
+
+/// A matrix put as a Variant, of any type, dimensions and number of bytes; half of them agree.
+pub fn put_matrix(tally: &mut Tally, random: &mut Random) {
+    let kind = if random.one_in(4) { kind(random) } else { random.within(1, 11) as u32 };
+    let mut sizes: Vec<i32> = (0..random.below(5)).map(|_| random.below(6) as i32).collect();
+    if random.one_in(8) {
+        sizes.push(random.edge() as i32);
+    }
+    let product = sizes.iter().fold(1usize, |product, &size| product.saturating_mul(size.max(0) as usize));
+    let width = uadp_width(kind);
+    let length = match random.below(8) {
+        0 => random.within(65_520, 65_545),
+        1 | 2 => random.below(60),
+        _ => product.saturating_mul(width).min(70_000),
+    };
+    let bytes = random.bytes(length);
+    let mut sizes: Vec<u8> = sizes.iter().flat_map(|size| size.to_le_bytes()).collect();
+    if random.one_in(12) {
+        sizes.push(0);
+    }
+    let input = [("sizes", &sizes[..]), ("bytes", &bytes[..]), ("type", &[kind as u8][..])];
+    let reference = |out: &mut [u8]| told::put_matrix(kind, &sizes, &bytes, out);
+    let call = |out: &mut [u8]| ffi::put_matrix(kind, &sizes, &bytes, out);
+    judge_put(tally, random, "put_matrix", length + sizes.len() + 9, &input, reference, call);
+}
+
+/// The width of a type, 1 where it has none.
+fn uadp_width(kind: u32) -> usize {
+    u8::try_from(kind).ok().and_then(crate::reference::value::width).unwrap_or(1)
+}
+
 /// How many chunks a message has.
 pub fn chunks(tally: &mut Tally, random: &mut Random) {
     let total = if random.one_in(2) { random.within(16_380, 16_390) as u64 } else { random.edge() };

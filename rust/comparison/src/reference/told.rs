@@ -190,3 +190,63 @@ pub fn put(kind: u32, shape: u32, null: u32, bytes: &[u8], out: &mut [u8]) -> Re
     writer.put(bytes);
     Ok(writer.written())
 }
+
+fn text_of(text: &[u8]) -> Vec<u8> {
+    [&(text.len() as u32).to_le_bytes()[..], text].concat()
+}
+
+/// Puts a QualifiedName by its index and its name, or a LocalizedText by its mask, its locale and its text.
+pub fn put_name(kind: u32, number: u32, locale: &[u8], text: &[u8], out: &mut [u8]) -> Result<usize> {
+    let qualified = kind == QUALIFIED_NAME.into();
+    if !qualified && kind != LOCALIZED_TEXT.into() {
+        return Err(Number::NotTaken.nowhere());
+    }
+    if !qualified && number > 3 {
+        return Err(Number::NotPermitted.nowhere());
+    }
+    let (has_locale, has_text) = (!qualified && number & 1 != 0, qualified || number & 2 != 0);
+    let lacks = (!has_locale && !locale.is_empty()) || (!has_text && !text.is_empty());
+    if lacks || u16::try_from(number).is_err() {
+        return Err(Number::Disagree.nowhere());
+    }
+    let mut bytes = vec![kind as u8];
+    bytes.extend(&number.to_le_bytes()[..if qualified { 2 } else { 1 }]);
+    bytes.extend(if has_locale { text_of(locale) } else { Vec::new() });
+    bytes.extend(if has_text { text_of(text) } else { Vec::new() });
+    let mut writer = Writer::of_length(out, bytes.len())?;
+    writer.put(&bytes);
+    Ok(writer.written())
+}
+
+/// Puts an array of a fixed type with its dimensions, 4 bytes each.
+pub fn put_matrix(kind: u32, sizes: &[u8], bytes: &[u8], out: &mut [u8]) -> Result<usize> {
+    if kind == 0 {
+        return Err(Number::NotPermitted.nowhere());
+    }
+    let kind = u8::try_from(kind).unwrap_or(u8::MAX);
+    let width = value::width(kind).ok_or(Number::NotTaken.nowhere())?;
+    if bytes.len() % width != 0 {
+        return Err(Number::Disagree.nowhere());
+    }
+    if bytes.len() > 65_535 {
+        return Err(Number::OverLimit.nowhere());
+    }
+    if sizes.len() % 4 != 0 {
+        return Err(Number::Disagree.nowhere());
+    }
+    let each: Vec<i128> = sizes.chunks(4).map(|size| i32::from_le_bytes(size.try_into().expect("4 bytes")).into()).collect();
+    if each.is_empty() || each.iter().any(|&size| size < 1) {
+        return Err(Number::BadLength.nowhere());
+    }
+    let product = each.iter().try_fold(1i128, |product, size| product.checked_mul(*size).filter(|p| *p < 1 << 90));
+    if product != Some((bytes.len() / width) as i128) {
+        return Err(Number::Disagree.nowhere());
+    }
+    let mut writer = Writer::of_length(out, 1 + 4 + bytes.len() + 4 + sizes.len())?;
+    writer.put(&[kind | 0xC0]);
+    writer.put(&((bytes.len() / width) as u32).to_le_bytes());
+    writer.put(bytes);
+    writer.put(&(each.len() as u32).to_le_bytes());
+    writer.put(sizes);
+    Ok(writer.written())
+}
