@@ -2,6 +2,8 @@
 // numbers each (include/uadp.h, `uadp_salvage`).
 use dataset_fields::fields::Cursor;
 use dataset_fields::fields::Field;
+use dataset_fields::fields::FieldRead;
+use dataset_fields::fields::read_field;
 use dataset_header::flags::Encoding;
 use marks::next_unmarked;
 use message_record::message::elements_number;
@@ -10,16 +12,15 @@ use message_record::message::shape_number;
 use records::items::flag_number;
 use records::numbers::put_numbers;
 use records::numbers::put_numbers_from;
-use salvage::front::FieldShown;
 use salvage::front::Opening;
 use salvage::front::Tally;
 use salvage::front::count_fields;
-use salvage::front::next;
 use salvage::front::open;
 use salvage::holes::Hole;
 use salvage::holes::HoleStep;
 use salvage::holes::count_holes;
 use salvage::holes::next_hole;
+use salvage::quick::fixed_to;
 use value::Shape;
 use value::dimensions;
 use wire::constants::NO_ROOM;
@@ -107,6 +108,25 @@ fn put_holes(out: &mut [u8], marks: &[u8], total: usize)
     }
 }
 
+fn put_fixed(out: &mut [u8], k: usize, t: u8, index: usize, at: usize, length: usize)
+{
+    let numbers = [t as u64, 0, 0, index as u64, at as u64, length as u64, 0, 0];
+    put_entry(out, k, &numbers);
+}
+
+fn put_next(out: &mut [u8], k: usize, front: &[u8], encoding: Encoding, delta: bool, types: &[u8], i: usize, at: usize) -> usize
+{
+    let end = fixed_to(front, encoding, delta, at);
+    if at < end {
+        put_fixed(out, k, front[at], i, at, end - at);
+        return end;
+    }
+    match read_field(&*front, encoding, delta, &*types, i, at) {
+        FieldRead::Refused(_, _) => at,
+        FieldRead::Is(f, end) => { put_field(out, k, f); end }
+    }
+}
+
 // Puts the entries of the fields from a cursor on, none of which is refused, the first of them as entry `start`.
 fn put_fields(out: &mut [u8], start: usize, front: &[u8], area: &[u8], types: &[u8], first: Cursor)
     requires { let saved = salvageFrom (now types) (now front) (now area) first in
@@ -115,25 +135,18 @@ fn put_fields(out: &mut [u8], start: usize, front: &[u8], area: &[u8], types: &[
         let saved = salvageFrom (now (types .entry)) (now (front .entry)) (now (area .entry)) first in
         ⌜ now (out .exit) ≡ entriesPut start (fieldEntries (savedFields saved)) (now (out .entry)) ⌝ }
 {
-    let mut c = first;
+    let encoding = first.encoding;
+    let mut at = first.at;
+    let mut i = first.next;
     let mut k = start;
-    loop {
-        match next(front, area, types, c) {
-            FieldShown::Refused(_, _) => {
-                return;
-            }
-            FieldShown::Ends => {
-                return;
-            }
-            FieldShown::Last => {
-                return;
-            }
-            FieldShown::Is(f, after) => {
-                put_field(out, k, f);
-                c = after;
-                k += 1;
-            }
+    while i < first.count {
+        let end = put_next(out, k, front, encoding, first.delta, types, i, at);
+        if end <= at {
+            return;
         }
+        at = end;
+        i += 1;
+        k += 1;
     }
 }
 
