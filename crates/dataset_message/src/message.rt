@@ -84,7 +84,14 @@ fn finish(s: &[u8], header: Header, cursor: Cursor, types: &[u8], whole: bool) -
     }
 }
 
-fn read_body(s: &[u8], header: Header, types: &[u8], end: usize, at: usize, whole: bool) -> MessageRead
+fn read_body(
+    s: &[u8],
+    header: Header,
+    types: &[u8],
+    end: usize,
+    at: usize,
+    whole: bool,
+) -> MessageRead
     ensures { λ r. ⌜ answerMessage r ≡ bodyTo end (wholeOrFront whole) header (now (types .entry)) (now (s .entry)) at ⌝ }
 {
     let kind = header.kind;

@@ -1,10 +1,9 @@
 -- Where a field of the front ends. Assumes nothing.
-use Prim.Native.Nat.{ℕ, suc, _+_, _-_, _≤_, _<_}
+use Prim.Native.Nat.{ℕ, _+_, _-_, _≤_, _<_}
 use mathlib.Core.Path.{_≡_, refl, sym, ap, _∙_}
-use mathlib.Core.Bool.{Bool, true, false}
+use mathlib.Core.Bool.{Bool, false}
 use mathlib.Core.List.{List}
 use native.Mathlib.Omega.{arith}
-use lib.ListN.{length, getD}
 use Rattle.wire.specs.Answer.{Answer, got, refused}
 use Rattle.wire.proofs.Reading.{got-value, invert}
 use Rattle.value.specs.Quick.{fixedEnd}
@@ -15,11 +14,11 @@ use Rattle.dataset_fields.specs.declared.fields.Cursor.{Cursor}
 use Rattle.dataset_fields.specs.Fields.{indexAt, encodedAt, fieldAt, cursorBefore}
 use Rattle.dataset_fields.proofs.Inside.{index-within, field-inside}
 use Rattle.salvage.specs.Front.{salvageFrom, tallyFrom}
-use Rattle.salvage.specs.Quick.{fixedField, FixedTo, EndsAt, isGot, PassedTo}
+use Rattle.salvage.specs.Quick.{FixedTo, EndsAt, isWhole, PassedTo}
 use Rattle.salvage.proofs.Steps.{field-step, tally-on}
 
 -- a field has a byte
-pub field-on : (delta : Bool) (encoding : Encoding) (types : List ℕ) (k : ℕ) (s : List ℕ) (q : ℕ) (x : Field) (e : ℕ) → fieldAt delta encoding types k s q ≡ got x e → q < e
+field-on : (delta : Bool) (encoding : Encoding) (types : List ℕ) (k : ℕ) (s : List ℕ) (q : ℕ) (x : Field) (e : ℕ) → fieldAt delta encoding types k s q ≡ got x e → q < e
 field-on delta encoding types k s q x e h =
     let a = invert (indexAt delta k s q) (λ i o. _) h in
     let b = invert (encodedAt encoding types k s (a .1)) (λ m z. _) (a .3) in
@@ -56,7 +55,7 @@ pub ends-got : (a : Answer Field) (at end : ℕ) → EndsAt at a end → at < en
 ends-got (got x next) at end (e, l) u = (x, ap (got x) (sym e))
 ends-got (refused n p) at end e u = absurd (omega arith)
 
-pub ends-refused : (a : Answer Field) (at end : ℕ) → EndsAt at a end → end ≤ at → isGot a ≡ false
+ends-refused : (a : Answer Field) (at end : ℕ) → EndsAt at a end → end ≤ at → isWhole a ≡ false
 ends-refused (got x next) at end (e, l) u = absurd (omega arith)
 ends-refused (refused n p) at end e u = refl
 

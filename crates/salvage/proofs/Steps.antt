@@ -15,7 +15,7 @@ use Rattle.dataset_fields.specs.declared.fields.Field.{Field}
 use Rattle.dataset_fields.specs.declared.fields.Cursor.{Cursor}
 use Rattle.dataset_message.specs.Message.{Message}
 use Rattle.salvage.specs.Front.{Shown, shown, bad, ends, pastBy, shownBy, shownAt, promised, Salvage, salvaged, refusal, withField, afterLast, onField, fieldsShown, onFront, frontShown, salvageAt, opens, openAt, shownStep, lastBy, nextShown, salvageFrom, salvageOpened, tallyFrom, tallyBy}
-use Rattle.salvage.specs.Quick.{isGot}
+use Rattle.salvage.specs.Quick.{isWhole}
 use Rattle.salvage.specs.declared.front.FieldShown.{FieldShown}
 use Rattle.salvage.specs.declared.front.Tally.{Tally}
 
@@ -40,7 +40,7 @@ module _ (types f s : List ℕ) where
   field-saved c (bad n place) = refl
   field-saved c ends = refl
 
-  pub saved-step : (c : Cursor) → salvageFrom types f s c ≡ thenSaved (c .count) (nextShown types f s c)
+  saved-step : (c : Cursor) → salvageFrom types f s c ≡ thenSaved (c .count) (nextShown types f s c)
   unfolding fieldsShown
   saved-step c = go (leb (c .count) (c .next)) refl
     where
@@ -66,7 +66,7 @@ module _ (types f s : List ℕ) where
     pub next : after .next ≡ c .next + 1
     pub count : after .count ≡ c .count
 
-  pub step-on : (c : Cursor) (x : Field) (after : Cursor) → FieldShown.Is x after ≡ nextShown types f s c → Onward c after
+  step-on : (c : Cursor) (x : Field) (after : Cursor) → FieldShown.Is x after ≡ nextShown types f s c → Onward c after
   step-on c x after e = go (leb (c .count) (c .next)) refl
     where
       is-after : {x y : Field} {a b : Cursor} → FieldShown.Is x a ≡ FieldShown.Is y b → a ≡ b
@@ -110,7 +110,7 @@ module _ (types f s : List ℕ) where
   field-step c x end l e = rw (lt-leb (c .count) (c .next) l, e)
 
   -- where no field is whole, what a step says is how it ends
-  pub tally-stops : (k : ℕ) (c : Cursor) → (c .next < c .count → isGot (fieldAt (c .delta) (c .encoding) types (c .next) f (c .at)) ≡ false)
+  pub tally-stops : (k : ℕ) (c : Cursor) → (c .next < c .count → isWhole (fieldAt (c .delta) (c .encoding) types (c .next) f (c .at)) ≡ false)
       → tallyBy k (nextShown types f s c) ≡ tallyFrom k (salvageFrom types f s c)
   tally-stops k c stops = go (nextShown types f s c) refl ∙ sym (ap (tallyFrom k) (saved-step c))
     where

@@ -26,12 +26,12 @@ abbrev pub EndsAt : ℕ → Answer Field → ℕ → Type 0
 EndsAt at (got x next) end = (end ≡ next) × (at < next)
 EndsAt at (refused n place) end = end ≡ at
 
-abbrev pub isGot : Answer Field → Bool
-isGot (got x next) = true
-isGot (refused n place) = false
+abbrev pub isWhole : Answer Field → Bool
+isWhole (got x next) = true
+isWhole (refused n place) = false
 
 -- the cursor c stands behind the fields from `first` on that are whole in the front
 pub record PassedTo (types f : List ℕ) (first c : Cursor) : Type 0 where
   pub from : first .next ≤ c .next
   pub same : (s : List ℕ) → tallyFrom (c .next - first .next) (salvageFrom types f s c) ≡ tallyFrom 0 (salvageFrom types f s first)
-  pub stops : c .next < c .count → isGot (fieldAt (c .delta) (c .encoding) types (c .next) f (c .at)) ≡ false
+  pub stops : c .next < c .count → isWhole (fieldAt (c .delta) (c .encoding) types (c .next) f (c .at)) ≡ false

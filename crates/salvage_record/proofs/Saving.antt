@@ -14,7 +14,7 @@ use Rattle.wire.specs.Answer.{Answer, got, refused}
 use Rattle.wire_writer.specs.Store.{laid}
 use Rattle.dataset_header.specs.declared.flags.Encoding.{Encoding}
 use Rattle.dataset_header.specs.Flags.{encodingNumber}
-use Rattle.dataset_fields.specs.Fields.{fieldAt, paddingAt, zerosAt, andField, walked}
+use Rattle.dataset_fields.specs.Fields.{fieldAt, paddingAt, andField, walked}
 use Rattle.dataset_fields.specs.declared.fields.Field.{Field}
 use Rattle.dataset_fields.specs.declared.fields.Cursor.{Cursor}
 use Rattle.records.specs.Numbers.{numberBytes}
@@ -73,7 +73,7 @@ module _ (types f s : List ℕ) where
       go (bad a b) i ih = absurd (not-refused i)
       go ends i ih = sym (same-promise i)
 
-  pub saved-as : (c : Cursor) → isSaved (salvageFrom types f s c) ≡ true → salvageFrom types f s c ≡ salvaged (promised (c .count)) (savedFields (salvageFrom types f s c))
+  saved-as : (c : Cursor) → isSaved (salvageFrom types f s c) ≡ true → salvageFrom types f s c ≡ salvaged (promised (c .count)) (savedFields (salvageFrom types f s c))
   saved-as c h = go (salvageFrom types f s c) refl h
     where
       go : (v : Salvage) → salvageFrom types f s c ≡ v → isSaved v ≡ true → v ≡ salvaged (promised (c .count)) (savedFields v)
@@ -113,11 +113,11 @@ module _ (types f s : List ℕ) where
       go (got x end) i ih = front-of x (onward end) (walked delta encoding types n (k + 1) f end) i (ih end)
       go (refused m q) i ih = none (fieldAt delta encoding types k s at) m q
 
-  pub saved-whole : (c : Cursor) → isSaved (salvageFrom types f s c) ≡ true → savedFields (salvageFrom types f s c) ≡ wholeFields types f c
+  saved-whole : (c : Cursor) → isSaved (salvageFrom types f s c) ≡ true → savedFields (salvageFrom types f s c) ≡ wholeFields types f c
   saved-whole c h = saved-walked (c .count) (c .delta) (c .encoding) (c .count - c .next) (c .next) (c .at) h
 
   -- a count of them
-  pub tally-is : (c : Cursor) (k : ℕ) → Tally.Is k ≡ tallyFrom 0 (salvageFrom types f s c) → (isSaved (salvageFrom types f s c) ≡ true) × (k ≡ length (savedFields (salvageFrom types f s c)))
+  tally-is : (c : Cursor) (k : ℕ) → Tally.Is k ≡ tallyFrom 0 (salvageFrom types f s c) → (isSaved (salvageFrom types f s c) ≡ true) × (k ≡ length (savedFields (salvageFrom types f s c)))
   tally-is c k e = go (salvageFrom types f s c) e
     where
       number : Tally → ℕ
@@ -150,11 +150,6 @@ module _ (types f s : List ℕ) where
       go : (v : Salvage) → Tally.Refused n place ≡ tallyFrom 0 v → v ≡ refusal n place
       go (salvaged p fs) q = absurd (false≢true (sym (ap refuses q)))
       go (refusal a b) q = sym (rw (ap first q, ap second q) refl)
-
-  -- no field behind the front
-  pub none-saved : salvageFrom types f s (noneAt (length f)) ≡ salvaged (promised 0) []
-  unfolding fieldsShown zerosAt
-  none-saved = let z : length f - length f ≡ 0 = omega arith in rw z
 
 -- ---- entries put one by one
 module _ (types f : List ℕ) (c : Cursor) where

@@ -166,13 +166,7 @@ fn put_next(
 
 // Puts the entries of the fields from a cursor on that are whole in the front, the first of them as entry `start`, and answers how many
 // entries there are then.
-fn put_fields(
-    out: &mut [u8],
-    start: usize,
-    front: &[u8],
-    types: &[u8],
-    first: Cursor,
-) -> usize
+fn put_fields(out: &mut [u8], start: usize, front: &[u8], types: &[u8], first: Cursor) -> usize
     requires { ⌜ start + length (wholeFields (now types) (now front) first) ≤ 18446744073709551615 ⌝ }
     ensures { λ r.
         let fields = wholeFields (now (types .entry)) (now (front .entry)) first in
@@ -351,7 +345,18 @@ pub fn salvage(
     match find(front, area, types, total) {
         Found::Refused(n, place) => Salvaged::Refused(n, place),
         Found::Is(known, c, fields) => {
-            store(told, list, front, types, marks, total, covered, known, c, fields)
+            store(
+                told,
+                list,
+                front,
+                types,
+                marks,
+                total,
+                covered,
+                known,
+                c,
+                fields,
+            )
         }
     }
 }

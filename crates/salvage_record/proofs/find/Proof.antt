@@ -15,46 +15,6 @@ use Rattle.salvage.proofs.front.count_fields.Reads as count-fields-reads
 use Rattle.salvage_record.proofs.none_at.Reads as none-at-reads
 use Rattle.salvage_record.proofs.open_in.Reads as open-in-reads
 
--- src/lib.rt:316:11
-open-in-requires : tie.Need-open-in-requires
-open-in-requires c κs = search needs
-
--- src/lib.rt:317:26
-enum-known-n : tie.Need-enum-known-n
-enum-known-n c = search needs
-
--- src/lib.rt:318:54
-enum-told : tie.Need-enum-told
-enum-told c = search needs
-
--- src/lib.rt:318:46
-none-at-requires : tie.Need-none-at-requires
-none-at-requires c κs = search needs
-
--- src/lib.rt:319:54
-enum-told-2 : tie.Need-enum-told-2
-enum-told-2 c = search needs
-
--- src/lib.rt:319:46
-none-at-requires-2 : tie.Need-none-at-requires-2
-none-at-requires-2 c κs = search needs
-
--- src/lib.rt:320:21
-enum-known-c : tie.Need-enum-known-c
-enum-known-c c = search needs
-
--- src/lib.rt:320:33
-count-fields-requires : tie.Need-count-fields-requires
-count-fields-requires c κs = search needs
-
--- src/lib.rt:321:28
-enum-known-n-2 : tie.Need-enum-known-n-2
-enum-known-n-2 c = search needs
-
--- src/lib.rt:322:23
-enum-known-k : tie.Need-enum-known-k
-enum-known-k c = search needs
-
 -- src/lib.rt:310:1
 returns : tie.Need-returns
 returns c =
@@ -87,7 +47,8 @@ returns-4 c =
     let at-c = at-count-fields .before .before in
     let at-open-in = at-c .before .before in
     let args = at-open-in .before .before .before .before .args in
-    ap (salvageOpened (now (args .types)) (now (args .front)) (now (args .area))) (sym (sym (at-c .c .given .1) ∙ at-open-in .open-in .ensures)) ∙ tally-bad (now (args .types)) (now (args .front)) (now (args .area)) _ _ _ (sym (at-n2 .n2 .given .1) ∙ at-count-fields .count-fields .ensures)
+    ap (salvageOpened (now (args .types)) (now (args .front)) (now (args .area))) (sym (sym (at-c .c .given .1) ∙ at-open-in .open-in .ensures))
+    ∙ tally-bad (now (args .types)) (now (args .front)) (now (args .area)) _ _ _ (sym (at-n2 .n2 .given .1) ∙ at-count-fields .count-fields .ensures)
 
 -- src/lib.rt:310:1
 returns-5 : tie.Need-returns-5
@@ -97,22 +58,24 @@ returns-5 c =
     let at-c = at-count-fields .before .before in
     let at-open-in = at-c .before .before in
     let args = at-open-in .before .before .before .before .args in
-    subst (λ (o : Opening). Finds (now (args .types)) (now (args .front)) (now (args .area)) o (Found.Is true (at-c .c .given .0 .0) (at-k .k .given .0 .0))) (sym (at-c .c .given .1) ∙ at-open-in .open-in .ensures) (some-found (now (args .types)) (now (args .front)) (now (args .area)) _ _ (sym (at-k .k .given .1) ∙ at-count-fields .count-fields .ensures))
+    subst (λ (o : Opening). Finds (now (args .types)) (now (args .front)) (now (args .area)) o (Found.Is true (at-c .c .given .0 .0) (at-k .k .given .0 .0)))
+    (sym (at-c .c .given .1) ∙ at-open-in .open-in .ensures)
+    (some-found (now (args .types)) (now (args .front)) (now (args .area)) _ _ (sym (at-k .k .given .1) ∙ at-count-fields .count-fields .ensures))
 
 pub find-spec : {M : Type 1} → statement M
 find-spec =
     tie.close
     (tie.spec
-    open-in-requires
-    enum-known-n
-    enum-told
-    none-at-requires
-    enum-told-2
-    none-at-requires-2
-    enum-known-c
-    count-fields-requires
-    enum-known-n-2
-    enum-known-k
+    (λ c κs. search needs)
+    (λ c. search needs)
+    (λ c. search needs)
+    (λ c κs. search needs)
+    (λ c. search needs)
+    (λ c κs. search needs)
+    (λ c. search needs)
+    (λ c κs. search needs)
+    (λ c. search needs)
+    (λ c. search needs)
     returns
     returns-2
     returns-3

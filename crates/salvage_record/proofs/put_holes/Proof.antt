@@ -30,15 +30,8 @@ abbrev μ-loop : tie.MeasureT-loop
 -- src/lib.rt:106:5
 loop-holds : tie.Need-loop-holds Inv-loop μ-loop
 loop-holds c =
-    let s = holes-start (marked inUse (now (c .before .before .args .marks))) (c .before .before .args .total) in (refl, omega arith, ap (λ (hs : List Hole). entriesPut 0 (holeEntries hs) (now (c .before .before .args .out))) s, let z = ap length s in omega (arith, z))
-
--- src/lib.rt:107:15
-next-hole-requires : tie.Need-next-hole-requires Inv-loop μ-loop
-next-hole-requires c κs = search needs
-
--- src/lib.rt:109:17
-enum-told : tie.Need-enum-told Inv-loop μ-loop
-enum-told c = search needs
+    let s = holes-start (marked inUse (now (c .before .before .args .marks))) (c .before .before .args .total) in
+    (refl, omega arith, ap (λ (hs : List Hole). entriesPut 0 (holeEntries hs) (now (c .before .before .args .out))) s, let z = ap length s in omega (arith, z))
 
 -- src/lib.rt:109:17
 same-length : tie.Need-same-length Inv-loop μ-loop
@@ -51,30 +44,27 @@ returns : tie.Need-returns Inv-loop μ-loop
 returns c =
     let at-next-hole = c .before .before in
     let at-loop = at-next-hole .before in
-    let args = at-loop .before .before .before .args in
-    (holes-end (marked inUse (now (args .marks))) (args .total) (at-loop .loop .at) (at-loop .loop .k) _ _ (sym (c .enum-told .given .1) ∙ at-next-hole .next-hole .ensures) (at-loop .loop .inv .2), holes-all (marked inUse (now (args .marks))) (args .total) (at-loop .loop .at) (at-loop .loop .k) _ (sym (c .enum-told .given .1) ∙ at-next-hole .next-hole .ensures) (at-loop .loop .inv .3))
-
--- src/lib.rt:111:26
-enum-known-h : tie.Need-enum-known-h Inv-loop μ-loop
-enum-known-h c = search needs
-
--- src/lib.rt:112:17
-put-hole-requires : tie.Need-put-hole-requires Inv-loop μ-loop
-put-hole-requires c κs = search needs
+    let args = at-loop .before .before .before .args in (
+      holes-end (marked inUse (now (args .marks))) (args .total) (at-loop .loop .at) (at-loop .loop .k) _ _ (sym (c .enum-told .given .1) ∙ at-next-hole .next-hole .ensures) (at-loop .loop .inv .2),
+      holes-all (marked inUse (now (args .marks))) (args .total) (at-loop .loop .at) (at-loop .loop .k) _ (sym (c .enum-told .given .1) ∙ at-next-hole .next-hole .ensures) (at-loop .loop .inv .3),
+    )
 
 -- src/lib.rt:114:17
 add-k : tie.Need-add-k Inv-loop μ-loop
 add-k c =
-    let at-h = c .before .before .before .before .before in
+    let at-near = c .before .before .before .before in
+    let at-h = at-near .before in
     let at-next-hole = at-h .before .before in
     let at-loop = at-next-hole .before in
     let args = at-loop .before .before .before .args in
-    let on = hole-moves (marked inUse (now (args .marks))) (args .total) (at-loop .loop .at) _ _ (sym (at-h .h .given .1) ∙ at-next-hole .next-hole .ensures) in omega (arith, on .0, on .1, at-loop .loop .inv .1)
+    let on = hole-moves (marked inUse (now (args .marks))) (args .total) (at-loop .loop .at) _ _ (sym (at-h .h .given .1) ∙ at-next-hole .next-hole .ensures) in
+    omega (arith, on .0, on .1, at-loop .loop .inv .1)
 
 -- src/lib.rt:106:5
 loop-less : tie.Need-loop-less Inv-loop μ-loop
 loop-less c =
-    let at-h = c .before .before .before .before .before in
+    let at-near = c .before .before .before .before in
+    let at-h = at-near .before in
     let at-next-hole = at-h .before .before in
     let at-loop = at-next-hole .before in
     let args = at-loop .before .before .before .args in
@@ -88,7 +78,12 @@ loop-again c =
     let at-next-hole = at-h .before .before in
     let at-loop = at-next-hole .before in
     let args = at-loop .before .before .before .args in
-    let e = sym (at-h .h .given .1) ∙ at-next-hole .next-hole .ensures in let on = hole-moves (marked inUse (now (args .marks))) (args .total) (at-loop .loop .at) _ _ e in (search needs, omega (arith, on .0, at-loop .loop .inv .1), holes-put (marked inUse (now (args .marks))) (args .total) (at-loop .loop .at) _ _ (at-loop .loop .k) (at-loop .loop .out) _ _ e (at-put-hole .put-hole .ensures) (at-loop .loop .inv .2), holes-more (marked inUse (now (args .marks))) (args .total) (at-loop .loop .at) _ _ (at-loop .loop .k) _ e (at-loop .loop .inv .3))
+    let e = sym (at-h .h .given .1) ∙ at-next-hole .next-hole .ensures in let on = hole-moves (marked inUse (now (args .marks))) (args .total) (at-loop .loop .at) _ _ e in (
+      search needs,
+      omega (arith, on .0, at-loop .loop .inv .1),
+      holes-put (marked inUse (now (args .marks))) (args .total) (at-loop .loop .at) _ _ (at-loop .loop .k) (at-loop .loop .out) _ _ e (at-put-hole .put-hole .ensures) (at-loop .loop .inv .2),
+      holes-more (marked inUse (now (args .marks))) (args .total) (at-loop .loop .at) _ _ (at-loop .loop .k) _ e (at-loop .loop .inv .3),
+    )
 
 pub put-holes-spec : {M : Type 1} → statement M
 put-holes-spec =
@@ -97,12 +92,12 @@ put-holes-spec =
     Inv-loop
     μ-loop
     loop-holds
-    next-hole-requires
-    enum-told
+    (λ c κs. search needs)
+    (λ c. search needs)
     same-length
     returns
-    enum-known-h
-    put-hole-requires
+    (λ c. search needs)
+    (λ c κs. search needs)
     add-k
     loop-less
     loop-again)

@@ -11,30 +11,6 @@ use Rattle.salvage_record.proofs.find.Reads as find-reads
 use Rattle.salvage_record.proofs.store.Reads as store-reads
 use Rattle.wire.proofs.part.part.Reads as part-reads
 
--- src/lib.rt:348:9
-next-unmarked-requires : tie.Need-next-unmarked-requires
-next-unmarked-requires c κs = search needs
-
--- src/lib.rt:349:9
-part-requires : tie.Need-part-requires
-part-requires c κs = search needs
-
--- src/lib.rt:350:9
-part-requires-2 : tie.Need-part-requires-2
-part-requires-2 c κs = search needs
-
--- src/lib.rt:351:11
-find-requires : tie.Need-find-requires
-find-requires c κs = search needs
-
--- src/lib.rt:352:24
-enum-known-n : tie.Need-enum-known-n
-enum-known-n c = search needs
-
--- src/lib.rt:353:19
-enum-known-known : tie.Need-enum-known-known
-enum-known-known c = search needs
-
 -- src/lib.rt:354:13
 store-requires : tie.Need-store-requires
 store-requires c κs =
@@ -51,15 +27,8 @@ returns c =
     let at-part = at-part2 .before in
     let at-next-unmarked = at-part .before in
     let args = at-next-unmarked .before .before .before .before .before .before .args in
-    put-way (now (args .types)) (now (args .payload)) (now (args .marks)) (args .total) (now (args .told)) (now (args .list)) _ _ _ _ _ _ (at-next-unmarked .next-unmarked .ensures) (at-part .part .ensures) (at-part2 .part2 .ensures) refl (rw (at-n .n .given .1) at (at-find .find .ensures)) refl
-
--- src/lib.rt:336:1
-same-length : tie.Need-same-length
-same-length c = search needs
-
--- src/lib.rt:336:1
-same-length-2 : tie.Need-same-length-2
-same-length-2 c = search needs
+    put-way (now (args .types)) (now (args .payload)) (now (args .marks)) (args .total) (now (args .told)) (now (args .list)) _ _ _ _ _ _
+    (at-next-unmarked .next-unmarked .ensures) (at-part .part .ensures) (at-part2 .part2 .ensures) refl (rw (at-n .n .given .1) at (at-find .find .ensures)) refl
 
 -- src/lib.rt:336:1
 returns-2 : tie.Need-returns-2
@@ -71,20 +40,22 @@ returns-2 c =
     let at-part = at-part2 .before in
     let at-next-unmarked = at-part .before in
     let args = at-next-unmarked .before .before .before .before .before .before .args in
-    found-way (now (args .types)) (now (args .payload)) (now (args .marks)) (args .total) (now (args .told)) (now (args .list)) _ _ _ (at-known .known .given .0 .0) _ _ _ (at-next-unmarked .next-unmarked .ensures) (at-part .part .ensures) (at-part2 .part2 .ensures) (rw (at-known .known .given .1) at (at-find .find .ensures)) (at-store .store .ensures)
+    found-way (now (args .types)) (now (args .payload)) (now (args .marks)) (args .total) (now (args .told)) (now (args .list)) _ _ _
+    (at-known .known .given .0 .0) _ _ _ (at-next-unmarked .next-unmarked .ensures) (at-part .part .ensures) (at-part2 .part2 .ensures)
+    (rw (at-known .known .given .1) at (at-find .find .ensures)) (at-store .store .ensures)
 
 pub salvage-spec : {M : Type 1} → statement M
 salvage-spec =
     tie.close
     (tie.spec
-    next-unmarked-requires
-    part-requires
-    part-requires-2
-    find-requires
-    enum-known-n
-    enum-known-known
+    (λ c κs. search needs)
+    (λ c κs. search needs)
+    (λ c κs. search needs)
+    (λ c κs. search needs)
+    (λ c. search needs)
+    (λ c. search needs)
     store-requires
     returns
-    same-length
-    same-length-2
+    (λ c. search needs)
+    (λ c. search needs)
     returns-2)

@@ -16,10 +16,6 @@ use Rattle.marks.proofs.whole.eight.Reads as eight-reads
 returns : tie.Need-returns
 returns c = λ e. absurd (false≢true e)
 
--- src/next.rt:46:8
-sub-if2 : tie.Need-sub-if2
-sub-if2 c = search needs
-
 -- src/next.rt:47:9
 returns-2 : tie.Need-returns-2
 returns-2 c = λ e. absurd (false≢true e)
@@ -28,21 +24,9 @@ returns-2 c = λ e. absurd (false≢true e)
 returns-3 : tie.Need-returns-3
 returns-3 c = λ e. absurd (false≢true e)
 
--- src/next.rt:53:8
-sub-if4 : tie.Need-sub-if4
-sub-if4 c = search needs
-
 -- src/next.rt:54:9
 returns-4 : tie.Need-returns-4
 returns-4 c = λ e. absurd (false≢true e)
-
--- src/next.rt:56:5
-eight-requires : tie.Need-eight-requires
-eight-requires c κs = search needs
-
--- src/next.rt:56:25
-choose-number-requires : tie.Need-choose-number-requires
-choose-number-requires c κs = search needs
 
 -- src/next.rt:37:1
 returns-5 : tie.Need-returns-5
@@ -52,19 +36,22 @@ returns-5 c =
     let at-if1 = at-if2 .before in
     let at-shared-slice-known = at-if1 .before in
     let at-pre = at-shared-slice-known .before in
-    λ e. (omega (arith, at-if2 .if2 .left, at-pre .pre), alike-eight (now (at-pre .args .marks)) (at-pre .args .i) (at-pre .args .want)
-    (λ k. let b = at-shared-slice-known .shared-slice-known .given k in omega (arith, b)) (at-if1 .if1 .left) (sym (at-eight .eight .ensures) ∙ eqb-true _ _ e ∙ c .choose-number .ensures))
+    λ e. (
+      omega (arith, at-if2 .if2 .left, at-pre .pre),
+      alike-eight (now (at-pre .args .marks)) (at-pre .args .i) (at-pre .args .want)
+          (λ k. let b = at-shared-slice-known .shared-slice-known .given k in omega (arith, b)) (at-if1 .if1 .left) (sym (at-eight .eight .ensures) ∙ eqb-true _ _ e ∙ c .choose-number .ensures),
+    )
 
 pub none-in-eight-spec : {M : Type 1} → statement M
 none-in-eight-spec =
     tie.close
     (tie.spec
     returns
-    sub-if2
+    (λ c. search needs)
     returns-2
     returns-3
-    sub-if4
+    (λ c. search needs)
     returns-4
-    eight-requires
-    choose-number-requires
+    (λ c κs. search needs)
+    (λ c κs. search needs)
     returns-5)

@@ -27,34 +27,26 @@ returns-2 c =
     let at-pre = c .before .before .before .before in
     (omega arith, omega (arith, at-pre .pre .0), alike-one (λ j. wanted (at-pre .args .want) (marked inUse (now (at-pre .args .marks)) j)) (at-pre .args .i) (at-pre .pre .1))
 
--- src/next.rt:74:8
-sub-if3 : tie.Need-sub-if3
-sub-if3 c = search needs
-
 -- src/next.rt:75:9
 returns-3 : tie.Need-returns-3
 returns-3 c =
-    let at-pre = c .before .before .before .before .before in
+    let at-near = c .before .before .before .before in
+    let at-pre = at-near .before in
     (omega arith, omega (arith, at-pre .pre .0), alike-one (λ j. wanted (at-pre .args .want) (marked inUse (now (at-pre .args .marks)) j)) (at-pre .args .i) (at-pre .pre .1))
 
 -- src/next.rt:78:9
 returns-4 : tie.Need-returns-4
 returns-4 c =
-    let at-pre = c .before .before .before .before .before .before in
+    let at-near = c .before .before .before .before in
+    let at-pre = at-near .before .before in
     (omega arith, omega (arith, at-pre .pre .0), alike-one (λ j. wanted (at-pre .args .want) (marked inUse (now (at-pre .args .marks)) j)) (at-pre .args .i) (at-pre .pre .1))
-
--- src/next.rt:80:8
-shared-slice-read-if5 : tie.Need-shared-slice-read-if5
-shared-slice-read-if5 c = search needs
-
--- src/next.rt:80:21
-choose-requires : tie.Need-choose-requires
-choose-requires c κs = search needs
 
 -- src/next.rt:81:9
 returns-5 : tie.Need-returns-5
 returns-5 c =
-    let at-pre = c .before .before .before .before .before .before .before .before .before in
+    let at-near = c .before .before .before .before in
+    let at-near-2 = at-near .before .before .before .before in
+    let at-pre = at-near-2 .before in
     (omega arith, omega (arith, at-pre .pre .0), alike-one (λ j. wanted (at-pre .args .want) (marked inUse (now (at-pre .args .marks)) j)) (at-pre .args .i) (at-pre .pre .1))
 
 -- src/next.rt:61:1
@@ -63,8 +55,11 @@ returns-6 c =
     let at-choose = c .before in
     let at-if3 = at-choose .before .before .before in
     let at-if2 = at-if3 .before in
-    let at-pre = at-if2 .before .before .before .before in
-    (omega arith, omega (arith, at-pre .pre .0, at-if3 .if3 .left), alike-byte (now (at-pre .args .marks)) (at-pre .args .i) (at-pre .args .want) (at-if2 .if2 .left) (c .if5 .left ∙ at-choose .choose .ensures))
+    let at-pre = at-if2 .before .before .before .before in (
+      omega arith,
+      omega (arith, at-pre .pre .0, at-if3 .if3 .left),
+      alike-byte (now (at-pre .args .marks)) (at-pre .args .i) (at-pre .args .want) (at-if2 .if2 .left) (c .if5 .left ∙ at-choose .choose .ensures),
+    )
 
 pub unwanted-spec : {M : Type 1} → statement M
 unwanted-spec =
@@ -73,10 +68,10 @@ unwanted-spec =
     none-in-eight-requires
     returns
     returns-2
-    sub-if3
+    (λ c. search needs)
     returns-3
     returns-4
-    shared-slice-read-if5
-    choose-requires
+    (λ c. search needs)
+    (λ c κs. search needs)
     returns-5
     returns-6)

@@ -1,5 +1,5 @@
 use Prim.Native.Nat.{ℕ}
-use mathlib.Core.Path.{ap, sym, _∙_}
+use mathlib.Core.Path.{ap, _∙_}
 use denote.Ref.{now}
 use Rattle.salvage.specs.Front.{nextShown, tallyBy}
 use Rattle.salvage.proofs.Steps.{tally-stops}
@@ -12,25 +12,15 @@ use Rattle.salvage.proofs.front.ending.Reads as ending-reads
 use Rattle.salvage.proofs.front.pass_whole.Reads as pass-whole-reads
 use Rattle.wire.proofs.left.Reads as left-reads
 
--- src/front.rt:171:9
-pass-whole-requires : tie.Need-pass-whole-requires
-pass-whole-requires c κs = search needs
-
--- src/front.rt:172:35
-left-requires : tie.Need-left-requires
-left-requires c κs = search needs
-
--- src/front.rt:172:5
-ending-requires : tie.Need-ending-requires
-ending-requires c κs = search needs
-
 -- src/front.rt:168:1
 returns : tie.Need-returns
 returns c =
     let at-left = c .before in
     let at-pass-whole = at-left .before in
     let args = at-pass-whole .before .before .before .before .args in
-    c .ending .ensures ∙ ap (λ (k : ℕ). tallyBy k (nextShown (now (args .types)) (now (args .front)) (now (args .area)) (at-pass-whole .pass-whole .result))) (at-left .left .ensures) ∙ tally-stops (now (args .types)) (now (args .front)) (now (args .area)) _ (at-pass-whole .pass-whole .result) (at-pass-whole .pass-whole .ensures .stops) ∙ at-pass-whole .pass-whole .ensures .same (now (args .area))
+    c .ending .ensures ∙ ap (λ (k : ℕ). tallyBy k (nextShown (now (args .types)) (now (args .front)) (now (args .area)) (at-pass-whole .pass-whole .result))) (at-left .left .ensures)
+    ∙ tally-stops (now (args .types)) (now (args .front)) (now (args .area)) _ (at-pass-whole .pass-whole .result) (at-pass-whole .pass-whole .ensures .stops)
+    ∙ at-pass-whole .pass-whole .ensures .same (now (args .area))
 
 pub count-fields-spec : {M : Type 1} → statement M
-count-fields-spec = tie.close (tie.spec pass-whole-requires left-requires ending-requires returns)
+count-fields-spec = tie.close (tie.spec (λ c κs. search needs) (λ c κs. search needs) (λ c κs. search needs) returns)

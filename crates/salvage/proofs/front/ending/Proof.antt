@@ -7,26 +7,6 @@ use Rattle.salvage.proofs.front.ending.Reads as reads
 use Rattle.salvage.proofs.front.ending.Lts as lts
 use Rattle.salvage.proofs.front.next.Reads as next-reads
 
--- src/front.rt:159:11
-next-requires : tie.Need-next-requires
-next-requires c κs = search needs
-
--- src/front.rt:160:33
-enum-told : tie.Need-enum-told
-enum-told c = search needs
-
--- src/front.rt:161:29
-enum-told-2 : tie.Need-enum-told-2
-enum-told-2 c = search needs
-
--- src/front.rt:162:29
-enum-told-3 : tie.Need-enum-told-3
-enum-told-3 c = search needs
-
--- src/front.rt:163:29
-enum-known-n : tie.Need-enum-known-n
-enum-known-n c = search needs
-
 -- src/front.rt:156:1
 returns : tie.Need-returns
 returns c =
@@ -60,11 +40,11 @@ pub ending-spec : {M : Type 1} → statement M
 ending-spec =
     tie.close
     (tie.spec
-    next-requires
-    enum-told
-    enum-told-2
-    enum-told-3
-    enum-known-n
+    (λ c κs. search needs)
+    (λ c. search needs)
+    (λ c. search needs)
+    (λ c. search needs)
+    (λ c. search needs)
     returns
     returns-2
     returns-3

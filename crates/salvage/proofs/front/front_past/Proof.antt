@@ -8,22 +8,6 @@ use Rattle.salvage.proofs.front.front_past.Reads as reads
 use Rattle.salvage.proofs.front.front_past.Lts as lts
 use Rattle.dataset_message.proofs.message.front_to.Reads as front-to-reads
 
--- src/front.rt:50:11
-front-to-requires : tie.Need-front-to-requires
-front-to-requires c κs = search needs
-
--- src/front.rt:51:34
-enum-told : tie.Need-enum-told
-enum-told c = search needs
-
--- src/front.rt:52:37
-enum-told-2 : tie.Need-enum-told-2
-enum-told-2 c = search needs
-
--- src/front.rt:53:30
-enum-known-n : tie.Need-enum-known-n
-enum-known-n c = search needs
-
 -- src/front.rt:45:1
 returns : tie.Need-returns
 returns c =
@@ -44,4 +28,4 @@ returns-3 c =
 pub front-past-spec : {M : Type 1} → statement M
 front-past-spec =
     tie.close
-    (tie.spec front-to-requires enum-told enum-told-2 enum-known-n returns returns-2 returns-3)
+    (tie.spec (λ c κs. search needs) (λ c. search needs) (λ c. search needs) (λ c. search needs) returns returns-2 returns-3)

@@ -10,32 +10,12 @@ use Rattle.salvage.proofs.front.open.Lts as lts
 use Rattle.dataset_message.proofs.message.front_to.Reads as front-to-reads
 use Rattle.salvage.proofs.front.front_past.Reads as front-past-reads
 
--- src/front.rt:75:11
-front-to-requires : tie.Need-front-to-requires
-front-to-requires c κs = search needs
-
--- src/front.rt:76:34
-enum-told : tie.Need-enum-told
-enum-told c = search needs
-
--- src/front.rt:77:28
-enum-known-c : tie.Need-enum-known-c
-enum-known-c c = search needs
-
--- src/front.rt:78:30
-enum-known-n : tie.Need-enum-known-n
-enum-known-n c = search needs
-
 -- src/front.rt:80:17
 returns : tie.Need-returns
 returns c =
     let at-n = c .before .before in
     let at-front-to = at-n .before .before in
     rw (sym (told answerMessage (at-front-to .front-to .ensures) (at-n .n .given .1)), ne-eqb _ _ (c .if1 .taken))
-
--- src/front.rt:82:16
-front-past-requires : tie.Need-front-past-requires
-front-past-requires c κs = search needs
 
 -- src/front.rt:83:17
 returns-2 : tie.Need-returns-2
@@ -71,12 +51,12 @@ pub open-spec : {M : Type 1} → statement M
 open-spec =
     tie.close
     (tie.spec
-    front-to-requires
-    enum-told
-    enum-known-c
-    enum-known-n
+    (λ c κs. search needs)
+    (λ c. search needs)
+    (λ c. search needs)
+    (λ c. search needs)
     returns
-    front-past-requires
+    (λ c κs. search needs)
     returns-2
     returns-3
     returns-4

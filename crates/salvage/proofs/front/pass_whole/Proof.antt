@@ -20,10 +20,6 @@ loop-holds : tie.Need-loop-holds Inv-loop μ-loop
 loop-holds c =
     passing-start (now (c .before .before .args .types)) (now (c .before .before .args .front)) (c .before .before .args .first)
 
--- src/front.rt:139:13
-field-end-requires : tie.Need-field-end-requires Inv-loop μ-loop
-field-end-requires c κs = search needs
-
 -- src/front.rt:144:9
 add-k : tie.Need-add-k Inv-loop μ-loop
 add-k c = omega arith
@@ -39,7 +35,8 @@ loop-again c =
     let at-if1 = at-field-end .before in
     let at-loop = at-if1 .before .before in
     let args = at-loop .before .before .before .args in
-    passing-on (now (args .types)) (now (args .front)) (args .first) (at-loop .loop .k) (at-loop .loop .at) _ (at-loop .loop .inv) (at-if1 .if1 .taken) (at-field-end .field-end .ensures) (c .if2 .left)
+    passing-on (now (args .types)) (now (args .front)) (args .first) (at-loop .loop .k) (at-loop .loop .at) _ (at-loop .loop .inv)
+    (at-if1 .if1 .taken) (at-field-end .field-end .ensures) (c .if2 .left)
 
 -- src/front.rt:132:1
 returns : tie.Need-returns Inv-loop μ-loop
@@ -63,7 +60,7 @@ pass-whole-spec =
     Inv-loop
     μ-loop
     loop-holds
-    field-end-requires
+    (λ c κs. search needs)
     add-k
     loop-less
     loop-again

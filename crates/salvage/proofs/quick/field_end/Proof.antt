@@ -10,28 +10,12 @@ use Rattle.salvage.proofs.quick.field_end.Lts as lts
 use Rattle.dataset_fields.proofs.fields.read_field.Reads as read-field-reads
 use Rattle.salvage.proofs.quick.fixed_to.Reads as fixed-to-reads
 
--- src/quick.rt:35:9
-fixed-to-requires : tie.Need-fixed-to-requires
-fixed-to-requires c κs = search needs
-
 -- src/quick.rt:37:9
 returns : tie.Need-returns
 returns c =
     let at-fixed-to = c .before in
     let args = at-fixed-to .before .before .before .args in
     fixed-ends (args .delta) (args .encoding) (now (args .types)) (args .k) (now (args .front)) (args .at) _ (at-fixed-to .fixed-to .ensures) (c .if1 .taken)
-
--- src/quick.rt:39:11
-read-field-requires : tie.Need-read-field-requires
-read-field-requires c κs = search needs
-
--- src/quick.rt:40:37
-enum-told : tie.Need-enum-told
-enum-told c = search needs
-
--- src/quick.rt:41:26
-enum-known-end : tie.Need-enum-known-end
-enum-known-end c = search needs
 
 -- src/quick.rt:25:1
 returns-2 : tie.Need-returns-2
@@ -52,10 +36,10 @@ pub field-end-spec : {M : Type 1} → statement M
 field-end-spec =
     tie.close
     (tie.spec
-    fixed-to-requires
+    (λ c κs. search needs)
     returns
-    read-field-requires
-    enum-told
-    enum-known-end
+    (λ c κs. search needs)
+    (λ c. search needs)
+    (λ c. search needs)
     returns-2
     returns-3)

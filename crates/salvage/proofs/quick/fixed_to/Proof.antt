@@ -1,4 +1,3 @@
-use mathlib.Core.Path.{sym}
 use denote.Ref.{now}
 use Rattle.salvage.proofs.FieldEnds.{none-fixed, variant-fixed}
 use borrow.Author.Needs.{needs}
@@ -12,22 +11,6 @@ use Rattle.value.proofs.quick.fixed_end.Reads as fixed-end-reads
 returns : tie.Need-returns
 returns c =
     none-fixed (c .before .before .args .delta) (c .before .before .args .encoding) (now (c .before .before .args .front)) (c .before .before .args .at)
-
--- src/quick.rt:18:30
-enum-told : tie.Need-enum-told
-enum-told c = search needs
-
--- src/quick.rt:18:30
-fixed-end-requires : tie.Need-fixed-end-requires
-fixed-end-requires c κs = search needs
-
--- src/quick.rt:19:30
-enum-told-2 : tie.Need-enum-told-2
-enum-told-2 c = search needs
-
--- src/quick.rt:20:32
-enum-told-3 : tie.Need-enum-told-3
-enum-told-3 c = search needs
 
 -- src/quick.rt:11:1
 returns-2 : tie.Need-returns-2
@@ -54,10 +37,10 @@ fixed-to-spec =
     tie.close
     (tie.spec
     returns
-    enum-told
-    fixed-end-requires
-    enum-told-2
-    enum-told-3
+    (λ c. search needs)
+    (λ c κs. search needs)
+    (λ c. search needs)
+    (λ c. search needs)
     returns-2
     returns-3
     returns-4)
