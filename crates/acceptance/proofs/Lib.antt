@@ -5,6 +5,7 @@ pub mod RefusedMessages
 pub mod RefusedCalls
 pub mod RefusedWriters
 pub mod RefusedProbes
+pub mod RefusedSalvage
 pub mod Probes
 pub mod Tiling
 pub mod FieldsTile

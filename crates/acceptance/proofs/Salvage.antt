@@ -164,7 +164,7 @@ sound-parts true true false d e q h = absurd (false≢true q)
 sound-parts true false c d e q h = absurd (false≢true h)
 sound-parts false st c d e q h = absurd (false≢true q)
 
-total-fits : (r : PartialRecord) (n k : ℕ) (L : Layout) → soundBy L r n k ≡ true → r .started ≡ true → (1 ≤ r .message .total) × (r .message .total ≤ n)
+pub total-fits : (r : PartialRecord) (n k : ℕ) (L : Layout) → soundBy L r n k ≡ true → r .started ≡ true → (1 ≤ r .message .total) × (r .message .total ≤ n)
 unfolding soundBy
 total-fits r n k L e h =
     let a = sound-parts (eqb (marksFor L n) k) (r .started) (leb 1 (r .message .total)) (leb (r .message .total) n) _ e h in
