@@ -12,6 +12,7 @@ pub mod FieldsTile
 pub mod Demand1
 pub mod Demand2
 pub mod Demand3
+pub mod Kept
 pub mod Salvage
 pub mod Sentences
 pub mod ToldSizes

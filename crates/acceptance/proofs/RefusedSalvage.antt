@@ -1,25 +1,27 @@
 -- By which numbers salvaging refuses.
 -- Assumes nothing.
-use Prim.Native.Nat.{ℕ, _+_, _/_, _≤_, _<_}
+use Prim.Native.Nat.{ℕ, _+_, _/_, _≤_}
 use mathlib.Core.Path.{_≡_, refl, sym, ap, subst, _∙_}
 use mathlib.Core.Bool.{Bool, true, false, cond, false≢true}
-use mathlib.Core.List.{List, []}
+use mathlib.Core.List.{List, [], _++_}
 use mathlib.Core.Logic.{_⊎_, inl, inr}
 use native.Mathlib.Omega.{arith}
 use lib.Dec.{ltb}
 use lib.ListN.{length, take}
 use lib.Seq.{length-take-le, getD-take}
 use Rattle.wire.proofs.Cases.{by-lt, by-bool}
-use Rattle.wire.specs.Constants.{NO_ROOM, UNSOUND}
+use Rattle.wire.specs.Constants.{NO_ROOM}
 use Rattle.wire.specs.Answer.{refused}
+use Rattle.wire_writer.specs.Store.{laid}
 use Rattle.dataset_message.specs.Message.{messageAt}
-use Rattle.reassembly.specs.Record.{Partial, sound, soundBy}
+use Rattle.records.specs.Numbers.{numberBytes}
+use Rattle.reassembly.specs.Record.{Partial, sound}
 use Rattle.reassembly.specs.Operations.{progressOf}
 use Rattle.reassembly.specs.declared.verdict.Progress.{Progress}
 use Rattle.salvage.specs.Front.{Promise, Salvage, salvaged, refusal}
 use Rattle.salvage.specs.Whole.{TellsOf}
 use Rattle.salvage.specs.declared.holes.Hole.{Hole}
-use Rattle.salvage_record.specs.List.{savedPut, putSaved, salvageIn, holesIn, frontEnd, openIn, encodingTold}
+use Rattle.salvage_record.specs.List.{holeEntries, fieldEntries, entriesPut, toldNumbers, SavedPut, savedPut, putSaved, salvageIn, holesIn, frontEnd, openIn, encodingTold}
 use Rattle.salvage_record.specs.declared.Salvaged.{Salvaged}
 use Rattle.uadp_c.specs.Reassembling.{partialOf}
 use Rattle.uadp_c.specs.Salvaging.{salvageTypes, salvageBy, salvageLent}
@@ -81,14 +83,18 @@ module _ (types payload marks : List ℕ) (total : ℕ) (room : total ≤ length
       let i : a ≡ n = ap numberOf e in
       let j : b ≡ place = ap placeOf e in
       own-refusal n place (own-number n place (q ∙ rw (i, j)))
-  put-refusal hs front encoding told₀ list (salvaged p fs) n place q e = go (ltb (length told₀) 64) (ltb (length list / 64) (length hs + length fs)) e
+  put-refusal hs front encoding told₀ list (salvaged p fs) n place q e =
+      go (ltb (length told₀) 64) (ltb (length list / 64) (length hs + length fs))
+      (savedPut (Salvaged.Is (length hs + length fs)) (laid told₀ 0 (numberBytes (toldNumbers (length hs) (length fs) p front total encoding)))
+      (entriesPut 0 (holeEntries hs ++ fieldEntries fs) list))
+      (length hs + length fs) refl e
     where
-      go : (a b : Bool)
-          → cond a (savedPut (Salvaged.Refused NO_ROOM 0) told₀ list) (cond b (savedPut (Salvaged.Refused NO_ROOM 0) told₀ list) (savedPut (Salvaged.Is (length hs + length fs)) _ _)) .answer
-          ≡ Salvaged.Refused n place → Refusal salvageRefusals n place (length payload)
-      go true b i = nowhere-refusal (length payload) n place (Salvaged.Refused 11 0) i (inl refl) refl
-      go false true i = nowhere-refusal (length payload) n place (Salvaged.Refused 11 0) i (inl refl) refl
-      go false false i = absurd (false≢true (ap isRefused i))
+      go : (a b : Bool) (w : SavedPut) (k : ℕ) → w .answer ≡ Salvaged.Is k
+          → cond a (savedPut (Salvaged.Refused NO_ROOM 0) told₀ list) (cond b (savedPut (Salvaged.Refused NO_ROOM 0) told₀ list) w) .answer ≡ Salvaged.Refused n place
+          → Refusal salvageRefusals n place (length payload)
+      go true b w k j i = nowhere-refusal (length payload) n place (Salvaged.Refused 11 0) i (inl refl) refl
+      go false true w k j i = nowhere-refusal (length payload) n place (Salvaged.Refused 11 0) i (inl refl) refl
+      go false false w k j i = absurd (false≢true (ap isRefused (sym j ∙ i)))
 
 -- ---- what progress tells of a partial
 abbrev refusesProgress : Progress → Bool

@@ -117,7 +117,8 @@ pub record Demand1 : Type 0 where
   pub call : (k : Call) (s : Partial) (n place : ℕ) → answers k s ≡ refusedBy n place
       → Refusal callRefusals n place (bytesRead k) × (leaves k s ≡ s)
   -- ---- THE SAME THROUGH C, for any bytes in any record: a result whose low byte is not 0 leaves every lent byte as it was.
-  -- Salvaging: "12, then the DataSetMessage's own numbers as far as the covered front shows them; last, no room 11", at a place in the message.
+  -- Salvaging: "12, then the DataSetMessage's own numbers as far as the covered front shows them ..; last, no room 11". A place counts in
+  -- the message.
   pub salvage : (rec payload marks config told list : List ℕ) (n place : ℕ)
       → salvageLent rec payload marks config told list .answer ≡ Salvaged.Refused n place → Refusal salvageRefusals n place (length payload)
   -- uadp_config, uadp_read, uadp_read_message, uadp_field, uadp_value, uadp_element, uadp_chunk, uadp_probe: what is read fills

@@ -47,6 +47,7 @@ fn completeness(answer: Completeness) {
     }
 }
 
+// Writes a refusal: its number and place.
 pub fn refused(n: u8, place: usize) {
     put(b"refused");
     number(n as usize);

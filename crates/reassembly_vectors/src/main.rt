@@ -13,7 +13,7 @@
 // `gather` salvages (document 02, Req 13): a record, payload area and marks, how many entries the list has room for, and the configured
 // types. It answers the numbers of holes and fields, 1 where the count is known, the promised number, the front's length, total and
 // encoding; then an entry a line. `hole` is the cursor over holes: marks, total, and the position that it starts from; `after` the cursor
-// over fields: an area, the length of its front, a cursor and the configured types.
+// over fields: an area, the length of its front, a cursor and the configured types. A last `-` stands for nothing.
 //
 // A record lists its parts: `s` 1 where it is started, `h` a UInt16, `d` a UInt32 or `t` the length of a string as PublisherId, `x` the
 // bytes of the text, `g` WriterGroupId where there is one, `w` DataSetWriterId, `n` number, `l` total, `c` covered bytes.
