@@ -59,6 +59,8 @@ use Rattle.acceptance.proofs.RefusedProbes.{probe-told, probe-step-told
 use Rattle.acceptance.proofs.Tiling.{payload-first}
 use Rattle.acceptance.proofs.RefusedCalls.{placed}
 use Rattle.acceptance.proofs.RefusedWriters as refusals
+use Rattle.acceptance.proofs.RefusedSalvage.{salvage-told}
+use Rattle.acceptance.proofs.Salvage.{salvaging}
 use Rattle.acceptance.proofs.RefusedMessages.{fieldOthers, messageOthers, message-tells, value-lawful, field-lawful}
 
 -- what an answer tells where it is a refusal, of so many bytes, and of a byte that the caller named
@@ -313,6 +315,7 @@ demand-1 = record {
   listing = listing-told;
   walk = walk-told;
   call = λ k s n place e. (placed k n place (Refusing.may-refuse k s n place e), laws.refused-leaves k s n place e);
+  salvage = salvage-told;
   lent-filling = filling;
   lent-message-step = message-step;
   lent-field-step = field-step;
@@ -323,4 +326,5 @@ demand-1 = record {
   lent-walk = walking;
   lent-newness = newness;
   lent-call = lent.lent-refused;
+  lent-salvage = salvaging .lent-refused;
 }

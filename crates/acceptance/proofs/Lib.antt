@@ -5,12 +5,14 @@ pub mod RefusedMessages
 pub mod RefusedCalls
 pub mod RefusedWriters
 pub mod RefusedProbes
+pub mod RefusedSalvage
 pub mod Probes
 pub mod Tiling
 pub mod FieldsTile
 pub mod Demand1
 pub mod Demand2
 pub mod Demand3
+pub mod Kept
 pub mod Salvage
 pub mod Sentences
 pub mod ToldSizes

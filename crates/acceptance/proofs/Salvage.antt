@@ -3,8 +3,8 @@
 use Prim.Native.Nat.{ℕ, zero, _+_, _-_, _/_, _≤_, _<_, _%_}
 use mathlib.Core.Path.{_≡_, refl, sym, ap, subst, _∙_}
 use mathlib.Core.Bool.{Bool, true, false, cond, not, _&&_, _||_, false≢true}
-use mathlib.Core.Option.{Option, some, none, orElse}
-use mathlib.Core.List.{List, [], _∷_, _++_}
+use mathlib.Core.Option.{Option, some, none}
+use mathlib.Core.List.{List, _++_}
 use mathlib.Core.Logic.{_⊎_, inl, inr}
 use native.Mathlib.Nat.{le-refl, zero-add}
 use native.Mathlib.Omega.{arith}
@@ -20,18 +20,15 @@ use Rattle.records.specs.Numbers.{numberBytes}
 use Rattle.records.specs.Result.{resultOf}
 use Rattle.marks.specs.Marks.{Layout, inUse, marked, markedBelow, marksFor}
 use Rattle.marks.proofs.NextLaws.{Next, next-next}
-use Rattle.reassembly.specs.Record.{Identity, identityOf, Partial, partial, sound, soundBy, Good}
+use Rattle.reassembly.specs.Record.{identityOf, Partial, sound, soundBy}
 use Rattle.reassembly.specs.Areas.{markedView}
-use Rattle.reassembly.specs.Views.{View, onlyIf}
-use Rattle.reassembly.specs.Machine.{Call, State, stateOf, viewIn, viewOf, verdictOf, brings, accept, ifAccepted, keeps}
-use Rattle.reassembly.specs.Machine.State.{idle, held}
-use Rattle.reassembly.specs.Machine.Call.{Empty, Take, Combine, Ask, HandOut}
-use Rattle.reassembly.specs.Calls.{leaves, final}
+use Rattle.reassembly.specs.Views.{onlyIf}
+use Rattle.reassembly.specs.Machine.{Call, State, stateOf, viewIn, viewOf}
+use Rattle.reassembly.specs.Machine.State.{held}
+use Rattle.reassembly.specs.Calls.{final}
 use Rattle.reassembly.specs.Operations.{progressOf}
 use Rattle.reassembly.specs.declared.record.PartialRecord.{PartialRecord}
-use Rattle.reassembly.specs.declared.verdict.Verdict.{Verdict}
 use Rattle.reassembly.specs.declared.verdict.Progress.{Progress}
-use Rattle.reassembly.proofs.Following
 use Rattle.salvage.specs.Front.{Salvage, salvaged, refusal, salvageAt}
 use Rattle.salvage.specs.Whole.{TellsOf}
 use Rattle.salvage.specs.declared.holes.Hole.{Hole}
@@ -42,6 +39,7 @@ use Rattle.salvage_record.specs.declared.Salvaged.{Salvaged}
 use Rattle.uadp_c.specs.Reassembling.{partialOf}
 use Rattle.uadp_c.specs.Salvaging.{salvagedResult, salvageTypes, salvageBy, salvageLent, Salvages}
 use Rattle.acceptance.specs.Salvage.{NoEmptying, HasCovered, Salvaging}
+use Rattle.acceptance.proofs.Kept.{all-calls}
 
 -- ---- every message that has the covered bytes
 module _ (types payload marks : List ℕ) (total : ℕ) (message : List ℕ) (room : total ≤ length payload) (has : HasCovered payload marks total message) where
@@ -96,42 +94,6 @@ module _ (types payload marks : List ℕ) (total : ℕ) (message : List ℕ) (ro
 
 -- ---- covered bytes stay, without emptying
 
--- t keeps what the machine holds for message m, and every byte of the view v
-abbrev Keeps : Identity → View → State → Type 0
-Keeps m v t = (w : View) × (t ≡ held m w) × ((i x : ℕ) → v i ≡ some x → w i ≡ some x)
-
-accepted : (m : Identity) (v : View) (d : Verdict) (b : State) → Keeps m v (ifAccepted d (held m v) (accept (held m v) b))
-unfolding orElse
-accepted m v Verdict.Done idle = (v, refl, λ i x e. e)
-accepted m v Verdict.Done (held k w) = (_, refl, λ i x e. rw e refl)
-accepted m v (Verdict.Refused n p) b = (v, refl, λ i x e. e)
-
-one-call : (n : ℕ) (k : Call) (m : Identity) (v : View) → NoEmptying (k ∷ []) → Keeps m v (keeps n k (held m v))
-one-call n Empty m v h = absurd h
-one-call n (Take d sizes) m v h = accepted m v (verdictOf n (Take d sizes) (held m v)) (brings (Take d sizes))
-one-call n (Combine f) m v h = accepted m v (verdictOf n (Combine f) (held m v)) (brings (Combine f))
-one-call n Ask m v h = (v, refl, λ i x e. e)
-one-call n HandOut m v h = (v, refl, λ i x e. e)
-
-first-of : (k : Call) (ks : List Call) → NoEmptying (k ∷ ks) → NoEmptying (k ∷ []) × NoEmptying ks
-first-of Empty ks h = absurd h
-first-of (Take d sizes) ks h = (tt, h)
-first-of (Combine f) ks h = (tt, h)
-first-of Ask ks h = (tt, h)
-first-of HandOut ks h = (tt, h)
-
-all-calls : (ks : List Call) (s : Partial) (m : Identity) (v : View) → Good s → NoEmptying ks → stateOf s ≡ held m v
-    → Keeps m v (stateOf (final ks s)) × (length (final ks s .payload) ≡ length (s .payload))
-all-calls [] s m v ok h e = ((v, e, λ i x q. q), refl)
-all-calls (k ∷ ks) s m v ok h e =
-    let (one, rest) = first-of k ks h in
-    let g = Following.follow s ok k in
-    let (w, a, b) = one-call (length (s .payload)) k m v one in
-    let st : stateOf (leaves k s) ≡ held m w = g .state ∙ ap (keeps (length (s .payload)) k) e ∙ a in
-    let (z, r) = all-calls ks (leaves k s) m w (g .good) rest st in
-    let (y, c, d) = z in
-    ((y, c, λ i x q. d i x (b i x q)), r ∙ g .room)
-
 -- a byte that is covered is the payload area's
 covered-is : (t : Partial) (i x : ℕ) → viewIn (stateOf t) i ≡ some x → getD (t .payload) i 0 ≡ x
 unfolding markedView
@@ -164,19 +126,19 @@ sound-parts true true false d e q h = absurd (false≢true q)
 sound-parts true false c d e q h = absurd (false≢true h)
 sound-parts false st c d e q h = absurd (false≢true q)
 
-total-fits : (r : PartialRecord) (n k : ℕ) (L : Layout) → soundBy L r n k ≡ true → r .started ≡ true → (1 ≤ r .message .total) × (r .message .total ≤ n)
+pub total-fits : (r : PartialRecord) (n k : ℕ) (L : Layout) → soundBy L r n k ≡ true → r .started ≡ true → (1 ≤ r .message .total) × (r .message .total ≤ n)
 unfolding soundBy
 total-fits r n k L e h =
     let a = sound-parts (eqb (marksFor L n) k) (r .started) (leb 1 (r .message .total)) (leb (r .message .total) n) _ e h in
     (leb-true 1 (r .message .total) (a .0), leb-true (r .message .total) n (a .1))
 
-later-has : (ks : List Call) (s : Partial) → Good s → s .layout ≡ inUse → s .rec .started ≡ true → NoEmptying ks
+later-has : (ks : List Call) (s : Partial) → sound s ≡ true → s .layout ≡ inUse → s .rec .started ≡ true → NoEmptying ks
     → HasCovered (s .payload) (s .marks) (s .rec .message .total) (take (s .rec .message .total) (final ks s .payload))
 later-has ks s ok lay on h =
     let total = s .rec .message .total in
-    let fits = total-fits (s .rec) (length (s .payload)) (length (s .marks)) (s .layout) (ok .is-sound) on in
+    let fits = total-fits (s .rec) (length (s .payload)) (length (s .marks)) (s .layout) ok on in
     let st : stateOf s ≡ held (identityOf (s .rec .message)) (viewOf s) = rw on refl in
-    let (kept, room) = all-calls ks s (identityOf (s .rec .message)) (viewOf s) ok h st in
+    let (kept, room) = all-calls ks s (identityOf (s .rec .message)) (viewOf s) h st in
     let (w, e, stays) = kept in
     record {
       long = length-take-le total (final ks s .payload) (omega (arith, fits .1, room));
@@ -230,7 +192,7 @@ salvaging =
       tells = λ types payload marks total message h room has. tells-of types payload marks total message room has h;
       later = later-has;
       tells-later = λ types ks s ok lay on h.
-          let fits = total-fits (s .rec) (length (s .payload)) (length (s .marks)) (s .layout) (ok .is-sound) on in
+          let fits = total-fits (s .rec) (length (s .payload)) (length (s .marks)) (s .layout) ok on in
           tells-of types (s .payload) (s .marks) (s .rec .message .total) (take (s .rec .message .total) (final ks s .payload)) (fits .1) (later-has ks s ok lay on h) (fits .0);
       holes-tile = λ types payload marks total i l. holes-tile (marked inUse marks) total i l;
       holes-longest = λ types payload marks total. holes-longest (marked inUse marks) total;

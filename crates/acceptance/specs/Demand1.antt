@@ -43,12 +43,14 @@ use Rattle.reassembly_laws.specs.Refusing.{oneOf}
 use Rattle.records.specs.Result.{Filling, resultIn, filledIn}
 use Rattle.network_message.specs.Payload.{PlaceStepped}
 use Rattle.wire.specs.declared.optional.Optional16.{Optional16}
+use Rattle.salvage_record.specs.declared.Salvaged.{Salvaged}
 use Rattle.uadp_c.specs.Cutting.{cutResult}
 use Rattle.uadp_c.specs.Fields.{stepResult, headAfter, fieldAfter}
 use Rattle.uadp_c.specs.Messages.{messageResult, envelopeAfter, placeAfter}
 use Rattle.uadp_c.specs.Probes.{itemResult, probeAfter, itemAfter}
 use Rattle.uadp_c.specs.Reassembling.{Lent}
 use Rattle.uadp_c.specs.History.{LentCall, Called, Unchanged}
+use Rattle.uadp_c.specs.Salvaging.{salvageLent, Salvages}
 use Rattle.uadp_c.specs.Sequence.{newnessResult, newnessAfter}
 use Rattle.uadp_c.specs.Walks.{walkResult}
 use Rattle.uadp_c.specs.Writing.{writerResult, outputResult}
@@ -56,7 +58,7 @@ use Rattle.value_parts.specs.declared.put.Form.{Form}
 use Rattle.value_parts.specs.Put.{variantOutput}
 use Rattle.value_parts.specs.PutName.{nameOutput}
 use Rattle.value_parts.specs.PutMatrix.{matrixOutput}
-use Rattle.acceptance.specs.Refusals.{Refusal, StepRefusal, datagramRefusals, chunkRefusals, valueRefusals, messageRefusals, fieldStepRefusals, fieldRefusals, cutRefusals, callRefusals, datagramWriterRefusals, messageWriterRefusals, datagramAgainRefusals, messageAgainRefusals, probeStepRefusals, probeWriterRefusals, valueWriterRefusals, matrixWriterRefusals}
+use Rattle.acceptance.specs.Refusals.{Refusal, StepRefusal, datagramRefusals, chunkRefusals, valueRefusals, messageRefusals, fieldStepRefusals, fieldRefusals, cutRefusals, callRefusals, datagramWriterRefusals, messageWriterRefusals, datagramAgainRefusals, messageAgainRefusals, probeStepRefusals, probeWriterRefusals, valueWriterRefusals, matrixWriterRefusals, salvageRefusals}
 use Rattle.acceptance.specs.Calls.{bytesRead}
 
 -- a C result's number is not 0
@@ -125,6 +127,10 @@ pub record Demand1 : Type 0 where
   pub call : (k : Call) (s : Partial) (n place : ℕ) → answers k s ≡ refusedBy n place
       → Refusal callRefusals n place (bytesRead k) × (leaves k s ≡ s)
   -- ---- THE SAME THROUGH C, for any bytes in any record: a result whose low byte is not 0 leaves every lent byte as it was.
+  -- Salvaging: "12, then the DataSetMessage's own numbers as far as the covered front shows them ..; last, no room 11". A place counts in
+  -- the message.
+  pub salvage : (rec payload marks config told list : List ℕ) (n place : ℕ)
+      → salvageLent rec payload marks config told list .answer ≡ Salvaged.Refused n place → Refusal salvageRefusals n place (length payload)
   -- uadp_config, uadp_read, uadp_read_message, uadp_field, uadp_value, uadp_element, uadp_chunk, uadp_probe: what is read fills
   -- one record.
   pub lent-filling : (read : Answer Filling) (out : List ℕ) → IsRefused (resultIn read out) → filledIn read out ≡ out
@@ -146,3 +152,7 @@ pub record Demand1 : Type 0 where
   pub lent-newness : (s : List ℕ) (received : ℕ) → IsRefused (newnessResult s received) → newnessAfter s received ≡ s
   -- uadp_empty, uadp_take_in, uadp_combine, uadp_complete, uadp_hand_out.
   pub lent-call : (k : LentCall) (b a : Lent) → Called k b a → IsRefused (a .result) → Unchanged b a
+  -- uadp_salvage.
+  pub lent-salvage : (rec payload marks config told list : List ℕ) (r : ℕ) (told-after list-after : List ℕ)
+      → Salvages (salvageLent rec payload marks config told list) r told-after list-after → IsRefused r
+      → (told-after ≡ told) × (list-after ≡ list)

@@ -37,6 +37,11 @@ valueRefusals = CUT_SHORT ∷ NOT_PERMITTED ∷ NOT_TAKEN ∷ BAD_LENGTH ∷ DIS
 abbrev pub messageRefusals : List ℕ
 messageRefusals = CUT_SHORT ∷ NOT_PERMITTED ∷ NOT_TAKEN ∷ BAD_LENGTH ∷ DISAGREE ∷ LEFT_OVER ∷ NOT_CONFIGURED ∷ TOO_DEEP ∷ []
 
+-- of salvaging: "12, then the DataSetMessage's own numbers ..; last, no room 11" (document 02, Req 13)
+abbrev pub salvageRefusals : List ℕ
+salvageRefusals =
+    CUT_SHORT ∷ NOT_PERMITTED ∷ NOT_TAKEN ∷ BAD_LENGTH ∷ DISAGREE ∷ LEFT_OVER ∷ NOT_CONFIGURED ∷ TOO_DEEP ∷ NO_ROOM ∷ UNSOUND ∷ []
+
 -- of a step from field to field, and of looking field k up: "k at or past the count, or a step after the last field, is 10"
 abbrev pub fieldStepRefusals : List ℕ
 fieldStepRefusals = CUT_SHORT ∷ NOT_PERMITTED ∷ NOT_TAKEN ∷ BAD_LENGTH ∷ DISAGREE ∷ NOT_CONFIGURED ∷ TOO_DEEP ∷ OVER_LIMIT ∷ []

@@ -6,7 +6,7 @@ use mathlib.Core.Bool.{true, not}
 use mathlib.Core.List.{List, [], _∷_}
 use lib.ListN.{length, getD, take}
 use Rattle.marks.specs.Marks.{inUse, marked}
-use Rattle.reassembly.specs.Record.{Partial, Good}
+use Rattle.reassembly.specs.Record.{Partial, sound}
 use Rattle.reassembly.specs.Machine.{Call}
 use Rattle.reassembly.specs.Machine.Call.{Empty, Take, Combine, Ask, HandOut}
 use Rattle.reassembly.specs.Calls.{final}
@@ -34,11 +34,13 @@ pub record Salvaging : Type 0 where
   -- promised number is the complete message's; a refusal is the complete message's own: of every message that has the covered bytes.
   pub tells : (types payload marks : List ℕ) (total : ℕ) (message : List ℕ) → 1 ≤ total → total ≤ length payload
       → HasCovered payload marks total message → TellsOf (salvageIn types payload marks total) types message
-  -- "whatever is later accepted without emptying": after any list of such calls the payload area's first bytes are such a message.
-  pub later : (ks : List Call) (s : Partial) → Good s → s .layout ≡ inUse → s .rec .started ≡ true → NoEmptying ks
+  -- "whatever is later accepted without emptying": after any list of such calls the payload area's first bytes are such a message. The
+  -- partial is sound; "a number that isn't the marked count is no fault here".
+  pub later : (ks : List Call) (s : Partial) → sound s ≡ true → s .layout ≡ inUse → s .rec .started ≡ true → NoEmptying ks
       → HasCovered (s .payload) (s .marks) (s .rec .message .total) (take (s .rec .message .total) (final ks s .payload))
   -- Both together.
-  pub tells-later : (types : List ℕ) (ks : List Call) (s : Partial) → Good s → s .layout ≡ inUse → s .rec .started ≡ true → NoEmptying ks
+  pub tells-later : (types : List ℕ) (ks : List Call) (s : Partial) → sound s ≡ true → s .layout ≡ inUse
+      → s .rec .started ≡ true → NoEmptying ks
       → TellsOf (salvageIn types (s .payload) (s .marks) (s .rec .message .total)) types
       (take (s .rec .message .total) (final ks s .payload))
   -- ---- "list its holes as offset and length, in order, each as long as possible": holes and covered bytes tile the total.

@@ -48,18 +48,28 @@ endAt h c types s =
 abbrev pub openedAt : Header → Cursor → List ℕ → List ℕ → Answer (Valid Message)
 openedAt h c types s = got (valid (record { header = h; cursor = c; end = c .at })) (c .at)
 
--- what follows the header: the count, and from the cursor before the first field on what `rest` reads
-abbrev pub bodyBy : (Header → Cursor → List ℕ → List ℕ → Answer (Valid Message)) → Header → List ℕ → Reader (Valid Message)
-bodyBy rest h types s at =
-    andThen (countAt (h .kind) (isRaw (h .encoding)) types s at)
+-- what follows the header of a message that ends at `end`: the count, and from the cursor before the first field on what `rest` reads
+abbrev pub bodyTo : ℕ → (Header → Cursor → List ℕ → List ℕ → Answer (Valid Message)) → Header → List ℕ → Reader (Valid Message)
+bodyTo end rest h types s at =
+    andThen (countTo end (h .kind) (isRaw (h .encoding)) types s at)
     (λ n first. rest h (record { encoding = h .encoding; delta = isDelta (h .kind); next = 0; count = n; at = first }) types s)
 
+abbrev pub afterHeaderTo : ℕ → (Header → Cursor → List ℕ → List ℕ → Answer (Valid Message)) → Valid Header → List ℕ → Reader (Valid Message)
+afterHeaderTo end rest notValid types s at = got notValid 0
+afterHeaderTo end rest (valid h) types s at = bodyTo end rest h types s at
+
+abbrev pub messageTo : ℕ → (Header → Cursor → List ℕ → List ℕ → Answer (Valid Message)) → List ℕ → List ℕ → Answer (Valid Message)
+messageTo end rest types s = andThen (messageHeaderAt s 0) (λ h at. afterHeaderTo end rest h types s at)
+
+-- of a message that is all of a slice
+abbrev pub bodyBy : (Header → Cursor → List ℕ → List ℕ → Answer (Valid Message)) → Header → List ℕ → Reader (Valid Message)
+bodyBy rest h types s at = bodyTo (length s) rest h types s at
+
 abbrev pub afterHeaderBy : (Header → Cursor → List ℕ → List ℕ → Answer (Valid Message)) → Valid Header → List ℕ → Reader (Valid Message)
-afterHeaderBy rest notValid types s at = got notValid 0
-afterHeaderBy rest (valid h) types s at = bodyBy rest h types s at
+afterHeaderBy rest v types s at = afterHeaderTo (length s) rest v types s at
 
 abbrev pub messageBy : (Header → Cursor → List ℕ → List ℕ → Answer (Valid Message)) → List ℕ → List ℕ → Answer (Valid Message)
-messageBy rest types s = andThen (messageHeaderAt s 0) (λ h at. afterHeaderBy rest h types s at)
+messageBy rest types s = messageTo (length s) rest types s
 
 -- a message alone, with the configured field types of its writer; of one not valid nothing more is read
 abbrev pub bodyAt : Header → List ℕ → Reader (Valid Message)
@@ -74,6 +84,10 @@ messageAt = messageBy endAt
 -- its front alone
 abbrev pub frontAt : List ℕ → List ℕ → Answer (Valid Message)
 frontAt = messageBy openedAt
+
+-- the front of a message that ends at `end`, by its bytes up to a hole (document 02, Req 13)
+abbrev pub frontTo : ℕ → List ℕ → List ℕ → Answer (Valid Message)
+frontTo end = messageTo end openedAt
 
 -- field k from the cursor before the first: "k at or past the count .. is 10"
 abbrev pub nthAt : Cursor → List ℕ → ℕ → List ℕ → Answer Field

@@ -18,7 +18,7 @@ use wire::constants::NOT_CONFIGURED;
 use wire::constants::OVER_LIMIT;
 ghost use mathlib.Core.Path.{_≡_};
 ghost use Rattle.dataset_fields.specs.Fields.{answerField};
-ghost use Rattle.dataset_message.specs.Message.{countedAt, countTo, bodyBy, messageBy, messageAt, frontAt, wholeOrFront, fieldPlaceAt, fieldBytes, nthAt};
+ghost use Rattle.dataset_message.specs.Message.{countedAt, countTo, bodyTo, messageTo, messageAt, frontAt, frontTo, wholeOrFront, fieldPlaceAt, fieldBytes, nthAt};
 ghost use Rattle.dataset_message.specs.Message.{answerCount, answerMessage};
 
 // A message that is not valid, or its header, the cursor before its first field, and where its last field ends; what follows is
@@ -52,7 +52,7 @@ fn counted(s: &[u8], raw: bool, types: &[u8], at: usize) -> CountRead
 }
 
 // How many fields a message that ends at `end` has; of a key frame that ends there none.
-pub fn count_to(s: &[u8], kind: Kind, raw: bool, types: &[u8], end: usize, at: usize) -> CountRead
+fn count_to(s: &[u8], kind: Kind, raw: bool, types: &[u8], end: usize, at: usize) -> CountRead
     ensures { λ r. ⌜ answerCount r ≡ countTo end kind raw (now (types .entry)) (now (s .entry)) at ⌝ }
 {
     match kind {
@@ -84,12 +84,19 @@ fn finish(s: &[u8], header: Header, cursor: Cursor, types: &[u8], whole: bool) -
     }
 }
 
-fn read_body(s: &[u8], header: Header, types: &[u8], at: usize, whole: bool) -> MessageRead
-    ensures { λ r. ⌜ answerMessage r ≡ bodyBy (wholeOrFront whole) header (now (types .entry)) (now (s .entry)) at ⌝ }
+fn read_body(
+    s: &[u8],
+    header: Header,
+    types: &[u8],
+    end: usize,
+    at: usize,
+    whole: bool,
+) -> MessageRead
+    ensures { λ r. ⌜ answerMessage r ≡ bodyTo end (wholeOrFront whole) header (now (types .entry)) (now (s .entry)) at ⌝ }
 {
     let kind = header.kind;
     let encoding = header.encoding;
-    match count_to(s, kind, is_raw(encoding), types, s.len(), at) {
+    match count_to(s, kind, is_raw(encoding), types, end, at) {
         CountRead::Refused(n, place) => MessageRead::Refused(n, place),
         CountRead::Is(n, first) => {
             let cursor = Cursor {
@@ -104,14 +111,15 @@ fn read_body(s: &[u8], header: Header, types: &[u8], at: usize, whole: bool) -> 
     }
 }
 
-// A message, or its front alone. Both are read here, since the header's reader is put in line only where it has one caller.
-fn read_up_to(s: &[u8], types: &[u8], whole: bool) -> MessageRead
-    ensures { λ r. ⌜ answerMessage r ≡ messageBy (wholeOrFront whole) (now (types .entry)) (now (s .entry)) ⌝ }
+// A message that ends at `end`, or its front alone. All are read here, since the header's reader is put in line only where it has one
+// caller.
+fn read_up_to(s: &[u8], types: &[u8], end: usize, whole: bool) -> MessageRead
+    ensures { λ r. ⌜ answerMessage r ≡ messageTo end (wholeOrFront whole) (now (types .entry)) (now (s .entry)) ⌝ }
 {
     match read_header(s) {
         HeaderRead::NotValid(_) => MessageRead::NotValid,
         HeaderRead::Refused(n, place) => MessageRead::Refused(n, place),
-        HeaderRead::Is(header, at) => read_body(s, header, types, at, whole),
+        HeaderRead::Is(header, at) => read_body(s, header, types, end, at, whole),
     }
 }
 
@@ -119,14 +127,21 @@ fn read_up_to(s: &[u8], types: &[u8], whole: bool) -> MessageRead
 pub fn read(s: &[u8], types: &[u8]) -> MessageRead
     ensures { λ r. ⌜ answerMessage r ≡ messageAt (now (types .entry)) (now (s .entry)) ⌝ }
 {
-    read_up_to(&*s, &*types, true)
+    read_up_to(&*s, &*types, s.len(), true)
 }
 
 // The front of a message: its header and the cursor before its first field, which starts at the last number. No field is read yet.
 pub fn front(s: &[u8], types: &[u8]) -> MessageRead
     ensures { λ r. ⌜ answerMessage r ≡ frontAt (now (types .entry)) (now (s .entry)) ⌝ }
 {
-    read_up_to(&*s, &*types, false)
+    read_up_to(&*s, &*types, s.len(), false)
+}
+
+// The same of a message that ends at `end`, of which only these bytes came.
+pub fn front_to(s: &[u8], types: &[u8], end: usize) -> MessageRead
+    ensures { λ r. ⌜ answerMessage r ≡ frontTo end (now (types .entry)) (now (s .entry)) ⌝ }
+{
+    read_up_to(&*s, &*types, end, false)
 }
 
 // Field k from the cursor before the first field.

@@ -1,10 +1,12 @@
 -- The first offset that passes a test. Assumes nothing.
-use Prim.Native.Nat.{ℕ, zero, suc, _+_, _-_, _*_, _/_, _%_, _≤_, _<_}
+use Prim.Native.Nat.{ℕ, zero, suc, _+_, _-_, _*_, _/_, _%_, _^_, _≤_, _<_}
 use mathlib.Core.Path.{_≡_, refl, sym, ap, _∙_}
 use mathlib.Core.Bool.{Bool, true, false, cond, not, false≢true}
 use mathlib.Core.List.{List}
 use native.Mathlib.Omega.{arith}
 use lib.ListN.{getD}
+use native.Mathlib.Nat.{add-zero, pow-suc}
+use Rattle.wire.specs.Number.{le}
 use Rattle.wire.proofs.Cases.{by-bool, by-eq, by-lt}
 use Rattle.marks.specs.Offsets.{firstPassing, nextPassing, wanted}
 use Rattle.marks.specs.Marks.{marked}
@@ -65,6 +67,41 @@ pub alike-byte : (m : List ℕ) (i : ℕ) (want : Bool) → i % 8 ≡ 0 → getD
     → wanted want (marked byBits m j) ≡ false
 alike-byte m i true z e j l u = alike-none m (i / 8) j e (omega arith) (omega arith)
 alike-byte m i false z e j l u = ap not (alike-all m (i / 8) j e (omega arith) (omega arith))
+
+-- ---- eight bytes of them
+zero-bytes : (w : ℕ) (m : List ℕ) (at : ℕ) → le w m at ≡ 0 → (k : ℕ) → k < w → getD m (at + k) 0 ≡ 0
+zero-bytes zero m at e k l = absurd (omega arith)
+zero-bytes (suc w) m at e zero l = ap (λ (i : ℕ). getD m i 0) (add-zero at) ∙ (let z : getD m at 0 ≡ 0 = omega arith in z)
+zero-bytes (suc w) m at e (suc k) l =
+    let z : le w m (at + 1) ≡ 0 = omega arith in
+    let i : at + suc k ≡ at + 1 + k = omega arith in
+    ap (λ (j : ℕ). getD m j 0) i ∙ zero-bytes w m (at + 1) z k (omega arith)
+
+full-bytes : (w : ℕ) (m : List ℕ) (at : ℕ) → ((i : ℕ) → getD m i 0 < 256) → le w m at + 1 ≡ 256 ^ w → (k : ℕ) → k < w → getD m (at + k) 0 ≡ 255
+full-bytes zero m at b e k l = absurd (omega arith)
+full-bytes (suc w) m at b e zero l =
+    let first : getD m at 0 < 256 = b at in
+    let whole : getD m at 0 + 256 * le w m (at + 1) + 1 ≡ 256 ^ w * 256 = e ∙ pow-suc 256 w in
+    let z : getD m at 0 ≡ 255 = omega (arith, first, whole) in
+    ap (λ (i : ℕ). getD m i 0) (add-zero at) ∙ z
+full-bytes (suc w) m at b e (suc k) l =
+    let first : getD m at 0 < 256 = b at in
+    let whole : getD m at 0 + 256 * le w m (at + 1) + 1 ≡ 256 ^ w * 256 = e ∙ pow-suc 256 w in
+    let z : le w m (at + 1) + 1 ≡ 256 ^ w = omega (arith, first, whole) in
+    let i : at + suc k ≡ at + 1 + k = omega arith in
+    ap (λ (j : ℕ). getD m j 0) i ∙ full-bytes w m (at + 1) b z k (omega arith)
+
+pub alike-eight : (m : List ℕ) (i : ℕ) (want : Bool) → ((k : ℕ) → getD m k 0 < 256) → i % 64 ≡ 0 → le 8 m (i / 8) ≡ cond want 0 18446744073709551615 → (j : ℕ) → i ≤ j → j < i + 64
+    → wanted want (marked byBits m j) ≡ false
+alike-eight m i true b z e j l u =
+    let k : j / 8 ≡ i / 8 + (j / 8 - i / 8) = omega arith in
+    let q : getD m (j / 8) 0 ≡ 0 = ap (λ (n : ℕ). getD m n 0) k ∙ zero-bytes 8 m (i / 8) e (j / 8 - i / 8) (omega arith) in
+    alike-none m (j / 8) j q (omega arith) (omega arith)
+alike-eight m i false b z e j l u =
+    let k : j / 8 ≡ i / 8 + (j / 8 - i / 8) = omega arith in
+    let full : le 8 m (i / 8) + 1 ≡ 256 ^ 8 = ap (λ (n : ℕ). n + 1) e in
+    let q : getD m (j / 8) 0 ≡ 255 = ap (λ (n : ℕ). getD m n 0) k ∙ full-bytes 8 m (i / 8) b full (j / 8 - i / 8) (omega arith) in
+    ap not (alike-all m (j / 8) j q (omega arith) (omega arith))
 
 -- one offset alone
 pub alike-one : (f : ℕ → Bool) (i : ℕ) → f i ≡ false → (j : ℕ) → i ≤ j → j < i + 1 → f j ≡ false

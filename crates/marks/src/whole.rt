@@ -39,7 +39,7 @@ pub(crate) fn mark_whole_marked(marks: &mut [u8], last: usize, other: &[u8])
 }
 
 // Eight bytes of marks as one number: the lowest position is in the lowest bit.
-fn eight(marks: &[u8], at: usize) -> u64
+pub(crate) fn eight(marks: &[u8], at: usize) -> u64
     requires { ⌜ at + 8 ≤ length (now marks) ⌝ }
     ensures { λ r. ⌜ r ≡ le 8 (now (marks .entry)) at ⌝ }
 {

@@ -1,6 +1,9 @@
 // What the calls answer, and the histories with areas of their own.
 use crate::partials::Part;
 use crate::partials::record;
+use crate::salvaging::field_after;
+use crate::salvaging::gather;
+use crate::salvaging::hole_from;
 use reassembly::Completeness;
 use reassembly::Outcome;
 use reassembly::PartialRecord;
@@ -44,7 +47,8 @@ fn completeness(answer: Completeness) {
     }
 }
 
-fn refused(n: u8, place: usize) {
+// Writes a refusal: its number and place.
+pub fn refused(n: u8, place: usize) {
     put(b"refused");
     number(n as usize);
     number(place);
@@ -61,6 +65,9 @@ pub fn show(p: Part, line: &[u8]) -> Part {
         b'w' => wide(line),
         b'o' => octets(line),
         b'f' => far(p),
+        b'g' => gather(line),
+        b'h' => hole_from(line),
+        b'a' => field_after(line),
         _ => {
             put(tail(line, 2));
             newline();

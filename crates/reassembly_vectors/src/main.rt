@@ -1,5 +1,5 @@
 // Histories of reassembly, written from document 01: R1 and R2, overlaps, holes, refusals, combining, strange marks, emptying and reuse,
-// payloads cut and restored. Each line of standard input is a call, and each call's answer is a line.
+// payloads cut and restored, and what is salvaged. Each line of standard input is a call, and each call's answer is a line.
 //
 // There are eight partials with payload areas of 8 bytes, told by the letters a to g and `-`, which is one that nobody looks at. A call
 // has a word, the partial that takes what it leaves, the one that it is made on, and the rest: `new`, the payload and marks of a partial
@@ -9,6 +9,11 @@
 // their own. `far` tells how many bytes are covered, of how many. `marks` has no partial: it counts a number's offsets by the marks that
 // follow. `wide` has areas of the length that it names, with a record and marks, and takes two datagrams; `octets` asks with areas of the
 // two lengths that it names. A line that begins with `=` is a heading.
+//
+// `gather` salvages (document 02, Req 13): a record, payload area and marks, how many entries the list has room for, and the configured
+// types. It answers the numbers of holes and fields, 1 where the count is known, the promised number, the front's length, total and
+// encoding; then an entry a line. `hole` is the cursor over holes: marks, total, and the position that it starts from; `after` the cursor
+// over fields: an area, the length of its front, a cursor and the configured types. A last `-` stands for nothing.
 //
 // A record lists its parts: `s` 1 where it is started, `h` a UInt16, `d` a UInt32 or `t` the length of a string as PublisherId, `x` the
 // bytes of the text, `g` WriterGroupId where there is one, `w` DataSetWriterId, `n` number, `l` total, `c` covered bytes.
@@ -25,6 +30,7 @@ ghost use Prim.Native.Nat.{_<_};
 mod answers;
 mod calls;
 mod partials;
+mod salvaging;
 
 fn main() {
     let mut text = io::large_buffer();

@@ -1,13 +1,14 @@
 -- The holes one after the other: what a step says of the rest, and that it goes on.
 -- Assumes nothing.
-use Prim.Native.Nat.{ℕ, zero, suc, _-_, _≤_, _<_}
+use Prim.Native.Nat.{ℕ, zero, suc, _+_, _-_, _≤_, _<_}
 use mathlib.Core.Path.{_≡_, refl, sym, ap, _∙_}
 use mathlib.Core.Bool.{Bool, true, false, not, false≢true}
 use mathlib.Core.List.{List, [], _∷_}
 use native.Mathlib.Omega.{arith}
 use borrow.Author.Tests.{ltb-true, ltb-false, le-ltb, not-true}
 use lib.Dec.{ltb}
-use Rattle.wire.proofs.Cases.{by-bool, by-eq}
+use lib.ListN.{length}
+use Rattle.wire.proofs.Cases.{by-bool, by-eq, by-lt}
 use Rattle.marks.proofs.NextLaws.{Next, next-next}
 use Rattle.salvage.specs.Holes.{holeStart, holeEnd, hole, nextHole, holesFrom, holesOf}
 use Rattle.salvage.specs.declared.holes.Hole.{Hole}
@@ -98,3 +99,33 @@ module _ (m : ℕ → Bool) (n : ℕ) where
           let a = start-from i in let s = ltb-true (holeStart m n i) n t in let b = end-after i s in let u = end-upto i s in
           (omega arith, omega arith)
       go false t = let q : HoleStep.Is h end ≡ HoleStep.Last = rw t at e in absurd (not-last q)
+
+  -- ---- two holes have a byte between them, so that there are at most half as many as offsets, rounded up
+  abbrev Most : ℕ → List Hole → Type 0
+  Most i hs = (length hs + length hs ≤ n - i + 1) × (m i ≡ true → length hs + length hs ≤ n - i)
+
+  most-next : (i : ℕ) (hs : List Hole) → holeStart m n i < n → (holeEnd m n i < n → length hs + length hs ≤ n - holeEnd m n i) → (n ≤ holeEnd m n i → hs ≡ [])
+      → Most i (hole (holeStart m n i) (holeEnd m n i) ∷ hs)
+  most-next i hs l some none =
+      let a = start-from i in
+      let b = end-after i l in
+      let u = end-upto i l in
+      let r : length hs + length hs ≤ n - holeEnd m n i = by-lt _ (holeEnd m n i) n some (λ g. let z : length hs ≡ 0 = ap length (none g) in omega arith) in
+      (omega arith, λ t. let s : i < holeStart m n i = behind t in omega arith)
+    where
+      behind : m i ≡ true → i < holeStart m n i
+      behind t = by-eq _ (holeStart m n i) i
+          (λ e. absurd (false≢true (sym (not-true (m (holeStart m n i)) (start-next i .some l)) ∙ ap m e ∙ t)))
+          (λ e. let a = start-from i in omega arith)
+
+  most-from : (k i : ℕ) → Most i (holesFrom m n k i)
+  unfolding holesFrom
+  most-from zero i = (omega arith, λ t. omega arith)
+  most-from (suc k) i =
+      by-bool _ (ltb (holeStart m n i) n)
+      (λ t. let s = ltb-true (holeStart m n i) n t in
+      rw t (most-next i (holesFrom m n k (holeEnd m n i)) s (λ l. most-from k (holeEnd m n i) .1 (end-next i .some l)) (λ l. no-more k (holeEnd m n i) l)))
+      (λ t. rw t (omega arith, λ u. omega arith))
+
+  pub holes-most : length (holesOf m n) + length (holesOf m n) ≤ n + 1
+  holes-most = let h = most-from n 0 .0 in omega arith

@@ -2,3 +2,4 @@ pub mod Told
 pub mod HoleLaws
 pub mod Tiling
 pub mod Steps
+pub mod FieldEnds

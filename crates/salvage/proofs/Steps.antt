@@ -2,21 +2,20 @@
 -- Assumes nothing.
 use Prim.Native.Nat.{ℕ, suc, _+_, _-_, _<_}
 use mathlib.Core.Path.{_≡_, refl, sym, ap, _∙_}
-use mathlib.Core.Bool.{Bool, true, false, false≢true}
+use mathlib.Core.Bool.{Bool, true, false, cond, false≢true}
 use mathlib.Core.List.{List, []}
 use native.Mathlib.Omega.{arith}
-use borrow.Author.Tests.{leb-true, leb-false}
-use lib.Dec.{leb}
+use borrow.Author.Tests.{leb-true, leb-false, lt-leb}
+use lib.Dec.{leb, eqb}
 use lib.ListN.{length}
 use Rattle.wire.specs.Answer.{Answer, got, refused}
-use Rattle.dataset_header.specs.Flags.{Valid, notValid, valid, isRaw}
-use Rattle.dataset_header.specs.declared.header.Header.{Header}
-use Rattle.dataset_header.specs.Header.{messageHeaderAt}
-use Rattle.dataset_fields.specs.Fields.{fieldAt, paddingAt}
+use Rattle.dataset_header.specs.Flags.{Valid, notValid, valid}
+use Rattle.dataset_fields.specs.Fields.{fieldAt, paddingAt, cursorBefore}
 use Rattle.dataset_fields.specs.declared.fields.Field.{Field}
 use Rattle.dataset_fields.specs.declared.fields.Cursor.{Cursor}
-use Rattle.dataset_message.specs.Message.{countTo}
-use Rattle.salvage.specs.Front.{Shown, shown, bad, ends, shownAt, promised, Salvage, salvaged, refusal, withField, afterLast, onField, fieldsShown, onCount, onHeader, salvageAt, opensCount, opensHeader, openAt, shownStep, lastBy, nextShown, salvageFrom, salvageOpened, tallyFrom}
+use Rattle.dataset_message.specs.Message.{Message}
+use Rattle.salvage.specs.Front.{Shown, shown, bad, ends, pastBy, shownBy, shownAt, promised, Salvage, salvaged, refusal, withField, afterLast, onField, fieldsShown, onFront, frontShown, salvageAt, opens, openAt, shownStep, lastBy, nextShown, salvageFrom, salvageOpened, tallyFrom, tallyBy}
+use Rattle.salvage.specs.Quick.{isWhole}
 use Rattle.salvage.specs.declared.front.FieldShown.{FieldShown}
 use Rattle.salvage.specs.declared.front.Tally.{Tally}
 
@@ -41,7 +40,7 @@ module _ (types f s : List ℕ) where
   field-saved c (bad n place) = refl
   field-saved c ends = refl
 
-  pub saved-step : (c : Cursor) → salvageFrom types f s c ≡ thenSaved (c .count) (nextShown types f s c)
+  saved-step : (c : Cursor) → salvageFrom types f s c ≡ thenSaved (c .count) (nextShown types f s c)
   unfolding fieldsShown
   saved-step c = go (leb (c .count) (c .next)) refl
     where
@@ -55,32 +54,32 @@ module _ (types f s : List ℕ) where
           let z : c .count - c .next ≡ suc (c .count - (c .next + 1)) = omega arith in
           rw (z, t) (field-saved c (fieldOf c))
 
+  abbrev noField : FieldShown → Bool
+  noField (FieldShown.Is x a) = false
+  noField FieldShown.Ends = true
+  noField FieldShown.Last = true
+  noField (FieldShown.Refused n p) = true
+
   -- a step that hands out a field goes on
   pub record Onward (c after : Cursor) : Type 0 where
     pub left : c .next < c .count
     pub next : after .next ≡ c .next + 1
     pub count : after .count ≡ c .count
 
-  pub step-on : (c : Cursor) (x : Field) (after : Cursor) → FieldShown.Is x after ≡ nextShown types f s c → Onward c after
+  step-on : (c : Cursor) (x : Field) (after : Cursor) → FieldShown.Is x after ≡ nextShown types f s c → Onward c after
   step-on c x after e = go (leb (c .count) (c .next)) refl
     where
       is-after : {x y : Field} {a b : Cursor} → FieldShown.Is x a ≡ FieldShown.Is y b → a ≡ b
       is-after e = cc
 
-      none : FieldShown → Bool
-      none (FieldShown.Is x a) = false
-      none FieldShown.Ends = true
-      none FieldShown.Last = true
-      none (FieldShown.Refused n p) = true
-
       not-ends : {x : Field} {a : Cursor} → FieldShown.Is x a ≡ FieldShown.Ends → ⊥
-      not-ends e = false≢true (ap none e)
+      not-ends e = false≢true (ap noField e)
 
       not-last : {x : Field} {a : Cursor} → FieldShown.Is x a ≡ FieldShown.Last → ⊥
-      not-last e = false≢true (ap none e)
+      not-last e = false≢true (ap noField e)
 
       not-bad : {x : Field} {a : Cursor} {n p : ℕ} → FieldShown.Is x a ≡ FieldShown.Refused n p → ⊥
-      not-bad e = false≢true (ap none e)
+      not-bad e = false≢true (ap noField e)
 
       padded : (a : Answer (Unit {0})) → FieldShown.Is x after ≡ lastBy a → ⊥
       padded (got u z) q = not-last q
@@ -105,27 +104,51 @@ module _ (types f s : List ℕ) where
   tally-on k c x after e =
       sym (tally-field k x (salvageFrom types f s after)) ∙ ap (λ (y : FieldShown). tallyFrom k (thenSaved (c .count) y)) e ∙ sym (ap (tallyFrom k) (saved-step c))
 
-  pub tally-ends : (k : ℕ) (c : Cursor) (y : FieldShown) → y ≡ nextShown types f s c → thenSaved (c .count) y ≡ salvaged (promised (c .count)) []
-      → Tally.Is k ≡ tallyFrom k (salvageFrom types f s c)
-  tally-ends k c y e q =
-      let z : k ≡ k + 0 = omega arith in
-      ap Tally.Is z ∙ ap (tallyFrom k) (sym q ∙ ap (thenSaved (c .count)) e ∙ sym (saved-step c))
+  -- ---- by what the front's own reader answers
+  pub field-step : (c : Cursor) (x : Field) (end : ℕ) → c .next < c .count → fieldAt (c .delta) (c .encoding) types (c .next) f (c .at) ≡ got x end
+      → FieldShown.Is x (cursorBefore c (c .next + 1) end) ≡ nextShown types f s c
+  field-step c x end l e = rw (lt-leb (c .count) (c .next) l, e)
 
-  pub tally-refused : (k : ℕ) (c : Cursor) (n place : ℕ) → FieldShown.Refused n place ≡ nextShown types f s c → Tally.Refused n place ≡ tallyFrom k (salvageFrom types f s c)
-  tally-refused k c n place e = ap (λ (y : FieldShown). tallyFrom k (thenSaved (c .count) y)) e ∙ sym (ap (tallyFrom k) (saved-step c))
+  -- where no field is whole, what a step says is how it ends
+  pub tally-stops : (k : ℕ) (c : Cursor) → (c .next < c .count → isWhole (fieldAt (c .delta) (c .encoding) types (c .next) f (c .at)) ≡ false)
+      → tallyBy k (nextShown types f s c) ≡ tallyFrom k (salvageFrom types f s c)
+  tally-stops k c stops = go (nextShown types f s c) refl ∙ sym (ap (tallyFrom k) (saved-step c))
+    where
+      none : (x : Field) (after : Cursor) → FieldShown.Is x after ≡ nextShown types f s c → ⊥
+      none x after e = whole (fieldAt (c .delta) (c .encoding) types (c .next) f (c .at)) refl
+        where
+          on : Onward c after
+          on = step-on c x after e
+
+          not-shown : (n p : ℕ) (y : Answer Field) → FieldShown.Is x after ≡ shownStep c (shownBy (refused n p) y) → ⊥
+          not-shown n p y q = past (eqb n 1) (pastBy p y) q
+            where
+              past : (a b : Bool) → FieldShown.Is x after ≡ shownStep c (cond a (cond b (bad 1 p) ends) (bad n p)) → ⊥
+              past true true i = false≢true (ap noField i)
+              past true false i = false≢true (ap noField i)
+              past false b i = false≢true (ap noField i)
+
+          whole : (a : Answer Field) → fieldAt (c .delta) (c .encoding) types (c .next) f (c .at) ≡ a → ⊥
+          whole (got y end) q = false≢true (sym (rw q at (stops (on .left))))
+          whole (refused n p) q =
+              not-shown n p (fieldAt (c .delta) (c .encoding) types (c .next) s (c .at)) (rw (lt-leb (c .count) (c .next) (on .left), q) at e)
+
+      last-tally : salvaged (promised (c .count)) [] ≡ salvaged (promised (c .count)) [] → Tally.Is k ≡ tallyFrom k (salvaged (promised (c .count)) [])
+      last-tally i = let z : k ≡ k + 0 = omega arith in ap Tally.Is z
+
+      go : (y : FieldShown) → y ≡ nextShown types f s c → tallyBy k y ≡ tallyFrom k (thenSaved (c .count) y)
+      go (FieldShown.Is x after) e = absurd (none x after e)
+      go FieldShown.Ends e = last-tally refl
+      go FieldShown.Last e = last-tally refl
+      go (FieldShown.Refused n place) e = refl
 
 -- the front read at once, and opened and then read on
 module _ (total : ℕ) (types f s : List ℕ) where
-  count-opened : (h : Header) (x : Shown ℕ) → onCount h types f s x ≡ salvageOpened types f s (opensCount h x)
-  count-opened h (shown n first) = let z : n ≡ n - 0 = omega arith in ap (λ (k : ℕ). fieldsShown n _ _ types k 0 f s first) z
-  count-opened h (bad n place) = refl
-  count-opened h ends = refl
-
-  header-opened : (x : Shown (Valid Header)) → onHeader total types f s x ≡ salvageOpened types f s (opensHeader total types f s x)
-  header-opened (shown notValid at) = refl
-  header-opened (shown (valid h) at) = count-opened h (shownAt (countTo total (h .kind) (isRaw (h .encoding)) types) f s at)
-  header-opened (bad n place) = refl
-  header-opened ends = refl
+  front-opened : (x : Shown (Valid Message)) → onFront types f s x ≡ salvageOpened types f s (opens x)
+  front-opened (shown notValid at) = refl
+  front-opened (shown (valid m) at) = refl
+  front-opened (bad n place) = refl
+  front-opened ends = refl
 
   pub salvage-opened : salvageAt total types f s ≡ salvageOpened types f s (openAt total types f s)
-  salvage-opened = header-opened (shownAt messageHeaderAt f s 0)
+  salvage-opened = front-opened (frontShown total types f s)

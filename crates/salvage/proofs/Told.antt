@@ -4,7 +4,7 @@ use Prim.Native.Nat.{ℕ, zero, suc, _+_, _-_, _<_, _≤_}
 use mathlib.Core.Path.{_≡_, refl, sym, ap, subst, _∙_}
 use mathlib.Core.Bool.{Bool, true, false, cond, _&&_}
 use mathlib.Core.List.{List, _∷_}
-use native.Mathlib.Nat.{le-refl, add-zero, zero-add}
+use native.Mathlib.Nat.{le-refl, le-add-right, le-add-left, add-zero, zero-add}
 use borrow.Author.Tests.{eqb-true, eq-eqb}
 use native.Mathlib.Omega.{arith}
 use lib.Dec.{leb, eqb}
@@ -23,8 +23,9 @@ use Rattle.dataset_fields.specs.declared.fields.Field.{Field}
 use Rattle.dataset_fields.specs.declared.fields.Cursor.{Cursor}
 use Rattle.dataset_fields.specs.Fields.{fieldAt, fieldsAt, zerosAt, paddingAt, walked}
 use Rattle.dataset_fields.proofs.Front.{field-frontal}
-use Rattle.dataset_message.specs.Message.{Message, countedAt, countTo, countAt, endAt, messageAt}
-use Rattle.salvage.specs.Front.{Shown, shown, bad, ends, shownBy, shownAt, promised, Salvage, salvaged, refusal, withField, afterLast, onField, fieldsShown, onCount, onHeader, salvageAt}
+use Rattle.dataset_message.specs.Message.{Message, countedAt, countTo, endAt, openedAt, bodyTo, afterHeaderTo, messageAt, frontAt}
+use Rattle.dataset_message.proofs.Fronts.{front-then}
+use Rattle.salvage.specs.Front.{Shown, shown, bad, ends, shownBy, shownAt, promised, Salvage, salvaged, refusal, withField, afterLast, onField, fieldsShown, salvageFrom, onFront, frontShown, salvageAt}
 use Rattle.salvage.specs.Whole.{TellsOf}
 
 -- ---- one part
@@ -43,10 +44,19 @@ both-refuse A hi n p = go (eqb n 1) refl
     go true e = rw (eqb-true n 1 e, eq-eqb p p refl)
     go false e = refl
 
+-- what follows the item at p is not cut short there
+abbrev Beyond : {A : Type 0} → ℕ → Answer A → Type 0
+Beyond p (got a next) = Unit {0}
+Beyond p (refused n q) = n ≡ 1 → p < q
+
+passed-beyond : {A : Type 0} {p : ℕ} {y : Answer A} → Passed p y → Beyond p y
+passed-beyond (Passed.on l) = tt
+passed-beyond (Passed.faulty g) = g
+
 -- the front ends in the item at p, which the whole area passed: the reading ends
-passed-ends : {A : Type 0} (hi p : ℕ) (y z : Answer A) → Passed p y → ShowsOf hi (shownBy (refused 1 p) y) z
-passed-ends hi p (got a next) z (Passed.on l) = tt
-passed-ends {A} hi p (refused n q) z (Passed.faulty g) = go (eqb n 1) (eqb q p) refl refl
+beyond-ends : {A : Type 0} (hi p : ℕ) (y z : Answer A) → Beyond p y → ShowsOf hi (shownBy (refused 1 p) y) z
+beyond-ends hi p (got a next) z u = tt
+beyond-ends {A} hi p (refused n q) z g = go (eqb n 1) (eqb q p) refl refl
   where
     go : (c d : Bool) → eqb n 1 ≡ c → eqb q p ≡ d → ShowsOf {A = A} hi (cond (c && d) (bad 1 p) ends) z
     go true true e i = let l : p < q = g (eqb-true n 1 e) in let j : q ≡ p = eqb-true q p i in absurd (omega (arith, l, j))
@@ -56,7 +66,7 @@ passed-ends {A} hi p (refused n q) z (Passed.faulty g) = go (eqb n 1) (eqb q p) 
 shows : {A : Type 0} (at hi : ℕ) (x y z : Answer A) → Bounds at hi x → Fronted x y z → ShowsOf hi (shownBy x y) z
 shows at hi (got a next) y z b alike = (refl, b .1)
 shows {A} at hi (refused n p) y z b alike = both-refuse A hi n p
-shows at hi x y z b (Fronted.ends {p} i j) = passed-ends hi p y z i
+shows at hi x y z b (Fronted.ends {p} i j) = beyond-ends hi p y z (passed-beyond i)
 
 -- a frontal reader on the front of a whole
 shown-whole : {A : Type 0} {r : Reader A} → Frontal r → (f s s′ : List ℕ) → Fronts f s s′ → (at : ℕ) → at ≤ length f → ShowsOf (length f) (shownAt r f s at) (r s′ at)
@@ -166,44 +176,124 @@ end-cursor h c types s m end q =
     let n : _≡_ {A = Message} (record { header = h; cursor = c; end = a .1 }) m = cc in
     sym (ap (λ (x : Message). x .cursor) n)
 
+-- ---- header and count
+
+-- what the two show of the message s′: a value comes with its cursor, which stands in the front before its first field
+abbrev FrontTells : List ℕ → List ℕ → List ℕ → Shown (Valid Message) → Type 0
+FrontTells types f s′ (shown notValid at) = frontAt types s′ ≡ got notValid at
+FrontTells types f s′ (shown (valid m) at) = (frontAt types s′ ≡ got (valid m) at) × (m .cursor .at ≤ length f) × (m .cursor .next ≡ 0)
+FrontTells types f s′ (bad n p) = frontAt types s′ ≡ refused n p
+FrontTells types f s′ ends = Unit {0}
+
 module _ (types f s s′ : List ℕ) (front : Fronts f s s′) where
-  -- after a header and a count
-  whole-tells : (h : Header) (n first : ℕ) (r : Salvage) → FieldsTell r n (isDelta (h .kind)) (h .encoding) types n 0 s′ first
-      → messageAt types s′ ≡ endAt h (record { encoding = h .encoding; delta = isDelta (h .kind); next = 0; count = n; at = first }) types s′ → TellsOf r types s′
-  whole-tells h n first (refusal x p) e q = q
-      ∙ refused-rest (λ end z. got (valid (record { header = h; cursor = record { encoding = h .encoding; delta = isDelta (h .kind); next = 0; count = n; at = first }; end = end })) end)
-      (fieldsAt (isDelta (h .kind)) (h .encoding) types n 0 s′ first) e
+  abbrev openedOf : Header → List ℕ → ℕ → ℕ → Answer (Valid Message)
+  openedOf h t n first = openedAt h (record { encoding = h .encoding; delta = isDelta (h .kind); next = 0; count = n; at = first }) types t
+
+  abbrev bodyOf : Header → List ℕ → ℕ → Answer (Valid Message)
+  bodyOf h t at = bodyTo (length s′) openedAt h types t at
+
+  refused-front : (n p : ℕ) (z : Answer (Valid Message)) → z ≡ refused n p → frontAt types s′ ≡ z → FrontTells types f s′ (shownBy (refused n p) (refused n p))
+  refused-front n p z i e = go (eqb n 1) refl
+    where
+      go : (c : Bool) → eqb n 1 ≡ c → FrontTells types f s′ (cond c (cond (c && eqb p p) (bad 1 p) ends) (bad n p))
+      go true q = rw (eq-eqb p p refl) (e ∙ i ∙ ap (λ (k : ℕ). refused k p) (eqb-true n 1 q))
+      go false q = e ∙ i
+
+  ended-front : (p : ℕ) (y : Answer (Valid Message)) → Beyond p y → FrontTells types f s′ (shownBy (refused 1 p) y)
+  ended-front p (got a next) u = tt
+  ended-front p (refused n q) g = go (eqb n 1) (eqb q p) refl refl
+    where
+      go : (c d : Bool) → eqb n 1 ≡ c → eqb q p ≡ d → FrontTells types f s′ (cond (c && d) (bad 1 p) ends)
+      go true true e i = let l : p < q = g (eqb-true n 1 e) in let j : q ≡ p = eqb-true q p i in absurd (omega (arith, l, j))
+      go true false e i = tt
+      go false d e i = tt
+
+  -- a count after the item at p
+  body-beyond : (h : Header) (t : List ℕ) (p at : ℕ) → p < at → Beyond p (bodyOf h t at)
+  body-beyond h t p at l =
+      go (countTo (length s′) (h .kind) (isRaw (h .encoding)) types t at)
+      (count-frontal (length s′) (h .kind) (isRaw (h .encoding)) types .bounds t at (at + length t) (le-add-right at (length t)) (le-add-left (length t) at))
+    where
+      go : (x : Answer ℕ) → Bounds at (at + length t) x
+          → Beyond p (andThen x (openedOf h t))
+      go (got n first) b = tt
+      go (refused n q) b = λ e. let m = b e in omega (arith, l, m)
+
+  header-beyond : (p : ℕ) (y : Answer (Valid Header)) → Passed p y → Beyond p (andThen y (λ h at. afterHeaderTo (length s′) openedAt h types s at))
+  header-beyond p (got notValid next) (Passed.on l) = tt
+  header-beyond p (got (valid h) next) (Passed.on l) = body-beyond h s p next l
+  header-beyond p (refused n q) (Passed.faulty g) = g
+
+  count-shows : (h : Header) (at : ℕ) (x y z : Answer ℕ) → Bounds at (length f) x → Fronted x y z → frontAt types s′
+      ≡ andThen z (openedOf h s′)
+      → FrontTells types f s′
+      (shownBy (andThen x (openedOf h f))
+      (andThen y (openedOf h s)))
+  count-shows h at (got n first) y z b alike e = (e, b .1, refl)
+  count-shows h at (refused n p) y z b alike e = refused-front n p (refused n p) refl e
+  count-shows h at x y z b (Fronted.ends {p} i j) e = ended-front p (andThen y (openedOf h s)) (go y i)
+    where
+      go : (y : Answer ℕ) → Passed p y
+          → Beyond p (andThen y (openedOf h s))
+      go (got n first) (Passed.on l) = tt
+      go (refused n q) (Passed.faulty g) = g
+
+  header-shows : (x y z : Answer (Valid Header)) → Bounds 0 (length f) x → Fronted x y z → frontAt types s′ ≡ andThen z (λ h at. afterHeaderTo (length s′) openedAt h types s′ at)
+      → FrontTells types f s′
+      (shownBy (andThen x (λ h at. afterHeaderTo (length s′) openedAt h types f at)) (andThen y (λ h at. afterHeaderTo (length s′) openedAt h types s at)))
+  header-shows (got notValid at) y z b alike e = e
+  header-shows (got (valid h) at) y z b alike e =
+      let c = count-frontal (length s′) (h .kind) (isRaw (h .encoding)) types in
+      count-shows h at (countTo (length s′) (h .kind) (isRaw (h .encoding)) types f at) (countTo (length s′) (h .kind) (isRaw (h .encoding)) types s at)
+      (countTo (length s′) (h .kind) (isRaw (h .encoding)) types s′ at) (c .bounds f at (length f) (b .1) (le-refl (length f))) (c .fronts f s s′ front at (b .1)) e
+  header-shows (refused n p) y z b alike e = refused-front n p (refused n p) refl e
+  header-shows x y z b (Fronted.ends {p} i j) e = ended-front p (andThen y (λ h at. afterHeaderTo (length s′) openedAt h types s at)) (header-beyond p y i)
+
+  front-shows : FrontTells types f s′ (frontShown (length s′) types f s)
+  front-shows =
+      let h = frontal header-steady in
+      header-shows (messageHeaderAt f 0) (messageHeaderAt s 0) (messageHeaderAt s′ 0) (h .bounds f 0 (length f) (omega arith) (le-refl (length f)))
+      (h .fronts f s s′ front 0 (omega arith)) refl
+
+-- ---- the message
+
+module _ (types f s s′ : List ℕ) (front : Fronts f s s′) where
+  -- after its front
+  whole-tells : (h : Header) (c : Cursor) (r : Salvage) → FieldsTell r (c .count) (c .delta) (c .encoding) types (c .count) 0 s′ (c .at)
+      → messageAt types s′ ≡ endAt h c types s′ → TellsOf r types s′
+  whole-tells h c (refusal x p) e q = q
+      ∙ refused-rest (λ end z. got (valid (record { header = h; cursor = c; end = end })) end) (fieldsAt (c .delta) (c .encoding) types (c .count) 0 s′ (c .at)) e
     where
       refused-rest : {B : Type 0} (g : ℕ → ℕ → Answer B) (y : Answer (Unit {0})) → andThen y (λ _ end. paddingAt s′ end) ≡ refused x p
           → andThen y (λ _ end. andThen (paddingAt s′ end) (λ _ z. g end z)) ≡ refused x p
       refused-rest g (got u end) i = rw i
       refused-rest g (refused m place) i = let a : m ≡ x = cc in let b : place ≡ p = cc in rw (a, b)
-  whole-tells h n first (salvaged pr fs) (i, j) q =
+  whole-tells h c (salvaged pr fs) (i, j) q =
       λ m end a.
-      let c = end-cursor h (record { encoding = h .encoding; delta = isDelta (h .kind); next = 0; count = n; at = first }) types s′ m end (sym q ∙ a) in
-      (rw (i, c), rw c j)
+      let d = end-cursor h c types s′ m end (sym q ∙ a) in
+      (rw (i, d), rw d j)
 
-  count-tells : (h : Header) (at : ℕ) (x : Shown ℕ) → ShowsOf (length f) x (countAt (h .kind) (isRaw (h .encoding)) types s′ at)
-      → messageHeaderAt s′ 0 ≡ got (valid h) at → TellsOf (onCount h types f s x) types s′
-  count-tells h at (shown n first) (e, l) q =
-      whole-tells h n first (fieldsShown n (isDelta (h .kind)) (h .encoding) types n 0 f s first)
-      (fields-tell n (isDelta (h .kind)) (h .encoding) types f s s′ front n 0 first l) (rw (q, e))
-  count-tells h at (bad n p) e q = rw (q, e)
-  count-tells h at ends e q = λ m end a. (tt, refl)
+  from-first : (c : Cursor) → c .next ≡ 0 → salvageFrom types f s c ≡ fieldsShown (c .count) (c .delta) (c .encoding) types (c .count) 0 f s (c .at)
+  from-first c z =
+      let e : c .count - c .next ≡ c .count = omega arith in
+      ap (λ (n : ℕ). fieldsShown (c .count) (c .delta) (c .encoding) types n (c .next) f s (c .at)) e
+      ∙ ap (λ (k : ℕ). fieldsShown (c .count) (c .delta) (c .encoding) types (c .count) k f s (c .at)) z
 
-  header-tells : (x : Shown (Valid Header)) → ShowsOf (length f) x (messageHeaderAt s′ 0) → TellsOf (onHeader (length s′) types f s x) types s′
-  header-tells (shown notValid at) (e, l) =
+  front-tells : (x : Shown (Valid Message)) → FrontTells types f s′ x → TellsOf (onFront types f s x) types s′
+  front-tells (shown notValid at) e =
       λ m end a.
-      let b : got notValid 0 ≡ got (valid m) end = sym (rw e) ∙ a in
+      let b : got notValid 0 ≡ got (valid m) end = sym (front-then types s′ ∙ rw e) ∙ a in
       let v : _≡_ {A = Valid Message} notValid (valid m) = got-value b in
       let z : _≡_ {A = ℕ} 0 1 = cc in
       absurd (omega arith)
-  header-tells (shown (valid h) at) (e, l) =
-      count-tells h at (shownAt (countTo (length s′) (h .kind) (isRaw (h .encoding)) types) f s at)
-      (shown-whole (count-frontal (length s′) (h .kind) (isRaw (h .encoding)) types) f s s′ front at l) e
-  header-tells (bad n p) e = rw e
-  header-tells ends e = λ m end a. (tt, refl)
+  front-tells (shown (valid m) at) (e, l, z) =
+      let c = m .cursor in
+      whole-tells (m .header) c (salvageFrom types f s c)
+      (subst (λ (r : Salvage). FieldsTell r (c .count) (c .delta) (c .encoding) types (c .count) 0 s′ (c .at)) (sym (from-first c z))
+      (fields-tell (c .count) (c .delta) (c .encoding) types f s s′ front (c .count) 0 (c .at) l)) (front-then types s′ ∙ rw e)
+  front-tells (bad n p) e = front-then types s′ ∙ rw e
+  front-tells ends e = λ m end a. (tt, refl)
 
   -- what is salvaged from the front of a message is the message's
   pub salvage-tells : TellsOf (salvageAt (length s′) types f s) types s′
-  salvage-tells = header-tells (shownAt messageHeaderAt f s 0) (shown-whole (frontal header-steady) f s s′ front 0 (omega arith))
+  salvage-tells = front-tells (frontShown (length s′) types f s) (front-shows types f s s′ front)

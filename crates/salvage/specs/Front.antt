@@ -8,13 +8,11 @@ use lib.ListN.{length}
 use Rattle.wire.specs.Constants.{CUT_SHORT}
 use Rattle.wire.specs.Answer.{Answer, got, refused, Reader}
 use Rattle.dataset_header.specs.declared.flags.Encoding.{Encoding}
-use Rattle.dataset_header.specs.declared.header.Header.{Header}
-use Rattle.dataset_header.specs.Flags.{Valid, notValid, valid, isDelta, isRaw}
-use Rattle.dataset_header.specs.Header.{messageHeaderAt}
+use Rattle.dataset_header.specs.Flags.{Valid, notValid, valid}
 use Rattle.dataset_fields.specs.declared.fields.Field.{Field}
 use Rattle.dataset_fields.specs.declared.fields.Cursor.{Cursor}
 use Rattle.dataset_fields.specs.Fields.{fieldAt, paddingAt, cursorBefore}
-use Rattle.dataset_message.specs.Message.{countTo}
+use Rattle.dataset_message.specs.Message.{Message, frontTo}
 use Rattle.salvage.specs.declared.front.Opening.{Opening}
 use Rattle.salvage.specs.declared.front.FieldShown.{FieldShown}
 use Rattle.salvage.specs.declared.front.Tally.{Tally}
@@ -75,41 +73,36 @@ fieldsShown count delta encoding types zero k f s at = afterLast count (paddingA
 fieldsShown count delta encoding types (suc n) k f s at =
     onField count (shownAt (fieldAt delta encoding types k) f s at) (λ end. fieldsShown count delta encoding types n (k + 1) f s end)
 
--- the fields of a count that starts at a position
-abbrev pub onCount : Header → List ℕ → List ℕ → List ℕ → Shown ℕ → Salvage
-onCount h types f s (shown n first) = fieldsShown n (isDelta (h .kind)) (h .encoding) types n 0 f s first
-onCount h types f s (bad n place) = refusal n place
-onCount h types f s ends = salvaged missing []
+-- what is salvaged from a cursor on
+abbrev pub salvageFrom : List ℕ → List ℕ → List ℕ → Cursor → Salvage
+salvageFrom types f s c = fieldsShown (c .count) (c .delta) (c .encoding) types (c .count - c .next) (c .next) f s (c .at)
 
--- "RawData promises the configured ones, a heartbeat, keep alive or message not valid none, each known once the header is covered"
-abbrev pub onHeader : ℕ → List ℕ → List ℕ → List ℕ → Shown (Valid Header) → Salvage
-onHeader total types f s (shown notValid at) = salvaged (promised 0) []
-onHeader total types f s (shown (valid h) at) = onCount h types f s (shownAt (countTo total (h .kind) (isRaw (h .encoding)) types) f s at)
-onHeader total types f s (bad n place) = refusal n place
-onHeader total types f s ends = salvaged missing []
+-- the header and the count: "RawData promises the configured ones, a heartbeat, keep alive or message not valid none, each known once the
+-- header is covered"
+abbrev pub onFront : List ℕ → List ℕ → List ℕ → Shown (Valid Message) → Salvage
+onFront types f s (shown notValid at) = salvaged (promised 0) []
+onFront types f s (shown (valid m) at) = salvageFrom types f s (m .cursor)
+onFront types f s (bad n place) = refusal n place
+onFront types f s ends = salvaged missing []
 
--- a message of `total` bytes whose front is f, in the area s
+-- header and count of a message of `total` bytes whose front is f, in the area s: both are read up to the first field
+abbrev pub frontShown : ℕ → List ℕ → List ℕ → List ℕ → Shown (Valid Message)
+frontShown total types f s = shownBy (frontTo total types f) (frontTo total types s)
+
 abbrev pub salvageAt : ℕ → List ℕ → List ℕ → List ℕ → Salvage
-salvageAt total types f s = onHeader total types f s (shownAt messageHeaderAt f s 0)
+salvageAt total types f s = onFront types f s (frontShown total types f s)
 
 -- ---- the same in steps
 
 -- the cursor before the first field, or why there is none
-abbrev pub opensCount : Header → Shown ℕ → Opening
-opensCount h (shown n first) =
-    Opening.At (record { encoding = h .encoding; delta = isDelta (h .kind); next = 0; count = n; at = first })
-opensCount h (bad n place) = Opening.Refused n place
-opensCount h ends = Opening.Missing
-
-abbrev pub opensHeader : ℕ → List ℕ → List ℕ → List ℕ → Shown (Valid Header) → Opening
-opensHeader total types f s (shown notValid at) = Opening.NotValid
-opensHeader total types f s (shown (valid h) at) =
-    opensCount h (shownAt (countTo total (h .kind) (isRaw (h .encoding)) types) f s at)
-opensHeader total types f s (bad n place) = Opening.Refused n place
-opensHeader total types f s ends = Opening.Missing
+abbrev pub opens : Shown (Valid Message) → Opening
+opens (shown notValid at) = Opening.NotValid
+opens (shown (valid m) at) = Opening.At (m .cursor)
+opens (bad n place) = Opening.Refused n place
+opens ends = Opening.Missing
 
 abbrev pub openAt : ℕ → List ℕ → List ℕ → List ℕ → Opening
-openAt total types f s = opensHeader total types f s (shownAt messageHeaderAt f s 0)
+openAt total types f s = opens (frontShown total types f s)
 
 -- the field that a cursor stands before, if it lies whole in the front; past the last one the padding decides. A made-up cursor is read at
 -- the byte it names.
@@ -127,10 +120,6 @@ nextShown types f s c =
     cond (leb (c .count) (c .next)) (lastBy (paddingAt f (c .at)))
     (shownStep c (shownAt (fieldAt (c .delta) (c .encoding) types (c .next)) f s (c .at)))
 
--- what is salvaged from a cursor on
-abbrev pub salvageFrom : List ℕ → List ℕ → List ℕ → Cursor → Salvage
-salvageFrom types f s c = fieldsShown (c .count) (c .delta) (c .encoding) types (c .count - c .next) (c .next) f s (c .at)
-
 abbrev pub salvageOpened : List ℕ → List ℕ → List ℕ → Opening → Salvage
 salvageOpened types f s Opening.Missing = salvaged missing []
 salvageOpened types f s Opening.NotValid = salvaged (promised 0) []
@@ -146,3 +135,10 @@ savedFields (refusal n place) = []
 abbrev pub tallyFrom : ℕ → Salvage → Tally
 tallyFrom k (salvaged p fs) = Tally.Is (k + length fs)
 tallyFrom k (refusal n place) = Tally.Refused n place
+
+-- how it ends after k fields, where no further one is whole
+abbrev pub tallyBy : ℕ → FieldShown → Tally
+tallyBy k (FieldShown.Is x after) = Tally.Is k
+tallyBy k FieldShown.Ends = Tally.Is k
+tallyBy k FieldShown.Last = Tally.Is k
+tallyBy k (FieldShown.Refused n place) = Tally.Refused n place

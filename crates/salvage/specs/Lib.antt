@@ -1,4 +1,5 @@
 pub mod Holes
 pub mod Tiles
 pub mod Front
+pub mod Quick
 pub mod Whole

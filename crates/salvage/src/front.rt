@@ -1,28 +1,22 @@
 // The covered front of a message: `area` is the payload area's first bytes, as many as the message has, and `front` those before its first
 // hole. The shape of a field is a `value::Shape`.
+use crate::quick::field_end;
 use dataset_fields::fields::Cursor;
 use dataset_fields::fields::Field;
 use dataset_fields::fields::FieldRead;
 use dataset_fields::fields::padding;
 use dataset_fields::fields::read_field;
-use dataset_header::flags::Kind;
-use dataset_header::flags::is_delta;
-use dataset_header::flags::is_raw;
-use dataset_header::header::Header;
-use dataset_header::header::HeaderRead;
-use dataset_header::header::read_header;
-use dataset_message::message::CountRead;
-use dataset_message::message::count_to;
+use dataset_message::message::MessageRead;
+use dataset_message::message::front_to;
 use wire::Reached;
 use wire::constants::CUT_SHORT;
 use wire::left;
 ghost use mathlib.Core.Path.{_≡_};
 ghost use lib.ListN.{length};
-ghost use Rattle.dataset_header.specs.Flags.{valid, isRaw};
-ghost use Rattle.dataset_header.specs.Header.{messageHeaderAt};
 ghost use Rattle.dataset_fields.specs.Fields.{fieldAt, paddingAt};
-ghost use Rattle.dataset_message.specs.Message.{countTo};
-ghost use Rattle.salvage.specs.Front.{pastBy, shownAt, opensCount, openAt, lastBy, nextShown, salvageFrom, tallyFrom};
+ghost use Rattle.dataset_message.specs.Message.{frontTo};
+ghost use Rattle.salvage.specs.Front.{pastBy, openAt, lastBy, nextShown, salvageFrom, tallyFrom, tallyBy};
+ghost use Rattle.salvage.specs.Quick.{PassedTo};
 
 // The cursor before the first field; or that the count is missing, the message not valid, or refused.
 pub enum Opening {
@@ -47,26 +41,16 @@ pub enum Tally {
     Refused(u8, usize),
 }
 
-// Whether the item at a place, which the front cuts short, is past total: the header's.
-fn header_past(area: &[u8], place: usize) -> bool
-    ensures { λ r. ⌜ r ≡ pastBy place (messageHeaderAt (now (area .entry)) 0) ⌝ }
-{
-    match read_header(area) {
-        HeaderRead::NotValid(_) => false,
-        HeaderRead::Is(_, _) => false,
-        HeaderRead::Refused(n, p) => (n == CUT_SHORT) & (p == place),
-    }
-}
-
-// The same of the count, which starts at a position.
-fn count_past(area: &[u8], kind: Kind, raw: bool, types: &[u8], at: usize, place: usize) -> bool
+// Whether the item at a place, which the front cuts short, is past total: one of the header, or the count.
+fn front_past(area: &[u8], types: &[u8], place: usize) -> bool
     ensures { λ r.
         let s = now (area .entry) in
-        ⌜ r ≡ pastBy place (countTo (length s) kind raw (now (types .entry)) s at) ⌝ }
+        ⌜ r ≡ pastBy place (frontTo (length s) (now (types .entry)) s) ⌝ }
 {
-    match count_to(area, kind, raw, types, area.len(), at) {
-        CountRead::Is(_, _) => false,
-        CountRead::Refused(n, p) => (n == CUT_SHORT) & (p == place),
+    match front_to(area, types, area.len()) {
+        MessageRead::NotValid => false,
+        MessageRead::Is(_, _, _) => false,
+        MessageRead::Refused(n, p) => (n == CUT_SHORT) & (p == place),
     }
 }
 
@@ -82,50 +66,20 @@ fn field_past(area: &[u8], c: Cursor, types: &[u8], place: usize) -> bool
     }
 }
 
-// What follows the header: the cursor before the first field.
-fn open_count(front: &[u8], area: &[u8], types: &[u8], header: Header, at: usize) -> Opening
-    ensures { λ r.
-        let s = now (area .entry) in
-        let count = countTo (length s) (header .kind) (isRaw (header .encoding)) (now (types .entry)) in
-        ⌜ r ≡ opensCount header (shownAt count (now (front .entry)) s at) ⌝ }
-{
-    let kind = header.kind;
-    let encoding = header.encoding;
-    let raw = is_raw(encoding);
-    match count_to(front, kind, raw, types, area.len(), at) {
-        CountRead::Is(n, first) => Opening::At(Cursor {
-            encoding,
-            delta: is_delta(kind),
-            next: 0,
-            count: n,
-            at: first,
-        }),
-        CountRead::Refused(n, place) => {
-            if n != CUT_SHORT {
-                return Opening::Refused(n, place);
-            }
-            if count_past(area, kind, raw, types, at, place) {
-                return Opening::Refused(CUT_SHORT, place);
-            }
-            Opening::Missing
-        }
-    }
-}
-
 // The header of a message and its count, as far as the front shows them.
 pub fn open(front: &[u8], area: &[u8], types: &[u8]) -> Opening
     ensures { λ r.
         let s = now (area .entry) in
         ⌜ r ≡ openAt (length s) (now (types .entry)) (now (front .entry)) s ⌝ }
 {
-    match read_header(front) {
-        HeaderRead::NotValid(_) => Opening::NotValid,
-        HeaderRead::Is(header, at) => open_count(front, area, types, header, at),
-        HeaderRead::Refused(n, place) => {
+    match front_to(front, types, area.len()) {
+        MessageRead::NotValid => Opening::NotValid,
+        MessageRead::Is(_, c, _) => Opening::At(c),
+        MessageRead::Refused(n, place) => {
             if n != CUT_SHORT {
                 return Opening::Refused(n, place);
             }
-            if header_past(area, place) {
+            if front_past(area, types, place) {
                 return Opening::Refused(CUT_SHORT, place);
             }
             Opening::Missing
@@ -174,25 +128,46 @@ pub fn next(front: &[u8], area: &[u8], types: &[u8], c: Cursor) -> FieldShown
     }
 }
 
+// The cursor before the first field from `first` on that is not whole in the front, or after the last.
+fn pass_whole(front: &[u8], types: &[u8], first: Cursor) -> Cursor
+    ensures { λ r. ⌜ PassedTo (now (types .entry)) (now (front .entry)) first r ⌝ }
+{
+    let encoding = first.encoding;
+    let mut at = first.at;
+    let mut k = first.next;
+    while k < first.count {
+        let end = field_end(front, encoding, first.delta, types, k, at);
+        if end <= at {
+            break;
+        }
+        at = end;
+        k += 1;
+    }
+    Cursor {
+        encoding,
+        delta: first.delta,
+        next: k,
+        count: first.count,
+        at,
+    }
+}
+
+// How the fields end after so many, where none is left that is whole.
+fn ending(front: &[u8], area: &[u8], types: &[u8], c: Cursor, told: usize) -> Tally
+    ensures { λ r. ⌜ r ≡ tallyBy told (nextShown (now (types .entry)) (now (front .entry)) (now (area .entry)) c) ⌝ }
+{
+    match next(front, area, types, c) {
+        FieldShown::Is(_, _) => Tally::Is(told),
+        FieldShown::Ends => Tally::Is(told),
+        FieldShown::Last => Tally::Is(told),
+        FieldShown::Refused(n, place) => Tally::Refused(n, place),
+    }
+}
+
 // How many fields from the cursor on lie whole in the front.
 pub fn count_fields(front: &[u8], area: &[u8], types: &[u8], first: Cursor) -> Tally
     ensures { λ r. ⌜ r ≡ tallyFrom 0 (salvageFrom (now (types .entry)) (now (front .entry)) (now (area .entry)) first) ⌝ }
 {
-    let mut c = first;
-    loop {
-        match next(front, area, types, c) {
-            FieldShown::Refused(n, place) => {
-                return Tally::Refused(n, place);
-            }
-            FieldShown::Ends => {
-                return Tally::Is(left(c.next, first.next));
-            }
-            FieldShown::Last => {
-                return Tally::Is(left(c.next, first.next));
-            }
-            FieldShown::Is(_, after) => {
-                c = after;
-            }
-        }
-    }
+    let c = pass_whole(front, types, first);
+    ending(front, area, types, c, left(c.next, first.next))
 }

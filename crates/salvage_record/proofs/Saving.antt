@@ -1,37 +1,47 @@
 -- Fields and holes put step by step, and what a count of fields says.
 -- Assumes nothing.
-use Prim.Native.Nat.{ℕ, zero, suc, _+_, _-_, _/_, _≤_, _<_}
+use Prim.Native.Nat.{ℕ, zero, suc, _+_, _-_, _*_, _/_, _≤_, _<_}
 use mathlib.Core.Path.{_≡_, refl, ap, sym, _∙_}
-use mathlib.Core.Bool.{Bool, true, false, cond, false≢true}
+use mathlib.Core.Bool.{Bool, true, false, cond, not, false≢true}
 use mathlib.Core.List.{List, [], _∷_, _++_}
 use native.Mathlib.Omega.{arith}
-use borrow.Author.Tests.{lt-ltb, le-ltb}
-use lib.Dec.{ltb, eqb}
-use lib.ListN.{length, take}
+use borrow.Author.Tests.{lt-ltb, le-ltb, le-leb, lt-leb, leb-true, leb-false, not-true, not-false}
+use lib.Dec.{ltb, leb, eqb}
+use Rattle.wire.proofs.Cases.{by-lt}
+use lib.ListN.{length, getD, take}
 use Rattle.wire.specs.Constants.{NO_ROOM}
 use Rattle.wire.specs.Answer.{Answer, got, refused}
 use Rattle.wire_writer.specs.Store.{laid}
 use Rattle.dataset_header.specs.declared.flags.Encoding.{Encoding}
 use Rattle.dataset_header.specs.Flags.{encodingNumber}
-use Rattle.dataset_fields.specs.Fields.{fieldAt, paddingAt, zerosAt}
+use Rattle.dataset_fields.specs.Fields.{fieldAt, paddingAt, andField, walked}
 use Rattle.dataset_fields.specs.declared.fields.Field.{Field}
 use Rattle.dataset_fields.specs.declared.fields.Cursor.{Cursor}
 use Rattle.records.specs.Numbers.{numberBytes}
 use Rattle.records.specs.Items.{flagNumber}
+use Rattle.records.proofs.ReadBack.{laid-length}
 use Rattle.value.specs.Value.{dimensionsOf}
 use Rattle.message_record.specs.Message.{shapeNumber, elementsNumber, fieldNumbers}
 use Rattle.salvage.specs.Holes.{nextHole}
-use Rattle.salvage.specs.Front.{Shown, shown, bad, ends, shownAt, Promise, promised, Salvage, salvaged, refusal, withField, afterLast, onField, fieldsShown, openAt, nextShown, salvageFrom, salvageOpened, savedFields, tallyFrom}
+use Rattle.salvage.specs.Quick.{FixedTo, EndsAt}
+use Rattle.salvage.proofs.FieldEnds.{ends-got}
+use Rattle.salvage.specs.Front.{Shown, shown, bad, ends, pastBy, shownBy, shownAt, Promise, promised, Salvage, salvaged, refusal, withField, afterLast, onField, fieldsShown, openAt, salvageFrom, salvageOpened, savedFields, tallyFrom}
 use Rattle.salvage.specs.declared.holes.Hole.{Hole}
 use Rattle.salvage.specs.declared.holes.HoleStep.{HoleStep}
 use Rattle.salvage.specs.declared.front.Opening.{Opening}
-use Rattle.salvage.specs.declared.front.FieldShown.{FieldShown}
 use Rattle.salvage.specs.declared.front.Tally.{Tally}
 use Rattle.salvage.proofs.HoleLaws.{holesAfter, thenHoles, holes-step}
-use Rattle.salvage.proofs.Steps.{thenSaved, saved-step, salvage-opened}
-use Rattle.salvage_record.specs.List.{holeNumbers, holeEntries, fieldEntries, entryLaid, entriesPut, promisedNumber, toldNumbers, encodingTold, SavedPut, savedPut, putSaved, openIn, salvageIn, salvagePut, frontBytes, areaBytes, frontEnd, holesIn, promiseBy, noneAt, isSaved}
+use Rattle.salvage.proofs.Steps.{salvage-opened}
+use Rattle.salvage_record.specs.List.{holeNumbers, holeEntries, fieldEntries, entryLaid, entriesPut, promisedNumber, toldNumbers, encodingTold, SavedPut, savedPut, putSaved, openIn, salvageIn, salvagePut, frontBytes, areaBytes, frontEnd, holesIn, promiseBy, noneAt, scalarNumbers}
+use Rattle.salvage_record.specs.Steps.{fieldPut, wholeFields, Finds}
 use Rattle.salvage_record.specs.declared.Salvaged.{Salvaged}
+use Rattle.salvage_record.specs.declared.Found.{Found}
 use Rattle.salvage_record.proofs.Entries.{puts-append}
+
+-- whether nothing is refused
+abbrev pub isSaved : Salvage → Bool
+isSaved (salvaged p fs) = true
+isSaved (refusal n place) = false
 
 not-refused : {p : Promise} {fs : List Field} {n place : ℕ} → refusal n place ≡ salvaged p fs → ⊥
 not-refused e = false≢true (ap isSaved e)
@@ -41,17 +51,6 @@ same-promise e = cc
 
 -- ---- the fields
 module _ (types f s : List ℕ) where
-  fields-on : (c : Cursor) (x : Field) (after : Cursor) → FieldShown.Is x after ≡ nextShown types f s c → isSaved (salvageFrom types f s c) ≡ true
-      → (savedFields (salvageFrom types f s c) ≡ x ∷ savedFields (salvageFrom types f s after)) × (isSaved (salvageFrom types f s after) ≡ true)
-  fields-on c x after e h = go (salvageFrom types f s after) (saved-step types f s c ∙ ap (thenSaved types f s (c .count)) (sym e))
-    where
-      go : (v : Salvage) → salvageFrom types f s c ≡ withField x v → (savedFields (salvageFrom types f s c) ≡ x ∷ savedFields v) × (isSaved v ≡ true)
-      go (salvaged p fs) q = (ap savedFields q, refl)
-      go (refusal n place) q = absurd (false≢true (sym (ap isSaved q) ∙ h))
-
-  pub fields-end : (c : Cursor) (y : FieldShown) → y ≡ nextShown types f s c → savedFields (thenSaved types f s (c .count) y) ≡ [] → savedFields (salvageFrom types f s c) ≡ []
-  fields-end c y e q = ap savedFields (saved-step types f s c) ∙ sym (ap (λ (z : FieldShown). savedFields (thenSaved types f s (c .count) z)) e) ∙ q
-
   -- what is promised is the cursor's count
   promise-of : (count : ℕ) (delta : Bool) (encoding : Encoding) (n k at : ℕ) (p : Promise) (fs : List Field)
       → fieldsShown count delta encoding types n k f s at ≡ salvaged p fs → p ≡ promised count
@@ -74,15 +73,51 @@ module _ (types f s : List ℕ) where
       go (bad a b) i ih = absurd (not-refused i)
       go ends i ih = sym (same-promise i)
 
-  pub saved-as : (c : Cursor) → isSaved (salvageFrom types f s c) ≡ true → salvageFrom types f s c ≡ salvaged (promised (c .count)) (savedFields (salvageFrom types f s c))
+  saved-as : (c : Cursor) → isSaved (salvageFrom types f s c) ≡ true → salvageFrom types f s c ≡ salvaged (promised (c .count)) (savedFields (salvageFrom types f s c))
   saved-as c h = go (salvageFrom types f s c) refl h
     where
       go : (v : Salvage) → salvageFrom types f s c ≡ v → isSaved v ≡ true → v ≡ salvaged (promised (c .count)) (savedFields v)
       go (salvaged p fs) e t = ap (λ (q : Promise). salvaged q fs) (promise-of (c .count) (c .delta) (c .encoding) (c .count - c .next) (c .next) (c .at) p fs e)
       go (refusal n place) e t = absurd (false≢true t)
 
+  -- the fields that are handed out are those that the front has whole
+  saved-walked : (count : ℕ) (delta : Bool) (encoding : Encoding) (n k at : ℕ) → isSaved (fieldsShown count delta encoding types n k f s at) ≡ true
+      → savedFields (fieldsShown count delta encoding types n k f s at) ≡ walked delta encoding types n k f at
+  unfolding fieldsShown walked
+  saved-walked count delta encoding zero k at h = go (paddingAt f at)
+    where
+      go : (a : Answer (Unit {0})) → savedFields (afterLast count a) ≡ []
+      go (got u z) = refl
+      go (refused n place) = refl
+  saved-walked count delta encoding (suc n) k at h =
+      go (fieldAt delta encoding types k f at) h (λ end i. saved-walked count delta encoding n (k + 1) end i)
+    where
+      onward : ℕ → Salvage
+      onward end = fieldsShown count delta encoding types n (k + 1) f s end
+
+      front-of : (x : Field) (v : Salvage) (xs : List Field) → isSaved (withField x v) ≡ true → (isSaved v ≡ true → savedFields v ≡ xs) → savedFields (withField x v) ≡ x ∷ xs
+      front-of x (salvaged p fs) xs i ih = ap (λ (l : List Field). x ∷ l) (ih refl)
+      front-of x (refusal m q) xs i ih = absurd (false≢true i)
+
+      none : (y : Answer Field) (m q : ℕ) → savedFields (onField count (shownBy (refused m q) y) onward) ≡ []
+      none y m q = past (eqb m 1) (pastBy q y)
+        where
+          past : (a b : Bool) → savedFields (onField count (cond a (cond b (bad 1 q) ends) (bad m q)) onward) ≡ []
+          past true true = refl
+          past true false = refl
+          past false b = refl
+
+      go : (a : Answer Field) → isSaved (onField count (shownBy a (fieldAt delta encoding types k s at)) onward) ≡ true
+          → ((end : ℕ) → isSaved (onward end) ≡ true → savedFields (onward end) ≡ walked delta encoding types n (k + 1) f end)
+          → savedFields (onField count (shownBy a (fieldAt delta encoding types k s at)) onward) ≡ andField a (λ x end. walked delta encoding types n (k + 1) f end)
+      go (got x end) i ih = front-of x (onward end) (walked delta encoding types n (k + 1) f end) i (ih end)
+      go (refused m q) i ih = none (fieldAt delta encoding types k s at) m q
+
+  saved-whole : (c : Cursor) → isSaved (salvageFrom types f s c) ≡ true → savedFields (salvageFrom types f s c) ≡ wholeFields types f c
+  saved-whole c h = saved-walked (c .count) (c .delta) (c .encoding) (c .count - c .next) (c .next) (c .at) h
+
   -- a count of them
-  pub tally-is : (c : Cursor) (k : ℕ) → Tally.Is k ≡ tallyFrom 0 (salvageFrom types f s c) → (isSaved (salvageFrom types f s c) ≡ true) × (k ≡ length (savedFields (salvageFrom types f s c)))
+  tally-is : (c : Cursor) (k : ℕ) → Tally.Is k ≡ tallyFrom 0 (salvageFrom types f s c) → (isSaved (salvageFrom types f s c) ≡ true) × (k ≡ length (savedFields (salvageFrom types f s c)))
   tally-is c k e = go (salvageFrom types f s c) e
     where
       number : Tally → ℕ
@@ -116,24 +151,101 @@ module _ (types f s : List ℕ) where
       go (salvaged p fs) q = absurd (false≢true (sym (ap refuses q)))
       go (refusal a b) q = sym (rw (ap first q, ap second q) refl)
 
-  -- no field behind the front
-  none-saved : salvageFrom types f s (noneAt (length f)) ≡ salvaged (promised 0) []
-  unfolding fieldsShown zerosAt
-  none-saved = let z : length f - length f ≡ 0 = omega arith in rw z
-
 -- ---- entries put one by one
-pub fields-put : (types f s : List ℕ) (c : Cursor) (x : Field) (after : Cursor) (k : ℕ) (out e r : List ℕ) (all : ℕ)
-    → FieldShown.Is x after ≡ nextShown types f s c → isSaved (salvageFrom types f s c) ≡ true → e ≡ entryLaid k (fieldNumbers x) out
-    → entriesPut k (fieldEntries (savedFields (salvageFrom types f s c))) out ≡ r → k + length (savedFields (salvageFrom types f s c)) ≡ all
-    → (isSaved (salvageFrom types f s after) ≡ true) × (entriesPut (k + 1) (fieldEntries (savedFields (salvageFrom types f s after))) e ≡ r)
-    × (k + 1 + length (savedFields (salvageFrom types f s after)) ≡ all)
-fields-put types f s c x after k out e r all i h q v n =
-    let (a, b) = fields-on types f s c x after i h in
-    let z : length (savedFields (salvageFrom types f s c)) ≡ suc (length (savedFields (salvageFrom types f s after))) = ap length a in (
-      b,
-      ap (entriesPut (k + 1) (fieldEntries (savedFields (salvageFrom types f s after)))) q ∙ sym (ap (λ (xs : List Field). entriesPut k (fieldEntries xs) out) a) ∙ v,
-      omega arith,
-    )
+module _ (types f : List ℕ) (c : Cursor) where
+  -- the entries of the fields from field i on, at a position, are still to be put
+  abbrev pub wholeFrom : ℕ → ℕ → List Field
+  wholeFrom i at = walked (c .delta) (c .encoding) types (c .count - i) i f at
+
+  pub record Putting (start : ℕ) (out₀ out : List ℕ) (at i k : ℕ) : Type 0 where
+    pub long : length out ≡ length out₀
+    pub same : entriesPut k (fieldEntries (wholeFrom i at)) out ≡ entriesPut start (fieldEntries (wholeFields types f c)) out₀
+    pub all : k + length (wholeFrom i at) ≡ start + length (wholeFields types f c)
+
+  pub putting-start : (start : ℕ) (out : List ℕ) → Putting start out out (c .at) (c .next) start
+  putting-start start out = record { long = refl; same = refl; all = refl }
+
+  abbrev fieldOf : ℕ → ℕ → Answer Field
+  fieldOf i at = fieldAt (c .delta) (c .encoding) types i f at
+
+  whole-next : (i at end : ℕ) (x : Field) → i < c .count → fieldOf i at ≡ got x end → wholeFrom i at ≡ x ∷ wholeFrom (i + 1) end
+  unfolding walked
+  whole-next i at end x l e =
+      let z : c .count - i ≡ suc (c .count - (i + 1)) = omega arith in
+      rw (z, e)
+
+  whole-none : (i at n p : ℕ) → fieldOf i at ≡ refused n p → wholeFrom i at ≡ []
+  unfolding walked
+  whole-none i at n p e = go (c .count - i)
+    where
+      go : (m : ℕ) → walked (c .delta) (c .encoding) types m i f at ≡ []
+      go zero = refl
+      go (suc m) = rw e
+
+  module _ (start : ℕ) (out₀ out after : List ℕ) (at i k end : ℕ) (h : Putting start out₀ out at i k) (ended : EndsAt at (fieldOf i at) end) (put : after ≡ fieldPut k (fieldOf i at) out) where
+    pub putting-on : i < c .count → at < end → Putting start out₀ after end (i + 1) (k + 1)
+    putting-on l u = go (ends-got (fieldOf i at) at end ended u)
+      where
+        go : (x : Field) × (fieldOf i at ≡ got x end) → Putting start out₀ after end (i + 1) (k + 1)
+        go (x, e) =
+            let w = whole-next i at end x l e in
+            let p : after ≡ entryLaid k (fieldNumbers x) out = put ∙ ap (λ (a : Answer Field). fieldPut k a out) e in
+            let n : length (wholeFrom i at) ≡ suc (length (wholeFrom (i + 1) end)) = ap length w in
+            record {
+              long = ap length p ∙ laid-length out (64 * k) (numberBytes (fieldNumbers x)) ∙ h .long;
+              same = ap (entriesPut (k + 1) (fieldEntries (wholeFrom (i + 1) end))) p ∙ sym (ap (λ (xs : List Field). entriesPut k (fieldEntries xs) out) w) ∙ h .same;
+              all = omega (arith, n, h .all);
+            }
+
+    pub putting-stops : end ≤ at → (length after ≡ length out₀) × (after ≡ entriesPut start (fieldEntries (wholeFields types f c)) out₀) × (k ≡ start + length (wholeFields types f c))
+    putting-stops u = go (fieldOf i at) refl ended
+      where
+        go : (a : Answer Field) → fieldOf i at ≡ a → EndsAt at a end
+            → (length after ≡ length out₀) × (after ≡ entriesPut start (fieldEntries (wholeFields types f c)) out₀) × (k ≡ start + length (wholeFields types f c))
+        go (got x next) e (q, l) = absurd (omega arith)
+        go (refused n p) e q =
+            let same-out : after ≡ out = put ∙ ap (λ (a : Answer Field). fieldPut k a out) e in
+            let z : length (wholeFrom i at) ≡ 0 = ap length (whole-none i at n p e) in
+            (ap length same-out ∙ h .long, same-out ∙ sym (ap (λ (xs : List Field). entriesPut k (fieldEntries xs) out) (whole-none i at n p e)) ∙ h .same, omega (arith, z, h .all))
+
+  pub putting-ends : (start : ℕ) (out₀ out : List ℕ) (at i k : ℕ) → Putting start out₀ out at i k → c .count ≤ i
+      → (out ≡ entriesPut start (fieldEntries (wholeFields types f c)) out₀) × (k ≡ start + length (wholeFields types f c))
+  unfolding walked
+  putting-ends start out₀ out at i k h l =
+      let z : c .count - i ≡ 0 = omega arith in
+      let e : wholeFrom i at ≡ [] = ap (λ (n : ℕ). walked (c .delta) (c .encoding) types n i f at) z in
+      let y : length (wholeFrom i at) ≡ 0 = ap length e in
+      (sym (ap (λ (xs : List Field). entriesPut k (fieldEntries xs) out) e) ∙ h .same, omega (arith, y, h .all))
+
+-- a field of a fixed type, told by its first byte
+pub fixed-put : (delta : Bool) (encoding : Encoding) (types : List ℕ) (i : ℕ) (f : List ℕ) (at end k : ℕ) (out after : List ℕ) → FixedTo delta encoding f at end → at < end
+    → after ≡ entryLaid k (scalarNumbers (getD f at 0) i at (end - at)) out → after ≡ fieldPut k (fieldAt delta encoding types i f at) out
+fixed-put delta encoding types i f at end k out after h l e = e ∙ sym (ap (λ (a : Answer Field). fieldPut k a out) (h .field l types i))
+
+pub read-put : (a : Answer Field) (x : Field) (end k : ℕ) (out after : List ℕ) → got x end ≡ a → after ≡ entryLaid k (fieldNumbers x) out → after ≡ fieldPut k a out
+read-put a x end k out after e p = p ∙ ap (λ (b : Answer Field). fieldPut k b out) e
+
+pub refused-put : (a : Answer Field) (n p k : ℕ) (out : List ℕ) → refused n p ≡ a → out ≡ fieldPut k a out
+refused-put a n p k out e = ap (λ (b : Answer Field). fieldPut k b out) e
+
+-- ---- room
+pub room-left : (holes fields room count : ℕ) → fields ≤ room → count ≡ holes → leb count (room - fields) ≡ leb (holes + fields) room
+room-left holes fields room count l e =
+    by-lt _ (room - fields) count
+    (λ u. lt-leb count (room - fields) u ∙ sym (lt-leb (holes + fields) room (omega arith)))
+    (λ u. le-leb count (room - fields) u ∙ sym (le-leb (holes + fields) room (omega arith)))
+
+pub room-short : (holes fields room : ℕ) → room < fields → false ≡ leb (holes + fields) room
+room-short holes fields room l = sym (lt-leb (holes + fields) room (omega arith))
+
+pub room-wide : (holes fields room total : ℕ) → holes + holes ≤ total + 1 → fields ≤ room → total / 2 < room - fields → true ≡ leb (holes + fields) room
+room-wide holes fields room total most l u = sym (le-leb (holes + fields) room (omega arith))
+
+pub room-ample : (b : Bool) (n room : ℕ) → b ≡ leb n room → not b ≡ false → n ≤ room
+room-ample b n room e h = leb-true n room (sym e ∙ not-false b h)
+
+pub room-scant : (b : Bool) (n room : ℕ) → b ≡ leb n room → not b ≡ true → room < n
+room-scant b n room e h = leb-false n room (sym e ∙ not-true b h)
 
 pub holes-put : (m : ℕ → Bool) (n at : ℕ) (h : Hole) (end k : ℕ) (out e r : List ℕ) → HoleStep.Is h end ≡ nextHole m n at → e ≡ entryLaid k (holeNumbers h) out
     → entriesPut k (holeEntries (holesAfter m n at)) out ≡ r → entriesPut (k + 1) (holeEntries (holesAfter m n end)) e ≡ r
@@ -141,12 +253,23 @@ holes-put m n at h end k out e r i q v =
     let a = holes-step m n at ∙ ap (thenHoles m n) (sym i) in
     ap (entriesPut (k + 1) (holeEntries (holesAfter m n end))) q ∙ sym (ap (λ (hs : List Hole). entriesPut k (holeEntries hs) out) a) ∙ v
 
+-- and counted
+pub holes-more : (m : ℕ → Bool) (n at : ℕ) (h : Hole) (end k all : ℕ) → HoleStep.Is h end ≡ nextHole m n at → k + length (holesAfter m n at) ≡ all
+    → k + 1 + length (holesAfter m n end) ≡ all
+holes-more m n at h end k all i v =
+    let a = holes-step m n at ∙ ap (thenHoles m n) (sym i) in
+    let z : length (holesAfter m n at) ≡ suc (length (holesAfter m n end)) = ap length a in
+    omega arith
+
+pub holes-all : (m : ℕ → Bool) (n at k all : ℕ) → HoleStep.Last ≡ nextHole m n at → k + length (holesAfter m n at) ≡ all → k ≡ all
+holes-all m n at k all i v =
+    let a = holes-step m n at ∙ ap (thenHoles m n) (sym i) in
+    let z : length (holesAfter m n at) ≡ 0 = ap length a in
+    omega arith
+
 pub holes-end : (m : ℕ → Bool) (n at k : ℕ) (out r : List ℕ) → HoleStep.Last ≡ nextHole m n at → entriesPut k (holeEntries (holesAfter m n at)) out ≡ r → out ≡ r
 holes-end m n at k out r i v =
     let a = holes-step m n at ∙ ap (thenHoles m n) (sym i) in sym (ap (λ (hs : List Hole). entriesPut k (holeEntries hs) out) a) ∙ v
-
-pub fields-done : (xs : List Field) (k : ℕ) (out r : List ℕ) → xs ≡ [] → entriesPut k (fieldEntries xs) out ≡ r → out ≡ r
-fields-done xs k out r e v = sym (ap (λ (ys : List Field). entriesPut k (fieldEntries ys) out) e) ∙ v
 
 entries-length : (hs : List Hole) → length (holeEntries hs) ≡ length hs
 entries-length [] = refl
@@ -223,17 +346,28 @@ module _ (types payload marks : List ℕ) (total : ℕ) (told list : List ℕ) w
       (sym (ap (λ (t : List ℕ). salvageOpened types t s o) g ∙ ap (λ (t : List ℕ). salvageOpened types (frontBytes types payload marks total) t o) es) ∙ q)
       (i ∙ ap (λ (k : ℕ). putSaved (holesIn types payload marks total) k total (encodingTold o) told list v) ec)
 
--- a cursor before no field
-module _ (types f s : List ℕ) (c : Cursor) (none : c ≡ noneAt (length f)) where
-  none-is : salvageFrom types f s c ≡ salvaged (promised 0) []
-  none-is = ap (salvageFrom types f s) none ∙ none-saved types f s
+  -- by what is found
+  pub found-way : (f s : List ℕ) (covered : ℕ) (known : Bool) (c : Cursor) (k : ℕ) (x : SavedPut) → covered ≡ frontEnd types payload marks total → f ≡ take covered payload → s ≡ take total payload
+      → Finds types f s (cond (eqb total 0) Opening.Missing (openAt (length s) types f s)) (Found.Is known c k)
+      → x ≡ putSaved (holesIn types payload marks total) covered total (encodingNumber (c .encoding)) told list (salvaged (promiseBy known (c .count)) (wholeFields types f c))
+      → x ≡ salvagePut types payload marks total told list
+  found-way f s covered known c k x ec ef es (q, n, e) i =
+      put-way f s covered (cond (eqb total 0) Opening.Missing (openAt (length s) types f s)) (salvaged (promiseBy known (c .count)) (wholeFields types f c)) x ec ef es refl q
+      (i ∙ ap (λ (j : ℕ). putSaved (holesIn types payload marks total) covered total j told list (salvaged (promiseBy known (c .count)) (wholeFields types f c))) (sym e))
 
-  pub none-ready : (isSaved (salvageFrom types f s c) ≡ true) × (0 ≡ length (savedFields (salvageFrom types f s c)))
-  none-ready = (ap isSaved none-is, sym (ap (λ (v : Salvage). length (savedFields v)) none-is))
+-- ---- what is found
+module _ (types f s : List ℕ) where
+  whole-none-at : wholeFields types f (noneAt (length f)) ≡ []
+  unfolding walked
+  whole-none-at = refl
 
-  pub none-put : (hs : List Hole) (front total : ℕ) (told list : List ℕ) (known : Bool) (x : SavedPut)
-      → x ≡ putSaved hs front total (encodingNumber (c .encoding)) told list (salvaged (promiseBy known (c .count)) (savedFields (salvageFrom types f s c)))
-      → x ≡ putSaved hs front total 0 told list (salvaged (promiseBy known 0) [])
-  none-put hs front total told list known x i =
-      i ∙ ap (λ (fs : List Field). putSaved hs front total (encodingNumber (c .encoding)) told list (salvaged (promiseBy known (c .count)) fs)) (ap savedFields none-is)
-      ∙ ap (λ (d : Cursor). putSaved hs front total (encodingNumber (d .encoding)) told list (salvaged (promiseBy known (d .count)) [])) none
+  pub none-found : (known : Bool) (c : Cursor) (o opened : Opening) → o ≡ opened → c ≡ noneAt (length f) → salvageOpened types f s o ≡ salvaged (promiseBy known 0) [] → encodingTold o ≡ 0
+      → Finds types f s opened (Found.Is known c 0)
+  none-found known c o opened q none e i =
+      rw (sym q, none) (e ∙ ap (salvaged (promiseBy known 0)) (sym whole-none-at), sym (ap length whole-none-at), i)
+
+  pub some-found : (c : Cursor) (k : ℕ) → Tally.Is k ≡ tallyFrom 0 (salvageFrom types f s c) → Finds types f s (Opening.At c) (Found.Is true c k)
+  some-found c k e =
+      let t = tally-is types f s c k e in
+      let w = saved-whole types f s c (t .0) in
+      (saved-as types f s c (t .0) ∙ ap (salvaged (promised (c .count))) w, t .1 ∙ ap length w, refl)

@@ -33,6 +33,10 @@ SALVAGE_SIZE = 64
 abbrev pub holeNumbers : Hole → List ℕ
 holeNumbers h = 0 ∷ 0 ∷ 0 ∷ 0 ∷ h .offset ∷ h .length ∷ 0 ∷ 0 ∷ []
 
+-- the 8 numbers of a field that is a scalar
+abbrev pub scalarNumbers : ℕ → ℕ → ℕ → ℕ → List ℕ
+scalarNumbers kind index offset length = kind ∷ 0 ∷ 0 ∷ index ∷ offset ∷ length ∷ 0 ∷ 0 ∷ []
+
 -- "one entry a hole, then one a field"
 abbrev pub holeEntries : List Hole → List (List ℕ)
 holeEntries [] = []
@@ -125,8 +129,3 @@ promiseBy false n = missing
 -- a cursor that stands behind the front, before no field
 abbrev pub noneAt : ℕ → Cursor
 noneAt at = record { encoding = Encoding.Variant; delta = false; next = 0; count = 0; at = at }
-
--- whether nothing is refused
-abbrev pub isSaved : Salvage → Bool
-isSaved (salvaged p fs) = true
-isSaved (refusal n place) = false

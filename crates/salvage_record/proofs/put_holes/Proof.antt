@@ -1,17 +1,16 @@
-use Rattle.salvage_record.proofs.Saving.{holes-put, holes-end}
-use Rattle.salvage_record.specs.List.{holeEntries, entriesPut}
-use Rattle.salvage.proofs.HoleLaws.{holesAfter, holes-start, hole-moves}
-use Rattle.salvage.specs.declared.holes.Hole.{Hole}
-use Rattle.salvage.specs.Holes.{holesOf}
-use Rattle.marks.specs.Marks.{inUse, marked}
-use denote.Ref.{now}
-use lib.ListN.{length}
-use mathlib.Core.List.{List}
-use mathlib.Core.Path.{_≡_, refl, ap, sym, _∙_}
-use Prim.Native.Nat.{_-_, _≤_}
-use borrow.Author.Needs.{needs}
 use native.Mathlib.Omega.{arith}
--- `salvage_record::put_holes` meets its contract. Assumes nothing.
+use borrow.Author.Needs.{needs}
+use Prim.Native.Nat.{_+_, _-_, _≤_}
+use mathlib.Core.Path.{_≡_, refl, ap, sym, _∙_}
+use mathlib.Core.List.{List}
+use lib.ListN.{length}
+use denote.Ref.{now}
+use Rattle.marks.specs.Marks.{inUse, marked}
+use Rattle.salvage.specs.Holes.{holesOf}
+use Rattle.salvage.specs.declared.holes.Hole.{Hole}
+use Rattle.salvage.proofs.HoleLaws.{holesAfter, holes-start, hole-moves}
+use Rattle.salvage_record.specs.List.{holeEntries, entriesPut}
+use Rattle.salvage_record.proofs.Saving.{holes-put, holes-end, holes-more, holes-all}
 use Rattle.salvage_record.proofs.put_holes.Statement.{statement}
 use Rattle.salvage_record.proofs.put_holes.Tie as tie
 use Rattle.salvage_record.proofs.put_holes.Reads as reads
@@ -23,34 +22,34 @@ abbrev Inv-loop : tie.InvT-loop
 Inv-loop out₀ marks total at₀ k₀ out at k =
     (length out ≡ length out₀) × (k ≤ at)
     × (entriesPut k (holeEntries (holesAfter (marked inUse marks) total at)) out ≡ entriesPut 0 (holeEntries (holesOf (marked inUse marks) total)) out₀)
+    × (k + length (holesAfter (marked inUse marks) total at) ≡ length (holesOf (marked inUse marks) total))
 
 abbrev μ-loop : tie.MeasureT-loop
 μ-loop out₀ marks total at₀ k₀ out at k = total - at
 
--- src/lib.rt:96:5
+-- src/lib.rt:106:5
 loop-holds : tie.Need-loop-holds Inv-loop μ-loop
-loop-holds c = (
-  refl,
-  omega arith,
-  ap (λ (hs : List Hole). entriesPut 0 (holeEntries hs) (now (c .before .before .args .out)))
-      (holes-start (marked inUse (now (c .before .before .args .marks))) (c .before .before .args .total)),
-)
+loop-holds c =
+    let s = holes-start (marked inUse (now (c .before .before .args .marks))) (c .before .before .args .total) in
+    (refl, omega arith, ap (λ (hs : List Hole). entriesPut 0 (holeEntries hs) (now (c .before .before .args .out))) s, let z = ap length s in omega (arith, z))
 
--- src/lib.rt:99:17
+-- src/lib.rt:109:17
 same-length : tie.Need-same-length Inv-loop μ-loop
 same-length c =
     let at-loop = c .before .before .before in
     at-loop .loop .inv .0
 
--- src/lib.rt:99:17
+-- src/lib.rt:109:17
 returns : tie.Need-returns Inv-loop μ-loop
 returns c =
     let at-next-hole = c .before .before in
     let at-loop = at-next-hole .before in
-    let args = at-loop .before .before .before .args in
-    holes-end (marked inUse (now (args .marks))) (args .total) (at-loop .loop .at) (at-loop .loop .k) _ _ (sym (c .enum-told .given .1) ∙ at-next-hole .next-hole .ensures) (at-loop .loop .inv .2)
+    let args = at-loop .before .before .before .args in (
+      holes-end (marked inUse (now (args .marks))) (args .total) (at-loop .loop .at) (at-loop .loop .k) _ _ (sym (c .enum-told .given .1) ∙ at-next-hole .next-hole .ensures) (at-loop .loop .inv .2),
+      holes-all (marked inUse (now (args .marks))) (args .total) (at-loop .loop .at) (at-loop .loop .k) _ (sym (c .enum-told .given .1) ∙ at-next-hole .next-hole .ensures) (at-loop .loop .inv .3),
+    )
 
--- src/lib.rt:104:17
+-- src/lib.rt:114:17
 add-k : tie.Need-add-k Inv-loop μ-loop
 add-k c =
     let at-near = c .before .before .before .before in
@@ -61,7 +60,7 @@ add-k c =
     let on = hole-moves (marked inUse (now (args .marks))) (args .total) (at-loop .loop .at) _ _ (sym (at-h .h .given .1) ∙ at-next-hole .next-hole .ensures) in
     omega (arith, on .0, on .1, at-loop .loop .inv .1)
 
--- src/lib.rt:96:5
+-- src/lib.rt:106:5
 loop-less : tie.Need-loop-less Inv-loop μ-loop
 loop-less c =
     let at-near = c .before .before .before .before in
@@ -71,7 +70,7 @@ loop-less c =
     let args = at-loop .before .before .before .args in
     let on = hole-moves (marked inUse (now (args .marks))) (args .total) (at-loop .loop .at) _ _ (sym (at-h .h .given .1) ∙ at-next-hole .next-hole .ensures) in omega (arith, on .0, on .1)
 
--- src/lib.rt:96:5
+-- src/lib.rt:106:5
 loop-again : tie.Need-loop-again Inv-loop μ-loop
 loop-again c =
     let at-put-hole = c .before .before in
@@ -83,6 +82,7 @@ loop-again c =
       search needs,
       omega (arith, on .0, at-loop .loop .inv .1),
       holes-put (marked inUse (now (args .marks))) (args .total) (at-loop .loop .at) _ _ (at-loop .loop .k) (at-loop .loop .out) _ _ e (at-put-hole .put-hole .ensures) (at-loop .loop .inv .2),
+      holes-more (marked inUse (now (args .marks))) (args .total) (at-loop .loop .at) _ _ (at-loop .loop .k) _ e (at-loop .loop .inv .3),
     )
 
 pub put-holes-spec : {M : Type 1} → statement M

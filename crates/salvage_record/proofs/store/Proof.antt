@@ -1,105 +1,92 @@
--- `salvage_record::store` meets its contract. Assumes nothing.
-use Rattle.salvage_record.proofs.Saving.{store-short, store-full, store-done}
-use Rattle.salvage_record.specs.List.{promiseBy}
-use Rattle.salvage.specs.Front.{salvageFrom, savedFields}
-use Rattle.salvage.specs.Holes.{holesOf}
-use Rattle.dataset_header.specs.Flags.{encodingNumber}
-use Rattle.marks.specs.Marks.{inUse, marked}
-use denote.Ref.{now}
-use mathlib.Core.Path.{refl}
 use native.Mathlib.Omega.{arith}
+use mathlib.Core.Path.{refl}
+use denote.Ref.{now}
+use Rattle.marks.specs.Marks.{inUse, marked}
+use Rattle.dataset_header.specs.Flags.{encodingNumber}
+use Rattle.salvage.specs.Holes.{holesOf}
+use Rattle.salvage_record.specs.Steps.{wholeFields}
+use Rattle.salvage_record.specs.List.{promiseBy}
+use Rattle.salvage_record.proofs.Saving.{store-short, store-full, store-done, room-ample, room-scant}
+use Prim.Native.Nat.{_+_, _/_}
+use lib.ListN.{length}
 use borrow.Author.Needs.{needs}
 use Rattle.salvage_record.proofs.store.Statement.{statement}
 use Rattle.salvage_record.proofs.store.Tie as tie
 use Rattle.salvage_record.proofs.store.Reads as reads
 use Rattle.salvage_record.proofs.store.Lts as lts
-use Rattle.salvage.proofs.holes.count_holes.Reads as count-holes-reads
+use Rattle.salvage_record.proofs.has_room.Reads as has-room-reads
 use Rattle.salvage_record.proofs.put_fields.Reads as put-fields-reads
 use Rattle.salvage_record.proofs.put_holes.Reads as put-holes-reads
 use Rattle.salvage_record.proofs.put_told.Reads as put-told-reads
 
--- src/lib.rt:224:9
+-- src/lib.rt:284:9
 returns : tie.Need-returns
 returns c =
     let at-near = c .before .before .before .before in
-    let args = at-near .before .before .before .before .args in
+    let args = at-near .before .before .args in
     store-short (holesOf (marked inUse (now (args .marks))) (args .total)) (args .covered) (args .total)
     (encodingNumber (args .c .encoding)) (now (args .told)) (now (args .list)) (promiseBy (args .known) (args .c .count))
-    (savedFields (salvageFrom (now (args .types)) (now (args .front)) (now (args .area)) (args .c))) _ refl (c .if1 .taken)
+    (wholeFields (now (args .types)) (now (args .front)) (args .c)) _ refl (c .if1 .taken)
 
--- src/lib.rt:228:9
+-- src/lib.rt:287:9
 returns-2 : tie.Need-returns-2
 returns-2 c =
-    let at-if1 = c .before in
-    let at-count-holes = at-if1 .before in
-    let args = at-count-holes .before .before .before .before .before .before .before .args in
-    store-full (holesOf (marked inUse (now (args .marks))) (args .total)) (args .covered) (args .total)
-    (encodingNumber (args .c .encoding)) (now (args .told)) (now (args .list)) (promiseBy (args .known) (args .c .count))
-    (savedFields (salvageFrom (now (args .types)) (now (args .front)) (now (args .area)) (args .c))) _ refl (at-if1 .if1 .left) (omega (arith, c .if2 .taken, at-count-holes .count-holes .ensures))
-
--- src/lib.rt:231:9
-returns-3 : tie.Need-returns-3
-returns-3 c =
-    let at-if2 = c .before in
-    let at-if1 = at-if2 .before in
-    let at-count-holes = at-if1 .before in
-    let at-pre = at-count-holes .before .before .before .before .before .before .before in
-    store-full (holesOf (marked inUse (now (at-pre .args .marks))) (at-pre .args .total)) (at-pre .args .covered) (at-pre .args .total)
+    let at-has-room = c .before in
+    let at-if1 = at-has-room .before in
+    let at-near = at-if1 .before .before .before .before in
+    let at-pre = at-near .before .before in
+    let scant = room-scant (at-has-room .has-room .result)
+    (length (holesOf (marked inUse (now (at-pre .args .marks))) (at-pre .args .total)) + at-pre .args .fields)
+    (length (now (at-pre .args .list)) / 64) (at-has-room .has-room .ensures) (c .if2 .taken) in store-full
+    (holesOf (marked inUse (now (at-pre .args .marks))) (at-pre .args .total)) (at-pre .args .covered) (at-pre .args .total)
     (encodingNumber (at-pre .args .c .encoding)) (now (at-pre .args .told)) (now (at-pre .args .list))
     (promiseBy (at-pre .args .known) (at-pre .args .c .count))
-    (savedFields (salvageFrom (now (at-pre .args .types)) (now (at-pre .args .front)) (now (at-pre .args .area)) (at-pre .args .c))) _ refl
-    (at-if1 .if1 .left) (omega (arith, c .if3 .taken, at-if2 .if2 .left, at-count-holes .count-holes .ensures, at-pre .pre .1))
+    (wholeFields (now (at-pre .args .types)) (now (at-pre .args .front)) (at-pre .args .c)) _ refl (at-if1 .if1 .left) (omega (arith, scant, at-pre .pre))
 
--- src/lib.rt:236:5
+-- src/lib.rt:290:9
 put-fields-requires : tie.Need-put-fields-requires
 put-fields-requires c κs =
-    let at-near = c .before .before .before .before in
-    let at-near-2 = at-near .before .before .before .before in
-    let at-if3 = at-near-2 .before in
-    let at-if2 = at-if3 .before in
-    let at-pre = at-if2 .before .before .before .before .before .before .before .before .before in
-    (at-pre .pre .0, omega (arith, at-if3 .if3 .left, at-if2 .if2 .left, at-pre .pre .1))
+    let at-put-holes = c .before .before .before in
+    let at-if2 = at-put-holes .before .before in
+    let at-has-room = at-if2 .before in
+    let at-near = at-has-room .before .before .before .before in
+    let at-pre = at-near .before .before .before in
+    let ample = room-ample (at-has-room .has-room .result)
+    (length (holesOf (marked inUse (now (at-pre .args .marks))) (at-pre .args .total)) + at-pre .args .fields)
+    (length (now (at-pre .args .list)) / 64) (at-has-room .has-room .ensures) (at-if2 .if2 .left) in omega (arith, ample, at-put-holes .put-holes .ensures .1, at-pre .pre)
 
--- src/lib.rt:237:18
-add-t15 : tie.Need-add-t15
-add-t15 c =
-    omega (
-      arith,
-      ((c .before .before .before .before) .before .before .before .before) .before .before .before .before .if3 .left,
-      (((c .before .before .before .before) .before .before .before .before) .before .before .before .before) .before .if2 .left,
-    )
-
--- src/lib.rt:199:1
-returns-4 : tie.Need-returns-4
-returns-4 c =
-    let at-put-fields = c .before .before in
+-- src/lib.rt:263:1
+returns-3 : tie.Need-returns-3
+returns-3 c =
+    let at-put-told = c .before .before in
+    let at-put-fields = at-put-told .before .before .before .before in
     let at-put-holes = at-put-fields .before .before .before .before in
-    let at-put-told = at-put-holes .before .before .before .before in
-    let at-if3 = at-put-told .before .before in
-    let at-if2 = at-if3 .before in
-    let at-if1 = at-if2 .before in
-    let at-count-holes = at-if1 .before in
-    let at-pre = at-count-holes .before .before .before .before .before .before .before in
-    store-done (holesOf (marked inUse (now (at-pre .args .marks))) (at-pre .args .total)) (at-pre .args .covered) (at-pre .args .total)
+    let at-if2 = at-put-holes .before .before in
+    let at-has-room = at-if2 .before in
+    let at-if1 = at-has-room .before in
+    let at-near = at-if1 .before .before .before .before in
+    let at-pre = at-near .before .before in
+    let ample = room-ample (at-has-room .has-room .result)
+    (length (holesOf (marked inUse (now (at-pre .args .marks))) (at-pre .args .total)) + at-pre .args .fields)
+    (length (now (at-pre .args .list)) / 64) (at-has-room .has-room .ensures) (at-if2 .if2 .left) in store-done
+    (holesOf (marked inUse (now (at-pre .args .marks))) (at-pre .args .total)) (at-pre .args .covered) (at-pre .args .total)
     (encodingNumber (at-pre .args .c .encoding)) (now (at-pre .args .told)) (now (at-pre .args .list))
     (promiseBy (at-pre .args .known) (at-pre .args .c .count))
-    (savedFields (salvageFrom (now (at-pre .args .types)) (now (at-pre .args .front)) (now (at-pre .args .area)) (at-pre .args .c))) _
-    (at-count-holes .count-holes .result) (at-pre .args .fields) _ _ _ (at-if1 .if1 .left)
-    (omega (arith, at-if3 .if3 .left, at-if2 .if2 .left, at-count-holes .count-holes .ensures, at-pre .pre .1))
-    (at-count-holes .count-holes .ensures) (at-pre .pre .1) refl (at-put-told .put-told .ensures) (at-put-holes .put-holes .ensures) (at-put-fields .put-fields .ensures)
+    (wholeFields (now (at-pre .args .types)) (now (at-pre .args .front)) (at-pre .args .c)) (at-put-fields .put-fields .result)
+    (at-put-holes .put-holes .result) (at-pre .args .fields) _ _ _ (at-if1 .if1 .left) (omega (arith, ample, at-pre .pre))
+    (at-put-holes .put-holes .ensures .1) (at-pre .pre) (omega (arith, at-put-fields .put-fields .ensures .1, at-pre .pre))
+    (at-put-told .put-told .ensures) (at-put-holes .put-holes .ensures .0) (at-put-fields .put-fields .ensures .0)
 
 pub store-spec : {M : Type 1} → statement M
 store-spec =
     tie.close
     (tie.spec
-    (λ c κs. search needs)
     returns
-    returns-2
-    returns-3
     (λ c κs. search needs)
+    returns-2
     (λ c κs. search needs)
     put-fields-requires
-    add-t15
+    (λ c κs. search needs)
     (λ c. search needs)
     (λ c. search needs)
-    returns-4)
+    returns-3)
