@@ -59,7 +59,7 @@ startedIn s =
       covered = partialIn s .covered;
     }
 
--- what a question of how far it is looks at: the record with no text, group, writer and message number
+-- what handing out and a question of how far it is look at: the record with no text, group, writer and message number
 abbrev pub askedIn : List ℕ → PartialRecord
 askedIn s =
     record {

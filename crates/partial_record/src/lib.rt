@@ -104,8 +104,8 @@ pub fn started_in(s: &[u8]) -> Held
     }
 }
 
-// What a question of how far a partial is looks at: its record without text, group, writer and message number. Such a call takes a third
-// of the time by it.
+// What handing out and a question of how far a partial is look at: its record without text, group, writer and message number. A question
+// takes a third of the time by it.
 pub fn asked_in(s: &[u8]) -> PartialRecord
     ensures { λ r. ⌜ r ≡ askedIn (now (s .entry)) ⌝ }
 {

@@ -12,7 +12,8 @@ returns c =
     let at-put-run = at-number .before .before in
     let at-text-in = at-put-run .before in
     let args = at-text-in .before .before .before .args in
-    publisher-taken (now (args .s)) _ _ _ _ _ (at-text-in .text-in .ensures) (at-put-run .put-run .ensures .stored) (at-number .number .ensures) (at-number2 .number2 .ensures) (c .publisher-by .ensures)
+    publisher-taken (now (args .s)) _ _ _ _ _ (at-text-in .text-in .ensures) (at-put-run .put-run .ensures .stored)
+    (at-number .number .ensures) (at-number2 .number2 .ensures) (c .publisher-by .ensures)
 
 pub publisher-in-spec : {M : Type 1} → statement M
 publisher-in-spec =
