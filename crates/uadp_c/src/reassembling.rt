@@ -94,7 +94,7 @@ fn take_further(
     }
 }
 
-// Takes a chunk into a partial that is not started, or is not sound.
+// Takes a chunk into a partial that is not started: its record is handed on by value, and stored where the chunk is accepted.
 fn take_first(
     rec: &mut [u8],
     payload: &mut [u8],
