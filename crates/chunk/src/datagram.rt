@@ -84,7 +84,7 @@ fn read_chunk(s: &[u8], e: Envelope, publisher_end: usize, at: usize) -> ChunkRe
 pub fn read(s: &[u8], sizes: &[u16]) -> ChunkRead
     ensures { λ r. ⌜ answerChunk r ≡ chunkAt (now (sizes .entry)) (now (s .entry)) ⌝ }
 {
-    match network_message::envelope::read(s, sizes) {
+    match network_message::envelope::read(&*s, &*sizes) {
         NetworkMessageRead::Refused(n, place) => ChunkRead::Refused(n, place),
         NetworkMessageRead::Is(e, p, m) => read_chunk(s, e, p.publisher_end, m.first),
     }

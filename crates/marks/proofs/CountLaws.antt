@@ -10,7 +10,7 @@ use borrow.Author.Tests.{lt-ltb, le-ltb, le-leb, eq-eqb, ne-eqb}
 use Rattle.marks.specs.Offsets.{inRange, anyFrom, allBelow, countBelow, inRangeAnd, always}
 use Rattle.marks.specs.Marks.{Layout, capacity, marked, markIf, markUpTo, markAll, markedBelow, allMarked, cleared, countMarked, newMarks, marksFor}
 use Rattle.wire.proofs.Cases.{by-bool, by-eq, by-lt}
-use Rattle.marks.proofs.OffsetLaws.{all-every, every-all, any-between}
+use Rattle.marks.proofs.OffsetLaws.{all-every, every-all, any-between, none-from}
 use Rattle.marks.proofs.MarkLaws.{capacity-length, length-markAll, marked-on, marked-off, marked-none, marked-cleared, range-below, range-in, range-above, marks-start, marks-end, marks-step, marks-cover}
 
 -- ---- counting
@@ -292,3 +292,10 @@ new-again L t m = count-none (capacity L m) _ (λ i h. each (ltb i t) (marked L 
     each true true = refl
     each true false = refl
     each false b = refl
+
+-- where none of the offsets of a range is marked, each of them is new
+pub new-none : (L : Layout) (m : List ℕ) (a b : ℕ) → a ≤ b → b ≤ capacity L m → anyFrom a b (marked L m) ≡ false → newMarks L (inRange a b) m ≡ b - a
+new-none L m a b h area none =
+    let zero = count-none (b - a) (λ j. marked L m (a + j)) (λ j l. none-from a b (marked L m) none (a + j) (omega arith) (omega arith)) in
+    let all = new-range L m a b h area in
+    new-same L (inRange a b) (inRangeAnd always a b) m (λ k l. sym (run-end a b b (capacity L m) k (omega arith) (λ z. absurd (omega arith)) l)) ∙ omega arith

@@ -101,6 +101,25 @@ pub fn mark_range(marks: &mut [u8], start: usize, end: usize) -> usize
     stop - start - held
 }
 
+// Marks the offsets from start up to end where none of them is marked, and tells whether it did; those past the area are left out. It
+// spares the count of those that are marked.
+pub fn mark_if_none(marks: &mut [u8], start: usize, end: usize) -> bool
+    ensures { λ r.
+        let before = now (marks .entry) in
+        let none = not (anyFrom start end (marked inUse before)) in
+        ⌜ (r ≡ none) × (now (marks .exit) ≡ cond none (markAll inUse (inRange start end) before) before) ⌝ }
+{
+    if any_marked(marks, start, end) {
+        return false;
+    }
+    let stop = within(marks, end);
+    if stop <= start {
+        return true;
+    }
+    mark_run(marks, start, stop);
+    true
+}
+
 // Marks the offsets below n that are marked in another area, and tells how many were not marked; those past either area are left out.
 pub fn mark_marked(marks: &mut [u8], n: usize, other: &[u8]) -> usize
     ensures { λ r.

@@ -2,6 +2,7 @@
 use crate::payload::MessageRead;
 use crate::payload::Payload;
 use crate::payload::PayloadRead;
+use crate::payload::Sizes;
 use crate::payload::nth;
 use crate::payload::read_payload;
 use crate::payload::rest;
@@ -226,7 +227,8 @@ fn with_rest(s: &[u8], envelope: Envelope, places: Places) -> NetworkMessageRead
     }
 }
 
-// A NetworkMessage after its header. A single message, the common one, has a way of its own, so that its payload is not copied in pieces.
+// A NetworkMessage after its header. A single message, the common one, and a chunk have ways of their own, so that where their messages
+// stand is not copied in pieces: a tenth of taking a chunk in.
 fn with_payload(s: &[u8], envelope: Envelope, places: Places, sizes: &[u16]) -> NetworkMessageRead
     ensures { λ r.
         let payload = payloadAt (envelope .chunk) (envelope .«payload_header») (now (sizes .entry)) (now (s .entry)) (places .payload) in
@@ -236,6 +238,14 @@ fn with_payload(s: &[u8], envelope: Envelope, places: Places, sizes: &[u16]) -> 
     let header = envelope.payload_header;
     if is_single(header) {
         return with_rest(s, envelope, places);
+    }
+    if let PayloadHeader::Chunk(_) = header {
+        let payload = Payload {
+            count: 0,
+            sizes: Sizes::Rest,
+            first: places.payload,
+        };
+        return NetworkMessageRead::Is(envelope, places, payload);
     }
     match read_payload(&*s, envelope.chunk, header, &*sizes, places.payload) {
         PayloadRead::Refused(number, place) => NetworkMessageRead::Refused(number, place),

@@ -1,7 +1,8 @@
 -- The record of a partial read in its parts.
 -- Assumes nothing.
 use Prim.Native.Nat.{ℕ, _%_}
-use mathlib.Core.Path.{_≡_, ap, _∙_}
+use mathlib.Core.Path.{_≡_, sym, ap, _∙_}
+use mathlib.Core.Bool.{true}
 use mathlib.Core.List.{List}
 use lib.Dec.{eqb}
 use lib.ListN.{take, drop, replicate}
@@ -9,11 +10,13 @@ use Rattle.wire.specs.declared.optional.Optional16.{Optional16}
 use Rattle.wire_writer.specs.Store.{laid}
 use Rattle.publisher_id.specs.declared.publisher.PublisherId.{PublisherId}
 use Rattle.publisher_id.specs.declared.publisher_record.PublisherRecord.{PublisherRecord}
+use Rattle.reassembly.specs.Quick.{heldRecord}
+use Rattle.reassembly.specs.declared.quick.Held.{Held}
 use Rattle.reassembly.specs.declared.record.Message.{Message}
 use Rattle.reassembly.specs.declared.record.PartialRecord.{PartialRecord}
 use Rattle.records.specs.Numbers.{numberAt}
 use Rattle.records.specs.Publisher.{publisherBy}
-use Rattle.partial_record.specs.Partial.{publisherIn, groupIdIn, messageIn, partialIn, askedIn}
+use Rattle.partial_record.specs.Partial.{publisherIn, groupIdIn, messageIn, partialIn, startedIn, textIn, askedIn}
 
 abbrev pub publisherWith : PublisherId → List ℕ → PublisherRecord
 publisherWith i t = record { id = i; text = t }
@@ -51,3 +54,17 @@ asked-taken s id a b d n c qi qa qb qd qn qc =
     ∙ ap (λ (x : ℕ). askedWith n (publisherBy (numberAt s 1) (numberAt s 2)) x c) qd
     ∙ ap (λ (x : ℕ). askedWith x (publisherBy (numberAt s 1) (numberAt s 2)) (numberAt s 5) c) qn
     ∙ ap (λ (x : ℕ). askedWith (numberAt s 0) (publisherBy (numberAt s 1) (numberAt s 2)) (numberAt s 5) x) qc
+
+-- ---- the record of a started one, its text lent
+abbrev pub startedWith : PublisherId → Optional16 → ℕ → ℕ → ℕ → ℕ → Held
+startedWith i g w n d c = record { publisher = i; group = g; writer = w % 65536; number = n % 65536; total = d; covered = c }
+
+pub started-taken : (s : List ℕ) (id : PublisherId) (g : Optional16) (a b w n d c : ℕ) → id ≡ publisherBy a b → a ≡ numberAt s 1 → b ≡ numberAt s 2 → g ≡ groupIdIn s → w ≡ numberAt s 3
+    → n ≡ numberAt s 4 → d ≡ numberAt s 5 → c ≡ numberAt s 8 → startedWith id g w n d c ≡ startedIn s
+started-taken s id g a b w n d c qi qa qb qg qw qn qd qc =
+    let q : id ≡ publisherBy (numberAt s 1) (numberAt s 2) = qi ∙ ap (λ (x : ℕ). publisherBy x b) qa ∙ ap (λ (x : ℕ). publisherBy (numberAt s 1) x) qb in
+    λ i. startedWith (q i) (qg i) (qw i) (qn i) (qd i) (qc i)
+
+-- with its text it is the record
+pub started-whole : (s : List ℕ) → partialIn s .started ≡ true → heldRecord (startedIn s) (textIn s) ≡ partialIn s
+started-whole s e = λ i. record { started = sym e i; message = messageIn s; covered = numberAt s 8 }

@@ -7,10 +7,10 @@ use lib.Dec.{eqb}
 use lib.ListN.{length, take, drop, replicate}
 use Rattle.wire.specs.Constants.{MOST_TEXT_ID}
 use Rattle.wire.specs.declared.optional.Optional16.{Optional16}
-use Rattle.wire_writer.specs.Store.{laid}
 use Rattle.wire_writer.specs.Fits.{Fits16}
-use Rattle.publisher_id.specs.PublisherRecord.{codeOf}
+use Rattle.publisher_id.specs.PublisherRecord.{codeOf, lentRecord}
 use Rattle.publisher_id.specs.declared.publisher_record.PublisherRecord.{PublisherRecord}
+use Rattle.reassembly.specs.declared.quick.Held.{Held}
 use Rattle.reassembly.specs.declared.record.Message.{Message}
 use Rattle.reassembly.specs.declared.record.PartialRecord.{PartialRecord}
 use Rattle.records.specs.Numbers.{numberAt, numberBytes}
@@ -21,9 +21,11 @@ use Rattle.records.specs.Items.{flagNumber, isOn, has16, value16}
 abbrev pub TEXT_AT : ℕ
 TEXT_AT = 80
 
+abbrev pub textIn : List ℕ → List ℕ
+textIn s = take MOST_TEXT_ID (drop TEXT_AT s)
+
 abbrev pub publisherIn : List ℕ → PublisherRecord
-publisherIn s =
-    record { id = publisherBy (numberAt s 1) (numberAt s 2); text = laid (replicate MOST_TEXT_ID 0) 0 (take MOST_TEXT_ID (drop TEXT_AT s)) }
+publisherIn s = lentRecord (publisherBy (numberAt s 1) (numberAt s 2)) (textIn s)
 
 -- "6  1 where there is a WriterGroupId   7  the WriterGroupId"; of its number the lowest bytes count
 abbrev pub groupIdIn : List ℕ → Optional16
@@ -45,7 +47,19 @@ COVERED = 8
 abbrev pub partialIn : List ℕ → PartialRecord
 partialIn s = record { started = eqb (numberAt s 0) 1; message = messageIn s; covered = numberAt s COVERED }
 
--- what a question of how far it is looks at: the record with no text, group, writer and message number
+-- of a started one what is not its text
+abbrev pub startedIn : List ℕ → Held
+startedIn s =
+    record {
+      publisher = publisherIn s .id;
+      group = groupIdIn s;
+      writer = messageIn s .origin .writer;
+      number = messageIn s .origin .number;
+      total = messageIn s .total;
+      covered = partialIn s .covered;
+    }
+
+-- what handing out and a question of how far it is look at: the record with no text, group, writer and message number
 abbrev pub askedIn : List ℕ → PartialRecord
 askedIn s =
     record {

@@ -7,6 +7,7 @@ use publisher_id::publisher_record::code;
 use reassembly::Message;
 use reassembly::MessageOrigin;
 use reassembly::PartialRecord;
+use reassembly::quick::Held;
 use records::items::flag_number;
 use records::items::has16;
 use records::items::is_on;
@@ -22,7 +23,7 @@ use wire::part::part;
 use wire_writer::store::put_run;
 ghost use mathlib.Core.Path.{_≡_};
 ghost use Rattle.wire_writer.specs.Store.{laid};
-ghost use Rattle.partial_record.specs.Partial.{publisherIn, groupIdIn, messageIn, partialIn, askedIn, partialBytes};
+ghost use Rattle.partial_record.specs.Partial.{publisherIn, groupIdIn, messageIn, partialIn, startedIn, textIn, askedIn, partialBytes};
 
 // Which number of the record is that of the covered bytes.
 pub const COVERED: usize = 8;
@@ -30,11 +31,18 @@ pub const COVERED: usize = 8;
 // Where the text stands.
 const TEXT_AT: usize = 80;
 
+// The text that a record has room for.
+pub fn text_in(s: &[u8]) -> &[u8]
+    ensures { λ r. ⌜ now r ≡ textIn (now (s .entry)) ⌝ }
+{
+    part(s, TEXT_AT, MOST_TEXT_ID)
+}
+
 fn publisher_in(s: &[u8]) -> PublisherRecord
     ensures { λ r. ⌜ r ≡ publisherIn (now (s .entry)) ⌝ }
 {
     let mut text = [0u8; MOST_TEXT_ID];
-    put_run(&mut text, 0, part(s, TEXT_AT, MOST_TEXT_ID));
+    put_run(&mut text, 0, text_in(s));
     let id = publisher_by(number(s, 1), number(s, 2));
     PublisherRecord { id, text }
 }
@@ -78,8 +86,26 @@ pub fn partial_in(s: &[u8]) -> PartialRecord
     }
 }
 
-// What a question of how far a partial is looks at: its record without text, group, writer and message number. Such a call takes a third
-// of the time by it.
+// The record of a started partial but for its text, which stays where it is lent.
+pub fn started_in(s: &[u8]) -> Held
+    ensures { λ r. ⌜ r ≡ startedIn (now (s .entry)) ⌝ }
+{
+    let publisher = publisher_by(number(s, 1), number(s, 2));
+    let group = group_id_in(s);
+    let writer = (number(s, 3) % 65536) as u16;
+    let message_number = (number(s, 4) % 65536) as u16;
+    Held {
+        publisher,
+        group,
+        writer,
+        number: message_number,
+        total: number(s, 5) as usize,
+        covered: number(s, COVERED) as usize,
+    }
+}
+
+// What handing out and a question of how far a partial is look at: its record without text, group, writer and message number. A question
+// takes a third of the time by it.
 pub fn asked_in(s: &[u8]) -> PartialRecord
     ensures { λ r. ⌜ r ≡ askedIn (now (s .entry)) ⌝ }
 {

@@ -1,12 +1,12 @@
 -- The test of two publishers decides their equality, and one law for each way out of it.
 -- Assumes nothing.
 use Prim.Native.Nat.{ℕ}
-use mathlib.Core.Path.{_≡_, refl}
+use mathlib.Core.Path.{_≡_, refl, _∙_}
 use mathlib.Core.Bool.{Bool, true, false, _&&_, false≢true}
 use mathlib.Core.List.{List, [], _∷_}
 use lib.Dec.{eqb}
 use borrow.Author.Tests.{eq-eqb, ne-eqb, eqb-true}
-use Rattle.publisher_id.specs.PublisherRecord.{Publisher, sameText, samePublisher}
+use Rattle.publisher_id.specs.PublisherRecord.{Publisher, codeOf, idNumberOf, textLengthOf, publisherOf, sameText, samePublisher}
 use Rattle.publisher_id.specs.declared.publisher.PublisherId.{PublisherId}
 use Rattle.publisher_id.specs.declared.publisher_record.PublisherRecord.{PublisherRecord}
 use Rattle.wire.proofs.Facts.{and-left, and-right}
@@ -62,6 +62,22 @@ same-publisher-value a b e ne = rw (eq-eqb (a .code) (b .code) e, ne-eqb (a .val
 pub same-publisher-text : (a b : Publisher) → a .code ≡ b .code → a .value ≡ b .value → samePublisher a b ≡ sameText (a .text) (b .text)
 unfolding samePublisher
 same-publisher-text a b e f = rw (eq-eqb (a .code) (b .code) e, eq-eqb (a .value) (b .value) f)
+
+-- an id that is no string has no text
+no-text : (id : PublisherId) → (codeOf id ≡ 5 → ⊥) → textLengthOf id ≡ 0
+no-text PublisherId.Absent ne = refl
+no-text (PublisherId.Byte v) ne = refl
+no-text (PublisherId.UInt16 v) ne = refl
+no-text (PublisherId.UInt32 v) ne = refl
+no-text (PublisherId.UInt64 v) ne = refl
+no-text (PublisherId.Text n) ne = absurd (ne refl)
+
+-- ids that are no strings, of one type and number
+pub same-publisher-plain : (a b : PublisherRecord) → codeOf (a .id) ≡ codeOf (b .id) → idNumberOf (a .id) ≡ idNumberOf (b .id) → (codeOf (a .id) ≡ 5 → ⊥)
+    → samePublisher (publisherOf a) (publisherOf b) ≡ true
+same-publisher-plain a b e f ne =
+    same-publisher-text (publisherOf a) (publisherOf b) e f
+    ∙ rw (no-text (a .id) ne, no-text (b .id) (λ h. ne (e ∙ h))) (same-text-refl [])
 
 -- two records of one id with the same text
 pub record-is : (id : PublisherId) {t u : List ℕ} → t ≡ u → _≡_ {A = PublisherRecord} (record { id = id; text = t }) (record { id = id; text = u })

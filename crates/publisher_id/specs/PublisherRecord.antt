@@ -57,6 +57,10 @@ samePublisher a b = eqb (a .code) (b .code) && (eqb (a .value) (b .value) && sam
 unfoldable pub publisherFits : PublisherRecord → Bool
 publisherFits p = leb (textLengthOf (p .id)) MOST_TEXT_ID
 
+-- the record of an id and a text: a shorter one is filled up with 0, a longer one is not copied
+abbrev pub lentRecord : PublisherId → List ℕ → PublisherRecord
+lentRecord id t = record { id = id; text = laid (replicate MOST_TEXT_ID 0) 0 t }
+
 -- the record of an id that ends at a position: a string's bytes stand before it; a longer one than a record holds is not copied
 abbrev pub recordAt : PublisherId → ℕ → List ℕ → PublisherRecord
-recordAt id end s = record { id = id; text = laid (replicate MOST_TEXT_ID 0) 0 (take (textLengthOf id) (drop (end - textLengthOf id) s)) }
+recordAt id end s = lentRecord id (take (textLengthOf id) (drop (end - textLengthOf id) s))

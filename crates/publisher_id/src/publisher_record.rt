@@ -5,13 +5,16 @@ use wire::constants::MOST_TEXT_ID;
 use wire::part::part;
 use wire_writer::store::put_run;
 ghost use mathlib.Core.Path.{_≡_};
-ghost use Rattle.publisher_id.specs.PublisherRecord.{codeOf, idNumberOf, textLengthOf, publisherOf, publisherFits, sameText, samePublisher, recordAt};
+ghost use Rattle.publisher_id.specs.PublisherRecord.{codeOf, idNumberOf, textLengthOf, publisherOf, publisherFits, sameText, samePublisher, lentRecord, recordAt};
 
 // Of a string the first bytes of text are its content, as many as the id says.
 pub struct PublisherRecord {
     pub id: PublisherId,
     pub text: [u8; MOST_TEXT_ID],
 }
+
+// The number of a string's type in records.
+const STRING: u64 = 5;
 
 // The number of an id's type in records: 0 absent, 1 Byte, 2 UInt16, 3 UInt32, 4 UInt64, 5 String.
 pub fn code(id: PublisherId) -> u64
@@ -88,6 +91,27 @@ pub fn same_publisher(a: PublisherRecord, b: PublisherRecord) -> bool
         part(&first_text, 0, text_length(first_id)),
         part(&second_text, 0, text_length(second_id)),
     )
+}
+
+// Whether an id whose text is lent equals the id that ends at a position of a datagram. Only where both are strings is a text copied.
+pub fn same_lent(id: PublisherId, text: &[u8], s: &[u8], other: PublisherId, end: usize) -> bool
+    ensures { λ r.
+        let held = lentRecord id (now (text .entry)) in
+        ⌜ r ≡ samePublisher (publisherOf held) (publisherOf (recordAt other end (now (s .entry)))) ⌝ }
+{
+    if code(id) != code(other) {
+        return false;
+    }
+    if value(id) != value(other) {
+        return false;
+    }
+    if code(id) != STRING {
+        return true;
+    }
+    let mut kept = [0u8; MOST_TEXT_ID];
+    put_run(&mut kept, 0, text);
+    let held = PublisherRecord { id, text: kept };
+    same_publisher(held, publisher_record(s, other, end))
 }
 
 // Whether a string id has at most 64 bytes; any other id passes.

@@ -63,7 +63,7 @@ module _ (s : Partial) (e : sound s ≡ true) where
   sound-rest : s .rec .started ≡ true → (leb (s .rec .covered) (s .rec .message .total) && publisherFits (s .rec .message .origin .publisher)) ≡ true
   sound-rest h = and-right (leb (s .rec .message .total) (length (s .payload))) _ (and-right (leb 1 (s .rec .message .total)) _ (sound-started h))
 
-  sound-covered : s .rec .started ≡ true → s .rec .covered ≤ s .rec .message .total
+  pub sound-covered : s .rec .started ≡ true → s .rec .covered ≤ s .rec .message .total
   sound-covered h = leb-true _ _ (and-left (leb (s .rec .covered) (s .rec .message .total)) _ (sound-rest h))
 
   pub sound-publisher : s .rec .started ≡ true → publisherFits (s .rec .message .origin .publisher) ≡ true

@@ -5,3 +5,4 @@ pub mod JudgeLaws
 pub mod CallLaws
 pub mod Following
 pub mod Bringing
+pub mod QuickLaws

@@ -2,7 +2,7 @@
 use mathlib.Core.Path.{_≡_, refl, sym, ap, _∙_}
 use mathlib.Core.Bool.{true, false, _&&_, true≢false}
 use lib.Dec.{eqb}
-use borrow.Author.Tests.{eq-eqb, eqb-true}
+use borrow.Author.Tests.{eq-eqb, ne-eqb, eqb-true}
 use Rattle.publisher_id.specs.PublisherRecord.{samePublisher}
 use Rattle.publisher_id.proofs.Equality.{same-publisher-true, same-publisher-refl}
 use Rattle.reassembly.specs.Record.{sameGroup, Origin, sameOrigin, Identity, sameMessage}
@@ -72,3 +72,28 @@ same-message-comm a b =
 pub same-message-total : (a b : Identity) → sameOrigin (a .origin) (b .origin) ≡ true → sameMessage a b ≡ eqb (a .total) (b .total)
 unfolding sameMessage
 same-message-total a b e = rw e
+
+-- ---- one law for each way out of a comparison item by item
+module _ (a b : Identity) where
+  pub other-publisher : samePublisher (a .origin .publisher) (b .origin .publisher) ≡ false → sameMessage a b ≡ false
+  unfolding sameMessage sameOrigin
+  other-publisher e = rw e
+
+  module _ (e : samePublisher (a .origin .publisher) (b .origin .publisher) ≡ true) where
+    pub other-group : sameGroup (a .origin .group) (b .origin .group) ≡ false → sameMessage a b ≡ false
+    unfolding sameMessage sameOrigin
+    other-group f = rw (e, f)
+
+    module _ (f : sameGroup (a .origin .group) (b .origin .group) ≡ true) where
+      pub other-writer : (a .origin .writer ≡ b .origin .writer → ⊥) → sameMessage a b ≡ false
+      unfolding sameMessage sameOrigin
+      other-writer ne = rw (e, f, ne-eqb (a .origin .writer) (b .origin .writer) ne)
+
+      module _ (g : a .origin .writer ≡ b .origin .writer) where
+        pub other-number : (a .origin .number ≡ b .origin .number → ⊥) → sameMessage a b ≡ false
+        unfolding sameMessage sameOrigin
+        other-number ne = rw (e, f, eq-eqb (a .origin .writer) (b .origin .writer) g, ne-eqb (a .origin .number) (b .origin .number) ne)
+
+        pub same-but-total : a .origin .number ≡ b .origin .number → sameMessage a b ≡ eqb (a .total) (b .total)
+        same-but-total h =
+            same-message-total a b (same-origin-number (a .origin) (b .origin) e f g ∙ eq-eqb (a .origin .number) (b .origin .number) h)

@@ -6,3 +6,4 @@ pub mod Machine
 pub mod Judge
 pub mod Operations
 pub mod Calls
+pub mod Quick

@@ -3,6 +3,7 @@
 mod areas;
 mod judge;
 mod operations;
+pub mod quick;
 mod record;
 mod verdict;
 

@@ -136,7 +136,7 @@ pub fn take_in(
             rec,
         };
     }
-    match chunk::datagram::read(datagram, sizes) {
+    match chunk::datagram::read(&*datagram, &*sizes) {
         ChunkRead::Refused(n, place) => Outcome {
             verdict: Verdict::Refused(n, place),
             rec,

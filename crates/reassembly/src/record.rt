@@ -31,7 +31,7 @@ pub struct PartialRecord {
 }
 
 // Whether two messages have the same WriterGroupId: absent equals only absent.
-fn same_group(a: Optional16, b: Optional16) -> bool
+pub(crate) fn same_group(a: Optional16, b: Optional16) -> bool
     ensures { λ r. ⌜ r ≡ sameGroup a b ⌝ }
 {
     match a {

@@ -4,6 +4,8 @@ use partial_record::COVERED;
 use partial_record::asked_in;
 use partial_record::partial_in;
 use partial_record::put_partial;
+use partial_record::started_in;
+use partial_record::text_in;
 use reassembly::Completeness;
 use reassembly::PartialRecord;
 use reassembly::Progress;
@@ -12,6 +14,8 @@ use reassembly::ask_complete;
 use reassembly::combine_in;
 use reassembly::hand_out_verdict;
 use reassembly::progress;
+use reassembly::quick::More;
+use reassembly::quick::take_more;
 use reassembly::take_in;
 use records::numbers::number;
 use records::result::result;
@@ -20,11 +24,16 @@ use records::writers::sizes;
 use records::writers::writer_count;
 use wire::constants::UNSOUND;
 use wire_writer::store::put64;
-ghost use Prim.Native.Nat.{ℕ};
+ghost use Prim.Native.Nat.{ℕ, _≤_};
 ghost use mathlib.Core.Path.{_≡_};
 ghost use mathlib.Core.List.{List};
-ghost use Rattle.uadp_c.specs.Reassembling.{lent, takenOver, partialOf, progressIn};
-ghost use Rattle.reassembly.specs.Operations.{progressOf};
+ghost use mathlib.Core.Bool.{true};
+ghost use lib.ListN.{length};
+ghost use Rattle.uadp_c.specs.Reassembling.{lent, Steps, takenOver, partialOf, progressIn};
+ghost use Rattle.partial_record.specs.Partial.{partialIn};
+ghost use Rattle.records.specs.Sizes.{PARTIAL_SIZE};
+ghost use Rattle.reassembly.specs.Operations.{takeIn, progressOf};
+ghost use Rattle.reassembly.specs.Reading.{readingAt};
 ghost use Rattle.uadp_c.specs.History.{Called};
 ghost use Rattle.uadp_c.specs.History.LentCall.{Empty, Take, Combine, Ask, HandOut};
 
@@ -54,6 +63,64 @@ fn keep_record(rec: &mut [u8], after: PartialRecord)
     put_partial(rec, after);
 }
 
+// Takes a chunk into a started partial: of its record only the number of covered bytes changes.
+fn take_further(
+    rec: &mut [u8],
+    payload: &mut [u8],
+    marks: &mut [u8],
+    datagram: &[u8],
+    sizes: &[u16],
+) -> u64
+    requires { ⌜ (PARTIAL_SIZE ≤ length (now rec)) × (partialIn (now rec) .started ≡ true) ⌝ }
+    ensures { λ r.
+        let held = partialOf (now (rec .entry)) (now (payload .entry)) (now (marks .entry)) in
+        let step = takeIn held (readingAt (now (sizes .entry)) (now (datagram .entry))) in
+        let after = lent r (now (rec .exit)) (now (payload .exit)) (now (marks .exit)) in
+        ⌜ Steps (now (rec .entry)) (now (payload .entry)) (now (marks .entry)) step after ⌝ }
+{
+    match take_more(
+        started_in(rec),
+        text_in(rec),
+        payload,
+        marks,
+        datagram,
+        sizes,
+    ) {
+        More::Refused(number, place) => result(number, place),
+        More::Covered(covered) => {
+            put64(rec, 8 * COVERED, covered as u64);
+            result(0, 0)
+        }
+    }
+}
+
+// Takes a chunk into a partial that is not started: its record is handed on by value, and stored where the chunk is accepted.
+fn take_first(
+    rec: &mut [u8],
+    payload: &mut [u8],
+    marks: &mut [u8],
+    datagram: &[u8],
+    sizes: &[u16],
+) -> u64
+    requires { ⌜ PARTIAL_SIZE ≤ length (now rec) ⌝ }
+    ensures { λ r.
+        let held = partialOf (now (rec .entry)) (now (payload .entry)) (now (marks .entry)) in
+        let step = takeIn held (readingAt (now (sizes .entry)) (now (datagram .entry))) in
+        let after = lent r (now (rec .exit)) (now (payload .exit)) (now (marks .exit)) in
+        ⌜ Steps (now (rec .entry)) (now (payload .entry)) (now (marks .entry)) step after ⌝ }
+{
+    let taken = take_in(partial_in(rec), payload, marks, datagram, sizes);
+    let verdict = taken.verdict;
+    match verdict {
+        Verdict::Refused(number, place) => result(number, place),
+        Verdict::Done => {
+            let after = taken.rec;
+            keep_record(rec, after);
+            result(0, 0)
+        }
+    }
+}
+
 // Takes a chunk in from a datagram.
 #[no_mangle]
 pub extern "C" fn uadp_take_in(
@@ -73,16 +140,10 @@ pub extern "C" fn uadp_take_in(
     }
     let n = writer_count(config);
     let list = sizes(config);
-    let taken = take_in(partial_in(rec), payload, marks, datagram, first(&list, n));
-    let verdict = taken.verdict;
-    match verdict {
-        Verdict::Refused(number, place) => result(number, place),
-        Verdict::Done => {
-            let after = taken.rec;
-            keep_record(rec, after);
-            result(0, 0)
-        }
+    if number(rec, 0) != 1 {
+        return take_first(rec, payload, marks, datagram, first(&list, n));
     }
+    take_further(rec, payload, marks, datagram, first(&list, n))
 }
 
 // Combines another partial into this one; the other stays as it is.
@@ -170,7 +231,7 @@ pub extern "C" fn uadp_hand_out(rec: &[u8], payload: &[u8], marks: &[u8]) -> u64
     if rec.len() < PARTIAL_SIZE {
         return result(UNSOUND, 0);
     }
-    let held = partial_in(rec);
+    let held = asked_in(rec);
     match hand_out_verdict(held, payload, marks) {
         Verdict::Refused(number, place) => result(number, place),
         Verdict::Done => {

@@ -10,9 +10,10 @@ returns c =
     let at-number2 = c .before in
     let at-number = at-number2 .before in
     let at-put-run = at-number .before .before in
-    let at-part = at-put-run .before in
-    let args = at-part .before .before .before .args in
-    publisher-taken (now (args .s)) _ _ _ _ _ (at-part .part .ensures) (at-put-run .put-run .ensures .stored) (at-number .number .ensures) (at-number2 .number2 .ensures) (c .publisher-by .ensures)
+    let at-text-in = at-put-run .before in
+    let args = at-text-in .before .before .before .args in
+    publisher-taken (now (args .s)) _ _ _ _ _ (at-text-in .text-in .ensures) (at-put-run .put-run .ensures .stored)
+    (at-number .number .ensures) (at-number2 .number2 .ensures) (c .publisher-by .ensures)
 
 pub publisher-in-spec : {M : Type 1} → statement M
 publisher-in-spec =

@@ -32,13 +32,16 @@ returns c =
     (c .with-rest .ensures)
 
 returns-2 : tie.Need-returns-2
-returns-2 c =
+returns-2 c = rw (c .enum-told .given .1)
+
+returns-3 : tie.Need-returns-3
+returns-3 c =
     let at-number = c .before in
     let at-read-payload = at-number .before .before in
     rw (sym (told answerMessages (at-read-payload .read-payload .ensures) (at-number .number .given .1)))
 
-returns-3 : tie.Need-returns-3
-returns-3 c =
+returns-4 : tie.Need-returns-4
+returns-4 c =
     let at-payload = c .before in
     let at-read-payload = at-payload .before .before in
     rw (sym (told answerMessages (at-read-payload .read-payload .ensures) (at-payload .payload .given .1)))
@@ -50,8 +53,10 @@ with-payload-spec =
     (λ c κs. search needs)
     (λ c κs. search needs)
     returns
+    (λ c. search needs)
+    returns-2
     (λ c κs. search needs)
     (λ c. search needs)
     (λ c. search needs)
-    returns-2
-    returns-3)
+    returns-3
+    returns-4)

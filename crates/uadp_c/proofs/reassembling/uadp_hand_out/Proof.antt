@@ -17,19 +17,19 @@ returns-2 : tie.Need-returns-2
 returns-2 c =
     let at-number = c .before .before in
     let at-hand-out-verdict = at-number .before .before in
-    let at-partial-in = at-hand-out-verdict .before in
-    let args = at-partial-in .before .before .before .before .before .args in
-    hand-ends (now (args .rec)) (now (args .payload)) (now (args .marks)) _ (at-partial-in .partial-in .result) _ _ (omega arith)
-    (at-partial-in .partial-in .ensures) (at-hand-out-verdict .hand-out-verdict .ensures) (at-number .number .given .1) (c .result2 .ensures)
+    let at-asked-in = at-hand-out-verdict .before in
+    let args = at-asked-in .before .before .before .before .before .args in
+    hand-ends (now (args .rec)) (now (args .payload)) (now (args .marks)) _ (at-asked-in .asked-in .result) _ _ (omega arith)
+    (at-asked-in .asked-in .ensures) (at-hand-out-verdict .hand-out-verdict .ensures) (at-number .number .given .1) (c .result2 .ensures)
 
 returns-3 : tie.Need-returns-3
 returns-3 c =
     let at-enum-told = c .before .before in
     let at-hand-out-verdict = at-enum-told .before .before in
-    let at-partial-in = at-hand-out-verdict .before in
-    let args = at-partial-in .before .before .before .before .before .args in
-    hand-ends (now (args .rec)) (now (args .payload)) (now (args .marks)) _ (at-partial-in .partial-in .result) _ _ (omega arith)
-    (at-partial-in .partial-in .ensures) (at-hand-out-verdict .hand-out-verdict .ensures) (at-enum-told .enum-told .given .1) (c .result3 .ensures)
+    let at-asked-in = at-hand-out-verdict .before in
+    let args = at-asked-in .before .before .before .before .before .args in
+    hand-ends (now (args .rec)) (now (args .payload)) (now (args .marks)) _ (at-asked-in .asked-in .result) _ _ (omega arith)
+    (at-asked-in .asked-in .ensures) (at-hand-out-verdict .hand-out-verdict .ensures) (at-enum-told .enum-told .given .1) (c .result3 .ensures)
 
 pub uadp-hand-out-spec : {M : Type 1} → statement M
 uadp-hand-out-spec =

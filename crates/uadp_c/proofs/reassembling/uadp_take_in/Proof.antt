@@ -1,10 +1,13 @@
+-- `uadp_c::reassembling::uadp_take_in` meets its contract. Assumes nothing.
+use Rattle.uadp_c.proofs.Held.{with-sizes}
+use borrow.Author.Tests.{eq-eqb}
+use mathlib.Core.Path.{sym, _∙_}
 use Rattle.records.specs.Writers.{sizesIn}
 use Rattle.reassembly.specs.Reading.{readingAt}
 use Rattle.reassembly.specs.Operations.{takeIn}
 use Rattle.uadp_c.specs.Reassembling.{partialOf}
-use Rattle.uadp_c.proofs.Held.{steps-short, steps-end, taken}
-use Rattle.uadp_c.proofs.KeptRecord.{take-kept, fits-outcome}
-use mathlib.Core.Path.{refl}
+use Rattle.uadp_c.proofs.Held.{steps-short}
+use Rattle.uadp_c.proofs.KeptRecord.{take-kept}
 use native.Mathlib.Omega.{arith}
 use denote.Ref.{now}
 use borrow.Author.Needs.{needs}
@@ -13,43 +16,40 @@ use Rattle.uadp_c.proofs.reassembling.uadp_take_in.Tie as tie
 
 returns : tie.Need-returns
 returns c =
-    let args = c .before .before .before .before .before .before .before .args in
+    let near = c .before .before .before in
+    let args = near .before .before .before .before .args in
     steps-short (now (args .rec)) (now (args .payload)) (now (args .marks)) _
     (takeIn (partialOf (now (args .rec)) (now (args .payload)) (now (args .marks))) (readingAt (sizesIn (now (args .config))) (now (args .datagram))))
     (omega arith) (take-kept (partialOf (now (args .rec)) (now (args .payload)) (now (args .marks))) (readingAt (sizesIn (now (args .config))) (now (args .datagram)))) (c .result .ensures)
 
 returns-2 : tie.Need-returns-2
 returns-2 c =
-    let at-verdict = c .before .before in
-    let at-take-in = at-verdict .before .before .before .before .before .before in
-    let at-first = at-take-in .before in
-    let at-partial-in = at-first .before .before .before .before in
-    let at-sizes = at-partial-in .before .before in
+    let near = c .before .before .before in
+    let at-take-first = near .before .before .before in
+    let at-first = at-take-first .before in
+    let at-sizes = at-first .before .before .before .before .before .before .before .before in
     let at-writer-count = at-sizes .before in
     let args = at-writer-count .before .before .before .before .before .before .before .args in
-    steps-end (now (args .rec)) (now (args .payload)) (now (args .marks)) _ _ _ _ (at-take-in .take-in .result) _ _
-    (take-kept (partialOf (now (args .rec)) (now (args .payload)) (now (args .marks))) (readingAt (sizesIn (now (args .config))) (now (args .datagram))))
-    (fits-outcome (at-take-in .take-in .result) _ (at-take-in .take-in .ok)) (omega arith)
-    (taken (now (args .config)) (now (args .datagram)) (now (args .rec)) (now (args .payload)) (now (args .marks)) _ _ _ _ _ _ _
-    (at-writer-count .writer-count .ensures .0) (at-sizes .sizes .ensures) (at-first .first .ensures) (at-partial-in .partial-in .ensures) (at-take-in .take-in .ensures))
-    (at-verdict .verdict .given .1) (c .result2 .ensures) refl
+    with-sizes (now (args .config)) (now (args .datagram)) (now (args .rec)) (now (args .payload)) (now (args .marks)) _ _ _ _
+    (at-writer-count .writer-count .ensures .0) (at-sizes .sizes .ensures) (at-first .first .ensures) (at-take-first .take-first .ensures)
+
+take-further-requires : tie.Need-take-further-requires
+take-further-requires c κs =
+    let near = c .before .before .before in
+    let at-if2 = near .before .before in
+    let at-number = at-if2 .before in
+    (omega arith, eq-eqb _ 1 (sym (at-number .number .ensures) ∙ at-if2 .if2 .left))
 
 returns-3 : tie.Need-returns-3
 returns-3 c =
-    let at-keep-record = c .before .before .before in
-    let at-enum-told = at-keep-record .before .before .before in
-    let at-take-in = at-enum-told .before .before .before .before .before .before in
-    let at-first = at-take-in .before in
-    let at-partial-in = at-first .before .before .before .before in
-    let at-sizes = at-partial-in .before .before in
+    let near = c .before .before .before in
+    let at-take-further = near .before .before .before in
+    let at-first2 = at-take-further .before in
+    let at-sizes = at-first2 .before .before .before .before .before .before .before .before in
     let at-writer-count = at-sizes .before in
     let args = at-writer-count .before .before .before .before .before .before .before .args in
-    steps-end (now (args .rec)) (now (args .payload)) (now (args .marks)) _ _ _ _ (at-take-in .take-in .result) _ _
-    (take-kept (partialOf (now (args .rec)) (now (args .payload)) (now (args .marks))) (readingAt (sizesIn (now (args .config))) (now (args .datagram))))
-    (fits-outcome (at-take-in .take-in .result) _ (at-take-in .take-in .ok)) (omega arith)
-    (taken (now (args .config)) (now (args .datagram)) (now (args .rec)) (now (args .payload)) (now (args .marks)) _ _ _ _ _ _ _
-    (at-writer-count .writer-count .ensures .0) (at-sizes .sizes .ensures) (at-first .first .ensures) (at-partial-in .partial-in .ensures) (at-take-in .take-in .ensures))
-    (at-enum-told .enum-told .given .1) (c .result3 .ensures) (at-keep-record .keep-record .ensures)
+    with-sizes (now (args .config)) (now (args .datagram)) (now (args .rec)) (now (args .payload)) (now (args .marks)) _ _ _ _
+    (at-writer-count .writer-count .ensures .0) (at-sizes .sizes .ensures) (at-first2 .first2 .ensures) (at-take-further .take-further .ensures)
 
 pub uadp-take-in-spec : {M : Type 1} → statement M
 uadp-take-in-spec =
@@ -64,14 +64,12 @@ uadp-take-in-spec =
     (λ c κs. search needs)
     (λ c κs. search needs)
     (λ c. search needs)
-    (λ c κs. search needs)
-    (λ c. search needs)
-    (λ c κs. search needs)
-    (λ c κs. search needs)
-    (λ c. search needs)
     (λ c. search needs)
     (λ c. search needs)
     returns-2
+    (λ c. search needs)
+    (λ c κs. search needs)
+    take-further-requires
     (λ c. search needs)
     (λ c. search needs)
     (λ c. search needs)
