@@ -1,6 +1,8 @@
 // A whole listing as text in a lent buffer: first its length, then its lines one after the other.
 use crate::block::line_in;
 use crate::block::put_block;
+use crate::quick::put_lines;
+use crate::quick::surely_fits;
 use walk::entry::Line;
 use walk::lines::LineCursor;
 use walk::lines::LineStep;
@@ -59,6 +61,30 @@ fn text_length<'a>(
     }
 }
 
+// Puts the lines from a cursor on at the start of a buffer, their length counted first; 11 where they do not fit.
+fn put_counted<'a>(
+    out: &mut [u8],
+    s: &[u8],
+    first: LineCursor,
+    ids: &'a [u16],
+    sizes: &[u16],
+    starts: &'a [u8],
+    types: &'a [u8],
+) -> Written
+    ensures { λ r.
+        let w = writers (now (ids .entry)) (now (sizes .entry)) (now (starts .entry)) (now (types .entry)) in
+        let text = linesText (now (s .entry)) (linesFrom w (now (s .entry)) first) in
+        ⌜ (r ≡ textWritten (now (out .entry)) text) × (now (out .exit) ≡ textAfter (now (out .entry)) text) ⌝ }
+{
+    match text_length(out.len(), s, first, ids, sizes, starts, types) {
+        TextLength::Long => Written::Refused(NO_ROOM),
+        TextLength::Is(n) => {
+            put_block(out, s, ids, sizes, starts, types, first);
+            Written::Is(n)
+        }
+    }
+}
+
 // Puts the whole listing of a datagram at the start of a buffer, under a configuration whose reading gave a number and a place; 11 where
 // it does not fit.
 pub fn put_listing<'a>(
@@ -77,13 +103,13 @@ pub fn put_listing<'a>(
         ⌜ (r ≡ textWritten (now (out .entry)) text) × (now (out .exit) ≡ textAfter (now (out .entry)) text) ⌝ }
 {
     let first = start(s, number, place, sizes);
-    match text_length(out.len(), s, first, ids, sizes, starts, types) {
-        TextLength::Long => Written::Refused(NO_ROOM),
-        TextLength::Is(n) => {
-            put_block(out, s, ids, sizes, starts, types, first);
-            Written::Is(n)
-        }
+    let LineCursor::Net(l) = first else {
+        return put_counted(out, s, first, ids, sizes, starts, types);
+    };
+    if surely_fits(out.len(), s, ids, sizes, starts, types, l) {
+        return Written::Is(put_lines(out, s, ids, sizes, starts, types, l));
     }
+    put_counted(out, s, first, ids, sizes, starts, types)
 }
 
 // How long the whole listing of a datagram is, under a configuration whose reading gave a number and a place, where it fits into some

@@ -1,53 +1,63 @@
--- `listing::whole::put_listing` meets its contract.
--- Assumes nothing.
-use Rattle.listing.specs.Text.{linesText, lengthIn}
+use Rattle.listing.proofs.OnePass.{same-listing, list-written}
+use Rattle.listing.proofs.Texts.{listing-text}
+use Rattle.listing.specs.Text.{linesText}
+use Rattle.walk.specs.declared.lines.LineCursor.{LineCursor}
 use Rattle.walk.specs.Lines.{writers, linesFrom, listingOf}
-use Rattle.listing.proofs.Texts.{listing-text, no-room, room-length, put-all}
-use Rattle.listing.proofs.Blocks.{all-fit}
 use lib.Seq.{sets}
 use lib.ListN.{length}
 use mathlib.Core.Path.{ap, sym, _∙_}
 use denote.Ref.{now}
+-- `listing::whole::put_listing` meets its contract.
+-- Assumes nothing.
 use borrow.Author.Needs.{needs}
 use Rattle.listing.proofs.whole.put_listing.Statement.{statement}
 use Rattle.listing.proofs.whole.put_listing.Tie as tie
 
 returns : tie.Need-returns
 returns c =
-    let at-text-length = c .before .before in
-    let at-start = at-text-length .before in
+    let at-put-counted = c .before .before in
+    let at-start = at-put-counted .before .before .before in
     let args = at-start .before .before .before .before .before .before .before .args in
-    no-room (now (args .out))
-    (linesText (now (args .s)) (listingOf (args .number) (args .place) (writers (now (args .ids)) (now (args .sizes)) (now (args .starts)) (now (args .types))) (now (args .s))))
-    (sym (c .enum-told .given .1) ∙ at-text-length .text-length .ensures
-    ∙ ap (lengthIn (length (now (args .out))))
-    (listing-text (writers (now (args .ids)) (now (args .sizes)) (now (args .starts)) (now (args .types))) (now (args .s)) (args .number) (args .place) _ (at-start .start .ensures)))
+    same-listing (now (args .out)) _ _ _ _ (listing-text (writers (now (args .ids)) (now (args .sizes)) (now (args .starts)) (now (args .types))) (now (args .s)) (args .number) (args .place) _ (at-start .start .ensures)) (at-put-counted .put-counted .ensures)
+
+put-lines-requires : tie.Need-put-lines-requires
+put-lines-requires c κs = c .before .before .surely-fits .ensures (c .before .if1 .taken)
 
 returns-2 : tie.Need-returns-2
 returns-2 c =
-    let at-put-block = c .before .before in
-    let at-n = at-put-block .before .before .before in
-    let at-text-length = at-n .before .before in
-    let at-start = at-text-length .before in
+    let at-put-lines = c .before .before in
+    let at-first = at-put-lines .before .before .before .before .before in
+    let at-start = at-first .before .before in
     let args = at-start .before .before .before .before .before .before .before .args in
-    let w = writers (now (args .ids)) (now (args .sizes)) (now (args .starts)) (now (args .types)) in
+    let w = (writers (now (args .ids)) (now (args .sizes)) (now (args .starts)) (now (args .types))) in
     let s = now (args .s) in
-    let lines = linesFrom w s (at-start .start .result) in
-    let text = listing-text w s (args .number) (args .place) _ (at-start .start .ensures) in
-    let told = sym (at-n .n .given .1) ∙ at-text-length .text-length .ensures in
-    put-all (now (args .out)) (linesText s (listingOf (args .number) (args .place) w s)) _ _ (told ∙ ap (lengthIn (length (now (args .out)))) text)
-    (at-put-block .put-block .ensures .1
-    ∙ ap (sets (now (args .out)) 0) (all-fit s lines (length (now (args .out))) (room-length (now (args .out)) (linesText s lines) _ told .1) ∙ text))
+    let text = ap (λ (x : LineCursor). linesText s (linesFrom w s x)) (sym (at-first .first .given .1)) ∙ listing-text w s (args .number) (args .place) _ (at-start .start .ensures) in
+    list-written (now (args .out)) (linesText s (listingOf (args .number) (args .place) w s)) _ _ (at-put-lines .put-lines .ensures .0 ∙ ap length text) (at-put-lines .put-lines .ensures .1 ∙ ap (sets (now (args .out)) 0) text) (at-put-lines .put-lines .ensures .2)
+
+returns-3 : tie.Need-returns-3
+returns-3 c =
+    let at-put-counted2 = c .before .before in
+    let at-first = at-put-counted2 .before .before .before .before .before in
+    let at-start = at-first .before .before in
+    let args = at-start .before .before .before .before .before .before .before .args in
+    let w = (writers (now (args .ids)) (now (args .sizes)) (now (args .starts)) (now (args .types))) in
+    let s = now (args .s) in
+    let text = ap (λ (x : LineCursor). linesText s (linesFrom w s x)) (sym (at-first .first .given .1)) ∙ listing-text w s (args .number) (args .place) _ (at-start .start .ensures) in
+    same-listing (now (args .out)) _ _ _ _ text (at-put-counted2 .put-counted2 .ensures)
 
 pub put-listing-spec : {M : Type 1} → statement M
 put-listing-spec =
     tie.close
     (tie.spec
     (λ c κs. search needs)
-    (λ c κs. search needs)
-    (λ c. search needs)
     (λ c. search needs)
     (λ c κs. search needs)
+    (λ c. search needs)
     returns
+    (λ c κs. search needs)
+    put-lines-requires
     (λ c. search needs)
-    returns-2)
+    returns-2
+    (λ c κs. search needs)
+    (λ c. search needs)
+    returns-3)
