@@ -38,8 +38,9 @@ use Rattle.publisher_id.specs.declared.publisher.PublisherId.{PublisherId}
 use Rattle.listing.specs.Columns.{tabbed, lineEnd, optionalText, Put}
 use Rattle.listing.specs.Line.{idTooLong, placeText, headText, netText, fieldText, lineText}
 use Rattle.listing.specs.Text.{lineOut, linesText, textWritten, textAfter}
-use Rattle.listing.specs.Quick.{placeOf, fieldThen, textFrom, fieldsText, setText, linesEnd, textLeft, countLeft, readingLeft, LinesPut, accepted, answerJudged, restAccepted, fieldCount, mostFrom, mostLeft, mostLines}
+use Rattle.listing.specs.Quick.{placeOf, fieldThen, textFrom, fieldsText, setText, linesEnd, textLeft, countLeft, readingLeft, LinesPut, OnePut, accepted, answerJudged, restAccepted, fieldCount, mostFrom, mostLeft, mostLines}
 use Rattle.listing.specs.declared.quick.FieldLines.{FieldLines}
+use Rattle.listing.specs.declared.quick.OneListed.{OneListed}
 use Rattle.listing.proofs.Putting.{put-all, then, fewer}
 use Rattle.listing.proofs.Texts.{first-part}
 
@@ -220,6 +221,15 @@ set-then types s p c told l {m} {n} {e} {head} {at} {first} {next} r h a b f =
     let q = told-put told l (fieldsLeft c) h a b in
     fewer (omega arith) (then a (then (q .0) (all-lines types s p c next n e r f (omega (arith, a .near, q .0 .near, q .1)))))
 
+-- no field is left
+pub set-only : (types s : List ℕ) (p : MessagePlace) (c : Cursor) (told l : List ℕ) {m n head : List ℕ} {at first next : ℕ} → c .count ≤ c .next
+    → at + 256 + length told + 256 * fieldsLeft c ≤ length l → Put 256 head l at m first → Stored told m first n next
+    → Put (256 + length told + 256 * fieldsLeft c) (head ++ (told ++ fieldsText types s p c)) l at n next
+set-only types s p c told l k h a b =
+    let q = told-put told l (fieldsLeft c) h a b in
+    let t : told ++ fieldsText types s p c ≡ told = ap (λ (x : List ℕ). told ++ x) (text-end types s p c k) ∙ append-nil told in
+    rw t (fewer (omega arith) (then a (q .0)))
+
 -- ---- whether a message is accepted
 judged-by : (r : Reached) → answerJudged r ≡ accepted (answerReached r)
 judged-by (Reached.To at) = refl
@@ -314,6 +324,22 @@ module _ (types s : List ℕ) (p : MessagePlace) (c : Cursor) (start : c .next �
       f .whole ∙ ap (λ (x : List ℕ). x ++ fieldsText types s p (cursorBefore c next at)) (sym told-is) ∙ ap (λ (x : Cursor). told ++ fieldsText types s p x) (sym b) in
       rw (text-accepted types s h c start p q m z, t) (fewer (omega (arith, told-room)) u)
 
+-- ---- a listing with one message
+pub not-put : (t l : List ℕ) → OnePut t OneListed.Not l l
+not-put t l = record { stored = refl; after = refl; within = omega arith }
+
+pub both-put : {j k at r : ℕ} {t u m e : List ℕ} (l : List ℕ) → j + k ≤ length l → Put j t l 0 m at → Put k u m at e r → OnePut (t ++ u) (OneListed.To r) l e
+both-put l h a b = let p = then a b in record { stored = p .stored; after = omega (arith, p .after); within = omega (arith, p .near) }
+
+pub put-long : {k at next : ℕ} {t e : List ℕ} (l : List ℕ) → Put k t l at e next → length e ≡ length l
+put-long {k} {at} {next} {t} l u = ap length (u .stored) ∙ length-sets l at t
+
+pub one-told : {t l e : List ℕ} {x y : OneListed} → OnePut t x l e → x ≡ y → OnePut t y l e
+one-told {t} {l} {e} f q = subst (λ (r : OneListed). OnePut t r l e) q f
+
+pub one-same : {t u l e : List ℕ} {r : OneListed} → u ≡ t → OnePut t r l e → OnePut u r l e
+one-same {t} {u} {l} {e} {r} q f = subst (λ (x : List ℕ). OnePut x r l e) (sym q) f
+
 -- ---- one message, whose bytes are its own part of the datagram d
 module _ (types d bytes : List ℕ) (p : MessagePlace) (w : Optional16) (b : bytes ≡ take (p .length) (drop (p .offset) d)) where
   abbrev Message-put : ℕ → ℕ → List ℕ → List ℕ → Type 0
@@ -334,6 +360,10 @@ module _ (types d bytes : List ℕ) (p : MessagePlace) (w : Optional16) (b : byt
 
     pub opened-room : (at k : ℕ) → at + 256 * (1 + fieldCount (frontAt types (take (p .length) (drop (p .offset) d)))) ≤ k → at + 256 * (1 + m .cursor .count) ≤ k
     opened-room at k h = rw (sym b, sym a) at h
+
+    pub opened-both : {l e : List ℕ} {r : OneListed} (t : List ℕ) → OnePut (t ++ setText types bytes p (placeOf p w) (messageAt types bytes)) r l e
+        → OnePut (t ++ setText types (take (p .length) (drop (p .offset) d)) p (placeOf p w) (messageAt types (take (p .length) (drop (p .offset) d)))) r l e
+    opened-both t u = rw (sym b) u
 
     pub opened-ends : messageAt types bytes ≡ endAt (m .header) (m .cursor) types bytes
     opened-ends = front-decides types bytes (got (valid m) n) a
@@ -441,6 +471,20 @@ module _ (w : Writers) (d : List ℕ) where
       ∙ lines-append d (setLines w d l (x .place) (messageAt (typesAt w d l (x .place)) (bytesAt w d (x .place)))) (messageLines w d (messagesLeft l (x .cursor)) l (x .cursor))
       ∙ ap (λ (t : List ℕ). t ++ leftText l (x .cursor)) (set-text l (x .place) (messageAt (typesAt w d l (x .place)) (bytesAt w d (x .place))) ∙ s)
 
+  -- the text of a listing with one message
+  pub one-text : (l : Listed) (p : MessagePlace) (next : MessageCursor) (n : ℕ) (v : Optional16) (types : List ℕ) → l .payload .count ≡ 1
+      → got (record { place = p; cursor = next }) n ≡ messageOf l (firstMessage l) → v ≡ writerAt w d l p → types ≡ typesOf (w .ids) (w .starts) (w .types) v
+      → linesText d (acceptedLines w d l) ≡ lineOut d (netLine w d l) ++ setText types (bytesAt w d p) p (placeOf p v) (messageAt types (bytesAt w d p))
+  unfolding messageLines
+  one-text l p next n v types one e a b =
+      let x : PlaceStepped = record { place = p; cursor = next } in
+      let h : messagesLeft l (firstMessage l) ≡ suc (messagesLeft l next) = message-passed l (firstMessage l) x n (sym e) in
+      let z : messagesLeft l next ≡ 0 = omega arith in
+      let text = setText types (bytesAt w d p) p (placeOf p v) (messageAt types (bytesAt w d p)) in
+      let none : leftText l next ≡ [] = rw z in
+      ap (λ (t : List ℕ). lineOut d (netLine w d l) ++ t)
+      (text-next l (firstMessage l) x n v types (sym e) a b ∙ ap (λ (t : List ℕ). text ++ t) none ∙ append-nil text)
+
   -- ---- the loop over the messages, which started with a buffer, a position and a cursor: what is left gives the same buffer and end, and each
   -- line has room
   pub record Listing (l : Listed) (start : List ℕ) (first : ℕ) (c₀ : MessageCursor) (out : List ℕ) (at : ℕ) (c : MessageCursor) : Type 0 where
@@ -506,3 +550,9 @@ same-listing out e t u r q a = (a .0 ∙ ap (textWritten out) q, a .1 ∙ ap (te
 -- a listing that fits is written
 pub list-written : (out t e : List ℕ) (r : ℕ) → r ≡ length t → e ≡ sets out 0 t → r ≤ length out → (Written.Is r ≡ textWritten out t) × (e ≡ textAfter out t)
 list-written out t e r a b c = let f = le-ltb (length out) (length t) (omega arith) in (rw f (ap Written.Is a), rw f b)
+
+pub one-written : (out t e : List ℕ) (n : ℕ) → OnePut t (OneListed.To n) out e → (Written.Is n ≡ textWritten out t) × (e ≡ textAfter out t)
+one-written out t e n f = list-written out t e n (f .after) (f .stored) (f .within)
+
+pub none-written : (out t mid e : List ℕ) (r : Written) → OnePut t OneListed.Not out mid → (r ≡ textWritten mid t) × (e ≡ textAfter mid t) → (r ≡ textWritten out t) × (e ≡ textAfter out t)
+none-written out t mid e r f a = (a .0 ∙ ap (λ (x : List ℕ). textWritten x t) (f .stored), a .1 ∙ ap (λ (x : List ℕ). textAfter x t) (f .stored))

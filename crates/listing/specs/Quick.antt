@@ -22,6 +22,7 @@ use Rattle.walk.specs.declared.lines.Listed.{Listed}
 use Rattle.listing.specs.Columns.{tabbed, lineEnd, optionalText}
 use Rattle.listing.specs.Line.{badWord, invalidWord, placeText, headText, refusalText, fieldText}
 use Rattle.listing.specs.declared.quick.FieldLines.{FieldLines}
+use Rattle.listing.specs.declared.quick.OneListed.{OneListed}
 
 -- what the `set` line of the message in place p begins with
 abbrev pub placeOf : MessagePlace → Optional16 → SetPlace
@@ -76,6 +77,24 @@ module _ (types bytes : List ℕ) (p : MessagePlace) where
     pub reading : fieldsAt (c .delta) (c .encoding) types (fieldsLeft c) (c .next) bytes (c .at) ≡ readingLeft c r
     pub near : linesEnd r + 256 * countLeft c r ≤ first + 256 * fieldsLeft c
     pub all : linesEnd r + 256 ≤ length entry → textLeft c r ≡ []
+
+-- ---- a listing with one message was put, or nothing was
+abbrev pub oneAfter : OneListed → List ℕ → List ℕ → List ℕ
+oneAfter (OneListed.To n) l t = sets l 0 t
+oneAfter OneListed.Not l t = l
+
+abbrev pub oneLength : OneListed → List ℕ → ℕ
+oneLength (OneListed.To n) t = n
+oneLength OneListed.Not t = length t
+
+abbrev pub oneEnd : OneListed → ℕ
+oneEnd (OneListed.To n) = n
+oneEnd OneListed.Not = 0
+
+pub record OnePut (text : List ℕ) (r : OneListed) (entry exit : List ℕ) : Type 0 where
+  pub stored : exit ≡ oneAfter r entry text
+  pub after : oneLength r text ≡ length text
+  pub within : oneEnd r ≤ length entry
 
 -- ---- whether a message is accepted
 abbrev pub accepted : {A : Type 0} → Answer A → Answer (Unit {0})

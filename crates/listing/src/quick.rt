@@ -40,7 +40,7 @@ ghost use Rattle.listing.specs.Columns.{tabbed, lineEnd, optionalText, P
 ghost use Rattle.listing.specs.Line.{placeText, headText, fieldText};
 ghost use Rattle.listing.specs.Text.{lineOut, linesText};
 ghost use Rattle.walk.specs.declared.entry.Line.{Line};
-ghost use Rattle.listing.specs.Quick.{placeOf, setText, fieldsText, LinesPut, accepted, answerJudged, restAccepted, fieldCount, mostLines};
+ghost use Rattle.listing.specs.Quick.{placeOf, setText, fieldsText, LinesPut, OnePut, accepted, answerJudged, restAccepted, fieldCount, mostLines};
 
 // No line is longer.
 const MOST_LINE: usize = 256;
@@ -49,6 +49,12 @@ const MOST_LINE: usize = 256;
 pub enum FieldLines {
     To(usize, usize, usize),
     Refused(usize, u8, usize),
+}
+
+// The length of a listing with one message that was put, or that nothing was.
+pub enum OneListed {
+    To(usize),
+    Not,
 }
 
 // The line of a field of the message in a place.
@@ -154,6 +160,9 @@ fn put_accepted(
     let sequence = h.sequence;
     let first = set(out, at, place, kind, encoding, sequence);
     let then = put_run(out, first, told);
+    if c.count <= c.next {
+        return then;
+    }
     match put_fields(out, then, message, types, p, c) {
         FieldLines::To(end, _, _) => end,
         FieldLines::Refused(end, _, _) => end,
@@ -281,6 +290,69 @@ pub(crate) fn put_lines<'a>(
                 at = put_message(out, at, s, configured, writer, p);
                 c = next;
             }
+        }
+    }
+}
+
+// The lines of a datagram whose one message is in a place, where there is room for each; a message whose front is refused or not valid is
+// left to the other ways.
+fn put_both(out: &mut [u8], s: &[u8], types: &[u8], writer: Optional16, p: MessagePlace, l: Listed) -> OneListed
+    ensures { λ r.
+        let line = Line.Net (length (now (s .entry))) (l .publisher) (l .«publisher_end») (l .payload .count) in
+        let bytes = take (p .length) (drop (p .offset) (now (s .entry))) in
+        let text = setText (now (types .entry)) bytes p (placeOf p writer) (messageAt (now (types .entry)) bytes) in
+        ⌜ OnePut (lineOut (now (s .entry)) line ++ text) r (now (out .entry)) (now (out .exit)) ⌝ }
+{
+    let lines = out.len() / MOST_LINE;
+    if lines < 2 {
+        return OneListed::Not;
+    }
+    let message = part(s, p.offset, p.length);
+    let MessageRead::Is(h, c, _) = front(message, types) else {
+        return OneListed::Not;
+    };
+    if lines - 2 < c.count {
+        return OneListed::Not;
+    }
+    let place = SetPlace {
+        message: p.index,
+        writer,
+        offset: p.offset,
+        length: p.length,
+    };
+    let at = put_net(out, s, l);
+    OneListed::To(put_opened(out, at, message, types, place, p, h, c))
+}
+
+// The lines of an accepted datagram with one message, where there is room for each.
+pub(crate) fn put_one<'a>(
+    out: &mut [u8],
+    s: &[u8],
+    ids: &'a [u16],
+    sizes: &[u16],
+    starts: &'a [u8],
+    types: &'a [u8],
+    l: Listed,
+) -> OneListed
+    ensures { λ r.
+        let w = writers (now (ids .entry)) (now (sizes .entry)) (now (starts .entry)) (now (types .entry)) in
+        ⌜ OnePut (linesText (now (s .entry)) (acceptedLines w (now (s .entry)) l)) r (now (out .entry)) (now (out .exit)) ⌝ }
+{
+    let payload = l.payload;
+    let header = l.header;
+    if payload.count != 1 {
+        return OneListed::Not;
+    }
+    let first = MessageCursor {
+        index: 0,
+        at: payload.first,
+    };
+    match first.step(s, payload, sizes) {
+        MessageStep::Refused(_, _) => OneListed::Not,
+        MessageStep::Is(p, _) => {
+            let writer = writer_id(s, header, l.header_end, ids, p.index);
+            let configured = types_of(ids, starts, types, writer);
+            put_both(out, s, configured, writer, p, l)
         }
     }
 }

@@ -1,14 +1,12 @@
-use Rattle.listing.proofs.OnePass.{same-listing, list-written}
+-- `listing::whole::put_listing` meets its contract.
+-- Assumes nothing.
+use Rattle.listing.proofs.OnePass.{same-listing, one-told, one-written, none-written}
 use Rattle.listing.proofs.Texts.{listing-text}
 use Rattle.listing.specs.Text.{linesText}
 use Rattle.walk.specs.declared.lines.LineCursor.{LineCursor}
 use Rattle.walk.specs.Lines.{writers, linesFrom, listingOf}
-use lib.Seq.{sets}
-use lib.ListN.{length}
 use mathlib.Core.Path.{ap, sym, _∙_}
 use denote.Ref.{now}
--- `listing::whole::put_listing` meets its contract.
--- Assumes nothing.
 use borrow.Author.Needs.{needs}
 use Rattle.listing.proofs.whole.put_listing.Statement.{statement}
 use Rattle.listing.proofs.whole.put_listing.Tie as tie
@@ -20,30 +18,30 @@ returns c =
     let args = at-start .before .before .before .before .before .before .before .args in
     same-listing (now (args .out)) _ _ _ _ (listing-text (writers (now (args .ids)) (now (args .sizes)) (now (args .starts)) (now (args .types))) (now (args .s)) (args .number) (args .place) _ (at-start .start .ensures)) (at-put-counted .put-counted .ensures)
 
-put-lines-requires : tie.Need-put-lines-requires
-put-lines-requires c κs = c .before .before .surely-fits .ensures (c .before .if1 .taken)
-
 returns-2 : tie.Need-returns-2
 returns-2 c =
-    let at-put-lines = c .before .before in
-    let at-first = at-put-lines .before .before .before .before .before in
+    let at-n = c .before in
+    let at-put-one = at-n .before .before .before .before in
+    let at-first = at-put-one .before .before .before in
     let at-start = at-first .before .before in
     let args = at-start .before .before .before .before .before .before .before .args in
     let w = (writers (now (args .ids)) (now (args .sizes)) (now (args .starts)) (now (args .types))) in
     let s = now (args .s) in
     let text = ap (λ (x : LineCursor). linesText s (linesFrom w s x)) (sym (at-first .first .given .1)) ∙ listing-text w s (args .number) (args .place) _ (at-start .start .ensures) in
-    list-written (now (args .out)) (linesText s (listingOf (args .number) (args .place) w s)) _ _ (at-put-lines .put-lines .ensures .0 ∙ ap length text) (at-put-lines .put-lines .ensures .1 ∙ ap (sets (now (args .out)) 0) text) (at-put-lines .put-lines .ensures .2)
+    same-listing (now (args .out)) _ _ _ _ text (one-written (now (args .out)) _ _ _ (one-told (at-put-one .put-one .ensures) (at-n .n .given .1)))
 
 returns-3 : tie.Need-returns-3
 returns-3 c =
-    let at-put-counted2 = c .before .before in
-    let at-first = at-put-counted2 .before .before .before .before .before in
+    let at-put-several = c .before .before in
+    let at-enum-told = at-put-several .before .before in
+    let at-put-one = at-enum-told .before .before .before .before in
+    let at-first = at-put-one .before .before .before in
     let at-start = at-first .before .before in
     let args = at-start .before .before .before .before .before .before .before .args in
     let w = (writers (now (args .ids)) (now (args .sizes)) (now (args .starts)) (now (args .types))) in
     let s = now (args .s) in
     let text = ap (λ (x : LineCursor). linesText s (linesFrom w s x)) (sym (at-first .first .given .1)) ∙ listing-text w s (args .number) (args .place) _ (at-start .start .ensures) in
-    same-listing (now (args .out)) _ _ _ _ text (at-put-counted2 .put-counted2 .ensures)
+    same-listing (now (args .out)) _ _ _ _ text (none-written (now (args .out)) _ _ _ _ (one-told (at-put-one .put-one .ensures) (at-enum-told .enum-told .given .1)) (at-put-several .put-several .ensures))
 
 pub put-listing-spec : {M : Type 1} → statement M
 put-listing-spec =
@@ -55,9 +53,10 @@ put-listing-spec =
     (λ c. search needs)
     returns
     (λ c κs. search needs)
-    put-lines-requires
+    (λ c. search needs)
+    (λ c. search needs)
+    (λ c κs. search needs)
     (λ c. search needs)
     returns-2
-    (λ c κs. search needs)
     (λ c. search needs)
     returns-3)
