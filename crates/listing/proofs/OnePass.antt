@@ -38,7 +38,7 @@ use Rattle.publisher_id.specs.declared.publisher.PublisherId.{PublisherId}
 use Rattle.listing.specs.Columns.{tabbed, lineEnd, optionalText, Put}
 use Rattle.listing.specs.Line.{idTooLong, placeText, headText, netText, fieldText, lineText}
 use Rattle.listing.specs.Text.{lineOut, linesText, textWritten, textAfter}
-use Rattle.listing.specs.Quick.{placeOf, fieldThen, textFrom, fieldsText, setText, linesEnd, textLeft, countLeft, readingLeft, LinesPut, OnePut, accepted, answerJudged, restAccepted, fieldCount, mostFrom, mostLeft, mostLines}
+use Rattle.listing.specs.Quick.{setPlaceOf, textFrom, fieldsText, setText, linesEnd, textLeft, LinesPut, OnePut, messageVerdict, answerJudged, restAccepted, fieldCount, mostFrom, mostLeft, mostLines}
 use Rattle.listing.specs.declared.quick.FieldLines.{FieldLines}
 use Rattle.listing.specs.declared.quick.OneListed.{OneListed}
 use Rattle.listing.proofs.Putting.{put-all, then, fewer}
@@ -194,7 +194,7 @@ nothing-left types s p c first entry exit (FieldLines.To end next at) f h = go (
     go zero e = text-end types s p (cursorBefore c next at) (omega arith)
     go (suc k) e = f .all (omega (arith, f .near))
 
-pub all-lines : (types s : List ℕ) (p : MessagePlace) (c : Cursor) (first : ℕ) (entry exit : List ℕ) (r : FieldLines)
+all-lines : (types s : List ℕ) (p : MessagePlace) (c : Cursor) (first : ℕ) (entry exit : List ℕ) (r : FieldLines)
     → LinesPut types s p c first r entry exit → first + 256 * fieldsLeft c ≤ length entry
     → Put (256 * fieldsLeft c) (fieldsText types s p c) entry first exit (linesEnd types s p r)
 all-lines types s p c first entry exit r f h =
@@ -231,7 +231,7 @@ set-only types s p c told l k h a b =
     rw t (fewer (omega arith) (then a (q .0)))
 
 -- ---- whether a message is accepted
-judged-by : (r : Reached) → answerJudged r ≡ accepted (answerReached r)
+judged-by : (r : Reached) → answerJudged r ≡ messageVerdict (answerReached r)
 judged-by (Reached.To at) = refl
 judged-by (Reached.Refused n place) = refl
 
@@ -239,31 +239,31 @@ judged-by (Reached.Refused n place) = refl
 pub judged-end : (types s : List ℕ) (c : Cursor) (r : Reached) (x : Answer (Unit {0})) → c .count ≤ c .next → answerReached r ≡ paddingAt s (c .at) → x ≡ restAccepted types s c
     → answerJudged r ≡ x
 judged-end types s c r x h q e =
-    judged-by r ∙ ap accepted q ∙ sym (e ∙ ap (λ (a : Answer (Unit {0})). andThen a (λ _ end. accepted (paddingAt s end))) (reads-end types s c h))
+    judged-by r ∙ ap messageVerdict q ∙ sym (e ∙ ap (λ (a : Answer (Unit {0})). andThen a (λ _ end. messageVerdict (paddingAt s end))) (reads-end types s c h))
 
 module _ (types s : List ℕ) (h : Header) (c : Cursor) (start : c .next ≡ 0) where
   from-start : fieldsAt (c .delta) (c .encoding) types (fieldsLeft c) (c .next) s (c .at) ≡ fieldsAt (c .delta) (c .encoding) types (c .count) 0 s (c .at)
   from-start = let z : fieldsLeft c ≡ c .count = omega arith in rw (z, start)
 
-  ends-accepted : accepted (endAt h c types s) ≡ restAccepted types s c
-  ends-accepted = go (fieldsAt (c .delta) (c .encoding) types (c .count) 0 s (c .at)) ∙ sym (ap (λ (a : Answer (Unit {0})). andThen a (λ _ end. accepted (paddingAt s end))) from-start)
+  ends-accepted : messageVerdict (endAt h c types s) ≡ restAccepted types s c
+  ends-accepted = go (fieldsAt (c .delta) (c .encoding) types (c .count) 0 s (c .at)) ∙ sym (ap (λ (a : Answer (Unit {0})). andThen a (λ _ end. messageVerdict (paddingAt s end))) from-start)
     where
-      padded : (end : ℕ) (b : Answer (Unit {0})) → accepted {A = Valid Message} (andThen b (λ _ z. got (valid (record { header = h; cursor = c; end = end })) end)) ≡ accepted b
+      padded : (end : ℕ) (b : Answer (Unit {0})) → messageVerdict {A = Valid Message} (andThen b (λ _ z. got (valid (record { header = h; cursor = c; end = end })) end)) ≡ messageVerdict b
       padded end (got u z) = refl
       padded end (refused n place) = refl
 
       go : (a : Answer (Unit {0}))
-          → accepted {A = Valid Message} (andThen a (λ _ end. andThen (paddingAt s end) (λ _ z. got (valid (record { header = h; cursor = c; end = end })) end)))
-          ≡ andThen a (λ _ end. accepted (paddingAt s end))
+          → messageVerdict {A = Valid Message} (andThen a (λ _ end. andThen (paddingAt s end) (λ _ z. got (valid (record { header = h; cursor = c; end = end })) end)))
+          ≡ andThen a (λ _ end. messageVerdict (paddingAt s end))
       go (got u end) = padded end (paddingAt s end)
       go (refused n place) = refl
 
   module _ (m : messageAt types s ≡ endAt h c types s) (p : MessagePlace) (first : ℕ) (entry exit : List ℕ) where
     -- some of its lines were put: what is left decides
     pub rest-decides : (end next at : ℕ) (a : Cursor) → LinesPut types s p c first (FieldLines.To end next at) entry exit → a ≡ cursorBefore c next at
-        → accepted (messageAt types s) ≡ restAccepted types s a
+        → messageVerdict (messageAt types s) ≡ restAccepted types s a
     rest-decides end next at a f e =
-        ap accepted m ∙ ends-accepted ∙ ap (λ (x : Answer (Unit {0})). andThen x (λ _ z. accepted (paddingAt s z))) (f .reading)
+        ap messageVerdict m ∙ ends-accepted ∙ ap (λ (x : Answer (Unit {0})). andThen x (λ _ z. messageVerdict (paddingAt s z))) (f .reading)
         ∙ ap (restAccepted types s) (sym e)
 
     -- a field was refused
@@ -273,26 +273,26 @@ module _ (types s : List ℕ) (h : Header) (c : Cursor) (start : c .next ≡ 0) 
         (sym from-start ∙ f .reading)
 
   -- the lines of an accepted message
-  pub text-accepted : (p : MessagePlace) (q : SetPlace) → messageAt types s ≡ endAt h c types s → got tt 0 ≡ accepted (messageAt types s)
+  text-accepted : (p : MessagePlace) (q : SetPlace) → messageAt types s ≡ endAt h c types s → got tt 0 ≡ messageVerdict (messageAt types s)
       → setText types s p q (messageAt types s)
       ≡ (placeText q ++ (headText (h .kind) (h .encoding) ++ (tabbed (optionalText (h .sequence)) ++ lineEnd))) ++ fieldsText types s p c
-  text-accepted p q m e = ap (setText types s p q) m ∙ go (fieldsAt (c .delta) (c .encoding) types (c .count) 0 s (c .at)) (e ∙ ap accepted m)
+  text-accepted p q m e = ap (setText types s p q) m ∙ go (fieldsAt (c .delta) (c .encoding) types (c .count) 0 s (c .at)) (e ∙ ap messageVerdict m)
     where
       all : List ℕ
       all = (placeText q ++ (headText (h .kind) (h .encoding) ++ (tabbed (optionalText (h .sequence)) ++ lineEnd))) ++ fieldsText types s p c
 
-      padded : (end : ℕ) (b : Answer (Unit {0})) → got tt 0 ≡ accepted {A = Valid Message} (andThen b (λ _ z. got (valid (record { header = h; cursor = c; end = end })) end))
+      padded : (end : ℕ) (b : Answer (Unit {0})) → got tt 0 ≡ messageVerdict {A = Valid Message} (andThen b (λ _ z. got (valid (record { header = h; cursor = c; end = end })) end))
           → setText types s p q (andThen b (λ _ z. got (valid (record { header = h; cursor = c; end = end })) end)) ≡ all
       padded end (got u z) k = refl
       padded end (refused n place) k = absurd (not-got (sym k))
 
       go : (a : Answer (Unit {0}))
-          → got tt 0 ≡ accepted {A = Valid Message} (andThen a (λ _ end. andThen (paddingAt s end) (λ _ z. got (valid (record { header = h; cursor = c; end = end })) end)))
+          → got tt 0 ≡ messageVerdict {A = Valid Message} (andThen a (λ _ end. andThen (paddingAt s end) (λ _ z. got (valid (record { header = h; cursor = c; end = end })) end)))
           → setText types s p q (andThen a (λ _ end. andThen (paddingAt s end) (λ _ z. got (valid (record { header = h; cursor = c; end = end })) end))) ≡ all
       go (got u end) k = padded end (paddingAt s end) k
       go (refused n place) k = absurd (not-got (sym k))
 
-pub judged-refused : {n place : ℕ} (x : Answer (Valid Message)) → refused n place ≡ accepted x → x ≡ refused n place
+pub judged-refused : {n place : ℕ} (x : Answer (Valid Message)) → refused n place ≡ messageVerdict x → x ≡ refused n place
 judged-refused (got v z) q = absurd (not-got q)
 judged-refused {n} {place} (refused k l) q = let a : n ≡ k = cc in let b : place ≡ l = cc in rw (a, b)
 
@@ -315,7 +315,7 @@ module _ (types s : List ℕ) (p : MessagePlace) (c : Cursor) (start : c .next �
       let r : fieldsLeft a ≡ c .count - next = ap fieldsLeft b in
       omega (arith, f .after, f .near, r, n)
 
-  pub accepted-put : {most i r : ℕ} {l e : List ℕ} (h : Header) (q : SetPlace) → messageAt types s ≡ endAt h c types s → got tt 0 ≡ accepted (messageAt types s) → 256 * (1 + c .count) ≤ most
+  pub accepted-put : {most i r : ℕ} {l e : List ℕ} (h : Header) (q : SetPlace) → messageAt types s ≡ endAt h c types s → got tt 0 ≡ messageVerdict (messageAt types s) → 256 * (1 + c .count) ≤ most
       → Put (256 + length told + 256 * fieldsLeft a)
       ((placeText q ++ (headText (h .kind) (h .encoding) ++ (tabbed (optionalText (h .sequence)) ++ lineEnd))) ++ (told ++ fieldsText types s p a)) l i e r
       → Put most (setText types s p q (messageAt types s)) l i e r
@@ -345,24 +345,24 @@ module _ (types d bytes : List ℕ) (p : MessagePlace) (w : Optional16) (b : byt
   abbrev Message-put : ℕ → ℕ → List ℕ → List ℕ → Type 0
   Message-put at r l e =
       Put (256 * (1 + fieldCount (frontAt types (take (p .length) (drop (p .offset) d)))))
-      (setText types (take (p .length) (drop (p .offset) d)) p (placeOf p w) (messageAt types (take (p .length) (drop (p .offset) d)))) l at e r
+      (setText types (take (p .length) (drop (p .offset) d)) p (setPlaceOf p w) (messageAt types (take (p .length) (drop (p .offset) d)))) l at e r
 
-  pub invalid-message : {at r : ℕ} {l e : List ℕ} → got notValid 0 ≡ frontAt types bytes → Put 256 (setText types bytes p (placeOf p w) (got notValid 0)) l at e r → Message-put at r l e
+  pub invalid-message : {at r : ℕ} {l e : List ℕ} → got notValid 0 ≡ frontAt types bytes → Put 256 (setText types bytes p (setPlaceOf p w) (got notValid 0)) l at e r → Message-put at r l e
   invalid-message a u = rw (sym b, front-decides types bytes (got notValid 0) a, sym a) (fewer (omega arith) u)
 
-  pub refused-message : {at r n place : ℕ} {l e : List ℕ} → refused n place ≡ frontAt types bytes → Put 256 (setText types bytes p (placeOf p w) (refused n place)) l at e r
+  pub refused-message : {at r n place : ℕ} {l e : List ℕ} → refused n place ≡ frontAt types bytes → Put 256 (setText types bytes p (setPlaceOf p w) (refused n place)) l at e r
       → Message-put at r l e
   refused-message {at} {r} {n} {place} a u = rw (sym b, front-decides types bytes (refused n place) a, sym a) (fewer (omega arith) u)
 
   module _ (m : Message) (n : ℕ) (a : got (valid m) n ≡ frontAt types bytes) where
-    pub opened-message : {at r : ℕ} {l e : List ℕ} → Put (256 * (1 + m .cursor .count)) (setText types bytes p (placeOf p w) (messageAt types bytes)) l at e r → Message-put at r l e
+    pub opened-message : {at r : ℕ} {l e : List ℕ} → Put (256 * (1 + m .cursor .count)) (setText types bytes p (setPlaceOf p w) (messageAt types bytes)) l at e r → Message-put at r l e
     opened-message u = rw (sym b, sym a) u
 
     pub opened-room : (at k : ℕ) → at + 256 * (1 + fieldCount (frontAt types (take (p .length) (drop (p .offset) d)))) ≤ k → at + 256 * (1 + m .cursor .count) ≤ k
     opened-room at k h = rw (sym b, sym a) at h
 
-    pub opened-both : {l e : List ℕ} {r : OneListed} (t : List ℕ) → OnePut (t ++ setText types bytes p (placeOf p w) (messageAt types bytes)) r l e
-        → OnePut (t ++ setText types (take (p .length) (drop (p .offset) d)) p (placeOf p w) (messageAt types (take (p .length) (drop (p .offset) d)))) r l e
+    pub opened-both : {l e : List ℕ} {r : OneListed} (t : List ℕ) → OnePut (t ++ setText types bytes p (setPlaceOf p w) (messageAt types bytes)) r l e
+        → OnePut (t ++ setText types (take (p .length) (drop (p .offset) d)) p (setPlaceOf p w) (messageAt types (take (p .length) (drop (p .offset) d)))) r l e
     opened-both t u = rw (sym b) u
 
     pub opened-ends : messageAt types bytes ≡ endAt (m .header) (m .cursor) types bytes
@@ -402,7 +402,7 @@ module _ (w : Writers) (d : List ℕ) where
       go ih (refused n place) e = rw e
 
   set-text : (l : Listed) (p : MessagePlace) (a : Answer (Valid Message))
-      → linesText d (setLines w d l p a) ≡ setText (typesAt w d l p) (bytesAt w d p) p (placeOf p (writerAt w d l p)) a
+      → linesText d (setLines w d l p a) ≡ setText (typesAt w d l p) (bytesAt w d p) p (setPlaceOf p (writerAt w d l p)) a
   unfolding lineText
   set-text l p (got notValid n) = append-nil _
   set-text l p (got (valid m) n) =
@@ -463,10 +463,10 @@ module _ (w : Writers) (d : List ℕ) where
 
   text-next : (l : Listed) (c : MessageCursor) (x : PlaceStepped) (n : ℕ) (v : Optional16) (types : List ℕ) → messageOf l c ≡ got x n
       → v ≡ writerAt w d l (x .place) → types ≡ typesOf (w .ids) (w .starts) (w .types) v
-      → leftText l c ≡ setText types (bytesAt w d (x .place)) (x .place) (placeOf (x .place) v) (messageAt types (bytesAt w d (x .place))) ++ leftText l (x .cursor)
+      → leftText l c ≡ setText types (bytesAt w d (x .place)) (x .place) (setPlaceOf (x .place) v) (messageAt types (bytesAt w d (x .place))) ++ leftText l (x .cursor)
   text-next l c x n v types e a b =
-      let s : setText (typesAt w d l (x .place)) (bytesAt w d (x .place)) (x .place) (placeOf (x .place) (writerAt w d l (x .place))) (messageAt (typesAt w d l (x .place)) (bytesAt w d (x .place)))
-      ≡ setText types (bytesAt w d (x .place)) (x .place) (placeOf (x .place) v) (messageAt types (bytesAt w d (x .place))) = rw (b, a) in
+      let s : setText (typesAt w d l (x .place)) (bytesAt w d (x .place)) (x .place) (setPlaceOf (x .place) (writerAt w d l (x .place))) (messageAt (typesAt w d l (x .place)) (bytesAt w d (x .place)))
+      ≡ setText types (bytesAt w d (x .place)) (x .place) (setPlaceOf (x .place) v) (messageAt types (bytesAt w d (x .place))) = rw (b, a) in
       ap (linesText d) (lines-next l c x n e)
       ∙ lines-append d (setLines w d l (x .place) (messageAt (typesAt w d l (x .place)) (bytesAt w d (x .place)))) (messageLines w d (messagesLeft l (x .cursor)) l (x .cursor))
       ∙ ap (λ (t : List ℕ). t ++ leftText l (x .cursor)) (set-text l (x .place) (messageAt (typesAt w d l (x .place)) (bytesAt w d (x .place))) ∙ s)
@@ -474,13 +474,13 @@ module _ (w : Writers) (d : List ℕ) where
   -- the text of a listing with one message
   pub one-text : (l : Listed) (p : MessagePlace) (next : MessageCursor) (n : ℕ) (v : Optional16) (types : List ℕ) → l .payload .count ≡ 1
       → got (record { place = p; cursor = next }) n ≡ messageOf l (firstMessage l) → v ≡ writerAt w d l p → types ≡ typesOf (w .ids) (w .starts) (w .types) v
-      → linesText d (acceptedLines w d l) ≡ lineOut d (netLine w d l) ++ setText types (bytesAt w d p) p (placeOf p v) (messageAt types (bytesAt w d p))
+      → linesText d (acceptedLines w d l) ≡ lineOut d (netLine w d l) ++ setText types (bytesAt w d p) p (setPlaceOf p v) (messageAt types (bytesAt w d p))
   unfolding messageLines
   one-text l p next n v types one e a b =
       let x : PlaceStepped = record { place = p; cursor = next } in
       let h : messagesLeft l (firstMessage l) ≡ suc (messagesLeft l next) = message-passed l (firstMessage l) x n (sym e) in
       let z : messagesLeft l next ≡ 0 = omega arith in
-      let text = setText types (bytesAt w d p) p (placeOf p v) (messageAt types (bytesAt w d p)) in
+      let text = setText types (bytesAt w d p) p (setPlaceOf p v) (messageAt types (bytesAt w d p)) in
       let none : leftText l next ≡ [] = rw z in
       ap (λ (t : List ℕ). lineOut d (netLine w d l) ++ t)
       (text-next l (firstMessage l) x n v types (sym e) a b ∙ ap (λ (t : List ℕ). text ++ t) none ∙ append-nil text)
@@ -527,10 +527,10 @@ module _ (w : Writers) (d : List ℕ) where
       listing-room = omega (arith, g .room, most-here)
 
       pub listing-more : (exit : List ℕ) (r : ℕ)
-          → Put (256 * (1 + fieldCount (frontAt types (bytesAt w d p)))) (setText types (bytesAt w d p) p (placeOf p v) (messageAt types (bytesAt w d p))) out at exit r
+          → Put (256 * (1 + fieldCount (frontAt types (bytesAt w d p)))) (setText types (bytesAt w d p) p (setPlaceOf p v) (messageAt types (bytesAt w d p))) out at exit r
           → Listing l start first c₀ exit r next
       listing-more exit r u =
-          let text = setText types (bytesAt w d p) p (placeOf p v) (messageAt types (bytesAt w d p)) in
+          let text = setText types (bytesAt w d p) p (setPlaceOf p v) (messageAt types (bytesAt w d p)) in
           let rest = leftText l next in
           let t : leftText l c ≡ text ++ rest = text-next l c (record { place = p; cursor = next }) n v types (sym e) a b in
           let s : length exit ≡ length out = ap length (u .stored) ∙ length-sets out at text in

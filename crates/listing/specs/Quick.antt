@@ -1,5 +1,5 @@
--- The lines of one message as text, by its own bytes and the field types of its writer, and how many lines there are at most. That these are
--- the texts of the listing's lines is proved in proofs/OnePass.antt.
+-- The lines of one message as text, by its own bytes and the field types of its writer, and how many lines there are at most. That these
+-- are the texts of the listing's lines is proved in proofs/OnePass.antt.
 use Prim.Native.Nat.{ℕ, zero, suc, _+_, _*_, _-_, _≤_}
 use mathlib.Core.Path.{_≡_}
 use mathlib.Core.List.{List, [], _++_}
@@ -12,7 +12,6 @@ use Rattle.network_message.specs.Payload.{PlaceStepped, placeStepAt}
 use Rattle.network_message.specs.declared.payload.MessagePlace.{MessagePlace}
 use Rattle.network_message.specs.declared.payload.MessageCursor.{MessageCursor}
 use Rattle.dataset_header.specs.Flags.{Valid, notValid, valid}
-use Rattle.dataset_header.specs.declared.header.Header.{Header}
 use Rattle.dataset_fields.specs.Fields.{fieldsAt, paddingAt, FieldStepped, nextFieldAt, cursorBefore}
 use Rattle.dataset_fields.specs.declared.fields.Cursor.{Cursor}
 use Rattle.dataset_message.specs.Message.{Message, frontAt}
@@ -25,8 +24,8 @@ use Rattle.listing.specs.declared.quick.FieldLines.{FieldLines}
 use Rattle.listing.specs.declared.quick.OneListed.{OneListed}
 
 -- what the `set` line of the message in place p begins with
-abbrev pub placeOf : MessagePlace → Optional16 → SetPlace
-placeOf p writer = record { message = p .index; writer = writer; offset = p .offset; length = p .length }
+abbrev pub setPlaceOf : MessagePlace → Optional16 → SetPlace
+setPlaceOf p writer = record { message = p .index; writer = writer; offset = p .offset; length = p .length }
 
 -- ---- of the message in place p, its field types and its bytes
 module _ (types bytes : List ℕ) (p : MessagePlace) where
@@ -96,10 +95,10 @@ pub record OnePut (text : List ℕ) (r : OneListed) (entry exit : List ℕ) : Ty
   pub after : oneLength r text ≡ length text
   pub within : oneEnd r ≤ length entry
 
--- ---- whether a message is accepted
-abbrev pub accepted : {A : Type 0} → Answer A → Answer (Unit {0})
-accepted (got x next) = got tt 0
-accepted (refused n place) = refused n place
+-- ---- whether a message is accepted, or its refusal
+abbrev pub messageVerdict : {A : Type 0} → Answer A → Answer (Unit {0})
+messageVerdict (got x next) = got tt 0
+messageVerdict (refused n place) = refused n place
 
 abbrev pub answerJudged : Reached → Answer (Unit {0})
 answerJudged (Reached.To at) = got tt 0
@@ -108,7 +107,7 @@ answerJudged (Reached.Refused n place) = refused n place
 -- the fields from field `next` on, and the padding after them
 abbrev pub restAccepted : List ℕ → List ℕ → Cursor → Answer (Unit {0})
 restAccepted types bytes c =
-    andThen (fieldsAt (c .delta) (c .encoding) types (fieldsLeft c) (c .next) bytes (c .at)) (λ _ end. accepted (paddingAt bytes end))
+    andThen (fieldsAt (c .delta) (c .encoding) types (fieldsLeft c) (c .next) bytes (c .at)) (λ _ end. messageVerdict (paddingAt bytes end))
 
 -- ---- how many lines there are at most: a message's own, and one for each field that its front announces
 abbrev pub fieldCount : Answer (Valid Message) → ℕ

@@ -1,6 +1,8 @@
-// A whole listing into a buffer that surely holds it, in one pass: no line is longer than 256 bytes, and the fronts of the messages tell how
-// many lines there are at most. A message's fields are told once: as many of their lines as fit go into a buffer of its own until it is known
-// that the message is accepted; those after them are told once more, and put in place.
+// A whole listing into a buffer that surely holds it, each message read once: no line is longer than 256 bytes, and the fronts of the
+// messages tell how many lines there are at most; with one message the front is read once for both. The lines of a message's first fields
+// go into a buffer of their own until it is known that the message is accepted; the fields after them are told once more, and put in place.
+// It puts what `put_counted` does (proofs/OnePass.antt). Worth: a quarter to a third of the time of counting the length first; the front
+// that is read once, a twelfth of a short datagram's time.
 use crate::line::field;
 use crate::line::id_too_long;
 use crate::line::net;
@@ -40,7 +42,7 @@ ghost use Rattle.listing.specs.Columns.{tabbed, lineEnd, optionalText, P
 ghost use Rattle.listing.specs.Line.{placeText, headText, fieldText};
 ghost use Rattle.listing.specs.Text.{lineOut, linesText};
 ghost use Rattle.walk.specs.declared.entry.Line.{Line};
-ghost use Rattle.listing.specs.Quick.{placeOf, setText, fieldsText, LinesPut, OnePut, accepted, answerJudged, restAccepted, fieldCount, mostLines};
+ghost use Rattle.listing.specs.Quick.{setPlaceOf, setText, fieldsText, LinesPut, OnePut, messageVerdict, answerJudged, restAccepted, fieldCount, mostLines};
 
 // No line is longer.
 const MOST_LINE: usize = 256;
@@ -123,8 +125,8 @@ fn moved(c: Cursor, next: usize, at: usize) -> Cursor
 
 // Whether a message is accepted whose fields before the cursor are: the fields from there on, and the padding.
 fn judge(message: &[u8], types: &[u8], c: Cursor) -> Reached
-    requires { ⌜ accepted (messageAt (now types) (now message)) ≡ restAccepted (now types) (now message) c ⌝ }
-    ensures { λ r. ⌜ answerJudged r ≡ accepted (messageAt (now (types .entry)) (now (message .entry))) ⌝ }
+    requires { ⌜ messageVerdict (messageAt (now types) (now message)) ≡ restAccepted (now types) (now message) c ⌝ }
+    ensures { λ r. ⌜ answerJudged r ≡ messageVerdict (messageAt (now (types .entry)) (now (message .entry))) ⌝ }
 {
     if c.count <= c.next {
         return padding(message, c.at);
@@ -222,7 +224,7 @@ fn put_message(
         ⌜ at + 256 * (1 + fieldCount (frontAt (now types) bytes)) ≤ length (now out) ⌝ }
     ensures { λ r.
         let bytes = take (p .length) (drop (p .offset) (now (s .entry))) in
-        let text = setText (now (types .entry)) bytes p (placeOf p writer) (messageAt (now (types .entry)) bytes) in
+        let text = setText (now (types .entry)) bytes p (setPlaceOf p writer) (messageAt (now (types .entry)) bytes) in
         let most = 256 * (1 + fieldCount (frontAt (now (types .entry)) bytes)) in
         ⌜ Put most text (now (out .entry)) at (now (out .exit)) r ⌝ }
 {
@@ -296,11 +298,18 @@ pub(crate) fn put_lines<'a>(
 
 // The lines of a datagram whose one message is in a place, where there is room for each; a message whose front is refused or not valid is
 // left to the other ways.
-fn put_both(out: &mut [u8], s: &[u8], types: &[u8], writer: Optional16, p: MessagePlace, l: Listed) -> OneListed
+fn put_both(
+    out: &mut [u8],
+    s: &[u8],
+    types: &[u8],
+    writer: Optional16,
+    p: MessagePlace,
+    l: Listed,
+) -> OneListed
     ensures { λ r.
         let line = Line.Net (length (now (s .entry))) (l .publisher) (l .«publisher_end») (l .payload .count) in
         let bytes = take (p .length) (drop (p .offset) (now (s .entry))) in
-        let text = setText (now (types .entry)) bytes p (placeOf p writer) (messageAt (now (types .entry)) bytes) in
+        let text = setText (now (types .entry)) bytes p (setPlaceOf p writer) (messageAt (now (types .entry)) bytes) in
         ⌜ OnePut (lineOut (now (s .entry)) line ++ text) r (now (out .entry)) (now (out .exit)) ⌝ }
 {
     let lines = out.len() / MOST_LINE;

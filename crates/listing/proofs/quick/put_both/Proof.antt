@@ -15,14 +15,21 @@ use Rattle.listing.proofs.quick.put_both.Tie as tie
 
 put-opened-requires : tie.Need-put-opened-requires
 put-opened-requires c κs =
-    let at-put-net = c .before .before .before in
+    let at-start = c .before .before .before in
+    let at-put-net = at-start in
     let at-if2 = at-put-net .before .before in
     let at-h = at-if2 .before .before .before in
     let at-front = at-h .before .before in
     let at-part = at-front .before in
     let at-if1 = at-part .before in
-    let at-good = at-if1 .before .before .before .before in
-    (omega (arith, at-if1 .if1 .left, at-if2 .if2 .left, at-put-net .put-net .ensures .near, put-long (now (at-good .args .out)) (at-put-net .put-net .ensures)), part-fits (now (at-good .args .types)) (now (at-good .args .s)) (now (at-part .part .result)) (at-good .args .p) (at-good .args .writer) (at-part .part .ensures) (omega arith) (omega (arith, at-good .good)), front-first (now (at-good .args .types)) (now (at-part .part .result)) _ _ (told answerMessage (at-front .front .ensures) (at-h .h .given .1)), opened-ends (now (at-good .args .types)) (now (at-good .args .s)) (now (at-part .part .result)) (at-good .args .p) (at-good .args .writer) (at-part .part .ensures) _ _ (told answerMessage (at-front .front .ensures) (at-h .h .given .1)))
+    let at-good = at-if1 .before .before .before .before in (
+      omega (arith, at-if1 .if1 .left, at-if2 .if2 .left, at-put-net .put-net .ensures .near, put-long (now (at-good .args .out)) (at-put-net .put-net .ensures)),
+      part-fits (now (at-good .args .types)) (now (at-good .args .s)) (now (at-part .part .result)) (at-good .args .p)
+          (at-good .args .writer) (at-part .part .ensures) (omega arith) (omega (arith, at-good .good)),
+      front-first (now (at-good .args .types)) (now (at-part .part .result)) _ _ (told answerMessage (at-front .front .ensures) (at-h .h .given .1)),
+      opened-ends (now (at-good .args .types)) (now (at-good .args .s)) (now (at-part .part .result)) (at-good .args .p)
+          (at-good .args .writer) (at-part .part .ensures) _ _ (told answerMessage (at-front .front .ensures) (at-h .h .given .1)),
+    )
 
 returns-4 : tie.Need-returns-4
 returns-4 c =
@@ -34,7 +41,10 @@ returns-4 c =
     let at-part = at-front .before in
     let at-if1 = at-part .before in
     let args = at-if1 .before .before .before .before .args in
-    opened-both (now (args .types)) (now (args .s)) (now (at-part .part .result)) (args .p) (args .writer) (at-part .part .ensures) _ _ (told answerMessage (at-front .front .ensures) (at-h .h .given .1)) (lineOut (now (args .s)) (Line.Net (length (now (args .s))) (args .l .publisher) (args .l .«publisher_end») (args .l .payload .count))) (both-put (now (args .out)) (omega (arith, at-if1 .if1 .left, at-if2 .if2 .left)) (at-put-net .put-net .ensures) (at-put-opened .put-opened .ensures))
+    opened-both (now (args .types)) (now (args .s)) (now (at-part .part .result)) (args .p) (args .writer) (at-part .part .ensures) _ _
+    (told answerMessage (at-front .front .ensures) (at-h .h .given .1))
+    (lineOut (now (args .s)) (Line.Net (length (now (args .s))) (args .l .publisher) (args .l .«publisher_end») (args .l .payload .count)))
+    (both-put (now (args .out)) (omega (arith, at-if1 .if1 .left, at-if2 .if2 .left)) (at-put-net .put-net .ensures) (at-put-opened .put-opened .ensures))
 
 pub put-both-spec : {M : Type 1} → statement M
 put-both-spec =

@@ -1,3 +1,5 @@
+-- `listing::quick::put_fields` meets its contract.
+-- Assumes nothing.
 use Rattle.listing.proofs.OnePass.{Telling, same, told-none, told-some, told-all, told-refused, told-more, offset-fits}
 use Rattle.dataset_fields.specs.Fields.{answerField}
 use mathlib.Core.Path.{sym}
@@ -8,10 +10,6 @@ use borrow.Author.Needs.{needs}
 use native.Mathlib.Omega.{arith}
 use Rattle.listing.proofs.quick.put_fields.Statement.{statement}
 use Rattle.listing.proofs.quick.put_fields.Tie as tie
-use Rattle.listing.proofs.quick.put_fields.Reads as reads
-use Rattle.listing.proofs.quick.put_fields.Lts as lts
-use Rattle.dataset_fields.proofs.fields.read_field.Reads as read-field-reads
-use Rattle.listing.proofs.quick.put_field.Reads as put-field-reads
 
 abbrev Inv-loop : tie.InvT-loop
 Inv-loop out₀ first message types p c encoding at₀ i₀ end₀ out at i end = Telling types message p c first out₀ out at i end
@@ -19,48 +17,51 @@ Inv-loop out₀ first message types p c encoding at₀ i₀ end₀ out at i end 
 abbrev μ-loop : tie.MeasureT-loop
 μ-loop out₀ first message types p c encoding at₀ i₀ end₀ out at i end = c .count - i
 
--- src/quick.rt:86:5
 loop-holds : tie.Need-loop-holds Inv-loop μ-loop
 loop-holds c =
-    let at-pre = c .before .before .before in
+    let at-start = c .before .before .before in
+    let at-pre = at-start in
     told-none (now (at-pre .args .types)) (now (at-pre .args .message)) (at-pre .args .p) (at-pre .args .c) (at-pre .args .first) (now (at-pre .args .out)) (at-pre .pre .0)
 
--- src/quick.rt:87:12
 sub-if2 : tie.Need-sub-if2 Inv-loop μ-loop
 sub-if2 c =
-    omega (arith, c .before .before .loop .inv .within, same (now (c .before .before .before .before .before .before .args .types)) (now (c .before .before .before .before .before .before .args .message)) (c .before .before .before .before .before .before .args .p) (c .before .before .before .before .before .before .args .c) (c .before .before .before .before .before .before .args .first) (now (c .before .before .before .before .before .before .args .out)) (c .before .before .loop .out) (c .before .before .loop .at) (c .before .before .loop .i) (c .before .before .loop .end) (c .before .before .loop .inv))
+    let at-loop = c .before .before in
+    let args = at-loop .before .before .before .before .args in
+    let long = same (now (args .types)) (now (args .message)) (args .p) (args .c) (args .first) (now (args .out)) (at-loop .loop .out)
+    (at-loop .loop .at) (at-loop .loop .i) (at-loop .loop .end) (at-loop .loop .inv) in
+    let within = at-loop .loop .inv .within in
+    omega (arith, long, within)
 
--- src/quick.rt:88:13
 same-length : tie.Need-same-length Inv-loop μ-loop
 same-length c =
-    let at-loop = c .before .before .before in
+    let at-start = c .before .before .before in
+    let at-loop = at-start in
     let args = at-loop .before .before .before .before .args in
-    same (now (args .types)) (now (args .message)) (args .p) (args .c) (args .first) (now (args .out)) (at-loop .loop .out) (at-loop .loop .at) (at-loop .loop .i) (at-loop .loop .end) (at-loop .loop .inv)
+    same (now (args .types)) (now (args .message)) (args .p) (args .c) (args .first) (now (args .out)) (at-loop .loop .out)
+    (at-loop .loop .at) (at-loop .loop .i) (at-loop .loop .end) (at-loop .loop .inv)
 
--- src/quick.rt:88:13
 returns : tie.Need-returns Inv-loop μ-loop
 returns c =
-    let at-loop = c .before .before .before in
+    let at-start = c .before .before .before in
+    let at-loop = at-start in
     let args = at-loop .before .before .before .before .args in
-    told-some (now (args .types)) (now (args .message)) (args .p) (args .c) (args .first) (now (args .out)) (at-loop .loop .out) (at-loop .loop .at) (at-loop .loop .i) (at-loop .loop .end) (at-loop .loop .inv)
-    (omega (arith, c .if2 .taken, same (now (args .types)) (now (args .message)) (args .p) (args .c) (args .first) (now (args .out)) (at-loop .loop .out) (at-loop .loop .at) (at-loop .loop .i) (at-loop .loop .end) (at-loop .loop .inv)))
+    told-some (now (args .types)) (now (args .message)) (args .p) (args .c) (args .first) (now (args .out)) (at-loop .loop .out)
+    (at-loop .loop .at) (at-loop .loop .i) (at-loop .loop .end) (at-loop .loop .inv)
+    (omega (
+      arith,
+      c .if2 .taken,
+      same (now (args .types)) (now (args .message)) (args .p) (args .c) (args .first) (now (args .out)) (at-loop .loop .out)
+          (at-loop .loop .at) (at-loop .loop .i) (at-loop .loop .end) (at-loop .loop .inv),
+    ))
 
--- src/quick.rt:90:15
-read-field-requires : tie.Need-read-field-requires Inv-loop μ-loop
-read-field-requires c κs = search needs
-
--- src/quick.rt:91:32
-enum-known-n : tie.Need-enum-known-n Inv-loop μ-loop
-enum-known-n c = search needs
-
--- src/quick.rt:92:17
 same-length-2 : tie.Need-same-length-2 Inv-loop μ-loop
 same-length-2 c =
-    let at-loop = c .before .before .before .before .before .before .before in
+    let near = c .before .before in
+    let at-loop = near .before .before .before .before .before in
     let args = at-loop .before .before .before .before .args in
-    same (now (args .types)) (now (args .message)) (args .p) (args .c) (args .first) (now (args .out)) (at-loop .loop .out) (at-loop .loop .at) (at-loop .loop .i) (at-loop .loop .end) (at-loop .loop .inv)
+    same (now (args .types)) (now (args .message)) (args .p) (args .c) (args .first) (now (args .out)) (at-loop .loop .out)
+    (at-loop .loop .at) (at-loop .loop .i) (at-loop .loop .end) (at-loop .loop .inv)
 
--- src/quick.rt:92:17
 returns-2 : tie.Need-returns-2 Inv-loop μ-loop
 returns-2 c =
     let at-n = c .before in
@@ -68,14 +69,10 @@ returns-2 c =
     let at-if1 = at-read-field .before .before in
     let at-loop = at-if1 .before .before in
     let args = at-loop .before .before .before .before .args in
-    told-refused (now (args .types)) (now (args .message)) (args .p) (args .c) (args .first) (now (args .out)) (at-loop .loop .out) (at-loop .loop .at) (at-loop .loop .i) (at-loop .loop .end) (at-loop .loop .inv)
+    told-refused (now (args .types)) (now (args .message)) (args .p) (args .c) (args .first) (now (args .out)) (at-loop .loop .out)
+    (at-loop .loop .at) (at-loop .loop .i) (at-loop .loop .end) (at-loop .loop .inv)
     (at-if1 .if1 .taken) (sym (told answerField (at-read-field .read-field .ensures) (at-n .n .given .1)))
 
--- src/quick.rt:94:27
-enum-known-f : tie.Need-enum-known-f Inv-loop μ-loop
-enum-known-f c = search needs
-
--- src/quick.rt:95:17
 put-field-requires : tie.Need-put-field-requires Inv-loop μ-loop
 put-field-requires c κs =
     let at-f = c .before .before in
@@ -84,22 +81,30 @@ put-field-requires c κs =
     let at-if1 = at-if2 .before in
     let at-loop = at-if1 .before .before in
     let at-pre = at-loop .before .before .before .before in (
-      omega (arith, at-if2 .if2 .left, at-loop .loop .inv .within, same (now (at-pre .args .types)) (now (at-pre .args .message)) (at-pre .args .p) (at-pre .args .c) (at-pre .args .first) (now (at-pre .args .out)) (at-loop .loop .out) (at-loop .loop .at) (at-loop .loop .i) (at-loop .loop .end) (at-loop .loop .inv)),
-      offset-fits (now (at-pre .args .types)) (now (at-pre .args .message)) (at-pre .args .p) (at-pre .args .c) (at-pre .args .first) (now (at-pre .args .out)) (at-loop .loop .out) (at-loop .loop .at) (at-loop .loop .i) (at-loop .loop .end) (at-loop .loop .inv)
+      omega (
+        arith,
+        at-if2 .if2 .left,
+        at-loop .loop .inv .within,
+        same (now (at-pre .args .types)) (now (at-pre .args .message)) (at-pre .args .p) (at-pre .args .c) (at-pre .args .first)
+            (now (at-pre .args .out)) (at-loop .loop .out) (at-loop .loop .at) (at-loop .loop .i) (at-loop .loop .end) (at-loop .loop .inv),
+      ),
+      offset-fits (now (at-pre .args .types)) (now (at-pre .args .message)) (at-pre .args .p) (at-pre .args .c) (at-pre .args .first)
+          (now (at-pre .args .out)) (at-loop .loop .out) (at-loop .loop .at) (at-loop .loop .i) (at-loop .loop .end) (at-loop .loop .inv)
           (at-if1 .if1 .taken) (sym (told answerField (at-read-field .read-field .ensures) (at-f .f .given .1))) (at-pre .pre .1),
     )
 
--- src/quick.rt:99:9
 add-i : tie.Need-add-i Inv-loop μ-loop
 add-i c =
-    omega (arith, c .before .before .before .before .before .before .before .before .before .if1 .taken)
+    let near = c .before .before in
+    let at-if1 = near .before .before .before .before .before .before .before in
+    let left = at-if1 .if1 .taken in omega (arith, left)
 
--- src/quick.rt:86:5
 loop-less : tie.Need-loop-less Inv-loop μ-loop
 loop-less c =
-    omega (arith, c .before .before .before .before .before .before .before .before .before .if1 .taken)
+    let near = c .before .before in
+    let at-if1 = near .before .before .before .before .before .before .before in
+    let left = at-if1 .if1 .taken in omega (arith, left)
 
--- src/quick.rt:86:5
 loop-again : tie.Need-loop-again Inv-loop μ-loop
 loop-again c =
     let at-put-field = c .before .before in
@@ -109,22 +114,30 @@ loop-again c =
     let at-if1 = at-if2 .before in
     let at-loop = at-if1 .before .before in
     let args = at-loop .before .before .before .before .args in
-    told-more (now (args .types)) (now (args .message)) (args .p) (args .c) (args .first) (now (args .out)) (at-loop .loop .out) (at-loop .loop .at) (at-loop .loop .i) (at-loop .loop .end) (at-loop .loop .inv)
-    (at-if1 .if1 .taken) (sym (told answerField (at-read-field .read-field .ensures) (at-f .f .given .1))) _ _ (omega (arith, at-if2 .if2 .left, at-loop .loop .inv .within, same (now (args .types)) (now (args .message)) (args .p) (args .c) (args .first) (now (args .out)) (at-loop .loop .out) (at-loop .loop .at) (at-loop .loop .i) (at-loop .loop .end) (at-loop .loop .inv))) (at-put-field .put-field .ensures)
+    told-more (now (args .types)) (now (args .message)) (args .p) (args .c) (args .first) (now (args .out)) (at-loop .loop .out)
+    (at-loop .loop .at) (at-loop .loop .i) (at-loop .loop .end) (at-loop .loop .inv)
+    (at-if1 .if1 .taken) (sym (told answerField (at-read-field .read-field .ensures) (at-f .f .given .1))) _ _
+    (omega (
+      arith,
+      at-if2 .if2 .left,
+      at-loop .loop .inv .within,
+      same (now (args .types)) (now (args .message)) (args .p) (args .c) (args .first) (now (args .out)) (at-loop .loop .out)
+          (at-loop .loop .at) (at-loop .loop .i) (at-loop .loop .end) (at-loop .loop .inv),
+    )) (at-put-field .put-field .ensures)
 
--- src/quick.rt:71:1
 same-length-3 : tie.Need-same-length-3 Inv-loop μ-loop
 same-length-3 c =
     let at-loop = c .before .before in
     let args = at-loop .before .before .before .before .args in
-    same (now (args .types)) (now (args .message)) (args .p) (args .c) (args .first) (now (args .out)) (at-loop .loop .out) (at-loop .loop .at) (at-loop .loop .i) (at-loop .loop .end) (at-loop .loop .inv)
+    same (now (args .types)) (now (args .message)) (args .p) (args .c) (args .first) (now (args .out)) (at-loop .loop .out)
+    (at-loop .loop .at) (at-loop .loop .i) (at-loop .loop .end) (at-loop .loop .inv)
 
--- src/quick.rt:71:1
 returns-3 : tie.Need-returns-3 Inv-loop μ-loop
 returns-3 c =
     let at-loop = c .before .before in
     let args = at-loop .before .before .before .before .args in
-    told-all (now (args .types)) (now (args .message)) (args .p) (args .c) (args .first) (now (args .out)) (at-loop .loop .out) (at-loop .loop .at) (at-loop .loop .i) (at-loop .loop .end) (at-loop .loop .inv) (c .if1 .left)
+    told-all (now (args .types)) (now (args .message)) (args .p) (args .c) (args .first) (now (args .out)) (at-loop .loop .out)
+    (at-loop .loop .at) (at-loop .loop .i) (at-loop .loop .end) (at-loop .loop .inv) (c .if1 .left)
 
 pub put-fields-spec : {M : Type 1} → statement M
 put-fields-spec =
@@ -136,11 +149,11 @@ put-fields-spec =
     sub-if2
     same-length
     returns
-    read-field-requires
-    enum-known-n
+    (λ c κs. search needs)
+    (λ c. search needs)
     same-length-2
     returns-2
-    enum-known-f
+    (λ c. search needs)
     put-field-requires
     add-i
     loop-less

@@ -1,6 +1,8 @@
+-- `listing::quick::put_lines` meets its contract.
+-- Assumes nothing.
 use Rattle.listing.proofs.OnePass.{Listing, net-long, listing-start, listing-done, listing-room, listing-more, message-passed}
-use Rattle.walk.specs.Lines.{writers, messagesLeft, firstMessage}
-use mathlib.Core.Path.{_≡_, refl, sym, _∙_}
+use Rattle.walk.specs.Lines.{writers, messagesLeft}
+use mathlib.Core.Path.{refl, sym, _∙_}
 use Rattle.listing.proofs.OnePass.{Listing, listing-start, listing-done, listing-room, listing-more, message-passed}
 use Rattle.walk.specs.Lines.{writers, messagesLeft}
 use Rattle.network_message.specs.Payload.{answerPlaceStep}
@@ -11,13 +13,6 @@ use borrow.Author.Needs.{needs}
 use native.Mathlib.Omega.{arith}
 use Rattle.listing.proofs.quick.put_lines.Statement.{statement}
 use Rattle.listing.proofs.quick.put_lines.Tie as tie
-use Rattle.listing.proofs.quick.put_lines.Reads as reads
-use Rattle.listing.proofs.quick.put_lines.Lts as lts
-use Rattle.config.proofs.types_of.Reads as types-of-reads
-use Rattle.listing.proofs.quick.put_message.Reads as put-message-reads
-use Rattle.listing.proofs.quick.put_net.Reads as put-net-reads
-use Rattle.network_message.proofs.payload.MessageCursor.step.Reads as step-reads
-use Rattle.network_message.proofs.writer_id.writer_id.Reads as writer-id-reads
 
 abbrev Inv-loop : tie.InvT-loop
 Inv-loop out₀ s ids sizes starts types l payload header at₀ c₀ out at c = Listing (writers ids sizes starts types) s l out₀ at₀ c₀ out at c
@@ -25,55 +20,32 @@ Inv-loop out₀ s ids sizes starts types l payload header at₀ c₀ out at c = 
 abbrev μ-loop : tie.MeasureT-loop
 μ-loop out₀ s ids sizes starts types l payload header at₀ c₀ out at c = messagesLeft l c
 
--- src/quick.rt:262:9
-put-net-requires : tie.Need-put-net-requires Inv-loop μ-loop
-put-net-requires c κs = search needs
-
--- src/quick.rt:267:5
 loop-holds : tie.Need-loop-holds Inv-loop μ-loop
 loop-holds c =
     let at-put-net = c .before .before in
     let at-pre = at-put-net .before .before .before .before .before .before .before .before .before in
-    listing-start (writers (now (at-pre .args .ids)) (now (at-pre .args .sizes)) (now (at-pre .args .starts)) (now (at-pre .args .types))) (now (at-pre .args .s)) (at-pre .args .l) (now (at-pre .args .out)) _ _ (at-pre .pre) (at-put-net .put-net .ensures)
+    listing-start (writers (now (at-pre .args .ids)) (now (at-pre .args .sizes)) (now (at-pre .args .starts)) (now (at-pre .args .types)))
+    (now (at-pre .args .s)) (at-pre .args .l) (now (at-pre .args .out)) _ _ (at-pre .pre) (at-put-net .put-net .ensures)
 
--- src/quick.rt:268:15
-step-requires : tie.Need-step-requires Inv-loop μ-loop
-step-requires c κs = search needs
-
--- src/quick.rt:270:17
-enum-told : tie.Need-enum-told Inv-loop μ-loop
-enum-told c = search needs
-
--- src/quick.rt:270:17
 same-length : tie.Need-same-length Inv-loop μ-loop
 same-length c =
-    let at-loop = c .before .before .before in
+    let at-start = c .before .before .before in
+    let at-loop = at-start in
     let at-put-net = at-loop .before .before .before in
     let args = at-put-net .before .before .before .before .before .before .before .before .before .args in
-    at-loop .loop .inv .long ∙ net-long (writers (now (args .ids)) (now (args .sizes)) (now (args .starts)) (now (args .types))) (now (args .s)) (args .l) (now (args .out)) _ _ (at-put-net .put-net .ensures)
+    at-loop .loop .inv .long ∙ net-long (writers (now (args .ids)) (now (args .sizes)) (now (args .starts)) (now (args .types)))
+    (now (args .s)) (args .l) (now (args .out)) _ _ (at-put-net .put-net .ensures)
 
--- src/quick.rt:270:17
 returns : tie.Need-returns Inv-loop μ-loop
 returns c =
     let at-step = c .before .before in
     let at-loop = at-step .before in
     let at-put-net = at-loop .before .before .before in
     let args = at-put-net .before .before .before .before .before .before .before .before .before .args in
-    listing-done (writers (now (args .ids)) (now (args .sizes)) (now (args .starts)) (now (args .types))) (now (args .s)) (args .l) _ _ _ (at-loop .loop .out) (at-loop .loop .at) (at-loop .loop .c) (at-loop .loop .inv) (now (args .out)) _ _ (at-put-net .put-net .ensures) refl (told answerPlaceStep (at-step .step .ensures) (c .enum-told .given .1))
+    listing-done (writers (now (args .ids)) (now (args .sizes)) (now (args .starts)) (now (args .types))) (now (args .s)) (args .l) _ _ _
+    (at-loop .loop .out) (at-loop .loop .at) (at-loop .loop .c) (at-loop .loop .inv) (now (args .out)) _ _
+    (at-put-net .put-net .ensures) refl (told answerPlaceStep (at-step .step .ensures) (c .enum-told .given .1))
 
--- src/quick.rt:272:29
-enum-known-p : tie.Need-enum-known-p Inv-loop μ-loop
-enum-known-p c = search needs
-
--- src/quick.rt:273:21
-writer-id-requires : tie.Need-writer-id-requires Inv-loop μ-loop
-writer-id-requires c κs = search needs
-
--- src/quick.rt:274:21
-types-of-requires : tie.Need-types-of-requires Inv-loop μ-loop
-types-of-requires c κs = search needs
-
--- src/quick.rt:275:17
 put-message-requires : tie.Need-put-message-requires Inv-loop μ-loop
 put-message-requires c κs =
     let at-types-of = c .before in
@@ -82,14 +54,22 @@ put-message-requires c κs =
     let at-step = at-p .before .before in
     let at-loop = at-step .before in
     let args = at-loop .before .before .before .before .before .before .before .before .before .before .before .before .args in
-    listing-room (writers (now (args .ids)) (now (args .sizes)) (now (args .starts)) (now (args .types))) (now (args .s)) (args .l) _ _ _ (at-loop .loop .out) (at-loop .loop .at) (at-loop .loop .c) (at-loop .loop .inv) (at-p .p .given .0 .0) (at-p .p .given .0 .1 .0) _ (at-writer-id .writer-id .result) (now (at-types-of .types-of .result)) (told answerPlaceStep (at-step .step .ensures) (at-p .p .given .1)) (at-writer-id .writer-id .ensures) (at-types-of .types-of .ensures)
+    listing-room (writers (now (args .ids)) (now (args .sizes)) (now (args .starts)) (now (args .types))) (now (args .s)) (args .l) _ _ _
+    (at-loop .loop .out) (at-loop .loop .at) (at-loop .loop .c) (at-loop .loop .inv) (at-p .p .given .0 .0) (at-p .p .given .0 .1 .0) _
+    (at-writer-id .writer-id .result) (now (at-types-of .types-of .result))
+    (told answerPlaceStep (at-step .step .ensures) (at-p .p .given .1)) (at-writer-id .writer-id .ensures) (at-types-of .types-of .ensures)
 
--- src/quick.rt:267:5
 loop-less : tie.Need-loop-less Inv-loop μ-loop
 loop-less c =
-    omega (arith, message-passed (writers (now (c .before .before .before .before .before .before .before .before .before .before .before .before .before .before .before .before .before .before .before .before .before .before .args .ids)) (now (c .before .before .before .before .before .before .before .before .before .before .before .before .before .before .before .before .before .before .before .before .before .before .args .sizes)) (now (c .before .before .before .before .before .before .before .before .before .before .before .before .before .before .before .before .before .before .before .before .before .before .args .starts)) (now (c .before .before .before .before .before .before .before .before .before .before .before .before .before .before .before .before .before .before .before .before .before .before .args .types))) (now (c .before .before .before .before .before .before .before .before .before .before .before .before .before .before .before .before .before .before .before .before .before .before .args .s)) (c .before .before .before .before .before .before .before .before .before .before .before .before .before .before .before .before .before .before .before .before .before .before .args .l) (c .before .before .before .before .before .before .before .before .before .before .loop .c) _ _ (sym (told answerPlaceStep (c .before .before .before .before .before .before .before .before .before .step .ensures) (c .before .before .before .before .before .before .before .p .given .1))))
+    let near = c .before .before in
+    let at-p = near .before .before .before .before .before in
+    let at-step = at-p .before .before in
+    let at-loop = at-step .before in
+    let args = at-loop .before .before .before .before .before .before .before .before .before .before .before .before .args in
+    let more = message-passed (writers (now (args .ids)) (now (args .sizes)) (now (args .starts)) (now (args .types))) (now (args .s))
+    (args .l) (at-loop .loop .c) _ _ (sym (told answerPlaceStep (at-step .step .ensures) (at-p .p .given .1))) in
+    omega (arith, more)
 
--- src/quick.rt:267:5
 loop-again : tie.Need-loop-again Inv-loop μ-loop
 loop-again c =
     let at-put-message = c .before .before in
@@ -99,7 +79,10 @@ loop-again c =
     let at-step = at-p .before .before in
     let at-loop = at-step .before in
     let args = at-loop .before .before .before .before .before .before .before .before .before .before .before .before .args in
-    listing-more (writers (now (args .ids)) (now (args .sizes)) (now (args .starts)) (now (args .types))) (now (args .s)) (args .l) _ _ _ (at-loop .loop .out) (at-loop .loop .at) (at-loop .loop .c) (at-loop .loop .inv) (at-p .p .given .0 .0) (at-p .p .given .0 .1 .0) _ (at-writer-id .writer-id .result) (now (at-types-of .types-of .result)) (told answerPlaceStep (at-step .step .ensures) (at-p .p .given .1)) (at-writer-id .writer-id .ensures) (at-types-of .types-of .ensures) _ _ (at-put-message .put-message .ensures)
+    listing-more (writers (now (args .ids)) (now (args .sizes)) (now (args .starts)) (now (args .types))) (now (args .s)) (args .l) _ _ _
+    (at-loop .loop .out) (at-loop .loop .at) (at-loop .loop .c) (at-loop .loop .inv) (at-p .p .given .0 .0) (at-p .p .given .0 .1 .0) _
+    (at-writer-id .writer-id .result) (now (at-types-of .types-of .result))
+    (told answerPlaceStep (at-step .step .ensures) (at-p .p .given .1)) (at-writer-id .writer-id .ensures) (at-types-of .types-of .ensures) _ _ (at-put-message .put-message .ensures)
 
 pub put-lines-spec : {M : Type 1} → statement M
 put-lines-spec =
@@ -107,15 +90,15 @@ put-lines-spec =
     (tie.spec
     Inv-loop
     μ-loop
-    put-net-requires
+    (λ c κs. search needs)
     loop-holds
-    step-requires
-    enum-told
+    (λ c κs. search needs)
+    (λ c. search needs)
     same-length
     returns
-    enum-known-p
-    writer-id-requires
-    types-of-requires
+    (λ c. search needs)
+    (λ c κs. search needs)
+    (λ c κs. search needs)
     put-message-requires
     loop-less
     loop-again)

@@ -1,3 +1,5 @@
+-- `listing::quick::put_message` meets its contract.
+-- Assumes nothing.
 use Rattle.listing.proofs.OnePass.{invalid-message, refused-message, opened-message, opened-room, opened-ends, part-fits}
 use Rattle.dataset_message.proofs.Fronts.{front-first}
 use Rattle.dataset_message.specs.Message.{answerMessage}
@@ -7,56 +9,22 @@ use native.Mathlib.Omega.{arith}
 use borrow.Author.Needs.{needs}
 use Rattle.listing.proofs.quick.put_message.Statement.{statement}
 use Rattle.listing.proofs.quick.put_message.Tie as tie
-use Rattle.listing.proofs.quick.put_message.Reads as reads
-use Rattle.listing.proofs.quick.put_message.Lts as lts
-use Rattle.dataset_message.proofs.message.front.Reads as front-reads
-use Rattle.listing.proofs.line.set_bad.Reads as set-bad-reads
-use Rattle.listing.proofs.line.set_invalid.Reads as set-invalid-reads
-use Rattle.listing.proofs.quick.put_opened.Reads as put-opened-reads
-use Rattle.wire.proofs.part.part.Reads as part-reads
 
--- src/quick.rt:213:9
-part-requires : tie.Need-part-requires
-part-requires c κs = search needs
-
--- src/quick.rt:220:11
-front-requires : tie.Need-front-requires
-front-requires c κs = search needs
-
--- src/quick.rt:221:46
-enum-told : tie.Need-enum-told
-enum-told c = search needs
-
--- src/quick.rt:221:34
-set-invalid-requires : tie.Need-set-invalid-requires
-set-invalid-requires c κs = search needs
-
--- src/quick.rt:222:30
-enum-known-n : tie.Need-enum-known-n
-enum-known-n c = search needs
-
--- src/quick.rt:222:43
-set-bad-requires : tie.Need-set-bad-requires
-set-bad-requires c κs = search needs
-
--- src/quick.rt:223:25
-enum-known-h : tie.Need-enum-known-h
-enum-known-h c = search needs
-
--- src/quick.rt:223:37
 put-opened-requires : tie.Need-put-opened-requires
 put-opened-requires c κs =
     let at-h = c .before .before in
     let at-front = at-h .before .before in
     let at-part = at-front .before in
-    let at-pre = at-part .before .before .before .before in
-    (opened-room (now (at-pre .args .types)) (now (at-pre .args .s)) (now (at-part .part .result)) (at-pre .args .p) (at-pre .args .writer) (at-part .part .ensures) _ _ (told answerMessage (at-front .front .ensures) (at-h .h .given .1)) _ _ (at-pre .pre), part-fits (now (at-pre .args .types)) (now (at-pre .args .s)) (now (at-part .part .result)) (at-pre .args .p) (at-pre .args .writer) (at-part .part .ensures) (omega arith) (omega (arith, at-pre .good)), front-first (now (at-pre .args .types)) (now (at-part .part .result)) _ _ (told answerMessage (at-front .front .ensures) (at-h .h .given .1)), opened-ends (now (at-pre .args .types)) (now (at-pre .args .s)) (now (at-part .part .result)) (at-pre .args .p) (at-pre .args .writer) (at-part .part .ensures) _ _ (told answerMessage (at-front .front .ensures) (at-h .h .given .1)))
+    let at-pre = at-part .before .before .before .before in (
+      opened-room (now (at-pre .args .types)) (now (at-pre .args .s)) (now (at-part .part .result)) (at-pre .args .p) (at-pre .args .writer)
+          (at-part .part .ensures) _ _ (told answerMessage (at-front .front .ensures) (at-h .h .given .1)) _ _ (at-pre .pre),
+      part-fits (now (at-pre .args .types)) (now (at-pre .args .s)) (now (at-part .part .result)) (at-pre .args .p)
+          (at-pre .args .writer) (at-part .part .ensures) (omega arith) (omega (arith, at-pre .good)),
+      front-first (now (at-pre .args .types)) (now (at-part .part .result)) _ _ (told answerMessage (at-front .front .ensures) (at-h .h .given .1)),
+      opened-ends (now (at-pre .args .types)) (now (at-pre .args .s)) (now (at-part .part .result)) (at-pre .args .p)
+          (at-pre .args .writer) (at-part .part .ensures) _ _ (told answerMessage (at-front .front .ensures) (at-h .h .given .1)),
+    )
 
--- src/quick.rt:196:1
-same-length : tie.Need-same-length
-same-length c = search needs
-
--- src/quick.rt:196:1
 returns : tie.Need-returns
 returns c =
     let at-set-invalid = c .before .before in
@@ -64,13 +32,9 @@ returns c =
     let at-front = at-enum-told .before .before in
     let at-part = at-front .before in
     let args = at-part .before .before .before .before .args in
-    invalid-message (now (args .types)) (now (args .s)) (now (at-part .part .result)) (args .p) (args .writer) (at-part .part .ensures) (told answerMessage (at-front .front .ensures) (at-enum-told .enum-told .given .1)) (at-set-invalid .set-invalid .ensures)
+    invalid-message (now (args .types)) (now (args .s)) (now (at-part .part .result)) (args .p) (args .writer) (at-part .part .ensures)
+    (told answerMessage (at-front .front .ensures) (at-enum-told .enum-told .given .1)) (at-set-invalid .set-invalid .ensures)
 
--- src/quick.rt:196:1
-same-length-2 : tie.Need-same-length-2
-same-length-2 c = search needs
-
--- src/quick.rt:196:1
 returns-2 : tie.Need-returns-2
 returns-2 c =
     let at-set-bad = c .before .before in
@@ -78,13 +42,9 @@ returns-2 c =
     let at-front = at-n .before .before in
     let at-part = at-front .before in
     let args = at-part .before .before .before .before .args in
-    refused-message (now (args .types)) (now (args .s)) (now (at-part .part .result)) (args .p) (args .writer) (at-part .part .ensures) (told answerMessage (at-front .front .ensures) (at-n .n .given .1)) (at-set-bad .set-bad .ensures)
+    refused-message (now (args .types)) (now (args .s)) (now (at-part .part .result)) (args .p) (args .writer) (at-part .part .ensures)
+    (told answerMessage (at-front .front .ensures) (at-n .n .given .1)) (at-set-bad .set-bad .ensures)
 
--- src/quick.rt:196:1
-same-length-3 : tie.Need-same-length-3
-same-length-3 c = search needs
-
--- src/quick.rt:196:1
 returns-3 : tie.Need-returns-3
 returns-3 c =
     let at-put-opened = c .before .before in
@@ -92,23 +52,24 @@ returns-3 c =
     let at-front = at-h .before .before in
     let at-part = at-front .before in
     let args = at-part .before .before .before .before .args in
-    opened-message (now (args .types)) (now (args .s)) (now (at-part .part .result)) (args .p) (args .writer) (at-part .part .ensures) _ _ (told answerMessage (at-front .front .ensures) (at-h .h .given .1)) (at-put-opened .put-opened .ensures)
+    opened-message (now (args .types)) (now (args .s)) (now (at-part .part .result)) (args .p) (args .writer) (at-part .part .ensures) _ _
+    (told answerMessage (at-front .front .ensures) (at-h .h .given .1)) (at-put-opened .put-opened .ensures)
 
 pub put-message-spec : {M : Type 1} → statement M
 put-message-spec =
     tie.close
     (tie.spec
-    part-requires
-    front-requires
-    enum-told
-    set-invalid-requires
-    enum-known-n
-    set-bad-requires
-    enum-known-h
+    (λ c κs. search needs)
+    (λ c κs. search needs)
+    (λ c. search needs)
+    (λ c κs. search needs)
+    (λ c. search needs)
+    (λ c κs. search needs)
+    (λ c. search needs)
     put-opened-requires
-    same-length
+    (λ c. search needs)
     returns
-    same-length-2
+    (λ c. search needs)
     returns-2
-    same-length-3
+    (λ c. search needs)
     returns-3)

@@ -18,7 +18,9 @@ returns-3 c =
     let at-step = at-p .before .before in
     let at-if1 = at-step .before in
     let args = at-if1 .before .before .before .before .before .before .before .before .before .args in
-    one-same (one-text (writers (now (args .ids)) (now (args .sizes)) (now (args .starts)) (now (args .types))) (now (args .s)) (args .l) (at-p .p .given .0 .0) (at-p .p .given .0 .1 .0) _ (at-writer-id .writer-id .result) (now (at-types-of .types-of .result)) (at-if1 .if1 .left) (told answerPlaceStep (at-step .step .ensures) (at-p .p .given .1)) (at-writer-id .writer-id .ensures) (at-types-of .types-of .ensures)) (at-put-both .put-both .ensures)
+    one-same (one-text (writers (now (args .ids)) (now (args .sizes)) (now (args .starts)) (now (args .types))) (now (args .s)) (args .l)
+    (at-p .p .given .0 .0) (at-p .p .given .0 .1 .0) _ (at-writer-id .writer-id .result) (now (at-types-of .types-of .result))
+    (at-if1 .if1 .left) (told answerPlaceStep (at-step .step .ensures) (at-p .p .given .1)) (at-writer-id .writer-id .ensures) (at-types-of .types-of .ensures)) (at-put-both .put-both .ensures)
 
 pub put-one-spec : {M : Type 1} → statement M
 put-one-spec =

@@ -4,7 +4,7 @@ use Rattle.listing.proofs.OnePass.{same-listing, one-told, one-written,
 use Rattle.listing.proofs.Texts.{listing-text}
 use Rattle.listing.specs.Text.{linesText}
 use Rattle.walk.specs.declared.lines.LineCursor.{LineCursor}
-use Rattle.walk.specs.Lines.{writers, linesFrom, listingOf}
+use Rattle.walk.specs.Lines.{writers, linesFrom}
 use mathlib.Core.Path.{ap, sym, _∙_}
 use denote.Ref.{now}
 use borrow.Author.Needs.{needs}
@@ -16,7 +16,9 @@ returns c =
     let at-put-counted = c .before .before in
     let at-start = at-put-counted .before .before .before in
     let args = at-start .before .before .before .before .before .before .before .args in
-    same-listing (now (args .out)) _ _ _ _ (listing-text (writers (now (args .ids)) (now (args .sizes)) (now (args .starts)) (now (args .types))) (now (args .s)) (args .number) (args .place) _ (at-start .start .ensures)) (at-put-counted .put-counted .ensures)
+    same-listing (now (args .out)) _ _ _ _
+    (listing-text (writers (now (args .ids)) (now (args .sizes)) (now (args .starts)) (now (args .types))) (now (args .s)) (args .number) (args .place) _ (at-start .start .ensures))
+    (at-put-counted .put-counted .ensures)
 
 returns-2 : tie.Need-returns-2
 returns-2 c =
@@ -41,7 +43,8 @@ returns-3 c =
     let w = (writers (now (args .ids)) (now (args .sizes)) (now (args .starts)) (now (args .types))) in
     let s = now (args .s) in
     let text = ap (λ (x : LineCursor). linesText s (linesFrom w s x)) (sym (at-first .first .given .1)) ∙ listing-text w s (args .number) (args .place) _ (at-start .start .ensures) in
-    same-listing (now (args .out)) _ _ _ _ text (none-written (now (args .out)) _ _ _ _ (one-told (at-put-one .put-one .ensures) (at-enum-told .enum-told .given .1)) (at-put-several .put-several .ensures))
+    same-listing (now (args .out)) _ _ _ _ text
+    (none-written (now (args .out)) _ _ _ _ (one-told (at-put-one .put-one .ensures) (at-enum-told .enum-told .given .1)) (at-put-several .put-several .ensures))
 
 pub put-listing-spec : {M : Type 1} → statement M
 put-listing-spec =

@@ -15,7 +15,9 @@ returns : tie.Need-returns
 returns c =
     let at-put-lines = c .before .before in
     let args = at-put-lines .before .before .before .before .before .before .before .before .before .before .args in
-    list-written (now (args .out)) (linesText (now (args .s)) (acceptedLines (writers (now (args .ids)) (now (args .sizes)) (now (args .starts)) (now (args .types))) (now (args .s)) (args .l))) _ _ (at-put-lines .put-lines .ensures .0) (at-put-lines .put-lines .ensures .1) (at-put-lines .put-lines .ensures .2)
+    list-written (now (args .out))
+    (linesText (now (args .s)) (acceptedLines (writers (now (args .ids)) (now (args .sizes)) (now (args .starts)) (now (args .types))) (now (args .s)) (args .l))) _ _
+    (at-put-lines .put-lines .ensures .0) (at-put-lines .put-lines .ensures .1) (at-put-lines .put-lines .ensures .2)
 
 returns-2 : tie.Need-returns-2
 returns-2 c = c .before .before .put-counted .ensures
