@@ -1,8 +1,8 @@
 // A whole listing into a buffer that surely holds it, each message read once: no line is longer than 256 bytes, and the fronts of the
 // messages tell how many lines there are at most; with one message the front is read once for both. The lines of a message's first fields
 // go into a buffer of their own until it is known that the message is accepted; the fields after them are told once more, and put in place.
-// It puts what `put_counted` does (proofs/OnePass.antt). Worth: a quarter to a third of the time of counting the length first; the front
-// that is read once, a twelfth of a short datagram's time.
+// It puts what `put_counted` does (proofs/OnePass.antt). Worth: it leaves a sixth to a third of the time; the front that is read once is
+// a twelfth of a short datagram's time.
 use crate::line::field;
 use crate::line::id_too_long;
 use crate::line::net;

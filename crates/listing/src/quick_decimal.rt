@@ -1,5 +1,5 @@
 // Decimals of up to five digits by a branch on their size, without a loop: what `text::decimal::put_decimal` puts. The caller has tested
-// the room. Worth: a third of the time of a line.
+// the room. Worth: a fifteenth of the time of a listing.
 use text::decimal::put_decimal;
 ghost use Prim.Native.Nat.{_+_, _≤_, _<_, _%_};
 ghost use mathlib.Core.List.{[], _∷_};
