@@ -1,9 +1,9 @@
 -- Laws of parts put one after the other.
 -- Assumes nothing.
 use mathlib.Core.Path.{_≡_, ap, _∙_}
-use mathlib.Core.List.{List, _++_}
+use mathlib.Core.List.{List, [], _∷_, _++_}
 use mathlib.Core.Bool.{true, false}
-use Prim.Native.Nat.{ℕ, suc, _+_, _≤_, _<_}
+use Prim.Native.Nat.{ℕ, suc, _+_, _/_, _%_, _≤_, _<_}
 use native.Mathlib.Omega.{arith}
 use native.Mathlib.Numerals.{add-one}
 use borrow.Author.Tests.{le-leb, lt-ltb, le-ltb, ltb-false}
@@ -12,6 +12,8 @@ use lib.ListN.{length, set, take, length-set, length-append, length-take}
 use lib.Seq.{sets}
 use Rattle.wire_writer.specs.Store.{Stored}
 use Rattle.wire_writer.proofs.Stores.{sets-append}
+use Rattle.text.specs.Decimal.{decimalText}
+use Rattle.text.proofs.Numerals.{decimal-more}
 use Rattle.publisher_id.specs.declared.publisher.PublisherId.{PublisherId}
 use Rattle.listing.specs.Columns.{tabbed, Put}
 use Rattle.listing.specs.Line.{idTooLong, tooLong, lineText, lineRefusal, linePut, lineAfter}
@@ -27,13 +29,16 @@ put-all k t l m at next h r s =
     let n : next ≡ at + length t = rw e at (s .after) in
     record { stored = v; after = n; near = omega arith }
 
--- the same after a tab
+-- a text after a tab
+pub after-tab : (k : ℕ) (t l x m : List ℕ) (at next : ℕ) → x ≡ set l at 9 → Put k t x (at + 1) m next → Put (suc k) (tabbed t) l at m next
+after-tab k t l x m at next e p =
+    let v : m ≡ sets l at (tabbed t) = p .stored ∙ ap (λ (y : List ℕ). sets y (at + 1) t) e ∙ ap (λ (i : ℕ). sets (set l at 9) i t) (add-one at) in
+    record { stored = v; after = omega (arith, p .after); near = omega (arith, p .near) }
+
 pub put-tabbed : (k : ℕ) (t l x m : List ℕ) (at next : ℕ) → length t ≤ k → at + suc k ≤ length l → x ≡ set l at 9 → Stored t x (at + 1) m next → Put (suc k) (tabbed t) l at m next
 put-tabbed k t l x m at next h r e s =
     let q : length x ≡ length l = ap length e ∙ length-set l at 9 in
-    let p : Put k t x (at + 1) m next = put-all k t x m (at + 1) next h (omega arith) s in
-    let v : m ≡ sets l at (tabbed t) = p .stored ∙ ap (λ (y : List ℕ). sets y (at + 1) t) e ∙ ap (λ (i : ℕ). sets (set l at 9) i t) (add-one at) in
-    record { stored = v; after = omega (arith, p .after); near = omega (arith, p .near) }
+    after-tab k t l x m at next e (put-all k t x m (at + 1) next h (omega arith) s)
 
 -- a part after another
 pub then : {j k at mid next : ℕ} {t u l m e : List ℕ} → Put j t l at m mid → Put k u m mid e next → Put (j + k) (t ++ u) l at e next
@@ -45,6 +50,11 @@ then {j} {k} {at} {mid} {next} {t} {u} {l} {m} {e} p q =
 -- a part of fewer bytes than there is room for
 pub fewer : {j k at next : ℕ} {t l e : List ℕ} → j ≤ k → Put j t l at e next → Put k t l at e next
 fewer h p = record { stored = p .stored; after = p .after; near = omega (arith, p .near) }
+
+-- a digit after those of the tenth
+pub digit-more : {k at mid next : ℕ} {l m e : List ℕ} (n : ℕ) → 10 ≤ n → Put k (decimalText (n / 10)) l at m mid → Put 1 ((48 + n % 10) ∷ []) m mid e next
+    → Put (k + 1) (decimalText n) l at e next
+digit-more n h p q = rw (decimal-more n h) (then p q)
 
 -- a string id that is not too long, as a part of the datagram
 pub id-fits : {id : PublisherId} {n : ℕ} (p l : List ℕ) → id ≡ PublisherId.Text n → idTooLong id ≡ false → p ≡ take n l → length p ≤ 64

@@ -1,5 +1,5 @@
 // The parts of a line, each put after a tab. The caller has tested the room.
-use text::decimal::put_decimal;
+use crate::quick_decimal::put_number;
 use text::hex::put_hex;
 use text::words::put_bytes;
 use value::Shape;
@@ -13,11 +13,11 @@ ghost use Rattle.listing.specs.Columns.{tabbed, lineEnd, optionalText, s
 ghost use Rattle.wire.specs.Constants.{MOST_TEXT_ID};
 
 // A line's first word.
-pub(crate) fn first(out: &mut [u8], text: &[u8]) -> usize
-    requires { ⌜ (length (now text) ≤ 5) × (5 ≤ length (now out)) ⌝ }
-    ensures { λ r. ⌜ Put 5 (now (text .entry)) (now (out .entry)) 0 (now (out .exit)) r ⌝ }
+pub(crate) fn first(out: &mut [u8], at: usize, text: &[u8]) -> usize
+    requires { ⌜ (length (now text) ≤ 5) × (at + 5 ≤ length (now out)) ⌝ }
+    ensures { λ r. ⌜ Put 5 (now (text .entry)) (now (out .entry)) at (now (out .exit)) r ⌝ }
 {
-    put_bytes(out, 0, text)
+    put_bytes(out, at, text)
 }
 
 fn tab(out: &mut [u8], at: usize)
@@ -40,7 +40,7 @@ pub(crate) fn decimal(out: &mut [u8], at: usize, n: u64) -> usize
     ensures { λ r. ⌜ Put 21 (tabbed (decimalText n)) (now (out .entry)) at (now (out .exit)) r ⌝ }
 {
     tab(out, at);
-    put_decimal(out, at + 1, n)
+    put_number(out, at + 1, n)
 }
 
 pub(crate) fn hex(out: &mut [u8], at: usize, bytes: &[u8]) -> usize

@@ -3,4 +3,6 @@ pub mod block;
 mod columns;
 pub mod line;
 pub mod program;
+mod quick;
+mod quick_decimal;
 pub mod whole;

@@ -33,7 +33,7 @@ pub enum LinePut {
     Refused(u8),
 }
 
-fn id_too_long(id: PublisherId) -> bool
+pub(crate) fn id_too_long(id: PublisherId) -> bool
     ensures { λ r. ⌜ r ≡ idTooLong id ⌝ }
 {
     match id {
@@ -89,23 +89,31 @@ fn publisher(out: &mut [u8], at: usize, s: &[u8], id: PublisherId, id_end: usize
     }
 }
 
-fn net(out: &mut [u8], s: &[u8], n: usize, id: PublisherId, id_end: usize, messages: usize) -> usize
-    requires { ⌜ (idTooLong id ≡ false) × (256 ≤ length (now out)) ⌝ }
-    ensures { λ r. ⌜ Put 256 (netText (now (s .entry)) n id «id_end» messages) (now (out .entry)) 0 (now (out .exit)) r ⌝ }
+pub(crate) fn net(
+    out: &mut [u8],
+    at: usize,
+    s: &[u8],
+    n: usize,
+    id: PublisherId,
+    id_end: usize,
+    messages: usize,
+) -> usize
+    requires { ⌜ (idTooLong id ≡ false) × (at + 256 ≤ length (now out)) ⌝ }
+    ensures { λ r. ⌜ Put 256 (netText (now (s .entry)) n id «id_end» messages) (now (out .entry)) at (now (out .exit)) r ⌝ }
 {
-    let p = first(out, b"net");
+    let p = first(out, at, b"net");
     let p = decimal(out, p, n as u64);
     let p = publisher(out, p, s, id, id_end);
     let p = decimal(out, p, messages as u64);
     end(out, p)
 }
 
-fn set_place(out: &mut [u8], place: SetPlace) -> usize
-    requires { ⌜ 256 ≤ length (now out) ⌝ }
-    ensures { λ r. ⌜ Put 89 (placeText place) (now (out .entry)) 0 (now (out .exit)) r ⌝ }
+fn set_place(out: &mut [u8], at: usize, place: SetPlace) -> usize
+    requires { ⌜ at + 256 ≤ length (now out) ⌝ }
+    ensures { λ r. ⌜ Put 89 (placeText place) (now (out .entry)) at (now (out .exit)) r ⌝ }
 {
     let writer = place.writer;
-    let p = first(out, b"set");
+    let p = first(out, at, b"set");
     let p = decimal(out, p, place.message as u64);
     let p = optional(out, p, writer);
     let p = decimal(out, p, place.offset as u64);
@@ -135,24 +143,31 @@ fn encoding_word(out: &mut [u8], at: usize, encoding: Encoding) -> usize
     }
 }
 
-fn set(out: &mut [u8], place: SetPlace, kind: Kind, encoding: Encoding, q: Optional16) -> usize
-    requires { ⌜ 256 ≤ length (now out) ⌝ }
+pub(crate) fn set(
+    out: &mut [u8],
+    at: usize,
+    place: SetPlace,
+    kind: Kind,
+    encoding: Encoding,
+    q: Optional16,
+) -> usize
+    requires { ⌜ at + 256 ≤ length (now out) ⌝ }
     ensures { λ r.
         let text = placeText place ++ (headText kind encoding ++ (tabbed (optionalText q) ++ lineEnd)) in
-        ⌜ Put 256 text (now (out .entry)) 0 (now (out .exit)) r ⌝ }
+        ⌜ Put 256 text (now (out .entry)) at (now (out .exit)) r ⌝ }
 {
-    let p = set_place(out, place);
+    let p = set_place(out, at, place);
     let p = kind_word(out, p, kind);
     let p = encoding_word(out, p, encoding);
     let p = optional(out, p, q);
     end(out, p)
 }
 
-fn set_invalid(out: &mut [u8], place: SetPlace) -> usize
-    requires { ⌜ 256 ≤ length (now out) ⌝ }
-    ensures { λ r. ⌜ Put 256 (placeText place ++ (tabbed invalidWord ++ lineEnd)) (now (out .entry)) 0 (now (out .exit)) r ⌝ }
+pub(crate) fn set_invalid(out: &mut [u8], at: usize, place: SetPlace) -> usize
+    requires { ⌜ at + 256 ≤ length (now out) ⌝ }
+    ensures { λ r. ⌜ Put 256 (placeText place ++ (tabbed invalidWord ++ lineEnd)) (now (out .entry)) at (now (out .exit)) r ⌝ }
 {
-    let p = set_place(out, place);
+    let p = set_place(out, at, place);
     let p = word(out, p, b"invalid");
     end(out, p)
 }
@@ -166,20 +181,20 @@ fn refusal(out: &mut [u8], at: usize, n: u8, place: usize) -> usize
     end(out, p)
 }
 
-fn set_bad(out: &mut [u8], place: SetPlace, n: u8, at: usize) -> usize
-    requires { ⌜ 256 ≤ length (now out) ⌝ }
-    ensures { λ r. ⌜ Put 256 (placeText place ++ (tabbed badWord ++ refusalText n at)) (now (out .entry)) 0 (now (out .exit)) r ⌝ }
+pub(crate) fn set_bad(out: &mut [u8], at: usize, place: SetPlace, n: u8, fault: usize) -> usize
+    requires { ⌜ at + 256 ≤ length (now out) ⌝ }
+    ensures { λ r. ⌜ Put 256 (placeText place ++ (tabbed badWord ++ refusalText n fault)) (now (out .entry)) at (now (out .exit)) r ⌝ }
 {
-    let p = set_place(out, place);
+    let p = set_place(out, at, place);
     let p = word(out, p, b"bad");
-    refusal(out, p, n, at)
+    refusal(out, p, n, fault)
 }
 
-fn bad(out: &mut [u8], n: u8, place: usize) -> usize
-    requires { ⌜ 256 ≤ length (now out) ⌝ }
-    ensures { λ r. ⌜ Put 256 (badWord ++ refusalText n place) (now (out .entry)) 0 (now (out .exit)) r ⌝ }
+fn bad(out: &mut [u8], at: usize, n: u8, place: usize) -> usize
+    requires { ⌜ at + 256 ≤ length (now out) ⌝ }
+    ensures { λ r. ⌜ Put 256 (badWord ++ refusalText n place) (now (out .entry)) at (now (out .exit)) r ⌝ }
 {
-    let p = first(out, b"bad");
+    let p = first(out, at, b"bad");
     refusal(out, p, n, place)
 }
 
@@ -196,11 +211,11 @@ fn field_value(out: &mut [u8], at: usize, f: Field) -> usize
     end(out, p)
 }
 
-fn field(out: &mut [u8], message: usize, f: Field) -> usize
-    requires { ⌜ 256 ≤ length (now out) ⌝ }
-    ensures { λ r. ⌜ Put 256 (fieldText message f) (now (out .entry)) 0 (now (out .exit)) r ⌝ }
+pub(crate) fn field(out: &mut [u8], at: usize, message: usize, f: Field) -> usize
+    requires { ⌜ at + 256 ≤ length (now out) ⌝ }
+    ensures { λ r. ⌜ Put 256 (fieldText message f) (now (out .entry)) at (now (out .exit)) r ⌝ }
 {
-    let p = first(out, b"field");
+    let p = first(out, at, b"field");
     let p = decimal(out, p, message as u64);
     let p = decimal(out, p, f.index as u64);
     let p = decimal(out, p, f.kind as u64);
@@ -212,12 +227,12 @@ fn put(out: &mut [u8], s: &[u8], line: Line) -> usize
     ensures { λ r. ⌜ Put 256 (lineText (now (s .entry)) line) (now (out .entry)) 0 (now (out .exit)) r ⌝ }
 {
     match line {
-        Line::Net(n, id, id_end, messages) => net(out, s, n, id, id_end, messages),
-        Line::Set(place, kind, encoding, q) => set(out, place, kind, encoding, q),
-        Line::SetInvalid(place) => set_invalid(out, place),
-        Line::SetBad(place, n, at) => set_bad(out, place, n, at),
-        Line::Field(message, f) => field(out, message, f),
-        Line::Bad(n, place) => bad(out, n, place),
+        Line::Net(n, id, id_end, messages) => net(out, 0, s, n, id, id_end, messages),
+        Line::Set(place, kind, encoding, q) => set(out, 0, place, kind, encoding, q),
+        Line::SetInvalid(place) => set_invalid(out, 0, place),
+        Line::SetBad(place, n, at) => set_bad(out, 0, place, n, at),
+        Line::Field(message, f) => field(out, 0, message, f),
+        Line::Bad(n, place) => bad(out, 0, n, place),
     }
 }
 
