@@ -1,5 +1,5 @@
 // A quick way to a field of the front: a Variant that is a scalar of a fixed type is told by its first byte, with no call. It answers what
-// `read_field` does. Worth: a third of the time of salvaging such fields.
+// `read_field` does. Worth: a quarter of the time of salvaging such fields.
 use dataset_fields::fields::FieldRead;
 use dataset_fields::fields::read_field;
 use dataset_header::flags::Encoding;
