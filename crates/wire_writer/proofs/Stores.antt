@@ -4,11 +4,12 @@ use mathlib.Core.Path.{_≡_, ap, sym, subst, _∙_}
 use mathlib.Core.List.{List, [], _∷_, _++_}
 use mathlib.Core.Bool.{true, false}
 use Prim.Native.Nat.{ℕ, suc, _+_, _-_, _/_, _^_, _<_, _≤_}
-use native.Mathlib.Nat.{add-zero, add-suc, suc-add, le-of-lt}
+use native.Mathlib.Nat.{add-zero, zero-add, add-suc, suc-add, le-of-lt}
 use native.Mathlib.Numerals.{add-one}
+use native.Mathlib.Omega.{arith}
 use lib.Dec.{leb}
-use lib.ListN.{length, getD, set, take}
-use lib.Seq.{sets, take-suc, take-all, length-take-le}
+use lib.ListN.{length, getD, set, take, drop}
+use lib.Seq.{sets, sets-eq, take-suc, take-all, take-add, take-append-seam, length-take-le}
 use Rattle.wire.specs.Number.{leBytes}
 use Rattle.wire_writer.specs.Store.{Stored}
 use Rattle.wire.proofs.Numbers.{split-bytes, length-leBytes}
@@ -31,6 +32,18 @@ run-step src l at i h =
     let e : take (i + 1) src ≡ take i src ++ (getD src i 0 ∷ []) = rw add-one (take-suc src i 0 h) in
     ap (λ (k : ℕ). set (sets l at (take i src)) (at + k) (getD src i 0)) (sym (length-take-le i src (le-of-lt h)))
     ∙ sets-append (take i src) (getD src i 0 ∷ []) l at ∙ ap (sets l at) (sym e)
+
+-- a run longer by a part of what follows
+pub run-part : (src l : List ℕ) (at i n : ℕ) → i ≤ length src → sets (sets l at (take i src)) (at + i) (take n (drop i src)) ≡ sets l at (take (i + n) src)
+run-part src l at i n h =
+    ap (λ (k : ℕ). sets (sets l at (take i src)) (at + k) (take n (drop i src))) (sym (length-take-le i src h))
+    ∙ sets-append (take i src) (take n (drop i src)) l at ∙ ap (sets l at) (sym (take-add i n src))
+
+-- what was stored from the start on is there
+pub run-there : (src l : List ℕ) → length src ≤ length l → take (length src - 0) (drop 0 (sets l 0 src)) ≡ src
+run-there src l h =
+    let all : length src - 0 ≡ length src = omega arith in
+    ap (λ (n : ℕ). take n (drop 0 (sets l 0 src))) all ∙ ap (take (length src)) (sets-eq src l 0 (rw zero-add h)) ∙ take-append-seam src (drop (0 + length src) l)
 
 -- all of a run
 pub run-all : (src l : List ℕ) (at i : ℕ) → length src ≤ i → sets l at (take i src) ≡ sets l at src

@@ -10,6 +10,9 @@ ghost use Rattle.wire.specs.Number.{leBytes, unsigned};
 ghost use Rattle.wire.specs.Items.{guidBytes};
 ghost use Rattle.wire_writer.specs.Store.{Stored};
 
+// How many bytes are copied at once: as many as the longest datagram has.
+const BLOCK: usize = 65535;
+
 // The lowest 1, 2, 4 and 8 bytes of a number, lowest first.
 fn store1(out: &mut [u8], at: usize, v: u64)
     requires { ⌜ at + 1 ≤ length (now out) ⌝ }
@@ -118,7 +121,8 @@ pub fn put_guid(out: &mut [u8], at: usize, v: Guid) -> usize
     at
 }
 
-fn copy_in(out: &mut [u8], at: usize, src: &[u8])
+// Byte by byte.
+fn lay(out: &mut [u8], at: usize, src: &[u8])
     requires { ⌜ at + length (now src) ≤ length (now out) ⌝ }
     ensures { λ _. ⌜ now (out .exit) ≡ sets (now (out .entry)) at (now (src .entry)) ⌝ }
 {
@@ -126,6 +130,39 @@ fn copy_in(out: &mut [u8], at: usize, src: &[u8])
     while i < src.len() {
         out[at + i] = src[i];
         i += 1;
+    }
+}
+
+// By way of a block that is nobody else's: the compiler then knows that no byte is overwritten before it is read, and makes the two loops
+// one call of the C library's copy, without the block.
+fn copy_block(out: &mut [u8], at: usize, src: &[u8])
+    requires { ⌜ (at + length (now src) ≤ length (now out)) × (length (now src) ≤ 65535) ⌝ }
+    ensures { λ _. ⌜ now (out .exit) ≡ sets (now (out .entry)) at (now (src .entry)) ⌝ }
+{
+    let mut block = [0u8; BLOCK];
+    lay(&mut block, 0, src);
+    lay(out, at, &block[0..src.len()]);
+}
+
+// How many of n bytes go into a block.
+fn in_block(n: usize) -> usize
+    ensures { λ r. ⌜ (r ≤ n) × (r ≤ 65535) × (1 ≤ n → 1 ≤ r) ⌝ }
+{
+    if n < BLOCK {
+        return n;
+    }
+    BLOCK
+}
+
+fn copy_in(out: &mut [u8], at: usize, src: &[u8])
+    requires { ⌜ at + length (now src) ≤ length (now out) ⌝ }
+    ensures { λ _. ⌜ now (out .exit) ≡ sets (now (out .entry)) at (now (src .entry)) ⌝ }
+{
+    let mut i = 0;
+    while i < src.len() {
+        let next = i + in_block(src.len() - i);
+        copy_block(out, at + i, &src[i..next]);
+        i = next;
     }
 }
 

@@ -1,13 +1,15 @@
 -- `wire_writer::store::copy_in` meets its contract.
 -- Assumes nothing.
-use lib.Seq.{sets}
+use lib.Seq.{sets, length-sets}
 use denote.Ref.{now}
 use mathlib.Core.List.{List}
-use lib.ListN.{length, take, getD, set, length-set}
+use lib.ListN.{length, take, drop}
 use mathlib.Core.Path.{_≡_, refl, ap, _∙_}
 use Prim.Native.Nat.{ℕ, _≤_, _<_, _+_, _-_}
+use native.Mathlib.Nat.{add-sub-cancel-left}
 use native.Mathlib.Omega.{arith}
-use Rattle.wire_writer.proofs.Stores.{run-step, run-all}
+use borrow.Author.Needs.{needs}
+use Rattle.wire_writer.proofs.Stores.{run-part, run-all}
 use Rattle.wire_writer.proofs.store.copy_in.Statement.{statement}
 use Rattle.wire_writer.proofs.store.copy_in.Tie as tie
 
@@ -19,41 +21,32 @@ abbrev μ-loop : tie.MeasureT-loop
 μ-loop out₀ at src i₀ out i = length src - i
 
 loop-holds : tie.Need-loop-holds Inv-loop μ-loop
-loop-holds c = (omega arith, c .pre, refl, refl)
-
-shared-slice-read-out : tie.Need-shared-slice-read-out Inv-loop μ-loop
-shared-slice-read-out c = omega arith
-
-add-out : tie.Need-add-out Inv-loop μ-loop
-add-out c = omega arith
-
-slice-write-out : tie.Need-slice-write-out Inv-loop μ-loop
-slice-write-out c = omega arith
-
-add-i : tie.Need-add-i Inv-loop μ-loop
-add-i c = omega arith
+loop-holds c = (omega arith, c .before .before .pre, refl, refl)
 
 loop-less : tie.Need-loop-less Inv-loop μ-loop
-loop-less c = omega arith
+loop-less c =
+    let at-in = c .before .before .before .before .before in
+    let left : 1 ≤ at-in .in-block .result = at-in .in-block .ensures .2 (omega arith) in
+    omega (arith, at-in .in-block .ensures .0, left)
 
 loop-again : tie.Need-loop-again Inv-loop μ-loop
 loop-again c =
-    let at-loop = c .before .before in
-    let args = at-loop .before .args in
-    let h : at-loop .loop .i < length (now (args .src)) = omega arith in (
-      omega arith,
-      omega arith,
-      omega (arith, length-set (at-loop .loop .out) (args .at + at-loop .loop .i) (getD (now (args .src)) (at-loop .loop .i) 0)),
-      ap (λ (l : List ℕ). set l (args .at + at-loop .loop .i) (getD (now (args .src)) (at-loop .loop .i) 0)) (at-loop .loop .inv .3)
-          ∙ run-step (now (args .src)) (now (args .out)) (args .at) (at-loop .loop .i) h,
-    )
-
-same-length : tie.Need-same-length Inv-loop μ-loop
-same-length c = omega arith
+    let at-in = c .before .before .before .before .before in
+    let at-loop = at-in .before .before in
+    let start = at-loop .before .before .before in
+    let src = now (start .args .src) in
+    let i = at-loop .loop .i in
+    let n = at-in .in-block .result in
+    let within : i + n ≤ length src = omega (arith, at-in .in-block .ensures .0) in
+    let stored : c .before .before .copy-block .last .0 ≡ sets (now (start .args .out)) (start .args .at) (take (i + n) src)
+    = c .before .before .copy-block .ensures ∙ ap (λ (k : ℕ). sets (at-loop .loop .out) (start .args .at + i) (take k (drop i src))) (add-sub-cancel-left i n)
+    ∙ ap (λ (l : List ℕ). sets l (start .args .at + i) (take n (drop i src))) (at-loop .loop .inv .3) ∙ run-part src (now (start .args .out)) (start .args .at) i n (omega arith) in
+    (within, at-loop .loop .inv .1, ap length stored ∙ length-sets (now (start .args .out)) (start .args .at) (take (i + n) src), stored)
 
 returns : tie.Need-returns Inv-loop μ-loop
 returns c =
-    c .before .loop .inv .3 ∙ run-all (now (c .before .before .args .src)) (now (c .before .before .args .out)) (c .before .before .args .at) (c .before .loop .i) (omega arith)
+    let start = c .before .before .before .before in
+    c .before .loop .inv .3 ∙ run-all (now (start .args .src)) (now (start .args .out)) (start .args .at) (c .before .loop .i) (omega arith)
 
 pub copy-in-spec : {M : Type 1} → statement M
 copy-in-spec =
@@ -62,11 +55,15 @@ copy-in-spec =
     Inv-loop
     μ-loop
     loop-holds
-    shared-slice-read-out
-    add-out
-    slice-write-out
-    add-i
+    (λ c. search needs)
+    (λ c κs. search needs)
+    (λ c. search needs)
+    (λ c. search needs)
+    (λ c. search needs)
+    (λ c. search needs)
+    (λ c. search needs)
+    (λ c κs. search needs)
     loop-less
     loop-again
-    same-length
+    (λ c. search needs)
     returns)
