@@ -13,6 +13,8 @@ use wire::constants::NOT_TAKEN;
 use wire::constants::OVER_LIMIT;
 use wire::part::tail;
 ghost use mathlib.Core.Path.{_≡_};
+ghost use mathlib.Core.Bool.{cond, _&&_};
+ghost use lib.Dec.{leb};
 ghost use Prim.Native.Nat.{_+_, _*_, _≤_};
 ghost use lib.ListN.{length, take, getD};
 ghost use Rattle.wire.specs.Lists.{total};
@@ -48,8 +50,18 @@ pub struct Tally {
     pub positive: bool,
 }
 
-// The sum of the n sizes that a list begins with, and whether each is at least 1; a byte that is not there counts as 0.
-pub fn tally_listed(list: &[u8], n: u16) -> Tally
+// The number of two bytes that are there.
+fn number_within(list: &[u8], at: usize) -> usize
+    requires { ⌜ at + 2 ≤ length (now list) ⌝ }
+    ensures { λ r. ⌜ (r ≡ le 2 (now (list .entry)) at) × (r ≤ 65535) ⌝ }
+{
+    list[at] as usize + 256 * (list[at + 1] as usize)
+}
+
+// The sum of the n sizes that a list begins with, and whether each is at least 1. That the list has them is not tested at each: two thirds
+// of the time of a list of twenty.
+fn tally_whole(list: &[u8], n: u16) -> Tally
+    requires { ⌜ 2 * n ≤ length (now list) ⌝ }
     ensures { λ r.
         let sizes = listed n (now (list .entry)) 0 in
         ⌜ (r .total ≡ total sizes) × (r .positive ≡ allPositive sizes) × (r .total ≤ 65535 * n) ⌝ }
@@ -59,7 +71,7 @@ pub fn tally_listed(list: &[u8], n: u16) -> Tally
     let mut sum = 0;
     let mut each = true;
     while 0 < left {
-        let size = number_at(list, p);
+        let size = number_within(list, p);
         sum = sum + size;
         each = each & (0 < size);
         p = p + 2;
@@ -69,6 +81,22 @@ pub fn tally_listed(list: &[u8], n: u16) -> Tally
         total: sum,
         positive: each,
     }
+}
+
+// The same for any list: one that is too short has no such sum.
+pub fn tally_listed(list: &[u8], n: u16) -> Tally
+    ensures { λ r.
+        let sizes = listed n (now (list .entry)) 0 in
+        let whole = leb (2 * n) (length (now (list .entry))) in
+        ⌜ (r .total ≡ cond whole (total sizes) 0) × (r .positive ≡ (whole && allPositive sizes)) ⌝ }
+{
+    if list.len() < 2 * (n as usize) {
+        return Tally {
+            total: 0,
+            positive: false,
+        };
+    }
+    tally_whole(list, n)
 }
 
 // The first n configured sizes.
@@ -114,7 +142,7 @@ fn listed_sizes(s: &[u8], n: u16, at: usize) -> PayloadRead
     if !wire::has(s.len(), at, 2 * count) {
         return PayloadRead::Refused(CUT_SHORT, at);
     }
-    let tally = tally_listed(tail(s, at), n);
+    let tally = tally_whole(tail(s, at), n);
     if !tally.positive {
         return PayloadRead::Refused(DISAGREE, at);
     }

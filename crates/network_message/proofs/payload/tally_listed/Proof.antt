@@ -1,65 +1,27 @@
 -- `network_message::payload::tally_listed` meets its contract.
 -- Assumes nothing.
-use Prim.Native.Nat.{ℕ, _*_, _+_, _-_, _≤_}
-use mathlib.Core.List.{List}
-use mathlib.Core.Bool.{_&&_, and-assoc, and-true}
-use mathlib.Core.Path.{_≡_, refl, sym, _∙_, ap}
-use native.Mathlib.Nat.{le-refl}
-use native.Mathlib.Omega.{arith}
+use Prim.Native.Nat.{_*_}
+use mathlib.Core.Path.{refl}
 use denote.Ref.{now}
-use lib.Dec.{ltb}
+use lib.ListN.{length}
+use borrow.Author.Tests.{lt-leb, le-leb}
 use borrow.Author.Needs.{needs}
-use Rattle.wire.specs.Lists.{total}
-use Rattle.network_message.specs.Payload.{allPositive, listed}
-use Rattle.network_message.proofs.Tallies.{listed-step, listed-done}
-use Rattle.wire.specs.Number.{le}
 use Rattle.network_message.proofs.payload.tally_listed.Statement.{statement}
 use Rattle.network_message.proofs.payload.tally_listed.Tie as tie
 
-abbrev Inv-loop : tie.InvT-loop
-Inv-loop s n p₀ left₀ sum₀ each₀ p left sum each =
-    (left ≤ n) × (p + 2 * left ≡ 2 * n) × (sum + total (listed left s p) ≡ total (listed n s 0))
-    × ((each && allPositive (listed left s p)) ≡ allPositive (listed n s 0)) × (sum + 65535 * left ≤ 65535 * n)
-
-abbrev μ-loop : tie.MeasureT-loop
-μ-loop s n p₀ left₀ sum₀ each₀ p left sum each = left
-
-loop-holds : tie.Need-loop-holds Inv-loop μ-loop
-loop-holds c =
-    (le-refl _, omega arith, omega arith, refl, omega arith)
-
-loop-again : tie.Need-loop-again Inv-loop μ-loop
-loop-again c =
-    let at-loop-test = c .before in
-    let at-loop = at-loop-test .before in
-    let args = at-loop .before .before .args in
-    let s = now (args .list) in let l = at-loop .loop in let e = listed-step (l .left) s (l .p) (at-loop-test .loop-test .taken) in let z = c .number-at .result in (
-      omega arith,
-      omega arith,
-      omega (arith, ap total e, c .number-at .ensures .0, l .inv .2),
-      ap (λ (k : ℕ). (l .each && ltb 0 k) && allPositive (listed (l .left - 1) s (l .p + 2))) (c .number-at .ensures .0)
-          ∙ and-assoc (l .each) (ltb 0 (le 2 s (l .p))) (allPositive (listed (l .left - 1) s (l .p + 2))) ∙ ap (λ (x : List ℕ). l .each && allPositive x) (sym e) ∙ l .inv .3,
-      omega arith,
-    )
-
-returns : tie.Need-returns Inv-loop μ-loop
+returns : tie.Need-returns
 returns c =
-    let at-loop = c .before in
-    let args = at-loop .before .before .args in
-    let s = now (args .list) in let l = at-loop .loop in let e = listed-done (l .left) s (l .p) (c .loop-test .left) in
-    (omega (arith, ap total e, l .inv .2), sym (and-true (l .each)) ∙ ap (λ (x : List ℕ). l .each && allPositive x) (sym e) ∙ l .inv .3, omega arith)
+    let args = c .before .before .args in
+    let short = lt-leb (2 * args .n) (length (now (args .list))) (c .if1 .taken) in
+    (rw short, rw short)
+
+returns-2 : tie.Need-returns-2
+returns-2 c =
+    let args = c .before .before .before .args in
+    let whole = le-leb (2 * args .n) (length (now (args .list))) (c .before .if1 .left) in
+    (rw whole (c .tally-whole .ensures .0), rw whole (c .tally-whole .ensures .1))
 
 pub tally-listed-spec : {M : Type 1} → statement M
 tally-listed-spec =
     tie.close
-    (tie.spec
-    Inv-loop
-    μ-loop
-    loop-holds
-    (λ c κs. search needs)
-    (λ c. search needs)
-    (λ c. search needs)
-    (λ c. search needs)
-    (λ c. search needs)
-    loop-again
-    returns)
+    (tie.spec (λ c. search needs) returns (λ c κs. search needs) returns-2)

@@ -1,0 +1,39 @@
+-- `network_message::payload::number_within` meets its contract.
+-- Assumes nothing.
+use native.Mathlib.Omega.{arith}
+use Prim.Native.Nat.{_+_}
+use borrow.Author.Needs.{needs}
+use Rattle.network_message.proofs.payload.number_within.Statement.{statement}
+use Rattle.network_message.proofs.payload.number_within.Tie as tie
+
+cast-result : tie.Need-cast-result
+cast-result c = omega (arith, c .shared-slice-known .given (c .before .args .at))
+
+cast-result-2 : tie.Need-cast-result-2
+cast-result-2 c =
+    omega (arith, c .shared-slice-known2 .given (c .before .before .args .at + 1))
+
+mul-result : tie.Need-mul-result
+mul-result c =
+    omega (arith, c .shared-slice-known2 .given (c .before .before .args .at + 1))
+
+add-result-2 : tie.Need-add-result-2
+add-result-2 c =
+    omega (arith, c .before .shared-slice-known .given (c .before .before .args .at), c .shared-slice-known2 .given (c .before .before .args .at + 1))
+
+returns : tie.Need-returns
+returns c =
+    (search needs, omega (arith, c .before .shared-slice-known .given (c .before .before .args .at), c .shared-slice-known2 .given (c .before .before .args .at + 1)))
+
+pub number-within-spec : {M : Type 1} → statement M
+number-within-spec =
+    tie.close
+    (tie.spec
+    (λ c. search needs)
+    cast-result
+    (λ c. search needs)
+    (λ c. search needs)
+    cast-result-2
+    mul-result
+    add-result-2
+    returns)
