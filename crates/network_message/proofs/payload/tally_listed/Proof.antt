@@ -1,7 +1,6 @@
 -- `network_message::payload::tally_listed` meets its contract.
 -- Assumes nothing.
 use Prim.Native.Nat.{_*_}
-use mathlib.Core.Path.{refl}
 use denote.Ref.{now}
 use lib.ListN.{length}
 use borrow.Author.Tests.{lt-leb, le-leb}

@@ -5,7 +5,7 @@ use denote.Ref.{now}
 use mathlib.Core.List.{List}
 use lib.ListN.{length, take, drop}
 use mathlib.Core.Path.{_≡_, refl, ap, _∙_}
-use Prim.Native.Nat.{ℕ, _≤_, _<_, _+_, _-_}
+use Prim.Native.Nat.{ℕ, _≤_, _+_, _-_}
 use native.Mathlib.Nat.{add-sub-cancel-left}
 use native.Mathlib.Omega.{arith}
 use borrow.Author.Needs.{needs}
@@ -25,21 +25,23 @@ loop-holds c = (omega arith, c .before .before .pre, refl, refl)
 
 loop-less : tie.Need-loop-less Inv-loop μ-loop
 loop-less c =
-    let at-in = c .before .before .before .before .before in
+    let at-copy = c .before .before in
+    let at-in = at-copy .before .before .before in
     let left : 1 ≤ at-in .in-block .result = at-in .in-block .ensures .2 (omega arith) in
     omega (arith, at-in .in-block .ensures .0, left)
 
 loop-again : tie.Need-loop-again Inv-loop μ-loop
 loop-again c =
-    let at-in = c .before .before .before .before .before in
+    let at-copy = c .before .before in
+    let at-in = at-copy .before .before .before in
     let at-loop = at-in .before .before in
     let start = at-loop .before .before .before in
     let src = now (start .args .src) in
     let i = at-loop .loop .i in
     let n = at-in .in-block .result in
     let within : i + n ≤ length src = omega (arith, at-in .in-block .ensures .0) in
-    let stored : c .before .before .copy-block .last .0 ≡ sets (now (start .args .out)) (start .args .at) (take (i + n) src)
-    = c .before .before .copy-block .ensures ∙ ap (λ (k : ℕ). sets (at-loop .loop .out) (start .args .at + i) (take k (drop i src))) (add-sub-cancel-left i n)
+    let stored : at-copy .copy-block .last .0 ≡ sets (now (start .args .out)) (start .args .at) (take (i + n) src)
+    = at-copy .copy-block .ensures ∙ ap (λ (k : ℕ). sets (at-loop .loop .out) (start .args .at + i) (take k (drop i src))) (add-sub-cancel-left i n)
     ∙ ap (λ (l : List ℕ). sets l (start .args .at + i) (take n (drop i src))) (at-loop .loop .inv .3) ∙ run-part src (now (start .args .out)) (start .args .at) i n (omega arith) in
     (within, at-loop .loop .inv .1, ap length stored ∙ length-sets (now (start .args .out)) (start .args .at) (take (i + n) src), stored)
 
