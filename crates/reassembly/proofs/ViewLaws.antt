@@ -1,19 +1,21 @@
--- Laws of views and of lists that a view is laid into. A loop that lays a view in from low offsets to high ones keeps the equation
+-- Laws of views and of lists that a view is laid into. What is laid in from low offsets to high ones goes by the equation
 -- `payload ≡ overlaid (upTo i v) payload₀`: `laid-start`, `laid-step` and `laid-end` are its steps. Assumes nothing.
 use Prim.Native.Nat.{ℕ, zero, suc, _+_, _-_, _≤_, _<_}
 use mathlib.Core.Path.{_≡_, refl, sym, ap, _∙_, fun-ext}
 use mathlib.Core.Bool.{Bool, true, false, cond, not, _&&_}
 use mathlib.Core.List.{List}
 use mathlib.Core.Option.{Option, some, none, orElse, Option·getD}
-use native.Mathlib.Nat.{le-of-suc-le-suc, not-suc-le-zero}
+use native.Mathlib.Nat.{le-of-suc-le-suc, le-refl, not-suc-le-zero}
+use native.Mathlib.Numerals.{add-one}
 use native.Mathlib.Omega.{arith}
-use lib.ListN.{length, getD, set, length-set}
-use lib.Seq.{ext-getD, getD-set-same, getD-set-other}
+use lib.ListN.{length, getD, set, take, length-set}
+use lib.Seq.{sets, take-length, ext-getD, getD-set-same, getD-set-other}
 use lib.Dec.{ltb, eqb}
 use borrow.Author.Tests.{lt-ltb, le-ltb, le-leb, lt-leb, eqb-true, not-false}
 use Rattle.reassembly.specs.Views.{View, tabulate, isSome, has, onlyIf, dataView, between, nowhere, bothViews, differs, clash, full, overlaid}
 use Rattle.marks.specs.Offsets.{anyBelow, inRange}
 use Rattle.wire.proofs.Cases.{by-bool, by-eq, by-lt}
+use Rattle.wire_writer.proofs.Stores.{run-step}
 use Rattle.marks.proofs.OffsetLaws.{any-none, all-every, none-any, every-all}
 
 -- ---- lists by their elements
@@ -51,7 +53,7 @@ upTo-below n v i h = rw (lt-ltb i n h)
 upTo-above : (n : ℕ) (v : View) (i : ℕ) → n ≤ i → upTo n v i ≡ none
 upTo-above n v i h = rw (le-ltb i n h)
 
-pub laid-start : (v : View) (p : List ℕ) (n : ℕ) → ((i : ℕ) → i < n → v i ≡ none) → p ≡ overlaid (upTo n v) p
+laid-start : (v : View) (p : List ℕ) (n : ℕ) → ((i : ℕ) → i < n → v i ≡ none) → p ≡ overlaid (upTo n v) p
 laid-start v p n e =
     ext-getD 0 p (overlaid (upTo n v) p) (simp length-laid)
     (λ i h. sym (getD-laid (upTo n v) p i h ∙ ap (λ (o : Option ℕ). Option·getD o (getD p i 0)) (nothing i)))
@@ -59,7 +61,7 @@ laid-start v p n e =
     nothing : (i : ℕ) → upTo n v i ≡ none
     nothing i = by-lt _ i n (λ l. upTo-below n v i l ∙ e i l) (λ l. upTo-above n v i l)
 
-pub laid-end : (v : View) (p : List ℕ) (n : ℕ) → ((i : ℕ) → n ≤ i → v i ≡ none) → overlaid (upTo n v) p ≡ overlaid v p
+laid-end : (v : View) (p : List ℕ) (n : ℕ) → ((i : ℕ) → n ≤ i → v i ≡ none) → overlaid (upTo n v) p ≡ overlaid v p
 laid-end v p n e =
     laid-ext (upTo n v) v p
     (λ i h. by-lt _ i n (λ l. upTo-below n v i l) (λ l. upTo-above n v i l ∙ sym (e i l)))
@@ -71,7 +73,7 @@ upTo-more n v i ne =
     (λ l. upTo-above (n + 1) v i (omega arith) ∙ sym (upTo-above n v i l))
 
 -- a turn stores the view's byte at n, or what stands there
-pub laid-step : (v : View) (p : List ℕ) (n x : ℕ) → n < length p → x ≡ Option·getD (v n) (getD p n 0) → set (overlaid (upTo n v) p) n x ≡ overlaid (upTo (n + 1) v) p
+laid-step : (v : View) (p : List ℕ) (n x : ℕ) → n < length p → x ≡ Option·getD (v n) (getD p n 0) → set (overlaid (upTo n v) p) n x ≡ overlaid (upTo (n + 1) v) p
 laid-step v p n x hn e =
     ext-getD 0 (set (overlaid (upTo n v) p) n x) (overlaid (upTo (n + 1) v) p) (simp (length-set, length-laid))
     (λ i h. let k : i < length p = simp (length-set, length-laid) at h in
@@ -154,6 +156,20 @@ data-below at d i h = rw (lt-leb at i h)
 pub data-above : (at : ℕ) (d : List ℕ) (i : ℕ) → at + length d ≤ i → dataView at d i ≡ none
 unfolding dataView
 data-above at d i h = rw (le-leb at i (omega arith), le-ltb i (at + length d) h)
+
+-- a run of bytes stored at its offset, as far as its first j bytes, and whole
+laid-front : (d p : List ℕ) (at j : ℕ) → j ≤ length d → at + length d ≤ length p → sets p at (take j d) ≡ overlaid (upTo (at + j) (dataView at d)) p
+laid-front d p at zero h k = laid-start (dataView at d) p (at + 0) (λ i l. data-below at d i (omega arith))
+laid-front d p at (suc j) h k =
+    let l : j < length d = omega arith in
+    let byte = ap (λ (o : Option ℕ). Option·getD o (getD p (at + j) 0)) (data-at at d j l) in
+    ap (λ (n : ℕ). sets p at (take n d)) (sym (add-one j)) ∙ sym (run-step d p at j l) ∙ ap (λ (q : List ℕ). set q (at + j) (getD d j 0)) (laid-front d p at j (omega arith) k)
+    ∙ laid-step (dataView at d) p (at + j) (getD d j 0) (omega arith) (sym byte) ∙ ap (λ (n : ℕ). overlaid (upTo n (dataView at d)) p) (omega arith)
+
+pub laid-data : (d p : List ℕ) (at : ℕ) → at + length d ≤ length p → sets p at d ≡ overlaid (dataView at d) p
+laid-data d p at k =
+    ap (sets p at) (sym (take-length d)) ∙ laid-front d p at (length d) (le-refl (length d)) k
+    ∙ laid-end (dataView at d) p (at + length d) (λ i h. data-above at d i h)
 
 some-only : (b : Bool) (x : ℕ) → isSome (onlyIf b x) ≡ b
 some-only true x = refl

@@ -12,6 +12,7 @@ use marks::any_marked;
 use marks::choose;
 use marks::count_between;
 use marks::is_marked;
+use wire_writer::store::put_run;
 
 // A run ends at a multiple of so many offsets: 32 bytes of marks.
 const RUN: usize = 256;
@@ -33,12 +34,7 @@ pub(crate) fn store_data(payload: &mut [u8], offset: usize, bytes: &[u8])
     requires { ⌜ offset + length (now bytes) ≤ length (now payload) ⌝ }
     ensures { λ r. ⌜ now (payload .exit) ≡ overlaid (dataView offset (now (bytes .entry))) (now (payload .entry)) ⌝ }
 {
-    let mut j = 0;
-    while j < bytes.len() {
-        let at = offset + j;
-        payload[at] = bytes[j];
-        j += 1;
-    }
+    put_run(payload, offset, bytes);
 }
 
 // Stores the bytes of another area from start up to end.
