@@ -54,6 +54,7 @@ ghost use Prim.Native.Nat.{_≤_};
 ghost use lib.ListN.{length};
 ghost use Rattle.network_header.specs.Envelope.{FitsEnvelope};
 ghost use Rattle.network_header.specs.Numbers.{configuredSizes};
+ghost use Rattle.wire_writer.specs.Fits.{Bytes, Numbers};
 ghost use Rattle.wire_writer.specs.Writing.{Puts, Writes, writing};
 ghost use Rattle.network_message_writer.specs.Payload.{payloadRefusal};
 ghost use Rattle.network_message_writer.specs.Envelope.{givenDatagram, tailBytes, envelopeBytes, datagramOf, headerRefusal, shapeRefusal, datagramRefusal, datagramOutput, againOf, datagramAgain};
@@ -268,7 +269,10 @@ pub fn write(
         let lists = givenDatagram (now (text .entry)) (now (ids .entry)) (now (promoted .entry)) in
         let g = lists (now (lengths .entry)) (now (messages .entry)) in
         let output = datagramOutput g x (now (sizes .entry)) (now (configured .entry)) in
-        ⌜ FitsEnvelope x × Writes output (now (out .entry)) (now (out .exit)) r ⌝ }
+        ⌜ FitsEnvelope x
+        × Writes output (now (out .entry)) (now (out .exit)) r
+        × Numbers (now (sizes .entry))
+        × Numbers (now (configured .entry)) ⌝ }
 {
     let number = refusal(x, text, ids, promoted, lengths, messages, sizes, configured);
     if number != 0 {
@@ -366,7 +370,7 @@ fn again(out: &mut [u8], s: &[u8], x: Envelope, places: Places) -> Written
 pub fn rewrite(out: &mut [u8], s: &[u8], sizes: &[u16]) -> Written
     ensures { λ r.
         let again = datagramAgain (now (sizes .entry)) (now (s .entry)) in
-        ⌜ Writes again (now (out .entry)) (now (out .exit)) r ⌝ }
+        ⌜ Bytes (now (s .entry)) × Writes again (now (out .entry)) (now (out .exit)) r ⌝ }
 {
     match read(s, sizes) {
         NetworkMessageRead::Refused(number, _) => Written::Refused(number),

@@ -18,6 +18,7 @@ ghost use Prim.Native.Nat.{_+_, _≤_};
 ghost use lib.ListN.{length};
 ghost use lib.Seq.{sets};
 ghost use Rattle.wire.specs.Number.{leBytes};
+ghost use Rattle.wire_writer.specs.Fits.{Bytes};
 ghost use Rattle.wire_writer.specs.Writing.{Writes, writing};
 ghost use Rattle.rewriting.specs.Same.{messageSame, datagramSame};
 
@@ -52,7 +53,7 @@ fn copy_with(out: &mut [u8], s: &[u8], at: usize, picoseconds: u16) -> Written
 pub fn rewrite_message(out: &mut [u8], message: &[u8], types: &[u8]) -> Written
     ensures { λ r.
         let same = messageSame (now (types .entry)) (now (message .entry)) in
-        ⌜ Writes same (now (out .entry)) (now (out .exit)) r ⌝ }
+        ⌜ Bytes (now (message .entry)) × Writes same (now (out .entry)) (now (out .exit)) r ⌝ }
 {
     match dataset_message::message::read(&*message, &*types) {
         MessageRead::NotValid => Written::Refused(DISAGREE),
@@ -72,7 +73,7 @@ pub fn rewrite_message(out: &mut [u8], message: &[u8], types: &[u8]) -> Written
 pub fn rewrite_datagram(out: &mut [u8], datagram: &[u8], sizes: &[u16]) -> Written
     ensures { λ r.
         let same = datagramSame (now (sizes .entry)) (now (datagram .entry)) in
-        ⌜ Writes same (now (out .entry)) (now (out .exit)) r ⌝ }
+        ⌜ Bytes (now (datagram .entry)) × Writes same (now (out .entry)) (now (out .exit)) r ⌝ }
 {
     match network_message::envelope::read(&*datagram, &*sizes) {
         NetworkMessageRead::Refused(number, _) => Written::Refused(number),
