@@ -4,18 +4,17 @@ use mathlib.Core.Path.{_≡_}
 use mathlib.Core.Bool.{true}
 use mathlib.Core.List.{List}
 use lib.ListN.{length, take}
-use Rattle.wire_writer.specs.Writing.{Writes}
 use Rattle.wire_writer.specs.declared.writing.Written.{Written}
 use Rattle.publisher_id.specs.PublisherRecord.{publisherOf, recordAt}
-use Rattle.network_header.specs.Envelope.{FitsEnvelope}
 use Rattle.network_header.specs.declared.envelope.Envelope.{Envelope}
 use Rattle.network_header.specs.declared.header.PayloadHeader.{PayloadHeader}
-use Rattle.network_message_writer.specs.Envelope.{GivenDatagram, datagramOutput}
+use Rattle.network_message_writer.specs.Envelope.{GivenDatagram}
 use Rattle.round_trip.specs.NetworkMessage.{placesOf}
 use Rattle.chunk.specs.Cutting.{cutAnswer, cutBuffer}
 use Rattle.chunk.specs.Datagram.{chunkGroupOf}
 use Rattle.reassembly.specs.Record.{Identity}
 use Rattle.reassembly_laws.specs.Cutting.{Arrival}
+use Rattle.acceptance.specs.Contracts.{WroteDatagram}
 
 -- the message id's payload p is cut into chunks of a data size: the datagram's bytes are what the envelope's writer wrote, with what
 -- cutting wrote for chunk k as its payload
@@ -26,7 +25,7 @@ pub record IsWritten (id : Identity) (p : List ℕ) (size k : ℕ) (a : Arrival)
   pub entry : List ℕ
   pub exit : List ℕ
   pub n : ℕ
-  pub wrote : FitsEnvelope envelope × Writes (datagramOutput given envelope (a .sizes) configured) entry exit (Written.Is n)
+  pub wrote : WroteDatagram given envelope (a .sizes) configured entry exit (Written.Is n)
   pub datagram : a .datagram ≡ take n exit
   pub chunk : envelope .chunk ≡ true
   pub writer : envelope .«payload_header» ≡ PayloadHeader.Chunk (id .origin .writer)

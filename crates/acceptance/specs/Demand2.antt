@@ -1,8 +1,7 @@
 -- DEMAND 2 as one type: a field for each sentence, the sentence above it. proofs/Demand2.antt gives a value of it. "Headers, messages and
 -- fields are found exactly as document 01 lays them out": each reader's contract is an equation with a definition that reads like document
 -- 01's sentences (docs/TRACE.md leads to them). What is left to say is that nothing is left out, and the round trips. The premises are the
--- contracts of the writers and of rewriting: what they were given, what they answered, and the buffer before and after. That numbers and
--- bytes fit their types is a part of these contracts.
+-- contracts of the writers and of rewriting (Contracts): what they were given, what they answered, and the buffer before and after.
 use Prim.Native.Nat.{ℕ, _*_, _≤_, _<_}
 use mathlib.Core.Path.{_≡_}
 use mathlib.Core.Bool.{Bool, true, false, cond}
@@ -14,17 +13,15 @@ use Rattle.wire.specs.Constants.{DISAGREE, MOST_DATAGRAM, NOT_PERMITTED, PICOSE
 use Rattle.wire.specs.Number.{le}
 use Rattle.wire.specs.Answer.{got, refused, bit}
 use Rattle.wire.specs.declared.optional.Optional16.{Optional16}
-use Rattle.wire_writer.specs.Writing.{Writes, writing, refusing, unless, orElse, on16}
-use Rattle.wire_writer.specs.Fits.{Bytes, Numbers}
+use Rattle.wire_writer.specs.Writing.{writing, refusing, unless, orElse, on16}
 use Rattle.wire_writer.specs.declared.writing.Written.{Written}
 use Rattle.config.specs.Writers.{typesOf}
 use Rattle.publisher_id.specs.Publisher.{publisherOn}
 use Rattle.network_header.specs.Envelope as envelope
-use Rattle.network_header.specs.Envelope.{FitsEnvelope}
 use Rattle.network_header.specs.declared.envelope.Envelope.{Envelope}
 use Rattle.network_header.specs.declared.header.PayloadHeader.{PayloadHeader}
 use Rattle.probe.specs.declared.body.Probe.{Probe}
-use Rattle.probe.specs.Put.{FitsProbe, listIn, probeOutput}
+use Rattle.probe.specs.Put.{listIn}
 use Rattle.network_message.specs.Payload.{OfMessages}
 use Rattle.network_message.specs.WriterId.{writerIdOf}
 use Rattle.network_message.specs.Envelope.{NetworkMessage, networkMessageAt, messagePlaceAt, messageBytes}
@@ -36,7 +33,6 @@ use Rattle.dataset_message.specs.Message.{Message, messageAt}
 use Rattle.dataset_message_writer.specs.Message as M
 use Rattle.round_trip.specs.NetworkMessage as network
 use Rattle.round_trip.specs.DataSetMessage.{MessageBack, PartsAgree, ReadingRefuses, Tellable}
-use Rattle.rewriting.specs.Same.{messageSame, datagramSame}
 use Rattle.reassembly.specs.Record.{Partial, Identity, roomOf, Good}
 use Rattle.reassembly_laws.specs.Cutting.{Arrival, AllArrive, Restored}
 use Rattle.records.specs.Sizes.{PROBE_SIZE}
@@ -49,6 +45,7 @@ use Rattle.walk.specs.declared.lines.LineCursor.{LineCursor}
 use Rattle.walk_records.specs.Walk.{walkRecords, lineRecords, NoneRefused}
 use Rattle.acceptance.specs.Tiles.{MessagesTile, FieldsTile}
 use Rattle.acceptance.specs.Again.{CopiedTo, Below, Holds}
+use Rattle.acceptance.specs.Contracts.{WroteDatagram, WroteMessage, WroteProbe, RewroteDatagram, RewroteParts, RewroteMessage}
 use Rattle.acceptance.specs.Chunks.{IsWritten}
 use Rattle.acceptance.specs.Probes.{ProbeBack, ProbeDatagramBack}
 
@@ -59,32 +56,6 @@ typesGiven w g k = typesOf (w .ids) (w .starts) (w .types) (Optional16.Is (le 2 
 abbrev pub typesRead : Writers → NetworkMessage → List ℕ → ℕ → List ℕ
 typesRead w m d k =
     typesOf (w .ids) (w .starts) (w .types) (writerIdOf (m .envelope .«payload_header») (m .places .«payload_header_end») (w .ids) k d)
-
--- ---- the contracts: of the buffer `entry` before, `exit` after, and the answer r
-
--- `network_message_writer::envelope::write`
-abbrev pub WroteDatagram : N.GivenDatagram → Envelope → List ℕ → List ℕ → List ℕ → List ℕ → Written → Type 0
-WroteDatagram g x sizes configured entry exit r =
-    FitsEnvelope x × Writes (N.datagramOutput g x sizes configured) entry exit r × Numbers sizes × Numbers configured
-
--- `dataset_message_writer::message::write`
-abbrev pub WroteMessage : List ℕ → M.GivenMessage → List ℕ → List ℕ → Written → Type 0
-WroteMessage types m entry exit r = M.FitsGiven m × Writes (M.messageOutput types m) entry exit r
-
--- `probe::put::write`
-abbrev pub WroteProbe : List ℕ → Probe → List ℕ → List ℕ → Written → Type 0
-WroteProbe list p entry exit r = FitsProbe p × Writes (probeOutput list p) entry exit r
-
--- `rewriting::rewrite_datagram`, and `network_message_writer::envelope::rewrite`, which puts the parts together again
-abbrev pub RewroteDatagram : List ℕ → List ℕ → List ℕ → List ℕ → Written → Type 0
-RewroteDatagram sizes s entry exit r = Bytes s × Writes (datagramSame sizes s) entry exit r
-
-abbrev pub RewroteParts : List ℕ → List ℕ → List ℕ → List ℕ → Written → Type 0
-RewroteParts sizes s entry exit r = Bytes s × Writes (N.datagramAgain sizes s) entry exit r
-
--- `rewriting::rewrite_message`
-abbrev pub RewroteMessage : List ℕ → List ℕ → List ℕ → List ℕ → Written → Type 0
-RewroteMessage types s entry exit r = Bytes s × Writes (messageSame types s) entry exit r
 
 -- what was written, as a claim about the buffer: its first n bytes are d, which P says something of, and the rest is as it was
 abbrev pub InBuffer : List ℕ → List ℕ → ℕ → (List ℕ → Type 0) → Type 0
@@ -150,6 +121,10 @@ pub record Demand2 : Type 0 where
       → RewroteDatagram sizes s entry exit r → publisherOn (m .envelope .publisher) ≡ true → on16 (m .envelope .picoseconds) ≡ true
       → PICOSECONDS_END ≤ le 2 s (envelope.picosecondsPlace (m .envelope) (m .places))
       → Holds (envelope.picosecondsPlace (m .envelope) (m .places)) s (network.rewritten m s)
+  -- With a PublisherId nothing but the PicoSeconds can differ.
+  pub rewritten-with-publisher : (sizes s entry exit : List ℕ) (r : Written) (m : NetworkMessage) (n : ℕ)
+      → networkMessageAt sizes s ≡ got m n → RewroteDatagram sizes s entry exit r → publisherOn (m .envelope .publisher) ≡ true
+      → network.rewritten m s ≡ envelope.envelopeHeld (m .envelope) (m .places) s
   -- "a message handed on as bytes keeps its own": whatever the header, the payload stands behind it as it stood.
   pub payload-handed-on : (sizes s entry exit : List ℕ) (r : Written) (m : NetworkMessage) (n : ℕ) → networkMessageAt sizes s ≡ got m n
       → RewroteDatagram sizes s entry exit r → (header : List ℕ) × (network.rewritten m s ≡ header ++ drop (m .places .payload) s)

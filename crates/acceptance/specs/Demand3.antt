@@ -33,7 +33,6 @@ use Rattle.reassembly_laws.specs.Layouts.{SameButMarks, SameCalls, SameHistory,
 use Rattle.config_text.specs.Config.{configOf}
 use Rattle.records.specs.Result.{filledIn}
 use Rattle.wire.specs.Answer.{got}
-use Rattle.wire_writer.specs.Fits.{Bytes}
 use Rattle.network_message.specs.Envelope.{NetworkMessage, networkMessageAt}
 use Rattle.dataset_header.specs.Flags.{valid}
 use Rattle.dataset_message.specs.Message.{messageAt, Message as DataSetMessage}
@@ -113,22 +112,21 @@ pub record Demand3 : Type 0 where
   pub config-read-back : (text r : List ℕ) → configOf text .number ≡ 0 → CONFIG_SIZE ≤ length r
       → ConfigBack (filledIn (configFilling (configOf text)) r) (configOf text .config)
   -- Walking by calls is document 01's walk: from the record that uadp_read filled uadp_next_message tells the messages one after the other,
-  -- from that of uadp_read_message uadp_next_field the fields, each found where lookup finds it; the call after the last answers 10. (Each
-  -- element of a lent slice of bytes is below 256, and its length is a number of 8 bytes.)
+  -- from that of uadp_read_message uadp_next_field the fields, each found where lookup finds it; the call after the last answers 10.
   pub messages-by-calls : (d config : List ℕ) (m : NetworkMessage) (n : ℕ) (entry : List ℕ) (result : ℕ) (envelope : List ℕ)
       → networkMessageAt (sizesIn config) d ≡ got m n → ENVELOPE_SIZE ≤ length entry → EnvelopeRead d config entry result envelope
       → MessagesByCalls d config m envelope
   pub fields-by-calls : (s config : List ℕ) (writer : ℕ) (m : DataSetMessage) (n : ℕ) (entry : List ℕ) (result : ℕ) (head : List ℕ)
-      → Bytes s → length s < 256 ^ 8 → messageAt (typesFor config writer) s ≡ got (valid m) n → HEAD_SIZE ≤ length entry
+      → messageAt (typesFor config writer) s ≡ got (valid m) n → HEAD_SIZE ≤ length entry
       → HeadRead s config writer entry result head → FieldsByCalls s config writer m head
   -- Read, then write the record, gives the bytes, also after some steps of its cursor: of a datagram, but for the two exceptions, and of a
   -- message, but for the second.
   pub datagram-again-by-calls : (d config : List ℕ) (m : NetworkMessage) (n : ℕ) (entry : List ℕ) (result : ℕ) (envelope : List ℕ)
-      → Bytes d → Bytes config → networkMessageAt (sizesIn config) d ≡ got m n → ENVELOPE_SIZE ≤ length entry
+      → networkMessageAt (sizesIn config) d ≡ got m n → ENVELOPE_SIZE ≤ length entry
       → EnvelopeRead d config entry result envelope → (ps : List (List ℕ)) (ys : List MessageCall) → AllLong PLACE_SIZE ps
       → length ps ≤ m .payload .count → MessageCalls d config ps envelope ys → DatagramAgain d config m (lastEnvelope envelope ys)
   pub message-again-by-calls : (s config : List ℕ) (writer : ℕ) (m : DataSetMessage) (n : ℕ) (entry : List ℕ) (result : ℕ) (head : List ℕ)
-      → Bytes s → length s < 256 ^ 8 → messageAt (typesFor config writer) s ≡ got (valid m) n → HEAD_SIZE ≤ length entry
+      → messageAt (typesFor config writer) s ≡ got (valid m) n → HEAD_SIZE ≤ length entry
       → HeadRead s config writer entry result head → (fs : List (List ℕ)) (ys : List FieldCall) → AllLong FIELD_SIZE fs
       → length fs ≤ m .cursor .count → FieldCalls s config writer fs head ys → MessageAgain s config writer m (lastHead head ys)
   -- ---- HOWEVER MARKS ARE HELD (document 02, Req 11). Both forms are what a form of marks has to be. From emptying, calls that are the

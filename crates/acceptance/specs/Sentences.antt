@@ -1,5 +1,5 @@
 -- Single sentences of document 01 that hold beside the three demands, one field each.
-use Prim.Native.Nat.{ℕ, _+_, _*_, _%_, _≤_, _<_}
+use Prim.Native.Nat.{ℕ, _+_, _*_, _-_, _%_, _≤_, _<_}
 use mathlib.Core.Path.{_≡_}
 use mathlib.Core.Bool.{true, false}
 use mathlib.Core.List.{List, _∷_, _++_}
@@ -7,7 +7,6 @@ use mathlib.Core.Option.{some}
 use lib.ListN.{length, getD, take, drop}
 use Rattle.wire.specs.Constants.{MOST_FIELDS, MOST_WRITERS, OVER_LIMIT}
 use Rattle.wire.specs.Answer.{got, refused}
-use Rattle.wire_writer.specs.Fits.{Bytes}
 use Rattle.wire_writer.specs.declared.writing.Written.{Written}
 use Rattle.text.specs.Decimal.{isDigit, decimalAt, decimalText}
 use Rattle.text.specs.Hex.{hexOf, hexText}
@@ -15,7 +14,6 @@ use Rattle.text.specs.declared.decimal.Decimal.the-variants.{Is}
 use Rattle.sequence.specs.Newness.{distanceOf}
 use Rattle.config_text.specs.Config.{configOf}
 use Rattle.dataset_header.specs.Flags.{valid}
-use Rattle.dataset_header.specs.Header.{FitsHeader}
 use Rattle.dataset_fields.specs.Fields.{nextFieldAt, cursorBefore}
 use Rattle.dataset_fields.specs.declared.fields.Cursor.{Cursor}
 use Rattle.dataset_fields.specs.declared.fields.Field.{Field}
@@ -25,6 +23,9 @@ use Rattle.round_trip.specs.DataSetMessage.{MessageBack, fieldsRead}
 use Rattle.chunk.specs.Payload.{chunkPayloadAt}
 use Rattle.chunk.specs.Cutting.{cutRule, cutAnswer, cutBuffer, cutData, chunkBytes}
 use Rattle.uadp_c.specs.Chunks.{chunkCount}
+use Rattle.walk.specs.declared.entry.Line.{Line}
+use Rattle.listing.specs.declared.line.LinePut.{LinePut}
+use Rattle.acceptance.specs.Contracts.{WroteMessage, PutLine}
 
 pub record Sentences : Type 0 where
   -- "d = (received - 1 - last) modulo 65,536": the number by which the last one and 1 reach the received one
@@ -33,8 +34,9 @@ pub record Sentences : Type 0 where
   -- "decimals without leading zeros": one that was put reads back, up to the byte that ends it
   pub decimals : (end : ℕ) (rest : List ℕ) (limit n : ℕ) (s : List ℕ) (at : ℕ) → isDigit end ≡ false → n ≤ limit
       → drop at s ≡ decimalText n ++ end ∷ rest → decimalAt limit end s at ≡ Is n (at + length (decimalText n) + 1)
-  -- "a string id is lower-case hex": bytes that were put read back
-  pub hex : (s : List ℕ) → Bytes s → hexOf (hexText s) ≡ some s
+  -- "a string id is lower-case hex": the bytes of one in a datagram whose line was put, n bytes that end at a position, read back
+  pub hex : (d entry exit : List ℕ) (line : Line) (r : LinePut) → PutLine d line entry exit r → (n end : ℕ)
+      → hexOf (hexText (take n (drop (end - n) d))) ≡ some (take n (drop (end - n) d))
   -- "At most 16 writers, 64 fields in all", whatever the text
   pub within : (text : List ℕ) → (configOf text .config .writers ≤ MOST_WRITERS) × (configOf text .config .fields ≤ MOST_FIELDS)
   -- "a step after the last field, is 10"
@@ -53,5 +55,5 @@ pub record Sentences : Type 0 where
   pub counted : (total size k : ℕ) → cutRule total size 0 ≡ 0
       → (k < chunkCount total size → cutRule total size k ≡ 0) × (chunkCount total size ≤ k → cutRule total size k ≡ OVER_LIMIT)
   -- "what would read back otherwise .. by 6": what reading accepts and reads back as given is not refused by 6 for its body
-  pub six : (types : List ℕ) (g : GivenMessage) → FitsHeader (g .header) → messageReadingRefusal types g ≡ 0
-      → MessageBack types g (encode g) → bodyAgrees types g ≡ true
+  pub six : (types : List ℕ) (g : GivenMessage) (entry exit : List ℕ) (r : Written) → WroteMessage types g entry exit r
+      → messageReadingRefusal types g ≡ 0 → MessageBack types g (encode g) → bodyAgrees types g ≡ true

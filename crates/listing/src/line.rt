@@ -24,6 +24,7 @@ ghost use Prim.Native.Nat.{_+_, _≤_};
 ghost use lib.ListN.{length};
 ghost use mathlib.Core.List.{_++_};
 ghost use Rattle.text.specs.Decimal.{decimalText};
+ghost use Rattle.wire_writer.specs.Fits.{Bytes};
 ghost use Rattle.listing.specs.Columns.{tabbed, lineEnd, optionalText, Put};
 ghost use Rattle.listing.specs.Line.{badWord, invalidWord, kindWord, encodingWord, idTooLong, tooLong, idText, netText, placeText, headText, refusalText, valueText, fieldText, lineText, linePut, lineAfter, putLength};
 
@@ -241,7 +242,8 @@ pub fn put_line(out: &mut [u8], s: &[u8], line: Line) -> LinePut
     ensures { λ r.
         ⌜ (r ≡ linePut (now (out .entry)) (now (s .entry)) line)
         × (now (out .exit) ≡ lineAfter (now (out .entry)) (now (s .entry)) line)
-        × (putLength r ≤ 256) ⌝ }
+        × (putLength r ≤ 256)
+        × Bytes (now (s .entry)) ⌝ }
 {
     if too_long(line) {
         return LinePut::Refused(OVER_LIMIT);
