@@ -38,7 +38,6 @@ use Rattle.round_trip.proofs.DataSetMessage as message
 use Rattle.round_trip.proofs.DataSetMessageNumber as number
 use Rattle.round_trip.proofs.DataSetMessageRefused as plain
 use Rattle.round_trip.proofs.DataSetMessageOtherwise as otherwise
-use Rattle.chunk.proofs.CutLaws.{cut-wrote}
 use Rattle.chunk.specs.Datagram.{chunkWriterOf}
 use Rattle.reassembly.specs.Record.{Identity}
 use Rattle.reassembly_laws.specs.Cutting.{Arrival, IsCut, Only, Among, AllArrive}
@@ -168,7 +167,6 @@ module _ (id : Identity) (p : List ℕ) (size : ℕ) where
   is-cut : (k : ℕ) (a : Arrival) → IsWritten id p size k a → IsCut id p size k a
   is-cut k a t =
       let b = datagram.reads-back (t .given) (t .envelope) (a .sizes) (t .configured) (t .entry) (t .exit) (t .n) (t .wrote .0) (t .wrote .1) .0 in
-      let c = cut-wrote p (id .origin .number) size k (t .buffer) (t .m) (t .cut) in
       let m = network.writtenMessage (t .given) (t .envelope) (a .sizes) in
       record {
         message = m;
@@ -178,8 +176,11 @@ module _ (id : Identity) (p : List ℕ) (size : ℕ) where
         publisher = t .publisher;
         group = t .group;
         writer = ap chunkWriterOf (t .writer);
-        accepted = c .rule;
-        payload = ap (drop (m .payload .first)) (t .datagram) ∙ b .chunk (id .origin .writer) (t .writer) ∙ t .payload ∙ c .bytes;
+        buffer = t .buffer;
+        written = t .written;
+        n = t .m;
+        cut = t .cut;
+        payload = ap (drop (m .payload .first)) (t .datagram) ∙ b .chunk (id .origin .writer) (t .writer) ∙ t .payload;
       }
 
   only-cut : (l : List Arrival) → Only (IsWritten id p size) l → Only (IsCut id p size) l

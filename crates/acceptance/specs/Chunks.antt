@@ -3,14 +3,14 @@ use Prim.Native.Nat.{ℕ}
 use mathlib.Core.Path.{_≡_}
 use mathlib.Core.Bool.{true}
 use mathlib.Core.List.{List}
-use lib.ListN.{length, take}
+use lib.ListN.{take}
 use Rattle.wire_writer.specs.declared.writing.Written.{Written}
 use Rattle.publisher_id.specs.PublisherRecord.{publisherOf, recordAt}
 use Rattle.network_header.specs.declared.envelope.Envelope.{Envelope}
 use Rattle.network_header.specs.declared.header.PayloadHeader.{PayloadHeader}
 use Rattle.network_message_writer.specs.Envelope.{GivenDatagram}
 use Rattle.round_trip.specs.NetworkMessage.{placesOf}
-use Rattle.chunk.specs.Cutting.{cutAnswer, cutBuffer}
+use Rattle.chunk.specs.Cutting.{CutWrote}
 use Rattle.chunk.specs.Datagram.{chunkGroupOf}
 use Rattle.reassembly.specs.Record.{Identity}
 use Rattle.reassembly_laws.specs.Cutting.{Arrival}
@@ -33,6 +33,7 @@ pub record IsWritten (id : Identity) (p : List ℕ) (size k : ℕ) (a : Arrival)
   pub publisher : publisherOf
       (recordAt (envelope .publisher) (placesOf given envelope .«publisher_end») (a .datagram)) ≡ id .origin .publisher
   pub buffer : List ℕ
+  pub written : List ℕ
   pub m : ℕ
-  pub cut : cutAnswer p (id .origin .number) size k (length buffer) ≡ Written.Is m
-  pub payload : given .messages ≡ take m (cutBuffer p (id .origin .number) size k buffer)
+  pub cut : CutWrote p (id .origin .number) size k buffer written (Written.Is m)
+  pub payload : given .messages ≡ take m written

@@ -1,5 +1,5 @@
--- The contracts that claims have as premises: what a function was given, the buffer `entry` before and `exit` after it, and its answer r. That
--- numbers and bytes fit their types is a part of them.
+-- The contracts that claims have as premises: what a function was given, the buffer `entry` before and `exit` after it, and its answer r.
+-- That numbers and bytes fit their types is a part of them.
 use Prim.Native.Nat.{ℕ, _≤_}
 use mathlib.Core.Path.{_≡_}
 use mathlib.Core.List.{List}

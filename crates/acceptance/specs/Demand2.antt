@@ -107,7 +107,7 @@ pub record Demand2 : Type 0 where
   -- Cutting, the envelope's writer, taking in and handing out together: datagrams that were written with the payloads that cutting wrote,
   -- of one publisher and writer, restore the payload, in any order and some of them more than once.
   pub written-and-restored : (id : Identity) (p : List ℕ) (size : ℕ) (l : List Arrival) → AllArrive id p size (IsWritten id p size) l
-      → id .origin .number < 65536 → (s : Partial) → Good s → s .rec .started ≡ false → length p ≤ roomOf s → Restored p l s
+      → (s : Partial) → Good s → s .rec .started ≡ false → length p ≤ roomOf s → Restored p l s
   -- ---- AN ACCEPTED DATAGRAM WRITTEN AGAIN GIVES THE SAME BYTES, BUT FOR THE TWO NAMED CASES.
   pub datagram-again : (sizes s entry exit : List ℕ) (r : Written) (m : NetworkMessage) (n : ℕ) → networkMessageAt sizes s ≡ got m n
       → RewroteDatagram sizes s entry exit r → CopiedTo (network.rewritten m s) entry exit r
@@ -180,7 +180,8 @@ pub record Demand2 : Type 0 where
       → ReadingRefuses types m (M.messageReadingRefusal types m)
   -- The writer accepts exactly what reads back as given.
   pub datagram-accepted-exactly : (g : N.GivenDatagram) (x : Envelope) (sizes configured entry exit : List ℕ) (r : Written)
-      → WroteDatagram g x sizes configured entry exit r → network.PartsAgree g x sizes configured → length (N.datagramOf g x) ≤ MOST_DATAGRAM
+      → WroteDatagram g x sizes configured entry exit r → network.PartsAgree g x sizes configured
+      → length (N.datagramOf g x) ≤ MOST_DATAGRAM
       → (N.datagramRefusal g x sizes configured ≡ 0) ↔ network.ReadsBack g x sizes configured (N.datagramOf g x)
   pub message-accepted-exactly : (types : List ℕ) (m : M.GivenMessage) (entry exit : List ℕ) (r : Written)
       → WroteMessage types m entry exit r

@@ -2,7 +2,7 @@
 -- the contracts of reassembly/src/operations.rt say what each call `answers` and `leaves`, those of uadp_c/src/reassembling.rt that a
 -- call was `Called`. `Good` partials are the sound ones whose number of covered bytes is right, as that of one not started always is. The
 -- plain machine is reassembly/specs/Machine.antt; its state knows no number.
-use Prim.Native.Nat.{ℕ, _≤_, _<_, _%_, _^_}
+use Prim.Native.Nat.{ℕ, _≤_, _%_}
 use mathlib.Core.Path.{_≡_}
 use mathlib.Core.Logic.{_↔_}
 use mathlib.Core.Bool.{true, false}
@@ -86,11 +86,11 @@ pub record Demand3 : Type 0 where
   pub take-in-as-combine : (sizes d : List ℕ) (m : Message) (at : ℕ) (data-of : List ℕ) → readingAt sizes d ≡ chunk m at data-of
       → (s f : Partial) → Good s → Good f → stateOf f ≡ alone (readingAt sizes d) → AsPartial (takeIn s (readingAt sizes d)) (combine s f)
   -- ---- All chunks of a payload p, taken in in any order and some more than once, are accepted, complete it, and hand p out: datagrams
-  -- that read as its chunks, and datagrams of one publisher and writer whose payloads are what cutting wrote, with a number of 2 bytes.
+  -- that read as its chunks, and datagrams of one publisher and writer whose payloads are what cutting wrote.
   pub chunks-restore : (id : Identity) (p : List ℕ) (size : ℕ) (l : List Arrival) → AllArrive id p size (IsChunk id p size) l
       → (s : Partial) → Good s → s .rec .started ≡ false → length p ≤ roomOf s → Restored p l s
   pub cut-and-restored : (id : Identity) (p : List ℕ) (size : ℕ) (l : List Arrival) → AllArrive id p size (IsCut id p size) l
-      → id .origin .number < 65536 → (s : Partial) → Good s → s .rec .started ≡ false → length p ≤ roomOf s → Restored p l s
+      → (s : Partial) → Good s → s .rec .started ≡ false → length p ≤ roomOf s → Restored p l s
   -- ---- "Every refusal leaves all lent bytes and records unchanged", for sound and unsound partials, and hands nothing out.
   pub refused-leaves : (k : Call) (s : Partial) (n place : ℕ) → answers k s ≡ refused n place → leaves k s ≡ s
   pub refused-hands-nothing : (s : Partial) (n place : ℕ) → answers HandOut s ≡ refused n place → handOut s ≡ []
@@ -105,9 +105,9 @@ pub record Demand3 : Type 0 where
       → Right (heldIn b) → Right (heldIn a)
   -- A refusal, whose number is the result's low byte, leaves every lent byte as it was.
   pub lent-refused : (k : LentCall) (b a : Lent) → Called k b a → (a .result % 256 ≡ 0 → ⊥) → Unchanged b a
-  -- What is stored in a record, of any that the code's types can hold, is read back.
-  pub record-read-back : (k : PartialRecord) (r : List ℕ) → FitsRecord k → PARTIAL_SIZE ≤ length r
-      → partialIn (laid r 0 (partialBytes k)) ≡ k
+  -- What is stored in a record is read back: the premise is the contract of `partial_record::put_partial`.
+  pub record-read-back : (k : PartialRecord) (entry exit : List ℕ) → (exit ≡ laid entry 0 (partialBytes k)) × FitsRecord k
+      → PARTIAL_SIZE ≤ length entry → partialIn exit ≡ k
   -- And what uadp_config stores for a configuration text is what the library reads in the record.
   pub config-read-back : (text r : List ℕ) → configOf text .number ≡ 0 → CONFIG_SIZE ≤ length r
       → ConfigBack (filledIn (configFilling (configOf text)) r) (configOf text .config)

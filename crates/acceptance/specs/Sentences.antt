@@ -1,4 +1,4 @@
--- Single sentences of document 01 that hold beside the three demands, one field each.
+-- Single sentences of document 01 that hold beside the three demands, one field each. Premises that speak of a function are its contract.
 use Prim.Native.Nat.{ℕ, _+_, _*_, _-_, _%_, _≤_, _<_}
 use mathlib.Core.Path.{_≡_}
 use mathlib.Core.Bool.{true, false}
@@ -21,16 +21,16 @@ use Rattle.dataset_message.specs.Message.{Message, messageAt, fieldPlaceAt}
 use Rattle.dataset_message_writer.specs.Message.{GivenMessage, messageReadingRefusal, bodyAgrees, encode}
 use Rattle.round_trip.specs.DataSetMessage.{MessageBack, fieldsRead}
 use Rattle.chunk.specs.Payload.{chunkPayloadAt}
-use Rattle.chunk.specs.Cutting.{cutRule, cutAnswer, cutBuffer, cutData, chunkBytes}
+use Rattle.chunk.specs.Cutting.{cutRule, cutData, chunkBytes, CutWrote}
 use Rattle.uadp_c.specs.Chunks.{chunkCount}
 use Rattle.walk.specs.declared.entry.Line.{Line}
 use Rattle.listing.specs.declared.line.LinePut.{LinePut}
 use Rattle.acceptance.specs.Contracts.{WroteMessage, PutLine}
 
 pub record Sentences : Type 0 where
-  -- "d = (received - 1 - last) modulo 65,536": the number by which the last one and 1 reach the received one
-  pub distance : (last received : ℕ) → last ≤ 65535
-      → ((last + 1 + distanceOf last received) % 65536 ≡ received % 65536) × (distanceOf last received < 65536)
+  -- "d = (received - 1 - last) modulo 65,536", by `sequence::distance`: the number by which the last one and 1 reach the received one
+  pub distance : (last received d : ℕ) → (d ≡ distanceOf last received) × (last ≤ 65535)
+      → ((last + 1 + d) % 65536 ≡ received % 65536) × (d < 65536)
   -- "decimals without leading zeros": one that was put reads back, up to the byte that ends it
   pub decimals : (end : ℕ) (rest : List ℕ) (limit n : ℕ) (s : List ℕ) (at : ℕ) → isDigit end ≡ false → n ≤ limit
       → drop at s ≡ decimalText n ++ end ∷ rest → decimalAt limit end s at ≡ Is n (at + length (decimalText n) + 1)
@@ -46,9 +46,8 @@ pub record Sentences : Type 0 where
   pub looked-up : (types s : List ℕ) (m : Message) (end : ℕ) → messageAt types s ≡ got (valid m) end → (none : Field) (k : ℕ)
       → k < m .cursor .count → (next : ℕ) × (fieldPlaceAt types k s ≡ got (getD (fieldsRead types s m) k none) next)
   -- "Cutting writes chunk k's payload": the bytes that it reports read back as that chunk, its data after 14 bytes of numbers
-  pub cut : (p : List ℕ) (number size k : ℕ) → number < 65536 → (out : List ℕ) (n : ℕ)
-      → cutAnswer p number size k (length out) ≡ Written.Is n
-      → chunkPayloadAt (take n (cutBuffer p number size k out)) 0
+  pub cut : (p : List ℕ) (number size k : ℕ) (entry exit : List ℕ) (n : ℕ) → CutWrote p number size k entry exit (Written.Is n)
+      → chunkPayloadAt (take n exit) 0
       ≡ got (record { number = number; offset = k * size; total = length p; first = 14; length = length (cutData p size k) })
       (length (chunkBytes p number size k))
   -- "k past the last 10": where the first chunk is cut, all below the number that uadp_chunks tells are, and none from there on

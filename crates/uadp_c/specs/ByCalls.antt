@@ -38,8 +38,8 @@ AllLong n (r ∷ rs) = (n ≤ length r) × AllLong n rs
 
 -- ---- a message's fields
 
--- the contract of `uadp_read_message`, of a call on the head record `entry`: its result, and the record afterwards; and of the message, that
--- each element is a byte and its length a number of 8 bytes
+-- the contract of `uadp_read_message`, of a call on the head record `entry`: its result, and the record afterwards; and of the message,
+-- that each element is a byte and its length a number of 8 bytes
 pub record HeadRead (s config : List ℕ) (writer : ℕ) (entry : List ℕ) (result : ℕ) (exit : List ℕ) : Type 0 where
   pub answer : result ≡ resultIn (headFilling (messageAt (typesFor config writer) s)) entry
   pub filled : exit ≡ filledIn (headFilling (messageAt (typesFor config writer) s)) entry
@@ -110,8 +110,8 @@ pub record FieldsByCalls (s config : List ℕ) (writer : ℕ) (m : Message) (hea
 
 -- ---- a datagram's messages
 
--- the contract of `uadp_read`, of a call on the envelope record `entry`: its result, and the record afterwards; and that each element of the
--- datagram and of the configuration record is a byte
+-- the contract of `uadp_read`, of a call on the envelope record `entry`: its result, and the record afterwards; and that each element of
+-- the datagram and of the configuration record is a byte
 pub record EnvelopeRead (d config entry : List ℕ) (result : ℕ) (exit : List ℕ) : Type 0 where
   pub answer : result ≡ resultIn (envelopeFilling (networkMessageAt (sizesIn config) d)) entry
   pub filled : exit ≡ filledIn (envelopeFilling (networkMessageAt (sizesIn config) d)) entry
