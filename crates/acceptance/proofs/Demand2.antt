@@ -47,7 +47,8 @@ use Rattle.walk.proofs.Listing.{start-lists, step-lists}
 use Rattle.walk_records.proofs.Accepted.{walk-listed}
 use Rattle.uadp_c.proofs.AfterReading.{after-reading}
 use Rattle.acceptance.specs.Again.{CopiedTo, Below, Holds}
-use Rattle.acceptance.specs.Contracts.{WroteDatagram, WroteMessage, WroteProbe, RewroteDatagram, RewroteParts, RewroteMessage}
+use Rattle.rewriting.specs.Same.{RewroteDatagram, RewroteMessage}
+use Rattle.acceptance.specs.Probes.{WroteProbe}
 use Rattle.acceptance.specs.Chunks.{IsWritten}
 use Rattle.acceptance.specs.Demand2.{Demand2, typesGiven, typesRead}
 use Rattle.probe.specs.Put.{listIn, probeOutput}
@@ -88,10 +89,10 @@ parts-written sizes configured s m n b hs hc e =
     let z = write-read sizes configured s m n b hs hc e in
     ap (λ (k : ℕ). unless k (N.datagramOf g (m .envelope))) (z .0) ∙ ap writing (z .1)
 
-parts-again : (sizes s entry exit : List ℕ) (r : Written) (m : NetworkMessage) (n : ℕ) → networkMessageAt sizes s ≡ got m n → RewroteParts sizes s entry exit r
+parts-again : (sizes s entry exit : List ℕ) (r : Written) (m : NetworkMessage) (n : ℕ) → networkMessageAt sizes s ≡ got m n → N.RewroteParts sizes s entry exit r
     → CopiedTo (network.rewritten m s) entry exit r
     × ((configured entry-p exit-p : List ℕ) (r-p : Written)
-    → WroteDatagram (network.givenOf s (m .envelope) (m .places) sizes configured) (m .envelope) sizes configured entry-p exit-p r-p
+    → N.WroteDatagram (network.givenOf s (m .envelope) (m .places) sizes configured) (m .envelope) sizes configured entry-p exit-p r-p
     → CopiedTo (network.rewritten m s) entry-p exit-p r-p)
 parts-again sizes s entry exit r m n e w = (
   output-copied (network.rewritten m s) (N.datagramAgain sizes s) entry exit r (again-written sizes s m n (w .0) e) (w .1),
@@ -138,7 +139,7 @@ message-holds types s m n b q o h =
 
 -- ---- a whole datagram under one configuration
 module _ (w : Writers) (g : N.GivenDatagram) (x : Envelope) (entry exit : List ℕ) (n : ℕ)
-    (p : WroteDatagram g x (w .sizes) (w .ids) entry exit (Written.Is n)) where
+    (p : N.WroteDatagram g x (w .sizes) (w .ids) entry exit (Written.Is n)) where
   abbrev d : List ℕ
   d = take n exit
 
@@ -150,7 +151,7 @@ module _ (w : Writers) (g : N.GivenDatagram) (x : Envelope) (entry exit : List �
 
   whole : OfMessages (x .«payload_header») → (k : ℕ) → k < length (network.givenLengths g (x .«payload_header») (w .sizes)) → 2 * k < length (g .ids)
       → (m : M.GivenMessage) (entry-k exit-k : List ℕ) (n-k : ℕ)
-      → WroteMessage (typesGiven w g k) m entry-k exit-k (Written.Is n-k)
+      → M.WroteMessage (typesGiven w g k) m entry-k exit-k (Written.Is n-k)
       → network.messageGiven (network.givenLengths g (x .«payload_header») (w .sizes)) (g .messages) k ≡ take n-k exit-k
       → (messageBytes (messagePlaceAt (w .sizes) k d) d ≡ take n-k exit-k)
       × MessageBack (typesRead w (network.writtenMessage g x (w .sizes)) d k) m (messageBytes (messagePlaceAt (w .sizes) k d) d)

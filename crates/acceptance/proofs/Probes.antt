@@ -39,11 +39,10 @@ use Rattle.probe_record.specs.Probe.{probeIn, informationRefusal, probeFits, Pr
 use Rattle.uadp_c.specs.Writing.{fitting}
 use Rattle.uadp_c.specs.Probes.{ProbeReads, ProbeRead, probePut}
 use Rattle.network_message_writer.specs.Payload.{listBytes}
-use Rattle.network_message_writer.specs.Envelope.{GivenDatagram, envelopeBytes, datagramOf, datagramRefusal}
+use Rattle.network_message_writer.specs.Envelope.{GivenDatagram, envelopeBytes, datagramOf, datagramRefusal, WroteDatagram}
 use Rattle.round_trip.specs.NetworkMessage.{placesOf, ReadsBack}
 use Rattle.round_trip.proofs.NetworkMessageRoundTrip.{reads-back}
-use Rattle.acceptance.specs.Contracts.{WroteDatagram, WroteProbe}
-use Rattle.acceptance.specs.Probes.{ProbeBack, writtenProbe, ProbeDatagramBack}
+use Rattle.acceptance.specs.Probes.{WroteProbe, ProbeBack, writtenProbe, ProbeDatagramBack}
 
 -- ---- ids and strings, where a body stands
 count-long : (l : ListCount) → length (listCountBytes l) ≡ 4

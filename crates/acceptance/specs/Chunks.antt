@@ -8,13 +8,12 @@ use Rattle.wire_writer.specs.declared.writing.Written.{Written}
 use Rattle.publisher_id.specs.PublisherRecord.{publisherOf, recordAt}
 use Rattle.network_header.specs.declared.envelope.Envelope.{Envelope}
 use Rattle.network_header.specs.declared.header.PayloadHeader.{PayloadHeader}
-use Rattle.network_message_writer.specs.Envelope.{GivenDatagram}
+use Rattle.network_message_writer.specs.Envelope.{GivenDatagram, WroteDatagram}
 use Rattle.round_trip.specs.NetworkMessage.{placesOf}
 use Rattle.chunk.specs.Cutting.{CutWrote}
 use Rattle.chunk.specs.Datagram.{chunkGroupOf}
 use Rattle.reassembly.specs.Record.{Identity}
 use Rattle.reassembly_laws.specs.Cutting.{Arrival}
-use Rattle.acceptance.specs.Contracts.{WroteDatagram}
 
 -- the message id's payload p is cut into chunks of a data size: the datagram's bytes are what the envelope's writer wrote, with what
 -- cutting wrote for chunk k as its payload

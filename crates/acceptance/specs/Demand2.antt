@@ -1,7 +1,7 @@
 -- DEMAND 2 as one type: a field for each sentence, the sentence above it. proofs/Demand2.antt gives a value of it. "Headers, messages and
 -- fields are found exactly as document 01 lays them out": each reader's contract is an equation with a definition that reads like document
 -- 01's sentences (docs/TRACE.md leads to them). What is left to say is that nothing is left out, and the round trips. The premises are the
--- contracts of the writers and of rewriting (Contracts): what they were given, what they answered, and the buffer before and after.
+-- contracts of the writers and of rewriting: what they were given, what they answered, and the buffer before and after.
 use Prim.Native.Nat.{ℕ, _*_, _≤_, _<_}
 use mathlib.Core.Path.{_≡_}
 use mathlib.Core.Bool.{Bool, true, false, cond}
@@ -33,6 +33,7 @@ use Rattle.dataset_message.specs.Message.{Message, messageAt}
 use Rattle.dataset_message_writer.specs.Message as M
 use Rattle.round_trip.specs.NetworkMessage as network
 use Rattle.round_trip.specs.DataSetMessage.{MessageBack, PartsAgree, ReadingRefuses, Tellable}
+use Rattle.rewriting.specs.Same.{RewroteDatagram, RewroteMessage}
 use Rattle.reassembly.specs.Record.{Partial, Identity, roomOf, Good}
 use Rattle.reassembly_laws.specs.Cutting.{Arrival, AllArrive, Restored}
 use Rattle.records.specs.Sizes.{PROBE_SIZE}
@@ -45,9 +46,8 @@ use Rattle.walk.specs.declared.lines.LineCursor.{LineCursor}
 use Rattle.walk_records.specs.Walk.{walkRecords, lineRecords, NoneRefused}
 use Rattle.acceptance.specs.Tiles.{MessagesTile, FieldsTile}
 use Rattle.acceptance.specs.Again.{CopiedTo, Below, Holds}
-use Rattle.acceptance.specs.Contracts.{WroteDatagram, WroteMessage, WroteProbe, RewroteDatagram, RewroteParts, RewroteMessage}
 use Rattle.acceptance.specs.Chunks.{IsWritten}
-use Rattle.acceptance.specs.Probes.{ProbeBack, ProbeDatagramBack}
+use Rattle.acceptance.specs.Probes.{WroteProbe, ProbeBack, ProbeDatagramBack}
 
 -- the types of message k's fields under a configuration, by the DataSetWriterId that was given for it; and by the one that is read back
 abbrev pub typesGiven : Writers → N.GivenDatagram → ℕ → List ℕ
@@ -79,17 +79,17 @@ pub record Demand2 : Type 0 where
   -- A NetworkMessage, with and without PayloadHeader: envelope, PublisherId's text, promoted fields, writer ids, each message with its
   -- offset and bytes, a chunk's payload.
   pub datagram-reads-back : (g : N.GivenDatagram) (x : Envelope) (sizes configured entry exit : List ℕ) (n : ℕ)
-      → WroteDatagram g x sizes configured entry exit (Written.Is n) → InBuffer entry exit n (network.ReadsBack g x sizes configured)
+      → N.WroteDatagram g x sizes configured entry exit (Written.Is n) → InBuffer entry exit n (network.ReadsBack g x sizes configured)
   -- A DataSetMessage of any kind and encoding: header, whether it is a heartbeat, each field's index and bytes, the length of its padding.
   pub message-reads-back : (types : List ℕ) (m : M.GivenMessage) (entry exit : List ℕ) (n : ℕ)
-      → WroteMessage types m entry exit (Written.Is n) → InBuffer entry exit n (MessageBack types m)
+      → M.WroteMessage types m entry exit (Written.Is n) → InBuffer entry exit n (MessageBack types m)
   -- Both, under one configuration w: where the message writer wrote the bytes of message k, with the types of its writer's fields, its own
   -- part of the datagram is those bytes, and reads back as it was given by the types of the writer id that is read back.
   pub whole-reads-back : (w : Writers) (g : N.GivenDatagram) (x : Envelope) (entry exit : List ℕ) (n : ℕ)
-      → WroteDatagram g x (w .sizes) (w .ids) entry exit (Written.Is n) → OfMessages (x .«payload_header»)
+      → N.WroteDatagram g x (w .sizes) (w .ids) entry exit (Written.Is n) → OfMessages (x .«payload_header»)
       → (k : ℕ) → k < length (network.givenLengths g (x .«payload_header») (w .sizes)) → 2 * k < length (g .ids)
       → (m : M.GivenMessage) (entry-k exit-k : List ℕ) (n-k : ℕ)
-      → WroteMessage (typesGiven w g k) m entry-k exit-k (Written.Is n-k)
+      → M.WroteMessage (typesGiven w g k) m entry-k exit-k (Written.Is n-k)
       → network.messageGiven (network.givenLengths g (x .«payload_header») (w .sizes)) (g .messages) k ≡ take n-k exit-k
       → (messageBytes (messagePlaceAt (w .sizes) k (take n exit)) (take n exit) ≡ take n-k exit-k)
       × MessageBack (typesRead w (network.writtenMessage g x (w .sizes)) (take n exit) k) m
@@ -101,7 +101,7 @@ pub record Demand2 : Type 0 where
   pub probe-datagram-reads-back : (list : List ℕ) (p : Probe) (entry-p exit-p : List ℕ) (n-p : ℕ)
       → WroteProbe list p entry-p exit-p (Written.Is n-p)
       → (g : N.GivenDatagram) (x : Envelope) (sizes configured entry exit : List ℕ) (n : ℕ)
-      → WroteDatagram g x sizes configured entry exit (Written.Is n)
+      → N.WroteDatagram g x sizes configured entry exit (Written.Is n)
       → x .«payload_header» ≡ PayloadHeader.Probe → g .messages ≡ take n-p exit-p
       → InBuffer entry exit n (ProbeDatagramBack list p g x sizes)
   -- Cutting, the envelope's writer, taking in and handing out together: datagrams that were written with the payloads that cutting wrote,
@@ -130,10 +130,10 @@ pub record Demand2 : Type 0 where
       → RewroteDatagram sizes s entry exit r → (header : List ℕ) × (network.rewritten m s ≡ header ++ drop (m .places .payload) s)
   -- The datagram writer's `rewrite` writes the same, and so does the writer itself, given the parts as they were read.
   pub parts-again : (sizes s entry exit : List ℕ) (r : Written) (m : NetworkMessage) (n : ℕ) → networkMessageAt sizes s ≡ got m n
-      → RewroteParts sizes s entry exit r
+      → N.RewroteParts sizes s entry exit r
       → CopiedTo (network.rewritten m s) entry exit r
       × ((configured entry-p exit-p : List ℕ) (r-p : Written)
-      → WroteDatagram (network.givenOf s (m .envelope) (m .places) sizes configured) (m .envelope) sizes configured entry-p exit-p r-p
+      → N.WroteDatagram (network.givenOf s (m .envelope) (m .places) sizes configured) (m .envelope) sizes configured entry-p exit-p r-p
       → CopiedTo (network.rewritten m s) entry-p exit-p r-p)
   -- The body of a probe that uadp_probe read, written again from its parts as they were read, is the same bytes.
   pub probe-again : (d config record-before record-after : List ℕ) (result : ℕ) (m : ProbeMessage) (n : ℕ)
@@ -163,28 +163,28 @@ pub record Demand2 : Type 0 where
       → M.messageOutput types m ≡ refusing NOT_PERMITTED
   -- In every other case, where what would be written is one thing, it is the number by which reading refuses that.
   pub datagram-refused-alike : (g : N.GivenDatagram) (x : Envelope) (sizes configured entry exit : List ℕ) (r : Written)
-      → WroteDatagram g x sizes configured entry exit r → network.CountsAgree g x
+      → N.WroteDatagram g x sizes configured entry exit r → network.CountsAgree g x
       → length (N.datagramOf g x) ≤ MOST_DATAGRAM → N.picosecondsTurn g x ≡ false → eqb (N.datagramReadingRefusal g x sizes) 0 ≡ false
       → (place : ℕ) × (networkMessageAt sizes (N.datagramOf g x) ≡ refused (N.datagramReadingRefusal g x sizes) place)
   pub message-number-alike : (types : List ℕ) (m : M.GivenMessage) (entry exit : List ℕ) (r : Written)
-      → WroteMessage types m entry exit r → PartsAgree types m
+      → M.WroteMessage types m entry exit r → PartsAgree types m
       → M.messagePicosecondsTurn m ≡ false → numberOf (messageAt types (M.encode m)) ≡ M.messageReadingRefusal types m
   pub message-refused-alike : (types : List ℕ) (m : M.GivenMessage) (entry exit : List ℕ) (r : Written)
-      → WroteMessage types m entry exit r → PartsAgree types m
+      → M.WroteMessage types m entry exit r → PartsAgree types m
       → M.messagePicosecondsTurn m ≡ false → (n : ℕ) → (n ≡ 0 → ⊥) → (n ≡ DISAGREE → ⊥)
       → (M.messageRefusal types m ≡ n) ↔ ReadingRefuses types m n
   -- Also where a field is no whole value, as far as reading finds it where it stands.
   pub message-refused-plainly : (types : List ℕ) (m : M.GivenMessage) (entry exit : List ℕ) (r : Written)
-      → WroteMessage types m entry exit r → Tellable types m
+      → M.WroteMessage types m entry exit r → Tellable types m
       → M.messagePicosecondsTurn m ≡ false → eqb (M.messageReadingRefusal types m) 0 ≡ false
       → ReadingRefuses types m (M.messageReadingRefusal types m)
   -- The writer accepts exactly what reads back as given.
   pub datagram-accepted-exactly : (g : N.GivenDatagram) (x : Envelope) (sizes configured entry exit : List ℕ) (r : Written)
-      → WroteDatagram g x sizes configured entry exit r → network.PartsAgree g x sizes configured
+      → N.WroteDatagram g x sizes configured entry exit r → network.PartsAgree g x sizes configured
       → length (N.datagramOf g x) ≤ MOST_DATAGRAM
       → (N.datagramRefusal g x sizes configured ≡ 0) ↔ network.ReadsBack g x sizes configured (N.datagramOf g x)
   pub message-accepted-exactly : (types : List ℕ) (m : M.GivenMessage) (entry exit : List ℕ) (r : Written)
-      → WroteMessage types m entry exit r
+      → M.WroteMessage types m entry exit r
       → (M.messageRefusal types m ≡ 0) ↔ (MessageBack types m (M.encode m) × (M.listsGiven m ≡ true))
   -- Through C "a number that does not fit its item" is 6, after the numbers in reading order: `fits` says whether all numbers of the
   -- record do.

@@ -3,7 +3,6 @@ pub mod Refusals
 pub mod Calls
 pub mod Tiles
 pub mod Again
-pub mod Contracts
 pub mod Chunks
 pub mod Probes
 pub mod Sentences

@@ -18,14 +18,14 @@ use Rattle.dataset_fields.specs.Fields.{nextFieldAt, cursorBefore}
 use Rattle.dataset_fields.specs.declared.fields.Cursor.{Cursor}
 use Rattle.dataset_fields.specs.declared.fields.Field.{Field}
 use Rattle.dataset_message.specs.Message.{Message, messageAt, fieldPlaceAt}
-use Rattle.dataset_message_writer.specs.Message.{GivenMessage, messageReadingRefusal, bodyAgrees, encode}
+use Rattle.dataset_message_writer.specs.Message.{GivenMessage, WroteMessage, messageReadingRefusal, bodyAgrees, encode}
 use Rattle.round_trip.specs.DataSetMessage.{MessageBack, fieldsRead}
 use Rattle.chunk.specs.Payload.{chunkPayloadAt}
 use Rattle.chunk.specs.Cutting.{cutRule, cutData, chunkBytes, CutWrote}
 use Rattle.uadp_c.specs.Chunks.{chunkCount}
 use Rattle.walk.specs.declared.entry.Line.{Line}
 use Rattle.listing.specs.declared.line.LinePut.{LinePut}
-use Rattle.acceptance.specs.Contracts.{WroteMessage, PutLine}
+use Rattle.listing.specs.Line.{PutLine}
 
 pub record Sentences : Type 0 where
   -- "d = (received - 1 - last) modulo 65,536", by `sequence::distance`: the number by which the last one and 1 reach the received one

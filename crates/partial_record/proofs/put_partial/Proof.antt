@@ -40,8 +40,7 @@ returns-2 c =
     let fits = fits-record (args .rec) _ (start .good .1 .0) in
     let group = also (at-has16 .has16 .ensures .0) (also (at-value16 .value16 .ensures) refl) in
     let same =
-    also (at-flag-number .flag-number .ensures .0) (also (at-code .code .ensures) (also (at-publisher-number .publisher-number .ensures) (also refl (also refl (also refl group))))) in
-    (
+    also (at-flag-number .flag-number .ensures .0) (also (at-code .code .ensures) (also (at-publisher-number .publisher-number .ensures) (also refl (also refl (also refl group))))) in (
       partial-put (args .rec) (now (args .out)) _ _ _ (fits .text) (omega (arith, at-flag-number .before .before .before .before .before .if1 .left)) same
           (at-put-numbers .put-numbers .ensures) (at-put-run .put-run .ensures .stored),
       fits,
