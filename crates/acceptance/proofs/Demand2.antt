@@ -9,15 +9,14 @@ use borrow.Author.Tests.{lt-ltb, le-ltb}
 use lib.ListN.{length, take, drop}
 use Rattle.wire.specs.Number.{le}
 use Rattle.wire.specs.Answer.{Answer, got, bit}
-use Rattle.wire_writer.specs.Writing.{writing, Writes, afterReading, on16}
-use Rattle.wire_writer.specs.Fits.{Bytes}
+use Rattle.wire_writer.specs.Writing.{Output, writing, unless, Writes, afterReading, on16}
+use Rattle.wire_writer.specs.Fits.{Bytes, Numbers}
 use Rattle.wire_writer.specs.declared.writing.Written.{Written}
 use Rattle.wire_writer.proofs.Answering.{fitting-written}
 use Rattle.wire_writer.proofs.Back.{two-bytes}
 use Rattle.config.specs.Writers.{typesOf}
 use Rattle.publisher_id.specs.Publisher.{publisherOn}
 use Rattle.network_header.specs.Envelope as envelope
-use Rattle.network_header.specs.Envelope.{FitsEnvelope}
 use Rattle.network_header.specs.declared.envelope.Envelope.{Envelope}
 use Rattle.network_message.specs.Payload.{OfMessages}
 use Rattle.network_message.specs.Envelope.{NetworkMessage, networkMessageAt, messagePlaceAt, messageBytes}
@@ -33,13 +32,12 @@ use Rattle.round_trip.specs.NetworkMessage as network
 use Rattle.round_trip.specs.DataSetMessage.{MessageBack}
 use Rattle.round_trip.proofs.NetworkMessageRoundTrip as datagram
 use Rattle.round_trip.proofs.RewrittenBytes.{keeps}
+use Rattle.round_trip.proofs.NetworkMessageAccepted.{write-read}
 use Rattle.round_trip.proofs.NetworkMessageRewritten as rewritten
 use Rattle.round_trip.proofs.DataSetMessage as message
 use Rattle.round_trip.proofs.DataSetMessageNumber as number
 use Rattle.round_trip.proofs.DataSetMessageRefused as plain
 use Rattle.round_trip.proofs.DataSetMessageOtherwise as otherwise
-use Rattle.rewriting.specs.Same.{messageSame, datagramSame}
-use Rattle.chunk.proofs.CutLaws.{cut-wrote}
 use Rattle.chunk.specs.Datagram.{chunkWriterOf}
 use Rattle.reassembly.specs.Record.{Identity}
 use Rattle.reassembly_laws.specs.Cutting.{Arrival, IsCut, Only, Among, AllArrive}
@@ -49,10 +47,15 @@ use Rattle.walk.proofs.Listing.{start-lists, step-lists}
 use Rattle.walk_records.proofs.Accepted.{walk-listed}
 use Rattle.uadp_c.proofs.AfterReading.{after-reading}
 use Rattle.acceptance.specs.Again.{CopiedTo, Below, Holds}
+use Rattle.rewriting.specs.Same.{RewroteDatagram, RewroteMessage}
+use Rattle.acceptance.specs.Probes.{WroteProbe}
 use Rattle.acceptance.specs.Chunks.{IsWritten}
 use Rattle.acceptance.specs.Demand2.{Demand2, typesGiven, typesRead}
-use Rattle.probe.proofs.Trip.{body-back}
-use Rattle.acceptance.proofs.Probes.{probe-reads-back, probe-datagram-reads-back, lent-probe-again}
+use Rattle.probe.specs.Put.{listIn, probeOutput}
+use Rattle.network_message.specs.ProbeMessage.{ProbeMessage, probeMessageAt}
+use Rattle.records.specs.Writers.{sizesIn}
+use Rattle.uadp_c.specs.Probes.{ProbeRead}
+use Rattle.acceptance.proofs.Probes.{probe-reads-back, probe-datagram-reads-back, probe-written, lent-probe-again}
 use Rattle.acceptance.proofs.Tiling.{messages-tile}
 use Rattle.acceptance.proofs.FieldsTile.{fields-tile}
 use Rattle.acceptance.proofs.Held.{held-below, held-holds}
@@ -66,15 +69,50 @@ copied bytes entry exit r w = record {
 }
 
 datagram-copied : (sizes s entry exit : List ℕ) (r : Written) (m : NetworkMessage) (n : ℕ) → networkMessageAt sizes s ≡ got m n
-    → Writes (datagramSame sizes s) entry exit r → CopiedTo (network.rewritten m s) entry exit r
+    → RewroteDatagram sizes s entry exit r → CopiedTo (network.rewritten m s) entry exit r
 datagram-copied sizes s entry exit r m n e w =
     copied (network.rewritten m s) entry exit r
-    (subst (λ (a : Answer NetworkMessage). Writes (afterReading a (λ x. writing (network.rewritten x s))) entry exit r) e w)
+    (subst (λ (a : Answer NetworkMessage). Writes (afterReading a (λ x. writing (network.rewritten x s))) entry exit r) e (w .1))
+
+-- what puts the parts together again writes the same
+output-copied : (bytes : List ℕ) (o : Output) (entry exit : List ℕ) (r : Written) → o ≡ writing bytes → Writes o entry exit r → CopiedTo bytes entry exit r
+output-copied bytes o entry exit r e w = copied bytes entry exit r (subst (λ (y : Output). Writes y entry exit r) e w)
+
+again-written : (sizes s : List ℕ) (m : NetworkMessage) (n : ℕ) → Bytes s → networkMessageAt sizes s ≡ got m n → N.datagramAgain sizes s ≡ writing (network.rewritten m s)
+again-written sizes s m n b e =
+    ap (λ (a : Answer NetworkMessage). afterReading a (λ x. writing (N.againOf s (x .envelope) (x .places)))) e ∙ ap writing (rewritten.rewrite-read sizes s m n b e)
+
+parts-written : (sizes configured s : List ℕ) (m : NetworkMessage) (n : ℕ) → Bytes s → Numbers sizes → Numbers configured → networkMessageAt sizes s ≡ got m n
+    → N.datagramOutput (network.givenOf s (m .envelope) (m .places) sizes configured) (m .envelope) sizes configured ≡ writing (network.rewritten m s)
+parts-written sizes configured s m n b hs hc e =
+    let g = network.givenOf s (m .envelope) (m .places) sizes configured in
+    let z = write-read sizes configured s m n b hs hc e in
+    ap (λ (k : ℕ). unless k (N.datagramOf g (m .envelope))) (z .0) ∙ ap writing (z .1)
+
+parts-again : (sizes s entry exit : List ℕ) (r : Written) (m : NetworkMessage) (n : ℕ) → networkMessageAt sizes s ≡ got m n → N.RewroteParts sizes s entry exit r
+    → CopiedTo (network.rewritten m s) entry exit r
+    × ((configured entry-p exit-p : List ℕ) (r-p : Written)
+    → N.WroteDatagram (network.givenOf s (m .envelope) (m .places) sizes configured) (m .envelope) sizes configured entry-p exit-p r-p
+    → CopiedTo (network.rewritten m s) entry-p exit-p r-p)
+parts-again sizes s entry exit r m n e w = (
+  output-copied (network.rewritten m s) (N.datagramAgain sizes s) entry exit r (again-written sizes s m n (w .0) e) (w .1),
+  λ configured entry-p exit-p r-p p.
+      output-copied (network.rewritten m s) (N.datagramOutput (network.givenOf s (m .envelope) (m .places) sizes configured) (m .envelope) sizes configured)
+      entry-p exit-p r-p (parts-written sizes configured s m n (w .0) (p .2) (p .3) e) (p .1),
+)
+
+probe-again : (d config record-before record-after : List ℕ) (result : ℕ) (m : ProbeMessage) (n : ℕ) → probeMessageAt (sizesIn config) d ≡ got m n
+    → ProbeRead d config record-before result record-after
+    → (entry exit : List ℕ) (r : Written) → WroteProbe (listIn d (m .places .payload) (m .probe)) (m .probe) entry exit r
+    → CopiedTo (drop (m .places .payload) d) entry exit r
+probe-again d config before after result m n e p entry exit r w =
+    output-copied (drop (m .places .payload) d) (probeOutput (listIn d (m .places .payload) (m .probe)) (m .probe)) entry exit r
+    (probe-written (sizesIn config) d m n (p .bytes) e) (w .1)
 
 message-copied : (types s entry exit : List ℕ) (r : Written) (m : Message) (n : ℕ) → messageAt types s ≡ got (valid m) n
-    → Writes (messageSame types s) entry exit r → CopiedTo (messageHeld (m .header) s) entry exit r
+    → RewroteMessage types s entry exit r → CopiedTo (messageHeld (m .header) s) entry exit r
 message-copied types s entry exit r m n e w =
-    copied (messageHeld (m .header) s) entry exit r (subst (λ (a : Answer (Valid Message)). Writes (afterReading a (whereValid (λ x. messageHeld (x .header) s))) entry exit r) e w)
+    copied (messageHeld (m .header) s) entry exit r (subst (λ (a : Answer (Valid Message)). Writes (afterReading a (whereValid (λ x. messageHeld (x .header) s))) entry exit r) e (w .1))
 
 -- ---- the two exceptions
 kept : (m : NetworkMessage) (b : ℕ) (s : List ℕ) → (bit 7 b ≡ false) ⊎ (bit 4 b ≡ true)
@@ -101,7 +139,7 @@ message-holds types s m n b q o h =
 
 -- ---- a whole datagram under one configuration
 module _ (w : Writers) (g : N.GivenDatagram) (x : Envelope) (entry exit : List ℕ) (n : ℕ)
-    (p : FitsEnvelope x × Writes (N.datagramOutput g x (w .sizes) (w .ids)) entry exit (Written.Is n)) where
+    (p : N.WroteDatagram g x (w .sizes) (w .ids) entry exit (Written.Is n)) where
   abbrev d : List ℕ
   d = take n exit
 
@@ -113,7 +151,7 @@ module _ (w : Writers) (g : N.GivenDatagram) (x : Envelope) (entry exit : List �
 
   whole : OfMessages (x .«payload_header») → (k : ℕ) → k < length (network.givenLengths g (x .«payload_header») (w .sizes)) → 2 * k < length (g .ids)
       → (m : M.GivenMessage) (entry-k exit-k : List ℕ) (n-k : ℕ)
-      → M.FitsGiven m × Writes (M.messageOutput (typesGiven w g k) m) entry-k exit-k (Written.Is n-k)
+      → M.WroteMessage (typesGiven w g k) m entry-k exit-k (Written.Is n-k)
       → network.messageGiven (network.givenLengths g (x .«payload_header») (w .sizes)) (g .messages) k ≡ take n-k exit-k
       → (messageBytes (messagePlaceAt (w .sizes) k d) d ≡ take n-k exit-k)
       × MessageBack (typesRead w (network.writtenMessage g x (w .sizes)) d k) m (messageBytes (messagePlaceAt (w .sizes) k d) d)
@@ -130,7 +168,6 @@ module _ (id : Identity) (p : List ℕ) (size : ℕ) where
   is-cut : (k : ℕ) (a : Arrival) → IsWritten id p size k a → IsCut id p size k a
   is-cut k a t =
       let b = datagram.reads-back (t .given) (t .envelope) (a .sizes) (t .configured) (t .entry) (t .exit) (t .n) (t .wrote .0) (t .wrote .1) .0 in
-      let c = cut-wrote p (id .origin .number) size k (t .buffer) (t .m) (t .cut) in
       let m = network.writtenMessage (t .given) (t .envelope) (a .sizes) in
       record {
         message = m;
@@ -140,8 +177,11 @@ module _ (id : Identity) (p : List ℕ) (size : ℕ) where
         publisher = t .publisher;
         group = t .group;
         writer = ap chunkWriterOf (t .writer);
-        accepted = c .rule;
-        payload = ap (drop (m .payload .first)) (t .datagram) ∙ b .chunk (id .origin .writer) (t .writer) ∙ t .payload ∙ c .bytes;
+        buffer = t .buffer;
+        written = t .written;
+        n = t .m;
+        cut = t .cut;
+        payload = ap (drop (m .payload .first)) (t .datagram) ∙ b .chunk (id .origin .writer) (t .writer) ∙ t .payload;
       }
 
   only-cut : (l : List Arrival) → Only (IsWritten id p size) l → Only (IsCut id p size) l
@@ -178,23 +218,24 @@ demand-2 = record {
   datagram-again = datagram-copied;
   rewritten-same = kept;
   rewritten-shorter = rewritten.rewritten-shorter;
-  rewritten-holds = datagram-holds;
-  payload-handed-on = handed-on;
-  parts-again = datagram.writes-again;
-  probe-again = body-back;
+  rewritten-holds = λ sizes s entry exit r m n e w. datagram-holds sizes s m n (w .0) e;
+  rewritten-with-publisher = λ sizes s entry exit r m n e w. rewritten.same-with-publisher sizes s m n (w .0) e;
+  payload-handed-on = λ sizes s entry exit r m n e w. handed-on sizes s m n (w .0) e;
+  parts-again = parts-again;
+  probe-again = probe-again;
   message-again = message-copied;
   message-same = λ m s l. held-below (m .header .picoseconds) (messagePicosecondsPlace (m .header)) s l;
-  message-holds = message-holds;
+  message-holds = λ types s entry exit r m n e w. message-holds types s m n (w .0) e;
   datagram-number-first = datagram.reading-number-first;
   datagram-picoseconds = datagram.picoseconds-refused;
   message-picoseconds = plain.picoseconds-refused;
-  datagram-refused-alike = datagram.refuses-alike;
-  message-number-alike = λ types m f. number.number-alike types m (f .header) (f .indices);
-  message-refused-alike = λ types m f a t n z s. number.refused-alike types m (f .header) (f .indices) a t n z s;
-  message-refused-plainly = λ types m f. plain.refuse-written types m (f .header) (f .indices);
-  datagram-accepted-exactly = λ g x sizes configured f a l.
-      let e = datagram.accepts-exactly g x sizes configured f a in (λ h. e .0 h l, e .1);
-  message-accepted-exactly = λ types m f. otherwise.accepts-exactly types m (f .header) (f .indices);
+  datagram-refused-alike = λ g x sizes configured entry exit r p. datagram.refuses-alike g x sizes (p .0);
+  message-number-alike = λ types m entry exit r p. number.number-alike types m (p .0 .header) (p .0 .indices);
+  message-refused-alike = λ types m entry exit r p a t n z s. number.refused-alike types m (p .0 .header) (p .0 .indices) a t n z s;
+  message-refused-plainly = λ types m entry exit r p. plain.refuse-written types m (p .0 .header) (p .0 .indices);
+  datagram-accepted-exactly = λ g x sizes configured entry exit r p a l.
+      let e = datagram.accepts-exactly g x sizes configured (p .0) a in (λ h. e .0 h l, e .1);
+  message-accepted-exactly = λ types m entry exit r p. otherwise.accepts-exactly types m (p .0 .header) (p .0 .indices);
   lent-fits-after-reading = after-reading;
   lent-probe-again = lent-probe-again;
 }

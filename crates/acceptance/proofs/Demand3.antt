@@ -1,6 +1,6 @@
 -- Demand 3 holds: each field by the theorem that proves it. Assumes nothing.
 use Prim.Native.Nat.{ℕ, _≤_}
-use mathlib.Core.Path.{_≡_, sym, subst}
+use mathlib.Core.Path.{_≡_, ap, sym, subst, _∙_}
 use mathlib.Core.List.{List}
 use lib.ListN.{length}
 use Rattle.wire.specs.Answer.{refused}
@@ -21,6 +21,7 @@ use Rattle.uadp_c.specs.History.{LentCall, callOf, heldIn, Called}
 use Rattle.records.specs.Writers.{ConfigBack, configFilling}
 use Rattle.records.proofs.ConfigBack.{config-back}
 use Rattle.records.proofs.ConfigFits.{config-fits}
+use Rattle.partial_record.specs.Partial.{partialIn}
 use Rattle.partial_record.proofs.Back as Back
 use Rattle.uadp_c.proofs.Demand3 as lent
 use Rattle.uadp_c.proofs.ByCalls.{fields-by-calls}
@@ -60,7 +61,7 @@ demand-3 = record {
   refused-place = λ k s n place e. placed k n place (Refusing.may-refuse k s n place e);
   any-lent-list = lent.lent-list;
   lent-refused = lent.lent-refused;
-  record-read-back = Back.partial-back;
+  record-read-back = λ k entry exit p h. ap partialIn (p .0) ∙ Back.partial-back k entry (p .1) h;
   config-read-back = config-read;
   messages-by-calls = messages-by-calls;
   fields-by-calls = fields-by-calls;

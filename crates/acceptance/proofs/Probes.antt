@@ -15,7 +15,7 @@ use Rattle.wire.proofs.Numbers.{length-leBytes}
 use Rattle.wire.proofs.Places.{movedBy}
 use Rattle.wire.proofs.Reading.{got-value, not-got, invert}
 use Rattle.wire_writer.specs.Fits.{Bytes}
-use Rattle.wire_writer.specs.Writing.{Writes, writing, refusing, unless}
+use Rattle.wire_writer.specs.Writing.{writing, refusing, unless}
 use Rattle.wire_writer.specs.declared.writing.Written.{Written}
 use Rattle.wire_writer.proofs.Answering.{reported}
 use Rattle.wire_writer.proofs.Refusals.{passed, held}
@@ -24,25 +24,25 @@ use Rattle.probe.specs.declared.body.ListCount.{ListCount}
 use Rattle.probe.specs.declared.body.Probe.{Probe}
 use Rattle.probe.specs.Body.{probeTypeRule, informationAt, probeAt, probeBodyAt}
 use Rattle.probe.specs.Items.{countIn}
-use Rattle.probe.specs.Put.{FitsProbe, listCountBytes, probeBytes, idListRule, probeBodyRefusal, probeOutput, listIn}
+use Rattle.probe.specs.Put.{listCountBytes, probeBytes, idListRule, probeBodyRefusal, probeOutput, listIn}
 use Rattle.probe.proofs.Steadily.{body-tail, body-ended}
 use Rattle.probe.proofs.Trip.{body-is, body-back}
 use Rattle.network_header.specs.declared.envelope.Envelope.{Envelope}
 use Rattle.network_header.specs.declared.envelope.Places.{Places}
 use Rattle.network_header.specs.declared.header.PayloadHeader.{PayloadHeader}
-use Rattle.network_header.specs.Envelope.{FitsEnvelope}
 use Rattle.network_header.specs.Header.{probeOn}
 use Rattle.network_message.specs.Envelope.{networkMessageAt}
 use Rattle.network_message.specs.ProbeMessage.{ProbeMessage, probeFrom, probeMessageAt}
 use Rattle.records.specs.Sizes.{PROBE_SIZE}
+use Rattle.records.specs.Writers.{sizesIn}
 use Rattle.probe_record.specs.Probe.{probeIn, informationRefusal, probeFits, ProbeRecordBack}
 use Rattle.uadp_c.specs.Writing.{fitting}
-use Rattle.uadp_c.specs.Probes.{ProbeReads, probePut}
+use Rattle.uadp_c.specs.Probes.{ProbeReads, ProbeRead, probePut}
 use Rattle.network_message_writer.specs.Payload.{listBytes}
-use Rattle.network_message_writer.specs.Envelope.{GivenDatagram, envelopeBytes, datagramOf, datagramRefusal, datagramOutput}
+use Rattle.network_message_writer.specs.Envelope.{GivenDatagram, envelopeBytes, datagramOf, datagramRefusal, WroteDatagram}
 use Rattle.round_trip.specs.NetworkMessage.{placesOf, ReadsBack}
 use Rattle.round_trip.proofs.NetworkMessageRoundTrip.{reads-back}
-use Rattle.acceptance.specs.Probes.{ProbeBack, writtenProbe, ProbeDatagramBack}
+use Rattle.acceptance.specs.Probes.{WroteProbe, ProbeBack, writtenProbe, ProbeDatagramBack}
 
 -- ---- ids and strings, where a body stands
 count-long : (l : ListCount) → length (listCountBytes l) ≡ 4
@@ -97,7 +97,7 @@ list-back pre list (Probe.Connections l g w) h =
     ∙ take-at list two (length list) refl
 
 -- ---- a body
-pub probe-reads-back : (list : List ℕ) (p : Probe) (entry exit : List ℕ) (n : ℕ) → FitsProbe p × Writes (probeOutput list p) entry exit (Written.Is n)
+pub probe-reads-back : (list : List ℕ) (p : Probe) (entry exit : List ℕ) (n : ℕ) → WroteProbe list p entry exit (Written.Is n)
     → ProbeBack list p (take n exit) × (drop n exit ≡ drop n entry)
 probe-reads-back list p entry exit n (f, w) =
     let r = reported (probeBodyRefusal list p) (probeBytes list p) entry exit n w in
@@ -132,10 +132,10 @@ module _ (list : List ℕ) (p : Probe) (g : GivenDatagram) (x : Envelope) (sizes
           ap (λ (h : PayloadHeader). envelopeBytes (g .text) (g .ids) (g .promoted) x ++ (listBytes h (g .lengths) ++ g .messages)) header
           ∙ ap (λ (l : List ℕ). envelopeBytes (g .text) (g .ids) (g .promoted) x ++ l) given
 
-pub probe-datagram-reads-back : (list : List ℕ) (p : Probe) (entry-p exit-p : List ℕ) (n-p : ℕ) → FitsProbe p × Writes (probeOutput list p) entry-p exit-p (Written.Is n-p)
-    → (g : GivenDatagram) (x : Envelope) (sizes configured entry exit : List ℕ) (n : ℕ) → FitsEnvelope x × Writes (datagramOutput g x sizes configured) entry exit (Written.Is n)
+pub probe-datagram-reads-back : (list : List ℕ) (p : Probe) (entry-p exit-p : List ℕ) (n-p : ℕ) → WroteProbe list p entry-p exit-p (Written.Is n-p)
+    → (g : GivenDatagram) (x : Envelope) (sizes configured entry exit : List ℕ) (n : ℕ) → WroteDatagram g x sizes configured entry exit (Written.Is n)
     → x .«payload_header» ≡ PayloadHeader.Probe → g .messages ≡ take n-p exit-p → ProbeDatagramBack list p g x sizes (take n exit) × (drop n exit ≡ drop n entry)
-probe-datagram-reads-back list p entry-p exit-p n-p (f, w) g x sizes configured entry exit n (fx, wx) header given =
+probe-datagram-reads-back list p entry-p exit-p n-p (f, w) g x sizes configured entry exit n (fx, wx, _, _) header given =
     let a = reported (probeBodyRefusal list p) (probeBytes list p) entry-p exit-p n-p w in
     let b = reported (datagramRefusal g x sizes configured) (datagramOf g x) entry exit n wx in
     let r = reads-back g x sizes configured entry exit n fx wx in
@@ -174,13 +174,21 @@ put-as t b q p list e f g = rw (e, f, g)
 all-written : (k : ℕ) (bytes : List ℕ) → k ≡ 0 → unless k bytes ≡ writing bytes
 all-written k bytes e = rw e
 
-pub lent-probe-again : (sizes d entry exit : List ℕ) (m : ProbeMessage) (n : ℕ) → Bytes d → probeMessageAt sizes d ≡ got m n → PROBE_SIZE ≤ length entry
-    → ProbeReads (probeMessageAt sizes d) entry exit → probePut exit (listIn d (m .places .payload) (m .probe)) ≡ writing (drop (m .places .payload) d)
-lent-probe-again sizes d entry exit m n b e long reads =
+-- the probe of an accepted datagram, written from its parts as they were read
+pub probe-written : (sizes d : List ℕ) (m : ProbeMessage) (n : ℕ) → Bytes d → probeMessageAt sizes d ≡ got m n
+    → probeOutput (listIn d (m .places .payload) (m .probe)) (m .probe) ≡ writing (drop (m .places .payload) d)
+probe-written sizes d m n b e =
     let at = m .places .payload in
     let p = m .probe in
     let a = body-of sizes d m n e in
     let again = body-back d at p (a .0) b (body-inside d at p (a .0) (a .1)) (a .1) in
-    let r : ProbeRecordBack exit p at = subst (λ (y : Answer ProbeMessage). ProbeReads y entry exit) e reads long in
+    all-written (probeBodyRefusal (listIn d at p) p) (probeBytes (listIn d at p) p) (again .0) ∙ ap writing (again .1)
+
+pub lent-probe-again : (d config entry exit : List ℕ) (result : ℕ) (m : ProbeMessage) (n : ℕ) → probeMessageAt (sizesIn config) d ≡ got m n → PROBE_SIZE ≤ length entry
+    → ProbeRead d config entry result exit → probePut exit (listIn d (m .places .payload) (m .probe)) ≡ writing (drop (m .places .payload) d)
+lent-probe-again d config entry exit result m n e long w =
+    let at = m .places .payload in
+    let p = m .probe in
+    let r : ProbeRecordBack exit p at = subst (λ (y : Answer ProbeMessage). ProbeReads y entry exit) e (w .reads) long in
     put-as (informationRefusal exit) (probeFits exit) (probeIn exit) p (listIn d at p) (r .type) (r .fitting) (r .probe)
-    ∙ all-written (probeBodyRefusal (listIn d at p) p) (probeBytes (listIn d at p) p) (again .0) ∙ ap writing (again .1)
+    ∙ probe-written (sizesIn config) d m n (w .bytes) e

@@ -1,7 +1,8 @@
 -- The single sentences hold.
-use Prim.Native.Nat.{ℕ, suc, _≤_, _<_}
-use mathlib.Core.Path.{_≡_}
+use Prim.Native.Nat.{ℕ, zero, suc, _+_, _-_, _%_, _≤_, _<_}
+use mathlib.Core.Path.{_≡_, ap, sym, subst, _∙_}
 use mathlib.Core.List.{List, [], _∷_}
+use lib.ListN.{take, drop}
 use Rattle.wire_writer.specs.Fits.{Bytes}
 use Rattle.acceptance.specs.Sentences.{Sentences}
 use Rattle.sequence.proofs.Modulo.{distance-reaches, distance-below}
@@ -14,6 +15,7 @@ use native.Mathlib.Omega.{arith}
 use borrow.Author.Tests.{ne-eqb, le-ltb}
 use Rattle.wire.specs.Constants.{MOST_TOTAL, OVER_LIMIT}
 use Rattle.chunk.specs.Cutting.{cutRule}
+use Rattle.chunk.specs.Payload.{chunkPayloadAt}
 use Rattle.chunk.proofs.CutLaws.{cuts, past-yes, past-no}
 use Rattle.chunk.proofs.ReadBack.{written-back}
 use Rattle.uadp_c.specs.Chunks.{chunkCount}
@@ -22,6 +24,17 @@ use Rattle.uadp_c.specs.Chunks.{chunkCount}
 each-byte : (s : List ℕ) → Bytes s → EachByte s
 each-byte [] w = tt
 each-byte (b ∷ s) w = (w 0, each-byte s (λ i. w (suc i)))
+
+-- so are those of a part
+dropped : (n : ℕ) (s : List ℕ) → EachByte s → EachByte (drop n s)
+dropped zero s w = w
+dropped (suc n) [] w = tt
+dropped (suc n) (b ∷ s) w = dropped n s (w .1)
+
+taken : (n : ℕ) (s : List ℕ) → EachByte s → EachByte (take n s)
+taken zero s w = tt
+taken (suc n) [] w = tt
+taken (suc n) (b ∷ s) w = (w .0, taken n s (w .1))
 
 -- which chunks are cut
 counted-cuts : (total size k : ℕ) → cutRule total size 0 ≡ 0
@@ -38,13 +51,15 @@ counted-cuts total size k h =
 
 pub sentences : Sentences
 sentences = record {
-  distance = λ last received h. (distance-reaches last received h, distance-below last received);
+  distance = λ last received d p.
+      subst (λ (n : ℕ). ((last + 1 + n) % 65536 ≡ received % 65536) × (n < 65536)) (sym (p .0)) (distance-reaches last received (p .1), distance-below last received);
   decimals = decimal-read-back;
-  hex = λ s w. hex-read-back s (each-byte s w);
+  hex = λ d entry exit line r p n end. hex-read-back (take n (drop (end - n) d)) (taken n (drop (end - n) d) (dropped (end - n) d (each-byte d (p .3))));
   within = config-within;
   after-the-last = walk-ends;
   looked-up = walked-is;
-  cut = written-back;
+  cut = λ p number size k entry exit n w.
+      ap (λ (y : List ℕ). chunkPayloadAt (take n y) 0) (w .1) ∙ written-back p number size k (w .2) entry n (sym (w .0));
   counted = counted-cuts;
-  six = six-otherwise;
+  six = λ types g entry exit r p. six-otherwise types g (p .0 .header);
 }

@@ -3,16 +3,14 @@ use Prim.Native.Nat.{ℕ}
 use mathlib.Core.Path.{_≡_}
 use mathlib.Core.Bool.{true}
 use mathlib.Core.List.{List}
-use lib.ListN.{length, take}
-use Rattle.wire_writer.specs.Writing.{Writes}
+use lib.ListN.{take}
 use Rattle.wire_writer.specs.declared.writing.Written.{Written}
 use Rattle.publisher_id.specs.PublisherRecord.{publisherOf, recordAt}
-use Rattle.network_header.specs.Envelope.{FitsEnvelope}
 use Rattle.network_header.specs.declared.envelope.Envelope.{Envelope}
 use Rattle.network_header.specs.declared.header.PayloadHeader.{PayloadHeader}
-use Rattle.network_message_writer.specs.Envelope.{GivenDatagram, datagramOutput}
+use Rattle.network_message_writer.specs.Envelope.{GivenDatagram, WroteDatagram}
 use Rattle.round_trip.specs.NetworkMessage.{placesOf}
-use Rattle.chunk.specs.Cutting.{cutAnswer, cutBuffer}
+use Rattle.chunk.specs.Cutting.{CutWrote}
 use Rattle.chunk.specs.Datagram.{chunkGroupOf}
 use Rattle.reassembly.specs.Record.{Identity}
 use Rattle.reassembly_laws.specs.Cutting.{Arrival}
@@ -26,7 +24,7 @@ pub record IsWritten (id : Identity) (p : List ℕ) (size k : ℕ) (a : Arrival)
   pub entry : List ℕ
   pub exit : List ℕ
   pub n : ℕ
-  pub wrote : FitsEnvelope envelope × Writes (datagramOutput given envelope (a .sizes) configured) entry exit (Written.Is n)
+  pub wrote : WroteDatagram given envelope (a .sizes) configured entry exit (Written.Is n)
   pub datagram : a .datagram ≡ take n exit
   pub chunk : envelope .chunk ≡ true
   pub writer : envelope .«payload_header» ≡ PayloadHeader.Chunk (id .origin .writer)
@@ -34,6 +32,7 @@ pub record IsWritten (id : Identity) (p : List ℕ) (size k : ℕ) (a : Arrival)
   pub publisher : publisherOf
       (recordAt (envelope .publisher) (placesOf given envelope .«publisher_end») (a .datagram)) ≡ id .origin .publisher
   pub buffer : List ℕ
+  pub written : List ℕ
   pub m : ℕ
-  pub cut : cutAnswer p (id .origin .number) size k (length buffer) ≡ Written.Is m
-  pub payload : given .messages ≡ take m (cutBuffer p (id .origin .number) size k buffer)
+  pub cut : CutWrote p (id .origin .number) size k buffer written (Written.Is m)
+  pub payload : given .messages ≡ take m written

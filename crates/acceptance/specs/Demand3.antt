@@ -2,7 +2,7 @@
 -- the contracts of reassembly/src/operations.rt say what each call `answers` and `leaves`, those of uadp_c/src/reassembling.rt that a
 -- call was `Called`. `Good` partials are the sound ones whose number of covered bytes is right, as that of one not started always is. The
 -- plain machine is reassembly/specs/Machine.antt; its state knows no number.
-use Prim.Native.Nat.{ℕ, _≤_, _<_, _%_, _^_}
+use Prim.Native.Nat.{ℕ, _≤_, _%_}
 use mathlib.Core.Path.{_≡_}
 use mathlib.Core.Logic.{_↔_}
 use mathlib.Core.Bool.{true, false}
@@ -33,7 +33,6 @@ use Rattle.reassembly_laws.specs.Layouts.{SameButMarks, SameCalls, SameHistory,
 use Rattle.config_text.specs.Config.{configOf}
 use Rattle.records.specs.Result.{filledIn}
 use Rattle.wire.specs.Answer.{got}
-use Rattle.wire_writer.specs.Fits.{Bytes}
 use Rattle.network_message.specs.Envelope.{NetworkMessage, networkMessageAt}
 use Rattle.dataset_header.specs.Flags.{valid}
 use Rattle.dataset_message.specs.Message.{messageAt, Message as DataSetMessage}
@@ -87,11 +86,11 @@ pub record Demand3 : Type 0 where
   pub take-in-as-combine : (sizes d : List ℕ) (m : Message) (at : ℕ) (data-of : List ℕ) → readingAt sizes d ≡ chunk m at data-of
       → (s f : Partial) → Good s → Good f → stateOf f ≡ alone (readingAt sizes d) → AsPartial (takeIn s (readingAt sizes d)) (combine s f)
   -- ---- All chunks of a payload p, taken in in any order and some more than once, are accepted, complete it, and hand p out: datagrams
-  -- that read as its chunks, and datagrams of one publisher and writer whose payloads are what cutting wrote, with a number of 2 bytes.
+  -- that read as its chunks, and datagrams of one publisher and writer whose payloads are what cutting wrote.
   pub chunks-restore : (id : Identity) (p : List ℕ) (size : ℕ) (l : List Arrival) → AllArrive id p size (IsChunk id p size) l
       → (s : Partial) → Good s → s .rec .started ≡ false → length p ≤ roomOf s → Restored p l s
   pub cut-and-restored : (id : Identity) (p : List ℕ) (size : ℕ) (l : List Arrival) → AllArrive id p size (IsCut id p size) l
-      → id .origin .number < 65536 → (s : Partial) → Good s → s .rec .started ≡ false → length p ≤ roomOf s → Restored p l s
+      → (s : Partial) → Good s → s .rec .started ≡ false → length p ≤ roomOf s → Restored p l s
   -- ---- "Every refusal leaves all lent bytes and records unchanged", for sound and unsound partials, and hands nothing out.
   pub refused-leaves : (k : Call) (s : Partial) (n place : ℕ) → answers k s ≡ refused n place → leaves k s ≡ s
   pub refused-hands-nothing : (s : Partial) (n place : ℕ) → answers HandOut s ≡ refused n place → handOut s ≡ []
@@ -106,29 +105,28 @@ pub record Demand3 : Type 0 where
       → Right (heldIn b) → Right (heldIn a)
   -- A refusal, whose number is the result's low byte, leaves every lent byte as it was.
   pub lent-refused : (k : LentCall) (b a : Lent) → Called k b a → (a .result % 256 ≡ 0 → ⊥) → Unchanged b a
-  -- What is stored in a record, of any that the code's types can hold, is read back.
-  pub record-read-back : (k : PartialRecord) (r : List ℕ) → FitsRecord k → PARTIAL_SIZE ≤ length r
-      → partialIn (laid r 0 (partialBytes k)) ≡ k
+  -- What is stored in a record is read back: the premise is the contract of `partial_record::put_partial`.
+  pub record-read-back : (k : PartialRecord) (entry exit : List ℕ) → (exit ≡ laid entry 0 (partialBytes k)) × FitsRecord k
+      → PARTIAL_SIZE ≤ length entry → partialIn exit ≡ k
   -- And what uadp_config stores for a configuration text is what the library reads in the record.
   pub config-read-back : (text r : List ℕ) → configOf text .number ≡ 0 → CONFIG_SIZE ≤ length r
       → ConfigBack (filledIn (configFilling (configOf text)) r) (configOf text .config)
   -- Walking by calls is document 01's walk: from the record that uadp_read filled uadp_next_message tells the messages one after the other,
-  -- from that of uadp_read_message uadp_next_field the fields, each found where lookup finds it; the call after the last answers 10. (Each
-  -- element of a lent slice of bytes is below 256, and its length is a number of 8 bytes.)
+  -- from that of uadp_read_message uadp_next_field the fields, each found where lookup finds it; the call after the last answers 10.
   pub messages-by-calls : (d config : List ℕ) (m : NetworkMessage) (n : ℕ) (entry : List ℕ) (result : ℕ) (envelope : List ℕ)
       → networkMessageAt (sizesIn config) d ≡ got m n → ENVELOPE_SIZE ≤ length entry → EnvelopeRead d config entry result envelope
       → MessagesByCalls d config m envelope
   pub fields-by-calls : (s config : List ℕ) (writer : ℕ) (m : DataSetMessage) (n : ℕ) (entry : List ℕ) (result : ℕ) (head : List ℕ)
-      → Bytes s → length s < 256 ^ 8 → messageAt (typesFor config writer) s ≡ got (valid m) n → HEAD_SIZE ≤ length entry
+      → messageAt (typesFor config writer) s ≡ got (valid m) n → HEAD_SIZE ≤ length entry
       → HeadRead s config writer entry result head → FieldsByCalls s config writer m head
   -- Read, then write the record, gives the bytes, also after some steps of its cursor: of a datagram, but for the two exceptions, and of a
   -- message, but for the second.
   pub datagram-again-by-calls : (d config : List ℕ) (m : NetworkMessage) (n : ℕ) (entry : List ℕ) (result : ℕ) (envelope : List ℕ)
-      → Bytes d → Bytes config → networkMessageAt (sizesIn config) d ≡ got m n → ENVELOPE_SIZE ≤ length entry
+      → networkMessageAt (sizesIn config) d ≡ got m n → ENVELOPE_SIZE ≤ length entry
       → EnvelopeRead d config entry result envelope → (ps : List (List ℕ)) (ys : List MessageCall) → AllLong PLACE_SIZE ps
       → length ps ≤ m .payload .count → MessageCalls d config ps envelope ys → DatagramAgain d config m (lastEnvelope envelope ys)
   pub message-again-by-calls : (s config : List ℕ) (writer : ℕ) (m : DataSetMessage) (n : ℕ) (entry : List ℕ) (result : ℕ) (head : List ℕ)
-      → Bytes s → length s < 256 ^ 8 → messageAt (typesFor config writer) s ≡ got (valid m) n → HEAD_SIZE ≤ length entry
+      → messageAt (typesFor config writer) s ≡ got (valid m) n → HEAD_SIZE ≤ length entry
       → HeadRead s config writer entry result head → (fs : List (List ℕ)) (ys : List FieldCall) → AllLong FIELD_SIZE fs
       → length fs ≤ m .cursor .count → FieldCalls s config writer fs head ys → MessageAgain s config writer m (lastHead head ys)
   -- ---- HOWEVER MARKS ARE HELD (document 02, Req 11). Both forms are what a form of marks has to be. From emptying, calls that are the

@@ -1,5 +1,6 @@
 -- Cutting a payload into chunks (document 01, "Reassembly").
-use Prim.Native.Nat.{ℕ, _+_, _*_}
+use Prim.Native.Nat.{ℕ, _+_, _*_, _<_}
+use mathlib.Core.Path.{_≡_}
 use mathlib.Core.Bool.{cond}
 use mathlib.Core.List.{List, _++_}
 use lib.Dec.{leb, ltb, eqb}
@@ -46,3 +47,9 @@ cutAnswer p number size k room =
 unfoldable pub cutBuffer : List ℕ → ℕ → ℕ → ℕ → List ℕ → List ℕ
 cutBuffer p number size k out =
     cond (eqb (cutFault p size k (length out)) 0) (laid out 0 (chunkBytes p number size k)) out
+
+-- what cutting promises of chunk k of the payload p, put into the buffer `entry`: its answer, the buffer afterwards, and that the number is
+-- one of 2 bytes
+abbrev pub CutWrote : List ℕ → ℕ → ℕ → ℕ → List ℕ → List ℕ → Written → Type 0
+CutWrote p number size k entry exit r =
+    (r ≡ cutAnswer p number size k (length entry)) × (exit ≡ cutBuffer p number size k entry) × (number < 65536)

@@ -12,7 +12,7 @@ ghost use mathlib.Core.Path.{_≡_};
 ghost use Prim.Native.Nat.{_+_, _≤_, _<_};
 ghost use lib.ListN.{length};
 ghost use Rattle.wire_writer.specs.Store.{laid};
-ghost use Rattle.chunk.specs.Cutting.{payloadBytes, cutRule, cutAnswer, cutBuffer};
+ghost use Rattle.chunk.specs.Cutting.{payloadBytes, cutRule, CutWrote};
 
 // The first rule that a cut of a payload of total bytes breaks, or 0.
 fn cut_rule(total: usize, size: usize, k: usize) -> u8
@@ -48,9 +48,7 @@ fn put_payload(out: &mut [u8], number: u16, offset: usize, total: usize, bytes: 
 // Writes the payload of chunk k, of chunks with so many bytes of data: data size 0 or payload empty 6, payload above 16,384 or k past the
 // last 10, then 11.
 pub fn cut(out: &mut [u8], payload: &[u8], number: u16, size: usize, k: usize) -> Written
-    ensures { λ r.
-        ⌜ (r ≡ cutAnswer (now (payload .entry)) number size k (length (now (out .entry))))
-        × (now (out .exit) ≡ cutBuffer (now (payload .entry)) number size k (now (out .entry))) ⌝ }
+    ensures { λ r. ⌜ CutWrote (now (payload .entry)) number size k (now (out .entry)) (now (out .exit)) r ⌝ }
 {
     let fault = cut_rule(payload.len(), size, k);
     if fault != 0 {

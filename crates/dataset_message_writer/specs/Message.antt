@@ -9,7 +9,8 @@ use Rattle.wire.specs.Lists.{total}
 use Rattle.wire.specs.Constants.{CUT_SHORT, DISAGREE, NOT_CONFIGURED, NOT_TAKEN}
 use Rattle.wire.specs.Number.{leBytes}
 use Rattle.dataset_header.specs.Flags.{isDelta, isRaw, kindRule}
-use Rattle.wire_writer.specs.Writing.{orElse, picosecondsRefusal, Output, unless}
+use Rattle.wire_writer.specs.Writing.{orElse, picosecondsRefusal, Output, unless, Writes}
+use Rattle.wire_writer.specs.declared.writing.Written.{Written}
 use Rattle.dataset_header.specs.declared.flags.Encoding.{Encoding}
 use Rattle.dataset_header.specs.declared.flags.Kind.{Kind}
 use Rattle.dataset_header.specs.declared.header.Header.{Header}
@@ -175,3 +176,7 @@ limited n = cond (leb 65536 n) 65536 n
 -- what is written of a message given: its bytes, unless it is refused
 abbrev pub messageOutput : List ℕ → GivenMessage → Output
 messageOutput types g = unless (messageRefusal types g) (encode g)
+
+-- what the writer promises, of the buffer before and after and its answer: that what it was given fits its types, and what it wrote
+abbrev pub WroteMessage : List ℕ → GivenMessage → List ℕ → List ℕ → Written → Type 0
+WroteMessage types g entry exit r = FitsGiven g × Writes (messageOutput types g) entry exit r

@@ -30,9 +30,9 @@ ghost use Prim.Native.Nat.{_≤_};
 ghost use lib.ListN.{length, take, drop};
 ghost use Rattle.wire.specs.Lists.{total};
 ghost use Rattle.wire.specs.Constants.{DISAGREE};
-ghost use Rattle.wire_writer.specs.Writing.{orElse, Puts, Writes};
+ghost use Rattle.wire_writer.specs.Writing.{orElse, Puts};
 ghost use Rattle.dataset_fields.specs.Fields.{valuesOf, fieldsBytes};
-ghost use Rattle.dataset_message_writer.specs.Message.{givenMessage, isKey, ownRefusal, eachWhole, listsAgree, missingRefusal, leftRefusal, rawRefusal, layoutRefusal, countAgrees, countsAgree, encode, messageRefusal, messageOutput, FitsGiven};
+ghost use Rattle.dataset_message_writer.specs.Message.{givenMessage, isKey, ownRefusal, eachWhole, listsAgree, missingRefusal, leftRefusal, rawRefusal, layoutRefusal, countAgrees, countsAgree, encode, messageRefusal, WroteMessage};
 
 fn is_key(kind: Kind) -> bool
     ensures { λ r. ⌜ r ≡ isKey kind ⌝ }
@@ -282,7 +282,7 @@ pub fn write(
 ) -> Written
     ensures { λ r.
         let g = givenMessage header heartbeat (now (values .entry)) (now (lengths .entry)) (now (indices .entry)) padding in
-        ⌜ FitsGiven g × Writes (messageOutput (now (types .entry)) g) (now (out .entry)) (now (out .exit)) r ⌝ }
+        ⌜ WroteMessage (now (types .entry)) g (now (out .entry)) (now (out .exit)) r ⌝ }
 {
     let number = refusal(header, heartbeat, values, lengths, indices, types, padding);
     if number != 0 {

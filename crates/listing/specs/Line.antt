@@ -1,11 +1,13 @@
 -- The lines of a listing and their text (document 01, "Configuration and listing").
-use Prim.Native.Nat.{ℕ, _-_}
+use Prim.Native.Nat.{ℕ, _-_, _≤_}
+use mathlib.Core.Path.{_≡_}
 use mathlib.Core.Bool.{Bool, false, cond}
 use mathlib.Core.List.{List, [], _∷_, _++_}
 use lib.Dec.{ltb, eqb}
 use lib.ListN.{length, take, drop}
 use lib.Seq.{sets}
 use Rattle.wire.specs.Constants.{NO_ROOM, OVER_LIMIT}
+use Rattle.wire_writer.specs.Fits.{Bytes}
 use Rattle.text.specs.Decimal.{decimalText}
 use Rattle.text.specs.Hex.{hexText}
 use Rattle.publisher_id.specs.declared.publisher.PublisherId.{PublisherId}
@@ -138,3 +140,7 @@ lineAfter l d x = bufferBy (lineRefusal l x) l (lineText d x)
 abbrev pub putLength : LinePut → ℕ
 putLength (LinePut.Is n) = n
 putLength (LinePut.Refused number) = 0
+
+-- what `put_line` promises, of the buffer before and after and its answer; and that the datagram's bytes are bytes
+abbrev pub PutLine : List ℕ → Line → List ℕ → List ℕ → LinePut → Type 0
+PutLine d x entry exit r = (r ≡ linePut entry d x) × (exit ≡ lineAfter entry d x) × (putLength r ≤ 256) × Bytes d

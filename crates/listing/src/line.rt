@@ -25,7 +25,7 @@ ghost use lib.ListN.{length};
 ghost use mathlib.Core.List.{_++_};
 ghost use Rattle.text.specs.Decimal.{decimalText};
 ghost use Rattle.listing.specs.Columns.{tabbed, lineEnd, optionalText, Put};
-ghost use Rattle.listing.specs.Line.{badWord, invalidWord, kindWord, encodingWord, idTooLong, tooLong, idText, netText, placeText, headText, refusalText, valueText, fieldText, lineText, linePut, lineAfter, putLength};
+ghost use Rattle.listing.specs.Line.{badWord, invalidWord, kindWord, encodingWord, idTooLong, tooLong, idText, netText, placeText, headText, refusalText, valueText, fieldText, lineText, PutLine};
 
 // How many bytes of the buffer are the line, or document 01's number.
 pub enum LinePut {
@@ -238,10 +238,7 @@ fn put(out: &mut [u8], s: &[u8], line: Line) -> usize
 
 // Puts a line of a datagram's listing at the start of the buffer, which has to have 256 bytes; no line is longer.
 pub fn put_line(out: &mut [u8], s: &[u8], line: Line) -> LinePut
-    ensures { λ r.
-        ⌜ (r ≡ linePut (now (out .entry)) (now (s .entry)) line)
-        × (now (out .exit) ≡ lineAfter (now (out .entry)) (now (s .entry)) line)
-        × (putLength r ≤ 256) ⌝ }
+    ensures { λ r. ⌜ PutLine (now (s .entry)) line (now (out .entry)) (now (out .exit)) r ⌝ }
 {
     if too_long(line) {
         return LinePut::Refused(OVER_LIMIT);

@@ -1,3 +1,4 @@
 pub mod Sizes
 pub mod Short
 pub mod Again
+pub mod Lent

@@ -8,7 +8,10 @@ use Rattle.network_header.specs.declared.envelope.Envelope.{Envelope}
 use Rattle.network_header.specs.declared.envelope.Places.{Places}
 use Rattle.network_header.specs.Numbers.{configuredSizes}
 use Rattle.network_message.specs.Envelope.{networkMessageAt, messagesOf}
-use Rattle.wire_writer.specs.Writing.{orElse, on16, onI64, optional16Bytes, optionalI64Bytes, picosecondsRefusal, Output, writing, unless, afterReading}
+use Rattle.wire_writer.specs.Fits.{Bytes, Numbers}
+use Rattle.wire_writer.specs.Writing.{orElse, on16, onI64, optional16Bytes, optionalI64Bytes, picosecondsRefusal, Output, writing, unless, afterReading, Writes}
+use Rattle.wire_writer.specs.declared.writing.Written.{Written}
+use Rattle.network_header.specs.Envelope.{FitsEnvelope}
 use Rattle.network_header.specs.Flags.{flagBytes, flagsFor, timesRefusal, probeRefusal}
 use Rattle.publisher_id.specs.Publisher.{publisherBytes, publisherRefusal, publisherShape, textOf}
 use Rattle.network_header.specs.Group.{groupBytes, groupRefusal}
@@ -89,6 +92,11 @@ datagramRefusal g x sizes configured = orElse (datagramReadingRefusal g x sizes)
 abbrev pub datagramOutput : GivenDatagram → Envelope → List ℕ → List ℕ → Output
 datagramOutput g x sizes configured = unless (datagramRefusal g x sizes configured) (datagramOf g x)
 
+-- what the writer promises, of the buffer before and after and its answer: that what it was given fits its types, and what it wrote
+abbrev pub WroteDatagram : GivenDatagram → Envelope → List ℕ → List ℕ → List ℕ → List ℕ → Written → Type 0
+WroteDatagram g x sizes configured entry exit r =
+    FitsEnvelope x × Writes (datagramOutput g x sizes configured) entry exit r × Numbers sizes × Numbers configured
+
 -- Rewriting: the parts of a datagram as reading found them.
 
 -- the datagram s, read as this envelope with its places, written again: its header parts, and its payload as it stands
@@ -101,3 +109,7 @@ againOf s x p =
 -- what is written of a datagram read: reading's refusal is the writer's, else its parts again
 abbrev pub datagramAgain : List ℕ → List ℕ → Output
 datagramAgain sizes s = afterReading (networkMessageAt sizes s) (λ m. writing (againOf s (m .envelope) (m .places)))
+
+-- what `rewrite` promises: that the datagram's bytes are bytes, and what it wrote
+abbrev pub RewroteParts : List ℕ → List ℕ → List ℕ → List ℕ → Written → Type 0
+RewroteParts sizes s entry exit r = Bytes s × Writes (datagramAgain sizes s) entry exit r

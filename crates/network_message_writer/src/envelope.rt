@@ -52,11 +52,10 @@ ghost use mathlib.Core.Path.{_≡_};
 ghost use mathlib.Core.List.{[], _++_};
 ghost use Prim.Native.Nat.{_≤_};
 ghost use lib.ListN.{length};
-ghost use Rattle.network_header.specs.Envelope.{FitsEnvelope};
 ghost use Rattle.network_header.specs.Numbers.{configuredSizes};
 ghost use Rattle.wire_writer.specs.Writing.{Puts, Writes, writing};
 ghost use Rattle.network_message_writer.specs.Payload.{payloadRefusal};
-ghost use Rattle.network_message_writer.specs.Envelope.{givenDatagram, tailBytes, envelopeBytes, datagramOf, headerRefusal, shapeRefusal, datagramRefusal, datagramOutput, againOf, datagramAgain};
+ghost use Rattle.network_message_writer.specs.Envelope.{givenDatagram, tailBytes, envelopeBytes, datagramOf, headerRefusal, shapeRefusal, datagramRefusal, againOf, WroteDatagram, RewroteParts};
 ghost use Rattle.publisher_id.specs.Publisher.{textOf};
 ghost use Rattle.network_header.specs.Header.{idsOf, promotedOf};
 ghost use Rattle.wire.specs.Constants.{MOST_DATAGRAM};
@@ -267,8 +266,8 @@ pub fn write(
     ensures { λ r.
         let lists = givenDatagram (now (text .entry)) (now (ids .entry)) (now (promoted .entry)) in
         let g = lists (now (lengths .entry)) (now (messages .entry)) in
-        let output = datagramOutput g x (now (sizes .entry)) (now (configured .entry)) in
-        ⌜ FitsEnvelope x × Writes output (now (out .entry)) (now (out .exit)) r ⌝ }
+        let wrote = WroteDatagram g x (now (sizes .entry)) (now (configured .entry)) in
+        ⌜ wrote (now (out .entry)) (now (out .exit)) r ⌝ }
 {
     let number = refusal(x, text, ids, promoted, lengths, messages, sizes, configured);
     if number != 0 {
@@ -364,9 +363,7 @@ fn again(out: &mut [u8], s: &[u8], x: Envelope, places: Places) -> Written
 // Reads a datagram under the sizes of the configured writers and writes it again from the start of a buffer. Only where
 // PublisherId is off can the bytes differ: its type bits are then written as 0.
 pub fn rewrite(out: &mut [u8], s: &[u8], sizes: &[u16]) -> Written
-    ensures { λ r.
-        let again = datagramAgain (now (sizes .entry)) (now (s .entry)) in
-        ⌜ Writes again (now (out .entry)) (now (out .exit)) r ⌝ }
+    ensures { λ r. ⌜ RewroteParts (now (sizes .entry)) (now (s .entry)) (now (out .entry)) (now (out .exit)) r ⌝ }
 {
     match read(s, sizes) {
         NetworkMessageRead::Refused(number, _) => Written::Refused(number),

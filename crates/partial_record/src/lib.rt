@@ -23,7 +23,7 @@ use wire::part::part;
 use wire_writer::store::put_run;
 ghost use mathlib.Core.Path.{_≡_};
 ghost use Rattle.wire_writer.specs.Store.{laid};
-ghost use Rattle.partial_record.specs.Partial.{publisherIn, groupIdIn, messageIn, partialIn, startedIn, textIn, askedIn, partialBytes};
+ghost use Rattle.partial_record.specs.Partial.{publisherIn, groupIdIn, messageIn, partialIn, startedIn, textIn, askedIn, partialBytes, FitsRecord};
 
 // Which number of the record is that of the covered bytes.
 pub const COVERED: usize = 8;
@@ -132,7 +132,7 @@ pub fn asked_in(s: &[u8]) -> PartialRecord
 
 // Stores a partial's record; where it does not fit, nothing.
 pub fn put_partial(out: &mut [u8], rec: PartialRecord)
-    ensures { λ _. ⌜ now (out .exit) ≡ laid (now (out .entry)) 0 (partialBytes rec) ⌝ }
+    ensures { λ _. ⌜ (now (out .exit) ≡ laid (now (out .entry)) 0 (partialBytes rec)) × FitsRecord rec ⌝ }
 {
     if out.len() < PARTIAL_SIZE {
         return;

@@ -31,7 +31,9 @@ pub fn vector(line: &[u8], bytes: &[u8]) {
 
 fn show(s: &[u8]) {
     match read_probe(s, &[]) {
-        ProbeMessageRead::Refused(n, place) => refused(n, place),
+        ProbeMessageRead::Refused(n, place) => {
+            refused(n, place);
+        }
         ProbeMessageRead::Is(envelope, places, p) => {
             let id = envelope.publisher;
             publisher(id);
@@ -60,8 +62,12 @@ fn asked(p: Probe) {
 
 fn count(list: ListCount) {
     match list {
-        ListCount::Null => put(b" null"),
-        ListCount::Of(n) => number(n),
+        ListCount::Null => {
+            put(b" null");
+        }
+        ListCount::Of(n) => {
+            number(n);
+        }
     }
 }
 
@@ -73,7 +79,9 @@ fn items(s: &[u8], p: Probe, first: usize) {
     let mut left = item_count(p);
     while 0 < left {
         match cursor.step(s, p) {
-            ItemStep::Refused(n, place) => refused(n, place),
+            ItemStep::Refused(n, place) => {
+                refused(n, place);
+            }
             ItemStep::Is(x, next) => {
                 item(x);
                 cursor = next;
@@ -97,11 +105,15 @@ fn item(x: ProbeItem) {
 
 fn one_step(s: &[u8], index: usize, at: usize) {
     match read_probe(s, &[]) {
-        ProbeMessageRead::Refused(n, place) => refused(n, place),
+        ProbeMessageRead::Refused(n, place) => {
+            refused(n, place);
+        }
         ProbeMessageRead::Is(_, _, p) => {
             let cursor = ProbeCursor { index, at };
             match cursor.step(s, p) {
-                ItemStep::Refused(n, place) => refused(n, place),
+                ItemStep::Refused(n, place) => {
+                    refused(n, place);
+                }
                 ItemStep::Is(x, _) => item(x),
             }
         }

@@ -57,8 +57,12 @@ pub fn vector(line: &[u8], bytes: &[u8]) {
 
 fn show(s: &[u8], types: &[u8]) {
     match read(s, types) {
-        MessageRead::NotValid => put(b" invalid"),
-        MessageRead::Refused(n, place) => refused(n, place),
+        MessageRead::NotValid => {
+            put(b" invalid");
+        }
+        MessageRead::Refused(n, place) => {
+            refused(n, place);
+        }
         MessageRead::Is(header, cursor, end) => {
             show_header(header);
             number(end);
@@ -98,7 +102,9 @@ fn show_fields(s: &[u8], types: &[u8], first: Cursor) {
     let mut left = first.count;
     while 0 < left {
         match cursor.step(s, types) {
-            FieldStep::Refused(n, place) => refused(n, place),
+            FieldStep::Refused(n, place) => {
+                refused(n, place);
+            }
             FieldStep::Is(f, next) => {
                 put(b",");
                 show_field(f);
@@ -114,9 +120,15 @@ fn show_field(f: Field) {
     number(f.kind as usize);
     let shape = f.shape;
     match shape {
-        Shape::Scalar => put(b" -"),
-        Shape::NullArray => put(b" -1"),
-        Shape::Array(n) => number(n),
+        Shape::Scalar => {
+            put(b" -");
+        }
+        Shape::NullArray => {
+            put(b" -1");
+        }
+        Shape::Array(n) => {
+            number(n);
+        }
         Shape::Matrix(n, d) => {
             number(n);
             put(b" in");
@@ -129,8 +141,12 @@ fn show_field(f: Field) {
 
 fn count(s: &[u8], types: &[u8]) {
     match read(s, types) {
-        MessageRead::NotValid => put(b" invalid"),
-        MessageRead::Refused(n, place) => refused(n, place),
+        MessageRead::NotValid => {
+            put(b" invalid");
+        }
+        MessageRead::Refused(n, place) => {
+            refused(n, place);
+        }
         MessageRead::Is(_, cursor, end) => {
             number(cursor.count);
             number(end);
@@ -140,7 +156,9 @@ fn count(s: &[u8], types: &[u8]) {
 
 fn one_field(s: &[u8], k: usize) {
     match field_place(s, &[], k) {
-        FieldRead::Refused(n, place) => refused(n, place),
+        FieldRead::Refused(n, place) => {
+            refused(n, place);
+        }
         FieldRead::Is(f, _) => show_field(f),
     }
     number(field(s, &[], k).len());
@@ -155,7 +173,9 @@ fn one_step(s: &[u8], encoding: Encoding, types: &[u8], next: usize, at: usize) 
         at,
     };
     match cursor.step(s, types) {
-        FieldStep::Refused(n, place) => refused(n, place),
+        FieldStep::Refused(n, place) => {
+            refused(n, place);
+        }
         FieldStep::Is(f, _) => show_field(f),
     }
 }

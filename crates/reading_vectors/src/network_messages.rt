@@ -42,7 +42,9 @@ pub fn vector(line: &[u8], bytes: &[u8]) {
 
 fn show(s: &[u8], sizes: &[u16]) {
     match read(s, sizes) {
-        NetworkMessageRead::Refused(n, place) => refused(n, place),
+        NetworkMessageRead::Refused(n, place) => {
+            refused(n, place);
+        }
         NetworkMessageRead::Is(envelope, places, p) => {
             let id = envelope.publisher;
             publisher(id);
@@ -56,7 +58,9 @@ fn show(s: &[u8], sizes: &[u16]) {
 // The id's type and its number; of a string its length.
 pub fn publisher(id: PublisherId) {
     match id {
-        PublisherId::Absent => put(b" -"),
+        PublisherId::Absent => {
+            put(b" -");
+        }
         PublisherId::Byte(v) => typed(0, v as usize),
         PublisherId::UInt16(v) => typed(1, v as usize),
         PublisherId::UInt32(v) => typed(2, v as usize),
@@ -78,7 +82,9 @@ fn show_messages(s: &[u8], header: PayloadHeader, end: usize, sizes: &[u16], p: 
     let mut left = p.count;
     while 0 < left {
         match cursor.step(s, p, sizes) {
-            MessageStep::Refused(n, place) => refused(n, place),
+            MessageStep::Refused(n, place) => {
+                refused(n, place);
+            }
             MessageStep::Is(m, next) => {
                 show_message(s, header, end, sizes, m);
                 cursor = next;
@@ -98,7 +104,9 @@ fn show_message(s: &[u8], header: PayloadHeader, end: usize, sizes: &[u16], m: M
 
 fn place(s: &[u8], k: usize) {
     match message_place(s, &[], k) {
-        MessageRead::Refused(n, place) => refused(n, place),
+        MessageRead::Refused(n, place) => {
+            refused(n, place);
+        }
         MessageRead::Is(m, next) => {
             number(m.offset);
             number(m.length);

@@ -35,7 +35,9 @@ pub fn vector(line: &[u8], bytes: &[u8]) {
 
 fn element(bytes: &[u8], k: usize) {
     match tell_variant(bytes, 0) {
-        Told::Refused(n, place) => refused(n, place),
+        Told::Refused(n, place) => {
+            refused(n, place);
+        }
         Told::Is(p) => {
             let shape = p.shape;
             show(bytes, tell_element(bytes, p.first, p.kind, count(shape), k));
@@ -54,7 +56,9 @@ fn count(shape: Shape) -> usize {
 
 fn show(bytes: &[u8], told: Told) {
     match told {
-        Told::Refused(n, place) => refused(n, place),
+        Told::Refused(n, place) => {
+            refused(n, place);
+        }
         Told::Is(p) => {
             show_parts(p);
             if (p.kind == QUALIFIED_NAME) | (p.kind == LOCALIZED_TEXT) {
@@ -78,9 +82,15 @@ fn show_parts(p: ValueParts) {
     let shape = p.shape;
     number(p.kind as usize);
     match shape {
-        Shape::Scalar => named(b"- -1", 0),
-        Shape::NullArray => named(b"- -1", 1),
-        Shape::Array(n) => number(n),
+        Shape::Scalar => {
+            named(b"- -1", 0);
+        }
+        Shape::NullArray => {
+            named(b"- -1", 1);
+        }
+        Shape::Array(n) => {
+            number(n);
+        }
         Shape::Matrix(n, d) => {
             number(n);
             put(b" in");
@@ -97,7 +107,9 @@ fn show_parts(p: ValueParts) {
 
 fn show_field(told: FieldTold) {
     match told {
-        FieldTold::Refused(n, place) => refused(n, place),
+        FieldTold::Refused(n, place) => {
+            refused(n, place);
+        }
         FieldTold::Is(f) => {
             let value = f.value;
             show_parts(value);

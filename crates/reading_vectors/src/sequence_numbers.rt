@@ -59,8 +59,14 @@ fn step(last: LastSequenceNumber, received: u16) -> LastSequenceNumber {
 
 fn newness(x: Newness) {
     match x {
-        Newness::Newer => put(b" newer"),
-        Newness::OldOrSame => put(b" old"),
-        Newness::Invalid => put(b" invalid"),
+        Newness::Newer => {
+            put(b" newer");
+        }
+        Newness::OldOrSame => {
+            put(b" old");
+        }
+        Newness::Invalid => {
+            put(b" invalid");
+        }
     }
 }

@@ -30,7 +30,9 @@ pub fn vector(line: &[u8], bytes: &[u8]) {
     match letter(line) {
         b'N' => written(decimal(line, 1)),
         b'R' => read(bytes, line),
-        b'F' => digits(find(bytes, b'\t') as u64),
+        b'F' => {
+            digits(find(bytes, b'\t') as u64);
+        }
         b'S' => starting(bytes),
         _ => stored(bytes, line),
     }
@@ -50,7 +52,9 @@ fn read(text: &[u8], line: &[u8]) {
             newline();
             digits(next as u64);
         }
-        Decimal::Not => put(b"no"),
+        Decimal::Not => {
+            put(b"no");
+        }
     }
 }
 

@@ -35,8 +35,12 @@ pub fn vector(line: &[u8], bytes: &[u8]) {
 
 fn alone(bytes: &[u8], at: usize, kind: u8) {
     match plain_value(bytes, at, kind) {
-        Reached::To(end) => number(end),
-        Reached::Refused(n, place) => refused(n, place),
+        Reached::To(end) => {
+            number(end);
+        }
+        Reached::Refused(n, place) => {
+            refused(n, place);
+        }
     }
 }
 
@@ -73,7 +77,9 @@ fn show(answer: Measured) {
             number(d as usize);
             number(end);
         }
-        Measured::Refused(n, place) => refused(n, place),
+        Measured::Refused(n, place) => {
+            refused(n, place);
+        }
     }
 }
 

@@ -8,13 +8,13 @@ use mathlib.Core.Logic.{_⊎_, inl, inr, ⊎-elim}
 use mathlib.Core.Option.{some, none, orElse, Option·getD}
 use native.Mathlib.Nat.{div-mul-le-self, lt-div-mul-add}
 use native.Mathlib.Omega.{arith}
-use lib.ListN.{length, getD, drop, length-take}
+use lib.ListN.{length, getD, take, drop, length-take}
 use lib.Seq.{getD-take, getD-drop, ext-getD}
 use borrow.Author.Tests.{le-leb, lt-ltb, eq-eqb}
-use Rattle.chunk.specs.Cutting.{cutData}
+use Rattle.chunk.specs.Cutting.{cutData, chunkBytes, cutRule}
 use Rattle.wire.specs.Answer.{got}
 use Rattle.chunk.specs.Datagram.{placeOf, chunkAt, chunkData}
-use Rattle.chunk.proofs.CutLaws.{cuts, data-most, data-full}
+use Rattle.chunk.proofs.CutLaws.{cuts, cut-wrote, data-most, data-full}
 use Rattle.chunk.proofs.ReadBack.{cutPlace, datagram-back, data-back}
 use Rattle.reassembly.specs.Views.{View, has, isSome, differs, dataView, bothViews, bytesBelow}
 use Rattle.marks.specs.Offsets.{inRange}
@@ -174,20 +174,24 @@ module _ (id : Identity) (p : List ℕ) (size : ℕ) where
           )
 
   -- ---- WHAT CUTTING WROTE, after an accepted chunk's envelope, reads as that chunk
-  cut-is-chunk : (k : ℕ) (a : Arrival) → id .origin .number < 65536 → id .total ≡ length p → IsCut id p size k a → IsChunk id p size k a
-  cut-is-chunk k a hn long w =
+  cut-is-chunk : (k : ℕ) (a : Arrival) → id .total ≡ length p → IsCut id p size k a → IsChunk id p size k a
+  cut-is-chunk k a long w =
       let s = a .datagram in
-      let c = placeOf (w .message .envelope) (w .message .places .«publisher_end») (cutPlace p (id .origin .number) size k hn (w .accepted) (w .at)) in
-      let e : chunkAt (a .sizes) s ≡ got c (length s) = datagram-back p (id .origin .number) size k hn (w .accepted) (a .sizes) s (w .message) (w .at) (w .envelope) (w .chunk) (w .payload) in
-      let d : chunkData (chunkAt (a .sizes) s) s ≡ cutData p size k =
-      data-back p (id .origin .number) size k hn (w .accepted) (a .sizes) s (w .message) (w .at) (w .envelope) (w .chunk) (w .payload) in
+      let n = id .origin .number in
+      let hn : n < 65536 = w .cut .2 in
+      let y = cut-wrote p n size k (w .buffer) (w .n) (sym (w .cut .0)) in
+      let accepted : cutRule (length p) size k ≡ 0 = y .rule in
+      let payload : drop (w .at) s ≡ chunkBytes p n size k = w .payload ∙ ap (take (w .n)) (w .cut .1) ∙ y .bytes in
+      let c = placeOf (w .message .envelope) (w .message .places .«publisher_end») (cutPlace p n size k hn accepted (w .at)) in
+      let e : chunkAt (a .sizes) s ≡ got c (length s) = datagram-back p n size k hn accepted (a .sizes) s (w .message) (w .at) (w .envelope) (w .chunk) payload in
+      let d : chunkData (chunkAt (a .sizes) s) s ≡ cutData p size k = data-back p n size k hn accepted (a .sizes) s (w .message) (w .at) (w .envelope) (w .chunk) payload in
       let t : length p ≡ id .total = sym long in
       let d₂ : chunkData (got c (length s)) s ≡ cutData p size k = rw e at d in
       record {
         message = chunkMessage c s;
         same = λ i. record { origin = record { publisher = w .publisher i; group = w .group i; writer = w .writer i; number = id .origin .number }; total = t i };
         reads = reading-got (a .sizes) s c (length s) e ∙ ap (chunk (chunkMessage c s) (k * size)) d₂;
-        inside = cuts (length p) size k (w .accepted) .inside;
+        inside = cuts (length p) size k accepted .inside;
       }
 
   -- ---- ALL CHUNKS OF A PAYLOAD, taken in in any order by a sound, just emptied partial whose area is at least that long, some of them more
@@ -209,9 +213,9 @@ module _ (id : Identity) (p : List ℕ) (size : ℕ) where
       }
 
   -- ---- A PAYLOAD CUT AND RESTORED: the same of datagrams with what cutting wrote for the chunks
-  pub all-cuts-restore : (l : List Arrival) → AllArrive id p size (IsCut id p size) l → id .origin .number < 65536 → (s : Partial) → Good s → s .rec .started ≡ false → length p ≤ length (s .payload)
+  pub all-cuts-restore : (l : List Arrival) → AllArrive id p size (IsCut id p size) l → (s : Partial) → Good s → s .rec .started ≡ false → length p ≤ length (s .payload)
       → Restored p l s
-  all-cuts-restore l all hn =
-      let f : (k : ℕ) (a : Arrival) → IsCut id p size k a → IsChunk id p size k a = λ k a w. cut-is-chunk k a hn (all .total) w in
+  all-cuts-restore l all =
+      let f : (k : ℕ) (a : Arrival) → IsCut id p size k a → IsChunk id p size k a = λ k a w. cut-is-chunk k a (all .total) w in
       all-chunks-restore l
       (record { some = all .some; filled = all .filled; total = all .total; only = only-all f l (all .only); each = λ k h. among-all f k l (all .each k h) })

@@ -4,12 +4,13 @@ use mathlib.Core.List.{List, [], _∷_}
 use mathlib.Core.Logic.{_⊎_}
 use mathlib.Core.Path.{_≡_}
 use mathlib.Core.Bool.{true}
-use lib.ListN.{length, drop}
+use lib.ListN.{length, take, drop}
 use Rattle.wire.specs.Answer.{got}
+use Rattle.wire_writer.specs.declared.writing.Written.{Written}
 use Rattle.publisher_id.specs.PublisherRecord.{publisherOf, recordAt}
 use Rattle.network_message.specs.Envelope.{NetworkMessage, networkMessageAt}
 use Rattle.chunk.specs.Datagram.{chunkWriterOf, chunkGroupOf}
-use Rattle.chunk.specs.Cutting.{cutData, chunkBytes, cutRule}
+use Rattle.chunk.specs.Cutting.{cutData, CutWrote}
 use Rattle.reassembly.specs.Record.{Identity, identityOf, Partial}
 use Rattle.reassembly.specs.Reading.{readingAt}
 use Rattle.reassembly.specs.Reading.Reading.{chunk}
@@ -52,8 +53,11 @@ module _ (id : Identity) (p : List ℕ) (size : ℕ) where
         (recordAt (message .envelope .publisher) (message .places .«publisher_end») (a .datagram)) ≡ id .origin .publisher
     pub group : chunkGroupOf (message .envelope .group) ≡ id .origin .group
     pub writer : chunkWriterOf (message .envelope .«payload_header») ≡ id .origin .writer
-    pub accepted : cutRule (length p) size k ≡ 0
-    pub payload : drop at (a .datagram) ≡ chunkBytes p (id .origin .number) size k
+    pub buffer : List ℕ
+    pub written : List ℕ
+    pub n : ℕ
+    pub cut : CutWrote p (id .origin .number) size k buffer written (Written.Is n)
+    pub payload : drop at (a .datagram) ≡ take n written
 
 -- every arrival is of some chunk k
 abbrev pub Only : (ℕ → Arrival → Type 0) → List Arrival → Type 0

@@ -34,15 +34,21 @@ pub fn kept(out: Outcome, payload: [u8; 8], marks: [u8; 1]) -> Part {
 
 fn verdict(answer: Verdict) {
     match answer {
-        Verdict::Done => put(b"done\n"),
+        Verdict::Done => {
+            put(b"done\n");
+        }
         Verdict::Refused(n, place) => refused(n, place),
     }
 }
 
 fn completeness(answer: Completeness) {
     match answer {
-        Completeness::Yes => put(b"yes\n"),
-        Completeness::No => put(b"no\n"),
+        Completeness::Yes => {
+            put(b"yes\n");
+        }
+        Completeness::No => {
+            put(b"no\n");
+        }
         Completeness::Refused(n, place) => refused(n, place),
     }
 }

@@ -136,7 +136,9 @@ pub fn hole_from(line: &[u8]) {
     let mut marks = [0u8; 8];
     let m = word_bytes(&mut marks, line, 3);
     match next_hole(part(&marks, 0, m), decimal(line, 4), decimal(line, 5)) {
-        HoleStep::Last => put(b"last\n"),
+        HoleStep::Last => {
+            put(b"last\n");
+        }
         HoleStep::Is(h, end) => {
             put(b"hole");
             number(h.offset);
@@ -184,8 +186,12 @@ fn encoding(n: usize) -> Encoding {
 fn shown(front: &[u8], area: &[u8], types: &[u8], c: Cursor) {
     match next(front, area, types, c) {
         FieldShown::Refused(n, place) => refused(n, place),
-        FieldShown::Ends => put(b"ends\n"),
-        FieldShown::Last => put(b"last\n"),
+        FieldShown::Ends => {
+            put(b"ends\n");
+        }
+        FieldShown::Last => {
+            put(b"last\n");
+        }
         FieldShown::Is(f, after) => {
             one_field(f);
             put(b" next");

@@ -6,10 +6,8 @@ use mathlib.Core.List.{List, [], _∷_, _++_}
 use Prim.Native.Nat.{ℕ, suc, _+_, _≤_, _<_}
 use native.Mathlib.Omega.{arith}
 use lib.Dec.{eqb}
-use lib.ListN.{length, drop, getD, set, length-set, length-append}
+use lib.ListN.{length, drop, set, length-set, length-append}
 use lib.Seq.{sets, length-sets, set-append-left}
-use mir.Val.{Fits}
-use mir.Syntax.{w8}
 use types.Run.{OneOf, miss}
 use denote.Enum.Declared.{tagOf}
 use Rattle.wire.specs.Answer.{Answer, got, refused}
@@ -36,10 +34,6 @@ use Rattle.dataset_message_writer.specs.Rewrite.{whereValid}
 use Rattle.round_trip.specs.NetworkMessage.{rewritten}
 use Rattle.rewriting.specs.Same.{messageSame, datagramSame}
 use Rattle.round_trip.proofs.NetworkMessageRewritten as datagram
-
--- what the code knows of a slice of bytes, as the theorems ask it
-pub bytes : (s : List ℕ) → ((i : ℕ) → Fits w8 (getD s i 0)) → Bytes s
-bytes s h i = omega (arith, h i)
 
 -- bytes stored in the front of a buffer
 sets-left : (b s r : List ℕ) (i : ℕ) → i + length b ≤ length s → sets (s ++ r) i b ≡ sets s i b ++ r

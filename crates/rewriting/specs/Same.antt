@@ -2,7 +2,9 @@
 -- for that and the second one (document 02, Req 02).
 use Prim.Native.Nat.{ℕ}
 use mathlib.Core.List.{List}
-use Rattle.wire_writer.specs.Writing.{Output, writing, afterReading}
+use Rattle.wire_writer.specs.Fits.{Bytes}
+use Rattle.wire_writer.specs.Writing.{Output, writing, afterReading, Writes}
+use Rattle.wire_writer.specs.declared.writing.Written.{Written}
 use Rattle.dataset_header.specs.Header.{messageHeld}
 use Rattle.dataset_message.specs.Message.{messageAt}
 use Rattle.dataset_message_writer.specs.Rewrite.{whereValid}
@@ -16,3 +18,10 @@ messageSame types s = afterReading (messageAt types s) (whereValid (λ m. messag
 -- a datagram: reading's refusal is the writer's; an accepted one is s again, but for the two cases
 abbrev pub datagramSame : List ℕ → List ℕ → Output
 datagramSame sizes s = afterReading (networkMessageAt sizes s) (λ m. writing (rewritten m s))
+
+-- what both promise, of the buffer before and after and the answer: that the bytes that were read are bytes, and what was written
+abbrev pub RewroteMessage : List ℕ → List ℕ → List ℕ → List ℕ → Written → Type 0
+RewroteMessage types s entry exit r = Bytes s × Writes (messageSame types s) entry exit r
+
+abbrev pub RewroteDatagram : List ℕ → List ℕ → List ℕ → List ℕ → Written → Type 0
+RewroteDatagram sizes s entry exit r = Bytes s × Writes (datagramSame sizes s) entry exit r

@@ -19,7 +19,7 @@ ghost use lib.ListN.{length};
 ghost use lib.Seq.{sets};
 ghost use Rattle.wire.specs.Number.{leBytes};
 ghost use Rattle.wire_writer.specs.Writing.{Writes, writing};
-ghost use Rattle.rewriting.specs.Same.{messageSame, datagramSame};
+ghost use Rattle.rewriting.specs.Same.{RewroteMessage, RewroteDatagram};
 
 // All of a slice, from the start of a buffer.
 fn copy_whole(out: &mut [u8], s: &[u8]) -> Written
@@ -50,9 +50,7 @@ fn copy_with(out: &mut [u8], s: &[u8], at: usize, picoseconds: u16) -> Written
 // An accepted, valid DataSetMessage written again, picoseconds of 10,000 or more as 9,999; what reading refuses is refused, and
 // one not valid is 6.
 pub fn rewrite_message(out: &mut [u8], message: &[u8], types: &[u8]) -> Written
-    ensures { λ r.
-        let same = messageSame (now (types .entry)) (now (message .entry)) in
-        ⌜ Writes same (now (out .entry)) (now (out .exit)) r ⌝ }
+    ensures { λ r. ⌜ RewroteMessage (now (types .entry)) (now (message .entry)) (now (out .entry)) (now (out .exit)) r ⌝ }
 {
     match dataset_message::message::read(&*message, &*types) {
         MessageRead::NotValid => Written::Refused(DISAGREE),
@@ -70,9 +68,7 @@ pub fn rewrite_message(out: &mut [u8], message: &[u8], types: &[u8]) -> Written
 // An accepted datagram written again, under the sizes of the configured writers. PicoSeconds of 10,000 or more are written as
 // 9,999; where PublisherId is off, its type bits are written as 0. Its messages stay as they are.
 pub fn rewrite_datagram(out: &mut [u8], datagram: &[u8], sizes: &[u16]) -> Written
-    ensures { λ r.
-        let same = datagramSame (now (sizes .entry)) (now (datagram .entry)) in
-        ⌜ Writes same (now (out .entry)) (now (out .exit)) r ⌝ }
+    ensures { λ r. ⌜ RewroteDatagram (now (sizes .entry)) (now (datagram .entry)) (now (out .entry)) (now (out .exit)) r ⌝ }
 {
     match network_message::envelope::read(&*datagram, &*sizes) {
         NetworkMessageRead::Refused(number, _) => Written::Refused(number),

@@ -31,12 +31,9 @@ use Rattle.network_header.specs.Header.{classAt, payloadHeaderAt, promotedAt, c
 use Rattle.network_header.specs.Numbers.{configuredSizes}
 use Rattle.network_message.specs.Payload.{payloadAt}
 use Rattle.network_message.specs.Envelope.{Header, NetworkMessage, identityAt, timesAt, messagesOf, envelopeAt, envelopeBodyAt, networkMessageAt}
-use Rattle.wire_writer.specs.declared.writing.Written.{Written}
-use Rattle.wire_writer.specs.Writing.{writing, writtenOf, bufferAfter, optional16Bytes, optionalI64Bytes, picosecondsRefusal, picosecondsHeld}
-use Rattle.wire_writer.proofs.Answering.{fitting-written}
+use Rattle.wire_writer.specs.Writing.{optional16Bytes, optionalI64Bytes, picosecondsRefusal, picosecondsHeld}
 use Rattle.wire_writer.proofs.Back.{Back, PicosecondsBack, join, end-fits, map-back, optionalI64-back, picoseconds-back, picoseconds-kept, held-between, held-stored, held-length}
-use Rattle.network_message_writer.specs.Envelope.{envelopeBytes, againOf, datagramAgain}
-use Rattle.network_message_writer.proofs.Again.{accepted-short}
+use Rattle.network_message_writer.specs.Envelope.{envelopeBytes, againOf}
 use Rattle.round_trip.specs.NetworkMessage.{typeCleared, rewritten}
 use Rattle.round_trip.proofs.RewrittenBytes.{rewrittenFlags, flags-cleared, cleared-shorter}
 use Rattle.network_header.proofs.FlagsBack.{flags-back}
@@ -244,17 +241,3 @@ pub rewritten-shorter : (m : NetworkMessage) (s : List ℕ) → length (rewritte
 rewritten-shorter m s =
     let x = m .envelope in
     omega (arith, cleared-shorter (envelopeHeld x (m .places) s), held-length (x .picoseconds) (picosecondsPlace x (m .places)) s)
-
--- `rewrite` accepts an accepted datagram wherever the buffer is as long, and stores exactly its rewriting.
-pub rewrite-accepted : (sizes s out : List ℕ) (m : NetworkMessage) (next : ℕ) → Bytes s → networkMessageAt sizes s ≡ got m next → length s ≤ length out
-    → (writtenOf (length out) (datagramAgain sizes s) ≡ Written.Is (length (rewritten m s)))
-    × (bufferAfter out (datagramAgain sizes s) ≡ rewritten m s ++ drop (length (rewritten m s)) out)
-rewrite-accepted sizes s out m next b h l =
-    let q = rewritten-shorter m s in
-    let k : length (rewritten m s) ≤ 65535 = omega (arith, accepted-short sizes s m next h) in
-    let j : length (rewritten m s) ≤ length out = omega arith in
-    rw h
-    (subst
-    (λ (y : List ℕ). (writtenOf (length out) (writing y) ≡ Written.Is (length (rewritten m s)))
-    × (bufferAfter out (writing y) ≡ rewritten m s ++ drop (length (rewritten m s)) out))
-    (sym (rewrite-read sizes s m next b h)) (fitting-written {bytes = rewritten m s} {entry = out} k j (record { answer = refl; buffer = refl })))

@@ -25,16 +25,14 @@ use Rattle.network_header.specs.declared.header.PayloadHeader.{PayloadHeader}
 use Rattle.network_message_writer.specs.Payload.{listBytes, lengthsShape}
 use Rattle.network_message_writer.proofs.Again.{accepted-short}
 use Rattle.network_message_writer.specs.Envelope.{GivenDatagram, envelopeBytes, datagramOf, beforePicoseconds, picosecondsTurn, datagramReadingRefusal, shapeRefusal, datagramRefusal, datagramOutput}
-use Rattle.round_trip.specs.NetworkMessage.{payloadFor, CountsAgree, PartsAgree, ReadsBack, WritesAgain}
+use Rattle.round_trip.specs.NetworkMessage.{payloadFor, CountsAgree, PartsAgree, ReadsBack}
 use Rattle.network_header.specs.Envelope.{FitsEnvelope}
 use Rattle.round_trip.proofs.NetworkMessagePayload.{as-many-ids}
 use Rattle.round_trip.proofs.NetworkMessageWritten.{read-written, message-written}
 use Rattle.round_trip.proofs.NetworkMessageGiven.{text-written, promoted-written, writer-id-written}
-use Rattle.round_trip.proofs.NetworkMessageRewritten.{rewrite-accepted, same-with-publisher, accepted-picoseconds}
+use Rattle.round_trip.proofs.NetworkMessageRewritten.{accepted-picoseconds}
 use Rattle.round_trip.proofs.NetworkMessageRefused.{refuse-written}
 use Rattle.round_trip.proofs.PicosecondsTurn.{three, their-refusal, behind-five}
-use Rattle.round_trip.proofs.NetworkMessageAccepted.{write-read}
-use Rattle.wire_writer.specs.Fits.{Bytes, Numbers}
 
 -- Theorem 1. What the writer accepted reads back, under the same configuration, as what it was given.
 
@@ -70,17 +68,7 @@ reads-back g x sizes configured entry exit n f w =
     let a = reported (datagramRefusal g x sizes configured) (datagramOf g x) entry exit n w in
     (subst (ReadsBack g x sizes configured) (sym (a .front)) (given-back g x sizes configured f (a .number) (a .limit)), a .rest)
 
--- Theorem 2. An accepted datagram written again gives `rewritten m s`: the same bytes but for the two cases that documents 01 and 02
--- name. `rewrite` accepts it wherever the buffer is as long, and so does the writer its parts as they were read.
-
-pub writes-again : (s sizes configured out : List ℕ) (m : NetworkMessage) (next : ℕ) → Bytes s → Numbers sizes → Numbers configured → networkMessageAt sizes s ≡ got m next → length s ≤ length out
-    → WritesAgain s sizes configured out m
-writes-again s sizes configured out m next b hs hc h l =
-    let r = rewrite-accepted sizes s out m next b h l in
-    let w = write-read sizes configured s m next b hs hc h in
-    record { answer = r .0; buffer = r .1; unchanged = same-with-publisher sizes s m next b h; unrefused = w .0; same = w .1 }
-
--- Theorem 3. A refusal in reading order is the writer's answer, since these rules come first.
+-- Theorem 2. A refusal in reading order is the writer's answer, since these rules come first.
 
 pub reading-number-first : (g : GivenDatagram) (x : Envelope) (sizes configured : List ℕ) → eqb (datagramReadingRefusal g x sizes) 0 ≡ false
     → datagramOutput g x sizes configured ≡ refusing (datagramReadingRefusal g x sizes)
@@ -103,7 +91,7 @@ pub refuses-alike : (g : GivenDatagram) (x : Envelope) (sizes : List ℕ) → Fi
     → (place : ℕ) × (networkMessageAt sizes (datagramOf g x) ≡ refused (datagramReadingRefusal g x sizes) place)
 refuses-alike g x sizes f a l t h = refuse-written g x sizes f a l t h
 
--- Theorem 4. Of parts that agree with their envelope the writer accepts those, and only those, that read back as they were given.
+-- Theorem 3. Of parts that agree with their envelope the writer accepts those, and only those, that read back as they were given.
 
 counts-agree : (g : GivenDatagram) (x : Envelope) (sizes configured : List ℕ) → PartsAgree g x sizes configured → CountsAgree g x
 counts-agree g x sizes configured a =

@@ -22,12 +22,10 @@ use Rattle.network_header.specs.Flags.{flagBytes, flagsFor}
 use Rattle.network_header.specs.Envelope.{envelopeHeld}
 use Rattle.network_message.specs.WriterId.{writerIdOf}
 use Rattle.network_message.specs.Envelope.{NetworkMessage, networkMessageAt, messagePlaceAt, messageBytes}
-use Rattle.publisher_id.specs.Publisher.{publisherOn, publisherBytes, bytesBefore, textOf}
+use Rattle.publisher_id.specs.Publisher.{publisherBytes, bytesBefore, textOf}
 use Rattle.network_header.specs.Group.{groupBytes}
 use Rattle.network_header.specs.Header.{classBytes, payloadHeaderBytes, promotedOf}
-use Rattle.network_message_writer.specs.Envelope.{GivenDatagram, envelopeBytes, datagramOf, shapeRefusal, datagramRefusal, datagramAgain}
-use Rattle.wire_writer.specs.Writing.{writtenOf, bufferAfter}
-use Rattle.wire_writer.specs.declared.writing.Written.{Written}
+use Rattle.network_message_writer.specs.Envelope.{GivenDatagram, envelopeBytes, shapeRefusal}
 
 -- where the variable parts of a written envelope end
 abbrev pub placesOf : GivenDatagram → Envelope → Places
@@ -169,13 +167,3 @@ pub record ReadsBack (g : GivenDatagram) (x : Envelope) (sizes configured d : Li
   pub chunk : (w : ℕ) → x .«payload_header» ≡ PayloadHeader.Chunk w → drop (writtenMessage g x sizes .payload .first) d ≡ g .messages
   -- a probe's body
   pub probe : x .«payload_header» ≡ PayloadHeader.Probe → drop (placesOf g x .payload) d ≡ g .messages
-
--- An accepted datagram s, written again: `rewrite` accepts it in the buffer out and leaves `rewritten m s` there, and so does the writer
--- its parts as they were read.
-pub record WritesAgain (s sizes configured out : List ℕ) (m : NetworkMessage) : Type 0 where
-  pub answer : writtenOf (length out) (datagramAgain sizes s) ≡ Written.Is (length (rewritten m s))
-  pub buffer : bufferAfter out (datagramAgain sizes s) ≡ rewritten m s ++ drop (length (rewritten m s)) out
-  -- with a PublisherId nothing but the PicoSeconds can differ
-  pub unchanged : publisherOn (m .envelope .publisher) ≡ true → rewritten m s ≡ envelopeHeld (m .envelope) (m .places) s
-  pub unrefused : datagramRefusal (givenOf s (m .envelope) (m .places) sizes configured) (m .envelope) sizes configured ≡ 0
-  pub same : datagramOf (givenOf s (m .envelope) (m .places) sizes configured) (m .envelope) ≡ rewritten m s

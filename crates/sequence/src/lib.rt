@@ -1,5 +1,6 @@
 // Is a received sequence number newer than the last one? Document 01, "Newness".
 ghost use mathlib.Core.Path.{_≡_};
+ghost use Prim.Native.Nat.{_≤_};
 ghost use Rattle.sequence.specs.Newness.{distanceOf, newnessOf, noNumber, newnessBy, numberAfter, lastAfter};
 
 // What is said of a received number.
@@ -33,7 +34,7 @@ pub fn no_number() -> LastSequenceNumber
 
 // d = (received - 1 - last) modulo 65,536.
 pub fn distance(last: u16, received: u16) -> u16
-    ensures { λ r. ⌜ r ≡ distanceOf last received ⌝ }
+    ensures { λ r. ⌜ (r ≡ distanceOf last received) × (last ≤ 65535) ⌝ }
 {
     ((received as u32 + 65535 + (65536 - last as u32)) % 65536) as u16
 }

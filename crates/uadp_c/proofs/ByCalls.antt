@@ -1,5 +1,5 @@
 -- Walking by calls: from a head record that `uadp_read_message` filled, and from an envelope record that `uadp_read` filled, the calls tell what document
--- 01's walk finds; what was read, written again from its record, is the same bytes. The premises are the contracts, and lent bytes that are bytes.
+-- 01's walk finds; what was read, written again from its record, is the same bytes. The premises are the contracts.
 -- Assumes nothing.
 use Prim.Native.Nat.{ℕ, suc, _+_, _*_, _-_, _^_, _≤_, _<_}
 use mathlib.Core.Path.{_≡_, refl, ap, sym, subst, _∙_}
@@ -200,21 +200,21 @@ read-back s config writer m e entry r head q l w =
     let b : HEAD_SIZE ≤ length entry → HeadBack head m = rw q at (w .reads) in
     (omega (arith, ap (λ (y : List ℕ). length y) f, laid-length entry 0 (numberBytes (headNumbers (valid m)))), b l)
 
-module _ (s config : List ℕ) (writer : ℕ) (m : Message) (e : ℕ) (entry : List ℕ) (r : ℕ) (head : List ℕ) (bytes : Bytes s) (small : length s < 256 ^ 8)
-    (q : messageAt (typesFor config writer) s ≡ got (valid m) e) (l : HEAD_SIZE ≤ length entry) (w : HeadRead s config writer entry r head) where
+module _ (s config : List ℕ) (writer : ℕ) (m : Message) (e : ℕ) (entry : List ℕ) (r : ℕ) (head : List ℕ) (q : messageAt (typesFor config writer) s ≡ got (valid m) e)
+    (l : HEAD_SIZE ≤ length entry) (w : HeadRead s config writer entry r head) where
   back : (HEAD_SIZE ≤ length head) × HeadBack head m
   back = read-back s config writer m e entry r head q l w
 
-  begins : Stands s config writer m e q bytes small (back .1 .fits .count) 0 (m .cursor .at) head
-  begins = starts s config writer m e q bytes small (back .1 .fits .count) head (back .0) (back .1)
+  begins : Stands s config writer m e q (w .bytes) (w .size) (back .1 .fits .count) 0 (m .cursor .at) head
+  begins = starts s config writer m e q (w .bytes) (w .size) (back .1 .fits .count) head (back .0) (back .1)
 
   -- THE FIELDS OF A MESSAGE, BY CALLS, from the head record that `uadp_read_message` filled
   pub fields-by-calls : FieldsByCalls s config writer m head
-  fields-by-calls = by-calls s config writer m e q bytes small (back .1 .fits .count) head begins
+  fields-by-calls = by-calls s config writer m e q (w .bytes) (w .size) (back .1 .fits .count) head begins
 
   -- and the header that is read in it afterwards
   pub header-kept : (fs : List (List ℕ)) (ys : List FieldCall) → AllLong FIELD_SIZE fs → length fs ≤ m .cursor .count → FieldCalls s config writer fs head ys
       → (headerIn (lastHead head ys) ≡ m .header) × (headFits (lastHead head ys) ≡ true)
   header-kept fs ys long n y =
-      let z = all s config writer m e q bytes small (back .1 .fits .count) fs ys 0 (m .cursor .at) head long (omega arith) begins y .1 .1 in
+      let z = all s config writer m e q (w .bytes) (w .size) (back .1 .fits .count) fs ys 0 (m .cursor .at) head long (omega arith) begins y .1 .1 in
       (z .header, z .fitting)

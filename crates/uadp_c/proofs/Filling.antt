@@ -1,13 +1,15 @@
 -- The ways out of a function that fills one record.
 -- Assumes nothing.
-use Prim.Native.Nat.{ℕ, _+_, _≤_, _<_}
+use Prim.Native.Nat.{ℕ, _+_, _^_, _≤_, _<_}
 use mathlib.Core.Path.{_≡_, refl, ap, subst, _∙_}
 use mathlib.Core.Bool.{true, false}
 use mathlib.Core.List.{List}
 use native.Mathlib.Omega.{arith}
 use borrow.Author.Tests.{le-leb, lt-leb, lt-ltb, le-ltb}
 use lib.Dec.{leb}
-use lib.ListN.{length}
+use lib.ListN.{length, getD}
+use mir.Syntax.{w8}
+use mir.Val.{Fits}
 use Rattle.wire.specs.Answer.{Answer, got, refused}
 use Rattle.wire_writer.specs.Store.{laid}
 use Rattle.config_text.specs.declared.ConfigRead.{ConfigRead}
@@ -17,6 +19,8 @@ use Rattle.dataset_message.specs.Message.{Message, messageAt, fieldPlaceAt}
 use Rattle.dataset_fields.specs.declared.fields.Field.{Field}
 use Rattle.records.specs.Result.{resultOf, Filling, resultIn, filledIn}
 use Rattle.records.specs.Writers.{typesFor, configFilling, configBytes}
+use Rattle.network_message_writer.proofs.Lent.{bytes}
+use Rattle.uadp_c.specs.ByCalls.{HeadRead}
 use Rattle.uadp_c.specs.Fields.{headFilling, HeadReads, fieldFilling}
 
 abbrev pub Ends : Answer Filling → List ℕ → ℕ → List ℕ → Type 0
@@ -51,13 +55,16 @@ pub head-read : (c s ty : List ℕ) (w : ℕ) (y : Answer (Valid Message)) → t
     → headFilling y ≡ headFilling (messageAt (typesFor c w) s)
 head-read c s ty w y e q = ap (λ (a : Answer (Valid Message)). headFilling a) (q ∙ ap (λ (t : List ℕ). messageAt t s) e)
 
-pub head-filled : (c s ty : List ℕ) (w : ℕ) (y : Answer (Valid Message)) (entry exit : List ℕ) (x : ℕ) → ty ≡ typesFor c w → y ≡ messageAt ty s
-    → Ends (headFilling (messageAt (typesFor c w) s)) entry x exit → HeadReads y entry exit
-    → (x ≡ resultIn (headFilling (messageAt (typesFor c w) s)) entry)
-    × (exit ≡ filledIn (headFilling (messageAt (typesFor c w) s)) entry)
-    × HeadReads (messageAt (typesFor c w) s) entry exit
-head-filled c s ty w y entry exit x e q f h =
-    (f .0, f .1, subst (λ (a : Answer (Valid Message)). HeadReads a entry exit) (q ∙ ap (λ (t : List ℕ). messageAt t s) e) h)
+-- what `uadp_read_message` promises, with what is known of the message
+pub head-filled : (c s ty : List ℕ) (w : ℕ) (y : Answer (Valid Message)) (entry exit : List ℕ) (x : ℕ) → ((i : ℕ) → Fits w8 (getD s i 0)) → length s < 2 ^ 64
+    → ty ≡ typesFor c w → y ≡ messageAt ty s → Ends (headFilling (messageAt (typesFor c w) s)) entry x exit → HeadReads y entry exit → HeadRead s c w entry x exit
+head-filled c s ty w y entry exit x known long e q f h = record {
+  answer = f .0;
+  filled = f .1;
+  reads = subst (λ (a : Answer (Valid Message)). HeadReads a entry exit) (q ∙ ap (λ (t : List ℕ). messageAt t s) e) h;
+  bytes = bytes s known;
+  size = omega (arith, long);
+}
 
 pub field-read : (c s ty : List ℕ) (w k : ℕ) (y : Answer Field) → ty ≡ typesFor c w → y ≡ fieldPlaceAt ty k s
     → fieldFilling y ≡ fieldFilling (fieldPlaceAt (typesFor c w) k s)

@@ -3,7 +3,9 @@
 use Prim.Native.Nat.{ℕ, _≤_, _<_}
 use mathlib.Core.Path.{_≡_, refl, ap, sym, subst, _∙_}
 use mathlib.Core.List.{List}
-use lib.ListN.{length, take}
+use lib.ListN.{length, getD, take}
+use mir.Syntax.{w8}
+use mir.Val.{Fits}
 use native.Mathlib.Omega.{arith}
 use borrow.Author.Tests.{ne-eqb, eq-eqb, lt-ltb, le-ltb}
 use Rattle.wire.specs.Answer.{Answer, got, refused}
@@ -24,7 +26,8 @@ use Rattle.records.specs.Writers.{writersIn, sixteen, sizesIn}
 use Rattle.records.proofs.Storing.{bytes-length}
 use Rattle.probe_record.specs.Probe.{probeNumbers, probeIn, informationRefusal, probeFits, itemCursorIn, itemCursorLaid, itemNumbers, ProbeRecordBack}
 use Rattle.uadp_c.specs.Writing.{outputResult, fitting}
-use Rattle.uadp_c.specs.Probes.{probeFilling, ProbeReads, itemStep, itemResult, probeAfter, itemAfter, probePut}
+use Rattle.network_message_writer.proofs.Lent.{bytes}
+use Rattle.uadp_c.specs.Probes.{probeFilling, ProbeReads, ProbeRead, itemStep, itemResult, probeAfter, itemAfter, probePut}
 use Rattle.uadp_c.proofs.Filling.{fill-none, fill-done}
 use Rattle.uadp_c.proofs.Wrote.{of-writers}
 
@@ -34,6 +37,11 @@ probe-read c s z l n y a b d q = q ∙ ap (λ (t : List ℕ). probeMessageAt t s
 
 abbrev pub Probed : Answer ProbeMessage → List ℕ → ℕ → List ℕ → Type 0
 Probed a entry x exit = (x ≡ resultIn (probeFilling a) entry) × (exit ≡ filledIn (probeFilling a) entry) × ProbeReads a entry exit
+
+-- with what is known of the datagram, it is what `uadp_probe` promises
+pub probe-told : (d config entry : List ℕ) (x : ℕ) (exit : List ℕ) → ((i : ℕ) → Fits w8 (getD d i 0)) → Probed (probeMessageAt (sizesIn config) d) entry x exit
+    → ProbeRead d config entry x exit
+probe-told d config entry x exit h f = record { answer = f .0; filled = f .1; reads = f .2; bytes = bytes d h }
 
 pub probed-refused : (a : Answer ProbeMessage) (entry : List ℕ) (n p x : ℕ) → refused n p ≡ a → x ≡ resultOf n p → Probed a entry x entry
 probed-refused a entry n p x q h = subst (λ (y : Answer ProbeMessage). Probed y entry x entry) q (h, refl, tt)

@@ -5,7 +5,9 @@ use mathlib.Core.Path.{_≡_, refl, ap, subst, _∙_}
 use mathlib.Core.List.{List}
 use native.Mathlib.Omega.{arith}
 use borrow.Author.Tests.{lt-ltb, le-ltb}
-use lib.ListN.{length, take}
+use lib.ListN.{length, getD, take}
+use mir.Syntax.{w8}
+use mir.Val.{Fits}
 use Rattle.wire.specs.Answer.{Answer, got, refused}
 use Rattle.wire_writer.specs.Store.{laid}
 use Rattle.wire.specs.declared.optional.Optional16.{Optional16}
@@ -24,6 +26,8 @@ use Rattle.records.specs.Result.{resultOf, resultIn, filledIn}
 use Rattle.records.proofs.Storing.{bytes-length}
 use Rattle.records.specs.Writers.{writersIn, sixteen, idsIn, sizesIn}
 use Rattle.envelope_record.specs.Envelope.{payloadIn, messagesIn, messagesLaid, payloadHeaderIn, payloadHeaderEnd, placeNumbers, envelopeNumbers, EnvelopeBack}
+use Rattle.network_message_writer.proofs.Lent.{bytes}
+use Rattle.uadp_c.specs.ByCalls.{EnvelopeRead}
 use Rattle.uadp_c.specs.Messages.{envelopeFilling, EnvelopeReads, messageStep, writerAt, messageResult, envelopeAfter, placeAfter}
 use Rattle.uadp_c.proofs.Filling.{fill-none, fill-done}
 
@@ -38,6 +42,11 @@ envelope-told c s z l n y a b d q = q ∙ ap (λ (t : List ℕ). networkMessageA
 
 abbrev pub Filled : Answer NetworkMessage → List ℕ → ℕ → List ℕ → Type 0
 Filled a entry x exit = (x ≡ resultIn (envelopeFilling a) entry) × (exit ≡ filledIn (envelopeFilling a) entry) × EnvelopeReads a entry exit
+
+-- with what is known of the lent bytes, it is what `uadp_read` promises
+pub envelope-read : (d config entry : List ℕ) (x : ℕ) (exit : List ℕ) → ((i : ℕ) → Fits w8 (getD d i 0)) → ((i : ℕ) → Fits w8 (getD config i 0))
+    → Filled (networkMessageAt (sizesIn config) d) entry x exit → EnvelopeRead d config entry x exit
+envelope-read d config entry x exit h k f = record { answer = f .0; filled = f .1; reads = f .2; bytes = bytes d h; config-bytes = bytes config k }
 
 pub read-refused : (b : Answer NetworkMessage) (out : List ℕ) (n p x : ℕ) → refused n p ≡ b → x ≡ resultOf n p → Filled b out x out
 read-refused b out n p x q h = subst (λ (y : Answer NetworkMessage). Filled y out x out) q (h, refl, tt)

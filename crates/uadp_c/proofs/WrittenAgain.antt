@@ -1,6 +1,6 @@
 -- What was read into a record, written again from it and from the parts as they were read, is the same bytes.
 -- Assumes nothing.
-use Prim.Native.Nat.{ℕ, zero, suc, _+_, _^_, _≤_, _<_}
+use Prim.Native.Nat.{ℕ, zero, suc, _+_, _≤_, _<_}
 use mathlib.Core.Path.{_≡_, refl, ap, _∙_}
 use mathlib.Core.Bool.{Bool, true, false, cond}
 use mathlib.Core.List.{List, [], _∷_}
@@ -86,16 +86,16 @@ written : (bytes : List ℕ) (o : Output) (entry : List ℕ) (x : ℕ) (exit : L
 written bytes o entry x exit e a b = record { answer = a ∙ ap (outputResult entry) e; buffer = b ∙ ap (bufferAfter entry) e }
 
 -- A DATAGRAM, READ AND WRITTEN AGAIN FROM ITS RECORD, also after messages were walked over: what `uadp_write` writes is the datagram, but for the two exceptions
-pub datagram-again : (d config : List ℕ) (m : NetworkMessage) (n : ℕ) (entry : List ℕ) (r : ℕ) (envelope : List ℕ) → Bytes d → Bytes config
+pub datagram-again : (d config : List ℕ) (m : NetworkMessage) (n : ℕ) (entry : List ℕ) (r : ℕ) (envelope : List ℕ)
     → networkMessageAt (sizesIn config) d ≡ got m n → ENVELOPE_SIZE ≤ length entry → EnvelopeRead d config entry r envelope
     → (ps : List (List ℕ)) (ys : List MessageCall) → AllLong PLACE_SIZE ps → length ps ≤ m .payload .count → MessageCalls d config ps envelope ys
     → DatagramAgain d config m (lastEnvelope envelope ys)
-datagram-again d config m n entry r envelope bd bc q l w ps ys long k y =
+datagram-again d config m n entry r envelope q l w ps ys long k y =
     let b = envelope-kept d config m n entry r envelope q l w ps ys long k y in
     let last = lastEnvelope envelope ys in
     let x = m .envelope in
     let g = givenOf d x (m .places) (sizesIn config) (idsIn config) in
-    let z = write-read (sizesIn config) (idsIn config) d m n bd (configured-numbers 34 config bc) (configured-numbers 2 config bc) q in
+    let z = write-read (sizesIn config) (idsIn config) d m n (w .bytes) (configured-numbers 34 config (w .config-bytes)) (configured-numbers 2 config (w .config-bytes)) q in
     let shape = both-zero (datagram.datagramReadingRefusal g x (sizesIn config)) (datagram.shapeRefusal g x (sizesIn config) (idsIn config)) (z .0) .1 in
     let ids = both-zero (publisherShape (x .publisher) (length (g .text))) _ shape .1 in
     let counts = count-fits (x .chunk) (x .«payload_header») (g .ids) (idsIn config) (both-zero (idsShape (x .chunk) (x .«payload_header») (g .ids) (idsIn config)) _ ids .0) in
@@ -107,16 +107,16 @@ datagram-again d config m n entry r envelope bd bc q l w ps ys long k y =
     λ out x exit v. written (rewritten m d) (datagramFrom config last g) out x exit same (v .answer) (v .buffer)
 
 -- A MESSAGE, READ AND WRITTEN AGAIN FROM ITS RECORD, also after fields were walked over: what `uadp_write_message` writes is the message, but for picoseconds of 10,000 or more
-pub message-again : (s config : List ℕ) (writer : ℕ) (m : Message) (e : ℕ) (entry : List ℕ) (r : ℕ) (head : List ℕ) → Bytes s → length s < 256 ^ 8
+pub message-again : (s config : List ℕ) (writer : ℕ) (m : Message) (e : ℕ) (entry : List ℕ) (r : ℕ) (head : List ℕ)
     → messageAt (typesFor config writer) s ≡ got (valid m) e → HEAD_SIZE ≤ length entry → HeadRead s config writer entry r head
     → (fs : List (List ℕ)) (ys : List FieldCall) → AllLong FIELD_SIZE fs → length fs ≤ m .cursor .count → FieldCalls s config writer fs head ys
     → MessageAgain s config writer m (lastHead head ys)
-message-again s config writer m e entry r head bytes small q l w fs ys long k y =
-    let b = header-kept s config writer m e entry r head bytes small q l w fs ys long k y in
+message-again s config writer m e entry r head q l w fs ys long k y =
+    let b = header-kept s config writer m e entry r head q l w fs ys long k y in
     let last = lastHead head ys in
     let types = typesFor config writer in
     let g = takenAgain types s m in
-    let z = rewrite-read types s m e bytes q in
+    let z = rewrite-read types s m e (w .bytes) q in
     let given : Header → message.GivenMessage = λ h. message.givenMessage h (g .heartbeat) (g .values) (g .lengths) (g .indices) (g .padding) in
     let same : messageFrom config writer last g ≡ writing (messageHeld (m .header) s) =
     ap (λ (t : Bool). fitting t (message.messageOutput types (given (headerIn last)))) (b .1)

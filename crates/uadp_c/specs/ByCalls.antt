@@ -1,11 +1,12 @@
 -- Walking by calls of the library, and writing again what was read into records: what the contracts of src/fields.rt, src/messages.rt and
 -- src/composing.rt say of each call, and what is claimed of the calls together.
-use Prim.Native.Nat.{ℕ, _+_, _≤_}
+use Prim.Native.Nat.{ℕ, _+_, _^_, _≤_, _<_}
 use mathlib.Core.Path.{_≡_}
 use mathlib.Core.List.{List, [], _∷_}
 use lib.ListN.{length}
 use Rattle.wire.specs.Answer.{Answer, got}
 use Rattle.wire.specs.Constants.{OVER_LIMIT}
+use Rattle.wire_writer.specs.Fits.{Bytes}
 use Rattle.wire_writer.specs.Store.{laid}
 use Rattle.wire_writer.specs.Writing.{Output, writing, bufferAfter}
 use Rattle.dataset_fields.specs.Fields.{FieldStepped, nextFieldAt, walkAt, cursorBefore}
@@ -37,11 +38,14 @@ AllLong n (r ∷ rs) = (n ≤ length r) × AllLong n rs
 
 -- ---- a message's fields
 
--- what the contract of `uadp_read_message` says of a call on the head record `entry`: its result, and the record afterwards
+-- the contract of `uadp_read_message`, of a call on the head record `entry`: its result, and the record afterwards; and of the message,
+-- that each element is a byte and its length a number of 8 bytes
 pub record HeadRead (s config : List ℕ) (writer : ℕ) (entry : List ℕ) (result : ℕ) (exit : List ℕ) : Type 0 where
   pub answer : result ≡ resultIn (headFilling (messageAt (typesFor config writer) s)) entry
   pub filled : exit ≡ filledIn (headFilling (messageAt (typesFor config writer) s)) entry
   pub reads : HeadReads (messageAt (typesFor config writer) s) entry exit
+  pub bytes : Bytes s
+  pub size : length s < 256 ^ 8
 
 -- a call of `uadp_next_field`: its result, and the head and the field record afterwards
 pub record FieldCall : Type 0 where
@@ -106,11 +110,14 @@ pub record FieldsByCalls (s config : List ℕ) (writer : ℕ) (m : Message) (hea
 
 -- ---- a datagram's messages
 
--- what the contract of `uadp_read` says of a call on the envelope record `entry`: its result, and the record afterwards
+-- the contract of `uadp_read`, of a call on the envelope record `entry`: its result, and the record afterwards; and that each element of
+-- the datagram and of the configuration record is a byte
 pub record EnvelopeRead (d config entry : List ℕ) (result : ℕ) (exit : List ℕ) : Type 0 where
   pub answer : result ≡ resultIn (envelopeFilling (networkMessageAt (sizesIn config) d)) entry
   pub filled : exit ≡ filledIn (envelopeFilling (networkMessageAt (sizesIn config) d)) entry
   pub reads : EnvelopeReads (networkMessageAt (sizesIn config) d) entry exit
+  pub bytes : Bytes d
+  pub config-bytes : Bytes config
 
 -- a call of `uadp_next_message`: its result, and the envelope and the place record afterwards
 pub record MessageCall : Type 0 where

@@ -1,19 +1,22 @@
 -- A probe, its ids and strings as records, and a probe's body written (include/uadp.h, "probes").
 use Prim.Native.Nat.{ℕ, _≤_}
+use mathlib.Core.Path.{_≡_}
 use mathlib.Core.Bool.{cond}
 use mathlib.Core.List.{List}
 use lib.Dec.{eqb, ltb}
 use lib.ListN.{length}
 use Rattle.wire.specs.Constants.{NO_ROOM}
 use Rattle.wire.specs.Answer.{Answer, got, refused, mapAnswer}
+use Rattle.wire_writer.specs.Fits.{Bytes}
 use Rattle.wire_writer.specs.Store.{laid}
 use Rattle.wire_writer.specs.Writing.{Output, refusing}
-use Rattle.network_message.specs.ProbeMessage.{ProbeMessage}
+use Rattle.network_message.specs.ProbeMessage.{ProbeMessage, probeMessageAt}
 use Rattle.probe.specs.Items.{ItemStepped, itemStepAt}
 use Rattle.probe.specs.Put.{probeOutput}
 use Rattle.records.specs.Numbers.{numberBytes}
-use Rattle.records.specs.Result.{resultOf, Filling}
+use Rattle.records.specs.Result.{resultOf, Filling, resultIn, filledIn}
 use Rattle.records.specs.Sizes.{ITEM_SIZE, PROBE_SIZE}
+use Rattle.records.specs.Writers.{sizesIn}
 use Rattle.probe_record.specs.Probe.{probeNumbers, probeIn, informationRefusal, probeFits, itemCursorIn, itemCursorLaid, itemNumbers, ProbeRecordBack}
 use Rattle.uadp_c.specs.Writing.{fitting}
 
@@ -27,6 +30,14 @@ probeFilling a =
 abbrev pub ProbeReads : Answer ProbeMessage → List ℕ → List ℕ → Type 0
 ProbeReads (got m next) entry exit = PROBE_SIZE ≤ length entry → ProbeRecordBack exit (m .probe) (m .places .payload)
 ProbeReads (refused n place) entry exit = Unit {0}
+
+-- the contract of `uadp_probe`, of a call on the probe record `entry`: its result, and the record afterwards; and that each element of the
+-- datagram is a byte
+pub record ProbeRead (d config entry : List ℕ) (result : ℕ) (exit : List ℕ) : Type 0 where
+  pub answer : result ≡ resultIn (probeFilling (probeMessageAt (sizesIn config) d)) entry
+  pub filled : exit ≡ filledIn (probeFilling (probeMessageAt (sizesIn config) d)) entry
+  pub reads : ProbeReads (probeMessageAt (sizesIn config) d) entry exit
+  pub bytes : Bytes d
 
 -- the id or string that a probe record's cursor stands before, and the cursor before the next one
 abbrev pub itemStep : List ℕ → List ℕ → Answer ItemStepped

@@ -16,11 +16,12 @@ use records::writers::types_for;
 use wire::constants::NO_ROOM;
 ghost use mathlib.Core.Path.{_≡_};
 ghost use Rattle.dataset_fields.specs.Fields.{nextFieldAt};
-ghost use Rattle.dataset_message.specs.Message.{messageAt, fieldPlaceAt};
+ghost use Rattle.dataset_message.specs.Message.{fieldPlaceAt};
 ghost use Rattle.records.specs.Result.{resultIn, filledIn};
 ghost use Rattle.records.specs.Writers.{typesFor};
 ghost use Rattle.message_record.specs.Message.{cursorIn};
-ghost use Rattle.uadp_c.specs.Fields.{headFilling, HeadReads, fieldFilling, stepResult, headAfter, fieldAfter};
+ghost use Rattle.uadp_c.specs.ByCalls.{HeadRead};
+ghost use Rattle.uadp_c.specs.Fields.{fieldFilling, stepResult, headAfter, fieldAfter};
 
 // Reads a DataSetMessage alone into a message head record.
 #[no_mangle]
@@ -31,10 +32,8 @@ pub extern "C" fn uadp_read_message(
     head: &mut [u8],
 ) -> u64
     ensures { λ r.
-        let m = messageAt (typesFor (now (config .entry)) writer) (now (message .entry)) in
-        ⌜ (r ≡ resultIn (headFilling m) (now (head .entry)))
-        × (now (head .exit) ≡ filledIn (headFilling m) (now (head .entry)))
-        × HeadReads m (now (head .entry)) (now (head .exit)) ⌝ }
+        let read = HeadRead (now (message .entry)) (now (config .entry)) writer in
+        ⌜ read (now (head .entry)) r (now (head .exit)) ⌝ }
 {
     match read(message, types_for(config, writer)) {
         MessageRead::Refused(n, place) => result(n, place),

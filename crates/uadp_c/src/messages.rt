@@ -20,20 +20,16 @@ use records::writers::writer_count;
 use wire::constants::NO_ROOM;
 use wire::optional::Optional16;
 ghost use mathlib.Core.Path.{_≡_};
-ghost use Rattle.network_message.specs.Envelope.{networkMessageAt};
 ghost use Rattle.network_message.specs.Payload.{answerPlaceStep};
-ghost use Rattle.records.specs.Result.{resultIn, filledIn};
-ghost use Rattle.records.specs.Writers.{sizesIn};
-ghost use Rattle.uadp_c.specs.Messages.{envelopeFilling, EnvelopeReads, messageStep, writerAt, messageResult, envelopeAfter, placeAfter};
+ghost use Rattle.uadp_c.specs.ByCalls.{EnvelopeRead};
+ghost use Rattle.uadp_c.specs.Messages.{messageStep, writerAt, messageResult, envelopeAfter, placeAfter};
 
 // Reads a datagram's envelope into an envelope record, whose cursor stands before the first message.
 #[no_mangle]
 pub extern "C" fn uadp_read(datagram: &[u8], config: &[u8], envelope: &mut [u8]) -> u64
     ensures { λ r.
-        let m = networkMessageAt (sizesIn (now (config .entry))) (now (datagram .entry)) in
-        ⌜ (r ≡ resultIn (envelopeFilling m) (now (envelope .entry)))
-        × (now (envelope .exit) ≡ filledIn (envelopeFilling m) (now (envelope .entry)))
-        × EnvelopeReads m (now (envelope .entry)) (now (envelope .exit)) ⌝ }
+        let read = EnvelopeRead (now (datagram .entry)) (now (config .entry)) in
+        ⌜ read (now (envelope .entry)) r (now (envelope .exit)) ⌝ }
 {
     let n = writer_count(config);
     let list = sizes(config);

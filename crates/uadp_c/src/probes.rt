@@ -20,21 +20,16 @@ use records::writers::writer_count;
 use wire::constants::NO_ROOM;
 ghost use mathlib.Core.Path.{_≡_};
 ghost use Rattle.wire_writer.specs.Writing.{bufferAfter};
-ghost use Rattle.network_message.specs.ProbeMessage.{probeMessageAt};
 ghost use Rattle.probe.specs.Items.{answerItemStep};
-ghost use Rattle.records.specs.Result.{resultIn, filledIn};
-ghost use Rattle.records.specs.Writers.{sizesIn};
 ghost use Rattle.uadp_c.specs.Writing.{outputResult};
-ghost use Rattle.uadp_c.specs.Probes.{probeFilling, ProbeReads, itemStep, itemResult, probeAfter, itemAfter, probePut};
+ghost use Rattle.uadp_c.specs.Probes.{ProbeRead, itemStep, itemResult, probeAfter, itemAfter, probePut};
 
 // Reads a probe's datagram into a probe record, whose cursor stands before the first id or string.
 #[no_mangle]
 pub extern "C" fn uadp_probe(datagram: &[u8], config: &[u8], probe: &mut [u8]) -> u64
     ensures { λ r.
-        let m = probeMessageAt (sizesIn (now (config .entry))) (now (datagram .entry)) in
-        ⌜ (r ≡ resultIn (probeFilling m) (now (probe .entry)))
-        × (now (probe .exit) ≡ filledIn (probeFilling m) (now (probe .entry)))
-        × ProbeReads m (now (probe .entry)) (now (probe .exit)) ⌝ }
+        let read = ProbeRead (now (datagram .entry)) (now (config .entry)) in
+        ⌜ read (now (probe .entry)) r (now (probe .exit)) ⌝ }
 {
     let n = writer_count(config);
     let list = sizes(config);

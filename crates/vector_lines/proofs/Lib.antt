@@ -1,2 +1,3 @@
 pub mod Lettered
 pub mod Laying
+pub mod Printing

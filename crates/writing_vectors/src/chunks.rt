@@ -35,7 +35,9 @@ pub fn vector(line: &[u8], bytes: &[u8]) {
 
 fn chunk(datagram: &[u8], sizes: &[u16]) {
     match read(datagram, sizes) {
-        ChunkRead::Refused(n, place) => refused(n, place),
+        ChunkRead::Refused(n, place) => {
+            refused(n, place);
+        }
         ChunkRead::Is(c, _) => show(c),
     }
     put(b" [");
@@ -56,8 +58,12 @@ fn show(c: ChunkPlace) {
 fn cutting(payload: &[u8], size: usize, k: usize) {
     let mut out = [UNCUT; 20];
     match cut(&mut out, payload, MESSAGE, size, k) {
-        Written::Refused(n) => refused(n, 0),
-        Written::Is(n) => number(n),
+        Written::Refused(n) => {
+            refused(n, 0);
+        }
+        Written::Is(n) => {
+            number(n);
+        }
     }
     hex(&out);
 }

@@ -117,8 +117,12 @@ fn accepted(n: usize, out: &[u8], types: &[u8]) {
 
 fn read_back(message: &[u8], types: &[u8]) {
     match read(message, types) {
-        MessageRead::NotValid => put(b" invalid"),
-        MessageRead::Refused(n, place) => vector_lines::print::refused(n, place),
+        MessageRead::NotValid => {
+            put(b" invalid");
+        }
+        MessageRead::Refused(n, place) => {
+            vector_lines::print::refused(n, place);
+        }
         MessageRead::Is(_, cursor, end) => {
             number(cursor.count);
             number(end);

@@ -75,8 +75,12 @@ fn first_size(first: u8) -> u16 {
 fn again(datagram: &[u8], sizes: &[u16]) {
     let mut out = [FILL; 128];
     match rewrite(&mut out, datagram, sizes) {
-        Written::Refused(n) => bad(n),
-        Written::Is(n) => hex(part(&out, 0, n)),
+        Written::Refused(n) => {
+            bad(n);
+        }
+        Written::Is(n) => {
+            hex(part(&out, 0, n));
+        }
     }
 }
 
@@ -107,8 +111,12 @@ fn show(answer: Written, out: &[u8], sizes: &[u16]) {
 
 fn count(datagram: &[u8], sizes: &[u16]) {
     match read(datagram, sizes) {
-        NetworkMessageRead::Refused(n, _) => bad(n),
-        NetworkMessageRead::Is(_, _, p) => number(p.count),
+        NetworkMessageRead::Refused(n, _) => {
+            bad(n);
+        }
+        NetworkMessageRead::Is(_, _, p) => {
+            number(p.count);
+        }
     }
 }
 

@@ -11,7 +11,10 @@ use Rattle.partial_record.proofs.put_partial.Tie as tie
 -- src/lib.rt:100:9
 returns : tie.Need-returns
 returns c =
-    partial-none (c .before .before .args .rec) (now (c .before .before .args .out)) (search needs) (omega arith)
+    let start = c .before .before in (
+      partial-none (start .args .rec) (now (start .args .out)) (search needs) (omega arith),
+      fits-record (start .args .rec) _ (start .good .1 .0),
+    )
 
 -- src/lib.rt:96:1
 -- the text has 64 bytes, as a value of the code has
@@ -34,12 +37,14 @@ returns-2 c =
     let at-flag-number = at-code .before in
     let start = at-flag-number .before .before .before .before .before .before .before in
     let args = start .args in
-    let long = fits-record (args .rec) _ (start .good .1 .0) .text in
+    let fits = fits-record (args .rec) _ (start .good .1 .0) in
     let group = also (at-has16 .has16 .ensures .0) (also (at-value16 .value16 .ensures) refl) in
     let same =
-    also (at-flag-number .flag-number .ensures .0) (also (at-code .code .ensures) (also (at-publisher-number .publisher-number .ensures) (also refl (also refl (also refl group))))) in
-    partial-put (args .rec) (now (args .out)) _ _ _ long (omega (arith, at-flag-number .before .before .before .before .before .if1 .left)) same
-    (at-put-numbers .put-numbers .ensures) (at-put-run .put-run .ensures .stored)
+    also (at-flag-number .flag-number .ensures .0) (also (at-code .code .ensures) (also (at-publisher-number .publisher-number .ensures) (also refl (also refl (also refl group))))) in (
+      partial-put (args .rec) (now (args .out)) _ _ _ (fits .text) (omega (arith, at-flag-number .before .before .before .before .before .if1 .left)) same
+          (at-put-numbers .put-numbers .ensures) (at-put-run .put-run .ensures .stored),
+      fits,
+    )
 
 pub put-partial-spec : {M : Type 1} → statement M
 put-partial-spec =

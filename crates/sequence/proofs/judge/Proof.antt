@@ -10,13 +10,13 @@ distance-requires : tie.Need-distance-requires
 distance-requires c κs = search needs
 
 returns : tie.Need-returns
-returns c = rw (sym (c .before .distance .ensures), lt-ltb _ _ (c .if1 .taken))
+returns c = rw (sym (c .before .distance .ensures .0), lt-ltb _ _ (c .if1 .taken))
 
 returns-2 : tie.Need-returns-2
-returns-2 c = rw (sym (c .before .before .distance .ensures), le-ltb _ _ (c .before .if1 .left), lt-ltb _ _ (c .if2 .taken))
+returns-2 c = rw (sym (c .before .before .distance .ensures .0), le-ltb _ _ (c .before .if1 .left), lt-ltb _ _ (c .if2 .taken))
 
 returns-3 : tie.Need-returns-3
-returns-3 c = rw (sym (c .before .before .distance .ensures), le-ltb _ _ (c .before .if1 .left), le-ltb _ _ (c .if2 .left))
+returns-3 c = rw (sym (c .before .before .distance .ensures .0), le-ltb _ _ (c .before .if1 .left), le-ltb _ _ (c .if2 .left))
 
 pub judge-spec : {M : Type 1} → statement M
 judge-spec = tie.close (tie.spec distance-requires returns returns-2 returns-3)

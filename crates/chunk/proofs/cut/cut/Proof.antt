@@ -12,9 +12,10 @@ use Rattle.chunk.proofs.cut.cut.Tie as tie
 returns : tie.Need-returns
 returns c =
     let at-cut-rule = c .before in
-    let args = at-cut-rule .before .before .before .args in
-    let a = args in
-    refused-way (now (a .payload)) (a .number) (a .size) (a .k) (now (a .out)) _ (at-cut-rule .cut-rule .ensures) (c .if1 .taken)
+    let at-start = at-cut-rule .before .before .before in
+    let a = at-start .args in
+    let f = refused-way (now (a .payload)) (a .number) (a .size) (a .k) (now (a .out)) _ (at-cut-rule .cut-rule .ensures) (c .if1 .taken) in
+    (f .0, f .1, omega (arith, at-start .fits .number))
 
 mul-offset : tie.Need-mul-offset
 mul-offset c =
@@ -29,10 +30,11 @@ returns-2 c =
     let at-part = c .before in
     let at-if1 = at-part .before in
     let at-cut-rule = at-if1 .before in
-    let args = at-cut-rule .before .before .before .args in
-    let a = args in
-    short-way (now (a .payload)) (a .number) (a .size) (a .k) (now (a .out)) (sym (at-cut-rule .cut-rule .ensures) ∙ at-if1 .if1 .left)
-    (omega (arith, c .if2 .taken, ap length (at-part .part .ensures)))
+    let at-start = at-cut-rule .before .before .before in
+    let a = at-start .args in
+    let f = short-way (now (a .payload)) (a .number) (a .size) (a .k) (now (a .out)) (sym (at-cut-rule .cut-rule .ensures) ∙ at-if1 .if1 .left)
+    (omega (arith, c .if2 .taken, ap length (at-part .part .ensures))) in
+    (f .0, f .1, omega (arith, at-start .fits .number))
 
 put-payload-requires : tie.Need-put-payload-requires
 put-payload-requires c κs =
@@ -53,10 +55,11 @@ returns-3 c =
     let at-part = at-if2 .before in
     let at-if1 = at-part .before in
     let at-cut-rule = at-if1 .before in
-    let args = at-cut-rule .before .before .before .args in
-    let a = args in
-    done-way (now (a .payload)) (a .number) (a .size) (a .k) (now (a .out)) (sym (at-cut-rule .cut-rule .ensures) ∙ at-if1 .if1 .left) _ _
-    (at-part .part .ensures) (at-if2 .if2 .left) (at-put-payload .put-payload .ensures)
+    let at-start = at-cut-rule .before .before .before in
+    let a = at-start .args in
+    let f = done-way (now (a .payload)) (a .number) (a .size) (a .k) (now (a .out)) (sym (at-cut-rule .cut-rule .ensures) ∙ at-if1 .if1 .left) _ _
+    (at-part .part .ensures) (at-if2 .if2 .left) (at-put-payload .put-payload .ensures) in
+    (f .0, f .1, omega (arith, at-start .fits .number))
 
 pub cut-spec : {M : Type 1} → statement M
 cut-spec =

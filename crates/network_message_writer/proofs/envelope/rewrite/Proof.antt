@@ -2,6 +2,7 @@
 -- Assumes nothing.
 use Rattle.wire_writer.proofs.Answering.{reading-accepts, reading-refuses}
 use Rattle.network_message_writer.proofs.Again.{accepted-short}
+use Rattle.network_message_writer.proofs.Lent.{bytes}
 use Rattle.network_message.specs.Envelope.{answerNetworkMessage}
 use Rattle.wire.proofs.Reading.{told}
 use mathlib.Core.Path.{sym}
@@ -20,15 +21,19 @@ again-requires c κs =
 returns : tie.Need-returns
 returns c =
     let at-number = c .before in
-    let at-read = at-number .before .before in
-    reading-refuses _ (sym (told answerNetworkMessage (at-read .read .ensures) (at-number .number .given .1)))
+    let at-read = at-number .before .before in (
+      bytes (now (at-read .before .before .before .before .args .s)) (at-read .before .before .shared-slice-known .given),
+      reading-refuses _ (sym (told answerNetworkMessage (at-read .read .ensures) (at-number .number .given .1))),
+    )
 
 returns-2 : tie.Need-returns-2
 returns-2 c =
     let at-again = c .before .before in
     let at-x = at-again .before .before .before in
-    let at-read = at-x .before .before in
-    reading-accepts _ (sym (told answerNetworkMessage (at-read .read .ensures) (at-x .x .given .1))) (at-again .again .ensures)
+    let at-read = at-x .before .before in (
+      bytes (now (at-read .before .before .before .before .args .s)) (at-read .before .before .shared-slice-known .given),
+      reading-accepts _ (sym (told answerNetworkMessage (at-read .read .ensures) (at-x .x .given .1))) (at-again .again .ensures),
+    )
 
 pub rewrite-spec : {M : Type 1} → statement M
 rewrite-spec =

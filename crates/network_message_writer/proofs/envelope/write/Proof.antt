@@ -1,5 +1,6 @@
 -- `network_message_writer::envelope::write` meets its contract.
 -- Assumes nothing.
+use Rattle.network_message_writer.proofs.Lent.{numbers}
 use Rattle.network_message_writer.proofs.Short.{all-short}
 use Rattle.network_message_writer.specs.Envelope.{givenDatagram, datagramOf, datagramRefusal}
 use Rattle.wire_writer.proofs.Answering.{refused-by, no-room, written}
@@ -24,6 +25,8 @@ returns c =
       fits-envelope (args .x) _ (at-good .good .1 .0),
       refused-by (datagramRefusal g (args .x) (now (args .sizes)) (now (args .configured))) (datagramOf g (args .x)) (now (args .out))
           (at-refusal .refusal .result) refusal (c .if1 .taken),
+      numbers (now (args .sizes)) (at-refusal .before .before .shared-slice-known6 .given),
+      numbers (now (args .configured)) (at-refusal .before .shared-slice-known7 .given),
     )
 
 datagram-size-requires : tie.Need-datagram-size-requires
@@ -52,6 +55,8 @@ returns-2 c =
       fits-envelope (args .x) _ (at-good .good .1 .0),
       no-room (datagramRefusal g (args .x) (now (args .sizes)) (now (args .configured))) (datagramOf g (args .x)) (now (args .out))
           (sym refusal ∙ at-if1 .if1 .left) (at-room-refusal .room-refusal .result) full (c .if2 .taken),
+      numbers (now (args .sizes)) (at-refusal .before .before .shared-slice-known6 .given),
+      numbers (now (args .configured)) (at-refusal .before .shared-slice-known7 .given),
     )
 
 returns-3 : tie.Need-returns-3
@@ -73,6 +78,8 @@ returns-3 c =
       written (datagramRefusal g (args .x) (now (args .sizes)) (now (args .configured))) (datagramOf g (args .x)) (now (args .out))
           (sym refusal ∙ at-if1 .if1 .left) (at-room-refusal .room-refusal .result) full (at-if2 .if2 .left) (at-datagram-size .datagram-size .result) _ _ size
           (at-put-datagram .put-datagram .ensures),
+      numbers (now (args .sizes)) (at-refusal .before .before .shared-slice-known6 .given),
+      numbers (now (args .configured)) (at-refusal .before .shared-slice-known7 .given),
     )
 
 pub write-spec : {M : Type 1} → statement M

@@ -16,8 +16,10 @@ returns c =
     let at-enum-told = c .before .before in
     let at-read = at-enum-told .before .before in
     let at-types-for = at-read .before in
-    let args = at-types-for .before .before .before .before .args in
-    head-filled (now (args .config)) (now (args .message)) _ (args .writer) _ (now (args .head)) _ _ (at-types-for .types-for .ensures)
+    let at-shared-slice-known = at-types-for .before .before .before in
+    let args = at-shared-slice-known .before .args in
+    head-filled (now (args .config)) (now (args .message)) _ (args .writer) _ (now (args .head)) _ _ (at-shared-slice-known .shared-slice-known .given)
+    (at-shared-slice-known .before .good .0 .0) (at-types-for .types-for .ensures)
     (told answerMessage (at-read .read .ensures) (at-enum-told .enum-told .given .1))
     (fill-none _ (now (args .head)) _ _ 160 _
     (head-read (now (args .config)) (now (args .message)) _ (args .writer) _ (at-types-for .types-for .ensures) (told answerMessage (at-read .read .ensures) (at-enum-told .enum-told .given .1)))
@@ -30,8 +32,10 @@ returns-2 c =
     let at-h = c .before .before .before in
     let at-read = at-h .before .before in
     let at-types-for = at-read .before in
-    let args = at-types-for .before .before .before .before .args in
-    head-filled (now (args .config)) (now (args .message)) _ (args .writer) _ (now (args .head)) _ _ (at-types-for .types-for .ensures)
+    let at-shared-slice-known = at-types-for .before .before .before in
+    let args = at-shared-slice-known .before .args in
+    head-filled (now (args .config)) (now (args .message)) _ (args .writer) _ (now (args .head)) _ _ (at-shared-slice-known .shared-slice-known .given)
+    (at-shared-slice-known .before .good .0 .0) (at-types-for .types-for .ensures)
     (told answerMessage (at-read .read .ensures) (at-h .h .given .1))
     (fill-none _ (now (args .head)) _ _ 160 _
     (head-read (now (args .config)) (now (args .message)) _ (args .writer) _ (at-types-for .types-for .ensures) (told answerMessage (at-read .read .ensures) (at-h .h .given .1)))
@@ -44,8 +48,10 @@ returns-3 c =
     let at-n = c .before .before in
     let at-read = at-n .before .before in
     let at-types-for = at-read .before in
-    let args = at-types-for .before .before .before .before .args in
-    head-filled (now (args .config)) (now (args .message)) _ (args .writer) _ (now (args .head)) _ _ (at-types-for .types-for .ensures)
+    let at-shared-slice-known = at-types-for .before .before .before in
+    let args = at-shared-slice-known .before .args in
+    head-filled (now (args .config)) (now (args .message)) _ (args .writer) _ (now (args .head)) _ _ (at-shared-slice-known .shared-slice-known .given)
+    (at-shared-slice-known .before .good .0 .0) (at-types-for .types-for .ensures)
     (told answerMessage (at-read .read .ensures) (at-n .n .given .1))
     (fill-refused _ (now (args .head)) _ _ _
     (head-read (now (args .config)) (now (args .message)) _ (args .writer) _ (at-types-for .types-for .ensures) (told answerMessage (at-read .read .ensures) (at-n .n .given .1)))
@@ -59,8 +65,10 @@ returns-4 c =
     let at-enum-told = at-put-no-head .before .before .before in
     let at-read = at-enum-told .before .before in
     let at-types-for = at-read .before in
-    let args = at-types-for .before .before .before .before .args in
-    head-filled (now (args .config)) (now (args .message)) _ (args .writer) _ (now (args .head)) _ _ (at-types-for .types-for .ensures)
+    let at-shared-slice-known = at-types-for .before .before .before in
+    let args = at-shared-slice-known .before .args in
+    head-filled (now (args .config)) (now (args .message)) _ (args .writer) _ (now (args .head)) _ _ (at-shared-slice-known .shared-slice-known .given)
+    (at-shared-slice-known .before .good .0 .0) (at-types-for .types-for .ensures)
     (told answerMessage (at-read .read .ensures) (at-enum-told .enum-told .given .1))
     (fill-done _ (now (args .head)) _ _ _ 160 _
     (head-read (now (args .config)) (now (args .message)) _ (args .writer) _ (at-types-for .types-for .ensures) (told answerMessage (at-read .read .ensures) (at-enum-told .enum-told .given .1)))
@@ -74,8 +82,10 @@ returns-5 c =
     let at-h = at-put-head .before .before .before .before in
     let at-read = at-h .before .before in
     let at-types-for = at-read .before in
-    let args = at-types-for .before .before .before .before .args in
-    head-filled (now (args .config)) (now (args .message)) _ (args .writer) _ (now (args .head)) _ _ (at-types-for .types-for .ensures)
+    let at-shared-slice-known = at-types-for .before .before .before in
+    let args = at-shared-slice-known .before .args in
+    head-filled (now (args .config)) (now (args .message)) _ (args .writer) _ (now (args .head)) _ _ (at-shared-slice-known .shared-slice-known .given)
+    (at-shared-slice-known .before .good .0 .0) (at-types-for .types-for .ensures)
     (told answerMessage (at-read .read .ensures) (at-h .h .given .1))
     (fill-done _ (now (args .head)) _ _ _ 160 _
     (head-read (now (args .config)) (now (args .message)) _ (args .writer) _ (at-types-for .types-for .ensures) (told answerMessage (at-read .read .ensures) (at-h .h .given .1)))

@@ -1,4 +1,4 @@
-use Rattle.uadp_c.proofs.Walking.{envelope-told, read-refused, read-short, read-done}
+use Rattle.uadp_c.proofs.Walking.{envelope-told, envelope-read, read-refused, read-short, read-done}
 use Rattle.network_message.specs.Envelope.{answerNetworkMessage}
 use Rattle.wire.proofs.Reading.{told}
 use native.Mathlib.Omega.{arith}
@@ -19,7 +19,9 @@ returns c =
     let same =
     envelope-told (now (args .config)) (now (args .datagram)) _ _ _ _ (at-writer-count .writer-count .ensures .0) (at-sizes .sizes .ensures) (at-first .first .ensures)
     (told answerNetworkMessage (at-read .read .ensures) (at-e .e .given .1)) in
-    read-short (at-e .e .given .0 .0) (at-e .e .given .0 .1 .0) (at-e .e .given .0 .1 .1 .0) _ (now (args .envelope)) _ _ same (omega arith) (c .result2 .ensures)
+    envelope-read (now (args .datagram)) (now (args .config)) _ _ _ (at-writer-count .before .before .before .shared-slice-known .given)
+    (at-writer-count .before .before .shared-slice-known2 .given)
+    (read-short (at-e .e .given .0 .0) (at-e .e .given .0 .1 .0) (at-e .e .given .0 .1 .1 .0) _ (now (args .envelope)) _ _ same (omega arith) (c .result2 .ensures))
 
 -- src/messages.rt:27:1
 returns-2 : tie.Need-returns-2
@@ -33,7 +35,9 @@ returns-2 c =
     let same =
     envelope-told (now (args .config)) (now (args .datagram)) _ _ _ _ (at-writer-count .writer-count .ensures .0) (at-sizes .sizes .ensures) (at-first .first .ensures)
     (told answerNetworkMessage (at-read .read .ensures) (at-number .number .given .1)) in
-    read-refused _ (now (args .envelope)) _ _ _ same (c .result .ensures)
+    envelope-read (now (args .datagram)) (now (args .config)) _ _ _ (at-writer-count .before .before .before .shared-slice-known .given)
+    (at-writer-count .before .before .shared-slice-known2 .given)
+    (read-refused _ (now (args .envelope)) _ _ _ same (c .result .ensures))
 
 -- src/messages.rt:27:1
 returns-3 : tie.Need-returns-3
@@ -48,8 +52,10 @@ returns-3 c =
     let same =
     envelope-told (now (args .config)) (now (args .datagram)) _ _ _ _ (at-writer-count .writer-count .ensures .0) (at-sizes .sizes .ensures) (at-first .first .ensures)
     (told answerNetworkMessage (at-read .read .ensures) (at-e .e .given .1)) in
-    read-done (at-e .e .given .0 .0) (at-e .e .given .0 .1 .0) (at-e .e .given .0 .1 .1 .0) _ (now (args .envelope)) _ _ _ same (omega arith) (c .result3 .ensures)
-    (at-put-envelope .put-envelope .ensures .0) (at-put-envelope .put-envelope .ensures .1)
+    envelope-read (now (args .datagram)) (now (args .config)) _ _ _ (at-writer-count .before .before .before .shared-slice-known .given)
+    (at-writer-count .before .before .shared-slice-known2 .given)
+    (read-done (at-e .e .given .0 .0) (at-e .e .given .0 .1 .0) (at-e .e .given .0 .1 .1 .0) _ (now (args .envelope)) _ _ _ same (omega arith) (c .result3 .ensures)
+    (at-put-envelope .put-envelope .ensures .0) (at-put-envelope .put-envelope .ensures .1))
 
 pub uadp-read-spec : {M : Type 1} → statement M
 uadp-read-spec =

@@ -4,7 +4,7 @@ use denote.Ref.{now}
 use native.Mathlib.Omega.{arith}
 use Rattle.wire.proofs.Reading.{told}
 use Rattle.network_message.specs.ProbeMessage.{answerProbeMessage}
-use Rattle.uadp_c.proofs.Probing.{probe-read, probed-refused, probed-short, probed-done}
+use Rattle.uadp_c.proofs.Probing.{probe-read, probe-told, probed-refused, probed-short, probed-done}
 use borrow.Author.Needs.{needs}
 use Rattle.uadp_c.proofs.probes.uadp_probe.Statement.{statement}
 use Rattle.uadp_c.proofs.probes.uadp_probe.Tie as tie
@@ -20,7 +20,8 @@ returns c =
     let same =
     probe-read (now (args .config)) (now (args .datagram)) _ _ _ _ (at-writer-count .writer-count .ensures .0) (at-sizes .sizes .ensures) (at-first .first .ensures)
     (told answerProbeMessage (at-read-probe .read-probe .ensures) (at-places .places .given .1)) in
-    probed-short (at-places .places .given .0 .0) (at-places .places .given .0 .1 .0) (at-places .places .given .0 .1 .1 .0) _ (now (args .probe)) _ _ same (omega arith) (c .result2 .ensures)
+    probe-told (now (args .datagram)) (now (args .config)) _ _ _ (at-writer-count .before .before .before .shared-slice-known .given)
+    (probed-short (at-places .places .given .0 .0) (at-places .places .given .0 .1 .0) (at-places .places .given .0 .1 .1 .0) _ (now (args .probe)) _ _ same (omega arith) (c .result2 .ensures))
 
 returns-2 : tie.Need-returns-2
 returns-2 c =
@@ -33,7 +34,8 @@ returns-2 c =
     let same =
     probe-read (now (args .config)) (now (args .datagram)) _ _ _ _ (at-writer-count .writer-count .ensures .0) (at-sizes .sizes .ensures) (at-first .first .ensures)
     (told answerProbeMessage (at-read-probe .read-probe .ensures) (at-number .number .given .1)) in
-    probed-refused _ (now (args .probe)) _ _ _ same (c .result .ensures)
+    probe-told (now (args .datagram)) (now (args .config)) _ _ _ (at-writer-count .before .before .before .shared-slice-known .given)
+    (probed-refused _ (now (args .probe)) _ _ _ same (c .result .ensures))
 
 returns-3 : tie.Need-returns-3
 returns-3 c =
@@ -47,8 +49,9 @@ returns-3 c =
     let same =
     probe-read (now (args .config)) (now (args .datagram)) _ _ _ _ (at-writer-count .writer-count .ensures .0) (at-sizes .sizes .ensures) (at-first .first .ensures)
     (told answerProbeMessage (at-read-probe .read-probe .ensures) (at-places .places .given .1)) in
-    probed-done (at-places .places .given .0 .0) (at-places .places .given .0 .1 .0) (at-places .places .given .0 .1 .1 .0) _ (now (args .probe)) _ _ _ same (omega arith) (c .result3 .ensures)
-    (at-put-probe .put-probe .ensures .0) (at-put-probe .put-probe .ensures .1)
+    probe-told (now (args .datagram)) (now (args .config)) _ _ _ (at-writer-count .before .before .before .shared-slice-known .given)
+    (probed-done (at-places .places .given .0 .0) (at-places .places .given .0 .1 .0) (at-places .places .given .0 .1 .1 .0) _ (now (args .probe)) _ _ _ same (omega arith) (c .result3 .ensures)
+    (at-put-probe .put-probe .ensures .0) (at-put-probe .put-probe .ensures .1))
 
 pub uadp-probe-spec : {M : Type 1} → statement M
 uadp-probe-spec =

@@ -27,7 +27,7 @@ returns-3 c =
     let at-if1 = at-if2 .before .before in
     let at-number = at-if1 .before in
     let args = at-number .before .before .before .args in
-    takes-over (now (args .rec)) _ (args .after) _ (at-number .number .ensures) (ne-eqb _ 1 (at-if1 .if1 .left)) (not-false _ (at-if2 .if2 .left)) (at-put-partial .put-partial .ensures)
+    takes-over (now (args .rec)) _ (args .after) _ (at-number .number .ensures) (ne-eqb _ 1 (at-if1 .if1 .left)) (not-false _ (at-if2 .if2 .left)) (at-put-partial .put-partial .ensures .0)
 
 pub keep-record-spec : {M : Type 1} → statement M
 keep-record-spec =

@@ -20,7 +20,7 @@ returns c =
     wrote (now (args .out)) _ _ _ (at-rewrite-datagram .rewrite-datagram .result) _
     (ap (λ (y : List ℕ). datagramSame y (now (args .datagram)))
     (of-writers 34 (now (args .config)) _ _ _ (at-writer-count .writer-count .ensures .0) (at-sizes .sizes .ensures) (at-first .first .ensures)))
-    (at-rewrite-datagram .rewrite-datagram .ensures) (c .written-result .ensures)
+    (at-rewrite-datagram .rewrite-datagram .ensures .1) (c .written-result .ensures)
 
 pub uadp-rewrite-spec : {M : Type 1} → statement M
 uadp-rewrite-spec =

@@ -17,7 +17,7 @@ returns c =
     let args = at-types-for .before .before .before .before .args in
     wrote (now (args .out)) _ _ _ (at-rewrite-message .rewrite-message .result) _
     (ap (λ (y : List ℕ). messageSame y (now (args .message))) (at-types-for .types-for .ensures))
-    (at-rewrite-message .rewrite-message .ensures) (c .written-result .ensures)
+    (at-rewrite-message .rewrite-message .ensures .1) (c .written-result .ensures)
 
 pub uadp-rewrite-message-spec : {M : Type 1} → statement M
 uadp-rewrite-message-spec =
