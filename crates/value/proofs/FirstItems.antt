@@ -6,7 +6,7 @@ use mathlib.Core.List.{List}
 use Prim.Native.Nat.{ℕ, suc, _+_, _*_, _-_, _<_, _≤_}
 use native.Mathlib.Omega.{arith}
 use borrow.Author.Tests.{leb-true, leb-false, le-leb, ltb-true, lt-ltb, eq-eqb, eqb-true, eqb-false}
-use lib.Dec.{T, eqb, leb, ltb, eqb→eq}
+use lib.Dec.{T, eqb, leb, eqb→eq}
 use lib.ListN.{length, getD}
 use Rattle.wire.specs.Answer.{got, refused, Reader, andThen, _>>_, pure, refuse, item, ruled, whenOn, bit}
 use Rattle.wire.specs.Items.{lengthItem}
@@ -72,7 +72,7 @@ fixed-first b e = go (leb 20 b) refl
     go false h = tested b e (fine-below b (leb-false 20 b h))
 
 -- such a Variant that fits is measured by its width
-pub fixed-measured : (l : ℕ) (s : List ℕ) (at : ℕ) → 0 < widthOf (getD s at 0) → at + widthOf (getD s at 0) + 1 ≤ length s
+fixed-measured : (l : ℕ) (s : List ℕ) (at : ℕ) → 0 < widthOf (getD s at 0) → at + widthOf (getD s at 0) + 1 ≤ length s
     → valueAt (suc l) 24 s at ≡ got (measure (getD s at 0) Shape.Scalar) (at + widthOf (getD s at 0) + 1)
 unfolding valueAt scalar plainValue
 fixed-measured l s at f h =

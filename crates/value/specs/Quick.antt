@@ -47,12 +47,16 @@ abbrev pub describedAt : ℕ → Reader Measure
 describedAt end s at =
     andThen (item 1 s at) (λ b next. cond (isArray b) (arrayAt end (typeOf b) s next) (got (measure (typeOf b) Shape.Scalar) end))
 
--- What follows the first byte of a String or ByteString, whose type is t, and of an array of the fixed type t of w bytes, measured.
+-- What follows the first byte of a String or ByteString, whose type is t, and of an array of the fixed type t of w bytes, measured; of the
+-- array also its n elements, which have so many bytes together.
 abbrev pub textAt : ℕ → Reader Measure
 textAt t = string >> pure (measure t Shape.Scalar)
 
+abbrev pub elementsAt : ℕ → ℕ → ℕ → Reader Measure
+elementsAt t n size = bytes size >> pure (measure t (Shape.Array n))
+
 abbrev pub runAt : ℕ → ℕ → Reader Measure
-runAt t w = byLength (pure (measure t Shape.NullArray)) (λ n. bytes (n * w) >> pure (measure t (Shape.Array n)))
+runAt t w = byLength (pure (measure t Shape.NullArray)) (λ n. elementsAt t n (n * w))
 
 -- what one look says of what measuring answers; where it does not tell, nothing
 abbrev pub LookTells : Plain → Answer Measure → Type 0

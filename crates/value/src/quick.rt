@@ -2,8 +2,8 @@
 // already told by its first items; a Variant that holds no other value told in one look, by where it ends, or with its type, shape and end;
 // a DataValue that holds such a scalar by its mask. A look has no position where it does not tell (plain_value::quick). Their laws are in
 // proofs/FirstByte, FirstItems, Runs and Looks. Worth: a quarter of the time of a scalar; of the look, half of the time of Strings and
-// arrays, and of DataValues; of the null in the table of sizes, whose entries then start at 0, a seventh of the time of scalars; of an array
-// of Strings without its head, two fifths of the time of short ones.
+// arrays, and of DataValues; of the null among the sizes, whose table then starts at 0, a seventh of the time of scalars; of an array of
+// Strings without its head, two fifths of the time of short ones.
 use crate::Measured;
 use crate::measure_data_value;
 use crate::measure_other;
@@ -32,7 +32,7 @@ ghost use Rattle.wire.specs.Items.{answerReached};
 ghost use Rattle.plain_value.specs.Width.{widthOf};
 ghost use Rattle.plain_value.specs.Plain.{passing};
 ghost use Rattle.plain_value.specs.Quick.{EndTells};
-ghost use Rattle.value.specs.Quick.{scalarSize, fixedEnd, units, texts, arrayAt, describedAt, textAt, runAt, LookTells};
+ghost use Rattle.value.specs.Quick.{scalarSize, fixedEnd, units, texts, arrayAt, describedAt, textAt, elementsAt, runAt, LookTells};
 ghost use Rattle.value.specs.Value.{valueAt, variantAt, dataValueAt, answerMeasured};
 
 // How many bytes a Variant has that is a null or a scalar of a fixed type, by its first byte; 0 for any other.
@@ -108,7 +108,7 @@ fn text_look(s: &[u8], at: usize, t: u8) -> End
 }
 
 // A Variant, at a position, that is no null and no scalar of a fixed type. Its type is tested apart from its highest bits: where both were
-// tests of one byte, they would be merged with that of the size into one jump.
+// tests of one byte, they would be merged with that of the size into one jump. Elements of 4 bytes have a way of their own (`plain_array`).
 fn run_look(s: &[u8], at: usize) -> End
     requires { ⌜ at < length (now s) ⌝ }
     ensures { λ r. ⌜ EndTells r (passing variantAt (now (s .entry)) at) ⌝ }
@@ -120,6 +120,9 @@ fn run_look(s: &[u8], at: usize) -> End
     let w = array_unit(b);
     if w == 0 {
         return End::Not;
+    }
+    if w == 4 {
+        return units_look(s, at + 1, 4);
     }
     units_look(s, at + 1, w)
 }
@@ -205,7 +208,18 @@ fn plain_string(s: &[u8], at: usize, t: u8) -> Plain
     }
 }
 
-// An array of the fixed type t, whose elements have w bytes each, after its first byte.
+// The n elements of an array of type t, which have so many bytes together.
+fn plain_elements(s: &[u8], at: usize, t: u8, n: usize, size: usize) -> Plain
+    ensures { λ r. ⌜ LookTells r (elementsAt t n size (now (s .entry)) at) ⌝ }
+{
+    if has(s.len(), at, size) {
+        return Plain::Array(t, at + size, n);
+    }
+    Plain::Not
+}
+
+// An array of the fixed type t, whose elements have w bytes each, after its first byte. Elements of 4 bytes have a way of their own, on
+// which the next position does not wait for the table of widths and for a product: two fifths of the time of short arrays.
 fn plain_array(s: &[u8], at: usize, t: u8, w: usize) -> Plain
     requires { ⌜ w ≤ 16 ⌝ }
     ensures { λ r. ⌜ LookTells r (runAt t w (now (s .entry)) at) ⌝ }
@@ -213,11 +227,10 @@ fn plain_array(s: &[u8], at: usize, t: u8, w: usize) -> Plain
     match read_length(s, at) {
         ItemLength::Null(next) => Plain::NullArray(t, next),
         ItemLength::Of(next, n) => {
-            let bytes = n * w;
-            if has(s.len(), next, bytes) {
-                return Plain::Array(t, next + bytes, n);
+            if w == 4 {
+                return plain_elements(s, next, t, n, n * 4);
             }
-            Plain::Not
+            plain_elements(s, next, t, n, n * w)
         }
         ItemLength::Negative(_) => Plain::Not,
         ItemLength::Short => Plain::Not,

@@ -37,7 +37,8 @@ told-requires c κs =
     let at-b = at-if1 .before .before in
     let at-read8 = at-b .before .before in
     let args = at-read8 .before .before .args in (
-      c .pass-texts .ensures ∙ sym (strings-variant (now (args .s)) (args .at) _ (told-byte (args .at) (at-read8 .read8 .ensures) (at-b .b .given .1)) (sym (at-is-strings .is-strings .ensures) ∙ at-if2 .if2 .taken)),
+      c .pass-texts .ensures ∙ sym
+          (strings-variant (now (args .s)) (args .at) _ (told-byte (args .at) (at-read8 .read8 .ensures) (at-b .b .given .1)) (sym (at-is-strings .is-strings .ensures) ∙ at-if2 .if2 .taken)),
       λ end q. described-is (now (args .s)) (args .at) (told-byte (args .at) (at-read8 .read8 .ensures) (at-b .b .given .1)) (omega (arith, at-if1 .if1 .left)) q,
     )
 

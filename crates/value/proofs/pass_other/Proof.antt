@@ -13,7 +13,8 @@ returns c =
     let at-is-strings = at-if2 .before in
     let at-if1 = at-is-strings .before .before in
     let args = at-if1 .before .before .args in
-    c .pass-texts .ensures ∙ sym (strings-variant (now (args .s)) (args .at) _ (first-byte (now (args .s)) (args .at) (at-if1 .if1 .taken)) (sym (at-is-strings .is-strings .ensures) ∙ at-if2 .if2 .taken))
+    c .pass-texts .ensures ∙ sym
+    (strings-variant (now (args .s)) (args .at) _ (first-byte (now (args .s)) (args .at) (at-if1 .if1 .taken)) (sym (at-is-strings .is-strings .ensures) ∙ at-if2 .if2 .taken))
 
 pub pass-other-spec : {M : Type 1} → statement M
 pass-other-spec =

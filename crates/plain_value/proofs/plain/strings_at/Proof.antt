@@ -29,7 +29,8 @@ loop-again c =
 
 returns : tie.Need-returns Inv-loop μ-loop
 returns c =
-    let at-loop = c .before .before .before .before .before in
+    let at-string-look = c .before .before .before in
+    let at-loop = at-string-look .before .before in
     c .each-string .ensures ∙ sym (at-loop .loop .inv)
 
 returns-2 : tie.Need-returns-2 Inv-loop μ-loop

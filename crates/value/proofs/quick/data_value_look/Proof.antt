@@ -16,11 +16,19 @@ use Rattle.value.proofs.quick.data_value_look.Tie as tie
 
 add-size : tie.Need-add-size
 add-size c =
-    omega (arith, c .before .before .held-size .ensures .1, c .parts-width .ensures, parts-small (getD (now (c .before .before .before .before .before .before .before .args .s)) (c .before .before .before .before .before .before .before .args .at) 0))
+    let at-held-size = c .before .before in
+    let at-if1 = at-held-size .before .before .before in
+    let a = at-if1 .before .before .args in
+    omega (arith, at-held-size .held-size .ensures .1, c .parts-width .ensures, parts-small (getD (now (a .s)) (a .at) 0))
 
 add-t11 : tie.Need-add-t11
 add-t11 c =
-    omega (arith, leb-true (c .before .before .before .before .before .before .before .before .before .args .at + (c .before .before .before .before .held-size .result + c .before .before .parts-width .result)) (length (now (c .before .before .before .before .before .before .before .before .before .args .s))) (sym (c .before .has .ensures) ∙ c .if4 .taken))
+    let at-has = c .before in
+    let at-parts-width = at-has .before in
+    let at-held-size = at-parts-width .before .before in
+    let at-if1 = at-held-size .before .before .before in
+    let a = at-if1 .before .before .args in
+    omega (arith, leb-true (a .at + (at-held-size .held-size .result + at-parts-width .parts-width .result)) (length (now (a .s))) (sym (at-has .has .ensures) ∙ c .if4 .taken))
 
 returns-4 : tie.Need-returns-4
 returns-4 c =
@@ -34,7 +42,8 @@ returns-4 c =
     let w = at-parts-width .parts-width .result in
     let fits : args .at + (held + w) ≤ length (now (args .s)) = leb-true _ _ (sym (at-has .has .ensures) ∙ c .if4 .taken) in
     let end : args .at + held + w ≡ args .at + (held + w) = omega arith in
-    data-value-look (now (args .s)) (args .at) _ (args .at + held) w (omega arith) refl (at-if2 .if2 .left) (at-held-size .held-size .ensures .0 (positive _ (at-if3 .if3 .left)) (omega arith) 98) (at-parts-width .parts-width .ensures) (omega arith)
+    data-value-look (now (args .s)) (args .at) _ (args .at + held) w (omega arith) refl (at-if2 .if2 .left)
+    (at-held-size .held-size .ensures .0 (positive _ (at-if3 .if3 .left)) (omega arith) 98) (at-parts-width .parts-width .ensures) (omega arith)
     ∙ ap (got tt) end
 
 pub data-value-look-spec : {M : Type 1} → statement M

@@ -29,7 +29,8 @@ returns-4 c =
     let size = at-scalar-size .scalar-size .result in
     let end : args .at + 1 + size ≡ args .at + (size + 1) = omega arith in (
       λ h f l. rw (bit-on _ (at-if1 .if1 .left))
-          (ap (λ x. andThen x (λ m next. got tt next)) (scalar-measured l (now (args .s)) (args .at + 1) size (omega arith) (at-scalar-size .scalar-size .ensures .0) (positive _ (c .if3 .left)) (omega (arith, f)))
+          (ap (λ x. andThen x (λ m next. got tt next))
+          (scalar-measured l (now (args .s)) (args .at + 1) size (omega arith) (at-scalar-size .scalar-size .ensures .0) (positive _ (c .if3 .left)) (omega (arith, f)))
           ∙ ap (got tt) end),
       omega (arith, at-scalar-size .scalar-size .ensures .1),
     )

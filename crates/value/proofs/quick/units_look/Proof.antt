@@ -16,15 +16,23 @@ use Rattle.value.proofs.quick.units_look.Tie as tie
 
 mul-bytes : tie.Need-mul-bytes
 mul-bytes c =
+    let at-next2 = c .before in
+    let at-read-length = at-next2 .before .before in
+    let at-pre = at-read-length .before .before in
+    let a = at-pre .args in
     omega (
       arith,
-      mul-le-mul-left (c .before .next2 .given .0 .1 .0) (c .before .before .before .before .before .pre),
-      count-small (now (c .before .before .before .before .before .args .s)) (c .before .before .before .before .before .args .at) (sym (told (answerLength (c .before .before .before .before .before .args .at)) (c .before .before .before .read-length .ensures) (c .before .next2 .given .1))),
+      mul-le-mul-left (at-next2 .next2 .given .0 .1 .0) (at-pre .pre),
+      count-small (now (a .s)) (a .at) (sym (told (answerLength (a .at)) (at-read-length .read-length .ensures) (at-next2 .next2 .given .1))),
     )
 
 add-t12 : tie.Need-add-t12
 add-t12 c =
-    omega (arith, leb-true (c .before .before .before .next2 .given .0 .0 + c .before .before .before .next2 .given .0 .1 .0 * c .before .before .before .before .before .before .before .args .w) (length (now (c .before .before .before .before .before .before .before .args .s))) (sym (c .before .has .ensures) ∙ c .if1 .taken))
+    let at-has = c .before in
+    let at-next2 = at-has .before .before in
+    let a = at-next2 .before .before .before .before .args in
+    let n = at-next2 .next2 .given .0 in
+    omega (arith, leb-true (n .0 + n .1 .0 * a .w) (length (now (a .s))) (sym (at-has .has .ensures) ∙ c .if1 .taken))
 
 returns : tie.Need-returns
 returns c =
