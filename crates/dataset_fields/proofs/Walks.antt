@@ -1,7 +1,7 @@
 -- Walking over fields and over padding: the end, one turn, and a refusal.
 -- Assumes nothing.
 use Prim.Native.Nat.{ℕ, zero, suc, _+_, _-_, _≤_, _<_}
-use mathlib.Core.Path.{_≡_, refl}
+use mathlib.Core.Path.{_≡_, refl, _∙_}
 use mathlib.Core.Bool.{Bool, true, false}
 use mathlib.Core.List.{List}
 use native.Mathlib.Nat.{not-suc-le-zero}
@@ -10,15 +10,15 @@ use native.Mathlib.Omega.{arith}
 use lib.Dec.{leb}
 use lib.ListN.{length, getD}
 use borrow.Author.Tests.{eq-eqb, ne-eqb}
-use Rattle.dataset_fields.specs.Fields.{rawFieldAt, fieldAt, fieldsAt, zerosAt, paddingAt}
+use Rattle.dataset_fields.specs.Fields.{rawFieldAt, encodedAt, indexAt, fieldAt, fieldsAt, zerosAt, paddingAt}
 use Rattle.dataset_header.specs.declared.flags.Encoding.{Encoding}
 use Rattle.dataset_fields.specs.declared.fields.Field.{Field}
-use Rattle.wire.specs.Answer.{Answer, got, refused, andThen, each}
+use Rattle.wire.specs.Answer.{Answer, got, refused, andThen}
 use Rattle.plain_value.specs.Plain.{passing}
-use Rattle.value.specs.Value.{Measure, measure, variantAt}
+use Rattle.value.specs.Value.{Measure, measure}
 use Rattle.value.specs.declared.Shape.{Shape}
 use Rattle.wire.proofs.Reading.{not-got}
-use Rattle.plain_value.proofs.Passing.{unpassed}
+use Rattle.plain_value.proofs.Passing.{passed, unpassed}
 use Rattle.value.proofs.FirstItems.{raw-is}
 
 module _ (delta : Bool) (encoding : Encoding) (types s : List ℕ) where
@@ -39,7 +39,34 @@ module _ (delta : Bool) (encoding : Encoding) (types s : List ℕ) where
   fields-stop zero k p n place h e = absurd (not-suc-le-zero h)
   fields-stop (suc m) k p n place h e = rw e
 
--- fields of RawData, each passed over by its type, and Variants without indices
+-- a field passed over: its index, then its value
+module _ (delta : Bool) (encoding : Encoding) (types s : List ℕ) where
+  made : (y : Answer Measure) (f : Measure → ℕ → Field) → andThen (andThen y (λ m end. got (f m end) end)) (λ a end. got tt end) ≡ andThen y (λ m end. got (tt {0}) end)
+  made (got m end) f = refl
+  made (refused n place) f = refl
+
+  indexed : (k : ℕ) (x : Answer ℕ)
+      → andThen (andThen x (λ i o. andThen (encodedAt encoding types k s o)
+      (λ m end. got (record { index = i; kind = m .kind; shape = m .shape; offset = o; length = end - o }) end))) (λ (f : Field) end. got tt end)
+      ≡ andThen (andThen x (λ i o. got (tt {0}) o)) (λ a o. passing (encodedAt encoding types k) s o)
+  indexed k (got i o) = made (encodedAt encoding types k s o) (λ m end. record { index = i; kind = m .kind; shape = m .shape; offset = o; length = end - o })
+  indexed k (refused n place) = refl
+
+  pub pass-index-stop : (k p : ℕ) {n place : ℕ} → passing (indexAt delta k) s p ≡ refused n place → passing (fieldAt delta encoding types k) s p ≡ refused n place
+  pass-index-stop k p q = indexed k (indexAt delta k s p) ∙ rw q
+
+  pub pass-index-then : (k p : ℕ) {o : ℕ} → passing (indexAt delta k) s p ≡ got tt o → passing (fieldAt delta encoding types k) s p ≡ passing (encodedAt encoding types k) s o
+  pass-index-then k p q = indexed k (indexAt delta k s p) ∙ rw q
+
+  pub pass-field-step : (left k p : ℕ) {e : ℕ} → 0 < left → passing (fieldAt delta encoding types k) s p ≡ got tt e
+      → fieldsAt delta encoding types left k s p ≡ fieldsAt delta encoding types (left - 1) (k + 1) s e
+  pass-field-step left k p {e} h q = let f = passed (fieldAt delta encoding types k s p) q in fields-step delta encoding types s left k p e (f .0) h (f .1)
+
+  pub pass-field-stop : (left k p : ℕ) {n place : ℕ} → 0 < left → passing (fieldAt delta encoding types k) s p ≡ refused n place
+      → fieldsAt delta encoding types left k s p ≡ refused n place
+  pass-field-stop left k p h q = fields-stop delta encoding types s left k p _ _ h (unpassed (fieldAt delta encoding types k s p) q)
+
+-- fields of RawData, each passed over by its type
 
 module _ (types s : List ℕ) where
   configured-is : (k p : ℕ) {e : ℕ} → passing (rawFieldAt types k) s p ≡ got tt e → rawFieldAt types k s p ≡ got (measure (getD types k 0) Shape.Scalar) e
@@ -58,17 +85,6 @@ module _ (types s : List ℕ) where
 
   pub raw-stop : (left k p : ℕ) {n place : ℕ} → 0 < left → passing (rawFieldAt types k) s p ≡ refused n place → fieldsAt false Encoding.RawData types left k s p ≡ refused n place
   raw-stop left k p h q = fields-stop false Encoding.RawData types s left k p _ _ h (rw (unpassed (rawFieldAt types k s p) q))
-
-  pub fields-variants : (n k at : ℕ) → each variantAt n s at ≡ fieldsAt false Encoding.Variant types n k s at
-  unfolding fieldsAt each
-  fields-variants zero k at = refl
-  fields-variants (suc n) k at = go (fields-variants n (k + 1)) (variantAt s at)
-    where
-      go : ((end : ℕ) → each variantAt n s end ≡ fieldsAt false Encoding.Variant types n (k + 1) s end) → (x : Answer Measure) → andThen x (λ m next. each variantAt n s next)
-          ≡ andThen (andThen x (λ m end. got (record { index = k; kind = m .kind; shape = m .shape; offset = at; length = end - at }) end))
-          (λ (f : Field) next. fieldsAt false Encoding.Variant types n (k + 1) s next)
-      go more (got m end) = more end
-      go more (refused m place) = refl
 
 module _ (s : List ℕ) (p : ℕ) where
   pub padding-done : length s ≤ p → paddingAt s p ≡ got tt p

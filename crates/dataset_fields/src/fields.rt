@@ -6,8 +6,9 @@ use value::Shape;
 use value::measure_data_value;
 use value::measure_raw;
 use value::measure_variant;
+use value::pass_data_value;
 use value::pass_element;
-use value::pass_variants;
+use value::pass_variant;
 use wire::Item16;
 use wire::Reached;
 use wire::constants::CUT_SHORT;
@@ -21,7 +22,7 @@ use wire_writer::store::put_run;
 use wire_writer::store::put16;
 ghost use mathlib.Core.Path.{_≡_};
 ghost use mathlib.Core.Bool.{false, cond, true, _&&_};
-ghost use mathlib.Core.List.{List};
+ghost use mathlib.Core.List.{List, []};
 ghost use Prim.Native.Nat.{ℕ, _-_, _+_, _≤_};
 ghost use lib.ListN.{getD, length, take};
 ghost use Rattle.wire.specs.Lists.{total};
@@ -231,6 +232,79 @@ pub fn pass_each(
     Reached::To(p)
 }
 
+// Passes over the index of a field, which a delta's fields have.
+fn pass_index(s: &[u8], delta: bool, at: usize) -> Reached
+    ensures { λ r. ⌜ ((k : ℕ) → answerReached r ≡ passing (indexAt delta k) (now (s .entry)) at) ⌝ }
+{
+    if !delta {
+        return Reached::To(at);
+    }
+    if has(s.len(), at, 2) {
+        return Reached::To(at + 2);
+    }
+    Reached::Refused(CUT_SHORT, at)
+}
+
+// Passes over a field that is a Variant.
+fn pass_variant_field(s: &[u8], delta: bool, at: usize) -> Reached
+    ensures { λ r. ⌜ ((k : ℕ) → answerReached r ≡ passing (fieldAt delta Encoding.Variant [] k) (now (s .entry)) at) ⌝ }
+{
+    match pass_index(s, delta, at) {
+        Reached::Refused(number, place) => Reached::Refused(number, place),
+        Reached::To(offset) => pass_variant(s, offset),
+    }
+}
+
+// Passes over a field that is a DataValue.
+fn pass_data_value_field(s: &[u8], delta: bool, at: usize) -> Reached
+    ensures { λ r. ⌜ ((k : ℕ) → answerReached r ≡ passing (fieldAt delta Encoding.DataValue [] k) (now (s .entry)) at) ⌝ }
+{
+    match pass_index(s, delta, at) {
+        Reached::Refused(number, place) => Reached::Refused(number, place),
+        Reached::To(offset) => pass_data_value(s, offset),
+    }
+}
+
+// The first count fields, Variants.
+fn pass_variants(s: &[u8], delta: bool, count: usize, at: usize) -> Reached
+    ensures { λ r. ⌜ ((types : List ℕ) → answerReached r ≡ fieldsAt delta Encoding.Variant types count 0 (now (s .entry)) at) ⌝ }
+{
+    let mut p = at;
+    let mut k = 0;
+    while k < count {
+        match pass_variant_field(s, delta, p) {
+            Reached::Refused(number, place) => {
+                return Reached::Refused(number, place);
+            }
+            Reached::To(end) => {
+                p = end;
+            }
+        }
+        k = k + 1;
+    }
+    Reached::To(p)
+}
+
+// The first count fields, DataValues.
+fn pass_data_values(s: &[u8], delta: bool, count: usize, at: usize) -> Reached
+    ensures { λ r. ⌜ ((types : List ℕ) → answerReached r ≡ fieldsAt delta Encoding.DataValue types count 0 (now (s .entry)) at) ⌝ }
+{
+    let mut p = at;
+    let mut k = 0;
+    while k < count {
+        match pass_data_value_field(s, delta, p) {
+            Reached::Refused(number, place) => {
+                return Reached::Refused(number, place);
+            }
+            Reached::To(end) => {
+                p = end;
+            }
+        }
+        k = k + 1;
+    }
+    Reached::To(p)
+}
+
 // The first count fields of RawData.
 fn pass_raw(s: &[u8], types: &[u8], count: usize, at: usize) -> Reached
     ensures { λ r. ⌜ answerReached r ≡ fieldsAt false Encoding.RawData (now (types .entry)) count 0 (now (s .entry)) at ⌝ }
@@ -257,13 +331,15 @@ pub fn pass_fields(s: &[u8], c: Cursor, types: &[u8]) -> Reached
     ensures { λ r. ⌜ answerReached r ≡ fieldsAt (c .delta) (c .encoding) (now (types .entry)) (c .count) 0 (now (s .entry)) (c .at) ⌝ }
 {
     let encoding = c.encoding;
-    if c.delta {
-        return pass_each(&*s, encoding, true, &*types, c.count, c.at);
-    }
     match encoding {
-        Encoding::Variant => pass_variants(s, c.at, c.count),
-        Encoding::RawData => pass_raw(s, types, c.count, c.at),
-        Encoding::DataValue => pass_each(&*s, encoding, false, &*types, c.count, c.at),
+        Encoding::Variant => pass_variants(s, c.delta, c.count, c.at),
+        Encoding::RawData => {
+            if c.delta {
+                return pass_each(&*s, encoding, true, &*types, c.count, c.at);
+            }
+            pass_raw(s, types, c.count, c.at)
+        }
+        Encoding::DataValue => pass_data_values(s, c.delta, c.count, c.at),
     }
 }
 

@@ -26,6 +26,14 @@ no-parts zero h s at = refl
 no-parts (suc zero) h s at = refl
 no-parts (suc (suc m)) h s at = absurd (omega arith)
 
+-- at most all of them
+when-small : (on : Bool) (w : ℕ) → cond on w 0 ≤ w
+when-small true w = omega arith
+when-small false w = omega arith
+
+pub parts-small : (m : ℕ) → partsWidth m ≤ 24
+parts-small m = omega (arith, when-small (bit 1 m) 4, when-small (bit 2 m) 8, when-small (bit 4 m) 2, when-small (bit 3 m) 8, when-small (bit 5 m) 2)
+
 module _ (s : List ℕ) where
   when-fits : (on : Bool) (w p : ℕ) → p + cond on w 0 ≤ length s → whenOn on tt (bytes w) s p ≡ got tt (p + cond on w 0)
   when-fits true w p h = rw (le-leb (p + w) (length s) h)

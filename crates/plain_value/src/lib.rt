@@ -3,4 +3,5 @@
 pub mod dimensions;
 pub mod parts;
 pub mod plain;
+pub mod quick;
 pub mod width;

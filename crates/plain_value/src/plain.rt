@@ -1,4 +1,6 @@
 // Values that hold no other value: of fixed width, or with their length first.
+use crate::quick::End;
+use crate::quick::string_look;
 use crate::width::width;
 use wire::Item8;
 use wire::ItemLength;
@@ -95,8 +97,8 @@ pub fn text_at(s: &[u8], at: usize, t: u8) -> Reached
     string_at(s, at)
 }
 
-// n Strings or ByteStrings, one after the other. The loop has no test of the type, which would cost a quarter of its time.
-pub fn strings_at(s: &[u8], at: usize, n: usize) -> Reached
+// n Strings or ByteStrings, one after the other, up to the first that is refused.
+fn each_string(s: &[u8], at: usize, n: usize) -> Reached
     ensures { λ r. ⌜ answerReached r ≡ each string n (now (s .entry)) at ⌝ }
 {
     let mut p = at;
@@ -110,6 +112,27 @@ pub fn strings_at(s: &[u8], at: usize, n: usize) -> Reached
             }
             Reached::Refused(number, place) => {
                 return Reached::Refused(number, place);
+            }
+        }
+    }
+    Reached::To(p)
+}
+
+// n Strings or ByteStrings, one after the other: by a look each, and from one that it does not tell on by `each_string`. The loop has no
+// test of the type, which would cost a quarter of its time.
+pub fn strings_at(s: &[u8], at: usize, n: usize) -> Reached
+    ensures { λ r. ⌜ answerReached r ≡ each string n (now (s .entry)) at ⌝ }
+{
+    let mut p = at;
+    let mut left = n;
+    while 0 < left {
+        match string_look(s, p) {
+            End::At(e) => {
+                p = e;
+                left -= 1;
+            }
+            End::Not => {
+                return each_string(&*s, p, left);
             }
         }
     }

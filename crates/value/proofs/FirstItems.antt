@@ -1,4 +1,4 @@
--- What a Variant's first items tell where it is accepted: of a scalar of a fixed type all; of any other its type number and shape.
+-- What a Variant's first items tell where it is accepted: of a null and a scalar of a fixed type all; of any other its type number and shape.
 -- Assumes nothing.
 use mathlib.Core.Path.{_≡_, refl, sym, ap, _∙_}
 use mathlib.Core.Bool.{Bool, true, false, cond, not, _&&_, _||_}
@@ -6,7 +6,7 @@ use mathlib.Core.List.{List}
 use Prim.Native.Nat.{ℕ, suc, _+_, _*_, _-_, _<_, _≤_}
 use native.Mathlib.Omega.{arith}
 use borrow.Author.Tests.{leb-true, leb-false, le-leb, ltb-true, lt-ltb, eq-eqb, eqb-true, eqb-false}
-use lib.Dec.{T, eqb, leb, ltb, eqb→eq}
+use lib.Dec.{T, eqb, leb, eqb→eq}
 use lib.ListN.{length, getD}
 use Rattle.wire.specs.Answer.{got, refused, Reader, andThen, _>>_, pure, refuse, item, ruled, whenOn, bit}
 use Rattle.wire.specs.Items.{lengthItem}
@@ -17,7 +17,7 @@ use Rattle.plain_value.specs.Width.{widthOf, fixed}
 use Rattle.plain_value.specs.Parts.{parts}
 use Rattle.plain_value.specs.Plain.{passing, bytes, afterLength, plain, plainValue}
 use Rattle.value.specs.Value.{Measure, measure, typeOf, isArray, hasDimensions, variantRule, maskRule, scalar, elements, arrayOf, array, variantOf, dataValueOf, valueAt, variantAt, dataValueAt, rawAt}
-use Rattle.value.specs.Quick.{fixedEnd, arrayAt, describedAt}
+use Rattle.value.specs.Quick.{scalarSize, fixedEnd, arrayAt, describedAt}
 use Rattle.value.specs.declared.Shape.{Shape}
 use Rattle.plain_value.proofs.Widths.{past, positive}
 use Rattle.plain_value.proofs.Passing.{passed}
@@ -72,7 +72,7 @@ fixed-first b e = go (leb 20 b) refl
     go false h = tested b e (fine-below b (leb-false 20 b h))
 
 -- such a Variant that fits is measured by its width
-pub fixed-measured : (l : ℕ) (s : List ℕ) (at : ℕ) → 0 < widthOf (getD s at 0) → at + widthOf (getD s at 0) + 1 ≤ length s
+fixed-measured : (l : ℕ) (s : List ℕ) (at : ℕ) → 0 < widthOf (getD s at 0) → at + widthOf (getD s at 0) + 1 ≤ length s
     → valueAt (suc l) 24 s at ≡ got (measure (getD s at 0) Shape.Scalar) (at + widthOf (getD s at 0) + 1)
 unfolding valueAt scalar plainValue
 fixed-measured l s at f h =
@@ -86,26 +86,47 @@ fixed-measured l s at f h =
     let end : at + 1 + w ≡ at + w + 1 = omega arith in
     rw (here, byte, first .0, first .1, first .3, first .2, first .4, fx, fits, end)
 
-pub fixed-variant : (l : ℕ) (s : List ℕ) (at : ℕ) {e : ℕ} → e ≡ fixedEnd s at → at < e → (at < length s) × (valueAt (suc l) 24 s at ≡ got (measure (getD s at 0) Shape.Scalar) e)
-fixed-variant l s at {e} q up = go (leb (length s) at) refl (eqb (widthOf (getD s at 0)) 0) refl (leb (length s - at) (widthOf (getD s at 0))) refl
+null-measured : (l : ℕ) (s : List ℕ) (at : ℕ) → at < length s → getD s at 0 ≡ 0 → valueAt (suc l) 24 s at ≡ got (measure 0 Shape.Scalar) (at + 1)
+unfolding valueAt variantRule plain widthOf
+null-measured l s at h e =
+    let here : leb (at + 1) (length s) ≡ true = le-leb (at + 1) (length s) (omega arith) in
+    rw (here, e)
+
+-- a null and a scalar of a fixed type, by its size
+pub scalar-measured : (l : ℕ) (s : List ℕ) (at size : ℕ) → at < length s → size ≡ scalarSize (getD s at 0) → 0 < size → at + size ≤ length s
+    → valueAt (suc l) 24 s at ≡ got (measure (getD s at 0) Shape.Scalar) (at + size)
+scalar-measured l s at size h same some fits = go (eqb (getD s at 0) 0) refl (eqb (widthOf (getD s at 0)) 0) refl
   where
-    w : ℕ
-    w = widthOf (getD s at 0)
+    b : ℕ
+    b = getD s at 0
 
-    same : e ≡ at → (at < length s) × (valueAt (suc l) 24 s at ≡ got (measure (getD s at 0) Shape.Scalar) e)
-    same z = absurd (omega arith)
+    go : (x : Bool) → eqb b 0 ≡ x → (y : Bool) → eqb (widthOf b) 0 ≡ y → valueAt (suc l) 24 s at ≡ got (measure b Shape.Scalar) (at + size)
+    go true ex y ey =
+        let null : b ≡ 0 = eqb-true b 0 ex in
+        let one : size ≡ 1 = same ∙ rw ex in
+        let end : at + 1 ≡ at + size = omega arith in
+        null-measured l s at h null ∙ ap (λ (n : ℕ). got (measure n Shape.Scalar) (at + 1)) (sym null) ∙ ap (got (measure b Shape.Scalar)) end
+    go false ex true ey = absurd (let none : size ≡ 0 = same ∙ rw (ex, ey) in omega arith)
+    go false ex false ey =
+        let w : ℕ = widthOf b in
+        let wide : size ≡ w + 1 = same ∙ rw (ex, ey) in
+        let end : at + w + 1 ≡ at + size = omega arith in
+        fixed-measured l s at (positive w (eqb-false w 0 ey)) (omega arith) ∙ ap (got (measure b Shape.Scalar)) end
 
-    go : (x : Bool) → leb (length s) at ≡ x → (y : Bool) → eqb w 0 ≡ y → (z : Bool) → leb (length s - at) w ≡ z
+pub fixed-variant : (l : ℕ) (s : List ℕ) (at : ℕ) {e : ℕ} → e ≡ fixedEnd s at → at < e → (at < length s) × (valueAt (suc l) 24 s at ≡ got (measure (getD s at 0) Shape.Scalar) e)
+fixed-variant l s at {e} q up = go (leb (length s) at) refl (leb (at + scalarSize (getD s at 0)) (length s)) refl
+  where
+    size : ℕ
+    size = scalarSize (getD s at 0)
+
+    go : (x : Bool) → leb (length s) at ≡ x → (y : Bool) → leb (at + size) (length s) ≡ y
         → (at < length s) × (valueAt (suc l) 24 s at ≡ got (measure (getD s at 0) Shape.Scalar) e)
-    go true ex y ey z ez = same (q ∙ rw ex)
-    go false ex true ey z ez = same (q ∙ rw (ex, ey))
-    go false ex false ey true ez = same (q ∙ rw (ex, ey, ez))
-    go false ex false ey false ez =
+    go true ex y ey = absurd (let same : e ≡ at = q ∙ rw ex in omega arith)
+    go false ex false ey = absurd (let same : e ≡ at = q ∙ rw (ex, ey) in omega arith)
+    go false ex true ey =
         let inside : at < length s = leb-false (length s) at ex in
-        let some : w ≡ 0 → ⊥ = eqb-false w 0 ey in
-        let fits : w < length s - at = leb-false (length s - at) w ez in
-        let end : e ≡ at + w + 1 = q ∙ rw (ex, ey, ez) in
-        (inside, fixed-measured l s at (positive w some) (omega arith) ∙ ap (got (measure (getD s at 0) Shape.Scalar)) (sym end))
+        let end : e ≡ at + size = q ∙ rw (ex, ey) in
+        (inside, scalar-measured l s at size inside refl (omega arith) (leb-true (at + size) (length s) ey) ∙ ap (got (measure (getD s at 0) Shape.Scalar)) (sym end))
 
 -- ---- any accepted Variant
 

@@ -6,7 +6,7 @@ use mathlib.Core.List.{List, [], _∷_}
 use Prim.Native.Nat.{ℕ, _+_, _*_, _-_, _%_, _<_, _≤_}
 use native.Mathlib.Omega.{arith}
 use borrow.Author.Tests.{le-leb, lt-ltb, eqb-true}
-use lib.Dec.{T, eqb, leb, ltb}
+use lib.Dec.{T, eqb, leb}
 use lib.ListN.{length, getD}
 use Rattle.wire.specs.Answer.{Answer, got, refused, andThen, whenOn, bit}
 use Rattle.wire.specs.Items.{lengthItem}
@@ -16,22 +16,16 @@ use Rattle.plain_value.specs.Width.{among, widthOf, fixed}
 use Rattle.plain_value.specs.Parts.{parts, partsWidth}
 use Rattle.plain_value.specs.Plain.{passing, bytes, text, plain, plainValue, plainValues, afterLength}
 use Rattle.plain_value.proofs.PartLaws.{parts-fit}
-use Rattle.plain_value.proofs.Widths.{positive}
 use Rattle.value.specs.Value.{measure, taken, variantRule, maskRule, scalar, elements, arrayOf, array, valueAt, variantAt, dataValueAt}
-use Rattle.value.specs.Quick.{textAt, runAt}
+use Rattle.value.specs.Quick.{scalarSize, textAt, runAt}
 use Rattle.value.specs.declared.Shape.{Shape}
 use Rattle.value.proofs.FirstByte.{array-first}
-use Rattle.value.proofs.FirstItems.{fixed-first, fixed-measured, yes}
+use Rattle.value.proofs.FirstItems.{fixed-first, yes}
 use Rattle.value.proofs.Runs.{or-true}
 
 module _ (s : List ℕ) (at : ℕ) (h : at < length s) where
   here : leb (at + 1) (length s) ≡ true
   here = le-leb (at + 1) (length s) (omega arith)
-
-  -- a null
-  pub null-look : getD s at 0 ≡ 0 → variantAt s at ≡ got (measure 0 Shape.Scalar) (at + 1)
-  unfolding valueAt variantRule plain widthOf
-  null-look e = rw (here, e)
 
   -- a String or ByteString
   look-12 : getD s at 0 ≡ 12 → variantAt s at ≡ textAt 12 s (at + 1)
@@ -90,14 +84,14 @@ data-value-look s at m after w h e small q same fits =
     let p : parts m s after ≡ got tt (after + w) = rw same (sym (parts-fit s m after (rw same at fits))) in
     rw (here s at h, sym e, byte, mask-low m small, q, p)
 
--- a scalar of a fixed type
-pub fixed-look : (s : List ℕ) (at w : ℕ) → at < length s → w ≡ widthOf (getD s at 0) → (w ≡ 0 → ⊥) → w + 1 ≤ length s - at
-    → variantAt s at ≡ got (measure (getD s at 0) Shape.Scalar) (at + (w + 1))
-fixed-look s at w h same some fits =
-    let p : 0 < widthOf (getD s at 0) = rw same at (positive w some) in
-    let f : at + widthOf (getD s at 0) + 1 ≤ length s = omega arith in
-    let e : at + widthOf (getD s at 0) + 1 ≡ at + (w + 1) = omega arith in
-    fixed-measured 99 s at p f ∙ ap (got (measure (getD s at 0) Shape.Scalar)) e
+-- the element of an array of a fixed type, by the size of a scalar
+pub unit-width : (t size : ℕ) → size ≡ scalarSize t → 2 ≤ size → size - 1 ≡ widthOf t
+unit-width t size same some = go (eqb t 0) refl (eqb (widthOf t) 0) refl
+  where
+    go : (x : Bool) → eqb t 0 ≡ x → (y : Bool) → eqb (widthOf t) 0 ≡ y → size - 1 ≡ widthOf t
+    go true ex y ey = absurd (let e : size ≡ 1 = same ∙ rw ex in omega arith)
+    go false ex true ey = absurd (let e : size ≡ 0 = same ∙ rw (ex, ey) in omega arith)
+    go false ex false ey = let e : size ≡ widthOf t + 1 = same ∙ rw (ex, ey) in omega arith
 
 -- whether a mask's lowest bit is on, by its remainder
 pub bit-off : (m : ℕ) → m % 2 ≡ 0 → bit 0 m ≡ false

@@ -1,13 +1,13 @@
 -- What the quick ways of measuring answer. No part of document 01: their laws (FirstByte, FirstItems, Runs) tie them to its definitions.
-use Prim.Native.Nat.{ℕ, _+_, _-_, _*_}
+use Prim.Native.Nat.{ℕ, _+_, _*_}
 use mathlib.Core.Path.{_≡_}
-use mathlib.Core.Bool.{cond, _||_}
+use mathlib.Core.Bool.{cond}
 use mathlib.Core.List.{List}
-use lib.Dec.{eqb, leb, ltb}
+use lib.Dec.{eqb, leb}
 use lib.ListN.{length, getD}
 use Rattle.plain_value.specs.Width.{widthOf}
-use Rattle.wire.specs.Answer.{Reader, pure, Answer, got, refused, andThen, item, _>>_}
-use Rattle.plain_value.specs.Plain.{bytes, byLength, string}
+use Rattle.wire.specs.Answer.{Reader, pure, Answer, got, refused, andThen, item, each, _>>_}
+use Rattle.plain_value.specs.Plain.{bytes, byLength, string, text}
 use Rattle.wire.specs.Constants.{BAD_LENGTH}
 use Rattle.wire.specs.declared.Length.{Length}
 use Rattle.value.specs.Value.{Measure, measure, typeOf, isArray}
@@ -15,20 +15,23 @@ use Rattle.value.specs.declared.Shape.{Shape}
 use Rattle.value.specs.declared.quick.Plain.{Plain}
 use Rattle.wire.specs.Items.{lengthItem}
 
--- the position after a Variant that is a scalar of a fixed type and fits; for any other the position itself
+-- how many bytes a Variant has that is a null or a scalar of a fixed type, by its first byte; 0 for any other
+abbrev pub scalarSize : ℕ → ℕ
+scalarSize b = cond (eqb b 0) 1 (cond (eqb (widthOf b) 0) 0 (widthOf b + 1))
+
+-- the position after such a Variant that fits; for any other the position itself
 abbrev pub fixedEnd : List ℕ → ℕ → ℕ
 fixedEnd s at =
     cond (leb (length s) at) at
-    (cond (eqb (widthOf (getD s at 0)) 0) at
-    (cond (leb (length s - at) (widthOf (getD s at 0))) at (at + widthOf (getD s at 0) + 1)))
+    (cond (leb (at + scalarSize (getD s at 0)) (length s)) (at + scalarSize (getD s at 0)) at)
 
--- of a Variant that holds a length and a run of equal units, by its first byte, how many bytes a unit has; 0 for any other
-abbrev pub unitOf : ℕ → ℕ
-unitOf b = cond (eqb b 12 || eqb b 15) 1 (cond (ltb b 128) 0 (widthOf (b - 128)))
-
--- such a run: its length, and so many units of w bytes, one item
+-- a length, and so many units of w bytes, one item
 abbrev pub units : ℕ → Reader (Unit {0})
 units w = byLength (pure tt) (λ n. bytes (n * w))
+
+-- a length, and so many values of type t that are made of Strings
+abbrev pub texts : ℕ → Reader (Unit {0})
+texts t = byLength (pure tt) (each (text t))
 
 -- What the first items of a Variant say of it, where it is known to end at `end`: of an array of type t its length, and of any Variant its
 -- first byte.
@@ -44,12 +47,16 @@ abbrev pub describedAt : ℕ → Reader Measure
 describedAt end s at =
     andThen (item 1 s at) (λ b next. cond (isArray b) (arrayAt end (typeOf b) s next) (got (measure (typeOf b) Shape.Scalar) end))
 
--- What follows the first byte of a String or ByteString, whose type is t, and of an array of the fixed type t of w bytes, measured.
+-- What follows the first byte of a String or ByteString, whose type is t, and of an array of the fixed type t of w bytes, measured; of the
+-- array also its n elements, which have so many bytes together.
 abbrev pub textAt : ℕ → Reader Measure
 textAt t = string >> pure (measure t Shape.Scalar)
 
+abbrev pub elementsAt : ℕ → ℕ → ℕ → Reader Measure
+elementsAt t n size = bytes size >> pure (measure t (Shape.Array n))
+
 abbrev pub runAt : ℕ → ℕ → Reader Measure
-runAt t w = byLength (pure (measure t Shape.NullArray)) (λ n. bytes (n * w) >> pure (measure t (Shape.Array n)))
+runAt t w = byLength (pure (measure t Shape.NullArray)) (λ n. elementsAt t n (n * w))
 
 -- what one look says of what measuring answers; where it does not tell, nothing
 abbrev pub LookTells : Plain → Answer Measure → Type 0

@@ -3,13 +3,17 @@ mod head;
 mod matrix;
 pub mod quick;
 
+use crate::quick::data_value_look;
 use crate::quick::described;
 use crate::quick::fixed_end;
-use crate::quick::plain_end;
+use crate::quick::is_strings;
+use crate::quick::pass_texts;
+use crate::quick::variant_look;
 use head::Head;
 use head::head_at;
 use head::pass_rest;
 use matrix::matrix_at;
+use plain_value::quick::End;
 use plain_value::width::width;
 use wire::Item8;
 use wire::Reached;
@@ -23,10 +27,11 @@ use wire::has;
 use wire::left;
 use wire::read8;
 ghost use mathlib.Core.Path.{_≡_};
-ghost use Prim.Native.Nat.{_<_};
-ghost use Rattle.wire.specs.Answer.{each};
+ghost use Prim.Native.Nat.{ℕ, _<_};
+ghost use Rattle.wire.specs.Answer.{got, each};
 ghost use Rattle.wire.specs.Items.{answerReached};
 ghost use Rattle.plain_value.specs.Plain.{passing};
+ghost use Rattle.value.specs.Quick.{describedAt};
 ghost use Rattle.value.specs.Value.{dimensionsOf, answerMeasured, INSIDE, tooDeep, valueAt, variantAt, dataValueAt, rawAt};
 
 // The levels left inside a field's own value.
@@ -125,35 +130,48 @@ pub(crate) fn pass_inside(s: &[u8], at: usize, t: u8, n: usize) -> Reached
     Reached::To(p)
 }
 
-// Passes over a Variant; most hold no other value.
-fn pass_variant(s: &[u8], at: usize) -> Reached
+// Passes over a Variant that a look does not tell: an array of Strings by its count, any other by its head.
+fn pass_other(s: &[u8], at: usize) -> Reached
     ensures { λ r. ⌜ answerReached r ≡ passing variantAt (now (s .entry)) at ⌝ }
 {
-    let end = plain_end(s, at);
-    if at < end {
-        return Reached::To(end);
+    if at < s.len() {
+        if is_strings(s[at]) {
+            return pass_texts(&*s, at + 1, s[at] % 64);
+        }
     }
     pass_value(&*s, at, LEVELS, VARIANT)
 }
 
-// Passes over n Variants, one after the other.
-pub fn pass_variants(s: &[u8], at: usize, n: usize) -> Reached
-    ensures { λ r. ⌜ answerReached r ≡ each variantAt n (now (s .entry)) at ⌝ }
+// Passes over a Variant; most hold no other value. It has one caller, so that it is put in line there.
+pub fn pass_variant(s: &[u8], at: usize) -> Reached
+    ensures { λ r. ⌜ answerReached r ≡ passing variantAt (now (s .entry)) at ⌝ }
 {
-    let mut p = at;
-    let mut left = n;
-    while 0 < left {
-        match pass_variant(s, p) {
-            Reached::To(end) => {
-                p = end;
-                left -= 1;
-            }
-            Reached::Refused(number, place) => {
-                return Reached::Refused(number, place);
-            }
-        }
+    match variant_look(s, at) {
+        End::At(end) => Reached::To(end),
+        End::Not => pass_other(s, at),
     }
-    Reached::To(p)
+}
+
+// Passes over a DataValue; most hold a scalar. It has one caller, so that it is put in line there.
+pub fn pass_data_value(s: &[u8], at: usize) -> Reached
+    ensures { λ r. ⌜ answerReached r ≡ passing dataValueAt (now (s .entry)) at ⌝ }
+{
+    match data_value_look(s, at) {
+        End::At(end) => Reached::To(end),
+        End::Not => pass_value(&*s, at, LEVELS, DATA_VALUE),
+    }
+}
+
+// A Variant that was passed over, told by its first items where these tell it.
+fn told(s: &[u8], at: usize, r: Reached) -> Measured
+    requires { ⌜ (answerReached r ≡ passing variantAt (now s) at)
+        × ((end : ℕ) → passing variantAt (now s) at ≡ got tt end → variantAt (now s) at ≡ describedAt end (now s) at) ⌝ }
+    ensures { λ m. ⌜ answerMeasured m ≡ variantAt (now (s .entry)) at ⌝ }
+{
+    match r {
+        Reached::Refused(number, place) => Measured::Refused(number, place),
+        Reached::To(end) => described(s, at, end),
+    }
 }
 
 // A Variant at a position, by its first byte: an array with dimensions in one pass, any other is passed over and told by its first items.
@@ -166,10 +184,10 @@ pub(crate) fn measure_other(s: &[u8], at: usize) -> Measured
     if MATRIX <= b {
         return matrix_at(&*s, at, next, b - MATRIX);
     }
-    match pass_value(&*s, at, LEVELS, VARIANT) {
-        Reached::Refused(number, place) => Measured::Refused(number, place),
-        Reached::To(end) => described(s, at, end),
+    if is_strings(b) {
+        return told(s, at, pass_texts(&*s, next, b % 64));
     }
+    told(s, at, pass_value(&*s, at, LEVELS, VARIANT))
 }
 
 // A Variant at a position.

@@ -1,14 +1,20 @@
-// Quick ways to what measuring says: a Variant that is a scalar of a fixed type, or holds no other value, told by its first byte; a Variant
-// that was passed already told by its first items; a Variant that holds no other value told in one look, with its type, shape and end; a
-// DataValue that holds such a scalar by its mask. Their laws are in proofs/FirstByte, FirstItems, Runs and Looks. Worth: a quarter of
-// the time of a scalar, a fifteenth of that of mixed values; of the look, half of the time of Strings and arrays, and of DataValues.
+// Quick ways to what measuring says: a Variant that is a null or a scalar of a fixed type told by its first byte; a Variant that was passed
+// already told by its first items; a Variant that holds no other value told in one look, by where it ends, or with its type, shape and end;
+// a DataValue that holds such a scalar by its mask. A look has no position where it does not tell (plain_value::quick). Their laws are in
+// proofs/FirstByte, FirstItems, Runs and Looks. Worth: a quarter of the time of a scalar; of the look, half of the time of Strings and
+// arrays, and of DataValues; of the null among the sizes, whose table then starts at 0, a seventh of the time of scalars; of an array of
+// Strings without its head, two fifths of the time of short ones.
 use crate::Measured;
 use crate::measure_data_value;
 use crate::measure_other;
 use plain_value::parts::parts_width;
+use plain_value::plain::texts_at;
+use plain_value::quick::End;
+use plain_value::quick::string_look;
 use plain_value::width::width;
 use wire::Item8;
 use wire::ItemLength;
+use wire::Reached;
 use wire::constants::BAD_LENGTH;
 use wire::constants::CUT_SHORT;
 use wire::constants::DATA_VALUE;
@@ -16,88 +22,146 @@ use wire::has;
 use wire::read_length;
 use wire::read8;
 ghost use mathlib.Core.Path.{_≡_};
-ghost use Prim.Native.Nat.{ℕ, suc, _≤_, _<_};
+ghost use mathlib.Core.Bool.{_||_};
+ghost use Prim.Native.Nat.{ℕ, suc, _+_, _%_, _≤_, _<_};
+ghost use lib.Dec.{eqb};
 ghost use lib.ListN.{length, getD};
 ghost use Rattle.wire.specs.Constants.{VARIANT};
 ghost use Rattle.wire.specs.Answer.{got, whenOn, bit};
-ghost use Rattle.plain_value.specs.Plain.{bytes, passing};
-ghost use Rattle.value.specs.Quick.{fixedEnd, unitOf, units, arrayAt, describedAt, textAt, runAt, LookTells};
+ghost use Rattle.wire.specs.Items.{answerReached};
+ghost use Rattle.plain_value.specs.Width.{widthOf};
+ghost use Rattle.plain_value.specs.Plain.{passing};
+ghost use Rattle.plain_value.specs.Quick.{EndTells};
+ghost use Rattle.value.specs.Quick.{scalarSize, fixedEnd, units, texts, arrayAt, describedAt, textAt, elementsAt, runAt, LookTells};
 ghost use Rattle.value.specs.Value.{valueAt, variantAt, dataValueAt, answerMeasured};
 
-// The position after a Variant that is a scalar of a fixed type and fits; for any other the position itself.
+// How many bytes a Variant has that is a null or a scalar of a fixed type, by its first byte; 0 for any other.
+fn scalar_size(b: u8) -> usize
+    ensures { λ r. ⌜ (r ≡ scalarSize b) × (r ≤ 17) ⌝ }
+{
+    if b == 0 {
+        return 1;
+    }
+    let w = width(b);
+    if w == 0 {
+        return 0;
+    }
+    w + 1
+}
+
+// The position after such a Variant that fits; for any other the position itself.
 pub fn fixed_end(s: &[u8], at: usize) -> usize
     ensures { λ r. ⌜ r ≡ fixedEnd (now (s .entry)) at ⌝ }
 {
     if s.len() <= at {
         return at;
     }
-    let w = width(s[at]);
-    if w == 0 {
-        return at;
+    let size = scalar_size(s[at]);
+    if has(s.len(), at, size) {
+        return at + size;
     }
-    if s.len() - at <= w {
-        return at;
-    }
-    at + (w + 1)
+    at
 }
 
-// Of a Variant that holds a length and a run of equal units, by its first byte: how many bytes a unit has. A String or ByteString has
-// units of 1, an array of a fixed type those of its width; for any other Variant it is 0.
-fn unit_of(b: u8) -> usize
-    ensures { λ r. ⌜ (r ≡ unitOf b) × (r ≤ 16) ⌝ }
+// How many bytes an element of an array of a fixed type has, by its first byte; 0 for any other Variant.
+fn array_unit(b: u8) -> usize
+    ensures { λ r. ⌜ (0 < r → (b ≡ b % 64 + 128) × (r ≡ widthOf (b % 64))) × (r ≤ 16) ⌝ }
 {
-    if (b == 12) | (b == 15) {
-        return 1;
-    }
-    if b < 128 {
+    if b / 64 != 2 {
         return 0;
     }
-    width(b - 128)
-}
-
-// The position after n bytes that fit, else `first`.
-fn bytes_end(s: &[u8], first: usize, at: usize, n: usize) -> usize
-    ensures { λ r. ⌜ (first < r → bytes n (now (s .entry)) at ≡ got tt r) ⌝ }
-{
-    if has(s.len(), at, n) {
-        return at + n;
+    let size = scalar_size(b % 64);
+    if size < 2 {
+        return 0;
     }
-    first
+    size - 1
 }
 
-// The position after a length and its units of w bytes where they are accepted, else `first`.
-fn units_end(s: &[u8], first: usize, at: usize, w: usize) -> usize
+// A length, and so many units of w bytes.
+fn units_look(s: &[u8], at: usize, w: usize) -> End
     requires { ⌜ w ≤ 16 ⌝ }
-    ensures { λ r. ⌜ (first < r → units w (now (s .entry)) at ≡ got tt r) ⌝ }
+    ensures { λ r. ⌜ EndTells r (units w (now (s .entry)) at) ⌝ }
 {
     match read_length(s, at) {
-        ItemLength::Null(next) => next,
-        ItemLength::Of(next, n) => bytes_end(s, first, next, n * w),
-        ItemLength::Negative(_) => first,
-        ItemLength::Short => first,
+        ItemLength::Null(next) => End::At(next),
+        ItemLength::Of(next, n) => {
+            let bytes = n * w;
+            if has(s.len(), next, bytes) {
+                return End::At(next + bytes);
+            }
+            End::Not
+        }
+        ItemLength::Negative(_) => End::Not,
+        ItemLength::Short => End::Not,
     }
 }
 
-// The position after a Variant that holds no other value and is accepted; for any other, and some of these, the position itself.
-pub(crate) fn plain_end(s: &[u8], at: usize) -> usize
-    ensures { λ r. ⌜ (at < r → passing variantAt (now (s .entry)) at ≡ got tt r) ⌝ }
+// A scalar Variant of type t, which is no fixed one, whose first byte stands at a position: a String or a ByteString.
+fn text_look(s: &[u8], at: usize, t: u8) -> End
+    requires { ⌜ (at < length (now s)) × (getD (now s) at 0 ≡ t) ⌝ }
+    ensures { λ r. ⌜ EndTells r (passing variantAt (now (s .entry)) at) ⌝ }
 {
-    let end = fixed_end(s, at);
-    if at < end {
-        return end;
+    if (t == 12) | (t == 15) {
+        return string_look(s, at + 1);
     }
-    if s.len() <= at {
-        return at;
-    }
+    End::Not
+}
+
+// A Variant, at a position, that is no null and no scalar of a fixed type. Its type is tested apart from its highest bits: where both were
+// tests of one byte, they would be merged with that of the size into one jump. Elements of 4 bytes have a way of their own (`plain_array`).
+fn run_look(s: &[u8], at: usize) -> End
+    requires { ⌜ at < length (now s) ⌝ }
+    ensures { λ r. ⌜ EndTells r (passing variantAt (now (s .entry)) at) ⌝ }
+{
     let b = s[at];
-    if b == 0 {
-        return at + 1;
+    if b < 64 {
+        return text_look(s, at, b % 64);
     }
-    let w = unit_of(b);
+    let w = array_unit(b);
     if w == 0 {
-        return at;
+        return End::Not;
     }
-    units_end(s, at, at + 1, w)
+    if w == 4 {
+        return units_look(s, at + 1, 4);
+    }
+    units_look(s, at + 1, w)
+}
+
+// Where a Variant ends that holds no other value.
+pub(crate) fn variant_look(s: &[u8], at: usize) -> End
+    ensures { λ r. ⌜ EndTells r (passing variantAt (now (s .entry)) at) ⌝ }
+{
+    if s.len() <= at {
+        return End::Not;
+    }
+    let size = scalar_size(s[at]);
+    if size == 0 {
+        return run_look(s, at);
+    }
+    if has(s.len(), at, size) {
+        return End::At(at + size);
+    }
+    End::Not
+}
+
+// Whether a Variant is an array of Strings or ByteStrings, by its first byte.
+pub(crate) fn is_strings(b: u8) -> bool
+    ensures { λ r. ⌜ r ≡ (eqb b 140 || eqb b 143) ⌝ }
+{
+    (b == 140) | (b == 143)
+}
+
+// Passes over the elements of an array of type t that are made of Strings, with their count first. Their loop is not put in line, where it
+// would take registers.
+pub(crate) fn pass_texts(s: &[u8], at: usize, t: u8) -> Reached
+    ensures { λ r. ⌜ answerReached r ≡ texts t (now (s .entry)) at ⌝ }
+{
+    match read_length(s, at) {
+        ItemLength::Null(next) => Reached::To(next),
+        ItemLength::Of(next, n) => texts_at(&*s, next, t, n),
+        ItemLength::Negative(_) => Reached::Refused(BAD_LENGTH, at),
+        ItemLength::Short => Reached::Refused(CUT_SHORT, at),
+    }
 }
 
 // What the length of an accepted array of type t says of it.
@@ -138,20 +202,24 @@ pub enum Plain {
 fn plain_string(s: &[u8], at: usize, t: u8) -> Plain
     ensures { λ r. ⌜ LookTells r (textAt t (now (s .entry)) at) ⌝ }
 {
-    match read_length(s, at) {
-        ItemLength::Null(next) => Plain::Scalar(t, next),
-        ItemLength::Of(next, n) => {
-            if has(s.len(), next, n) {
-                return Plain::Scalar(t, next + n);
-            }
-            Plain::Not
-        }
-        ItemLength::Negative(_) => Plain::Not,
-        ItemLength::Short => Plain::Not,
+    match string_look(s, at) {
+        End::At(end) => Plain::Scalar(t, end),
+        End::Not => Plain::Not,
     }
 }
 
-// An array of the fixed type t, whose elements have w bytes each, after its first byte.
+// The n elements of an array of type t, which have so many bytes together.
+fn plain_elements(s: &[u8], at: usize, t: u8, n: usize, size: usize) -> Plain
+    ensures { λ r. ⌜ LookTells r (elementsAt t n size (now (s .entry)) at) ⌝ }
+{
+    if has(s.len(), at, size) {
+        return Plain::Array(t, at + size, n);
+    }
+    Plain::Not
+}
+
+// An array of the fixed type t, whose elements have w bytes each, after its first byte. Elements of 4 bytes have a way of their own, on
+// which the next position does not wait for the table of widths and for a product: two fifths of the time of short arrays.
 fn plain_array(s: &[u8], at: usize, t: u8, w: usize) -> Plain
     requires { ⌜ w ≤ 16 ⌝ }
     ensures { λ r. ⌜ LookTells r (runAt t w (now (s .entry)) at) ⌝ }
@@ -159,50 +227,41 @@ fn plain_array(s: &[u8], at: usize, t: u8, w: usize) -> Plain
     match read_length(s, at) {
         ItemLength::Null(next) => Plain::NullArray(t, next),
         ItemLength::Of(next, n) => {
-            let bytes = n * w;
-            if has(s.len(), next, bytes) {
-                return Plain::Array(t, next + bytes, n);
+            if w == 4 {
+                return plain_elements(s, next, t, n, n * 4);
             }
-            Plain::Not
+            plain_elements(s, next, t, n, n * w)
         }
         ItemLength::Negative(_) => Plain::Not,
         ItemLength::Short => Plain::Not,
     }
 }
 
-// A scalar Variant of type t, which is no fixed one, whose first byte stands at a position: a null, a String or a ByteString.
+// A scalar Variant of type t, which is no fixed one, whose first byte stands at a position: a String or a ByteString.
 fn plain_scalar(s: &[u8], at: usize, t: u8) -> Plain
     requires { ⌜ (at < length (now s)) × (getD (now s) at 0 ≡ t) ⌝ }
     ensures { λ r. ⌜ LookTells r (variantAt (now (s .entry)) at) ⌝ }
 {
-    if t == 0 {
-        return Plain::Scalar(0, at + 1);
-    }
     if (t == 12) | (t == 15) {
         return plain_string(s, at + 1, t);
     }
     Plain::Not
 }
 
-// A Variant, at a position, that is no scalar of a fixed type. Its type is tested apart from its highest bits: where both were tests of one
-// byte, they would be merged with that of the width into one jump.
+// A Variant, at a position, that is no null and no scalar of a fixed type; as in `run_look`.
 fn plain_other(s: &[u8], at: usize) -> Plain
     requires { ⌜ at < length (now s) ⌝ }
     ensures { λ r. ⌜ LookTells r (variantAt (now (s .entry)) at) ⌝ }
 {
     let b = s[at];
-    let t = b % 64;
     if b < 64 {
-        return plain_scalar(s, at, t);
+        return plain_scalar(s, at, b % 64);
     }
-    if b / 64 != 2 {
-        return Plain::Not;
-    }
-    let w = width(t);
+    let w = array_unit(b);
     if w == 0 {
         return Plain::Not;
     }
-    plain_array(s, at + 1, t, w)
+    plain_array(s, at + 1, b % 64, w)
 }
 
 // A Variant told in one look.
@@ -212,11 +271,10 @@ fn plain_variant(s: &[u8], at: usize) -> Plain
     if s.len() <= at {
         return Plain::Not;
     }
-    let w = width(s[at]);
-    if w == 0 {
+    let size = scalar_size(s[at]);
+    if size == 0 {
         return plain_other(s, at);
     }
-    let size = w + 1;
     if has(s.len(), at, size) {
         return Plain::Scalar(s[at], at + size);
     }
@@ -235,51 +293,55 @@ pub fn variant_in_line(s: &[u8], at: usize) -> Measured
     }
 }
 
-// The position after the Variant of a DataValue with the mask m, where that is a scalar of a fixed type, or `at` where it holds none;
-// else 0.
-fn held_end(s: &[u8], at: usize, m: u8) -> usize
+// Of a DataValue, whose mask m stands at a position: how many bytes it has up to the end of its Variant, where that is a null or a scalar
+// of a fixed type, or where it holds none; else 0.
+fn held_size(s: &[u8], at: usize, m: u8) -> usize
+    requires { ⌜ at < length (now s) ⌝ }
     ensures { λ r.
-        ⌜ (0 < r → (levels : ℕ) → whenOn (bit 0 m) tt (passing (valueAt (suc levels) VARIANT)) (now (s .entry)) at ≡ got tt r) ⌝ }
+        ⌜ (0 < r → at + r ≤ length (now (s .entry)) → (levels : ℕ)
+        → whenOn (bit 0 m) tt (passing (valueAt (suc levels) VARIANT)) (now (s .entry)) (at + 1) ≡ got tt (at + r)) × (r ≤ 18) ⌝ }
 {
     if m % 2 == 0 {
-        return at;
+        return 1;
     }
-    let end = fixed_end(s, at);
-    if at < end {
-        return end;
+    if s.len() <= at + 1 {
+        return 0;
     }
-    0
+    let size = scalar_size(s[at + 1]);
+    if size == 0 {
+        return 0;
+    }
+    size + 1
 }
 
-// The position after a DataValue that holds a scalar of a fixed type or none, and is accepted; for any other the position itself.
-fn data_value_end(s: &[u8], at: usize) -> usize
-    ensures { λ r. ⌜ (at < r → passing dataValueAt (now (s .entry)) at ≡ got tt r) ⌝ }
+// Where a DataValue ends that holds a null, a scalar of a fixed type or none.
+pub(crate) fn data_value_look(s: &[u8], at: usize) -> End
+    ensures { λ r. ⌜ EndTells r (passing dataValueAt (now (s .entry)) at) ⌝ }
 {
     if s.len() <= at {
-        return at;
+        return End::Not;
     }
     let m = s[at];
     if 64 <= m {
-        return at;
+        return End::Not;
     }
-    let after = held_end(s, at + 1, m);
-    if after == 0 {
-        return at;
+    let held = held_size(s, at, m);
+    if held == 0 {
+        return End::Not;
     }
-    let w = parts_width(m);
-    if has(s.len(), after, w) {
-        return after + w;
+    let size = held + parts_width(m);
+    if has(s.len(), at, size) {
+        return End::At(at + size);
     }
-    at
+    End::Not
 }
 
 // A DataValue at a position. It has one caller, so that it is put in line there.
 pub fn data_value_in_line(s: &[u8], at: usize) -> Measured
     ensures { λ r. ⌜ answerMeasured r ≡ dataValueAt (now (s .entry)) at ⌝ }
 {
-    let end = data_value_end(s, at);
-    if at < end {
-        return Measured::Scalar(DATA_VALUE, end);
+    match data_value_look(s, at) {
+        End::At(end) => Measured::Scalar(DATA_VALUE, end),
+        End::Not => measure_data_value(&*s, at),
     }
-    measure_data_value(&*s, at)
 }

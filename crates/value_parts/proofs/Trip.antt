@@ -1,18 +1,18 @@
 -- What was put is told as what was given: the same type, shape, count and null, and the very bytes.
 -- Assumes nothing.
 use mathlib.Core.Path.{_≡_, refl, sym, ap, subst, _∙_}
-use mathlib.Core.Bool.{Bool, true, false, cond}
+use mathlib.Core.Bool.{Bool, true, false, cond, _||_}
 use mathlib.Core.List.{List, [], _++_, append-assoc}
 use mathlib.Core.Logic.{_⊎_, inl, inr}
 use Prim.Native.Nat.{ℕ, suc, _+_, _*_, _-_, _/_, _%_, _≤_, _<_}
 use native.Mathlib.Nat.{div-le-self, div-add-mod', add-zero}
 use native.Mathlib.Omega.{arith}
-use borrow.Author.Tests.{le-leb, lt-leb, lt-ltb, le-ltb, ltb-true, eqb-true, ne-eqb}
+use borrow.Author.Tests.{le-leb, lt-ltb, ltb-true, eqb-true, ne-eqb}
 use lib.Dec.{eqb}
 use lib.ListN.{length, getD, take, drop, length-append, take-append-drop}
 use lib.Seq.{take-at, drop-at}
 use Rattle.wire.specs.Number.{leBytes, signed}
-use Rattle.wire.specs.Answer.{got, item}
+use Rattle.wire.specs.Answer.{Answer, got, refused, andThen, item}
 use Rattle.wire.specs.Items.{lengthOf, lengthItem}
 use Rattle.wire.specs.declared.Length.{Length}
 use Rattle.wire.proofs.Numbers.{length-leBytes}
@@ -22,13 +22,13 @@ use Rattle.wire_writer.proofs.Answering.{reported}
 use Rattle.wire_writer.proofs.Trip.{At, first, second, fits-at, le-at}
 use Rattle.wire_writer.proofs.Refusals.{held, both-zero}
 use Rattle.plain_value.specs.Width.{widthOf, fixed}
-use Rattle.plain_value.specs.Plain.{lengthFirst}
+use Rattle.plain_value.specs.Plain.{bytes, string, lengthFirst, afterLength}
 use Rattle.value.specs.Value.{measure, variantAt}
-use Rattle.value.specs.Quick.{fixedEnd, unitOf, units, describedAt, arrayAt}
+use Rattle.value.specs.Quick.{scalarSize, units, arrayAt}
 use Rattle.value.specs.declared.Shape.{Shape}
 use Rattle.value.proofs.FirstByte.{scalar-first, array-first}
-use Rattle.value.proofs.FirstItems.{fixed-first, fixed-variant, described-is}
-use Rattle.value.proofs.Runs.{null-variant, units-variant}
+use Rattle.value.proofs.FirstItems.{fixed-first, scalar-measured, described-is}
+use Rattle.value.proofs.Runs.{text-variant, array-variant}
 use Rattle.value_parts.specs.declared.put.Form.{Form}
 use Rattle.value_parts.specs.Told.{isCounted, isNull, toldVariantAt}
 use Rattle.value_parts.specs.Put.{firstByte, hasCount, countGiven, headBytes, variantBytes, typeRule, formRule, putRule, shapeOf, nullOf, givenParts, variantOutput}
@@ -80,21 +80,24 @@ module _ (s : List ℕ) (m b : ℕ) (h : b < 256) (a : At s m (leBytes 1 b)) whe
       let fits : m + 1 ≤ length s = omega (arith, x .0) in
       rw (le-leb (m + 1) (length s) fits, le-at 1 b m h s a)
 
-  by-units : {e : ℕ} → b < 192 → 0 < unitOf b → units (unitOf b) s (m + 1) ≡ got tt e → variantAt s m ≡ describedAt e s m
-  by-units low some q = let x = byte-there s m b h a in described-is s m item-there low (units-variant s m b (x .0) (x .1) some ∙ q)
+-- a String's bytes are units of 1
+same-units : (x : Answer Length) (s : List ℕ) (at : ℕ)
+    → andThen x (λ l next. afterLength (λ z p. got tt p) bytes at l s next) ≡ andThen x (λ l next. afterLength (λ z p. got tt p) (λ n. bytes (n * 1)) at l s next)
+same-units (got Length.Null next) s at = refl
+same-units (got (Length.Of n) next) s at = let e : n ≡ n * 1 = omega arith in ap (λ (k : ℕ). bytes k s next) e
+same-units (got Length.Negative next) s at = refl
+same-units (refused n place) s at = refl
 
--- the units of an array of a fixed type, and of a String
-array-unit : (t : ℕ) → unitOf (t + 128) ≡ widthOf t
-array-unit t =
-    let e : t + 128 - 128 ≡ t = omega arith in
-    rw (ne-eqb (t + 128) 12 (λ q. omega (arith, q)), ne-eqb (t + 128) 15 (λ q. omega (arith, q)), le-ltb (t + 128) 128 (omega arith), e)
+string-units : (s : List ℕ) (at : ℕ) → string s at ≡ units 1 s at
+unfolding string
+string-units s at = same-units (lengthItem s at) s at
 
-text-unit : (t : ℕ) → lengthFirst t ≡ true → unitOf t ≡ 1
-text-unit t l = go (text-is t l)
+text-tested : (t : ℕ) → lengthFirst t ≡ true → (eqb t 12 || eqb t 15) ≡ true
+text-tested t l = go (text-is t l)
   where
-    go : (t ≡ 12) ⊎ (t ≡ 15) → unitOf t ≡ 1
-    go (inl z) = ap unitOf z
-    go (inr z) = ap unitOf z
+    go : (t ≡ 12) ⊎ (t ≡ 15) → (eqb t 12 || eqb t 15) ≡ true
+    go (inl z) = ap (λ (n : ℕ). eqb n 12 || eqb n 15) z
+    go (inr z) = ap (λ (n : ℕ). eqb n 12 || eqb n 15) z
 
 text-small : (t : ℕ) → lengthFirst t ≡ true → t < 64
 text-small t l = go (text-is t l)
@@ -108,19 +111,21 @@ module _ (s : List ℕ) (m t : ℕ) (small : t < 64) where
   module _ (f : fixed t ≡ true) (a : At s m (leBytes 1 (t + 128))) where
     array-is : {e : ℕ} → units (widthOf t) s (m + 1) ≡ got tt e → variantAt s m ≡ arrayAt e t s (m + 1)
     array-is {e} q =
-        let u = array-unit t in
         let x = array-first t small in
         let big : t + 128 < 256 = omega arith in
-        by-units s m (t + 128) big a {e = e} (omega arith) (rw u (ltb-true 0 (widthOf t) f)) (rw u q) ∙ rw (item-there s m (t + 128) big a, x .array, x .type)
+        let y = byte-there s m (t + 128) big a in
+        described-is s m (item-there s m (t + 128) big a) (omega arith) (array-variant s m t (widthOf t) (y .0) (sym (y .1)) small (ltb-true 0 (widthOf t) f) refl ∙ q)
+        ∙ rw (item-there s m (t + 128) big a, x .array, x .type)
 
   -- Strings
   module _ (l : lengthFirst t ≡ true) (a : At s m (leBytes 1 t)) where
     string-is : {e : ℕ} → units 1 s (m + 1) ≡ got tt e → variantAt s m ≡ got (measure t Shape.Scalar) e
     string-is {e} q =
-        let u = text-unit t l in
         let x = scalar-first t small in
         let big : t < 256 = omega arith in
-        by-units s m t big a {e = e} (omega arith) (rw u (omega arith)) (rw u q) ∙ rw (item-there s m t big a, x .no-array, x .type)
+        let y = byte-there s m t big a in
+        described-is s m (item-there s m t big a) (omega arith) (text-variant s m (y .0) t (sym (y .1)) (text-tested t l) ∙ string-units s (m + 1) ∙ q)
+        ∙ rw (item-there s m t big a, x .no-array, x .type)
 
   -- scalars of a fixed type
   scalar-is : fixed t ≡ true → (b : List ℕ) → length b ≡ widthOf t → At s m (leBytes 1 t ++ b) → variantAt s m ≡ got (measure t Shape.Scalar) (m + widthOf t + 1)
@@ -129,10 +134,10 @@ module _ (s : List ℕ) (m t : ℕ) (small : t < 64) where
       let x = byte-there s m t big (first s m (leBytes 1 t) b a) in
       let w : 0 < widthOf t = ltb-true 0 (widthOf t) f in
       let fits : m + 1 + widthOf t ≤ length s = omega (arith, fits-at s m (leBytes 1 t ++ b) a, length-append (leBytes 1 t) b, length-leBytes 1 t, e) in
-      let l1 : length s - m ≤ widthOf t → ⊥ = λ z. omega arith in
-      let end : m + widthOf t + 1 ≡ fixedEnd s m =
-      rw (sym (x .1), lt-leb (length s) m (x .0), ne-eqb (widthOf t) 0 (λ z. omega arith), lt-leb (length s - m) (widthOf t) (omega arith)) in
-      fixed-variant 99 s m end (omega arith) .1 ∙ rw (sym (x .1))
+      let size : widthOf t + 1 ≡ scalarSize (getD s m 0) = rw (sym (x .1), fixed-first t f .3, ne-eqb (widthOf t) 0 (λ z. omega arith)) in
+      let end : m + (widthOf t + 1) ≡ m + widthOf t + 1 = omega arith in
+      scalar-measured 99 s m (widthOf t + 1) (x .0) size (omega arith) (omega arith)
+      ∙ ap (λ (n : ℕ). got (measure n Shape.Scalar) (m + (widthOf t + 1))) (sym (x .1)) ∙ ap (got (measure t Shape.Scalar)) end
 
 -- ---- the whole
 
@@ -249,12 +254,11 @@ module _ (s : List ℕ) (m t : ℕ) (b : List ℕ) (small : t < 64) (short : len
           let big : t < 256 = omega arith in
           let p = first s m (leBytes 1 t) b (plain-at s m t Form.Null b ey a) in
           let x = byte-there s m t big p in
-          let sf = scalar-first t small in
           let l = plain-length s m t Form.Null b ey in
           let e1 : m + 1 ≡ m + length (headBytes t Form.Null (length b)) = omega (arith, l .0) in
           let e : m + 1 ≡ m + length (variantBytes t Form.Null b) = omega (arith, l .1, z) in
           told-from s m t Form.Null b
-          (described-is s m (item-there s m t big p) (omega arith) (null-variant s m (x .0) (sym (x .1) ∙ eqb-true t 0 ek)) ∙ rw (item-there s m t big p, sf .no-array, sf .type))
+          (scalar-measured 99 s m 1 (x .0) (rw (sym (x .1), ek)) (omega arith) (omega (arith, x .0)) ∙ ap (λ (n : ℕ). got (measure n Shape.Scalar) (m + 1)) (sym (x .1)))
           (rw (ey, ek)) (here ey ∙ e1) e
       go false false ey false ek q = absurd (omega (arith, q))
 

@@ -1,16 +1,14 @@
 -- `value::measure_other` meets its contract.
 -- Assumes nothing.
-use Rattle.value.proofs.FirstItems.{described-is}
-use Rattle.value.proofs.Heads.{told-byte, told-no-byte, variant-short, variant-judged}
-use Rattle.plain_value.proofs.Passing.{unpassed}
+use Rattle.value.specs.Value.{answerMeasured, valueAt, variantOf, variantRule}
 use Rattle.value.specs.Head.{judged}
-use Rattle.value.specs.Value.{answerMeasured, valueAt, variantAt, variantOf, variantRule}
-use Rattle.wire.proofs.Reading.{told}
-use Rattle.wire.specs.Items.{answerReached}
+use Rattle.value.proofs.Heads.{told-byte, told-no-byte, variant-short, variant-judged}
+use Rattle.value.proofs.Runs.{strings-variant}
+use Rattle.value.proofs.FirstItems.{described-is}
+use mathlib.Core.Path.{_≡_, sym, subst, _∙_}
+use Prim.Native.Nat.{ℕ, _+_, _-_}
 use native.Mathlib.Omega.{arith}
 use denote.Ref.{now}
-use Prim.Native.Nat.{ℕ, _+_, _-_}
-use mathlib.Core.Path.{_≡_, sym, subst, _∙_}
 use borrow.Author.Needs.{needs}
 use Rattle.value.proofs.measure_other.Statement.{statement}
 use Rattle.value.proofs.measure_other.Tie as tie
@@ -31,23 +29,26 @@ returns-2 c =
     subst (λ (x : ℕ). answerMeasured (c .matrix-at .result) ≡ judged variantRule x (args .at) (variantOf (valueAt 99)) (now (args .s)) (at-b .b .given .0 .1 .0)) q (c .matrix-at .ensures)
     ∙ sym (variant-judged (now (args .s)) (args .at) (told-byte (args .at) (at-read8 .read8 .ensures) (at-b .b .given .1)))
 
-returns-3 : tie.Need-returns-3
-returns-3 c =
-    let at-number = c .before in
-    let at-pass-value = at-number .before .before in
-    let args = at-pass-value .before .before .before .before .before .before .before .args in
-    sym (unpassed (variantAt (now (args .s)) (args .at)) (sym (told answerReached (at-pass-value .pass-value .ensures) (at-number .number .given .1))))
+told-requires : tie.Need-told-requires
+told-requires c κs =
+    let at-if2 = c .before in
+    let at-is-strings = at-if2 .before in
+    let at-if1 = at-is-strings .before in
+    let at-b = at-if1 .before .before in
+    let at-read8 = at-b .before .before in
+    let args = at-read8 .before .before .args in (
+      c .pass-texts .ensures ∙ sym
+          (strings-variant (now (args .s)) (args .at) _ (told-byte (args .at) (at-read8 .read8 .ensures) (at-b .b .given .1)) (sym (at-is-strings .is-strings .ensures) ∙ at-if2 .if2 .taken)),
+      λ end q. described-is (now (args .s)) (args .at) (told-byte (args .at) (at-read8 .read8 .ensures) (at-b .b .given .1)) (omega (arith, at-if1 .if1 .left)) q,
+    )
 
-returns-4 : tie.Need-returns-4
-returns-4 c =
-    let at-end = c .before .before in
-    let at-pass-value = at-end .before .before in
-    let at-if1 = at-pass-value .before in
+told-requires-2 : tie.Need-told-requires-2
+told-requires-2 c κs =
+    let at-if1 = c .before .before .before in
     let at-b = at-if1 .before .before in
     let at-read8 = at-b .before .before in
     let args = at-read8 .before .before .args in
-    c .described .ensures ∙ sym (described-is (now (args .s)) (args .at) (told-byte (args .at) (at-read8 .read8 .ensures) (at-b .b .given .1)) (omega (arith, at-if1 .if1 .left))
-    (sym (told answerReached (at-pass-value .pass-value .ensures) (at-end .end .given .1))))
+    (c .pass-value .ensures, λ end q. described-is (now (args .s)) (args .at) (told-byte (args .at) (at-read8 .read8 .ensures) (at-b .b .given .1)) (omega (arith, at-if1 .if1 .left)) q)
 
 pub measure-other-spec : {M : Type 1} → statement M
 measure-other-spec =
@@ -60,8 +61,9 @@ measure-other-spec =
     (λ c κs. search needs)
     returns-2
     (λ c κs. search needs)
-    (λ c. search needs)
+    (λ c κs. search needs)
+    told-requires
     (λ c. search needs)
     (λ c κs. search needs)
-    returns-3
-    returns-4)
+    told-requires-2
+    (λ c. search needs))

@@ -1,12 +1,13 @@
 -- `plain_value::plain::strings_at` meets its contract.
 -- Assumes nothing.
 use borrow.Author.Needs.{needs}
-use Rattle.wire.proofs.Each.{each-done, each-step, each-stop}
-use Rattle.wire.specs.Items.{answerReached}
+use denote.Ref.{now}
+use Rattle.wire.proofs.Each.{each-done, each-step}
 use Rattle.plain_value.specs.Plain.{string}
-use Rattle.wire.proofs.Reading.{told}
+use Rattle.plain_value.specs.Quick.{EndTells}
+use Rattle.plain_value.specs.declared.quick.End.{End}
 use Rattle.wire.specs.Answer.{each}
-use mathlib.Core.Path.{_≡_, sym, _∙_}
+use mathlib.Core.Path.{_≡_, sym, subst, _∙_}
 use Rattle.plain_value.proofs.plain.strings_at.Statement.{statement}
 use Rattle.plain_value.proofs.plain.strings_at.Tie as tie
 
@@ -18,20 +19,19 @@ abbrev μ-loop : tie.MeasureT-loop
 
 loop-again : tie.Need-loop-again Inv-loop μ-loop
 loop-again c =
-    let at-r = c .before in
-    let at-string-at = at-r .before .before in
-    let at-loop-test = at-string-at .before in
+    let at-e = c .before in
+    let at-string-look = at-e .before .before in
+    let at-loop-test = at-string-look .before in
     let at-loop = at-loop-test .before in
-    at-loop .loop .inv ∙ each-step string _ (at-loop .loop .left) (at-loop .loop .p) (at-loop-test .loop-test .taken) (sym (told answerReached (at-string-at .string-at .ensures) (at-r .r .given .1)))
+    let args = at-loop .before .before .args in
+    at-loop .loop .inv ∙ each-step string _ (at-loop .loop .left) (at-loop .loop .p) (at-loop-test .loop-test .taken)
+    (subst (λ (x : End). EndTells x (string (now (args .s)) (at-loop .loop .p))) (at-e .e .given .1) (at-string-look .string-look .ensures))
 
 returns : tie.Need-returns Inv-loop μ-loop
 returns c =
-    let at-r2 = c .before in
-    let at-string-at = at-r2 .before .before in
-    let at-loop-test = at-string-at .before in
-    let at-loop = at-loop-test .before in
-    sym (at-loop .loop .inv ∙ each-stop string _ (at-loop .loop .left) (at-loop .loop .p) (at-loop-test .loop-test .taken)
-    (sym (told answerReached (at-string-at .string-at .ensures) (at-r2 .r2 .given .1))))
+    let at-string-look = c .before .before .before in
+    let at-loop = at-string-look .before .before in
+    c .each-string .ensures ∙ sym (at-loop .loop .inv)
 
 returns-2 : tie.Need-returns-2 Inv-loop μ-loop
 returns-2 c =
@@ -50,5 +50,6 @@ strings-at-spec =
     (λ c. search needs)
     loop-again
     (λ c. search needs)
+    (λ c κs. search needs)
     returns
     returns-2)

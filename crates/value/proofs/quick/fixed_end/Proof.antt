@@ -1,9 +1,8 @@
 -- `value::quick::fixed_end` meets its contract.
 -- Assumes nothing.
+use mathlib.Core.Path.{sym, _∙_}
+use borrow.Author.Tests.{le-leb, lt-leb}
 use borrow.Author.Needs.{needs}
-use borrow.Author.Tests.{le-leb, lt-leb, eq-eqb, ne-eqb}
-use mathlib.Core.Path.{sym}
-use native.Mathlib.Omega.{arith}
 use Rattle.value.proofs.quick.fixed_end.Statement.{statement}
 use Rattle.value.proofs.quick.fixed_end.Tie as tie
 
@@ -12,23 +11,17 @@ returns c = rw (le-leb _ _ (c .if1 .taken))
 
 returns-2 : tie.Need-returns-2
 returns-2 c =
-    let at-width = c .before in
-    let at-if1 = at-width .before .before in
-    rw (lt-leb _ _ (at-if1 .if1 .left), sym (at-width .width .ensures .0), eq-eqb _ _ (c .if2 .taken))
+    let at-has = c .before in
+    let at-scalar-size = at-has .before in
+    let at-if1 = at-scalar-size .before .before in
+    rw (lt-leb _ _ (at-if1 .if1 .left), sym (at-scalar-size .scalar-size .ensures .0), sym (at-has .has .ensures) ∙ c .if2 .taken)
 
 returns-3 : tie.Need-returns-3
 returns-3 c =
-    let at-if2 = c .before in
-    let at-width = at-if2 .before in
-    let at-if1 = at-width .before .before in
-    rw (lt-leb _ _ (at-if1 .if1 .left), sym (at-width .width .ensures .0), ne-eqb _ _ (at-if2 .if2 .left), le-leb _ _ (c .if3 .taken))
-
-returns-4 : tie.Need-returns-4
-returns-4 c =
-    let at-if2 = c .before in
-    let at-width = at-if2 .before in
-    let at-if1 = at-width .before .before in
-    rw (lt-leb _ _ (at-if1 .if1 .left), sym (at-width .width .ensures .0), ne-eqb _ _ (at-if2 .if2 .left), lt-leb _ _ (c .if3 .left)) (omega arith)
+    let at-has = c .before in
+    let at-scalar-size = at-has .before in
+    let at-if1 = at-scalar-size .before .before in
+    rw (lt-leb _ _ (at-if1 .if1 .left), sym (at-scalar-size .scalar-size .ensures .0), sym (at-has .has .ensures) ∙ c .if2 .left)
 
 pub fixed-end-spec : {M : Type 1} → statement M
 fixed-end-spec =
@@ -37,9 +30,7 @@ fixed-end-spec =
     returns
     (λ c. search needs)
     (λ c κs. search needs)
+    (λ c κs. search needs)
+    (λ c. search needs)
     returns-2
-    (λ c. search needs)
-    returns-3
-    (λ c. search needs)
-    (λ c. search needs)
-    returns-4)
+    returns-3)

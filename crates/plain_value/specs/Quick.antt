@@ -1,0 +1,9 @@
+-- What a quick look at a value says. No part of document 01.
+use mathlib.Core.Path.{_≡_}
+use Rattle.wire.specs.Answer.{Answer, got}
+use Rattle.plain_value.specs.declared.quick.End.{End}
+
+-- what a look says of what reading answers; where it does not tell, nothing
+abbrev pub EndTells : End → Answer (Unit {0}) → Type 0
+EndTells (End.At next) a = a ≡ got tt next
+EndTells End.Not a = Unit {0}
