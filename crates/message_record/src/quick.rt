@@ -1,7 +1,7 @@
 // A quick way to the field that a head record's cursor stands before, where its value holds no other: type, shape and end told in line, and
 // no configuration searched. It tells what `Cursor::step` answers; its law is in proofs/Telling. It has one caller, so that it is put in
-// line there; its looks are not those of `value::quick`, which the walk's loops have in line. Worth: two fifths of the time of a call for a
-// scalar of a fixed type, three quarters of that for a String, an array or a DataValue.
+// line there; its looks are not those of `value::quick`, which the walk's loops have in line. Worth: nearly half of the time of a call for
+// a scalar of a fixed type, two thirds of that for a String, an array or a DataValue.
 use crate::message::cursor_in;
 use dataset_fields::fields::Cursor;
 use dataset_fields::fields::Field;
