@@ -2,3 +2,4 @@ pub mod Heads
 pub mod Back
 pub mod Fitting
 pub mod Values
+pub mod Telling

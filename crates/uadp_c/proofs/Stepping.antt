@@ -15,6 +15,8 @@ use Rattle.records.specs.Sizes.{FIELD_SIZE, HEAD_SIZE}
 use Rattle.records.specs.Result.{resultOf}
 use Rattle.records.specs.Writers.{typesFor}
 use Rattle.message_record.specs.Message.{fieldNumbers, cursorIn, cursorLaid}
+use Rattle.message_record.specs.Quick.{StepTells}
+use Rattle.message_record.specs.declared.quick.Told.{Told}
 use Rattle.uadp_c.specs.Fields.{stepResult, headAfter, fieldAfter}
 
 abbrev pub Steps : Answer FieldStepped → List ℕ → List ℕ → ℕ → List ℕ → List ℕ → Type 0
@@ -24,6 +26,11 @@ Steps a head field x h f = (x ≡ stepResult a head field) × (h ≡ headAfter a
 pub stepped : (c s ty head : List ℕ) (w : ℕ) (k : Cursor) (y : Answer FieldStepped) → ty ≡ typesFor c w → k ≡ cursorIn head → y ≡ nextFieldAt k ty s
     → y ≡ nextFieldAt (cursorIn head) (typesFor c w) s
 stepped c s ty head w k y e d q = q ∙ ap (λ (t : List ℕ). nextFieldAt k t s) e ∙ ap (λ (t : Cursor). nextFieldAt t (typesFor c w) s) d
+
+-- what was told in line is what the step that the records tell of answers
+pub told-so : (c s head : List ℕ) (w : ℕ) (r x : Told) → r ≡ x → ((types : List ℕ) → StepTells r (nextFieldAt (cursorIn head) types s))
+    → StepTells x (nextFieldAt (cursorIn head) (typesFor c w) s)
+told-so c s head w r x e h = subst (λ (t : Told). StepTells t (nextFieldAt (cursorIn head) (typesFor c w) s)) e (h (typesFor c w))
 
 pub step-refused : (a : Answer FieldStepped) (head field : List ℕ) (n p x : ℕ) → refused n p ≡ a → x ≡ resultOf n p → Steps a head field x head field
 step-refused a head field n p x q h = subst (λ (y : Answer FieldStepped). Steps y head field x head field) q (h, refl, refl)

@@ -9,11 +9,14 @@ use message_record::message::put_cursor;
 use message_record::message::put_field;
 use message_record::message::put_head;
 use message_record::message::put_no_head;
+use message_record::quick::Told;
+use message_record::quick::tell;
 use records::result::result;
 use records::sizes::FIELD_SIZE;
 use records::sizes::HEAD_SIZE;
 use records::writers::types_for;
 use wire::constants::NO_ROOM;
+use wire::constants::OVER_LIMIT;
 ghost use mathlib.Core.Path.{_≡_};
 ghost use Rattle.dataset_fields.specs.Fields.{nextFieldAt};
 ghost use Rattle.dataset_message.specs.Message.{fieldPlaceAt};
@@ -79,6 +82,32 @@ pub extern "C" fn uadp_field(
     }
 }
 
+// The field that a head record's cursor stands before, by a step of the cursor. It is called in several places, so that it is not put in
+// line.
+fn by_step(message: &[u8], config: &[u8], writer: u32, head: &mut [u8], field: &mut [u8]) -> u64
+    ensures { λ r.
+        let step = nextFieldAt (cursorIn (now (head .entry))) (typesFor (now (config .entry)) writer) (now (message .entry)) in
+        ⌜ (r ≡ stepResult step (now (head .entry)) (now (field .entry)))
+        × (now (head .exit) ≡ headAfter step (now (head .entry)) (now (field .entry)))
+        × (now (field .exit) ≡ fieldAfter step (now (head .entry)) (now (field .entry))) ⌝ }
+{
+    let cursor = cursor_in(head);
+    match cursor.step(&*message, types_for(&*config, writer)) {
+        FieldStep::Refused(n, place) => result(n, place),
+        FieldStep::Is(f, next) => {
+            if head.len() < HEAD_SIZE {
+                return result(NO_ROOM, 0);
+            }
+            if field.len() < FIELD_SIZE {
+                return result(NO_ROOM, 0);
+            }
+            put_cursor(head, next);
+            put_field(field, f);
+            result(0, f.offset)
+        }
+    }
+}
+
 // The field that a head record's cursor stands before, as a field record; the cursor then stands before the next one.
 #[no_mangle]
 pub extern "C" fn uadp_next_field(
@@ -94,19 +123,19 @@ pub extern "C" fn uadp_next_field(
         × (now (head .exit) ≡ headAfter step (now (head .entry)) (now (field .entry)))
         × (now (field .exit) ≡ fieldAfter step (now (head .entry)) (now (field .entry))) ⌝ }
 {
-    let cursor = cursor_in(head);
-    match cursor.step(message, types_for(config, writer)) {
-        FieldStep::Refused(n, place) => result(n, place),
-        FieldStep::Is(f, next) => {
-            if head.len() < HEAD_SIZE {
-                return result(NO_ROOM, 0);
-            }
-            if field.len() < FIELD_SIZE {
-                return result(NO_ROOM, 0);
-            }
-            put_cursor(head, next);
-            put_field(field, f);
-            result(0, f.offset)
+    if head.len() < HEAD_SIZE {
+        return by_step(message, config, writer, head, field);
+    }
+    if field.len() < FIELD_SIZE {
+        return by_step(message, config, writer, head, field);
+    }
+    match tell(message, head) {
+        Told::Is(found, after) => {
+            put_cursor(head, after);
+            put_field(field, found);
+            result(0, found.offset)
         }
+        Told::End => result(OVER_LIMIT, 0),
+        Told::Not => by_step(message, config, writer, head, field),
     }
 }

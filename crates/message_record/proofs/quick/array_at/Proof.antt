@@ -1,0 +1,68 @@
+-- `message_record::quick::array_at` meets its contract.
+-- Assumes nothing.
+use lib.ListN.{length}
+use Prim.Native.Nat.{_+_, _*_}
+use denote.Ref.{now}
+use borrow.Author.Tests.{leb-true}
+use native.Mathlib.Nat.{mul-le-mul-left}
+use native.Mathlib.Omega.{arith}
+use mathlib.Core.Path.{sym, _∙_}
+use Rattle.plain_value.proofs.Lengths.{count-small}
+use Rattle.wire.specs.Items.{answerLength}
+use Rattle.wire.proofs.Reading.{told}
+use borrow.Author.Needs.{needs}
+use Rattle.message_record.proofs.quick.array_at.Statement.{statement}
+use Rattle.message_record.proofs.quick.array_at.Tie as tie
+
+mul-bytes : tie.Need-mul-bytes
+mul-bytes c =
+    let at-next2 = c .before in
+    let at-read-length = at-next2 .before .before in
+    let at-pre = at-read-length .before .before in
+    let a = at-pre .args in
+    omega (
+      arith,
+      mul-le-mul-left (at-next2 .next2 .given .0 .1 .0) (at-pre .pre),
+      count-small (now (a .s)) (a .at) (sym (told (answerLength (a .at)) (at-read-length .read-length .ensures) (at-next2 .next2 .given .1))),
+    )
+
+add-t13 : tie.Need-add-t13
+add-t13 c =
+    let at-has = c .before in
+    let at-next2 = at-has .before .before in
+    let a = at-next2 .before .before .before .before .args in
+    let n = at-next2 .next2 .given .0 in
+    omega (arith, leb-true (n .0 + n .1 .0 * a .w) (length (now (a .s))) (sym (at-has .has .ensures) ∙ c .if1 .taken))
+
+returns : tie.Need-returns
+returns c =
+    let at-has = c .before in
+    let at-next2 = at-has .before .before in
+    let at-read-length = at-next2 .before .before in
+    let args = at-read-length .before .before .args in
+    rw (sym (told (answerLength (args .at)) (at-read-length .read-length .ensures) (at-next2 .next2 .given .1)), sym (at-has .has .ensures) ∙ c .if1 .taken)
+
+returns-2 : tie.Need-returns-2
+returns-2 c =
+    let at-next = c .before in
+    let at-read-length = at-next .before .before in
+    let args = at-read-length .before .before .args in
+    rw (sym (told (answerLength (args .at)) (at-read-length .read-length .ensures) (at-next .next .given .1)))
+
+pub array-at-spec : {M : Type 1} → statement M
+array-at-spec =
+    tie.close
+    (tie.spec
+    (λ c κs. search needs)
+    (λ c. search needs)
+    (λ c. search needs)
+    mul-bytes
+    (λ c κs. search needs)
+    add-t13
+    returns
+    (λ c. search needs)
+    (λ c. search needs)
+    returns-2
+    (λ c. search needs)
+    (λ c. search needs)
+    (λ c. search needs))

@@ -1,0 +1,49 @@
+-- `message_record::quick::data_value_at` meets its contract.
+-- Assumes nothing.
+use mathlib.Core.Path.{refl, sym, _∙_}
+use borrow.Author.Tests.{leb-true}
+use native.Mathlib.Omega.{arith}
+use denote.Ref.{now}
+use Rattle.value.proofs.FirstItems.{data-value-is}
+use Rattle.value.proofs.Looks.{data-value-look}
+use Rattle.plain_value.proofs.Widths.{positive}
+use Prim.Native.Nat.{_+_}
+use lib.ListN.{length}
+use borrow.Author.Needs.{needs}
+use Rattle.message_record.proofs.quick.data_value_at.Statement.{statement}
+use Rattle.message_record.proofs.quick.data_value_at.Tie as tie
+
+add-t11 : tie.Need-add-t11
+add-t11 c =
+    let at-has = c .before in
+    let at-parts-width = at-has .before in
+    let at-held-end = at-parts-width .before .before in
+    let a = at-held-end .before .before .before .before .args in
+    omega (arith, leb-true (at-held-end .held-end .result + at-parts-width .parts-width .result) (length (now (a .s))) (sym (at-has .has .ensures) ∙ c .if3 .taken))
+
+returns-3 : tie.Need-returns-3
+returns-3 c =
+    let at-has = c .before in
+    let at-parts-width = at-has .before in
+    let at-if2 = at-parts-width .before in
+    let at-held-end = at-if2 .before in
+    let at-if1 = at-held-end .before in
+    let at-pre = at-if1 .before .before .before in
+    data-value-is (now (at-pre .args .s)) (at-pre .args .at)
+    (data-value-look (now (at-pre .args .s)) (at-pre .args .at) _ (at-held-end .held-end .result) (at-parts-width .parts-width .result) (at-pre .pre)
+    refl (at-if1 .if1 .left) (at-held-end .held-end .ensures (positive _ (at-if2 .if2 .left)) 98) (at-parts-width .parts-width .ensures) (leb-true _ _ (sym (at-has .has .ensures) ∙ c .if3 .taken)))
+
+pub data-value-at-spec : {M : Type 1} → statement M
+data-value-at-spec =
+    tie.close
+    (tie.spec
+    (λ c. search needs)
+    (λ c. search needs)
+    (λ c. search needs)
+    (λ c κs. search needs)
+    (λ c. search needs)
+    (λ c κs. search needs)
+    (λ c κs. search needs)
+    add-t11
+    returns-3
+    (λ c. search needs))
