@@ -2,7 +2,8 @@
 -- Assumes nothing.
 use denote.Ref.{now}
 use mathlib.Core.Path.{_∙_}
-use Rattle.value.proofs.Looks.{null-look, text-look}
+use Rattle.value.proofs.Looks.{text-look}
+use Rattle.message_record.proofs.Telling.{null-look}
 use borrow.Author.Needs.{needs}
 use Rattle.message_record.proofs.quick.scalar_at.Statement.{statement}
 use Rattle.message_record.proofs.quick.scalar_at.Tie as tie

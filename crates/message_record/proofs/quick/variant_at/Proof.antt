@@ -1,6 +1,6 @@
 -- `message_record::quick::variant_at` meets its contract.
 -- Assumes nothing.
-use Rattle.value.proofs.Looks.{fixed-look}
+use Rattle.message_record.proofs.Telling.{fixed-look}
 use native.Mathlib.Omega.{arith}
 use borrow.Author.Tests.{leb-true}
 use Prim.Native.Nat.{_+_}
