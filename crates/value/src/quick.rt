@@ -219,7 +219,7 @@ fn plain_elements(s: &[u8], at: usize, t: u8, n: usize, size: usize) -> Plain
 }
 
 // An array of the fixed type t, whose elements have w bytes each, after its first byte. Elements of 4 bytes have a way of their own, on
-// which the next position does not wait for the table of widths and for a product: two fifths of the time of short arrays.
+// which the next position does not wait for the table of widths and for a product: a third of the time of a walk over short arrays.
 fn plain_array(s: &[u8], at: usize, t: u8, w: usize) -> Plain
     requires { ⌜ w ≤ 16 ⌝ }
     ensures { λ r. ⌜ LookTells r (runAt t w (now (s .entry)) at) ⌝ }
