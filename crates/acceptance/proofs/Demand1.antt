@@ -6,17 +6,15 @@ use mathlib.Core.List.{List, [], _∷_}
 use mathlib.Core.Logic.{_⊎_, inl, inr}
 use native.Mathlib.Nat.{zero-add}
 use native.Mathlib.Omega.{arith}
-use borrow.Author.Tests.{lt-leb, leb-false, ltb-false}
+use borrow.Author.Tests.{leb-false, ltb-false}
 use lib.Dec.{eqb, leb, ltb}
 use lib.ListN.{length}
 use Rattle.wire.specs.Answer.{Answer, got, refused, andThen}
 use Rattle.wire.specs.declared.optional.Optional16.{Optional16}
-use Rattle.wire.proofs.Cases.{by-bool, by-lt}
+use Rattle.wire.proofs.Cases.{by-bool}
 use Rattle.wire_writer.specs.Writing.{Output, Writes, roomRefusal, writtenOf, bufferAfter, answerWritten}
 use Rattle.wire_writer.specs.declared.writing.Written.{Written}
 use Rattle.wire_writer.proofs.Answering.{unchanged}
-use Rattle.plain_value.specs.Width.{fixed, widthOf}
-use Rattle.value.specs.Value.{valueAt, rawAt}
 use Rattle.config.specs.declared.Config.{Config}
 use Rattle.config_text.specs.Config.{TextLine, configOf, readLines, lineSays, mayFollow, with, linesOf}
 use Rattle.network_message.specs.Envelope.{NetworkMessage, networkMessageAt, messagePlaceAt, messageBytes}
@@ -52,43 +50,17 @@ use Rattle.uadp_c.specs.Walks.{walkResult}
 use Rattle.uadp_c.specs.Writing.{writerResult, outputResult}
 use Rattle.acceptance.specs.Refusals.{Refusal, StepRefusal, datagramRefusals, valueRefusals, fieldStepRefusals, fieldRefusals, cutRefusals}
 use Rattle.acceptance.specs.Demand1.{Demand1, IsRefused}
-use Rattle.acceptance.proofs.Refusals.{Tells, with13, allOf, told, wider, no-place, cond-tells, then-tells, run-lawful}
+use Rattle.acceptance.proofs.Refusals.{Tells, told, wider, no-place, cond-tells, then-tells, run-lawful}
 use Rattle.acceptance.proofs.Refusals.Tells.{gives, refuses}
 use Rattle.acceptance.proofs.RefusedDatagrams.{datagramOthers, datagram-tells, chunk-tells}
 use Rattle.acceptance.proofs.RefusedProbes.{probe-told, probe-step-told}
 use Rattle.acceptance.proofs.Tiling.{payload-first}
 use Rattle.acceptance.proofs.RefusedCalls.{placed}
 use Rattle.acceptance.proofs.RefusedWriters as refusals
+use Rattle.acceptance.proofs.RefusedSteps.{ToldAt, value-told, raw-told, opening-told, step-shown-told}
 use Rattle.acceptance.proofs.RefusedSalvage.{salvage-told}
 use Rattle.acceptance.proofs.Salvage.{salvaging}
-use Rattle.acceptance.proofs.RefusedMessages.{fieldOthers, messageOthers, message-tells, value-lawful, field-lawful}
-
--- what an answer tells where it is a refusal, of so many bytes, and of a byte that the caller named
-abbrev ToldAt : {A : Type 0} → List ℕ → ℕ → ℕ → Answer A → Type 0
-ToldAt numbers hi at (got a next) = Unit {0}
-ToldAt numbers hi at (refused n place) = StepRefusal numbers n place hi at
-
--- within the bytes
-within : {A : Type 0} {others : List ℕ} {hi : ℕ} {x : Answer A} (numbers : List ℕ) (at : ℕ) → allOf numbers (with13 others) ≡ true → Tells others hi x → ToldAt numbers hi at x
-within numbers at a (gives h) = tt
-within numbers at a (refuses r) = inl (wider a r)
-
--- ---- values at any position: past the end they are cut short there
-value-past : (levels t : ℕ) (s : List ℕ) (at : ℕ) → length s < at → valueAt levels t s at ≡ refused 1 at
-unfolding valueAt
-value-past zero t s at h = rw (lt-leb (at + 1) (length s) (omega arith))
-value-past (suc levels) t s at h = by-bool _ (eqb t 23) (λ b. rw (b, lt-leb (at + 1) (length s) (omega arith))) (λ b. rw (b, lt-leb (at + 1) (length s) (omega arith)))
-
-value-told : (t : ℕ) (s : List ℕ) (at : ℕ) → ToldAt valueRefusals (length s) at (valueAt 100 t s at)
-value-told t s at =
-    by-lt _ (length s) at (λ h. subst (ToldAt valueRefusals (length s) at) (sym (value-past 100 t s at h)) (inr (refl, refl)))
-    (λ h. within valueRefusals at refl (value-lawful 100 t .tells s at h))
-
-raw-told : (t : ℕ) (s : List ℕ) (at : ℕ) → ToldAt valueRefusals (length s) at (rawAt t s at)
-raw-told t s at =
-    by-bool _ (fixed t)
-    (λ b. by-bool _ (leb (at + widthOf t) (length s)) (λ l. rw (b, l) tt) (λ l. rw (b, l) (inr (refl, refl))))
-    (λ b. rw b (inr (refl, refl)))
+use Rattle.acceptance.proofs.RefusedMessages.{fieldOthers, messageOthers, message-tells, field-lawful}
 
 -- ---- the configuration
 lines-told : (c : Config) (n : ℕ) (ls : List TextLine) → (readLines c n ls .number ≡ 0 → ⊥)
@@ -315,6 +287,8 @@ demand-1 = record {
   listing = listing-told;
   walk = walk-told;
   call = λ k s n place e. (placed k n place (Refusing.may-refuse k s n place e), laws.refused-leaves k s n place e);
+  salvage-opened = opening-told;
+  salvage-step = step-shown-told;
   salvage = salvage-told;
   lent-filling = filling;
   lent-message-step = message-step;

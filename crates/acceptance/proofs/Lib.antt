@@ -3,6 +3,7 @@ pub mod Refusals
 pub mod RefusedDatagrams
 pub mod RefusedMessages
 pub mod RefusedCalls
+pub mod RefusedSteps
 pub mod RefusedWriters
 pub mod RefusedProbes
 pub mod RefusedSalvage

@@ -193,7 +193,7 @@ body-lawful f =
     (bind-lawful (optional16-lawful (f .status)) (λ u. bind-lawful (optional32-lawful (f .major)) (λ a. bind-lawful (optional32-lawful (f .minor)) (λ i. pure-lawful _))))
     (λ v. pure-lawful _))
 
-header-tells : (s : List ℕ) → Tells messageOthers (length s) (messageHeaderAt s 0)
+pub header-tells : (s : List ℕ) → Tells messageOthers (length s) (messageHeaderAt s 0)
 header-tells s = then-tells (flags-lawful .tells s 0 (omega arith)) go
   where
     go : (f : Valid Flags) (next : ℕ) → next ≤ length s → Tells messageOthers (length s) (afterFlags f s next)
@@ -219,12 +219,12 @@ unfolding fieldsAt
 fields-lawful delta e types zero k = pure-lawful tt
 fields-lawful delta e types (suc n) k = after-lawful (wider-lawful refl (field-lawful delta e types k)) (fields-lawful delta e types n (k + 1))
 
-zeros-tells : (n : ℕ) (s : List ℕ) (at : ℕ) → at + n ≤ length s → Tells messageOthers (length s) (zerosAt n s at)
+pub zeros-tells : (n : ℕ) (s : List ℕ) (at : ℕ) → at + n ≤ length s → Tells messageOthers (length s) (zerosAt n s at)
 unfolding zerosAt
 zeros-tells zero s at h = gives {next = at} (omega arith)
 zeros-tells (suc n) s at h = cond-tells (eqb (getD s at 0) 0) (zeros-tells n s (at + 1) (omega arith)) (refuses (at-item (number 7 refl) (omega arith)))
 
-counted-lawful : (raw : Bool) (types : List ℕ) → Lawful messageOthers (countedAt raw types)
+pub counted-lawful : (raw : Bool) (types : List ℕ) → Lawful messageOthers (countedAt raw types)
 counted-lawful raw types =
     record { tells = λ s at h. cond-tells raw (cond-tells (eqb (length types) 0) (refuses (no-place 8 refl)) (gives h)) (item-lawful 2 .tells s at h) }
 

@@ -43,6 +43,9 @@ use Rattle.reassembly_laws.specs.Refusing.{oneOf}
 use Rattle.records.specs.Result.{Filling, resultIn, filledIn}
 use Rattle.network_message.specs.Payload.{PlaceStepped}
 use Rattle.wire.specs.declared.optional.Optional16.{Optional16}
+use Rattle.salvage.specs.Front.{openAt, nextShown}
+use Rattle.salvage.specs.declared.front.Opening.{Opening}
+use Rattle.salvage.specs.declared.front.FieldShown.{FieldShown}
 use Rattle.salvage_record.specs.declared.Salvaged.{Salvaged}
 use Rattle.uadp_c.specs.Cutting.{cutResult}
 use Rattle.uadp_c.specs.Fields.{stepResult, headAfter, fieldAfter}
@@ -127,6 +130,12 @@ pub record Demand1 : Type 0 where
   pub call : (k : Call) (s : Partial) (n place : ℕ) → answers k s ≡ refusedBy n place
       → Refusal callRefusals n place (bytesRead k) × (leaves k s ≡ s)
   -- ---- THE SAME THROUGH C, for any bytes in any record: a result whose low byte is not 0 leaves every lent byte as it was.
+  -- Of opening the covered front of a message, and of a step from field to field of it with a cursor that may be made up: the
+  -- DataSetMessage's own numbers, and a place in the front or the byte that the cursor names.
+  pub salvage-opened : (total : ℕ) (types f s : List ℕ) (n place : ℕ) → openAt total types f s ≡ Opening.Refused n place
+      → Refusal messageRefusals n place (length f)
+  pub salvage-step : (types f s : List ℕ) (c : Cursor) (n place : ℕ) → nextShown types f s c ≡ FieldShown.Refused n place
+      → StepRefusal messageRefusals n place (length f) (c .at)
   -- Salvaging: "12, then the DataSetMessage's own numbers as far as the covered front shows them ..; last, no room 11". A place counts in
   -- the message.
   pub salvage : (rec payload marks config told list : List ℕ) (n place : ℕ)
