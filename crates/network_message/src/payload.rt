@@ -58,8 +58,8 @@ fn number_within(list: &[u8], at: usize) -> usize
     list[at] as usize + 256 * (list[at + 1] as usize)
 }
 
-// The sum of the n sizes that a list begins with, and whether each is at least 1. That the list has them is not tested at each: two thirds
-// of the time of a list of twenty.
+// The sum of the n sizes that a list begins with, and whether each is at least 1. That the list has them is not tested at each: a quarter
+// of the time of writing a datagram of twenty messages again.
 fn tally_whole(list: &[u8], n: u16) -> Tally
     requires { ⌜ 2 * n ≤ length (now list) ⌝ }
     ensures { λ r.
