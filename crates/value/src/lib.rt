@@ -11,6 +11,7 @@ use crate::quick::pass_texts;
 use crate::quick::variant_look;
 use head::Head;
 use head::head_at;
+use head::inside;
 use head::pass_rest;
 use matrix::matrix_at;
 use plain_value::quick::End;
@@ -93,7 +94,7 @@ fn pass_value(s: &[u8], at: usize, levels: usize, t: u8) -> Reached
         Head::Refused(number, place) => Reached::Refused(number, place),
         Head::Holds(from, count, inner, after) => {
             let mut p = from;
-            let mut left = count;
+            let mut left = inside(after, count);
             while 0 < left {
                 match pass_value(&*s, p, levels - 1, inner) {
                     Reached::To(end) => {
