@@ -14,6 +14,7 @@ ghost use Rattle.plain_value.specs.Quick.{EndTells, TwoTells};
 
 // How many numbers 4 bytes have, and how many of them are no negative Int32.
 const FOUR_BYTES: u64 = 4294967296;
+
 const COUNTS: u32 = 2147483648;
 
 // Where what is accepted ends; `Not` for what is refused, and for what a look does not tell.

@@ -39,7 +39,7 @@ ghost use Rattle.value.specs.Value.{dimensionsOf, answerMeasured, INSIDE
 const INSIDE: usize = 99;
 
 // The bits of an array and of dimensions in a Variant's first byte.
-const MATRIX: u8 = 192;
+pub(crate) const MATRIX: u8 = 192;
 
 // A scalar, a null array, an array with its element count, or one with a dimensions list: the count of all its elements, and how many
 // dimensions it has.
