@@ -1,6 +1,7 @@
-// Quick looks at a String and at a dimensions list of two: where it ends, with no refusal told. What is refused has no position in the answer, so that the next position
-// hangs on a branch, and not on a choice of two that would be waited for. Their law: where the look tells an end, reading ends there.
-// Worth: a quarter of the time of an array of Strings; a matrix of two dimensions takes no longer than its array, without it a quarter more.
+// Quick looks at a String and at a dimensions list of two: where it ends, with no refusal told. What is refused has no position in the
+// answer, so that the next position hangs on a branch, and not on a choice of two that would be waited for. Their law: where the look tells
+// an end, reading ends there. Worth: a quarter of the time of an array of Strings; a matrix of two dimensions takes no longer than its
+// array, without it a quarter more.
 use wire::Item64;
 use wire::ItemLength;
 use wire::has;

@@ -167,5 +167,6 @@ module _ (nested : ℕ → Reader Measure) (s : List ℕ) (from count inner afte
   pub inside-refused : {n place : ℕ} (k : ℕ) → k ≡ insideOf after count → each (nested inner) k s from ≡ refused n place → refused n place ≡ finish nested s (Head.Holds from count inner after)
   inside-refused k same e = rw (sym same, e)
 
-  pub inside-ends : {p : ℕ} (k : ℕ) → k ≡ insideOf after count → each (nested inner) k s from ≡ got tt p → {r : Answer (Unit {0})} → r ≡ rest count after s p → r ≡ finish nested s (Head.Holds from count inner after)
+  pub inside-ends : {p : ℕ} (k : ℕ) → k ≡ insideOf after count → each (nested inner) k s from ≡ got tt p → {r : Answer (Unit {0})} → r ≡ rest count after s p
+      → r ≡ finish nested s (Head.Holds from count inner after)
   inside-ends k same e q = rw (sym same, e, q)

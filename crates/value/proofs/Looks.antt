@@ -17,7 +17,7 @@ use Rattle.plain_value.specs.Parts.{parts, partsWidth}
 use Rattle.plain_value.specs.Plain.{passing, bytes, text, plain, plainValue, plainValues, afterLength}
 use Rattle.plain_value.proofs.PartLaws.{parts-fit}
 use Rattle.value.specs.Value.{measure, taken, variantRule, maskRule, scalar, elements, arrayOf, array, matrix, valueAt, variantAt, dataValueAt}
-use Rattle.value.specs.Quick.{scalarSize, textAt, runAt, listedAt}
+use Rattle.value.specs.Quick.{scalarSize, textAt, runAt, dimensionedAt}
 use Rattle.value.specs.declared.Shape.{Shape}
 use Rattle.value.proofs.FirstByte.{array-first, matrix-first}
 use Rattle.value.proofs.FirstItems.{fixed-first, yes}
@@ -67,7 +67,7 @@ array-look s at t w h e small some same =
 -- a matrix of a fixed type
 
 pub matrix-counted : (s : List ℕ) (at t w : ℕ) {n next : ℕ} → 0 < w → w ≡ widthOf t → lengthItem s at ≡ got (Length.Of n) next
-    → matrix (valueAt 99) t s at ≡ listedAt t n (n * w) s next
+    → matrix (valueAt 99) t s at ≡ dimensionedAt t n (n * w) s next
 unfolding matrix elements plainValues
 matrix-counted s at t w some same e =
     let f : fixed t ≡ true = lt-ltb 0 (widthOf t) (rw same at some) in

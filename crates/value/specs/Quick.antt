@@ -60,8 +60,8 @@ abbrev pub runAt : ℕ → ℕ → Reader Measure
 runAt t w = byLength (pure (measure t Shape.NullArray)) (λ n. elementsAt t n (n * w))
 
 -- what follows the length of a matrix of the fixed type t: its n elements, which have so many bytes together, and its dimensions list
-abbrev pub listedAt : ℕ → ℕ → ℕ → Reader Measure
-listedAt t n size = bytes size >> dimensioned t n
+abbrev pub dimensionedAt : ℕ → ℕ → ℕ → Reader Measure
+dimensionedAt t n size = bytes size >> dimensioned t n
 
 -- what one look says of what measuring answers; where it does not tell, nothing
 abbrev pub LookTells : Plain → Answer Measure → Type 0

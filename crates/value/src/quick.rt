@@ -1,9 +1,9 @@
 // Quick ways to what measuring says: a Variant that is a null or a scalar of a fixed type told by its first byte; a Variant that was passed
-// already told by its first items; a Variant that holds no other value told in one look, by where it ends, or with its type, shape and end;
-// a matrix of two dimensions, or a DataValue that holds such a scalar by its mask, likewise. A look has no position where it does not tell (plain_value::quick). Their laws are in
-// proofs/FirstByte, FirstItems, Runs and Looks. Worth: a quarter of the time of a scalar; of the look, half of the time of Strings and
-// arrays, and of DataValues; of the null among the sizes, whose table then starts at 0, a seventh of the time of scalars; of an array of
-// Strings without its head, two fifths of the time of short ones.
+// already told by its first items; a Variant that holds no other value told in one look, by where it ends, or with its type, shape and end,
+// a matrix of two dimensions among them; a DataValue that holds such a scalar by its mask. A look has no position where it does not tell
+// (plain_value::quick). Their laws are in proofs/FirstByte, FirstItems, Runs and Looks. Worth: a quarter of the time of a scalar; of the
+// look, half of the time of Strings and arrays, and of DataValues, and a fifth of that of a large matrix; of the null among the sizes, whose
+// table then starts at 0, a seventh of the time of scalars; of an array of Strings without its head, two fifths of the time of short ones.
 use crate::MATRIX;
 use crate::Measured;
 use crate::measure_data_value;
@@ -34,7 +34,7 @@ ghost use Rattle.wire.specs.Items.{answerReached};
 ghost use Rattle.plain_value.specs.Width.{widthOf};
 ghost use Rattle.plain_value.specs.Plain.{passing};
 ghost use Rattle.plain_value.specs.Quick.{EndTells};
-ghost use Rattle.value.specs.Quick.{scalarSize, fixedEnd, units, texts, arrayAt, describedAt, textAt, elementsAt, runAt, listedAt, LookTells, MatrixTells};
+ghost use Rattle.value.specs.Quick.{scalarSize, fixedEnd, units, texts, arrayAt, describedAt, textAt, elementsAt, runAt, dimensionedAt, LookTells, MatrixTells};
 ghost use Rattle.value.specs.Value.{INSIDE, matrix, valueAt, variantAt, dataValueAt, answerMeasured};
 
 // How many bytes a Variant has that is a null or a scalar of a fixed type, by its first byte; 0 for any other.
@@ -293,7 +293,7 @@ pub(crate) enum Two {
 // The n elements of an array of type t, which have so many bytes together, and two dimensions.
 fn listed_look(s: &[u8], at: usize, t: u8, n: usize, size: usize) -> Two
     requires { ⌜ n < 2147483648 ⌝ }
-    ensures { λ r. ⌜ MatrixTells r (listedAt t n size (now (s .entry)) at) ⌝ }
+    ensures { λ r. ⌜ MatrixTells r (dimensionedAt t n size (now (s .entry)) at) ⌝ }
 {
     if !has(s.len(), at, size) {
         return Two::Not;

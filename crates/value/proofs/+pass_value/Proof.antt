@@ -35,7 +35,18 @@ pass-value-below t =
     and 1 pass-value-kinds.ps (falls 1 pass-value-kinds.ps _<_ μ-pass-value t) pass-value.Pre
 
 abbrev pass-value-claims : ℕ → pass-value-lts.Claims
-pass-value-claims t = (too-deep-reads.Asked, too-deep-reads.Learnt, head-at-reads.Asked, head-at-reads.Learnt, inside-reads.Asked, inside-reads.Learnt, pass-value-below t, pass-value.Post, pass-rest-reads.Asked, pass-rest-reads.Learnt)
+pass-value-claims t = (
+  too-deep-reads.Asked,
+  too-deep-reads.Learnt,
+  head-at-reads.Asked,
+  head-at-reads.Learnt,
+  inside-reads.Asked,
+  inside-reads.Learnt,
+  pass-value-below t,
+  pass-value.Post,
+  pass-rest-reads.Asked,
+  pass-rest-reads.Learnt,
+)
 
 abbrev pass-value-Inv-loop : pass-value-lts.InvT-loop
 pass-value-Inv-loop s at levels t from count inner after p₀ left₀ p left = each (valueAt (levels - 1) inner) left₀ s p₀ ≡ each (valueAt (levels - 1) inner) left s p
@@ -73,7 +84,8 @@ pass-value-returns-2 t c =
     let a = args in
     let l = at-loop .loop in
     inside-refused (valueAt (a .levels - 1)) (now (a .s)) (at-from .from .given .0 .0) (at-from .from .given .0 .1 .0) (at-from .from .given .0 .1 .1 .0) (at-from .from .given .0 .1 .1 .1 .0)
-    (at-inside .inside .result) (at-inside .inside .ensures) (l .inv ∙ pass-stop (valueAt _ _) _ (l .left) (l .p) (at-loop-test .loop-test .taken) (sym (told answerReached (at-pass-value .pass-value .ensures) (at-number2 .number2 .given .1))))
+    (at-inside .inside .result) (at-inside .inside .ensures)
+    (l .inv ∙ pass-stop (valueAt _ _) _ (l .left) (l .p) (at-loop-test .loop-test .taken) (sym (told answerReached (at-pass-value .pass-value .ensures) (at-number2 .number2 .given .1))))
     ∙ by-head (a .levels) (a .t) (now (a .s)) (a .at) (at-if1 .if1 .left) (at-head-at .head-at .ensures (valueAt (a .levels - 1))) (at-from .from .given .1)
 
 pass-value-returns-3 : (t : ℕ) → pass-value-lts.Need-returns-3 (pass-value-claims t) (pass-value-at t) pass-value.Post pass-value-Inv-loop pass-value-μ-loop

@@ -1,7 +1,7 @@
 -- `plain_value::quick::two_look` meets its contract.
 -- Assumes nothing.
 use denote.Ref.{now}
-use mathlib.Core.Path.{sym, _∙_}
+use mathlib.Core.Path.{sym}
 use Rattle.wire.specs.Items.{answerLength, answer64}
 use Rattle.wire.proofs.Reading.{told}
 use Rattle.plain_value.proofs.Sizes.{two-dimensions}
