@@ -4,10 +4,8 @@ use mathlib.Core.Path.{_≡_, refl, sym, ap, _∙_}
 use mathlib.Core.Bool.{Bool, true, false, cond, _||_, false≢true}
 use mathlib.Core.List.{List}
 use mathlib.Core.Logic.{_⊎_, inl, inr}
-use Prim.Native.Nat.{ℕ, zero, suc, _%_, _<_}
-use native.Mathlib.Omega.{arith}
-use borrow.Author.Tests.{eq-eqb, ne-eqb}
-use Rattle.wire.specs.Answer.{Answer, got, refused, Reader, andThen, bit}
+use Prim.Native.Nat.{ℕ}
+use Rattle.wire.specs.Answer.{Answer, got, refused, Reader, andThen}
 use Rattle.wire.proofs.Reading.{not-got}
 use Rattle.plain_value.specs.Width.{widthOf, fixed}
 use Rattle.plain_value.specs.Plain.{passing, bytes, string, text, lengthFirst}
