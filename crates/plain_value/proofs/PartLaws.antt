@@ -3,10 +3,12 @@
 use mathlib.Core.Path.{_≡_, refl, ap}
 use mathlib.Core.Bool.{Bool, true, false, cond}
 use mathlib.Core.List.{List}
-use Prim.Native.Nat.{ℕ, zero, suc, _+_, _≤_, _<_}
+use Prim.Native.Nat.{ℕ, zero, suc, _+_, _*_, _/_, _%_, _≤_, _<_}
 use native.Mathlib.Omega.{arith}
 use borrow.Author.Tests.{le-leb}
+use lib.Dec.{eqb, eqb→eq}
 use lib.ListN.{length}
+use Rattle.wire.proofs.Table.{below}
 use Rattle.wire.specs.Answer.{Answer, got, refused, andThen, whenOn, bit}
 use Rattle.plain_value.specs.Plain.{bytes}
 use Rattle.plain_value.specs.Parts.{parts, partsWidth}
@@ -33,6 +35,10 @@ when-small false w = omega arith
 
 pub parts-small : (m : ℕ) → partsWidth m ≤ 24
 parts-small m = omega (arith, when-small (bit 1 m) 4, when-small (bit 2 m) 8, when-small (bit 4 m) 2, when-small (bit 3 m) 8, when-small (bit 5 m) 2)
+
+-- their sum by the mask's bits, status and source time from two bits as one number
+pub parts-sum : (m : ℕ) → m < 256 → m / 2 % 4 * 4 + m / 8 % 2 * 8 + (m / 16 % 2 * 2 + m / 32 % 2 * 2) ≡ partsWidth m
+parts-sum m h = eqb→eq _ _ (below (λ n. eqb (n / 2 % 4 * 4 + n / 8 % 2 * 8 + (n / 16 % 2 * 2 + n / 32 % 2 * 2)) (partsWidth n)) 256 tt m h)
 
 module _ (s : List ℕ) where
   when-fits : (on : Bool) (w p : ℕ) → p + cond on w 0 ≤ length s → whenOn on tt (bytes w) s p ≡ got tt (p + cond on w 0)

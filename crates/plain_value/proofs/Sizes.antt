@@ -4,10 +4,10 @@ use mathlib.Core.Path.{_≡_, refl, sym, ap, subst, _∙_}
 use mathlib.Core.Bool.{Bool, true, false, cond, _||_, false≢true}
 use mathlib.Core.List.{List, [], _∷_}
 use Prim.Native.Nat.{ℕ, zero, suc, _+_, _*_, _-_, _/_, _%_, _<_, _≤_}
-use native.Mathlib.Nat.{mul-assoc, one-mul, mul-one, mul-le-mul-left, le-trans, not-suc-le-zero}
+use native.Mathlib.Nat.{mul-assoc, mul-comm, mul-zero, zero-mul, one-mul, mul-one, mul-le-mul-left, le-trans, not-suc-le-zero}
 use native.Mathlib.Numerals.{sub-one}
 use native.Mathlib.Omega.{arith}
-use borrow.Author.Tests.{ne-eqb, ltb-true, le-leb}
+use borrow.Author.Tests.{eq-eqb, ne-eqb, ltb-true, lt-ltb, le-leb}
 use lib.Dec.{eqb, ltb}
 use lib.IntN.{pos}
 use lib.ListN.{length}
@@ -15,7 +15,9 @@ use Rattle.wire.specs.Number.{le, signed}
 use Rattle.wire.specs.Answer.{got, item}
 use Rattle.wire.proofs.Numbers.{split}
 use Rattle.wire.proofs.Reading.{got-value, got-next}
-use Rattle.plain_value.specs.Dimensions.{fours, belowOne, anyBelowOne, product, sizesRule}
+use Rattle.wire.specs.Items.{lengthItem}
+use Rattle.wire.specs.declared.Length.{Length}
+use Rattle.plain_value.specs.Dimensions.{fours, belowOne, anyBelowOne, product, sizesRule, dimensions}
 
 -- the first of the dimensions, and those after it
 module _ (k : ℕ) (s : List ℕ) (at : ℕ) (h : le 4 s at < 4294967296) where
@@ -119,3 +121,27 @@ module _ (s : List ℕ) (n acc : ℕ) where
 pub zero-below : (d : ℕ) → eqb d 0 ≡ belowOne (pos d)
 zero-below zero = refl
 zero-below (suc d) = ne-eqb (suc d) 0 (λ e. omega arith)
+
+-- two dimensions, which are one number of 8 bytes
+
+one-of-two : (a b : ℕ) → 0 < a * b → a * b < 2147483648 → belowOne (signed 4 a) ≡ false
+one-of-two a zero some small = absurd (omega (arith, mul-zero a))
+one-of-two zero (suc b) some small = absurd (omega (arith, zero-mul (suc b)))
+one-of-two (suc a) (suc b) some small =
+    let one : 1 ≤ suc b = omega arith in
+    let h : suc a < 2147483648 = omega (arith, mul-le-mul-left (suc a) one, mul-one (suc a)) in
+    rw (lt-ltb (suc a) 2147483648 h)
+
+pub two-sizes : (v n : ℕ) → 0 < n → n < 2147483648 → v % 4294967296 * (v / 4294967296 % 4294967296) ≡ n → sizesRule n (fours 2 v) ≡ 0
+unfolding fours anyBelowOne product
+two-sizes v n some small e =
+    let a : ℕ = v % 4294967296 in
+    let b : ℕ = v / 4294967296 % 4294967296 in
+    let swapped : b * a ≡ n = mul-comm b a ∙ e in
+    let whole : a * (b * 1) ≡ n = ap (λ (x : ℕ). a * x) (mul-one b) ∙ e in
+    rw (one-of-two a b (omega (arith, e)) (omega (arith, e)), one-of-two b a (omega (arith, swapped)) (omega (arith, swapped)), eq-eqb (a * (b * 1)) n whole)
+
+pub two-dimensions : (n : ℕ) (s : List ℕ) (at : ℕ) {k next v end : ℕ} → lengthItem s at ≡ got (Length.Of k) next → k ≡ 2 → item 8 s next ≡ got v end → sizesRule n (fours 2 v) ≡ 0
+    → dimensions n s at ≡ got 2 end
+unfolding dimensions
+two-dimensions n s at e two q r = rw (e, two, q, r)

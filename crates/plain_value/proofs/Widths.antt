@@ -1,7 +1,7 @@
 -- The rule of the widths: at all entries of their array, and past them.
 -- Assumes nothing.
 use mathlib.Core.Path.{_≡_, refl, sym, _∙_, ap}
-use mathlib.Core.Bool.{Bool, true, false, _&&_, _||_, Bool·beq, and-false}
+use mathlib.Core.Bool.{Bool, true, false, cond, _&&_, _||_, Bool·beq, and-false}
 use mathlib.Core.List.{List, [], _∷_}
 use Prim.Native.Nat.{ℕ, zero, suc, _<_, _≤_}
 use native.Mathlib.Omega.{arith}
@@ -92,6 +92,12 @@ or4 false true c d = refl
 or4 false false true d = refl
 or4 false false false true = refl
 or4 false false false false = refl
+
+-- neither of two
+pub or-no : (a b : Bool) → (a || b) ≡ false → (a ≡ false) × (b ≡ false)
+or-no false false h = (refl, refl)
+or-no true b h = absurd (let n : _≡_ {A = ℕ} 1 0 = ap (λ (x : Bool). cond x 1 0) h in omega arith)
+or-no false true h = absurd (let n : _≡_ {A = ℕ} 1 0 = ap (λ (x : Bool). cond x 1 0) h in omega arith)
 
 -- a width that is not 0
 pub positive : (n : ℕ) → (n ≡ 0 → ⊥) → 0 < n

@@ -3,8 +3,6 @@ use crate::plain::bytes_at;
 use wire::Reached;
 use wire::has;
 ghost use mathlib.Core.Path.{_≡_};
-ghost use mathlib.Core.Bool.{cond};
-ghost use Prim.Native.Nat.{_≤_};
 ghost use Rattle.wire.specs.Answer.{andThen, whenOn};
 ghost use Rattle.wire.specs.Items.{answerReached};
 ghost use Rattle.plain_value.specs.Plain.{bytes};
@@ -35,24 +33,12 @@ fn parts_in_order(s: &[u8], at: usize, m: u8) -> Reached
     part_if(s, (m >> 5) % 2 == 1, 2, server)
 }
 
-// The width of a part where the mask's bit is on.
-fn width_if(on: bool, w: usize) -> usize
-    ensures { λ r. ⌜ (r ≡ cond on w 0) × (r ≤ w) ⌝ }
-{
-    if on {
-        return w;
-    }
-    0
-}
-
 // How many bytes a DataValue's parts after its Variant have together.
 pub fn parts_width(m: u8) -> usize
     ensures { λ r. ⌜ r ≡ partsWidth m ⌝ }
 {
-    width_if((m >> 1) % 2 == 1, 4)
-        + (width_if((m >> 2) % 2 == 1, 8)
-            + (width_if((m >> 4) % 2 == 1, 2)
-                + (width_if((m >> 3) % 2 == 1, 8) + width_if((m >> 5) % 2 == 1, 2))))
+    let bits = m as usize;
+    ((bits >> 1) % 4 * 4 + (bits >> 3) % 2 * 8) + ((bits >> 4) % 2 * 2 + (bits >> 5) % 2 * 2)
 }
 
 // A DataValue's parts after its Variant. Most have none, or all fit, and then only their width counts.

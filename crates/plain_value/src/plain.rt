@@ -164,10 +164,7 @@ fn names_at(s: &[u8], at: usize, t: u8, n: usize) -> Reached
 pub fn texts_at(s: &[u8], at: usize, t: u8, n: usize) -> Reached
     ensures { λ r. ⌜ answerReached r ≡ each (text t) n (now (s .entry)) at ⌝ }
 {
-    if t == QUALIFIED_NAME {
-        return names_at(s, at, t, n);
-    }
-    if t == LOCALIZED_TEXT {
+    if (t == QUALIFIED_NAME) | (t == LOCALIZED_TEXT) {
         return names_at(s, at, t, n);
     }
     strings_at(&*s, at, n)

@@ -3,7 +3,7 @@
 use mathlib.Core.Path.{_≡_, refl, sym, ap, _∙_}
 use mathlib.Core.Bool.{Bool, true, false, cond, _||_}
 use mathlib.Core.List.{List}
-use Prim.Native.Nat.{ℕ, zero, suc, _<_, _-_, _%_}
+use Prim.Native.Nat.{ℕ, zero, suc, _+_, _<_, _≤_, _-_, _%_}
 use native.Mathlib.Numerals.{sub-one}
 use native.Mathlib.Omega.{arith}
 use lib.Dec.{eqb}
@@ -11,15 +11,18 @@ use Rattle.wire.specs.Answer.{Answer, got, refused, Reader, andThen, _>>=_, ite
 use Rattle.wire.specs.Items.{answer8, answerReached}
 use Rattle.wire.specs.declared.Item8.{Item8}
 use Rattle.wire.specs.declared.Reached.{Reached}
-use borrow.Author.Tests.{eqb-true}
-use Rattle.plain_value.specs.Plain.{passing, plain, plainValues}
+use borrow.Author.Tests.{eqb-true, le-leb, lt-ltb}
+use lib.ListN.{length}
+use Rattle.plain_value.specs.Width.{widthOf, fixed}
+use Rattle.plain_value.specs.Plain.{passing, string, text, plain, plainValue, plainValues}
 use Rattle.plain_value.specs.Dimensions.{dimensions}
 use Rattle.value.specs.Value.{Measure, measure, variantRule, maskRule, scalar, elements, arrayOf, dimensioned, matrixOf, variantOf, dataValueOf, valueOf, tooDeep, valueAt}
 use Rattle.plain_value.specs.Parts.{parts}
-use Rattle.value.specs.Head.{ended, plainMatrix, rest, finish, judged}
+use Rattle.value.specs.Head.{ended, insideOf, rest, finish, judged}
 use Rattle.value.specs.declared.Shape.{Shape}
 use Rattle.value.specs.declared.head.Head.{Head}
 use Rattle.plain_value.proofs.PartLaws.{then-none}
+use Rattle.value.proofs.FirstItems.{fixed-first}
 
 pub or3 : (a b c : Bool) → (a || (b || (c || false))) ≡ ((a || b) || c)
 or3 true b c = refl
@@ -72,35 +75,61 @@ module _ (nested : ℕ → Reader Measure) (s : List ℕ) where
   unfolding scalar each parts
   holds-scalar t at e = rw e (sym (then-none (passing (nested t) s at)) ∙ pass-found (passing (nested t) s at) (measure t Shape.Scalar))
 
+  -- a scalar of a fixed type, and a String or ByteString
+  pub fixed-scalar : (t at w : ℕ) → w ≡ widthOf t → 0 < w → at + w ≤ length s → passing (scalar nested t) s at ≡ got tt (at + w)
+  unfolding scalar plainValue
+  fixed-scalar t at w same some fits =
+      let f : fixed t ≡ true = lt-ltb 0 (widthOf t) (rw same at some) in
+      rw (fixed-first t f .4, f, sym same, le-leb (at + w) (length s) fits)
+
+  pub text-scalar : (t at : ℕ) → (eqb t 12 || eqb t 15) ≡ true → passing (scalar nested t) s at ≡ string s at
+  unfolding scalar plain widthOf plainValue text
+  text-scalar t at q = go (eqb t 12) refl (eqb t 15) refl q
+    where
+      go : (x : Bool) → eqb t 12 ≡ x → (y : Bool) → eqb t 15 ≡ y → (x || y) ≡ true → passing (scalar nested t) s at ≡ string s at
+      go true ex y ey z = rw (eqb-true t 12 ex) (sym (pass-found (string s at) (measure 12 Shape.Scalar)))
+      go false ex true ey z = rw (eqb-true t 15 ey) (sym (pass-found (string s at) (measure 15 Shape.Scalar)))
+      go false ex false ey z = absurd (let n : _≡_ {A = ℕ} 0 1 = cc in omega arith)
+
   -- an array's elements and its dimensions list
   listed : (t n : ℕ) (x : Answer (Unit {0}))
       → andThen x (λ a p. passing (dimensions n) s p) ≡ andThen (andThen x (λ a p. dimensioned t n s p)) (λ a q. got tt q)
   listed t n (got a p) = pass-made (dimensions n s p) (λ d. measure t (Shape.Matrix n d))
   listed t n (refused k place) = refl
 
-  pub plain-listed : (t n at : ℕ) → plain t ≡ true → (r : Reached) {h : Head} → answerReached r ≡ plainMatrix t n s at → h ≡ ended r
-      → finish nested s h ≡ passing (matrixOf nested t n) s at
+  pub plain-listed : (t n at inner : ℕ) {end : ℕ} → plain t ≡ true → plainValues t n s at ≡ got tt end → finish nested s (Head.Holds end n inner 128) ≡ passing (matrixOf nested t n) s at
+  unfolding elements each
+  plain-listed t n at inner {end} e f = rw (e, f) (pass-made (dimensions n s end) (λ d. measure t (Shape.Matrix n d)))
+
+  pub plain-refused : (t n at : ℕ) {k place : ℕ} → plain t ≡ true → plainValues t n s at ≡ refused k place → refused k place ≡ passing (matrixOf nested t n) s at
   unfolding elements
-  plain-listed t n at e r f q = rw e (ap (finish nested s) q ∙ ended-is r ∙ f ∙ listed t n (plainValues t n s at))
+  plain-refused t n at e f = rw (e, f)
+
+  pub null-listed : (t at inner : ℕ) → finish nested s (Head.Holds at 0 inner 128) ≡ passing (dimensioned t 0) s at
+  unfolding each
+  null-listed t at inner = pass-made (dimensions 0 s at) (λ d. measure t (Shape.Matrix 0 d))
 
   pub holds-listed : (t n at : ℕ) → plain t ≡ false → finish nested s (Head.Holds at n t 64) ≡ passing (matrixOf nested t n) s at
   unfolding elements
   holds-listed t n at e = rw e (listed t n (each (nested t) n s at))
-
-  pub list-found : (t n at : ℕ) (r : Reached) {h : Head} → answerReached r ≡ passing (dimensions n) s at → h ≡ ended r → finish nested s h ≡ passing (dimensioned t n) s at
-  list-found t n at r f q = ap (finish nested s) q ∙ ended-is r ∙ f ∙ pass-made (dimensions n s at) (λ d. measure t (Shape.Matrix n d))
 
   pub holds-elements : (t n at : ℕ) → plain t ≡ false → finish nested s (Head.Holds at n t 0) ≡ passing (arrayOf nested t n) s at
   unfolding elements parts
   holds-elements t n at e = rw e (sym (then-none (each (nested t) n s at)) ∙ pass-found (each (nested t) n s at) (measure t (Shape.Array n)))
 
 -- a mask that is permitted is not the sign of a dimensions list
-pub no-list : (m : ℕ) → (bit 6 m || bit 7 m) ≡ false → eqb m 64 ≡ false
-no-list m h = go (eqb m 64) refl
+no-sign : (m n : ℕ) → (bit 6 n || bit 7 n) ≡ true → (bit 6 m || bit 7 m) ≡ false → eqb m n ≡ false
+no-sign m n k h = go (eqb m n) refl
   where
-    go : (b : Bool) → eqb m 64 ≡ b → b ≡ false
+    go : (b : Bool) → eqb m n ≡ b → b ≡ false
     go false e = refl
-    go true e = sym (ap (λ (k : ℕ). bit 6 k || bit 7 k) (eqb-true m 64 e)) ∙ h
+    go true e = sym k ∙ sym (ap (λ (i : ℕ). bit 6 i || bit 7 i) (eqb-true m n e)) ∙ h
+
+pub no-list : (m : ℕ) → (bit 6 m || bit 7 m) ≡ false → eqb m 64 ≡ false
+no-list m h = no-sign m 64 refl h
+
+pub not-alone : (m : ℕ) → (bit 6 m || bit 7 m) ≡ false → eqb m 128 ≡ false
+not-alone m h = no-sign m 128 refl h
 
 -- no byte is there
 pub head-short : (nested : ℕ → Reader Measure) (t : ℕ) (s : List ℕ) (at : ℕ) → item 1 s at ≡ refused 1 at → refused 1 at ≡ passing (valueOf nested t) s at
@@ -135,8 +164,9 @@ by-head (suc levels) t s at n e q = ap (finish (valueAt (suc levels - 1)) s) (sy
 -- the values inside are refused, or end at p
 
 module _ (nested : ℕ → Reader Measure) (s : List ℕ) (from count inner after : ℕ) where
-  pub inside-refused : {n place : ℕ} → each (nested inner) count s from ≡ refused n place → refused n place ≡ finish nested s (Head.Holds from count inner after)
-  inside-refused e = rw e
+  pub inside-refused : {n place : ℕ} (k : ℕ) → k ≡ insideOf after count → each (nested inner) k s from ≡ refused n place → refused n place ≡ finish nested s (Head.Holds from count inner after)
+  inside-refused k same e = rw (sym same, e)
 
-  pub inside-ends : {p : ℕ} → each (nested inner) count s from ≡ got tt p → {r : Answer (Unit {0})} → r ≡ rest count after s p → r ≡ finish nested s (Head.Holds from count inner after)
-  inside-ends e q = rw (e, q)
+  pub inside-ends : {p : ℕ} (k : ℕ) → k ≡ insideOf after count → each (nested inner) k s from ≡ got tt p → {r : Answer (Unit {0})} → r ≡ rest count after s p
+      → r ≡ finish nested s (Head.Holds from count inner after)
+  inside-ends k same e q = rw (sym same, e, q)

@@ -16,10 +16,10 @@ use Rattle.plain_value.specs.Width.{among, widthOf, fixed}
 use Rattle.plain_value.specs.Parts.{parts, partsWidth}
 use Rattle.plain_value.specs.Plain.{passing, bytes, text, plain, plainValue, plainValues, afterLength}
 use Rattle.plain_value.proofs.PartLaws.{parts-fit}
-use Rattle.value.specs.Value.{measure, taken, variantRule, maskRule, scalar, elements, arrayOf, array, valueAt, variantAt, dataValueAt}
-use Rattle.value.specs.Quick.{scalarSize, textAt, runAt}
+use Rattle.value.specs.Value.{measure, taken, variantRule, maskRule, scalar, elements, arrayOf, array, matrix, valueAt, variantAt, dataValueAt}
+use Rattle.value.specs.Quick.{scalarSize, textAt, runAt, dimensionedAt}
 use Rattle.value.specs.declared.Shape.{Shape}
-use Rattle.value.proofs.FirstByte.{array-first}
+use Rattle.value.proofs.FirstByte.{array-first, matrix-first}
 use Rattle.value.proofs.FirstItems.{fixed-first, yes}
 use Rattle.value.proofs.Runs.{or-true}
 
@@ -63,6 +63,24 @@ array-look s at t w h e small some same =
     let a = array-first t small in
     let all : taken t ≡ true = rw (first .4) (or-true (among t (0 ∷ 23 ∷ 24 ∷ []))) in
     rw (here s at h, e, byte, a .rule, all, first .3, a .type, first .3, a .array, a .flat, same) (run-look t f (first .4) (lengthItem s (at + 1)) s (at + 1))
+
+-- a matrix of a fixed type
+
+pub matrix-counted : (s : List ℕ) (at t w : ℕ) {n next : ℕ} → 0 < w → w ≡ widthOf t → lengthItem s at ≡ got (Length.Of n) next
+    → matrix (valueAt 99) t s at ≡ dimensionedAt t n (n * w) s next
+unfolding matrix elements plainValues
+matrix-counted s at t w some same e =
+    let f : fixed t ≡ true = lt-ltb 0 (widthOf t) (rw same at some) in
+    rw (e, fixed-first t f .4, f, same)
+
+pub matrix-look : (s : List ℕ) (at t w : ℕ) → at < length s → getD s at 0 ≡ t + 192 → t < 64 → 0 < w → w ≡ widthOf t → variantAt s at ≡ matrix (valueAt 99) t s (at + 1)
+unfolding valueAt
+matrix-look s at t w h e small some same =
+    let byte : t + 192 + 256 * 0 ≡ t + 192 = omega arith in
+    let first = fixed-first t (lt-ltb 0 (widthOf t) (rw same at some)) in
+    let m = matrix-first t small in
+    let all : taken t ≡ true = rw (first .4) (or-true (among t (0 ∷ 23 ∷ 24 ∷ []))) in
+    rw (here s at h, e, byte, m .rule, all, first .3, m .type, first .3, m .array, m .dimensions)
 
 -- a DataValue, whose mask has neither of its two highest bits
 

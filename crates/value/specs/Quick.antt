@@ -10,9 +10,10 @@ use Rattle.wire.specs.Answer.{Reader, pure, Answer, got, refused, andThen, item
 use Rattle.plain_value.specs.Plain.{bytes, byLength, string, text}
 use Rattle.wire.specs.Constants.{BAD_LENGTH}
 use Rattle.wire.specs.declared.Length.{Length}
-use Rattle.value.specs.Value.{Measure, measure, typeOf, isArray}
+use Rattle.value.specs.Value.{Measure, measure, typeOf, isArray, dimensioned}
 use Rattle.value.specs.declared.Shape.{Shape}
 use Rattle.value.specs.declared.quick.Plain.{Plain}
+use Rattle.value.specs.declared.quick.Two.{Two}
 use Rattle.wire.specs.Items.{lengthItem}
 
 -- how many bytes a Variant has that is a null or a scalar of a fixed type, by its first byte; 0 for any other
@@ -58,9 +59,18 @@ elementsAt t n size = bytes size >> pure (measure t (Shape.Array n))
 abbrev pub runAt : ℕ → ℕ → Reader Measure
 runAt t w = byLength (pure (measure t Shape.NullArray)) (λ n. elementsAt t n (n * w))
 
+-- what follows the length of a matrix of the fixed type t: its n elements, which have so many bytes together, and its dimensions list
+abbrev pub dimensionedAt : ℕ → ℕ → ℕ → Reader Measure
+dimensionedAt t n size = bytes size >> dimensioned t n
+
 -- what one look says of what measuring answers; where it does not tell, nothing
 abbrev pub LookTells : Plain → Answer Measure → Type 0
 LookTells (Plain.Scalar t next) a = a ≡ got (measure t Shape.Scalar) next
 LookTells (Plain.NullArray t next) a = a ≡ got (measure t Shape.NullArray) next
 LookTells (Plain.Array t next n) a = a ≡ got (measure t (Shape.Array n)) next
 LookTells Plain.Not a = Unit {0}
+
+-- and what one look says of a matrix: it has two dimensions
+abbrev pub MatrixTells : Two → Answer Measure → Type 0
+MatrixTells (Two.Is t next n) a = a ≡ got (measure t (Shape.Matrix n 2)) next
+MatrixTells Two.Not a = Unit {0}

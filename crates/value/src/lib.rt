@@ -11,6 +11,7 @@ use crate::quick::pass_texts;
 use crate::quick::variant_look;
 use head::Head;
 use head::head_at;
+use head::inside;
 use head::pass_rest;
 use matrix::matrix_at;
 use plain_value::quick::End;
@@ -38,7 +39,7 @@ ghost use Rattle.value.specs.Value.{dimensionsOf, answerMeasured, INSIDE
 const INSIDE: usize = 99;
 
 // The bits of an array and of dimensions in a Variant's first byte.
-const MATRIX: u8 = 192;
+pub(crate) const MATRIX: u8 = 192;
 
 // A scalar, a null array, an array with its element count, or one with a dimensions list: the count of all its elements, and how many
 // dimensions it has.
@@ -93,7 +94,7 @@ fn pass_value(s: &[u8], at: usize, levels: usize, t: u8) -> Reached
         Head::Refused(number, place) => Reached::Refused(number, place),
         Head::Holds(from, count, inner, after) => {
             let mut p = from;
-            let mut left = count;
+            let mut left = inside(after, count);
             while 0 < left {
                 match pass_value(&*s, p, levels - 1, inner) {
                     Reached::To(end) => {

@@ -1,9 +1,10 @@
 // Quick ways to what measuring says: a Variant that is a null or a scalar of a fixed type told by its first byte; a Variant that was passed
-// already told by its first items; a Variant that holds no other value told in one look, by where it ends, or with its type, shape and end;
-// a DataValue that holds such a scalar by its mask. A look has no position where it does not tell (plain_value::quick). Their laws are in
-// proofs/FirstByte, FirstItems, Runs and Looks. Worth: a quarter of the time of a scalar; of the look, half of the time of Strings and
-// arrays, and of DataValues; of the null among the sizes, whose table then starts at 0, a seventh of the time of scalars; of an array of
-// Strings without its head, two fifths of the time of short ones.
+// already told by its first items; a Variant that holds no other value told in one look, by where it ends, or with its type, shape and end,
+// a matrix of two dimensions among them; a DataValue that holds such a scalar by its mask. A look has no position where it does not tell
+// (plain_value::quick). Their laws are in proofs/FirstByte, FirstItems, Runs and Looks. Worth: a quarter of the time of a scalar; of the
+// look, half of the time of Strings, arrays and DataValues, and a fifth of that of a large matrix; of the null among the sizes, whose
+// table then starts at 0, a seventh of the time of scalars; of an array of Strings without its head, two fifths of the time of short ones.
+use crate::MATRIX;
 use crate::Measured;
 use crate::measure_data_value;
 use crate::measure_other;
@@ -11,6 +12,7 @@ use plain_value::parts::parts_width;
 use plain_value::plain::texts_at;
 use plain_value::quick::End;
 use plain_value::quick::string_look;
+use plain_value::quick::two_look;
 use plain_value::width::width;
 use wire::Item8;
 use wire::ItemLength;
@@ -32,8 +34,8 @@ ghost use Rattle.wire.specs.Items.{answerReached};
 ghost use Rattle.plain_value.specs.Width.{widthOf};
 ghost use Rattle.plain_value.specs.Plain.{passing};
 ghost use Rattle.plain_value.specs.Quick.{EndTells};
-ghost use Rattle.value.specs.Quick.{scalarSize, fixedEnd, units, texts, arrayAt, describedAt, textAt, elementsAt, runAt, LookTells};
-ghost use Rattle.value.specs.Value.{valueAt, variantAt, dataValueAt, answerMeasured};
+ghost use Rattle.value.specs.Quick.{scalarSize, fixedEnd, units, texts, arrayAt, describedAt, textAt, elementsAt, runAt, dimensionedAt, LookTells, MatrixTells};
+ghost use Rattle.value.specs.Value.{INSIDE, matrix, valueAt, variantAt, dataValueAt, answerMeasured};
 
 // How many bytes a Variant has that is a null or a scalar of a fixed type, by its first byte; 0 for any other.
 fn scalar_size(b: u8) -> usize
@@ -281,6 +283,66 @@ fn plain_variant(s: &[u8], at: usize) -> Plain
     Plain::Not
 }
 
+// A matrix of a fixed type and of two dimensions, told in one look: its type, the position after it and its element count. `Not` for any
+// other value.
+pub(crate) enum Two {
+    Is(u8, usize, usize),
+    Not,
+}
+
+// The n elements of an array of type t, which have so many bytes together, and two dimensions.
+fn listed_look(s: &[u8], at: usize, t: u8, n: usize, size: usize) -> Two
+    requires { ⌜ n < 2147483648 ⌝ }
+    ensures { λ r. ⌜ MatrixTells r (dimensionedAt t n size (now (s .entry)) at) ⌝ }
+{
+    if !has(s.len(), at, size) {
+        return Two::Not;
+    }
+    match two_look(s, at + size, n as u32) {
+        End::At(end) => Two::Is(t, end, n),
+        End::Not => Two::Not,
+    }
+}
+
+// A matrix of the fixed type t, whose elements have w bytes each, after its first byte.
+fn matrix_look(s: &[u8], at: usize, t: u8, w: usize) -> Two
+    requires { ⌜ (w ≤ 16) × (0 < w) × (w ≡ widthOf t) ⌝ }
+    ensures { λ r. ⌜ MatrixTells r (matrix (valueAt INSIDE) t (now (s .entry)) at) ⌝ }
+{
+    let ItemLength::Of(next, n) = read_length(s, at) else {
+        return Two::Not;
+    };
+    listed_look(s, next, t, n, n * w)
+}
+
+// A Variant at a position that is such a matrix.
+fn plain_matrix(s: &[u8], at: usize) -> Two
+    ensures { λ r. ⌜ MatrixTells r (variantAt (now (s .entry)) at) ⌝ }
+{
+    if s.len() <= at {
+        return Two::Not;
+    }
+    let b = s[at];
+    if b < MATRIX {
+        return Two::Not;
+    }
+    let size = scalar_size(b % 64);
+    if size < 2 {
+        return Two::Not;
+    }
+    matrix_look(s, at + 1, b % 64, size - 1)
+}
+
+// A Variant that `plain_variant` does not tell: a matrix in one look where it tells, else by `measure_other`.
+fn other_in_line(s: &[u8], at: usize) -> Measured
+    ensures { λ r. ⌜ answerMeasured r ≡ variantAt (now (s .entry)) at ⌝ }
+{
+    match plain_matrix(s, at) {
+        Two::Is(t, end, n) => Measured::Matrix(t, end, n, 2),
+        Two::Not => measure_other(&*s, at),
+    }
+}
+
 // A Variant at a position: in one look where it tells, else by `measure_other`. It has one caller, so that it is put in line there.
 pub fn variant_in_line(s: &[u8], at: usize) -> Measured
     ensures { λ r. ⌜ answerMeasured r ≡ variantAt (now (s .entry)) at ⌝ }
@@ -289,7 +351,7 @@ pub fn variant_in_line(s: &[u8], at: usize) -> Measured
         Plain::Scalar(t, end) => Measured::Scalar(t, end),
         Plain::NullArray(t, end) => Measured::NullArray(t, end),
         Plain::Array(t, end, n) => Measured::Array(t, end, n),
-        Plain::Not => measure_other(&*s, at),
+        Plain::Not => other_in_line(s, at),
     }
 }
 

@@ -4,10 +4,8 @@ use mathlib.Core.Path.{_≡_, refl, sym, ap, _∙_}
 use mathlib.Core.Bool.{Bool, true, false, cond, _||_, false≢true}
 use mathlib.Core.List.{List}
 use mathlib.Core.Logic.{_⊎_, inl, inr}
-use Prim.Native.Nat.{ℕ, zero, suc, _%_, _<_}
-use native.Mathlib.Omega.{arith}
-use borrow.Author.Tests.{eq-eqb, ne-eqb}
-use Rattle.wire.specs.Answer.{Answer, got, refused, Reader, andThen, bit}
+use Prim.Native.Nat.{ℕ}
+use Rattle.wire.specs.Answer.{Answer, got, refused, Reader, andThen}
 use Rattle.wire.proofs.Reading.{not-got}
 use Rattle.plain_value.specs.Width.{widthOf, fixed}
 use Rattle.plain_value.specs.Plain.{passing, bytes, string, text, lengthFirst}
@@ -57,17 +55,3 @@ raw-fixed t s at {e} q = go (fixed t) (passed (rawAt t s at) q .1)
 pub raw-told : (t : ℕ) (s : List ℕ) (at : ℕ) {e w : ℕ} → passing (rawAt t) s at ≡ got tt e → w ≡ widthOf t
     → got (record { kind = t; shape = Shape.Scalar; width = w; null = false; first = at; end = e }) e ≡ toldRawAt t s at
 raw-told t s at q w = let f = raw-fixed t s at q in rw (raw-is t s at q, fixed-plainly t f, fixed-first t f .3, sym w)
-
--- ---- DataValues
-
--- the lowest bit of a mask
-pub even-bit : (m : ℕ) → m % 2 ≡ 0 → bit 0 m ≡ false
-even-bit m e = ne-eqb (m % 2) 1 (λ h. omega (arith, e, h))
-
-pub odd-bit : (m : ℕ) → (m % 2 ≡ 0 → ⊥) → bit 0 m ≡ true
-odd-bit m h = eq-eqb (m % 2) 1 (go (m % 2) (omega arith) h)
-  where
-    go : (k : ℕ) → k < 2 → (k ≡ 0 → ⊥) → k ≡ 1
-    go zero l n = absurd (n refl)
-    go (suc zero) l n = refl
-    go (suc (suc k)) l n = absurd (omega arith)

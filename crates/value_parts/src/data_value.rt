@@ -13,13 +13,13 @@ use wire::constants::CUT_SHORT;
 use wire::has;
 use wire::read8;
 ghost use mathlib.Core.Path.{_≡_};
-ghost use mathlib.Core.Bool.{true};
+ghost use mathlib.Core.Bool.{true, cond};
 ghost use Rattle.wire.specs.Constants.{VARIANT};
 ghost use Rattle.wire.specs.Answer.{bit, mapAnswer};
 ghost use Rattle.value.specs.Value.{INSIDE, valueAt, dataValueAt};
-ghost use Rattle.value_parts.specs.DataValue.{isGot, placedAt, toldPartsAt, toldAfterMaskAt, toldDataValueAt};
+ghost use Rattle.value_parts.specs.DataValue.{isGot, placedAt, noVariantAt, toldPartsAt, toldAfterMaskAt, toldDataValueAt};
 ghost use Rattle.value_parts.specs.DataValue.{aloneParts, toldFieldAt, answerPlaced, answerFieldTold};
-ghost use Rattle.value_parts.specs.Told.{answerTold, toldElementAt};
+ghost use Rattle.value_parts.specs.Told.{answerTold, toldInside, toldElementAt};
 
 // What a field's value is told apart into: `value` is the Variant, or RawData's element. Of a DataValue the mask tells which parts it has;
 // its Variant's place and those of its other parts are 0 where they are absent, and an absent Variant is told as a null one. Of any other
@@ -93,25 +93,42 @@ fn tell_parts(s: &[u8], m: u8, variant: usize, value: ValueParts, at: usize) -> 
     })
 }
 
-// What follows the mask m of an accepted DataValue; the mask stands before `at`.
+// The Variant that a DataValue with the mask m holds, told, or that it holds none.
+fn held(s: &[u8], m: u8, at: usize) -> Told
+    requires { ⌜ (bit 0 m ≡ true → isGot (valueAt INSIDE VARIANT (now s) at) ≡ true) ⌝ }
+    ensures { λ r. ⌜ answerTold r ≡ cond (bit 0 m) (toldInside INSIDE) noVariantAt (now (s .entry)) at ⌝ }
+{
+    if m % 2 == 1 {
+        return tell_variant(s, at);
+    }
+    Told::Is(ValueParts {
+        kind: 0,
+        shape: Shape::Scalar,
+        width: 0,
+        null: true,
+        first: at,
+        end: at,
+    })
+}
+
+// Where that Variant stands, 0 where there is none.
+fn held_place(m: u8, at: usize) -> usize
+    ensures { λ r. ⌜ r ≡ cond (bit 0 m) at 0 ⌝ }
+{
+    if m % 2 == 1 {
+        return at;
+    }
+    0
+}
+
+// What follows the mask m of an accepted DataValue; the mask stands before `at`. The parts are told by one call, which is put in line.
 fn tell_after_mask(s: &[u8], m: u8, at: usize) -> FieldTold
     requires { ⌜ (bit 0 m ≡ true → isGot (valueAt INSIDE VARIANT (now s) at) ≡ true) ⌝ }
     ensures { λ r. ⌜ answerFieldTold r ≡ toldAfterMaskAt m (now (s .entry)) at ⌝ }
 {
-    if m % 2 == 0 {
-        let none = ValueParts {
-            kind: 0,
-            shape: Shape::Scalar,
-            width: 0,
-            null: true,
-            first: at,
-            end: at,
-        };
-        return tell_parts(s, m, 0, none, at);
-    }
-    match tell_variant(s, at) {
+    match held(s, m, at) {
         Told::Refused(number, place) => FieldTold::Refused(number, place),
-        Told::Is(value) => tell_parts(s, m, at, value, value.end),
+        Told::Is(value) => tell_parts(s, m, held_place(m, at), value, value.end),
     }
 }
 

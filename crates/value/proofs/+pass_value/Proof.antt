@@ -17,6 +17,7 @@ use Rattle.value.proofs.pass_value.Reads as pass-value
 use Rattle.value.proofs.pass_value.Kinds as pass-value-kinds
 use Rattle.value.proofs.+pass_value.Lts-pass_value as pass-value-lts
 use Rattle.value.proofs.head.head_at.Reads as head-at-reads
+use Rattle.value.proofs.head.inside.Reads as inside-reads
 use Rattle.value.proofs.head.pass_rest.Reads as pass-rest-reads
 use Rattle.value.proofs.too_deep.Reads as too-deep-reads
 use Rattle.value.proofs.+pass_value.{statement}
@@ -34,7 +35,18 @@ pass-value-below t =
     and 1 pass-value-kinds.ps (falls 1 pass-value-kinds.ps _<_ μ-pass-value t) pass-value.Pre
 
 abbrev pass-value-claims : ℕ → pass-value-lts.Claims
-pass-value-claims t = (too-deep-reads.Asked, too-deep-reads.Learnt, head-at-reads.Asked, head-at-reads.Learnt, pass-value-below t, pass-value.Post, pass-rest-reads.Asked, pass-rest-reads.Learnt)
+pass-value-claims t = (
+  too-deep-reads.Asked,
+  too-deep-reads.Learnt,
+  head-at-reads.Asked,
+  head-at-reads.Learnt,
+  inside-reads.Asked,
+  inside-reads.Learnt,
+  pass-value-below t,
+  pass-value.Post,
+  pass-rest-reads.Asked,
+  pass-rest-reads.Learnt,
+)
 
 abbrev pass-value-Inv-loop : pass-value-lts.InvT-loop
 pass-value-Inv-loop s at levels t from count inner after p₀ left₀ p left = each (valueAt (levels - 1) inner) left₀ s p₀ ≡ each (valueAt (levels - 1) inner) left s p
@@ -64,13 +76,15 @@ pass-value-returns-2 t c =
     let at-pass-value = at-number2 .before .before in
     let at-loop-test = at-pass-value .before in
     let at-loop = at-loop-test .before in
-    let at-from = at-loop .before .before in
+    let at-inside = at-loop .before in
+    let at-from = at-inside .before .before in
     let at-head-at = at-from .before .before in
     let at-if1 = at-head-at .before in
     let args = at-if1 .before .before .args in
     let a = args in
     let l = at-loop .loop in
     inside-refused (valueAt (a .levels - 1)) (now (a .s)) (at-from .from .given .0 .0) (at-from .from .given .0 .1 .0) (at-from .from .given .0 .1 .1 .0) (at-from .from .given .0 .1 .1 .1 .0)
+    (at-inside .inside .result) (at-inside .inside .ensures)
     (l .inv ∙ pass-stop (valueAt _ _) _ (l .left) (l .p) (at-loop-test .loop-test .taken) (sym (told answerReached (at-pass-value .pass-value .ensures) (at-number2 .number2 .given .1))))
     ∙ by-head (a .levels) (a .t) (now (a .s)) (a .at) (at-if1 .if1 .left) (at-head-at .head-at .ensures (valueAt (a .levels - 1))) (at-from .from .given .1)
 
@@ -96,14 +110,16 @@ pass-value-returns-5 : (t : ℕ) → pass-value-lts.Need-returns-5 (pass-value-c
 pass-value-returns-5 t c =
     let at-loop-test = c .before in
     let at-loop = at-loop-test .before in
-    let at-from = at-loop .before .before in
+    let at-inside = at-loop .before in
+    let at-from = at-inside .before .before in
     let at-head-at = at-from .before .before in
     let at-if1 = at-head-at .before in
     let args = at-if1 .before .before .args in
     let a = args in
     let l = at-loop .loop in
     inside-ends (valueAt (a .levels - 1)) (now (a .s)) (at-from .from .given .0 .0) (at-from .from .given .0 .1 .0)
-    (at-from .from .given .0 .1 .1 .0) (at-from .from .given .0 .1 .1 .1 .0) (l .inv ∙ each-done (valueAt _ _) _ (l .left) (l .p) (at-loop-test .loop-test .left)) (c .pass-rest .ensures)
+    (at-from .from .given .0 .1 .1 .0) (at-from .from .given .0 .1 .1 .1 .0)
+    (at-inside .inside .result) (at-inside .inside .ensures) (l .inv ∙ each-done (valueAt _ _) _ (l .left) (l .p) (at-loop-test .loop-test .left)) (c .pass-rest .ensures)
     ∙ by-head (a .levels) (a .t) (now (a .s)) (a .at) (at-if1 .if1 .left) (at-head-at .head-at .ensures (valueAt (a .levels - 1))) (at-from .from .given .1)
 
 pub +pass-value-spec : {M : Type 1} → statement M
@@ -117,6 +133,7 @@ pub +pass-value-spec : {M : Type 1} → statement M
     (λ c. search needs)
     (λ c. search needs)
     (λ c. search needs)
+    (λ c κs. search needs)
     (λ c. search needs)
     (λ c. search needs)
     (λ c κs. search needs)

@@ -6,7 +6,7 @@ use Rattle.wire.proofs.Reading.{told}
 use Rattle.wire.specs.Items.{answerLength}
 use Rattle.plain_value.proofs.Lengths.{count-small}
 use Rattle.value.specs.Value.{matrix}
-use Rattle.value.proofs.Heads.{list-found}
+use Rattle.value.proofs.Heads.{null-listed}
 use borrow.Author.Needs.{needs}
 use Rattle.value.proofs.head.matrix_head.Statement.{statement}
 use Rattle.value.proofs.head.matrix_head.Tie as tie
@@ -21,12 +21,10 @@ listed-head-requires c κs =
 returns : tie.Need-returns
 unfolding matrix
 returns c =
-    let at-pass-list = c .before in
-    let at-next = at-pass-list .before .before in
+    let at-next = c .before in
     let at-read-length = at-next .before .before in
     let args = at-read-length .before .before .args in
-    λ nested. rw (sym (told (answerLength (args .at)) (at-read-length .read-length .ensures) (at-next .next .given .1)))
-    (list-found nested (now (args .s)) (args .t) 0 _ (at-pass-list .pass-list .result) (at-pass-list .pass-list .ensures) (c .done .ensures))
+    λ nested. rw (sym (told (answerLength (args .at)) (at-read-length .read-length .ensures) (at-next .next .given .1))) (null-listed nested (now (args .s)) (args .t) _ 24)
 
 returns-2 : tie.Need-returns-2
 unfolding matrix
@@ -56,8 +54,6 @@ matrix-head-spec =
     (tie.spec
     (λ c κs. search needs)
     (λ c. search needs)
-    (λ c κs. search needs)
-    (λ c κs. search needs)
     (λ c. search needs)
     listed-head-requires
     (λ c. search needs)

@@ -1,33 +1,29 @@
 -- `value::head::scalar_head` meets its contract.
 -- Assumes nothing.
-use Rattle.value.specs.Value.{measure, scalar}
-use Rattle.value.specs.declared.Shape.{Shape}
-use Rattle.value.proofs.Heads.{plain-found, holds-scalar}
+use mathlib.Core.Path.{sym, subst}
 use denote.Ref.{now}
-use mathlib.Core.Path.{sym, _∙_}
+use Rattle.plain_value.specs.declared.quick.End.{End}
+use Rattle.plain_value.specs.Quick.{EndTells}
+use Rattle.plain_value.specs.Plain.{passing}
+use Rattle.value.specs.Value.{scalar}
 use borrow.Author.Needs.{needs}
 use Rattle.value.proofs.head.scalar_head.Statement.{statement}
 use Rattle.value.proofs.head.scalar_head.Tie as tie
 
 returns : tie.Need-returns
-unfolding scalar
 returns c =
-    let at-plain-value = c .before in
-    let at-if1 = at-plain-value .before in
-    let at-is-plain = at-if1 .before in
-    let args = at-is-plain .before .before .args in
-    let a = args in
-    λ nested. rw (sym (at-is-plain .is-plain .ensures) ∙ at-if1 .if1 .taken)
-    (plain-found nested (now (a .s)) (measure (a .t) Shape.Scalar) (at-plain-value .plain-value .result) (at-plain-value .plain-value .ensures) (c .done .ensures))
-
-returns-2 : tie.Need-returns-2
-returns-2 c =
-    let at-is-plain = c .before in
-    let args = at-is-plain .before .before .args in
-    let a = args in
-    λ nested. holds-scalar nested (now (a .s)) (a .t) (a .at) (sym (at-is-plain .is-plain .ensures) ∙ c .if1 .left)
+    let at-end = c .before in
+    let at-scalar-look = at-end .before .before in
+    let a = at-scalar-look .before .before .args in
+    λ nested. sym (subst (λ (x : End). EndTells x (passing (scalar nested (a .t)) (now (a .s)) (a .at))) (at-end .end .given .1) (at-scalar-look .scalar-look .ensures nested))
 
 pub scalar-head-spec : {M : Type 1} → statement M
 scalar-head-spec =
     tie.close
-    (tie.spec (λ c κs. search needs) (λ c κs. search needs) (λ c κs. search needs) returns returns-2)
+    (tie.spec
+    (λ c κs. search needs)
+    (λ c. search needs)
+    (λ c. search needs)
+    (λ c κs. search needs)
+    returns
+    (λ c. search needs))
