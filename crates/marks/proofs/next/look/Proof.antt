@@ -32,27 +32,11 @@ shared-slice-read-b c =
 sub-choose : tie.Need-sub-choose
 sub-choose c = omega (arith, c .shared-slice-known2 .given (c .before .before .before .args .i / 8))
 
--- src/next.rt:52:20
-choose-requires : tie.Need-choose-requires
-choose-requires c κs = search needs
-
--- src/next.rt:52:50
-cast-t14 : tie.Need-cast-t14
-cast-t14 c = search needs
-
--- src/next.rt:52:20
-shr-t15 : tie.Need-shr-t15
-shr-t15 c = search needs
-
 -- src/next.rt:52:19
 cast-t16 : tie.Need-cast-t16
 cast-t16 c =
     let args = c .before .before .before .before .args in
     let most = shr-le (c .choose .result) (args .i % 8) in omega (arith, most, c .choose .ensures)
-
--- src/next.rt:53:19
-sub-t18 : tie.Need-sub-t18
-sub-t18 c = search needs
 
 -- src/next.rt:51:9
 returns : tie.Need-returns
@@ -64,26 +48,6 @@ returns c =
           (c .choose .ensures ∙ ap (λ (n : ℕ). cond (args .want) n (255 - n)) byte),
       omega arith,
     )
-
--- src/next.rt:56:9
-eight-requires : tie.Need-eight-requires
-eight-requires c κs = search needs
-
--- src/next.rt:58:43
-sub-choose-number : tie.Need-sub-choose-number
-sub-choose-number c = search needs
-
--- src/next.rt:58:15
-choose-number-requires : tie.Need-choose-number-requires
-choose-number-requires c κs = search needs
-
--- src/next.rt:58:15
-shr-t22 : tie.Need-shr-t22
-shr-t22 c = search needs
-
--- src/next.rt:59:15
-sub-t23 : tie.Need-sub-t23
-sub-t23 c = search needs
 
 -- src/next.rt:42:1
 returns-2 : tie.Need-returns-2
@@ -103,15 +67,15 @@ look-spec =
     sub-if1
     shared-slice-read-b
     sub-choose
-    choose-requires
-    cast-t14
-    shr-t15
+    (λ c κs. search needs)
+    (λ c. search needs)
+    (λ c. search needs)
     cast-t16
-    sub-t18
+    (λ c. search needs)
     returns
-    eight-requires
-    sub-choose-number
-    choose-number-requires
-    shr-t22
-    sub-t23
+    (λ c κs. search needs)
+    (λ c. search needs)
+    (λ c κs. search needs)
+    (λ c. search needs)
+    (λ c. search needs)
     returns-2)

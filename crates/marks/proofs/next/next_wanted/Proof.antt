@@ -40,14 +40,6 @@ cast-least c =
     let at-look = c .before .before .before in
     let most = trailing-le 64 (at-look .look .result .bits) in omega (arith, most)
 
--- src/next.rt:90:71
-sub-least : tie.Need-sub-least Inv-loop μ-loop
-sub-least c = search needs
-
--- src/next.rt:90:24
-least-requires : tie.Need-least-requires Inv-loop μ-loop
-least-requires c κs = search needs
-
 -- src/next.rt:90:20
 add-result : tie.Need-add-result Inv-loop μ-loop
 add-result c = omega (arith, c .least .ensures .1)
@@ -71,10 +63,6 @@ returns c =
           rw q (seen-first (λ j. wanted (args .want) (marked inUse (now (args .marks)) j)) (at-loop .loop .i) (at-look .look .result .told) (at-look .look .result .bits) (at-look .look .ensures .0)
           (omega (arith, at-struct-known .struct-known .given)) (at-if1 .if1 .taken));
     })
-
--- src/next.rt:92:12
-sub-if2 : tie.Need-sub-if2 Inv-loop μ-loop
-sub-if2 c = search needs
 
 -- src/next.rt:93:13
 returns-2 : tie.Need-returns-2 Inv-loop μ-loop
@@ -142,11 +130,11 @@ next-wanted-spec =
     loop-holds
     look-requires
     cast-least
-    sub-least
-    least-requires
+    (λ c. search needs)
+    (λ c κs. search needs)
     add-result
     returns
-    sub-if2
+    (λ c. search needs)
     returns-2
     add-pass-eights
     pass-eights-requires

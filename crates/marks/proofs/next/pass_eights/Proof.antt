@@ -24,18 +24,10 @@ Inv-loop marks start stop want unwanted i₀ i =
 abbrev μ-loop : tie.MeasureT-loop
 μ-loop marks start stop want unwanted i₀ i = stop - i
 
--- src/next.rt:70:9
-choose-number-requires : tie.Need-choose-number-requires Inv-loop μ-loop
-choose-number-requires c κs = search needs
-
 -- src/next.rt:72:5
 loop-holds : tie.Need-loop-holds Inv-loop μ-loop
 loop-holds c =
     (omega arith, c .before .before .pre .1, c .before .before .pre .0, λ j l u. absurd (omega arith))
-
--- src/next.rt:72:23
-sub-loop : tie.Need-sub-loop Inv-loop μ-loop
-sub-loop c = search needs
 
 -- src/next.rt:73:12
 eight-requires : tie.Need-eight-requires Inv-loop μ-loop
@@ -49,14 +41,6 @@ returns : tie.Need-returns Inv-loop μ-loop
 returns c =
     let at-loop = c .before .before .before in
     (at-loop .loop .inv .0, at-loop .loop .inv .1, at-loop .loop .inv .3)
-
--- src/next.rt:76:9
-add-i : tie.Need-add-i Inv-loop μ-loop
-add-i c = search needs
-
--- src/next.rt:72:5
-loop-less : tie.Need-loop-less Inv-loop μ-loop
-loop-less c = search needs
 
 -- src/next.rt:72:5
 loop-again : tie.Need-loop-again Inv-loop μ-loop
@@ -85,12 +69,12 @@ pass-eights-spec =
     (tie.spec
     Inv-loop
     μ-loop
-    choose-number-requires
+    (λ c κs. search needs)
     loop-holds
-    sub-loop
+    (λ c. search needs)
     eight-requires
     returns
-    add-i
-    loop-less
+    (λ c. search needs)
+    (λ c. search needs)
     loop-again
     returns-2)
