@@ -41,9 +41,10 @@ returns c =
 loop-again : tie.Need-loop-again Inv-loop μ-loop
 loop-again c =
     let at-is-marked = c .before in
-    let at-loop = at-is-marked .before .before in
-    (omega (arith, at-loop .loop .inv .0),
-    λ k h l. by-eq _ k (at-loop .loop .i) (λ q. rw q (sym (at-is-marked .is-marked .ensures) ∙ c .if1 .left)) (λ q. at-loop .loop .inv .1 k h (omega arith)))
+    let at-loop = at-is-marked .before .before in (
+      omega (arith, at-loop .loop .inv .0),
+      λ k h l. by-eq _ k (at-loop .loop .i) (λ q. rw q (sym (at-is-marked .is-marked .ensures) ∙ c .if1 .left)) (λ q. at-loop .loop .inv .1 k h (omega arith)),
+    )
 
 -- src/each.rt:64:1
 returns-2 : tie.Need-returns-2 Inv-loop μ-loop

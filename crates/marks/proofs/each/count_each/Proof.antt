@@ -54,10 +54,12 @@ loop-again c =
     let at-loop = at-is-marked .before .before .before in
     let args = at-loop .before .before .args in
     let d = c .one-if .ensures .0 ∙ ap (λ (b : Bool). cond b 1 0) (at-is-marked .is-marked .ensures) in
-    let most = c .one-if .ensures .1 in
-    (omega (arith, at-loop .loop .inv .0), (λ h. absurd (omega arith)),
-    count-next (args .start) (at-loop .loop .i) (at-loop .loop .count) _ (marked inUse (now (args .marks))) (at-loop .loop .inv .0) (at-loop .loop .inv .2) d,
-    omega (arith, most, at-loop .loop .inv .3, at-loop .loop .inv .0))
+    let most = c .one-if .ensures .1 in (
+      omega (arith, at-loop .loop .inv .0),
+      (λ h. absurd (omega arith)),
+      count-next (args .start) (at-loop .loop .i) (at-loop .loop .count) _ (marked inUse (now (args .marks))) (at-loop .loop .inv .0) (at-loop .loop .inv .2) d,
+      omega (arith, most, at-loop .loop .inv .3, at-loop .loop .inv .0),
+    )
 
 -- src/each.rt:48:1
 returns-2 : tie.Need-returns-2 Inv-loop μ-loop

@@ -53,9 +53,12 @@ loop-again c =
     let at-mark-if = c .before .before in
     let at-loop = at-mark-if .before .before .before .before in
     let at-pre = at-loop .before .before in
-    let same = capacity-length inUse (at-loop .loop .marks) (now (at-pre .args .marks)) (at-loop .loop .inv .2) in
-    (omega (arith, at-loop .loop .inv .0), omega arith, search needs,
-    cut-next inUse always (at-pre .args .start) (now (at-pre .args .marks)) (at-loop .loop .i) (at-loop .loop .marks) _ true (at-loop .loop .inv .0) (omega (arith, at-pre .pre .1, same)) (at-loop .loop .inv .3) refl (at-mark-if .mark-if .ensures))
+    let same = capacity-length inUse (at-loop .loop .marks) (now (at-pre .args .marks)) (at-loop .loop .inv .2) in (
+      omega (arith, at-loop .loop .inv .0),
+      omega arith,
+      search needs,
+      cut-next inUse always (at-pre .args .start) (now (at-pre .args .marks)) (at-loop .loop .i) (at-loop .loop .marks) _ true (at-loop .loop .inv .0) (omega (arith, at-pre .pre .1, same)) (at-loop .loop .inv .3) refl (at-mark-if .mark-if .ensures),
+    )
 
 -- src/each.rt:19:1
 same-length-2 : tie.Need-same-length-2 Inv-loop μ-loop
