@@ -107,7 +107,17 @@ number-below (suc w) m at b =
     rw e (omega (arith, first, ih))
   where
     eight-times : (k : ℕ) → 2 ^ suc (suc (suc (suc (suc (suc (suc (suc k))))))) ≡ 2 ^ k * 256
-    eight-times k = rw (pow-suc 2 (suc (suc (suc (suc (suc (suc (suc k))))))), pow-suc 2 (suc (suc (suc (suc (suc (suc k)))))), pow-suc 2 (suc (suc (suc (suc (suc k))))), pow-suc 2 (suc (suc (suc (suc k)))), pow-suc 2 (suc (suc (suc k))), pow-suc 2 (suc (suc k)), pow-suc 2 (suc k), pow-suc 2 k) (omega arith)
+    eight-times k =
+        rw (
+          pow-suc 2 (suc (suc (suc (suc (suc (suc (suc k))))))),
+          pow-suc 2 (suc (suc (suc (suc (suc (suc k)))))),
+          pow-suc 2 (suc (suc (suc (suc (suc k))))),
+          pow-suc 2 (suc (suc (suc (suc k)))),
+          pow-suc 2 (suc (suc (suc k))),
+          pow-suc 2 (suc (suc k)),
+          pow-suc 2 (suc k),
+          pow-suc 2 k,
+        ) (omega arith)
 
 digit-number : (w : ℕ) (m : List ℕ) (at j : ℕ) → ((i : ℕ) → getD m i 0 < 256) → j < 8 * w → digit j (le w m at) ≡ marked byBits m (8 * at + j)
 digit-number zero m at j b l = absurd (omega arith)

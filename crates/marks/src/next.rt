@@ -1,5 +1,5 @@
-// The next offset that is marked, or is not: bits of eight bytes of marks, as one number, from its own byte on; where they have none that is
-// wanted, eight bytes that are alike are passed over at once.
+// The next offset that is marked, or is not: bits of eight bytes of marks, as one number, from its own byte on; where they have none that
+// is wanted, eight bytes that are alike are passed over at once.
 ghost use mathlib.Core.Path.{_≡_};
 ghost use Prim.Native.Nat.{ℕ, _+_, _%_, _<_, _≤_};
 ghost use mathlib.Core.Bool.{false, cond};

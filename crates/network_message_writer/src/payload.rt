@@ -62,7 +62,8 @@ fn of_one(x: PayloadHeader) -> PayloadHeader
     }
 }
 
-// The number by which reading refuses a payload of these lengths and messages, or 0. The payload is read in one place: 200 bytes of code less.
+// The number by which reading refuses a payload of these lengths and messages, or 0. The payload is read in one place: 400 bytes of code
+// less.
 pub(crate) fn payload_refusal(
     chunk: bool,
     x: PayloadHeader,

@@ -82,7 +82,9 @@ loop-again c =
       search needs,
       omega (arith, on .0, at-loop .loop .inv .1),
       holes-put (marked inUse (now (args .marks))) (args .total) (at-loop .loop .at) _ _ (at-loop .loop .k) (at-loop .loop .out) _ _ e
-          (at-put-hole .put-hole .ensures ∙ ap (λ (h : Hole). entryLaid (at-loop .loop .k) (holeNumbers h) (at-loop .loop .out)) (hole-by-end (marked inUse (now (args .marks))) (args .total) (at-loop .loop .at) _ _ e)) (at-loop .loop .inv .2),
+          (at-put-hole .put-hole .ensures
+          ∙ ap (λ (h : Hole). entryLaid (at-loop .loop .k) (holeNumbers h) (at-loop .loop .out))
+          (hole-by-end (marked inUse (now (args .marks))) (args .total) (at-loop .loop .at) _ _ e)) (at-loop .loop .inv .2),
       holes-more (marked inUse (now (args .marks))) (args .total) (at-loop .loop .at) _ _ (at-loop .loop .k) _ e (at-loop .loop .inv .3),
     )
 

@@ -57,7 +57,8 @@ loop-again c =
       omega (arith, at-loop .loop .inv .0),
       omega arith,
       search needs,
-      cut-next inUse always (at-pre .args .start) (now (at-pre .args .marks)) (at-loop .loop .i) (at-loop .loop .marks) _ true (at-loop .loop .inv .0) (omega (arith, at-pre .pre .1, same)) (at-loop .loop .inv .3) refl (at-mark-if .mark-if .ensures),
+      cut-next inUse always (at-pre .args .start) (now (at-pre .args .marks)) (at-loop .loop .i) (at-loop .loop .marks) _ true (at-loop .loop .inv .0)
+          (omega (arith, at-pre .pre .1, same)) (at-loop .loop .inv .3) refl (at-mark-if .mark-if .ensures),
     )
 
 -- src/each.rt:19:1

@@ -1,9 +1,9 @@
 use Rattle.wire.specs.Number.{le}
 -- `marks::next::look` meets its contract. Assumes nothing.
 use native.Mathlib.Omega.{arith}
-use mathlib.Core.Path.{_≡_, refl, sym, ap, _∙_}
-use mathlib.Core.Bool.{Bool, true, false, cond}
-use Prim.Native.Nat.{ℕ, _+_, _*_, _-_, _/_, _%_, _^_, _≤_, _<_}
+use mathlib.Core.Path.{_≡_, refl, ap, _∙_}
+use mathlib.Core.Bool.{cond}
+use Prim.Native.Nat.{ℕ, _-_, _/_, _%_}
 use lib.ListN.{getD}
 use lib.Pow.{shr-le}
 use denote.Ref.{now}

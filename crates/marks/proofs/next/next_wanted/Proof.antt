@@ -1,8 +1,8 @@
 use native.Mathlib.Omega.{arith}
 use Prim.Native.Nat.{ℕ, _+_, _-_, _≤_, _<_}
-use mathlib.Core.Path.{_≡_, refl, sym, ap, _∙_}
+use mathlib.Core.Path.{_≡_, refl}
 use mathlib.Core.Bool.{false}
-use lib.Count.{trailingZeros, trailing-le}
+use lib.Count.{trailing-le}
 use denote.Ref.{now}
 use Rattle.wire.proofs.Cases.{by-lt}
 use Rattle.marks.specs.Offsets.{wanted}
@@ -96,7 +96,8 @@ pass-eights-requires c κs =
 -- src/next.rt:87:5
 loop-less : tie.Need-loop-less Inv-loop μ-loop
 loop-less c =
-    omega (arith, c .before .before .before .before .before .before .look .ensures .0 .0, c .pass-eights .ensures .0)
+    let at-if1 = c .before .before .before .before in
+    omega (arith, at-if1 .before .before .look .ensures .0 .0, c .pass-eights .ensures .0)
 
 -- src/next.rt:87:5
 loop-again : tie.Need-loop-again Inv-loop μ-loop
@@ -109,7 +110,8 @@ loop-again c =
       (λ l. absurd (omega (arith, c .pass-eights .ensures .1))),
       λ j l u. by-lt _ j (at-loop .loop .i) (λ x. at-loop .loop .inv .2 j l x)
           (λ x. by-lt _ j (at-loop .loop .i + at-look .look .result .told)
-          (λ y. seen-none (λ j. wanted (args .want) (marked inUse (now (args .marks)) j)) (at-loop .loop .i) (at-look .look .result .told) (at-look .look .result .bits) (at-look .look .ensures .0) (at-if1 .if1 .left) j x y)
+          (λ y. seen-none (λ j. wanted (args .want) (marked inUse (now (args .marks)) j)) (at-loop .loop .i) (at-look .look .result .told)
+          (at-look .look .result .bits) (at-look .look .ensures .0) (at-if1 .if1 .left) j x y)
           (λ y. c .pass-eights .ensures .2 j y u)),
     )
 

@@ -36,7 +36,8 @@ returns-2 c =
     let args = at-is-chunked .before .before .before .before .args in
     let n = at-id-count .id-count .ensures in
     c .listed-refusal .ensures ∙ ap (λ (k : ℕ). listedRefusal k (now (args .lengths)) (length (now (args .messages)))) n
-    ∙ refused-listed (args .chunk) (args .x) (now (args .sizes)) (now (args .lengths)) (now (args .messages)) (sym (at-is-chunked .is-chunked .ensures) ∙ at-if1 .if1 .left) (omega (arith, n, at-if2 .if2 .taken))
+    ∙ refused-listed (args .chunk) (args .x) (now (args .sizes)) (now (args .lengths)) (now (args .messages))
+    (sym (at-is-chunked .is-chunked .ensures) ∙ at-if1 .if1 .left) (omega (arith, n, at-if2 .if2 .taken))
 
 -- src/payload.rt:66:1
 returns-3 : tie.Need-returns-3
@@ -49,7 +50,8 @@ returns-3 c =
     let args = at-is-chunked .before .before .before .before .args in
     let n = at-id-count .id-count .ensures in
     c .payload-number .ensures ∙ ap (λ (h : PayloadHeader). refusalNumber (payloadAt (args .chunk) h (now (args .sizes)) (now (args .messages)) 0)) (at-of-one .of-one .ensures)
-    ∙ refused-read (args .chunk) (args .x) (now (args .sizes)) (now (args .lengths)) (now (args .messages)) (sym (at-is-chunked .is-chunked .ensures) ∙ at-if1 .if1 .left) (omega (arith, n, at-if2 .if2 .left))
+    ∙ refused-read (args .chunk) (args .x) (now (args .sizes)) (now (args .lengths)) (now (args .messages))
+    (sym (at-is-chunked .is-chunked .ensures) ∙ at-if1 .if1 .left) (omega (arith, n, at-if2 .if2 .left))
 
 pub payload-refusal-spec : {M : Type 1} → statement M
 payload-refusal-spec =
