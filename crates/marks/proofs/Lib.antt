@@ -2,5 +2,6 @@ pub mod BitLaws
 pub mod CountLaws
 pub mod MarkLaws
 pub mod OffsetLaws
+pub mod LookLaws
 pub mod NextLaws
 mod WholeLaws

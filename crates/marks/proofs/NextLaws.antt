@@ -63,11 +63,6 @@ alike-all m k j e l u =
     let q : j / 8 ≡ k = omega arith in
     marked-by m j ∙ ap (λ (n : ℕ). digit (j % 8) (getD m n 0)) q ∙ ap (digit (j % 8)) e ∙ every-all 8 (λ i. digit i 255) refl (j % 8) (omega arith)
 
-pub alike-byte : (m : List ℕ) (i : ℕ) (want : Bool) → i % 8 ≡ 0 → getD m (i / 8) 0 ≡ cond want 0 255 → (j : ℕ) → i ≤ j → j < i + 8
-    → wanted want (marked byBits m j) ≡ false
-alike-byte m i true z e j l u = alike-none m (i / 8) j e (omega arith) (omega arith)
-alike-byte m i false z e j l u = ap not (alike-all m (i / 8) j e (omega arith) (omega arith))
-
 -- ---- eight bytes of them
 zero-bytes : (w : ℕ) (m : List ℕ) (at : ℕ) → le w m at ≡ 0 → (k : ℕ) → k < w → getD m (at + k) 0 ≡ 0
 zero-bytes zero m at e k l = absurd (omega arith)
@@ -91,7 +86,7 @@ full-bytes (suc w) m at b e (suc k) l =
     let i : at + suc k ≡ at + 1 + k = omega arith in
     ap (λ (j : ℕ). getD m j 0) i ∙ full-bytes w m (at + 1) b z k (omega arith)
 
-pub alike-eight : (m : List ℕ) (i : ℕ) (want : Bool) → ((k : ℕ) → getD m k 0 < 256) → i % 64 ≡ 0 → le 8 m (i / 8) ≡ cond want 0 18446744073709551615 → (j : ℕ) → i ≤ j → j < i + 64
+pub alike-eight : (m : List ℕ) (i : ℕ) (want : Bool) → ((k : ℕ) → getD m k 0 < 256) → i % 8 ≡ 0 → le 8 m (i / 8) ≡ cond want 0 18446744073709551615 → (j : ℕ) → i ≤ j → j < i + 64
     → wanted want (marked byBits m j) ≡ false
 alike-eight m i true b z e j l u =
     let k : j / 8 ≡ i / 8 + (j / 8 - i / 8) = omega arith in
@@ -102,10 +97,6 @@ alike-eight m i false b z e j l u =
     let full : le 8 m (i / 8) + 1 ≡ 256 ^ 8 = ap (λ (n : ℕ). n + 1) e in
     let q : getD m (j / 8) 0 ≡ 255 = ap (λ (n : ℕ). getD m n 0) k ∙ full-bytes 8 m (i / 8) b full (j / 8 - i / 8) (omega arith) in
     ap not (alike-all m (j / 8) j q (omega arith) (omega arith))
-
--- one offset alone
-pub alike-one : (f : ℕ → Bool) (i : ℕ) → f i ≡ false → (j : ℕ) → i ≤ j → j < i + 1 → f j ≡ false
-alike-one f i e j l u = let q : j ≡ i = omega arith in rw q e
 
 -- ---- offsets past the area are not marked
 module _ (f : ℕ → Bool) (stop end most : ℕ) (below : stop ≤ end) (full : stop < end → stop ≡ most) (past : (i : ℕ) → most ≤ i → f i ≡ false)

@@ -33,7 +33,7 @@ unfolding capacity
 capacity-bytes m = omega arith
 
 -- ---- the offset j of byte k is its bit j
-marked-in : (m : List ℕ) (k j : ℕ) → j < 8 → marked byBits m (8 * k + j) ≡ digit j (getD m k 0)
+pub marked-in : (m : List ℕ) (k j : ℕ) → j < 8 → marked byBits m (8 * k + j) ≡ digit j (getD m k 0)
 unfolding marked
 marked-in m k j h =
     let q : (8 * k + j) / 8 ≡ k = omega arith in

@@ -1,7 +1,9 @@
 -- Offsets that pass a test.
-use Prim.Native.Nat.{ℕ, zero, suc, _+_, _-_}
+use Prim.Native.Nat.{ℕ, zero, suc, _+_, _-_, _≤_, _<_}
+use mathlib.Core.Path.{_≡_}
 use mathlib.Core.Bool.{Bool, true, false, cond, _||_, not, _&&_}
 use lib.Dec.{ltb, leb}
+use Rattle.wire.specs.Answer.{bit}
 
 -- whether some i below n passes the test
 abbrev pub anyBelow : ℕ → (ℕ → Bool) → Bool
@@ -46,3 +48,7 @@ nextPassing f n i = firstPassing f (n - i) i
 abbrev pub wanted : Bool → Bool → Bool
 wanted true b = b
 wanted false b = not b
+
+-- the offsets from i on, so many of them, as bits of a number: the j-th is set where the j-th of them passes the test, and no further one
+abbrev pub Looked : (ℕ → Bool) → ℕ → ℕ → ℕ → Type 0
+Looked f i told bits = (1 ≤ told) × ((j : ℕ) → j < told → bit j bits ≡ f (i + j)) × ((j : ℕ) → told ≤ j → bit j bits ≡ false)

@@ -1,4 +1,5 @@
-// Offsets one after another, for the ends of a range: fewer than eight of them fill no byte.
+// Offsets one after another, for the ends of a range: fewer than eight of them fill no byte. Each loop has a second way out, so that the
+// compiler does not unroll it: a thousand bytes of code.
 ghost use mathlib.Core.Path.{_≡_};
 ghost use mathlib.Core.Bool.{cond};
 ghost use Prim.Native.Nat.{_+_, _-_, _≤_};
@@ -21,6 +22,9 @@ pub(crate) fn mark_each(marks: &mut [u8], start: usize, end: usize)
 {
     let mut i = start;
     while i < end {
+        if marks.len() <= i / 8 {
+            return;
+        }
         mark_if(marks, i, true);
         i += 1;
     }
@@ -47,6 +51,9 @@ pub(crate) fn count_each(marks: &[u8], start: usize, end: usize) -> usize
     let mut count = 0;
     let mut i = start;
     while i < end {
+        if marks.len() <= i / 8 {
+            return count;
+        }
         count += one_if(is_marked(marks, i));
         i += 1;
     }
@@ -57,11 +64,12 @@ pub(crate) fn count_each(marks: &[u8], start: usize, end: usize) -> usize
 pub(crate) fn any_each(marks: &[u8], start: usize, end: usize) -> bool
     ensures { λ r. ⌜ r ≡ anyFrom start end (marked inUse (now (marks .entry))) ⌝ }
 {
-    let mut any = false;
     let mut i = start;
     while i < end {
-        any = is_marked(marks, i) | any;
+        if is_marked(marks, i) {
+            return true;
+        }
         i += 1;
     }
-    any
+    false
 }

@@ -1,11 +1,11 @@
-// The next offset that is marked, or is not. Eight bytes of marks that are alike are passed over at once, and a byte.
+// The next offset that is marked, or is not: bits of eight bytes of marks, as one number, from its own byte on; where they have none that
+// is wanted, eight bytes that are alike are passed over at once.
 ghost use mathlib.Core.Path.{_≡_};
-ghost use Prim.Native.Nat.{ℕ, _+_, _<_, _≤_};
-ghost use mathlib.Core.Bool.{true, false, cond};
-ghost use Rattle.marks.specs.Offsets.{nextPassing, wanted};
-ghost use Rattle.marks.specs.Marks.{inUse, marked};
+ghost use Prim.Native.Nat.{ℕ, _+_, _%_, _<_, _≤_};
+ghost use mathlib.Core.Bool.{false, cond};
+ghost use Rattle.marks.specs.Offsets.{nextPassing, wanted, Looked};
+ghost use Rattle.marks.specs.Marks.{inUse, capacity, marked};
 use crate::choose;
-use crate::is_marked;
 use crate::whole::eight;
 
 // A byte whose eight offsets are all marked, and how many offsets a byte has.
@@ -13,17 +13,15 @@ const FULL: u8 = 255;
 
 const EIGHT: usize = 8;
 
-// Eight full bytes as one number.
+// Eight full bytes as one number, and how many offsets they have.
 const FULL_EIGHT: u64 = 18446744073709551615;
 
-// Whether an offset is marked, or, if told so, is not.
-fn is_wanted(marks: &[u8], i: usize, want: bool) -> bool
-    ensures { λ r. ⌜ r ≡ wanted want (marked inUse (now (marks .entry)) i) ⌝ }
-{
-    if want {
-        return is_marked(marks, i);
-    }
-    !is_marked(marks, i)
+const IN_EIGHT: usize = 64;
+
+// Some offsets one after the other: a bit for each, set where it is wanted, and how many they are.
+struct Seen {
+    bits: u64,
+    told: usize,
 }
 
 // One of two numbers.
@@ -33,66 +31,68 @@ fn choose_number(b: bool, x: u64, y: u64) -> u64
     if b { x } else { y }
 }
 
-// Whether none of the 64 offsets from i on, in eight whole bytes below stop, is wanted. It looks at every eighth byte only.
-fn none_in_eight(marks: &[u8], i: usize, stop: usize, want: bool) -> bool
-    requires { ⌜ i < stop ⌝ }
-    ensures { λ r.
-        let before = now (marks .entry) in
-        ⌜ (r ≡ true → (i + 64 ≤ stop) × ((j : ℕ) → i ≤ j → j < i + 64 → wanted want (marked inUse before j) ≡ false)) ⌝ }
+// The smaller of two numbers.
+fn least(x: usize, y: usize) -> usize
+    ensures { λ r. ⌜ (r ≤ x) × (r ≤ y) × (r < y → r ≡ x) ⌝ }
 {
-    if i % 64 != 0 {
-        return false;
-    }
-    if stop - i < 64 {
-        return false;
-    }
-    let at = i / 8;
-    if marks.len() < EIGHT {
-        return false;
-    }
-    if marks.len() - EIGHT < at {
-        return false;
-    }
-    eight(marks, at) == choose_number(want, 0, FULL_EIGHT)
+    if x < y { x } else { y }
 }
 
-// How many offsets from i on, which is not wanted, are not: 64 where eight whole bytes have none, eight where a byte below stop has none,
-// else one.
-fn unwanted(marks: &[u8], i: usize, stop: usize, want: bool) -> usize
-    requires { ⌜ (i < stop) × (wanted want (marked inUse (now marks) i) ≡ false) ⌝ }
+// The offsets from i on, up to the end of eight bytes of marks, or of one where there are not as many.
+fn look(marks: &[u8], i: usize, want: bool) -> Seen
+    requires { ⌜ i < capacity inUse (now marks) ⌝ }
     ensures { λ r.
         let before = now (marks .entry) in
-        ⌜ (1 ≤ r) × (i + r ≤ stop) × ((j : ℕ) → i ≤ j → j < i + r → wanted want (marked inUse before j) ≡ false) ⌝ }
+        ⌜ Looked (λ j. wanted want (marked inUse before j)) i (r .told) (r .bits) × ((i + r .told) % 8 ≡ 0) ⌝ }
 {
-    if none_in_eight(marks, i, stop, want) {
-        return 64;
-    }
     let at = i / 8;
-    if i % 8 != 0 {
-        return 1;
+    if marks.len() - at < EIGHT {
+        let b = marks[at];
+        return Seen {
+            bits: (choose(want, b, FULL - b) >> (i % 8)) as u64,
+            told: EIGHT - i % 8,
+        };
     }
-    if stop - i < EIGHT {
-        return 1;
+    let number = eight(marks, at);
+    Seen {
+        bits: choose_number(want, number, FULL_EIGHT - number) >> (i % 8),
+        told: IN_EIGHT - i % 8,
     }
-    if marks.len() <= at {
-        return 1;
+}
+
+// Passes over eight bytes of marks after another, as long as they lie below stop and have no offset that is wanted.
+fn pass_eights(marks: &[u8], start: usize, stop: usize, want: bool) -> usize
+    requires { ⌜ (start % 8 ≡ 0) × (start ≤ stop) × (stop ≤ capacity inUse (now marks)) ⌝ }
+    ensures { λ r.
+        let before = now (marks .entry) in
+        ⌜ (start ≤ r) × (r ≤ stop) × ((j : ℕ) → start ≤ j → j < r → wanted want (marked inUse before j) ≡ false) ⌝ }
+{
+    let unwanted = choose_number(want, 0, FULL_EIGHT);
+    let mut i = start;
+    while IN_EIGHT <= stop - i {
+        if eight(marks, i / 8) != unwanted {
+            return i;
+        }
+        i += IN_EIGHT;
     }
-    if marks[at] != choose(want, 0, FULL) {
-        return 1;
-    }
-    EIGHT
+    i
 }
 
 // The first offset from `from` on and below stop that is marked, or, if told so, is not; stop where there is none.
 pub(crate) fn next_wanted(marks: &[u8], from: usize, stop: usize, want: bool) -> usize
+    requires { ⌜ stop ≤ capacity inUse (now marks) ⌝ }
     ensures { λ r. ⌜ r ≡ nextPassing (λ j. wanted want (marked inUse (now (marks .entry)) j)) stop from ⌝ }
 {
     let mut i = from;
     while i < stop {
-        if is_wanted(marks, i, want) {
-            return i;
+        let seen = look(marks, i, want);
+        if seen.bits != 0 {
+            return i + least(u64::trailing_zeros(seen.bits) as usize, stop - i);
         }
-        i += unwanted(marks, i, stop, want);
+        if stop - i <= seen.told {
+            return stop;
+        }
+        i = pass_eights(marks, i + seen.told, stop, want);
     }
     i
 }

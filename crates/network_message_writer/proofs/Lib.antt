@@ -2,3 +2,4 @@ pub mod Sizes
 pub mod Short
 pub mod Again
 pub mod Lent
+pub mod Refused

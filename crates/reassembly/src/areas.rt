@@ -14,19 +14,19 @@ use marks::count_between;
 use marks::is_marked;
 use wire_writer::store::put_run;
 
-// A run ends at a multiple of so many offsets: 32 bytes of marks.
+// How many offsets a run has: 32 bytes of marks.
 const RUN: usize = 256;
 
-// Where the run of an offset ends: at the next multiple, or at the end.
+// Where the run from an offset on ends: so many offsets on, or at the end. Without a remainder the loops over a run are a thousand bytes of
+// code less.
 fn run_end(i: usize, end: usize) -> usize
     requires { ⌜ i < end ⌝ }
     ensures { λ r. ⌜ (i < r) × (r ≤ end) ⌝ }
 {
-    let left = RUN - i % RUN;
-    if end - i <= left {
+    if end - i <= RUN {
         return end;
     }
-    i + left
+    i + RUN
 }
 
 // Stores a chunk's bytes at their offset.

@@ -22,7 +22,7 @@ use Rattle.records.specs.Items.{flagNumber}
 use Rattle.records.proofs.ReadBack.{laid-length}
 use Rattle.value.specs.Value.{dimensionsOf}
 use Rattle.message_record.specs.Message.{shapeNumber, elementsNumber, fieldNumbers}
-use Rattle.salvage.specs.Holes.{nextHole}
+use Rattle.salvage.specs.Holes.{hole, holeStart, holeEnd, nextHole}
 use Rattle.salvage.specs.Quick.{FixedTo, EndsAt}
 use Rattle.salvage.proofs.FieldEnds.{ends-got}
 use Rattle.salvage.specs.Front.{Shown, shown, bad, ends, pastBy, shownBy, shownAt, Promise, promised, Salvage, salvaged, refusal, withField, afterLast, onField, fieldsShown, openAt, salvageFrom, salvageOpened, savedFields, tallyFrom}
@@ -246,6 +246,25 @@ room-ample b n room e h = leb-true n room (sym e ∙ not-false b h)
 
 pub room-scant : (b : Bool) (n room : ℕ) → b ≡ leb n room → not b ≡ true → room < n
 room-scant b n room e h = leb-false n room (sym e ∙ not-true b h)
+
+-- a hole by its offset and where it ends
+pub hole-by-end : (m : ℕ → Bool) (n at : ℕ) (h : Hole) (end : ℕ) → HoleStep.Is h end ≡ nextHole m n at → hole (h .offset) end ≡ h
+hole-by-end m n at h end e = go (ltb (holeStart m n at) n) refl
+  where
+    same : {h : Hole} {a s x : ℕ} → HoleStep.Is h a ≡ HoleStep.Is (hole s x) x → hole (h .offset) a ≡ h
+    same {h} {a} {s} {x} e =
+        let i : h ≡ hole s x = cc in
+        let j : a ≡ x = cc in
+        rw (i, j)
+
+    some : HoleStep → Bool
+    some (HoleStep.Is h a) = false
+    some HoleStep.Last = true
+
+    go : (b : Bool) → ltb (holeStart m n at) n ≡ b → hole (h .offset) end ≡ h
+    go true t =
+        let q : HoleStep.Is h end ≡ HoleStep.Is (hole (holeStart m n at) (holeEnd m n at)) (holeEnd m n at) = rw t at e in same q
+    go false t = let q : HoleStep.Is h end ≡ HoleStep.Last = rw t at e in absurd (false≢true (ap some q))
 
 pub holes-put : (m : ℕ → Bool) (n at : ℕ) (h : Hole) (end k : ℕ) (out e r : List ℕ) → HoleStep.Is h end ≡ nextHole m n at → e ≡ entryLaid k (holeNumbers h) out
     → entriesPut k (holeEntries (holesAfter m n at)) out ≡ r → entriesPut (k + 1) (holeEntries (holesAfter m n end)) e ≡ r

@@ -11,12 +11,10 @@ use message_record::message::encoding_number;
 use message_record::message::shape_number;
 use records::items::flag_number;
 use records::numbers::put_numbers;
-use records::numbers::put_numbers_from;
 use salvage::front::Opening;
 use salvage::front::Tally;
 use salvage::front::count_fields;
 use salvage::front::open;
-use salvage::holes::Hole;
 use salvage::holes::HoleStep;
 use salvage::holes::count_holes;
 use salvage::holes::next_hole;
@@ -24,6 +22,7 @@ use salvage::quick::fixed_to;
 use value::Shape;
 use value::dimensions;
 use wire::constants::NO_ROOM;
+use wire::left;
 use wire::part::part;
 ghost use Prim.Native.Nat.{_+_, _*_, _≤_};
 ghost use mathlib.Core.Path.{_≡_};
@@ -36,7 +35,7 @@ ghost use Rattle.dataset_header.specs.Flags.{encodingNumber};
 ghost use Rattle.dataset_fields.specs.Fields.{fieldAt};
 ghost use Rattle.records.specs.Numbers.{numberBytes};
 ghost use Rattle.message_record.specs.Message.{fieldNumbers};
-ghost use Rattle.salvage.specs.Holes.{holesOf};
+ghost use Rattle.salvage.specs.Holes.{hole, holesOf};
 ghost use Rattle.salvage.specs.Front.{salvaged, openAt};
 ghost use Rattle.salvage.specs.Quick.{EndsAt};
 ghost use Rattle.salvage.specs.declared.front.Opening.{Opening};
@@ -68,13 +67,17 @@ fn put_entry(out: &mut [u8], k: usize, numbers: &[u64])
     if out.len() / ENTRY_SIZE <= k {
         return;
     }
-    put_numbers_from(out, 8 * k, numbers);
+    let at = ENTRY_SIZE * k;
+    let end = at + ENTRY_SIZE;
+    put_numbers(&mut out[at..end], numbers);
 }
 
-fn put_hole(out: &mut [u8], k: usize, h: Hole)
-    ensures { λ _. ⌜ now (out .exit) ≡ entryLaid k (holeNumbers h) (now (out .entry)) ⌝ }
+// Puts the entry of a hole by its offset and where it ends: its length, which is lent beside the offset, would be loaded with it as one
+// word right after the two were stored, which stalls.
+fn put_hole(out: &mut [u8], k: usize, offset: usize, end: usize)
+    ensures { λ _. ⌜ now (out .exit) ≡ entryLaid k (holeNumbers (hole offset end)) (now (out .entry)) ⌝ }
 {
-    let numbers = [0, 0, 0, 0, h.offset as u64, h.length as u64, 0, 0];
+    let numbers = [0, 0, 0, 0, offset as u64, left(end, offset) as u64, 0, 0];
     put_entry(out, k, &numbers);
 }
 
@@ -109,7 +112,7 @@ fn put_holes(out: &mut [u8], marks: &[u8], total: usize) -> usize
                 return k;
             }
             HoleStep::Is(h, end) => {
-                put_hole(out, k, h);
+                put_hole(out, k, h.offset, end);
                 at = end;
                 k += 1;
             }

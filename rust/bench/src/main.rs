@@ -1,8 +1,10 @@
 //! Times the library beside the tuned implementation in Rust: same inputs, same run, best of many batches, alternately; and counts the
-//! instructions of both, which a busy machine does not change.
+//! instructions of both, which a busy machine does not change. All rows are timed in five runs, one after the other; the run whose ratio
+//! is the median of the five counts.
 //!
-//! `uadp-bench [ROUNDS]` prints a table and which rows miss the bar; without valgrind its last column is empty. Each row's answers are
-//! compared before it is timed. `uadp-bench --calls ROW SIDE CALLS` makes so many calls of one side of a row, for valgrind.
+//! `uadp-bench [BATCHES [PART]]` prints tables and which rows miss the bar, with so many batches in all five runs together, of the rows
+//! whose name has that part; without valgrind the last column is empty. Each row's answers are compared before it is timed.
+//! `uadp-bench --calls ROW SIDE CALLS` makes so many calls of one side of a row, for valgrind.
 mod by_one;
 mod inputs;
 mod jobs;
@@ -13,7 +15,9 @@ use std::hint::black_box;
 use std::process::{Command, ExitCode};
 use std::time::{Duration, Instant};
 
-const ROUNDS: usize = 300;
+/// How many batches of a row are timed, if no number is given, and in how many runs.
+const BATCHES: usize = 300;
+const RUNS: usize = 5;
 /// About how long a batch takes.
 const BATCH: Duration = Duration::from_micros(300);
 /// What stands beside the library in most tables.
@@ -83,6 +87,9 @@ fn tables() -> Vec<Table> {
     ]
 }
 
+/// The times of the library and of what stands beside it.
+type Times = (f64, f64);
+
 /// The time of one call in a batch of `calls`.
 fn time_batch(calls: u32, job: &mut Job) -> f64 {
     let start = Instant::now();
@@ -98,18 +105,25 @@ fn calls_per_batch(job: &mut Job) -> u32 {
     (BATCH.as_nanos() as f64 / once).clamp(1.0, 20_000.0) as u32
 }
 
-/// The best times of both sides; none where the answers differ.
-fn times(rounds: usize, Pair { mut ours, mut rust }: Pair) -> Option<(f64, f64)> {
+/// The best times of both sides in a run; none where the answers differ.
+fn times(batches: usize, Pair { mut ours, mut rust }: Pair) -> Option<Times> {
     if ours() != rust() {
         return None;
     }
     let calls = calls_per_batch(&mut ours).min(calls_per_batch(&mut rust));
     let (mut our_best, mut rust_best) = (f64::INFINITY, f64::INFINITY);
-    for _ in 0..rounds {
+    for _ in 0..batches {
         our_best = our_best.min(time_batch(calls, &mut ours));
         rust_best = rust_best.min(time_batch(calls, &mut rust));
     }
     Some((our_best, rust_best))
+}
+
+/// The run with the median ratio; none where the answers differed in a run.
+fn median(runs: Vec<Option<Times>>) -> Option<Times> {
+    let mut all = runs.into_iter().collect::<Option<Vec<_>>>()?;
+    all.sort_by(|a, b| (a.0 / a.1).total_cmp(&(b.0 / b.1)));
+    all.get(all.len() / 2).copied()
 }
 
 /// How many instructions this program takes for so many calls of one side of a row.
@@ -146,20 +160,30 @@ fn main() -> ExitCode {
             return ExitCode::SUCCESS;
         }
     }
-    let rounds = arguments.first().and_then(|rounds| rounds.parse().ok()).unwrap_or(ROUNDS);
-    let (mut missing, mut differing) = (Vec::new(), 0);
-    for (title, beside, rows) in tables() {
+    let batches = arguments.first().and_then(|batches| batches.parse().ok()).unwrap_or(BATCHES);
+    let part = arguments.get(1).map_or("", String::as_str);
+    let mut tables = tables();
+    tables.iter_mut().for_each(|(_, _, rows)| rows.retain(|row| row.name.contains(part)));
+    let in_run = |_| {
+        let rows = tables.iter().flat_map(|(_, _, rows)| rows);
+        rows.map(|row| times((batches / RUNS).max(1), (row.pair)())).collect::<Vec<_>>()
+    };
+    let runs: Vec<_> = (0..RUNS).map(in_run).collect();
+    let (mut missing, mut differing, mut index) = (Vec::new(), 0, 0);
+    for (title, beside, rows) in tables.iter().filter(|(_, _, rows)| !rows.is_empty()) {
         println!(
             "\n{title}\n\n| | library, ns | {beside}, ns | library / {beside} | by instructions |\n|---|---:|---:|---:|---:|"
         );
-        for Row { name, pair } in rows {
-            let Some((ours, rust)) = times(rounds, pair()) else {
+        for Row { name, .. } in rows {
+            let row = median(runs.iter().map(|run| run[index]).collect());
+            index += 1;
+            let Some((ours, rust)) = row else {
                 println!("| {name} | answers differ | | | |");
                 differing += 1;
                 continue;
             };
             let ratio = ours / rust;
-            let by_instructions = instruction_ratio(&name).map_or_else(String::new, |ratio| format!("{ratio:.2}"));
+            let by_instructions = instruction_ratio(name).map_or_else(String::new, |ratio| format!("{ratio:.2}"));
             println!("| {name} | {ours:.0} | {rust:.0} | {ratio:.2} | {by_instructions} |");
             if ratio > BAR {
                 missing.push(format!("{name} ({ratio:.2})"));

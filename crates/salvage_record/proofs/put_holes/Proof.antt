@@ -9,8 +9,8 @@ use Rattle.marks.specs.Marks.{inUse, marked}
 use Rattle.salvage.specs.Holes.{holesOf}
 use Rattle.salvage.specs.declared.holes.Hole.{Hole}
 use Rattle.salvage.proofs.HoleLaws.{holesAfter, holes-start, hole-moves}
-use Rattle.salvage_record.specs.List.{holeEntries, entriesPut}
-use Rattle.salvage_record.proofs.Saving.{holes-put, holes-end, holes-more, holes-all}
+use Rattle.salvage_record.specs.List.{holeNumbers, holeEntries, entryLaid, entriesPut}
+use Rattle.salvage_record.proofs.Saving.{hole-by-end, holes-put, holes-end, holes-more, holes-all}
 use Rattle.salvage_record.proofs.put_holes.Statement.{statement}
 use Rattle.salvage_record.proofs.put_holes.Tie as tie
 use Rattle.salvage_record.proofs.put_holes.Reads as reads
@@ -81,7 +81,10 @@ loop-again c =
     let e = sym (at-h .h .given .1) ∙ at-next-hole .next-hole .ensures in let on = hole-moves (marked inUse (now (args .marks))) (args .total) (at-loop .loop .at) _ _ e in (
       search needs,
       omega (arith, on .0, at-loop .loop .inv .1),
-      holes-put (marked inUse (now (args .marks))) (args .total) (at-loop .loop .at) _ _ (at-loop .loop .k) (at-loop .loop .out) _ _ e (at-put-hole .put-hole .ensures) (at-loop .loop .inv .2),
+      holes-put (marked inUse (now (args .marks))) (args .total) (at-loop .loop .at) _ _ (at-loop .loop .k) (at-loop .loop .out) _ _ e
+          (at-put-hole .put-hole .ensures
+          ∙ ap (λ (h : Hole). entryLaid (at-loop .loop .k) (holeNumbers h) (at-loop .loop .out))
+          (hole-by-end (marked inUse (now (args .marks))) (args .total) (at-loop .loop .at) _ _ e)) (at-loop .loop .inv .2),
       holes-more (marked inUse (now (args .marks))) (args .total) (at-loop .loop .at) _ _ (at-loop .loop .k) _ e (at-loop .loop .inv .3),
     )
 
