@@ -17,7 +17,7 @@ VERSION := $(shell cat VERSION)
 MAJOR := $(firstword $(subst ., ,$(VERSION)))
 OUT := target/make
 ARCHIVE := target/staticlib/libuadp_c.a
-BY_ONE := target/staticlib/libmarks_by_one.a
+BY_ONE := target/staticlib/libmarks.a
 PROGRAM := target/bin/uadp_list
 SHARED := $(OUT)/libuadp.so.$(VERSION)
 
@@ -79,7 +79,7 @@ test:
 # The benchmark's own library, with the loops that it times beside the library's.
 $(BY_ONE): $(SOURCES)
 	$(NEEDS_RT)
-	rt staticlib marks_by_one
+	rt staticlib marks
 	@touch $@
 
 bench: $(ARCHIVE) $(BY_ONE)

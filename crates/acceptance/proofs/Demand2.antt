@@ -20,14 +20,14 @@ use Rattle.network_header.specs.Envelope as envelope
 use Rattle.network_header.specs.declared.envelope.Envelope.{Envelope}
 use Rattle.network_message.specs.Payload.{OfMessages}
 use Rattle.network_message.specs.Envelope.{NetworkMessage, networkMessageAt, messagePlaceAt, messageBytes}
-use Rattle.network_message_writer.specs.Envelope as N
+use Rattle.network_message.specs.Writer as N
 use Rattle.dataset_header.specs.Flags.{Valid, valid}
 use Rattle.dataset_header.specs.Header.{messagePicosecondsPlace, messageHeld}
 use Rattle.dataset_header.proofs.HeaderTrip.{header-back}
 use Rattle.dataset_message.proofs.Agreement.{header-of}
 use Rattle.dataset_message.specs.Message.{Message, messageAt}
-use Rattle.dataset_message_writer.specs.Message as M
-use Rattle.dataset_message_writer.specs.Rewrite.{whereValid}
+use Rattle.dataset_message.specs.Writer as M
+use Rattle.dataset_message.specs.Rewrite.{whereValid}
 use Rattle.round_trip.specs.NetworkMessage as network
 use Rattle.round_trip.specs.DataSetMessage.{MessageBack}
 use Rattle.round_trip.proofs.NetworkMessageRoundTrip as datagram

@@ -35,11 +35,11 @@ use Rattle.network_message.specs.Envelope.{networkMessageAt}
 use Rattle.network_message.specs.ProbeMessage.{ProbeMessage, probeFrom, probeMessageAt}
 use Rattle.records.specs.Sizes.{PROBE_SIZE}
 use Rattle.records.specs.Writers.{sizesIn}
-use Rattle.probe_record.specs.Probe.{probeIn, informationRefusal, probeFits, ProbeRecordBack}
+use Rattle.envelope_record.specs.Probe.{probeIn, informationRefusal, probeFits, ProbeRecordBack}
 use Rattle.uadp_c.specs.Writing.{fitting}
 use Rattle.uadp_c.specs.Probes.{ProbeReads, ProbeRead, probePut}
-use Rattle.network_message_writer.specs.Payload.{listBytes}
-use Rattle.network_message_writer.specs.Envelope.{GivenDatagram, envelopeBytes, datagramOf, datagramRefusal, WroteDatagram}
+use Rattle.network_message.specs.WriterPayload.{listBytes}
+use Rattle.network_message.specs.Writer.{GivenDatagram, envelopeBytes, datagramOf, datagramRefusal, WroteDatagram}
 use Rattle.round_trip.specs.NetworkMessage.{placesOf, ReadsBack}
 use Rattle.round_trip.proofs.NetworkMessageRoundTrip.{reads-back}
 use Rattle.acceptance.specs.Probes.{WroteProbe, ProbeBack, writtenProbe, ProbeDatagramBack}

@@ -21,8 +21,8 @@ use Rattle.reassembly.specs.declared.verdict.Progress.{Progress}
 use Rattle.salvage.specs.Front.{Promise, Salvage, salvaged, refusal}
 use Rattle.salvage.specs.Whole.{TellsOf}
 use Rattle.salvage.specs.declared.holes.Hole.{Hole}
-use Rattle.salvage_record.specs.List.{holeEntries, fieldEntries, entriesPut, toldNumbers, SavedPut, savedPut, putSaved, salvageIn, holesIn, frontEnd, openIn, encodingTold}
-use Rattle.salvage_record.specs.declared.Salvaged.{Salvaged}
+use Rattle.partial_record.specs.List.{holeEntries, fieldEntries, entriesPut, toldNumbers, SavedPut, savedPut, putSaved, salvageIn, holesIn, frontEnd, openIn, encodingTold}
+use Rattle.partial_record.specs.declared.salvage_record.Salvaged.{Salvaged}
 use Rattle.uadp_c.specs.Reassembling.{partialOf}
 use Rattle.uadp_c.specs.Salvaging.{salvageTypes, salvageBy, salvageLent}
 use Rattle.acceptance.specs.Refusals.{Refusal, salvageRefusals}

@@ -36,8 +36,8 @@ use Rattle.network_header.specs.declared.header.Promoted.{Promoted}
 use Rattle.network_message.specs.Payload.{allPositive, listed, messagesFrom, restOnlyAt, configuredAt}
 use Rattle.network_message.specs.declared.payload.Sizes.{Sizes}
 use Rattle.network_message.specs.Envelope.{NetworkMessage, networkMessageAt, messagesOf}
-use Rattle.network_message_writer.specs.Payload.{listedRefusal, refusalNumber, payloadRefusal, lengthsShape}
-use Rattle.network_message_writer.specs.Envelope.{GivenDatagram, datagramReadingRefusal, shapeRefusal, datagramRefusal, datagramOf, datagramOutput}
+use Rattle.network_message.specs.WriterPayload.{listedRefusal, refusalNumber, payloadRefusal, lengthsShape}
+use Rattle.network_message.specs.Writer.{GivenDatagram, datagramReadingRefusal, shapeRefusal, datagramRefusal, datagramOf, datagramOutput}
 use Rattle.plain_value.specs.Width.{fixed, widthOf}
 use Rattle.dataset_header.specs.Flags.{Valid, notValid, valid, kindRule, isRaw}
 use Rattle.dataset_header.specs.Header.{messageHeld}
@@ -45,7 +45,7 @@ use Rattle.dataset_header.specs.declared.flags.Encoding.{Encoding}
 use Rattle.dataset_header.specs.declared.flags.Kind.{Kind}
 use Rattle.dataset_fields.specs.Fields.{encodedAt, fieldsRefusal, numberOf, reached, zerosAt}
 use Rattle.dataset_message.specs.Message.{Message, messageAt}
-use Rattle.dataset_message_writer.specs.Message.{GivenMessage, isFielded, isRawData, isKey, givenFields, missingRefusal, leftRefusal, rawRefusal, layoutRefusal, ownGiven, wholeGiven, listsGiven, layoutGiven, bodyRefusal, messageReadingRefusal, readsBack, messageRefusal, encode, messageOutput}
+use Rattle.dataset_message.specs.Writer.{GivenMessage, isFielded, isRawData, isKey, givenFields, missingRefusal, leftRefusal, rawRefusal, layoutRefusal, ownGiven, wholeGiven, listsGiven, layoutGiven, bodyRefusal, messageReadingRefusal, readsBack, messageRefusal, encode, messageOutput}
 use Rattle.round_trip.specs.NetworkMessage.{rewritten}
 use Rattle.rewriting.specs.Same.{messageSame, datagramSame}
 use Rattle.reassembly_laws.specs.Refusing.{oneOf}

@@ -34,8 +34,8 @@ use Rattle.salvage.specs.Whole.{TellsOf}
 use Rattle.salvage.specs.declared.holes.Hole.{Hole}
 use Rattle.salvage.proofs.Told.{salvage-tells}
 use Rattle.salvage.proofs.Tiling.{holes-tile, holes-longest}
-use Rattle.salvage_record.specs.List.{holeEntries, fieldEntries, entriesPut, toldNumbers, SavedPut, savedPut, putSaved, salvageIn, frontEnd, frontBytes, areaBytes}
-use Rattle.salvage_record.specs.declared.Salvaged.{Salvaged}
+use Rattle.partial_record.specs.List.{holeEntries, fieldEntries, entriesPut, toldNumbers, SavedPut, savedPut, putSaved, salvageIn, frontEnd, frontBytes, areaBytes}
+use Rattle.partial_record.specs.declared.salvage_record.Salvaged.{Salvaged}
 use Rattle.uadp_c.specs.Reassembling.{partialOf}
 use Rattle.uadp_c.specs.Salvaging.{salvagedResult, salvageTypes, salvageBy, salvageLent, Salvages}
 use Rattle.acceptance.specs.Salvage.{NoEmptying, HasCovered, Salvaging}

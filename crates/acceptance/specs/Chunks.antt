@@ -8,7 +8,7 @@ use Rattle.wire_writer.specs.declared.writing.Written.{Written}
 use Rattle.publisher_id.specs.PublisherRecord.{publisherOf, recordAt}
 use Rattle.network_header.specs.declared.envelope.Envelope.{Envelope}
 use Rattle.network_header.specs.declared.header.PayloadHeader.{PayloadHeader}
-use Rattle.network_message_writer.specs.Envelope.{GivenDatagram, WroteDatagram}
+use Rattle.network_message.specs.Writer.{GivenDatagram, WroteDatagram}
 use Rattle.round_trip.specs.NetworkMessage.{placesOf}
 use Rattle.chunk.specs.Cutting.{CutWrote}
 use Rattle.chunk.specs.Datagram.{chunkGroupOf}

@@ -13,7 +13,7 @@ use Rattle.wire_writer.specs.Writing.{Output, Writes, writtenOf, bufferAfter, a
 use Rattle.wire_writer.specs.declared.writing.Written.{Written}
 use Rattle.value.specs.Value.{variantAt, dataValueAt, rawAt}
 use Rattle.config_text.specs.Config.{configOf, linesOf}
-use Rattle.network_message.specs.Payload.{placeStepAt}
+use Rattle.network_message.specs.Payload.{placeStepAt, PlaceStepped}
 use Rattle.network_message.specs.Envelope.{networkMessageAt, messagePlaceAt, messageBytes}
 use Rattle.network_message.specs.ProbeMessage.{probeMessageAt}
 use Rattle.network_message.specs.declared.payload.Payload.{Payload}
@@ -22,8 +22,8 @@ use Rattle.dataset_fields.specs.Fields.{nextFieldAt, FieldStepped}
 use Rattle.dataset_fields.specs.declared.fields.Cursor.{Cursor}
 use Rattle.dataset_message.specs.Message.{messageAt, fieldPlaceAt, fieldBytes}
 use Rattle.network_header.specs.declared.envelope.Envelope.{Envelope}
-use Rattle.network_message_writer.specs.Envelope as N
-use Rattle.dataset_message_writer.specs.Message as M
+use Rattle.network_message.specs.Writer as N
+use Rattle.dataset_message.specs.Writer as M
 use Rattle.rewriting.specs.Same.{messageSame, datagramSame}
 use Rattle.probe.specs.Items.{ItemStepped, itemStepAt}
 use Rattle.probe.specs.Put.{probeOutput}
@@ -41,12 +41,11 @@ use Rattle.reassembly.specs.Machine.Reply.{refused as refusedBy}
 use Rattle.reassembly.specs.Calls.{answers, leaves}
 use Rattle.reassembly_laws.specs.Refusing.{oneOf}
 use Rattle.records.specs.Result.{Filling, resultIn, filledIn}
-use Rattle.network_message.specs.Payload.{PlaceStepped}
 use Rattle.wire.specs.declared.optional.Optional16.{Optional16}
 use Rattle.salvage.specs.Front.{openAt, nextShown}
 use Rattle.salvage.specs.declared.front.Opening.{Opening}
 use Rattle.salvage.specs.declared.front.FieldShown.{FieldShown}
-use Rattle.salvage_record.specs.declared.Salvaged.{Salvaged}
+use Rattle.partial_record.specs.declared.salvage_record.Salvaged.{Salvaged}
 use Rattle.uadp_c.specs.Cutting.{cutResult}
 use Rattle.uadp_c.specs.Fields.{stepResult, headAfter, fieldAfter}
 use Rattle.uadp_c.specs.Messages.{messageResult, envelopeAfter, placeAfter}

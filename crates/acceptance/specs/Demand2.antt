@@ -25,12 +25,12 @@ use Rattle.probe.specs.Put.{listIn}
 use Rattle.network_message.specs.Payload.{OfMessages}
 use Rattle.network_message.specs.WriterId.{writerIdOf}
 use Rattle.network_message.specs.Envelope.{NetworkMessage, networkMessageAt, messagePlaceAt, messageBytes}
-use Rattle.network_message_writer.specs.Envelope as N
+use Rattle.network_message.specs.Writer as N
 use Rattle.dataset_header.specs.Flags.{valid}
 use Rattle.dataset_header.specs.Header as message
 use Rattle.dataset_fields.specs.Fields.{numberOf}
 use Rattle.dataset_message.specs.Message.{Message, messageAt}
-use Rattle.dataset_message_writer.specs.Message as M
+use Rattle.dataset_message.specs.Writer as M
 use Rattle.round_trip.specs.NetworkMessage as network
 use Rattle.round_trip.specs.DataSetMessage.{MessageBack, PartsAgree, ReadingRefuses, Tellable}
 use Rattle.rewriting.specs.Same.{RewroteDatagram, RewroteMessage}

@@ -11,7 +11,7 @@ use Rattle.probe.specs.declared.body.Probe.{Probe}
 use Rattle.probe.specs.Body.{probeBodyAt}
 use Rattle.probe.specs.Put.{FitsProbe, listIn, probeOutput}
 use Rattle.network_message.specs.ProbeMessage.{ProbeMessage, probeMessageAt}
-use Rattle.network_message_writer.specs.Envelope.{GivenDatagram}
+use Rattle.network_message.specs.Writer.{GivenDatagram}
 use Rattle.round_trip.specs.NetworkMessage.{placesOf}
 
 -- the contract of `probe::put::write`, of the buffer before and after and its answer

@@ -12,7 +12,7 @@ use Rattle.reassembly.specs.Machine.Call.{Empty, Take, Combine, Ask, HandOut}
 use Rattle.reassembly.specs.Calls.{final}
 use Rattle.salvage.specs.Tiles.{inHoles, Longest}
 use Rattle.salvage.specs.Whole.{TellsOf}
-use Rattle.salvage_record.specs.List.{holesIn, salvageIn}
+use Rattle.partial_record.specs.List.{holesIn, salvageIn}
 use Rattle.uadp_c.specs.Salvaging.{salvageLent, Salvages}
 
 -- a list of calls in which nothing is emptied

@@ -18,7 +18,7 @@ use Rattle.dataset_fields.specs.Fields.{nextFieldAt, cursorBefore}
 use Rattle.dataset_fields.specs.declared.fields.Cursor.{Cursor}
 use Rattle.dataset_fields.specs.declared.fields.Field.{Field}
 use Rattle.dataset_message.specs.Message.{Message, messageAt, fieldPlaceAt}
-use Rattle.dataset_message_writer.specs.Message.{GivenMessage, WroteMessage, messageReadingRefusal, bodyAgrees, encode}
+use Rattle.dataset_message.specs.Writer.{GivenMessage, WroteMessage, messageReadingRefusal, bodyAgrees, encode}
 use Rattle.round_trip.specs.DataSetMessage.{MessageBack, fieldsRead}
 use Rattle.chunk.specs.Payload.{chunkPayloadAt}
 use Rattle.chunk.specs.Cutting.{cutRule, cutData, chunkBytes, CutWrote}

@@ -1,4 +1,6 @@
-// The records of an envelope and of a message's place.
+// The records of an envelope and of a message's place; those of a probe stand in their own module.
+pub mod probe_record;
+
 use network_header::envelope::Envelope;
 use network_header::envelope::Places;
 use network_header::group::GroupFields;

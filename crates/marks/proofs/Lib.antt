@@ -4,4 +4,4 @@ pub mod MarkLaws
 pub mod OffsetLaws
 pub mod LookLaws
 pub mod NextLaws
-mod WholeLaws
+pub mod WholeLaws

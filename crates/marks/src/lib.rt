@@ -1,15 +1,11 @@
 // The marks of a partial: a bit for each byte of the payload area, eight to a byte, the lowest position in the lowest bit, set where the
 // byte is covered. How they are held is known here only.
 mod bits;
+pub mod by_one;
 mod each;
 mod next;
 mod whole;
 
-ghost use mathlib.Core.Path.{_≡_};
-ghost use mathlib.Core.Bool.{cond, not};
-ghost use Prim.Native.Nat.{_+_, _-_, _<_, _≤_};
-ghost use Rattle.marks.specs.Offsets.{countBelow, anyFrom, nextPassing, inRange, inRangeAnd, always};
-ghost use Rattle.marks.specs.Marks.{inUse, marksFor, capacity, marked, cleared, markedBelow, markAll, countMarked, newMarks};
 use bits::bit_of;
 use each::any_each;
 use each::count_each;
@@ -20,6 +16,11 @@ use whole::any_whole;
 use whole::count_whole;
 use whole::fill;
 use whole::mark_whole_marked;
+ghost use mathlib.Core.Path.{_≡_};
+ghost use mathlib.Core.Bool.{cond, not};
+ghost use Prim.Native.Nat.{_+_, _-_, _<_, _≤_};
+ghost use Rattle.marks.specs.Offsets.{countBelow, anyFrom, nextPassing, inRange, inRangeAnd, always};
+ghost use Rattle.marks.specs.Marks.{inUse, marksFor, capacity, marked, cleared, markedBelow, markAll, countMarked, newMarks};
 
 // How many bytes of marks a payload area of n bytes has.
 pub fn marks_for(n: usize) -> usize

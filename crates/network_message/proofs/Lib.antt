@@ -1,3 +1,8 @@
 pub mod Tallies
 pub mod Messages
 pub mod Accepted
+pub mod Sizes
+pub mod Short
+pub mod Again
+pub mod Lent
+pub mod Refused

@@ -2,3 +2,5 @@ pub mod Payload
 pub mod Envelope
 pub mod WriterId
 pub mod ProbeMessage
+pub mod WriterPayload
+pub mod Writer

@@ -1,2 +1,4 @@
 pub mod Chunk
 pub mod Partial
+pub mod List
+pub mod Steps

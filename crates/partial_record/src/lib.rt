@@ -1,6 +1,7 @@
-// The record of a partial: nine numbers, a spare one that holds 0, and 64 bytes for the text of a string PublisherId. The record of a
-// chunk stands in its own module.
+// The record of a partial: nine numbers, a spare one that holds 0, and 64 bytes for the text of a string PublisherId. The records of a
+// chunk and of what is salvaged stand in modules of their own.
 pub mod chunk_record;
+pub mod salvage_record;
 
 use publisher_id::publisher_record::PublisherRecord;
 use publisher_id::publisher_record::code;

@@ -1,6 +1,15 @@
 // Vectors of what is read, by document 01 and Part 6, and of each refusal at each place. Standard input has a line for each vector, below
 // a heading that names the subject; what a line shows of itself is printed with the answer. The module of each subject says what its
 // lines are.
+mod asked;
+mod configurations;
+mod dataset_messages;
+mod network_messages;
+mod sequence_numbers;
+mod texts;
+mod told;
+mod values;
+
 use libc::STDIN_FILENO;
 use vector_lines::bytes::word_bytes;
 use vector_lines::lines::after;
@@ -11,15 +20,6 @@ use vector_lines::lines::word;
 use vector_lines::print::newline;
 use vector_lines::print::put;
 use wire::part::part;
-
-mod asked;
-mod configurations;
-mod dataset_messages;
-mod network_messages;
-mod parts;
-mod sequence_numbers;
-mod texts;
-mod values;
 
 fn main() {
     let mut text = io::large_buffer();
@@ -56,7 +56,7 @@ fn vector(subject: u8, line: &[u8], bytes: &[u8]) {
         b's' => sequence_numbers::vector(line),
         b't' => texts::vector(line, bytes),
         b'v' => values::vector(line, bytes),
-        b'p' => parts::vector(line, bytes),
+        b'p' => crate::told::vector(line, bytes),
         b'n' => network_messages::vector(line, bytes),
         b'd' => dataset_messages::vector(line, bytes),
         b'a' => asked::vector(line, bytes),

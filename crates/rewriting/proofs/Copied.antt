@@ -22,15 +22,15 @@ use Rattle.publisher_id.proofs.publisher.PublisherId as publisher
 use Rattle.publisher_id.specs.declared.publisher.PublisherId.{PublisherId}
 use Rattle.publisher_id.specs.Publisher.{publisherOn}
 use Rattle.network_message.specs.Envelope.{NetworkMessage, networkMessageAt}
-use Rattle.network_message_writer.specs.Envelope.{againOf, datagramAgain}
+use Rattle.network_message.specs.Writer.{againOf, datagramAgain}
 use Rattle.network_header.specs.Envelope as envelope
-use Rattle.network_message_writer.proofs.Again.{accepted-short}
+use Rattle.network_message.proofs.Again.{accepted-short}
 use Rattle.dataset_header.specs.Flags.{valid}
 use Rattle.dataset_header.specs.Header.{messagePicosecondsPlace, messageHeld}
 use Rattle.dataset_header.proofs.HeaderTrip.{header-back}
 use Rattle.dataset_message.specs.Message.{Message, messageAt}
 use Rattle.dataset_message.proofs.Agreement.{header-of}
-use Rattle.dataset_message_writer.specs.Rewrite.{whereValid}
+use Rattle.dataset_message.specs.Rewrite.{whereValid}
 use Rattle.round_trip.specs.NetworkMessage.{rewritten}
 use Rattle.rewriting.specs.Same.{messageSame, datagramSame}
 use Rattle.round_trip.proofs.NetworkMessageRewritten as datagram

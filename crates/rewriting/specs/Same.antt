@@ -7,7 +7,7 @@ use Rattle.wire_writer.specs.Writing.{Output, writing, afterReading, Writes}
 use Rattle.wire_writer.specs.declared.writing.Written.{Written}
 use Rattle.dataset_header.specs.Header.{messageHeld}
 use Rattle.dataset_message.specs.Message.{messageAt}
-use Rattle.dataset_message_writer.specs.Rewrite.{whereValid}
+use Rattle.dataset_message.specs.Rewrite.{whereValid}
 use Rattle.network_message.specs.Envelope.{networkMessageAt}
 use Rattle.round_trip.specs.NetworkMessage.{rewritten}
 

@@ -4,7 +4,7 @@
 use dataset_header::header::picoseconds_place;
 use dataset_message::message::MessageRead;
 use network_message::envelope::NetworkMessageRead;
-use network_message_writer::envelope::rewrite;
+use network_message::writer::rewrite;
 use publisher_id::publisher::PublisherId;
 use wire::constants::DISAGREE;
 use wire::optional::Optional16;

@@ -23,9 +23,9 @@ use Rattle.dataset_fields.specs.Fields.{encodedAt, fieldAt, fieldsAt, paddingAt
 use Rattle.dataset_message.specs.Message.{countedAt, countAt, messageAt, fieldPlaceAt}
 use Rattle.dataset_fields.proofs.Inside.{field-inside}
 use Rattle.wire_writer.specs.declared.writing.Written.{Written}
-use Rattle.dataset_message_writer.specs.Message.{GivenMessage, FitsGiven, messageOutput, hasFields, isKey, isFielded, isRawData, givenFields, countBytes, countAgrees, encode, messageRefusal}
+use Rattle.dataset_message.specs.Writer.{GivenMessage, FitsGiven, messageOutput, hasFields, isKey, isFielded, isRawData, givenFields, countBytes, countAgrees, encode, messageRefusal}
 use Rattle.dataset_fields.proofs.Judging.{length-values}
-use Rattle.dataset_message_writer.proofs.Whole.{Accepted, accepted}
+use Rattle.dataset_message.proofs.Whole.{Accepted, accepted}
 use Rattle.round_trip.specs.DataSetMessage.{firstOf, endOf, messageWritten, FieldBack, MessageBack}
 use Rattle.wire_writer.proofs.Answering.{reported}
 use Rattle.dataset_fields.proofs.FieldsTrip.{whole-alone, fields-is, nth-is, zeros-is}

@@ -20,7 +20,7 @@ use Rattle.dataset_header.specs.Header.{timesBytes, versionsBytes}
 use Rattle.dataset_header.proofs.HeaderTrip.{header-kept}
 use Rattle.dataset_message.specs.Message.{Message, messageAt}
 use Rattle.dataset_message.proofs.Agreement.{header-of}
-use Rattle.dataset_message_writer.specs.Message.{GivenMessage, encode}
+use Rattle.dataset_message.specs.Writer.{GivenMessage, encode}
 use Rattle.round_trip.specs.DataSetMessage.{ReadingRefuses}
 use Rattle.dataset_header.proofs.FlagsTrip.{flags1-bits, flags2-bits, encoding-rule, kind-rule-is}
 use Rattle.round_trip.proofs.DataSetMessage.{no}

@@ -28,8 +28,8 @@ use Rattle.dataset_fields.proofs.Laying.{values-whole, length-zeros}
 use Rattle.dataset_fields.proofs.Walks.{padding-step, padding-stop}
 use Rattle.dataset_fields.proofs.FieldsTrip.{fields-is}
 use Rattle.dataset_message.specs.Message.{Message, countAt, bodyAt, messageAt}
-use Rattle.dataset_message_writer.specs.Message.{GivenMessage, hasFields, isKey, isFielded, isRawData, givenFields, encode, missingRefusal, leftRefusal, rawRefusal, ownGiven, wholeGiven, listsGiven, layoutGiven, countsGiven, messagePicosecondsTurn, messageReadingRefusal, readsBack, messageRefusal}
-use Rattle.dataset_message_writer.proofs.Whole.{Accepted, acceptable, lists-add, own-none, layout-none, missing-none, missing-short, missing-step, missing-done, none-left, few-fields, many-fields, total-split}
+use Rattle.dataset_message.specs.Writer.{GivenMessage, hasFields, isKey, isFielded, isRawData, givenFields, encode, missingRefusal, leftRefusal, rawRefusal, ownGiven, wholeGiven, listsGiven, layoutGiven, countsGiven, messagePicosecondsTurn, messageReadingRefusal, readsBack, messageRefusal}
+use Rattle.dataset_message.proofs.Whole.{Accepted, acceptable, lists-add, own-none, layout-none, missing-none, missing-short, missing-step, missing-done, none-left, few-fields, many-fields, total-split}
 use Rattle.round_trip.specs.DataSetMessage.{PartsAgree, ReadingRefuses}
 use Rattle.round_trip.proofs.DataSetMessage.{no, read-written}
 use Rattle.round_trip.proofs.DataSetMessagePlaces.{fieldsPart, countPart, header-read}

@@ -26,9 +26,9 @@ use Rattle.dataset_header.specs.Flags.{Valid, notValid, valid, isDelta, isRaw, 
 use Rattle.dataset_header.specs.Header.{FitsHeader}
 use Rattle.dataset_fields.specs.Fields.{encodedAt, fieldAt, fieldsAt, paddingAt, endsAt, fieldsWhole, zeros, fieldBytesOf}
 use Rattle.dataset_message.specs.Message.{Message, countedAt, countAt, bodyAt, fieldBytes, nthAt}
-use Rattle.dataset_message_writer.specs.Message.{GivenMessage, hasFields, isKey, isFielded, isRawData, givenFields, countBytes, countAgrees, wholeGiven, listsGiven, countsGiven, bodyRefusal, bodyAgrees, messageReadingRefusal, messageRefusal, encode}
+use Rattle.dataset_message.specs.Writer.{GivenMessage, hasFields, isKey, isFielded, isRawData, givenFields, countBytes, countAgrees, wholeGiven, listsGiven, countsGiven, bodyRefusal, bodyAgrees, messageReadingRefusal, messageRefusal, encode}
 use Rattle.dataset_fields.proofs.Judging.{length-values}
-use Rattle.dataset_message_writer.proofs.Whole.{accepted, acceptable, lists-agree, lists-add, count-bytes}
+use Rattle.dataset_message.proofs.Whole.{accepted, acceptable, lists-agree, lists-add, count-bytes}
 use Rattle.round_trip.specs.DataSetMessage.{firstOf, endOf, messageWritten, MessageBack}
 use Rattle.dataset_fields.proofs.FieldsTrip.{field-alone}
 use Rattle.wire_writer.specs.Fits.{Numbers}

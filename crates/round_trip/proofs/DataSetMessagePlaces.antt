@@ -12,7 +12,7 @@ use Rattle.dataset_header.specs.Flags.{valid, isDelta, kindRule}
 use Rattle.dataset_header.specs.Header.{messageHeaderAt, messageHeaderBytes, FitsHeader}
 use Rattle.dataset_fields.specs.Fields.{fieldsBytes, zeros}
 use Rattle.dataset_fields.proofs.Laying.{length-zeros}
-use Rattle.dataset_message_writer.specs.Message.{GivenMessage, isFielded, isRawData, givenFields, countBytes, encode}
+use Rattle.dataset_message.specs.Writer.{GivenMessage, isFielded, isRawData, givenFields, countBytes, encode}
 use Rattle.dataset_header.proofs.HeaderTrip.{header-is}
 
 module _ (g : GivenMessage) where

@@ -25,7 +25,7 @@ use Rattle.dataset_header.specs.Flags.{isDelta, kindRule}
 use Rattle.dataset_header.specs.Header.{FitsHeader}
 use Rattle.dataset_fields.specs.Fields.{encodedAt, fieldsAt, fieldsRefusal, reached, indexBytes, fieldsBytes, zeros}
 use Rattle.dataset_message.specs.Message.{countAt, messageAt}
-use Rattle.dataset_message_writer.specs.Message.{GivenMessage, isKey, isFielded, isRawData, givenFields, countBytes, ownGiven, wholeGiven, listsGiven, layoutGiven, bodyRefusal, messagePicosecondsTurn, messageReadingRefusal, readsBack, encode, messageOutput}
+use Rattle.dataset_message.specs.Writer.{GivenMessage, isKey, isFielded, isRawData, givenFields, countBytes, ownGiven, wholeGiven, listsGiven, layoutGiven, bodyRefusal, messagePicosecondsTurn, messageReadingRefusal, readsBack, encode, messageOutput}
 use Rattle.dataset_fields.proofs.Judging.{encoded-either, encoded-refused, length-values}
 use Rattle.dataset_fields.proofs.FieldsTrip.{field-is, index-is}
 use Rattle.round_trip.specs.DataSetMessage.{plainly, Tellable, PartsAgree, ReadingRefuses, fieldsCounted}

@@ -14,7 +14,7 @@ use Rattle.plain_value.proofs.Widths.{positive}
 use Rattle.dataset_message.proofs.Agreement.{message-read}
 use Rattle.dataset_fields.specs.declared.fields.Field.{Field}
 use Rattle.dataset_header.specs.declared.flags.Encoding.{Encoding}
-use Rattle.dataset_message_writer.specs.Rewrite.{again, whereValid, messageAgain}
+use Rattle.dataset_message.specs.Rewrite.{again, whereValid, messageAgain}
 use Rattle.wire.specs.Answer.{got, Answer, andThen}
 use Rattle.wire.proofs.Reading.{invert, got-value, got-next, not-got}
 use Rattle.wire_writer.specs.Writing.{Writes, writing, unless, afterReading}
@@ -27,8 +27,8 @@ use Rattle.dataset_header.specs.Flags.{Valid, notValid, valid, isDelta, isRaw}
 use Rattle.dataset_header.specs.Header.{messageHeaderAt, messageHeaderBytes, messagePicosecondsPlace, messageHeld}
 use Rattle.dataset_fields.specs.Fields.{fieldsAt, paddingAt, fieldAt, valuesOf, fieldsBytes, zeros, valuesJoined, lengthsOf, andField, walked}
 use Rattle.dataset_message.specs.Message.{Message, countedAt, countAt, endAt, bodyAt, afterHeader, messageAt, fieldPlaceAt}
-use Rattle.dataset_message_writer.specs.Message.{GivenMessage, hasFields, isKey, isFielded, isRawData, givenFields, countBytes, countAgrees, wholeGiven, countsGiven, messageRefusal, encode, messageOutput}
-use Rattle.dataset_message_writer.proofs.Whole.{acceptable}
+use Rattle.dataset_message.specs.Writer.{GivenMessage, hasFields, isKey, isFielded, isRawData, givenFields, countBytes, countAgrees, wholeGiven, countsGiven, messageRefusal, encode, messageOutput}
+use Rattle.dataset_message.proofs.Whole.{acceptable}
 use Rattle.round_trip.specs.DataSetMessage.{fieldsRead, takenAgain, Rewritten}
 use Rattle.dataset_header.proofs.HeaderTrip.{HeaderBack, header-back}
 use Rattle.dataset_fields.proofs.FieldsTrip.{indicesFor, FieldsTaken, fields-back, zeros-back}

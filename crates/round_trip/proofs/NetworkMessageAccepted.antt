@@ -31,8 +31,8 @@ use Rattle.wire_writer.proofs.Trip.{At, le-at}
 use Rattle.wire_writer.proofs.Back.{run-back, map-back, picoseconds-kept}
 use Rattle.publisher_id.specs.Publisher.{publisherRefusal, publisherShape, bytesBefore, textOf}
 use Rattle.network_header.specs.Group.{groupRefusal}
-use Rattle.network_message_writer.specs.Payload.{listBytes, refusalNumber, payloadRefusal, lengthsShape}
-use Rattle.network_message_writer.specs.Envelope.{datagramOf, datagramRefusal, againOf}
+use Rattle.network_message.specs.WriterPayload.{listBytes, refusalNumber, payloadRefusal, lengthsShape}
+use Rattle.network_message.specs.Writer.{datagramOf, datagramRefusal, againOf}
 use Rattle.round_trip.specs.NetworkMessage.{rewritten, AsManyLengths, numbersBytes, idsGiven, lengthsGiven, messagesGiven, givenOf}
 use Rattle.network_header.proofs.FlagsBack.{flags-back}
 use Rattle.network_header.proofs.Kept.{flags-kept, publisher-kept, group-kept, promoted-kept, HeaderKept, payload-header-kept}

@@ -27,9 +27,9 @@ use Rattle.publisher_id.specs.Publisher.{publisherBytes, publisherShape, bytesB
 use Rattle.network_header.specs.Group.{groupBytes}
 use Rattle.network_header.specs.Header.{classBytes, payloadHeaderBytes, promotedBytes, idsShape, promotedShape, idsOf, promotedOf}
 use Rattle.network_header.specs.Numbers.{sameNumbers}
-use Rattle.network_message_writer.specs.Payload.{listBytes}
-use Rattle.network_message_writer.specs.Envelope.{GivenDatagram, envelopeBytes, datagramOf, datagramRefusal}
-use Rattle.network_message_writer.proofs.Short.{zeros, unused-none, same-length}
+use Rattle.network_message.specs.WriterPayload.{listBytes}
+use Rattle.network_message.specs.Writer.{GivenDatagram, envelopeBytes, datagramOf, datagramRefusal}
+use Rattle.network_message.proofs.Short.{zeros, unused-none, same-length}
 use Rattle.network_header.proofs.Sizes.{ids-counted}
 use Rattle.round_trip.specs.NetworkMessage.{placesOf}
 use Rattle.round_trip.proofs.NetworkMessagePayload.{le-moved}

@@ -20,8 +20,8 @@ use Rattle.network_message.proofs.Messages.{Tiles}
 use Rattle.network_message.proofs.Accepted.{length-listed, listed-at, positive-at}
 use Rattle.wire_writer.proofs.Refusals.{held}
 use Rattle.wire_writer.specs.Writing.{unused}
-use Rattle.network_message_writer.specs.Payload.{listedRefusal, listBytes, refusalNumber, payloadRefusal, lengthsShape}
-use Rattle.network_message_writer.specs.Envelope.{GivenDatagram}
+use Rattle.network_message.specs.WriterPayload.{listedRefusal, listBytes, refusalNumber, payloadRefusal, lengthsShape}
+use Rattle.network_message.specs.Writer.{GivenDatagram}
 use Rattle.round_trip.specs.NetworkMessage.{payloadFor, givenLengths}
 use Rattle.round_trip.proofs.NetworkMessagePayload.{Counted, unchunked, listed-at-start, Listed, listed-facts, some-message, Configured, absent-facts}
 

@@ -16,12 +16,12 @@ use Rattle.network_header.specs.declared.header.PayloadHeader.{PayloadHeader}
 use Rattle.network_message.specs.declared.payload.Sizes.{Sizes}
 use Rattle.network_message.specs.Payload.{allPositive, listed, messagesFrom, restOnlyAt, listedAt, configuredAt, payloadAt}
 use Rattle.network_header.specs.Numbers.{configuredSizes}
-use Rattle.network_message_writer.specs.Payload.{listBytes, refusalNumber, payloadRefusal, listedRefusal}
+use Rattle.network_message.specs.WriterPayload.{listBytes, refusalNumber, payloadRefusal, listedRefusal}
 use Rattle.wire_writer.specs.Writing.{unused}
 use Rattle.wire_writer.proofs.Refusals.{passed}
 use Rattle.network_header.specs.Header.{countRefusal, idsShape}
 use Rattle.network_header.proofs.Sizes.{ids-counted}
-use Rattle.network_message_writer.proofs.Short.{unused-none}
+use Rattle.network_message.proofs.Short.{unused-none}
 use Rattle.round_trip.specs.NetworkMessage.{AsManyIds, payloadFor}
 use Rattle.round_trip.proofs.ProbePayload.{probe-is}
 

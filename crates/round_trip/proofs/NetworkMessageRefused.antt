@@ -31,8 +31,8 @@ use Rattle.wire_writer.specs.Writing.{orElse, num, needed, byteBytes, on16, on3
 use Rattle.wire_writer.proofs.Trip.{At, Reads, nothing, first, second, fits-at, le-at, item-is, rule-kept, optional16-is, optional32-is, optionalI64-is, picoseconds-is}
 use Rattle.wire_writer.proofs.Refusals.{or-case, no, Refuses, broken, number-broken}
 use Rattle.wire_writer.proofs.Bits.{num-bound, needed-bound, flag-is}
-use Rattle.network_message_writer.specs.Payload.{listBytes, refusalNumber, payloadRefusal, listedRefusal}
-use Rattle.network_message_writer.specs.Envelope.{GivenDatagram, envelopeBytes, datagramOf, datagramReadingRefusal, picosecondsTurn}
+use Rattle.network_message.specs.WriterPayload.{listBytes, refusalNumber, payloadRefusal, listedRefusal}
+use Rattle.network_message.specs.Writer.{GivenDatagram, envelopeBytes, datagramOf, datagramReadingRefusal, picosecondsTurn}
 use Rattle.round_trip.specs.NetworkMessage.{AsManyLengths, AsManyIds, CountsAgree}
 use Rattle.network_header.specs.Envelope.{FitsEnvelope}
 use Rattle.network_header.proofs.FlagsTrip.{byte-bits, extended-bits, flags-are}

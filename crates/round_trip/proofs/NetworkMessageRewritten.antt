@@ -33,7 +33,7 @@ use Rattle.network_message.specs.Payload.{payloadAt}
 use Rattle.network_message.specs.Envelope.{Header, NetworkMessage, identityAt, timesAt, messagesOf, envelopeAt, envelopeBodyAt, networkMessageAt}
 use Rattle.wire_writer.specs.Writing.{optional16Bytes, optionalI64Bytes, picosecondsRefusal, picosecondsHeld}
 use Rattle.wire_writer.proofs.Back.{Back, PicosecondsBack, join, end-fits, map-back, optionalI64-back, picoseconds-back, picoseconds-kept, held-between, held-stored, held-length}
-use Rattle.network_message_writer.specs.Envelope.{envelopeBytes, againOf}
+use Rattle.network_message.specs.Writer.{envelopeBytes, againOf}
 use Rattle.round_trip.specs.NetworkMessage.{typeCleared, rewritten}
 use Rattle.round_trip.proofs.RewrittenBytes.{rewrittenFlags, flags-cleared, cleared-shorter}
 use Rattle.network_header.proofs.FlagsBack.{flags-back}

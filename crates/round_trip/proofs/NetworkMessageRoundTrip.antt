@@ -1,5 +1,5 @@
 -- The round trips of whole NetworkMessages, over the definitions that the contracts of `network_message::envelope` and
--- `network_message_writer::envelope` cite.
+-- `network_message::envelope` cite.
 -- Assumes nothing.
 use mathlib.Core.Path.{_≡_, refl, ap, sym, subst, _∙_}
 use mathlib.Core.Bool.{Bool, true, false, _&&_}
@@ -22,9 +22,9 @@ use Rattle.network_header.specs.Flags.{timesRefusal, probeRefusal}
 use Rattle.network_header.specs.Group.{groupRefusal}
 use Rattle.network_header.specs.Header.{countRefusal, idsShape, promotedShape, probeOn, promotedOn}
 use Rattle.network_header.specs.declared.header.PayloadHeader.{PayloadHeader}
-use Rattle.network_message_writer.specs.Payload.{listBytes, lengthsShape}
-use Rattle.network_message_writer.proofs.Again.{accepted-short}
-use Rattle.network_message_writer.specs.Envelope.{GivenDatagram, envelopeBytes, datagramOf, beforePicoseconds, picosecondsTurn, datagramReadingRefusal, shapeRefusal, datagramRefusal, datagramOutput}
+use Rattle.network_message.specs.WriterPayload.{listBytes, lengthsShape}
+use Rattle.network_message.proofs.Again.{accepted-short}
+use Rattle.network_message.specs.Writer.{GivenDatagram, envelopeBytes, datagramOf, beforePicoseconds, picosecondsTurn, datagramReadingRefusal, shapeRefusal, datagramRefusal, datagramOutput}
 use Rattle.round_trip.specs.NetworkMessage.{payloadFor, CountsAgree, PartsAgree, ReadsBack}
 use Rattle.network_header.specs.Envelope.{FitsEnvelope}
 use Rattle.round_trip.proofs.NetworkMessagePayload.{as-many-ids}

@@ -24,9 +24,9 @@ use Rattle.network_header.specs.Flags.{flagsFor, flagBytes}
 use Rattle.publisher_id.specs.Publisher.{idTypeOf, publisherBytes}
 use Rattle.network_header.specs.Group.{groupBytes}
 use Rattle.network_header.specs.Header.{classBytes, payloadHeaderBytes, promotedBytes}
-use Rattle.network_message_writer.specs.Payload.{listBytes}
-use Rattle.network_message_writer.specs.Envelope.{GivenDatagram, envelopeBytes, datagramOf, datagramRefusal}
-use Rattle.network_message_writer.proofs.Short.{zeros}
+use Rattle.network_message.specs.WriterPayload.{listBytes}
+use Rattle.network_message.specs.Writer.{GivenDatagram, envelopeBytes, datagramOf, datagramRefusal}
+use Rattle.network_message.proofs.Short.{zeros}
 use Rattle.round_trip.specs.NetworkMessage.{placesOf, payloadFor, writtenMessage, givenLengths, messageGiven, placeGiven}
 use Rattle.network_header.specs.Envelope.{FitsEnvelope}
 use Rattle.publisher_id.proofs.PublisherTrip.{publisher-is}

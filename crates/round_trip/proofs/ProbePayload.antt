@@ -19,7 +19,7 @@ use Rattle.network_header.specs.Header.{payloadHeaderOn, probeOn}
 use Rattle.network_message.specs.declared.payload.Payload.{Payload}
 use Rattle.network_message.specs.declared.payload.Sizes.{Sizes}
 use Rattle.network_message.specs.Payload.{messagesFrom, payloadAt}
-use Rattle.network_message_writer.specs.Payload.{refusalNumber}
+use Rattle.network_message.specs.WriterPayload.{refusalNumber}
 
 -- a refused body: its number is not 0, and it stands within the slice
 pub body-refused : (s : List ℕ) (at : ℕ) {n place : ℕ} → at ≤ length s → probeBodyAt s at ≡ refused n place → (1 ≤ n) × (at ≤ place) × (place ≤ length s)

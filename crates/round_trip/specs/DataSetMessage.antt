@@ -13,8 +13,8 @@ use Rattle.dataset_header.specs.Flags.{valid, isDelta}
 use Rattle.dataset_fields.specs.Fields.{encodedAt, fieldsBytes, walked, valuesJoined, lengthsOf, indicesOf}
 use Rattle.dataset_message.specs.Message.{Message, messageAt, fieldPlaceAt, fieldBytes}
 use Rattle.dataset_header.specs.Header.{messageHeaderBytes, messageHeld}
-use Rattle.dataset_message_writer.specs.Message.{GivenMessage, givenMessage, isKey, isFielded, isRawData, givenFields, countBytes, encode, wholeGiven, listsGiven, messageRefusal}
-use Rattle.dataset_message_writer.specs.Rewrite.{again}
+use Rattle.dataset_message.specs.Writer.{GivenMessage, givenMessage, isKey, isFielded, isRawData, givenFields, countBytes, encode, wholeGiven, listsGiven, messageRefusal}
+use Rattle.dataset_message.specs.Rewrite.{again}
 
 -- where the first field of a written message starts, and where its last field ends
 

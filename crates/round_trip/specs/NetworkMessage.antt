@@ -25,7 +25,7 @@ use Rattle.network_message.specs.Envelope.{NetworkMessage, networkMessageAt, me
 use Rattle.publisher_id.specs.Publisher.{publisherBytes, bytesBefore, textOf}
 use Rattle.network_header.specs.Group.{groupBytes}
 use Rattle.network_header.specs.Header.{classBytes, payloadHeaderBytes, promotedOf}
-use Rattle.network_message_writer.specs.Envelope.{GivenDatagram, envelopeBytes, shapeRefusal}
+use Rattle.network_message.specs.Writer.{GivenDatagram, envelopeBytes, shapeRefusal}
 
 -- where the variable parts of a written envelope end
 abbrev pub placesOf : GivenDatagram → Envelope → Places

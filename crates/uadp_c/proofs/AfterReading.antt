@@ -16,8 +16,8 @@ use Rattle.network_header.specs.declared.header.Promoted.{Promoted}
 use Rattle.network_header.specs.declared.envelope.Envelope.{Envelope}
 use Rattle.network_header.specs.Numbers.{configuredSizes, sameNumbers}
 use Rattle.network_header.specs.Header.{countShape, idsShape, promotedShape}
-use Rattle.network_message_writer.specs.Payload.{lengthsShape}
-use Rattle.network_message_writer.specs.Envelope.{GivenDatagram, datagramOf, datagramReadingRefusal, shapeRefusal, datagramOutput}
+use Rattle.network_message.specs.WriterPayload.{lengthsShape}
+use Rattle.network_message.specs.Writer.{GivenDatagram, datagramOf, datagramReadingRefusal, shapeRefusal, datagramOutput}
 use Rattle.uadp_c.specs.Writing.{fitting}
 
 -- a refusal, if it is one, is by 6

@@ -19,7 +19,7 @@ use Rattle.dataset_message.specs.Message.{Message, messageAt, fieldPlaceAt}
 use Rattle.dataset_fields.specs.declared.fields.Field.{Field}
 use Rattle.records.specs.Result.{resultOf, Filling, resultIn, filledIn}
 use Rattle.records.specs.Writers.{typesFor, configFilling, configBytes}
-use Rattle.network_message_writer.proofs.Lent.{bytes}
+use Rattle.network_message.proofs.Lent.{bytes}
 use Rattle.uadp_c.specs.ByCalls.{HeadRead}
 use Rattle.uadp_c.specs.Fields.{headFilling, HeadReads, fieldFilling}
 

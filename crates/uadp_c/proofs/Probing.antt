@@ -24,9 +24,9 @@ use Rattle.records.specs.Result.{resultOf, resultIn, filledIn}
 use Rattle.records.specs.Sizes.{PROBE_SIZE, ITEM_SIZE}
 use Rattle.records.specs.Writers.{writersIn, sixteen, sizesIn}
 use Rattle.records.proofs.Storing.{bytes-length}
-use Rattle.probe_record.specs.Probe.{probeNumbers, probeIn, informationRefusal, probeFits, itemCursorIn, itemCursorLaid, itemNumbers, ProbeRecordBack}
+use Rattle.envelope_record.specs.Probe.{probeNumbers, probeIn, informationRefusal, probeFits, itemCursorIn, itemCursorLaid, itemNumbers, ProbeRecordBack}
 use Rattle.uadp_c.specs.Writing.{outputResult, fitting}
-use Rattle.network_message_writer.proofs.Lent.{bytes}
+use Rattle.network_message.proofs.Lent.{bytes}
 use Rattle.uadp_c.specs.Probes.{probeFilling, ProbeReads, ProbeRead, itemStep, itemResult, probeAfter, itemAfter, probePut}
 use Rattle.uadp_c.proofs.Filling.{fill-none, fill-done}
 use Rattle.uadp_c.proofs.Wrote.{of-writers}

@@ -14,8 +14,8 @@ use Rattle.reassembly.specs.Record.{partial}
 use Rattle.reassembly.specs.Operations.{progressOf}
 use Rattle.reassembly.specs.declared.record.PartialRecord.{PartialRecord}
 use Rattle.reassembly.specs.declared.verdict.Progress.{Progress}
-use Rattle.salvage_record.specs.List.{SavedPut, savedPut, salvagePut}
-use Rattle.salvage_record.specs.declared.Salvaged.{Salvaged}
+use Rattle.partial_record.specs.List.{SavedPut, savedPut, salvagePut}
+use Rattle.partial_record.specs.declared.salvage_record.Salvaged.{Salvaged}
 use Rattle.uadp_c.specs.Reassembling.{partialOf}
 use Rattle.uadp_c.specs.Salvaging.{salvagedResult, salvageTypes, salvageBy, salvageLent, Salvages}
 

@@ -26,7 +26,7 @@ use Rattle.records.specs.Result.{resultOf, resultIn, filledIn}
 use Rattle.records.proofs.Storing.{bytes-length}
 use Rattle.records.specs.Writers.{writersIn, sixteen, idsIn, sizesIn}
 use Rattle.envelope_record.specs.Envelope.{payloadIn, messagesIn, messagesLaid, payloadHeaderIn, payloadHeaderEnd, placeNumbers, envelopeNumbers, EnvelopeBack}
-use Rattle.network_message_writer.proofs.Lent.{bytes}
+use Rattle.network_message.proofs.Lent.{bytes}
 use Rattle.uadp_c.specs.ByCalls.{EnvelopeRead}
 use Rattle.uadp_c.specs.Messages.{envelopeFilling, EnvelopeReads, messageStep, writerAt, messageResult, envelopeAfter, placeAfter}
 use Rattle.uadp_c.proofs.Filling.{fill-none, fill-done}

@@ -16,7 +16,7 @@ use Rattle.wire_writer.proofs.Refusals.{both-zero}
 use Rattle.dataset_header.specs.Flags.{valid}
 use Rattle.dataset_header.specs.declared.header.Header.{Header}
 use Rattle.dataset_message.specs.Message.{Message, messageAt}
-use Rattle.dataset_message_writer.specs.Message as message
+use Rattle.dataset_message.specs.Writer as message
 use Rattle.network_header.specs.Header.{idsShape}
 use Rattle.dataset_header.specs.Header.{messageHeld}
 use Rattle.network_header.specs.declared.envelope.Envelope.{Envelope}
@@ -24,7 +24,7 @@ use Rattle.network_header.specs.declared.header.PayloadHeader.{PayloadHeader}
 use Rattle.network_header.proofs.Sizes.{ids-counted}
 use Rattle.network_message.specs.Envelope.{NetworkMessage, networkMessageAt}
 use Rattle.network_message.specs.Payload.{listed}
-use Rattle.network_message_writer.specs.Envelope as datagram
+use Rattle.network_message.specs.Writer as datagram
 use Rattle.publisher_id.specs.Publisher.{publisherShape}
 use Rattle.round_trip.specs.NetworkMessage.{rewritten, givenOf}
 use Rattle.round_trip.specs.DataSetMessage.{takenAgain}

@@ -10,8 +10,8 @@ use Rattle.wire_writer.specs.Writing.{answerWritten, Output, writing, refusing,
 use Rattle.wire_writer.specs.declared.writing.Written.{Written}
 use Rattle.dataset_header.specs.declared.header.Header.{Header}
 use Rattle.network_header.specs.declared.envelope.Envelope.{Envelope}
-use Rattle.network_message_writer.specs.Envelope as datagram
-use Rattle.dataset_message_writer.specs.Message as message
+use Rattle.network_message.specs.Writer as datagram
+use Rattle.dataset_message.specs.Writer as message
 use Rattle.walk.specs.Lines.{Writers, writers, listingOf}
 use Rattle.listing.specs.Text.{linesText, textWritten, textAfter, lengthIn}
 use Rattle.listing.specs.declared.whole.TextLength.{TextLength}

@@ -17,8 +17,8 @@ use Rattle.dataset_message.specs.Message.{Message, messageAt, fieldPlaceAt}
 use Rattle.network_message.specs.Envelope.{NetworkMessage, networkMessageAt, messagePlaceAt}
 use Rattle.network_message.specs.WriterId.{writerIdOf}
 use Rattle.network_message.specs.declared.payload.MessagePlace.{MessagePlace}
-use Rattle.network_message_writer.specs.Envelope as datagram
-use Rattle.dataset_message_writer.specs.Message as message
+use Rattle.network_message.specs.Writer as datagram
+use Rattle.dataset_message.specs.Writer as message
 use Rattle.round_trip.specs.NetworkMessage.{rewritten, givenOf}
 use Rattle.round_trip.specs.DataSetMessage.{takenAgain}
 use Rattle.records.specs.Numbers.{numberBytes}

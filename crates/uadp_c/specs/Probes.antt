@@ -17,7 +17,7 @@ use Rattle.records.specs.Numbers.{numberBytes}
 use Rattle.records.specs.Result.{resultOf, Filling, resultIn, filledIn}
 use Rattle.records.specs.Sizes.{ITEM_SIZE, PROBE_SIZE}
 use Rattle.records.specs.Writers.{sizesIn}
-use Rattle.probe_record.specs.Probe.{probeNumbers, probeIn, informationRefusal, probeFits, itemCursorIn, itemCursorLaid, itemNumbers, ProbeRecordBack}
+use Rattle.envelope_record.specs.Probe.{probeNumbers, probeIn, informationRefusal, probeFits, itemCursorIn, itemCursorLaid, itemNumbers, ProbeRecordBack}
 use Rattle.uadp_c.specs.Writing.{fitting}
 
 -- "Value: where the probe starts"

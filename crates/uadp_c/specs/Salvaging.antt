@@ -12,8 +12,8 @@ use Rattle.records.specs.Writers.{typesFor}
 use Rattle.partial_record.specs.Partial.{partialIn}
 use Rattle.reassembly.specs.Operations.{progressOf}
 use Rattle.reassembly.specs.declared.verdict.Progress.{Progress}
-use Rattle.salvage_record.specs.List.{SavedPut, savedPut, salvagePut}
-use Rattle.salvage_record.specs.declared.Salvaged.{Salvaged}
+use Rattle.partial_record.specs.List.{SavedPut, savedPut, salvagePut}
+use Rattle.partial_record.specs.declared.salvage_record.Salvaged.{Salvaged}
 use Rattle.uadp_c.specs.Reassembling.{partialOf}
 
 -- "Value: holes and fields together", or the refusal's number and place

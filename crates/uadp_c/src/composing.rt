@@ -10,8 +10,8 @@ use records::writers::sizes;
 use records::writers::types_for;
 use records::writers::writer_count;
 ghost use mathlib.Core.Path.{_≡_};
-ghost use Rattle.network_message_writer.specs.Envelope as datagram;
-ghost use Rattle.dataset_message_writer.specs.Message as message;
+ghost use Rattle.network_message.specs.Writer as datagram;
+ghost use Rattle.dataset_message.specs.Writer as message;
 ghost use Rattle.wire_writer.specs.Writing.{bufferAfter};
 ghost use Rattle.records.specs.Writers.{idsIn, sizesIn, typesFor};
 ghost use Rattle.records.specs.Items.{isOn};
@@ -43,7 +43,7 @@ pub extern "C" fn uadp_write_message(
     let header = header_in(head);
     let types = types_for(config, writer);
     if !head_fits(head) {
-        let number = dataset_message_writer::message::refusal(
+        let number = dataset_message::writer::refusal(
             header,
             heartbeat != 0,
             values,
@@ -54,7 +54,7 @@ pub extern "C" fn uadp_write_message(
         );
         return not_fitting(number);
     }
-    let written = dataset_message_writer::message::write(
+    let written = dataset_message::writer::write(
         out,
         header,
         heartbeat != 0,
@@ -95,7 +95,7 @@ pub extern "C" fn uadp_write(
     let configured_sizes = first(&size_list, n);
     let configured_ids = first(&id_list, n);
     if !envelope_fits(envelope) {
-        let number = network_message_writer::envelope::refusal(
+        let number = network_message::writer::refusal(
             x,
             text,
             ids,
@@ -107,7 +107,7 @@ pub extern "C" fn uadp_write(
         );
         return not_fitting(number);
     }
-    let written = network_message_writer::envelope::write(
+    let written = network_message::writer::write(
         out,
         x,
         text,

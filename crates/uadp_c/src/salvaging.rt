@@ -1,12 +1,12 @@
 // What is salvaged of a partial that never completes.
 use partial_record::partial_in;
+use partial_record::salvage_record::Salvaged;
+use partial_record::salvage_record::salvage;
 use reassembly::Progress;
 use reassembly::progress;
 use records::result::result;
 use records::sizes::PARTIAL_SIZE;
 use records::writers::types_for;
-use salvage_record::Salvaged;
-use salvage_record::salvage;
 use wire::constants::UNSOUND;
 ghost use mathlib.Core.Path.{_≡_};
 ghost use Rattle.uadp_c.specs.Salvaging.{salvagedResult, salvageLent, Salvages};

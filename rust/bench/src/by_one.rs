@@ -1,4 +1,4 @@
-//! The two ways to count what is marked, of the proved crate `marks_by_one`, which is the benchmark's own.
+//! The two ways to count what is marked, of `marks::by_one`, which is the benchmark's own.
 #![allow(unsafe_code)]
 
 mod raw {

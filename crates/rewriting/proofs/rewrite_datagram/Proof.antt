@@ -1,6 +1,6 @@
 -- `rewriting::rewrite_datagram` meets its contract.
 -- Assumes nothing.
-use Rattle.network_message_writer.proofs.Lent.{bytes}
+use Rattle.network_message.proofs.Lent.{bytes}
 use Rattle.rewriting.proofs.Copied.{publisher-on, place-fits, datagram-copied, datagram-with, datagram-said}
 use Rattle.wire.proofs.Reading.{told}
 use Rattle.wire_writer.proofs.Answering.{reading-refuses}

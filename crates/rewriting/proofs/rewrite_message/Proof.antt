@@ -1,10 +1,10 @@
 -- `rewriting::rewrite_message` meets its contract.
 -- Assumes nothing.
-use Rattle.network_message_writer.proofs.Lent.{bytes}
+use Rattle.network_message.proofs.Lent.{bytes}
 use Rattle.rewriting.proofs.Copied.{message-copied, message-with}
 use Rattle.wire_writer.proofs.Answering.{reading-accepts, reading-refuses}
 use Rattle.dataset_header.specs.Header.{messageHeld}
-use Rattle.dataset_message_writer.specs.Rewrite.{whereValid}
+use Rattle.dataset_message.specs.Rewrite.{whereValid}
 use Rattle.wire.proofs.Reading.{told}
 use Rattle.dataset_message.specs.Message.{answerMessage}
 use denote.Ref.{now}

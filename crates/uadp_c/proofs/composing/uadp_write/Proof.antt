@@ -1,7 +1,7 @@
 -- `uadp_c::composing::uadp_write` meets its contract.
 -- Assumes nothing.
 use Rattle.uadp_c.proofs.Wrote.{of-writers, datagram-output, wrote-fitting, refused-not-fitting}
-use Rattle.network_message_writer.specs.Envelope.{givenDatagram}
+use Rattle.network_message.specs.Writer.{givenDatagram}
 use mathlib.Core.Path.{sym, _∙_}
 use borrow.Author.Tests.{not-true, not-false}
 use denote.Ref.{now}

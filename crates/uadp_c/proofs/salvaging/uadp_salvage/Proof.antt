@@ -11,7 +11,7 @@ use Rattle.partial_record.proofs.partial_in.Reads as partial-in-reads
 use Rattle.reassembly.proofs.progress.Reads as progress-reads
 use Rattle.records.proofs.result.result.Reads as result-reads
 use Rattle.records.proofs.writers.types_for.Reads as types-for-reads
-use Rattle.salvage_record.proofs.salvage.Reads as salvage-reads
+use Rattle.partial_record.proofs.salvage_record.salvage.Reads as salvage-reads
 use Rattle.uadp_c.proofs.salvaging.salvaged_result.Reads as salvaged-result-reads
 
 -- src/salvaging.rt:39:9

@@ -1,5 +1,0 @@
-pub mod Sizes
-pub mod Short
-pub mod Again
-pub mod Lent
-pub mod Refused

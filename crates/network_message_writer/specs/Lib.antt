@@ -1,2 +1,0 @@
-pub mod Payload
-pub mod Envelope
