@@ -14,7 +14,7 @@ use Rattle.wire.specs.declared.Length.{Length}
 use Rattle.plain_value.specs.Width.{among, widthOf, fixed}
 use Rattle.plain_value.specs.Plain.{passing, bytes, string, text, plain, plainValue, plainValues, afterLength}
 use Rattle.value.specs.Value.{measure, taken, variantRule, scalar, elements, arrayOf, array, valueAt, variantAt}
-use Rattle.value.specs.Quick.{units, texts}
+use Rattle.value.specs.Quick.{units, texts, variants}
 use Rattle.value.specs.declared.Shape.{Shape}
 use Rattle.value.proofs.Heads.{pass-found}
 use Rattle.value.proofs.FirstByte.{array-first}
@@ -75,6 +75,16 @@ array-texts t f p (got (Length.Of n) next) s at = rw (p, f) (sym (pass-found (ea
 array-texts t f p (got Length.Negative next) s at = refl
 array-texts t f p (refused n place) s at = refl
 
+-- an array of Variants
+array-variants : (x : Answer Length) (s : List ℕ) (at : ℕ)
+    → andThen (andThen x (λ l next. afterLength (λ z p. got (measure 24 Shape.NullArray) p) (arrayOf (valueAt 99) 24) at l s next)) (λ m last. got tt last)
+    ≡ andThen x (λ l next. afterLength (λ z p. got tt p) (each (valueAt 99 24)) at l s next)
+unfolding elements plain widthOf
+array-variants (got Length.Null next) s at = refl
+array-variants (got (Length.Of n) next) s at = sym (pass-found (each (valueAt 99 24) n s next) (measure 24 (Shape.Array n)))
+array-variants (got Length.Negative next) s at = refl
+array-variants (refused n place) s at = refl
+
 pub first-byte : (s : List ℕ) (at : ℕ) → at < length s → item 1 s at ≡ got (getD s at 0) (at + 1)
 first-byte s at h = let byte : getD s at 0 + 256 * 0 ≡ getD s at 0 = omega arith in rw (here s at h, byte)
 
@@ -86,6 +96,10 @@ module _ (s : List ℕ) (at : ℕ) {next : ℕ} where
   strings-143 : item 1 s at ≡ got 143 next → passing variantAt s at ≡ texts 15 s next
   unfolding valueAt variantRule plain widthOf array
   strings-143 e = rw e (array-texts 15 refl refl (lengthItem s next) s next)
+
+  pub variants-variant : (b : ℕ) → item 1 s at ≡ got b next → b ≡ 152 → passing variantAt s at ≡ variants s next
+  unfolding valueAt variantRule plain widthOf array
+  variants-variant b e q = let first : item 1 s at ≡ got 152 next = e ∙ ap (λ (n : ℕ). got n next) q in rw first (array-variants (lengthItem s next) s next)
 
   pub strings-variant : (b : ℕ) → item 1 s at ≡ got b next → (eqb b 140 || eqb b 143) ≡ true → passing variantAt s at ≡ texts (b % 64) s next
   strings-variant b e q = go (eqb b 140) refl (eqb b 143) refl q

@@ -8,9 +8,9 @@ use lib.ListN.{length, getD}
 use Rattle.plain_value.specs.Width.{widthOf}
 use Rattle.wire.specs.Answer.{Reader, pure, Answer, got, refused, andThen, item, each, _>>_}
 use Rattle.plain_value.specs.Plain.{bytes, byLength, string, text}
-use Rattle.wire.specs.Constants.{BAD_LENGTH}
+use Rattle.wire.specs.Constants.{BAD_LENGTH, VARIANT}
 use Rattle.wire.specs.declared.Length.{Length}
-use Rattle.value.specs.Value.{Measure, measure, typeOf, isArray, dimensioned}
+use Rattle.value.specs.Value.{Measure, measure, typeOf, isArray, dimensioned, INSIDE, valueAt}
 use Rattle.value.specs.declared.Shape.{Shape}
 use Rattle.value.specs.declared.quick.Plain.{Plain}
 use Rattle.value.specs.declared.quick.Two.{Two}
@@ -33,6 +33,10 @@ units w = byLength (pure tt) (λ n. bytes (n * w))
 -- a length, and so many values of type t that are made of Strings
 abbrev pub texts : ℕ → Reader (Unit {0})
 texts t = byLength (pure tt) (each (text t))
+
+-- a length, and so many Variants inside a field's own value
+abbrev pub variants : Reader (Unit {0})
+variants = byLength (pure tt) (each (valueAt INSIDE VARIANT))
 
 -- What the first items of a Variant say of it, where it is known to end at `end`: of an array of type t its length, and of any Variant its
 -- first byte.

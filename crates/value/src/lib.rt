@@ -8,6 +8,7 @@ use crate::quick::described;
 use crate::quick::fixed_end;
 use crate::quick::is_strings;
 use crate::quick::pass_texts;
+use crate::quick::pass_variants;
 use crate::quick::variant_look;
 use head::Head;
 use head::head_at;
@@ -40,6 +41,9 @@ const INSIDE: usize = 99;
 
 // The bits of an array and of dimensions in a Variant's first byte.
 pub(crate) const MATRIX: u8 = 192;
+
+// The first byte of an array of Variants.
+const VARIANTS: u8 = 152;
 
 // A scalar, a null array, an array with its element count, or one with a dimensions list: the count of all its elements, and how many
 // dimensions it has.
@@ -111,6 +115,19 @@ fn pass_value(s: &[u8], at: usize, levels: usize, t: u8) -> Reached
     }
 }
 
+// Passes over a value of type t inside a field's own value. Most are scalars of a fixed type, told by the first byte.
+fn pass_one(s: &[u8], at: usize, t: u8) -> Reached
+    ensures { λ r. ⌜ answerReached r ≡ passing (valueAt INSIDE t) (now (s .entry)) at ⌝ }
+{
+    if t == VARIANT {
+        let end = fixed_end(s, at);
+        if at < end {
+            return Reached::To(end);
+        }
+    }
+    pass_value(&*s, at, INSIDE, t)
+}
+
 // Passes over n values of type t inside a field's own value.
 pub(crate) fn pass_inside(s: &[u8], at: usize, t: u8, n: usize) -> Reached
     ensures { λ r. ⌜ answerReached r ≡ each (valueAt INSIDE t) n (now (s .entry)) at ⌝ }
@@ -118,7 +135,7 @@ pub(crate) fn pass_inside(s: &[u8], at: usize, t: u8, n: usize) -> Reached
     let mut p = at;
     let mut left = n;
     while 0 < left {
-        match pass_value(&*s, p, INSIDE, t) {
+        match pass_one(s, p, t) {
             Reached::To(end) => {
                 p = end;
                 left -= 1;
@@ -131,13 +148,16 @@ pub(crate) fn pass_inside(s: &[u8], at: usize, t: u8, n: usize) -> Reached
     Reached::To(p)
 }
 
-// Passes over a Variant that a look does not tell: an array of Strings by its count, any other by its head.
+// Passes over a Variant that a look does not tell: an array of Strings or of Variants by its count, any other by its head.
 fn pass_other(s: &[u8], at: usize) -> Reached
     ensures { λ r. ⌜ answerReached r ≡ passing variantAt (now (s .entry)) at ⌝ }
 {
     if at < s.len() {
         if is_strings(s[at]) {
             return pass_texts(&*s, at + 1, s[at] % 64);
+        }
+        if s[at] == VARIANTS {
+            return pass_variants(&*s, at + 1);
         }
     }
     pass_value(&*s, at, LEVELS, VARIANT)
@@ -187,6 +207,9 @@ pub(crate) fn measure_other(s: &[u8], at: usize) -> Measured
     }
     if is_strings(b) {
         return told(s, at, pass_texts(&*s, next, b % 64));
+    }
+    if b == VARIANTS {
+        return told(s, at, pass_variants(&*s, next));
     }
     told(s, at, pass_value(&*s, at, LEVELS, VARIANT))
 }

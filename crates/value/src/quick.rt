@@ -3,11 +3,13 @@
 // a matrix of two dimensions among them; a DataValue that holds such a scalar by its mask. A look has no position where it does not tell
 // (plain_value::quick). Their laws are in proofs/FirstByte, FirstItems, Runs and Looks. Worth: a quarter of the time of a scalar; of the
 // look, half of the time of Strings, arrays and DataValues, and a fifth of that of a large matrix; of the null among the sizes, whose
-// table then starts at 0, a seventh of the time of scalars; of an array of Strings without its head, two fifths of the time of short ones.
+// table then starts at 0, a seventh of the time of scalars; of an array of Strings without its head, two fifths of the time of short ones; of
+// one of Variants, with a look at each, nearly half.
 use crate::MATRIX;
 use crate::Measured;
 use crate::measure_data_value;
 use crate::measure_other;
+use crate::pass_inside;
 use plain_value::parts::parts_width;
 use plain_value::plain::texts_at;
 use plain_value::quick::End;
@@ -20,6 +22,7 @@ use wire::Reached;
 use wire::constants::BAD_LENGTH;
 use wire::constants::CUT_SHORT;
 use wire::constants::DATA_VALUE;
+use wire::constants::VARIANT;
 use wire::has;
 use wire::read_length;
 use wire::read8;
@@ -34,7 +37,7 @@ ghost use Rattle.wire.specs.Items.{answerReached};
 ghost use Rattle.plain_value.specs.Width.{widthOf};
 ghost use Rattle.plain_value.specs.Plain.{passing};
 ghost use Rattle.plain_value.specs.Quick.{EndTells};
-ghost use Rattle.value.specs.Quick.{scalarSize, fixedEnd, units, texts, arrayAt, describedAt, textAt, elementsAt, runAt, dimensionedAt, LookTells, MatrixTells};
+ghost use Rattle.value.specs.Quick.{scalarSize, fixedEnd, units, texts, variants, arrayAt, describedAt, textAt, elementsAt, runAt, dimensionedAt, LookTells, MatrixTells};
 ghost use Rattle.value.specs.Value.{INSIDE, matrix, valueAt, variantAt, dataValueAt, answerMeasured};
 
 // How many bytes a Variant has that is a null or a scalar of a fixed type, by its first byte; 0 for any other.
@@ -161,6 +164,18 @@ pub(crate) fn pass_texts(s: &[u8], at: usize, t: u8) -> Reached
     match read_length(s, at) {
         ItemLength::Null(next) => Reached::To(next),
         ItemLength::Of(next, n) => texts_at(&*s, next, t, n),
+        ItemLength::Negative(_) => Reached::Refused(BAD_LENGTH, at),
+        ItemLength::Short => Reached::Refused(CUT_SHORT, at),
+    }
+}
+
+// Passes over the elements of an array of Variants, with their count first.
+pub(crate) fn pass_variants(s: &[u8], at: usize) -> Reached
+    ensures { λ r. ⌜ answerReached r ≡ variants (now (s .entry)) at ⌝ }
+{
+    match read_length(s, at) {
+        ItemLength::Null(next) => Reached::To(next),
+        ItemLength::Of(next, n) => pass_inside(&*s, next, VARIANT, n),
         ItemLength::Negative(_) => Reached::Refused(BAD_LENGTH, at),
         ItemLength::Short => Reached::Refused(CUT_SHORT, at),
     }

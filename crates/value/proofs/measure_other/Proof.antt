@@ -3,7 +3,7 @@
 use Rattle.value.specs.Value.{answerMeasured, valueAt, variantOf, variantRule}
 use Rattle.value.specs.Head.{judged}
 use Rattle.value.proofs.Heads.{told-byte, told-no-byte, variant-short, variant-judged}
-use Rattle.value.proofs.Runs.{strings-variant}
+use Rattle.value.proofs.Runs.{strings-variant, variants-variant}
 use Rattle.value.proofs.FirstItems.{described-is}
 use mathlib.Core.Path.{_≡_, sym, subst, _∙_}
 use Prim.Native.Nat.{ℕ, _+_, _-_}
@@ -44,7 +44,19 @@ told-requires c κs =
 
 told-requires-2 : tie.Need-told-requires-2
 told-requires-2 c κs =
-    let at-if1 = c .before .before .before in
+    let at-if3 = c .before in
+    let at-if1 = at-if3 .before .before .before in
+    let at-b = at-if1 .before .before in
+    let at-read8 = at-b .before .before in
+    let args = at-read8 .before .before .args in
+    let first = told-byte (args .at) (at-read8 .read8 .ensures) (at-b .b .given .1) in (
+      c .pass-variants .ensures ∙ sym (variants-variant (now (args .s)) (args .at) _ first (at-if3 .if3 .taken)),
+      λ end q. described-is (now (args .s)) (args .at) first (omega (arith, at-if1 .if1 .left)) q,
+    )
+
+told-requires-3 : tie.Need-told-requires-3
+told-requires-3 c κs =
+    let at-if1 = c .before .before .before .before in
     let at-b = at-if1 .before .before in
     let at-read8 = at-b .before .before in
     let args = at-read8 .before .before .args in
@@ -66,4 +78,7 @@ measure-other-spec =
     (λ c. search needs)
     (λ c κs. search needs)
     told-requires-2
+    (λ c. search needs)
+    (λ c κs. search needs)
+    told-requires-3
     (λ c. search needs))

@@ -20,20 +20,20 @@ abbrev μ-loop : tie.MeasureT-loop
 loop-again : tie.Need-loop-again Inv-loop μ-loop
 loop-again c =
     let at-end = c .before in
-    let at-pass-value = at-end .before .before in
-    let at-loop-test = at-pass-value .before in
+    let at-pass-one = at-end .before .before in
+    let at-loop-test = at-pass-one .before in
     let at-loop = at-loop-test .before in
     let l = at-loop .loop in
-    l .inv ∙ pass-step (valueAt 99 _) _ (l .left) (l .p) (at-loop-test .loop-test .taken) (sym (told answerReached (at-pass-value .pass-value .ensures) (at-end .end .given .1)))
+    l .inv ∙ pass-step (valueAt 99 _) _ (l .left) (l .p) (at-loop-test .loop-test .taken) (sym (told answerReached (at-pass-one .pass-one .ensures) (at-end .end .given .1)))
 
 returns : tie.Need-returns Inv-loop μ-loop
 returns c =
     let at-number = c .before in
-    let at-pass-value = at-number .before .before in
-    let at-loop-test = at-pass-value .before in
+    let at-pass-one = at-number .before .before in
+    let at-loop-test = at-pass-one .before in
     let at-loop = at-loop-test .before in
     let l = at-loop .loop in
-    sym (l .inv ∙ pass-stop (valueAt 99 _) _ (l .left) (l .p) (at-loop-test .loop-test .taken) (sym (told answerReached (at-pass-value .pass-value .ensures) (at-number .number .given .1))))
+    sym (l .inv ∙ pass-stop (valueAt 99 _) _ (l .left) (l .p) (at-loop-test .loop-test .taken) (sym (told answerReached (at-pass-one .pass-one .ensures) (at-number .number .given .1))))
 
 returns-2 : tie.Need-returns-2 Inv-loop μ-loop
 returns-2 c =
