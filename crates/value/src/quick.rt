@@ -3,8 +3,8 @@
 // a matrix of two dimensions among them; a DataValue that holds such a scalar by its mask. A look has no position where it does not tell
 // (plain_value::quick). Their laws are in proofs/FirstByte, FirstItems, Runs and Looks. Worth: a quarter of the time of a scalar; of the
 // look, half of the time of Strings, arrays and DataValues, and a fifth of that of a large matrix; of the null among the sizes, whose
-// table then starts at 0, a seventh of the time of scalars; of an array of Strings without its head, two fifths of the time of short ones; of
-// one of Variants, with a look at each, nearly half.
+// table then starts at 0, a seventh of the time of scalars; of an array of Strings without its head, two fifths of the time of short
+// ones; of one of Variants, with a look at each, nearly half.
 use crate::MATRIX;
 use crate::Measured;
 use crate::measure_data_value;

@@ -2,7 +2,6 @@ use borrow.Author.Needs.{needs}
 use Rattle.envelope_record.proofs.group_items.Statement.{statement}
 use Rattle.envelope_record.proofs.group_items.Tie as tie
 
--- src/lib.rt:97:1
 returns-2 : tie.Need-returns-2
 returns-2 c = rw (c .before .before .x .given .1) (c .items-of .ensures)
 

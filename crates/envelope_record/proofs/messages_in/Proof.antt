@@ -3,7 +3,6 @@ use borrow.Author.Needs.{needs}
 use Rattle.envelope_record.proofs.messages_in.Statement.{statement}
 use Rattle.envelope_record.proofs.messages_in.Tie as tie
 
--- src/lib.rt:282:1
 returns : tie.Need-returns
 returns c = rw (c .before .number .ensures, c .number2 .ensures) refl
 

@@ -7,28 +7,22 @@ use Rattle.envelope_record.proofs.payload_header_by.Reads as reads
 use Rattle.envelope_record.proofs.payload_header_by.Lts as lts
 use Rattle.records.proofs.items.at_most.Reads as at-most-reads
 
--- src/lib.rt:388:35
 at-most-requires : tie.Need-at-most-requires
 at-most-requires c κs = search needs
 
--- src/lib.rt:388:35
 cast-t5 : tie.Need-cast-t5
 cast-t5 c = search needs
 
--- src/lib.rt:388:9
 returns : tie.Need-returns
 returns c =
     rw (eq-eqb (c .before .before .args .kind) 1 (c .before .if1 .taken), c .at-most .ensures .0) refl
 
--- src/lib.rt:391:37
 at-most-requires-2 : tie.Need-at-most-requires-2
 at-most-requires-2 c κs = search needs
 
--- src/lib.rt:391:37
 cast-t7 : tie.Need-cast-t7
 cast-t7 c = search needs
 
--- src/lib.rt:391:9
 returns-2 : tie.Need-returns-2
 returns-2 c =
     let at-if2 = c .before in
@@ -36,7 +30,6 @@ returns-2 c =
     let args = at-if1 .before .args in
     rw (ne-eqb (args .kind) 1 (at-if1 .if1 .left), eq-eqb (args .kind) 2 (at-if2 .if2 .taken), c .at-most2 .ensures .0) refl
 
--- src/lib.rt:394:9
 returns-3 : tie.Need-returns-3
 returns-3 c =
     let at-if2 = c .before in
@@ -44,7 +37,6 @@ returns-3 c =
     let args = at-if1 .before .args in
     rw (ne-eqb (args .kind) 1 (at-if1 .if1 .left), ne-eqb (args .kind) 2 (at-if2 .if2 .left), eq-eqb (args .kind) 3 (c .if3 .taken)) refl
 
--- src/lib.rt:384:1
 returns-4 : tie.Need-returns-4
 returns-4 c =
     let at-if2 = c .before in

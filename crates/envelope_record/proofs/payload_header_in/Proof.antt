@@ -3,7 +3,6 @@ use borrow.Author.Needs.{needs}
 use Rattle.envelope_record.proofs.payload_header_in.Statement.{statement}
 use Rattle.envelope_record.proofs.payload_header_in.Tie as tie
 
--- src/lib.rt:304:1
 returns : tie.Need-returns
 returns c =
     rw (sym (c .before .before .number .ensures), sym (c .before .number2 .ensures)) (c .payload-header-by .ensures)

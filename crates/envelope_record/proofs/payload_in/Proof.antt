@@ -3,7 +3,6 @@ use borrow.Author.Needs.{needs}
 use Rattle.envelope_record.proofs.payload_in.Statement.{statement}
 use Rattle.envelope_record.proofs.payload_in.Tie as tie
 
--- src/lib.rt:270:1
 returns : tie.Need-returns
 returns c =
     let at-number3 = c .before in

@@ -12,13 +12,11 @@ use borrow.Author.Needs.{needs}
 use Rattle.envelope_record.proofs.put_envelope.Statement.{statement}
 use Rattle.envelope_record.proofs.put_envelope.Tie as tie
 
--- src/lib.rt:246:9
 returns : tie.Need-returns
 returns c =
     let args = c .before .before .args in
     (envelope-none (args .e) (args .places) (args .payload) (now (args .out)) (omega arith), λ l. absurd (omega arith))
 
--- src/lib.rt:242:1
 returns-2 : tie.Need-returns-2
 returns-2 c =
     let at-put-rest = c .before .before in

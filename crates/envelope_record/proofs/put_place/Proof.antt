@@ -3,7 +3,6 @@ use borrow.Author.Needs.{needs}
 use Rattle.envelope_record.proofs.put_place.Statement.{statement}
 use Rattle.envelope_record.proofs.put_place.Tie as tie
 
--- src/lib.rt:320:1
 returns : tie.Need-returns
 returns c =
     let at-put-numbers = c .before .before in

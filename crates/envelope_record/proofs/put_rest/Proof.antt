@@ -4,7 +4,6 @@ use borrow.Author.Needs.{needs}
 use Rattle.envelope_record.proofs.put_rest.Statement.{statement}
 use Rattle.envelope_record.proofs.put_rest.Tie as tie
 
--- src/lib.rt:215:1
 returns : tie.Need-returns
 returns c =
     let at-put-numbers-from = c .before .before in

@@ -4,7 +4,6 @@ use borrow.Author.Needs.{needs}
 use Rattle.envelope_record.proofs.put_start.Statement.{statement}
 use Rattle.envelope_record.proofs.put_start.Tie as tie
 
--- src/lib.rt:188:1
 returns : tie.Need-returns
 returns c =
     let at-put-numbers = c .before .before in

@@ -3,16 +3,13 @@ use borrow.Author.Tests.{eq-eqb, ne-eqb}
 use Rattle.envelope_record.proofs.sizes_in.Statement.{statement}
 use Rattle.envelope_record.proofs.sizes_in.Tie as tie
 
--- src/lib.rt:261:9
 returns : tie.Need-returns
 returns c = rw (eq-eqb (c .before .args .code) 1 (c .if1 .taken)) refl
 
--- src/lib.rt:264:9
 returns-2 : tie.Need-returns-2
 returns-2 c =
     rw (ne-eqb (c .before .before .args .code) 1 (c .before .if1 .left), eq-eqb (c .before .before .args .code) 2 (c .if2 .taken)) refl
 
--- src/lib.rt:257:1
 returns-3 : tie.Need-returns-3
 returns-3 c =
     rw (ne-eqb (c .before .before .args .code) 1 (c .before .if1 .left), ne-eqb (c .before .before .args .code) 2 (c .if2 .left)) refl

@@ -11,7 +11,6 @@ use Rattle.marks.proofs.next_marked.Lts as lts
 use Rattle.marks.proofs.next.next_wanted.Reads as next-wanted-reads
 use Rattle.marks.proofs.within.Reads as within-reads
 
--- src/lib.rt:163:9
 returns : tie.Need-returns
 returns c =
     let at-next-wanted = c .before in
@@ -21,7 +20,6 @@ returns c =
     (at-within .within .ensures .0) (at-within .within .ensures .2) (marked-none inUse (now (args .marks))) (args .from)
     (at-next-wanted .next-wanted .result) (at-next-wanted .next-wanted .ensures) (c .if1 .taken)
 
--- src/lib.rt:166:9
 returns-2 : tie.Need-returns-2
 returns-2 c =
     let at-if1 = c .before in
@@ -32,7 +30,6 @@ returns-2 c =
     (at-within .within .ensures .0) (at-within .within .ensures .2) (marked-none inUse (now (args .marks))) (args .from)
     (at-next-wanted .next-wanted .result) (at-next-wanted .next-wanted .ensures) (at-if1 .if1 .left) (c .if2 .taken)
 
--- src/lib.rt:157:1
 returns-3 : tie.Need-returns-3
 returns-3 c =
     let at-next-wanted = c .before .before in

@@ -11,7 +11,6 @@ use Rattle.marks.proofs.next_unmarked.Lts as lts
 use Rattle.marks.proofs.next.next_wanted.Reads as next-wanted-reads
 use Rattle.marks.proofs.within.Reads as within-reads
 
--- src/lib.rt:172:1
 returns : tie.Need-returns
 returns c =
     let at-within = c .before in

@@ -4,7 +4,6 @@ use borrow.Author.Needs.{needs}
 use Rattle.partial_record.proofs.message_in.Statement.{statement}
 use Rattle.partial_record.proofs.message_in.Tie as tie
 
--- src/lib.rt:46:1
 returns : tie.Need-returns
 returns c =
     let at-number2 = c .before in

@@ -8,7 +8,6 @@ use borrow.Author.Needs.{needs}
 use Rattle.partial_record.proofs.put_partial.Statement.{statement}
 use Rattle.partial_record.proofs.put_partial.Tie as tie
 
--- src/lib.rt:100:9
 returns : tie.Need-returns
 returns c =
     let start = c .before .before in (
@@ -16,7 +15,6 @@ returns c =
       fits-record (start .args .rec) _ (start .good .1 .0),
     )
 
--- src/lib.rt:96:1
 -- the text has 64 bytes, as a value of the code has
 slice-aggregate-put-run : tie.Need-slice-aggregate-put-run
 slice-aggregate-put-run c =

@@ -6,15 +6,12 @@ use Rattle.envelope_record.proofs.probe_record.cursor_in.Reads as reads
 use Rattle.envelope_record.proofs.probe_record.cursor_in.Lts as lts
 use Rattle.records.proofs.numbers.number.Reads as number-reads
 
--- src/lib.rt:180:16
 number-requires : tie.Need-number-requires
 number-requires c κs = search needs
 
--- src/lib.rt:181:13
 number-requires-2 : tie.Need-number-requires-2
 number-requires-2 c κs = search needs
 
--- src/lib.rt:176:1
 returns : tie.Need-returns
 returns c = rw (c .before .number .ensures, c .number2 .ensures) refl
 

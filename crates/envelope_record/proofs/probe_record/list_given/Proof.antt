@@ -6,15 +6,12 @@ use Rattle.envelope_record.proofs.probe_record.list_given.Reads as read
 use Rattle.envelope_record.proofs.probe_record.list_given.Lts as lts
 use Rattle.records.proofs.items.is_on.Reads as is-on-reads
 
--- src/lib.rt:123:8
 is-on-requires : tie.Need-is-on-requires
 is-on-requires c κs = search needs
 
--- src/lib.rt:124:9
 returns : tie.Need-returns
 returns c = rw (sym (c .before .is-on .ensures) ∙ c .if1 .taken)
 
--- src/lib.rt:120:1
 returns-2 : tie.Need-returns-2
 returns-2 c = rw (sym (c .before .is-on .ensures) ∙ c .if1 .left)
 

@@ -4,16 +4,13 @@ use Rattle.envelope_record.proofs.probe_record.probe_by.Tie as tie
 use Rattle.envelope_record.proofs.probe_record.probe_by.Reads as reads
 use Rattle.envelope_record.proofs.probe_record.probe_by.Lts as lts
 
--- src/lib.rt:134:9
 returns : tie.Need-returns
 returns c = rw (eq-eqb (c .before .args .t) 2 (c .if1 .taken))
 
--- src/lib.rt:137:9
 returns-2 : tie.Need-returns-2
 returns-2 c =
     rw (ne-eqb (c .before .before .args .t) 2 (c .before .if1 .left), eq-eqb (c .before .before .args .t) 3 (c .if2 .taken))
 
--- src/lib.rt:140:9
 returns-3 : tie.Need-returns-3
 returns-3 c =
     let at-if2 = c .before in
@@ -21,7 +18,6 @@ returns-3 c =
     let args = at-if1 .before .args in
     rw (ne-eqb (args .t) 2 (at-if1 .if1 .left), ne-eqb (args .t) 3 (at-if2 .if2 .left), eq-eqb (args .t) 5 (c .if3 .taken))
 
--- src/lib.rt:130:1
 returns-4 : tie.Need-returns-4
 returns-4 c =
     let at-if2 = c .before in

@@ -7,35 +7,27 @@ use Rattle.envelope_record.proofs.probe_record.probe_fits.Lts as lts
 use Rattle.records.proofs.items.fits_item.Reads as fits-item-reads
 use Rattle.records.proofs.numbers.number.Reads as number-reads
 
--- src/lib.rt:170:9
 number-requires : tie.Need-number-requires
 number-requires c κs = search needs
 
--- src/lib.rt:171:30
 number-requires-2 : tie.Need-number-requires-2
 number-requires-2 c κs = search needs
 
--- src/lib.rt:171:5
 fits-item-requires : tie.Need-fits-item-requires
 fits-item-requires c κs = search needs
 
--- src/lib.rt:172:35
 number-requires-3 : tie.Need-number-requires-3
 number-requires-3 c κs = search needs
 
--- src/lib.rt:172:12
 fits-item-requires-2 : tie.Need-fits-item-requires-2
 fits-item-requires-2 c κs = search needs
 
--- src/lib.rt:172:74
 number-requires-4 : tie.Need-number-requires-4
 number-requires-4 c κs = search needs
 
--- src/lib.rt:172:51
 fits-item-requires-3 : tie.Need-fits-item-requires-3
 fits-item-requires-3 c κs = search needs
 
--- src/lib.rt:167:1
 returns : tie.Need-returns
 returns c =
     let at-number4 = c .before in

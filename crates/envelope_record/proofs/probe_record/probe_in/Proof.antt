@@ -9,63 +9,48 @@ use Rattle.envelope_record.proofs.probe_record.probe_by.Reads as probe-
 use Rattle.records.proofs.items.at_most.Reads as at-most-reads
 use Rattle.records.proofs.numbers.number.Reads as number-reads
 
--- src/lib.rt:149:27
 number-requires : tie.Need-number-requires
 number-requires c κs = search needs
 
--- src/lib.rt:149:41
 number-requires-2 : tie.Need-number-requires-2
 number-requires-2 c κs = search needs
 
--- src/lib.rt:149:9
 list-given-requires : tie.Need-list-given-requires
 list-given-requires c κs = search needs
 
--- src/lib.rt:151:9
 number-requires-3 : tie.Need-number-requires-3
 number-requires-3 c κs = search needs
 
--- src/lib.rt:153:24
 number-requires-4 : tie.Need-number-requires-4
 number-requires-4 c κs = search needs
 
--- src/lib.rt:153:9
 at-most-requires : tie.Need-at-most-requires
 at-most-requires c κs = search needs
 
--- src/lib.rt:153:9
 cast-probe-by : tie.Need-cast-probe-by
 cast-probe-by c = search needs
 
--- src/lib.rt:154:22
 number-requires-5 : tie.Need-number-requires-5
 number-requires-5 c κs = search needs
 
--- src/lib.rt:154:9
 at-most-requires-2 : tie.Need-at-most-requires-2
 at-most-requires-2 c κs = search needs
 
--- src/lib.rt:154:9
 cast-probe-by-2 : tie.Need-cast-probe-by-2
 cast-probe-by-2 c = search needs
 
--- src/lib.rt:155:22
 number-requires-6 : tie.Need-number-requires-6
 number-requires-6 c κs = search needs
 
--- src/lib.rt:155:9
 at-most-requires-3 : tie.Need-at-most-requires-3
 at-most-requires-3 c κs = search needs
 
--- src/lib.rt:155:9
 cast-probe-by-3 : tie.Need-cast-probe-by-3
 cast-probe-by-3 c = search needs
 
--- src/lib.rt:150:5
 probe-by-requires : tie.Need-probe-by-requires
 probe-by-requires c κs = search needs
 
--- src/lib.rt:146:1
 returns : tie.Need-returns
 returns c =
     let at-at-most3 = c .before in

@@ -10,19 +10,15 @@ use Rattle.envelope_record.proofs.probe_record.put_cursor.Reads as read
 use Rattle.envelope_record.proofs.probe_record.put_cursor.Lts as lts
 use Rattle.wire_writer.proofs.store.put64.Reads as put64-reads
 
--- src/lib.rt:189:5
 put64-requires : tie.Need-put64-requires
 put64-requires c κs = search needs
 
--- src/lib.rt:190:5
 put64-requires-2 : tie.Need-put64-requires-2
 put64-requires-2 c κs = search needs
 
--- src/lib.rt:186:1
 same-length : tie.Need-same-length
 same-length c = search needs
 
--- src/lib.rt:186:1
 returns : tie.Need-returns
 returns c =
     let at-put642 = c .before .before in

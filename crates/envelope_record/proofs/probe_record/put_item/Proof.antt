@@ -7,23 +7,18 @@ use Rattle.envelope_record.proofs.probe_record.put_item.Lts as lts
 use Rattle.envelope_record.proofs.probe_record.value_number.Reads as value-number-reads
 use Rattle.records.proofs.numbers.put_numbers.Reads as put-numbers-reads
 
--- src/lib.rt:210:9
 value-number-requires : tie.Need-value-number-requires
 value-number-requires c κs = search needs
 
--- src/lib.rt:212:22
 slice-aggregate-put-numbers : tie.Need-slice-aggregate-put-numbers
 slice-aggregate-put-numbers c = search needs
 
--- src/lib.rt:212:5
 put-numbers-requires : tie.Need-put-numbers-requires
 put-numbers-requires c κs = search needs
 
--- src/lib.rt:203:1
 same-length : tie.Need-same-length
 same-length c = search needs
 
--- src/lib.rt:203:1
 returns : tie.Need-returns
 returns c =
     let at-put-numbers = c .before .before in

@@ -17,51 +17,39 @@ use Rattle.envelope_record.proofs.probe_record.probe_null.Reads as prob
 use Rattle.envelope_record.proofs.probe_record.include_writers.Reads as include-writers-reads
 use Rattle.records.proofs.numbers.put_numbers.Reads as put-numbers-reads
 
--- src/lib.rt:104:17
 list-place-requires : tie.Need-list-place-requires
 list-place-requires c κs = search needs
 
--- src/lib.rt:106:9
 information-of-requires : tie.Need-information-of-requires
 information-of-requires c κs = search needs
 
--- src/lib.rt:106:9
 cast-t8 : tie.Need-cast-t8
 cast-t8 c = search needs
 
--- src/lib.rt:107:9
 probe-null-requires : tie.Need-probe-null-requires
 probe-null-requires c κs = search needs
 
--- src/lib.rt:108:9
 item-count-requires : tie.Need-item-count-requires
 item-count-requires c κs = search needs
 
--- src/lib.rt:110:9
 group-number-requires : tie.Need-group-number-requires
 group-number-requires c κs = search needs
 
--- src/lib.rt:111:9
 include-groups-requires : tie.Need-include-groups-requires
 include-groups-requires c κs = search needs
 
--- src/lib.rt:112:9
 include-writers-requires : tie.Need-include-writers-requires
 include-writers-requires c κs = search needs
 
--- src/lib.rt:123:22
 slice-aggregate-put-numbers : tie.Need-slice-aggregate-put-numbers
 slice-aggregate-put-numbers c = search needs
 
--- src/lib.rt:123:5
 put-numbers-requires : tie.Need-put-numbers-requires
 put-numbers-requires c κs = search needs
 
--- src/lib.rt:99:1
 same-length : tie.Need-same-length
 same-length c = search needs
 
--- src/lib.rt:99:1
 returns : tie.Need-returns
 returns c =
     let at-put-numbers = c .before .before in

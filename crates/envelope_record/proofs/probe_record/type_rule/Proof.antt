@@ -8,23 +8,18 @@ use Rattle.probe.proofs.body.information_rule.Reads as information-rule-reads
 use Rattle.records.proofs.items.at_most.Reads as at-most-reads
 use Rattle.records.proofs.numbers.number.Reads as number-reads
 
--- src/lib.rt:163:35
 number-requires : tie.Need-number-requires
 number-requires c κs = search needs
 
--- src/lib.rt:163:22
 at-most-requires : tie.Need-at-most-requires
 at-most-requires c κs = search needs
 
--- src/lib.rt:163:22
 cast-information-rule : tie.Need-cast-information-rule
 cast-information-rule c = search needs
 
--- src/lib.rt:163:5
 information-rule-requires : tie.Need-information-rule-requires
 information-rule-requires c κs = search needs
 
--- src/lib.rt:160:1
 returns : tie.Need-returns
 returns c =
     c .information-rule .ensures ∙ rw (c .before .at-most .ensures .0, c .before .before .number .ensures) refl

@@ -1,3 +1,4 @@
+-- `marks::each::any_each` meets its contract. Assumes nothing.
 use Prim.Native.Nat.{ℕ, _+_, _-_, _≤_, _<_}
 use mathlib.Core.Bool.{Bool, true, false, _||_}
 use mathlib.Core.Path.{_≡_, sym, ap, _∙_}
@@ -7,7 +8,6 @@ use Rattle.wire.proofs.Cases.{by-eq}
 use Rattle.marks.specs.Offsets.{anyFrom}
 use Rattle.marks.specs.Marks.{inUse, marked}
 use Rattle.marks.proofs.OffsetLaws.{from-none, from-step, from-found}
--- `marks::each::any_each` meets its contract. Assumes nothing.
 use borrow.Author.Needs.{needs}
 use Rattle.marks.proofs.each.any_each.Statement.{statement}
 use Rattle.marks.proofs.each.any_each.Tie as tie
@@ -22,11 +22,9 @@ Inv-loop marks start end i₀ i =
 abbrev μ-loop : tie.MeasureT-loop
 μ-loop marks start end i₀ i = end - i
 
--- src/each.rt:68:5
 loop-holds : tie.Need-loop-holds Inv-loop μ-loop
 loop-holds c = (omega arith, λ k h l. absurd (omega arith))
 
--- src/each.rt:70:13
 returns : tie.Need-returns Inv-loop μ-loop
 returns c =
     let at-is-marked = c .before in
@@ -37,7 +35,6 @@ returns c =
     sym (from-found (args .start) (at-loop .loop .i) (at-loop .loop .i + 1) (args .end) f (at-loop .loop .inv .0) (omega arith)
     (from-step (at-loop .loop .i) (at-loop .loop .i) f (omega arith) ∙ ap (λ (b : Bool). b || anyFrom (at-loop .loop .i) (at-loop .loop .i) f) here))
 
--- src/each.rt:68:5
 loop-again : tie.Need-loop-again Inv-loop μ-loop
 loop-again c =
     let at-is-marked = c .before in
@@ -46,7 +43,6 @@ loop-again c =
       λ k h l. by-eq _ k (at-loop .loop .i) (λ q. rw q (sym (at-is-marked .is-marked .ensures) ∙ c .if1 .left)) (λ q. at-loop .loop .inv .1 k h (omega arith)),
     )
 
--- src/each.rt:64:1
 returns-2 : tie.Need-returns-2 Inv-loop μ-loop
 returns-2 c =
     let at-loop = c .before in

@@ -1,3 +1,4 @@
+-- `marks::each::count_each` meets its contract. Assumes nothing.
 use Prim.Native.Nat.{ℕ, _+_, _-_, _≤_, _<_}
 use mathlib.Core.Bool.{Bool, cond}
 use mathlib.Core.Path.{_≡_, refl, sym, ap, _∙_}
@@ -9,7 +10,6 @@ use Rattle.marks.specs.Marks.{inUse, marked}
 use Rattle.marks.proofs.WholeLaws.{capacity-bytes}
 use Rattle.marks.proofs.MarkLaws.{marked-none}
 use Rattle.marks.proofs.CountLaws.{count-next, count-between}
--- `marks::each::count_each` meets its contract. Assumes nothing.
 use borrow.Author.Needs.{needs}
 use Rattle.marks.proofs.each.count_each.Statement.{statement}
 use Rattle.marks.proofs.each.count_each.Tie as tie
@@ -25,13 +25,11 @@ Inv-loop marks start end count₀ i₀ count i =
 abbrev μ-loop : tie.MeasureT-loop
 μ-loop marks start end count₀ i₀ count i = end - i
 
--- src/each.rt:53:5
 loop-holds : tie.Need-loop-holds Inv-loop μ-loop
 loop-holds c =
     let none : 0 ≡ c .before .args .start - c .before .args .start = omega arith in
     (omega arith, λ h. refl, ap (λ (n : ℕ). countBelow n (λ j. marked inUse (now (c .before .args .marks)) (c .before .args .start + j))) none, omega arith)
 
--- src/each.rt:55:13
 returns : tie.Need-returns Inv-loop μ-loop
 returns c =
     let at-loop = c .before .before in
@@ -41,13 +39,11 @@ returns c =
     ∙ sym (count-between (at-loop .loop .i - args .start) (args .end - args .start) (λ j. marked inUse (now (args .marks)) (args .start + j)) (omega arith)
     (λ k l u. marked-none inUse (now (args .marks)) (args .start + k) (omega (arith, room, c .if1 .taken, at-loop .loop .inv .0))))
 
--- src/each.rt:57:9
 add-count : tie.Need-add-count Inv-loop μ-loop
 add-count c =
     let at-loop = c .before .before .before .before in
     let most = c .one-if .ensures .1 in omega (arith, most, at-loop .loop .inv .3)
 
--- src/each.rt:53:5
 loop-again : tie.Need-loop-again Inv-loop μ-loop
 loop-again c =
     let at-is-marked = c .before in
@@ -61,7 +57,6 @@ loop-again c =
       omega (arith, most, at-loop .loop .inv .3, at-loop .loop .inv .0),
     )
 
--- src/each.rt:48:1
 returns-2 : tie.Need-returns-2 Inv-loop μ-loop
 returns-2 c =
     let at-loop = c .before in

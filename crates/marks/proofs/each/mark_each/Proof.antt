@@ -1,3 +1,4 @@
+-- `marks::each::mark_each` meets its contract. Assumes nothing.
 use Prim.Native.Nat.{ℕ, _-_, _≤_}
 use mathlib.Core.Bool.{true}
 use mathlib.Core.Path.{_≡_, refl, sym, ap, _∙_}
@@ -9,7 +10,6 @@ use Rattle.marks.specs.Marks.{inUse, capacity, markAll}
 use Rattle.marks.proofs.WholeLaws.{capacity-bytes}
 use Rattle.marks.proofs.MarkLaws.{capacity-length}
 use Rattle.marks.proofs.CountLaws.{cut-start, cut-next}
--- `marks::each::mark_each` meets its contract. Assumes nothing.
 use borrow.Author.Needs.{needs}
 use Rattle.marks.proofs.each.mark_each.Statement.{statement}
 use Rattle.marks.proofs.each.mark_each.Tie as tie
@@ -24,30 +24,25 @@ Inv-loop marks₀ start end i₀ marks i =
 abbrev μ-loop : tie.MeasureT-loop
 μ-loop marks₀ start end i₀ marks i = end - i
 
--- src/each.rt:24:5
 loop-holds : tie.Need-loop-holds Inv-loop μ-loop
 loop-holds c =
     (omega arith, omega (arith, c .before .pre .0), refl, sym (cut-start inUse always (c .before .args .start) (now (c .before .args .marks))))
 
--- src/each.rt:26:13
 same-length : tie.Need-same-length Inv-loop μ-loop
 same-length c = c .before .before .loop .inv .2
 
--- src/each.rt:26:13
 returns : tie.Need-returns Inv-loop μ-loop
 returns c =
     let at-loop = c .before .before in
     let at-pre = at-loop .before .before in
     let room = capacity-bytes (now (at-pre .args .marks)) in absurd (omega (arith, room, at-pre .pre .1, at-loop .loop .inv .2, c .if1 .taken))
 
--- src/each.rt:28:9
 mark-if-requires : tie.Need-mark-if-requires Inv-loop μ-loop
 mark-if-requires c κs =
     let at-loop = c .before .before .before in
     let at-pre = at-loop .before .before in
     let same = capacity-length inUse (at-loop .loop .marks) (now (at-pre .args .marks)) (at-loop .loop .inv .2) in omega (arith, at-pre .pre .1, same)
 
--- src/each.rt:24:5
 loop-again : tie.Need-loop-again Inv-loop μ-loop
 loop-again c =
     let at-mark-if = c .before .before in
@@ -61,11 +56,9 @@ loop-again c =
           (omega (arith, at-pre .pre .1, same)) (at-loop .loop .inv .3) refl (at-mark-if .mark-if .ensures),
     )
 
--- src/each.rt:19:1
 same-length-2 : tie.Need-same-length-2 Inv-loop μ-loop
 same-length-2 c = c .before .loop .inv .2
 
--- src/each.rt:19:1
 returns-2 : tie.Need-returns-2 Inv-loop μ-loop
 returns-2 c =
     let at-loop = c .before in

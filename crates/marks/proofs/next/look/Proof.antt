@@ -1,5 +1,5 @@
-use Rattle.wire.specs.Number.{le}
 -- `marks::next::look` meets its contract. Assumes nothing.
+use Rattle.wire.specs.Number.{le}
 use native.Mathlib.Omega.{arith}
 use mathlib.Core.Path.{_≡_, refl, ap, _∙_}
 use mathlib.Core.Bool.{cond}
@@ -18,27 +18,22 @@ use Rattle.marks.proofs.choose.Reads as choose-reads
 use Rattle.marks.proofs.next.choose_number.Reads as choose-number-reads
 use Rattle.marks.proofs.whole.eight.Reads as eight-reads
 
--- src/next.rt:49:8
 sub-if1 : tie.Need-sub-if1
 sub-if1 c = let room = capacity-bytes (now (c .before .args .marks)) in omega (arith, room, c .before .pre)
 
--- src/next.rt:50:17
 shared-slice-read-b : tie.Need-shared-slice-read-b
 shared-slice-read-b c =
     let at-pre = c .before .before .before in
     let room = capacity-bytes (now (at-pre .args .marks)) in omega (arith, room, at-pre .pre)
 
--- src/next.rt:52:36
 sub-choose : tie.Need-sub-choose
 sub-choose c = omega (arith, c .shared-slice-known2 .given (c .before .before .before .args .i / 8))
 
--- src/next.rt:52:19
 cast-t16 : tie.Need-cast-t16
 cast-t16 c =
     let args = c .before .before .before .before .args in
     let most = shr-le (c .choose .result) (args .i % 8) in omega (arith, most, c .choose .ensures)
 
--- src/next.rt:51:9
 returns : tie.Need-returns
 returns c =
     let at-shared-slice-known = c .before .before .before in
@@ -49,7 +44,6 @@ returns c =
       omega arith,
     )
 
--- src/next.rt:42:1
 returns-2 : tie.Need-returns-2
 returns-2 c =
     let at-eight = c .before in

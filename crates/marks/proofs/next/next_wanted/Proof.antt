@@ -1,3 +1,4 @@
+-- `marks::next::next_wanted` meets its contract. Assumes nothing.
 use native.Mathlib.Omega.{arith}
 use Prim.Native.Nat.{ℕ, _+_, _-_, _≤_, _<_}
 use mathlib.Core.Path.{_≡_, refl}
@@ -9,7 +10,6 @@ use Rattle.marks.specs.Offsets.{wanted}
 use Rattle.marks.specs.Marks.{inUse, marked}
 use Rattle.marks.proofs.LookLaws.{seen-none, seen-before, seen-first}
 use Rattle.marks.proofs.NextLaws.{next-is}
--- `marks::next::next_wanted` meets its contract. Assumes nothing.
 use borrow.Author.Needs.{needs}
 use Rattle.marks.proofs.next.next_wanted.Statement.{statement}
 use Rattle.marks.proofs.next.next_wanted.Tie as tie
@@ -26,25 +26,20 @@ Inv-loop marks from stop want i₀ i =
 abbrev μ-loop : tie.MeasureT-loop
 μ-loop marks from stop want i₀ i = stop - i
 
--- src/next.rt:87:5
 loop-holds : tie.Need-loop-holds Inv-loop μ-loop
 loop-holds c = (omega arith, λ l. refl, λ j l u. absurd (omega arith))
 
--- src/next.rt:88:13
 look-requires : tie.Need-look-requires Inv-loop μ-loop
 look-requires c κs = omega (arith, c .before .before .before .pre)
 
--- src/next.rt:90:30
 cast-least : tie.Need-cast-least Inv-loop μ-loop
 cast-least c =
     let at-look = c .before .before .before in
     let most = trailing-le 64 (at-look .look .result .bits) in omega (arith, most)
 
--- src/next.rt:90:20
 add-result : tie.Need-add-result Inv-loop μ-loop
 add-result c = omega (arith, c .least .ensures .1)
 
--- src/next.rt:90:13
 returns : tie.Need-returns Inv-loop μ-loop
 returns c =
     let at-if1 = c .before .before in
@@ -64,7 +59,6 @@ returns c =
           (omega (arith, at-struct-known .struct-known .given)) (at-if1 .if1 .taken));
     })
 
--- src/next.rt:93:13
 returns-2 : tie.Need-returns-2 Inv-loop μ-loop
 returns-2 c =
     let at-if1 = c .before .before in
@@ -81,11 +75,9 @@ returns-2 c =
       some = λ l. absurd (omega arith);
     })
 
--- src/next.rt:95:32
 add-pass-eights : tie.Need-add-pass-eights Inv-loop μ-loop
 add-pass-eights c = omega (arith, c .before .if2 .left)
 
--- src/next.rt:95:9
 pass-eights-requires : tie.Need-pass-eights-requires Inv-loop μ-loop
 pass-eights-requires c κs =
     let at-if2 = c .before in
@@ -93,13 +85,11 @@ pass-eights-requires c κs =
     let at-pre = at-look .before .before .before .before in
     (at-look .look .ensures .1, omega (arith, at-if2 .if2 .left), at-pre .pre)
 
--- src/next.rt:87:5
 loop-less : tie.Need-loop-less Inv-loop μ-loop
 loop-less c =
     let at-if1 = c .before .before .before .before in
     omega (arith, at-if1 .before .before .look .ensures .0 .0, c .pass-eights .ensures .0)
 
--- src/next.rt:87:5
 loop-again : tie.Need-loop-again Inv-loop μ-loop
 loop-again c =
     let at-if1 = c .before .before .before .before in
@@ -115,7 +105,6 @@ loop-again c =
           (λ y. c .pass-eights .ensures .2 j y u)),
     )
 
--- src/next.rt:82:1
 returns-3 : tie.Need-returns-3 Inv-loop μ-loop
 returns-3 c =
     let at-loop = c .before in

@@ -24,25 +24,21 @@ Inv-loop marks start stop want unwanted i₀ i =
 abbrev μ-loop : tie.MeasureT-loop
 μ-loop marks start stop want unwanted i₀ i = stop - i
 
--- src/next.rt:72:5
 loop-holds : tie.Need-loop-holds Inv-loop μ-loop
 loop-holds c =
     (omega arith, c .before .before .pre .1, c .before .before .pre .0, λ j l u. absurd (omega arith))
 
--- src/next.rt:73:12
 eight-requires : tie.Need-eight-requires Inv-loop μ-loop
 eight-requires c κs =
     let at-loop = c .before in
     let at-pre = at-loop .before .before .before in
     let room = capacity-bytes (now (at-pre .args .marks)) in omega (arith, room, at-pre .pre .2, at-loop .loop .inv .2, at-loop .loop .inv .1)
 
--- src/next.rt:74:13
 returns : tie.Need-returns Inv-loop μ-loop
 returns c =
     let at-loop = c .before .before .before in
     (at-loop .loop .inv .0, at-loop .loop .inv .1, at-loop .loop .inv .3)
 
--- src/next.rt:72:5
 loop-again : tie.Need-loop-again Inv-loop μ-loop
 loop-again c =
     let at-eight = c .before in
@@ -58,7 +54,6 @@ loop-again c =
           (sym (at-eight .eight .ensures) ∙ c .if1 .left ∙ at-choose-number .choose-number .ensures) j x u),
     )
 
--- src/next.rt:64:1
 returns-2 : tie.Need-returns-2 Inv-loop μ-loop
 returns-2 c =
     (c .before .loop .inv .0, c .before .loop .inv .1, c .before .loop .inv .3)

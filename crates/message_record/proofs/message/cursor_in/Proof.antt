@@ -3,7 +3,6 @@ use borrow.Author.Needs.{needs}
 use Rattle.message_record.proofs.message.cursor_in.Statement.{statement}
 use Rattle.message_record.proofs.message.cursor_in.Tie as tie
 
--- src/message.rt:183:1
 returns : tie.Need-returns
 returns c =
     let at-number4 = c .before in

@@ -12,7 +12,6 @@ use borrow.Author.Needs.{needs}
 use Rattle.message_record.proofs.message.put_head.Statement.{statement}
 use Rattle.message_record.proofs.message.put_head.Tie as tie
 
--- src/message.rt:137:1
 returns : tie.Need-returns
 returns c =
     let at-put-numbers = c .before .before in

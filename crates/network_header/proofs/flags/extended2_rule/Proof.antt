@@ -6,20 +6,16 @@ use Rattle.network_header.proofs.flags.extended2_rule.Reads as reads
 use Rattle.network_header.proofs.flags.extended2_rule.Lts as lts
 use Rattle.network_header.proofs.flags.probe_rule.Reads as probe-rule-reads
 
--- src/flags.rt:100:9
 returns : tie.Need-returns
 returns c = rw (eq-eqb _ _ (c .if1 .taken))
 
--- src/flags.rt:103:9
 returns-2 : tie.Need-returns-2
 returns-2 c = rw (ne-eqb _ _ (c .before .if1 .left), le-leb _ _ (c .if2 .taken))
 
--- src/flags.rt:107:9
 returns-3 : tie.Need-returns-3
 returns-3 c =
     rw (ne-eqb _ _ (c .before .before .if1 .left), lt-leb _ _ (c .before .if2 .left), le-leb _ _ (c .if3 .taken))
 
--- src/flags.rt:110:9
 returns-4 : tie.Need-returns-4
 returns-4 c =
     let at-if3 = c .before in
@@ -27,11 +23,9 @@ returns-4 c =
     let at-if1 = at-if2 .before in
     rw (ne-eqb _ _ (at-if1 .if1 .left), lt-leb _ _ (at-if2 .if2 .left), lt-leb _ _ (at-if3 .if3 .left), eq-eqb _ _ (c .if4 .taken))
 
--- src/flags.rt:113:9
 probe-rule-requires : tie.Need-probe-rule-requires
 probe-rule-requires c κs = search needs
 
--- src/flags.rt:113:9
 returns-5 : tie.Need-returns-5
 returns-5 c =
     let at-if5 = c .before in
@@ -41,7 +35,6 @@ returns-5 c =
     let at-if1 = at-if2 .before in
     rw (ne-eqb _ _ (at-if1 .if1 .left), lt-leb _ _ (at-if2 .if2 .left), lt-leb _ _ (at-if3 .if3 .left), ne-eqb _ _ (at-if4 .if4 .left), eq-eqb _ _ (at-if5 .if5 .taken)) (c .probe-rule .ensures)
 
--- src/flags.rt:96:1
 returns-6 : tie.Need-returns-6
 returns-6 c =
     let at-if4 = c .before in

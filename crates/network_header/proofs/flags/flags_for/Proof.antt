@@ -13,43 +13,33 @@ use Rattle.publisher_id.proofs.publisher.publisher_on.Reads as publisher-on-rea
 use Rattle.wire_writer.proofs.writing.is_on16.Reads as is-on16-reads
 use Rattle.wire_writer.proofs.writing.is_on_i64.Reads as is-on-i64-reads
 
--- src/flags.rt:233:20
 publisher-on-requires : tie.Need-publisher-on-requires
 publisher-on-requires c κs = search needs
 
--- src/flags.rt:234:16
 group-on-requires : tie.Need-group-on-requires
 group-on-requires c κs = search needs
 
--- src/flags.rt:235:25
 payload-header-on-requires : tie.Need-payload-header-on-requires
 payload-header-on-requires c κs = search needs
 
--- src/flags.rt:236:15
 kind-of-requires : tie.Need-kind-of-requires
 kind-of-requires c κs = search needs
 
--- src/flags.rt:237:19
 class-on-requires : tie.Need-class-on-requires
 class-on-requires c κs = search needs
 
--- src/flags.rt:238:20
 is-on-i64-requires : tie.Need-is-on-i64-requires
 is-on-i64-requires c κs = search needs
 
--- src/flags.rt:239:22
 is-on16-requires : tie.Need-is-on16-requires
 is-on16-requires c κs = search needs
 
--- src/flags.rt:241:19
 promoted-on-requires : tie.Need-promoted-on-requires
 promoted-on-requires c κs = search needs
 
--- src/flags.rt:242:16
 probe-on-requires : tie.Need-probe-on-requires
 probe-on-requires c κs = search needs
 
--- src/flags.rt:222:1
 returns : tie.Need-returns
 returns c =
     let at-promoted-on = c .before in

@@ -4,16 +4,13 @@ use Rattle.network_header.proofs.flags.probe_refusal.Tie as tie
 use Rattle.network_header.proofs.flags.probe_refusal.Reads as reads
 use Rattle.network_header.proofs.flags.probe_refusal.Lts as lts
 
--- src/flags.rt:298:9
 returns : tie.Need-returns
 returns c = rw (not-true (c .before .args .probe) (c .if1 .taken))
 
--- src/flags.rt:301:9
 returns-2 : tie.Need-returns-2
 returns-2 c =
     rw (not-false (c .before .before .args .probe) (c .before .if1 .left), c .if2 .taken)
 
--- src/flags.rt:304:9
 returns-3 : tie.Need-returns-3
 returns-3 c =
     let at-if2 = c .before in
@@ -21,7 +18,6 @@ returns-3 c =
     let args = at-if1 .before .args in
     rw (not-false (args .probe) (at-if1 .if1 .left), at-if2 .if2 .left, c .if3 .taken)
 
--- src/flags.rt:294:1
 returns-4 : tie.Need-returns-4
 returns-4 c =
     let at-if2 = c .before in

@@ -4,20 +4,16 @@ use Rattle.network_header.proofs.flags.probe_rule.Tie as tie
 use Rattle.network_header.proofs.flags.probe_rule.Reads as reads
 use Rattle.network_header.proofs.flags.probe_rule.Lts as lts
 
--- src/flags.rt:85:9
 returns : tie.Need-returns
 returns c = rw (eq-eqb _ _ (c .if1 .taken))
 
--- src/flags.rt:88:9
 returns-2 : tie.Need-returns-2
 returns-2 c = rw (ne-eqb _ _ (c .before .if1 .left), c .if2 .taken)
 
--- src/flags.rt:91:9
 returns-3 : tie.Need-returns-3
 returns-3 c =
     rw (ne-eqb _ _ (c .before .before .if1 .left), c .before .if2 .left, eq-eqb _ _ (c .if3 .taken))
 
--- src/flags.rt:81:1
 returns-4 : tie.Need-returns-4
 returns-4 c =
     rw (ne-eqb _ _ (c .before .before .if1 .left), c .before .if2 .left, ne-eqb _ _ (c .if3 .left))

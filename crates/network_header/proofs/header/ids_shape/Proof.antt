@@ -9,68 +9,53 @@ use Rattle.network_header.proofs.header.count_shape.Reads as count-shap
 use Rattle.network_header.proofs.numbers.same_numbers.Reads as same-numbers-reads
 use Rattle.wire_writer.proofs.writing.six_unless.Reads as six-unless-reads
 
--- src/header.rt:307:45
 enum-told : tie.Need-enum-told
 enum-told c = search needs
 
--- src/header.rt:307:45
 same-numbers-requires : tie.Need-same-numbers-requires
 same-numbers-requires c κs = search needs
 
--- src/header.rt:307:34
 six-unless-requires : tie.Need-six-unless-requires
 six-unless-requires c κs = search needs
 
--- src/header.rt:308:28
 enum-known-x : tie.Need-enum-known-x
 enum-known-x c = search needs
 
--- src/header.rt:310:17
 returns : tie.Need-returns
 returns c = search needs
 
--- src/header.rt:312:13
 count-shape-requires : tie.Need-count-shape-requires
 count-shape-requires c κs = search needs
 
--- src/header.rt:315:16
 enum-told-2 : tie.Need-enum-told-2
 enum-told-2 c = search needs
 
--- src/header.rt:316:17
 six-unless-requires-2 : tie.Need-six-unless-requires-2
 six-unless-requires-2 c κs = search needs
 
--- src/header.rt:316:17
 returns-2 : tie.Need-returns-2
 returns-2 c =
     rw (c .before .before .enum-told2 .given .1, c .before .if2 .taken) (c .six-unless2 .ensures)
 
--- src/header.rt:320:44
 enum-told-3 : tie.Need-enum-told-3
 enum-told-3 c = search needs
 
--- src/header.rt:320:33
 six-unless-requires-3 : tie.Need-six-unless-requires-3
 six-unless-requires-3 c κs = search needs
 
--- src/header.rt:303:1
 returns-3 : tie.Need-returns-3
 returns-3 c =
     rw (c .before .before .enum-told .given .1) (c .six-unless .ensures ∙ ap (λ (b : Bool). cond b 0 6) (c .before .same-numbers .ensures))
 
--- src/header.rt:303:1
 returns-4 : tie.Need-returns-4
 returns-4 c =
     let at-if1 = c .before in
     let at-x = at-if1 .before .before in
     rw (at-x .x .given .1, at-if1 .if1 .left) (c .count-shape .ensures)
 
--- src/header.rt:303:1
 returns-5 : tie.Need-returns-5
 returns-5 c = search needs
 
--- src/header.rt:303:1
 returns-6 : tie.Need-returns-6
 returns-6 c = rw (c .before .enum-told3 .given .1) (c .six-unless3 .ensures)
 

@@ -26,23 +26,18 @@ low n =
 sized : (n : ℕ) (ids : List ℕ) → 1 + length ids ≡ length (leBytes 1 n ++ ids)
 sized n ids = omega arith
 
--- src/header.rt:219:34
 enum-told : tie.Need-enum-told
 enum-told c = search needs
 
--- src/header.rt:220:28
 enum-known-x : tie.Need-enum-known-x
 enum-known-x c = search needs
 
--- src/header.rt:221:36
 add-has : tie.Need-add-has
 add-has c = search needs
 
--- src/header.rt:221:17
 has-requires : tie.Need-has-requires
 has-requires c κs = search needs
 
--- src/header.rt:222:17
 returns : tie.Need-returns
 returns c =
     let at-has = c .before in
@@ -52,41 +47,32 @@ returns c =
     let ids = now (args .ids) in
     rw (at-x .x .given .1) (none-of (leBytes 1 n ++ ids) (now (args .out)) (args .at) (sized n ids) (at-has .has .ensures) (c .if1 .taken))
 
--- src/header.rt:224:39
 cast-put8 : tie.Need-cast-put8
 cast-put8 c = search needs
 
--- src/header.rt:224:17
 put8-requires : tie.Need-put8-requires
 put8-requires c κs = search needs
 
--- src/header.rt:225:13
 put-run-requires : tie.Need-put-run-requires
 put-run-requires c κs = search needs
 
--- src/header.rt:227:30
 enum-known-x-2 : tie.Need-enum-known-x-2
 enum-known-x-2 c = search needs
 
--- src/header.rt:227:36
 put16-requires : tie.Need-put16-requires
 put16-requires c κs = search needs
 
--- src/header.rt:228:33
 enum-told-2 : tie.Need-enum-told-2
 enum-told-2 c = search needs
 
--- src/header.rt:215:1
 returns-2 : tie.Need-returns-2
 returns-2 c =
     let args = c .before .before .before .before .args in
     rw (c .enum-told .given .1) (stored-nothing (now (args .out)) (args .at))
 
--- src/header.rt:215:1
 same-length : tie.Need-same-length
 same-length c = search needs
 
--- src/header.rt:215:1
 returns-3 : tie.Need-returns-3
 returns-3 c =
     let at-put-run = c .before .before in
@@ -100,18 +86,15 @@ returns-3 c =
     (all-of (sized n (now (args .ids))) (at-has .has .ensures) (at-if1 .if1 .left)
     (then (puts-as (low n) (puts (at-put8 .put8 .ensures))) (puts (at-put-run .put-run .ensures))))
 
--- src/header.rt:215:1
 same-length-2 : tie.Need-same-length-2
 same-length-2 c = search needs
 
--- src/header.rt:215:1
 returns-4 : tie.Need-returns-4
 returns-4 c =
     let at-put16 = c .before .before in
     let at-x2 = at-put16 .before .before .before in
     rw (at-x2 .x2 .given .1) (at-put16 .put16 .ensures)
 
--- src/header.rt:215:1
 returns-5 : tie.Need-returns-5
 returns-5 c =
     let args = c .before .before .before .before .args in

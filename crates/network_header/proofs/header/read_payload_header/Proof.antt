@@ -10,22 +10,18 @@ use Rattle.network_header.proofs.header.read_payload_header.Lts as lts
 use Rattle.network_header.proofs.header.ids.Reads as ids-reads
 use Rattle.wire.proofs.read16.Reads as read16-reads
 
--- src/header.rt:114:9
 returns : tie.Need-returns
 returns c = rw (c .if1 .taken)
 
--- src/header.rt:117:9
 returns-2 : tie.Need-returns-2
 returns-2 c =
     let at-if1 = c .before in
     let args = at-if1 .before .before .args in
     rw (at-if1 .if1 .left, not-true (args .on) (c .if2 .taken))
 
--- src/header.rt:120:9
 ids-requires : tie.Need-ids-requires
 ids-requires c κs = search needs
 
--- src/header.rt:120:9
 returns-3 : tie.Need-returns-3
 returns-3 c =
     let at-if3 = c .before in
@@ -34,19 +30,15 @@ returns-3 c =
     let args = at-if1 .before .before .args in
     rw (at-if1 .if1 .left, not-false (args .on) (at-if2 .if2 .left), not-true (args .chunk) (at-if3 .if3 .taken)) (c .ids .ensures)
 
--- src/header.rt:122:31
 read16-requires : tie.Need-read16-requires
 read16-requires c κs = search needs
 
--- src/header.rt:122:20
 enum-known-v : tie.Need-enum-known-v
 enum-known-v c = search needs
 
--- src/header.rt:123:9
 enum-told : tie.Need-enum-told
 enum-told c = search needs
 
--- src/header.rt:123:9
 returns-4 : tie.Need-returns-4
 returns-4 c =
     let at-read16 = c .before .before in
@@ -61,7 +53,6 @@ returns-4 c =
       sym (told (answer16 (args .at)) (at-read16 .read16 .ensures) (c .enum-told .given .1)),
     )
 
--- src/header.rt:104:1
 returns-5 : tie.Need-returns-5
 returns-5 c =
     let at-v = c .before in

@@ -4,35 +4,27 @@ use Rattle.network_message.proofs.envelope.is_single.Tie as tie
 use Rattle.network_message.proofs.envelope.is_single.Reads as reads
 use Rattle.network_message.proofs.envelope.is_single.Lts as lts
 
--- src/envelope.rt:210:34
 enum-told : tie.Need-enum-told
 enum-told c = search needs
 
--- src/envelope.rt:211:28
 enum-known-header : tie.Need-enum-known-header
 enum-known-header c = search needs
 
--- src/envelope.rt:212:36
 enum-told-2 : tie.Need-enum-told-2
 enum-told-2 c = search needs
 
--- src/envelope.rt:213:33
 enum-told-3 : tie.Need-enum-told-3
 enum-told-3 c = search needs
 
--- src/envelope.rt:206:1
 returns : tie.Need-returns
 returns c = search needs
 
--- src/envelope.rt:206:1
 returns-2 : tie.Need-returns-2
 returns-2 c = rw (c .before .header .given .1)
 
--- src/envelope.rt:206:1
 returns-3 : tie.Need-returns-3
 returns-3 c = search needs
 
--- src/envelope.rt:206:1
 returns-4 : tie.Need-returns-4
 returns-4 c = search needs
 

@@ -8,26 +8,21 @@ use Rattle.network_message.proofs.payload.probe_payload.Reads as reads
 use Rattle.network_message.proofs.payload.probe_payload.Lts as lts
 use Rattle.probe.proofs.body.read_body.Reads as read-body-reads
 
--- src/payload.rt:170:11
 read-body-requires : tie.Need-read-body-requires
 read-body-requires c κs = search needs
 
--- src/payload.rt:171:28
 enum-known-number : tie.Need-enum-known-number
 enum-known-number c = search needs
 
--- src/payload.rt:174:20
 enum-told : tie.Need-enum-told
 enum-told c = search needs
 
--- src/payload.rt:167:1
 returns : tie.Need-returns
 returns c =
     let at-number = c .before in
     let at-read-body = at-number .before .before in
     rw (sym (told answerProbe (at-read-body .read-body .ensures) (at-number .number .given .1)))
 
--- src/payload.rt:167:1
 returns-2 : tie.Need-returns-2
 returns-2 c =
     rw (sym (told answerProbe (c .before .before .read-body .ensures) (c .enum-told .given .1)))

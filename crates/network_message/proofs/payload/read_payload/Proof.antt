@@ -9,31 +9,24 @@ use Rattle.network_message.proofs.payload.listed_sizes.Reads as listed-
 use Rattle.network_message.proofs.payload.probe_payload.Reads as probe-payload-reads
 use Rattle.network_message.proofs.payload.rest.Reads as rest-reads
 
--- src/payload.rt:192:16
 enum-told : tie.Need-enum-told
 enum-told c = search needs
 
--- src/payload.rt:193:17
 returns : tie.Need-returns
 returns c = rw (c .before .enum-told .given .1, c .if1 .taken)
 
--- src/payload.rt:195:13
 configured-sizes-requires : tie.Need-configured-sizes-requires
 configured-sizes-requires c κs = search needs
 
--- src/payload.rt:197:28
 enum-known-header : tie.Need-enum-known-header
 enum-known-header c = search needs
 
--- src/payload.rt:199:17
 returns-2 : tie.Need-returns-2
 returns-2 c = rw (c .before .before .header .given .1, eq-eqb _ _ (c .if2 .taken))
 
--- src/payload.rt:202:17
 rest-requires : tie.Need-rest-requires
 rest-requires c κs = search needs
 
--- src/payload.rt:202:17
 returns-3 : tie.Need-returns-3
 returns-3 c =
     let at-if3 = c .before in
@@ -41,32 +34,25 @@ returns-3 c =
     let at-header = at-if2 .before .before in
     rw (at-header .header .given .1, ne-eqb _ _ (at-if2 .if2 .left), le-leb _ _ (at-if3 .if3 .taken)) (c .rest .ensures)
 
--- src/payload.rt:204:13
 listed-sizes-requires : tie.Need-listed-sizes-requires
 listed-sizes-requires c κs = search needs
 
--- src/payload.rt:208:20
 enum-told-2 : tie.Need-enum-told-2
 enum-told-2 c = search needs
 
--- src/payload.rt:212:16
 enum-told-3 : tie.Need-enum-told-3
 enum-told-3 c = search needs
 
--- src/payload.rt:213:17
 returns-4 : tie.Need-returns-4
 returns-4 c = rw (c .before .enum-told3 .given .1, c .if4 .taken)
 
--- src/payload.rt:215:13
 probe-payload-requires : tie.Need-probe-payload-requires
 probe-payload-requires c κs = search needs
 
--- src/payload.rt:181:1
 returns-5 : tie.Need-returns-5
 returns-5 c =
     rw (c .before .before .enum-told .given .1, c .before .if1 .left) (c .configured-sizes .ensures)
 
--- src/payload.rt:181:1
 returns-6 : tie.Need-returns-6
 returns-6 c =
     let at-if3 = c .before in
@@ -74,11 +60,9 @@ returns-6 c =
     let at-header = at-if2 .before .before in
     rw (at-header .header .given .1, ne-eqb _ _ (at-if2 .if2 .left), lt-leb _ _ (at-if3 .if3 .left)) (c .listed-sizes .ensures)
 
--- src/payload.rt:181:1
 returns-7 : tie.Need-returns-7
 returns-7 c = rw (c .enum-told2 .given .1)
 
--- src/payload.rt:181:1
 returns-8 : tie.Need-returns-8
 returns-8 c =
     rw (c .before .before .enum-told3 .given .1, c .before .if4 .left) (c .probe-payload .ensures)

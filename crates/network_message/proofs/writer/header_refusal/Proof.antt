@@ -22,83 +22,63 @@ use Rattle.wire_writer.proofs.writing.is_on_i64.Reads as is-on-i64-reads
 use Rattle.wire_writer.proofs.writing.or_else.Reads as or-else-reads
 use Rattle.wire_writer.proofs.writing.picoseconds_refusal.Reads as picoseconds-refusal-reads
 
--- src/envelope.rt:130:9
 messages-of-requires : tie.Need-messages-of-requires
 messages-of-requires c κs = search needs
 
--- src/envelope.rt:131:24
 promoted-refusal-requires : tie.Need-promoted-refusal-requires
 promoted-refusal-requires c κs = search needs
 
--- src/envelope.rt:131:9
 or-else-requires : tie.Need-or-else-requires
 or-else-requires c κs = search needs
 
--- src/envelope.rt:133:9
 count-refusal-requires : tie.Need-count-refusal-requires
 count-refusal-requires c κs = search needs
 
--- src/envelope.rt:134:17
 picoseconds-refusal-requires : tie.Need-picoseconds-refusal-requires
 picoseconds-refusal-requires c κs = search needs
 
--- src/envelope.rt:134:9
 or-else-requires-2 : tie.Need-or-else-requires-2
 or-else-requires-2 c κs = search needs
 
--- src/envelope.rt:132:9
 or-else-requires-3 : tie.Need-or-else-requires-3
 or-else-requires-3 c κs = search needs
 
--- src/envelope.rt:137:9
 publisher-refusal-requires : tie.Need-publisher-refusal-requires
 publisher-refusal-requires c κs = search needs
 
--- src/envelope.rt:138:17
 group-refusal-requires : tie.Need-group-refusal-requires
 group-refusal-requires c κs = search needs
 
--- src/envelope.rt:138:9
 or-else-requires-4 : tie.Need-or-else-requires-4
 or-else-requires-4 c κs = search needs
 
--- src/envelope.rt:136:9
 or-else-requires-5 : tie.Need-or-else-requires-5
 or-else-requires-5 c κs = search needs
 
--- src/envelope.rt:141:9
 probe-on-requires : tie.Need-probe-on-requires
 probe-on-requires c κs = search needs
 
--- src/envelope.rt:143:9
 promoted-on-requires : tie.Need-promoted-on-requires
 promoted-on-requires c κs = search needs
 
--- src/envelope.rt:140:9
 probe-refusal-requires : tie.Need-probe-refusal-requires
 probe-refusal-requires c κs = search needs
 
--- src/envelope.rt:146:23
 is-on16-requires : tie.Need-is-on16-requires
 is-on16-requires c κs = search needs
 
--- src/envelope.rt:146:45
 is-on-i64-requires : tie.Need-is-on-i64-requires
 is-on-i64-requires c κs = search needs
 
--- src/envelope.rt:146:9
 times-refusal-requires : tie.Need-times-refusal-requires
 times-refusal-requires c κs = search needs
 
--- src/envelope.rt:147:9
 or-else-requires-6 : tie.Need-or-else-requires-6
 or-else-requires-6 c κs = search needs
 
--- src/envelope.rt:145:5
 or-else-requires-7 : tie.Need-or-else-requires-7
 or-else-requires-7 c κs = search needs
 
--- src/envelope.rt:121:1
 returns : tie.Need-returns
 returns c =
     let at-or-else6 = c .before in

@@ -7,74 +7,57 @@ use Rattle.network_message.proofs.writer.ids_of.Lts as lts
 use Rattle.wire.proofs.left.Reads as left-reads
 use Rattle.wire.proofs.part.part.Reads as part-reads
 
--- src/envelope.rt:304:34
 enum-told : tie.Need-enum-told
 enum-told c = search needs
 
--- src/envelope.rt:304:34
 part-requires : tie.Need-part-requires
 part-requires c κs = search needs
 
--- src/envelope.rt:305:28
 enum-known-x : tie.Need-enum-known-x
 enum-known-x c = search needs
 
--- src/envelope.rt:305:63
 cast-left : tie.Need-cast-left
 cast-left c = search needs
 
--- src/envelope.rt:305:58
 mul-left : tie.Need-mul-left
 mul-left c = search needs
 
--- src/envelope.rt:305:42
 left-requires : tie.Need-left-requires
 left-requires c κs = search needs
 
--- src/envelope.rt:305:82
 cast-part : tie.Need-cast-part
 cast-part c = search needs
 
--- src/envelope.rt:305:77
 mul-part : tie.Need-mul-part
 mul-part c = search needs
 
--- src/envelope.rt:305:34
 part-requires-2 : tie.Need-part-requires-2
 part-requires-2 c κs = search needs
 
--- src/envelope.rt:306:36
 enum-told-2 : tie.Need-enum-told-2
 enum-told-2 c = search needs
 
--- src/envelope.rt:306:36
 part-requires-3 : tie.Need-part-requires-3
 part-requires-3 c κs = search needs
 
--- src/envelope.rt:307:33
 enum-told-3 : tie.Need-enum-told-3
 enum-told-3 c = search needs
 
--- src/envelope.rt:307:33
 part-requires-4 : tie.Need-part-requires-4
 part-requires-4 c κs = search needs
 
--- src/envelope.rt:300:1
 returns : tie.Need-returns
 returns c = search needs
 
--- src/envelope.rt:300:1
 returns-2 : tie.Need-returns-2
 returns-2 c =
     let at-left = c .before in
     let at-x = at-left .before .before in
     rw (at-x .x .given .1, sym (at-left .left .ensures)) (c .part2 .ensures)
 
--- src/envelope.rt:300:1
 returns-3 : tie.Need-returns-3
 returns-3 c = search needs
 
--- src/envelope.rt:300:1
 returns-4 : tie.Need-returns-4
 returns-4 c = search needs
 

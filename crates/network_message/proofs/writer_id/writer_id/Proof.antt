@@ -6,43 +6,33 @@ use Rattle.network_message.proofs.writer_id.writer_id.Lts as lts
 use Rattle.network_message.proofs.writer_id.configured_id.Reads as configured-id-reads
 use Rattle.network_message.proofs.writer_id.listed_id.Reads as listed-id-reads
 
--- src/writer_id.rt:38:34
 enum-told : tie.Need-enum-told
 enum-told c = search needs
 
--- src/writer_id.rt:38:34
 configured-id-requires : tie.Need-configured-id-requires
 configured-id-requires c κs = search needs
 
--- src/writer_id.rt:39:28
 enum-known-header : tie.Need-enum-known-header
 enum-known-header c = search needs
 
--- src/writer_id.rt:39:34
 listed-id-requires : tie.Need-listed-id-requires
 listed-id-requires c κs = search needs
 
--- src/writer_id.rt:40:30
 enum-known-header-2 : tie.Need-enum-known-header-2
 enum-known-header-2 c = search needs
 
--- src/writer_id.rt:41:33
 enum-told-2 : tie.Need-enum-told-2
 enum-told-2 c = search needs
 
--- src/writer_id.rt:34:1
 returns : tie.Need-returns
 returns c = rw (c .before .enum-told .given .1) (c .configured-id .ensures)
 
--- src/writer_id.rt:34:1
 returns-2 : tie.Need-returns-2
 returns-2 c = rw (c .before .before .header .given .1) (c .listed-id .ensures)
 
--- src/writer_id.rt:34:1
 returns-3 : tie.Need-returns-3
 returns-3 c = rw (c .before .header2 .given .1)
 
--- src/writer_id.rt:34:1
 returns-4 : tie.Need-returns-4
 returns-4 c = rw (c .enum-told2 .given .1)
 

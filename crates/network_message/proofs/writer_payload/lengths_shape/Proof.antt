@@ -10,19 +10,15 @@ use Rattle.network_header.proofs.numbers.same_numbers.Reads as same-numbers-rea
 use Rattle.network_header.proofs.numbers.writers.Reads as writers-reads
 use Rattle.wire_writer.proofs.writing.six_unless.Reads as six-unless-reads
 
--- src/payload.rt:61:16
 enum-told : tie.Need-enum-told
 enum-told c = search needs
 
--- src/payload.rt:61:16
 writers-requires : tie.Need-writers-requires
 writers-requires c κs = search needs
 
--- src/payload.rt:62:17
 six-unless-requires : tie.Need-six-unless-requires
 six-unless-requires c κs = search needs
 
--- src/payload.rt:62:17
 returns : tie.Need-returns
 returns c =
     let at-if1 = c .before in
@@ -30,46 +26,36 @@ returns c =
     let at-enum-told = at-writers .before in
     rw (at-enum-told .enum-told .given .1, sym (at-writers .writers .ensures .0), le-leb _ _ (at-if1 .if1 .taken)) (c .six-unless .ensures)
 
--- src/payload.rt:64:24
 same-numbers-requires : tie.Need-same-numbers-requires
 same-numbers-requires c κs = search needs
 
--- src/payload.rt:64:13
 six-unless-requires-2 : tie.Need-six-unless-requires-2
 six-unless-requires-2 c κs = search needs
 
--- src/payload.rt:66:28
 enum-known-x : tie.Need-enum-known-x
 enum-known-x c = search needs
 
--- src/payload.rt:68:17
 six-unless-requires-3 : tie.Need-six-unless-requires-3
 six-unless-requires-3 c κs = search needs
 
--- src/payload.rt:68:17
 returns-2 : tie.Need-returns-2
 returns-2 c =
     let at-if2 = c .before in
     let at-x = at-if2 .before .before in
     rw (at-x .x .given .1, le-leb _ _ (at-if2 .if2 .taken)) (c .six-unless3 .ensures)
 
--- src/payload.rt:72:47
 enum-told-2 : tie.Need-enum-told-2
 enum-told-2 c = search needs
 
--- src/payload.rt:72:36
 six-unless-requires-4 : tie.Need-six-unless-requires-4
 six-unless-requires-4 c κs = search needs
 
--- src/payload.rt:73:44
 enum-told-3 : tie.Need-enum-told-3
 enum-told-3 c = search needs
 
--- src/payload.rt:73:33
 six-unless-requires-5 : tie.Need-six-unless-requires-5
 six-unless-requires-5 c κs = search needs
 
--- src/payload.rt:56:1
 returns-3 : tie.Need-returns-3
 returns-3 c =
     let at-same-numbers = c .before in
@@ -79,15 +65,12 @@ returns-3 c =
     rw (at-enum-told .enum-told .given .1, sym (at-writers .writers .ensures .0), lt-leb _ _ (at-if1 .if1 .left))
     (c .six-unless2 .ensures ∙ ap (λ (b : Bool). cond b 0 6) (at-same-numbers .same-numbers .ensures))
 
--- src/payload.rt:56:1
 returns-4 : tie.Need-returns-4
 returns-4 c = rw (c .before .before .x .given .1, lt-leb _ _ (c .if2 .left))
 
--- src/payload.rt:56:1
 returns-5 : tie.Need-returns-5
 returns-5 c = rw (c .before .enum-told2 .given .1) (c .six-unless4 .ensures)
 
--- src/payload.rt:56:1
 returns-6 : tie.Need-returns-6
 returns-6 c = rw (c .before .enum-told3 .given .1) (c .six-unless5 .ensures)
 

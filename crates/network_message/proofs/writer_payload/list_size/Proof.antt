@@ -7,41 +7,32 @@ use Rattle.network_message.proofs.writer_payload.list_size.Tie as tie
 use Rattle.network_message.proofs.writer_payload.list_size.Reads as reads
 use Rattle.network_message.proofs.writer_payload.list_size.Lts as lts
 
--- src/payload.rt:82:34
 enum-told : tie.Need-enum-told
 enum-told c = search needs
 
--- src/payload.rt:83:28
 enum-known-x : tie.Need-enum-known-x
 enum-known-x c = search needs
 
--- src/payload.rt:85:17
 returns : tie.Need-returns
 returns c =
     rw (c .before .before .x .given .1, le-leb _ _ (c .if1 .taken)) (refl, omega arith)
 
--- src/payload.rt:89:36
 enum-told-2 : tie.Need-enum-told-2
 enum-told-2 c = search needs
 
--- src/payload.rt:90:33
 enum-told-3 : tie.Need-enum-told-3
 enum-told-3 c = search needs
 
--- src/payload.rt:78:1
 returns-2 : tie.Need-returns-2
 returns-2 c = search needs
 
--- src/payload.rt:78:1
 returns-3 : tie.Need-returns-3
 returns-3 c =
     rw (c .before .before .x .given .1, lt-leb _ _ (c .if1 .left)) (refl, omega arith)
 
--- src/payload.rt:78:1
 returns-4 : tie.Need-returns-4
 returns-4 c = search needs
 
--- src/payload.rt:78:1
 returns-5 : tie.Need-returns-5
 returns-5 c = search needs
 

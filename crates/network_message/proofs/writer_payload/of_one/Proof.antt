@@ -5,7 +5,6 @@ use Rattle.network_message.proofs.writer_payload.of_one.Tie as tie
 use Rattle.network_message.proofs.writer_payload.of_one.Reads as reads
 use Rattle.network_message.proofs.writer_payload.of_one.Lts as lts
 
--- src/payload.rt:54:1
 returns-3 : tie.Need-returns-3
 returns-3 c = rw (c .before .x .given .1)
 

@@ -19,14 +19,12 @@ use Rattle.network_message.proofs.writer_payload.listed_refusal.Reads a
 use Rattle.network_message.proofs.writer_payload.of_one.Reads as of-one-reads
 use Rattle.network_message.proofs.writer_payload.payload_number.Reads as payload-number-reads
 
--- src/payload.rt:76:9
 returns : tie.Need-returns
 returns c =
     let at-is-chunked = c .before in
     let args = at-is-chunked .before .before .before .before .args in
     refused-chunk (args .chunk) (args .x) (now (args .sizes)) (now (args .lengths)) (now (args .messages)) (sym (at-is-chunked .is-chunked .ensures) ∙ c .if1 .taken)
 
--- src/payload.rt:80:9
 returns-2 : tie.Need-returns-2
 returns-2 c =
     let at-if2 = c .before in
@@ -39,7 +37,6 @@ returns-2 c =
     ∙ refused-listed (args .chunk) (args .x) (now (args .sizes)) (now (args .lengths)) (now (args .messages))
     (sym (at-is-chunked .is-chunked .ensures) ∙ at-if1 .if1 .left) (omega (arith, n, at-if2 .if2 .taken))
 
--- src/payload.rt:66:1
 returns-3 : tie.Need-returns-3
 returns-3 c =
     let at-of-one = c .before in

@@ -8,44 +8,35 @@ use Rattle.network_message.proofs.writer_payload.put_list.Reads as read
 use Rattle.network_message.proofs.writer_payload.put_list.Lts as lts
 use Rattle.wire_writer.proofs.store.put_run.Reads as put-run-reads
 
--- src/payload.rt:98:34
 enum-told : tie.Need-enum-told
 enum-told c = search needs
 
--- src/payload.rt:99:28
 enum-known-x : tie.Need-enum-known-x
 enum-known-x c = search needs
 
--- src/payload.rt:101:17
 returns : tie.Need-returns
 returns c =
     let at-x = c .before .before in
     let args = at-x .before .before .before .before .args in
     rw (at-x .x .given .1, le-leb _ _ (c .if1 .taken)) (nothing (now (args .out)) (args .at))
 
--- src/payload.rt:103:13
 put-run-requires : tie.Need-put-run-requires
 put-run-requires c κs = search needs
 
--- src/payload.rt:105:36
 enum-told-2 : tie.Need-enum-told-2
 enum-told-2 c = search needs
 
--- src/payload.rt:106:33
 enum-told-3 : tie.Need-enum-told-3
 enum-told-3 c = search needs
 
--- src/payload.rt:94:1
 returns-2 : tie.Need-returns-2
 returns-2 c =
     let args = c .before .before .before .before .args in
     rw (c .enum-told .given .1) (nothing (now (args .out)) (args .at))
 
--- src/payload.rt:94:1
 same-length : tie.Need-same-length
 same-length c = search needs
 
--- src/payload.rt:94:1
 returns-3 : tie.Need-returns-3
 returns-3 c =
     let at-put-run = c .before .before in
@@ -53,13 +44,11 @@ returns-3 c =
     let at-x = at-if1 .before .before in
     rw (at-x .x .given .1, lt-leb _ _ (at-if1 .if1 .left)) (puts (at-put-run .put-run .ensures))
 
--- src/payload.rt:94:1
 returns-4 : tie.Need-returns-4
 returns-4 c =
     let args = c .before .before .before .before .args in
     rw (c .enum-told2 .given .1) (nothing (now (args .out)) (args .at))
 
--- src/payload.rt:94:1
 returns-5 : tie.Need-returns-5
 returns-5 c =
     let args = c .before .before .before .before .args in

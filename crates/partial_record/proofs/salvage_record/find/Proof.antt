@@ -15,7 +15,6 @@ use Rattle.salvage.proofs.front.count_fields.Reads as count-fields-reads
 use Rattle.partial_record.proofs.salvage_record.none_at.Reads as none-at-reads
 use Rattle.partial_record.proofs.salvage_record.open_in.Reads as open-in-reads
 
--- src/lib.rt:310:1
 returns : tie.Need-returns
 returns c =
     let at-n = c .before in
@@ -23,7 +22,6 @@ returns c =
     let args = at-open-in .before .before .before .before .args in
     ap (salvageOpened (now (args .types)) (now (args .front)) (now (args .area))) (sym (sym (at-n .n .given .1) ∙ at-open-in .open-in .ensures))
 
--- src/lib.rt:310:1
 returns-2 : tie.Need-returns-2
 returns-2 c =
     let at-enum-told = c .before in
@@ -31,7 +29,6 @@ returns-2 c =
     let args = at-open-in .before .before .before .before .args in
     none-found (now (args .types)) (now (args .front)) (now (args .area)) false _ _ _ (sym (at-enum-told .enum-told .given .1) ∙ at-open-in .open-in .ensures) (c .none-at .ensures) refl refl
 
--- src/lib.rt:310:1
 returns-3 : tie.Need-returns-3
 returns-3 c =
     let at-enum-told2 = c .before in
@@ -39,7 +36,6 @@ returns-3 c =
     let args = at-open-in .before .before .before .before .args in
     none-found (now (args .types)) (now (args .front)) (now (args .area)) true _ _ _ (sym (at-enum-told2 .enum-told2 .given .1) ∙ at-open-in .open-in .ensures) (c .none-at2 .ensures) refl refl
 
--- src/lib.rt:310:1
 returns-4 : tie.Need-returns-4
 returns-4 c =
     let at-n2 = c .before in
@@ -50,7 +46,6 @@ returns-4 c =
     ap (salvageOpened (now (args .types)) (now (args .front)) (now (args .area))) (sym (sym (at-c .c .given .1) ∙ at-open-in .open-in .ensures))
     ∙ tally-bad (now (args .types)) (now (args .front)) (now (args .area)) _ _ _ (sym (at-n2 .n2 .given .1) ∙ at-count-fields .count-fields .ensures)
 
--- src/lib.rt:310:1
 returns-5 : tie.Need-returns-5
 returns-5 c =
     let at-k = c .before in

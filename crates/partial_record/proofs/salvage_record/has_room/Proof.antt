@@ -11,13 +11,11 @@ use Rattle.partial_record.proofs.salvage_record.has_room.Reads as reads
 use Rattle.partial_record.proofs.salvage_record.has_room.Lts as lts
 use Rattle.salvage.proofs.holes.count_holes.Reads as count-holes-reads
 
--- src/lib.rt:245:9
 returns : tie.Need-returns
 returns c =
     room-short (length (holesOf (marked inUse (now (c .before .before .args .marks))) (c .before .before .args .total)))
     (c .before .before .args .fields) (c .before .before .args .room) (c .if1 .taken)
 
--- src/lib.rt:249:9
 returns-2 : tie.Need-returns-2
 returns-2 c =
     let at-if1 = c .before in
@@ -25,7 +23,6 @@ returns-2 c =
     room-wide (length (holesOf (marked inUse (now (args .marks))) (args .total))) (args .fields) (args .room) (args .total)
     (holes-most (marked inUse (now (args .marks))) (args .total)) (at-if1 .if1 .left) (c .if2 .taken)
 
--- src/lib.rt:241:1
 returns-3 : tie.Need-returns-3
 returns-3 c =
     let at-if1 = c .before .before in

@@ -1,10 +1,10 @@
+-- `partial_record::salvage_record::put_field` meets its contract. Assumes nothing.
 use Rattle.partial_record.proofs.Saving.{field-as}
 use Rattle.partial_record.specs.List.{entryLaid}
 use denote.Ref.{now}
 use mathlib.Core.Path.{_∙_, ap}
 use mathlib.Core.List.{List}
 use Prim.Native.Nat.{ℕ}
--- `partial_record::salvage_record::put_field` meets its contract. Assumes nothing.
 use borrow.Author.Needs.{needs}
 use Rattle.partial_record.proofs.salvage_record.put_field.Statement.{statement}
 use Rattle.partial_record.proofs.salvage_record.put_field.Tie as tie
@@ -15,7 +15,6 @@ use Rattle.message_record.proofs.message.shape_number.Reads as shape-number-rea
 use Rattle.partial_record.proofs.salvage_record.put_entry.Reads as put-entry-reads
 use Rattle.value.proofs.dimensions.Reads as dimensions-reads
 
--- src/lib.rt:71:1
 returns : tie.Need-returns
 returns c =
     let at-put-entry = c .before .before in

@@ -15,13 +15,11 @@ Inv-loop out₀ start front types first encoding at₀ i₀ k₀ out at i k = Pu
 abbrev μ-loop : tie.MeasureT-loop
 μ-loop out₀ start front types first encoding at₀ i₀ k₀ out at i k = first .count - i
 
--- src/lib.rt:185:5
 loop-holds : tie.Need-loop-holds Inv-loop μ-loop
 loop-holds c =
     let args = c .before .before .before .args in
     putting-start (now (args .types)) (now (args .front)) (args .first) (args .start) (now (args .out))
 
--- src/lib.rt:188:13
 same-length : tie.Need-same-length Inv-loop μ-loop
 same-length c =
     let at-put-next = c .before .before .before in
@@ -30,7 +28,6 @@ same-length c =
     putting-stops (now (args .types)) (now (args .front)) (args .first) (args .start) (now (args .out)) (at-loop .loop .out) _
     (at-loop .loop .at) (at-loop .loop .i) (at-loop .loop .k) _ (at-loop .loop .inv) (at-put-next .put-next .ensures .0) (at-put-next .put-next .ensures .1) (c .if2 .taken) .0
 
--- src/lib.rt:188:13
 returns : tie.Need-returns Inv-loop μ-loop
 returns c =
     let at-put-next = c .before .before .before in
@@ -39,13 +36,11 @@ returns c =
     let done = putting-stops (now (args .types)) (now (args .front)) (args .first) (args .start) (now (args .out)) (at-loop .loop .out) _
     (at-loop .loop .at) (at-loop .loop .i) (at-loop .loop .k) _ (at-loop .loop .inv) (at-put-next .put-next .ensures .0) (at-put-next .put-next .ensures .1) (c .if2 .taken) in (done .1, done .2)
 
--- src/lib.rt:191:9
 add-i : tie.Need-add-i Inv-loop μ-loop
 add-i c =
     let at-near = c .before .before .before .before in
     omega (arith, at-near .before .if1 .taken)
 
--- src/lib.rt:192:9
 add-k : tie.Need-add-k Inv-loop μ-loop
 add-k c =
     let at-put-next = c .before .before .before in
@@ -56,13 +51,11 @@ add-k c =
     (now (at-pre .args .out)) (at-loop .loop .out) _ (at-loop .loop .at) (at-loop .loop .i) (at-loop .loop .k) _ (at-loop .loop .inv)
     (at-put-next .put-next .ensures .0) (at-put-next .put-next .ensures .1) (at-if1 .if1 .taken) (c .if2 .left) in omega (arith, on .all, at-pre .pre)
 
--- src/lib.rt:185:5
 loop-less : tie.Need-loop-less Inv-loop μ-loop
 loop-less c =
     let at-near = c .before .before .before .before in
     omega (arith, at-near .before .if1 .taken)
 
--- src/lib.rt:185:5
 loop-again : tie.Need-loop-again Inv-loop μ-loop
 loop-again c =
     let at-put-next = c .before .before .before in
@@ -72,11 +65,9 @@ loop-again c =
     putting-on (now (args .types)) (now (args .front)) (args .first) (args .start) (now (args .out)) (at-loop .loop .out) _
     (at-loop .loop .at) (at-loop .loop .i) (at-loop .loop .k) _ (at-loop .loop .inv) (at-put-next .put-next .ensures .0) (at-put-next .put-next .ensures .1) (at-if1 .if1 .taken) (c .if2 .left)
 
--- src/lib.rt:169:1
 same-length-2 : tie.Need-same-length-2 Inv-loop μ-loop
 same-length-2 c = c .before .before .loop .inv .long
 
--- src/lib.rt:169:1
 returns-2 : tie.Need-returns-2 Inv-loop μ-loop
 returns-2 c =
     let at-loop = c .before .before in

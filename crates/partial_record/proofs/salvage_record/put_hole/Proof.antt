@@ -12,7 +12,6 @@ use Rattle.partial_record.proofs.salvage_record.put_hole.Lts as lts
 use Rattle.partial_record.proofs.salvage_record.put_entry.Reads as put-entry-reads
 use Rattle.wire.proofs.left.Reads as left-reads
 
--- src/lib.rt:77:1
 returns : tie.Need-returns
 returns c =
     let at-put-entry = c .before .before in

@@ -27,19 +27,16 @@ Inv-loop out₀ marks total at₀ k₀ out at k =
 abbrev μ-loop : tie.MeasureT-loop
 μ-loop out₀ marks total at₀ k₀ out at k = total - at
 
--- src/lib.rt:106:5
 loop-holds : tie.Need-loop-holds Inv-loop μ-loop
 loop-holds c =
     let s = holes-start (marked inUse (now (c .before .before .args .marks))) (c .before .before .args .total) in
     (refl, omega arith, ap (λ (hs : List Hole). entriesPut 0 (holeEntries hs) (now (c .before .before .args .out))) s, let z = ap length s in omega (arith, z))
 
--- src/lib.rt:109:17
 same-length : tie.Need-same-length Inv-loop μ-loop
 same-length c =
     let at-loop = c .before .before .before in
     at-loop .loop .inv .0
 
--- src/lib.rt:109:17
 returns : tie.Need-returns Inv-loop μ-loop
 returns c =
     let at-next-hole = c .before .before in
@@ -49,7 +46,6 @@ returns c =
       holes-all (marked inUse (now (args .marks))) (args .total) (at-loop .loop .at) (at-loop .loop .k) _ (sym (c .enum-told .given .1) ∙ at-next-hole .next-hole .ensures) (at-loop .loop .inv .3),
     )
 
--- src/lib.rt:114:17
 add-k : tie.Need-add-k Inv-loop μ-loop
 add-k c =
     let at-near = c .before .before .before .before in
@@ -60,7 +56,6 @@ add-k c =
     let on = hole-moves (marked inUse (now (args .marks))) (args .total) (at-loop .loop .at) _ _ (sym (at-h .h .given .1) ∙ at-next-hole .next-hole .ensures) in
     omega (arith, on .0, on .1, at-loop .loop .inv .1)
 
--- src/lib.rt:106:5
 loop-less : tie.Need-loop-less Inv-loop μ-loop
 loop-less c =
     let at-near = c .before .before .before .before in
@@ -70,7 +65,6 @@ loop-less c =
     let args = at-loop .before .before .before .args in
     let on = hole-moves (marked inUse (now (args .marks))) (args .total) (at-loop .loop .at) _ _ (sym (at-h .h .given .1) ∙ at-next-hole .next-hole .ensures) in omega (arith, on .0, on .1)
 
--- src/lib.rt:106:5
 loop-again : tie.Need-loop-again Inv-loop μ-loop
 loop-again c =
     let at-put-hole = c .before .before in

@@ -13,14 +13,12 @@ use Rattle.salvage.proofs.quick.fixed_to.Reads as fixed-to-reads
 use Rattle.partial_record.proofs.salvage_record.put_field.Reads as put-field-reads
 use Rattle.partial_record.proofs.salvage_record.put_scalar.Reads as put-scalar-reads
 
--- src/lib.rt:155:28
 shared-slice-read-put-scalar : tie.Need-shared-slice-read-put-scalar
 shared-slice-read-put-scalar c =
     let at-if1 = c .before .before in
     let at-fixed-to = at-if1 .before in
     at-fixed-to .fixed-to .ensures .inside (at-if1 .if1 .taken)
 
--- src/lib.rt:156:9
 returns : tie.Need-returns
 returns c =
     let at-put-scalar = c .before .before in
@@ -32,7 +30,6 @@ returns c =
           (now (args .out)) _ (at-fixed-to .fixed-to .ensures) (at-if1 .if1 .taken) (at-put-scalar .put-scalar .ensures),
     )
 
--- src/lib.rt:139:1
 returns-2 : tie.Need-returns-2
 returns-2 c =
     let at-read-field = c .before .before in
@@ -41,7 +38,6 @@ returns-2 c =
       refused-put _ _ _ (args .k) (now (args .out)) (told answerField (at-read-field .read-field .ensures) (c .enum-told .given .1)),
     )
 
--- src/lib.rt:139:1
 returns-3 : tie.Need-returns-3
 returns-3 c =
     let at-put-field = c .before .before in

@@ -1,3 +1,4 @@
+-- `partial_record::salvage_record::put_told` meets its contract. Assumes nothing.
 use Rattle.dataset_header.specs.Flags.{encodingNumber}
 use Rattle.partial_record.proofs.Saving.{told-as}
 use Rattle.records.specs.Numbers.{numberBytes}
@@ -6,7 +7,6 @@ use denote.Ref.{now}
 use mathlib.Core.Path.{_∙_, ap}
 use mathlib.Core.List.{List}
 use Prim.Native.Nat.{ℕ}
--- `partial_record::salvage_record::put_told` meets its contract. Assumes nothing.
 use borrow.Author.Needs.{needs}
 use Rattle.partial_record.proofs.salvage_record.put_told.Statement.{statement}
 use Rattle.partial_record.proofs.salvage_record.put_told.Tie as tie
@@ -17,7 +17,6 @@ use Rattle.records.proofs.items.flag_number.Reads as flag-number-reads
 use Rattle.records.proofs.numbers.put_numbers.Reads as put-numbers-reads
 use Rattle.partial_record.proofs.salvage_record.promised_number.Reads as promised-number-reads
 
--- src/lib.rt:158:1
 returns : tie.Need-returns
 returns c =
     let at-put-numbers = c .before .before in

@@ -11,14 +11,12 @@ use Rattle.partial_record.proofs.salvage_record.find.Reads as find-read
 use Rattle.partial_record.proofs.salvage_record.store.Reads as store-reads
 use Rattle.wire.proofs.part.part.Reads as part-reads
 
--- src/lib.rt:354:13
 store-requires : tie.Need-store-requires
 store-requires c κs =
     let at-known = c .before .before .before in
     let at-find = at-known .before .before in
     (rw (at-known .known .given .1) at (at-find .find .ensures)) .1
 
--- src/lib.rt:336:1
 returns : tie.Need-returns
 returns c =
     let at-n = c .before in
@@ -30,7 +28,6 @@ returns c =
     put-way (now (args .types)) (now (args .payload)) (now (args .marks)) (args .total) (now (args .told)) (now (args .list)) _ _ _ _ _ _
     (at-next-unmarked .next-unmarked .ensures) (at-part .part .ensures) (at-part2 .part2 .ensures) refl (rw (at-n .n .given .1) at (at-find .find .ensures)) refl
 
--- src/lib.rt:336:1
 returns-2 : tie.Need-returns-2
 returns-2 c =
     let at-store = c .before .before .before .before in

@@ -19,7 +19,6 @@ use Rattle.partial_record.proofs.salvage_record.put_fields.Reads as put
 use Rattle.partial_record.proofs.salvage_record.put_holes.Reads as put-holes-reads
 use Rattle.partial_record.proofs.salvage_record.put_told.Reads as put-told-reads
 
--- src/lib.rt:284:9
 returns : tie.Need-returns
 returns c =
     let at-near = c .before .before .before .before in
@@ -28,7 +27,6 @@ returns c =
     (encodingNumber (args .c .encoding)) (now (args .told)) (now (args .list)) (promiseBy (args .known) (args .c .count))
     (wholeFields (now (args .types)) (now (args .front)) (args .c)) _ refl (c .if1 .taken)
 
--- src/lib.rt:287:9
 returns-2 : tie.Need-returns-2
 returns-2 c =
     let at-has-room = c .before in
@@ -43,7 +41,6 @@ returns-2 c =
     (promiseBy (at-pre .args .known) (at-pre .args .c .count))
     (wholeFields (now (at-pre .args .types)) (now (at-pre .args .front)) (at-pre .args .c)) _ refl (at-if1 .if1 .left) (omega (arith, scant, at-pre .pre))
 
--- src/lib.rt:290:9
 put-fields-requires : tie.Need-put-fields-requires
 put-fields-requires c κs =
     let at-put-holes = c .before .before .before in
@@ -55,7 +52,6 @@ put-fields-requires c κs =
     (length (holesOf (marked inUse (now (at-pre .args .marks))) (at-pre .args .total)) + at-pre .args .fields)
     (length (now (at-pre .args .list)) / 64) (at-has-room .has-room .ensures) (at-if2 .if2 .left) in omega (arith, ample, at-put-holes .put-holes .ensures .1, at-pre .pre)
 
--- src/lib.rt:263:1
 returns-3 : tie.Need-returns-3
 returns-3 c =
     let at-put-told = c .before .before in

@@ -5,26 +5,21 @@ use borrow.Author.Needs.{needs}
 use Rattle.parts.proofs.chunk_data.locate.Statement.{statement}
 use Rattle.parts.proofs.chunk_data.locate.Tie as tie
 
--- src/chunk_data.rt:15:11
 read-requires : tie.Need-read-requires
 read-requires c κs = search needs
 
--- src/chunk_data.rt:16:28
 enum-known-number : tie.Need-enum-known-number
 enum-known-number c = search needs
 
--- src/chunk_data.rt:22:23
 enum-known-c : tie.Need-enum-known-c
 enum-known-c c = search needs
 
--- src/chunk_data.rt:12:1
 returns : tie.Need-returns
 returns c =
     let at-number = c .before in
     let at-call = at-number .before .before in
     rw (sym (told answerChunk (at-call .read .ensures) (at-number .number .given .1))) refl
 
--- src/chunk_data.rt:12:1
 returns-2 : tie.Need-returns-2
 returns-2 c =
     let at-c = c .before .before in

@@ -8,26 +8,21 @@ use Rattle.parts.proofs.field.locate.Reads as reads
 use Rattle.parts.proofs.field.locate.Lts as lts
 use Rattle.dataset_message.proofs.message.field_place.Reads as field-place-reads
 
--- src/lib.rt:28:11
 field-place-requires : tie.Need-field-place-requires
 field-place-requires c κs = search needs
 
--- src/lib.rt:29:28
 enum-known-number : tie.Need-enum-known-number
 enum-known-number c = search needs
 
--- src/lib.rt:30:23
 enum-known-f : tie.Need-enum-known-f
 enum-known-f c = search needs
 
--- src/lib.rt:25:1
 returns : tie.Need-returns
 returns c =
     let at-number = c .before in
     let at-field-place = at-number .before .before in
     rw (sym (told answerField (at-field-place .field-place .ensures) (at-number .number .given .1))) refl
 
--- src/lib.rt:25:1
 returns-2 : tie.Need-returns-2
 returns-2 c =
     let at-f = c .before in

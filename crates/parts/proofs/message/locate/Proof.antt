@@ -5,26 +5,21 @@ use borrow.Author.Needs.{needs}
 use Rattle.parts.proofs.message.locate.Statement.{statement}
 use Rattle.parts.proofs.message.locate.Tie as tie
 
--- src/message.rt:15:11
 message-place-requires : tie.Need-message-place-requires
 message-place-requires c κs = search needs
 
--- src/message.rt:16:30
 enum-known-number : tie.Need-enum-known-number
 enum-known-number c = search needs
 
--- src/message.rt:22:25
 enum-known-m : tie.Need-enum-known-m
 enum-known-m c = search needs
 
--- src/message.rt:12:1
 returns : tie.Need-returns
 returns c =
     let at-number = c .before in
     let at-call = at-number .before .before in
     rw (sym (told answerPlace (at-call .message-place .ensures) (at-number .number .given .1))) refl
 
--- src/message.rt:12:1
 returns-2 : tie.Need-returns-2
 returns-2 c =
     let at-m = c .before in

@@ -6,19 +6,15 @@ use Rattle.reassembly.proofs.CallLaws.{handed-verdict}
 use Rattle.parts.proofs.payload.locate.Statement.{statement}
 use Rattle.parts.proofs.payload.locate.Tie as tie
 
--- src/payload.rt:19:11
 hand-out-verdict-requires : tie.Need-hand-out-verdict-requires
 hand-out-verdict-requires c κs = search needs
 
--- src/payload.rt:20:26
 enum-known-number : tie.Need-enum-known-number
 enum-known-number c = search needs
 
--- src/payload.rt:27:17
 enum-told : tie.Need-enum-told
 enum-told c = search needs
 
--- src/payload.rt:14:1
 returns : tie.Need-returns
 returns c =
     let at-told = c .before in
@@ -26,7 +22,6 @@ returns c =
     let a = at-call .before .before .before .args in
     rw (sym (handed-verdict (partial (a .rec) (now (a .payload)) (now (a .marks))) _ (at-call .hand-out-verdict .ensures)) ∙ at-told .number .given .1) refl
 
--- src/payload.rt:14:1
 returns-2 : tie.Need-returns-2
 returns-2 c =
     let at-told = c .before in

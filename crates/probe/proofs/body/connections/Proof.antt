@@ -9,30 +9,24 @@ use Rattle.probe.proofs.body.connections.Lts as lts
 use Rattle.probe.proofs.body.includes.Reads as includes-reads
 use Rattle.probe.proofs.body.string_list.Reads as string-list-reads
 
--- src/body.rt:177:11
 string-list-requires : tie.Need-string-list-requires
 string-list-requires c κs = search needs
 
--- src/body.rt:178:22
 enum-known-list : tie.Need-enum-known-list
 enum-known-list c = search needs
 
--- src/body.rt:178:37
 includes-requires : tie.Need-includes-requires
 includes-requires c κs = search needs
 
--- src/body.rt:179:27
 enum-known-number : tie.Need-enum-known-number
 enum-known-number c = search needs
 
--- src/body.rt:174:1
 returns : tie.Need-returns
 returns c =
     let at-list = c .before .before in
     let at-string-list = at-list .before .before in
     rw (sym (told answerList (at-string-list .string-list .ensures) (at-list .list .given .1))) (c .includes .ensures)
 
--- src/body.rt:174:1
 returns-2 : tie.Need-returns-2
 returns-2 c =
     let at-number = c .before in

@@ -9,38 +9,30 @@ use Rattle.probe.proofs.body.group.Lts as lts
 use Rattle.wire.proofs.read16.Reads as read16-reads
 use Rattle.wire.proofs.read8.Reads as read8-reads
 
--- src/body.rt:152:38
 read16-requires : tie.Need-read16-requires
 read16-requires c κs = search needs
 
--- src/body.rt:152:20
 enum-known-id : tie.Need-enum-known-id
 enum-known-id c = search needs
 
--- src/body.rt:153:9
 enum-told : tie.Need-enum-told
 enum-told c = search needs
 
--- src/body.rt:153:9
 returns : tie.Need-returns
 returns c =
     let at-read16 = c .before .before in
     let args = at-read16 .before .before .args in
     rw (sym (told (answer16 (args .at)) (at-read16 .read16 .ensures) (c .enum-told .given .1)))
 
--- src/body.rt:155:36
 read8-requires : tie.Need-read8-requires
 read8-requires c κs = search needs
 
--- src/body.rt:155:19
 enum-known-include : tie.Need-enum-known-include
 enum-known-include c = search needs
 
--- src/body.rt:156:9
 enum-told-2 : tie.Need-enum-told-2
 enum-told-2 c = search needs
 
--- src/body.rt:156:9
 returns-2 : tie.Need-returns-2
 returns-2 c =
     let at-read8 = c .before .before in
@@ -49,7 +41,6 @@ returns-2 c =
     let args = at-read16 .before .before .args in
     rw (sym (told (answer16 (args .at)) (at-read16 .read16 .ensures) (at-id .id .given .1)), sym (told (answer8 _) (at-read8 .read8 .ensures) (c .enum-told2 .given .1)))
 
--- src/body.rt:149:1
 returns-3 : tie.Need-returns-3
 returns-3 c =
     let at-include = c .before in

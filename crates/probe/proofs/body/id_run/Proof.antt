@@ -9,29 +9,23 @@ use Rattle.probe.proofs.body.id_run.Tie as tie
 use Rattle.probe.proofs.body.id_run.Reads as reads
 use Rattle.probe.proofs.body.id_run.Lts as lts
 
--- src/body.rt:83:9
 returns : tie.Need-returns
 returns c =
     rw (lt-leb (c .before .args .at + 2 * c .before .args .n) (length (now (c .before .args .s))) (omega arith))
 
--- src/body.rt:85:9
 sub-if2 : tie.Need-sub-if2
 sub-if2 c = search needs
 
--- src/body.rt:86:9
 returns-2 : tie.Need-returns-2
 returns-2 c =
     rw (lt-leb (c .before .before .args .at + 2 * c .before .before .args .n) (length (now (c .before .before .args .s))) (omega arith))
 
--- src/body.rt:88:18
 mul-t4 : tie.Need-mul-t4
 mul-t4 c = search needs
 
--- src/body.rt:88:13
 add-t6 : tie.Need-add-t6
 add-t6 c = search needs
 
--- src/body.rt:79:1
 returns-3 : tie.Need-returns-3
 returns-3 c =
     rw (le-leb (c .before .before .args .at + 2 * c .before .before .args .n) (length (now (c .before .before .args .s))) (omega arith))

@@ -9,26 +9,21 @@ use Rattle.probe.proofs.body.ids_of.Reads as reads
 use Rattle.probe.proofs.body.ids_of.Lts as lts
 use Rattle.probe.proofs.body.id_run.Reads as id-run-reads
 
--- src/body.rt:94:25
 id-run-requires : tie.Need-id-run-requires
 id-run-requires c κs = search needs
 
--- src/body.rt:94:17
 enum-known-next : tie.Need-enum-known-next
 enum-known-next c = search needs
 
--- src/body.rt:95:9
 enum-told : tie.Need-enum-told
 enum-told c = search needs
 
--- src/body.rt:95:9
 returns : tie.Need-returns
 returns c =
     let at-id-run = c .before .before in
     let args = at-id-run .before .before .args in
     rw (sym (told (answerRun (args .start) (2 * args .n)) (at-id-run .id-run .ensures) (c .enum-told .given .1)))
 
--- src/body.rt:91:1
 returns-2 : tie.Need-returns-2
 returns-2 c =
     let at-next = c .before in

@@ -8,38 +8,30 @@ use Rattle.probe.proofs.body.includes.Reads as reads
 use Rattle.probe.proofs.body.includes.Lts as lts
 use Rattle.wire.proofs.read8.Reads as read8-reads
 
--- src/body.rt:165:41
 read8-requires : tie.Need-read8-requires
 read8-requires c κs = search needs
 
--- src/body.rt:165:19
 enum-known-groups : tie.Need-enum-known-groups
 enum-known-groups c = search needs
 
--- src/body.rt:166:9
 enum-told : tie.Need-enum-told
 enum-told c = search needs
 
--- src/body.rt:166:9
 returns : tie.Need-returns
 returns c =
     let at-read8 = c .before .before in
     let args = at-read8 .before .before .args in
     rw (sym (told (answer8 (args .at)) (at-read8 .read8 .ensures) (c .enum-told .given .1)))
 
--- src/body.rt:168:36
 read8-requires-2 : tie.Need-read8-requires-2
 read8-requires-2 c κs = search needs
 
--- src/body.rt:168:19
 enum-known-include : tie.Need-enum-known-include
 enum-known-include c = search needs
 
--- src/body.rt:169:9
 enum-told-2 : tie.Need-enum-told-2
 enum-told-2 c = search needs
 
--- src/body.rt:169:9
 returns-2 : tie.Need-returns-2
 returns-2 c =
     let at-read82 = c .before .before in
@@ -48,7 +40,6 @@ returns-2 c =
     let args = at-read8 .before .before .args in
     rw (sym (told (answer8 (args .at)) (at-read8 .read8 .ensures) (at-groups .groups .given .1)), sym (told (answer8 _) (at-read82 .read82 .ensures) (c .enum-told2 .given .1)))
 
--- src/body.rt:162:1
 returns-3 : tie.Need-returns-3
 returns-3 c =
     let at-include = c .before in

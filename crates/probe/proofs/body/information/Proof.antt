@@ -11,30 +11,24 @@ use Rattle.probe.proofs.body.information_rule.Reads as information-rule
 use Rattle.probe.proofs.body.probe_of.Reads as probe-of-reads
 use Rattle.wire.proofs.read8.Reads as read8-reads
 
--- src/body.rt:203:30
 read8-requires : tie.Need-read8-requires
 read8-requires c κs = search needs
 
--- src/body.rt:203:19
 enum-known-t : tie.Need-enum-known-t
 enum-known-t c = search needs
 
--- src/body.rt:204:9
 enum-told : tie.Need-enum-told
 enum-told c = search needs
 
--- src/body.rt:204:9
 returns : tie.Need-returns
 returns c =
     let at-read8 = c .before .before in
     let args = at-read8 .before .before .args in
     rw (sym (told (answer8 (args .at)) (at-read8 .read8 .ensures) (c .enum-told .given .1)))
 
--- src/body.rt:206:9
 information-rule-requires : tie.Need-information-rule-requires
 information-rule-requires c κs = search needs
 
--- src/body.rt:208:9
 returns-2 : tie.Need-returns-2
 returns-2 c =
     let at-information-rule = c .before in
@@ -43,11 +37,9 @@ returns-2 c =
     let args = at-read8 .before .before .args in
     rw (sym (told (answer8 (args .at)) (at-read8 .read8 .ensures) (at-t .t .given .1)), sym (at-information-rule .information-rule .ensures), ne-eqb _ _ (c .if1 .taken))
 
--- src/body.rt:210:5
 probe-of-requires : tie.Need-probe-of-requires
 probe-of-requires c κs = search needs
 
--- src/body.rt:200:1
 returns-3 : tie.Need-returns-3
 returns-3 c =
     let at-if1 = c .before in

@@ -9,28 +9,22 @@ use Rattle.probe.proofs.body.group.Reads as group-reads
 use Rattle.probe.proofs.body.meta_data.Reads as meta-data-reads
 use Rattle.probe.proofs.body.writers.Reads as writers-reads
 
--- src/body.rt:188:9
 meta-data-requires : tie.Need-meta-data-requires
 meta-data-requires c κs = search needs
 
--- src/body.rt:188:9
 returns : tie.Need-returns
 returns c = rw (eq-eqb _ _ (c .before .if1 .taken)) (c .meta-data .ensures)
 
--- src/body.rt:191:9
 writers-requires : tie.Need-writers-requires
 writers-requires c κs = search needs
 
--- src/body.rt:191:9
 returns-2 : tie.Need-returns-2
 returns-2 c =
     rw (ne-eqb _ _ (c .before .before .if1 .left), eq-eqb _ _ (c .before .if2 .taken)) (c .writers .ensures)
 
--- src/body.rt:194:9
 group-requires : tie.Need-group-requires
 group-requires c κs = search needs
 
--- src/body.rt:194:9
 returns-3 : tie.Need-returns-3
 returns-3 c =
     let at-if3 = c .before in
@@ -38,11 +32,9 @@ returns-3 c =
     let at-if1 = at-if2 .before in
     rw (ne-eqb _ _ (at-if1 .if1 .left), ne-eqb _ _ (at-if2 .if2 .left), eq-eqb _ _ (at-if3 .if3 .taken)) (c .group .ensures)
 
--- src/body.rt:196:5
 connections-requires : tie.Need-connections-requires
 connections-requires c κs = search needs
 
--- src/body.rt:184:1
 returns-4 : tie.Need-returns-4
 returns-4 c =
     let at-if3 = c .before in

@@ -4,15 +4,12 @@ use Rattle.probe.proofs.body.probe_type_rule.Tie as tie
 use Rattle.probe.proofs.body.probe_type_rule.Reads as reads
 use Rattle.probe.proofs.body.probe_type_rule.Lts as lts
 
--- src/body.rt:54:9
 returns : tie.Need-returns
 returns c = rw (eq-eqb _ _ (c .if1 .taken))
 
--- src/body.rt:57:9
 returns-2 : tie.Need-returns-2
 returns-2 c = rw (ne-eqb _ _ (c .before .if1 .left), eq-eqb _ _ (c .if2 .taken))
 
--- src/body.rt:50:1
 returns-3 : tie.Need-returns-3
 returns-3 c = rw (ne-eqb _ _ (c .before .if1 .left), ne-eqb _ _ (c .if2 .left))
 

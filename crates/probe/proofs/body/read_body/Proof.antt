@@ -9,33 +9,27 @@ use Rattle.probe.proofs.body.read_body.Reads as reads
 use Rattle.probe.proofs.body.read_body.Lts as lts
 use Rattle.probe.proofs.body.read_probe.Reads as read-probe-reads
 
--- src/body.rt:231:11
 read-probe-requires : tie.Need-read-probe-requires
 read-probe-requires c κs = search needs
 
--- src/body.rt:232:28
 enum-known-number : tie.Need-enum-known-number
 enum-known-number c = search needs
 
--- src/body.rt:233:23
 enum-known-p : tie.Need-enum-known-p
 enum-known-p c = search needs
 
--- src/body.rt:235:17
 returns : tie.Need-returns
 returns c =
     let at-p = c .before .before in
     let at-read-probe = at-p .before .before in
     rw (sym (told answerProbe (at-read-probe .read-probe .ensures) (at-p .p .given .1)), ne-eqb _ _ (c .if1 .taken))
 
--- src/body.rt:228:1
 returns-2 : tie.Need-returns-2
 returns-2 c =
     let at-number = c .before in
     let at-read-probe = at-number .before .before in
     rw (sym (told answerProbe (at-read-probe .read-probe .ensures) (at-number .number .given .1)))
 
--- src/body.rt:228:1
 returns-3 : tie.Need-returns-3
 returns-3 c =
     let at-p = c .before .before in

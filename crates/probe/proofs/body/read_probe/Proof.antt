@@ -12,19 +12,15 @@ use Rattle.probe.proofs.body.information.Reads as information-reads
 use Rattle.probe.proofs.body.probe_type_rule.Reads as probe-type-rule-reads
 use Rattle.wire.proofs.read8.Reads as read8-reads
 
--- src/body.rt:217:30
 read8-requires : tie.Need-read8-requires
 read8-requires c κs = search needs
 
--- src/body.rt:217:19
 enum-known-t : tie.Need-enum-known-t
 enum-known-t c = search needs
 
--- src/body.rt:218:9
 enum-told : tie.Need-enum-told
 enum-told c = search needs
 
--- src/body.rt:218:9
 returns : tie.Need-returns
 unfolding probeAt
 returns c =
@@ -32,11 +28,9 @@ returns c =
     let args = at-read8 .before .before .args in
     rw (sym (told (answer8 (args .at)) (at-read8 .read8 .ensures) (c .enum-told .given .1)))
 
--- src/body.rt:220:9
 probe-type-rule-requires : tie.Need-probe-type-rule-requires
 probe-type-rule-requires c κs = search needs
 
--- src/body.rt:222:9
 returns-2 : tie.Need-returns-2
 unfolding probeAt
 returns-2 c =
@@ -46,11 +40,9 @@ returns-2 c =
     let args = at-read8 .before .before .args in
     rw (sym (told (answer8 (args .at)) (at-read8 .read8 .ensures) (at-t .t .given .1)), sym (at-probe-type-rule .probe-type-rule .ensures), ne-eqb _ _ (c .if1 .taken))
 
--- src/body.rt:224:5
 information-requires : tie.Need-information-requires
 information-requires c κs = search needs
 
--- src/body.rt:214:1
 returns-3 : tie.Need-returns-3
 unfolding probeAt
 returns-3 c =

@@ -9,31 +9,24 @@ use Rattle.probe.proofs.body.string_list.Lts as lts
 use Rattle.probe.proofs.body.strings_of.Reads as strings-of-reads
 use Rattle.wire.proofs.read_length.Reads as read-length-reads
 
--- src/body.rt:123:11
 read-length-requires : tie.Need-read-length-requires
 read-length-requires c κs = search needs
 
--- src/body.rt:124:26
 enum-known-next : tie.Need-enum-known-next
 enum-known-next c = search needs
 
--- src/body.rt:125:24
 enum-known-start : tie.Need-enum-known-start
 enum-known-start c = search needs
 
--- src/body.rt:125:37
 strings-of-requires : tie.Need-strings-of-requires
 strings-of-requires c κs = search needs
 
--- src/body.rt:126:36
 enum-told : tie.Need-enum-told
 enum-told c = search needs
 
--- src/body.rt:127:30
 enum-told-2 : tie.Need-enum-told-2
 enum-told-2 c = search needs
 
--- src/body.rt:120:1
 returns : tie.Need-returns
 returns c =
     let at-next = c .before in
@@ -41,7 +34,6 @@ returns c =
     let args = at-read-length .before .before .args in
     rw (sym (told (answerLength (args .at)) (at-read-length .read-length .ensures) (at-next .next .given .1)))
 
--- src/body.rt:120:1
 returns-2 : tie.Need-returns-2
 returns-2 c =
     let at-start = c .before .before in
@@ -49,14 +41,12 @@ returns-2 c =
     let args = at-read-length .before .before .args in
     rw (sym (told (answerLength (args .at)) (at-read-length .read-length .ensures) (at-start .start .given .1))) (c .strings-of .ensures)
 
--- src/body.rt:120:1
 returns-3 : tie.Need-returns-3
 returns-3 c =
     let at-read-length = c .before .before in
     let args = at-read-length .before .before .args in
     rw (sym (told (answerLength (args .at)) (at-read-length .read-length .ensures) (c .enum-told .given .1)))
 
--- src/body.rt:120:1
 returns-4 : tie.Need-returns-4
 returns-4 c =
     let at-read-length = c .before .before in

@@ -8,26 +8,21 @@ use Rattle.probe.proofs.body.strings_of.Reads as reads
 use Rattle.probe.proofs.body.strings_of.Lts as lts
 use Rattle.plain_value.proofs.plain.strings_at.Reads as strings-at-reads
 
--- src/body.rt:114:11
 strings-at-requires : tie.Need-strings-at-requires
 strings-at-requires c κs = search needs
 
--- src/body.rt:115:21
 enum-known-next : tie.Need-enum-known-next
 enum-known-next c = search needs
 
--- src/body.rt:116:26
 enum-known-number : tie.Need-enum-known-number
 enum-known-number c = search needs
 
--- src/body.rt:111:1
 returns : tie.Need-returns
 returns c =
     let at-next = c .before in
     let at-strings-at = at-next .before .before in
     rw (sym (told answerReached (at-strings-at .strings-at .ensures) (at-next .next .given .1)))
 
--- src/body.rt:111:1
 returns-2 : tie.Need-returns-2
 returns-2 c =
     let at-number = c .before in

@@ -8,26 +8,21 @@ use Rattle.probe.proofs.body.writers.Reads as reads
 use Rattle.probe.proofs.body.writers.Lts as lts
 use Rattle.probe.proofs.body.id_list.Reads as id-list-reads
 
--- src/body.rt:143:11
 id-list-requires : tie.Need-id-list-requires
 id-list-requires c κs = search needs
 
--- src/body.rt:144:22
 enum-known-list : tie.Need-enum-known-list
 enum-known-list c = search needs
 
--- src/body.rt:145:27
 enum-known-number : tie.Need-enum-known-number
 enum-known-number c = search needs
 
--- src/body.rt:140:1
 returns : tie.Need-returns
 returns c =
     let at-list = c .before in
     let at-id-list = at-list .before .before in
     rw (sym (told answerList (at-id-list .id-list .ensures) (at-list .list .given .1)))
 
--- src/body.rt:140:1
 returns-2 : tie.Need-returns-2
 returns-2 c =
     let at-number = c .before in

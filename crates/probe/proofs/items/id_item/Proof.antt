@@ -8,26 +8,21 @@ use Rattle.probe.proofs.items.id_item.Reads as reads
 use Rattle.probe.proofs.items.id_item.Lts as lts
 use Rattle.wire.proofs.read16.Reads as read16-reads
 
--- src/items.rt:65:32
 read16-requires : tie.Need-read16-requires
 read16-requires c κs = search needs
 
--- src/items.rt:65:20
 enum-known-id : tie.Need-enum-known-id
 enum-known-id c = search needs
 
--- src/items.rt:66:9
 enum-told : tie.Need-enum-told
 enum-told c = search needs
 
--- src/items.rt:66:9
 returns : tie.Need-returns
 returns c =
     let at-read16 = c .before .before in
     let args = at-read16 .before .before .args in
     rw (sym (told (answer16 (args .at)) (at-read16 .read16 .ensures) (c .enum-told .given .1)))
 
--- src/items.rt:62:1
 returns-2 : tie.Need-returns-2
 returns-2 c =
     let at-id = c .before in

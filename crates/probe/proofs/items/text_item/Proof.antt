@@ -9,31 +9,24 @@ use Rattle.probe.proofs.items.text_item.Lts as lts
 use Rattle.probe.proofs.items.text_of.Reads as text-of-reads
 use Rattle.wire.proofs.read_length.Reads as read-length-reads
 
--- src/items.rt:103:11
 read-length-requires : tie.Need-read-length-requires
 read-length-requires c κs = search needs
 
--- src/items.rt:104:26
 enum-known-next : tie.Need-enum-known-next
 enum-known-next c = search needs
 
--- src/items.rt:114:24
 enum-known-start : tie.Need-enum-known-start
 enum-known-start c = search needs
 
--- src/items.rt:114:37
 text-of-requires : tie.Need-text-of-requires
 text-of-requires c κs = search needs
 
--- src/items.rt:115:36
 enum-told : tie.Need-enum-told
 enum-told c = search needs
 
--- src/items.rt:116:30
 enum-told-2 : tie.Need-enum-told-2
 enum-told-2 c = search needs
 
--- src/items.rt:100:1
 returns : tie.Need-returns
 returns c =
     let at-next = c .before in
@@ -41,7 +34,6 @@ returns c =
     let args = at-read-length .before .before .args in
     rw (sym (told (answerLength (args .at)) (at-read-length .read-length .ensures) (at-next .next .given .1)))
 
--- src/items.rt:100:1
 returns-2 : tie.Need-returns-2
 returns-2 c =
     let at-start = c .before .before in
@@ -49,14 +41,12 @@ returns-2 c =
     let args = at-read-length .before .before .args in
     rw (sym (told (answerLength (args .at)) (at-read-length .read-length .ensures) (at-start .start .given .1))) (c .text-of .ensures)
 
--- src/items.rt:100:1
 returns-3 : tie.Need-returns-3
 returns-3 c =
     let at-read-length = c .before .before in
     let args = at-read-length .before .before .args in
     rw (sym (told (answerLength (args .at)) (at-read-length .read-length .ensures) (c .enum-told .given .1)))
 
--- src/items.rt:100:1
 returns-4 : tie.Need-returns-4
 returns-4 c =
     let at-read-length = c .before .before in

@@ -8,26 +8,21 @@ use Rattle.probe.proofs.items.text_of.Reads as reads
 use Rattle.probe.proofs.items.text_of.Lts as lts
 use Rattle.wire.proofs.skip.Reads as skip-reads
 
--- src/items.rt:84:25
 skip-requires : tie.Need-skip-requires
 skip-requires c κs = search needs
 
--- src/items.rt:84:17
 enum-known-next : tie.Need-enum-known-next
 enum-known-next c = search needs
 
--- src/items.rt:85:9
 enum-told : tie.Need-enum-told
 enum-told c = search needs
 
--- src/items.rt:85:9
 returns : tie.Need-returns
 returns c =
     let at-skip = c .before .before in
     let args = at-skip .before .before .args in
     rw (sym (told (answerRun (args .start) (args .n)) (at-skip .skip .ensures) (c .enum-told .given .1)))
 
--- src/items.rt:81:1
 returns-2 : tie.Need-returns-2
 returns-2 c =
     let at-next = c .before in

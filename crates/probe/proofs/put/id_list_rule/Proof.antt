@@ -6,27 +6,21 @@ use Rattle.probe.proofs.put.id_list_rule.Lts as lts
 use Rattle.probe.proofs.put.ids_rule.Reads as ids-rule-reads
 use Rattle.wire_writer.proofs.writing.six_unless.Reads as six-unless-reads
 
--- src/put.rt:56:39
 enum-told : tie.Need-enum-told
 enum-told c = search needs
 
--- src/put.rt:56:28
 six-unless-requires : tie.Need-six-unless-requires
 six-unless-requires c κs = search needs
 
--- src/put.rt:57:23
 enum-known-list : tie.Need-enum-known-list
 enum-known-list c = search needs
 
--- src/put.rt:57:29
 ids-rule-requires : tie.Need-ids-rule-requires
 ids-rule-requires c κs = search needs
 
--- src/put.rt:52:1
 returns : tie.Need-returns
 returns c = rw (c .before .enum-told .given .1) (c .six-unless .ensures)
 
--- src/put.rt:52:1
 returns-2 : tie.Need-returns-2
 returns-2 c = rw (c .before .before .list .given .1) (c .ids-rule .ensures)
 

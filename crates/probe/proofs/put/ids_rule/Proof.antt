@@ -6,19 +6,15 @@ use Rattle.probe.proofs.put.ids_rule.Reads as reads
 use Rattle.probe.proofs.put.ids_rule.Lts as lts
 use Rattle.wire_writer.proofs.writing.six_unless.Reads as six-unless-reads
 
--- src/put.rt:47:9
 returns : tie.Need-returns
 returns c = rw (le-leb _ _ (c .if1 .taken))
 
--- src/put.rt:49:23
 mul-six-unless : tie.Need-mul-six-unless
 mul-six-unless c = search needs
 
--- src/put.rt:49:5
 six-unless-requires : tie.Need-six-unless-requires
 six-unless-requires c κs = search needs
 
--- src/put.rt:43:1
 returns-2 : tie.Need-returns-2
 returns-2 c = rw (lt-leb _ _ (c .before .if1 .left)) (c .six-unless .ensures)
 

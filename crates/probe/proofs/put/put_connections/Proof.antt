@@ -8,27 +8,21 @@ use Rattle.probe.proofs.put.put_count.Reads as put-count-reads
 use Rattle.wire_writer.proofs.store.put8.Reads as put8-reads
 use Rattle.wire_writer.proofs.store.put_run.Reads as put-run-reads
 
--- src/put.rt:144:9
 put-count-requires : tie.Need-put-count-requires
 put-count-requires c κs = search needs
 
--- src/put.rt:145:9
 put-run-requires : tie.Need-put-run-requires
 put-run-requires c κs = search needs
 
--- src/put.rt:146:9
 put8-requires : tie.Need-put8-requires
 put8-requires c κs = search needs
 
--- src/put.rt:147:5
 put8-requires-2 : tie.Need-put8-requires-2
 put8-requires-2 c κs = search needs
 
--- src/put.rt:132:1
 same-length : tie.Need-same-length
 same-length c = search needs
 
--- src/put.rt:132:1
 returns : tie.Need-returns
 returns c =
     let at-put82 = c .before .before in

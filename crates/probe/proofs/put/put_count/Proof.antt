@@ -7,42 +7,33 @@ use Rattle.probe.proofs.put.put_count.Reads as reads
 use Rattle.probe.proofs.put.put_count.Lts as lts
 use Rattle.wire_writer.proofs.store.put32.Reads as put32-reads
 
--- src/put.rt:113:34
 enum-told : tie.Need-enum-told
 enum-told c = search needs
 
--- src/put.rt:113:28
 put32-requires : tie.Need-put32-requires
 put32-requires c κs = search needs
 
--- src/put.rt:114:23
 enum-known-list : tie.Need-enum-known-list
 enum-known-list c = search needs
 
--- src/put.rt:114:44
 cast-put32 : tie.Need-cast-put32
 cast-put32 c = search needs
 
--- src/put.rt:114:29
 put32-requires-2 : tie.Need-put32-requires-2
 put32-requires-2 c κs = search needs
 
--- src/put.rt:109:1
 same-length : tie.Need-same-length
 same-length c = search needs
 
--- src/put.rt:109:1
 returns : tie.Need-returns
 returns c =
     let at-put32 = c .before .before in
     let at-enum-told = at-put32 .before .before in
     rw (at-enum-told .enum-told .given .1) (puts (at-put32 .put32 .ensures))
 
--- src/put.rt:109:1
 same-length-2 : tie.Need-same-length-2
 same-length-2 c = search needs
 
--- src/put.rt:109:1
 returns-2 : tie.Need-returns-2
 returns-2 c =
     let at-put322 = c .before .before in

@@ -7,19 +7,15 @@ use Rattle.probe.proofs.put.put_group.Lts as lts
 use Rattle.wire_writer.proofs.store.put16.Reads as put16-reads
 use Rattle.wire_writer.proofs.store.put8.Reads as put8-reads
 
--- src/put.rt:128:9
 put16-requires : tie.Need-put16-requires
 put16-requires c κs = search needs
 
--- src/put.rt:129:5
 put8-requires : tie.Need-put8-requires
 put8-requires c κs = search needs
 
--- src/put.rt:125:1
 same-length : tie.Need-same-length
 same-length c = search needs
 
--- src/put.rt:125:1
 returns : tie.Need-returns
 returns c =
     let at-put8 = c .before .before in

@@ -10,23 +10,18 @@ use Rattle.probe.proofs.put.put_head.Lts as lts
 use Rattle.probe.proofs.put.information_of.Reads as information-of-reads
 use Rattle.wire_writer.proofs.store.put8.Reads as put8-reads
 
--- src/put.rt:168:9
 put8-requires : tie.Need-put8-requires
 put8-requires c κs = search needs
 
--- src/put.rt:169:19
 information-of-requires : tie.Need-information-of-requires
 information-of-requires c κs = search needs
 
--- src/put.rt:169:5
 put8-requires-2 : tie.Need-put8-requires-2
 put8-requires-2 c κs = search needs
 
--- src/put.rt:165:1
 same-length : tie.Need-same-length
 same-length c = search needs
 
--- src/put.rt:165:1
 returns : tie.Need-returns
 returns c =
     let at-put82 = c .before .before in

@@ -7,19 +7,15 @@ use Rattle.probe.proofs.put.put_list.Lts as lts
 use Rattle.probe.proofs.put.put_count.Reads as put-count-reads
 use Rattle.wire_writer.proofs.store.put_run.Reads as put-run-reads
 
--- src/put.rt:121:9
 put-count-requires : tie.Need-put-count-requires
 put-count-requires c κs = search needs
 
--- src/put.rt:122:5
 put-run-requires : tie.Need-put-run-requires
 put-run-requires c κs = search needs
 
--- src/put.rt:118:1
 same-length : tie.Need-same-length
 same-length c = search needs
 
--- src/put.rt:118:1
 returns : tie.Need-returns
 returns c =
     let at-put-run = c .before .before in

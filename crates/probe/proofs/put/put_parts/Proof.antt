@@ -7,76 +7,60 @@ use Rattle.probe.proofs.put.put_connections.Reads as put-connections-re
 use Rattle.probe.proofs.put.put_group.Reads as put-group-reads
 use Rattle.probe.proofs.put.put_list.Reads as put-list-reads
 
--- src/put.rt:155:25
 enum-known-p : tie.Need-enum-known-p
 enum-known-p c = search needs
 
--- src/put.rt:155:34
 put-list-requires : tie.Need-put-list-requires
 put-list-requires c κs = search needs
 
--- src/put.rt:156:24
 enum-known-p-2 : tie.Need-enum-known-p-2
 enum-known-p-2 c = search needs
 
--- src/put.rt:156:33
 put-list-requires-2 : tie.Need-put-list-requires-2
 put-list-requires-2 c κs = search needs
 
--- src/put.rt:157:22
 enum-known-p-3 : tie.Need-enum-known-p-3
 enum-known-p-3 c = search needs
 
--- src/put.rt:157:38
 put-group-requires : tie.Need-put-group-requires
 put-group-requires c κs = search needs
 
--- src/put.rt:158:28
 enum-known-p-4 : tie.Need-enum-known-p-4
 enum-known-p-4 c = search needs
 
--- src/put.rt:159:13
 put-connections-requires : tie.Need-put-connections-requires
 put-connections-requires c κs = search needs
 
--- src/put.rt:151:1
 same-length : tie.Need-same-length
 same-length c = search needs
 
--- src/put.rt:151:1
 returns : tie.Need-returns
 returns c =
     let at-put-list = c .before .before in
     let at-p = at-put-list .before .before .before in
     rw (at-p .p .given .1) (at-put-list .put-list .ensures)
 
--- src/put.rt:151:1
 same-length-2 : tie.Need-same-length-2
 same-length-2 c = search needs
 
--- src/put.rt:151:1
 returns-2 : tie.Need-returns-2
 returns-2 c =
     let at-put-list2 = c .before .before in
     let at-p2 = at-put-list2 .before .before .before in
     rw (at-p2 .p2 .given .1) (at-put-list2 .put-list2 .ensures)
 
--- src/put.rt:151:1
 same-length-3 : tie.Need-same-length-3
 same-length-3 c = search needs
 
--- src/put.rt:151:1
 returns-3 : tie.Need-returns-3
 returns-3 c =
     let at-put-group = c .before .before in
     let at-p3 = at-put-group .before .before .before in
     rw (at-p3 .p3 .given .1) (at-put-group .put-group .ensures)
 
--- src/put.rt:151:1
 same-length-4 : tie.Need-same-length-4
 same-length-4 c = search needs
 
--- src/put.rt:151:1
 returns-4 : tie.Need-returns-4
 returns-4 c =
     let at-put-connections = c .before .before in

@@ -7,51 +7,39 @@ use Rattle.probe.proofs.put.id_list_rule.Reads as id-list-rule-reads
 use Rattle.probe.proofs.put.string_list_rule.Reads as string-list-rule-reads
 use Rattle.wire_writer.proofs.writing.six_unless.Reads as six-unless-reads
 
--- src/put.rt:90:25
 enum-known-p : tie.Need-enum-known-p
 enum-known-p c = search needs
 
--- src/put.rt:90:34
 id-list-rule-requires : tie.Need-id-list-rule-requires
 id-list-rule-requires c κs = search needs
 
--- src/put.rt:91:24
 enum-known-p-2 : tie.Need-enum-known-p-2
 enum-known-p-2 c = search needs
 
--- src/put.rt:91:33
 id-list-rule-requires-2 : tie.Need-id-list-rule-requires-2
 id-list-rule-requires-2 c κs = search needs
 
--- src/put.rt:92:42
 enum-told : tie.Need-enum-told
 enum-told c = search needs
 
--- src/put.rt:92:31
 six-unless-requires : tie.Need-six-unless-requires
 six-unless-requires c κs = search needs
 
--- src/put.rt:93:28
 enum-known-p-3 : tie.Need-enum-known-p-3
 enum-known-p-3 c = search needs
 
--- src/put.rt:93:43
 string-list-rule-requires : tie.Need-string-list-rule-requires
 string-list-rule-requires c κs = search needs
 
--- src/put.rt:86:1
 returns : tie.Need-returns
 returns c = rw (c .before .before .p .given .1) (c .id-list-rule .ensures)
 
--- src/put.rt:86:1
 returns-2 : tie.Need-returns-2
 returns-2 c = rw (c .before .before .p2 .given .1) (c .id-list-rule2 .ensures)
 
--- src/put.rt:86:1
 returns-3 : tie.Need-returns-3
 returns-3 c = rw (c .before .enum-told .given .1) (c .six-unless .ensures)
 
--- src/put.rt:86:1
 returns-4 : tie.Need-returns-4
 returns-4 c = rw (c .before .before .p3 .given .1) (c .string-list-rule .ensures)
 

@@ -6,27 +6,21 @@ use Rattle.probe.proofs.put.string_list_rule.Lts as lts
 use Rattle.probe.proofs.put.strings_rule.Reads as strings-rule-reads
 use Rattle.wire_writer.proofs.writing.six_unless.Reads as six-unless-reads
 
--- src/put.rt:80:39
 enum-told : tie.Need-enum-told
 enum-told c = search needs
 
--- src/put.rt:80:28
 six-unless-requires : tie.Need-six-unless-requires
 six-unless-requires c κs = search needs
 
--- src/put.rt:81:23
 enum-known-list : tie.Need-enum-known-list
 enum-known-list c = search needs
 
--- src/put.rt:81:29
 strings-rule-requires : tie.Need-strings-rule-requires
 strings-rule-requires c κs = search needs
 
--- src/put.rt:76:1
 returns : tie.Need-returns
 returns c = rw (c .before .enum-told .given .1) (c .six-unless .ensures)
 
--- src/put.rt:76:1
 returns-2 : tie.Need-returns-2
 returns-2 c = rw (c .before .before .list .given .1) (c .strings-rule .ensures)
 

@@ -10,37 +10,30 @@ use Rattle.probe.proofs.put.strings_rule.Lts as lts
 use Rattle.plain_value.proofs.plain.strings_at.Reads as strings-at-reads
 use Rattle.wire_writer.proofs.writing.six_unless.Reads as six-unless-reads
 
--- src/put.rt:65:11
 strings-at-requires : tie.Need-strings-at-requires
 strings-at-requires c κs = search needs
 
--- src/put.rt:66:26
 enum-known-number : tie.Need-enum-known-number
 enum-known-number c = search needs
 
--- src/put.rt:67:21
 enum-known-end : tie.Need-enum-known-end
 enum-known-end c = search needs
 
--- src/put.rt:69:17
 returns : tie.Need-returns
 returns c =
     let at-end = c .before .before in
     let at-strings-at = at-end .before .before in
     rw (sym (told answerReached (at-strings-at .strings-at .ensures) (at-end .end .given .1)), le-leb _ _ (c .if1 .taken))
 
--- src/put.rt:71:13
 six-unless-requires : tie.Need-six-unless-requires
 six-unless-requires c κs = search needs
 
--- src/put.rt:62:1
 returns-2 : tie.Need-returns-2
 returns-2 c =
     let at-number = c .before in
     let at-strings-at = at-number .before .before in
     rw (sym (told answerReached (at-strings-at .strings-at .ensures) (at-number .number .given .1)))
 
--- src/put.rt:62:1
 returns-3 : tie.Need-returns-3
 returns-3 c =
     let at-if1 = c .before in

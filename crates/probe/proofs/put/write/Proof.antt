@@ -18,11 +18,9 @@ use Rattle.probe.proofs.put.put_parts.Reads as put-parts-reads
 use Rattle.probe.proofs.put.refusal.Reads as refusal-reads
 use Rattle.wire_writer.proofs.writing.room_refusal.Reads as room-refusal-reads
 
--- src/put.rt:176:9
 refusal-requires : tie.Need-refusal-requires
 refusal-requires c κs = search needs
 
--- src/put.rt:178:9
 returns : tie.Need-returns
 returns c =
     let at-refusal = c .before in
@@ -32,15 +30,12 @@ returns c =
           (at-refusal .refusal .result) (at-refusal .refusal .ensures) (c .if1 .taken),
     )
 
--- src/put.rt:180:9
 body-size-requires : tie.Need-body-size-requires
 body-size-requires c κs = search needs
 
--- src/put.rt:181:9
 room-refusal-requires : tie.Need-room-refusal-requires
 room-refusal-requires c κs = search needs
 
--- src/put.rt:183:9
 returns-2 : tie.Need-returns-2
 returns-2 c =
     let at-room-refusal = c .before in
@@ -55,19 +50,15 @@ returns-2 c =
           (at-room-refusal .room-refusal .ensures ∙ ap (λ (n : ℕ). roomRefusal n (length (now (at-good .args .out)))) (at-body-size .body-size .ensures)) (c .if2 .taken),
     )
 
--- src/put.rt:185:9
 put-head-requires : tie.Need-put-head-requires
 put-head-requires c κs = search needs
 
--- src/put.rt:186:5
 put-parts-requires : tie.Need-put-parts-requires
 put-parts-requires c κs = search needs
 
--- src/put.rt:173:1
 same-length : tie.Need-same-length
 same-length c = search needs
 
--- src/put.rt:173:1
 returns-3 : tie.Need-returns-3
 returns-3 c =
     let at-put-parts = c .before .before in

@@ -8,7 +8,6 @@ use borrow.Author.Needs.{needs}
 use Rattle.publisher_id.proofs.publisher_record.same_lent.Statement.{statement}
 use Rattle.publisher_id.proofs.publisher_record.same_lent.Tie as tie
 
--- src/publisher_record.rt:103:9
 returns : tie.Need-returns
 returns c =
     let at-code2 = c .before in
@@ -17,7 +16,6 @@ returns c =
     sym (same-publisher-code (publisherOf (lentRecord (args .id) (now (args .text))))
     (publisherOf (recordAt (args .other) (args .end) (now (args .s)))) (λ e. c .if1 .taken (at-code .code .ensures ∙ e ∙ sym (at-code2 .code2 .ensures))))
 
--- src/publisher_record.rt:106:9
 returns-2 : tie.Need-returns-2
 returns-2 c =
     let at-value2 = c .before in
@@ -30,7 +28,6 @@ returns-2 c =
     (publisherOf (recordAt (args .other) (args .end) (now (args .s))))
     (sym (at-code .code .ensures) ∙ at-if1 .if1 .left ∙ at-code2 .code2 .ensures) (λ e. c .if2 .taken (at-value .value .ensures ∙ e ∙ sym (at-value2 .value2 .ensures))))
 
--- src/publisher_record.rt:109:9
 returns-3 : tie.Need-returns-3
 returns-3 c =
     let at-code3 = c .before in
@@ -45,7 +42,6 @@ returns-3 c =
     (sym (at-code .code .ensures) ∙ at-if1 .if1 .left ∙ at-code2 .code2 .ensures)
     (sym (at-value .value .ensures) ∙ at-if2 .if2 .left ∙ at-value2 .value2 .ensures) (λ e. c .if3 .taken (at-code3 .code3 .ensures ∙ e)))
 
--- src/publisher_record.rt:97:1
 returns-4 : tie.Need-returns-4
 returns-4 c =
     let at-publisher-record = c .before in

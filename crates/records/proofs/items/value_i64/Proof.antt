@@ -8,7 +8,6 @@ use borrow.Author.Needs.{needs}
 use Rattle.records.proofs.items.value_i64.Statement.{statement}
 use Rattle.records.proofs.items.value_i64.Tie as tie
 
--- src/message.rt:68:1
 returns-2 : tie.Need-returns-2
 returns-2 c =
     let q : SFits w64 (c .before .before .x .given .0 .0) = search needs in

@@ -3,7 +3,6 @@ use borrow.Author.Needs.{needs}
 use Rattle.records.proofs.last_number.last_in.Statement.{statement}
 use Rattle.records.proofs.last_number.last_in.Tie as tie
 
--- src/newness.rt:12:1
 returns : tie.Need-returns
 returns c = rw (c .before .number .ensures, c .number2 .ensures) refl
 

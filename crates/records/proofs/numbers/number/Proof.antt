@@ -10,12 +10,10 @@ use borrow.Author.Needs.{needs}
 use Rattle.records.proofs.numbers.number.Statement.{statement}
 use Rattle.records.proofs.numbers.number.Tie as tie
 
--- src/numbers.rt:15:9
 returns : tie.Need-returns
 returns c =
     rw (lt-leb (8 * c .before .before .args .i + 8) (length (now (c .before .before .args .s))) (omega arith))
 
--- src/numbers.rt:11:1
 returns-2 : tie.Need-returns-2
 returns-2 c =
     let at-v = c .before in
@@ -23,7 +21,6 @@ returns-2 c =
     let args = at-read64 .before .before .before .args in
     rw (sym (told (answer64 (8 * args .i)) (at-read64 .read64 .ensures) (at-v .v .given .1)))
 
--- src/numbers.rt:11:1
 returns-3 : tie.Need-returns-3
 returns-3 c =
     let at-read64 = c .before .before in

@@ -6,19 +6,16 @@ use borrow.Author.Needs.{needs}
 use Rattle.records.proofs.numbers.put_numbers_from.Statement.{statement}
 use Rattle.records.proofs.numbers.put_numbers_from.Tie as tie
 
--- src/numbers.rt:42:9
 returns : tie.Need-returns
 returns c =
     let args = c .before .before .before .args in
     put-none (now (args .numbers)) (now (args .out)) (8 * args .i) (omega arith)
 
--- src/numbers.rt:45:9
 returns-2 : tie.Need-returns-2
 returns-2 c =
     let args = c .before .before .before .before .args in
     put-none (now (args .numbers)) (now (args .out)) (8 * args .i) (omega arith)
 
--- src/numbers.rt:37:1
 returns-3 : tie.Need-returns-3
 returns-3 c =
     let at-store = c .before .before in

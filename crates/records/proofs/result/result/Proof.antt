@@ -4,11 +4,9 @@ use borrow.Author.Needs.{needs}
 use Rattle.records.proofs.result.result.Statement.{statement}
 use Rattle.records.proofs.result.result.Tie as tie
 
--- src/result.rt:10:9
 returns : tie.Need-returns
 returns c = rw (lt-ltb 72057594037927935 (c .before .args .value) (omega arith))
 
--- src/result.rt:6:1
 returns-2 : tie.Need-returns-2
 returns-2 c = rw (le-ltb 72057594037927935 (c .before .args .value) (omega arith))
 

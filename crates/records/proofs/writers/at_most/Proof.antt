@@ -5,11 +5,9 @@ use borrow.Author.Needs.{needs}
 use Rattle.records.proofs.writers.at_most.Statement.{statement}
 use Rattle.records.proofs.writers.at_most.Tie as tie
 
--- src/writers.rt:33:9
 returns : tie.Need-returns
 returns c = rw (lt-ltb (c .before .args .most) (c .before .args .n) (omega arith)) (refl, omega arith)
 
--- src/writers.rt:29:1
 returns-2 : tie.Need-returns-2
 returns-2 c = rw (le-ltb (c .before .args .most) (c .before .args .n) (omega arith)) (refl, omega arith)
 

@@ -16,12 +16,10 @@ Inv-loop config n id k₀ p₀ k p =
 abbrev μ-loop : tie.MeasureT-loop
 μ-loop config n id k₀ p₀ k p = n - k
 
--- src/writers.rt:116:5
 loop-holds : tie.Need-loop-holds Inv-loop μ-loop
 loop-holds c =
     (omega arith, (omega arith, find-start (c .before .args .n) (now (c .before .args .config)) 2 (c .before .args .id)))
 
--- src/writers.rt:118:13
 returns : tie.Need-returns Inv-loop μ-loop
 returns c =
     let at-number16 = c .before in
@@ -29,7 +27,6 @@ returns c =
     let args = at-loop .before .before .args in
     find-here (args .n - at-loop .loop .k) (args .n - (at-loop .loop .k + 1)) _ _ _ _ _ _ (omega arith) (at-number16 .number16 .ensures) (at-loop .loop .inv .1 .1) (c .if1 .taken)
 
--- src/writers.rt:116:5
 loop-again : tie.Need-loop-again Inv-loop μ-loop
 loop-again c =
     let at-number16 = c .before in
@@ -42,7 +39,6 @@ loop-again c =
       ),
     )
 
--- src/writers.rt:110:1
 returns-2 : tie.Need-returns-2 Inv-loop μ-loop
 returns-2 c =
     omega (arith, find-end (c .before .before .before .args .n - c .before .loop .k) _ _ _ _ _ (omega arith) (c .before .loop .inv .1 .1))

@@ -14,16 +14,13 @@ Inv-loop s at list₀ i₀ p₀ list i p = (i ≤ 16) × ((p ≡ at + 2 * i) × 
 abbrev μ-loop : tie.MeasureT-loop
 μ-loop s at list₀ i₀ p₀ list i p = 16 - i
 
--- src/writers.rt:73:5
 loop-holds : tie.Need-loop-holds Inv-loop μ-loop
 loop-holds c = (omega arith, (omega arith, refl))
 
--- src/writers.rt:73:5
 loop-again : tie.Need-loop-again Inv-loop μ-loop
 loop-again c =
     (omega arith, (omega arith, list-next _ _ _ _ _ _ (c .before .loop-test .taken) (c .number16 .ensures) (c .before .before .loop .inv .1 .1)))
 
--- src/writers.rt:66:1
 returns : tie.Need-returns Inv-loop μ-loop
 returns c = list-end _ _ _ _ _ (c .loop-test .left) (c .before .loop .inv .1 .1)
 

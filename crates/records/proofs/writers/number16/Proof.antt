@@ -4,21 +4,17 @@ use borrow.Author.Needs.{needs}
 use Rattle.records.proofs.writers.number16.Statement.{statement}
 use Rattle.records.proofs.writers.number16.Tie as tie
 
--- src/writers.rt:58:5
 cast-result : tie.Need-cast-result
 cast-result c = omega (arith, c .shared-slice-known .given (c .before .args .at))
 
--- src/writers.rt:58:27
 cast-result-2 : tie.Need-cast-result-2
 cast-result-2 c =
     omega (arith, c .shared-slice-known2 .given (c .before .before .args .at + 1))
 
--- src/writers.rt:58:20
 mul-result : tie.Need-mul-result
 mul-result c =
     omega (arith, c .shared-slice-known2 .given (c .before .before .args .at + 1))
 
--- src/writers.rt:58:5
 add-result-2 : tie.Need-add-result-2
 add-result-2 c =
     omega (arith, c .before .shared-slice-known .given (c .before .before .args .at), c .shared-slice-known2 .given (c .before .before .args .at + 1))

@@ -5,12 +5,10 @@ use borrow.Author.Needs.{needs}
 use Rattle.records.proofs.writers.put_config.Statement.{statement}
 use Rattle.records.proofs.writers.put_config.Tie as tie
 
--- src/writers.rt:148:9
 returns : tie.Need-returns
 returns c =
     config-none (c .before .before .args .t2) (now (c .before .before .args .out)) (search needs) (search needs) (search needs) (search needs) (omega arith)
 
--- src/writers.rt:144:1
 returns-2 : tie.Need-returns-2
 returns-2 c =
     let at-put-run2 = c .before .before in

@@ -6,7 +6,6 @@ use borrow.Author.Needs.{needs}
 use Rattle.records.proofs.writers.starts.Statement.{statement}
 use Rattle.records.proofs.writers.starts.Tie as tie
 
--- src/writers.rt:101:1
 returns : tie.Need-returns
 returns c =
     let at-writer-count = c .before in

@@ -6,7 +6,6 @@ use borrow.Author.Needs.{needs}
 use Rattle.records.proofs.writers.types.Statement.{statement}
 use Rattle.records.proofs.writers.types.Tie as tie
 
--- src/writers.rt:107:1
 returns : tie.Need-returns
 returns c =
     let at-field-count = c .before in

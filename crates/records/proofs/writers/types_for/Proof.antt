@@ -5,19 +5,16 @@ use borrow.Author.Needs.{needs}
 use Rattle.records.proofs.writers.types_for.Statement.{statement}
 use Rattle.records.proofs.writers.types_for.Tie as tie
 
--- src/writers.rt:131:9
 returns : tie.Need-returns
 returns c =
     let args = c .before .before .before .args in
     types-far (now (args .config)) _ (args .writer) (omega arith) (c .part .ensures)
 
--- src/writers.rt:134:9
 returns-2 : tie.Need-returns-2
 returns-2 c =
     let args = c .before .before .before .before .args in
     types-short (now (args .config)) _ (args .writer) (omega arith) (omega arith) (c .part2 .ensures)
 
--- src/writers.rt:139:9
 returns-3 : tie.Need-returns-3
 returns-3 c =
     let at-find-id = c .before .before in
@@ -25,7 +22,6 @@ returns-3 c =
     let args = at-writer-count .before .before .before .before .args in
     types-none (now (args .config)) _ (args .writer) _ _ (omega arith) (omega arith) (at-writer-count .writer-count .ensures) (at-find-id .find-id .ensures) (omega arith) (c .part3 .ensures)
 
--- src/writers.rt:127:1
 returns-4 : tie.Need-returns-4
 returns-4 c =
     let at-types = c .before in

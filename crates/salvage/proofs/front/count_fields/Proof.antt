@@ -12,7 +12,6 @@ use Rattle.salvage.proofs.front.ending.Reads as ending-reads
 use Rattle.salvage.proofs.front.pass_whole.Reads as pass-whole-reads
 use Rattle.wire.proofs.left.Reads as left-reads
 
--- src/front.rt:168:1
 returns : tie.Need-returns
 returns c =
     let at-left = c .before in

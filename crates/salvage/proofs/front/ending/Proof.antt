@@ -7,28 +7,24 @@ use Rattle.salvage.proofs.front.ending.Reads as reads
 use Rattle.salvage.proofs.front.ending.Lts as lts
 use Rattle.salvage.proofs.front.next.Reads as next-reads
 
--- src/front.rt:156:1
 returns : tie.Need-returns
 returns c =
     let at-next = c .before .before in
     let args = at-next .before .before .before .before .args in
     ap (tallyBy (args .told)) (sym (c .enum-told .given .1) ∙ at-next .next .ensures)
 
--- src/front.rt:156:1
 returns-2 : tie.Need-returns-2
 returns-2 c =
     let at-next = c .before .before in
     let args = at-next .before .before .before .before .args in
     ap (tallyBy (args .told)) (sym (c .enum-told2 .given .1) ∙ at-next .next .ensures)
 
--- src/front.rt:156:1
 returns-3 : tie.Need-returns-3
 returns-3 c =
     let at-next = c .before .before in
     let args = at-next .before .before .before .before .args in
     ap (tallyBy (args .told)) (sym (c .enum-told3 .given .1) ∙ at-next .next .ensures)
 
--- src/front.rt:156:1
 returns-4 : tie.Need-returns-4
 returns-4 c =
     let at-n = c .before in

@@ -9,12 +9,10 @@ use Rattle.salvage.proofs.front.field_past.Reads as reads
 use Rattle.salvage.proofs.front.field_past.Lts as lts
 use Rattle.dataset_fields.proofs.fields.read_field.Reads as read-field-reads
 
--- src/front.rt:72:1
 returns : tie.Need-returns
 returns c =
     rw (sym (told answerField (c .before .before .read-field .ensures) (c .enum-told .given .1)))
 
--- src/front.rt:72:1
 returns-2 : tie.Need-returns-2
 returns-2 c =
     let at-n = c .before in

@@ -8,17 +8,14 @@ use Rattle.salvage.proofs.front.front_past.Reads as reads
 use Rattle.salvage.proofs.front.front_past.Lts as lts
 use Rattle.dataset_message.proofs.message.front_to.Reads as front-to-reads
 
--- src/front.rt:45:1
 returns : tie.Need-returns
 returns c =
     rw (sym (told answerMessage (c .before .before .front-to .ensures) (c .enum-told .given .1)))
 
--- src/front.rt:45:1
 returns-2 : tie.Need-returns-2
 returns-2 c =
     rw (sym (told answerMessage (c .before .before .front-to .ensures) (c .enum-told2 .given .1)))
 
--- src/front.rt:45:1
 returns-3 : tie.Need-returns-3
 returns-3 c =
     let at-n = c .before in

@@ -9,12 +9,10 @@ use Rattle.salvage.proofs.front.last.Reads as reads
 use Rattle.salvage.proofs.front.last.Lts as lts
 use Rattle.dataset_fields.proofs.fields.padding.Reads as padding-reads
 
--- src/front.rt:135:1
 returns : tie.Need-returns
 returns c =
     rw (sym (told answerReached (c .before .before .padding .ensures) (c .enum-told .given .1)))
 
--- src/front.rt:135:1
 returns-2 : tie.Need-returns-2
 returns-2 c =
     let at-n = c .before in

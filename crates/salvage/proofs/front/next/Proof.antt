@@ -12,11 +12,9 @@ use Rattle.dataset_fields.proofs.fields.read_field.Reads as read-field-reads
 use Rattle.salvage.proofs.front.field_past.Reads as field-past-reads
 use Rattle.salvage.proofs.front.last.Reads as last-reads
 
--- src/front.rt:149:9
 returns : tie.Need-returns
 returns c = rw (le-leb _ _ (c .before .if1 .taken)) (c .last .ensures)
 
--- src/front.rt:165:17
 returns-2 : tie.Need-returns-2
 returns-2 c =
     let at-n = c .before .before in
@@ -24,7 +22,6 @@ returns-2 c =
     let at-if1 = at-read-field .before in
     rw (lt-leb _ _ (at-if1 .if1 .left), sym (told answerField (at-read-field .read-field .ensures) (at-n .n .given .1)), ne-eqb _ _ (c .if2 .taken))
 
--- src/front.rt:168:17
 returns-3 : tie.Need-returns-3
 returns-3 c =
     let at-field-past = c .before in
@@ -40,7 +37,6 @@ returns-3 c =
       c .if3 .taken,
     )
 
--- src/front.rt:145:1
 returns-4 : tie.Need-returns-4
 returns-4 c =
     let at-field = c .before .before in
@@ -48,7 +44,6 @@ returns-4 c =
     let at-if1 = at-read-field .before in
     rw (lt-leb _ _ (at-if1 .if1 .left), sym (told answerField (at-read-field .read-field .ensures) (at-field .field .given .1)))
 
--- src/front.rt:145:1
 returns-5 : tie.Need-returns-5
 returns-5 c =
     let at-field-past = c .before in

@@ -10,14 +10,12 @@ use Rattle.salvage.proofs.front.open.Lts as lts
 use Rattle.dataset_message.proofs.message.front_to.Reads as front-to-reads
 use Rattle.salvage.proofs.front.front_past.Reads as front-past-reads
 
--- src/front.rt:80:17
 returns : tie.Need-returns
 returns c =
     let at-n = c .before .before in
     let at-front-to = at-n .before .before in
     rw (sym (told answerMessage (at-front-to .front-to .ensures) (at-n .n .given .1)), ne-eqb _ _ (c .if1 .taken))
 
--- src/front.rt:83:17
 returns-2 : tie.Need-returns-2
 returns-2 c =
     let at-front-past = c .before in
@@ -26,19 +24,16 @@ returns-2 c =
     let at-front-to = at-n .before .before in
     rw (sym (told answerMessage (at-front-to .front-to .ensures) (at-n .n .given .1)), eq-eqb _ _ (at-if1 .if1 .left), sym (at-front-past .front-past .ensures), c .if2 .taken)
 
--- src/front.rt:70:1
 returns-3 : tie.Need-returns-3
 returns-3 c =
     rw (sym (told answerMessage (c .before .before .front-to .ensures) (c .enum-told .given .1)))
 
--- src/front.rt:70:1
 returns-4 : tie.Need-returns-4
 returns-4 c =
     let at-c = c .before in
     let at-front-to = at-c .before .before in
     rw (sym (told answerMessage (at-front-to .front-to .ensures) (at-c .c .given .1)))
 
--- src/front.rt:70:1
 returns-5 : tie.Need-returns-5
 returns-5 c =
     let at-front-past = c .before in

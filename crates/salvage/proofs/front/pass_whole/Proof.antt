@@ -15,20 +15,16 @@ Inv-loop front types first encoding at₀ k₀ at k = Passing types front first 
 abbrev μ-loop : tie.MeasureT-loop
 μ-loop front types first encoding at₀ k₀ at k = first .count - k
 
--- src/front.rt:138:5
 loop-holds : tie.Need-loop-holds Inv-loop μ-loop
 loop-holds c =
     passing-start (now (c .before .before .args .types)) (now (c .before .before .args .front)) (c .before .before .args .first)
 
--- src/front.rt:144:9
 add-k : tie.Need-add-k Inv-loop μ-loop
 add-k c = omega arith
 
--- src/front.rt:138:5
 loop-less : tie.Need-loop-less Inv-loop μ-loop
 loop-less c = omega arith
 
--- src/front.rt:138:5
 loop-again : tie.Need-loop-again Inv-loop μ-loop
 loop-again c =
     let at-field-end = c .before in
@@ -38,14 +34,12 @@ loop-again c =
     passing-on (now (args .types)) (now (args .front)) (args .first) (at-loop .loop .k) (at-loop .loop .at) _ (at-loop .loop .inv)
     (at-if1 .if1 .taken) (at-field-end .field-end .ensures) (c .if2 .left)
 
--- src/front.rt:132:1
 returns : tie.Need-returns Inv-loop μ-loop
 returns c =
     let at-loop = c .before .before in
     let args = at-loop .before .before .before .args in
     passing-ends (now (args .types)) (now (args .front)) (args .first) (at-loop .loop .k) (at-loop .loop .at) (at-loop .loop .inv) (c .if1 .left)
 
--- src/front.rt:132:1
 returns-2 : tie.Need-returns-2 Inv-loop μ-loop
 returns-2 c =
     let at-field-end = c .before in

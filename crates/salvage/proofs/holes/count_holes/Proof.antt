@@ -23,14 +23,12 @@ Inv-loop marks total at₀ n₀ at n =
 abbrev μ-loop : tie.MeasureT-loop
 μ-loop marks total at₀ n₀ at n = total - at
 
--- src/holes.rt:45:5
 loop-holds : tie.Need-loop-holds Inv-loop μ-loop
 loop-holds c =
     let args = c .before .args in
     let all = ap (λ (hs : List Hole). length hs) (holes-start (marked inUse (now (args .marks))) (args .total)) in
     (omega arith, omega (arith, all))
 
--- src/holes.rt:48:17
 returns : tie.Need-returns Inv-loop μ-loop
 returns c =
     let at-next-hole = c .before .before in
@@ -41,7 +39,6 @@ returns c =
     (holes-step m (args .total) (at-loop .loop .at) ∙ ap (thenHoles m (args .total)) (sym (at-next-hole .next-hole .ensures) ∙ c .enum-told .given .1)) in omega
     (arith, none, at-loop .loop .inv .1)
 
--- src/holes.rt:52:17
 add-n : tie.Need-add-n Inv-loop μ-loop
 add-n c =
     let at-end = c .before in
@@ -51,7 +48,6 @@ add-n c =
     let on = hole-moves (marked inUse (now (args .marks))) (args .total) (at-loop .loop .at) _ _ (sym (at-end .end .given .1) ∙ at-next-hole .next-hole .ensures) in
     omega (arith, on .0, on .1, at-loop .loop .inv .0)
 
--- src/holes.rt:45:5
 loop-less : tie.Need-loop-less Inv-loop μ-loop
 loop-less c =
     let at-end = c .before in
@@ -60,7 +56,6 @@ loop-less c =
     let args = at-loop .before .before .args in
     let on = hole-moves (marked inUse (now (args .marks))) (args .total) (at-loop .loop .at) _ _ (sym (at-end .end .given .1) ∙ at-next-hole .next-hole .ensures) in omega (arith, on .0, on .1)
 
--- src/holes.rt:45:5
 loop-again : tie.Need-loop-again Inv-loop μ-loop
 loop-again c =
     let at-end = c .before in

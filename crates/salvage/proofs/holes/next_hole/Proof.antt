@@ -13,19 +13,16 @@ use Rattle.salvage.proofs.holes.next_hole.Lts as lts
 use Rattle.marks.proofs.next_marked.Reads as next-marked-reads
 use Rattle.marks.proofs.next_unmarked.Reads as next-unmarked-reads
 
--- src/holes.rt:27:9
 returns : tie.Need-returns
 returns c =
     rw (sym (c .before .next-unmarked .ensures), le-ltb _ _ (c .if1 .taken))
 
--- src/holes.rt:33:21
 sub-t7 : tie.Need-sub-t7
 sub-t7 c =
     let at-next-unmarked = c .before .before in
     let args = at-next-unmarked .before .before .args in
     let h = next-next (marked inUse (now (args .marks))) (args .total) (at-next-unmarked .next-unmarked .result) in let l = h .from in omega (arith, c .next-marked .ensures)
 
--- src/holes.rt:22:1
 returns-2 : tie.Need-returns-2
 returns-2 c =
     rw (sym (c .before .before .next-unmarked .ensures), lt-ltb _ _ (c .before .if1 .left), sym (c .next-marked .ensures))

@@ -10,21 +10,18 @@ use Rattle.salvage.proofs.quick.field_end.Lts as lts
 use Rattle.dataset_fields.proofs.fields.read_field.Reads as read-field-reads
 use Rattle.salvage.proofs.quick.fixed_to.Reads as fixed-to-reads
 
--- src/quick.rt:37:9
 returns : tie.Need-returns
 returns c =
     let at-fixed-to = c .before in
     let args = at-fixed-to .before .before .before .args in
     fixed-ends (args .delta) (args .encoding) (now (args .types)) (args .k) (now (args .front)) (args .at) _ (at-fixed-to .fixed-to .ensures) (c .if1 .taken)
 
--- src/quick.rt:25:1
 returns-2 : tie.Need-returns-2
 returns-2 c =
     let at-read-field = c .before .before in
     let args = at-read-field .before .before .before .before .before .args in
     refused-ends (args .delta) (args .encoding) (now (args .types)) (args .k) (now (args .front)) (args .at) _ _ (told answerField (at-read-field .read-field .ensures) (c .enum-told .given .1))
 
--- src/quick.rt:25:1
 returns-3 : tie.Need-returns-3
 returns-3 c =
     let at-end = c .before in

@@ -7,12 +7,10 @@ use Rattle.salvage.proofs.quick.fixed_to.Reads as reads
 use Rattle.salvage.proofs.quick.fixed_to.Lts as lts
 use Rattle.value.proofs.quick.fixed_end.Reads as fixed-end-reads
 
--- src/quick.rt:15:9
 returns : tie.Need-returns
 returns c =
     none-fixed (c .before .before .args .delta) (c .before .before .args .encoding) (now (c .before .before .args .front)) (c .before .before .args .at)
 
--- src/quick.rt:11:1
 returns-2 : tie.Need-returns-2
 returns-2 c =
     let at-enum-told = c .before in
@@ -20,13 +18,11 @@ returns-2 c =
     let args = at-if1 .before .before .args in
     rw (at-if1 .if1 .left, at-enum-told .enum-told .given .1) (variant-fixed (now (args .front)) (args .at) _ (c .fixed-end .ensures))
 
--- src/quick.rt:11:1
 returns-3 : tie.Need-returns-3
 returns-3 c =
     let args = c .before .before .before .before .args in
     none-fixed (args .delta) (args .encoding) (now (args .front)) (args .at)
 
--- src/quick.rt:11:1
 returns-4 : tie.Need-returns-4
 returns-4 c =
     let args = c .before .before .before .before .args in

@@ -6,20 +6,17 @@ use borrow.Author.Needs.{needs}
 use Rattle.uadp_c.proofs.configuring.uadp_config.Statement.{statement}
 use Rattle.uadp_c.proofs.configuring.uadp_config.Tie as tie
 
--- src/configuring.rt:17:9
 returns : tie.Need-returns
 returns c =
     fill-refused _ (now (c .before .before .before .before .before .before .args .config)) _ _ _
     (config-bad (now (c .before .before .before .before .before .before .args .text)) _ (c .before .before .before .read-config .ensures) (omega arith)) (c .result .ensures)
 
--- src/configuring.rt:20:9
 returns-2 : tie.Need-returns-2
 returns-2 c =
     fill-none _ (now (c .before .before .before .before .before .before .before .args .config)) _ _ 146 _
     (config-good (now (c .before .before .before .before .before .before .before .args .text)) _ (c .before .before .before .before .read-config .ensures) (omega arith))
     (config-length (c .before .before .before .before .read-config .result .config) (search needs) (search needs) (search needs) (search needs)) (omega arith) (c .result2 .ensures)
 
--- src/configuring.rt:11:1
 returns-3 : tie.Need-returns-3
 returns-3 c =
     fill-done _ (now (c .before .before .before .before .before .before .before .before .before .before .before .before .args .config)) _ _ _ 146 _

@@ -5,14 +5,12 @@ use borrow.Author.Needs.{needs}
 use Rattle.uadp_c.proofs.cutting.uadp_cut.Statement.{statement}
 use Rattle.uadp_c.proofs.cutting.uadp_cut.Tie as tie
 
--- src/cutting.rt:11:1
 returns : tie.Need-returns
 returns c =
     let at-n = c .before .before in
     let at-cut = at-n .before .before .before .before in
     (c .result .ensures ∙ told cutResult (ap cutResult (at-cut .cut .ensures .0)) (at-n .n .given .1), at-cut .cut .ensures .1)
 
--- src/cutting.rt:11:1
 returns-2 : tie.Need-returns-2
 returns-2 c =
     let at-n2 = c .before .before in

@@ -7,7 +7,6 @@ use borrow.Author.Needs.{needs}
 use Rattle.uadp_c.proofs.fields.by_step.Statement.{statement}
 use Rattle.uadp_c.proofs.fields.by_step.Tie as tie
 
--- src/fields.rt:79:17
 returns : tie.Need-returns
 returns c =
     let at-f = c .before .before .before in
@@ -19,7 +18,6 @@ returns c =
     (stepped (now (args .config)) (now (args .message)) _ (now (args .head)) (args .writer) _ _ (at-types-for .types-for .ensures)
     (at-cursor-in .cursor-in .ensures) (told answerFieldStep (at-step .step .ensures) (at-f .f .given .1))) (omega arith) (c .result2 .ensures)
 
--- src/fields.rt:82:17
 returns-2 : tie.Need-returns-2
 returns-2 c =
     let at-f = c .before .before .before .before in
@@ -31,7 +29,6 @@ returns-2 c =
     (stepped (now (args .config)) (now (args .message)) _ (now (args .head)) (args .writer) _ _ (at-types-for .types-for .ensures)
     (at-cursor-in .cursor-in .ensures) (told answerFieldStep (at-step .step .ensures) (at-f .f .given .1))) (omega arith) (omega arith) (c .result3 .ensures)
 
--- src/fields.rt:64:1
 returns-3 : tie.Need-returns-3
 returns-3 c =
     let at-n = c .before .before in
@@ -43,7 +40,6 @@ returns-3 c =
     (stepped (now (args .config)) (now (args .message)) _ (now (args .head)) (args .writer) _ _ (at-types-for .types-for .ensures)
     (at-cursor-in .cursor-in .ensures) (told answerFieldStep (at-step .step .ensures) (at-n .n .given .1))) (c .result .ensures)
 
--- src/fields.rt:64:1
 returns-4 : tie.Need-returns-4
 returns-4 c =
     let at-put-field = c .before .before .before in

@@ -9,7 +9,6 @@ use borrow.Author.Needs.{needs}
 use Rattle.uadp_c.proofs.fields.uadp_field.Statement.{statement}
 use Rattle.uadp_c.proofs.fields.uadp_field.Tie as tie
 
--- src/fields.rt:55:17
 returns : tie.Need-returns
 returns c =
     let at-f = c .before .before .before in
@@ -20,7 +19,6 @@ returns c =
     (field-read (now (args .config)) (now (args .message)) _ (args .writer) (args .k) _ (at-types-for .types-for .ensures)
     (told answerField (at-field-place .field-place .ensures) (at-f .f .given .1))) (bytes-length (fieldNumbers (at-f .f .given .0 .0))) (omega arith) (c .result2 .ensures)
 
--- src/fields.rt:47:1
 returns-2 : tie.Need-returns-2
 returns-2 c =
     let at-n = c .before .before in
@@ -31,7 +29,6 @@ returns-2 c =
     (field-read (now (args .config)) (now (args .message)) _ (args .writer) (args .k) _ (at-types-for .types-for .ensures)
     (told answerField (at-field-place .field-place .ensures) (at-n .n .given .1))) (c .result .ensures)
 
--- src/fields.rt:47:1
 returns-3 : tie.Need-returns-3
 returns-3 c =
     let at-put-field = c .before .before .before in

@@ -10,7 +10,6 @@ use borrow.Author.Needs.{needs}
 use Rattle.uadp_c.proofs.fields.uadp_read_message.Statement.{statement}
 use Rattle.uadp_c.proofs.fields.uadp_read_message.Tie as tie
 
--- src/fields.rt:31:17
 returns : tie.Need-returns
 returns c =
     let at-enum-told = c .before .before in
@@ -26,7 +25,6 @@ returns c =
     (bytes-length (headNumbers notValid)) (omega arith) (c .result2 .ensures))
     tt
 
--- src/fields.rt:38:17
 returns-2 : tie.Need-returns-2
 returns-2 c =
     let at-h = c .before .before .before in
@@ -42,7 +40,6 @@ returns-2 c =
     (bytes-length (headNumbers (valid (record { header = at-h .h .given .0 .0; cursor = at-h .h .given .0 .1 .0; end = at-h .h .given .0 .1 .1 .0 })))) (omega arith) (c .result4 .ensures))
     (λ l. absurd (omega arith))
 
--- src/fields.rt:23:1
 returns-3 : tie.Need-returns-3
 returns-3 c =
     let at-n = c .before .before in
@@ -58,7 +55,6 @@ returns-3 c =
     (c .result .ensures))
     tt
 
--- src/fields.rt:23:1
 returns-4 : tie.Need-returns-4
 returns-4 c =
     let at-put-no-head = c .before .before .before in
@@ -75,7 +71,6 @@ returns-4 c =
     (bytes-length (headNumbers notValid)) (omega arith) (c .result3 .ensures) (at-put-no-head .put-no-head .ensures))
     tt
 
--- src/fields.rt:23:1
 returns-5 : tie.Need-returns-5
 returns-5 c =
     let at-put-head = c .before .before .before in

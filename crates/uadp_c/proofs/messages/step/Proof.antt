@@ -4,7 +4,6 @@ use borrow.Author.Needs.{needs}
 use Rattle.uadp_c.proofs.messages.step.Statement.{statement}
 use Rattle.uadp_c.proofs.messages.step.Tie as tie
 
--- src/messages.rt:45:1
 returns : tie.Need-returns
 returns c =
     let at-first = c .before in

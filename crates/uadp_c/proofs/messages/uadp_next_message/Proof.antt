@@ -8,7 +8,6 @@ use borrow.Author.Needs.{needs}
 use Rattle.uadp_c.proofs.messages.uadp_next_message.Statement.{statement}
 use Rattle.uadp_c.proofs.messages.uadp_next_message.Tie as tie
 
--- src/messages.rt:74:17
 returns : tie.Need-returns
 returns c =
     let at-m = c .before .before .before in
@@ -17,7 +16,6 @@ returns c =
     walk-no-envelope (writerAt (now (args .config)) (now (args .envelope)) (now (args .datagram))) _ (now (args .envelope))
     (now (args .place)) _ _ _ _ (told answerPlaceStep (at-step .step .ensures) (at-m .m .given .1)) (omega arith) (c .result2 .ensures)
 
--- src/messages.rt:77:17
 returns-2 : tie.Need-returns-2
 returns-2 c =
     let at-m = c .before .before .before .before in
@@ -26,7 +24,6 @@ returns-2 c =
     walk-no-place (writerAt (now (args .config)) (now (args .envelope)) (now (args .datagram))) _ (now (args .envelope))
     (now (args .place)) _ _ _ _ (told answerPlaceStep (at-step .step .ensures) (at-m .m .given .1)) (omega arith) (omega arith) (c .result3 .ensures)
 
--- src/messages.rt:66:1
 returns-3 : tie.Need-returns-3
 returns-3 c =
     let at-number = c .before .before in
@@ -35,7 +32,6 @@ returns-3 c =
     walk-refused (writerAt (now (args .config)) (now (args .envelope)) (now (args .datagram))) _ (now (args .envelope))
     (now (args .place)) _ _ _ (told answerPlaceStep (at-step .step .ensures) (at-number .number .given .1)) (c .result .ensures)
 
--- src/messages.rt:66:1
 returns-4 : tie.Need-returns-4
 returns-4 c =
     let at-put-place = c .before .before .before in

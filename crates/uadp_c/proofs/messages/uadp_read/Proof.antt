@@ -7,7 +7,6 @@ use borrow.Author.Needs.{needs}
 use Rattle.uadp_c.proofs.messages.uadp_read.Statement.{statement}
 use Rattle.uadp_c.proofs.messages.uadp_read.Tie as tie
 
--- src/messages.rt:37:17
 returns : tie.Need-returns
 returns c =
     let at-e = c .before .before .before in
@@ -23,7 +22,6 @@ returns c =
     (at-writer-count .before .before .shared-slice-known2 .given)
     (read-short (at-e .e .given .0 .0) (at-e .e .given .0 .1 .0) (at-e .e .given .0 .1 .1 .0) _ (now (args .envelope)) _ _ same (omega arith) (c .result2 .ensures))
 
--- src/messages.rt:27:1
 returns-2 : tie.Need-returns-2
 returns-2 c =
     let at-number = c .before .before in
@@ -39,7 +37,6 @@ returns-2 c =
     (at-writer-count .before .before .shared-slice-known2 .given)
     (read-refused _ (now (args .envelope)) _ _ _ same (c .result .ensures))
 
--- src/messages.rt:27:1
 returns-3 : tie.Need-returns-3
 returns-3 c =
     let at-put-envelope = c .before .before .before in

@@ -4,7 +4,6 @@ use borrow.Author.Needs.{needs}
 use Rattle.uadp_c.proofs.messages.writer_at.Statement.{statement}
 use Rattle.uadp_c.proofs.messages.writer_at.Tie as tie
 
--- src/messages.rt:55:1
 returns : tie.Need-returns
 returns c =
     let at-first = c .before in

@@ -7,13 +7,11 @@ use borrow.Author.Needs.{needs}
 use Rattle.uadp_c.proofs.newness.uadp_newness.Statement.{statement}
 use Rattle.uadp_c.proofs.newness.uadp_newness.Tie as tie
 
--- src/newness.rt:27:9
 returns : tie.Need-returns
 returns c =
     let args = c .before .before .before .args in
     judge-no-room (now (args .last)) _ _ (omega arith) (c .result .ensures)
 
--- src/newness.rt:22:1
 returns-2 : tie.Need-returns-2
 returns-2 c =
     let at-put-last = c .before .before .before in
@@ -24,7 +22,6 @@ returns-2 c =
     judged-newer (now (args .last)) _ (args .received) _ _ _ _ (omega arith) (at-last-in .last-in .ensures) (at-noted .noted .ensures .0)
     (at-noted .noted .ensures .1) (at-enum-told .enum-told .given .1) (c .result2 .ensures) (at-put-last .put-last .ensures)
 
--- src/newness.rt:22:1
 returns-3 : tie.Need-returns-3
 returns-3 c =
     let at-enum-told2 = c .before in
@@ -34,7 +31,6 @@ returns-3 c =
     judged (now (args .last)) _ (args .received) _ _ _ Newness.OldOrSame (omega arith) (at-last-in .last-in .ensures)
     (at-noted .noted .ensures .0) (at-enum-told2 .enum-told2 .given .1) (c .result3 .ensures) refl
 
--- src/newness.rt:22:1
 returns-4 : tie.Need-returns-4
 returns-4 c =
     let at-enum-told3 = c .before in

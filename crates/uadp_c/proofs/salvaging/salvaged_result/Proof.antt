@@ -6,11 +6,9 @@ use Rattle.uadp_c.proofs.salvaging.salvaged_result.Reads as reads
 use Rattle.uadp_c.proofs.salvaging.salvaged_result.Lts as lts
 use Rattle.records.proofs.result.result.Reads as result-reads
 
--- src/salvaging.rt:14:1
 returns : tie.Need-returns
 returns c = rw (c .before .before .s .given .1) (c .result .ensures)
 
--- src/salvaging.rt:14:1
 returns-2 : tie.Need-returns-2
 returns-2 c = rw (c .before .before .s2 .given .1) (c .result2 .ensures)
 

@@ -14,14 +14,12 @@ use Rattle.records.proofs.writers.types_for.Reads as types-for-reads
 use Rattle.partial_record.proofs.salvage_record.salvage.Reads as salvage-reads
 use Rattle.uadp_c.proofs.salvaging.salvaged_result.Reads as salvaged-result-reads
 
--- src/salvaging.rt:39:9
 returns : tie.Need-returns
 returns c =
     let at-if1 = c .before in
     let args = at-if1 .before .before .before .before .before .before .before .args in
     salvage-short (now (args .rec)) (now (args .payload)) (now (args .marks)) (now (args .config)) (now (args .told)) (now (args .list)) _ (at-if1 .if1 .taken) (c .result .ensures)
 
--- src/salvaging.rt:25:1
 returns-2 : tie.Need-returns-2
 returns-2 c =
     let at-number = c .before .before in
@@ -32,7 +30,6 @@ returns-2 c =
     salvage-unsound (now (args .rec)) (now (args .payload)) (now (args .marks)) (now (args .config)) (now (args .told))
     (now (args .list)) _ _ (at-if1 .if1 .left) (at-partial-in .partial-in .ensures) _ _ (sym (at-number .number .given .1) ∙ at-progress .progress .ensures) (c .result2 .ensures)
 
--- src/salvaging.rt:25:1
 returns-3 : tie.Need-returns-3
 returns-3 c =
     let at-near = c .before .before .before .before in

@@ -9,36 +9,28 @@ use Rattle.vector_lines.proofs.lines.after.Lts as lts
 use Rattle.text.proofs.words.find.Reads as find-reads
 use Rattle.wire.proofs.part.tail.Reads as tail-reads
 
--- src/lines.rt:29:18
 tail-requires : tie.Need-tail-requires
 tail-requires c κs = search needs
 
--- src/lines.rt:29:9
 find-requires : tie.Need-find-requires
 find-requires c κs = search needs
 
--- src/lines.rt:31:9
 returns : tie.Need-returns
 returns c = search needs
 
--- src/lines.rt:33:8
 sub-if2 : tie.Need-sub-if2
 sub-if2 c = search needs
 
--- src/lines.rt:34:9
 returns-2 : tie.Need-returns-2
 returns-2 c =
     omega (arith, c .before .before .find .ensures ∙ ap (indexOf _) (c .before .before .before .tail .ensures))
 
--- src/lines.rt:36:5
 add-result : tie.Need-add-result
 add-result c = search needs
 
--- src/lines.rt:36:5
 add-result-2 : tie.Need-add-result-2
 add-result-2 c = search needs
 
--- src/lines.rt:24:1
 returns-3 : tie.Need-returns-3
 returns-3 c =
     omega (arith, c .before .before .find .ensures ∙ ap (indexOf _) (c .before .before .before .tail .ensures))

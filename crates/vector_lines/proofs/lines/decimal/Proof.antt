@@ -6,15 +6,12 @@ use Rattle.vector_lines.proofs.lines.decimal.Lts as lts
 use Rattle.vector_lines.proofs.lines.decimal_at.Reads as decimal-at-reads
 use Rattle.vector_lines.proofs.lines.start.Reads as start-reads
 
--- src/lines.rt:99:22
 start-requires : tie.Need-start-requires
 start-requires c κs = search needs
 
--- src/lines.rt:99:5
 decimal-at-requires : tie.Need-decimal-at-requires
 decimal-at-requires c κs = search needs
 
--- src/lines.rt:96:1
 returns : tie.Need-returns
 returns c = rw (c .decimal-at .ensures, c .before .start .ensures)
 

@@ -7,26 +7,21 @@ use Rattle.vector_lines.proofs.lines.decimal_at.Reads as reads
 use Rattle.vector_lines.proofs.lines.decimal_at.Lts as lts
 use Rattle.text.proofs.decimal.read_decimal.Reads as read-decimal-reads
 
--- src/lines.rt:89:11
 read-decimal-requires : tie.Need-read-decimal-requires
 read-decimal-requires c κs = search needs
 
--- src/lines.rt:90:21
 enum-known-n : tie.Need-enum-known-n
 enum-known-n c = search needs
 
--- src/lines.rt:91:25
 enum-told : tie.Need-enum-told
 enum-told c = search needs
 
--- src/lines.rt:86:1
 returns : tie.Need-returns
 returns c =
     let at-n = c .before in
     let at-read-decimal = at-n .before .before in
     ap numberOr0 (sym (at-n .n .given .1) ∙ at-read-decimal .read-decimal .ensures)
 
--- src/lines.rt:86:1
 returns-2 : tie.Need-returns-2
 returns-2 c =
     ap numberOr0 (sym (c .enum-told .given .1) ∙ c .before .before .read-decimal .ensures)

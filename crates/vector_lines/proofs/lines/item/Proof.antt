@@ -7,19 +7,15 @@ use Rattle.text.proofs.words.find.Reads as find-reads
 use Rattle.wire.proofs.part.part.Reads as part-reads
 use Rattle.wire.proofs.part.tail.Reads as tail-reads
 
--- src/lines.rt:20:25
 tail-requires : tie.Need-tail-requires
 tail-requires c κs = search needs
 
--- src/lines.rt:20:20
 find-requires : tie.Need-find-requires
 find-requires c κs = search needs
 
--- src/lines.rt:20:5
 part-requires : tie.Need-part-requires
 part-requires c κs = search needs
 
--- src/lines.rt:17:1
 returns : tie.Need-returns
 returns c =
     rw (c .part .ensures, c .before .find .ensures, c .before .before .tail .ensures)

@@ -7,16 +7,13 @@ use Rattle.vector_lines.proofs.lines.letter.Tie as tie
 use Rattle.vector_lines.proofs.lines.letter.Reads as reads
 use Rattle.vector_lines.proofs.lines.letter.Lts as lts
 
--- src/lines.rt:71:9
 returns : tie.Need-returns
 returns c =
     sym (List·getD-eq-default (c .before .args .line .now) 0 (omega arith))
 
--- src/lines.rt:73:5
 shared-slice-read-result : tie.Need-shared-slice-read-result
 shared-slice-read-result c = search needs
 
--- src/lines.rt:67:1
 returns-2 : tie.Need-returns-2
 returns-2 c = search needs
 

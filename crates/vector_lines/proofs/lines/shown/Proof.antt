@@ -8,28 +8,22 @@ use Rattle.vector_lines.proofs.lines.after.Reads as after-reads
 use Rattle.vector_lines.proofs.lines.letter.Reads as letter-reads
 use Rattle.wire.proofs.part.tail.Reads as tail-reads
 
--- src/lines.rt:73:9
 letter-requires : tie.Need-letter-requires
 letter-requires c κs = search needs
 
--- src/lines.rt:75:9
 returns : tie.Need-returns
 returns c = rw (← c .before .letter .ensures, lt-ltb _ _ (c .if1 .taken))
 
--- src/lines.rt:78:9
 returns-2 : tie.Need-returns-2
 returns-2 c =
     rw (← c .before .before .letter .ensures, le-ltb _ _ (c .before .if1 .left), lt-ltb _ _ (c .if2 .taken))
 
--- src/lines.rt:80:16
 after-requires : tie.Need-after-requires
 after-requires c κs = search needs
 
--- src/lines.rt:80:5
 tail-requires : tie.Need-tail-requires
 tail-requires c κs = search needs
 
--- src/lines.rt:70:1
 returns-3 : tie.Need-returns-3
 returns-3 c =
     let at-after = c .before in

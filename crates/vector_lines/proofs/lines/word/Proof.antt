@@ -6,15 +6,12 @@ use Rattle.vector_lines.proofs.lines.word.Lts as lts
 use Rattle.vector_lines.proofs.lines.item.Reads as item-reads
 use Rattle.vector_lines.proofs.lines.start.Reads as start-reads
 
--- src/lines.rt:56:16
 start-requires : tie.Need-start-requires
 start-requires c κs = search needs
 
--- src/lines.rt:56:5
 item-requires : tie.Need-item-requires
 item-requires c κs = search needs
 
--- src/lines.rt:53:1
 returns : tie.Need-returns
 returns c = rw (c .item .ensures, c .before .start .ensures)
 

@@ -10,31 +10,24 @@ use Rattle.probe.proofs.items.ProbeCursor.step.Lts as lts
 use Rattle.probe.proofs.items.item_count.Reads as item-count-reads
 use Rattle.probe.proofs.items.item_of.Reads as item-of-reads
 
--- src/items.rt:138:12
 item-count-requires : tie.Need-item-count-requires
 item-count-requires c κs = search needs
 
--- src/items.rt:139:13
 returns : tie.Need-returns
 returns c = rw (sym (c .before .item-count .ensures), le-leb _ _ (c .if1 .taken))
 
--- src/items.rt:141:15
 item-of-requires : tie.Need-item-of-requires
 item-of-requires c κs = search needs
 
--- src/items.rt:142:31
 enum-known-number : tie.Need-enum-known-number
 enum-known-number c = search needs
 
--- src/items.rt:143:26
 enum-known-item : tie.Need-enum-known-item
 enum-known-item c = search needs
 
--- src/items.rt:146:28
 add-t13 : tie.Need-add-t13
 add-t13 c = search needs
 
--- src/items.rt:134:5
 returns-2 : tie.Need-returns-2
 returns-2 c =
     let at-number = c .before in
@@ -43,7 +36,6 @@ returns-2 c =
     let at-item-count = at-if1 .before in
     rw (sym (at-item-count .item-count .ensures), lt-leb _ _ (at-if1 .if1 .left), sym (told answerItem (at-item-of .item-of .ensures) (at-number .number .given .1)))
 
--- src/items.rt:134:5
 returns-3 : tie.Need-returns-3
 returns-3 c =
     let at-item = c .before in
