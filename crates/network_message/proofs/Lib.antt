@@ -5,4 +5,3 @@ pub mod Sizes
 pub mod Short
 pub mod Again
 pub mod Lent
-pub mod Refused

@@ -1,7 +1,7 @@
 -- The payload written (document 01, "Payload"): its messages one after the other, and where there are several the length of
 -- each, as 2 bytes. For one message, and for a chunk, no length is given. A probe's body is given as its messages (document 02, Req 01).
 use Prim.Native.Nat.{ℕ, _*_}
-use mathlib.Core.Bool.{Bool, true, false, cond}
+use mathlib.Core.Bool.{Bool, cond}
 use mathlib.Core.List.{List, []}
 use lib.Dec.{leb, eqb}
 use lib.ListN.{length}
@@ -41,25 +41,6 @@ payloadRefusal chunk (PayloadHeader.Ids n) sizes lengths messages =
     cond chunk 0 (cond (leb n 1) (refusalNumber (restOnlyAt messages 0)) (listedRefusal n lengths (length messages)))
 payloadRefusal chunk (PayloadHeader.Chunk w) sizes lengths messages = 0
 payloadRefusal chunk PayloadHeader.Probe sizes lengths messages = refusalNumber (payloadAt chunk PayloadHeader.Probe sizes messages 0)
-
--- the same told apart: a chunk's payload, how many ids there are, and the PayloadHeader of one message in place of that of at most one
-abbrev pub isChunked : Bool → PayloadHeader → Bool
-isChunked chunk PayloadHeader.Absent = false
-isChunked chunk (PayloadHeader.Ids n) = chunk
-isChunked chunk (PayloadHeader.Chunk w) = true
-isChunked chunk PayloadHeader.Probe = false
-
-abbrev pub idCount : PayloadHeader → ℕ
-idCount PayloadHeader.Absent = 0
-idCount (PayloadHeader.Ids n) = n
-idCount (PayloadHeader.Chunk w) = 0
-idCount PayloadHeader.Probe = 0
-
-abbrev pub ofOne : PayloadHeader → PayloadHeader
-ofOne PayloadHeader.Absent = PayloadHeader.Absent
-ofOne (PayloadHeader.Ids n) = PayloadHeader.Ids 1
-ofOne (PayloadHeader.Chunk w) = PayloadHeader.Chunk w
-ofOne PayloadHeader.Probe = PayloadHeader.Probe
 
 -- what would read back otherwise is 6: lengths of several messages that are not the configured ones, or lengths where none is given
 abbrev pub lengthsShape : PayloadHeader → List ℕ → List ℕ → ℕ

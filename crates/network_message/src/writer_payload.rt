@@ -14,7 +14,7 @@ ghost use Prim.Native.Nat.{_≤_};
 ghost use lib.ListN.{length};
 ghost use Rattle.network_message.specs.Payload.{payloadAt};
 ghost use Rattle.wire_writer.specs.Writing.{Puts};
-ghost use Rattle.network_message.specs.WriterPayload.{listBytes, refusalNumber, payloadRefusal, isChunked, idCount, ofOne, lengthsShape, listedRefusal};
+ghost use Rattle.network_message.specs.WriterPayload.{listBytes, refusalNumber, payloadRefusal, lengthsShape, listedRefusal};
 
 // The number of reading these bytes as a payload.
 fn payload_number(messages: &[u8], chunk: bool, x: PayloadHeader, sizes: &[u16]) -> u8
@@ -26,44 +26,7 @@ fn payload_number(messages: &[u8], chunk: bool, x: PayloadHeader, sizes: &[u16])
     }
 }
 
-// Whether a payload is a chunk's, which whoever takes it in refuses.
-fn is_chunked(chunk: bool, x: PayloadHeader) -> bool
-    ensures { λ r. ⌜ r ≡ isChunked chunk x ⌝ }
-{
-    match x {
-        PayloadHeader::Absent => false,
-        PayloadHeader::Ids(_) => chunk,
-        PayloadHeader::Chunk(_) => true,
-        PayloadHeader::Probe => false,
-    }
-}
-
-// How many ids a PayloadHeader has.
-fn id_count(x: PayloadHeader) -> u16
-    ensures { λ r. ⌜ r ≡ idCount x ⌝ }
-{
-    match x {
-        PayloadHeader::Absent => 0,
-        PayloadHeader::Ids(n) => n,
-        PayloadHeader::Chunk(_) => 0,
-        PayloadHeader::Probe => 0,
-    }
-}
-
-// The PayloadHeader of one message in place of that of at most one.
-fn of_one(x: PayloadHeader) -> PayloadHeader
-    ensures { λ r. ⌜ r ≡ ofOne x ⌝ }
-{
-    match x {
-        PayloadHeader::Absent => PayloadHeader::Absent,
-        PayloadHeader::Ids(_) => PayloadHeader::Ids(1),
-        PayloadHeader::Chunk(w) => PayloadHeader::Chunk(w),
-        PayloadHeader::Probe => PayloadHeader::Probe,
-    }
-}
-
-// The number by which reading refuses a payload of these lengths and messages, or 0. The payload is read in one place: 400 bytes of code
-// less.
+// The number by which reading refuses a payload of these lengths and messages, or 0.
 pub(crate) fn payload_refusal(
     chunk: bool,
     x: PayloadHeader,
@@ -73,14 +36,20 @@ pub(crate) fn payload_refusal(
 ) -> u8
     ensures { λ r. ⌜ r ≡ payloadRefusal chunk x (now (sizes .entry)) (now (lengths .entry)) (now (messages .entry)) ⌝ }
 {
-    if is_chunked(chunk, x) {
-        return 0;
+    match x {
+        PayloadHeader::Absent => payload_number(messages, chunk, x, sizes),
+        PayloadHeader::Ids(n) => {
+            if chunk {
+                return 0;
+            }
+            if n <= 1 {
+                return payload_number(messages, false, PayloadHeader::Ids(1), sizes);
+            }
+            listed_refusal(n, lengths, messages.len())
+        }
+        PayloadHeader::Chunk(_) => 0,
+        PayloadHeader::Probe => payload_number(messages, chunk, x, sizes),
     }
-    let n = id_count(x);
-    if 1 < n {
-        return listed_refusal(n, lengths, messages.len());
-    }
-    payload_number(messages, chunk, of_one(x), sizes)
 }
 
 // 6 where lengths are given that would read back otherwise, else 0.

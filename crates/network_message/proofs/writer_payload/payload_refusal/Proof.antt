@@ -1,64 +1,78 @@
--- `network_message::writer_payload::payload_refusal` meets its contract. Assumes nothing.
-use Rattle.network_message.proofs.Refused.{refused-chunk, refused-listed, refused-read}
-use Rattle.network_message.specs.WriterPayload.{refusalNumber, listedRefusal}
-use Rattle.network_message.specs.Payload.{payloadAt}
-use Rattle.network_header.specs.declared.header.PayloadHeader.{PayloadHeader}
-use lib.ListN.{length}
-use native.Mathlib.Omega.{arith}
-use denote.Ref.{now}
-use Prim.Native.Nat.{ℕ}
-use mathlib.Core.Path.{sym, ap, _∙_}
+use mathlib.Core.Path.{_∙_}
+use borrow.Author.Tests.{le-leb, lt-leb}
 use borrow.Author.Needs.{needs}
 use Rattle.network_message.proofs.writer_payload.payload_refusal.Statement.{statement}
 use Rattle.network_message.proofs.writer_payload.payload_refusal.Tie as tie
 use Rattle.network_message.proofs.writer_payload.payload_refusal.Reads as reads
 use Rattle.network_message.proofs.writer_payload.payload_refusal.Lts as lts
-use Rattle.network_message.proofs.writer_payload.id_count.Reads as id-count-reads
-use Rattle.network_message.proofs.writer_payload.is_chunked.Reads as is-chunked-reads
 use Rattle.network_message.proofs.writer_payload.listed_refusal.Reads as listed-refusal-reads
-use Rattle.network_message.proofs.writer_payload.of_one.Reads as of-one-reads
 use Rattle.network_message.proofs.writer_payload.payload_number.Reads as payload-number-reads
 
+enum-told : tie.Need-enum-told
+enum-told c = search needs
+
+payload-number-requires : tie.Need-payload-number-requires
+payload-number-requires c κs = search needs
+
+enum-known-x : tie.Need-enum-known-x
+enum-known-x c = search needs
+
 returns : tie.Need-returns
-returns c =
-    let at-is-chunked = c .before in
-    let args = at-is-chunked .before .before .before .before .args in
-    refused-chunk (args .chunk) (args .x) (now (args .sizes)) (now (args .lengths)) (now (args .messages)) (sym (at-is-chunked .is-chunked .ensures) ∙ c .if1 .taken)
+returns c = rw (c .before .before .x .given .1, c .if1 .taken)
+
+payload-number-requires-2 : tie.Need-payload-number-requires-2
+payload-number-requires-2 c κs = search needs
 
 returns-2 : tie.Need-returns-2
 returns-2 c =
     let at-if2 = c .before in
-    let at-id-count = at-if2 .before in
-    let at-if1 = at-id-count .before in
-    let at-is-chunked = at-if1 .before in
-    let args = at-is-chunked .before .before .before .before .args in
-    let n = at-id-count .id-count .ensures in
-    c .listed-refusal .ensures ∙ ap (λ (k : ℕ). listedRefusal k (now (args .lengths)) (length (now (args .messages)))) n
-    ∙ refused-listed (args .chunk) (args .x) (now (args .sizes)) (now (args .lengths)) (now (args .messages))
-    (sym (at-is-chunked .is-chunked .ensures) ∙ at-if1 .if1 .left) (omega (arith, n, at-if2 .if2 .taken))
+    let at-if1 = at-if2 .before in
+    let at-x = at-if1 .before .before in
+    rw (at-x .x .given .1, at-if1 .if1 .left, le-leb _ _ (at-if2 .if2 .taken)) (c .payload-number2 .ensures)
+
+listed-refusal-requires : tie.Need-listed-refusal-requires
+listed-refusal-requires c κs = search needs
+
+enum-told-2 : tie.Need-enum-told-2
+enum-told-2 c = search needs
+
+enum-told-3 : tie.Need-enum-told-3
+enum-told-3 c = search needs
+
+payload-number-requires-3 : tie.Need-payload-number-requires-3
+payload-number-requires-3 c κs = search needs
 
 returns-3 : tie.Need-returns-3
-returns-3 c =
-    let at-of-one = c .before in
-    let at-if2 = at-of-one .before in
-    let at-id-count = at-if2 .before in
-    let at-if1 = at-id-count .before in
-    let at-is-chunked = at-if1 .before in
-    let args = at-is-chunked .before .before .before .before .args in
-    let n = at-id-count .id-count .ensures in
-    c .payload-number .ensures ∙ ap (λ (h : PayloadHeader). refusalNumber (payloadAt (args .chunk) h (now (args .sizes)) (now (args .messages)) 0)) (at-of-one .of-one .ensures)
-    ∙ refused-read (args .chunk) (args .x) (now (args .sizes)) (now (args .lengths)) (now (args .messages))
-    (sym (at-is-chunked .is-chunked .ensures) ∙ at-if1 .if1 .left) (omega (arith, n, at-if2 .if2 .left))
+returns-3 c = c .payload-number .ensures ∙ rw (c .before .enum-told .given .1)
+
+returns-4 : tie.Need-returns-4
+returns-4 c =
+    let at-if2 = c .before in
+    let at-if1 = at-if2 .before in
+    let at-x = at-if1 .before .before in
+    rw (at-x .x .given .1, at-if1 .if1 .left, lt-leb _ _ (at-if2 .if2 .left)) (c .listed-refusal .ensures)
+
+returns-5 : tie.Need-returns-5
+returns-5 c = search needs
+
+returns-6 : tie.Need-returns-6
+returns-6 c = c .payload-number3 .ensures ∙ rw (c .before .enum-told3 .given .1)
 
 pub payload-refusal-spec : {M : Type 1} → statement M
 payload-refusal-spec =
     tie.close
     (tie.spec
-    (λ c κs. search needs)
+    enum-told
+    payload-number-requires
+    enum-known-x
     returns
-    (λ c κs. search needs)
-    (λ c κs. search needs)
+    payload-number-requires-2
     returns-2
-    (λ c κs. search needs)
-    (λ c κs. search needs)
-    returns-3)
+    listed-refusal-requires
+    enum-told-2
+    enum-told-3
+    payload-number-requires-3
+    returns-3
+    returns-4
+    returns-5
+    returns-6)
