@@ -48,7 +48,7 @@ use Rattle.uadp_c.specs.Probes.{itemResult, probeAfter, itemAfter}
 use Rattle.uadp_c.specs.Sequence.{newnessNumber, newnessResult, newnessAfter}
 use Rattle.uadp_c.specs.Walks.{walkResult}
 use Rattle.uadp_c.specs.Writing.{writerResult, outputResult}
-use Rattle.acceptance.specs.Refusals.{Refusal, StepRefusal, datagramRefusals, valueRefusals, fieldStepRefusals, fieldRefusals, cutRefusals}
+use Rattle.acceptance.specs.Refusals.{Refusal, StepRefusal, datagramRefusals, valueRefusals, fieldStepRefusals, fieldRefusals, endRefusals, cutRefusals}
 use Rattle.acceptance.specs.Demand1.{Demand1, IsRefused}
 use Rattle.acceptance.proofs.Refusals.{Tells, told, wider, no-place, cond-tells, then-tells, run-lawful}
 use Rattle.acceptance.proofs.Refusals.Tells.{gives, refuses}
@@ -57,7 +57,7 @@ use Rattle.acceptance.proofs.RefusedProbes.{probe-told, probe-step-told
 use Rattle.acceptance.proofs.Tiling.{payload-first}
 use Rattle.acceptance.proofs.RefusedCalls.{placed}
 use Rattle.acceptance.proofs.RefusedWriters as refusals
-use Rattle.acceptance.proofs.RefusedSteps.{ToldAt, value-told, raw-told, opening-told, step-shown-told}
+use Rattle.acceptance.proofs.RefusedSteps.{ToldAt, value-told, raw-told, front-tells, ended-told, opening-told, step-shown-told}
 use Rattle.acceptance.proofs.RefusedSalvage.{salvage-told}
 use Rattle.acceptance.proofs.Salvage.{salvaging}
 use Rattle.acceptance.proofs.RefusedMessages.{fieldOthers, messageOthers, message-tells, field-lawful}
@@ -273,6 +273,8 @@ demand-1 = record {
   message-step = λ p sizes c s n place e. subst (ToldAt (1 ∷ 10 ∷ []) (length s) (c .at)) e (step-told p sizes c s);
   field-lookup = λ types s k n place e. (field-lookup-told types s k n place e, rw e);
   field-step = λ c types s n place e. subst (ToldAt fieldStepRefusals (length s) (c .at)) e (field-told c types s);
+  opened = λ types s n place e. told (front-tells (length s) types s) e;
+  ended = λ c s n place e. subst (ToldAt endRefusals (length s) (c .at)) e (ended-told c s);
   probe-step = probe-step-told;
   writer = writer-told;
   datagram-writer = refusals.datagram-writer;

@@ -24,7 +24,7 @@ use Rattle.records.proofs.ConfigFits.{config-fits}
 use Rattle.partial_record.specs.Partial.{partialIn}
 use Rattle.partial_record.proofs.Back as Back
 use Rattle.uadp_c.proofs.Demand3 as lent
-use Rattle.uadp_c.proofs.ByCalls.{fields-by-calls}
+use Rattle.uadp_c.proofs.ByCalls.{fields-by-calls, opened-fields, opened-by-calls}
 use Rattle.uadp_c.proofs.MessagesByCalls.{messages-by-calls}
 use Rattle.uadp_c.proofs.WrittenAgain as again
 use Rattle.acceptance.specs.Demand3.{Demand3}
@@ -65,6 +65,8 @@ demand-3 = record {
   config-read-back = config-read;
   messages-by-calls = messages-by-calls;
   fields-by-calls = fields-by-calls;
+  opened-fields-by-calls = opened-fields;
+  opened-by-calls = opened-by-calls;
   datagram-again-by-calls = again.datagram-again;
   message-again-by-calls = again.message-again;
   laws-of-layouts = layout-laws;

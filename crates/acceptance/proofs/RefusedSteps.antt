@@ -6,8 +6,8 @@ use mathlib.Core.Bool.{Bool, true, false, cond, false≢true}
 use mathlib.Core.List.{List}
 use mathlib.Core.Logic.{inl, inr}
 use native.Mathlib.Omega.{arith}
-use borrow.Author.Tests.{lt-leb, eqb-true}
-use lib.Dec.{eqb, leb}
+use borrow.Author.Tests.{lt-leb, eqb-true, ltb-false}
+use lib.Dec.{eqb, leb, ltb}
 use lib.ListN.{length, getD}
 use Rattle.wire.specs.Constants.{CUT_SHORT}
 use Rattle.wire.specs.Answer.{Answer, Reader, got, refused, andThen}
@@ -21,11 +21,11 @@ use Rattle.dataset_header.specs.declared.header.Header.{Header}
 use Rattle.dataset_fields.specs.Fields.{encodedAt, fieldAt, zerosAt, paddingAt}
 use Rattle.dataset_fields.specs.declared.fields.Cursor.{Cursor}
 use Rattle.dataset_fields.specs.declared.fields.Field.{Field}
-use Rattle.dataset_message.specs.Message.{Message, countTo, afterHeaderTo, openedAt, frontTo}
+use Rattle.dataset_message.specs.Message.{Message, countTo, afterHeaderTo, openedAt, frontTo, endedAt}
 use Rattle.salvage.specs.Front.{Shown, shown, bad, ends, pastBy, shownBy, shownAt, shownStep, lastBy, nextShown, opens, openAt, frontShown}
 use Rattle.salvage.specs.declared.front.Opening.{Opening}
 use Rattle.salvage.specs.declared.front.FieldShown.{FieldShown}
-use Rattle.acceptance.specs.Refusals.{Refusal, StepRefusal, valueRefusals, messageRefusals}
+use Rattle.acceptance.specs.Refusals.{Refusal, StepRefusal, valueRefusals, messageRefusals, endRefusals}
 use Rattle.acceptance.proofs.Refusals.{Tells, with13, allOf, wider, wider-one, no-place, cond-tells, then-tells}
 use Rattle.acceptance.proofs.Refusals.Tells.{gives, refuses}
 use Rattle.acceptance.proofs.RefusedMessages.{messageOthers, value-lawful, field-lawful, header-tells, counted-lawful, zeros-tells}
@@ -85,6 +85,26 @@ padding-told s at =
     by-lt _ (length s) at (λ h. let none : length s - at ≡ 0 = omega arith in rw none tt)
     (λ h. within messageRefusals at refl (zeros-tells (length s - at) s at (omega arith)))
 
+-- ---- the end of a message that was opened
+zeros-told : (n : ℕ) (s : List ℕ) (at named : ℕ) → at + n ≤ length s → ToldAt endRefusals (length s) named (zerosAt n s at)
+unfolding zerosAt
+zeros-told zero s at named h = tt
+zeros-told (suc n) s at named h =
+    by-bool _ (eqb (getD s at 0) 0) (λ b. rw b (zeros-told n s (at + 1) named (omega arith)))
+    (λ b. rw b (inl (record { one = refl; nowhere = λ z. absurd (false≢true z); inside = omega arith })))
+
+pub ended-told : (c : Cursor) (s : List ℕ) → ToldAt endRefusals (length s) (c .at) (endedAt c s)
+ended-told c s = by-bool _ (ltb (length s) (c .at)) (λ b. rw b (inr (refl, refl))) (λ b. by-bool _ (ltb (c .next) (c .count)) (λ l. rw (b, l) (inr (refl, refl))) (λ l. rw (b, l) (after b)))
+  where
+    padded : (x : Answer (Unit {0})) → ToldAt endRefusals (length s) (c .at) x → ToldAt endRefusals (length s) (c .at) (andThen x (λ _ z. got (tt {0}) (c .at)))
+    padded (got u z) t = tt
+    padded (refused n place) t = t
+
+    after : ltb (length s) (c .at) ≡ false → ToldAt endRefusals (length s) (c .at) (andThen (paddingAt s (c .at)) (λ _ z. got (tt {0}) (c .at)))
+    after b =
+        let l : c .at ≤ length s = ltb-false (length s) (c .at) b in
+        padded (paddingAt s (c .at)) (zeros-told (length s - c .at) s (c .at) (c .at) (omega arith))
+
 -- ---- what the front shows is refused as the front itself
 abbrev isBad : {A : Type 0} → Shown A → Bool
 isBad (shown a next) = false
@@ -114,7 +134,7 @@ shown-told {A} hi at (refused m p) y t n place e = go (eqb m CUT_SHORT) refl (pa
     go false cut z q = same-refusal (ap badNumber q) (ap badPlace q) t
 
 -- ---- opening the covered front
-front-tells : (total : ℕ) (types f : List ℕ) → Tells messageOthers (length f) (frontTo total types f)
+pub front-tells : (total : ℕ) (types f : List ℕ) → Tells messageOthers (length f) (frontTo total types f)
 front-tells total types f = then-tells (header-tells f) go
   where
     count : (k : Kind) (raw : Bool) (at : ℕ) → at ≤ length f → Tells messageOthers (length f) (countTo total k raw types f at)

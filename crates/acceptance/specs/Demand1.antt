@@ -20,7 +20,7 @@ use Rattle.network_message.specs.declared.payload.Payload.{Payload}
 use Rattle.network_message.specs.declared.payload.MessageCursor.{MessageCursor}
 use Rattle.dataset_fields.specs.Fields.{nextFieldAt, FieldStepped}
 use Rattle.dataset_fields.specs.declared.fields.Cursor.{Cursor}
-use Rattle.dataset_message.specs.Message.{messageAt, fieldPlaceAt, fieldBytes}
+use Rattle.dataset_message.specs.Message.{messageAt, frontAt, endedAt, fieldPlaceAt, fieldBytes}
 use Rattle.network_header.specs.declared.envelope.Envelope.{Envelope}
 use Rattle.network_message.specs.Writer as N
 use Rattle.dataset_message.specs.Writer as M
@@ -60,7 +60,7 @@ use Rattle.value_parts.specs.declared.put.Form.{Form}
 use Rattle.value_parts.specs.Put.{variantOutput}
 use Rattle.value_parts.specs.PutName.{nameOutput}
 use Rattle.value_parts.specs.PutMatrix.{matrixOutput}
-use Rattle.acceptance.specs.Refusals.{Refusal, StepRefusal, datagramRefusals, chunkRefusals, valueRefusals, messageRefusals, fieldStepRefusals, fieldRefusals, cutRefusals, callRefusals, datagramWriterRefusals, messageWriterRefusals, datagramAgainRefusals, messageAgainRefusals, probeStepRefusals, probeWriterRefusals, valueWriterRefusals, matrixWriterRefusals, salvageRefusals}
+use Rattle.acceptance.specs.Refusals.{Refusal, StepRefusal, datagramRefusals, chunkRefusals, valueRefusals, messageRefusals, fieldStepRefusals, fieldRefusals, endRefusals, cutRefusals, callRefusals, datagramWriterRefusals, messageWriterRefusals, datagramAgainRefusals, messageAgainRefusals, probeStepRefusals, probeWriterRefusals, valueWriterRefusals, matrixWriterRefusals, salvageRefusals}
 use Rattle.acceptance.specs.Calls.{bytesRead}
 
 -- a C result's number is not 0
@@ -94,6 +94,9 @@ pub record Demand1 : Type 0 where
       → Refusal fieldRefusals n place (length s) × (fieldBytes (fieldPlaceAt types k s) s ≡ [])
   pub field-step : (c : Cursor) (types s : List ℕ) (n place : ℕ) → nextFieldAt c types s ≡ refused n place
       → StepRefusal fieldStepRefusals n place (length s) (c .at)
+  -- Of opening a message, which reads its front alone, and of its end by a cursor that may be made up.
+  pub opened : (types s : List ℕ) (n place : ℕ) → frontAt types s ≡ refused n place → Refusal messageRefusals n place (length s)
+  pub ended : (c : Cursor) (s : List ℕ) (n place : ℕ) → endedAt c s ≡ refused n place → StepRefusal endRefusals n place (length s) (c .at)
   -- Of a step over the ids and strings of a probe, with a probe and a cursor that may be made up.
   pub probe-step : (p : Probe) (c : ProbeCursor) (s : List ℕ) (n place : ℕ) → itemStepAt p c s ≡ refused n place
       → StepRefusal probeStepRefusals n place (length s) (c .at)
@@ -139,8 +142,8 @@ pub record Demand1 : Type 0 where
   -- the message.
   pub salvage : (rec payload marks config told list : List ℕ) (n place : ℕ)
       → salvageLent rec payload marks config told list .answer ≡ Salvaged.Refused n place → Refusal salvageRefusals n place (length payload)
-  -- uadp_config, uadp_read, uadp_read_message, uadp_field, uadp_value, uadp_element, uadp_chunk, uadp_probe: what is read fills
-  -- one record.
+  -- uadp_config, uadp_read, uadp_read_message, uadp_open_message, uadp_field, uadp_value, uadp_element, uadp_chunk, uadp_probe: what is read
+  -- fills one record.
   pub lent-filling : (read : Answer Filling) (out : List ℕ) → IsRefused (resultIn read out) → filledIn read out ≡ out
   -- uadp_next_message, uadp_next_field, uadp_next_probe_item: a record's cursor moves, and another record is filled.
   pub lent-message-step : (writer : ℕ → Optional16) (step : Answer PlaceStepped) (envelope place : List ℕ)

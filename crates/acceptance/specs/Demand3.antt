@@ -35,12 +35,12 @@ use Rattle.records.specs.Result.{filledIn}
 use Rattle.wire.specs.Answer.{got}
 use Rattle.network_message.specs.Envelope.{NetworkMessage, networkMessageAt}
 use Rattle.dataset_header.specs.Flags.{valid}
-use Rattle.dataset_message.specs.Message.{messageAt, Message as DataSetMessage}
+use Rattle.dataset_message.specs.Message.{messageAt, frontAt, Message as DataSetMessage}
 use Rattle.records.specs.Sizes.{CONFIG_SIZE, ENVELOPE_SIZE, PLACE_SIZE, HEAD_SIZE, FIELD_SIZE, PARTIAL_SIZE}
 use Rattle.records.specs.Writers.{sizesIn, typesFor, ConfigBack, configFilling}
 use Rattle.partial_record.specs.Partial.{partialIn, partialBytes, FitsRecord}
 use Rattle.uadp_c.specs.Reassembling.{Lent}
-use Rattle.uadp_c.specs.ByCalls.{AllLong, HeadRead, FieldCall, FieldCalls, lastHead, FieldsByCalls, EnvelopeRead, MessageCall, MessageCalls, lastEnvelope, MessagesByCalls, DatagramAgain, MessageAgain}
+use Rattle.uadp_c.specs.ByCalls.{AllLong, HeadRead, HeadOpened, OpenedByCalls, FieldCall, FieldCalls, lastHead, FieldsByCalls, EnvelopeRead, MessageCall, MessageCalls, lastEnvelope, MessagesByCalls, DatagramAgain, MessageAgain}
 use Rattle.uadp_c.specs.History.{LentCall, heldIn, Called, AllCalled, Ready, LentList, Unchanged}
 use Rattle.acceptance.specs.Refusals.{Refusal, callRefusals}
 use Rattle.acceptance.specs.Calls.{bytesRead}
@@ -119,6 +119,14 @@ pub record Demand3 : Type 0 where
   pub fields-by-calls : (s config : List ℕ) (writer : ℕ) (m : DataSetMessage) (n : ℕ) (entry : List ℕ) (result : ℕ) (head : List ℕ)
       → messageAt (typesFor config writer) s ≡ got (valid m) n → HEAD_SIZE ≤ length entry
       → HeadRead s config writer entry result head → FieldsByCalls s config writer m head
+  -- So it is where the message was only opened, each field read by the step that meets it: of an accepted message the same calls tell the
+  -- same; and of any message a step, and uadp_end_message after the last field, answer as reading it whole does, its fault too.
+  pub opened-fields-by-calls : (s config : List ℕ) (writer : ℕ) (m : DataSetMessage) (n : ℕ) (entry : List ℕ) (result : ℕ) (head : List ℕ)
+      → messageAt (typesFor config writer) s ≡ got (valid m) n → HEAD_SIZE ≤ length entry
+      → HeadOpened s config writer entry result head → FieldsByCalls s config writer m head
+  pub opened-by-calls : (s config : List ℕ) (writer : ℕ) (m : DataSetMessage) (n : ℕ) (entry : List ℕ) (result : ℕ) (head : List ℕ)
+      → frontAt (typesFor config writer) s ≡ got (valid m) n → HEAD_SIZE ≤ length entry
+      → HeadOpened s config writer entry result head → OpenedByCalls s config writer head
   -- Read, then write the record, gives the bytes, also after some steps of its cursor: of a datagram, but for the two exceptions, and of a
   -- message, but for the second.
   pub datagram-again-by-calls : (d config : List ℕ) (m : NetworkMessage) (n : ℕ) (entry : List ℕ) (result : ℕ) (envelope : List ℕ)

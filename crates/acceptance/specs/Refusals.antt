@@ -49,6 +49,10 @@ fieldStepRefusals = CUT_SHORT ∷ NOT_PERMITTED ∷ NOT_TAKEN ∷ BAD_LENGTH ∷
 abbrev pub fieldRefusals : List ℕ
 fieldRefusals = CUT_SHORT ∷ NOT_PERMITTED ∷ NOT_TAKEN ∷ BAD_LENGTH ∷ DISAGREE ∷ LEFT_OVER ∷ NOT_CONFIGURED ∷ TOO_DEEP ∷ OVER_LIMIT ∷ []
 
+-- of the end of a message that was opened: 1 past the end, 6 where a field is left, 7
+abbrev pub endRefusals : List ℕ
+endRefusals = CUT_SHORT ∷ DISAGREE ∷ LEFT_OVER ∷ []
+
 -- of the writers: what reading would refuse, a probe's body too, 3 for picoseconds of 10,000 and up, 6, 10 and 11
 abbrev pub datagramWriterRefusals : List ℕ
 datagramWriterRefusals =

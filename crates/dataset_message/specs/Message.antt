@@ -2,9 +2,9 @@
 use Prim.Native.Nat.{ℕ}
 use mathlib.Core.Bool.{Bool, true, false, cond}
 use mathlib.Core.List.{List, []}
-use lib.Dec.{leb, eqb}
+use lib.Dec.{leb, ltb, eqb}
 use lib.ListN.{length, take, drop}
-use Rattle.wire.specs.Constants.{NOT_CONFIGURED, OVER_LIMIT}
+use Rattle.wire.specs.Constants.{CUT_SHORT, DISAGREE, NOT_CONFIGURED, OVER_LIMIT}
 use Rattle.wire.specs.Answer.{Answer, got, refused, Reader, item, andThen}
 use Rattle.dataset_header.specs.declared.flags.Kind.{Kind}
 use Rattle.dataset_header.specs.declared.header.Header.{Header}
@@ -88,6 +88,14 @@ frontAt = messageBy openedAt
 -- the front of a message that ends at `end`, by its bytes up to a hole (document 02, Req 13)
 abbrev pub frontTo : ℕ → List ℕ → List ℕ → Answer (Valid Message)
 frontTo end = messageTo end openedAt
+
+-- the end of a message whose fields were stepped over, by the cursor c after the last of them: "only zero bytes may remain"; a field that is
+-- left is 6, at the cursor's byte; "A made-up cursor is read at the byte it names; past the end it is 1"
+abbrev pub endedAt : Cursor → List ℕ → Answer (Unit {0})
+endedAt c s =
+    cond (ltb (length s) (c .at)) (refused CUT_SHORT (c .at))
+    (cond (ltb (c .next) (c .count)) (refused DISAGREE (c .at))
+    (andThen (paddingAt s (c .at)) (λ _ z. got tt (c .at))))
 
 -- field k from the cursor before the first: "k at or past the count .. is 10"
 abbrev pub nthAt : Cursor → List ℕ → ℕ → List ℕ → Answer Field

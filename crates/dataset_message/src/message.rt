@@ -14,11 +14,13 @@ use dataset_header::header::read_header;
 use wire::Item16;
 use wire::Reached;
 use wire::constants::CUT_SHORT;
+use wire::constants::DISAGREE;
 use wire::constants::NOT_CONFIGURED;
 use wire::constants::OVER_LIMIT;
 ghost use mathlib.Core.Path.{_≡_};
+ghost use Rattle.wire.specs.Items.{answerReached};
 ghost use Rattle.dataset_fields.specs.Fields.{answerField};
-ghost use Rattle.dataset_message.specs.Message.{countedAt, countTo, bodyTo, messageTo, messageAt, frontAt, frontTo, wholeOrFront, fieldPlaceAt, fieldBytes, nthAt};
+ghost use Rattle.dataset_message.specs.Message.{countedAt, countTo, bodyTo, messageTo, messageAt, frontAt, frontTo, wholeOrFront, endedAt, fieldPlaceAt, fieldBytes, nthAt};
 ghost use Rattle.dataset_message.specs.Message.{answerCount, answerMessage};
 
 // A message that is not valid, or its header, the cursor before its first field, and where its last field ends; what follows is
@@ -113,7 +115,7 @@ fn read_body(
 
 // A message that ends at `end`, or its front alone. All are read here, since the header's reader is put in line only where it has one
 // caller.
-fn read_up_to(s: &[u8], types: &[u8], end: usize, whole: bool) -> MessageRead
+pub fn read_up_to(s: &[u8], types: &[u8], end: usize, whole: bool) -> MessageRead
     ensures { λ r. ⌜ answerMessage r ≡ messageTo end (wholeOrFront whole) (now (types .entry)) (now (s .entry)) ⌝ }
 {
     match read_header(s) {
@@ -142,6 +144,23 @@ pub fn front_to(s: &[u8], types: &[u8], end: usize) -> MessageRead
     ensures { λ r. ⌜ answerMessage r ≡ frontTo end (now (types .entry)) (now (s .entry)) ⌝ }
 {
     read_up_to(&*s, &*types, end, false)
+}
+
+// The end of a message whose fields were stepped over, by the cursor after the last of them: only padding may follow. 6 where a field is
+// left. A made-up cursor is read at the byte it names; past the end it is 1.
+pub fn ended(s: &[u8], c: Cursor) -> Reached
+    ensures { λ r. ⌜ answerReached r ≡ endedAt c (now (s .entry)) ⌝ }
+{
+    if s.len() < c.at {
+        return Reached::Refused(CUT_SHORT, c.at);
+    }
+    if c.next < c.count {
+        return Reached::Refused(DISAGREE, c.at);
+    }
+    match padding(s, c.at) {
+        Reached::Refused(n, place) => Reached::Refused(n, place),
+        Reached::To(_) => Reached::To(c.at),
+    }
 }
 
 // Field k from the cursor before the first field.

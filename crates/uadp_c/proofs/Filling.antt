@@ -2,7 +2,7 @@
 -- Assumes nothing.
 use Prim.Native.Nat.{ℕ, _+_, _^_, _≤_, _<_}
 use mathlib.Core.Path.{_≡_, refl, ap, subst, _∙_}
-use mathlib.Core.Bool.{true, false}
+use mathlib.Core.Bool.{Bool, true, false}
 use mathlib.Core.List.{List}
 use native.Mathlib.Omega.{arith}
 use borrow.Author.Tests.{le-leb, lt-leb, lt-ltb, le-ltb}
@@ -15,13 +15,15 @@ use Rattle.wire_writer.specs.Store.{laid}
 use Rattle.config_text.specs.declared.ConfigRead.{ConfigRead}
 use Rattle.config_text.specs.Config.{configOf}
 use Rattle.dataset_header.specs.Flags.{Valid}
-use Rattle.dataset_message.specs.Message.{Message, messageAt, fieldPlaceAt}
+use Rattle.dataset_message.specs.Message.{Message, messageTo, wholeOrFront, endedAt, fieldPlaceAt}
+use Rattle.dataset_fields.specs.declared.fields.Cursor.{Cursor}
 use Rattle.dataset_fields.specs.declared.fields.Field.{Field}
+use Rattle.message_record.specs.Message.{cursorIn}
 use Rattle.records.specs.Result.{resultOf, Filling, resultIn, filledIn}
 use Rattle.records.specs.Writers.{typesFor, configFilling, configBytes}
 use Rattle.network_message.proofs.Lent.{bytes}
-use Rattle.uadp_c.specs.ByCalls.{HeadRead}
-use Rattle.uadp_c.specs.Fields.{headFilling, HeadReads, fieldFilling}
+use Rattle.uadp_c.specs.ByCalls.{HeadFilled}
+use Rattle.uadp_c.specs.Fields.{headFilling, HeadReads, fieldFilling, endResult}
 
 abbrev pub Ends : Answer Filling → List ℕ → ℕ → List ℕ → Type 0
 Ends a out x e = (x ≡ resultIn a out) × (e ≡ filledIn a out)
@@ -51,20 +53,29 @@ pub config-good : (t : List ℕ) (r : ConfigRead) → r ≡ configOf t → r .nu
 config-good t r q h =
     subst (λ (y : ConfigRead). got (record { value = 0; bytes = configBytes (r .config) }) 0 ≡ configFilling y) q (rw (le-ltb 0 (r .number) h) refl)
 
-pub head-read : (c s ty : List ℕ) (w : ℕ) (y : Answer (Valid Message)) → ty ≡ typesFor c w → y ≡ messageAt ty s
-    → headFilling y ≡ headFilling (messageAt (typesFor c w) s)
-head-read c s ty w y e q = ap (λ (a : Answer (Valid Message)). headFilling a) (q ∙ ap (λ (t : List ℕ). messageAt t s) e)
+-- a message read whole, or its front, by its field types
+abbrev pub headBy : Bool → List ℕ → List ℕ → Answer (Valid Message)
+headBy whole s types = messageTo (length s) (wholeOrFront whole) types s
 
--- what `uadp_read_message` promises, with what is known of the message
-pub head-filled : (c s ty : List ℕ) (w : ℕ) (y : Answer (Valid Message)) (entry exit : List ℕ) (x : ℕ) → ((i : ℕ) → Fits w8 (getD s i 0)) → length s < 2 ^ 64
-    → ty ≡ typesFor c w → y ≡ messageAt ty s → Ends (headFilling (messageAt (typesFor c w) s)) entry x exit → HeadReads y entry exit → HeadRead s c w entry x exit
-head-filled c s ty w y entry exit x known long e q f h = record {
+pub head-read : (reading : List ℕ → Answer (Valid Message)) (c ty : List ℕ) (w : ℕ) (y : Answer (Valid Message)) → ty ≡ typesFor c w → y ≡ reading ty
+    → headFilling y ≡ headFilling (reading (typesFor c w))
+head-read reading c ty w y e q = ap (λ (a : Answer (Valid Message)). headFilling a) (q ∙ ap reading e)
+
+-- what filling a head record promises, with what is known of the message; `reading` is how it was read, by the field types
+pub head-filled : (reading : List ℕ → Answer (Valid Message)) (c s ty : List ℕ) (w : ℕ) (y : Answer (Valid Message)) (entry exit : List ℕ) (x : ℕ)
+    → ((i : ℕ) → Fits w8 (getD s i 0)) → length s < 2 ^ 64 → ty ≡ typesFor c w → y ≡ reading ty → Ends (headFilling (reading (typesFor c w))) entry x exit
+    → HeadReads y entry exit → HeadFilled (reading (typesFor c w)) s entry x exit
+head-filled reading c s ty w y entry exit x known long e q f h = record {
   answer = f .0;
   filled = f .1;
-  reads = subst (λ (a : Answer (Valid Message)). HeadReads a entry exit) (q ∙ ap (λ (t : List ℕ). messageAt t s) e) h;
+  reads = subst (λ (a : Answer (Valid Message)). HeadReads a entry exit) (q ∙ ap reading e) h;
   bytes = bytes s known;
   size = omega (arith, long);
 }
+
+-- the end of a message by the cursor of a head record
+pub end-told : (h s : List ℕ) (c : Cursor) (a : Answer (Unit {0})) (x : ℕ) → c ≡ cursorIn h → a ≡ endedAt c s → x ≡ endResult a h → x ≡ endResult (endedAt (cursorIn h) s) h
+end-told h s c a x e q r = r ∙ ap (λ (y : Answer (Unit {0})). endResult y h) (q ∙ ap (λ (d : Cursor). endedAt d s) e)
 
 pub field-read : (c s ty : List ℕ) (w k : ℕ) (y : Answer Field) → ty ≡ typesFor c w → y ≡ fieldPlaceAt ty k s
     → fieldFilling y ≡ fieldFilling (fieldPlaceAt (typesFor c w) k s)

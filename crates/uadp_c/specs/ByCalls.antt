@@ -4,8 +4,8 @@ use Prim.Native.Nat.{ℕ, _+_, _^_, _≤_, _<_}
 use mathlib.Core.Path.{_≡_}
 use mathlib.Core.List.{List, [], _∷_}
 use lib.ListN.{length}
-use Rattle.wire.specs.Answer.{Answer, got}
-use Rattle.wire.specs.Constants.{OVER_LIMIT}
+use Rattle.wire.specs.Answer.{Answer, got, refused}
+use Rattle.wire.specs.Constants.{DISAGREE, OVER_LIMIT}
 use Rattle.wire_writer.specs.Fits.{Bytes}
 use Rattle.wire_writer.specs.Store.{laid}
 use Rattle.wire_writer.specs.Writing.{Output, writing, bufferAfter}
@@ -13,7 +13,7 @@ use Rattle.dataset_fields.specs.Fields.{FieldStepped, nextFieldAt, walkAt, curs
 use Rattle.dataset_fields.specs.declared.fields.Cursor.{Cursor}
 use Rattle.dataset_fields.specs.declared.fields.Field.{Field}
 use Rattle.dataset_header.specs.Header.{messageHeld}
-use Rattle.dataset_message.specs.Message.{Message, messageAt, fieldPlaceAt}
+use Rattle.dataset_message.specs.Message.{Message, messageAt, frontAt, endedAt, fieldPlaceAt}
 use Rattle.network_message.specs.Envelope.{NetworkMessage, networkMessageAt, messagePlaceAt}
 use Rattle.network_message.specs.WriterId.{writerIdOf}
 use Rattle.network_message.specs.declared.payload.MessagePlace.{MessagePlace}
@@ -27,7 +27,8 @@ use Rattle.records.specs.Result.{resultOf, resultIn, filledIn}
 use Rattle.records.specs.Writers.{idsIn, sizesIn, typesFor}
 use Rattle.message_record.specs.Message.{cursorIn, headerIn, headFits, fieldNumbers}
 use Rattle.envelope_record.specs.Envelope.{envelopeIn, envelopeFits, messagesIn, placeNumbers}
-use Rattle.uadp_c.specs.Fields.{headFilling, HeadReads, stepResult, headAfter, fieldAfter}
+use Rattle.uadp_c.specs.Fields.{headFilling, HeadReads, stepResult, headAfter, fieldAfter, endResult}
+use Rattle.dataset_header.specs.Flags.{Valid, valid}
 use Rattle.uadp_c.specs.Messages.{envelopeFilling, EnvelopeReads, messageStep, writerAt, messageResult, envelopeAfter, placeAfter}
 use Rattle.uadp_c.specs.Writing.{outputResult, fitting}
 
@@ -38,14 +39,22 @@ AllLong n (r ∷ rs) = (n ≤ length r) × AllLong n rs
 
 -- ---- a message's fields
 
--- the contract of `uadp_read_message`, of a call on the head record `entry`: its result, and the record afterwards; and of the message,
--- that each element is a byte and its length a number of 8 bytes
-pub record HeadRead (s config : List ℕ) (writer : ℕ) (entry : List ℕ) (result : ℕ) (exit : List ℕ) : Type 0 where
-  pub answer : result ≡ resultIn (headFilling (messageAt (typesFor config writer) s)) entry
-  pub filled : exit ≡ filledIn (headFilling (messageAt (typesFor config writer) s)) entry
-  pub reads : HeadReads (messageAt (typesFor config writer) s) entry exit
+-- what is promised of a head record `entry` that is filled from what was read of a message, the whole of it or its front: the call's result,
+-- and the record afterwards; and of the message, that each element is a byte and its length a number of 8 bytes
+pub record HeadFilled (read : Answer (Valid Message)) (s entry : List ℕ) (result : ℕ) (exit : List ℕ) : Type 0 where
+  pub answer : result ≡ resultIn (headFilling read) entry
+  pub filled : exit ≡ filledIn (headFilling read) entry
+  pub reads : HeadReads read entry exit
   pub bytes : Bytes s
   pub size : length s < 256 ^ 8
+
+-- the contract of `uadp_read_message`
+abbrev pub HeadRead : List ℕ → List ℕ → ℕ → List ℕ → ℕ → List ℕ → Type 0
+HeadRead s config writer = HeadFilled (messageAt (typesFor config writer) s) s
+
+-- the contract of `uadp_open_message`
+abbrev pub HeadOpened : List ℕ → List ℕ → ℕ → List ℕ → ℕ → List ℕ → Type 0
+HeadOpened s config writer = HeadFilled (frontAt (typesFor config writer) s) s
 
 -- a call of `uadp_next_field`: its result, and the head and the field record afterwards
 pub record FieldCall : Type 0 where
@@ -107,6 +116,32 @@ pub record FieldsByCalls (s config : List ℕ) (writer : ℕ) (m : Message) (hea
   pub ended : (fs : List (List ℕ)) (ys : List FieldCall) → AllLong FIELD_SIZE fs → length fs ≡ m .cursor .count
       → FieldCalls s config writer fs head ys → (f : List ℕ) (a : FieldCall) → NextField s config writer (lastHead head ys) f a
       → a ≡ fieldCall (resultOf OVER_LIMIT 0) (lastHead head ys) f
+
+-- ---- a message that is opened
+
+-- what a step answers on the head record of an opened message: a field's offset; 10 after the last field; or, of a field with a fault, what
+-- reading the message answers
+pub data StepOf (read : Answer (Valid Message)) (result : ℕ) : Type 0 where
+  field : (offset : ℕ) → result ≡ resultOf 0 offset → StepOf read result
+  last : result ≡ resultOf OVER_LIMIT 0 → StepOf read result
+  fault : (n place : ℕ) → read ≡ refused n place → result ≡ resultOf n place → StepOf read result
+
+-- what `uadp_end_message` answers there: 6 where a field is left, else what reading the message answers: where its last field ends, or its
+-- fault
+pub data EndOf (read : Answer (Valid Message)) (result : ℕ) : Type 0 where
+  left : (place : ℕ) → result ≡ resultOf DISAGREE place → EndOf read result
+  ended : (m : Message) → read ≡ got (valid m) (m .end) → result ≡ resultOf 0 (m .end) → EndOf read result
+  fault : (n place : ℕ) → read ≡ refused n place → result ≡ resultOf n place → EndOf read result
+
+-- What is claimed of the head record `head` of an opened valid message: after any calls of `uadp_next_field`, whatever they answered, a
+-- further one, and `uadp_end_message`, answer as reading the whole message would.
+pub record OpenedByCalls (s config : List ℕ) (writer : ℕ) (head : List ℕ) : Type 0 where
+  pub steps : (fs : List (List ℕ)) (ys : List FieldCall) → AllLong FIELD_SIZE fs → FieldCalls s config writer fs head ys
+      → (f : List ℕ) (a : FieldCall) → FIELD_SIZE ≤ length f → NextField s config writer (lastHead head ys) f a
+      → StepOf (messageAt (typesFor config writer) s) (a .result)
+  pub ends : (fs : List (List ℕ)) (ys : List FieldCall) → AllLong FIELD_SIZE fs → FieldCalls s config writer fs head ys
+      → (result : ℕ) → result ≡ endResult (endedAt (cursorIn (lastHead head ys)) s) (lastHead head ys)
+      → EndOf (messageAt (typesFor config writer) s) result
 
 -- ---- a datagram's messages
 

@@ -55,3 +55,8 @@ fieldAfter (got x next) head field =
     (cond (ltb (length field) FIELD_SIZE) field
     (laid field 0 (numberBytes (fieldNumbers (x .field)))))
 fieldAfter (refused n place) head field = field
+
+-- the end of a message by a head record: "Value: where its last field ends"; "11 for the record"
+abbrev pub endResult : Answer (Unit {0}) → List ℕ → ℕ
+endResult (got u end) head = cond (ltb (length head) HEAD_SIZE) (resultOf NO_ROOM 0) (resultOf 0 end)
+endResult (refused n place) head = resultOf n place

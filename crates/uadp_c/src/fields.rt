@@ -2,8 +2,9 @@
 use dataset_fields::fields::FieldRead;
 use dataset_fields::fields::FieldStep;
 use dataset_message::message::MessageRead;
+use dataset_message::message::ended;
 use dataset_message::message::field_place;
-use dataset_message::message::read;
+use dataset_message::message::read_up_to;
 use message_record::message::cursor_in;
 use message_record::message::put_cursor;
 use message_record::message::put_field;
@@ -15,30 +16,27 @@ use records::result::result;
 use records::sizes::FIELD_SIZE;
 use records::sizes::HEAD_SIZE;
 use records::writers::types_for;
+use wire::Reached;
 use wire::constants::NO_ROOM;
 use wire::constants::OVER_LIMIT;
 ghost use mathlib.Core.Path.{_≡_};
+ghost use lib.ListN.{length};
 ghost use Rattle.dataset_fields.specs.Fields.{nextFieldAt};
-ghost use Rattle.dataset_message.specs.Message.{fieldPlaceAt};
+ghost use Rattle.dataset_message.specs.Message.{messageTo, wholeOrFront, endedAt, fieldPlaceAt};
 ghost use Rattle.records.specs.Result.{resultIn, filledIn};
 ghost use Rattle.records.specs.Writers.{typesFor};
 ghost use Rattle.message_record.specs.Message.{cursorIn};
-ghost use Rattle.uadp_c.specs.ByCalls.{HeadRead};
-ghost use Rattle.uadp_c.specs.Fields.{fieldFilling, stepResult, headAfter, fieldAfter};
+ghost use Rattle.uadp_c.specs.ByCalls.{HeadFilled, HeadRead, HeadOpened};
+ghost use Rattle.uadp_c.specs.Fields.{fieldFilling, stepResult, headAfter, fieldAfter, endResult};
 
-// Reads a DataSetMessage alone into a message head record.
-#[no_mangle]
-pub extern "C" fn uadp_read_message(
-    message: &[u8],
-    config: &[u8],
-    writer: u32,
-    head: &mut [u8],
-) -> u64
+// Fills a message head record from a DataSetMessage alone, read whole or up to its first field.
+fn fill_head(message: &[u8], config: &[u8], writer: u32, head: &mut [u8], whole: bool) -> u64
     ensures { λ r.
-        let read = HeadRead (now (message .entry)) (now (config .entry)) writer in
-        ⌜ read (now (head .entry)) r (now (head .exit)) ⌝ }
+        let s = now (message .entry) in
+        let read = messageTo (length s) (wholeOrFront whole) (typesFor (now (config .entry)) writer) s in
+        ⌜ HeadFilled read s (now (head .entry)) r (now (head .exit)) ⌝ }
 {
-    match read(message, types_for(config, writer)) {
+    match read_up_to(message, types_for(config, writer), message.len(), whole) {
         MessageRead::Refused(n, place) => result(n, place),
         MessageRead::NotValid => {
             if head.len() < HEAD_SIZE {
@@ -53,6 +51,55 @@ pub extern "C" fn uadp_read_message(
             }
             put_head(head, h, cursor, end);
             result(0, 1)
+        }
+    }
+}
+
+// Reads a DataSetMessage alone into a message head record.
+#[no_mangle]
+pub extern "C" fn uadp_read_message(
+    message: &[u8],
+    config: &[u8],
+    writer: u32,
+    head: &mut [u8],
+) -> u64
+    ensures { λ r.
+        let read = HeadRead (now (message .entry)) (now (config .entry)) writer in
+        ⌜ read (now (head .entry)) r (now (head .exit)) ⌝ }
+{
+    fill_head(message, config, writer, head, true)
+}
+
+// Opens a DataSetMessage: its front alone, up to its first field. Worth: a third to nearly half of the time of a walk by calls, where every
+// field is then read once.
+#[no_mangle]
+pub extern "C" fn uadp_open_message(
+    message: &[u8],
+    config: &[u8],
+    writer: u32,
+    head: &mut [u8],
+) -> u64
+    ensures { λ r.
+        let opened = HeadOpened (now (message .entry)) (now (config .entry)) writer in
+        ⌜ opened (now (head .entry)) r (now (head .exit)) ⌝ }
+{
+    fill_head(message, config, writer, head, false)
+}
+
+// Ends a message that was opened, by its head record's cursor after the last field: only padding may follow.
+#[no_mangle]
+pub extern "C" fn uadp_end_message(message: &[u8], head: &[u8]) -> u64
+    ensures { λ r.
+        let held = now (head .entry) in
+        ⌜ r ≡ endResult (endedAt (cursorIn held) (now (message .entry))) held ⌝ }
+{
+    match ended(message, cursor_in(head)) {
+        Reached::Refused(n, place) => result(n, place),
+        Reached::To(end) => {
+            if head.len() < HEAD_SIZE {
+                return result(NO_ROOM, 0);
+            }
+            result(0, end)
         }
     }
 }
