@@ -99,7 +99,8 @@ pub fn tally_listed(list: &[u8], n: u16) -> Tally
     tally_whole(list, n)
 }
 
-// The first n configured sizes.
+// The first n configured sizes, 16 at most. The second way out keeps the loop from being unrolled and compiled to vectors, which takes 700
+// bytes of code and no less time.
 fn tally_configured(sizes: &[u16], n: usize) -> Tally
     requires { ⌜ (n ≤ length (now sizes)) × (n ≤ MOST_WRITERS) ⌝ }
     ensures { λ r.
@@ -110,6 +111,9 @@ fn tally_configured(sizes: &[u16], n: usize) -> Tally
     let mut sum = 0;
     let mut each = true;
     while i < n {
+        if sizes.len() <= i {
+            break;
+        }
         let size = sizes[i] as usize;
         sum = sum + size;
         each = each & (0 < size);
