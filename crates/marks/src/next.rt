@@ -6,6 +6,7 @@ ghost use mathlib.Core.Bool.{false, cond};
 ghost use Rattle.marks.specs.Offsets.{nextPassing, wanted, Looked};
 ghost use Rattle.marks.specs.Marks.{inUse, capacity, marked};
 use crate::choose;
+use crate::whole::FULL_EIGHT;
 use crate::whole::eight;
 
 // A byte whose eight offsets are all marked, and how many offsets a byte has.
@@ -13,9 +14,7 @@ const FULL: u8 = 255;
 
 const EIGHT: usize = 8;
 
-// Eight full bytes as one number, and how many offsets they have.
-const FULL_EIGHT: u64 = 18446744073709551615;
-
+// How many offsets eight bytes have.
 const IN_EIGHT: usize = 64;
 
 // Some offsets one after the other: a bit for each, set where it is wanted, and how many they are.
