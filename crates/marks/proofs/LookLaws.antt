@@ -6,10 +6,11 @@ use mathlib.Core.Bool.{Bool, true, false, cond, not, false≢true}
 use mathlib.Core.List.{List}
 use native.Mathlib.Nat.{pow-suc, mul-assoc, mul-comm, one-mul, mod-le, mod-lt, mod-add-div}
 use native.Mathlib.Omega.{arith}
-use lib.Count.{trailingZeros, under, ones}
+use lib.Count.{trailingZeros, trailing-le, under, ones}
 use lib.Dec.{eqb}
 use lib.ListN.{getD}
 use lib.Pow.{shr-shr, shr-le, shl-exact, pow-pos}
+use borrow.Author.Tests.{not-true, not-false}
 use Rattle.wire.specs.Answer.{bit}
 use Rattle.wire.specs.Number.{le}
 use Rattle.wire.proofs.Cases.{by-lt}
@@ -48,7 +49,7 @@ trailing-some (suc k) n h =
 half-below : (n a : ℕ) → a < 2 ^ suc n → a / 2 < 2 ^ n
 half-below n a h = let q : a < 2 ^ n * 2 = rw (pow-suc 2 n) at h in omega arith
 
-trailing-below : (k n : ℕ) → n < 2 ^ k → (n ≡ 0 → ⊥) → trailingZeros k n < k
+pub trailing-below : (k n : ℕ) → n < 2 ^ k → (n ≡ 0 → ⊥) → trailingZeros k n < k
 unfolding trailingZeros
 trailing-below zero n h z = absurd (z (omega arith))
 trailing-below (suc k) n h z =
@@ -203,3 +204,24 @@ module _ (f : ℕ → Bool) (i told bits : ℕ) (seen : Looked f i told bits) wh
 
     pub seen-first : f (i + trailingZeros 64 bits) ≡ true
     seen-first = sym (seen .1 (trailingZeros 64 bits) first-told) ∙ first-set
+
+  -- the run of offsets that pass the test from one of them on, and the first after it that does not
+  module _ (skip turned run : ℕ) (top : bits < 2 ^ 64) (t : turned ≡ 18446744073709551615 - bits / 2 ^ skip) (r : run ≡ trailingZeros 64 turned) (in-sight : skip + run < told) where
+    turned-digit : (k : ℕ) → k < 64 → digit k turned ≡ not (bit (skip + k) bits)
+    turned-digit k l =
+        let shifted = shr-le bits skip in
+        ap (digit k) t ∙ digit-not 64 18446744073709551615 (bits / 2 ^ skip) k refl (omega (arith, shifted, top)) l
+        ∙ ap not (digit-shift skip k bits ∙ sym (bit-digit (skip + k) bits))
+
+    pub seen-run : (j : ℕ) → i + skip ≤ j → j < i + (skip + run) → f j ≡ true
+    seen-run j l u =
+        let most = trailing-le 64 turned in
+        let k : i + (skip + (j - i - skip)) ≡ j = omega arith in
+        ap f (sym k) ∙ sym (seen .1 (skip + (j - i - skip)) (omega arith))
+        ∙ not-false _ (sym (turned-digit (j - i - skip) (omega arith)) ∙ trailing-none 64 turned (j - i - skip) (omega arith))
+
+    pub seen-after : f (i + (skip + run)) ≡ false
+    seen-after = sym (seen .1 (skip + run) in-sight) ∙ by-lt _ run 64 inside (λ l. bit-digit (skip + run) bits ∙ digit-past 64 bits (skip + run) top (omega arith))
+      where
+        inside : run < 64 → bit (skip + run) bits ≡ false
+        inside l = not-true _ (sym (turned-digit run l) ∙ ap (λ (k : ℕ). digit k turned) r ∙ trailing-some 64 turned (rw r at l))

@@ -11,6 +11,8 @@ use each::any_each;
 use each::count_in;
 use each::mark_each;
 use each::mark_each_marked;
+pub use next::Run;
+pub use next::gap;
 use next::next_wanted;
 use whole::any_whole;
 use whole::count_whole;
