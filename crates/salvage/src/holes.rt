@@ -20,7 +20,7 @@ pub enum HoleStep {
 }
 
 // The first hole from a position on, below total. A made-up position is one like any other; from total on there is no hole.
-// Most holes are told by one look at the marks.
+// A hole that one look at the marks shows whole is told by it.
 pub fn next_hole(marks: &[u8], total: usize, at: usize) -> HoleStep
     ensures { λ r. ⌜ r ≡ nextHole (marked inUse (now (marks .entry))) total at ⌝ }
 {
