@@ -18,7 +18,7 @@ pub count-ext : (n : ℕ) (f g : ℕ → Bool) → ((i : ℕ) → i < n → f i 
 count-ext zero f g e = refl
 count-ext (suc n) f g e = rw (e n (omega arith), count-ext n f g (λ i h. e i (omega arith)))
 
-count-none : (n : ℕ) (f : ℕ → Bool) → ((i : ℕ) → i < n → f i ≡ false) → countBelow n f ≡ 0
+pub count-none : (n : ℕ) (f : ℕ → Bool) → ((i : ℕ) → i < n → f i ≡ false) → countBelow n f ≡ 0
 count-none zero f e = refl
 count-none (suc n) f e = rw (e n (omega arith)) (let h = count-none n f (λ i h. e i (omega arith)) in omega arith)
 

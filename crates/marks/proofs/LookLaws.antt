@@ -4,19 +4,21 @@ use Prim.Native.Nat.{ℕ, zero, suc, _+_, _*_, _-_, _/_, _%_, _^_, _≤_, _<_}
 use mathlib.Core.Path.{_≡_, refl, sym, ap, _∙_}
 use mathlib.Core.Bool.{Bool, true, false, cond, not, false≢true}
 use mathlib.Core.List.{List}
-use native.Mathlib.Nat.{pow-suc, mul-assoc, mul-comm}
+use native.Mathlib.Nat.{pow-suc, mul-assoc, mul-comm, one-mul, mod-le, mod-lt, mod-add-div}
 use native.Mathlib.Omega.{arith}
-use lib.Count.{trailingZeros, under}
+use lib.Count.{trailingZeros, trailing-le, under, ones}
 use lib.Dec.{eqb}
 use lib.ListN.{getD}
-use lib.Pow.{shr-shr}
+use lib.Pow.{shr-shr, shr-le, shl-exact, pow-pos}
+use borrow.Author.Tests.{not-true, not-false}
 use Rattle.wire.specs.Answer.{bit}
 use Rattle.wire.specs.Number.{le}
 use Rattle.wire.proofs.Cases.{by-lt}
-use Rattle.marks.specs.Offsets.{wanted, Looked}
+use Rattle.marks.specs.Offsets.{countBelow, wanted, Looked}
 use Rattle.marks.specs.Marks.{marked}
 use Rattle.marks.specs.Marks.Layout.{byBits}
-use Rattle.marks.proofs.BitLaws.{digit, bit-digit, bit-none}
+use Rattle.marks.proofs.BitLaws.{digit, bit-digit, bit-none, ones-count}
+use Rattle.marks.proofs.CountLaws.{count-ext}
 use Rattle.marks.proofs.WholeLaws.{marked-in}
 
 -- ---- the lowest set bit
@@ -47,7 +49,7 @@ trailing-some (suc k) n h =
 half-below : (n a : ℕ) → a < 2 ^ suc n → a / 2 < 2 ^ n
 half-below n a h = let q : a < 2 ^ n * 2 = rw (pow-suc 2 n) at h in omega arith
 
-trailing-below : (k n : ℕ) → n < 2 ^ k → (n ≡ 0 → ⊥) → trailingZeros k n < k
+pub trailing-below : (k n : ℕ) → n < 2 ^ k → (n ≡ 0 → ⊥) → trailingZeros k n < k
 unfolding trailingZeros
 trailing-below zero n h z = absurd (z (omega arith))
 trailing-below (suc k) n h z =
@@ -131,6 +133,34 @@ digit-number (suc w) m at j b l =
     ap (λ (n : ℕ). digit n (le (suc w) m at)) i ∙ sym (digit-shift 8 (j - 8) (le (suc w) m at)) ∙ ap (digit (j - 8)) q
     ∙ digit-number w m (at + 1) (j - 8) b (omega arith) ∙ ap (marked byBits m) k)
 
+-- ---- so many offsets of one byte, from one on
+module _ (m : List ℕ) (start n : ℕ) (inside : start % 8 + n ≤ 8) where
+  part-size : 1 * 2 ^ n % 2 ^ 64 ≡ 2 ^ n
+  part-size = shl-exact {a = 1} 1 n 64 (omega arith) (omega arith) ∙ one-mul (2 ^ n)
+
+  pub part-some : 0 < 1 * 2 ^ n % 2 ^ 64
+  part-some = rw part-size (pow-pos n)
+
+  pub part-byte : getD m (start / 8) 0 < 256 → getD m (start / 8) 0 / 2 ^ (start % 8) % (1 * 2 ^ n % 2 ^ 64) < 256
+  part-byte small =
+      let shifted = shr-le (getD m (start / 8) 0) (start % 8) in
+      let cut = mod-le (getD m (start / 8) 0 / 2 ^ (start % 8)) (1 * 2 ^ n % 2 ^ 64) in omega (arith, small, shifted, cut)
+
+  pub part-ones : ones (getD m (start / 8) 0 / 2 ^ (start % 8) % (1 * 2 ^ n % 2 ^ 64)) ≡ countBelow n (λ j. marked byBits m (start + j))
+  part-ones =
+      ap (λ (t : ℕ). ones (x % t)) part-size ∙ ones-count n (x % 2 ^ n) (mod-lt x (pow-pos n))
+      ∙ count-ext n _ _ (λ j h. sym (digit-low n j (x % 2 ^ n) (x / 2 ^ n) h) ∙ ap (digit j) whole ∙ digit-shift (start % 8) j (getD m (start / 8) 0)
+      ∙ sym (marked-in m (start / 8) (start % 8 + j) (omega arith)) ∙ ap (marked byBits m) (here j))
+    where
+      x : ℕ
+      x = getD m (start / 8) 0 / 2 ^ (start % 8)
+
+      whole : x % 2 ^ n + 2 ^ n * (x / 2 ^ n) ≡ x
+      whole = mod-add-div x (2 ^ n)
+
+      here : (j : ℕ) → 8 * (start / 8) + (start % 8 + j) ≡ start + j
+      here j = omega arith
+
 -- ---- what they tell of the offsets from i on
 module _ (m : List ℕ) (i w full x : ℕ) (want : Bool) (small : (k : ℕ) → getD m k 0 < 256) (some : 1 ≤ w) (top : full + 1 ≡ 2 ^ (8 * w))
     (e : x ≡ cond want (le w m (i / 8)) (full - le w m (i / 8))) where
@@ -174,3 +204,24 @@ module _ (f : ℕ → Bool) (i told bits : ℕ) (seen : Looked f i told bits) wh
 
     pub seen-first : f (i + trailingZeros 64 bits) ≡ true
     seen-first = sym (seen .1 (trailingZeros 64 bits) first-told) ∙ first-set
+
+  -- the run of offsets that pass the test from one of them on, and the first after it that does not
+  module _ (skip turned run : ℕ) (top : bits < 2 ^ 64) (t : turned ≡ 18446744073709551615 - bits / 2 ^ skip) (r : run ≡ trailingZeros 64 turned) (in-sight : skip + run < told) where
+    turned-digit : (k : ℕ) → k < 64 → digit k turned ≡ not (bit (skip + k) bits)
+    turned-digit k l =
+        let shifted = shr-le bits skip in
+        ap (digit k) t ∙ digit-not 64 18446744073709551615 (bits / 2 ^ skip) k refl (omega (arith, shifted, top)) l
+        ∙ ap not (digit-shift skip k bits ∙ sym (bit-digit (skip + k) bits))
+
+    pub seen-run : (j : ℕ) → i + skip ≤ j → j < i + (skip + run) → f j ≡ true
+    seen-run j l u =
+        let most = trailing-le 64 turned in
+        let k : i + (skip + (j - i - skip)) ≡ j = omega arith in
+        ap f (sym k) ∙ sym (seen .1 (skip + (j - i - skip)) (omega arith))
+        ∙ not-false _ (sym (turned-digit (j - i - skip) (omega arith)) ∙ trailing-none 64 turned (j - i - skip) (omega arith))
+
+    pub seen-after : f (i + (skip + run)) ≡ false
+    seen-after = sym (seen .1 (skip + run) in-sight) ∙ by-lt _ run 64 inside (λ l. bit-digit (skip + run) bits ∙ digit-past 64 bits (skip + run) top (omega arith))
+      where
+        inside : run < 64 → bit (skip + run) bits ≡ false
+        inside l = not-true _ (sym (turned-digit run l) ∙ ap (λ (k : ℕ). digit k turned) r ∙ trailing-some 64 turned (rw r at l))

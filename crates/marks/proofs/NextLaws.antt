@@ -4,16 +4,19 @@ use mathlib.Core.Path.{_≡_, refl, sym, ap, _∙_}
 use mathlib.Core.Bool.{Bool, true, false, cond, not, false≢true}
 use mathlib.Core.List.{List}
 use native.Mathlib.Omega.{arith}
+use lib.Count.{trailingZeros}
 use lib.ListN.{getD}
+use borrow.Author.Tests.{not-true, not-false}
 use native.Mathlib.Nat.{add-zero, pow-suc}
 use Rattle.wire.specs.Number.{le}
 use Rattle.wire.proofs.Cases.{by-bool, by-eq, by-lt}
-use Rattle.marks.specs.Offsets.{firstPassing, nextPassing, wanted}
+use Rattle.marks.specs.Offsets.{firstPassing, nextPassing, wanted, Looked}
 use Rattle.marks.specs.Marks.{marked}
 use Rattle.marks.specs.Marks.Layout.{byBits}
 use Rattle.marks.proofs.OffsetLaws.{every-all}
 use Rattle.marks.proofs.BitLaws.{digit, digit-none}
 use Rattle.marks.proofs.WholeLaws.{marked-by}
+use Rattle.marks.proofs.LookLaws.{seen-before, seen-first, seen-run, seen-after}
 
 -- what r is: no offset from i up to it passes the test, and r does where it is below n
 pub record Next (f : ℕ → Bool) (n i r : ℕ) : Type 0 where
@@ -135,3 +138,25 @@ next-none-past f stop end most below full past from r e = next-is (λ i. not (f 
       none = h .none;
       some = λ z. by-lt _ r stop (λ l. h .some l) (λ l. let q = full (omega arith) in ap not (past r (omega arith)));
     }
+
+-- ---- a run of offsets that do not pass the test, seen whole in one look: where it starts, and where it ends
+module _ (g : ℕ → Bool) (from end told bits skip run : ℕ) (seen : Looked (λ j. not (g j)) from told bits) (top : bits < 2 ^ 64) (some : bits ≡ 0 → ⊥) (s : skip ≡ trailingZeros 64 bits)
+    (r : run ≡ trailingZeros 64 (18446744073709551615 - bits / 2 ^ skip)) (in-sight : skip + run < told) (room : from + (skip + run) < end) where
+  gap-start : from + skip ≡ nextPassing (λ i. not (g i)) end from
+  gap-start = next-is (λ i. not (g i)) end from (from + skip) (record {
+    from = omega arith;
+    upto = λ l. absurd (omega arith);
+    none = λ j l u. seen-before (λ i. not (g i)) from told bits seen top some j l (omega arith);
+    some = λ l. ap (λ (k : ℕ). not (g (from + k))) s ∙ seen-first (λ i. not (g i)) from told bits seen top some;
+  })
+
+  gap-end : from + (skip + run) ≡ nextPassing g end (nextPassing (λ i. not (g i)) end from)
+  gap-end = next-is g end (from + skip) (from + (skip + run)) (record {
+    from = omega arith;
+    upto = λ l. absurd (omega arith);
+    none = λ j l u. not-true (g j) (seen-run (λ i. not (g i)) from told bits seen skip (18446744073709551615 - bits / 2 ^ skip) run top refl r in-sight j l u);
+    some = λ l. not-false _ (seen-after (λ i. not (g i)) from told bits seen skip (18446744073709551615 - bits / 2 ^ skip) run top refl r in-sight);
+  }) ∙ ap (nextPassing g end) gap-start
+
+  pub gap-seen : (from + skip < end) × (from + skip ≡ nextPassing (λ i. not (g i)) end from) × (from + skip + run ≡ nextPassing g end (nextPassing (λ i. not (g i)) end from))
+  gap-seen = let q : from + skip + run ≡ from + (skip + run) = omega arith in (omega arith, gap-start, q ∙ gap-end)

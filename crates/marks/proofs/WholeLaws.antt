@@ -5,19 +5,20 @@ use mathlib.Core.Bool.{Bool, true, false, not, _&&_, _||_, or-true, or-false}
 use mathlib.Core.List.{List}
 use native.Mathlib.Omega.{arith}
 use lib.Bits.{bitOr, or-lt}
-use lib.Count.{ones, ones-le, ones-cat}
+use lib.Count.{ones, ones-le, ones-cat, ones-ones}
 use lib.ListN.{length, getD, set, take, drop, length-set, length-drop, List·getD-eq-default}
 use lib.Seq.{ext-getD, getD-set-same, getD-set-other, length-take-le, getD-take, getD-drop}
 use lib.Dec.{leb, eqb}
-use borrow.Author.Tests.{ne-eqb, eq-eqb, le-leb}
+use borrow.Author.Tests.{ne-eqb, eq-eqb, eqb-true, le-leb}
 use Rattle.wire.specs.Constants.{CUT_SHORT}
 use Rattle.wire.specs.Number.{le}
 use Rattle.wire.specs.Answer.{item}
 use Rattle.wire.specs.Answer.Answer.{got, refused}
-use Rattle.marks.specs.Offsets.{anyFrom, countBelow, inRangeAnd, always}
+use Rattle.marks.specs.Offsets.{anyFrom, countBelow, countFrom, inRangeAnd, always}
 use Rattle.marks.specs.Marks.{withBit, marksFor, capacity, marked, markAt, markIf, markUpTo, markAll}
 use Rattle.marks.specs.Marks.Layout.{byBits}
 use Rattle.wire.proofs.Cases.{by-bool, by-eq, by-lt}
+use Rattle.wire.proofs.Facts.{and-left, and-right}
 use Rattle.marks.proofs.OffsetLaws.{every-all, from-none, none-from, from-more}
 use Rattle.marks.proofs.BitLaws.{digit, bit-digit, digit-none, digit-or, digit-same-all, with-byte, or-none, ones-count}
 use Rattle.marks.proofs.MarkLaws.{marked-on, marked-off, length-markAll}
@@ -134,7 +135,7 @@ number-ones (suc w) m k small =
     let z : ones (getD m k 0 + 256 * le w m (k + 1)) ≡ countBelow (8 + 8 * w) (λ j. marked byBits m (8 * k + j)) = omega arith in
     z ∙ ap (λ (n : ℕ). countBelow n (λ j. marked byBits m (8 * k + j))) (sym r)
 
-pub eight-most : (m : List ℕ) (k n : ℕ) → ((i : ℕ) → getD m i 0 < 256) → n ≡ le 8 m k → ones n ≤ 64
+eight-most : (m : List ℕ) (k n : ℕ) → ((i : ℕ) → getD m i 0 < 256) → n ≡ le 8 m k → ones n ≤ 64
 eight-most m k n small e =
     subst (λ (t : ℕ). t ≤ 64) (sym (ap ones e ∙ number-ones 8 m k small)) (count-most 64 (λ j. marked byBits m (8 * k + j)))
 
@@ -142,16 +143,50 @@ eight-most m k n small e =
 count-on : (a c t n d : ℕ) (f : ℕ → Bool) → t ≡ a + c → n ≡ countBelow a f → d ≡ countBelow c (λ j. f (a + j)) → n + d ≡ countBelow t f
 count-on a c t n d f q e r = ap₂ _+_ e r ∙ sym (count-more a c f) ∙ ap (λ (k : ℕ). countBelow k f) (sym q)
 
-module _ (m : List ℕ) (first k n d : ℕ) (small : (i : ℕ) → getD m i 0 < 256) where
-  pub eight-step : n ≡ countBelow (64 * k) (λ j. marked byBits m (8 * first + j)) → d ≡ ones (le 8 m (first + 8 * k))
-      → n + d ≡ countBelow (64 * (k + 1)) (λ j. marked byBits m (8 * first + j))
-  eight-step e q =
-      count-on (64 * k) 64 (64 * (k + 1)) n d (λ j. marked byBits m (8 * first + j)) (omega arith) e
-      (q ∙ number-ones 8 m (first + 8 * k) small ∙ count-ext 64 _ _ (λ j h. ap (marked byBits m) (later j)))
-    where
-      later : (j : ℕ) → 8 * (first + 8 * k) + j ≡ 8 * first + (64 * k + j)
-      later j = omega arith
+-- 32 bytes as four numbers
+module _ (m : List ℕ) (at a b c d : ℕ) (small : (i : ℕ) → getD m i 0 < 256) (p : a ≡ le 8 m at) (q : b ≡ le 8 m (at + 8)) (r : c ≡ le 8 m (at + 16)) (s : d ≡ le 8 m (at + 24)) where
+  one-of-four : (n x : ℕ) → x ≡ le 8 m (at + n) → ones x ≡ countBelow 64 (λ j. marked byBits m (8 * at + (8 * n + j)))
+  one-of-four n x e =
+      ap ones e ∙ number-ones 8 m (at + n) small ∙ count-ext 64 _ _ (λ j h. let t : 8 * (at + n) + j ≡ 8 * at + (8 * n + j) = omega arith in ap (marked byBits m) t)
 
+  pub four-ones : ones a + ones b + ones c + ones d ≡ countFrom (marked byBits m) (8 * at) 256
+  unfolding countFrom
+  four-ones =
+      count-on 192 64 256 (ones a + ones b + ones c) (ones d) (λ j. marked byBits m (8 * at + j)) refl
+      (count-on 128 64 192 (ones a + ones b) (ones c) (λ j. marked byBits m (8 * at + j)) refl
+      (count-on 64 64 128 (ones a) (ones b) (λ j. marked byBits m (8 * at + j)) refl (ap ones p ∙ number-ones 8 m at small) (one-of-four 8 b q))
+      (one-of-four 16 c r))
+      (one-of-four 24 d s)
+
+  pub four-most : ones a + ones b + ones c + ones d ≤ 256
+  four-most = omega (arith, eight-most m at a small p, eight-most m (at + 8) b small q, eight-most m (at + 16) c small r, eight-most m (at + 24) d small s)
+
+  pub four-full : (eqb a 18446744073709551615 && eqb b 18446744073709551615 && eqb c 18446744073709551615 && eqb d 18446744073709551615) ≡ true → 256 ≡ countFrom (marked byBits m) (8 * at) 256
+  four-full t =
+      let x = and-left (eqb a 18446744073709551615 && eqb b 18446744073709551615 && eqb c 18446744073709551615) (eqb d 18446744073709551615) t in
+      let y = and-left (eqb a 18446744073709551615 && eqb b 18446744073709551615) (eqb c 18446744073709551615) x in
+      let i = full a (and-left (eqb a 18446744073709551615) (eqb b 18446744073709551615) y) in
+      let j = full b (and-right (eqb a 18446744073709551615) (eqb b 18446744073709551615) y) in
+      let k = full c (and-right (eqb a 18446744073709551615 && eqb b 18446744073709551615) (eqb c 18446744073709551615) x) in
+      let l = full d (and-right (eqb a 18446744073709551615 && eqb b 18446744073709551615 && eqb c 18446744073709551615) (eqb d 18446744073709551615) t) in
+      let z : 256 ≡ ones a + ones b + ones c + ones d = omega (arith, i, j, k, l) in
+      z ∙ four-ones
+    where
+      full : (n : ℕ) → eqb n 18446744073709551615 ≡ true → ones n ≡ 64
+      full n e = ap ones (eqb-true n 18446744073709551615 e) ∙ ones-ones 64
+
+-- one step of 32 bytes
+pub four-step : (m : List ℕ) (first k n d : ℕ) → n ≡ countBelow (256 * k) (λ j. marked byBits m (8 * first + j))
+    → d ≡ countFrom (marked byBits m) (8 * (first + 32 * k)) 256 → n + d ≡ countBelow (256 * (k + 1)) (λ j. marked byBits m (8 * first + j))
+unfolding countFrom
+four-step m first k n d e q =
+    count-on (256 * k) 256 (256 * (k + 1)) n d (λ j. marked byBits m (8 * first + j)) (omega arith) e (q ∙ count-ext 256 _ _ (λ j h. ap (marked byBits m) (later j)))
+  where
+    later : (j : ℕ) → 8 * (first + 32 * k) + j ≡ 8 * first + (256 * k + j)
+    later j = omega arith
+
+-- one byte more
+module _ (m : List ℕ) (first k n d : ℕ) (small : (i : ℕ) → getD m i 0 < 256) where
   pub byte-step : first ≤ k → n ≡ countBelow (8 * (k - first)) (λ j. marked byBits m (8 * first + j)) → d ≡ ones (getD m k 0)
       → n + d ≡ countBelow (8 * (k + 1 - first)) (λ j. marked byBits m (8 * first + j))
   byte-step h e q =
@@ -161,14 +196,14 @@ module _ (m : List ℕ) (first k n d : ℕ) (small : (i : ℕ) → getD m i 0 < 
       later : (j : ℕ) → 8 * k + j ≡ 8 * first + (8 * (k - first) + j)
       later j = omega arith
 
--- eight bytes at a time, and then byte by byte
-pub whole-join : (m : List ℕ) (first last eights n d : ℕ) → first + 8 * eights ≤ last → n ≡ countBelow (64 * eights) (λ j. marked byBits m (8 * first + j))
-    → d ≡ countBelow (8 * (last - (first + 8 * eights))) (λ j. marked byBits m (8 * (first + 8 * eights) + j)) → n + d ≡ countBelow (8 * (last - first)) (λ j. marked byBits m (8 * first + j))
-whole-join m first last eights n d h e q =
-    count-on (64 * eights) (8 * (last - (first + 8 * eights))) (8 * (last - first)) n d (λ j. marked byBits m (8 * first + j)) (omega arith) e
-    (q ∙ count-ext (8 * (last - (first + 8 * eights))) _ _ (λ j l. ap (marked byBits m) (later j)))
+-- 32 bytes at a time, and then byte by byte
+pub whole-join : (m : List ℕ) (first last fours n d : ℕ) → first + 32 * fours ≤ last → n ≡ countBelow (256 * fours) (λ j. marked byBits m (8 * first + j))
+    → d ≡ countBelow (8 * (last - (first + 32 * fours))) (λ j. marked byBits m (8 * (first + 32 * fours) + j)) → n + d ≡ countBelow (8 * (last - first)) (λ j. marked byBits m (8 * first + j))
+whole-join m first last fours n d h e q =
+    count-on (256 * fours) (8 * (last - (first + 32 * fours))) (8 * (last - first)) n d (λ j. marked byBits m (8 * first + j)) (omega arith) e
+    (q ∙ count-ext (8 * (last - (first + 32 * fours))) _ _ (λ j l. ap (marked byBits m) (later j)))
   where
-    later : (j : ℕ) → 8 * (first + 8 * eights) + j ≡ 8 * first + (64 * eights + j)
+    later : (j : ℕ) → 8 * (first + 32 * fours) + j ≡ 8 * first + (256 * fours + j)
     later j = omega arith
 
 -- ---- whether any is marked

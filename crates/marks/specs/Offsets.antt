@@ -23,6 +23,10 @@ abbrev pub countBelow : ℕ → (ℕ → Bool) → ℕ
 countBelow zero f = 0
 countBelow (suc n) f = cond (f n) 1 0 + countBelow n f
 
+-- how many of the n offsets from i on pass the test
+unfoldable pub countFrom : (ℕ → Bool) → ℕ → ℕ → ℕ
+countFrom f i n = countBelow n (λ j. f (i + j))
+
 -- the offsets from start up to end
 abbrev pub inRange : ℕ → ℕ → ℕ → Bool
 inRange start end i = leb start i && ltb i end

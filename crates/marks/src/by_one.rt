@@ -1,4 +1,4 @@
-// The benchmark's own: how many offsets are marked, one after another, beside the library's way, eight bytes of marks at a time, by which
+// The benchmark's own: how many offsets are marked, one after another, beside the library's way, 32 bytes of marks at a time, by which
 // handing out counts (Req 03 and Req 11 of document 02). Both promise the same. No part of the library.
 ghost use mathlib.Core.Path.{_≡_};
 ghost use mathlib.Core.Bool.{cond};

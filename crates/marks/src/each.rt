@@ -1,19 +1,11 @@
-// Offsets one after another, for the ends of a range: fewer than eight of them fill no byte. Each loop has a second way out, so that the
-// compiler does not unroll it: a thousand bytes of code.
+// The ends of a range: fewer than eight offsets, which fill no byte. They are counted at once, as bits of their byte. They are marked and
+// looked for one after another, in a loop with a second way out, so that the compiler does not unroll it: a thousand bytes of code.
 ghost use mathlib.Core.Path.{_≡_};
-ghost use mathlib.Core.Bool.{cond};
-ghost use Prim.Native.Nat.{_+_, _-_, _≤_};
+ghost use Prim.Native.Nat.{_+_, _-_, _%_, _≤_};
 ghost use Rattle.marks.specs.Offsets.{countBelow, anyFrom, inRangeAnd, always};
 ghost use Rattle.marks.specs.Marks.{inUse, capacity, marked, markAll};
 use crate::bits::mark_if;
 use crate::is_marked;
-
-// 1 or 0.
-fn one_if(yes: bool) -> usize
-    ensures { λ r. ⌜ (r ≡ cond yes 1 0) × (r ≤ 1) ⌝ }
-{
-    if yes { 1 } else { 0 }
-}
 
 // Marks the offsets from start up to end.
 pub(crate) fn mark_each(marks: &mut [u8], start: usize, end: usize)
@@ -44,20 +36,20 @@ pub(crate) fn mark_each_marked(marks: &mut [u8], start: usize, end: usize, other
     }
 }
 
-// How many offsets from start up to end are marked.
-pub(crate) fn count_each(marks: &[u8], start: usize, end: usize) -> usize
+// How many offsets from start up to end are marked, where they lie in one byte: the ones among so many of its bits.
+pub(crate) fn count_in(marks: &[u8], start: usize, end: usize) -> usize
+    requires { ⌜ start % 8 + (end - start) ≤ 8 ⌝ }
     ensures { λ r. ⌜ r ≡ countBelow (end - start) (λ j. marked inUse (now (marks .entry)) (start + j)) ⌝ }
 {
-    let mut count = 0;
-    let mut i = start;
-    while i < end {
-        if marks.len() <= i / 8 {
-            return count;
-        }
-        count += one_if(is_marked(marks, i));
-        i += 1;
+    if end <= start {
+        return 0;
     }
-    count
+    let at = start / 8;
+    if marks.len() <= at {
+        return 0;
+    }
+    let bits = (marks[at] as usize >> (start % 8)) % (1 << (end - start));
+    u8::count_ones(bits as u8) as usize
 }
 
 // Whether an offset from start up to end is marked.

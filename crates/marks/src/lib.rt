@@ -8,9 +8,11 @@ mod whole;
 
 use bits::bit_of;
 use each::any_each;
-use each::count_each;
+use each::count_in;
 use each::mark_each;
 use each::mark_each_marked;
+pub use next::Run;
+pub use next::gap;
 use next::next_wanted;
 use whole::any_whole;
 use whole::count_whole;
@@ -143,12 +145,12 @@ pub fn count_between(marks: &[u8], start: usize, end: usize) -> usize
     let stop = within(marks, end);
     let first = marks_for(start);
     let last = stop / 8;
-    if last <= first {
-        return count_each(marks, start, stop);
+    if last < first {
+        return count_in(marks, start, stop);
     }
-    let head = count_each(marks, start, 8 * first);
+    let head = count_in(marks, start, 8 * first);
     let inside = count_whole(marks, first, last);
-    head + inside + count_each(marks, 8 * last, stop)
+    head + inside + count_in(marks, 8 * last, stop)
 }
 
 // How many offsets below n are marked; one past the area is not.

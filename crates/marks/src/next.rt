@@ -1,22 +1,29 @@
 // The next offset that is marked, or is not: bits of eight bytes of marks, as one number, from its own byte on; where they have none that
-// is wanted, eight bytes that are alike are passed over at once.
+// is wanted, eight bytes that are alike are passed over at once. A hole that those bits show whole is told from them alone: half of the
+// time of finding a thousand small ones.
 ghost use mathlib.Core.Path.{_≡_};
 ghost use Prim.Native.Nat.{ℕ, _+_, _%_, _<_, _≤_};
-ghost use mathlib.Core.Bool.{false, cond};
+ghost use mathlib.Core.Bool.{false, cond, not};
 ghost use Rattle.marks.specs.Offsets.{nextPassing, wanted, Looked};
 ghost use Rattle.marks.specs.Marks.{inUse, capacity, marked};
 use crate::choose;
+use crate::whole::FULL_EIGHT;
 use crate::whole::eight;
+use crate::within;
 
 // A byte whose eight offsets are all marked, and how many offsets a byte has.
 const FULL: u8 = 255;
 
 const EIGHT: usize = 8;
 
-// Eight full bytes as one number, and how many offsets they have.
-const FULL_EIGHT: u64 = 18446744073709551615;
-
+// How many offsets eight bytes have.
 const IN_EIGHT: usize = 64;
+
+// Offsets one after the other, from start up to end.
+pub struct Run {
+    pub start: usize,
+    pub end: usize,
+}
 
 // Some offsets one after the other: a bit for each, set where it is wanted, and how many they are.
 struct Seen {
@@ -95,4 +102,40 @@ pub(crate) fn next_wanted(marks: &[u8], from: usize, stop: usize, want: bool) ->
         i = pass_eights(marks, i + seen.told, stop, want);
     }
     i
+}
+
+// The first run of offsets from `from` on and below end that are not marked, where one look shows it and the marked offset after it; else
+// an empty one.
+pub fn gap(marks: &[u8], from: usize, end: usize) -> Run
+    ensures { λ r.
+        let held = marked inUse (now (marks .entry)) in
+        let start = nextPassing (λ i. not (held i)) end from in
+        ⌜ (r .start < r .end → (r .start < end) × (r .start ≡ start) × (r .end ≡ nextPassing held end start)) ⌝ }
+{
+    let stop = within(marks, end);
+    if stop <= from {
+        return Run {
+            start: from,
+            end: from,
+        };
+    }
+    let seen = look(marks, from, false);
+    if seen.bits == 0 {
+        return Run {
+            start: from,
+            end: from,
+        };
+    }
+    let skip = u64::trailing_zeros(seen.bits) as usize;
+    let run = u64::trailing_zeros(FULL_EIGHT - (seen.bits >> skip)) as usize;
+    if skip + run < least(seen.told, stop - from) {
+        return Run {
+            start: from + skip,
+            end: from + skip + run,
+        };
+    }
+    Run {
+        start: from,
+        end: from,
+    }
 }

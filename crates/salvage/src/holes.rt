@@ -1,4 +1,5 @@
 // The holes of a partial, one after the other.
+use marks::gap;
 use marks::next_marked;
 use marks::next_unmarked;
 ghost use mathlib.Core.Path.{_≡_};
@@ -19,9 +20,20 @@ pub enum HoleStep {
 }
 
 // The first hole from a position on, below total. A made-up position is one like any other; from total on there is no hole.
+// A hole that one look at the marks shows whole is told by it.
 pub fn next_hole(marks: &[u8], total: usize, at: usize) -> HoleStep
     ensures { λ r. ⌜ r ≡ nextHole (marked inUse (now (marks .entry))) total at ⌝ }
 {
+    let run = gap(marks, at, total);
+    if run.start < run.end {
+        return HoleStep::Is(
+            Hole {
+                offset: run.start,
+                length: run.end - run.start,
+            },
+            run.end,
+        );
+    }
     let start = next_unmarked(marks, at, total);
     if total <= start {
         return HoleStep::Last;

@@ -12,16 +12,27 @@ use Rattle.marks.proofs.count_between.Statement.{statement}
 use Rattle.marks.proofs.count_between.Tie as tie
 use Rattle.marks.proofs.count_between.Reads as reads
 use Rattle.marks.proofs.count_between.Lts as lts
-use Rattle.marks.proofs.each.count_each.Reads as count-each-reads
+use Rattle.marks.proofs.each.count_in.Reads as count-in-reads
 use Rattle.marks.proofs.marks_for.Reads as marks-for-reads
 use Rattle.marks.proofs.whole.count_whole.Reads as count-whole-reads
 use Rattle.marks.proofs.within.Reads as within-reads
+
+count-in-requires : tie.Need-count-in-requires
+count-in-requires c κs =
+    let first = first-byte (c .before .before .before .before .args .start) (c .before .marks-for .result) (c .before .marks-for .ensures) in omega (arith, first .0, first .1)
 
 returns : tie.Need-returns
 returns c =
     let at-within = c .before .before .before in
     let args = at-within .before .before .args in
-    c .count-each .ensures ∙ area-count inUse (now (args .marks)) (args .start) (at-within .within .result) (args .end) (at-within .within .ensures .0) (at-within .within .ensures .2)
+    c .count-in .ensures ∙ area-count inUse (now (args .marks)) (args .start) (at-within .within .result) (args .end) (at-within .within .ensures .0) (at-within .within .ensures .2)
+
+mul-count-in : tie.Need-mul-count-in
+mul-count-in c = omega arith
+
+count-in-requires-2 : tie.Need-count-in-requires-2
+count-in-requires-2 c κs =
+    let first = first-byte (c .before .before .before .before .args .start) (c .before .marks-for .result) (c .before .marks-for .ensures) in omega (arith, first .0, first .1)
 
 count-whole-requires : tie.Need-count-whole-requires
 count-whole-requires c κs =
@@ -33,15 +44,15 @@ count-whole-requires c κs =
 
 add-result : tie.Need-add-result
 add-result c =
-    let at-count-each2 = c .before in
-    let at-marks-for = at-count-each2 .before .before in
+    let at-count-in2 = c .before in
+    let at-marks-for = at-count-in2 .before .before in
     let at-within = at-marks-for .before in
     let args = at-within .before .before .args in
     let f = marked inUse (now (args .marks)) in
     let first = first-byte (args .start) (at-marks-for .marks-for .result) (at-marks-for .marks-for .ensures) in
     let low = first .0 in
     let below = at-within .within .ensures .0 in
-    let n = at-count-each2 .count-each2 .ensures in
+    let n = at-count-in2 .count-in2 .ensures in
     let d = c .count-whole .ensures in
     let few = count-most (8 * at-marks-for .marks-for .result - args .start) (λ j. f (args .start + j)) in
     let many = count-most (8 * (at-within .within .result / 8 - at-marks-for .marks-for .result)) (λ j. f (8 * at-marks-for .marks-for .result + j)) in omega arith
@@ -49,17 +60,17 @@ add-result c =
 add-result-2 : tie.Need-add-result-2
 add-result-2 c =
     let at-count-whole = c .before in
-    let at-count-each2 = at-count-whole .before in
-    let at-marks-for = at-count-each2 .before .before in
+    let at-count-in2 = at-count-whole .before in
+    let at-marks-for = at-count-in2 .before .before in
     let at-within = at-marks-for .before in
     let args = at-within .before .before .args in
     let f = marked inUse (now (args .marks)) in
     let first = first-byte (args .start) (at-marks-for .marks-for .result) (at-marks-for .marks-for .ensures) in
     let low = first .0 in
     let below = at-within .within .ensures .0 in
-    let n = at-count-each2 .count-each2 .ensures in
+    let n = at-count-in2 .count-in2 .ensures in
     let d = at-count-whole .count-whole .ensures in
-    let e = c .count-each3 .ensures in
+    let e = c .count-in3 .ensures in
     let few = count-most (8 * at-marks-for .marks-for .result - args .start) (λ j. f (args .start + j)) in
     let many = count-most (8 * (at-within .within .result / 8 - at-marks-for .marks-for .result)) (λ j. f (8 * at-marks-for .marks-for .result + j)) in
     let last = count-most (at-within .within .result - 8 * (at-within .within .result / 8)) (λ j. f (8 * (at-within .within .result / 8) + j)) in omega arith
@@ -67,8 +78,8 @@ add-result-2 c =
 returns-2 : tie.Need-returns-2
 returns-2 c =
     let at-count-whole = c .before in
-    let at-count-each2 = at-count-whole .before in
-    let at-marks-for = at-count-each2 .before .before in
+    let at-count-in2 = at-count-whole .before in
+    let at-marks-for = at-count-in2 .before .before in
     let at-within = at-marks-for .before in
     let args = at-within .before .before .args in
     let m = now (args .marks) in
@@ -78,7 +89,7 @@ returns-2 c =
     let q : 8 * (stop / 8 - at-marks-for .marks-for .result) ≡ 8 * (stop / 8) - 8 * at-marks-for .marks-for .result = omega arith in
     let inside = at-count-whole .count-whole .ensures ∙ ap (λ (n : ℕ). countBelow n (λ j. f (8 * at-marks-for .marks-for .result + j))) q in
     count-join (args .start) (8 * (stop / 8)) stop _ _ f (omega (arith, first .0)) (omega arith)
-    (count-join (args .start) (8 * at-marks-for .marks-for .result) (8 * (stop / 8)) _ _ f (first .0) (omega arith) (at-count-each2 .count-each2 .ensures) inside) (c .count-each3 .ensures)
+    (count-join (args .start) (8 * at-marks-for .marks-for .result) (8 * (stop / 8)) _ _ f (first .0) (omega arith) (at-count-in2 .count-in2 .ensures) inside) (c .count-in3 .ensures)
     ∙ area-count inUse m (args .start) stop (args .end) (at-within .within .ensures .0) (at-within .within .ensures .2)
 
 pub count-between-spec : {M : Type 1} → statement M
@@ -87,10 +98,10 @@ count-between-spec =
     (tie.spec
     (λ c κs. search needs)
     (λ c κs. search needs)
-    (λ c κs. search needs)
+    count-in-requires
     returns
-    (λ c. search needs)
-    (λ c κs. search needs)
+    mul-count-in
+    count-in-requires-2
     count-whole-requires
     add-result
     (λ c. search needs)
