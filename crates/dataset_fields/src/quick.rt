@@ -49,7 +49,7 @@ pub fn raw_field(s: &[u8], delta: bool, types: &[u8], k: usize, at: usize) -> Fi
     }
 }
 
-// From how many fields on `leading` is called: for fewer the call costs more than it spares.
+// From how many fields on `leading` is called: for fewer it costs more than it spares.
 pub const MANY: usize = 16;
 
 // How many fields stand one after the other, and where the last of them ends.
@@ -59,8 +59,8 @@ pub struct Run {
 }
 
 // Of n Variants from a position on, without indices, the leading ones that are a null or a scalar of a fixed type and have the first one's
-// first byte: each is as long as the first, so that no width is looked up again. It has two callers, so that it is not put in line. Worth:
-// three quarters of the time to pass over 1,000 UInt32; messages of other types take as long as without it.
+// first byte: each is as long as the first, so that no width is looked up again. Worth: three quarters of the time to pass over 1,000
+// UInt32; messages of other types take as long as without it.
 pub fn leading(s: &[u8], at: usize, n: usize) -> Run
     ensures { λ r.
         ⌜ (r .count ≤ n)
