@@ -60,7 +60,7 @@ pub struct Run {
 
 // Of n Variants from a position on, without indices, the leading ones that are a null or a scalar of a fixed type and have the first one's
 // first byte: each is as long as the first, so that no width is looked up again. Worth: three quarters of the time to pass over 1,000
-// UInt32; messages of other types take as long as without it.
+// UInt32; 2,000 fields of random types take a thirtieth longer.
 pub fn leading(s: &[u8], at: usize, n: usize) -> Run
     ensures { λ r.
         ⌜ (r .count ≤ n)

@@ -1,5 +1,6 @@
 // A quick way to a field of the front: a Variant that is a scalar of a fixed type is told by its first byte, with no call. It answers what
-// `read_field` does. Worth: a quarter of the time of salvaging such fields. And one over those of one type at the start.
+// `read_field` does. Worth: a quarter of the time of salvaging such fields. And one over those of one type at the start. Worth: two fifths
+// of the time of salvaging 1,000 UInt32.
 use dataset_fields::fields::Cursor;
 use dataset_fields::fields::FieldRead;
 use dataset_fields::fields::read_field;
