@@ -1,4 +1,5 @@
 pub mod Walks
+pub mod Alike
 pub mod Front
 pub mod Judging
 pub mod Laying

@@ -1,10 +1,10 @@
 -- Walking over fields and over padding: the end, one turn, and a refusal.
 -- Assumes nothing.
 use Prim.Native.Nat.{ℕ, zero, suc, _+_, _-_, _≤_, _<_}
-use mathlib.Core.Path.{_≡_, refl, _∙_}
+use mathlib.Core.Path.{_≡_, refl, sym, ap, _∙_}
 use mathlib.Core.Bool.{Bool, true, false}
 use mathlib.Core.List.{List}
-use native.Mathlib.Nat.{not-suc-le-zero}
+use native.Mathlib.Nat.{not-suc-le-zero, add-zero, zero-add}
 use native.Mathlib.Numerals.{sub-one}
 use native.Mathlib.Omega.{arith}
 use lib.Dec.{leb}
@@ -38,6 +38,23 @@ module _ (delta : Bool) (encoding : Encoding) (types s : List ℕ) where
   unfolding fieldsAt
   fields-stop zero k p n place h e = absurd (not-suc-le-zero h)
   fields-stop (suc m) k p n place h e = rw e
+
+  -- n fields, and c more after them
+  pub fields-split : (n c k p : ℕ) → fieldsAt delta encoding types (n + c) k s p ≡ andThen (fieldsAt delta encoding types n k s p) (λ _ q. fieldsAt delta encoding types c (k + n) s q)
+  unfolding fieldsAt
+  fields-split zero c k p = ap (λ (j : ℕ). fieldsAt delta encoding types j k s p) (zero-add c) ∙ ap (λ (j : ℕ). fieldsAt delta encoding types c j s p) (sym (add-zero k))
+  fields-split (suc n) c k p =
+      let e : suc n + c ≡ suc (n + c) = omega arith in
+      ap (λ (j : ℕ). fieldsAt delta encoding types j k s p) e ∙ go (fieldAt delta encoding types k s p) (fields-split n c (k + 1))
+    where
+      go : (x : Answer Field)
+          → ((r : ℕ) → fieldsAt delta encoding types (n + c) (k + 1) s r ≡ andThen (fieldsAt delta encoding types n (k + 1) s r) (λ _ q. fieldsAt delta encoding types c (k + 1 + n) s q))
+          → andThen x (λ f r. fieldsAt delta encoding types (n + c) (k + 1) s r)
+          ≡ andThen (andThen x (λ f r. fieldsAt delta encoding types n (k + 1) s r)) (λ _ q. fieldsAt delta encoding types c (k + suc n) s q)
+      go (got f r) ih =
+          let i : k + 1 + n ≡ k + suc n = omega arith in
+          ih r ∙ ap (λ (j : ℕ). andThen (fieldsAt delta encoding types n (k + 1) s r) (λ _ q. fieldsAt delta encoding types c j s q)) i
+      go (refused m z) ih = refl
 
 -- a field passed over: its index, then its value
 module _ (delta : Bool) (encoding : Encoding) (types s : List ℕ) where

@@ -1,4 +1,6 @@
 // The fields of a DataSetMessage, one after the other.
+use crate::quick::MANY;
+use crate::quick::leading;
 use dataset_header::flags::Encoding;
 use dataset_header::flags::is_raw;
 use value::Measured;
@@ -271,6 +273,11 @@ fn pass_variants(s: &[u8], delta: bool, count: usize, at: usize) -> Reached
 {
     let mut p = at;
     let mut k = 0;
+    if !delta & (MANY <= count) {
+        let run = leading(&*s, at, count);
+        p = run.end;
+        k = run.count;
+    }
     while k < count {
         match pass_variant_field(s, delta, p) {
             Reached::Refused(number, place) => {

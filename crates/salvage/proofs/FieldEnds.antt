@@ -1,17 +1,19 @@
 -- Where a field of the front ends. Assumes nothing.
-use Prim.Native.Nat.{ℕ, _+_, _-_, _≤_, _<_}
-use mathlib.Core.Path.{_≡_, refl, sym, ap, _∙_}
+use Prim.Native.Nat.{ℕ, zero, suc, _+_, _-_, _≤_, _<_}
+use mathlib.Core.Path.{_≡_, refl, sym, ap, subst, _∙_}
 use mathlib.Core.Bool.{Bool, false}
 use mathlib.Core.List.{List}
+use native.Mathlib.Nat.{add-zero}
 use native.Mathlib.Omega.{arith}
 use Rattle.wire.specs.Answer.{Answer, got, refused}
-use Rattle.wire.proofs.Reading.{got-value, invert}
+use Rattle.wire.proofs.Reading.{got-value, got-next, invert}
 use Rattle.value.specs.Quick.{fixedEnd}
 use Rattle.value.proofs.FirstItems.{fixed-variant}
 use Rattle.dataset_header.specs.declared.flags.Encoding.{Encoding}
 use Rattle.dataset_fields.specs.declared.fields.Field.{Field}
 use Rattle.dataset_fields.specs.declared.fields.Cursor.{Cursor}
-use Rattle.dataset_fields.specs.Fields.{indexAt, encodedAt, fieldAt, cursorBefore}
+use Rattle.dataset_fields.specs.Fields.{indexAt, encodedAt, fieldAt, fieldsAt, cursorBefore}
+use Rattle.dataset_fields.proofs.Walks.{fields-done}
 use Rattle.dataset_fields.proofs.Inside.{index-within, field-inside}
 use Rattle.salvage.specs.Front.{salvageFrom, tallyFrom}
 use Rattle.salvage.specs.Quick.{FixedTo, EndsAt, isWhole, PassedTo}
@@ -50,6 +52,10 @@ pub refused-ends : (delta : Bool) (encoding : Encoding) (types : List ℕ) (k : 
     → EndsAt at (fieldAt delta encoding types k f at) at
 refused-ends delta encoding types k f at n p e = rw (sym e) refl
 
+-- no field passed over
+pub none-passed : (f : List ℕ) (c : Cursor) → (0 ≤ c .count - c .next) × ((types : List ℕ) → fieldsAt (c .delta) (c .encoding) types 0 (c .next) f (c .at) ≡ got tt (c .at))
+none-passed f c = (omega arith, λ types. fields-done (c .delta) (c .encoding) types f 0 (c .next) (c .at) (omega arith))
+
 -- what an end says of the field
 pub ends-got : (a : Answer Field) (at end : ℕ) → EndsAt at a end → at < end → (x : Field) × (a ≡ got x end)
 ends-got (got x next) at end (e, l) u = (x, ap (got x) (sym e))
@@ -82,6 +88,17 @@ module _ (types f : List ℕ) (first : Cursor) where
             ∙ tally-on types f s (k - first .next) (cursorBefore first k at) (g .0) (cursorBefore first (k + 1) end) (field-step types f s (cursorBefore first k at) (g .0) end l (g .1))
             ∙ h .same s;
       }
+
+  -- and after n more that are accepted one after the other
+  pub passing-run : (n k at end : ℕ) → Passing k at → n ≤ first .count - k → fieldsAt (first .delta) (first .encoding) types n k f at ≡ got tt end → Passing (k + n) end
+  unfolding fieldsAt
+  passing-run zero k at end h l e = rw (add-zero k, sym (got-next e)) h
+  passing-run (suc n) k at end h l e =
+      let a = invert (fieldAt (first .delta) (first .encoding) types k f at) (λ x q. fieldsAt (first .delta) (first .encoding) types n (k + 1) f q) e in
+      let g = got-ends (first .delta) (first .encoding) types k f at (a .1) (a .0) (sym (a .2)) in
+      let u = field-on (first .delta) (first .encoding) types k f at (a .0) (a .1) (a .2) in
+      let z : k + 1 + n ≡ k + suc n = omega arith in
+      subst (λ (j : ℕ). Passing j end) z (passing-run n (k + 1) (a .1) end (passing-on k at (a .1) h (omega arith) g u) (omega arith) (a .3))
 
   pub passing-stops : (k at end : ℕ) → Passing k at → EndsAt at (fieldAt (first .delta) (first .encoding) types k f at) end → end ≤ at → PassedTo types f first (cursorBefore first k at)
   passing-stops k at end h e u =

@@ -1,5 +1,6 @@
 // The covered front of a message: `area` is the payload area's first bytes, as many as the message has, and `front` those before its first
 // hole. The shape of a field is a `value::Shape`.
+use crate::quick::alike;
 use crate::quick::field_end;
 use dataset_fields::fields::Cursor;
 use dataset_fields::fields::Field;
@@ -133,8 +134,9 @@ fn pass_whole(front: &[u8], types: &[u8], first: Cursor) -> Cursor
     ensures { λ r. ⌜ PassedTo (now (types .entry)) (now (front .entry)) first r ⌝ }
 {
     let encoding = first.encoding;
-    let mut at = first.at;
-    let mut k = first.next;
+    let run = alike(front, first);
+    let mut at = run.end;
+    let mut k = first.next + run.count;
     while k < first.count {
         let end = field_end(front, encoding, first.delta, types, k, at);
         if end <= at {

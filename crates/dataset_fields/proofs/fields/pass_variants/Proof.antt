@@ -2,6 +2,7 @@
 -- Assumes nothing.
 use borrow.Author.Needs.{needs}
 use Rattle.dataset_fields.proofs.Walks.{fields-done, pass-field-step, pass-field-stop}
+use Rattle.dataset_fields.proofs.Alike.{leads-past}
 use Rattle.dataset_header.specs.declared.flags.Encoding.{Encoding}
 use Rattle.dataset_fields.specs.Fields.{fieldsAt}
 use Rattle.wire.proofs.Reading.{told}
@@ -10,6 +11,7 @@ use denote.Ref.{now}
 use native.Mathlib.Omega.{arith}
 use mathlib.Core.Path.{_≡_, sym, ap, _∙_}
 use mathlib.Core.List.{List}
+use mathlib.Core.Logic.{⊎-elim}
 use Prim.Native.Nat.{ℕ, _+_, _-_, _<_, _≤_}
 use Rattle.dataset_fields.proofs.fields.pass_variants.Statement.{statement}
 use Rattle.dataset_fields.proofs.fields.pass_variants.Tie as tie
@@ -23,8 +25,12 @@ abbrev μ-loop : tie.MeasureT-loop
 
 loop-holds : tie.Need-loop-holds Inv-loop μ-loop
 loop-holds c =
-    let e : c .before .args .count ≡ c .before .args .count - 0 = omega arith in
-    (λ types. ap (λ (n : ℕ). fieldsAt (c .before .args .delta) Encoding.Variant types n 0 (now (c .before .args .s)) (c .before .args .at)) e, omega arith)
+    let args = c .before .before .args in
+    let s = now (args .s) in
+    let e : args .count ≡ args .count - 0 = omega arith in
+    ⊎-elim
+    (λ w. rw (w .2, w .3) (leads-past s (args .at) (args .delta) _ (w .0 .taken) (args .count) _ _ (w .1 .ensures .0) (w .1 .ensures .1), w .1 .ensures .0))
+    (λ w. rw (w .1, w .2) (λ types. ap (λ (n : ℕ). fieldsAt (args .delta) Encoding.Variant types n 0 s (args .at)) e, omega arith)) (c .if1 .came)
 
 returns : tie.Need-returns Inv-loop μ-loop
 returns c =
@@ -32,18 +38,18 @@ returns c =
     let at-pass-variant-field = at-number .before .before in
     let at-loop-test = at-pass-variant-field .before in
     let at-loop = at-loop-test .before in
-    let args = at-loop .before .before .args in
+    let args = at-loop .before .before .before .args in
     let some : 0 < args .count - at-loop .loop .k = omega (arith, at-loop-test .loop-test .taken) in
     λ types. sym (at-loop .loop .inv .0 types ∙ pass-field-stop (args .delta) Encoding.Variant types (now (args .s)) (args .count - at-loop .loop .k) (at-loop .loop .k) (at-loop .loop .p) some
     (sym (told answerReached (at-pass-variant-field .pass-variant-field .ensures (at-loop .loop .k)) (at-number .number .given .1))))
 
 loop-again : tie.Need-loop-again Inv-loop μ-loop
 loop-again c =
-    let at-end = c .before in
+    let at-end = c .before .before in
     let at-pass-variant-field = at-end .before .before in
     let at-loop-test = at-pass-variant-field .before in
     let at-loop = at-loop-test .before in
-    let args = at-loop .before .before .args in
+    let args = at-loop .before .before .before .args in
     let more : at-loop .loop .k < args .count = at-loop-test .loop-test .taken in
     let some : 0 < args .count - at-loop .loop .k = omega arith in
     let e : args .count - at-loop .loop .k - 1 ≡ args .count - (at-loop .loop .k + 1) = omega arith in (
@@ -56,7 +62,7 @@ loop-again c =
 returns-2 : tie.Need-returns-2 Inv-loop μ-loop
 returns-2 c =
     let at-loop = c .before in
-    let args = at-loop .before .before .args in
+    let args = at-loop .before .before .before .args in
     let none : args .count - at-loop .loop .k ≤ 0 = omega (arith, c .loop-test .left) in
     λ types. sym (at-loop .loop .inv .0 types ∙ fields-done (args .delta) Encoding.Variant types (now (args .s)) (args .count - at-loop .loop .k) (at-loop .loop .k) (at-loop .loop .p) none)
 
@@ -66,6 +72,7 @@ pass-variants-spec =
     (tie.spec
     Inv-loop
     μ-loop
+    (λ c κs. search needs)
     loop-holds
     (λ c κs. search needs)
     (λ c. search needs)
