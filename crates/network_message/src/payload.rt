@@ -112,7 +112,10 @@ fn tally_configured(sizes: &[u16], n: usize) -> Tally
     let mut each = true;
     while i < n {
         if sizes.len() <= i {
-            break;
+            return Tally {
+                total: sum,
+                positive: each,
+            };
         }
         let size = sizes[i] as usize;
         sum = sum + size;

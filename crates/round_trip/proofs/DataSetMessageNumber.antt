@@ -25,7 +25,7 @@ use Rattle.dataset_header.specs.Header.{messageHeaderBytes, FitsHeader}
 use Rattle.dataset_fields.specs.Fields.{fieldAt, fieldsAt, zerosAt, paddingAt, valuesOf, numberOf, fieldsWhole, fieldsBytes, zeros}
 use Rattle.dataset_fields.proofs.Judging.{length-values}
 use Rattle.dataset_fields.proofs.Laying.{values-whole, length-zeros}
-use Rattle.dataset_fields.proofs.Walks.{padding-step, padding-stop}
+use Rattle.dataset_fields.proofs.Walks.{fields-split, padding-step, padding-stop}
 use Rattle.dataset_fields.proofs.FieldsTrip.{fields-is}
 use Rattle.dataset_message.specs.Message.{Message, countAt, bodyAt, messageAt}
 use Rattle.dataset_message.specs.Writer.{GivenMessage, hasFields, isKey, isFielded, isRawData, givenFields, encode, missingRefusal, leftRefusal, rawRefusal, ownGiven, wholeGiven, listsGiven, layoutGiven, countsGiven, messagePicosecondsTurn, messageReadingRefusal, readsBack, messageRefusal}
@@ -85,24 +85,6 @@ module _ (pre v : List ℕ) (p : ℕ) where
           ap numberOf (padding-stop all (length pre + j) (value-within j here) (λ q. z (sym (value-byte j here) ∙ q))) ∙ sym (ap numberOf (padding-stop v j here z))
 
 -- the configured fields
-
-fields-split : (delta : Bool) (encoding : Encoding) (types s : List ℕ) (n c k p : ℕ)
-    → fieldsAt delta encoding types (n + c) k s p ≡ andThen (fieldsAt delta encoding types n k s p) (λ _ q. fieldsAt delta encoding types c (k + n) s q)
-unfolding fieldsAt
-fields-split delta encoding types s zero c k p =
-    ap (λ (j : ℕ). fieldsAt delta encoding types j k s p) (zero-add c) ∙ ap (λ (j : ℕ). fieldsAt delta encoding types c j s p) (sym (add-zero k))
-fields-split delta encoding types s (suc n) c k p =
-    let e : suc n + c ≡ suc (n + c) = omega arith in
-    ap (λ (j : ℕ). fieldsAt delta encoding types j k s p) e ∙ go (fieldAt delta encoding types k s p) (fields-split delta encoding types s n c (k + 1))
-  where
-    go : (x : Answer Field)
-        → ((r : ℕ) → fieldsAt delta encoding types (n + c) (k + 1) s r ≡ andThen (fieldsAt delta encoding types n (k + 1) s r) (λ _ q. fieldsAt delta encoding types c (k + 1 + n) s q))
-        → andThen x (λ f r. fieldsAt delta encoding types (n + c) (k + 1) s r)
-        ≡ andThen (andThen x (λ f r. fieldsAt delta encoding types n (k + 1) s r)) (λ _ q. fieldsAt delta encoding types c (k + suc n) s q)
-    go (got f r) ih =
-        let i : k + 1 + n ≡ k + suc n = omega arith in
-        ih r ∙ ap (λ (j : ℕ). andThen (fieldsAt delta encoding types n (k + 1) s r) (λ _ q. fieldsAt delta encoding types c j s q)) i
-    go (refused m z) ih = refl
 
 module _ (types s : List ℕ) where
   -- those from field k on, where only zeros follow

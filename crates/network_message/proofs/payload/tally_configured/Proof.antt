@@ -24,6 +24,10 @@ abbrev μ-loop : tie.MeasureT-loop
 loop-holds : tie.Need-loop-holds Inv-loop μ-loop
 loop-holds c = (omega arith, c .pre .0, c .pre .1, refl, refl, omega arith)
 
+-- every size that is counted is there
+returns : tie.Need-returns Inv-loop μ-loop
+returns c = absurd (omega (arith, c .before .before .loop .inv .1, c .if1 .taken, c .before .loop-test .taken))
+
 cast-size : tie.Need-cast-size Inv-loop μ-loop
 cast-size c =
     omega (arith, c .shared-slice-known .given (c .before .before .before .loop .i))
@@ -39,14 +43,10 @@ loop-again c =
     let l = at-loop .loop in let s = now (args .sizes) in let h : l .i < length s = omega arith in let b = c .shared-slice-known .given (l .i) in
     (omega arith, omega arith, omega arith, omega (arith, total-next s (l .i) h, l .inv .3), ap (λ (b : Bool). b && ltb 0 (getD s (l .i) 0)) (l .inv .4) ∙ sym (positive-next s (l .i) h), omega arith)
 
-returns : tie.Need-returns Inv-loop μ-loop
-returns c =
+returns-2 : tie.Need-returns-2 Inv-loop μ-loop
+returns-2 c =
     let l = c .before .loop in let e : l .i ≡ c .before .before .args .n = omega arith in let s = now (c .before .before .args .sizes) in
     (l .inv .3 ∙ ap (λ (k : ℕ). total (take k s)) e, l .inv .4 ∙ ap (λ (k : ℕ). allPositive (take k s)) e, omega arith)
-
--- every size that is counted is there
-returns-2 : tie.Need-returns-2 Inv-loop μ-loop
-returns-2 c = absurd (omega (arith, c .before .before .loop .inv .1, c .if1 .taken, c .before .loop-test .taken))
 
 pub tally-configured-spec : {M : Type 1} → statement M
 tally-configured-spec =
@@ -55,6 +55,7 @@ tally-configured-spec =
     Inv-loop
     μ-loop
     loop-holds
+    returns
     (λ c. search needs)
     (λ c. search needs)
     cast-size
@@ -62,5 +63,4 @@ tally-configured-spec =
     (λ c. search needs)
     (λ c. search needs)
     loop-again
-    returns
     returns-2)
