@@ -98,6 +98,35 @@ static void message_by_name(void)
     CHECK(refused(uadp_field(message, MESSAGE_LENGTH, NULL, UADP_NO_WRITER, 2, &f), UADP_END, 0));
 }
 
+/* A message that is opened: each field by the step that meets it, and its end after the last one. */
+static void message_opened(void)
+{
+    const uint8_t *message = full + MESSAGE_AT;
+    const uint8_t cut[] = {0x01, 2, 0, 0x01, 0x03, 42, 0xC0};
+    const uint8_t over[] = {0x01, 1, 0, 0x03, 0x2A, 0, 9};
+    const uint8_t not_valid[] = {0x00, 9};
+    uadp_head_record h = UADP_ZERO;
+    uadp_field_record f = UADP_ZERO;
+
+    CHECK(done(uadp_open_message(message, MESSAGE_LENGTH, NULL, UADP_NO_WRITER, &h), 1));
+    CHECK(h.valid != 0 && h.kind == UADP_DELTA && h.sequence == 0x6162 && h.fields == 2 && h.next_field == 0);
+    CHECK(h.next_at == 26 && h.fields_end == 26);
+    CHECK(refused(uadp_end_message(message, MESSAGE_LENGTH, &h), UADP_DISAGREE, 26));
+    CHECK(done(uadp_next_field(message, MESSAGE_LENGTH, NULL, UADP_NO_WRITER, &h, &f), 28));
+    CHECK(done(uadp_next_field(message, MESSAGE_LENGTH, NULL, UADP_NO_WRITER, &h, &f), 33));
+    CHECK(refused(uadp_next_field(message, MESSAGE_LENGTH, NULL, UADP_NO_WRITER, &h, &f), UADP_END, 0));
+    CHECK(done(uadp_end_message(message, MESSAGE_LENGTH, &h), MESSAGE_LENGTH - 2));
+    CHECK(refused(uadp_end_message(message, 45, &h), UADP_CUT_SHORT, 46));
+
+    CHECK(done(uadp_open_message(cut, sizeof cut, NULL, UADP_NO_WRITER, &h), 1));
+    CHECK(done(uadp_next_field(cut, sizeof cut, NULL, UADP_NO_WRITER, &h, &f), 3));
+    CHECK(done(uadp_next_field(cut, sizeof cut, NULL, UADP_NO_WRITER, &h, &f), 5) == 0);
+    CHECK(done(uadp_open_message(over, sizeof over, NULL, UADP_NO_WRITER, &h), 1));
+    CHECK(done(uadp_next_field(over, sizeof over, NULL, UADP_NO_WRITER, &h, &f), 3));
+    CHECK(refused(uadp_end_message(over, sizeof over, &h), UADP_LEFT_OVER, 6));
+    CHECK(done(uadp_open_message(not_valid, sizeof not_valid, NULL, UADP_NO_WRITER, &h), 0) && h.valid == 0);
+}
+
 static void walk_by_name(void)
 {
     uadp_walk_record w[3];
@@ -796,6 +825,7 @@ int main(int argc, char **argv)
     (void)argv;
     envelope_by_name();
     message_by_name();
+    message_opened();
     walk_by_name();
     configuration_by_name();
     written_from_parts();

@@ -74,13 +74,13 @@ fn delta() -> Input {
     Input::new(datagram(vec![(21, spec.bytes())]), b"")
 }
 
-/// Variants of random types: fixed ones, or with Strings and arrays among them.
 /// Whether these bytes are one Variant that is accepted: the generator draws refused ones too.
 fn accepted(value: &[u8]) -> bool {
     let mut reader = Reader::new(value);
     message::field_value(&mut reader, Encoding::Variant, None).is_ok() && reader.position() == value.len()
 }
 
+/// Variants of random types: fixed ones, or with Strings and arrays among them.
 fn random_types(levels: usize) -> Input {
     let mut random = Random::new(2_000);
     let values = (0..2_000).map(|_| {

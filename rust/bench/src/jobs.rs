@@ -1,7 +1,9 @@
 //! What is done with the inputs, by the library and in tuned Rust. Both sides of a pair answer a number that has to be the same.
 use crate::by_one;
 use crate::inputs::{Input, Ping, TOTAL};
+use std::cell::RefCell;
 use std::hint::black_box;
+use std::rc::Rc;
 use uadp::ffi;
 use uadp_comparison::record::{self, number};
 use uadp_comparison::reference::config::Config;
@@ -93,7 +95,8 @@ pub fn list(input: Input) -> Pair {
     Pair::new(ours, rust)
 }
 
-/// A call for each message and each field by the library, one pass in Rust; both answer how many there are.
+/// A call for each message and each field by the library, which opens a message and asks for its end; one pass in Rust. Both answer how
+/// many messages and fields there are.
 pub fn by_calls(input: Input) -> Pair {
     let mut envelope = [0; record::ENVELOPE_SIZE];
     let mut place = [0; record::PLACE_SIZE];
@@ -109,31 +112,43 @@ pub fn by_calls(input: Input) -> Pair {
             let message = &datagram[number(&place, 1) as usize..][..number(&place, 2) as usize];
             let writer = number(&place, 3) as u32;
             count += 1;
-            if ffi::read_message(message, config, writer, &mut head).number() != 0 {
+            if ffi::open_message(message, config, writer, &mut head).number() != 0 {
                 continue;
             }
             while ffi::next_field(message, config, writer, &mut head, &mut field).number() == 0 {
                 black_box(&field);
                 count += 1;
             }
+            black_box(ffi::end_message(message, &head));
         }
         count
     };
     Pair::new(ours, rust)
 }
 
-/// A datagram written again; in Rust it is read and copied, which gives the same bytes as its PublisherId is there.
+/// A buffer that both sides write into, one after the other: where it lies changes how long a copy takes.
+type Buffer = Rc<RefCell<Vec<u8>>>;
+
+fn buffer() -> (Buffer, Buffer) {
+    let buffer = Rc::new(RefCell::new(vec![0; ROOM]));
+    (Rc::clone(&buffer), buffer)
+}
+
+/// A datagram written again; in Rust it is read and copied, which gives the same bytes as its PublisherId is there. Both sides read the same
+/// bytes and write into the same buffer.
 pub fn rewrite(input: Input) -> Pair {
-    let (datagram, config) = (input.datagram.clone(), input.config.clone());
-    let (mut out, mut copy) = (vec![0; ROOM], vec![0; ROOM]);
+    let (input, (out, copy)) = (Rc::new(input), buffer());
+    let same = Rc::clone(&input);
     let ours = move || {
+        let mut out = out.borrow_mut();
         let answer = ffi::rewrite(black_box(&input.datagram), &input.config_record, &mut out);
         black_box(&out);
         answer.value()
     };
     let rust = move || {
-        let read = network::read(black_box(&datagram), &config);
-        copy[..datagram.len()].copy_from_slice(&datagram);
+        let (datagram, mut copy) = (black_box(&same.datagram), copy.borrow_mut());
+        let read = network::read(datagram, &same.config);
+        copy[..datagram.len()].copy_from_slice(datagram);
         black_box(&copy);
         read.map_or(u64::MAX, |_| datagram.len() as u64)
     };
@@ -144,20 +159,20 @@ pub fn rewrite(input: Input) -> Pair {
 pub fn rewrite_message(input: Input) -> Pair {
     let envelope = network::read(&input.datagram, &input.config).expect("an accepted datagram");
     let place = envelope.messages(&input.datagram, &input.config).next().expect("a message");
-    let message = input.datagram[place.offset..][..place.length].to_vec();
-    let (copied, config, writer) = (message.clone(), input.config.clone(), place.writer);
-    let (mut out, mut copy) = (vec![0; ROOM], vec![0; ROOM]);
+    let message = Rc::new(input.datagram[place.offset..][..place.length].to_vec());
+    let (same, config, writer, (out, copy)) = (Rc::clone(&message), input.config.clone(), place.writer, buffer());
     let ours = move || {
-        let id = u32::from(writer.unwrap_or(0));
+        let (id, mut out) = (u32::from(writer.unwrap_or(0)), out.borrow_mut());
         let answer = ffi::rewrite_message(black_box(&message), &input.config_record, id, &mut out);
         black_box(&out);
         answer.value()
     };
     let rust = move || {
-        let read = tuned::count_message(black_box(&copied), config.types_of(writer));
-        copy[..copied.len()].copy_from_slice(&copied);
+        let (message, mut copy) = (black_box(&same), copy.borrow_mut());
+        let read = tuned::count_message(message, config.types_of(writer));
+        copy[..message.len()].copy_from_slice(message);
         black_box(&copy);
-        read.map_or(u64::MAX, |_| copied.len() as u64)
+        read.map_or(u64::MAX, |_| message.len() as u64)
     };
     Pair::new(ours, rust)
 }

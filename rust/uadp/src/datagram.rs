@@ -1,7 +1,7 @@
 //! A datagram's envelope and its messages.
 use crate::ffi::{self, ENVELOPE_SIZE, HEAD_SIZE, NONE, PLACE_SIZE};
 use crate::record::{envelope, message_place, number, place};
-use crate::{Config, Message, Probe, Refusal};
+use crate::{Config, Message, Opened, Probe, Refusal};
 use core::fmt;
 use core::iter::FusedIterator;
 
@@ -316,6 +316,18 @@ impl<'a> MessagePart<'a> {
         let mut head = [0; HEAD_SIZE];
         let valid = ffi::read_message(self.bytes, self.config.as_bytes(), self.writer, &mut head).into_result()?;
         Ok((valid != 0).then(|| Message::new(*self, head)))
+    }
+
+    /// Opens the message: its front alone is read, and each field when it is walked over; `None` for one that its publisher marked as
+    /// not valid. It takes two thirds of the time of [`read`](Self::read) and a walk, but a fault is told only where it is met.
+    ///
+    /// # Errors
+    ///
+    /// As [`read`](Self::read), as far as the front shows them.
+    pub fn open(&self) -> Result<Option<Opened<'a>>, Refusal> {
+        let mut head = [0; HEAD_SIZE];
+        let valid = ffi::open_message(self.bytes, self.config.as_bytes(), self.writer, &mut head).into_result()?;
+        Ok((valid != 0).then(|| Opened::new(*self, head)))
     }
 
     /// Writes the message again at the buffer's start: the same bytes, but that picoseconds of 10,000 and up become 9,999.

@@ -88,6 +88,11 @@ mod raw {
             message: *const u8, message_length: usize, config: *const u8, config_length: usize, writer: u32, head: *mut u8,
             head_length: usize,
         ) -> u64;
+        pub fn uadp_open_message(
+            message: *const u8, message_length: usize, config: *const u8, config_length: usize, writer: u32, head: *mut u8,
+            head_length: usize,
+        ) -> u64;
+        pub fn uadp_end_message(message: *const u8, message_length: usize, head: *const u8, head_length: usize) -> u64;
         pub fn uadp_next_field(
             message: *const u8, message_length: usize, config: *const u8, config_length: usize, writer: u32, head: *mut u8,
             head_length: usize, field: *mut u8, field_length: usize,
@@ -259,6 +264,19 @@ pub fn read_message(message: &[u8], config: &[u8], writer: u32, head: &mut [u8])
     Answer(unsafe {
         raw::uadp_read_message(lent(message), length, lent(config), config.len(), writer, lent_mut(head), head_length)
     })
+}
+
+/// Opens a DataSetMessage alone: its front fills a head record, and no field is read. Value: 1, or 0 for one that is not valid.
+pub fn open_message(message: &[u8], config: &[u8], writer: u32, head: &mut [u8]) -> Answer {
+    let (length, head_length) = (message.len(), head.len());
+    Answer(unsafe {
+        raw::uadp_open_message(lent(message), length, lent(config), config.len(), writer, lent_mut(head), head_length)
+    })
+}
+
+/// The end of a message that was opened, by its head record's cursor after the last field. Value: where that ends.
+pub fn end_message(message: &[u8], head: &[u8]) -> Answer {
+    Answer(unsafe { raw::uadp_end_message(lent(message), message.len(), lent(head), head.len()) })
 }
 
 /// Steps a head record's cursor over the next field, whose record is filled. Value: the offset of its value.

@@ -31,7 +31,7 @@
 //! | To | Use |
 //! |---|---|
 //! | read a configuration text | [`Config::parse`] |
-//! | read a datagram, its messages and their fields | [`Datagram`], [`MessagePart`], [`Message`], [`Field`] |
+//! | read a datagram, its messages and their fields | [`Datagram`], [`MessagePart`], [`Message`], [`Opened`], [`Field`] |
 //! | learn of all messages and fields in one call | [`walk()`] |
 //! | list a datagram as text | [`list`] |
 //! | tell a field's value apart | [`Field::value`], [`Value`] |
@@ -73,7 +73,7 @@ mod write;
 pub use config::{Config, Writer};
 pub use datagram::{Datagram, Group, MessagePart, Messages, PublisherId};
 pub use listing::{list, list_length};
-pub use message::{Encoding, Field, Fields, Kind, Message};
+pub use message::{Encoding, Field, Fields, Kind, Message, Opened};
 pub use partial::{marks_size, Chunk, Partial};
 pub use probe::{Information, Probe, ProbeBuilder, ProbeIds, ProbeStrings, Strings};
 pub use refusal::{Reason, Refusal};

@@ -60,6 +60,60 @@ impl Kind {
     }
 }
 
+/// What stands before a message's fields, by its head record.
+macro_rules! header_items {
+    () => {
+        fn item(&self, bit: u64, i: usize) -> Option<u64> {
+            (number(&self.record, head::ITEMS) & bit != 0).then(|| number(&self.record, i))
+        }
+
+        /// The part of the datagram that was read.
+        pub const fn part(&self) -> MessagePart<'a> {
+            self.part
+        }
+
+        /// The encoding of its fields.
+        pub fn encoding(&self) -> Encoding {
+            Encoding::of(number(&self.record, head::ENCODING))
+        }
+
+        /// What it is.
+        pub fn kind(&self) -> Kind {
+            Kind::of(number(&self.record, head::KIND))
+        }
+
+        /// The sequence number.
+        pub fn sequence(&self) -> Option<u16> {
+            self.item(head::HAS_SEQUENCE, head::SEQUENCE).map(|item| item as u16)
+        }
+
+        /// The timestamp: steps of 100 ns since 1601.
+        pub fn timestamp(&self) -> Option<i64> {
+            self.item(head::HAS_TIMESTAMP, head::TIMESTAMP).map(|item| item as i64)
+        }
+
+        /// The picoseconds, in steps of 10 ps; 10,000 and up read as 9,999.
+        pub fn picoseconds(&self) -> Option<u16> {
+            self.item(head::HAS_PICOSECONDS, head::PICOSECONDS).map(|item| item as u16)
+        }
+
+        /// The status: the upper half of a StatusCode.
+        pub fn status(&self) -> Option<u16> {
+            self.item(head::HAS_STATUS, head::STATUS).map(|item| item as u16)
+        }
+
+        /// The configuration's major version.
+        pub fn major_version(&self) -> Option<u32> {
+            self.item(head::HAS_MAJOR_VERSION, head::MAJOR_VERSION).map(|item| item as u32)
+        }
+
+        /// The configuration's minor version.
+        pub fn minor_version(&self) -> Option<u32> {
+            self.item(head::HAS_MINOR_VERSION, head::MINOR_VERSION).map(|item| item as u32)
+        }
+    };
+}
+
 /// An accepted, valid DataSetMessage.
 #[derive(Clone)]
 pub struct Message<'a> {
@@ -72,54 +126,7 @@ impl<'a> Message<'a> {
         Self { part, record }
     }
 
-    fn item(&self, bit: u64, i: usize) -> Option<u64> {
-        (number(&self.record, head::ITEMS) & bit != 0).then(|| number(&self.record, i))
-    }
-
-    /// The part of the datagram that was read.
-    pub const fn part(&self) -> MessagePart<'a> {
-        self.part
-    }
-
-    /// The encoding of its fields.
-    pub fn encoding(&self) -> Encoding {
-        Encoding::of(number(&self.record, head::ENCODING))
-    }
-
-    /// What it is.
-    pub fn kind(&self) -> Kind {
-        Kind::of(number(&self.record, head::KIND))
-    }
-
-    /// The sequence number.
-    pub fn sequence(&self) -> Option<u16> {
-        self.item(head::HAS_SEQUENCE, head::SEQUENCE).map(|item| item as u16)
-    }
-
-    /// The timestamp: steps of 100 ns since 1601.
-    pub fn timestamp(&self) -> Option<i64> {
-        self.item(head::HAS_TIMESTAMP, head::TIMESTAMP).map(|item| item as i64)
-    }
-
-    /// The picoseconds, in steps of 10 ps; 10,000 and up read as 9,999.
-    pub fn picoseconds(&self) -> Option<u16> {
-        self.item(head::HAS_PICOSECONDS, head::PICOSECONDS).map(|item| item as u16)
-    }
-
-    /// The status: the upper half of a StatusCode.
-    pub fn status(&self) -> Option<u16> {
-        self.item(head::HAS_STATUS, head::STATUS).map(|item| item as u16)
-    }
-
-    /// The configuration's major version.
-    pub fn major_version(&self) -> Option<u32> {
-        self.item(head::HAS_MAJOR_VERSION, head::MAJOR_VERSION).map(|item| item as u32)
-    }
-
-    /// The configuration's minor version.
-    pub fn minor_version(&self) -> Option<u32> {
-        self.item(head::HAS_MINOR_VERSION, head::MINOR_VERSION).map(|item| item as u32)
-    }
+    header_items!();
 
     /// How many zero bytes follow the last field.
     pub fn padding(&self) -> usize {
@@ -184,6 +191,67 @@ impl FusedIterator for Fields<'_> {}
 impl fmt::Debug for Fields<'_> {
     fn fmt(&self, f: &mut fmt::Formatter<'_>) -> fmt::Result {
         f.debug_struct("Fields").field("left", &self.len()).finish_non_exhaustive()
+    }
+}
+
+/// A valid DataSetMessage that was opened: its front is read, its fields are read one after the other as it is walked over. A field with a
+/// fault is told as such, and is the last.
+///
+/// What was told of its fields was told of an accepted message only where [`end`](Self::end) says so.
+#[derive(Clone)]
+pub struct Opened<'a> {
+    part: MessagePart<'a>,
+    record: [u8; HEAD_SIZE],
+    fault: Option<Refusal>,
+}
+
+impl<'a> Opened<'a> {
+    pub(crate) const fn new(part: MessagePart<'a>, record: [u8; HEAD_SIZE]) -> Self {
+        Self { part, record, fault: None }
+    }
+
+    header_items!();
+
+    /// How many fields are left, as the message promises them.
+    pub fn left(&self) -> usize {
+        place(&self.record, head::FIELD_COUNT) - place(&self.record, head::NEXT_FIELD)
+    }
+
+    /// The end of the message, after its last field: where that ends.
+    ///
+    /// # Errors
+    ///
+    /// What [`MessagePart::read`] refuses; [`Disagree`](crate::Reason::Disagree) with the next field's place where one is left.
+    pub fn end(&self) -> Result<usize, Refusal> {
+        let end = self.fault.map_or_else(|| ffi::end_message(self.part.bytes(), &self.record).into_result(), Err)?;
+        Ok(end as usize)
+    }
+}
+
+impl<'a> Iterator for Opened<'a> {
+    type Item = Result<Field<'a>, Refusal>;
+
+    fn next(&mut self) -> Option<Self::Item> {
+        if self.left() == 0 || self.fault.is_some() {
+            return None;
+        }
+        let mut found = [0; FIELD_SIZE];
+        let (bytes, writer) = (self.part.bytes(), self.part.writer_number());
+        let step = ffi::next_field(bytes, self.part.config().as_bytes(), writer, &mut self.record, &mut found).into_result();
+        self.fault = step.err();
+        Some(step.map(|_| Field::of(bytes, self.encoding(), &found)))
+    }
+
+    fn size_hint(&self) -> (usize, Option<usize>) {
+        (0, Some(self.left()))
+    }
+}
+
+impl FusedIterator for Opened<'_> {}
+
+impl fmt::Debug for Opened<'_> {
+    fn fmt(&self, f: &mut fmt::Formatter<'_>) -> fmt::Result {
+        f.debug_struct("Opened").field("left", &self.left()).field("fault", &self.fault).finish_non_exhaustive()
     }
 }
 

@@ -257,6 +257,14 @@ impl Case<'_> {
         let call = |area: &mut [u8]| ffi::read_message(message, self.record, writer, area);
         judge_filled(tally, random, "read_message", record::HEAD_SIZE, expected, &input, call);
 
+        let front = message::front(message, types);
+        let expected = front.map(|front| (u64::from(front.is_some()), bytes_of(&record::head(front.as_ref()))));
+        let call = |area: &mut [u8]| ffi::open_message(message, self.record, writer, area);
+        judge_filled(tally, random, "open_message", record::HEAD_SIZE, expected, &input, call);
+        if let Ok(Some(front)) = front {
+            self.walk_opened(tally, random, message, types, writer, &front);
+        }
+
         let count = read.ok().flatten().map_or(0, |read| read.fields.count);
         let k = random.within(0, count + 1);
         let k = if random.one_in(50) { random.number() as usize } else { k };
@@ -272,6 +280,25 @@ impl Case<'_> {
         if let Ok(Some(read)) = read {
             self.walk(tally, random, message, types, writer, &read);
         }
+    }
+
+    /// An opened message walked over, its end asked after any number of steps; after the last the library says of the message what
+    /// reading it whole does.
+    fn walk_opened(&self, tally: &mut Tally, random: &mut Random, message: &[u8], types: &[u8], writer: u32, front: &Message) {
+        let mut head = Lent::holding(random, &bytes_of(&record::head(Some(front))));
+        let asked = random.within(0, front.fields.count);
+        for k in 0..front.fields.count {
+            if k == asked {
+                judge_end(tally, message, &head);
+            }
+            if !step(tally, random, (message, self.record, types, writer), &mut head) {
+                return;
+            }
+        }
+        let whole = answer_of(message::read(message, types).map(|read| read.map_or(0, |read| read.end as u64)));
+        let input = [("message", message), ("configuration record", self.record), ("head record", head.middle())];
+        let ended = Found { answer: ffi::end_message(message, head.middle()), areas: vec![] };
+        tally.judge("end_message of all fields", &ended, &Found { answer: whole, areas: vec![] }, &input);
     }
 
     fn walk(&self, tally: &mut Tally, random: &mut Random, message: &[u8], types: &[u8], writer: u32, read: &Message) {
@@ -317,6 +344,25 @@ fn step(
     tally.judge("next_field", &Found { answer, areas: vec![head.clone(), after] }, &expected, &input) && answer.number() == 0
 }
 
+/// The end of a message by any head record.
+fn judge_end(tally: &mut Tally, message: &[u8], head: &Lent) {
+    let cursor = record::cursor_of(head.middle());
+    let expected = if cursor.at > message.len() {
+        Err(Number::CutShort.at(cursor.at))
+    } else if cursor.next < cursor.count {
+        Err(Number::Disagree.at(cursor.at))
+    } else if let Some(other) = message[cursor.at..].iter().position(|byte| *byte != 0) {
+        Err(Number::LeftOver.at(cursor.at + other))
+    } else if head.length < record::HEAD_SIZE {
+        Err(Number::NoRoom.nowhere())
+    } else {
+        Ok(cursor.at as u64)
+    };
+    let input = [("message", message), ("head record", head.middle())];
+    let found = Found { answer: ffi::end_message(message, head.middle()), areas: vec![] };
+    tally.judge("end_message", &found, &Found { answer: answer_of(expected), areas: vec![] }, &input);
+}
+
 /// A made-up head record.
 pub fn made_up_field_cursor(tally: &mut Tally, random: &mut Random) {
     let config = generate::ConfigSpec::any(random);
@@ -336,6 +382,7 @@ pub fn made_up_field_cursor(tally: &mut Tally, random: &mut Random) {
     let mut head = Lent::holding(random, &bytes_of(&numbers)[..length]);
     let record = record::config(&config);
     for _ in 0..3 {
+        judge_end(tally, &message, &head);
         if !step(tally, random, (&message, &record, types, id.into()), &mut head) {
             return;
         }
