@@ -1,8 +1,11 @@
-// A quick way to the field that a head record's cursor stands before, where its value holds no other: type, shape and end told in line, and
-// no configuration searched. It tells what `Cursor::step` answers; its law is in proofs/Telling. It has one caller, so that it is put in
-// line there; its looks are not those of `value::quick`, which the walk's loops have in line. Worth: nearly half of the time of a call for
-// a scalar of a fixed type, two thirds of that for a String, an array or a DataValue.
+// A quick step of a head record's cursor, where the value of the field that it stands before holds no other: type, shape and end told in
+// line, and no configuration searched. It does what `Cursor::step` answers; its law is in proofs/Telling. It has one caller, so that it is
+// put in line there; its looks are not those of `value::quick`, which the walk's loops have in line. Worth: nearly half of the time of a
+// call for a scalar of a fixed type, two thirds of that for a String, an array or a DataValue. Each form of value stores its records by
+// itself, so that numbers that are 0 there are stored as such: a tenth of what is left.
 use crate::message::cursor_in;
+use crate::message::put_cursor;
+use crate::message::put_field;
 use dataset_fields::fields::Cursor;
 use dataset_fields::fields::Field;
 use plain_value::parts::parts_width;
@@ -14,7 +17,6 @@ use value::quick::fixed_end;
 use wire::ItemLength;
 use wire::constants::DATA_VALUE;
 use wire::has;
-use wire::left;
 use wire::read_length;
 ghost use mathlib.Core.Path.{_≡_};
 ghost use mathlib.Core.List.{List};
@@ -23,16 +25,18 @@ ghost use lib.ListN.{length, getD};
 ghost use Rattle.wire.specs.Constants.{VARIANT};
 ghost use Rattle.wire.specs.Answer.{got, whenOn, bit};
 ghost use Rattle.plain_value.specs.Plain.{passing};
+ghost use Rattle.wire_writer.specs.Store.{laid};
+ghost use Rattle.records.specs.Numbers.{numberBytes};
 ghost use Rattle.value.specs.Value.{valueAt, variantAt, dataValueAt};
 ghost use Rattle.value.specs.Quick.{textAt, runAt, LookTells};
 ghost use Rattle.dataset_fields.specs.Fields.{encodedAt, nextFieldAt};
-ghost use Rattle.message_record.specs.Message.{encodingIn, cursorIn};
+ghost use Rattle.message_record.specs.Message.{encodingIn, cursorIn, cursorLaid, fieldNumbers};
 ghost use Rattle.message_record.specs.Quick.{fieldTold, cursorTold, StepTells};
-ghost use Rattle.message_record.specs.declared.quick.Told.{Told};
+ghost use Rattle.message_record.specs.declared.quick.Stepped.{Stepped};
 
-// A field with the cursor after it, that no field is left, or that it is not told.
-pub enum Told {
-    Is(Field, Cursor),
+// That a step is done, with the field's offset; that no field is left; or that it is not told.
+pub enum Stepped {
+    Done(usize),
     End,
     Not,
 }
@@ -73,21 +77,18 @@ fn array_at(s: &[u8], at: usize, t: u8, w: usize) -> Plain
     }
 }
 
-// A scalar Variant of type t, which is no fixed one, whose first byte stands at a position: a null, a String or a ByteString.
+// A scalar Variant of type t, whose first byte stands at a position: a String or a ByteString.
 fn scalar_at(s: &[u8], at: usize, t: u8) -> Plain
     requires { ⌜ (at < length (now s)) × (getD (now s) at 0 ≡ t) ⌝ }
     ensures { λ r. ⌜ LookTells r (variantAt (now (s .entry)) at) ⌝ }
 {
-    if t == 0 {
-        return Plain::Scalar(0, at + 1);
-    }
     if (t == 12) | (t == 15) {
         return string_at(s, at + 1, t);
     }
     Plain::Not
 }
 
-// A Variant, at a position, that is no scalar of a fixed type.
+// A Variant, at a position, that is no null and no scalar of a fixed type.
 fn other_at(s: &[u8], at: usize) -> Plain
     requires { ⌜ at < length (now s) ⌝ }
     ensures { λ r. ⌜ LookTells r (variantAt (now (s .entry)) at) ⌝ }
@@ -112,15 +113,11 @@ fn variant_at(s: &[u8], at: usize) -> Plain
     requires { ⌜ at < length (now s) ⌝ }
     ensures { λ r. ⌜ LookTells r (variantAt (now (s .entry)) at) ⌝ }
 {
-    let w = width(s[at]);
-    if w == 0 {
-        return other_at(s, at);
+    let end = fixed_end(s, at);
+    if at < end {
+        return Plain::Scalar(s[at], end);
     }
-    let size = w + 1;
-    if has(s.len(), at, size) {
-        return Plain::Scalar(s[at], at + size);
-    }
-    Plain::Not
+    other_at(s, at)
 }
 
 // The position after the Variant of a DataValue with the mask m, where that is a scalar of a fixed type, or `at` where it holds none;
@@ -175,20 +172,23 @@ fn look(s: &[u8], n: u64, at: usize) -> Plain
     Plain::Not
 }
 
-// The field that a cursor stands before, by its value's type, shape and end.
-fn told_by(c: Cursor, kind: u8, shape: Shape, end: usize) -> Told
-    requires { ⌜ c .next < c .count ⌝ }
-    ensures { λ r. ⌜ r ≡ Told.Is (fieldTold c kind shape end) (cursorTold c end) ⌝ }
+// Stores the field that a cursor stands before, by its value's type, shape and end, and the cursor after it.
+fn put_told(
+    head: &mut [u8],
+    field: &mut [u8],
+    c: Cursor,
+    kind: u8,
+    shape: Shape,
+    end: usize,
+) -> Stepped
+    requires { ⌜ (c .next < c .count) × (c .at ≤ end) ⌝ }
+    ensures { λ r.
+        ⌜ (r ≡ Stepped.Done (c .at)) × (now (head .exit) ≡ cursorLaid (cursorTold c end) (now (head .entry)))
+        × (now (field .exit) ≡ laid (now (field .entry)) 0 (numberBytes (fieldNumbers (fieldTold c kind shape end)))) ⌝ }
 {
     let encoding = c.encoding;
-    Told::Is(
-        Field {
-            index: c.next,
-            kind,
-            shape,
-            offset: c.at,
-            length: left(end, c.at),
-        },
+    put_cursor(
+        head,
         Cursor {
             encoding,
             delta: c.delta,
@@ -196,35 +196,50 @@ fn told_by(c: Cursor, kind: u8, shape: Shape, end: usize) -> Told
             count: c.count,
             at: end,
         },
-    )
+    );
+    put_field(
+        field,
+        Field {
+            index: c.next,
+            kind,
+            shape,
+            offset: c.at,
+            length: end - c.at,
+        },
+    );
+    Stepped::Done(c.at)
 }
 
-// The field that a cursor stands before, whose encoding has a number, and the cursor before the next one.
-fn tell_at(s: &[u8], n: u64, c: Cursor) -> Told
+// A step of a cursor whose encoding has a number.
+fn step_at(s: &[u8], n: u64, c: Cursor, head: &mut [u8], field: &mut [u8]) -> Stepped
     requires { ⌜ c .encoding ≡ encodingIn n ⌝ }
-    ensures { λ r. ⌜ ((types : List ℕ) → StepTells r (nextFieldAt c types (now (s .entry)))) ⌝ }
+    ensures { λ r.
+        ⌜ ((types : List ℕ) → StepTells r (nextFieldAt c types (now (s .entry)))
+        (now (head .entry)) (now (field .entry)) (now (head .exit)) (now (field .exit))) ⌝ }
 {
     let at = c.at;
     if s.len() < at {
-        return Told::Not;
+        return Stepped::Not;
     }
     if c.count <= c.next {
-        return Told::End;
+        return Stepped::End;
     }
     if c.delta {
-        return Told::Not;
+        return Stepped::Not;
     }
     match look(s, n, at) {
-        Plain::Scalar(t, end) => told_by(c, t, Shape::Scalar, end),
-        Plain::NullArray(t, end) => told_by(c, t, Shape::NullArray, end),
-        Plain::Array(t, end, k) => told_by(c, t, Shape::Array(k), end),
-        Plain::Not => Told::Not,
+        Plain::Scalar(t, end) => put_told(head, field, c, t, Shape::Scalar, end),
+        Plain::NullArray(t, end) => put_told(head, field, c, t, Shape::NullArray, end),
+        Plain::Array(t, end, k) => put_told(head, field, c, t, Shape::Array(k), end),
+        Plain::Not => Stepped::Not,
     }
 }
 
-// The field that the cursor of a head record stands before, and the cursor before the next one.
-pub fn tell(s: &[u8], head: &[u8]) -> Told
-    ensures { λ r. ⌜ ((types : List ℕ) → StepTells r (nextFieldAt (cursorIn (now (head .entry))) types (now (s .entry)))) ⌝ }
+// A step of the cursor of a head record, which is moved: the field that it stood before is stored.
+pub fn step(s: &[u8], head: &mut [u8], field: &mut [u8]) -> Stepped
+    ensures { λ r.
+        ⌜ ((types : List ℕ) → StepTells r (nextFieldAt (cursorIn (now (head .entry))) types (now (s .entry)))
+        (now (head .entry)) (now (field .entry)) (now (head .exit)) (now (field .exit))) ⌝ }
 {
-    tell_at(s, number(head, 10), cursor_in(head))
+    step_at(s, number(head, 10), cursor_in(head), head, field)
 }
