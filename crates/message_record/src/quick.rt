@@ -19,19 +19,21 @@ use wire::constants::DATA_VALUE;
 use wire::has;
 use wire::read_length;
 ghost use mathlib.Core.Path.{_≡_};
+ghost use mathlib.Core.Bool.{true, _||_};
 ghost use mathlib.Core.List.{List};
-ghost use Prim.Native.Nat.{ℕ, suc, _≤_, _<_};
+ghost use lib.Dec.{eqb};
+ghost use Prim.Native.Nat.{ℕ, _+_, _≤_, _<_};
 ghost use lib.ListN.{length, getD};
 ghost use Rattle.wire.specs.Constants.{VARIANT};
 ghost use Rattle.wire.specs.Answer.{got, whenOn, bit};
 ghost use Rattle.plain_value.specs.Plain.{passing};
 ghost use Rattle.wire_writer.specs.Store.{laid};
-ghost use Rattle.records.specs.Numbers.{numberBytes};
-ghost use Rattle.value.specs.Value.{valueAt, variantAt, dataValueAt};
-ghost use Rattle.value.specs.Quick.{textAt, runAt, LookTells};
+ghost use Rattle.records.specs.Numbers.{numberAt, numberBytes};
+ghost use Rattle.value.specs.Value.{INSIDE, valueAt, variantAt, dataValueAt};
+ghost use Rattle.value.specs.Quick.{textAt, runAt};
 ghost use Rattle.dataset_fields.specs.Fields.{encodedAt, nextFieldAt};
 ghost use Rattle.message_record.specs.Message.{encodingIn, cursorIn, cursorLaid, fieldNumbers};
-ghost use Rattle.message_record.specs.Quick.{fieldTold, cursorTold, StepTells};
+ghost use Rattle.message_record.specs.Quick.{Refused, Looks, otherFirst, plainFirst, plainHeld, plainAt, plainStep, fieldTold, cursorTold, StepTells};
 ghost use Rattle.message_record.specs.declared.quick.Stepped.{Stepped};
 
 // That a step is done, with the field's offset; that no field is left; or that it is not told.
@@ -43,7 +45,7 @@ pub enum Stepped {
 
 // A String or ByteString of type t after its first byte.
 fn string_at(s: &[u8], at: usize, t: u8) -> Plain
-    ensures { λ r. ⌜ LookTells r (textAt t (now (s .entry)) at) ⌝ }
+    ensures { λ r. ⌜ Looks true r (textAt t (now (s .entry)) at) ⌝ }
 {
     match read_length(s, at) {
         ItemLength::Null(next) => Plain::Scalar(t, next),
@@ -61,7 +63,7 @@ fn string_at(s: &[u8], at: usize, t: u8) -> Plain
 // An array of the fixed type t, whose elements have w bytes each, after its first byte.
 fn array_at(s: &[u8], at: usize, t: u8, w: usize) -> Plain
     requires { ⌜ w ≤ 16 ⌝ }
-    ensures { λ r. ⌜ LookTells r (runAt t w (now (s .entry)) at) ⌝ }
+    ensures { λ r. ⌜ Looks true r (runAt t w (now (s .entry)) at) ⌝ }
 {
     match read_length(s, at) {
         ItemLength::Null(next) => Plain::NullArray(t, next),
@@ -80,7 +82,7 @@ fn array_at(s: &[u8], at: usize, t: u8, w: usize) -> Plain
 // A scalar Variant of type t, whose first byte stands at a position: a String or a ByteString.
 fn scalar_at(s: &[u8], at: usize, t: u8) -> Plain
     requires { ⌜ (at < length (now s)) × (getD (now s) at 0 ≡ t) ⌝ }
-    ensures { λ r. ⌜ LookTells r (variantAt (now (s .entry)) at) ⌝ }
+    ensures { λ r. ⌜ Looks (eqb t 12 || eqb t 15) r (variantAt (now (s .entry)) at) ⌝ }
 {
     if (t == 12) | (t == 15) {
         return string_at(s, at + 1, t);
@@ -91,7 +93,7 @@ fn scalar_at(s: &[u8], at: usize, t: u8) -> Plain
 // A Variant, at a position, that is no null and no scalar of a fixed type.
 fn other_at(s: &[u8], at: usize) -> Plain
     requires { ⌜ at < length (now s) ⌝ }
-    ensures { λ r. ⌜ LookTells r (variantAt (now (s .entry)) at) ⌝ }
+    ensures { λ r. ⌜ Looks (otherFirst (getD (now (s .entry)) at 0)) r (variantAt (now (s .entry)) at) ⌝ }
 {
     let b = s[at];
     let t = b % 64;
@@ -111,7 +113,7 @@ fn other_at(s: &[u8], at: usize) -> Plain
 // A Variant at a position.
 fn variant_at(s: &[u8], at: usize) -> Plain
     requires { ⌜ at < length (now s) ⌝ }
-    ensures { λ r. ⌜ LookTells r (variantAt (now (s .entry)) at) ⌝ }
+    ensures { λ r. ⌜ Looks (plainFirst (getD (now (s .entry)) at 0)) r (variantAt (now (s .entry)) at) ⌝ }
 {
     let end = fixed_end(s, at);
     if at < end {
@@ -123,8 +125,10 @@ fn variant_at(s: &[u8], at: usize) -> Plain
 // The position after the Variant of a DataValue with the mask m, where that is a scalar of a fixed type, or `at` where it holds none;
 // else 0.
 fn held_end(s: &[u8], at: usize, m: u8) -> usize
+    requires { ⌜ 0 < at ⌝ }
     ensures { λ r.
-        ⌜ (0 < r → (levels : ℕ) → whenOn (bit 0 m) tt (passing (valueAt (suc levels) VARIANT)) (now (s .entry)) at ≡ got tt r) ⌝ }
+        let held = whenOn (bit 0 m) tt (passing (valueAt INSIDE VARIANT)) (now (s .entry)) at in
+        ⌜ (0 < r → held ≡ got tt r) × (r ≡ 0 → plainHeld m (now (s .entry)) at ≡ true → Refused held) ⌝ }
 {
     if m % 2 == 0 {
         return at;
@@ -139,7 +143,7 @@ fn held_end(s: &[u8], at: usize, m: u8) -> usize
 // A DataValue at a position.
 fn data_value_at(s: &[u8], at: usize) -> Plain
     requires { ⌜ at < length (now s) ⌝ }
-    ensures { λ r. ⌜ LookTells r (dataValueAt (now (s .entry)) at) ⌝ }
+    ensures { λ r. ⌜ Looks (plainHeld (getD (now (s .entry)) at 0) (now (s .entry)) (at + 1)) r (dataValueAt (now (s .entry)) at) ⌝ }
 {
     let m = s[at];
     if 64 <= m {
@@ -158,7 +162,9 @@ fn data_value_at(s: &[u8], at: usize) -> Plain
 
 // A field's value by the number of its encoding.
 fn look(s: &[u8], n: u64, at: usize) -> Plain
-    ensures { λ r. ⌜ ((types : List ℕ) (k : ℕ) → LookTells r (encodedAt (encodingIn n) types k (now (s .entry)) at)) ⌝ }
+    ensures { λ r.
+        let plain = plainAt n (now (s .entry)) at in
+        ⌜ ((types : List ℕ) (k : ℕ) → Looks plain r (encodedAt (encodingIn n) types k (now (s .entry)) at)) ⌝ }
 {
     if s.len() <= at {
         return Plain::Not;
@@ -214,7 +220,7 @@ fn put_told(
 fn step_at(s: &[u8], n: u64, c: Cursor, head: &mut [u8], field: &mut [u8]) -> Stepped
     requires { ⌜ c .encoding ≡ encodingIn n ⌝ }
     ensures { λ r.
-        ⌜ ((types : List ℕ) → StepTells r (nextFieldAt c types (now (s .entry)))
+        ⌜ ((types : List ℕ) → StepTells (plainStep n c (now (s .entry))) r (nextFieldAt c types (now (s .entry)))
         (now (head .entry)) (now (field .entry)) (now (head .exit)) (now (field .exit))) ⌝ }
 {
     let at = c.at;
@@ -238,7 +244,9 @@ fn step_at(s: &[u8], n: u64, c: Cursor, head: &mut [u8], field: &mut [u8]) -> St
 // A step of the cursor of a head record, which is moved: the field that it stood before is stored.
 pub fn step(s: &[u8], head: &mut [u8], field: &mut [u8]) -> Stepped
     ensures { λ r.
-        ⌜ ((types : List ℕ) → StepTells r (nextFieldAt (cursorIn (now (head .entry))) types (now (s .entry)))
+        let cursor = cursorIn (now (head .entry)) in
+        let plain = plainStep (numberAt (now (head .entry)) 10) cursor (now (s .entry)) in
+        ⌜ ((types : List ℕ) → StepTells plain r (nextFieldAt cursor types (now (s .entry)))
         (now (head .entry)) (now (field .entry)) (now (head .exit)) (now (field .exit))) ⌝ }
 {
     step_at(s, number(head, 10), cursor_in(head), head, field)

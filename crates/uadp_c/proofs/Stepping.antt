@@ -2,6 +2,7 @@
 -- Assumes nothing.
 use Prim.Native.Nat.{ℕ, _≤_, _<_}
 use mathlib.Core.Path.{_≡_, refl, sym, ap, subst, _∙_}
+use mathlib.Core.Bool.{Bool}
 use mathlib.Core.List.{List}
 use borrow.Author.Tests.{lt-ltb, le-ltb}
 use lib.ListN.{length}
@@ -10,12 +11,12 @@ use Rattle.wire_writer.specs.Store.{laid}
 use Rattle.dataset_fields.specs.Fields.{FieldStepped, nextFieldAt}
 use Rattle.dataset_fields.specs.declared.fields.Field.{Field}
 use Rattle.dataset_fields.specs.declared.fields.Cursor.{Cursor}
-use Rattle.records.specs.Numbers.{numberBytes}
+use Rattle.records.specs.Numbers.{numberAt, numberBytes}
 use Rattle.records.specs.Sizes.{FIELD_SIZE, HEAD_SIZE}
 use Rattle.records.specs.Result.{resultOf}
 use Rattle.records.specs.Writers.{typesFor}
 use Rattle.message_record.specs.Message.{fieldNumbers, cursorIn, cursorLaid}
-use Rattle.message_record.specs.Quick.{FieldPut, StepTells}
+use Rattle.message_record.specs.Quick.{plainStep, FieldPut, StepTells}
 use Rattle.message_record.specs.declared.quick.Stepped.{Stepped}
 use Rattle.uadp_c.specs.Fields.{stepResult, headAfter, fieldAfter}
 
@@ -49,12 +50,16 @@ step-done a head field h₁ e f k next x q g h r p₁ p₂ =
     (rw (le-ltb (length head) HEAD_SIZE g, le-ltb (length field) FIELD_SIZE h) (r, p₁, p₂))
 
 -- the ways out of a step that was told in line, which answers what the step that the records tell of answers
-module _ (c s head field h₁ e : List ℕ) (w : ℕ) (r : Stepped) (told : (types : List ℕ) → StepTells r (nextFieldAt (cursorIn head) types s) head field h₁ e) where
+module _ (c s head field h₁ e : List ℕ) (w : ℕ) (r : Stepped)
+    (told : (types : List ℕ) → StepTells (plainStep (numberAt head 10) (cursorIn head) s) r (nextFieldAt (cursorIn head) types s) head field h₁ e) where
   abbrev Step : List ℕ → Answer FieldStepped
   Step k = nextFieldAt (cursorIn k) (typesFor c w) s
 
-  told-so : (x : Stepped) → r ≡ x → StepTells x (Step head) head field h₁ e
-  told-so x i = subst (λ (t : Stepped). StepTells t (Step head) head field h₁ e) i (told (typesFor c w))
+  abbrev plain : Bool
+  plain = plainStep (numberAt head 10) (cursorIn head) s
+
+  told-so : (x : Stepped) → r ≡ x → StepTells plain x (Step head) head field h₁ e
+  told-so x i = subst (λ (t : Stepped). StepTells plain t (Step head) head field h₁ e) i (told (typesFor c w))
 
   pub told-done : (offset x : ℕ) → r ≡ Stepped.Done offset → HEAD_SIZE ≤ length head → FIELD_SIZE ≤ length field → x ≡ resultOf 0 offset → Steps (Step head) head field x h₁ e
   told-done offset x i g h q = go (Step head) refl (told-so (Stepped.Done offset) i)
@@ -70,4 +75,4 @@ module _ (c s head field h₁ e : List ℕ) (w : ℕ) (r : Stepped) (told : (typ
   pub told-not : (x : ℕ) (h₂ e₂ : List ℕ) → r ≡ Stepped.Not → Steps (Step h₁) h₁ e x h₂ e₂ → Steps (Step head) head field x h₂ e₂
   told-not x h₂ e₂ i g =
       let t = told-so Stepped.Not i in
-      subst (λ (k : List ℕ). Steps (Step k) k field x h₂ e₂) (t .0) (subst (λ (k : List ℕ). Steps (Step h₁) h₁ k x h₂ e₂) (t .1) g)
+      subst (λ (k : List ℕ). Steps (Step k) k field x h₂ e₂) (t .1) (subst (λ (k : List ℕ). Steps (Step h₁) h₁ k x h₂ e₂) (t .2) g)

@@ -14,7 +14,7 @@ returns : tie.Need-returns
 returns c =
     let at-step-at = c .before .before .before .before in
     let at-cursor-in = at-step-at .before .before .before in
-    λ types. rw (at-cursor-in .cursor-in .ensures) at (at-step-at .step-at .ensures types)
+    λ types. rw (at-cursor-in .cursor-in .ensures, at-cursor-in .before .before .number .ensures) at (at-step-at .step-at .ensures types)
 
 pub step-spec : {M : Type 1} → statement M
 step-spec =

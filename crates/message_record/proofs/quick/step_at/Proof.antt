@@ -1,5 +1,6 @@
 -- `message_record::quick::step_at` meets its contract.
 -- Assumes nothing.
+use Rattle.message_record.proofs.NotTold.{past-step, delta-step, left-step}
 use mathlib.Core.Path.{refl}
 use denote.Ref.{now}
 use Rattle.value.specs.Value.{measure}
@@ -9,11 +10,21 @@ use borrow.Author.Needs.{needs}
 use Rattle.message_record.proofs.quick.step_at.Statement.{statement}
 use Rattle.message_record.proofs.quick.step_at.Tie as tie
 
+returns : tie.Need-returns
+returns c =
+    let args = c .before .before .before .before .args in
+    λ types. ((λ z. past-step (now (args .s)) types (args .c) (c .if1 .taken)), refl, refl)
+
 returns-2 : tie.Need-returns-2
 returns-2 c =
     let at-if1 = c .before .before in
     let args = at-if1 .before .before .before .before .args in
     λ types. (tells-end (now (args .s)) (args .c) (at-if1 .if1 .left) (c .if2 .taken) types, refl, refl)
+
+returns-3 : tie.Need-returns-3
+returns-3 c =
+    let args = c .before .before .before .before .before .before .before .args in
+    λ types. ((λ z. absurd (delta-step (now (args .s)) (args .n) (args .c) (c .if3 .taken) z)), refl, refl)
 
 put-told-requires : tie.Need-put-told-requires
 put-told-requires c κs =
@@ -90,13 +101,27 @@ returns-6 c =
     (seen (now (at-pre .args .s)) (at-pre .args .n) (at-pre .args .c .at) _ _ (at-t3 .t3 .given .1) (at-look .look .ensures))
     _ _ _ _ _ (at-pre .pre) (at-if3 .if3 .left) (at-if2 .if2 .left) (at-put-told3 .put-told3 .ensures .0) (at-put-told3 .put-told3 .ensures .1) (at-put-told3 .put-told3 .ensures .2)
 
+returns-7 : tie.Need-returns-7
+returns-7 c =
+    let at-look = c .before .before in
+    let at-if3 = at-look .before in
+    let at-if2 = at-if3 .before in
+    let at-if1 = at-if2 .before .before in
+    let at-pre = at-if1 .before .before .before .before in
+    λ types. (
+      left-step (now (at-pre .args .s)) types (at-pre .args .n) (at-pre .args .c) (at-pre .pre) (at-if3 .if3 .left) (at-if2 .if2 .left) (at-if1 .if1 .left)
+          (seen (now (at-pre .args .s)) (at-pre .args .n) (at-pre .args .c .at) _ _ (c .enum-told .given .1) (at-look .look .ensures) types (at-pre .args .c .next)),
+      refl,
+      refl,
+    )
+
 pub step-at-spec : {M : Type 1} → statement M
 step-at-spec =
     tie.close
     (tie.spec
-    (λ c. search needs)
+    returns
     returns-2
-    (λ c. search needs)
+    returns-3
     (λ c κs. search needs)
     (λ c. search needs)
     put-told-requires
@@ -114,4 +139,4 @@ step-at-spec =
     (λ c. search needs)
     (λ c. search needs)
     returns-6
-    (λ c. search needs))
+    returns-7)
