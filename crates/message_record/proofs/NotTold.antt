@@ -42,11 +42,11 @@ then-refused (refused n place) k h = tt
 
 module _ (s : List ℕ) where
   -- a value that starts past the end
-  pub past-variant : (l at : ℕ) → length s ≤ at → Refused (valueAt (suc l) 24 s at)
+  past-variant : (l at : ℕ) → length s ≤ at → Refused (valueAt (suc l) 24 s at)
   unfolding valueAt
   past-variant l at h = rw (lt-leb (at + 1) (length s) (omega arith)) tt
 
-  pub past-data-value : (at : ℕ) → length s ≤ at → Refused (dataValueAt s at)
+  past-data-value : (at : ℕ) → length s ≤ at → Refused (dataValueAt s at)
   unfolding valueAt
   past-data-value at h = rw (lt-leb (at + 1) (length s) (omega arith)) tt
 
@@ -64,7 +64,7 @@ module _ (s : List ℕ) where
       rw (here, byte, first .0, first .1, first .3, first .2, first .4, fx, cut) tt
 
   -- a null or such a scalar of which no end is told
-  pub cut-scalar : (l at : ℕ) {e : ℕ} → e ≡ fixedEnd s at → e ≤ at → ltb 0 (scalarSize (getD s at 0)) ≡ true → Refused (valueAt (suc l) 24 s at)
+  cut-scalar : (l at : ℕ) {e : ℕ} → e ≡ fixedEnd s at → e ≤ at → ltb 0 (scalarSize (getD s at 0)) ≡ true → Refused (valueAt (suc l) 24 s at)
   cut-scalar l at {e} q none some = go (leb (length s) at) refl (leb (at + scalarSize (getD s at 0)) (length s)) refl
     where
       b : ℕ

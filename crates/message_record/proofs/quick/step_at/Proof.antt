@@ -23,7 +23,8 @@ returns-2 c =
 
 returns-3 : tie.Need-returns-3
 returns-3 c =
-    let args = c .before .before .before .before .before .before .before .args in
+    let at-if1 = c .before .before .before in
+    let args = at-if1 .before .before .before .before .args in
     λ types. ((λ z. absurd (delta-step (now (args .s)) (args .n) (args .c) (c .if3 .taken) z)), refl, refl)
 
 put-told-requires : tie.Need-put-told-requires
