@@ -1,8 +1,8 @@
 // A quick step of a head record's cursor, where the value of the field that it stands before holds no other: type, shape and end told in
-// line, and no configuration searched. It does what `Cursor::step` answers; its law is in proofs/Telling. It has one caller, so that it is
-// put in line there; its looks are not those of `value::quick`, which the walk's loops have in line. Worth: nearly half of the time of a
-// call for a scalar of a fixed type, two thirds of that for a String, an array or a DataValue. Each form of value stores its records by
-// itself, so that numbers that are 0 there are stored as such: a tenth of what is left.
+// line, and no configuration searched. It does what `Cursor::step` answers (proofs/Telling), and leaves no plain value that is accepted
+// (proofs/NotTold). It has one caller, so that it is put in line there; its looks are not those of `value::quick`, which the walk's loops
+// have in line. Worth: nearly half of the time of a call for a scalar of a fixed type, two thirds of that for a String, an array or a
+// DataValue. Each form of value stores its records by itself, so that numbers that are 0 there are stored as such: a tenth of what is left.
 use crate::message::cursor_in;
 use crate::message::put_cursor;
 use crate::message::put_field;
@@ -122,8 +122,8 @@ fn variant_at(s: &[u8], at: usize) -> Plain
     other_at(s, at)
 }
 
-// The position after the Variant of a DataValue with the mask m, where that is a scalar of a fixed type, or `at` where it holds none;
-// else 0.
+// The position after the Variant of a DataValue with the mask m, where that is a null or a scalar of a fixed type, or `at` where it holds
+// none; else 0.
 fn held_end(s: &[u8], at: usize, m: u8) -> usize
     requires { ⌜ 0 < at ⌝ }
     ensures { λ r.
