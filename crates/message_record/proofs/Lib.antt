@@ -3,3 +3,4 @@ pub mod Back
 pub mod Fitting
 pub mod Values
 pub mod Telling
+pub mod NotTold

@@ -1,8 +1,11 @@
-// A quick way to the field that a head record's cursor stands before, where its value holds no other: type, shape and end told in line, and
-// no configuration searched. It tells what `Cursor::step` answers; its law is in proofs/Telling. It has one caller, so that it is put in
-// line there; its looks are not those of `value::quick`, which the walk's loops have in line. Worth: nearly half of the time of a call for
-// a scalar of a fixed type, two thirds of that for a String, an array or a DataValue.
+// A quick step of a head record's cursor, where the value of the field that it stands before holds no other: type, shape and end told in
+// line, and no configuration searched. It does what `Cursor::step` answers (proofs/Telling), and leaves no plain value that is accepted
+// (proofs/NotTold). It has one caller, so that it is put in line there; its looks are not those of `value::quick`, which the walk's loops
+// have in line. Worth: nearly half of the time of a call for a scalar of a fixed type, two thirds of that for a String, an array or a
+// DataValue. Each form of value stores its records by itself, so that numbers that are 0 there are stored as such: a tenth of what is left.
 use crate::message::cursor_in;
+use crate::message::put_cursor;
+use crate::message::put_field;
 use dataset_fields::fields::Cursor;
 use dataset_fields::fields::Field;
 use plain_value::parts::parts_width;
@@ -14,32 +17,35 @@ use value::quick::fixed_end;
 use wire::ItemLength;
 use wire::constants::DATA_VALUE;
 use wire::has;
-use wire::left;
 use wire::read_length;
 ghost use mathlib.Core.Path.{_≡_};
+ghost use mathlib.Core.Bool.{true, _||_};
 ghost use mathlib.Core.List.{List};
-ghost use Prim.Native.Nat.{ℕ, suc, _≤_, _<_};
+ghost use lib.Dec.{eqb};
+ghost use Prim.Native.Nat.{ℕ, _+_, _≤_, _<_};
 ghost use lib.ListN.{length, getD};
 ghost use Rattle.wire.specs.Constants.{VARIANT};
 ghost use Rattle.wire.specs.Answer.{got, whenOn, bit};
 ghost use Rattle.plain_value.specs.Plain.{passing};
-ghost use Rattle.value.specs.Value.{valueAt, variantAt, dataValueAt};
-ghost use Rattle.value.specs.Quick.{textAt, runAt, LookTells};
+ghost use Rattle.wire_writer.specs.Store.{laid};
+ghost use Rattle.records.specs.Numbers.{numberAt, numberBytes};
+ghost use Rattle.value.specs.Value.{INSIDE, valueAt, variantAt, dataValueAt};
+ghost use Rattle.value.specs.Quick.{textAt, runAt};
 ghost use Rattle.dataset_fields.specs.Fields.{encodedAt, nextFieldAt};
-ghost use Rattle.message_record.specs.Message.{encodingIn, cursorIn};
-ghost use Rattle.message_record.specs.Quick.{fieldTold, cursorTold, StepTells};
-ghost use Rattle.message_record.specs.declared.quick.Told.{Told};
+ghost use Rattle.message_record.specs.Message.{encodingIn, cursorIn, cursorLaid, fieldNumbers};
+ghost use Rattle.message_record.specs.Quick.{Refused, Looks, otherFirst, plainFirst, plainHeld, plainAt, plainStep, fieldTold, cursorTold, StepTells};
+ghost use Rattle.message_record.specs.declared.quick.Stepped.{Stepped};
 
-// A field with the cursor after it, that no field is left, or that it is not told.
-pub enum Told {
-    Is(Field, Cursor),
+// That a step is done, with the field's offset; that no field is left; or that it is not told.
+pub enum Stepped {
+    Done(usize),
     End,
     Not,
 }
 
 // A String or ByteString of type t after its first byte.
 fn string_at(s: &[u8], at: usize, t: u8) -> Plain
-    ensures { λ r. ⌜ LookTells r (textAt t (now (s .entry)) at) ⌝ }
+    ensures { λ r. ⌜ Looks true r (textAt t (now (s .entry)) at) ⌝ }
 {
     match read_length(s, at) {
         ItemLength::Null(next) => Plain::Scalar(t, next),
@@ -57,7 +63,7 @@ fn string_at(s: &[u8], at: usize, t: u8) -> Plain
 // An array of the fixed type t, whose elements have w bytes each, after its first byte.
 fn array_at(s: &[u8], at: usize, t: u8, w: usize) -> Plain
     requires { ⌜ w ≤ 16 ⌝ }
-    ensures { λ r. ⌜ LookTells r (runAt t w (now (s .entry)) at) ⌝ }
+    ensures { λ r. ⌜ Looks true r (runAt t w (now (s .entry)) at) ⌝ }
 {
     match read_length(s, at) {
         ItemLength::Null(next) => Plain::NullArray(t, next),
@@ -73,24 +79,21 @@ fn array_at(s: &[u8], at: usize, t: u8, w: usize) -> Plain
     }
 }
 
-// A scalar Variant of type t, which is no fixed one, whose first byte stands at a position: a null, a String or a ByteString.
+// A scalar Variant of type t, whose first byte stands at a position: a String or a ByteString.
 fn scalar_at(s: &[u8], at: usize, t: u8) -> Plain
     requires { ⌜ (at < length (now s)) × (getD (now s) at 0 ≡ t) ⌝ }
-    ensures { λ r. ⌜ LookTells r (variantAt (now (s .entry)) at) ⌝ }
+    ensures { λ r. ⌜ Looks (eqb t 12 || eqb t 15) r (variantAt (now (s .entry)) at) ⌝ }
 {
-    if t == 0 {
-        return Plain::Scalar(0, at + 1);
-    }
     if (t == 12) | (t == 15) {
         return string_at(s, at + 1, t);
     }
     Plain::Not
 }
 
-// A Variant, at a position, that is no scalar of a fixed type.
+// A Variant, at a position, that is no null and no scalar of a fixed type.
 fn other_at(s: &[u8], at: usize) -> Plain
     requires { ⌜ at < length (now s) ⌝ }
-    ensures { λ r. ⌜ LookTells r (variantAt (now (s .entry)) at) ⌝ }
+    ensures { λ r. ⌜ Looks (otherFirst (getD (now (s .entry)) at 0)) r (variantAt (now (s .entry)) at) ⌝ }
 {
     let b = s[at];
     let t = b % 64;
@@ -110,24 +113,22 @@ fn other_at(s: &[u8], at: usize) -> Plain
 // A Variant at a position.
 fn variant_at(s: &[u8], at: usize) -> Plain
     requires { ⌜ at < length (now s) ⌝ }
-    ensures { λ r. ⌜ LookTells r (variantAt (now (s .entry)) at) ⌝ }
+    ensures { λ r. ⌜ Looks (plainFirst (getD (now (s .entry)) at 0)) r (variantAt (now (s .entry)) at) ⌝ }
 {
-    let w = width(s[at]);
-    if w == 0 {
-        return other_at(s, at);
+    let end = fixed_end(s, at);
+    if at < end {
+        return Plain::Scalar(s[at], end);
     }
-    let size = w + 1;
-    if has(s.len(), at, size) {
-        return Plain::Scalar(s[at], at + size);
-    }
-    Plain::Not
+    other_at(s, at)
 }
 
-// The position after the Variant of a DataValue with the mask m, where that is a scalar of a fixed type, or `at` where it holds none;
-// else 0.
+// The position after the Variant of a DataValue with the mask m, where that is a null or a scalar of a fixed type, or `at` where it holds
+// none; else 0.
 fn held_end(s: &[u8], at: usize, m: u8) -> usize
+    requires { ⌜ 0 < at ⌝ }
     ensures { λ r.
-        ⌜ (0 < r → (levels : ℕ) → whenOn (bit 0 m) tt (passing (valueAt (suc levels) VARIANT)) (now (s .entry)) at ≡ got tt r) ⌝ }
+        let held = whenOn (bit 0 m) tt (passing (valueAt INSIDE VARIANT)) (now (s .entry)) at in
+        ⌜ (0 < r → held ≡ got tt r) × (r ≡ 0 → plainHeld m (now (s .entry)) at ≡ true → Refused held) ⌝ }
 {
     if m % 2 == 0 {
         return at;
@@ -142,7 +143,7 @@ fn held_end(s: &[u8], at: usize, m: u8) -> usize
 // A DataValue at a position.
 fn data_value_at(s: &[u8], at: usize) -> Plain
     requires { ⌜ at < length (now s) ⌝ }
-    ensures { λ r. ⌜ LookTells r (dataValueAt (now (s .entry)) at) ⌝ }
+    ensures { λ r. ⌜ Looks (plainHeld (getD (now (s .entry)) at 0) (now (s .entry)) (at + 1)) r (dataValueAt (now (s .entry)) at) ⌝ }
 {
     let m = s[at];
     if 64 <= m {
@@ -161,7 +162,9 @@ fn data_value_at(s: &[u8], at: usize) -> Plain
 
 // A field's value by the number of its encoding.
 fn look(s: &[u8], n: u64, at: usize) -> Plain
-    ensures { λ r. ⌜ ((types : List ℕ) (k : ℕ) → LookTells r (encodedAt (encodingIn n) types k (now (s .entry)) at)) ⌝ }
+    ensures { λ r.
+        let plain = plainAt n (now (s .entry)) at in
+        ⌜ ((types : List ℕ) (k : ℕ) → Looks plain r (encodedAt (encodingIn n) types k (now (s .entry)) at)) ⌝ }
 {
     if s.len() <= at {
         return Plain::Not;
@@ -175,20 +178,23 @@ fn look(s: &[u8], n: u64, at: usize) -> Plain
     Plain::Not
 }
 
-// The field that a cursor stands before, by its value's type, shape and end.
-fn told_by(c: Cursor, kind: u8, shape: Shape, end: usize) -> Told
-    requires { ⌜ c .next < c .count ⌝ }
-    ensures { λ r. ⌜ r ≡ Told.Is (fieldTold c kind shape end) (cursorTold c end) ⌝ }
+// Stores the field that a cursor stands before, by its value's type, shape and end, and the cursor after it.
+fn put_told(
+    head: &mut [u8],
+    field: &mut [u8],
+    c: Cursor,
+    kind: u8,
+    shape: Shape,
+    end: usize,
+) -> Stepped
+    requires { ⌜ (c .next < c .count) × (c .at ≤ end) ⌝ }
+    ensures { λ r.
+        ⌜ (r ≡ Stepped.Done (c .at)) × (now (head .exit) ≡ cursorLaid (cursorTold c end) (now (head .entry)))
+        × (now (field .exit) ≡ laid (now (field .entry)) 0 (numberBytes (fieldNumbers (fieldTold c kind shape end)))) ⌝ }
 {
     let encoding = c.encoding;
-    Told::Is(
-        Field {
-            index: c.next,
-            kind,
-            shape,
-            offset: c.at,
-            length: left(end, c.at),
-        },
+    put_cursor(
+        head,
         Cursor {
             encoding,
             delta: c.delta,
@@ -196,35 +202,52 @@ fn told_by(c: Cursor, kind: u8, shape: Shape, end: usize) -> Told
             count: c.count,
             at: end,
         },
-    )
+    );
+    put_field(
+        field,
+        Field {
+            index: c.next,
+            kind,
+            shape,
+            offset: c.at,
+            length: end - c.at,
+        },
+    );
+    Stepped::Done(c.at)
 }
 
-// The field that a cursor stands before, whose encoding has a number, and the cursor before the next one.
-fn tell_at(s: &[u8], n: u64, c: Cursor) -> Told
+// A step of a cursor whose encoding has a number.
+fn step_at(s: &[u8], n: u64, c: Cursor, head: &mut [u8], field: &mut [u8]) -> Stepped
     requires { ⌜ c .encoding ≡ encodingIn n ⌝ }
-    ensures { λ r. ⌜ ((types : List ℕ) → StepTells r (nextFieldAt c types (now (s .entry)))) ⌝ }
+    ensures { λ r.
+        ⌜ ((types : List ℕ) → StepTells (plainStep n c (now (s .entry))) r (nextFieldAt c types (now (s .entry)))
+        (now (head .entry)) (now (field .entry)) (now (head .exit)) (now (field .exit))) ⌝ }
 {
     let at = c.at;
     if s.len() < at {
-        return Told::Not;
+        return Stepped::Not;
     }
     if c.count <= c.next {
-        return Told::End;
+        return Stepped::End;
     }
     if c.delta {
-        return Told::Not;
+        return Stepped::Not;
     }
     match look(s, n, at) {
-        Plain::Scalar(t, end) => told_by(c, t, Shape::Scalar, end),
-        Plain::NullArray(t, end) => told_by(c, t, Shape::NullArray, end),
-        Plain::Array(t, end, k) => told_by(c, t, Shape::Array(k), end),
-        Plain::Not => Told::Not,
+        Plain::Scalar(t, end) => put_told(head, field, c, t, Shape::Scalar, end),
+        Plain::NullArray(t, end) => put_told(head, field, c, t, Shape::NullArray, end),
+        Plain::Array(t, end, k) => put_told(head, field, c, t, Shape::Array(k), end),
+        Plain::Not => Stepped::Not,
     }
 }
 
-// The field that the cursor of a head record stands before, and the cursor before the next one.
-pub fn tell(s: &[u8], head: &[u8]) -> Told
-    ensures { λ r. ⌜ ((types : List ℕ) → StepTells r (nextFieldAt (cursorIn (now (head .entry))) types (now (s .entry)))) ⌝ }
+// A step of the cursor of a head record, which is moved: the field that it stood before is stored.
+pub fn step(s: &[u8], head: &mut [u8], field: &mut [u8]) -> Stepped
+    ensures { λ r.
+        let cursor = cursorIn (now (head .entry)) in
+        let plain = plainStep (numberAt (now (head .entry)) 10) cursor (now (s .entry)) in
+        ⌜ ((types : List ℕ) → StepTells plain r (nextFieldAt cursor types (now (s .entry)))
+        (now (head .entry)) (now (field .entry)) (now (head .exit)) (now (field .exit))) ⌝ }
 {
-    tell_at(s, number(head, 10), cursor_in(head))
+    step_at(s, number(head, 10), cursor_in(head), head, field)
 }

@@ -10,8 +10,8 @@ use message_record::message::put_cursor;
 use message_record::message::put_field;
 use message_record::message::put_head;
 use message_record::message::put_no_head;
-use message_record::quick::Told;
-use message_record::quick::tell;
+use message_record::quick::Stepped;
+use message_record::quick::step;
 use records::result::result;
 use records::sizes::FIELD_SIZE;
 use records::sizes::HEAD_SIZE;
@@ -176,13 +176,9 @@ pub extern "C" fn uadp_next_field(
     if field.len() < FIELD_SIZE {
         return by_step(message, config, writer, head, field);
     }
-    match tell(message, head) {
-        Told::Is(found, after) => {
-            put_cursor(head, after);
-            put_field(field, found);
-            result(0, found.offset)
-        }
-        Told::End => result(OVER_LIMIT, 0),
-        Told::Not => by_step(message, config, writer, head, field),
+    match step(message, head, field) {
+        Stepped::Done(offset) => result(0, offset),
+        Stepped::End => result(OVER_LIMIT, 0),
+        Stepped::Not => by_step(message, config, writer, head, field),
     }
 }

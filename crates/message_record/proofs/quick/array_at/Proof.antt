@@ -1,15 +1,15 @@
 -- `message_record::quick::array_at` meets its contract.
 -- Assumes nothing.
-use lib.ListN.{length}
-use Prim.Native.Nat.{_+_, _*_}
-use denote.Ref.{now}
-use borrow.Author.Tests.{leb-true}
-use native.Mathlib.Nat.{mul-le-mul-left}
-use native.Mathlib.Omega.{arith}
-use mathlib.Core.Path.{sym, _∙_}
 use Rattle.plain_value.proofs.Lengths.{count-small}
-use Rattle.wire.specs.Items.{answerLength}
+use native.Mathlib.Nat.{mul-le-mul-left}
+use Prim.Native.Nat.{_+_, _*_}
 use Rattle.wire.proofs.Reading.{told}
+use Rattle.wire.specs.Items.{answerLength}
+use mathlib.Core.Path.{sym, _∙_}
+use native.Mathlib.Omega.{arith}
+use borrow.Author.Tests.{leb-true}
+use lib.ListN.{length}
+use denote.Ref.{now}
 use borrow.Author.Needs.{needs}
 use Rattle.message_record.proofs.quick.array_at.Statement.{statement}
 use Rattle.message_record.proofs.quick.array_at.Tie as tie
@@ -49,6 +49,26 @@ returns-2 c =
     let args = at-read-length .before .before .args in
     rw (sym (told (answerLength (args .at)) (at-read-length .read-length .ensures) (at-next .next .given .1)))
 
+returns-3 : tie.Need-returns-3
+returns-3 c =
+    let at-has = c .before in
+    let at-next2 = at-has .before .before in
+    let at-read-length = at-next2 .before .before in
+    let args = at-read-length .before .before .args in
+    λ z. rw (sym (told (answerLength (args .at)) (at-read-length .read-length .ensures) (at-next2 .next2 .given .1)), sym (at-has .has .ensures) ∙ c .if1 .left) tt
+
+returns-4 : tie.Need-returns-4
+returns-4 c =
+    let at-read-length = c .before .before in
+    let args = at-read-length .before .before .args in
+    λ z. rw (sym (told (answerLength (args .at)) (at-read-length .read-length .ensures) (c .enum-told .given .1))) tt
+
+returns-5 : tie.Need-returns-5
+returns-5 c =
+    let at-read-length = c .before .before in
+    let args = at-read-length .before .before .args in
+    λ z. rw (sym (told (answerLength (args .at)) (at-read-length .read-length .ensures) (c .enum-told2 .given .1))) tt
+
 pub array-at-spec : {M : Type 1} → statement M
 array-at-spec =
     tie.close
@@ -63,6 +83,6 @@ array-at-spec =
     (λ c. search needs)
     (λ c. search needs)
     returns-2
-    (λ c. search needs)
-    (λ c. search needs)
-    (λ c. search needs))
+    returns-3
+    returns-4
+    returns-5)
