@@ -36,7 +36,7 @@ fn fill_head(message: &[u8], config: &[u8], writer: u32, head: &mut [u8], whole:
         let read = messageTo (length s) (wholeOrFront whole) (typesFor (now (config .entry)) writer) s in
         ⌜ HeadFilled read s (now (head .entry)) r (now (head .exit)) ⌝ }
 {
-    match read_up_to(message, types_for(config, writer), message.len(), whole) {
+    match read_up_to(&*message, types_for(&*config, writer), message.len(), whole) {
         MessageRead::Refused(n, place) => result(n, place),
         MessageRead::NotValid => {
             if head.len() < HEAD_SIZE {
@@ -67,7 +67,7 @@ pub extern "C" fn uadp_read_message(
         let read = HeadRead (now (message .entry)) (now (config .entry)) writer in
         ⌜ read (now (head .entry)) r (now (head .exit)) ⌝ }
 {
-    fill_head(message, config, writer, head, true)
+    fill_head(&*message, &*config, writer, head, true)
 }
 
 // Opens a DataSetMessage: its front alone, up to its first field. Worth: a third to nearly half of the time of a walk by calls, where every
@@ -83,7 +83,7 @@ pub extern "C" fn uadp_open_message(
         let opened = HeadOpened (now (message .entry)) (now (config .entry)) writer in
         ⌜ opened (now (head .entry)) r (now (head .exit)) ⌝ }
 {
-    fill_head(message, config, writer, head, false)
+    fill_head(&*message, &*config, writer, head, false)
 }
 
 // Ends a message that was opened, by its head record's cursor after the last field: only padding may follow.
