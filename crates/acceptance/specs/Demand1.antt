@@ -142,8 +142,8 @@ pub record Demand1 : Type 0 where
   -- the message.
   pub salvage : (rec payload marks config told list : List ℕ) (n place : ℕ)
       → salvageLent rec payload marks config told list .answer ≡ Salvaged.Refused n place → Refusal salvageRefusals n place (length payload)
-  -- uadp_config, uadp_read, uadp_read_message, uadp_open_message, uadp_field, uadp_value, uadp_element, uadp_chunk, uadp_probe: what is read
-  -- fills one record.
+  -- uadp_config, uadp_read, uadp_read_message, uadp_open_message, uadp_field, uadp_value, uadp_element, uadp_chunk, uadp_probe: what is
+  -- read fills one record.
   pub lent-filling : (read : Answer Filling) (out : List ℕ) → IsRefused (resultIn read out) → filledIn read out ≡ out
   -- uadp_next_message, uadp_next_field, uadp_next_probe_item: a record's cursor moves, and another record is filled.
   pub lent-message-step : (writer : ℕ → Optional16) (step : Answer PlaceStepped) (envelope place : List ℕ)

@@ -89,8 +89,8 @@ frontAt = messageBy openedAt
 abbrev pub frontTo : ℕ → List ℕ → List ℕ → Answer (Valid Message)
 frontTo end = messageTo end openedAt
 
--- the end of a message whose fields were stepped over, by the cursor c after the last of them: "only zero bytes may remain"; a field that is
--- left is 6, at the cursor's byte; "A made-up cursor is read at the byte it names; past the end it is 1"
+-- the end of a message whose fields were stepped over, by the cursor c after the last of them: "only zero bytes may remain"; a field that
+-- is left is 6, at the cursor's byte; "A made-up cursor is read at the byte it names; past the end it is 1"
 abbrev pub endedAt : Cursor → List ℕ → Answer (Unit {0})
 endedAt c s =
     cond (ltb (length s) (c .at)) (refused CUT_SHORT (c .at))

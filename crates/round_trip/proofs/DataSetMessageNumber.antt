@@ -4,7 +4,7 @@ use mathlib.Core.Path.{_≡_, refl, ap, sym, _∙_, subst}
 use mathlib.Core.Bool.{Bool, true, false, cond, _&&_}
 use mathlib.Core.List.{List, [], _∷_, _++_, append-assoc}
 use Prim.Native.Nat.{ℕ, zero, suc, _+_, _-_, _≤_, _<_}
-use native.Mathlib.Nat.{add-zero, zero-add, le-refl}
+use native.Mathlib.Nat.{add-zero, le-refl}
 use native.Mathlib.Omega.{arith}
 use borrow.Author.Tests.{leb-true, leb-false, ltb-true, ltb-false, eqb-true, eqb-false, eq-eqb, ne-eqb, le-leb, lt-leb}
 use lib.Dec.{leb, ltb, eqb}
@@ -22,7 +22,7 @@ use Rattle.dataset_header.specs.declared.header.Header.{Header}
 use Rattle.dataset_fields.specs.declared.fields.Field.{Field}
 use Rattle.dataset_header.specs.Flags.{valid, isDelta, isRaw, kindRule}
 use Rattle.dataset_header.specs.Header.{messageHeaderBytes, FitsHeader}
-use Rattle.dataset_fields.specs.Fields.{fieldAt, fieldsAt, zerosAt, paddingAt, valuesOf, numberOf, fieldsWhole, fieldsBytes, zeros}
+use Rattle.dataset_fields.specs.Fields.{fieldsAt, zerosAt, paddingAt, valuesOf, numberOf, fieldsWhole, fieldsBytes, zeros}
 use Rattle.dataset_fields.proofs.Judging.{length-values}
 use Rattle.dataset_fields.proofs.Laying.{values-whole, length-zeros}
 use Rattle.dataset_fields.proofs.Walks.{fields-split, padding-step, padding-stop}

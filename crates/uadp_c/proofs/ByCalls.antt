@@ -302,15 +302,18 @@ module _ (s config : List ℕ) (writer : ℕ) (m : Message) (n : ℕ) (q : front
         let less : d .count - k - 1 ≡ d .count - (k + 1) = omega arith in
         let some : 0 < d .count - k = omega arith in
         let onward : left-from k p ≡ left-from (k + 1) e =
-        fields-step (d .delta) (d .encoding) kinds s (d .count - k) k p e g some t ∙ ap (λ (j : ℕ). fieldsAt (d .delta) (d .encoding) kinds j (k + 1) s e) less in
-        (
+        fields-step (d .delta) (d .encoding) kinds s (d .count - k) k p e g some t ∙ ap (λ (j : ℕ). fieldsAt (d .delta) (d .encoding) kinds j (k + 1) s e) less in (
           field (g .offset) (y .result ∙ ap (λ (z : Answer FieldStepped). stepResult z h f) step ∙ made .0),
-          (k + 1, e, record {
-            long = omega (arith, w .long, ap (λ (z : List ℕ). length z) head, cursor-length (x .cursor) h);
-            cursor = moved;
-            decides = w .decides ∙ ap after onward;
-            inside = end-in;
-          }),
+          (
+            k + 1,
+            e,
+            record {
+              long = omega (arith, w .long, ap (λ (z : List ℕ). length z) head, cursor-length (x .cursor) h);
+              cursor = moved;
+              decides = w .decides ∙ ap after onward;
+              inside = end-in;
+            },
+          ),
         )
     goes-on (refused number place) l t =
         let some : 0 < d .count - k = omega arith in

@@ -39,8 +39,8 @@ AllLong n (r ∷ rs) = (n ≤ length r) × AllLong n rs
 
 -- ---- a message's fields
 
--- what is promised of a head record `entry` that is filled from what was read of a message, the whole of it or its front: the call's result,
--- and the record afterwards; and of the message, that each element is a byte and its length a number of 8 bytes
+-- what is promised of a head record `entry` that is filled from what was read of a message, the whole of it or its front: the call's
+-- result, and the record afterwards; and of the message, that each element is a byte and its length a number of 8 bytes
 pub record HeadFilled (read : Answer (Valid Message)) (s entry : List ℕ) (result : ℕ) (exit : List ℕ) : Type 0 where
   pub answer : result ≡ resultIn (headFilling read) entry
   pub filled : exit ≡ filledIn (headFilling read) entry

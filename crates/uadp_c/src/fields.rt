@@ -70,8 +70,8 @@ pub extern "C" fn uadp_read_message(
     fill_head(&*message, &*config, writer, head, true)
 }
 
-// Opens a DataSetMessage: its front alone, up to its first field. Worth: a third to nearly half of the time of a walk by calls, where every
-// field is then read once.
+// Opens a DataSetMessage: its front alone, up to its first field. Worth: a seventh to a third of the time of a walk by calls over many
+// fields, where each is then read once.
 #[no_mangle]
 pub extern "C" fn uadp_open_message(
     message: &[u8],

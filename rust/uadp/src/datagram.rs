@@ -319,7 +319,8 @@ impl<'a> MessagePart<'a> {
     }
 
     /// Opens the message: its front alone is read, and each field when it is walked over; `None` for one that its publisher marked as
-    /// not valid. It takes two thirds of the time of [`read`](Self::read) and a walk, but a fault is told only where it is met.
+    /// not valid. With a walk over many fields it takes 0.64 to 0.86 of the time of [`read`](Self::read), but a fault is told only where it
+    /// is met.
     ///
     /// # Errors
     ///

@@ -39,16 +39,20 @@ returns-2 c = c .before .before .before .loop .inv
 shared-slice-read-if3 : tie.Need-shared-slice-read-if3 Inv-loop μ-loop
 shared-slice-read-if3 c =
     let at-has = c .before .before in
-    let args = at-has .before .before .before .before .before .before .before .args in
+    let at-loop = at-has .before .before in
+    let args = at-loop .before .before .before .before .before .args in
     omega (arith, room (at-has .has .result) _ (length (now (args .s))) (at-has .has .ensures) (c .before .if2 .left))
 
 returns-3 : tie.Need-returns-3 Inv-loop μ-loop
-returns-3 c = c .before .before .before .before .before .loop .inv
+returns-3 c =
+    let at-has = c .before .before .before in
+    at-has .before .before .loop .inv
 
 add-p : tie.Need-add-p Inv-loop μ-loop
 add-p c =
     let at-has = c .before .before .before in
-    let args = at-has .before .before .before .before .before .before .before .args in
+    let at-loop = at-has .before .before in
+    let args = at-loop .before .before .before .before .before .args in
     omega (arith, room (at-has .has .result) _ (length (now (args .s))) (at-has .has .ensures) (c .before .before .if2 .left))
 
 loop-again : tie.Need-loop-again Inv-loop μ-loop

@@ -25,12 +25,14 @@ returns-3 c =
 
 returns-4 : tie.Need-returns-4
 returns-4 c =
-    let args = c .before .before .before .before .before .before .args in
+    let at-if1 = c .before .before .before in
+    let args = at-if1 .before .before .before .args in
     none-passed (now (args .front)) (args .c)
 
 returns-5 : tie.Need-returns-5
 returns-5 c =
-    let args = c .before .before .before .before .before .before .args in
+    let at-if1 = c .before .before .before in
+    let args = at-if1 .before .before .before .args in
     none-passed (now (args .front)) (args .c)
 
 pub alike-spec : {M : Type 1} → statement M

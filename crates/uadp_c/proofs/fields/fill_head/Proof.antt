@@ -3,9 +3,12 @@
 use Rattle.uadp_c.proofs.Filling.{fill-refused, fill-none, fill-done, headBy, head-read, head-filled}
 use Rattle.message_record.specs.Message.{headNumbers}
 use Rattle.records.proofs.Storing.{bytes-length}
-use Rattle.dataset_header.specs.Flags.{notValid, valid}
-use Rattle.dataset_message.specs.Message.{answerMessage}
+use Rattle.dataset_header.specs.Flags.{Valid, notValid, valid}
+use Rattle.dataset_message.specs.Message.{Message, answerMessage}
+use Rattle.wire.specs.Answer.{Answer}
 use Rattle.wire.proofs.Reading.{told}
+use Prim.Native.Nat.{ℕ}
+use mathlib.Core.List.{List}
 use native.Mathlib.Omega.{arith}
 use denote.Ref.{now}
 use borrow.Author.Needs.{needs}
@@ -19,11 +22,12 @@ returns c =
     let at-types-for = at-read-up-to .before in
     let at-shared-slice-known = at-types-for .before .before .before in
     let args = at-shared-slice-known .before .args in
-    head-filled (headBy (args .whole) (now (args .message))) (now (args .config)) (now (args .message)) _ (args .writer) _ (now (args .head)) _ _ (at-shared-slice-known .shared-slice-known .given)
+    let reading : List ℕ → Answer (Valid Message) = headBy (args .whole) (now (args .message)) in
+    head-filled reading (now (args .config)) (now (args .message)) _ (args .writer) _ (now (args .head)) _ _ (at-shared-slice-known .shared-slice-known .given)
     (at-shared-slice-known .before .good .0 .0) (at-types-for .types-for .ensures)
     (told answerMessage (at-read-up-to .read-up-to .ensures) (at-enum-told .enum-told .given .1))
     (fill-none _ (now (args .head)) _ _ 160 _
-    (head-read (headBy (args .whole) (now (args .message))) (now (args .config)) _ (args .writer) _ (at-types-for .types-for .ensures) (told answerMessage (at-read-up-to .read-up-to .ensures) (at-enum-told .enum-told .given .1)))
+    (head-read reading (now (args .config)) _ (args .writer) _ (at-types-for .types-for .ensures) (told answerMessage (at-read-up-to .read-up-to .ensures) (at-enum-told .enum-told .given .1)))
     (bytes-length (headNumbers notValid)) (omega arith) (c .result2 .ensures))
     tt
 
@@ -34,11 +38,12 @@ returns-2 c =
     let at-types-for = at-read-up-to .before in
     let at-shared-slice-known = at-types-for .before .before .before in
     let args = at-shared-slice-known .before .args in
-    head-filled (headBy (args .whole) (now (args .message))) (now (args .config)) (now (args .message)) _ (args .writer) _ (now (args .head)) _ _ (at-shared-slice-known .shared-slice-known .given)
+    let reading : List ℕ → Answer (Valid Message) = headBy (args .whole) (now (args .message)) in
+    head-filled reading (now (args .config)) (now (args .message)) _ (args .writer) _ (now (args .head)) _ _ (at-shared-slice-known .shared-slice-known .given)
     (at-shared-slice-known .before .good .0 .0) (at-types-for .types-for .ensures)
     (told answerMessage (at-read-up-to .read-up-to .ensures) (at-h .h .given .1))
     (fill-none _ (now (args .head)) _ _ 160 _
-    (head-read (headBy (args .whole) (now (args .message))) (now (args .config)) _ (args .writer) _ (at-types-for .types-for .ensures) (told answerMessage (at-read-up-to .read-up-to .ensures) (at-h .h .given .1)))
+    (head-read reading (now (args .config)) _ (args .writer) _ (at-types-for .types-for .ensures) (told answerMessage (at-read-up-to .read-up-to .ensures) (at-h .h .given .1)))
     (bytes-length (headNumbers (valid (record { header = at-h .h .given .0 .0; cursor = at-h .h .given .0 .1 .0; end = at-h .h .given .0 .1 .1 .0 })))) (omega arith) (c .result4 .ensures))
     (λ l. absurd (omega arith))
 
@@ -49,11 +54,12 @@ returns-3 c =
     let at-types-for = at-read-up-to .before in
     let at-shared-slice-known = at-types-for .before .before .before in
     let args = at-shared-slice-known .before .args in
-    head-filled (headBy (args .whole) (now (args .message))) (now (args .config)) (now (args .message)) _ (args .writer) _ (now (args .head)) _ _ (at-shared-slice-known .shared-slice-known .given)
+    let reading : List ℕ → Answer (Valid Message) = headBy (args .whole) (now (args .message)) in
+    head-filled reading (now (args .config)) (now (args .message)) _ (args .writer) _ (now (args .head)) _ _ (at-shared-slice-known .shared-slice-known .given)
     (at-shared-slice-known .before .good .0 .0) (at-types-for .types-for .ensures)
     (told answerMessage (at-read-up-to .read-up-to .ensures) (at-n .n .given .1))
     (fill-refused _ (now (args .head)) _ _ _
-    (head-read (headBy (args .whole) (now (args .message))) (now (args .config)) _ (args .writer) _ (at-types-for .types-for .ensures) (told answerMessage (at-read-up-to .read-up-to .ensures) (at-n .n .given .1)))
+    (head-read reading (now (args .config)) _ (args .writer) _ (at-types-for .types-for .ensures) (told answerMessage (at-read-up-to .read-up-to .ensures) (at-n .n .given .1)))
     (c .result .ensures))
     tt
 
@@ -65,11 +71,12 @@ returns-4 c =
     let at-types-for = at-read-up-to .before in
     let at-shared-slice-known = at-types-for .before .before .before in
     let args = at-shared-slice-known .before .args in
-    head-filled (headBy (args .whole) (now (args .message))) (now (args .config)) (now (args .message)) _ (args .writer) _ (now (args .head)) _ _ (at-shared-slice-known .shared-slice-known .given)
+    let reading : List ℕ → Answer (Valid Message) = headBy (args .whole) (now (args .message)) in
+    head-filled reading (now (args .config)) (now (args .message)) _ (args .writer) _ (now (args .head)) _ _ (at-shared-slice-known .shared-slice-known .given)
     (at-shared-slice-known .before .good .0 .0) (at-types-for .types-for .ensures)
     (told answerMessage (at-read-up-to .read-up-to .ensures) (at-enum-told .enum-told .given .1))
     (fill-done _ (now (args .head)) _ _ _ 160 _
-    (head-read (headBy (args .whole) (now (args .message))) (now (args .config)) _ (args .writer) _ (at-types-for .types-for .ensures) (told answerMessage (at-read-up-to .read-up-to .ensures) (at-enum-told .enum-told .given .1)))
+    (head-read reading (now (args .config)) _ (args .writer) _ (at-types-for .types-for .ensures) (told answerMessage (at-read-up-to .read-up-to .ensures) (at-enum-told .enum-told .given .1)))
     (bytes-length (headNumbers notValid)) (omega arith) (c .result3 .ensures) (at-put-no-head .put-no-head .ensures))
     tt
 
@@ -81,11 +88,12 @@ returns-5 c =
     let at-types-for = at-read-up-to .before in
     let at-shared-slice-known = at-types-for .before .before .before in
     let args = at-shared-slice-known .before .args in
-    head-filled (headBy (args .whole) (now (args .message))) (now (args .config)) (now (args .message)) _ (args .writer) _ (now (args .head)) _ _ (at-shared-slice-known .shared-slice-known .given)
+    let reading : List ℕ → Answer (Valid Message) = headBy (args .whole) (now (args .message)) in
+    head-filled reading (now (args .config)) (now (args .message)) _ (args .writer) _ (now (args .head)) _ _ (at-shared-slice-known .shared-slice-known .given)
     (at-shared-slice-known .before .good .0 .0) (at-types-for .types-for .ensures)
     (told answerMessage (at-read-up-to .read-up-to .ensures) (at-h .h .given .1))
     (fill-done _ (now (args .head)) _ _ _ 160 _
-    (head-read (headBy (args .whole) (now (args .message))) (now (args .config)) _ (args .writer) _ (at-types-for .types-for .ensures) (told answerMessage (at-read-up-to .read-up-to .ensures) (at-h .h .given .1)))
+    (head-read reading (now (args .config)) _ (args .writer) _ (at-types-for .types-for .ensures) (told answerMessage (at-read-up-to .read-up-to .ensures) (at-h .h .given .1)))
     (bytes-length (headNumbers (valid (record { header = at-h .h .given .0 .0; cursor = at-h .h .given .0 .1 .0; end = at-h .h .given .0 .1 .1 .0 }))))
     (omega arith) (c .result5 .ensures) (at-put-head .put-head .ensures .0))
     (at-put-head .put-head .ensures .1)
