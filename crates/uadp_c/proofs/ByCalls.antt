@@ -8,7 +8,7 @@ use mathlib.Core.List.{List, [], _∷_}
 use native.Mathlib.Numerals.{add-one}
 use native.Mathlib.Nat.{add-zero}
 use native.Mathlib.Omega.{arith}
-use borrow.Author.Tests.{le-ltb, lt-leb, leb-false, ltb-false}
+use borrow.Author.Tests.{le-ltb, lt-leb, leb-true, leb-false, ltb-true, ltb-false}
 use lib.Dec.{leb, ltb, eqb}
 use lib.ListN.{length}
 use Rattle.wire.specs.Number.{leBytes}
@@ -28,7 +28,7 @@ use Rattle.dataset_fields.specs.declared.fields.Field.{Field}
 use Rattle.dataset_fields.proofs.Inside.{field-inside}
 use Rattle.dataset_fields.proofs.Walks.{fields-done, fields-step, fields-stop}
 use Rattle.dataset_fields.specs.declared.fields.Cursor.{Cursor}
-use Rattle.dataset_message.specs.Message.{Message, countedAt, countAt, openedAt, afterHeader, afterHeaderBy, messageAt, frontAt, endedAt}
+use Rattle.dataset_message.specs.Message.{Message, countedAt, countAt, openedAt, afterHeaderBy, messageAt, frontAt, endedAt}
 use Rattle.dataset_message.proofs.Fronts.{restAt, front-then, front-first}
 use Rattle.dataset_message.proofs.Agreement.{message-agrees, message-read, walk-ends}
 use Rattle.records.specs.Numbers.{numberBytes}
@@ -39,7 +39,7 @@ use Rattle.records.proofs.ReadBack.{laid-length}
 use Rattle.message_record.specs.Message.{cursorIn, cursorLaid, headerIn, headFits, headNumbers, fieldNumbers, HeadBack}
 use Rattle.message_record.proofs.Back.{cursor-moved, header-stays}
 use Rattle.uadp_c.specs.Fields.{stepResult, headAfter, fieldAfter, endResult}
-use Rattle.uadp_c.specs.ByCalls.{AllLong, HeadRead, FieldCall, fieldCall, fieldStep, NextField, FieldCalls, lastHead, FieldTold, FieldsTold, FieldsByCalls, HeadOpened, StepOf, field, last, fault, EndOf, left, ended, OpenedByCalls}
+use Rattle.uadp_c.specs.ByCalls.{AllLong, HeadRead, FieldCall, fieldCall, fieldStep, NextField, FieldCalls, lastHead, FieldTold, FieldsTold, FieldsByCalls, HeadOpened, StepOf, field, fault, last, EndOf, left, ended, over, OpenedByCalls}
 
 -- ---- the first field of an accepted message starts within its bytes
 
@@ -55,27 +55,47 @@ count-inside Kind.Delta raw types s at n first b l e = counted-inside false type
 count-inside Kind.Event raw types s at n first b l e = counted-inside raw types s at n first b l e
 count-inside Kind.KeepAlive raw types s at n first b l e = omega (arith, got-next e)
 
-after-header : (v : Valid Header) (types s : List ℕ) (at : ℕ) (m : Message) (e : ℕ) → Bytes s → messageHeaderAt s 0 ≡ got v at → afterHeader v types s at ≡ got (valid m) e
+front-after : (v : Valid Header) (types s : List ℕ) (at : ℕ) (m : Message) (e : ℕ) → Bytes s → messageHeaderAt s 0 ≡ got v at → afterHeaderBy openedAt v types s at ≡ got (valid m) e
     → m .cursor .at ≤ length s
-after-header notValid types s at m e b p q =
+front-after notValid types s at m e b p q =
     let v : _≡_ {A = Valid Message} notValid (valid m) = got-value q in
     let z : _≡_ {A = ℕ} 0 1 = cc in
     absurd (omega arith)
-after-header (valid h) types s at m e b p q =
+front-after (valid h) types s at m e b p q =
     let l = header-back s h at b p .fits in
     let c = invert (countAt (h .kind) (isRaw (h .encoding)) types s at) (λ n first. _) q in
     let o = count-inside (h .kind) (isRaw (h .encoding)) types s at (c .0) (c .1) b l (c .2) in
     let k : Cursor = record { encoding = h .encoding; delta = isDelta (h .kind); next = 0; count = c .0; at = c .1 } in
-    let d = invert (fieldsAt (k .delta) (k .encoding) types (k .count) 0 s (k .at)) (λ _ n. _) (c .3) in
-    let f = invert (paddingAt s (d .1)) (λ _ y. _) (d .3) in
-    let v : valid (record { header = h; cursor = k; end = d .1 }) ≡ valid m = got-value (f .3) in
-    let n : _≡_ {A = Message} (record { header = h; cursor = k; end = d .1 }) m = cc in
+    let v : valid (record { header = h; cursor = k; end = c .1 }) ≡ valid m = got-value (c .3) in
+    let n : _≡_ {A = Message} (record { header = h; cursor = k; end = c .1 }) m = cc in
     subst (λ (x : Message). x .cursor .at ≤ length s) n o
+
+front-inside : (types s : List ℕ) (m : Message) (e : ℕ) → Bytes s → frontAt types s ≡ got (valid m) e → m .cursor .at ≤ length s
+front-inside types s m e b q =
+    let a = invert (messageHeaderAt s 0) (λ v at. afterHeaderBy openedAt v types s at) q in
+    front-after (a .0) types s (a .1) m e b (a .2) (a .3)
+
+-- the header and the cursor of a message are those of its front
+front-of : (types s : List ℕ) (v : Valid Message) (m : Message) (e : ℕ) → restAt v types s ≡ got (valid m) e
+    → (o : Message) × (v ≡ valid o) × (o .header ≡ m .header) × (o .cursor ≡ m .cursor)
+front-of types s notValid m e p =
+    let v : _≡_ {A = Valid Message} notValid (valid m) = got-value p in
+    let z : _≡_ {A = ℕ} 0 1 = cc in
+    absurd (omega arith)
+front-of types s (valid o) m e p =
+    let c = o .cursor in
+    let a = invert (fieldsAt (c .delta) (c .encoding) types (c .count) 0 s (c .at)) (λ _ k. _) p in
+    let b = invert (paddingAt s (a .1)) (λ _ y. _) (a .3) in
+    let v : valid (record { header = o .header; cursor = c; end = a .1 }) ≡ valid m = got-value (b .3) in
+    let x : _≡_ {A = Message} (record { header = o .header; cursor = c; end = a .1 }) m = cc in
+    (o, refl, ap (λ (y : Message). y .header) x, ap (λ (y : Message). y .cursor) x)
 
 start-inside : (types s : List ℕ) (m : Message) (e : ℕ) → Bytes s → messageAt types s ≡ got (valid m) e → m .cursor .at ≤ length s
 start-inside types s m e b q =
-    let a = invert (messageHeaderAt s 0) (λ v at. afterHeader v types s at) q in
-    after-header (a .0) types s (a .1) m e b (a .2) (a .3)
+    let a = invert (frontAt types s) (λ v _. restAt v types s) (sym (front-then types s) ∙ q) in
+    let o = front-of types s (a .0) m e (a .3) in
+    let front : frontAt types s ≡ got (valid (o .0)) (a .1) = a .2 ∙ ap (λ (v : Valid Message). got v (a .1)) (o .1) in
+    subst (λ (c : Cursor). c .at ≤ length s) (o .3) (front-inside types s (o .0) (a .1) b front)
 
 none-passed : (c : Cursor) (types s : List ℕ) → fieldsAt (c .delta) (c .encoding) types 0 0 s (c .at) ≡ got tt (c .at)
 unfolding fieldsAt
@@ -225,26 +245,6 @@ module _ (s config : List ℕ) (writer : ℕ) (m : Message) (e : ℕ) (entry : L
 
 -- ---- a message that is opened: its front is read, and each field by the step that meets it
 
-front-after : (v : Valid Header) (types s : List ℕ) (at : ℕ) (m : Message) (e : ℕ) → Bytes s → messageHeaderAt s 0 ≡ got v at → afterHeaderBy openedAt v types s at ≡ got (valid m) e
-    → m .cursor .at ≤ length s
-front-after notValid types s at m e b p q =
-    let v : _≡_ {A = Valid Message} notValid (valid m) = got-value q in
-    let z : _≡_ {A = ℕ} 0 1 = cc in
-    absurd (omega arith)
-front-after (valid h) types s at m e b p q =
-    let l = header-back s h at b p .fits in
-    let c = invert (countAt (h .kind) (isRaw (h .encoding)) types s at) (λ n first. _) q in
-    let o = count-inside (h .kind) (isRaw (h .encoding)) types s at (c .0) (c .1) b l (c .2) in
-    let k : Cursor = record { encoding = h .encoding; delta = isDelta (h .kind); next = 0; count = c .0; at = c .1 } in
-    let v : valid (record { header = h; cursor = k; end = c .1 }) ≡ valid m = got-value (c .3) in
-    let n : _≡_ {A = Message} (record { header = h; cursor = k; end = c .1 }) m = cc in
-    subst (λ (x : Message). x .cursor .at ≤ length s) n o
-
-front-inside : (types s : List ℕ) (m : Message) (e : ℕ) → Bytes s → frontAt types s ≡ got (valid m) e → m .cursor .at ≤ length s
-front-inside types s m e b q =
-    let a = invert (messageHeaderAt s 0) (λ v at. afterHeaderBy openedAt v types s at) q in
-    front-after (a .0) types s (a .1) m e b (a .2) (a .3)
-
 module _ (s config : List ℕ) (writer : ℕ) (m : Message) (n : ℕ) (q : frontAt (typesFor config writer) s ≡ got (valid m) n) (small : length s < 256 ^ 8)
     (counted : m .cursor .count < 256 ^ 8) where
   abbrev kinds : List ℕ
@@ -273,9 +273,16 @@ module _ (s config : List ℕ) (writer : ℕ) (m : Message) (n : ℕ) (q : front
     decides : whole ≡ after (left-from k p)
     inside : p ≤ length s
 
+  -- whether a field is left, by the record
+  before-last : (k p : ℕ) (h : List ℕ) → Before k p h → k < d .count → cursorIn h .next < cursorIn h .count
+  before-last k p h w l = subst (λ (z : Cursor). z .next < z .count) (sym (w .cursor)) l
+
+  after-all : (k p : ℕ) (h : List ℕ) → Before k p h → d .count ≤ k → cursorIn h .count ≤ cursorIn h .next
+  after-all k p h w l = subst (λ (z : Cursor). z .count ≤ z .next) (sym (w .cursor)) l
+
   -- what a call answers, and where the head record stands then
-  abbrev Goes : FieldCall → Type 0
-  Goes a = StepOf whole (a .result) × ((k : ℕ) × (p : ℕ) × Before k p (a .head))
+  abbrev Goes : List ℕ → FieldCall → Type 0
+  Goes h a = StepOf whole h (a .result) × ((k : ℕ) × (p : ℕ) × Before k p (a .head))
 
   module _ (k p : ℕ) (h f : List ℕ) (a : FieldCall) (w : Before k p h) (lf : FIELD_SIZE ≤ length f) (y : NextField s config writer h f a) where
     stays : (number place : ℕ) → nextFieldAt (cursorBefore d k p) kinds s ≡ refused number place → (a .result ≡ resultOf number place) × Before k p (a .head)
@@ -284,7 +291,7 @@ module _ (s config : List ℕ) (writer : ℕ) (m : Message) (n : ℕ) (q : front
         let same : a .head ≡ h = y .head ∙ ap (λ (z : Answer FieldStepped). headAfter z h f) step in
         (y .result ∙ ap (λ (z : Answer FieldStepped). stepResult z h f) step, subst (λ (z : List ℕ). Before k p z) (sym same) w)
 
-    goes-on : (x : Answer Field) → k < d .count → fieldAt (d .delta) (d .encoding) kinds k s p ≡ x → Goes a
+    goes-on : (x : Answer Field) → k < d .count → fieldAt (d .delta) (d .encoding) kinds k s p ≡ x → Goes h a
     goes-on (got g e) l t =
         let i = field-inside (d .delta) (d .encoding) kinds k s p g e t in
         let x : FieldStepped = record { field = g; cursor = cursorBefore d (k + 1) e } in
@@ -303,7 +310,7 @@ module _ (s config : List ℕ) (writer : ℕ) (m : Message) (n : ℕ) (q : front
         let some : 0 < d .count - k = omega arith in
         let onward : left-from k p ≡ left-from (k + 1) e =
         fields-step (d .delta) (d .encoding) kinds s (d .count - k) k p e g some t ∙ ap (λ (j : ℕ). fieldsAt (d .delta) (d .encoding) kinds j (k + 1) s e) less in (
-          field (g .offset) (y .result ∙ ap (λ (z : Answer FieldStepped). stepResult z h f) step ∙ made .0),
+          field (g .offset) (before-last k p h w l) (y .result ∙ ap (λ (z : Answer FieldStepped). stepResult z h f) step ∙ made .0),
           (
             k + 1,
             e,
@@ -319,12 +326,12 @@ module _ (s config : List ℕ) (writer : ℕ) (m : Message) (n : ℕ) (q : front
         let some : 0 < d .count - k = omega arith in
         let stops : left-from k p ≡ refused number place = fields-stop (d .delta) (d .encoding) kinds s (d .count - k) k p number place some t in
         let r = stays number place (rw (le-ltb (length s) p (w .inside), lt-leb (d .count) k l, t)) in
-        (fault number place (w .decides ∙ ap after stops) (r .0), (k, p, r .1))
+        (fault number place (before-last k p h w l) (w .decides ∙ ap after stops) (r .0), (k, p, r .1))
 
-    goes : Goes a
+    goes : Goes h a
     goes =
         by-bool _ (leb (d .count) k)
-        (λ t. let r = stays 10 0 (rw (le-ltb (length s) p (w .inside), t)) in (last (r .0), (k, p, r .1)))
+        (λ t. let r = stays 10 0 (rw (le-ltb (length s) p (w .inside), t)) in (last (after-all k p h w (leb-true (d .count) k t)) (r .0), (k, p, r .1)))
         (λ t. goes-on (fieldAt (d .delta) (d .encoding) kinds k s p) (leb-false (d .count) k t) refl)
 
   -- any calls
@@ -345,20 +352,21 @@ module _ (s config : List ℕ) (writer : ℕ) (m : Message) (n : ℕ) (q : front
     result-by : {x : Answer (Unit {0})} → endedAt (cursorIn h) s ≡ x → endResult (endedAt (cursorIn h) s) h ≡ endResult x h
     result-by e = ap (λ (z : Answer (Unit {0})). endResult z h) e
 
-    ends-by : (x : Answer (Unit {0})) → d .count ≤ k → paddingAt s p ≡ x → EndOf whole (endResult (endedAt (cursorIn h) s) h)
+    ends-by : (x : Answer (Unit {0})) → d .count ≤ k → paddingAt s p ≡ x → EndOf whole h (endResult (endedAt (cursorIn h) s) h)
     ends-by (got u z) l t =
         let none : left-from k p ≡ got tt p = fields-done (d .delta) (d .encoding) kinds s (d .count - k) k p (omega arith) in
         let is : endedAt (cursorIn h) s ≡ got tt p = at-cursor ∙ rw (le-ltb (length s) p (w .inside), le-ltb k (d .count) l, t) in
-        ended (record { header = m .header; cursor = d; end = p }) (w .decides ∙ ap after none ∙ rw t) (result-by is ∙ rw (le-ltb (length h) HEAD_SIZE (w .long)))
+        ended (record { header = m .header; cursor = d; end = p }) (after-all k p h w l) (w .decides ∙ ap after none ∙ rw t) (result-by is ∙ rw (le-ltb (length h) HEAD_SIZE (w .long)))
     ends-by (refused number place) l t =
         let none : left-from k p ≡ got tt p = fields-done (d .delta) (d .encoding) kinds s (d .count - k) k p (omega arith) in
         let is : endedAt (cursorIn h) s ≡ refused number place = at-cursor ∙ rw (le-ltb (length s) p (w .inside), le-ltb k (d .count) l, t) in
-        fault number place (w .decides ∙ ap after none ∙ rw t) (result-by is)
+        over number place (after-all k p h w l) (w .decides ∙ ap after none ∙ rw t) (result-by is)
 
-    ends-so : EndOf whole (endResult (endedAt (cursorIn h) s) h)
+    ends-so : EndOf whole h (endResult (endedAt (cursorIn h) s) h)
     ends-so =
         by-bool _ (ltb k (d .count))
-        (λ t. let is : endedAt (cursorIn h) s ≡ refused 6 p = at-cursor ∙ rw (le-ltb (length s) p (w .inside), t) in left p (result-by is))
+        (λ t. let is : endedAt (cursorIn h) s ≡ refused 6 p = at-cursor ∙ rw (le-ltb (length s) p (w .inside), t) in
+        left (before-last k p h w (ltb-true k (d .count) t)) (result-by is ∙ ap (λ (z : Cursor). resultOf 6 (z .at)) (sym (w .cursor))))
         (λ t. ends-by (paddingAt s p) (ltb-false k (d .count) t) refl)
 
   opens : (h : List ℕ) → Bytes s → HEAD_SIZE ≤ length h → HeadBack h m → Before 0 (d .at) h
@@ -387,23 +395,8 @@ opened-by-calls s config writer m n entry r head q l w =
           goes s config writer m n q (w .size) counted (o .0) (o .1) (lastHead head ys) g a (o .2) lg t .0;
       ends = λ fs ys longs y result t.
           let o = many s config writer m n q (w .size) counted fs ys 0 (m .cursor .at) head longs start y in
-          subst (λ (z : ℕ). EndOf (messageAt (typesFor config writer) s) z) (sym t) (ends-so s config writer m n q (w .size) counted (o .0) (o .1) (lastHead head ys) (o .2));
+          subst (λ (z : ℕ). EndOf (messageAt (typesFor config writer) s) (lastHead head ys) z) (sym t) (ends-so s config writer m n q (w .size) counted (o .0) (o .1) (lastHead head ys) (o .2));
     }
-
--- the header and the cursor of a message are those of its front
-front-of : (types s : List ℕ) (v : Valid Message) (m : Message) (e : ℕ) → restAt v types s ≡ got (valid m) e
-    → (o : Message) × (v ≡ valid o) × (o .header ≡ m .header) × (o .cursor ≡ m .cursor)
-front-of types s notValid m e p =
-    let v : _≡_ {A = Valid Message} notValid (valid m) = got-value p in
-    let z : _≡_ {A = ℕ} 0 1 = cc in
-    absurd (omega arith)
-front-of types s (valid o) m e p =
-    let c = o .cursor in
-    let a = invert (fieldsAt (c .delta) (c .encoding) types (c .count) 0 s (c .at)) (λ _ k. _) p in
-    let b = invert (paddingAt s (a .1)) (λ _ y. _) (a .3) in
-    let v : valid (record { header = o .header; cursor = c; end = a .1 }) ≡ valid m = got-value (b .3) in
-    let x : _≡_ {A = Message} (record { header = o .header; cursor = c; end = a .1 }) m = cc in
-    (o, refl, ap (λ (y : Message). y .header) x, ap (λ (y : Message). y .cursor) x)
 
 -- of an accepted message the calls tell what they tell where it was read whole
 pub opened-fields : (s config : List ℕ) (writer : ℕ) (m : Message) (e : ℕ) (entry : List ℕ) (r : ℕ) (head : List ℕ)

@@ -119,29 +119,30 @@ pub record FieldsByCalls (s config : List ℕ) (writer : ℕ) (m : Message) (hea
 
 -- ---- a message that is opened
 
--- what a step answers on the head record of an opened message: a field's offset; 10 after the last field; or, of a field with a fault, what
--- reading the message answers
-pub data StepOf (read : Answer (Valid Message)) (result : ℕ) : Type 0 where
-  field : (offset : ℕ) → result ≡ resultOf 0 offset → StepOf read result
-  last : result ≡ resultOf OVER_LIMIT 0 → StepOf read result
-  fault : (n place : ℕ) → read ≡ refused n place → result ≡ resultOf n place → StepOf read result
+-- what a step answers on the head record h of an opened message: where a field is left its offset or, where it has a fault, what reading
+-- the message answers; 10 where none is left
+pub data StepOf (read : Answer (Valid Message)) (h : List ℕ) (result : ℕ) : Type 0 where
+  field : (offset : ℕ) → cursorIn h .next < cursorIn h .count → result ≡ resultOf 0 offset → StepOf read h result
+  fault : (n place : ℕ) → cursorIn h .next < cursorIn h .count → read ≡ refused n place → result ≡ resultOf n place → StepOf read h result
+  last : cursorIn h .count ≤ cursorIn h .next → result ≡ resultOf OVER_LIMIT 0 → StepOf read h result
 
--- what `uadp_end_message` answers there: 6 where a field is left, else what reading the message answers: where its last field ends, or its
--- fault
-pub data EndOf (read : Answer (Valid Message)) (result : ℕ) : Type 0 where
-  left : (place : ℕ) → result ≡ resultOf DISAGREE place → EndOf read result
-  ended : (m : Message) → read ≡ got (valid m) (m .end) → result ≡ resultOf 0 (m .end) → EndOf read result
-  fault : (n place : ℕ) → read ≡ refused n place → result ≡ resultOf n place → EndOf read result
+-- what `uadp_end_message` answers there: 6 at the cursor's byte where a field is left, else what reading the message answers: where its
+-- last field ends, or its fault
+pub data EndOf (read : Answer (Valid Message)) (h : List ℕ) (result : ℕ) : Type 0 where
+  left : cursorIn h .next < cursorIn h .count → result ≡ resultOf DISAGREE (cursorIn h .at) → EndOf read h result
+  ended : (m : Message) → cursorIn h .count ≤ cursorIn h .next → read ≡ got (valid m) (m .end) → result ≡ resultOf 0 (m .end)
+      → EndOf read h result
+  over : (n place : ℕ) → cursorIn h .count ≤ cursorIn h .next → read ≡ refused n place → result ≡ resultOf n place → EndOf read h result
 
 -- What is claimed of the head record `head` of an opened valid message: after any calls of `uadp_next_field`, whatever they answered, a
 -- further one, and `uadp_end_message`, answer as reading the whole message would.
 pub record OpenedByCalls (s config : List ℕ) (writer : ℕ) (head : List ℕ) : Type 0 where
   pub steps : (fs : List (List ℕ)) (ys : List FieldCall) → AllLong FIELD_SIZE fs → FieldCalls s config writer fs head ys
       → (f : List ℕ) (a : FieldCall) → FIELD_SIZE ≤ length f → NextField s config writer (lastHead head ys) f a
-      → StepOf (messageAt (typesFor config writer) s) (a .result)
+      → StepOf (messageAt (typesFor config writer) s) (lastHead head ys) (a .result)
   pub ends : (fs : List (List ℕ)) (ys : List FieldCall) → AllLong FIELD_SIZE fs → FieldCalls s config writer fs head ys
       → (result : ℕ) → result ≡ endResult (endedAt (cursorIn (lastHead head ys)) s) (lastHead head ys)
-      → EndOf (messageAt (typesFor config writer) s) result
+      → EndOf (messageAt (typesFor config writer) s) (lastHead head ys) result
 
 -- ---- a datagram's messages
 
