@@ -1,7 +1,7 @@
 -- Demand 1 holds: each field by the theorem that proves it. Assumes nothing.
 use Prim.Native.Nat.{ℕ, zero, suc, ◌+◌, ◌*◌, ◌%◌, ◌≤◌, ◌<◌}
 use mathlib.Core.Path.{◌≡◌, refl, sym, subst, ap}
-use mathlib.Core.Bool.{Bool, true, false, cond, false≢true}
+use mathlib.Core.Bool.{Bool, true, false, false≢true}
 use mathlib.Core.List.{List, [], ◌∷◌}
 use mathlib.Core.Logic.{◌⊎◌, inl, inr}
 use native.Mathlib.Nat.{zero-add}
@@ -48,7 +48,7 @@ use Rattle.uadp_c.specs.Probes.{item_result, probe_after, item_after}
 use Rattle.uadp_c.specs.Sequence.{newness_number, newness_result, newness_after}
 use Rattle.uadp_c.specs.Walks.{walk_result}
 use Rattle.uadp_c.specs.Writing.{writer_result, output_result}
-use Rattle.acceptance.specs.Refusals.{Refusal, StepRefusal, datagram_refusals, value_refusals, field_step_refusals, field_refusals, end_refusals, cut_refusals}
+use Rattle.acceptance.specs.Refusals.{Refusal, datagram_refusals, value_refusals, field_step_refusals, field_refusals, end_refusals, cut_refusals}
 use Rattle.acceptance.specs.Demand1.{Demand1, IsRefused}
 use Rattle.acceptance.proofs.Refusals.{Tells, told, wider, no_place, cond_tells, then_tells, run_lawful}
 use Rattle.acceptance.proofs.Refusals.Tells.{gives, refuses}

@@ -3,8 +3,6 @@ use Prim.Native.Nat.{ℕ, ◌≤◌}
 use mathlib.Core.Path.{◌≡◌, ap, sym, subst, ◌∙◌}
 use mathlib.Core.List.{List}
 use lib.ListN.{length}
-use Rattle.wire.specs.Answer.{refused}
-use Rattle.reassembly.specs.Reading.Reading.{chunk}
 use Rattle.marks.proofs.MarkLaws.{layout_laws}
 use Rattle.reassembly_laws.proofs.Demand3 as laws
 use Rattle.reassembly_laws.proofs.Equality as Equality

@@ -18,5 +18,6 @@ use Rattle.acceptance.specs.Edges.{table, AllHold}
 -- Every entry of the table holds.
 pub edge_readings : AllHold table
 unfolding width_of plain variant_rule array value_at or_else overlaid data_view clash full marks_for capacity marked mark_at
-    cleared mark_all marked_view same_text same_publisher publisher_fits same_origin same_message sound_by count_marked new_marks reading_at judge_reading put take_in ask_complete judge_hand_out hand_out
+    cleared mark_all marked_view same_text same_publisher publisher_fits same_origin same_message sound_by count_marked new_marks reading_at judge_reading put take_in
+    ask_complete judge_hand_out hand_out
 edge_readings = (refl, (refl, (refl, (refl, (refl, (refl, (refl, (refl, (refl, (refl, (refl, (refl, tt))))))))))))

@@ -1,6 +1,6 @@
 -- The fields of an accepted DataSetMessage tile it.
 -- Assumes nothing.
-use Prim.Native.Nat.{ℕ, zero, ◌+◌, ◌-◌, ◌≤◌, ◌<◌}
+use Prim.Native.Nat.{ℕ, ◌+◌, ◌-◌, ◌≤◌, ◌<◌}
 use mathlib.Core.Path.{◌≡◌, refl, sym, ap, subst, ◌∙◌}
 use mathlib.Core.Bool.{Bool, true, false, cond}
 use mathlib.Core.List.{List}
@@ -14,7 +14,7 @@ use Rattle.wire.proofs.Reading.{got_value, got_next, not_got, invert}
 use Rattle.wire.proofs.Cases.{by_bool}
 use Rattle.dataset_header.specs.Flags.{valid}
 use Rattle.dataset_header.specs.declared.flags.Encoding.{Encoding}
-use Rattle.dataset_fields.specs.Fields.{index_at, encoded_at, field_at, fields_at, zeros}
+use Rattle.dataset_fields.specs.Fields.{index_at, encoded_at, field_at, fields_at}
 use Rattle.dataset_fields.specs.declared.fields.Field.{Field}
 use Rattle.dataset_fields.proofs.FieldsTrip.{zeros_back}
 use Rattle.dataset_message.specs.Message.{Message, message_at}

@@ -80,9 +80,9 @@ meant text h =
     let c = (config_of text).config in
     let few = le-ltb MOST_WRITERS c.writers (config_within text).0 in
     record {
-      ids = rw few l.ids-are;
-      sizes = rw few l.sizes-are;
-      types = λ id. rw (few, l.ids-are, l.starts-are, l.types_are) (by-id id);
+      ids = rw few l.ids_are;
+      sizes = rw few l.sizes_are;
+      types = λ id. rw (few, l.ids_are, l.starts_are, l.types_are) (by-id id);
     }
 
 pub program : Program

@@ -11,7 +11,7 @@ use Rattle.wire.specs.Answer.{Answer, got, refused}
 use Rattle.chunk.specs.Datagram.{chunk_at}
 use Rattle.chunk.specs.declared.datagram.ChunkPlace.{ChunkPlace}
 use Rattle.reassembly.specs.Reading.{reading_by, reading_at}
-use Rattle.reassembly.specs.Reading.Reading.{chunk, refusal}
+use Rattle.reassembly.specs.Reading.Reading.{refusal}
 use Rattle.reassembly.specs.Machine.{Call}
 use Rattle.reassembly.specs.Machine.Call.{Empty, Take, Combine, Ask, HandOut}
 use Rattle.reassembly_laws.specs.Refusing.{ByNumber, MayRefuse}

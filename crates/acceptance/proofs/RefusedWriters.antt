@@ -222,7 +222,8 @@ missing_number : (types : List ℕ) (padding : ℕ) → Number for_messages (mis
 unfolding missing_refusal
 missing_number [] padding = inl refl
 missing_number (t ∷ types) padding =
-    either for_messages (fixed t) _ 4 (either for_messages (leb (width_of t) padding) (missing_refusal types (padding - width_of t)) 1 (missing_number types (padding - width_of t)) (inr refl)) (inr refl)
+    either for_messages (fixed t) _ 4
+    (either for_messages (leb (width_of t) padding) (missing_refusal types (padding - width_of t)) 1 (missing_number types (padding - width_of t)) (inr refl)) (inr refl)
 
 zeros_number : (n : ℕ) (s : List ℕ) (at : ℕ) → Number for_messages (number_of (zeros_at n s at))
 unfolding zeros_at

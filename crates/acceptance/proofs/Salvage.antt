@@ -1,6 +1,6 @@
 -- Salvaging: a value of specs/Salvage.antt.
 -- Assumes nothing.
-use Prim.Native.Nat.{ℕ, zero, ◌+◌, ◌-◌, ◌/◌, ◌≤◌, ◌<◌, ◌%◌}
+use Prim.Native.Nat.{ℕ, ◌+◌, ◌/◌, ◌≤◌, ◌<◌, ◌%◌}
 use mathlib.Core.Path.{◌≡◌, refl, sym, ap, subst, ◌∙◌}
 use mathlib.Core.Bool.{Bool, true, false, cond, not, ◌&&◌, ◌||◌, false≢true}
 use mathlib.Core.Option.{Option, some, none}
@@ -13,7 +13,7 @@ use lib.Dec.{leb, ltb, eqb}
 use lib.ListN.{length, get_or, take}
 use lib.Seq.{length-take-le, get_or-take}
 use Rattle.wire.proofs.Cases.{by_lt}
-use Rattle.wire.proofs.Steady.{Part, Fronts}
+use Rattle.wire.proofs.Steady.{Fronts}
 use Rattle.wire.specs.Constants.{NO_ROOM}
 use Rattle.wire_writer.specs.Store.{laid}
 use Rattle.records.specs.Numbers.{number_bytes}

@@ -67,14 +67,16 @@ pub record Demand1 : Type 0 where
   -- ---- "Every refusal .. returns the number and a place: the first byte of the offending item; the line from 1 for number 16; 0 for 8 and
   -- 10 to 15. Places count from the read slice's start".
   -- Of a datagram, of a DataSetMessage and of a chunk.
-  pub datagram : (sizes s : List ℕ) (n place : ℕ) → network_message_at sizes s ≡ refused n place → Refusal datagram_refusals n place (length s)
+  pub datagram : (sizes s : List ℕ) (n place : ℕ) → network_message_at sizes s ≡ refused n place
+      → Refusal datagram_refusals n place (length s)
   pub message : (types s : List ℕ) (n place : ℕ) → message_at types s ≡ refused n place → Refusal message_refusals n place (length s)
   pub chunk : (sizes s : List ℕ) (n place : ℕ) → chunk_at sizes s ≡ refused n place → Refusal chunk_refusals n place (length s)
   -- Of a probe's datagram, where only a probe is asked for.
   pub probe : (sizes s : List ℕ) (n place : ℕ) → probe_message_at sizes s ≡ refused n place → Refusal datagram_refusals n place (length s)
   -- Of a value measured at any position: a Variant, a DataValue, an element of RawData of any type.
   pub variant : (s : List ℕ) (at n place : ℕ) → variant_at s at ≡ refused n place → StepRefusal value_refusals n place (length s) at
-  pub data_value_lem : (s : List ℕ) (at n place : ℕ) → data_value_at s at ≡ refused n place → StepRefusal value_refusals n place (length s) at
+  pub data_value_lem : (s : List ℕ) (at n place : ℕ) → data_value_at s at ≡ refused n place
+      → StepRefusal value_refusals n place (length s) at
   pub raw : (t : ℕ) (s : List ℕ) (at n place : ℕ) → raw_at t s at ≡ refused n place → StepRefusal value_refusals n place (length s) at
   -- Of a configuration text: 16, and the line that breaks a rule, counted from 1.
   pub configuration : (text : List ℕ) → ((config_of text).number ≡ 0 → ⊥)
@@ -137,7 +139,8 @@ pub record Demand1 : Type 0 where
   -- Salvaging: "12, then the DataSetMessage's own numbers as far as the covered front shows them ..; last, no room 11". A place counts in
   -- the message.
   pub salvage : (rec payload marks config told list : List ℕ) (n place : ℕ)
-      → (salvage_lent rec payload marks config told list).answer ≡ Salvaged.Refused n place → Refusal salvage_refusals n place (length payload)
+      → (salvage_lent rec payload marks config told list).answer ≡ Salvaged.Refused n place
+      → Refusal salvage_refusals n place (length payload)
   -- uadp_config, uadp_read, uadp_read_message, uadp_open_message, uadp_field, uadp_value, uadp_element, uadp_chunk, uadp_probe: what is
   -- read fills one record.
   pub lent_filling : (read : Answer Filling) (out : List ℕ) → IsRefused (result_in read out) → filled_in read out ≡ out

@@ -79,7 +79,8 @@ pub record Demand3 : Type 0 where
       → take_in s (reading_at sizes d) ≡ combine s (chunk_alone s.layout (room_of s) m at data_of)
   -- With any other partial that is the chunk alone, the answer and the bytes of both areas are the same, and the results are equal.
   pub take_in_as_combine : (sizes d : List ℕ) (m : Message) (at : ℕ) (data_of : List ℕ) → reading_at sizes d ≡ chunk m at data_of
-      → (s f : Partial) → Good s → Good f → state_of f ≡ alone (reading_at sizes d) → AsPartial (take_in s (reading_at sizes d)) (combine s f)
+      → (s f : Partial) → Good s → Good f → state_of f ≡ alone (reading_at sizes d)
+      → AsPartial (take_in s (reading_at sizes d)) (combine s f)
   -- ---- All chunks of a payload p, taken in in any order and some more than once, are accepted, complete it, and hand p out: datagrams
   -- that read as its chunks, and datagrams of one publisher and writer whose payloads are what cutting wrote.
   pub chunks_restore : (id : Identity) (p : List ℕ) (size : ℕ) (l : List Arrival) → AllArrive id p size (IsChunk id p size) l

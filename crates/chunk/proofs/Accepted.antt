@@ -9,7 +9,7 @@ use lib.Dec.{leb, ltb, eqb}
 use lib.ListN.{length, drop, length-drop}
 use lib.Seq.{length-take-le}
 use borrow.Author.Tests.{leb-false, ltb-false, eqb-true, eqb-false}
-use Rattle.wire.specs.Answer.{got, refused, Reader, item, run, refuse, here, pure, and_then, ◌>>=◌, ◌>>◌}
+use Rattle.wire.specs.Answer.{got, refused, Reader, item, run, refuse, here, pure, and_then, ◌>>=◌}
 use Rattle.wire.specs.Items.{length_item}
 use Rattle.wire.specs.declared.Length.{Length}
 use Rattle.wire.proofs.Reading.{got_value, not_got, invert}

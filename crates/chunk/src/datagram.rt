@@ -13,7 +13,7 @@ use wire::optional::Optional16;
 use wire::part::part;
 
 // Whose chunk it is, where a string PublisherId ends, its WriterGroupId where it has one, and the chunk's payload.
-#[derive(Drop)]
+#[derive(Clone, Copy)]
 pub struct ChunkPlace {
     pub publisher: PublisherId,
     pub publisher_end: usize,
@@ -23,7 +23,7 @@ pub struct ChunkPlace {
 }
 
 // A chunk's message and where its payload stands, with the datagram's end; or the number and place of its refusal.
-#[derive(Drop)]
+#[derive(Clone, Copy)]
 pub enum ChunkRead {
     Is(ChunkPlace, usize),
     Refused(u8, usize),

@@ -6,7 +6,7 @@ use wire::constants::{BAD_LENGTH, CUT_SHORT, DISAGREE, LEFT_OVER, MOST_TOTAL, OV
 use wire::{Item16, Item32, ItemLength, Run};
 
 // The numbers of a chunk, and where its data stands.
-#[derive(Drop)]
+#[derive(Clone, Copy)]
 pub struct ChunkPayload {
     pub number: u16,
     pub offset: usize,
@@ -16,27 +16,27 @@ pub struct ChunkPayload {
 }
 
 // A chunk's numbers and where its data stands, with the payload's end; or the number and place of its refusal.
-#[derive(Drop)]
+#[derive(Clone, Copy)]
 pub enum ChunkPayloadRead {
     Is(ChunkPayload, usize),
     Refused(u8, usize),
 }
 
 // A size that its rules permit.
-#[derive(Drop)]
+#[derive(Clone, Copy)]
 enum SizeRead {
     Is(usize, usize),
     Refused(u8, usize),
 }
 
 // Where data stands.
-#[derive(Drop)]
+#[derive(Clone, Copy)]
 pub struct ChunkData {
     first: usize,
     length: usize,
 }
 
-#[derive(Drop)]
+#[derive(Clone, Copy)]
 enum DataRead {
     Is(ChunkData, usize),
     Refused(u8, usize),

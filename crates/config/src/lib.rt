@@ -1,4 +1,6 @@
 // What a configuration says: the record, and the questions asked of its arrays, lent as slices. Any slices have an answer.
+#![tactic(auto)]
+
 ghost use Rattle.std.specs.Prelude.{◌≡◌, ◌≤◌, take, get_or};
 ghost use Rattle.text.specs.Words.{index_of, contains};
 ghost use Rattle.config.specs.Writers.{at_most, fields_of, fields_of_id, types_of, all_sized, sum_of_sizes, empty_config};
@@ -10,7 +12,7 @@ use wire::part::part;
 
 // The writers in order: each with its id, its size (0 where it has none) and how many fields stand before its own;
 // and the types of all fields. Only the first `writers` and the first `fields` entries say something.
-#[derive(Drop)]
+#[derive(Clone, Copy)]
 pub struct Config {
     pub writers: usize,
     pub fields: usize,

@@ -1,7 +1,7 @@
 -- One line of the text: its words, its decimals and its newline, found one after the other, say what the whole line says.
 -- Assumes nothing.
 use mathlib.Core.Path.{◌≡◌, refl, sym, ◌∙◌, ap}
-use mathlib.Core.Bool.{Bool, true, false, cond, ◌&&◌, false≢true, and_true}
+use mathlib.Core.Bool.{Bool, true, false, cond, ◌&&◌, false≢true, and-true}
 use mathlib.Core.List.{List, [], ◌∷◌, ◌++◌}
 use mathlib.Core.Logic.{⊎_elim}
 use mathlib.Core.Option.{Option, none, some}
@@ -41,7 +41,7 @@ not_dash (b ∷ c ∷ t) h n =
     (cases (eqb b 10))
   where
     no_45 : (u : Bool) → u && true ≡ false → u ≡ false
-    no_45 u e = sym (and_true u) ∙ e
+    no_45 u e = sym (and-true u) ∙ e
 
 -- a size that is not `-`
 module _ (s : List ℕ) (at : ℕ) (h : starts_with (drop at s) dash ≡ false) where

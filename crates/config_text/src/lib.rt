@@ -1,4 +1,6 @@
 // The text of a configuration (document 01, "Configuration and listing"), read into the record.
+#![tactic(auto)]
+
 mod line;
 
 ghost use Rattle.std.specs.Prelude.{◌≡◌, ◌≤◌};
@@ -10,7 +12,7 @@ use config::{Config, empty, first, has_writer};
 use wire::constants::{BAD_LINE, MOST_FIELDS, MOST_WRITERS};
 
 // Number 0 and the configuration; or 16, the line from 1 and the empty configuration.
-#[derive(Drop)]
+#[derive(Clone, Copy)]
 pub struct ConfigRead {
     pub number: u8,
     pub place: usize,

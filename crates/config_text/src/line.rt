@@ -7,7 +7,7 @@ use text::decimal::{Decimal, read_decimal};
 use text::words::starts_with;
 
 // What a line says, and the position after its newline.
-#[derive(Drop)]
+#[derive(Clone, Copy)]
 pub enum Line {
     // id, and size (0 for `-`)
     Writer(u16, u16, usize),

@@ -154,7 +154,8 @@ module _ (delta : Bool) (encoding : Encoding) (types : List ℕ) where
       }
   nth_is (suc j) (v ∷ vs) k indices f w l s m a =
       let h = head_is k indices v vs f w s m a in
-      let r = nth_is j vs (k + 1) (drop 1 indices) (tail_fits indices f) (tail_whole k v vs w) (omega arith) s (m + length (index_bytes delta (get_or indices 0 0) ++ v)) (tail_at indices v vs s m a) in
+      let r = nth_is j vs (k + 1) (drop 1 indices) (tail_fits indices f) (tail_whole k v vs w) (omega arith) s
+      (m + length (index_bytes delta (get_or indices 0 0) ++ v)) (tail_at indices v vs s m a) in
       let e : k + 1 + j ≡ k + suc j = omega arith in
       let d : get_or (drop 1 indices) j 0 ≡ get_or indices (suc j) 0 = get_or-drop 1 indices j 0 ∙ ap (λ (n : ℕ). get_or indices n 0) (omega arith) in
       record {
@@ -194,7 +195,8 @@ index_back false k s at i o bytes l h = (subst (λ (n : ℕ). Back s at [] n) (g
 
 -- its bytes alone are a whole value
 pub field_alone : (delta : Bool) (encoding : Encoding) (types : List ℕ) (k : ℕ) (s : List ℕ) (at : ℕ) (f : Field) (end : ℕ)
-    → field_at delta encoding types k s at ≡ got f end → (m : Measure) × (encoded_at encoding types k (field_bytes_of s f) 0 ≡ got m (length (field_bytes_of s f))) × (length (field_bytes_of s f) ≡ f.length)
+    → field_at delta encoding types k s at ≡ got f end → (m : Measure) × (encoded_at encoding types k (field_bytes_of s f) 0 ≡ got m (length (field_bytes_of s f)))
+    × (length (field_bytes_of s f) ≡ f.length)
 field_alone delta encoding types k s at f end h =
     let w = field_inside delta encoding types k s at f end h in
     let a = invert (index_at delta k s at) (λ i o. _) h in

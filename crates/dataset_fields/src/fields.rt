@@ -25,7 +25,7 @@ use wire_writer::store::{put_run, put16};
 
 // Where a field stands: its index (a delta's own), type number and shape, and its value's offset and length. Length and offset stand apart,
 // since the two words side by side would be loaded as one right after they were stored, which stalls.
-#[derive(Drop)]
+#[derive(Clone, Copy)]
 pub struct Field {
     pub length: usize,
     pub index: usize,
@@ -35,7 +35,7 @@ pub struct Field {
 }
 
 // A field with the position after it, or a refusal with its number and place.
-#[derive(Drop)]
+#[derive(Clone, Copy)]
 pub enum FieldRead {
     Is(Field, usize),
     Refused(u8, usize),
@@ -43,7 +43,7 @@ pub enum FieldRead {
 
 // A cursor over the fields: how they are encoded and whether each has an index of its own, which field is next of how many, and
 // the byte where it starts.
-#[derive(Drop)]
+#[derive(Clone, Copy)]
 pub struct Cursor {
     pub encoding: Encoding,
     pub delta: bool,
@@ -53,14 +53,14 @@ pub struct Cursor {
 }
 
 // A field with the cursor after it, or a refusal with its number and place.
-#[derive(Drop)]
+#[derive(Clone, Copy)]
 pub enum FieldStep {
     Is(Field, Cursor),
     Refused(u8, usize),
 }
 
 // A delta field's index with the position after it, or a refusal with its number and place.
-#[derive(Drop)]
+#[derive(Clone, Copy)]
 pub enum IndexRead {
     Is(usize, usize),
     Refused(u8, usize),

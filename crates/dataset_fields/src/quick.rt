@@ -45,7 +45,7 @@ pub fn raw_field(s: &[u8], delta: bool, types: &[u8], k: usize, at: usize) -> Fi
 pub const MANY: usize = 16;
 
 // How many fields stand one after the other, and where the last of them ends.
-#[derive(Drop)]
+#[derive(Clone, Copy)]
 pub struct Run {
     pub count: usize,
     pub end: usize,

@@ -74,7 +74,8 @@ message_flags_at s at =
     and_then (item 1 s at)
     (λ b next.
     cond (eqb (bits 0 1 b) 0) (got not_valid next)
-    (cond (eqb (flags1_rule b) 0) (and_then (flags2_at b s next) (λ f z. got (valid (message_flags_of b f)) z)) (refused (flags1_rule b) at)))
+    (cond (eqb (flags1_rule b) 0)
+    (and_then (flags2_at b s next) (λ f z. got (valid (message_flags_of b f)) z)) (refused (flags1_rule b) at)))
 
 abbrev pub answer_message_flags : FlagsRead → Answer (Valid Flags)
 answer_message_flags (FlagsRead.NotValid next) = got not_valid next

@@ -11,7 +11,7 @@ use wire_writer::store::put8;
 use wire_writer::writing::{announced, flag, is_on_i64, is_on16, is_on32, put_flag_byte};
 
 // How the fields of a message are encoded.
-#[derive(Drop)]
+#[derive(Clone, Copy)]
 pub enum Encoding {
     Variant,
     RawData,
@@ -19,7 +19,7 @@ pub enum Encoding {
 }
 
 // What a message holds: all fields, those that changed, an event, or none.
-#[derive(Drop)]
+#[derive(Clone, Copy)]
 pub enum Kind {
     Key,
     Delta,
@@ -28,7 +28,7 @@ pub enum Kind {
 }
 
 // What the flag bytes say.
-#[derive(Drop)]
+#[derive(Clone, Copy)]
 pub struct Flags {
     pub encoding: Encoding,
     pub kind: Kind,
@@ -41,7 +41,7 @@ pub struct Flags {
 }
 
 // The flag bytes with the position after them, a message that is not valid, or a refusal with its number and place.
-#[derive(Drop)]
+#[derive(Clone, Copy)]
 pub enum FlagsRead {
     NotValid(usize),
     Is(Flags, usize),

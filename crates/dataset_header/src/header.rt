@@ -15,7 +15,7 @@ use wire_writer::writing::{
 };
 
 // The header of a message, with each item that its flags announce.
-#[derive(Drop)]
+#[derive(Clone, Copy)]
 pub struct Header {
     pub encoding: Encoding,
     pub kind: Kind,
@@ -28,7 +28,7 @@ pub struct Header {
 }
 
 // A header with the position after it, a message that is not valid, or a refusal with its number and place.
-#[derive(Drop)]
+#[derive(Clone, Copy)]
 pub enum HeaderRead {
     NotValid(usize),
     Is(Header, usize),
@@ -36,7 +36,7 @@ pub enum HeaderRead {
 }
 
 // The first items of a header.
-#[derive(Drop)]
+#[derive(Clone, Copy)]
 pub struct Times {
     pub sequence: Optional16,
     pub timestamp: OptionalI64,
@@ -44,14 +44,14 @@ pub struct Times {
 }
 
 // The first items with the position after them, or a refusal with its number and place.
-#[derive(Drop)]
+#[derive(Clone, Copy)]
 pub enum TimesRead {
     Is(Times, usize),
     Refused(u8, usize),
 }
 
 // The other items of a header.
-#[derive(Drop)]
+#[derive(Clone, Copy)]
 pub struct Versions {
     pub status: Optional16,
     pub major: Optional32,
@@ -59,7 +59,7 @@ pub struct Versions {
 }
 
 // The other items with the position after them, or a refusal with its number and place.
-#[derive(Drop)]
+#[derive(Clone, Copy)]
 pub enum VersionsRead {
     Is(Versions, usize),
     Refused(u8, usize),

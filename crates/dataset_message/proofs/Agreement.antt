@@ -1,6 +1,6 @@
 -- The walk with the cursor and the reading of the whole message agree, field by field; a field that is accepted is never empty.
 -- Assumes nothing.
-use Prim.Native.Nat.{ℕ, zero, suc, ◌+◌, ◌-◌, ◌≤◌, ◌<◌}
+use Prim.Native.Nat.{ℕ, zero, suc, ◌+◌, ◌≤◌, ◌<◌}
 use mathlib.Core.Path.{◌≡◌, refl, ap, sym, ◌∙◌}
 use mathlib.Core.Bool.{Bool, true, false}
 use mathlib.Core.List.{List}
@@ -39,7 +39,8 @@ module _ (delta : Bool) (encoding : Encoding) (types s : List ℕ) where
           omega arith in ap (λ (j : ℕ). and_then (fields_at delta encoding types n (k + 1) s r) (λ _ q. and_then (field_at delta encoding types j s q) (λ _ z. done z))) e
 
       go : (x : Answer Field) → ((r : ℕ)
-          → fields_at delta encoding types (suc n) (k + 1) s r ≡ and_then (fields_at delta encoding types n (k + 1) s r) (λ _ q. and_then (field_at delta encoding types (k + 1 + n) s q) (λ _ z. done z)))
+          → fields_at delta encoding types (suc n) (k + 1) s r ≡ and_then (fields_at delta encoding types n (k + 1) s r)
+          (λ _ q. and_then (field_at delta encoding types (k + 1 + n) s q) (λ _ z. done z)))
           → and_then x (λ _ r. fields_at delta encoding types (suc n) (k + 1) s r)
           ≡ and_then (and_then x (λ _ r. fields_at delta encoding types n (k + 1) s r)) (λ _ q. and_then (field_at delta encoding types (k + suc n) s q) (λ _ z. done z))
       go (got f r) ih = ih r ∙ same r

@@ -50,7 +50,8 @@ body_to end rest h types s at =
     and_then (count_to end h.kind (is_raw h.encoding) types s at)
     (λ n first. rest h (record { encoding = h.encoding; delta = is_delta h.kind; next = 0; count = n; at = first }) types s)
 
-abbrev pub after_header_to : ℕ → (Header → Cursor → List ℕ → List ℕ → Answer (Valid Message)) → Valid Header → List ℕ → Reader (Valid Message)
+abbrev pub after_header_to : ℕ → (Header → Cursor → List ℕ → List ℕ → Answer (Valid Message)) → Valid Header → List ℕ
+    → Reader (Valid Message)
 after_header_to end rest not_valid types s at = got not_valid 0
 after_header_to end rest (valid h) types s at = body_to end rest h types s at
 

@@ -1,4 +1,6 @@
 // DataSetMessages read whole, field k as a part of the lent bytes, and the writers, whole and again from their parts.
+#![tactic(auto)]
+
 pub mod message;
 pub mod rewrite;
 pub mod writer;

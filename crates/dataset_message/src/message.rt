@@ -13,7 +13,7 @@ use wire::{Item16, Reached};
 
 // A message that is not valid, or its header, the cursor before its first field, and where its last field ends; what follows is
 // padding.
-#[derive(Drop)]
+#[derive(Clone, Copy)]
 pub enum MessageRead {
     NotValid,
     Is(Header, Cursor, usize),
@@ -21,7 +21,7 @@ pub enum MessageRead {
 }
 
 // How many fields a message has, and where the first starts.
-#[derive(Drop)]
+#[derive(Clone, Copy)]
 pub enum CountRead {
     Is(usize, usize),
     Refused(u8, usize),

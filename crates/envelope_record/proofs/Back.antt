@@ -13,7 +13,6 @@ use lib.ListN.{length, get_or, drop}
 use Rattle.wire.specs.Answer.{bit, bits}
 use Rattle.wire.specs.Number.{le_bytes}
 use Rattle.wire_writer.specs.Store.{laid}
-use Rattle.wire_writer.specs.Writing.{on16}
 use Rattle.wire_writer.proofs.Trip.{At}
 use Rattle.network_header.specs.Group.{FitsFields, FitsGroup}
 use Rattle.network_header.specs.Header.{FitsClass}
@@ -25,11 +24,10 @@ use Rattle.network_header.specs.declared.header.PayloadHeader.{PayloadHeader}
 use Rattle.network_header.specs.declared.header.Promoted.{Promoted}
 use Rattle.network_message.specs.Envelope.{NetworkMessage}
 use Rattle.network_message.specs.declared.payload.Sizes.{Sizes}
-use Rattle.network_message.specs.declared.payload.Payload.{Payload}
 use Rattle.network_message.specs.declared.payload.MessageCursor.{MessageCursor}
 use Rattle.records.specs.Numbers.{number_at, number_bytes}
 use Rattle.records.specs.Items.{has16, value16, has32, value32, given16, given32, given_i64, fits_item, is_on}
-use Rattle.records.specs.Publisher.{publisher_number, publisher_given, publisher_number_fits}
+use Rattle.records.specs.Publisher.{publisher_given, publisher_number_fits}
 use Rattle.records.proofs.Storing.{bytes_length}
 use Rattle.records.proofs.ReadBack.{AllFit, number_read, stored_at, number_laid, number_kept, laid_length, publisher_given_back, publisher_number_fits_lem, number_fits, code_fits, flag_fits, at_most_same, given16_back, given32_back, given_i64_back, fits16_back, fits32_back, told16, told32, is_on16, is_on_i64, is_on_flag, has16_bound, has32_bound, has_i64_bound, value16_bound, value32_bound, value_i64_bound}
 use Rattle.envelope_record.specs.Envelope.{has_class, class_low, class_high, group_items, group_writer, group_version, group_number, group_sequence, header_code, header_number, has_promoted, promoted_size, sizes_code, sizes_place, envelope_numbers, sizes_by, payload_in, messages_in, messages_laid, class_in, group_in, payload_header_by, payload_header_in, payload_header_end, promoted_in, envelope_in, group_fits, header_fits, envelope_fits, FitsEnvelopeRecord, count_fits, EnvelopeBack}

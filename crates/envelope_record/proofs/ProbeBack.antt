@@ -2,7 +2,7 @@
 -- Assumes nothing.
 use Prim.Native.Nat.{ℕ, ◌^◌, ◌≤◌, ◌<◌}
 use mathlib.Core.Path.{◌≡◌, refl, ap, sym, subst, ◌∙◌}
-use mathlib.Core.Bool.{Bool, true, false, ◌&&◌}
+use mathlib.Core.Bool.{Bool, true, ◌&&◌}
 use mathlib.Core.List.{List, []}
 use native.Mathlib.Omega.{arith}
 use native.Mathlib.Nat.{zero-add}
@@ -152,7 +152,8 @@ module _ (p : Probe) (start : ℕ) (r : List ℕ) (f : FitsProbe p) (c : item_co
       let n6 = read 6 (omega arith) in
       let n7 = read 7 (omega arith) in
       let n8 = read 8 (omega arith) in
-      let whole : probe_in s ≡ probe_by (information_of p) (list_given (probe_null p) (item_count p)) (at_most 65535 (probe_group p)) (at_most 255 (include_groups p)) (at_most 255 (include_writers p)) =
+      let whole : probe_in s ≡ probe_by (information_of p) (list_given (probe_null p) (item_count p)) (at_most 65535 (probe_group p))
+      (at_most 255 (include_groups p)) (at_most 255 (include_writers p)) =
       λ i. probe_by (n0 i) (list_given (n1 i) (n2 i)) (at_most 65535 (n4 i)) (at_most 255 (n5 i)) (at_most 255 (n6 i)) in
       let type : information_refusal s ≡ information_rule (at_most 255 (information_of p)) = λ i. information_rule (at_most 255 (n0 i)) in
       let fitting : probe_fits s ≡ all_fit (information_of p) (probe_group p) (include_groups p) (include_writers p) = λ i. all_fit (n0 i) (n4 i) (n5 i) (n6 i) in

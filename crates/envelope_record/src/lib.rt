@@ -1,4 +1,6 @@
 // The records of an envelope and of a message's place; those of a probe stand in their own module.
+#![tactic(auto)]
+
 pub mod probe_record;
 
 ghost use Rattle.std.specs.Prelude.{◌≡◌, length, ◌+◌, ◌*◌, ◌≤◌};

@@ -104,5 +104,6 @@ module _ (t r u : List ℕ) (n total room all : ℕ) (k : n ≡ length t) (s : u
   counted l = (omega arith, omega (arith, both))
 
 -- a listing's text from the cursor that it starts with
-pub listing_text_lem : (w : Writers) (d : List ℕ) (number place : ℕ) (c : LineCursor) → c ≡ start_cursor number place w.sizes d → lines_text d (lines_from w d c) ≡ lines_text d (listing_of number place w d)
+pub listing_text_lem : (w : Writers) (d : List ℕ) (number place : ℕ) (c : LineCursor) → c ≡ start_cursor number place w.sizes d
+    → lines_text d (lines_from w d c) ≡ lines_text d (listing_of number place w d)
 listing_text_lem w d number place c e = ap (λ (x : LineCursor). lines_text d (lines_from w d x)) e ∙ ap (lines_text d) (start_lists w d number place)

@@ -11,7 +11,7 @@ use wire::part::part;
 use wire_writer::store::put_run;
 
 // The position after a line's text, or that it does not fit.
-#[derive(Drop)]
+#[derive(Clone, Copy)]
 pub enum LinePlaced {
     To(usize),
     NoRoom,
@@ -19,7 +19,7 @@ pub enum LinePlaced {
 
 // How many bytes at the buffer's start are the block, and the cursor before the line after it, which holds what `network_header::header`
 // and `network_message::payload` declare.
-#[derive(Drop)]
+#[derive(Clone, Copy)]
 pub struct Block {
     pub length: usize,
     pub next: LineCursor,

@@ -1,4 +1,6 @@
 // The text of a walk (document 01, "Configuration and listing"): an entry's line, and a whole listing.
+#![tactic(auto)]
+
 pub mod block;
 mod columns;
 pub mod line;

@@ -15,7 +15,7 @@ use wire::optional::Optional16;
 use wire::part::part;
 
 // How many bytes of the buffer are the line, or document 01's number.
-#[derive(Drop)]
+#[derive(Clone, Copy)]
 pub enum LinePut {
     Is(usize),
     Refused(u8),

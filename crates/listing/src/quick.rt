@@ -32,14 +32,14 @@ use wire_writer::store::put_run;
 const MOST_LINE: usize = 256;
 
 // Some fields' lines: the position after their text, and which field is next and where it starts; or the refusal of the next field.
-#[derive(Drop)]
+#[derive(Clone, Copy)]
 pub enum FieldLines {
     To(usize, usize, usize),
     Refused(usize, u8, usize),
 }
 
 // The length of a listing with one message that was put, or that nothing was.
-#[derive(Drop)]
+#[derive(Clone, Copy)]
 pub enum OneListed {
     To(usize),
     Not,

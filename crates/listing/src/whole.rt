@@ -18,7 +18,7 @@ fn line_length(s: &[u8], line: Line) -> usize
 }
 
 // A text's length where it fits into some room.
-#[derive(Drop)]
+#[derive(Clone, Copy)]
 pub enum TextLength {
     Is(usize),
     Long,

@@ -1,7 +1,7 @@
 -- Laws of counting offsets, and what marking adds. Assumes nothing.
 use Prim.Native.Nat.{ℕ, zero, suc, ◌+◌, ◌-◌, ◌≤◌, ◌<◌}
 use mathlib.Core.Path.{◌≡◌, refl, sym, ap, ap₂, ◌∙◌}
-use mathlib.Core.Bool.{Bool, true, false, cond, not, ◌&&◌, and_false}
+use mathlib.Core.Bool.{Bool, true, false, cond, not, ◌&&◌, and-false}
 use mathlib.Core.List.{List}
 use lib.ListN.{length}
 use native.Mathlib.Omega.{arith}
@@ -218,7 +218,7 @@ module _ (L : Layout) (m : List ℕ) (start stop end : ℕ) (below : stop ≤ en
   pub area_any : any_from start stop (marked L m) ≡ any_from start end (marked L m)
   area_any =
       sym (any_between stop end (λ i. leb start i && marked L m i) below
-      (λ k h l. let e = full (omega arith) in rw (marked_none L m k (omega arith)) (and_false (leb start k))))
+      (λ k h l. let e = full (omega arith) in rw (marked_none L m k (omega arith)) (and-false (leb start k))))
 
   pub area_count : count_below (stop - start) (λ j. marked L m (start + j)) ≡ count_below (end - start) (λ j. marked L m (start + j))
   area_count =
@@ -254,7 +254,7 @@ run_marked L o n inner stop most k w e v q inside =
     (λ h. cut_in (marked L o) 0 stop k (omega arith) h ∙ sym (rw (lt-ltb k n (omega arith))))
     (λ h. cut_above (marked L o) 0 stop k h ∙ sym (by_lt _ k n
     (λ l. let deep : k < inner = by_lt _ k inner (λ z. z) (λ z. let full = e (omega arith) in absurd (omega arith)) in
-    let full = q (omega arith) in rw (marked_none L o k (omega arith)) (and_false (ltb k n)))
+    let full = q (omega arith) in rw (marked_none L o k (omega arith)) (and-false (ltb k n)))
     (λ l. rw (le-ltb k n l))))
 
 -- ---- how many are marked

@@ -1,7 +1,7 @@
 -- Laws of the marks. Those down to `layout-laws` are all that other files use of how a mark is held. Assumes nothing.
 use Prim.Native.Nat.{ℕ, zero, suc, ◌+◌, ◌/◌, ◌%◌, ◌≤◌, ◌<◌}
 use mathlib.Core.Path.{◌≡◌, refl, sym, ap, ◌∙◌}
-use mathlib.Core.Bool.{Bool, true, false, cond, and_false, false≢true}
+use mathlib.Core.Bool.{Bool, true, false, cond, and-false, false≢true}
 use mathlib.Core.List.{List}
 use native.Mathlib.Nat.{not-suc-le-zero}
 use native.Mathlib.Numerals.{add-one}
@@ -112,7 +112,7 @@ pub range_in : (start end i : ℕ) → start ≤ i → i < end → in_range star
 range_in start end i h k = rw (le-leb start i h, lt-ltb i end k)
 
 pub range_above : (start end i : ℕ) → end ≤ i → in_range start end i ≡ false
-range_above start end i h = rw (le-ltb i end h) (and_false (leb start i))
+range_above start end i h = rw (le-ltb i end h) (and-false (leb start i))
 
 module _ (L : Layout) where
   marks_room : (t i : ℕ) (m : List ℕ) → i < t → marks_for L t ≤ length m → i < capacity L m

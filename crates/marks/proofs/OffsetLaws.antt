@@ -1,7 +1,7 @@
 -- Laws of offsets that pass a test. Assumes nothing.
-use Prim.Native.Nat.{ℕ, zero, suc, ◌≤◌, ◌<◌, ◌+◌, ◌-◌}
+use Prim.Native.Nat.{ℕ, zero, suc, ◌≤◌, ◌<◌, ◌+◌}
 use mathlib.Core.Path.{◌≡◌, refl, sym, ◌∙◌, ap}
-use mathlib.Core.Bool.{Bool, false, true, cond, or_true, false≢true, ◌||◌, ◌&&◌, not}
+use mathlib.Core.Bool.{Bool, false, true, cond, or-true, false≢true, ◌||◌, ◌&&◌, not}
 use native.Mathlib.Omega.{arith}
 use Rattle.marks.specs.Offsets.{any_below, any_from, all_below, count_below}
 use native.Mathlib.Nat.{not-suc-le-zero}
@@ -18,7 +18,7 @@ any_none (suc n) f e = rw (e n (omega arith)) (any_none n f (λ i h. e i (omega 
 any_some : (n : ℕ) (f : ℕ → Bool) (i : ℕ) → i < n → f i ≡ true → any_below n f ≡ true
 any_some zero f i h e = absurd (not-suc-le-zero h)
 any_some (suc n) f i h e =
-    by_eq _ i n (λ q. let t : f n ≡ true = rw q at e in rw t) (λ ne. rw (any_some n f i (omega arith) e) (or_true (f n)))
+    by_eq _ i n (λ q. let t : f n ≡ true = rw q at e in rw t) (λ ne. rw (any_some n f i (omega arith) e) (or-true (f n)))
 
 pub none_any : (n : ℕ) (f : ℕ → Bool) → any_below n f ≡ false → (i : ℕ) → i < n → f i ≡ false
 none_any n f e i h = by_bool _ (f i) (λ t. absurd (false≢true (sym e ∙ any_some n f i h t))) (λ t. t)

@@ -1,7 +1,7 @@
 -- Whole bytes of marks by bits: the eight offsets of a byte, and eight bytes as one number. Assumes nothing.
 use Prim.Native.Nat.{ℕ, zero, suc, ◌+◌, ◌*◌, ◌-◌, ◌/◌, ◌%◌, ◌^◌, ◌≤◌, ◌<◌}
 use mathlib.Core.Path.{◌≡◌, refl, sym, ap, ap₂, ◌∙◌, subst}
-use mathlib.Core.Bool.{Bool, true, false, not, ◌&&◌, ◌||◌, or_true, or-false}
+use mathlib.Core.Bool.{Bool, true, false, not, ◌&&◌, ◌||◌, or-true, or-false}
 use mathlib.Core.List.{List}
 use native.Mathlib.Omega.{arith}
 use lib.Bits.{bit_or, or_lt}
@@ -87,7 +87,7 @@ module _ (m : List ℕ) (k x : ℕ) (f : ℕ → Bool) (room : k < length m) (sm
       marked_by (set m k x) i ∙ ap (λ (n : ℕ). digit (i % 8) (get_or (set m k x) n 0)) q ∙ ap (digit (i % 8)) (get_or-set_same m k x 0 room) ∙ bits (i % 8) (omega arith)
       ∙ ap (λ (n : ℕ). digit (i % 8) (get_or m k 0) || f n) h in
       by_bool _ (f i)
-      (λ t. stored ∙ ap (◌||◌ (digit (i % 8) (get_or m k 0))) t ∙ or_true (digit (i % 8) (get_or m k 0))
+      (λ t. stored ∙ ap (◌||◌ (digit (i % 8) (get_or m k 0))) t ∙ or-true (digit (i % 8) (get_or m k 0))
       ∙ sym (marked_on by_bits (i + 1) _ m i (omega arith) (area i q) (here ∙ t)))
       (λ t. stored ∙ ap (◌||◌ (digit (i % 8) (get_or m k 0))) t ∙ or-false (digit (i % 8) (get_or m k 0)) ∙ ap (λ (n : ℕ). digit (i % 8) (get_or m n 0)) (sym q) ∙ sym (marked_by m i)
       ∙ sym (marked_off by_bits _ m i (here ∙ t)))
@@ -242,7 +242,8 @@ eight_part s at n e h =
     let l : length (take n (drop at s)) ≡ 8 = length-take-le n (drop at s) (rw (length-drop at s) (omega arith)) ∙ e in
     let f : leb 8 (length (take n (drop at s))) ≡ true = le-leb 8 (length (take n (drop at s))) (omega arith) in
     let q : le 8 (take n (drop at s)) 0 ≡ le 8 s at =
-    le_ext 8 (take n (drop at s)) s 0 at (λ j k. let z : 0 + j ≡ j = omega arith in ap (λ (i : ℕ). get_or (take n (drop at s)) i 0) z ∙ get_or-take n (drop at s) j 0 (omega arith) ∙ get_or-drop at s j 0) in
+    le_ext 8 (take n (drop at s)) s 0 at
+    (λ j k. let z : 0 + j ≡ j = omega arith in ap (λ (i : ℕ). get_or (take n (drop at s)) i 0) z ∙ get_or-take n (drop at s) j 0 (omega arith) ∙ get_or-drop at s j 0) in
     rw f (ap (λ (x : ℕ). got x 8) q)
 
 pub part_not_short : (s : List ℕ) (at : ℕ) → refused CUT_SHORT 0 ≡ got (le 8 s at) 8 → ⊥

@@ -1,5 +1,7 @@
 // The marks of a partial: a bit for each byte of the payload area, eight to a byte, the lowest position in the lowest bit, set where the
 // byte is covered. How they are held is known here only.
+#![tactic(auto)]
+
 mod bits;
 pub mod by_one;
 mod each;

@@ -17,14 +17,14 @@ const EIGHT: usize = 8;
 const IN_EIGHT: usize = 64;
 
 // Offsets one after the other, from start up to end.
-#[derive(Drop)]
+#[derive(Clone, Copy)]
 pub struct Run {
     pub start: usize,
     pub end: usize,
 }
 
 // Some offsets one after the other: a bit for each, set where it is wanted, and how many they are.
-#[derive(Drop)]
+#[derive(Clone, Copy)]
 struct Seen {
     bits: u64,
     told: usize,

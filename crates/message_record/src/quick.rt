@@ -27,7 +27,7 @@ use wire::constants::DATA_VALUE;
 use wire::{ItemLength, has, read_length};
 
 // That a step is done, with the field's offset; that no field is left; or that it is not told.
-#[derive(Drop)]
+#[derive(Clone, Copy)]
 pub enum Stepped {
     Done(usize),
     End,

@@ -5,7 +5,7 @@ use publisher_id::publisher::PublisherId;
 use wire::optional::{Optional16, OptionalI64};
 
 // An envelope, without the bytes of its variable parts.
-#[derive(Drop)]
+#[derive(Clone, Copy)]
 pub struct Envelope {
     pub publisher: PublisherId,
     pub class_id: ClassId,
@@ -18,7 +18,7 @@ pub struct Envelope {
 }
 
 // Where the variable parts end: a string PublisherId, the ids of the PayloadHeader, and the promoted fields, where the payload starts.
-#[derive(Drop)]
+#[derive(Clone, Copy)]
 pub struct Places {
     pub publisher_end: usize,
     pub payload_header_end: usize,

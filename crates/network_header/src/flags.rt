@@ -16,7 +16,7 @@ use wire_writer::store::put8;
 use wire_writer::writing::{announced, flag, is_on_i64, is_on16, put_flag_byte};
 
 // What the flag bytes say.
-#[derive(Drop)]
+#[derive(Clone, Copy)]
 pub struct Flags {
     pub publisher: bool,
     pub group: bool,
@@ -32,7 +32,7 @@ pub struct Flags {
 }
 
 // The flag bytes with the position after them, or a refusal with its number and place.
-#[derive(Drop)]
+#[derive(Clone, Copy)]
 pub enum FlagsRead {
     Is(Flags, usize),
     Refused(u8, usize),

@@ -16,7 +16,7 @@ use wire_writer::writing::{
 };
 
 // The items of a group header.
-#[derive(Drop)]
+#[derive(Clone, Copy)]
 pub struct GroupFields {
     pub writer_group: Optional16,
     pub version: Optional32,
@@ -25,14 +25,14 @@ pub struct GroupFields {
 }
 
 // A group header, where there is one.
-#[derive(Drop)]
+#[derive(Clone, Copy)]
 pub enum GroupHeader {
     Absent,
     Is(GroupFields),
 }
 
 // A group header with the position after it, or a refusal with its number and place.
-#[derive(Drop)]
+#[derive(Clone, Copy)]
 pub enum GroupRead {
     Is(GroupHeader, usize),
     Refused(u8, usize),

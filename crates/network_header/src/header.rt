@@ -11,14 +11,14 @@ use wire_writer::store::{put_guid, put_run, put8, put16};
 use wire_writer::writing::six_unless;
 
 // A DataSetClassId.
-#[derive(Drop)]
+#[derive(Clone, Copy)]
 pub enum ClassId {
     Absent,
     Is(Guid),
 }
 
 // A DataSetClassId with the position after it, or a refusal with its number and place.
-#[derive(Drop)]
+#[derive(Clone, Copy)]
 pub enum ClassRead {
     Is(ClassId, usize),
     Refused(u8, usize),
@@ -26,7 +26,7 @@ pub enum ClassRead {
 
 // The PayloadHeader: how many DataSetWriterIds it has, at most 255 in a datagram, or a chunk's DataSetWriterId. The ids end where the
 // part ends. A probe has none, and its payload is a probe.
-#[derive(Drop)]
+#[derive(Clone, Copy)]
 pub enum PayloadHeader {
     Absent,
     Ids(u16),
@@ -35,21 +35,21 @@ pub enum PayloadHeader {
 }
 
 // A PayloadHeader with the position after it, or a refusal with its number and place.
-#[derive(Drop)]
+#[derive(Clone, Copy)]
 pub enum PayloadHeaderRead {
     Is(PayloadHeader, usize),
     Refused(u8, usize),
 }
 
 // Promoted fields, located only: their size. They end where the part ends.
-#[derive(Drop)]
+#[derive(Clone, Copy)]
 pub enum Promoted {
     Absent,
     Size(usize),
 }
 
 // Promoted fields with the position after them, or a refusal with its number and place.
-#[derive(Drop)]
+#[derive(Clone, Copy)]
 pub enum PromotedRead {
     Is(Promoted, usize),
     Refused(u8, usize),

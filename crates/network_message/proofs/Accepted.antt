@@ -81,7 +81,8 @@ listed_tiles sizes s n at p m e = go (leb (at + 2 * n) (length s)) (all_positive
     go true false t u q = absurd (not_got (rw (t, u) at q))
     go false b t u q = absurd (not_got (rw t at q))
 
-sized_tiles : (sizes s : List ℕ) (at : ℕ) (p : Payload) (m : ℕ) → all_positive (configured_sizes sizes) ≡ true → sized_at (length (configured_sizes sizes)) (total (configured_sizes sizes)) s at ≡ got p m
+sized_tiles : (sizes s : List ℕ) (at : ℕ) (p : Payload) (m : ℕ) → all_positive (configured_sizes sizes) ≡ true
+    → sized_at (length (configured_sizes sizes)) (total (configured_sizes sizes)) s at ≡ got p m
     → Tiled p sizes s
 sized_tiles sizes s at p m o e = go (eqb (at + total (configured_sizes sizes)) (length s)) refl e
   where

@@ -2,7 +2,7 @@
 -- Assumes nothing.
 use Prim.Native.Nat.{ℕ, zero, suc, ◌+◌, ◌-◌, ◌≤◌, ◌<◌}
 use mathlib.Core.Path.{◌≡◌, refl, ap, sym, ◌∙◌}
-use mathlib.Core.Bool.{Bool, ◌&&◌, and_assoc, and_true}
+use mathlib.Core.Bool.{Bool, ◌&&◌, and_assoc, and-true}
 use mathlib.Core.List.{List, [], ◌∷◌, ◌++◌}
 use native.Mathlib.Nat.{not-suc-le-zero}
 use native.Mathlib.Numerals.{sub-one, add-one}
@@ -56,4 +56,4 @@ module _ (xs : List ℕ) (i : ℕ) (h : i < length xs) where
   total_next = ap total next ∙ total_append (take i xs) (get_or xs i 0 ∷ []) ∙ omega arith
 
   pub positive_next : all_positive (take (i + 1) xs) ≡ (all_positive (take i xs) && ltb 0 (get_or xs i 0))
-  positive_next = ap all_positive next ∙ positive_append (take i xs) (get_or xs i 0 ∷ []) ∙ ap (λ (b : Bool). all_positive (take i xs) && b) (and_true (ltb 0 (get_or xs i 0)))
+  positive_next = ap all_positive next ∙ positive_append (take i xs) (get_or xs i 0 ∷ []) ∙ ap (λ (b : Bool). all_positive (take i xs) && b) (and-true (ltb 0 (get_or xs i 0)))

@@ -41,7 +41,8 @@ payload_refusal chunk PayloadHeader.Probe sizes lengths messages = refusal_numbe
 -- what would read back otherwise is 6: lengths of several messages that are not the configured ones, or lengths where none is given
 abbrev pub lengths_shape : PayloadHeader → List ℕ → List ℕ → ℕ
 lengths_shape PayloadHeader.Absent lengths sizes =
-    cond (leb (length (configured_sizes sizes)) 1) (unused (length lengths)) (cond (same_numbers lengths (configured_sizes sizes)) 0 DISAGREE)
+    cond (leb (length (configured_sizes sizes)) 1) (unused (length lengths))
+    (cond (same_numbers lengths (configured_sizes sizes)) 0 DISAGREE)
 lengths_shape (PayloadHeader.Ids n) lengths sizes = cond (leb n 1) (unused (length lengths)) 0
 lengths_shape (PayloadHeader.Chunk w) lengths sizes = unused (length lengths)
 lengths_shape PayloadHeader.Probe lengths sizes = unused (length lengths)

@@ -20,7 +20,7 @@ use wire::optional::{
 };
 
 // PublisherId, DataSetClassId and group header, and where the PublisherId ends.
-#[derive(Drop)]
+#[derive(Clone, Copy)]
 pub struct Identity {
     pub publisher: PublisherId,
     pub publisher_end: usize,
@@ -29,14 +29,14 @@ pub struct Identity {
 }
 
 // The first parts of an envelope with the position after them, or a refusal with its number and place.
-#[derive(Drop)]
+#[derive(Clone, Copy)]
 pub enum IdentityRead {
     Is(Identity, usize),
     Refused(u8, usize),
 }
 
 // The last parts of an envelope.
-#[derive(Drop)]
+#[derive(Clone, Copy)]
 pub struct Times {
     pub timestamp: OptionalI64,
     pub picoseconds: Optional16,
@@ -44,21 +44,21 @@ pub struct Times {
 }
 
 // The last parts with the position after them, or a refusal with its number and place.
-#[derive(Drop)]
+#[derive(Clone, Copy)]
 pub enum TimesRead {
     Is(Times, usize),
     Refused(u8, usize),
 }
 
 // An envelope with its places, or a refusal with its number and place.
-#[derive(Drop)]
+#[derive(Clone, Copy)]
 pub enum HeaderRead {
     Is(Envelope, Places),
     Refused(u8, usize),
 }
 
 // A NetworkMessage: its envelope, where its variable parts end, and where its messages stand.
-#[derive(Drop)]
+#[derive(Clone, Copy)]
 pub enum NetworkMessageRead {
     Is(Envelope, Places, Payload),
     Refused(u8, usize),

@@ -15,7 +15,7 @@ use wire::part::tail;
 use wire::{Item16, Run};
 
 // Where a message's size stands: it takes the rest, its size is in the list at a position, or it is configured.
-#[derive(Drop)]
+#[derive(Clone, Copy)]
 pub enum Sizes {
     Rest,
     Listed(usize),
@@ -23,7 +23,7 @@ pub enum Sizes {
 }
 
 // The messages of a payload: how many, where their sizes stand, and where the first starts.
-#[derive(Drop)]
+#[derive(Clone, Copy)]
 pub struct Payload {
     pub count: usize,
     pub sizes: Sizes,
@@ -31,14 +31,14 @@ pub struct Payload {
 }
 
 // The messages of a payload, or a refusal with its number and place.
-#[derive(Drop)]
+#[derive(Clone, Copy)]
 pub enum PayloadRead {
     Is(Payload),
     Refused(u8, usize),
 }
 
 // The sum of some sizes, and whether each is at least 1.
-#[derive(Drop)]
+#[derive(Clone, Copy)]
 pub struct Tally {
     pub total: usize,
     pub positive: bool,
@@ -244,7 +244,7 @@ pub fn read_payload(
 }
 
 // Where a DataSetMessage stands in the datagram.
-#[derive(Drop)]
+#[derive(Clone, Copy)]
 pub struct MessagePlace {
     pub index: usize,
     pub offset: usize,
@@ -252,21 +252,21 @@ pub struct MessagePlace {
 }
 
 // The place of a message, or a refusal with its number and place.
-#[derive(Drop)]
+#[derive(Clone, Copy)]
 pub enum MessageRead {
     Is(MessagePlace, usize),
     Refused(u8, usize),
 }
 
 // A cursor over the messages: the number of the next one, and where it starts.
-#[derive(Drop)]
+#[derive(Clone, Copy)]
 pub struct MessageCursor {
     pub index: usize,
     pub at: usize,
 }
 
 // The place of a message with the cursor after it, or a refusal with its number and place.
-#[derive(Drop)]
+#[derive(Clone, Copy)]
 pub enum MessageStep {
     Is(MessagePlace, MessageCursor),
     Refused(u8, usize),

@@ -9,7 +9,7 @@ use probe::body::{Probe, ProbeRead, read_body};
 use wire::constants::NOT_TAKEN;
 
 // A probe's envelope, where its variable parts end and the probe starts, and the probe; or a refusal with its number and place.
-#[derive(Drop)]
+#[derive(Clone, Copy)]
 pub enum ProbeMessageRead {
     Is(Envelope, Places, Probe),
     Refused(u8, usize),

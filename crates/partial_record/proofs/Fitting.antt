@@ -1,9 +1,7 @@
 -- What the code's types say of a partial's record: each number fits, and its text has 64 bytes.
 -- Assumes nothing.
 use mathlib.Core.List.{List}
-use Prim.Native.Nat.{ℕ}
 use native.Mathlib.Omega.{arith}
-use borrow.Author.Rules.{length_unmapped}
 use mir.Val.{Val}
 use denote.Laws.{Is}
 use denote.Struct.Declared as struct
@@ -29,7 +27,7 @@ fits_record k vs h =
     let p = structLaws.owed publisher.the_type publisherLaws.the_laws k.message.origin.publisher _ o.0 in
     record {
       id = fits_id k.message.origin.publisher.id _ p.0;
-      text = length_unmapped ℕ k.message.origin.publisher.text 64 p.1.0.1.0.1;
+      text = p.1.0.1.0.1;
       group = fits16 k.message.origin.group _ o.1.0;
       writer = omega (arith, o.1.1.0);
       number = omega (arith, o.1.1.1.0);

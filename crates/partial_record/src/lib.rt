@@ -1,5 +1,7 @@
 // The record of a partial: nine numbers, a spare one that holds 0, and 64 bytes for the text of a string PublisherId. The records of a
 // chunk and of what is salvaged stand in modules of their own.
+#![tactic(auto)]
+
 pub mod chunk_record;
 pub mod salvage_record;
 

@@ -34,14 +34,14 @@ const ENTRY_SIZE: usize = 64;
 const SALVAGE_SIZE: usize = 64;
 
 // How many entries the list has, or a refusal.
-#[derive(Drop)]
+#[derive(Clone, Copy)]
 pub enum Salvaged {
     Is(usize),
     Refused(u8, usize),
 }
 
 // Whether the count is known, the cursor before the first field and how many fields are whole in the front; or a refusal.
-#[derive(Drop)]
+#[derive(Clone, Copy)]
 pub enum Found {
     Is(bool, Cursor, usize),
     Refused(u8, usize),

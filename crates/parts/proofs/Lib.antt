@@ -1,2 +1,1 @@
 pub mod PartBytes
-pub mod PartCall

@@ -17,7 +17,10 @@ use lib.ListN.{take}
 use Rattle.parts.specs.declared.part.Part.{Part}
 use Rattle.parts.specs.declared.part.Located.{Located}
 use Rattle.parts.specs.Part.{part_of, field_located, message_located, chunk_located, payload_located}
-use Rattle.parts.proofs.PartCall.{PartTells}
+
+-- what the answer says
+abbrev pub PartTells : Located → List ℕ → Part → Type 0
+PartTells l s r = (r.number ≡ l.number) × (r.place ≡ l.place) × (r.bytes.now ≡ part_of l s)
 
 -- an answer tells what is located, and the bytes that the definition names
 abbrev pub Tells : Located → List ℕ → Part → Type 0

@@ -3,7 +3,7 @@ ghost use Rattle.std.specs.Prelude.{◌≡◌};
 ghost use Rattle.parts.specs.Part.{part_of};
 
 // Number 0 and place 0 where the part is found, with its bytes; else the refusal's number and place, and no bytes.
-#[derive(Drop)]
+#[derive(Clone, Copy)]
 pub struct Part<'a> {
     pub number: u8,
     pub place: usize,
@@ -11,7 +11,7 @@ pub struct Part<'a> {
 }
 
 // The same with the bytes' offset and length.
-#[derive(Drop)]
+#[derive(Clone, Copy)]
 pub struct Located {
     pub number: u8,
     pub place: usize,

@@ -1,7 +1,7 @@
 -- The rule of the widths: at all entries of their array, and past them.
 -- Assumes nothing.
 use mathlib.Core.Path.{◌≡◌, refl, sym, ◌∙◌, ap}
-use mathlib.Core.Bool.{Bool, true, false, cond, ◌&&◌, ◌||◌, beq, and_false}
+use mathlib.Core.Bool.{Bool, true, false, cond, ◌&&◌, ◌||◌, beq, and-false}
 use mathlib.Core.List.{List, [], ◌∷◌}
 use Prim.Native.Nat.{ℕ, zero, suc, ◌<◌, ◌≤◌}
 use native.Mathlib.Omega.{arith}
@@ -72,7 +72,7 @@ beq_same false true h = absurd h
 above : (t : ℕ) → 22 ≤ t → in_range t ≡ plain t
 unfolding plain
 above t h =
-    simp (lt-leb t 15 (omega arith), lt-leb t 21 (omega arith), sym (past t (omega arith)), not_among 22 t (12 ∷ 15 ∷ []) h tt, not_among 22 t (20 ∷ 21 ∷ []) h tt, and_false)
+    simp (lt-leb t 15 (omega arith), lt-leb t 21 (omega arith), sym (past t (omega arith)), not_among 22 t (12 ∷ 15 ∷ []) h tt, not_among 22 t (20 ∷ 21 ∷ []) h tt, and-false)
 
 inside : (t : ℕ) → t < 22 → T (beq (in_range t) (plain t))
 unfolding same_plain plain width_of

@@ -7,7 +7,7 @@ use wire::constants::{BAD_LENGTH, CUT_SHORT, DISAGREE};
 use wire::{Item32, ItemLength, has, read_length, read32};
 
 // How many dimensions an array has and the position after their list, or the number and place of its refusal.
-#[derive(Drop)]
+#[derive(Clone, Copy)]
 pub enum Dimensions {
     Are(u32, usize),
     Refused(u8, usize),

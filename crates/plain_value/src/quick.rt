@@ -15,7 +15,7 @@ const FOUR_BYTES: u64 = 4294967296;
 const COUNTS: u32 = 2147483648;
 
 // Where what is accepted ends; `Not` for what is refused, and for what a look does not tell.
-#[derive(Drop)]
+#[derive(Clone, Copy)]
 pub enum End {
     At(usize),
     Not,

@@ -179,7 +179,8 @@ four n x = omega (arith, x.1, length_le_bytes 4 n)
 module _ (s : List ℕ) (at : ℕ) (l : ListCount) (next : ℕ) (b : Bytes s) (h : at ≤ length s) where
   -- the bytes of a list between its count and its end
   abbrev ListBack : (ListCount → List ℕ → ℕ) → (ListCount → ℕ) → Type 0
-  ListBack rule size = (next ≡ at + 4 + size l) × (at + 4 + size l ≤ length s) × (Back s at (list_count_bytes l ++ take (size l) (drop (at + 4) s)) next) × (rule l (take (size l) (drop (at + 4) s)) ≡ 0)
+  ListBack rule size = (next ≡ at + 4 + size l) × (at + 4 + size l ≤ length s) × (Back s at (list_count_bytes l ++ take (size l) (drop (at + 4) s)) next)
+      × (rule l (take (size l) (drop (at + 4) s)) ≡ 0)
 
   part_long : (n : ℕ) → at + 4 + n ≤ length s → length (take n (drop (at + 4) s)) ≡ n
   part_long n k = length-take-le n (drop (at + 4) s) (omega (arith, length-drop (at + 4) s))

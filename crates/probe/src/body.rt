@@ -9,21 +9,21 @@ use wire::constants::{BAD_LENGTH, CUT_SHORT, LEFT_OVER, NOT_PERMITTED, NOT_TAKEN
 use wire::{Item8, Item16, ItemLength, Reached, Run};
 
 // How many elements a list has. One that is null lists nothing, and is kept apart from an empty one.
-#[derive(Drop)]
+#[derive(Clone, Copy)]
 pub enum ListCount {
     Null,
     Of(usize),
 }
 
 // A list's count with the position after the list, or a refusal with its number and place.
-#[derive(Drop)]
+#[derive(Clone, Copy)]
 pub enum ListRead {
     Is(ListCount, usize),
     Refused(u8, usize),
 }
 
 // What is asked for. Ids and strings stand behind their count, 6 bytes after the probe's start.
-#[derive(Drop)]
+#[derive(Clone, Copy)]
 pub enum Probe {
     // DataSetMetaData of these writers
     MetaData(ListCount),
@@ -36,7 +36,7 @@ pub enum Probe {
 }
 
 // A probe with the position after it, or a refusal with its number and place.
-#[derive(Drop)]
+#[derive(Clone, Copy)]
 pub enum ProbeRead {
     Is(Probe, usize),
     Refused(u8, usize),

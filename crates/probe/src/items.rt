@@ -7,7 +7,7 @@ use wire::constants::{BAD_LENGTH, CUT_SHORT, OVER_LIMIT};
 use wire::{Item16, ItemLength, Run};
 
 // An id or a string of a probe: its number from 0, and where its bytes stand; an id's value, and whether a string is null.
-#[derive(Drop)]
+#[derive(Clone, Copy)]
 pub struct ProbeItem {
     pub index: usize,
     pub offset: usize,
@@ -17,21 +17,21 @@ pub struct ProbeItem {
 }
 
 // An item with the position after it, or a refusal with its number and place.
-#[derive(Drop)]
+#[derive(Clone, Copy)]
 pub enum ItemRead {
     Is(ProbeItem, usize),
     Refused(u8, usize),
 }
 
 // A cursor over the items: the number of the next one, and where it starts.
-#[derive(Drop)]
+#[derive(Clone, Copy)]
 pub struct ProbeCursor {
     pub index: usize,
     pub at: usize,
 }
 
 // An item with the cursor after it, or a refusal with its number and place.
-#[derive(Drop)]
+#[derive(Clone, Copy)]
 pub enum ItemStep {
     Is(ProbeItem, ProbeCursor),
     Refused(u8, usize),

@@ -11,7 +11,7 @@ use wire_writer::store::{put_run, put8, put16, put32, put64};
 use wire_writer::writing::six_unless;
 
 // A PublisherId. Of a string, its length: its bytes end where the part ends.
-#[derive(Drop)]
+#[derive(Clone, Copy)]
 pub enum PublisherId {
     Absent,
     Byte(u8),
@@ -22,7 +22,7 @@ pub enum PublisherId {
 }
 
 // A PublisherId with the position after it, or a refusal with its number and place.
-#[derive(Drop)]
+#[derive(Clone, Copy)]
 pub enum PublisherRead {
     Is(PublisherId, usize),
     Refused(u8, usize),

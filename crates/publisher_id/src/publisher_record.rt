@@ -8,7 +8,7 @@ use wire::part::part;
 use wire_writer::store::put_run;
 
 // Of a string the first bytes of text are its content, as many as the id says.
-#[derive(Drop)]
+#[derive(Clone, Copy)]
 pub struct PublisherRecord {
     pub id: PublisherId,
     pub text: [u8; MOST_TEXT_ID],

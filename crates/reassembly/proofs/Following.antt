@@ -2,7 +2,7 @@
 -- Assumes nothing.
 use Prim.Native.Nat.{ℕ, ◌+◌, ◌≤◌}
 use mathlib.Core.Path.{◌≡◌, refl, sym, ap, ◌∙◌}
-use mathlib.Core.Bool.{Bool, true, false, cond, not, or_true, false≢true}
+use mathlib.Core.Bool.{Bool, true, false, cond, not, or-true, false≢true}
 use mathlib.Core.List.{List}
 use mathlib.Core.Option.{none}
 use native.Mathlib.Omega.{arith}
@@ -45,7 +45,7 @@ fit_sound : (L : Layout) (r : PartialRecord) (n k : ℕ) → marks_for L n ≡ k
 unfolding sound_by
 fit_sound L r n k e f c =
     rw (eq-eqb (marks_for L n) k e, le-leb 1 r.message.total f.some, le-leb r.message.total n f.room, le-leb r.covered r.message.total c, f.publisher)
-    (or_true (not r.started))
+    (or-true (not r.started))
 
 -- ---- bytes put into a good partial
 module _ (m : Message) (v : View) (s : Partial) where

@@ -6,3 +6,4 @@ pub mod CallLaws
 pub mod Following
 pub mod Bringing
 pub mod QuickLaws
+pub mod Runs

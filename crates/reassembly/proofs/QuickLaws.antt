@@ -27,7 +27,7 @@ use Rattle.reassembly.specs.declared.quick.Added.{Added}
 use Rattle.reassembly.specs.declared.quick.Added.TheVariants.{New, Clash}
 use Rattle.reassembly.specs.declared.record.Message.{Message}
 use Rattle.reassembly.specs.declared.record.PartialRecord.{PartialRecord}
-use Rattle.reassembly.specs.declared.verdict.Verdict.TheVariants.{Done, Refused}
+use Rattle.reassembly.specs.declared.verdict.Verdict.TheVariants.{Done}
 use Rattle.wire.proofs.Cases.{by_bool}
 use Rattle.reassembly.proofs.AreaLaws.{clash_from, run_free}
 use Rattle.reassembly.proofs.JudgeLaws.{reading_admits, reading_same, take_refused, taken}

@@ -58,6 +58,7 @@ fn store_each(payload: &mut [u8], start: usize, end: usize, from: &[u8], from_ma
 }
 
 // The same, by how many of them are covered: none, all, or some.
+#[tactic(auto, using(crate::proofs::Runs::run_bare))]
 fn store_run(payload: &mut [u8], start: usize, end: usize, from: &[u8], from_marks: &[u8])
     requires { (start ≤ end) × (end ≤ length payload.old) × (end ≤ length «from».now) }
     ensures { let source = marked_view in_use end «from».now from_marks.now in
@@ -145,7 +146,8 @@ fn clash_run(
     ensures { let held = marked_view in_use end payload.now marks.now in
         result ≡ any_from start end (λ k. differs (held k) (data_view offset bytes.now k)) }
 {
-    if same_bytes(payload, start, bytes, start - offset, end - start) {
+    let same = same_bytes(payload, start, bytes, start - offset, end - start);
+    if same {
         return false;
     }
     if !any_marked(marks, start, end) {

@@ -13,7 +13,7 @@ use crate::verdict::Verdict;
 use wire::constants::{BYTE_DIFFERS, NO_ROOM, OTHER_MESSAGE, UNSOUND};
 
 // Whether a partial admits bytes of a message: no, by its number; into a fresh partial; or beside what it holds of the same message.
-#[derive(Drop)]
+#[derive(Clone, Copy)]
 enum Admission {
     Refused(u8),
     Fresh,
@@ -21,6 +21,7 @@ enum Admission {
 }
 
 // 11 where the message has more bytes than the area, 13 where another message is held.
+#[tactic(auto, unfolding(crate::specs::Judge::admission_of))]
 fn admit(rec: PartialRecord, room: usize, m: Message) -> Admission
     ensures { result ≡ admission_of rec room m }
 {

@@ -1,5 +1,7 @@
 // Reassembly of a message that came in chunks (document 01, "Reassembly"). A partial is a record by value and two lent areas, payload and
 // marks; each operation is handed all three and hands the record back.
+#![tactic(auto)]
+
 mod areas;
 mod judge;
 mod operations;

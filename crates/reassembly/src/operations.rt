@@ -20,7 +20,7 @@ use wire::constants::{NOT_COMPLETE, UNSOUND};
 use wire::part::part;
 
 // An answer, and the record afterwards.
-#[derive(Drop)]
+#[derive(Clone, Copy)]
 pub struct Outcome {
     pub verdict: Verdict,
     pub rec: PartialRecord,

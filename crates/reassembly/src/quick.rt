@@ -27,7 +27,7 @@ use wire::optional::Optional16;
 use wire::part::part;
 
 // The record of a started partial, but for its publisher's text.
-#[derive(Drop)]
+#[derive(Clone, Copy)]
 pub struct Held {
     pub publisher: PublisherId,
     pub group: Optional16,
@@ -38,14 +38,14 @@ pub struct Held {
 }
 
 // How many bytes are covered afterwards, or document 01's number and place.
-#[derive(Drop)]
+#[derive(Clone, Copy)]
 pub enum More {
     Covered(usize),
     Refused(u8, usize),
 }
 
 // How many offsets of a chunk were not marked, or that a covered byte differs.
-#[derive(Drop)]
+#[derive(Clone, Copy)]
 enum Added {
     New(usize),
     Clash,

@@ -8,7 +8,7 @@ use publisher_id::publisher_record::{PublisherRecord, publisher_fits, same_publi
 use wire::optional::Optional16;
 
 // Where a message comes from: publisher, WriterGroupId where there is one, DataSetWriterId and MessageSequenceNumber.
-#[derive(Drop)]
+#[derive(Clone, Copy)]
 pub struct MessageOrigin {
     pub publisher: PublisherRecord,
     pub group: Optional16,
@@ -17,7 +17,7 @@ pub struct MessageOrigin {
 }
 
 // Which message: its origin and TotalSize.
-#[derive(Drop)]
+#[derive(Clone, Copy)]
 pub struct Message {
     pub origin: MessageOrigin,
     pub total: usize,
@@ -25,7 +25,7 @@ pub struct Message {
 
 // A partial's record: whether it is started, the message it then has, and how many of its bytes are covered. Where a caller made the number
 // up it may be wrong: above the total it is unsound, else handing out refuses it.
-#[derive(Drop)]
+#[derive(Clone, Copy)]
 pub struct PartialRecord {
     pub started: bool,
     pub message: Message,

@@ -24,7 +24,7 @@ use Rattle.reassembly.specs.Machine.{State, view_in, judge, accept, is_complete,
 use Rattle.reassembly.specs.Machine.State.{idle, held}
 use Rattle.reassembly.specs.Machine.Call.{Ask, HandOut}
 use Rattle.reassembly.specs.Machine.Reply.{said, handed}
-use Rattle.reassembly.specs.Calls.{replies, final}
+use Rattle.reassembly.specs.Calls.{final}
 use Rattle.reassembly.specs.Reading.{chunk_message, reading_at}
 use Rattle.reassembly.specs.Reading.Reading.{chunk}
 use Rattle.reassembly.specs.declared.verdict.Verdict.{Verdict}

@@ -2,7 +2,6 @@
 use Prim.Native.Nat.{ℕ}
 use mathlib.Core.Path.{◌≡◌, refl, sym, ap, ap₂, ◌∙◌, fun_ext}
 use mathlib.Core.Bool.{false}
-use mathlib.Core.Option.{none}
 use Rattle.reassembly.specs.Views.{clash, differs}
 use Rattle.reassembly.specs.Record.{Identity, same_message}
 use Rattle.reassembly.specs.Machine.{State, between, accept}

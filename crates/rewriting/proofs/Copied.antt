@@ -8,8 +8,6 @@ use native.Mathlib.Omega.{arith}
 use lib.Dec.{eqb}
 use lib.ListN.{length, drop, set, length-set, length-append}
 use lib.Seq.{sets, length-sets, set-append_left}
-use types.Run.{OneOf, miss}
-use denote.Enum.Declared.{tag_of}
 use Rattle.wire.specs.Answer.{Answer, got, refused}
 use Rattle.wire_writer.specs.Fits.{Bytes}
 use Rattle.wire.specs.Number.{le_bytes}
@@ -18,7 +16,6 @@ use Rattle.wire_writer.specs.Writing.{room_refusal, Output, writing, after_readi
 use Rattle.wire_writer.specs.declared.writing.Written.{Written}
 use Rattle.wire_writer.proofs.Answering.{reading_accepts}
 use Rattle.wire_writer.proofs.Back.{two_bytes}
-use Rattle.publisher_id.specs.contracts.publisher.PublisherId as publisher
 use Rattle.publisher_id.specs.declared.publisher.PublisherId.{PublisherId}
 use Rattle.publisher_id.specs.Publisher.{publisher_on}
 use Rattle.network_message.specs.Envelope.{NetworkMessage, network_message_at}
@@ -109,8 +106,8 @@ module _ (types s entry exit : List ℕ) (r : Written) (m : Message) (e : ℕ) (
       held (held_with m.header.picoseconds (message_picoseconds_place m.header) at v s entry exit r k.stored k.room h a w)
 
 -- a PublisherId of another variant than the first is on
-pub publisher_on_lem : (p : PublisherId) → OneOf (1 ∷ 2 ∷ 3 ∷ 4 ∷ 5 ∷ []) (tag_of publisher.the_type p) → publisher_on p ≡ true
-publisher_on_lem PublisherId.Absent h = absurd (miss (1 ∷ 2 ∷ 3 ∷ 4 ∷ 5 ∷ []) 0 tt h)
+pub publisher_on_lem : (p : PublisherId) → (p ≡ PublisherId.Absent → ⊥) → publisher_on p ≡ true
+publisher_on_lem PublisherId.Absent h = absurd (h refl)
 publisher_on_lem (PublisherId.Byte v) h = refl
 publisher_on_lem (PublisherId.UInt16 v) h = refl
 publisher_on_lem (PublisherId.UInt32 v) h = refl

@@ -1,6 +1,8 @@
 // What reading accepts, written again by one copy. The bytes that come out are the bytes that came in, so the parts need not
 // be put together again; picoseconds, which are 9,999 where they were more, are stored over the copy, and only a datagram with
 // PublisherId off can differ elsewhere, in its flag bytes.
+#![tactic(auto)]
+
 ghost use Rattle.std.specs.Prelude.{◌≡◌, ◌+◌, ◌≤◌, length};
 ghost use Rattle.std.proofs.lemmas.List.Edits.{sets};
 ghost use Rattle.wire.specs.Number.{le_bytes};

@@ -19,7 +19,6 @@ use Rattle.plain_value.specs.Width.{width_of}
 use Rattle.dataset_header.specs.declared.flags.Encoding.{Encoding}
 use Rattle.dataset_header.specs.declared.flags.Kind.{Kind}
 use Rattle.dataset_header.specs.declared.header.Header.{Header}
-use Rattle.dataset_fields.specs.declared.fields.Field.{Field}
 use Rattle.dataset_header.specs.Flags.{valid, is_delta, is_raw, kind_rule}
 use Rattle.dataset_header.specs.Header.{message_header_bytes, FitsHeader}
 use Rattle.dataset_fields.specs.Fields.{fields_at, zeros_at, padding_at, values_of, number_of, fields_whole, fields_bytes, zeros}

@@ -16,7 +16,7 @@ use Rattle.wire.specs.Answer.{Answer, got, and_then}
 use Rattle.wire.proofs.Facts.{and_left, and_right}
 use Rattle.wire.proofs.Reading.{invert, got_value, not_got}
 use Rattle.wire_writer.specs.Writing.{or_else, picoseconds_refusal}
-use Rattle.wire_writer.proofs.Trip.{At, first, second, item_is}
+use Rattle.wire_writer.proofs.Trip.{At, first, item_is}
 use Rattle.wire_writer.proofs.Refusals.{both_zero}
 use Rattle.dataset_header.specs.declared.flags.Encoding.{Encoding}
 use Rattle.dataset_header.specs.declared.flags.Kind.{Kind}

@@ -151,7 +151,8 @@ pub unchunked : (chunk : Bool) (n : ℕ) → chunk ≡ false → cond chunk 0 n 
 unchunked chunk n e h = subst (λ (c : Bool). cond {A = ℕ} c 0 n ≡ 0) e h
 
 -- without a PayloadHeader it is no chunk
-pub absent_facts : (chunk : Bool) (sizes messages : List ℕ) → refusal_number (payload_at chunk PayloadHeader.Absent sizes messages 0) ≡ 0 → (chunk ≡ false) × Configured (configured_sizes sizes) messages
+pub absent_facts : (chunk : Bool) (sizes messages : List ℕ) → refusal_number (payload_at chunk PayloadHeader.Absent sizes messages 0) ≡ 0 → (chunk ≡ false)
+    × Configured (configured_sizes sizes) messages
 absent_facts true sizes messages h = absurd (omega arith)
 absent_facts false sizes messages h = (refl, configured_facts (configured_sizes sizes) messages h)
 

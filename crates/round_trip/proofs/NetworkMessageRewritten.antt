@@ -154,10 +154,12 @@ body_same sizes s f n m next b hf h =
     let q = header_same (length (configured_sizes sizes)) s f n H.0 H.1 b hf H.2 in
     subst (λ (m : NetworkMessage). Same s f (record { envelope = m.envelope; places = m.places }) m.places.payload) P.2 (subst (λ (k : ℕ). Same s f H.0 k) (sym q.ends) q)
 
-pub flags_of : (sizes s : List ℕ) (m : NetworkMessage) (next : ℕ) → network_message_at sizes s ≡ got m next → (f : Flags) × (n : ℕ) × (flags_at s 0 ≡ got f n) × (envelope_body_at f sizes s n ≡ got m next)
+pub flags_of : (sizes s : List ℕ) (m : NetworkMessage) (next : ℕ) → network_message_at sizes s ≡ got m next → (f : Flags) × (n : ℕ) × (flags_at s 0 ≡ got f n)
+    × (envelope_body_at f sizes s n ≡ got m next)
 flags_of sizes s m next h = go (ltb 65535 (length s)) h
   where
-    go : (t : Bool) → cond t (refused 10 0) ((flags_at >>= λ f. envelope_body_at f sizes) s 0) ≡ got m next → (f : Flags) × (n : ℕ) × (flags_at s 0 ≡ got f n) × (envelope_body_at f sizes s n ≡ got m next)
+    go : (t : Bool) → cond t (refused 10 0) ((flags_at >>= λ f. envelope_body_at f sizes) s 0) ≡ got m next → (f : Flags) × (n : ℕ) × (flags_at s 0 ≡ got f n)
+        × (envelope_body_at f sizes s n ≡ got m next)
     go true q = absurd (not_got q)
     go false q = invert (flags_at s 0) (λ f n. envelope_body_at f sizes s n) q
 

@@ -6,11 +6,10 @@ use mathlib.Core.Bool.{Bool, true, false, not, ◌||◌, false≢true}
 use mathlib.Core.List.{◌∷◌}
 use native.Mathlib.Omega.{arith}
 use borrow.Author.Tests.{ltb-true, ltb-false, lt-ltb, le-ltb, le-leb, lt-leb, not-true, not-false}
-use lib.Dec.{leb, ltb}
+use lib.Dec.{ltb}
 use Rattle.wire.proofs.Cases.{by_bool, by_lt}
 use Rattle.salvage.specs.Holes.{hole_start, hole_end, hole, holes_from, holes_of, in_hole}
 use Rattle.salvage.specs.Tiles.{in_holes, hole_stop, Longest}
-use Rattle.salvage.specs.declared.holes.Hole.{Hole}
 use Rattle.salvage.proofs.HoleLaws.{start_next, end_next, start_from, end_from, end_after, end_upto}
 
 module _ (m : ℕ → Bool) (n : ℕ) where

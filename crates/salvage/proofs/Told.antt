@@ -9,7 +9,7 @@ use borrow.Author.Tests.{eqb-true, eq-eqb}
 use native.Mathlib.Omega.{arith}
 use lib.Dec.{leb, eqb}
 use lib.ListN.{length, get_or, take}
-use Rattle.wire.specs.Answer.{Answer, got, refused, Reader, and_then, item}
+use Rattle.wire.specs.Answer.{Answer, got, refused, Reader, and_then}
 use Rattle.wire.proofs.Reading.{got_value, not_got, invert}
 use Rattle.wire.proofs.Steady.{Fronts, Passed, Fronted, alike, item_steady}
 use Rattle.wire.proofs.Frontal.{Bounds, Frontal, frontal, never_frontal}

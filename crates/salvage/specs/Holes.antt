@@ -17,7 +17,8 @@ hole start end = record { offset = start; length = end - start }
 -- the first hole from i on of n offsets, and where it ends
 abbrev pub next_hole : (ℕ → Bool) → ℕ → ℕ → HoleStep
 next_hole marked n i =
-    cond (ltb (hole_start marked n i) n) (HoleStep.Is (hole (hole_start marked n i) (hole_end marked n i)) (hole_end marked n i)) HoleStep.Last
+    cond (ltb (hole_start marked n i) n)
+    (HoleStep.Is (hole (hole_start marked n i) (hole_end marked n i)) (hole_end marked n i)) HoleStep.Last
 
 -- at most k holes from i on
 unfoldable pub holes_from : (ℕ → Bool) → ℕ → ℕ → ℕ → List Hole

@@ -13,7 +13,7 @@ use wire::constants::CUT_SHORT;
 use wire::{Reached, left};
 
 // The cursor before the first field; or that the count is missing, the message not valid, or refused.
-#[derive(Drop)]
+#[derive(Clone, Copy)]
 pub enum Opening {
     Missing,
     NotValid,
@@ -23,7 +23,7 @@ pub enum Opening {
 
 // A field that lies whole in the front, with the cursor after it; that the reading ends at a hole, or was after the last field; or a
 // refusal.
-#[derive(Drop)]
+#[derive(Clone, Copy)]
 pub enum FieldShown {
     Is(Field, Cursor),
     Ends,
@@ -32,7 +32,7 @@ pub enum FieldShown {
 }
 
 // How many fields lie whole in the front, or a refusal.
-#[derive(Drop)]
+#[derive(Clone, Copy)]
 pub enum Tally {
     Is(usize),
     Refused(u8, usize),

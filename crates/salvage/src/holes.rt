@@ -6,14 +6,14 @@ ghost use Rattle.salvage.specs.Holes.{next_hole, holes_of};
 use marks::{gap, next_marked, next_unmarked};
 
 // A hole: where it starts, and how long it is.
-#[derive(Drop)]
+#[derive(Clone, Copy)]
 pub struct Hole {
     pub offset: usize,
     pub length: usize,
 }
 
 // The next hole and where it ends, or that there is none.
-#[derive(Drop)]
+#[derive(Clone, Copy)]
 pub enum HoleStep {
     Is(Hole, usize),
     Last,

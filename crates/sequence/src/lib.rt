@@ -1,9 +1,11 @@
 // Is a received sequence number newer than the last one? Document 01, "Newness".
+#![tactic(auto)]
+
 ghost use Rattle.std.specs.Prelude.{◌≡◌, ◌≤◌};
 ghost use Rattle.sequence.specs.Newness.{distance_of, newness_of, no_number, newness_by, number_after, last_after};
 
 // What is said of a received number.
-#[derive(Drop)]
+#[derive(Clone, Copy)]
 pub enum Newness {
     Newer,
     OldOrSame,
@@ -11,14 +13,14 @@ pub enum Newness {
 }
 
 // The record of the last number. Before any number `seen` is false, and `number` says nothing.
-#[derive(Drop)]
+#[derive(Clone, Copy)]
 pub struct LastSequenceNumber {
     pub seen: bool,
     pub number: u16,
 }
 
 // What was said of a received number, and the record after it.
-#[derive(Drop)]
+#[derive(Clone, Copy)]
 pub struct Judged {
     pub newness: Newness,
     pub last: LastSequenceNumber,

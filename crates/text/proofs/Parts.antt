@@ -1,9 +1,9 @@
 -- Texts parted by bytes: what stands before the first such byte and after it, and parts that a function reads.
 -- Assumes nothing.
 use mathlib.Core.Path.{◌≡◌, refl, sym, ◌∙◌, ap}
-use mathlib.Core.Bool.{Bool, true, false, cond, true≢false, false≢true, or_true, and_false}
+use mathlib.Core.Bool.{Bool, true, false, cond, true≢false, false≢true, or-true, and-false}
 use mathlib.Core.List.{List, [], ◌∷◌, ◌++◌, append-nil}
-use mathlib.Core.Logic.{◌⊎◌, ⊎_elim}
+use mathlib.Core.Logic.{⊎_elim}
 use mathlib.Core.Option.{Option, none, some}
 use Prim.Native.Nat.{ℕ, zero, suc, ◌+◌, ◌≤◌, ◌<◌}
 use native.Mathlib.Nat.{add-zero, zero-add, suc-add}
@@ -130,7 +130,7 @@ before_end x y f [] at d n = refl
 before_end x y f (b ∷ t) at d n = go (eqb b y) (eqb b x) refl refl (before_end x y (λ p. f (b ∷ p)) t (at + 1) d (λ p h. n (b ∷ p) (more p h)))
   where
     more : (p : List ℕ) → contains y p ≡ true → contains y (b ∷ p) ≡ true
-    more p h = rw h (or_true (eqb b y))
+    more p h = rw h (or-true (eqb b y))
 
     go : (u v : Bool) → eqb b y ≡ u → eqb b x ≡ v → ended_by x (λ p. f (b ∷ p)) (up_to y t) (at + 1) ≡ ended_by x (λ p. f (b ∷ p)) t (at + 1)
         → ended_by x f (up_to y (b ∷ t)) at ≡ ended_by x f (b ∷ t) at
@@ -166,5 +166,5 @@ no_decimal x limit n p h = rw (no_digits p h) (either_way {A = Option ℕ} (no_l
     no_digits (b ∷ p) h =
         ⊎_elim
         (λ e. rw (eqb-true b x e, n))
-        (λ e. rw (no_digits p (rw e at h)) (and_false (is_digit b)))
+        (λ e. rw (no_digits p (rw e at h)) (and-false (is_digit b)))
         (cases (eqb b x))

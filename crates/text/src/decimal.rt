@@ -5,7 +5,7 @@ ghost use Rattle.wire_writer.specs.Store.{Stored};
 ghost use Rattle.text.specs.Decimal.{is_digit, digits_at, decimal_at, decimal_text};
 
 // A decimal's number and the position after the byte that ended it, or none.
-#[derive(Drop)]
+#[derive(Clone, Copy)]
 pub enum Decimal {
     Is(u64, usize),
     Not,

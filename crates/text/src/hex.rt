@@ -7,7 +7,7 @@ ghost use Rattle.text.specs.Hex.{hex_digit, hex_text, hex_value, all_hex, hex_by
 use crate::decimal::is_digit;
 
 // The position after the bytes that hex digits stood for, or that they are no hex.
-#[derive(Drop)]
+#[derive(Clone, Copy)]
 pub enum Hex {
     To(usize),
     Not,

@@ -12,10 +12,10 @@ use borrow.Author.Tests.{le-ltb, lt-leb, leb-true, leb-false, ltb-true, ltb-fals
 use lib.Dec.{leb, ltb, eqb}
 use lib.ListN.{length}
 use Rattle.wire.specs.Number.{le_bytes}
-use Rattle.wire.specs.Answer.{Answer, got, refused, item, and_then}
+use Rattle.wire.specs.Answer.{Answer, got, refused, and_then}
 use Rattle.wire.proofs.Cases.{by_bool}
 use Rattle.wire.proofs.Reading.{got_value, got_next, not_got, invert}
-use Rattle.wire_writer.specs.Fits.{Bytes, Numbers}
+use Rattle.wire_writer.specs.Fits.{Bytes}
 use Rattle.wire_writer.specs.Store.{laid}
 use Rattle.wire_writer.proofs.Back.{end_fits, item_back}
 use Rattle.dataset_header.specs.Flags.{Valid, not_valid, valid, is_delta, is_raw}
@@ -157,7 +157,7 @@ module _ (s config : List ℕ) (writer : ℕ) (m : Message) (e : ℕ) (q : messa
         end = g.end;
         walked = g.walked;
         stepped = g.stepped;
-        looked_up = rw q g.looked-up;
+        looked_up = rw q g.looked_up;
         result = n.result ∙ ap (λ (y : Answer FieldStepped). step_result y h f) step ∙ made.0;
         filled = n.field ∙ ap (λ (y : Answer FieldStepped). field_after y h f) step ∙ made.2;
         cursor = after;
@@ -166,7 +166,7 @@ module _ (s config : List ℕ) (writer : ℕ) (m : Message) (e : ℕ) (q : messa
       let stands : Stands (k + 1) g.end a.head = record {
         long = omega (arith, w.long, ap (λ (y : List ℕ). length y) head, cursor_length x.cursor h);
         cursor = after;
-        passes = ap (λ (j : ℕ). fields_at c.delta c.encoding types j 0 s c.at) (add-one k) ∙ g.passed-too;
+        passes = ap (λ (j : ℕ). fields_at c.delta c.encoding types j 0 s c.at) (add-one k) ∙ g.passed_too;
         inside = end-in;
         header = ap header_in head ∙ stays.0 ∙ w.header;
         fitting = ap head_fits head ∙ stays.1 ∙ w.fitting;

@@ -18,7 +18,7 @@ use Rattle.network_message.specs.Payload.{value_or0}
 use Rattle.marks.specs.Marks.{marks_for, in_use}
 use Rattle.reassembly.specs.Record.{Partial, partial, sound_by, Good}
 use Rattle.reassembly.specs.Reading.{reading_at}
-use Rattle.reassembly.specs.Machine.{Call, reply_of, handed_of}
+use Rattle.reassembly.specs.Machine.{reply_of, handed_of}
 use Rattle.reassembly.specs.Operations.{Step, take_in, combine, emptied, ask_complete, judge_hand_out, if_done, hand_out}
 use Rattle.reassembly.specs.Calls.{said_of, answers, leaves, replies, final}
 use Rattle.reassembly.specs.declared.record.PartialRecord.{PartialRecord}

@@ -141,7 +141,8 @@ pub hand_ends : (r p m : List ℕ) (x : ℕ) (k : PartialRecord) (a b : Verdict)
     → x ≡ hand_result k b → lent x r p m ≡ lent (hand_in r (judge_hand_out (partial_of r p m))) r p m
 hand_ends r p m x k a b h e q t y =
     let z : b ≡ judge_hand_out (partial_of r p m) = sym t ∙ handed_verdict (partial k p m) a q ∙ ap (λ (i : PartialRecord). judge_hand_out (partial i p m)) e ∙ asked_hand r p m in
-    rw (le-ltb (length r) PARTIAL_SIZE h) (ap (λ (v : ℕ). lent v r p m) (y ∙ ap (λ (i : PartialRecord). hand_result i b) e ∙ hand_result_lem r b ∙ ap (λ (v : Verdict). hand_result (partial_in r) v) z))
+    rw (le-ltb (length r) PARTIAL_SIZE h)
+    (ap (λ (v : ℕ). lent v r p m) (y ∙ ap (λ (i : PartialRecord). hand_result i b) e ∙ hand_result_lem r b ∙ ap (λ (v : Verdict). hand_result (partial_in r) v) z))
 
 -- ---- the calls that take a step, in full: the bytes, and what they are read as
 

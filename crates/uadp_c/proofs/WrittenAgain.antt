@@ -6,7 +6,7 @@ use mathlib.Core.Bool.{Bool, true, false, cond}
 use mathlib.Core.List.{List, [], ◌∷◌}
 use native.Mathlib.Omega.{arith}
 use borrow.Author.Tests.{le-leb}
-use lib.Dec.{leb, ltb}
+use lib.Dec.{ltb}
 use lib.ListN.{length, get_or, take, replicate}
 use Rattle.wire.specs.Answer.{got}
 use Rattle.wire.specs.Number.{le}
@@ -95,7 +95,7 @@ datagram_again_lem d config m n entry r envelope q l w ps ys long k y =
     let last = last_envelope envelope ys in
     let x = m.envelope in
     let g = given_of d x m.places (sizes_in config) (ids_in config) in
-    let z = write_read (sizes_in config) (ids_in config) d m n w.bytes (configured_numbers 34 config w.config-bytes) (configured_numbers 2 config w.config-bytes) q in
+    let z = write_read (sizes_in config) (ids_in config) d m n w.bytes (configured_numbers 34 config w.config_bytes_lem) (configured_numbers 2 config w.config_bytes_lem) q in
     let shape = (both_zero (datagram.datagram_reading_refusal g x (sizes_in config)) (datagram.shape_refusal g x (sizes_in config) (ids_in config)) z.0).1 in
     let ids = (both_zero (publisher_shape x.publisher (length g.text)) _ shape).1 in
     let counts = count_fits_lem x.chunk x.payload_header g.ids (ids_in config) (both_zero (ids_shape x.chunk x.payload_header g.ids (ids_in config)) _ ids).0 in

@@ -120,7 +120,8 @@ pub record FieldsByCalls (s config : List ℕ) (writer : ℕ) (m : Message) (hea
 -- the message answers; 10 where none is left
 pub data StepOf (read : Answer (Valid Message)) (h : List ℕ) (result : ℕ) : Type 0 where
   field : (offset : ℕ) → (cursor_in h).next < (cursor_in h).count → result ≡ result_of 0 offset → StepOf read h result
-  fault : (n place : ℕ) → (cursor_in h).next < (cursor_in h).count → read ≡ refused n place → result ≡ result_of n place → StepOf read h result
+  fault : (n place : ℕ) → (cursor_in h).next < (cursor_in h).count → read ≡ refused n place → result ≡ result_of n place
+      → StepOf read h result
   last : (cursor_in h).count ≤ (cursor_in h).next → result ≡ result_of OVER_LIMIT 0 → StepOf read h result
 
 -- what `uadp_end_message` answers there: 6 at the cursor's byte where a field is left, else what reading the message answers: where its
@@ -129,7 +130,8 @@ pub data EndOf (read : Answer (Valid Message)) (h : List ℕ) (result : ℕ) : T
   left : (cursor_in h).next < (cursor_in h).count → result ≡ result_of DISAGREE (cursor_in h).at → EndOf read h result
   ended : (m : Message) → (cursor_in h).count ≤ (cursor_in h).next → read ≡ got (valid m) m.end → result ≡ result_of 0 m.end
       → EndOf read h result
-  over : (n place : ℕ) → (cursor_in h).count ≤ (cursor_in h).next → read ≡ refused n place → result ≡ result_of n place → EndOf read h result
+  over : (n place : ℕ) → (cursor_in h).count ≤ (cursor_in h).next → read ≡ refused n place → result ≡ result_of n place
+      → EndOf read h result
 
 -- What is claimed of the head record `head` of an opened valid message: after any calls of `uadp_next_field`, whatever they answered, a
 -- further one, and `uadp_end_message`, answer as reading the whole message would.

@@ -1,5 +1,7 @@
 // The library for C and Rust: its functions take numbers and lent bytes, and answer one number. include/uadp.h tells their arguments, the
 // layouts of their records and their answers.
+#![tactic(auto)]
+
 pub mod chunks;
 pub mod composing;
 pub mod configuring;

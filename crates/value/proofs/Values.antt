@@ -3,7 +3,7 @@
 use mathlib.Core.Path.{◌≡◌, refl, subst}
 use mathlib.Core.Bool.{Bool, true, false, cond, not, ◌&&◌, ◌||◌}
 use mathlib.Core.List.{List}
-use Prim.Native.Nat.{ℕ, zero, suc, ◌+◌, ◌*◌, ◌-◌, ◌<◌, ◌≤◌}
+use Prim.Native.Nat.{ℕ, zero, suc, ◌+◌, ◌*◌, ◌<◌, ◌≤◌}
 use native.Mathlib.Nat.{le_refl, le-add_right}
 use native.Mathlib.Omega.{arith}
 use lib.Dec.{eqb, leb, ltb}
@@ -14,12 +14,12 @@ use Rattle.wire.specs.Answer.{got, Reader, ◌>>=◌, ruled, bit}
 use Rattle.wire.specs.declared.Length.{Length}
 use Rattle.plain_value.specs.Width.{width_of, fixed}
 use Rattle.plain_value.specs.Parts.{parts}
-use Rattle.plain_value.specs.Plain.{passing, bytes, length_first, named, text, plain, plain_value, plain_values}
+use Rattle.plain_value.specs.Plain.{length_first, named, plain, plain_value, plain_values}
 use Rattle.plain_value.specs.Dimensions.{fours, any_below_one, product, sizes_rule, after_list_length, dimensions}
 use Rattle.value.specs.Value.{Measure, measure, type_of, is_array, has_dimensions, taken, variant_rule, scalar, elements, array, dimensioned, matrix, variant_of, mask_rule, data_value_of, too_deep, value_at, raw_at}
 use Rattle.value.specs.declared.Shape.{Shape}
 use Rattle.plain_value.proofs.Steadily.{passing_steady, bytes_steady, by_length_steady, text_steady}
-use Rattle.wire.proofs.Places.{end_of, after}
+use Rattle.wire.proofs.Places.{end_of}
 use Rattle.wire.proofs.Steady.{Ends, Steady, Onward, steadily, refusing, pure_steady, refuse_steady, item_steady, length_item_steady, onward_steady, bind_steady, then_steady, cond_onward, cond_steady, Fair, fair, fair_cond, when_steady, each_steady, ruled_ends, ruled_steady, taking_ends, then_ends}
 
 -- no rule of a value refuses by 1

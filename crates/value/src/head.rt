@@ -25,7 +25,7 @@ const ALONE: u8 = 128;
 // Where a value that holds no other ends, its refusal, or what it holds: from where, how many values, their type (23 or 24), and what
 // follows them, a mask's parts or the dimensions list. A list that stands alone has the count of the elements before it. It is flat, with a
 // place at the same offset in each case, so that it stays in registers.
-#[derive(Drop)]
+#[derive(Clone, Copy)]
 pub(crate) enum Head {
     To(usize),
     Refused(u8, usize),

@@ -1,4 +1,6 @@
 // Encoded values of Part 6, measured at a position of a slice: a Variant, a DataValue, an element of RawData.
+#![tactic(auto)]
+
 mod head;
 mod matrix;
 pub mod quick;
@@ -31,7 +33,7 @@ const VARIANTS: u8 = 152;
 
 // A scalar, a null array, an array with its element count, or one with a dimensions list: the count of all its elements, and how many
 // dimensions it has.
-#[derive(Drop)]
+#[derive(Clone, Copy)]
 pub enum Shape {
     Scalar,
     NullArray,
@@ -41,7 +43,7 @@ pub enum Shape {
 
 // A measured value: its type number and the position after it, of an array with elements also their count, and of one with a dimensions
 // list how many these are; or the number and place of its refusal. It is flat, so that an answer crosses a call in whole words.
-#[derive(Drop)]
+#[derive(Clone, Copy)]
 pub enum Measured {
     Scalar(u8, usize),
     NullArray(u8, usize),

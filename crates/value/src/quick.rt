@@ -191,7 +191,7 @@ pub fn described(s: &[u8], at: usize, end: usize) -> Measured
 
 // A Variant that holds no other value, told in one look: its type and the position after it, by its shape; of an array with elements also
 // their count. `Not` for any other, and for some of these.
-#[derive(Drop)]
+#[derive(Clone, Copy)]
 pub enum Plain {
     Scalar(u8, usize),
     NullArray(u8, usize),
@@ -284,7 +284,7 @@ fn plain_variant(s: &[u8], at: usize) -> Plain
 
 // A matrix of a fixed type and of two dimensions, told in one look: its type, the position after it and its element count. `Not` for any
 // other value.
-#[derive(Drop)]
+#[derive(Clone, Copy)]
 pub(crate) enum Two {
     Is(u8, usize, usize),
     Not,

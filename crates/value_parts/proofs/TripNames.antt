@@ -7,11 +7,11 @@ use Prim.Native.Nat.{ℕ, zero, suc, ◌+◌, ◌*◌, ◌/◌, ◌%◌, ◌≤�
 use native.Mathlib.Nat.{div-le_self, div-add-mod', add-zero}
 use native.Mathlib.Omega.{arith}
 use borrow.Author.Tests.{le-leb, lt-ltb, le-ltb, ltb-false, eqb-true}
-use lib.Dec.{eqb, ltb, leb}
+use lib.Dec.{eqb, ltb}
 use lib.ListN.{length, get_or, take, drop, length-append, take-append-drop, get_or-append}
 use lib.Seq.{get_or-append-add}
 use Rattle.wire.specs.Number.{le, le_bytes}
-use Rattle.wire.specs.Answer.{Answer, got, Reader, and_then, item, ruled, when_on, bit}
+use Rattle.wire.specs.Answer.{Answer, got, Reader, and_then, when_on, bit}
 use Rattle.wire_writer.specs.Writing.{Writes, or_else}
 use Rattle.wire_writer.specs.declared.writing.Written.{Written}
 use Rattle.wire_writer.proofs.Answering.{reported}
@@ -25,7 +25,6 @@ use Rattle.value.specs.declared.Shape.{Shape}
 use Rattle.value.proofs.FirstByte.{matrix_first}
 use Rattle.value.proofs.FirstItems.{fixed_first}
 use Rattle.value_parts.specs.declared.put.Form.{Form}
-use Rattle.value_parts.specs.declared.name.Name.{Name}
 use Rattle.value_parts.specs.Told.{told_variant_at}
 use Rattle.value_parts.specs.Name.{text_here, after_text, name_at, name_of}
 use Rattle.value_parts.specs.Put.{count_given, form_rule}

@@ -47,7 +47,8 @@ absent_rule on k = cond on 0 (six_unless (eqb k 0))
 -- the first broken rule, reading's first; an index that does not fit 2 bytes is 6; 0 for none
 abbrev pub name_rule : ℕ → ℕ → ℕ → ℕ → ℕ
 name_rule t n l k =
-    or_else (name_kind_rule t n) (or_else (six_unless (leb n 65535)) (or_else (absent_rule (has_locale t n) l) (absent_rule (has_text t n) k)))
+    or_else (name_kind_rule t n)
+    (or_else (six_unless (leb n 65535)) (or_else (absent_rule (has_locale t n) l) (absent_rule (has_text t n) k)))
 
 -- what is to be written
 abbrev pub name_output : ℕ → ℕ → List ℕ → List ℕ → Output

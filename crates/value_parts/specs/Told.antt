@@ -78,7 +78,8 @@ told_name_at t s at =
 -- element k of an array of n Strings, ByteStrings, QualifiedNames or LocalizedTexts, from the first element's position: "k at or past the
 -- count .. is 10"; the elements before it are passed over
 abbrev pub told_element_at : ℕ → ℕ → ℕ → Reader ValueParts
-told_element_at t n k s at = cond (leb n k) (refused OVER_LIMIT 0) ((each (text t) k >> cond (named t) (told_name_at t) (told_string_at t)) s at)
+told_element_at t n k s at =
+    cond (leb n k) (refused OVER_LIMIT 0) ((each (text t) k >> cond (named t) (told_name_at t) (told_string_at t)) s at)
 
 -- what is told of a value's type and shape
 abbrev pub measure_of : ValueParts → Measure

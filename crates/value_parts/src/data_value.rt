@@ -16,7 +16,7 @@ use wire::{Item8, has, read8};
 // What a field's value is told apart into: `value` is the Variant, or RawData's element. Of a DataValue the mask tells which parts it has;
 // its Variant's place and those of its other parts are 0 where they are absent, and an absent Variant is told as a null one. Of any other
 // value mask and places are 0.
-#[derive(Drop)]
+#[derive(Clone, Copy)]
 pub struct FieldParts {
     pub mask: u8,
     pub variant: usize,
@@ -30,14 +30,14 @@ pub struct FieldParts {
 }
 
 // A field's value, or the number and place of its refusal.
-#[derive(Drop)]
+#[derive(Clone, Copy)]
 pub enum FieldTold {
     Is(FieldParts),
     Refused(u8, usize),
 }
 
 // The place of a part and the position after it.
-#[derive(Drop)]
+#[derive(Clone, Copy)]
 pub(crate) enum Placed {
     Is(usize, usize),
     Short,

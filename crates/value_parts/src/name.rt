@@ -8,7 +8,7 @@ use value::Shape;
 use wire::{Item8, Item16, ItemLength, Reached, read_length, read8, read16};
 
 // The bytes of a String: where they start, and how many; both 0 where it is absent or null.
-#[derive(Drop)]
+#[derive(Clone, Copy)]
 pub struct Text {
     pub place: usize,
     pub length: usize,
@@ -16,7 +16,7 @@ pub struct Text {
 
 // What a name is told apart into: of a QualifiedName its index and, as text, its name; of a LocalizedText its mask, its locale and its
 // text. Of any other value all are 0.
-#[derive(Drop)]
+#[derive(Clone, Copy)]
 pub struct Name {
     pub number: u16,
     pub locale: Text,

@@ -18,7 +18,7 @@ use wire_writer::writing::{Written, or_else, room_refusal, six_unless};
 const NULL: u32 = 4294967295;
 
 // How a value is handed over: a scalar; a null scalar, which is a null Variant, String or ByteString; an array; a null array.
-#[derive(Drop)]
+#[derive(Clone, Copy)]
 pub enum Form {
     Scalar,
     Null,

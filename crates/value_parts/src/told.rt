@@ -20,7 +20,7 @@ pub(crate) const STRING: u8 = 12;
 // What a value is told apart into: its type number and shape; the bytes of an element of a fixed type, 0 for any other type; whether it is
 // null (a null Variant, String, ByteString or array); and the value itself, of an array its elements, of a String its bytes: from `first`
 // up to `end`, where the whole value ends, or up to the dimensions list before it.
-#[derive(Drop)]
+#[derive(Clone, Copy)]
 pub struct ValueParts {
     pub kind: u8,
     pub shape: Shape,
@@ -31,7 +31,7 @@ pub struct ValueParts {
 }
 
 // A value's parts, or the number and place of its refusal.
-#[derive(Drop)]
+#[derive(Clone, Copy)]
 pub enum Told {
     Is(ValueParts),
     Refused(u8, usize),

@@ -5,7 +5,7 @@ use publisher_id::publisher::PublisherId;
 use wire::optional::Optional16;
 
 // What a `set` line begins with: which message, its DataSetWriterId, and where it stands in the datagram.
-#[derive(Drop)]
+#[derive(Clone, Copy)]
 pub struct SetPlace {
     pub message: usize,
     pub writer: Optional16,
@@ -14,7 +14,7 @@ pub struct SetPlace {
 }
 
 // One entry of a datagram, as a line of its listing tells it.
-#[derive(Drop)]
+#[derive(Clone, Copy)]
 pub enum Line {
     // the datagram's length, its PublisherId and where that ends, and the number of messages
     Net(usize, PublisherId, usize, usize),

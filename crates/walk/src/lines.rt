@@ -15,7 +15,7 @@ use publisher_id::publisher::PublisherId;
 use wire::part::part;
 
 // What the listing needs of an accepted datagram: its PublisherId and PayloadHeader with the positions where they end, and its messages.
-#[derive(Drop)]
+#[derive(Clone, Copy)]
 pub struct Listed {
     pub publisher: PublisherId,
     pub publisher_end: usize,
@@ -26,7 +26,7 @@ pub struct Listed {
 
 // A cursor over the lines: before the one line of a refusal, before the `net` line, before a message, or before a field of the message in a
 // place; the message cursor stands before the message after it.
-#[derive(Drop)]
+#[derive(Clone, Copy)]
 pub enum LineCursor {
     Bad(u8, usize),
     Net(Listed),
@@ -36,7 +36,7 @@ pub enum LineCursor {
 }
 
 // The line that the cursor stands before, and the cursor before the next one.
-#[derive(Drop)]
+#[derive(Clone, Copy)]
 pub enum LineStep {
     Is(Line, LineCursor),
     None,

@@ -9,7 +9,7 @@ use Rattle.network_message.specs.declared.payload.MessagePlace.{MessagePlace}
 use Rattle.dataset_header.specs.declared.header.Header.{Header}
 use Rattle.dataset_fields.specs.Fields.{fields_at, padding_at}
 use Rattle.dataset_fields.specs.declared.fields.Cursor.{Cursor}
-use Rattle.dataset_message.specs.Message.{Message, end_at, opened_at}
+use Rattle.dataset_message.specs.Message.{end_at, opened_at}
 use Rattle.walk.specs.Lines.{fields_left}
 use Rattle.walk.specs.declared.lines.Listed.{Listed}
 use Rattle.walk_records.specs.Walk.{fields_from, records_by, message_records, records_put}

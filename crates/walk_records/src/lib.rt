@@ -1,5 +1,7 @@
 // A datagram walked in one call and one pass: a record of 10 numbers for each of its messages and fields, a field's as soon as its end is
 // known, a message's when it was read. The worth of the loops' shape: half of the time of reading each message first and its fields then.
+#![tactic(auto)]
+
 ghost use Rattle.std.specs.Prelude.{◌≡◌, [], ◌+◌, ◌*◌, ◌≤◌, length};
 ghost use Rattle.wire_writer.specs.Store.{laid};
 ghost use Rattle.dataset_header.specs.declared.flags.Encoding.{Encoding};
@@ -28,14 +30,14 @@ use wire::optional::Optional16;
 use wire::part::part;
 
 // How many records there are in all, or the datagram's refusal.
-#[derive(Drop)]
+#[derive(Clone, Copy)]
 pub enum Walked {
     Is(usize),
     Refused(u8, usize),
 }
 
 // How a message's fields went: the number of the record after theirs, and where they end or the refusal of the first that is refused.
-#[derive(Drop)]
+#[derive(Clone, Copy)]
 pub enum FieldsWalked {
     To(usize, usize),
     Refused(usize, u8, usize),

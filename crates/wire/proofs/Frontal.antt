@@ -1,7 +1,7 @@
 -- Readers of which a front tells what it tells of every whole, wherever their values hold positions too: steady ones, and those that are put
 -- together from them and the position.
 -- Assumes nothing.
-use mathlib.Core.Path.{◌≡◌, refl, sym, subst}
+use mathlib.Core.Path.{◌≡◌, sym, subst}
 use mathlib.Core.List.{List}
 use Prim.Native.Nat.{ℕ, ◌+◌, ◌<◌, ◌≤◌}
 use native.Mathlib.Nat.{le_refl, le_trans, le-add_right, le-add_left}
@@ -58,7 +58,7 @@ module _ {A B : Type 0} {r : Reader A} {k : A → Reader B} (f : Frontal r) (h :
 
   then_fronted : (g s s' : List ℕ) → Fronts g s s' → (at : ℕ) (x y z : Answer A) → Bounds at (length g) x → Fronted x y z
       → Fronted (and_then x (λ a next. k a g next)) (and_then y (λ a next. k a s next)) (and_then z (λ a next. k a s' next))
-  then_fronted g s s' front at (got a next) y z (l, m) alike = (h a).fronts g s s' front next m
+  then_fronted g s s' front at (got a next) y z b alike = (h a).fronts g s s' front next b.1
   then_fronted g s s' front at (refused n q) y z b alike = alike
   then_fronted g s s' front at x y z b (ends i j) = ends (then_passed s _ i) (then_passed s' _ j)
 

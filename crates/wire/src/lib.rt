@@ -1,5 +1,7 @@
 // Items of the wire: little-endian numbers, signed numbers, lengths and runs of bytes at a position of a slice.
 // Every function takes any slice and any position; an item that does not fit is short.
+#![tactic(auto)]
+
 pub mod constants;
 pub mod optional;
 pub mod part;
@@ -11,84 +13,84 @@ ghost use Rattle.wire.specs.Items.{answer8, answer16, answer32, answer64, answer
 ghost use Rattle.wire.specs.Items.{answer_run, guid, answer_guid, length_of, length_item, answer_length};
 
 // An item: its value and the position after it, or that it does not fit.
-#[derive(Drop)]
+#[derive(Clone, Copy)]
 pub enum Item8 {
     Is(u8, usize),
     Short,
 }
 
 // 2 bytes as a number, and the position after them; or that they are not there.
-#[derive(Drop)]
+#[derive(Clone, Copy)]
 pub enum Item16 {
     Is(u16, usize),
     Short,
 }
 
 // 4 bytes as a number, and the position after them; or that they are not there.
-#[derive(Drop)]
+#[derive(Clone, Copy)]
 pub enum Item32 {
     Is(u32, usize),
     Short,
 }
 
 // 8 bytes as a number, and the position after them; or that they are not there.
-#[derive(Drop)]
+#[derive(Clone, Copy)]
 pub enum Item64 {
     Is(u64, usize),
     Short,
 }
 
 // 4 bytes as a signed number, and the position after them; or that they are not there.
-#[derive(Drop)]
+#[derive(Clone, Copy)]
 pub enum ItemI32 {
     Is(i32, usize),
     Short,
 }
 
 // 8 bytes as a signed number, and the position after them; or that they are not there.
-#[derive(Drop)]
+#[derive(Clone, Copy)]
 pub enum ItemI64 {
     Is(i64, usize),
     Short,
 }
 
 // A run of bytes: the position after it.
-#[derive(Drop)]
+#[derive(Clone, Copy)]
 pub enum Run {
     To(usize),
     Short,
 }
 
 // A flag byte that its rules permit.
-#[derive(Drop)]
+#[derive(Clone, Copy)]
 pub enum FlagByte {
     Is(u8, usize),
     Refused(u8, usize),
 }
 
 // The position after what was passed over, or the number and place of its refusal.
-#[derive(Drop)]
+#[derive(Clone, Copy)]
 pub enum Reached {
     To(usize),
     Refused(u8, usize),
 }
 
 // 16 bytes, as two numbers of 8.
-#[derive(Drop)]
+#[derive(Clone, Copy)]
 pub struct Guid {
     pub low: u64,
     pub high: u64,
 }
 
 // 16 bytes, and the position after them; or that they are not there.
-#[derive(Drop)]
+#[derive(Clone, Copy)]
 pub enum ItemGuid {
     Is(Guid, usize),
     Short,
 }
 
 // The length of an array or a string. Negative is below -1, which is no length.
-#[derive(Drop)]
+#[derive(Clone, Copy)]
 pub enum Length {
     Null,
     Of(usize),
@@ -96,7 +98,7 @@ pub enum Length {
 }
 
 // A length and the position after it, which comes first in each case: the answer is flat, so that it stays in registers.
-#[derive(Drop)]
+#[derive(Clone, Copy)]
 pub enum ItemLength {
     Null(usize),
     Of(usize, usize),

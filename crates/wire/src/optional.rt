@@ -7,21 +7,21 @@ use crate::constants::{CUT_SHORT, MOST_PICOSECONDS, PICOSECONDS_END};
 use crate::{Item16, Item32, ItemI64, read_i64, read16, read32};
 
 // An item of 2 bytes that a flag announces.
-#[derive(Drop)]
+#[derive(Clone, Copy)]
 pub enum Optional16 {
     Absent,
     Is(u16),
 }
 
 // The item and the position after it; or the number and place of its refusal.
-#[derive(Drop)]
+#[derive(Clone, Copy)]
 pub enum Optional16Read {
     Is(Optional16, usize),
     Refused(u8, usize),
 }
 
 // An item of 4 bytes that a flag announces.
-#[derive(Drop)]
+#[derive(Clone, Copy)]
 pub enum Optional32 {
     Absent,
     Is(u32),
@@ -29,21 +29,21 @@ pub enum Optional32 {
 
 // The position stands first, where a refusal has its place: no two fields of different widths share bytes, and the answer stays in
 // registers.
-#[derive(Drop)]
+#[derive(Clone, Copy)]
 pub enum Optional32Read {
     Is(usize, Optional32),
     Refused(u8, usize),
 }
 
 // A signed item of 8 bytes that a flag announces.
-#[derive(Drop)]
+#[derive(Clone, Copy)]
 pub enum OptionalI64 {
     Absent,
     Is(i64),
 }
 
 // The item and the position after it; or the number and place of its refusal.
-#[derive(Drop)]
+#[derive(Clone, Copy)]
 pub enum OptionalI64Read {
     Is(OptionalI64, usize),
     Refused(u8, usize),

@@ -11,7 +11,7 @@ use wire::constants::{
 use wire::optional::{Optional16, Optional32, OptionalI64};
 
 // What a writer answers: how many bytes it wrote, or the number of its refusal, whose place is 0.
-#[derive(Drop)]
+#[derive(Clone, Copy)]
 pub enum Written {
     Is(usize),
     Refused(u8),

@@ -1,0 +1,13 @@
+use Rattle.dataset_header.specs.declared.flags.Encoding.{Encoding}
+use Rattle.dataset_fields.specs.Fields.{fields_at}
+use mathlib.Core.Path.{◌≡◌}
+use mathlib.Core.List.{List}
+use Prim.Native.Nat.{ℕ, ◌-◌, ◌≤◌}
+use Rattle.dataset_fields.proofs.fields.pass_data_values.Given as goal
+
+abbrev pub invariant-loop-k : goal.invariant-loop-k
+invariant-loop-k l =
+    ((types : List ℕ) → fields_at l.delta Encoding.DataValue types l.count 0 l.s l.at ≡ fields_at l.delta Encoding.DataValue types (l.count - l.k) l.k l.s l.p) × (l.k ≤ l.count)
+
+abbrev pub decreases-loop-k : goal.decreases-loop-k
+decreases-loop-k l = l.count - l.k

@@ -1,0 +1,7 @@
+use native.Mathlib.Omega.{arith}
+use Rattle.listing.proofs.Putting.{then, fewer}
+use Rattle.listing.proofs.line.net.Goals as goal
+
+pub returns : goal.returns
+returns c =
+    fewer (omega arith) (then c.first-p.ensures (then c.decimal-p.ensures (then c.publisher-p.ensures (then c.decimal-p-2.ensures c.end.ensures))))
