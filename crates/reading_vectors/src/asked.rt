@@ -14,56 +14,56 @@ use vector_lines::print::{number, put, refused};
 const BEHIND: usize = 6;
 
 // Shows a probe of one line of the input.
-pub fn vector(line: &[u8], bytes: &[u8]) {
+pub fn vector(rt: &impl Print, line: &[u8], bytes: &[u8]) {
     if letter(line) == b'S' {
-        return one_step(bytes, decimal(line, 2), decimal(line, 3));
+        return one_step(rt, bytes, decimal(line, 2), decimal(line, 3));
     }
-    show(bytes);
+    show(rt, bytes);
 }
 
-fn show(s: &[u8]) {
+fn show(rt: &impl Print, s: &[u8]) {
     match read_probe(s, &[]) {
         ProbeMessageRead::Refused(n, place) => {
-            refused(n, place);
+            refused(rt, n, place);
         }
         ProbeMessageRead::Is(envelope, places, p) => {
             let id = envelope.publisher;
-            publisher(id);
-            asked(p);
-            items(s, p, places.payload % 65536 + BEHIND);
+            publisher(rt, id);
+            asked(rt, p);
+            items(rt, s, p, places.payload % 65536 + BEHIND);
         }
     }
 }
 
-fn asked(p: Probe) {
-    number(information_of(p) as usize);
+fn asked(rt: &impl Print, p: Probe) {
+    number(rt, information_of(p) as usize);
     match p {
-        Probe::MetaData(list) => count(list),
-        Probe::Writers(list) => count(list),
+        Probe::MetaData(list) => count(rt, list),
+        Probe::Writers(list) => count(rt, list),
         Probe::Group(id, include) => {
-            number(id as usize);
-            number(include as usize);
+            number(rt, id as usize);
+            number(rt, include as usize);
         }
         Probe::Connections(list, groups, include) => {
-            count(list);
-            number(groups as usize);
-            number(include as usize);
+            count(rt, list);
+            number(rt, groups as usize);
+            number(rt, include as usize);
         }
     }
 }
 
-fn count(list: ListCount) {
+fn count(rt: &impl Print, list: ListCount) {
     match list {
         ListCount::Null => {
-            put(b" null");
+            put(rt, b" null");
         }
         ListCount::Of(n) => {
-            number(n);
+            number(rt, n);
         }
     }
 }
 
-fn items(s: &[u8], p: Probe, first: usize) {
+fn items(rt: &impl Print, s: &[u8], p: Probe, first: usize) {
     let mut cursor = ProbeCursor {
         index: 0,
         at: first,
@@ -72,10 +72,10 @@ fn items(s: &[u8], p: Probe, first: usize) {
     while 0 < left {
         match cursor.step(s, p) {
             ItemStep::Refused(n, place) => {
-                refused(n, place);
+                refused(rt, n, place);
             }
             ItemStep::Is(x, next) => {
-                item(x);
+                item(rt, x);
                 cursor = next;
             }
         }
@@ -83,30 +83,30 @@ fn items(s: &[u8], p: Probe, first: usize) {
     }
 }
 
-fn item(x: ProbeItem) {
-    put(b",");
-    number(x.index);
-    number(x.offset);
-    number(x.length);
+fn item(rt: &impl Print, x: ProbeItem) {
+    put(rt, b",");
+    number(rt, x.index);
+    number(rt, x.offset);
+    number(rt, x.length);
     if x.null {
-        put(b" null");
+        put(rt, b" null");
     } else {
-        number(x.id as usize);
+        number(rt, x.id as usize);
     }
 }
 
-fn one_step(s: &[u8], index: usize, at: usize) {
+fn one_step(rt: &impl Print, s: &[u8], index: usize, at: usize) {
     match read_probe(s, &[]) {
         ProbeMessageRead::Refused(n, place) => {
-            refused(n, place);
+            refused(rt, n, place);
         }
         ProbeMessageRead::Is(_, _, p) => {
             let cursor = ProbeCursor { index, at };
             match cursor.step(s, p) {
                 ItemStep::Refused(n, place) => {
-                    refused(n, place);
+                    refused(rt, n, place);
                 }
-                ItemStep::Is(x, _) => item(x),
+                ItemStep::Is(x, _) => item(rt, x),
             }
         }
     }

@@ -9,12 +9,12 @@ use vector_lines::print::{digits, hex, number, put};
 use wire::part::part;
 
 // Shows what a configuration of one line of the input says.
-pub fn vector(line: &[u8], text: &[u8]) {
+pub fn vector(rt: &impl Print, line: &[u8], text: &[u8]) {
     match letter(line) {
-        b'M' => about(made_up(), word(line, 1)),
-        b'X' => about(answer(text), word(line, 2)),
+        b'M' => about(rt, made_up(), word(line, 1)),
+        b'X' => about(rt, answer(rt, text), word(line, 2)),
         _ => {
-            answer(text);
+            answer(rt, text);
         }
     }
 }
@@ -30,19 +30,20 @@ fn made_up() -> Config {
     }
 }
 
-fn answer(text: &[u8]) -> Config {
+fn answer(rt: &impl Print, text: &[u8]) -> Config {
     let read = read_config(text);
     let config = read.config;
-    digits(read.number as u64);
-    number(read.place);
-    number(config.writers);
-    number(config.fields);
+    digits(rt, read.number as u64);
+    number(rt, read.place);
+    number(rt, config.writers);
+    number(rt, config.fields);
     config
 }
 
-fn about(config: Config, asked: &[u8]) {
+fn about(rt: &impl Print, config: Config, asked: &[u8]) {
     let n = config.writers;
     writers(
+        rt,
         first(&config.ids, n),
         first(&config.sizes, n),
         part(&config.starts, 0, n),
@@ -51,10 +52,18 @@ fn about(config: Config, asked: &[u8]) {
     );
 }
 
-fn writers<'a>(ids: &'a [u16], sizes: &'a [u16], starts: &'a [u8], types: &'a [u8], asked: &[u8]) {
+fn writers<'a>(
+    rt: &impl Print,
+    ids: &'a [u16],
+    sizes: &'a [u16],
+    starts: &'a [u8],
+    types: &'a [u8],
+    asked: &[u8],
+) {
     let mut at: usize = 0;
     while at < asked.len() {
         writer(
+            rt,
             ids,
             sizes,
             starts,
@@ -63,23 +72,30 @@ fn writers<'a>(ids: &'a [u16], sizes: &'a [u16], starts: &'a [u8], types: &'a [u
         );
         at = after(asked, at, b',');
     }
-    all_sizes(sizes);
+    all_sizes(rt, sizes);
 }
 
-fn writer<'a>(ids: &'a [u16], sizes: &'a [u16], starts: &'a [u8], types: &'a [u8], id: u16) {
+fn writer<'a>(
+    rt: &impl Print,
+    ids: &'a [u16],
+    sizes: &'a [u16],
+    starts: &'a [u8],
+    types: &'a [u8],
+    id: u16,
+) {
     let k = find_writer(ids, id);
-    put(b"\nwriter");
-    number(id as usize);
-    number(k);
-    number(number_of(sizes, k) as usize);
-    hex(fields_of(ids, starts, types, id));
+    put(rt, b"\nwriter");
+    number(rt, id as usize);
+    number(rt, k);
+    number(rt, number_of(sizes, k) as usize);
+    hex(rt, fields_of(ids, starts, types, id));
 }
 
-fn all_sizes(sizes: &[u16]) {
+fn all_sizes(rt: &impl Print, sizes: &[u16]) {
     if all_sized(sizes) {
-        put(b"\nsized");
+        put(rt, b"\nsized");
     } else {
-        put(b"\nunsized");
+        put(rt, b"\nunsized");
     }
-    number(sum_of_sizes(sizes));
+    number(rt, sum_of_sizes(sizes));
 }

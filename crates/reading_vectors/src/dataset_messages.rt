@@ -19,10 +19,11 @@ const FLOAT: u8 = 10;
 const STRING: u8 = 12;
 
 // Shows a DataSetMessage of one line of the input.
-pub fn vector(line: &[u8], bytes: &[u8]) {
+pub fn vector(rt: &impl Print, line: &[u8], bytes: &[u8]) {
     match letter(line) {
-        b'F' => one_field(bytes, decimal(line, 2)),
+        b'F' => one_field(rt, bytes, decimal(line, 2)),
         b'S' => one_step(
+            rt,
             bytes,
             Encoding::Variant,
             &[],
@@ -30,42 +31,43 @@ pub fn vector(line: &[u8], bytes: &[u8]) {
             decimal(line, 3),
         ),
         b'C' => one_step(
+            rt,
             bytes,
             Encoding::RawData,
             &[UINT16, FLOAT, STRING],
             decimal(line, 2),
             decimal(line, 3),
         ),
-        b'K' => count(bytes, &[]),
-        b'R' => count(bytes, &[UINT16; 64]),
-        b't' => show(bytes, &[UINT16, FLOAT]),
-        _ => show(bytes, &[]),
+        b'K' => count(rt, bytes, &[]),
+        b'R' => count(rt, bytes, &[UINT16; 64]),
+        b't' => show(rt, bytes, &[UINT16, FLOAT]),
+        _ => show(rt, bytes, &[]),
     }
 }
 
-fn show(s: &[u8], types: &[u8]) {
+fn show(rt: &impl Print, s: &[u8], types: &[u8]) {
     match read(s, types) {
         MessageRead::NotValid => {
-            put(b" invalid");
+            put(rt, b" invalid");
         }
         MessageRead::Refused(n, place) => {
-            refused(n, place);
+            refused(rt, n, place);
         }
         MessageRead::Is(header, cursor, end) => {
-            show_header(header);
-            number(end);
-            show_fields(s, types, cursor);
+            show_header(rt, header);
+            number(rt, end);
+            show_fields(rt, s, types, cursor);
         }
     }
 }
 
-fn show_header(header: Header) {
+fn show_header(rt: &impl Print, header: Header) {
     let kind = header.kind;
-    named(b"key delta event alive", kind_number(kind));
+    named(rt, b"key delta event alive", kind_number(kind));
     let encoding = header.encoding;
-    named(b"variant raw value", encoding_number(encoding));
+    named(rt, b"variant raw value", encoding_number(encoding));
     let sequence = header.sequence;
-    optional(sequence);
+    optional(rt, sequence);
 }
 
 fn kind_number(kind: Kind) -> usize {
@@ -85,17 +87,17 @@ fn encoding_number(encoding: Encoding) -> usize {
     }
 }
 
-fn show_fields(s: &[u8], types: &[u8], first: Cursor) {
+fn show_fields(rt: &impl Print, s: &[u8], types: &[u8], first: Cursor) {
     let mut cursor = first;
     let mut left = first.count;
     while 0 < left {
         match cursor.step(s, types) {
             FieldStep::Refused(n, place) => {
-                refused(n, place);
+                refused(rt, n, place);
             }
             FieldStep::Is(f, next) => {
-                put(b",");
-                show_field(f);
+                put(rt, b",");
+                show_field(rt, f);
                 cursor = next;
             }
         }
@@ -103,56 +105,56 @@ fn show_fields(s: &[u8], types: &[u8], first: Cursor) {
     }
 }
 
-fn show_field(f: Field) {
-    number(f.index);
-    number(f.kind as usize);
+fn show_field(rt: &impl Print, f: Field) {
+    number(rt, f.index);
+    number(rt, f.kind as usize);
     let shape = f.shape;
     match shape {
         Shape::Scalar => {
-            put(b" -");
+            put(rt, b" -");
         }
         Shape::NullArray => {
-            put(b" -1");
+            put(rt, b" -1");
         }
         Shape::Array(n) => {
-            number(n);
+            number(rt, n);
         }
         Shape::Matrix(n, d) => {
-            number(n);
-            put(b" in");
-            number(d as usize);
+            number(rt, n);
+            put(rt, b" in");
+            number(rt, d as usize);
         }
     }
-    number(f.offset);
-    number(f.length);
+    number(rt, f.offset);
+    number(rt, f.length);
 }
 
-fn count(s: &[u8], types: &[u8]) {
+fn count(rt: &impl Print, s: &[u8], types: &[u8]) {
     match read(s, types) {
         MessageRead::NotValid => {
-            put(b" invalid");
+            put(rt, b" invalid");
         }
         MessageRead::Refused(n, place) => {
-            refused(n, place);
+            refused(rt, n, place);
         }
         MessageRead::Is(_, cursor, end) => {
-            number(cursor.count);
-            number(end);
+            number(rt, cursor.count);
+            number(rt, end);
         }
     }
 }
 
-fn one_field(s: &[u8], k: usize) {
+fn one_field(rt: &impl Print, s: &[u8], k: usize) {
     match field_place(s, &[], k) {
         FieldRead::Refused(n, place) => {
-            refused(n, place);
+            refused(rt, n, place);
         }
-        FieldRead::Is(f, _) => show_field(f),
+        FieldRead::Is(f, _) => show_field(rt, f),
     }
-    number(field(s, &[], k).len());
+    number(rt, field(s, &[], k).len());
 }
 
-fn one_step(s: &[u8], encoding: Encoding, types: &[u8], next: usize, at: usize) {
+fn one_step(rt: &impl Print, s: &[u8], encoding: Encoding, types: &[u8], next: usize, at: usize) {
     let cursor = Cursor {
         encoding,
         delta: false,
@@ -162,8 +164,8 @@ fn one_step(s: &[u8], encoding: Encoding, types: &[u8], next: usize, at: usize) 
     };
     match cursor.step(s, types) {
         FieldStep::Refused(n, place) => {
-            refused(n, place);
+            refused(rt, n, place);
         }
-        FieldStep::Is(f, _) => show_field(f),
+        FieldStep::Is(f, _) => show_field(rt, f),
     }
 }

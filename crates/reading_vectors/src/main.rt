@@ -1,6 +1,8 @@
 // Vectors of what is read, by document 01 and Part 6, and of each refusal at each place. Standard input has a line for each vector, below
 // a heading that names the subject; what a line shows of itself is printed with the answer. The module of each subject says what its
 // lines are.
+#![tactic(auto)]
+
 mod asked;
 mod configurations;
 mod dataset_messages;
@@ -10,51 +12,51 @@ mod texts;
 mod told;
 mod values;
 
-use libc::STDIN_FILENO;
 use vector_lines::bytes::word_bytes;
+use vector_lines::input::{LARGE, read_full};
 use vector_lines::lines::{after, item, letter, shown, word};
 use vector_lines::print::{newline, put};
 use wire::part::part;
 
-fn main() {
-    let mut text = io::large_buffer();
-    let n = io::read_full(STDIN_FILENO, &mut text);
-    lines(part(&text, 0, n));
+fn main(rt: HostRuntime) {
+    let mut text = [0u8; LARGE];
+    let n = read_full(&mut rt.stdin(), &mut text);
+    lines(&rt, part(&text, 0, n));
 }
 
-fn lines(text: &[u8]) {
+fn lines(rt: &impl Print, text: &[u8]) {
     let mut subject: u8 = 0;
     let mut at: usize = 0;
     while at < text.len() {
         let line = item(text, at, b'\n');
-        put(shown(line));
-        subject = answered(line, subject);
-        newline();
+        put(rt, shown(line));
+        subject = answered(rt, line, subject);
+        newline(rt);
         at = after(text, at, b'\n');
     }
 }
 
 // Answers a line, and tells the subject: its first letter, which a heading, `=` and words, sets.
-fn answered(line: &[u8], subject: u8) -> u8 {
+fn answered(rt: &impl Print, line: &[u8], subject: u8) -> u8 {
     if letter(line) == b'=' {
         return letter(word(line, 1));
     }
-    let mut buffer = io::large_buffer();
+    let mut buffer = [0u8; LARGE];
     let n = word_bytes(&mut buffer, line, 1);
-    vector(subject, line, part(&buffer, 0, n));
+    vector(rt, subject, line, part(&buffer, 0, n));
     subject
 }
 
 // A line, and the bytes of its word 1.
-fn vector(subject: u8, line: &[u8], bytes: &[u8]) {
+fn vector(rt: &impl Print, subject: u8, line: &[u8], bytes: &[u8]) {
     match subject {
-        b's' => sequence_numbers::vector(line),
-        b't' => texts::vector(line, bytes),
-        b'v' => values::vector(line, bytes),
-        b'p' => crate::told::vector(line, bytes),
-        b'n' => network_messages::vector(line, bytes),
-        b'd' => dataset_messages::vector(line, bytes),
-        b'a' => asked::vector(line, bytes),
-        _ => configurations::vector(line, bytes),
+        b's' => sequence_numbers::vector(rt, line),
+        b't' => texts::vector(rt, line, bytes),
+        b'v' => values::vector(rt, line, bytes),
+        b'p' => crate::told::vector(rt, line, bytes),
+        b'n' => network_messages::vector(rt, line, bytes),
+        b'd' => dataset_messages::vector(rt, line, bytes),
+        b'a' => asked::vector(rt, line, bytes),
+        _ => configurations::vector(rt, line, bytes),
     }
 }

@@ -14,52 +14,59 @@ use vector_lines::print::{named, number, optional, put, refused};
 use wire::part::{part, tail};
 
 // Shows a NetworkMessage of one line of the input.
-pub fn vector(line: &[u8], bytes: &[u8]) {
+pub fn vector(rt: &impl Print, line: &[u8], bytes: &[u8]) {
     match letter(line) {
-        b'P' => place(bytes, decimal(line, 2)),
-        b'C' => compare(bytes, decimal(line, 2)),
-        b'r' => show(bytes, &[0]),
-        b's' => show(bytes, &[3, 2]),
-        b'u' => show(bytes, &[3, 0]),
-        _ => show(bytes, &[]),
+        b'P' => place(rt, bytes, decimal(line, 2)),
+        b'C' => compare(rt, bytes, decimal(line, 2)),
+        b'r' => show(rt, bytes, &[0]),
+        b's' => show(rt, bytes, &[3, 2]),
+        b'u' => show(rt, bytes, &[3, 0]),
+        _ => show(rt, bytes, &[]),
     }
 }
 
-fn show(s: &[u8], sizes: &[u16]) {
+fn show(rt: &impl Print, s: &[u8], sizes: &[u16]) {
     match read(s, sizes) {
         NetworkMessageRead::Refused(n, place) => {
-            refused(n, place);
+            refused(rt, n, place);
         }
         NetworkMessageRead::Is(envelope, places, p) => {
             let id = envelope.publisher;
-            publisher(id);
-            number(p.count);
+            publisher(rt, id);
+            number(rt, p.count);
             let header = envelope.payload_header;
-            show_messages(s, header, places.payload_header_end, sizes, p);
+            show_messages(rt, s, header, places.payload_header_end, sizes, p);
         }
     }
 }
 
 // The id's type and its number; of a string its length.
-pub fn publisher(id: PublisherId) {
+pub fn publisher(rt: &impl Print, id: PublisherId) {
     match id {
         PublisherId::Absent => {
-            put(b" -");
+            put(rt, b" -");
         }
-        PublisherId::Byte(v) => typed(0, v as usize),
-        PublisherId::UInt16(v) => typed(1, v as usize),
-        PublisherId::UInt32(v) => typed(2, v as usize),
-        PublisherId::UInt64(v) => typed(3, v as usize),
-        PublisherId::Text(n) => typed(4, n),
+        PublisherId::Byte(v) => typed(rt, 0, v as usize),
+        PublisherId::UInt16(v) => typed(rt, 1, v as usize),
+        PublisherId::UInt32(v) => typed(rt, 2, v as usize),
+        PublisherId::UInt64(v) => typed(rt, 3, v as usize),
+        PublisherId::Text(n) => typed(rt, 4, n),
     }
 }
 
-fn typed(k: usize, n: usize) {
-    named(b"u8 u16 u32 u64 str", k);
-    number(n);
+fn typed(rt: &impl Print, k: usize, n: usize) {
+    named(rt, b"u8 u16 u32 u64 str", k);
+    number(rt, n);
 }
 
-fn show_messages(s: &[u8], header: PayloadHeader, end: usize, sizes: &[u16], p: Payload) {
+fn show_messages(
+    rt: &impl Print,
+    s: &[u8],
+    header: PayloadHeader,
+    end: usize,
+    sizes: &[u16],
+    p: Payload,
+) {
     let mut cursor = MessageCursor {
         index: 0,
         at: p.first,
@@ -68,10 +75,10 @@ fn show_messages(s: &[u8], header: PayloadHeader, end: usize, sizes: &[u16], p: 
     while 0 < left {
         match cursor.step(s, p, sizes) {
             MessageStep::Refused(n, place) => {
-                refused(n, place);
+                refused(rt, n, place);
             }
             MessageStep::Is(m, next) => {
-                show_message(s, header, end, sizes, m);
+                show_message(rt, s, header, end, sizes, m);
                 cursor = next;
             }
         }
@@ -80,31 +87,38 @@ fn show_messages(s: &[u8], header: PayloadHeader, end: usize, sizes: &[u16], p: 
 }
 
 // A message's part of the datagram has its length.
-fn show_message(s: &[u8], header: PayloadHeader, end: usize, sizes: &[u16], m: MessagePlace) {
-    put(b",");
-    optional(writer_id(s, header, end, &[7, 9], m.index));
-    number(m.offset);
-    number(message(s, sizes, m.index).len());
+fn show_message(
+    rt: &impl Print,
+    s: &[u8],
+    header: PayloadHeader,
+    end: usize,
+    sizes: &[u16],
+    m: MessagePlace,
+) {
+    put(rt, b",");
+    optional(rt, writer_id(s, header, end, &[7, 9], m.index));
+    number(rt, m.offset);
+    number(rt, message(s, sizes, m.index).len());
 }
 
-fn place(s: &[u8], k: usize) {
+fn place(rt: &impl Print, s: &[u8], k: usize) {
     match message_place(s, &[], k) {
         MessageRead::Refused(n, place) => {
-            refused(n, place);
+            refused(rt, n, place);
         }
         MessageRead::Is(m, next) => {
-            number(m.offset);
-            number(m.length);
-            number(next);
+            number(rt, m.offset);
+            number(rt, m.length);
+            number(rt, next);
         }
     }
 }
 
-fn compare(s: &[u8], n: usize) {
+fn compare(rt: &impl Print, s: &[u8], n: usize) {
     if same_publisher(kept(part(s, 0, n)), kept(tail(s, n))) {
-        put(b" equal");
+        put(rt, b" equal");
     } else {
-        put(b" other");
+        put(rt, b" other");
     }
 }
 

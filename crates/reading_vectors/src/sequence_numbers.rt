@@ -6,18 +6,18 @@ use vector_lines::lines::{after, decimal, decimal_at, letter, low16, word};
 use vector_lines::print::{digits, newline, number, put};
 
 // Shows how a sequence number of one line of the input is judged.
-pub fn vector(line: &[u8]) {
+pub fn vector(rt: &impl Print, line: &[u8]) {
     match letter(line) {
-        b'J' => judged(line),
-        b'H' => history(sequence::no_number(), word(line, 1)),
-        _ => history(unseen(low16(decimal(line, 1))), word(line, 2)),
+        b'J' => judged(rt, line),
+        b'H' => history(rt, sequence::no_number(), word(line, 1)),
+        _ => history(rt, unseen(low16(decimal(line, 1))), word(line, 2)),
     }
 }
 
-fn judged(line: &[u8]) {
+fn judged(rt: &impl Print, line: &[u8]) {
     let last = low16(decimal(line, 1));
     let received = low16(decimal(line, 2));
-    newness(sequence::judge(last, received));
+    newness(rt, sequence::judge(last, received));
 }
 
 fn unseen(number: u16) -> LastSequenceNumber {
@@ -27,37 +27,37 @@ fn unseen(number: u16) -> LastSequenceNumber {
     }
 }
 
-fn history(first: LastSequenceNumber, numbers: &[u8]) {
+fn history(rt: &impl Print, first: LastSequenceNumber, numbers: &[u8]) {
     let mut last = first;
     let mut at: usize = 0;
     while at < numbers.len() {
-        last = step(last, low16(decimal_at(numbers, at, b',')));
+        last = step(rt, last, low16(decimal_at(numbers, at, b',')));
         at = after(numbers, at, b',');
     }
 }
 
-fn step(last: LastSequenceNumber, received: u16) -> LastSequenceNumber {
+fn step(rt: &impl Print, last: LastSequenceNumber, received: u16) -> LastSequenceNumber {
     let judged = sequence::noted(last, received);
     let judgement = judged.newness;
     let next = judged.last;
-    newline();
-    digits(received as u64);
-    newness(judgement);
-    put(b" last");
-    number(next.number as usize);
+    newline(rt);
+    digits(rt, received as u64);
+    newness(rt, judgement);
+    put(rt, b" last");
+    number(rt, next.number as usize);
     next
 }
 
-fn newness(x: Newness) {
+fn newness(rt: &impl Print, x: Newness) {
     match x {
         Newness::Newer => {
-            put(b" newer");
+            put(rt, b" newer");
         }
         Newness::OldOrSame => {
-            put(b" old");
+            put(rt, b" old");
         }
         Newness::Invalid => {
-            put(b" invalid");
+            put(rt, b" invalid");
         }
     }
 }

@@ -16,60 +16,60 @@ use wire::part::part;
 const NONE: usize = 18446744073709551615;
 
 // Shows a decimal, hex or words of one line of the input.
-pub fn vector(line: &[u8], bytes: &[u8]) {
+pub fn vector(rt: &impl Print, line: &[u8], bytes: &[u8]) {
     match letter(line) {
-        b'N' => written(decimal(line, 1)),
-        b'R' => read(bytes, line),
+        b'N' => written(rt, decimal(line, 1)),
+        b'R' => read(rt, bytes, line),
         b'F' => {
-            digits(find(bytes, b'\t') as u64);
+            digits(rt, find(bytes, b'\t') as u64);
         }
-        b'S' => starting(bytes),
-        _ => stored(bytes, line),
+        b'S' => starting(rt, bytes),
+        _ => stored(rt, bytes, line),
     }
 }
 
-fn written(n: usize) {
+fn written(rt: &impl Print, n: usize) {
     let mut text = [0u8; 32];
     let end = put_decimal(&mut text, 0, n as u64);
-    put(part(&text, 0, end));
+    put(rt, part(&text, 0, end));
 }
 
-fn read(text: &[u8], line: &[u8]) {
+fn read(rt: &impl Print, text: &[u8], line: &[u8]) {
     let limit = decimal(line, 3) as u64;
     match read_decimal(text, decimal(line, 2), b'\t', limit) {
         Decimal::Is(n, next) => {
-            digits(n);
-            newline();
-            digits(next as u64);
+            digits(rt, n);
+            newline(rt);
+            digits(rt, next as u64);
         }
         Decimal::Not => {
-            put(b"no");
+            put(rt, b"no");
         }
     }
 }
 
-fn starting(text: &[u8]) {
+fn starting(rt: &impl Print, text: &[u8]) {
     if starts_with(text, 2, b"writer") {
-        put(b"writer");
+        put(rt, b"writer");
     } else {
-        put(b"no");
+        put(rt, b"no");
     }
 }
 
-fn stored(bytes: &[u8], line: &[u8]) {
+fn stored(rt: &impl Print, bytes: &[u8], line: &[u8]) {
     let mut buffer = [0u8; 8];
     word_bytes(&mut buffer, line, 2);
-    position(store(&mut buffer, bytes, line));
-    put(&buffer);
+    position(rt, store(&mut buffer, bytes, line));
+    put(rt, &buffer);
 }
 
-fn position(n: usize) {
+fn position(rt: &impl Print, n: usize) {
     if n == NONE {
-        put(b"no");
+        put(rt, b"no");
     } else {
-        digits(n as u64);
+        digits(rt, n as u64);
     }
-    newline();
+    newline(rt);
 }
 
 fn store(out: &mut [u8], bytes: &[u8], line: &[u8]) -> usize {

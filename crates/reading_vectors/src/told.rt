@@ -12,24 +12,28 @@ use vector_lines::lines::{decimal_at, letter};
 use vector_lines::print::{named, number, put, refused};
 
 // Shows the parts of a value of one line of the input.
-pub fn vector(line: &[u8], bytes: &[u8]) {
+pub fn vector(rt: &impl Print, line: &[u8], bytes: &[u8]) {
     let at = decimal_at(line, 1, b' ');
     match letter(line) {
-        b'd' => show_field(tell_data_value(bytes, at)),
-        b'r' => show(bytes, tell_raw(bytes, at, letter(bytes))),
-        b'e' => element(bytes, at),
-        _ => show(bytes, tell_variant(bytes, at)),
+        b'd' => show_field(rt, tell_data_value(bytes, at)),
+        b'r' => show(rt, bytes, tell_raw(bytes, at, letter(bytes))),
+        b'e' => element(rt, bytes, at),
+        _ => show(rt, bytes, tell_variant(bytes, at)),
     }
 }
 
-fn element(bytes: &[u8], k: usize) {
+fn element(rt: &impl Print, bytes: &[u8], k: usize) {
     match tell_variant(bytes, 0) {
         Told::Refused(n, place) => {
-            refused(n, place);
+            refused(rt, n, place);
         }
         Told::Is(p) => {
             let shape = p.shape;
-            show(bytes, tell_element(bytes, p.first, p.kind, count(shape), k));
+            show(
+                rt,
+                bytes,
+                tell_element(bytes, p.first, p.kind, count(shape), k),
+            );
         }
     }
 }
@@ -43,73 +47,73 @@ fn count(shape: Shape) -> usize {
     }
 }
 
-fn show(bytes: &[u8], told: Told) {
+fn show(rt: &impl Print, bytes: &[u8], told: Told) {
     match told {
         Told::Refused(n, place) => {
-            refused(n, place);
+            refused(rt, n, place);
         }
         Told::Is(p) => {
-            show_parts(p);
+            show_parts(rt, p);
             if (p.kind == QUALIFIED_NAME) | (p.kind == LOCALIZED_TEXT) {
-                show_name(tell_name(bytes, p));
+                show_name(rt, tell_name(bytes, p));
             }
         }
     }
 }
 
-fn show_name(name: Name) {
+fn show_name(rt: &impl Print, name: Name) {
     let locale = name.locale;
     let text = name.text;
-    number(name.number as usize);
-    number(locale.place);
-    number(locale.length);
-    number(text.place);
-    number(text.length);
+    number(rt, name.number as usize);
+    number(rt, locale.place);
+    number(rt, locale.length);
+    number(rt, text.place);
+    number(rt, text.length);
 }
 
-fn show_parts(p: ValueParts) {
+fn show_parts(rt: &impl Print, p: ValueParts) {
     let shape = p.shape;
-    number(p.kind as usize);
+    number(rt, p.kind as usize);
     match shape {
         Shape::Scalar => {
-            named(b"- -1", 0);
+            named(rt, b"- -1", 0);
         }
         Shape::NullArray => {
-            named(b"- -1", 1);
+            named(rt, b"- -1", 1);
         }
         Shape::Array(n) => {
-            number(n);
+            number(rt, n);
         }
         Shape::Matrix(n, d) => {
-            number(n);
-            put(b" in");
-            number(d as usize);
+            number(rt, n);
+            put(rt, b" in");
+            number(rt, d as usize);
         }
     }
-    number(p.width);
-    number(p.first);
-    number(p.end);
+    number(rt, p.width);
+    number(rt, p.first);
+    number(rt, p.end);
     if p.null {
-        put(b" null");
+        put(rt, b" null");
     }
 }
 
-fn show_field(told: FieldTold) {
+fn show_field(rt: &impl Print, told: FieldTold) {
     match told {
         FieldTold::Refused(n, place) => {
-            refused(n, place);
+            refused(rt, n, place);
         }
         FieldTold::Is(f) => {
             let value = f.value;
-            show_parts(value);
-            number(f.mask as usize);
-            number(f.variant);
-            number(f.status);
-            number(f.source_time);
-            number(f.source_picoseconds);
-            number(f.server_time);
-            number(f.server_picoseconds);
-            number(f.end);
+            show_parts(rt, value);
+            number(rt, f.mask as usize);
+            number(rt, f.variant);
+            number(rt, f.status);
+            number(rt, f.source_time);
+            number(rt, f.source_picoseconds);
+            number(rt, f.server_time);
+            number(rt, f.server_picoseconds);
+            number(rt, f.end);
         }
     }
 }

@@ -13,25 +13,25 @@ use wire::part::{part, tail};
 const SCALAR: usize = 17;
 
 // Shows a value of one line of the input.
-pub fn vector(line: &[u8], bytes: &[u8]) {
+pub fn vector(rt: &impl Print, line: &[u8], bytes: &[u8]) {
     let first = letter(line);
     if first == b'T' {
-        return each_way(part(bytes, 0, SCALAR), tail(bytes, SCALAR));
+        return each_way(rt, part(bytes, 0, SCALAR), tail(bytes, SCALAR));
     }
     let at = decimal_at(line, 1, b' ');
     if first == b'p' {
-        return alone(tail(bytes, 1), at, letter(bytes));
+        return alone(rt, tail(bytes, 1), at, letter(bytes));
     }
-    show(measured(first, bytes, at));
+    show(rt, measured(first, bytes, at));
 }
 
-fn alone(bytes: &[u8], at: usize, kind: u8) {
+fn alone(rt: &impl Print, bytes: &[u8], at: usize, kind: u8) {
     match plain_value(bytes, at, kind) {
         Reached::To(end) => {
-            number(end);
+            number(rt, end);
         }
         Reached::Refused(n, place) => {
-            refused(n, place);
+            refused(rt, n, place);
         }
     }
 }
@@ -45,38 +45,38 @@ fn measured(first: u8, bytes: &[u8], at: usize) -> Measured {
     }
 }
 
-fn each_way(scalar: &[u8], array: &[u8]) {
-    show(measure_variant(scalar, 0));
-    put(b";");
-    show(measure_variant(array, 0));
-    put(b";");
-    show(measure_raw(array, 1, letter(scalar)));
+fn each_way(rt: &impl Print, scalar: &[u8], array: &[u8]) {
+    show(rt, measure_variant(scalar, 0));
+    put(rt, b";");
+    show(rt, measure_variant(array, 0));
+    put(rt, b";");
+    show(rt, measure_raw(array, 1, letter(scalar)));
 }
 
-fn show(answer: Measured) {
+fn show(rt: &impl Print, answer: Measured) {
     match answer {
-        Measured::Scalar(kind, end) => show_value(kind, 0, end),
-        Measured::NullArray(kind, end) => show_value(kind, 1, end),
+        Measured::Scalar(kind, end) => show_value(rt, kind, 0, end),
+        Measured::NullArray(kind, end) => show_value(rt, kind, 1, end),
         Measured::Array(kind, end, n) => {
-            number(kind as usize);
-            number(n);
-            number(end);
+            number(rt, kind as usize);
+            number(rt, n);
+            number(rt, end);
         }
         Measured::Matrix(kind, end, n, d) => {
-            number(kind as usize);
-            number(n);
-            put(b" in");
-            number(d as usize);
-            number(end);
+            number(rt, kind as usize);
+            number(rt, n);
+            put(rt, b" in");
+            number(rt, d as usize);
+            number(rt, end);
         }
         Measured::Refused(n, place) => {
-            refused(n, place);
+            refused(rt, n, place);
         }
     }
 }
 
-fn show_value(kind: u8, elements: usize, end: usize) {
-    number(kind as usize);
-    named(b"- -1", elements);
-    number(end);
+fn show_value(rt: &impl Print, kind: u8, elements: usize, end: usize) {
+    number(rt, kind as usize);
+    named(rt, b"- -1", elements);
+    number(rt, end);
 }

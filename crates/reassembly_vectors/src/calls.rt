@@ -4,6 +4,7 @@ use crate::partials::{Part, record, with_record};
 use chunk::cut::cut;
 use reassembly::PartialRecord;
 use vector_lines::bytes::word_bytes;
+use vector_lines::input::LARGE;
 use vector_lines::lines::{decimal, letter, word};
 use vector_lines::print::put;
 use wire::part::part;
@@ -16,16 +17,16 @@ const MESSAGE: u16 = 7;
 const DATA_SIZE: usize = 3;
 
 // Shows what a call of one line of the input answers and leaves.
-pub fn called(p: Part, source: Part, line: &[u8]) -> Part {
+pub fn called(rt: &impl Print, p: Part, source: Part, line: &[u8]) -> Part {
     match letter(line) {
         b'n' => new(line),
         b'r' => with_record(p, record(word(line, 3))),
         b'e' => emptied(p),
-        b't' => take(p, line),
-        b'p' => take_piece(p, line),
-        b'c' => combine(p, source),
-        b'j' => join(p, line),
-        _ => show(p, line),
+        b't' => take(rt, p, line),
+        b'p' => take_piece(rt, p, line),
+        b'c' => combine(rt, p, source),
+        b'j' => join(rt, p, line),
+        _ => show(rt, p, line),
     }
 }
 
@@ -47,14 +48,14 @@ fn emptied(p: Part) -> Part {
     with_record(p, reassembly::empty(rec))
 }
 
-fn take(p: Part, line: &[u8]) -> Part {
-    let mut datagram = io::large_buffer();
+fn take(rt: &impl Print, p: Part, line: &[u8]) -> Part {
+    let mut datagram = [0u8; LARGE];
     let n = word_bytes(&mut datagram, line, 3);
-    taken(p, part(&datagram, 0, n))
+    taken(rt, p, part(&datagram, 0, n))
 }
 
 // Takes in a chunk of a payload, after the envelope that the line has.
-fn take_piece(p: Part, line: &[u8]) -> Part {
+fn take_piece(rt: &impl Print, p: Part, line: &[u8]) -> Part {
     let mut piece = [0u8; 32];
     let Written::Is(n) = cut(
         &mut piece,
@@ -63,35 +64,36 @@ fn take_piece(p: Part, line: &[u8]) -> Part {
         DATA_SIZE,
         decimal(line, 3),
     ) else {
-        put(b"not cut\n");
+        put(rt, b"not cut\n");
         return p;
     };
     let mut datagram = [0u8; 64];
     let front = word_bytes(&mut datagram, line, 4);
     let end = put_run(&mut datagram, front, part(&piece, 0, n));
-    taken(p, part(&datagram, 0, end))
+    taken(rt, p, part(&datagram, 0, end))
 }
 
-fn taken(p: Part, datagram: &[u8]) -> Part {
+fn taken(rt: &impl Print, p: Part, datagram: &[u8]) -> Part {
     let mut payload = p.payload;
     let mut marks = p.marks;
-    put(b"take ");
+    put(rt, b"take ");
     let out = reassembly::take_in(p.rec, &mut payload, &mut marks, datagram, &[]);
-    kept(out, payload, marks)
+    kept(rt, out, payload, marks)
 }
 
-fn combine(p: Part, source: Part) -> Part {
+fn combine(rt: &impl Print, p: Part, source: Part) -> Part {
     let payload = source.payload;
     let marks = source.marks;
-    joined(p, source.rec, &payload, &marks)
+    joined(rt, p, source.rec, &payload, &marks)
 }
 
-fn join(p: Part, line: &[u8]) -> Part {
+fn join(rt: &impl Print, p: Part, line: &[u8]) -> Part {
     let mut payload = [0u8; 16];
     let mut marks = [0u8; 16];
     let n = word_bytes(&mut payload, line, 4);
     let m = word_bytes(&mut marks, line, 5);
     joined(
+        rt,
         p,
         record(word(line, 3)),
         part(&payload, 0, n),
@@ -99,10 +101,10 @@ fn join(p: Part, line: &[u8]) -> Part {
     )
 }
 
-fn joined(p: Part, source: PartialRecord, from: &[u8], from_marks: &[u8]) -> Part {
+fn joined(rt: &impl Print, p: Part, source: PartialRecord, from: &[u8], from_marks: &[u8]) -> Part {
     let mut payload = p.payload;
     let mut marks = p.marks;
-    put(b"combine ");
+    put(rt, b"combine ");
     let out = reassembly::combine_in(p.rec, &mut payload, &mut marks, source, from, from_marks);
-    kept(out, payload, marks)
+    kept(rt, out, payload, marks)
 }

@@ -17,10 +17,12 @@
 //
 // A record lists its parts: `s` 1 where it is started, `h` a UInt16, `d` a UInt32 or `t` the length of a string as PublisherId, `x` the
 // bytes of the text, `g` WriterGroupId where there is one, `w` DataSetWriterId, `n` number, `l` total, `c` covered bytes.
+#![tactic(auto)]
+
 ghost use Rattle.std.specs.Prelude.{◌<◌};
 
 use crate::calls::{called, new};
-use libc::STDIN_FILENO;
+use vector_lines::input::{LARGE, read_full};
 use vector_lines::lines::{after, item, letter, word};
 use wire::part::part;
 
@@ -29,13 +31,13 @@ mod calls;
 mod partials;
 mod salvaging;
 
-fn main() {
-    let mut text = io::large_buffer();
-    let n = io::read_full(STDIN_FILENO, &mut text);
-    lines(part(&text, 0, n));
+fn main(rt: HostRuntime) {
+    let mut text = [0u8; LARGE];
+    let n = read_full(&mut rt.stdin(), &mut text);
+    lines(&rt, part(&text, 0, n));
 }
 
-fn lines(text: &[u8]) {
+fn lines(rt: &impl Print, text: &[u8]) {
     let mut parts = [new(b""); 8];
     let mut at: usize = 0;
     while at < text.len() {
@@ -43,7 +45,7 @@ fn lines(text: &[u8]) {
         let from = place(line, 2);
         let source = place(line, 3);
         let to = place(line, 1);
-        parts[to] = called(parts[from], parts[source], line);
+        parts[to] = called(rt, parts[from], parts[source], line);
         at = after(text, at, b'\n');
     }
 }

@@ -7,7 +7,7 @@ use vector_lines::lines::{lettered, low16, numbered};
 use wire::optional::Optional16;
 
 // A partial with a payload area of 8 bytes.
-#[derive(Drop)]
+#[derive(Clone, Copy)]
 pub struct Part {
     pub rec: PartialRecord,
     pub payload: [u8; 8],

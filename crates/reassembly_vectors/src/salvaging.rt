@@ -21,7 +21,7 @@ const MOST: usize = 8;
 const ENTRY_SIZE: usize = 64;
 
 // Salvages the partial of a line: its record, payload area and marks; how many entries the list has room for; the configured types.
-pub fn gather(line: &[u8]) {
+pub fn gather(rt: &impl Print, line: &[u8]) {
     let mut payload = [b'.'; 64];
     let mut marks = [0u8; 8];
     let mut types = [0u8; 8];
@@ -29,6 +29,7 @@ pub fn gather(line: &[u8]) {
     let m = word_bytes(&mut marks, line, 5);
     let t = word_bytes(&mut types, line, 7);
     of_partial(
+        rt,
         record(word(line, 3)),
         part(&payload, 0, n),
         part(&marks, 0, m),
@@ -37,24 +38,40 @@ pub fn gather(line: &[u8]) {
     );
 }
 
-fn of_partial(rec: PartialRecord, payload: &[u8], marks: &[u8], types: &[u8], room: usize) {
+fn of_partial(
+    rt: &impl Print,
+    rec: PartialRecord,
+    payload: &[u8],
+    marks: &[u8],
+    types: &[u8],
+    room: usize,
+) {
     match reassembly::progress(rec, payload, marks) {
-        Progress::Refused(n, place) => refused(n, place),
-        Progress::Is(_, total) => of_room(payload, marks, types, total, room),
+        Progress::Refused(n, place) => refused(rt, n, place),
+        Progress::Is(_, total) => of_room(rt, payload, marks, types, total, room),
     }
 }
 
-fn of_room(payload: &[u8], marks: &[u8], types: &[u8], total: usize, room: usize) {
+fn of_room(rt: &impl Print, payload: &[u8], marks: &[u8], types: &[u8], total: usize, room: usize) {
     let mut told = [0u8; 64];
     let mut list = [b'.'; 512];
     if MOST < room {
         return;
     }
     let end = ENTRY_SIZE * room;
-    into_list(&mut told, &mut list[0..end], payload, marks, types, total);
+    into_list(
+        rt,
+        &mut told,
+        &mut list[0..end],
+        payload,
+        marks,
+        types,
+        total,
+    );
 }
 
 fn into_list(
+    rt: &impl Print,
     told: &mut [u8],
     list: &mut [u8],
     payload: &[u8],
@@ -63,10 +80,10 @@ fn into_list(
     total: usize,
 ) {
     match salvage(told, list, payload, marks, types, total) {
-        Salvaged::Refused(n, place) => refused(n, place),
+        Salvaged::Refused(n, place) => refused(rt, n, place),
         Salvaged::Is(n) => {
-            all_told(told);
-            entries(list, number_at(told, 0), n);
+            all_told(rt, told);
+            entries(rt, list, number_at(told, 0), n);
         }
     }
 }
@@ -80,71 +97,72 @@ fn number_at(s: &[u8], at: usize) -> usize {
 }
 
 // Holes, fields, whether the count is known, promised, front, total, encoding.
-fn all_told(told: &[u8]) {
-    put(b"salvaged");
-    number(number_at(told, 0));
-    number(number_at(told, 8));
-    number(number_at(told, 16));
-    number(number_at(told, 24));
-    number(number_at(told, 32));
-    number(number_at(told, 40));
-    number(number_at(told, 48));
-    newline();
+fn all_told(rt: &impl Print, told: &[u8]) {
+    put(rt, b"salvaged");
+    number(rt, number_at(told, 0));
+    number(rt, number_at(told, 8));
+    number(rt, number_at(told, 16));
+    number(rt, number_at(told, 24));
+    number(rt, number_at(told, 32));
+    number(rt, number_at(told, 40));
+    number(rt, number_at(told, 48));
+    newline(rt);
 }
 
-fn entries(list: &[u8], holes: usize, n: usize) {
+fn entries(rt: &impl Print, list: &[u8], holes: usize, n: usize) {
     let mut i: usize = 0;
     while i < MOST {
         if i < n {
-            entry(part(list, ENTRY_SIZE * i, ENTRY_SIZE), i < holes);
+            entry(rt, part(list, ENTRY_SIZE * i, ENTRY_SIZE), i < holes);
         }
         i += 1;
     }
 }
 
 // A hole's offset and length; a field's index, type, shape, elements, dimensions, offset and length.
-fn entry(e: &[u8], hole: bool) {
+fn entry(rt: &impl Print, e: &[u8], hole: bool) {
     if hole {
-        put(b"hole");
+        put(rt, b"hole");
     } else {
-        put(b"field");
-        number(number_at(e, 24));
-        number(number_at(e, 0));
-        number(number_at(e, 8));
-        number(number_at(e, 16));
-        number(number_at(e, 48));
+        put(rt, b"field");
+        number(rt, number_at(e, 24));
+        number(rt, number_at(e, 0));
+        number(rt, number_at(e, 8));
+        number(rt, number_at(e, 16));
+        number(rt, number_at(e, 48));
     }
-    number(number_at(e, 32));
-    number(number_at(e, 40));
-    newline();
+    number(rt, number_at(e, 32));
+    number(rt, number_at(e, 40));
+    newline(rt);
 }
 
 // The first hole of the marks of a line, of so many offsets, from a position on.
-pub fn hole_from(line: &[u8]) {
+pub fn hole_from(rt: &impl Print, line: &[u8]) {
     let mut marks = [0u8; 8];
     let m = word_bytes(&mut marks, line, 3);
     match next_hole(part(&marks, 0, m), decimal(line, 4), decimal(line, 5)) {
         HoleStep::Last => {
-            put(b"last\n");
+            put(rt, b"last\n");
         }
         HoleStep::Is(h, end) => {
-            put(b"hole");
-            number(h.offset);
-            number(h.length);
-            put(b" to");
-            number(end);
-            newline();
+            put(rt, b"hole");
+            number(rt, h.offset);
+            number(rt, h.length);
+            put(rt, b" to");
+            number(rt, end);
+            newline(rt);
         }
     }
 }
 
 // The field after a cursor of a line, in an area of which so many bytes are the front, with the configured types.
-pub fn field_after(line: &[u8]) {
+pub fn field_after(rt: &impl Print, line: &[u8]) {
     let mut area = [b'.'; 64];
     let mut types = [0u8; 8];
     let n = word_bytes(&mut area, line, 3);
     let t = word_bytes(&mut types, line, 6);
     shown(
+        rt,
         part(&area, 0, decimal(line, 4)),
         part(&area, 0, n),
         part(&types, 0, t),
@@ -171,34 +189,34 @@ fn encoding(n: usize) -> Encoding {
     }
 }
 
-fn shown(front: &[u8], area: &[u8], types: &[u8], c: Cursor) {
+fn shown(rt: &impl Print, front: &[u8], area: &[u8], types: &[u8], c: Cursor) {
     match next(front, area, types, c) {
-        FieldShown::Refused(n, place) => refused(n, place),
+        FieldShown::Refused(n, place) => refused(rt, n, place),
         FieldShown::Ends => {
-            put(b"ends\n");
+            put(rt, b"ends\n");
         }
         FieldShown::Last => {
-            put(b"last\n");
+            put(rt, b"last\n");
         }
         FieldShown::Is(f, after) => {
-            one_field(f);
-            put(b" next");
-            number(after.next);
-            put(b" at");
-            number(after.at);
-            newline();
+            one_field(rt, f);
+            put(rt, b" next");
+            number(rt, after.next);
+            put(rt, b" at");
+            number(rt, after.at);
+            newline(rt);
         }
     }
 }
 
-fn one_field(f: Field) {
+fn one_field(rt: &impl Print, f: Field) {
     let shape: Shape = f.shape;
-    put(b"field");
-    number(f.index);
-    number(f.kind as usize);
-    number(shape_number(shape) as usize);
-    number(elements_number(shape) as usize);
-    number(dimensions(shape) as usize);
-    number(f.offset);
-    number(f.length);
+    put(rt, b"field");
+    number(rt, f.index);
+    number(rt, f.kind as usize);
+    number(rt, shape_number(shape) as usize);
+    number(rt, elements_number(shape) as usize);
+    number(rt, dimensions(shape) as usize);
+    number(rt, f.offset);
+    number(rt, f.length);
 }

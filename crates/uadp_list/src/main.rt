@@ -1,84 +1,113 @@
 // The listing program: the configuration from `readers.txt`, a datagram from standard input, its listing to standard output. Here stand the
 // calls of the system; what is listed, and how, is the library's (`listing`). A read or write that fails gets a message on standard error.
+#![tactic(auto)]
+
 use config::{first, writer_count};
 use config_text::{ConfigRead, read_config};
-use libc::{ENOENT, STDIN_FILENO, STDOUT_FILENO};
 use listing::block::put_block;
 use listing::program::{TEXT_ROOM, first_line};
+use std::io::{Error, ErrorKind, Read, Write};
+use std::rt::Files;
+use std::{fs, io, str};
 use walk::lines::LineCursor;
 use wire::constants::MOST_DATAGRAM;
 use wire::part::part;
 
-// How many bytes were read, and what one more read answered: 0 at the end, above 0 where more follows than the buffer holds, below 0 where
-// reading failed (also where it was interrupted).
-#[derive(Drop)]
+// How many bytes were read, and whether more follow than the buffer holds.
+#[derive(Clone, Copy)]
 struct Taken {
     count: usize,
-    rest: isize,
+    more: bool,
 }
 
-fn take(file: i32, buffer: &mut [u8]) -> Taken {
-    let count = io::read_full(file, buffer);
-    let mut more = [0u8; 1];
-    let rest = libc::read(file, &mut more);
-    if (0 < rest) & (count < buffer.len()) {
-        return Taken { count, rest: -1 };
-    }
-    Taken { count, rest }
-}
-
-// The text of `readers.txt`: none where the file is absent. A longer text than the buffer is refused by its front.
-fn load(text: &mut [u8]) -> Taken {
-    let file = os::open_read(b"readers.txt");
-    if file < 0 {
-        if os::errno() == ENOENT {
-            return Taken { count: 0, rest: 0 };
+// Reads until the buffer is full or the input ends, and one byte more; an error where reading failed (also where it was interrupted).
+fn take(file: &mut impl Read, buffer: &mut [u8]) -> io::Result<Taken> {
+    let mut count = 0;
+    let mut failed = Error::from_raw_os_error(0);
+    while count < buffer.len() {
+        match file.read(&mut buffer[count..]) {
+            Ok(0) => break,
+            Ok(n) => count += n,
+            Err(e) => {
+                failed = e;
+                break;
+            }
         }
-        os::fail(b"readers.txt");
-        return Taken { count: 0, rest: -1 };
     }
-    let taken = take(file, text);
-    if taken.rest < 0 {
-        os::fail(b"readers.txt");
+    let mut rest = [0u8; 1];
+    let more = 0 < file.read(&mut rest)?;
+    if more & (count < buffer.len()) {
+        return Err(failed);
     }
-    libc::close(file);
-    taken
+    Ok(Taken { count, more })
 }
 
-// Prints the lines from a cursor on, in blocks of whole lines. A failed write gets a message on standard error.
+// The length of the text of `readers.txt`: 0 where the file is absent. A longer text than the buffer is refused by its front.
+fn load(rt: &impl Files, text: &mut [u8]) -> io::Result<usize> {
+    match fs::open(rt, "readers.txt") {
+        Ok(mut file) => Ok(take(&mut file, text)?.count),
+        Err(e) => {
+            if e.kind() == ErrorKind::NotFound {
+                Ok(0)
+            } else {
+                Err(e)
+            }
+        }
+    }
+}
+
+// Writes a line to standard error: what failed, a colon and the system's words.
+fn fail(rt: &impl Eprint, what: &str, error: Error) {
+    let mut text = [0u8; 256];
+    let mut room: &mut [u8] = &mut text;
+    let _ = write!(room, "{error}");
+    let left = room.len();
+    let n = text.len().saturating_sub(left);
+    let _ = eprintln!(rt; "{what}: {}", words(part(&text, 0, n)));
+}
+
+// An error's text without its number, which the library puts behind the system's words.
+fn words(text: &[u8]) -> &str {
+    let all = str::from_utf8(text).unwrap_or("");
+    match all.split_once(" (os error ") {
+        Some((words, _)) => words,
+        None => all,
+    }
+}
+
+// Prints the lines from a cursor on, in blocks of whole lines.
 fn print_lines<'a>(
+    rt: &impl Print,
     s: &[u8],
     ids: &'a [u16],
     sizes: &[u16],
     starts: &'a [u8],
     types: &'a [u8],
     first: LineCursor,
-) {
+) -> io::Result<()> {
     let mut text = [0u8; 65536];
     let mut cursor = first;
     loop {
         let block = put_block(&mut text, s, ids, sizes, starts, types, cursor);
         let n = block.length;
         if n == 0 {
-            return;
+            return Ok(());
         }
-        if !io::write_all(STDOUT_FILENO, part(&text, 0, n)) {
-            os::fail(b"standard output");
-            return;
-        }
+        rt.write_all(part(&text, 0, n))?;
         cursor = block.next;
     }
 }
 
-// The listing of what is held of a datagram, under a configuration that was read.
-fn list(s: &[u8], more: bool, read: ConfigRead) {
+// The listing of what is held of a datagram, under a configuration that was read. A failed write gets a message on standard error.
+fn list(rt: &(impl Print + Eprint), s: &[u8], more: bool, read: ConfigRead) {
     let c = read.config;
     let n = writer_count(c.writers);
     let ids = c.ids;
     let sizes = c.sizes;
     let starts = c.starts;
     let types = c.types;
-    print_lines(
+    let printed = print_lines(
+        rt,
         s,
         first(&ids, n),
         first(&sizes, n),
@@ -86,24 +115,25 @@ fn list(s: &[u8], more: bool, read: ConfigRead) {
         part(&types, 0, c.fields),
         first_line(s, more, read.number, read.place, first(&sizes, n)),
     );
+    if let Err(e) = printed {
+        fail(rt, "standard output", e);
+    }
 }
 
-fn main() {
+fn main(rt: HostRuntime) {
     let mut text = [0u8; TEXT_ROOM];
-    let loaded = load(&mut text);
-    if loaded.rest < 0 {
-        return;
-    }
-    let read = read_config(part(&text, 0, loaded.count));
+    let loaded = match load(&rt, &mut text) {
+        Ok(n) => n,
+        Err(e) => return fail(&rt, "readers.txt", e),
+    };
+    let read = read_config(part(&text, 0, loaded));
     if read.number != 0 {
-        list(&[], false, read);
+        list(&rt, &[], false, read);
         return;
     }
     let mut datagram = [0u8; MOST_DATAGRAM];
-    let taken = take(STDIN_FILENO, &mut datagram);
-    if taken.rest < 0 {
-        os::fail(b"standard input");
-        return;
+    match take(&mut rt.stdin(), &mut datagram) {
+        Ok(taken) => list(&rt, part(&datagram, 0, taken.count), taken.more, read),
+        Err(e) => fail(&rt, "standard input", e),
     }
-    list(part(&datagram, 0, taken.count), 0 < taken.rest, read);
 }

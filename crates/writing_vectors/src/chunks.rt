@@ -19,44 +19,44 @@ const MESSAGE: u16 = 7;
 const UNCUT: u8 = 0x2e;
 
 // Shows chunks cut from the payload of one line of the input.
-pub fn vector(line: &[u8], bytes: &[u8]) {
+pub fn vector(rt: &impl Print, line: &[u8], bytes: &[u8]) {
     if letter(line) == b'C' {
-        return cutting(bytes, decimal(line, 2), decimal(line, 3));
+        return cutting(rt, bytes, decimal(line, 2), decimal(line, 3));
     }
-    chunk(bytes, &[]);
+    chunk(rt, bytes, &[]);
 }
 
-fn chunk(datagram: &[u8], sizes: &[u16]) {
+fn chunk(rt: &impl Print, datagram: &[u8], sizes: &[u16]) {
     match read(datagram, sizes) {
         ChunkRead::Refused(n, place) => {
-            refused(n, place);
+            refused(rt, n, place);
         }
-        ChunkRead::Is(c, _) => show(c),
+        ChunkRead::Is(c, _) => show(rt, c),
     }
-    put(b" [");
-    put(data(datagram, sizes));
-    put(b"]");
+    put(rt, b" [");
+    put(rt, data(datagram, sizes));
+    put(rt, b"]");
 }
 
-fn show(c: ChunkPlace) {
+fn show(rt: &impl Print, c: ChunkPlace) {
     let p = c.payload;
-    number(c.writer as usize);
-    number(p.number as usize);
-    number(p.offset);
-    number(p.total);
-    number(p.first);
-    number(p.length);
+    number(rt, c.writer as usize);
+    number(rt, p.number as usize);
+    number(rt, p.offset);
+    number(rt, p.total);
+    number(rt, p.first);
+    number(rt, p.length);
 }
 
-fn cutting(payload: &[u8], size: usize, k: usize) {
+fn cutting(rt: &impl Print, payload: &[u8], size: usize, k: usize) {
     let mut out = [UNCUT; 20];
     match cut(&mut out, payload, MESSAGE, size, k) {
         Written::Refused(n) => {
-            refused(n, 0);
+            refused(rt, n, 0);
         }
         Written::Is(n) => {
-            number(n);
+            number(rt, n);
         }
     }
-    hex(&out);
+    hex(rt, &out);
 }

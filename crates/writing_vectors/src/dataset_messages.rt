@@ -27,42 +27,42 @@ const UINT16: u8 = 5;
 const FLOAT: u8 = 10;
 
 // Shows a DataSetMessage written from one line of the input.
-pub fn vector(line: &[u8], bytes: &[u8]) {
+pub fn vector(rt: &impl Print, line: &[u8], bytes: &[u8]) {
     match letter(line) {
-        b'W' => written(bytes, word(line, 2)),
-        b't' => again(bytes, &[UINT16, FLOAT]),
-        _ => again(bytes, &[]),
+        b'W' => written(rt, bytes, word(line, 2)),
+        b't' => again(rt, bytes, &[UINT16, FLOAT]),
+        _ => again(rt, bytes, &[]),
     }
 }
 
-fn again(message: &[u8], types: &[u8]) {
+fn again(rt: &impl Print, message: &[u8], types: &[u8]) {
     let mut out = [FILL; 128];
     match rewrite(&mut out, message, types) {
-        Written::Refused(n) => refused(n, &out),
-        Written::Is(n) => same(n, &out, message),
+        Written::Refused(n) => refused(rt, n, &out),
+        Written::Is(n) => same(rt, n, &out, message),
     }
 }
 
-fn refused(n: u8, out: &[u8]) {
-    bad(n);
-    hex(part(out, 0, 1));
+fn refused(rt: &impl Print, n: u8, out: &[u8]) {
+    bad(rt, n);
+    hex(rt, part(out, 0, 1));
 }
 
-fn same(n: usize, out: &[u8], message: &[u8]) {
+fn same(rt: &impl Print, n: usize, out: &[u8], message: &[u8]) {
     if (n == message.len()) & starts_with(out, 0, message) {
-        put(b" same");
+        put(rt, b" same");
     } else {
-        hex(part(out, 0, n));
+        hex(rt, part(out, 0, n));
     }
-    hex(part(out, n, 1));
+    hex(rt, part(out, n, 1));
 }
 
-fn written(bytes: &[u8], list: &[u8]) {
+fn written(rt: &impl Print, bytes: &[u8], list: &[u8]) {
     let lengths = [numbered(list, b'l'), numbered(list, b'm')];
     let indices = [low16(numbered(list, b'x')), low16(numbered(list, b'y'))];
     let l = count(list, b'l', b'm');
     let x = count(list, b'x', b'y');
-    with_fields(bytes, list, &lengths[0..l], &indices[0..x]);
+    with_fields(rt, bytes, list, &lengths[0..l], &indices[0..x]);
 }
 
 // How many of two letters a list has, where it has the second only with the first.
@@ -78,7 +78,7 @@ fn count(list: &[u8], first: u8, second: u8) -> usize
     0
 }
 
-fn with_fields(bytes: &[u8], list: &[u8], lengths: &[usize], indices: &[u16]) {
+fn with_fields(rt: &impl Print, bytes: &[u8], list: &[u8], lengths: &[usize], indices: &[u16]) {
     let values = numbered(list, b'V');
     let types = tail(bytes, values);
     let mut out = [FILL; 32];
@@ -92,29 +92,29 @@ fn with_fields(bytes: &[u8], list: &[u8], lengths: &[usize], indices: &[u16]) {
         types,
         numbered(list, b'z'),
     ) {
-        Written::Refused(n) => refused(n, &out),
-        Written::Is(n) => accepted(n, &out, types),
+        Written::Refused(n) => refused(rt, n, &out),
+        Written::Is(n) => accepted(rt, n, &out, types),
     }
 }
 
-fn accepted(n: usize, out: &[u8], types: &[u8]) {
-    number(n);
-    hex(part(out, 0, n));
-    hex(part(out, n, 1));
-    read_back(part(out, 0, n), types);
+fn accepted(rt: &impl Print, n: usize, out: &[u8], types: &[u8]) {
+    number(rt, n);
+    hex(rt, part(out, 0, n));
+    hex(rt, part(out, n, 1));
+    read_back(rt, part(out, 0, n), types);
 }
 
-fn read_back(message: &[u8], types: &[u8]) {
+fn read_back(rt: &impl Print, message: &[u8], types: &[u8]) {
     match read(message, types) {
         MessageRead::NotValid => {
-            put(b" invalid");
+            put(rt, b" invalid");
         }
         MessageRead::Refused(n, place) => {
-            vector_lines::print::refused(n, place);
+            vector_lines::print::refused(rt, n, place);
         }
         MessageRead::Is(_, cursor, end) => {
-            number(cursor.count);
-            number(end);
+            number(rt, cursor.count);
+            number(rt, end);
         }
     }
 }

@@ -29,15 +29,15 @@ use wire_writer::writing::Written;
 const ROOM: usize = 96;
 
 // Shows a NetworkMessage written from one line of the input.
-pub fn vector(line: &[u8], bytes: &[u8]) {
+pub fn vector(rt: &impl Print, line: &[u8], bytes: &[u8]) {
     let first = letter(line);
     let sizes = [first_size(first), 2];
     let ids = [7, 9];
     let n = writers(first);
     if (b'A' <= first) & (first <= b'Z') {
-        written(bytes, word(line, 2), &sizes[0..n], &ids[0..n]);
+        written(rt, bytes, word(line, 2), &sizes[0..n], &ids[0..n]);
     } else {
-        again(bytes, &sizes[0..n]);
+        again(rt, bytes, &sizes[0..n]);
     }
 }
 
@@ -59,50 +59,57 @@ fn first_size(first: u8) -> u16 {
     }
 }
 
-fn again(datagram: &[u8], sizes: &[u16]) {
+fn again(rt: &impl Print, datagram: &[u8], sizes: &[u16]) {
     let mut out = [FILL; 128];
     match rewrite(&mut out, datagram, sizes) {
         Written::Refused(n) => {
-            bad(n);
+            bad(rt, n);
         }
         Written::Is(n) => {
-            hex(part(&out, 0, n));
+            hex(rt, part(&out, 0, n));
         }
     }
 }
 
-fn written(bytes: &[u8], list: &[u8], sizes: &[u16], configured: &[u16]) {
+fn written(rt: &impl Print, bytes: &[u8], list: &[u8], sizes: &[u16], configured: &[u16]) {
     let mut out = [FILL; ROOM];
     let room = ROOM - numbered(list, b'R') % ROOM;
-    into(&mut out[0..room], bytes, list, sizes, configured);
+    into(rt, &mut out[0..room], bytes, list, sizes, configured);
 }
 
-fn into(out: &mut [u8], bytes: &[u8], list: &[u8], sizes: &[u16], configured: &[u16]) {
+fn into(
+    rt: &impl Print,
+    out: &mut [u8],
+    bytes: &[u8],
+    list: &[u8],
+    sizes: &[u16],
+    configured: &[u16],
+) {
     let answer = given(out, bytes, list, sizes, configured);
-    show(answer, out, sizes);
+    show(rt, answer, out, sizes);
 }
 
-fn show(answer: Written, out: &[u8], sizes: &[u16]) {
+fn show(rt: &impl Print, answer: Written, out: &[u8], sizes: &[u16]) {
     match answer {
         Written::Refused(n) => {
-            bad(n);
-            hex(part(out, 0, 2));
+            bad(rt, n);
+            hex(rt, part(out, 0, 2));
         }
         Written::Is(n) => {
-            hex(part(out, 0, n));
-            hex(part(out, n, 2));
-            count(part(out, 0, n), sizes);
+            hex(rt, part(out, 0, n));
+            hex(rt, part(out, n, 2));
+            count(rt, part(out, 0, n), sizes);
         }
     }
 }
 
-fn count(datagram: &[u8], sizes: &[u16]) {
+fn count(rt: &impl Print, datagram: &[u8], sizes: &[u16]) {
     match read(datagram, sizes) {
         NetworkMessageRead::Refused(n, _) => {
-            bad(n);
+            bad(rt, n);
         }
         NetworkMessageRead::Is(_, _, p) => {
-            number(p.count);
+            number(rt, p.count);
         }
     }
 }

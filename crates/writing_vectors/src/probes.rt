@@ -15,27 +15,27 @@ use wire_writer::writing::Written;
 const ROOM: usize = 96;
 
 // Shows a probe written from one line of the input.
-pub fn vector(line: &[u8], bytes: &[u8]) {
+pub fn vector(rt: &impl Print, line: &[u8], bytes: &[u8]) {
     let list = word(line, 2);
     let mut out = [FILL; ROOM];
     let room = ROOM - numbered(list, b'R') % ROOM;
-    into(&mut out[0..room], probe(letter(line), list), bytes);
+    into(rt, &mut out[0..room], probe(letter(line), list), bytes);
 }
 
-fn into(out: &mut [u8], p: Probe, bytes: &[u8]) {
+fn into(rt: &impl Print, out: &mut [u8], p: Probe, bytes: &[u8]) {
     let answer = write(out, p, bytes);
-    show(answer, out);
+    show(rt, answer, out);
 }
 
-fn show(answer: Written, out: &[u8]) {
+fn show(rt: &impl Print, answer: Written, out: &[u8]) {
     match answer {
         Written::Refused(n) => {
-            bad(n);
-            hex(part(out, 0, 2));
+            bad(rt, n);
+            hex(rt, part(out, 0, 2));
         }
         Written::Is(n) => {
-            hex(part(out, 0, n));
-            hex(part(out, n, 2));
+            hex(rt, part(out, 0, n));
+            hex(rt, part(out, n, 2));
         }
     }
 }

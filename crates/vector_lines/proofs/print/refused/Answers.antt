@@ -1,0 +1,13 @@
+use native.Mathlib.Omega.{arith}
+use Rattle.vector_lines.proofs.Printing.{short}
+use Rattle.vector_lines.proofs.print.refused.Goals as goal
+
+pub overflow_add-result : goal.overflow_add-result
+overflow_add-result g c =
+    omega (
+      arith,
+      c.number.ensures,
+      c.bad.ensures,
+      short c.args.n (omega (arith, c.ranges.n)),
+      short c.args.place (omega (arith, c.ranges.place)),
+    )
