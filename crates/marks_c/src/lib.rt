@@ -1,0 +1,4 @@
+// The static library of the benchmark: the functions of marks that it times, under the same clauses.
+#![tactic(auto)]
+
+pub mod by_one;
