@@ -4,7 +4,8 @@
 # make bench                times the library beside tuned Rust, and says which rows miss the bar (docs/BENCHMARKS.md)
 # make install PREFIX=DIR   header, libraries, uadp.pc, uadp_list and its manual page; /usr/local if none is given. DESTDIR is honoured.
 # make uninstall PREFIX=DIR takes them away again
-# make clean                takes away what this file built; what was proved stays (rt clean)
+# make clean                takes away what this file built; what was proved stays (rm -rf crates/*/out)
+# make by_one               the benchmark's own library
 # `rt` proves and builds, cargo builds what is in rust/: what is up to date is not built again.
 PREFIX ?= /usr/local
 BINDIR ?= $(PREFIX)/bin
@@ -20,33 +21,39 @@ ARCHIVE := target/staticlib/libuadp_c.a
 BY_ONE := target/staticlib/libmarks.a
 PROGRAM := target/bin/uadp_list
 SHARED := $(OUT)/libuadp.so.$(VERSION)
+# Any x86-64: without this, rt compiles for x86-64-v2.
+CPU := --cpu x86-64
 
-.PHONY: all library program check test bench install uninstall clean
-# Only one `rt` may work in a folder.
+.PHONY: all library program by_one check test bench install uninstall clean
+# Only one `rt` works in a crate's folder at a time.
 .NOTPARALLEL:
 
 all: library program $(SHARED) $(OUT)/uadp.pc
 
 library: $(ARCHIVE)
 program: $(PROGRAM)
+by_one: $(BY_ONE)
 
 # Rattle's sources, by which make sees that something changed.
-SOURCES := crates.txt $(shell find crates -name '*.rt' -o -name '*.antt')
+SOURCES := crates.txt $(shell find crates -name out -prune -o \( -name '*.rt' -o -name '*.antt' \) -print)
 
 # One plain line where the kit is missing.
 NEEDS_RT = @command -v rt > /dev/null || { echo "this needs rt, the program of the Rattle kit, which is not on the path"; exit 1; }
 
+# A crate is a library or a static library: uadp_c_c exports what uadp_c has. The archive keeps the library's name.
 $(ARCHIVE): $(SOURCES)
 	$(NEEDS_RT)
-	@echo "proving and building the library: some minutes from nothing, then what changed only"
-	rt staticlib uadp_c
-	@touch $@
+	@echo "proving and building the library: long from nothing, then what changed only"
+	cd crates/uadp_c_c && rt lib $(CPU)
+	@mkdir -p $(@D)
+	cp crates/uadp_c_c/out/libuadp_c_c.a $@
 
 $(PROGRAM): $(SOURCES)
 	$(NEEDS_RT)
-	@echo "proving and building the listing program: some minutes from nothing, then what changed only"
-	rt check uadp_list
-	@touch $@
+	@echo "proving and building the listing program: long from nothing, then what changed only"
+	cd crates/uadp_list && rt run $(CPU) < stdin > /dev/null
+	@mkdir -p $(@D)
+	cp crates/uadp_list/out/uadp_list $@
 
 # Exactly the header's functions are exported.
 $(SHARED): $(ARCHIVE) include/uadp.h
@@ -79,8 +86,9 @@ test:
 # The benchmark's own library, with the loops that it times beside the library's.
 $(BY_ONE): $(SOURCES)
 	$(NEEDS_RT)
-	rt staticlib marks
-	@touch $@
+	cd crates/marks_c && rt lib $(CPU)
+	@mkdir -p $(@D)
+	cp crates/marks_c/out/libmarks_c.a $@
 
 bench: $(ARCHIVE) $(BY_ONE)
 	cd rust && CARGO_TARGET_DIR=../target/bench cargo run --offline --profile timed -p uadp-bench

@@ -11,6 +11,6 @@ fn main() {
     println!("cargo::rustc-link-search=native={}", folder.display());
     println!("cargo::rustc-link-lib=static=marks");
     if !file.is_file() {
-        println!("cargo::warning=no {}: make it with `rt staticlib marks`", file.display());
+        println!("cargo::warning=no {}: make it with `make by_one` at the top of the repository", file.display());
     }
 }

@@ -20,7 +20,7 @@ fn main() {
     }
     println!("cargo::rerun-if-changed={}", folder.display());
     println!(
-        "cargo::error=no libuadp_c.a in {}: make it with `rt staticlib uadp_c`, or say in UADP_LIB_DIR where it is",
+        "cargo::error=no libuadp_c.a in {}: make it with `make library` at the top of the repository, or say in UADP_LIB_DIR where it is",
         folder.display()
     );
 }
