@@ -1,4 +1,6 @@
 -- Demand 1 holds: each field by the theorem that proves it. Assumes nothing.
+use Rattle.wire.specs.declared.refusal.Reason.{Reason}
+use Rattle.std.specs.Prelude.{Option, Result, Ok, Err}
 use Prim.Native.Nat.{ℕ, zero, suc, ◌+◌, ◌*◌, ◌%◌, ◌≤◌, ◌<◌}
 use mathlib.Core.Path.{◌≡◌, refl, sym, subst, ap}
 use mathlib.Core.Bool.{Bool, true, false, false≢true}
@@ -10,13 +12,10 @@ use borrow.Author.Tests.{leb-false, ltb-false}
 use lib.Dec.{eqb, leb, ltb}
 use lib.ListN.{length}
 use Rattle.wire.specs.Answer.{Answer, got, refused, and_then}
-use Rattle.wire.specs.declared.optional.Optional16.{Optional16}
 use Rattle.wire.proofs.Cases.{by_bool}
-use Rattle.wire_writer.specs.Writing.{Output, Writes, room_refusal, written_of, buffer_after, answer_written}
-use Rattle.wire_writer.specs.declared.writing.Written.{Written}
-use Rattle.wire_writer.proofs.Answering.{unchanged}
+use Rattle.wire_writer.specs.Writing.{Output, writing, refusing, room_refusal, written_of, buffer_after, answer_written}
 use Rattle.config.specs.declared.Config.{Config}
-use Rattle.config_text.specs.Config.{TextLine, config_of, read_lines, line_says, may_follow, with, lines_of}
+use Rattle.config_text.specs.Config.{TextLine, config_of, read_lines, line_says, may_follow, with, lines_of, config_number, place_in}
 use Rattle.network_message.specs.Envelope.{NetworkMessage, network_message_at, message_place_at, message_bytes}
 use Rattle.network_message.specs.Payload.{PlaceStepped, place_of_message, pass_at, nth_place_at, place_step_at, size_of_message}
 use Rattle.network_message.specs.declared.payload.Payload.{Payload}
@@ -30,7 +29,9 @@ use Rattle.dataset_message.proofs.Agreement.{message_agrees}
 use Rattle.chunk.specs.Cutting.{cut_rule, cut_data, cut_fault, chunk_bytes, cut_answer, cut_buffer}
 use Rattle.walk.specs.Lines.{Writers}
 use Rattle.walk_records.specs.Walk.{walk_of, walk_records, records_of, records_put}
-use Rattle.walk_records.specs.declared.Walked.{Walked}
+use Rattle.wire.proofs.Reading.{not_got}
+use Rattle.wire.specs.Refusal.{reason_number}
+use Rattle.acceptance.proofs.Reasons.{refused_number, is_refused}
 use Rattle.listing.specs.Text.{text_written, text_after}
 use Rattle.records.specs.Result.{Filling, result_of, result_in, filled_in}
 use Rattle.records.specs.Sizes.{ENVELOPE_SIZE, PLACE_SIZE, HEAD_SIZE, FIELD_SIZE, SEQUENCE_SIZE, PROBE_SIZE, ITEM_SIZE}
@@ -63,16 +64,16 @@ use Rattle.acceptance.proofs.Salvage.{salvaging}
 use Rattle.acceptance.proofs.RefusedMessages.{field_others, message_others, message_tells, field_lawful}
 
 -- ---- the configuration
-lines_told : (c : Config) (n : ℕ) (ls : List TextLine) → ((read_lines c n ls).number ≡ 0 → ⊥)
-    → ((read_lines c n ls).number ≡ 16) × (n ≤ (read_lines c n ls).place) × ((read_lines c n ls).place < n + length ls)
+lines_told : (c : Config) (n : ℕ) (ls : List TextLine) → (config_number (read_lines c n ls) ≡ 0 → ⊥)
+    → (config_number (read_lines c n ls) ≡ 16) × (n ≤ place_in (read_lines c n ls)) × (place_in (read_lines c n ls) < n + length ls)
 lines_told c n [] h = absurd (h refl)
 lines_told c n (l ∷ ls) h =
     by_bool _ (may_follow c (line_says l))
     (λ b. rw b (let r = lines_told (with c (line_says l)) (n + 1) ls (rw b at h) in (r.0, omega (arith, r.1), omega (arith, r.2))))
     (λ b. rw b (refl, omega arith, omega arith))
 
-configuration_told : (text : List ℕ) → ((config_of text).number ≡ 0 → ⊥)
-    → ((config_of text).number ≡ 16) × (1 ≤ (config_of text).place) × ((config_of text).place ≤ length (lines_of text))
+configuration_told : (text : List ℕ) → (config_number (config_of text) ≡ 0 → ⊥)
+    → (config_number (config_of text) ≡ 16) × (1 ≤ place_in (config_of text)) × (place_in (config_of text) ≤ length (lines_of text))
 unfolding config_of
 configuration_told text h =
     let r = lines_told _ 1 (lines_of text) h in
@@ -148,15 +149,16 @@ field_lookup_told types s k n place e = go (message_at types s) refl (message_te
     go (refused m p) q (refuses r) f = subst tells f (wider refl r)
 
 -- ---- writers
-not_refused : {n m : ℕ} → ◌≡◌ {A = Written} (Written.Is n) (Written.Refused m) → ⊥
-not_refused {n} {m} e = let z : ◌≡◌ {A = ℕ} 0 1 = cc in absurd (omega arith)
+place_told : {A : Type 0} {m n p q : ℕ} → ◌≡◌ {A = Answer A} (refused m p) (refused n q) → p ≡ q
+place_told e = cc
 
-refused_number : {n m : ℕ} → ◌≡◌ {A = Written} (Written.Refused n) (Written.Refused m) → n ≡ m
-refused_number e = cc
-
-writer_told : (output : Output) (entry exit : List ℕ) (n : ℕ) → Writes output entry exit (Written.Refused n)
-    → (exit ≡ entry) × (answer_written (written_of (length entry) output) ≡ refused n 0)
-writer_told output entry exit n w = (unchanged output w, ap answer_written (sym w.answer))
+writer_told : (output : Output) (entry : List ℕ) (n place : ℕ) → written_of (length entry) output ≡ refused n place
+    → (buffer_after entry output ≡ entry) × (place ≡ 0)
+writer_told (refusing k) entry n place e = (refl, sym (place_told e))
+writer_told (writing bytes) entry n place e =
+    by_bool _ (eqb (room_refusal (length bytes) (length entry)) 0)
+    (λ t. let d : got tt (length bytes) ≡ refused n place = rw t at e in absurd (not_got (sym d)))
+    (λ t. (rw t, sym (place_told (rw t at e))))
 
 -- the number of a refused cutting
 cut_number : (p : List ℕ) (size k room : ℕ) → (cut_fault p size k room ≡ 0) ⊎ (one_of cut_refusals (cut_fault p size k room) ≡ true)
@@ -169,39 +171,39 @@ cut_number p size k room =
     (λ d. by_bool _ (leb total (k * size)) (λ e. rw (a, b, d, e) (inr refl))
     (λ e. by_bool _ (ltb room (14 + length (cut_data p size k))) (λ f. rw (a, b, d, e, f) (inr refl)) (λ f. rw (a, b, d, e, f) (inl refl))))))
 
-cut_told : (p : List ℕ) (number size k : ℕ) (out : List ℕ) (n : ℕ) → cut_answer p number size k (length out) ≡ Written.Refused n
+cut_told : (p : List ℕ) (number size k : ℕ) (out : List ℕ) (n place : ℕ) → cut_answer p number size k (length out) ≡ refused n place
     → (one_of cut_refusals n ≡ true) × (cut_buffer p number size k out ≡ out)
 unfolding cut_answer cut_buffer
-cut_told p number size k out n e = go (eqb (cut_fault p size k (length out)) 0) refl (cut_number p size k (length out))
+cut_told p number size k out n place e = go (eqb (cut_fault p size k (length out)) 0) refl (cut_number p size k (length out))
   where
     go : (b : Bool) → eqb (cut_fault p size k (length out)) 0 ≡ b → (cut_fault p size k (length out) ≡ 0) ⊎ (one_of cut_refusals (cut_fault p size k (length out)) ≡ true)
         → (one_of cut_refusals n ≡ true) × (cut_buffer p number size k out ≡ out)
-    go true b c = absurd (not_refused (rw b at e))
+    go true b c = absurd (not_got (sym (rw b at e)))
     go false b (inl c) = absurd (false≢true (sym (rw c at b)))
     go false b (inr c) = (subst (λ (m : ℕ). one_of cut_refusals m ≡ true) (refused_number (rw b at e)) c, rw b)
 
-listing_told : (out text : List ℕ) (n : ℕ) → text_written out text ≡ Written.Refused n → (n ≡ 11) × (text_after out text ≡ out)
-listing_told out text n e =
-    by_bool _ (ltb (length out) (length text)) (λ b. (sym (refused_number (rw b at e)), rw b)) (λ b. absurd (not_refused (rw b at e)))
+listing_told : (out text : List ℕ) (reason : Reason) → text_written out text ≡ Err reason → (reason_number reason ≡ 11) × (text_after out text ≡ out)
+listing_told out text reason e =
+    by_bool _ (ltb (length out) (length text)) (λ b. (ap number (sym (rw b at e)), rw b)) (λ b. absurd (false≢true (ap is_refused (rw b at e))))
+  where
+    number : Result ℕ Reason → ℕ
+    number (Ok n) = 0
+    number (Err reason) = reason_number reason
 
 -- ---- a walk
-walk_clash : {k n place : ℕ} → ◌≡◌ {A = Walked} (Walked.Is k) (Walked.Refused n place) → ⊥
-walk_clash e = let z : ◌≡◌ {A = ℕ} 0 1 = cc in absurd (omega arith)
+abbrev ToldBy : ℕ → Answer ℕ → Type 0
+ToldBy bytes (got k next) = Unit {0}
+ToldBy bytes (refused n place) = Refusal datagram_refusals n place bytes
 
-abbrev ToldBy : ℕ → Walked → Type 0
-ToldBy bytes (Walked.Is k) = Unit {0}
-ToldBy bytes (Walked.Refused n place) = Refusal datagram_refusals n place bytes
-
-walk_told : (w : Writers) (d out : List ℕ) (n place : ℕ) → walk_of w d ≡ Walked.Refused n place
+walk_told : (w : Writers) (d out : List ℕ) (n place : ℕ) → walk_of w d ≡ refused n place
     → Refusal datagram_refusals n place (length d) × (records_put 0 (walk_records w d) out ≡ out)
 walk_told w d out n place e = go (network_message_at w.sizes d) refl (datagram_tells w.sizes d)
   where
     go : (x : Answer NetworkMessage) → network_message_at w.sizes d ≡ x → Tells datagram_others (length d) x
         → Refusal datagram_refusals n place (length d) × (records_put 0 (walk_records w d) out ≡ out)
-    go (got m next) q t =
-        absurd (walk_clash (rw q at e))
+    go (got m next) q t = absurd (not_got (sym (rw q at e)))
     go (refused m p) q (refuses r) =
-        let z : ◌≡◌ {A = Walked} (Walked.Refused m p) (Walked.Refused n place) = rw q at e in
+        let z : ◌≡◌ {A = Answer ℕ} (refused m p) (refused n place) = rw q at e in
         (subst (ToldBy (length d)) z r, rw q)
 
 -- ---- through C
@@ -215,7 +217,7 @@ filling (got x next) out h =
     (λ b. rw (zero-add (length x.bytes), b))
 filling (refused n place) out h = refl
 
-message_step_lem : (writer : ℕ → Optional16) (step : Answer PlaceStepped) (envelope place : List ℕ) → IsRefused (message_result step envelope place)
+message_step_lem : (writer : ℕ → Option ℕ) (step : Answer PlaceStepped) (envelope place : List ℕ) → IsRefused (message_result step envelope place)
     → (envelope_after step envelope place ≡ envelope) × (place_after writer step envelope place ≡ place)
 message_step_lem writer (got x next) envelope place h =
     by_bool _ (ltb (length envelope) ENVELOPE_SIZE) (λ a. rw a (refl, refl))

@@ -1,4 +1,6 @@
 -- Demand 2 holds: each field by the theorem that proves it. Assumes nothing.
+use Rattle.wire.specs.declared.refusal.Reason.{Reason}
+use Rattle.std.specs.Prelude.{is_some, Result, Ok}
 use Prim.Native.Nat.{ℕ, ◌+◌, ◌*◌, ◌≤◌, ◌<◌}
 use mathlib.Core.Path.{◌≡◌, sym, ap, subst, ◌∙◌}
 use mathlib.Core.Bool.{true, false}
@@ -9,9 +11,8 @@ use borrow.Author.Tests.{lt-ltb, le-ltb}
 use lib.ListN.{length, take, drop}
 use Rattle.wire.specs.Number.{le}
 use Rattle.wire.specs.Answer.{Answer, got, bit}
-use Rattle.wire_writer.specs.Writing.{Output, writing, unless, Writes, after_reading, on16}
+use Rattle.wire_writer.specs.Writing.{Output, writing, unless, Writes, after_reading}
 use Rattle.wire_writer.specs.Fits.{Bytes, Numbers}
-use Rattle.wire_writer.specs.declared.writing.Written.{Written}
 use Rattle.wire_writer.proofs.Answering.{fitting_written}
 use Rattle.wire_writer.proofs.Back.{two_bytes}
 use Rattle.config.specs.Writers.{types_of}
@@ -59,23 +60,26 @@ use Rattle.acceptance.proofs.Probes.{probe_reads_back, probe_datagram_reads_back
 use Rattle.acceptance.proofs.Tiling.{messages_tile}
 use Rattle.acceptance.proofs.FieldsTile.{fields_tile}
 use Rattle.acceptance.proofs.Held.{held_below, held_holds}
+use Rattle.acceptance.proofs.Reasons.{refused_by}
 
 -- ---- bytes that are written
-copied : (bytes entry exit : List ℕ) (r : Written) → Writes (writing bytes) entry exit r → CopiedTo bytes entry exit r
+copied : (bytes entry exit : List ℕ) (r : Result ℕ Reason) → Writes (writing bytes) entry exit r → CopiedTo bytes entry exit r
 copied bytes entry exit r w = record {
   fits = λ l k. fitting_written l k w;
-  long = λ l. let t = lt-ltb 65535 (length bytes) l in (w.answer ∙ rw t, w.buffer ∙ rw t);
-  tight = λ l k. let t = le-ltb 65535 (length bytes) l in let u = lt-ltb (length entry) (length bytes) k in (w.answer ∙ rw (t, u), w.buffer ∙ rw (t, u));
+  long = λ l. let t = lt-ltb 65535 (length bytes) l in (refused_by r Reason.OverLimit (w.answer ∙ rw t), w.buffer ∙ rw t);
+  tight = λ l k.
+      let t = le-ltb 65535 (length bytes) l in
+      let u = lt-ltb (length entry) (length bytes) k in (refused_by r Reason.NoRoom (w.answer ∙ rw (t, u)), w.buffer ∙ rw (t, u));
 }
 
-datagram_copied : (sizes s entry exit : List ℕ) (r : Written) (m : NetworkMessage) (n : ℕ) → network_message_at sizes s ≡ got m n
+datagram_copied : (sizes s entry exit : List ℕ) (r : Result ℕ Reason) (m : NetworkMessage) (n : ℕ) → network_message_at sizes s ≡ got m n
     → RewroteDatagram sizes s entry exit r → CopiedTo (network.rewritten m s) entry exit r
 datagram_copied sizes s entry exit r m n e w =
     copied (network.rewritten m s) entry exit r
     (subst (λ (a : Answer NetworkMessage). Writes (after_reading a (λ x. writing (network.rewritten x s))) entry exit r) e w.1)
 
 -- what puts the parts together again writes the same
-output_copied : (bytes : List ℕ) (o : Output) (entry exit : List ℕ) (r : Written) → o ≡ writing bytes → Writes o entry exit r → CopiedTo bytes entry exit r
+output_copied : (bytes : List ℕ) (o : Output) (entry exit : List ℕ) (r : Result ℕ Reason) → o ≡ writing bytes → Writes o entry exit r → CopiedTo bytes entry exit r
 output_copied bytes o entry exit r e w = copied bytes entry exit r (subst (λ (y : Output). Writes y entry exit r) e w)
 
 again_written : (sizes s : List ℕ) (m : NetworkMessage) (n : ℕ) → Bytes s → network_message_at sizes s ≡ got m n → N.datagram_again sizes s ≡ writing (network.rewritten m s)
@@ -89,9 +93,9 @@ parts_written sizes configured s m n b hs hc e =
     let z = write_read sizes configured s m n b hs hc e in
     ap (λ (k : ℕ). unless k (N.datagram_of g m.envelope)) z.0 ∙ ap writing z.1
 
-parts_again : (sizes s entry exit : List ℕ) (r : Written) (m : NetworkMessage) (n : ℕ) → network_message_at sizes s ≡ got m n → N.RewroteParts sizes s entry exit r
+parts_again : (sizes s entry exit : List ℕ) (r : Result ℕ Reason) (m : NetworkMessage) (n : ℕ) → network_message_at sizes s ≡ got m n → N.RewroteParts sizes s entry exit r
     → CopiedTo (network.rewritten m s) entry exit r
-    × ((configured entry-p exit-p : List ℕ) (r-p : Written)
+    × ((configured entry-p exit-p : List ℕ) (r-p : Result ℕ Reason)
     → N.WroteDatagram (network.given_of s m.envelope m.places sizes configured) m.envelope sizes configured entry-p exit-p r-p
     → CopiedTo (network.rewritten m s) entry-p exit-p r-p)
 parts_again sizes s entry exit r m n e w = (
@@ -103,13 +107,13 @@ parts_again sizes s entry exit r m n e w = (
 
 probe_again : (d config record-before record-after : List ℕ) (result : ℕ) (m : ProbeMessage) (n : ℕ) → probe_message_at (sizes_in config) d ≡ got m n
     → ProbeRead d config record-before result record-after
-    → (entry exit : List ℕ) (r : Written) → WroteProbe (list_in d m.places.payload m.probe) m.probe entry exit r
+    → (entry exit : List ℕ) (r : Result ℕ Reason) → WroteProbe (list_in d m.places.payload m.probe) m.probe entry exit r
     → CopiedTo (drop m.places.payload d) entry exit r
 probe_again d config before after result m n e p entry exit r w =
     output_copied (drop m.places.payload d) (probe_output (list_in d m.places.payload m.probe) m.probe) entry exit r
     (probe_written (sizes_in config) d m n p.bytes e) w.1
 
-message_copied : (types s entry exit : List ℕ) (r : Written) (m : Message) (n : ℕ) → message_at types s ≡ got (valid m) n
+message_copied : (types s entry exit : List ℕ) (r : Result ℕ Reason) (m : Message) (n : ℕ) → message_at types s ≡ got (valid m) n
     → RewroteMessage types s entry exit r → CopiedTo (message_held m.header s) entry exit r
 message_copied types s entry exit r m n e w =
     copied (message_held m.header s) entry exit r (subst (λ (a : Answer (Valid Message)). Writes (after_reading a (where_valid (λ x. message_held x.header s))) entry exit r) e w.1)
@@ -120,7 +124,7 @@ kept : (m : NetworkMessage) (b : ℕ) (s : List ℕ) → (bit 7 b ≡ false) ⊎
 kept m b s h l = ap network.type_cleared (held_below m.envelope.picoseconds (envelope.picoseconds_place m.envelope m.places) (b ∷ s) l) ∙ keeps b s h
 
 datagram_holds : (sizes s : List ℕ) (m : NetworkMessage) (n : ℕ) → Bytes s → network_message_at sizes s ≡ got m n → publisher_on m.envelope.publisher ≡ true
-    → on16 m.envelope.picoseconds ≡ true → 10000 ≤ le 2 s (envelope.picoseconds_place m.envelope m.places)
+    → is_some m.envelope.picoseconds ≡ true → 10000 ≤ le 2 s (envelope.picoseconds_place m.envelope m.places)
     → Holds (envelope.picoseconds_place m.envelope m.places) s (network.rewritten m s)
 datagram_holds sizes s m n b q p o h =
     let at = envelope.picoseconds_place m.envelope m.places in
@@ -131,7 +135,7 @@ datagram_holds sizes s m n b q p o h =
 handed_on : (sizes s : List ℕ) (m : NetworkMessage) (n : ℕ) → Bytes s → network_message_at sizes s ≡ got m n → (header : List ℕ) × (network.rewritten m s ≡ header ++ drop m.places.payload s)
 handed_on sizes s m n b q = (rewritten.header_of s m.envelope m.places, sym (rewritten.rewrite_read sizes s m n b q))
 
-message_holds : (types s : List ℕ) (m : Message) (n : ℕ) → Bytes s → message_at types s ≡ got (valid m) n → on16 m.header.picoseconds ≡ true
+message_holds : (types s : List ℕ) (m : Message) (n : ℕ) → Bytes s → message_at types s ≡ got (valid m) n → is_some m.header.picoseconds ≡ true
     → 10000 ≤ le 2 s (message_picoseconds_place m.header) → Holds (message_picoseconds_place m.header) s (message_held m.header s)
 message_holds types s m n b q o h =
     let p = header_of types s m n q in
@@ -139,7 +143,7 @@ message_holds types s m n b q o h =
 
 -- ---- a whole datagram under one configuration
 module _ (w : Writers) (g : N.GivenDatagram) (x : Envelope) (entry exit : List ℕ) (n : ℕ)
-    (p : N.WroteDatagram g x w.sizes w.ids entry exit (Written.Is n)) where
+    (p : N.WroteDatagram g x w.sizes w.ids entry exit (Ok n)) where
   abbrev d : List ℕ
   d = take n exit
 
@@ -151,7 +155,7 @@ module _ (w : Writers) (g : N.GivenDatagram) (x : Envelope) (entry exit : List �
 
   whole : OfMessages x.payload_header → (k : ℕ) → k < length (network.given_lengths g x.payload_header w.sizes) → 2 * k < length g.ids
       → (m : M.GivenMessage) (entry-k exit-k : List ℕ) (n-k : ℕ)
-      → M.WroteMessage (types_given w g k) m entry-k exit-k (Written.Is n-k)
+      → M.WroteMessage (types_given w g k) m entry-k exit-k (Ok n-k)
       → network.message_given (network.given_lengths g x.payload_header w.sizes) g.messages k ≡ take n-k exit-k
       → (message_bytes (message_place_at w.sizes k d) d ≡ take n-k exit-k)
       × MessageBack (types_read w (network.written_message g x w.sizes) d k) m (message_bytes (message_place_at w.sizes k d) d)

@@ -10,13 +10,17 @@ use Rattle.reassembly_laws.proofs.Numbers as Numbers
 use Rattle.reassembly_laws.proofs.Refusing as Refusing
 use Rattle.reassembly_laws.proofs.Cutting as Cutting
 use Rattle.reassembly_laws.proofs.Layouts as Layouts
-use Rattle.config_text.specs.Config.{config_of}
+use Rattle.config_text.specs.Config.{config_of, config_number, config_in}
 use Rattle.records.specs.Result.{filled_in}
 use Rattle.records.specs.Sizes.{CONFIG_SIZE, PARTIAL_SIZE}
 use Rattle.reassembly.specs.Record.{Right}
 use Rattle.uadp_c.specs.Reassembling.{Lent}
 use Rattle.uadp_c.specs.History.{LentCall, call_of, held_in, Called}
-use Rattle.records.specs.Writers.{ConfigBack, config_filling}
+use Rattle.records.specs.Writers.{ConfigBack, FitsConfig, config_filling}
+use Rattle.std.specs.Prelude.{Result, Ok, Err}
+use Rattle.config.specs.declared.Config.{Config}
+use Rattle.wire.specs.declared.refusal.Refusal.{Refusal}
+use Rattle.wire.proofs.Reading.{some_number}
 use Rattle.records.proofs.ConfigBack.{config_back}
 use Rattle.records.proofs.ConfigFits.{config_fits}
 use Rattle.partial_record.specs.Partial.{partial_in}
@@ -29,8 +33,12 @@ use Rattle.acceptance.specs.Demand3.{Demand3}
 use Rattle.acceptance.proofs.RefusedCalls.{placed}
 
 -- the record of an accepted configuration text
-config_read : (text r : List ℕ) → (config_of text).number ≡ 0 → CONFIG_SIZE ≤ length r → ConfigBack (filled_in (config_filling (config_of text)) r) (config_of text).config
-config_read text r e h = rw e (config_back (config_of text).config r (config_fits text) h)
+config_read : (text r : List ℕ) → config_number (config_of text) ≡ 0 → CONFIG_SIZE ≤ length r → ConfigBack (filled_in (config_filling (config_of text)) r) (config_in (config_of text))
+config_read text r e h = go (config_of text) (config_fits text) e
+  where
+    go : (x : Result Config Refusal) → FitsConfig (config_in x) → config_number x ≡ 0 → ConfigBack (filled_in (config_filling x) r) (config_in x)
+    go (Ok c) f e = config_back c r f h
+    go (Err x) f e = absurd (some_number x.reason e)
 
 lent_right : (k : LentCall) (b a : Lent) → PARTIAL_SIZE ≤ length b.rec → Called k b a → Right (held_in b) → Right (held_in a)
 lent_right k b a h w r = subst Right (sym (lent.one b a h k w).left) (Numbers.right_stays (call_of k) (held_in b) r)

@@ -1,5 +1,6 @@
 -- Picoseconds held: below 10,000 nothing changes, and from there on 9,999 stands there, and no other byte differs.
 -- Assumes nothing.
+use Rattle.std.specs.Prelude.{Option, Some, None, is_some}
 use Prim.Native.Nat.{ℕ, ◌+◌, ◌≤◌}
 use mathlib.Core.Path.{◌≡◌, refl, ap, sym, ◌∙◌}
 use mathlib.Core.Bool.{true}
@@ -9,15 +10,14 @@ use borrow.Author.Tests.{le-leb, lt-leb}
 use lib.ListN.{length, take, drop, length-append}
 use lib.Seq.{sets, sets-eq, take_at, drop_at, length-take-le}
 use Rattle.wire.specs.Number.{le, le_bytes}
-use Rattle.wire.specs.declared.optional.Optional16.{Optional16}
-use Rattle.wire_writer.specs.Writing.{on16, picoseconds_held}
+use Rattle.wire_writer.specs.Writing.{picoseconds_held}
 use Rattle.wire_writer.proofs.Refusals.{no}
 use Rattle.wire_writer.proofs.Trip.{At, le_at}
 use Rattle.acceptance.specs.Again.{Below, Holds}
 
-pub held_below : (x : Optional16) (at : ℕ) (s : List ℕ) → Below x at s → picoseconds_held x at s ≡ s
-held_below Optional16.Absent at s h = refl
-held_below (Optional16.Is v) at s h = rw (lt-leb 10000 (le 2 s at) h)
+pub held_below : (x : Option ℕ) (at : ℕ) (s : List ℕ) → Below x at s → picoseconds_held x at s ≡ s
+held_below None at s h = refl
+held_below (Some v) at s h = rw (lt-leb 10000 (le 2 s at) h)
 
 stored_holds : (at : ℕ) (s : List ℕ) → at + 2 ≤ length s → Holds at s (sets s at (le_bytes 2 9999))
 stored_holds at s l =
@@ -33,6 +33,6 @@ stored_holds at s l =
       behind = ap (drop (at + 2)) (sets-eq b s at l) ∙ drop_at (take at s ++ b) r (at + 2) (length-append (take at s) b ∙ ap (λ (n : ℕ). n + 2) k);
     }
 
-pub held_holds : (x : Optional16) (at : ℕ) (s : List ℕ) → on16 x ≡ true → 10000 ≤ le 2 s at → at + 2 ≤ length s → Holds at s (picoseconds_held x at s)
-held_holds Optional16.Absent at s e h l = absurd (no (sym e))
-held_holds (Optional16.Is v) at s e h l = rw (le-leb 10000 (le 2 s at) h) (stored_holds at s l)
+pub held_holds : (x : Option ℕ) (at : ℕ) (s : List ℕ) → is_some x ≡ true → 10000 ≤ le 2 s at → at + 2 ≤ length s → Holds at s (picoseconds_held x at s)
+held_holds None at s e h l = absurd (no (sym e))
+held_holds (Some v) at s e h l = rw (le-leb 10000 (le 2 s at) h) (stored_holds at s l)

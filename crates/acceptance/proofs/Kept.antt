@@ -22,7 +22,7 @@ use Rattle.reassembly.specs.Machine.Call.{Empty, Take, Combine, Ask, HandOut}
 use Rattle.reassembly.specs.Calls.{leaves, final}
 use Rattle.reassembly.specs.Judge.{judge_reading, judge_combine}
 use Rattle.reassembly.specs.Operations.{step_by, put, put_reading, take_in, combine}
-use Rattle.reassembly.specs.declared.verdict.Verdict.{Verdict}
+use Rattle.reassembly.specs.Verdict.{Verdict}
 use Rattle.reassembly.proofs.Following
 use Rattle.acceptance.specs.Salvage.{NoEmptying}
 

@@ -1,3 +1,4 @@
+mod Reasons
 pub mod Edges
 pub mod Refusals
 pub mod RefusedDatagrams

@@ -1,5 +1,6 @@
 -- What was written of a probe reads back: its body, its ids or strings, and a datagram with that body.
 -- Assumes nothing.
+use Rattle.std.specs.Prelude.{Option, Some, None, Ok}
 use Prim.Native.Nat.{ℕ, ◌+◌, ◌*◌, ◌-◌, ◌≤◌}
 use mathlib.Core.Path.{◌≡◌, refl, sym, ap, subst, ◌∙◌}
 use mathlib.Core.Bool.{Bool, true, false, cond}
@@ -16,11 +17,9 @@ use Rattle.wire.proofs.Places.{moved_by}
 use Rattle.wire.proofs.Reading.{got_value, not_got, invert}
 use Rattle.wire_writer.specs.Fits.{Bytes}
 use Rattle.wire_writer.specs.Writing.{writing, refusing, unless}
-use Rattle.wire_writer.specs.declared.writing.Written.{Written}
 use Rattle.wire_writer.proofs.Answering.{reported}
 use Rattle.wire_writer.proofs.Refusals.{passed, held}
 use Rattle.wire_writer.proofs.Back.{ruled_back}
-use Rattle.probe.specs.declared.body.ListCount.{ListCount}
 use Rattle.probe.specs.declared.body.Probe.{Probe}
 use Rattle.probe.specs.Body.{probe_type_rule, information_at, probe_at, probe_body_at}
 use Rattle.probe.specs.Items.{count_in}
@@ -45,16 +44,16 @@ use Rattle.round_trip.proofs.NetworkMessageRoundTrip.{reads_back_lem}
 use Rattle.acceptance.specs.Probes.{WroteProbe, ProbeBack, written_probe, ProbeDatagramBack}
 
 -- ---- ids and strings, where a body stands
-count_long : (l : ListCount) → length (list_count_bytes l) ≡ 4
-count_long ListCount.Null = length_le_bytes 4 4294967295
-count_long (ListCount.Of n) = length_le_bytes 4 n
+count_long : (l : Option ℕ) → length (list_count_bytes l) ≡ 4
+count_long None = length_le_bytes 4 4294967295
+count_long (Some n) = length_le_bytes 4 n
 
 none : (l : List ℕ) → length l ≡ 0 → [] ≡ l
 none [] h = refl
 none (x ∷ l) h = absurd (omega (arith, h))
 
 -- what stands 6 bytes behind a body's start
-behind : (pre : List ℕ) (t : ℕ) (l : ListCount) (rest : List ℕ) → drop (length pre + 6) (pre ++ ((le_bytes 1 1 ++ le_bytes 1 t) ++ (list_count_bytes l ++ rest))) ≡ rest
+behind : (pre : List ℕ) (t : ℕ) (l : Option ℕ) (rest : List ℕ) → drop (length pre + 6) (pre ++ ((le_bytes 1 1 ++ le_bytes 1 t) ++ (list_count_bytes l ++ rest))) ≡ rest
 behind pre t l rest =
     let head = le_bytes 1 1 ++ le_bytes 1 t in
     let e : head ++ (list_count_bytes l ++ rest) ≡ (head ++ list_count_bytes l) ++ rest = sym (append_assoc head (list_count_bytes l) rest) in
@@ -62,9 +61,9 @@ behind pre t l rest =
     omega (arith, length-append head (list_count_bytes l), length-append (le_bytes 1 1) (le_bytes 1 t), length_le_bytes 1 1, length_le_bytes 1 t, count_long l) in
     drop-append-add pre (head ++ (list_count_bytes l ++ rest)) 6 ∙ ap (drop 6) e ∙ drop_at (head ++ list_count_bytes l) rest 6 six
 
-ids_long : (l : ListCount) (n : ℕ) → id_list_rule l n ≡ 0 → n ≡ 2 * count_in l
-ids_long ListCount.Null n h = eqb-true n 0 (held (eqb n 0) 5 h)
-ids_long (ListCount.Of k) n h =
+ids_long : (l : Option ℕ) (n : ℕ) → id_list_rule l n ≡ 0 → n ≡ 2 * count_in l
+ids_long None n h = eqb-true n 0 (held (eqb n 0) 5 h)
+ids_long (Some k) n h =
     let q = passed (leb 2147483648 k) 5 (cond (eqb n (2 * k)) 0 6) h in
     eqb-true n (2 * k) (held (eqb n (2 * k)) 5 q.1)
 
@@ -97,7 +96,7 @@ list_back pre list (Probe.Connections l g w) h =
     ∙ take_at list two (length list) refl
 
 -- ---- a body
-pub probe_reads_back : (list : List ℕ) (p : Probe) (entry exit : List ℕ) (n : ℕ) → WroteProbe list p entry exit (Written.Is n)
+pub probe_reads_back : (list : List ℕ) (p : Probe) (entry exit : List ℕ) (n : ℕ) → WroteProbe list p entry exit (Ok n)
     → ProbeBack list p (take n exit) × (drop n exit ≡ drop n entry)
 probe_reads_back list p entry exit n (f, w) =
     let r = reported (probe_body_refusal list p) (probe_bytes list p) entry exit n w in
@@ -132,8 +131,8 @@ module _ (list : List ℕ) (p : Probe) (g : GivenDatagram) (x : Envelope) (sizes
           ap (λ (h : PayloadHeader). envelope_bytes g.text g.ids g.promoted x ++ (list_bytes h g.lengths ++ g.messages)) header
           ∙ ap (λ (l : List ℕ). envelope_bytes g.text g.ids g.promoted x ++ l) given
 
-pub probe_datagram_reads_back : (list : List ℕ) (p : Probe) (entry-p exit-p : List ℕ) (n-p : ℕ) → WroteProbe list p entry-p exit-p (Written.Is n-p)
-    → (g : GivenDatagram) (x : Envelope) (sizes configured entry exit : List ℕ) (n : ℕ) → WroteDatagram g x sizes configured entry exit (Written.Is n)
+pub probe_datagram_reads_back : (list : List ℕ) (p : Probe) (entry-p exit-p : List ℕ) (n-p : ℕ) → WroteProbe list p entry-p exit-p (Ok n-p)
+    → (g : GivenDatagram) (x : Envelope) (sizes configured entry exit : List ℕ) (n : ℕ) → WroteDatagram g x sizes configured entry exit (Ok n)
     → x.payload_header ≡ PayloadHeader.Probe → g.messages ≡ take n-p exit-p → ProbeDatagramBack list p g x sizes (take n exit) × (drop n exit ≡ drop n entry)
 probe_datagram_reads_back list p entry-p exit-p n-p (f, w) g x sizes configured entry exit n (fx, wx, _, _) header given =
     let a = reported (probe_body_refusal list p) (probe_bytes list p) entry-p exit-p n-p w in

@@ -1,4 +1,7 @@
 -- The listing program lists the listing, and a configuration means what its text says.
+use Rattle.std.specs.Prelude.{Result}
+use Rattle.wire.specs.declared.refusal.Refusal.{Refusal}
+use Rattle.config.specs.declared.Config.{Config}
 use Prim.Native.Nat.{ℕ}
 use mathlib.Core.Path.{◌≡◌, refl, sym, ap, ◌∙◌}
 use mathlib.Core.Bool.{Bool, true, false, cond}
@@ -9,8 +12,7 @@ use lib.Dec.{ltb, eqb}
 use lib.ListN.{length, take}
 use lib.Seq.{take_all}
 use Rattle.wire.specs.Constants.{MOST_DATAGRAM, MOST_WRITERS}
-use Rattle.config_text.specs.Config.{config_of}
-use Rattle.config_text.specs.declared.ConfigRead.{ConfigRead}
+use Rattle.config_text.specs.Config.{config_of, config_number, place_in, config_in}
 use Rattle.config_text.proofs.Joined.{config_within}
 use Rattle.config_text.proofs.Long as long
 use Rattle.config_text.proofs.Meant.{config_means}
@@ -74,10 +76,10 @@ module _ (w : Writers) (number place : ℕ) (d : List ℕ) where
       ≡ lines_text d (listing_of number place w d)
   front_lists = front_by (eqb number 0) (ltb MOST_DATAGRAM (length d)) refl refl
 
-meant : (text : List ℕ) → (config_of text).number ≡ 0 → Means text (writers_of (config_of text).config)
+meant : (text : List ℕ) → config_number (config_of text) ≡ 0 → Means text (writers_of (config_in (config_of text)))
 meant text h =
     let (starts, types, l, by-id) = config_means text h in
-    let c = (config_of text).config in
+    let c = (config_in (config_of text)) in
     let few = le-ltb MOST_WRITERS c.writers (config_within text).0 in
     record {
       ids = rw few l.ids_are;
@@ -89,10 +91,10 @@ pub program : Program
 program = record {
   means = meant;
   lists = λ text d.
-      ap (λ (r : ConfigRead). lines_text (take MOST_DATAGRAM d)
-      (lines_from (writers_of r.config) (take MOST_DATAGRAM d)
-      (program_cursor (ltb MOST_DATAGRAM (length d)) r.number r.place (writers_of r.config).sizes (take MOST_DATAGRAM d)))) (same_config text)
-      ∙ front_lists (writers_of (config_of text).config) (config_of text).number (config_of text).place d;
+      ap (λ (r : Result Config Refusal). lines_text (take MOST_DATAGRAM d)
+      (lines_from (writers_of (config_in r)) (take MOST_DATAGRAM d)
+      (program_cursor (ltb MOST_DATAGRAM (length d)) (config_number r) (place_in r) (writers_of (config_in r)).sizes (take MOST_DATAGRAM d)))) (same_config text)
+      ∙ front_lists (writers_of (config_in (config_of text))) (config_number (config_of text)) (place_in (config_of text)) d;
   long_text = λ text h. long.long_text text TEXT_ROOM (omega arith) h;
   block_and_rest = blocks.block_and_rest;
 }

@@ -23,8 +23,8 @@ use Rattle.dataset_fields.specs.declared.fields.Cursor.{Cursor}
 use Rattle.dataset_fields.specs.declared.fields.Field.{Field}
 use Rattle.dataset_message.specs.Message.{Message, count_to, after_header_to, opened_at, front_to, ended_at}
 use Rattle.salvage.specs.Front.{Shown, shown, bad, ends, past_by, shown_by, shown_at, shown_step, last_by, next_shown, opens, open_at, front_shown}
-use Rattle.salvage.specs.declared.front.Opening.{Opening}
-use Rattle.salvage.specs.declared.front.FieldShown.{FieldShown}
+use Rattle.std.specs.Prelude.{Err}
+use Rattle.acceptance.proofs.Reasons.{number_of, place_of, is_refused}
 use Rattle.acceptance.specs.Refusals.{Refusal, StepRefusal, value_refusals, message_refusals, end_refusals}
 use Rattle.acceptance.proofs.Refusals.{Tells, with13, all_of, wider, wider_one, no_place, cond_tells, then_tells}
 use Rattle.acceptance.proofs.Refusals.Tells.{gives, refuses}
@@ -147,72 +147,36 @@ front_tells total types f = then_tells (header_tells f) go
     go not_valid at u = gives {next = 0} (omega arith)
     go (valid h) at u = then_tells (count h.kind (is_raw h.encoding) at u) (λ n first v. gives v)
 
-abbrev open_number : Opening → ℕ
-open_number (Opening.Refused n place) = n
-open_number Opening.Missing = 0
-open_number Opening.NotValid = 0
-open_number (Opening.At c) = 0
-
-abbrev open_place : Opening → ℕ
-open_place (Opening.Refused n place) = place
-open_place Opening.Missing = 0
-open_place Opening.NotValid = 0
-open_place (Opening.At c) = 0
-
-abbrev open_refused : Opening → Bool
-open_refused (Opening.Refused n place) = true
-open_refused Opening.Missing = false
-open_refused Opening.NotValid = false
-open_refused (Opening.At c) = false
-
-pub opening_told : (total : ℕ) (types f s : List ℕ) (n place : ℕ) → open_at total types f s ≡ Opening.Refused n place → Refusal message_refusals n place (length f)
+pub opening_told : (total : ℕ) (types f s : List ℕ) (n place : ℕ) → open_at total types f s ≡ Err (n, place) → Refusal message_refusals n place (length f)
 opening_told total types f s n place e = go (front_shown total types f s) refl e
   where
     inside : StepRefusal message_refusals n place (length f) 0 → Refusal message_refusals n place (length f)
     inside (inl r) = r
     inside (inr r) = record { one = r.0; nowhere = λ z. r.1; inside = rw r.1 (omega arith) }
 
-    go : (v : Shown (Valid Message)) → front_shown total types f s ≡ v → opens v ≡ Opening.Refused n place → Refusal message_refusals n place (length f)
-    go (shown not_valid at) q i = absurd (false≢true (ap open_refused i))
-    go (shown (valid m) at) q i = absurd (false≢true (ap open_refused i))
+    go : (v : Shown (Valid Message)) → front_shown total types f s ≡ v → opens v ≡ Err (n, place) → Refusal message_refusals n place (length f)
+    go (shown not_valid at) q i = absurd (false≢true (ap is_refused i))
+    go (shown (valid m) at) q i = absurd (false≢true (ap is_refused i))
     go (bad a b) q i =
         inside (shown_told (length f) 0 (front_to total types f) (front_to total types s) (within message_refusals 0 refl (front_tells total types f)) n place
-        (rw (sym (ap open_number i), sym (ap open_place i)) q))
-    go ends q i = absurd (false≢true (ap open_refused i))
+        (rw (sym (ap number_of i), sym (ap place_of i)) q))
+    go ends q i = absurd (false≢true (ap is_refused i))
 
 -- ---- a step from field to field
-abbrev step_number : FieldShown → ℕ
-step_number (FieldShown.Is x c) = 0
-step_number FieldShown.Last = 0
-step_number FieldShown.Ends = 0
-step_number (FieldShown.Refused n place) = n
-
-abbrev step_place : FieldShown → ℕ
-step_place (FieldShown.Is x c) = 0
-step_place FieldShown.Last = 0
-step_place FieldShown.Ends = 0
-step_place (FieldShown.Refused n place) = place
-
-abbrev step_refused : FieldShown → Bool
-step_refused (FieldShown.Is x c) = false
-step_refused FieldShown.Last = false
-step_refused FieldShown.Ends = false
-step_refused (FieldShown.Refused n place) = true
-
-pub step_shown_told : (types f s : List ℕ) (c : Cursor) (n place : ℕ) → next_shown types f s c ≡ FieldShown.Refused n place → StepRefusal message_refusals n place (length f) c.at
+pub step_shown_told : (types f s : List ℕ) (c : Cursor) (n place : ℕ) → next_shown types f s c ≡ Err (n, place) → StepRefusal message_refusals n place (length f) c.at
 step_shown_told types f s c n place e =
     by_bool _ (leb c.count c.next) (λ b. last (padding_at f c.at) (padding_told f c.at) (rw b at e)) (λ b. step (shown_at read f s c.at) refl (rw b at e))
   where
     read : Reader Field
     read = field_at c.delta c.encoding types c.next
 
-    last : (x : Answer (Unit {0})) → ToldAt message_refusals (length f) c.at x → last_by x ≡ FieldShown.Refused n place → StepRefusal message_refusals n place (length f) c.at
-    last (got u z) t i = absurd (false≢true (ap step_refused i))
-    last (refused a b) t i = same_refusal (ap step_number i) (ap step_place i) t
+    last : (x : Answer (Unit {0})) → ToldAt message_refusals (length f) c.at x → last_by x ≡ Err (n, place) → StepRefusal message_refusals n place (length f) c.at
+    last (got u z) t i = absurd (false≢true (ap is_refused i))
+    last (refused a b) t i = same_refusal (ap number_of i) (ap place_of i) t
 
-    step : (v : Shown Field) → shown_at read f s c.at ≡ v → shown_step c v ≡ FieldShown.Refused n place → StepRefusal message_refusals n place (length f) c.at
-    step (shown x end) q i = absurd (false≢true (ap step_refused i))
+    step : (v : Shown Field) → shown_at read f s c.at ≡ v → shown_step c v ≡ Err (n, place) → StepRefusal message_refusals n place (length f) c.at
+    step (shown x end) q i = absurd (false≢true (ap is_refused i))
     step (bad a b) q i =
         shown_told (length f) c.at (read f c.at) (read s c.at) (field_told c.delta c.encoding types c.next f c.at) n place
-        (rw (sym (ap step_number i), sym (ap step_place i)) q)
-    step ends q i = absurd (false≢true (ap step_refused i))
+        (rw (sym (ap number_of i), sym (ap place_of i)) q)
+    step ends q i = absurd (false≢true (ap is_refused i))

@@ -1,5 +1,8 @@
 -- By which numbers the writers refuse.
 -- Assumes nothing.
+use Rattle.network_header.specs.declared.group.GroupFields.{GroupFields}
+use Rattle.std.specs.Prelude.{Option, Some, None, is_some}
+use Rattle.wire.proofs.Reading.{not_got}
 use Prim.Native.Nat.{ℕ, zero, suc, ◌+◌, ◌*◌, ◌-◌, ◌/◌, ◌%◌}
 use mathlib.Core.Path.{◌≡◌, refl, sym, subst}
 use mathlib.Core.Bool.{Bool, true, false, cond, ◌&&◌, not}
@@ -13,26 +16,21 @@ use Rattle.wire.specs.Number.{le}
 use Rattle.wire.specs.Answer.{Answer, got, refused, and_then, run, pure, each}
 use Rattle.wire.specs.Items.{length_item}
 use Rattle.wire.specs.declared.Length.{Length}
-use Rattle.wire.specs.declared.optional.Optional16.{Optional16}
 use Rattle.wire.proofs.Cases.{by_bool}
-use Rattle.wire_writer.specs.Writing.{or_else, unused, Output, unless, written_of, Writes, on16, on_i64, picoseconds_refusal}
-use Rattle.wire_writer.specs.declared.writing.Written.{Written}
+use Rattle.wire_writer.specs.Writing.{or_else, unused, Output, unless, written_of, picoseconds_refusal}
 use Rattle.publisher_id.specs.Publisher.{publisher_refusal, publisher_shape, text_too_long}
 use Rattle.publisher_id.specs.declared.publisher.PublisherId.{PublisherId}
 use Rattle.network_header.specs.Flags.{times_refusal, probe_refusal}
 use Rattle.plain_value.specs.Plain.{bytes, after_length, string, length_first}
 use Rattle.plain_value.specs.Dimensions.{fours, any_below_one, product, given_sizes_rule}
-use Rattle.probe.specs.declared.body.ListCount.{ListCount}
 use Rattle.probe.specs.declared.body.Probe.{Probe}
 use Rattle.probe.specs.Body.{probe_body_at}
 use Rattle.probe.specs.Put.{id_list_rule, strings_end, string_list_rule, probe_body_refusal, probe_bytes, probe_output}
 use Rattle.network_header.specs.Group.{number_refusal, group_refusal}
-use Rattle.network_header.specs.Header.{count_refusal, promoted_refusal, count_shape, ids_shape, promoted_shape, probe_on, promoted_on}
+use Rattle.network_header.specs.Header.{count_refusal, promoted_refusal, count_shape, ids_shape, promoted_shape, probe_on}
 use Rattle.network_header.specs.Numbers.{configured_sizes, same_numbers}
 use Rattle.network_header.specs.declared.envelope.Envelope.{Envelope}
-use Rattle.network_header.specs.declared.group.GroupHeader.{GroupHeader}
 use Rattle.network_header.specs.declared.header.PayloadHeader.{PayloadHeader}
-use Rattle.network_header.specs.declared.header.Promoted.{Promoted}
 use Rattle.network_message.specs.Payload.{all_positive, listed, messages_from, rest_only_at, configured_at}
 use Rattle.network_message.specs.declared.payload.Sizes.{Sizes}
 use Rattle.network_message.specs.Envelope.{NetworkMessage, network_message_at, messages_of}
@@ -86,17 +84,17 @@ publisher_number_lem (PublisherId.UInt32 v) n = inl refl
 publisher_number_lem (PublisherId.UInt64 v) n = inl refl
 publisher_number_lem (PublisherId.Text k) n = either for_datagrams (text_too_long n) 10 0 (inr refl) (inl refl)
 
-optional_number : (o : Optional16) → Number for_datagrams (picoseconds_refusal o)
-optional_number Optional16.Absent = inl refl
-optional_number (Optional16.Is v) = either for_datagrams (leb 10000 v) 3 0 (inr refl) (inl refl)
+optional_number : (o : Option ℕ) → Number for_datagrams (picoseconds_refusal o)
+optional_number None = inl refl
+optional_number (Some v) = either for_datagrams (leb 10000 v) 3 0 (inr refl) (inl refl)
 
-message_number : (o : Optional16) → Number for_datagrams (number_refusal o)
-message_number Optional16.Absent = inl refl
-message_number (Optional16.Is v) = either for_datagrams (eqb v 0) 3 0 (inr refl) (inl refl)
+message_number : (o : Option ℕ) → Number for_datagrams (number_refusal o)
+message_number None = inl refl
+message_number (Some v) = either for_datagrams (eqb v 0) 3 0 (inr refl) (inl refl)
 
-group_number_lem : (g : GroupHeader) → Number for_datagrams (group_refusal g)
-group_number_lem GroupHeader.Absent = inl refl
-group_number_lem (GroupHeader.Is g) = message_number g.number
+group_number_lem : (g : Option GroupFields) → Number for_datagrams (group_refusal g)
+group_number_lem None = inl refl
+group_number_lem (Some g) = message_number g.number
 
 count_number : (h : PayloadHeader) → Number for_datagrams (count_refusal h)
 count_number PayloadHeader.Absent = inl refl
@@ -104,9 +102,9 @@ count_number (PayloadHeader.Ids n) = either for_datagrams (eqb n 0) 6 0 (inr ref
 count_number (PayloadHeader.Chunk w) = inl refl
 count_number PayloadHeader.Probe = inl refl
 
-promoted_number : (p : Promoted) (messages : ℕ) → Number for_datagrams (promoted_refusal p messages)
-promoted_number Promoted.Absent messages = inl refl
-promoted_number (Promoted.Size n) messages = either for_datagrams (eqb messages 1) 0 6 (inl refl) (inr refl)
+promoted_number : (p : Option ℕ) (messages : ℕ) → Number for_datagrams (promoted_refusal p messages)
+promoted_number None messages = inl refl
+promoted_number (Some n) messages = either for_datagrams (eqb messages 1) 0 6 (inl refl) (inr refl)
 
 times_number : (p t : Bool) → Number for_datagrams (times_refusal p t)
 times_number p t = either for_datagrams p (cond t 0 3) 0 (either for_datagrams t 0 3 (inl refl) (inr refl)) (inl refl)
@@ -146,8 +144,8 @@ payload_number false PayloadHeader.Probe sizes lengths messages = go (probe_body
 
 reading_number : (g : GivenDatagram) (x : Envelope) (sizes : List ℕ) → Number for_datagrams (datagram_reading_refusal g x sizes)
 reading_number g x sizes =
-    in_turn for_datagrams _ _ (times_number (on16 x.picoseconds) (on_i64 x.timestamp))
-    (in_turn for_datagrams _ _ (probe_number (probe_on x.payload_header) x.chunk (promoted_on x.promoted))
+    in_turn for_datagrams _ _ (times_number (is_some x.picoseconds) (is_some x.timestamp))
+    (in_turn for_datagrams _ _ (probe_number (probe_on x.payload_header) x.chunk (is_some x.promoted))
     (in_turn for_datagrams _ _ (publisher_number_lem x.publisher (length g.text))
     (in_turn for_datagrams _ _ (group_number_lem x.group)
     (in_turn for_datagrams _ _ (count_number x.payload_header)
@@ -171,9 +169,9 @@ ids_shape_lem chunk (PayloadHeader.Ids n) ids configured =
 ids_shape_lem chunk (PayloadHeader.Chunk w) ids configured = either for_datagrams chunk (unused (length ids)) 6 (held (eqb (length ids) 0)) (inr refl)
 ids_shape_lem chunk PayloadHeader.Probe ids configured = held (eqb (length ids) 0)
 
-promoted_shape_lem : (p : Promoted) (n : ℕ) → Number for_datagrams (promoted_shape p n)
-promoted_shape_lem Promoted.Absent n = held (eqb n 0)
-promoted_shape_lem (Promoted.Size k) n = either for_datagrams (leb 65536 k) 6 (cond (eqb k n) 0 6) (inr refl) (held (eqb k n))
+promoted_shape_lem : (p : Option ℕ) (n : ℕ) → Number for_datagrams (promoted_shape p n)
+promoted_shape_lem None n = held (eqb n 0)
+promoted_shape_lem (Some k) n = either for_datagrams (leb 65536 k) 6 (cond (eqb k n) 0 6) (inr refl) (held (eqb k n))
 
 lengths_shape_lem : (h : PayloadHeader) (lengths sizes : List ℕ) → Number for_datagrams (lengths_shape h lengths sizes)
 lengths_shape_lem PayloadHeader.Absent lengths sizes =
@@ -203,9 +201,9 @@ kind_number_lem Kind.Event Encoding.RawData = inr refl
 kind_number_lem Kind.Event Encoding.DataValue = inr refl
 kind_number_lem Kind.KeepAlive e = inl refl
 
-picoseconds_number : (o : Optional16) → Number for_messages (picoseconds_refusal o)
-picoseconds_number Optional16.Absent = inl refl
-picoseconds_number (Optional16.Is v) = either for_messages (leb 10000 v) 3 0 (inr refl) (inl refl)
+picoseconds_number : (o : Option ℕ) → Number for_messages (picoseconds_refusal o)
+picoseconds_number None = inl refl
+picoseconds_number (Some v) = either for_messages (leb 10000 v) 3 0 (inr refl) (inl refl)
 
 -- an answer's number
 told_number : {A : Type 0} {hi : ℕ} {x : Answer A} → Tells field_others hi x → Number for_messages (number_of x)
@@ -257,29 +255,26 @@ refusal_number_lem types g =
     (either for_messages (reads_back types g) 0 6 (inl refl) (inr refl))
 
 -- ---- what a writer answers
-refusal_of : {n m : ℕ} → ◌≡◌ {A = Written} (Written.Refused n) (Written.Refused m) → n ≡ m
+refusal_of : {n m : ℕ} → ◌≡◌ {A = Answer (Unit {0})} (refused n 0) (refused m 0) → n ≡ m
 refusal_of e = cc
 
-not_done : {n m : ℕ} → ◌≡◌ {A = Written} (Written.Refused n) (Written.Is m) → ⊥
-not_done e = let z : ◌≡◌ {A = ℕ} 0 1 = cc in absurd (omega arith)
-
 -- bytes that are written are refused by 10 or 11 only
-room_number : (ns : List ℕ) → one_of ns 10 ≡ true → one_of ns 11 ≡ true → (n room : ℕ) (bytes : List ℕ) → Written.Refused n ≡ written_of room (Output.writing bytes) → one_of ns n ≡ true
+room_number : (ns : List ℕ) → one_of ns 10 ≡ true → one_of ns 11 ≡ true → (n room : ℕ) (bytes : List ℕ) → refused n 0 ≡ written_of room (Output.writing bytes) → one_of ns n ≡ true
 room_number ns t e n room bytes q =
     by_bool _ (ltb 65535 (length bytes)) (λ a. subst (λ (k : ℕ). one_of ns k ≡ true) (sym (refusal_of (rw a at q))) t)
-    (λ a. by_bool _ (ltb room (length bytes)) (λ b. subst (λ (k : ℕ). one_of ns k ≡ true) (sym (refusal_of (rw (a, b) at q))) e) (λ b. absurd (not_done (rw (a, b) at q))))
+    (λ a. by_bool _ (ltb room (length bytes)) (λ b. subst (λ (k : ℕ). one_of ns k ≡ true) (sym (refusal_of (rw (a, b) at q))) e) (λ b. absurd (not_got (rw (a, b) at q))))
 
 unless_number : (ns : List ℕ) → one_of ns 10 ≡ true → one_of ns 11 ≡ true → (k : ℕ) → Number ns k → (n room : ℕ) (bytes : List ℕ)
-    → Written.Refused n ≡ written_of room (unless k bytes) → one_of ns n ≡ true
+    → refused n 0 ≡ written_of room (unless k bytes) → one_of ns n ≡ true
 unless_number ns t e k (inl z) n room bytes q = room_number ns t e n room bytes (rw z at q)
 unless_number ns t e k (inr z) n room bytes q =
     by_bool _ (eqb k 0) (λ b. room_number ns t e n room bytes (rw b at q)) (λ b. subst (λ (i : ℕ). one_of ns i ≡ true) (sym (refusal_of (rw b at q))) z)
 
-pub datagram_writer : (g : GivenDatagram) (x : Envelope) (sizes configured entry exit : List ℕ) (n : ℕ)
-    → Writes (datagram_output g x sizes configured) entry exit (Written.Refused n) → one_of datagram_writer_refusals n ≡ true
-datagram_writer g x sizes configured entry exit n w =
+pub datagram_writer : (g : GivenDatagram) (x : Envelope) (sizes configured : List ℕ) (room n : ℕ)
+    → written_of room (datagram_output g x sizes configured) ≡ refused n 0 → one_of datagram_writer_refusals n ≡ true
+datagram_writer g x sizes configured room n w =
     unless_number for_datagrams refl refl (datagram_refusal g x sizes configured) (in_turn for_datagrams _ _ (reading_number g x sizes) (shape_number_lem g x sizes configured))
-    n (length entry) (datagram_of g x) w.answer
+    n room (datagram_of g x) (sym w)
 
 -- ---- a probe's body
 abbrev for_probes : List ℕ
@@ -288,9 +283,9 @@ for_probes = probe_writer_refusals
 probe_held : (b : Bool) → Number for_probes (cond b 0 6)
 probe_held b = either for_probes b 0 6 (inl refl) (inr refl)
 
-id_list_number : (l : ListCount) (n : ℕ) → Number for_probes (id_list_rule l n)
-id_list_number ListCount.Null n = probe_held (eqb n 0)
-id_list_number (ListCount.Of k) n = either for_probes (leb 2147483648 k) 6 (cond (eqb n (2 * k)) 0 6) (inr refl) (probe_held (eqb n (2 * k)))
+id_list_number : (l : Option ℕ) (n : ℕ) → Number for_probes (id_list_rule l n)
+id_list_number None n = probe_held (eqb n 0)
+id_list_number (Some k) n = either for_probes (leb 2147483648 k) 6 (cond (eqb n (2 * k)) 0 6) (inr refl) (probe_held (eqb n (2 * k)))
 
 -- strings are refused by 1 and 5 only
 abbrev OneOrFive : {A : Type 0} → Answer A → Type 0
@@ -319,9 +314,9 @@ unfolding each
 strings_numbers zero s at = tt
 strings_numbers (suc n) s at = then_numbers (string s at) _ (string_numbers s at) (λ a next. strings_numbers n s next)
 
-string_list_number : (l : ListCount) (list : List ℕ) → Number for_probes (string_list_rule l list)
-string_list_number ListCount.Null list = probe_held (eqb (length list) 0)
-string_list_number (ListCount.Of k) list = go (each string k list 0) (strings_numbers k list 0)
+string_list_number : (l : Option ℕ) (list : List ℕ) → Number for_probes (string_list_rule l list)
+string_list_number None list = probe_held (eqb (length list) 0)
+string_list_number (Some k) list = go (each string k list 0) (strings_numbers k list 0)
   where
     go : (x : Answer (Unit {0})) → OneOrFive x → Number for_probes (strings_end k (length list) x)
     go (got a end) t = either for_probes (leb 2147483648 k) 6 (cond (eqb end (length list)) 0 6) (inr refl) (probe_held (eqb end (length list)))
@@ -333,30 +328,31 @@ probe_body_number list (Probe.Writers l) = id_list_number l (length list)
 probe_body_number list (Probe.Group g b) = probe_held (eqb (length list) 0)
 probe_body_number list (Probe.Connections l g w) = string_list_number l list
 
-pub probe_writer : (list : List ℕ) (p : Probe) (entry exit : List ℕ) (n : ℕ) → Writes (probe_output list p) entry exit (Written.Refused n) → one_of probe_writer_refusals n ≡ true
-probe_writer list p entry exit n w = unless_number for_probes refl refl (probe_body_refusal list p) (probe_body_number list p) n (length entry) (probe_bytes list p) w.answer
+pub probe_writer : (list : List ℕ) (p : Probe) (room n : ℕ) → written_of room (probe_output list p) ≡ refused n 0
+    → one_of probe_writer_refusals n ≡ true
+probe_writer list p room n w = unless_number for_probes refl refl (probe_body_refusal list p) (probe_body_number list p) n room (probe_bytes list p) (sym w)
 
-pub message_writer : (types : List ℕ) (g : GivenMessage) (entry exit : List ℕ) (n : ℕ)
-    → Writes (message_output types g) entry exit (Written.Refused n) → one_of message_writer_refusals n ≡ true
-message_writer types g entry exit n w = unless_number for_messages refl refl (message_refusal types g) (refusal_number_lem types g) n (length entry) (encode g) w.answer
+pub message_writer : (types : List ℕ) (g : GivenMessage) (room n : ℕ)
+    → written_of room (message_output types g) ≡ refused n 0 → one_of message_writer_refusals n ≡ true
+message_writer types g room n w = unless_number for_messages refl refl (message_refusal types g) (refusal_number_lem types g) n room (encode g) (sym w)
 
 -- ---- rewriting
-pub datagram_again_lem : (sizes s entry exit : List ℕ) (n : ℕ) → Writes (datagram_same sizes s) entry exit (Written.Refused n) → one_of datagram_again_refusals n ≡ true
-datagram_again_lem sizes s entry exit n w = go (network_message_at sizes s) refl (datagram_tells sizes s)
+pub datagram_again_lem : (sizes s : List ℕ) (room n : ℕ) → written_of room (datagram_same sizes s) ≡ refused n 0 → one_of datagram_again_refusals n ≡ true
+datagram_again_lem sizes s room n w = go (network_message_at sizes s) refl (datagram_tells sizes s)
   where
     go : (a : Answer NetworkMessage) → network_message_at sizes s ≡ a → Tells datagram_others (length s) a → one_of datagram_again_refusals n ≡ true
-    go (got m next) q t = room_number datagram_again_refusals refl refl n (length entry) (rewritten m s) (rw q at w.answer)
+    go (got m next) q t = room_number datagram_again_refusals refl refl n room (rewritten m s) (rw q at (sym w))
     go (refused k place) q (refuses r) =
-        subst (λ (i : ℕ). one_of datagram_again_refusals i ≡ true) (sym (refusal_of (rw q at w.answer))) (wider_one (with13 datagram_others) datagram_again_refusals refl k r.one)
+        subst (λ (i : ℕ). one_of datagram_again_refusals i ≡ true) (sym (refusal_of (rw q at (sym w)))) (wider_one (with13 datagram_others) datagram_again_refusals refl k r.one)
 
-pub message_again_lem : (types s entry exit : List ℕ) (n : ℕ) → Writes (message_same types s) entry exit (Written.Refused n) → one_of message_again_refusals n ≡ true
-message_again_lem types s entry exit n w = go (message_at types s) refl (message_tells types s)
+pub message_again_lem : (types s : List ℕ) (room n : ℕ) → written_of room (message_same types s) ≡ refused n 0 → one_of message_again_refusals n ≡ true
+message_again_lem types s room n w = go (message_at types s) refl (message_tells types s)
   where
     go : (a : Answer (Valid Message)) → message_at types s ≡ a → Tells message_others (length s) a → one_of message_again_refusals n ≡ true
-    go (got not_valid next) q t = subst (λ (i : ℕ). one_of message_again_refusals i ≡ true) (sym (refusal_of (rw q at w.answer))) refl
-    go (got (valid m) next) q t = room_number message_again_refusals refl refl n (length entry) (message_held m.header s) (rw q at w.answer)
+    go (got not_valid next) q t = subst (λ (i : ℕ). one_of message_again_refusals i ≡ true) (sym (refusal_of (rw q at (sym w)))) refl
+    go (got (valid m) next) q t = room_number message_again_refusals refl refl n room (message_held m.header s) (rw q at (sym w))
     go (refused k place) q (refuses r) =
-        subst (λ (i : ℕ). one_of message_again_refusals i ≡ true) (sym (refusal_of (rw q at w.answer))) (wider_one (with13 message_others) message_again_refusals refl k r.one)
+        subst (λ (i : ℕ). one_of message_again_refusals i ≡ true) (sym (refusal_of (rw q at (sym w)))) (wider_one (with13 message_others) message_again_refusals refl k r.one)
 
 -- ---- values that are put
 abbrev for_values : List ℕ
@@ -385,8 +381,8 @@ form_number t Form.NullArray n = either for_values (fixed t) _ 4 (six_or_none (e
 put_number : (t : ℕ) (f : Form) (n : ℕ) → Number for_values (put_rule t f n)
 put_number t f n = in_turn for_values (type_rule t f) (form_rule t f n) (either for_values (ltb t 64) _ 4 (first_byte_number (first_byte t f)) (inr refl)) (form_number t f n)
 
-pub value_writer : (t : ℕ) (f : Form) (b entry exit : List ℕ) (n : ℕ) → Writes (variant_output t f b) entry exit (Written.Refused n) → one_of value_writer_refusals n ≡ true
-value_writer t f b entry exit n w = unless_number for_values refl refl (put_rule t f (length b)) (put_number t f (length b)) n (length entry) (variant_bytes t f b) w.answer
+pub value_writer : (t : ℕ) (f : Form) (b : List ℕ) (room n : ℕ) → written_of room (variant_output t f b) ≡ refused n 0 → one_of value_writer_refusals n ≡ true
+value_writer t f b room n w = unless_number for_values refl refl (put_rule t f (length b)) (put_number t f (length b)) n room (variant_bytes t f b) (sym w)
 
 absent_number : (on : Bool) (k : ℕ) → Number for_values (absent_rule on k)
 absent_number on k = either for_values on 0 _ (inl refl) (six_or_none (eqb k 0))
@@ -400,11 +396,11 @@ name_number t n l k =
     in_turn for_values (name_kind_rule t n) _ (name_kind_number t n)
     (in_turn for_values _ _ (six_or_none (leb n 65535)) (in_turn for_values _ _ (absent_number (has_locale t n) l) (absent_number (has_text t n) k)))
 
-pub name_writer : (t number : ℕ) (locale text entry exit : List ℕ) (n : ℕ) → Writes (name_output t number locale text) entry exit (Written.Refused n)
+pub name_writer : (t number : ℕ) (locale text : List ℕ) (room n : ℕ) → written_of room (name_output t number locale text) ≡ refused n 0
     → one_of value_writer_refusals n ≡ true
-name_writer t number locale text entry exit n w =
-    unless_number for_values refl refl (name_rule t number (length locale) (length text)) (name_number t number (length locale) (length text)) n (length entry)
-    (name_bytes t number locale text) w.answer
+name_writer t number locale text room n w =
+    unless_number for_values refl refl (name_rule t number (length locale) (length text)) (name_number t number (length locale) (length text)) n room
+    (name_bytes t number locale text) (sym w)
 
 -- what a value is refused by, a matrix is too
 abbrev for_matrices : List ℕ
@@ -430,6 +426,6 @@ matrix_number t sizes n =
     (as_matrix _ (either for_values (ltb t 64) _ 4 (in_turn for_values (variant_rule (t + 192)) _ (first_byte_number (t + 192)) (form_number t Form.Array n)) (inr refl)))
     (either for_matrices (ltb 65535 n) 10 _ (inr refl) (sizes_number (count_given t Form.Array n) sizes))
 
-pub matrix_writer : (t : ℕ) (sizes b entry exit : List ℕ) (n : ℕ) → Writes (matrix_output t sizes b) entry exit (Written.Refused n) → one_of matrix_writer_refusals n ≡ true
-matrix_writer t sizes b entry exit n w =
-    unless_number for_matrices refl refl (matrix_rule t sizes (length b)) (matrix_number t sizes (length b)) n (length entry) (matrix_bytes t sizes b) w.answer
+pub matrix_writer : (t : ℕ) (sizes b : List ℕ) (room n : ℕ) → written_of room (matrix_output t sizes b) ≡ refused n 0 → one_of matrix_writer_refusals n ≡ true
+matrix_writer t sizes b room n w =
+    unless_number for_matrices refl refl (matrix_rule t sizes (length b)) (matrix_number t sizes (length b)) n room (matrix_bytes t sizes b) (sym w)

@@ -28,14 +28,14 @@ use Rattle.reassembly.specs.Machine.State.{held}
 use Rattle.reassembly.specs.Calls.{final}
 use Rattle.reassembly.specs.Operations.{progress_of}
 use Rattle.reassembly.specs.declared.record.PartialRecord.{PartialRecord}
-use Rattle.reassembly.specs.declared.verdict.Progress.{Progress}
+use Rattle.reassembly.specs.Verdict.{Progress}
 use Rattle.salvage.specs.Front.{Salvage, salvaged, refusal, salvage_at}
 use Rattle.salvage.specs.Whole.{TellsOf}
 use Rattle.salvage.specs.declared.holes.Hole.{Hole}
 use Rattle.salvage.proofs.Told.{salvage_tells}
 use Rattle.salvage.proofs.Tiling.{holes_tile, holes_longest}
 use Rattle.partial_record.specs.List.{hole_entries, field_entries, entries_put, told_numbers, SavedPut, saved_put, put_saved, salvage_in, front_end, front_bytes, area_bytes}
-use Rattle.partial_record.specs.declared.salvage_record.Salvaged.{Salvaged}
+use Rattle.std.specs.Prelude.{Ok, Err}
 use Rattle.uadp_c.specs.Reassembling.{partial_of}
 use Rattle.uadp_c.specs.Salvaging.{salvaged_result, salvage_types, salvage_by, salvage_lent, Salvages}
 use Rattle.acceptance.specs.Salvage.{NoEmptying, HasCovered, Salvaging}
@@ -153,10 +153,10 @@ later_has ks s ok lay on h =
 
 -- entries were put, or nothing
 abbrev Either : SavedPut → List ℕ → List ℕ → Type 0
-Either x told list = ((n : ℕ) × (x.answer ≡ Salvaged.Is n)) ⊎ ((x.told ≡ told) × (x.list ≡ list))
+Either x told list = ((n : ℕ) × (x.answer ≡ Ok n)) ⊎ ((x.told ≡ told) × (x.list ≡ list))
 
-by_room : (told list : List ℕ) (a b : Bool) (w : SavedPut) (n : ℕ) → w.answer ≡ Salvaged.Is n
-    → Either (cond a (saved_put (Salvaged.Refused NO_ROOM 0) told list) (cond b (saved_put (Salvaged.Refused NO_ROOM 0) told list) w)) told list
+by_room : (told list : List ℕ) (a b : Bool) (w : SavedPut) (n : ℕ) → w.answer ≡ Ok n
+    → Either (cond a (saved_put (Err (NO_ROOM, 0)) told list) (cond b (saved_put (Err (NO_ROOM, 0)) told list) w)) told list
 by_room told list true b w n e = inr (refl, refl)
 by_room told list false true w n e = inr (refl, refl)
 by_room told list false false w n e = inl (n, e)
@@ -165,7 +165,7 @@ either_saved : (hs : List Hole) (front total encoding : ℕ) (told list : List �
 either_saved hs front total encoding told list (refusal n place) = inr (refl, refl)
 either_saved hs front total encoding told list (salvaged p fs) =
     by_room told list (ltb (length told) 64) (ltb (length list / 64) (length hs + length fs))
-    (saved_put (Salvaged.Is (length hs + length fs)) (laid told 0 (number_bytes (told_numbers (length hs) (length fs) p front total encoding)))
+    (saved_put (Ok (length hs + length fs)) (laid told 0 (number_bytes (told_numbers (length hs) (length fs) p front total encoding)))
     (entries_put 0 (hole_entries hs ++ field_entries fs) list))
     (length hs + length fs) refl
 
@@ -173,10 +173,10 @@ lent_either : (rec payload marks config told list : List ℕ) → Either (salvag
 lent_either rec payload marks config told list = go (ltb (length rec) 144) (progress_of (partial_of rec payload marks))
   where
     by : (p : Progress) → Either (salvage_by p (salvage_types config rec) payload marks told list) told list
-    by (Progress.Refused n place) = inr (refl, refl)
+    by (Progress.Unknown n place) = inr (refl, refl)
     by (Progress.Is covered total) = either_saved _ _ total _ told list (salvage_in (salvage_types config rec) payload marks total)
 
-    go : (b : Bool) (p : Progress) → Either (cond b (saved_put (Salvaged.Refused 12 0) told list) (salvage_by p (salvage_types config rec) payload marks told list)) told list
+    go : (b : Bool) (p : Progress) → Either (cond b (saved_put (Err (12, 0)) told list) (salvage_by p (salvage_types config rec) payload marks told list)) told list
     go true p = inr (refl, refl)
     go false p = by p
 

@@ -1,6 +1,6 @@
 -- A datagram that was written with a chunk's payload.
+use Rattle.std.specs.Prelude.{Ok}
 use Rattle.std.specs.Prelude.{ℕ, ◌≡◌, true, List, take}
-use Rattle.wire_writer.specs.declared.writing.Written.{Written}
 use Rattle.publisher_id.specs.PublisherRecord.{publisher_of, record_at}
 use Rattle.network_header.specs.declared.envelope.Envelope.{Envelope}
 use Rattle.network_header.specs.declared.header.PayloadHeader.{PayloadHeader}
@@ -20,7 +20,7 @@ pub record IsWritten (id : Identity) (p : List ℕ) (size k : ℕ) (a : Arrival)
   pub entry : List ℕ
   pub exit : List ℕ
   pub n : ℕ
-  pub wrote : WroteDatagram given envelope a.sizes configured entry exit (Written.Is n)
+  pub wrote : WroteDatagram given envelope a.sizes configured entry exit (Ok n)
   pub datagram : a.datagram ≡ take n exit
   pub chunk : envelope.chunk ≡ true
   pub writer : envelope.payload_header ≡ PayloadHeader.Chunk id.origin.writer
@@ -30,5 +30,5 @@ pub record IsWritten (id : Identity) (p : List ℕ) (size k : ℕ) (a : Arrival)
   pub buffer : List ℕ
   pub written : List ℕ
   pub m : ℕ
-  pub cut : CutWrote p id.origin.number size k buffer written (Written.Is m)
+  pub cut : CutWrote p id.origin.number size k buffer written (Ok m)
   pub payload : given.messages ≡ take m written

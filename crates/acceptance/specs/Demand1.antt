@@ -2,13 +2,15 @@
 -- configuration text, any reassembly area, any made-up record or cursor gets an answer; the caller has checked nothing": no public function
 -- has a `requires`, and each contract is an equation with a definition that answers for every argument. What is left to say is what a
 -- refusal tells, and that it leaves every lent byte as it was. The terms are those of the contracts.
+use Rattle.std.specs.Prelude.{Option, Err}
+use Rattle.wire.specs.Refusal.{reason_number}
+use Rattle.wire.specs.declared.refusal.Reason.{Reason}
 use Rattle.std.specs.Prelude.{ℕ, ◌≤◌, ◌%◌, ◌≡◌, true, List, [], ◌∷◌, length}
 use Rattle.wire.specs.Constants.{BAD_LINE, CUT_SHORT, NO_ROOM, OVER_LIMIT}
 use Rattle.wire.specs.Answer.{Answer, refused}
-use Rattle.wire_writer.specs.Writing.{Output, Writes, written_of, buffer_after, answer_written}
-use Rattle.wire_writer.specs.declared.writing.Written.{Written}
+use Rattle.wire_writer.specs.Writing.{Output, written_of, buffer_after, answer_written}
 use Rattle.value.specs.Value.{variant_at, data_value_at, raw_at}
-use Rattle.config_text.specs.Config.{config_of, lines_of}
+use Rattle.config_text.specs.Config.{config_of, lines_of, config_number, place_in}
 use Rattle.network_message.specs.Payload.{place_step_at, PlaceStepped}
 use Rattle.network_message.specs.Envelope.{network_message_at, message_place_at, message_bytes}
 use Rattle.network_message.specs.ProbeMessage.{probe_message_at}
@@ -29,7 +31,6 @@ use Rattle.chunk.specs.Datagram.{chunk_at}
 use Rattle.chunk.specs.Cutting.{cut_answer, cut_buffer}
 use Rattle.walk.specs.Lines.{Writers}
 use Rattle.walk_records.specs.Walk.{walk_of, walk_records, records_put}
-use Rattle.walk_records.specs.declared.Walked.{Walked}
 use Rattle.listing.specs.Text.{text_written, text_after}
 use Rattle.reassembly.specs.Record.{Partial}
 use Rattle.reassembly.specs.Machine.{Call}
@@ -37,11 +38,7 @@ use Rattle.reassembly.specs.Machine.Reply.{refused as refusedBy}
 use Rattle.reassembly.specs.Calls.{answers, leaves}
 use Rattle.reassembly_laws.specs.Refusing.{one_of}
 use Rattle.records.specs.Result.{Filling, result_in, filled_in}
-use Rattle.wire.specs.declared.optional.Optional16.{Optional16}
 use Rattle.salvage.specs.Front.{open_at, next_shown}
-use Rattle.salvage.specs.declared.front.Opening.{Opening}
-use Rattle.salvage.specs.declared.front.FieldShown.{FieldShown}
-use Rattle.partial_record.specs.declared.salvage_record.Salvaged.{Salvaged}
 use Rattle.uadp_c.specs.Cutting.{cut_result}
 use Rattle.uadp_c.specs.Fields.{step_result, head_after, field_after}
 use Rattle.uadp_c.specs.Messages.{message_result, envelope_after, place_after}
@@ -79,8 +76,8 @@ pub record Demand1 : Type 0 where
       → StepRefusal value_refusals n place (length s) at
   pub raw : (t : ℕ) (s : List ℕ) (at n place : ℕ) → raw_at t s at ≡ refused n place → StepRefusal value_refusals n place (length s) at
   -- Of a configuration text: 16, and the line that breaks a rule, counted from 1.
-  pub configuration : (text : List ℕ) → ((config_of text).number ≡ 0 → ⊥)
-      → ((config_of text).number ≡ BAD_LINE) × (1 ≤ (config_of text).place) × ((config_of text).place ≤ length (lines_of text))
+  pub configuration : (text : List ℕ) → (config_number (config_of text) ≡ 0 → ⊥)
+      → (config_number (config_of text) ≡ BAD_LINE) × (1 ≤ place_in (config_of text)) × (place_in (config_of text) ≤ length (lines_of text))
   -- ---- Of looking message k up, and of a step from message to message with a cursor and a payload that may be made up. A part that is
   -- refused is empty.
   pub message_lookup : (sizes s : List ℕ) (k n place : ℕ) → message_place_at sizes k s ≡ refused n place
@@ -100,31 +97,33 @@ pub record Demand1 : Type 0 where
       → StepRefusal probe_step_refusals n place (length s) c.at
   -- ---- "Every refusal leaves all lent bytes and records unchanged"; "a writer's [place] is 0".
   -- Both writers and both rewritings, whatever is to be written; cutting; a listing.
-  pub writer : (output : Output) (entry exit : List ℕ) (n : ℕ) → Writes output entry exit (Written.Refused n)
-      → (exit ≡ entry) × (answer_written (written_of (length entry) output) ≡ refused n 0)
+  pub writer : (output : Output) (entry : List ℕ) (n place : ℕ) → written_of (length entry) output ≡ refused n place
+      → (buffer_after entry output ≡ entry) × (place ≡ 0)
   -- The numbers of each: reading's as document 01 names them for writers, 3 for picoseconds of 10,000 and up, 6, 10, 11; of rewriting
   -- reading's own, 10, 11, and 6 for a message that is not valid.
-  pub datagram_writer : (g : N.GivenDatagram) (x : Envelope) (sizes configured entry exit : List ℕ) (n : ℕ)
-      → Writes (N.datagram_output g x sizes configured) entry exit (Written.Refused n) → one_of datagram_writer_refusals n ≡ true
-  pub message_writer : (types : List ℕ) (m : M.GivenMessage) (entry exit : List ℕ) (n : ℕ)
-      → Writes (M.message_output types m) entry exit (Written.Refused n) → one_of message_writer_refusals n ≡ true
-  pub probe_writer : (list : List ℕ) (p : Probe) (entry exit : List ℕ) (n : ℕ) → Writes (probe_output list p) entry exit (Written.Refused n)
-      → one_of probe_writer_refusals n ≡ true
-  pub value_writer : (t : ℕ) (f : Form) (b entry exit : List ℕ) (n : ℕ) → Writes (variant_output t f b) entry exit (Written.Refused n)
+  pub datagram_writer : (g : N.GivenDatagram) (x : Envelope) (sizes configured : List ℕ) (room n : ℕ)
+      → written_of room (N.datagram_output g x sizes configured) ≡ refused n 0
+      → one_of datagram_writer_refusals n ≡ true
+  pub message_writer : (types : List ℕ) (m : M.GivenMessage) (room n : ℕ)
+      → written_of room (M.message_output types m) ≡ refused n 0 → one_of message_writer_refusals n ≡ true
+  pub probe_writer : (list : List ℕ) (p : Probe) (room n : ℕ)
+      → written_of room (probe_output list p) ≡ refused n 0 → one_of probe_writer_refusals n ≡ true
+  pub value_writer : (t : ℕ) (f : Form) (b : List ℕ) (room n : ℕ) → written_of room (variant_output t f b) ≡ refused n 0
       → one_of value_writer_refusals n ≡ true
-  pub name_writer : (t number : ℕ) (locale text entry exit : List ℕ) (n : ℕ)
-      → Writes (name_output t number locale text) entry exit (Written.Refused n) → one_of value_writer_refusals n ≡ true
-  pub matrix_writer : (t : ℕ) (sizes b entry exit : List ℕ) (n : ℕ) → Writes (matrix_output t sizes b) entry exit (Written.Refused n)
+  pub name_writer : (t number : ℕ) (locale text : List ℕ) (room n : ℕ)
+      → written_of room (name_output t number locale text) ≡ refused n 0 → one_of value_writer_refusals n ≡ true
+  pub matrix_writer : (t : ℕ) (sizes b : List ℕ) (room n : ℕ) → written_of room (matrix_output t sizes b) ≡ refused n 0
       → one_of matrix_writer_refusals n ≡ true
-  pub datagram_again_lem : (sizes s entry exit : List ℕ) (n : ℕ) → Writes (datagram_same sizes s) entry exit (Written.Refused n)
+  pub datagram_again_lem : (sizes s : List ℕ) (room n : ℕ) → written_of room (datagram_same sizes s) ≡ refused n 0
       → one_of datagram_again_refusals n ≡ true
-  pub message_again_lem : (types s entry exit : List ℕ) (n : ℕ) → Writes (message_same types s) entry exit (Written.Refused n)
+  pub message_again_lem : (types s : List ℕ) (room n : ℕ) → written_of room (message_same types s) ≡ refused n 0
       → one_of message_again_refusals n ≡ true
-  pub cut : (p : List ℕ) (number size k : ℕ) (out : List ℕ) (n : ℕ) → cut_answer p number size k (length out) ≡ Written.Refused n
+  pub cut : (p : List ℕ) (number size k : ℕ) (out : List ℕ) (n place : ℕ) → cut_answer p number size k (length out) ≡ refused n place
       → (one_of cut_refusals n ≡ true) × (cut_buffer p number size k out ≡ out)
-  pub listing : (out text : List ℕ) (n : ℕ) → text_written out text ≡ Written.Refused n → (n ≡ NO_ROOM) × (text_after out text ≡ out)
+  pub listing : (out text : List ℕ) (reason : Reason) → text_written out text ≡ Err reason
+      → (reason_number reason ≡ NO_ROOM) × (text_after out text ≡ out)
   -- A walk: its refusal is the datagram's.
-  pub walk : (w : Writers) (d out : List ℕ) (n place : ℕ) → walk_of w d ≡ Walked.Refused n place
+  pub walk : (w : Writers) (d out : List ℕ) (n place : ℕ) → walk_of w d ≡ refused n place
       → Refusal datagram_refusals n place (length d) × (records_put 0 (walk_records w d) out ≡ out)
   -- The five calls of reassembly, for sound and unsound partials.
   pub call : (k : Call) (s : Partial) (n place : ℕ) → answers k s ≡ refusedBy n place
@@ -132,20 +131,20 @@ pub record Demand1 : Type 0 where
   -- ---- THE SAME THROUGH C, for any bytes in any record: a result whose low byte is not 0 leaves every lent byte as it was.
   -- Of opening the covered front of a message, and of a step from field to field of it with a cursor that may be made up: the
   -- DataSetMessage's own numbers, and a place in the front or the byte that the cursor names.
-  pub salvage_opened_lem : (total : ℕ) (types f s : List ℕ) (n place : ℕ) → open_at total types f s ≡ Opening.Refused n place
+  pub salvage_opened_lem : (total : ℕ) (types f s : List ℕ) (n place : ℕ) → open_at total types f s ≡ Err (n, place)
       → Refusal message_refusals n place (length f)
-  pub salvage_step : (types f s : List ℕ) (c : Cursor) (n place : ℕ) → next_shown types f s c ≡ FieldShown.Refused n place
+  pub salvage_step : (types f s : List ℕ) (c : Cursor) (n place : ℕ) → next_shown types f s c ≡ Err (n, place)
       → StepRefusal message_refusals n place (length f) c.at
   -- Salvaging: "12, then the DataSetMessage's own numbers as far as the covered front shows them ..; last, no room 11". A place counts in
   -- the message.
   pub salvage : (rec payload marks config told list : List ℕ) (n place : ℕ)
-      → (salvage_lent rec payload marks config told list).answer ≡ Salvaged.Refused n place
+      → (salvage_lent rec payload marks config told list).answer ≡ Err (n, place)
       → Refusal salvage_refusals n place (length payload)
   -- uadp_config, uadp_read, uadp_read_message, uadp_open_message, uadp_field, uadp_value, uadp_element, uadp_chunk, uadp_probe: what is
   -- read fills one record.
   pub lent_filling : (read : Answer Filling) (out : List ℕ) → IsRefused (result_in read out) → filled_in read out ≡ out
   -- uadp_next_message, uadp_next_field, uadp_next_probe_item: a record's cursor moves, and another record is filled.
-  pub lent_message_step : (writer : ℕ → Optional16) (step : Answer PlaceStepped) (envelope place : List ℕ)
+  pub lent_message_step : (writer : ℕ → Option ℕ) (step : Answer PlaceStepped) (envelope place : List ℕ)
       → IsRefused (message_result step envelope place)
       → (envelope_after step envelope place ≡ envelope) × (place_after writer step envelope place ≡ place)
   pub lent_field_step : (step : Answer FieldStepped) (head field : List ℕ) → IsRefused (step_result step head field)

@@ -2,13 +2,13 @@
 -- fields are found exactly as document 01 lays them out": each reader's contract is an equation with a definition that reads like document
 -- 01's sentences (docs/TRACE.md leads to them). What is left to say is that nothing is left out, and the round trips. The premises are the
 -- contracts of the writers and of rewriting: what they were given, what they answered, and the buffer before and after.
+use Rattle.wire.specs.declared.refusal.Reason.{Reason}
+use Rattle.std.specs.Prelude.{Some, is_some, Result, Ok}
 use Rattle.std.specs.Prelude.{ℕ, ◌*◌, ◌≤◌, ◌<◌, ◌≡◌, Bool, true, false, cond, List, ◌∷◌, ◌++◌, ◌⊎◌, ◌↔◌, eqb, length, take, drop}
 use Rattle.wire.specs.Constants.{DISAGREE, MOST_DATAGRAM, NOT_PERMITTED, PICOSECONDS_END}
 use Rattle.wire.specs.Number.{le}
 use Rattle.wire.specs.Answer.{got, refused, bit}
-use Rattle.wire.specs.declared.optional.Optional16.{Optional16}
-use Rattle.wire_writer.specs.Writing.{writing, refusing, unless, or_else, on16}
-use Rattle.wire_writer.specs.declared.writing.Written.{Written}
+use Rattle.wire_writer.specs.Writing.{writing, refusing, unless, or_else}
 use Rattle.config.specs.Writers.{types_of}
 use Rattle.publisher_id.specs.Publisher.{publisher_on}
 use Rattle.network_header.specs.Envelope as envelope
@@ -45,7 +45,7 @@ use Rattle.acceptance.specs.Probes.{WroteProbe, ProbeBack, ProbeDatagramBack}
 
 -- the types of message k's fields under a configuration, by the DataSetWriterId that was given for it; and by the one that is read back
 abbrev pub types_given : Writers → N.GivenDatagram → ℕ → List ℕ
-types_given w g k = types_of w.ids w.starts w.types (Optional16.Is (le 2 g.ids (2 * k)))
+types_given w g k = types_of w.ids w.starts w.types (Some (le 2 g.ids (2 * k)))
 
 abbrev pub types_read : Writers → NetworkMessage → List ℕ → ℕ → List ℕ
 types_read w m d k =
@@ -73,29 +73,29 @@ pub record Demand2 : Type 0 where
   -- A NetworkMessage, with and without PayloadHeader: envelope, PublisherId's text, promoted fields, writer ids, each message with its
   -- offset and bytes, a chunk's payload.
   pub datagram_reads_back : (g : N.GivenDatagram) (x : Envelope) (sizes configured entry exit : List ℕ) (n : ℕ)
-      → N.WroteDatagram g x sizes configured entry exit (Written.Is n) → InBuffer entry exit n (network.ReadsBack g x sizes configured)
+      → N.WroteDatagram g x sizes configured entry exit (Ok n) → InBuffer entry exit n (network.ReadsBack g x sizes configured)
   -- A DataSetMessage of any kind and encoding: header, whether it is a heartbeat, each field's index and bytes, the length of its padding.
   pub message_reads_back : (types : List ℕ) (m : M.GivenMessage) (entry exit : List ℕ) (n : ℕ)
-      → M.WroteMessage types m entry exit (Written.Is n) → InBuffer entry exit n (MessageBack types m)
+      → M.WroteMessage types m entry exit (Ok n) → InBuffer entry exit n (MessageBack types m)
   -- Both, under one configuration w: where the message writer wrote the bytes of message k, with the types of its writer's fields, its own
   -- part of the datagram is those bytes, and reads back as it was given by the types of the writer id that is read back.
   pub whole_reads_back : (w : Writers) (g : N.GivenDatagram) (x : Envelope) (entry exit : List ℕ) (n : ℕ)
-      → N.WroteDatagram g x w.sizes w.ids entry exit (Written.Is n) → OfMessages x.payload_header
+      → N.WroteDatagram g x w.sizes w.ids entry exit (Ok n) → OfMessages x.payload_header
       → (k : ℕ) → k < length (network.given_lengths g x.payload_header w.sizes) → 2 * k < length g.ids
       → (m : M.GivenMessage) (entry-k exit-k : List ℕ) (n-k : ℕ)
-      → M.WroteMessage (types_given w g k) m entry-k exit-k (Written.Is n-k)
+      → M.WroteMessage (types_given w g k) m entry-k exit-k (Ok n-k)
       → network.message_given (network.given_lengths g x.payload_header w.sizes) g.messages k ≡ take n-k exit-k
       → (message_bytes (message_place_at w.sizes k (take n exit)) (take n exit) ≡ take n-k exit-k)
       × MessageBack (types_read w (network.written_message g x w.sizes) (take n exit) k) m
       (message_bytes (message_place_at w.sizes k (take n exit)) (take n exit))
   -- A probe's body: what it asks for, and its ids or strings byte by byte.
   pub probe_reads_back : (list : List ℕ) (p : Probe) (entry exit : List ℕ) (n : ℕ)
-      → WroteProbe list p entry exit (Written.Is n) → InBuffer entry exit n (ProbeBack list p)
+      → WroteProbe list p entry exit (Ok n) → InBuffer entry exit n (ProbeBack list p)
   -- Both: a datagram that was written with a probe's body reads back as that probe.
   pub probe_datagram_reads_back : (list : List ℕ) (p : Probe) (entry-p exit-p : List ℕ) (n-p : ℕ)
-      → WroteProbe list p entry-p exit-p (Written.Is n-p)
+      → WroteProbe list p entry-p exit-p (Ok n-p)
       → (g : N.GivenDatagram) (x : Envelope) (sizes configured entry exit : List ℕ) (n : ℕ)
-      → N.WroteDatagram g x sizes configured entry exit (Written.Is n)
+      → N.WroteDatagram g x sizes configured entry exit (Ok n)
       → x.payload_header ≡ PayloadHeader.Probe → g.messages ≡ take n-p exit-p
       → InBuffer entry exit n (ProbeDatagramBack list p g x sizes)
   -- Cutting, the envelope's writer, taking in and handing out together: datagrams that were written with the payloads that cutting wrote,
@@ -103,46 +103,48 @@ pub record Demand2 : Type 0 where
   pub written_and_restored : (id : Identity) (p : List ℕ) (size : ℕ) (l : List Arrival) → AllArrive id p size (IsWritten id p size) l
       → (s : Partial) → Good s → s.rec.started ≡ false → length p ≤ room_of s → Restored p l s
   -- ---- AN ACCEPTED DATAGRAM WRITTEN AGAIN GIVES THE SAME BYTES, BUT FOR THE TWO NAMED CASES.
-  pub datagram_again_lem : (sizes s entry exit : List ℕ) (r : Written) (m : NetworkMessage) (n : ℕ) → network_message_at sizes s ≡ got m n
-      → RewroteDatagram sizes s entry exit r → CopiedTo (network.rewritten m s) entry exit r
+  pub datagram_again_lem : (sizes s entry exit : List ℕ) (r : Result ℕ Reason) (m : NetworkMessage) (n : ℕ)
+      → network_message_at sizes s ≡ got m n → RewroteDatagram sizes s entry exit r → CopiedTo (network.rewritten m s) entry exit r
   -- The first case needs ExtendedFlags1 and PublisherId off, the second PicoSeconds of 10,000 or more in the envelope; no datagram gets
   -- longer.
   pub rewritten_same : (m : NetworkMessage) (b : ℕ) (s : List ℕ) → (bit 7 b ≡ false) ⊎ (bit 4 b ≡ true)
       → Below m.envelope.picoseconds (envelope.picoseconds_place m.envelope m.places) (b ∷ s) → network.rewritten m (b ∷ s) ≡ b ∷ s
   pub rewritten_shorter : (m : NetworkMessage) (s : List ℕ) → length (network.rewritten m s) ≤ length s
   -- Req 02: "the rewritten envelope .. holds 9,999 there": with a PublisherId it differs in the two bytes of its PicoSeconds alone.
-  pub rewritten_holds : (sizes s entry exit : List ℕ) (r : Written) (m : NetworkMessage) (n : ℕ) → network_message_at sizes s ≡ got m n
-      → RewroteDatagram sizes s entry exit r → publisher_on m.envelope.publisher ≡ true → on16 m.envelope.picoseconds ≡ true
+  pub rewritten_holds : (sizes s entry exit : List ℕ) (r : Result ℕ Reason) (m : NetworkMessage) (n : ℕ)
+      → network_message_at sizes s ≡ got m n
+      → RewroteDatagram sizes s entry exit r → publisher_on m.envelope.publisher ≡ true → is_some m.envelope.picoseconds ≡ true
       → PICOSECONDS_END ≤ le 2 s (envelope.picoseconds_place m.envelope m.places)
       → Holds (envelope.picoseconds_place m.envelope m.places) s (network.rewritten m s)
   -- With a PublisherId nothing but the PicoSeconds can differ.
-  pub rewritten_with_publisher : (sizes s entry exit : List ℕ) (r : Written) (m : NetworkMessage) (n : ℕ)
+  pub rewritten_with_publisher : (sizes s entry exit : List ℕ) (r : Result ℕ Reason) (m : NetworkMessage) (n : ℕ)
       → network_message_at sizes s ≡ got m n → RewroteDatagram sizes s entry exit r → publisher_on m.envelope.publisher ≡ true
       → network.rewritten m s ≡ envelope.envelope_held m.envelope m.places s
   -- "a message handed on as bytes keeps its own": whatever the header, the payload stands behind it as it stood.
-  pub payload_handed_on : (sizes s entry exit : List ℕ) (r : Written) (m : NetworkMessage) (n : ℕ) → network_message_at sizes s ≡ got m n
+  pub payload_handed_on : (sizes s entry exit : List ℕ) (r : Result ℕ Reason) (m : NetworkMessage) (n : ℕ)
+      → network_message_at sizes s ≡ got m n
       → RewroteDatagram sizes s entry exit r → (header : List ℕ) × (network.rewritten m s ≡ header ++ drop m.places.payload s)
   -- The datagram writer's `rewrite` writes the same, and so does the writer itself, given the parts as they were read.
-  pub parts_again : (sizes s entry exit : List ℕ) (r : Written) (m : NetworkMessage) (n : ℕ) → network_message_at sizes s ≡ got m n
+  pub parts_again : (sizes s entry exit : List ℕ) (r : Result ℕ Reason) (m : NetworkMessage) (n : ℕ) → network_message_at sizes s ≡ got m n
       → N.RewroteParts sizes s entry exit r
       → CopiedTo (network.rewritten m s) entry exit r
-      × ((configured entry-p exit-p : List ℕ) (r-p : Written)
+      × ((configured entry-p exit-p : List ℕ) (r-p : Result ℕ Reason)
       → N.WroteDatagram (network.given_of s m.envelope m.places sizes configured) m.envelope sizes configured entry-p exit-p r-p
       → CopiedTo (network.rewritten m s) entry-p exit-p r-p)
   -- The body of a probe that uadp_probe read, written again from its parts as they were read, is the same bytes.
   pub probe_again : (d config record-before record-after : List ℕ) (result : ℕ) (m : ProbeMessage) (n : ℕ)
       → probe_message_at (sizes_in config) d ≡ got m n → ProbeRead d config record-before result record-after
-      → (entry exit : List ℕ) (r : Written) → WroteProbe (list_in d m.places.payload m.probe) m.probe entry exit r
+      → (entry exit : List ℕ) (r : Result ℕ Reason) → WroteProbe (list_in d m.places.payload m.probe) m.probe entry exit r
       → CopiedTo (drop m.places.payload d) entry exit r
   -- "every accepted DataSetMessage, padding length included, is rewritten identically", but for picoseconds of 10,000 or more in its
   -- header.
-  pub message_again_lem : (types s entry exit : List ℕ) (r : Written) (m : Message) (n : ℕ) → message_at types s ≡ got (valid m) n
+  pub message_again_lem : (types s entry exit : List ℕ) (r : Result ℕ Reason) (m : Message) (n : ℕ) → message_at types s ≡ got (valid m) n
       → RewroteMessage types s entry exit r → CopiedTo (message.message_held m.header s) entry exit r
   pub message_same_lem : (m : Message) (s : List ℕ) → Below m.header.picoseconds (message.message_picoseconds_place m.header) s
       → message.message_held m.header s ≡ s
   -- Req 02: "the rewritten .. message header holds 9,999 there"
-  pub message_holds : (types s entry exit : List ℕ) (r : Written) (m : Message) (n : ℕ) → message_at types s ≡ got (valid m) n
-      → RewroteMessage types s entry exit r → on16 m.header.picoseconds ≡ true
+  pub message_holds : (types s entry exit : List ℕ) (r : Result ℕ Reason) (m : Message) (n : ℕ) → message_at types s ≡ got (valid m) n
+      → RewroteMessage types s entry exit r → is_some m.header.picoseconds ≡ true
       → PICOSECONDS_END ≤ le 2 s (message.message_picoseconds_place m.header)
       → Holds (message.message_picoseconds_place m.header) s (message.message_held m.header s)
   -- ---- "A writer refuses what reading would refuse, by the same number in reading order; then .. what would read back otherwise .. by 6".
@@ -156,28 +158,28 @@ pub record Demand2 : Type 0 where
   pub message_picoseconds : (types : List ℕ) (m : M.GivenMessage) → M.message_picoseconds_turn m ≡ true
       → M.message_output types m ≡ refusing NOT_PERMITTED
   -- In every other case, where what would be written is one thing, it is the number by which reading refuses that.
-  pub datagram_refused_alike : (g : N.GivenDatagram) (x : Envelope) (sizes configured entry exit : List ℕ) (r : Written)
+  pub datagram_refused_alike : (g : N.GivenDatagram) (x : Envelope) (sizes configured entry exit : List ℕ) (r : Result ℕ Reason)
       → N.WroteDatagram g x sizes configured entry exit r → network.CountsAgree g x
       → length (N.datagram_of g x) ≤ MOST_DATAGRAM → N.picoseconds_turn g x ≡ false → eqb (N.datagram_reading_refusal g x sizes) 0 ≡ false
       → (place : ℕ) × (network_message_at sizes (N.datagram_of g x) ≡ refused (N.datagram_reading_refusal g x sizes) place)
-  pub message_number_alike : (types : List ℕ) (m : M.GivenMessage) (entry exit : List ℕ) (r : Written)
+  pub message_number_alike : (types : List ℕ) (m : M.GivenMessage) (entry exit : List ℕ) (r : Result ℕ Reason)
       → M.WroteMessage types m entry exit r → PartsAgree types m
       → M.message_picoseconds_turn m ≡ false → number_of (message_at types (M.encode m)) ≡ M.message_reading_refusal types m
-  pub message_refused_alike : (types : List ℕ) (m : M.GivenMessage) (entry exit : List ℕ) (r : Written)
+  pub message_refused_alike : (types : List ℕ) (m : M.GivenMessage) (entry exit : List ℕ) (r : Result ℕ Reason)
       → M.WroteMessage types m entry exit r → PartsAgree types m
       → M.message_picoseconds_turn m ≡ false → (n : ℕ) → (n ≡ 0 → ⊥) → (n ≡ DISAGREE → ⊥)
       → (M.message_refusal types m ≡ n) ↔ ReadingRefuses types m n
   -- Also where a field is no whole value, as far as reading finds it where it stands.
-  pub message_refused_plainly : (types : List ℕ) (m : M.GivenMessage) (entry exit : List ℕ) (r : Written)
+  pub message_refused_plainly : (types : List ℕ) (m : M.GivenMessage) (entry exit : List ℕ) (r : Result ℕ Reason)
       → M.WroteMessage types m entry exit r → Tellable types m
       → M.message_picoseconds_turn m ≡ false → eqb (M.message_reading_refusal types m) 0 ≡ false
       → ReadingRefuses types m (M.message_reading_refusal types m)
   -- The writer accepts exactly what reads back as given.
-  pub datagram_accepted_exactly : (g : N.GivenDatagram) (x : Envelope) (sizes configured entry exit : List ℕ) (r : Written)
+  pub datagram_accepted_exactly : (g : N.GivenDatagram) (x : Envelope) (sizes configured entry exit : List ℕ) (r : Result ℕ Reason)
       → N.WroteDatagram g x sizes configured entry exit r → network.PartsAgree g x sizes configured
       → length (N.datagram_of g x) ≤ MOST_DATAGRAM
       → (N.datagram_refusal g x sizes configured ≡ 0) ↔ network.ReadsBack g x sizes configured (N.datagram_of g x)
-  pub message_accepted_exactly : (types : List ℕ) (m : M.GivenMessage) (entry exit : List ℕ) (r : Written)
+  pub message_accepted_exactly : (types : List ℕ) (m : M.GivenMessage) (entry exit : List ℕ) (r : Result ℕ Reason)
       → M.WroteMessage types m entry exit r
       → (M.message_refusal types m ≡ 0) ↔ (MessageBack types m (M.encode m) × (M.lists_given m ≡ true))
   -- Through C "a number that does not fit its item" is 6, after the numbers in reading order: `fits` says whether all numbers of the

@@ -17,7 +17,7 @@ use Rattle.reassembly.specs.Operations.{take_in, combine, hand_out}
 use Rattle.reassembly.specs.Calls.{answers, leaves}
 use Rattle.reassembly.specs.declared.record.Message.{Message}
 use Rattle.reassembly.specs.declared.record.PartialRecord.{PartialRecord}
-use Rattle.reassembly.specs.declared.verdict.Verdict.TheVariants.{Done}
+use Rattle.reassembly.specs.Verdict.{Done}
 use Rattle.reassembly_laws.specs.AnyList.{AnyList}
 use Rattle.reassembly_laws.specs.Combining.{EqualRoom, EitherOrder, EitherGrouping}
 use Rattle.reassembly_laws.specs.Equality.{EqualInWords}
@@ -25,7 +25,7 @@ use Rattle.reassembly_laws.specs.Alone.{chunk_alone, IsAlone, AsPartial}
 use Rattle.reassembly_laws.specs.Cutting.{Arrival, AllArrive, IsChunk, IsCut, Restored}
 use Rattle.reassembly_laws.specs.Refusing.{MayRefuse}
 use Rattle.reassembly_laws.specs.Layouts.{SameButMarks, SameCalls, SameHistory, in_layout}
-use Rattle.config_text.specs.Config.{config_of}
+use Rattle.config_text.specs.Config.{config_of, config_number, config_in}
 use Rattle.records.specs.Result.{filled_in}
 use Rattle.wire.specs.Answer.{got}
 use Rattle.network_message.specs.Envelope.{NetworkMessage, network_message_at}
@@ -105,8 +105,8 @@ pub record Demand3 : Type 0 where
   pub record_read_back : (k : PartialRecord) (entry exit : List ℕ) → (exit ≡ laid entry 0 (partial_bytes k)) × FitsRecord k
       → PARTIAL_SIZE ≤ length entry → partial_in exit ≡ k
   -- And what uadp_config stores for a configuration text is what the library reads in the record.
-  pub config_read_back : (text r : List ℕ) → (config_of text).number ≡ 0 → CONFIG_SIZE ≤ length r
-      → ConfigBack (filled_in (config_filling (config_of text)) r) (config_of text).config
+  pub config_read_back : (text r : List ℕ) → config_number (config_of text) ≡ 0 → CONFIG_SIZE ≤ length r
+      → ConfigBack (filled_in (config_filling (config_of text)) r) (config_in (config_of text))
   -- Walking by calls is document 01's walk: from the record that uadp_read filled uadp_next_message tells the messages one after the other,
   -- from that of uadp_read_message uadp_next_field the fields, each found where lookup finds it; the call after the last answers 10.
   pub messages_by_calls : (d config : List ℕ) (m : NetworkMessage) (n : ℕ) (entry : List ℕ) (result : ℕ) (envelope : List ℕ)

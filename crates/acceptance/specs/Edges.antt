@@ -1,4 +1,5 @@
 -- Document 01's twelve edge readings: one table, one statement.
+use Rattle.std.specs.Prelude.{None}
 use Rattle.std.specs.Prelude.{ℕ, ◌≡◌, true, false, List, [], ◌∷◌}
 use Rattle.wire.specs.Constants.{BYTE_DIFFERS, NOT_COMPLETE, NOT_PERMITTED}
 use Rattle.wire.specs.Answer.{Answer, got, refused}
@@ -10,7 +11,6 @@ use Rattle.value.specs.Value.{Measure}
 use Rattle.value.specs.declared.Shape.{Shape}
 use Rattle.publisher_id.specs.declared.publisher.PublisherId.{PublisherId}
 use Rattle.publisher_id.specs.declared.publisher_record.PublisherRecord.{PublisherRecord}
-use Rattle.wire.specs.declared.optional.Optional16.{Optional16}
 use Rattle.reassembly.specs.Record.{Partial, partial}
 use Rattle.reassembly.specs.Machine.{Call, Reply}
 use Rattle.reassembly.specs.Machine.Call.{Take, Ask, HandOut}
@@ -41,7 +41,7 @@ fresh =
     partial
     (record {
       started = false;
-      message = record { origin = record { publisher = nobody; group = Optional16.Absent; writer = 0; number = 0 }; total = 0 };
+      message = record { origin = record { publisher = nobody; group = None; writer = 0; number = 0 }; total = 0 };
       covered = 4;
     })
     (9 ∷ 9 ∷ 9 ∷ 9 ∷ 9 ∷ []) (251 ∷ [])

@@ -1,8 +1,9 @@
 -- The contract by which a probe is written, and what one that was written reads back as.
+use Rattle.wire.specs.declared.refusal.Reason.{Reason}
+use Rattle.std.specs.Prelude.{Result}
 use Rattle.std.specs.Prelude.{ℕ, ◌≡◌, List, length}
 use Rattle.wire.specs.Answer.{got}
 use Rattle.wire_writer.specs.Writing.{Writes}
-use Rattle.wire_writer.specs.declared.writing.Written.{Written}
 use Rattle.network_header.specs.declared.envelope.Envelope.{Envelope}
 use Rattle.probe.specs.declared.body.Probe.{Probe}
 use Rattle.probe.specs.Body.{probe_body_at}
@@ -12,7 +13,7 @@ use Rattle.network_message.specs.Writer.{GivenDatagram}
 use Rattle.round_trip.specs.NetworkMessage.{places_of}
 
 -- the contract of `probe::put::write`, of the buffer before and after and its answer
-abbrev pub WroteProbe : List ℕ → Probe → List ℕ → List ℕ → Written → Type 0
+abbrev pub WroteProbe : List ℕ → Probe → List ℕ → List ℕ → Result ℕ Reason → Type 0
 WroteProbe list p entry exit r = FitsProbe p × Writes (probe_output list p) entry exit r
 
 -- The bytes d are a probe's body that was written from p and this list.

@@ -1,5 +1,6 @@
 -- Laws of cutting: its rules, its bytes as they are stored, and one law for each way out.
 -- Assumes nothing.
+use Rattle.wire_writer.proofs.Stores.{sets_append}
 use Prim.Native.Nat.{ℕ, ◌+◌, ◌*◌, ◌-◌, ◌/◌, ◌≤◌, ◌<◌}
 use mathlib.Core.Path.{◌≡◌, refl, sym, ap, ap₂, ◌∙◌}
 use mathlib.Core.Bool.{Bool, true, false, cond}
@@ -8,14 +9,18 @@ use native.Mathlib.Nat.{div-lt_iff_lt-mul, zero-add}
 use native.Mathlib.Omega.{arith}
 use lib.Dec.{leb, ltb, eqb}
 use lib.ListN.{length, take, drop, length-append, length-take, length-drop}
-use lib.Seq.{sets, sets-eq, length-sets, take-append_seam, drop-append_seam}
+use lib.Seq.{sets, sets-eq, take-append_seam, drop-append_seam, length-sets}
 use borrow.Author.Tests.{le-leb, leb-true, leb-false, lt-ltb, le-ltb, ltb-false, eq-eqb, ne_eqb, eqb-true, eqb-false}
 use Rattle.wire.specs.Number.{le_bytes}
 use Rattle.wire_writer.specs.Store.{laid}
 use Rattle.wire.proofs.Numbers.{length_le_bytes}
-use Rattle.wire_writer.proofs.Stores.{sets_append}
 use Rattle.chunk.specs.Cutting.{payload_bytes, cut_data, chunk_bytes, cut_rule, cut_fault, cut_answer, cut_buffer}
-use Rattle.wire_writer.specs.declared.writing.Written.{Written}
+use Rattle.std.specs.Prelude.{Result, Ok, Err}
+use Rattle.wire.specs.Answer.{Answer, got, refused}
+use Rattle.wire.specs.Refusal.{reason_number}
+use Rattle.wire.specs.declared.refusal.Reason.{Reason}
+use Rattle.wire.proofs.Reading.{got_next, not_got, some_number}
+use Rattle.wire_writer.specs.Writing.{answer_written}
 
 -- ---- the rules
 module _ (total size k : ℕ) (a : size ≡ 0 → ⊥) (b : total ≡ 0 → ⊥) where
@@ -131,13 +136,15 @@ module _ (l : List ℕ) where
 
 -- ---- the ways out
 module _ (p : List ℕ) (number size k : ℕ) (out : List ℕ) where
-  abbrev pub Way : Written → List ℕ → Type 0
-  Way r exit = (r ≡ cut_answer p number size k (length out)) × (exit ≡ cut_buffer p number size k out)
+  abbrev pub Way : Result ℕ Reason → List ℕ → Type 0
+  Way r exit = (answer_written r ≡ cut_answer p number size k (length out)) × (exit ≡ cut_buffer p number size k out)
 
   -- by the fault
-  refused_by : (f : ℕ) → cut_fault p size k (length out) ≡ f → (f ≡ 0 → ⊥) → Way (Written.Refused f) out
+  refused_by : (reason : Reason) → cut_fault p size k (length out) ≡ reason_number reason → Way (Err reason) out
   unfolding cut_answer cut_buffer
-  refused_by f e h = (rw (e, ne_eqb f 0 h), rw (e, ne_eqb f 0 h))
+  refused_by reason e =
+      let z = ne_eqb (reason_number reason) 0 (some_number reason) in
+      (rw (e, z), rw (e, z))
 
   fault_rule : (cut_rule (length p) size k ≡ 0 → ⊥) → cut_fault p size k (length out) ≡ cut_rule (length p) size k
   unfolding cut_fault
@@ -151,18 +158,18 @@ module _ (p : List ℕ) (number size k : ℕ) (out : List ℕ) where
   unfolding cut_fault
   fault_none e h = rw (eq-eqb (cut_rule (length p) size k) 0 e, le-ltb (length out) (14 + length (cut_data p size k)) h)
 
-  pub refused_way : (f : ℕ) → f ≡ cut_rule (length p) size k → (f ≡ 0 → ⊥) → Way (Written.Refused f) out
-  refused_way f e h = refused_by f (fault_rule (λ q. h (e ∙ q)) ∙ sym e) h
+  pub refused_way : (reason : Reason) → reason_number reason ≡ cut_rule (length p) size k → Way (Err reason) out
+  refused_way reason e = refused_by reason (fault_rule (λ q. some_number reason (e ∙ q)) ∙ sym e)
 
-  pub short_way : cut_rule (length p) size k ≡ 0 → length out < 14 + length (cut_data p size k) → Way (Written.Refused 11) out
-  short_way e h = refused_by 11 (fault_short e h) (λ q. omega arith)
+  pub short_way : cut_rule (length p) size k ≡ 0 → length out < 14 + length (cut_data p size k) → Way (Err Reason.NoRoom) out
+  short_way e h = refused_by Reason.NoRoom (fault_short e h)
 
   pub done_way : cut_rule (length p) size k ≡ 0 → (b exit : List ℕ) → b ≡ cut_data p size k → 14 + length b ≤ length out → exit ≡ laid out 0 (payload_bytes number (k * size) (length p) b)
-      → Way (Written.Is (14 + length b)) exit
+      → Way (Ok (14 + length b)) exit
   unfolding cut_answer cut_buffer
   done_way e b exit eb h q =
       let f = fault_none e (rw eb at h) in (
-        rw f (ap Written.Is (ap (λ (d : List ℕ). 14 + length d) eb ∙ sym (length_payload number (k * size) (length p) (cut_data p size k)))),
+        rw f (ap (λ (n : ℕ). got tt n) (ap (λ (d : List ℕ). 14 + length d) eb ∙ sym (length_payload number (k * size) (length p) (cut_data p size k)))),
         rw f (q ∙ ap (λ (d : List ℕ). laid out 0 (payload_bytes number (k * size) (length p) d)) eb),
       )
 
@@ -177,15 +184,15 @@ module _ (p : List ℕ) (number size k : ℕ) (out : List ℕ) where
       go true false q r e = (eqb-true (cut_rule (length p) size k) 0 q, ltb-false (length out) (14 + length (cut_data p size k)) r)
       go false b q r e = absurd (eqb-false (cut_rule (length p) size k) 0 q e)
 
-  answer_zero : (n : ℕ) → cut_answer p number size k (length out) ≡ Written.Is n → (cut_fault p size k (length out) ≡ 0) × (length (chunk_bytes p number size k) ≡ n)
+  answer_zero : (n : ℕ) → cut_answer p number size k (length out) ≡ got tt n → (cut_fault p size k (length out) ≡ 0) × (length (chunk_bytes p number size k) ≡ n)
   unfolding cut_answer
   answer_zero n e = go (eqb (cut_fault p size k (length out)) 0) refl e
     where
       go : (a : Bool) → eqb (cut_fault p size k (length out)) 0 ≡ a
-          → cond a (Written.Is (length (chunk_bytes p number size k))) (Written.Refused (cut_fault p size k (length out))) ≡ Written.Is n
+          → cond {A = Answer (Unit {0})} a (got tt (length (chunk_bytes p number size k))) (refused (cut_fault p size k (length out)) 0) ≡ got tt n
           → (cut_fault p size k (length out) ≡ 0) × (length (chunk_bytes p number size k) ≡ n)
-      go true q e = (eqb-true (cut_fault p size k (length out)) 0 q, cc)
-      go false q e = let z : ◌≡◌ {A = ℕ} 0 1 = cc in absurd (omega arith)
+      go true q e = (eqb-true (cut_fault p size k (length out)) 0 q, got_next e)
+      go false q e = absurd (not_got e)
 
   buffer_is : cut_fault p size k (length out) ≡ 0 → cut_buffer p number size k out ≡ laid out 0 (chunk_bytes p number size k)
   unfolding cut_buffer
@@ -196,7 +203,7 @@ module _ (p : List ℕ) (number size k : ℕ) (out : List ℕ) where
     pub rest : drop n (cut_buffer p number size k out) ≡ drop n out
     pub rule : cut_rule (length p) size k ≡ 0
 
-  pub cut_wrote : (n : ℕ) → cut_answer p number size k (length out) ≡ Written.Is n → Wrote n
+  pub cut_wrote : (n : ℕ) → cut_answer p number size k (length out) ≡ got tt n → Wrote n
   cut_wrote n e =
       let a = answer_zero n e in
       let f = fault_zero a.0 in

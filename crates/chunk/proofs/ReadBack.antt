@@ -18,7 +18,6 @@ use Rattle.chunk.specs.Payload.{total_at, data_length_at, data_of, chunk_payload
 use Rattle.chunk.specs.Datagram.{place_of, chunk_at, chunk_data}
 use Rattle.chunk.specs.Cutting.{payload_bytes, cut_data, chunk_bytes, cut_rule, cut_answer, cut_buffer}
 use Rattle.chunk.specs.declared.payload.ChunkPayload.{ChunkPayload}
-use Rattle.wire_writer.specs.declared.writing.Written.{Written}
 use Rattle.wire_writer.proofs.Trip.{le_at}
 use Rattle.chunk.proofs.CutLaws.{cuts, data_most, data_full, length_payload, cut_wrote}
 
@@ -134,7 +133,7 @@ module _ (p : List ℕ) (number size k : ℕ) (hn : number < 65536) (ok : cut_ru
         rw datagram_back (ap (take (length d)) r ∙ take-length d)
 
 -- ---- what cutting wrote into a lent buffer, by its contract, reads back as chunk k
-pub written_back : (p : List ℕ) (number size k : ℕ) → number < 65536 → (out : List ℕ) (n : ℕ) → cut_answer p number size k (length out) ≡ Written.Is n
+pub written_back : (p : List ℕ) (number size k : ℕ) → number < 65536 → (out : List ℕ) (n : ℕ) → cut_answer p number size k (length out) ≡ got tt n
     → chunk_payload_at (take n (cut_buffer p number size k out)) 0 ≡ got (payload_place number (k * size) (length p) (length (cut_data p size k)) 0) (length (chunk_bytes p number size k))
 written_back p number size k hn out n e =
     let w = cut_wrote p number size k out n e in

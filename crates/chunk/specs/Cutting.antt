@@ -3,7 +3,10 @@ use Rattle.std.specs.Prelude.{ℕ, ◌+◌, ◌*◌, ◌<◌, ◌≡◌, cond, L
 use Rattle.wire.specs.Constants.{DISAGREE, MOST_TOTAL, NO_ROOM, OVER_LIMIT}
 use Rattle.wire.specs.Number.{le_bytes}
 use Rattle.wire_writer.specs.Store.{laid}
-use Rattle.wire_writer.specs.declared.writing.Written.{Written}
+use Rattle.wire_writer.specs.Writing.{answer_written}
+use Rattle.std.specs.Prelude.{Result}
+use Rattle.wire.specs.Answer.{Answer, got, refused}
+use Rattle.wire.specs.declared.refusal.Reason.{Reason}
 
 -- "MessageSequenceNumber 2, ChunkOffset 4, TotalSize 4, ChunkData with its length"
 abbrev pub payload_bytes : ℕ → ℕ → ℕ → List ℕ → List ℕ
@@ -33,10 +36,10 @@ cut_fault p size k room =
     (cond (ltb room (14 + length (cut_data p size k))) NO_ROOM 0)
     (cut_rule (length p) size k)
 
--- the number of bytes written, or the refusal
-unfoldable pub cut_answer : List ℕ → ℕ → ℕ → ℕ → ℕ → Written
+-- the number of bytes written, or the refusal; "a writer's [place] is 0"
+unfoldable pub cut_answer : List ℕ → ℕ → ℕ → ℕ → ℕ → Answer (Unit {0})
 cut_answer p number size k room =
-    cond (eqb (cut_fault p size k room) 0) (Written.Is (length (chunk_bytes p number size k))) (Written.Refused (cut_fault p size k room))
+    cond (eqb (cut_fault p size k room) 0) (got tt (length (chunk_bytes p number size k))) (refused (cut_fault p size k room) 0)
 
 -- the buffer afterwards: the chunk's payload from its start, and every other byte as it was; all as it was where it is refused
 unfoldable pub cut_buffer : List ℕ → ℕ → ℕ → ℕ → List ℕ → List ℕ
@@ -45,6 +48,6 @@ cut_buffer p number size k out =
 
 -- what cutting promises of chunk k of the payload p, put into the buffer `entry`: its answer, the buffer afterwards, and that the number is
 -- one of 2 bytes
-abbrev pub CutWrote : List ℕ → ℕ → ℕ → ℕ → List ℕ → List ℕ → Written → Type 0
+abbrev pub CutWrote : List ℕ → ℕ → ℕ → ℕ → List ℕ → List ℕ → Result ℕ Reason → Type 0
 CutWrote p number size k entry exit r =
-    (r ≡ cut_answer p number size k (length entry)) × (exit ≡ cut_buffer p number size k entry) × (number < 65536)
+    (answer_written r ≡ cut_answer p number size k (length entry)) × (exit ≡ cut_buffer p number size k entry) × (number < 65536)

@@ -1,15 +1,14 @@
 -- A chunk read from a datagram (document 01, "Reassembly").
+use Rattle.std.specs.Prelude.{Option, Some, None}
 use Rattle.std.specs.Prelude.{ℕ, cond, List, [], take, drop}
 use Rattle.wire.specs.Constants.{NOT_TAKEN}
 use Rattle.wire.specs.Answer.{Answer, got, refused, Reader, and_then}
-use Rattle.wire.specs.declared.optional.Optional16.{Optional16}
 use Rattle.network_message.specs.Envelope.{network_message_at}
 use Rattle.network_header.specs.declared.envelope.Envelope.{Envelope}
-use Rattle.network_header.specs.declared.group.GroupHeader.{GroupHeader}
+use Rattle.network_header.specs.declared.group.GroupFields.{GroupFields}
 use Rattle.network_header.specs.declared.header.PayloadHeader.{PayloadHeader}
 use Rattle.chunk.specs.declared.payload.ChunkPayload.{ChunkPayload}
 use Rattle.chunk.specs.declared.datagram.ChunkPlace.{ChunkPlace}
-use Rattle.chunk.specs.declared.datagram.ChunkRead.{ChunkRead}
 use Rattle.chunk.specs.Payload.{chunk_payload_at}
 
 -- "PayloadHeader: for a chunk, DataSetWriterId 2": an accepted chunk has this one (proofs/Accepted.chunk_writer), so the 0 is never given
@@ -21,9 +20,9 @@ chunk_writer_of PayloadHeader.Probe = 0
 
 -- "The reassembly record now carries the WriterGroupId, or that there was none" (document 02, Req 06): none without a group header, or
 -- where its flag is off
-abbrev pub chunk_group_of : GroupHeader → Optional16
-chunk_group_of GroupHeader.Absent = Optional16.Absent
-chunk_group_of (GroupHeader.Is g) = g.writer_group
+abbrev pub chunk_group_of : Option GroupFields → Option ℕ
+chunk_group_of None = None
+chunk_group_of (Some g) = g.writer_group
 
 abbrev pub place_of : Envelope → ℕ → ChunkPayload → ChunkPlace
 place_of e end p = record {
@@ -47,7 +46,3 @@ chunk_at sizes s = and_then (network_message_at sizes s) (λ m first. chunk_from
 abbrev pub chunk_data : Answer ChunkPlace → List ℕ → List ℕ
 chunk_data (got c next) s = take c.payload.length (drop c.payload.first s)
 chunk_data (refused n place) s = []
-
-abbrev pub answer_chunk : ChunkRead → Answer ChunkPlace
-answer_chunk (ChunkRead.Is v next) = got v next
-answer_chunk (ChunkRead.Refused n place) = refused n place

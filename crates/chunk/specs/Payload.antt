@@ -5,10 +5,7 @@ use Rattle.wire.specs.Answer.{Answer, got, refused, Reader, item, run, here, pur
 use Rattle.wire.specs.Items.{length_item}
 use Rattle.wire.specs.declared.Length.{Length}
 use Rattle.chunk.specs.declared.payload.ChunkPayload.{ChunkPayload}
-use Rattle.chunk.specs.declared.payload.ChunkPayloadRead.{ChunkPayloadRead}
-use Rattle.chunk.specs.declared.payload.SizeRead.{SizeRead}
 use Rattle.chunk.specs.declared.payload.ChunkData.{ChunkData}
-use Rattle.chunk.specs.declared.payload.DataRead.{DataRead}
 
 -- TotalSize 4: "Total 0 .. is 6; total above 16,384 is 10", whose place is 0
 abbrev pub total_of : ℕ → ℕ → ℕ → Answer ℕ
@@ -61,17 +58,3 @@ after_number_at n = do
 -- "Chunk payload: MessageSequenceNumber 2", and the rest
 abbrev pub chunk_payload_at : Reader ChunkPayload
 chunk_payload_at = item 2 >>= after_number_at
-
--- what the answers of the code say
-
-abbrev pub answer_size : SizeRead → Answer ℕ
-answer_size (SizeRead.Is v next) = got v next
-answer_size (SizeRead.Refused n place) = refused n place
-
-abbrev pub answer_data : DataRead → Answer ChunkData
-answer_data (DataRead.Is v next) = got v next
-answer_data (DataRead.Refused n place) = refused n place
-
-abbrev pub answer_payload : ChunkPayloadRead → Answer ChunkPayload
-answer_payload (ChunkPayloadRead.Is v next) = got v next
-answer_payload (ChunkPayloadRead.Refused n place) = refused n place

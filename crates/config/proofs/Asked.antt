@@ -1,12 +1,13 @@
 -- What is asked of a configuration's lists.
 -- Assumes nothing.
 use mathlib.Core.Path.{◌≡◌, refl, ap, sym, ◌∙◌}
-use mathlib.Core.Bool.{Bool, true, false}
+use mathlib.Core.Bool.{Bool, true, false, ◌||◌}
 use mathlib.Core.List.{List, [], ◌∷◌}
 use Prim.Native.Nat.{ℕ, zero, suc, ◌+◌, ◌-◌, ◌≤◌, ◌<◌}
 use native.Mathlib.Omega.{arith}
 use borrow.Author.Tests.{lt-ltb, le-ltb}
-use lib.Dec.{ltb}
+use lib.Dec.{ltb, eqb}
+use Rattle.std.specs.List.{list_any}
 use lib.ListN.{length, take, drop, get_or, length-drop, get_or-eq_default}
 use lib.Seq.{take_all, take-nil, drop-length}
 use Rattle.wire.specs.Lists.{total}
@@ -22,6 +23,11 @@ place_contains x t = go (contains x t) refl
     go : (u : Bool) → contains x t ≡ u → ltb (index_of x t) (length t) ≡ contains x t
     go true h = lt-ltb _ _ (contains_place x t h) ∙ sym h
     go false h = le-ltb _ _ (lacks_place x t h) ∙ sym h
+
+-- the same as the library's `contains` tests it
+pub any_contains : (x : ℕ) (t : List ℕ) → list_any (λ y. eqb y x) t ≡ contains x t
+any_contains x [] = refl
+any_contains x (y ∷ t) = ap (λ (b : Bool). eqb y x || b) (any_contains x t)
 
 -- the field types of a writer: of an id that no writer has, and of writer k
 pub id_none : (ids starts types r : List ℕ) (w k : ℕ) → k ≡ index_of w ids → length ids ≤ k → r ≡ take 0 (drop 0 types) → r ≡ fields_of_id ids starts types w

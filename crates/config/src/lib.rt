@@ -3,16 +3,15 @@
 
 ghost use Rattle.std.specs.Prelude.{◌≡◌, ◌≤◌, take, get_or};
 ghost use Rattle.text.specs.Words.{index_of, contains};
-ghost use Rattle.config.specs.Writers.{at_most, fields_of, fields_of_id, types_of, all_sized, sum_of_sizes, empty_config};
+ghost use Rattle.config.specs.Writers.{at_most, fields_of, fields_of_id, types_by, lists_in, writers_of, all_sized, sum_of_sizes, empty_config};
 ghost use Rattle.wire.specs.Constants.{MOST_WRITERS};
 
 use wire::constants::{MOST_FIELDS, MOST_WRITERS};
-use wire::optional::Optional16;
 use wire::part::part;
 
 // The writers in order: each with its id, its size (0 where it has none) and how many fields stand before its own;
 // and the types of all fields. Only the first `writers` and the first `fields` entries say something.
-#[derive(Clone, Copy)]
+#[derive(Clone, Copy, PartialEq, Eq, Debug)]
 pub struct Config {
     pub writers: usize,
     pub fields: usize,
@@ -20,6 +19,15 @@ pub struct Config {
     pub sizes: [u16; MOST_WRITERS],
     pub starts: [u8; MOST_WRITERS],
     pub types: [u8; MOST_FIELDS],
+}
+
+// The lists of a configuration: the writers' ids, sizes and starts, and the types of all fields.
+#[derive(Clone, Copy)]
+pub struct WriterLists<'a> {
+    pub ids: &'a [u16],
+    pub sizes: &'a [u16],
+    pub starts: &'a [u8],
+    pub types: &'a [u8],
 }
 
 // How many writers there are: not above 16, whatever the record says.
@@ -56,21 +64,14 @@ pub fn number_of(list: &[u16], k: usize) -> u16
 pub fn find_writer(ids: &[u16], id: u16) -> usize
     ensures { result ≡ index_of id ids.now }
 {
-    let mut i = 0;
-    while i < ids.len() {
-        if ids[i] == id {
-            return i;
-        }
-        i += 1;
-    }
-    i
+    ids.iter().position(|x| *x == id).unwrap_or(ids.len())
 }
 
 // Whether an id is among these.
 pub fn has_writer(ids: &[u16], id: u16) -> bool
     ensures { result ≡ contains id ids.now }
 {
-    find_writer(ids, id) < ids.len()
+    ids.contains(&id)
 }
 
 // The field types of writer k.
@@ -102,18 +103,30 @@ pub fn fields_of<'a>(ids: &'a [u16], starts: &'a [u8], types: &'a [u8], id: u16)
     writer_fields(starts, types, k)
 }
 
-// The field types of a message, by its writer's id; none where it has no id.
-pub fn types_of<'a>(
-    ids: &'a [u16],
-    starts: &'a [u8],
-    types: &'a [u8],
-    writer: Optional16,
-) -> &'a [u8]
-    ensures { result.now ≡ types_of ids.now starts.now types.now writer }
-{
-    match writer {
-        Optional16::Absent => part(types, 0, 0),
-        Optional16::Is(id) => fields_of(ids, starts, types, id),
+impl<'a> WriterLists<'a> {
+    // The field types of a message, by its writer's id; none where it has no id.
+    pub fn types_of(self, writer: Option<u16>) -> &'a [u8]
+        ensures { result.now ≡ types_by (lists_in self.entry) writer }
+    {
+        match writer {
+            None => part(self.types, 0, 0),
+            Some(id) => fields_of(self.ids, self.starts, self.types, id),
+        }
+    }
+}
+
+impl Config {
+    // Its lists: as many entries as there are writers and fields.
+    pub fn lists(&self) -> WriterLists<'_>
+        ensures { lists_in result ≡ writers_of self.now }
+    {
+        let n = writer_count(self.writers);
+        WriterLists {
+            ids: first(&self.ids, n),
+            sizes: first(&self.sizes, n),
+            starts: part(&self.starts, 0, n),
+            types: part(&self.types, 0, self.fields),
+        }
     }
 }
 
@@ -130,10 +143,8 @@ pub fn sum_of_sizes(sizes: &[u16]) -> usize
 {
     let list = first(sizes, MOST_WRITERS);
     let mut sum = 0;
-    let mut i = 0;
-    while i < list.len() {
-        sum += list[i] as usize;
-        i += 1;
+    for size in list {
+        sum += *size as usize;
     }
     sum
 }

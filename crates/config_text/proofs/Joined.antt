@@ -9,7 +9,7 @@ use borrow.Author.Tests.{eqb-true}
 use lib.Dec.{eqb}
 use Rattle.text.specs.Words.{contains}
 use Rattle.config_text.specs.Line.{Says, writer, field, bad}
-use Rattle.config_text.specs.Config.{TextLine, ended, unended, onto, lines_of, line_says, may_follow, with, read_lines, config_of}
+use Rattle.config_text.specs.Config.{TextLine, ended, unended, onto, lines_of, line_says, may_follow, with, config_in, read_lines, config_of}
 use Rattle.config.specs.Writers.{empty_config}
 use Rattle.config.specs.declared.Config.{Config}
 use Rattle.config_text.proofs.Turns.{new_within, field_within}
@@ -61,14 +61,15 @@ with_within c (writer id size) w p = (omega (arith, new_within c.ids c.writers i
 with_within c (field t) w p = (w.0, omega (arith, field_within c p))
 with_within c bad w p = w
 
-lines_within : (ls : List TextLine) (c : Config) (n : ℕ) → Within c → Within (read_lines c n ls).config
+lines_within : (ls : List TextLine) (c : Config) (n : ℕ) → Within c → Within (config_in (read_lines c n ls))
 lines_within [] c n w = w
 lines_within (l ∷ ls) c n w = step (may_follow c (line_says l)) refl (λ p. lines_within ls (with c (line_says l)) (n + 1) (with_within c (line_says l) w p))
   where
-    step : (x : Bool) → may_follow c (line_says l) ≡ x → (may_follow c (line_says l) ≡ true → Within (read_lines (with c (line_says l)) (n + 1) ls).config) → Within (read_lines c n (l ∷ ls)).config
+    step : (x : Bool) → may_follow c (line_says l) ≡ x → (may_follow c (line_says l) ≡ true → Within (config_in (read_lines (with c (line_says l)) (n + 1) ls)))
+        → Within (config_in (read_lines c n (l ∷ ls)))
     step true p h = rw p (h p)
     step false p h = rw p (omega arith, omega arith)
 
-pub config_within : (t : List ℕ) → ((config_of t).config.writers ≤ 16) × ((config_of t).config.fields ≤ 64)
+pub config_within : (t : List ℕ) → ((config_in (config_of t)).writers ≤ 16) × ((config_in (config_of t)).fields ≤ 64)
 unfolding config_of
 config_within t = lines_within (lines_of t) empty_config 1 (omega arith, omega arith)

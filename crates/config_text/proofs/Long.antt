@@ -1,9 +1,9 @@
 -- A configuration that is accepted is short, so of a long text the front tells the answer: its first bad line stands in it.
 -- Assumes nothing.
+use Rattle.std.specs.Prelude.{Option, Some, None}
 use mathlib.Core.Path.{◌≡◌, refl, sym, ◌∙◌, ap}
 use mathlib.Core.Bool.{Bool, true, false, false≢true}
 use mathlib.Core.List.{List, [], ◌∷◌}
-use mathlib.Core.Option.{Option, none, some}
 use Prim.Native.Nat.{ℕ, zero, suc, ◌+◌, ◌-◌, ◌*◌, ◌≤◌, ◌<◌}
 use native.Mathlib.Omega.{arith}
 use borrow.Author.Tests.{leb-true, leb-false, ltb-true, ltb-false}
@@ -16,7 +16,7 @@ use Rattle.text.specs.Decimal.{is_digit, all_digits, value_from, decimal_value_o
 use Rattle.text.proofs.Digits.{digit_low}
 use Rattle.text.proofs.Parts.{contains_place, lacks_place}
 use Rattle.config_text.specs.Line.{Says, writer, field, bad, writer_start, field_start, says_of, writer_rest, writer_of, field_of, size_of, positive}
-use Rattle.config_text.specs.Config.{lines_of, may_follow, with, bad_line, read_lines, config_of}
+use Rattle.config_text.specs.Config.{lines_of, may_follow, with, bad_line, config_number, read_lines, config_of}
 use Rattle.config.specs.Writers.{empty_config}
 use Rattle.config.specs.declared.Config.{Config}
 use Rattle.config_text.proofs.Turns.{lines_next, lines_last, new_within, field_within}
@@ -37,7 +37,7 @@ six_digits b (c ∷ d ∷ e ∷ []) h k = absurd (omega arith)
 six_digits b (c ∷ d ∷ e ∷ f ∷ []) h k = absurd (omega arith)
 
 module _ (limit : ℕ) (small : limit < 100000) where
-  no_number : (n : ℕ) → ◌≡◌ {A = Option ℕ} none (some n) → ⊥
+  no_number : (n : ℕ) → ◌≡◌ {A = Option ℕ} None (Some n) → ⊥
   no_number n e = let z : ◌≡◌ {A = ℕ} 0 1 = cc in omega arith
 
   first_digit : (b c : ℕ) (cs : List ℕ) → no_leading_zero (b ∷ c ∷ cs) ≡ true → all_digits (b ∷ c ∷ cs) ≡ true → 49 ≤ b
@@ -53,7 +53,7 @@ module _ (limit : ℕ) (small : limit < 100000) where
           let z : false ≡ true = sym (rw s) ∙ h in
           absurd (false≢true z)
 
-  decimal_short : (p : List ℕ) (n : ℕ) → decimal_of limit p ≡ some n → length p ≤ 5
+  decimal_short : (p : List ℕ) (n : ℕ) → decimal_of limit p ≡ Some n → length p ≤ 5
   decimal_short [] n e = omega arith
   decimal_short (b ∷ []) n e = omega arith
   decimal_short (b ∷ c ∷ cs) n e = go (no_leading_zero (b ∷ c ∷ cs)) (all_digits (b ∷ c ∷ cs)) (leb (decimal_value_of (b ∷ c ∷ cs)) limit) refl refl refl
@@ -72,14 +72,14 @@ module _ (limit : ℕ) (small : limit < 100000) where
       go false y z p q r = absurd (no_number n (rw p at e))
 
 -- ---- a permitted line has at most 18 bytes where it names a writer, and 11 where it names a field
-size_short : (p : List ℕ) (n : ℕ) → size_of p ≡ some n → length p ≤ 5
+size_short : (p : List ℕ) (n : ℕ) → size_of p ≡ Some n → length p ≤ 5
 size_short [] n e = omega arith
 size_short (b ∷ []) n e = omega arith
 size_short (b ∷ c ∷ cs) n e = go (decimal_of 65535 (b ∷ c ∷ cs)) refl
   where
     go : (x : Option ℕ) → decimal_of 65535 (b ∷ c ∷ cs) ≡ x → length (b ∷ c ∷ cs) ≤ 5
-    go (some m) q = decimal_short 65535 (omega arith) (b ∷ c ∷ cs) m q
-    go none q = absurd (no_number 65535 (omega arith) n (sym (ap positive q) ∙ e))
+    go (Some m) q = decimal_short 65535 (omega arith) (b ∷ c ∷ cs) m q
+    go None q = absurd (no_number 65535 (omega arith) n (sym (ap positive q) ∙ e))
 
 never : (x y : ℕ) → bad ≡ writer x y → ⊥
 never x y e = let z : ◌≡◌ {A = ℕ} 0 1 = cc in omega arith
@@ -93,31 +93,31 @@ rest_short : (r : List ℕ) (id size : ℕ) → writer_rest r ≡ writer id size
 rest_short r id size e = go (contains 9 r) refl
   where
     parts : (x y : Option ℕ) → contains 9 r ≡ true → decimal_of 65535 (up_to 9 r) ≡ x → size_of (past 9 r) ≡ y → writer_of x y ≡ writer id size → length r ≤ 11
-    parts (some i) (some z) h a b q =
+    parts (Some i) (Some z) h a b q =
         omega (arith, parted_length 9 r h, decimal_short 65535 (omega arith) (up_to 9 r) i a, size_short (past 9 r) z b)
-    parts (some i) none h a b q = absurd (never id size q)
-    parts none y h a b q = absurd (never id size q)
+    parts (Some i) None h a b q = absurd (never id size q)
+    parts None y h a b q = absurd (never id size q)
 
     go : (b : Bool) → contains 9 r ≡ b → length r ≤ 11
     go true h = parts (decimal_of 65535 (up_to 9 r)) (size_of (past 9 r)) h refl refl (rw h at e)
     go false h = absurd (never id size (rw h at e))
 
 field_number : (r : List ℕ) (x : Option ℕ) → decimal_of 255 r ≡ x → (t : ℕ) → field_of x ≡ field t → length r ≤ 5
-field_number r (some n) q t e = decimal_short 255 (omega arith) r n q
-field_number r none q t e = let z : ◌≡◌ {A = ℕ} 0 1 = cc in absurd (omega arith)
+field_number r (Some n) q t e = decimal_short 255 (omega arith) r n q
+field_number r None q t e = let z : ◌≡◌ {A = ℕ} 0 1 = cc in absurd (omega arith)
 
 no_writer : (x : Option ℕ) (id size : ℕ) → field_of x ≡ writer id size → ⊥
-no_writer (some n) id size e = go (fixed n) refl
+no_writer (Some n) id size e = go (fixed n) refl
   where
     go : (b : Bool) → fixed n ≡ b → ⊥
     go true h = let w : field n ≡ writer id size = rw h at e in let z : ◌≡◌ {A = ℕ} 0 1 = cc in omega arith
     go false h = never id size (rw h at e)
-no_writer none id size e = never id size e
+no_writer None id size e = never id size e
 
 no_field : (x y : Option ℕ) (t : ℕ) → writer_of x y ≡ field t → ⊥
-no_field (some i) (some z) t e = let z : ◌≡◌ {A = ℕ} 0 1 = cc in omega arith
-no_field (some i) none t e = let z : ◌≡◌ {A = ℕ} 0 1 = cc in omega arith
-no_field none y t e = let z : ◌≡◌ {A = ℕ} 0 1 = cc in omega arith
+no_field (Some i) (Some z) t e = let z : ◌≡◌ {A = ℕ} 0 1 = cc in omega arith
+no_field (Some i) None t e = let z : ◌≡◌ {A = ℕ} 0 1 = cc in omega arith
+no_field None y t e = let z : ◌≡◌ {A = ℕ} 0 1 = cc in omega arith
 
 -- how many bytes a line may have, with its newline, by what it says
 abbrev most : Says → ℕ
@@ -222,7 +222,7 @@ module _ (c : Config) (n : ℕ) where
               absurd (omega (arith, permitted_short c (up_to 10 t) p, s))
 
 abbrev SameFront : Config → ℕ → ℕ → List ℕ → Type 0
-SameFront c n m t = (read_lines c n (lines_of (take m t)) ≡ read_lines c n (lines_of t)) × ((read_lines c n (lines_of t)).number ≡ 16)
+SameFront c n m t = (read_lines c n (lines_of (take m t)) ≡ read_lines c n (lines_of t)) × (config_number (read_lines c n (lines_of t)) ≡ 16)
 
 -- with what is said of a shorter text
 module _ (t : List ℕ) (m n : ℕ) (c : Config) (b : left c < m) (d : m ≤ length t)
@@ -245,7 +245,7 @@ module _ (t : List ℕ) (m n : ℕ) (c : Config) (b : left c < m) (d : m ≤ len
     refused_line p =
         let whole = first_bad c n t has p in
         let front = first_bad c n (take m t) same.0 (ap (λ (l : List ℕ). may_follow c (says_of l)) line ∙ p) in
-        (front ∙ sym whole, ap (λ r. r.number) whole)
+        (front ∙ sym whole, ap config_number whole)
 
     taken_line : may_follow c (says_of (up_to 10 t)) ≡ true → SameFront c n m t
     taken_line p =
@@ -259,7 +259,7 @@ module _ (t : List ℕ) (m n : ℕ) (c : Config) (b : left c < m) (d : m ≤ len
         ∙ ap (λ (l : List ℕ). read_lines (with c (says_of l)) (n + 1) (lines_of (past 10 (take m t)))) line
         ∙ ap (λ (r : List ℕ). read_lines (with c y) (n + 1) (lines_of r)) rest in
         let whole = first_taken c n t has p in
-        (front ∙ more.0 ∙ sym whole, ap (λ r. r.number) whole ∙ more.1)
+        (front ∙ more.0 ∙ sym whole, ap config_number whole ∙ more.1)
 
     short_line : (x : Bool) → may_follow c (says_of (up_to 10 t)) ≡ x → SameFront c n m t
     short_line false p = refused_line p
@@ -271,7 +271,7 @@ module _ (t : List ℕ) (m n : ℕ) (c : Config) (b : left c < m) (d : m ≤ len
       let h = ltb-false (index_of 10 t) m e in
       let whole = long_line c n t (omega (arith, h)) (omega arith) in
       let front = unended_bad c n (take m t) (before_none 10 t m h) (omega (arith, length-take-le m t d)) in
-      (front ∙ sym whole, ap (λ r. r.number) whole)
+      (front ∙ sym whole, ap config_number whole)
 
 long_lines : (k : ℕ) (t : List ℕ) (m n : ℕ) (c : Config) → length t ≤ k → left c < m → m ≤ length t → SameFront c n m t
 long_lines zero t m n c a b d = absurd (omega arith)
@@ -279,6 +279,6 @@ long_lines (suc k) t m n c a b d =
     by_line t m n c b d (λ c m b d. long_lines k (past 10 t) m (n + 1) c (omega (arith, length-drop (index_of 10 t + 1) t)) b d) (ltb (index_of 10 t) m) refl
 
 -- "A refused configuration": a text of more than 1,072 bytes is refused, and any front of it that is longer is refused alike
-pub long_text : (t : List ℕ) (m : ℕ) → 1072 < m → m ≤ length t → (config_of (take m t) ≡ config_of t) × ((config_of t).number ≡ 16)
+pub long_text : (t : List ℕ) (m : ℕ) → 1072 < m → m ≤ length t → (config_of (take m t) ≡ config_of t) × (config_number (config_of t) ≡ 16)
 unfolding config_of
 long_text t m h k = long_lines (length t) t m 1 empty_config (omega arith) (omega arith) k

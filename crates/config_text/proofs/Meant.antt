@@ -12,7 +12,7 @@ use lib.ListN.{length, get_or, take, drop, set, length-append, length-set}
 use lib.Seq.{take-suc-set, drop_at}
 use Rattle.text.specs.Words.{contains, index_of}
 use Rattle.config_text.specs.Line.{Says, writer, field, bad}
-use Rattle.config_text.specs.Config.{TextLine, lines_of, line_says, may_follow, with, read_lines, config_of}
+use Rattle.config_text.specs.Config.{TextLine, lines_of, line_says, may_follow, with, config_number, config_in, read_lines, config_of}
 use Rattle.config_text.specs.Meaning.{all_say, types_under, writers_said, meaning_of, writer_ids, writer_sizes, types_by_id}
 use Rattle.config.specs.Writers.{empty_config, fields_of, fields_of_id}
 use Rattle.config.specs.declared.Config.{Config}
@@ -128,7 +128,7 @@ after_one c r (field t) ys a p m =
     }
 after_one c r bad ys a p m = let z : ◌≡◌ {A = Bool} false true = p in let n : ◌≡◌ {A = ℕ} 0 1 = cc in absurd (omega arith)
 
-lines_mean : (ls : List TextLine) (c : Config) (n : ℕ) → Arrays c → (read_lines c n ls).number ≡ 0 → After c (read_lines c n ls).config (all_say ls)
+lines_mean : (ls : List TextLine) (c : Config) (n : ℕ) → Arrays c → config_number (read_lines c n ls) ≡ 0 → After c (config_in (read_lines c n ls)) (all_say ls)
 lines_mean [] c n a h =
     record {
       ids_are = sym (append-nil (take c.writers c.ids));
@@ -139,14 +139,14 @@ lines_mean [] c n a h =
 lines_mean (l ∷ ls) c n a h = go (may_follow c (line_says l)) refl (lines_mean ls (with c (line_says l)) (n + 1) (arrays_with c (line_says l) a))
   where
     go : (b : Bool) → may_follow c (line_says l) ≡ b
-        → ((read_lines (with c (line_says l)) (n + 1) ls).number ≡ 0 → After (with c (line_says l)) (read_lines (with c (line_says l)) (n + 1) ls).config (all_say ls))
-        → After c (read_lines c n (l ∷ ls)).config (line_says l ∷ all_say ls)
+        → (config_number (read_lines (with c (line_says l)) (n + 1) ls) ≡ 0 → After (with c (line_says l)) (config_in (read_lines (with c (line_says l)) (n + 1) ls)) (all_say ls))
+        → After c (config_in (read_lines c n (l ∷ ls))) (line_says l ∷ all_say ls)
     go true p more = rw p (after_one c _ (line_says l) (all_say ls) a p (more (rw p at h)))
     go false p more = let z : ◌≡◌ {A = ℕ} 16 0 = rw p at h in absurd (omega arith)
 
 -- an accepted text: its ids and sizes, and the types by each id
-pub config_means : (t : List ℕ) → (config_of t).number ≡ 0 → (starts : List ℕ)
-    × (types : List ℕ) × Lists (config_of t).config (writer_ids (meaning_of t)) (writer_sizes (meaning_of t)) starts types
+pub config_means : (t : List ℕ) → config_number (config_of t) ≡ 0 → (starts : List ℕ)
+    × (types : List ℕ) × Lists (config_in (config_of t)) (writer_ids (meaning_of t)) (writer_sizes (meaning_of t)) starts types
     × ((id : ℕ) → fields_of_id (writer_ids (meaning_of t)) starts types id ≡ types_by_id (meaning_of t) id)
 unfolding config_of
 config_means t h =

@@ -1,5 +1,6 @@
 -- The lines of a text, one after the other: what a turn of `read_config`'s loop needs.
 -- Assumes nothing.
+use Rattle.std.specs.Prelude.{Option, Some, None, Result}
 use mathlib.Core.Path.{◌≡◌, refl, sym, ◌∙◌, ap}
 use mathlib.Core.Bool.{Bool, true, false, cond, not, true≢false, false≢true}
 use mathlib.Core.List.{List, [], ◌∷◌}
@@ -7,7 +8,7 @@ use mathlib.Core.Logic.{⊎_elim}
 use Prim.Native.Nat.{ℕ, ◌+◌, ◌≤◌, ◌<◌}
 use native.Mathlib.Nat.{suc-add}
 use native.Mathlib.Omega.{arith}
-use borrow.Author.Tests.{leb-false, ltb-true, not-true, not-false}
+use borrow.Author.Tests.{leb-false, ltb-true}
 use lib.Dec.{eqb, leb, ltb}
 use lib.ListN.{length, drop, get_or, length-drop}
 use lib.Seq.{drop-drop}
@@ -15,13 +16,13 @@ use Rattle.text.specs.Words.{contains, index_of, up_to, past}
 use Rattle.wire.proofs.Facts.{and_right, cases}
 use Rattle.text.proofs.Lists.{at_next, at_end}
 use Rattle.text.proofs.Parts.{contains_place}
-use Rattle.config_text.specs.Line.{Says, writer, field, bad, says_of, as_line, says_in, line_from}
+use Rattle.config_text.specs.Line.{Says, writer, field, bad, says_of, as_line, said, line_from}
 use Rattle.config_text.specs.Config.{ended, unended, lines_of, is_new, may_follow, with, accepted, bad_line, read_lines, config_of}
 use Rattle.config.specs.Writers.{empty_config}
 use Rattle.config.specs.declared.Config.{Config}
-use Rattle.config_text.specs.declared.ConfigRead.{ConfigRead}
+use Rattle.wire.specs.declared.refusal.Refusal.{Refusal}
 use Rattle.config_text.specs.declared.line.Line.{Line}
-use Rattle.config_text.specs.declared.line.Line.TheVariants.{Writer, Field, Bad}
+use Rattle.config_text.specs.declared.line.Line.TheVariants.{Writer, Field}
 
 -- a text with a newline: the first line, and the lines after it
 pub lines_next : (t : List ℕ) → contains 10 t ≡ true → lines_of t ≡ ended (up_to 10 t) ∷ lines_of (past 10 t)
@@ -47,39 +48,24 @@ record LineWas (s : List ℕ) (at : ℕ) (says : Says) (next : ℕ) : Type 0 whe
   line : says_of (up_to 10 (drop at s)) ≡ says
   after : next ≡ at + index_of 10 (drop at s) + 1
 
-writer_as : (y : Says) (k id size next : ℕ) → as_line y k ≡ Writer id size next → (y ≡ writer id size) × (next ≡ k)
-writer_as (writer i z) k id size next e = (cc, cc)
-writer_as (field t) k id size next e = let z : ◌≡◌ {A = ℕ} 0 1 = cc in absurd (omega arith)
-writer_as bad k id size next e = let z : ◌≡◌ {A = ℕ} 0 1 = cc in absurd (omega arith)
+line_as : (y : Says) (k : ℕ) (l : Line) (next : ℕ) → as_line y k ≡ Some (l, next) → (y ≡ said l) × (next ≡ k)
+line_as (writer i z) k l next e = let w : ◌≡◌ {A = Line × ℕ} (Writer i z, k) (l, next) = cc in (ap (λ (p : Line × ℕ). said p.0) w, ap (λ (p : Line × ℕ). p.1) (sym w))
+line_as (field t) k l next e = let w : ◌≡◌ {A = Line × ℕ} (Field t, k) (l, next) = cc in (ap (λ (p : Line × ℕ). said p.0) w, ap (λ (p : Line × ℕ). p.1) (sym w))
+line_as bad k l next e = let z : ◌≡◌ {A = ℕ} 0 1 = cc in absurd (omega arith)
 
-field_as : (y : Says) (k kind next : ℕ) → as_line y k ≡ Field kind next → (y ≡ field kind) × (next ≡ k)
-field_as (writer i z) k kind next e = let z : ◌≡◌ {A = ℕ} 0 1 = cc in absurd (omega arith)
-field_as (field t) k kind next e = (cc, cc)
-field_as bad k kind next e = let z : ◌≡◌ {A = ℕ} 0 1 = cc in absurd (omega arith)
-
-bad_as : (y : Says) (k : ℕ) → as_line y k ≡ Bad → y ≡ bad
+bad_as : (y : Says) (k : ℕ) → as_line y k ≡ None → y ≡ bad
 bad_as (writer i z) k e = let z : ◌≡◌ {A = ℕ} 0 1 = cc in absurd (omega arith)
 bad_as (field t) k e = let z : ◌≡◌ {A = ℕ} 0 1 = cc in absurd (omega arith)
 bad_as bad k e = refl
 
-module _ (s : List ℕ) (at : ℕ) where
-  writer_was : (id size next : ℕ) → line_from s at ≡ Writer id size next → LineWas s at (writer id size) next
-  writer_was id size next e = go (contains 10 (drop at s)) refl
-    where
-      go : (b : Bool) → contains 10 (drop at s) ≡ b → LineWas s at (writer id size) next
-      go true h =
-          let k : (says_of (up_to 10 (drop at s)) ≡ writer id size) × (next ≡ at + index_of 10 (drop at s) + 1) = writer_as _ _ id size next (rw h at e) in
-          record { there = h; line = k.0; after = k.1 }
-      go false h = let w : ◌≡◌ {A = Line} Bad (Writer id size next) = rw h at e in let z : ◌≡◌ {A = ℕ} 0 1 = cc in absurd (omega arith)
-
-  field_was : (kind next : ℕ) → line_from s at ≡ Field kind next → LineWas s at (field kind) next
-  field_was kind next e = go (contains 10 (drop at s)) refl
-    where
-      go : (b : Bool) → contains 10 (drop at s) ≡ b → LineWas s at (field kind) next
-      go true h =
-          let k : (says_of (up_to 10 (drop at s)) ≡ field kind) × (next ≡ at + index_of 10 (drop at s) + 1) = field_as _ _ kind next (rw h at e) in
-          record { there = h; line = k.0; after = k.1 }
-      go false h = let w : ◌≡◌ {A = Line} Bad (Field kind next) = rw h at e in let z : ◌≡◌ {A = ℕ} 0 1 = cc in absurd (omega arith)
+line_was : (s : List ℕ) (at : ℕ) (l : Line) (next : ℕ) → line_from s at ≡ Some (l, next) → LineWas s at (said l) next
+line_was s at l next e = go (contains 10 (drop at s)) refl
+  where
+    go : (b : Bool) → contains 10 (drop at s) ≡ b → LineWas s at (said l) next
+    go true h =
+        let k : (says_of (up_to 10 (drop at s)) ≡ said l) × (next ≡ at + index_of 10 (drop at s) + 1) = line_as _ _ l next (rw h at e) in
+        record { there = h; line = k.0; after = k.1 }
+    go false h = let w : ◌≡◌ {A = Option (Line × ℕ)} None (Some (l, next)) = rw h at e in let z : ◌≡◌ {A = ℕ} 0 1 = cc in absurd (omega arith)
 
 -- a turn with a line that was read
 module _ (s : List ℕ) (at : ℕ) (y : Says) (next : ℕ) (was : LineWas s at y next) where
@@ -94,7 +80,7 @@ module _ (s : List ℕ) (at : ℕ) (y : Says) (next : ℕ) (was : LineWas s at y
       let k : at + (index_of 10 (drop at s) + 1) ≡ next = omega (arith, was.after) in
       drop-drop (index_of 10 (drop at s) + 1) at s ∙ ap (λ (j : ℕ). drop j s) k
 
-  module _ (c : Config) (n : ℕ) (r : ConfigRead) (v : read_lines c n (lines_of (drop at s)) ≡ r) where
+  module _ (c : Config) (n : ℕ) (r : Result Config Refusal) (v : read_lines c n (lines_of (drop at s)) ≡ r) where
     turned : cond (may_follow c y) (read_lines (with c y) (n + 1) (lines_of (drop next s))) (bad_line n) ≡ r
     turned = rw (lines_next (drop at s) was.there, was.line, rest) at v
 
@@ -105,8 +91,8 @@ module _ (s : List ℕ) (at : ℕ) (y : Says) (next : ℕ) (was : LineWas s at y
     turn_taken p = rw p at turned
 
 -- a turn with a bad line, and the end
-module _ (s : List ℕ) (at : ℕ) (c : Config) (n : ℕ) (r : ConfigRead) (v : read_lines c n (lines_of (drop at s)) ≡ r) where
-  turn_bad : at < length s → line_from s at ≡ Bad → bad_line n ≡ r
+module _ (s : List ℕ) (at : ℕ) (c : Config) (n : ℕ) (r : Result Config Refusal) (v : read_lines c n (lines_of (drop at s)) ≡ r) where
+  turn_bad : at < length s → line_from s at ≡ None → bad_line n ≡ r
   turn_bad l e = go (contains 10 (drop at s)) refl
     where
       go : (b : Bool) → contains 10 (drop at s) ≡ b → bad_line n ≡ r
@@ -139,54 +125,32 @@ new_within ids n id e = go (leb 16 n) refl
 pub field_within : (c : Config) → may_follow c (field 0) ≡ true → c.fields < 64
 field_within c e = ltb-true c.fields 64 (and_right (not (eqb c.writers 0)) (ltb c.fields 64) e)
 
--- a turn. r is the line that was read, and b the answer of `permitted`
+-- a line more keeps the limit of fields
+with_fields : (c : Config) (y : Says) → c.fields ≤ 64 → may_follow c y ≡ true → (with c y).fields ≤ 64
+with_fields c (writer id size) f p = f
+with_fields c (field t) f p = let z = field_within c p in omega arith
+with_fields c bad f p = f
+
+-- a turn. r is what was read, and b the answer of `permitted`
 module _ (s : List ℕ) (c : Config) (n at : ℕ) (h : Held s c n at) where
   pub held_last : length s ≤ at → accepted c ≡ config_of s
   held_last l = all_read s at c n (config_of s) h.1.1.1 l
 
-  held_next : (y : Says) (next : ℕ) → LineWas s at y next → may_follow c y ≡ true → (with c y).fields ≤ 64 → Held s (with c y) (n + 1) next
-  held_next y next was p f =
-      (next_within s at y next was, (omega (arith, h.1.0, next_later s at y next was), (f, turn_taken s at y next was c n (config_of s) h.1.1.1 p)))
+  pub held_bad : at < length s → line_from s at ≡ None → bad_line n ≡ config_of s
+  held_bad l e = turn_bad s at c n (config_of s) h.1.1.1 l e
 
-  module _ (r : Line) (e : r ≡ line_from s at) where
-    pub held_bad : at < length s → r ≡ Bad → bad_line n ≡ config_of s
-    held_bad l q = turn_bad s at c n (config_of s) h.1.1.1 l (sym e ∙ q)
+  module _ (l : Line) (next : ℕ) (e : line_from s at ≡ Some (l, next)) where
+    was : LineWas s at (said l) next
+    was = line_was s at l next e
 
-    module _ (b : Bool) (p : b ≡ may_follow c (says_in r)) where
-      pub held_refused : at < length s → not b ≡ true → bad_line n ≡ config_of s
-      held_refused l t = go r e (sym p ∙ not-true b t)
-        where
-          go : (r : Line) → r ≡ line_from s at → may_follow c (says_in r) ≡ false → bad_line n ≡ config_of s
-          go (Writer id size next) e q = turn_refused s at (writer id size) next (writer_was s at id size next (sym e)) c n (config_of s) h.1.1.1 q
-          go (Field kind next) e q = turn_refused s at (field kind) next (field_was s at kind next (sym e)) c n (config_of s) h.1.1.1 q
-          go Bad e q = turn_bad s at c n (config_of s) h.1.1.1 l (sym e)
+    pub held_refused : may_follow c (said l) ≡ false → bad_line n ≡ config_of s
+    held_refused p = turn_refused s at (said l) next was c n (config_of s) h.1.1.1 p
 
-      module _ (t : not b ≡ false) where
-        may : (x : Line) → r ≡ x → may_follow c (says_in x) ≡ true
-        may x q = ap (λ (z : Line). may_follow c (says_in z)) (sym q) ∙ sym p ∙ not-false b t
+    pub held_next : may_follow c (said l) ≡ true → Held s (with c (said l)) (n + 1) next
+    held_next p = (
+      next_within s at (said l) next was,
+      (omega (arith, h.1.0, next_later s at (said l) next was), (with_fields c (said l) h.1.1.0 p, turn_taken s at (said l) next was c n (config_of s) h.1.1.1 p)),
+    )
 
-        module _ (id size next : ℕ) (q : r ≡ Writer id size next) where
-          was_writer : LineWas s at (writer id size) next
-          was_writer = writer_was s at id size next (sym e ∙ q)
-
-          pub writer_fits : c.writers < 16
-          writer_fits = new_within c.ids c.writers id (may (Writer id size next) q)
-
-          pub held_writer : Held s (with c (writer id size)) (n + 1) next
-          held_writer = held_next (writer id size) next was_writer (may (Writer id size next) q) h.1.1.0
-
-          pub writer_later : at < next
-          writer_later = next_later s at (writer id size) next was_writer
-
-        module _ (kind next : ℕ) (q : r ≡ Field kind next) where
-          was_field : LineWas s at (field kind) next
-          was_field = field_was s at kind next (sym e ∙ q)
-
-          pub field_fits : c.fields < 64
-          field_fits = field_within c (may (Field kind next) q)
-
-          pub held_field : Held s (with c (field kind)) (n + 1) next
-          held_field = held_next (field kind) next was_field (may (Field kind next) q) (omega (arith, field_fits))
-
-          pub field_later : at < next
-          field_later = next_later s at (field kind) next was_field
+    pub held_later : at < next
+    held_later = next_later s at (said l) next was

@@ -1,11 +1,13 @@
 -- The configuration text, document 01: lines as in `Line`; "At most 16 writers, 64 fields in all, ids distinct; else 16, as is a last
 -- line without newline." The number 16 comes with the line, counted from 1.
-use Rattle.std.specs.Prelude.{Bool, false, cond, not, ◌&&◌, List, [], ◌∷◌, ℕ, ◌+◌, eqb, leb, ltb, take, set}
+use Rattle.std.specs.Prelude.{Bool, false, cond, not, ◌&&◌, List, [], ◌∷◌, ℕ, ◌+◌, eqb, leb, ltb, take, set, Result, Ok, Err}
 use Rattle.wire.specs.Constants.{MOST_FIELDS, MOST_WRITERS}
 use Rattle.text.specs.Words.{contains}
 use Rattle.config_text.specs.Line.{Says, writer, field, bad, newline, says_of}
 use Rattle.config.specs.declared.Config.{Config}
-use Rattle.config_text.specs.declared.ConfigRead.{ConfigRead}
+use Rattle.wire.specs.declared.refusal.Reason.{Reason}
+use Rattle.wire.specs.declared.refusal.Refusal.{Refusal}
+use Rattle.wire.specs.Refusal.{reason_number}
 use Rattle.config.specs.Writers.{empty_config}
 
 -- the lines of a text: each without its newline; what stands after the last newline is a line that lacks it
@@ -61,18 +63,31 @@ with c (field t) = record {
 }
 with c bad = c
 
--- the answers: number 0 with the configuration; 16 with the line and the empty configuration
-abbrev pub accepted : Config → ConfigRead
-accepted c = record { number = 0; place = 0; config = c }
+-- the answers: the configuration; or a refusal by 16, with the line
+abbrev pub accepted : Config → Result Config Refusal
+accepted c = Ok c
 
-abbrev pub bad_line : ℕ → ConfigRead
-bad_line n = record { number = 16; place = n; config = empty_config }
+abbrev pub bad_line : ℕ → Result Config Refusal
+bad_line n = Err (record { reason = Reason.BadLine; place = n })
+
+-- what is told of an answer: its number, 0 where it is accepted; its place; and the configuration, the empty one of a refused text
+abbrev pub config_number : Result Config Refusal → ℕ
+config_number (Ok c) = 0
+config_number (Err r) = reason_number r.reason
+
+abbrev pub place_in : Result Config Refusal → ℕ
+place_in (Ok c) = 0
+place_in (Err r) = r.place
+
+abbrev pub config_in : Result Config Refusal → Config
+config_in (Ok c) = c
+config_in (Err r) = empty_config
 
 -- the lines in order, from line n: the first one that is not permitted is answered
-abbrev pub read_lines : Config → ℕ → List TextLine → ConfigRead
+abbrev pub read_lines : Config → ℕ → List TextLine → Result Config Refusal
 read_lines c n [] = accepted c
 read_lines c n (l ∷ ls) = cond (may_follow c (line_says l)) (read_lines (with c (line_says l)) (n + 1) ls) (bad_line n)
 
 -- a text's configuration, or its first bad line
-unfoldable pub config_of : List ℕ → ConfigRead
+unfoldable pub config_of : List ℕ → Result Config Refusal
 config_of text = read_lines empty_config 1 (lines_of text)

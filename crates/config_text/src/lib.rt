@@ -3,31 +3,14 @@
 
 mod line;
 
-ghost use Rattle.std.specs.Prelude.{◌≡◌, ◌≤◌};
-ghost use Rattle.config_text.specs.Line.{says_in};
-ghost use Rattle.config_text.specs.Config.{bad_line, is_new, permits, config_of};
+ghost use Rattle.std.specs.Prelude.{◌≡◌, ◌≤◌, true};
+ghost use Rattle.config_text.specs.Line.{said};
+ghost use Rattle.config_text.specs.Config.{is_new, may_follow, with, config_of};
 
 use crate::line::{Line, read_line};
 use config::{Config, empty, first, has_writer};
-use wire::constants::{BAD_LINE, MOST_FIELDS, MOST_WRITERS};
-
-// Number 0 and the configuration; or 16, the line from 1 and the empty configuration.
-#[derive(Clone, Copy)]
-pub struct ConfigRead {
-    pub number: u8,
-    pub place: usize,
-    pub config: Config,
-}
-
-fn bad_line(line: usize) -> ConfigRead
-    ensures { result ≡ bad_line line }
-{
-    ConfigRead {
-        number: BAD_LINE,
-        place: line,
-        config: empty(),
-    }
-}
+use wire::constants::{MOST_FIELDS, MOST_WRITERS};
+use wire::refusal::{Reason, Refusal};
 
 // May a writer with this id come after the first n?
 fn is_new(ids: &[u16], n: usize, id: u16) -> bool
@@ -39,51 +22,56 @@ fn is_new(ids: &[u16], n: usize, id: u16) -> bool
     !has_writer(first(ids, n), id)
 }
 
-// May the line come after so many writers, with these ids, and so many fields?
-fn permitted(ids: &[u16], writers: usize, fields: usize, line: Line) -> bool
-    ensures { result ≡ permits ids.now writers fields (says_in line) }
+// May the line come after what the configuration has?
+fn permitted(config: &Config, line: Line) -> bool
+    ensures { result ≡ may_follow config.now (said line) }
 {
     match line {
-        Line::Writer(id, _, _) => is_new(ids, writers, id),
-        Line::Field(_, _) => (writers != 0) & (fields < MOST_FIELDS),
-        Line::Bad => false,
+        Line::Writer(id, _) => is_new(&config.ids, config.writers, id),
+        Line::Field(_) => (config.writers != 0) & (config.fields < MOST_FIELDS),
     }
 }
 
-// A text's configuration, or its first bad line.
-pub fn read_config(s: &[u8]) -> ConfigRead
+// Takes what a permitted line says into the configuration.
+fn add(config: &mut Config, line: Line)
+    requires { (config.old.fields ≤ 64) × (may_follow config.old (said line) ≡ true) }
+    ensures { config.new ≡ with config.old (said line) }
+{
+    match line {
+        Line::Writer(id, size) => {
+            let n = config.writers;
+            config.ids[n] = id;
+            config.sizes[n] = size;
+            config.starts[n] = config.fields as u8;
+            config.writers = n + 1;
+        }
+        Line::Field(kind) => {
+            let n = config.fields;
+            config.types[n] = kind;
+            config.fields = n + 1;
+        }
+    }
+}
+
+// A text's configuration, or its first bad line: by 16, with the line from 1.
+// A line ends where reading it says, so the position goes on by no fixed step.
+pub fn read_config(s: &[u8]) -> Result<Config, Refusal>
     ensures { result ≡ config_of s.now }
 {
     let mut config = empty();
     let mut number: usize = 1;
     let mut at: usize = 0;
     while at < s.len() {
-        let line = read_line(s, at);
-        if !permitted(&config.ids, config.writers, config.fields, line) {
-            return bad_line(number);
+        let bad = Reason::BadLine.at(number);
+        let Some((line, next)) = read_line(s, at) else {
+            return Err(bad);
+        };
+        if !permitted(&config, line) {
+            return Err(bad);
         }
-        match line {
-            Line::Writer(id, size, next) => {
-                let n = config.writers;
-                config.ids[n] = id;
-                config.sizes[n] = size;
-                config.starts[n] = config.fields as u8;
-                config.writers = n + 1;
-                at = next;
-            }
-            Line::Field(kind, next) => {
-                let n = config.fields;
-                config.types[n] = kind;
-                config.fields = n + 1;
-                at = next;
-            }
-            Line::Bad => return bad_line(number),
-        }
+        add(&mut config, line);
+        at = next;
         number += 1;
     }
-    ConfigRead {
-        number: 0,
-        place: 0,
-        config,
-    }
+    Ok(config)
 }

@@ -171,7 +171,7 @@ module _ (delta : Bool) (encoding : Encoding) (types : List ℕ) where
 -- padding
 
 pub zeros_is : (n : ℕ) (s : List ℕ) (m : ℕ) → At s m (zeros n) → zeros_at n s m ≡ got tt (m + n)
-unfolding zeros_at zeros
+unfolding zeros_at
 zeros_is zero s m a = ends (sym (add-zero m))
 zeros_is (suc n) s m a =
     let z : get_or s m 0 ≡ 0 = ap (λ (l : List ℕ). get_or l m 0) a.2 ∙ ap (λ (i : ℕ). get_or (a.0 ++ (0 ∷ (zeros n ++ a.1))) i 0) (sym a.3) ∙ get_or-append_seam a.0 0 (zeros n ++ a.1) 0 in
@@ -316,7 +316,7 @@ module _ (delta : Bool) (encoding : Encoding) (types s : List ℕ) (bytes : Byte
 -- padding that was read
 
 pub zeros_back : (n : ℕ) (s : List ℕ) (m z : ℕ) → m + n ≡ length s → zeros_at n s m ≡ got tt z → drop m s ≡ zeros n
-unfolding zeros_at zeros
+unfolding zeros_at
 zeros_back zero s m z e h = let q : m ≡ length s = omega arith in ap (λ (j : ℕ). drop j s) q ∙ drop-length s
 zeros_back (suc n) s m z e h = go (eqb (get_or s m 0) 0) refl (zeros_back n s (m + 1) z (omega arith))
   where

@@ -3,17 +3,17 @@
 use mathlib.Core.Path.{◌≡◌, refl, ap, sym, ◌∙◌}
 use mathlib.Core.Bool.{Bool, true, false, cond}
 use mathlib.Core.List.{List, [], ◌∷◌, ◌++◌}
-use Prim.Native.Nat.{ℕ, zero, suc, ◌+◌, ◌-◌, ◌≤◌, ◌<◌}
+use Prim.Native.Nat.{ℕ, suc, ◌+◌, ◌-◌, ◌≤◌, ◌<◌}
 use native.Mathlib.Nat.{add-zero}
 use native.Mathlib.Omega.{arith}
 use borrow.Author.Tests.{leb-true, leb-false}
 use lib.Dec.{leb}
-use lib.ListN.{length, get_or, take, drop, set, length-append, length-drop, take-append-drop}
+use lib.ListN.{length, get_or, take, drop, set, replicate, length-replicate, length-append, length-drop, take-append-drop}
 use lib.Seq.{sets, get_or-drop, drop-drop, length-take-le, take_all}
 use Rattle.wire.specs.Lists.{total}
 use Rattle.wire.specs.Number.{le_bytes}
 use Rattle.wire_writer.specs.Store.{Stored}
-use Rattle.wire_writer.proofs.Stores.{stored_fits, stored_none}
+use Rattle.wire_writer.proofs.Stores.{stored_fits, stored_none, put_in}
 use Rattle.dataset_fields.specs.Fields.{values_of, fields_bytes, zeros}
 use Rattle.dataset_fields.proofs.Judging.{past_end, forward_to, values_cons}
 
@@ -74,30 +74,30 @@ delta_sizes values lengths k start start' n h e l r = (a.1, go)
 
 -- zeros
 
+-- n zeros are one and then the others
 zeros_step : (n i : ℕ) → i < n → zeros (n - i) ≡ 0 ∷ zeros (n - (i + 1))
-unfolding zeros
-zeros_step n i h = let e : n - i ≡ suc (n - (i + 1)) = omega arith in rw e
+zeros_step n i h = let e : n - i ≡ suc (n - (i + 1)) = omega arith in ap zeros e
 
+-- what storing them byte by byte leaves to store
 pub fill_step : (out : List ℕ) (at n i : ℕ) → i < n → sets out (at + i) (zeros (n - i)) ≡ sets (set out (at + i) 0) (at + (i + 1)) (zeros (n - (i + 1)))
 fill_step out at n i h =
     let e : suc (at + i) ≡ at + (i + 1) = omega arith in
     ap (λ (z : List ℕ). sets out (at + i) z) (zeros_step n i h) ∙ ap (λ (m : ℕ). sets (set out (at + i) 0) m (zeros (n - (i + 1)))) e
 
-pub fill_done : (out : List ℕ) (at n i : ℕ) → n ≤ i → sets out at (zeros (n - i)) ≡ out
-unfolding zeros
-fill_done out at n i h = let e : n - i ≡ 0 = omega arith in rw e
-
-pub length_zeros : (n : ℕ) → length (zeros n) ≡ n
-unfolding zeros
-length_zeros zero = refl
-length_zeros (suc n) = ap suc (length_zeros n)
+-- so many zeros put in place of as many bytes
+pub zeros_in : (n : ℕ) (l : List ℕ) (at k : ℕ) → k ≡ n → at + n ≤ length l
+    → take at l ++ (replicate (length (take k (drop at l))) 0 ++ drop k (drop at l)) ≡ sets l at (zeros n)
+zeros_in n l at k e h =
+    let z : length (zeros n) ≡ n = length-replicate n 0 in
+    let m : length (take k (drop at l)) ≡ n = length-take-le k (drop at l) (let d = length-drop at l in omega arith) ∙ e in
+    rw m (put_in (zeros n) l at k (e ∙ sym z) (rw z h))
 
 pub zeros_put : (n : ℕ) (entry : List ℕ) (at : ℕ) (exit : List ℕ) → leb (at + n) (length entry) ≡ true → exit ≡ sets entry at (zeros n)
     → Stored (zeros n) entry at exit (at + n)
-zeros_put n entry at exit t e = stored_fits (zeros n) entry at (ap (λ (m : ℕ). at + m) (sym (length_zeros n))) t e
+zeros_put n entry at exit t e = stored_fits (zeros n) entry at (ap (λ (m : ℕ). at + m) (sym (length-replicate n 0))) t e
 
 pub zeros_lack : (n : ℕ) (entry : List ℕ) (at : ℕ) → leb (at + n) (length entry) ≡ false → Stored (zeros n) entry at entry at
-zeros_lack n entry at e = stored_none (zeros n) entry at (ap (λ (m : ℕ). leb (at + m) (length entry)) (length_zeros n) ∙ e)
+zeros_lack n entry at e = stored_none (zeros n) entry at (ap (λ (m : ℕ). leb (at + m) (length entry)) (length-replicate n 0) ∙ e)
 
 -- how long the parts are
 
@@ -122,8 +122,3 @@ delta_length (n ∷ lengths) values indices h =
     let d : length (drop n values) ≡ length values - n = length-drop n values in
     let a = length-append (take n values) (fields_bytes true (drop 1 indices) (values_of lengths (drop n values))) in
     omega arith
-
-pub fill_start : (out : List ℕ) (at n : ℕ) → sets out (at + 0) (zeros (n - 0)) ≡ sets out at (zeros n)
-fill_start out at n =
-    let e : n - 0 ≡ n = omega arith in
-    ap (λ (m : ℕ). sets out m (zeros (n - 0))) (add-zero at) ∙ ap (λ (m : ℕ). sets out at (zeros m)) e

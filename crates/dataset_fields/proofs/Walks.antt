@@ -2,24 +2,20 @@
 -- Assumes nothing.
 use Prim.Native.Nat.{ℕ, zero, suc, ◌+◌, ◌-◌, ◌≤◌, ◌<◌}
 use mathlib.Core.Path.{◌≡◌, refl, sym, ap, ◌∙◌}
-use mathlib.Core.Bool.{Bool, true, false}
+use mathlib.Core.Bool.{Bool}
 use mathlib.Core.List.{List}
 use native.Mathlib.Nat.{not-suc-le-zero, add-zero, zero-add}
 use native.Mathlib.Numerals.{sub-one}
 use native.Mathlib.Omega.{arith}
-use lib.Dec.{leb}
 use lib.ListN.{length, get_or}
 use borrow.Author.Tests.{eq-eqb, ne_eqb}
-use Rattle.dataset_fields.specs.Fields.{raw_field_at, encoded_at, index_at, field_at, fields_at, zeros_at, padding_at}
+use Rattle.dataset_fields.specs.Fields.{encoded_at, index_at, field_at, fields_at, zeros_at, padding_at}
 use Rattle.dataset_header.specs.declared.flags.Encoding.{Encoding}
 use Rattle.dataset_fields.specs.declared.fields.Field.{Field}
 use Rattle.wire.specs.Answer.{Answer, got, refused, and_then}
 use Rattle.plain_value.specs.Plain.{passing}
-use Rattle.value.specs.Value.{Measure, measure}
-use Rattle.value.specs.declared.Shape.{Shape}
-use Rattle.wire.proofs.Reading.{not_got}
+use Rattle.value.specs.Value.{Measure}
 use Rattle.plain_value.proofs.Passing.{passed, unpassed}
-use Rattle.value.proofs.FirstItems.{raw_is}
 
 module _ (delta : Bool) (encoding : Encoding) (types s : List ℕ) where
   pub fields_done : (left k p : ℕ) → left ≤ 0 → fields_at delta encoding types left k s p ≡ got tt p
@@ -83,25 +79,26 @@ module _ (delta : Bool) (encoding : Encoding) (types s : List ℕ) where
       → fields_at delta encoding types left k s p ≡ refused n place
   pass_field_stop left k p h q = fields_stop delta encoding types s left k p _ _ h (unpassed (field_at delta encoding types k s p) q)
 
--- fields of RawData, each passed over by its type
+-- a loop over n fields of which the first k are passed: one turn, a refusal, and its end
+module _ (delta : Bool) (encoding : Encoding) (types s : List ℕ) (n k p : ℕ) where
+  pub fields_turn : k < n → {e : ℕ} → passing (field_at delta encoding types k) s p ≡ got tt e
+      → fields_at delta encoding types (n - k) k s p ≡ fields_at delta encoding types (n - (k + 1)) (k + 1) s e
+  fields_turn h q =
+      let one : n - (k + 1) ≡ n - k - 1 = omega arith in
+      rw one (pass_field_step delta encoding types s (n - k) k p (omega arith) q)
 
-module _ (types s : List ℕ) where
-  configured_is : (k p : ℕ) {e : ℕ} → passing (raw_field_at types k) s p ≡ got tt e → raw_field_at types k s p ≡ got (measure (get_or types k 0) Shape.Scalar) e
-  configured_is k p {e} q = go (leb (length types) k) refl
-    where
-      go : (b : Bool) → leb (length types) k ≡ b → raw_field_at types k s p ≡ got (measure (get_or types k 0) Shape.Scalar) e
-      go true t = absurd (not_got (rw t at q))
-      go false t = rw t (raw_is (get_or types k 0) s p (rw t at q))
+  pub fields_halt : k < n → {m place : ℕ} → passing (field_at delta encoding types k) s p ≡ refused m place → fields_at delta encoding types (n - k) k s p ≡ refused m place
+  fields_halt h q = pass_field_stop delta encoding types s (n - k) k p (omega arith) q
 
-  pub raw_step : (left k p : ℕ) {e : ℕ} → 0 < left → passing (raw_field_at types k) s p ≡ got tt e
-      → fields_at false Encoding.RawData types left k s p ≡ fields_at false Encoding.RawData types (left - 1) (k + 1) s e
-  raw_step left k p {e} h q =
-      let t : ℕ = get_or types k 0 in
-      let f : Field = record { index = k; kind = t; shape = Shape.Scalar; offset = p; length = e - p } in
-      fields_step false Encoding.RawData types s left k p e f h (rw (configured_is k p q))
+  -- a field that was read is passed
+  pub read_passes : {x : Field} {e : ℕ} → field_at delta encoding types k s p ≡ got x e → passing (field_at delta encoding types k) s p ≡ got tt e
+  read_passes q = rw q
 
-  pub raw_stop : (left k p : ℕ) {n place : ℕ} → 0 < left → passing (raw_field_at types k) s p ≡ refused n place → fields_at false Encoding.RawData types left k s p ≡ refused n place
-  raw_stop left k p h q = fields_stop false Encoding.RawData types s left k p _ _ h (rw (unpassed (raw_field_at types k s p) q))
+  pub read_stops : {m place : ℕ} → field_at delta encoding types k s p ≡ refused m place → passing (field_at delta encoding types k) s p ≡ refused m place
+  read_stops q = rw q
+
+  pub fields_end : n ≤ k → fields_at delta encoding types (n - k) k s p ≡ got tt p
+  fields_end h = fields_done delta encoding types s (n - k) k p (omega arith)
 
 module _ (s : List ℕ) (p : ℕ) where
   pub padding_done : length s ≤ p → padding_at s p ≡ got tt p

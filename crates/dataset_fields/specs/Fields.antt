@@ -1,14 +1,13 @@
 -- The fields of a DataSetMessage and the cursor over them (document 01, "The DataSetMessage" and "Values").
-use Rattle.std.specs.Prelude.{ℕ, zero, suc, ◌+◌, ◌-◌, Bool, false, cond, ◌&&◌, true, List, [], ◌∷◌, ◌++◌, leb, ltb, eqb, length, get_or, take, drop}
+use Rattle.std.specs.Prelude.{ℕ, zero, suc, ◌+◌, ◌-◌, Bool, false, cond, ◌&&◌, true, List, [], ◌∷◌, ◌++◌, leb, ltb, eqb, length, replicate, get_or, take, drop, Result, Ok, Err}
 use Rattle.wire.specs.Constants.{CUT_SHORT, DISAGREE, LEFT_OVER, NOT_CONFIGURED, OVER_LIMIT}
 use Rattle.wire.specs.Answer.{Answer, got, refused, Reader, item, here, when_on, pure, and_then, ◌>>=◌, ◌>>◌}
+use Rattle.wire.specs.Refusal.{reason_number}
+use Rattle.wire.specs.declared.refusal.Refusal.{Refusal}
 use Rattle.value.specs.Value.{variant_at, data_value_at, raw_at, Measure}
 use Rattle.dataset_header.specs.declared.flags.Encoding.{Encoding}
 use Rattle.dataset_fields.specs.declared.fields.Field.{Field}
-use Rattle.dataset_fields.specs.declared.fields.FieldRead.{FieldRead}
 use Rattle.dataset_fields.specs.declared.fields.Cursor.{Cursor}
-use Rattle.dataset_fields.specs.declared.fields.FieldStep.{FieldStep}
-use Rattle.dataset_fields.specs.declared.fields.IndexRead.{IndexRead}
 use Rattle.wire.specs.Number.{le_bytes}
 use Rattle.wire_writer.specs.Writing.{or_else}
 
@@ -63,19 +62,10 @@ zeros_at (suc n) s at = cond (eqb (get_or s at 0) 0) (zeros_at n s (at + 1)) (re
 abbrev pub padding_at : Reader (Unit {0})
 padding_at s at = zeros_at (length s - at) s at
 
--- what the answers of the code say
-
-abbrev pub answer_index : IndexRead → Answer ℕ
-answer_index (IndexRead.Is v next) = got v next
-answer_index (IndexRead.Refused n place) = refused n place
-
-abbrev pub answer_field : FieldRead → Answer Field
-answer_field (FieldRead.Is f next) = got f next
-answer_field (FieldRead.Refused n place) = refused n place
-
-abbrev pub answer_field_step : FieldStep → Answer FieldStepped
-answer_field_step (FieldStep.Is f c) = got (record { field = f; cursor = c }) c.at
-answer_field_step (FieldStep.Refused n place) = refused n place
+-- what a step of the code says
+abbrev pub answer_field_step : Result (Field × Cursor) Refusal → Answer FieldStepped
+answer_field_step (Ok (f, c)) = got (record { field = f; cursor = c }) c.at
+answer_field_step (Err r) = refused (reason_number r.reason) r.place
 
 -- the cursor after k steps
 unfoldable pub walk_at : Cursor → List ℕ → ℕ → List ℕ → Answer Cursor
@@ -130,9 +120,8 @@ fields_bytes delta indices [] = []
 fields_bytes delta indices (v ∷ vs) = index_bytes delta (get_or indices 0 0) ++ (v ++ fields_bytes delta (drop 1 indices) vs)
 
 -- padding
-unfoldable pub zeros : ℕ → List ℕ
-zeros zero = []
-zeros (suc n) = 0 ∷ zeros n
+abbrev pub zeros : ℕ → List ℕ
+zeros n = replicate n 0
 
 -- the fields of a message that was read, by the walk: n fields, the first of them field k
 abbrev pub and_field : Answer Field → (Field → ℕ → List Field) → List Field

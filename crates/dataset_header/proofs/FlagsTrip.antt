@@ -1,5 +1,6 @@
 -- The flag bytes of a DataSetMessage: what is written reads back, and what was read is written again.
 -- Assumes nothing.
+use Rattle.std.specs.Prelude.{is_some}
 use mathlib.Core.Path.{◌≡◌, refl, ap, sym, ◌∙◌, subst}
 use mathlib.Core.List.{List}
 use mathlib.Core.Bool.{Bool, true, false, cond, not, ◌&&◌}
@@ -12,7 +13,7 @@ use Rattle.wire.specs.Number.{le_bytes}
 use Rattle.wire.proofs.Table.{below}
 use Rattle.wire.proofs.Reading.{invert, got_value, got_next, not_got}
 use Rattle.wire.specs.Answer.{and_then, item, ruled, got, refused}
-use Rattle.wire_writer.specs.Writing.{num, needed, byte_bytes, on16, on32, on_i64}
+use Rattle.wire_writer.specs.Writing.{num, needed, byte_bytes}
 use Rattle.wire_writer.proofs.Bits.{num_bit, num_bound, needed_bound, flag_is}
 use Rattle.wire_writer.proofs.Back.{Back, empty, join, end_fits, item_back, ruled_back}
 use Rattle.wire_writer.proofs.Refusals.{passed}
@@ -73,15 +74,15 @@ kind_bound Kind.Event = omega arith
 kind_bound Kind.KeepAlive = omega arith
 
 pub flags1_bits : (h : Header)
-    → Bits1 (flags1_of h) (encoding_number h.encoding) (num (on16 h.sequence)) (num (on16 h.status)) (num (on32 h.major)) (num (on32 h.minor)) (needed (flags2_of h))
+    → Bits1 (flags1_of h) (encoding_number h.encoding) (num (is_some h.sequence)) (num (is_some h.status)) (num (is_some h.major)) (num (is_some h.minor)) (needed (flags2_of h))
 flags1_bits h =
-    bits1 (encoding_number h.encoding) (num (on16 h.sequence)) (num (on16 h.status)) (num (on32 h.major)) (num (on32 h.minor)) (needed (flags2_of h))
-    (encoding_bound h.encoding) (num_bound (on16 h.sequence)) (num_bound (on16 h.status)) (num_bound (on32 h.major)) (num_bound (on32 h.minor)) (needed_bound (flags2_of h))
+    bits1 (encoding_number h.encoding) (num (is_some h.sequence)) (num (is_some h.status)) (num (is_some h.major)) (num (is_some h.minor)) (needed (flags2_of h))
+    (encoding_bound h.encoding) (num_bound (is_some h.sequence)) (num_bound (is_some h.status)) (num_bound (is_some h.major)) (num_bound (is_some h.minor)) (needed_bound (flags2_of h))
 
-pub flags2_bits : (h : Header) → Bits2 (flags2_of h) (kind_number h.kind) (num (on_i64 h.timestamp)) (num (on16 h.picoseconds))
+pub flags2_bits : (h : Header) → Bits2 (flags2_of h) (kind_number h.kind) (num (is_some h.timestamp)) (num (is_some h.picoseconds))
 flags2_bits h =
-    bits2 (kind_number h.kind) (num (on_i64 h.timestamp)) (num (on16 h.picoseconds))
-    (kind_bound h.kind) (num_bound (on_i64 h.timestamp)) (num_bound (on16 h.picoseconds))
+    bits2 (kind_number h.kind) (num (is_some h.timestamp)) (num (is_some h.picoseconds))
+    (kind_bound h.kind) (num_bound (is_some h.timestamp)) (num_bound (is_some h.picoseconds))
 
 -- encodings and kinds by their numbers
 
@@ -123,12 +124,12 @@ flags_for h =
     record {
       encoding = h.encoding;
       kind = h.kind;
-      sequence = on16 h.sequence;
-      status = on16 h.status;
-      major = on32 h.major;
-      minor = on32 h.minor;
-      timestamp = on_i64 h.timestamp;
-      picoseconds = on16 h.picoseconds;
+      sequence = is_some h.sequence;
+      status = is_some h.status;
+      major = is_some h.major;
+      minor = is_some h.minor;
+      timestamp = is_some h.timestamp;
+      picoseconds = is_some h.picoseconds;
     }
 
 flags_of_is : (h : Header) → message_flags_of (flags1_of h) (flags2_of h) ≡ flags_for h
@@ -137,12 +138,12 @@ flags_of_is h =
     let y = flags2_bits h in
     let e0 = encoding_is h.encoding (flags1_of h / 2 % 4) x.encoding in
     let e1 = kind_is h.kind (flags2_of h % 16) y.kind in
-    let e2 = flag_is (on16 h.sequence) (flags1_of h / 8 % 2) x.sequence in
-    let e3 = flag_is (on16 h.status) (flags1_of h / 16 % 2) x.status in
-    let e4 = flag_is (on32 h.major) (flags1_of h / 32 % 2) x.major in
-    let e5 = flag_is (on32 h.minor) (flags1_of h / 64 % 2) x.minor in
-    let e6 = flag_is (on_i64 h.timestamp) (flags2_of h / 16 % 2) y.timestamp in
-    let e7 = flag_is (on16 h.picoseconds) (flags2_of h / 32 % 2) y.picoseconds in
+    let e2 = flag_is (is_some h.sequence) (flags1_of h / 8 % 2) x.sequence in
+    let e3 = flag_is (is_some h.status) (flags1_of h / 16 % 2) x.status in
+    let e4 = flag_is (is_some h.major) (flags1_of h / 32 % 2) x.major in
+    let e5 = flag_is (is_some h.minor) (flags1_of h / 64 % 2) x.minor in
+    let e6 = flag_is (is_some h.timestamp) (flags2_of h / 16 % 2) y.timestamp in
+    let e7 = flag_is (is_some h.picoseconds) (flags2_of h / 32 % 2) y.picoseconds in
     λ i. record { encoding = e0 i; kind = e1 i; sequence = e2 i; status = e3 i; major = e4 i; minor = e5 i; timestamp = e6 i; picoseconds = e7 i }
 
 -- Flags2, read after Flags1
@@ -297,17 +298,17 @@ module _ (s : List ℕ) (f : Flags) (next : ℕ) (r : FlagsBack s f next) (h : H
   flags2_same : flags2_of h ≡ r.flags2
   flags2_same =
       let k : kind_number h.kind ≡ r.flags2 % 16 = ap (λ (x : Flags). kind_number x.kind) same ∙ kind_number_lem (r.flags2 % 16) r.second.kind in
-      let t = bit_number (on_i64 h.timestamp) (r.flags2 / 16 % 2) (omega arith) (ap (λ (x : Flags). x.timestamp) same) in
-      let p = bit_number (on16 h.picoseconds) (r.flags2 / 32 % 2) (omega arith) (ap (λ (x : Flags). x.picoseconds) same) in
+      let t = bit_number (is_some h.timestamp) (r.flags2 / 16 % 2) (omega arith) (ap (λ (x : Flags). x.timestamp) same) in
+      let p = bit_number (is_some h.picoseconds) (r.flags2 / 32 % 2) (omega arith) (ap (λ (x : Flags). x.picoseconds) same) in
       rw (k, t, p) (sum2 r.flags2 r.second.small)
 
   flags1_same : flags1_of h ≡ r.flags1
   flags1_same =
       let e : encoding_number h.encoding ≡ r.flags1 / 2 % 4 = ap (λ (x : Flags). encoding_number x.encoding) same ∙ encoding_number_lem (r.flags1 / 2 % 4) r.encoding in
-      let a = bit_number (on16 h.sequence) (r.flags1 / 8 % 2) (omega arith) (ap (λ (x : Flags). x.sequence) same) in
-      let u = bit_number (on16 h.status) (r.flags1 / 16 % 2) (omega arith) (ap (λ (x : Flags). x.status) same) in
-      let j = bit_number (on32 h.major) (r.flags1 / 32 % 2) (omega arith) (ap (λ (x : Flags). x.major) same) in
-      let i = bit_number (on32 h.minor) (r.flags1 / 64 % 2) (omega arith) (ap (λ (x : Flags). x.minor) same) in
+      let a = bit_number (is_some h.sequence) (r.flags1 / 8 % 2) (omega arith) (ap (λ (x : Flags). x.sequence) same) in
+      let u = bit_number (is_some h.status) (r.flags1 / 16 % 2) (omega arith) (ap (λ (x : Flags). x.status) same) in
+      let j = bit_number (is_some h.major) (r.flags1 / 32 % 2) (omega arith) (ap (λ (x : Flags). x.major) same) in
+      let i = bit_number (is_some h.minor) (r.flags1 / 64 % 2) (omega arith) (ap (λ (x : Flags). x.minor) same) in
       let d : needed (flags2_of h) ≡ r.flags1 / 128 = ap needed flags2_same ∙ r.second.there in
       rw (e, a, u, j, i, d) (rw r.odd at (sum1 r.flags1 r.small))
 

@@ -1,5 +1,6 @@
 -- What the front of a message already decides of its header, whatever bytes come after it.
 -- Assumes nothing.
+use Rattle.std.specs.Prelude.{Some, None}
 use mathlib.Core.Path.{◌≡◌, refl}
 use mathlib.Core.Bool.{Bool, true, false, cond, not, ◌&&◌}
 use mathlib.Core.List.{List, ◌++◌}
@@ -9,9 +10,6 @@ use borrow.Author.Tests.{eqb-false}
 use lib.Dec.{eqb, leb, ltb}
 use Rattle.wire.specs.Answer.{got, refused, Reader, bits}
 use Rattle.wire.specs.Optional.{optional16, optional32, optional_i64, picoseconds_read, picoseconds_at}
-use Rattle.wire.specs.declared.optional.Optional16.{Optional16}
-use Rattle.wire.specs.declared.optional.Optional32.{Optional32}
-use Rattle.wire.specs.declared.optional.OptionalI64.{OptionalI64}
 use Rattle.wire.proofs.Steady.{Steady, steadily, refusing, cond_onward, onward_steady, Fair, fair, fair_cond, two_of_fair, pure_steady, item_steady, signed_item_steady, ruled_steady, bind_steady, when_steady}
 use Rattle.wire.proofs.Places.{append, append_refused}
 use Rattle.dataset_header.specs.declared.flags.Flags.{Flags}
@@ -50,16 +48,16 @@ flags_steady =
     positive n h = omega arith
 
 optional16_steady : (on : Bool) → Steady (optional16 on)
-optional16_steady on = when_steady on Optional16.Absent (bind_steady (item_steady 2) (λ v. pure_steady (Optional16.Is v)))
+optional16_steady on = when_steady on None (bind_steady (item_steady 2) (λ v. pure_steady (Some v)))
 
 optional32_steady : (on : Bool) → Steady (optional32 on)
-optional32_steady on = when_steady on Optional32.Absent (bind_steady (item_steady 4) (λ v. pure_steady (Optional32.Is v)))
+optional32_steady on = when_steady on None (bind_steady (item_steady 4) (λ v. pure_steady (Some v)))
 
 timestamp_steady : (on : Bool) → Steady (optional_i64 on)
-timestamp_steady on = when_steady on OptionalI64.Absent (bind_steady (signed_item_steady 8) (λ v. pure_steady (OptionalI64.Is v)))
+timestamp_steady on = when_steady on None (bind_steady (signed_item_steady 8) (λ v. pure_steady (Some v)))
 
 picoseconds_steady : (on : Bool) → Steady (picoseconds_at on)
-picoseconds_steady on = when_steady on Optional16.Absent (bind_steady (item_steady 2) (λ v. pure_steady (Optional16.Is (picoseconds_read v))))
+picoseconds_steady on = when_steady on None (bind_steady (item_steady 2) (λ v. pure_steady (Some (picoseconds_read v))))
 
 times_steady : (f : Flags) → Steady (message_times_at f)
 times_steady f =

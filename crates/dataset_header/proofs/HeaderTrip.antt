@@ -1,4 +1,5 @@
 -- A DataSetMessage header's round trip: read as it was written, and what was read is what stands there.
+use Rattle.std.specs.Prelude.{Option, Some, None, is_some}
 use mathlib.Core.Path.{◌≡◌, refl, ap, sym, subst, ◌∙◌}
 use mathlib.Core.Bool.{true}
 use Prim.Native.Nat.{ℕ, ◌+◌, ◌≤◌}
@@ -9,7 +10,7 @@ use lib.ListN.{length, drop, length-append}
 use lib.Seq.{sets}
 use borrow.Author.Tests.{ne_eqb}
 use Rattle.dataset_header.specs.Header.{FitsHeader, times_bytes, message_times_at, versions_bytes, versions_at, message_header_bytes, message_header_at, header_of, message_items_at, after_flags, message_picoseconds_place, message_held}
-use Rattle.wire_writer.specs.Writing.{optional16_bytes, optional_i64_bytes, picoseconds_refusal, picoseconds_held, optional32_bytes, on16, on_i64, on32, byte_bytes}
+use Rattle.wire_writer.specs.Writing.{optional16_bytes, optional_i64_bytes, picoseconds_refusal, picoseconds_held, optional32_bytes, byte_bytes}
 use Rattle.wire_writer.proofs.Trip.{Reads, first, second, optional16_is, optional_i64_is, picoseconds_is, optional32_is}
 use Rattle.dataset_header.specs.declared.header.Header.{Header}
 use Rattle.dataset_header.proofs.FlagsTrip.{flags_for, flags_is, FlagsBack, flags_stand, kind_kept, flags_back}
@@ -19,7 +20,6 @@ use Rattle.dataset_header.specs.declared.flags.Flags.{Flags}
 use Rattle.wire_writer.proofs.Back.{Back, PicosecondsBack, join, end_fits, optional16_back, optional_i64_back, picoseconds_back, picoseconds_kept, optional32_back, held_between, held_stored, two_bytes}
 use Rattle.wire.proofs.Reading.{invert, got_value, got_next}
 use Rattle.wire.specs.Optional.{optional16, optional_i64, picoseconds_at, optional32}
-use Rattle.wire.specs.declared.optional.Optional16.{Optional16}
 use Rattle.wire_writer.specs.Fits.{Bytes}
 use Rattle.dataset_header.specs.declared.header.Versions.{Versions}
 
@@ -70,8 +70,8 @@ record TimesBack (f : Flags) (s : List ℕ) (at : ℕ) (t : Times) (next : ℕ) 
   place : ℕ
   stands : Back s at (optional16_bytes t.sequence ++ optional_i64_bytes t.timestamp) place
   behind : PicosecondsBack f.picoseconds s place t.picoseconds next
-  sequence : on16 t.sequence ≡ f.sequence
-  timestamp : on_i64 t.timestamp ≡ f.timestamp
+  sequence : is_some t.sequence ≡ f.sequence
+  timestamp : is_some t.timestamp ≡ f.timestamp
   kept : picoseconds_refusal t.picoseconds ≡ 0
 
 times_back : (f : Flags) (s : List ℕ) (at : ℕ) (t : Times) (next : ℕ) → Bytes s → at ≤ length s → message_times_at f s at ≡ got t next → TimesBack f s at t next
@@ -93,9 +93,9 @@ times_back f s at t next bytes l h =
 
 record VersionsBack (f : Flags) (s : List ℕ) (at : ℕ) (v : Versions) (next : ℕ) : Type 0 where
   stands : Back s at (optional16_bytes v.status ++ (optional32_bytes v.major ++ optional32_bytes v.minor)) next
-  status : on16 v.status ≡ f.status
-  major : on32 v.major ≡ f.major
-  minor : on32 v.minor ≡ f.minor
+  status : is_some v.status ≡ f.status
+  major : is_some v.major ≡ f.major
+  minor : is_some v.minor ≡ f.minor
 
 versions_back : (f : Flags) (s : List ℕ) (at : ℕ) (v : Versions) (next : ℕ) → Bytes s → at ≤ length s → versions_at f s at ≡ got v next → VersionsBack f s at v next
 versions_back f s at v next bytes l h =
@@ -120,24 +120,24 @@ pub record HeaderBack (s : List ℕ) (h : Header) (next : ℕ) : Type 0 where
   pub fits : next ≤ length s
   pub again : message_header_bytes h ++ drop next s ≡ message_held h s
   pub stored : sets s (message_picoseconds_place h) (optional16_bytes h.picoseconds) ≡ message_held h s
-  pub room : on16 h.picoseconds ≡ true → message_picoseconds_place h + 2 ≤ length s
+  pub room : is_some h.picoseconds ≡ true → message_picoseconds_place h + 2 ≤ length s
   pub kind : kind_rule h.kind h.encoding ≡ 0
   pub picoseconds : picoseconds_refusal h.picoseconds ≡ 0
 
 -- Flags2 announces picoseconds
-two_flags : (h : Header) → on16 h.picoseconds ≡ true → length (message_flag_bytes h) ≡ 2
+two_flags : (h : Header) → is_some h.picoseconds ≡ true → length (message_flag_bytes h) ≡ 2
 two_flags h e =
     let n : flags2_of h ≡ 0 → ⊥ = rw e (λ z. omega arith) in
     rw (ne_eqb (flags2_of h) 0 n)
 
 -- only where picoseconds are there does it matter where they stand
-stored_there : (x : Optional16) (a b : ℕ) (s : List ℕ) → (on16 x ≡ true → a ≡ b) → sets s a (optional16_bytes x) ≡ sets s b (optional16_bytes x)
-stored_there Optional16.Absent a b s e = refl
-stored_there (Optional16.Is v) a b s e = ap (λ (k : ℕ). sets s k (optional16_bytes (Optional16.Is v))) (e refl)
+stored_there : (x : Option ℕ) (a b : ℕ) (s : List ℕ) → (is_some x ≡ true → a ≡ b) → sets s a (optional16_bytes x) ≡ sets s b (optional16_bytes x)
+stored_there None a b s e = refl
+stored_there (Some v) a b s e = ap (λ (k : ℕ). sets s k (optional16_bytes (Some v))) (e refl)
 
-held_there : (x : Optional16) (a b : ℕ) (s : List ℕ) → (on16 x ≡ true → a ≡ b) → picoseconds_held x a s ≡ picoseconds_held x b s
-held_there Optional16.Absent a b s e = refl
-held_there (Optional16.Is v) a b s e = ap (λ (k : ℕ). picoseconds_held (Optional16.Is v) k s) (e refl)
+held_there : (x : Option ℕ) (a b : ℕ) (s : List ℕ) → (is_some x ≡ true → a ≡ b) → picoseconds_held x a s ≡ picoseconds_held x b s
+held_there None a b s e = refl
+held_there (Some v) a b s e = ap (λ (k : ℕ). picoseconds_held (Some v) k s) (e refl)
 
 -- a header's parts one after the other, with all that follows
 in_a_row : (f q t p v r : List ℕ) → (f ++ ((q ++ (t ++ p)) ++ v)) ++ r ≡ (f ++ (q ++ t)) ++ (p ++ (v ++ r))
@@ -180,7 +180,7 @@ body_back s f n h next bytes r q =
         let pb = optional16_bytes h.picoseconds in
         let vb = versions_bytes h in
         let all = join s 0 fb n (qb ++ tb) place flags times in
-        let there : on16 h.picoseconds ≡ true → place ≡ message_picoseconds_place h = λ e. omega (arith, all.1, length-append fb (qb ++ tb), length-append qb tb, two_flags h e) in
+        let there : is_some h.picoseconds ≡ true → place ≡ message_picoseconds_place h = λ e. omega (arith, all.1, length-append fb (qb ++ tb), length-append qb tb, two_flags h e) in
         record {
           sized =
               omega (

@@ -1,13 +1,12 @@
 -- Flags1 and Flags2 (document 01, "The DataSetMessage").
-use Rattle.std.specs.Prelude.{ℕ, ◌+◌, ◌*◌, Bool, true, false, cond, not, ◌&&◌, leb, ltb, eqb, List, ◌++◌}
+use Rattle.std.specs.Prelude.{ℕ, ◌+◌, ◌*◌, Bool, true, false, cond, not, ◌&&◌, leb, ltb, eqb, List, ◌++◌, Option, Some, None, is_some}
 use Rattle.wire.specs.Constants.{NOT_PERMITTED, NOT_TAKEN}
-use Rattle.wire.specs.Answer.{Answer, got, refused, Reader, ruled, and_then, item, bit, bits}
+use Rattle.wire.specs.Answer.{got, refused, Reader, ruled, and_then, item, bit, bits}
 use Rattle.dataset_header.specs.declared.flags.Encoding.{Encoding}
 use Rattle.dataset_header.specs.declared.flags.Kind.{Kind}
 use Rattle.dataset_header.specs.declared.flags.Flags.{Flags}
-use Rattle.dataset_header.specs.declared.flags.FlagsRead.{FlagsRead}
 use Rattle.wire.specs.Number.{le_bytes}
-use Rattle.wire_writer.specs.Writing.{num, needed, byte_bytes, on16, on32, on_i64}
+use Rattle.wire_writer.specs.Writing.{num, needed, byte_bytes}
 use Rattle.dataset_header.specs.declared.header.Header.{Header}
 
 -- "Bits 1-2 encoding: 0 Variant, 1 RawData, 2 DataValue" (3 is refused)
@@ -69,6 +68,11 @@ pub data Valid (A : Type 0) : Type 0 where
   not_valid : Valid A
   valid : A → Valid A
 
+-- what the code answers in its place: none where it is not valid
+abbrev pub validity : {A : Type 0} → Option A → Valid A
+validity None = not_valid
+validity (Some a) = valid a
+
 abbrev pub message_flags_at : Reader (Valid Flags)
 message_flags_at s at =
     and_then (item 1 s at)
@@ -76,11 +80,6 @@ message_flags_at s at =
     cond (eqb (bits 0 1 b) 0) (got not_valid next)
     (cond (eqb (flags1_rule b) 0)
     (and_then (flags2_at b s next) (λ f z. got (valid (message_flags_of b f)) z)) (refused (flags1_rule b) at)))
-
-abbrev pub answer_message_flags : FlagsRead → Answer (Valid Flags)
-answer_message_flags (FlagsRead.NotValid next) = got not_valid next
-answer_message_flags (FlagsRead.Is v next) = got (valid v) next
-answer_message_flags (FlagsRead.Refused n place) = refused n place
 
 -- "encoding: 0 Variant, 1 RawData, 2 DataValue"
 abbrev pub encoding_number : Encoding → ℕ
@@ -97,16 +96,16 @@ kind_number Kind.KeepAlive = 3
 
 -- "Flags2: bits 0-3 kind; bits 4 timestamp, 5 picoseconds"
 abbrev pub flags2_of : Header → ℕ
-flags2_of h = kind_number h.kind + (16 * num (on_i64 h.timestamp) + 32 * num (on16 h.picoseconds))
+flags2_of h = kind_number h.kind + (16 * num (is_some h.timestamp) + 32 * num (is_some h.picoseconds))
 
 -- "the message writer always sets bit 0"; "Bits 1-2 encoding. Bits 3 sequence, 4 status, 5 major, 6 minor, 7 Flags2"
 abbrev pub flags1_of : Header → ℕ
 flags1_of h =
     1 + (2 * encoding_number h.encoding
-    + (8 * num (on16 h.sequence)
-    + (16 * num (on16 h.status)
-    + (32 * num (on32 h.major)
-    + (64 * num (on32 h.minor) + 128 * needed (flags2_of h))))))
+    + (8 * num (is_some h.sequence)
+    + (16 * num (is_some h.status)
+    + (32 * num (is_some h.major)
+    + (64 * num (is_some h.minor) + 128 * needed (flags2_of h))))))
 
 -- Flags2 is left out where it would be 0
 abbrev pub message_flag_bytes : Header → List ℕ

@@ -1,14 +1,11 @@
 -- The header of a DataSetMessage (document 01, "The DataSetMessage").
 use Rattle.std.specs.Prelude.{ℕ, ◌+◌, List, ◌++◌, length}
-use Rattle.wire.specs.Answer.{Answer, got, refused, Reader, pure, and_then, ◌>>=◌}
+use Rattle.wire.specs.Answer.{got, Reader, pure, and_then, ◌>>=◌}
 use Rattle.wire.specs.Optional.{optional16, optional32, optional_i64, picoseconds_at}
 use Rattle.dataset_header.specs.declared.flags.Flags.{Flags}
 use Rattle.dataset_header.specs.declared.header.Header.{Header}
-use Rattle.dataset_header.specs.declared.header.HeaderRead.{HeaderRead}
 use Rattle.dataset_header.specs.declared.header.Times.{Times}
-use Rattle.dataset_header.specs.declared.header.TimesRead.{TimesRead}
 use Rattle.dataset_header.specs.declared.header.Versions.{Versions}
-use Rattle.dataset_header.specs.declared.header.VersionsRead.{VersionsRead}
 use Rattle.dataset_header.specs.Flags.{Valid, not_valid, valid, message_flags_at, message_flag_bytes}
 use Rattle.wire_writer.specs.Writing.{optional16_bytes, optional32_bytes, optional_i64_bytes, picoseconds_held}
 use Rattle.wire_writer.specs.Fits.{Fits16, Fits32, FitsI64}
@@ -54,21 +51,6 @@ after_flags (valid f) s at = message_items_at f s at
 
 abbrev pub message_header_at : Reader (Valid Header)
 message_header_at s at = and_then (message_flags_at s at) (λ f next. after_flags f s next)
-
--- what the answers of the code say
-
-abbrev pub answer_message_times : TimesRead → Answer Times
-answer_message_times (TimesRead.Is v next) = got v next
-answer_message_times (TimesRead.Refused n place) = refused n place
-
-abbrev pub answer_versions : VersionsRead → Answer Versions
-answer_versions (VersionsRead.Is v next) = got v next
-answer_versions (VersionsRead.Refused n place) = refused n place
-
-abbrev pub answer_message_header : HeaderRead → Answer (Valid Header)
-answer_message_header (HeaderRead.NotValid next) = got not_valid next
-answer_message_header (HeaderRead.Is h next) = got (valid h) next
-answer_message_header (HeaderRead.Refused n place) = refused n place
 
 -- "Then sequence 2, timestamp 8, picoseconds 2, status 2, major 4, minor 4, each by its flag"
 abbrev pub times_bytes : Header → List ℕ

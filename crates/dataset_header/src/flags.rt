@@ -1,34 +1,35 @@
 // Flags1 and Flags2 of a DataSetMessage.
 ghost use Rattle.std.specs.Prelude.{◌≡◌, ◌≤◌};
-ghost use Rattle.wire.specs.Items.{answer_byte};
-ghost use Rattle.dataset_header.specs.Flags.{encoding_of, kind_of, flags1_rule, flags2_rule, flags2_at, message_flags_of, message_flags_at, is_delta, is_raw, answer_message_flags, encoding_number, kind_number, flags1_of, flags2_of, message_flag_bytes, kind_rule};
+ghost use Rattle.wire.specs.Answer.{map_answer};
+ghost use Rattle.wire.specs.Refusal.{answer, rule_number};
+ghost use Rattle.dataset_header.specs.Flags.{encoding_of, kind_of, flags1_rule, flags2_rule, flags2_at, message_flags_of, message_flags_at, is_delta, is_raw, validity, encoding_number, kind_number, flags1_of, flags2_of, message_flag_bytes, kind_rule};
 ghost use Rattle.wire_writer.specs.Writing.{Puts};
 
 use crate::header::Header;
-use wire::constants::{CUT_SHORT, NOT_PERMITTED, NOT_TAKEN};
-use wire::{FlagByte, Item8};
-use wire_writer::store::put8;
-use wire_writer::writing::{announced, flag, is_on_i64, is_on16, is_on32, put_flag_byte};
+use wire::item::Item;
+use wire::refusal::{Read, Reason};
+use wire_writer::store::Store;
+use wire_writer::writing::{announced, flag, put_flag_byte};
 
-// How the fields of a message are encoded.
-#[derive(Clone, Copy)]
+// How the fields of a message are encoded, by the number in Flags1.
+#[derive(Clone, Copy, PartialEq, Eq, Debug)]
 pub enum Encoding {
-    Variant,
-    RawData,
-    DataValue,
+    Variant = 0,
+    RawData = 1,
+    DataValue = 2,
 }
 
-// What a message holds: all fields, those that changed, an event, or none.
-#[derive(Clone, Copy)]
+// What a message holds, by the number in Flags2: all fields, those that changed, an event, or none.
+#[derive(Clone, Copy, PartialEq, Eq, Debug)]
 pub enum Kind {
-    Key,
-    Delta,
-    Event,
-    KeepAlive,
+    Key = 0,
+    Delta = 1,
+    Event = 2,
+    KeepAlive = 3,
 }
 
 // What the flag bytes say.
-#[derive(Clone, Copy)]
+#[derive(Clone, Copy, PartialEq, Eq, Debug)]
 pub struct Flags {
     pub encoding: Encoding,
     pub kind: Kind,
@@ -40,111 +41,81 @@ pub struct Flags {
     pub picoseconds: bool,
 }
 
-// The flag bytes with the position after them, a message that is not valid, or a refusal with its number and place.
-#[derive(Clone, Copy)]
-pub enum FlagsRead {
-    NotValid(usize),
-    Is(Flags, usize),
-    Refused(u8, usize),
-}
-
 fn encoding_of(b: u8) -> Encoding
     ensures { result ≡ encoding_of b }
 {
-    let e = (b >> 1) % 4;
-    if e == 0 {
-        return Encoding::Variant;
+    match (b >> 1) % 4 {
+        0 => Encoding::Variant,
+        1 => Encoding::RawData,
+        _ => Encoding::DataValue,
     }
-    if e == 1 {
-        return Encoding::RawData;
-    }
-    Encoding::DataValue
 }
 
 fn kind_of(f: u8) -> Kind
     ensures { result ≡ kind_of f }
 {
-    let k = f % 16;
-    if k == 0 {
-        return Kind::Key;
+    match f % 16 {
+        0 => Kind::Key,
+        1 => Kind::Delta,
+        2 => Kind::Event,
+        _ => Kind::KeepAlive,
     }
-    if k == 1 {
-        return Kind::Delta;
-    }
-    if k == 2 {
-        return Kind::Event;
-    }
-    Kind::KeepAlive
 }
 
 // Whether a message is a delta frame.
 pub fn is_delta(kind: Kind) -> bool
     ensures { result ≡ is_delta kind }
 {
-    match kind {
-        Kind::Key => false,
-        Kind::Delta => true,
-        Kind::Event => false,
-        Kind::KeepAlive => false,
-    }
+    matches!(kind, Kind::Delta)
 }
 
 // Whether fields are RawData.
 pub fn is_raw(encoding: Encoding) -> bool
     ensures { result ≡ is_raw encoding }
 {
-    match encoding {
-        Encoding::Variant => false,
-        Encoding::RawData => true,
-        Encoding::DataValue => false,
-    }
+    matches!(encoding, Encoding::RawData)
 }
 
-fn flags1_rule(b: u8) -> u8
-    ensures { result ≡ flags1_rule b }
+fn flags1_rule(b: u8) -> Result<(), Reason>
+    ensures { rule_number result ≡ flags1_rule b }
 {
     if (b >> 1) % 4 == 3 {
-        return NOT_PERMITTED;
+        return Err(Reason::NotPermitted);
     }
-    0
+    Ok(())
 }
 
-// The number of the rule that Flags2 breaks after Flags1 b, or 0.
-fn flags2_rule(b: u8, f: u8) -> u8
-    ensures { result ≡ flags2_rule b f }
+// The rule that Flags2 breaks after Flags1 b, if any.
+fn flags2_rule(b: u8, f: u8) -> Result<(), Reason>
+    ensures { rule_number result ≡ flags2_rule b f }
 {
     if f == 0 {
-        return NOT_PERMITTED;
+        return Err(Reason::NotPermitted);
     }
     if 4 <= f % 16 {
-        return NOT_PERMITTED;
+        return Err(Reason::NotPermitted);
     }
     if 64 <= f {
-        return NOT_PERMITTED;
+        return Err(Reason::NotPermitted);
     }
     if (f % 16 == 2) & ((b >> 1) % 4 != 0) {
-        return NOT_PERMITTED;
+        return Err(Reason::NotPermitted);
     }
     if (f % 16 == 1) & ((b >> 1) % 4 == 1) {
-        return NOT_TAKEN;
+        return Err(Reason::NotTaken);
     }
-    0
+    Ok(())
 }
 
-fn flags2(s: &[u8], b: u8, at: usize) -> FlagByte
-    ensures { answer_byte result ≡ flags2_at b s.now at }
+fn flags2(s: &[u8], b: u8, at: usize) -> Read<u8>
+    ensures { answer result ≡ flags2_at b s.now at }
 {
     if b < 128 {
-        return FlagByte::Is(0, at);
+        return Ok((0, at));
     }
-    let Item8::Is(f, next) = wire::read8(s, at) else {
-        return FlagByte::Refused(CUT_SHORT, at);
-    };
-    let number = flags2_rule(b, f);
-    if number != 0 {
-        return FlagByte::Refused(number, at);
-    }
-    FlagByte::Is(f, next)
+    let (f, next) = u8::read(s, at)?;
+    flags2_rule(b, f).map_err(|reason| reason.at(at))?;
+    Ok((f, next))
 }
 
 fn flags_of(b: u8, f: u8) -> Flags
@@ -164,72 +135,51 @@ fn flags_of(b: u8, f: u8) -> Flags
     }
 }
 
-// The flag bytes at the start of a message.
-pub fn read_flags(s: &[u8]) -> FlagsRead
-    ensures { answer_message_flags result ≡ message_flags_at s.now 0 }
+// The flag bytes at the start of a message; none of a message that is not valid.
+pub fn read_flags(s: &[u8]) -> Read<Option<Flags>>
+    ensures { map_answer validity (answer result) ≡ message_flags_at s.now 0 }
 {
-    let Item8::Is(b, next) = wire::read8(s, 0) else {
-        return FlagsRead::Refused(CUT_SHORT, 0);
-    };
+    let (b, next) = u8::read(s, 0)?;
     if b % 2 == 0 {
-        return FlagsRead::NotValid(next);
+        return Ok((None, next));
     }
-    let number = flags1_rule(b);
-    if number != 0 {
-        return FlagsRead::Refused(number, 0);
-    }
-    match flags2(s, b, next) {
-        FlagByte::Refused(number, place) => FlagsRead::Refused(number, place),
-        FlagByte::Is(f, next) => FlagsRead::Is(flags_of(b, f), next),
-    }
+    flags1_rule(b).map_err(|reason| reason.at(0))?;
+    let (f, next) = flags2(s, b, next)?;
+    Ok((Some(flags_of(b, f)), next))
 }
 
 // The number of an encoding in Flags1.
 pub fn encoding_number(encoding: Encoding) -> u8
     ensures { (result ≡ encoding_number encoding) × (result ≤ 2) }
 {
-    match encoding {
-        Encoding::Variant => 0,
-        Encoding::RawData => 1,
-        Encoding::DataValue => 2,
-    }
+    encoding as u8
 }
 
 // The number of a kind in Flags2.
 pub fn kind_number(kind: Kind) -> u8
     ensures { (result ≡ kind_number kind) × (result ≤ 3) }
 {
-    match kind {
-        Kind::Key => 0,
-        Kind::Delta => 1,
-        Kind::Event => 2,
-        Kind::KeepAlive => 3,
-    }
+    kind as u8
 }
 
 // Flags2 of a header.
 pub fn flags2_of(header: Header) -> u8
     ensures { result ≡ flags2_of header }
 {
-    let kind = header.kind;
-    let timestamp = header.timestamp;
-    let picoseconds = header.picoseconds;
-    kind_number(kind) + (16 * flag(is_on_i64(timestamp)) + 32 * flag(is_on16(picoseconds)))
+    kind_number(header.kind)
+        + (16 * flag(header.timestamp.is_some()) + 32 * flag(header.picoseconds.is_some()))
 }
 
 fn flags1_of(header: Header, flags2: u8) -> u8
     requires { flags2 ≡ flags2_of header }
     ensures { result ≡ flags1_of header }
 {
-    let encoding = header.encoding;
-    let sequence = header.sequence;
-    let status = header.status;
-    let major = header.major;
-    let minor = header.minor;
-    let versions = 32 * flag(is_on32(major))
-        + (64 * flag(is_on32(minor)) + 128 * announced(flags2));
-    1 + (2 * encoding_number(encoding)
-        + (8 * flag(is_on16(sequence)) + (16 * flag(is_on16(status)) + versions)))
+    let sequence = flag(header.sequence.is_some());
+    let status = flag(header.status.is_some());
+    let major = flag(header.major.is_some());
+    let minor = flag(header.minor.is_some());
+    let versions = 32 * major + (64 * minor + 128 * announced(flags2));
+    1 + (2 * encoding_number(header.encoding) + (8 * sequence + (16 * status + versions)))
 }
 
 // Flags1, and Flags2 where it is not 0.
@@ -238,26 +188,17 @@ pub(crate) fn put_flags(out: &mut [u8], header: Header) -> usize
 {
     let flags2 = flags2_of(header);
     let flags1 = flags1_of(header, flags2);
-    let at = put8(out, 0, flags1);
+    let at = flags1.put(out, 0);
     put_flag_byte(out, at, flags2)
 }
 
-// The number of the rule that a kind breaks in an encoding, or 0.
-pub fn kind_rule(kind: Kind, encoding: Encoding) -> u8
-    ensures { result ≡ kind_rule kind encoding }
+// Refuses a kind in an encoding that it does not come in.
+pub fn kind_rule(kind: Kind, encoding: Encoding) -> Result<(), Reason>
+    ensures { rule_number result ≡ kind_rule kind encoding }
 {
-    match kind {
-        Kind::Key => 0,
-        Kind::Delta => match encoding {
-            Encoding::Variant => 0,
-            Encoding::RawData => NOT_TAKEN,
-            Encoding::DataValue => 0,
-        },
-        Kind::Event => match encoding {
-            Encoding::Variant => 0,
-            Encoding::RawData => NOT_PERMITTED,
-            Encoding::DataValue => NOT_PERMITTED,
-        },
-        Kind::KeepAlive => 0,
+    match (kind, encoding) {
+        (Kind::Delta, Encoding::RawData) => Err(Reason::NotTaken),
+        (Kind::Event, Encoding::RawData | Encoding::DataValue) => Err(Reason::NotPermitted),
+        _ => Ok(()),
     }
 }

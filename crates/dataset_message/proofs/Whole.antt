@@ -8,7 +8,7 @@ use native.Mathlib.Numerals.{add-one}
 use native.Mathlib.Omega.{arith}
 use borrow.Author.Tests.{eqb-true, eq-eqb, ne_eqb, ltb-true, lt-ltb, le-leb, lt-leb}
 use lib.Dec.{leb, ltb, eqb}
-use lib.ListN.{length, length-append, get_or, take, drop}
+use lib.ListN.{length, length-append, length-replicate, get_or, take, drop}
 use lib.Seq.{drop-cons, take_all}
 use Rattle.wire.specs.Lists.{total}
 use Rattle.dataset_header.specs.Flags.{valid, is_delta, is_raw, kind_rule}
@@ -19,7 +19,8 @@ use Rattle.dataset_header.specs.declared.header.Header.{Header}
 use Rattle.wire.specs.Number.{le_bytes}
 use Rattle.wire.proofs.Facts.{and_left, and_right}
 use Rattle.wire_writer.specs.Writing.{or_else, room_refusal, picoseconds_refusal, Puts, Writes, writing}
-use Rattle.wire_writer.specs.declared.writing.Written.{Written}
+use Rattle.std.specs.Prelude.{Result}
+use Rattle.wire.specs.declared.refusal.Reason.{Reason}
 use Rattle.wire_writer.proofs.Putting.{then}
 use Rattle.wire_writer.proofs.Answering.{roomy, reading_accepts}
 use Rattle.wire_writer.proofs.Refusals.{both_zero, held}
@@ -34,7 +35,7 @@ use Rattle.dataset_message.specs.Writer.{GivenMessage, has_fields, is_fielded, i
 use Rattle.dataset_fields.proofs.Judging.{or_assoc, past_end}
 use Rattle.dataset_fields.proofs.Walks.{padding_done}
 use Rattle.dataset_fields.proofs.FieldsTrip.{whole_number}
-use Rattle.dataset_fields.proofs.Laying.{length_zeros, values_whole, delta_length}
+use Rattle.dataset_fields.proofs.Laying.{values_whole, delta_length}
 
 -- refusals in their order
 
@@ -76,28 +77,58 @@ first_given types g =
     (or_else (picoseconds_refusal g.header.picoseconds)
     (or_else (or_else (own_given types g) (cond (whole_given types g) 0 6)) (cond (lists_given g) 0 6)))
 
-pub first_is : (K P F L k p f l x y r : ℕ) → k ≡ K → p ≡ P → f ≡ F → l ≡ L → x ≡ or_else f l → y ≡ or_else p x → r ≡ or_else k y → r ≡ or_else K (or_else P (or_else F L))
-first_is K P F L k p f l x y r ek ep ef el ex ey er =
-    er ∙ ap (λ (n : ℕ). or_else n y) ek
-    ∙ ap (or_else K) (ey ∙ ap (λ (n : ℕ). or_else n x) ep ∙ ap (or_else P) (ex ∙ ap (λ (n : ℕ). or_else n l) ef ∙ ap (or_else F) el))
-
 refusal_is : (types : List ℕ) (g : GivenMessage) → message_refusal types g ≡ or_else (first_given types g) (or_else (layout_given types g) (cond (counts_given types g) 0 6))
 refusal_is types g =
     order_is (kind_rule g.header.kind g.header.encoding) (picoseconds_refusal g.header.picoseconds) (own_given types g) (layout_given types g)
     (whole_given types g) (lists_given g) (counts_given types g)
 
-pub refused_first : (types : List ℕ) (g : GivenMessage) (first : ℕ) → first ≡ first_given types g → (first ≡ 0 → ⊥) → first ≡ message_refusal types g
-refused_first types g first e z =
-    sym (refusal_is types g ∙ ap (λ (n : ℕ). or_else n last) (sym e) ∙ ap (λ (t : Bool). cond t last first) (ne_eqb first 0 z))
-  where
-    last : ℕ
-    last = or_else (layout_given types g) (cond (counts_given types g) 0 6)
+-- rules in their order
+abbrev in_turn : ℕ → ℕ → ℕ → ℕ → ℕ → ℕ → ℕ
+in_turn a b c d e f = or_else a (or_else b (or_else c (or_else d (or_else e f))))
 
-pub refused_last : (types : List ℕ) (g : GivenMessage) (first layout six r : ℕ) → first ≡ first_given types g → first ≡ 0 → layout ≡ layout_given types g
-    → six ≡ cond (counts_given types g) 0 6 → r ≡ or_else layout six → r ≡ message_refusal types g
-refused_last types g first layout six r e z el es er =
-    er ∙ ap (λ (n : ℕ). or_else n six) el ∙ ap (or_else (layout_given types g)) es
-    ∙ sym (refusal_is types g ∙ ap (λ (n : ℕ). or_else n (or_else (layout_given types g) (cond (counts_given types g) 0 6))) (sym e ∙ z))
+turn_third : (a b c d e f : ℕ) {n : ℕ} → 0 ≡ a → 0 ≡ b → n ≡ c → (n ≡ 0 → ⊥) → in_turn a b c d e f ≡ n
+turn_third a b c d e f {n} p q r z = rw (sym p, sym q, sym r, ne_eqb n 0 z)
+
+turn_fourth : (a b c d e f : ℕ) {n : ℕ} → 0 ≡ a → 0 ≡ b → 0 ≡ c → n ≡ d → (n ≡ 0 → ⊥) → in_turn a b c d e f ≡ n
+turn_fourth a b c d e f {n} p q r s z = rw (sym p, sym q, sym r, sym s, ne_eqb n 0 z)
+
+turn_fifth : (a b c d e f : ℕ) {n : ℕ} → 0 ≡ a → 0 ≡ b → 0 ≡ c → 0 ≡ d → n ≡ e → (n ≡ 0 → ⊥) → in_turn a b c d e f ≡ n
+turn_fifth a b c d e f {n} p q r s t z = rw (sym p, sym q, sym r, sym s, sym t, ne_eqb n 0 z)
+
+turn_last : (a b c d e f : ℕ) → 0 ≡ a → 0 ≡ b → 0 ≡ c → 0 ≡ d → 0 ≡ e → in_turn a b c d e f ≡ f
+turn_last a b c d e f p q r s t = rw (sym p, sym q, sym r, sym s, sym t)
+
+-- a message's rules in their order: which of them refuses it
+module _ (types : List ℕ) (g : GivenMessage) (kind : 0 ≡ kind_rule g.header.kind g.header.encoding) (pico : 0 ≡ picoseconds_refusal g.header.picoseconds) where
+  abbrev pub own : ℕ
+  own = or_else (own_given types g) (cond (whole_given types g) 0 6)
+
+  abbrev pub lists : ℕ
+  lists = cond (lists_given g) 0 6
+
+  abbrev pub counts : ℕ
+  counts = cond (counts_given types g) 0 6
+
+  turns : message_refusal types g ≡ in_turn (kind_rule g.header.kind g.header.encoding) (picoseconds_refusal g.header.picoseconds) own lists (layout_given types g) counts
+  turns =
+      refusal_is types g ∙ or_assoc (kind_rule g.header.kind g.header.encoding) (or_else (picoseconds_refusal g.header.picoseconds) (or_else own lists)) rest
+      ∙ ap (or_else (kind_rule g.header.kind g.header.encoding))
+      (or_assoc (picoseconds_refusal g.header.picoseconds) (or_else own lists) rest ∙ ap (or_else (picoseconds_refusal g.header.picoseconds)) (or_assoc own lists rest))
+    where
+      rest : ℕ
+      rest = or_else (layout_given types g) counts
+
+  pub own_refuses : {n : ℕ} → n ≡ own → (n ≡ 0 → ⊥) → message_refusal types g ≡ n
+  own_refuses e z = turns ∙ turn_third _ _ own lists (layout_given types g) counts kind pico e z
+
+  pub lists_refuse : {n : ℕ} → 0 ≡ own → n ≡ lists → (n ≡ 0 → ⊥) → message_refusal types g ≡ n
+  lists_refuse o e z = turns ∙ turn_fourth _ _ own lists (layout_given types g) counts kind pico o e z
+
+  pub layout_refuses : {n : ℕ} → 0 ≡ own → 0 ≡ lists → n ≡ layout_given types g → (n ≡ 0 → ⊥) → message_refusal types g ≡ n
+  layout_refuses o l e z = turns ∙ turn_fifth _ _ own lists (layout_given types g) counts kind pico o l e z
+
+  pub counts_refuse : 0 ≡ own → 0 ≡ lists → 0 ≡ layout_given types g → message_refusal types g ≡ counts
+  counts_refuse o l e = turns ∙ turn_last _ _ own lists (layout_given types g) counts kind pico o l e
 
 pub lists_agree_lem : (delta : Bool) (values lengths indices : List ℕ) → total lengths ≡ length values → length indices ≡ cond delta (length lengths) 0
     → lists_agree delta values lengths indices ≡ true
@@ -253,12 +284,6 @@ total_split zero lengths = omega arith
 total_split (suc n) [] = refl
 total_split (suc n) (x ∷ lengths) = omega (arith, total_split n lengths)
 
-pub total_at_lem : (lengths : List ℕ) (count k at : ℕ) → k ≤ count → count ≤ k → at + total (drop k lengths) ≡ total lengths → at ≡ total (take count lengths)
-total_at_lem lengths count k at l m e =
-    let q : k ≡ count = omega arith in
-    let d : total (drop k lengths) ≡ total (drop count lengths) = ap (λ (n : ℕ). total (drop n lengths)) q in
-    omega (arith, total_split count lengths)
-
 -- its size
 
 no_bool : {A : Type 0} → false ≡ true → A
@@ -287,7 +312,7 @@ size_is types g a =
     size_parts (message_header_bytes g.header) (count_bytes (is_fielded g) (is_raw_data g) (length g.lengths))
     (fields_bytes (is_delta g.header.kind) g.indices (given_fields g)) (zeros g.padding)
     ∙ ap (λ (n : ℕ). length (message_header_bytes g.header) +
-    (length (count_bytes (is_fielded g) (is_raw_data g) (length g.lengths)) + (length (fields_bytes (is_delta g.header.kind) g.indices (given_fields g)) + n))) (length_zeros g.padding)
+    (length (count_bytes (is_fielded g) (is_raw_data g) (length g.lengths)) + (length (fields_bytes (is_delta g.header.kind) g.indices (given_fields g)) + n))) (length-replicate g.padding 0)
     ∙ ap (λ (n : ℕ). length (message_header_bytes g.header) + (n + (length (fields_bytes (is_delta g.header.kind) g.indices (given_fields g)) + g.padding)))
     (count_length (is_fielded g && not (is_raw_data g)) (length g.lengths))
     ∙ go (is_delta g.header.kind) refl
@@ -370,7 +395,7 @@ again_size h fielded r count fields padding size er e =
     bytes : length (parts_again h fielded count fields padding) ≡ size_of_given (length (message_header_bytes h)) (fielded && not (is_raw h.encoding)) false (length fields) 0 padding
     bytes =
         size_parts (message_header_bytes h) (count_bytes fielded (is_raw h.encoding) count) fields (zeros padding)
-        ∙ ap (λ (n : ℕ). length (message_header_bytes h) + (length (count_bytes fielded (is_raw h.encoding) count) + (length fields + n))) (length_zeros padding)
+        ∙ ap (λ (n : ℕ). length (message_header_bytes h) + (length (count_bytes fielded (is_raw h.encoding) count) + (length fields + n))) (length-replicate padding 0)
         ∙ ap (λ (n : ℕ). length (message_header_bytes h) + (n + (length fields + padding))) (count_length (fielded && not (is_raw h.encoding)) count)
         ∙ plain (fielded && not (is_raw h.encoding))
 
@@ -380,7 +405,7 @@ pub again_parts : {entry m₁ m₂ m₃ exit : List ℕ} {n₁ n₂ n₃ next : 
 again_parts {m₁ = m₁} {m₂ = m₂} {n₁ = n₁} {n₂ = n₂} h fielded r count fields padding er a b c z =
     then a (then (subst (λ (x : Bool). Puts (count_bytes fielded x count) m₁ n₁ m₂ n₂) er b) (then c z))
 
-pub rewrite_valid : (types s entry exit : List ℕ) (r : Written) (h : Header) (c : Cursor) (end e size : ℕ) (fielded : Bool) (n : ℕ) (fields : List ℕ) (padding : ℕ)
+pub rewrite_valid : (types s entry exit : List ℕ) (r : Result ℕ Reason) (h : Header) (c : Cursor) (end e size : ℕ) (fielded : Bool) (n : ℕ) (fields : List ℕ) (padding : ℕ)
     → message_at types s ≡ got (valid (record { header = h; cursor = c; end = end })) e → size ≡ length (message_header_bytes h) → fielded ≡ has_fields h.kind (leb (length s) size)
     → n ≡ end - c.at → fields ≡ take n (drop c.at s) → padding ≡ length s - end → Writes (writing (parts_again h fielded c.count fields padding)) entry exit r
     → Writes (message_again types s) entry exit r

@@ -1,13 +1,13 @@
 -- A DataSetMessage whole (document 01, "The DataSetMessage"), and looking a field up ("Values").
-use Rattle.std.specs.Prelude.{ℕ, Bool, true, false, cond, List, [], leb, ltb, eqb, length, take, drop}
+use Rattle.std.specs.Prelude.{ℕ, Bool, true, false, cond, List, [], leb, ltb, eqb, length, take, drop, Result, Ok, Err, Option, Some, None}
 use Rattle.wire.specs.Constants.{CUT_SHORT, DISAGREE, NOT_CONFIGURED, OVER_LIMIT}
 use Rattle.wire.specs.Answer.{Answer, got, refused, Reader, item, and_then}
+use Rattle.wire.specs.Refusal.{reason_number}
+use Rattle.wire.specs.declared.refusal.Refusal.{Refusal}
 use Rattle.dataset_header.specs.declared.flags.Kind.{Kind}
 use Rattle.dataset_header.specs.declared.header.Header.{Header}
 use Rattle.dataset_fields.specs.declared.fields.Field.{Field}
 use Rattle.dataset_fields.specs.declared.fields.Cursor.{Cursor}
-use Rattle.dataset_message.specs.declared.message.MessageRead.{MessageRead}
-use Rattle.dataset_message.specs.declared.message.CountRead.{CountRead}
 use Rattle.dataset_header.specs.Flags.{is_delta, is_raw, Valid, not_valid, valid}
 use Rattle.dataset_header.specs.Header.{message_header_at}
 use Rattle.dataset_fields.specs.Fields.{field_at, fields_at, padding_at}
@@ -113,16 +113,12 @@ abbrev pub field_bytes : Answer Field → List ℕ → List ℕ
 field_bytes (got f next) s = take f.length (drop f.offset s)
 field_bytes (refused n place) s = []
 
--- what the answers of the code say
+-- what the answer of the code says
 
-abbrev pub answer_count : CountRead → Answer ℕ
-answer_count (CountRead.Is n next) = got n next
-answer_count (CountRead.Refused n place) = refused n place
-
-abbrev pub answer_message : MessageRead → Answer (Valid Message)
-answer_message MessageRead.NotValid = got not_valid 0
-answer_message (MessageRead.Is h c end) = got (valid (record { header = h; cursor = c; end = end })) end
-answer_message (MessageRead.Refused n place) = refused n place
+abbrev pub answer_message : Result (Option (Header × Cursor × ℕ)) Refusal → Answer (Valid Message)
+answer_message (Ok None) = got not_valid 0
+answer_message (Ok (Some (h, c, end))) = got (valid (record { header = h; cursor = c; end = end })) end
+answer_message (Err r) = refused (reason_number r.reason) r.place
 
 -- the whole message, or its front alone
 abbrev pub whole_or_front : Bool → Header → Cursor → List ℕ → List ℕ → Answer (Valid Message)

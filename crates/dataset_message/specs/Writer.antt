@@ -1,12 +1,12 @@
 -- A DataSetMessage as it is written: its bytes, and what the writer refuses (document 01, "Numbers given back" and
 -- "The DataSetMessage"; document 02, Req 02).
-use Rattle.std.specs.Prelude.{ℕ, ◌+◌, ◌-◌, Bool, true, false, cond, not, ◌&&◌, ◌||◌, List, [], ◌∷◌, ◌++◌, eqb, leb, ltb, length, take, drop}
+use Rattle.std.specs.Prelude.{ℕ, ◌+◌, ◌-◌, Bool, true, false, cond, not, ◌&&◌, ◌||◌, List, [], ◌∷◌, ◌++◌, eqb, leb, ltb, length, take, drop, Result}
 use Rattle.wire.specs.Lists.{total}
 use Rattle.wire.specs.Constants.{CUT_SHORT, DISAGREE, NOT_CONFIGURED, NOT_TAKEN}
 use Rattle.wire.specs.Number.{le_bytes}
 use Rattle.dataset_header.specs.Flags.{is_delta, is_raw, kind_rule}
 use Rattle.wire_writer.specs.Writing.{or_else, picoseconds_refusal, Output, unless, Writes}
-use Rattle.wire_writer.specs.declared.writing.Written.{Written}
+use Rattle.wire.specs.declared.refusal.Reason.{Reason}
 use Rattle.dataset_header.specs.declared.flags.Encoding.{Encoding}
 use Rattle.dataset_header.specs.declared.flags.Kind.{Kind}
 use Rattle.dataset_header.specs.declared.header.Header.{Header}
@@ -174,5 +174,5 @@ abbrev pub message_output : List ℕ → GivenMessage → Output
 message_output types g = unless (message_refusal types g) (encode g)
 
 -- what the writer promises, of the buffer before and after and its answer: that what it was given fits its types, and what it wrote
-abbrev pub WroteMessage : List ℕ → GivenMessage → List ℕ → List ℕ → Written → Type 0
+abbrev pub WroteMessage : List ℕ → GivenMessage → List ℕ → List ℕ → Result ℕ Reason → Type 0
 WroteMessage types g entry exit r = FitsGiven g × Writes (message_output types g) entry exit r

@@ -2,16 +2,16 @@
 ghost use Rattle.wire_writer.specs.Writing.{Puts, Writes, writing};
 ghost use Rattle.dataset_message.specs.Rewrite.{parts_again, message_again};
 
-use crate::message::{MessageRead, read};
+use crate::message::read;
 use crate::writer_parts::{has_fields, put_count, size};
 use dataset_fields::fields::put_zeros;
 use dataset_header::flags::is_raw;
 use dataset_header::header::{Header, header_size, put_header};
-use wire::constants::DISAGREE;
 use wire::left;
 use wire::part::part;
+use wire::refusal::Reason;
 use wire_writer::store::put_run;
-use wire_writer::writing::{Written, room_refusal};
+use wire_writer::writing::room_rule;
 
 // The parts one after the other: the fields as they stand.
 fn put_again(
@@ -25,9 +25,8 @@ fn put_again(
     ensures { let bytes = parts_again header fielded count fields.now padding in
         Puts bytes out.old 0 out.new result }
 {
-    let encoding = header.encoding;
     let next = put_header(out, header);
-    let next = put_count(out, next, fielded, is_raw(encoding), count);
+    let next = put_count(out, next, fielded, is_raw(header.encoding), count);
     let next = put_run(out, next, fields);
     put_zeros(out, next, padding)
 }
@@ -39,36 +38,28 @@ fn write_again(
     count: usize,
     fields: &[u8],
     padding: usize,
-) -> Written
+) -> Result<usize, Reason>
     ensures { let bytes = parts_again header fielded count fields.now padding in
         Writes (writing bytes) out.old out.new result }
 {
-    let encoding = header.encoding;
-    let counted = fielded & !is_raw(encoding);
+    let counted = fielded & !is_raw(header.encoding);
     let bytes = size(header, counted, false, fields.len(), 0, padding);
-    let full = room_refusal(bytes, out.len());
-    if full != 0 {
-        return Written::Refused(full);
-    }
+    room_rule(bytes, out.len())?;
     put_again(out, header, fielded, count, fields, padding);
-    Written::Is(bytes)
+    Ok(bytes)
 }
 
 // A message that is read is written again from its parts; what reading refuses is refused, and one not valid is 6.
-pub fn rewrite(out: &mut [u8], message: &[u8], types: &[u8]) -> Written
+pub fn rewrite(out: &mut [u8], message: &[u8], types: &[u8]) -> Result<usize, Reason>
     ensures { let again = message_again types.now message.now in
         Writes again out.old out.new result }
 {
-    match read(message, types) {
-        MessageRead::NotValid => Written::Refused(DISAGREE),
-        MessageRead::Refused(number, _) => Written::Refused(number),
-        MessageRead::Is(header, cursor, end) => {
-            let kind = header.kind;
-            let at = cursor.at;
-            let fielded = has_fields(kind, message.len() <= header_size(header));
-            let fields = part(message, at, left(end, at));
-            let padding = left(message.len(), end);
-            write_again(out, header, fielded, cursor.count, fields, padding)
-        }
-    }
+    let parts = read(message, types).map_err(|refusal| refusal.reason)?;
+    let Some((header, cursor, end)) = parts else {
+        return Err(Reason::Disagree);
+    };
+    let fielded = has_fields(header.kind, message.len() <= header_size(header));
+    let fields = part(message, cursor.at, left(end, cursor.at));
+    let padding = left(message.len(), end);
+    write_again(out, header, fielded, cursor.count, fields, padding)
 }

@@ -1,30 +1,23 @@
 // A DataSetMessage written whole.
-ghost use Rattle.std.specs.Prelude.{◌≡◌, cond, ◌≤◌, length, take, drop};
-ghost use Rattle.wire.specs.Lists.{total};
+ghost use Rattle.std.specs.Prelude.{◌≡◌, cond};
 ghost use Rattle.wire.specs.Constants.{DISAGREE};
+ghost use Rattle.wire.specs.Refusal.{rule_number};
 ghost use Rattle.wire_writer.specs.Writing.{or_else, Puts};
-ghost use Rattle.dataset_fields.specs.Fields.{values_of, fields_bytes};
-ghost use Rattle.dataset_message.specs.Writer.{given_message, is_key, own_refusal, each_whole, lists_agree, missing_refusal, left_refusal, raw_refusal, layout_refusal, count_agrees, counts_agree, encode, message_refusal, WroteMessage};
+ghost use Rattle.dataset_fields.specs.Fields.{values_of};
+ghost use Rattle.dataset_message.specs.Writer.{given_message, is_key, own_refusal, each_whole, lists_agree, count_agrees, counts_agree, encode, message_refusal, WroteMessage};
 
+use crate::given::Fields;
 use crate::writer_parts::{has_fields, put_count, size};
-use dataset_fields::fields::{add_up, judge_fields, put_delta, put_zeros};
+use dataset_fields::fields::{add_up, judge_fields, put_zeros};
 use dataset_header::flags::{Encoding, Kind, is_delta, is_raw, kind_rule};
 use dataset_header::header::{Header, put_header};
-use plain_value::width::width;
-use wire::Reached;
-use wire::constants::{CUT_SHORT, NOT_CONFIGURED, NOT_TAKEN};
-use wire_writer::store::put_run;
-use wire_writer::writing::{Written, or_else, picoseconds_refusal, room_refusal, six_unless};
+use wire::refusal::Reason;
+use wire_writer::writing::{agreement_rule, optional_picoseconds_rule, room_rule};
 
 fn is_key(kind: Kind) -> bool
     ensures { result ≡ is_key kind }
 {
-    match kind {
-        Kind::Key => true,
-        Kind::Delta => false,
-        Kind::Event => false,
-        Kind::KeepAlive => false,
-    }
+    matches!(kind, Kind::Key)
 }
 
 // The first number by which a field is refused alone; then 6 where bytes stand behind a field's value.
@@ -34,15 +27,15 @@ fn own_refusal(
     lengths: &[usize],
     encoding: Encoding,
     types: &[u8],
-) -> u8
+) -> Result<(), Reason>
     ensures { let fields = values_of lengths.now values.now in
         let whole = each_whole fielded encoding types.now fields in
-        result ≡ or_else (own_refusal fielded encoding types.now fields) (cond whole 0 DISAGREE) }
+        rule_number result ≡ or_else (own_refusal fielded encoding types.now fields) (cond whole 0 DISAGREE) }
 {
     if fielded {
         return judge_fields(values, lengths, encoding, types);
     }
-    0
+    Ok(())
 }
 
 fn lists_agree(delta: bool, values: &[u8], lengths: &[usize], indices: &[u16]) -> bool
@@ -53,93 +46,6 @@ fn lists_agree(delta: bool, values: &[u8], lengths: &[usize], indices: &[u16]) -
         return up & (indices.len() == lengths.len());
     }
     up & (indices.len() == 0)
-}
-
-// What reading refuses of the configured fields from field n on, in so many bytes of padding.
-fn missing(types: &[u8], n: usize, padding: usize) -> u8
-    ensures { result ≡ missing_refusal (drop n types.now) padding }
-{
-    let mut left = padding;
-    let mut k = n;
-    while k < types.len() {
-        let w = width(types[k]);
-        if w == 0 {
-            return NOT_TAKEN;
-        }
-        if left < w {
-            return CUT_SHORT;
-        }
-        left = left - w;
-        k = k + 1;
-    }
-    0
-}
-
-// 7 where one of the bytes from a position on is not 0.
-fn left_over(values: &[u8], at: usize) -> u8
-    ensures { result ≡ left_refusal values.now at }
-{
-    match dataset_fields::fields::padding(values, at) {
-        Reached::To(_) => 0,
-        Reached::Refused(number, _) => number,
-    }
-}
-
-// Where the first count fields end.
-fn end_of(values: &[u8], lengths: &[usize], count: usize) -> usize
-    requires { (total lengths.now ≡ length values.now) × (count ≤ length lengths.now) }
-    ensures { result ≡ total (take count lengths.now) }
-{
-    let mut at = 0;
-    let mut k = 0;
-    while k < count {
-        at = at + lengths[k];
-        k = k + 1;
-    }
-    at
-}
-
-// What reading refuses after the header of RawData, where each field given is whole: 8 where nothing is configured, what it finds in the
-// padding for fields that are missing, 7 for bytes past the configured fields.
-fn raw_refusal(values: &[u8], lengths: &[usize], types: &[u8], padding: usize) -> u8
-    requires { total lengths.now ≡ length values.now }
-    ensures { result ≡ raw_refusal types.now values.now lengths.now padding }
-{
-    if (values.len() == 0) & (padding == 0) {
-        return 0;
-    }
-    if types.len() == 0 {
-        return NOT_CONFIGURED;
-    }
-    if lengths.len() <= types.len() {
-        return missing(types, lengths.len(), padding);
-    }
-    left_over(values, end_of(values, lengths, types.len()))
-}
-
-// The same after any header.
-fn layout_refusal(
-    fielded: bool,
-    raw: bool,
-    key: bool,
-    values: &[u8],
-    lengths: &[usize],
-    types: &[u8],
-    padding: usize,
-) -> u8
-    requires { total lengths.now ≡ length values.now }
-    ensures { result ≡ layout_refusal fielded raw key types.now values.now lengths.now padding }
-{
-    if fielded {
-        if raw {
-            return raw_refusal(values, lengths, types, padding);
-        }
-        return 0;
-    }
-    if key {
-        return 0;
-    }
-    left_over(values, 0)
 }
 
 fn count_agrees(raw: bool, configured: usize, n: usize) -> bool
@@ -167,7 +73,7 @@ fn counts_agree(
     (n == 0) & (!key | (padding == 0))
 }
 
-// The number by which `write` refuses these parts before it looks at the room, or 0. What is read of the fields' layout is judged last:
+// The rule by which `write` refuses these parts before it looks at the room, if any. What is read of the fields' layout is judged last:
 // where each is whole and the lists agree.
 pub fn refusal(
     header: Header,
@@ -177,71 +83,42 @@ pub fn refusal(
     indices: &[u16],
     types: &[u8],
     padding: usize,
-) -> u8
+) -> Result<(), Reason>
     ensures { let g = given_message header heartbeat values.now lengths.now indices.now padding in
-        result ≡ message_refusal types.now g }
+        rule_number result ≡ message_refusal types.now g }
 {
-    let kind = header.kind;
-    let encoding = header.encoding;
-    let picoseconds = header.picoseconds;
-    let fielded = has_fields(kind, heartbeat);
-    let flags = kind_rule(kind, encoding);
-    let times = picoseconds_refusal(picoseconds);
-    let fields = own_refusal(fielded, values, lengths, encoding, types);
-    let lists = six_unless(lists_agree(is_delta(kind), values, lengths, indices));
-    let first = or_else(flags, or_else(times, or_else(fields, lists)));
-    if first != 0 {
-        return first;
-    }
-    let raw = is_raw(encoding);
-    let key = is_key(kind);
-    let layout = layout_refusal(fielded, raw, key, values, lengths, types, padding);
-    let agrees = counts_agree(fielded, raw, key, types.len(), lengths.len(), padding);
-    or_else(layout, six_unless(agrees))
-}
-
-fn put_fields(
-    out: &mut [u8],
-    at: usize,
-    delta: bool,
-    values: &[u8],
-    lengths: &[usize],
-    indices: &[u16],
-) -> usize
-    requires { total lengths.now ≡ length values.now }
-    ensures { let fields = values_of lengths.now values.now in
-        Puts (fields_bytes delta indices.now fields) out.old at out.new result }
-{
-    if delta {
-        return put_delta(out, at, values, lengths, indices);
-    }
-    put_run(out, at, values)
+    let fielded = has_fields(header.kind, heartbeat);
+    let raw = is_raw(header.encoding);
+    let key = is_key(header.kind);
+    kind_rule(header.kind, header.encoding)?;
+    optional_picoseconds_rule(header.picoseconds)?;
+    own_refusal(fielded, values, lengths, header.encoding, types)?;
+    agreement_rule(lists_agree(is_delta(header.kind), values, lengths, indices))?;
+    let fields = Fields { values, lengths };
+    fields.layout_refusal(fielded, raw, key, types, padding)?;
+    agreement_rule(counts_agree(fielded, raw, key, types.len(), lengths.len(), padding))
 }
 
 fn put_message(
     out: &mut [u8],
     header: Header,
     heartbeat: bool,
-    values: &[u8],
-    lengths: &[usize],
+    fields: Fields,
     indices: &[u16],
     padding: usize,
 ) -> usize
-    requires { total lengths.now ≡ length values.now }
-    ensures { let g = given_message header heartbeat values.now lengths.now indices.now padding in
+    ensures { let g = given_message header heartbeat fields.entry.values.now fields.entry.lengths.now indices.now padding in
         Puts (encode g) out.old 0 out.new result }
 {
-    let kind = header.kind;
-    let encoding = header.encoding;
     let next = put_header(out, header);
     let next = put_count(
         out,
         next,
-        has_fields(kind, heartbeat),
-        is_raw(encoding),
-        lengths.len(),
+        has_fields(header.kind, heartbeat),
+        is_raw(header.encoding),
+        fields.lengths.len(),
     );
-    let next = put_fields(out, next, is_delta(kind), values, lengths, indices);
+    let next = fields.put(out, next, is_delta(header.kind), indices);
     put_zeros(out, next, padding)
 }
 
@@ -256,29 +133,22 @@ pub fn write(
     indices: &[u16],
     types: &[u8],
     padding: usize,
-) -> Written
+) -> Result<usize, Reason>
     ensures { let g = given_message header heartbeat values.now lengths.now indices.now padding in
         WroteMessage types.now g out.old out.new result }
 {
-    let number = refusal(header, heartbeat, values, lengths, indices, types, padding);
-    if number != 0 {
-        return Written::Refused(number);
-    }
-    let kind = header.kind;
-    let encoding = header.encoding;
-    let counted = has_fields(kind, heartbeat) & !is_raw(encoding);
+    refusal(header, heartbeat, values, lengths, indices, types, padding)?;
+    let counted = has_fields(header.kind, heartbeat) & !is_raw(header.encoding);
     let bytes = size(
         header,
         counted,
-        is_delta(kind),
+        is_delta(header.kind),
         values.len(),
         lengths.len(),
         padding,
     );
-    let full = room_refusal(bytes, out.len());
-    if full != 0 {
-        return Written::Refused(full);
-    }
-    put_message(out, header, heartbeat, values, lengths, indices, padding);
-    Written::Is(bytes)
+    room_rule(bytes, out.len())?;
+    let fields = Fields { values, lengths };
+    put_message(out, header, heartbeat, fields, indices, padding);
+    Ok(bytes)
 }

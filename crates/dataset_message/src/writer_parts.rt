@@ -6,7 +6,7 @@ ghost use Rattle.dataset_message.specs.Writer.{has_fields, count_bytes, size_of_
 
 use dataset_header::flags::Kind;
 use dataset_header::header::{Header, header_size};
-use wire_writer::store::put16;
+use wire_writer::store::Store;
 
 // Whether something follows the header of a message of this kind.
 pub fn has_fields(kind: Kind, heartbeat: bool) -> bool
@@ -24,13 +24,7 @@ pub fn has_fields(kind: Kind, heartbeat: bool) -> bool
 fn plus(a: usize, b: usize) -> usize
     ensures { result ≡ limited (a + b) }
 {
-    if 65536 <= a {
-        return 65536;
-    }
-    if 65536 - a <= b {
-        return 65536;
-    }
-    a + b
+    a.saturating_add(b).min(65536)
 }
 
 // How many bytes the message takes, at most 65,536.
@@ -60,7 +54,7 @@ pub fn put_count(out: &mut [u8], at: usize, fielded: bool, raw: bool, n: usize) 
     ensures { Puts (count_bytes fielded raw n) out.old at out.new result }
 {
     if fielded & !raw {
-        return put16(out, at, (n % 65536) as u16);
+        return ((n % 65536) as u16).put(out, at);
     }
     at
 }

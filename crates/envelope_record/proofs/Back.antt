@@ -1,6 +1,7 @@
 -- An envelope record that was stored is read back: the envelope, the PayloadHeader's end, the payload and the cursor before its first message.
 -- A message cursor that is stored is read back, and every other part stays.
 -- Assumes nothing.
+use Rattle.std.specs.Prelude.{Option, Some, None}
 use Prim.Native.Nat.{ℕ, ◌+◌, ◌*◌, ◌^◌, ◌≤◌, ◌<◌}
 use mathlib.Core.Path.{◌≡◌, refl, ap, sym, ◌∙◌}
 use mathlib.Core.Bool.{Bool, true, false, cond, ◌&&◌}
@@ -17,20 +18,18 @@ use Rattle.wire_writer.proofs.Trip.{At}
 use Rattle.network_header.specs.Group.{FitsFields, FitsGroup}
 use Rattle.network_header.specs.Header.{FitsClass}
 use Rattle.network_header.specs.declared.envelope.Envelope.{Envelope}
+use Rattle.wire.specs.declared.Guid.{Guid}
 use Rattle.network_header.specs.declared.group.GroupFields.{GroupFields}
-use Rattle.network_header.specs.declared.group.GroupHeader.{GroupHeader}
-use Rattle.network_header.specs.declared.header.ClassId.{ClassId}
 use Rattle.network_header.specs.declared.header.PayloadHeader.{PayloadHeader}
-use Rattle.network_header.specs.declared.header.Promoted.{Promoted}
 use Rattle.network_message.specs.Envelope.{NetworkMessage}
 use Rattle.network_message.specs.declared.payload.Sizes.{Sizes}
 use Rattle.network_message.specs.declared.payload.MessageCursor.{MessageCursor}
 use Rattle.records.specs.Numbers.{number_at, number_bytes}
-use Rattle.records.specs.Items.{has16, value16, has32, value32, given16, given32, given_i64, fits_item, is_on}
+use Rattle.records.specs.Items.{has_item, item_value, given16, given32, given_i64, fits_item, is_on}
 use Rattle.records.specs.Publisher.{publisher_given, publisher_number_fits}
 use Rattle.records.proofs.Storing.{bytes_length}
-use Rattle.records.proofs.ReadBack.{AllFit, number_read, stored_at, number_laid, number_kept, laid_length, publisher_given_back, publisher_number_fits_lem, number_fits, code_fits, flag_fits, at_most_same, given16_back, given32_back, given_i64_back, fits16_back, fits32_back, told16, told32, is_on16, is_on_i64, is_on_flag, has16_bound, has32_bound, has_i64_bound, value16_bound, value32_bound, value_i64_bound}
-use Rattle.envelope_record.specs.Envelope.{has_class, class_low, class_high, group_items, group_writer, group_version, group_number, group_sequence, header_code, header_number, has_promoted, promoted_size, sizes_code, sizes_place, envelope_numbers, sizes_by, payload_in, messages_in, messages_laid, class_in, group_in, payload_header_by, payload_header_in, payload_header_end, promoted_in, envelope_in, group_fits, header_fits, envelope_fits, FitsEnvelopeRecord, count_fits, EnvelopeBack}
+use Rattle.records.proofs.ReadBack.{AllFit, number_read, stored_at, number_laid, number_kept, laid_length, publisher_given_back, publisher_number_fits_lem, number_fits, code_fits, flag_fits, at_most_same, given16_back, given32_back, given_i64_back, fits16_back, fits32_back, told, is_on_has, is_on_flag, has_bound, value16_bound, value32_bound, value_i64_bound}
+use Rattle.envelope_record.specs.Envelope.{class_low, class_high, group_items, group_writer, group_version, group_number, group_sequence, header_code, header_number, sizes_code, sizes_place, envelope_numbers, sizes_by, payload_in, messages_in, messages_laid, class_in, group_in, payload_header_by, payload_header_in, payload_header_end, promoted_in, envelope_in, group_fits, header_fits, envelope_fits, FitsEnvelopeRecord, count_fits, EnvelopeBack}
 
 -- two or three arguments that are the same
 both : {A B D : Type 0} (g : A → B → D) {a x : A} {b y : B} → a ≡ x → b ≡ y → g a b ≡ g x y
@@ -41,21 +40,21 @@ three g p q r z = g (p z) (q z) (r z)
 
 -- ---- each part, from its numbers
 
-class_back : (x : ClassId) → class_in (has_class x) (class_low x) (class_high x) ≡ x
-class_back ClassId.Absent = refl
-class_back (ClassId.Is v) = refl
+class_back : (x : Option Guid) → class_in (has_item x) (class_low x) (class_high x) ≡ x
+class_back None = refl
+class_back (Some v) = refl
 
-class_low_fits : (x : ClassId) → FitsClass x → class_low x < 256 ^ 8
-class_low_fits ClassId.Absent f = omega arith
-class_low_fits (ClassId.Is v) f = f.0
+class_low_fits : (x : Option Guid) → FitsClass x → class_low x < 256 ^ 8
+class_low_fits None f = omega arith
+class_low_fits (Some v) f = f.0
 
-class_high_fits : (x : ClassId) → FitsClass x → class_high x < 256 ^ 8
-class_high_fits ClassId.Absent f = omega arith
-class_high_fits (ClassId.Is v) f = f.1
+class_high_fits : (x : Option Guid) → FitsClass x → class_high x < 256 ^ 8
+class_high_fits None f = omega arith
+class_high_fits (Some v) f = f.1
 
-has_class_bound : (x : ClassId) → has_class x < 256 ^ 8
-has_class_bound ClassId.Absent = omega arith
-has_class_bound (ClassId.Is v) = omega arith
+has_class_bound : (x : Option Guid) → has_item x < 256 ^ 8
+has_class_bound None = omega arith
+has_class_bound (Some v) = omega arith
 
 header_back : (x : PayloadHeader) → header_number x < 65536 → payload_header_by (header_code x) (header_number x) ≡ x
 header_back PayloadHeader.Absent f = refl
@@ -79,13 +78,13 @@ header_code_fits (PayloadHeader.Ids n) = omega arith
 header_code_fits (PayloadHeader.Chunk w) = omega arith
 header_code_fits PayloadHeader.Probe = omega arith
 
-promoted_back : (x : Promoted) → promoted_in (has_promoted x) (promoted_size x) ≡ x
-promoted_back Promoted.Absent = refl
-promoted_back (Promoted.Size n) = refl
+promoted_back : (x : Option ℕ) → promoted_in (has_item x) (item_value x) ≡ x
+promoted_back None = refl
+promoted_back (Some n) = refl
 
-has_promoted_fits : (x : Promoted) → has_promoted x < 256 ^ 8
-has_promoted_fits Promoted.Absent = omega arith
-has_promoted_fits (Promoted.Size n) = omega arith
+has_promoted_fits : (x : Option ℕ) → has_item x < 256 ^ 8
+has_promoted_fits None = omega arith
+has_promoted_fits (Some n) = omega arith
 
 sizes_back : (x : Sizes) → sizes_by (sizes_code x) (sizes_place x) ≡ x
 sizes_back Sizes.Rest = refl
@@ -98,46 +97,46 @@ sizes_code_fits (Sizes.Listed p) = omega arith
 sizes_code_fits Sizes.Configured = omega arith
 
 -- ---- the group header
-group_items_fits : (x : GroupHeader) → group_items x < 256 ^ 8
-group_items_fits GroupHeader.Absent = omega arith
-group_items_fits (GroupHeader.Is g) = omega (arith, has16_bound g.writer_group, has32_bound g.version, has16_bound g.number, has16_bound g.sequence)
+group_items_fits : (x : Option GroupFields) → group_items x < 256 ^ 8
+group_items_fits None = omega arith
+group_items_fits (Some g) = omega (arith, has_bound g.writer_group, has_bound g.version, has_bound g.number, has_bound g.sequence)
 
-group_writer_fits : (x : GroupHeader) → FitsGroup x → group_writer x < 256 ^ 8
-group_writer_fits GroupHeader.Absent f = omega arith
-group_writer_fits (GroupHeader.Is g) f = omega (arith, value16_bound g.writer_group f.0)
+group_writer_fits : (x : Option GroupFields) → FitsGroup x → group_writer x < 256 ^ 8
+group_writer_fits None f = omega arith
+group_writer_fits (Some g) f = omega (arith, value16_bound g.writer_group f.0)
 
-group_version_fits : (x : GroupHeader) → FitsGroup x → group_version x < 256 ^ 8
-group_version_fits GroupHeader.Absent f = omega arith
-group_version_fits (GroupHeader.Is g) f = omega (arith, value32_bound g.version f.1)
+group_version_fits : (x : Option GroupFields) → FitsGroup x → group_version x < 256 ^ 8
+group_version_fits None f = omega arith
+group_version_fits (Some g) f = omega (arith, value32_bound g.version f.1)
 
-group_number_fits : (x : GroupHeader) → FitsGroup x → group_number x < 256 ^ 8
-group_number_fits GroupHeader.Absent f = omega arith
-group_number_fits (GroupHeader.Is g) f = omega (arith, value16_bound g.number f.2)
+group_number_fits : (x : Option GroupFields) → FitsGroup x → group_number x < 256 ^ 8
+group_number_fits None f = omega arith
+group_number_fits (Some g) f = omega (arith, value16_bound g.number f.2)
 
-group_sequence_fits : (x : GroupHeader) → FitsGroup x → group_sequence x < 256 ^ 8
-group_sequence_fits GroupHeader.Absent f = omega arith
-group_sequence_fits (GroupHeader.Is g) f = omega (arith, value16_bound g.sequence f.3)
+group_sequence_fits : (x : Option GroupFields) → FitsGroup x → group_sequence x < 256 ^ 8
+group_sequence_fits None f = omega arith
+group_sequence_fits (Some g) f = omega (arith, value16_bound g.sequence f.3)
 
 -- what is read of a group header, and that its numbers fit
-abbrev GroupBack : List ℕ → GroupHeader → Type 0
+abbrev GroupBack : List ℕ → Option GroupFields → Type 0
 GroupBack s x = (group_in s (number_at s 6) ≡ x) × (group_fits s (number_at s 6) ≡ true)
 
-module _ (s : List ℕ) (g : GroupFields) (f : FitsFields g) (e₆ : number_at s 6 ≡ group_items (GroupHeader.Is g)) where
+module _ (s : List ℕ) (g : GroupFields) (f : FitsFields g) (e₆ : number_at s 6 ≡ group_items (Some g)) where
   -- a bit of the items that are present
-  item_bit : (k x : ℕ) (on : Bool) → bits k 1 (group_items (GroupHeader.Is g)) ≡ x → eqb x 1 ≡ on → bit k (number_at s 6) ≡ on
+  item_bit : (k x : ℕ) (on : Bool) → bits k 1 (group_items (Some g)) ≡ x → eqb x 1 ≡ on → bit k (number_at s 6) ≡ on
   item_bit k x on e t = ap (bit k) e₆ ∙ ap (λ (n : ℕ). eqb n 1) e ∙ t
 
-  fields_back : number_at s 7 ≡ value16 g.writer_group → number_at s 8 ≡ value32 g.version → number_at s 9 ≡ value16 g.number
-      → number_at s 10 ≡ value16 g.sequence → GroupBack s (GroupHeader.Is g)
+  fields_back : number_at s 7 ≡ item_value g.writer_group → number_at s 8 ≡ item_value g.version → number_at s 9 ≡ item_value g.number
+      → number_at s 10 ≡ item_value g.sequence → GroupBack s (Some g)
   fields_back e₇ e₈ e₉ e₁₀ =
-      let w = has16_bound g.writer_group in
-      let v = has32_bound g.version in
-      let n = has16_bound g.number in
-      let q = has16_bound g.sequence in
-      let b₀ = item_bit 0 (has16 g.writer_group) _ (omega (arith, w, v, n, q)) (told16 g.writer_group) in
-      let b₁ = item_bit 1 (has32 g.version) _ (omega (arith, w, v, n, q)) (told32 g.version) in
-      let b₂ = item_bit 2 (has16 g.number) _ (omega (arith, w, v, n, q)) (told16 g.number) in
-      let b₃ = item_bit 3 (has16 g.sequence) _ (omega (arith, w, v, n, q)) (told16 g.sequence) in
+      let w = has_bound g.writer_group in
+      let v = has_bound g.version in
+      let n = has_bound g.number in
+      let q = has_bound g.sequence in
+      let b₀ = item_bit 0 (has_item g.writer_group) _ (omega (arith, w, v, n, q)) (told g.writer_group) in
+      let b₁ = item_bit 1 (has_item g.version) _ (omega (arith, w, v, n, q)) (told g.version) in
+      let b₂ = item_bit 2 (has_item g.number) _ (omega (arith, w, v, n, q)) (told g.number) in
+      let b₃ = item_bit 3 (has_item g.sequence) _ (omega (arith, w, v, n, q)) (told g.sequence) in
       let z : eqb (number_at s 6) 0 ≡ false = ne_eqb (number_at s 6) 0 (λ h. omega (arith, e₆)) in
       let h₀ = both given16 b₀ e₇ ∙ given16_back g.writer_group f.0 in
       let h₁ = both given32 b₁ e₈ ∙ given32_back g.version f.1 in
@@ -147,12 +146,12 @@ module _ (s : List ℕ) (g : GroupFields) (f : FitsFields g) (e₆ : number_at s
       let f₁ = both (λ (b : Bool) (x : ℕ). fits_item b 4294967295 x) b₁ e₈ ∙ fits32_back g.version f.1 in
       let f₂ = both (λ (b : Bool) (x : ℕ). fits_item b 65535 x) b₂ e₉ ∙ fits16_back g.number f.2 in
       let f₃ = both (λ (b : Bool) (x : ℕ). fits_item b 65535 x) b₃ e₁₀ ∙ fits16_back g.sequence f.3 in
-      (rw z (λ i. GroupHeader.Is (record { writer_group = h₀ i; version = h₁ i; number = h₂ i; sequence = h₃ i })), rw (f₀, f₁, f₂, f₃) refl)
+      (rw z (λ i. Some (record { writer_group = h₀ i; version = h₁ i; number = h₂ i; sequence = h₃ i })), rw (f₀, f₁, f₂, f₃) refl)
 
-group_back : (s : List ℕ) (x : GroupHeader) → FitsGroup x → number_at s 6 ≡ group_items x → number_at s 7 ≡ group_writer x → number_at s 8 ≡ group_version x
+group_back : (s : List ℕ) (x : Option GroupFields) → FitsGroup x → number_at s 6 ≡ group_items x → number_at s 7 ≡ group_writer x → number_at s 8 ≡ group_version x
     → number_at s 9 ≡ group_number x → number_at s 10 ≡ group_sequence x → GroupBack s x
-group_back s GroupHeader.Absent f e₆ e₇ e₈ e₉ e₁₀ = (ap (group_in s) e₆, ap (group_fits s) e₆)
-group_back s (GroupHeader.Is g) f e₆ e₇ e₈ e₉ e₁₀ = fields_back s g f e₆ e₇ e₈ e₉ e₁₀
+group_back s None f e₆ e₇ e₈ e₉ e₁₀ = (ap (group_in s) e₆, ap (group_fits s) e₆)
+group_back s (Some g) f e₆ e₇ e₈ e₉ e₁₀ = fields_back s g f e₆ e₇ e₈ e₉ e₁₀
 
 -- ---- the record whole
 module _ (m : NetworkMessage) (r : List ℕ) (f : FitsEnvelopeRecord m) (h : 256 ≤ length r) where
@@ -203,11 +202,11 @@ module _ (m : NetworkMessage) (r : List ℕ) (f : FitsEnvelopeRecord m) (h : 256
                               (
                                 f.header_end,
                                 (
-                                  omega (arith, has_i64_bound x.timestamp),
+                                  omega (arith, has_bound x.timestamp),
                                   (
                                     value_i64_bound x.timestamp f.envelope.timestamp,
                                     (
-                                      omega (arith, has16_bound x.picoseconds),
+                                      omega (arith, has_bound x.picoseconds),
                                       (
                                         omega (arith, value16_bound x.picoseconds f.envelope.picoseconds),
                                         (
@@ -282,8 +281,8 @@ module _ (m : NetworkMessage) (r : List ℕ) (f : FitsEnvelopeRecord m) (h : 256
       let k = ap is_on (read 11 (omega arith)) ∙ is_on_flag x.chunk in
       let d = both payload_header_by (read 12 (omega arith)) (read 13 (omega arith)) ∙ header_back x.payload_header f.header in
       let df = both header_fits (read 12 (omega arith)) (read 13 (omega arith)) ∙ header_fitting x.payload_header f.header in
-      let t = both given_i64 (ap is_on (read 15 (omega arith)) ∙ is_on_i64 x.timestamp) (read 16 (omega arith)) ∙ given_i64_back x.timestamp f.envelope.timestamp in
-      let on = ap is_on (read 17 (omega arith)) ∙ is_on16 x.picoseconds in
+      let t = both given_i64 (ap is_on (read 15 (omega arith)) ∙ is_on_has x.timestamp) (read 16 (omega arith)) ∙ given_i64_back x.timestamp f.envelope.timestamp in
+      let on = ap is_on (read 17 (omega arith)) ∙ is_on_has x.picoseconds in
       let o = both given16 on (read 18 (omega arith)) ∙ given16_back x.picoseconds f.envelope.picoseconds in
       let ok = both (λ (b : Bool) (v : ℕ). fits_item b 65535 v) on (read 18 (omega arith)) ∙ fits16_back x.picoseconds f.envelope.picoseconds in
       let q = both promoted_in (read 19 (omega arith)) (read 20 (omega arith)) ∙ promoted_back x.promoted in
@@ -358,8 +357,8 @@ module _ (c : MessageCursor) (r : List ℕ) (h : 256 ≤ length r) where
               publisher = publisher_given (k0 i) (k1 i);
               class_id = class_in (k3 i) (k4 i) (k5 i);
               group =
-                  cond (eqb (k6 i) 0) GroupHeader.Absent
-                  (GroupHeader.Is
+                  cond (eqb (k6 i) 0) None
+                  (Some
                   (record {
                     writer_group = given16 (bit 0 (k6 i)) (k7 i);
                     version = given32 (bit 1 (k6 i)) (k8 i);

@@ -1,10 +1,13 @@
 -- What the code's types say of an envelope with its places and its payload: each number fits the record's.
 -- Assumes nothing.
-use Prim.Native.Nat.{◌^◌, ◌<◌}
+use Rattle.std.specs.Prelude.{Option, Some, None}
+use Prim.Native.Nat.{ℕ, ◌^◌, ◌<◌}
 use mathlib.Core.List.{List}
 use native.Mathlib.Omega.{arith}
 use mir.Val.{Val}
 use denote.Laws.{Is}
+use denote.Builtin as builtin
+use Rattle.std.specs.contracts.option.Option as option
 use denote.Enum.Declared as enum
 use denote.Struct.Declared as struct
 use denote.Enum.Laws as enumLaws
@@ -13,9 +16,6 @@ use Rattle.network_header.proofs.Fitting.{fits_envelope}
 use Rattle.network_header.specs.contracts.header.PayloadHeader as payload_header
 use Rattle.network_header.proofs.header.PayloadHeader.TheLaws as payloadHeaderLaws
 use Rattle.network_header.specs.declared.header.PayloadHeader.{PayloadHeader}
-use Rattle.network_header.specs.contracts.header.Promoted as promoted
-use Rattle.network_header.proofs.header.Promoted.TheLaws as promotedLaws
-use Rattle.network_header.specs.declared.header.Promoted.{Promoted}
 use Rattle.network_header.specs.contracts.envelope.Envelope as envelope
 use Rattle.network_header.proofs.envelope.Envelope.TheLaws as envelopeLaws
 use Rattle.network_header.specs.declared.envelope.Envelope.{Envelope}
@@ -29,7 +29,8 @@ use Rattle.network_message.specs.contracts.payload.Payload as payload
 use Rattle.network_message.proofs.payload.Payload.TheLaws as payloadLaws
 use Rattle.network_message.specs.declared.payload.Payload.{Payload}
 use Rattle.records.proofs.Fitting.{fits_id}
-use Rattle.envelope_record.specs.Envelope.{header_number, promoted_size, sizes_place, FitsEnvelopeRecord}
+use Rattle.records.specs.Items.{item_value}
+use Rattle.envelope_record.specs.Envelope.{header_number, sizes_place, FitsEnvelopeRecord}
 
 fits_header : (x : PayloadHeader) (vs : List Val) → Is (enum.row payload_header.the_type) x vs → header_number x < 65536
 fits_header PayloadHeader.Absent vs h = omega arith
@@ -37,9 +38,9 @@ fits_header (PayloadHeader.Ids n) vs h = omega (arith, (enumLaws.owed payload_he
 fits_header (PayloadHeader.Chunk w) vs h = omega (arith, (enumLaws.owed payload_header.the_type payloadHeaderLaws.the_laws (PayloadHeader.Chunk w) vs h).0)
 fits_header PayloadHeader.Probe vs h = omega arith
 
-fits_promoted : (x : Promoted) (vs : List Val) → Is (enum.row promoted.the_type) x vs → promoted_size x < 256 ^ 8
-fits_promoted Promoted.Absent vs h = omega arith
-fits_promoted (Promoted.Size n) vs h = omega (arith, (enumLaws.owed promoted.the_type promotedLaws.the_laws (Promoted.Size n) vs h).0)
+fits_promoted : (x : Option ℕ) (vs : List Val) → Is (option.the_row builtin.usize) x vs → item_value x < 256 ^ 8
+fits_promoted None vs h = omega arith
+fits_promoted (Some n) vs h = omega (arith, h.1.1.1.1.0.1)
 
 fits_sizes : (x : Sizes) (vs : List Val) → Is (enum.row sizes.the_type) x vs → sizes_place x < 256 ^ 8
 fits_sizes Sizes.Rest vs h = omega arith

@@ -1,5 +1,6 @@
 -- A probe record that was stored is read back: the probe, and the cursor before its first id or string.
 -- Assumes nothing.
+use Rattle.std.specs.Prelude.{Option, Some, None}
 use Prim.Native.Nat.{ℕ, ◌^◌, ◌≤◌, ◌<◌}
 use mathlib.Core.Path.{◌≡◌, refl, ap, sym, subst, ◌∙◌}
 use mathlib.Core.Bool.{Bool, true, ◌&&◌}
@@ -13,7 +14,6 @@ use Rattle.wire.proofs.Cases.{by_bool}
 use Rattle.wire_writer.specs.Store.{laid}
 use Rattle.wire_writer.proofs.Trip.{At}
 use Rattle.config.specs.Writers.{at_most}
-use Rattle.probe.specs.declared.body.ListCount.{ListCount}
 use Rattle.probe.specs.declared.body.Probe.{Probe}
 use Rattle.probe.specs.Body.{information_rule}
 use Rattle.probe.specs.Items.{count_in, item_count}
@@ -31,9 +31,9 @@ information_bound (Probe.Writers l) = omega arith
 information_bound (Probe.Group g b) = omega arith
 information_bound (Probe.Connections l g w) = omega arith
 
-list_bound : (l : ListCount) → null_number l < 256 ^ 8
-list_bound ListCount.Null = omega arith
-list_bound (ListCount.Of n) = omega arith
+list_bound : (l : Option ℕ) → null_number l < 256 ^ 8
+list_bound None = omega arith
+list_bound (Some n) = omega arith
 
 null_bound : (p : Probe) → probe_null p < 256 ^ 8
 null_bound (Probe.MetaData l) = list_bound l
@@ -69,9 +69,9 @@ writers_bound (Probe.Group g b) f = f.1
 writers_bound (Probe.Connections l g w) f = f.1
 
 -- ---- each part, from its numbers
-list_back : (l : ListCount) → list_given (null_number l) (count_in l) ≡ l
-list_back ListCount.Null = refl
-list_back (ListCount.Of n) = refl
+list_back : (l : Option ℕ) → list_given (null_number l) (count_in l) ≡ l
+list_back None = refl
+list_back (Some n) = refl
 
 probe_back : (p : Probe) → FitsProbe p
     → probe_by (information_of p) (list_given (probe_null p) (item_count p)) (at_most 65535 (probe_group p)) (at_most 255 (include_groups p)) (at_most 255 (include_writers p)) ≡ p

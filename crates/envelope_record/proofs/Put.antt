@@ -11,13 +11,13 @@ use Rattle.network_header.specs.declared.envelope.Envelope.{Envelope}
 use Rattle.network_header.specs.declared.envelope.Places.{Places}
 use Rattle.network_message.specs.declared.payload.Payload.{Payload}
 use Rattle.records.specs.Numbers.{number_bytes}
-use Rattle.records.specs.Items.{has16, value16, has_i64, value_i64, flag_number}
+use Rattle.records.specs.Items.{has_item, item_value, value_i64, flag_number}
 use Rattle.records.proofs.Storing.{also, put_same, put_none, put_both}
 use Rattle.records.specs.Publisher.{publisher_number}
-use Rattle.envelope_record.specs.Envelope.{has_class, class_low, class_high, group_items, group_writer, group_version, group_number, group_sequence, header_code, header_number, has_promoted, promoted_size, sizes_code, sizes_place, start_numbers, rest_numbers, envelope_numbers}
+use Rattle.envelope_record.specs.Envelope.{class_low, class_high, group_items, group_writer, group_version, group_number, group_sequence, header_code, header_number, sizes_code, sizes_place, start_numbers, rest_numbers, envelope_numbers}
 
 pub start_put : (v : Envelope) (w : Places) (l e : List ℕ) (a₁ a₂ a₃ a₄ a₅ a₆ a₇ a₈ a₉ b₁ b₂ b₃ b₄ : ℕ) → a₁ ≡ code_of v.publisher
-    → a₂ ≡ publisher_number v.publisher → a₃ ≡ has_class v.class_id → a₄ ≡ class_low v.class_id → a₅ ≡ class_high v.class_id
+    → a₂ ≡ publisher_number v.publisher → a₃ ≡ has_item v.class_id → a₄ ≡ class_low v.class_id → a₅ ≡ class_high v.class_id
     → a₆ ≡ group_items v.group → a₇ ≡ group_writer v.group → a₈ ≡ group_version v.group → a₉ ≡ group_number v.group
     → b₁ ≡ group_sequence v.group → b₂ ≡ flag_number v.chunk → b₃ ≡ header_code v.payload_header → b₄ ≡ header_number v.payload_header
     → e ≡ laid l 0 (number_bytes (a₁ ∷ a₂ ∷ w.publisher_end ∷ a₃ ∷ a₄ ∷ a₅ ∷ a₆ ∷ a₇ ∷ a₈ ∷ a₉ ∷ b₁ ∷ b₂ ∷ b₃ ∷ b₄ ∷ []))
@@ -30,9 +30,9 @@ start_put v w l e a₁ a₂ a₃ a₄ a₅ a₆ a₇ a₈ a₉ b₁ b₂ b₃ b�
     also p₁ (also p₂ (also i (also p₃ (also p₄ (also p₅ (also p₆ (also p₇ (also p₈ (also p₉ (also q₁ (also q₂ (also q₃ (also q₄ s))))))))))))) in
     put_same l 0 x z
 
-pub rest_put : (v : Envelope) (w : Places) (y : Payload) (l e : List ℕ) (a₁ a₂ a₃ a₄ a₅ a₆ a₇ a₈ : ℕ) → a₁ ≡ has_i64 v.timestamp
-    → a₂ ≡ value_i64 v.timestamp → a₃ ≡ has16 v.picoseconds → a₄ ≡ value16 v.picoseconds → a₅ ≡ has_promoted v.promoted
-    → a₆ ≡ promoted_size v.promoted → a₇ ≡ sizes_code y.sizes → a₈ ≡ sizes_place y.sizes
+pub rest_put : (v : Envelope) (w : Places) (y : Payload) (l e : List ℕ) (a₁ a₂ a₃ a₄ a₅ a₆ a₇ a₈ : ℕ) → a₁ ≡ has_item v.timestamp
+    → a₂ ≡ value_i64 v.timestamp → a₃ ≡ has_item v.picoseconds → a₄ ≡ item_value v.picoseconds → a₅ ≡ has_item v.promoted
+    → a₆ ≡ item_value v.promoted → a₇ ≡ sizes_code y.sizes → a₈ ≡ sizes_place y.sizes
     → e
     ≡ laid l 112
     (number_bytes

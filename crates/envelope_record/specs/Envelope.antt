@@ -1,15 +1,14 @@
 -- The records of an envelope and of a message's place (include/uadp.h).
+use Rattle.std.specs.Prelude.{Option, Some, None}
 use Rattle.std.specs.Prelude.{ℕ, ◌+◌, ◌*◌, ◌^◌, ◌<◌, ◌≡◌, Bool, true, cond, ◌&&◌, List, [], ◌∷◌, ◌++◌, eqb, leb}
-use Rattle.wire.specs.declared.optional.Optional16.{Optional16}
+use Rattle.wire.specs.declared.Guid.{Guid}
+use Rattle.network_header.specs.declared.group.GroupFields.{GroupFields}
 use Rattle.publisher_id.specs.PublisherRecord.{code_of}
 use Rattle.network_message.specs.Envelope.{NetworkMessage}
 use Rattle.network_header.specs.Envelope.{FitsEnvelope}
 use Rattle.network_header.specs.declared.envelope.Envelope.{Envelope}
 use Rattle.network_header.specs.declared.envelope.Places.{Places}
-use Rattle.network_header.specs.declared.group.GroupHeader.{GroupHeader}
-use Rattle.network_header.specs.declared.header.ClassId.{ClassId}
 use Rattle.network_header.specs.declared.header.PayloadHeader.{PayloadHeader}
-use Rattle.network_header.specs.declared.header.Promoted.{Promoted}
 use Rattle.network_message.specs.declared.payload.Sizes.{Sizes}
 use Rattle.network_message.specs.declared.payload.Payload.{Payload}
 use Rattle.network_message.specs.declared.payload.MessagePlace.{MessagePlace}
@@ -20,42 +19,38 @@ use Rattle.wire.specs.Number.{le_bytes}
 use Rattle.wire_writer.specs.Store.{laid}
 use Rattle.records.specs.Publisher.{publisher_number, publisher_given, publisher_number_fits, FitsId}
 use Rattle.config.specs.Writers.{at_most}
-use Rattle.records.specs.Items.{has16, value16, has32, value32, has_i64, value_i64, flag_number, given16, given32, fits_item, is_on, given_i64}
+use Rattle.records.specs.Items.{has_item, item_value, value_i64, flag_number, given16, given32, fits_item, is_on, given_i64}
 
 -- "DataSetClassId: 0 absent, else present; its first 8 bytes; its last 8 bytes, each as a number"
-abbrev pub has_class : ClassId → ℕ
-has_class ClassId.Absent = 0
-has_class (ClassId.Is v) = 1
+abbrev pub class_low : Option Guid → ℕ
+class_low None = 0
+class_low (Some v) = v.low
 
-abbrev pub class_low : ClassId → ℕ
-class_low ClassId.Absent = 0
-class_low (ClassId.Is v) = v.low
-
-abbrev pub class_high : ClassId → ℕ
-class_high ClassId.Absent = 0
-class_high (ClassId.Is v) = v.high
+abbrev pub class_high : Option Guid → ℕ
+class_high None = 0
+class_high (Some v) = v.high
 
 -- "group header: 0 absent, else 16, and 1 with WriterGroupId, 2 with GroupVersion, 4 with NetworkMessageNumber, 8 with SequenceNumber,
 -- added up"
-abbrev pub group_items : GroupHeader → ℕ
-group_items GroupHeader.Absent = 0
-group_items (GroupHeader.Is g) = 16 + has16 g.writer_group + 2 * has32 g.version + 4 * has16 g.number + 8 * has16 g.sequence
+abbrev pub group_items : Option GroupFields → ℕ
+group_items None = 0
+group_items (Some g) = 16 + has_item g.writer_group + 2 * has_item g.version + 4 * has_item g.number + 8 * has_item g.sequence
 
-abbrev pub group_writer : GroupHeader → ℕ
-group_writer GroupHeader.Absent = 0
-group_writer (GroupHeader.Is g) = value16 g.writer_group
+abbrev pub group_writer : Option GroupFields → ℕ
+group_writer None = 0
+group_writer (Some g) = item_value g.writer_group
 
-abbrev pub group_version : GroupHeader → ℕ
-group_version GroupHeader.Absent = 0
-group_version (GroupHeader.Is g) = value32 g.version
+abbrev pub group_version : Option GroupFields → ℕ
+group_version None = 0
+group_version (Some g) = item_value g.version
 
-abbrev pub group_number : GroupHeader → ℕ
-group_number GroupHeader.Absent = 0
-group_number (GroupHeader.Is g) = value16 g.number
+abbrev pub group_number : Option GroupFields → ℕ
+group_number None = 0
+group_number (Some g) = item_value g.number
 
-abbrev pub group_sequence : GroupHeader → ℕ
-group_sequence GroupHeader.Absent = 0
-group_sequence (GroupHeader.Is g) = value16 g.sequence
+abbrev pub group_sequence : Option GroupFields → ℕ
+group_sequence None = 0
+group_sequence (Some g) = item_value g.sequence
 
 -- "PayloadHeader: 0 absent, 1 Count and ids, 2 a chunk's writer id, 3 absent and the payload is a probe"; "Count, or the chunk's writer id"
 abbrev pub header_code : PayloadHeader → ℕ
@@ -69,15 +64,6 @@ header_number PayloadHeader.Absent = 0
 header_number (PayloadHeader.Ids n) = n
 header_number (PayloadHeader.Chunk w) = w
 header_number PayloadHeader.Probe = 0
-
--- "promoted fields: 0 absent, else present; their size"
-abbrev pub has_promoted : Promoted → ℕ
-has_promoted Promoted.Absent = 0
-has_promoted (Promoted.Size n) = 1
-
-abbrev pub promoted_size : Promoted → ℕ
-promoted_size Promoted.Absent = 0
-promoted_size (Promoted.Size n) = n
 
 -- "their sizes: 0 the rest, 1 listed, 2 configured; where listed sizes stand (0 if not)"
 abbrev pub sizes_code : Sizes → ℕ
@@ -93,7 +79,7 @@ sizes_place Sizes.Configured = 0
 -- the first 14 numbers of an envelope: PublisherId, DataSetClassId, group header, chunk, PayloadHeader
 abbrev pub start_numbers : Envelope → Places → List ℕ
 start_numbers e w =
-    code_of e.publisher ∷ publisher_number e.publisher ∷ w.publisher_end ∷ has_class e.class_id ∷ class_low e.class_id
+    code_of e.publisher ∷ publisher_number e.publisher ∷ w.publisher_end ∷ has_item e.class_id ∷ class_low e.class_id
     ∷ class_high e.class_id ∷ group_items e.group ∷ group_writer e.group ∷ group_version e.group ∷ group_number e.group
     ∷ group_sequence e.group ∷ flag_number e.chunk ∷ header_code e.payload_header ∷ header_number e.payload_header ∷ []
 
@@ -101,8 +87,8 @@ start_numbers e w =
 -- are spare and hold 0
 abbrev pub rest_numbers : Envelope → Places → Payload → List ℕ
 rest_numbers e w p =
-    w.payload_header_end ∷ has_i64 e.timestamp ∷ value_i64 e.timestamp ∷ has16 e.picoseconds ∷ value16 e.picoseconds
-    ∷ has_promoted e.promoted ∷ promoted_size e.promoted ∷ w.payload ∷ p.count ∷ sizes_code p.sizes ∷ sizes_place p.sizes
+    w.payload_header_end ∷ has_item e.timestamp ∷ value_i64 e.timestamp ∷ has_item e.picoseconds ∷ item_value e.picoseconds
+    ∷ has_item e.promoted ∷ item_value e.promoted ∷ w.payload ∷ p.count ∷ sizes_code p.sizes ∷ sizes_place p.sizes
     ∷ p.first ∷ 0
     ∷ p.first ∷ 0 ∷ 0 ∷ 0 ∷ 0 ∷ []
 
@@ -125,24 +111,24 @@ abbrev pub messages_laid : MessageCursor → List ℕ → List ℕ
 messages_laid c s = laid (laid s (8 * 26) (le_bytes 8 c.index)) (8 * 27) (le_bytes 8 c.at)
 
 -- "DataSetWriterId, 65536 for none"
-abbrev pub writer_number : Optional16 → ℕ
-writer_number Optional16.Absent = 65536
-writer_number (Optional16.Is id) = id
+abbrev pub writer_number : Option ℕ → ℕ
+writer_number None = 65536
+writer_number (Some id) = id
 
 -- the 4 numbers of a message's place
-abbrev pub place_numbers : MessagePlace → Optional16 → List ℕ
+abbrev pub place_numbers : MessagePlace → Option ℕ → List ℕ
 place_numbers p writer = p.index ∷ p.offset ∷ p.length ∷ writer_number writer ∷ []
 
 -- "DataSetClassId: 0 absent, else present; its first 8 bytes; its last 8 bytes, each as a number"
-abbrev pub class_in : ℕ → ℕ → ℕ → ClassId
-class_in present low high = cond (eqb present 0) ClassId.Absent (ClassId.Is (record { low = low; high = high }))
+abbrev pub class_in : ℕ → ℕ → ℕ → Option Guid
+class_in present low high = cond (eqb present 0) None (Some (record { low = low; high = high }))
 
 -- "group header: 0 absent, else 16, and 1 with WriterGroupId, 2 with GroupVersion, 4 with NetworkMessageNumber, 8 with SequenceNumber,
 -- added up"
-abbrev pub group_in : List ℕ → ℕ → GroupHeader
+abbrev pub group_in : List ℕ → ℕ → Option GroupFields
 group_in s items =
-    cond (eqb items 0) GroupHeader.Absent
-    (GroupHeader.Is
+    cond (eqb items 0) None
+    (Some
     (record {
       writer_group = given16 (bit 0 items) (number_at s 7);
       version = given32 (bit 1 items) (number_at s 8);
@@ -165,8 +151,8 @@ abbrev pub payload_header_end : List ℕ → ℕ
 payload_header_end s = number_at s 14
 
 -- "promoted fields: 0 absent, else present; their size"
-abbrev pub promoted_in : ℕ → ℕ → Promoted
-promoted_in present size = cond (eqb present 0) Promoted.Absent (Promoted.Size size)
+abbrev pub promoted_in : ℕ → ℕ → Option ℕ
+promoted_in present size = cond (eqb present 0) None (Some size)
 
 -- the envelope of an envelope record: "the numbers 0, 1, 3 to 13 and 15 to 20 are read"
 abbrev pub envelope_in : List ℕ → Envelope
@@ -206,7 +192,7 @@ pub record FitsEnvelopeRecord (m : NetworkMessage) : Type 0 where
   pub envelope : FitsEnvelope m.envelope
   pub publisher : FitsId m.envelope.publisher
   pub header : header_number m.envelope.payload_header < 65536
-  pub promoted : promoted_size m.envelope.promoted < 256 ^ 8
+  pub promoted : item_value m.envelope.promoted < 256 ^ 8
   pub publisher_end : m.places.publisher_end < 256 ^ 8
   pub header_end : m.places.payload_header_end < 256 ^ 8
   pub start : m.places.payload < 256 ^ 8

@@ -1,10 +1,10 @@
 -- The records of a probe and of one of its ids or strings (include/uadp.h).
+use Rattle.std.specs.Prelude.{Option, Some, None}
 use Rattle.std.specs.Prelude.{ℕ, ◌+◌, ◌*◌, ◌≡◌, Bool, true, cond, ◌&&◌, List, [], ◌∷◌, eqb, leb, ltb}
 use Rattle.wire.specs.Number.{le_bytes}
 use Rattle.wire.specs.Constants.{MOST_DATAGRAM}
 use Rattle.wire_writer.specs.Store.{laid}
 use Rattle.config.specs.Writers.{at_most}
-use Rattle.probe.specs.declared.body.ListCount.{ListCount}
 use Rattle.probe.specs.declared.body.Probe.{Probe}
 use Rattle.probe.specs.declared.items.ProbeCursor.{ProbeCursor}
 use Rattle.probe.specs.declared.items.ProbeItem.{ProbeItem}
@@ -15,9 +15,9 @@ use Rattle.records.specs.Numbers.{number_at}
 use Rattle.records.specs.Items.{is_on, fits_item}
 
 -- "1 for a null list, else 0"
-abbrev pub null_number : ListCount → ℕ
-null_number ListCount.Null = 1
-null_number (ListCount.Of n) = 0
+abbrev pub null_number : Option ℕ → ℕ
+null_number None = 1
+null_number (Some n) = 0
 
 abbrev pub probe_null : Probe → ℕ
 probe_null (Probe.MetaData l) = null_number l
@@ -65,11 +65,11 @@ probe_numbers p start =
 
 -- a probe in a record to be written from, or walked over
 
-abbrev pub list_given : ℕ → ℕ → ListCount
-list_given null count = cond (is_on null) ListCount.Null (ListCount.Of count)
+abbrev pub list_given : ℕ → ℕ → Option ℕ
+list_given null count = cond (is_on null) None (Some count)
 
 -- "another type lists nothing"
-abbrev pub probe_by : ℕ → ListCount → ℕ → ℕ → ℕ → Probe
+abbrev pub probe_by : ℕ → Option ℕ → ℕ → ℕ → ℕ → Probe
 probe_by t l g a b =
     cond (eqb t 2) (Probe.MetaData l) (cond (eqb t 3) (Probe.Writers l) (cond (eqb t 5) (Probe.Connections l a b) (Probe.Group g b)))
 

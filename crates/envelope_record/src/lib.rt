@@ -1,4 +1,5 @@
 // The records of an envelope and of a message's place; those of a probe stand in their own module.
+// The C interface has numbers for kinds: here they become the enums and go back. Any number has an answer.
 #![tactic(auto)]
 
 pub mod probe_record;
@@ -8,122 +9,79 @@ ghost use Rattle.network_message.specs.Envelope.{NetworkMessage};
 ghost use Rattle.records.specs.Sizes.{ENVELOPE_SIZE};
 ghost use Rattle.wire_writer.specs.Store.{laid};
 ghost use Rattle.records.specs.Numbers.{number_bytes};
-ghost use Rattle.records.specs.Items.{has16, has32, given16, given32};
-ghost use Rattle.envelope_record.specs.Envelope.{has_class, class_low, class_high, group_items, group_writer, group_version, group_number, group_sequence, header_code, header_number, has_promoted, promoted_size, sizes_code, sizes_place, start_numbers, rest_numbers, envelope_numbers, sizes_by, payload_in, messages_in, messages_laid, payload_header_by, payload_header_in, payload_header_end, writer_number, place_numbers, class_in, group_in, promoted_in, envelope_in, group_fits, header_fits, envelope_fits, EnvelopeBack};
+ghost use Rattle.records.specs.Items.{has_item};
+ghost use Rattle.envelope_record.specs.Envelope.{class_low, class_high, group_items, group_writer, group_version, group_number, group_sequence, header_code, header_number, sizes_code, sizes_place, start_numbers, rest_numbers, envelope_numbers, sizes_by, payload_in, messages_in, messages_laid, payload_header_by, payload_header_in, payload_header_end, writer_number, place_numbers, class_in, group_in, promoted_in, envelope_in, group_fits, header_fits, envelope_fits, EnvelopeBack};
 
 use network_header::envelope::{Envelope, Places};
-use network_header::group::{GroupFields, GroupHeader};
-use network_header::header::{ClassId, PayloadHeader, Promoted};
+use network_header::group::GroupFields;
+use network_header::header::PayloadHeader;
 use network_message::payload::{MessageCursor, MessagePlace, Payload, Sizes};
 use publisher_id::publisher_record::code;
-use records::items::{
-    at_most, fits_item, flag_number, given_i64, given16, given32, has_i64, has16, has32, is_on,
-    value_i64, value16, value32,
-};
+use records::items::{at_most, fits_item, flag_number, given, has, is_on, value};
 use records::numbers::{number, put_numbers, put_numbers_from};
 use records::publisher::{publisher_given, publisher_number, publisher_number_fits};
 use records::sizes::ENVELOPE_SIZE;
 use wire::Guid;
-use wire::optional::Optional16;
-use wire_writer::store::put64;
+use wire_writer::store::Store;
 
 // Where the numbers 26 and 27 stand: the cursor's message and its place.
 const CURSOR_INDEX: usize = 8 * 26;
 
 const CURSOR_AT: usize = 8 * 27;
 
-fn has_class(x: ClassId) -> u64
-    ensures { result ≡ has_class x }
+// 1 for a part that is there, else 0.
+fn present<T: Copy>(x: Option<T>) -> u64
+    ensures { result ≡ has_item x }
 {
-    match x {
-        ClassId::Absent => 0,
-        ClassId::Is(_) => 1,
-    }
+    flag_number(x.is_some())
 }
 
-fn class_low(x: ClassId) -> u64
+fn class_low(x: Option<Guid>) -> u64
     ensures { result ≡ class_low x }
 {
-    match x {
-        ClassId::Absent => 0,
-        ClassId::Is(v) => v.low,
-    }
+    x.map_or(0, |v| v.low)
 }
 
-fn class_high(x: ClassId) -> u64
+fn class_high(x: Option<Guid>) -> u64
     ensures { result ≡ class_high x }
 {
-    match x {
-        ClassId::Absent => 0,
-        ClassId::Is(v) => v.high,
-    }
+    x.map_or(0, |v| v.high)
 }
 
 fn items_of(g: GroupFields) -> u64
-    ensures { result ≡ 16 + has16 g.writer_group + 2 * has32 g.version + 4 * has16 g.number + 8 * has16 g.sequence }
+    ensures { result ≡ 16 + has_item g.writer_group + 2 * has_item g.version + 4 * has_item g.number + 8 * has_item g.sequence }
 {
-    let writer_group = g.writer_group;
-    let version = g.version;
-    let number = g.number;
-    let sequence = g.sequence;
-    16 + has16(writer_group) + 2 * has32(version) + 4 * has16(number) + 8 * has16(sequence)
+    16 + has(g.writer_group) + 2 * has(g.version) + 4 * has(g.number) + 8 * has(g.sequence)
 }
 
-fn group_items(x: GroupHeader) -> u64
+fn group_items(x: Option<GroupFields>) -> u64
     ensures { result ≡ group_items x }
 {
-    match x {
-        GroupHeader::Absent => 0,
-        GroupHeader::Is(g) => items_of(g),
-    }
+    x.map_or(0, items_of)
 }
 
-fn group_writer(x: GroupHeader) -> u64
+fn group_writer(x: Option<GroupFields>) -> u64
     ensures { result ≡ group_writer x }
 {
-    match x {
-        GroupHeader::Absent => 0,
-        GroupHeader::Is(g) => {
-            let item = g.writer_group;
-            value16(item)
-        },
-    }
+    x.map_or(0, |g| value(g.writer_group))
 }
 
-fn group_version(x: GroupHeader) -> u64
+fn group_version(x: Option<GroupFields>) -> u64
     ensures { result ≡ group_version x }
 {
-    match x {
-        GroupHeader::Absent => 0,
-        GroupHeader::Is(g) => {
-            let item = g.version;
-            value32(item)
-        },
-    }
+    x.map_or(0, |g| value(g.version))
 }
 
-fn group_number(x: GroupHeader) -> u64
+fn group_number(x: Option<GroupFields>) -> u64
     ensures { result ≡ group_number x }
 {
-    match x {
-        GroupHeader::Absent => 0,
-        GroupHeader::Is(g) => {
-            let item = g.number;
-            value16(item)
-        },
-    }
+    x.map_or(0, |g| value(g.number))
 }
 
-fn group_sequence(x: GroupHeader) -> u64
+fn group_sequence(x: Option<GroupFields>) -> u64
     ensures { result ≡ group_sequence x }
 {
-    match x {
-        GroupHeader::Absent => 0,
-        GroupHeader::Is(g) => {
-            let item = g.sequence;
-            value16(item)
-        },
-    }
+    x.map_or(0, |g| value(g.sequence))
 }
 
 fn header_code(x: PayloadHeader) -> u64
@@ -141,28 +99,9 @@ fn header_number(x: PayloadHeader) -> u64
     ensures { result ≡ header_number x }
 {
     match x {
-        PayloadHeader::Absent => 0,
         PayloadHeader::Ids(n) => n as u64,
         PayloadHeader::Chunk(w) => w as u64,
-        PayloadHeader::Probe => 0,
-    }
-}
-
-fn has_promoted(x: Promoted) -> u64
-    ensures { result ≡ has_promoted x }
-{
-    match x {
-        Promoted::Absent => 0,
-        Promoted::Size(_) => 1,
-    }
-}
-
-fn promoted_size(x: Promoted) -> u64
-    ensures { result ≡ promoted_size x }
-{
-    match x {
-        Promoted::Absent => 0,
-        Promoted::Size(n) => n as u64,
+        _ => 0,
     }
 }
 
@@ -180,9 +119,8 @@ fn sizes_place(x: Sizes) -> u64
     ensures { result ≡ sizes_place x }
 {
     match x {
-        Sizes::Rest => 0,
         Sizes::Listed(p) => p as u64,
-        Sizes::Configured => 0,
+        _ => 0,
     }
 }
 
@@ -190,25 +128,21 @@ fn sizes_place(x: Sizes) -> u64
 fn put_start(out: &mut [u8], e: Envelope, places: Places)
     ensures { out.new ≡ laid out.old 0 (number_bytes (start_numbers e places)) }
 {
-    let publisher = e.publisher;
-    let class_id = e.class_id;
-    let group = e.group;
-    let header = e.payload_header;
     let numbers = [
-        code(publisher),
-        publisher_number(publisher),
+        code(e.publisher),
+        publisher_number(e.publisher),
         places.publisher_end as u64,
-        has_class(class_id),
-        class_low(class_id),
-        class_high(class_id),
-        group_items(group),
-        group_writer(group),
-        group_version(group),
-        group_number(group),
-        group_sequence(group),
+        present(e.class_id),
+        class_low(e.class_id),
+        class_high(e.class_id),
+        group_items(e.group),
+        group_writer(e.group),
+        group_version(e.group),
+        group_number(e.group),
+        group_sequence(e.group),
         flag_number(e.chunk),
-        header_code(header),
-        header_number(header),
+        header_code(e.payload_header),
+        header_number(e.payload_header),
     ];
     put_numbers(out, &numbers);
 }
@@ -217,22 +151,18 @@ fn put_start(out: &mut [u8], e: Envelope, places: Places)
 fn put_rest(out: &mut [u8], e: Envelope, places: Places, payload: Payload)
     ensures { out.new ≡ laid out.old 112 (number_bytes (rest_numbers e places payload)) }
 {
-    let timestamp = e.timestamp;
-    let picoseconds = e.picoseconds;
-    let promoted = e.promoted;
-    let sizes = payload.sizes;
     let numbers = [
         places.payload_header_end as u64,
-        has_i64(timestamp),
-        value_i64(timestamp),
-        has16(picoseconds),
-        value16(picoseconds),
-        has_promoted(promoted),
-        promoted_size(promoted),
+        has(e.timestamp),
+        value(e.timestamp),
+        has(e.picoseconds),
+        value(e.picoseconds),
+        present(e.promoted),
+        e.promoted.unwrap_or(0) as u64,
         places.payload as u64,
         payload.count as u64,
-        sizes_code(sizes),
-        sizes_place(sizes),
+        sizes_code(payload.sizes),
+        sizes_place(payload.sizes),
         payload.first as u64,
         0,
         payload.first as u64,
@@ -261,23 +191,20 @@ pub fn put_envelope(out: &mut [u8], e: Envelope, places: Places, payload: Payloa
 fn sizes_in(code: u64, place: usize) -> Sizes
     ensures { result ≡ sizes_by code place }
 {
-    if code == 1 {
-        return Sizes::Listed(place);
+    match code {
+        1 => Sizes::Listed(place),
+        2 => Sizes::Configured,
+        _ => Sizes::Rest,
     }
-    if code == 2 {
-        return Sizes::Configured;
-    }
-    Sizes::Rest
 }
 
 // The messages of an envelope record.
 pub fn payload_in(s: &[u8]) -> Payload
     ensures { result ≡ payload_in s.now }
 {
-    let sizes = sizes_in(number(s, 23), number(s, 24) as usize);
     Payload {
         count: number(s, 22) as usize,
-        sizes,
+        sizes: sizes_in(number(s, 23), number(s, 24) as usize),
         first: number(s, 25) as usize,
     }
 }
@@ -310,21 +237,18 @@ pub fn payload_header_end(s: &[u8]) -> usize
 pub fn put_messages(out: &mut [u8], cursor: MessageCursor)
     ensures { out.new ≡ messages_laid cursor out.old }
 {
-    put64(out, CURSOR_INDEX, cursor.index as u64);
-    put64(out, CURSOR_AT, cursor.at as u64);
+    (cursor.index as u64).put(out, CURSOR_INDEX);
+    (cursor.at as u64).put(out, CURSOR_AT);
 }
 
-fn writer_number(x: Optional16) -> u64
+fn writer_number(x: Option<u16>) -> u64
     ensures { result ≡ writer_number x }
 {
-    match x {
-        Optional16::Absent => 65536,
-        Optional16::Is(id) => id as u64,
-    }
+    x.map_or(65536, |id| id as u64)
 }
 
 // Stores a message's place and its DataSetWriterId.
-pub fn put_place(out: &mut [u8], p: MessagePlace, writer: Optional16)
+pub fn put_place(out: &mut [u8], p: MessagePlace, writer: Option<u16>)
     ensures { out.new ≡ laid out.old 0 (number_bytes (place_numbers p writer)) }
 {
     let numbers = [
@@ -336,77 +260,62 @@ pub fn put_place(out: &mut [u8], p: MessagePlace, writer: Optional16)
     put_numbers(out, &numbers);
 }
 
-fn class_in(present: u64, low: u64, high: u64) -> ClassId
+fn class_in(present: u64, low: u64, high: u64) -> Option<Guid>
     ensures { result ≡ class_in present low high }
 {
     if present == 0 {
-        return ClassId::Absent;
+        return None;
     }
-    ClassId::Is(Guid { low, high })
+    Some(Guid { low, high })
 }
 
-fn group_in(s: &[u8], items: u64) -> GroupHeader
+fn group_in(s: &[u8], items: u64) -> Option<GroupFields>
     ensures { result ≡ group_in s.now items }
 {
     if items == 0 {
-        return GroupHeader::Absent;
+        return None;
     }
-    let writer_group = given16(items % 2 == 1, number(s, 7));
-    let version = given32((items >> 1) % 2 == 1, number(s, 8));
-    let message_number = given16((items >> 2) % 2 == 1, number(s, 9));
-    let sequence = given16((items >> 3) % 2 == 1, number(s, 10));
-    GroupHeader::Is(GroupFields {
-        writer_group,
-        version,
-        number: message_number,
-        sequence,
+    Some(GroupFields {
+        writer_group: given(items % 2 == 1, number(s, 7)),
+        version: given((items >> 1) % 2 == 1, number(s, 8)),
+        number: given((items >> 2) % 2 == 1, number(s, 9)),
+        sequence: given((items >> 3) % 2 == 1, number(s, 10)),
     })
 }
 
 fn payload_header_by(kind: u64, v: u64) -> PayloadHeader
     ensures { result ≡ payload_header_by kind v }
 {
-    if kind == 1 {
-        return PayloadHeader::Ids(at_most(65535, v) as u16);
+    match kind {
+        1 => PayloadHeader::Ids(at_most(65535, v) as u16),
+        2 => PayloadHeader::Chunk(at_most(65535, v) as u16),
+        3 => PayloadHeader::Probe,
+        _ => PayloadHeader::Absent,
     }
-    if kind == 2 {
-        return PayloadHeader::Chunk(at_most(65535, v) as u16);
-    }
-    if kind == 3 {
-        return PayloadHeader::Probe;
-    }
-    PayloadHeader::Absent
 }
 
-fn promoted_in(present: u64, size: u64) -> Promoted
+fn promoted_in(present: u64, size: u64) -> Option<usize>
     ensures { result ≡ promoted_in present size }
 {
     if present == 0 {
-        return Promoted::Absent;
+        return None;
     }
-    Promoted::Size(size as usize)
+    Some(size as usize)
 }
 
 // The envelope of an envelope record; a number that does not fit its item counts as the largest that does.
 pub fn envelope_in(s: &[u8]) -> Envelope
     ensures { result ≡ envelope_in s.now }
 {
-    let publisher = publisher_given(number(s, 0), number(s, 1));
-    let class_id = class_in(number(s, 3), number(s, 4), number(s, 5));
-    let group = group_in(s, number(s, 6));
-    let payload_header = payload_header_by(number(s, 12), number(s, 13));
-    let timestamp = given_i64(is_on(number(s, 15)), number(s, 16));
-    let picoseconds = given16(is_on(number(s, 17)), number(s, 18));
-    let promoted = promoted_in(number(s, 19), number(s, 20));
     Envelope {
-        publisher,
-        class_id,
-        group,
+        publisher: publisher_given(number(s, 0), number(s, 1)),
+        class_id: class_in(number(s, 3), number(s, 4), number(s, 5)),
+        group: group_in(s, number(s, 6)),
         chunk: is_on(number(s, 11)),
-        payload_header,
-        timestamp,
-        picoseconds,
-        promoted,
+        payload_header: payload_header_in(s),
+        timestamp: given(is_on(number(s, 15)), number(s, 16)),
+        picoseconds: given(is_on(number(s, 17)), number(s, 18)),
+        promoted: promoted_in(number(s, 19), number(s, 20)),
     }
 }
 

@@ -1,40 +1,40 @@
 // The records of a probe and of one of its items.
+// The C interface has numbers for kinds: here they become the enums and go back. Any number has an answer.
 ghost use Rattle.std.specs.Prelude.{◌≡◌, length, ◌≤◌};
+ghost use Rattle.wire.specs.Refusal.{rule_number};
 ghost use Rattle.wire_writer.specs.Store.{laid};
 ghost use Rattle.records.specs.Numbers.{number_bytes};
 ghost use Rattle.envelope_record.specs.Probe.{null_number, probe_null, list_place, probe_group, include_groups, include_writers, probe_numbers, list_given, probe_by, probe_in, information_refusal, probe_fits, item_cursor_in, item_cursor_laid, value_number, item_numbers, ProbeRecordBack};
 ghost use Rattle.records.specs.Sizes.{PROBE_SIZE};
 
-use probe::body::{ListCount, Probe, information_rule};
+use probe::body::{Probe, information_rule};
 use probe::items::{ProbeCursor, ProbeItem, item_count};
 use probe::put::information_of;
-use records::items::{at_most, fits_item, is_on};
+use records::items::{at_most, fits_item, flag_number, is_on};
 use records::numbers::{number, put_numbers};
 use wire::constants::MOST_DATAGRAM;
-use wire_writer::store::put64;
+use wire::refusal::Reason;
+use wire_writer::store::Store;
 
 // Where the numbers 7 and 8 stand: the cursor's item and its place.
 const CURSOR_INDEX: usize = 8 * 7;
 
 const CURSOR_AT: usize = 8 * 8;
 
-fn null_number(list: ListCount) -> u64
+fn null_number(list: Option<usize>) -> u64
     ensures { result ≡ null_number list }
 {
-    match list {
-        ListCount::Null => 1,
-        ListCount::Of(_) => 0,
-    }
+    flag_number(list.is_none())
 }
 
 fn probe_null(p: Probe) -> u64
     ensures { result ≡ probe_null p }
 {
     match p {
-        Probe::MetaData(list) => null_number(list),
-        Probe::Writers(list) => null_number(list),
+        Probe::MetaData(list) | Probe::Writers(list) | Probe::Connections(list, _, _) => {
+            null_number(list)
+        }
         Probe::Group(_, _) => 0,
-        Probe::Connections(list, _, _) => null_number(list),
     }
 }
 
@@ -46,10 +46,8 @@ fn list_place(p: Probe, start: usize) -> usize
         return 0;
     }
     match p {
-        Probe::MetaData(_) => start + 6,
-        Probe::Writers(_) => start + 6,
         Probe::Group(_, _) => 0,
-        Probe::Connections(_, _, _) => start + 6,
+        _ => start + 6,
     }
 }
 
@@ -57,10 +55,8 @@ fn group_number(p: Probe) -> u64
     ensures { result ≡ probe_group p }
 {
     match p {
-        Probe::MetaData(_) => 0,
-        Probe::Writers(_) => 0,
         Probe::Group(id, _) => id as u64,
-        Probe::Connections(_, _, _) => 0,
+        _ => 0,
     }
 }
 
@@ -68,10 +64,8 @@ fn include_groups(p: Probe) -> u64
     ensures { result ≡ include_groups p }
 {
     match p {
-        Probe::MetaData(_) => 0,
-        Probe::Writers(_) => 0,
-        Probe::Group(_, _) => 0,
         Probe::Connections(_, groups, _) => groups as u64,
+        _ => 0,
     }
 }
 
@@ -79,10 +73,8 @@ fn include_writers(p: Probe) -> u64
     ensures { result ≡ include_writers p }
 {
     match p {
-        Probe::MetaData(_) => 0,
-        Probe::Writers(_) => 0,
-        Probe::Group(_, include) => include as u64,
-        Probe::Connections(_, _, include) => include as u64,
+        Probe::Group(_, include) | Probe::Connections(_, _, include) => include as u64,
+        _ => 0,
     }
 }
 
@@ -114,29 +106,25 @@ pub fn put_probe(out: &mut [u8], p: Probe, start: usize)
     put_numbers(out, &numbers);
 }
 
-fn list_given(null: u64, count: u64) -> ListCount
+fn list_given(null: u64, count: u64) -> Option<usize>
     ensures { result ≡ list_given null count }
 {
     if is_on(null) {
-        return ListCount::Null;
+        return None;
     }
-    ListCount::Of(count as usize)
+    Some(count as usize)
 }
 
 // The probe of an InformationType; another type lists nothing, as a WriterGroup's.
-fn probe_by(t: u64, list: ListCount, id: u16, groups: u8, include: u8) -> Probe
+fn probe_by(t: u64, list: Option<usize>, id: u16, groups: u8, include: u8) -> Probe
     ensures { result ≡ probe_by t list id groups include }
 {
-    if t == 2 {
-        return Probe::MetaData(list);
+    match t {
+        2 => Probe::MetaData(list),
+        3 => Probe::Writers(list),
+        5 => Probe::Connections(list, groups, include),
+        _ => Probe::Group(id, include),
     }
-    if t == 3 {
-        return Probe::Writers(list);
-    }
-    if t == 5 {
-        return Probe::Connections(list, groups, include);
-    }
-    Probe::Group(id, include)
 }
 
 // The probe of a probe record; a number that does not fit its item counts as the largest that does.
@@ -153,9 +141,9 @@ pub fn probe_in(s: &[u8]) -> Probe
     )
 }
 
-// The number by which reading refuses the InformationType of a probe record, or 0.
-pub fn type_rule(s: &[u8]) -> u8
-    ensures { result ≡ information_refusal s.now }
+// Refuses the InformationType of a probe record as reading does.
+pub fn type_rule(s: &[u8]) -> Result<(), Reason>
+    ensures { rule_number result ≡ information_refusal s.now }
 {
     information_rule(at_most(255, number(s, 0)) as u8)
 }
@@ -183,8 +171,8 @@ pub fn cursor_in(s: &[u8]) -> ProbeCursor
 pub fn put_cursor(out: &mut [u8], cursor: ProbeCursor)
     ensures { out.new ≡ item_cursor_laid cursor out.old }
 {
-    put64(out, CURSOR_INDEX, cursor.index as u64);
-    put64(out, CURSOR_AT, cursor.at as u64);
+    (cursor.index as u64).put(out, CURSOR_INDEX);
+    (cursor.at as u64).put(out, CURSOR_AT);
 }
 
 fn value_number(null: bool, id: u16) -> u64

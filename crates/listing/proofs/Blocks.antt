@@ -1,5 +1,6 @@
 -- Lines in blocks: a line's text put from a position on, and as many lines as fit.
 -- Assumes nothing.
+use Rattle.std.specs.Prelude.{Option, Some, None}
 use Prim.Native.Nat.{ℕ, zero, suc, ◌+◌, ◌-◌, ◌≤◌, ◌<◌}
 use mathlib.Core.Path.{◌≡◌, refl, sym, ap, ◌∙◌}
 use mathlib.Core.Bool.{Bool, true, false}
@@ -15,10 +16,8 @@ use Rattle.wire_writer.proofs.Stores.{sets_append}
 use Rattle.walk.specs.Lines.{Writers, lines_from, step_lines, next_line, cursor_after, after_step}
 use Rattle.walk.specs.declared.entry.Line.{Line}
 use Rattle.walk.specs.declared.lines.LineCursor.{LineCursor}
-use Rattle.walk.specs.declared.lines.LineStep.{LineStep}
 use Rattle.walk.proofs.Listing.{step_lists, lines_after}
 use Rattle.listing.specs.Text.{line_out, lines_text, line_placed, placed_after, lines_fitting, block_text}
-use Rattle.listing.specs.declared.block.LinePlaced.{LinePlaced}
 use Rattle.listing.proofs.Texts.{first_part, text_none, text_more}
 
 -- ---- a part of a list, stored to
@@ -49,18 +48,18 @@ part_stored l e t at n h k q =
     ∙ ap (λ (x : ℕ). sets l x t) place
 
 -- ---- a line's text from a position on
-pub not_placed : (l t : List ℕ) (at n : ℕ) → n ≡ length t → length l - at < n → n ≤ 256 → (LinePlaced.NoRoom ≡ line_placed l at t) × (l ≡ placed_after l at t) × (length t ≤ 256)
+pub not_placed : (l t : List ℕ) (at n : ℕ) → n ≡ length t → length l - at < n → n ≤ 256 → (None ≡ line_placed l at t) × (l ≡ placed_after l at t) × (length t ≤ 256)
 not_placed l t at n e h k = let f = lt-ltb (length l - at) (length t) (omega arith) in (rw f, rw f, omega arith)
 
 pub placed : (l e t : List ℕ) (at n : ℕ) → n ≡ length t → n ≤ length l - at → n ≤ 256 → e ≡ sets l at t
-    → (LinePlaced.To (at + n) ≡ line_placed l at t) × (e ≡ placed_after l at t) × (length t ≤ 256)
+    → (Some (at + n) ≡ line_placed l at t) × (e ≡ placed_after l at t) × (length t ≤ 256)
 placed l e t at n k h m s =
     let f = le-ltb (length l - at) (length t) (omega arith) in
-    (rw f (ap (λ (j : ℕ). LinePlaced.To (at + j)) k), rw f s, omega arith)
+    (rw f (ap (λ (j : ℕ). Some (at + j)) k), rw f s, omega arith)
 
 -- by way of a buffer of its own
 pub copied : (l e t b b' p : List ℕ) (at n : ℕ) → at ≤ length l → n ≡ length t → n ≤ length l - at → b' ≡ sets b 0 t → n ≤ length b → n ≤ 256
-    → p ≡ take n b' → e ≡ laid l at p → (LinePlaced.To (at + n) ≡ line_placed l at t) × (e ≡ placed_after l at t) × (length t ≤ 256)
+    → p ≡ take n b' → e ≡ laid l at p → (Some (at + n) ≡ line_placed l at t) × (e ≡ placed_after l at t) × (length t ≤ 256)
 copied l e t b b' p at n a k h s r m q z =
     let text : p ≡ t = q ∙ ap (take n) s ∙ ap (λ (j : ℕ). take j (sets b 0 t)) k ∙ first_part t b (omega arith) in
     let f = le-leb (at + length t) (length l) (omega arith) in
@@ -68,7 +67,7 @@ copied l e t b b' p at n a k h s r m q z =
 
 -- in place
 pub in_place : (l e t : List ℕ) (at n m : ℕ) → at + m ≤ length l → n ≡ length t → n ≤ m → m ≤ 256 → e ≡ sets (take m (drop at l)) 0 t
-    → (LinePlaced.To (at + n) ≡ line_placed l at t) × (take at l ++ (e ++ drop m (drop at l)) ≡ placed_after l at t) × (length t ≤ 256)
+    → (Some (at + n) ≡ line_placed l at t) × (take at l ++ (e ++ drop m (drop at l)) ≡ placed_after l at t) × (length t ≤ 256)
 in_place l e t at n m h k r q s = placed l _ t at n k (omega arith) (omega arith) (part_stored l e t at m h (omega arith) s)
 
 -- ---- what is left to be put into some room, of the lines from a cursor on; and the cursor after them
@@ -78,17 +77,17 @@ left_text w d room c = block_text d room (lines_from w d c)
 abbrev pub left_cursor : Writers → List ℕ → ℕ → LineCursor → LineCursor
 left_cursor w d room c = cursor_after w d (lines_fitting d room (lines_from w d c)) c
 
-module _ (w : Writers) (d : List ℕ) (c : LineCursor) (t : LineStep) (e : t ≡ next_line w d c) (room : ℕ) where
+module _ (w : Writers) (d : List ℕ) (c : LineCursor) (t : Option (Line × LineCursor)) (e : t ≡ next_line w d c) (room : ℕ) where
   lines : lines_from w d c ≡ step_lines w d t
   lines = sym (step_lists w d c) ∙ ap (step_lines w d) (sym e)
 
   -- no line
-  left_none : t ≡ LineStep.None → (left_text w d room c ≡ []) × (left_cursor w d room c ≡ c)
+  left_none : t ≡ None → (left_text w d room c ≡ []) × (left_cursor w d room c ≡ c)
   left_none q =
       let l : lines_from w d c ≡ [] = lines ∙ ap (step_lines w d) q in
       (ap (block_text d room) l, ap (λ (k : List Line). cursor_after w d (lines_fitting d room k) c) l)
 
-  module _ (x : Line) (n : LineCursor) (q : t ≡ LineStep.Is x n) where
+  module _ (x : Line) (n : LineCursor) (q : t ≡ Some (x, n)) where
     first_line : lines_from w d c ≡ x ∷ lines_from w d n
     first_line = lines ∙ ap (step_lines w d) q
 
@@ -104,7 +103,7 @@ module _ (w : Writers) (d : List ℕ) (c : LineCursor) (t : LineStep) (e : t ≡
         × (left_cursor w d room c ≡ left_cursor w d (room - length (line_out d x)) n)
     left_more h =
         let f = le-ltb room (length (line_out d x)) h in
-        let k : LineStep.Is x n ≡ next_line w d c = sym q ∙ e in (
+        let k : ◌≡◌ {A = Option (Line × LineCursor)} (Some (x, n)) (next_line w d c) = sym q ∙ e in (
           ap (block_text d room) first_line ∙ rw f,
           ap (λ (k : List Line). cursor_after w d (lines_fitting d room k) c) first_line ∙ rw f
               (ap (after_step w d c (cursor_after w d (lines_fitting d (room - length (line_out d x)) (lines_from w d n)))) (sym k)),
@@ -178,32 +177,32 @@ module _ (w : Writers) (d l₀ : List ℕ) (c₀ : LineCursor) (l : List ℕ) (a
       }
 
 -- what the answer of putting a line says
-no_place : (l t : List ℕ) (at : ℕ) → LinePlaced.NoRoom ≡ line_placed l at t → length l - at < length t
+no_place : (l t : List ℕ) (at : ℕ) → None ≡ line_placed l at t → length l - at < length t
 no_place l t at q = go (ltb (length l - at) (length t)) refl
   where
     go : (b : Bool) → ltb (length l - at) (length t) ≡ b → length l - at < length t
     go true f = ltb-true (length l - at) (length t) f
-    go false f = let z : LinePlaced.NoRoom ≡ LinePlaced.To (at + length t) = q ∙ rw f in let n : ◌≡◌ {A = ℕ} 0 1 = cc in absurd (omega arith)
+    go false f = let z : ◌≡◌ {A = Option ℕ} None (Some (at + length t)) = q ∙ rw f in let n : ◌≡◌ {A = ℕ} 0 1 = cc in absurd (omega arith)
 
-a_place : (l t : List ℕ) (at end : ℕ) → LinePlaced.To end ≡ line_placed l at t → (length t ≤ length l - at) × (end ≡ at + length t)
+a_place : (l t : List ℕ) (at end : ℕ) → Some end ≡ line_placed l at t → (length t ≤ length l - at) × (end ≡ at + length t)
 a_place l t at end q = go (ltb (length l - at) (length t)) refl
   where
     go : (b : Bool) → ltb (length l - at) (length t) ≡ b → (length t ≤ length l - at) × (end ≡ at + length t)
-    go true f = let z : LinePlaced.To end ≡ LinePlaced.NoRoom = q ∙ rw f in let n : ◌≡◌ {A = ℕ} 0 1 = cc in absurd (omega arith)
+    go true f = let z : ◌≡◌ {A = Option ℕ} (Some end) None = q ∙ rw f in let n : ◌≡◌ {A = ℕ} 0 1 = cc in absurd (omega arith)
     go false f =
-        let z : LinePlaced.To end ≡ LinePlaced.To (at + length t) = q ∙ rw f in
+        let z : ◌≡◌ {A = Option ℕ} (Some end) (Some (at + length t)) = q ∙ rw f in
         let n : end ≡ at + length t = cc in
         (ltb-false (length l - at) (length t) f, n)
 
-module _ (w : Writers) (d l₀ : List ℕ) (c₀ : LineCursor) (l : List ℕ) (at : ℕ) (c : LineCursor) (p : Putting w d l₀ c₀ l at c) (t : LineStep)
+module _ (w : Writers) (d l₀ : List ℕ) (c₀ : LineCursor) (l : List ℕ) (at : ℕ) (c : LineCursor) (p : Putting w d l₀ c₀ l at c) (t : Option (Line × LineCursor))
     (e : t ≡ next_line w d c) where
-  pub ended : t ≡ LineStep.None → Done w d l₀ c₀ l at c
+  pub ended : t ≡ None → Done w d l₀ c₀ l at c
   ended q =
       block_done w d l₀ c₀ l at c p (left_none w d c t e (length l - at) q) (λ room start. ap length (text_none w d c t e q))
 
-  module _ (x : Line) (n : LineCursor) (q : t ≡ LineStep.Is x n) (r : LinePlaced) (g : r ≡ line_placed l at (line_out d x)) (l' : List ℕ)
+  module _ (x : Line) (n : LineCursor) (q : t ≡ Some (x, n)) (r : Option ℕ) (g : r ≡ line_placed l at (line_out d x)) (l' : List ℕ)
       (s : l' ≡ placed_after l at (line_out d x)) (short : length (line_out d x) ≤ 256) where
-    pub filled : r ≡ LinePlaced.NoRoom → Done w d l₀ c₀ l' at c
+    pub filled : r ≡ None → Done w d l₀ c₀ l' at c
     filled k =
         let h = no_place l (line_out d x) at (sym k ∙ g) in
         let f = lt-ltb (length l - at) (length (line_out d x)) h in
@@ -211,7 +210,7 @@ module _ (w : Writers) (d l₀ : List ℕ) (c₀ : LineCursor) (l : List ℕ) (a
         let kept : l' ≡ l = s ∙ rw f in
         (end.0, kept ∙ end.1, end.2, end.3)
 
-    pub went_on : (end : ℕ) → r ≡ LinePlaced.To end → Putting w d l₀ c₀ l' end n
+    pub went_on : (end : ℕ) → r ≡ Some end → Putting w d l₀ c₀ l' end n
     went_on end k =
         let h = a_place l (line_out d x) at end (sym k ∙ g) in
         let f = le-ltb (length l - at) (length (line_out d x)) h.0 in

@@ -1,5 +1,6 @@
 -- A whole listing in one pass: the fields of a message one after the other, its lines by what reading it answered, and the messages.
 -- Assumes nothing.
+use Rattle.std.specs.Prelude.{Option, Some, None, Result, Ok, Err}
 use Prim.Native.Nat.{ℕ, zero, suc, ◌+◌, ◌*◌, ◌-◌, ◌/◌, ◌≤◌, ◌<◌}
 use mathlib.Core.Path.{◌≡◌, refl, ap, sym, subst, ◌∙◌}
 use mathlib.Core.Bool.{Bool, true, false, cond}
@@ -10,14 +11,13 @@ use lib.Dec.{leb, ltb}
 use lib.ListN.{length, take, drop, length-append, length-take, length-drop}
 use lib.Seq.{sets, length-sets}
 use Rattle.wire_writer.specs.Store.{Stored}
-use Rattle.wire_writer.specs.declared.writing.Written.{Written}
+use Rattle.wire.specs.declared.refusal.Reason.{Reason}
 use Rattle.wire_writer.proofs.Stores.{sets_append}
 use Rattle.wire.specs.Answer.{Answer, got, refused, and_then}
-use Rattle.wire.specs.Items.{answer_reached}
-use Rattle.wire.specs.declared.Reached.{Reached}
-use Rattle.wire.specs.declared.optional.Optional16.{Optional16}
+use Rattle.wire.specs.Refusal.{answer_to, reason_number}
+use Rattle.wire.specs.declared.refusal.Refusal.{Refusal}
 use Rattle.wire.proofs.Reading.{got_value, not_got, invert}
-use Rattle.config.specs.Writers.{types_of}
+use Rattle.config.specs.Writers.{types_by}
 use Rattle.network_message.specs.Payload.{PlaceStepped, place_step_at, place_of_message}
 use Rattle.network_message.specs.declared.payload.MessagePlace.{MessagePlace}
 use Rattle.network_message.specs.declared.payload.MessageCursor.{MessageCursor}
@@ -38,9 +38,7 @@ use Rattle.publisher_id.specs.declared.publisher.PublisherId.{PublisherId}
 use Rattle.listing.specs.Columns.{tabbed, line_end, optional_text, Put}
 use Rattle.listing.specs.Line.{id_too_long, place_text, head_text, net_text, field_text, line_text}
 use Rattle.listing.specs.Text.{line_out, lines_text, text_written, text_after}
-use Rattle.listing.specs.Quick.{set_place_of, text_from, fields_text, set_text, lines_end, text_left, LinesPut, OnePut, message_verdict, answer_judged, rest_accepted, field_count, most_from, most_left, most_lines}
-use Rattle.listing.specs.declared.quick.FieldLines.{FieldLines}
-use Rattle.listing.specs.declared.quick.OneListed.{OneListed}
+use Rattle.listing.specs.Quick.{set_place_of, text_from, fields_text, set_text, text_left, LinesPut, OnePut, message_verdict, answer_judged, rest_accepted, field_count, most_from, most_left, most_lines}
 use Rattle.listing.proofs.Putting.{put_all, then, fewer}
 use Rattle.listing.proofs.Texts.{first_part}
 
@@ -113,7 +111,7 @@ module _ (types s : List ℕ) (p : MessagePlace) (c : Cursor) (first : ℕ) (ent
     same = ap length g.stored ∙ length-sets entry first g.text
 
     -- no room for another line, or no field is left
-    pub told_some : (length entry < end + 256) → LinesPut types s p c first (FieldLines.To end i at) entry out
+    pub told_some : (length entry < end + 256) → LinesPut types s p c first (end, Ok (cursor_before c i at)) entry out
     told_some h =
         record {
           text = g.text;
@@ -126,28 +124,29 @@ module _ (types s : List ℕ) (p : MessagePlace) (c : Cursor) (first : ℕ) (ent
           all = λ k. absurd (omega arith);
         }
 
-    pub told_all : c.count ≤ i → LinesPut types s p c first (FieldLines.To end i at) entry out
+    pub told_all : c.count ≤ i → LinesPut types s p c first (end, Ok (cursor_before c c.count at)) entry out
     told_all h =
+        let none = text_end types s p (cursor_before c i at) h ∙ sym (text_end types s p (cursor_before c c.count at) (omega arith)) in
         record {
           text = g.text;
           stored = g.stored;
           after = g.after;
           within = g.within;
-          whole = g.whole;
-          reading = g.reading;
-          near = g.near;
-          all = λ k. text_end types s p (cursor_before c i at) h;
+          whole = g.whole ∙ ap (λ (t : List ℕ). g.text ++ t) none;
+          reading = g.reading ∙ reads_end types s (cursor_before c i at) h ∙ sym (reads_end types s (cursor_before c c.count at) (omega arith));
+          near = omega (arith, g.near);
+          all = λ k. text_end types s p (cursor_before c c.count at) (omega arith);
         }
 
-    pub told_refused : {n place : ℕ} → i < c.count → field_at c.delta c.encoding types i s at ≡ refused n place
-        → LinesPut types s p c first (FieldLines.Refused end n place) entry out
-    told_refused {n} {place} l q =
+    pub told_refused : (r : Refusal) → i < c.count → field_at c.delta c.encoding types i s at ≡ refused (reason_number r.reason) r.place
+        → LinesPut types s p c first (end, Err r) entry out
+    told_refused r l q =
         record {
           text = g.text;
           stored = g.stored;
           after = g.after;
           within = g.within;
-          whole = g.whole ∙ ap (λ (t : List ℕ). g.text ++ t) (text_none types s p (cursor_before c i at) n place q);
+          whole = g.whole ∙ ap (λ (t : List ℕ). g.text ++ t) (text_none types s p (cursor_before c i at) (reason_number r.reason) r.place q);
           reading = g.reading ∙ reads_none types s c i at l q;
           near = omega (arith, g.near);
           all = λ k. refl;
@@ -180,26 +179,26 @@ module _ (types s : List ℕ) (p : MessagePlace) (c : Cursor) (first : ℕ) (ent
           omega (arith, j.ends, j.value)
 
 -- what is ensured of an answer, at the constructor that it turned out to be
-pub lines_told : {types s : List ℕ} {p : MessagePlace} {c : Cursor} {first : ℕ} {entry exit : List ℕ} {x y : FieldLines}
+pub lines_told : {types s : List ℕ} {p : MessagePlace} {c : Cursor} {first : ℕ} {entry exit : List ℕ} {x y : ℕ × Result Cursor Refusal}
     → LinesPut types s p c first x entry exit → x ≡ y → LinesPut types s p c first y entry exit
-lines_told {types} {s} {p} {c} {first} {entry} {exit} f q = subst (λ (r : FieldLines). LinesPut types s p c first r entry exit) q f
+lines_told {types} {s} {p} {c} {first} {entry} {exit} f q = subst (λ (r : ℕ × Result Cursor Refusal). LinesPut types s p c first r entry exit) q f
 
 -- where there is room for each line, all are put
-nothing_left : (types s : List ℕ) (p : MessagePlace) (c : Cursor) (first : ℕ) (entry exit : List ℕ) (r : FieldLines)
-    → LinesPut types s p c first r entry exit → first + 256 * fields_left c ≤ length entry → text_left types s p c r ≡ []
-nothing_left types s p c first entry exit (FieldLines.Refused end n place) f h = refl
-nothing_left types s p c first entry exit (FieldLines.To end next at) f h = go (c.count - next) refl
+nothing_left : (types s : List ℕ) (p : MessagePlace) (c : Cursor) (first : ℕ) (entry exit : List ℕ) (end : ℕ) (r : Result Cursor Refusal)
+    → LinesPut types s p c first (end, r) entry exit → first + 256 * fields_left c ≤ length entry → text_left types s p r ≡ []
+nothing_left types s p c first entry exit end (Err r) f h = refl
+nothing_left types s p c first entry exit end (Ok a) f h = go (fields_left a) refl
   where
-    go : (k : ℕ) → c.count - next ≡ k → fields_text types s p (cursor_before c next at) ≡ []
-    go zero e = text_end types s p (cursor_before c next at) (omega arith)
+    go : (k : ℕ) → fields_left a ≡ k → fields_text types s p a ≡ []
+    go zero e = text_end types s p a (omega arith)
     go (suc k) e = f.all (omega (arith, f.near))
 
-all_lines : (types s : List ℕ) (p : MessagePlace) (c : Cursor) (first : ℕ) (entry exit : List ℕ) (r : FieldLines)
+all_lines : (types s : List ℕ) (p : MessagePlace) (c : Cursor) (first : ℕ) (entry exit : List ℕ) (r : ℕ × Result Cursor Refusal)
     → LinesPut types s p c first r entry exit → first + 256 * fields_left c ≤ length entry
-    → Put (256 * fields_left c) (fields_text types s p c) entry first exit (lines_end types s p r)
+    → Put (256 * fields_left c) (fields_text types s p c) entry first exit r.0
 all_lines types s p c first entry exit r f h =
     let z : fields_text types s p c ≡ f.text =
-    f.whole ∙ ap (λ (t : List ℕ). f.text ++ t) (nothing_left types s p c first entry exit r f h) ∙ append-nil f.text in
+    f.whole ∙ ap (λ (t : List ℕ). f.text ++ t) (nothing_left types s p c first entry exit r.0 r.1 f h) ∙ append-nil f.text in
     rw z (record { stored = f.stored; after = f.after; near = omega (arith, f.near) })
 
 -- ---- an accepted message's own line, the lines that were told, and those of the fields that are left
@@ -214,9 +213,9 @@ module _ (told l : List ℕ) {m n head : List ℕ} {at first next : ℕ} where
   pub set_room : (k : ℕ) → at + 256 + length told + 256 * k ≤ length l → Put 256 head l at m first → Stored told m first n next → next ≤ length n
   set_room k h a b = let q = told_put k h a b in omega (arith, a.near, q.0.near, q.1)
 
-pub set_then : (types s : List ℕ) (p : MessagePlace) (c : Cursor) (told l : List ℕ) {m n e head : List ℕ} {at first next : ℕ} (r : FieldLines)
+pub set_then : (types s : List ℕ) (p : MessagePlace) (c : Cursor) (told l : List ℕ) {m n e head : List ℕ} {at first next : ℕ} (r : ℕ × Result Cursor Refusal)
     → at + 256 + length told + 256 * fields_left c ≤ length l → Put 256 head l at m first → Stored told m first n next → LinesPut types s p c next r n e
-    → Put (256 + length told + 256 * fields_left c) (head ++ (told ++ fields_text types s p c)) l at e (lines_end types s p r)
+    → Put (256 + length told + 256 * fields_left c) (head ++ (told ++ fields_text types s p c)) l at e r.0
 set_then types s p c told l {m} {n} {e} {head} {at} {first} {next} r h a b f =
     let q = told_put told l (fields_left c) h a b in
     fewer (omega arith) (then a (then q.0 (all_lines types s p c next n e r f (omega (arith, a.near, q.0.near, q.1)))))
@@ -231,15 +230,11 @@ set_only types s p c told l k h a b =
     rw t (fewer (omega arith) (then a q.0))
 
 -- ---- whether a message is accepted
-judged_by : (r : Reached) → answer_judged r ≡ message_verdict (answer_reached r)
-judged_by (Reached.To at) = refl
-judged_by (Reached.Refused n place) = refl
-
 -- no field is left: its padding decides
-pub judged_end : (types s : List ℕ) (c : Cursor) (r : Reached) (x : Answer (Unit {0})) → c.count ≤ c.next → answer_reached r ≡ padding_at s c.at → x ≡ rest_accepted types s c
-    → answer_judged r ≡ x
-judged_end types s c r x h q e =
-    judged_by r ∙ ap message_verdict q ∙ sym (e ∙ ap (λ (a : Answer (Unit {0})). and_then a (λ _ end. message_verdict (padding_at s end))) (reads_end types s c h))
+pub judged_end : (types s : List ℕ) (c : Cursor) (r : Result ℕ Refusal) (j : Result (Unit {0}) Refusal) (x : Answer (Unit {0})) → c.count ≤ c.next
+    → answer_to (tt {0}) r ≡ padding_at s c.at → x ≡ rest_accepted types s c → answer_judged j ≡ message_verdict (answer_to (tt {0}) r) → answer_judged j ≡ x
+judged_end types s c r j x h q e k =
+    k ∙ ap message_verdict q ∙ sym (e ∙ ap (λ (a : Answer (Unit {0})). and_then a (λ _ end. message_verdict (padding_at s end))) (reads_end types s c h))
 
 module _ (types s : List ℕ) (h : Header) (c : Cursor) (start : c.next ≡ 0) where
   from_start : fields_at c.delta c.encoding types (fields_left c) c.next s c.at ≡ fields_at c.delta c.encoding types c.count 0 s c.at
@@ -260,15 +255,14 @@ module _ (types s : List ℕ) (h : Header) (c : Cursor) (start : c.next ≡ 0) w
 
   module _ (m : message_at types s ≡ end_at h c types s) (p : MessagePlace) (first : ℕ) (entry exit : List ℕ) where
     -- some of its lines were put: what is left decides
-    pub rest_decides : (end next at : ℕ) (a : Cursor) → LinesPut types s p c first (FieldLines.To end next at) entry exit → a ≡ cursor_before c next at
+    pub rest_decides : (end : ℕ) (a : Cursor) → LinesPut types s p c first (end, Ok a) entry exit
         → message_verdict (message_at types s) ≡ rest_accepted types s a
-    rest_decides end next at a f e =
+    rest_decides end a f =
         ap message_verdict m ∙ ends_accepted ∙ ap (λ (x : Answer (Unit {0})). and_then x (λ _ z. message_verdict (padding_at s z))) f.reading
-        ∙ ap (rest_accepted types s) (sym e)
 
     -- a field was refused
-    pub field_decides : (end n place : ℕ) → LinesPut types s p c first (FieldLines.Refused end n place) entry exit → message_at types s ≡ refused n place
-    field_decides end n place f =
+    pub field_decides : (end : ℕ) (r : Refusal) → LinesPut types s p c first (end, Err r) entry exit → message_at types s ≡ refused (reason_number r.reason) r.place
+    field_decides end r f =
         m ∙ ap (λ (x : Answer (Unit {0})). and_then x (λ _ z. and_then (padding_at s z) (λ _ y. got (valid (record { header = h; cursor = c; end = z })) z)))
         (sym from_start ∙ f.reading)
 
@@ -302,8 +296,8 @@ pub bad_put : {k most at r fault : ℕ} {l e : List ℕ} (types s : List ℕ) (p
 bad_put types s p q x z h u = rw z (fewer h u)
 
 -- of a message whose first lines were put into a buffer of its own
-module _ (types s : List ℕ) (p : MessagePlace) (c : Cursor) (start : c.next ≡ 0) (entry exit told : List ℕ) (end next at : ℕ) (a : Cursor)
-    (f : LinesPut types s p c 0 (FieldLines.To end next at) entry exit) (k : told ≡ take end (drop 0 exit)) (b : a ≡ cursor_before c next at) where
+module _ (types s : List ℕ) (p : MessagePlace) (c : Cursor) (start : c.next ≡ 0) (entry exit told : List ℕ) (end : ℕ) (a : Cursor)
+    (f : LinesPut types s p c 0 (end, Ok a) entry exit) (k : told ≡ take end (drop 0 exit)) where
   told_is : told ≡ f.text
   told_is =
       let n : end ≡ length f.text = omega (arith, f.after) in
@@ -312,8 +306,7 @@ module _ (types s : List ℕ) (p : MessagePlace) (c : Cursor) (start : c.next �
   pub told_room : 256 + length told + 256 * fields_left a ≤ 256 * (1 + c.count)
   told_room =
       let n = ap length told_is in
-      let r : fields_left a ≡ c.count - next = ap fields_left b in
-      omega (arith, f.after, f.near, r, n)
+      omega (arith, f.after, f.near, n)
 
   pub accepted_put : {most i r : ℕ} {l e : List ℕ} (h : Header) (q : SetPlace) → message_at types s ≡ end_at h c types s → got tt 0 ≡ message_verdict (message_at types s) → 256 * (1 + c.count) ≤ most
       → Put (256 + length told + 256 * fields_left a)
@@ -321,27 +314,27 @@ module _ (types s : List ℕ) (p : MessagePlace) (c : Cursor) (start : c.next �
       → Put most (set_text types s p q (message_at types s)) l i e r
   accepted_put h q m z w u =
       let t : fields_text types s p c ≡ told ++ fields_text types s p a =
-      f.whole ∙ ap (λ (x : List ℕ). x ++ fields_text types s p (cursor_before c next at)) (sym told_is) ∙ ap (λ (x : Cursor). told ++ fields_text types s p x) (sym b) in
+      f.whole ∙ ap (λ (x : List ℕ). x ++ fields_text types s p a) (sym told_is) in
       rw (text_accepted types s h c start p q m z, t) (fewer (omega (arith, told_room)) u)
 
 -- ---- a listing with one message
-pub not_put : (t l : List ℕ) → OnePut t OneListed.Not l l
+pub not_put : (t l : List ℕ) → OnePut t None l l
 not_put t l = record { stored = refl; after = refl; within = omega arith }
 
-pub both_put : {j k at r : ℕ} {t u m e : List ℕ} (l : List ℕ) → j + k ≤ length l → Put j t l 0 m at → Put k u m at e r → OnePut (t ++ u) (OneListed.To r) l e
+pub both_put : {j k at r : ℕ} {t u m e : List ℕ} (l : List ℕ) → j + k ≤ length l → Put j t l 0 m at → Put k u m at e r → OnePut (t ++ u) (Some r) l e
 both_put l h a b = let p = then a b in record { stored = p.stored; after = omega (arith, p.after); within = omega (arith, p.near) }
 
 pub put_long : {k at next : ℕ} {t e : List ℕ} (l : List ℕ) → Put k t l at e next → length e ≡ length l
 put_long {k} {at} {next} {t} l u = ap length u.stored ∙ length-sets l at t
 
-pub one_told : {t l e : List ℕ} {x y : OneListed} → OnePut t x l e → x ≡ y → OnePut t y l e
-one_told {t} {l} {e} f q = subst (λ (r : OneListed). OnePut t r l e) q f
+pub one_told : {t l e : List ℕ} {x y : Option ℕ} → OnePut t x l e → x ≡ y → OnePut t y l e
+one_told {t} {l} {e} f q = subst (λ (r : Option ℕ). OnePut t r l e) q f
 
-pub one_same : {t u l e : List ℕ} {r : OneListed} → u ≡ t → OnePut t r l e → OnePut u r l e
+pub one_same : {t u l e : List ℕ} {r : Option ℕ} → u ≡ t → OnePut t r l e → OnePut u r l e
 one_same {t} {u} {l} {e} {r} q f = subst (λ (x : List ℕ). OnePut x r l e) (sym q) f
 
 -- ---- one message, whose bytes are its own part of the datagram d
-module _ (types d bytes : List ℕ) (p : MessagePlace) (w : Optional16) (b : bytes ≡ take p.length (drop p.offset d)) where
+module _ (types d bytes : List ℕ) (p : MessagePlace) (w : Option ℕ) (b : bytes ≡ take p.length (drop p.offset d)) where
   abbrev Message-put : ℕ → ℕ → List ℕ → List ℕ → Type 0
   Message-put at r l e =
       Put (256 * (1 + field_count (front_at types (take p.length (drop p.offset d)))))
@@ -361,7 +354,7 @@ module _ (types d bytes : List ℕ) (p : MessagePlace) (w : Optional16) (b : byt
     pub opened_room : (at k : ℕ) → at + 256 * (1 + field_count (front_at types (take p.length (drop p.offset d)))) ≤ k → at + 256 * (1 + m.cursor.count) ≤ k
     opened_room at k h = rw (sym b, sym a) at h
 
-    pub opened_both : {l e : List ℕ} {r : OneListed} (t : List ℕ) → OnePut (t ++ set_text types bytes p (set_place_of p w) (message_at types bytes)) r l e
+    pub opened_both : {l e : List ℕ} {r : Option ℕ} (t : List ℕ) → OnePut (t ++ set_text types bytes p (set_place_of p w) (message_at types bytes)) r l e
         → OnePut (t ++ set_text types (take p.length (drop p.offset d)) p (set_place_of p w) (message_at types (take p.length (drop p.offset d)))) r l e
     opened_both t u = rw (sym b) u
 
@@ -434,8 +427,8 @@ module _ (w : Writers) (d : List ℕ) where
   unfolding most_from
   most_next l c x n e = rw (message_passed l c x n e, e)
 
-  pub most_more : (l : Listed) (c : MessageCursor) (x : PlaceStepped) (n : ℕ) (v : Optional16) (types bytes : List ℕ) → message_of l c ≡ got x n
-      → v ≡ writer_at w d l x.place → types ≡ types_of w.ids w.starts w.types v → bytes ≡ take x.place.length (drop x.place.offset d)
+  pub most_more : (l : Listed) (c : MessageCursor) (x : PlaceStepped) (n : ℕ) (v : Option ℕ) (types bytes : List ℕ) → message_of l c ≡ got x n
+      → v ≡ writer_at w d l x.place → types ≡ types_by w v → bytes ≡ take x.place.length (drop x.place.offset d)
       → most_left w d l c ≡ 1 + field_count (front_at types bytes) + most_left w d l x.cursor
   most_more l c x n v types bytes e a b k = most_next l c x n e ∙ sym (rw (b, a, k))
 
@@ -461,8 +454,8 @@ module _ (w : Writers) (d : List ℕ) where
   abbrev left_text : Listed → MessageCursor → List ℕ
   left_text l c = lines_text d (message_lines w d (messages_left l c) l c)
 
-  text_next : (l : Listed) (c : MessageCursor) (x : PlaceStepped) (n : ℕ) (v : Optional16) (types : List ℕ) → message_of l c ≡ got x n
-      → v ≡ writer_at w d l x.place → types ≡ types_of w.ids w.starts w.types v
+  text_next : (l : Listed) (c : MessageCursor) (x : PlaceStepped) (n : ℕ) (v : Option ℕ) (types : List ℕ) → message_of l c ≡ got x n
+      → v ≡ writer_at w d l x.place → types ≡ types_by w v
       → left_text l c ≡ set_text types (bytes_at w d x.place) x.place (set_place_of x.place v) (message_at types (bytes_at w d x.place)) ++ left_text l x.cursor
   text_next l c x n v types e a b =
       let s : set_text (types_at w d l x.place) (bytes_at w d x.place) x.place (set_place_of x.place (writer_at w d l x.place)) (message_at (types_at w d l x.place) (bytes_at w d x.place))
@@ -472,8 +465,8 @@ module _ (w : Writers) (d : List ℕ) where
       ∙ ap (λ (t : List ℕ). t ++ left_text l x.cursor) (set_text_lem l x.place (message_at (types_at w d l x.place) (bytes_at w d x.place)) ∙ s)
 
   -- the text of a listing with one message
-  pub one_text : (l : Listed) (p : MessagePlace) (next : MessageCursor) (n : ℕ) (v : Optional16) (types : List ℕ) → l.payload.count ≡ 1
-      → got (record { place = p; cursor = next }) n ≡ message_of l (first_message l) → v ≡ writer_at w d l p → types ≡ types_of w.ids w.starts w.types v
+  pub one_text : (l : Listed) (p : MessagePlace) (next : MessageCursor) (n : ℕ) (v : Option ℕ) (types : List ℕ) → l.payload.count ≡ 1
+      → got (record { place = p; cursor = next }) n ≡ message_of l (first_message l) → v ≡ writer_at w d l p → types ≡ types_by w v
       → lines_text d (accepted_lines w d l) ≡ line_out d (net_line w d l) ++ set_text types (bytes_at w d p) p (set_place_of p v) (message_at types (bytes_at w d p))
   unfolding message_lines
   one_text l p next n v types one e a b =
@@ -518,8 +511,8 @@ module _ (w : Writers) (d : List ℕ) where
           omega (arith, g.room, g.long, net_long l entry start first u),
         )
 
-    module _ (p : MessagePlace) (next : MessageCursor) (n : ℕ) (v : Optional16) (types : List ℕ) (e : got (record { place = p; cursor = next }) n ≡ message_of l c)
-        (a : v ≡ writer_at w d l p) (b : types ≡ types_of w.ids w.starts w.types v) where
+    module _ (p : MessagePlace) (next : MessageCursor) (n : ℕ) (v : Option ℕ) (types : List ℕ) (e : got (record { place = p; cursor = next }) n ≡ message_of l c)
+        (a : v ≡ writer_at w d l p) (b : types ≡ types_by w v) where
       most_here : most_left w d l c ≡ 1 + field_count (front_at types (bytes_at w d p)) + most_left w d l next
       most_here = most_more l c (record { place = p; cursor = next }) n v types (bytes_at w d p) (sym e) a b refl
 
@@ -544,15 +537,15 @@ module _ (w : Writers) (d : List ℕ) where
           }
 
 -- the same text
-pub same_listing : (out e t u : List ℕ) (r : Written) → t ≡ u → (r ≡ text_written out t) × (e ≡ text_after out t) → (r ≡ text_written out u) × (e ≡ text_after out u)
+pub same_listing : (out e t u : List ℕ) (r : Result ℕ Reason) → t ≡ u → (r ≡ text_written out t) × (e ≡ text_after out t) → (r ≡ text_written out u) × (e ≡ text_after out u)
 same_listing out e t u r q a = (a.0 ∙ ap (text_written out) q, a.1 ∙ ap (text_after out) q)
 
 -- a listing that fits is written
-pub list_written : (out t e : List ℕ) (r : ℕ) → r ≡ length t → e ≡ sets out 0 t → r ≤ length out → (Written.Is r ≡ text_written out t) × (e ≡ text_after out t)
-list_written out t e r a b c = let f = le-ltb (length out) (length t) (omega arith) in (rw f (ap Written.Is a), rw f b)
+pub list_written : (out t e : List ℕ) (r : ℕ) → r ≡ length t → e ≡ sets out 0 t → r ≤ length out → (Ok r ≡ text_written out t) × (e ≡ text_after out t)
+list_written out t e r a b c = let f = le-ltb (length out) (length t) (omega arith) in (rw f (ap (λ (k : ℕ). Ok k) a), rw f b)
 
-pub one_written : (out t e : List ℕ) (n : ℕ) → OnePut t (OneListed.To n) out e → (Written.Is n ≡ text_written out t) × (e ≡ text_after out t)
+pub one_written : (out t e : List ℕ) (n : ℕ) → OnePut t (Some n) out e → (Ok n ≡ text_written out t) × (e ≡ text_after out t)
 one_written out t e n f = list_written out t e n f.after f.stored f.within
 
-pub none_written : (out t mid e : List ℕ) (r : Written) → OnePut t OneListed.Not out mid → (r ≡ text_written mid t) × (e ≡ text_after mid t) → (r ≡ text_written out t) × (e ≡ text_after out t)
+pub none_written : (out t mid e : List ℕ) (r : Result ℕ Reason) → OnePut t None out mid → (r ≡ text_written mid t) × (e ≡ text_after mid t) → (r ≡ text_written out t) × (e ≡ text_after out t)
 none_written out t mid e r f a = (a.0 ∙ ap (λ (x : List ℕ). text_written x t) f.stored, a.1 ∙ ap (λ (x : List ℕ). text_after x t) f.stored)

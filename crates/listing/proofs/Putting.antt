@@ -1,5 +1,6 @@
 -- Laws of parts put one after the other.
 -- Assumes nothing.
+use Rattle.std.specs.Prelude.{Ok, Err}
 use mathlib.Core.Path.{◌≡◌, ap, ◌∙◌}
 use mathlib.Core.List.{List, [], ◌∷◌, ◌++◌}
 use mathlib.Core.Bool.{true, false}
@@ -18,7 +19,7 @@ use Rattle.publisher_id.specs.declared.publisher.PublisherId.{PublisherId}
 use Rattle.listing.specs.Columns.{tabbed, Put}
 use Rattle.listing.specs.Line.{id_too_long, too_long, line_text, line_refusal, line_put, line_after}
 use Rattle.walk.specs.declared.entry.Line.{Line}
-use Rattle.listing.specs.declared.line.LinePut.{LinePut}
+use Rattle.wire.specs.declared.refusal.Reason.{Reason}
 
 -- a text that was put where there is room for as many bytes as it may have
 pub put_all : (k : ℕ) (t l m : List ℕ) (at next : ℕ) → length t ≤ k → at + k ≤ length l → Stored t l at m next → Put k t l at m next
@@ -64,16 +65,16 @@ id_fits {id} {n} p l e t q =
 
 -- the ways out of putting a line: a string id above 64 bytes, a buffer that is too short, and the line put
 module _ (l d : List ℕ) (x : Line) where
-  pub long : too_long x ≡ true → (LinePut.Refused 10 ≡ line_put l d x) × (l ≡ line_after l d x) × (0 ≤ 256)
+  pub long : too_long x ≡ true → (Err Reason.OverLimit ≡ line_put l d x) × (l ≡ line_after l d x) × (0 ≤ 256)
   unfolding line_refusal
   long e = (rw e, rw e, omega arith)
 
-  pub narrow : too_long x ≡ false → length l < 256 → (LinePut.Refused 11 ≡ line_put l d x) × (l ≡ line_after l d x) × (0 ≤ 256)
+  pub narrow : too_long x ≡ false → length l < 256 → (Err Reason.NoRoom ≡ line_put l d x) × (l ≡ line_after l d x) × (0 ≤ 256)
   unfolding line_refusal
   narrow e h = (rw (e, lt-ltb (length l) 256 h), rw (e, lt-ltb (length l) 256 h), omega arith)
 
-  pub done : (e : List ℕ) (r : ℕ) → too_long x ≡ false → 256 ≤ length l → Put 256 (line_text d x) l 0 e r → (LinePut.Is r ≡ line_put l d x) × (e ≡ line_after l d x) × (r ≤ 256)
+  pub done : (e : List ℕ) (r : ℕ) → too_long x ≡ false → 256 ≤ length l → Put 256 (line_text d x) l 0 e r → (Ok r ≡ line_put l d x) × (e ≡ line_after l d x) × (r ≤ 256)
   unfolding line_refusal
   done e r t h p =
       let q : r ≡ length (line_text d x) = omega (arith, p.after) in
-      (rw (t, le-ltb (length l) 256 h) (ap LinePut.Is q), rw (t, le-ltb (length l) 256 h) p.stored, omega (arith, p.near))
+      (rw (t, le-ltb (length l) 256 h) (ap (λ (k : ℕ). Ok k) q), rw (t, le-ltb (length l) 256 h) p.stored, omega (arith, p.near))

@@ -1,7 +1,6 @@
 -- The parts of a line: words, decimals, hex; "tab-parted", "every line ended by a newline".
-use Rattle.std.specs.Prelude.{ℕ, ◌+◌, ◌≤◌, ◌≡◌, List, [], ◌∷◌, length}
+use Rattle.std.specs.Prelude.{ℕ, ◌+◌, ◌≤◌, ◌≡◌, List, [], ◌∷◌, length, Option, Some, None}
 use Rattle.std.proofs.lemmas.List.Edits.{sets}
-use Rattle.wire.specs.declared.optional.Optional16.{Optional16}
 use Rattle.value.specs.declared.Shape.{Shape}
 use Rattle.text.specs.Decimal.{decimal_text}
 
@@ -16,9 +15,9 @@ line_end = 10 ∷ []
 abbrev pub dash : List ℕ
 dash = 45 ∷ []
 
-abbrev pub optional_text : Optional16 → List ℕ
-optional_text Optional16.Absent = dash
-optional_text (Optional16.Is v) = decimal_text v
+abbrev pub optional_text : Option ℕ → List ℕ
+optional_text None = dash
+optional_text (Some v) = decimal_text v
 
 -- "element count or `-` for a scalar, -1 for a null array"
 abbrev pub shape_text : Shape → List ℕ

@@ -1,7 +1,7 @@
 -- The lines of a listing and their text (document 01, "Configuration and listing").
-use Rattle.std.specs.Prelude.{ℕ, ◌-◌, ◌≤◌, ◌≡◌, Bool, false, cond, List, [], ◌∷◌, ◌++◌, ltb, eqb, length, take, drop}
+use Rattle.std.specs.Prelude.{ℕ, ◌-◌, ◌≤◌, ◌≡◌, Bool, false, cond, List, [], ◌∷◌, ◌++◌, ltb, length, take, drop, Result, Ok, Err}
 use Rattle.std.proofs.lemmas.List.Edits.{sets}
-use Rattle.wire.specs.Constants.{NO_ROOM, OVER_LIMIT}
+use Rattle.wire.specs.declared.refusal.Reason.{Reason}
 use Rattle.wire_writer.specs.Fits.{Bytes}
 use Rattle.text.specs.Decimal.{decimal_text}
 use Rattle.text.specs.Hex.{hex_text}
@@ -14,7 +14,6 @@ use Rattle.dataset_fields.specs.declared.fields.Field.{Field}
 use Rattle.listing.specs.Columns.{tabbed, line_end, dash, optional_text, shape_text}
 use Rattle.walk.specs.declared.entry.SetPlace.{SetPlace}
 use Rattle.walk.specs.declared.entry.Line.{Line}
-use Rattle.listing.specs.declared.line.LinePut.{LinePut}
 
 -- ---- the fixed words
 abbrev pub net_word : List ℕ
@@ -115,27 +114,29 @@ too_long (Line.Field m f) = false
 too_long (Line.Bad n place) = false
 
 -- a buffer of 256 bytes holds any line; a shorter one is 11, and such an id is 10
-unfoldable pub line_refusal : List ℕ → Line → ℕ
-line_refusal l x = cond (too_long x) OVER_LIMIT (cond (ltb (length l) 256) NO_ROOM 0)
+unfoldable pub line_refusal : List ℕ → Line → Result (Unit {0}) Reason
+line_refusal l x = cond (too_long x) (Err Reason.OverLimit) (cond (ltb (length l) 256) (Err Reason.NoRoom) (Ok tt))
 
-abbrev pub put_by : ℕ → List ℕ → LinePut
-put_by n t = cond (eqb n 0) (LinePut.Is (length t)) (LinePut.Refused n)
+abbrev pub put_by : Result (Unit {0}) Reason → List ℕ → Result ℕ Reason
+put_by (Ok u) t = Ok (length t)
+put_by (Err reason) t = Err reason
 
-abbrev pub buffer_by : ℕ → List ℕ → List ℕ → List ℕ
-buffer_by n l t = cond (eqb n 0) (sets l 0 t) l
+abbrev pub buffer_by : Result (Unit {0}) Reason → List ℕ → List ℕ → List ℕ
+buffer_by (Ok u) l t = sets l 0 t
+buffer_by (Err reason) l t = l
 
 -- the answer, and the buffer l afterwards: the line's text at its start and the rest as it was, or all as it was
-abbrev pub line_put : List ℕ → List ℕ → Line → LinePut
+abbrev pub line_put : List ℕ → List ℕ → Line → Result ℕ Reason
 line_put l d x = put_by (line_refusal l x) (line_text d x)
 
 abbrev pub line_after : List ℕ → List ℕ → Line → List ℕ
 line_after l d x = buffer_by (line_refusal l x) l (line_text d x)
 
 -- how many bytes a line put there takes
-abbrev pub put_length : LinePut → ℕ
-put_length (LinePut.Is n) = n
-put_length (LinePut.Refused number) = 0
+abbrev pub put_length : Result ℕ Reason → ℕ
+put_length (Ok n) = n
+put_length (Err reason) = 0
 
 -- what `put_line` promises, of the buffer before and after and its answer; and that the datagram's bytes are bytes
-abbrev pub PutLine : List ℕ → Line → List ℕ → List ℕ → LinePut → Type 0
+abbrev pub PutLine : List ℕ → Line → List ℕ → List ℕ → Result ℕ Reason → Type 0
 PutLine d x entry exit r = (r ≡ line_put entry d x) × (exit ≡ line_after entry d x) × (put_length r ≤ 256) × Bytes d

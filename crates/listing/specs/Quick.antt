@@ -1,15 +1,15 @@
 -- The lines of one message as text, by its own bytes and the field types of its writer, and how many lines there are at most. That these
 -- are the texts of the listing's lines is proved in proofs/OnePass.antt.
-use Rattle.std.specs.Prelude.{ℕ, zero, suc, ◌+◌, ◌*◌, ◌-◌, ◌≤◌, ◌≡◌, List, [], ◌++◌, length}
+use Rattle.std.specs.Prelude.{ℕ, zero, suc, ◌+◌, ◌*◌, ◌≤◌, ◌≡◌, List, [], ◌++◌, length, Option, Some, None, Result, Ok, Err}
 use Rattle.std.proofs.lemmas.List.Edits.{sets}
+use Rattle.wire.specs.declared.refusal.Refusal.{Refusal}
+use Rattle.wire.specs.Refusal.{reason_number}
 use Rattle.wire.specs.Answer.{Answer, got, refused, and_then}
-use Rattle.wire.specs.declared.Reached.{Reached}
-use Rattle.wire.specs.declared.optional.Optional16.{Optional16}
 use Rattle.network_message.specs.Payload.{PlaceStepped, place_step_at}
 use Rattle.network_message.specs.declared.payload.MessagePlace.{MessagePlace}
 use Rattle.network_message.specs.declared.payload.MessageCursor.{MessageCursor}
 use Rattle.dataset_header.specs.Flags.{Valid, not_valid, valid}
-use Rattle.dataset_fields.specs.Fields.{fields_at, padding_at, FieldStepped, next_field_at, cursor_before}
+use Rattle.dataset_fields.specs.Fields.{fields_at, padding_at, FieldStepped, next_field_at}
 use Rattle.dataset_fields.specs.declared.fields.Cursor.{Cursor}
 use Rattle.dataset_message.specs.Message.{Message, front_at}
 use Rattle.walk.specs.Lines.{Writers, in_datagram, fields_left, messages_left, first_message, types_at, bytes_at}
@@ -17,11 +17,9 @@ use Rattle.walk.specs.declared.entry.SetPlace.{SetPlace}
 use Rattle.walk.specs.declared.lines.Listed.{Listed}
 use Rattle.listing.specs.Columns.{tabbed, line_end, optional_text}
 use Rattle.listing.specs.Line.{bad_word, invalid_word, place_text, head_text, refusal_text, field_text}
-use Rattle.listing.specs.declared.quick.FieldLines.{FieldLines}
-use Rattle.listing.specs.declared.quick.OneListed.{OneListed}
 
 -- what the `set` line of the message in place p begins with
-abbrev pub set_place_of : MessagePlace → Optional16 → SetPlace
+abbrev pub set_place_of : MessagePlace → Option ℕ → SetPlace
 set_place_of p writer = record { message = p.index; writer = writer; offset = p.offset; length = p.length }
 
 -- ---- of the message in place p, its field types and its bytes
@@ -46,48 +44,45 @@ module _ (types bytes : List ℕ) (p : MessagePlace) where
       ++ fields_text m.cursor
   set_text q (refused n place) = place_text q ++ (tabbed bad_word ++ refusal_text n place)
 
-  -- ---- some of the fields' lines were put: what is left of the lines, of the fields and of reading them
-  abbrev pub lines_end : FieldLines → ℕ
-  lines_end (FieldLines.To end next at) = end
-  lines_end (FieldLines.Refused end n place) = end
+  -- ---- some of the fields' lines were put, and the answer is the cursor before the next field or its refusal: what is left of the lines,
+  -- of the fields and of reading them
+  abbrev pub text_left : Result Cursor Refusal → List ℕ
+  text_left (Ok a) = fields_text a
+  text_left (Err r) = []
 
-  abbrev pub text_left : Cursor → FieldLines → List ℕ
-  text_left c (FieldLines.To end next at) = fields_text (cursor_before c next at)
-  text_left c (FieldLines.Refused end n place) = []
+  abbrev pub count_left : Result Cursor Refusal → ℕ
+  count_left (Ok a) = fields_left a
+  count_left (Err r) = 0
 
-  abbrev pub count_left : Cursor → FieldLines → ℕ
-  count_left c (FieldLines.To end next at) = c.count - next
-  count_left c (FieldLines.Refused end n place) = 0
-
-  abbrev pub reading_left : Cursor → FieldLines → Answer (Unit {0})
-  reading_left c (FieldLines.To end next at) = fields_at c.delta c.encoding types (c.count - next) next bytes at
-  reading_left c (FieldLines.Refused end n place) = refused n place
+  abbrev pub reading_left : Result Cursor Refusal → Answer (Unit {0})
+  reading_left (Ok a) = fields_at a.delta a.encoding types (fields_left a) a.next bytes a.at
+  reading_left (Err r) = refused (reason_number r.reason) r.place
 
   -- the text of the first of the lines from the cursor c on was put from position `first` on; where there is room for one more, of all
-  pub record LinesPut (c : Cursor) (first : ℕ) (r : FieldLines) (entry exit : List ℕ) : Type 0 where
+  pub record LinesPut (c : Cursor) (first : ℕ) (r : ℕ × Result Cursor Refusal) (entry exit : List ℕ) : Type 0 where
     pub text : List ℕ
     pub stored : exit ≡ sets entry first text
-    pub after : lines_end r ≡ first + length text
-    pub within : lines_end r ≤ length entry
-    pub whole : fields_text c ≡ text ++ text_left c r
-    pub reading : fields_at c.delta c.encoding types (fields_left c) c.next bytes c.at ≡ reading_left c r
-    pub near : lines_end r + 256 * count_left c r ≤ first + 256 * fields_left c
-    pub all : lines_end r + 256 ≤ length entry → text_left c r ≡ []
+    pub after : r.0 ≡ first + length text
+    pub within : r.0 ≤ length entry
+    pub whole : fields_text c ≡ text ++ text_left r.1
+    pub reading : fields_at c.delta c.encoding types (fields_left c) c.next bytes c.at ≡ reading_left r.1
+    pub near : r.0 + 256 * count_left r.1 ≤ first + 256 * fields_left c
+    pub all : r.0 + 256 ≤ length entry → text_left r.1 ≡ []
 
 -- ---- a listing with one message was put, or nothing was
-abbrev pub one_after : OneListed → List ℕ → List ℕ → List ℕ
-one_after (OneListed.To n) l t = sets l 0 t
-one_after OneListed.Not l t = l
+abbrev pub one_after : Option ℕ → List ℕ → List ℕ → List ℕ
+one_after (Some n) l t = sets l 0 t
+one_after None l t = l
 
-abbrev pub one_length : OneListed → List ℕ → ℕ
-one_length (OneListed.To n) t = n
-one_length OneListed.Not t = length t
+abbrev pub one_length : Option ℕ → List ℕ → ℕ
+one_length (Some n) t = n
+one_length None t = length t
 
-abbrev pub one_end : OneListed → ℕ
-one_end (OneListed.To n) = n
-one_end OneListed.Not = 0
+abbrev pub one_end : Option ℕ → ℕ
+one_end (Some n) = n
+one_end None = 0
 
-pub record OnePut (text : List ℕ) (r : OneListed) (entry exit : List ℕ) : Type 0 where
+pub record OnePut (text : List ℕ) (r : Option ℕ) (entry exit : List ℕ) : Type 0 where
   pub stored : exit ≡ one_after r entry text
   pub after : one_length r text ≡ length text
   pub within : one_end r ≤ length entry
@@ -97,9 +92,9 @@ abbrev pub message_verdict : {A : Type 0} → Answer A → Answer (Unit {0})
 message_verdict (got x next) = got tt 0
 message_verdict (refused n place) = refused n place
 
-abbrev pub answer_judged : Reached → Answer (Unit {0})
-answer_judged (Reached.To at) = got tt 0
-answer_judged (Reached.Refused n place) = refused n place
+abbrev pub answer_judged : Result (Unit {0}) Refusal → Answer (Unit {0})
+answer_judged (Ok u) = got tt 0
+answer_judged (Err r) = refused (reason_number r.reason) r.place
 
 -- the fields from field `next` on, and the padding after them
 abbrev pub rest_accepted : List ℕ → List ℕ → Cursor → Answer (Unit {0})

@@ -1,12 +1,9 @@
 -- A whole listing as text: its lines one after the other.
-use Rattle.std.specs.Prelude.{ℕ, suc, ◌+◌, ◌-◌, cond, List, [], ◌∷◌, ◌++◌, ltb, length, take}
+use Rattle.std.specs.Prelude.{ℕ, suc, ◌+◌, ◌-◌, cond, List, [], ◌∷◌, ◌++◌, ltb, length, take, Option, Some, None, Result, Ok, Err}
 use Rattle.std.proofs.lemmas.List.Edits.{sets}
-use Rattle.wire.specs.Constants.{NO_ROOM}
+use Rattle.wire.specs.declared.refusal.Reason.{Reason}
 use Rattle.listing.specs.Line.{too_long, line_text}
 use Rattle.walk.specs.declared.entry.Line.{Line}
-use Rattle.wire_writer.specs.declared.writing.Written.{Written}
-use Rattle.listing.specs.declared.whole.TextLength.{TextLength}
-use Rattle.listing.specs.declared.block.LinePlaced.{LinePlaced}
 
 -- a line's text; a line with a string id above 64 bytes, which no accepted datagram has, has none
 abbrev pub line_out : List ℕ → Line → List ℕ
@@ -17,20 +14,20 @@ lines_text d [] = []
 lines_text d (x ∷ xs) = line_out d x ++ lines_text d xs
 
 -- a text's length where it fits into some room
-abbrev pub length_in : ℕ → List ℕ → TextLength
-length_in room t = cond (ltb room (length t)) TextLength.Long (TextLength.Is (length t))
+abbrev pub length_in : ℕ → List ℕ → Option ℕ
+length_in room t = cond (ltb room (length t)) None (Some (length t))
 
 -- put at the start of a buffer: 11 where it does not fit
-abbrev pub text_written : List ℕ → List ℕ → Written
-text_written out t = cond (ltb (length out) (length t)) (Written.Refused NO_ROOM) (Written.Is (length t))
+abbrev pub text_written : List ℕ → List ℕ → Result ℕ Reason
+text_written out t = cond (ltb (length out) (length t)) (Err Reason.NoRoom) (Ok (length t))
 
 abbrev pub text_after : List ℕ → List ℕ → List ℕ
 text_after out t = cond (ltb (length out) (length t)) out (sets out 0 t)
 
 -- ---- blocks of whole lines
 -- a line's text put from a position of a buffer on, where it fits there
-abbrev pub line_placed : List ℕ → ℕ → List ℕ → LinePlaced
-line_placed out at t = cond (ltb (length out - at) (length t)) LinePlaced.NoRoom (LinePlaced.To (at + length t))
+abbrev pub line_placed : List ℕ → ℕ → List ℕ → Option ℕ
+line_placed out at t = cond (ltb (length out - at) (length t)) None (Some (at + length t))
 
 abbrev pub placed_after : List ℕ → ℕ → List ℕ → List ℕ
 placed_after out at t = cond (ltb (length out - at) (length t)) out (sets out at t)

@@ -1,25 +1,20 @@
 // The lines of a listing in blocks: as many whole lines as fit into a lent buffer, and the cursor before the next one.
 ghost use Rattle.std.specs.Prelude.{◌≡◌, ◌≤◌, [], length};
 ghost use Rattle.std.proofs.lemmas.List.Edits.{sets};
-ghost use Rattle.walk.specs.Lines.{writers, lines_from, cursor_after};
+ghost use Rattle.config.specs.Writers.{lists_in};
+ghost use Rattle.walk.specs.Lines.{lines_from, cursor_after};
 ghost use Rattle.listing.specs.Text.{line_out, lines_text, line_placed, placed_after, lines_fitting, block_text};
 
-use crate::line::{LinePut, put_line};
+use crate::line::put_line;
+use config::WriterLists;
 use walk::entry::Line;
-use walk::lines::{LineCursor, LineStep, next_line};
+use walk::lines::{LineCursor, next_line};
 use wire::part::part;
 use wire_writer::store::put_run;
 
-// The position after a line's text, or that it does not fit.
-#[derive(Clone, Copy)]
-pub enum LinePlaced {
-    To(usize),
-    NoRoom,
-}
-
 // How many bytes at the buffer's start are the block, and the cursor before the line after it, which holds what `network_header::header`
 // and `network_message::payload` declare.
-#[derive(Clone, Copy)]
+#[derive(Clone, Copy, PartialEq, Eq, Debug)]
 pub struct Block {
     pub length: usize,
     pub next: LineCursor,
@@ -31,14 +26,12 @@ pub(crate) fn line_in(text: &mut [u8], s: &[u8], line: Line) -> usize
     ensures { let bytes = line_out s.now line in
         (result ≡ length bytes) × (text.new ≡ sets text.old 0 bytes) × (result ≤ 256) }
 {
-    match put_line(text, s, line) {
-        LinePut::Is(n) => n,
-        LinePut::Refused(_) => 0,
-    }
+    put_line(text, s, line).unwrap_or(0)
 }
 
-// Puts a line's text from a position on, where fewer than 256 bytes are left: by way of a buffer of its own.
-fn place_near_end(out: &mut [u8], at: usize, s: &[u8], line: Line) -> LinePlaced
+// Puts a line's text from a position on, where fewer than 256 bytes are left: by way of a buffer of its own. The position after it, none
+// where it does not fit.
+fn place_near_end(out: &mut [u8], at: usize, s: &[u8], line: Line) -> Option<usize>
     requires { at ≤ length out.old }
     ensures { let bytes = line_out s.now line in
         (result ≡ line_placed out.old at bytes)
@@ -48,14 +41,14 @@ fn place_near_end(out: &mut [u8], at: usize, s: &[u8], line: Line) -> LinePlaced
     let mut text = [0u8; 256];
     let n = line_in(&mut text, s, line);
     if out.len() - at < n {
-        return LinePlaced::NoRoom;
+        return None;
     }
     put_run(out, at, part(&text, 0, n));
-    LinePlaced::To(at + n)
+    Some(at + n)
 }
 
 // Puts a line's text from a position on, where it fits.
-fn place_line(out: &mut [u8], at: usize, s: &[u8], line: Line) -> LinePlaced
+fn place_line(out: &mut [u8], at: usize, s: &[u8], line: Line) -> Option<usize>
     requires { at ≤ length out.old }
     ensures { let bytes = line_out s.now line in
         (result ≡ line_placed out.old at bytes)
@@ -67,51 +60,35 @@ fn place_line(out: &mut [u8], at: usize, s: &[u8], line: Line) -> LinePlaced
     }
     let end = at + 256;
     let n = line_in(&mut out[at..end], s, line);
-    LinePlaced::To(at + n)
+    Some(at + n)
 }
 
 // Puts the lines from a cursor on at the start of a buffer, as many as fit one after the other. No line is longer than 256 bytes: where the
 // buffer is not shorter, an empty block is the end.
-pub fn put_block<'a>(
-    out: &mut [u8],
-    s: &[u8],
-    ids: &'a [u16],
-    sizes: &[u16],
-    starts: &'a [u8],
-    types: &'a [u8],
-    first: LineCursor,
-) -> Block
-    ensures { let w = writers ids.now sizes.now starts.now types.now in
-        let lines = lines_from w s.now first in
+pub fn put_block(out: &mut [u8], s: &[u8], w: WriterLists<'_>, first: LineCursor) -> Block
+    ensures { let said = lists_in w.entry in
+        let lines = lines_from said s.now first in
         let room = length out.old in
         let text = block_text s.now room lines in
         (result.length ≡ length text)
         × (out.new ≡ sets out.old 0 text)
-        × (result.next ≡ cursor_after w s.now (lines_fitting s.now room lines) first)
+        × (result.next ≡ cursor_after said s.now (lines_fitting s.now room lines) first)
         × (256 ≤ room → result.length ≡ 0 → lines_text s.now lines ≡ []) }
 {
     let mut cursor = first;
     let mut at = 0;
-    loop {
-        match next_line(s, ids, sizes, starts, types, cursor) {
-            LineStep::None => {
-                return Block {
-                    length: at,
-                    next: cursor,
-                };
-            }
-            LineStep::Is(line, next) => match place_line(out, at, s, line) {
-                LinePlaced::NoRoom => {
-                    return Block {
-                        length: at,
-                        next: cursor,
-                    };
-                }
-                LinePlaced::To(end) => {
-                    at = end;
-                    cursor = next;
-                }
-            },
-        }
+    while let Some((line, next)) = next_line(s, w, cursor) {
+        let Some(end) = place_line(out, at, s, line) else {
+            return Block {
+                length: at,
+                next: cursor,
+            };
+        };
+        at = end;
+        cursor = next;
+    }
+    Block {
+        length: at,
+        next: cursor,
     }
 }

@@ -9,7 +9,6 @@ use crate::quick_decimal::put_number;
 use text::hex::put_hex;
 use text::words::put_bytes;
 use value::Shape;
-use wire::optional::Optional16;
 
 // A line's first word.
 pub(crate) fn first(out: &mut [u8], at: usize, text: &[u8]) -> usize
@@ -23,7 +22,7 @@ fn tab(out: &mut [u8], at: usize)
     requires { at + 1 ≤ length out.old }
     ensures { out.new ≡ set out.old at 9 }
 {
-    out[at] = 9;
+    out[at] = b'\t';
 }
 
 pub(crate) fn word(out: &mut [u8], at: usize, text: &[u8]) -> usize
@@ -51,13 +50,13 @@ pub(crate) fn hex(out: &mut [u8], at: usize, bytes: &[u8]) -> usize
 }
 
 // A number, or `-` where it is absent.
-pub(crate) fn optional(out: &mut [u8], at: usize, x: Optional16) -> usize
+pub(crate) fn optional(out: &mut [u8], at: usize, x: Option<u16>) -> usize
     requires { at + 21 ≤ length out.old }
     ensures { Put 21 (tabbed (optional_text x)) out.old at out.new result }
 {
     match x {
-        Optional16::Absent => word(out, at, b"-"),
-        Optional16::Is(v) => decimal(out, at, v as u64),
+        None => word(out, at, b"-"),
+        Some(v) => decimal(out, at, v as u64),
     }
 }
 
@@ -79,6 +78,6 @@ pub(crate) fn end(out: &mut [u8], at: usize) -> usize
     requires { at + 1 ≤ length out.old }
     ensures { Put 1 line_end out.old at out.new result }
 {
-    out[at] = 10;
+    out[at] = b'\n';
     at + 1
 }

@@ -10,27 +10,15 @@ use dataset_header::flags::{Encoding, Kind};
 use publisher_id::publisher::{PublisherId, text_too_long};
 use value::dimensions;
 use walk::entry::{Line, SetPlace};
-use wire::constants::{NO_ROOM, OVER_LIMIT};
-use wire::optional::Optional16;
 use wire::part::part;
-
-// How many bytes of the buffer are the line, or document 01's number.
-#[derive(Clone, Copy)]
-pub enum LinePut {
-    Is(usize),
-    Refused(u8),
-}
+use wire::refusal::Reason;
 
 pub(crate) fn id_too_long(id: PublisherId) -> bool
     ensures { result ≡ id_too_long id }
 {
     match id {
-        PublisherId::Absent => false,
-        PublisherId::Byte(_) => false,
-        PublisherId::UInt16(_) => false,
-        PublisherId::UInt32(_) => false,
-        PublisherId::UInt64(_) => false,
         PublisherId::Text(n) => text_too_long(n),
+        _ => false,
     }
 }
 
@@ -39,11 +27,7 @@ fn too_long(line: Line) -> bool
 {
     match line {
         Line::Net(_, id, _, _) => id_too_long(id),
-        Line::Set(_, _, _, _) => false,
-        Line::SetInvalid(_) => false,
-        Line::SetBad(_, _, _) => false,
-        Line::Field(_, _) => false,
-        Line::Bad(_, _) => false,
+        _ => false,
     }
 }
 
@@ -100,10 +84,9 @@ fn set_place(out: &mut [u8], at: usize, place: SetPlace) -> usize
     requires { at + 256 ≤ length out.old }
     ensures { Put 89 (place_text place) out.old at out.new result }
 {
-    let writer = place.writer;
     let p = first(out, at, b"set");
     let p = decimal(out, p, place.message as u64);
-    let p = optional(out, p, writer);
+    let p = optional(out, p, place.writer);
     let p = decimal(out, p, place.offset as u64);
     decimal(out, p, place.length as u64)
 }
@@ -137,7 +120,7 @@ pub(crate) fn set(
     place: SetPlace,
     kind: Kind,
     encoding: Encoding,
-    q: Optional16,
+    q: Option<u16>,
 ) -> usize
     requires { at + 256 ≤ length out.old }
     ensures { let text = place_text place ++ (head_text kind encoding ++ (tabbed (optional_text q) ++ line_end)) in
@@ -190,11 +173,10 @@ fn field_value(out: &mut [u8], at: usize, f: Field) -> usize
     requires { at + 85 ≤ length out.old }
     ensures { Put 85 (value_text f) out.old at out.new result }
 {
-    let elements = f.shape;
-    let p = shape(out, at, elements);
+    let p = shape(out, at, f.shape);
     let p = decimal(out, p, f.offset as u64);
     let p = decimal(out, p, f.length as u64);
-    let p = decimal(out, p, dimensions(elements) as u64);
+    let p = decimal(out, p, dimensions(f.shape) as u64);
     end(out, p)
 }
 
@@ -223,15 +205,15 @@ fn put(out: &mut [u8], s: &[u8], line: Line) -> usize
     }
 }
 
-// Puts a line of a datagram's listing at the start of the buffer, which has to have 256 bytes; no line is longer.
-pub fn put_line(out: &mut [u8], s: &[u8], line: Line) -> LinePut
+// Puts a line of a datagram's listing at the start of the buffer, which has to have 256 bytes; no line is longer. How many bytes it has.
+pub fn put_line(out: &mut [u8], s: &[u8], line: Line) -> Result<usize, Reason>
     ensures { PutLine s.now line out.old out.new result }
 {
     if too_long(line) {
-        return LinePut::Refused(OVER_LIMIT);
+        return Err(Reason::OverLimit);
     }
     if out.len() < 256 {
-        return LinePut::Refused(NO_ROOM);
+        return Err(Reason::NoRoom);
     }
-    LinePut::Is(put(out, s, line))
+    Ok(put(out, s, line))
 }

@@ -3,7 +3,7 @@ ghost use Rattle.std.specs.Prelude.{◌≡◌};
 ghost use Rattle.listing.specs.Program.{program_cursor};
 
 use walk::lines::{LineCursor, start};
-use wire::constants::OVER_LIMIT;
+use wire::refusal::Reason;
 
 // How many bytes of the configuration text the program holds. A longer text is refused by a line within them.
 pub const TEXT_ROOM: usize = 4096;
@@ -17,7 +17,7 @@ pub fn first_line(s: &[u8], more: bool, number: u8, place: usize, sizes: &[u16])
         return LineCursor::Bad(number, place);
     }
     if more {
-        return LineCursor::Bad(OVER_LIMIT, 0);
+        return LineCursor::Bad(Reason::OverLimit.number(), 0);
     }
     start(s, 0, 0, sizes)
 }

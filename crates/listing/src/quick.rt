@@ -6,8 +6,8 @@
 ghost use Rattle.std.specs.Prelude.{◌≡◌, true, ◌++◌, ◌+◌, ◌*◌, ◌≤◌, length, take, drop};
 ghost use Rattle.std.proofs.lemmas.List.Edits.{sets};
 ghost use Rattle.dataset_message.specs.Message.{message_at, front_at, end_at};
-ghost use Rattle.dataset_fields.specs.Fields.{cursor_before};
-ghost use Rattle.walk.specs.Lines.{writers, in_datagram, accepted_lines, fields_left};
+ghost use Rattle.config.specs.Writers.{lists_in};
+ghost use Rattle.walk.specs.Lines.{in_datagram, accepted_lines, fields_left};
 ghost use Rattle.listing.specs.Columns.{tabbed, line_end, optional_text, Put};
 ghost use Rattle.listing.specs.Line.{place_text, head_text, field_text};
 ghost use Rattle.listing.specs.Text.{line_out, lines_text};
@@ -15,53 +15,35 @@ ghost use Rattle.walk.specs.declared.entry.Line.{Line};
 ghost use Rattle.listing.specs.Quick.{set_place_of, set_text, fields_text, LinesPut, OnePut, message_verdict, answer_judged, rest_accepted, field_count, most_lines};
 
 use crate::line::{field, id_too_long, net, set, set_bad, set_invalid};
-use config::types_of;
-use dataset_fields::fields::{Cursor, Field, FieldRead, padding, read_field};
+use config::WriterLists;
+use dataset_fields::fields::{Cursor, Field, padding, read_field};
 use dataset_header::header::Header;
-use dataset_message::message::{MessageRead, front, read};
-use network_message::payload::{MessageCursor, MessagePlace, MessageStep};
+use dataset_message::message::{front, read};
+use network_message::payload::{MessageCursor, MessagePlace};
 use network_message::writer_id::writer_id;
 use walk::entry::SetPlace;
 use walk::lines::Listed;
-use wire::Reached;
-use wire::optional::Optional16;
 use wire::part::part;
+use wire::refusal::Refusal;
 use wire_writer::store::put_run;
 
 // No line is longer.
 const MOST_LINE: usize = 256;
-
-// Some fields' lines: the position after their text, and which field is next and where it starts; or the refusal of the next field.
-#[derive(Clone, Copy)]
-pub enum FieldLines {
-    To(usize, usize, usize),
-    Refused(usize, u8, usize),
-}
-
-// The length of a listing with one message that was put, or that nothing was.
-#[derive(Clone, Copy)]
-pub enum OneListed {
-    To(usize),
-    Not,
-}
 
 // The line of a field of the message in a place.
 fn put_field(out: &mut [u8], at: usize, p: MessagePlace, x: Field) -> usize
     requires { (at + 256 ≤ length out.old) × (p.offset + x.offset ≤ 18446744073709551615) }
     ensures { Put 256 (field_text p.index (in_datagram p x)) out.old at out.new result }
 {
-    let shape = x.shape;
     let f = Field {
-        index: x.index,
-        kind: x.kind,
-        shape,
         offset: p.offset + x.offset,
-        length: x.length,
+        ..x
     };
     field(out, at, p.index, f)
 }
 
-// The lines of a message's fields from the cursor on, while there is room for any line.
+// The lines of a message's fields from the cursor on, while there is room for any line: the position after their text, and the cursor
+// before the next field or that field's refusal.
 fn put_fields(
     out: &mut [u8],
     first: usize,
@@ -69,59 +51,45 @@ fn put_fields(
     types: &[u8],
     p: MessagePlace,
     c: Cursor,
-) -> FieldLines
+) -> (usize, Result<Cursor, Refusal>)
     requires { (first ≤ length out.old) × (p.offset + length message.now ≤ 18446744073709551615) }
     ensures { LinesPut types.now message.now p c first result out.old out.new }
 {
-    let encoding = c.encoding;
     let mut at = c.at;
-    let mut i = c.next;
     let mut end = first;
-    while i < c.count {
+    for i in c.next..c.count {
         if out.len() - end < MOST_LINE {
-            return FieldLines::To(end, i, at);
+            return (end, Ok(Cursor { next: i, at, ..c }));
         }
-        match read_field(&*message, encoding, c.delta, &*types, i, at) {
-            FieldRead::Refused(n, place) => {
-                return FieldLines::Refused(end, n, place);
-            }
-            FieldRead::Is(f, next) => {
+        match read_field(message, c.encoding, c.delta, types, i, at) {
+            Err(r) => return (end, Err(r)),
+            Ok((f, next)) => {
                 end = put_field(out, end, p, f);
                 at = next;
             }
         }
-        i += 1;
     }
-    FieldLines::To(end, i, at)
-}
-
-// A cursor moved to another field.
-fn moved(c: Cursor, next: usize, at: usize) -> Cursor
-    ensures { result ≡ cursor_before c next at }
-{
-    let encoding = c.encoding;
-    Cursor {
-        encoding,
-        delta: c.delta,
-        next,
-        count: c.count,
-        at,
-    }
+    (
+        end,
+        Ok(Cursor {
+            next: c.count,
+            at,
+            ..c
+        }),
+    )
 }
 
 // Whether a message is accepted whose fields before the cursor are: the fields from there on, and the padding.
-fn judge(message: &[u8], types: &[u8], c: Cursor) -> Reached
+fn judge(message: &[u8], types: &[u8], c: Cursor) -> Result<(), Refusal>
     requires { message_verdict (message_at types.now message.now) ≡ rest_accepted types.now message.now c }
     ensures { answer_judged result ≡ message_verdict (message_at types.now message.now) }
 {
     if c.count <= c.next {
-        return padding(message, c.at);
+        padding(message, c.at)?;
+        return Ok(());
     }
-    match read(message, types) {
-        MessageRead::NotValid => Reached::To(0),
-        MessageRead::Refused(n, place) => Reached::Refused(n, place),
-        MessageRead::Is(_, _, end) => Reached::To(end),
-    }
+    read(message, types)?;
+    Ok(())
 }
 
 // The lines of an accepted message: its own, those of its first fields, which were told, and those of its fields from the cursor on.
@@ -142,18 +110,13 @@ fn put_accepted(
         let text = head ++ (told.now ++ fields_text types.now message.now p c) in
         Put (256 + length told.now + 256 * fields_left c) text out.old at out.new result }
 {
-    let kind = h.kind;
-    let encoding = h.encoding;
-    let sequence = h.sequence;
-    let first = set(out, at, place, kind, encoding, sequence);
+    let first = set(out, at, place, h.kind, h.encoding, h.sequence);
     let then = put_run(out, first, told);
     if c.count <= c.next {
         return then;
     }
-    match put_fields(out, then, message, types, p, c) {
-        FieldLines::To(end, _, _) => end,
-        FieldLines::Refused(end, _, _) => end,
-    }
+    let (end, _) = put_fields(out, then, message, types, p, c);
+    end
 }
 
 // The lines of a message that was read up to the cursor before its first field.
@@ -173,26 +136,25 @@ fn put_opened(
         Put (256 * (1 + c.count)) text out.old at out.new result }
 {
     let mut text = [0u8; 512];
-    match put_fields(&mut text, 0, message, types, p, c) {
-        FieldLines::Refused(_, n, fault) => set_bad(out, at, place, n, fault),
-        FieldLines::To(end, next, q) => {
-            let after = moved(c, next, q);
-            match judge(message, types, after) {
-                Reached::Refused(n, fault) => set_bad(out, at, place, n, fault),
-                Reached::To(_) => put_accepted(
-                    out,
-                    at,
-                    part(&text, 0, end),
-                    message,
-                    types,
-                    place,
-                    p,
-                    h,
-                    after,
-                ),
-            }
-        }
+    let (end, told) = put_fields(&mut text, 0, message, types, p, c);
+    let after = match told {
+        Err(r) => return set_bad(out, at, place, r.reason.number(), r.place),
+        Ok(after) => after,
+    };
+    if let Err(r) = judge(message, types, after) {
+        return set_bad(out, at, place, r.reason.number(), r.place);
     }
+    put_accepted(
+        out,
+        at,
+        part(&text, 0, end),
+        message,
+        types,
+        place,
+        p,
+        h,
+        after,
+    )
 }
 
 // The lines of the message in a place.
@@ -201,7 +163,7 @@ fn put_message(
     at: usize,
     s: &[u8],
     types: &[u8],
-    writer: Optional16,
+    writer: Option<u16>,
     p: MessagePlace,
 ) -> usize
     requires { let bytes = take p.length (drop p.offset s.now) in
@@ -219,9 +181,9 @@ fn put_message(
         length: p.length,
     };
     match front(message, types) {
-        MessageRead::NotValid => set_invalid(out, at, place),
-        MessageRead::Refused(n, fault) => set_bad(out, at, place, n, fault),
-        MessageRead::Is(h, c, _) => put_opened(out, at, message, types, place, p, h, c),
+        Err(r) => set_bad(out, at, place, r.reason.number(), r.place),
+        Ok(None) => set_invalid(out, at, place),
+        Ok(Some((h, c, _))) => put_opened(out, at, message, types, place, p, h, c),
     }
 }
 
@@ -231,50 +193,38 @@ fn put_net(out: &mut [u8], s: &[u8], l: Listed) -> usize
     ensures { let line = Line.Net (length s.now) l.publisher l.publisher_end l.payload.count in
         Put 256 (line_out s.now line) out.old 0 out.new result }
 {
-    let id = l.publisher;
-    let payload = l.payload;
-    if id_too_long(id) {
+    if id_too_long(l.publisher) {
         return 0;
     }
-    net(out, 0, s, s.len(), id, l.publisher_end, payload.count)
+    net(
+        out,
+        0,
+        s,
+        s.len(),
+        l.publisher,
+        l.publisher_end,
+        l.payload.count,
+    )
 }
 
 // The lines of an accepted datagram, where there is room for each.
-pub(crate) fn put_lines<'a>(
-    out: &mut [u8],
-    s: &[u8],
-    ids: &'a [u16],
-    sizes: &[u16],
-    starts: &'a [u8],
-    types: &'a [u8],
-    l: Listed,
-) -> usize
-    requires { let w = writers ids.now sizes.now starts.now types.now in
-        256 * most_lines w s.now l ≤ length out.old }
-    ensures { let w = writers ids.now sizes.now starts.now types.now in
-        let text = lines_text s.now (accepted_lines w s.now l) in
+pub(crate) fn put_lines(out: &mut [u8], s: &[u8], w: WriterLists<'_>, l: Listed) -> usize
+    requires { 256 * most_lines (lists_in w) s.now l ≤ length out.old }
+    ensures { let text = lines_text s.now (accepted_lines (lists_in w.entry) s.now l) in
         (result ≡ length text) × (out.new ≡ sets out.old 0 text) × (result ≤ length out.old) }
 {
-    let payload = l.payload;
-    let header = l.header;
     let mut at = put_net(out, s, l);
     let mut c = MessageCursor {
         index: 0,
-        at: payload.first,
+        at: l.payload.first,
     };
-    loop {
-        match c.step(s, payload, sizes) {
-            MessageStep::Refused(_, _) => {
-                return at;
-            }
-            MessageStep::Is(p, next) => {
-                let writer = writer_id(s, header, l.header_end, ids, p.index);
-                let configured = types_of(ids, starts, types, writer);
-                at = put_message(out, at, s, configured, writer, p);
-                c = next;
-            }
-        }
+    while let Ok((p, next)) = c.step(s, l.payload, w.sizes) {
+        let writer = writer_id(s, l.header, l.header_end, w.ids, p.index);
+        let configured = w.types_of(writer);
+        at = put_message(out, at, s, configured, writer, p);
+        c = next;
     }
+    at
 }
 
 // The lines of a datagram whose one message is in a place, where there is room for each; a message whose front is refused or not valid is
@@ -283,10 +233,10 @@ fn put_both(
     out: &mut [u8],
     s: &[u8],
     types: &[u8],
-    writer: Optional16,
+    writer: Option<u16>,
     p: MessagePlace,
     l: Listed,
-) -> OneListed
+) -> Option<usize>
     ensures { let line = Line.Net (length s.now) l.publisher l.publisher_end l.payload.count in
         let bytes = take p.length (drop p.offset s.now) in
         let text = set_text types.now bytes p (set_place_of p writer) (message_at types.now bytes) in
@@ -294,14 +244,14 @@ fn put_both(
 {
     let lines = out.len() / MOST_LINE;
     if lines < 2 {
-        return OneListed::Not;
+        return None;
     }
     let message = part(s, p.offset, p.length);
-    let MessageRead::Is(h, c, _) = front(message, types) else {
-        return OneListed::Not;
+    let Ok(Some((h, c, _))) = front(message, types) else {
+        return None;
     };
     if lines - 2 < c.count {
-        return OneListed::Not;
+        return None;
     }
     let place = SetPlace {
         message: p.index,
@@ -310,39 +260,25 @@ fn put_both(
         length: p.length,
     };
     let at = put_net(out, s, l);
-    OneListed::To(put_opened(out, at, message, types, place, p, h, c))
+    Some(put_opened(out, at, message, types, place, p, h, c))
 }
 
 // The lines of an accepted datagram with one message, where there is room for each.
-pub(crate) fn put_one<'a>(
-    out: &mut [u8],
-    s: &[u8],
-    ids: &'a [u16],
-    sizes: &[u16],
-    starts: &'a [u8],
-    types: &'a [u8],
-    l: Listed,
-) -> OneListed
-    ensures { let w = writers ids.now sizes.now starts.now types.now in
-        OnePut (lines_text s.now (accepted_lines w s.now l)) result out.old out.new }
+pub(crate) fn put_one(out: &mut [u8], s: &[u8], w: WriterLists<'_>, l: Listed) -> Option<usize>
+    ensures { OnePut (lines_text s.now (accepted_lines (lists_in w.entry) s.now l)) result out.old out.new }
 {
-    let payload = l.payload;
-    let header = l.header;
-    if payload.count != 1 {
-        return OneListed::Not;
+    if l.payload.count != 1 {
+        return None;
     }
     let first = MessageCursor {
         index: 0,
-        at: payload.first,
+        at: l.payload.first,
     };
-    match first.step(s, payload, sizes) {
-        MessageStep::Refused(_, _) => OneListed::Not,
-        MessageStep::Is(p, _) => {
-            let writer = writer_id(s, header, l.header_end, ids, p.index);
-            let configured = types_of(ids, starts, types, writer);
-            put_both(out, s, configured, writer, p, l)
-        }
-    }
+    let Ok((p, _)) = first.step(s, l.payload, w.sizes) else {
+        return None;
+    };
+    let writer = writer_id(s, l.header, l.header_end, w.ids, p.index);
+    put_both(out, s, w.types_of(writer), writer, p, l)
 }
 
 // How many fields a message has at most, by its front.
@@ -350,47 +286,28 @@ fn field_count(message: &[u8], types: &[u8]) -> usize
     ensures { result ≡ field_count (front_at types.now message.now) }
 {
     match front(message, types) {
-        MessageRead::NotValid => 0,
-        MessageRead::Refused(_, _) => 0,
-        MessageRead::Is(_, c, _) => c.count,
+        Ok(Some((_, c, _))) => c.count,
+        _ => 0,
     }
 }
 
 // Whether there is room for each line of an accepted datagram.
-pub(crate) fn surely_fits<'a>(
-    room: usize,
-    s: &[u8],
-    ids: &'a [u16],
-    sizes: &[u16],
-    starts: &'a [u8],
-    types: &'a [u8],
-    l: Listed,
-) -> bool
-    ensures { let w = writers ids.now sizes.now starts.now types.now in
-        (result ≡ true → 256 * most_lines w s.now l ≤ room) }
+pub(crate) fn surely_fits(room: usize, s: &[u8], w: WriterLists<'_>, l: Listed) -> bool
+    ensures { (result ≡ true → 256 * most_lines (lists_in w.entry) s.now l ≤ room) }
 {
-    let payload = l.payload;
-    let header = l.header;
     let mut left = room / MOST_LINE;
     let mut c = MessageCursor {
         index: 0,
-        at: payload.first,
+        at: l.payload.first,
     };
-    loop {
-        match c.step(s, payload, sizes) {
-            MessageStep::Refused(_, _) => {
-                return 0 < left;
-            }
-            MessageStep::Is(p, next) => {
-                let writer = writer_id(s, header, l.header_end, ids, p.index);
-                let configured = types_of(ids, starts, types, writer);
-                let fields = field_count(part(s, p.offset, p.length), configured);
-                if left <= fields {
-                    return false;
-                }
-                left = left - fields - 1;
-                c = next;
-            }
+    while let Ok((p, next)) = c.step(s, l.payload, w.sizes) {
+        let writer = writer_id(s, l.header, l.header_end, w.ids, p.index);
+        let fields = field_count(part(s, p.offset, p.length), w.types_of(writer));
+        if left <= fields {
+            return false;
         }
+        left = left - fields - 1;
+        c = next;
     }
+    0 < left
 }

@@ -158,5 +158,14 @@ module _ (g : ℕ → Bool) (from end told bits skip run : ℕ) (seen : Looked (
     some = λ l. not-false _ (seen_after (λ i. not (g i)) from told bits seen skip (18446744073709551615 - bits / 2 ^ skip) run top refl r in-sight);
   }) ∙ ap (next_passing g end) gap_start
 
-  pub gap_seen : (from + skip < end) × (from + skip ≡ next_passing (λ i. not (g i)) end from) × (from + skip + run ≡ next_passing g end (next_passing (λ i. not (g i)) end from))
-  gap_seen = let q : from + skip + run ≡ from + (skip + run) = omega arith in (omega arith, gap_start, q ∙ gap_end)
+  gap_some : 1 ≤ run
+  gap_some =
+      by_eq _ run 0
+      (λ z. let q : from + (skip + run) ≡ from + skip = omega (arith, z) in
+      absurd (false≢true (sym (seen_after (λ i. not (g i)) from told bits seen skip (18446744073709551615 - bits / 2 ^ skip) run top refl r in-sight)
+      ∙ ap (λ (k : ℕ). not (g k)) q ∙ ap (λ (k : ℕ). not (g (from + k))) s ∙ seen_first (λ i. not (g i)) from told bits seen top some)))
+      (λ z. omega (arith, z))
+
+  pub gap_seen : (from + skip < from + skip + run) × (from + skip < end) × (from + skip ≡ next_passing (λ i. not (g i)) end from)
+      × (from + skip + run ≡ next_passing g end (next_passing (λ i. not (g i)) end from))
+  gap_seen = let q : from + skip + run ≡ from + (skip + run) = omega arith in (omega (arith, gap_some), omega arith, gap_start, q ∙ gap_end)

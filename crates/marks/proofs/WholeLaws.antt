@@ -2,12 +2,14 @@
 use Prim.Native.Nat.{ℕ, zero, suc, ◌+◌, ◌*◌, ◌-◌, ◌/◌, ◌%◌, ◌^◌, ◌≤◌, ◌<◌}
 use mathlib.Core.Path.{◌≡◌, refl, sym, ap, ap₂, ◌∙◌, subst}
 use mathlib.Core.Bool.{Bool, true, false, not, ◌&&◌, ◌||◌, or-true, or-false}
-use mathlib.Core.List.{List}
+use mathlib.Core.List.{List, [], ◌++◌}
 use native.Mathlib.Omega.{arith}
 use lib.Bits.{bit_or, or_lt}
 use lib.Count.{ones, ones-le, ones_cat, ones-ones}
-use lib.ListN.{length, get_or, set, take, drop, length-set, length-drop, get_or-eq_default}
-use lib.Seq.{ext_get_or, get_or-set_same, get_or-set_other, length-take-le, get_or-take, get_or-drop}
+use lib.ListN.{length, get_or, set, take, drop, replicate, length-set, length-drop, get_or-eq_default}
+use Rattle.std.proofs.lemmas.List.{length-replicate}
+use Rattle.std.proofs.lemmas.List.Edits.{fill_from_more, paste_all}
+use lib.Seq.{paste, paste-zero, drop-drop, ext_get_or, get_or-set_same, get_or-set_other, length-take-le, get_or-take, get_or-drop}
 use lib.Dec.{leb, eqb}
 use borrow.Author.Tests.{ne_eqb, eq-eqb, eqb-true, le-leb}
 use Rattle.wire.specs.Constants.{CUT_SHORT}
@@ -22,7 +24,7 @@ use Rattle.wire.proofs.Facts.{and_left, and_right}
 use Rattle.marks.proofs.OffsetLaws.{every_all, from_none, none_from, from_more}
 use Rattle.marks.proofs.BitLaws.{digit, bit_digit, digit_none, digit_or, digit_same_all, with_byte, or_none_lem, ones_count}
 use Rattle.marks.proofs.MarkLaws.{marked_on, marked_off, length_mark_all}
-use Rattle.marks.proofs.CountLaws.{count_ext, count_most, count_more, cut_in, cut_below, cut_above}
+use Rattle.marks.proofs.CountLaws.{count_ext, count_most, count_more, cut_start, cut_on, cut_in, cut_below, cut_above}
 
 -- ---- the first whole byte from an offset on, and how many offsets an area has
 pub first_byte : (n r : ℕ) → r ≡ marks_for by_bits n → (n ≤ 8 * r) × (8 * r < n + 8)
@@ -107,10 +109,36 @@ module _ (m : List ℕ) (k x : ℕ) (f : ℕ → Bool) (room : k < length m) (sm
       (λ i h. by_eq _ (i / 8) k (at_byte i) (elsewhere i))
 
 -- every offset of a byte
-pub full_byte : (m : List ℕ) (k : ℕ) → k < length m → ((i : ℕ) → get_or m i 0 < 256) → set m k (bit_or (get_or m k 0) 255) ≡ mark_all by_bits (in_range_and always (8 * k) (8 * (k + 1))) m
-full_byte m k h small =
-    set_byte m k (bit_or (get_or m k 0) 255) always h small (or_lt 8 (get_or m k 0) 255 (small k) (omega arith))
-    (λ j l. digit_or j (get_or m k 0) 255 ∙ ap (◌||◌ (digit j (get_or m k 0))) (every_all 8 (λ i. digit i 255) refl j l))
+full_set : (m : List ℕ) (k : ℕ) → k < length m → ((i : ℕ) → get_or m i 0 < 256) → set m k 255 ≡ mark_all by_bits (in_range_and always (8 * k) (8 * (k + 1))) m
+full_set m k h small =
+    set_byte m k 255 always h small (omega arith) (λ j l. every_all 8 (λ i. digit i 255) refl j l ∙ sym (or-true (digit j (get_or m k 0))))
+
+-- every offset of some bytes, which are filled
+full_run : (m : List ℕ) (first n : ℕ) → first + n ≤ length m → ((i : ℕ) → get_or m i 0 < 256)
+    → paste m first (replicate n 255) n ≡ mark_all by_bits (in_range_and always (8 * first) (8 * (first + n))) m
+full_run m first zero h small =
+    let e : 8 * (first + 0) ≡ 8 * first = omega arith in sym (paste-zero m first []) ∙ sym (rw e (cut_start by_bits always (8 * first) m))
+full_run m first (suc n) h small =
+    let held = full_run m first n (omega arith) small in
+    let same : length (paste m first (replicate n 255) n) ≡ length m = ap length held ∙ length_mark_all by_bits _ m in
+    let on : n + 1 ≡ suc n = omega arith in
+    let up : first + n + 1 ≡ first + (n + 1) = omega arith in
+    let all : paste m first (replicate (n + 1) 255) (n + 1) ≡ mark_all by_bits (in_range_and always (8 * first) (8 * (first + n + 1))) m =
+    cut_on by_bits always (8 * first) m (8 * (first + n)) (8 * (first + n + 1)) (paste m first (replicate n 255) n) _ (omega arith) (omega arith) held
+    (sym (fill_from_more m first n 255 (omega arith))
+    ∙ full_set (paste m first (replicate n 255) n) (first + n) (omega (arith, same)) (λ i. subst (λ (l : List ℕ). get_or l i 0 < 256) (sym held) (small_mark_all _ m small i))) in
+    subst (λ (k : ℕ). paste m first (replicate k 255) k ≡ mark_all by_bits (in_range_and always (8 * first) (8 * (first + k))) m) on
+    (all ∙ ap (λ (k : ℕ). mark_all by_bits (in_range_and always (8 * first) (8 * k)) m) up)
+
+pub filled : (m : List ℕ) (first last : ℕ) (b : List ℕ) → first ≤ last → last ≤ length m → ((i : ℕ) → get_or m i 0 < 256) → {n : ℕ} → n ≡ last - first → b ≡ replicate n 255
+    → take first m ++ (b ++ drop (last - first) (drop first m)) ≡ mark_all by_bits (in_range_and always (8 * first) (8 * last)) m
+filled m first last b h l small {n} e q =
+    let up : first + (last - first) ≡ last = omega arith in
+    ap (λ (x : List ℕ). take first m ++ (x ++ drop (last - first) (drop first m))) (q ∙ ap (λ (k : ℕ). replicate k 255) e)
+    ∙ ap (λ (x : List ℕ). take first m ++ (replicate (last - first) 255 ++ x)) (drop-drop (last - first) first m)
+    ∙ sym (paste_all m first (replicate (last - first) 255) (last - first) (sym (length-replicate (last - first) 255)))
+    ∙ full_run m first (last - first) (omega arith) small
+    ∙ ap (λ (k : ℕ). mark_all by_bits (in_range_and always (8 * first) (8 * k)) m) up
 
 -- those that are marked in another area
 pub or_byte : (m o : List ℕ) (k : ℕ) → k < length m → ((i : ℕ) → get_or m i 0 < 256) → ((i : ℕ) → get_or o i 0 < 256)

@@ -1,16 +1,9 @@
 // The benchmark's own: how many offsets are marked, one after another, beside the library's way, 32 bytes of marks at a time, by which
 // handing out counts (Req 03 and Req 11 of document 02). Both promise the same. No part of the library.
-ghost use Rattle.std.specs.Prelude.{◌≡◌, cond, ◌≤◌};
+ghost use Rattle.std.specs.Prelude.{◌≡◌};
 ghost use Rattle.marks.specs.Marks.{in_use, count_marked};
 
 use crate::{count_marked, is_marked, within};
-
-// 1 or 0.
-fn one_if(yes: bool) -> usize
-    ensures { (result ≡ cond yes 1 0) × (result ≤ 1) }
-{
-    if yes { 1 } else { 0 }
-}
 
 // How many offsets below n are marked, by a loop that looks at one mark in each turn.
 fn count_each(marks: &[u8], n: usize) -> usize
@@ -18,10 +11,8 @@ fn count_each(marks: &[u8], n: usize) -> usize
 {
     let stop = within(marks, n);
     let mut count = 0;
-    let mut i = 0;
-    while i < stop {
-        count += one_if(is_marked(marks, i));
-        i += 1;
+    for i in 0..stop {
+        count += is_marked(marks, i) as usize;
     }
     count
 }

@@ -12,13 +12,11 @@ pub(crate) fn mark_each(marks: &mut [u8], start: usize, end: usize)
     requires { (start ≤ end) × (end ≤ capacity in_use marks.old) }
     ensures { marks.new ≡ mark_all in_use (in_range_and always start end) marks.old }
 {
-    let mut i = start;
-    while i < end {
+    for i in start..end {
         if marks.len() <= i / 8 {
             return;
         }
         mark_if(marks, i, true);
-        i += 1;
     }
 }
 
@@ -28,10 +26,8 @@ pub(crate) fn mark_each_marked(marks: &mut [u8], start: usize, end: usize, other
     ensures { let source = in_range_and (marked in_use other.now) start end in
         marks.new ≡ mark_all in_use source marks.old }
 {
-    let mut i = start;
-    while i < end {
+    for i in start..end {
         mark_if(marks, i, is_marked(other, i));
-        i += 1;
     }
 }
 
@@ -48,19 +44,17 @@ pub(crate) fn count_in(marks: &[u8], start: usize, end: usize) -> usize
         return 0;
     }
     let bits = (marks[at] as usize >> (start % 8)) % (1 << (end - start));
-    u8::count_ones(bits as u8) as usize
+    (bits as u8).count_ones() as usize
 }
 
 // Whether an offset from start up to end is marked.
 pub(crate) fn any_each(marks: &[u8], start: usize, end: usize) -> bool
     ensures { result ≡ any_from start end (marked in_use marks.now) }
 {
-    let mut i = start;
-    while i < end {
+    for i in start..end {
         if is_marked(marks, i) {
             return true;
         }
-        i += 1;
     }
     false
 }

@@ -22,7 +22,7 @@ use whole::{any_whole, count_whole, fill, mark_whole_marked};
 pub fn marks_for(n: usize) -> usize
     ensures { result ≡ marks_for in_use n }
 {
-    n / 8 + (n % 8 + 7) / 8
+    n.div_ceil(8)
 }
 
 // The smaller of n and the number of offsets that a marks area has.
@@ -48,22 +48,19 @@ pub fn is_marked(marks: &[u8], i: usize) -> bool
     bit_of(marks[at], i % 8)
 }
 
-// One of two bytes.
-pub fn choose(b: bool, x: u8, y: u8) -> u8
+// One of two values.
+pub fn choose<T: Copy>(b: bool, x: T, y: T) -> T
     ensures { result ≡ cond b x y }
 {
     if b { x } else { y }
 }
 
 // Clears every mark.
+#[tactic(auto, unfolding(crate::specs::Marks::cleared))]
 pub fn clear(marks: &mut [u8])
     ensures { marks.new ≡ cleared marks.old }
 {
-    let mut i = 0;
-    while i < marks.len() {
-        marks[i] = 0;
-        i += 1;
-    }
+    marks.fill(0);
 }
 
 // Marks the offsets from start up to end: whole bytes inside, and bits at the ends.

@@ -6,24 +6,20 @@ ghost use Rattle.wire.specs.Number.{le};
 ghost use Rattle.marks.specs.Offsets.{count_below, count_from, any_from, in_range_and, always};
 ghost use Rattle.marks.specs.Marks.{in_use, marked, mark_all};
 
-use wire::{Item64, read64};
+use wire::item::Item;
 
 // A byte whose eight offsets are all marked.
-const FULL: u8 = 255;
+pub(crate) const FULL: u8 = u8::MAX;
 
 // Eight full bytes as one number.
-pub(crate) const FULL_EIGHT: u64 = 18446744073709551615;
+pub(crate) const FULL_EIGHT: u64 = u64::MAX;
 
-// Marks every offset of the bytes from first up to last. The or is compiled to a store of the full byte.
+// Marks every offset of the bytes from first up to last.
 pub(crate) fn fill(marks: &mut [u8], first: usize, last: usize)
     requires { (first ≤ last) × (last ≤ length marks.old) }
     ensures { marks.new ≡ mark_all in_use (in_range_and always (8 * first) (8 * last)) marks.old }
 {
-    let mut k = first;
-    while k < last {
-        marks[k] = marks[k] | FULL;
-        k += 1;
-    }
+    marks[first..last].fill(FULL);
 }
 
 // Marks those offsets of the first bytes that are marked in another area.
@@ -32,10 +28,8 @@ pub(crate) fn mark_whole_marked(marks: &mut [u8], last: usize, other: &[u8])
     ensures { let source = in_range_and (marked in_use other.now) 0 (8 * last) in
         marks.new ≡ mark_all in_use source marks.old }
 {
-    let mut k = 0;
-    while k < last {
-        marks[k] = marks[k] | other[k];
-        k += 1;
+    for k in 0..last {
+        marks[k] |= other[k];
     }
 }
 
@@ -44,11 +38,7 @@ pub(crate) fn eight(marks: &[u8], at: usize) -> u64
     requires { at + 8 ≤ length marks.now }
     ensures { result ≡ le 8 marks.now at }
 {
-    let end = at + 8;
-    let Item64::Is(number, _) = read64(&marks[at..end], 0) else {
-        return 0;
-    };
-    number
+    u64::of(marks, at)
 }
 
 // How many offsets of 32 bytes are marked. Where all are, as in most of an area that comes in in order, no bit is counted.
@@ -63,7 +53,7 @@ fn count_four(marks: &[u8], at: usize) -> u64
     if (a == FULL_EIGHT) & (b == FULL_EIGHT) & (c == FULL_EIGHT) & (d == FULL_EIGHT) {
         return 256;
     }
-    (u64::count_ones(a) + u64::count_ones(b) + u64::count_ones(c) + u64::count_ones(d)) as u64
+    (a.count_ones() + b.count_ones() + c.count_ones() + d.count_ones()) as u64
 }
 
 // How many offsets of so many times 32 bytes are marked.
@@ -72,10 +62,8 @@ fn count_fours(marks: &[u8], first: usize, fours: usize) -> usize
     ensures { result ≡ count_below (256 * fours) (λ j. marked in_use marks.now (8 * first + j)) }
 {
     let mut count = 0u64;
-    let mut k = 0;
-    while k < fours {
+    for k in 0..fours {
         count += count_four(marks, first + 32 * k);
-        k += 1;
     }
     count as usize
 }
@@ -86,10 +74,8 @@ fn count_bytes(marks: &[u8], first: usize, last: usize) -> usize
     ensures { result ≡ count_below (8 * (last - first)) (λ j. marked in_use marks.now (8 * first + j)) }
 {
     let mut count = 0;
-    let mut k = first;
-    while k < last {
-        count += u8::count_ones(marks[k]) as usize;
-        k += 1;
+    for k in first..last {
+        count += marks[k].count_ones() as usize;
     }
     count
 }
@@ -110,10 +96,8 @@ pub(crate) fn any_whole(marks: &[u8], first: usize, last: usize) -> bool
     ensures { result ≡ any_from (8 * first) (8 * last) (marked in_use marks.now) }
 {
     let mut any = 0u8;
-    let mut k = first;
-    while k < last {
-        any = any | marks[k];
-        k += 1;
+    for k in first..last {
+        any |= marks[k];
     }
     any != 0
 }

@@ -17,11 +17,11 @@ use Rattle.dataset_header.specs.declared.flags.Kind.{Kind}
 use Rattle.dataset_header.specs.declared.header.Header.{Header}
 use Rattle.dataset_message.specs.Message.{Message}
 use Rattle.records.specs.Numbers.{number_at, number_bytes}
-use Rattle.records.specs.Items.{has16, has32, has_i64, given16, given32, given_i64, fits_item}
+use Rattle.records.specs.Items.{has_item, given16, given32, given_i64, fits_item}
 use Rattle.records.proofs.Storing.{bytes_length}
 use Rattle.wire.specs.Number.{le_bytes}
 use Rattle.dataset_fields.specs.declared.fields.Cursor.{Cursor}
-use Rattle.records.proofs.ReadBack.{AllFit, number_laid, number_kept, laid_length, number_read, stored_at, given16_back, given32_back, given_i64_back, fits16_back, fits32_back, told16, told32, told_i64, is_on_flag, flag_fits, has16_bound, has32_bound, has_i64_bound, value16_bound, value32_bound, value_i64_bound}
+use Rattle.records.proofs.ReadBack.{AllFit, number_laid, number_kept, laid_length, number_read, stored_at, given16_back, given32_back, given_i64_back, fits16_back, fits32_back, told, is_on_flag, flag_fits, has_bound, value16_bound, value32_bound, value_i64_bound}
 use Rattle.message_record.specs.Message.{encoding_in, kind_in, items_number, head_numbers, cursor_in, cursor_laid, header_in, head_fits, FitsHead, HeadBack}
 
 -- two arguments that are the same
@@ -69,12 +69,12 @@ module _ (m : Message) (r : List ℕ) (f : FitsHead m) (h : 160 ≤ length r) wh
   items : items_number header < 64
   items = omega (
     arith,
-    has16_bound header.sequence,
-    has_i64_bound header.timestamp,
-    has16_bound header.picoseconds,
-    has16_bound header.status,
-    has32_bound header.major,
-    has32_bound header.minor,
+    has_bound header.sequence,
+    has_bound header.timestamp,
+    has_bound header.picoseconds,
+    has_bound header.status,
+    has_bound header.major,
+    has_bound header.minor,
   )
 
   fit : AllFit numbers
@@ -149,18 +149,18 @@ module _ (m : Message) (r : List ℕ) (f : FitsHead m) (h : 160 ≤ length r) wh
 
   pub head_back : HeadBack s m
   head_back =
-      let q = has16_bound header.sequence in
-      let t = has_i64_bound header.timestamp in
-      let p = has16_bound header.picoseconds in
-      let u = has16_bound header.status in
-      let a = has32_bound header.major in
-      let i = has32_bound header.minor in
-      let b0 = item_bit 0 (has16 header.sequence) _ (omega (arith, q, t, p, u, a, i)) (told16 header.sequence) in
-      let b1 = item_bit 1 (has_i64 header.timestamp) _ (omega (arith, q, t, p, u, a, i)) (told_i64 header.timestamp) in
-      let b2 = item_bit 2 (has16 header.picoseconds) _ (omega (arith, q, t, p, u, a, i)) (told16 header.picoseconds) in
-      let b3 = item_bit 3 (has16 header.status) _ (omega (arith, q, t, p, u, a, i)) (told16 header.status) in
-      let b4 = item_bit 4 (has32 header.major) _ (omega (arith, q, t, p, u, a, i)) (told32 header.major) in
-      let b5 = item_bit 5 (has32 header.minor) _ (omega (arith, q, t, p, u, a, i)) (told32 header.minor) in
+      let q = has_bound header.sequence in
+      let t = has_bound header.timestamp in
+      let p = has_bound header.picoseconds in
+      let u = has_bound header.status in
+      let a = has_bound header.major in
+      let i = has_bound header.minor in
+      let b0 = item_bit 0 (has_item header.sequence) _ (omega (arith, q, t, p, u, a, i)) (told header.sequence) in
+      let b1 = item_bit 1 (has_item header.timestamp) _ (omega (arith, q, t, p, u, a, i)) (told header.timestamp) in
+      let b2 = item_bit 2 (has_item header.picoseconds) _ (omega (arith, q, t, p, u, a, i)) (told header.picoseconds) in
+      let b3 = item_bit 3 (has_item header.status) _ (omega (arith, q, t, p, u, a, i)) (told header.status) in
+      let b4 = item_bit 4 (has_item header.major) _ (omega (arith, q, t, p, u, a, i)) (told header.major) in
+      let b5 = item_bit 5 (has_item header.minor) _ (omega (arith, q, t, p, u, a, i)) (told header.minor) in
       let e = ap encoding_in (read 1 (omega arith)) ∙ encoding_back header.encoding in
       let k = ap kind_in (read 2 (omega arith)) ∙ kind_back header.kind in
       let h0 = both given16 b0 (read 4 (omega arith)) ∙ given16_back header.sequence f.header.sequence in

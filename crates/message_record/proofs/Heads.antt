@@ -8,13 +8,13 @@ use Rattle.dataset_header.specs.Flags.{valid, encoding_number, kind_number}
 use Rattle.dataset_fields.specs.declared.fields.Cursor.{Cursor}
 use Rattle.dataset_header.specs.declared.header.Header.{Header}
 use Rattle.records.specs.Numbers.{number_bytes}
-use Rattle.records.specs.Items.{value16, value32, value_i64, flag_number}
+use Rattle.records.specs.Items.{item_value, value_i64, flag_number}
 use Rattle.message_record.specs.Message.{items_number, head_numbers}
 use Rattle.records.proofs.Storing.{also, put_same}
 
 pub head_put : (h : Header) (k : Cursor) (end : ℕ) (l e : List ℕ) (a b d q t p u m n g f : ℕ) → a ≡ encoding_number h.encoding → b ≡ kind_number h.kind
-    → d ≡ items_number h → q ≡ value16 h.sequence → t ≡ value_i64 h.timestamp → p ≡ value16 h.picoseconds → u ≡ value16 h.status
-    → m ≡ value32 h.major → n ≡ value32 h.minor → g ≡ encoding_number k.encoding → f ≡ flag_number k.delta
+    → d ≡ items_number h → q ≡ item_value h.sequence → t ≡ value_i64 h.timestamp → p ≡ item_value h.picoseconds → u ≡ item_value h.status
+    → m ≡ item_value h.major → n ≡ item_value h.minor → g ≡ encoding_number k.encoding → f ≡ flag_number k.delta
     → e
     ≡ laid l 0 (number_bytes (1 ∷ a ∷ b ∷ d ∷ q ∷ t ∷ p ∷ u ∷ m ∷ n ∷ g ∷ f ∷ k.next ∷ k.count ∷ k.at ∷ end ∷ 0 ∷ 0 ∷ 0 ∷ 0 ∷ []))
     → e ≡ laid l 0 (number_bytes (head_numbers (valid (record { header = h; cursor = k; end = end }))))

@@ -1,13 +1,14 @@
 -- A plain value that the quick step does not tell is refused.
 -- Assumes nothing.
 use Prim.Native.Nat.{ℕ, suc, ◌+◌, ◌*◌, ◌/◌, ◌%◌, ◌<◌, ◌≤◌}
-use mathlib.Core.Path.{◌≡◌, refl, sym, subst, ◌∙◌}
-use mathlib.Core.Bool.{Bool, true, false, cond, not, ◌&&◌, ◌||◌}
+use mathlib.Core.Path.{◌≡◌, refl, ◌∙◌}
+use mathlib.Core.Bool.{Bool, true, false, cond, not, ◌||◌}
 use mathlib.Core.List.{List}
 use native.Mathlib.Omega.{arith}
 use borrow.Author.Tests.{lt-ltb, le-ltb, lt-leb, le-leb, leb-true, leb-false, eqb-true, eqb-false, ltb-true, ne_eqb}
 use lib.Dec.{T, eqb, leb, ltb}
 use lib.ListN.{length, get_or}
+use Rattle.std.specs.Prelude.{Option, Some, None}
 use Rattle.wire.specs.Answer.{Answer, got, refused, and_then, when_on, bit}
 use Rattle.wire.proofs.Table.{below}
 use Rattle.wire.proofs.Reading.{got_next}
@@ -20,21 +21,18 @@ use Rattle.plain_value.proofs.Passing.{passed}
 use Rattle.value.specs.Value.{Measure, measure, scalar, value_at, mask_rule, variant_at, data_value_at}
 use Rattle.value.specs.Quick.{scalar_size, fixed_end}
 use Rattle.value.specs.declared.Shape.{Shape}
-use Rattle.value.specs.declared.quick.Plain.{Plain}
 use Rattle.value.proofs.FirstItems.{FixedFirst, fixed_first, yes, no}
 use Rattle.value.proofs.Looks.{bit_on}
 use Rattle.value.proofs.Values.{value_steady}
-use Rattle.dataset_fields.specs.Fields.{encoded_at, next_field_at}
+use Rattle.dataset_fields.specs.Fields.{encoded_at}
 use Rattle.dataset_fields.specs.declared.fields.Cursor.{Cursor}
 use Rattle.message_record.specs.Message.{encoding_in}
 use Rattle.message_record.specs.Quick.{Refused, Looks, other_first, plain_first, plain_held, plain_at, plain_step}
 
 -- what a look says of more values it says of fewer
-pub narrowed : (x y : Bool) (p : Plain) (a : Answer Measure) → (y ≡ true → x ≡ true) → Looks x p a → Looks y p a
-narrowed x y (Plain.Scalar t next) a h g = g
-narrowed x y (Plain.NullArray t next) a h g = g
-narrowed x y (Plain.Array t next n) a h g = g
-narrowed x y Plain.Not a h g = λ z. g (h z)
+pub narrowed : (x y : Bool) (p : Option (Measure × ℕ)) (a : Answer Measure) → (y ≡ true → x ≡ true) → Looks x p a → Looks y p a
+narrowed x y (Some (m, next)) a h g = g
+narrowed x y None a h g = λ z. g (h z)
 
 then_refused : {A B : Type 0} (x : Answer A) (k : A → ℕ → Answer B) → Refused x → Refused (and_then x k)
 then_refused (got a next) k h = absurd h
@@ -83,12 +81,10 @@ module _ (s : List ℕ) where
       go false ex false ey = sized (leb-false (length s) at ex) (leb-false (at + scalar_size b) (length s) ey) (eqb b 0) refl (eqb (width_of b) 0) refl
 
   -- any plain Variant, from what is told of the others
-  pub variant_left : (at : ℕ) {e : ℕ} (p : Plain) → e ≡ fixed_end s at → e ≤ at → Looks (other_first (get_or s at 0)) p (variant_at s at)
+  pub variant_left : (at : ℕ) {e : ℕ} (p : Option (Measure × ℕ)) → e ≡ fixed_end s at → e ≤ at → Looks (other_first (get_or s at 0)) p (variant_at s at)
       → Looks (plain_first (get_or s at 0)) p (variant_at s at)
-  variant_left at (Plain.Scalar t next) q none g = g
-  variant_left at (Plain.NullArray t next) q none g = g
-  variant_left at (Plain.Array t next n) q none g = g
-  variant_left at Plain.Not q none g = λ z. go (ltb 0 (scalar_size (get_or s at 0))) refl z
+  variant_left at (Some (m, next)) q none g = g
+  variant_left at None q none g = λ z. go (ltb 0 (scalar_size (get_or s at 0))) refl z
     where
       go : (x : Bool) → ltb 0 (scalar_size (get_or s at 0)) ≡ x → (x || other_first (get_or s at 0)) ≡ true → Refused (variant_at s at)
       go true ex z = cut_scalar 99 at q none ex
@@ -169,13 +165,6 @@ scalar_first b t h e q = let same : t ≡ b = omega arith in rw same (rw (lt-ltb
 pub no_array : (b : ℕ) → 64 ≤ b → (b / 64 ≡ 2 → ⊥) → other_first b ≡ true → ⊥
 no_array b h n q = never (rw (le-ltb b 64 h, ne_eqb (b / 64) 2 n) at q)
 
-pub no_width : (b w : ℕ) → 64 ≤ b → w ≡ width_of (b % 64) → w ≡ 0 → other_first b ≡ true → ⊥
-no_width b w h e z q = go (eqb (b / 64) 2) (rw (le-ltb b 64 h, sym e ∙ z) at q)
-  where
-    go : (x : Bool) → (x && false) ≡ true → ⊥
-    go true n = never n
-    go false n = never n
-
 -- what a DataValue holds: by fixed_end
 pub held_cut : (s : List ℕ) (at m : ℕ) {e : ℕ} → (m % 2 ≡ 0 → ⊥) → e ≡ fixed_end s at → e ≤ at → plain_held m s at ≡ true
     → Refused (when_on (bit 0 m) tt (passing (value_at 99 24)) s at)
@@ -191,20 +180,5 @@ past_look s types n k at h z = go (eqb n 0) refl (eqb n 2) refl z
     go false ex true ey p = rw (eqb-true n 2 ey) (past_data_value s at h)
     go false ex false ey p = absurd (never p)
 
-pub other_encoding : (s : List ℕ) (n at : ℕ) → (n ≡ 0 → ⊥) → (n ≡ 2 → ⊥) → plain_at n s at ≡ true → ⊥
-other_encoding s n at h k z = never (rw (ne_eqb n 0 h, ne_eqb n 2 k) at z)
-
--- and a step
-pub past_step : (s types : List ℕ) (c : Cursor) → length s < c.at → Refused (next_field_at c types s)
-past_step s types c h = rw (lt-ltb (length s) c.at h) tt
-
 pub delta_step : (s : List ℕ) (n : ℕ) (c : Cursor) → c.delta ≡ true → plain_step n c s ≡ true → ⊥
 delta_step s n c d z = never (rw d at z)
-
-pub left_step : (s types : List ℕ) (n : ℕ) (c : Cursor) → c.encoding ≡ encoding_in n → c.delta ≡ false → c.next < c.count → c.at ≤ length s
-    → (plain_at n s c.at ≡ true → Refused (encoded_at (encoding_in n) types c.next s c.at)) → plain_step n c s ≡ true → Refused (next_field_at c types s)
-left_step s types n c e d b a q z = go (encoded_at c.encoding types c.next s c.at) refl
-  where
-    go : (x : Answer Measure) → encoded_at c.encoding types c.next s c.at ≡ x → Refused (next_field_at c types s)
-    go (got m end) i = absurd (subst Refused i (rw e (q (rw d at z))))
-    go (refused k place) i = rw (le-ltb (length s) c.at a, lt-leb c.count c.next b, d, i) tt

@@ -14,7 +14,7 @@ use Rattle.wire.specs.Number.{le_bytes}
 use Rattle.wire_writer.specs.Store.{laid}
 use Rattle.wire.specs.Answer.{bit}
 use Rattle.records.specs.Numbers.{number_at}
-use Rattle.records.specs.Items.{has16, value16, has32, value32, has_i64, value_i64, flag_number, given16, given32, given_i64, fits_item}
+use Rattle.records.specs.Items.{has_item, item_value, value_i64, flag_number, given16, given32, given_i64, fits_item}
 
 -- "encoding: 0 Variant, 1 RawData, 2 DataValue (above 2 counts as 0)"
 abbrev pub encoding_in : ℕ → Encoding
@@ -23,16 +23,16 @@ encoding_in n = cond (eqb n 1) Encoding.RawData (cond (eqb n 2) Encoding.DataVal
 -- "items present: 1 sequence number, 2 timestamp, 4 picoseconds, 8 status, 16 major version, 32 minor version, added up"
 abbrev pub items_number : Header → ℕ
 items_number h =
-    has16 h.sequence + 2 * has_i64 h.timestamp + 4 * has16 h.picoseconds + 8 * has16 h.status + 16 * has32 h.major
-    + 32 * has32 h.minor
+    has_item h.sequence + 2 * has_item h.timestamp + 4 * has_item h.picoseconds + 8 * has_item h.status + 16 * has_item h.major
+    + 32 * has_item h.minor
 
 -- the 20 numbers of a head; "Of a message that is not valid every number is 0"
 abbrev pub head_numbers : Valid Message → List ℕ
 head_numbers not_valid = replicate 20 0
 head_numbers (valid m) =
-    1 ∷ encoding_number m.header.encoding ∷ kind_number m.header.kind ∷ items_number m.header ∷ value16 m.header.sequence
-    ∷ value_i64 m.header.timestamp ∷ value16 m.header.picoseconds ∷ value16 m.header.status ∷ value32 m.header.major
-    ∷ value32 m.header.minor ∷ encoding_number m.cursor.encoding ∷ flag_number m.cursor.delta ∷ m.cursor.next ∷ m.cursor.count
+    1 ∷ encoding_number m.header.encoding ∷ kind_number m.header.kind ∷ items_number m.header ∷ item_value m.header.sequence
+    ∷ value_i64 m.header.timestamp ∷ item_value m.header.picoseconds ∷ item_value m.header.status ∷ item_value m.header.major
+    ∷ item_value m.header.minor ∷ encoding_number m.cursor.encoding ∷ flag_number m.cursor.delta ∷ m.cursor.next ∷ m.cursor.count
     ∷ m.cursor.at ∷ m.end ∷ 0 ∷ 0 ∷ 0 ∷ 0 ∷ []
 
 -- the field cursor of a head record

@@ -1,12 +1,11 @@
 -- What the quick step of a head record's cursor tells. No part of include/uadp.h: its laws (Telling, NotTold) tie it to the step.
-use Rattle.std.specs.Prelude.{ℕ, ◌+◌, ◌-◌, ◌/◌, ◌%◌, ◌≡◌, Bool, true, false, cond, not, ◌&&◌, ◌||◌, List, eqb, ltb, get_or}
+use Rattle.std.specs.Prelude.{ℕ, ◌+◌, ◌-◌, ◌/◌, ◌%◌, ◌≡◌, Bool, true, false, cond, not, ◌&&◌, ◌||◌, List, eqb, ltb, get_or, Option, Some, None}
 use Rattle.wire.specs.Answer.{Answer, got, refused, bit}
 use Rattle.wire.specs.Constants.{OVER_LIMIT}
 use Rattle.plain_value.specs.Width.{fixed}
 use Rattle.value.specs.Value.{Measure}
 use Rattle.value.specs.Quick.{scalar_size, LookTells}
 use Rattle.value.specs.declared.Shape.{Shape}
-use Rattle.value.specs.declared.quick.Plain.{Plain}
 use Rattle.dataset_fields.specs.Fields.{FieldStepped}
 use Rattle.dataset_fields.specs.declared.fields.Field.{Field}
 use Rattle.dataset_fields.specs.declared.fields.Cursor.{Cursor}
@@ -21,11 +20,14 @@ Refused (got a next) = ⊥
 Refused (refused n place) = Unit {0}
 
 -- what one look says of what measuring answers; a plain value is not told only where it is refused
-abbrev pub Looks : Bool → Plain → Answer Measure → Type 0
-Looks plain (Plain.Scalar t next) a = LookTells (Plain.Scalar t next) a
-Looks plain (Plain.NullArray t next) a = LookTells (Plain.NullArray t next) a
-Looks plain (Plain.Array t next n) a = LookTells (Plain.Array t next n) a
-Looks plain Plain.Not a = plain ≡ true → Refused a
+abbrev pub Looks : Bool → Option (Measure × ℕ) → Answer Measure → Type 0
+Looks plain (Some x) a = LookTells (Some x) a
+Looks plain None a = plain ≡ true → Refused a
+
+-- and of what is only passed over
+abbrev pub LooksPast : Bool → Option ℕ → Answer (Unit {0}) → Type 0
+LooksPast plain (Some next) a = a ≡ got tt next
+LooksPast plain None a = plain ≡ true → Refused a
 
 -- which values are plain: of the Variants, by their first byte, a String, a ByteString, and an array of a fixed type
 abbrev pub other_first : ℕ → Bool

@@ -1,23 +1,21 @@
 // The records of a message's head and of a field.
+// The C interface has numbers for kinds, encodings and shapes: here they become the enums and go back. Any number has an answer.
 ghost use Rattle.std.specs.Prelude.{◌≤◌, ◌≡◌, length};
 ghost use Rattle.wire_writer.specs.Store.{laid};
 ghost use Rattle.dataset_header.specs.Flags.{valid, not_valid, encoding_number, kind_number};
 ghost use Rattle.dataset_message.specs.Message.{Message};
 ghost use Rattle.records.specs.Sizes.{HEAD_SIZE};
 ghost use Rattle.records.specs.Numbers.{number_bytes};
-ghost use Rattle.records.specs.Items.{has16, value16, has32, value32, given16, given32};
+ghost use Rattle.records.specs.Items.{has_item, item_value, value_i64, given16, given32, given_i64};
 ghost use Rattle.message_record.specs.Message.{encoding_in, items_number, head_numbers, cursor_in, cursor_laid, shape_number, elements_number, field_numbers, kind_in, header_in, head_fits, HeadBack};
 
 use dataset_fields::fields::{Cursor, Field};
 use dataset_header::flags::{Encoding, Kind};
 use dataset_header::header::Header;
-use records::items::{
-    fits_item, flag_number, given_i64, given16, given32, has_i64, has16, has32, value_i64, value16,
-    value32,
-};
+use records::items::{fits_item, flag_number, given, has, value};
 use records::numbers::{number, put_numbers};
 use value::{Shape, dimensions};
-use wire_writer::store::put64;
+use wire_writer::store::Store;
 
 // Where the numbers 12 and 14 stand: the cursor's next field and its place.
 const CURSOR_NEXT: usize = 8 * 12;
@@ -28,43 +26,35 @@ const CURSOR_AT: usize = 8 * 14;
 pub fn encoding_number(e: Encoding) -> u64
     ensures { result ≡ encoding_number e }
 {
-    dataset_header::flags::encoding_number(e) as u64
+    e as u64
 }
 
 pub(crate) fn encoding_in(n: u64) -> Encoding
     ensures { result ≡ encoding_in n }
 {
-    if n == 1 {
-        return Encoding::RawData;
+    match n {
+        1 => Encoding::RawData,
+        2 => Encoding::DataValue,
+        _ => Encoding::Variant,
     }
-    if n == 2 {
-        return Encoding::DataValue;
-    }
-    Encoding::Variant
 }
 
 // The number of a kind, as in Flags2.
 pub fn kind_number(k: Kind) -> u64
     ensures { result ≡ kind_number k }
 {
-    dataset_header::flags::kind_number(k) as u64
+    k as u64
 }
 
 fn items_number(h: Header) -> u64
     ensures { result ≡ items_number h }
 {
-    let sequence = h.sequence;
-    let timestamp = h.timestamp;
-    let picoseconds = h.picoseconds;
-    let status = h.status;
-    let major = h.major;
-    let minor = h.minor;
-    has16(sequence)
-        + 2 * has_i64(timestamp)
-        + 4 * has16(picoseconds)
-        + 8 * has16(status)
-        + 16 * has32(major)
-        + 32 * has32(minor)
+    has(h.sequence)
+        + 2 * has(h.timestamp)
+        + 4 * has(h.picoseconds)
+        + 8 * has(h.status)
+        + 16 * has(h.major)
+        + 32 * has(h.minor)
 }
 
 // Stores the head of a valid message: its header, the cursor before its first field, and where its last field ends. Where there is room
@@ -74,27 +64,18 @@ pub fn put_head(out: &mut [u8], h: Header, cursor: Cursor, end: usize)
         (out.new ≡ laid out.old 0 (number_bytes (head_numbers (valid m))))
         × (HEAD_SIZE ≤ length out.old → HeadBack out.new m) }
 {
-    let encoding = h.encoding;
-    let kind = h.kind;
-    let sequence = h.sequence;
-    let timestamp = h.timestamp;
-    let picoseconds = h.picoseconds;
-    let status = h.status;
-    let major = h.major;
-    let minor = h.minor;
-    let walked = cursor.encoding;
     let numbers = [
         1,
-        encoding_number(encoding),
-        kind_number(kind),
+        encoding_number(h.encoding),
+        kind_number(h.kind),
         items_number(h),
-        value16(sequence),
-        value_i64(timestamp),
-        value16(picoseconds),
-        value16(status),
-        value32(major),
-        value32(minor),
-        encoding_number(walked),
+        value(h.sequence),
+        value(h.timestamp),
+        value(h.picoseconds),
+        value(h.status),
+        value(h.major),
+        value(h.minor),
+        encoding_number(cursor.encoding),
         flag_number(cursor.delta),
         cursor.next as u64,
         cursor.count as u64,
@@ -120,17 +101,16 @@ pub fn put_no_head(out: &mut [u8])
 pub fn put_cursor(out: &mut [u8], cursor: Cursor)
     ensures { out.new ≡ cursor_laid cursor out.old }
 {
-    put64(out, CURSOR_NEXT, cursor.next as u64);
-    put64(out, CURSOR_AT, cursor.at as u64);
+    (cursor.next as u64).put(out, CURSOR_NEXT);
+    (cursor.at as u64).put(out, CURSOR_AT);
 }
 
 // The field cursor of a head record.
 pub fn cursor_in(s: &[u8]) -> Cursor
     ensures { result ≡ cursor_in s.now }
 {
-    let encoding = encoding_in(number(s, 10));
     Cursor {
-        encoding,
+        encoding: encoding_in(number(s, 10)),
         delta: number(s, 11) != 0,
         next: number(s, 12) as usize,
         count: number(s, 13) as usize,
@@ -145,8 +125,7 @@ pub fn shape_number(x: Shape) -> u64
     match x {
         Shape::Scalar => 0,
         Shape::NullArray => 1,
-        Shape::Array(_) => 2,
-        Shape::Matrix(_, _) => 2,
+        Shape::Array(_) | Shape::Matrix(_, _) => 2,
     }
 }
 
@@ -155,10 +134,8 @@ pub fn elements_number(x: Shape) -> u64
     ensures { result ≡ elements_number x }
 {
     match x {
-        Shape::Scalar => 0,
-        Shape::NullArray => 0,
-        Shape::Array(n) => n as u64,
-        Shape::Matrix(n, _) => n as u64,
+        Shape::Scalar | Shape::NullArray => 0,
+        Shape::Array(n) | Shape::Matrix(n, _) => n as u64,
     }
 }
 
@@ -166,15 +143,14 @@ pub fn elements_number(x: Shape) -> u64
 pub fn put_field(out: &mut [u8], f: Field)
     ensures { out.new ≡ laid out.old 0 (number_bytes (field_numbers f)) }
 {
-    let shape = f.shape;
     let numbers = [
         f.kind as u64,
-        shape_number(shape),
-        elements_number(shape),
+        shape_number(f.shape),
+        elements_number(f.shape),
         f.index as u64,
         f.offset as u64,
         f.length as u64,
-        dimensions(shape) as u64,
+        dimensions(f.shape) as u64,
         0,
     ];
     put_numbers(out, &numbers);
@@ -183,16 +159,12 @@ pub fn put_field(out: &mut [u8], f: Field)
 fn kind_in(n: u64) -> Kind
     ensures { result ≡ kind_in n }
 {
-    if n == 1 {
-        return Kind::Delta;
+    match n {
+        1 => Kind::Delta,
+        2 => Kind::Event,
+        3 => Kind::KeepAlive,
+        _ => Kind::Key,
     }
-    if n == 2 {
-        return Kind::Event;
-    }
-    if n == 3 {
-        return Kind::KeepAlive;
-    }
-    Kind::Key
 }
 
 // The header of a head record; a number that does not fit its item counts as the largest that does.
@@ -200,23 +172,15 @@ pub fn header_in(s: &[u8]) -> Header
     ensures { result ≡ header_in s.now }
 {
     let items = number(s, 3);
-    let encoding = encoding_in(number(s, 1));
-    let kind = kind_in(number(s, 2));
-    let sequence = given16(items % 2 == 1, number(s, 4));
-    let timestamp = given_i64((items >> 1) % 2 == 1, number(s, 5));
-    let picoseconds = given16((items >> 2) % 2 == 1, number(s, 6));
-    let status = given16((items >> 3) % 2 == 1, number(s, 7));
-    let major = given32((items >> 4) % 2 == 1, number(s, 8));
-    let minor = given32((items >> 5) % 2 == 1, number(s, 9));
     Header {
-        encoding,
-        kind,
-        sequence,
-        timestamp,
-        picoseconds,
-        status,
-        major,
-        minor,
+        encoding: encoding_in(number(s, 1)),
+        kind: kind_in(number(s, 2)),
+        sequence: given(items % 2 == 1, number(s, 4)),
+        timestamp: given((items >> 1) % 2 == 1, number(s, 5)),
+        picoseconds: given((items >> 2) % 2 == 1, number(s, 6)),
+        status: given((items >> 3) % 2 == 1, number(s, 7)),
+        major: given((items >> 4) % 2 == 1, number(s, 8)),
+        minor: given((items >> 5) % 2 == 1, number(s, 9)),
     }
 }
 

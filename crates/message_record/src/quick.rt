@@ -1,8 +1,11 @@
 // A quick step of a head record's cursor, where the value of the field that it stands before holds no other: type, shape and end told in
 // line, and no configuration searched. It does what `Cursor::step` answers (proofs/Telling), and leaves no plain value that is accepted
 // (proofs/NotTold). It has one caller, so that it is put in line there; its looks are not those of `value::quick`, which the walk's loops
-// have in line. Worth: nearly half of the time of a call for a scalar of a fixed type, two thirds of that for a String, an array or a
-// DataValue. Each form of value stores its records by itself, so that numbers that are 0 there are stored as such: a tenth of what is left.
+// have in line, and promise more: that what they do not tell is refused. Worth: nearly half of the time of a call for a scalar of a fixed
+// type, two thirds of that for a String, an array or a DataValue. Each form of value stores its records by itself, so that numbers that are
+// 0 there are stored as such: a tenth of what is left.
+// A type goes by its number: any byte may stand for one, on the wire and in the lists of types that are lent, and each is answered. An enum
+// would have to be made of it at each field, and is no plainer.
 ghost use Rattle.std.specs.Prelude.{◌≡◌, true, ◌||◌, List, eqb, ℕ, ◌+◌, ◌≤◌, ◌<◌, length, get_or};
 ghost use Rattle.wire.specs.Constants.{VARIANT};
 ghost use Rattle.wire.specs.Answer.{got, when_on, bit};
@@ -13,7 +16,7 @@ ghost use Rattle.value.specs.Value.{INSIDE, value_at, variant_at, data_value_at}
 ghost use Rattle.value.specs.Quick.{text_at, run_at};
 ghost use Rattle.dataset_fields.specs.Fields.{encoded_at, next_field_at};
 ghost use Rattle.message_record.specs.Message.{encoding_in, cursor_in, cursor_laid, field_numbers};
-ghost use Rattle.message_record.specs.Quick.{Refused, Looks, other_first, plain_first, plain_held, plain_at, plain_step, field_told, cursor_told, StepTells};
+ghost use Rattle.message_record.specs.Quick.{Looks, LooksPast, other_first, plain_first, plain_held, plain_at, plain_step, field_told, cursor_told, StepTells};
 ghost use Rattle.message_record.specs.declared.quick.Stepped.{Stepped};
 
 use crate::message::{cursor_in, put_cursor, put_field};
@@ -21,13 +24,14 @@ use dataset_fields::fields::{Cursor, Field};
 use plain_value::parts::parts_width;
 use plain_value::width::width;
 use records::numbers::number;
-use value::Shape;
-use value::quick::{Plain, fixed_end};
+use value::quick::fixed_end;
+use value::{Measured, Shape};
 use wire::constants::DATA_VALUE;
-use wire::{ItemLength, has, read_length};
+use wire::{Length, has, read_length};
 
-// That a step is done, with the field's offset; that no field is left; or that it is not told.
-#[derive(Clone, Copy)]
+// That a step is done, with the field's offset; that no field is left; or that it is not told. It is neither Option nor Result: `Not` tells
+// nothing, and refuses nothing.
+#[derive(Clone, Copy, PartialEq, Eq, Debug)]
 pub enum Stepped {
     Done(usize),
     End,
@@ -35,54 +39,52 @@ pub enum Stepped {
 }
 
 // A String or ByteString of type t after its first byte.
-fn string_at(s: &[u8], at: usize, t: u8) -> Plain
+#[tactic(auto, unfolding(plain_value::specs::Plain::string))]
+fn string_at(s: &[u8], at: usize, t: u8) -> Option<(Measured, usize)>
     ensures { Looks true result (text_at t s.now at) }
 {
-    match read_length(s, at) {
-        ItemLength::Null(next) => Plain::Scalar(t, next),
-        ItemLength::Of(next, n) => {
-            if has(s.len(), next, n) {
-                return Plain::Scalar(t, next + n);
-            }
-            Plain::Not
+    let Ok((length, next)) = read_length(s, at) else {
+        return None;
+    };
+    match length {
+        Length::Null => Some((Measured::new(t, Shape::Scalar), next)),
+        Length::Of(n) if has(s.len(), next, n) => {
+            Some((Measured::new(t, Shape::Scalar), next + n))
         }
-        ItemLength::Negative(_) => Plain::Not,
-        ItemLength::Short => Plain::Not,
+        _ => None,
     }
 }
 
 // An array of the fixed type t, whose elements have w bytes each, after its first byte.
-fn array_at(s: &[u8], at: usize, t: u8, w: usize) -> Plain
+fn array_at(s: &[u8], at: usize, t: u8, w: usize) -> Option<(Measured, usize)>
     requires { w ≤ 16 }
     ensures { Looks true result (run_at t w s.now at) }
 {
-    match read_length(s, at) {
-        ItemLength::Null(next) => Plain::NullArray(t, next),
-        ItemLength::Of(next, n) => {
-            let bytes = n * w;
-            if has(s.len(), next, bytes) {
-                return Plain::Array(t, next + bytes, n);
-            }
-            Plain::Not
+    let Ok((length, next)) = read_length(s, at) else {
+        return None;
+    };
+    match length {
+        Length::Null => Some((Measured::new(t, Shape::NullArray), next)),
+        Length::Of(n) if has(s.len(), next, n * w) => {
+            Some((Measured::new(t, Shape::Array(n)), next + n * w))
         }
-        ItemLength::Negative(_) => Plain::Not,
-        ItemLength::Short => Plain::Not,
+        _ => None,
     }
 }
 
 // A scalar Variant of type t, whose first byte stands at a position: a String or a ByteString.
-fn scalar_at(s: &[u8], at: usize, t: u8) -> Plain
+fn scalar_at(s: &[u8], at: usize, t: u8) -> Option<(Measured, usize)>
     requires { (at < length s.now) × (get_or s.now at 0 ≡ t) }
     ensures { Looks (eqb t 12 || eqb t 15) result (variant_at s.now at) }
 {
     if (t == 12) | (t == 15) {
         return string_at(s, at + 1, t);
     }
-    Plain::Not
+    None
 }
 
 // A Variant, at a position, that is no null and no scalar of a fixed type.
-fn other_at(s: &[u8], at: usize) -> Plain
+fn other_at(s: &[u8], at: usize) -> Option<(Measured, usize)>
     requires { at < length s.now }
     ensures { Looks (other_first (get_or s.now at 0)) result (variant_at s.now at) }
 {
@@ -92,71 +94,67 @@ fn other_at(s: &[u8], at: usize) -> Plain
         return scalar_at(s, at, t);
     }
     if b / 64 != 2 {
-        return Plain::Not;
+        return None;
     }
     let w = width(t);
     if w == 0 {
-        return Plain::Not;
+        return None;
     }
     array_at(s, at + 1, t, w)
 }
 
 // A Variant at a position.
-fn variant_at(s: &[u8], at: usize) -> Plain
+fn variant_at(s: &[u8], at: usize) -> Option<(Measured, usize)>
     requires { at < length s.now }
     ensures { Looks (plain_first (get_or s.now at 0)) result (variant_at s.now at) }
 {
     let end = fixed_end(s, at);
     if at < end {
-        return Plain::Scalar(s[at], end);
+        return Some((Measured::new(s[at], Shape::Scalar), end));
     }
     other_at(s, at)
 }
 
 // The position after the Variant of a DataValue with the mask m, where that is a null or a scalar of a fixed type, or `at` where it holds
-// none; else 0.
-fn held_end(s: &[u8], at: usize, m: u8) -> usize
-    requires { 0 < at }
+// none.
+fn held_end(s: &[u8], at: usize, m: u8) -> Option<usize>
     ensures { let held = when_on (bit 0 m) tt (passing (value_at INSIDE VARIANT)) s.now at in
-        (0 < result → held ≡ got tt result) × (result ≡ 0 → plain_held m s.now at ≡ true → Refused held) }
+        LooksPast (plain_held m s.now at) result held }
 {
     if m % 2 == 0 {
-        return at;
+        return Some(at);
     }
     let end = fixed_end(s, at);
     if at < end {
-        return end;
+        return Some(end);
     }
-    0
+    None
 }
 
 // A DataValue at a position.
-fn data_value_at(s: &[u8], at: usize) -> Plain
+fn data_value_at(s: &[u8], at: usize) -> Option<(Measured, usize)>
     requires { at < length s.now }
     ensures { Looks (plain_held (get_or s.now at 0) s.now (at + 1)) result (data_value_at s.now at) }
 {
     let m = s[at];
     if 64 <= m {
-        return Plain::Not;
+        return None;
     }
-    let after = held_end(s, at + 1, m);
-    if after == 0 {
-        return Plain::Not;
-    }
+    let after = held_end(s, at + 1, m)?;
     let w = parts_width(m);
     if has(s.len(), after, w) {
-        return Plain::Scalar(DATA_VALUE, after + w);
+        return Some((Measured::new(DATA_VALUE, Shape::Scalar), after + w));
     }
-    Plain::Not
+    None
 }
 
 // A field's value by the number of its encoding.
-fn look(s: &[u8], n: u64, at: usize) -> Plain
+fn look(s: &[u8], n: u64, at: usize) -> Option<(Measured, usize)>
     ensures { let plain = plain_at n s.now at in
         ((types : List ℕ) (k : ℕ) → Looks plain result (encoded_at (encoding_in n) types k s.now at)) }
 {
     if s.len() <= at {
-        return Plain::Not;
+        return None;
     }
     if n == 0 {
         return variant_at(s, at);
@@ -164,7 +162,7 @@ fn look(s: &[u8], n: u64, at: usize) -> Plain
     if n == 2 {
         return data_value_at(s, at);
     }
-    Plain::Not
+    None
 }
 
 // Stores the field that a cursor stands before, by its value's type, shape and end, and the cursor after it.
@@ -180,15 +178,12 @@ fn put_told(
     ensures { (result ≡ Stepped.Done c.at) × (head.new ≡ cursor_laid (cursor_told c end) head.old)
         × (field.new ≡ laid field.old 0 (number_bytes (field_numbers (field_told c kind shape end)))) }
 {
-    let encoding = c.encoding;
     put_cursor(
         head,
         Cursor {
-            encoding,
-            delta: c.delta,
             next: c.next + 1,
-            count: c.count,
             at: end,
+            ..c
         },
     );
     put_field(
@@ -220,11 +215,14 @@ fn step_at(s: &[u8], n: u64, c: Cursor, head: &mut [u8], field: &mut [u8]) -> St
     if c.delta {
         return Stepped::Not;
     }
-    match look(s, n, at) {
-        Plain::Scalar(t, end) => put_told(head, field, c, t, Shape::Scalar, end),
-        Plain::NullArray(t, end) => put_told(head, field, c, t, Shape::NullArray, end),
-        Plain::Array(t, end, k) => put_told(head, field, c, t, Shape::Array(k), end),
-        Plain::Not => Stepped::Not,
+    let Some((value, end)) = look(s, n, at) else {
+        return Stepped::Not;
+    };
+    let kind = value.kind;
+    match value.shape {
+        Shape::Scalar => put_told(head, field, c, kind, Shape::Scalar, end),
+        Shape::NullArray => put_told(head, field, c, kind, Shape::NullArray, end),
+        shape => put_told(head, field, c, kind, shape, end),
     }
 }
 

@@ -9,7 +9,7 @@ use records::items::flag_number;
 use records::numbers::put_numbers;
 use value::{Shape, dimensions};
 use value_parts::data_value::FieldParts;
-use value_parts::name::{Name, Text};
+use value_parts::name::Name;
 use wire::left;
 
 // How many bytes the dimensions list of a shape has.
@@ -17,10 +17,8 @@ fn list_bytes(shape: Shape) -> usize
     ensures { result ≡ dimensions_length shape }
 {
     match shape {
-        Shape::Scalar => 0,
-        Shape::NullArray => 0,
-        Shape::Array(_) => 0,
         Shape::Matrix(_, d) => 4 + 4 * (d as usize),
+        _ => 0,
     }
 }
 
@@ -29,10 +27,8 @@ fn sizes_place(shape: Shape, end: usize) -> usize
     ensures { result ≡ dimensions_place shape end }
 {
     match shape {
-        Shape::Scalar => 0,
-        Shape::NullArray => 0,
-        Shape::Array(_) => 0,
         Shape::Matrix(_, d) => left(end, 4 * (d as usize)),
+        _ => 0,
     }
 }
 
@@ -41,16 +37,13 @@ pub fn put_value(out: &mut [u8], f: FieldParts, name: Name)
     ensures { out.new ≡ laid out.old 0 (number_bytes (value_numbers f name)) }
 {
     let v = f.value;
-    let shape: Shape = v.shape;
-    let locale: Text = name.locale;
-    let text: Text = name.text;
     let numbers = [
         v.kind as u64,
-        shape_number(shape),
-        elements_number(shape),
+        shape_number(v.shape),
+        elements_number(v.shape),
         v.width as u64,
         v.first as u64,
-        left(left(v.end, list_bytes(shape)), v.first) as u64,
+        left(left(v.end, list_bytes(v.shape)), v.first) as u64,
         flag_number(v.null),
         f.end as u64,
         f.mask as u64,
@@ -60,13 +53,13 @@ pub fn put_value(out: &mut [u8], f: FieldParts, name: Name)
         f.source_picoseconds as u64,
         f.server_time as u64,
         f.server_picoseconds as u64,
-        dimensions(shape) as u64,
-        sizes_place(shape, v.end) as u64,
+        dimensions(v.shape) as u64,
+        sizes_place(v.shape, v.end) as u64,
         name.number as u64,
-        locale.place as u64,
-        locale.length as u64,
-        text.place as u64,
-        text.length as u64,
+        name.locale.place as u64,
+        name.locale.length as u64,
+        name.text.place as u64,
+        name.text.length as u64,
         0,
         0,
     ];

@@ -1,9 +1,11 @@
 -- What the code's types say of an envelope: each number fits.
 -- Assumes nothing.
+use Rattle.std.specs.Prelude.{Option, Some, None}
 use mathlib.Core.List.{List}
 use native.Mathlib.Omega.{arith}
 use mir.Val.{Val}
 use denote.Laws.{Is}
+use Rattle.std.specs.contracts.option.Option as option
 use denote.Enum.Declared as enum
 use denote.Struct.Declared as struct
 use denote.Enum.Laws as enumLaws
@@ -14,18 +16,12 @@ use Rattle.wire.specs.declared.Guid.{Guid}
 use Rattle.publisher_id.specs.contracts.publisher.PublisherId as publisher
 use Rattle.publisher_id.proofs.publisher.PublisherId.TheLaws as publisherLaws
 use Rattle.publisher_id.specs.declared.publisher.PublisherId.{PublisherId}
-use Rattle.network_header.specs.contracts.header.ClassId as class
-use Rattle.network_header.proofs.header.ClassId.TheLaws as classLaws
-use Rattle.network_header.specs.declared.header.ClassId.{ClassId}
 use Rattle.network_header.specs.contracts.header.PayloadHeader as payload_header
 use Rattle.network_header.proofs.header.PayloadHeader.TheLaws as payloadHeaderLaws
 use Rattle.network_header.specs.declared.header.PayloadHeader.{PayloadHeader}
 use Rattle.network_header.specs.contracts.group.GroupFields as fields
 use Rattle.network_header.proofs.group.GroupFields.TheLaws as fieldsLaws
 use Rattle.network_header.specs.declared.group.GroupFields.{GroupFields}
-use Rattle.network_header.specs.contracts.group.GroupHeader as group
-use Rattle.network_header.proofs.group.GroupHeader.TheLaws as groupLaws
-use Rattle.network_header.specs.declared.group.GroupHeader.{GroupHeader}
 use Rattle.network_header.specs.contracts.envelope.Envelope as envelope
 use Rattle.network_header.proofs.envelope.Envelope.TheLaws as envelopeLaws
 use Rattle.network_header.specs.declared.envelope.Envelope.{Envelope}
@@ -47,18 +43,18 @@ fits_publisher (PublisherId.Text n) vs h = tt
 fits_guid : (x : Guid) (vs : List Val) → Is (struct.row guid.the_type) x vs → FitsGuid x
 fits_guid x vs h = let k = structLaws.owed guid.the_type guidLaws.the_laws x vs h in (omega (arith, k.0), omega (arith, k.1.0))
 
-fits_class : (x : ClassId) (vs : List Val) → Is (enum.row class.the_type) x vs → FitsClass x
-fits_class ClassId.Absent vs h = tt
-fits_class (ClassId.Is g) vs h = fits_guid g _ (enumLaws.owed class.the_type classLaws.the_laws (ClassId.Is g) vs h).0
+fits_class : (x : Option Guid) (vs : List Val) → Is (option.the_row (struct.row guid.the_type)) x vs → FitsClass x
+fits_class None vs h = tt
+fits_class (Some g) vs h = fits_guid g _ h.1.1.1.1.0
 
 fits_fields : (x : GroupFields) (vs : List Val) → Is (struct.row fields.the_type) x vs → FitsFields x
 fits_fields x vs h =
     let k = structLaws.owed fields.the_type fieldsLaws.the_laws x vs h in
     (fits16 x.writer_group _ k.0, fits32 x.version _ k.1.0, fits16 x.number _ k.1.1.0, fits16 x.sequence _ k.1.1.1.0)
 
-fits_group : (x : GroupHeader) (vs : List Val) → Is (enum.row group.the_type) x vs → FitsGroup x
-fits_group GroupHeader.Absent vs h = tt
-fits_group (GroupHeader.Is g) vs h = fits_fields g _ (enumLaws.owed group.the_type groupLaws.the_laws (GroupHeader.Is g) vs h).0
+fits_group : (x : Option GroupFields) (vs : List Val) → Is (option.the_row (struct.row fields.the_type)) x vs → FitsGroup x
+fits_group None vs h = tt
+fits_group (Some g) vs h = fits_fields g _ h.1.1.1.1.0
 
 fits_payload_header : (x : PayloadHeader) (vs : List Val) → Is (enum.row payload_header.the_type) x vs → FitsPayloadHeader x
 fits_payload_header PayloadHeader.Absent vs h = tt

@@ -1,11 +1,11 @@
 -- The group header's round trip: read as it was written, and what was read is what stands there.
+use Rattle.std.specs.Prelude.{Option, Some, None, is_some}
 use mathlib.Core.Path.{◌≡◌, ap, sym, refl}
 use Prim.Native.Nat.{ℕ, ◌+◌, ◌*◌, ◌/◌, ◌%◌, ◌≤◌, ◌<◌, ◌^◌}
 use Rattle.wire.specs.Number.{le_bytes}
 use Rattle.wire.specs.Answer.{ruled, got, bit}
-use Rattle.wire.specs.declared.optional.Optional16.{Optional16}
-use Rattle.network_header.specs.Group.{number_rule, message_number_at, number_refusal, group_flags_of, group_fields_at, group_fields_bytes, FitsFields, group_flags_rule, group_at, group_on, group_bytes, group_refusal, FitsGroup}
-use Rattle.wire_writer.specs.Writing.{on16, optional16_bytes, num, on32, optional32_bytes}
+use Rattle.network_header.specs.Group.{number_rule, message_number_at, number_refusal, group_flags_of, group_fields_at, group_fields_bytes, FitsFields, group_flags_rule, group_at, group_bytes, group_refusal, FitsGroup}
+use Rattle.wire_writer.specs.Writing.{optional16_bytes, num, optional32_bytes}
 use Rattle.wire_writer.proofs.Trip.{Reads, last, nothing, ruled_is, first, second, optional16_is, optional32_is, rule_kept, item_is}
 use Rattle.wire_writer.specs.Fits.{Fits16, Bytes}
 use native.Mathlib.Omega.{arith}
@@ -13,7 +13,6 @@ use Rattle.network_header.specs.declared.group.GroupFields.{GroupFields}
 use Rattle.wire_writer.proofs.Bits.{num_bound, flag_is, num_bit}
 use mathlib.Core.List.{◌++◌, List}
 use lib.ListN.{length, length-append}
-use Rattle.network_header.specs.declared.group.GroupHeader.{GroupHeader}
 use borrow.Author.Tests.{lt-leb, leb-false}
 use lib.Dec.{eqb, leb, eqb→eq}
 use Rattle.wire.proofs.Table.{below}
@@ -23,9 +22,9 @@ use Rattle.wire_writer.proofs.Back.{Back, join, end_fits, map_back, optional16_b
 use mathlib.Core.Bool.{Bool, true, false}
 use Rattle.wire_writer.proofs.Refusals.{passed}
 
-number_is : (x : Optional16) (m : ℕ) → Fits16 x → number_refusal x ≡ 0 → Reads (message_number_at (on16 x)) m (optional16_bytes x) x
-number_is Optional16.Absent m f h = nothing Optional16.Absent m
-number_is (Optional16.Is v) m f h = last (ruled 2 number_rule) Optional16.Is m (le_bytes 2 v) v (ruled_is 2 number_rule v m f h)
+number_is : (x : Option ℕ) (m : ℕ) → Fits16 x → number_refusal x ≡ 0 → Reads (message_number_at (is_some x)) m (optional16_bytes x) x
+number_is None m f h = nothing None m
+number_is (Some v) m f h = last (ruled 2 number_rule) Some m (le_bytes 2 v) v (ruled_is 2 number_rule v m f h)
 
 group_bits : (a b c d : ℕ) → a ≤ 1 → b ≤ 1 → c ≤ 1 → d ≤ 1
     → ((a + (2 * b + (4 * c + 8 * d))) % 2 ≡ a) × ((a + (2 * b + (4 * c + 8 * d))) / 2 % 2 ≡ b) × ((a + (2 * b + (4 * c + 8 * d))) / 4 % 2 ≡ c)
@@ -34,17 +33,17 @@ group_bits a b c d ha hb hc hd = omega arith
 
 -- by the flags' own bits
 pub bits : (g : GroupFields)
-    → ((group_flags_of g % 2 ≡ num (on16 g.writer_group)) × (group_flags_of g / 2 % 2 ≡ num (on32 g.version)) × (group_flags_of g / 4 % 2 ≡ num (on16 g.number))
-    × (group_flags_of g / 8 % 2 ≡ num (on16 g.sequence)) × (group_flags_of g < 16))
-bits g = group_bits _ _ _ _ (num_bound (on16 g.writer_group)) (num_bound (on32 g.version)) (num_bound (on16 g.number)) (num_bound (on16 g.sequence))
+    → ((group_flags_of g % 2 ≡ num (is_some g.writer_group)) × (group_flags_of g / 2 % 2 ≡ num (is_some g.version)) × (group_flags_of g / 4 % 2 ≡ num (is_some g.number))
+    × (group_flags_of g / 8 % 2 ≡ num (is_some g.sequence)) × (group_flags_of g < 16))
+bits g = group_bits _ _ _ _ (num_bound (is_some g.writer_group)) (num_bound (is_some g.version)) (num_bound (is_some g.number)) (num_bound (is_some g.sequence))
 
-fields_are : (g : GroupFields) → FitsFields g → number_refusal g.number ≡ 0 → (m : ℕ) → Reads (group_fields_at (group_flags_of g)) m (group_fields_bytes g) (GroupHeader.Is g)
+fields_are : (g : GroupFields) → FitsFields g → number_refusal g.number ≡ 0 → (m : ℕ) → Reads (group_fields_at (group_flags_of g)) m (group_fields_bytes g) (Some g)
 fields_are g f h m =
     rw (
-      flag_is (on16 g.writer_group) (group_flags_of g % 2) (bits g).0,
-      flag_is (on32 g.version) (group_flags_of g / 2 % 2) (bits g).1,
-      flag_is (on16 g.number) (group_flags_of g / 4 % 2) (bits g).2,
-      flag_is (on16 g.sequence) (group_flags_of g / 8 % 2) (bits g).3,
+      flag_is (is_some g.writer_group) (group_flags_of g % 2) (bits g).0,
+      flag_is (is_some g.version) (group_flags_of g / 2 % 2) (bits g).1,
+      flag_is (is_some g.number) (group_flags_of g / 4 % 2) (bits g).2,
+      flag_is (is_some g.sequence) (group_flags_of g / 8 % 2) (bits g).3,
     )
     (λ s at.
     let b1 = optional16_bytes g.writer_group in
@@ -60,11 +59,11 @@ fields_are g f h m =
     let p4 = optional16_is g.sequence (m + length b1 + length b2 + length b3) f.3 s at4 in
     let z : m + length b1 + length b2 + length b3 + length b4 ≡ m + length (group_fields_bytes g) =
     omega (arith, length-append b1 (b2 ++ (b3 ++ b4)), length-append b2 (b3 ++ b4), length-append b3 b4) in
-    rw (p1, p2, p3, p4) (ap (λ (j : ℕ). got (GroupHeader.Is g) j) z))
+    rw (p1, p2, p3, p4) (ap (λ (j : ℕ). got (Some g) j) z))
 
-pub group_is : (x : GroupHeader) (m : ℕ) → FitsGroup x → group_refusal x ≡ 0 → Reads (group_at (group_on x)) m (group_bytes x) x
-group_is GroupHeader.Absent m f h = nothing GroupHeader.Absent m
-group_is (GroupHeader.Is g) m f h =
+pub group_is : (x : Option GroupFields) (m : ℕ) → FitsGroup x → group_refusal x ≡ 0 → Reads (group_at (is_some x)) m (group_bytes x) x
+group_is None m f h = nothing None m
+group_is (Some g) m f h =
     let b = bits g in
     let k : group_flags_of g < 256 ^ 1 = omega (arith, b.4) in
     let r : group_flags_rule (group_flags_of g) ≡ 0 = rw (lt-leb 16 (group_flags_of g) b.4) in
@@ -72,18 +71,18 @@ group_is (GroupHeader.Is g) m f h =
     let p = rule_kept 1 group_flags_rule m c (group_flags_of g) r (item_is 1 (group_flags_of g) m k) s (first s m c (group_fields_bytes g) at) in
     let q = fields_are g f h (m + length c) s (second s m c (group_fields_bytes g) at) in
     let z : m + length c + length (group_fields_bytes g) ≡ m + length (c ++ group_fields_bytes g) = omega (arith, length-append c (group_fields_bytes g)) in
-    rw (p, q) (ap (λ (j : ℕ). got (GroupHeader.Is g) j) z)
+    rw (p, q) (ap (λ (j : ℕ). got (Some g) j) z)
 
 group_flags : (F : ℕ) → F < 16 → F % 2 + (2 * (F / 2 % 2) + (4 * (F / 4 % 2) + 8 * (F / 8 % 2))) ≡ F
 group_flags F h = eqb→eq _ _ (below (λ F. eqb (F % 2 + (2 * (F / 2 % 2) + (4 * (F / 4 % 2) + 8 * (F / 8 % 2)))) F) 16 tt F h)
 
-group_fields_back : (F : ℕ) (s : List ℕ) (at : ℕ) (x : GroupHeader) (next : ℕ) → Bytes s → at ≤ length s → F < 16 → group_fields_at F s at ≡ got x next
-    → (g : GroupFields) × (x ≡ GroupHeader.Is g) × Back s at (group_fields_bytes g) next × (group_flags_of g ≡ F)
+group_fields_back : (F : ℕ) (s : List ℕ) (at : ℕ) (x : Option GroupFields) (next : ℕ) → Bytes s → at ≤ length s → F < 16 → group_fields_at F s at ≡ got x next
+    → (g : GroupFields) × (x ≡ Some g) × Back s at (group_fields_bytes g) next × (group_flags_of g ≡ F)
 group_fields_back F s at x next b l hF h =
     let w = invert (optional16 (eqb (F % 2) 1) s at) (λ w n. _) h in
     let v = invert (optional32 (bit 1 F) s w.1) (λ v n. _) w.3 in
     let n = invert (message_number_at (bit 2 F) s v.1) (λ m n. _) v.3 in
-    let q = map_back (optional16 (bit 3 F)) (λ q. GroupHeader.Is (record { writer_group = w.0; version = v.0; number = n.0; sequence = q })) s n.1 x next n.3 in
+    let q = map_back (optional16 (bit 3 F)) (λ q. Some (record { writer_group = w.0; version = v.0; number = n.0; sequence = q })) s n.1 x next n.3 in
     let bw = optional16_back (eqb (F % 2) 1) s at w.0 w.1 b l w.2 in
     let bv = optional32_back (bit 1 F) s w.1 v.0 v.1 b (end_fits s at (optional16_bytes w.0) w.1 bw.0) v.2 in
     let bn = ruled16_back number_rule (bit 2 F) s v.1 n.0 n.1 b (end_fits s w.1 (optional32_bytes v.0) v.1 bv.0) n.2 in
@@ -96,7 +95,7 @@ group_fields_back F s at x next b l hF h =
       rw (bw.1, bv.1, bn.1, bq.1, num_bit (F % 2) (omega arith), num_bit (F / 2 % 2) (omega arith), num_bit (F / 4 % 2) (omega arith), num_bit (F / 8 % 2) (omega arith)) (group_flags F hF),
     )
 
-pub group_back : (on : Bool) (s : List ℕ) (at : ℕ) (x : GroupHeader) (next : ℕ) → Bytes s → at ≤ length s → group_at on s at ≡ got x next → Back s at (group_bytes x) next × (group_on x ≡ on)
+pub group_back : (on : Bool) (s : List ℕ) (at : ℕ) (x : Option GroupFields) (next : ℕ) → Bytes s → at ≤ length s → group_at on s at ≡ got x next → Back s at (group_bytes x) next × (is_some x ≡ on)
 group_back true s at x next b l h =
     let f = invert (ruled 1 group_flags_rule s at) (λ F n. group_fields_at F s n) h in
     let r = ruled_back 1 group_flags_rule s at f.0 f.1 f.2 in

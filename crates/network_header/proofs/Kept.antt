@@ -1,5 +1,7 @@
 -- What was read breaks no rule of writing: each part of an accepted datagram, with its bytes as read, is not refused.
 -- Assumes nothing.
+use Rattle.network_header.specs.declared.group.GroupFields.{GroupFields}
+use Rattle.std.specs.Prelude.{Option, Some}
 use mathlib.Core.Path.{◌≡◌, refl, sym, subst}
 use mathlib.Core.List.{List}
 use mathlib.Core.Bool.{Bool, true, false, cond, ◌&&◌}
@@ -13,13 +15,10 @@ use Rattle.wire.specs.Number.{le, signed}
 use Rattle.wire.specs.Answer.{got, refused, and_then, item, ruled, run, refuse, pure, when_on, ◌>>=◌, bit}
 use Rattle.wire.specs.Items.{length_of}
 use Rattle.wire.specs.Optional.{optional16, optional32}
-use Rattle.wire.specs.declared.optional.Optional16.{Optional16}
 use Rattle.wire.proofs.Reading.{got_value, not_got, invert}
 use Rattle.network_header.specs.declared.flags.Flags.{Flags}
 use Rattle.publisher_id.specs.declared.publisher.PublisherId.{PublisherId}
-use Rattle.network_header.specs.declared.group.GroupHeader.{GroupHeader}
 use Rattle.network_header.specs.declared.header.PayloadHeader.{PayloadHeader}
-use Rattle.network_header.specs.declared.header.Promoted.{Promoted}
 use Rattle.network_header.specs.Flags.{byte0_rule, extended1_rule, extended2_rule, flags_of, flags_at, times_refusal}
 use Rattle.publisher_id.specs.Publisher.{string_of, string_then, string_at, publisher_at, publisher_refusal, publisher_shape, bytes_before, text_of}
 use Rattle.network_header.specs.Group.{number_rule, message_number_at, group_flags_rule, group_fields_at, group_at, number_refusal, group_refusal}
@@ -106,38 +105,38 @@ module _ (s : List ℕ) (p : PublisherId) (next : ℕ) where
 
 -- the group header
 
-number_kept : (on : Bool) (s : List ℕ) (at : ℕ) (x : Optional16) (next : ℕ) → message_number_at on s at ≡ got x next → number_refusal x ≡ 0
+number_kept : (on : Bool) (s : List ℕ) (at : ℕ) (x : Option ℕ) (next : ℕ) → message_number_at on s at ≡ got x next → number_refusal x ≡ 0
 number_kept true s at x next h =
-    let y = map_back (ruled 2 number_rule) Optional16.Is s at x next h in
-    subst (λ (x : Optional16). number_refusal x ≡ 0) y.2 (ruled_back 2 number_rule s at y.0 next y.1).1
-number_kept false s at x next h = subst (λ (x : Optional16). number_refusal x ≡ 0) (got_value h) refl
+    let y = map_back (ruled 2 number_rule) Some s at x next h in
+    subst (λ (x : Option ℕ). number_refusal x ≡ 0) y.2 (ruled_back 2 number_rule s at y.0 next y.1).1
+number_kept false s at x next h = subst (λ (x : Option ℕ). number_refusal x ≡ 0) (got_value h) refl
 
-pub group_kept : (on : Bool) (s : List ℕ) (at : ℕ) (x : GroupHeader) (next : ℕ) → group_at on s at ≡ got x next → group_refusal x ≡ 0
+pub group_kept : (on : Bool) (s : List ℕ) (at : ℕ) (x : Option GroupFields) (next : ℕ) → group_at on s at ≡ got x next → group_refusal x ≡ 0
 group_kept true s at x next h =
     let f = invert (ruled 1 group_flags_rule s at) (λ F n. group_fields_at F s n) h in
     let w = invert (optional16 (eqb (f.0 % 2) 1) s f.1) (λ w n. _) f.3 in
     let v = invert (optional32 (bit 1 f.0) s w.1) (λ v n. _) w.3 in
     let n = invert (message_number_at (bit 2 f.0) s v.1) (λ m n. _) v.3 in
-    let q = map_back (optional16 (bit 3 f.0)) (λ q. GroupHeader.Is (record { writer_group = w.0; version = v.0; number = n.0; sequence = q })) s n.1 x next n.3 in
-    subst (λ (x : GroupHeader). group_refusal x ≡ 0) q.2 (number_kept (bit 2 f.0) s v.1 n.0 n.1 n.2)
-group_kept false s at x next h = subst (λ (x : GroupHeader). group_refusal x ≡ 0) (got_value h) refl
+    let q = map_back (optional16 (bit 3 f.0)) (λ q. Some (record { writer_group = w.0; version = v.0; number = n.0; sequence = q })) s n.1 x next n.3 in
+    subst (λ (x : Option GroupFields). group_refusal x ≡ 0) q.2 (number_kept (bit 2 f.0) s v.1 n.0 n.1 n.2)
+group_kept false s at x next h = subst (λ (x : Option GroupFields). group_refusal x ≡ 0) (got_value h) refl
 
 -- PicoSeconds and promoted fields
 
-pub promoted_kept : (on : Bool) (messages : ℕ) (s : List ℕ) (at : ℕ) (x : Promoted) (next : ℕ) → Bytes s → promoted_at on messages s at ≡ got x next
+pub promoted_kept : (on : Bool) (messages : ℕ) (s : List ℕ) (at : ℕ) (x : Option ℕ) (next : ℕ) → Bytes s → promoted_at on messages s at ≡ got x next
     → (promoted_refusal x messages ≡ 0) × (promoted_shape x (length (promoted_of s x next)) ≡ 0)
 promoted_kept true messages s at x next b h =
-    let f = invert (ruled 2 (size_rule messages) s at) (λ n i. (run n >>= λ k. pure (Promoted.Size n)) s i) h in
+    let f = invert (ruled 2 (size_rule messages) s at) (λ n i. (run n >>= λ k. pure (Some n)) s i) h in
     let r = ruled_back 2 (size_rule messages) s at f.0 f.1 f.2 in
     let i = item_back 2 s at f.0 f.1 b r.0 in
     let k : f.0 < 65536 = i.1 in
-    let y = map_back (run f.0) (λ k. Promoted.Size f.0) s f.1 x next f.3 in
+    let y = map_back (run f.0) (λ k. Some f.0) s f.1 x next f.3 in
     let q = run_back f.0 s f.1 y.0 next y.1 in
     let l : length (bytes_before s next f.0) ≡ f.0 = before_length s f.1 f.0 next q.1 q.2 in
-    subst (λ (x : Promoted). (promoted_refusal x messages ≡ 0) × (promoted_shape x (length (promoted_of s x next)) ≡ 0)) y.2
+    subst (λ (x : Option ℕ). (promoted_refusal x messages ≡ 0) × (promoted_shape x (length (promoted_of s x next)) ≡ 0)) y.2
     (r.1, rw (lt-leb 65536 f.0 k, eq-eqb f.0 (length (bytes_before s next f.0)) (sym l)))
 promoted_kept false messages s at x next b h =
-    subst (λ (x : Promoted). (promoted_refusal x messages ≡ 0) × (promoted_shape x (length (promoted_of s x next)) ≡ 0)) (got_value h) (refl, refl)
+    subst (λ (x : Option ℕ). (promoted_refusal x messages ≡ 0) × (promoted_shape x (length (promoted_of s x next)) ≡ 0)) (got_value h) (refl, refl)
 
 -- the PayloadHeader: a chunk's id for a chunk, else a Count and as many ids; none of a probe
 pub data HeaderKept (chunk : Bool) (s : List ℕ) (next : ℕ) : PayloadHeader → Type 0 where

@@ -1,5 +1,4 @@
 pub mod Sizes
-pub mod Agreeing
 pub mod FlagsTrip
 pub mod FlagsBack
 pub mod Kept

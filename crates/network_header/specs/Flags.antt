@@ -1,15 +1,14 @@
 -- Byte 0, ExtendedFlags1 and ExtendedFlags2 (document 01, "The envelope").
+use Rattle.std.specs.Prelude.{is_some}
 use Rattle.std.specs.Prelude.{ℕ, ◌/◌, ◌+◌, ◌*◌, Bool, cond, ◌&&◌, leb, eqb, List, ◌++◌}
 use Rattle.wire.specs.Constants.{BAD_VERSION, NOT_PERMITTED, NOT_TAKEN}
-use Rattle.wire.specs.Answer.{Answer, got, refused, Reader, ruled, when_on, pure, ◌>>=◌, bit, bits}
+use Rattle.wire.specs.Answer.{Reader, ruled, when_on, pure, ◌>>=◌, bit, bits}
 use Rattle.network_header.specs.declared.flags.Flags.{Flags}
-use Rattle.network_header.specs.declared.flags.FlagsRead.{FlagsRead}
 use Rattle.wire.specs.Number.{le_bytes}
 use Rattle.network_header.specs.declared.envelope.Envelope.{Envelope}
-use Rattle.wire_writer.specs.Writing.{num, needed, byte_bytes, on16, on_i64}
+use Rattle.wire_writer.specs.Writing.{num, needed, byte_bytes}
 use Rattle.publisher_id.specs.Publisher.{publisher_on, id_type_of}
-use Rattle.network_header.specs.Group.{group_on}
-use Rattle.network_header.specs.Header.{class_on, payload_header_on, promoted_on, probe_on}
+use Rattle.network_header.specs.Header.{payload_header_on, probe_on}
 
 -- "bits 0-3 version 1 (else 2)"
 abbrev pub byte0_rule : ℕ → ℕ
@@ -61,23 +60,19 @@ flags_at = do
   f ← when_on (eqb (e / 128) 1) 0 (ruled 1 (extended2_rule (bit 6 b)))
   pure (flags_of b e f)
 
-abbrev pub answer_flags : FlagsRead → Answer Flags
-answer_flags (FlagsRead.Is v next) = got v next
-answer_flags (FlagsRead.Refused n place) = refused n place
-
 -- the flags that an envelope needs
 abbrev pub flags_for : Envelope → Flags
 flags_for x =
     record {
       publisher = publisher_on x.publisher;
-      group = group_on x.group;
+      group = is_some x.group;
       payload_header = payload_header_on x.payload_header;
       kind = id_type_of x.publisher;
-      class_id = class_on x.class_id;
-      timestamp = on_i64 x.timestamp;
-      picoseconds = on16 x.picoseconds;
+      class_id = is_some x.class_id;
+      timestamp = is_some x.timestamp;
+      picoseconds = is_some x.picoseconds;
       chunk = x.chunk;
-      promoted = promoted_on x.promoted;
+      promoted = is_some x.promoted;
       probe = probe_on x.payload_header;
     }
 

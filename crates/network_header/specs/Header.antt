@@ -1,23 +1,20 @@
 -- DataSetClassId, PayloadHeader and promoted fields (document 01, "The envelope").
+use Rattle.std.specs.Prelude.{Option, Some, None}
 use Rattle.std.specs.Prelude.{ℕ, ◌*◌, ◌<◌, Bool, cond, true, false, eqb, leb, List, [], ◌++◌, length, take}
 use Rattle.wire.specs.Constants.{DISAGREE, MOST_WRITERS}
 use Rattle.wire.specs.Items.{guid, guid_bytes}
-use Rattle.wire.specs.Answer.{Answer, got, refused, Reader, item, ruled, run, when_on, pure, ◌>>=◌, ◌>>◌}
-use Rattle.network_header.specs.declared.header.ClassId.{ClassId}
-use Rattle.network_header.specs.declared.header.ClassRead.{ClassRead}
+use Rattle.wire.specs.Answer.{Reader, item, ruled, run, when_on, pure, ◌>>=◌, ◌>>◌}
 use Rattle.network_header.specs.declared.header.PayloadHeader.{PayloadHeader}
-use Rattle.network_header.specs.declared.header.PayloadHeaderRead.{PayloadHeaderRead}
-use Rattle.network_header.specs.declared.header.Promoted.{Promoted}
-use Rattle.network_header.specs.declared.header.PromotedRead.{PromotedRead}
+use Rattle.wire.specs.declared.Guid.{Guid}
 use Rattle.wire.specs.Number.{le_bytes}
-use Rattle.wire_writer.specs.Writing.{unused}
+use Rattle.wire_writer.specs.Writing.{optional_bytes, unused}
 use Rattle.network_header.specs.Numbers.{same_numbers}
 use Rattle.publisher_id.specs.Publisher.{bytes_before}
 use Rattle.wire_writer.specs.Fits.{FitsGuid}
 
 -- "DataSetClassId, 16 bytes"
-abbrev pub class_at : Bool → Reader ClassId
-class_at on = when_on on ClassId.Absent (guid >>= λ v. pure (ClassId.Is v))
+abbrev pub class_at : Bool → Reader (Option Guid)
+class_at on = when_on on None (guid >>= λ v. pure (Some v))
 
 -- "Count 1 (0 is 6)"
 abbrev pub count_rule : ℕ → ℕ
@@ -42,34 +39,15 @@ payload_header_at on chunk probe = cond probe (pure PayloadHeader.Probe) (announ
 abbrev pub size_rule : ℕ → ℕ → ℕ
 size_rule messages v = cond (eqb messages 1) 0 DISAGREE
 
-abbrev pub promoted_at : Bool → ℕ → Reader Promoted
+abbrev pub promoted_at : Bool → ℕ → Reader (Option ℕ)
 promoted_at on messages =
-    when_on on Promoted.Absent do
+    when_on on None do
       n ← ruled 2 (size_rule messages)
       run n
-      pure (Promoted.Size n)
+      pure (Some n)
 
--- what the answers of the code say
-
-abbrev pub answer_class : ClassRead → Answer ClassId
-answer_class (ClassRead.Is v next) = got v next
-answer_class (ClassRead.Refused n place) = refused n place
-
-abbrev pub answer_payload_header : PayloadHeaderRead → Answer PayloadHeader
-answer_payload_header (PayloadHeaderRead.Is v next) = got v next
-answer_payload_header (PayloadHeaderRead.Refused n place) = refused n place
-
-abbrev pub answer_promoted : PromotedRead → Answer Promoted
-answer_promoted (PromotedRead.Is v next) = got v next
-answer_promoted (PromotedRead.Refused n place) = refused n place
-
-abbrev pub class_on : ClassId → Bool
-class_on ClassId.Absent = false
-class_on (ClassId.Is g) = true
-
-abbrev pub class_bytes : ClassId → List ℕ
-class_bytes ClassId.Absent = []
-class_bytes (ClassId.Is g) = guid_bytes g
+abbrev pub class_bytes : Option Guid → List ℕ
+class_bytes = optional_bytes guid_bytes
 
 abbrev pub payload_header_on : PayloadHeader → Bool
 payload_header_on PayloadHeader.Absent = false
@@ -92,13 +70,9 @@ payload_header_bytes ids (PayloadHeader.Chunk w) = le_bytes 2 w
 payload_header_bytes ids PayloadHeader.Probe = []
 
 -- "Promoted: Size 2, then that many bytes"
-abbrev pub promoted_on : Promoted → Bool
-promoted_on Promoted.Absent = false
-promoted_on (Promoted.Size n) = true
-
-abbrev pub promoted_bytes : List ℕ → Promoted → List ℕ
-promoted_bytes bytes Promoted.Absent = []
-promoted_bytes bytes (Promoted.Size n) = le_bytes 2 (length bytes) ++ bytes
+abbrev pub promoted_bytes : List ℕ → Option ℕ → List ℕ
+promoted_bytes bytes None = []
+promoted_bytes bytes (Some n) = le_bytes 2 (length bytes) ++ bytes
 
 -- what reading refuses: "Count 1 (0 is 6)"; "Size 2 (6 if the number of messages isn't one)"
 
@@ -108,9 +82,9 @@ count_refusal (PayloadHeader.Ids n) = count_rule n
 count_refusal (PayloadHeader.Chunk w) = 0
 count_refusal PayloadHeader.Probe = 0
 
-abbrev pub promoted_refusal : Promoted → ℕ → ℕ
-promoted_refusal Promoted.Absent messages = 0
-promoted_refusal (Promoted.Size n) messages = size_rule messages n
+abbrev pub promoted_refusal : Option ℕ → ℕ → ℕ
+promoted_refusal None messages = 0
+promoted_refusal (Some n) messages = size_rule messages n
 
 -- what would read back otherwise is 6
 
@@ -128,9 +102,9 @@ ids_shape chunk (PayloadHeader.Chunk w) ids configured = cond chunk (unused (len
 ids_shape chunk PayloadHeader.Probe ids configured = unused (length ids)
 
 -- promoted fields: as many bytes as they say, and a size of 2 bytes
-abbrev pub promoted_shape : Promoted → ℕ → ℕ
-promoted_shape Promoted.Absent len = unused len
-promoted_shape (Promoted.Size n) len = cond (leb 65536 n) DISAGREE (cond (eqb n len) 0 DISAGREE)
+abbrev pub promoted_shape : Option ℕ → ℕ → ℕ
+promoted_shape None len = unused len
+promoted_shape (Some n) len = cond (leb 65536 n) DISAGREE (cond (eqb n len) 0 DISAGREE)
 
 abbrev pub ids_of : List ℕ → PayloadHeader → ℕ → List ℕ
 ids_of s PayloadHeader.Absent end = []
@@ -138,13 +112,13 @@ ids_of s (PayloadHeader.Ids n) end = bytes_before s end (2 * n)
 ids_of s (PayloadHeader.Chunk w) end = []
 ids_of s PayloadHeader.Probe end = []
 
-abbrev pub promoted_of : List ℕ → Promoted → ℕ → List ℕ
-promoted_of s Promoted.Absent end = []
-promoted_of s (Promoted.Size n) end = bytes_before s end n
+abbrev pub promoted_of : List ℕ → Option ℕ → ℕ → List ℕ
+promoted_of s None end = []
+promoted_of s (Some n) end = bytes_before s end n
 
-abbrev pub FitsClass : ClassId → Type 0
-FitsClass ClassId.Absent = Unit
-FitsClass (ClassId.Is g) = FitsGuid g
+abbrev pub FitsClass : Option Guid → Type 0
+FitsClass None = Unit
+FitsClass (Some g) = FitsGuid g
 
 abbrev pub FitsPayloadHeader : PayloadHeader → Type 0
 FitsPayloadHeader PayloadHeader.Absent = Unit

@@ -1,26 +1,27 @@
 // Byte 0, ExtendedFlags1 and ExtendedFlags2.
 ghost use Rattle.std.specs.Prelude.{◌≡◌, ◌≤◌, length};
 ghost use Rattle.wire.specs.Answer.{ruled, when_on};
-ghost use Rattle.wire.specs.Items.{answer_byte};
-ghost use Rattle.network_header.specs.Flags.{byte0_rule, extended1_rule, probe_rule, extended2_rule, flags_at, flags_of, answer_flags, extended2_of, extended1_of, byte0_of, flag_bytes, flags_for, times_refusal, probe_refusal};
+ghost use Rattle.wire.specs.Refusal.{answer, rule_number};
+ghost use Rattle.network_header.specs.Flags.{byte0_rule, extended1_rule, probe_rule, extended2_rule, flags_at, flags_of, extended2_of, extended1_of, byte0_of, flag_bytes, flags_for, times_refusal, probe_refusal};
 ghost use Rattle.wire_writer.specs.Store.{Stored};
 ghost use Rattle.wire_writer.specs.Writing.{Puts};
 
 use crate::envelope::Envelope;
-use crate::group::group_on;
-use crate::header::{class_on, payload_header_on, probe_on, promoted_on};
+use crate::header::{payload_header_on, probe_on};
 use publisher_id::publisher::{kind_of, publisher_on};
-use wire::constants::{BAD_VERSION, CUT_SHORT, NOT_PERMITTED, NOT_TAKEN};
-use wire::{FlagByte, Item8, has};
-use wire_writer::store::put8;
-use wire_writer::writing::{announced, flag, is_on_i64, is_on16, put_flag_byte};
+use wire::has;
+use wire::item::Item;
+use wire::refusal::{Read, Reason};
+use wire_writer::store::Store;
+use wire_writer::writing::{announced, flag, put_flag_byte};
 
 // What the flag bytes say.
-#[derive(Clone, Copy)]
+#[derive(Clone, Copy, PartialEq, Eq, Debug)]
 pub struct Flags {
     pub publisher: bool,
     pub group: bool,
     pub payload_header: bool,
+    // a number of 3 bits, of which `read_publisher` judges those that stand for no type:
     // the PublisherId's type
     pub kind: u8,
     pub class_id: bool,
@@ -31,121 +32,96 @@ pub struct Flags {
     pub probe: bool,
 }
 
-// The flag bytes with the position after them, or a refusal with its number and place.
-#[derive(Clone, Copy)]
-pub enum FlagsRead {
-    Is(Flags, usize),
-    Refused(u8, usize),
-}
-
-fn byte0_rule(b: u8) -> u8
-    ensures { result ≡ byte0_rule b }
+fn byte0_rule(b: u8) -> Result<(), Reason>
+    ensures { rule_number result ≡ byte0_rule b }
 {
     if b % 16 != 1 {
-        return BAD_VERSION;
+        return Err(Reason::BadVersion);
     }
-    0
+    Ok(())
 }
 
-fn extended1_rule(publisher: bool, e: u8) -> u8
-    ensures { result ≡ extended1_rule publisher e }
+fn extended1_rule(publisher: bool, e: u8) -> Result<(), Reason>
+    ensures { rule_number result ≡ extended1_rule publisher e }
 {
     if e == 0 {
-        return NOT_PERMITTED;
+        return Err(Reason::NotPermitted);
     }
-    if publisher & (5 <= e % 8) {
-        return NOT_PERMITTED;
+    if publisher && 5 <= e % 8 {
+        return Err(Reason::NotPermitted);
     }
     if (e >> 4) % 2 == 1 {
-        return NOT_TAKEN;
+        return Err(Reason::NotTaken);
     }
-    if ((e >> 6) % 2 == 1) & ((e >> 5) % 2 == 0) {
-        return NOT_PERMITTED;
+    if (e >> 6) % 2 == 1 && (e >> 5) % 2 == 0 {
+        return Err(Reason::NotPermitted);
     }
-    0
+    Ok(())
 }
 
 // A probe's ExtendedFlags2, where the PayloadHeader is on or off.
-fn probe_rule(header: bool, e: u8) -> u8
-    ensures { result ≡ probe_rule header e }
+fn probe_rule(header: bool, e: u8) -> Result<(), Reason>
+    ensures { rule_number result ≡ probe_rule header e }
 {
     if e % 2 == 1 {
-        return NOT_TAKEN;
+        return Err(Reason::NotTaken);
     }
     if header {
-        return NOT_PERMITTED;
+        return Err(Reason::NotPermitted);
     }
     if (e >> 1) % 2 == 1 {
-        return NOT_PERMITTED;
+        return Err(Reason::NotPermitted);
     }
-    0
+    Ok(())
 }
 
-fn extended2_rule(header: bool, e: u8) -> u8
-    ensures { result ≡ extended2_rule header e }
+fn extended2_rule(header: bool, e: u8) -> Result<(), Reason>
+    ensures { rule_number result ≡ extended2_rule header e }
 {
     if e == 0 {
-        return NOT_PERMITTED;
+        return Err(Reason::NotPermitted);
     }
     if 32 <= e {
-        return NOT_PERMITTED;
+        return Err(Reason::NotPermitted);
     }
-    let kind = (e >> 2) % 8;
-    if 3 <= kind {
-        return NOT_PERMITTED;
+    match (e >> 2) % 8 {
+        0 => Ok(()),
+        1 => probe_rule(header, e),
+        2 => Err(Reason::NotTaken),
+        _ => Err(Reason::NotPermitted),
     }
-    if kind == 2 {
-        return NOT_TAKEN;
-    }
-    if kind == 1 {
-        return probe_rule(header, e);
-    }
-    0
 }
 
-fn byte0(s: &[u8]) -> FlagByte
-    ensures { answer_byte result ≡ ruled 1 byte0_rule s.now 0 }
+// Each flag byte has a reader of its own: one reader with a closure for the rule is no plainer, since its contract would have to say what
+// the closure answers.
+fn byte0(s: &[u8]) -> Read<u8>
+    ensures { answer result ≡ ruled 1 byte0_rule s.now 0 }
 {
-    let Item8::Is(b, next) = wire::read8(s, 0) else {
-        return FlagByte::Refused(CUT_SHORT, 0);
-    };
-    let number = byte0_rule(b);
-    if number != 0 {
-        return FlagByte::Refused(number, 0);
-    }
-    FlagByte::Is(b, next)
+    let (b, next) = u8::read(s, 0)?;
+    byte0_rule(b).map_err(|reason| reason.at(0))?;
+    Ok((b, next))
 }
 
-fn extended1(s: &[u8], on: bool, publisher: bool, at: usize) -> FlagByte
-    ensures { answer_byte result ≡ when_on on 0 (ruled 1 (extended1_rule publisher)) s.now at }
+fn extended1(s: &[u8], on: bool, publisher: bool, at: usize) -> Read<u8>
+    ensures { answer result ≡ when_on on 0 (ruled 1 (extended1_rule publisher)) s.now at }
 {
     if !on {
-        return FlagByte::Is(0, at);
+        return Ok((0, at));
     }
-    let Item8::Is(e, next) = wire::read8(s, at) else {
-        return FlagByte::Refused(CUT_SHORT, at);
-    };
-    let number = extended1_rule(publisher, e);
-    if number != 0 {
-        return FlagByte::Refused(number, at);
-    }
-    FlagByte::Is(e, next)
+    let (e, next) = u8::read(s, at)?;
+    extended1_rule(publisher, e).map_err(|reason| reason.at(at))?;
+    Ok((e, next))
 }
 
-fn extended2(s: &[u8], on: bool, header: bool, at: usize) -> FlagByte
-    ensures { answer_byte result ≡ when_on on 0 (ruled 1 (extended2_rule header)) s.now at }
+fn extended2(s: &[u8], on: bool, header: bool, at: usize) -> Read<u8>
+    ensures { answer result ≡ when_on on 0 (ruled 1 (extended2_rule header)) s.now at }
 {
     if !on {
-        return FlagByte::Is(0, at);
+        return Ok((0, at));
     }
-    let Item8::Is(e, next) = wire::read8(s, at) else {
-        return FlagByte::Refused(CUT_SHORT, at);
-    };
-    let number = extended2_rule(header, e);
-    if number != 0 {
-        return FlagByte::Refused(number, at);
-    }
-    FlagByte::Is(e, next)
+    let (e, next) = u8::read(s, at)?;
+    extended2_rule(header, e).map_err(|reason| reason.at(at))?;
+    Ok((e, next))
 }
 
 fn flags_of(b: u8, e: u8, f: u8) -> Flags
@@ -166,19 +142,13 @@ fn flags_of(b: u8, e: u8, f: u8) -> Flags
 }
 
 // The flag bytes at the start of the datagram.
-pub fn read_flags(s: &[u8]) -> FlagsRead
-    ensures { answer_flags result ≡ flags_at s.now 0 }
+pub fn read_flags(s: &[u8]) -> Read<Flags>
+    ensures { answer result ≡ flags_at s.now 0 }
 {
-    match byte0(s) {
-        FlagByte::Refused(number, place) => FlagsRead::Refused(number, place),
-        FlagByte::Is(b, at) => match extended1(s, b / 128 == 1, (b >> 4) % 2 == 1, at) {
-            FlagByte::Refused(number, place) => FlagsRead::Refused(number, place),
-            FlagByte::Is(e, at) => match extended2(s, e / 128 == 1, (b >> 6) % 2 == 1, at) {
-                FlagByte::Refused(number, place) => FlagsRead::Refused(number, place),
-                FlagByte::Is(f, at) => FlagsRead::Is(flags_of(b, e, f), at),
-            },
-        },
-    }
+    let (b, at) = byte0(s)?;
+    let (e, at) = extended1(s, b / 128 == 1, (b >> 4) % 2 == 1, at)?;
+    let (f, at) = extended2(s, e / 128 == 1, (b >> 6) % 2 == 1, at)?;
+    Ok((flags_of(b, e, f), at))
 }
 
 fn extended2_of(f: Flags) -> u8
@@ -208,24 +178,17 @@ fn byte0_of(f: Flags) -> u8
 fn flags_for(x: Envelope) -> Flags
     ensures { (result ≡ flags_for x) × (result.kind ≤ 4) }
 {
-    let publisher = x.publisher;
-    let group = x.group;
-    let payload_header = x.payload_header;
-    let class_id = x.class_id;
-    let timestamp = x.timestamp;
-    let picoseconds = x.picoseconds;
-    let promoted = x.promoted;
     Flags {
-        publisher: publisher_on(publisher),
-        group: group_on(group),
-        payload_header: payload_header_on(payload_header),
-        kind: kind_of(publisher),
-        class_id: class_on(class_id),
-        timestamp: is_on_i64(timestamp),
-        picoseconds: is_on16(picoseconds),
+        publisher: publisher_on(x.publisher),
+        group: x.group.is_some(),
+        payload_header: payload_header_on(x.payload_header),
+        kind: kind_of(x.publisher),
+        class_id: x.class_id.is_some(),
+        timestamp: x.timestamp.is_some(),
+        picoseconds: x.picoseconds.is_some(),
         chunk: x.chunk,
-        promoted: promoted_on(promoted),
-        probe: probe_on(payload_header),
+        promoted: x.promoted.is_some(),
+        probe: probe_on(x.payload_header),
     }
 }
 
@@ -247,7 +210,7 @@ fn put_flag_bytes(out: &mut [u8], at: usize, f: Flags) -> usize
     requires { f.kind ≤ 4 }
     ensures { Puts (flag_bytes f) out.old at out.new result }
 {
-    let first = put8(out, at, byte0_of(f));
+    let first = byte0_of(f).put(out, at);
     let second = put_flag_byte(out, first, extended1_of(f));
     put_flag_byte(out, second, extended2_of(f))
 }
@@ -263,31 +226,28 @@ pub fn put_flags(out: &mut [u8], at: usize, x: Envelope) -> usize
     put_flag_bytes(out, at, flags)
 }
 
-// The number by which reading refuses picoseconds without a timestamp, or 0.
-pub fn times_refusal(picoseconds: bool, timestamp: bool) -> u8
-    ensures { result ≡ times_refusal picoseconds timestamp }
+// Refuses picoseconds without a timestamp, as reading does.
+pub fn times_refusal(picoseconds: bool, timestamp: bool) -> Result<(), Reason>
+    ensures { rule_number result ≡ times_refusal picoseconds timestamp }
 {
-    if !picoseconds {
-        return 0;
+    if picoseconds && !timestamp {
+        return Err(Reason::NotPermitted);
     }
-    if timestamp {
-        return 0;
-    }
-    NOT_PERMITTED
+    Ok(())
 }
 
-// The number by which reading refuses a probe that is a chunk, or has promoted fields; or 0.
-pub fn probe_refusal(probe: bool, chunk: bool, promoted: bool) -> u8
-    ensures { result ≡ probe_refusal probe chunk promoted }
+// Refuses a probe that is a chunk, or has promoted fields, as reading does.
+pub fn probe_refusal(probe: bool, chunk: bool, promoted: bool) -> Result<(), Reason>
+    ensures { rule_number result ≡ probe_refusal probe chunk promoted }
 {
     if !probe {
-        return 0;
+        return Ok(());
     }
     if chunk {
-        return NOT_TAKEN;
+        return Err(Reason::NotTaken);
     }
     if promoted {
-        return NOT_PERMITTED;
+        return Err(Reason::NotPermitted);
     }
-    0
+    Ok(())
 }

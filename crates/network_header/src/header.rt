@@ -1,32 +1,21 @@
 // DataSetClassId, PayloadHeader and promoted fields.
 ghost use Rattle.std.specs.Prelude.{◌≡◌, cond, ◌+◌, ◌≤◌, eqb, leb, length};
-ghost use Rattle.network_header.specs.Header.{class_at, payload_header_at, ids_at, promoted_at, answer_class, answer_payload_header, answer_promoted, count_rule, class_on, class_bytes, payload_header_on, probe_on, payload_header_bytes, promoted_on, promoted_bytes, count_refusal, promoted_refusal, count_shape, ids_shape, promoted_shape};
+ghost use Rattle.network_header.specs.Header.{class_at, payload_header_at, ids_at, promoted_at, count_rule, payload_header_on, probe_on, payload_header_bytes, promoted_bytes, count_refusal, promoted_refusal, count_shape, ids_shape, promoted_shape};
 ghost use Rattle.wire_writer.specs.Store.{Stored};
 ghost use Rattle.wire.specs.Constants.{DISAGREE};
+ghost use Rattle.wire.specs.Refusal.{answer, rule_number};
 
 use crate::numbers::same_numbers;
-use wire::constants::{CUT_SHORT, DISAGREE};
-use wire::{Guid, Item8, Item16, ItemGuid, Run, has};
-use wire_writer::store::{put_guid, put_run, put8, put16};
-use wire_writer::writing::six_unless;
-
-// A DataSetClassId.
-#[derive(Clone, Copy)]
-pub enum ClassId {
-    Absent,
-    Is(Guid),
-}
-
-// A DataSetClassId with the position after it, or a refusal with its number and place.
-#[derive(Clone, Copy)]
-pub enum ClassRead {
-    Is(ClassId, usize),
-    Refused(u8, usize),
-}
+use wire::item::Item;
+use wire::optional::read_optional;
+use wire::refusal::{Read, Reason};
+use wire::{Guid, has};
+use wire_writer::store::{Store, put_run};
+use wire_writer::writing::agreement_rule;
 
 // The PayloadHeader: how many DataSetWriterIds it has, at most 255 in a datagram, or a chunk's DataSetWriterId. The ids end where the
 // part ends. A probe has none, and its payload is a probe.
-#[derive(Clone, Copy)]
+#[derive(Clone, Copy, PartialEq, Eq, Debug)]
 pub enum PayloadHeader {
     Absent,
     Ids(u16),
@@ -34,64 +23,30 @@ pub enum PayloadHeader {
     Probe,
 }
 
-// A PayloadHeader with the position after it, or a refusal with its number and place.
-#[derive(Clone, Copy)]
-pub enum PayloadHeaderRead {
-    Is(PayloadHeader, usize),
-    Refused(u8, usize),
-}
-
-// Promoted fields, located only: their size. They end where the part ends.
-#[derive(Clone, Copy)]
-pub enum Promoted {
-    Absent,
-    Size(usize),
-}
-
-// Promoted fields with the position after them, or a refusal with its number and place.
-#[derive(Clone, Copy)]
-pub enum PromotedRead {
-    Is(Promoted, usize),
-    Refused(u8, usize),
-}
-
 // Reads the DataSetClassId, where the flags announce one.
-pub fn read_class_id(s: &[u8], on: bool, at: usize) -> ClassRead
-    ensures { answer_class result ≡ class_at on s.now at }
+pub fn read_class_id(s: &[u8], on: bool, at: usize) -> Read<Option<Guid>>
+    ensures { answer result ≡ class_at on s.now at }
 {
-    if !on {
-        return ClassRead::Is(ClassId::Absent, at);
-    }
-    let ItemGuid::Is(v, next) = wire::read_guid(s, at) else {
-        return ClassRead::Refused(CUT_SHORT, at);
-    };
-    ClassRead::Is(ClassId::Is(v), next)
+    read_optional(s, on, at)
 }
 
-// The number of the rule that Count breaks, or 0.
-fn count_rule(n: u16) -> u8
-    ensures { result ≡ count_rule n }
+// Refuses a Count of 0.
+fn count_rule(n: u16) -> Result<(), Reason>
+    ensures { rule_number result ≡ count_rule n }
 {
     if n == 0 {
-        return DISAGREE;
+        return Err(Reason::Disagree);
     }
-    0
+    Ok(())
 }
 
-fn ids(s: &[u8], at: usize) -> PayloadHeaderRead
-    ensures { answer_payload_header result ≡ ids_at s.now at }
+fn ids(s: &[u8], at: usize) -> Read<PayloadHeader>
+    ensures { answer result ≡ ids_at s.now at }
 {
-    let Item8::Is(count, start) = wire::read8(s, at) else {
-        return PayloadHeaderRead::Refused(CUT_SHORT, at);
-    };
-    let number = count_rule(count as u16);
-    if number != 0 {
-        return PayloadHeaderRead::Refused(number, at);
-    }
-    let Run::To(next) = wire::skip(s, start, 2 * (count as usize)) else {
-        return PayloadHeaderRead::Refused(CUT_SHORT, start);
-    };
-    PayloadHeaderRead::Is(PayloadHeader::Ids(count as u16), next)
+    let (count, start) = u8::read(s, at)?;
+    count_rule(count as u16).map_err(|reason| reason.at(at))?;
+    let next = wire::skip(s, start, 2 * (count as usize))?;
+    Ok((PayloadHeader::Ids(count as u16), next))
 }
 
 // Reads the PayloadHeader, where the flags announce one; a chunk has one writer id, a probe none.
@@ -101,96 +56,49 @@ pub fn read_payload_header(
     chunk: bool,
     probe: bool,
     at: usize,
-) -> PayloadHeaderRead
-    ensures { answer_payload_header result ≡ payload_header_at on chunk probe s.now at }
+) -> Read<PayloadHeader>
+    ensures { answer result ≡ payload_header_at on chunk probe s.now at }
 {
     if probe {
-        return PayloadHeaderRead::Is(PayloadHeader::Probe, at);
+        return Ok((PayloadHeader::Probe, at));
     }
     if !on {
-        return PayloadHeaderRead::Is(PayloadHeader::Absent, at);
+        return Ok((PayloadHeader::Absent, at));
     }
     if !chunk {
         return ids(s, at);
     }
-    let Item16::Is(v, next) = wire::read16(s, at) else {
-        return PayloadHeaderRead::Refused(CUT_SHORT, at);
-    };
-    PayloadHeaderRead::Is(PayloadHeader::Chunk(v), next)
+    let (writer, next) = u16::read(s, at)?;
+    Ok((PayloadHeader::Chunk(writer), next))
 }
 
-// Promoted fields of a datagram with so many messages.
-pub fn read_promoted(s: &[u8], on: bool, messages: usize, at: usize) -> PromotedRead
-    ensures { answer_promoted result ≡ promoted_at on messages s.now at }
+// The size of the promoted fields of a datagram with so many messages, and the position after them.
+pub fn read_promoted(s: &[u8], on: bool, messages: usize, at: usize) -> Read<Option<usize>>
+    ensures { answer result ≡ promoted_at on messages s.now at }
 {
     if !on {
-        return PromotedRead::Is(Promoted::Absent, at);
+        return Ok((None, at));
     }
-    let Item16::Is(v, start) = wire::read16(s, at) else {
-        return PromotedRead::Refused(CUT_SHORT, at);
-    };
+    let (size, start) = u16::read(s, at)?;
     if messages != 1 {
-        return PromotedRead::Refused(DISAGREE, at);
+        return Err(Reason::Disagree.at(at));
     }
-    let size = v as usize;
-    let Run::To(next) = wire::skip(s, start, size) else {
-        return PromotedRead::Refused(CUT_SHORT, start);
-    };
-    PromotedRead::Is(Promoted::Size(size), next)
-}
-
-// Whether there is a DataSetClassId.
-pub(crate) fn class_on(x: ClassId) -> bool
-    ensures { result ≡ class_on x }
-{
-    match x {
-        ClassId::Absent => false,
-        ClassId::Is(_) => true,
-    }
-}
-
-// How many bytes a DataSetClassId takes.
-pub fn class_size(x: ClassId) -> usize
-    ensures { (result ≡ length (class_bytes x)) × (result ≤ 16) }
-{
-    match x {
-        ClassId::Absent => 0,
-        ClassId::Is(_) => 16,
-    }
-}
-
-// Stores a DataSetClassId, all or nothing: answers the position after it, or `at` where it does not fit.
-pub fn put_class(out: &mut [u8], at: usize, x: ClassId) -> usize
-    ensures { Stored (class_bytes x) out.old at out.new result }
-{
-    match x {
-        ClassId::Absent => at,
-        ClassId::Is(g) => put_guid(out, at, g),
-    }
+    let next = wire::skip(s, start, size as usize)?;
+    Ok((Some(size as usize), next))
 }
 
 // Whether there is a PayloadHeader.
 pub(crate) fn payload_header_on(x: PayloadHeader) -> bool
     ensures { result ≡ payload_header_on x }
 {
-    match x {
-        PayloadHeader::Absent => false,
-        PayloadHeader::Ids(_) => true,
-        PayloadHeader::Chunk(_) => true,
-        PayloadHeader::Probe => false,
-    }
+    matches!(x, PayloadHeader::Ids(_) | PayloadHeader::Chunk(_))
 }
 
 // Whether the payload is a probe.
 pub fn probe_on(x: PayloadHeader) -> bool
     ensures { result ≡ probe_on x }
 {
-    match x {
-        PayloadHeader::Absent => false,
-        PayloadHeader::Ids(_) => false,
-        PayloadHeader::Chunk(_) => false,
-        PayloadHeader::Probe => true,
-    }
+    matches!(x, PayloadHeader::Probe)
 }
 
 // How many bytes a PayloadHeader with these ids takes.
@@ -198,10 +106,9 @@ pub fn payload_header_size(x: PayloadHeader, ids: &[u8]) -> usize
     ensures { (result ≡ length (payload_header_bytes ids.now x)) × (result ≤ length ids.now + 2) }
 {
     match x {
-        PayloadHeader::Absent => 0,
         PayloadHeader::Ids(_) => 1 + ids.len(),
         PayloadHeader::Chunk(_) => 2,
-        PayloadHeader::Probe => 0,
+        _ => 0,
     }
 }
 
@@ -210,127 +117,119 @@ pub fn put_payload_header(out: &mut [u8], at: usize, x: PayloadHeader, ids: &[u8
     ensures { Stored (payload_header_bytes ids.now x) out.old at out.new result }
 {
     match x {
-        PayloadHeader::Absent => at,
         PayloadHeader::Ids(n) => {
             if !has(out.len(), at, 1 + ids.len()) {
                 return at;
             }
-            let start = put8(out, at, (n % 256) as u8);
+            let start = ((n % 256) as u8).put(out, at);
             put_run(out, start, ids)
         }
-        PayloadHeader::Chunk(w) => put16(out, at, w),
-        PayloadHeader::Probe => at,
-    }
-}
-
-// Whether there are promoted fields.
-pub fn promoted_on(x: Promoted) -> bool
-    ensures { result ≡ promoted_on x }
-{
-    match x {
-        Promoted::Absent => false,
-        Promoted::Size(_) => true,
+        PayloadHeader::Chunk(w) => w.put(out, at),
+        _ => at,
     }
 }
 
 // How many bytes promoted fields take, with their size.
-pub fn promoted_size(x: Promoted, bytes: &[u8]) -> usize
+pub fn promoted_size(x: Option<usize>, bytes: &[u8]) -> usize
     ensures { (result ≡ length (promoted_bytes bytes.now x)) × (result ≤ length bytes.now + 2) }
 {
     match x {
-        Promoted::Absent => 0,
-        Promoted::Size(_) => 2 + bytes.len(),
+        None => 0,
+        Some(_) => 2 + bytes.len(),
     }
 }
 
 // Stores promoted fields with their size, all or nothing: answers the position after them, or `at` where they do not fit.
-pub fn put_promoted(out: &mut [u8], at: usize, x: Promoted, bytes: &[u8]) -> usize
+pub fn put_promoted(out: &mut [u8], at: usize, x: Option<usize>, bytes: &[u8]) -> usize
     ensures { Stored (promoted_bytes bytes.now x) out.old at out.new result }
 {
     match x {
-        Promoted::Absent => at,
-        Promoted::Size(_) => {
+        None => at,
+        Some(_) => {
             let n = bytes.len();
             if !has(out.len(), at, 2 + n) {
                 return at;
             }
-            let start = put16(out, at, (n % 65536) as u16);
+            let start = ((n % 65536) as u16).put(out, at);
             put_run(out, start, bytes)
         }
     }
 }
 
-// The number by which reading refuses a PayloadHeader, or 0.
-pub fn count_refusal(x: PayloadHeader) -> u8
-    ensures { result ≡ count_refusal x }
+// Refuses a PayloadHeader as reading does.
+pub fn count_refusal(x: PayloadHeader) -> Result<(), Reason>
+    ensures { rule_number result ≡ count_refusal x }
 {
     match x {
-        PayloadHeader::Absent => 0,
         PayloadHeader::Ids(n) => count_rule(n),
-        PayloadHeader::Chunk(_) => 0,
-        PayloadHeader::Probe => 0,
+        _ => Ok(()),
     }
 }
 
-// The number by which reading refuses promoted fields of so many messages, or 0.
-pub fn promoted_refusal(x: Promoted, messages: usize) -> u8
-    ensures { result ≡ promoted_refusal x messages }
+// Refuses promoted fields of so many messages as reading does.
+pub fn promoted_refusal(x: Option<usize>, messages: usize) -> Result<(), Reason>
+    ensures { rule_number result ≡ promoted_refusal x messages }
 {
     match x {
-        Promoted::Absent => 0,
-        Promoted::Size(_) => six_unless(messages == 1),
+        None => Ok(()),
+        Some(_) => agreement_rule(messages == 1),
     }
 }
 
 // A Count that its byte can hold, and as many ids.
-fn count_shape(n: u16, len: usize) -> u8
-    ensures { result ≡ count_shape n len }
+fn count_shape(n: u16, len: usize) -> Result<(), Reason>
+    ensures { rule_number result ≡ count_shape n len }
 {
     if 256 <= n {
-        return DISAGREE;
+        return Err(Reason::Disagree);
     }
-    six_unless(len == 2 * (n as usize))
+    agreement_rule(len == 2 * (n as usize))
 }
 
-// 6 where these ids would read back otherwise, else 0: with a PayloadHeader as many as its Count, which is at most 255, without one the
+// Refuses ids that would read back otherwise: with a PayloadHeader as many as its Count, which is at most 255, without one the
 // configured ones, for a probe none.
-pub fn ids_shape(chunk: bool, x: PayloadHeader, ids: &[u8], configured: &[u16]) -> u8
-    ensures { result ≡ ids_shape chunk x ids.now configured.now }
+pub fn ids_shape(
+    chunk: bool,
+    x: PayloadHeader,
+    ids: &[u8],
+    configured: &[u16],
+) -> Result<(), Reason>
+    ensures { rule_number result ≡ ids_shape chunk x ids.now configured.now }
 {
     match x {
-        PayloadHeader::Absent => six_unless(same_numbers(ids, configured)),
+        PayloadHeader::Absent => agreement_rule(same_numbers(ids, configured)),
         PayloadHeader::Ids(n) => {
             if chunk {
-                return DISAGREE;
+                return Err(Reason::Disagree);
             }
             count_shape(n, ids.len())
         }
         PayloadHeader::Chunk(_) => {
             if chunk {
-                return six_unless(ids.len() == 0);
+                return agreement_rule(ids.len() == 0);
             }
-            DISAGREE
+            Err(Reason::Disagree)
         }
-        PayloadHeader::Probe => six_unless(ids.len() == 0),
+        PayloadHeader::Probe => agreement_rule(ids.len() == 0),
     }
 }
 
 // A size of promoted fields that its 2 bytes can hold, and as many bytes.
-fn size_shape(n: usize, len: usize) -> u8
-    ensures { result ≡ cond (leb 65536 n) DISAGREE (cond (eqb n len) 0 DISAGREE) }
+fn size_shape(n: usize, len: usize) -> Result<(), Reason>
+    ensures { rule_number result ≡ cond (leb 65536 n) DISAGREE (cond (eqb n len) 0 DISAGREE) }
 {
     if 65536 <= n {
-        return DISAGREE;
+        return Err(Reason::Disagree);
     }
-    six_unless(n == len)
+    agreement_rule(n == len)
 }
 
-// 6 where promoted fields of this length would read back otherwise, else 0.
-pub fn promoted_shape(x: Promoted, len: usize) -> u8
-    ensures { result ≡ promoted_shape x len }
+// Refuses promoted fields of this length where they would read back otherwise.
+pub fn promoted_shape(x: Option<usize>, len: usize) -> Result<(), Reason>
+    ensures { rule_number result ≡ promoted_shape x len }
 {
     match x {
-        Promoted::Absent => six_unless(len == 0),
-        Promoted::Size(n) => size_shape(n, len),
+        None => agreement_rule(len == 0),
+        Some(n) => size_shape(n, len),
     }
 }

@@ -4,26 +4,23 @@ ghost use Rattle.wire.specs.Number.{le};
 ghost use Rattle.network_header.specs.Numbers.{agree, same_numbers, configured_sizes};
 ghost use Rattle.wire.specs.Constants.{MOST_WRITERS};
 
-use wire::Item16;
 use wire::constants::MOST_WRITERS;
+use wire::item::Item;
 
 // The byte at a position, 0 where there is none.
 fn byte_at(bytes: &[u8], at: usize) -> u8
     ensures { result ≡ get_or bytes.now at 0 }
 {
-    if bytes.len() <= at {
-        return 0;
-    }
-    bytes[at]
+    bytes.get(at).copied().unwrap_or(0)
 }
 
 // The number of the two bytes at a position; a byte that is not there counts as 0.
 pub fn number_at(bytes: &[u8], at: usize) -> usize
     ensures { (result ≡ le 2 bytes.now at) × (result ≤ 65535) }
 {
-    match wire::read16(bytes, at) {
-        Item16::Is(v, _) => v as usize,
-        Item16::Short => byte_at(bytes, at) as usize,
+    match u16::read(bytes, at) {
+        Ok((v, _)) => v as usize,
+        Err(_) => byte_at(bytes, at) as usize,
     }
 }
 
@@ -32,19 +29,16 @@ fn numbers_agree(bytes: &[u8], numbers: &[u16], n: usize) -> bool
     requires { (n ≤ length numbers.now) × (length bytes.now ≡ 2 * n) × (n ≤ MOST_WRITERS) }
     ensures { result ≡ agree (take n numbers.now) bytes.now 0 }
 {
-    let mut i = 0;
-    let mut at = 0;
-    while i < n {
-        if number_at(bytes, at) != numbers[i] as usize {
+    for i in 0..n {
+        if number_at(bytes, 2 * i) != numbers[i] as usize {
             return false;
         }
-        i = i + 1;
-        at = at + 2;
     }
     true
 }
 
 // Whether bytes are the first 16 of these numbers, 2 bytes each.
+#[tactic(auto, unfolding(crate::specs::Numbers::same_numbers))]
 pub fn same_numbers(bytes: &[u8], numbers: &[u16]) -> bool
     ensures { result ≡ same_numbers bytes.now (take MOST_WRITERS numbers.now) }
 {
@@ -63,8 +57,5 @@ pub fn writers(sizes: &[u16]) -> usize
         × (result ≤ length sizes.now)
         × (take result sizes.now ≡ counted) }
 {
-    if sizes.len() <= MOST_WRITERS {
-        return sizes.len();
-    }
-    MOST_WRITERS
+    sizes.len().min(MOST_WRITERS)
 }

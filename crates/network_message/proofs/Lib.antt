@@ -3,5 +3,4 @@ pub mod Messages
 pub mod Accepted
 pub mod Sizes
 pub mod Short
-pub mod Again
 pub mod Lent

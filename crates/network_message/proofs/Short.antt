@@ -1,5 +1,6 @@
 -- The variable parts of what is not refused are short.
 -- Assumes nothing.
+use Rattle.std.specs.Prelude.{Option, Some, None, is_some}
 use mathlib.Core.Path.{◌≡◌, refl}
 use mathlib.Core.Bool.{Bool, true, false, cond}
 use mathlib.Core.List.{List}
@@ -12,25 +13,24 @@ use borrow.Author.Tests.{eqb-true, leb-false}
 use Rattle.wire.proofs.Facts.{and_left}
 use Rattle.publisher_id.specs.declared.publisher.PublisherId.{PublisherId}
 use Rattle.network_header.specs.declared.header.PayloadHeader.{PayloadHeader}
-use Rattle.network_header.specs.declared.header.Promoted.{Promoted}
 use Rattle.network_header.specs.declared.envelope.Envelope.{Envelope}
 use Rattle.network_header.specs.Numbers.{configured_sizes, agree, same_numbers}
 use Rattle.network_message.specs.Payload.{rest_only_at}
 use Rattle.network_message.specs.Envelope.{messages_of}
-use Rattle.wire_writer.specs.Writing.{or_else, on16, on_i64, picoseconds_refusal, unused}
+use Rattle.wire_writer.specs.Writing.{or_else, picoseconds_refusal, unused}
 use Rattle.wire_writer.proofs.Refusals.{passed, held, both_zero, no}
 use Rattle.network_header.specs.Flags.{times_refusal, probe_refusal}
 use Rattle.network_header.specs.Group.{group_refusal}
 use Rattle.publisher_id.specs.Publisher.{publisher_refusal, publisher_shape}
-use Rattle.network_header.specs.Header.{count_refusal, promoted_refusal, ids_shape, promoted_shape, probe_on, promoted_on}
+use Rattle.network_header.specs.Header.{count_refusal, promoted_refusal, ids_shape, promoted_shape, probe_on}
 use Rattle.network_message.specs.WriterPayload.{listed_refusal, refusal_number, payload_refusal, lengths_shape}
 use Rattle.network_message.specs.Writer.{GivenDatagram, datagram_reading_refusal, shape_refusal, datagram_refusal}
 use Rattle.network_header.proofs.Sizes.{ids_counted}
 
 -- none of the refusals
 pub record Zeros (g : GivenDatagram) (x : Envelope) (sizes configured : List ℕ) : Type 0 where
-  pub times : times_refusal (on16 x.picoseconds) (on_i64 x.timestamp) ≡ 0
-  pub probe : probe_refusal (probe_on x.payload_header) x.chunk (promoted_on x.promoted) ≡ 0
+  pub times : times_refusal (is_some x.picoseconds) (is_some x.timestamp) ≡ 0
+  pub probe : probe_refusal (probe_on x.payload_header) x.chunk (is_some x.promoted) ≡ 0
   pub publisher : publisher_refusal x.publisher (length g.text) ≡ 0
   pub group : group_refusal x.group ≡ 0
   pub count : count_refusal x.payload_header ≡ 0
@@ -50,8 +50,8 @@ zeros g x sizes configured h =
     let n4 = count_refusal x.payload_header in
     let n3 = group_refusal x.group in
     let n2 = publisher_refusal x.publisher (length g.text) in
-    let n0 = probe_refusal (probe_on x.payload_header) x.chunk (promoted_on x.promoted) in
-    let n1 = times_refusal (on16 x.picoseconds) (on_i64 x.timestamp) in
+    let n0 = probe_refusal (probe_on x.payload_header) x.chunk (is_some x.promoted) in
+    let n1 = times_refusal (is_some x.picoseconds) (is_some x.timestamp) in
     let m4 = lengths_shape x.payload_header g.lengths sizes in
     let m3 = promoted_shape x.promoted (length g.promoted) in
     let m2 = ids_shape x.chunk x.payload_header g.ids configured in
@@ -119,9 +119,9 @@ ids_short chunk (PayloadHeader.Ids n) ids configured b =
 ids_short chunk (PayloadHeader.Chunk w) ids configured b = none (length ids) (chunk_unused chunk (length ids) b)
 ids_short chunk PayloadHeader.Probe ids configured b = none (length ids) b
 
-promoted_short : (x : Promoted) (n : ℕ) → promoted_shape x n ≡ 0 → n ≤ 65535
-promoted_short Promoted.Absent n b = none n b
-promoted_short (Promoted.Size k) n b =
+promoted_short : (x : Option ℕ) (n : ℕ) → promoted_shape x n ≡ 0 → n ≤ 65535
+promoted_short None n b = none n b
+promoted_short (Some k) n b =
     let q = passed (leb 65536 k) 5 (cond (eqb k n) 0 6) b in
     let s : k < 65536 = leb-false 65536 k q.0 in
     let e : k ≡ n = eqb-true k n (held (eqb k n) 5 q.1) in

@@ -1,5 +1,8 @@
 -- The NetworkMessage whole (document 01, "The envelope").
 use Rattle.std.specs.Prelude.{ℕ, Bool, cond, List, [], length, take, drop, ltb}
+use Rattle.std.specs.Prelude.{Result, Ok, Err}
+use Rattle.wire.specs.Refusal.{reason_number}
+use Rattle.wire.specs.declared.refusal.Refusal.{Refusal}
 use Rattle.wire.specs.Constants.{MOST_DATAGRAM, OVER_LIMIT}
 use Rattle.wire.specs.Answer.{Answer, got, refused, Reader, here, pure, and_then, ◌>>=◌}
 use Rattle.wire.specs.Optional.{optional_i64, picoseconds_at}
@@ -8,13 +11,9 @@ use Rattle.network_header.specs.declared.header.PayloadHeader.{PayloadHeader}
 use Rattle.network_message.specs.declared.payload.Payload.{Payload}
 use Rattle.network_message.specs.declared.payload.MessagePlace.{MessagePlace}
 use Rattle.network_message.specs.declared.envelope.Identity.{Identity}
-use Rattle.network_message.specs.declared.envelope.IdentityRead.{IdentityRead}
 use Rattle.network_message.specs.declared.envelope.Times.{Times}
-use Rattle.network_message.specs.declared.envelope.TimesRead.{TimesRead}
 use Rattle.network_header.specs.declared.envelope.Envelope.{Envelope}
 use Rattle.network_header.specs.declared.envelope.Places.{Places}
-use Rattle.network_message.specs.declared.envelope.HeaderRead.{HeaderRead}
-use Rattle.network_message.specs.declared.envelope.NetworkMessageRead.{NetworkMessageRead}
 use Rattle.network_header.specs.Flags.{flags_at}
 use Rattle.publisher_id.specs.Publisher.{publisher_at}
 use Rattle.network_header.specs.Group.{group_at}
@@ -107,18 +106,10 @@ message_bytes (refused n place) s = []
 
 -- what the answers of the code say
 
-abbrev pub answer_identity : IdentityRead → Answer Identity
-answer_identity (IdentityRead.Is v next) = got v next
-answer_identity (IdentityRead.Refused n place) = refused n place
+abbrev pub answer_envelope : Result (Envelope × Places) Refusal → Answer Header
+answer_envelope (Ok (e, p)) = got (record { envelope = e; places = p }) p.payload
+answer_envelope (Err r) = refused (reason_number r.reason) r.place
 
-abbrev pub answer_times : TimesRead → Answer Times
-answer_times (TimesRead.Is v next) = got v next
-answer_times (TimesRead.Refused n place) = refused n place
-
-abbrev pub answer_envelope : HeaderRead → Answer Header
-answer_envelope (HeaderRead.Is e p) = got (record { envelope = e; places = p }) p.payload
-answer_envelope (HeaderRead.Refused n place) = refused n place
-
-abbrev pub answer_network_message : NetworkMessageRead → Answer NetworkMessage
-answer_network_message (NetworkMessageRead.Is e p m) = got (record { envelope = e; places = p; payload = m }) m.first
-answer_network_message (NetworkMessageRead.Refused n place) = refused n place
+abbrev pub answer_network_message : Result (Envelope × Places × Payload) Refusal → Answer NetworkMessage
+answer_network_message (Ok (e, p, m)) = got (record { envelope = e; places = p; payload = m }) m.first
+answer_network_message (Err r) = refused (reason_number r.reason) r.place

@@ -1,17 +1,17 @@
 -- The payload and its DataSetMessages (document 01, "Payload").
 use Rattle.std.specs.Prelude.{ℕ, zero, suc, ◌+◌, ◌*◌, ◌-◌, Bool, true, false, cond, ◌&&◌, List, [], ◌∷◌, length, get_or, leb, ltb, eqb}
 use Rattle.wire.specs.Lists.{total}
+use Rattle.std.specs.Prelude.{Result, Ok, Err}
+use Rattle.wire.specs.Refusal.{reason_number}
+use Rattle.wire.specs.declared.refusal.Refusal.{Refusal}
 use Rattle.wire.specs.Constants.{CUT_SHORT, DISAGREE, NOT_CONFIGURED, NOT_TAKEN, OVER_LIMIT}
 use Rattle.wire.specs.Number.{le}
 use Rattle.wire.specs.Answer.{Answer, got, refused, Reader, item, run, and_then}
 use Rattle.network_header.specs.declared.header.PayloadHeader.{PayloadHeader}
 use Rattle.network_message.specs.declared.payload.Sizes.{Sizes}
 use Rattle.network_message.specs.declared.payload.Payload.{Payload}
-use Rattle.network_message.specs.declared.payload.PayloadRead.{PayloadRead}
 use Rattle.network_message.specs.declared.payload.MessagePlace.{MessagePlace}
 use Rattle.network_message.specs.declared.payload.MessageCursor.{MessageCursor}
-use Rattle.network_message.specs.declared.payload.MessageStep.{MessageStep}
-use Rattle.network_message.specs.declared.payload.MessageRead.{MessageRead}
 use Rattle.network_header.specs.Numbers.{configured_sizes}
 use Rattle.probe.specs.Body.{probe_body_at}
 
@@ -73,9 +73,9 @@ payload_at chunk (PayloadHeader.Ids n) sizes s at =
 payload_at chunk (PayloadHeader.Chunk w) sizes s at = got (messages_from 0 Sizes.Rest at) at
 payload_at chunk PayloadHeader.Probe sizes s at = cond chunk (refused NOT_TAKEN at) (probe_payload_at s at)
 
-abbrev pub answer_messages : PayloadRead → Answer Payload
-answer_messages (PayloadRead.Is p) = got p p.first
-answer_messages (PayloadRead.Refused n place) = refused n place
+abbrev pub answer_messages : Result Payload Refusal → Answer Payload
+answer_messages (Ok p) = got p p.first
+answer_messages (Err r) = refused (reason_number r.reason) r.place
 
 -- The messages of a payload, one after the other. `Payload` may be made up: then every size has an answer all the same.
 
@@ -110,19 +110,15 @@ pub record PlaceStepped : Type 0 where
   pub place : MessagePlace
   pub cursor : MessageCursor
 
-abbrev pub answer_place_step : MessageStep → Answer PlaceStepped
-answer_place_step (MessageStep.Is m c) = got (record { place = m; cursor = c }) c.at
-answer_place_step (MessageStep.Refused n place) = refused n place
+abbrev pub answer_place_step : Result (MessagePlace × MessageCursor) Refusal → Answer PlaceStepped
+answer_place_step (Ok (m, c)) = got (record { place = m; cursor = c }) c.at
+answer_place_step (Err r) = refused (reason_number r.reason) r.place
 
 -- a step of the cursor: the message it stands before, and the cursor before the next
 abbrev pub place_step_at : Payload → List ℕ → MessageCursor → List ℕ → Answer PlaceStepped
 place_step_at p sizes c s =
     and_then (place_of_message p sizes c.index s c.at)
     (λ m next. got (record { place = m; cursor = record { index = c.index + 1; at = next } }) next)
-
-abbrev pub answer_place : MessageRead → Answer MessagePlace
-answer_place (MessageRead.Is m next) = got m next
-answer_place (MessageRead.Refused n place) = refused n place
 
 -- a payload of messages (that is, of no chunk and no probe)
 abbrev pub OfMessages : PayloadHeader → Type 0

@@ -1,5 +1,8 @@
 -- A datagram that is a probe (document 02, Req 01).
 use Rattle.std.specs.Prelude.{ℕ, cond, List}
+use Rattle.std.specs.Prelude.{Result, Ok, Err}
+use Rattle.wire.specs.Refusal.{reason_number}
+use Rattle.wire.specs.declared.refusal.Refusal.{Refusal}
 use Rattle.wire.specs.Constants.{NOT_TAKEN}
 use Rattle.wire.specs.Answer.{Answer, got, refused, and_then}
 use Rattle.network_header.specs.declared.envelope.Envelope.{Envelope}
@@ -7,7 +10,6 @@ use Rattle.network_header.specs.declared.envelope.Places.{Places}
 use Rattle.network_header.specs.Header.{probe_on}
 use Rattle.probe.specs.declared.body.Probe.{Probe}
 use Rattle.probe.specs.Body.{probe_body_at}
-use Rattle.network_message.specs.declared.probe_message.ProbeMessageRead.{ProbeMessageRead}
 use Rattle.network_message.specs.Envelope.{network_message_at}
 
 -- what is read: the envelope, where its variable parts end and the probe starts, and the probe
@@ -28,6 +30,6 @@ abbrev pub probe_message_at : List ℕ → List ℕ → Answer ProbeMessage
 probe_message_at sizes s = and_then (network_message_at sizes s) (λ m next. probe_from m.envelope m.places s)
 
 -- what the answer of the code says
-abbrev pub answer_probe_message : ProbeMessageRead → Answer ProbeMessage
-answer_probe_message (ProbeMessageRead.Is e w p) = got (record { envelope = e; places = w; probe = p }) w.payload
-answer_probe_message (ProbeMessageRead.Refused n place) = refused n place
+abbrev pub answer_probe_message : Result (Envelope × Places × Probe) Refusal → Answer ProbeMessage
+answer_probe_message (Ok (e, w, p)) = got (record { envelope = e; places = w; probe = p }) w.payload
+answer_probe_message (Err r) = refused (reason_number r.reason) r.place

@@ -1,17 +1,20 @@
 -- The NetworkMessage written (document 01, "Numbers given back", "The envelope" and "The one rewriting exception"; document 02, Req 02).
+use Rattle.std.specs.Prelude.{is_some}
 use Rattle.std.specs.Prelude.{ℕ, Bool, not, ◌&&◌, List, ◌++◌, eqb, length, drop}
+use Rattle.network_message.specs.declared.writer.Given.{Given}
 use Rattle.network_header.specs.declared.envelope.Envelope.{Envelope}
 use Rattle.network_header.specs.declared.envelope.Places.{Places}
 use Rattle.network_header.specs.Numbers.{configured_sizes}
 use Rattle.network_message.specs.Envelope.{network_message_at, messages_of}
 use Rattle.wire_writer.specs.Fits.{Bytes, Numbers}
-use Rattle.wire_writer.specs.Writing.{or_else, on16, on_i64, optional16_bytes, optional_i64_bytes, picoseconds_refusal, Output, writing, unless, after_reading, Writes}
-use Rattle.wire_writer.specs.declared.writing.Written.{Written}
+use Rattle.wire_writer.specs.Writing.{or_else, optional16_bytes, optional_i64_bytes, picoseconds_refusal, Output, writing, unless, after_reading, Writes}
+use Rattle.std.specs.Prelude.{Result}
+use Rattle.wire.specs.declared.refusal.Reason.{Reason}
 use Rattle.network_header.specs.Envelope.{FitsEnvelope}
 use Rattle.network_header.specs.Flags.{flag_bytes, flags_for, times_refusal, probe_refusal}
 use Rattle.publisher_id.specs.Publisher.{publisher_bytes, publisher_refusal, publisher_shape, text_of}
 use Rattle.network_header.specs.Group.{group_bytes, group_refusal}
-use Rattle.network_header.specs.Header.{class_bytes, payload_header_bytes, promoted_bytes, count_refusal, promoted_refusal, ids_shape, promoted_shape, ids_of, promoted_of, probe_on, promoted_on}
+use Rattle.network_header.specs.Header.{class_bytes, payload_header_bytes, promoted_bytes, count_refusal, promoted_refusal, ids_shape, promoted_shape, ids_of, promoted_of, probe_on}
 use Rattle.network_message.specs.WriterPayload.{list_bytes, payload_refusal, lengths_shape}
 
 -- what is given beside the envelope: the bytes of a string PublisherId, the DataSetWriterIds (2 bytes each), the promoted
@@ -26,6 +29,9 @@ pub record GivenDatagram : Type 0 where
 abbrev pub given_datagram : List ℕ → List ℕ → List ℕ → List ℕ → List ℕ → GivenDatagram
 given_datagram text ids promoted lengths messages =
     record { text = text; ids = ids; promoted = promoted; lengths = lengths; messages = messages }
+
+abbrev pub given_in : Given → GivenDatagram
+given_in g = given_datagram g.text.now g.ids.now g.promoted.now g.lengths.now g.messages.now
 
 -- everything before the payload, in the order of document 01: flags, PublisherId, DataSetClassId, group header, then
 -- PayloadHeader, Timestamp, PicoSeconds, promoted fields
@@ -46,8 +52,8 @@ datagram_of g x = envelope_bytes g.text g.ids g.promoted x ++ (list_bytes x.payl
 -- (Req 02), though reading takes them as 9,999. ExtendedFlags2 refuses a probe that is a chunk or has promoted fields (Req 01).
 abbrev pub header_refusal : Envelope → ℕ → ℕ → ℕ → ℕ
 header_refusal x text configured payload =
-    or_else (times_refusal (on16 x.picoseconds) (on_i64 x.timestamp))
-    (or_else (probe_refusal (probe_on x.payload_header) x.chunk (promoted_on x.promoted))
+    or_else (times_refusal (is_some x.picoseconds) (is_some x.timestamp))
+    (or_else (probe_refusal (probe_on x.payload_header) x.chunk (is_some x.promoted))
     (or_else (publisher_refusal x.publisher text)
     (or_else (group_refusal x.group)
     (or_else (count_refusal x.payload_header)
@@ -57,8 +63,8 @@ header_refusal x text configured payload =
 -- what stands before the PicoSeconds of these
 abbrev pub before_picoseconds : Envelope → ℕ → ℕ
 before_picoseconds x text =
-    or_else (times_refusal (on16 x.picoseconds) (on_i64 x.timestamp))
-    (or_else (probe_refusal (probe_on x.payload_header) x.chunk (promoted_on x.promoted))
+    or_else (times_refusal (is_some x.picoseconds) (is_some x.timestamp))
+    (or_else (probe_refusal (probe_on x.payload_header) x.chunk (is_some x.promoted))
     (or_else (publisher_refusal x.publisher text)
     (or_else (group_refusal x.group) (count_refusal x.payload_header))))
 
@@ -89,7 +95,7 @@ abbrev pub datagram_output : GivenDatagram → Envelope → List ℕ → List �
 datagram_output g x sizes configured = unless (datagram_refusal g x sizes configured) (datagram_of g x)
 
 -- what the writer promises, of the buffer before and after and its answer: that what it was given fits its types, and what it wrote
-abbrev pub WroteDatagram : GivenDatagram → Envelope → List ℕ → List ℕ → List ℕ → List ℕ → Written → Type 0
+abbrev pub WroteDatagram : GivenDatagram → Envelope → List ℕ → List ℕ → List ℕ → List ℕ → Result ℕ Reason → Type 0
 WroteDatagram g x sizes configured entry exit r =
     FitsEnvelope x × Writes (datagram_output g x sizes configured) entry exit r × Numbers sizes × Numbers configured
 
@@ -107,5 +113,5 @@ abbrev pub datagram_again : List ℕ → List ℕ → Output
 datagram_again sizes s = after_reading (network_message_at sizes s) (λ m. writing (again_of s m.envelope m.places))
 
 -- what `rewrite` promises: that the datagram's bytes are bytes, and what it wrote
-abbrev pub RewroteParts : List ℕ → List ℕ → List ℕ → List ℕ → Written → Type 0
+abbrev pub RewroteParts : List ℕ → List ℕ → List ℕ → List ℕ → Result ℕ Reason → Type 0
 RewroteParts sizes s entry exit r = Bytes s × Writes (datagram_again sizes s) entry exit r

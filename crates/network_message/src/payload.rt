@@ -3,19 +3,19 @@ ghost use Rattle.std.specs.Prelude.{◌≡◌, cond, ◌&&◌, leb, ◌+◌, ◌
 ghost use Rattle.wire.specs.Lists.{total};
 ghost use Rattle.wire.specs.Number.{le};
 ghost use Rattle.wire.specs.Answer.{item};
-ghost use Rattle.network_message.specs.Payload.{all_positive, listed, rest_only_at, listed_at, sized_at, configured_at, probe_payload_at, payload_at, size_of_message, value_or0, place_of_message, nth_place_at, place_step_at, answer_messages, answer_place_step, answer_place};
+ghost use Rattle.wire.specs.Refusal.{answer};
+ghost use Rattle.network_message.specs.Payload.{all_positive, listed, rest_only_at, listed_at, sized_at, configured_at, probe_payload_at, payload_at, size_of_message, value_or0, place_of_message, nth_place_at, place_step_at, answer_messages, answer_place_step};
 ghost use Rattle.network_header.specs.Numbers.{configured_sizes};
 ghost use Rattle.wire.specs.Constants.{MOST_WRITERS};
 
 use network_header::header::PayloadHeader;
 use network_header::numbers::{number_at, writers};
-use probe::body::{ProbeRead, read_body};
-use wire::constants::{CUT_SHORT, DISAGREE, NOT_CONFIGURED, NOT_TAKEN, OVER_LIMIT};
+use probe::body::read_body;
 use wire::part::tail;
-use wire::{Item16, Run};
+use wire::refusal::{Read, Reason, Refusal};
 
 // Where a message's size stands: it takes the rest, its size is in the list at a position, or it is configured.
-#[derive(Clone, Copy)]
+#[derive(Clone, Copy, PartialEq, Eq, Debug)]
 pub enum Sizes {
     Rest,
     Listed(usize),
@@ -23,22 +23,15 @@ pub enum Sizes {
 }
 
 // The messages of a payload: how many, where their sizes stand, and where the first starts.
-#[derive(Clone, Copy)]
+#[derive(Clone, Copy, PartialEq, Eq, Debug)]
 pub struct Payload {
     pub count: usize,
     pub sizes: Sizes,
     pub first: usize,
 }
 
-// The messages of a payload, or a refusal with its number and place.
-#[derive(Clone, Copy)]
-pub enum PayloadRead {
-    Is(Payload),
-    Refused(u8, usize),
-}
-
 // The sum of some sizes, and whether each is at least 1.
-#[derive(Clone, Copy)]
+#[derive(Clone, Copy, PartialEq, Eq, Debug)]
 pub struct Tally {
     pub total: usize,
     pub positive: bool,
@@ -52,23 +45,20 @@ fn number_within(list: &[u8], at: usize) -> usize
     list[at] as usize + 256 * (list[at + 1] as usize)
 }
 
-// The sum of the n sizes that a list begins with, and whether each is at least 1. That the list has them is not tested at each: a quarter
-// of the time of writing a datagram of twenty messages again.
+// The sum of the n sizes that a list begins with, and whether each is at least 1; `tally_configured` has numbers of another kind and a way
+// out of its own, so each has its loop. That the list has them is not tested at each: a quarter of the time of writing a datagram of
+// twenty messages again.
 fn tally_whole(list: &[u8], n: u16) -> Tally
     requires { 2 * n ≤ length list.now }
     ensures { let sizes = listed n list.now 0 in
         (result.total ≡ total sizes) × (result.positive ≡ all_positive sizes) × (result.total ≤ 65535 * n) }
 {
-    let mut p = 0;
-    let mut left = n as usize;
     let mut sum = 0;
     let mut each = true;
-    while 0 < left {
-        let size = number_within(list, p);
-        sum = sum + size;
-        each = each & (0 < size);
-        p = p + 2;
-        left = left - 1;
+    for i in 0..n as usize {
+        let size = number_within(list, 2 * i);
+        sum += size;
+        each &= 0 < size;
     }
     Tally {
         total: sum,
@@ -98,10 +88,9 @@ fn tally_configured(sizes: &[u16], n: usize) -> Tally
     ensures { let counted = take n sizes.now in
         (result.total ≡ total counted) × (result.positive ≡ all_positive counted) × (result.total ≤ 65535 * n) }
 {
-    let mut i = 0;
     let mut sum = 0;
     let mut each = true;
-    while i < n {
+    for i in 0..n {
         if sizes.len() <= i {
             return Tally {
                 total: sum,
@@ -109,9 +98,8 @@ fn tally_configured(sizes: &[u16], n: usize) -> Tally
             };
         }
         let size = sizes[i] as usize;
-        sum = sum + size;
-        each = each & (0 < size);
-        i = i + 1;
+        sum += size;
+        each &= 0 < size;
     }
     Tally {
         total: sum,
@@ -120,35 +108,35 @@ fn tally_configured(sizes: &[u16], n: usize) -> Tally
 }
 
 // One message that takes the rest; 1 where nothing is left.
-pub(crate) fn rest(s: &[u8], at: usize) -> PayloadRead
+pub(crate) fn rest(s: &[u8], at: usize) -> Result<Payload, Refusal>
     ensures { answer_messages result ≡ rest_only_at s.now at }
 {
-    if at < s.len() {
-        return PayloadRead::Is(Payload {
-            count: 1,
-            sizes: Sizes::Rest,
-            first: at,
-        });
+    if s.len() <= at {
+        return Err(Reason::CutShort.at(at));
     }
-    PayloadRead::Refused(CUT_SHORT, at)
+    Ok(Payload {
+        count: 1,
+        sizes: Sizes::Rest,
+        first: at,
+    })
 }
 
-fn listed_sizes(s: &[u8], n: u16, at: usize) -> PayloadRead
+fn listed_sizes(s: &[u8], n: u16, at: usize) -> Result<Payload, Refusal>
     ensures { answer_messages result ≡ listed_at n s.now at }
 {
     let count = n as usize;
     if !wire::has(s.len(), at, 2 * count) {
-        return PayloadRead::Refused(CUT_SHORT, at);
+        return Err(Reason::CutShort.at(at));
     }
     let tally = tally_whole(tail(s, at), n);
     if !tally.positive {
-        return PayloadRead::Refused(DISAGREE, at);
+        return Err(Reason::Disagree.at(at));
     }
     let first = at + 2 * count;
     if tally.total != s.len() - first {
-        return PayloadRead::Refused(DISAGREE, at);
+        return Err(Reason::Disagree.at(at));
     }
-    PayloadRead::Is(Payload {
+    Ok(Payload {
         count,
         sizes: Sizes::Listed(at),
         first,
@@ -156,28 +144,28 @@ fn listed_sizes(s: &[u8], n: u16, at: usize) -> PayloadRead
 }
 
 // Configured sizes of this total that are all given, of n writers.
-fn sized(s: &[u8], n: usize, total: usize, at: usize) -> PayloadRead
+fn sized(s: &[u8], n: usize, total: usize, at: usize) -> Result<Payload, Refusal>
     ensures { answer_messages result ≡ sized_at n total s.now at }
 {
     if !wire::has(s.len(), at, total) {
-        return PayloadRead::Refused(DISAGREE, at);
+        return Err(Reason::Disagree.at(at));
     }
     if total != s.len() - at {
-        return PayloadRead::Refused(DISAGREE, at);
+        return Err(Reason::Disagree.at(at));
     }
-    PayloadRead::Is(Payload {
+    Ok(Payload {
         count: n,
         sizes: Sizes::Configured,
         first: at,
     })
 }
 
-fn configured_sizes(s: &[u8], sizes: &[u16], at: usize) -> PayloadRead
+fn configured_sizes(s: &[u8], sizes: &[u16], at: usize) -> Result<Payload, Refusal>
     ensures { answer_messages result ≡ configured_at (configured_sizes sizes.now) s.now at }
 {
     let n = writers(sizes);
     if n == 0 {
-        return PayloadRead::Refused(NOT_CONFIGURED, 0);
+        return Err(Reason::NotConfigured.at(0));
     }
     let tally = tally_configured(sizes, n);
     if tally.positive {
@@ -186,21 +174,19 @@ fn configured_sizes(s: &[u8], sizes: &[u16], at: usize) -> PayloadRead
     if n == 1 {
         return rest(s, at);
     }
-    PayloadRead::Refused(NOT_CONFIGURED, 0)
+    Err(Reason::NotConfigured.at(0))
 }
 
 // The payload of a probe, which has no messages.
-fn probe_payload(s: &[u8], at: usize) -> PayloadRead
+fn probe_payload(s: &[u8], at: usize) -> Result<Payload, Refusal>
     ensures { answer_messages result ≡ probe_payload_at s.now at }
 {
-    match read_body(s, at) {
-        ProbeRead::Refused(number, place) => PayloadRead::Refused(number, place),
-        ProbeRead::Is(_, _) => PayloadRead::Is(Payload {
-            count: 0,
-            sizes: Sizes::Rest,
-            first: at,
-        }),
-    }
+    let _ = read_body(s, at)?;
+    Ok(Payload {
+        count: 0,
+        sizes: Sizes::Rest,
+        first: at,
+    })
 }
 
 // The payload after a payload header; a Count of 0 is 6, a chunked probe 4.
@@ -210,33 +196,33 @@ pub fn read_payload(
     header: PayloadHeader,
     sizes: &[u16],
     at: usize,
-) -> PayloadRead
+) -> Result<Payload, Refusal>
     ensures { answer_messages result ≡ payload_at chunk header sizes.now s.now at }
 {
     match header {
         PayloadHeader::Absent => {
             if chunk {
-                return PayloadRead::Refused(NOT_CONFIGURED, 0);
+                return Err(Reason::NotConfigured.at(0));
             }
             configured_sizes(s, sizes, at)
         }
         PayloadHeader::Ids(n) => {
             if n == 0 {
-                return PayloadRead::Refused(DISAGREE, at);
+                return Err(Reason::Disagree.at(at));
             }
             if n <= 1 {
                 return rest(s, at);
             }
             listed_sizes(s, n, at)
         }
-        PayloadHeader::Chunk(_) => PayloadRead::Is(Payload {
+        PayloadHeader::Chunk(_) => Ok(Payload {
             count: 0,
             sizes: Sizes::Rest,
             first: at,
         }),
         PayloadHeader::Probe => {
             if chunk {
-                return PayloadRead::Refused(NOT_TAKEN, at);
+                return Err(Reason::NotTaken.at(at));
             }
             probe_payload(s, at)
         }
@@ -244,32 +230,18 @@ pub fn read_payload(
 }
 
 // Where a DataSetMessage stands in the datagram.
-#[derive(Clone, Copy)]
+#[derive(Clone, Copy, PartialEq, Eq, Debug)]
 pub struct MessagePlace {
     pub index: usize,
     pub offset: usize,
     pub length: usize,
 }
 
-// The place of a message, or a refusal with its number and place.
-#[derive(Clone, Copy)]
-pub enum MessageRead {
-    Is(MessagePlace, usize),
-    Refused(u8, usize),
-}
-
 // A cursor over the messages: the number of the next one, and where it starts.
-#[derive(Clone, Copy)]
+#[derive(Clone, Copy, PartialEq, Eq, Debug)]
 pub struct MessageCursor {
     pub index: usize,
     pub at: usize,
-}
-
-// The place of a message with the cursor after it, or a refusal with its number and place.
-#[derive(Clone, Copy)]
-pub enum MessageStep {
-    Is(MessagePlace, MessageCursor),
-    Refused(u8, usize),
 }
 
 // The k-th size of the list at p, 0 where it does not fit.
@@ -306,62 +278,50 @@ fn message_size(s: &[u8], kind: Sizes, sizes: &[u16], k: usize, at: usize) -> us
 }
 
 // Message k of a payload, which starts at a position.
-fn message_at(s: &[u8], p: Payload, sizes: &[u16], k: usize, at: usize) -> MessageRead
-    ensures { answer_place result ≡ place_of_message p sizes.now k s.now at }
+fn message_at(s: &[u8], p: Payload, sizes: &[u16], k: usize, at: usize) -> Read<MessagePlace>
+    ensures { answer result ≡ place_of_message p sizes.now k s.now at }
 {
     if p.count <= k {
-        return MessageRead::Refused(OVER_LIMIT, 0);
+        return Err(Reason::OverLimit.at(0));
     }
-    let kind = p.sizes;
-    let length = message_size(s, kind, sizes, k, at);
-    let Run::To(next) = wire::skip(s, at, length) else {
-        return MessageRead::Refused(CUT_SHORT, at);
+    let length = message_size(s, p.sizes, sizes, k, at);
+    let next = wire::skip(s, at, length)?;
+    let place = MessagePlace {
+        index: k,
+        offset: at,
+        length,
     };
-    MessageRead::Is(
-        MessagePlace {
-            index: k,
-            offset: at,
-            length,
-        },
-        next,
-    )
+    Ok((place, next))
 }
 
 impl MessageCursor {
     // The message that the cursor stands before, and the cursor before the next one.
-    pub fn step(self, s: &[u8], p: Payload, sizes: &[u16]) -> MessageStep
+    pub fn step(
+        self,
+        s: &[u8],
+        p: Payload,
+        sizes: &[u16],
+    ) -> Result<(MessagePlace, MessageCursor), Refusal>
         ensures { answer_place_step result ≡ place_step_at p sizes.now self s.now }
     {
         let k = self.index;
-        match message_at(s, p, sizes, k, self.at) {
-            MessageRead::Refused(number, place) => MessageStep::Refused(number, place),
-            MessageRead::Is(m, next) => MessageStep::Is(
-                m,
-                MessageCursor {
-                    index: k + 1,
-                    at: next,
-                },
-            ),
-        }
+        let (place, next) = message_at(s, p, sizes, k, self.at)?;
+        let cursor = MessageCursor {
+            index: k + 1,
+            at: next,
+        };
+        Ok((place, cursor))
     }
 }
 
 // Message k of a payload, found from the start of the first.
-pub fn nth(s: &[u8], p: Payload, sizes: &[u16], k: usize) -> MessageRead
-    ensures { answer_place result ≡ nth_place_at p sizes.now k s.now p.first }
+pub fn nth(s: &[u8], p: Payload, sizes: &[u16], k: usize) -> Read<MessagePlace>
+    ensures { answer result ≡ nth_place_at p sizes.now k s.now p.first }
 {
     let mut at = p.first;
-    let mut i = 0;
-    while i < k {
-        match message_at(s, p, sizes, i, at) {
-            MessageRead::Refused(number, place) => {
-                return MessageRead::Refused(number, place);
-            }
-            MessageRead::Is(_, next) => {
-                at = next;
-            }
-        }
-        i = i + 1;
+    for i in 0..k {
+        let (_, next) = message_at(s, p, sizes, i, at)?;
+        at = next;
     }
     message_at(s, p, sizes, k, at)
 }

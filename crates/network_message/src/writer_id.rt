@@ -4,41 +4,38 @@ ghost use Rattle.network_message.specs.WriterId.{writer_id_of, listed_id, config
 
 use network_header::header::PayloadHeader;
 use network_header::numbers::writers;
-use wire::Item16;
-use wire::optional::Optional16;
+use wire::item::Item;
 
 // The k-th of n DataSetWriterIds that end at a position.
-fn listed_id(s: &[u8], n: u16, end: usize, k: usize) -> Optional16
+fn listed_id(s: &[u8], n: u16, end: usize, k: usize) -> Option<u16>
     ensures { result ≡ listed_id n end k s.now }
 {
     let count = n as usize;
     if count <= k {
-        return Optional16::Absent;
+        return None;
     }
-    let Item16::Is(v, _) = wire::read16(s, wire::left(end, 2 * count) + 2 * k) else {
-        return Optional16::Absent;
-    };
-    Optional16::Is(v)
+    let (id, _) = u16::read(s, wire::left(end, 2 * count) + 2 * k).ok()?;
+    Some(id)
 }
 
 // The k-th configured DataSetWriterId.
-fn configured_id(ids: &[u16], k: usize) -> Optional16
+fn configured_id(ids: &[u16], k: usize) -> Option<u16>
     ensures { result ≡ configured_id ids.now k }
 {
     if writers(ids) <= k {
-        return Optional16::Absent;
+        return None;
     }
-    Optional16::Is(ids[k])
+    Some(ids[k])
 }
 
 // The DataSetWriterId of message k: the k-th of a PayloadHeader that ends at a position, or of the configured writers.
-pub fn writer_id(s: &[u8], header: PayloadHeader, end: usize, ids: &[u16], k: usize) -> Optional16
+pub fn writer_id(s: &[u8], header: PayloadHeader, end: usize, ids: &[u16], k: usize) -> Option<u16>
     ensures { result ≡ writer_id_of header end ids.now k s.now }
 {
     match header {
         PayloadHeader::Absent => configured_id(ids, k),
         PayloadHeader::Ids(n) => listed_id(s, n, end, k),
-        PayloadHeader::Chunk(w) => Optional16::Is(w),
-        PayloadHeader::Probe => Optional16::Absent,
+        PayloadHeader::Chunk(w) => Some(w),
+        PayloadHeader::Probe => None,
     }
 }

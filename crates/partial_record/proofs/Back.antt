@@ -9,7 +9,7 @@ use lib.Dec.{eqb}
 use lib.ListN.{length, get_or, take, drop, replicate, length-append}
 use lib.Seq.{take_at, drop_at, sets-eq, drop-drop, drop-append-add, length-take-le}
 use borrow.Author.Tests.{le-leb}
-use Rattle.wire.specs.declared.optional.Optional16.{Optional16}
+use Rattle.std.specs.Prelude.{Option, Some, None}
 use Rattle.wire.specs.Number.{le_bytes}
 use Rattle.wire_writer.specs.Store.{laid}
 use Rattle.wire_writer.specs.Fits.{Fits16}
@@ -18,8 +18,8 @@ use Rattle.publisher_id.specs.declared.publisher.PublisherId.{PublisherId}
 use Rattle.reassembly.specs.declared.record.PartialRecord.{PartialRecord}
 use Rattle.records.specs.Numbers.{number_at, number_bytes}
 use Rattle.records.proofs.Storing.{bytes_length}
-use Rattle.records.proofs.ReadBack.{AllFit, number_laid, number_kept, number_read, stored_at, publisher_back, number_fits, code_fits, flag_fits, has16_bound, value16_bound}
-use Rattle.records.specs.Items.{flag_number, is_on, has16, value16}
+use Rattle.records.proofs.ReadBack.{AllFit, number_laid, number_kept, number_read, stored_at, publisher_back, number_fits, code_fits, flag_fits, has_bound, value16_bound}
+use Rattle.records.specs.Items.{flag_number, is_on, has_item, item_value}
 use Rattle.records.specs.Publisher.{publisher_by}
 use Rattle.partial_record.specs.Partial.{group_id_in, message_in, partial_in, partial_numbers, partial_bytes, FitsRecord}
 use Rattle.partial_record.proofs.Parts.{partial_length}
@@ -37,9 +37,9 @@ text_back t h =
     stored_at (replicate 64 0) t k ∙ ap (λ (n : ℕ). t ++ drop n (replicate 64 0)) h ∙ append-nil t
 
 -- a group id, or that there is none
-group_back : (o : Optional16) → Fits16 o → cond (is_on (has16 o)) (Optional16.Is (value16 o % 65536)) Optional16.Absent ≡ o
-group_back Optional16.Absent f = refl
-group_back (Optional16.Is v) f = let e : v % 65536 ≡ v = omega arith in ap Optional16.Is e
+group_back : (o : Option ℕ) → Fits16 o → cond (is_on (has_item o)) (Some (item_value o % 65536)) None ≡ o
+group_back None f = refl
+group_back (Some v) f = let e : v % 65536 ≡ v = omega arith in ap Some e
 
 -- ---- a record that was stored reads back
 module _ (k : PartialRecord) (r : List ℕ) (f : FitsRecord k) (h : 144 ≤ length r) where
@@ -49,7 +49,7 @@ module _ (k : PartialRecord) (r : List ℕ) (f : FitsRecord k) (h : 144 ≤ leng
   abbrev text : List ℕ
   text = k.message.origin.publisher.text
 
-  abbrev group : Optional16
+  abbrev group : Option ℕ
   group = k.message.origin.group
 
   abbrev numbers : List ℕ
@@ -63,7 +63,7 @@ module _ (k : PartialRecord) (r : List ℕ) (f : FitsRecord k) (h : 144 ≤ leng
 
   read : (i : ℕ) → i < 10 → number_at s i ≡ get_or numbers i 0
   read i l =
-      let rest : AllFit (has16 group ∷ value16 group ∷ k.covered ∷ 0 ∷ []) = (omega (arith, has16_bound group), (omega (arith, value16_bound group f.group), (f.covered, (omega arith, tt)))) in
+      let rest : AllFit (has_item group ∷ item_value group ∷ k.covered ∷ 0 ∷ []) = (omega (arith, has_bound group), (omega (arith, value16_bound group f.group), (f.covered, (omega arith, tt)))) in
       let fit : AllFit numbers = (
         flag_fits k.started,
         (

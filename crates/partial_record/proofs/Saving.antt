@@ -27,14 +27,12 @@ use Rattle.salvage.specs.Quick.{FixedTo, EndsAt}
 use Rattle.salvage.proofs.FieldEnds.{ends_got}
 use Rattle.salvage.specs.Front.{Shown, shown, bad, ends, past_by, shown_by, shown_at, Promise, promised, Salvage, salvaged, refusal, with_field, after_last, on_field, fields_shown, open_at, salvage_from, salvage_opened, saved_fields, tally_from}
 use Rattle.salvage.specs.declared.holes.Hole.{Hole}
-use Rattle.salvage.specs.declared.holes.HoleStep.{HoleStep}
+use Rattle.std.specs.Prelude.{Option, Some, None, Result, Ok, Err}
 use Rattle.salvage.specs.declared.front.Opening.{Opening}
-use Rattle.salvage.specs.declared.front.Tally.{Tally}
 use Rattle.salvage.proofs.HoleLaws.{holes_after, then_holes, holes_step}
 use Rattle.salvage.proofs.Steps.{salvage_opened_lem}
 use Rattle.partial_record.specs.List.{hole_numbers, hole_entries, field_entries, entry_laid, entries_put, promised_number, told_numbers, encoding_told, SavedPut, saved_put, put_saved, open_in, salvage_in, salvage_put, front_bytes, area_bytes, front_end, holes_in, promise_by, none_at, scalar_numbers}
 use Rattle.partial_record.specs.Steps.{field_put, whole_fields, Finds}
-use Rattle.partial_record.specs.declared.salvage_record.Salvaged.{Salvaged}
 use Rattle.partial_record.specs.declared.salvage_record.Found.{Found}
 use Rattle.partial_record.proofs.Entries.{puts_append}
 
@@ -117,37 +115,38 @@ module _ (types f s : List ℕ) where
   saved_whole c h = saved_walked c.count c.delta c.encoding (c.count - c.next) c.next c.at h
 
   -- a count of them
-  tally_is : (c : Cursor) (k : ℕ) → Tally.Is k ≡ tally_from 0 (salvage_from types f s c) → (is_saved (salvage_from types f s c) ≡ true) × (k ≡ length (saved_fields (salvage_from types f s c)))
+  tally_is : (c : Cursor) (k : ℕ) → ◌≡◌ {A = Result ℕ (ℕ × ℕ)} (Ok k) (tally_from 0 (salvage_from types f s c)) → (is_saved (salvage_from types f s c) ≡ true)
+      × (k ≡ length (saved_fields (salvage_from types f s c)))
   tally_is c k e = go (salvage_from types f s c) e
     where
-      number : Tally → ℕ
-      number (Tally.Is n) = n
-      number (Tally.Refused n place) = 0
+      number : Result ℕ (ℕ × ℕ) → ℕ
+      number (Ok n) = n
+      number (Err e) = 0
 
-      refuses : Tally → Bool
-      refuses (Tally.Is n) = false
-      refuses (Tally.Refused n place) = true
+      refuses : Result ℕ (ℕ × ℕ) → Bool
+      refuses (Ok n) = false
+      refuses (Err e) = true
 
-      go : (v : Salvage) → Tally.Is k ≡ tally_from 0 v → (is_saved v ≡ true) × (k ≡ length (saved_fields v))
+      go : (v : Salvage) → Ok k ≡ tally_from 0 v → (is_saved v ≡ true) × (k ≡ length (saved_fields v))
       go (salvaged p fs) q = let z : k ≡ 0 + length fs = ap number q in (refl, omega arith)
       go (refusal n place) q = absurd (false≢true (ap refuses q))
 
-  pub tally_bad : (c : Cursor) (n place : ℕ) → Tally.Refused n place ≡ tally_from 0 (salvage_from types f s c) → salvage_from types f s c ≡ refusal n place
+  pub tally_bad : (c : Cursor) (n place : ℕ) → ◌≡◌ {A = Result ℕ (ℕ × ℕ)} (Err (n, place)) (tally_from 0 (salvage_from types f s c)) → salvage_from types f s c ≡ refusal n place
   tally_bad c n place e = go (salvage_from types f s c) e
     where
-      first : Tally → ℕ
-      first (Tally.Is m) = 0
-      first (Tally.Refused m p) = m
+      first : Result ℕ (ℕ × ℕ) → ℕ
+      first (Ok m) = 0
+      first (Err e) = e.0
 
-      second : Tally → ℕ
-      second (Tally.Is m) = 0
-      second (Tally.Refused m p) = p
+      second : Result ℕ (ℕ × ℕ) → ℕ
+      second (Ok m) = 0
+      second (Err e) = e.1
 
-      refuses : Tally → Bool
-      refuses (Tally.Is m) = false
-      refuses (Tally.Refused m p) = true
+      refuses : Result ℕ (ℕ × ℕ) → Bool
+      refuses (Ok m) = false
+      refuses (Err e) = true
 
-      go : (v : Salvage) → Tally.Refused n place ≡ tally_from 0 v → v ≡ refusal n place
+      go : (v : Salvage) → ◌≡◌ {A = Result ℕ (ℕ × ℕ)} (Err (n, place)) (tally_from 0 v) → v ≡ refusal n place
       go (salvaged p fs) q = absurd (false≢true (sym (ap refuses q)))
       go (refusal a b) q = sym (rw (ap first q, ap second q) refl)
 
@@ -248,45 +247,46 @@ pub room_scant : (b : Bool) (n room : ℕ) → b ≡ leb n room → not b ≡ tr
 room_scant b n room e h = leb-false n room (sym e ∙ not-true b h)
 
 -- a hole by its offset and where it ends
-pub hole_by_end : (m : ℕ → Bool) (n at : ℕ) (h : Hole) (end : ℕ) → HoleStep.Is h end ≡ next_hole m n at → hole h.offset end ≡ h
+pub hole_by_end : (m : ℕ → Bool) (n at : ℕ) (h : Hole) (end : ℕ) → ◌≡◌ {A = Option (Hole × ℕ)} (Some (h, end)) (next_hole m n at) → hole h.offset end ≡ h
 hole_by_end m n at h end e = go (ltb (hole_start m n at) n) refl
   where
-    same : {h : Hole} {a s x : ℕ} → HoleStep.Is h a ≡ HoleStep.Is (hole s x) x → hole h.offset a ≡ h
+    same : {h : Hole} {a s x : ℕ} → ◌≡◌ {A = Option (Hole × ℕ)} (Some (h, a)) (Some (hole s x, x)) → hole h.offset a ≡ h
     same {h} {a} {s} {x} e =
-        let i : h ≡ hole s x = cc in
-        let j : a ≡ x = cc in
+        let p : ◌≡◌ {A = Hole × ℕ} (h, a) (hole s x, x) = cc in
+        let i : h ≡ hole s x = ap (λ (y : Hole × ℕ). y.0) p in
+        let j : a ≡ x = ap (λ (y : Hole × ℕ). y.1) p in
         rw (i, j)
 
-    some : HoleStep → Bool
-    some (HoleStep.Is h a) = false
-    some HoleStep.Last = true
+    some : Option (Hole × ℕ) → Bool
+    some (Some x) = false
+    some None = true
 
     go : (b : Bool) → ltb (hole_start m n at) n ≡ b → hole h.offset end ≡ h
     go true t =
-        let q : HoleStep.Is h end ≡ HoleStep.Is (hole (hole_start m n at) (hole_end m n at)) (hole_end m n at) = rw t at e in same q
-    go false t = let q : HoleStep.Is h end ≡ HoleStep.Last = rw t at e in absurd (false≢true (ap some q))
+        let q : ◌≡◌ {A = Option (Hole × ℕ)} (Some (h, end)) (Some (hole (hole_start m n at) (hole_end m n at), hole_end m n at)) = rw t at e in same q
+    go false t = let q : ◌≡◌ {A = Option (Hole × ℕ)} (Some (h, end)) None = rw t at e in absurd (false≢true (ap some q))
 
-pub holes_put : (m : ℕ → Bool) (n at : ℕ) (h : Hole) (end k : ℕ) (out e r : List ℕ) → HoleStep.Is h end ≡ next_hole m n at → e ≡ entry_laid k (hole_numbers h) out
+pub holes_put : (m : ℕ → Bool) (n at : ℕ) (h : Hole) (end k : ℕ) (out e r : List ℕ) → ◌≡◌ {A = Option (Hole × ℕ)} (Some (h, end)) (next_hole m n at) → e ≡ entry_laid k (hole_numbers h) out
     → entries_put k (hole_entries (holes_after m n at)) out ≡ r → entries_put (k + 1) (hole_entries (holes_after m n end)) e ≡ r
 holes_put m n at h end k out e r i q v =
     let a = holes_step m n at ∙ ap (then_holes m n) (sym i) in
     ap (entries_put (k + 1) (hole_entries (holes_after m n end))) q ∙ sym (ap (λ (hs : List Hole). entries_put k (hole_entries hs) out) a) ∙ v
 
 -- and counted
-pub holes_more : (m : ℕ → Bool) (n at : ℕ) (h : Hole) (end k all : ℕ) → HoleStep.Is h end ≡ next_hole m n at → k + length (holes_after m n at) ≡ all
+pub holes_more : (m : ℕ → Bool) (n at : ℕ) (h : Hole) (end k all : ℕ) → ◌≡◌ {A = Option (Hole × ℕ)} (Some (h, end)) (next_hole m n at) → k + length (holes_after m n at) ≡ all
     → k + 1 + length (holes_after m n end) ≡ all
 holes_more m n at h end k all i v =
     let a = holes_step m n at ∙ ap (then_holes m n) (sym i) in
     let z : length (holes_after m n at) ≡ suc (length (holes_after m n end)) = ap length a in
     omega arith
 
-pub holes_all : (m : ℕ → Bool) (n at k all : ℕ) → HoleStep.Last ≡ next_hole m n at → k + length (holes_after m n at) ≡ all → k ≡ all
+pub holes_all : (m : ℕ → Bool) (n at k all : ℕ) → None ≡ next_hole m n at → k + length (holes_after m n at) ≡ all → k ≡ all
 holes_all m n at k all i v =
     let a = holes_step m n at ∙ ap (then_holes m n) (sym i) in
     let z : length (holes_after m n at) ≡ 0 = ap length a in
     omega arith
 
-pub holes_end : (m : ℕ → Bool) (n at k : ℕ) (out r : List ℕ) → HoleStep.Last ≡ next_hole m n at → entries_put k (hole_entries (holes_after m n at)) out ≡ r → out ≡ r
+pub holes_end : (m : ℕ → Bool) (n at k : ℕ) (out r : List ℕ) → None ≡ next_hole m n at → entries_put k (hole_entries (holes_after m n at)) out ≡ r → out ≡ r
 holes_end m n at k out r i v =
     let a = holes_step m n at ∙ ap (then_holes m n) (sym i) in sym (ap (λ (hs : List Hole). entries_put k (hole_entries hs) out) a) ∙ v
 
@@ -296,18 +296,18 @@ entries_length (h ∷ hs) = let z = entries_length hs in omega arith
 
 -- ---- all together
 module _ (hs : List Hole) (front total encoding : ℕ) (told list : List ℕ) (p : Promise) (fs : List Field) where
-  pub store_short : (r : Salvaged) → r ≡ Salvaged.Refused NO_ROOM 0 → length told < 64 → saved_put r told list ≡ put_saved hs front total encoding told list (salvaged p fs)
-  store_short r e l = rw (lt-ltb (length told) 64 l) (ap (λ (x : Salvaged). saved_put x told list) e)
+  pub store_short : (r : Result ℕ (ℕ × ℕ)) → r ≡ Err (NO_ROOM, 0) → length told < 64 → saved_put r told list ≡ put_saved hs front total encoding told list (salvaged p fs)
+  store_short r e l = rw (lt-ltb (length told) 64 l) (ap (λ (x : Result ℕ (ℕ × ℕ)). saved_put x told list) e)
 
-  pub store_full : (r : Salvaged) → r ≡ Salvaged.Refused NO_ROOM 0 → 64 ≤ length told → length list / 64 < length hs + length fs
+  pub store_full : (r : Result ℕ (ℕ × ℕ)) → r ≡ Err (NO_ROOM, 0) → 64 ≤ length told → length list / 64 < length hs + length fs
       → saved_put r told list ≡ put_saved hs front total encoding told list (salvaged p fs)
   store_full r e g l =
-      rw (le-ltb (length told) 64 g, lt-ltb (length list / 64) (length hs + length fs) l) (ap (λ (x : Salvaged). saved_put x told list) e)
+      rw (le-ltb (length told) 64 g, lt-ltb (length list / 64) (length hs + length fs) l) (ap (λ (x : Result ℕ (ℕ × ℕ)). saved_put x told list) e)
 
   pub store_done : (n holes fields : ℕ) (a b c : List ℕ) → 64 ≤ length told → length hs + length fs ≤ length list / 64 → holes ≡ length hs → fields ≡ length fs → n ≡ holes + fields
       → a ≡ laid told 0 (number_bytes (told_numbers holes fields p front total encoding))
       → b ≡ entries_put 0 (hole_entries hs) list → c ≡ entries_put holes (field_entries fs) b
-      → saved_put (Salvaged.Is n) a c ≡ put_saved hs front total encoding told list (salvaged p fs)
+      → saved_put (Ok n) a c ≡ put_saved hs front total encoding told list (salvaged p fs)
   store_done n holes fields a b c g l eh ef en ea eb ec =
       let z : n ≡ length hs + length fs = omega arith in
       let y : a ≡ laid told 0 (number_bytes (told_numbers (length hs) (length fs) p front total encoding)) =
@@ -345,34 +345,36 @@ module _ (types payload marks : List ℕ) (total : ℕ) (told list : List ℕ) w
       go false e = rw e (salvage_opened_lem (length s) types f s)
 
   -- what reading on from the opening o leaves is what is put
-  put_opened : (o : Opening) (v : Salvage) (x : SavedPut) → o ≡ open_in types payload marks total
+  put_opened : (o : Result Opening (ℕ × ℕ)) (v : Salvage) (x : SavedPut) → o ≡ open_in types payload marks total
       → salvage_opened types (front_bytes types payload marks total) (area_bytes types payload marks total) o ≡ v
       → x ≡ put_saved (holes_in types payload marks total) (front_end types payload marks total) total (encoding_told o) told list v
       → x ≡ salvage_put types payload marks total told list
   put_opened o v x e q i =
       i ∙ ap (λ (w : Salvage). put_saved (holes_in types payload marks total) (front_end types payload marks total) total (encoding_told o) told list w)
       (sym q ∙ ap (salvage_opened types (front_bytes types payload marks total) (area_bytes types payload marks total)) e ∙ sym opened)
-      ∙ ap (λ (w : Opening). put_saved (holes_in types payload marks total) (front_end types payload marks total) total (encoding_told w) told list (salvage_in types payload marks total)) e
+      ∙ ap (λ (w : Result Opening (ℕ × ℕ)). put_saved (holes_in types payload marks total) (front_end types payload marks total) total
+      (encoding_told w) told list (salvage_in types payload marks total)) e
 
-  pub put_way : (f s : List ℕ) (covered : ℕ) (o : Opening) (v : Salvage) (x : SavedPut) → covered ≡ front_end types payload marks total → f ≡ take covered payload → s ≡ take total payload
-      → o ≡ cond (eqb total 0) Opening.Missing (open_at (length s) types f s) → salvage_opened types f s o ≡ v
+  pub put_way : (f s : List ℕ) (covered : ℕ) (o : Result Opening (ℕ × ℕ)) (v : Salvage) (x : SavedPut) → covered ≡ front_end types payload marks total → f ≡ take covered payload
+      → s ≡ take total payload
+      → o ≡ cond (eqb total 0) (Ok Opening.Missing) (open_at (length s) types f s) → salvage_opened types f s o ≡ v
       → x ≡ put_saved (holes_in types payload marks total) covered total (encoding_told o) told list v → x ≡ salvage_put types payload marks total told list
   put_way f s covered o v x ec ef es eo q i =
       let g : f ≡ front_bytes types payload marks total = ef ∙ ap (λ (k : ℕ). take k payload) ec in
       put_opened o v x
-      (eo ∙ ap (λ (t : List ℕ). cond (eqb total 0) Opening.Missing (open_at (length t) types f t)) es
-      ∙ ap (λ (t : List ℕ). cond (eqb total 0) Opening.Missing (open_at (length (area_bytes types payload marks total)) types t (area_bytes types payload marks total))) g)
+      (eo ∙ ap (λ (t : List ℕ). cond (eqb total 0) (Ok Opening.Missing) (open_at (length t) types f t)) es
+      ∙ ap (λ (t : List ℕ). cond (eqb total 0) (Ok Opening.Missing) (open_at (length (area_bytes types payload marks total)) types t (area_bytes types payload marks total))) g)
       (sym (ap (λ (t : List ℕ). salvage_opened types t s o) g ∙ ap (λ (t : List ℕ). salvage_opened types (front_bytes types payload marks total) t o) es) ∙ q)
       (i ∙ ap (λ (k : ℕ). put_saved (holes_in types payload marks total) k total (encoding_told o) told list v) ec)
 
   -- by what is found
-  pub found_way : (f s : List ℕ) (covered : ℕ) (known : Bool) (c : Cursor) (k : ℕ) (x : SavedPut) → covered ≡ front_end types payload marks total → f ≡ take covered payload → s ≡ take total payload
-      → Finds types f s (cond (eqb total 0) Opening.Missing (open_at (length s) types f s)) (Found.Is known c k)
-      → x ≡ put_saved (holes_in types payload marks total) covered total (encoding_number c.encoding) told list (salvaged (promise_by known c.count) (whole_fields types f c))
+  pub found_way : (f s : List ℕ) (covered : ℕ) (y : Found) (x : SavedPut) → covered ≡ front_end types payload marks total → f ≡ take covered payload → s ≡ take total payload
+      → Finds types f s (cond (eqb total 0) (Ok Opening.Missing) (open_at (length s) types f s)) (Ok y)
+      → x ≡ put_saved (holes_in types payload marks total) covered total (encoding_number y.first.encoding) told list (salvaged (promise_by y.known y.first.count) (whole_fields types f y.first))
       → x ≡ salvage_put types payload marks total told list
-  found_way f s covered known c k x ec ef es (q, n, e) i =
-      put_way f s covered (cond (eqb total 0) Opening.Missing (open_at (length s) types f s)) (salvaged (promise_by known c.count) (whole_fields types f c)) x ec ef es refl q
-      (i ∙ ap (λ (j : ℕ). put_saved (holes_in types payload marks total) covered total j told list (salvaged (promise_by known c.count) (whole_fields types f c))) (sym e))
+  found_way f s covered y x ec ef es (q, n, e) i =
+      put_way f s covered (cond (eqb total 0) (Ok Opening.Missing) (open_at (length s) types f s)) (salvaged (promise_by y.known y.first.count) (whole_fields types f y.first)) x ec ef es refl q
+      (i ∙ ap (λ (j : ℕ). put_saved (holes_in types payload marks total) covered total j told list (salvaged (promise_by y.known y.first.count) (whole_fields types f y.first))) (sym e))
 
 -- ---- what is found
 module _ (types f s : List ℕ) where
@@ -380,12 +382,14 @@ module _ (types f s : List ℕ) where
   unfolding walked
   whole_none_at = refl
 
-  pub none_found : (known : Bool) (c : Cursor) (o opened : Opening) → o ≡ opened → c ≡ none_at (length f) → salvage_opened types f s o ≡ salvaged (promise_by known 0) [] → encoding_told o ≡ 0
-      → Finds types f s opened (Found.Is known c 0)
+  pub none_found : (known : Bool) (c : Cursor) (o opened : Result Opening (ℕ × ℕ)) → o ≡ opened → c ≡ none_at (length f) → salvage_opened types f s o ≡ salvaged (promise_by known 0) []
+      → encoding_told o ≡ 0
+      → Finds types f s opened (Ok (record { known = known; first = c; fields = 0 }))
   none_found known c o opened q none e i =
       rw (sym q, none) (e ∙ ap (salvaged (promise_by known 0)) (sym whole_none_at), sym (ap length whole_none_at), i)
 
-  pub some_found : (c : Cursor) (k : ℕ) → Tally.Is k ≡ tally_from 0 (salvage_from types f s c) → Finds types f s (Opening.At c) (Found.Is true c k)
+  pub some_found : (c : Cursor) (k : ℕ) → ◌≡◌ {A = Result ℕ (ℕ × ℕ)} (Ok k) (tally_from 0 (salvage_from types f s c))
+      → Finds types f s (Ok (Opening.At c)) (Ok (record { known = true; first = c; fields = k }))
   some_found c k e =
       let t = tally_is types f s c k e in
       let w = saved_whole types f s c t.0 in

@@ -1,5 +1,5 @@
 -- What is salvaged as lent bytes: a record that tells of it, and a list of the holes and fields (include/uadp.h, `uadp_salvage`).
-use Rattle.std.specs.Prelude.{ℕ, ◌+◌, ◌*◌, ◌/◌, Bool, true, false, cond, not, List, [], ◌∷◌, ◌++◌, eqb, ltb, length, take}
+use Rattle.std.specs.Prelude.{ℕ, ◌+◌, ◌*◌, ◌/◌, Bool, true, false, cond, not, List, [], ◌∷◌, ◌++◌, eqb, ltb, length, take, Result, Ok, Err}
 use Rattle.wire.specs.Constants.{NO_ROOM}
 use Rattle.wire_writer.specs.Store.{laid}
 use Rattle.marks.specs.Offsets.{next_passing}
@@ -14,7 +14,6 @@ use Rattle.salvage.specs.Holes.{holes_of}
 use Rattle.salvage.specs.Front.{Promise, missing, promised, Salvage, salvaged, refusal, salvage_at, open_at}
 use Rattle.salvage.specs.declared.holes.Hole.{Hole}
 use Rattle.salvage.specs.declared.front.Opening.{Opening}
-use Rattle.partial_record.specs.declared.salvage_record.Salvaged.{Salvaged}
 
 -- how many bytes an entry of the list has, and the record that tells of it
 abbrev pub ENTRY_SIZE : ℕ
@@ -67,28 +66,28 @@ told_numbers holes fields p front total encoding =
     holes ∷ fields ∷ known_number p ∷ promised_number p ∷ front ∷ total ∷ encoding ∷ 0 ∷ []
 
 -- the encoding that is told: 0 where no cursor stands before the fields
-abbrev pub encoding_told : Opening → ℕ
-encoding_told Opening.Missing = 0
-encoding_told Opening.NotValid = 0
-encoding_told (Opening.At c) = encoding_number c.encoding
-encoding_told (Opening.Refused n place) = 0
+abbrev pub encoding_told : Result Opening (ℕ × ℕ) → ℕ
+encoding_told (Ok Opening.Missing) = 0
+encoding_told (Ok Opening.NotValid) = 0
+encoding_told (Ok (Opening.At c)) = encoding_number c.encoding
+encoding_told (Err refused) = 0
 
--- ---- both lent buffers afterwards, and the answer
+-- ---- both lent buffers afterwards, and the answer: how many entries the list has, or a refusal's number and place
 pub record SavedPut : Type 0 where
-  pub answer : Salvaged
+  pub answer : Result ℕ (ℕ × ℕ)
   pub told : List ℕ
   pub list : List ℕ
 
-abbrev pub saved_put : Salvaged → List ℕ → List ℕ → SavedPut
+abbrev pub saved_put : Result ℕ (ℕ × ℕ) → List ℕ → List ℕ → SavedPut
 saved_put a told list = record { answer = a; told = told; list = list }
 
 -- a refusal of the message first; "last, no room 11". No byte changes then.
 abbrev pub put_saved : List Hole → ℕ → ℕ → ℕ → List ℕ → List ℕ → Salvage → SavedPut
-put_saved hs front total encoding told list (refusal n place) = saved_put (Salvaged.Refused n place) told list
+put_saved hs front total encoding told list (refusal n place) = saved_put (Err (n, place)) told list
 put_saved hs front total encoding told list (salvaged p fs) =
-    cond (ltb (length told) SALVAGE_SIZE) (saved_put (Salvaged.Refused NO_ROOM 0) told list)
-    (cond (ltb (length list / ENTRY_SIZE) (length hs + length fs)) (saved_put (Salvaged.Refused NO_ROOM 0) told list)
-    (saved_put (Salvaged.Is (length hs + length fs))
+    cond (ltb (length told) SALVAGE_SIZE) (saved_put (Err (NO_ROOM, 0)) told list)
+    (cond (ltb (length list / ENTRY_SIZE) (length hs + length fs)) (saved_put (Err (NO_ROOM, 0)) told list)
+    (saved_put (Ok (length hs + length fs))
     (laid told 0 (number_bytes (told_numbers (length hs) (length fs) p front total encoding)))
     (entries_put 0 (hole_entries hs ++ field_entries fs) list)))
 
@@ -108,8 +107,8 @@ module _ (types payload marks : List ℕ) (total : ℕ) where
   holes_in = holes_of (marked in_use marks) total
 
   -- "A partial not started has no holes, fields or count": its total is 0
-  abbrev pub open_in : Opening
-  open_in = cond (eqb total 0) Opening.Missing (open_at (length area_bytes) types front_bytes area_bytes)
+  abbrev pub open_in : Result Opening (ℕ × ℕ)
+  open_in = cond (eqb total 0) (Ok Opening.Missing) (open_at (length area_bytes) types front_bytes area_bytes)
 
   abbrev pub salvage_in : Salvage
   salvage_in = cond (eqb total 0) (salvaged missing []) (salvage_at (length area_bytes) types front_bytes area_bytes)

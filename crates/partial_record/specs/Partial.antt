@@ -1,7 +1,7 @@
 -- The record of a partial as lent bytes (include/uadp.h, "Partial record").
 use Rattle.std.specs.Prelude.{ℕ, ◌%◌, ◌^◌, ◌<◌, ◌≡◌, cond, List, [], ◌∷◌, ◌++◌, eqb, length, take, drop, replicate}
 use Rattle.wire.specs.Constants.{MOST_TEXT_ID}
-use Rattle.wire.specs.declared.optional.Optional16.{Optional16}
+use Rattle.std.specs.Prelude.{Option, Some, None}
 use Rattle.wire_writer.specs.Fits.{Fits16}
 use Rattle.publisher_id.specs.PublisherRecord.{code_of, lent_record}
 use Rattle.publisher_id.specs.declared.publisher_record.PublisherRecord.{PublisherRecord}
@@ -10,7 +10,7 @@ use Rattle.reassembly.specs.declared.record.Message.{Message}
 use Rattle.reassembly.specs.declared.record.PartialRecord.{PartialRecord}
 use Rattle.records.specs.Numbers.{number_at, number_bytes}
 use Rattle.records.specs.Publisher.{publisher_by, publisher_number, FitsId}
-use Rattle.records.specs.Items.{flag_number, is_on, has16, value16}
+use Rattle.records.specs.Items.{flag_number, is_on, has_item, item_value}
 
 -- "at offset 80, 64 bytes for a String"
 abbrev pub TEXT_AT : ℕ
@@ -23,8 +23,8 @@ abbrev pub publisher_in : List ℕ → PublisherRecord
 publisher_in s = lent_record (publisher_by (number_at s 1) (number_at s 2)) (text_in s)
 
 -- "6  1 where there is a WriterGroupId   7  the WriterGroupId"; of its number the lowest bytes count
-abbrev pub group_id_in : List ℕ → Optional16
-group_id_in s = cond (is_on (number_at s 6)) (Optional16.Is (number_at s 7 % 65536)) Optional16.Absent
+abbrev pub group_id_in : List ℕ → Option ℕ
+group_id_in s = cond (is_on (number_at s 6)) (Some (number_at s 7 % 65536)) None
 
 -- "3  DataSetWriterId   4  message number   5  total size"
 abbrev pub message_in : List ℕ → Message
@@ -64,7 +64,7 @@ asked_in s =
             origin =
                 record {
                   publisher = record { id = publisher_by (number_at s 1) (number_at s 2); text = replicate MOST_TEXT_ID 0 };
-                  group = Optional16.Absent;
+                  group = None;
                   writer = 0;
                   number = 0;
                 };
@@ -79,7 +79,7 @@ partial_numbers r =
     flag_number r.started ∷ code_of r.message.origin.publisher.id ∷ publisher_number r.message.origin.publisher.id
     ∷ r.message.origin.writer
     ∷ r.message.origin.number ∷ r.message.total
-    ∷ has16 r.message.origin.group ∷ value16 r.message.origin.group ∷ r.covered ∷ 0 ∷ []
+    ∷ has_item r.message.origin.group ∷ item_value r.message.origin.group ∷ r.covered ∷ 0 ∷ []
 
 -- the record's bytes
 abbrev pub partial_bytes : PartialRecord → List ℕ

@@ -6,7 +6,7 @@ ghost use Rattle.partial_record.specs.Chunk.{chunk_numbers};
 
 use chunk::datagram::ChunkPlace;
 use publisher_id::publisher_record::code;
-use records::items::{has16, value16};
+use records::items::{has, value};
 use records::numbers::put_numbers;
 use records::publisher::publisher_number;
 
@@ -14,12 +14,10 @@ use records::publisher::publisher_number;
 pub fn put_chunk(out: &mut [u8], c: ChunkPlace)
     ensures { out.new ≡ laid out.old 0 (number_bytes (chunk_numbers c)) }
 {
-    let publisher = c.publisher;
-    let group = c.group;
     let payload = c.payload;
     let numbers = [
-        code(publisher),
-        publisher_number(publisher),
+        code(c.publisher),
+        publisher_number(c.publisher),
         c.publisher_end as u64,
         c.writer as u64,
         payload.number as u64,
@@ -27,8 +25,8 @@ pub fn put_chunk(out: &mut [u8], c: ChunkPlace)
         payload.total as u64,
         payload.first as u64,
         payload.length as u64,
-        has16(group),
-        value16(group),
+        has(c.group),
+        value(c.group),
         0,
         0,
         0,

@@ -1,5 +1,6 @@
 // The record of a partial: nine numbers, a spare one that holds 0, and 64 bytes for the text of a string PublisherId. The records of a
 // chunk and of what is salvaged stand in modules of their own.
+// A text lies in a buffer of a fixed size: there is no heap.
 #![tactic(auto)]
 
 pub mod chunk_record;
@@ -12,12 +13,11 @@ ghost use Rattle.partial_record.specs.Partial.{publisher_in, group_id_in, messag
 use publisher_id::publisher_record::{PublisherRecord, code};
 use reassembly::quick::Held;
 use reassembly::{Message, MessageOrigin, PartialRecord};
-use records::items::{flag_number, has16, is_on, value16};
+use records::items::{flag_number, has, is_on, value};
 use records::numbers::{number, put_numbers};
 use records::publisher::{publisher_by, publisher_number};
 use records::sizes::PARTIAL_SIZE;
 use wire::constants::MOST_TEXT_ID;
-use wire::optional::Optional16;
 use wire::part::part;
 use wire_writer::store::put_run;
 
@@ -44,23 +44,21 @@ fn publisher_in(s: &[u8]) -> PublisherRecord
 }
 
 // The WriterGroupId, where it is said to be there.
-fn group_id_in(s: &[u8]) -> Optional16
+fn group_id_in(s: &[u8]) -> Option<u16>
     ensures { result ≡ group_id_in s.now }
 {
     if is_on(number(s, 6)) {
-        return Optional16::Is((number(s, 7) % 65536) as u16);
+        return Some((number(s, 7) % 65536) as u16);
     }
-    Optional16::Absent
+    None
 }
 
 fn message_in(s: &[u8]) -> Message
     ensures { result ≡ message_in s.now }
 {
-    let publisher = publisher_in(s);
-    let group = group_id_in(s);
     let origin = MessageOrigin {
-        publisher,
-        group,
+        publisher: publisher_in(s),
+        group: group_id_in(s),
         writer: (number(s, 3) % 65536) as u16,
         number: (number(s, 4) % 65536) as u16,
     };
@@ -74,10 +72,9 @@ fn message_in(s: &[u8]) -> Message
 pub fn partial_in(s: &[u8]) -> PartialRecord
     ensures { result ≡ partial_in s.now }
 {
-    let message = message_in(s);
     PartialRecord {
         started: number(s, 0) == 1,
-        message,
+        message: message_in(s),
         covered: number(s, COVERED) as usize,
     }
 }
@@ -86,13 +83,11 @@ pub fn partial_in(s: &[u8]) -> PartialRecord
 pub fn started_in(s: &[u8]) -> Held
     ensures { result ≡ started_in s.now }
 {
-    let publisher = publisher_by(number(s, 1), number(s, 2));
-    let group = group_id_in(s);
     let writer = (number(s, 3) % 65536) as u16;
     let message_number = (number(s, 4) % 65536) as u16;
     Held {
-        publisher,
-        group,
+        publisher: publisher_by(number(s, 1), number(s, 2)),
+        group: group_id_in(s),
         writer,
         number: message_number,
         total: number(s, 5) as usize,
@@ -110,7 +105,7 @@ pub fn asked_in(s: &[u8]) -> PartialRecord
     let publisher = PublisherRecord { id, text };
     let origin = MessageOrigin {
         publisher,
-        group: Optional16::Absent,
+        group: None,
         writer: 0,
         number: 0,
     };
@@ -133,24 +128,20 @@ pub fn put_partial(out: &mut [u8], rec: PartialRecord)
     if out.len() < PARTIAL_SIZE {
         return;
     }
-    let message = rec.message;
-    let origin = message.origin;
+    let origin = rec.message.origin;
     let publisher = origin.publisher;
-    let group = origin.group;
-    let id = publisher.id;
-    let text = publisher.text;
     let numbers = [
         flag_number(rec.started),
-        code(id),
-        publisher_number(id),
+        code(publisher.id),
+        publisher_number(publisher.id),
         origin.writer as u64,
         origin.number as u64,
-        message.total as u64,
-        has16(group),
-        value16(group),
+        rec.message.total as u64,
+        has(origin.group),
+        value(origin.group),
         rec.covered as u64,
         0,
     ];
     put_numbers(out, &numbers);
-    put_run(out, TEXT_AT, &text);
+    put_run(out, TEXT_AT, &publisher.text);
 }

@@ -1,6 +1,8 @@
 // What is salvaged of a partial, put into lent buffers: a record of 8 numbers that tells of it, and a list of its holes and fields, 8
 // numbers each (include/uadp.h, `uadp_salvage`).
-ghost use Rattle.std.specs.Prelude.{◌+◌, ◌*◌, ◌≤◌, ◌≡◌, cond, eqb, leb, length};
+// A type goes by its number: any byte may stand for one, on the wire and in the lists of types that are lent, and each is answered. An enum
+// would have to be made of it at each field, and is no plainer.
+ghost use Rattle.std.specs.Prelude.{◌+◌, ◌*◌, ◌≤◌, ◌≡◌, Ok, cond, eqb, leb, length};
 ghost use Rattle.wire_writer.specs.Store.{laid};
 ghost use Rattle.marks.specs.Marks.{in_use, marked};
 ghost use Rattle.dataset_header.specs.Flags.{encoding_number};
@@ -8,43 +10,37 @@ ghost use Rattle.dataset_fields.specs.Fields.{field_at};
 ghost use Rattle.records.specs.Numbers.{number_bytes};
 ghost use Rattle.message_record.specs.Message.{field_numbers};
 ghost use Rattle.salvage.specs.Holes.{hole, holes_of};
-ghost use Rattle.salvage.specs.Front.{salvaged, open_at};
+ghost use Rattle.salvage.specs.Front.{numbered, salvaged, open_at};
 ghost use Rattle.salvage.specs.Quick.{EndsAt};
 ghost use Rattle.salvage.specs.declared.front.Opening.{Opening};
 ghost use Rattle.partial_record.specs.List.{hole_numbers, hole_entries, scalar_numbers, field_entries, entry_laid, entries_put, promised_number, told_numbers, saved_put, put_saved, salvage_put, promise_by, none_at};
 ghost use Rattle.partial_record.specs.Steps.{field_put, whole_fields, Finds};
 
-use dataset_fields::fields::{Cursor, Field, FieldRead, read_field};
+use dataset_fields::fields::{Cursor, Field, read_field};
 use dataset_header::flags::Encoding;
 use marks::next_unmarked;
 use message_record::message::{elements_number, encoding_number, shape_number};
 use records::items::flag_number;
 use records::numbers::put_numbers;
-use salvage::front::{Opening, Tally, count_fields, open};
-use salvage::holes::{HoleStep, count_holes, next_hole};
+use salvage::front::{Opening, count_fields, open};
+use salvage::holes::{count_holes, next_hole};
 use salvage::quick::fixed_to;
-use value::{Shape, dimensions};
-use wire::constants::NO_ROOM;
+use value::dimensions;
 use wire::left;
 use wire::part::part;
+use wire::refusal::{Reason, Refusal};
 
 // How many bytes an entry of the list has, and the record that tells of it.
 const ENTRY_SIZE: usize = 64;
 
 const SALVAGE_SIZE: usize = 64;
 
-// How many entries the list has, or a refusal.
-#[derive(Clone, Copy)]
-pub enum Salvaged {
-    Is(usize),
-    Refused(u8, usize),
-}
-
-// Whether the count is known, the cursor before the first field and how many fields are whole in the front; or a refusal.
-#[derive(Clone, Copy)]
-pub enum Found {
-    Is(bool, Cursor, usize),
-    Refused(u8, usize),
+// What the front tells: whether the count is known, the cursor before the first field, and how many fields are whole.
+#[derive(Clone, Copy, PartialEq, Eq, Debug)]
+struct Found {
+    known: bool,
+    first: Cursor,
+    fields: usize,
 }
 
 // Puts entry k, which has 8 numbers, where it fits whole.
@@ -72,15 +68,14 @@ fn put_hole(out: &mut [u8], k: usize, offset: usize, end: usize)
 fn put_field(out: &mut [u8], k: usize, f: Field)
     ensures { out.new ≡ entry_laid k (field_numbers f) out.old }
 {
-    let shape: Shape = f.shape;
     let numbers = [
         f.kind as u64,
-        shape_number(shape),
-        elements_number(shape),
+        shape_number(f.shape),
+        elements_number(f.shape),
         f.index as u64,
         f.offset as u64,
         f.length as u64,
-        dimensions(shape) as u64,
+        dimensions(f.shape) as u64,
         0,
     ];
     put_entry(out, k, &numbers);
@@ -93,18 +88,12 @@ fn put_holes(out: &mut [u8], marks: &[u8], total: usize) -> usize
 {
     let mut at = 0;
     let mut k = 0;
-    loop {
-        match next_hole(marks, total, at) {
-            HoleStep::Last => {
-                return k;
-            }
-            HoleStep::Is(h, end) => {
-                put_hole(out, k, h.offset, end);
-                at = end;
-                k += 1;
-            }
-        }
+    while let Some((hole, end)) = next_hole(marks, total, at) {
+        put_hole(out, k, hole.offset, end);
+        at = end;
+        k += 1;
     }
+    k
 }
 
 // Puts the entry of a scalar.
@@ -144,9 +133,9 @@ fn put_next(
         put_scalar(out, k, front[at], i, at, end - at);
         return end;
     }
-    match read_field(&*front, encoding, delta, &*types, i, at) {
-        FieldRead::Refused(_, _) => at,
-        FieldRead::Is(f, end) => {
+    match read_field(front, encoding, delta, types, i, at) {
+        Err(_) => at,
+        Ok((f, end)) => {
             put_field(out, k, f);
             end
         }
@@ -160,17 +149,14 @@ fn put_fields(out: &mut [u8], start: usize, front: &[u8], types: &[u8], first: C
     ensures { let fields = whole_fields types.now front.now first in
         (out.new ≡ entries_put start (field_entries fields) out.old) × (result ≡ start + length fields) }
 {
-    let encoding = first.encoding;
     let mut at = first.at;
-    let mut i = first.next;
     let mut k = start;
-    while i < first.count {
-        let end = put_next(out, k, front, encoding, first.delta, types, i, at);
+    for i in first.next..first.count {
+        let end = put_next(out, k, front, first.encoding, first.delta, types, i, at);
         if end <= at {
             return k;
         }
         at = end;
-        i += 1;
         k += 1;
     }
     k
@@ -186,27 +172,19 @@ fn promised_number(known: bool, count: usize) -> usize
 }
 
 // Stores the record.
-fn put_told(
-    told: &mut [u8],
-    holes: usize,
-    fields: usize,
-    known: bool,
-    count: usize,
-    covered: usize,
-    total: usize,
-    encoding: Encoding,
-)
-    ensures { let numbers = told_numbers holes fields (promise_by known count) covered total (encoding_number encoding) in
+fn put_told(told: &mut [u8], holes: usize, found: Found, covered: usize, total: usize)
+    ensures { let c = found.first in
+        let numbers = told_numbers holes found.fields (promise_by found.known c.count) covered total (encoding_number c.encoding) in
         told.new ≡ laid told.old 0 (number_bytes numbers) }
 {
     let numbers = [
         holes as u64,
-        fields as u64,
-        flag_number(known),
-        promised_number(known, count) as u64,
+        found.fields as u64,
+        flag_number(found.known),
+        promised_number(found.known, found.first.count) as u64,
         covered as u64,
         total as u64,
-        encoding_number(encoding),
+        encoding_number(found.first.encoding),
         0,
     ];
     put_numbers(told, &numbers);
@@ -249,57 +227,65 @@ fn store(
     marks: &[u8],
     total: usize,
     covered: usize,
-    known: bool,
-    c: Cursor,
-    fields: usize,
-) -> Salvaged
-    requires { fields ≡ length (whole_fields types.now front.now c) }
-    ensures { let fs = whole_fields types.now front.now c in
+    found: Found,
+) -> Result<usize, Refusal>
+    requires { found.fields ≡ length (whole_fields types.now front.now found.first) }
+    ensures { let c = found.first in
+        let fs = whole_fields types.now front.now c in
         let hs = holes_of (marked in_use marks.now) total in
-        saved_put result told.new list.new
+        saved_put (numbered result) told.new list.new
         ≡ put_saved hs covered total (encoding_number c.encoding) told.old list.old
-        (salvaged (promise_by known c.count) fs) }
+        (salvaged (promise_by found.known c.count) fs) }
 {
     if told.len() < SALVAGE_SIZE {
-        return Salvaged::Refused(NO_ROOM, 0);
+        return Err(Reason::NoRoom.at(0));
     }
-    if !has_room(list.len() / ENTRY_SIZE, marks, total, fields) {
-        return Salvaged::Refused(NO_ROOM, 0);
+    if !has_room(list.len() / ENTRY_SIZE, marks, total, found.fields) {
+        return Err(Reason::NoRoom.at(0));
     }
     let holes = put_holes(list, marks, total);
-    let entries = put_fields(list, holes, front, types, c);
-    let encoding = c.encoding;
-    put_told(
-        told, holes, fields, known, c.count, covered, total, encoding,
-    );
-    Salvaged::Is(entries)
+    let entries = put_fields(list, holes, front, types, found.first);
+    put_told(told, holes, found, covered, total);
+    Ok(entries)
 }
 
 // The front opened; that of a partial not started, whose total is 0, has no count.
-fn open_in(front: &[u8], area: &[u8], types: &[u8], total: usize) -> Opening
+fn open_in(front: &[u8], area: &[u8], types: &[u8], total: usize) -> Result<Opening, Refusal>
     ensures { let s = area.now in
-        result ≡ cond (eqb total 0) Opening.Missing (open_at (length s) types.now front.now s) }
+        numbered result ≡ cond (eqb total 0) (Ok Opening.Missing) (open_at (length s) types.now front.now s) }
 {
     if total == 0 {
-        return Opening::Missing;
+        return Ok(Opening::Missing);
     }
     open(front, area, types)
 }
 
 // What the front of a message of so many bytes tells.
-fn find(front: &[u8], area: &[u8], types: &[u8], total: usize) -> Found
+fn find(front: &[u8], area: &[u8], types: &[u8], total: usize) -> Result<Found, Refusal>
     ensures { let s = area.now in
-        let opened = cond (eqb total 0) Opening.Missing (open_at (length s) types.now front.now s) in
+        let opened = cond (eqb total 0) (Ok Opening.Missing) (open_at (length s) types.now front.now s) in
         Finds types.now front.now s opened result }
 {
-    match open_in(front, area, types, total) {
-        Opening::Refused(n, place) => Found::Refused(n, place),
-        Opening::Missing => Found::Is(false, none_at(front.len()), 0),
-        Opening::NotValid => Found::Is(true, none_at(front.len()), 0),
-        Opening::At(c) => match count_fields(front, area, types, c) {
-            Tally::Refused(n, place) => Found::Refused(n, place),
-            Tally::Is(k) => Found::Is(true, c, k),
-        },
+    let nothing = none_at(front.len());
+    match open_in(front, area, types, total)? {
+        Opening::Missing => Ok(Found {
+            known: false,
+            first: nothing,
+            fields: 0,
+        }),
+        Opening::NotValid => Ok(Found {
+            known: true,
+            first: nothing,
+            fields: 0,
+        }),
+        Opening::At(first) => {
+            let fields = count_fields(front, area, types, first)?;
+            Ok(Found {
+                known: true,
+                first,
+                fields,
+            })
+        }
     }
 }
 
@@ -311,19 +297,13 @@ pub fn salvage(
     marks: &[u8],
     types: &[u8],
     total: usize,
-) -> Salvaged
-    ensures { saved_put result told.new list.new
+) -> Result<usize, Refusal>
+    ensures { saved_put (numbered result) told.new list.new
         ≡ salvage_put types.now payload.now marks.now total told.old list.old }
 {
     let covered = next_unmarked(marks, 0, total);
     let front = part(payload, 0, covered);
     let area = part(payload, 0, total);
-    match find(front, area, types, total) {
-        Found::Refused(n, place) => Salvaged::Refused(n, place),
-        Found::Is(known, c, fields) => {
-            store(
-                told, list, front, types, marks, total, covered, known, c, fields,
-            )
-        }
-    }
+    let found = find(front, area, types, total)?;
+    store(told, list, front, types, marks, total, covered, found)
 }

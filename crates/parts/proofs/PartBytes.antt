@@ -1,7 +1,7 @@
 -- What is located is the part that the definitions of reading name.
-use mathlib.Core.Path.{◌≡◌, refl, ap, ◌∙◌}
+use mathlib.Core.Path.{◌≡◌, refl, ap, sym, ◌∙◌}
 use Prim.Native.Nat.{ℕ}
-use mathlib.Core.List.{List}
+use mathlib.Core.List.{List, []}
 use Rattle.wire.specs.Answer.{Answer, got, refused}
 use Rattle.dataset_fields.specs.declared.fields.Field.{Field}
 use Rattle.dataset_message.specs.Message.{field_bytes}
@@ -11,33 +11,23 @@ use Rattle.chunk.specs.declared.datagram.ChunkPlace.{ChunkPlace}
 use Rattle.chunk.specs.Datagram.{chunk_data}
 use Rattle.reassembly.specs.Record.{Partial}
 use Rattle.reassembly.specs.Operations.{judge_hand_out, hand_out, if_done}
-use Rattle.reassembly.specs.declared.verdict.Verdict.{Verdict}
-use Rattle.reassembly.specs.declared.verdict.Verdict.TheVariants.{Done, Refused}
-use lib.ListN.{take}
-use Rattle.parts.specs.declared.part.Part.{Part}
-use Rattle.parts.specs.declared.part.Located.{Located}
-use Rattle.parts.specs.Part.{part_of, field_located, message_located, chunk_located, payload_located}
+use Rattle.reassembly.specs.Verdict.{Verdict, Done, Refused}
+use lib.ListN.{take, drop}
+use Rattle.std.specs.Prelude.{Ok, Err}
+use Rattle.wire.specs.Refusal.{reason_number}
+use Rattle.wire.specs.declared.refusal.Refusal.{Refusal}
+use Rattle.parts.specs.declared.part.Span.{Span}
+use Rattle.parts.specs.Part.{Located, located, part_at, part_of, field_located, message_located, chunk_located, payload_located}
 
--- what the answer says
-abbrev pub PartTells : Located → List ℕ → Part → Type 0
-PartTells l s r = (r.number ≡ l.number) × (r.place ≡ l.place) × (r.bytes.now ≡ part_of l s)
-
--- an answer tells what is located, and the bytes that the definition names
-abbrev pub Tells : Located → List ℕ → Part → Type 0
-Tells l bytes r = (r.number ≡ l.number) × (r.place ≡ l.place) × (r.bytes.now ≡ bytes)
-
-tells : (found : Located) (bytes s : List ℕ) (l : Located) (r : Part) → part_of found s ≡ bytes → l ≡ found → PartTells l s r → Tells found bytes r
-tells found bytes s l r b e told = (told.0 ∙ ap (λ (x : Located). x.number) e, told.1 ∙ ap (λ (x : Located). x.place) e, told.2 ∙ (ap (λ (x : Located). part_of x s) e ∙ b))
-
-field_bytes_lem : (a : Answer Field) (s : List ℕ) → part_of (field_located a) s ≡ field_bytes a s
+pub field_bytes_lem : (a : Answer Field) (s : List ℕ) → part_of (field_located a) s ≡ field_bytes a s
 field_bytes_lem (got f next) s = refl
 field_bytes_lem (refused n p) s = refl
 
-message_bytes_lem : (a : Answer MessagePlace) (s : List ℕ) → part_of (message_located a) s ≡ message_bytes a s
+pub message_bytes_lem : (a : Answer MessagePlace) (s : List ℕ) → part_of (message_located a) s ≡ message_bytes a s
 message_bytes_lem (got m next) s = refl
 message_bytes_lem (refused n p) s = refl
 
-chunk_bytes : (a : Answer ChunkPlace) (s : List ℕ) → part_of (chunk_located a) s ≡ chunk_data a s
+pub chunk_bytes : (a : Answer ChunkPlace) (s : List ℕ) → part_of (chunk_located a) s ≡ chunk_data a s
 chunk_bytes (got c next) s = refl
 chunk_bytes (refused n p) s = refl
 
@@ -45,19 +35,18 @@ verdict_bytes : (v : Verdict) (total : ℕ) (s : List ℕ) → part_of (payload_
 verdict_bytes Done total s = refl
 verdict_bytes (Refused n p) total s = refl
 
-payload_bytes_lem : (s : Partial) → part_of (payload_located s.rec.message.total (judge_hand_out s)) s.payload ≡ hand_out s
+pub payload_bytes_lem : (s : Partial) → part_of (payload_located s.rec.message.total (judge_hand_out s)) s.payload ≡ hand_out s
 unfolding hand_out
 payload_bytes_lem s = verdict_bytes (judge_hand_out s) s.rec.message.total s.payload
 
-pub field_told : (a : Answer Field) (s : List ℕ) (l : Located) (r : Part) → l ≡ field_located a → PartTells l s r → Tells (field_located a) (field_bytes a s) r
-field_told a s l r e told = tells (field_located a) (field_bytes a s) s l r (field_bytes_lem a s) e told
+-- a refusal has no part, and what is located has the bytes that the definition names
+pub no_part : (x : Located) (bytes s : List ℕ) (r : Refusal) → part_of x s ≡ bytes → located (Err r) ≡ x
+    → part_at x bytes ≡ record { number = reason_number r.reason; place = r.place; bytes = [] }
+no_part x bytes s r b e =
+    ap (λ (y : Located). part_at y bytes) (sym e)
+    ∙ ap (λ (l : List ℕ). part_at (located (Err r)) l) (sym b ∙ ap (λ (y : Located). part_of y s) (sym e))
 
-pub message_told : (a : Answer MessagePlace) (s : List ℕ) (l : Located) (r : Part) → l ≡ message_located a → PartTells l s r → Tells (message_located a) (message_bytes a s) r
-message_told a s l r e told = tells (message_located a) (message_bytes a s) s l r (message_bytes_lem a s) e told
-
-pub chunk_told : (a : Answer ChunkPlace) (s : List ℕ) (l : Located) (r : Part) → l ≡ chunk_located a → PartTells l s r → Tells (chunk_located a) (chunk_data a s) r
-chunk_told a s l r e told = tells (chunk_located a) (chunk_data a s) s l r (chunk_bytes a s) e told
-
-pub payload_told : (s : Partial) (l : Located) (r : Part) → l ≡ payload_located s.rec.message.total (judge_hand_out s) → PartTells l s.payload r
-    → Tells (payload_located s.rec.message.total (judge_hand_out s)) (hand_out s) r
-payload_told s l r e told = tells (payload_located s.rec.message.total (judge_hand_out s)) (hand_out s) s.payload l r (payload_bytes_lem s) e told
+pub whole_part : (x : Located) (bytes s d : List ℕ) (l : Span) → part_of x s ≡ bytes → located (Ok l) ≡ x → d ≡ take l.length (drop l.offset s)
+    → record { number = 0; place = 0; bytes = d } ≡ part_at x bytes
+whole_part x bytes s d l b e q =
+    ap (λ (k : List ℕ). part_at (located (Ok l)) k) (q ∙ ap (λ (y : Located). part_of y s) e ∙ b) ∙ ap (λ (y : Located). part_at y bytes) e

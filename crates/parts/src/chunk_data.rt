@@ -1,39 +1,27 @@
 // A chunk's answer with its data: that part of the lent datagram.
 ghost use Rattle.std.specs.Prelude.{◌≡◌};
 ghost use Rattle.chunk.specs.Datagram.{chunk_at, chunk_data};
-ghost use Rattle.parts.specs.Part.{chunk_located};
+ghost use Rattle.parts.specs.Part.{located, part_lent, part_at, chunk_located};
 
-use crate::part::{Located, Part, part_of};
-use chunk::datagram::{ChunkRead, read};
+use crate::part::Span;
+use chunk::datagram::read;
+use wire::refusal::Refusal;
 
-// The data of a datagram's chunk: number 0, its offset and length; or the number and place of the refusal, with no bytes.
-pub fn locate(s: &[u8], sizes: &[u16]) -> Located
-    ensures { result ≡ chunk_located (chunk_at sizes.now s.now) }
+// Where the data of a datagram's chunk stands.
+pub fn locate(s: &[u8], sizes: &[u16]) -> Result<Span, Refusal>
+    ensures { located result ≡ chunk_located (chunk_at sizes.now s.now) }
 {
-    match read(s, sizes) {
-        ChunkRead::Refused(number, place) => Located {
-            number,
-            place,
-            offset: 0,
-            length: 0,
-        },
-        ChunkRead::Is(c, _) => {
-            let p = c.payload;
-            Located {
-                number: 0,
-                place: 0,
-                offset: p.first,
-                length: p.length,
-            }
-        }
-    }
+    let (c, _) = read(s, sizes)?;
+    Ok(Span {
+        offset: c.payload.first,
+        length: c.payload.length,
+    })
 }
 
 // The data of a datagram's chunk, under the sizes of the configured writers.
-pub fn lent_part<'a, 't>(s: &'a [u8], sizes: &'t [u16]) -> Part<'a>
+pub fn lent_part<'a>(s: &'a [u8], sizes: &[u16]) -> Result<&'a [u8], Refusal>
     ensures { let a = chunk_at sizes.now s.now in
-        (result.number ≡ (chunk_located a).number) × (result.place ≡ (chunk_located a).place) × (result.bytes.now ≡ chunk_data a s.now) }
+        part_lent result ≡ part_at (chunk_located a) (chunk_data a s.now) }
 {
-    let l = locate(s, sizes);
-    part_of(s, l)
+    Ok(locate(s, sizes)?.of(s))
 }

@@ -1,5 +1,4 @@
-// A part of what the caller lent, with number and place in one answer: `lent_part` of each module. The struct holds a reference, so these
-// functions and `part_of` are proved by hand; each is thin over covered ones.
+// A part of what the caller lent, or why there is none: `lent_part` of each module, and `locate`, which tells where it stands.
 #![tactic(auto)]
 
 pub mod chunk_data;

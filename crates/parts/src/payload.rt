@@ -2,41 +2,32 @@
 ghost use Rattle.std.specs.Prelude.{◌≡◌};
 ghost use Rattle.reassembly.specs.Record.{partial};
 ghost use Rattle.reassembly.specs.Operations.{judge_hand_out, hand_out};
-ghost use Rattle.parts.specs.Part.{payload_located};
+ghost use Rattle.parts.specs.Part.{located, part_lent, part_at, payload_located};
 
-use crate::part::{Located, Part, part_of};
-use reassembly::{PartialRecord, Verdict, hand_out_verdict};
+use crate::part::Span;
+use reassembly::{PartialRecord, hand_out_verdict};
+use wire::refusal::Refusal;
 
-// The complete payload of a partial: number 0, offset 0 and its length; or the number and place of the refusal, with no bytes.
-pub fn locate(rec: PartialRecord, payload: &[u8], marks: &[u8]) -> Located
+// Where the complete payload of a partial stands: at the area's start.
+pub fn locate(rec: PartialRecord, payload: &[u8], marks: &[u8]) -> Result<Span, Refusal>
     ensures { let before = partial rec payload.now marks.now in
-        result ≡ payload_located rec.message.total (judge_hand_out before) }
+        located result ≡ payload_located rec.message.total (judge_hand_out before) }
 {
-    match hand_out_verdict(rec, payload, marks) {
-        Verdict::Refused(number, place) => Located {
-            number,
-            place,
-            offset: 0,
-            length: 0,
-        },
-        Verdict::Done => {
-            let m = rec.message;
-            Located {
-                number: 0,
-                place: 0,
-                offset: 0,
-                length: m.total,
-            }
-        }
-    }
+    hand_out_verdict(rec, payload, marks)?;
+    Ok(Span {
+        offset: 0,
+        length: rec.message.total,
+    })
 }
 
 // The complete payload of a partial.
-pub fn lent_part<'a, 't>(rec: PartialRecord, payload: &'a [u8], marks: &'t [u8]) -> Part<'a>
+pub fn lent_part<'a>(
+    rec: PartialRecord,
+    payload: &'a [u8],
+    marks: &[u8],
+) -> Result<&'a [u8], Refusal>
     ensures { let before = partial rec payload.now marks.now in
-        let l = payload_located rec.message.total (judge_hand_out before) in
-        (result.number ≡ l.number) × (result.place ≡ l.place) × (result.bytes.now ≡ hand_out before) }
+        part_lent result ≡ part_at (payload_located rec.message.total (judge_hand_out before)) (hand_out before) }
 {
-    let l = locate(rec, payload, marks);
-    part_of(payload, l)
+    Ok(locate(rec, payload, marks)?.of(payload))
 }

@@ -18,23 +18,11 @@ pub then_none : (x : Answer (Unit {0})) → x ≡ and_then x (λ a next. got tt 
 then_none (got tt next) = refl
 then_none (refused n place) = refl
 
-pub then_then : {A B C : Type 0} (x : Answer A) (f : A → ℕ → Answer B) (g : B → ℕ → Answer C) → and_then (and_then x f) g ≡ and_then x (λ a next. and_then (f a next) g)
-then_then (got a next) f g = refl
-then_then (refused n place) f g = refl
-
 pub no_parts : (m : ℕ) → m < 2 → (s : List ℕ) (at : ℕ) → got tt at ≡ parts m s at
 unfolding parts
 no_parts zero h s at = refl
 no_parts (suc zero) h s at = refl
 no_parts (suc (suc m)) h s at = absurd (omega arith)
-
--- at most all of them
-when_small : (on : Bool) (w : ℕ) → cond on w 0 ≤ w
-when_small true w = omega arith
-when_small false w = omega arith
-
-pub parts_small : (m : ℕ) → parts_width m ≤ 24
-parts_small m = omega (arith, when_small (bit 1 m) 4, when_small (bit 2 m) 8, when_small (bit 4 m) 2, when_small (bit 3 m) 8, when_small (bit 5 m) 2)
 
 -- their sum by the mask's bits, status and source time from two bits as one number
 pub parts_sum : (m : ℕ) → m < 256 → m / 2 % 4 * 4 + m / 8 % 2 * 8 + (m / 16 % 2 * 2 + m / 32 % 2 * 2) ≡ parts_width m

@@ -4,17 +4,14 @@ use mathlib.Core.Path.{◌≡◌, refl, sym, ap, subst, ◌∙◌}
 use mathlib.Core.Bool.{Bool, true, false, cond, ◌||◌, false≢true}
 use mathlib.Core.List.{List, [], ◌∷◌}
 use Prim.Native.Nat.{ℕ, zero, suc, ◌+◌, ◌*◌, ◌-◌, ◌/◌, ◌%◌, ◌<◌, ◌≤◌}
-use native.Mathlib.Nat.{mul_assoc, mul_comm, mul-zero, zero-mul, one-mul, mul-one, mul-le-mul_left, le_trans, not-suc-le-zero}
+use native.Mathlib.Nat.{mul_assoc, mul_comm, mul-zero, zero-mul, mul-one, mul-le-mul_left, le_trans, not-suc-le-zero}
 use native.Mathlib.Numerals.{sub-one}
 use native.Mathlib.Omega.{arith}
-use borrow.Author.Tests.{eq-eqb, ne_eqb, ltb-true, lt-ltb, le-leb}
+use borrow.Author.Tests.{eq-eqb, ne_eqb, ltb-true, lt-ltb}
 use lib.Dec.{eqb, ltb}
-use lib.IntN.{pos}
-use lib.ListN.{length}
 use Rattle.wire.specs.Number.{le, signed}
 use Rattle.wire.specs.Answer.{got, item}
 use Rattle.wire.proofs.Numbers.{split}
-use Rattle.wire.proofs.Reading.{got_value, got_next}
 use Rattle.wire.specs.Items.{length_item}
 use Rattle.wire.specs.declared.Length.{Length}
 use Rattle.plain_value.specs.Dimensions.{fours, below_one, any_below_one, product, sizes_rule, dimensions}
@@ -35,9 +32,6 @@ module _ (k : ℕ) (s : List ℕ) (at : ℕ) (h : le 4 s at < 4294967296) where
 -- the rules of the dimensions that are left, where those before them have the product acc
 abbrev pub sizes_from : ℕ → ℕ → List ℕ → ℕ
 sizes_from n acc ds = cond (any_below_one ds) 5 (cond (eqb (acc * product ds) n) 0 6)
-
-pub from_one : (n : ℕ) (ds : List ℕ) → sizes_rule n ds ≡ sizes_from n 1 ds
-from_one n ds = ap (λ (x : ℕ). cond (any_below_one ds) 5 (cond (eqb x n) 0 6)) (sym (one-mul (product ds)))
 
 -- a dimension that is not below 1
 at_least : (d : ℕ) → below_one (signed 4 d) ≡ false → 1 ≤ d
@@ -81,46 +75,32 @@ module _ (n acc d : ℕ) (ds : List ℕ) where
       go true x = let h : n < acc = ltb-true n acc x in over n acc (d ∷ ds) h ∙ rw e (sym (over n acc ds h))
       go false x = rw (e, mul_assoc acc d (product ds))
 
--- the loop over the dimensions, of which `left` are left, from p on: one of them is there, a turn with it, and its end
-
-pub size_there : (s : List ℕ) (p left : ℕ) → p + 4 * left ≤ length s → 0 < left → item 4 s p ≡ got (le 4 s p) (p + 4)
-size_there s p left h l = rw (le-leb (p + 4) (length s) (omega arith))
-
+-- the loop over the k dimensions at a position, of which i are passed: a turn with the next one, and its end
 module _ (s : List ℕ) (n acc : ℕ) where
   turn : (left p : ℕ) → 0 < left → le 4 s p < 4294967296 → fours left (le (4 * left) s p) ≡ le 4 s p ∷ fours (left - 1) (le (4 * (left - 1)) s (p + 4))
   turn zero p h l = absurd (not-suc-le-zero h)
   turn (suc k) p h l = rw (sub-one (suc k)) (fours_next k s p l)
 
-  module _ (left p d next : ℕ) (h : 0 < left) (e : got d next ≡ item 4 s p) (fits : p + 4 * left ≤ length s) (small : d < 4294967296) where
-    same : got d next ≡ got (le 4 s p) (p + 4)
-    same = e ∙ size_there s p left fits h
-
-    pub next_is : next ≡ p + 4
-    next_is = got_next same
-
-    sizes_are : fours left (le (4 * left) s p) ≡ d ∷ fours (left - 1) (le (4 * (left - 1)) s next)
+  module _ (at k i d : ℕ) (h : i < k) (e : d ≡ le 4 s (at + 4 * i)) (small : d < 4294967296) where
+    sizes_are : fours (k - i) (le (4 * (k - i)) s (at + 4 * i)) ≡ d ∷ fours (k - (i + 1)) (le (4 * (k - (i + 1))) s (at + 4 * (i + 1)))
     sizes_are =
-        let v : d ≡ le 4 s p = got_value same in
-        turn left p h (omega (arith, v, small))
-        ∙ ap (λ (x : ℕ). x ∷ fours (left - 1) (le (4 * (left - 1)) s (p + 4))) (sym v)
-        ∙ ap (λ (q : ℕ). d ∷ fours (left - 1) (le (4 * (left - 1)) s q)) (sym next_is)
+        let more : k - (i + 1) ≡ k - i - 1 = omega arith in
+        let next : at + 4 * (i + 1) ≡ at + 4 * i + 4 = omega arith in
+        rw (more, next, e) (turn (k - i) (at + 4 * i) (omega arith) (omega (arith, e, small)))
 
-    pub size_stop : below_one (signed 4 d) ≡ true → sizes_from n acc (fours left (le (4 * left) s p)) ≡ 5
+    pub size_stop : below_one (signed 4 d) ≡ true → sizes_from n acc (fours (k - i) (le (4 * (k - i)) s (at + 4 * i))) ≡ 5
     size_stop q = ap (sizes_from n acc) sizes_are ∙ sizes_stop n acc d _ q
 
     pub size_again : {more : ℕ} → below_one (signed 4 d) ≡ false → more ≡ cond (ltb n acc) acc (acc * d)
-        → sizes_from n acc (fours left (le (4 * left) s p)) ≡ sizes_from n more (fours (left - 1) (le (4 * (left - 1)) s next))
-    size_again q r = ap (sizes_from n acc) sizes_are ∙ sizes_next n acc d _ q ∙ ap (λ (x : ℕ). sizes_from n x (fours (left - 1) (le (4 * (left - 1)) s next))) (sym r)
+        → sizes_from n acc (fours (k - i) (le (4 * (k - i)) s (at + 4 * i))) ≡ sizes_from n more (fours (k - (i + 1)) (le (4 * (k - (i + 1))) s (at + 4 * (i + 1))))
+    size_again q r =
+        ap (sizes_from n acc) sizes_are ∙ sizes_next n acc d _ q
+        ∙ ap (λ (x : ℕ). sizes_from n x (fours (k - (i + 1)) (le (4 * (k - (i + 1))) s (at + 4 * (i + 1))))) (sym r)
 
   pub size_done : (left v : ℕ) → left ≤ 0 → sizes_from n acc (fours left v) ≡ cond (eqb acc n) 0 6
   unfolding fours any_below_one product
   size_done zero v h = ap (λ (x : ℕ). cond (eqb x n) 0 6) (mul-one acc)
   size_done (suc k) v h = absurd (not-suc-le-zero h)
-
--- whether a number that is not negative is below 1
-pub zero_below : (d : ℕ) → eqb d 0 ≡ below_one (pos d)
-zero_below zero = refl
-zero_below (suc d) = ne_eqb (suc d) 0 (λ e. omega arith)
 
 -- two dimensions, which are one number of 8 bytes
 

@@ -2,10 +2,9 @@
 use Rattle.std.specs.Prelude.{ℕ, zero, suc, ◌*◌, ◌/◌, ◌%◌, ◌^◌, Bool, true, false, cond, ◌||◌, List, [], ◌∷◌, eqb, ltb, ℤ, pos, negsuc, length}
 use Rattle.wire.specs.Constants.{BAD_LENGTH, DISAGREE}
 use Rattle.wire.specs.Number.{signed, le}
-use Rattle.wire.specs.Answer.{Answer, got, refused, Reader, and_then, ◌>>◌, pure, ruled}
+use Rattle.wire.specs.Answer.{refused, Reader, and_then, ◌>>◌, pure, ruled}
 use Rattle.wire.specs.Items.{length_item}
 use Rattle.wire.specs.declared.Length.{Length}
-use Rattle.plain_value.specs.declared.dimensions.Dimensions.{Dimensions}
 
 -- the k numbers of 4 bytes that make up a number of 4 * k bytes, the first of them from its lowest bytes
 unfoldable pub fours : ℕ → ℕ → List ℕ
@@ -45,11 +44,6 @@ after_list_length n place Length.Negative s at = refused BAD_LENGTH place
 -- "the dimensions list that follows the elements" of an array of n elements: its length, then its dimensions; how many they are
 unfoldable pub dimensions : ℕ → Reader ℕ
 dimensions n s at = and_then (length_item s at) (λ l next. after_list_length n at l s next)
-
--- what the code's answer says
-abbrev pub answer_dimensions : Dimensions → Answer ℕ
-answer_dimensions (Dimensions.Are k next) = got k next
-answer_dimensions (Dimensions.Refused n place) = refused n place
 
 -- the rules of dimensions that are handed over as they are to stand, of an array of n elements: bytes that are not whole dimensions are 6;
 -- "a null or empty dimensions list .. is 5"

@@ -1,36 +1,34 @@
 // A DataValue's parts after its Variant.
 ghost use Rattle.std.specs.Prelude.{◌≡◌};
-ghost use Rattle.wire.specs.Answer.{and_then, when_on};
-ghost use Rattle.wire.specs.Items.{answer_reached};
+ghost use Rattle.wire.specs.Answer.{when_on};
+ghost use Rattle.wire.specs.Refusal.{answer_to};
 ghost use Rattle.plain_value.specs.Plain.{bytes};
 ghost use Rattle.plain_value.specs.Parts.{parts, parts_width};
 
 use crate::plain::bytes_at;
-use wire::{Reached, has};
+use wire::has;
+use wire::refusal::Refusal;
 
-// A part of w bytes after what was reached, where the mask's bit is on.
-fn part_if(s: &[u8], on: bool, w: usize, r: Reached) -> Reached
-    ensures { answer_reached result ≡ and_then (answer_reached r) (λ x next. when_on on tt (bytes w) s.now next) }
+// A part of w bytes, where the mask's bit is on.
+fn part_if(s: &[u8], on: bool, at: usize, w: usize) -> Result<usize, Refusal>
+    ensures { answer_to tt result ≡ when_on on tt (bytes w) s.now at }
 {
-    if on {
-        match r {
-            Reached::To(at) => bytes_at(s, at, w),
-            Reached::Refused(number, place) => Reached::Refused(number, place),
-        }
-    } else {
-        r
+    if !on {
+        return Ok(at);
     }
+    bytes_at(s, at, w)
 }
 
 // A DataValue's parts after its Variant, in wire order, up to the first that does not fit.
-fn parts_in_order(s: &[u8], at: usize, m: u8) -> Reached
-    ensures { answer_reached result ≡ parts m s.now at }
+#[tactic(auto, unfolding(crate::specs::Parts::parts))]
+fn parts_in_order(s: &[u8], at: usize, m: u8) -> Result<usize, Refusal>
+    ensures { answer_to tt result ≡ parts m s.now at }
 {
-    let status = part_if(s, (m >> 1) % 2 == 1, 4, Reached::To(at));
-    let source = part_if(s, (m >> 2) % 2 == 1, 8, status);
-    let source_picoseconds = part_if(s, (m >> 4) % 2 == 1, 2, source);
-    let server = part_if(s, (m >> 3) % 2 == 1, 8, source_picoseconds);
-    part_if(s, (m >> 5) % 2 == 1, 2, server)
+    let status_end = part_if(s, (m >> 1) % 2 == 1, at, 4)?;
+    let source_end = part_if(s, (m >> 2) % 2 == 1, status_end, 8)?;
+    let source_picoseconds_end = part_if(s, (m >> 4) % 2 == 1, source_end, 2)?;
+    let server_end = part_if(s, (m >> 3) % 2 == 1, source_picoseconds_end, 8)?;
+    part_if(s, (m >> 5) % 2 == 1, server_end, 2)
 }
 
 // How many bytes a DataValue's parts after its Variant have together.
@@ -42,15 +40,16 @@ pub fn parts_width(m: u8) -> usize
 }
 
 // A DataValue's parts after its Variant. Most have none, or all fit, and then only their width counts.
-pub fn parts_at(s: &[u8], at: usize, m: u8) -> Reached
-    ensures { answer_reached result ≡ parts m s.now at }
+#[tactic(auto, using(crate::proofs::PartLaws::no_parts, crate::proofs::PartLaws::parts_fit))]
+pub fn parts_at(s: &[u8], at: usize, m: u8) -> Result<usize, Refusal>
+    ensures { answer_to tt result ≡ parts m s.now at }
 {
     if m < 2 {
-        return Reached::To(at);
+        return Ok(at);
     }
     let w = parts_width(m);
     if has(s.len(), at, w) {
-        return Reached::To(at + w);
+        return Ok(at + w);
     }
     parts_in_order(&*s, at, m)
 }

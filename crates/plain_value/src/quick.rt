@@ -7,38 +7,31 @@ ghost use Rattle.plain_value.specs.Plain.{string};
 ghost use Rattle.plain_value.specs.Dimensions.{dimensions, fours, sizes_rule};
 ghost use Rattle.plain_value.specs.Quick.{EndTells, TwoTells};
 
-use wire::{Item64, ItemLength, has, read_length, read64};
+use wire::item::Item;
+use wire::{Length, has, read_length};
 
 // How many numbers 4 bytes have, and how many of them are no negative Int32.
 const FOUR_BYTES: u64 = 4294967296;
 
 const COUNTS: u32 = 2147483648;
 
-// Where what is accepted ends; `Not` for what is refused, and for what a look does not tell.
-#[derive(Clone, Copy)]
-pub enum End {
-    At(usize),
-    Not,
-}
-
-// A String or ByteString.
-pub fn string_look(s: &[u8], at: usize) -> End
+// Where a String or ByteString ends.
+#[tactic(auto, unfolding(crate::specs::Plain::string))]
+pub fn string_look(s: &[u8], at: usize) -> Option<usize>
     ensures { EndTells result (string s.now at) }
 {
-    match read_length(s, at) {
-        ItemLength::Null(next) => End::At(next),
-        ItemLength::Of(next, n) => {
-            if has(s.len(), next, n) {
-                return End::At(next + n);
-            }
-            End::Not
-        }
-        ItemLength::Negative(_) => End::Not,
-        ItemLength::Short => End::Not,
+    let Ok((length, next)) = read_length(s, at) else {
+        return None;
+    };
+    match length {
+        Length::Null => Some(next),
+        Length::Of(n) if has(s.len(), next, n) => Some(next + n),
+        _ => None,
     }
 }
 
 // Whether two dimensions, which are one number of 8 bytes, are those of an array of n elements. Those of an empty one never are.
+#[tactic(auto, using(crate::proofs::Sizes::two_sizes))]
 fn are_two(v: u64, n: u32) -> bool
     ensures { result ≡ true → sizes_rule n (fours 2 v) ≡ 0 }
 {
@@ -51,21 +44,19 @@ fn are_two(v: u64, n: u32) -> bool
     (v % FOUR_BYTES) * (v / FOUR_BYTES % FOUR_BYTES) == n as u64
 }
 
-// The dimensions list of an array of n elements, where it has two.
-pub fn two_look(s: &[u8], at: usize, n: u32) -> End
+// Where the dimensions list of an array of n elements ends, where it has two.
+#[tactic(auto, using(crate::proofs::Sizes::two_dimensions))]
+pub fn two_look(s: &[u8], at: usize, n: u32) -> Option<usize>
     ensures { TwoTells result (dimensions n s.now at) }
 {
-    let ItemLength::Of(next, k) = read_length(s, at) else {
-        return End::Not;
+    let Ok((Length::Of(2), next)) = read_length(s, at) else {
+        return None;
     };
-    if k != 2 {
-        return End::Not;
-    }
-    let Item64::Is(v, end) = read64(s, next) else {
-        return End::Not;
+    let Ok((v, end)) = u64::read(s, next) else {
+        return None;
     };
     if are_two(v, n) {
-        return End::At(end);
+        return Some(end);
     }
-    End::Not
+    None
 }

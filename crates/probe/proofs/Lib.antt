@@ -1,4 +1,3 @@
-pub mod Storing
 pub mod Fitting
 pub mod Steadily
 pub mod Trip

@@ -1,5 +1,6 @@
 -- Reading a probe is steady: its answer lies within the slice, depends on the bytes read only, and moves with them; of a whole body too.
 -- Assumes nothing.
+use Rattle.std.specs.Prelude.{Option, Some, None}
 use mathlib.Core.Path.{◌≡◌, refl, sym, ap, ◌∙◌}
 use mathlib.Core.Bool.{Bool, true, false, cond}
 use mathlib.Core.List.{List, ◌++◌}
@@ -16,7 +17,6 @@ use Rattle.wire.proofs.Places.{moved_by, after}
 use Rattle.wire.proofs.Steady.{Steady, pure_steady, item_steady, run_steady, bind_steady, then_steady, cond_steady, each_steady, ruled_steady, Fair, fair, fair_cond}
 use Rattle.plain_value.specs.Plain.{string}
 use Rattle.plain_value.proofs.Steadily.{by_length_steady, string_steady}
-use Rattle.probe.specs.declared.body.ListCount.{ListCount}
 use Rattle.probe.specs.declared.body.Probe.{Probe}
 use Rattle.probe.specs.Body.{probe_type_rule, information_rule, id_list_at, string_list_at, includes_at, group_probe_at, probe_of, probe_at, body_ends, probe_body_at}
 
@@ -24,15 +24,15 @@ pub strings_steady : (n : ℕ) → Steady (each string n)
 strings_steady n = each_steady string_steady n
 
 id_list_steady : Steady id_list_at
-id_list_steady = by_length_steady (pure_steady ListCount.Null) (λ n. then_steady (run_steady (2 * n)) (pure_steady (ListCount.Of n)))
+id_list_steady = by_length_steady (pure_steady None) (λ n. then_steady (run_steady (2 * n)) (pure_steady (Some n)))
 
 string_list_steady : Steady string_list_at
-string_list_steady = by_length_steady (pure_steady ListCount.Null) (λ n. then_steady (strings_steady n) (pure_steady (ListCount.Of n)))
+string_list_steady = by_length_steady (pure_steady None) (λ n. then_steady (strings_steady n) (pure_steady (Some n)))
 
 group_steady : Steady group_probe_at
 group_steady = bind_steady (item_steady 2) (λ g. bind_steady (item_steady 1) (λ b. pure_steady (Probe.Group g b)))
 
-includes_steady : (l : ListCount) → Steady (includes_at l)
+includes_steady : (l : Option ℕ) → Steady (includes_at l)
 includes_steady l = bind_steady (item_steady 1) (λ g. bind_steady (item_steady 1) (λ w. pure_steady (Probe.Connections l g w)))
 
 probe_of_steady : (t : ℕ) → Steady (probe_of t)

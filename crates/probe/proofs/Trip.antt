@@ -1,5 +1,6 @@
 -- The round trips of a probe's body: read as it was written, and what was read is what stands there.
 -- Assumes nothing.
+use Rattle.std.specs.Prelude.{Option, Some, None}
 use mathlib.Core.Path.{◌≡◌, refl, sym, ap, subst, ◌∙◌}
 use mathlib.Core.Bool.{Bool, true, false, cond}
 use mathlib.Core.List.{List, [], ◌++◌, append_assoc, append-nil}
@@ -24,7 +25,6 @@ use Rattle.wire_writer.proofs.Trip.{At, Reads, first, second, fits_at, run_is, l
 use Rattle.wire_writer.proofs.Back.{Back, join, part_at, rest_is, end_fits, item_back, run_back, ruled_back, map_back}
 use Rattle.wire_writer.proofs.Refusals.{passed, held}
 use Rattle.plain_value.specs.Plain.{after_length, by_length, string}
-use Rattle.probe.specs.declared.body.ListCount.{ListCount}
 use Rattle.probe.specs.declared.body.Probe.{Probe}
 use Rattle.probe.specs.Body.{probe_type_rule, information_rule, listed_ids, listed_strings, id_list_at, string_list_at, meta_data_at, writers_at, group_probe_at, includes_at, connections_at, probe_of, information_at, probe_at, probe_body_at}
 use Rattle.probe.specs.Items.{count_in}
@@ -51,25 +51,25 @@ steady_is : {A : Type 0} {r : Reader A} → Steady r → (m : ℕ) (b : List ℕ
 steady_is f m b x q s a = rw (a.2, sym a.3) (placed f a.0 b a.1 q)
 
 -- a list that is null has no bytes
-null_list : (r : ℕ → Reader ListCount) (list : List ℕ) (m : ℕ) → length list ≡ 0 → Reads (by_length (λ s at. got ListCount.Null at) r) m (le_bytes 4 4294967295 ++ list) ListCount.Null
+null_list : (r : ℕ → Reader (Option ℕ)) (list : List ℕ) (m : ℕ) → length list ≡ 0 → Reads (by_length (λ s at. got None at) r) m (le_bytes 4 4294967295 ++ list) None
 null_list r list m z s a =
     let c = le_bytes 4 4294967295 in
     let e : m + 4 ≡ m + length (c ++ list) = omega (arith, length-append c list, length_le_bytes 4 4294967295) in
-    rw (null_there s m (first s m c list a)) (ap (λ (j : ℕ). got ListCount.Null j) e)
+    rw (null_there s m (first s m c list a)) (ap (λ (j : ℕ). got None j) e)
 
 -- one of n elements
-some_list : (r : ℕ → Reader ListCount) (n : ℕ) (list : List ℕ) (m : ℕ) → n < 2147483648 → Reads (r n) (m + 4) list (ListCount.Of n)
-    → Reads (by_length (λ s at. got ListCount.Null at) r) m (le_bytes 4 n ++ list) (ListCount.Of n)
+some_list : (r : ℕ → Reader (Option ℕ)) (n : ℕ) (list : List ℕ) (m : ℕ) → n < 2147483648 → Reads (r n) (m + 4) list (Some n)
+    → Reads (by_length (λ s at. got None at) r) m (le_bytes 4 n ++ list) (Some n)
 some_list r n list m h f s a =
     let c = le_bytes 4 n in
     let l : length c ≡ 4 = length_le_bytes 4 n in
     let at-list : At s (m + 4) list = subst (λ (j : ℕ). At s (m + j) list) l (second s m c list a) in
     let e : m + 4 + length list ≡ m + length (c ++ list) = omega (arith, length-append c list) in
-    rw (count_there s m n h (first s m c list a), f s at-list) (ap (λ (j : ℕ). got (ListCount.Of n) j) e)
+    rw (count_there s m n h (first s m c list a), f s at-list) (ap (λ (j : ℕ). got (Some n) j) e)
 
-ids_are : (l : ListCount) (list : List ℕ) (m : ℕ) → id_list_rule l (length list) ≡ 0 → Reads id_list_at m (list_count_bytes l ++ list) l
-ids_are ListCount.Null list m h = null_list listed_ids list m (eqb-true (length list) 0 (held (eqb (length list) 0) 5 h))
-ids_are (ListCount.Of n) list m h =
+ids_are : (l : Option ℕ) (list : List ℕ) (m : ℕ) → id_list_rule l (length list) ≡ 0 → Reads id_list_at m (list_count_bytes l ++ list) l
+ids_are None list m h = null_list listed_ids list m (eqb-true (length list) 0 (held (eqb (length list) 0) 5 h))
+ids_are (Some n) list m h =
     let q = passed (leb 2147483648 n) 5 (cond (eqb (length list) (2 * n)) 0 6) h in
     let e : length list ≡ 2 * n = eqb-true (length list) (2 * n) (held (eqb (length list) (2 * n)) 5 q.1) in
     some_list listed_ids n list m (leb-false 2147483648 n q.0) (λ s a. rw (run_is (2 * n) (m + 4) list e s a))
@@ -84,9 +84,9 @@ strings_whole n list h = go (each string n list 0) refl h
         (leb-false 2147483648 n a.0, e ∙ ap (got tt) (eqb-true end (length list) (held (eqb end (length list)) 5 a.1)))
     go (refused k place) e q = absurd (omega (arith, (within_refused (strings_steady n) list 0 (omega arith) e).0, q))
 
-strings_are : (l : ListCount) (list : List ℕ) (m : ℕ) → string_list_rule l list ≡ 0 → Reads string_list_at m (list_count_bytes l ++ list) l
-strings_are ListCount.Null list m h = null_list listed_strings list m (eqb-true (length list) 0 (held (eqb (length list) 0) 5 h))
-strings_are (ListCount.Of n) list m h =
+strings_are : (l : Option ℕ) (list : List ℕ) (m : ℕ) → string_list_rule l list ≡ 0 → Reads string_list_at m (list_count_bytes l ++ list) l
+strings_are None list m h = null_list listed_strings list m (eqb-true (length list) 0 (held (eqb (length list) 0) 5 h))
+strings_are (Some n) list m h =
     let q = strings_whole n list h in
     some_list listed_strings n list m q.0 (λ s a. rw (steady_is (strings_steady n) (m + 4) list tt q.1 s a))
 
@@ -176,9 +176,9 @@ four : (n : ℕ) {s : List ℕ} {at next : ℕ} → Back s at (le_bytes 4 n) nex
 four n x = omega (arith, x.1, length_le_bytes 4 n)
 
 -- a list: its count, and the bytes up to its end, of which its rule says nothing
-module _ (s : List ℕ) (at : ℕ) (l : ListCount) (next : ℕ) (b : Bytes s) (h : at ≤ length s) where
+module _ (s : List ℕ) (at : ℕ) (l : Option ℕ) (next : ℕ) (b : Bytes s) (h : at ≤ length s) where
   -- the bytes of a list between its count and its end
-  abbrev ListBack : (ListCount → List ℕ → ℕ) → (ListCount → ℕ) → Type 0
+  abbrev ListBack : (Option ℕ → List ℕ → ℕ) → (Option ℕ → ℕ) → Type 0
   ListBack rule size = (next ≡ at + 4 + size l) × (at + 4 + size l ≤ length s) × (Back s at (list_count_bytes l ++ take (size l) (drop (at + 4) s)) next)
       × (rule l (take (size l) (drop (at + 4) s)) ≡ 0)
 
@@ -194,46 +194,46 @@ module _ (s : List ℕ) (at : ℕ) (l : ListCount) (next : ℕ) (b : Bytes s) (h
 
   ids_back : id_list_at s at ≡ got l next → ListBack (λ l b. id_list_rule l (length b)) (λ l. 2 * count_in l)
   ids_back q =
-      let i = invert (length_item s at) (λ c start. after_length (λ s at. got ListCount.Null at) listed_ids at c s start) q in
+      let i = invert (length_item s at) (λ c start. after_length (λ s at. got None at) listed_ids at c s start) q in
       go i.0 i.1 (length_back s at i.0 i.1 b i.2) i.3
     where
-      go : (c : Length) (start : ℕ) → LengthBack s at start c → after_length (λ s at. got ListCount.Null at) listed_ids at c s start ≡ got l next
+      go : (c : Length) (start : ℕ) → LengthBack s at start c → after_length (λ s at. got None at) listed_ids at c s start ≡ got l next
           → ListBack (λ l b. id_list_rule l (length b)) (λ l. 2 * count_in l)
       go Length.Null start x k =
           let e : start ≡ next = got_next k in
           let f : start ≡ at + 4 = four 4294967295 x in
           let y : at + 4 + 0 ≤ length s = omega (arith, end_fits s at (le_bytes 4 4294967295) start x) in
           let n0 : next ≡ start + 0 = omega arith in
-          subst (λ (z : ListCount). (next ≡ at + 4 + 2 * count_in z) × (at + 4 + 2 * count_in z ≤ length s)
+          subst (λ (z : Option ℕ). (next ≡ at + 4 + 2 * count_in z) × (at + 4 + 2 * count_in z ≤ length s)
           × (Back s at (list_count_bytes z ++ take (2 * count_in z) (drop (at + 4) s)) next) × (id_list_rule z (length (take (2 * count_in z) (drop (at + 4) s))) ≡ 0)) (got_value k)
           (omega arith, y, listed 4294967295 0 start x y n0, rw (part_long 0 y))
       go (Length.Of n) start x k =
-          let r = map_back (run (2 * n)) (λ u. ListCount.Of n) s start l next k in
+          let r = map_back (run (2 * n)) (λ u. Some n) s start l next k in
           let u = run_back (2 * n) s start r.0 next r.1 in
           let f : start ≡ at + 4 = four n x.0 in
           let y : at + 4 + 2 * n ≤ length s = omega (arith, u.2) in
-          subst (λ (z : ListCount). (next ≡ at + 4 + 2 * count_in z) × (at + 4 + 2 * count_in z ≤ length s)
+          subst (λ (z : Option ℕ). (next ≡ at + 4 + 2 * count_in z) × (at + 4 + 2 * count_in z ≤ length s)
           × (Back s at (list_count_bytes z ++ take (2 * count_in z) (drop (at + 4) s)) next) × (id_list_rule z (length (take (2 * count_in z) (drop (at + 4) s))) ≡ 0)) r.2
           (omega (arith, u.1), y, listed n (2 * n) start x.0 y u.1, rw (part_long (2 * n) y, lt-leb 2147483648 n x.1, eq-eqb (2 * n) (2 * n) refl))
       go Length.Negative start x k = absurd (not_got k)
 
   strings_back : string_list_at s at ≡ got l next → ListBack string_list_rule (λ l. next - (at + 4))
   strings_back q =
-      let i = invert (length_item s at) (λ c start. after_length (λ s at. got ListCount.Null at) listed_strings at c s start) q in
+      let i = invert (length_item s at) (λ c start. after_length (λ s at. got None at) listed_strings at c s start) q in
       go i.0 i.1 (length_back s at i.0 i.1 b i.2) i.3
     where
-      go : (c : Length) (start : ℕ) → LengthBack s at start c → after_length (λ s at. got ListCount.Null at) listed_strings at c s start ≡ got l next → ListBack string_list_rule (λ l. next - (at + 4))
+      go : (c : Length) (start : ℕ) → LengthBack s at start c → after_length (λ s at. got None at) listed_strings at c s start ≡ got l next → ListBack string_list_rule (λ l. next - (at + 4))
       go Length.Null start x k =
           let e : start ≡ next = got_next k in
           let f : start ≡ at + 4 = four 4294967295 x in
           let y : at + 4 + (next - (at + 4)) ≤ length s = omega (arith, end_fits s at (le_bytes 4 4294967295) start x) in
           let n0 : next ≡ start + (next - (at + 4)) = omega arith in
           let z0 : next - (at + 4) ≡ 0 = omega arith in
-          subst (λ (z : ListCount). (next ≡ at + 4 + (next - (at + 4))) × (at + 4 + (next - (at + 4)) ≤ length s)
+          subst (λ (z : Option ℕ). (next ≡ at + 4 + (next - (at + 4))) × (at + 4 + (next - (at + 4)) ≤ length s)
           × (Back s at (list_count_bytes z ++ take (next - (at + 4)) (drop (at + 4) s)) next) × (string_list_rule z (take (next - (at + 4)) (drop (at + 4) s)) ≡ 0)) (got_value k)
           (omega arith, y, listed 4294967295 (next - (at + 4)) start x y n0, rw (part_long (next - (at + 4)) y, z0))
       go (Length.Of n) start x k =
-          let r = map_back (each string n) (λ u. ListCount.Of n) s start l next k in
+          let r = map_back (each string n) (λ u. Some n) s start l next k in
           let f : start ≡ at + 4 = four n x.0 in
           let o : start ≤ length s = end_fits s at (le_bytes 4 n) start x.0 in
           let w = within (strings_steady n) s start o r.1 in
@@ -241,7 +241,7 @@ module _ (s : List ℕ) (at : ℕ) (l : ListCount) (next : ℕ) (b : Bytes s) (h
           let n0 : next ≡ start + (next - (at + 4)) = omega (arith, w.0) in
           let aln : each string n (take (next - (at + 4)) (drop (at + 4) s)) 0 ≡ got tt (next - (at + 4)) =
           subst (λ (j : ℕ). each string n (take (next - j) (drop j s)) 0 ≡ got tt (next - j)) f (alone (strings_steady n) s start o r.1) in
-          subst (λ (z : ListCount). (next ≡ at + 4 + (next - (at + 4))) × (at + 4 + (next - (at + 4)) ≤ length s)
+          subst (λ (z : Option ℕ). (next ≡ at + 4 + (next - (at + 4))) × (at + 4 + (next - (at + 4)) ≤ length s)
           × (Back s at (list_count_bytes z ++ take (next - (at + 4)) (drop (at + 4) s)) next) × (string_list_rule z (take (next - (at + 4)) (drop (at + 4) s)) ≡ 0)) r.2 (
             omega (arith, w.0),
             y,
@@ -265,9 +265,6 @@ from_is s at (Probe.Connections l g w) = let e : at + 2 + 4 ≡ at + 6 = omega a
 
 -- what follows an InformationType t
 module _ (s : List ℕ) (at : ℕ) (p : Probe) (next : ℕ) (b : Bytes s) (h : at ≤ length s) (whole : next ≡ length s) where
-  abbrev PartsBack : ℕ → Type 0
-  PartsBack t = (information_of p ≡ t) × (Back s at (parts_bytes (list_from s at p) p) next) × (probe_body_refusal (list_from s at p) p ≡ 0)
-
   abbrev PartsOf : ℕ → Probe → Type 0
   PartsOf t z = (information_of z ≡ t) × (Back s at (parts_bytes (list_from s at z) z) next) × (probe_body_refusal (list_from s at z) z ≡ 0)
 

@@ -1,12 +1,10 @@
 -- The Publisher information probe (document 02, Req 01; its layout is source document 000's, Tables 146 to 150).
+use Rattle.std.specs.Prelude.{Option, Some, None}
 use Rattle.std.specs.Prelude.{ℕ, ◌*◌, cond, List, eqb, ltb, length}
 use Rattle.wire.specs.Constants.{LEFT_OVER, NOT_PERMITTED, NOT_TAKEN}
 use Rattle.wire.specs.Answer.{Answer, got, refused, Reader, item, ruled, run, each, pure, and_then, ◌>>=◌, ◌>>◌}
 use Rattle.plain_value.specs.Plain.{by_length, string}
-use Rattle.probe.specs.declared.body.ListCount.{ListCount}
-use Rattle.probe.specs.declared.body.ListRead.{ListRead}
 use Rattle.probe.specs.declared.body.Probe.{Probe}
-use Rattle.probe.specs.declared.body.ProbeRead.{ProbeRead}
 
 -- ProbeType: 1 is the Publisher information probe; "a probe or information type that Part 14 defines and this request doesn't name is 4,
 -- any other is 3": 2 finds applications
@@ -18,20 +16,20 @@ abbrev pub information_rule : ℕ → ℕ
 information_rule t = cond (eqb t 1) NOT_TAKEN (cond (ltb t 2) NOT_PERMITTED (cond (ltb 5 t) NOT_PERMITTED 0))
 
 -- n ids of 2 bytes, one item
-abbrev pub listed_ids : ℕ → Reader ListCount
-listed_ids n = run (2 * n) >> pure (ListCount.Of n)
+abbrev pub listed_ids : ℕ → Reader (Option ℕ)
+listed_ids n = run (2 * n) >> pure (Some n)
 
 -- "writer id lists for data set probes (Int32 count)"; "An array that is null lists nothing"
-abbrev pub id_list_at : Reader ListCount
-id_list_at = by_length (pure ListCount.Null) listed_ids
+abbrev pub id_list_at : Reader (Option ℕ)
+id_list_at = by_length (pure None) listed_ids
 
 -- n strings, one after the other
-abbrev pub listed_strings : ℕ → Reader ListCount
-listed_strings n = each string n >> pure (ListCount.Of n)
+abbrev pub listed_strings : ℕ → Reader (Option ℕ)
+listed_strings n = each string n >> pure (Some n)
 
 -- "the string list for connections"
-abbrev pub string_list_at : Reader ListCount
-string_list_at = by_length (pure ListCount.Null) listed_strings
+abbrev pub string_list_at : Reader (Option ℕ)
+string_list_at = by_length (pure None) listed_strings
 
 -- the two data set probes
 abbrev pub meta_data_at : Reader Probe
@@ -48,7 +46,7 @@ group_probe_at = do
   pure (Probe.Group g b)
 
 -- behind the names the Booleans IncludeWriterGroups and IncludeDataSetWriters, any byte, kept
-abbrev pub includes_at : ListCount → Reader Probe
+abbrev pub includes_at : Option ℕ → Reader Probe
 includes_at l = do
   g ← item 1
   w ← item 1
@@ -74,13 +72,3 @@ body_ends s p next = cond (eqb next (length s)) (got p next) (refused LEFT_OVER 
 
 abbrev pub probe_body_at : Reader Probe
 probe_body_at s at = and_then (probe_at s at) (body_ends s)
-
--- what the answers of the code say
-
-abbrev pub answer_list : ListRead → Answer ListCount
-answer_list (ListRead.Is l next) = got l next
-answer_list (ListRead.Refused n place) = refused n place
-
-abbrev pub answer_probe : ProbeRead → Answer Probe
-answer_probe (ProbeRead.Is p next) = got p next
-answer_probe (ProbeRead.Refused n place) = refused n place

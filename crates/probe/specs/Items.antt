@@ -1,20 +1,21 @@
 -- The ids and strings that a probe lists, one after the other (document 02, Req 01). Probe and cursor may be made up: then every step has
 -- an answer all the same.
+use Rattle.std.specs.Prelude.{Option, Some, None}
 use Rattle.std.specs.Prelude.{ℕ, ◌+◌, true, false, cond, List, leb}
 use Rattle.wire.specs.Constants.{OVER_LIMIT}
 use Rattle.wire.specs.Answer.{Answer, got, refused, Reader, item, run, and_then}
 use Rattle.plain_value.specs.Plain.{by_length}
-use Rattle.probe.specs.declared.body.ListCount.{ListCount}
 use Rattle.probe.specs.declared.body.Probe.{Probe}
 use Rattle.probe.specs.declared.items.ProbeItem.{ProbeItem}
-use Rattle.probe.specs.declared.items.ItemRead.{ItemRead}
 use Rattle.probe.specs.declared.items.ProbeCursor.{ProbeCursor}
-use Rattle.probe.specs.declared.items.ItemStep.{ItemStep}
+use Rattle.std.specs.Prelude.{Result, Ok, Err}
+use Rattle.wire.specs.Refusal.{reason_number}
+use Rattle.wire.specs.declared.refusal.Refusal.{Refusal}
 
 -- "An array that is null lists nothing"
-abbrev pub count_in : ListCount → ℕ
-count_in ListCount.Null = 0
-count_in (ListCount.Of n) = n
+abbrev pub count_in : Option ℕ → ℕ
+count_in None = 0
+count_in (Some n) = n
 
 abbrev pub item_count : Probe → ℕ
 item_count (Probe.MetaData l) = count_in l
@@ -56,12 +57,7 @@ item_step_at p c s =
     (and_then (item_of p c.index s c.at)
     (λ x next. got (record { item = x; cursor = record { index = c.index + 1; at = next } }) next))
 
--- what the answers of the code say
-
-abbrev pub answer_item : ItemRead → Answer ProbeItem
-answer_item (ItemRead.Is x next) = got x next
-answer_item (ItemRead.Refused n place) = refused n place
-
-abbrev pub answer_item_step : ItemStep → Answer ItemStepped
-answer_item_step (ItemStep.Is x c) = got (record { item = x; cursor = c }) c.at
-answer_item_step (ItemStep.Refused n place) = refused n place
+-- what the answer of the code says
+abbrev pub answer_item_step : Result (ProbeItem × ProbeCursor) Refusal → Answer ItemStepped
+answer_item_step (Ok (x, c)) = got (record { item = x; cursor = c }) c.at
+answer_item_step (Err r) = refused (reason_number r.reason) r.place

@@ -1,12 +1,12 @@
 -- A probe's body written from its parts (document 02, Req 01). Ids and strings are given as they are to stand: ids of 2 bytes each, strings
 -- each with its length of 4 bytes.
+use Rattle.std.specs.Prelude.{Option, Some, None}
 use Rattle.std.specs.Prelude.{ℕ, ◌+◌, ◌*◌, ◌-◌, ◌<◌, cond, List, [], ◌++◌, eqb, leb, length, take, drop}
 use Rattle.wire.specs.Constants.{DISAGREE}
 use Rattle.wire.specs.Number.{le_bytes}
 use Rattle.wire.specs.Answer.{Answer, got, refused, each}
 use Rattle.wire_writer.specs.Writing.{Output, unless, unused}
 use Rattle.plain_value.specs.Plain.{string}
-use Rattle.probe.specs.declared.body.ListCount.{ListCount}
 use Rattle.probe.specs.declared.body.Probe.{Probe}
 use Rattle.probe.specs.Items.{count_in}
 
@@ -34,9 +34,9 @@ abbrev pub probe_head_bytes : Probe → List ℕ
 probe_head_bytes p = le_bytes 1 INFORMATION_PROBE ++ le_bytes 1 (information_of p)
 
 -- "Int32 count"; null is -1
-abbrev pub list_count_bytes : ListCount → List ℕ
-list_count_bytes ListCount.Null = le_bytes 4 NULL_COUNT
-list_count_bytes (ListCount.Of n) = le_bytes 4 n
+abbrev pub list_count_bytes : Option ℕ → List ℕ
+list_count_bytes None = le_bytes 4 NULL_COUNT
+list_count_bytes (Some n) = le_bytes 4 n
 
 -- what follows the InformationType: a count and its ids; the group id with its Boolean; a count, its strings and two Booleans
 abbrev pub parts_bytes : List ℕ → Probe → List ℕ
@@ -52,9 +52,9 @@ probe_bytes list p = probe_head_bytes p ++ parts_bytes list p
 abbrev pub ids_rule : ℕ → ℕ → ℕ
 ids_rule n len = cond (leb COUNT_END n) DISAGREE (cond (eqb len (2 * n)) 0 DISAGREE)
 
-abbrev pub id_list_rule : ListCount → ℕ → ℕ
-id_list_rule ListCount.Null len = unused len
-id_list_rule (ListCount.Of n) len = ids_rule n len
+abbrev pub id_list_rule : Option ℕ → ℕ → ℕ
+id_list_rule None len = unused len
+id_list_rule (Some n) len = ids_rule n len
 
 -- strings: what reading refuses of the list alone by its own number, then what would read back otherwise by 6
 abbrev pub strings_end : ℕ → ℕ → Answer (Unit {0}) → ℕ
@@ -64,9 +64,9 @@ strings_end n len (refused k place) = k
 abbrev pub strings_rule : ℕ → List ℕ → ℕ
 strings_rule n list = strings_end n (length list) (each string n list 0)
 
-abbrev pub string_list_rule : ListCount → List ℕ → ℕ
-string_list_rule ListCount.Null list = unused (length list)
-string_list_rule (ListCount.Of n) list = strings_rule n list
+abbrev pub string_list_rule : Option ℕ → List ℕ → ℕ
+string_list_rule None list = unused (length list)
+string_list_rule (Some n) list = strings_rule n list
 
 -- the number by which a probe with this list is refused, 0 for none
 abbrev pub probe_body_refusal : List ℕ → Probe → ℕ

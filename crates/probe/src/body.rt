@@ -1,236 +1,161 @@
 // A probe's body: ProbeType, InformationType and what the information asks for.
-ghost use Rattle.std.specs.Prelude.{◌≡◌, ◌*◌};
-ghost use Rattle.wire.specs.Answer.{run};
-ghost use Rattle.wire.specs.Items.{answer_run};
-ghost use Rattle.probe.specs.Body.{probe_type_rule, information_rule, listed_ids, listed_strings, id_list_at, string_list_at, meta_data_at, writers_at, group_probe_at, includes_at, connections_at, probe_of, information_at, probe_at, probe_body_at, answer_list, answer_probe};
+// ProbeType and InformationType go by their numbers here: any byte may stand for one, and its rule judges it.
+ghost use Rattle.std.specs.Prelude.{◌≡◌, ◌*◌, None, Some};
+ghost use Rattle.wire.specs.Answer.{run, pure};
+ghost use Rattle.plain_value.specs.Plain.{by_length};
+ghost use Rattle.wire.specs.Refusal.{answer, answer_to, rule_number};
+ghost use Rattle.probe.specs.Body.{probe_type_rule, information_rule, id_list_at, string_list_at, group_probe_at, connections_at, probe_of, information_at, probe_at, probe_body_at};
 
 use plain_value::plain::strings_at;
-use wire::constants::{BAD_LENGTH, CUT_SHORT, LEFT_OVER, NOT_PERMITTED, NOT_TAKEN};
-use wire::{Item8, Item16, ItemLength, Reached, Run};
+use wire::Length;
+use wire::item::Item;
+use wire::refusal::{Read, Reason, Refusal};
 
-// How many elements a list has. One that is null lists nothing, and is kept apart from an empty one.
-#[derive(Clone, Copy)]
-pub enum ListCount {
-    Null,
-    Of(usize),
-}
-
-// A list's count with the position after the list, or a refusal with its number and place.
-#[derive(Clone, Copy)]
-pub enum ListRead {
-    Is(ListCount, usize),
-    Refused(u8, usize),
-}
-
-// What is asked for. Ids and strings stand behind their count, 6 bytes after the probe's start.
-#[derive(Clone, Copy)]
+// What is asked for. Ids and strings stand behind their count, 6 bytes after the probe's start. A list that is null lists nothing, and has
+// no count: so it is kept apart from an empty one.
+#[derive(Clone, Copy, PartialEq, Eq, Debug)]
 pub enum Probe {
     // DataSetMetaData of these writers
-    MetaData(ListCount),
+    MetaData(Option<usize>),
     // the configuration of these writers
-    Writers(ListCount),
+    Writers(Option<usize>),
     // a WriterGroup's configuration: its id, and the byte of IncludeDataSetWriters
     Group(u16, u8),
     // the connections of these names: the bytes of IncludeWriterGroups and IncludeDataSetWriters
-    Connections(ListCount, u8, u8),
+    Connections(Option<usize>, u8, u8),
 }
 
-// A probe with the position after it, or a refusal with its number and place.
-#[derive(Clone, Copy)]
-pub enum ProbeRead {
-    Is(Probe, usize),
-    Refused(u8, usize),
-}
-
-// The number of the rule that a ProbeType breaks, or 0.
-fn probe_type_rule(t: u8) -> u8
-    ensures { result ≡ probe_type_rule t }
+// Refuses a ProbeType other than the information probe's.
+fn probe_type_rule(t: u8) -> Result<(), Reason>
+    ensures { rule_number result ≡ probe_type_rule t }
 {
-    if t == 1 {
-        return 0;
+    match t {
+        1 => Ok(()),
+        2 => Err(Reason::NotTaken),
+        _ => Err(Reason::NotPermitted),
     }
-    if t == 2 {
-        return NOT_TAKEN;
-    }
-    NOT_PERMITTED
 }
 
-// The number of the rule that an InformationType breaks, or 0.
-pub fn information_rule(t: u8) -> u8
-    ensures { result ≡ information_rule t }
+// Refuses an InformationType that is no probe's.
+pub fn information_rule(t: u8) -> Result<(), Reason>
+    ensures { rule_number result ≡ information_rule t }
 {
-    if t == 1 {
-        return NOT_TAKEN;
+    match t {
+        1 => Err(Reason::NotTaken),
+        2..=5 => Ok(()),
+        _ => Err(Reason::NotPermitted),
     }
-    if t < 2 {
-        return NOT_PERMITTED;
-    }
-    if 5 < t {
-        return NOT_PERMITTED;
-    }
-    0
 }
 
-// The run of n ids.
-fn id_run(s: &[u8], at: usize, n: usize) -> Run
-    ensures { answer_run at (2 * n) result ≡ run (2 * n) s.now at }
+// The position after n ids.
+fn id_run(s: &[u8], at: usize, n: usize) -> Result<usize, Refusal>
+    ensures { answer_to (2 * n) result ≡ run (2 * n) s.now at }
 {
     if s.len() < at {
-        return Run::Short;
+        return Err(Reason::CutShort.at(at));
     }
     if (s.len() - at) / 2 < n {
-        return Run::Short;
+        return Err(Reason::CutShort.at(at));
     }
-    Run::To(at + 2 * n)
+    Ok(at + 2 * n)
 }
 
-fn ids_of(s: &[u8], n: usize, start: usize) -> ListRead
-    ensures { answer_list result ≡ listed_ids n s.now start }
+// The count of a list, none of one that is null, and where its elements start; below null is 5.
+fn count_at(s: &[u8], at: usize) -> Read<Option<usize>>
+    ensures { answer result ≡ by_length (pure None) (λ n. pure (Some n)) s.now at }
 {
-    let Run::To(next) = id_run(s, start, n) else {
-        return ListRead::Refused(CUT_SHORT, start);
+    let (length, start) = wire::read_length(s, at)?;
+    match length {
+        Length::Null => Ok((None, start)),
+        Length::Of(n) => Ok((Some(n), start)),
+        Length::Negative => Err(Reason::BadLength.at(at)),
+    }
+}
+
+fn id_list(s: &[u8], at: usize) -> Read<Option<usize>>
+    ensures { answer result ≡ id_list_at s.now at }
+{
+    let (count, start) = count_at(s, at)?;
+    let Some(n) = count else {
+        return Ok((None, start));
     };
-    ListRead::Is(ListCount::Of(n), next)
+    let next = id_run(s, start, n)?;
+    Ok((Some(n), next))
 }
 
-fn id_list(s: &[u8], at: usize) -> ListRead
-    ensures { answer_list result ≡ id_list_at s.now at }
+fn string_list(s: &[u8], at: usize) -> Read<Option<usize>>
+    ensures { answer result ≡ string_list_at s.now at }
 {
-    match wire::read_length(s, at) {
-        ItemLength::Null(next) => ListRead::Is(ListCount::Null, next),
-        ItemLength::Of(start, n) => ids_of(s, n, start),
-        ItemLength::Negative(_) => ListRead::Refused(BAD_LENGTH, at),
-        ItemLength::Short => ListRead::Refused(CUT_SHORT, at),
-    }
-}
-
-fn strings_of(s: &[u8], n: usize, start: usize) -> ListRead
-    ensures { answer_list result ≡ listed_strings n s.now start }
-{
-    match strings_at(s, start, n) {
-        Reached::To(next) => ListRead::Is(ListCount::Of(n), next),
-        Reached::Refused(number, place) => ListRead::Refused(number, place),
-    }
-}
-
-fn string_list(s: &[u8], at: usize) -> ListRead
-    ensures { answer_list result ≡ string_list_at s.now at }
-{
-    match wire::read_length(s, at) {
-        ItemLength::Null(next) => ListRead::Is(ListCount::Null, next),
-        ItemLength::Of(start, n) => strings_of(s, n, start),
-        ItemLength::Negative(_) => ListRead::Refused(BAD_LENGTH, at),
-        ItemLength::Short => ListRead::Refused(CUT_SHORT, at),
-    }
-}
-
-fn meta_data(s: &[u8], at: usize) -> ProbeRead
-    ensures { answer_probe result ≡ meta_data_at s.now at }
-{
-    match id_list(s, at) {
-        ListRead::Is(list, next) => ProbeRead::Is(Probe::MetaData(list), next),
-        ListRead::Refused(number, place) => ProbeRead::Refused(number, place),
-    }
-}
-
-fn writers(s: &[u8], at: usize) -> ProbeRead
-    ensures { answer_probe result ≡ writers_at s.now at }
-{
-    match id_list(s, at) {
-        ListRead::Is(list, next) => ProbeRead::Is(Probe::Writers(list), next),
-        ListRead::Refused(number, place) => ProbeRead::Refused(number, place),
-    }
-}
-
-fn group(s: &[u8], at: usize) -> ProbeRead
-    ensures { answer_probe result ≡ group_probe_at s.now at }
-{
-    let Item16::Is(id, include_at) = wire::read16(s, at) else {
-        return ProbeRead::Refused(CUT_SHORT, at);
+    let (count, start) = count_at(s, at)?;
+    let Some(n) = count else {
+        return Ok((None, start));
     };
-    let Item8::Is(include, next) = wire::read8(s, include_at) else {
-        return ProbeRead::Refused(CUT_SHORT, include_at);
-    };
-    ProbeRead::Is(Probe::Group(id, include), next)
+    let next = strings_at(s, start, n)?;
+    Ok((Some(n), next))
 }
 
-// What stands behind the names of connections.
-fn includes(s: &[u8], list: ListCount, at: usize) -> ProbeRead
-    ensures { answer_probe result ≡ includes_at list s.now at }
+fn group(s: &[u8], at: usize) -> Read<Probe>
+    ensures { answer result ≡ group_probe_at s.now at }
 {
-    let Item8::Is(groups, writers_at) = wire::read8(s, at) else {
-        return ProbeRead::Refused(CUT_SHORT, at);
-    };
-    let Item8::Is(include, next) = wire::read8(s, writers_at) else {
-        return ProbeRead::Refused(CUT_SHORT, writers_at);
-    };
-    ProbeRead::Is(Probe::Connections(list, groups, include), next)
+    let (id, include_at) = u16::read(s, at)?;
+    let (include, next) = u8::read(s, include_at)?;
+    Ok((Probe::Group(id, include), next))
 }
 
-fn connections(s: &[u8], at: usize) -> ProbeRead
-    ensures { answer_probe result ≡ connections_at s.now at }
+// The names of connections, and what stands behind them.
+fn connections(s: &[u8], at: usize) -> Read<Probe>
+    ensures { answer result ≡ connections_at s.now at }
 {
-    match string_list(s, at) {
-        ListRead::Is(list, next) => includes(s, list, next),
-        ListRead::Refused(number, place) => ProbeRead::Refused(number, place),
-    }
+    let (list, groups_at) = string_list(s, at)?;
+    let (groups, writers_at) = u8::read(s, groups_at)?;
+    let (include, next) = u8::read(s, writers_at)?;
+    Ok((Probe::Connections(list, groups, include), next))
 }
 
 // What follows an InformationType.
-fn probe_of(s: &[u8], t: u8, at: usize) -> ProbeRead
-    ensures { answer_probe result ≡ probe_of t s.now at }
+fn probe_of(s: &[u8], t: u8, at: usize) -> Read<Probe>
+    ensures { answer result ≡ probe_of t s.now at }
 {
-    if t == 2 {
-        return meta_data(s, at);
+    match t {
+        2 => {
+            let (list, next) = id_list(s, at)?;
+            Ok((Probe::MetaData(list), next))
+        }
+        3 => {
+            let (list, next) = id_list(s, at)?;
+            Ok((Probe::Writers(list), next))
+        }
+        4 => group(s, at),
+        _ => connections(s, at),
     }
-    if t == 3 {
-        return writers(s, at);
-    }
-    if t == 4 {
-        return group(s, at);
-    }
-    connections(s, at)
 }
 
 // What follows the ProbeType.
-fn information(s: &[u8], at: usize) -> ProbeRead
-    ensures { answer_probe result ≡ information_at s.now at }
+fn information(s: &[u8], at: usize) -> Read<Probe>
+    ensures { answer result ≡ information_at s.now at }
 {
-    let Item8::Is(t, next) = wire::read8(s, at) else {
-        return ProbeRead::Refused(CUT_SHORT, at);
-    };
-    let number = information_rule(t);
-    if number != 0 {
-        return ProbeRead::Refused(number, at);
-    }
+    let (t, next) = u8::read(s, at)?;
+    information_rule(t).map_err(|reason| reason.at(at))?;
     probe_of(s, t, next)
 }
 
 // A probe that starts at a position.
-fn read_probe(s: &[u8], at: usize) -> ProbeRead
-    ensures { answer_probe result ≡ probe_at s.now at }
+#[tactic(auto, unfolding(crate::specs::Body::probe_at))]
+fn read_probe(s: &[u8], at: usize) -> Read<Probe>
+    ensures { answer result ≡ probe_at s.now at }
 {
-    let Item8::Is(t, next) = wire::read8(s, at) else {
-        return ProbeRead::Refused(CUT_SHORT, at);
-    };
-    let number = probe_type_rule(t);
-    if number != 0 {
-        return ProbeRead::Refused(number, at);
-    }
+    let (t, next) = u8::read(s, at)?;
+    probe_type_rule(t).map_err(|reason| reason.at(at))?;
     information(s, next)
 }
 
 // A probe from a position to the slice's end: anything behind it is 7.
-pub fn read_body(s: &[u8], at: usize) -> ProbeRead
-    ensures { answer_probe result ≡ probe_body_at s.now at }
+pub fn read_body(s: &[u8], at: usize) -> Read<Probe>
+    ensures { answer result ≡ probe_body_at s.now at }
 {
-    match read_probe(s, at) {
-        ProbeRead::Refused(number, place) => ProbeRead::Refused(number, place),
-        ProbeRead::Is(p, next) => {
-            if next != s.len() {
-                return ProbeRead::Refused(LEFT_OVER, next);
-            }
-            ProbeRead::Is(p, next)
-        }
+    let (p, next) = read_probe(s, at)?;
+    if next != s.len() {
+        return Err(Reason::LeftOver.at(next));
     }
+    Ok((p, next))
 }

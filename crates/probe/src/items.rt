@@ -1,13 +1,17 @@
 // The ids and strings that a probe lists, one after the other.
-ghost use Rattle.std.specs.Prelude.{◌≡◌};
-ghost use Rattle.probe.specs.Items.{count_in, item_count, id_item_at, text_bytes_at, text_item_at, item_of, item_step_at, answer_item, answer_item_step};
+ghost use Rattle.std.specs.Prelude.{◌≡◌, []};
+ghost use Rattle.wire.specs.Answer.{got};
+ghost use Rattle.wire.specs.Refusal.{answer};
+ghost use Rattle.probe.specs.Items.{item_count, id_item_at, text_bytes_at, text_item_at, item_of, item_step_at, null_item_at, answer_item_step};
 
-use crate::body::{ListCount, Probe};
-use wire::constants::{BAD_LENGTH, CUT_SHORT, OVER_LIMIT};
-use wire::{Item16, ItemLength, Run};
+use crate::body::Probe;
+use wire::Length;
+use wire::item::Item;
+use wire::refusal::{Read, Reason, Refusal};
 
 // An id or a string of a probe: its number from 0, and where its bytes stand; an id's value, and whether a string is null.
-#[derive(Clone, Copy)]
+// They stand side by side, as the C interface's record has them.
+#[derive(Clone, Copy, PartialEq, Eq, Debug)]
 pub struct ProbeItem {
     pub index: usize,
     pub offset: usize,
@@ -16,34 +20,11 @@ pub struct ProbeItem {
     pub null: bool,
 }
 
-// An item with the position after it, or a refusal with its number and place.
-#[derive(Clone, Copy)]
-pub enum ItemRead {
-    Is(ProbeItem, usize),
-    Refused(u8, usize),
-}
-
 // A cursor over the items: the number of the next one, and where it starts.
-#[derive(Clone, Copy)]
+#[derive(Clone, Copy, PartialEq, Eq, Debug)]
 pub struct ProbeCursor {
     pub index: usize,
     pub at: usize,
-}
-
-// An item with the cursor after it, or a refusal with its number and place.
-#[derive(Clone, Copy)]
-pub enum ItemStep {
-    Is(ProbeItem, ProbeCursor),
-    Refused(u8, usize),
-}
-
-fn count_in(list: ListCount) -> usize
-    ensures { result ≡ count_in list }
-{
-    match list {
-        ListCount::Null => 0,
-        ListCount::Of(n) => n,
-    }
 }
 
 // How many ids or strings a probe lists.
@@ -51,102 +32,93 @@ pub fn item_count(p: Probe) -> usize
     ensures { result ≡ item_count p }
 {
     match p {
-        Probe::MetaData(list) => count_in(list),
-        Probe::Writers(list) => count_in(list),
+        Probe::MetaData(list) | Probe::Writers(list) | Probe::Connections(list, _, _) => {
+            list.unwrap_or(0)
+        }
         Probe::Group(_, _) => 0,
-        Probe::Connections(list, _, _) => count_in(list),
     }
 }
 
 // The id k, which stands at a position.
-fn id_item(s: &[u8], k: usize, at: usize) -> ItemRead
-    ensures { answer_item result ≡ id_item_at k s.now at }
+fn id_item(s: &[u8], k: usize, at: usize) -> Read<ProbeItem>
+    ensures { answer result ≡ id_item_at k s.now at }
 {
-    let Item16::Is(id, next) = wire::read16(s, at) else {
-        return ItemRead::Refused(CUT_SHORT, at);
+    let (id, next) = u16::read(s, at)?;
+    let item = ProbeItem {
+        index: k,
+        offset: at,
+        length: 2,
+        id,
+        null: false,
     };
-    ItemRead::Is(
-        ProbeItem {
-            index: k,
-            offset: at,
-            length: 2,
-            id,
-            null: false,
-        },
-        next,
-    )
+    Ok((item, next))
 }
 
 // The n bytes of string k.
-fn text_of(s: &[u8], k: usize, n: usize, start: usize) -> ItemRead
-    ensures { answer_item result ≡ text_bytes_at k n s.now start }
+fn text_of(s: &[u8], k: usize, n: usize, start: usize) -> Read<ProbeItem>
+    ensures { answer result ≡ text_bytes_at k n s.now start }
 {
-    let Run::To(next) = wire::skip(s, start, n) else {
-        return ItemRead::Refused(CUT_SHORT, start);
+    let next = wire::skip(s, start, n)?;
+    let item = ProbeItem {
+        index: k,
+        offset: start,
+        length: n,
+        id: 0,
+        null: false,
     };
-    ItemRead::Is(
-        ProbeItem {
-            index: k,
-            offset: start,
-            length: n,
-            id: 0,
-            null: false,
-        },
-        next,
-    )
+    Ok((item, next))
+}
+
+// String k where its length is null, which ends at a position.
+fn null_item(k: usize, at: usize) -> ProbeItem
+    ensures { got result at ≡ null_item_at k [] at }
+{
+    ProbeItem {
+        index: k,
+        offset: at,
+        length: 0,
+        id: 0,
+        null: true,
+    }
 }
 
 // String k, whose length stands at a position.
-fn text_item(s: &[u8], k: usize, at: usize) -> ItemRead
-    ensures { answer_item result ≡ text_item_at k s.now at }
+fn text_item(s: &[u8], k: usize, at: usize) -> Read<ProbeItem>
+    ensures { answer result ≡ text_item_at k s.now at }
 {
-    match wire::read_length(s, at) {
-        ItemLength::Null(next) => ItemRead::Is(
-            ProbeItem {
-                index: k,
-                offset: next,
-                length: 0,
-                id: 0,
-                null: true,
-            },
-            next,
-        ),
-        ItemLength::Of(start, n) => text_of(s, k, n, start),
-        ItemLength::Negative(_) => ItemRead::Refused(BAD_LENGTH, at),
-        ItemLength::Short => ItemRead::Refused(CUT_SHORT, at),
+    let (length, start) = wire::read_length(s, at)?;
+    match length {
+        Length::Null => Ok((null_item(k, start), start)),
+        Length::Of(n) => text_of(s, k, n, start),
+        Length::Negative => Err(Reason::BadLength.at(at)),
     }
 }
 
 // Item k of a probe, which stands at a position.
-fn item_of(s: &[u8], p: Probe, k: usize, at: usize) -> ItemRead
-    ensures { answer_item result ≡ item_of p k s.now at }
+fn item_of(s: &[u8], p: Probe, k: usize, at: usize) -> Read<ProbeItem>
+    ensures { answer result ≡ item_of p k s.now at }
 {
     match p {
-        Probe::MetaData(_) => id_item(s, k, at),
-        Probe::Writers(_) => id_item(s, k, at),
-        Probe::Group(_, _) => ItemRead::Refused(OVER_LIMIT, 0),
+        Probe::MetaData(_) | Probe::Writers(_) => id_item(s, k, at),
+        Probe::Group(_, _) => Err(Reason::OverLimit.at(0)),
         Probe::Connections(_, _, _) => text_item(s, k, at),
     }
 }
 
 impl ProbeCursor {
     // The item that the cursor stands before, and the cursor before the next one. Probe and cursor may be made up.
-    pub fn step(self, s: &[u8], p: Probe) -> ItemStep
+    pub fn step(self, s: &[u8], p: Probe) -> Result<(ProbeItem, ProbeCursor), Refusal>
         ensures { answer_item_step result ≡ item_step_at p self s.now }
     {
         let k = self.index;
         if item_count(p) <= k {
-            return ItemStep::Refused(OVER_LIMIT, 0);
+            return Err(Reason::OverLimit.at(0));
         }
-        match item_of(s, p, k, self.at) {
-            ItemRead::Refused(number, place) => ItemStep::Refused(number, place),
-            ItemRead::Is(item, next) => ItemStep::Is(
-                item,
-                ProbeCursor {
-                    index: k + 1,
-                    at: next,
-                },
-            ),
-        }
+        let (item, next) = item_of(s, p, k, self.at)?;
+        let cursor = ProbeCursor {
+            index: k + 1,
+            at: next,
+        };
+        Ok((item, cursor))
     }
 }

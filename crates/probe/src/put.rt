@@ -1,15 +1,15 @@
 // A probe's body written from its parts: ids and strings are given as they are to stand.
 ghost use Rattle.std.specs.Prelude.{◌≡◌, ◌++◌, length};
 ghost use Rattle.wire.specs.Number.{le_bytes};
+ghost use Rattle.wire.specs.Refusal.{rule_number};
 ghost use Rattle.wire_writer.specs.Writing.{Puts, Writes};
 ghost use Rattle.probe.specs.Put.{FitsProbe, information_of, ids_rule, id_list_rule, strings_rule, string_list_rule, probe_body_refusal, probe_head_bytes, list_count_bytes, parts_bytes, probe_bytes, probe_output};
 
-use crate::body::{ListCount, Probe};
+use crate::body::Probe;
 use plain_value::plain::strings_at;
-use wire::Reached;
-use wire::constants::DISAGREE;
-use wire_writer::store::{put_run, put8, put16, put32};
-use wire_writer::writing::{Written, room_refusal, six_unless};
+use wire::refusal::Reason;
+use wire_writer::store::{Store, put_run};
+use wire_writer::writing::{agreement_rule, room_rule};
 
 // The ProbeType of the Publisher information probe.
 const INFORMATION_PROBE: u8 = 1;
@@ -32,57 +32,52 @@ pub fn information_of(p: Probe) -> u8
     }
 }
 
-// 6 unless n ids of 2 bytes have so many bytes, and their number is an Int32.
-fn ids_rule(n: usize, len: usize) -> u8
-    ensures { result ≡ ids_rule n len }
+// Refuses n ids of 2 bytes unless they have so many bytes, and their number is an Int32.
+fn ids_rule(n: usize, len: usize) -> Result<(), Reason>
+    ensures { rule_number result ≡ ids_rule n len }
 {
     if COUNT_END <= n {
-        return DISAGREE;
+        return Err(Reason::Disagree);
     }
-    six_unless(len == 2 * n)
+    agreement_rule(len == 2 * n)
 }
 
-fn id_list_rule(list: ListCount, len: usize) -> u8
-    ensures { result ≡ id_list_rule list len }
+fn id_list_rule(list: Option<usize>, len: usize) -> Result<(), Reason>
+    ensures { rule_number result ≡ id_list_rule list len }
 {
     match list {
-        ListCount::Null => six_unless(len == 0),
-        ListCount::Of(n) => ids_rule(n, len),
+        None => agreement_rule(len == 0),
+        Some(n) => ids_rule(n, len),
     }
 }
 
-// The number by which reading refuses n strings of a list alone; then 6 unless they are all of it, and their number is an Int32.
-fn strings_rule(n: usize, bytes: &[u8]) -> u8
-    ensures { result ≡ strings_rule n bytes.now }
+// Refuses n strings of a list alone as reading does; then unless they are all of it, and their number is an Int32.
+fn strings_rule(n: usize, bytes: &[u8]) -> Result<(), Reason>
+    ensures { rule_number result ≡ strings_rule n bytes.now }
 {
-    match strings_at(bytes, 0, n) {
-        Reached::Refused(number, _) => number,
-        Reached::To(end) => {
-            if COUNT_END <= n {
-                return DISAGREE;
-            }
-            six_unless(end == bytes.len())
-        }
+    let end = strings_at(bytes, 0, n).map_err(|refusal| refusal.reason)?;
+    if COUNT_END <= n {
+        return Err(Reason::Disagree);
     }
+    agreement_rule(end == bytes.len())
 }
 
-fn string_list_rule(list: ListCount, bytes: &[u8]) -> u8
-    ensures { result ≡ string_list_rule list bytes.now }
+fn string_list_rule(list: Option<usize>, bytes: &[u8]) -> Result<(), Reason>
+    ensures { rule_number result ≡ string_list_rule list bytes.now }
 {
     match list {
-        ListCount::Null => six_unless(bytes.len() == 0),
-        ListCount::Of(n) => strings_rule(n, bytes),
+        None => agreement_rule(bytes.len() == 0),
+        Some(n) => strings_rule(n, bytes),
     }
 }
 
-// The number by which `write` refuses a probe with these ids or strings before it looks at the room, or 0.
-pub fn refusal(p: Probe, bytes: &[u8]) -> u8
-    ensures { result ≡ probe_body_refusal bytes.now p }
+// Refuses a probe with these ids or strings, as `write` does before it looks at the room.
+pub fn refusal(p: Probe, bytes: &[u8]) -> Result<(), Reason>
+    ensures { rule_number result ≡ probe_body_refusal bytes.now p }
 {
     match p {
-        Probe::MetaData(list) => id_list_rule(list, bytes.len()),
-        Probe::Writers(list) => id_list_rule(list, bytes.len()),
-        Probe::Group(_, _) => six_unless(bytes.len() == 0),
+        Probe::MetaData(list) | Probe::Writers(list) => id_list_rule(list, bytes.len()),
+        Probe::Group(_, _) => agreement_rule(bytes.len() == 0),
         Probe::Connections(list, _, _) => string_list_rule(list, bytes),
     }
 }
@@ -92,23 +87,22 @@ fn body_size(p: Probe, bytes: &[u8]) -> usize
     ensures { result ≡ length (probe_bytes bytes.now p) }
 {
     match p {
-        Probe::MetaData(_) => 6 + bytes.len(),
-        Probe::Writers(_) => 6 + bytes.len(),
+        Probe::MetaData(_) | Probe::Writers(_) => 6 + bytes.len(),
         Probe::Group(_, _) => 5,
         Probe::Connections(_, _, _) => 8 + bytes.len(),
     }
 }
 
-fn put_count(out: &mut [u8], at: usize, list: ListCount) -> usize
+fn put_count(out: &mut [u8], at: usize, list: Option<usize>) -> usize
     ensures { Puts (list_count_bytes list) out.old at out.new result }
 {
     match list {
-        ListCount::Null => put32(out, at, NULL_COUNT),
-        ListCount::Of(n) => put32(out, at, (n % 4294967296) as u32),
+        None => NULL_COUNT.put(out, at),
+        Some(n) => ((n % 4294967296) as u32).put(out, at),
     }
 }
 
-fn put_list(out: &mut [u8], at: usize, list: ListCount, bytes: &[u8]) -> usize
+fn put_list(out: &mut [u8], at: usize, list: Option<usize>, bytes: &[u8]) -> usize
     ensures { Puts (list_count_bytes list ++ bytes.now) out.old at out.new result }
 {
     let start = put_count(out, at, list);
@@ -118,14 +112,14 @@ fn put_list(out: &mut [u8], at: usize, list: ListCount, bytes: &[u8]) -> usize
 fn put_group(out: &mut [u8], at: usize, id: u16, include: u8) -> usize
     ensures { Puts (le_bytes 2 id ++ le_bytes 1 include) out.old at out.new result }
 {
-    let next = put16(out, at, id);
-    put8(out, next, include)
+    let next = id.put(out, at);
+    include.put(out, next)
 }
 
 fn put_connections(
     out: &mut [u8],
     at: usize,
-    list: ListCount,
+    list: Option<usize>,
     groups: u8,
     include: u8,
     bytes: &[u8],
@@ -135,8 +129,8 @@ fn put_connections(
 {
     let start = put_count(out, at, list);
     let groups_at = put_run(out, start, bytes);
-    let include_at = put8(out, groups_at, groups);
-    put8(out, include_at, include)
+    let include_at = groups.put(out, groups_at);
+    include.put(out, include_at)
 }
 
 // Stores what follows the InformationType.
@@ -144,8 +138,7 @@ fn put_parts(out: &mut [u8], at: usize, p: Probe, bytes: &[u8]) -> usize
     ensures { Puts (parts_bytes bytes.now p) out.old at out.new result }
 {
     match p {
-        Probe::MetaData(list) => put_list(out, at, list, bytes),
-        Probe::Writers(list) => put_list(out, at, list, bytes),
+        Probe::MetaData(list) | Probe::Writers(list) => put_list(out, at, list, bytes),
         Probe::Group(id, include) => put_group(out, at, id, include),
         Probe::Connections(list, groups, include) => {
             put_connections(out, at, list, groups, include, bytes)
@@ -157,24 +150,18 @@ fn put_parts(out: &mut [u8], at: usize, p: Probe, bytes: &[u8]) -> usize
 fn put_head(out: &mut [u8], p: Probe) -> usize
     ensures { Puts (probe_head_bytes p) out.old 0 out.new result }
 {
-    let at = put8(out, 0, INFORMATION_PROBE);
-    put8(out, at, information_of(p))
+    let at = INFORMATION_PROBE.put(out, 0);
+    information_of(p).put(out, at)
 }
 
 // Writes a probe's body from the start of a buffer: `bytes` has its ids, 2 bytes each, or its strings, each with its length of 4 bytes.
-pub fn write(out: &mut [u8], p: Probe, bytes: &[u8]) -> Written
+pub fn write(out: &mut [u8], p: Probe, bytes: &[u8]) -> Result<usize, Reason>
     ensures { FitsProbe p × Writes (probe_output bytes.now p) out.old out.new result }
 {
-    let number = refusal(p, bytes);
-    if number != 0 {
-        return Written::Refused(number);
-    }
+    refusal(p, bytes)?;
     let size = body_size(p, bytes);
-    let full = room_refusal(size, out.len());
-    if full != 0 {
-        return Written::Refused(full);
-    }
+    room_rule(size, out.len())?;
     let at = put_head(out, p);
     put_parts(out, at, p, bytes);
-    Written::Is(size)
+    Ok(size)
 }

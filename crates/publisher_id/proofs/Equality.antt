@@ -1,7 +1,9 @@
 -- The test of two publishers decides their equality, and one law for each way out of it.
 -- Assumes nothing.
 use Prim.Native.Nat.{ℕ}
-use mathlib.Core.Path.{◌≡◌, refl, ◌∙◌}
+use Rattle.std.specs.Cmp.Lexicographic.{pointwise}
+use Rattle.std.specs.Prelude.{nat_eq}
+use mathlib.Core.Path.{◌≡◌, refl, ap, ◌∙◌}
 use mathlib.Core.Bool.{Bool, true, false, ◌&&◌, false≢true}
 use mathlib.Core.List.{List, [], ◌∷◌}
 use lib.Dec.{eqb}
@@ -10,6 +12,14 @@ use Rattle.publisher_id.specs.PublisherRecord.{Publisher, code_of, id_number_of,
 use Rattle.publisher_id.specs.declared.publisher.PublisherId.{PublisherId}
 use Rattle.publisher_id.specs.declared.publisher_record.PublisherRecord.{PublisherRecord}
 use Rattle.wire.proofs.Facts.{and_left, and_right}
+
+-- what the library's equality of slices says
+pub same_text_is : (a b : List ℕ) → pointwise nat_eq a b ≡ same_text a b
+unfolding same_text
+same_text_is [] [] = refl
+same_text_is [] (y ∷ ys) = refl
+same_text_is (x ∷ xs) [] = refl
+same_text_is (x ∷ xs) (y ∷ ys) = ap (λ (b : Bool). eqb x y && b) (same_text_is xs ys)
 
 same_text_true : (a b : List ℕ) → same_text a b ≡ true → a ≡ b
 unfolding same_text
@@ -25,16 +35,6 @@ same_text_refl : (a : List ℕ) → same_text a a ≡ true
 unfolding same_text
 same_text_refl [] = refl
 same_text_refl (x ∷ xs) = rw (eq-eqb x x refl) (same_text_refl xs)
-
-pub same_text_no : (a b : List ℕ) → (a ≡ b → ⊥) → same_text a b ≡ false
-same_text_no a b ne = go (same_text a b) refl
-  where
-    go : (t : Bool) → same_text a b ≡ t → same_text a b ≡ false
-    go true e = absurd (ne (same_text_true a b e))
-    go false e = e
-
-pub same_text_yes : (a b : List ℕ) → a ≡ b → same_text a b ≡ true
-same_text_yes a b e = rw e (same_text_refl b)
 
 pub same_publisher_true : (a b : Publisher) → same_publisher a b ≡ true → a ≡ b
 unfolding same_publisher
@@ -78,7 +78,3 @@ pub same_publisher_plain : (a b : PublisherRecord) → code_of a.id ≡ code_of 
 same_publisher_plain a b e f ne =
     same_publisher_text (publisher_of a) (publisher_of b) e f
     ∙ rw (no_text a.id ne, no_text b.id (λ h. ne (e ∙ h))) (same_text_refl [])
-
--- two records of one id with the same text
-pub record_is : (id : PublisherId) {t u : List ℕ} → t ≡ u → ◌≡◌ {A = PublisherRecord} (record { id = id; text = t }) (record { id = id; text = u })
-record_is id e = λ i. record { id = id; text = e i }

@@ -1,11 +1,10 @@
 -- The PublisherId (document 01, "The envelope").
 use Rattle.std.specs.Prelude.{ℕ, ◌-◌, ◌<◌, Bool, cond, true, false, ltb, eqb, List, [], ◌++◌, length, take, drop}
 use Rattle.wire.specs.Constants.{BAD_LENGTH, DISAGREE, MOST_TEXT_ID, NOT_PERMITTED, OVER_LIMIT}
-use Rattle.wire.specs.Answer.{Answer, got, refused, Reader, item, run, refuse, when_on, pure, and_then, ◌>>=◌}
+use Rattle.wire.specs.Answer.{refused, Reader, item, run, refuse, when_on, pure, and_then, ◌>>=◌}
 use Rattle.wire.specs.Items.{length_item}
 use Rattle.wire.specs.declared.Length.{Length}
 use Rattle.publisher_id.specs.declared.publisher.PublisherId.{PublisherId}
-use Rattle.publisher_id.specs.declared.publisher.PublisherRead.{PublisherRead}
 use Rattle.wire.specs.Number.{le_bytes}
 use Rattle.wire_writer.specs.Writing.{unused}
 
@@ -38,10 +37,6 @@ publisher_of kind =
 
 abbrev pub publisher_at : Bool → ℕ → Reader PublisherId
 publisher_at on kind = when_on on PublisherId.Absent (publisher_of kind)
-
-abbrev pub answer_publisher : PublisherRead → Answer PublisherId
-answer_publisher (PublisherRead.Is v next) = got v next
-answer_publisher (PublisherRead.Refused n place) = refused n place
 
 abbrev pub publisher_on : PublisherId → Bool
 publisher_on PublisherId.Absent = false

@@ -1,17 +1,21 @@
 // The PublisherId.
 ghost use Rattle.std.specs.Prelude.{◌≡◌, cond, ◌++◌, ◌+◌, ◌≤◌, length};
-ghost use Rattle.publisher_id.specs.Publisher.{text_too_long, string_of, string_at, publisher_at, answer_publisher, publisher_on, id_type_of, publisher_bytes, publisher_refusal, publisher_shape};
+ghost use Rattle.publisher_id.specs.Publisher.{text_too_long, string_of, string_at, publisher_at, publisher_on, id_type_of, publisher_bytes, publisher_refusal, publisher_shape};
 ghost use Rattle.wire.specs.Number.{le_bytes};
 ghost use Rattle.wire_writer.specs.Store.{Stored};
 ghost use Rattle.wire.specs.Constants.{OVER_LIMIT};
+ghost use Rattle.wire.specs.Refusal.{answer, rule_number};
 
-use wire::constants::{BAD_LENGTH, CUT_SHORT, MOST_TEXT_ID, NOT_PERMITTED, OVER_LIMIT};
-use wire::{Item8, Item16, Item32, Item64, ItemLength, Run, has};
-use wire_writer::store::{put_run, put8, put16, put32, put64};
-use wire_writer::writing::six_unless;
+use wire::constants::MOST_TEXT_ID;
+use wire::item::Item;
+use wire::refusal::{Read, Reason};
+use wire::{Length, has};
+use wire_writer::store::{Store, put_run};
+use wire_writer::writing::agreement_rule;
 
-// A PublisherId. Of a string, its length: its bytes end where the part ends.
-#[derive(Clone, Copy)]
+// A PublisherId. Of a string, its length: its bytes end where the part ends. Absent is one of the types, as `code` numbers them for records
+// of the C interface, so it is no Option around the others.
+#[derive(Clone, Copy, PartialEq, Eq, Debug)]
 pub enum PublisherId {
     Absent,
     Byte(u8),
@@ -19,13 +23,6 @@ pub enum PublisherId {
     UInt32(u32),
     UInt64(u64),
     Text(usize),
-}
-
-// A PublisherId with the position after it, or a refusal with its number and place.
-#[derive(Clone, Copy)]
-pub enum PublisherRead {
-    Is(PublisherId, usize),
-    Refused(u8, usize),
 }
 
 // Whether a string id of n bytes is longer than document 01 permits.
@@ -36,78 +33,61 @@ pub fn text_too_long(n: usize) -> bool
 }
 
 // The n bytes of a string.
-fn string_of(s: &[u8], n: usize, start: usize) -> PublisherRead
-    ensures { answer_publisher result ≡ string_of n s.now start }
+fn string_of(s: &[u8], n: usize, start: usize) -> Read<PublisherId>
+    ensures { answer result ≡ string_of n s.now start }
 {
     if text_too_long(n) {
-        return PublisherRead::Refused(OVER_LIMIT, 0);
+        return Err(Reason::OverLimit.at(0));
     }
-    let Run::To(next) = wire::skip(s, start, n) else {
-        return PublisherRead::Refused(CUT_SHORT, start);
-    };
-    PublisherRead::Is(PublisherId::Text(n), next)
+    let next = wire::skip(s, start, n)?;
+    Ok((PublisherId::Text(n), next))
 }
 
-fn string_id(s: &[u8], at: usize) -> PublisherRead
-    ensures { answer_publisher result ≡ string_at s.now at }
+fn string_id(s: &[u8], at: usize) -> Read<PublisherId>
+    ensures { answer result ≡ string_at s.now at }
 {
-    match wire::read_length(s, at) {
-        ItemLength::Null(_) => PublisherRead::Refused(BAD_LENGTH, at),
-        ItemLength::Of(start, n) => string_of(s, n, start),
-        ItemLength::Negative(_) => PublisherRead::Refused(BAD_LENGTH, at),
-        ItemLength::Short => PublisherRead::Refused(CUT_SHORT, at),
+    let (length, start) = wire::read_length(s, at)?;
+    match length {
+        Length::Of(n) => string_of(s, n, start),
+        Length::Null => Err(Reason::BadLength.at(at)),
+        Length::Negative => Err(Reason::BadLength.at(at)),
     }
 }
 
 // Reads the PublisherId of a type, where the flags announce one; a number that is no type is 3.
-pub fn read_publisher(s: &[u8], on: bool, kind: u8, at: usize) -> PublisherRead
-    ensures { answer_publisher result ≡ publisher_at on kind s.now at }
+pub fn read_publisher(s: &[u8], on: bool, kind: u8, at: usize) -> Read<PublisherId>
+    ensures { answer result ≡ publisher_at on kind s.now at }
 {
     if !on {
-        return PublisherRead::Is(PublisherId::Absent, at);
+        return Ok((PublisherId::Absent, at));
     }
-    if kind == 0 {
-        let Item8::Is(v, next) = wire::read8(s, at) else {
-            return PublisherRead::Refused(CUT_SHORT, at);
-        };
-        return PublisherRead::Is(PublisherId::Byte(v), next);
+    match kind {
+        0 => {
+            let (v, next) = u8::read(s, at)?;
+            Ok((PublisherId::Byte(v), next))
+        }
+        1 => {
+            let (v, next) = u16::read(s, at)?;
+            Ok((PublisherId::UInt16(v), next))
+        }
+        2 => {
+            let (v, next) = u32::read(s, at)?;
+            Ok((PublisherId::UInt32(v), next))
+        }
+        3 => {
+            let (v, next) = u64::read(s, at)?;
+            Ok((PublisherId::UInt64(v), next))
+        }
+        4 => string_id(s, at),
+        _ => Err(Reason::NotPermitted.at(at)),
     }
-    if kind == 1 {
-        let Item16::Is(v, next) = wire::read16(s, at) else {
-            return PublisherRead::Refused(CUT_SHORT, at);
-        };
-        return PublisherRead::Is(PublisherId::UInt16(v), next);
-    }
-    if kind == 2 {
-        let Item32::Is(v, next) = wire::read32(s, at) else {
-            return PublisherRead::Refused(CUT_SHORT, at);
-        };
-        return PublisherRead::Is(PublisherId::UInt32(v), next);
-    }
-    if kind == 3 {
-        let Item64::Is(v, next) = wire::read64(s, at) else {
-            return PublisherRead::Refused(CUT_SHORT, at);
-        };
-        return PublisherRead::Is(PublisherId::UInt64(v), next);
-    }
-    if kind == 4 {
-        return string_id(s, at);
-    }
-    PublisherRead::Refused(NOT_PERMITTED, at)
 }
 
 // Whether there is a PublisherId.
 pub fn publisher_on(p: PublisherId) -> bool
     ensures { result ≡ publisher_on p }
 {
-    match p {
-        PublisherId::Absent => false,
-        PublisherId::Byte(_) => true,
-        PublisherId::UInt16(_) => true,
-        PublisherId::UInt32(_) => true,
-        PublisherId::UInt64(_) => true,
-        PublisherId::Text(_) => true,
-    }
+    !matches!(p, PublisherId::Absent)
 }
 
 // The type of a PublisherId, as ExtendedFlags1 has it.
@@ -146,7 +126,7 @@ fn put_text(out: &mut [u8], at: usize, text: &[u8]) -> usize
     if !has(out.len(), at, 4 + n) {
         return at;
     }
-    let start = put32(out, at, (n % 4294967296) as u32);
+    let start = ((n % 4294967296) as u32).put(out, at);
     put_run(out, start, text)
 }
 
@@ -156,47 +136,39 @@ pub fn put_publisher(out: &mut [u8], at: usize, p: PublisherId, text: &[u8]) -> 
 {
     match p {
         PublisherId::Absent => at,
-        PublisherId::Byte(v) => put8(out, at, v),
-        PublisherId::UInt16(v) => put16(out, at, v),
-        PublisherId::UInt32(v) => put32(out, at, v),
-        PublisherId::UInt64(v) => put64(out, at, v),
+        PublisherId::Byte(v) => v.put(out, at),
+        PublisherId::UInt16(v) => v.put(out, at),
+        PublisherId::UInt32(v) => v.put(out, at),
+        PublisherId::UInt64(v) => v.put(out, at),
         PublisherId::Text(_) => put_text(out, at, text),
     }
 }
 
-fn text_refusal(n: usize) -> u8
-    ensures { result ≡ cond (text_too_long n) OVER_LIMIT 0 }
+fn text_refusal(n: usize) -> Result<(), Reason>
+    ensures { rule_number result ≡ cond (text_too_long n) OVER_LIMIT 0 }
 {
     if text_too_long(n) {
-        return OVER_LIMIT;
+        return Err(Reason::OverLimit);
     }
-    0
+    Ok(())
 }
 
-// The number by which reading refuses a PublisherId, a string with so many bytes of text, or 0.
-pub fn publisher_refusal(p: PublisherId, len: usize) -> u8
-    ensures { result ≡ publisher_refusal p len }
+// Refuses the PublisherId that reading refuses, a string with so many bytes of text.
+pub fn publisher_refusal(p: PublisherId, len: usize) -> Result<(), Reason>
+    ensures { rule_number result ≡ publisher_refusal p len }
 {
     match p {
-        PublisherId::Absent => 0,
-        PublisherId::Byte(_) => 0,
-        PublisherId::UInt16(_) => 0,
-        PublisherId::UInt32(_) => 0,
-        PublisherId::UInt64(_) => 0,
         PublisherId::Text(_) => text_refusal(len),
+        _ => Ok(()),
     }
 }
 
-// 6 where a text of this length is not the one that the PublisherId says, else 0.
-pub fn publisher_shape(p: PublisherId, len: usize) -> u8
-    ensures { result ≡ publisher_shape p len }
+// Refuses a text of another length than the PublisherId says.
+pub fn publisher_shape(p: PublisherId, len: usize) -> Result<(), Reason>
+    ensures { rule_number result ≡ publisher_shape p len }
 {
     match p {
-        PublisherId::Absent => six_unless(len == 0),
-        PublisherId::Byte(_) => six_unless(len == 0),
-        PublisherId::UInt16(_) => six_unless(len == 0),
-        PublisherId::UInt32(_) => six_unless(len == 0),
-        PublisherId::UInt64(_) => six_unless(len == 0),
-        PublisherId::Text(n) => six_unless(n == len),
+        PublisherId::Text(n) => agreement_rule(n == len),
+        _ => agreement_rule(len == 0),
     }
 }

@@ -1,14 +1,15 @@
 // A PublisherId by value with the bytes of a string, for records that outlive the datagram, and its equality.
 ghost use Rattle.std.specs.Prelude.{◌≡◌};
-ghost use Rattle.publisher_id.specs.PublisherRecord.{code_of, id_number_of, text_length_of, publisher_of, publisher_fits, same_text, same_publisher, lent_record, record_at};
+ghost use Rattle.publisher_id.specs.PublisherRecord.{code_of, id_number_of, text_length_of, publisher_of, publisher_fits, same_publisher, lent_record, record_at};
 
-use crate::publisher::{PublisherId, text_too_long};
+use crate::publisher::PublisherId;
 use wire::constants::MOST_TEXT_ID;
 use wire::part::part;
 use wire_writer::store::put_run;
 
-// Of a string the first bytes of text are its content, as many as the id says.
-#[derive(Clone, Copy)]
+// Of a string the first bytes of text are its content, as many as the id says. Its equality is `same_publisher`: a derived one would also
+// compare the bytes behind the text. The text is an array beside its length, since a record has a fixed size (no heap).
+#[derive(Clone, Copy, Debug)]
 pub struct PublisherRecord {
     pub id: PublisherId,
     pub text: [u8; MOST_TEXT_ID],
@@ -17,7 +18,8 @@ pub struct PublisherRecord {
 // The number of a string's type in records.
 const STRING: u64 = 5;
 
-// The number of an id's type in records: 0 absent, 1 Byte, 2 UInt16, 3 UInt32, 4 UInt64, 5 String.
+// The number of an id's type in records: 0 absent, 1 Byte, 2 UInt16, 3 UInt32, 4 UInt64, 5 String. A variant with data has no cast to a
+// number.
 pub fn code(id: PublisherId) -> u64
     ensures { result ≡ code_of id }
 {
@@ -48,50 +50,22 @@ fn text_length(id: PublisherId) -> usize
     ensures { result ≡ text_length_of id }
 {
     match id {
-        PublisherId::Absent => 0,
-        PublisherId::Byte(_) => 0,
-        PublisherId::UInt16(_) => 0,
-        PublisherId::UInt32(_) => 0,
-        PublisherId::UInt64(_) => 0,
         PublisherId::Text(n) => n,
+        _ => 0,
     }
-}
-
-// Whether two slices hold the same bytes.
-fn same_text(a: &[u8], b: &[u8]) -> bool
-    ensures { result ≡ same_text a.now b.now }
-{
-    if a.len() != b.len() {
-        return false;
-    }
-    let mut i = 0;
-    while i < a.len() {
-        if a[i] != b[i] {
-            return false;
-        }
-        i += 1;
-    }
-    true
 }
 
 // Whether two ids are equal: type and content, or both absent.
 pub fn same_publisher(a: PublisherRecord, b: PublisherRecord) -> bool
     ensures { result ≡ same_publisher (publisher_of a) (publisher_of b) }
 {
-    let first_id = a.id;
-    let second_id = b.id;
-    if code(first_id) != code(second_id) {
+    if code(a.id) != code(b.id) {
         return false;
     }
-    if value(first_id) != value(second_id) {
+    if value(a.id) != value(b.id) {
         return false;
     }
-    let first_text = a.text;
-    let second_text = b.text;
-    same_text(
-        part(&first_text, 0, text_length(first_id)),
-        part(&second_text, 0, text_length(second_id)),
-    )
+    part(&a.text, 0, text_length(a.id)) == part(&b.text, 0, text_length(b.id))
 }
 
 // Whether an id whose text is lent equals the id that ends at a position of a datagram. Only where both are strings is a text copied.
@@ -115,11 +89,11 @@ pub fn same_lent(id: PublisherId, text: &[u8], s: &[u8], other: PublisherId, end
 }
 
 // Whether a string id has at most 64 bytes; any other id passes.
+#[tactic(auto, unfolding(crate::specs::PublisherRecord::publisher_fits))]
 pub fn publisher_fits(p: PublisherRecord) -> bool
     ensures { result ≡ publisher_fits p }
 {
-    let id = p.id;
-    !text_too_long(text_length(id))
+    text_length(p.id) <= MOST_TEXT_ID
 }
 
 // The record of an id that ends at a position of a datagram.

@@ -3,36 +3,33 @@
 // Booleans' bytes; then each id or string as number, offset, length and the id, or `null`. `S` has a datagram, a number and a position:
 // the id or string that a cursor there steps over.
 use crate::network_messages::publisher;
-use network_message::probe_message::{ProbeMessageRead, read_probe};
-use probe::body::{ListCount, Probe};
-use probe::items::{ItemStep, ProbeCursor, ProbeItem, item_count};
+use crate::or_refused;
+use network_message::probe_message::read_probe;
+use probe::body::Probe;
+use probe::items::{ProbeCursor, ProbeItem, item_count};
 use probe::put::information_of;
 use vector_lines::lines::{decimal, letter};
-use vector_lines::print::{number, put, refused};
+use vector_lines::print::{number, put};
+use wire::refusal::Refusal;
 
 // Where ids and strings stand, behind ProbeType, InformationType and count.
 const BEHIND: usize = 6;
 
 // Shows a probe of one line of the input.
 pub fn vector(rt: &impl Print, line: &[u8], bytes: &[u8]) {
-    if letter(line) == b'S' {
-        return one_step(rt, bytes, decimal(line, 2), decimal(line, 3));
-    }
-    show(rt, bytes);
+    let shown = match letter(line) {
+        b'S' => one_step(rt, bytes, decimal(line, 2), decimal(line, 3)),
+        _ => show(rt, bytes),
+    };
+    or_refused(rt, shown);
 }
 
-fn show(rt: &impl Print, s: &[u8]) {
-    match read_probe(s, &[]) {
-        ProbeMessageRead::Refused(n, place) => {
-            refused(rt, n, place);
-        }
-        ProbeMessageRead::Is(envelope, places, p) => {
-            let id = envelope.publisher;
-            publisher(rt, id);
-            asked(rt, p);
-            items(rt, s, p, places.payload % 65536 + BEHIND);
-        }
-    }
+fn show(rt: &impl Print, s: &[u8]) -> Result<(), Refusal> {
+    let (envelope, places, p) = read_probe(s, &[])?;
+    publisher(rt, envelope.publisher);
+    asked(rt, p);
+    items(rt, s, p, places.payload % 65536 + BEHIND);
+    Ok(())
 }
 
 fn asked(rt: &impl Print, p: Probe) {
@@ -52,15 +49,11 @@ fn asked(rt: &impl Print, p: Probe) {
     }
 }
 
-fn count(rt: &impl Print, list: ListCount) {
+fn count(rt: &impl Print, list: Option<usize>) {
     match list {
-        ListCount::Null => {
-            put(rt, b" null");
-        }
-        ListCount::Of(n) => {
-            number(rt, n);
-        }
-    }
+        None => put(rt, b" null"),
+        Some(n) => number(rt, n),
+    };
 }
 
 fn items(rt: &impl Print, s: &[u8], p: Probe, first: usize) {
@@ -68,18 +61,13 @@ fn items(rt: &impl Print, s: &[u8], p: Probe, first: usize) {
         index: 0,
         at: first,
     };
-    let mut left = item_count(p);
-    while 0 < left {
-        match cursor.step(s, p) {
-            ItemStep::Refused(n, place) => {
-                refused(rt, n, place);
-            }
-            ItemStep::Is(x, next) => {
-                item(rt, x);
-                cursor = next;
-            }
+    for _ in 0..item_count(p) {
+        let step = cursor.step(s, p);
+        if let Ok((x, next)) = step {
+            item(rt, x);
+            cursor = next;
         }
-        left = left - 1;
+        or_refused(rt, step.map(|_| ()));
     }
 }
 
@@ -95,19 +83,10 @@ fn item(rt: &impl Print, x: ProbeItem) {
     }
 }
 
-fn one_step(rt: &impl Print, s: &[u8], index: usize, at: usize) {
-    match read_probe(s, &[]) {
-        ProbeMessageRead::Refused(n, place) => {
-            refused(rt, n, place);
-        }
-        ProbeMessageRead::Is(_, _, p) => {
-            let cursor = ProbeCursor { index, at };
-            match cursor.step(s, p) {
-                ItemStep::Refused(n, place) => {
-                    refused(rt, n, place);
-                }
-                ItemStep::Is(x, _) => item(rt, x),
-            }
-        }
-    }
+fn one_step(rt: &impl Print, s: &[u8], index: usize, at: usize) -> Result<(), Refusal> {
+    let (_, _, p) = read_probe(s, &[])?;
+    let cursor = ProbeCursor { index, at };
+    let (x, _) = cursor.step(s, p)?;
+    item(rt, x);
+    Ok(())
 }

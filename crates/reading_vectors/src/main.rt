@@ -1,6 +1,7 @@
 // Vectors of what is read, by document 01 and Part 6, and of each refusal at each place. Standard input has a line for each vector, below
 // a heading that names the subject; what a line shows of itself is printed with the answer. The module of each subject says what its
 // lines are.
+// Buffers have a fixed size, since the program runs without a heap, as the library does.
 #![tactic(auto)]
 
 mod asked;
@@ -14,9 +15,10 @@ mod values;
 
 use vector_lines::bytes::word_bytes;
 use vector_lines::input::{LARGE, read_full};
-use vector_lines::lines::{after, item, letter, shown, word};
-use vector_lines::print::{newline, put};
+use vector_lines::lines::{letter, shown, word};
+use vector_lines::print::{newline, put, refused};
 use wire::part::part;
+use wire::refusal::Refusal;
 
 fn main(rt: HostRuntime) {
     let mut text = [0u8; LARGE];
@@ -24,15 +26,20 @@ fn main(rt: HostRuntime) {
     lines(&rt, part(&text, 0, n));
 }
 
+// Each line, ended by a newline or by the text's end.
 fn lines(rt: &impl Print, text: &[u8]) {
+    if text.is_empty() {
+        return;
+    }
     let mut subject: u8 = 0;
-    let mut at: usize = 0;
-    while at < text.len() {
-        let line = item(text, at, b'\n');
+    for line in text
+        .strip_suffix(b"\n")
+        .unwrap_or(text)
+        .split(|b| *b == b'\n')
+    {
         put(rt, shown(line));
         subject = answered(rt, line, subject);
         newline(rt);
-        at = after(text, at, b'\n');
     }
 }
 
@@ -45,6 +52,13 @@ fn answered(rt: &impl Print, line: &[u8], subject: u8) -> u8 {
     let n = word_bytes(&mut buffer, line, 1);
     vector(rt, subject, line, part(&buffer, 0, n));
     subject
+}
+
+// The refusal of what was to be shown, by its number and place.
+fn or_refused(rt: &impl Print, shown: Result<(), Refusal>) {
+    if let Err(refusal) = shown {
+        refused(rt, refusal.reason.number(), refusal.place);
+    }
 }
 
 // A line, and the bytes of its word 1.

@@ -3,41 +3,40 @@
 // has no size. The answer is the PublisherId and the number of messages, and each message as writer id, offset and length. `P` has a
 // datagram and the number of a message: the message's place, and the position after it. `C` has two datagrams and the length of the
 // first: whether their PublisherIds, kept by value, are equal.
-use network_header::header::PayloadHeader;
-use network_message::envelope::{NetworkMessageRead, message, message_place, read};
-use network_message::payload::{MessageCursor, MessagePlace, MessageRead, MessageStep, Payload};
+use crate::or_refused;
+use network_header::envelope::{Envelope, Places};
+use network_message::envelope::{message, message_place, read};
+use network_message::payload::{MessageCursor, MessagePlace, Payload};
 use network_message::writer_id::writer_id;
 use publisher_id::publisher::PublisherId;
 use publisher_id::publisher_record::{PublisherRecord, publisher_record, same_publisher};
 use vector_lines::lines::{decimal, letter};
-use vector_lines::print::{named, number, optional, put, refused};
+use vector_lines::print::{named, number, optional, put};
 use wire::part::{part, tail};
+use wire::refusal::Refusal;
 
 // Shows a NetworkMessage of one line of the input.
 pub fn vector(rt: &impl Print, line: &[u8], bytes: &[u8]) {
-    match letter(line) {
+    let shown = match letter(line) {
         b'P' => place(rt, bytes, decimal(line, 2)),
-        b'C' => compare(rt, bytes, decimal(line, 2)),
+        b'C' => {
+            compare(rt, bytes, decimal(line, 2));
+            Ok(())
+        }
         b'r' => show(rt, bytes, &[0]),
         b's' => show(rt, bytes, &[3, 2]),
         b'u' => show(rt, bytes, &[3, 0]),
         _ => show(rt, bytes, &[]),
-    }
+    };
+    or_refused(rt, shown);
 }
 
-fn show(rt: &impl Print, s: &[u8], sizes: &[u16]) {
-    match read(s, sizes) {
-        NetworkMessageRead::Refused(n, place) => {
-            refused(rt, n, place);
-        }
-        NetworkMessageRead::Is(envelope, places, p) => {
-            let id = envelope.publisher;
-            publisher(rt, id);
-            number(rt, p.count);
-            let header = envelope.payload_header;
-            show_messages(rt, s, header, places.payload_header_end, sizes, p);
-        }
-    }
+fn show(rt: &impl Print, s: &[u8], sizes: &[u16]) -> Result<(), Refusal> {
+    let (envelope, places, p) = read(s, sizes)?;
+    publisher(rt, envelope.publisher);
+    number(rt, p.count);
+    show_messages(rt, s, sizes, envelope, places, p);
+    Ok(())
 }
 
 // The id's type and its number; of a string its length.
@@ -62,27 +61,22 @@ fn typed(rt: &impl Print, k: usize, n: usize) {
 fn show_messages(
     rt: &impl Print,
     s: &[u8],
-    header: PayloadHeader,
-    end: usize,
     sizes: &[u16],
+    envelope: Envelope,
+    places: Places,
     p: Payload,
 ) {
     let mut cursor = MessageCursor {
         index: 0,
         at: p.first,
     };
-    let mut left = p.count;
-    while 0 < left {
-        match cursor.step(s, p, sizes) {
-            MessageStep::Refused(n, place) => {
-                refused(rt, n, place);
-            }
-            MessageStep::Is(m, next) => {
-                show_message(rt, s, header, end, sizes, m);
-                cursor = next;
-            }
+    for _ in 0..p.count {
+        let step = cursor.step(s, p, sizes);
+        if let Ok((m, next)) = step {
+            show_message(rt, s, sizes, envelope, places, m);
+            cursor = next;
         }
-        left = left - 1;
+        or_refused(rt, step.map(|_| ()));
     }
 }
 
@@ -90,28 +84,27 @@ fn show_messages(
 fn show_message(
     rt: &impl Print,
     s: &[u8],
-    header: PayloadHeader,
-    end: usize,
     sizes: &[u16],
+    envelope: Envelope,
+    places: Places,
     m: MessagePlace,
 ) {
+    let end = places.payload_header_end;
     put(rt, b",");
-    optional(rt, writer_id(s, header, end, &[7, 9], m.index));
+    optional(
+        rt,
+        writer_id(s, envelope.payload_header, end, &[7, 9], m.index),
+    );
     number(rt, m.offset);
     number(rt, message(s, sizes, m.index).len());
 }
 
-fn place(rt: &impl Print, s: &[u8], k: usize) {
-    match message_place(s, &[], k) {
-        MessageRead::Refused(n, place) => {
-            refused(rt, n, place);
-        }
-        MessageRead::Is(m, next) => {
-            number(rt, m.offset);
-            number(rt, m.length);
-            number(rt, next);
-        }
-    }
+fn place(rt: &impl Print, s: &[u8], k: usize) -> Result<(), Refusal> {
+    let (m, next) = message_place(s, &[], k)?;
+    number(rt, m.offset);
+    number(rt, m.length);
+    number(rt, next);
+    Ok(())
 }
 
 fn compare(rt: &impl Print, s: &[u8], n: usize) {
@@ -125,10 +118,9 @@ fn compare(rt: &impl Print, s: &[u8], n: usize) {
 // The PublisherId of a datagram under one writer that takes the rest; absent where it is refused.
 fn kept(s: &[u8]) -> PublisherRecord {
     match read(s, &[0]) {
-        NetworkMessageRead::Refused(_, _) => publisher_record(s, PublisherId::Absent, 0),
-        NetworkMessageRead::Is(envelope, places, _) => {
-            let id = envelope.publisher;
-            publisher_record(s, id, places.publisher_end)
+        Err(_) => publisher_record(s, PublisherId::Absent, 0),
+        Ok((envelope, places, _)) => {
+            publisher_record(s, envelope.publisher, places.publisher_end)
         }
     }
 }

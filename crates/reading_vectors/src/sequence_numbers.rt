@@ -29,35 +29,29 @@ fn unseen(number: u16) -> LastSequenceNumber {
 
 fn history(rt: &impl Print, first: LastSequenceNumber, numbers: &[u8]) {
     let mut last = first;
+    // By the position and not by `split`: a number is one only with the comma that ends it.
     let mut at: usize = 0;
     while at < numbers.len() {
-        last = step(rt, last, low16(decimal_at(numbers, at, b',')));
+        let received = low16(decimal_at(numbers, at, b','));
+        let judged = sequence::noted(last, received);
+        last = judged.last;
+        step(rt, received, judged.newness, last);
         at = after(numbers, at, b',');
     }
 }
 
-fn step(rt: &impl Print, last: LastSequenceNumber, received: u16) -> LastSequenceNumber {
-    let judged = sequence::noted(last, received);
-    let judgement = judged.newness;
-    let next = judged.last;
+fn step(rt: &impl Print, received: u16, judgement: Newness, last: LastSequenceNumber) {
     newline(rt);
     digits(rt, received as u64);
     newness(rt, judgement);
     put(rt, b" last");
-    number(rt, next.number as usize);
-    next
+    number(rt, last.number as usize);
 }
 
 fn newness(rt: &impl Print, x: Newness) {
     match x {
-        Newness::Newer => {
-            put(rt, b" newer");
-        }
-        Newness::OldOrSame => {
-            put(rt, b" old");
-        }
-        Newness::Invalid => {
-            put(rt, b" invalid");
-        }
-    }
+        Newness::Newer => put(rt, b" newer"),
+        Newness::OldOrSame => put(rt, b" old"),
+        Newness::Invalid => put(rt, b" invalid"),
+    };
 }

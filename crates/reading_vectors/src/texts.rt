@@ -4,16 +4,14 @@
 //
 // `D`, `H`, `T` and `U` have what is put, as a decimal, as hex, as it is, and as the bytes of hex digits; a buffer of 8 bytes, and a
 // position. The answer is the position after it, or `no`, and the buffer.
-use text::decimal::{Decimal, put_decimal, read_decimal};
-use text::hex::{Hex, put_hex, read_hex};
+// Buffers have a fixed size, since the program runs without a heap, as the library does.
+use text::decimal::{put_decimal, read_decimal};
+use text::hex::{put_hex, read_hex};
 use text::words::{find, put_bytes, starts_with};
 use vector_lines::bytes::word_bytes;
 use vector_lines::lines::{decimal, letter, word};
 use vector_lines::print::{digits, newline, put};
 use wire::part::part;
-
-// The position after hex digits that are none.
-const NONE: usize = 18446744073709551615;
 
 // Shows a decimal, hex or words of one line of the input.
 pub fn vector(rt: &impl Print, line: &[u8], bytes: &[u8]) {
@@ -37,12 +35,12 @@ fn written(rt: &impl Print, n: usize) {
 fn read(rt: &impl Print, text: &[u8], line: &[u8]) {
     let limit = decimal(line, 3) as u64;
     match read_decimal(text, decimal(line, 2), b'\t', limit) {
-        Decimal::Is(n, next) => {
+        Some((n, next)) => {
             digits(rt, n);
             newline(rt);
             digits(rt, next as u64);
         }
-        Decimal::Not => {
+        None => {
             put(rt, b"no");
         }
     }
@@ -63,28 +61,22 @@ fn stored(rt: &impl Print, bytes: &[u8], line: &[u8]) {
     put(rt, &buffer);
 }
 
-fn position(rt: &impl Print, n: usize) {
-    if n == NONE {
-        put(rt, b"no");
-    } else {
-        digits(rt, n as u64);
-    }
+// The largest number is told as none: a position that nothing can be put at.
+fn position(rt: &impl Print, next: Option<usize>) {
+    match next {
+        Some(n) if n < usize::MAX => digits(rt, n as u64),
+        _ => put(rt, b"no"),
+    };
     newline(rt);
 }
 
-fn store(out: &mut [u8], bytes: &[u8], line: &[u8]) -> usize {
+// The position after what was put; none where hex digits are none.
+fn store(out: &mut [u8], bytes: &[u8], line: &[u8]) -> Option<usize> {
     let at = decimal(line, 3);
     match letter(line) {
-        b'D' => put_decimal(out, at, decimal(line, 1) as u64),
-        b'H' => put_hex(out, at, bytes),
-        b'U' => unhex(out, at, word(line, 1)),
-        _ => put_bytes(out, at, bytes),
-    }
-}
-
-fn unhex(out: &mut [u8], at: usize, digits: &[u8]) -> usize {
-    match read_hex(out, at, digits) {
-        Hex::To(next) => next,
-        Hex::Not => NONE,
+        b'D' => Some(put_decimal(out, at, decimal(line, 1) as u64)),
+        b'H' => Some(put_hex(out, at, bytes)),
+        b'U' => read_hex(out, at, word(line, 1)),
+        _ => Some(put_bytes(out, at, bytes)),
     }
 }

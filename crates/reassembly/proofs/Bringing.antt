@@ -16,8 +16,7 @@ use Rattle.reassembly.specs.Reading.Reading.{chunk, refusal}
 use Rattle.reassembly.specs.Machine.{State, view_in, judge, accept, is_complete, state_of, alone, reading_verdict, Call, Delivery, verdict_of, keeps, if_accepted, whole, machine_final, with_delivery, brought_by, brought, OneHas, AllOf}
 use Rattle.reassembly.specs.Machine.State.{idle, held}
 use Rattle.reassembly.specs.Machine.Call.{Empty, Take, Combine, Ask, HandOut}
-use Rattle.reassembly.specs.declared.verdict.Verdict.{Verdict}
-use Rattle.reassembly.specs.declared.verdict.Verdict.TheVariants.{Done, Refused}
+use Rattle.reassembly.specs.Verdict.{Verdict, Done, Refused}
 use Rattle.wire.proofs.Cases.{by_bool, by_lt}
 use Rattle.reassembly.proofs.ViewLaws.{length_tab, get_d_tab, full_some, none_clash, data_above, first_known, differs_none}
 use Rattle.reassembly.proofs.AreaLaws.{marked_above}

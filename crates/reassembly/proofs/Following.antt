@@ -25,8 +25,7 @@ use Rattle.reassembly.specs.Calls.{said_of, answers, leaves}
 use Rattle.reassembly.specs.Operations.{Step, begun_marks, with_new, put, take_in, combine, emptied, yes_no, says_complete, ask_complete, number_right, judge_hand_out, hand_out}
 use Rattle.reassembly.specs.declared.record.Message.{Message}
 use Rattle.reassembly.specs.declared.record.PartialRecord.{PartialRecord}
-use Rattle.reassembly.specs.declared.verdict.Verdict.{Verdict}
-use Rattle.reassembly.specs.declared.verdict.Verdict.TheVariants.{Done, Refused}
+use Rattle.reassembly.specs.Verdict.{Verdict, Done, Refused}
 use Rattle.wire.proofs.Cases.{by_bool}
 use Rattle.reassembly.proofs.ViewLaws.{length_laid, data_above, clash_none, joined_nowhere}
 use Rattle.marks.proofs.MarkLaws.{length_cleared, length_mark_all}

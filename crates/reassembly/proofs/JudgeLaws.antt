@@ -28,10 +28,12 @@ use Rattle.reassembly.specs.declared.judge.Admission.{Admission}
 use Rattle.reassembly.specs.declared.judge.Admission.TheVariants as A
 use Rattle.reassembly.specs.declared.record.Message.{Message}
 use Rattle.reassembly.specs.declared.record.PartialRecord.{PartialRecord}
-use Rattle.reassembly.specs.declared.verdict.Completeness.TheVariants as C
-use Rattle.reassembly.specs.declared.verdict.Progress.TheVariants as P
-use Rattle.reassembly.specs.declared.verdict.Verdict.{Verdict}
-use Rattle.reassembly.specs.declared.verdict.Verdict.TheVariants.{Done, Refused}
+use Rattle.reassembly.specs.Verdict.{Completeness}
+use Rattle.reassembly.specs.Verdict.{Progress}
+use Rattle.reassembly.specs.Verdict.{Verdict, Done, Refused}
+use Rattle.std.specs.Prelude.{Result, Ok, Err}
+use Rattle.wire.specs.Refusal.{reason_number}
+use Rattle.wire.specs.declared.refusal.Refusal.{Refusal}
 use Rattle.wire.proofs.Cases.{by_bool}
 use Rattle.wire.proofs.Facts.{and_left, and_right}
 use Rattle.reassembly.proofs.ViewLaws.{has_data}
@@ -99,10 +101,10 @@ module _ (sizes s : List ℕ) where
       go (refused n p) e = tt
 
 -- ---- bytes of a message met by a partial
-abbrev pub admitted : Admission → Bool → Verdict
-admitted (A.Refused n) b = Refused n 0
-admitted A.Fresh b = Done
-admitted A.Same b = cond b (Refused 14 0) Done
+abbrev pub admitted : Result Admission Refusal → Bool → Verdict
+admitted (Err r) b = Refused (reason_number r.reason) r.place
+admitted (Ok A.Fresh) b = Done
+admitted (Ok A.Same) b = cond b (Refused 14 0) Done
 
 judge_admits : (s : Partial) (n : ℕ) (m : Message) (v : View) → judge n (state_of s) (held (identity_of m) v) ≡ admitted (admission_of s.rec n m) (clash s.rec.message.total (view_of s) v)
 unfolding admission_of
@@ -119,13 +121,13 @@ pub record Admits (r : PartialRecord) (n : ℕ) (m : Message) : Type 0 where
   pub started : r.started ≡ true
   pub same : identity_of r.message ≡ identity_of m
 
-refused_same : (k : ℕ) → A.Refused k ≡ A.Same → ⊥
-refused_same k e = let z : ◌≡◌ {A = ℕ} 0 1 = cc in omega arith
+refused_same : (r : Refusal) → ◌≡◌ {A = Result Admission Refusal} (Err r) (Ok A.Same) → ⊥
+refused_same r e = let z : ◌≡◌ {A = ℕ} 0 1 = cc in omega arith
 
-fresh_same : A.Fresh ≡ A.Same → ⊥
+fresh_same : ◌≡◌ {A = Result Admission Refusal} (Ok A.Fresh) (Ok A.Same) → ⊥
 fresh_same e = let z : ◌≡◌ {A = ℕ} 0 1 = cc in omega arith
 
-admits_same : (r : PartialRecord) (n : ℕ) (m : Message) → admission_of r n m ≡ A.Same → Admits r n m
+admits_same : (r : PartialRecord) (n : ℕ) (m : Message) → admission_of r n m ≡ Ok A.Same → Admits r n m
 unfolding admission_of
 admits_same r n m e =
     by_bool _ (leb m.total n)
@@ -200,7 +202,7 @@ module _ (s : Partial) (m : Message) (at : ℕ) (d : List ℕ) where
       reading_judged s (chunk m at d) e ∙ judge_admits s (length s.payload) m (data_view at d)
 
   -- the same message: its bytes meet what is held
-  module _ (e : sound s ≡ true) (o : GoodChunk m at (length d)) (g : admission_of s.rec (length s.payload) m ≡ A.Same) where
+  module _ (e : sound s ≡ true) (o : GoodChunk m at (length d)) (g : admission_of s.rec (length s.payload) m ≡ Ok A.Same) where
     pub data_room : (at + length d ≤ length s.payload) × (marks_for s.layout (at + length d) ≤ length s.marks)
     data_room =
         let a = admits_same _ _ _ g in
@@ -277,7 +279,7 @@ module _ (s f : Partial) where
   combine_done e g = rw (e, g)
 
   -- the same message: what both cover
-  module _ (e : sound s ≡ true) (g : sound f ≡ true) (h : f.rec.started ≡ true) (i : admission_of s.rec (length s.payload) f.rec.message ≡ A.Same) where
+  module _ (e : sound s ≡ true) (g : sound f ≡ true) (h : f.rec.started ≡ true) (i : admission_of s.rec (length s.payload) f.rec.message ≡ Ok A.Same) where
     pub covered_room : (f.rec.message.total ≤ length s.payload) × (marks_for s.layout f.rec.message.total ≤ length s.marks) × (f.rec.message.total ≤ length f.payload)
         × (marks_for f.layout f.rec.message.total ≤ length f.marks)
     covered_room =
@@ -319,11 +321,11 @@ module _ (s : Partial) (m : Message) (e : sound s ≡ true) (k : PartialRecord) 
 
 -- ---- asking
 module _ (s : Partial) where
-  pub ask_unsound : sound s ≡ false → ask_complete s ≡ C.Refused 12 0
+  pub ask_unsound : sound s ≡ false → ask_complete s ≡ Completeness.Unsaid 12 0
   unfolding ask_complete
   ask_unsound e = rw e
 
-  pub ask_idle : sound s ≡ true → s.rec.started ≡ false → ask_complete s ≡ C.No
+  pub ask_idle : sound s ≡ true → s.rec.started ≡ false → ask_complete s ≡ Completeness.No
   unfolding ask_complete
   ask_idle e f = rw (e, f)
 
@@ -332,15 +334,15 @@ module _ (s : Partial) where
   ask_held e f b g = rw (e, f, g)
 
   -- ---- how far it is
-  pub progress_unsound : sound s ≡ false → progress_of s ≡ P.Refused 12 0
+  pub progress_unsound : sound s ≡ false → progress_of s ≡ Progress.Unknown 12 0
   unfolding progress_of
   progress_unsound e = rw e
 
-  pub progress_idle : sound s ≡ true → s.rec.started ≡ false → progress_of s ≡ P.Is 0 0
+  pub progress_idle : sound s ≡ true → s.rec.started ≡ false → progress_of s ≡ Progress.Is 0 0
   unfolding progress_of
   progress_idle e f = rw (e, f)
 
-  pub progress_held : sound s ≡ true → s.rec.started ≡ true → progress_of s ≡ P.Is s.rec.covered s.rec.message.total
+  pub progress_held : sound s ≡ true → s.rec.started ≡ true → progress_of s ≡ Progress.Is s.rec.covered s.rec.message.total
   unfolding progress_of
   progress_held e f = rw (e, f)
 

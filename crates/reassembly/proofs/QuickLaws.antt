@@ -21,13 +21,13 @@ use Rattle.reassembly.specs.Operations.{step_of, take_in}
 use Rattle.reassembly.specs.Quick.{record_with, held_record, more_of}
 use Rattle.reassembly.specs.declared.judge.Admission.TheVariants as A
 use Rattle.reassembly.specs.declared.quick.Held.{Held}
-use Rattle.reassembly.specs.declared.quick.More.{More}
-use Rattle.reassembly.specs.declared.quick.More.TheVariants as M
-use Rattle.reassembly.specs.declared.quick.Added.{Added}
-use Rattle.reassembly.specs.declared.quick.Added.TheVariants.{New, Clash}
 use Rattle.reassembly.specs.declared.record.Message.{Message}
 use Rattle.reassembly.specs.declared.record.PartialRecord.{PartialRecord}
-use Rattle.reassembly.specs.declared.verdict.Verdict.TheVariants.{Done}
+use Rattle.reassembly.specs.Verdict.{Done, at_zero}
+use Rattle.std.specs.Prelude.{Option, Some, None, Result, Ok, Err}
+use Rattle.wire.specs.Refusal.{reason_number}
+use Rattle.wire.specs.declared.refusal.Reason.{Reason}
+use Rattle.wire.specs.declared.refusal.Refusal.{Refusal}
 use Rattle.wire.proofs.Cases.{by_bool}
 use Rattle.reassembly.proofs.AreaLaws.{clash_from, run_free}
 use Rattle.reassembly.proofs.JudgeLaws.{reading_admits, reading_same, take_refused, taken}
@@ -46,8 +46,8 @@ module _ (p m : List ℕ) (at : ℕ) (d : List ℕ) where
   abbrev clashes : List ℕ → Bool
   clashes z = clash end (marked_view in_use end p z) (data_view at d)
 
-  abbrev AddedAs : Added → List ℕ → Type 0
-  AddedAs r z = (r ≡ cond (clashes m) Clash (New (new_marks in_use (in_range at end) m))) × (z ≡ cond (clashes m) m (mark_all in_use (in_range at end) m))
+  abbrev AddedAs : Option ℕ → List ℕ → Type 0
+  AddedAs r z = (r ≡ cond (clashes m) None (Some (new_marks in_use (in_range at end) m))) × (z ≡ cond (clashes m) m (mark_all in_use (in_range at end) m))
 
   -- what marking where none is marked tells
   module _ (b : Bool) (z : List ℕ) (eb : b ≡ not (any_from at end (marked in_use m)))
@@ -58,49 +58,49 @@ module _ (p m : List ℕ) (at : ℕ) (d : List ℕ) where
         true_is_false : true ≡ false → ⊥
         true_is_false e = let z : ◌≡◌ {A = ℕ} 0 1 = cc in omega arith
 
-    pub added_all : marks_for in_use end ≤ length m → b ≡ true → AddedAs (New (length d)) z
+    pub added_all : marks_for in_use end ≤ length m → b ≡ true → AddedAs (Some (length d)) z
     added_all room t =
         let none = none_marked t in
         let free = clash_from in_use p m at d ∙ run_free in_use end p m at d at end (omega arith) (omega arith) (omega arith) none in
         let new = new_none in_use m at end (omega arith) (marks_cover in_use end end m (omega arith) room) none in
-        rw free (ap New (omega arith), ez ∙ rw none)
+        rw free (ap Some (omega arith), ez ∙ rw none)
 
     pub not_added : b ≡ false → z ≡ m
     not_added t = ez ∙ rw (sym eb ∙ t)
 
-  pub added_clash : (z : List ℕ) → z ≡ m → (b : Bool) → b ≡ clashes z → b ≡ true → AddedAs Clash z
+  pub added_clash : (z : List ℕ) → z ≡ m → (b : Bool) → b ≡ clashes z → b ≡ true → AddedAs None z
   added_clash z e b q t = rw (ap clashes (sym e) ∙ sym q ∙ t) (refl, e)
 
   pub added_some : (z w : List ℕ) (n : ℕ) → z ≡ m → (b : Bool) → b ≡ clashes z → b ≡ false → w ≡ mark_all in_use (in_range at end) z → n ≡ new_marks in_use (in_range at end) z
-      → AddedAs (New n) w
+      → AddedAs (Some n) w
   added_some z w n e b q t ew en =
-      rw (ap clashes (sym e) ∙ sym q ∙ t) (ap New (en ∙ ap (new_marks in_use (in_range at end)) e), ew ∙ ap (mark_all in_use (in_range at end)) e)
+      rw (ap clashes (sym e) ∙ sym q ∙ t) (ap Some (en ∙ ap (new_marks in_use (in_range at end)) e), ew ∙ ap (mark_all in_use (in_range at end)) e)
 
   -- ---- storing its bytes
-  abbrev AddsAs : ℕ → More → List ℕ → List ℕ → Type 0
+  abbrev AddsAs : ℕ → Result ℕ Refusal → List ℕ → List ℕ → Type 0
   AddsAs covered r q z =
-      (r ≡ cond (clashes m) (M.Refused 14 0) (M.Covered (covered + new_marks in_use (in_range at end) m))) × (q ≡ cond (clashes m) p (overlaid (data_view at d) p))
+      (r ≡ cond (clashes m) (Err (at_zero Reason.ByteDiffers)) (Ok (covered + new_marks in_use (in_range at end) m))) × (q ≡ cond (clashes m) p (overlaid (data_view at d) p))
       × (z ≡ cond (clashes m) m (mark_all in_use (in_range at end) m))
 
-  differ_added : (n : ℕ) → ◌≡◌ {A = Added} Clash (New n) → ⊥
+  differ_added : (n : ℕ) → ◌≡◌ {A = Option ℕ} None (Some n) → ⊥
   differ_added n e = let z : ◌≡◌ {A = ℕ} 0 1 = cc in omega arith
 
-  new_is : (n k : ℕ) → New n ≡ New k → n ≡ k
+  new_is : (n k : ℕ) → Some n ≡ Some k → n ≡ k
   new_is n k e = cc
 
-  pub adds_clash : (covered : ℕ) (r : Added) (z : List ℕ) → AddedAs r z → r ≡ Clash → AddsAs covered (M.Refused 14 0) p z
+  pub adds_clash : (covered : ℕ) (r : Option ℕ) (z : List ℕ) → AddedAs r z → r ≡ None → AddsAs covered (Err (at_zero Reason.ByteDiffers)) p z
   adds_clash covered r z (a, b) e =
       by_bool _ (clashes m)
       (λ t. rw t (refl, refl, b ∙ rw t))
       (λ t. absurd (differ_added _ (rw t at (sym e ∙ a))))
 
-  pub adds_new : (covered n : ℕ) (r : Added) (q z : List ℕ) → AddedAs r z → r ≡ New n → q ≡ overlaid (data_view at d) p → AddsAs covered (M.Covered (covered + n)) q z
+  pub adds_new : (covered n : ℕ) (r : Option ℕ) (q z : List ℕ) → AddedAs r z → r ≡ Some n → q ≡ overlaid (data_view at d) p → AddsAs covered (Ok (covered + n)) q z
   adds_new covered n r q z (a, b) e eq =
       by_bool _ (clashes m)
       (λ t. absurd (differ_added n (sym (rw t at (sym e ∙ a)))))
-      (λ t. rw t (ap (λ (k : ℕ). M.Covered (covered + k)) (new_is _ _ (rw t at (sym e ∙ a))), eq, b ∙ rw t))
+      (λ t. rw t (ap (λ (k : ℕ). Ok (covered + k)) (new_is _ _ (rw t at (sym e ∙ a))), eq, b ∙ rw t))
 
-  pub added_most : (n : ℕ) (r : Added) (z : List ℕ) → AddedAs r z → r ≡ New n → marks_for in_use end ≤ length m → n ≤ end
+  pub added_most : (n : ℕ) (r : Option ℕ) (z : List ℕ) → AddedAs r z → r ≡ Some n → marks_for in_use end ≤ length m → n ≤ end
   added_most n r z (a, b) e room =
       by_bool _ (clashes m)
       (λ t. absurd (differ_added n (sym (rw t at (sym e ∙ a)))))
@@ -115,23 +115,23 @@ module _ (h : Held) (t p k : List ℕ) (m : Message) (at : ℕ) (d : List ℕ) w
   before = partial own p k
 
   module _ (ok : sound before ≡ true) where
-    by_admission : (n : ℕ) → admission_of own (length p) m ≡ A.Refused n → step_of (more_of (M.Refused n 0) own) p k ≡ take_in before (chunk m at d)
-    by_admission n e = sym (take_refused before (chunk m at d) n 0 (reading_admits before m at d ok ∙ rw e))
+    by_admission : (r : Refusal) → admission_of own (length p) m ≡ Err r → step_of (more_of (Err r) own) p k ≡ take_in before (chunk m at d)
+    by_admission r e = sym (take_refused before (chunk m at d) (reason_number r.reason) r.place (reading_admits before m at d ok ∙ rw e))
 
-    pub no_room : length p < m.total → step_of (more_of (M.Refused 11 0) own) p k ≡ take_in before (chunk m at d)
+    pub no_room : length p < m.total → step_of (more_of (Err (at_zero Reason.NoRoom)) own) p k ≡ take_in before (chunk m at d)
     unfolding admission_of
-    no_room l = by_admission 11 (rw (lt-leb m.total (length p) l))
+    no_room l = by_admission (at_zero Reason.NoRoom) (rw (lt-leb m.total (length p) l))
 
     module _ (l : m.total ≤ length p) where
-      pub other_held : same_message (identity_of own.message) (identity_of m) ≡ false → step_of (more_of (M.Refused 13 0) own) p k ≡ take_in before (chunk m at d)
+      pub other_held : same_message (identity_of own.message) (identity_of m) ≡ false → step_of (more_of (Err (at_zero Reason.OtherMessage)) own) p k ≡ take_in before (chunk m at d)
       unfolding admission_of
-      other_held e = by_admission 13 (rw (le-leb m.total (length p) l, e))
+      other_held e = by_admission (at_zero Reason.OtherMessage) (rw (le-leb m.total (length p) l, e))
 
-      pub admits_held : same_message (identity_of own.message) (identity_of m) ≡ true → admission_of own (length p) m ≡ A.Same
+      pub admits_held : same_message (identity_of own.message) (identity_of m) ≡ true → admission_of own (length p) m ≡ Ok A.Same
       unfolding admission_of
       admits_held e = rw (le-leb m.total (length p) l, e)
 
-    pub took_more : GoodChunk m at (length d) → admission_of own (length p) m ≡ A.Same → (r : More) (q z : List ℕ) → AddsAs p k at d h.covered r q z
+    pub took_more : GoodChunk m at (length d) → admission_of own (length p) m ≡ Ok A.Same → (r : Result ℕ Refusal) (q z : List ℕ) → AddsAs p k at d h.covered r q z
         → step_of (more_of r own) q z ≡ take_in before (chunk m at d)
     took_more o g r q z (a, b, c) =
         by_bool _ (clashes p k at d k)

@@ -6,20 +6,20 @@ use borrow.Author.Tests.{eq-eqb, ne_eqb, eqb-true}
 use Rattle.publisher_id.specs.PublisherRecord.{same_publisher}
 use Rattle.publisher_id.proofs.Equality.{same_publisher_true, same_publisher_refl}
 use Rattle.reassembly.specs.Record.{same_group, Origin, same_origin, Identity, same_message}
-use Rattle.wire.specs.declared.optional.Optional16.{Optional16}
+use Rattle.std.specs.Prelude.{Option, Some, None, ℕ}
 use Rattle.wire.proofs.Cases.{by_bool}
 use Rattle.wire.proofs.Facts.{and_left, and_right}
 
 -- ---- group ids
-same_group_true : (a b : Optional16) → same_group a b ≡ true → a ≡ b
-same_group_true Optional16.Absent Optional16.Absent e = refl
-same_group_true Optional16.Absent (Optional16.Is y) e = absurd (true≢false (sym e))
-same_group_true (Optional16.Is x) Optional16.Absent e = absurd (true≢false (sym e))
-same_group_true (Optional16.Is x) (Optional16.Is y) e = ap Optional16.Is (eqb-true x y e)
+same_group_true : (a b : Option ℕ) → same_group a b ≡ true → a ≡ b
+same_group_true None None e = refl
+same_group_true None (Some y) e = absurd (true≢false (sym e))
+same_group_true (Some x) None e = absurd (true≢false (sym e))
+same_group_true (Some x) (Some y) e = ap Some (eqb-true x y e)
 
-same_group_refl : (a : Optional16) → same_group a a ≡ true
-same_group_refl Optional16.Absent = refl
-same_group_refl (Optional16.Is x) = eq-eqb x x refl
+same_group_refl : (a : Option ℕ) → same_group a a ≡ true
+same_group_refl None = refl
+same_group_refl (Some x) = eq-eqb x x refl
 
 -- ---- origins
 same_origin_true : (a b : Origin) → same_origin a b ≡ true → a ≡ b

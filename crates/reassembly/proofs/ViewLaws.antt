@@ -3,20 +3,20 @@
 use Prim.Native.Nat.{ℕ, zero, suc, ◌+◌, ◌-◌, ◌≤◌, ◌<◌}
 use mathlib.Core.Path.{◌≡◌, refl, sym, ap, ◌∙◌, fun_ext}
 use mathlib.Core.Bool.{Bool, true, false, cond, not, ◌&&◌}
-use mathlib.Core.List.{List}
+use mathlib.Core.List.{List, [], ◌++◌, ◌∷◌}
 use mathlib.Core.Option
 use mathlib.Core.Option.{Option, some, none, or_else}
-use native.Mathlib.Nat.{le_of_suc-le-suc, le_refl, not-suc-le-zero}
+use native.Mathlib.Nat.{le_of_suc-le-suc, le_of_lt, le_refl, not-suc-le-zero}
 use native.Mathlib.Numerals.{add-one}
 use native.Mathlib.Omega.{arith}
-use lib.ListN.{length, get_or, set, take, length-set}
-use lib.Seq.{sets, take-length, ext_get_or, get_or-set_same, get_or-set_other}
+use lib.ListN.{length, get_or, set, take, drop, length-set, length-drop}
+use lib.Seq.{sets, take-length, take-suc, length-take-le, get_or-take, get_or-drop, ext_get_or, get_or-set_same, get_or-set_other}
 use lib.Dec.{ltb, eqb}
 use borrow.Author.Tests.{lt-ltb, le-ltb, le-leb, lt-leb, eqb-true, not-false}
-use Rattle.reassembly.specs.Views.{View, tabulate, is_some, has, only_if, data_view, between, nowhere, both_views, differs, clash, full, overlaid}
+use Rattle.reassembly.specs.Views.{View, tabulate, is_some, has, only_if, data_view, bytes_view, between, nowhere, both_views, differs, clash, full, overlaid}
 use Rattle.marks.specs.Offsets.{any_below, in_range}
 use Rattle.wire.proofs.Cases.{by_bool, by_eq, by_lt}
-use Rattle.wire_writer.proofs.Stores.{run_step}
+use Rattle.wire_writer.proofs.Stores.{sets_append, put_in}
 use Rattle.marks.proofs.OffsetLaws.{any_none, all_every, none_any, every_all}
 
 -- ---- lists by their elements
@@ -159,6 +159,13 @@ unfolding data_view
 data_above at d i h = rw (le-leb at i (omega arith), le-ltb i (at + length d) h)
 
 -- a run of bytes stored at its offset, as far as its first j bytes, and whole
+-- a run one byte longer
+run_step : (src l : List ℕ) (at i : ℕ) → i < length src → set (sets l at (take i src)) (at + i) (get_or src i 0) ≡ sets l at (take (i + 1) src)
+run_step src l at i h =
+    let e : take (i + 1) src ≡ take i src ++ (get_or src i 0 ∷ []) = rw add-one (take-suc src i 0 h) in
+    ap (λ (k : ℕ). set (sets l at (take i src)) (at + k) (get_or src i 0)) (sym (length-take-le i src (le_of_lt h)))
+    ∙ sets_append (take i src) (get_or src i 0 ∷ []) l at ∙ ap (sets l at) (sym e)
+
 laid_front : (d p : List ℕ) (at j : ℕ) → j ≤ length d → at + length d ≤ length p → sets p at (take j d) ≡ overlaid (up_to (at + j) (data_view at d)) p
 laid_front d p at zero h k = laid_start (data_view at d) p (at + 0) (λ i l. data_below at d i (omega arith))
 laid_front d p at (suc j) h k =
@@ -171,6 +178,26 @@ pub laid_data : (d p : List ℕ) (at : ℕ) → at + length d ≤ length p → s
 laid_data d p at k =
     ap (sets p at) (sym (take-length d)) ∙ laid_front d p at (length d) (le_refl (length d)) k
     ∙ laid_end (data_view at d) p (at + length d) (λ i h. data_above at d i h)
+
+-- bytes of another area copied into the same places
+pub copied : (start end n : ℕ) (b f p q : List ℕ) → start ≤ end → end ≤ length p → end ≤ length f → n ≡ end - start → b ≡ take n (drop start f)
+    → q ≡ take start p ++ (b ++ drop n (drop start p)) → q ≡ overlaid (between start end (bytes_view f)) p
+copied start end n b f p q o k h en eb eq =
+    let w : length b ≡ n = ap length eb ∙ length-take-le n (drop start f) (omega (arith, length-drop start f, h, en)) in
+    let u : start + length b ≡ end = omega arith in
+    eq ∙ put_in b p start n (sym w) (omega arith) ∙ laid_data b p start (omega arith) ∙ laid_ext (data_view start b) (between start end (bytes_view f)) p (λ i l. same i u w)
+  where
+    same : (i : ℕ) → start + length b ≡ end → length b ≡ n → data_view start b i ≡ between start end (bytes_view f) i
+    same i u w =
+        by_lt _ i start
+        (λ l. data_below start b i l ∙ rw (lt-leb start i l))
+        (λ l. by_lt _ i end
+        (λ m. let j : start + (i - start) ≡ i = omega arith in
+        let byte : get_or b (i - start) 0 ≡ get_or f i 0 =
+        ap (λ (x : List ℕ). get_or x (i - start) 0) eb ∙ get_or-take n (drop start f) (i - start) 0 (omega arith) ∙ get_or-drop start f (i - start) 0
+        ∙ ap (λ (k : ℕ). get_or f k 0) j in
+        ap (data_view start b) (sym j) ∙ data_at_lem start b (i - start) (omega arith) ∙ ap some byte ∙ rw (le-leb start i l, lt-ltb i end m))
+        (λ m. data_above start b i (omega arith) ∙ rw (le-leb start i l, le-ltb i end m)))
 
 some_only : (b : Bool) (x : ℕ) → is_some (only_if b x) ≡ b
 some_only true x = refl

@@ -7,13 +7,12 @@ use Rattle.reassembly.specs.Machine.{Call, Reply, reply_of, handed_of}
 use Rattle.reassembly.specs.Machine.Call.{Empty, Take, Combine, Ask, HandOut}
 use Rattle.reassembly.specs.Machine.Reply.{done, said, refused}
 use Rattle.reassembly.specs.Operations.{take_in, combine, emptied, ask_complete, judge_hand_out, hand_out}
-use Rattle.reassembly.specs.declared.verdict.Completeness.{Completeness}
-use Rattle.reassembly.specs.declared.verdict.Completeness.TheVariants as C
+use Rattle.reassembly.specs.Verdict.{Completeness}
 
 abbrev pub said_of : Completeness → Reply
-said_of C.Yes = said true
-said_of C.No = said false
-said_of (C.Refused n p) = refused n p
+said_of Completeness.Yes = said true
+said_of Completeness.No = said false
+said_of (Completeness.Unsaid n p) = refused n p
 
 -- ---- the code: what a call answers, and the partial that it leaves
 abbrev pub answers : Call → Partial → Reply

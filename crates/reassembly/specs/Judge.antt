@@ -1,17 +1,18 @@
 -- What a partial covers, when partials are equal, and how taking in and combining are judged.
-use Rattle.std.specs.Prelude.{ℕ, ◌<◌, Bool, true, cond, ◌&&◌, ◌≡◌, length, leb}
+use Rattle.std.specs.Prelude.{ℕ, ◌<◌, Bool, true, cond, ◌&&◌, ◌≡◌, length, leb, Result, Ok, Err}
 use Rattle.std.proofs.Math.Option.{some}
-use Rattle.wire.specs.Constants.{NO_ROOM, OTHER_MESSAGE, UNSOUND}
+use Rattle.wire.specs.Constants.{UNSOUND}
 use Rattle.reassembly.specs.Views.{has}
 use Rattle.reassembly.specs.Record.{Partial, identity_of, same_message, sound}
 use Rattle.reassembly.specs.Reading.{Reading}
 use Rattle.reassembly.specs.Machine.{view_in, state_of, judge, reading_verdict}
 use Rattle.reassembly.specs.declared.judge.Admission.{Admission}
-use Rattle.reassembly.specs.declared.judge.Admission.TheVariants as A
+use Rattle.reassembly.specs.declared.judge.Admission.TheVariants.{Fresh, Same}
 use Rattle.reassembly.specs.declared.record.Message.{Message}
 use Rattle.reassembly.specs.declared.record.PartialRecord.{PartialRecord}
-use Rattle.reassembly.specs.declared.verdict.Verdict.{Verdict}
-use Rattle.reassembly.specs.declared.verdict.Verdict.TheVariants.{Refused}
+use Rattle.reassembly.specs.Verdict.{Verdict, Refused, at_zero}
+use Rattle.wire.specs.declared.refusal.Reason.{Reason}
+use Rattle.wire.specs.declared.refusal.Refusal.{Refusal}
 
 -- whether byte i is covered
 abbrev pub covered : Partial → ℕ → Bool
@@ -32,11 +33,11 @@ pub record Equal (a b : Partial) : Type 0 where
   pub numbers : a.rec.started ≡ true → a.rec.covered ≡ b.rec.covered
 
 -- whether bytes of message m may come: 11 above the area, 13 of another message
-unfoldable pub admission_of : PartialRecord → ℕ → Message → Admission
+unfoldable pub admission_of : PartialRecord → ℕ → Message → Result Admission Refusal
 admission_of r n m =
     cond (leb m.total n)
-    (cond r.started (cond (same_message (identity_of r.message) (identity_of m)) A.Same (A.Refused OTHER_MESSAGE)) A.Fresh)
-    (A.Refused NO_ROOM)
+    (cond r.started (cond (same_message (identity_of r.message) (identity_of m)) (Ok Same) (Err (at_zero Reason.OtherMessage))) (Ok Fresh))
+    (Err (at_zero Reason.NoRoom))
 
 -- taking in: 12, the reading's own number, 11, 13, 14
 unfoldable pub judge_reading : Partial → Reading → Verdict

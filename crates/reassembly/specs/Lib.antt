@@ -1,3 +1,4 @@
+pub mod Verdict
 pub mod Views
 pub mod Areas
 pub mod Record

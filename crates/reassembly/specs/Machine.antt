@@ -8,8 +8,7 @@ use Rattle.reassembly.specs.Areas.{marked_view}
 use Rattle.reassembly.specs.Record.{Identity, identity_of, same_message, Partial, sound}
 use Rattle.reassembly.specs.Reading.{Reading, reading_at}
 use Rattle.reassembly.specs.Reading.Reading.{chunk, refusal}
-use Rattle.reassembly.specs.declared.verdict.Verdict.{Verdict}
-use Rattle.reassembly.specs.declared.verdict.Verdict.TheVariants.{Done, Refused}
+use Rattle.reassembly.specs.Verdict.{Verdict, Done, Refused}
 
 -- ---- "fed with the calls alone": a call, with what it is handed besides the partial; taking in has a datagram and the configured sizes
 pub data Call : Type 0 where

@@ -1,5 +1,5 @@
 -- The operations on a partial: what each answers and leaves.
-use Rattle.std.specs.Prelude.{ℕ, ◌+◌, Bool, true, false, cond, not, ◌&&◌, ◌||◌, List, [], take, eqb}
+use Rattle.std.specs.Prelude.{ℕ, ◌+◌, Bool, true, false, cond, not, ◌&&◌, ◌||◌, List, [], take, eqb, Result, Ok, Err}
 use Rattle.wire.specs.Constants.{NOT_COMPLETE, UNSOUND}
 use Rattle.reassembly.specs.Views.{View, overlaid, has, data_view}
 use Rattle.marks.specs.Marks.{cleared, mark_all, new_marks}
@@ -11,12 +11,8 @@ use Rattle.reassembly.specs.Judge.{judge_reading, judge_combine}
 use Rattle.reassembly.specs.declared.operations.Outcome.{Outcome}
 use Rattle.reassembly.specs.declared.record.Message.{Message}
 use Rattle.reassembly.specs.declared.record.PartialRecord.{PartialRecord}
-use Rattle.reassembly.specs.declared.verdict.Completeness.{Completeness}
-use Rattle.reassembly.specs.declared.verdict.Completeness.TheVariants as C
-use Rattle.reassembly.specs.declared.verdict.Progress.{Progress}
-use Rattle.reassembly.specs.declared.verdict.Progress.TheVariants as P
-use Rattle.reassembly.specs.declared.verdict.Verdict.{Verdict}
-use Rattle.reassembly.specs.declared.verdict.Verdict.TheVariants.{Done, Refused}
+use Rattle.reassembly.specs.Verdict.{Verdict, Done, Refused, Completeness, Progress, verdict_told}
+use Rattle.wire.specs.declared.refusal.Refusal.{Refusal}
 
 -- an answer, and the partial afterwards
 pub record Step : Type 0 where
@@ -24,7 +20,12 @@ pub record Step : Type 0 where
   pub after : Partial
 
 abbrev pub step_of : Outcome → List ℕ → List ℕ → Step
-step_of r p m = record { verdict = r.verdict; after = partial r.rec p m }
+step_of r p m = record { verdict = verdict_told r.verdict; after = partial r.rec p m }
+
+-- a call's outcome: the record that it made, or a refusal, which leaves the record
+abbrev pub outcome_of : PartialRecord → Result PartialRecord Refusal → Outcome
+outcome_of rec (Ok made) = record { verdict = Ok tt; rec = made }
+outcome_of rec (Err r) = record { verdict = Err r; rec = rec }
 
 -- every refusal leaves all as it was
 abbrev pub step_by : Verdict → Partial → Partial → Step
@@ -68,8 +69,8 @@ unfoldable pub emptied : PartialRecord → PartialRecord
 emptied r = record { started = false; message = r.message; covered = r.covered }
 
 abbrev pub yes_no : Bool → Completeness
-yes_no true = C.Yes
-yes_no false = C.No
+yes_no true = Completeness.Yes
+yes_no false = Completeness.No
 
 -- "complete" is said from the number, "exactly when a started one's number is its total" (document 02, Req 07)
 abbrev pub says_complete : Partial → Bool
@@ -77,12 +78,12 @@ says_complete s = s.rec.started && eqb s.rec.covered s.rec.message.total
 
 -- asking if complete: 12, else yes or no
 unfoldable pub ask_complete : Partial → Completeness
-ask_complete s = cond (sound s) (yes_no (says_complete s)) (C.Refused UNSOUND 0)
+ask_complete s = cond (sound s) (yes_no (says_complete s)) (Completeness.Unsaid UNSOUND 0)
 
 -- how far it is: covered and total bytes of a started one, 0 and 0 of one not started; or 12
 unfoldable pub progress_of : Partial → Progress
 progress_of s =
-    cond (sound s) (cond s.rec.started (P.Is s.rec.covered s.rec.message.total) (P.Is 0 0)) (P.Refused UNSOUND 0)
+    cond (sound s) (cond s.rec.started (Progress.Is s.rec.covered s.rec.message.total) (Progress.Is 0 0)) (Progress.Unknown UNSOUND 0)
 
 -- whether a started one's number is the marked count
 abbrev pub number_right : Partial → Bool

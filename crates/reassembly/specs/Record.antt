@@ -1,6 +1,6 @@
 -- A partial: its record and its two areas, and when it is sound.
 use Rattle.std.specs.Prelude.{ℕ, Bool, true, false, not, ◌&&◌, ◌||◌, ◌≡◌, List, length, leb, eqb}
-use Rattle.wire.specs.declared.optional.Optional16.{Optional16}
+use Rattle.std.specs.Prelude.{Option, Some, None}
 use Rattle.marks.specs.Marks.{Layout, in_use, marks_for, count_marked}
 use Rattle.publisher_id.specs.PublisherRecord.{Publisher, publisher_of, same_publisher, publisher_fits}
 use Rattle.reassembly.specs.declared.record.Message.{Message}
@@ -10,7 +10,7 @@ use Rattle.reassembly.specs.declared.record.PartialRecord.{PartialRecord}
 -- where a message comes from: publisher, group id or that there was none, writer id and message number
 pub record Origin : Type 0 where
   pub publisher : Publisher
-  pub group : Optional16
+  pub group : Option ℕ
   pub writer : ℕ
   pub number : ℕ
 
@@ -26,11 +26,11 @@ abbrev pub identity_of : Message → Identity
 identity_of m = record { origin = origin_of m.origin; total = m.total }
 
 -- "Absent equals only absent" (document 02, Req 06)
-abbrev pub same_group : Optional16 → Optional16 → Bool
-same_group Optional16.Absent Optional16.Absent = true
-same_group Optional16.Absent (Optional16.Is b) = false
-same_group (Optional16.Is a) Optional16.Absent = false
-same_group (Optional16.Is a) (Optional16.Is b) = eqb a b
+abbrev pub same_group : Option ℕ → Option ℕ → Bool
+same_group None None = true
+same_group None (Some b) = false
+same_group (Some a) None = false
+same_group (Some a) (Some b) = eqb a b
 
 unfoldable pub same_origin : Origin → Origin → Bool
 same_origin a b =

@@ -9,11 +9,19 @@ ghost use Rattle.reassembly.specs.Areas.{marked_view};
 use marks::{any_marked, choose, count_between, is_marked};
 use wire_writer::store::put_run;
 
+// The two areas of a partial that is only looked at.
+#[derive(Clone, Copy)]
+pub(crate) struct Areas<'a> {
+    pub payload: &'a [u8],
+    pub marks: &'a [u8],
+}
+
 // How many offsets a run has: 32 bytes of marks.
 const RUN: usize = 256;
 
 // Where the run from an offset on ends: so many offsets on, or at the end. Without a remainder the loops over a run are a thousand bytes of
 // code less.
+// The loops over runs are `while`s, since each goes on where its run ended.
 fn run_end(i: usize, end: usize) -> usize
     requires { i < end }
     ensures { (i < result) × (result ≤ end) }
@@ -37,54 +45,48 @@ fn store_all(payload: &mut [u8], start: usize, end: usize, from: &[u8])
     requires { (start ≤ end) × (end ≤ length payload.old) × (end ≤ length «from».now) }
     ensures { payload.new ≡ overlaid (between start end (bytes_view «from».now)) payload.old }
 {
-    let mut i = start;
-    while i < end {
-        payload[i] = from[i];
-        i += 1;
-    }
+    payload[start..end].copy_from_slice(&from[start..end]);
 }
 
 // Stores each covered byte of another partial from start up to end, offset by offset.
-fn store_each(payload: &mut [u8], start: usize, end: usize, from: &[u8], from_marks: &[u8])
-    requires { (start ≤ end) × (end ≤ length payload.old) × (end ≤ length «from».now) }
-    ensures { let source = marked_view in_use end «from».now from_marks.now in
-        payload.new ≡ overlaid (between start end source) payload.old }
+fn store_each(payload: &mut [u8], start: usize, end: usize, source: Areas)
+    requires { (start ≤ end) × (end ≤ length payload.old) × (end ≤ length source.payload.now) }
+    ensures { let view = marked_view in_use end source.entry.payload.now source.entry.marks.now in
+        payload.new ≡ overlaid (between start end view) payload.old }
 {
-    let mut i = start;
-    while i < end {
-        payload[i] = choose(is_marked(from_marks, i), from[i], payload[i]);
-        i += 1;
+    for i in start..end {
+        payload[i] = choose(is_marked(source.marks, i), source.payload[i], payload[i]);
     }
 }
 
 // The same, by how many of them are covered: none, all, or some.
 #[tactic(auto, using(crate::proofs::Runs::run_bare))]
-fn store_run(payload: &mut [u8], start: usize, end: usize, from: &[u8], from_marks: &[u8])
-    requires { (start ≤ end) × (end ≤ length payload.old) × (end ≤ length «from».now) }
-    ensures { let source = marked_view in_use end «from».now from_marks.now in
-        payload.new ≡ overlaid (between start end source) payload.old }
+fn store_run(payload: &mut [u8], start: usize, end: usize, source: Areas)
+    requires { (start ≤ end) × (end ≤ length payload.old) × (end ≤ length source.payload.now) }
+    ensures { let view = marked_view in_use end source.entry.payload.now source.entry.marks.now in
+        payload.new ≡ overlaid (between start end view) payload.old }
 {
-    let covered = count_between(from_marks, start, end);
+    let covered = count_between(source.marks, start, end);
     if covered == 0 {
         return;
     }
     if covered == end - start {
-        store_all(payload, start, end, from);
+        store_all(payload, start, end, source.payload);
         return;
     }
-    store_each(payload, start, end, from, from_marks);
+    store_each(payload, start, end, source);
 }
 
 // Stores each covered byte of another partial.
-pub(crate) fn store_covered(payload: &mut [u8], total: usize, from: &[u8], from_marks: &[u8])
-    requires { (total ≤ length payload.old) × (total ≤ length «from».now) × (marks_for in_use total ≤ length from_marks.now) }
-    ensures { let source = marked_view in_use total «from».now from_marks.now in
-        payload.new ≡ overlaid source payload.old }
+pub(crate) fn store_covered(payload: &mut [u8], total: usize, source: Areas)
+    requires { (total ≤ length payload.old) × (total ≤ length source.payload.now) × (marks_for in_use total ≤ length source.marks.now) }
+    ensures { let view = marked_view in_use total source.entry.payload.now source.entry.marks.now in
+        payload.new ≡ overlaid view payload.old }
 {
     let mut i = 0;
     while i < total {
         let next = run_end(i, total);
-        store_run(payload, i, next, from, from_marks);
+        store_run(payload, i, next, source);
         i = next;
     }
 }
@@ -95,10 +97,8 @@ fn same_bytes(a: &[u8], at: usize, b: &[u8], from: usize, count: usize) -> bool
     ensures { result ≡ all_below count (λ j. eqb (get_or a.now (at + j) 0) (get_or b.now («from» + j) 0)) }
 {
     let mut other = 0u8;
-    let mut j = 0;
-    while j < count {
-        other = other | (a[at + j] ^ b[from + j]);
-        j += 1;
+    for j in 0..count {
+        other |= a[at + j] ^ b[from + j];
     }
     other == 0
 }
@@ -111,67 +111,56 @@ fn differ(mark: bool, held: u8, other_mark: bool, byte: u8) -> bool
 }
 
 // Whether a covered byte from start up to end differs from a chunk's byte there, offset by offset.
-fn clash_each(
-    payload: &[u8],
-    marks: &[u8],
-    offset: usize,
-    bytes: &[u8],
-    start: usize,
-    end: usize,
-) -> bool
-    requires { (offset ≤ start) × (start ≤ end) × (end ≤ offset + length bytes.now) × (end ≤ length payload.now) }
-    ensures { let held = marked_view in_use end payload.now marks.now in
-        result ≡ any_from start end (λ k. differs (held k) (data_view offset bytes.now k)) }
+fn clash_each(held: Areas, offset: usize, bytes: &[u8], start: usize, end: usize) -> bool
+    requires { (offset ≤ start) × (start ≤ end) × (end ≤ offset + length bytes.now) × (end ≤ length held.payload.now) }
+    ensures { let view = marked_view in_use end held.entry.payload.now held.entry.marks.now in
+        result ≡ any_from start end (λ k. differs (view k) (data_view offset bytes.now k)) }
 {
     let mut found = false;
-    let mut i = start;
-    while i < end {
-        let clash = differ(is_marked(marks, i), payload[i], true, bytes[i - offset]);
+    for i in start..end {
+        let clash = differ(
+            is_marked(held.marks, i),
+            held.payload[i],
+            true,
+            bytes[i - offset],
+        );
         found = clash | found;
-        i += 1;
     }
     found
 }
 
 // The same; where the bytes are the same or nothing is covered, no offset is looked at alone.
-fn clash_run(
-    payload: &[u8],
-    marks: &[u8],
-    offset: usize,
-    bytes: &[u8],
-    start: usize,
-    end: usize,
-) -> bool
-    requires { (offset ≤ start) × (start ≤ end) × (end ≤ offset + length bytes.now) × (end ≤ length payload.now) }
-    ensures { let held = marked_view in_use end payload.now marks.now in
-        result ≡ any_from start end (λ k. differs (held k) (data_view offset bytes.now k)) }
+fn clash_run(held: Areas, offset: usize, bytes: &[u8], start: usize, end: usize) -> bool
+    requires { (offset ≤ start) × (start ≤ end) × (end ≤ offset + length bytes.now) × (end ≤ length held.payload.now) }
+    ensures { let view = marked_view in_use end held.entry.payload.now held.entry.marks.now in
+        result ≡ any_from start end (λ k. differs (view k) (data_view offset bytes.now k)) }
 {
-    let same = same_bytes(payload, start, bytes, start - offset, end - start);
+    let same = same_bytes(held.payload, start, bytes, start - offset, end - start);
     if same {
         return false;
     }
-    if !any_marked(marks, start, end) {
+    if !any_marked(held.marks, start, end) {
         return false;
     }
-    clash_each(payload, marks, offset, bytes, start, end)
+    clash_each(held, offset, bytes, start, end)
 }
 
 // Whether a covered byte differs from a chunk's byte there. Where nothing is covered yet, as in most chunks, only the marks are looked at.
-pub(crate) fn clash_data(payload: &[u8], marks: &[u8], offset: usize, bytes: &[u8]) -> bool
+pub(crate) fn clash_data(held: Areas, offset: usize, bytes: &[u8]) -> bool
     requires { let end = offset + length bytes.now in
-        (end ≤ length payload.now) × (marks_for in_use end ≤ length marks.now) }
+        (end ≤ length held.payload.now) × (marks_for in_use end ≤ length held.marks.now) }
     ensures { let end = offset + length bytes.now in
-        let held = marked_view in_use end payload.now marks.now in
-        result ≡ clash end held (data_view offset bytes.now) }
+        let view = marked_view in_use end held.entry.payload.now held.entry.marks.now in
+        result ≡ clash end view (data_view offset bytes.now) }
 {
     let end = offset + bytes.len();
-    if !any_marked(marks, offset, end) {
+    if !any_marked(held.marks, offset, end) {
         return false;
     }
     let mut i = offset;
     while i < end {
         let next = run_end(i, end);
-        if clash_run(payload, marks, offset, bytes, i, next) {
+        if clash_run(held, offset, bytes, i, next) {
             return true;
         }
         i = next;
@@ -180,78 +169,56 @@ pub(crate) fn clash_data(payload: &[u8], marks: &[u8], offset: usize, bytes: &[u
 }
 
 // Whether a byte from start up to end that both cover differs, offset by offset.
-fn both_each(
-    payload: &[u8],
-    marks: &[u8],
-    from: &[u8],
-    from_marks: &[u8],
-    start: usize,
-    end: usize,
-) -> bool
-    requires { (start ≤ end) × (end ≤ length payload.now) × (end ≤ length «from».now) }
-    ensures { let held = marked_view in_use end payload.now marks.now in
-        let source = marked_view in_use end «from».now from_marks.now in
-        result ≡ any_from start end (λ k. differs (held k) (source k)) }
+fn both_each(held: Areas, source: Areas, start: usize, end: usize) -> bool
+    requires { (start ≤ end) × (end ≤ length held.payload.now) × (end ≤ length source.payload.now) }
+    ensures { let view = marked_view in_use end held.entry.payload.now held.entry.marks.now in
+        let other = marked_view in_use end source.entry.payload.now source.entry.marks.now in
+        result ≡ any_from start end (λ k. differs (view k) (other k)) }
 {
     let mut found = false;
-    let mut i = start;
-    while i < end {
+    for i in start..end {
         let clash = differ(
-            is_marked(marks, i),
-            payload[i],
-            is_marked(from_marks, i),
-            from[i],
+            is_marked(held.marks, i),
+            held.payload[i],
+            is_marked(source.marks, i),
+            source.payload[i],
         );
         found = clash | found;
-        i += 1;
     }
     found
 }
 
 // The same; where the bytes are the same or one side covers nothing, no offset is looked at alone.
-fn both_run(
-    payload: &[u8],
-    marks: &[u8],
-    from: &[u8],
-    from_marks: &[u8],
-    start: usize,
-    end: usize,
-) -> bool
-    requires { (start ≤ end) × (end ≤ length payload.now) × (end ≤ length «from».now) }
-    ensures { let held = marked_view in_use end payload.now marks.now in
-        let source = marked_view in_use end «from».now from_marks.now in
-        result ≡ any_from start end (λ k. differs (held k) (source k)) }
+fn both_run(held: Areas, source: Areas, start: usize, end: usize) -> bool
+    requires { (start ≤ end) × (end ≤ length held.payload.now) × (end ≤ length source.payload.now) }
+    ensures { let view = marked_view in_use end held.entry.payload.now held.entry.marks.now in
+        let other = marked_view in_use end source.entry.payload.now source.entry.marks.now in
+        result ≡ any_from start end (λ k. differs (view k) (other k)) }
 {
-    if same_bytes(payload, start, from, start, end - start) {
+    if same_bytes(held.payload, start, source.payload, start, end - start) {
         return false;
     }
-    if !any_marked(marks, start, end) {
+    if !any_marked(held.marks, start, end) {
         return false;
     }
-    if !any_marked(from_marks, start, end) {
+    if !any_marked(source.marks, start, end) {
         return false;
     }
-    both_each(payload, marks, from, from_marks, start, end)
+    both_each(held, source, start, end)
 }
 
 // Whether a byte that both cover differs.
-pub(crate) fn clash_covered(
-    payload: &[u8],
-    marks: &[u8],
-    total: usize,
-    from: &[u8],
-    from_marks: &[u8],
-) -> bool
-    requires { (total ≤ length payload.now) × (marks_for in_use total ≤ length marks.now)
-        × (total ≤ length «from».now) × (marks_for in_use total ≤ length from_marks.now) }
-    ensures { let held = marked_view in_use total payload.now marks.now in
-        let source = marked_view in_use total «from».now from_marks.now in
-        result ≡ clash total held source }
+pub(crate) fn clash_covered(held: Areas, total: usize, source: Areas) -> bool
+    requires { (total ≤ length held.payload.now) × (marks_for in_use total ≤ length held.marks.now)
+        × (total ≤ length source.payload.now) × (marks_for in_use total ≤ length source.marks.now) }
+    ensures { let view = marked_view in_use total held.entry.payload.now held.entry.marks.now in
+        let other = marked_view in_use total source.entry.payload.now source.entry.marks.now in
+        result ≡ clash total view other }
 {
     let mut i = 0;
     while i < total {
         let next = run_end(i, total);
-        if both_run(payload, marks, from, from_marks, i, next) {
+        if both_run(held, source, i, next) {
             return true;
         }
         i = next;

@@ -2,8 +2,8 @@
 // where both publishers are strings, and nothing of the record is handed back but its number of covered bytes. Where no offset of the chunk
 // is marked, as in most chunks, its marks are looked at once. The law is the contract of `take_more`: what it answers and leaves is what
 // `operations::take_in` answers and leaves. Worth: three tenths of taking in a chunk of 1,024 bytes.
-ghost use Rattle.std.specs.Prelude.{◌≡◌, true, cond, ◌+◌, ◌≤◌, length, take, drop, replicate};
-ghost use Rattle.wire.specs.Constants.{BYTE_DIFFERS, MOST_TEXT_ID};
+ghost use Rattle.std.specs.Prelude.{◌≡◌, Some, None, Ok, Err, true, cond, ◌+◌, ◌≤◌, length, take, drop, replicate};
+ghost use Rattle.wire.specs.Constants.{MOST_TEXT_ID};
 ghost use Rattle.marks.specs.Marks.{in_use, marks_for, mark_all, new_marks};
 ghost use Rattle.marks.specs.Offsets.{in_range};
 ghost use Rattle.reassembly.specs.Areas.{marked_view};
@@ -13,55 +13,41 @@ ghost use Rattle.reassembly.specs.Reading.{GoodChunk, chunk_message, reading_at}
 ghost use Rattle.reassembly.specs.Reading.Reading.{chunk};
 ghost use Rattle.reassembly.specs.Operations.{step_of, take_in};
 ghost use Rattle.reassembly.specs.Quick.{record_with, held_record, more_of};
-ghost use Rattle.reassembly.specs.declared.quick.Added.TheVariants.{Clash, New};
-ghost use Rattle.reassembly.specs.declared.quick.More.TheVariants.{Covered, Refused};
+ghost use Rattle.reassembly.specs.Verdict.{at_zero};
+ghost use Rattle.wire.specs.declared.refusal.Reason.{Reason};
 
-use crate::areas::{clash_data, store_data};
+use crate::areas::{Areas, clash_data, store_data};
 use crate::record::{Message, MessageOrigin, PartialRecord, is_sound, same_group};
-use chunk::datagram::{ChunkPlace, ChunkRead};
+use chunk::datagram::ChunkPlace;
 use marks::{mark_if_none, mark_range};
 use publisher_id::publisher::PublisherId;
 use publisher_id::publisher_record::{PublisherRecord, same_lent};
-use wire::constants::{BYTE_DIFFERS, MOST_TEXT_ID, NO_ROOM, OTHER_MESSAGE, UNSOUND};
-use wire::optional::Optional16;
+use wire::constants::MOST_TEXT_ID;
 use wire::part::part;
+use wire::refusal::{Reason, Refusal};
 
 // The record of a started partial, but for its publisher's text.
-#[derive(Clone, Copy)]
+#[derive(Clone, Copy, PartialEq, Eq, Debug)]
 pub struct Held {
     pub publisher: PublisherId,
-    pub group: Optional16,
+    pub group: Option<u16>,
     pub writer: u16,
     pub number: u16,
     pub total: usize,
     pub covered: usize,
 }
 
-// How many bytes are covered afterwards, or document 01's number and place.
-#[derive(Clone, Copy)]
-pub enum More {
-    Covered(usize),
-    Refused(u8, usize),
-}
-
-// How many offsets of a chunk were not marked, or that a covered byte differs.
-#[derive(Clone, Copy)]
-enum Added {
-    New(usize),
-    Clash,
-}
-
 // The record with a text of zeros, for a question that looks at no text.
 fn without_text(held: Held) -> PartialRecord
     ensures { result ≡ record_with held (record { id = held.publisher; text = replicate MOST_TEXT_ID 0 }) }
 {
-    let id = held.publisher;
-    let group = held.group;
-    let text = [0u8; MOST_TEXT_ID];
-    let publisher = PublisherRecord { id, text };
+    let publisher = PublisherRecord {
+        id: held.publisher,
+        text: [0u8; MOST_TEXT_ID],
+    };
     let origin = MessageOrigin {
         publisher,
-        group,
+        group: held.group,
         writer: held.writer,
         number: held.number,
     };
@@ -77,48 +63,40 @@ fn without_text(held: Held) -> PartialRecord
 }
 
 // Whether a chunk of a datagram is of the message held.
+#[tactic(auto, unfolding(crate::specs::Record::same_message, crate::specs::Record::same_origin))]
 fn is_same(held: Held, text: &[u8], s: &[u8], c: ChunkPlace) -> bool
     ensures { let own = identity_of (held_record held text.now).message in
         result ≡ same_message own (identity_of (chunk_message c s.now)) }
 {
-    let id = held.publisher;
-    let other = c.publisher;
-    if !same_lent(id, text, s, other, c.publisher_end) {
-        return false;
-    }
-    let group = held.group;
-    let other_group = c.group;
-    if !same_group(group, other_group) {
-        return false;
-    }
-    if held.writer != c.writer {
-        return false;
-    }
-    let p = c.payload;
-    if held.number != p.number {
-        return false;
-    }
-    held.total == p.total
+    same_lent(held.publisher, text, s, c.publisher, c.publisher_end)
+        && same_group(held.group, c.group)
+        && held.writer == c.writer
+        && held.number == c.payload.number
+        && held.total == c.payload.total
 }
 
-// Marks the offsets of a chunk's bytes, unless a covered byte differs.
-fn add_marks(payload: &[u8], marks: &mut [u8], offset: usize, bytes: &[u8]) -> Added
+// Marks the offsets of a chunk's bytes, and tells how many were not marked, unless a covered byte differs.
+fn add_marks(payload: &[u8], marks: &mut [u8], offset: usize, bytes: &[u8]) -> Option<usize>
     requires { let end = offset + length bytes.now in
         (end ≤ length payload.now) × (marks_for in_use end ≤ length marks.old) }
     ensures { let before = marks.old in
         let end = offset + length bytes.now in
         let clashes = clash end (marked_view in_use end payload.now before) (data_view offset bytes.now) in
-        (result ≡ cond clashes Clash (New (new_marks in_use (in_range offset end) before)))
+        (result ≡ cond clashes None (Some (new_marks in_use (in_range offset end) before)))
         × (marks.new ≡ cond clashes before (mark_all in_use (in_range offset end) before)) }
 {
     let end = offset + bytes.len();
     if mark_if_none(marks, offset, end) {
-        return Added::New(bytes.len());
+        return Some(bytes.len());
     }
-    if clash_data(payload, marks, offset, bytes) {
-        return Added::Clash;
+    let held = Areas {
+        payload,
+        marks: &*marks,
+    };
+    if clash_data(held, offset, bytes) {
+        return None;
     }
-    Added::New(mark_range(marks, offset, end))
+    Some(mark_range(marks, offset, end))
 }
 
 // Stores and marks the bytes of a chunk of the message held, of which so many are covered: 14.
@@ -128,24 +106,22 @@ fn add_data(
     marks: &mut [u8],
     offset: usize,
     bytes: &[u8],
-) -> More
+) -> Result<usize, Refusal>
     requires { let end = offset + length bytes.now in
         (end ≤ length payload.old) × (marks_for in_use end ≤ length marks.old) × (covered ≤ length payload.old) }
     ensures { let before = marks.old in
         let end = offset + length bytes.now in
         let content = data_view offset bytes.now in
         let clashes = clash end (marked_view in_use end payload.old before) content in
-        (result ≡ cond clashes (Refused BYTE_DIFFERS 0) (Covered (covered + new_marks in_use (in_range offset end) before)))
+        (result ≡ cond clashes (Err (at_zero Reason.ByteDiffers)) (Ok (covered + new_marks in_use (in_range offset end) before)))
         × (payload.new ≡ cond clashes payload.old (overlaid content payload.old))
         × (marks.new ≡ cond clashes before (mark_all in_use (in_range offset end) before)) }
 {
-    match add_marks(payload, marks, offset, bytes) {
-        Added::Clash => More::Refused(BYTE_DIFFERS, 0),
-        Added::New(fresh) => {
-            store_data(payload, offset, bytes);
-            More::Covered(covered + fresh)
-        }
-    }
+    let Some(fresh) = add_marks(payload, marks, offset, bytes) else {
+        return Err(Reason::ByteDiffers.at(0));
+    };
+    store_data(payload, offset, bytes);
+    Ok(covered + fresh)
 }
 
 // Takes in a chunk without a fault of its own, in a sound partial: 11, 13, 14.
@@ -156,7 +132,7 @@ fn add_chunk(
     marks: &mut [u8],
     datagram: &[u8],
     c: ChunkPlace,
-) -> More
+) -> Result<usize, Refusal>
     requires { let content = take c.payload.length (drop c.payload.first datagram.now) in
         (sound (partial (held_record held text.now) payload.old marks.old) ≡ true)
         × GoodChunk (chunk_message c datagram.now) c.payload.offset (length content) }
@@ -168,10 +144,10 @@ fn add_chunk(
 {
     let p = c.payload;
     if payload.len() < p.total {
-        return More::Refused(NO_ROOM, 0);
+        return Err(Reason::NoRoom.at(0));
     }
     if !is_same(held, text, datagram, c) {
-        return More::Refused(OTHER_MESSAGE, 0);
+        return Err(Reason::OtherMessage.at(0));
     }
     let bytes = part(datagram, p.first, p.length);
     add_data(held.covered, payload, marks, p.offset, bytes)
@@ -185,17 +161,15 @@ pub fn take_more(
     marks: &mut [u8],
     datagram: &[u8],
     sizes: &[u16],
-) -> More
+) -> Result<usize, Refusal>
     ensures { let own = held_record held text.now in
         let before = partial own payload.old marks.old in
         let read = reading_at sizes.now datagram.now in
         step_of (more_of result own) payload.new marks.new ≡ take_in before read }
 {
     if !is_sound(without_text(held), payload.len(), marks.len()) {
-        return More::Refused(UNSOUND, 0);
+        return Err(Reason::Unsound.at(0));
     }
-    match chunk::datagram::read(&*datagram, &*sizes) {
-        ChunkRead::Refused(number, place) => More::Refused(number, place),
-        ChunkRead::Is(c, _) => add_chunk(held, text, payload, marks, datagram, c),
-    }
+    let (c, _) = chunk::datagram::read(datagram, sizes)?;
+    add_chunk(held, text, payload, marks, datagram, c)
 }

@@ -5,13 +5,12 @@ ghost use Rattle.marks.specs.Marks.{in_use};
 
 use marks::marks_for;
 use publisher_id::publisher_record::{PublisherRecord, publisher_fits, same_publisher};
-use wire::optional::Optional16;
 
 // Where a message comes from: publisher, WriterGroupId where there is one, DataSetWriterId and MessageSequenceNumber.
 #[derive(Clone, Copy)]
 pub struct MessageOrigin {
     pub publisher: PublisherRecord,
-    pub group: Optional16,
+    pub group: Option<u16>,
     pub writer: u16,
     pub number: u16,
 }
@@ -25,6 +24,7 @@ pub struct Message {
 
 // A partial's record: whether it is started, the message it then has, and how many of its bytes are covered. Where a caller made the number
 // up it may be wrong: above the total it is unsound, else handing out refuses it.
+// The flag stands beside the message, as the C interface lends both: what a caller made up stays as it was, whatever the flag says.
 #[derive(Clone, Copy)]
 pub struct PartialRecord {
     pub started: bool,
@@ -33,51 +33,29 @@ pub struct PartialRecord {
 }
 
 // Whether two messages have the same WriterGroupId: absent equals only absent.
-pub(crate) fn same_group(a: Optional16, b: Optional16) -> bool
+pub(crate) fn same_group(a: Option<u16>, b: Option<u16>) -> bool
     ensures { result ≡ same_group a b }
 {
-    match a {
-        Optional16::Absent => match b {
-            Optional16::Absent => true,
-            Optional16::Is(_) => false,
-        },
-        Optional16::Is(x) => match b {
-            Optional16::Absent => false,
-            Optional16::Is(y) => x == y,
-        },
-    }
+    a == b
 }
 
 // Whether two messages have the same origin: publisher, group, writer and number.
+#[tactic(auto, unfolding(crate::specs::Record::same_origin))]
 pub(crate) fn same_origin(a: MessageOrigin, b: MessageOrigin) -> bool
     ensures { result ≡ same_origin (origin_of a) (origin_of b) }
 {
-    let p = a.publisher;
-    let q = b.publisher;
-    if !same_publisher(p, q) {
-        return false;
-    }
-    let g = a.group;
-    let h = b.group;
-    if !same_group(g, h) {
-        return false;
-    }
-    if a.writer != b.writer {
-        return false;
-    }
-    a.number == b.number
+    same_publisher(a.publisher, b.publisher)
+        && same_group(a.group, b.group)
+        && a.writer == b.writer
+        && a.number == b.number
 }
 
 // Whether two messages are the same: origin and total.
+#[tactic(auto, unfolding(crate::specs::Record::same_message))]
 pub(crate) fn same_message(a: Message, b: Message) -> bool
     ensures { result ≡ same_message (identity_of a) (identity_of b) }
 {
-    let p = a.origin;
-    let q = b.origin;
-    if !same_origin(p, q) {
-        return false;
-    }
-    a.total == b.total
+    same_origin(a.origin, b.origin) && a.total == b.total
 }
 
 // Whether a record is sound over areas of these lengths.

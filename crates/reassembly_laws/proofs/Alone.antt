@@ -16,8 +16,7 @@ use Rattle.reassembly.specs.Machine.State.{idle, held}
 use Rattle.reassembly.specs.Judge.{judge_reading, judge_combine}
 use Rattle.reassembly.specs.Operations.{put, take_in, combine}
 use Rattle.reassembly.specs.declared.record.Message.{Message}
-use Rattle.reassembly.specs.declared.verdict.Verdict.{Verdict}
-use Rattle.reassembly.specs.declared.verdict.Verdict.TheVariants.{Done}
+use Rattle.reassembly.specs.Verdict.{Verdict, Done}
 use Rattle.wire.proofs.Cases.{by_bool}
 use Rattle.reassembly.proofs.ViewLaws.{data_above, length_laid}
 use Rattle.reassembly.proofs.JudgeLaws

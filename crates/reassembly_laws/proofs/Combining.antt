@@ -10,8 +10,7 @@ use Rattle.reassembly.specs.Machine.State.{idle, held}
 use Rattle.reassembly.specs.Judge.{judge_combine}
 use Rattle.reassembly.specs.Operations.{combine}
 use Rattle.reassembly_laws.specs.Combining.{is_refused, on_done, disagree, some_disagree, left_verdict, left_result, right_verdict, right_result}
-use Rattle.reassembly.specs.declared.verdict.Verdict.{Verdict}
-use Rattle.reassembly.specs.declared.verdict.Verdict.TheVariants.{Done, Refused}
+use Rattle.reassembly.specs.Verdict.{Verdict, Done, Refused}
 use Rattle.wire.proofs.Cases.{by_bool}
 use Rattle.reassembly.proofs.JudgeLaws.{refused_done, sound_total, combine_judged}
 use Rattle.reassembly_laws.proofs.StateLaws

@@ -27,8 +27,7 @@ use Rattle.reassembly.specs.Machine.Reply.{said, handed}
 use Rattle.reassembly.specs.Calls.{final}
 use Rattle.reassembly.specs.Reading.{chunk_message, reading_at}
 use Rattle.reassembly.specs.Reading.Reading.{chunk}
-use Rattle.reassembly.specs.declared.verdict.Verdict.{Verdict}
-use Rattle.reassembly.specs.declared.verdict.Verdict.TheVariants.{Done}
+use Rattle.reassembly.specs.Verdict.{Verdict, Done}
 use Rattle.wire.proofs.Cases.{by_lt}
 use Rattle.reassembly.proofs.JudgeLaws.{reading_got}
 use Rattle.reassembly.proofs.ViewLaws.{length_tab, get_d_tab, data_at_lem, data_below, data_above, has_data, full_all, clash_none}

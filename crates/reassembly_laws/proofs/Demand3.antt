@@ -21,8 +21,7 @@ use Rattle.reassembly.specs.Judge.{Complete, Equal, judge_reading, judge_combine
 use Rattle.reassembly.specs.Operations.{step_by, with_new, put, put_reading, take_in, combine, ask_complete, judge_hand_out, if_done, hand_out}
 use Rattle.reassembly.specs.Calls.{replies, final, answers, leaves}
 use Rattle.reassembly.specs.declared.record.Message.{Message}
-use Rattle.reassembly.specs.declared.verdict.Verdict.{Verdict}
-use Rattle.reassembly.specs.declared.verdict.Verdict.TheVariants.{Done, Refused}
+use Rattle.reassembly.specs.Verdict.{Verdict, Done, Refused}
 use Rattle.reassembly_laws.specs.AnyList.{AnyList, reply_at, HandsOut}
 use Rattle.reassembly_laws.specs.Alone.{chunk_alone, IsAlone, AsPartial}
 use Rattle.reassembly_laws.specs.Combining.{EqualRoom, EitherOrder, EitherGrouping, some_disagree, left_verdict, right_verdict}

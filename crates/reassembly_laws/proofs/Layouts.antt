@@ -20,8 +20,7 @@ use Rattle.reassembly.specs.Calls.{answers, leaves}
 use Rattle.reassembly.specs.Operations.{Step, step_by, begun, put, put_reading, take_in, combine, emptied}
 use Rattle.reassembly.specs.declared.record.Message.{Message}
 use Rattle.reassembly.specs.declared.record.PartialRecord.{PartialRecord}
-use Rattle.reassembly.specs.declared.verdict.Verdict.{Verdict}
-use Rattle.reassembly.specs.declared.verdict.Verdict.TheVariants.{Done, Refused}
+use Rattle.reassembly.specs.Verdict.{Verdict, Done, Refused}
 use Rattle.reassembly_laws.specs.Layouts.{SameButMarks, SameCall, SameCalls, SameHistory, in_layout}
 use Rattle.reassembly_laws.specs.Layouts.SameCalls.{none, next}
 use Rattle.wire.proofs.Facts.{and_right}

@@ -16,9 +16,8 @@ use Rattle.reassembly.specs.Machine.Reply.{done, said, handed, refused}
 use Rattle.reassembly.specs.Judge.{judge_reading, judge_combine}
 use Rattle.reassembly.specs.Operations.{step_by, take_in, combine, yes_no, says_complete, ask_complete, number_right, judge_hand_out}
 use Rattle.reassembly.specs.Calls.{said_of, answers}
-use Rattle.reassembly.specs.declared.verdict.Completeness.TheVariants as C
-use Rattle.reassembly.specs.declared.verdict.Verdict.{Verdict}
-use Rattle.reassembly.specs.declared.verdict.Verdict.TheVariants.{Done, Refused}
+use Rattle.reassembly.specs.Verdict.{Completeness}
+use Rattle.reassembly.specs.Verdict.{Verdict, Done, Refused}
 use Rattle.reassembly_laws.specs.Refusing.{ByNumber, MayRefuse}
 
 -- a verdict, or a reply, that is no refusal, or one of those that pass
@@ -83,7 +82,7 @@ ask_passes : (s : Partial) → Replies (ByNumber (12 ∷ [])) (said_of (ask_comp
 unfolding ask_complete
 ask_passes s = go (sound s) (says_complete s)
   where
-    go : (b c : Bool) → Replies (ByNumber (12 ∷ [])) (said_of (cond b (yes_no c) (C.Refused 12 0)))
+    go : (b c : Bool) → Replies (ByNumber (12 ∷ [])) (said_of (cond b (yes_no c) (Completeness.Unsaid 12 0)))
     go true true = tt
     go true false = tt
     go false c = (refl, refl)

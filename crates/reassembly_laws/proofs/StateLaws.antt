@@ -6,7 +6,7 @@ use Rattle.reassembly.specs.Views.{clash, differs}
 use Rattle.reassembly.specs.Record.{Identity, same_message}
 use Rattle.reassembly.specs.Machine.{State, between, accept}
 use Rattle.reassembly.specs.Machine.State.{idle, held}
-use Rattle.reassembly.specs.declared.verdict.Verdict.TheVariants.{Done}
+use Rattle.reassembly.specs.Verdict.{Done}
 use Rattle.wire.proofs.Cases.{by_bool, by_lt}
 use Rattle.reassembly.proofs.ViewLaws.{clash_none, none_clash}
 use Rattle.reassembly.proofs.SameLaws.{same_message_true, same_message_yes, same_message_comm}

@@ -4,8 +4,7 @@ use Rattle.reassembly.specs.Record.{Partial, room_of}
 use Rattle.reassembly.specs.Machine.{state_of, between}
 use Rattle.reassembly.specs.Judge.{Equal}
 use Rattle.reassembly.specs.Operations.{combine}
-use Rattle.reassembly.specs.declared.verdict.Verdict.{Verdict}
-use Rattle.reassembly.specs.declared.verdict.Verdict.TheVariants.{Done, Refused}
+use Rattle.reassembly.specs.Verdict.{Verdict, Done, Refused}
 
 abbrev pub is_refused : Verdict → Bool
 is_refused Done = false

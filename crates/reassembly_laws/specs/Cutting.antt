@@ -1,7 +1,7 @@
 -- The chunks that a payload was cut into, as they arrive: in any order, some of them more than once.
 use Rattle.std.specs.Prelude.{ℕ, ◌*◌, ◌≤◌, ◌<◌, List, [], ◌∷◌, ◌⊎◌, ◌≡◌, true, length, take, drop}
 use Rattle.wire.specs.Answer.{got}
-use Rattle.wire_writer.specs.declared.writing.Written.{Written}
+use Rattle.std.specs.Prelude.{Ok}
 use Rattle.publisher_id.specs.PublisherRecord.{publisher_of, record_at}
 use Rattle.network_message.specs.Envelope.{NetworkMessage, network_message_at}
 use Rattle.chunk.specs.Datagram.{chunk_writer_of, chunk_group_of}
@@ -51,7 +51,7 @@ module _ (id : Identity) (p : List ℕ) (size : ℕ) where
     pub buffer : List ℕ
     pub written : List ℕ
     pub n : ℕ
-    pub cut : CutWrote p id.origin.number size k buffer written (Written.Is n)
+    pub cut : CutWrote p id.origin.number size k buffer written (Ok n)
     pub payload : drop at a.datagram ≡ take n written
 
 -- every arrival is of some chunk k

@@ -1,50 +1,50 @@
 // What the calls answer, and the histories with areas of their own.
+// Buffers have a fixed size, since the program runs without a heap, as the library does.
 use crate::partials::{Part, record};
 use crate::salvaging::{field_after, gather, hole_from};
-use reassembly::{Completeness, Outcome, PartialRecord, Progress, Verdict};
+use reassembly::{Outcome, PartialRecord};
 use vector_lines::bytes::word_bytes;
 use vector_lines::lines::{decimal, letter, word};
 use vector_lines::print::{digits, newline, number, put};
 use wire::part::{part, tail};
+use wire::refusal::Refusal;
 
 // Writes a call's answer, and keeps what it left.
 pub fn kept(rt: &impl Print, out: Outcome, payload: [u8; 8], marks: [u8; 1]) -> Part {
-    let answer = out.verdict;
-    verdict(rt, answer);
-    let rec = out.rec;
+    verdict(rt, out.verdict);
     Part {
-        rec,
+        rec: out.rec,
         payload,
         marks,
     }
 }
 
-fn verdict(rt: &impl Print, answer: Verdict) {
+fn verdict(rt: &impl Print, answer: Result<(), Refusal>) {
     match answer {
-        Verdict::Done => {
+        Ok(()) => {
             put(rt, b"done\n");
         }
-        Verdict::Refused(n, place) => refused(rt, n, place),
+        Err(refusal) => refused(rt, refusal),
     }
 }
 
-fn completeness(rt: &impl Print, answer: Completeness) {
+fn completeness(rt: &impl Print, answer: Result<bool, Refusal>) {
     match answer {
-        Completeness::Yes => {
+        Ok(true) => {
             put(rt, b"yes\n");
         }
-        Completeness::No => {
+        Ok(false) => {
             put(rt, b"no\n");
         }
-        Completeness::Refused(n, place) => refused(rt, n, place),
+        Err(refusal) => refused(rt, refusal),
     }
 }
 
 // Writes a refusal: its number and place.
-pub fn refused(rt: &impl Print, n: u8, place: usize) {
+pub fn refused(rt: &impl Print, refusal: Refusal) {
     put(rt, b"refused");
-    number(rt, n as usize);
-    number(rt, place);
+    number(rt, refusal.reason.number() as usize);
+    number(rt, refusal.place);
     newline(rt);
 }
 
@@ -70,9 +70,7 @@ pub fn show(rt: &impl Print, p: Part, line: &[u8]) -> Part {
 }
 
 fn all(rt: &impl Print, p: Part) {
-    let payload = p.payload;
-    let marks = p.marks;
-    of_areas(rt, p.rec, &payload, &marks);
+    of_areas(rt, p.rec, &p.payload, &p.marks);
 }
 
 fn of_areas(rt: &impl Print, rec: PartialRecord, payload: &[u8], marks: &[u8]) {
@@ -95,36 +93,23 @@ fn areas(rt: &impl Print, payload: &[u8], marks: &[u8]) {
 
 // The marks as bits, the lowest of each byte first.
 fn all_bits(rt: &impl Print, marks: &[u8]) {
-    let mut i: usize = 0;
-    while i < marks.len() {
-        bits(rt, marks[i]);
-        i += 1;
+    for b in marks {
+        for k in 0..8usize {
+            digits(rt, ((*b >> k) % 2) as u64);
+        }
     }
-}
-
-fn bits(rt: &impl Print, b: u8) {
-    digits(rt, (b % 2) as u64);
-    digits(rt, (b / 2 % 2) as u64);
-    digits(rt, (b / 4 % 2) as u64);
-    digits(rt, (b / 8 % 2) as u64);
-    digits(rt, (b / 16 % 2) as u64);
-    digits(rt, (b / 32 % 2) as u64);
-    digits(rt, (b / 64 % 2) as u64);
-    digits(rt, (b / 128) as u64);
 }
 
 // How far the partial is.
 fn far(rt: &impl Print, p: Part) {
-    let payload = p.payload;
-    let marks = p.marks;
-    match reassembly::progress(p.rec, &payload, &marks) {
-        Progress::Is(covered, total) => {
+    match reassembly::progress(p.rec, &p.payload, &p.marks) {
+        Ok((covered, total)) => {
             put(rt, b"covered");
             number(rt, covered);
             number(rt, total);
             newline(rt);
         }
-        Progress::Refused(n, place) => refused(rt, n, place),
+        Err(refusal) => refused(rt, refusal),
     }
 }
 
@@ -178,8 +163,7 @@ fn take_word(
     let n = word_bytes(&mut datagram, line, k);
     put(rt, b"take ");
     let out = reassembly::take_in(rec, payload, marks, part(&datagram, 0, n), &[]);
-    let answer = out.verdict;
-    verdict(rt, answer);
+    verdict(rt, out.verdict);
     out.rec
 }
 
@@ -212,8 +196,7 @@ fn take_alone(
     datagram: &[u8],
 ) {
     let out = reassembly::take_in(rec, payload, marks, datagram, &[]);
-    let answer = out.verdict;
-    verdict(rt, answer);
+    verdict(rt, out.verdict);
 }
 
 fn ask_alone(rt: &impl Print, rec: PartialRecord, payload: &[u8], marks: &[u8]) {

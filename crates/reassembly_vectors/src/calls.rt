@@ -1,4 +1,5 @@
 // The calls on partials.
+// Buffers have a fixed size, since the program runs without a heap, as the library does.
 use crate::answers::{kept, show};
 use crate::partials::{Part, record, with_record};
 use chunk::cut::cut;
@@ -9,7 +10,6 @@ use vector_lines::lines::{decimal, letter, word};
 use vector_lines::print::put;
 use wire::part::part;
 use wire_writer::store::put_run;
-use wire_writer::writing::Written;
 
 // The number of the message that is cut, and the size of its chunks' data.
 const MESSAGE: u16 = 7;
@@ -44,8 +44,7 @@ pub fn new(line: &[u8]) -> Part {
 }
 
 fn emptied(p: Part) -> Part {
-    let rec = p.rec;
-    with_record(p, reassembly::empty(rec))
+    with_record(p, reassembly::empty(p.rec))
 }
 
 fn take(rt: &impl Print, p: Part, line: &[u8]) -> Part {
@@ -57,7 +56,7 @@ fn take(rt: &impl Print, p: Part, line: &[u8]) -> Part {
 // Takes in a chunk of a payload, after the envelope that the line has.
 fn take_piece(rt: &impl Print, p: Part, line: &[u8]) -> Part {
     let mut piece = [0u8; 32];
-    let Written::Is(n) = cut(
+    let Ok(n) = cut(
         &mut piece,
         b"abcdefgh",
         MESSAGE,
@@ -82,9 +81,7 @@ fn taken(rt: &impl Print, p: Part, datagram: &[u8]) -> Part {
 }
 
 fn combine(rt: &impl Print, p: Part, source: Part) -> Part {
-    let payload = source.payload;
-    let marks = source.marks;
-    joined(rt, p, source.rec, &payload, &marks)
+    joined(rt, p, source.rec, &source.payload, &source.marks)
 }
 
 fn join(rt: &impl Print, p: Part, line: &[u8]) -> Part {

@@ -17,6 +17,7 @@
 //
 // A record lists its parts: `s` 1 where it is started, `h` a UInt16, `d` a UInt32 or `t` the length of a string as PublisherId, `x` the
 // bytes of the text, `g` WriterGroupId where there is one, `w` DataSetWriterId, `n` number, `l` total, `c` covered bytes.
+// Buffers have a fixed size, since the program runs without a heap, as the library does.
 #![tactic(auto)]
 
 ghost use Rattle.std.specs.Prelude.{◌<◌};
@@ -37,9 +38,11 @@ fn main(rt: HostRuntime) {
     lines(&rt, part(&text, 0, n));
 }
 
+// A line is read with the byte that ends it, so the position goes on by no fixed step.
 fn lines(rt: &impl Print, text: &[u8]) {
     let mut parts = [new(b""); 8];
     let mut at: usize = 0;
+    // a `while`: the library's `split` has an empty line after the last newline
     while at < text.len() {
         let line = item(text, at, b'\n');
         let from = place(line, 2);

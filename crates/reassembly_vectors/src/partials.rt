@@ -2,9 +2,7 @@
 use publisher_id::publisher::PublisherId;
 use publisher_id::publisher_record::PublisherRecord;
 use reassembly::{Message, MessageOrigin, PartialRecord};
-use text::decimal::Decimal;
-use vector_lines::lines::{lettered, low16, numbered};
-use wire::optional::Optional16;
+use vector_lines::lines::{lettered, lettered16, low16, numbered};
 
 // A partial with a payload area of 8 bytes.
 #[derive(Clone, Copy)]
@@ -24,7 +22,7 @@ pub fn record(parts: &[u8]) -> PartialRecord {
                     id: publisher(parts),
                     text: [(numbered(parts, b'x') % 256) as u8; 64],
                 },
-                group: group(parts),
+                group: lettered16(parts, b'g'),
                 writer: low16(numbered(parts, b'w')),
                 number: low16(numbered(parts, b'n')),
             },
@@ -36,27 +34,14 @@ pub fn record(parts: &[u8]) -> PartialRecord {
 
 // A partial with another record.
 pub fn with_record(p: Part, rec: PartialRecord) -> Part {
-    let payload = p.payload;
-    let marks = p.marks;
-    Part {
-        rec,
-        payload,
-        marks,
-    }
-}
-
-fn group(parts: &[u8]) -> Optional16 {
-    if let Decimal::Is(n, _) = lettered(parts, b'g') {
-        return Optional16::Is((n % 65536) as u16);
-    }
-    Optional16::Absent
+    Part { rec, ..p }
 }
 
 fn publisher(parts: &[u8]) -> PublisherId {
-    if let Decimal::Is(n, _) = lettered(parts, b'd') {
+    if let Some((n, _)) = lettered(parts, b'd') {
         return PublisherId::UInt32((n % 4294967296) as u32);
     }
-    if let Decimal::Is(n, _) = lettered(parts, b't') {
+    if let Some((n, _)) = lettered(parts, b't') {
         return PublisherId::Text(n as usize);
     }
     PublisherId::UInt16(low16(numbered(parts, b'h')))

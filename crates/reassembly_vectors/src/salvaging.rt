@@ -1,19 +1,20 @@
 // What is salvaged of partials, and what cursors over holes and fields tell.
+// Buffers have a fixed size, since the program runs without a heap, as the library does.
 use crate::answers::refused;
 use crate::partials::record;
 use dataset_fields::fields::{Cursor, Field};
 use dataset_header::flags::Encoding;
 use message_record::message::{elements_number, shape_number};
-use partial_record::salvage_record::{Salvaged, salvage};
-use reassembly::{PartialRecord, Progress};
+use partial_record::salvage_record::salvage;
+use reassembly::PartialRecord;
 use salvage::front::{FieldShown, next};
-use salvage::holes::{HoleStep, next_hole};
-use value::{Shape, dimensions};
+use salvage::holes::next_hole;
+use value::dimensions;
 use vector_lines::bytes::word_bytes;
 use vector_lines::lines::{decimal, numbered, word};
 use vector_lines::print::{newline, number, put};
+use wire::item::Item;
 use wire::part::part;
-use wire::{Item64, read64};
 
 // The entries that a list has at most, and the bytes of one.
 const MOST: usize = 8;
@@ -47,8 +48,8 @@ fn of_partial(
     room: usize,
 ) {
     match reassembly::progress(rec, payload, marks) {
-        Progress::Refused(n, place) => refused(rt, n, place),
-        Progress::Is(_, total) => of_room(rt, payload, marks, types, total, room),
+        Err(refusal) => refused(rt, refusal),
+        Ok((_, total)) => of_room(rt, payload, marks, types, total, room),
     }
 }
 
@@ -80,8 +81,8 @@ fn into_list(
     total: usize,
 ) {
     match salvage(told, list, payload, marks, types, total) {
-        Salvaged::Refused(n, place) => refused(rt, n, place),
-        Salvaged::Is(n) => {
+        Err(refusal) => refused(rt, refusal),
+        Ok(n) => {
             all_told(rt, told);
             entries(rt, list, number_at(told, 0), n);
         }
@@ -90,32 +91,24 @@ fn into_list(
 
 // The number at a position.
 fn number_at(s: &[u8], at: usize) -> usize {
-    let Item64::Is(n, _) = read64(s, at) else {
-        return 0;
-    };
-    n as usize
+    match u64::read(s, at) {
+        Ok((n, _)) => n as usize,
+        Err(_) => 0,
+    }
 }
 
 // Holes, fields, whether the count is known, promised, front, total, encoding.
 fn all_told(rt: &impl Print, told: &[u8]) {
     put(rt, b"salvaged");
-    number(rt, number_at(told, 0));
-    number(rt, number_at(told, 8));
-    number(rt, number_at(told, 16));
-    number(rt, number_at(told, 24));
-    number(rt, number_at(told, 32));
-    number(rt, number_at(told, 40));
-    number(rt, number_at(told, 48));
+    for i in 0..7 {
+        number(rt, number_at(told, 8 * i));
+    }
     newline(rt);
 }
 
 fn entries(rt: &impl Print, list: &[u8], holes: usize, n: usize) {
-    let mut i: usize = 0;
-    while i < MOST {
-        if i < n {
-            entry(rt, part(list, ENTRY_SIZE * i, ENTRY_SIZE), i < holes);
-        }
-        i += 1;
+    for i in 0..n.min(MOST) {
+        entry(rt, part(list, ENTRY_SIZE * i, ENTRY_SIZE), i < holes);
     }
 }
 
@@ -141,10 +134,10 @@ pub fn hole_from(rt: &impl Print, line: &[u8]) {
     let mut marks = [0u8; 8];
     let m = word_bytes(&mut marks, line, 3);
     match next_hole(part(&marks, 0, m), decimal(line, 4), decimal(line, 5)) {
-        HoleStep::Last => {
+        None => {
             put(rt, b"last\n");
         }
-        HoleStep::Is(h, end) => {
+        Some((h, end)) => {
             put(rt, b"hole");
             number(rt, h.offset);
             number(rt, h.length);
@@ -191,14 +184,14 @@ fn encoding(n: usize) -> Encoding {
 
 fn shown(rt: &impl Print, front: &[u8], area: &[u8], types: &[u8], c: Cursor) {
     match next(front, area, types, c) {
-        FieldShown::Refused(n, place) => refused(rt, n, place),
-        FieldShown::Ends => {
+        Err(refusal) => refused(rt, refusal),
+        Ok(FieldShown::Ends) => {
             put(rt, b"ends\n");
         }
-        FieldShown::Last => {
+        Ok(FieldShown::Last) => {
             put(rt, b"last\n");
         }
-        FieldShown::Is(f, after) => {
+        Ok(FieldShown::Is(f, after)) => {
             one_field(rt, f);
             put(rt, b" next");
             number(rt, after.next);
@@ -210,13 +203,12 @@ fn shown(rt: &impl Print, front: &[u8], area: &[u8], types: &[u8], c: Cursor) {
 }
 
 fn one_field(rt: &impl Print, f: Field) {
-    let shape: Shape = f.shape;
     put(rt, b"field");
     number(rt, f.index);
     number(rt, f.kind as usize);
-    number(rt, shape_number(shape) as usize);
-    number(rt, elements_number(shape) as usize);
-    number(rt, dimensions(shape) as usize);
+    number(rt, shape_number(f.shape) as usize);
+    number(rt, elements_number(f.shape) as usize);
+    number(rt, dimensions(f.shape) as usize);
     number(rt, f.offset);
     number(rt, f.length);
 }

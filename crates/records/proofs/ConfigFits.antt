@@ -3,7 +3,7 @@
 use Prim.Native.Nat.{ℕ, zero, suc, ◌+◌, ◌<◌}
 use mathlib.Core.Path.{refl, ◌∙◌}
 use mathlib.Core.List.{List, [], ◌∷◌}
-use mathlib.Core.Option.{Option, some, none}
+use Rattle.std.specs.Prelude.{Option, Some, None}
 use native.Mathlib.Omega.{arith}
 use borrow.Author.Tests.{leb-true}
 use lib.Dec.{leb, eqb}
@@ -17,13 +17,13 @@ use Rattle.config.specs.declared.Config.{Config}
 use Rattle.config.specs.Writers.{empty_config}
 use Rattle.config_text.specs.Line.{Says, tab_byte, is_dash, positive, size_of, writer_of, field_of, writer_start, field_start, says_of}
 use Rattle.config_text.specs.Line.Says.{writer, field, bad}
-use Rattle.config_text.specs.Config.{TextLine, ended, unended, line_says, may_follow, with, read_lines, lines_of, config_of}
+use Rattle.config_text.specs.Config.{TextLine, ended, unended, line_says, may_follow, with, read_lines, lines_of, config_in, config_of}
 use Rattle.records.specs.Writers.{FitsConfig}
 
 -- ---- what a line says fits
 abbrev FitsOption : Option ℕ → Type 0
-FitsOption (some n) = n < 65536
-FitsOption none = Unit {0}
+FitsOption (Some n) = n < 65536
+FitsOption None = Unit {0}
 
 abbrev FitsSays : Says → Type 0
 FitsSays (writer id size) = (id < 65536) × (size < 65536)
@@ -39,20 +39,20 @@ decimal_fits t =
     (λ a. rw a tt)
 
 positive_fits : (o : Option ℕ) → FitsOption o → FitsOption (positive o)
-positive_fits (some n) h = by_bool _ (eqb n 0) (λ b. rw b tt) (λ b. rw b h)
-positive_fits none h = tt
+positive_fits (Some n) h = by_bool _ (eqb n 0) (λ b. rw b tt) (λ b. rw b h)
+positive_fits None h = tt
 
 size_fits : (p : List ℕ) → FitsOption (size_of p)
 size_fits p = by_bool _ (is_dash p) (λ b. rw b (omega arith)) (λ b. rw b (positive_fits (decimal_of 65535 p) (decimal_fits p)))
 
 writer_fits : (id size : Option ℕ) → FitsOption id → FitsOption size → FitsSays (writer_of id size)
-writer_fits (some i) (some z) h k = (h, k)
-writer_fits (some i) none h k = tt
-writer_fits none size h k = tt
+writer_fits (Some i) (Some z) h k = (h, k)
+writer_fits (Some i) None h k = tt
+writer_fits None size h k = tt
 
 field_fits : (o : Option ℕ) → FitsSays (field_of o)
-field_fits (some t) = by_bool _ (fixed t) (λ b. rw b tt) (λ b. rw b tt)
-field_fits none = tt
+field_fits (Some t) = by_bool _ (fixed t) (λ b. rw b tt) (λ b. rw b tt)
+field_fits None = tt
 
 says_fits : (line : List ℕ) → FitsSays (says_of line)
 says_fits line =
@@ -95,11 +95,11 @@ with_fits c (writer id size) f h = record {
 with_fits c (field t) f h = record { ids = f.ids; sizes = f.sizes; starts = f.starts; types = length-set c.types c.fields t ∙ f.types }
 with_fits c bad f h = f
 
-lines_fit : (c : Config) (n : ℕ) (ls : List TextLine) → FitsConfig c → FitsConfig (read_lines c n ls).config
+lines_fit : (c : Config) (n : ℕ) (ls : List TextLine) → FitsConfig c → FitsConfig (config_in (read_lines c n ls))
 lines_fit c n [] f = f
 lines_fit c n (l ∷ ls) f =
     by_bool _ (may_follow c (line_says l)) (λ b. rw b (lines_fit (with c (line_says l)) (n + 1) ls (with_fits c (line_says l) f (line_fits l)))) (λ b. rw b empty_fits)
 
-pub config_fits : (text : List ℕ) → FitsConfig (config_of text).config
+pub config_fits : (text : List ℕ) → FitsConfig (config_in (config_of text))
 unfolding config_of
 config_fits text = lines_fit empty_config 1 (lines_of text) empty_fits

@@ -4,3 +4,4 @@ pub mod ReadBack
 pub mod ConfigBack
 pub mod ConfigFits
 pub mod Fitting
+pub mod NumberStoring

@@ -13,15 +13,12 @@ use lib.Seq.{length-sets, sets-eq, drop-drop, length-take-le}
 use lib.IntN.{pos, negsuc}
 use Rattle.wire.specs.Number.{le, le_bytes}
 use Rattle.wire.specs.Answer.{got, item}
-use Rattle.wire.specs.declared.optional.Optional16.{Optional16}
-use Rattle.wire.specs.declared.optional.Optional32.{Optional32}
-use Rattle.wire.specs.declared.optional.OptionalI64.{OptionalI64}
+use Rattle.std.specs.Prelude.{Option, Some, None, is_some, ℤ}
 use Rattle.wire.proofs.Numbers.{length_le_bytes, signed_unsigned}
 use Rattle.wire.proofs.Places.{moved_by, append, after}
 use Rattle.wire.proofs.Steady.{item_steady}
 use Rattle.wire.proofs.Cases.{by_bool, by_lt}
 use Rattle.wire_writer.specs.Store.{laid}
-use Rattle.wire_writer.specs.Writing.{on16, on32, on_i64}
 use Rattle.wire_writer.specs.Fits.{Fits16, Fits32, FitsI64}
 use Rattle.wire_writer.proofs.Putting.{front}
 use Rattle.config.specs.Writers.{at_most}
@@ -30,7 +27,7 @@ use Rattle.network_message.specs.Payload.{value_or0}
 use Rattle.publisher_id.specs.PublisherRecord.{code_of}
 use Rattle.publisher_id.specs.declared.publisher.PublisherId.{PublisherId}
 use Rattle.records.specs.Numbers.{number_at, number_bytes}
-use Rattle.records.specs.Items.{has16, value16, has32, value32, has_i64, value_i64, flag_number, given16, given32, given_i64, fits_item, is_on}
+use Rattle.records.specs.Items.{has_item, item_value, value_i64, flag_number, given16, given32, given_i64, fits_item, is_on}
 use Rattle.records.specs.Publisher.{publisher_by, publisher_most, publisher_given, publisher_number, publisher_number_fits, FitsId}
 
 -- ---- numbers that stand at the start of a record
@@ -106,77 +103,57 @@ flag_fits false = omega arith
 
 -- ---- items that may be absent
 
-pub given16_back : (o : Optional16) → Fits16 o → given16 (on16 o) (value16 o) ≡ o
-given16_back Optional16.Absent f = refl
-given16_back (Optional16.Is v) f = ap Optional16.Is (rw (le-ltb 65535 v (omega arith)))
+pub given16_back : (o : Option ℕ) → Fits16 o → given16 (is_some o) (item_value o) ≡ o
+given16_back None f = refl
+given16_back (Some v) f = ap Some (rw (le-ltb 65535 v (omega arith)))
 
-pub given32_back : (o : Optional32) → Fits32 o → given32 (on32 o) (value32 o) ≡ o
-given32_back Optional32.Absent f = refl
-given32_back (Optional32.Is v) f = ap Optional32.Is (rw (le-ltb 4294967295 v (omega arith)))
+pub given32_back : (o : Option ℕ) → Fits32 o → given32 (is_some o) (item_value o) ≡ o
+given32_back None f = refl
+given32_back (Some v) f = ap Some (rw (le-ltb 4294967295 v (omega arith)))
 
-pub given_i64_back : (o : OptionalI64) → FitsI64 o → given_i64 (on_i64 o) (value_i64 o) ≡ o
-given_i64_back OptionalI64.Absent f = refl
-given_i64_back (OptionalI64.Is v) f = ap OptionalI64.Is (signed_unsigned 8 v (omega arith) f)
+pub given_i64_back : (o : Option ℤ) → FitsI64 o → given_i64 (is_some o) (value_i64 o) ≡ o
+given_i64_back None f = refl
+given_i64_back (Some v) f = ap Some (signed_unsigned 8 v (omega arith) f)
 
-pub fits16_back : (o : Optional16) → Fits16 o → fits_item (on16 o) 65535 (value16 o) ≡ true
-fits16_back Optional16.Absent f = refl
-fits16_back (Optional16.Is v) f = le-leb v 65535 (omega arith)
+pub fits16_back : (o : Option ℕ) → Fits16 o → fits_item (is_some o) 65535 (item_value o) ≡ true
+fits16_back None f = refl
+fits16_back (Some v) f = le-leb v 65535 (omega arith)
 
-pub fits32_back : (o : Optional32) → Fits32 o → fits_item (on32 o) 4294967295 (value32 o) ≡ true
-fits32_back Optional32.Absent f = refl
-fits32_back (Optional32.Is v) f = le-leb v 4294967295 (omega arith)
+pub fits32_back : (o : Option ℕ) → Fits32 o → fits_item (is_some o) 4294967295 (item_value o) ≡ true
+fits32_back None f = refl
+fits32_back (Some v) f = le-leb v 4294967295 (omega arith)
 
 -- whether one is there, as the record's number tells it
-pub told16 : (o : Optional16) → eqb (has16 o) 1 ≡ on16 o
-told16 Optional16.Absent = refl
-told16 (Optional16.Is v) = refl
+pub told : {A : Type 0} (o : Option A) → eqb (has_item o) 1 ≡ is_some o
+told None = refl
+told (Some v) = refl
 
-pub told32 : (o : Optional32) → eqb (has32 o) 1 ≡ on32 o
-told32 Optional32.Absent = refl
-told32 (Optional32.Is v) = refl
-
-pub told_i64 : (o : OptionalI64) → eqb (has_i64 o) 1 ≡ on_i64 o
-told_i64 OptionalI64.Absent = refl
-told_i64 (OptionalI64.Is v) = refl
-
-pub is_on16 : (o : Optional16) → is_on (has16 o) ≡ on16 o
-is_on16 Optional16.Absent = refl
-is_on16 (Optional16.Is v) = refl
-
-pub is_on_i64 : (o : OptionalI64) → is_on (has_i64 o) ≡ on_i64 o
-is_on_i64 OptionalI64.Absent = refl
-is_on_i64 (OptionalI64.Is v) = refl
+pub is_on_has : {A : Type 0} (o : Option A) → is_on (has_item o) ≡ is_some o
+is_on_has None = refl
+is_on_has (Some v) = refl
 
 pub is_on_flag : (b : Bool) → is_on (flag_number b) ≡ b
 is_on_flag true = refl
 is_on_flag false = refl
 
 -- such a number is 0 or 1
-pub has16_bound : (o : Optional16) → has16 o < 2
-has16_bound Optional16.Absent = omega arith
-has16_bound (Optional16.Is v) = omega arith
-
-pub has32_bound : (o : Optional32) → has32 o < 2
-has32_bound Optional32.Absent = omega arith
-has32_bound (Optional32.Is v) = omega arith
-
-pub has_i64_bound : (o : OptionalI64) → has_i64 o < 2
-has_i64_bound OptionalI64.Absent = omega arith
-has_i64_bound (OptionalI64.Is v) = omega arith
+pub has_bound : {A : Type 0} (o : Option A) → has_item o < 2
+has_bound None = omega arith
+has_bound (Some v) = omega arith
 
 -- the values fit a record's number
-pub value16_bound : (o : Optional16) → Fits16 o → value16 o < 65536
-value16_bound Optional16.Absent f = omega arith
-value16_bound (Optional16.Is v) f = f
+pub value16_bound : (o : Option ℕ) → Fits16 o → item_value o < 65536
+value16_bound None f = omega arith
+value16_bound (Some v) f = f
 
-pub value32_bound : (o : Optional32) → Fits32 o → value32 o < 4294967296
-value32_bound Optional32.Absent f = omega arith
-value32_bound (Optional32.Is v) f = f
+pub value32_bound : (o : Option ℕ) → Fits32 o → item_value o < 4294967296
+value32_bound None f = omega arith
+value32_bound (Some v) f = f
 
-pub value_i64_bound : (o : OptionalI64) → FitsI64 o → value_i64 o < 256 ^ 8
-value_i64_bound OptionalI64.Absent f = omega arith
-value_i64_bound (OptionalI64.Is (pos n)) f = omega arith
-value_i64_bound (OptionalI64.Is (negsuc n)) f = omega arith
+pub value_i64_bound : (o : Option ℤ) → FitsI64 o → value_i64 o < 256 ^ 8
+value_i64_bound None f = omega arith
+value_i64_bound (Some (pos n)) f = omega arith
+value_i64_bound (Some (negsuc n)) f = omega arith
 
 -- storing changes no length
 pub laid_length : (l : List ℕ) (at : ℕ) (b : List ℕ) → length (laid l at b) ≡ length l

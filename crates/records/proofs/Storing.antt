@@ -6,43 +6,62 @@ use mathlib.Core.Bool.{true}
 use mathlib.Core.List.{List, [], ◌∷◌, ◌++◌, append_assoc}
 use native.Mathlib.Numerals.{add-one}
 use native.Mathlib.Omega.{arith}
-use borrow.Author.Tests.{le-leb, lt-leb}
+use borrow.Author.Tests.{le-leb, lt-leb, le-ltb, lt-ltb}
+use Rattle.std.specs.Prelude.{min}
+use Rattle.wire.proofs.Cases.{by_lt}
 use lib.Dec.{leb}
 use lib.ListN.{length, get_or, drop, set, length-append, drop_of_length-le}
 use lib.Seq.{sets, drop-cons, length-sets}
 use Rattle.wire.specs.Number.{le, le_bytes}
-use Rattle.wire_writer.specs.Store.{laid}
+use Rattle.wire_writer.specs.Store.{laid, Stored}
 use Rattle.wire.proofs.Numbers.{length_le_bytes}
 use Rattle.wire_writer.proofs.Stores.{sets_append}
 use Rattle.network_message.specs.Payload.{listed}
 use Rattle.config.specs.declared.Config.{Config}
 use Rattle.config.specs.Writers.{at_most}
-use Rattle.records.specs.Numbers.{bytes_each, number_bytes}
+use Rattle.records.specs.Numbers.{all_bytes, bytes_each, number_bytes}
 use Rattle.records.specs.Writers.{config_bytes}
 
 pub bytes_length : (xs : List ℕ) → length (number_bytes xs) ≡ 8 * length xs
 bytes_length [] = refl
 bytes_length (x ∷ xs) = omega (arith, length-append (le_bytes 8 x) (number_bytes xs), length_le_bytes 8 x, bytes_length xs)
 
-bytes_length_2 : (xs : List ℕ) → length (bytes_each 2 xs) ≡ 2 * length xs
+pub bytes_length_2 : (xs : List ℕ) → length (bytes_each 2 xs) ≡ 2 * length xs
 bytes_length_2 [] = refl
 bytes_length_2 (x ∷ xs) = omega (arith, length-append (le_bytes 2 x) (bytes_each 2 xs), length_le_bytes 2 x, bytes_length_2 xs)
 
--- one number more is stored, and those after it are left
-pub number_stored : (w : ℕ) (xs l r e : List ℕ) (i at : ℕ) → i < length xs → at + w ≤ length l → e ≡ laid l at (le_bytes w (get_or xs i 0))
-    → sets l at (bytes_each w (drop i xs)) ≡ r → sets e (at + w) (bytes_each w (drop (i + 1) xs)) ≡ r
-number_stored w xs l r e i at h room q v =
-    let n : length (le_bytes w (get_or xs i 0)) ≡ w = length_le_bytes w (get_or xs i 0) in
-    let f : leb (at + length (le_bytes w (get_or xs i 0))) (length l) ≡ true = le-leb (at + length (le_bytes w (get_or xs i 0))) (length l) (omega arith) in
-    let s : e ≡ sets l at (le_bytes w (get_or xs i 0)) = rw f at q in
-    let d : drop i xs ≡ get_or xs i 0 ∷ drop (i + 1) xs = rw add-one (drop-cons xs i 0 h) in
-    let k : sets l at (le_bytes w (get_or xs i 0) ++ bytes_each w (drop (i + 1) xs)) ≡ r = ap (λ (y : List ℕ). sets l at (bytes_each w y)) (sym d) ∙ v in
-    ap (λ (y : List ℕ). sets y (at + w) (bytes_each w (drop (i + 1) xs))) s
-    ∙ ap (λ (k : ℕ). sets (sets l at (le_bytes w (get_or xs i 0))) (at + k) (bytes_each w (drop (i + 1) xs))) (sym n)
-    ∙ sets_append (le_bytes w (get_or xs i 0)) (bytes_each w (drop (i + 1) xs)) l at ∙ k
+-- one item more is stored, and those after it are left
+module _ {A : Type 0} (bytes : A → List ℕ) (xs : List A) (x : A) (l r e : List ℕ) (i at next : ℕ) (within : i < length xs) (here : x ≡ get_or xs i x)
+    (put : Stored (bytes x) l at e next) (room : at + length (all_bytes bytes (drop i xs)) ≤ length l)
+    (stored : sets l at (all_bytes bytes (drop i xs)) ≡ r) where
+  abbrev rest : List ℕ
+  rest = all_bytes bytes (drop (i + 1) xs)
 
-pub all_stored : (w : ℕ) (xs l r : List ℕ) (i at : ℕ) → length xs ≤ i → sets l at (bytes_each w (drop i xs)) ≡ r → l ≡ r
-all_stored w xs l r i at h v = ap (λ (y : List ℕ). sets l at (bytes_each w y)) (sym (drop_of_length-le xs h)) ∙ v
+  parts : all_bytes bytes (drop i xs) ≡ bytes x ++ rest
+  parts = rw add-one (ap (all_bytes bytes) (drop-cons xs i x within) ∙ ap (λ (y : A). bytes y ++ all_bytes bytes (drop (suc i) xs)) (sym here))
+
+  sizes : length (all_bytes bytes (drop i xs)) ≡ length (bytes x) + length rest
+  sizes = ap length parts ∙ length-append (bytes x) rest
+
+  fits : leb (at + length (bytes x)) (length l) ≡ true
+  fits = le-leb (at + length (bytes x)) (length l) (omega (arith, sizes, room))
+
+  exit : e ≡ sets l at (bytes x)
+  exit = rw fits at put.stored
+
+  after : next ≡ at + length (bytes x)
+  after = rw fits at put.after
+
+  pub put_room : next + length rest ≤ length e
+  put_room = omega (arith, sizes, room, after, ap length exit, length-sets l at (bytes x))
+
+  pub put_next : sets e next rest ≡ r
+  put_next =
+      ap (λ (y : List ℕ). sets y next rest) exit ∙ ap (λ (k : ℕ). sets (sets l at (bytes x)) k rest) after
+      ∙ sets_append (bytes x) rest l at ∙ ap (sets l at) (sym parts) ∙ stored
+
+pub put_end : {A : Type 0} (bytes : A → List ℕ) (xs : List A) (l r : List ℕ) (i at : ℕ) → length xs ≤ i → sets l at (all_bytes bytes (drop i xs)) ≡ r → l ≡ r
+put_end bytes xs l r i at h v = ap (λ (y : List _). sets l at (all_bytes bytes y)) (sym (drop_of_length-le xs h)) ∙ v
 
 -- numbers that fit, and numbers that do not
 pub put_fits : (xs l e : List ℕ) (at : ℕ) → at + 8 * length xs ≤ length l → e ≡ sets l at (number_bytes xs) → e ≡ laid l at (number_bytes xs)
@@ -78,6 +97,10 @@ store_next_sets : (l e f x y : List ℕ) (at : ℕ) → at ≡ length x → at +
 store_next_sets l e f x y at a room q v =
     let n : length e ≡ length l = ap (λ (k : List ℕ). length k) q ∙ length-sets l 0 x in
     store_next l e f x y at a room q (rw (le-leb (at + length y) (length e) (omega arith)) v)
+
+-- the smaller of a number and the most that it may be
+pub least_most : (most n r : ℕ) → r ≡ min n most → r ≡ at_most most n
+least_most most n r e = by_lt _ most n (λ h. rw (lt-ltb most n h) (omega (arith, e))) (λ h. rw (le-ltb most n h) (omega (arith, e)))
 
 -- a configuration record is 146 bytes long
 pub config_length : (c : Config) → length c.ids ≡ 16 → length c.sizes ≡ 16 → length c.starts ≡ 16 → length c.types ≡ 64 → length (config_bytes c) ≡ 146

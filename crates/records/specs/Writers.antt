@@ -1,12 +1,13 @@
 -- The configuration record (include/uadp.h, "Configuration record").
-use Rattle.std.specs.Prelude.{ℕ, ◌≡◌, cond, List, [], ◌++◌, ltb, length, take, drop, get_or, replicate}
+use Rattle.std.specs.Prelude.{ℕ, ◌≡◌, Result, Ok, Err, cond, List, [], ◌++◌, ltb, length, take, drop, get_or, replicate}
 use Rattle.wire.specs.Constants.{MOST_FIELDS, MOST_WRITERS}
 use Rattle.records.specs.Sizes.{CONFIG_SIZE}
 use Rattle.wire.specs.Number.{le_bytes}
 use Rattle.wire.specs.Answer.{Answer, got, refused}
 use Rattle.wire_writer.specs.Fits.{Numbers}
 use Rattle.config.specs.declared.Config.{Config}
-use Rattle.config_text.specs.declared.ConfigRead.{ConfigRead}
+use Rattle.wire.specs.Refusal.{reason_number}
+use Rattle.wire.specs.declared.refusal.Refusal.{Refusal}
 use Rattle.config.specs.Writers.{at_most, fields_of_id}
 use Rattle.network_message.specs.Payload.{listed}
 use Rattle.records.specs.Numbers.{bytes_each}
@@ -53,9 +54,9 @@ config_bytes c =
     ++ c.types
 
 -- the record of a configuration text: "Refusals: 16 with the line, counted from 1; 11"
-abbrev pub config_filling : ConfigRead → Answer Filling
-config_filling r =
-    cond (ltb 0 r.number) (refused r.number r.place) (got (record { value = 0; bytes = config_bytes r.config }) 0)
+abbrev pub config_filling : Result Config Refusal → Answer Filling
+config_filling (Ok c) = got (record { value = 0; bytes = config_bytes c }) 0
+config_filling (Err r) = refused (reason_number r.reason) r.place
 
 -- a configuration whose numbers fit their types, with lists of 16 and 64, as a value of the code has
 pub record FitsConfig (c : Config) : Type 0 where

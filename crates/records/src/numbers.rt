@@ -2,9 +2,10 @@
 ghost use Rattle.std.specs.Prelude.{◌≡◌, ◌+◌, ◌*◌, ◌≤◌, length};
 ghost use Rattle.std.proofs.lemmas.List.Edits.{sets};
 ghost use Rattle.wire_writer.specs.Store.{laid};
-ghost use Rattle.records.specs.Numbers.{number_at, number_bytes};
+ghost use Rattle.records.specs.Numbers.{number_at, number_bytes, all_bytes};
 
-use wire::Item64;
+use wire::item::Item;
+use wire_writer::store::Store;
 
 // Number i of a record, 0 where it does not fit. The test keeps 8 * i in range; for a constant i it costs nothing.
 pub fn number(s: &[u8], i: usize) -> u64
@@ -13,22 +14,20 @@ pub fn number(s: &[u8], i: usize) -> u64
     if 2305843009213693951 < i {
         return 0;
     }
-    match wire::read64(s, 8 * i) {
-        Item64::Is(v, _) => v,
-        Item64::Short => 0,
+    match u64::read(s, 8 * i) {
+        Ok((v, _)) => v,
+        Err(_) => 0,
     }
 }
 
-fn store(out: &mut [u8], start: usize, numbers: &[u64])
-    requires { start + 8 * length numbers.now ≤ length out.old }
-    ensures { out.new ≡ sets out.old start (number_bytes numbers.now) }
+// Stores items of the same type, one after the other.
+pub(crate) fn put_each<T: Store>(out: &mut [u8], start: usize, items: &[T])
+    requires { start + length (all_bytes T.bytes items.now) ≤ length out.old }
+    ensures { out.new ≡ sets out.old start (all_bytes T.bytes items.now) }
 {
-    let mut i = 0;
     let mut at = start;
-    while i < numbers.len() {
-        wire_writer::store::put64(out, at, numbers[i]);
-        at += 8;
-        i += 1;
+    for item in items {
+        at = item.put(out, at);
     }
 }
 
@@ -43,7 +42,7 @@ pub fn put_numbers_from(out: &mut [u8], i: usize, numbers: &[u64])
     if room - i < numbers.len() {
         return;
     }
-    store(out, 8 * i, numbers);
+    put_each(out, 8 * i, numbers);
 }
 
 // Stores the numbers of a record from its start; where they do not all fit, none.

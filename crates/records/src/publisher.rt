@@ -1,4 +1,5 @@
 // A PublisherId in a record: the number of its type, and its number.
+// The C interface has numbers for kinds: here they become the enum and go back. Any number has an answer.
 ghost use Rattle.std.specs.Prelude.{◌≡◌};
 ghost use Rattle.records.specs.Publisher.{publisher_by, publisher_most, publisher_given, publisher_number_fits, publisher_number};
 
@@ -9,38 +10,26 @@ use publisher_id::publisher::PublisherId;
 pub fn publisher_by(code: u64, v: u64) -> PublisherId
     ensures { result ≡ publisher_by code v }
 {
-    if code == 1 {
-        return PublisherId::Byte((v % 256) as u8);
+    match code {
+        1 => PublisherId::Byte((v % 256) as u8),
+        2 => PublisherId::UInt16((v % 65536) as u16),
+        3 => PublisherId::UInt32((v % 4294967296) as u32),
+        4 => PublisherId::UInt64(v),
+        5 => PublisherId::Text(v as usize),
+        _ => PublisherId::Absent,
     }
-    if code == 2 {
-        return PublisherId::UInt16((v % 65536) as u16);
-    }
-    if code == 3 {
-        return PublisherId::UInt32((v % 4294967296) as u32);
-    }
-    if code == 4 {
-        return PublisherId::UInt64(v);
-    }
-    if code == 5 {
-        return PublisherId::Text(v as usize);
-    }
-    PublisherId::Absent
 }
 
 // The largest number of an id of a type.
 fn publisher_most(code: u64) -> u64
     ensures { result ≡ publisher_most code }
 {
-    if code == 1 {
-        return 255;
+    match code {
+        1 => 255,
+        2 => 65535,
+        3 => 4294967295,
+        _ => 18446744073709551615,
     }
-    if code == 2 {
-        return 65535;
-    }
-    if code == 3 {
-        return 4294967295;
-    }
-    18446744073709551615
 }
 
 // The PublisherId of a type's number and a number; a number that does not fit counts as the largest that does.

@@ -2,12 +2,12 @@
 ghost use Rattle.std.specs.Prelude.{◌≡◌};
 ghost use Rattle.records.specs.Result.{result_of};
 
+// The largest value that stands above a number.
+const MOST: usize = 72057594037927935;
+
 // Document 01's number, and above it the value or the place, at most 2^56 - 1.
 pub fn result(number: u8, value: usize) -> u64
     ensures { result ≡ result_of number value }
 {
-    if 72057594037927935 < value {
-        return number as u64 + 256 * 72057594037927935;
-    }
-    number as u64 + 256 * (value as u64)
+    number as u64 + 256 * (value.min(MOST) as u64)
 }

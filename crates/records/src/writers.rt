@@ -1,76 +1,56 @@
 // The configuration record: its writers and fields as parts of the lent bytes.
-ghost use Rattle.std.specs.Prelude.{◌≡◌, ◌+◌, ◌*◌, ◌≤◌, length};
-ghost use Rattle.std.proofs.lemmas.List.Edits.{sets};
-ghost use Rattle.wire.specs.Number.{le};
+ghost use Rattle.std.specs.Prelude.{◌≡◌, ◌+◌, ◌*◌, ◌≤◌, ◌<◌, length};
 ghost use Rattle.wire_writer.specs.Store.{laid};
 ghost use Rattle.text.specs.Words.{index_of};
-ghost use Rattle.config.specs.Writers.{at_most};
 ghost use Rattle.network_message.specs.Payload.{listed};
-ghost use Rattle.records.specs.Writers.{writers_in, fields_in, sixteen, starts_in, types_in, types_for, config_bytes};
-ghost use Rattle.records.specs.Numbers.{bytes_each};
+ghost use Rattle.records.specs.Writers.{number_in, writers_in, fields_in, sixteen, starts_in, types_in, types_for, config_bytes};
+ghost use Rattle.records.specs.Sizes.{CONFIG_SIZE};
 ghost use Rattle.wire.specs.Constants.{MOST_FIELDS, MOST_WRITERS};
 
+use crate::numbers::put_each;
 use crate::sizes::CONFIG_SIZE;
 use config::{Config, writer_fields};
-use wire::constants::MOST_WRITERS;
+use wire::constants::{MOST_FIELDS, MOST_WRITERS};
+use wire::item::Item;
 use wire::part::part;
-use wire_writer::store::{put_run, put8, put16};
+use wire_writer::store::{Store, put_run};
 
-fn wide(b: u8) -> usize
-    ensures { result ≡ b }
+// The number at a place of a configuration record, or the most that it may be; none in a record that is too short.
+fn number_in(config: &[u8], i: usize, most: usize) -> usize
+    requires { i < CONFIG_SIZE }
+    ensures { (result ≡ number_in i most config.now) × (result ≤ most) }
 {
-    b as usize
-}
-
-// A number, or the most that it may be.
-fn at_most(most: u8, n: usize) -> u8
-    ensures { (result ≡ at_most most n) × (result ≤ most) }
-{
-    if (most as usize) < n {
-        return most;
+    if config.len() < CONFIG_SIZE {
+        return 0;
     }
-    n as u8
+    (config[i] as usize).min(most)
 }
 
 // How many writers a configuration record has: none in one that is too short, never above 16.
 pub fn writer_count(config: &[u8]) -> usize
     ensures { (result ≡ writers_in config.now) × (result ≤ MOST_WRITERS) }
 {
-    if config.len() < CONFIG_SIZE {
-        return 0;
-    }
-    at_most(16, wide(config[0])) as usize
+    number_in(config, 0, MOST_WRITERS)
 }
 
 // How many fields a configuration record has: none in one that is too short, never above 64.
 pub fn field_count(config: &[u8]) -> usize
     ensures { (result ≡ fields_in config.now) × (result ≤ MOST_FIELDS) }
 {
-    if config.len() < CONFIG_SIZE {
-        return 0;
-    }
-    at_most(64, wide(config[1])) as usize
+    number_in(config, 1, MOST_FIELDS)
 }
 
-fn number16(s: &[u8], at: usize) -> u16
-    requires { at + 2 ≤ length s.now }
-    ensures { result ≡ le 2 s.now at }
-{
-    s[at] as u16 + 256 * (s[at + 1] as u16)
-}
-
-// 16 numbers of 2 bytes from a position on; without a test of its own the loop is compiled to one copy.
-fn list16(s: &[u8], at: usize) -> [u16; MOST_WRITERS]
-    requires { at + 32 ≤ length s.now }
-    ensures { result ≡ listed MOST_WRITERS s.now at }
+// 16 numbers of 2 bytes from a position on; none of them in a record that is too short.
+fn sixteen(config: &[u8], at: usize) -> [u16; MOST_WRITERS]
+    requires { at + 32 ≤ CONFIG_SIZE }
+    ensures { result ≡ sixteen at config.now }
 {
     let mut list = [0u16; MOST_WRITERS];
-    let mut i = 0;
-    let mut p = at;
-    while i < MOST_WRITERS {
-        list[i] = number16(s, p);
-        p += 2;
-        i += 1;
+    if config.len() < CONFIG_SIZE {
+        return list;
+    }
+    for i in 0..MOST_WRITERS {
+        list[i] = u16::of(config, at + 2 * i);
     }
     list
 }
@@ -79,20 +59,14 @@ fn list16(s: &[u8], at: usize) -> [u16; MOST_WRITERS]
 pub fn ids(config: &[u8]) -> [u16; MOST_WRITERS]
     ensures { result ≡ sixteen 2 config.now }
 {
-    if config.len() < CONFIG_SIZE {
-        return [0u16; MOST_WRITERS];
-    }
-    list16(config, 2)
+    sixteen(config, 2)
 }
 
 // The sizes; of these as many count as there are writers.
 pub fn sizes(config: &[u8]) -> [u16; MOST_WRITERS]
     ensures { result ≡ sixteen 34 config.now }
 {
-    if config.len() < CONFIG_SIZE {
-        return [0u16; MOST_WRITERS];
-    }
-    list16(config, 34)
+    sixteen(config, 34)
 }
 
 // The part of a configuration record that tells each writer's first field.
@@ -114,14 +88,10 @@ fn find_id(config: &[u8], n: usize, id: u16) -> usize
     requires { 2 + 2 * n ≤ length config.now }
     ensures { result ≡ index_of id (listed n config.now 2) }
 {
-    let mut k = 0;
-    let mut p = 2;
-    while k < n {
-        if number16(config, p) == id {
+    for k in 0..n {
+        if u16::of(config, 2 + 2 * k) == id {
             return k;
         }
-        p += 2;
-        k += 1;
     }
     n
 }
@@ -144,19 +114,6 @@ pub fn types_for(config: &[u8], writer: u32) -> &[u8]
     writer_fields(starts(config), types(config), k)
 }
 
-fn store16(out: &mut [u8], start: usize, list: &[u16])
-    requires { start + 2 * length list.now ≤ length out.old }
-    ensures { out.new ≡ sets out.old start (bytes_each 2 list.now) }
-{
-    let mut i = 0;
-    let mut at = start;
-    while i < list.len() {
-        put16(out, at, list[i]);
-        at += 2;
-        i += 1;
-    }
-}
-
 // Stores a configuration record from the start of a buffer; where it does not fit, nothing.
 pub fn put_config(out: &mut [u8], config: Config)
     ensures { out.new ≡ laid out.old 0 (config_bytes config) }
@@ -164,10 +121,10 @@ pub fn put_config(out: &mut [u8], config: Config)
     if out.len() < CONFIG_SIZE {
         return;
     }
-    put8(out, 0, at_most(16, config.writers));
-    put8(out, 1, at_most(64, config.fields));
-    store16(out, 2, &config.ids);
-    store16(out, 34, &config.sizes);
+    (config.writers.min(MOST_WRITERS) as u8).put(out, 0);
+    (config.fields.min(MOST_FIELDS) as u8).put(out, 1);
+    put_each(out, 2, &config.ids);
+    put_each(out, 34, &config.sizes);
     put_run(out, 66, &config.starts);
     put_run(out, 82, &config.types);
 }

@@ -1,5 +1,6 @@
 -- What the DataSetMessage writer accepts reads back as it was given.
 -- Assumes nothing.
+use Rattle.std.specs.Prelude.{Ok}
 use mathlib.Core.Path.{◌≡◌, refl, ap, sym, ◌∙◌, subst}
 use mathlib.Core.Bool.{Bool, true, false, cond, not, ◌&&◌, ◌||◌}
 use mathlib.Core.List.{List, [], ◌∷◌, ◌++◌}
@@ -22,7 +23,6 @@ use Rattle.dataset_header.specs.Header.{FitsHeader}
 use Rattle.dataset_fields.specs.Fields.{encoded_at, field_at, fields_at, padding_at, values_of, ends_at, fields_whole, reached, fields_bytes, zeros}
 use Rattle.dataset_message.specs.Message.{counted_at, count_at, message_at, field_place_at}
 use Rattle.dataset_fields.proofs.Inside.{field_inside}
-use Rattle.wire_writer.specs.declared.writing.Written.{Written}
 use Rattle.dataset_message.specs.Writer.{GivenMessage, FitsGiven, message_output, has_fields, is_key, is_fielded, is_raw_data, given_fields, count_bytes, count_agrees, encode, message_refusal}
 use Rattle.dataset_fields.proofs.Judging.{length_values}
 use Rattle.dataset_message.proofs.Whole.{Accepted, accepted}
@@ -255,7 +255,7 @@ read_written types g fits indices h =
     }
 
 -- The same of the buffer, by the writer's contract alone: where it reports n bytes, the first n read back, and the others are as they were.
-pub written_reads : (types : List ℕ) (g : GivenMessage) (entry exit : List ℕ) (n : ℕ) → FitsGiven g × Writes (message_output types g) entry exit (Written.Is n)
+pub written_reads : (types : List ℕ) (g : GivenMessage) (entry exit : List ℕ) (n : ℕ) → FitsGiven g × Writes (message_output types g) entry exit (Ok n)
     → MessageBack types g (take n exit) × (drop n exit ≡ drop n entry)
 written_reads types g entry exit n c =
     let w = reported (message_refusal types g) (encode g) entry exit n c.1 in

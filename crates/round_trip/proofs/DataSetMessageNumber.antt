@@ -8,7 +8,7 @@ use native.Mathlib.Nat.{add-zero, le_refl}
 use native.Mathlib.Omega.{arith}
 use borrow.Author.Tests.{leb-true, leb-false, ltb-true, ltb-false, eqb-true, eqb-false, eq-eqb, ne_eqb, le-leb, lt-leb}
 use lib.Dec.{leb, ltb, eqb}
-use lib.ListN.{length, get_or, take, drop, length-append, length-drop, get_or-append}
+use lib.ListN.{length, get_or, take, drop, length-append, length-drop, get_or-append, length-replicate}
 use lib.Seq.{get_or-append-add, length-take-le, take_all}
 use Rattle.wire.specs.Lists.{total}
 use Rattle.wire.specs.Answer.{Answer, got, refused, and_then}
@@ -23,7 +23,7 @@ use Rattle.dataset_header.specs.Flags.{valid, is_delta, is_raw, kind_rule}
 use Rattle.dataset_header.specs.Header.{message_header_bytes, FitsHeader}
 use Rattle.dataset_fields.specs.Fields.{fields_at, zeros_at, padding_at, values_of, number_of, fields_whole, fields_bytes, zeros}
 use Rattle.dataset_fields.proofs.Judging.{length_values}
-use Rattle.dataset_fields.proofs.Laying.{values_whole, length_zeros}
+use Rattle.dataset_fields.proofs.Laying.{values_whole}
 use Rattle.dataset_fields.proofs.Walks.{fields_split, padding_step, padding_stop}
 use Rattle.dataset_fields.proofs.FieldsTrip.{fields_is}
 use Rattle.dataset_message.specs.Message.{Message, count_at, body_at, message_at}
@@ -42,7 +42,6 @@ zeros_number zero s q z = refl
 zeros_number (suc n) s q z = rw (eq-eqb (get_or s q 0) 0 (z q (le_refl q))) (zeros_number n s (q + 1) (λ j l. z j (omega arith)))
 
 zeros_get : (n i : ℕ) → get_or (zeros n) i 0 ≡ 0
-unfolding zeros
 zeros_get zero i = refl
 zeros_get (suc n) zero = refl
 zeros_get (suc n) (suc i) = zeros_get n i
@@ -218,7 +217,7 @@ module _ (types : List ℕ) (g : GivenMessage) (fits : FitsHeader g.header) (ind
     whole_bytes = front ++ (g.values ++ zeros g.padding)
 
     size : length whole_bytes ≡ length front + (length g.values + g.padding)
-    size = simp (length-append, length_zeros)
+    size = simp (length-append, length-replicate)
 
     counted : (count_at g.header.kind (is_raw g.header.encoding) types whole_bytes (length front)
         ≡ cond (leb (length whole_bytes) (length front)) (got 0 (length front)) (cond (eqb (length types) 0) (refused 8 0) (got (length types) (length front))))

@@ -4,14 +4,13 @@ use mathlib.Core.Path.{◌≡◌, refl, ap, sym, ◌∙◌, subst}
 use mathlib.Core.List.{List, [], ◌++◌, append-nil}
 use Prim.Native.Nat.{ℕ, ◌+◌}
 use native.Mathlib.Nat.{zero-add}
-use lib.ListN.{length, length-append}
+use lib.ListN.{length, length-append, length-replicate}
 use Rattle.wire.specs.Answer.{got}
 use Rattle.wire_writer.specs.Writing.{picoseconds_refusal}
 use Rattle.wire_writer.proofs.Trip.{At, first, second}
 use Rattle.dataset_header.specs.Flags.{valid, is_delta, kind_rule}
 use Rattle.dataset_header.specs.Header.{message_header_at, message_header_bytes, FitsHeader}
 use Rattle.dataset_fields.specs.Fields.{fields_bytes, zeros}
-use Rattle.dataset_fields.proofs.Laying.{length_zeros}
 use Rattle.dataset_message.specs.Writer.{GivenMessage, is_fielded, is_raw_data, given_fields, count_bytes, encode}
 use Rattle.dataset_header.proofs.HeaderTrip.{header_is}
 
@@ -37,7 +36,7 @@ module _ (g : GivenMessage) where
       (second (encode g) 0 (message_header_bytes g.header) (count_part ++ (fields_part ++ zeros g.padding)) all_at)
 
   pub sizes : length (encode g) ≡ start + (length count_part + (length fields_part + g.padding))
-  sizes = simp (length-append, length_zeros)
+  sizes = simp (length-append, length-replicate)
 
   pub header_read : FitsHeader g.header → kind_rule g.header.kind g.header.encoding ≡ 0 → picoseconds_refusal g.header.picoseconds ≡ 0
       → message_header_at (encode g) 0 ≡ got (valid g.header) start

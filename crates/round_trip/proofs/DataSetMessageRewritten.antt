@@ -1,5 +1,7 @@
 -- Every accepted DataSetMessage is rewritten identically, but for picoseconds of 10,000 or more, which become 9,999.
 -- Assumes nothing.
+use Rattle.wire.specs.declared.refusal.Reason.{Reason}
+use Rattle.std.specs.Prelude.{Result, Ok}
 use mathlib.Core.Path.{◌≡◌, refl, ap, sym, ◌∙◌, subst}
 use mathlib.Core.Bool.{Bool, true, false, cond, not, ◌||◌}
 use mathlib.Core.List.{List, [], ◌++◌}
@@ -19,7 +21,6 @@ use Rattle.wire.specs.Answer.{got, Answer, and_then}
 use Rattle.wire.proofs.Reading.{invert, got_value, got_next, not_got}
 use Rattle.wire_writer.specs.Writing.{Writes, writing, unless, after_reading}
 use Rattle.wire_writer.proofs.Answering.{fitting_written}
-use Rattle.wire_writer.specs.declared.writing.Written.{Written}
 use Rattle.wire_writer.proofs.Back.{Back, empty, rest_is, end_fits, item_back, held_length}
 use Rattle.dataset_header.specs.declared.flags.Kind.{Kind}
 use Rattle.dataset_header.specs.declared.header.Header.{Header}
@@ -219,18 +220,18 @@ rewrite_read types s m e bytes q =
     after_header_lem a.0 types s a.1 m e bytes a.2 a.3
 
 -- a message with its picoseconds held is as long as it was
-as_long : (h : Header) (s entry exit : List ℕ) (r : Written) → length s ≤ 65535 → length s ≤ length entry → Writes (writing (message_held h s)) entry exit r
-    → (r ≡ Written.Is (length s)) × (exit ≡ message_held h s ++ drop (length s) entry)
+as_long : (h : Header) (s entry exit : List ℕ) (r : Result ℕ Reason) → length s ≤ 65535 → length s ≤ length entry → Writes (writing (message_held h s)) entry exit r
+    → (r ≡ Ok (length s)) × (exit ≡ message_held h s ++ drop (length s) entry)
 as_long h s entry exit r l room w =
     let n = held_length h.picoseconds (message_picoseconds_place h) s in
     let x = fitting_written {bytes = message_held h s} (rw n l) (rw n room) w in
-    (x.0 ∙ ap Written.Is n, x.1 ∙ ap (λ (k : ℕ). message_held h s ++ drop k entry) n)
+    (x.0 ∙ ap Ok n, x.1 ∙ ap (λ (k : ℕ). message_held h s ++ drop k entry) n)
 
 -- The same of the writer itself, where the message is within the limit and the buffer has room: it reports the message's length, and
 -- the buffer begins with the message, its picoseconds held, and goes on as it was.
 pub rewrite_written : (types s : List ℕ) (m : Message) (e : ℕ) → Bytes s → message_at types s ≡ got (valid m) e → length s ≤ 65535
-    → (entry exit : List ℕ) (r : Written) → length s ≤ length entry → Writes (message_output types (taken_again types s m)) entry exit r
-    → (r ≡ Written.Is (length s)) × (exit ≡ message_held m.header s ++ drop (length s) entry)
+    → (entry exit : List ℕ) (r : Result ℕ Reason) → length s ≤ length entry → Writes (message_output types (taken_again types s m)) entry exit r
+    → (r ≡ Ok (length s)) × (exit ≡ message_held m.header s ++ drop (length s) entry)
 rewrite_written types s m e bytes q l entry exit r room w =
     let x = rewrite_read types s m e bytes q in
     let v = subst (λ (k : ℕ). Writes (unless k (encode (taken_again types s m))) entry exit r) x.accepted w in
@@ -238,8 +239,8 @@ rewrite_written types s m e bytes q l entry exit r room w =
 
 -- and of `rewrite`
 pub rewrite_same : (types s : List ℕ) (m : Message) (e : ℕ) → Bytes s → message_at types s ≡ got (valid m) e → length s ≤ 65535
-    → (entry exit : List ℕ) (r : Written) → length s ≤ length entry → Writes (message_again types s) entry exit r
-    → (r ≡ Written.Is (length s)) × (exit ≡ message_held m.header s ++ drop (length s) entry)
+    → (entry exit : List ℕ) (r : Result ℕ Reason) → length s ≤ length entry → Writes (message_again types s) entry exit r
+    → (r ≡ Ok (length s)) × (exit ≡ message_held m.header s ++ drop (length s) entry)
 rewrite_same types s m e bytes q l entry exit r room w =
     let x = rewrite_read types s m e bytes q in
     let v = subst (λ (a : Answer (Valid Message)). Writes (after_reading a (where_valid (again s))) entry exit r) q w in

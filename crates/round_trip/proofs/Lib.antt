@@ -15,5 +15,6 @@ pub mod RewrittenBytes
 pub mod NetworkMessageRewritten
 pub mod NetworkMessageRefused
 pub mod NetworkMessageAccepted
+pub mod NetworkMessageShort
 pub mod NetworkMessageRoundTrip
 pub mod PicosecondsTurn

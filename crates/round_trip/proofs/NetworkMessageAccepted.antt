@@ -1,5 +1,6 @@
 -- The writer accepts an accepted datagram whose parts are given as they were read, and writes it again.
 -- Assumes nothing.
+use Rattle.std.specs.Prelude.{Option, Some, None, is_some, ℤ}
 use mathlib.Core.Path.{◌≡◌, refl, ap, ap₂, sym, subst, ◌∙◌}
 use mathlib.Core.List.{List, [], ◌∷◌, ◌++◌, append_assoc}
 use mathlib.Core.Bool.{Bool, true, false, cond}
@@ -10,10 +11,8 @@ use lib.Seq.{length-take-le, drop-drop}
 use lib.Dec.{eqb, leb}
 use borrow.Author.Tests.{eq-eqb, lt-leb}
 use Rattle.wire.specs.Number.{le, le_bytes}
-use Rattle.wire.specs.Answer.{got, refused, run, ruled, item, signed_item, pure, ◌>>=◌}
-use Rattle.wire.specs.Optional.{optional_i64, picoseconds_read, picoseconds_at}
-use Rattle.wire.specs.declared.optional.Optional16.{Optional16}
-use Rattle.wire.specs.declared.optional.OptionalI64.{OptionalI64}
+use Rattle.wire.specs.Answer.{Reader, got, refused, run, ruled, item, signed_item, when_on, pure, ◌>>=◌}
+use Rattle.wire.specs.Optional.{picoseconds_read}
 use Rattle.wire.proofs.Reading.{got_value, invert}
 use Rattle.network_header.specs.declared.flags.Flags.{Flags}
 use Rattle.network_header.specs.declared.header.PayloadHeader.{PayloadHeader}
@@ -21,12 +20,11 @@ use Rattle.network_message.specs.declared.payload.Payload.{Payload}
 use Rattle.network_header.specs.declared.envelope.Envelope.{Envelope}
 use Rattle.network_header.specs.declared.envelope.Places.{Places}
 use Rattle.network_header.specs.Flags.{flags_at, times_refusal, probe_refusal}
-use Rattle.network_header.specs.Header.{count_rule, payload_header_at, probe_on, ids_shape, count_refusal, size_rule, promoted_at, promoted_on, promoted_refusal, promoted_shape, promoted_of}
-use Rattle.network_header.specs.declared.header.Promoted.{Promoted}
+use Rattle.network_header.specs.Header.{count_rule, payload_header_at, probe_on, ids_shape, count_refusal, size_rule, promoted_at, promoted_refusal, promoted_shape, promoted_of}
 use Rattle.network_header.specs.Numbers.{configured_sizes, agree, same_numbers}
 use Rattle.network_message.specs.Payload.{rest_only_at, listed_at, payload_at}
 use Rattle.network_message.specs.Envelope.{Header, NetworkMessage, identity_at, times_at, messages_of, envelope_at, envelope_body_at, network_message_at}
-use Rattle.wire_writer.specs.Writing.{or_else, on16, on_i64, picoseconds_refusal, unused}
+use Rattle.wire_writer.specs.Writing.{or_else, picoseconds_refusal, unused}
 use Rattle.wire_writer.proofs.Trip.{At, le_at}
 use Rattle.wire_writer.proofs.Back.{run_back, map_back, picoseconds_kept}
 use Rattle.publisher_id.specs.Publisher.{publisher_refusal, publisher_shape, bytes_before, text_of}
@@ -68,15 +66,11 @@ numbers_same : (xs : List ℕ) → Numbers xs → same_numbers (numbers_bytes xs
 unfolding same_numbers
 numbers_same xs h = rw (eq-eqb (length (numbers_bytes xs)) (2 * length xs) (numbers_length xs), numbers_agree xs [] 0 refl h)
 
--- the flags of items that were read
-
-picoseconds_on : (on : Bool) (s : List ℕ) (at : ℕ) (x : Optional16) (next : ℕ) → picoseconds_at on s at ≡ got x next → on16 x ≡ on
-picoseconds_on true s at x next h = subst (λ (x : Optional16). on16 x ≡ true) (map_back (item 2) (λ v. Optional16.Is (picoseconds_read v)) s at x next h).2 refl
-picoseconds_on false s at x next h = subst (λ (x : Optional16). on16 x ≡ false) (got_value h) refl
-
-timestamp_on : (on : Bool) (s : List ℕ) (at : ℕ) (x : OptionalI64) (next : ℕ) → optional_i64 on s at ≡ got x next → on_i64 x ≡ on
-timestamp_on true s at x next h = subst (λ (x : OptionalI64). on_i64 x ≡ true) (map_back (signed_item 8) OptionalI64.Is s at x next h).2 refl
-timestamp_on false s at x next h = subst (λ (x : OptionalI64). on_i64 x ≡ false) (got_value h) refl
+-- an item that was read where its flag is on, and made something of, is there where it is on
+item_on : {A B : Type 0} (r : Reader A) (f : A → B) (on : Bool) (s : List ℕ) (at : ℕ) (x : Option B) (next : ℕ)
+    → when_on on None (r >>= λ v. pure (Some (f v))) s at ≡ got x next → is_some x ≡ on
+item_on {B = B} r f true s at x next h = subst (λ (x : Option B). is_some x ≡ true) (map_back r (λ v. Some (f v)) s at x next h).2 refl
+item_on {B = B} r f false s at x next h = subst (λ (x : Option B). is_some x ≡ false) (got_value h) refl
 
 -- the PayloadHeader and promoted fields
 probe_on_lem : (on chunk probe : Bool) (s : List ℕ) (at : ℕ) (x : PayloadHeader) (next : ℕ) → payload_header_at on chunk probe s at ≡ got x next → probe_on x ≡ probe
@@ -87,16 +81,16 @@ probe_on_lem true false false s at x next h =
     let f = invert (ruled 1 count_rule s at) (λ n i. (run (2 * n) >>= λ k. pure (PayloadHeader.Ids n)) s i) h in
     subst (λ (x : PayloadHeader). probe_on x ≡ false) (map_back (run (2 * f.0)) (λ k. PayloadHeader.Ids f.0) s f.1 x next f.3).2 refl
 
-promoted_on_lem : (on : Bool) (messages : ℕ) (s : List ℕ) (at : ℕ) (x : Promoted) (next : ℕ) → promoted_at on messages s at ≡ got x next → promoted_on x ≡ on
+promoted_on_lem : (on : Bool) (messages : ℕ) (s : List ℕ) (at : ℕ) (x : Option ℕ) (next : ℕ) → promoted_at on messages s at ≡ got x next → is_some x ≡ on
 promoted_on_lem true messages s at x next h =
-    let f = invert (ruled 2 (size_rule messages) s at) (λ n i. (run n >>= λ k. pure (Promoted.Size n)) s i) h in
-    subst (λ (x : Promoted). promoted_on x ≡ true) (map_back (run f.0) (λ k. Promoted.Size f.0) s f.1 x next f.3).2 refl
-promoted_on_lem false messages s at x next h = subst (λ (x : Promoted). promoted_on x ≡ false) (got_value h) refl
+    let f = invert (ruled 2 (size_rule messages) s at) (λ n i. (run n >>= λ k. pure (Some n)) s i) h in
+    subst (λ (x : Option ℕ). is_some x ≡ true) (map_back (run f.0) (λ k. Some f.0) s f.1 x next f.3).2 refl
+promoted_on_lem false messages s at x next h = subst (λ (x : Option ℕ). is_some x ≡ false) (got_value h) refl
 
 -- no part of a header that was read is refused
 record Kept (s : List ℕ) (x : Envelope) (p : Places) (configured : ℕ) : Type 0 where
-  times : times_refusal (on16 x.picoseconds) (on_i64 x.timestamp) ≡ 0
-  probe : probe_refusal (probe_on x.payload_header) x.chunk (promoted_on x.promoted) ≡ 0
+  times : times_refusal (is_some x.picoseconds) (is_some x.timestamp) ≡ 0
+  probe : probe_refusal (probe_on x.payload_header) x.chunk (is_some x.promoted) ≡ 0
   publisher : publisher_refusal x.publisher (length (text_of s x.publisher p.publisher_end)) ≡ 0
   text : publisher_shape x.publisher (length (text_of s x.publisher p.publisher_end)) ≡ 0
   group : group_refusal x.group ≡ 0
@@ -117,7 +111,7 @@ header_kept configured s f n L next b hf h =
     let km = promoted_kept f.promoted (messages_of f.chunk Pl.0 configured) s t.1 T.0.promoted T.1 b t.4 in
     subst (λ (K : Header). Kept s K.envelope K.places configured) (got_value T.3)
     record {
-      times = ap₂ times_refusal (picoseconds_on f.picoseconds s t.0 T.0.picoseconds t.1 t.3) (timestamp_on f.timestamp s Pl.1 T.0.timestamp t.0 t.2)
+      times = ap₂ times_refusal (item_on (item 2) picoseconds_read f.picoseconds s t.0 T.0.picoseconds t.1 t.3) (item_on (signed_item 8) (λ (z : ℤ). z) f.timestamp s Pl.1 T.0.timestamp t.0 t.2)
           ∙ flags_kept s 0 f n hf;
       probe = ap₂ (λ (a b : Bool). probe_refusal a f.chunk b) (probe_on_lem f.payload_header f.chunk f.probe s I.1 Pl.0 Pl.1 Pl.2)
           (promoted_on_lem f.promoted (messages_of f.chunk Pl.0 configured) s t.1 T.0.promoted T.1 t.4)

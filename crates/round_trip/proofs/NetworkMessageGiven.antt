@@ -1,6 +1,7 @@
 -- The variable parts of a NetworkMessage that was written read back as they were given: the bytes of a string PublisherId,
 -- the DataSetWriterIds and the promoted fields.
 -- Assumes nothing.
+use Rattle.std.specs.Prelude.{Option, Some, None}
 use mathlib.Core.Path.{◌≡◌, refl, ap, sym, ◌∙◌}
 use mathlib.Core.List.{List, [], ◌∷◌, ◌++◌}
 use mathlib.Core.Bool.{Bool, true, false, cond}
@@ -13,10 +14,8 @@ use lib.Dec.{eqb, leb}
 use borrow.Author.Tests.{le-leb, lt-leb, eqb-true}
 use Rattle.network_message.proofs.Accepted.{listed_at_lem}
 use Rattle.wire.specs.Number.{le, le_bytes}
-use Rattle.wire.specs.declared.optional.Optional16.{Optional16}
 use Rattle.publisher_id.specs.declared.publisher.PublisherId.{PublisherId}
 use Rattle.network_header.specs.declared.header.PayloadHeader.{PayloadHeader}
-use Rattle.network_header.specs.declared.header.Promoted.{Promoted}
 use Rattle.network_header.specs.declared.envelope.Envelope.{Envelope}
 use Rattle.network_message.specs.WriterId.{listed_id, configured_id, writer_id_of}
 use Rattle.wire_writer.specs.Writing.{optional16_bytes, optional_i64_bytes, unused}
@@ -56,17 +55,17 @@ text_back (PublisherId.Text n) text s m end h a e =
     let q : n ≡ length text = eqb-true n (length text) (held (eqb n (length text)) 5 h) in
     before_at s (m + length c) text end n (second s m c text a) (sym q) (omega (arith, length-append c text))
 
-promoted_back : (p : Promoted) (bytes s : List ℕ) (m end : ℕ) → promoted_shape p (length bytes) ≡ 0 → At s m (promoted_bytes bytes p) → end ≡ m + length (promoted_bytes bytes p)
+promoted_back : (p : Option ℕ) (bytes s : List ℕ) (m end : ℕ) → promoted_shape p (length bytes) ≡ 0 → At s m (promoted_bytes bytes p) → end ≡ m + length (promoted_bytes bytes p)
     → promoted_of s p end ≡ bytes
-promoted_back Promoted.Absent bytes s m end h a e = none bytes h
-promoted_back (Promoted.Size n) bytes s m end h a e =
+promoted_back None bytes s m end h a e = none bytes h
+promoted_back (Some n) bytes s m end h a e =
     let c = le_bytes 2 (length bytes) in
     let w = passed (leb 65536 n) 5 (cond (eqb n (length bytes)) 0 6) h in
     let q : n ≡ length bytes = eqb-true n (length bytes) (held (eqb n (length bytes)) 5 w.1) in
     before_at s (m + length c) bytes end n (second s m c bytes a) (sym q) (omega (arith, length-append c bytes))
 
 -- the id of message k: the k-th of the ids given, which stand in the PayloadHeader or are the configured ones
-id_at : (s : List ℕ) (m : ℕ) (ids : List ℕ) (n k end : ℕ) → At s m ids → length ids ≡ 2 * n → k < n → end ≡ m + 2 * n → listed_id n end k s ≡ Optional16.Is (le 2 ids (2 * k))
+id_at : (s : List ℕ) (m : ℕ) (ids : List ℕ) (n k end : ℕ) → At s m ids → length ids ≡ 2 * n → k < n → end ≡ m + 2 * n → listed_id n end k s ≡ Some (le 2 ids (2 * k))
 id_at s m ids n k end a l h e =
     let z : end - 2 * n + 2 * k ≡ length a.0 + 2 * k = omega (arith, a.3) in
     let f : length a.0 + 2 * k + 2 ≤ length s = omega (arith, fits_at s m ids a, a.3) in
@@ -74,7 +73,7 @@ id_at s m ids n k end a l h e =
     ap (λ (y : List ℕ). le 2 y (length a.0 + 2 * k)) a.2 ∙ le_moved 2 a.0 ids a.1 (2 * k) (omega arith) in
     rw (lt-leb n k h, z, le-leb (length a.0 + 2 * k + 2) (length s) f, q)
 
-configured_id_lem : (ids configured : List ℕ) (k : ℕ) → same_numbers ids (take 16 configured) ≡ true → 2 * k < length ids → configured_id configured k ≡ Optional16.Is (le 2 ids (2 * k))
+configured_id_lem : (ids configured : List ℕ) (k : ℕ) → same_numbers ids (take 16 configured) ≡ true → 2 * k < length ids → configured_id configured k ≡ Some (le 2 ids (2 * k))
 configured_id_lem ids configured k h l =
     let t = take 16 configured in
     let e = same_length ids t h in
@@ -85,7 +84,7 @@ configured_id_lem ids configured k h l =
     rw (lt-leb (length t) k j, q)
 
 writer_id_back : (x : PayloadHeader) (chunk : Bool) (ids configured s : List ℕ) (m end k : ℕ) → ids_shape chunk x ids configured ≡ 0 → At s m (payload_header_bytes ids x)
-    → end ≡ m + length (payload_header_bytes ids x) → 2 * k < length ids → writer_id_of x end configured k s ≡ Optional16.Is (le 2 ids (2 * k))
+    → end ≡ m + length (payload_header_bytes ids x) → 2 * k < length ids → writer_id_of x end configured k s ≡ Some (le 2 ids (2 * k))
 writer_id_back PayloadHeader.Absent chunk ids configured s m end k h a e l = configured_id_lem ids configured k (held (same_numbers ids (take 16 configured)) 5 h) l
 writer_id_back (PayloadHeader.Ids n) chunk ids configured s m end k h a e l =
     let c = le_bytes 1 n in
@@ -158,7 +157,7 @@ module _ (g : GivenDatagram) (x : Envelope) (sizes configured : List ℕ) (h : d
 
   -- and the DataSetWriterId of each message
   pub writer_id_written : (k : ℕ) → 2 * k < length g.ids
-      → writer_id_of x.payload_header (places_of g x).payload_header_end configured k (datagram_of g x) ≡ Optional16.Is (le 2 g.ids (2 * k))
+      → writer_id_of x.payload_header (places_of g x).payload_header_end configured k (datagram_of g x) ≡ Some (le 2 g.ids (2 * k))
   writer_id_written k l =
       let s = datagram_of g x in
       let f1 = flag_bytes (flags_for x) in

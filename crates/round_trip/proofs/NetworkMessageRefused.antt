@@ -1,5 +1,7 @@
 -- A writer refuses what reading would refuse, by the same number in reading order.
 -- Assumes nothing.
+use Rattle.network_header.specs.declared.group.GroupFields.{GroupFields}
+use Rattle.std.specs.Prelude.{Option, Some, None, is_some}
 use mathlib.Core.Path.{◌≡◌, refl, ap, sym, subst, ◌∙◌}
 use mathlib.Core.List.{List, [], ◌++◌}
 use mathlib.Core.Bool.{Bool, true, false, cond, ◌&&◌, not}
@@ -11,23 +13,20 @@ use borrow.Author.Tests.{le-ltb, le-leb, lt-leb, lt-ltb, eq-eqb, ne_eqb}
 use Rattle.wire.specs.Lists.{total}
 use Rattle.wire.specs.Number.{le, le_bytes}
 use Rattle.wire.specs.Answer.{Answer, got, refused, ruled, bit}
-use Rattle.wire.specs.declared.optional.Optional16.{Optional16}
 use Rattle.wire.proofs.Reading.{leb_same}
 use Rattle.network_header.specs.declared.flags.Flags.{Flags}
 use Rattle.publisher_id.specs.declared.publisher.PublisherId.{PublisherId}
-use Rattle.network_header.specs.declared.group.GroupHeader.{GroupHeader}
 use Rattle.network_header.specs.declared.header.PayloadHeader.{PayloadHeader}
-use Rattle.network_header.specs.declared.header.Promoted.{Promoted}
 use Rattle.network_message.specs.declared.payload.Sizes.{Sizes}
 use Rattle.network_header.specs.declared.envelope.Envelope.{Envelope}
 use Rattle.network_header.specs.Flags.{byte0_rule, extended1_rule, extended2_rule, flags_at, extended2_of, extended1_of, byte0_of, flag_bytes, flags_for, times_refusal, probe_refusal}
 use Rattle.publisher_id.specs.Publisher.{publisher_at, publisher_on, id_type_of, publisher_bytes, publisher_refusal}
-use Rattle.network_header.specs.Group.{number_rule, message_number_at, group_flags_rule, group_at, group_on, group_flags_of, group_fields_bytes, group_bytes, number_refusal, group_refusal, FitsGroup}
-use Rattle.network_header.specs.Header.{count_rule, payload_header_at, size_rule, promoted_at, class_bytes, payload_header_on, probe_on, payload_header_bytes, promoted_on, promoted_bytes, count_refusal, promoted_refusal, FitsPayloadHeader}
+use Rattle.network_header.specs.Group.{number_rule, message_number_at, group_flags_rule, group_at, group_flags_of, group_fields_bytes, group_bytes, number_refusal, group_refusal, FitsGroup}
+use Rattle.network_header.specs.Header.{count_rule, payload_header_at, size_rule, promoted_at, class_bytes, payload_header_on, probe_on, payload_header_bytes, promoted_bytes, count_refusal, promoted_refusal, FitsPayloadHeader}
 use Rattle.network_message.specs.Payload.{all_positive, listed, messages_from, rest_only_at, listed_at, sized_at, configured_at, payload_at}
 use Rattle.network_header.specs.Numbers.{configured_sizes}
 use Rattle.network_message.specs.Envelope.{messages_of, network_message_at}
-use Rattle.wire_writer.specs.Writing.{or_else, num, needed, byte_bytes, on16, on32, on_i64, optional16_bytes, optional32_bytes, optional_i64_bytes, picoseconds_refusal}
+use Rattle.wire_writer.specs.Writing.{or_else, num, needed, byte_bytes, optional16_bytes, optional32_bytes, optional_i64_bytes, picoseconds_refusal}
 use Rattle.wire_writer.proofs.Trip.{At, Reads, nothing, first, second, fits_at, le_at, item_is, rule_kept, optional16_is, optional32_is, optional_i64_is, picoseconds_is}
 use Rattle.wire_writer.proofs.Refusals.{or_case, no, Refuses, broken, number_broken}
 use Rattle.wire_writer.proofs.Bits.{num_bound, needed_bound, flag_is}
@@ -53,9 +52,9 @@ refused_by (refused n place) h = (place, refl)
 
 -- each part
 
-number_refuses : (x : Optional16) (m : ℕ) → Fits16 x → eqb (number_refusal x) 0 ≡ false → Refuses (message_number_at (on16 x)) m (optional16_bytes x) (number_refusal x)
-number_refuses Optional16.Absent m f h s at = absurd (no h)
-number_refuses (Optional16.Is v) m f h s at = rw (number_broken 2 number_rule v m f h s at)
+number_refuses : (x : Option ℕ) (m : ℕ) → Fits16 x → eqb (number_refusal x) 0 ≡ false → Refuses (message_number_at (is_some x)) m (optional16_bytes x) (number_refusal x)
+number_refuses None m f h s at = absurd (no h)
+number_refuses (Some v) m f h s at = rw (number_broken 2 number_rule v m f h s at)
 
 text_rule : (n : ℕ) → eqb (cond (leb 65 n) 10 0) 0 ≡ false → leb 65 n ≡ true
 text_rule n h = go (leb 65 n) h
@@ -96,18 +95,18 @@ payload_header_written (PayloadHeader.Ids n) chunk ids m f a q =
 payload_header_written (PayloadHeader.Chunk w) chunk ids m f a q = payload_header_is (PayloadHeader.Chunk w) chunk ids [] m f a (rw (q.0, q.1))
 payload_header_written PayloadHeader.Probe chunk ids m f a q = nothing PayloadHeader.Probe m
 
-promoted_refuses : (x : Promoted) (messages : ℕ) (bytes : List ℕ) (m : ℕ) → length (promoted_bytes bytes x) ≤ 65535 → eqb (promoted_refusal x messages) 0 ≡ false
-    → Refuses (promoted_at (promoted_on x) messages) m (promoted_bytes bytes x) (promoted_refusal x messages)
-promoted_refuses Promoted.Absent messages bytes m l h s at = absurd (no h)
-promoted_refuses (Promoted.Size i) messages bytes m l h s at =
+promoted_refuses : (x : Option ℕ) (messages : ℕ) (bytes : List ℕ) (m : ℕ) → length (promoted_bytes bytes x) ≤ 65535 → eqb (promoted_refusal x messages) 0 ≡ false
+    → Refuses (promoted_at (is_some x) messages) m (promoted_bytes bytes x) (promoted_refusal x messages)
+promoted_refuses None messages bytes m l h s at = absurd (no h)
+promoted_refuses (Some i) messages bytes m l h s at =
     let j : length bytes < 256 ^ 2 = omega (arith, length-append (le_bytes 2 (length bytes)) bytes) in
     rw (number_broken 2 (size_rule messages) (length bytes) m j h s (first s m (le_bytes 2 (length bytes)) bytes at))
 
 -- the group header: NetworkMessageNumber 0 is 3
-group_refuses : (x : GroupHeader) (m : ℕ) → FitsGroup x → eqb (group_refusal x) 0 ≡ false → (s : List ℕ) → At s m (group_bytes x) → (place : ℕ)
-    × (group_at (group_on x) s m ≡ refused (group_refusal x) place)
-group_refuses GroupHeader.Absent m f h s at = absurd (no h)
-group_refuses (GroupHeader.Is g) m f h s at =
+group_refuses : (x : Option GroupFields) (m : ℕ) → FitsGroup x → eqb (group_refusal x) 0 ≡ false → (s : List ℕ) → At s m (group_bytes x) → (place : ℕ)
+    × (group_at (is_some x) s m ≡ refused (group_refusal x) place)
+group_refuses None m f h s at = absurd (no h)
+group_refuses (Some g) m f h s at =
     let c = le_bytes 1 (group_flags_of g) in
     let b1 = optional16_bytes g.writer_group in
     let b2 = optional32_bytes g.version in
@@ -127,11 +126,11 @@ group_refuses (GroupHeader.Is g) m f h s at =
       m1 + length b1 + length b2,
       rw (
         p0,
-        flag_is (on16 g.writer_group) (group_flags_of g % 2) b.0,
+        flag_is (is_some g.writer_group) (group_flags_of g % 2) b.0,
         p1,
-        flag_is (on32 g.version) (group_flags_of g / 2 % 2) b.1,
+        flag_is (is_some g.version) (group_flags_of g / 2 % 2) b.1,
         p2,
-        flag_is (on16 g.number) (group_flags_of g / 4 % 2) b.2,
+        flag_is (is_some g.number) (group_flags_of g / 4 % 2) b.2,
         p3,
       ),
     )
@@ -359,10 +358,10 @@ module _ (g : GivenDatagram) (x : Envelope) (sizes : List ℕ) (f : FitsEnvelope
       let k4 = or_else (count_refusal x.payload_header) k5 in
       let k3 = or_else (group_refusal x.group) k4 in
       let k2 = or_else (publisher_refusal x.publisher (length g.text)) k3 in
-      let probe = probe_refusal (probe_on x.payload_header) x.chunk (promoted_on x.promoted) in
+      let probe = probe_refusal (probe_on x.payload_header) x.chunk (is_some x.promoted) in
       let k1 = or_else probe k2 in
-      or_case P (times_refusal (on16 x.picoseconds) (on_i64 x.timestamp)) k1 h
-      (λ e. let d = times_broken (on16 x.picoseconds) (on_i64 x.timestamp) e in
+      or_case P (times_refusal (is_some x.picoseconds) (is_some x.timestamp)) k1 h
+      (λ e. let d = times_broken (is_some x.picoseconds) (is_some x.timestamp) e in
       subst P d.2 (0 + 1, rw (l, flags_refuse (flags_for x) (kind_below x.publisher) d.0 d.1 0 s a1)))
       (λ z1 h0.
       or_case P probe k2 h0
@@ -380,7 +379,7 @@ module _ (g : GivenDatagram) (x : Envelope) (sizes : List ℕ) (f : FitsEnvelope
       (λ e. (m4, rw (l, p1, p2, p3, p4, payload_header_refuses x.payload_header x.chunk g.ids m4 a.ids e s a5)))
       (λ z4 h4. let p5 = payload_header_written x.payload_header x.chunk g.ids m4 f.payload_header z4 a.ids s a5 in
       or_case P (picoseconds_refusal x.picoseconds) k6 h4
-      (λ e. absurd (their_turn (times_refusal (on16 x.picoseconds) (on_i64 x.timestamp)) probe (publisher_refusal x.publisher (length g.text)) (group_refusal x.group)
+      (λ e. absurd (their_turn (times_refusal (is_some x.picoseconds) (is_some x.timestamp)) probe (publisher_refusal x.publisher (length g.text)) (group_refusal x.group)
       (count_refusal x.payload_header) (picoseconds_refusal x.picoseconds) z1 z0 z2 z3 z4 e turn))
       (λ z5 h5. let p7 = picoseconds_is x.picoseconds m6 f.picoseconds z5 s a7 in
       or_case P (promoted_refusal x.promoted messages) k7 h5

@@ -1,5 +1,8 @@
 -- A datagram that was read, written again, is the same but for the two exceptions.
 -- Assumes nothing.
+use Rattle.wire.specs.declared.Guid.{Guid}
+use Rattle.network_header.specs.declared.group.GroupFields.{GroupFields}
+use Rattle.std.specs.Prelude.{Option, ℤ}
 use mathlib.Core.Path.{◌≡◌, refl, ap, sym, subst, ◌∙◌}
 use mathlib.Core.List.{List, ◌++◌, append_assoc}
 use mathlib.Core.Bool.{Bool, true, false, cond}
@@ -10,15 +13,10 @@ use lib.Seq.{sets}
 use lib.Dec.{ltb}
 use Rattle.wire.specs.Answer.{got, refused, ◌>>=◌}
 use Rattle.wire.specs.Optional.{optional_i64, picoseconds_at}
-use Rattle.wire.specs.declared.optional.Optional16.{Optional16}
-use Rattle.wire.specs.declared.optional.OptionalI64.{OptionalI64}
 use Rattle.wire.proofs.Reading.{got_value, got_next, not_got, invert}
 use Rattle.network_header.specs.declared.flags.Flags.{Flags}
 use Rattle.publisher_id.specs.declared.publisher.PublisherId.{PublisherId}
-use Rattle.network_header.specs.declared.group.GroupHeader.{GroupHeader}
-use Rattle.network_header.specs.declared.header.ClassId.{ClassId}
 use Rattle.network_header.specs.declared.header.PayloadHeader.{PayloadHeader}
-use Rattle.network_header.specs.declared.header.Promoted.{Promoted}
 use Rattle.network_message.specs.declared.envelope.Identity.{Identity}
 use Rattle.network_message.specs.declared.envelope.Times.{Times}
 use Rattle.network_header.specs.declared.envelope.Envelope.{Envelope}
@@ -63,7 +61,7 @@ in_a_row : (x b2 b3 b4 b5 b6 b7 b8 r : List ℕ)
     → (x ++ (b2 ++ (b3 ++ (b4 ++ (b5 ++ (b6 ++ (b7 ++ b8))))))) ++ r ≡ x ++ ((b2 ++ (b3 ++ (b4 ++ (b5 ++ b6)))) ++ (b7 ++ (b8 ++ r)))
 in_a_row x b2 b3 b4 b5 b6 b7 b8 r = simp append_assoc
 
-module _ (s : List ℕ) (f : Flags) (p : PublisherId) (c : ClassId) (g : GroupHeader) (l : PayloadHeader) (t : OptionalI64) (o : Optional16) (m : Promoted) (n n1 n2 n3 n4 n5 n6 next : ℕ) where
+module _ (s : List ℕ) (f : Flags) (p : PublisherId) (c : Option Guid) (g : Option GroupFields) (l : PayloadHeader) (t : Option ℤ) (o : Option ℕ) (m : Option ℕ) (n n1 n2 n3 n4 n5 n6 next : ℕ) where
   abbrev located : Header
   located =
       record {

@@ -1,6 +1,7 @@
 -- The round trips of whole NetworkMessages, over the definitions that the contracts of `network_message::envelope` and
 -- `network_message::envelope` cite.
 -- Assumes nothing.
+use Rattle.std.specs.Prelude.{is_some, Ok}
 use mathlib.Core.Path.{◌≡◌, refl, ap, sym, subst, ◌∙◌}
 use mathlib.Core.Bool.{Bool, true, false, ◌&&◌}
 use mathlib.Core.List.{List, ◌++◌}
@@ -15,15 +16,14 @@ use Rattle.network_header.specs.declared.envelope.Envelope.{Envelope}
 use Rattle.network_message.specs.Envelope.{NetworkMessage, network_message_at}
 use Rattle.wire_writer.proofs.Refusals.{both_zero}
 use Rattle.wire_writer.proofs.Answering.{reported}
-use Rattle.wire_writer.specs.Writing.{or_else, refusing, Writes, on16, on_i64, picoseconds_refusal}
-use Rattle.wire_writer.specs.declared.writing.Written.{Written}
+use Rattle.wire_writer.specs.Writing.{or_else, refusing, Writes, picoseconds_refusal}
 use Rattle.publisher_id.specs.Publisher.{publisher_refusal, publisher_shape}
 use Rattle.network_header.specs.Flags.{times_refusal, probe_refusal}
 use Rattle.network_header.specs.Group.{group_refusal}
-use Rattle.network_header.specs.Header.{count_refusal, ids_shape, promoted_shape, probe_on, promoted_on}
+use Rattle.network_header.specs.Header.{count_refusal, ids_shape, promoted_shape, probe_on}
 use Rattle.network_header.specs.declared.header.PayloadHeader.{PayloadHeader}
 use Rattle.network_message.specs.WriterPayload.{list_bytes, lengths_shape}
-use Rattle.network_message.proofs.Again.{accepted_short}
+use Rattle.round_trip.proofs.NetworkMessageShort.{accepted_short}
 use Rattle.network_message.specs.Writer.{GivenDatagram, envelope_bytes, datagram_of, before_picoseconds, picoseconds_turn, datagram_reading_refusal, shape_refusal, datagram_refusal, datagram_output}
 use Rattle.round_trip.specs.NetworkMessage.{payload_for, CountsAgree, PartsAgree, ReadsBack}
 use Rattle.network_header.specs.Envelope.{FitsEnvelope}
@@ -62,7 +62,7 @@ given_back g x sizes configured f h l =
     }
 
 pub reads_back_lem : (g : GivenDatagram) (x : Envelope) (sizes configured entry exit : List ℕ) (n : ℕ) → FitsEnvelope x
-    → Writes (datagram_output g x sizes configured) entry exit (Written.Is n)
+    → Writes (datagram_output g x sizes configured) entry exit (Ok n)
     → ReadsBack g x sizes configured (take n exit) × (drop n exit ≡ drop n entry)
 reads_back_lem g x sizes configured entry exit n f w =
     let a = reported (datagram_refusal g x sizes configured) (datagram_of g x) entry exit n w in
@@ -79,7 +79,7 @@ reading_number_first g x sizes configured h = rw (h, h)
 pub picoseconds_refused : (g : GivenDatagram) (x : Envelope) (sizes configured : List ℕ) → picoseconds_turn g x ≡ true → datagram_output g x sizes configured ≡ refusing 3
 picoseconds_refused g x sizes configured h =
     let p = picoseconds_refusal x.picoseconds in
-    behind_five (times_refusal (on16 x.picoseconds) (on_i64 x.timestamp)) (probe_refusal (probe_on x.payload_header) x.chunk (promoted_on x.promoted))
+    behind_five (times_refusal (is_some x.picoseconds) (is_some x.timestamp)) (probe_refusal (probe_on x.payload_header) x.chunk (is_some x.promoted))
     (publisher_refusal x.publisher (length g.text)) (group_refusal x.group) (count_refusal x.payload_header) p _
     (shape_refusal g x sizes configured) (datagram_of g x) h
     ∙ ap refusing (three x.picoseconds (their_refusal (before_picoseconds x (length g.text)) p h))

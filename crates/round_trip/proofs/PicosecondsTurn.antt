@@ -1,20 +1,20 @@
 -- Picoseconds of 10,000 and up are refused by 3, at their turn in reading order.
 -- Assumes nothing.
+use Rattle.std.specs.Prelude.{Option, Some, None}
 use mathlib.Core.Path.{◌≡◌, refl}
 use mathlib.Core.Bool.{Bool, true, false, cond, not, ◌&&◌}
 use mathlib.Core.List.{List}
 use Prim.Native.Nat.{ℕ}
 use borrow.Author.Tests.{eqb-true, not-true}
 use lib.Dec.{eqb, leb}
-use Rattle.wire.specs.declared.optional.Optional16.{Optional16}
 use Rattle.wire.proofs.Facts.{and_left, and_right}
 use Rattle.wire_writer.specs.Writing.{or_else, unless, refusing, picoseconds_refusal}
 use Rattle.wire_writer.proofs.Refusals.{both_zero, no}
 
 -- what refuses them is 3
-pub three : (o : Optional16) → eqb (picoseconds_refusal o) 0 ≡ false → picoseconds_refusal o ≡ 3
-three Optional16.Absent h = absurd (no h)
-three (Optional16.Is v) h = go (leb 10000 v) h
+pub three : (o : Option ℕ) → eqb (picoseconds_refusal o) 0 ≡ false → picoseconds_refusal o ≡ 3
+three None h = absurd (no h)
+three (Some v) h = go (leb 10000 v) h
   where
     go : (t : Bool) → eqb (cond t 3 0) 0 ≡ false → ◌≡◌ {A = ℕ} (cond t 3 0) 3
     go true h = refl

@@ -1,9 +1,9 @@
 -- What the round trips of NetworkMessages say.
+use Rattle.std.specs.Prelude.{Some}
 use Rattle.std.specs.Prelude.{ℕ, suc, ◌+◌, ◌*◌, ◌-◌, ◌/◌, ◌<◌, ◌≡◌, Bool, true, false, cond, not, ◌&&◌, List, [], ◌∷◌, ◌++◌, leb, eqb, length, take, drop, get_or}
 use Rattle.wire.specs.Lists.{total}
 use Rattle.wire.specs.Constants.{MOST_WRITERS}
 use Rattle.wire.specs.Number.{le, le_bytes}
-use Rattle.wire.specs.declared.optional.Optional16.{Optional16}
 use Rattle.wire.specs.Answer.{got, bit}
 use Rattle.network_header.specs.declared.header.PayloadHeader.{PayloadHeader}
 use Rattle.network_message.specs.declared.payload.Sizes.{Sizes}
@@ -151,7 +151,7 @@ pub record ReadsBack (g : GivenDatagram) (x : Envelope) (sizes configured d : Li
   pub promoted : promoted_of d x.promoted (places_of g x).payload ≡ g.promoted
   -- the DataSetWriterId of message k
   pub writer_id : (k : ℕ) → 2 * k < length g.ids
-      → writer_id_of x.payload_header (places_of g x).payload_header_end configured k d ≡ Optional16.Is (le 2 g.ids (2 * k))
+      → writer_id_of x.payload_header (places_of g x).payload_header_end configured k d ≡ Some (le 2 g.ids (2 * k))
   -- message k: where it stands, and its bytes
   pub message : OfMessages x.payload_header → (k : ℕ) → k < length (given_lengths g x.payload_header sizes)
       → (message_place_at sizes k d

@@ -10,9 +10,10 @@ use lib.Dec.{ltb}
 use lib.ListN.{length}
 use Rattle.wire.proofs.Cases.{by_bool, by_eq, by_lt}
 use Rattle.marks.proofs.NextLaws.{Next, next_next}
+use Rattle.std.proofs.lemmas.Option.{some_pair_parts, none-some}
 use Rattle.salvage.specs.Holes.{hole_start, hole_end, hole, next_hole, holes_from, holes_of}
 use Rattle.salvage.specs.declared.holes.Hole.{Hole}
-use Rattle.salvage.specs.declared.holes.HoleStep.{HoleStep}
+use Rattle.std.specs.Prelude.{Option, Some, None}
 
 module _ (m : ℕ → Bool) (n : ℕ) where
   pub start_next : (i : ℕ) → Next (λ j. not (m j)) n i (hole_start m n i)
@@ -58,9 +59,9 @@ module _ (m : ℕ → Bool) (n : ℕ) where
       rw t (ap (λ (hs : List Hole). hole (hole_start m n i) (hole_end m n i) ∷ hs) (enough k j (hole_end m n i) (omega arith) (omega arith))))
       (λ t. rw t)
 
-  abbrev pub then_holes : HoleStep → List Hole
-  then_holes (HoleStep.Is h end) = h ∷ holes_after end
-  then_holes HoleStep.Last = []
+  abbrev pub then_holes : Option (Hole × ℕ) → List Hole
+  then_holes (Some (h, end)) = h ∷ holes_after end
+  then_holes None = []
 
   pub holes_step : (i : ℕ) → holes_after i ≡ then_holes (next_hole m n i)
   unfolding holes_from
@@ -79,26 +80,19 @@ module _ (m : ℕ → Bool) (n : ℕ) where
   pub holes_start : holes_after 0 ≡ holes_of m n
   holes_start = enough (n - 0) n 0 (omega arith) (omega arith)
 
-  pub hole_moves : (i : ℕ) (h : Hole) (end : ℕ) → HoleStep.Is h end ≡ next_hole m n i → (i < end) × (end ≤ n)
+  pub hole_moves : (i : ℕ) (h : Hole) (end : ℕ) → Some (h, end) ≡ next_hole m n i → (i < end) × (end ≤ n)
   hole_moves i h end e = go (ltb (hole_start m n i) n) refl
     where
-      is_end : {h g : Hole} {a b : ℕ} → HoleStep.Is h a ≡ HoleStep.Is g b → a ≡ b
-      is_end e = cc
-
-      some : HoleStep → Bool
-      some (HoleStep.Is h a) = false
-      some HoleStep.Last = true
-
-      not_last : {h : Hole} {a : ℕ} → HoleStep.Is h a ≡ HoleStep.Last → ⊥
-      not_last e = false≢true (ap some e)
+      is_end : {h g : Hole} {a b : ℕ} → ◌≡◌ {A = Option (Hole × ℕ)} (Some (h, a)) (Some (g, b)) → a ≡ b
+      is_end e = (some_pair_parts _ _ _ _ e).1
 
       go : (b : Bool) → ltb (hole_start m n i) n ≡ b → (i < end) × (end ≤ n)
       go true t =
-          let q : HoleStep.Is h end ≡ HoleStep.Is (hole (hole_start m n i) (hole_end m n i)) (hole_end m n i) = rw t at e in
+          let q : ◌≡◌ {A = Option (Hole × ℕ)} (Some (h, end)) (Some (hole (hole_start m n i) (hole_end m n i), hole_end m n i)) = rw t at e in
           let z : end ≡ hole_end m n i = is_end q in
           let a = start_from i in let s = ltb-true (hole_start m n i) n t in let b = end_after i s in let u = end_upto i s in
           (omega arith, omega arith)
-      go false t = let q : HoleStep.Is h end ≡ HoleStep.Last = rw t at e in absurd (not_last q)
+      go false t = let q : ◌≡◌ {A = Option (Hole × ℕ)} (Some (h, end)) None = rw t at e in absurd (none-some (h, end) (sym q))
 
   -- ---- two holes have a byte between them, so that there are at most half as many as offsets, rounded up
   abbrev Most : ℕ → List Hole → Type 0

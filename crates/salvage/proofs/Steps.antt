@@ -8,6 +8,7 @@ use native.Mathlib.Omega.{arith}
 use borrow.Author.Tests.{leb-true, leb-false, lt-leb}
 use lib.Dec.{leb, eqb}
 use lib.ListN.{length}
+use Rattle.std.specs.Prelude.{Result, Ok, Err}
 use Rattle.wire.specs.Answer.{Answer, got, refused}
 use Rattle.dataset_header.specs.Flags.{Valid, not_valid, valid}
 use Rattle.dataset_fields.specs.Fields.{field_at, padding_at, cursor_before}
@@ -17,15 +18,14 @@ use Rattle.dataset_message.specs.Message.{Message}
 use Rattle.salvage.specs.Front.{Shown, shown, bad, ends, past_by, shown_by, shown_at, promised, Salvage, salvaged, refusal, with_field, after_last, on_field, fields_shown, on_front, front_shown, salvage_at, opens, open_at, shown_step, last_by, next_shown, salvage_from, salvage_opened, tally_from, tally_by}
 use Rattle.salvage.specs.Quick.{is_whole}
 use Rattle.salvage.specs.declared.front.FieldShown.{FieldShown}
-use Rattle.salvage.specs.declared.front.Tally.{Tally}
 
 module _ (types f s : List ℕ) where
   -- what a step leaves
-  abbrev pub then_saved : ℕ → FieldShown → Salvage
-  then_saved count (FieldShown.Is x after) = with_field x (salvage_from types f s after)
-  then_saved count FieldShown.Ends = salvaged (promised count) []
-  then_saved count FieldShown.Last = salvaged (promised count) []
-  then_saved count (FieldShown.Refused n place) = refusal n place
+  abbrev pub then_saved : ℕ → Result FieldShown (ℕ × ℕ) → Salvage
+  then_saved count (Ok (FieldShown.Is x after)) = with_field x (salvage_from types f s after)
+  then_saved count (Ok FieldShown.Ends) = salvaged (promised count) []
+  then_saved count (Ok FieldShown.Last) = salvaged (promised count) []
+  then_saved count (Err (n, place)) = refusal n place
 
   abbrev field_of : Cursor → Shown Field
   field_of c = shown_at (field_at c.delta c.encoding types c.next) f s c.at
@@ -54,11 +54,11 @@ module _ (types f s : List ℕ) where
           let z : c.count - c.next ≡ suc (c.count - (c.next + 1)) = omega arith in
           rw (z, t) (field_saved c (field_of c))
 
-  abbrev no_field : FieldShown → Bool
-  no_field (FieldShown.Is x a) = false
-  no_field FieldShown.Ends = true
-  no_field FieldShown.Last = true
-  no_field (FieldShown.Refused n p) = true
+  abbrev no_field : Result FieldShown (ℕ × ℕ) → Bool
+  no_field (Ok (FieldShown.Is x a)) = false
+  no_field (Ok FieldShown.Ends) = true
+  no_field (Ok FieldShown.Last) = true
+  no_field (Err e) = true
 
   -- a step that hands out a field goes on
   pub record Onward (c after : Cursor) : Type 0 where
@@ -66,29 +66,20 @@ module _ (types f s : List ℕ) where
     pub next : after.next ≡ c.next + 1
     pub count : after.count ≡ c.count
 
-  step_on : (c : Cursor) (x : Field) (after : Cursor) → FieldShown.Is x after ≡ next_shown types f s c → Onward c after
+  step_on : (c : Cursor) (x : Field) (after : Cursor) → Ok (FieldShown.Is x after) ≡ next_shown types f s c → Onward c after
   step_on c x after e = go (leb c.count c.next) refl
     where
-      is_after : {x y : Field} {a b : Cursor} → FieldShown.Is x a ≡ FieldShown.Is y b → a ≡ b
+      is_after : {x y : Field} {a b : Cursor} → ◌≡◌ {A = Result FieldShown (ℕ × ℕ)} (Ok (FieldShown.Is x a)) (Ok (FieldShown.Is y b)) → a ≡ b
       is_after e = cc
 
-      not_ends : {x : Field} {a : Cursor} → FieldShown.Is x a ≡ FieldShown.Ends → ⊥
-      not_ends e = false≢true (ap no_field e)
+      padded : (a : Answer (Unit {0})) → Ok (FieldShown.Is x after) ≡ last_by a → ⊥
+      padded (got u z) q = false≢true (ap no_field q)
+      padded (refused n p) q = false≢true (ap no_field q)
 
-      not_last : {x : Field} {a : Cursor} → FieldShown.Is x a ≡ FieldShown.Last → ⊥
-      not_last e = false≢true (ap no_field e)
-
-      not_bad : {x : Field} {a : Cursor} {n p : ℕ} → FieldShown.Is x a ≡ FieldShown.Refused n p → ⊥
-      not_bad e = false≢true (ap no_field e)
-
-      padded : (a : Answer (Unit {0})) → FieldShown.Is x after ≡ last_by a → ⊥
-      padded (got u z) q = not_last q
-      padded (refused n p) q = not_bad q
-
-      stepped : c.next < c.count → (y : Shown Field) → FieldShown.Is x after ≡ shown_step c y → Onward c after
+      stepped : c.next < c.count → (y : Shown Field) → Ok (FieldShown.Is x after) ≡ shown_step c y → Onward c after
       stepped l (shown y end) q = record { left = l; next = ap (λ (d : Cursor). d.next) (is_after q); count = ap (λ (d : Cursor). d.count) (is_after q) }
-      stepped l (bad n p) q = absurd (not_bad q)
-      stepped l ends q = absurd (not_ends q)
+      stepped l (bad n p) q = absurd (false≢true (ap no_field q))
+      stepped l ends q = absurd (false≢true (ap no_field q))
 
       go : (b : Bool) → leb c.count c.next ≡ b → Onward c after
       go true t = absurd (padded (padding_at f c.at) (rw t at e))
@@ -96,17 +87,17 @@ module _ (types f s : List ℕ) where
 
   -- ---- counting
   tally_field : (k : ℕ) (x : Field) (v : Salvage) → tally_from k (with_field x v) ≡ tally_from (k + 1) v
-  tally_field k x (salvaged p fs) = let z : k + suc (length fs) ≡ k + 1 + length fs = omega arith in ap Tally.Is z
+  tally_field k x (salvaged p fs) = let z : k + suc (length fs) ≡ k + 1 + length fs = omega arith in ap Ok z
   tally_field k x (refusal n place) = refl
 
-  pub tally_on : (k : ℕ) (c : Cursor) (x : Field) (after : Cursor) → FieldShown.Is x after ≡ next_shown types f s c
+  pub tally_on : (k : ℕ) (c : Cursor) (x : Field) (after : Cursor) → Ok (FieldShown.Is x after) ≡ next_shown types f s c
       → tally_from (k + 1) (salvage_from types f s after) ≡ tally_from k (salvage_from types f s c)
   tally_on k c x after e =
-      sym (tally_field k x (salvage_from types f s after)) ∙ ap (λ (y : FieldShown). tally_from k (then_saved c.count y)) e ∙ sym (ap (tally_from k) (saved_step c))
+      sym (tally_field k x (salvage_from types f s after)) ∙ ap (λ (y : Result FieldShown (ℕ × ℕ)). tally_from k (then_saved c.count y)) e ∙ sym (ap (tally_from k) (saved_step c))
 
   -- ---- by what the front's own reader answers
   pub field_step : (c : Cursor) (x : Field) (end : ℕ) → c.next < c.count → field_at c.delta c.encoding types c.next f c.at ≡ got x end
-      → FieldShown.Is x (cursor_before c (c.next + 1) end) ≡ next_shown types f s c
+      → Ok (FieldShown.Is x (cursor_before c (c.next + 1) end)) ≡ next_shown types f s c
   field_step c x end l e = rw (lt-leb c.count c.next l, e)
 
   -- where no field is whole, what a step says is how it ends
@@ -114,16 +105,16 @@ module _ (types f s : List ℕ) where
       → tally_by k (next_shown types f s c) ≡ tally_from k (salvage_from types f s c)
   tally_stops k c stops = go (next_shown types f s c) refl ∙ sym (ap (tally_from k) (saved_step c))
     where
-      none : (x : Field) (after : Cursor) → FieldShown.Is x after ≡ next_shown types f s c → ⊥
+      none : (x : Field) (after : Cursor) → Ok (FieldShown.Is x after) ≡ next_shown types f s c → ⊥
       none x after e = whole (field_at c.delta c.encoding types c.next f c.at) refl
         where
           on : Onward c after
           on = step_on c x after e
 
-          not_shown : (n p : ℕ) (y : Answer Field) → FieldShown.Is x after ≡ shown_step c (shown_by (refused n p) y) → ⊥
+          not_shown : (n p : ℕ) (y : Answer Field) → Ok (FieldShown.Is x after) ≡ shown_step c (shown_by (refused n p) y) → ⊥
           not_shown n p y q = past (eqb n 1) (past_by p y) q
             where
-              past : (a b : Bool) → FieldShown.Is x after ≡ shown_step c (cond a (cond b (bad 1 p) ends) (bad n p)) → ⊥
+              past : (a b : Bool) → Ok (FieldShown.Is x after) ≡ shown_step c (cond a (cond b (bad 1 p) ends) (bad n p)) → ⊥
               past true true i = false≢true (ap no_field i)
               past true false i = false≢true (ap no_field i)
               past false b i = false≢true (ap no_field i)
@@ -133,14 +124,14 @@ module _ (types f s : List ℕ) where
           whole (refused n p) q =
               not_shown n p (field_at c.delta c.encoding types c.next s c.at) (rw (lt-leb c.count c.next on.left, q) at e)
 
-      last_tally : salvaged (promised c.count) [] ≡ salvaged (promised c.count) [] → Tally.Is k ≡ tally_from k (salvaged (promised c.count) [])
-      last_tally i = let z : k ≡ k + 0 = omega arith in ap Tally.Is z
+      last_tally : salvaged (promised c.count) [] ≡ salvaged (promised c.count) [] → Ok k ≡ tally_from k (salvaged (promised c.count) [])
+      last_tally i = let z : k ≡ k + 0 = omega arith in ap Ok z
 
-      go : (y : FieldShown) → y ≡ next_shown types f s c → tally_by k y ≡ tally_from k (then_saved c.count y)
-      go (FieldShown.Is x after) e = absurd (none x after e)
-      go FieldShown.Ends e = last_tally refl
-      go FieldShown.Last e = last_tally refl
-      go (FieldShown.Refused n place) e = refl
+      go : (y : Result FieldShown (ℕ × ℕ)) → y ≡ next_shown types f s c → tally_by k y ≡ tally_from k (then_saved c.count y)
+      go (Ok (FieldShown.Is x after)) e = absurd (none x after e)
+      go (Ok FieldShown.Ends) e = last_tally refl
+      go (Ok FieldShown.Last) e = last_tally refl
+      go (Err (n, place)) e = refl
 
 -- the front read at once, and opened and then read on
 module _ (total : ℕ) (types f s : List ℕ) where

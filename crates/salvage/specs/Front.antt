@@ -1,8 +1,10 @@
 -- What the covered front of a message tells (document 02, Req 13): "hand out those leading fields whose every byte, and every byte before
 -- them, is covered".
-use Rattle.std.specs.Prelude.{ℕ, zero, suc, ◌+◌, ◌-◌, Bool, false, cond, ◌&&◌, List, [], ◌∷◌, eqb, leb, length}
+use Rattle.std.specs.Prelude.{ℕ, zero, suc, ◌+◌, ◌-◌, Bool, false, cond, ◌&&◌, List, [], ◌∷◌, eqb, leb, length, Result, Ok, Err}
 use Rattle.wire.specs.Constants.{CUT_SHORT}
 use Rattle.wire.specs.Answer.{Answer, got, refused, Reader}
+use Rattle.wire.specs.Refusal.{reason_number}
+use Rattle.wire.specs.declared.refusal.Refusal.{Refusal}
 use Rattle.dataset_header.specs.declared.flags.Encoding.{Encoding}
 use Rattle.dataset_header.specs.Flags.{Valid, not_valid, valid}
 use Rattle.dataset_fields.specs.declared.fields.Field.{Field}
@@ -11,7 +13,6 @@ use Rattle.dataset_fields.specs.Fields.{field_at, padding_at, cursor_before}
 use Rattle.dataset_message.specs.Message.{Message, front_to}
 use Rattle.salvage.specs.declared.front.Opening.{Opening}
 use Rattle.salvage.specs.declared.front.FieldShown.{FieldShown}
-use Rattle.salvage.specs.declared.front.Tally.{Tally}
 
 -- What a part of the front says: a value with the position after it, a refusal, or that the reading ends there.
 pub data Shown (A : Type 0) : Type 0 where
@@ -88,39 +89,44 @@ front_shown total types f s = shown_by (front_to total types f) (front_to total 
 abbrev pub salvage_at : ℕ → List ℕ → List ℕ → List ℕ → Salvage
 salvage_at total types f s = on_front types f s (front_shown total types f s)
 
--- ---- the same in steps
+-- ---- the same in steps; a refusal by its number and place
+
+-- what the code answers, with the number of the refusal's reason
+abbrev pub numbered : {A : Type 0} → Result A Refusal → Result A (ℕ × ℕ)
+numbered (Ok a) = Ok a
+numbered (Err r) = Err (reason_number r.reason, r.place)
 
 -- the cursor before the first field, or why there is none
-abbrev pub opens : Shown (Valid Message) → Opening
-opens (shown not_valid at) = Opening.NotValid
-opens (shown (valid m) at) = Opening.At m.cursor
-opens (bad n place) = Opening.Refused n place
-opens ends = Opening.Missing
+abbrev pub opens : Shown (Valid Message) → Result Opening (ℕ × ℕ)
+opens (shown not_valid at) = Ok Opening.NotValid
+opens (shown (valid m) at) = Ok (Opening.At m.cursor)
+opens (bad n place) = Err (n, place)
+opens ends = Ok Opening.Missing
 
-abbrev pub open_at : ℕ → List ℕ → List ℕ → List ℕ → Opening
+abbrev pub open_at : ℕ → List ℕ → List ℕ → List ℕ → Result Opening (ℕ × ℕ)
 open_at total types f s = opens (front_shown total types f s)
 
 -- the field that a cursor stands before, if it lies whole in the front; past the last one the padding decides. A made-up cursor is read at
 -- the byte it names.
-abbrev pub shown_step : Cursor → Shown Field → FieldShown
-shown_step c (shown x end) = FieldShown.Is x (cursor_before c (c.next + 1) end)
-shown_step c (bad n place) = FieldShown.Refused n place
-shown_step c ends = FieldShown.Ends
+abbrev pub shown_step : Cursor → Shown Field → Result FieldShown (ℕ × ℕ)
+shown_step c (shown x end) = Ok (FieldShown.Is x (cursor_before c (c.next + 1) end))
+shown_step c (bad n place) = Err (n, place)
+shown_step c ends = Ok FieldShown.Ends
 
-abbrev pub last_by : Answer (Unit {0}) → FieldShown
-last_by (got u z) = FieldShown.Last
-last_by (refused n place) = FieldShown.Refused n place
+abbrev pub last_by : Answer (Unit {0}) → Result FieldShown (ℕ × ℕ)
+last_by (got u z) = Ok FieldShown.Last
+last_by (refused n place) = Err (n, place)
 
-abbrev pub next_shown : List ℕ → List ℕ → List ℕ → Cursor → FieldShown
+abbrev pub next_shown : List ℕ → List ℕ → List ℕ → Cursor → Result FieldShown (ℕ × ℕ)
 next_shown types f s c =
     cond (leb c.count c.next) (last_by (padding_at f c.at))
     (shown_step c (shown_at (field_at c.delta c.encoding types c.next) f s c.at))
 
-abbrev pub salvage_opened : List ℕ → List ℕ → List ℕ → Opening → Salvage
-salvage_opened types f s Opening.Missing = salvaged missing []
-salvage_opened types f s Opening.NotValid = salvaged (promised 0) []
-salvage_opened types f s (Opening.At c) = salvage_from types f s c
-salvage_opened types f s (Opening.Refused n place) = refusal n place
+abbrev pub salvage_opened : List ℕ → List ℕ → List ℕ → Result Opening (ℕ × ℕ) → Salvage
+salvage_opened types f s (Ok Opening.Missing) = salvaged missing []
+salvage_opened types f s (Ok Opening.NotValid) = salvaged (promised 0) []
+salvage_opened types f s (Ok (Opening.At c)) = salvage_from types f s c
+salvage_opened types f s (Err (n, place)) = refusal n place
 
 -- its fields; a refusal has none
 abbrev pub saved_fields : Salvage → List Field
@@ -128,13 +134,11 @@ saved_fields (salvaged p fs) = fs
 saved_fields (refusal n place) = []
 
 -- how many there are, besides k before them
-abbrev pub tally_from : ℕ → Salvage → Tally
-tally_from k (salvaged p fs) = Tally.Is (k + length fs)
-tally_from k (refusal n place) = Tally.Refused n place
+abbrev pub tally_from : ℕ → Salvage → Result ℕ (ℕ × ℕ)
+tally_from k (salvaged p fs) = Ok (k + length fs)
+tally_from k (refusal n place) = Err (n, place)
 
 -- how it ends after k fields, where no further one is whole
-abbrev pub tally_by : ℕ → FieldShown → Tally
-tally_by k (FieldShown.Is x after) = Tally.Is k
-tally_by k FieldShown.Ends = Tally.Is k
-tally_by k FieldShown.Last = Tally.Is k
-tally_by k (FieldShown.Refused n place) = Tally.Refused n place
+abbrev pub tally_by : ℕ → Result FieldShown (ℕ × ℕ) → Result ℕ (ℕ × ℕ)
+tally_by k (Ok x) = Ok k
+tally_by k (Err e) = Err e

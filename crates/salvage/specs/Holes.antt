@@ -1,8 +1,7 @@
 -- The holes of a partial (document 02, Req 13): "list its holes as offset and length, in order, each as long as possible".
-use Rattle.std.specs.Prelude.{ℕ, zero, suc, ◌+◌, ◌-◌, Bool, cond, not, ◌&&◌, List, [], ◌∷◌, leb, ltb}
+use Rattle.std.specs.Prelude.{ℕ, zero, suc, ◌+◌, ◌-◌, Bool, cond, not, ◌&&◌, List, [], ◌∷◌, leb, ltb, Option, Some, None}
 use Rattle.marks.specs.Offsets.{next_passing}
 use Rattle.salvage.specs.declared.holes.Hole.{Hole}
-use Rattle.salvage.specs.declared.holes.HoleStep.{HoleStep}
 
 -- where the first hole from i on starts, and where it ends
 abbrev pub hole_start : (ℕ → Bool) → ℕ → ℕ → ℕ
@@ -15,10 +14,10 @@ abbrev pub hole : ℕ → ℕ → Hole
 hole start end = record { offset = start; length = end - start }
 
 -- the first hole from i on of n offsets, and where it ends
-abbrev pub next_hole : (ℕ → Bool) → ℕ → ℕ → HoleStep
+abbrev pub next_hole : (ℕ → Bool) → ℕ → ℕ → Option (Hole × ℕ)
 next_hole marked n i =
     cond (ltb (hole_start marked n i) n)
-    (HoleStep.Is (hole (hole_start marked n i) (hole_end marked n i)) (hole_end marked n i)) HoleStep.Last
+    (Some (hole (hole_start marked n i) (hole_end marked n i), hole_end marked n i)) None
 
 -- at most k holes from i on
 unfoldable pub holes_from : (ℕ → Bool) → ℕ → ℕ → ℕ → List Hole

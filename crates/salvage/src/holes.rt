@@ -6,46 +6,34 @@ ghost use Rattle.salvage.specs.Holes.{next_hole, holes_of};
 use marks::{gap, next_marked, next_unmarked};
 
 // A hole: where it starts, and how long it is.
-#[derive(Clone, Copy)]
+#[derive(Clone, Copy, PartialEq, Eq, Debug)]
 pub struct Hole {
     pub offset: usize,
     pub length: usize,
 }
 
-// The next hole and where it ends, or that there is none.
-#[derive(Clone, Copy)]
-pub enum HoleStep {
-    Is(Hole, usize),
-    Last,
-}
-
-// The first hole from a position on, below total. A made-up position is one like any other; from total on there is no hole.
-// A hole that one look at the marks shows whole is told by it.
-pub fn next_hole(marks: &[u8], total: usize, at: usize) -> HoleStep
+// The first hole from a position on, below total, with the position after it. A made-up position is one like any other; from total on there
+// is no hole. A hole that one look at the marks shows whole is told by it.
+pub fn next_hole(marks: &[u8], total: usize, at: usize) -> Option<(Hole, usize)>
     ensures { result ≡ next_hole (marked in_use marks.now) total at }
 {
-    let run = gap(marks, at, total);
-    if run.start < run.end {
-        return HoleStep::Is(
-            Hole {
-                offset: run.start,
-                length: run.end - run.start,
-            },
-            run.end,
-        );
+    if let Some(run) = gap(marks, at, total) {
+        let hole = Hole {
+            offset: run.start,
+            length: run.end - run.start,
+        };
+        return Some((hole, run.end));
     }
     let start = next_unmarked(marks, at, total);
     if total <= start {
-        return HoleStep::Last;
+        return None;
     }
     let end = next_marked(marks, start, total);
-    HoleStep::Is(
-        Hole {
-            offset: start,
-            length: end - start,
-        },
-        end,
-    )
+    let hole = Hole {
+        offset: start,
+        length: end - start,
+    };
+    Some((hole, end))
 }
 
 // How many holes there are below total.
@@ -54,15 +42,9 @@ pub fn count_holes(marks: &[u8], total: usize) -> usize
 {
     let mut at = 0;
     let mut n = 0;
-    loop {
-        match next_hole(marks, total, at) {
-            HoleStep::Last => {
-                return n;
-            }
-            HoleStep::Is(_, end) => {
-                at = end;
-                n += 1;
-            }
-        }
+    while let Some((_, end)) = next_hole(marks, total, at) {
+        at = end;
+        n += 1;
     }
+    n
 }

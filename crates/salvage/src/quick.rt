@@ -6,7 +6,7 @@ ghost use Rattle.wire.specs.Answer.{got};
 ghost use Rattle.dataset_fields.specs.Fields.{field_at, fields_at};
 ghost use Rattle.salvage.specs.Quick.{FixedTo, EndsAt};
 
-use dataset_fields::fields::{Cursor, FieldRead, read_field};
+use dataset_fields::fields::{Cursor, read_field};
 use dataset_fields::quick::{MANY, Run, leading};
 use dataset_header::flags::Encoding;
 use value::quick::fixed_end;
@@ -41,9 +41,9 @@ pub(crate) fn field_end(
     if at < end {
         return end;
     }
-    match read_field(&*front, encoding, delta, &*types, k, at) {
-        FieldRead::Refused(_, _) => at,
-        FieldRead::Is(_, end) => end,
+    match read_field(front, encoding, delta, types, k, at) {
+        Err(_) => at,
+        Ok((_, end)) => end,
     }
 }
 
@@ -58,16 +58,11 @@ pub(crate) fn alike(front: &[u8], c: Cursor) -> Run
         end: c.at,
     };
     let n = left(c.count, c.next);
-    if n < MANY {
+    if (n < MANY) | c.delta {
         return none;
     }
-    if c.delta {
-        return none;
-    }
-    let encoding = c.encoding;
-    match encoding {
-        Encoding::Variant => leading(&*front, c.at, n),
-        Encoding::RawData => none,
-        Encoding::DataValue => none,
+    match c.encoding {
+        Encoding::Variant => leading(front, c.at, n),
+        Encoding::RawData | Encoding::DataValue => none,
     }
 }

@@ -5,7 +5,7 @@ ghost use Rattle.std.specs.Prelude.{◌≡◌, ◌≤◌};
 ghost use Rattle.sequence.specs.Newness.{distance_of, newness_of, no_number, newness_by, number_after, last_after};
 
 // What is said of a received number.
-#[derive(Clone, Copy)]
+#[derive(Clone, Copy, PartialEq, Eq, Debug)]
 pub enum Newness {
     Newer,
     OldOrSame,
@@ -13,14 +13,15 @@ pub enum Newness {
 }
 
 // The record of the last number. Before any number `seen` is false, and `number` says nothing.
-#[derive(Clone, Copy)]
+// The flag stands beside the number, which stays as it was where the flag is off: `after` and `noted` hand on any record that is lent.
+#[derive(Clone, Copy, PartialEq, Eq, Debug)]
 pub struct LastSequenceNumber {
     pub seen: bool,
     pub number: u16,
 }
 
 // What was said of a received number, and the record after it.
-#[derive(Clone, Copy)]
+#[derive(Clone, Copy, PartialEq, Eq, Debug)]
 pub struct Judged {
     pub newness: Newness,
     pub last: LastSequenceNumber,
@@ -40,7 +41,7 @@ pub fn no_number() -> LastSequenceNumber
 pub fn distance(last: u16, received: u16) -> u16
     ensures { (result ≡ distance_of last received) × (last ≤ 65535) }
 {
-    ((received as u32 + 65535 + (65536 - last as u32)) % 65536) as u16
+    received.wrapping_sub(1).wrapping_sub(last)
 }
 
 // The judgement by value, from the last number and the received one.

@@ -1,10 +1,10 @@
 -- What was put is read back: a decimal up to the byte that ends it, and hex.
 -- Assumes nothing.
+use Rattle.std.specs.Prelude.{Some}
 use mathlib.Core.Path.{◌≡◌, refl}
 use mathlib.Core.Bool.{true, false}
 use mathlib.Core.List.{List, [], ◌∷◌, ◌++◌}
 use mathlib.Core.Logic.{⊎_elim}
-use mathlib.Core.Option.{some}
 use Prim.Native.Nat.{ℕ, ◌+◌, ◌*◌, ◌/◌, ◌%◌, ◌≤◌, ◌<◌}
 use native.Mathlib.Omega.{arith}
 use borrow.Author.Tests.{ne_eqb, le-ltb, le-leb, lt-leb, ltb-true, ltb-false}
@@ -12,7 +12,6 @@ use lib.Dec.{ltb}
 use lib.ListN.{length, drop}
 use Rattle.text.specs.Decimal.{is_digit, all_digits, decimal_at, decimal_text}
 use Rattle.text.specs.Hex.{hex_digit, hex_text, hex_value, all_hex, hex_bytes, hex_of}
-use Rattle.text.specs.declared.decimal.Decimal.TheVariants.{Is}
 use Rattle.wire.proofs.Facts.{cases}
 use Rattle.text.proofs.Parts.{digits_contain, digits_place, digits_before}
 use Rattle.text.proofs.Numerals.{decimal_all_digits, decimal_back}
@@ -20,7 +19,7 @@ use Rattle.text.proofs.Putting.{hex_length}
 
 -- a decimal that was put, and a byte that is no digit after it: read up to that byte, it gives the number
 pub decimal_read_back : (end : ℕ) (rest : List ℕ) (limit n : ℕ) (s : List ℕ) (at : ℕ) → is_digit end ≡ false → n ≤ limit → drop at s ≡ decimal_text n ++ end ∷ rest
-    → decimal_at limit end s at ≡ Is n (at + length (decimal_text n) + 1)
+    → decimal_at limit end s at ≡ Some (n, at + length (decimal_text n) + 1)
 decimal_read_back end rest limit n s at d h e =
     let a : all_digits (decimal_text n) ≡ true = decimal_all_digits n in
     rw (e, digits_contain end d rest (decimal_text n) a, digits_before end d rest (decimal_text n) a, digits_place end d rest (decimal_text n) a, decimal_back limit n h)
@@ -53,7 +52,7 @@ hex_same (b ∷ s) w =
     rw (digit_back (b / 16) h, digit_back (b % 16) (omega arith), e, hex_same s w.1)
 
 -- bytes that were put as hex are read back
-pub hex_read_back : (s : List ℕ) → Bytes s → hex_of (hex_text s) ≡ some s
+pub hex_read_back : (s : List ℕ) → Bytes s → hex_of (hex_text s) ≡ Some s
 hex_read_back s w =
     let e : length (hex_text s) % 2 ≡ 1 → ⊥ = λ q. omega (arith, hex_length s) in
     rw (ne_eqb (length (hex_text s) % 2) 1 e, hex_digits s w, hex_same s w)

@@ -1,18 +1,19 @@
--- One step of each definition of `specs/Words.antt` at a place of a list: what a loop's turn needs.
+-- A list at a place, and the definitions of `specs/Words.antt` as the library's methods say them.
 -- Assumes nothing.
-use mathlib.Core.Path.{◌≡◌, refl, sym, ◌∙◌}
-use mathlib.Core.Bool.{Bool, true, false, cond}
+use Rattle.std.specs.Prelude.{unwrap_or}
+use Rattle.std.specs.List.{position, position_or_len, starts_with as list_starts_with}
+use mathlib.Core.Path.{◌≡◌, refl, sym, ap}
+use mathlib.Core.Bool.{Bool, true, false, cond, ◌&&◌}
 use mathlib.Core.List.{List, [], ◌∷◌}
-use mathlib.Core.Logic.{⊎_elim}
-use Prim.Native.Nat.{ℕ, suc, ◌+◌, ◌≤◌, ◌<◌}
-use native.Mathlib.Nat.{add_assoc, add-zero}
+use Prim.Native.Nat.{ℕ, ◌+◌, ◌≤◌, ◌<◌}
 use native.Mathlib.Numerals.{add-one}
 use native.Mathlib.Omega.{arith}
-use borrow.Author.Tests.{eq-eqb, ne_eqb}
-use lib.Dec.{eqb}
-use lib.ListN.{length, drop, get_or, drop_of_length-le, length-drop}
+use borrow.Author.Tests.{ltb-false}
+use lib.Dec.{eqb, ltb}
+use lib.ListN.{length, drop, get_or, drop_of_length-le}
 use lib.Seq.{drop-cons}
-use Rattle.wire.proofs.Facts.{cases}
+use Rattle.wire.proofs.Cases.{by_bool}
+use Rattle.wire.proofs.Facts.{eqb_same}
 use Rattle.text.specs.Words.{index_of, starts_with}
 
 pub either_way : {A : Type 0} (b : Bool) (x : A) → cond b x x ≡ x
@@ -26,36 +27,22 @@ module _ (s : List ℕ) (i : ℕ) where
   pub at_end : length s ≤ i → drop i s ≡ []
   at_end h = drop_of_length-le s h
 
-  pub find_hit : (b : ℕ) → i < length s → i + index_of b (drop i s) ≡ index_of b s → get_or s i 0 ≡ b → i ≡ index_of b s
-  find_hit b h v e = let z : index_of b (drop i s) ≡ 0 = rw (at_next h, eq-eqb _ _ e) in omega arith
+-- the place of a byte, as `position` counts it
+place_is : (b : ℕ) (s : List ℕ) → position_or_len (λ x. eqb x b) s ≡ index_of b s
+place_is b [] = refl
+place_is b (x ∷ s) = by_bool _ (eqb x b) (λ e. rw e) (λ e. rw (e, place_is b s) (omega arith))
 
-  pub find_miss : (b : ℕ) → i < length s → i + index_of b (drop i s) ≡ index_of b s → (get_or s i 0 ≡ b → ⊥) → i + 1 + index_of b (drop (i + 1) s) ≡ index_of b s
-  find_miss b h v e = let z : index_of b (drop i s) ≡ suc (index_of b (drop (i + 1) s)) = rw (at_next h, ne_eqb _ _ e) in omega arith
+pub place_within : (b : ℕ) (s : List ℕ) → index_of b s ≤ length s
+place_within b [] = omega arith
+place_within b (x ∷ s) = by_bool _ (eqb x b) (λ e. rw e (omega arith)) (λ e. rw e (omega (arith, place_within b s)))
 
-  pub find_end : (b : ℕ) → length s ≤ i → i + index_of b (drop i s) ≡ index_of b s → i ≡ index_of b s
-  find_end b h v = let z : index_of b (drop i s) ≡ 0 = rw (at_end h) in omega arith
+pub position_is : (b : ℕ) (s : List ℕ) → unwrap_or (position (λ x. eqb x b) s) (length s) ≡ index_of b s
+position_is b s =
+    rw (place_is b s)
+    (by_bool _ (ltb (index_of b s) (length s)) (λ e. rw e) (λ e. rw e (omega (arith, place_within b s, ltb-false _ _ e))))
 
--- a text shorter than the word does not begin with it, unless the word is empty
-short : (t word : List ℕ) → length t < length word → starts_with t word ≡ false
-short t [] h = absurd (omega arith)
-short [] (w ∷ ws) h = refl
-short (x ∷ xs) (w ∷ ws) h =
-    ⊎_elim (λ e. rw e (short xs ws (omega arith))) (λ e. rw e) (cases (eqb x w))
-
-pub starts_short : (s word : List ℕ) (at : ℕ) → length s < at + length word → eqb (length word) 0 ≡ starts_with (drop at s) word
-starts_short s [] at h = refl
-starts_short s (w ∷ ws) at h = ne_eqb (suc (length ws)) 0 (λ e. omega arith) ∙ sym (short (drop at s) (w ∷ ws) (omega (arith, length-drop at s)))
-
--- a turn of the comparison: the bytes agree, or they differ
-module _ (s word : List ℕ) (at i : ℕ) (r : Bool) (fits : at + length word ≤ length s) (h : i < length word) (v : starts_with (drop (at + i) s) (drop i word) ≡ r) where
-  pub starts_agree : get_or s (at + i) 0 ≡ get_or word i 0 → starts_with (drop (at + (i + 1)) s) (drop (i + 1) word) ≡ r
-  starts_agree e = rw (← add_assoc at i 1) (rw (at_next s (at + i) (omega arith), at_next word i h, eq-eqb _ _ e) at v)
-
-  pub starts_differ : (get_or s (at + i) 0 ≡ get_or word i 0 → ⊥) → false ≡ r
-  starts_differ e = rw (at_next s (at + i) (omega arith), at_next word i h, ne_eqb _ _ e) at v
-
-pub starts_all : (s word : List ℕ) (at i : ℕ) (r : Bool) → length word ≤ i → starts_with (drop (at + i) s) (drop i word) ≡ r → true ≡ r
-starts_all s word at i r h v = rw (at_end word i h) at v
-
-pub starts_from : (s word : List ℕ) (at : ℕ) → starts_with (drop (at + 0) s) word ≡ starts_with (drop at s) word
-starts_from s word at = rw (add-zero at)
+-- a text begins with a word, as `starts_with` compares it
+pub starts_with_is : (word t : List ℕ) → list_starts_with eqb t word ≡ starts_with t word
+starts_with_is [] t = refl
+starts_with_is (w ∷ ws) [] = refl
+starts_with_is (w ∷ ws) (x ∷ xs) = rw (eqb_same w x x w (λ e. sym e) (λ e. sym e)) (ap (λ (b : Bool). eqb x w && b) (starts_with_is ws xs))

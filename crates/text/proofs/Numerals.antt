@@ -1,10 +1,10 @@
 -- The decimal text of a number: its digits one by one, its value, and that reading it gives the number back.
 -- Assumes nothing.
+use Rattle.std.specs.Prelude.{Some}
 use mathlib.Core.Path.{◌≡◌, refl, ◌∙◌, ap}
 use mathlib.Core.Bool.{true}
 use mathlib.Core.List.{List, [], ◌∷◌, ◌++◌}
 use mathlib.Core.Logic.{⊎_elim}
-use mathlib.Core.Option.{some}
 use Prim.Native.Nat.{ℕ, zero, suc, ◌+◌, ◌*◌, ◌-◌, ◌/◌, ◌%◌, ◌^◌, ◌≤◌, ◌<◌}
 use native.Mathlib.Nat.{pow-suc}
 use native.Mathlib.Omega.{arith}
@@ -91,7 +91,7 @@ decimal_plain zero = rw (decimal_one 0 (omega arith))
 decimal_plain (suc n) = leads_plain (decimal_text (suc n)) (leads (suc n) (omega arith))
 
 -- read back, the text gives the number
-pub decimal_back : (limit n : ℕ) → n ≤ limit → decimal_of limit (decimal_text n) ≡ some n
+pub decimal_back : (limit n : ℕ) → n ≤ limit → decimal_of limit (decimal_text n) ≡ Some n
 decimal_back limit n h = rw (decimal_plain n, decimal_all_digits n, decimal_value n, le-leb n limit h)
 
 -- a number below a power of ten has at most so many digits

@@ -1,10 +1,7 @@
 -- Lower-case hex: two digits a byte, `0` to `9` and `a` to `f`.
-use Rattle.std.specs.Prelude.{Bool, true, cond, not, ◌&&◌, List, [], ◌∷◌, ℕ, ◌+◌, ◌*◌, ◌-◌, ◌/◌, ◌%◌, eqb, ltb, length}
-use Rattle.std.proofs.Math.Option.{Option, none, some}
+use Rattle.std.specs.Prelude.{Bool, true, cond, not, ◌&&◌, List, [], ◌∷◌, ℕ, ◌+◌, ◌*◌, ◌-◌, ◌/◌, ◌%◌, eqb, ltb, length, Option, Some, None}
 use Rattle.wire_writer.specs.Store.{room_for, laid}
 use Rattle.text.specs.Decimal.{is_digit}
-use Rattle.text.specs.declared.hex.Hex.{Hex}
-use Rattle.text.specs.declared.hex.Hex.TheVariants.{To, Not}
 
 -- the digit of a number below 16
 abbrev pub hex_digit : ℕ → ℕ
@@ -31,18 +28,18 @@ hex_bytes (a ∷ b ∷ s) = (16 * hex_value a + hex_value b) ∷ hex_bytes s
 
 -- the bytes of a text that is hex: an even number of digits
 abbrev pub hex_of : List ℕ → Option (List ℕ)
-hex_of s = cond (eqb (length s % 2) 1) none (cond (all_hex s) (some (hex_bytes s)) none)
+hex_of s = cond (eqb (length s % 2) 1) None (cond (all_hex s) (Some (hex_bytes s)) None)
 
 -- they are stored from a position on, where they fit; the position after them
-abbrev pub next_of : List ℕ → ℕ → Option (List ℕ) → Hex
-next_of l at (some b) = To (cond (room_for l at b) (at + length b) at)
-next_of l at none = Not
+abbrev pub next_of : List ℕ → ℕ → Option (List ℕ) → Option ℕ
+next_of l at (Some b) = Some (cond (room_for l at b) (at + length b) at)
+next_of l at None = None
 
 abbrev pub buffer_of : List ℕ → ℕ → Option (List ℕ) → List ℕ
-buffer_of l at (some b) = laid l at b
-buffer_of l at none = l
+buffer_of l at (Some b) = laid l at b
+buffer_of l at None = l
 
-abbrev pub hex_next : List ℕ → ℕ → List ℕ → Hex
+abbrev pub hex_next : List ℕ → ℕ → List ℕ → Option ℕ
 hex_next l at s = next_of l at (hex_of s)
 
 abbrev pub hex_after : List ℕ → ℕ → List ℕ → List ℕ

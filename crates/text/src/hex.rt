@@ -6,36 +6,24 @@ ghost use Rattle.text.specs.Hex.{hex_digit, hex_text, hex_value, all_hex, hex_by
 
 use crate::decimal::is_digit;
 
-// The position after the bytes that hex digits stood for, or that they are no hex.
-#[derive(Clone, Copy)]
-pub enum Hex {
-    To(usize),
-    Not,
-}
-
 // The digit of a number below 16.
 fn digit(v: u8) -> u8
     requires { v ≤ 15 }
     ensures { result ≡ hex_digit v }
 {
     if v < 10 {
-        return 48 + v;
+        return b'0' + v;
     }
-    87 + v
+    b'a' + (v - 10)
 }
 
 fn store_hex(out: &mut [u8], at: usize, s: &[u8])
     requires { at + 2 * length s.now ≤ length out.old }
     ensures { out.new ≡ sets out.old at (hex_text s.now) }
 {
-    let mut i = 0;
-    let mut p = at;
-    while i < s.len() {
-        let b = s[i];
-        out[p] = digit(b / 16);
-        out[p + 1] = digit(b % 16);
-        p += 2;
-        i += 1;
+    for (i, b) in s.iter().enumerate() {
+        out[at + 2 * i] = digit(*b / 16);
+        out[at + 2 * i + 1] = digit(*b % 16);
     }
 }
 
@@ -59,59 +47,49 @@ fn value(b: u8) -> u8
     ensures { (result ≡ hex_value b) × (result ≤ 16) }
 {
     if is_digit(b) {
-        return b - 48;
+        return b - b'0';
     }
-    if b < 97 {
+    if b < b'a' {
         return 16;
     }
-    if 102 < b {
+    if b'f' < b {
         return 16;
     }
-    b - 87
+    b - b'a' + 10
 }
 
 // Is every byte a hex digit?
+
 fn all_hex(s: &[u8]) -> bool
     ensures { result ≡ all_hex s.now }
 {
-    let mut i = 0;
-    while i < s.len() {
-        if value(s[i]) == 16 {
-            return false;
-        }
-        i += 1;
-    }
-    true
+    s.iter().all(|b| value(*b) != 16)
 }
 
 fn store_bytes(out: &mut [u8], at: usize, s: &[u8])
     requires { (at + length s.now / 2 ≤ length out.old) × (all_hex s.now ≡ true) }
     ensures { out.new ≡ sets out.old at (hex_bytes s.now) }
 {
-    let mut i = 0;
-    let mut p = at;
-    while i + 1 < s.len() {
-        out[p] = 16 * value(s[i]) + value(s[i + 1]);
-        p += 1;
-        i += 2;
+    for i in 0..s.len() / 2 {
+        out[at + i] = 16 * value(s[2 * i]) + value(s[2 * i + 1]);
     }
 }
 
-// The bytes that a text of hex digits stands for, stored as a put function does.
-pub fn read_hex(out: &mut [u8], at: usize, s: &[u8]) -> Hex
+// The bytes that a text of hex digits stands for, stored as a put function does: the position after them, or none where it is no hex.
+pub fn read_hex(out: &mut [u8], at: usize, s: &[u8]) -> Option<usize>
     ensures { (result ≡ hex_next out.old at s.now)
         × (out.new ≡ hex_after out.old at s.now) }
 {
     if s.len() % 2 == 1 {
-        return Hex::Not;
+        return None;
     }
     if !all_hex(s) {
-        return Hex::Not;
+        return None;
     }
     let n = s.len() / 2;
     if !wire::has(out.len(), at, n) {
-        return Hex::To(at);
+        return Some(at);
     }
     store_bytes(out, at, s);
-    Hex::To(at + n)
+    Some(at + n)
 }

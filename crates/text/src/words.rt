@@ -3,35 +3,21 @@ ghost use Rattle.std.specs.Prelude.{◌≡◌, drop};
 ghost use Rattle.wire_writer.specs.Store.{Stored};
 ghost use Rattle.text.specs.Words.{index_of, starts_with};
 
+use wire::part::tail;
+
 // The place of the first byte `b`, or the length where there is none.
 pub fn find(s: &[u8], b: u8) -> usize
     ensures { result ≡ index_of b s.now }
 {
-    let mut i = 0;
-    while i < s.len() {
-        if s[i] == b {
-            return i;
-        }
-        i += 1;
-    }
-    i
+    s.iter().position(|x| *x == b).unwrap_or(s.len())
 }
 
 // Does the text go on with the word at the position?
+#[tactic(auto, using(crate::proofs::Lists::starts_with_is))]
 pub fn starts_with(s: &[u8], at: usize, word: &[u8]) -> bool
     ensures { result ≡ starts_with (drop at s.now) word.now }
 {
-    if !wire::has(s.len(), at, word.len()) {
-        return word.len() == 0;
-    }
-    let mut i = 0;
-    while i < word.len() {
-        if s[at + i] != word[i] {
-            return false;
-        }
-        i += 1;
-    }
-    true
+    tail(s, at).starts_with(word)
 }
 
 // A text, put as it is.

@@ -1,6 +1,7 @@
 -- What `uadp_write` refuses, in order: reading's numbers, then 6 for a number that does not fit its item, then 6 for what would read back
 -- otherwise. (`fitting` tells it shorter, since the last two are one number.)
 -- Assumes nothing.
+use Rattle.std.specs.Prelude.{Option, Some, None}
 use Prim.Native.Nat.{ℕ, ◌*◌}
 use mathlib.Core.Path.{◌≡◌, refl, ap}
 use mathlib.Core.Bool.{Bool, true, false, cond}
@@ -12,7 +13,6 @@ use Rattle.wire_writer.proofs.Refusals.{no}
 use Rattle.publisher_id.specs.declared.publisher.PublisherId.{PublisherId}
 use Rattle.publisher_id.specs.Publisher.{publisher_shape}
 use Rattle.network_header.specs.declared.header.PayloadHeader.{PayloadHeader}
-use Rattle.network_header.specs.declared.header.Promoted.{Promoted}
 use Rattle.network_header.specs.declared.envelope.Envelope.{Envelope}
 use Rattle.network_header.specs.Numbers.{configured_sizes, same_numbers}
 use Rattle.network_header.specs.Header.{count_shape, ids_shape, promoted_shape}
@@ -59,9 +59,9 @@ ids_six chunk (PayloadHeader.Ids n) ids configured =
 ids_six chunk (PayloadHeader.Chunk w) ids configured = of_either chunk (cond (eqb (length ids) 0) 0 6) 6 (held (eqb (length ids) 0)) six
 ids_six chunk PayloadHeader.Probe ids configured = held (eqb (length ids) 0)
 
-promoted_six : (x : Promoted) (n : ℕ) → Six (promoted_shape x n)
-promoted_six Promoted.Absent n = held (eqb n 0)
-promoted_six (Promoted.Size k) n = of_either (leb 65536 k) 6 (cond (eqb k n) 0 6) six (held (eqb k n))
+promoted_six : (x : Option ℕ) (n : ℕ) → Six (promoted_shape x n)
+promoted_six None n = held (eqb n 0)
+promoted_six (Some k) n = of_either (leb 65536 k) 6 (cond (eqb k n) 0 6) six (held (eqb k n))
 
 lengths_six : (x : PayloadHeader) (lengths sizes : List ℕ) → Six (lengths_shape x lengths sizes)
 lengths_six PayloadHeader.Absent lengths sizes =

@@ -22,10 +22,7 @@ use Rattle.reassembly.specs.Machine.{reply_of, handed_of}
 use Rattle.reassembly.specs.Operations.{Step, take_in, combine, emptied, ask_complete, judge_hand_out, if_done, hand_out}
 use Rattle.reassembly.specs.Calls.{said_of, answers, leaves, replies, final}
 use Rattle.reassembly.specs.declared.record.PartialRecord.{PartialRecord}
-use Rattle.reassembly.specs.declared.verdict.Verdict.{Verdict}
-use Rattle.reassembly.specs.declared.verdict.Verdict.TheVariants.{Done, Refused}
-use Rattle.reassembly.specs.declared.verdict.Completeness.{Completeness}
-use Rattle.reassembly.specs.declared.verdict.Completeness.TheVariants as C
+use Rattle.reassembly.specs.Verdict.{Completeness, Done, Refused, Verdict}
 use Rattle.wire.proofs.Cases.{by_bool}
 use Rattle.reassembly_laws.proofs.Demand3 as machine
 use Rattle.records.specs.Result.{result_of}
@@ -68,9 +65,9 @@ verdict_tells a Done q = q
 verdict_tells a (Refused n p) q = q
 
 complete_tells : (a : Lent) (x : Completeness) → a.result ≡ complete_result x → Tells a (said_of x)
-complete_tells a C.Yes q = q
-complete_tells a C.No q = q
-complete_tells a (C.Refused n p) q = q
+complete_tells a Completeness.Yes q = q
+complete_tells a Completeness.No q = q
+complete_tells a (Completeness.Unsaid n p) q = q
 
 -- ---- one call: its result is the reply of the partial that was lent, and what it leaves is read as what that call leaves
 pub record One (k : LentCall) (b a : Lent) : Type 0 where

@@ -1,18 +1,21 @@
 -- The ways out of a function that fills one record.
 -- Assumes nothing.
 use Prim.Native.Nat.{ℕ, ◌+◌, ◌^◌, ◌≤◌, ◌<◌}
-use mathlib.Core.Path.{◌≡◌, refl, ap, subst, ◌∙◌}
+use mathlib.Core.Path.{◌≡◌, refl, ap, sym, subst, ◌∙◌}
 use mathlib.Core.Bool.{Bool, true, false}
 use mathlib.Core.List.{List}
 use native.Mathlib.Omega.{arith}
-use borrow.Author.Tests.{le-leb, lt-leb, lt-ltb, le-ltb}
+use borrow.Author.Tests.{le-leb, lt-leb}
 use lib.Dec.{leb}
 use lib.ListN.{length, get_or}
 use mir.Syntax.{w8}
 use mir.Val.{Fits}
 use Rattle.wire.specs.Answer.{Answer, got, refused}
 use Rattle.wire_writer.specs.Store.{laid}
-use Rattle.config_text.specs.declared.ConfigRead.{ConfigRead}
+use Rattle.std.specs.Prelude.{Result, Ok, Err}
+use Rattle.config.specs.declared.Config.{Config}
+use Rattle.wire.specs.Refusal.{reason_number}
+use Rattle.wire.specs.declared.refusal.Refusal.{Refusal}
 use Rattle.config_text.specs.Config.{config_of}
 use Rattle.dataset_header.specs.Flags.{Valid}
 use Rattle.dataset_message.specs.Message.{Message, message_to, whole_or_front, ended_at, field_place_at}
@@ -45,13 +48,12 @@ fill_done a out e v next m x q l h r s =
     subst (λ (y : Answer Filling). Ends y out x e) q (rw t r, s)
 
 -- what is filled in, from what was read
-pub config_bad : (t : List ℕ) (r : ConfigRead) → r ≡ config_of t → 0 < r.number → refused r.number r.place ≡ config_filling (config_of t)
-config_bad t r q h = subst (λ (y : ConfigRead). refused r.number r.place ≡ config_filling y) q (rw (lt-ltb 0 r.number h) refl)
+pub config_bad : (t : List ℕ) (r : Result Config Refusal) (x : Refusal) → r ≡ config_of t → r ≡ Err x → refused (reason_number x.reason) x.place ≡ config_filling (config_of t)
+config_bad t r x q e = ap config_filling (sym e ∙ q)
 
-pub config_good : (t : List ℕ) (r : ConfigRead) → r ≡ config_of t → r.number ≤ 0
-    → got (record { value = 0; bytes = config_bytes r.config }) 0 ≡ config_filling (config_of t)
-config_good t r q h =
-    subst (λ (y : ConfigRead). got (record { value = 0; bytes = config_bytes r.config }) 0 ≡ config_filling y) q (rw (le-ltb 0 r.number h) refl)
+pub config_good : (t : List ℕ) (r : Result Config Refusal) (c : Config) → r ≡ config_of t → r ≡ Ok c
+    → got (record { value = 0; bytes = config_bytes c }) 0 ≡ config_filling (config_of t)
+config_good t r c q e = ap config_filling (sym e ∙ q)
 
 -- a message read whole, or its front, by its field types
 abbrev pub head_by : Bool → List ℕ → List ℕ → Answer (Valid Message)

@@ -19,8 +19,7 @@ use Rattle.reassembly.specs.Operations.{Step, step_by, put, take_in, combine}
 use Rattle.reassembly.specs.declared.operations.Outcome.{Outcome}
 use Rattle.reassembly.specs.declared.record.Message.{Message}
 use Rattle.reassembly.specs.declared.record.PartialRecord.{PartialRecord}
-use Rattle.reassembly.specs.declared.verdict.Verdict.{Verdict}
-use Rattle.reassembly.specs.declared.verdict.Verdict.TheVariants.{Done, Refused}
+use Rattle.reassembly.specs.Verdict.{Done, Refused, Verdict}
 use Rattle.partial_record.specs.Partial.{partial_in, partial_bytes, FitsRecord}
 use Rattle.records.specs.Sizes.{PARTIAL_SIZE}
 use Rattle.partial_record.proofs.Back.{partial_back, covered_laid}

@@ -1,6 +1,7 @@
 -- Walking over a datagram's messages by calls, from an envelope record that `uadp_read` filled: the calls tell the messages that lookup finds, one after the
 -- other. The premises are the contracts.
 -- Assumes nothing.
+use Rattle.std.specs.Prelude.{Option}
 use Prim.Native.Nat.{ℕ, zero, suc, ◌+◌, ◌*◌, ◌^◌, ◌≤◌, ◌<◌}
 use mathlib.Core.Path.{◌≡◌, refl, ap, sym, subst, ◌∙◌}
 use mathlib.Core.Bool.{Bool, true, false}
@@ -14,7 +15,6 @@ use lib.ListN.{length, get_or}
 use Rattle.wire.specs.Number.{le_bytes}
 use Rattle.wire.specs.Lists.{total}
 use Rattle.wire.specs.Answer.{Answer, got, refused}
-use Rattle.wire.specs.declared.optional.Optional16.{Optional16}
 use Rattle.wire.proofs.Reading.{got_value, not_got, invert}
 use Rattle.wire_writer.specs.Store.{laid}
 use Rattle.probe.specs.Body.{probe_body_at}
@@ -99,7 +99,7 @@ before_all (x ∷ zs) (suc k) = omega (arith, before_all zs k)
 
 -- ---- a step that is made where there is room
 
-message_made : (w : ℕ → Optional16) (x : PlaceStepped) (n : ℕ) (e p : List ℕ) → ENVELOPE_SIZE ≤ length e → PLACE_SIZE ≤ length p
+message_made : (w : ℕ → Option ℕ) (x : PlaceStepped) (n : ℕ) (e p : List ℕ) → ENVELOPE_SIZE ≤ length e → PLACE_SIZE ≤ length p
     → (message_result (got x n) e p ≡ result_of 0 x.place.index) × (envelope_after (got x n) e p ≡ messages_laid x.cursor e)
     × (place_after w (got x n) e p ≡ laid p 0 (number_bytes (place_numbers x.place (w x.place.index))))
 message_made w x n e p l k = rw (le-ltb (length e) ENVELOPE_SIZE l, le-ltb (length p) PLACE_SIZE k) (refl, refl, refl)
@@ -174,7 +174,7 @@ module _ (d config : List ℕ) (m : NetworkMessage) (n : ℕ) (q : network_messa
           result = y.result ∙ ap (λ (z : Answer PlaceStepped). message_result z e p) step ∙ made.0;
           filled =
               y.place ∙ ap (λ (z : Answer PlaceStepped). place_after (writer_at config e d) z e p) step ∙ made.2
-              ∙ ap (λ (i : Optional16). laid p 0 (number_bytes (place_numbers (found k) i))) (writer_told k (start k) k e w);
+              ∙ ap (λ (i : Option ℕ). laid p 0 (number_bytes (place_numbers (found k) i))) (writer_told k (start k) k e w);
           cursor = moved;
         } in
         let next : start (suc k) ≡ start (k + 1) = ap start (sym (add-one k)) in

@@ -20,7 +20,8 @@ use Rattle.value_parts.specs.Put.{variant_output}
 use Rattle.value_parts.specs.PutName.{name_output}
 use Rattle.value_parts.specs.PutMatrix.{matrix_output}
 use Rattle.value_parts.specs.declared.data_value.FieldParts.{FieldParts}
-use Rattle.value_parts.specs.declared.data_value.FieldTold.{FieldTold}
+use Rattle.std.specs.Prelude.{Result}
+use Rattle.wire.specs.declared.refusal.Refusal.{Refusal}
 use Rattle.value_parts.specs.declared.put.Form.{Form}
 use Rattle.uadp_c.specs.Values.{value_filling, type_in}
 use Rattle.uadp_c.specs.Chunks.{chunk_filling}
@@ -29,8 +30,8 @@ use Rattle.uadp_c.proofs.Filling.{Ends}
 use Rattle.uadp_c.proofs.Wrote.{of_writers}
 
 -- what a telling function answered
-pub was_told : (s : List ℕ) {x y : FieldTold} → x ≡ y → value_filling s (answer_field_told y) ≡ value_filling s (answer_field_told x)
-was_told s q = ap (λ (z : FieldTold). value_filling s (answer_field_told z)) (sym q)
+pub was_told : (s : List ℕ) {x y : Result FieldParts Refusal} → x ≡ y → value_filling s (answer_field_told y) ≡ value_filling s (answer_field_told x)
+was_told s q = ap (λ (z : Result FieldParts Refusal). value_filling s (answer_field_told z)) (sym q)
 
 -- the same in other words
 pub filled_as : (s out : List ℕ) {a b : Answer FieldParts} {x : ℕ} {e : List ℕ} → a ≡ b → Ends (value_filling s a) out x e → Ends (value_filling s b) out x e

@@ -1,5 +1,6 @@
 -- The ways out of reading an envelope and of a step of its message cursor.
 -- Assumes nothing.
+use Rattle.std.specs.Prelude.{Option}
 use Prim.Native.Nat.{ℕ, ◌≤◌, ◌<◌}
 use mathlib.Core.Path.{◌≡◌, refl, ap, subst, ◌∙◌}
 use mathlib.Core.List.{List}
@@ -10,7 +11,6 @@ use mir.Syntax.{w8}
 use mir.Val.{Fits}
 use Rattle.wire.specs.Answer.{Answer, got, refused}
 use Rattle.wire_writer.specs.Store.{laid}
-use Rattle.wire.specs.declared.optional.Optional16.{Optional16}
 use Rattle.network_message.specs.Envelope.{NetworkMessage, network_message_at}
 use Rattle.network_message.specs.WriterId.{writer_id_of}
 use Rattle.network_message.specs.Payload.{PlaceStepped, place_step_at}
@@ -72,31 +72,31 @@ message_stepped c e s z l n p k y a b d f g q =
     q ∙ ap (λ (t : List ℕ). place_step_at p t k s) (first_of c z l n 34 a b d) ∙ ap (λ (t : Payload). place_step_at t (sizes_in c) k s) f
     ∙ ap (λ (t : MessageCursor). place_step_at (payload_in e) (sizes_in c) t s) g
 
-pub writer_named : (c e s z l : List ℕ) (n m k : ℕ) (h : PayloadHeader) (y : Optional16) → n ≡ writers_in c → l ≡ sixteen 2 c → z ≡ take n l → h ≡ payload_header_in e
+pub writer_named : (c e s z l : List ℕ) (n m k : ℕ) (h : PayloadHeader) (y : Option ℕ) → n ≡ writers_in c → l ≡ sixteen 2 c → z ≡ take n l → h ≡ payload_header_in e
     → m ≡ payload_header_end e → y ≡ writer_id_of h m z k s → y ≡ writer_at c e s k
 writer_named c e s z l n m k h y a b d f g q =
     q ∙ ap (λ (t : List ℕ). writer_id_of h m t k s) (first_of c z l n 2 a b d) ∙ ap (λ (t : PayloadHeader). writer_id_of t m (ids_in c) k s) f
     ∙ ap (λ (t : ℕ). writer_id_of (payload_header_in e) t (ids_in c) k s) g
 
-abbrev pub Walks : (ℕ → Optional16) → Answer PlaceStepped → List ℕ → List ℕ → ℕ → List ℕ → List ℕ → Type 0
+abbrev pub Walks : (ℕ → Option ℕ) → Answer PlaceStepped → List ℕ → List ℕ → ℕ → List ℕ → List ℕ → Type 0
 Walks w a e p x f q = (x ≡ message_result a e p) × (f ≡ envelope_after a e p) × (q ≡ place_after w a e p)
 
-pub walk_refused : (w : ℕ → Optional16) (a : Answer PlaceStepped) (e p : List ℕ) (n m x : ℕ) → refused n m ≡ a → x ≡ result_of n m → Walks w a e p x e p
+pub walk_refused : (w : ℕ → Option ℕ) (a : Answer PlaceStepped) (e p : List ℕ) (n m x : ℕ) → refused n m ≡ a → x ≡ result_of n m → Walks w a e p x e p
 walk_refused w a e p n m x q h = subst (λ (y : Answer PlaceStepped). Walks w y e p x e p) q (h, refl, refl)
 
-pub walk_no_envelope : (w : ℕ → Optional16) (a : Answer PlaceStepped) (e p : List ℕ) (m : MessagePlace) (k : MessageCursor) (next x : ℕ)
+pub walk_no_envelope : (w : ℕ → Option ℕ) (a : Answer PlaceStepped) (e p : List ℕ) (m : MessagePlace) (k : MessageCursor) (next x : ℕ)
     → got (record { place = m; cursor = k }) next ≡ a → length e < ENVELOPE_SIZE → x ≡ result_of 11 0 → Walks w a e p x e p
 walk_no_envelope w a e p m k next x q h r =
     subst (λ (y : Answer PlaceStepped). Walks w y e p x e p) q (rw (lt-ltb (length e) ENVELOPE_SIZE h) (r, refl, refl))
 
-pub walk_no_place : (w : ℕ → Optional16) (a : Answer PlaceStepped) (e p : List ℕ) (m : MessagePlace) (k : MessageCursor) (next x : ℕ)
+pub walk_no_place : (w : ℕ → Option ℕ) (a : Answer PlaceStepped) (e p : List ℕ) (m : MessagePlace) (k : MessageCursor) (next x : ℕ)
     → got (record { place = m; cursor = k }) next ≡ a → ENVELOPE_SIZE ≤ length e → length p < PLACE_SIZE → x ≡ result_of 11 0 → Walks w a e p x e p
 walk_no_place w a e p m k next x q g h r =
     subst (λ (y : Answer PlaceStepped). Walks w y e p x e p) q (rw (le-ltb (length e) ENVELOPE_SIZE g, lt-ltb (length p) PLACE_SIZE h) (r, refl, refl))
 
-pub walk_done : (w : ℕ → Optional16) (a : Answer PlaceStepped) (e p e₁ f : List ℕ) (m : MessagePlace) (k : MessageCursor) (v : Optional16) (next x : ℕ)
+pub walk_done : (w : ℕ → Option ℕ) (a : Answer PlaceStepped) (e p e₁ f : List ℕ) (m : MessagePlace) (k : MessageCursor) (v : Option ℕ) (next x : ℕ)
     → got (record { place = m; cursor = k }) next ≡ a → ENVELOPE_SIZE ≤ length e → PLACE_SIZE ≤ length p → x ≡ result_of 0 m.index → v ≡ w m.index
     → e₁ ≡ messages_laid k e → f ≡ laid p 0 (number_bytes (place_numbers m v)) → Walks w a e p x e₁ f
 walk_done w a e p e₁ f m k v next x q g h r u p₁ p₂ =
-    let y : f ≡ laid p 0 (number_bytes (place_numbers m (w m.index))) = p₂ ∙ ap (λ (t : Optional16). laid p 0 (number_bytes (place_numbers m t))) u in
+    let y : f ≡ laid p 0 (number_bytes (place_numbers m (w m.index))) = p₂ ∙ ap (λ (t : Option ℕ). laid p 0 (number_bytes (place_numbers m t))) u in
     subst (λ (y : Answer PlaceStepped). Walks w y e p x e₁ f) q (rw (le-ltb (length e) ENVELOPE_SIZE g, le-ltb (length p) PLACE_SIZE h) (r, p₁, y))

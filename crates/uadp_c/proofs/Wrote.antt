@@ -1,5 +1,7 @@
 -- The ways out of the writing functions, from what the writers promise.
 -- Assumes nothing.
+use Rattle.wire.specs.declared.refusal.Reason.{Reason}
+use Rattle.std.specs.Prelude.{Result, Option}
 use Prim.Native.Nat.{ℕ}
 use mathlib.Core.Path.{◌≡◌, refl, ap, subst, ◌∙◌}
 use mathlib.Core.Bool.{Bool, true, false, cond}
@@ -7,20 +9,18 @@ use lib.Dec.{eqb}
 use mathlib.Core.List.{List}
 use lib.ListN.{take}
 use Rattle.wire_writer.specs.Writing.{answer_written, Output, writing, refusing, unless, or_else, buffer_after, Writes}
-use Rattle.wire_writer.specs.declared.writing.Written.{Written}
 use Rattle.dataset_header.specs.declared.header.Header.{Header}
 use Rattle.network_header.specs.declared.envelope.Envelope.{Envelope}
 use Rattle.network_message.specs.Writer as datagram
 use Rattle.dataset_message.specs.Writer as message
 use Rattle.walk.specs.Lines.{Writers, writers, listing_of}
 use Rattle.listing.specs.Text.{lines_text, text_written, text_after, length_in}
-use Rattle.listing.specs.declared.whole.TextLength.{TextLength}
 use Rattle.records.specs.Writers.{writers_in, sixteen, ids_in, sizes_in, starts_in, types_in, types_for}
 use Rattle.message_record.specs.Message.{header_in}
 use Rattle.envelope_record.specs.Envelope.{envelope_in}
 use Rattle.uadp_c.specs.Listings.{listing_text, length_result, MOST_VALUE}
-use Rattle.walk_records.specs.Walk.{records_put, walk_records, walk_of}
-use Rattle.walk_records.specs.declared.Walked.{Walked}
+use Rattle.walk_records.specs.Walk.{answer_walked, records_put, walk_records, walk_of}
+use Rattle.wire.specs.declared.refusal.Refusal.{Refusal}
 use Rattle.uadp_c.specs.Walks.{configured, walk_result}
 use Rattle.uadp_c.specs.Writing.{writer_result, output_result, fitting}
 use Rattle.records.specs.Result.{result_of}
@@ -31,13 +31,13 @@ pub of_writers : (at : ℕ) (c l configured : List ℕ) (n : ℕ) → n ≡ writ
 of_writers at c l configured n a b d = d ∙ ap (λ (x : ℕ). take x l) a ∙ ap (λ (x : List ℕ). take (writers_in c) x) b
 
 -- what a writer promises, as the result and the buffer of the C function around it, whose output is the same in other words
-pub wrote : (out e : List ℕ) (o o' : Output) (w : Written) (r : ℕ) → o ≡ o' → Writes o out e w → r ≡ writer_result (answer_written w)
+pub wrote : (out e : List ℕ) (o o' : Output) (w : Result ℕ Reason) (r : ℕ) → o ≡ o' → Writes o out e w → r ≡ writer_result (answer_written w)
     → (r ≡ output_result out o') × (e ≡ buffer_after out o')
 wrote out e o o' w r q a h =
-    subst (λ (y : Output). (r ≡ output_result out y) × (e ≡ buffer_after out y)) q (h ∙ ap (λ (x : Written). writer_result (answer_written x)) a.answer, a.buffer)
+    subst (λ (y : Output). (r ≡ output_result out y) × (e ≡ buffer_after out y)) q (h ∙ ap writer_result a.answer, a.buffer)
 
 -- the same of a record whose numbers all fit
-pub wrote_fitting : (out e : List ℕ) (o o' : Output) (w : Written) (r : ℕ) (b : Bool) → b ≡ true → o ≡ o' → Writes o out e w → r ≡ writer_result (answer_written w)
+pub wrote_fitting : (out e : List ℕ) (o o' : Output) (w : Result ℕ Reason) (r : ℕ) (b : Bool) → b ≡ true → o ≡ o' → Writes o out e w → r ≡ writer_result (answer_written w)
     → (r ≡ output_result out (fitting b o')) × (e ≡ buffer_after out (fitting b o'))
 wrote_fitting out e o o' w r b t q a h = rw t (wrote out e o o' w r q a h)
 
@@ -78,24 +78,24 @@ parts_same c d ids sizes starts types i z s t =
     ∙ ap (λ (x : List ℕ). parts_text (ids_in c) (sizes_in c) x types d) s ∙ ap (λ (x : List ℕ). parts_text (ids_in c) (sizes_in c) (starts_in c) x d) t
 
 -- its length
-pub measured : (c d ids sizes starts types : List ℕ) (r : ℕ) (x : TextLength) → ids ≡ ids_in c → sizes ≡ sizes_in c → starts ≡ starts_in c → types ≡ types_in c
+pub measured : (c d ids sizes starts types : List ℕ) (r : ℕ) (x : Option ℕ) → ids ≡ ids_in c → sizes ≡ sizes_in c → starts ≡ starts_in c → types ≡ types_in c
     → x ≡ length_in MOST_VALUE (parts_text ids sizes starts types d) → r ≡ length_result x → r ≡ length_result (length_in MOST_VALUE (listing_text c d))
 measured c d ids sizes starts types r x i z s t a h =
     h ∙ ap length_result (a ∙ ap (length_in MOST_VALUE) (parts_same c d ids sizes starts types i z s t))
 
-pub listed : (c d ids sizes starts types out e : List ℕ) (w : Written) (r : ℕ) → ids ≡ ids_in c → sizes ≡ sizes_in c → starts ≡ starts_in c → types ≡ types_in c
+pub listed : (c d ids sizes starts types out e : List ℕ) (w : Result ℕ Reason) (r : ℕ) → ids ≡ ids_in c → sizes ≡ sizes_in c → starts ≡ starts_in c → types ≡ types_in c
     → (w ≡ text_written out (parts_text ids sizes starts types d)) × (e ≡ text_after out (parts_text ids sizes starts types d))
     → r ≡ writer_result (answer_written w)
     → (r ≡ writer_result (answer_written (text_written out (listing_text c d)))) × (e ≡ text_after out (listing_text c d))
 listed c d ids sizes starts types out e w r i z s t a h =
     let same = parts_same c d ids sizes starts types i z s t in (
-      h ∙ ap (λ (x : Written). writer_result (answer_written x)) a.0 ∙ ap (λ (x : List ℕ). writer_result (answer_written (text_written out x))) same,
+      h ∙ ap (λ (x : Result ℕ Reason). writer_result (answer_written x)) a.0 ∙ ap (λ (x : List ℕ). writer_result (answer_written (text_written out x))) same,
       a.1 ∙ ap (λ (x : List ℕ). text_after out x) same,
     )
 
 -- a walk, under the writers of a configuration record
-pub walks : (c d ids sizes starts types out e : List ℕ) (v : Walked) (r : ℕ) → ids ≡ ids_in c → sizes ≡ sizes_in c → starts ≡ starts_in c → types ≡ types_in c
-    → (v ≡ walk_of (writers ids sizes starts types) d) × (e ≡ records_put 0 (walk_records (writers ids sizes starts types) d) out) → r ≡ walk_result v
+pub walks : (c d ids sizes starts types out e : List ℕ) (v : Result ℕ Refusal) (r : ℕ) → ids ≡ ids_in c → sizes ≡ sizes_in c → starts ≡ starts_in c → types ≡ types_in c
+    → (answer_walked v ≡ walk_of (writers ids sizes starts types) d) × (e ≡ records_put 0 (walk_records (writers ids sizes starts types) d) out) → r ≡ walk_result (answer_walked v)
     → (r ≡ walk_result (walk_of (configured c) d)) × (e ≡ records_put 0 (walk_records (configured c) d) out)
 walks c d ids sizes starts types out e v r i z s t a h =
     let w : writers ids sizes starts types ≡ configured c =

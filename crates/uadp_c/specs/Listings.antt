@@ -1,10 +1,9 @@
 -- A datagram's listing under a configuration record (include/uadp.h, `uadp_list`).
-use Rattle.std.specs.Prelude.{ℕ, List}
+use Rattle.std.specs.Prelude.{ℕ, List, Option, Some, None}
 use Rattle.wire.specs.Constants.{OVER_LIMIT}
 use Rattle.records.specs.Result.{result_of}
 use Rattle.walk.specs.Lines.{writers, listing_of}
 use Rattle.listing.specs.Text.{lines_text}
-use Rattle.listing.specs.declared.whole.TextLength.{TextLength}
 use Rattle.records.specs.Writers.{ids_in, sizes_in, starts_in, types_in}
 
 -- "the whole listing of a datagram, each line ended by a newline"
@@ -16,6 +15,6 @@ abbrev pub MOST_VALUE : ℕ
 MOST_VALUE = 72057594037927935
 
 -- "Value: how many bytes the listing has"; a listing above that, which no datagram has, is 10
-abbrev pub length_result : TextLength → ℕ
-length_result (TextLength.Is n) = result_of 0 n
-length_result TextLength.Long = result_of OVER_LIMIT 0
+abbrev pub length_result : Option ℕ → ℕ
+length_result (Some n) = result_of 0 n
+length_result None = result_of OVER_LIMIT 0

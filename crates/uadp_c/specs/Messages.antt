@@ -1,10 +1,10 @@
 -- An envelope and its messages' places as records (include/uadp.h, "reading").
+use Rattle.std.specs.Prelude.{Option}
 use Rattle.std.specs.Prelude.{ℕ, ◌≤◌, cond, List, ltb, length}
 use Rattle.wire.specs.Constants.{NO_ROOM}
 use Rattle.records.specs.Sizes.{ENVELOPE_SIZE, PLACE_SIZE}
 use Rattle.wire.specs.Answer.{Answer, got, refused, map_answer}
 use Rattle.wire_writer.specs.Store.{laid}
-use Rattle.wire.specs.declared.optional.Optional16.{Optional16}
 use Rattle.network_message.specs.Envelope.{NetworkMessage}
 use Rattle.network_message.specs.WriterId.{writer_id_of}
 use Rattle.network_message.specs.Payload.{PlaceStepped, place_step_at}
@@ -27,7 +27,7 @@ abbrev pub message_step : List ℕ → List ℕ → List ℕ → Answer PlaceSte
 message_step config envelope d = place_step_at (payload_in envelope) (sizes_in config) (messages_in envelope) d
 
 -- the DataSetWriterId of message k of an envelope record
-abbrev pub writer_at : List ℕ → List ℕ → List ℕ → ℕ → Optional16
+abbrev pub writer_at : List ℕ → List ℕ → List ℕ → ℕ → Option ℕ
 writer_at config envelope d k = writer_id_of (payload_header_in envelope) (payload_header_end envelope) (ids_in config) k d
 
 -- "Value: the message's number"; "11 for either record"
@@ -47,7 +47,7 @@ envelope_after (got x next) envelope place =
 envelope_after (refused n p) envelope place = envelope
 
 -- the place record afterwards, with what gives a message's DataSetWriterId
-abbrev pub place_after : (ℕ → Optional16) → Answer PlaceStepped → List ℕ → List ℕ → List ℕ
+abbrev pub place_after : (ℕ → Option ℕ) → Answer PlaceStepped → List ℕ → List ℕ → List ℕ
 place_after writer (got x next) envelope place =
     cond (ltb (length envelope) ENVELOPE_SIZE) place
     (cond (ltb (length place) PLACE_SIZE) place (laid place 0 (number_bytes (place_numbers x.place (writer x.place.index)))))

@@ -7,9 +7,7 @@ use Rattle.wire_writer.specs.Store.{laid}
 use Rattle.reassembly.specs.Record.{Partial, partial}
 use Rattle.reassembly.specs.Operations.{Step}
 use Rattle.reassembly.specs.declared.record.PartialRecord.{PartialRecord}
-use Rattle.reassembly.specs.declared.verdict.Verdict.{Verdict}
-use Rattle.reassembly.specs.declared.verdict.Completeness.{Completeness}
-use Rattle.reassembly.specs.declared.verdict.Progress.{Progress}
+use Rattle.reassembly.specs.Verdict.{Completeness, Progress, Verdict}
 use Rattle.records.specs.Result.{result_of}
 use Rattle.partial_record.specs.Partial.{COVERED, partial_in, partial_bytes}
 
@@ -65,7 +63,7 @@ emptied_record r = laid r 0 (le_bytes 8 0)
 abbrev pub complete_result : Completeness → ℕ
 complete_result Completeness.Yes = result_of 0 1
 complete_result Completeness.No = result_of 0 0
-complete_result (Completeness.Refused n place) = result_of n place
+complete_result (Completeness.Unsaid n place) = result_of n place
 
 abbrev pub complete_in : List ℕ → Completeness → ℕ
 complete_in r a = cond (ltb (length r) PARTIAL_SIZE) (result_of UNSOUND 0) (complete_result a)
@@ -73,7 +71,7 @@ complete_in r a = cond (ltb (length r) PARTIAL_SIZE) (result_of UNSOUND 0) (comp
 -- "Value: how many bytes have come in"; how many there are in all stands in the record
 abbrev pub progress_result : Progress → ℕ
 progress_result (Progress.Is covered total) = result_of 0 covered
-progress_result (Progress.Refused n place) = result_of n place
+progress_result (Progress.Unknown n place) = result_of n place
 
 abbrev pub progress_in : List ℕ → Progress → ℕ
 progress_in r a = cond (ltb (length r) PARTIAL_SIZE) (result_of UNSOUND 0) (progress_result a)

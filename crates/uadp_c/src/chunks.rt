@@ -5,13 +5,14 @@ ghost use Rattle.records.specs.Result.{result_in, filled_in};
 ghost use Rattle.records.specs.Writers.{sizes_in};
 ghost use Rattle.uadp_c.specs.Chunks.{chunk_filling, chunks_result};
 
-use chunk::datagram::ChunkRead;
+use crate::refusals::{refused, refused_for};
 use config::first;
 use partial_record::chunk_record::put_chunk;
 use records::result::result;
 use records::sizes::CHUNK_SIZE;
 use records::writers::{sizes, writer_count};
-use wire::constants::{DISAGREE, MOST_TOTAL, NO_ROOM, OVER_LIMIT};
+use wire::constants::MOST_TOTAL;
+use wire::refusal::Reason;
 
 // Reads a chunk's datagram into a chunk record.
 #[unsafe(no_mangle)]
@@ -22,14 +23,13 @@ pub extern "C" fn uadp_chunk(datagram: &[u8], config: &[u8], chunk: &mut [u8]) -
     let n = writer_count(config);
     let list = sizes(config);
     match chunk::datagram::read(datagram, first(&list, n)) {
-        ChunkRead::Refused(n, place) => result(n, place),
-        ChunkRead::Is(c, _) => {
+        Err(refusal) => refused(refusal),
+        Ok((c, _)) => {
             if chunk.len() < CHUNK_SIZE {
-                return result(NO_ROOM, 0);
+                return refused_for(Reason::NoRoom);
             }
             put_chunk(chunk, c);
-            let payload = c.payload;
-            result(0, payload.number as usize)
+            result(0, c.payload.number as usize)
         }
     }
 }
@@ -40,13 +40,13 @@ pub extern "C" fn uadp_chunks(total: u64, size: u64) -> u64
     ensures { result ≡ chunks_result total size }
 {
     if size == 0 {
-        return result(DISAGREE, 0);
+        return refused_for(Reason::Disagree);
     }
     if total == 0 {
-        return result(DISAGREE, 0);
+        return refused_for(Reason::Disagree);
     }
     if (MOST_TOTAL as u64) < total {
-        return result(OVER_LIMIT, 0);
+        return refused_for(Reason::OverLimit);
     }
     let last = (total - 1) / size;
     result(0, last as usize + 1)

@@ -38,7 +38,7 @@ pub extern "C" fn uadp_write_message(
     let header = header_in(head);
     let types = types_for(config, writer);
     if !head_fits(head) {
-        let number = dataset_message::writer::refusal(
+        let refusal = dataset_message::writer::refusal(
             header,
             heartbeat != 0,
             values,
@@ -47,7 +47,7 @@ pub extern "C" fn uadp_write_message(
             types,
             padding as usize,
         );
-        return not_fitting(number);
+        return not_fitting(refusal);
     }
     let written = dataset_message::writer::write(
         out,
@@ -89,7 +89,7 @@ pub extern "C" fn uadp_write(
     let configured_sizes = first(&size_list, n);
     let configured_ids = first(&id_list, n);
     if !envelope_fits(envelope) {
-        let number = network_message::writer::refusal(
+        let refusal = network_message::writer::refusal(
             x,
             text,
             ids,
@@ -99,7 +99,7 @@ pub extern "C" fn uadp_write(
             configured_sizes,
             configured_ids,
         );
-        return not_fitting(number);
+        return not_fitting(refusal);
     }
     let written = network_message::writer::write(
         out,

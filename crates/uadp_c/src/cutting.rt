@@ -3,9 +3,8 @@ ghost use Rattle.std.specs.Prelude.{◌≡◌, length};
 ghost use Rattle.chunk.specs.Cutting.{cut_answer, cut_buffer};
 ghost use Rattle.uadp_c.specs.Cutting.{cut_result};
 
+use crate::rewrites::written_result;
 use chunk::cut::cut;
-use records::result::result;
-use wire_writer::writing::Written;
 
 // Writes chunk k of a payload, cut into chunks of size bytes of data.
 #[unsafe(no_mangle)]
@@ -13,8 +12,5 @@ pub extern "C" fn uadp_cut(payload: &[u8], number: u16, size: u64, k: u64, out: 
     ensures { (result ≡ cut_result (cut_answer payload.now number size k (length out.old)))
         × (out.new ≡ cut_buffer payload.now number size k out.old) }
 {
-    match cut(out, payload, number, size as usize, k as usize) {
-        Written::Is(n) => result(0, n),
-        Written::Refused(n) => result(n, 0),
-    }
+    written_result(cut(out, payload, number, size as usize, k as usize))
 }

@@ -8,15 +8,14 @@ ghost use Rattle.message_record.specs.Message.{cursor_in};
 ghost use Rattle.uadp_c.specs.ByCalls.{HeadFilled, HeadRead, HeadOpened};
 ghost use Rattle.uadp_c.specs.Fields.{field_filling, step_result, head_after, field_after, end_result};
 
-use dataset_fields::fields::{FieldRead, FieldStep};
-use dataset_message::message::{MessageRead, ended, field_place, read_up_to};
+use crate::refusals::{refused, refused_for};
+use dataset_message::message::{ended, field_place, read_up_to};
 use message_record::message::{cursor_in, put_cursor, put_field, put_head, put_no_head};
 use message_record::quick::{Stepped, step};
 use records::result::result;
 use records::sizes::{FIELD_SIZE, HEAD_SIZE};
 use records::writers::types_for;
-use wire::Reached;
-use wire::constants::{NO_ROOM, OVER_LIMIT};
+use wire::refusal::Reason;
 
 // Fills a message head record from a DataSetMessage alone, read whole or up to its first field.
 fn fill_head(message: &[u8], config: &[u8], writer: u32, head: &mut [u8], whole: bool) -> u64
@@ -25,17 +24,17 @@ fn fill_head(message: &[u8], config: &[u8], writer: u32, head: &mut [u8], whole:
         HeadFilled read s head.old result head.new }
 {
     match read_up_to(&*message, types_for(&*config, writer), message.len(), whole) {
-        MessageRead::Refused(n, place) => result(n, place),
-        MessageRead::NotValid => {
+        Err(refusal) => refused(refusal),
+        Ok(None) => {
             if head.len() < HEAD_SIZE {
-                return result(NO_ROOM, 0);
+                return refused_for(Reason::NoRoom);
             }
             put_no_head(head);
             result(0, 0)
         }
-        MessageRead::Is(h, cursor, end) => {
+        Ok(Some((h, cursor, end))) => {
             if head.len() < HEAD_SIZE {
-                return result(NO_ROOM, 0);
+                return refused_for(Reason::NoRoom);
             }
             put_head(head, h, cursor, end);
             result(0, 1)
@@ -79,10 +78,10 @@ pub extern "C" fn uadp_end_message(message: &[u8], head: &[u8]) -> u64
         result ≡ end_result (ended_at (cursor_in held) message.now) held }
 {
     match ended(message, cursor_in(head)) {
-        Reached::Refused(n, place) => result(n, place),
-        Reached::To(end) => {
+        Err(refusal) => refused(refusal),
+        Ok(end) => {
             if head.len() < HEAD_SIZE {
-                return result(NO_ROOM, 0);
+                return refused_for(Reason::NoRoom);
             }
             result(0, end)
         }
@@ -102,10 +101,10 @@ pub extern "C" fn uadp_field(
         (result ≡ result_in found field.old) × (field.new ≡ filled_in found field.old) }
 {
     match field_place(message, types_for(config, writer), k as usize) {
-        FieldRead::Refused(n, place) => result(n, place),
-        FieldRead::Is(f, _) => {
+        Err(refusal) => refused(refusal),
+        Ok((f, _)) => {
             if field.len() < FIELD_SIZE {
-                return result(NO_ROOM, 0);
+                return refused_for(Reason::NoRoom);
             }
             put_field(field, f);
             result(0, f.offset)
@@ -123,13 +122,13 @@ fn by_step(message: &[u8], config: &[u8], writer: u32, head: &mut [u8], field: &
 {
     let cursor = cursor_in(head);
     match cursor.step(&*message, types_for(&*config, writer)) {
-        FieldStep::Refused(n, place) => result(n, place),
-        FieldStep::Is(f, next) => {
+        Err(refusal) => refused(refusal),
+        Ok((f, next)) => {
             if head.len() < HEAD_SIZE {
-                return result(NO_ROOM, 0);
+                return refused_for(Reason::NoRoom);
             }
             if field.len() < FIELD_SIZE {
-                return result(NO_ROOM, 0);
+                return refused_for(Reason::NoRoom);
             }
             put_cursor(head, next);
             put_field(field, f);
@@ -152,15 +151,12 @@ pub extern "C" fn uadp_next_field(
         × (head.new ≡ head_after step head.old field.old)
         × (field.new ≡ field_after step head.old field.old) }
 {
-    if head.len() < HEAD_SIZE {
-        return by_step(message, config, writer, head, field);
-    }
-    if field.len() < FIELD_SIZE {
+    if head.len() < HEAD_SIZE || field.len() < FIELD_SIZE {
         return by_step(message, config, writer, head, field);
     }
     match step(message, head, field) {
         Stepped::Done(offset) => result(0, offset),
-        Stepped::End => result(OVER_LIMIT, 0),
+        Stepped::End => refused_for(Reason::OverLimit),
         Stepped::Not => by_step(message, config, writer, head, field),
     }
 }

@@ -12,6 +12,7 @@ pub mod messages;
 pub mod newness;
 pub mod probes;
 pub mod reassembling;
+mod refusals;
 pub mod rewrites;
 pub mod salvaging;
 pub mod values;

@@ -5,12 +5,13 @@ ghost use Rattle.listing.specs.Text.{text_written, text_after, length_in};
 ghost use Rattle.uadp_c.specs.Listings.{listing_text, length_result, MOST_VALUE};
 ghost use Rattle.uadp_c.specs.Writing.{writer_result};
 
+use crate::refusals::refused_for;
 use crate::rewrites::written_result;
-use config::first;
-use listing::whole::{TextLength, listing_length, put_listing};
+use config::{WriterLists, first};
+use listing::whole::{listing_length, put_listing};
 use records::result::result;
 use records::writers::{ids, sizes, starts, types, writer_count};
-use wire::constants::OVER_LIMIT;
+use wire::refusal::Reason;
 
 // Puts the whole listing of a datagram at the buffer's start.
 #[unsafe(no_mangle)]
@@ -22,17 +23,13 @@ pub extern "C" fn uadp_list(datagram: &[u8], config: &[u8], out: &mut [u8]) -> u
     let n = writer_count(config);
     let all_ids = ids(config);
     let all_sizes = sizes(config);
-    let written = put_listing(
-        out,
-        datagram,
-        0,
-        0,
-        first(&all_ids, n),
-        first(&all_sizes, n),
-        starts(config),
-        types(config),
-    );
-    written_result(written)
+    let lists = WriterLists {
+        ids: first(&all_ids, n),
+        sizes: first(&all_sizes, n),
+        starts: starts(config),
+        types: types(config),
+    };
+    written_result(put_listing(out, datagram, 0, 0, lists))
 }
 
 // The largest value that a result holds.
@@ -46,18 +43,14 @@ pub extern "C" fn uadp_list_length(datagram: &[u8], config: &[u8]) -> u64
     let writers = writer_count(config);
     let all_ids = ids(config);
     let all_sizes = sizes(config);
-    let length = listing_length(
-        MOST_VALUE,
-        datagram,
-        0,
-        0,
-        first(&all_ids, writers),
-        first(&all_sizes, writers),
-        starts(config),
-        types(config),
-    );
-    match length {
-        TextLength::Long => result(OVER_LIMIT, 0),
-        TextLength::Is(bytes) => result(0, bytes),
+    let lists = WriterLists {
+        ids: first(&all_ids, writers),
+        sizes: first(&all_sizes, writers),
+        starts: starts(config),
+        types: types(config),
+    };
+    match listing_length(MOST_VALUE, datagram, 0, 0, lists) {
+        None => refused_for(Reason::OverLimit),
+        Some(bytes) => result(0, bytes),
     }
 }

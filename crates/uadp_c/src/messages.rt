@@ -4,19 +4,19 @@ ghost use Rattle.network_message.specs.Payload.{answer_place_step};
 ghost use Rattle.uadp_c.specs.ByCalls.{EnvelopeRead};
 ghost use Rattle.uadp_c.specs.Messages.{message_step, writer_at, message_result, envelope_after, place_after};
 
+use crate::refusals::{refused, refused_for};
 use config::first;
 use envelope_record::{
     messages_in, payload_header_end, payload_header_in, payload_in, put_envelope, put_messages,
     put_place,
 };
-use network_message::envelope::{NetworkMessageRead, read};
-use network_message::payload::MessageStep;
+use network_message::envelope::read;
+use network_message::payload::{MessageCursor, MessagePlace};
 use network_message::writer_id::writer_id;
 use records::result::result;
 use records::sizes::{ENVELOPE_SIZE, PLACE_SIZE};
 use records::writers::{ids, sizes, writer_count};
-use wire::constants::NO_ROOM;
-use wire::optional::Optional16;
+use wire::refusal::{Reason, Refusal};
 
 // Reads a datagram's envelope into an envelope record, whose cursor stands before the first message.
 #[unsafe(no_mangle)]
@@ -27,10 +27,10 @@ pub extern "C" fn uadp_read(datagram: &[u8], config: &[u8], envelope: &mut [u8])
     let n = writer_count(config);
     let list = sizes(config);
     match read(datagram, first(&list, n)) {
-        NetworkMessageRead::Refused(number, place) => result(number, place),
-        NetworkMessageRead::Is(e, places, payload) => {
+        Err(refusal) => refused(refusal),
+        Ok((e, places, payload)) => {
             if envelope.len() < ENVELOPE_SIZE {
-                return result(NO_ROOM, 0);
+                return refused_for(Reason::NoRoom);
             }
             put_envelope(envelope, e, places, payload);
             result(0, payload.count)
@@ -38,7 +38,11 @@ pub extern "C" fn uadp_read(datagram: &[u8], config: &[u8], envelope: &mut [u8])
     }
 }
 
-fn step(datagram: &[u8], config: &[u8], envelope: &[u8]) -> MessageStep
+fn step(
+    datagram: &[u8],
+    config: &[u8],
+    envelope: &[u8],
+) -> Result<(MessagePlace, MessageCursor), Refusal>
     ensures { answer_place_step result ≡ message_step config.now envelope.now datagram.now }
 {
     let n = writer_count(config);
@@ -48,7 +52,7 @@ fn step(datagram: &[u8], config: &[u8], envelope: &[u8]) -> MessageStep
     cursor.step(datagram, payload, first(&list, n))
 }
 
-fn writer_at(datagram: &[u8], config: &[u8], envelope: &[u8], k: usize) -> Optional16
+fn writer_at(datagram: &[u8], config: &[u8], envelope: &[u8], k: usize) -> Option<u16>
     ensures { result ≡ writer_at config.now envelope.now datagram.now k }
 {
     let n = writer_count(config);
@@ -73,13 +77,13 @@ pub extern "C" fn uadp_next_message(
         × (place.new ≡ place_after writer step envelope.old place.old) }
 {
     match step(datagram, config, envelope) {
-        MessageStep::Refused(number, at) => result(number, at),
-        MessageStep::Is(m, next) => {
+        Err(refusal) => refused(refusal),
+        Ok((m, next)) => {
             if envelope.len() < ENVELOPE_SIZE {
-                return result(NO_ROOM, 0);
+                return refused_for(Reason::NoRoom);
             }
             if place.len() < PLACE_SIZE {
-                return result(NO_ROOM, 0);
+                return refused_for(Reason::NoRoom);
             }
             let writer = writer_at(datagram, config, envelope, m.index);
             put_messages(envelope, next);

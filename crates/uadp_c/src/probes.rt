@@ -5,17 +5,18 @@ ghost use Rattle.probe.specs.Items.{answer_item_step};
 ghost use Rattle.uadp_c.specs.Writing.{output_result};
 ghost use Rattle.uadp_c.specs.Probes.{ProbeRead, item_step, item_result, probe_after, item_after, probe_put};
 
+use crate::refusals::{refused, refused_for};
 use crate::rewrites::{not_fitting, written_result};
 use config::first;
 use envelope_record::probe_record::{
     cursor_in, probe_fits, probe_in, put_cursor, put_item, put_probe, type_rule,
 };
-use network_message::probe_message::{ProbeMessageRead, read_probe};
-use probe::items::ItemStep;
+use network_message::probe_message::read_probe;
+use probe::items::{ProbeCursor, ProbeItem};
 use records::result::result;
 use records::sizes::{ITEM_SIZE, PROBE_SIZE};
 use records::writers::{sizes, writer_count};
-use wire::constants::NO_ROOM;
+use wire::refusal::{Reason, Refusal};
 
 // Reads a probe's datagram into a probe record, whose cursor stands before the first id or string.
 #[unsafe(no_mangle)]
@@ -26,10 +27,10 @@ pub extern "C" fn uadp_probe(datagram: &[u8], config: &[u8], probe: &mut [u8]) -
     let n = writer_count(config);
     let list = sizes(config);
     match read_probe(datagram, first(&list, n)) {
-        ProbeMessageRead::Refused(number, place) => result(number, place),
-        ProbeMessageRead::Is(_, places, p) => {
+        Err(refusal) => refused(refusal),
+        Ok((_, places, p)) => {
             if probe.len() < PROBE_SIZE {
-                return result(NO_ROOM, 0);
+                return refused_for(Reason::NoRoom);
             }
             put_probe(probe, p, places.payload);
             result(0, places.payload)
@@ -37,7 +38,7 @@ pub extern "C" fn uadp_probe(datagram: &[u8], config: &[u8], probe: &mut [u8]) -
     }
 }
 
-fn step(datagram: &[u8], probe: &[u8]) -> ItemStep
+fn step(datagram: &[u8], probe: &[u8]) -> Result<(ProbeItem, ProbeCursor), Refusal>
     ensures { answer_item_step result ≡ item_step probe.now datagram.now }
 {
     let p = probe_in(probe);
@@ -54,13 +55,13 @@ pub extern "C" fn uadp_next_probe_item(datagram: &[u8], probe: &mut [u8], item: 
         × (item.new ≡ item_after step probe.old item.old) }
 {
     match step(datagram, probe) {
-        ItemStep::Refused(number, at) => result(number, at),
-        ItemStep::Is(x, next) => {
+        Err(refusal) => refused(refusal),
+        Ok((x, next)) => {
             if probe.len() < PROBE_SIZE {
-                return result(NO_ROOM, 0);
+                return refused_for(Reason::NoRoom);
             }
             if item.len() < ITEM_SIZE {
-                return result(NO_ROOM, 0);
+                return refused_for(Reason::NoRoom);
             }
             put_cursor(probe, next);
             put_item(item, x);
@@ -76,9 +77,8 @@ pub extern "C" fn uadp_put_probe(probe: &[u8], list: &[u8], out: &mut [u8]) -> u
     ensures { let output = probe_put probe.now list.now in
         (result ≡ output_result out.old output) × (out.new ≡ buffer_after out.old output) }
 {
-    let number = type_rule(probe);
-    if number != 0 {
-        return result(number, 0);
+    if let Err(reason) = type_rule(probe) {
+        return refused_for(reason);
     }
     let p = probe_in(probe);
     if !probe_fits(probe) {

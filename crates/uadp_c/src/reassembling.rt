@@ -8,19 +8,17 @@ ghost use Rattle.reassembly.specs.Reading.{reading_at};
 ghost use Rattle.uadp_c.specs.History.{Called};
 ghost use Rattle.uadp_c.specs.History.LentCall.{Empty, Take, Combine, Ask, HandOut};
 
+use crate::refusals::{refused, refused_for};
 use config::first;
 use partial_record::{COVERED, asked_in, partial_in, put_partial, started_in, text_in};
-use reassembly::quick::{More, take_more};
-use reassembly::{
-    Completeness, PartialRecord, Progress, Verdict, ask_complete, combine_in, hand_out_verdict,
-    progress, take_in,
-};
+use reassembly::quick::take_more;
+use reassembly::{PartialRecord, ask_complete, combine_in, hand_out_verdict, progress, take_in};
 use records::numbers::number;
 use records::result::result;
 use records::sizes::PARTIAL_SIZE;
 use records::writers::{sizes, writer_count};
-use wire::constants::UNSOUND;
-use wire_writer::store::put64;
+use wire::refusal::Reason;
+use wire_writer::store::Store;
 
 // Empties a partial.
 #[unsafe(no_mangle)]
@@ -29,7 +27,7 @@ pub extern "C" fn uadp_empty(rec: &mut [u8]) -> u64
         let after = rec.new in
         ((payload marks : List ℕ) → Called Empty (lent 0 before payload marks) (lent result after payload marks)) }
 {
-    put64(rec, 0, 0);
+    0u64.put(rec, 0);
     result(0, 0)
 }
 
@@ -38,7 +36,7 @@ fn keep_record(rec: &mut [u8], after: PartialRecord)
     ensures { rec.new ≡ taken_over rec.old after }
 {
     if number(rec, 0) == 1 {
-        put64(rec, 8 * COVERED, after.covered as u64);
+        (after.covered as u64).put(rec, 8 * COVERED);
         return;
     }
     if !after.started {
@@ -69,9 +67,9 @@ fn take_further(
         datagram,
         sizes,
     ) {
-        More::Refused(number, place) => result(number, place),
-        More::Covered(covered) => {
-            put64(rec, 8 * COVERED, covered as u64);
+        Err(refusal) => refused(refusal),
+        Ok(covered) => {
+            (covered as u64).put(rec, 8 * COVERED);
             result(0, 0)
         }
     }
@@ -92,12 +90,10 @@ fn take_first(
         Steps rec.old payload.old marks.old step after }
 {
     let taken = take_in(partial_in(rec), payload, marks, datagram, sizes);
-    let verdict = taken.verdict;
-    match verdict {
-        Verdict::Refused(number, place) => result(number, place),
-        Verdict::Done => {
-            let after = taken.rec;
-            keep_record(rec, after);
+    match taken.verdict {
+        Err(refusal) => refused(refusal),
+        Ok(()) => {
+            keep_record(rec, taken.rec);
             result(0, 0)
         }
     }
@@ -117,7 +113,7 @@ pub extern "C" fn uadp_take_in(
         Called (Take datagram.now config.now) before after }
 {
     if rec.len() < PARTIAL_SIZE {
-        return result(UNSOUND, 0);
+        return refused_for(Reason::Unsound);
     }
     let n = writer_count(config);
     let list = sizes(config);
@@ -142,10 +138,10 @@ pub extern "C" fn uadp_combine(
         Called (Combine source.now source_payload.now source_marks.now) before after }
 {
     if source.len() < PARTIAL_SIZE {
-        return result(UNSOUND, 0);
+        return refused_for(Reason::Unsound);
     }
     if rec.len() < PARTIAL_SIZE {
-        return result(UNSOUND, 0);
+        return refused_for(Reason::Unsound);
     }
     let joined = combine_in(
         partial_in(rec),
@@ -155,12 +151,10 @@ pub extern "C" fn uadp_combine(
         source_payload,
         source_marks,
     );
-    let verdict = joined.verdict;
-    match verdict {
-        Verdict::Refused(number, place) => result(number, place),
-        Verdict::Done => {
-            let after = joined.rec;
-            keep_record(rec, after);
+    match joined.verdict {
+        Err(refusal) => refused(refusal),
+        Ok(()) => {
+            keep_record(rec, joined.rec);
             result(0, 0)
         }
     }
@@ -174,12 +168,12 @@ pub extern "C" fn uadp_complete(rec: &[u8], payload: &[u8], marks: &[u8]) -> u64
         Called Ask before after }
 {
     if rec.len() < PARTIAL_SIZE {
-        return result(UNSOUND, 0);
+        return refused_for(Reason::Unsound);
     }
     match ask_complete(asked_in(rec), payload, marks) {
-        Completeness::Yes => result(0, 1),
-        Completeness::No => result(0, 0),
-        Completeness::Refused(number, place) => result(number, place),
+        Err(refusal) => refused(refusal),
+        Ok(true) => result(0, 1),
+        Ok(false) => result(0, 0),
     }
 }
 
@@ -190,11 +184,11 @@ pub extern "C" fn uadp_progress(rec: &[u8], payload: &[u8], marks: &[u8]) -> u64
         result ≡ progress_in rec.now (progress_of held) }
 {
     if rec.len() < PARTIAL_SIZE {
-        return result(UNSOUND, 0);
+        return refused_for(Reason::Unsound);
     }
     match progress(asked_in(rec), payload, marks) {
-        Progress::Is(covered, _) => result(0, covered),
-        Progress::Refused(number, place) => result(number, place),
+        Err(refusal) => refused(refusal),
+        Ok((covered, _)) => result(0, covered),
     }
 }
 
@@ -206,14 +200,11 @@ pub extern "C" fn uadp_hand_out(rec: &[u8], payload: &[u8], marks: &[u8]) -> u64
         Called HandOut before after }
 {
     if rec.len() < PARTIAL_SIZE {
-        return result(UNSOUND, 0);
+        return refused_for(Reason::Unsound);
     }
     let held = asked_in(rec);
     match hand_out_verdict(held, payload, marks) {
-        Verdict::Refused(number, place) => result(number, place),
-        Verdict::Done => {
-            let message = held.message;
-            result(0, message.total)
-        }
+        Err(refusal) => refused(refusal),
+        Ok(()) => result(0, held.message.total),
     }
 }

@@ -1,21 +1,23 @@
 // What is salvaged of a partial that never completes.
 ghost use Rattle.std.specs.Prelude.{◌≡◌};
+ghost use Rattle.salvage.specs.Front.{numbered};
 ghost use Rattle.uadp_c.specs.Salvaging.{salvaged_result, salvage_lent, Salvages};
 
+use crate::refusals::{refused, refused_for};
 use partial_record::partial_in;
-use partial_record::salvage_record::{Salvaged, salvage};
-use reassembly::{Progress, progress};
+use partial_record::salvage_record::salvage;
+use reassembly::progress;
 use records::result::result;
 use records::sizes::PARTIAL_SIZE;
 use records::writers::types_for;
-use wire::constants::UNSOUND;
+use wire::refusal::{Reason, Refusal};
 
-fn salvaged_result(s: Salvaged) -> u64
-    ensures { result ≡ salvaged_result s }
+fn salvaged_result(s: Result<usize, Refusal>) -> u64
+    ensures { result ≡ salvaged_result (numbered s) }
 {
     match s {
-        Salvaged::Is(n) => result(0, n),
-        Salvaged::Refused(number, place) => result(number, place),
+        Ok(n) => result(0, n),
+        Err(refusal) => refused(refusal),
     }
 }
 
@@ -34,15 +36,13 @@ pub extern "C" fn uadp_salvage(
         Salvages (saved told.old list.old) result told.new list.new }
 {
     if rec.len() < PARTIAL_SIZE {
-        return result(UNSOUND, 0);
+        return refused_for(Reason::Unsound);
     }
     let held = partial_in(rec);
     match progress(held, payload, marks) {
-        Progress::Refused(number, place) => result(number, place),
-        Progress::Is(_, total) => {
-            let message = held.message;
-            let origin = message.origin;
-            let types = types_for(config, origin.writer as u32);
+        Err(refusal) => refused(refusal),
+        Ok((_, total)) => {
+            let types = types_for(config, held.message.origin.writer as u32);
             salvaged_result(salvage(told, list, payload, marks, types, total))
         }
     }

@@ -1,4 +1,5 @@
 // Values told apart, and put.
+// Types, forms and encodings are numbers here, as the C interface has them.
 ghost use Rattle.std.specs.Prelude.{◌≡◌};
 ghost use Rattle.wire.specs.Answer.{map_answer};
 ghost use Rattle.wire_writer.specs.Writing.{buffer_after};
@@ -12,29 +13,28 @@ ghost use Rattle.value_parts.specs.PutMatrix.{matrix_output};
 ghost use Rattle.uadp_c.specs.Writing.{output_result};
 ghost use Rattle.uadp_c.specs.Values.{value_filling, type_in, form_in};
 
+use crate::refusals::{refused, refused_for};
 use crate::rewrites::written_result;
 use dataset_header::flags::Encoding;
 use message_record::value_record::put_value;
 use records::result::result;
 use records::sizes::VALUE_SIZE;
-use value_parts::data_value::{FieldTold, tell_field, tell_text};
+use value_parts::data_value::{FieldParts, tell_field, tell_text};
 use value_parts::matrix_put::put_matrix;
 use value_parts::name::tell_name;
 use value_parts::name_put::put_name;
 use value_parts::put::{Form, put_variant};
-use wire::constants::{NO_ROOM, NOT_TAKEN};
+use wire::refusal::{Reason, Refusal};
 
 // The encoding of a number.
 fn encoding_of(n: u32) -> Encoding
     ensures { result ≡ encoding_in n }
 {
-    if n == 1 {
-        return Encoding::RawData;
+    match n {
+        1 => Encoding::RawData,
+        2 => Encoding::DataValue,
+        _ => Encoding::Variant,
     }
-    if n == 2 {
-        return Encoding::DataValue;
-    }
-    Encoding::Variant
 }
 
 // The type of a number; one that is no byte's is none.
@@ -64,18 +64,17 @@ fn form_of(shape: u32, null: u32) -> Form
 }
 
 // Stores what was told of a value that stands in the bytes.
-fn fill_value(bytes: &[u8], value: &mut [u8], told: FieldTold) -> u64
+fn fill_value(bytes: &[u8], value: &mut [u8], told: Result<FieldParts, Refusal>) -> u64
     ensures { let filling = value_filling bytes.now (answer_field_told told) in
         (result ≡ result_in filling value.old) × (value.new ≡ filled_in filling value.old) }
 {
     match told {
-        FieldTold::Refused(n, place) => result(n, place),
-        FieldTold::Is(f) => {
+        Err(refusal) => refused(refusal),
+        Ok(f) => {
             if value.len() < VALUE_SIZE {
-                return result(NO_ROOM, 0);
+                return refused_for(Reason::NoRoom);
             }
-            let told = f.value;
-            let name = tell_name(bytes, told);
+            let name = tell_name(bytes, f.value);
             put_value(value, f, name);
             result(0, f.end)
         }
@@ -142,7 +141,7 @@ pub extern "C" fn uadp_put_value(
         (result ≡ output_result out.old output) × (out.new ≡ buffer_after out.old output) }
 {
     if 63 < kind {
-        return result(NOT_TAKEN, 0);
+        return refused_for(Reason::NotTaken);
     }
     written_result(put_variant(out, kind as u8, form_of(shape, null), bytes))
 }
@@ -160,7 +159,7 @@ pub extern "C" fn uadp_put_name(
         (result ≡ output_result out.old output) × (out.new ≡ buffer_after out.old output) }
 {
     if 63 < kind {
-        return result(NOT_TAKEN, 0);
+        return refused_for(Reason::NotTaken);
     }
     written_result(put_name(out, kind as u8, number, locale, text))
 }
@@ -172,7 +171,7 @@ pub extern "C" fn uadp_put_matrix(kind: u32, sizes: &[u8], bytes: &[u8], out: &m
         (result ≡ output_result out.old output) × (out.new ≡ buffer_after out.old output) }
 {
     if 63 < kind {
-        return result(NOT_TAKEN, 0);
+        return refused_for(Reason::NotTaken);
     }
     written_result(put_matrix(out, kind as u8, sizes, bytes))
 }

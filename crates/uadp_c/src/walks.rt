@@ -1,19 +1,21 @@
 // A datagram walked in one call.
 ghost use Rattle.std.specs.Prelude.{◌≡◌};
-ghost use Rattle.walk_records.specs.Walk.{records_put, walk_records, walk_of};
+ghost use Rattle.walk_records.specs.Walk.{answer_walked, records_put, walk_records, walk_of};
 ghost use Rattle.uadp_c.specs.Walks.{configured, walk_result};
 
-use config::first;
+use crate::refusals::refused;
+use config::{WriterLists, first};
 use records::result::result;
 use records::writers::{ids, sizes, starts, types, writer_count};
-use walk_records::{Walked, walk};
+use walk_records::walk;
+use wire::refusal::Refusal;
 
-fn walked_result(walked: Walked) -> u64
-    ensures { result ≡ walk_result walked }
+fn walked_result(walked: Result<usize, Refusal>) -> u64
+    ensures { result ≡ walk_result (answer_walked walked) }
 {
     match walked {
-        Walked::Is(k) => result(0, k),
-        Walked::Refused(number, place) => result(number, place),
+        Ok(k) => result(0, k),
+        Err(refusal) => refused(refusal),
     }
 }
 
@@ -27,13 +29,11 @@ pub extern "C" fn uadp_walk(datagram: &[u8], config: &[u8], records: &mut [u8]) 
     let n = writer_count(config);
     let all_ids = ids(config);
     let all_sizes = sizes(config);
-    let walked = walk(
-        records,
-        datagram,
-        first(&all_ids, n),
-        first(&all_sizes, n),
-        starts(config),
-        types(config),
-    );
-    walked_result(walked)
+    let lists = WriterLists {
+        ids: first(&all_ids, n),
+        sizes: first(&all_sizes, n),
+        starts: starts(config),
+        types: types(config),
+    };
+    walked_result(walk(records, datagram, lists))
 }

@@ -1,4 +1,5 @@
 // Values told apart, and put.
+// Types, forms and encodings are numbers here, as the C interface has them.
 ghost use Rattle.std.specs.Prelude.{◌≡◌};
 ghost use Rattle.wire.specs.Answer.{map_answer};
 ghost use Rattle.wire_writer.specs.Writing.{buffer_after};

@@ -1,9 +1,11 @@
 // The listing program: the configuration from `readers.txt`, a datagram from standard input, its listing to standard output. Here stand the
 // calls of the system; what is listed, and how, is the library's (`listing`). A read or write that fails gets a message on standard error.
+// Buffers have a fixed size, since the program runs without a heap, as the library does. `Taken` is no option: its two parts say something
+// each, whatever the other is.
 #![tactic(auto)]
 
-use config::{first, writer_count};
-use config_text::{ConfigRead, read_config};
+use config::{WriterLists, empty};
+use config_text::read_config;
 use listing::block::put_block;
 use listing::program::{TEXT_ROOM, first_line};
 use std::io::{Error, ErrorKind, Read, Write};
@@ -12,6 +14,7 @@ use std::{fs, io, str};
 use walk::lines::LineCursor;
 use wire::constants::MOST_DATAGRAM;
 use wire::part::part;
+use wire::refusal::Refusal;
 
 // How many bytes were read, and whether more follow than the buffer holds.
 #[derive(Clone, Copy)]
@@ -21,6 +24,7 @@ struct Taken {
 }
 
 // Reads until the buffer is full or the input ends, and one byte more; an error where reading failed (also where it was interrupted).
+// Each read says how many bytes came, so the count goes on by no fixed step.
 fn take(file: &mut impl Read, buffer: &mut [u8]) -> io::Result<Taken> {
     let mut count = 0;
     let mut failed = Error::from_raw_os_error(0);
@@ -46,13 +50,8 @@ fn take(file: &mut impl Read, buffer: &mut [u8]) -> io::Result<Taken> {
 fn load(rt: &impl Files, text: &mut [u8]) -> io::Result<usize> {
     match fs::open(rt, "readers.txt") {
         Ok(mut file) => Ok(take(&mut file, text)?.count),
-        Err(e) => {
-            if e.kind() == ErrorKind::NotFound {
-                Ok(0)
-            } else {
-                Err(e)
-            }
-        }
+        Err(e) if e.kind() == ErrorKind::NotFound => Ok(0),
+        Err(e) => Err(e),
     }
 }
 
@@ -76,19 +75,11 @@ fn words(text: &[u8]) -> &str {
 }
 
 // Prints the lines from a cursor on, in blocks of whole lines.
-fn print_lines<'a>(
-    rt: &impl Print,
-    s: &[u8],
-    ids: &'a [u16],
-    sizes: &[u16],
-    starts: &'a [u8],
-    types: &'a [u8],
-    first: LineCursor,
-) -> io::Result<()> {
+fn print_lines(rt: &impl Print, s: &[u8], w: WriterLists<'_>, first: LineCursor) -> io::Result<()> {
     let mut text = [0u8; 65536];
     let mut cursor = first;
     loop {
-        let block = put_block(&mut text, s, ids, sizes, starts, types, cursor);
+        let block = put_block(&mut text, s, w, cursor);
         let n = block.length;
         if n == 0 {
             return Ok(());
@@ -98,26 +89,19 @@ fn print_lines<'a>(
     }
 }
 
-// The listing of what is held of a datagram, under a configuration that was read. A failed write gets a message on standard error.
-fn list(rt: &(impl Print + Eprint), s: &[u8], more: bool, read: ConfigRead) {
-    let c = read.config;
-    let n = writer_count(c.writers);
-    let ids = c.ids;
-    let sizes = c.sizes;
-    let starts = c.starts;
-    let types = c.types;
-    let printed = print_lines(
-        rt,
-        s,
-        first(&ids, n),
-        first(&sizes, n),
-        part(&starts, 0, n),
-        part(&types, 0, c.fields),
-        first_line(s, more, read.number, read.place, first(&sizes, n)),
-    );
-    if let Err(e) = printed {
+// The lines from a cursor on. A failed write gets a message on standard error.
+fn list(rt: &(impl Print + Eprint), s: &[u8], w: WriterLists<'_>, first: LineCursor) {
+    if let Err(e) = print_lines(rt, s, w, first) {
         fail(rt, "standard output", e);
     }
+}
+
+// The one line of a refused configuration.
+fn refuse(rt: &(impl Print + Eprint), refusal: Refusal) {
+    let none = empty();
+    let w = none.lists();
+    let first = first_line(&[], false, refusal.reason.number(), refusal.place, w.sizes);
+    list(rt, &[], w, first);
 }
 
 fn main(rt: HostRuntime) {
@@ -126,14 +110,17 @@ fn main(rt: HostRuntime) {
         Ok(n) => n,
         Err(e) => return fail(&rt, "readers.txt", e),
     };
-    let read = read_config(part(&text, 0, loaded));
-    if read.number != 0 {
-        list(&rt, &[], false, read);
-        return;
-    }
+    let config = match read_config(part(&text, 0, loaded)) {
+        Ok(config) => config,
+        Err(refusal) => return refuse(&rt, refusal),
+    };
+    let w = config.lists();
     let mut datagram = [0u8; MOST_DATAGRAM];
     match take(&mut rt.stdin(), &mut datagram) {
-        Ok(taken) => list(&rt, part(&datagram, 0, taken.count), taken.more, read),
+        Ok(taken) => {
+            let s = part(&datagram, 0, taken.count);
+            list(&rt, s, w, first_line(s, taken.more, 0, 0, w.sizes));
+        }
         Err(e) => fail(&rt, "standard input", e),
     }
 }

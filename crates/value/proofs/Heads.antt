@@ -1,40 +1,28 @@
 -- Small laws for the heads of values.
 -- Assumes nothing.
 use mathlib.Core.Path.{◌≡◌, refl, sym, ap, ◌∙◌}
-use mathlib.Core.Bool.{Bool, true, false, cond, ◌||◌}
+use mathlib.Core.Bool.{Bool, true, false, ◌||◌}
 use mathlib.Core.List.{List}
 use Prim.Native.Nat.{ℕ, zero, suc, ◌+◌, ◌<◌, ◌≤◌, ◌-◌, ◌%◌}
 use native.Mathlib.Numerals.{sub-one}
 use native.Mathlib.Omega.{arith}
 use lib.Dec.{eqb}
-use Rattle.wire.specs.Answer.{Answer, got, refused, Reader, and_then, ◌>>=◌, item, ruled, when_on, each, bit}
-use Rattle.wire.specs.Items.{answer8, answer_reached}
-use Rattle.wire.specs.declared.Item8.{Item8}
-use Rattle.wire.specs.declared.Reached.{Reached}
+use Rattle.wire.specs.Answer.{Answer, got, refused, Reader, and_then, item, when_on, each, bit}
+use Rattle.std.specs.Prelude.{Result, Ok}
+use Rattle.wire.specs.declared.refusal.Refusal.{Refusal}
 use borrow.Author.Tests.{eqb-true, le-leb, lt-ltb}
 use lib.ListN.{length}
 use Rattle.plain_value.specs.Width.{width_of, fixed}
 use Rattle.plain_value.specs.Plain.{passing, string, text, plain, plain_value, plain_values}
 use Rattle.plain_value.specs.Dimensions.{dimensions}
-use Rattle.value.specs.Value.{Measure, measure, variant_rule, mask_rule, scalar, elements, array_of, dimensioned, matrix_of, variant_of, data_value_of, value_of, too_deep, value_at}
+use Rattle.value.specs.Value.{Measure, measure, variant_rule, scalar, elements, array_of, dimensioned, matrix_of, variant_of, value_of, too_deep, value_at}
 use Rattle.plain_value.specs.Parts.{parts}
-use Rattle.value.specs.Head.{ended, inside_of, rest, finish, judged}
+use Rattle.value.specs.Head.{inside_of, rest, finish, judged}
 use Rattle.value.specs.declared.Shape.{Shape}
+use Rattle.value.specs.declared.head.After.{After}
 use Rattle.value.specs.declared.head.Head.{Head}
 use Rattle.plain_value.proofs.PartLaws.{then_none}
 use Rattle.value.proofs.FirstItems.{fixed_first}
-
-pub or3 : (a b c : Bool) → (a || (b || (c || false))) ≡ ((a || b) || c)
-or3 true b c = refl
-or3 false true c = refl
-or3 false false true = refl
-or3 false false false = refl
-
-pub told_byte : (at : ℕ) {r : Item8} {b next : ℕ} {z : Answer ℕ} → answer8 at r ≡ z → r ≡ Item8.Is b next → z ≡ got b next
-told_byte at e q = sym e ∙ ap (answer8 at) q
-
-pub told_no_byte : (at : ℕ) {r : Item8} {z : Answer ℕ} → answer8 at r ≡ z → r ≡ Item8.Short → z ≡ refused 1 at
-told_no_byte at e q = sym e ∙ ap (answer8 at) q
 
 -- one value where the lowest bit is set, else none
 bit_each : {A : Type 0} (r : Reader A) (k : ℕ) → k < 2 → (s : List ℕ) (at : ℕ) → each r k s at ≡ when_on (eqb k 1) tt (passing r) s at
@@ -61,17 +49,8 @@ pass_after (got tt next) k m = pass_found (k next) m
 pass_after (refused n place) k m = refl
 
 module _ (nested : ℕ → Reader Measure) (s : List ℕ) where
-  -- a value that holds no other ends where its bytes do
-  ended_is : (r : Reached) → finish nested s (ended r) ≡ answer_reached r
-  ended_is (Reached.To end) = refl
-  ended_is (Reached.Refused n place) = refl
-
-  pub plain_found : {A : Type 0} (m : A) {x : Answer (Unit {0})} (r : Reached) {h : Head} → answer_reached r ≡ x → h ≡ ended r
-      → finish nested s h ≡ and_then (and_then x (λ a next. got m next)) (λ a next. got tt next)
-  plain_found m {x} r e q = ap (finish nested s) q ∙ ended_is r ∙ e ∙ pass_found x m
-
   -- a scalar that holds one value, an array that holds n
-  pub holds_scalar : (t at : ℕ) → plain t ≡ false → finish nested s (Head.Holds at 1 t 0) ≡ passing (scalar nested t) s at
+  pub holds_scalar : (t at : ℕ) → plain t ≡ false → finish nested s (Ok (Head.Holds at 1 t (After.Parts 0))) ≡ passing (scalar nested t) s at
   unfolding scalar each parts
   holds_scalar t at e = rw e (sym (then_none (passing (nested t) s at)) ∙ pass_found (passing (nested t) s at) (measure t Shape.Scalar))
 
@@ -97,7 +76,8 @@ module _ (nested : ℕ → Reader Measure) (s : List ℕ) where
   listed t n (got a p) = pass_made (dimensions n s p) (λ d. measure t (Shape.Matrix n d))
   listed t n (refused k place) = refl
 
-  pub plain_listed : (t n at inner : ℕ) {end : ℕ} → plain t ≡ true → plain_values t n s at ≡ got tt end → finish nested s (Head.Holds end n inner 128) ≡ passing (matrix_of nested t n) s at
+  pub plain_listed : (t n at inner : ℕ) {end : ℕ} → plain t ≡ true → plain_values t n s at ≡ got tt end
+      → finish nested s (Ok (Head.Holds end n inner After.ListAlone)) ≡ passing (matrix_of nested t n) s at
   unfolding elements each
   plain_listed t n at inner {end} e f = rw (e, f) (pass_made (dimensions n s end) (λ d. measure t (Shape.Matrix n d)))
 
@@ -105,44 +85,22 @@ module _ (nested : ℕ → Reader Measure) (s : List ℕ) where
   unfolding elements
   plain_refused t n at e f = rw (e, f)
 
-  pub null_listed : (t at inner : ℕ) → finish nested s (Head.Holds at 0 inner 128) ≡ passing (dimensioned t 0) s at
+  pub null_listed : (t at inner : ℕ) → finish nested s (Ok (Head.Holds at 0 inner After.ListAlone)) ≡ passing (dimensioned t 0) s at
   unfolding each
   null_listed t at inner = pass_made (dimensions 0 s at) (λ d. measure t (Shape.Matrix 0 d))
 
-  pub holds_listed : (t n at : ℕ) → plain t ≡ false → finish nested s (Head.Holds at n t 64) ≡ passing (matrix_of nested t n) s at
+  pub holds_listed : (t n at : ℕ) → plain t ≡ false → finish nested s (Ok (Head.Holds at n t After.List)) ≡ passing (matrix_of nested t n) s at
   unfolding elements
   holds_listed t n at e = rw e (listed t n (each (nested t) n s at))
 
-  pub holds_elements : (t n at : ℕ) → plain t ≡ false → finish nested s (Head.Holds at n t 0) ≡ passing (array_of nested t n) s at
+  pub holds_elements : (t n at : ℕ) → plain t ≡ false → finish nested s (Ok (Head.Holds at n t (After.Parts 0))) ≡ passing (array_of nested t n) s at
   unfolding elements parts
   holds_elements t n at e = rw e (sym (then_none (each (nested t) n s at)) ∙ pass_found (each (nested t) n s at) (measure t (Shape.Array n)))
 
--- a mask that is permitted is not the sign of a dimensions list
-no_sign : (m n : ℕ) → (bit 6 n || bit 7 n) ≡ true → (bit 6 m || bit 7 m) ≡ false → eqb m n ≡ false
-no_sign m n k h = go (eqb m n) refl
-  where
-    go : (b : Bool) → eqb m n ≡ b → b ≡ false
-    go false e = refl
-    go true e = sym k ∙ sym (ap (λ (i : ℕ). bit 6 i || bit 7 i) (eqb-true m n e)) ∙ h
-
-pub no_list : (m : ℕ) → (bit 6 m || bit 7 m) ≡ false → eqb m 64 ≡ false
-no_list m h = no_sign m 64 refl h
-
-pub not_alone : (m : ℕ) → (bit 6 m || bit 7 m) ≡ false → eqb m 128 ≡ false
-not_alone m h = no_sign m 128 refl h
-
--- no byte is there
-pub head_short : (nested : ℕ → Reader Measure) (t : ℕ) (s : List ℕ) (at : ℕ) → item 1 s at ≡ refused 1 at → refused 1 at ≡ passing (value_of nested t) s at
-head_short nested t s at e = go (eqb t 23)
-  where
-    go : (b : Bool) → refused 1 at ≡ passing (cond b (ruled 1 mask_rule >>= data_value_of nested) (ruled 1 variant_rule >>= variant_of nested)) s at
-    go true = rw e
-    go false = rw e
-
 -- a Variant by its first byte
-pub variant_short : (s : List ℕ) (at : ℕ) → item 1 s at ≡ refused 1 at → refused 1 at ≡ value_at 100 24 s at
+pub value_short : (s : List ℕ) (at : ℕ) {n place : ℕ} → item 1 s at ≡ refused n place → value_at 100 24 s at ≡ refused n place
 unfolding value_at
-variant_short s at e = rw e
+value_short s at e = rw e
 
 pub variant_judged : (s : List ℕ) (at : ℕ) {b next : ℕ} → item 1 s at ≡ got b next → value_at 100 24 s at ≡ judged variant_rule b at (variant_of (value_at 99)) s next
 unfolding value_at
@@ -155,7 +113,7 @@ unfolding value_at
 no_level zero t s at e = refl
 no_level (suc levels) t s at e = absurd (omega arith)
 
-pub by_head : (levels t : ℕ) (s : List ℕ) (at : ℕ) → (levels ≡ 0 → ⊥) → {h g : Head}
+pub by_head : (levels t : ℕ) (s : List ℕ) (at : ℕ) → (levels ≡ 0 → ⊥) → {h g : Result Head Refusal}
     → finish (value_at (levels - 1)) s h ≡ passing (value_of (value_at (levels - 1)) t) s at → h ≡ g → finish (value_at (levels - 1)) s g ≡ passing (value_at levels t) s at
 unfolding value_at
 by_head zero t s at n e q = absurd (n refl)
@@ -163,10 +121,10 @@ by_head (suc levels) t s at n e q = ap (finish (value_at (suc levels - 1)) s) (s
 
 -- the values inside are refused, or end at p
 
-module _ (nested : ℕ → Reader Measure) (s : List ℕ) (from count inner after : ℕ) where
-  pub inside_refused : {n place : ℕ} (k : ℕ) → k ≡ inside_of after count → each (nested inner) k s from ≡ refused n place → refused n place ≡ finish nested s (Head.Holds from count inner after)
+module _ (nested : ℕ → Reader Measure) (s : List ℕ) (from count inner : ℕ) (after : After) where
+  pub inside_refused : {n place : ℕ} (k : ℕ) → k ≡ inside_of after count → each (nested inner) k s from ≡ refused n place → refused n place ≡ finish nested s (Ok (Head.Holds from count inner after))
   inside_refused k same e = rw (sym same, e)
 
   pub inside_ends : {p : ℕ} (k : ℕ) → k ≡ inside_of after count → each (nested inner) k s from ≡ got tt p → {r : Answer (Unit {0})} → r ≡ rest count after s p
-      → r ≡ finish nested s (Head.Holds from count inner after)
+      → r ≡ finish nested s (Ok (Head.Holds from count inner after))
   inside_ends k same e q = rw (sym same, e, q)

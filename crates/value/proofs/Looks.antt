@@ -8,7 +8,8 @@ use native.Mathlib.Omega.{arith}
 use borrow.Author.Tests.{le-leb, lt-ltb, eqb-true}
 use lib.Dec.{T, eqb, leb}
 use lib.ListN.{length, get_or}
-use Rattle.wire.specs.Answer.{Answer, got, refused, and_then, when_on, bit}
+use Rattle.wire.specs.Answer.{Answer, got, refused, and_then, map_answer, when_on, bit}
+use Rattle.wire.proofs.Reading.{not_got}
 use Rattle.wire.specs.Items.{length_item}
 use Rattle.wire.specs.declared.Length.{Length}
 use Rattle.wire.proofs.Table.{below}
@@ -16,12 +17,22 @@ use Rattle.plain_value.specs.Width.{among, width_of, fixed}
 use Rattle.plain_value.specs.Parts.{parts, parts_width}
 use Rattle.plain_value.specs.Plain.{passing, bytes, text, plain, plain_value, plain_values, after_length}
 use Rattle.plain_value.proofs.PartLaws.{parts_fit}
-use Rattle.value.specs.Value.{measure, taken, variant_rule, mask_rule, scalar, elements, array_of, array, matrix, value_at, variant_at, data_value_at}
+use Rattle.value.specs.Value.{Measure, measure, taken, variant_rule, mask_rule, scalar, elements, array_of, array, matrix, value_at, variant_at, data_value_at}
 use Rattle.value.specs.Quick.{scalar_size, text_at, run_at, dimensioned_at}
 use Rattle.value.specs.declared.Shape.{Shape}
 use Rattle.value.proofs.FirstByte.{array_first, matrix_first}
 use Rattle.value.proofs.FirstItems.{fixed_first, yes}
 use Rattle.value.proofs.Runs.{or_true}
+
+-- what a look tells: all, or the end alone
+
+pub told_whole : (a : Answer Measure) {m : Measure} {next : ℕ} → map_answer (λ k. k) a ≡ got m next → a ≡ got m next
+told_whole (got k n) e = e
+told_whole (refused n place) e = absurd (not_got e)
+
+pub told_end : (a : Answer Measure) {next : ℕ} → map_answer (λ k. tt {0}) a ≡ got tt next → and_then a (λ k n. got (tt {0}) n) ≡ got tt next
+told_end (got k n) e = e
+told_end (refused n place) e = absurd (not_got e)
 
 module _ (s : List ℕ) (at : ℕ) (h : at < length s) where
   here : leb (at + 1) (length s) ≡ true
@@ -110,10 +121,6 @@ unit_width t size same some = go (eqb t 0) refl (eqb (width_of t) 0) refl
     go true ex y ey = absurd (let e : size ≡ 1 = same ∙ rw ex in omega arith)
     go false ex true ey = absurd (let e : size ≡ 0 = same ∙ rw (ex, ey) in omega arith)
     go false ex false ey = let e : size ≡ width_of t + 1 = same ∙ rw (ex, ey) in omega arith
-
--- whether a mask's lowest bit is on, by its remainder
-pub bit_off : (m : ℕ) → m % 2 ≡ 0 → bit 0 m ≡ false
-bit_off m e = rw e
 
 pub bit_on : (m : ℕ) → (m % 2 ≡ 0 → ⊥) → bit 0 m ≡ true
 bit_on m e = let one : m % 2 ≡ 1 = omega arith in rw one

@@ -1,14 +1,12 @@
 -- What the quick ways of measuring answer. No part of document 01: their laws (FirstByte, FirstItems, Runs) tie them to its definitions.
-use Rattle.std.specs.Prelude.{ℕ, ◌+◌, ◌*◌, ◌≡◌, cond, List, eqb, leb, length, get_or}
+use Rattle.std.specs.Prelude.{ℕ, ◌+◌, ◌*◌, ◌≡◌, cond, List, eqb, leb, length, get_or, Option, Some, None}
 use Rattle.plain_value.specs.Width.{width_of}
-use Rattle.wire.specs.Answer.{Reader, pure, Answer, got, refused, and_then, item, each, ◌>>◌}
+use Rattle.wire.specs.Answer.{Reader, pure, Answer, got, refused, and_then, map_answer, item, each, ◌>>◌}
 use Rattle.plain_value.specs.Plain.{bytes, by_length, string, text}
 use Rattle.wire.specs.Constants.{BAD_LENGTH, VARIANT}
 use Rattle.wire.specs.declared.Length.{Length}
 use Rattle.value.specs.Value.{Measure, measure, type_of, is_array, dimensioned, INSIDE, value_at}
 use Rattle.value.specs.declared.Shape.{Shape}
-use Rattle.value.specs.declared.quick.Plain.{Plain}
-use Rattle.value.specs.declared.quick.Two.{Two}
 use Rattle.wire.specs.Items.{length_item}
 
 -- how many bytes a Variant has that is a null or a scalar of a fixed type, by its first byte; 0 for any other
@@ -63,13 +61,11 @@ abbrev pub dimensioned_at : ℕ → ℕ → ℕ → Reader Measure
 dimensioned_at t n size = bytes size >> dimensioned t n
 
 -- what one look says of what measuring answers; where it does not tell, nothing
-abbrev pub LookTells : Plain → Answer Measure → Type 0
-LookTells (Plain.Scalar t next) a = a ≡ got (measure t Shape.Scalar) next
-LookTells (Plain.NullArray t next) a = a ≡ got (measure t Shape.NullArray) next
-LookTells (Plain.Array t next n) a = a ≡ got (measure t (Shape.Array n)) next
-LookTells Plain.Not a = Unit {0}
+abbrev pub LookTells : Option (Measure × ℕ) → Answer Measure → Type 0
+LookTells (Some (m, next)) a = a ≡ got m next
+LookTells None a = Unit {0}
 
--- and what one look says of a matrix: it has two dimensions
-abbrev pub MatrixTells : Two → Answer Measure → Type 0
-MatrixTells (Two.Is t next n) a = a ≡ got (measure t (Shape.Matrix n 2)) next
-MatrixTells Two.Not a = Unit {0}
+-- the same of a look that tells of the value only what `telling` makes of it
+abbrev pub TellsPart : {A : Type 0} → (Measure → A) → Option (A × ℕ) → Answer Measure → Type 0
+TellsPart telling (Some (x, next)) a = map_answer telling a ≡ got x next
+TellsPart telling None a = Unit {0}

@@ -1,7 +1,7 @@
 -- Document 01, "Values": what measuring a Variant, a DataValue or a RawData element at a position of a slice answers.
 use Rattle.std.specs.Prelude.{ℕ, zero, suc, [], ◌∷◌, Bool, cond, not, ◌&&◌, ◌||◌, eqb}
 use Rattle.wire.specs.Constants.{DATA_VALUE, LEVELS, NOT_PERMITTED, NOT_TAKEN, TOO_DEEP, VARIANT}
-use Rattle.wire.specs.Answer.{Answer, got, refused, Reader, and_then, ◌>>=◌, ◌>>◌, pure, refuse, item, ruled, when_on, each, bit, bits}
+use Rattle.wire.specs.Answer.{refused, Reader, and_then, ◌>>=◌, ◌>>◌, pure, refuse, item, ruled, when_on, each, bit, bits}
 use Rattle.plain_value.specs.Width.{among, width_of, fixed}
 use Rattle.plain_value.specs.Plain.{passing, bytes, by_length, plain, plain_value, plain_values}
 use Rattle.plain_value.specs.Parts.{parts}
@@ -10,9 +10,8 @@ use Rattle.value.specs.declared.Shape.{Shape}
 use Rattle.value.specs.declared.Measured.{Measured}
 
 -- what measuring a value finds: its type number and its shape
-pub record Measure : Type 0 where
-  pub kind : ℕ
-  pub shape : Shape
+abbrev pub Measure : Type 0
+Measure = Measured
 
 -- a value of type t and of a shape
 abbrev pub measure : ℕ → Shape → Measure
@@ -24,14 +23,6 @@ dimensions_of Shape.Scalar = 0
 dimensions_of Shape.NullArray = 1
 dimensions_of (Shape.Array n) = 1
 dimensions_of (Shape.Matrix n d) = d
-
--- what the code's answer says
-abbrev pub answer_measured : Measured → Answer Measure
-answer_measured (Measured.Scalar t next) = got (measure t Shape.Scalar) next
-answer_measured (Measured.NullArray t next) = got (measure t Shape.NullArray) next
-answer_measured (Measured.Array t next n) = got (measure t (Shape.Array n)) next
-answer_measured (Measured.Matrix t next n d) = got (measure t (Shape.Matrix n d)) next
-answer_measured (Measured.Refused n place) = refused n place
 
 -- "A Variant's first byte: bits 0-5 type, bit 7 array, bit 6 dimensions."
 abbrev pub type_of : ℕ → ℕ

@@ -1,69 +1,63 @@
 // What a value's own items say, before any value inside it is passed over.
+// A type goes by its number: any byte may stand for one, on the wire and in the lists of types that are lent, and each is answered. An enum
+// would have to be made of it at each field, and is no plainer.
 ghost use Rattle.std.specs.Prelude.{◌≡◌, true, List, ℕ, ◌+◌, ◌<◌};
 ghost use Rattle.wire.specs.Answer.{Reader};
-ghost use Rattle.wire.specs.Items.{answer_reached};
+ghost use Rattle.wire.specs.Refusal.{answer_to};
 ghost use Rattle.plain_value.specs.Plain.{passing, plain, plain_values};
 ghost use Rattle.plain_value.specs.Quick.{EndTells};
 ghost use Rattle.plain_value.specs.Dimensions.{dimensions};
 ghost use Rattle.value.specs.Value.{Measure, taken, variant_rule, mask_rule, scalar, array_of, array, matrix_of, matrix, variant_of, data_value_of, value_of};
-ghost use Rattle.value.specs.Head.{ended, inside_of, rest, finish, judged};
+ghost use Rattle.value.specs.Head.{inside_of, rest, finish, judged};
 
-use plain_value::dimensions::{Dimensions, dimensions_at};
+use plain_value::dimensions::dimensions_at;
 use plain_value::parts::parts_at;
 use plain_value::plain::{bytes_at, is_plain, plain_value, texts_at};
-use plain_value::quick::{End, string_look};
+use plain_value::quick::string_look;
 use plain_value::width::width;
-use wire::constants::{BAD_LENGTH, CUT_SHORT, DATA_VALUE, NOT_PERMITTED, NOT_TAKEN, VARIANT};
-use wire::{Item8, ItemLength, Reached, has, read_length, read8};
+use wire::constants::{DATA_VALUE, VARIANT};
+use wire::item::Item;
+use wire::refusal::{Reason, Refusal};
+use wire::{Length, has, read_length};
 
-// What follows the values inside where it is an array's dimensions list: no mask has this bit.
-const LIST: u8 = 64;
+// What follows the values inside: a DataValue's parts by its mask, an array's dimensions list, or such a list where the elements are passed
+// already, and no value stands inside.
+#[derive(Clone, Copy, PartialEq, Eq, Debug)]
+pub(crate) enum After {
+    Parts(u8),
+    List,
+    ListAlone,
+}
 
-// The same where the elements are passed already, and no value stands inside.
-const ALONE: u8 = 128;
-
-// Where a value that holds no other ends, its refusal, or what it holds: from where, how many values, their type (23 or 24), and what
-// follows them, a mask's parts or the dimensions list. A list that stands alone has the count of the elements before it. It is flat, with a
-// place at the same offset in each case, so that it stays in registers.
+// Where a value that holds no other ends, or what it holds: from where, how many values, their type (23 or 24), and what follows them. A
+// list that stands alone has the count of the elements before it.
 #[derive(Clone, Copy)]
 pub(crate) enum Head {
     To(usize),
-    Refused(u8, usize),
-    Holds(usize, u32, u8, u8),
+    Holds(usize, u32, u8, After),
 }
 
 // Whether a type is taken at all.
 pub(crate) fn is_taken(t: u8) -> bool
     ensures { result ≡ taken t }
 {
-    if (t == 0) | (t == DATA_VALUE) | (t == VARIANT) {
-        return true;
-    }
-    is_plain(t)
-}
-
-// The head of a value that holds no other.
-fn done(r: Reached) -> Head
-    ensures { result ≡ ended r }
-{
-    match r {
-        Reached::To(end) => Head::To(end),
-        Reached::Refused(number, place) => Head::Refused(number, place),
-    }
+    matches!(t, 0 | DATA_VALUE | VARIANT) || is_plain(t)
 }
 
 // Where a String or ByteString ends, whose type is t; no other is told.
-fn text_at_look(s: &[u8], at: usize, t: u8) -> End
+#[tactic(auto, using(crate::proofs::Heads::text_scalar))]
+fn text_at_look(s: &[u8], at: usize, t: u8) -> Option<usize>
     ensures { (nested : ℕ → Reader Measure) → EndTells result (passing (scalar nested t) s.now at) }
 {
-    if (t == 12) | (t == 15) {
-        return string_look(s, at);
+    if !matches!(t, 12 | 15) {
+        return None;
     }
-    End::Not
+    string_look(s, at)
 }
 
 // Where a scalar of type t ends after its first byte: of a fixed type, a String or a ByteString.
-fn scalar_look(s: &[u8], at: usize, t: u8) -> End
+#[tactic(auto, using(crate::proofs::Heads::fixed_scalar_lem))]
+fn scalar_look(s: &[u8], at: usize, t: u8) -> Option<usize>
     ensures { (nested : ℕ → Reader Measure) → EndTells result (passing (scalar nested t) s.now at) }
 {
     let w = width(t);
@@ -71,135 +65,137 @@ fn scalar_look(s: &[u8], at: usize, t: u8) -> End
         return text_at_look(s, at, t);
     }
     if has(s.len(), at, w) {
-        return End::At(at + w);
+        return Some(at + w);
     }
-    End::Not
+    None
 }
 
 // What follows the first byte of a scalar of type t that a look does not tell.
-fn scalar_other(s: &[u8], at: usize, t: u8) -> Head
+#[tactic(auto, using(crate::proofs::Heads::holds_scalar, crate::proofs::Heads::pass_found), unfolding(crate::specs::Value::scalar))]
+fn scalar_other(s: &[u8], at: usize, t: u8) -> Result<Head, Refusal>
     ensures { (nested : ℕ → Reader Measure) → finish nested s.now result ≡ passing (scalar nested t) s.now at }
 {
     if is_plain(t) {
-        return done(plain_value(s, at, t));
+        return Ok(Head::To(plain_value(s, at, t)?));
     }
-    Head::Holds(at, 1, t, 0)
+    Ok(Head::Holds(at, 1, t, After::Parts(0)))
 }
 
 // What follows the first byte of a scalar of type t. Most are told by the look, which leaves nine tenths of the time of arrays of Variants.
-fn scalar_head(s: &[u8], at: usize, t: u8) -> Head
+fn scalar_head(s: &[u8], at: usize, t: u8) -> Result<Head, Refusal>
     ensures { (nested : ℕ → Reader Measure) → finish nested s.now result ≡ passing (scalar nested t) s.now at }
 {
-    match scalar_look(s, at, t) {
-        End::At(end) => Head::To(end),
-        End::Not => scalar_other(s, at, t),
+    if let Some(end) = scalar_look(s, at, t) {
+        return Ok(Head::To(end));
     }
+    scalar_other(s, at, t)
 }
 
-// n values of a plain type. A count is below 2^31.
-pub(crate) fn plain_values(s: &[u8], at: usize, t: u8, n: usize) -> Reached
-    requires { n < 2147483648 }
-    ensures { answer_reached result ≡ plain_values t n s.now at }
+// n values of a plain type.
+#[tactic(auto, unfolding(plain_value::specs::Plain::plain_values))]
+pub(crate) fn plain_values(s: &[u8], at: usize, t: u8, n: u32) -> Result<usize, Refusal>
+    ensures { answer_to tt result ≡ plain_values t n s.now at }
 {
     let w = width(t);
     if 0 < w {
-        return bytes_at(s, at, n * w);
+        return bytes_at(s, at, (n as usize) * w);
     }
-    texts_at(s, at, t, n)
+    texts_at(s, at, t, n as usize)
 }
 
 // The n elements of an array of type t.
-fn elements_head(s: &[u8], at: usize, t: u8, n: usize) -> Head
-    requires { n < 2147483648 }
+#[tactic(auto, using(crate::proofs::Heads::holds_elements, crate::proofs::Heads::pass_found), unfolding(crate::specs::Value::elements))]
+fn elements_head(s: &[u8], at: usize, t: u8, n: u32) -> Result<Head, Refusal>
     ensures { (nested : ℕ → Reader Measure)
         → finish nested s.now result ≡ passing (array_of nested t n) s.now at }
 {
     if is_plain(t) {
-        return done(plain_values(s, at, t, n));
+        return Ok(Head::To(plain_values(s, at, t, n)?));
     }
-    Head::Holds(at, n as u32, t, 0)
+    Ok(Head::Holds(at, n, t, After::Parts(0)))
 }
 
 // What follows the first byte of an array of type t.
-fn array_head(s: &[u8], at: usize, t: u8) -> Head
+#[tactic(auto, unfolding(crate::specs::Value::array))]
+fn array_head(s: &[u8], at: usize, t: u8) -> Result<Head, Refusal>
     ensures { (nested : ℕ → Reader Measure) → finish nested s.now result ≡ passing (array nested t) s.now at }
 {
-    match read_length(s, at) {
-        ItemLength::Null(next) => Head::To(next),
-        ItemLength::Of(next, n) => elements_head(s, next, t, n),
-        ItemLength::Negative(_) => Head::Refused(BAD_LENGTH, at),
-        ItemLength::Short => Head::Refused(CUT_SHORT, at),
+    let (length, next) = read_length(s, at)?;
+    match length {
+        Length::Null => Ok(Head::To(next)),
+        Length::Of(n) => elements_head(s, next, t, n as u32),
+        Length::Negative => Err(Reason::BadLength.at(at)),
     }
 }
 
 // Passes over the dimensions list of an array of n elements.
-fn pass_list(s: &[u8], at: usize, n: u32) -> Reached
-    ensures { answer_reached result ≡ passing (dimensions n) s.now at }
+fn pass_list(s: &[u8], at: usize, n: u32) -> Result<usize, Refusal>
+    ensures { answer_to tt result ≡ passing (dimensions n) s.now at }
 {
-    match dimensions_at(s, at, n) {
-        Dimensions::Are(_, end) => Reached::To(end),
-        Dimensions::Refused(number, place) => Reached::Refused(number, place),
-    }
+    let (_, end) = dimensions_at(s, at, n)?;
+    Ok(end)
 }
 
 // How many of the values counted stand inside.
-pub(crate) fn inside(after: u8, count: u32) -> u32
+pub(crate) fn inside(after: After, count: u32) -> u32
     ensures { result ≡ inside_of after count }
 {
-    if after == ALONE {
+    if after == After::ListAlone {
         return 0;
     }
     count
 }
 
 // Passes over what follows the n values inside.
-pub(crate) fn pass_rest(s: &[u8], at: usize, n: u32, after: u8) -> Reached
-    ensures { answer_reached result ≡ rest n after s.now at }
+pub(crate) fn pass_rest(s: &[u8], at: usize, n: u32, after: After) -> Result<usize, Refusal>
+    ensures { answer_to tt result ≡ rest n after s.now at }
 {
-    if (after == LIST) | (after == ALONE) {
-        return pass_list(&*s, at, n);
+    match after {
+        After::Parts(m) => parts_at(s, at, m),
+        After::List | After::ListAlone => pass_list(&*s, at, n),
     }
-    parts_at(s, at, after)
 }
 
 // The n elements of an array of a plain type t, and its dimensions list, which is read where every list is: by `pass_rest`.
-fn plain_matrix(s: &[u8], at: usize, t: u8, n: usize) -> Head
-    requires { (n < 2147483648) × (plain t ≡ true) }
+#[tactic(auto, using(crate::proofs::Heads::plain_listed, crate::proofs::Heads::plain_refused))]
+fn plain_matrix(s: &[u8], at: usize, t: u8, n: u32) -> Result<Head, Refusal>
+    requires { plain t ≡ true }
     ensures { (nested : ℕ → Reader Measure)
         → finish nested s.now result ≡ passing (matrix_of nested t n) s.now at }
 {
-    match plain_values(s, at, t, n) {
-        Reached::To(end) => Head::Holds(end, n as u32, VARIANT, ALONE),
-        Reached::Refused(number, place) => Head::Refused(number, place),
-    }
+    let end = plain_values(s, at, t, n)?;
+    Ok(Head::Holds(end, n, VARIANT, After::ListAlone))
 }
 
 // The n elements of an array of type t, and its dimensions list.
-fn listed_head(s: &[u8], at: usize, t: u8, n: usize) -> Head
-    requires { n < 2147483648 }
+#[tactic(auto, using(crate::proofs::Heads::holds_listed))]
+fn listed_head(s: &[u8], at: usize, t: u8, n: u32) -> Result<Head, Refusal>
     ensures { (nested : ℕ → Reader Measure)
         → finish nested s.now result ≡ passing (matrix_of nested t n) s.now at }
 {
     if is_plain(t) {
         return plain_matrix(s, at, t, n);
     }
-    Head::Holds(at, n as u32, t, LIST)
+    Ok(Head::Holds(at, n, t, After::List))
 }
 
 // What follows the first byte of an array of type t with dimensions.
-fn matrix_head(s: &[u8], at: usize, t: u8) -> Head
+#[tactic(auto, using(crate::proofs::Heads::null_listed), unfolding(crate::specs::Value::matrix))]
+fn matrix_head(s: &[u8], at: usize, t: u8) -> Result<Head, Refusal>
     ensures { (nested : ℕ → Reader Measure) → finish nested s.now result ≡ passing (matrix nested t) s.now at }
 {
-    match read_length(s, at) {
-        ItemLength::Null(next) => Head::Holds(next, 0, VARIANT, ALONE),
-        ItemLength::Of(next, n) => listed_head(s, next, t, n),
-        ItemLength::Negative(_) => Head::Refused(BAD_LENGTH, at),
-        ItemLength::Short => Head::Refused(CUT_SHORT, at),
+    let (length, next) = read_length(s, at)?;
+    match length {
+        Length::Null => Ok(Head::Holds(next, 0, VARIANT, After::ListAlone)),
+        Length::Of(n) => listed_head(s, next, t, n as u32),
+        Length::Negative => Err(Reason::BadLength.at(at)),
     }
 }
 
+// Of a first byte's type these ask that it is below 64: a type for such numbers would be no plainer, since `variant_head` alone makes them.
+
 // A scalar Variant of type t, whose first byte stands at `first`, before `at`.
-fn scalar_variant(s: &[u8], first: usize, at: usize, t: u8) -> Head
+fn scalar_variant(s: &[u8], first: usize, at: usize, t: u8) -> Result<Head, Refusal>
     requires { t < 64 }
     ensures { (nested : ℕ → Reader Measure)
         → finish nested s.now result ≡ passing (judged variant_rule t first (variant_of nested)) s.now at }
@@ -208,47 +204,47 @@ fn scalar_variant(s: &[u8], first: usize, at: usize, t: u8) -> Head
         return scalar_head(s, at, t);
     }
     if t == 0 {
-        return Head::To(at);
+        return Ok(Head::To(at));
     }
     if t == VARIANT {
-        return Head::Refused(NOT_PERMITTED, first);
+        return Err(Reason::NotPermitted.at(first));
     }
-    Head::Refused(NOT_TAKEN, first)
+    Err(Reason::NotTaken.at(first))
 }
 
 // A Variant that is an array of type t; its first byte, t + 128, stands at `first`, before `at`.
-fn array_variant(s: &[u8], first: usize, at: usize, t: u8) -> Head
+fn array_variant(s: &[u8], first: usize, at: usize, t: u8) -> Result<Head, Refusal>
     requires { t < 64 }
     ensures { (nested : ℕ → Reader Measure)
         → finish nested s.now result ≡ passing (judged variant_rule (t + 128) first (variant_of nested)) s.now at }
 {
     if t == 0 {
-        return Head::Refused(NOT_PERMITTED, first);
+        return Err(Reason::NotPermitted.at(first));
     }
     if is_taken(t) {
         return array_head(s, at, t);
     }
-    Head::Refused(NOT_TAKEN, first)
+    Err(Reason::NotTaken.at(first))
 }
 
 // A Variant that is an array of type t with dimensions; its first byte, t + 192, stands at `first`, before `at`.
-fn matrix_variant(s: &[u8], first: usize, at: usize, t: u8) -> Head
+fn matrix_variant(s: &[u8], first: usize, at: usize, t: u8) -> Result<Head, Refusal>
     requires { t < 64 }
     ensures { (nested : ℕ → Reader Measure)
         → finish nested s.now result ≡ passing (judged variant_rule (t + 192) first (variant_of nested)) s.now at }
 {
     if t == 0 {
-        return Head::Refused(NOT_PERMITTED, first);
+        return Err(Reason::NotPermitted.at(first));
     }
     if is_taken(t) {
         return matrix_head(s, at, t);
     }
-    Head::Refused(NOT_TAKEN, first)
+    Err(Reason::NotTaken.at(first))
 }
 
 // A Variant whose first byte b stands at `at`, before `next`. Its two highest bits part the bytes into scalars, dimensions without an
 // array, arrays, and arrays with dimensions.
-fn variant_head(s: &[u8], at: usize, next: usize, b: u8) -> Head
+fn variant_head(s: &[u8], at: usize, next: usize, b: u8) -> Result<Head, Refusal>
     ensures { (nested : ℕ → Reader Measure)
         → finish nested s.now result ≡ passing (judged variant_rule b at (variant_of nested)) s.now next }
 {
@@ -256,7 +252,7 @@ fn variant_head(s: &[u8], at: usize, next: usize, b: u8) -> Head
         return scalar_variant(s, at, next, b);
     }
     if b < 128 {
-        return Head::Refused(NOT_PERMITTED, at);
+        return Err(Reason::NotPermitted.at(at));
     }
     if b < 192 {
         return array_variant(s, at, next, b - 128);
@@ -265,23 +261,21 @@ fn variant_head(s: &[u8], at: usize, next: usize, b: u8) -> Head
 }
 
 // A DataValue whose mask m stands at `at`, before `next`.
-fn data_value_head(at: usize, next: usize, m: u8) -> Head
+fn data_value_head(at: usize, next: usize, m: u8) -> Result<Head, Refusal>
     ensures { (nested : ℕ → Reader Measure) (s : List ℕ)
         → finish nested s result ≡ passing (judged mask_rule m at (data_value_of nested)) s next }
 {
     if ((m >> 6) % 2 == 1) | ((m >> 7) % 2 == 1) {
-        return Head::Refused(NOT_PERMITTED, at);
+        return Err(Reason::NotPermitted.at(at));
     }
-    Head::Holds(next, (m % 2) as u32, VARIANT, m)
+    Ok(Head::Holds(next, (m % 2) as u32, VARIANT, After::Parts(m)))
 }
 
 // A DataValue where t is 23, else a Variant.
-pub(crate) fn head_at(s: &[u8], at: usize, t: u8) -> Head
+pub(crate) fn head_at(s: &[u8], at: usize, t: u8) -> Result<Head, Refusal>
     ensures { (nested : ℕ → Reader Measure) → finish nested s.now result ≡ passing (value_of nested t) s.now at }
 {
-    let Item8::Is(b, next) = read8(s, at) else {
-        return Head::Refused(CUT_SHORT, at);
-    };
+    let (b, next) = u8::read(s, at)?;
     if t == DATA_VALUE {
         return data_value_head(at, next, b);
     }

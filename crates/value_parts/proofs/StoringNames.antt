@@ -1,19 +1,16 @@
 -- The ways out of the functions that put a name or a matrix.
 -- Assumes nothing.
-use mathlib.Core.Path.{◌≡◌, refl, sym, ap, ◌∙◌}
+use mathlib.Core.Path.{◌≡◌, refl, sym, ◌∙◌}
 use mathlib.Core.Bool.{Bool, true, false, cond}
 use mathlib.Core.List.{List, ◌++◌}
 use Prim.Native.Nat.{ℕ, ◌+◌, ◌/◌, ◌≤◌, ◌<◌}
 use native.Mathlib.Omega.{arith}
 use lib.Dec.{eqb, leb, ltb}
 use lib.ListN.{length, length-append}
-use borrow.Author.Tests.{lt-ltb, ltb-true, ltb-false, leb-true, eqb-true, eq-eqb, ne_eqb}
+use borrow.Author.Tests.{lt-ltb, ltb-true, ltb-false, leb-true, eqb-true}
 use Rattle.wire.specs.Number.{le_bytes}
 use Rattle.wire.proofs.Numbers.{length_le_bytes}
-use Rattle.wire_writer.specs.Store.{Stored}
-use Rattle.wire_writer.specs.Writing.{room_refusal, Puts, or_else}
-use Rattle.wire_writer.proofs.Parts.{puts_as}
-use Rattle.wire_writer.proofs.Putting.{puts, then}
+use Rattle.wire_writer.specs.Writing.{room_refusal, or_else}
 use Rattle.wire_writer.proofs.Refusals.{both_zero, held}
 use Rattle.value.specs.Value.{variant_rule}
 use Rattle.value.proofs.FirstByte.{array_first, matrix_first}
@@ -22,27 +19,6 @@ use Rattle.value_parts.specs.declared.put.Form.{Form}
 use Rattle.value_parts.specs.Put.{count_given, form_rule, six_unless}
 use Rattle.value_parts.specs.PutName.{has_locale, has_text, string_if, name_head, name_bytes, name_kind_rule, absent_rule, name_rule}
 use Rattle.value_parts.specs.PutMatrix.{matrix_head, sizes_bytes, matrix_bytes, matrix_rule}
-
--- what stands before a name's Strings
-module _ (t n : ℕ) {at next : ℕ} {entry mid exit : List ℕ} (x : Stored (le_bytes 1 t) entry 0 mid at) where
-  pub wide_head : t ≡ 20 → Stored (le_bytes 2 n) mid at exit next → Puts (name_head t n) entry 0 exit next
-  wide_head h y =
-      let e : le_bytes 1 t ++ le_bytes 2 n ≡ name_head t n = rw (eq-eqb t 20 h) in
-      puts_as e (then (puts x) (puts y))
-
-  pub narrow_head : (t ≡ 20 → ⊥) → Stored (le_bytes 1 n) mid at exit next → Puts (name_head t n) entry 0 exit next
-  narrow_head h y =
-      let e : le_bytes 1 t ++ le_bytes 1 n ≡ name_head t n = rw (ne_eqb t 20 h) in
-      puts_as e (then (puts x) (puts y))
-
--- a mask that is accepted fits its byte
-pub mask_small : (t n : ℕ) → name_kind_rule t n ≡ 0 → (t ≡ 20 → ⊥) → n ≤ 3
-mask_small t n h other = go (eqb t 21) (ltb 3 n) refl (ap (λ (b : Bool). cond b 0 (cond (eqb t 21) (cond (ltb 3 n) 3 0) 4)) (sym (ne_eqb t 20 other)) ∙ h)
-  where
-    go : (b c : Bool) → ltb 3 n ≡ c → ◌≡◌ {A = ℕ} (cond b (cond c 3 0) 4) 0 → n ≤ 3
-    go true true e q = absurd (omega (arith, q))
-    go true false e q = ltb-false 3 n e
-    go false c e q = absurd (omega (arith, q))
 
 -- a String that is there takes 4 bytes more
 pub string_length : (on : Bool) (b : List ℕ) → on ≡ true → length b + 4 ≡ length (string_if on b)
@@ -87,12 +63,6 @@ module _ (t n : ℕ) (locale text : List ℕ) where
 
     all : length (name_bytes t n locale text) ≡ length (name_head t n) + (length (string_if (has_locale t n) locale) + length (string_if (has_text t n) text))
     all = sym (name_size refl refl refl)
-
-    pub locale_long : (room : ℕ) → 65535 < length locale → 10 ≡ room_refusal (length (name_bytes t n locale text)) room
-    locale_long room h = rw (lt-ltb 65535 (length (name_bytes t n locale text)) (omega (arith, all, there (has_locale t n) locale strings_rules.0)))
-
-    pub text_long : (room : ℕ) → 65535 < length text → 10 ≡ room_refusal (length (name_bytes t n locale text)) room
-    text_long room h = rw (lt-ltb 65535 (length (name_bytes t n locale text)) (omega (arith, all, there (has_text t n) text strings_rules.1)))
 
     -- what fits a datagram has Strings that do
     pub locale_short : length (name_bytes t n locale text) ≤ 65535 → length locale ≤ 65535

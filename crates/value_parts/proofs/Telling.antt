@@ -5,15 +5,15 @@ use mathlib.Core.Bool.{Bool, true, false, cond, ◌||◌, false≢true}
 use mathlib.Core.List.{List}
 use mathlib.Core.Logic.{◌⊎◌, inl, inr}
 use Prim.Native.Nat.{ℕ}
-use Rattle.wire.specs.Answer.{Answer, got, refused, Reader, and_then}
+use Rattle.wire.specs.Answer.{got, refused, Reader, and_then}
 use Rattle.wire.proofs.Reading.{not_got}
 use Rattle.plain_value.specs.Width.{width_of, fixed}
 use Rattle.plain_value.specs.Plain.{passing, bytes, string, text, length_first}
-use Rattle.plain_value.proofs.Passing.{passed, unpassed}
+use Rattle.plain_value.proofs.Passing.{passed}
 use Rattle.value.specs.Value.{Measure, measure, raw_at}
 use Rattle.value.specs.declared.Shape.{Shape}
 use Rattle.value.proofs.FirstItems.{raw_is, fixed_first}
-use Rattle.value_parts.specs.Told.{parts_from, told_raw_at}
+use Rattle.value_parts.specs.Told.{told_raw_at}
 use Rattle.value_parts.proofs.Structure.{text_is}
 
 pub or_none_lem : (b : Bool) → b ≡ (b || false)
@@ -40,9 +40,6 @@ fixed_plainly t f = go (length_first t) refl
         both : (t ≡ 12) ⊎ (t ≡ 15) → true ≡ false
         both (inl z) = absurd (false≢true (sym (ap (λ (k : ℕ). fixed k) z) ∙ f))
         both (inr z) = absurd (false≢true (sym (ap (λ (k : ℕ). fixed k) z) ∙ f))
-
-pub raw_untold : (t : ℕ) (s : List ℕ) (at : ℕ) {n place : ℕ} → passing (raw_at t) s at ≡ refused n place → refused n place ≡ told_raw_at t s at
-raw_untold t s at q = sym (ap (λ (x : Answer Measure). and_then x (λ m end. got (parts_from s at m end) end)) (unpassed (raw_at t s at) q))
 
 -- what is accepted is of a fixed type
 raw_fixed : (t : ℕ) (s : List ℕ) (at : ℕ) {e : ℕ} → passing (raw_at t) s at ≡ got tt e → fixed t ≡ true

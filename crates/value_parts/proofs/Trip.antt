@@ -17,7 +17,7 @@ use Rattle.wire.specs.Items.{length_of, length_item}
 use Rattle.wire.specs.declared.Length.{Length}
 use Rattle.wire.proofs.Numbers.{length_le_bytes}
 use Rattle.wire_writer.specs.Writing.{Writes}
-use Rattle.wire_writer.specs.declared.writing.Written.{Written}
+use Rattle.std.specs.Prelude.{Ok}
 use Rattle.wire_writer.proofs.Answering.{reported}
 use Rattle.wire_writer.proofs.Trip.{At, first, second, fits_at, le_at}
 use Rattle.wire_writer.proofs.Refusals.{held, both_zero}
@@ -278,7 +278,7 @@ put_told s m t f b rule h a =
     )
 
 -- and in the buffer that `put_variant` left
-pub written_told : (t : ℕ) (f : Form) (b entry exit : List ℕ) (n : ℕ) → Writes (variant_output t f b) entry exit (Written.Is n)
+pub written_told : (t : ℕ) (f : Form) (b entry exit : List ℕ) (n : ℕ) → Writes (variant_output t f b) entry exit (Ok n)
     → (told_variant_at exit 0 ≡ got (given_parts 0 t f b) (0 + length (variant_bytes t f b))) × (take (length b) (drop (0 + length (head_bytes t f (length b))) exit) ≡ b)
 written_told t f b entry exit n w =
     let r = reported (put_rule t f (length b)) (variant_bytes t f b) entry exit n w in

@@ -13,7 +13,7 @@ use lib.Seq.{get_or-append-add}
 use Rattle.wire.specs.Number.{le, le_bytes}
 use Rattle.wire.specs.Answer.{Answer, got, Reader, and_then, when_on, bit}
 use Rattle.wire_writer.specs.Writing.{Writes, or_else}
-use Rattle.wire_writer.specs.declared.writing.Written.{Written}
+use Rattle.std.specs.Prelude.{Ok}
 use Rattle.wire_writer.proofs.Answering.{reported}
 use Rattle.wire_writer.proofs.Trip.{At, first, second, fits_at, item_is, ruled_is}
 use Rattle.wire_writer.proofs.Refusals.{held, both_zero}
@@ -169,7 +169,7 @@ module _ (s : List ℕ) (m t : ℕ) (sizes b : List ℕ) (rule : matrix_rule t s
       )
 
 -- and in the buffer that `put_matrix` left
-pub matrix_written : (t : ℕ) (sizes b entry exit : List ℕ) (n : ℕ) → Writes (matrix_output t sizes b) entry exit (Written.Is n)
+pub matrix_written : (t : ℕ) (sizes b entry exit : List ℕ) (n : ℕ) → Writes (matrix_output t sizes b) entry exit (Ok n)
     → (told_variant_at exit 0 ≡ got (given_matrix_parts 0 t sizes b) (0 + length (matrix_bytes t sizes b)))
     × (take (length b) (drop 5 exit) ≡ b) × (take (length sizes) (drop (9 + length b) exit) ≡ sizes)
 matrix_written t sizes b entry exit n w =
@@ -322,7 +322,7 @@ name_bytes_lem s m t n locale text few less l k a =
     (text_bytes s at locale few (has_locale t n) l (first s at x y both), text_bytes s (at + length x) text less (has_text t n) k (second s at x y both))
 
 -- and in the buffer that `put_name` left
-pub name_written : (t n : ℕ) (locale text entry exit : List ℕ) (k : ℕ) → Writes (name_output t n locale text) entry exit (Written.Is k)
+pub name_written : (t n : ℕ) (locale text entry exit : List ℕ) (k : ℕ) → Writes (name_output t n locale text) entry exit (Ok k)
     → (told_variant_at exit 0 ≡ got (given_name_parts 0 t n locale text) (0 + length (name_bytes t n locale text)))
     × (name_of exit (given_name_parts 0 t n locale text) ≡ given_name 0 t n locale text)
     × (take (length locale) (drop (given_name 0 t n locale text).locale.place exit) ≡ locale)

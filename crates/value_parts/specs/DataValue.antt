@@ -1,16 +1,16 @@
 -- Document 01, "Values" (Part 6, source 001): what stands where in a DataValue.
-use Rattle.std.specs.Prelude.{ℕ, Bool, true, false, cond}
+use Rattle.std.specs.Prelude.{ℕ, Bool, true, false, cond, Result, Ok, Err}
 use Rattle.wire.specs.Answer.{Answer, got, refused, Reader, ◌>>=◌, ◌>>◌, here, pure, ruled, when_on, bit, map_answer}
 use Rattle.plain_value.specs.Plain.{bytes}
 use Rattle.value.specs.Value.{Measure, measure, mask_rule, INSIDE}
 use Rattle.value.specs.declared.Shape.{Shape}
 use Rattle.value_parts.specs.declared.told.ValueParts.{ValueParts}
-use Rattle.value_parts.specs.declared.data_value.Placed.{Placed}
 use Rattle.value_parts.specs.declared.data_value.FieldParts.{FieldParts}
-use Rattle.value_parts.specs.declared.data_value.FieldTold.{FieldTold}
 use Rattle.value_parts.specs.Told.{told_inside, told_variant_at, told_raw_at}
 use Rattle.dataset_header.specs.declared.flags.Encoding.{Encoding}
-use Rattle.wire.specs.Constants.{CUT_SHORT, DATA_VALUE}
+use Rattle.wire.specs.Constants.{DATA_VALUE}
+use Rattle.wire.specs.Refusal.{reason_number}
+use Rattle.wire.specs.declared.refusal.Refusal.{Refusal}
 
 -- the place of w bytes that a flag announces, 0 where it is off: no part stands at 0, where the mask does
 abbrev pub placed_at : Bool → ℕ → Reader ℕ
@@ -85,12 +85,7 @@ abbrev pub is_got : {A : Type 0} → Answer A → Bool
 is_got (got a next) = true
 is_got (refused n place) = false
 
--- what the code's answers say
-
-abbrev pub answer_placed : ℕ → Placed → Answer ℕ
-answer_placed at (Placed.Is place next) = got place next
-answer_placed at Placed.Short = refused CUT_SHORT at
-
-abbrev pub answer_field_told : FieldTold → Answer FieldParts
-answer_field_told (FieldTold.Is p) = got p p.end
-answer_field_told (FieldTold.Refused n place) = refused n place
+-- what the code's answer says; a field's value ends at the position after it
+abbrev pub answer_field_told : Result FieldParts Refusal → Answer FieldParts
+answer_field_told (Ok p) = got p p.end
+answer_field_told (Err r) = refused (reason_number r.reason) r.place

@@ -1,20 +1,21 @@
 -- Document 01, "Values" (Part 6, source 001): what stands where in a value that measuring accepts.
-use Rattle.std.specs.Prelude.{ℕ, ◌+◌, ◌*◌, ◌≡◌, List, Bool, true, false, cond, eqb, leb}
+use Rattle.std.specs.Prelude.{ℕ, ◌+◌, ◌*◌, ◌≡◌, List, Bool, true, false, cond, eqb, leb, Result, Ok, Err}
 use Rattle.wire.specs.Constants.{LEVELS, OVER_LIMIT, VARIANT}
 use Rattle.wire.specs.Answer.{Answer, got, refused, Reader, and_then, ◌>>◌, each}
 use Rattle.wire.specs.Items.{length_item}
 use Rattle.wire.specs.declared.Length.{Length}
+use Rattle.wire.specs.declared.refusal.Refusal.{Refusal}
+use Rattle.wire.specs.Refusal.{reason_number}
 use Rattle.plain_value.specs.Width.{width_of, fixed}
 use Rattle.plain_value.specs.Plain.{length_first, string, named, text}
 use Rattle.value.specs.Value.{Measure, measure, value_at, raw_at}
 use Rattle.value.specs.declared.Shape.{Shape}
 use Rattle.value_parts.specs.declared.told.ValueParts.{ValueParts}
-use Rattle.value_parts.specs.declared.told.Told.{Told}
 
 -- what the code's answer says; a value's end is the position after it
-abbrev pub answer_told : Told → Answer ValueParts
-answer_told (Told.Is p) = got p p.end
-answer_told (Told.Refused n place) = refused n place
+abbrev pub answer_told : Result ValueParts Refusal → Answer ValueParts
+answer_told (Ok p) = got p p.end
+answer_told (Err r) = refused (reason_number r.reason) r.place
 
 -- of a length that was read: "-1 means null"
 abbrev pub says_null : Answer Length → Bool

@@ -1,22 +1,26 @@
 // A DataValue told apart: its Variant, status, times and picoseconds, each with its place; and a field's value by its encoding.
+// A type goes by its number: any byte may stand for one, on the wire and in the lists of types that are lent, and each is answered. An enum
+// would have to be made of it at each field, and is no plainer.
 ghost use Rattle.std.specs.Prelude.{◌≡◌, true, cond};
 ghost use Rattle.wire.specs.Constants.{VARIANT};
 ghost use Rattle.wire.specs.Answer.{bit, map_answer};
+ghost use Rattle.wire.specs.Refusal.{answer};
 ghost use Rattle.value.specs.Value.{INSIDE, value_at, data_value_at};
 ghost use Rattle.value_parts.specs.DataValue.{is_got, placed_at, no_variant_at, told_parts_at, told_after_mask_at, told_data_value_at};
-ghost use Rattle.value_parts.specs.DataValue.{alone_parts, told_field_at, answer_placed, answer_field_told};
+ghost use Rattle.value_parts.specs.DataValue.{alone_parts, told_field_at, answer_field_told};
 ghost use Rattle.value_parts.specs.Told.{answer_told, told_inside, told_element_at};
 
-use crate::told::{Told, ValueParts, tell_element, tell_raw, tell_variant};
+use crate::told::{ValueParts, tell_element, tell_raw, tell_variant};
 use dataset_header::flags::Encoding;
-use value::{Measured, Shape, measure_data_value};
-use wire::constants::CUT_SHORT;
-use wire::{Item8, has, read8};
+use value::{Shape, measure_data_value};
+use wire::item::Item;
+use wire::refusal::{Read, Refusal};
+use wire::skip;
 
 // What a field's value is told apart into: `value` is the Variant, or RawData's element. Of a DataValue the mask tells which parts it has;
 // its Variant's place and those of its other parts are 0 where they are absent, and an absent Variant is told as a null one. Of any other
 // value mask and places are 0.
-#[derive(Clone, Copy)]
+#[derive(Clone, Copy, PartialEq, Eq, Debug)]
 pub struct FieldParts {
     pub mask: u8,
     pub variant: usize,
@@ -29,53 +33,33 @@ pub struct FieldParts {
     pub end: usize,
 }
 
-// A field's value, or the number and place of its refusal.
-#[derive(Clone, Copy)]
-pub enum FieldTold {
-    Is(FieldParts),
-    Refused(u8, usize),
-}
-
-// The place of a part and the position after it.
-#[derive(Clone, Copy)]
-pub(crate) enum Placed {
-    Is(usize, usize),
-    Short,
-}
-
 // The place of w bytes that a flag announces, 0 where it is off.
-fn place_if(s: &[u8], on: bool, w: usize, at: usize) -> Placed
-    ensures { answer_placed at result ≡ placed_at on w s.now at }
+fn place_if(s: &[u8], on: bool, at: usize, w: usize) -> Read<usize>
+    ensures { answer result ≡ placed_at on w s.now at }
 {
     if !on {
-        return Placed::Is(0, at);
+        return Ok((0, at));
     }
-    if has(s.len(), at, w) {
-        return Placed::Is(at, at + w);
-    }
-    Placed::Short
+    let end = skip(s, at, w)?;
+    Ok((at, end))
 }
 
 // The parts after a DataValue's Variant, which was told as `value` and stands at `variant`.
-fn tell_parts(s: &[u8], m: u8, variant: usize, value: ValueParts, at: usize) -> FieldTold
+fn tell_parts(
+    s: &[u8],
+    m: u8,
+    variant: usize,
+    value: ValueParts,
+    at: usize,
+) -> Result<FieldParts, Refusal>
     ensures { answer_field_told result ≡ told_parts_at m variant value s.now at }
 {
-    let Placed::Is(status, p1) = place_if(s, (m >> 1) % 2 == 1, 4, at) else {
-        return FieldTold::Refused(CUT_SHORT, at);
-    };
-    let Placed::Is(source_time, p2) = place_if(s, (m >> 2) % 2 == 1, 8, p1) else {
-        return FieldTold::Refused(CUT_SHORT, p1);
-    };
-    let Placed::Is(source_picoseconds, p3) = place_if(s, (m >> 4) % 2 == 1, 2, p2) else {
-        return FieldTold::Refused(CUT_SHORT, p2);
-    };
-    let Placed::Is(server_time, p4) = place_if(s, (m >> 3) % 2 == 1, 8, p3) else {
-        return FieldTold::Refused(CUT_SHORT, p3);
-    };
-    let Placed::Is(server_picoseconds, end) = place_if(s, (m >> 5) % 2 == 1, 2, p4) else {
-        return FieldTold::Refused(CUT_SHORT, p4);
-    };
-    FieldTold::Is(FieldParts {
+    let (status, status_end) = place_if(s, (m >> 1) % 2 == 1, at, 4)?;
+    let (source_time, time_end) = place_if(s, (m >> 2) % 2 == 1, status_end, 8)?;
+    let (source_picoseconds, source_end) = place_if(s, (m >> 4) % 2 == 1, time_end, 2)?;
+    let (server_time, server_end) = place_if(s, (m >> 3) % 2 == 1, source_end, 8)?;
+    let (server_picoseconds, end) = place_if(s, (m >> 5) % 2 == 1, server_end, 2)?;
+    Ok(FieldParts {
         mask: m,
         variant,
         value,
@@ -89,14 +73,15 @@ fn tell_parts(s: &[u8], m: u8, variant: usize, value: ValueParts, at: usize) -> 
 }
 
 // The Variant that a DataValue with the mask m holds, told, or that it holds none.
-fn held(s: &[u8], m: u8, at: usize) -> Told
+#[tactic(auto, using(crate::proofs::Agreement::told_deeper))]
+fn held(s: &[u8], m: u8, at: usize) -> Result<ValueParts, Refusal>
     requires { bit 0 m ≡ true → is_got (value_at INSIDE VARIANT s.now at) ≡ true }
     ensures { answer_told result ≡ cond (bit 0 m) (told_inside INSIDE) no_variant_at s.now at }
 {
     if m % 2 == 1 {
         return tell_variant(s, at);
     }
-    Told::Is(ValueParts {
+    Ok(ValueParts {
         kind: 0,
         shape: Shape::Scalar,
         width: 0,
@@ -117,75 +102,64 @@ fn held_place(m: u8, at: usize) -> usize
 }
 
 // What follows the mask m of an accepted DataValue; the mask stands before `at`. The parts are told by one call, which is put in line.
-fn tell_after_mask(s: &[u8], m: u8, at: usize) -> FieldTold
+fn tell_after_mask(s: &[u8], m: u8, at: usize) -> Result<FieldParts, Refusal>
     requires { bit 0 m ≡ true → is_got (value_at INSIDE VARIANT s.now at) ≡ true }
     ensures { answer_field_told result ≡ told_after_mask_at m s.now at }
 {
-    match held(s, m, at) {
-        Told::Refused(number, place) => FieldTold::Refused(number, place),
-        Told::Is(value) => tell_parts(s, m, held_place(m, at), value, value.end),
-    }
+    let value = held(s, m, at)?;
+    tell_parts(s, m, held_place(m, at), value, value.end)
 }
 
 // An accepted DataValue.
-fn tell_accepted(s: &[u8], at: usize) -> FieldTold
+fn tell_accepted(s: &[u8], at: usize) -> Result<FieldParts, Refusal>
     requires { is_got (data_value_at s.now at) ≡ true }
     ensures { answer_field_told result ≡ told_data_value_at s.now at }
 {
-    let Item8::Is(m, next) = read8(s, at) else {
-        return FieldTold::Refused(CUT_SHORT, at);
-    };
+    let (m, next) = u8::read(s, at)?;
     tell_after_mask(s, m, next)
 }
 
 // A DataValue at a position. It is measured whole, and then its parts are told.
-pub fn tell_data_value(s: &[u8], at: usize) -> FieldTold
+#[tactic(auto, using(crate::proofs::Agreement::data_value_refused))]
+pub fn tell_data_value(s: &[u8], at: usize) -> Result<FieldParts, Refusal>
     ensures { answer_field_told result ≡ told_data_value_at s.now at }
 {
-    match measure_data_value(s, at) {
-        Measured::Refused(number, place) => FieldTold::Refused(number, place),
-        Measured::Scalar(_, _) => tell_accepted(s, at),
-        Measured::NullArray(_, _) => tell_accepted(s, at),
-        Measured::Array(_, _, _) => tell_accepted(s, at),
-        Measured::Matrix(_, _, _, _) => tell_accepted(s, at),
-    }
+    measure_data_value(s, at)?;
+    tell_accepted(s, at)
 }
 
 // A value that is no DataValue, as a field's.
-fn alone(told: Told) -> FieldTold
-    ensures { answer_field_told result ≡ map_answer alone_parts (answer_told told) }
+fn alone(value: ValueParts) -> FieldParts
+    ensures { result ≡ alone_parts value }
 {
-    match told {
-        Told::Refused(number, place) => FieldTold::Refused(number, place),
-        Told::Is(value) => FieldTold::Is(FieldParts {
-            mask: 0,
-            variant: 0,
-            value,
-            status: 0,
-            source_time: 0,
-            source_picoseconds: 0,
-            server_time: 0,
-            server_picoseconds: 0,
-            end: value.end,
-        }),
+    FieldParts {
+        mask: 0,
+        variant: 0,
+        value,
+        status: 0,
+        source_time: 0,
+        source_picoseconds: 0,
+        server_time: 0,
+        server_picoseconds: 0,
+        end: value.end,
     }
 }
 
 // A field's value at a position, by the encoding of its message: a Variant, a DataValue, or in RawData an element of type t.
-pub fn tell_field(s: &[u8], at: usize, encoding: Encoding, t: u8) -> FieldTold
+pub fn tell_field(s: &[u8], at: usize, encoding: Encoding, t: u8) -> Result<FieldParts, Refusal>
     ensures { answer_field_told result ≡ told_field_at encoding t s.now at }
 {
     match encoding {
-        Encoding::Variant => alone(tell_variant(s, at)),
-        Encoding::RawData => alone(tell_raw(s, at, t)),
+        Encoding::Variant => tell_variant(s, at).map(alone),
+        Encoding::RawData => tell_raw(s, at, t).map(alone),
         Encoding::DataValue => tell_data_value(s, at),
     }
 }
 
 // Element k of an array of n Strings, ByteStrings or names of type t, whose first element stands at a position, as a field's value: k at or
 // past n is 10.
-pub fn tell_text(s: &[u8], at: usize, t: u8, n: usize, k: usize) -> FieldTold
+pub fn tell_text(s: &[u8], at: usize, t: u8, n: usize, k: usize) -> Result<FieldParts, Refusal>
     ensures { answer_field_told result ≡ map_answer alone_parts (told_element_at t n k s.now at) }
 {
-    alone(tell_element(s, at, t, n, k))
+    tell_element(s, at, t, n, k).map(alone)
 }

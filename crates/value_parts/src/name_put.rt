@@ -1,12 +1,16 @@
 // A Variant that is a QualifiedName or a LocalizedText, put into a lent buffer from its parts.
+// A type goes by its number: any byte may stand for one, on the wire and in the lists of types that are lent, and each is answered. An enum
+// would have to be made of it at each field, and is no plainer.
 ghost use Rattle.std.specs.Prelude.{◌≡◌, ◌≤◌, ◌<◌, length};
+ghost use Rattle.wire.specs.Refusal.{rule_number};
 ghost use Rattle.wire_writer.specs.Writing.{Puts, Writes};
 ghost use Rattle.value_parts.specs.PutName.{has_locale, has_text, string_if, name_head, name_kind_rule, absent_rule, name_rule, name_output};
 
 use plain_value::plain::{LOCALIZED_TEXT, QUALIFIED_NAME};
-use wire::constants::{MOST_DATAGRAM, NOT_PERMITTED, NOT_TAKEN, OVER_LIMIT};
-use wire_writer::store::{put_run, put8, put16, put32};
-use wire_writer::writing::{Written, or_else, room_refusal, six_unless};
+use wire::constants::MOST_DATAGRAM;
+use wire::refusal::Reason;
+use wire_writer::store::{Store, put_run};
+use wire_writer::writing::{agreement_rule, room_rule};
 
 // The largest index.
 const MOST_INDEX: u32 = 65535;
@@ -34,44 +38,40 @@ fn has_text(t: u8, number: u32) -> bool
     (number >> 1) % 2 == 1
 }
 
-// The rule that a name's type or mask breaks.
-fn kind_rule(t: u8, number: u32) -> u8
-    ensures { result ≡ name_kind_rule t number }
+// Refuses a name's type or mask by the rule that it breaks.
+fn kind_rule(t: u8, number: u32) -> Result<(), Reason>
+    ensures { rule_number result ≡ name_kind_rule t number }
 {
     if t == QUALIFIED_NAME {
-        return 0;
+        return Ok(());
     }
     if t != LOCALIZED_TEXT {
-        return NOT_TAKEN;
+        return Err(Reason::NotTaken);
     }
     if MOST_MASK < number {
-        return NOT_PERMITTED;
+        return Err(Reason::NotPermitted);
     }
-    0
+    Ok(())
 }
 
-// 6 for bytes of a String that is not there.
-fn absent_rule(on: bool, n: usize) -> u8
-    ensures { result ≡ absent_rule on n }
+// Refuses bytes of a String that is not there.
+fn absent_rule(on: bool, n: usize) -> Result<(), Reason>
+    ensures { rule_number result ≡ absent_rule on n }
 {
     if on {
-        return 0;
+        return Ok(());
     }
-    six_unless(n == 0)
+    agreement_rule(n == 0)
 }
 
-// The first rule that a name with Strings of so many bytes breaks, or 0.
-fn name_rule(t: u8, number: u32, locale: usize, text: usize) -> u8
-    ensures { result ≡ name_rule t number locale text }
+// Refuses a name with Strings of so many bytes by the first rule that it breaks.
+fn name_rule(t: u8, number: u32, locale: usize, text: usize) -> Result<(), Reason>
+    ensures { rule_number result ≡ name_rule t number locale text }
 {
-    let strings = or_else(
-        absent_rule(has_locale(t, number), locale),
-        absent_rule(has_text(t, number), text),
-    );
-    or_else(
-        kind_rule(t, number),
-        or_else(six_unless(number <= MOST_INDEX), strings),
-    )
+    kind_rule(t, number)?;
+    agreement_rule(number <= MOST_INDEX)?;
+    absent_rule(has_locale(t, number), locale)?;
+    absent_rule(has_text(t, number), text)
 }
 
 // How many bytes a String takes, where there is one.
@@ -91,7 +91,7 @@ fn put_string(out: &mut [u8], at: usize, on: bool, s: &[u8]) -> usize
     ensures { Puts (string_if on s.now) out.old at out.new result }
 {
     if on {
-        let next = put32(out, at, s.len() as u32);
+        let next = (s.len() as u32).put(out, at);
         return put_run(out, next, s);
     }
     at
@@ -112,39 +112,36 @@ fn put_name_head(out: &mut [u8], t: u8, number: u32) -> usize
     requires { (name_kind_rule t number ≡ 0) × (number < 65536) }
     ensures { Puts (name_head t number) out.old 0 out.new result }
 {
-    let at = put8(out, 0, t);
+    let at = t.put(out, 0);
     if t == QUALIFIED_NAME {
-        return put16(out, at, number as u16);
+        return (number as u16).put(out, at);
     }
-    put8(out, at, number as u8)
+    (number as u8).put(out, at)
 }
 
 // Puts a Variant that is a name at the buffer's start, from what telling it apart says: a QualifiedName's index as the number and its name
 // as the text, a LocalizedText's mask, locale and text. A mask above 3 is refused by 3, other types by 4, an index above 65,535 and a
 // String that the mask leaves out but that has bytes by 6, output above 65,535 bytes by 10, then 11.
-pub fn put_name(out: &mut [u8], t: u8, number: u32, locale: &[u8], text: &[u8]) -> Written
+pub fn put_name(
+    out: &mut [u8],
+    t: u8,
+    number: u32,
+    locale: &[u8],
+    text: &[u8],
+) -> Result<usize, Reason>
     ensures { let output = name_output t number locale.now text.now in
         Writes output out.old out.new result }
 {
-    let fault = name_rule(t, number, locale.len(), text.len());
-    if fault != 0 {
-        return Written::Refused(fault);
-    }
-    if MOST_DATAGRAM < locale.len() {
-        return Written::Refused(OVER_LIMIT);
-    }
-    if MOST_DATAGRAM < text.len() {
-        return Written::Refused(OVER_LIMIT);
+    name_rule(t, number, locale.len(), text.len())?;
+    if (MOST_DATAGRAM < locale.len()) | (MOST_DATAGRAM < text.len()) {
+        return Err(Reason::OverLimit);
     }
     let strings = string_size(has_locale(t, number), locale)
         + string_size(has_text(t, number), text);
     let size = name_head_size(t, number) + strings;
-    let full = room_refusal(size, out.len());
-    if full != 0 {
-        return Written::Refused(full);
-    }
+    room_rule(size, out.len())?;
     let at = put_name_head(out, t, number);
     let next = put_string(out, at, has_locale(t, number), locale);
     put_string(out, next, has_text(t, number), text);
-    Written::Is(size)
+    Ok(size)
 }

@@ -1,5 +1,8 @@
 // A Variant put into a lent buffer from its type and its elements' bytes.
+// A type goes by its number: any byte may stand for one, on the wire and in the lists of types that are lent, and each is answered. An enum
+// would have to be made of it at each field, and is no plainer.
 ghost use Rattle.std.specs.Prelude.{◌≡◌, ℕ, ◌+◌, ◌≤◌, ◌<◌, length};
+ghost use Rattle.wire.specs.Refusal.{rule_number};
 ghost use Rattle.wire_writer.specs.Writing.{Puts, Writes};
 ghost use Rattle.value.specs.Value.{variant_rule};
 ghost use Rattle.value_parts.specs.declared.put.Form.{Form};
@@ -8,17 +11,16 @@ ghost use Rattle.value_parts.specs.Put.{first_byte, has_count, count_given, head
 use crate::told::is_text;
 use plain_value::plain::is_plain;
 use plain_value::width::width;
-use wire::constants::{
-    DATA_VALUE, DISAGREE, MOST_DATAGRAM, NOT_PERMITTED, NOT_TAKEN, OVER_LIMIT, VARIANT,
-};
-use wire_writer::store::{put_run, put8, put32};
-use wire_writer::writing::{Written, or_else, room_refusal, six_unless};
+use wire::constants::{DATA_VALUE, MOST_DATAGRAM, VARIANT};
+use wire::refusal::Reason;
+use wire_writer::store::{Store, put_run};
+use wire_writer::writing::{agreement_rule, room_rule};
 
 // The number of 4 bytes that stands for the length -1.
 const NULL: u32 = 4294967295;
 
 // How a value is handed over: a scalar; a null scalar, which is a null Variant, String or ByteString; an array; a null array.
-#[derive(Clone, Copy)]
+#[derive(Clone, Copy, PartialEq, Eq, Debug)]
 pub enum Form {
     Scalar,
     Null,
@@ -26,119 +28,111 @@ pub enum Form {
     NullArray,
 }
 
-// The rule that the first byte of a scalar of type t breaks.
-fn scalar_rule(t: u8) -> u8
+// What is stored below is asked to fit: a type below 64, a count below 65,536. Each is tested once, where a value is refused; a type for
+// such numbers would be no plainer.
+
+// Refuses the first byte of a scalar of type t by the rule that it breaks.
+fn scalar_rule(t: u8) -> Result<(), Reason>
     requires { t < 64 }
-    ensures { result ≡ variant_rule t }
+    ensures { rule_number result ≡ variant_rule t }
 {
-    if is_plain(t) | (t == DATA_VALUE) {
-        return 0;
-    }
-    if t == 0 {
-        return 0;
+    if is_plain(t) | (t == DATA_VALUE) | (t == 0) {
+        return Ok(());
     }
     if t == VARIANT {
-        return NOT_PERMITTED;
+        return Err(Reason::NotPermitted);
     }
-    NOT_TAKEN
+    Err(Reason::NotTaken)
 }
 
-// The rule that the first byte of an array of type t breaks.
-pub(crate) fn array_rule(t: u8) -> u8
+// Refuses the first byte of an array of type t by the rule that it breaks.
+pub(crate) fn array_rule(t: u8) -> Result<(), Reason>
     requires { t < 64 }
-    ensures { result ≡ variant_rule (t + 128) }
+    ensures { rule_number result ≡ variant_rule (t + 128) }
 {
     if t == 0 {
-        return NOT_PERMITTED;
+        return Err(Reason::NotPermitted);
     }
-    if (t == DATA_VALUE) | (t == VARIANT) {
-        return 0;
+    if is_plain(t) | (t == DATA_VALUE) | (t == VARIANT) {
+        return Ok(());
     }
-    if is_plain(t) {
-        return 0;
-    }
-    NOT_TAKEN
+    Err(Reason::NotTaken)
 }
 
-// The rule that a Variant's first byte breaks.
-fn type_rule(t: u8, form: Form) -> u8
-    ensures { result ≡ type_rule t form }
+// Refuses a Variant's first byte by the rule that it breaks.
+fn type_rule(t: u8, form: Form) -> Result<(), Reason>
+    ensures { rule_number result ≡ type_rule t form }
 {
     if 64 <= t {
-        return NOT_TAKEN;
+        return Err(Reason::NotTaken);
     }
     match form {
-        Form::Scalar => scalar_rule(t),
-        Form::Null => scalar_rule(t),
-        Form::Array => array_rule(t),
-        Form::NullArray => array_rule(t),
+        Form::Scalar | Form::Null => scalar_rule(t),
+        Form::Array | Form::NullArray => array_rule(t),
     }
 }
 
-// The rule that a scalar of n bytes breaks.
-fn scalar_form(t: u8, n: usize) -> u8
-    ensures { result ≡ form_rule t Form.Scalar n }
+// Refuses a scalar of n bytes by the rule that it breaks.
+fn scalar_form(t: u8, n: usize) -> Result<(), Reason>
+    ensures { rule_number result ≡ form_rule t Form.Scalar n }
 {
     let w = width(t);
     if 0 < w {
-        return six_unless(n == w);
+        return agreement_rule(n == w);
     }
     if is_text(t) {
-        return 0;
+        return Ok(());
     }
     if t == 0 {
-        return DISAGREE;
+        return Err(Reason::Disagree);
     }
-    NOT_TAKEN
+    Err(Reason::NotTaken)
 }
 
-// The rule that a null scalar of n bytes breaks.
-fn null_form(t: u8, n: usize) -> u8
-    ensures { result ≡ form_rule t Form.Null n }
+// Refuses a null scalar of n bytes by the rule that it breaks.
+fn null_form(t: u8, n: usize) -> Result<(), Reason>
+    ensures { rule_number result ≡ form_rule t Form.Null n }
 {
     if 0 < width(t) {
-        return DISAGREE;
+        return Err(Reason::Disagree);
     }
-    if is_text(t) {
-        return six_unless(n == 0);
+    if is_text(t) | (t == 0) {
+        return agreement_rule(n == 0);
     }
-    if t == 0 {
-        return six_unless(n == 0);
-    }
-    NOT_TAKEN
+    Err(Reason::NotTaken)
 }
 
-// The rule that an array of n bytes breaks.
-pub(crate) fn array_form(t: u8, n: usize) -> u8
-    ensures { result ≡ form_rule t Form.Array n }
+// Refuses an array of n bytes by the rule that it breaks.
+pub(crate) fn array_form(t: u8, n: usize) -> Result<(), Reason>
+    ensures { rule_number result ≡ form_rule t Form.Array n }
 {
     let w = width(t);
     if 0 < w {
-        return six_unless(n % w == 0);
+        return agreement_rule(n % w == 0);
     }
-    NOT_TAKEN
+    Err(Reason::NotTaken)
 }
 
-// The rule that a null array of n bytes breaks.
-fn null_array_form(t: u8, n: usize) -> u8
-    ensures { result ≡ form_rule t Form.NullArray n }
+// Refuses a null array of n bytes by the rule that it breaks.
+fn null_array_form(t: u8, n: usize) -> Result<(), Reason>
+    ensures { rule_number result ≡ form_rule t Form.NullArray n }
 {
     if 0 < width(t) {
-        return six_unless(n == 0);
+        return agreement_rule(n == 0);
     }
-    NOT_TAKEN
+    Err(Reason::NotTaken)
 }
 
-// The first rule that a value of n bytes breaks, or 0.
-fn put_rule(t: u8, form: Form, n: usize) -> u8
-    ensures { result ≡ put_rule t form n }
+// Refuses a value of n bytes by the first rule that it breaks.
+fn put_rule(t: u8, form: Form, n: usize) -> Result<(), Reason>
+    ensures { rule_number result ≡ put_rule t form n }
 {
-    let fault = type_rule(t, form);
+    type_rule(t, form)?;
     match form {
-        Form::Scalar => or_else(fault, scalar_form(t, n)),
-        Form::Null => or_else(fault, null_form(t, n)),
-        Form::Array => or_else(fault, array_form(t, n)),
-        Form::NullArray => or_else(fault, null_array_form(t, n)),
+        Form::Scalar => scalar_form(t, n),
+        Form::Null => null_form(t, n),
+        Form::Array => array_form(t, n),
+        Form::NullArray => null_array_form(t, n),
     }
 }
 
@@ -148,10 +142,8 @@ fn first_byte(t: u8, form: Form) -> u8
     ensures { result ≡ first_byte t form }
 {
     match form {
-        Form::Scalar => t,
-        Form::Null => t,
-        Form::Array => t + 128,
-        Form::NullArray => t + 128,
+        Form::Scalar | Form::Null => t,
+        Form::Array | Form::NullArray => t + 128,
     }
 }
 
@@ -160,10 +152,8 @@ fn has_count(t: u8, form: Form) -> bool
     ensures { result ≡ has_count t form }
 {
     match form {
-        Form::Scalar => is_text(t),
-        Form::Null => is_text(t),
-        Form::Array => true,
-        Form::NullArray => true,
+        Form::Scalar | Form::Null => is_text(t),
+        Form::Array | Form::NullArray => true,
     }
 }
 
@@ -185,9 +175,8 @@ fn count(t: u8, form: Form, n: usize) -> u32
 {
     match form {
         Form::Scalar => n as u32,
-        Form::Null => NULL,
         Form::Array => elements(t, n) as u32,
-        Form::NullArray => NULL,
+        Form::Null | Form::NullArray => NULL,
     }
 }
 
@@ -206,9 +195,9 @@ fn put_head(out: &mut [u8], t: u8, form: Form, n: usize) -> usize
     requires { (t < 64) × (n < 65536) }
     ensures { Puts (head_bytes t form n) out.old 0 out.new result }
 {
-    let at = put8(out, 0, first_byte(t, form));
+    let at = first_byte(t, form).put(out, 0);
     if has_count(t, form) {
-        return put32(out, at, count(t, form, n));
+        return count(t, form, n).put(out, at);
     }
     at
 }
@@ -217,22 +206,16 @@ fn put_head(out: &mut [u8], t: u8, form: Form, n: usize) -> usize
 // String or ByteString its bytes. What is put: a null Variant; scalars and arrays of a fixed type; Strings and ByteStrings. What reading
 // would refuse is refused by the same number, other types by 4, bytes that are not whole elements by 6, output above 65,535 bytes by 10,
 // then 11.
-pub fn put_variant(out: &mut [u8], t: u8, form: Form, bytes: &[u8]) -> Written
+pub fn put_variant(out: &mut [u8], t: u8, form: Form, bytes: &[u8]) -> Result<usize, Reason>
     ensures { Writes (variant_output t form bytes.now) out.old out.new result }
 {
-    let fault = put_rule(t, form, bytes.len());
-    if fault != 0 {
-        return Written::Refused(fault);
-    }
+    put_rule(t, form, bytes.len())?;
     if MOST_DATAGRAM < bytes.len() {
-        return Written::Refused(OVER_LIMIT);
+        return Err(Reason::OverLimit);
     }
     let size = head_size(t, form) + bytes.len();
-    let full = room_refusal(size, out.len());
-    if full != 0 {
-        return Written::Refused(full);
-    }
+    room_rule(size, out.len())?;
     let at = put_head(out, t, form, bytes.len());
     put_run(out, at, bytes);
-    Written::Is(size)
+    Ok(size)
 }

@@ -1,11 +1,11 @@
 -- Bytes laid one part after the other, as the loops over a text, over repetitions and over a word's items do.
 -- Assumes nothing.
+use Rattle.std.specs.Prelude.{Option, Some, None}
 use mathlib.Core.Path.{◌≡◌, refl, sym, subst, ap, ◌∙◌}
 use mathlib.Core.List.{List, [], ◌∷◌, ◌++◌, append_assoc, append-nil}
 use Prim.Native.Nat.{ℕ, zero, suc, ◌+◌, ◌-◌, ◌%◌, ◌≤◌, ◌<◌}
 use native.Mathlib.Omega.{arith}
 use borrow.Author.Tests.{lt-ltb, le-ltb}
-use mathlib.Core.Option.{Option, none, some}
 use lib.ListN.{length, drop, get_or, length-append}
 use lib.Seq.{sets}
 use Rattle.wire.specs.Number.{le_bytes}
@@ -15,13 +15,11 @@ use Rattle.wire_writer.proofs.Parts.{puts_as}
 use Rattle.wire_writer.proofs.Putting.{puts, then, nothing}
 use Rattle.text.specs.Words.{up_to}
 use Rattle.text.specs.Hex.{hex_of, next_of, buffer_of, hex_next, hex_after}
-use Rattle.text.specs.declared.hex.Hex.{Hex}
-use Rattle.text.specs.declared.hex.Hex.TheVariants.{To, Not}
 use Rattle.vector_lines.specs.Items.{after_item}
 use Rattle.vector_lines.specs.Bytes.{plain_byte, plain_text, hex_or, times, item_bytes, word_from, word_bytes}
 
 -- a position is no refusal
-apart : {p : ℕ} → To p ≡ Not → ⊥
+apart : {p : ℕ} → Some p ≡ None → ⊥
 apart e = let z : ◌≡◌ {A = ℕ} 0 1 = cc in omega arith
 
 -- of the bytes `whole`, `rest` is still to be laid
@@ -54,9 +52,8 @@ text_ends (x ∷ xs) zero h = absurd (omega arith)
 text_ends (x ∷ xs) (suc i) h = text_ends xs i (omega arith)
 
 -- repetitions
-pub times_turn : (n : ℕ) (b : List ℕ) → 0 < n → times n b ≡ b ++ times (n - 1) b
-times_turn zero b h = absurd (omega arith)
-times_turn (suc n) b h = let e : suc n - 1 ≡ n = omega arith in rw e
+pub times_turn : (n k : ℕ) (b : List ℕ) → k < n → times (n - k) b ≡ b ++ times (n - (k + 1)) b
+times_turn n k b h = let e : n - k ≡ suc (n - (k + 1)) = omega arith in rw e
 
 pub times_ends : (n : ℕ) (b : List ℕ) → n ≤ 0 → times n b ≡ []
 times_ends zero b h = refl
@@ -98,23 +95,23 @@ byte_put b {v} e h x = let m : v % 256 ≡ v = omega arith in puts_as (ap (λ (k
 
 -- hex digits, or none where they are no hex
 module _ (l : List ℕ) (at : ℕ) (s : List ℕ) where
-  pub hex_put : {m : List ℕ} {end : ℕ} → To end ≡ hex_next l at s → m ≡ hex_after l at s → Puts (hex_or (hex_of s)) l at m end
+  pub hex_put : {m : List ℕ} {end : ℕ} → Some end ≡ hex_next l at s → m ≡ hex_after l at s → Puts (hex_or (hex_of s)) l at m end
   hex_put {m} {end} = go (hex_of s)
     where
-      go : (x : Option (List ℕ)) → To end ≡ next_of l at x → m ≡ buffer_of l at x → Puts (hex_or x) l at m end
-      go (some b) e f = puts (record { stored = f; after = ap place e })
+      go : (x : Option (List ℕ)) → Some end ≡ next_of l at x → m ≡ buffer_of l at x → Puts (hex_or x) l at m end
+      go (Some b) e f = puts (record { stored = f; after = ap place e })
         where
-          place : Hex → ℕ
-          place (To p) = p
-          place Not = 0
-      go none e f = absurd (apart e)
+          place : Option ℕ → ℕ
+          place (Some p) = p
+          place None = 0
+      go None e f = absurd (apart e)
 
-  pub hex_none : {m : List ℕ} → Not ≡ hex_next l at s → m ≡ hex_after l at s → (hex_or (hex_of s) ≡ []) × (m ≡ l)
+  pub hex_none : {m : List ℕ} → None ≡ hex_next l at s → m ≡ hex_after l at s → (hex_or (hex_of s) ≡ []) × (m ≡ l)
   hex_none {m} = go (hex_of s)
     where
-      go : (x : Option (List ℕ)) → Not ≡ next_of l at x → m ≡ buffer_of l at x → (hex_or x ≡ []) × (m ≡ l)
-      go (some b) e f = absurd (apart (sym e))
-      go none e f = (refl, f)
+      go : (x : Option (List ℕ)) → None ≡ next_of l at x → m ≡ buffer_of l at x → (hex_or x ≡ []) × (m ≡ l)
+      go (Some b) e f = absurd (apart (sym e))
+      go None e f = (refl, f)
 
 -- nothing laid so far, and nothing to be laid
 pub none_laid : (n left : ℕ) (b : List ℕ) {entry mid exit : List ℕ} {at next : ℕ} → b ≡ [] → exit ≡ mid → Laid (times n b) (times left b) entry at mid next → Puts (times n b) entry at exit at

@@ -1,5 +1,6 @@
 -- The steps of the loop that looks for a letter in a word.
 -- Assumes nothing.
+use Rattle.std.specs.Prelude.{None}
 use mathlib.Core.Path.{◌≡◌, refl}
 use mathlib.Core.List.{List}
 use Prim.Native.Nat.{ℕ, zero, suc, ◌+◌, ◌-◌, ◌≤◌, ◌<◌}
@@ -7,7 +8,6 @@ use native.Mathlib.Omega.{arith}
 use borrow.Author.Tests.{lt-ltb, le-ltb, eq-eqb, ne_eqb}
 use lib.ListN.{length, get_or}
 use Rattle.text.specs.Decimal.{decimal_at}
-use Rattle.text.specs.declared.decimal.Decimal.TheVariants.{Not}
 use Rattle.vector_lines.specs.Items.{after_item, lettered_from, lettered_in}
 
 module _ (b : ℕ) (s : List ℕ) where
@@ -26,6 +26,6 @@ module _ (b : ℕ) (s : List ℕ) where
   passed at next (zero, h, e) l q r d = absurd (omega arith)
   passed at next (suc n, h, e) l q r d = (n, omega arith, rw (e, lt-ltb at (length s) l, ne_eqb (get_or s at 0) b q, r))
 
-  pub none : (at : ℕ) → Left at → length s ≤ at → lettered_in b s ≡ Not
+  pub none : (at : ℕ) → Left at → length s ≤ at → lettered_in b s ≡ None
   none at (zero, h, e) l = e
   none at (suc n, h, e) l = rw (e, le-ltb at (length s) l)

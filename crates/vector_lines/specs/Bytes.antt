@@ -1,11 +1,8 @@
 -- The bytes that a word stands for: its items are parted by commas, each a text after `'`, or hex digits, which a decimal and `*` repeat.
-use Rattle.std.specs.Prelude.{ℕ, zero, suc, cond, List, [], ◌∷◌, ◌++◌, eqb, ltb, length, drop, get_or}
-use Rattle.std.proofs.Math.Option.{Option, none, some}
+use Rattle.std.specs.Prelude.{ℕ, zero, suc, cond, List, [], ◌∷◌, ◌++◌, eqb, ltb, length, drop, get_or, Option, Some, None}
 use Rattle.text.specs.Words.{up_to}
 use Rattle.text.specs.Hex.{hex_of}
 use Rattle.text.specs.Decimal.{decimal_at}
-use Rattle.text.specs.declared.decimal.Decimal.{Decimal}
-use Rattle.text.specs.declared.decimal.Decimal.TheVariants.{Is, Not}
 use Rattle.vector_lines.specs.Items.{after_item}
 
 -- the byte that a byte of a text stands for: `~` a tab, `|` a newline, `_` a space, any other itself
@@ -18,17 +15,17 @@ plain_text (b ∷ bs) = plain_byte b ∷ plain_text bs
 
 -- none where digits are no hex
 abbrev pub hex_or : Option (List ℕ) → List ℕ
-hex_or (some b) = b
-hex_or none = []
+hex_or (Some b) = b
+hex_or None = []
 
 abbrev pub times : ℕ → List ℕ → List ℕ
 times zero b = []
 times (suc n) b = b ++ times n b
 
 -- hex digits, repeated as a decimal before them says
-abbrev pub repeated_bytes : List ℕ → Decimal → List ℕ
-repeated_bytes s (Is n start) = times n (hex_or (hex_of (drop start s)))
-repeated_bytes s Not = times 1 (hex_or (hex_of s))
+abbrev pub repeated_bytes : List ℕ → Option (ℕ × ℕ) → List ℕ
+repeated_bytes s (Some (n, start)) = times n (hex_or (hex_of (drop start s)))
+repeated_bytes s None = times 1 (hex_or (hex_of s))
 
 abbrev pub item_bytes : List ℕ → List ℕ
 item_bytes s = cond (eqb (get_or s 0 0) 39) (plain_text (drop 1 s)) (repeated_bytes s (decimal_at 65536 42 s 0))

@@ -1,10 +1,7 @@
 -- The items of a text, each ended by a byte or by the text's end.
-use Rattle.std.specs.Prelude.{List, ℕ, zero, suc, ◌+◌, ◌%◌, min, cond, eqb, ltb, length, drop, get_or}
-use Rattle.wire.specs.declared.optional.Optional16.{Optional16}
+use Rattle.std.specs.Prelude.{List, ℕ, zero, suc, ◌+◌, ◌%◌, min, cond, eqb, ltb, length, drop, get_or, Option, Some, None}
 use Rattle.text.specs.Words.{index_of, up_to}
 use Rattle.text.specs.Decimal.{decimal_at}
-use Rattle.text.specs.declared.decimal.Decimal.{Decimal}
-use Rattle.text.specs.declared.decimal.Decimal.TheVariants.{Is, Not}
 
 -- the position after the item from a position on and the byte b that ends it, or the text's end
 abbrev pub after_item : ℕ → List ℕ → ℕ → ℕ
@@ -23,27 +20,27 @@ abbrev pub shown_of : List ℕ → List ℕ
 shown_of s = cond (ltb (get_or s 0 0) 65) s (cond (ltb 90 (get_or s 0 0)) s (drop (after_item 59 s 0) s))
 
 -- the number of a decimal, 0 of none
-abbrev pub number_or0 : Decimal → ℕ
-number_or0 (Is n next) = n
-number_or0 Not = 0
+abbrev pub number_or0 : Option (ℕ × ℕ) → ℕ
+number_or0 (Some (n, next)) = n
+number_or0 None = 0
 
 -- the decimal from a position up to the byte b, 0 where there is none
 abbrev pub decimal_number_at : ℕ → List ℕ → ℕ → ℕ
 decimal_number_at b s at = number_or0 (decimal_at 18446744073709551615 b s at)
 
 -- the decimal behind the first item, from a position on, that begins with the byte b; so many items are looked at
-abbrev pub lettered_from : ℕ → ℕ → List ℕ → ℕ → Decimal
-lettered_from zero b s at = Not
+abbrev pub lettered_from : ℕ → ℕ → List ℕ → ℕ → Option (ℕ × ℕ)
+lettered_from zero b s at = None
 lettered_from (suc n) b s at =
     cond (ltb at (length s))
     (cond (eqb (get_or s at 0) b) (decimal_at 18446744073709551615 44 s (at + 1)) (lettered_from n b s (after_item 44 s at)))
-    Not
+    None
 
 -- the number that stands after a letter in a word, whose items are parted by commas
-abbrev pub lettered_in : ℕ → List ℕ → Decimal
+abbrev pub lettered_in : ℕ → List ℕ → Option (ℕ × ℕ)
 lettered_in b s = lettered_from (length s) b s 0
 
 -- the lowest two bytes of a decimal's number; absent where there is none
-abbrev pub low16_of : Decimal → Optional16
-low16_of (Is n next) = Optional16.Is (n % 65536)
-low16_of Not = Optional16.Absent
+abbrev pub low16_of : Option (ℕ × ℕ) → Option ℕ
+low16_of (Some (n, next)) = Some (n % 65536)
+low16_of None = None

@@ -1,6 +1,5 @@
 -- What the printing functions hand to the system, as text.
-use Rattle.std.specs.Prelude.{ℕ, cond, List, [], ◌∷◌, ◌++◌, leb, length}
-use Rattle.wire.specs.declared.optional.Optional16.{Optional16}
+use Rattle.std.specs.Prelude.{ℕ, cond, List, [], ◌∷◌, ◌++◌, leb, length, Option, Some, None}
 use Rattle.text.specs.Decimal.{decimal_text}
 use Rattle.text.specs.Hex.{hex_text}
 use Rattle.vector_lines.specs.Items.{word_of}
@@ -17,9 +16,9 @@ abbrev pub refused_printed : ℕ → ℕ → List ℕ
 refused_printed n place = bad_printed n ++ number_printed place
 
 -- a number, ` -` where it is absent
-abbrev pub optional_printed : Optional16 → List ℕ
-optional_printed Optional16.Absent = 32 ∷ 45 ∷ []
-optional_printed (Optional16.Is v) = number_printed v
+abbrev pub optional_printed : Option ℕ → List ℕ
+optional_printed None = 32 ∷ 45 ∷ []
+optional_printed (Some v) = number_printed v
 
 -- a space and bytes in hex, at most 128 of them; of more the space alone
 abbrev pub hex_printed : List ℕ → List ℕ

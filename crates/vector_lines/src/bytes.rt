@@ -6,35 +6,29 @@ ghost use Rattle.vector_lines.specs.Items.{word_of};
 ghost use Rattle.vector_lines.specs.Bytes.{plain_byte, plain_text, hex_or, times, item_bytes, word_bytes};
 
 use crate::lines::{after, item, letter, word};
-use text::decimal::{Decimal, read_decimal};
-use text::hex::{Hex, read_hex};
+use text::decimal::read_decimal;
+use text::hex::read_hex;
 use wire::part::tail;
-use wire_writer::store::put8;
+use wire_writer::store::Store;
 
 // The byte that a byte of a text stands for.
 fn plain(b: u8) -> u8
     ensures { (result ≡ plain_byte b) × (result < 256) }
 {
-    if b == b'~' {
-        return b'\t';
+    match b {
+        b'~' => b'\t',
+        b'|' => b'\n',
+        b'_' => b' ',
+        _ => b,
     }
-    if b == b'|' {
-        return b'\n';
-    }
-    if b == b'_' {
-        return b' ';
-    }
-    b
 }
 
 fn put_text(out: &mut [u8], at: usize, text: &[u8]) -> usize
     ensures { Puts (plain_text text.now) out.old at out.new result }
 {
     let mut next = at;
-    let mut i = 0;
-    while i < text.len() {
-        next = put8(out, next, plain(text[i]));
-        i += 1;
+    for b in text {
+        next = plain(*b).put(out, next);
     }
     next
 }
@@ -44,15 +38,11 @@ fn put_times(out: &mut [u8], at: usize, digits: &[u8], n: u64) -> usize
     ensures { Puts (times n (hex_or (hex_of digits.now))) out.old at out.new result }
 {
     let mut next = at;
-    let mut left = n;
-    while 0 < left {
-        match read_hex(out, next, digits) {
-            Hex::To(end) => {
-                next = end;
-                left -= 1;
-            }
-            Hex::Not => return at,
-        }
+    for _ in 0..n {
+        let Some(end) = read_hex(out, next, digits) else {
+            return at;
+        };
+        next = end;
     }
     next
 }
@@ -64,12 +54,13 @@ fn put_item(out: &mut [u8], at: usize, item: &[u8]) -> usize
         return put_text(out, at, tail(item, 1));
     }
     match read_decimal(item, 0, b'*', 65536) {
-        Decimal::Is(times, start) => put_times(out, at, tail(item, start), times),
-        Decimal::Not => put_times(out, at, item, 1),
+        Some((times, start)) => put_times(out, at, tail(item, start), times),
+        None => put_times(out, at, item, 1),
     }
 }
 
 // The bytes that a word stands for, laid from a position on where all of them fit, and the position after them.
+// An item of the word ends where reading it says, so the position goes on by no fixed step.
 pub fn put_word(out: &mut [u8], start: usize, word: &[u8]) -> usize
     ensures { Puts (word_bytes word.now) out.old start out.new result }
 {

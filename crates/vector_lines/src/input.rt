@@ -7,6 +7,7 @@ use std::io::Read;
 pub const LARGE: usize = 65536;
 
 // Reads until the buffer is full, the input ends or a read fails, and answers how many bytes came, from the buffer's start on.
+// The library's `read_exact` does not tell how many bytes came before the input ended.
 pub fn read_full(input: &mut impl Read, buffer: &mut [u8]) -> usize
     ensures { result ≤ length buffer.new }
 {

@@ -3,12 +3,11 @@ ghost use Rattle.std.specs.Prelude.{◌≡◌, ◌-◌, ◌%◌, ◌≤◌, leng
 ghost use Rattle.text.specs.Words.{up_to};
 ghost use Rattle.vector_lines.specs.Items.{after_item, word_start, word_of, shown_of, decimal_number_at, number_or0, lettered_in, low16_of};
 
-use text::decimal::{Decimal, read_decimal};
+use text::decimal::read_decimal;
 use text::words::find;
-use wire::optional::Optional16;
 use wire::part::{part, tail};
 
-const MOST: u64 = 18446744073709551615;
+const MOST: u64 = u64::MAX;
 
 // The item from a position on, without the byte that ends it.
 pub fn item(text: &[u8], at: usize, end: u8) -> &[u8]
@@ -37,10 +36,8 @@ fn start(line: &[u8], k: usize) -> usize
     ensures { result ≡ word_start k line.now }
 {
     let mut at: usize = 0;
-    let mut i: usize = 0;
-    while i < k {
+    for _ in 0..k {
         at = after(line, at, b' ');
-        i += 1;
     }
     at
 }
@@ -56,34 +53,31 @@ pub fn word(line: &[u8], k: usize) -> &[u8]
 pub fn letter(line: &[u8]) -> u8
     ensures { result ≡ get_or line.now 0 0 }
 {
-    if line.len() == 0 {
-        return 0;
-    }
-    line[0]
+    line.first().copied().unwrap_or(0)
 }
 
 // What a line shows of itself: all; where it begins with a capital letter, what stands after its first semicolon.
 pub fn shown(line: &[u8]) -> &[u8]
     ensures { result.now ≡ shown_of line.now }
 {
-    let first = letter(line);
-    if first < b'A' {
-        return line;
-    }
-    if b'Z' < first {
+    if !letter(line).is_ascii_uppercase() {
         return line;
     }
     tail(line, after(line, 0, b';'))
+}
+
+// The number of a decimal that was read, 0 of none.
+fn number_or0(read: Option<(u64, usize)>) -> usize
+    ensures { result ≡ number_or0 read }
+{
+    read.map_or(0, |(n, _)| n as usize)
 }
 
 // The decimal from a position up to the byte `end`, 0 where there is none.
 pub fn decimal_at(text: &[u8], at: usize, end: u8) -> usize
     ensures { result ≡ decimal_number_at end text.now at }
 {
-    match read_decimal(text, at, end, MOST) {
-        Decimal::Is(n, _) => n as usize,
-        Decimal::Not => 0,
-    }
+    number_or0(read_decimal(text, at, end, MOST))
 }
 
 // The decimal that is word k of a line and not its last word; 0 where it is none.
@@ -101,7 +95,8 @@ pub fn low16(n: usize) -> u16
 }
 
 // The number that stands after a letter in a word that lists numbers.
-pub fn lettered(word: &[u8], letter: u8) -> Decimal
+// An item of the word ends where reading it says, so the position goes on by no fixed step.
+pub fn lettered(word: &[u8], letter: u8) -> Option<(u64, usize)>
     ensures { result ≡ lettered_in letter word.now }
 {
     let mut at = 0;
@@ -111,25 +106,19 @@ pub fn lettered(word: &[u8], letter: u8) -> Decimal
         }
         at = after(word, at, b',');
     }
-    Decimal::Not
+    None
 }
 
 // The same as an item of two bytes, absent where the letter is.
-pub fn lettered16(word: &[u8], letter: u8) -> Optional16
+pub fn lettered16(word: &[u8], letter: u8) -> Option<u16>
     ensures { result ≡ low16_of (lettered_in letter word.now) }
 {
-    match lettered(word, letter) {
-        Decimal::Is(n, _) => Optional16::Is(low16(n as usize)),
-        Decimal::Not => Optional16::Absent,
-    }
+    lettered(word, letter).map(|(n, _)| low16(n as usize))
 }
 
 // The number that stands after a letter, 0 where the letter is absent.
 pub fn numbered(word: &[u8], letter: u8) -> usize
     ensures { result ≡ number_or0 (lettered_in letter word.now) }
 {
-    match lettered(word, letter) {
-        Decimal::Is(n, _) => n as usize,
-        Decimal::Not => 0,
-    }
+    number_or0(lettered(word, letter))
 }

@@ -1,5 +1,6 @@
 // Answers printed to standard output. Each number and each run of hex has a space before it. What becomes of the bytes is the system's;
 // each function answers how many it handed over, and promises that they are as many as its text has.
+// The texts of numbers are laid into buffers of a fixed size: there is no heap.
 ghost use Rattle.std.specs.Prelude.{◌≡◌, length};
 ghost use Rattle.text.specs.Decimal.{decimal_text};
 ghost use Rattle.vector_lines.specs.Print.{number_printed, bad_printed, refused_printed, optional_printed, hex_printed, named_printed};
@@ -7,7 +8,6 @@ ghost use Rattle.vector_lines.specs.Print.{number_printed, bad_printed, refused_
 use crate::lines::word;
 use text::decimal::put_decimal;
 use text::hex::put_hex;
-use wire::optional::Optional16;
 use wire::part::part;
 
 // A text as it is. A write that fails is let go: the answer and what follows are the same.
@@ -56,12 +56,12 @@ pub fn refused(rt: &impl Print, n: u8, place: usize) -> usize
 }
 
 // A dash where the item is absent.
-pub fn optional(rt: &impl Print, x: Optional16) -> usize
+pub fn optional(rt: &impl Print, x: Option<u16>) -> usize
     ensures { result ≡ length (optional_printed x) }
 {
     match x {
-        Optional16::Absent => put(rt, b" -"),
-        Optional16::Is(v) => number(rt, v as usize),
+        None => put(rt, b" -"),
+        Some(v) => number(rt, v as usize),
     }
 }
 

@@ -1,5 +1,6 @@
 -- The cursor over lines walks the listing: each step hands out the first of the lines that are left and stands before the others.
 -- Assumes nothing.
+use Rattle.std.specs.Prelude.{Option, Some, None}
 use Prim.Native.Nat.{ℕ, zero, suc, ◌+◌, ◌≤◌, ◌<◌}
 use mathlib.Core.Path.{◌≡◌, refl, ap, sym, ◌∙◌}
 use mathlib.Core.Bool.{Bool, true, false, cond}
@@ -24,7 +25,6 @@ use Rattle.walk.specs.Lines.{Writers, fields_left, messages_left, types_at, byte
 use Rattle.walk.specs.declared.entry.Line.{Line}
 use Rattle.walk.specs.declared.lines.Listed.{Listed}
 use Rattle.walk.specs.declared.lines.LineCursor.{LineCursor}
-use Rattle.walk.specs.declared.lines.LineStep.{LineStep}
 
 -- what an accepted step over the fields says: one field was left, one fewer is left after it, and its value starts within the message
 pub record FieldPassed (f : Cursor) (s : List ℕ) (x : FieldStepped) : Type 0 where
@@ -58,7 +58,7 @@ module _ (w : Writers) (d : List ℕ) where
 
   -- a message's lines, and then those of the messages after it
   set_lists : (l : Listed) (c : MessageCursor) (p : MessagePlace) (a : Answer (Valid Message))
-      → step_lines w d (next_set w d l c p a) ≡ set_lines w d l p a ++ message_lines w d (messages_left l c) l c
+      → step_lines w d (Some (next_set w d l c p a)) ≡ set_lines w d l p a ++ message_lines w d (messages_left l c) l c
   set_lists l c p (got not_valid next) = refl
   set_lists l c p (got (valid m) next) = refl
   set_lists l c p (refused n place) = refl
@@ -117,14 +117,14 @@ module _ (w : Writers) (d : List ℕ) where
   lines_after zero c = refl
   lines_after (suc k) c = go (next_line w d c) refl (lines_after k)
     where
-      go : (t : LineStep) → next_line w d c ≡ t → ((n : LineCursor) → lines_from w d (cursor_after w d k n) ≡ drop k (lines_from w d n))
+      go : (t : Option (Line × LineCursor)) → next_line w d c ≡ t → ((n : LineCursor) → lines_from w d (cursor_after w d k n) ≡ drop k (lines_from w d n))
           → lines_from w d (after_step w d c (cursor_after w d k) (next_line w d c)) ≡ drop (suc k) (lines_from w d c)
-      go (LineStep.Is x n) e more =
+      go (Some (x, n)) e more =
           let l : lines_from w d c ≡ x ∷ lines_from w d n = sym (step_lists c) ∙ ap (step_lines w d) e in
-          ap (λ (t : LineStep). lines_from w d (after_step w d c (cursor_after w d k) t)) e ∙ more n ∙ ap (drop (suc k)) (sym l)
-      go LineStep.None e more =
+          ap (λ (t : Option (Line × LineCursor)). lines_from w d (after_step w d c (cursor_after w d k) t)) e ∙ more n ∙ ap (drop (suc k)) (sym l)
+      go None e more =
           let l : lines_from w d c ≡ [] = sym (step_lists c) ∙ ap (step_lines w d) e in
-          ap (λ (t : LineStep). lines_from w d (after_step w d c (cursor_after w d k) t)) e ∙ l ∙ ap (drop (suc k)) (sym l)
+          ap (λ (t : Option (Line × LineCursor)). lines_from w d (after_step w d c (cursor_after w d k) t)) e ∙ l ∙ ap (drop (suc k)) (sym l)
 
 -- A field's offset in the datagram is no larger than the datagram.
 pub offset_fits : (d b : List ℕ) (at n o : ℕ) → b ≡ take n (drop at d) → o < length b → at + o ≤ length d

@@ -1,11 +1,9 @@
 -- The lines of a listing in their order (document 01, "Configuration and listing").
-use Rattle.std.specs.Prelude.{ℕ, zero, suc, ◌+◌, ◌-◌, cond, List, [], ◌∷◌, ◌++◌, eqb, length, take, drop}
-use Rattle.wire.specs.Constants.{MOST_WRITERS}
+use Rattle.std.specs.Prelude.{ℕ, zero, suc, ◌+◌, ◌-◌, cond, List, [], ◌∷◌, ◌++◌, eqb, length, take, drop, Option, Some, None}
 use Rattle.wire.specs.Answer.{Answer, got, refused}
-use Rattle.wire.specs.declared.optional.Optional16.{Optional16}
-use Rattle.config.specs.Writers.{at_most, types_of}
-use Rattle.config.specs.declared.Config.{Config}
-use Rattle.config_text.specs.Config.{config_of}
+pub use Rattle.config.specs.Writers.{Writers, writers, writers_of}
+use Rattle.config.specs.Writers.{types_by}
+use Rattle.config_text.specs.Config.{config_of, config_number, place_in, config_in}
 use Rattle.network_message.specs.WriterId.{writer_id_of}
 use Rattle.network_message.specs.Payload.{PlaceStepped, place_step_at}
 use Rattle.network_message.specs.Envelope.{NetworkMessage, network_message_at}
@@ -20,26 +18,6 @@ use Rattle.walk.specs.declared.entry.SetPlace.{SetPlace}
 use Rattle.walk.specs.declared.entry.Line.{Line}
 use Rattle.walk.specs.declared.lines.Listed.{Listed}
 use Rattle.walk.specs.declared.lines.LineCursor.{LineCursor}
-use Rattle.walk.specs.declared.lines.LineStep.{LineStep}
-
--- what a configuration says, as lists: the writers' ids, sizes (0 for none) and starts of their fields, and the types of all fields
-pub record Writers : Type 0 where
-  pub ids : List ℕ
-  pub sizes : List ℕ
-  pub starts : List ℕ
-  pub types : List ℕ
-
-abbrev pub writers_of : Config → Writers
-writers_of c =
-    record {
-      ids = take (at_most MOST_WRITERS c.writers) c.ids;
-      sizes = take (at_most MOST_WRITERS c.writers) c.sizes;
-      starts = take (at_most MOST_WRITERS c.writers) c.starts;
-      types = take c.fields c.types;
-    }
-
-abbrev pub writers : List ℕ → List ℕ → List ℕ → List ℕ → Writers
-writers ids sizes starts types = record { ids = ids; sizes = sizes; starts = starts; types = types }
 
 -- "Offsets count in the datagram"
 abbrev pub in_datagram : MessagePlace → Field → Field
@@ -69,11 +47,11 @@ messages_left l c = l.payload.count - c.index
 
 module _ (w : Writers) (d : List ℕ) where
   -- of the message in place p: its writer id, its configured field types, and its own part of the datagram
-  abbrev pub writer_at : Listed → MessagePlace → Optional16
+  abbrev pub writer_at : Listed → MessagePlace → Option ℕ
   writer_at l p = writer_id_of l.header l.header_end w.ids p.index d
 
   abbrev pub types_at : Listed → MessagePlace → List ℕ
-  types_at l p = types_of w.ids w.starts w.types (writer_at l p)
+  types_at l p = types_by w (writer_at l p)
 
   abbrev pub bytes_at : MessagePlace → List ℕ
   bytes_at p = take p.length (drop p.offset d)
@@ -133,50 +111,49 @@ module _ (w : Writers) (d : List ℕ) where
   lines_from LineCursor.End = []
 
   -- ---- a step of the cursor: the line that it stands before, and the cursor before the next one
-  abbrev pub next_set : Listed → MessageCursor → MessagePlace → Answer (Valid Message) → LineStep
-  next_set l c p (got not_valid next) = LineStep.Is (Line.SetInvalid (place_at l p)) (LineCursor.Message l c)
+  abbrev pub next_set : Listed → MessageCursor → MessagePlace → Answer (Valid Message) → Line × LineCursor
+  next_set l c p (got not_valid next) = (Line.SetInvalid (place_at l p), LineCursor.Message l c)
   next_set l c p (got (valid m) next) =
-      LineStep.Is (Line.Set (place_at l p) m.header.kind m.header.encoding m.header.sequence)
-      (LineCursor.Field l c p m.cursor)
-  next_set l c p (refused n place) = LineStep.Is (Line.SetBad (place_at l p) n place) (LineCursor.Message l c)
+      (Line.Set (place_at l p) m.header.kind m.header.encoding m.header.sequence, LineCursor.Field l c p m.cursor)
+  next_set l c p (refused n place) = (Line.SetBad (place_at l p) n place, LineCursor.Message l c)
 
-  abbrev pub set_step : Listed → MessageCursor → MessagePlace → LineStep
+  abbrev pub set_step : Listed → MessageCursor → MessagePlace → Line × LineCursor
   set_step l c p = next_set l c p (message_at (types_at l p) (bytes_at p))
 
-  abbrev pub next_message : Listed → Answer PlaceStepped → LineStep
-  next_message l (got x next) = set_step l x.cursor x.place
-  next_message l (refused n place) = LineStep.None
+  abbrev pub next_message : Listed → Answer PlaceStepped → Option (Line × LineCursor)
+  next_message l (got x next) = Some (set_step l x.cursor x.place)
+  next_message l (refused n place) = None
 
-  abbrev pub message_step : Listed → MessageCursor → LineStep
+  abbrev pub message_step : Listed → MessageCursor → Option (Line × LineCursor)
   message_step l c = next_message l (place_step_at l.payload w.sizes c d)
 
-  abbrev pub next_field : Listed → MessageCursor → MessagePlace → Answer FieldStepped → LineStep
-  next_field l c p (got x next) = LineStep.Is (Line.Field p.index (in_datagram p x.field)) (LineCursor.Field l c p x.cursor)
+  abbrev pub next_field : Listed → MessageCursor → MessagePlace → Answer FieldStepped → Option (Line × LineCursor)
+  next_field l c p (got x next) = Some (Line.Field p.index (in_datagram p x.field), LineCursor.Field l c p x.cursor)
   next_field l c p (refused n place) = message_step l c
 
-  abbrev pub field_step : Listed → MessageCursor → MessagePlace → Cursor → LineStep
+  abbrev pub field_step : Listed → MessageCursor → MessagePlace → Cursor → Option (Line × LineCursor)
   field_step l c p f = next_field l c p (next_field_at f (types_at l p) (bytes_at p))
 
-  abbrev pub next_line : LineCursor → LineStep
-  next_line (LineCursor.Bad n place) = LineStep.Is (Line.Bad n place) LineCursor.End
-  next_line (LineCursor.Net l) = LineStep.Is (net_line l) (LineCursor.Message l (first_message l))
+  abbrev pub next_line : LineCursor → Option (Line × LineCursor)
+  next_line (LineCursor.Bad n place) = Some (Line.Bad n place, LineCursor.End)
+  next_line (LineCursor.Net l) = Some (net_line l, LineCursor.Message l (first_message l))
   next_line (LineCursor.Message l c) = message_step l c
   next_line (LineCursor.Field l c p f) = field_step l c p f
-  next_line LineCursor.End = LineStep.None
+  next_line LineCursor.End = None
 
   -- the cursor k lines on; after the last line it stays
-  abbrev pub after_step : LineCursor → (LineCursor → LineCursor) → LineStep → LineCursor
-  after_step c more (LineStep.Is x next) = more next
-  after_step c more LineStep.None = c
+  abbrev pub after_step : LineCursor → (LineCursor → LineCursor) → Option (Line × LineCursor) → LineCursor
+  after_step c more (Some (x, next)) = more next
+  after_step c more None = c
 
   abbrev pub cursor_after : ℕ → LineCursor → LineCursor
   cursor_after zero c = c
   cursor_after (suc k) c = after_step c (cursor_after k) (next_line c)
 
   -- what a step says of the lines that are left: the first, and those after it; or that there is none
-  abbrev pub step_lines : LineStep → List Line
-  step_lines (LineStep.Is x c) = x ∷ lines_from c
-  step_lines LineStep.None = []
+  abbrev pub step_lines : Option (Line × LineCursor) → List Line
+  step_lines (Some (x, c)) = x ∷ lines_from c
+  step_lines None = []
 
 -- the cursor before the first line: of a refused configuration (its number is not 0), or else of the datagram
 abbrev pub start_by : Answer NetworkMessage → LineCursor
@@ -193,4 +170,4 @@ listing_of number place w d = cond (eqb number 0) (datagram_lines w d) (Line.Bad
 
 -- the listing of datagram d under a configuration text
 abbrev pub listing : List ℕ → List ℕ → List Line
-listing text d = listing_of (config_of text).number (config_of text).place (writers_of (config_of text).config) d
+listing text d = listing_of (config_number (config_of text)) (place_in (config_of text)) (writers_of (config_in (config_of text))) d

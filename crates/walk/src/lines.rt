@@ -1,21 +1,21 @@
 // The lines of a listing in their order, by a cursor that steps from one to the next.
-ghost use Rattle.std.specs.Prelude.{◌≡◌, ℕ, List};
-ghost use Rattle.walk.specs.Lines.{writers, listed_of, start_cursor, set_step, message_step, field_step, next_line};
+ghost use Rattle.std.specs.Prelude.{◌≡◌};
+ghost use Rattle.config.specs.Writers.{lists_in};
+ghost use Rattle.walk.specs.Lines.{listed_of, start_cursor, set_step, message_step, field_step, next_line};
 
 use crate::entry::{Line, SetPlace};
-use config::types_of;
-use dataset_fields::fields::{Cursor, Field, FieldStep};
-use dataset_message::message::{MessageRead, read};
+use config::WriterLists;
+use dataset_fields::fields::{Cursor, Field};
+use dataset_message::message::read;
 use network_header::envelope::{Envelope, Places};
 use network_header::header::PayloadHeader;
-use network_message::envelope::NetworkMessageRead;
-use network_message::payload::{MessageCursor, MessagePlace, MessageStep, Payload};
+use network_message::payload::{MessageCursor, MessagePlace, Payload};
 use network_message::writer_id::writer_id;
 use publisher_id::publisher::PublisherId;
 use wire::part::part;
 
 // What the listing needs of an accepted datagram: its PublisherId and PayloadHeader with the positions where they end, and its messages.
-#[derive(Clone, Copy)]
+#[derive(Clone, Copy, PartialEq, Eq, Debug)]
 pub struct Listed {
     pub publisher: PublisherId,
     pub publisher_end: usize,
@@ -26,7 +26,7 @@ pub struct Listed {
 
 // A cursor over the lines: before the one line of a refusal, before the `net` line, before a message, or before a field of the message in a
 // place; the message cursor stands before the message after it.
-#[derive(Clone, Copy)]
+#[derive(Clone, Copy, PartialEq, Eq, Debug)]
 pub enum LineCursor {
     Bad(u8, usize),
     Net(Listed),
@@ -35,22 +35,13 @@ pub enum LineCursor {
     End,
 }
 
-// The line that the cursor stands before, and the cursor before the next one.
-#[derive(Clone, Copy)]
-pub enum LineStep {
-    Is(Line, LineCursor),
-    None,
-}
-
 fn listed_of(envelope: Envelope, places: Places, payload: Payload) -> Listed
     ensures { result ≡ listed_of (record { envelope = envelope; places = places; payload = payload }) }
 {
-    let publisher = envelope.publisher;
-    let header = envelope.payload_header;
     Listed {
-        publisher,
+        publisher: envelope.publisher,
         publisher_end: places.publisher_end,
-        header,
+        header: envelope.payload_header,
         header_end: places.payload_header_end,
         payload,
     }
@@ -65,142 +56,93 @@ pub fn start(s: &[u8], number: u8, place: usize, sizes: &[u16]) -> LineCursor
         return LineCursor::Bad(number, place);
     }
     match network_message::envelope::read(s, sizes) {
-        NetworkMessageRead::Refused(n, at) => LineCursor::Bad(n, at),
-        NetworkMessageRead::Is(envelope, places, payload) => {
-            let l = listed_of(envelope, places, payload);
-            LineCursor::Net(l)
-        }
+        Err(r) => LineCursor::Bad(r.reason.number(), r.place),
+        Ok((envelope, places, payload)) => LineCursor::Net(listed_of(envelope, places, payload)),
     }
 }
 
-// The `set` line of the message in a place; the message cursor stands after it.
-fn set_line<'a>(
+// The `set` line of the message in a place, and the cursor before the next line; the message cursor stands after it.
+fn set_line(
     s: &[u8],
-    ids: &'a [u16],
-    starts: &'a [u8],
-    types: &'a [u8],
+    w: WriterLists<'_>,
     l: Listed,
     after: MessageCursor,
     p: MessagePlace,
-) -> LineStep
-    ensures { (sizes : List ℕ)
-        → result ≡ set_step (writers ids.now sizes starts.now types.now) s.now l after p }
+) -> (Line, LineCursor)
+    ensures { result ≡ set_step (lists_in w.entry) s.now l after p }
 {
-    let header = l.header;
-    let writer = writer_id(s, header, l.header_end, ids, p.index);
+    let writer = writer_id(s, l.header, l.header_end, w.ids, p.index);
     let place = SetPlace {
         message: p.index,
         writer,
         offset: p.offset,
         length: p.length,
     };
-    let bytes = part(s, p.offset, p.length);
-    match read(bytes, types_of(ids, starts, types, writer)) {
-        MessageRead::NotValid => LineStep::Is(
-            Line::SetInvalid(place),
-            LineCursor::Message(l, after),
+    let after_set = LineCursor::Message(l, after);
+    match read(part(s, p.offset, p.length), w.types_of(writer)) {
+        Err(r) => (Line::SetBad(place, r.reason.number(), r.place), after_set),
+        Ok(None) => (Line::SetInvalid(place), after_set),
+        Ok(Some((h, fields, _))) => (
+            Line::Set(place, h.kind, h.encoding, h.sequence),
+            LineCursor::Field(l, after, p, fields),
         ),
-        MessageRead::Refused(n, at) => LineStep::Is(
-            Line::SetBad(place, n, at),
-            LineCursor::Message(l, after),
-        ),
-        MessageRead::Is(h, fields, _) => {
-            let kind = h.kind;
-            let encoding = h.encoding;
-            let sequence = h.sequence;
-            LineStep::Is(
-                Line::Set(place, kind, encoding, sequence),
-                LineCursor::Field(l, after, p, fields),
-            )
-        }
     }
 }
 
 // The `set` line of the message that a cursor stands before.
-fn message_line<'a>(
+fn message_line(
     s: &[u8],
-    ids: &'a [u16],
-    sizes: &[u16],
-    starts: &'a [u8],
-    types: &'a [u8],
+    w: WriterLists<'_>,
     l: Listed,
     c: MessageCursor,
-) -> LineStep
-    ensures { let w = writers ids.now sizes.now starts.now types.now in
-        result ≡ message_step w s.now l c }
+) -> Option<(Line, LineCursor)>
+    ensures { result ≡ message_step (lists_in w.entry) s.now l c }
 {
-    let payload = l.payload;
-    match c.step(s, payload, sizes) {
-        MessageStep::Refused(_, _) => LineStep::None,
-        MessageStep::Is(p, after) => set_line(s, ids, starts, types, l, after, p),
-    }
+    let (p, after) = c.step(s, l.payload, w.sizes).ok()?;
+    Some(set_line(s, w, l, after, p))
 }
 
 // The line of the field that a cursor stands before, or else of the next message.
-fn field_line<'a>(
+fn field_line(
     s: &[u8],
-    ids: &'a [u16],
-    sizes: &[u16],
-    starts: &'a [u8],
-    types: &'a [u8],
+    w: WriterLists<'_>,
     l: Listed,
     c: MessageCursor,
     p: MessagePlace,
     f: Cursor,
-) -> LineStep
-    ensures { let w = writers ids.now sizes.now starts.now types.now in
-        result ≡ field_step w s.now l c p f }
+) -> Option<(Line, LineCursor)>
+    ensures { result ≡ field_step (lists_in w.entry) s.now l c p f }
 {
-    let header = l.header;
-    let writer = writer_id(s, header, l.header_end, ids, p.index);
-    let bytes = part(s, p.offset, p.length);
-    match f.step(bytes, types_of(ids, starts, types, writer)) {
-        FieldStep::Refused(_, _) => message_line(s, ids, sizes, starts, types, l, c),
-        FieldStep::Is(x, next) => {
-            let shape = x.shape;
-            let field = Field {
-                index: x.index,
-                kind: x.kind,
-                shape,
-                offset: p.offset + x.offset,
-                length: x.length,
-            };
-            LineStep::Is(
-                Line::Field(p.index, field),
-                LineCursor::Field(l, c, p, next),
-            )
-        }
-    }
+    let writer = writer_id(s, l.header, l.header_end, w.ids, p.index);
+    let Ok((x, next)) = f.step(part(s, p.offset, p.length), w.types_of(writer)) else {
+        return message_line(s, w, l, c);
+    };
+    let field = Field {
+        offset: p.offset + x.offset,
+        ..x
+    };
+    Some((
+        Line::Field(p.index, field),
+        LineCursor::Field(l, c, p, next),
+    ))
 }
 
-// The line that a cursor stands before, and the cursor before the next one.
-pub fn next_line<'a>(
-    s: &[u8],
-    ids: &'a [u16],
-    sizes: &[u16],
-    starts: &'a [u8],
-    types: &'a [u8],
-    cursor: LineCursor,
-) -> LineStep
-    ensures { let w = writers ids.now sizes.now starts.now types.now in
-        result ≡ next_line w s.now cursor }
+// The line that a cursor stands before, and the cursor before the next one; none where no line is left.
+pub fn next_line(s: &[u8], w: WriterLists<'_>, cursor: LineCursor) -> Option<(Line, LineCursor)>
+    ensures { result ≡ next_line (lists_in w.entry) s.now cursor }
 {
     match cursor {
-        LineCursor::Bad(n, place) => LineStep::Is(Line::Bad(n, place), LineCursor::End),
+        LineCursor::Bad(n, place) => Some((Line::Bad(n, place), LineCursor::End)),
         LineCursor::Net(l) => {
-            let id = l.publisher;
-            let payload = l.payload;
             let first = MessageCursor {
                 index: 0,
-                at: payload.first,
+                at: l.payload.first,
             };
-            LineStep::Is(
-                Line::Net(s.len(), id, l.publisher_end, payload.count),
-                LineCursor::Message(l, first),
-            )
+            let net = Line::Net(s.len(), l.publisher, l.publisher_end, l.payload.count);
+            Some((net, LineCursor::Message(l, first)))
         }
-        LineCursor::Message(l, c) => message_line(s, ids, sizes, starts, types, l, c),
-        LineCursor::Field(l, c, p, f) => field_line(s, ids, sizes, starts, types, l, c, p, f),
-        LineCursor::End => LineStep::None,
+        LineCursor::Message(l, c) => message_line(s, w, l, c),
+        LineCursor::Field(l, c, p, f) => field_line(s, w, l, c, p, f),
+        LineCursor::End => None,
     }
 }

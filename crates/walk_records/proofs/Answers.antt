@@ -21,7 +21,6 @@ use Rattle.network_header.specs.declared.header.PayloadHeader.{PayloadHeader}
 use Rattle.network_message.specs.declared.payload.Payload.{Payload}
 use Rattle.network_message.specs.declared.payload.Sizes.{Sizes}
 use Rattle.walk.specs.Lines.{Writers, listed_of, first_message, messages_left}
-use Rattle.walk_records.specs.declared.Walked.{Walked}
 use Rattle.walk_records.specs.Walk.{records_put, payload_records, walk_records, walk_of}
 use Rattle.walk_records.specs.Parts.{bare, RecordsPut}
 use Rattle.walk_records.proofs.Messages.{bare_same}
@@ -97,12 +96,12 @@ few_messages sizes s m n e = go (ltb 65535 (length s)) refl
 
 -- ---- the answers
 module _ (w : Writers) (d out : List ℕ) where
-  pub walk_refused : (n place : ℕ) → refused n place ≡ network_message_at w.sizes d → (Walked.Refused n place ≡ walk_of w d) × (out ≡ records_put 0 (walk_records w d) out)
+  pub walk_refused : (n place : ℕ) → refused n place ≡ network_message_at w.sizes d → (refused n place ≡ walk_of w d) × (out ≡ records_put 0 (walk_records w d) out)
   walk_refused n place q = rw (sym q) (refl, refl)
 
   pub walk_done : (m : NetworkMessage) (n k : ℕ) (e : List ℕ) → got m n ≡ network_message_at w.sizes d
       → RecordsPut (payload_records w d (bare m.envelope.payload_header m.places.payload_header_end m.payload)) 0 k out e
-      → (Walked.Is k ≡ walk_of w d) × (e ≡ records_put 0 (walk_records w d) out)
+      → (got k 0 ≡ walk_of w d) × (e ≡ records_put 0 (walk_records w d) out)
   walk_done m n k e q r =
       let s = bare_same w d (messages_left (listed_of m) (first_message (listed_of m))) (listed_of m) (first_message (listed_of m)) in
-      rw (sym q) (ap Walked.Is (r.number ∙ zero-add _ ∙ ap length s), r.buffer ∙ ap (λ t. records_put 0 t out) s)
+      rw (sym q) (ap (λ (x : ℕ). got x 0) (r.number ∙ zero-add _ ∙ ap length s), r.buffer ∙ ap (λ t. records_put 0 t out) s)

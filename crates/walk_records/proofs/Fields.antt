@@ -1,5 +1,6 @@
 -- The records of a message's fields, step by step: what the loops over them keep, and how many there are at most.
 -- Assumes nothing.
+use Rattle.std.specs.Prelude.{Ok, Err}
 use Prim.Native.Nat.{ℕ, zero, suc, ◌+◌, ◌*◌, ◌-◌, ◌≤◌, ◌<◌}
 use mathlib.Core.Path.{◌≡◌, refl, ap, sym, ◌∙◌}
 use mathlib.Core.Bool.{Bool, true, false, cond}
@@ -22,7 +23,8 @@ use Rattle.dataset_fields.proofs.Inside.{field_inside, index_within}
 use Rattle.walk.specs.Lines.{in_datagram, fields_left}
 use Rattle.walk_records.specs.Walk.{field_record, field_then, fields_from, record_laid, records_put}
 use Rattle.walk_records.specs.Parts.{FieldsPut}
-use Rattle.walk_records.specs.declared.FieldsWalked.{FieldsWalked}
+use Rattle.wire.specs.Refusal.{reason_number}
+use Rattle.wire.specs.declared.refusal.Refusal.{Refusal}
 use Rattle.walk_records.proofs.Records.{all_put, one_put}
 
 length_laid : (l : List ℕ) (at : ℕ) (b : List ℕ) → length (laid l at b) ≡ length l
@@ -136,13 +138,13 @@ module _ (types s : List ℕ) (p : MessagePlace) (c : Cursor) (first : ℕ) (ent
   going_start = record { long = refl; answer = refl; buffer = refl; number = refl }
 
   module _ (out : List ℕ) (at i k : ℕ) (g : Going types s p c first entry out at i k) where
-    pub going_refused : {n place : ℕ} → i < c.count → field_at c.delta c.encoding types i s at ≡ refused n place
-        → FieldsPut types s p c first (FieldsWalked.Refused k n place) entry out
-    going_refused l q =
+    pub going_refused : (r : Refusal) → i < c.count → field_at c.delta c.encoding types i s at ≡ refused (reason_number r.reason) r.place
+        → FieldsPut types s p c first (k, Err r) entry out
+    going_refused r l q =
         let a = all_put (fields_from types s p (c.count - i) (cursor_before c i at)) k out _ _ g.buffer g.number (fields_none types s p (cursor_before c i at) _ _ q) in
         record { answer = sym (reads_none types s c i at l q) ∙ g.answer; number = a.0; buffer = a.1 }
 
-    pub going_end : c.count ≤ i → FieldsPut types s p c first (FieldsWalked.To k at) entry out
+    pub going_end : c.count ≤ i → FieldsPut types s p c first (k, Ok at) entry out
     going_end h =
         let a = all_put (fields_from types s p (c.count - i) (cursor_before c i at)) k out _ _ g.buffer g.number (fields_end types s p (cursor_before c i at) h) in
         record { answer = sym (reads_end types s c i at h) ∙ g.answer; number = a.0; buffer = a.1 }

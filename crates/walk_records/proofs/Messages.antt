@@ -1,5 +1,6 @@
 -- The records of a datagram's messages, and how many there are at most.
 -- Assumes nothing.
+use Rattle.std.specs.Prelude.{Option, Result, Ok, Err}
 use Prim.Native.Nat.{ℕ, zero, suc, ◌+◌, ◌-◌, ◌≤◌}
 use mathlib.Core.Path.{◌≡◌, refl, ap, sym, subst, ◌∙◌}
 use mathlib.Core.Bool.{Bool, true, false}
@@ -10,8 +11,7 @@ use lib.Dec.{leb}
 use lib.ListN.{length, take, drop, length-append, length-take, length-drop}
 use Rattle.wire.specs.Answer.{Answer, got, refused, and_then}
 use Rattle.wire.proofs.Reading.{got_value, got_next, not_got, invert}
-use Rattle.wire.specs.declared.optional.Optional16.{Optional16}
-use Rattle.config.specs.Writers.{types_of}
+use Rattle.config.specs.Writers.{types_by}
 use Rattle.network_message.specs.Payload.{PlaceStepped, place_step_at, size_of_message, place_of_message}
 use Rattle.network_message.specs.declared.payload.Payload.{Payload}
 use Rattle.network_message.specs.declared.payload.MessagePlace.{MessagePlace}
@@ -26,36 +26,20 @@ use Rattle.dataset_message.proofs.Fronts.{front_decides}
 use Rattle.walk.specs.Lines.{Writers, fields_left, messages_left, first_message, writer_at, types_at, bytes_at}
 use Rattle.walk.specs.declared.lines.Listed.{Listed}
 use Rattle.walk_records.specs.Walk.{or_none, message_record, fields_from, set_place, fields_by, encoding_by, message_record_by, message_records, message_then, messages_from, payload_records, record_laid, records_put}
-use Rattle.walk_records.specs.Parts.{set_from, bare, FieldsPut, RestPut, RecordsPut, opened_records}
-use Rattle.walk_records.specs.declared.FieldsWalked.{FieldsWalked}
+use Rattle.walk_records.specs.Parts.{set_from, bare, RestPut, RecordsPut, opened_records}
+use Rattle.wire.specs.Refusal.{reason_number}
+use Rattle.wire.specs.declared.refusal.Refusal.{Refusal}
 use Rattle.walk_records.proofs.Records.{some_put, put_last}
 use Rattle.walk_records.proofs.Fields.{fields_few}
 
 -- ---- what is ensured of an answer, at the constructor that it turned out to be
-module _ {types s : List ℕ} {p : MessagePlace} {c : Cursor} {k : ℕ} {entry exit : List ℕ} {x y : FieldsWalked} where
-  pub fields_told : FieldsPut types s p c k x entry exit → x ≡ y → FieldsPut types s p c k y entry exit
-  fields_told f q = subst (λ (r : FieldsWalked). FieldsPut types s p c k r entry exit) q f
-
-  pub rest_told : RestPut types s p c k x entry exit → x ≡ y → RestPut types s p c k y entry exit
-  rest_told f q = subst (λ (r : FieldsWalked). RestPut types s p c k r entry exit) q f
+module _ {types s : List ℕ} {p : MessagePlace} {c : Cursor} {k n : ℕ} {entry exit : List ℕ} {x y : Result ℕ Refusal} where
+  pub rest_told : RestPut types s p c k (n, x) entry exit → x ≡ y → RestPut types s p c k (n, y) entry exit
+  rest_told f q = subst (λ (r : Result ℕ Refusal). RestPut types s p c k (n, r) entry exit) q f
 
 -- ---- the fields and the padding
 abbrev with_padding : List ℕ → Answer (Unit {0}) → Answer (Unit {0})
 with_padding s x = and_then x (λ _ end. and_then (padding_at s end) (λ _ z. got tt end))
-
-module _ (types s : List ℕ) (p : MessagePlace) (c : Cursor) (k : ℕ) (entry exit : List ℕ) where
-  pub rest_short : (next n place : ℕ) → FieldsPut types s p c k (FieldsWalked.Refused next n place) entry exit → RestPut types s p c k (FieldsWalked.Refused next n place) entry exit
-  rest_short next n place f = record { answer = ap (with_padding s) f.answer; number = f.number; buffer = f.buffer }
-
-  pub rest_refused : (next end n place : ℕ) → FieldsPut types s p c k (FieldsWalked.To next end) entry exit → refused n place ≡ padding_at s end
-      → RestPut types s p c k (FieldsWalked.Refused next n place) entry exit
-  rest_refused next end n place f q =
-      record { answer = ap (λ (x : Answer (Unit {0})). and_then x (λ _ z. got tt end)) q ∙ ap (with_padding s) f.answer; number = f.number; buffer = f.buffer }
-
-  pub rest_done : (next end z : ℕ) → FieldsPut types s p c k (FieldsWalked.To next end) entry exit → got tt z ≡ padding_at s end
-      → RestPut types s p c k (FieldsWalked.To next end) entry exit
-  rest_done next end z f q =
-      record { answer = ap (λ (x : Answer (Unit {0})). and_then x (λ _ z. got tt end)) q ∙ ap (with_padding s) f.answer; number = f.number; buffer = f.buffer }
 
 -- ---- a message that was read up to its first field
 module _ (types s : List ℕ) (h : Header) (c : Cursor) where
@@ -81,7 +65,7 @@ module _ (types s : List ℕ) (h : Header) (c : Cursor) where
       let n : c.count - c.next ≡ c.count = omega arith in
       ended (fields_at c.delta c.encoding types c.count 0 s c.at) (rw (n, z) at q)
 
-module _ (types s : List ℕ) (p : MessagePlace) (w : Optional16) (h : Header) (c : Cursor) (k : ℕ) (entry mid exit : List ℕ) (z : c.next ≡ 0) where
+module _ (types s : List ℕ) (p : MessagePlace) (w : Option ℕ) (h : Header) (c : Cursor) (k : ℕ) (entry mid exit : List ℕ) (z : c.next ≡ 0) where
   abbrev fs : List (List ℕ)
   fs = fields_from types s p (fields_left c) c
 
@@ -93,16 +77,17 @@ module _ (types s : List ℕ) (p : MessagePlace) (w : Optional16) (h : Header) (
         buffer = q ∙ ap (record_laid k x) b ∙ put_last fs x entry k (k + 1) n (omega arith) ∙ ap (λ (t : List ℕ). records_put (k + 1) fs (record_laid k t entry)) e;
       }
 
-  pub refused_last : (next n place told b : ℕ) → RestPut types s p c (k + 1) (FieldsWalked.Refused next n place) entry mid → told ≡ next - (k + 1) → b ≡ encoding_number h.encoding
-      → exit ≡ record_laid k (message_record (set_place [] [] p w) 3 n place told b) mid → RecordsPut (opened_records types s p w h c) k next entry exit
-  refused_last next n place told b r t e q =
-      let m : end_at h c types s ≡ refused n place = message_ends types s h c z r.answer in
-      let i : told ≡ length fs = omega (arith, r.number) in
-      let same : message_record (set_place [] [] p w) 3 n place told b ≡ message_record (set_place [] [] p w) 3 n place (length fs) (encoding_number h.encoding) =
-      ap (λ (x : ℕ). message_record (set_place [] [] p w) 3 n place x b) i ∙ ap (message_record (set_place [] [] p w) 3 n place (length fs)) e in
-      rw m (last_put _ _ next refl same r.number r.buffer q)
+  pub refused_last : (next : ℕ) (r : Refusal) (told b : ℕ) → RestPut types s p c (k + 1) (next, Err r) entry mid → told ≡ next - (k + 1) → b ≡ encoding_number h.encoding
+      → exit ≡ record_laid k (message_record (set_place [] [] p w) 3 (reason_number r.reason) r.place told b) mid → RecordsPut (opened_records types s p w h c) k next entry exit
+  refused_last next r told b f t e q =
+      let n = reason_number r.reason in
+      let m : end_at h c types s ≡ refused n r.place = message_ends types s h c z f.answer in
+      let i : told ≡ length fs = omega (arith, f.number) in
+      let same : message_record (set_place [] [] p w) 3 n r.place told b ≡ message_record (set_place [] [] p w) 3 n r.place (length fs) (encoding_number h.encoding) =
+      ap (λ (x : ℕ). message_record (set_place [] [] p w) 3 n r.place x b) i ∙ ap (message_record (set_place [] [] p w) 3 n r.place (length fs)) e in
+      rw m (last_put _ _ next refl same f.number f.buffer q)
 
-  pub done_last : (next end a b x : ℕ) → RestPut types s p c (k + 1) (FieldsWalked.To next end) entry mid → a ≡ kind_number h.kind → b ≡ encoding_number h.encoding
+  pub done_last : (next end a b x : ℕ) → RestPut types s p c (k + 1) (next, Ok end) entry mid → a ≡ kind_number h.kind → b ≡ encoding_number h.encoding
       → x ≡ or_none h.sequence → exit ≡ record_laid k (message_record (set_place [] [] p w) 1 a b x 0) mid → RecordsPut (opened_records types s p w h c) k next entry exit
   done_last next end a b x r ka kb kx q =
       let m : end_at h c types s ≡ got (valid (record { header = h; cursor = c; end = end })) end = message_ends types s h c z r.answer in
@@ -112,7 +97,7 @@ module _ (types s : List ℕ) (p : MessagePlace) (w : Optional16) (h : Header) (
       rw m (last_put _ _ next refl same r.number r.buffer q)
 
 -- ---- one message, whose bytes are its own part of the datagram d
-module _ (types d bytes : List ℕ) (p : MessagePlace) (w : Optional16) (k : ℕ) (entry : List ℕ) (b : bytes ≡ take p.length (drop p.offset d)) where
+module _ (types d bytes : List ℕ) (p : MessagePlace) (w : Option ℕ) (k : ℕ) (entry : List ℕ) (b : bytes ≡ take p.length (drop p.offset d)) where
   alone : (x : List ℕ) (exit : List ℕ) → message_records types bytes p w ≡ x ∷ [] → exit ≡ record_laid k x entry → RecordsPut (set_from types p w d) k (k + 1) entry exit
   alone x exit s q = rw (sym b, s) (record { number = refl; buffer = q })
 
@@ -144,7 +129,7 @@ fields_by_few types s p (got not_valid next) = omega arith
 fields_by_few types s p (got (valid m) next) = let i = fields_few types s p (fields_left m.cursor) m.cursor in omega arith
 fields_by_few types s p (refused n place) = omega arith
 
-records_few : (types s : List ℕ) (p : MessagePlace) (w : Optional16) → length (message_records types s p w) ≤ 1 + length s
+records_few : (types s : List ℕ) (p : MessagePlace) (w : Option ℕ) → length (message_records types s p w) ≤ 1 + length s
 records_few types s p w =
     one_more (message_record_by (set_place types s p w) (length (fields_by types s p (front_at types s))) (encoding_by types s p (front_at types s)) (message_at types s))
     (fields_by types s p (front_at types s)) (length s) (fields_by_few types s p (front_at types s))
@@ -187,12 +172,12 @@ module _ (w : Writers) (d : List ℕ) where
   unfolding messages_from
   messages_more l c x n e = rw ((passed l c x n e).left, e)
 
-  messages_by : (l : Listed) (c : MessageCursor) (x : PlaceStepped) (n : ℕ) (v : Optional16) (types : List ℕ) → message_of l c ≡ got x n
-      → v ≡ writer_at w d l x.place → types ≡ types_of w.ids w.starts w.types v
+  messages_by : (l : Listed) (c : MessageCursor) (x : PlaceStepped) (n : ℕ) (v : Option ℕ) (types : List ℕ) → message_of l c ≡ got x n
+      → v ≡ writer_at w d l x.place → types ≡ types_by w v
       → messages_from w d (messages_left l c) l c ≡ set_from types x.place v d ++ messages_from w d (messages_left l x.cursor) l x.cursor
   messages_by l c x n v types e q r =
       let s : set_from types x.place v d ≡ set_from (types_at w d l x.place) x.place (writer_at w d l x.place) d =
-      ap (λ (t : List ℕ). set_from t x.place v d) r ∙ ap (λ (o : Optional16). set_from (types_of w.ids w.starts w.types o) x.place o d) q in
+      ap (λ (t : List ℕ). set_from t x.place v d) r ∙ ap (λ (o : Option ℕ). set_from (types_by w o) x.place o d) q in
       messages_more l c x n e ∙ ap (λ (t : List (List ℕ)). t ++ messages_from w d (messages_left l x.cursor) l x.cursor) (sym s)
 
   pub messages_none : (l : Listed) (c : MessageCursor) (n place : ℕ) → message_of l c ≡ refused n place → messages_from w d (messages_left l c) l c ≡ []
@@ -244,8 +229,8 @@ module _ (w : Writers) (d : List ℕ) where
   message_fits l k u e h b = omega (arith, messages_few l (messages_left l (first_message l)) (first_message l))
 
   -- one message more is put
-  pub message_put : (l : Listed) (c next : MessageCursor) (p : MessagePlace) (v : Optional16) (types : List ℕ) (k j n all : ℕ) (out e r : List ℕ)
-      → got (record { place = p; cursor = next }) n ≡ message_of l c → v ≡ writer_at w d l p → types ≡ types_of w.ids w.starts w.types v
+  pub message_put : (l : Listed) (c next : MessageCursor) (p : MessagePlace) (v : Option ℕ) (types : List ℕ) (k j n all : ℕ) (out e r : List ℕ)
+      → got (record { place = p; cursor = next }) n ≡ message_of l c → v ≡ writer_at w d l p → types ≡ types_by w v
       → records_put k (messages_from w d (messages_left l c) l c) out ≡ r → k + length (messages_from w d (messages_left l c) l c) ≡ all
       → RecordsPut (set_from types p v d) k j out e
       → (records_put j (messages_from w d (messages_left l next) l next) e ≡ r) × (j + length (messages_from w d (messages_left l next) l next) ≡ all)

@@ -1,7 +1,8 @@
 -- The parts of a walk that its functions speak of.
-use Rattle.std.specs.Prelude.{ℕ, ◌+◌, ◌≤◌, ◌≡◌, List, length, take, drop}
-use Rattle.wire.specs.Answer.{Answer, got, refused, and_then}
-use Rattle.wire.specs.declared.optional.Optional16.{Optional16}
+use Rattle.std.specs.Prelude.{ℕ, ◌+◌, ◌≤◌, ◌≡◌, List, length, take, drop, Option, Result}
+use Rattle.wire.specs.Answer.{got, and_then}
+use Rattle.wire.specs.Refusal.{answer_to}
+use Rattle.wire.specs.declared.refusal.Refusal.{Refusal}
 use Rattle.publisher_id.specs.declared.publisher.PublisherId.{PublisherId}
 use Rattle.network_header.specs.declared.header.PayloadHeader.{PayloadHeader}
 use Rattle.network_message.specs.declared.payload.Payload.{Payload}
@@ -13,10 +14,9 @@ use Rattle.dataset_message.specs.Message.{end_at, opened_at}
 use Rattle.walk.specs.Lines.{fields_left}
 use Rattle.walk.specs.declared.lines.Listed.{Listed}
 use Rattle.walk_records.specs.Walk.{fields_from, records_by, message_records, records_put}
-use Rattle.walk_records.specs.declared.FieldsWalked.{FieldsWalked}
 
 -- the records of the message in place p of datagram d
-abbrev pub set_from : List ℕ → MessagePlace → Optional16 → List ℕ → List (List ℕ)
+abbrev pub set_from : List ℕ → MessagePlace → Option ℕ → List ℕ → List (List ℕ)
 set_from types p writer d = message_records types (take p.length (drop p.offset d)) p writer
 
 -- a payload, with its PayloadHeader and where that ends; the PublisherId does not matter
@@ -28,27 +28,21 @@ bare header end payload =
 abbrev pub Word : ℕ → Type 0
 Word n = n ≤ 18446744073709551615
 
--- how the fields of a message went, and the number of the record after theirs
-abbrev pub answer_fields : FieldsWalked → Answer (Unit {0})
-answer_fields (FieldsWalked.To next end) = got tt end
-answer_fields (FieldsWalked.Refused next n place) = refused n place
-
-abbrev pub next_record : FieldsWalked → ℕ
-next_record (FieldsWalked.To next end) = next
-next_record (FieldsWalked.Refused next n place) = next
-
--- the fields from the cursor on were read, up to the first that is refused, and their records put from record k on
-pub record FieldsPut (types bytes : List ℕ) (p : MessagePlace) (c : Cursor) (k : ℕ) (r : FieldsWalked) (entry exit : List ℕ) : Type 0 where
-  pub answer : answer_fields r ≡ fields_at c.delta c.encoding types (fields_left c) c.next bytes c.at
-  pub number : next_record r ≡ k + length (fields_from types bytes p (fields_left c) c)
+-- the fields from the cursor on were read, up to the first that is refused, and their records put from record k on; r is the number of the
+-- record after theirs, and how they went
+pub record FieldsPut (types bytes : List ℕ) (p : MessagePlace) (c : Cursor) (k : ℕ) (r : ℕ × Result ℕ Refusal)
+    (entry exit : List ℕ) : Type 0 where
+  pub answer : answer_to (tt {0}) r.1 ≡ fields_at c.delta c.encoding types (fields_left c) c.next bytes c.at
+  pub number : r.0 ≡ k + length (fields_from types bytes p (fields_left c) c)
   pub buffer : exit ≡ records_put k (fields_from types bytes p (fields_left c) c) entry
 
 -- the same of the fields and the padding after them
-pub record RestPut (types bytes : List ℕ) (p : MessagePlace) (c : Cursor) (k : ℕ) (r : FieldsWalked) (entry exit : List ℕ) : Type 0 where
-  pub answer : answer_fields r
+pub record RestPut (types bytes : List ℕ) (p : MessagePlace) (c : Cursor) (k : ℕ) (r : ℕ × Result ℕ Refusal)
+    (entry exit : List ℕ) : Type 0 where
+  pub answer : answer_to (tt {0}) r.1
       ≡ and_then (fields_at c.delta c.encoding types (fields_left c) c.next bytes c.at)
       (λ _ end. and_then (padding_at bytes end) (λ _ z. got tt end))
-  pub number : next_record r ≡ k + length (fields_from types bytes p (fields_left c) c)
+  pub number : r.0 ≡ k + length (fields_from types bytes p (fields_left c) c)
   pub buffer : exit ≡ records_put k (fields_from types bytes p (fields_left c) c) entry
 
 -- the records xs were put from record k on, and record r comes after them
@@ -57,5 +51,5 @@ pub record RecordsPut (xs : List (List ℕ)) (k r : ℕ) (entry exit : List ℕ)
   pub buffer : exit ≡ records_put k xs entry
 
 -- the records of a message that was read up to the cursor before its first field
-abbrev pub opened_records : List ℕ → List ℕ → MessagePlace → Optional16 → Header → Cursor → List (List ℕ)
+abbrev pub opened_records : List ℕ → List ℕ → MessagePlace → Option ℕ → Header → Cursor → List (List ℕ)
 opened_records types bytes p writer h c = records_by types bytes p writer (opened_at h c types bytes) (end_at h c types bytes)

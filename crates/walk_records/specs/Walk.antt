@@ -1,10 +1,11 @@
 -- A datagram walked in one call: a record for each message and field (include/uadp.h, `uadp_walk`).
-use Rattle.std.specs.Prelude.{ℕ, zero, suc, ◌+◌, ◌*◌, List, [], ◌∷◌, ◌++◌, length, replicate}
+use Rattle.std.specs.Prelude.{ℕ, zero, suc, ◌+◌, ◌*◌, List, [], ◌∷◌, ◌++◌, length, replicate, Option, Some, None, Result, Ok, Err}
 use Rattle.dataset_header.specs.Flags.{Valid, not_valid, valid, encoding_number, kind_number}
 use Rattle.records.specs.Sizes.{WALK_SIZE}
 use Rattle.wire.specs.Answer.{Answer, got, refused}
 use Rattle.wire_writer.specs.Store.{laid}
-use Rattle.wire.specs.declared.optional.Optional16.{Optional16}
+use Rattle.wire.specs.Refusal.{reason_number}
+use Rattle.wire.specs.declared.refusal.Refusal.{Refusal}
 use Rattle.network_message.specs.Envelope.{NetworkMessage, network_message_at}
 use Rattle.network_message.specs.Payload.{PlaceStepped, place_step_at}
 use Rattle.network_message.specs.declared.payload.MessagePlace.{MessagePlace}
@@ -20,12 +21,11 @@ use Rattle.walk.specs.declared.lines.Listed.{Listed}
 use Rattle.records.specs.Numbers.{number_bytes}
 use Rattle.value.specs.Value.{dimensions_of}
 use Rattle.message_record.specs.Message.{shape_number, elements_number}
-use Rattle.walk_records.specs.declared.Walked.{Walked}
 
 -- "65536 for none"
-abbrev pub or_none : Optional16 → ℕ
-or_none Optional16.Absent = 65536
-or_none (Optional16.Is v) = v
+abbrev pub or_none : Option ℕ → ℕ
+or_none None = 65536
+or_none (Some v) = v
 
 -- ---- the 10 numbers of a record, in the order of the layout: "0 field, 1 message, 2 message that is not valid, 3 refused message", the
 -- number of the message, and so on
@@ -59,7 +59,7 @@ module _ (types bytes : List ℕ) (p : MessagePlace) where
   fields_from zero c = []
   fields_from (suc left) c = field_then (fields_from left) (next_field_at c types bytes)
 
-  abbrev pub set_place : Optional16 → SetPlace
+  abbrev pub set_place : Option ℕ → SetPlace
   set_place writer = record { message = p.index; writer = writer; offset = p.offset; length = p.length }
 
   -- the fields after its front, and their encoding; none where the front is refused, or the message not valid
@@ -74,11 +74,11 @@ module _ (types bytes : List ℕ) (p : MessagePlace) where
   encoding_by (refused n place) = 0
 
   -- "a message's record is followed by those of its fields; that of a refused message by those of the fields before the fault"
-  abbrev pub records_by : Optional16 → Answer (Valid Message) → Answer (Valid Message) → List (List ℕ)
+  abbrev pub records_by : Option ℕ → Answer (Valid Message) → Answer (Valid Message) → List (List ℕ)
   records_by writer front whole =
       message_record_by (set_place writer) (length (fields_by front)) (encoding_by front) whole ∷ fields_by front
 
-  abbrev pub message_records : Optional16 → List (List ℕ)
+  abbrev pub message_records : Option ℕ → List (List ℕ)
   message_records writer = records_by writer (front_at types bytes) (message_at types bytes)
 
 -- ---- the records of a datagram's messages from the cursor on, each "read alone"
@@ -115,12 +115,17 @@ records_put k [] out = out
 records_put k (x ∷ xs) out = records_put (k + 1) xs (record_laid k x out)
 
 -- "Value: how many there are in all, whatever the room"; a refused datagram is its number and place
-abbrev pub walk_by : List (List ℕ) → Answer NetworkMessage → Walked
-walk_by xs (got m next) = Walked.Is (length xs)
-walk_by xs (refused n place) = Walked.Refused n place
+abbrev pub walk_by : List (List ℕ) → Answer NetworkMessage → Answer ℕ
+walk_by xs (got m next) = got (length xs) 0
+walk_by xs (refused n place) = refused n place
 
-abbrev pub walk_of : Writers → List ℕ → Walked
+abbrev pub walk_of : Writers → List ℕ → Answer ℕ
 walk_of w d = walk_by (walk_records w d) (network_message_at w.sizes d)
+
+-- the same of the code's answer
+abbrev pub answer_walked : Result ℕ Refusal → Answer ℕ
+answer_walked (Ok n) = got n 0
+answer_walked (Err r) = refused (reason_number r.reason) r.place
 
 -- ---- the listing's lines as records: those of a datagram whose messages are all accepted, or not valid (proofs/Accepted.antt)
 

@@ -7,50 +7,32 @@ ghost use Rattle.wire_writer.specs.Store.{laid};
 ghost use Rattle.dataset_header.specs.declared.flags.Encoding.{Encoding};
 ghost use Rattle.records.specs.Numbers.{number_bytes};
 ghost use Rattle.records.specs.Sizes.{WALK_SIZE};
-ghost use Rattle.walk.specs.Lines.{writers, in_datagram};
-ghost use Rattle.walk_records.specs.Walk.{or_none, field_record, message_record, set_place, record_laid, records_put, payload_records, walk_records, walk_of};
+ghost use Rattle.config.specs.Writers.{lists_in};
+ghost use Rattle.walk.specs.Lines.{in_datagram};
+ghost use Rattle.walk_records.specs.Walk.{or_none, field_record, message_record, set_place, record_laid, records_put, payload_records, walk_records, walk_of, answer_walked};
 ghost use Rattle.walk_records.specs.Parts.{set_from, opened_records, bare, Word, FieldsPut, RestPut, RecordsPut};
 
-use config::types_of;
-use dataset_fields::fields::{Cursor, Field, FieldRead, padding};
-use dataset_fields::quick::{data_value_field, raw_field, variant_field};
+use config::WriterLists;
+use dataset_fields::fields::{Cursor, Field, padding};
+use dataset_fields::values::{DataValues, RawData, Values, Variants};
 use dataset_header::flags::Encoding;
 use dataset_header::header::Header;
-use dataset_message::message::{MessageRead, front};
+use dataset_message::message::front;
 use message_record::message::{elements_number, encoding_number, kind_number, shape_number};
 use network_header::header::PayloadHeader;
-use network_message::envelope::NetworkMessageRead;
-use network_message::payload::{MessageCursor, MessagePlace, MessageStep, Payload};
+use network_message::payload::{MessageCursor, MessagePlace, Payload};
 use network_message::writer_id::writer_id;
 use records::numbers::put_numbers;
 use records::sizes::WALK_SIZE;
-use value::{Shape, dimensions};
-use wire::Reached;
-use wire::optional::Optional16;
+use value::dimensions;
 use wire::part::part;
-
-// How many records there are in all, or the datagram's refusal.
-#[derive(Clone, Copy)]
-pub enum Walked {
-    Is(usize),
-    Refused(u8, usize),
-}
-
-// How a message's fields went: the number of the record after theirs, and where they end or the refusal of the first that is refused.
-#[derive(Clone, Copy)]
-pub enum FieldsWalked {
-    To(usize, usize),
-    Refused(usize, u8, usize),
-}
+use wire::refusal::Refusal;
 
 // A number of 2 bytes, 65536 for none.
-fn or_none(x: Optional16) -> u64
+fn or_none(x: Option<u16>) -> u64
     ensures { result ≡ or_none x }
 {
-    match x {
-        Optional16::Absent => 65536,
-        Optional16::Is(v) => v as u64,
-    }
+    x.map_or(65536, |v| v as u64)
 }
 
 // Puts record k, which has 10 numbers, where it fits whole.
@@ -71,17 +53,16 @@ fn put_field(out: &mut [u8], k: usize, p: MessagePlace, f: Field)
     requires { Word (p.offset + f.offset) }
     ensures { out.new ≡ record_laid k (field_record p.index (in_datagram p f)) out.old }
 {
-    let shape: Shape = f.shape;
     let numbers = [
         0,
         p.index as u64,
         f.index as u64,
         f.kind as u64,
-        shape_number(shape),
-        elements_number(shape),
+        shape_number(f.shape),
+        elements_number(f.shape),
         (p.offset + f.offset) as u64,
         f.length as u64,
-        dimensions(shape) as u64,
+        dimensions(f.shape) as u64,
         0,
     ];
     put_record(out, k, &numbers);
@@ -92,7 +73,7 @@ fn put_message(
     out: &mut [u8],
     k: usize,
     p: MessagePlace,
-    writer: Optional16,
+    writer: Option<u16>,
     what: u64,
     a: u64,
     b: u64,
@@ -116,97 +97,32 @@ fn put_message(
     put_record(out, k, &numbers);
 }
 
-// Puts the records of a message's fields from the cursor on, the first as record `first`: Variants.
-fn walk_variants(
+// Puts the records of a message's fields from the cursor on, the first as record `first`: the number of the record after theirs, and where
+// they end or the refusal of the first that is refused.
+fn walk_each<V: Values>(
     out: &mut [u8],
     first: usize,
     message: &[u8],
     types: &[u8],
     p: MessagePlace,
     c: Cursor,
-) -> FieldsWalked
-    requires { Word (first + length message.now) × Word (p.offset + length message.now) × (c.encoding ≡ Encoding.Variant) }
+) -> (usize, Result<usize, Refusal>)
+    requires { Word (first + length message.now) × Word (p.offset + length message.now) × (c.encoding ≡ V.ENCODING) }
     ensures { FieldsPut types.now message.now p c first result out.old out.new }
 {
     let mut at = c.at;
-    let mut i = c.next;
     let mut k = first;
-    while i < c.count {
-        match variant_field(message, c.delta, i, at) {
-            FieldRead::Refused(n, place) => {
-                return FieldsWalked::Refused(k, n, place);
-            }
-            FieldRead::Is(f, next) => {
+    for i in c.next..c.count {
+        match V::field(message, c.delta, types, i, at) {
+            Err(r) => return (k, Err(r)),
+            Ok((f, next)) => {
                 put_field(out, k, p, f);
                 at = next;
             }
         }
-        i += 1;
         k += 1;
     }
-    FieldsWalked::To(k, at)
-}
-
-// Puts the records of a message's fields from the cursor on, the first as record `first`: RawData.
-fn walk_raw(
-    out: &mut [u8],
-    first: usize,
-    message: &[u8],
-    types: &[u8],
-    p: MessagePlace,
-    c: Cursor,
-) -> FieldsWalked
-    requires { Word (first + length message.now) × Word (p.offset + length message.now) × (c.encoding ≡ Encoding.RawData) }
-    ensures { FieldsPut types.now message.now p c first result out.old out.new }
-{
-    let mut at = c.at;
-    let mut i = c.next;
-    let mut k = first;
-    while i < c.count {
-        match raw_field(message, c.delta, types, i, at) {
-            FieldRead::Refused(n, place) => {
-                return FieldsWalked::Refused(k, n, place);
-            }
-            FieldRead::Is(f, next) => {
-                put_field(out, k, p, f);
-                at = next;
-            }
-        }
-        i += 1;
-        k += 1;
-    }
-    FieldsWalked::To(k, at)
-}
-
-// Puts the records of a message's fields from the cursor on, the first as record `first`: DataValues.
-fn walk_data_values(
-    out: &mut [u8],
-    first: usize,
-    message: &[u8],
-    types: &[u8],
-    p: MessagePlace,
-    c: Cursor,
-) -> FieldsWalked
-    requires { Word (first + length message.now) × Word (p.offset + length message.now) × (c.encoding ≡ Encoding.DataValue) }
-    ensures { FieldsPut types.now message.now p c first result out.old out.new }
-{
-    let mut at = c.at;
-    let mut i = c.next;
-    let mut k = first;
-    while i < c.count {
-        match data_value_field(message, c.delta, i, at) {
-            FieldRead::Refused(n, place) => {
-                return FieldsWalked::Refused(k, n, place);
-            }
-            FieldRead::Is(f, next) => {
-                put_field(out, k, p, f);
-                at = next;
-            }
-        }
-        i += 1;
-        k += 1;
-    }
-    FieldsWalked::To(k, at)
+    (k, Ok(at))
 }
 
 // Puts the records of a message's fields from the cursor on, each encoding in a loop of its own.
@@ -217,19 +133,19 @@ fn walk_fields(
     types: &[u8],
     p: MessagePlace,
     c: Cursor,
-) -> FieldsWalked
+) -> (usize, Result<usize, Refusal>)
     requires { Word (first + length message.now) × Word (p.offset + length message.now) }
     ensures { FieldsPut types.now message.now p c first result out.old out.new }
 {
-    let encoding = c.encoding;
-    match encoding {
-        Encoding::Variant => walk_variants(out, first, message, types, p, c),
-        Encoding::RawData => walk_raw(out, first, message, types, p, c),
-        Encoding::DataValue => walk_data_values(out, first, message, types, p, c),
+    match c.encoding {
+        Encoding::Variant => walk_each::<Variants>(out, first, message, types, p, c),
+        Encoding::RawData => walk_each::<RawData>(out, first, message, types, p, c),
+        Encoding::DataValue => walk_each::<DataValues>(out, first, message, types, p, c),
     }
 }
 
-// The fields of a message and the padding after them: the number of the record after the fields', and whether the message is refused.
+// The fields of a message and the padding after them: the number of the record after the fields', and where they end or the refusal of the
+// message.
 fn walk_rest(
     out: &mut [u8],
     first: usize,
@@ -237,16 +153,18 @@ fn walk_rest(
     types: &[u8],
     p: MessagePlace,
     c: Cursor,
-) -> FieldsWalked
+) -> (usize, Result<usize, Refusal>)
     requires { Word (first + length message.now) × Word (p.offset + length message.now) }
     ensures { RestPut types.now message.now p c first result out.old out.new }
 {
-    match walk_fields(out, first, message, types, p, c) {
-        FieldsWalked::Refused(next, n, place) => FieldsWalked::Refused(next, n, place),
-        FieldsWalked::To(next, end) => match padding(message, end) {
-            Reached::Refused(n, place) => FieldsWalked::Refused(next, n, place),
-            Reached::To(_) => FieldsWalked::To(next, end),
-        },
+    let (next, fields) = walk_fields(out, first, message, types, p, c);
+    let end = match fields {
+        Err(r) => return (next, Err(r)),
+        Ok(end) => end,
+    };
+    match padding(message, end) {
+        Err(r) => (next, Err(r)),
+        Ok(_) => (next, Ok(end)),
     }
 }
 
@@ -257,7 +175,7 @@ fn walk_opened(
     k: usize,
     message: &[u8],
     types: &[u8],
-    writer: Optional16,
+    writer: Option<u16>,
     p: MessagePlace,
     h: Header,
     c: Cursor,
@@ -266,28 +184,28 @@ fn walk_opened(
     ensures { let entries = opened_records types.now message.now p writer h c in
         RecordsPut entries k result out.old out.new }
 {
-    let encoding = h.encoding;
-    let b = encoding_number(encoding);
-    match walk_rest(out, k + 1, message, types, p, c) {
-        FieldsWalked::Refused(next, n, place) => {
+    let b = encoding_number(h.encoding);
+    let (next, rest) = walk_rest(out, k + 1, message, types, p, c);
+    match rest {
+        Err(r) => {
             let told = next - (k + 1);
-            put_message(out, k, p, writer, 3, n as u64, place as u64, told as u64, b);
-            next
-        }
-        FieldsWalked::To(next, _) => {
-            let kind = h.kind;
-            let sequence = h.sequence;
+            let n = r.reason.number();
             put_message(
                 out,
                 k,
                 p,
                 writer,
-                1,
-                kind_number(kind),
+                3,
+                n as u64,
+                r.place as u64,
+                told as u64,
                 b,
-                or_none(sequence),
-                0,
             );
+            next
+        }
+        Ok(_) => {
+            let kind = kind_number(h.kind);
+            put_message(out, k, p, writer, 1, kind, b, or_none(h.sequence), 0);
             next
         }
     }
@@ -299,7 +217,7 @@ fn walk_message(
     k: usize,
     s: &[u8],
     types: &[u8],
-    writer: Optional16,
+    writer: Option<u16>,
     p: MessagePlace,
 ) -> usize
     requires { Word (k + 1 + length s.now) }
@@ -307,73 +225,51 @@ fn walk_message(
 {
     let message = part(s, p.offset, p.length);
     match front(message, types) {
-        MessageRead::NotValid => {
+        Err(r) => {
+            let n = r.reason.number();
+            put_message(out, k, p, writer, 3, n as u64, r.place as u64, 0, 0);
+            k + 1
+        }
+        Ok(None) => {
             put_message(out, k, p, writer, 2, 0, 0, 0, 0);
             k + 1
         }
-        MessageRead::Refused(n, place) => {
-            put_message(out, k, p, writer, 3, n as u64, place as u64, 0, 0);
-            k + 1
-        }
-        MessageRead::Is(h, c, _) => walk_opened(out, k, message, types, writer, p, h, c),
+        Ok(Some((h, c, _))) => walk_opened(out, k, message, types, writer, p, h, c),
     }
 }
 
 // Puts the records of a payload's messages; answers how many.
-fn walk_messages<'a>(
+fn walk_messages(
     out: &mut [u8],
     s: &[u8],
-    ids: &'a [u16],
-    sizes: &[u16],
-    starts: &'a [u8],
-    types: &'a [u8],
+    w: WriterLists<'_>,
     header: PayloadHeader,
     end: usize,
     payload: Payload,
 ) -> usize
     requires { (length s.now ≤ 65535) × (payload.count ≤ 65551) }
-    ensures { let w = writers ids.now sizes.now starts.now types.now in
-        RecordsPut (payload_records w s.now (bare header end payload)) 0 result out.old out.new }
+    ensures { RecordsPut (payload_records (lists_in w.entry) s.now (bare header end payload)) 0 result out.old out.new }
 {
     let mut c = MessageCursor {
         index: 0,
         at: payload.first,
     };
     let mut k = 0;
-    loop {
-        match c.step(s, payload, sizes) {
-            MessageStep::Refused(_, _) => {
-                return k;
-            }
-            MessageStep::Is(p, next) => {
-                let writer = writer_id(s, header, end, ids, p.index);
-                let configured = types_of(ids, starts, types, writer);
-                k = walk_message(out, k, s, configured, writer, p);
-                c = next;
-            }
-        }
+    while let Ok((p, next)) = c.step(s, payload, w.sizes) {
+        let writer = writer_id(s, header, end, w.ids, p.index);
+        k = walk_message(out, k, s, w.types_of(writer), writer, p);
+        c = next;
     }
+    k
 }
 
-// Puts a record for each message of a datagram and each of its fields, of a refused message of those before the fault, under the ids,
-// sizes, starts and types of the configured writers.
-pub fn walk<'a>(
-    out: &mut [u8],
-    s: &[u8],
-    ids: &'a [u16],
-    sizes: &[u16],
-    starts: &'a [u8],
-    types: &'a [u8],
-) -> Walked
-    ensures { let w = writers ids.now sizes.now starts.now types.now in
-        (result ≡ walk_of w s.now) × (out.new ≡ records_put 0 (walk_records w s.now) out.old) }
+// Puts a record for each message of a datagram and each of its fields, of a refused message of those before the fault, under the lists of
+// the configured writers: how many records there are in all, or the datagram's refusal.
+pub fn walk(out: &mut [u8], s: &[u8], w: WriterLists<'_>) -> Result<usize, Refusal>
+    ensures { let said = lists_in w.entry in
+        (answer_walked result ≡ walk_of said s.now) × (out.new ≡ records_put 0 (walk_records said s.now) out.old) }
 {
-    match network_message::envelope::read(&*s, &*sizes) {
-        NetworkMessageRead::Refused(n, place) => Walked::Refused(n, place),
-        NetworkMessageRead::Is(e, places, payload) => {
-            let header = e.payload_header;
-            let end = places.payload_header_end;
-            Walked::Is(walk_messages(out, s, ids, sizes, starts, types, header, end, payload))
-        }
-    }
+    let (envelope, places, payload) = network_message::envelope::read(s, w.sizes)?;
+    let header = envelope.payload_header;
+    Ok(walk_messages(out, s, w, header, places.payload_header_end, payload))
 }

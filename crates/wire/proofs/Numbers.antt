@@ -1,5 +1,9 @@
 -- Laws of little-endian numbers, over the width, and of the signed numbers that they stand for.
 -- Assumes nothing.
+use Rattle.wire.specs.declared.Guid.{Guid}
+use Rattle.wire.specs.Items.{guid_bytes}
+use lib.ListN.{length-append}
+use mathlib.Core.Path.{ap₂}
 use mathlib.Core.Path.{◌≡◌, refl, ap, sym, ◌∙◌, subst}
 use mathlib.Core.List.{List, ◌++◌}
 use mathlib.Core.Bool.{Bool, true, false}
@@ -109,3 +113,7 @@ unsigned_signed w n h = go (ltb n (2 ^ (8 * w - 1))) refl
     go : (b : Bool) → ltb n (2 ^ (8 * w - 1)) ≡ b → unsigned w (signed w n) ≡ n
     go true e = rw e
     go false e = rw e (let z : 2 ^ (8 * w) - 1 - (2 ^ (8 * w) - 1 - n) ≡ n = omega arith in z)
+
+-- of the two numbers of a Guid
+pub guid_wide : (g : Guid) → length (guid_bytes g) ≡ 16
+guid_wide g = length-append (le_bytes 8 g.low) (le_bytes 8 g.high) ∙ ap₂ ◌+◌ (length_le_bytes 8 g.low) (length_le_bytes 8 g.high)

@@ -1,5 +1,7 @@
 -- Laws of the test whether an item fits, and of answers.
 -- Assumes nothing.
+use Rattle.wire.specs.declared.refusal.Reason.{Reason}
+use Rattle.wire.specs.Refusal.{reason_number}
 use mathlib.Core.Path.{◌≡◌, refl, ap, sym, ◌∙◌}
 use mathlib.Core.Bool.{Bool, true, false, not}
 use Prim.Native.Nat.{ℕ, ◌+◌, ◌≤◌}
@@ -67,3 +69,7 @@ signed_is w s at = go (leb (at + w) (length s)) refl
     go : (b : Bool) → leb (at + w) (length s) ≡ b → signed_item w s at ≡ and_then (item w s at) (λ v next. got (signed w v) next)
     go true e = rw e
     go false e = rw e
+
+-- the number of a reason is not 0
+pub some_number : (reason : Reason) → reason_number reason ≡ 0 → ⊥
+some_number reason h = grind arith

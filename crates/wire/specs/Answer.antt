@@ -38,6 +38,10 @@ here s at = got at at
 abbrev pub refuse : {A : Type 0} → ℕ → Reader A
 refuse n s at = refused n at
 
+-- w bytes, of which f tells: 1 at their first byte where they do not fit in what is left
+abbrev pub taking : {A : Type 0} → ℕ → (List ℕ → ℕ → A) → Reader A
+taking w f s at = cond (leb (at + w) (length s)) (got (f s at) (at + w)) (refused CUT_SHORT at)
+
 -- an item, a number of w bytes: 1 at its first byte where it does not fit in what is left
 abbrev pub item : ℕ → Reader ℕ
 item w s at = cond (leb (at + w) (length s)) (got (le w s at) (at + w)) (refused CUT_SHORT at)

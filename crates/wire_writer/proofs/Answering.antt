@@ -4,14 +4,16 @@ use mathlib.Core.Path.{◌≡◌, refl, ap, sym, subst, ◌∙◌}
 use mathlib.Core.Bool.{Bool, true, false, cond}
 use mathlib.Core.List.{List, ◌++◌}
 use Prim.Native.Nat.{ℕ, ◌≤◌}
-use native.Mathlib.Omega.{arith}
 use lib.Dec.{eqb, ltb}
 use lib.ListN.{length, take, drop}
 use lib.Seq.{take_at, drop_at}
 use borrow.Author.Tests.{ne_eqb, eqb-true, le-ltb, ltb-false}
 use Rattle.wire.specs.Answer.{Answer, got, refused}
-use Rattle.wire_writer.specs.declared.writing.Written.{Written}
-use Rattle.wire_writer.specs.Writing.{room_refusal, Output, writing, refusing, unless, after_reading, written_of, buffer_after, Writes, Puts}
+use Rattle.std.specs.Prelude.{Result, Ok, Err}
+use Rattle.wire.specs.declared.refusal.Reason.{Reason}
+use Rattle.wire.specs.Refusal.{reason_number}
+use Rattle.wire.proofs.Reading.{not_got, got_next, some_number}
+use Rattle.wire_writer.specs.Writing.{room_refusal, Output, writing, refusing, unless, after_reading, written_of, answer_written, buffer_after, Writes, Puts}
 use Rattle.wire_writer.proofs.Putting.{whole}
 use Rattle.wire_writer.proofs.Refusals.{passed}
 
@@ -24,48 +26,55 @@ roomy size room e =
 pub fitting : (size room : ℕ) → size ≤ 65535 → size ≤ room → room_refusal size room ≡ 0
 fitting size room h k = rw (le-ltb 65535 size h, le-ltb room size k)
 
+-- what the code answers where it wrote
+accepted : (r : Result ℕ Reason) {n : ℕ} → answer_written r ≡ got tt n → r ≡ Ok n
+accepted (Ok m) e = ap Ok (got_next e)
+accepted (Err reason) e = absurd (not_got e)
+
 -- of bytes whose writer's own refusal is n
 module _ (n : ℕ) (bytes out : List ℕ) where
-  pub refused_by : (k : ℕ) → k ≡ n → (k ≡ 0 → ⊥) → Writes (unless n bytes) out out (Written.Refused k)
-  refused_by k e h = rw (sym e, ne_eqb k 0 h) (record { answer = refl; buffer = refl })
+  pub refused_by : (reason : Reason) → reason_number reason ≡ n → Writes (unless n bytes) out out (Err reason)
+  refused_by reason e = rw (sym e, ne_eqb (reason_number reason) 0 (some_number reason)) (record { answer = refl; buffer = refl })
 
-  module _ (e : n ≡ 0) (full : ℕ) (l : full ≡ room_refusal (length bytes) (length out)) where
-    pub no_room : (full ≡ 0 → ⊥) → Writes (unless n bytes) out out (Written.Refused full)
-    no_room h = rw e (record { answer = rw (sym l, ne_eqb full 0 h); buffer = rw (sym l, ne_eqb full 0 h) })
+  module _ (e : n ≡ 0) where
+    pub no_room : (reason : Reason) → reason_number reason ≡ room_refusal (length bytes) (length out) → Writes (unless n bytes) out out (Err reason)
+    no_room reason l =
+        let z = ne_eqb (reason_number reason) 0 (some_number reason) in
+        rw e (record { answer = rw (sym l, z); buffer = rw (sym l, z) })
 
-    pub written : full ≡ 0 → (size next : ℕ) (exit : List ℕ) → size ≡ length bytes → Puts bytes out 0 exit next → Writes (unless n bytes) out exit (Written.Is size)
-    written z size next exit q p =
-        let y = sym l ∙ z in
+    pub written : 0 ≡ room_refusal (length bytes) (length out) → (size next : ℕ) (exit : List ℕ) → size ≡ length bytes → Puts bytes out 0 exit next
+        → Writes (unless n bytes) out exit (Ok size)
+    written l size next exit q p =
+        let y = sym l in
         rw e (record { answer = rw (y, q); buffer = rw y (whole p (roomy (length bytes) (length out) y).1).0 })
 
 -- after reading
-pub reading_accepts : {A : Type 0} (f : A → Output) {x : Answer A} {a : A} {next : ℕ} {entry exit : List ℕ} {r : Written} → x ≡ got a next
+pub reading_accepts : {A : Type 0} (f : A → Output) {x : Answer A} {a : A} {next : ℕ} {entry exit : List ℕ} {r : Result ℕ Reason} → x ≡ got a next
     → Writes (f a) entry exit r → Writes (after_reading x f) entry exit r
 reading_accepts {A} f {entry = entry} {exit = exit} {r = r} q w = subst (λ (y : Answer A). Writes (after_reading y f) entry exit r) (sym q) w
 
 pub reading_refuses : {A : Type 0} (f : A → Output) {x : Answer A} {n place : ℕ} {entry : List ℕ} → x ≡ refused n place
-    → Writes (after_reading x f) entry entry (Written.Refused n)
-reading_refuses {A} f {n = n} {entry = entry} q =
-    subst (λ (y : Answer A). Writes (after_reading y f) entry entry (Written.Refused n)) (sym q) (record { answer = refl; buffer = refl })
+    → (reason : Reason) → reason_number reason ≡ n → Writes (after_reading x f) entry entry (Err reason)
+reading_refuses {A} f {n = n} {entry = entry} q reason e =
+    subst (λ (y : Answer A). Writes (after_reading y f) entry entry (Err reason)) (sym q) (record { answer = rw e; buffer = refl })
 
 -- a refusal leaves the whole buffer as it was
-pub unchanged : (o : Output) {entry exit : List ℕ} {n : ℕ} → Writes o entry exit (Written.Refused n) → exit ≡ entry
+pub unchanged : (o : Output) {entry exit : List ℕ} {reason : Reason} → Writes o entry exit (Err reason) → exit ≡ entry
 unchanged (refusing k) w = w.buffer
-unchanged (writing bytes) {entry} {exit} {n} w = go (eqb (room_refusal (length bytes) (length entry)) 0) refl
+unchanged (writing bytes) {entry} {exit} {reason} w = go (eqb (room_refusal (length bytes) (length entry)) 0) refl
   where
     go : (t : Bool) → eqb (room_refusal (length bytes) (length entry)) 0 ≡ t → exit ≡ entry
     go true t =
-        let e : Written.Refused n ≡ Written.Is (length bytes) = w.answer ∙ rw t in
-        let z : ◌≡◌ {A = ℕ} 0 1 = cc in
-        absurd (omega arith)
+        let e : refused (reason_number reason) 0 ≡ got tt (length bytes) = w.answer ∙ rw t in
+        absurd (not_got e)
     go false t = w.buffer ∙ rw t
 
 -- bytes that fit are written: all of them from the buffer's start, and the buffer goes on as it was
-pub fitting_written : {bytes entry exit : List ℕ} {r : Written} → length bytes ≤ 65535 → length bytes ≤ length entry → Writes (writing bytes) entry exit r
-    → (r ≡ Written.Is (length bytes)) × (exit ≡ bytes ++ drop (length bytes) entry)
-fitting_written {bytes} {entry} h k w =
+pub fitting_written : {bytes entry exit : List ℕ} {r : Result ℕ Reason} → length bytes ≤ 65535 → length bytes ≤ length entry → Writes (writing bytes) entry exit r
+    → (r ≡ Ok (length bytes)) × (exit ≡ bytes ++ drop (length bytes) entry)
+fitting_written {bytes} {entry} {r = r} h k w =
     let z = fitting (length bytes) (length entry) h k in
-    (w.answer ∙ rw z, w.buffer ∙ rw z)
+    (accepted r (w.answer ∙ rw z), w.buffer ∙ rw z)
 
 -- What a writer's answer of n bytes tells: it refuses nothing, the first n bytes are those that it was to write, and the others are as they were.
 pub record Reported (k : ℕ) (bytes entry exit : List ℕ) (n : ℕ) : Type 0 where
@@ -76,10 +85,10 @@ pub record Reported (k : ℕ) (bytes entry exit : List ℕ) (n : ℕ) : Type 0 w
 
 module _ (k : ℕ) (bytes entry exit : List ℕ) (n : ℕ) where
   all_written : (t : Bool) → eqb (room_refusal (length bytes) (length entry)) 0 ≡ t → k ≡ 0
-      → Written.Is n ≡ cond t (Written.Is (length bytes)) (Written.Refused (room_refusal (length bytes) (length entry)))
+      → answer_written (Ok n) ≡ cond t (got tt (length bytes)) (refused (room_refusal (length bytes) (length entry)) 0)
       → exit ≡ cond t (bytes ++ drop (length bytes) entry) entry → Reported k bytes entry exit n
   all_written true t z a b =
-      let l : length bytes ≡ n = cc in
+      let l : length bytes ≡ n = sym (got_next a) in
       let f : exit ≡ bytes ++ drop n entry = b ∙ ap (λ (i : ℕ). bytes ++ drop i entry) l in
       record {
         number = z;
@@ -87,12 +96,12 @@ module _ (k : ℕ) (bytes entry exit : List ℕ) (n : ℕ) where
         front = ap (take n) f ∙ take_at bytes (drop n entry) n l;
         rest = ap (drop n) f ∙ drop_at bytes (drop n entry) n l;
       }
-  all_written false t z a b = let y : ◌≡◌ {A = ℕ} 0 1 = cc in absurd (omega arith)
+  all_written false t z a b = absurd (not_got (sym a))
 
-  pub reported : Writes (unless k bytes) entry exit (Written.Is n) → Reported k bytes entry exit n
+  pub reported : Writes (unless k bytes) entry exit (Ok n) → Reported k bytes entry exit n
   reported w = go (eqb k 0) refl w.answer w.buffer
     where
-      go : (t : Bool) → eqb k 0 ≡ t → Written.Is n ≡ written_of (length entry) (cond t (writing bytes) (refusing k))
+      go : (t : Bool) → eqb k 0 ≡ t → answer_written (Ok n) ≡ written_of (length entry) (cond t (writing bytes) (refusing k))
           → exit ≡ buffer_after entry (cond t (writing bytes) (refusing k)) → Reported k bytes entry exit n
       go true t a b = all_written (eqb (room_refusal (length bytes) (length entry)) 0) refl (eqb-true k 0 t) a b
-      go false t a b = let y : ◌≡◌ {A = ℕ} 0 1 = cc in absurd (omega arith)
+      go false t a b = absurd (not_got (sym a))

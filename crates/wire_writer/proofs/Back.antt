@@ -1,5 +1,6 @@
 -- Writing what was read: from an answer back to the bytes that stand there.
 -- Assumes nothing.
+use Rattle.std.specs.Prelude.{Option, Some, None, is_some, ℤ}
 use mathlib.Core.Path.{◌≡◌, refl, ap, sym, ◌∙◌, subst}
 use mathlib.Core.List.{List, [], ◌∷◌, ◌++◌, append_assoc}
 use mathlib.Core.Bool.{Bool, true, false, cond}
@@ -16,12 +17,9 @@ use Rattle.wire.specs.Answer.{Answer, got, refused, Reader, item, signed_item, r
 use Rattle.wire.specs.Items.{guid, guid_bytes}
 use Rattle.wire.specs.Optional.{optional16, optional32, optional_i64, picoseconds_read, picoseconds_at}
 use Rattle.wire.specs.declared.Guid.{Guid}
-use Rattle.wire.specs.declared.optional.Optional16.{Optional16}
-use Rattle.wire.specs.declared.optional.Optional32.{Optional32}
-use Rattle.wire.specs.declared.optional.OptionalI64.{OptionalI64}
 use Rattle.wire.proofs.Reading.{got_value, got_next, not_got, invert, signed_is}
 use Rattle.wire.proofs.Numbers.{unsigned_signed}
-use Rattle.wire_writer.specs.Writing.{picoseconds_rule, picoseconds_refusal, picoseconds_held, on16, on32, on_i64, optional16_bytes, optional32_bytes, optional_i64_bytes}
+use Rattle.wire_writer.specs.Writing.{picoseconds_rule, picoseconds_refusal, picoseconds_held, optional16_bytes, optional32_bytes, optional_i64_bytes}
 use Rattle.wire_writer.proofs.Trip.{At, fits_at}
 use Rattle.wire_writer.specs.Fits.{Bytes}
 
@@ -159,35 +157,35 @@ absent : {A : Type 0} (bytes : A → List ℕ) (on : A → Bool) (x a : A) (s : 
     → Back s at (bytes x) next × (on x ≡ false)
 absent bytes on x a s at next e o l h = rw (sym (got_value h), sym (got_next h), e, o) (empty s at l, refl)
 
-pub optional16_back : (on : Bool) (s : List ℕ) (at : ℕ) (x : Optional16) (next : ℕ) → Bytes s → at ≤ length s → optional16 on s at ≡ got x next → Back s at (optional16_bytes x) next × (on16 x ≡ on)
+pub optional16_back : (on : Bool) (s : List ℕ) (at : ℕ) (x : Option ℕ) (next : ℕ) → Bytes s → at ≤ length s → optional16 on s at ≡ got x next → Back s at (optional16_bytes x) next × (is_some x ≡ on)
 optional16_back true s at x next b l h =
-    let y = map_back (item 2) Optional16.Is s at x next h in
+    let y = map_back (item 2) Some s at x next h in
     rw (sym y.2) ((item_back 2 s at y.0 next b y.1).0, refl)
-optional16_back false s at x next b l h = absent optional16_bytes on16 x Optional16.Absent s at next refl refl l h
+optional16_back false s at x next b l h = absent optional16_bytes is_some x None s at next refl refl l h
 
-pub optional32_back : (on : Bool) (s : List ℕ) (at : ℕ) (x : Optional32) (next : ℕ) → Bytes s → at ≤ length s → optional32 on s at ≡ got x next → Back s at (optional32_bytes x) next × (on32 x ≡ on)
+pub optional32_back : (on : Bool) (s : List ℕ) (at : ℕ) (x : Option ℕ) (next : ℕ) → Bytes s → at ≤ length s → optional32 on s at ≡ got x next → Back s at (optional32_bytes x) next × (is_some x ≡ on)
 optional32_back true s at x next b l h =
-    let y = map_back (item 4) Optional32.Is s at x next h in
+    let y = map_back (item 4) Some s at x next h in
     rw (sym y.2) ((item_back 4 s at y.0 next b y.1).0, refl)
-optional32_back false s at x next b l h = absent optional32_bytes on32 x Optional32.Absent s at next refl refl l h
+optional32_back false s at x next b l h = absent optional32_bytes is_some x None s at next refl refl l h
 
-pub optional_i64_back : (on : Bool) (s : List ℕ) (at : ℕ) (x : OptionalI64) (next : ℕ) → Bytes s → at ≤ length s → optional_i64 on s at ≡ got x next → Back s at (optional_i64_bytes x) next
-    × (on_i64 x ≡ on)
+pub optional_i64_back : (on : Bool) (s : List ℕ) (at : ℕ) (x : Option ℤ) (next : ℕ) → Bytes s → at ≤ length s → optional_i64 on s at ≡ got x next → Back s at (optional_i64_bytes x) next
+    × (is_some x ≡ on)
 optional_i64_back true s at x next b l h =
-    let y = map_back (signed_item 8) OptionalI64.Is s at x next h in
+    let y = map_back (signed_item 8) Some s at x next h in
     let m = map_back (item 8) (signed 8) s at y.0 next (sym (signed_is 8 s at) ∙ y.1) in
     let i = item_back 8 s at m.0 next b m.1 in
     let z : unsigned 8 (signed 8 m.0) ≡ m.0 = unsigned_signed 8 m.0 i.1 in
     rw (sym y.2, sym m.2, z) (i.0, refl)
-optional_i64_back false s at x next b l h = absent optional_i64_bytes on_i64 x OptionalI64.Absent s at next refl refl l h
+optional_i64_back false s at x next b l h = absent optional_i64_bytes is_some x None s at next refl refl l h
 
 -- an optional number of 2 bytes under a rule
-pub ruled16_back : (rule : ℕ → ℕ) (on : Bool) (s : List ℕ) (at : ℕ) (x : Optional16) (next : ℕ) → Bytes s → at ≤ length s
-    → when_on on Optional16.Absent (ruled 2 rule >>= λ v. pure (Optional16.Is v)) s at ≡ got x next → Back s at (optional16_bytes x) next × (on16 x ≡ on)
+pub ruled16_back : (rule : ℕ → ℕ) (on : Bool) (s : List ℕ) (at : ℕ) (x : Option ℕ) (next : ℕ) → Bytes s → at ≤ length s
+    → when_on on None (ruled 2 rule >>= λ v. pure (Some v)) s at ≡ got x next → Back s at (optional16_bytes x) next × (is_some x ≡ on)
 ruled16_back rule true s at x next b l h =
-    let y = map_back (ruled 2 rule) Optional16.Is s at x next h in
+    let y = map_back (ruled 2 rule) Some s at x next h in
     rw (sym y.2) ((item_back 2 s at y.0 next b (ruled_back 2 rule s at y.0 next y.1).0).0, refl)
-ruled16_back rule false s at x next b l h = absent optional16_bytes on16 x Optional16.Absent s at next refl refl l h
+ruled16_back rule false s at x next b l h = absent optional16_bytes is_some x None s at next refl refl l h
 
 -- what picoseconds read as the writers do not refuse
 read_kept : (v : ℕ) → picoseconds_rule (picoseconds_read v) ≡ 0
@@ -197,37 +195,37 @@ read_kept v = go (leb 10000 v) refl
     go true e = refl
     go false e = rw e
 
-pub picoseconds_kept : (on : Bool) (s : List ℕ) (at : ℕ) (x : Optional16) (next : ℕ) → picoseconds_at on s at ≡ got x next → picoseconds_refusal x ≡ 0
+pub picoseconds_kept : (on : Bool) (s : List ℕ) (at : ℕ) (x : Option ℕ) (next : ℕ) → picoseconds_at on s at ≡ got x next → picoseconds_refusal x ≡ 0
 picoseconds_kept true s at x next h =
-    let y = map_back (item 2) (λ v. Optional16.Is (picoseconds_read v)) s at x next h in
-    subst (λ (x : Optional16). picoseconds_refusal x ≡ 0) y.2 (read_kept y.0)
-picoseconds_kept false s at x next h = subst (λ (x : Optional16). picoseconds_refusal x ≡ 0) (got_value h) refl
+    let y = map_back (item 2) (λ v. Some (picoseconds_read v)) s at x next h in
+    subst (λ (x : Option ℕ). picoseconds_refusal x ≡ 0) y.2 (read_kept y.0)
+picoseconds_kept false s at x next h = subst (λ (x : Option ℕ). picoseconds_refusal x ≡ 0) (got_value h) refl
 
 -- an item of 2 bytes that is there
-pub two_bytes : (x : Optional16) → on16 x ≡ true → length (optional16_bytes x) ≡ 2
-two_bytes Optional16.Absent e = let z : ◌≡◌ {A = ℕ} 0 1 = cc in absurd (omega arith)
-two_bytes (Optional16.Is v) e = refl
+pub two_bytes : (x : Option ℕ) → is_some x ≡ true → length (optional16_bytes x) ≡ 2
+two_bytes None e = let z : ◌≡◌ {A = ℕ} 0 1 = cc in absurd (omega arith)
+two_bytes (Some v) e = refl
 
 -- What picoseconds that were read tell: whether they are there, where they end, and that the bytes with them held are all before them,
 -- their own bytes as they were read, and all behind them.
-pub record PicosecondsBack (on : Bool) (s : List ℕ) (at : ℕ) (x : Optional16) (next : ℕ) : Type 0 where
-  pub there : on16 x ≡ on
+pub record PicosecondsBack (on : Bool) (s : List ℕ) (at : ℕ) (x : Option ℕ) (next : ℕ) : Type 0 where
+  pub there : is_some x ≡ on
   pub ends : next ≡ at + length (optional16_bytes x)
   pub fits : next ≤ length s
   pub held : picoseconds_held x at s ≡ take at s ++ (optional16_bytes x ++ drop next s)
 
-number_held : (s : List ℕ) (at : ℕ) → Bytes s → at + 2 ≤ length s → picoseconds_held (Optional16.Is 0) at s ≡ take at s ++ (le_bytes 2 (picoseconds_read (le 2 s at)) ++ drop (at + 2) s)
+number_held : (s : List ℕ) (at : ℕ) → Bytes s → at + 2 ≤ length s → picoseconds_held (Some 0) at s ≡ take at s ++ (le_bytes 2 (picoseconds_read (le 2 s at)) ++ drop (at + 2) s)
 number_held s at b h = go (leb 10000 (le 2 s at))
   where
     go : (t : Bool) → cond t (sets s at (le_bytes 2 9999)) s ≡ take at s ++ (le_bytes 2 (cond t 9999 (le 2 s at)) ++ drop (at + 2) s)
     go true = sets-eq (le_bytes 2 9999) s at h ∙ append_assoc (take at s) (le_bytes 2 9999) (drop (at + 2) s)
     go false = sym (take-append-drop at s) ∙ ap (λ (l : List ℕ). take at s ++ l) (rest_is s at (le_bytes 2 (le 2 s at)) (at + 2) (number_there 2 s at b h))
 
-pub picoseconds_back : (on : Bool) (s : List ℕ) (at : ℕ) (x : Optional16) (next : ℕ) → Bytes s → at ≤ length s → picoseconds_at on s at ≡ got x next → PicosecondsBack on s at x next
+pub picoseconds_back : (on : Bool) (s : List ℕ) (at : ℕ) (x : Option ℕ) (next : ℕ) → Bytes s → at ≤ length s → picoseconds_at on s at ≡ got x next → PicosecondsBack on s at x next
 picoseconds_back true s at x next b l h = go (leb (at + 2) (length s)) refl h
   where
     go : (t : Bool) → leb (at + 2) (length s) ≡ t
-        → and_then (cond t (got (le 2 s at) (at + 2)) (refused 1 at)) (λ v n. got (Optional16.Is (picoseconds_read v)) n) ≡ got x next → PicosecondsBack true s at x next
+        → and_then (cond t (got (le 2 s at) (at + 2)) (refused 1 at)) (λ v n. got (Some (picoseconds_read v)) n) ≡ got x next → PicosecondsBack true s at x next
     go true e q =
         let k : at + 2 ≤ length s = leb-true (at + 2) (length s) e in
         rw (sym (got_value q), sym (got_next q)) (record { there = refl; ends = refl; fits = k; held = number_held s at b k })
@@ -241,21 +239,21 @@ front_is s b n x =
     ap (take n) (rest_is s 0 b n x) ∙ take_at b (drop n s) n (sym (zero-add (length b)) ∙ sym x.1)
 
 -- Behind a front f, the picoseconds as they were read and a part behind them, with all that follows it, are the bytes with them held.
-pub held_between : {on : Bool} (s f : List ℕ) (at : ℕ) (x : Optional16) (k : ℕ) (c : List ℕ) (next : ℕ) → Back s 0 f at → PicosecondsBack on s at x k → Back s k c next
+pub held_between : {on : Bool} (s f : List ℕ) (at : ℕ) (x : Option ℕ) (k : ℕ) (c : List ℕ) (next : ℕ) → Back s 0 f at → PicosecondsBack on s at x k → Back s k c next
     → f ++ (optional16_bytes x ++ (c ++ drop next s)) ≡ picoseconds_held x at s
 held_between s f at x k c next a p y =
     sym (p.held ∙ ap (λ (l : List ℕ). l ++ (optional16_bytes x ++ drop k s)) (front_is s f at a) ∙ ap (λ (l : List ℕ). f ++ (optional16_bytes x ++ l)) (rest_is s k c next y))
 
 -- they are held by storing them as they were read
-pub held_stored : {on : Bool} (s : List ℕ) (at : ℕ) (x : Optional16) (next : ℕ) → PicosecondsBack on s at x next → sets s at (optional16_bytes x) ≡ picoseconds_held x at s
+pub held_stored : {on : Bool} (s : List ℕ) (at : ℕ) (x : Option ℕ) (next : ℕ) → PicosecondsBack on s at x next → sets s at (optional16_bytes x) ≡ picoseconds_held x at s
 held_stored s at x next p =
     let b = optional16_bytes x in
     let fits : at + length b ≤ length s = omega (arith, p.ends, p.fits) in
     sets-eq b s at fits ∙ append_assoc (take at s) b (drop (at + length b) s) ∙ ap (λ (k : ℕ). take at s ++ (b ++ drop k s)) (sym p.ends) ∙ sym p.held
 
-pub held_length : (x : Optional16) (at : ℕ) (s : List ℕ) → length (picoseconds_held x at s) ≡ length s
-held_length Optional16.Absent at s = refl
-held_length (Optional16.Is v) at s = go (leb 10000 (le 2 s at))
+pub held_length : (x : Option ℕ) (at : ℕ) (s : List ℕ) → length (picoseconds_held x at s) ≡ length s
+held_length None at s = refl
+held_length (Some v) at s = go (leb 10000 (le 2 s at))
   where
     go : (t : Bool) → length (cond t (sets s at (le_bytes 2 9999)) s) ≡ length s
     go true = length-sets s at (le_bytes 2 9999)

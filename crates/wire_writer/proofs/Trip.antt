@@ -1,5 +1,6 @@
 -- Reading what was written, item by item: a reader at position m, over bytes b that stand there, answers x and the position after b.
 -- Assumes nothing.
+use Rattle.std.specs.Prelude.{Option, Some, None, is_some, ℤ}
 use mathlib.Core.Path.{◌≡◌, refl, ap, sym, ◌∙◌}
 use mathlib.Core.Bool.{Bool, true, false, cond}
 use mathlib.Core.List.{List, [], ◌∷◌, ◌++◌, append_assoc}
@@ -16,11 +17,8 @@ use Rattle.wire.specs.Answer.{got, Reader, item, signed_item, ruled, run, pure, 
 use Rattle.wire.specs.Items.{guid, guid_bytes}
 use Rattle.wire.specs.Optional.{optional16, optional32, optional_i64, picoseconds_read, picoseconds_at}
 use Rattle.wire.specs.declared.Guid.{Guid}
-use Rattle.wire.specs.declared.optional.Optional16.{Optional16}
-use Rattle.wire.specs.declared.optional.Optional32.{Optional32}
-use Rattle.wire.specs.declared.optional.OptionalI64.{OptionalI64}
 use Rattle.wire.proofs.Numbers.{length_le_bytes, signed_unsigned}
-use Rattle.wire_writer.specs.Writing.{on16, on32, on_i64, picoseconds_rule, picoseconds_refusal, optional16_bytes, optional32_bytes, optional_i64_bytes}
+use Rattle.wire_writer.specs.Writing.{picoseconds_rule, picoseconds_refusal, optional16_bytes, optional32_bytes, optional_i64_bytes}
 use Rattle.wire_writer.specs.Fits.{Fits16, Fits32, FitsGuid, FitsI64}
 
 -- the bytes b stand at position m of s
@@ -109,17 +107,17 @@ guid_is g m f s a =
 
 -- items that a flag announces; each number fits its type, as a value of the code does
 
-pub optional16_is : (x : Optional16) (m : ℕ) → Fits16 x → Reads (optional16 (on16 x)) m (optional16_bytes x) x
-optional16_is Optional16.Absent m f = nothing Optional16.Absent m
-optional16_is (Optional16.Is v) m f = last (item 2) Optional16.Is m (le_bytes 2 v) v (item_is 2 v m f)
+pub optional16_is : (x : Option ℕ) (m : ℕ) → Fits16 x → Reads (optional16 (is_some x)) m (optional16_bytes x) x
+optional16_is None m f = nothing None m
+optional16_is (Some v) m f = last (item 2) Some m (le_bytes 2 v) v (item_is 2 v m f)
 
-pub optional32_is : (x : Optional32) (m : ℕ) → Fits32 x → Reads (optional32 (on32 x)) m (optional32_bytes x) x
-optional32_is Optional32.Absent m f = nothing Optional32.Absent m
-optional32_is (Optional32.Is v) m f = last (item 4) Optional32.Is m (le_bytes 4 v) v (item_is 4 v m f)
+pub optional32_is : (x : Option ℕ) (m : ℕ) → Fits32 x → Reads (optional32 (is_some x)) m (optional32_bytes x) x
+optional32_is None m f = nothing None m
+optional32_is (Some v) m f = last (item 4) Some m (le_bytes 4 v) v (item_is 4 v m f)
 
-pub optional_i64_is : (x : OptionalI64) (m : ℕ) → FitsI64 x → Reads (optional_i64 (on_i64 x)) m (optional_i64_bytes x) x
-optional_i64_is OptionalI64.Absent m f = nothing OptionalI64.Absent m
-optional_i64_is (OptionalI64.Is z) m f = last (signed_item 8) OptionalI64.Is m (le_bytes 8 (unsigned 8 z)) z (signed_item_is z m f)
+pub optional_i64_is : (x : Option ℤ) (m : ℕ) → FitsI64 x → Reads (optional_i64 (is_some x)) m (optional_i64_bytes x) x
+optional_i64_is None m f = nothing None m
+optional_i64_is (Some z) m f = last (signed_item 8) Some m (le_bytes 8 (unsigned 8 z)) z (signed_item_is z m f)
 
 -- picoseconds that the writers do not refuse read as they are
 read_same : (v : ℕ) → picoseconds_rule v ≡ 0 → picoseconds_read v ≡ v
@@ -129,7 +127,7 @@ read_same v h = go (leb 10000 v) h
     go true h = absurd (omega arith)
     go false h = refl
 
-pub picoseconds_is : (x : Optional16) (m : ℕ) → Fits16 x → picoseconds_refusal x ≡ 0 → Reads (picoseconds_at (on16 x)) m (optional16_bytes x) x
-picoseconds_is Optional16.Absent m f h s a = nothing Optional16.Absent m s a
-picoseconds_is (Optional16.Is v) m f h s a =
-    last (item 2) (λ w. Optional16.Is (picoseconds_read w)) m (le_bytes 2 v) v (item_is 2 v m f) s a ∙ ap (λ (w : ℕ). got (Optional16.Is w) (m + length (le_bytes 2 v))) (read_same v h)
+pub picoseconds_is : (x : Option ℕ) (m : ℕ) → Fits16 x → picoseconds_refusal x ≡ 0 → Reads (picoseconds_at (is_some x)) m (optional16_bytes x) x
+picoseconds_is None m f h s a = nothing None m s a
+picoseconds_is (Some v) m f h s a =
+    last (item 2) (λ w. Some (picoseconds_read w)) m (le_bytes 2 v) v (item_is 2 v m f) s a ∙ ap (λ (w : ℕ). got (Some w) (m + length (le_bytes 2 v))) (read_same v h)

@@ -1,10 +1,8 @@
 -- What theorems ask of numbers and bytes: that each fits its type, as every value of the code does.
+use Rattle.std.specs.Prelude.{Option, Some, None, ℤ}
 use Rattle.std.specs.Prelude.{ℕ, ◌<◌, ◌^◌, List, get_or}
 use Rattle.wire.specs.declared.Guid.{Guid}
 use Rattle.wire.specs.Number.{InRange}
-use Rattle.wire.specs.declared.optional.Optional16.{Optional16}
-use Rattle.wire.specs.declared.optional.Optional32.{Optional32}
-use Rattle.wire.specs.declared.optional.OptionalI64.{OptionalI64}
 
 -- each element is a byte
 abbrev pub Bytes : List ℕ → Type 0
@@ -17,14 +15,14 @@ Numbers xs = (k : ℕ) → get_or xs k 0 < 65536
 abbrev pub FitsGuid : Guid → Type 0
 FitsGuid g = (g.low < 256 ^ 8) × (g.high < 256 ^ 8)
 
-abbrev pub Fits16 : Optional16 → Type 0
-Fits16 Optional16.Absent = Unit
-Fits16 (Optional16.Is v) = v < 65536
+abbrev pub Fits16 : Option ℕ → Type 0
+Fits16 None = Unit
+Fits16 (Some v) = v < 65536
 
-abbrev pub Fits32 : Optional32 → Type 0
-Fits32 Optional32.Absent = Unit
-Fits32 (Optional32.Is v) = v < 4294967296
+abbrev pub Fits32 : Option ℕ → Type 0
+Fits32 None = Unit
+Fits32 (Some v) = v < 4294967296
 
-abbrev pub FitsI64 : OptionalI64 → Type 0
-FitsI64 OptionalI64.Absent = Unit
-FitsI64 (OptionalI64.Is z) = InRange 8 z
+abbrev pub FitsI64 : Option ℤ → Type 0
+FitsI64 None = Unit
+FitsI64 (Some z) = InRange 8 z

@@ -1,14 +1,39 @@
-// Numbers and runs of bytes stored into a lent buffer.
-ghost use Rattle.std.specs.Prelude.{◌≡◌, ◌+◌, ◌≤◌, ◌++◌, length};
+// Items and runs of bytes stored into a lent buffer.
+ghost use Rattle.std.specs.Prelude.{◌≡◌, ◌+◌, ◌≤◌, List, ℕ, length};
 ghost use Rattle.std.proofs.lemmas.List.Edits.{sets};
 ghost use Rattle.wire.specs.Number.{le_bytes, unsigned};
 ghost use Rattle.wire.specs.Items.{guid_bytes};
 ghost use Rattle.wire_writer.specs.Store.{Stored};
+ghost use Rattle.wire.proofs.Numbers.{length_le_bytes, guid_wide};
 
+use wire::item::Item;
 use wire::{Guid, has};
 
-// How many bytes are copied at once: as many as the longest datagram has.
-const BLOCK: usize = 65535;
+// An item that can be stored. Where its bytes fit as a whole, it is stored, and the answer is the position after it; where they do not
+// fit, nothing is stored, and the answer is the position unchanged.
+pub trait Store: Item {
+    // the bytes of a value
+    ghost bytes: { Self → List ℕ };
+
+    // Stores a value's bytes where they fit.
+    fn lay(self, out: &mut [u8], at: usize)
+        requires { at + Self.WIDTH ≤ length out.old }
+        ensures { out.new ≡ sets out.old at (bytes self) };
+
+    // there are as many of them as the item has
+    ghost wide: { (v : Self) → length (bytes v) ≡ Self.WIDTH };
+
+    // Stores a value.
+    final fn put(self, out: &mut [u8], at: usize) -> usize
+        ensures { Stored (bytes self) out.old at out.new result }
+    {
+        if has(out.len(), at, Self::WIDTH) {
+            self.lay(out, at);
+            return at + Self::WIDTH;
+        }
+        at
+    }
+}
 
 // The lowest 1, 2, 4 and 8 bytes of a number, lowest first.
 fn store1(out: &mut [u8], at: usize, v: u64)
@@ -42,51 +67,44 @@ fn store8(out: &mut [u8], at: usize, v: u64)
     store4(out, at + 4, v / 4294967296);
 }
 
-// Each stores its bytes where they fit as a whole, and answers the position after them; where they do not fit, it stores nothing
-// and answers the position unchanged.
+impl Store for u8 {
+    ghost bytes = { le_bytes 1 };
 
-// A number of 1 byte.
-pub fn put8(out: &mut [u8], at: usize, v: u8) -> usize
-    ensures { Stored (le_bytes 1 v) out.old at out.new result }
-{
-    if has(out.len(), at, 1) {
-        store1(out, at, v as u64);
-        return at + 1;
+    ghost wide = { length_le_bytes 1 };
+
+    fn lay(self, out: &mut [u8], at: usize) {
+        store1(out, at, self as u64);
     }
-    at
 }
 
-// A number of 2 bytes.
-pub fn put16(out: &mut [u8], at: usize, v: u16) -> usize
-    ensures { Stored (le_bytes 2 v) out.old at out.new result }
-{
-    if has(out.len(), at, 2) {
-        store2(out, at, v as u64);
-        return at + 2;
+impl Store for u16 {
+    ghost bytes = { le_bytes 2 };
+
+    ghost wide = { length_le_bytes 2 };
+
+    fn lay(self, out: &mut [u8], at: usize) {
+        store2(out, at, self as u64);
     }
-    at
 }
 
-// A number of 4 bytes.
-pub fn put32(out: &mut [u8], at: usize, v: u32) -> usize
-    ensures { Stored (le_bytes 4 v) out.old at out.new result }
-{
-    if has(out.len(), at, 4) {
-        store4(out, at, v as u64);
-        return at + 4;
+impl Store for u32 {
+    ghost bytes = { le_bytes 4 };
+
+    ghost wide = { length_le_bytes 4 };
+
+    fn lay(self, out: &mut [u8], at: usize) {
+        store4(out, at, self as u64);
     }
-    at
 }
 
-// A number of 8 bytes.
-pub fn put64(out: &mut [u8], at: usize, v: u64) -> usize
-    ensures { Stored (le_bytes 8 v) out.old at out.new result }
-{
-    if has(out.len(), at, 8) {
-        store8(out, at, v);
-        return at + 8;
+impl Store for u64 {
+    ghost bytes = { le_bytes 8 };
+
+    ghost wide = { length_le_bytes 8 };
+
+    fn lay(self, out: &mut [u8], at: usize) {
+        store8(out, at, self);
     }
-    at
 }
 
 // A signed number of 8 bytes, as the number that stands for it.
@@ -99,77 +117,35 @@ pub fn unsigned64(v: i64) -> u64
     v as u64
 }
 
-// A signed number of 8 bytes.
-pub fn put_i64(out: &mut [u8], at: usize, v: i64) -> usize
-    ensures { Stored (le_bytes 8 (unsigned 8 v)) out.old at out.new result }
-{
-    put64(out, at, unsigned64(v))
-}
+impl Store for i64 {
+    ghost bytes = { λ v. le_bytes 8 (unsigned 8 v) };
 
-// The 16 bytes of a Guid.
-pub fn put_guid(out: &mut [u8], at: usize, v: Guid) -> usize
-    ensures { Stored (guid_bytes v) out.old at out.new result }
-{
-    if has(out.len(), at, 16) {
-        store8(out, at, v.low);
-        store8(out, at + 8, v.high);
-        return at + 16;
-    }
-    at
-}
+    ghost wide = { λ v. length_le_bytes 8 (unsigned 8 v) };
 
-// Byte by byte.
-fn lay(out: &mut [u8], at: usize, src: &[u8])
-    requires { at + length src.now ≤ length out.old }
-    ensures { out.new ≡ sets out.old at src.now }
-{
-    let mut i = 0;
-    while i < src.len() {
-        out[at + i] = src[i];
-        i += 1;
+    fn lay(self, out: &mut [u8], at: usize) {
+        store8(out, at, unsigned64(self));
     }
 }
 
-// By way of a block that is nobody else's: the compiler then knows that no byte is overwritten before it is read, and makes the two loops
-// one call of the C library's copy, without the block.
-fn copy_block(out: &mut [u8], at: usize, src: &[u8])
-    requires { (at + length src.now ≤ length out.old) × (length src.now ≤ 65535) }
-    ensures { out.new ≡ sets out.old at src.now }
-{
-    let mut block = [0u8; BLOCK];
-    lay(&mut block, 0, src);
-    lay(out, at, &block[0..src.len()]);
-}
+impl Store for Guid {
+    ghost bytes = { guid_bytes };
 
-// How many of n bytes go into a block.
-fn in_block(n: usize) -> usize
-    ensures { (result ≤ n) × (result ≤ 65535) × (1 ≤ n → 1 ≤ result) }
-{
-    if n < BLOCK {
-        return n;
-    }
-    BLOCK
-}
+    ghost wide = { guid_wide };
 
-fn copy_in(out: &mut [u8], at: usize, src: &[u8])
-    requires { at + length src.now ≤ length out.old }
-    ensures { out.new ≡ sets out.old at src.now }
-{
-    let mut i = 0;
-    while i < src.len() {
-        let next = i + in_block(src.len() - i);
-        copy_block(out, at + i, &src[i..next]);
-        i = next;
+    fn lay(self, out: &mut [u8], at: usize) {
+        store8(out, at, self.low);
+        store8(out, at + 8, self.high);
     }
 }
 
-// A run of bytes.
+// A run of bytes, stored as an item is.
 pub fn put_run(out: &mut [u8], at: usize, src: &[u8]) -> usize
     ensures { Stored src.now out.old at out.new result }
 {
-    if has(out.len(), at, src.len()) {
-        copy_in(out, at, src);
-        return at + src.len();
+    if !has(out.len(), at, src.len()) {
+        return at;
     }
-    at
+    let end = at + src.len();
+    out[at..end].copy_from_slice(src);
+    end
 }

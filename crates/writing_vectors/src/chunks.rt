@@ -8,10 +8,9 @@
 // that holds 2E. The answer is the number of bytes written or the refusal, and the buffer: 14 bytes of numbers (7, offset, total, length)
 // and the data.
 use chunk::cut::cut;
-use chunk::datagram::{ChunkPlace, ChunkRead, data, read};
+use chunk::datagram::{ChunkPlace, data, read};
 use vector_lines::lines::{decimal, letter};
 use vector_lines::print::{hex, number, put, refused};
-use wire_writer::writing::Written;
 
 // The number of the message that is cut, and what the buffer holds before.
 const MESSAGE: u16 = 7;
@@ -28,10 +27,10 @@ pub fn vector(rt: &impl Print, line: &[u8], bytes: &[u8]) {
 
 fn chunk(rt: &impl Print, datagram: &[u8], sizes: &[u16]) {
     match read(datagram, sizes) {
-        ChunkRead::Refused(n, place) => {
-            refused(rt, n, place);
+        Err(refusal) => {
+            refused(rt, refusal.reason.number(), refusal.place);
         }
-        ChunkRead::Is(c, _) => show(rt, c),
+        Ok((c, _)) => show(rt, c),
     }
     put(rt, b" [");
     put(rt, data(datagram, sizes));
@@ -51,12 +50,8 @@ fn show(rt: &impl Print, c: ChunkPlace) {
 fn cutting(rt: &impl Print, payload: &[u8], size: usize, k: usize) {
     let mut out = [UNCUT; 20];
     match cut(&mut out, payload, MESSAGE, size, k) {
-        Written::Refused(n) => {
-            refused(rt, n, 0);
-        }
-        Written::Is(n) => {
-            number(rt, n);
-        }
-    }
+        Err(reason) => refused(rt, reason.number(), 0),
+        Ok(n) => number(rt, n),
+    };
     hex(rt, &out);
 }

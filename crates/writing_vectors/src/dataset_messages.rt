@@ -12,15 +12,14 @@ use crate::FILL;
 use crate::optional::{optional_i64, optional32};
 use dataset_header::flags::{Encoding, Kind};
 use dataset_header::header::Header;
-use dataset_message::message::{MessageRead, read};
+use dataset_message::message::read;
 use dataset_message::rewrite::rewrite;
 use dataset_message::writer::write;
-use text::decimal::Decimal;
 use text::words::starts_with;
 use vector_lines::lines::{letter, lettered, lettered16, low16, numbered, word};
 use vector_lines::print::{bad, hex, number, put};
 use wire::part::{part, tail};
-use wire_writer::writing::Written;
+use wire::refusal::Reason;
 
 const UINT16: u8 = 5;
 
@@ -38,13 +37,13 @@ pub fn vector(rt: &impl Print, line: &[u8], bytes: &[u8]) {
 fn again(rt: &impl Print, message: &[u8], types: &[u8]) {
     let mut out = [FILL; 128];
     match rewrite(&mut out, message, types) {
-        Written::Refused(n) => refused(rt, n, &out),
-        Written::Is(n) => same(rt, n, &out, message),
+        Err(reason) => refused(rt, reason, &out),
+        Ok(n) => same(rt, n, &out, message),
     }
 }
 
-fn refused(rt: &impl Print, n: u8, out: &[u8]) {
-    bad(rt, n);
+fn refused(rt: &impl Print, reason: Reason, out: &[u8]) {
+    bad(rt, reason.number());
     hex(rt, part(out, 0, 1));
 }
 
@@ -69,10 +68,10 @@ fn written(rt: &impl Print, bytes: &[u8], list: &[u8]) {
 fn count(list: &[u8], first: u8, second: u8) -> usize
     ensures { result ≤ 2 }
 {
-    if let Decimal::Is(_, _) = lettered(list, second) {
+    if lettered(list, second).is_some() {
         return 2;
     }
-    if let Decimal::Is(_, _) = lettered(list, first) {
+    if lettered(list, first).is_some() {
         return 1;
     }
     0
@@ -92,8 +91,8 @@ fn with_fields(rt: &impl Print, bytes: &[u8], list: &[u8], lengths: &[usize], in
         types,
         numbered(list, b'z'),
     ) {
-        Written::Refused(n) => refused(rt, n, &out),
-        Written::Is(n) => accepted(rt, n, &out, types),
+        Err(reason) => refused(rt, reason, &out),
+        Ok(n) => accepted(rt, n, &out, types),
     }
 }
 
@@ -106,13 +105,13 @@ fn accepted(rt: &impl Print, n: usize, out: &[u8], types: &[u8]) {
 
 fn read_back(rt: &impl Print, message: &[u8], types: &[u8]) {
     match read(message, types) {
-        MessageRead::NotValid => {
+        Ok(None) => {
             put(rt, b" invalid");
         }
-        MessageRead::Refused(n, place) => {
-            vector_lines::print::refused(rt, n, place);
+        Err(refusal) => {
+            vector_lines::print::refused(rt, refusal.reason.number(), refusal.place);
         }
-        MessageRead::Is(_, cursor, end) => {
+        Ok(Some((_, cursor, end))) => {
             number(rt, cursor.count);
             number(rt, end);
         }

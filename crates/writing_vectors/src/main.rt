@@ -2,11 +2,12 @@
 // documents 01 and 02.
 // Standard input has a line for each vector, below a heading that names the subject; what a line shows of itself is printed with the
 // answer. The module of each subject says what its lines are.
+// Buffers have a fixed size, since the program runs without a heap, as the library does.
 #![tactic(auto)]
 
 use vector_lines::bytes::word_bytes;
 use vector_lines::input::{LARGE, read_full};
-use vector_lines::lines::{after, item, letter, shown, word};
+use vector_lines::lines::{letter, shown, word};
 use vector_lines::print::{newline, put};
 use wire::part::part;
 
@@ -25,15 +26,20 @@ fn main(rt: HostRuntime) {
     lines(&rt, part(&text, 0, n));
 }
 
+// Each line, ended by a newline or by the text's end.
 fn lines(rt: &impl Print, text: &[u8]) {
+    if text.is_empty() {
+        return;
+    }
     let mut subject: u8 = 0;
-    let mut at: usize = 0;
-    while at < text.len() {
-        let line = item(text, at, b'\n');
+    for line in text
+        .strip_suffix(b"\n")
+        .unwrap_or(text)
+        .split(|b| *b == b'\n')
+    {
         put(rt, shown(line));
         subject = answered(rt, line, subject);
         newline(rt);
-        at = after(text, at, b'\n');
     }
 }
 

@@ -13,17 +13,16 @@ ghost use Rattle.std.specs.Prelude.{◌≤◌};
 use crate::FILL;
 use crate::optional::{optional_i64, optional32};
 use network_header::envelope::Envelope;
-use network_header::group::{GroupFields, GroupHeader};
-use network_header::header::{ClassId, PayloadHeader, Promoted};
-use network_message::envelope::{NetworkMessageRead, read};
+use network_header::group::GroupFields;
+use network_header::header::PayloadHeader;
+use network_message::envelope::read;
 use network_message::writer::{rewrite, write};
 use publisher_id::publisher::PublisherId;
-use text::decimal::Decimal;
 use vector_lines::lines::{letter, lettered, lettered16, low16, numbered, word};
 use vector_lines::print::{bad, hex, number};
 use wire::Guid;
 use wire::part::{part, tail};
-use wire_writer::writing::Written;
+use wire::refusal::Reason;
 
 // The largest room for a datagram.
 const ROOM: usize = 96;
@@ -62,13 +61,9 @@ fn first_size(first: u8) -> u16 {
 fn again(rt: &impl Print, datagram: &[u8], sizes: &[u16]) {
     let mut out = [FILL; 128];
     match rewrite(&mut out, datagram, sizes) {
-        Written::Refused(n) => {
-            bad(rt, n);
-        }
-        Written::Is(n) => {
-            hex(rt, part(&out, 0, n));
-        }
-    }
+        Err(reason) => bad(rt, reason.number()),
+        Ok(n) => hex(rt, part(&out, 0, n)),
+    };
 }
 
 fn written(rt: &impl Print, bytes: &[u8], list: &[u8], sizes: &[u16], configured: &[u16]) {
@@ -89,13 +84,13 @@ fn into(
     show(rt, answer, out, sizes);
 }
 
-fn show(rt: &impl Print, answer: Written, out: &[u8], sizes: &[u16]) {
+fn show(rt: &impl Print, answer: Result<usize, Reason>, out: &[u8], sizes: &[u16]) {
     match answer {
-        Written::Refused(n) => {
-            bad(rt, n);
+        Err(reason) => {
+            bad(rt, reason.number());
             hex(rt, part(out, 0, 2));
         }
-        Written::Is(n) => {
+        Ok(n) => {
             hex(rt, part(out, 0, n));
             hex(rt, part(out, n, 2));
             count(rt, part(out, 0, n), sizes);
@@ -105,16 +100,18 @@ fn show(rt: &impl Print, answer: Written, out: &[u8], sizes: &[u16]) {
 
 fn count(rt: &impl Print, datagram: &[u8], sizes: &[u16]) {
     match read(datagram, sizes) {
-        NetworkMessageRead::Refused(n, _) => {
-            bad(rt, n);
-        }
-        NetworkMessageRead::Is(_, _, p) => {
-            number(rt, p.count);
-        }
-    }
+        Err(refusal) => bad(rt, refusal.reason.number()),
+        Ok((_, _, p)) => number(rt, p.count),
+    };
 }
 
-fn given(out: &mut [u8], bytes: &[u8], list: &[u8], sizes: &[u16], configured: &[u16]) -> Written {
+fn given(
+    out: &mut [u8],
+    bytes: &[u8],
+    list: &[u8],
+    sizes: &[u16],
+    configured: &[u16],
+) -> Result<usize, Reason> {
     let text = numbered(list, b'T');
     let ids = numbered(list, b'I');
     let promoted = numbered(list, b'P');
@@ -149,31 +146,27 @@ fn envelope(list: &[u8]) -> Envelope {
 }
 
 fn publisher(list: &[u8]) -> PublisherId {
-    if let Decimal::Is(n, _) = lettered(list, b'b') {
+    if let Some((n, _)) = lettered(list, b'b') {
         return PublisherId::Byte((n % 256) as u8);
     }
-    if let Decimal::Is(n, _) = lettered(list, b'w') {
+    if let Some((n, _)) = lettered(list, b'w') {
         return PublisherId::UInt16(low16(n as usize));
     }
-    if let Decimal::Is(n, _) = lettered(list, b's') {
+    if let Some((n, _)) = lettered(list, b's') {
         return PublisherId::Text(n as usize);
     }
     PublisherId::Absent
 }
 
-fn class_id(list: &[u8]) -> ClassId {
-    let Decimal::Is(low, _) = lettered(list, b'l') else {
-        return ClassId::Absent;
-    };
+fn class_id(list: &[u8]) -> Option<Guid> {
+    let (low, _) = lettered(list, b'l')?;
     let high = numbered(list, b'h') as u64;
-    ClassId::Is(Guid { low, high })
+    Some(Guid { low, high })
 }
 
-fn group(list: &[u8]) -> GroupHeader {
-    let Decimal::Is(_, _) = lettered(list, b'g') else {
-        return GroupHeader::Absent;
-    };
-    GroupHeader::Is(GroupFields {
+fn group(list: &[u8]) -> Option<GroupFields> {
+    lettered(list, b'g')?;
+    Some(GroupFields {
         writer_group: lettered16(list, b'g'),
         version: optional32(list, b'v'),
         number: lettered16(list, b'n'),
@@ -182,10 +175,10 @@ fn group(list: &[u8]) -> GroupHeader {
 }
 
 fn payload_header(list: &[u8]) -> PayloadHeader {
-    if let Decimal::Is(n, _) = lettered(list, b'i') {
+    if let Some((n, _)) = lettered(list, b'i') {
         return PayloadHeader::Ids(low16(n as usize));
     }
-    if let Decimal::Is(n, _) = lettered(list, b'k') {
+    if let Some((n, _)) = lettered(list, b'k') {
         return PayloadHeader::Chunk(low16(n as usize));
     }
     if numbered(list, b'a') == 1 {
@@ -194,9 +187,7 @@ fn payload_header(list: &[u8]) -> PayloadHeader {
     PayloadHeader::Absent
 }
 
-fn promoted(list: &[u8]) -> Promoted {
-    let Decimal::Is(n, _) = lettered(list, b'f') else {
-        return Promoted::Absent;
-    };
-    Promoted::Size(n as usize)
+fn promoted(list: &[u8]) -> Option<usize> {
+    let (n, _) = lettered(list, b'f')?;
+    Some(n as usize)
 }

@@ -3,13 +3,12 @@
 // is null; `i` the group's id; `f` and `s` the bytes of the Booleans; `R` how many bytes the buffer lacks of 96. The answer is the bytes
 // written and the two bytes of the buffer after them (it is filled with `ee`); of a refusal the number and the buffer's first two bytes.
 use crate::FILL;
-use probe::body::{ListCount, Probe};
+use probe::body::Probe;
 use probe::put::write;
-use text::decimal::Decimal;
 use vector_lines::lines::{letter, lettered, low16, numbered, word};
 use vector_lines::print::{bad, hex};
 use wire::part::part;
-use wire_writer::writing::Written;
+use wire::refusal::Reason;
 
 // The largest room for a body.
 const ROOM: usize = 96;
@@ -27,13 +26,13 @@ fn into(rt: &impl Print, out: &mut [u8], p: Probe, bytes: &[u8]) {
     show(rt, answer, out);
 }
 
-fn show(rt: &impl Print, answer: Written, out: &[u8]) {
+fn show(rt: &impl Print, answer: Result<usize, Reason>, out: &[u8]) {
     match answer {
-        Written::Refused(n) => {
-            bad(rt, n);
+        Err(reason) => {
+            bad(rt, reason.number());
             hex(rt, part(out, 0, 2));
         }
-        Written::Is(n) => {
+        Ok(n) => {
             hex(rt, part(out, 0, n));
             hex(rt, part(out, n, 2));
         }
@@ -51,9 +50,7 @@ fn probe(kind: u8, list: &[u8]) -> Probe {
     }
 }
 
-fn count(list: &[u8]) -> ListCount {
-    let Decimal::Is(n, _) = lettered(list, b'n') else {
-        return ListCount::Null;
-    };
-    ListCount::Of(n as usize)
+fn count(list: &[u8]) -> Option<usize> {
+    let (n, _) = lettered(list, b'n')?;
+    Some(n as usize)
 }

@@ -1,6 +1,6 @@
-use Rattle.config.proofs.Asked.{place_contains}
+use mathlib.Core.Path.{◌∙◌}
+use Rattle.config.proofs.Asked.{any_contains}
 use Rattle.config.proofs.has_writer.Goals as goal
 
 pub returns : goal.returns
-returns c =
-    rw c.find_writer.ensures (place_contains c.args.id c.args.ids.now)
+returns c = c.contains.ensures.value ∙ any_contains c.args.id c.args.ids.now

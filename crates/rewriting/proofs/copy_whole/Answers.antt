@@ -7,5 +7,4 @@ use Rattle.rewriting.proofs.copy_whole.Goals as goal
 pub returns : goal.returns
 returns c =
     let args = c.args in
-    written 0 args.s.now args.out.now refl c.room_refusal-full.result c.room_refusal-full.ensures c.if-full-ne0.false
-    (length args.s.now) _ _ refl (puts c.put_run.ensures)
+    written 0 args.s.now args.out.now refl c.in_ok-room_rule.ensures (length args.s.now) _ _ refl (puts c.put_run.ensures)

@@ -1,7 +1,8 @@
 use Rattle.std.proofs.Common.{◌≡◌, ℕ, ◌<◌, List, length, ap, ◌∙◌, arith, length-append}
 use Rattle.listing.proofs.Blocks.{left_text, left_cursor, block_and_rest}
 use Rattle.listing.specs.Text.{lines_text}
-use Rattle.walk.specs.Lines.{Writers, writers, lines_from}
+use Rattle.config.specs.Writers.{Writers, lists_in}
+use Rattle.walk.specs.Lines.{lines_from}
 use Rattle.walk.specs.declared.lines.LineCursor.{LineCursor}
 use Rattle.uadp_list.proofs.print_lines.Goals as goal
 
@@ -15,5 +16,5 @@ shorter w d room r c n e q h =
 
 pub loop-text-smaller : goal.loop-text-smaller
 loop-text-smaller g c =
-    shorter (writers c.args.ids.now c.args.sizes.now c.args.starts.now c.args.types.now) c.args.s.now _ _ c.loop-text.cursor _
+    shorter (lists_in c.args.w) c.args.s.now _ _ c.loop-text.cursor _
     c.put_block-block.ensures.0 c.put_block-block.ensures.2 c.if-n-eq0.false

@@ -1,41 +1,43 @@
-use mathlib.Core.Path.{sym, ◌∙◌}
+use Rattle.std.proofs.Common.{rules}
+use Rattle.std.specs.Prelude.{Ok}
+use mathlib.Core.Path.{sym, ap, ◌∙◌}
 use Prim.Native.Nat.{◌-◌}
-use Rattle.wire.specs.Items.{answer_reached}
+use Rattle.wire.specs.Refusal.{answer_to}
 use Rattle.wire.proofs.Reading.{told}
-use Rattle.wire.proofs.Each.{each_done}
 use Rattle.value.specs.Value.{value_at}
 use Rattle.value.proofs.Heads.{no_level, by_head, inside_refused, inside_ends}
-use Rattle.plain_value.proofs.Passing.{pass_step, pass_stop}
+use Rattle.plain_value.proofs.Passing.{pass_turn, pass_halt, each_end}
 use Rattle.value.proofs.+pass_value.Goals as goal
 
 pub returns-then-levels-eq0 : goal.returns-then-levels-eq0
 returns-then-levels-eq0 t c = c.too_deep.ensures ∙ no_level c.args.levels c.args.t c.args.s.now c.args.at c.if-levels-eq0.true
 
-pub loop-left-preserved : goal.loop-left-preserved
-loop-left-preserved t c =
-    c.loop-left.invariant ∙ pass_step (value_at _ _) _ c.loop-left.left c.loop-left.p c.loop-left-test.true (sym (told answer_reached c.pass_value.ensures c.in-To-pass_value.is))
-
-pub returns-in-Refused-pass_value : goal.returns-in-Refused-pass_value
-returns-in-Refused-pass_value t c =
+pub returns-in_err-end : goal.returns-in_err-end
+returns-in_err-end t c =
     let a = c.args in
-    inside_refused (value_at (a.levels - 1)) a.s.now c.in-Holds.from c.in-Holds.count c.in-Holds.inner c.in-Holds.after
-    c.inside-left.result c.inside-left.ensures
-    (c.loop-left.invariant ∙ pass_stop (value_at _ _) _ c.loop-left.left c.loop-left.p c.loop-left-test.true (sym (told answer_reached c.pass_value.ensures c.in-Refused-pass_value.is)))
-    ∙ by_head a.levels a.t a.s.now a.at c.if-levels-eq0.false (c.head_at.ensures (value_at (a.levels - 1))) c.in-Holds.is
+    rw (sym (by_head a.levels a.t a.s.now a.at c.if-levels-eq0.false (c.head_at.ensures (value_at (a.levels - 1))) c.in_err-end.was)) (search rules)
+
+pub loop-preserved : goal.loop-preserved
+loop-preserved t c =
+    c.loop.invariant ∙ pass_turn (value_at _ _) _ _ c.loop.counter c.loop.p c.loop-test.true (sym (told (answer_to tt) c.pass_value.ensures c.in_ok-p-in-Holds.was))
+
+pub returns-in_err-p-in-Holds : goal.returns-in_err-p-in-Holds
+returns-in_err-p-in-Holds t c =
+    let a = c.args in
+    let stop = sym (told (answer_to tt) c.pass_value.ensures c.in_err-p-in-Holds.was) in
+    let h = c.loop.invariant ∙ pass_halt (value_at (a.levels - 1) c.in-Holds.inner) _ _ c.loop.counter c.loop.p c.loop-test.true stop in
+    let q = inside_refused (value_at (a.levels - 1)) a.s.now c.in-Holds.from c.in-Holds.count c.in-Holds.inner c.in-Holds.after c.inside-end.result c.inside-end.ensures h
+    ∙ by_head a.levels a.t a.s.now a.at c.if-levels-eq0.false (c.head_at.ensures (value_at (a.levels - 1))) (c.in_ok-end.was ∙ ap Ok c.in-Holds.is) in
+    rw (sym q) (search rules)
 
 pub returns-in-To : goal.returns-in-To
 returns-in-To t c =
     let a = c.args in
-    by_head a.levels a.t a.s.now a.at c.if-levels-eq0.false (c.head_at.ensures (value_at (a.levels - 1))) c.in-To.is
+    by_head a.levels a.t a.s.now a.at c.if-levels-eq0.false (c.head_at.ensures (value_at (a.levels - 1))) (c.in_ok-end.was ∙ ap Ok c.in-To.is)
 
-pub returns-in-Refused : goal.returns-in-Refused
-returns-in-Refused t c =
-    let a = c.args in
-    by_head a.levels a.t a.s.now a.at c.if-levels-eq0.false (c.head_at.ensures (value_at (a.levels - 1))) c.in-Refused.is
-
-pub returns-after-loop-left : goal.returns-after-loop-left
-returns-after-loop-left t c =
+pub returns-after-loop : goal.returns-after-loop
+returns-after-loop t c =
     let a = c.args in
     inside_ends (value_at (a.levels - 1)) a.s.now c.in-Holds.from c.in-Holds.count c.in-Holds.inner c.in-Holds.after
-    c.inside-left.result c.inside-left.ensures (c.loop-left.invariant ∙ each_done (value_at _ _) _ c.loop-left.left c.loop-left.p c.loop-left-test.false) c.pass_rest.ensures
-    ∙ by_head a.levels a.t a.s.now a.at c.if-levels-eq0.false (c.head_at.ensures (value_at (a.levels - 1))) c.in-Holds.is
+    c.inside-end.result c.inside-end.ensures (c.loop.invariant ∙ each_end (value_at _ _) _ _ c.loop.counter c.loop.p c.loop-test.false) c.pass_rest.ensures
+    ∙ by_head a.levels a.t a.s.now a.at c.if-levels-eq0.false (c.head_at.ensures (value_at (a.levels - 1))) (c.in_ok-end.was ∙ ap Ok c.in-Holds.is)

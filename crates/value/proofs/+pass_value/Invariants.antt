@@ -7,8 +7,5 @@ use Rattle.value.proofs.+pass_value.Given as goal
 abbrev pub decreases-pass_value : goal.decreases-pass_value
 decreases-pass_value l = l.levels
 
-abbrev pub invariant-loop-left : goal.invariant-loop-left
-invariant-loop-left l = each (value_at (l.levels - 1) l.inner) l.initial.left l.s l.initial.p ≡ each (value_at (l.levels - 1) l.inner) l.left l.s l.p
-
-abbrev pub decreases-loop-left : goal.decreases-loop-left
-decreases-loop-left l = l.left
+abbrev pub invariant-loop : goal.invariant-loop
+invariant-loop l = each (value_at (l.levels - 1) l.inner) l.end l.s l.from ≡ each (value_at (l.levels - 1) l.inner) (l.end - l.counter) l.s l.p

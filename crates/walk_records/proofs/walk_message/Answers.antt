@@ -9,22 +9,22 @@ pub walk_opened-requires : goal.walk_opened-requires
 walk_opened-requires c =
     let fits = part_fits c.args.types.now c.args.s.now _ c.args.p c.args.writer c.args.k
     c.args.out.now c.part-message.ensures c.requires (omega (arith, c.well_formed)) in
-    (fits.0, fits.1, front_first c.args.types.now c.part-message.result.now _ _ (told answer_message c.front.ensures c.in-Is.is))
+    (fits.0, fits.1, front_first c.args.types.now c.part-message.result.now _ _ (rw c.in-Ok-Some.field-0-is at (told answer_message c.front.ensures c.in-Ok-Some.is)))
 
-pub returns-in-NotValid : goal.returns-in-NotValid
-returns-in-NotValid c =
+pub returns-in-Ok-None : goal.returns-in-Ok-None
+returns-in-Ok-None c =
     let args = c.args in
     invalid_put args.types.now args.s.now _ args.p args.writer args.k args.out.now c.part-message.ensures _
-    (told answer_message c.front.ensures c.in-NotValid.is) c.put_message.ensures
+    (rw c.in-Ok-None.field-0-is at (told answer_message c.front.ensures c.in-Ok-None.is)) c.put_message-in-Ok-None.ensures
 
-pub returns-in-Refused : goal.returns-in-Refused
-returns-in-Refused c =
+pub returns-in-Err : goal.returns-in-Err
+returns-in-Err c =
     let args = c.args in
     refused_put args.types.now args.s.now _ args.p args.writer args.k args.out.now c.part-message.ensures _ _ _
-    (told answer_message c.front.ensures c.in-Refused.is) c.put_message-in-Refused.ensures
+    (told answer_message c.front.ensures c.in-Err.is) (rw c.number-n.ensures at c.put_message.ensures)
 
-pub returns-in-Is : goal.returns-in-Is
-returns-in-Is c =
+pub returns-in-Ok-Some : goal.returns-in-Ok-Some
+returns-in-Ok-Some c =
     let args = c.args in
     opened_put args.types.now args.s.now _ args.p args.writer args.k args.out.now c.part-message.ensures _ _ _ _
-    (told answer_message c.front.ensures c.in-Is.is) c.walk_opened.ensures
+    (rw c.in-Ok-Some.field-0-is at (told answer_message c.front.ensures c.in-Ok-Some.is)) c.walk_opened.ensures

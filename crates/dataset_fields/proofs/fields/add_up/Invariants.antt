@@ -1,13 +1,8 @@
 use lib.Dec.{eqb}
-use lib.ListN.{length, drop}
-use Prim.Native.Nat.{◌≤◌, ◌-◌}
+use lib.ListN.{drop}
 use mathlib.Core.Path.{◌≡◌}
 use Rattle.wire.specs.Lists.{total}
 use Rattle.dataset_fields.proofs.fields.add_up.Given as goal
 
-abbrev pub invariant-loop-k : goal.invariant-loop-k
-invariant-loop-k l =
-    (l.k ≤ length l.lengths) × (eqb (total l.lengths) l.bytes ≡ eqb (total (drop l.k l.lengths)) l.left)
-
-abbrev pub decreases-loop-k : goal.decreases-loop-k
-decreases-loop-k l = length l.lengths - l.k
+abbrev pub invariant-loop-n : goal.invariant-loop-n
+invariant-loop-n l = eqb (total l.lengths) l.bytes ≡ eqb (total (drop l.n-index l.lengths)) l.left

@@ -8,22 +8,22 @@ use Rattle.listing.proofs.quick.put_message.Goals as goal
 pub put_opened-requires : goal.put_opened-requires
 put_opened-requires c = (
   opened_room c.args.types.now c.args.s.now c.part-message.result.now c.args.p c.args.writer
-      c.part-message.ensures _ _ (told answer_message c.front.ensures c.in-Is.is) _ _ c.requires,
+      c.part-message.ensures _ _ (rw c.in-Ok-Some.field-0-is at (told answer_message c.front.ensures c.in-Ok-Some.is)) _ _ c.requires,
   part_fits c.args.types.now c.args.s.now c.part-message.result.now c.args.p
       c.args.writer c.part-message.ensures (omega arith) (omega (arith, c.well_formed)),
-  front_first c.args.types.now c.part-message.result.now _ _ (told answer_message c.front.ensures c.in-Is.is),
+  front_first c.args.types.now c.part-message.result.now _ _ (rw c.in-Ok-Some.field-0-is at (told answer_message c.front.ensures c.in-Ok-Some.is)),
   opened_ends c.args.types.now c.args.s.now c.part-message.result.now c.args.p
-      c.args.writer c.part-message.ensures _ _ (told answer_message c.front.ensures c.in-Is.is),
+      c.args.writer c.part-message.ensures _ _ (rw c.in-Ok-Some.field-0-is at (told answer_message c.front.ensures c.in-Ok-Some.is)),
 )
 
-pub returns-in-NotValid : goal.returns-in-NotValid
-returns-in-NotValid c =
+pub returns-in-Ok-None : goal.returns-in-Ok-None
+returns-in-Ok-None c =
     let args = c.args in
     invalid_message args.types.now args.s.now c.part-message.result.now args.p args.writer c.part-message.ensures
-    (told answer_message c.front.ensures c.in-NotValid.is) c.set_invalid.ensures
+    (rw c.in-Ok-None.field-0-is at (told answer_message c.front.ensures c.in-Ok-None.is)) c.set_invalid.ensures
 
-pub returns-in-Refused : goal.returns-in-Refused
-returns-in-Refused c =
+pub returns-in-Err : goal.returns-in-Err
+returns-in-Err c =
     let args = c.args in
     refused_message args.types.now args.s.now c.part-message.result.now args.p args.writer c.part-message.ensures
-    (told answer_message c.front.ensures c.in-Refused.is) c.set_bad.ensures
+    (told answer_message c.front.ensures c.in-Err.is) (rw c.number.ensures at c.set_bad.ensures)

@@ -27,7 +27,7 @@ returns-then-marks-at-lt-EIGHT c =
 pub returns : goal.returns
 returns c =
     let args = c.args in (
-      look_bits args.marks.now args.i 8 18446744073709551615 c.choose_number.result args.want (λ k. omega (arith, c.shared_slice_known-1.given k)) (omega arith) refl
-          (c.choose_number.ensures ∙ ap (λ (n : ℕ). cond args.want n (18446744073709551615 - n)) c.eight-number.ensures),
+      look_bits args.marks.now args.i 8 18446744073709551615 c.choose-2.result args.want (λ k. omega (arith, c.shared_slice_known-1.given k)) (omega arith) refl
+          (c.choose-2.ensures ∙ ap (λ (n : ℕ). cond args.want n (18446744073709551615 - n)) c.eight-number.ensures),
       omega arith,
     )

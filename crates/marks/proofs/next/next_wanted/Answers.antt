@@ -1,5 +1,7 @@
 use native.Mathlib.Omega.{arith}
 use Prim.Native.Nat.{◌+◌}
+use mathlib.Core.Path.{◌≡◌}
+use lib.Count.{count_trailing_zeros}
 use Rattle.wire.proofs.Cases.{by_lt}
 use Rattle.marks.specs.Offsets.{wanted}
 use Rattle.marks.specs.Marks.{in_use, marked}
@@ -10,14 +12,14 @@ use Rattle.marks.proofs.next.next_wanted.Goals as goal
 pub returns-then-seen-ne0 : goal.returns-then-seen-ne0
 returns-then-seen-ne0 c =
     let args = c.args in
-    next_is (λ j. wanted args.want (marked in_use args.marks.now j)) args.stop args.from (c.loop-i.i + c.least.result)
+    next_is (λ j. wanted args.want (marked in_use args.marks.now j)) args.stop args.from (c.loop-i.i + c.min.result)
     (record {
       from = omega (arith, c.loop-i.invariant.0);
-      upto = λ u. absurd (omega (arith, c.least.ensures.1));
+      upto = λ u. absurd (omega (arith, c.min.ensures));
       none = λ j l u. by_lt _ j c.loop-i.i (λ x. c.loop-i.invariant.2 j l x)
           (λ x. seen_before (λ j. wanted args.want (marked in_use args.marks.now j)) c.loop-i.i c.look-seen.result.told c.look-seen.result.bits c.look-seen.ensures.0
-          (omega (arith, c.struct_known-1.given)) c.if-seen-ne0.true j x (omega (arith, c.least.ensures.0)));
-      some = λ l. let q = c.least.ensures.2 (omega arith) in
+          (omega (arith, c.struct_known-1.given)) c.if-seen-ne0.true j x (omega (arith, c.min.ensures)));
+      some = λ l. let q : c.min.result ≡ count_trailing_zeros 64 c.look-seen.result.bits = omega (arith, c.min.ensures) in
           rw q (seen_first (λ j. wanted args.want (marked in_use args.marks.now j)) c.loop-i.i c.look-seen.result.told c.look-seen.result.bits c.look-seen.ensures.0
           (omega (arith, c.struct_known-1.given)) c.if-seen-ne0.true);
     })

@@ -17,5 +17,5 @@ loop-i-preserved c =
       omega (arith, c.loop-i.invariant.2),
       λ j l u. by_lt _ j c.loop-i.i (λ x. c.loop-i.invariant.3 j l x)
           (λ x. alike_eight args.marks.now c.loop-i.i args.want (λ k. omega (arith, c.shared_slice_known-1.given k)) c.loop-i.invariant.2
-          (sym c.eight.ensures ∙ c.if-eight-unwanted.false ∙ c.choose_number-unwanted.ensures) j x u),
+          (sym c.eight.ensures ∙ c.if-eight-unwanted.false ∙ c.choose-unwanted.ensures) j x u),
     )

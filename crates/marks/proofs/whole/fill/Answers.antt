@@ -1,23 +1,12 @@
-use Rattle.marks.proofs.WholeLaws.{full_byte}
-use Rattle.marks.proofs.CountLaws.{cut_start, cut_on}
-use Rattle.marks.specs.Marks.{in_use}
-use Rattle.marks.specs.Offsets.{always}
-use borrow.Author.Rules.{rules}
+use Rattle.marks.proofs.WholeLaws.{filled}
+use lib.ListN.{drop, length-drop}
+use lib.Seq.{length-take-le}
 use native.Mathlib.Omega.{arith}
-use mathlib.Core.Path.{refl, sym}
-use Prim.Native.Nat.{◌+◌, ◌*◌}
+use Prim.Native.Nat.{◌-◌}
 use Rattle.marks.proofs.whole.fill.Goals as goal
 
-pub loop-k-init : goal.loop-k-init
-loop-k-init c =
-    (omega arith, omega arith, refl, sym (cut_start in_use always (8 * c.args.first) c.args.marks.now))
-
-pub loop-k-preserved : goal.loop-k-preserved
-loop-k-preserved c = (
-  omega arith,
-  omega arith,
-  search rules,
-  cut_on in_use always (8 * c.args.first) c.args.marks.now (8 * c.loop-k.k) (8 * (c.loop-k.k + 1)) c.loop-k.marks _ (omega arith) (omega arith)
-      c.loop-k.invariant.3
-      (full_byte c.loop-k.marks c.loop-k.k (omega arith) (λ i. omega (arith, c.slice_known-1.given i))),
-)
+pub returns : goal.returns
+returns c =
+    let a = c.args in
+    let long = length-take-le (a.last - a.first) (drop a.first a.marks.now) (omega (arith, length-drop a.first a.marks.now)) in
+    filled a.marks.now a.first a.last _ (omega arith) (omega arith) (λ i. omega (arith, c.slice_known-1.given i)) long (c.fill.ensures.after (λ y h. h))

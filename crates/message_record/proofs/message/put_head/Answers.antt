@@ -16,8 +16,8 @@ returns c =
     let fits = fits_head args.h args.cursor args.end _ _ c.well_formed.1.0 c.well_formed.1.1.0 end in
     let stored =
     head_put args.h args.cursor args.end args.out.now _ _ _ _ _ _ _ _ _ _ _ _ c.encoding_number.ensures
-    c.kind_number.ensures c.items_number.ensures c.value16.ensures
-    c.value_i64.ensures c.value16-2.ensures c.value16-3.ensures c.value32.ensures
-    c.value32-2.ensures c.encoding_number-2.ensures c.flag_number.ensures.0 c.put_numbers.ensures in
+    c.kind_number.ensures c.items_number.ensures c.value.ensures
+    c.value-2.ensures c.value-3.ensures c.value-4.ensures c.value-5.ensures
+    c.value-6.ensures c.encoding_number-2.ensures c.flag_number.ensures.0 c.put_numbers.ensures in
     let m : Message = record { header = args.h; cursor = args.cursor; end = args.end } in
     (stored, λ l. subst (λ (s : List ℕ). HeadBack s m) (sym stored) (head_back m args.out.now fits l))

@@ -5,7 +5,7 @@ use Rattle.message_record.proofs.quick.variant_at.Goals as goal
 pub returns-then-at-end : goal.returns-then-at-end
 returns-then-at-end c =
     let args = c.args in
-    (fixed_variant 99 args.s.now args.at c.fixed_end-end.ensures c.if-at-end.true).1
+    rw c.new.ensures (fixed_variant 99 args.s.now args.at c.fixed_end-end.ensures c.if-at-end.true).1
 
 pub returns : goal.returns
 returns c =

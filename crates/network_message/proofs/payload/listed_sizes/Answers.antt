@@ -17,6 +17,7 @@ returns-then-not-tally c =
       holds c.has.result (args.at + 2 * args.n) (length args.s.now) c.has.ensures c.if-not-has.false-raw,
       sym (c.tally_whole-tally.ensures.1 ∙ ap all_positive sizes)
           ∙ not-true c.tally_whole-tally.result.positive c.if-not-tally.true,
+      c.at-then-not-tally.ensures,
     )
 
 pub returns-then-tally-s : goal.returns-then-tally-s
@@ -30,6 +31,7 @@ returns-then-tally-s c =
       sym (c.tally_whole-tally.ensures.1 ∙ ap all_positive sizes)
           ∙ not-false c.tally_whole-tally.result.positive c.if-not-tally.false,
       ne_eqb _ _ n,
+      c.at-then-tally-s.ensures,
     )
 
 pub returns : goal.returns

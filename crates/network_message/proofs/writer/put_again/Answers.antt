@@ -14,6 +14,6 @@ returns c =
     let args = c.args in
     let h = envelope_bytes args.text.now args.ids.now args.promoted.now args.x in
     let e = payload_sized h args.payload.now c.header_size.ensures.0 in
-    written 0 (h ++ args.payload.now) args.out.now refl c.room_refusal-full.result
-    (c.room_refusal-full.ensures ∙ ap (λ (n : ℕ). room_refusal n (length args.out.now)) e) c.if-full-ne0.false _ _ _ e
+    written 0 (h ++ args.payload.now) args.out.now refl
+    (c.in_ok-room_rule.ensures ∙ ap (λ (n : ℕ). room_refusal n (length args.out.now)) e) _ _ _ e
     (then c.put_header-at.ensures (puts c.put_run.ensures))

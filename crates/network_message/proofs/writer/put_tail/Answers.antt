@@ -4,4 +4,4 @@ use Rattle.network_message.proofs.writer.put_tail.Goals as goal
 pub returns : goal.returns
 returns c =
     then (puts c.put_payload_header-after_ids.ensures)
-    (then (puts c.put_optional_i64-after_time.ensures) (then (puts c.put_optional16-after_picoseconds.ensures) (puts c.put_promoted.ensures)))
+    (then (puts c.put_optional-after_time.ensures) (then (puts c.put_optional-after_picoseconds.ensures) (puts c.put_promoted.ensures)))

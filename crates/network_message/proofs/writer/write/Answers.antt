@@ -1,7 +1,7 @@
 use Rattle.network_message.proofs.Lent.{numbers}
 use Rattle.network_message.proofs.Short.{all_short}
 use Rattle.network_message.specs.Writer.{given_datagram, datagram_of, datagram_refusal}
-use Rattle.wire_writer.proofs.Answering.{no_room, written}
+use Rattle.wire_writer.proofs.Answering.{written}
 use Rattle.network_header.proofs.Fitting.{fits_envelope}
 use Rattle.wire_writer.specs.Writing.{room_refusal}
 use lib.ListN.{length}
@@ -13,30 +13,17 @@ pub datagram_size-size-requires : goal.datagram_size-size-requires
 datagram_size-size-requires c =
     let args = c.args in
     let g = given_datagram args.text.now args.ids.now args.promoted.now args.lengths.now args.messages.now in
-    all_short g args.x args.sizes.now args.configured.now (sym c.refusal-number.ensures ∙ c.if-number-ne0.false)
-
-pub returns-then-full-ne0 : goal.returns-then-full-ne0
-returns-then-full-ne0 c =
-    let args = c.args in
-    let g = given_datagram args.text.now args.ids.now args.promoted.now args.lengths.now args.messages.now in
-    let room = length args.out.now in
-    let full = c.room_refusal-full.ensures ∙ ap (λ (n : ℕ). room_refusal n room) c.datagram_size-size.ensures in (
-      fits_envelope args.x _ c.well_formed.1.0,
-      no_room (datagram_refusal g args.x args.sizes.now args.configured.now) (datagram_of g args.x) args.out.now
-          (sym c.refusal-number.ensures ∙ c.if-number-ne0.false) c.room_refusal-full.result full c.if-full-ne0.true,
-      numbers args.sizes.now c.shared_slice_known-6-1.given,
-      numbers args.configured.now c.shared_slice_known-7-1.given,
-    )
+    all_short g args.x args.sizes.now args.configured.now (sym c.in_ok-given_refusal.ensures)
 
 pub returns : goal.returns
 returns c =
     let args = c.args in
     let g = given_datagram args.text.now args.ids.now args.promoted.now args.lengths.now args.messages.now in
     let room = length args.out.now in
-    let full = c.room_refusal-full.ensures ∙ ap (λ (n : ℕ). room_refusal n room) c.datagram_size-size.ensures in (
+    let full = c.in_ok-room_rule.ensures ∙ ap (λ (n : ℕ). room_refusal n room) c.datagram_size-size.ensures in (
       fits_envelope args.x _ c.well_formed.1.0,
       written (datagram_refusal g args.x args.sizes.now args.configured.now) (datagram_of g args.x) args.out.now
-          (sym c.refusal-number.ensures ∙ c.if-number-ne0.false) c.room_refusal-full.result full c.if-full-ne0.false c.datagram_size-size.result _ _ c.datagram_size-size.ensures
+          (sym c.in_ok-given_refusal.ensures) full c.datagram_size-size.result _ _ c.datagram_size-size.ensures
           c.put_datagram.ensures,
       numbers args.sizes.now c.shared_slice_known-6-1.given,
       numbers args.configured.now c.shared_slice_known-7-1.given,

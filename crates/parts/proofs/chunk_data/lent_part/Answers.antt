@@ -1,7 +1,11 @@
+use borrow.Author.Rules.{rules}
 use Rattle.chunk.specs.Datagram.{chunk_at}
-use Rattle.parts.proofs.PartBytes.{chunk_told}
+use Rattle.wire.proofs.Reading.{told}
+use Rattle.parts.specs.Part.{located}
+use Rattle.parts.proofs.PartBytes.{no_part, chunk_bytes}
 use Rattle.parts.proofs.chunk_data.lent_part.Goals as goal
 
-pub returns : goal.returns
-returns c =
-    chunk_told (chunk_at c.args.sizes.now c.args.s.now) c.args.s.now c.locate-l.result c.part_of.result c.locate-l.ensures c.part_of.ensures
+pub returns-in_err-locate : goal.returns-in_err-locate
+returns-in_err-locate c =
+    let a = c.args in
+    rw (no_part _ _ a.s.now _ (chunk_bytes (chunk_at a.sizes.now a.s.now) a.s.now) (told located c.locate.ensures c.in_err-locate.was)) (search rules)

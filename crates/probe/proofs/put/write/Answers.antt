@@ -12,8 +12,7 @@ pub returns : goal.returns
 returns c = (
   fits_probe c.args.p _ c.well_formed.1.0,
   written (probe_body_refusal c.args.bytes.now c.args.p) (probe_bytes c.args.bytes.now c.args.p) c.args.out.now
-      (sym c.refusal-number.ensures ∙ c.if-number-ne0.false)
-      c.room_refusal-full.result
-      (c.room_refusal-full.ensures ∙ ap (λ (n : ℕ). room_refusal n (length c.args.out.now)) c.body_size-size.ensures) c.if-full-ne0.false
+      (sym c.in_ok-refusal.ensures)
+      (c.in_ok-room_rule.ensures ∙ ap (λ (n : ℕ). room_refusal n (length c.args.out.now)) c.body_size-size.ensures)
       c.body_size-size.result _ _ c.body_size-size.ensures (then c.put_head-at.ensures c.put_parts.ensures),
 )

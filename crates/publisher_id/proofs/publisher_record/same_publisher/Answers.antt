@@ -2,7 +2,7 @@ use Prim.Native.Nat.{ℕ}
 use mathlib.Core.Path.{sym, ◌∙◌, ap, ap₂}
 use lib.ListN.{take}
 use Rattle.publisher_id.specs.PublisherRecord.{publisher_of, same_text}
-use Rattle.publisher_id.proofs.Equality.{same_publisher_code, same_publisher_value, same_publisher_text}
+use Rattle.publisher_id.proofs.Equality.{same_publisher_code, same_publisher_value, same_publisher_text, same_text_is}
 use Rattle.publisher_id.proofs.publisher_record.same_publisher.Goals as goal
 
 pub returns-then-code : goal.returns-then-code
@@ -19,7 +19,7 @@ returns-then-value c =
 pub returns : goal.returns
 returns c =
     let args = c.args in
-    c.same_text.ensures ∙ ap₂ same_text
+    c.eq.ensures ∙ same_text_is _ _ ∙ ap₂ same_text
     (c.part.ensures ∙ ap (λ (n : ℕ). take n args.a.text) c.text_length.ensures)
     (c.part-2.ensures ∙ ap (λ (n : ℕ). take n args.b.text) c.text_length-2.ensures)
     ∙ sym (same_publisher_text (publisher_of args.a) (publisher_of args.b)

@@ -16,17 +16,17 @@ loop-i-init c =
       omega arith,
       sym
           (from_none args.start args.start
-          (λ k. differs (marked_view in_use args.end args.payload.now args.marks.now k) (marked_view in_use args.end args.from.now args.from_marks.now k))
+          (λ k. differs (marked_view in_use args.end args.held.payload.now args.held.marks.now k) (marked_view in_use args.end args.source.payload.now args.source.marks.now k))
           (λ k h l. absurd (omega arith))),
     )
 
 pub loop-i-preserved : goal.loop-i-preserved
 loop-i-preserved c =
     let args = c.args in
-    let p = args.payload.now in
-    let m = args.marks.now in
-    let q = args.from.now in
-    let n = args.from_marks.now in
+    let p = args.held.payload.now in
+    let m = args.held.marks.now in
+    let q = args.source.payload.now in
+    let n = args.source.marks.now in
     let test = c.differ-clash.ensures
     ∙ ap₂ (λ (b d : Bool). differs (only_if b (get_or p c.loop-i.i 0)) (only_if d (get_or q c.loop-i.i 0))) c.is_marked.ensures c.is_marked-in-loop-i.ensures
     ∙ sym (clash_step_marked in_use args.end p m q n c.loop-i.i (omega arith)) in (

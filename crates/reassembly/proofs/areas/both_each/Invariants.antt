@@ -3,12 +3,10 @@ use Rattle.reassembly.specs.Views.{differs}
 use Rattle.marks.specs.Marks.{in_use}
 use Rattle.marks.specs.Offsets.{any_from}
 use mathlib.Core.Path.{◌≡◌}
-use Prim.Native.Nat.{◌-◌, ◌≤◌}
+use Prim.Native.Nat.{◌≤◌}
 use Rattle.reassembly.proofs.areas.both_each.Given as goal
 
 abbrev pub invariant-loop-i : goal.invariant-loop-i
 invariant-loop-i l =
-    (l.start ≤ l.i) × (l.i ≤ l.end) × (l.found ≡ any_from l.start l.i (λ k. differs (marked_view in_use l.end l.payload l.marks k) (marked_view in_use l.end l.from l.from_marks k)))
-
-abbrev pub decreases-loop-i : goal.decreases-loop-i
-decreases-loop-i l = l.end - l.i
+    (l.start ≤ l.i) × (l.i ≤ l.end)
+    × (l.found ≡ any_from l.start l.i (λ k. differs (marked_view in_use l.end l.held.payload.now l.held.marks.now k) (marked_view in_use l.end l.source.payload.now l.source.marks.now k)))

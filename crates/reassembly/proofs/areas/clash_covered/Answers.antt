@@ -13,10 +13,10 @@ use Rattle.reassembly.proofs.areas.clash_covered.Goals as goal
 pub returns-then-both_run : goal.returns-then-both_run
 returns-then-both_run c =
     let args = c.args in
-    let p = args.payload.now in
-    let m = args.marks.now in
-    let q = args.from.now in
-    let n = args.from_marks.now in
+    let p = args.held.payload.now in
+    let m = args.held.marks.now in
+    let q = args.source.payload.now in
+    let n = args.source.marks.now in
     let found = sym (both_run in_use c.run_end-next.result args.total p m q n c.loop-i.i c.run_end-next.result (omega arith) (omega arith))
     ∙ sym c.both_run.ensures ∙ c.if-both_run.true in
     sym (clash_whole args.total (marked_view in_use args.total p m) (marked_view in_use args.total q n)
@@ -26,10 +26,10 @@ returns-then-both_run c =
 pub loop-i-preserved : goal.loop-i-preserved
 loop-i-preserved c =
     let args = c.args in
-    let p = args.payload.now in
-    let m = args.marks.now in
-    let q = args.from.now in
-    let n = args.from_marks.now in
+    let p = args.held.payload.now in
+    let m = args.held.marks.now in
+    let q = args.source.payload.now in
+    let n = args.source.marks.now in
     let none = sym (both_run in_use c.run_end-next.result args.total p m q n c.loop-i.i c.run_end-next.result (omega arith) (omega arith))
     ∙ sym c.both_run.ensures ∙ c.if-both_run.false in (
       omega arith,
@@ -40,10 +40,10 @@ loop-i-preserved c =
 pub returns : goal.returns
 returns c =
     let args = c.args in
-    let p = args.payload.now in
-    let m = args.marks.now in
-    let q = args.from.now in
-    let n = args.from_marks.now in
+    let p = args.held.payload.now in
+    let m = args.held.marks.now in
+    let q = args.source.payload.now in
+    let n = args.source.marks.now in
     let e : args.total ≡ c.loop-i.i = omega arith in
     sym (clash_whole args.total (marked_view in_use args.total p m) (marked_view in_use args.total q n)
-    ∙ ap (λ (n : ℕ). any_from 0 n (λ k. differs (marked_view in_use args.total p m k) (marked_view in_use args.total q args.from_marks.now k))) e ∙ c.loop-i.invariant.1)
+    ∙ ap (λ (n : ℕ). any_from 0 n (λ k. differs (marked_view in_use args.total p m k) (marked_view in_use args.total q args.source.marks.now k))) e ∙ c.loop-i.invariant.1)

@@ -9,7 +9,7 @@ use Rattle.reassembly.proofs.areas.clash_covered.Given as goal
 
 abbrev pub invariant-loop-i : goal.invariant-loop-i
 invariant-loop-i l =
-    (l.i ≤ l.total) × (any_from 0 l.i (λ k. differs (marked_view in_use l.total l.payload l.marks k) (marked_view in_use l.total l.from l.from_marks k)) ≡ false)
+    (l.i ≤ l.total) × (any_from 0 l.i (λ k. differs (marked_view in_use l.total l.held.payload.now l.held.marks.now k) (marked_view in_use l.total l.source.payload.now l.source.marks.now k)) ≡ false)
 
 abbrev pub decreases-loop-i : goal.decreases-loop-i
 decreases-loop-i l = l.total - l.i

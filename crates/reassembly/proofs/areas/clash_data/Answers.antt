@@ -15,8 +15,8 @@ use Rattle.reassembly.proofs.areas.clash_data.Goals as goal
 pub returns-then-not-any_marked : goal.returns-then-not-any_marked
 returns-then-not-any_marked c =
     let args = c.args in
-    let p = args.payload.now in
-    let m = args.marks.now in
+    let p = args.held.payload.now in
+    let m = args.held.marks.now in
     let d = args.bytes.now in
     sym (clash_from in_use p m args.offset d ∙ run_free in_use (args.offset + length d) p m args.offset d args.offset (args.offset + length d) (omega arith) (omega arith) (omega arith)
     (sym c.any_marked.ensures ∙ not-true _ c.if-not-any_marked.true-raw))
@@ -24,8 +24,8 @@ returns-then-not-any_marked c =
 pub loop-i-init : goal.loop-i-init
 loop-i-init c =
     let args = c.args in
-    let p = args.payload.now in
-    let m = args.marks.now in
+    let p = args.held.payload.now in
+    let m = args.held.marks.now in
     let d = args.bytes.now in (
       omega arith,
       omega arith,
@@ -37,8 +37,8 @@ loop-i-init c =
 pub returns-then-clash_run : goal.returns-then-clash_run
 returns-then-clash_run c =
     let args = c.args in
-    let p = args.payload.now in
-    let m = args.marks.now in
+    let p = args.held.payload.now in
+    let m = args.held.marks.now in
     let d = args.bytes.now in
     let found = sym (data_run in_use c.run_end-next.result (args.offset + length d) p m args.offset d c.loop-i.i c.run_end-next.result c.loop-i.invariant.0
     (omega arith) (omega arith) (omega arith))
@@ -50,8 +50,8 @@ returns-then-clash_run c =
 pub loop-i-preserved : goal.loop-i-preserved
 loop-i-preserved c =
     let args = c.args in
-    let p = args.payload.now in
-    let m = args.marks.now in
+    let p = args.held.payload.now in
+    let m = args.held.marks.now in
     let d = args.bytes.now in
     let none = sym (data_run in_use c.run_end-next.result (args.offset + length d) p m args.offset d c.loop-i.i c.run_end-next.result c.loop-i.invariant.0
     (omega arith) (omega arith) (omega arith))
@@ -66,8 +66,8 @@ loop-i-preserved c =
 pub returns : goal.returns
 returns c =
     let args = c.args in
-    let p = args.payload.now in
-    let m = args.marks.now in
+    let p = args.held.payload.now in
+    let m = args.held.marks.now in
     let d = args.bytes.now in
     let e : args.offset + length d ≡ c.loop-i.i = omega arith in
     sym (clash_from in_use p m args.offset d ∙ ap (λ (n : ℕ). any_from args.offset n (λ k. differs (marked_view in_use (args.offset + length d) p m k) (data_view args.offset d k))) e

@@ -11,7 +11,7 @@ use Rattle.reassembly.proofs.areas.clash_data.Given as goal
 abbrev pub invariant-loop-i : goal.invariant-loop-i
 invariant-loop-i l =
     (l.offset ≤ l.i) × (l.i ≤ l.end) × (l.end ≡ l.offset + length l.bytes)
-    × (any_from l.offset l.i (λ k. differs (marked_view in_use (l.offset + length l.bytes) l.payload l.marks k) (data_view l.offset l.bytes k)) ≡ false)
+    × (any_from l.offset l.i (λ k. differs (marked_view in_use (l.offset + length l.bytes) l.held.payload.now l.held.marks.now k) (data_view l.offset l.bytes k)) ≡ false)
 
 abbrev pub decreases-loop-i : goal.decreases-loop-i
 decreases-loop-i l = l.end - l.i

@@ -15,17 +15,17 @@ loop-i-init c =
       omega arith,
       omega arith,
       refl,
-      run_none (marked_view in_use args.end args.from.now args.from_marks.now) args.payload.now args.start args.start
+      run_none (marked_view in_use args.end args.source.payload.now args.source.marks.now) args.payload.now args.start args.start
           (λ i h l. absurd (omega arith)),
     )
 
 pub loop-i-preserved : goal.loop-i-preserved
 loop-i-preserved c =
-    let byte = c.choose.ensures ∙ ap (λ (b : Bool). cond b (get_or c.args.from.now c.loop-i.i 0) (get_or c.loop-i.payload c.loop-i.i 0)) c.is_marked.ensures
-    ∙ chosen in_use c.args.end c.args.from.now c.args.from_marks.now c.loop-i.i (get_or c.loop-i.payload c.loop-i.i 0) (omega arith) in (
+    let byte = c.choose.ensures ∙ ap (λ (b : Bool). cond b (get_or c.args.source.payload.now c.loop-i.i 0) (get_or c.loop-i.payload c.loop-i.i 0)) c.is_marked.ensures
+    ∙ chosen in_use c.args.end c.args.source.payload.now c.args.source.marks.now c.loop-i.i (get_or c.loop-i.payload c.loop-i.i 0) (omega arith) in (
       omega arith,
       omega arith,
       simp length-set c.loop-i.invariant.2,
-      run_turn (marked_view in_use c.args.end c.args.from.now c.args.from_marks.now) c.args.payload.now c.loop-i.payload
+      run_turn (marked_view in_use c.args.end c.args.source.payload.now c.args.source.marks.now) c.args.payload.now c.loop-i.payload
           c.args.start c.loop-i.i _ c.loop-i.invariant.0 (omega arith) c.loop-i.invariant.3 byte,
     )

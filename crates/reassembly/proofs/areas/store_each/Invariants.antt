@@ -3,12 +3,10 @@ use Rattle.reassembly.specs.Views.{overlaid, between}
 use Rattle.marks.specs.Marks.{in_use}
 use lib.ListN.{length}
 use mathlib.Core.Path.{◌≡◌}
-use Prim.Native.Nat.{◌-◌, ◌≤◌}
+use Prim.Native.Nat.{◌≤◌}
 use Rattle.reassembly.proofs.areas.store_each.Given as goal
 
 abbrev pub invariant-loop-i : goal.invariant-loop-i
 invariant-loop-i l =
-    (l.start ≤ l.i) × (l.i ≤ l.end) × (length l.payload ≡ length l.initial.payload) × (l.payload ≡ overlaid (between l.start l.i (marked_view in_use l.end l.from l.from_marks)) l.initial.payload)
-
-abbrev pub decreases-loop-i : goal.decreases-loop-i
-decreases-loop-i l = l.end - l.i
+    (l.start ≤ l.i) × (l.i ≤ l.end) × (length l.payload ≡ length l.initial.payload)
+    × (l.payload ≡ overlaid (between l.start l.i (marked_view in_use l.end l.source.payload.now l.source.marks.now)) l.initial.payload)

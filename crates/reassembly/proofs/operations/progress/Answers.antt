@@ -1,3 +1,4 @@
+use borrow.Author.Rules.{rules}
 use mathlib.Core.Path.{sym, ◌∙◌}
 use borrow.Author.Tests.{not-true, not-false}
 use Rattle.reassembly.specs.Record.{partial}
@@ -7,7 +8,7 @@ use Rattle.reassembly.proofs.operations.progress.Goals as goal
 pub returns-then-not-is_sound : goal.returns-then-not-is_sound
 returns-then-not-is_sound c =
     let a = c.args in
-    sym (progress_unsound (partial a.rec a.payload.now a.marks.now) (sym c.is_sound.ensures ∙ not-true _ c.if-not-is_sound.true-raw))
+    rw (progress_unsound (partial a.rec a.payload.now a.marks.now) (sym c.is_sound.ensures ∙ not-true _ c.if-not-is_sound.true-raw)) (search rules)
 
 pub returns-then-not-rec : goal.returns-then-not-rec
 returns-then-not-rec c =

@@ -1,3 +1,6 @@
+use Rattle.wire.proofs.Reading.{told}
+use Rattle.reassembly.specs.Verdict.{verdict_told}
+use borrow.Author.Rules.{rules}
 use Rattle.reassembly.proofs.JudgeLaws.{take_refused, taken_room, taken, begun_covered, length_begun}
 use Prim.Native.Nat.{ℕ, ◌+◌, ◌≤◌}
 use lib.ListN.{length}
@@ -5,34 +8,31 @@ use Rattle.marks.specs.Offsets.{in_range}
 use Rattle.marks.specs.Marks.{in_use, marks_for}
 use Rattle.marks.proofs.MarkLaws.{marks_cover, range_above}
 use Rattle.marks.proofs.CountLaws.{new_most}
-use Rattle.reassembly.specs.declared.verdict.Verdict.{Verdict}
 use Rattle.reassembly.specs.Reading.Reading.{chunk}
 use Rattle.reassembly.specs.Record.{partial}
 use native.Mathlib.Omega.{arith}
-use mathlib.Core.Path.{sym, ap, ◌∙◌, subst}
+use mathlib.Core.Path.{refl, sym, subst}
 use Rattle.reassembly.proofs.operations.take_chunk.Goals as goal
 
-pub returns-in-Refused : goal.returns-in-Refused
-returns-in-Refused c =
-    let args = c.args in
-    let a = args in
+pub returns-in_err-judge_chunk : goal.returns-in_err-judge_chunk
+returns-in_err-judge_chunk c =
+    let a = c.args in
     let s = partial a.rec a.payload.now a.marks.now in
-    ap (λ (v : Verdict). record { verdict = v; after = s }) c.in-Refused.is
-    ∙ sym (take_refused s (chunk a.m a.offset a.bytes.now) _ _ (sym c.judge_chunk-verdict.ensures ∙ c.in-Refused.is))
+    rw (take_refused s (chunk a.m a.offset a.bytes.now) _ _ (sym (told verdict_told c.judge_chunk.ensures c.in_err-judge_chunk.was))) (search rules)
 
 pub store_data-requires : goal.store_data-requires
 store_data-requires c =
     let a = c.args in
     (taken_room (partial a.rec a.payload.now a.marks.now) a.m a.offset a.bytes.now c.requires.1
-    (sym c.judge_chunk-verdict.ensures ∙ c.in_default.is)).0
+    (sym (told verdict_told c.judge_chunk.ensures c.in_ok-judge_chunk.was))).0
 
 -- what is covered and what is new are each at most the payload area's length
-pub with_new-after-requires : goal.with_new-after-requires
-with_new-after-requires c =
+pub with_new-requires : goal.with_new-requires
+with_new-requires c =
     let a = c.args in
     let s = partial a.rec a.payload.now a.marks.now in
     let held = begun_covered s a.m c.requires.0 c.begin-next.result c.begin-next.ensures.0 in
-    let room = taken_room s a.m a.offset a.bytes.now c.requires.1 (sym c.judge_chunk-verdict.ensures ∙ c.in_default.is) in
+    let room = taken_room s a.m a.offset a.bytes.now c.requires.1 (sym (told verdict_told c.judge_chunk.ensures c.in_ok-judge_chunk.was)) in
     let same = length_begun a.rec a.marks.now _ c.begin-next.ensures.1 in
     let end = a.offset + length a.bytes.now in
     let fits = subst (λ (n : ℕ). marks_for in_use end ≤ n) (sym same) room.1 in
@@ -44,6 +44,6 @@ pub returns : goal.returns
 returns c =
     let a = c.args in
     taken (partial a.rec a.payload.now a.marks.now) a.m a.offset a.bytes.now c.requires.1
-    (sym c.judge_chunk-verdict.ensures ∙ c.in_default.is) _ _ _ _ _ _ _ c.in_default.is
-    c.begin-next.ensures.0 c.with_new-after.ensures c.store_data.ensures c.begin-next.ensures.1
+    (sym (told verdict_told c.judge_chunk.ensures c.in_ok-judge_chunk.was)) _ _ _ _ _ _ _ refl
+    c.begin-next.ensures.0 c.with_new.ensures c.store_data.ensures c.begin-next.ensures.1
     c.mark_range-fresh.ensures.0 c.mark_range-fresh.ensures.1

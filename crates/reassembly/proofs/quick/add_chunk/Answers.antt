@@ -11,16 +11,16 @@ use Rattle.reassembly.proofs.quick.add_chunk.Goals as goal
 
 pub returns-then-payload-p : goal.returns-then-payload-p
 returns-then-payload-p c =
-    no_room c.args.held c.args.text.now c.args.payload.now c.args.marks.now
+    rw c.at.ensures (no_room c.args.held c.args.text.now c.args.payload.now c.args.marks.now
     (chunk_message c.args.c c.args.datagram.now) c.args.c.payload.offset
-    (take c.args.c.payload.length (drop c.args.c.payload.first c.args.datagram.now)) c.requires.0 (omega arith)
+    (take c.args.c.payload.length (drop c.args.c.payload.first c.args.datagram.now)) c.requires.0 (omega arith))
 
 pub returns-then-not-is_same : goal.returns-then-not-is_same
 returns-then-not-is_same c =
-    other_held c.args.held c.args.text.now c.args.payload.now c.args.marks.now
+    rw c.at-then-not-is_same.ensures (other_held c.args.held c.args.text.now c.args.payload.now c.args.marks.now
     (chunk_message c.args.c c.args.datagram.now) c.args.c.payload.offset
     (take c.args.c.payload.length (drop c.args.c.payload.first c.args.datagram.now)) c.requires.0
-    (omega arith) (sym c.is_same.ensures ∙ not-true _ c.if-not-is_same.true-raw)
+    (omega arith) (sym c.is_same.ensures ∙ not-true _ c.if-not-is_same.true-raw))
 
 pub add_data-requires : goal.add_data-requires
 add_data-requires c =

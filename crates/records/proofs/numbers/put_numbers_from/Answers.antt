@@ -1,4 +1,4 @@
-use Rattle.records.proofs.Storing.{put_fits, put_none}
+use Rattle.records.proofs.Storing.{bytes_length, put_fits, put_none}
 use native.Mathlib.Omega.{arith}
 use Prim.Native.Nat.{◌*◌}
 use Rattle.records.proofs.numbers.put_numbers_from.Goals as goal
@@ -11,4 +11,7 @@ returns-then-room-i-2 c =
 pub returns : goal.returns
 returns c =
     let args = c.args in
-    put_fits args.numbers.now args.out.now _ (8 * args.i) (omega arith) c.store.ensures
+    put_fits args.numbers.now args.out.now _ (8 * args.i) (omega arith) c.put_each.ensures
+
+pub put_each-requires : goal.put_each-requires
+put_each-requires c = omega (arith, bytes_length c.args.numbers.now)

@@ -1,5 +1,5 @@
 use mathlib.Core.Path.{◌≡◌}
-use Prim.Native.Nat.{◌≤◌, ◌+◌, ◌*◌, ◌-◌}
+use Prim.Native.Nat.{◌+◌, ◌*◌}
 use lib.Seq.{sets}
 use lib.ListN.{length, drop}
 use Rattle.text.specs.Hex.{hex_text}
@@ -7,7 +7,4 @@ use Rattle.text.proofs.hex.store_hex.Given as goal
 
 abbrev pub invariant-loop-i : goal.invariant-loop-i
 invariant-loop-i l =
-    (l.i ≤ length l.s) × ((l.p ≡ l.at + 2 * l.i) × ((length l.out ≡ length l.initial.out) × (sets l.out l.p (hex_text (drop l.i l.s)) ≡ sets l.initial.out l.at (hex_text l.s))))
-
-abbrev pub decreases-loop-i : goal.decreases-loop-i
-decreases-loop-i l = length l.s - l.i
+    (length l.out ≡ length l.initial.out) × (sets l.out (l.at + 2 * l.i) (hex_text (drop l.i l.s)) ≡ sets l.initial.out l.at (hex_text l.s))

@@ -7,13 +7,12 @@ use Rattle.uadp_c.proofs.configuring.uadp_config.Goals as goal
 pub returns-then-config-lt-CONFIG_SIZE : goal.returns-then-config-lt-CONFIG_SIZE
 returns-then-config-lt-CONFIG_SIZE c =
     fill_none _ c.args.config.now _ _ 146 _
-    (config_good c.args.text.now _ c.read_config-read.ensures (omega arith))
-    (config_length c.read_config-read.result.config (search rules) (search rules) (search rules) (search rules)) (omega arith) c.result-then-config-lt-CONFIG_SIZE.ensures
+    (config_good c.args.text.now _ _ c.read_config.ensures c.in-Ok.is)
+    (config_length c.in-Ok.c (search rules) (search rules) (search rules) (search rules)) (omega arith) c.refused_for.ensures
 
-pub returns : goal.returns
-returns c =
+pub returns-else-config-lt-CONFIG_SIZE : goal.returns-else-config-lt-CONFIG_SIZE
+returns-else-config-lt-CONFIG_SIZE c =
     fill_done _ c.args.config.now _ _ _ 146 _
-    (config_good c.args.text.now _
-    c.read_config-read.ensures (omega arith))
-    (config_length c.read_config-read.result.config (search rules) (search rules) (search rules) (search rules))
-    (omega arith) c.result-2.ensures c.put_config.ensures
+    (config_good c.args.text.now _ _ c.read_config.ensures c.in-Ok.is)
+    (config_length c.in-Ok.c (search rules) (search rules) (search rules) (search rules))
+    (omega arith) c.result.ensures c.put_config.ensures

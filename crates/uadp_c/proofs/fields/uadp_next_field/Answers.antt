@@ -12,7 +12,7 @@ pub returns-in-End : goal.returns-in-End
 returns-in-End c =
     let args = c.args in
     told_end args.config.now args.message.now args.head.now args.field.now _ _ args.writer c.step.result c.step.ensures
-    _ c.in-End.is c.result-in-End.ensures
+    _ c.in-End.is c.refused_for.ensures
 
 pub returns-in-Not : goal.returns-in-Not
 returns-in-Not c =

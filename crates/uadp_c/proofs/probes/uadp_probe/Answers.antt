@@ -9,7 +9,7 @@ returns-else-probe-lt-PROBE_SIZE c =
     let args = c.args in
     let same =
     probe_read args.config.now args.datagram.now _ _ _ _ c.writer_count-n.ensures.0 c.sizes-list.ensures c.first.ensures
-    (told answer_probe_message c.read_probe.ensures c.in-Is.is) in
+    (told answer_probe_message c.read_probe.ensures c.in-Ok.is) in
     probe_told args.datagram.now args.config.now _ _ _ c.shared_slice_known-1.given
-    (probed_done c.in-Is.field-0 c.in-Is.places c.in-Is.p _ args.probe.now _ _ _ same (omega arith) c.result-in-Is.ensures
+    (probed_done c.in-Ok.field-0-0 c.in-Ok.places c.in-Ok.p _ args.probe.now _ _ _ same (omega arith) c.result.ensures
     c.put_probe.ensures.0 c.put_probe.ensures.1)

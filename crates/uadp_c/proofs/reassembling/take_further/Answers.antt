@@ -5,12 +5,12 @@ use Rattle.reassembly.specs.Reading.{reading_at}
 use native.Mathlib.Omega.{arith}
 use Rattle.uadp_c.proofs.reassembling.take_further.Goals as goal
 
-pub returns-in-Covered : goal.returns-in-Covered
-returns-in-Covered c =
+pub returns-in-Ok : goal.returns-in-Ok
+returns-in-Ok c =
     steps_further c.args.rec.now c.args.payload.now c.args.marks.now _ _ _ _
-    c.in-Covered.covered
+    c.in-Ok.covered
     (take_in (partial_of c.args.rec.now c.args.payload.now c.args.marks.now) (reading_at c.args.sizes.now c.args.datagram.now))
     c.requires.0 c.requires.1 (omega arith)
     (taken_further c.args.datagram.now c.args.rec.now c.args.payload.now c.args.marks.now
     c.args.sizes.now _ _ _ _ _ _ c.started_in.ensures c.text_in.ensures c.requires.1
-    c.in-Covered.is c.take_more.ensures) c.result-in-Covered.ensures c.put64.ensures.stored
+    c.in-Ok.is c.take_more.ensures) c.result.ensures c.put.ensures.stored

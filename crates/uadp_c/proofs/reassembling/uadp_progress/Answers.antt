@@ -2,14 +2,14 @@ use Rattle.uadp_c.proofs.Held.{progress_ends}
 use native.Mathlib.Omega.{arith}
 use Rattle.uadp_c.proofs.reassembling.uadp_progress.Goals as goal
 
-pub returns-in-Is : goal.returns-in-Is
-returns-in-Is c =
+pub returns-in-Ok : goal.returns-in-Ok
+returns-in-Ok c =
     let args = c.args in
     progress_ends args.rec.now args.payload.now args.marks.now _ _ _ _ (omega arith) c.asked_in.ensures
-    c.progress.ensures c.in-Is.is c.result-in-Is.ensures
+    c.progress.ensures c.in-Ok.is c.result.ensures
 
-pub returns-in-Refused : goal.returns-in-Refused
-returns-in-Refused c =
+pub returns-in-Err : goal.returns-in-Err
+returns-in-Err c =
     let args = c.args in
     progress_ends args.rec.now args.payload.now args.marks.now _ _ _ _ (omega arith) c.asked_in.ensures
-    c.progress.ensures c.in-Refused.is c.result-in-Refused.ensures
+    c.progress.ensures c.in-Err.is c.refused.ensures

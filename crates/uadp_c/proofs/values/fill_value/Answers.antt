@@ -14,5 +14,5 @@ pub returns-else-value-lt-VALUE_SIZE : goal.returns-else-value-lt-VALUE_SIZE
 returns-else-value-lt-VALUE_SIZE c =
     let args = c.args in
     let s = args.bytes.now in
-    fill_done _ args.value.now _ _ _ 192 _ (was_told s c.in-Is.is) (bytes_length (value_numbers c.in-Is.f (name_of s c.in-Is.f.value))) (omega arith) c.result-in-Is.ensures
-    (c.put_value.ensures ∙ ap (λ (n : Name). laid args.value.now 0 (number_bytes (value_numbers c.in-Is.f n))) c.tell_name-name.ensures)
+    fill_done _ args.value.now _ _ _ 192 _ (was_told s c.in-Ok.is) (bytes_length (value_numbers c.in-Ok.f (name_of s c.in-Ok.f.value))) (omega arith) c.result.ensures
+    (c.put_value.ensures ∙ ap (λ (n : Name). laid args.value.now 0 (number_bytes (value_numbers c.in-Ok.f n))) c.tell_name-name.ensures)

@@ -5,7 +5,7 @@ use Rattle.value.proofs.head.array_variant.Goals as goal
 
 pub returns-then-t-eq0 : goal.returns-then-t-eq0
 returns-then-t-eq0 c =
-    λ nested. rw ((array_first c.args.t c.requires).rule, eq-eqb _ _ c.if-t-eq0.true)
+    λ nested. rw (c.at.ensures, (array_first c.args.t c.requires).rule, eq-eqb _ _ c.if-t-eq0.true)
 
 pub returns-then-is_taken : goal.returns-then-is_taken
 returns-then-is_taken c =
@@ -16,4 +16,4 @@ returns-then-is_taken c =
 pub returns : goal.returns
 returns c =
     let f = array_first c.args.t c.requires in
-    λ nested. rw (f.rule, sym c.is_taken.ensures ∙ c.if-is_taken.false, ne_eqb _ _ c.if-t-eq0.false)
+    λ nested. rw (c.at-2.ensures, f.rule, sym c.is_taken.ensures ∙ c.if-is_taken.false, ne_eqb _ _ c.if-t-eq0.false)

@@ -24,11 +24,11 @@ returns-then-t-eq-VARIANT c =
     let a = c.args in
     let f = scalar_first a.t c.requires in
     let e = sym (ap (λ b. b || eqb a.t 23) c.is_plain.ensures) ∙ c.if-is_plain-t.false in
-    λ nested. rw (f.rule, e, ne_eqb _ _ c.if-t-eq0.false, eq-eqb _ _ c.if-t-eq-VARIANT.true)
+    λ nested. rw (c.at.ensures, f.rule, e, ne_eqb _ _ c.if-t-eq0.false, eq-eqb _ _ c.if-t-eq-VARIANT.true)
 
 pub returns : goal.returns
 returns c =
     let a = c.args in
     let f = scalar_first a.t c.requires in
     let e = sym (ap (λ b. b || eqb a.t 23) c.is_plain.ensures) ∙ c.if-is_plain-t.false in
-    λ nested. rw (f.rule, e, ne_eqb _ _ c.if-t-eq0.false, ne_eqb _ _ c.if-t-eq-VARIANT.false)
+    λ nested. rw (c.at-2.ensures, f.rule, e, ne_eqb _ _ c.if-t-eq0.false, ne_eqb _ _ c.if-t-eq-VARIANT.false)

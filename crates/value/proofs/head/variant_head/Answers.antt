@@ -10,4 +10,4 @@ returns-then-b-lt128 c =
     let args = c.args in
     let b = args.b in
     let q : b ≡ b - 64 + 64 = omega (arith, c.if-b-lt64.false) in
-    λ nested. rw (ap variant_rule q ∙ no_array_but_dimensions (b - 64) (omega (arith, c.if-b-lt64.false, c.if-b-lt128.true)))
+    λ nested. rw (c.at.ensures, ap variant_rule q ∙ no_array_but_dimensions (b - 64) (omega (arith, c.if-b-lt64.false, c.if-b-lt128.true)))

@@ -5,7 +5,7 @@ use Rattle.value.proofs.matrix.matrix_at.Goals as goal
 
 pub returns-then-t-eq0 : goal.returns-then-t-eq0
 returns-then-t-eq0 c =
-    rw ((matrix_first c.args.t c.requires).rule, eq-eqb _ _ c.if-t-eq0.true)
+    rw (c.at.ensures, (matrix_first c.args.t c.requires).rule, eq-eqb _ _ c.if-t-eq0.true)
 
 pub returns-then-is_taken : goal.returns-then-is_taken
 returns-then-is_taken c =
@@ -15,4 +15,4 @@ returns-then-is_taken c =
 pub returns : goal.returns
 returns c =
     let f = matrix_first c.args.t c.requires in
-    rw (f.rule, sym c.is_taken.ensures ∙ c.if-is_taken.false, ne_eqb _ _ c.if-t-eq0.false)
+    rw (c.at-2.ensures, f.rule, sym c.is_taken.ensures ∙ c.if-is_taken.false, ne_eqb _ _ c.if-t-eq0.false)

@@ -9,6 +9,6 @@ pub returns : goal.returns
 returns c =
     let a = c.args in
     let b = get_or a.s.now a.at 0 in
-    let byte : b ≡ b % 64 + 192 = omega (arith, c.shared_slice_known-2-1.given a.at) in
+    let byte : b ≡ b % 64 + 192 = omega (arith, c.type_inv.s a.at) in
     rw (matrix_look a.s.now a.at (b % 64) _ (omega arith) byte (omega arith) (omega arith) (unit_width _ _ c.scalar_size-size.ensures.0 (omega arith)))
     c.matrix_look.ensures

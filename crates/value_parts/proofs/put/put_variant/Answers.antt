@@ -11,10 +11,7 @@ use Rattle.value_parts.proofs.put.put_variant.Goals as goal
 pub returns : goal.returns
 returns c =
     let args = c.args in
-    written (put_rule args.t args.form (length args.bytes.now)) (variant_bytes args.t args.form args.bytes.now)
-    args.out.now (sym c.put_rule-fault.ensures ∙ c.if-fault-ne0.false) c.room_refusal-full.result
-    (c.room_refusal-full.ensures
-    ∙ ap (λ (n : ℕ). room_refusal n (length args.out.now)) (size_of args.t args.form args.bytes.now (c.head_size.ensures.0 (length args.bytes.now))))
-    c.if-full-ne0.false (c.head_size.result + length args.bytes.now) _ _
-    (size_of args.t args.form args.bytes.now (c.head_size.ensures.0 (length args.bytes.now)))
-    (then c.put_head-at.ensures (puts c.put_run.ensures))
+    let size = size_of args.t args.form args.bytes.now (c.head_size.ensures.0 (length args.bytes.now)) in
+    written (put_rule args.t args.form (length args.bytes.now)) (variant_bytes args.t args.form args.bytes.now) args.out.now
+    (sym c.in_ok-put_rule.ensures) (c.in_ok-room_rule.ensures ∙ ap (λ (n : ℕ). room_refusal n (length args.out.now)) size)
+    (c.head_size.result + length args.bytes.now) _ _ size (then c.put_head-at.ensures (puts c.put_run.ensures))

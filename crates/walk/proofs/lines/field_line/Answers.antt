@@ -11,12 +11,12 @@ overflow_add-field c =
       arith,
       c.well_formed.0,
       offset_fits c.args.s.now
-          c.part-bytes.result.now
+          c.part.result.now
           c.args.p.offset
           c.args.p.length
-          c.in-Is.x.offset c.part-bytes.ensures
+          c.in-Ok.x.offset c.part.ensures
           (field_passed c.args.f
           c.types_of.result.now
-          c.part-bytes.result.now _ _
-          (sym (told answer_field_step c.step.ensures c.in-Is.is))).offset,
+          c.part.result.now _ _
+          (sym (told answer_field_step c.step.ensures c.in-Ok.is))).offset,
     )
