@@ -38,7 +38,7 @@ pub(crate) fn eight(marks: &[u8], at: usize) -> u64
     requires { at + 8 ≤ length marks.now }
     ensures { result ≡ le 8 marks.now at }
 {
-    u64::of(marks, at)
+    u64::of(&marks[at..at + 8], 0)
 }
 
 // How many offsets of 32 bytes are marked. Where all are, as in most of an area that comes in in order, no bit is counted.

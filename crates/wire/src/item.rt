@@ -18,9 +18,8 @@ pub trait Item: Copy {
 
     const WIDTH: usize;
 
-    // The value of the bytes at a position.
+    // The value of the bytes at a position; a byte past the end counts as 0.
     fn of(s: &[u8], at: usize) -> Self
-        requires { at + WIDTH ≤ length s.now }
         ensures { result ≡ value s.now at };
 
     // The value at a position and the position after it.
@@ -63,6 +62,50 @@ fn number8(s: &[u8], at: usize) -> u64
     number4(s, at) + 4294967296 * number4(s, at + 4)
 }
 
+// The same of bytes that need not be there: those past the end count as 0. Where it is known that they are, as behind the test of `read`,
+// the way of those that are not is left out by the compiler.
+fn lent1(s: &[u8], at: usize) -> u64
+    ensures { (result ≡ le 1 s.now at) × (result < 256 ^ 1) }
+{
+    if s.len() <= at {
+        return 0;
+    }
+    number1(s, at)
+}
+
+fn lent2(s: &[u8], at: usize) -> u64
+    ensures { (result ≡ le 2 s.now at) × (result < 256 ^ 2) }
+{
+    if has(s.len(), at, 2) {
+        return number2(s, at);
+    }
+    lent1(s, at)
+}
+
+fn lent4(s: &[u8], at: usize) -> u64
+    ensures { (result ≡ le 4 s.now at) × (result < 256 ^ 4) }
+{
+    if has(s.len(), at, 4) {
+        return number4(s, at);
+    }
+    if s.len() <= at {
+        return 0;
+    }
+    lent2(s, at) + 65536 * lent2(s, at + 2)
+}
+
+fn lent8(s: &[u8], at: usize) -> u64
+    ensures { (result ≡ le 8 s.now at) × (result < 256 ^ 8) }
+{
+    if has(s.len(), at, 8) {
+        return number8(s, at);
+    }
+    if s.len() <= at {
+        return 0;
+    }
+    lent4(s, at) + 4294967296 * lent4(s, at + 4)
+}
+
 impl Item for u8 {
     ghost WIDTH = { 1 };
 
@@ -71,7 +114,7 @@ impl Item for u8 {
     const WIDTH: usize = 1;
 
     fn of(s: &[u8], at: usize) -> u8 {
-        number1(s, at) as u8
+        lent1(s, at) as u8
     }
 }
 
@@ -83,7 +126,7 @@ impl Item for u16 {
     const WIDTH: usize = 2;
 
     fn of(s: &[u8], at: usize) -> u16 {
-        number2(s, at) as u16
+        lent2(s, at) as u16
     }
 }
 
@@ -116,7 +159,7 @@ impl Item for u32 {
     const WIDTH: usize = 4;
 
     fn of(s: &[u8], at: usize) -> u32 {
-        number4(s, at) as u32
+        lent4(s, at) as u32
     }
 }
 
@@ -128,7 +171,7 @@ impl Item for u64 {
     const WIDTH: usize = 8;
 
     fn of(s: &[u8], at: usize) -> u64 {
-        number8(s, at)
+        lent8(s, at)
     }
 }
 
@@ -140,7 +183,7 @@ impl Item for i32 {
     const WIDTH: usize = 4;
 
     fn of(s: &[u8], at: usize) -> i32 {
-        signed32(number4(s, at) as u32)
+        signed32(lent4(s, at) as u32)
     }
 }
 
@@ -152,7 +195,7 @@ impl Item for i64 {
     const WIDTH: usize = 8;
 
     fn of(s: &[u8], at: usize) -> i64 {
-        signed64(number8(s, at))
+        signed64(lent8(s, at))
     }
 }
 
@@ -164,8 +207,16 @@ impl Item for Guid {
     const WIDTH: usize = 16;
 
     fn of(s: &[u8], at: usize) -> Guid {
-        let low = number8(s, at);
-        let high = number8(s, at + 8);
+        if has(s.len(), at, 16) {
+            let low = number8(s, at);
+            let high = number8(s, at + 8);
+            return Guid { low, high };
+        }
+        if s.len() <= at {
+            return Guid { low: 0, high: 0 };
+        }
+        let low = lent8(s, at);
+        let high = lent8(s, at + 8);
         Guid { low, high }
     }
 }

@@ -3,7 +3,7 @@ ghost use Rattle.std.specs.Prelude.{◌≡◌, ◌+◌, ◌≤◌, List, ℕ, le
 ghost use Rattle.std.proofs.lemmas.List.Edits.{sets};
 ghost use Rattle.wire.specs.Number.{le_bytes, unsigned};
 ghost use Rattle.wire.specs.Items.{guid_bytes};
-ghost use Rattle.wire_writer.specs.Store.{Stored};
+ghost use Rattle.wire_writer.specs.Store.{laid, Stored};
 ghost use Rattle.wire.proofs.Numbers.{length_le_bytes, guid_wide};
 
 use wire::item::Item;
@@ -15,10 +15,9 @@ pub trait Store: Item {
     // the bytes of a value
     ghost bytes: { Self → List ℕ };
 
-    // Stores a value's bytes where they fit.
+    // Stores a value's bytes where they fit, else nothing.
     fn lay(self, out: &mut [u8], at: usize)
-        requires { at + Self.WIDTH ≤ length out.old }
-        ensures { out.new ≡ sets out.old at (bytes self) };
+        ensures { out.new ≡ laid out.old at (bytes self) };
 
     // there are as many of them as the item has
     ghost wide: { (v : Self) → length (bytes v) ≡ Self.WIDTH };
@@ -73,7 +72,9 @@ impl Store for u8 {
     ghost wide = { length_le_bytes 1 };
 
     fn lay(self, out: &mut [u8], at: usize) {
-        store1(out, at, self as u64);
+        if has(out.len(), at, 1) {
+            store1(out, at, self as u64);
+        }
     }
 }
 
@@ -83,7 +84,9 @@ impl Store for u16 {
     ghost wide = { length_le_bytes 2 };
 
     fn lay(self, out: &mut [u8], at: usize) {
-        store2(out, at, self as u64);
+        if has(out.len(), at, 2) {
+            store2(out, at, self as u64);
+        }
     }
 }
 
@@ -93,7 +96,9 @@ impl Store for u32 {
     ghost wide = { length_le_bytes 4 };
 
     fn lay(self, out: &mut [u8], at: usize) {
-        store4(out, at, self as u64);
+        if has(out.len(), at, 4) {
+            store4(out, at, self as u64);
+        }
     }
 }
 
@@ -103,7 +108,9 @@ impl Store for u64 {
     ghost wide = { length_le_bytes 8 };
 
     fn lay(self, out: &mut [u8], at: usize) {
-        store8(out, at, self);
+        if has(out.len(), at, 8) {
+            store8(out, at, self);
+        }
     }
 }
 
@@ -123,7 +130,9 @@ impl Store for i64 {
     ghost wide = { λ v. length_le_bytes 8 (unsigned 8 v) };
 
     fn lay(self, out: &mut [u8], at: usize) {
-        store8(out, at, unsigned64(self));
+        if has(out.len(), at, 8) {
+            store8(out, at, unsigned64(self));
+        }
     }
 }
 
@@ -133,8 +142,10 @@ impl Store for Guid {
     ghost wide = { guid_wide };
 
     fn lay(self, out: &mut [u8], at: usize) {
-        store8(out, at, self.low);
-        store8(out, at + 8, self.high);
+        if has(out.len(), at, 16) {
+            store8(out, at, self.low);
+            store8(out, at + 8, self.high);
+        }
     }
 }
 
