@@ -13,7 +13,8 @@ use lib.Dec.{eqb, leb, ltb}
 use lib.ListN.{length}
 use Rattle.wire.specs.Answer.{Answer, got, refused, and_then}
 use Rattle.wire.proofs.Cases.{by_bool}
-use Rattle.wire_writer.specs.Writing.{Output, writing, refusing, room_refusal, written_of, buffer_after, answer_written}
+use Rattle.wire_writer.specs.Writing.{Output, writing, refusing, Writes, room_refusal, written_of, buffer_after, answer_written}
+use Rattle.wire_writer.proofs.Answering.{unchanged}
 use Rattle.config.specs.declared.Config.{Config}
 use Rattle.config_text.specs.Config.{TextLine, config_of, read_lines, line_says, may_follow, with, lines_of, config_number, place_in}
 use Rattle.network_message.specs.Envelope.{NetworkMessage, network_message_at, message_place_at, message_bytes}
@@ -152,6 +153,10 @@ field_lookup_told types s k n place e = go (message_at types s) refl (message_te
 place_told : {A : Type 0} {m n p q : ℕ} → ◌≡◌ {A = Answer A} (refused m p) (refused n q) → p ≡ q
 place_told e = cc
 
+writer_keeps : (output : Output) (entry exit : List ℕ) (reason : Reason) → Writes output entry exit (Err reason)
+    → (exit ≡ entry) × (written_of (length entry) output ≡ refused (reason_number reason) 0)
+writer_keeps output entry exit reason w = (unchanged output w, sym w.answer)
+
 writer_told : (output : Output) (entry : List ℕ) (n place : ℕ) → written_of (length entry) output ≡ refused n place
     → (buffer_after entry output ≡ entry) × (place ≡ 0)
 writer_told (refusing k) entry n place e = (refl, sym (place_told e))
@@ -278,7 +283,7 @@ demand_1 = record {
   opened = λ types s n place e. told (front_tells (length s) types s) e;
   ended = λ c s n place e. subst (ToldAt end_refusals (length s) c.at) e (ended_told c s);
   probe_step = probe_step_told;
-  writer = writer_told;
+  writer = writer_keeps;
   datagram_writer = refusals.datagram_writer;
   message_writer = refusals.message_writer;
   probe_writer = refusals.probe_writer;
@@ -289,6 +294,15 @@ demand_1 = record {
   message_again_lem = refusals.message_again_lem;
   cut = cut_told;
   listing = listing_told;
+  writer_told = writer_told;
+  datagram_writer_told = refusals.datagram_writer_told;
+  message_writer_told = refusals.message_writer_told;
+  probe_writer_told = refusals.probe_writer_told;
+  value_writer_told = refusals.value_writer_told;
+  name_writer_told = refusals.name_writer_told;
+  matrix_writer_told = refusals.matrix_writer_told;
+  datagram_again_told = refusals.datagram_again_told;
+  message_again_told = refusals.message_again_told;
   walk = walk_told;
   call = λ k s n place e. (placed k n place (Refusing.may_refuse k s n place e), laws.refused_leaves k s n place e);
   salvage_opened_lem = opening_told;

@@ -1,8 +1,10 @@
 -- By which numbers the writers refuse.
 -- Assumes nothing.
 use Rattle.network_header.specs.declared.group.GroupFields.{GroupFields}
-use Rattle.std.specs.Prelude.{Option, Some, None, is_some}
+use Rattle.std.specs.Prelude.{Option, Some, None, Err, is_some}
 use Rattle.wire.proofs.Reading.{not_got}
+use Rattle.wire.specs.Refusal.{reason_number}
+use Rattle.wire.specs.declared.refusal.Reason.{Reason}
 use Prim.Native.Nat.{ℕ, zero, suc, ◌+◌, ◌*◌, ◌-◌, ◌/◌, ◌%◌}
 use mathlib.Core.Path.{◌≡◌, refl, sym, subst}
 use mathlib.Core.Bool.{Bool, true, false, cond, ◌&&◌, not}
@@ -17,7 +19,7 @@ use Rattle.wire.specs.Answer.{Answer, got, refused, and_then, run, pure, each}
 use Rattle.wire.specs.Items.{length_item}
 use Rattle.wire.specs.declared.Length.{Length}
 use Rattle.wire.proofs.Cases.{by_bool}
-use Rattle.wire_writer.specs.Writing.{or_else, unused, Output, unless, written_of, picoseconds_refusal}
+use Rattle.wire_writer.specs.Writing.{or_else, unused, Output, Writes, unless, written_of, picoseconds_refusal}
 use Rattle.publisher_id.specs.Publisher.{publisher_refusal, publisher_shape, text_too_long}
 use Rattle.publisher_id.specs.declared.publisher.PublisherId.{PublisherId}
 use Rattle.network_header.specs.Flags.{times_refusal, probe_refusal}
@@ -270,9 +272,9 @@ unless_number ns t e k (inl z) n room bytes q = room_number ns t e n room bytes 
 unless_number ns t e k (inr z) n room bytes q =
     by_bool _ (eqb k 0) (λ b. room_number ns t e n room bytes (rw b at q)) (λ b. subst (λ (i : ℕ). one_of ns i ≡ true) (sym (refusal_of (rw b at q))) z)
 
-pub datagram_writer : (g : GivenDatagram) (x : Envelope) (sizes configured : List ℕ) (room n : ℕ)
+pub datagram_writer_told : (g : GivenDatagram) (x : Envelope) (sizes configured : List ℕ) (room n : ℕ)
     → written_of room (datagram_output g x sizes configured) ≡ refused n 0 → one_of datagram_writer_refusals n ≡ true
-datagram_writer g x sizes configured room n w =
+datagram_writer_told g x sizes configured room n w =
     unless_number for_datagrams refl refl (datagram_refusal g x sizes configured) (in_turn for_datagrams _ _ (reading_number g x sizes) (shape_number_lem g x sizes configured))
     n room (datagram_of g x) (sym w)
 
@@ -328,25 +330,25 @@ probe_body_number list (Probe.Writers l) = id_list_number l (length list)
 probe_body_number list (Probe.Group g b) = probe_held (eqb (length list) 0)
 probe_body_number list (Probe.Connections l g w) = string_list_number l list
 
-pub probe_writer : (list : List ℕ) (p : Probe) (room n : ℕ) → written_of room (probe_output list p) ≡ refused n 0
+pub probe_writer_told : (list : List ℕ) (p : Probe) (room n : ℕ) → written_of room (probe_output list p) ≡ refused n 0
     → one_of probe_writer_refusals n ≡ true
-probe_writer list p room n w = unless_number for_probes refl refl (probe_body_refusal list p) (probe_body_number list p) n room (probe_bytes list p) (sym w)
+probe_writer_told list p room n w = unless_number for_probes refl refl (probe_body_refusal list p) (probe_body_number list p) n room (probe_bytes list p) (sym w)
 
-pub message_writer : (types : List ℕ) (g : GivenMessage) (room n : ℕ)
+pub message_writer_told : (types : List ℕ) (g : GivenMessage) (room n : ℕ)
     → written_of room (message_output types g) ≡ refused n 0 → one_of message_writer_refusals n ≡ true
-message_writer types g room n w = unless_number for_messages refl refl (message_refusal types g) (refusal_number_lem types g) n room (encode g) (sym w)
+message_writer_told types g room n w = unless_number for_messages refl refl (message_refusal types g) (refusal_number_lem types g) n room (encode g) (sym w)
 
 -- ---- rewriting
-pub datagram_again_lem : (sizes s : List ℕ) (room n : ℕ) → written_of room (datagram_same sizes s) ≡ refused n 0 → one_of datagram_again_refusals n ≡ true
-datagram_again_lem sizes s room n w = go (network_message_at sizes s) refl (datagram_tells sizes s)
+pub datagram_again_told : (sizes s : List ℕ) (room n : ℕ) → written_of room (datagram_same sizes s) ≡ refused n 0 → one_of datagram_again_refusals n ≡ true
+datagram_again_told sizes s room n w = go (network_message_at sizes s) refl (datagram_tells sizes s)
   where
     go : (a : Answer NetworkMessage) → network_message_at sizes s ≡ a → Tells datagram_others (length s) a → one_of datagram_again_refusals n ≡ true
     go (got m next) q t = room_number datagram_again_refusals refl refl n room (rewritten m s) (rw q at (sym w))
     go (refused k place) q (refuses r) =
         subst (λ (i : ℕ). one_of datagram_again_refusals i ≡ true) (sym (refusal_of (rw q at (sym w)))) (wider_one (with13 datagram_others) datagram_again_refusals refl k r.one)
 
-pub message_again_lem : (types s : List ℕ) (room n : ℕ) → written_of room (message_same types s) ≡ refused n 0 → one_of message_again_refusals n ≡ true
-message_again_lem types s room n w = go (message_at types s) refl (message_tells types s)
+pub message_again_told : (types s : List ℕ) (room n : ℕ) → written_of room (message_same types s) ≡ refused n 0 → one_of message_again_refusals n ≡ true
+message_again_told types s room n w = go (message_at types s) refl (message_tells types s)
   where
     go : (a : Answer (Valid Message)) → message_at types s ≡ a → Tells message_others (length s) a → one_of message_again_refusals n ≡ true
     go (got not_valid next) q t = subst (λ (i : ℕ). one_of message_again_refusals i ≡ true) (sym (refusal_of (rw q at (sym w)))) refl
@@ -381,8 +383,8 @@ form_number t Form.NullArray n = either for_values (fixed t) _ 4 (six_or_none (e
 put_number : (t : ℕ) (f : Form) (n : ℕ) → Number for_values (put_rule t f n)
 put_number t f n = in_turn for_values (type_rule t f) (form_rule t f n) (either for_values (ltb t 64) _ 4 (first_byte_number (first_byte t f)) (inr refl)) (form_number t f n)
 
-pub value_writer : (t : ℕ) (f : Form) (b : List ℕ) (room n : ℕ) → written_of room (variant_output t f b) ≡ refused n 0 → one_of value_writer_refusals n ≡ true
-value_writer t f b room n w = unless_number for_values refl refl (put_rule t f (length b)) (put_number t f (length b)) n room (variant_bytes t f b) (sym w)
+pub value_writer_told : (t : ℕ) (f : Form) (b : List ℕ) (room n : ℕ) → written_of room (variant_output t f b) ≡ refused n 0 → one_of value_writer_refusals n ≡ true
+value_writer_told t f b room n w = unless_number for_values refl refl (put_rule t f (length b)) (put_number t f (length b)) n room (variant_bytes t f b) (sym w)
 
 absent_number : (on : Bool) (k : ℕ) → Number for_values (absent_rule on k)
 absent_number on k = either for_values on 0 _ (inl refl) (six_or_none (eqb k 0))
@@ -396,9 +398,9 @@ name_number t n l k =
     in_turn for_values (name_kind_rule t n) _ (name_kind_number t n)
     (in_turn for_values _ _ (six_or_none (leb n 65535)) (in_turn for_values _ _ (absent_number (has_locale t n) l) (absent_number (has_text t n) k)))
 
-pub name_writer : (t number : ℕ) (locale text : List ℕ) (room n : ℕ) → written_of room (name_output t number locale text) ≡ refused n 0
+pub name_writer_told : (t number : ℕ) (locale text : List ℕ) (room n : ℕ) → written_of room (name_output t number locale text) ≡ refused n 0
     → one_of value_writer_refusals n ≡ true
-name_writer t number locale text room n w =
+name_writer_told t number locale text room n w =
     unless_number for_values refl refl (name_rule t number (length locale) (length text)) (name_number t number (length locale) (length text)) n room
     (name_bytes t number locale text) (sym w)
 
@@ -426,6 +428,39 @@ matrix_number t sizes n =
     (as_matrix _ (either for_values (ltb t 64) _ 4 (in_turn for_values (variant_rule (t + 192)) _ (first_byte_number (t + 192)) (form_number t Form.Array n)) (inr refl)))
     (either for_matrices (ltb 65535 n) 10 _ (inr refl) (sizes_number (count_given t Form.Array n) sizes))
 
-pub matrix_writer : (t : ℕ) (sizes b : List ℕ) (room n : ℕ) → written_of room (matrix_output t sizes b) ≡ refused n 0 → one_of matrix_writer_refusals n ≡ true
-matrix_writer t sizes b room n w =
+pub matrix_writer_told : (t : ℕ) (sizes b : List ℕ) (room n : ℕ) → written_of room (matrix_output t sizes b) ≡ refused n 0 → one_of matrix_writer_refusals n ≡ true
+matrix_writer_told t sizes b room n w =
     unless_number for_matrices refl refl (matrix_rule t sizes (length b)) (matrix_number t sizes (length b)) n room (matrix_bytes t sizes b) (sym w)
+
+-- ---- the same by the writers' contract, of the reason that the code answers
+pub datagram_writer : (g : GivenDatagram) (x : Envelope) (sizes configured entry exit : List ℕ) (reason : Reason)
+    → Writes (datagram_output g x sizes configured) entry exit (Err reason) → one_of datagram_writer_refusals (reason_number reason) ≡ true
+datagram_writer g x sizes configured entry exit reason w = datagram_writer_told g x sizes configured (length entry) (reason_number reason) (sym w.answer)
+
+pub message_writer : (types : List ℕ) (g : GivenMessage) (entry exit : List ℕ) (reason : Reason)
+    → Writes (message_output types g) entry exit (Err reason) → one_of message_writer_refusals (reason_number reason) ≡ true
+message_writer types g entry exit reason w = message_writer_told types g (length entry) (reason_number reason) (sym w.answer)
+
+pub probe_writer : (list : List ℕ) (p : Probe) (entry exit : List ℕ) (reason : Reason) → Writes (probe_output list p) entry exit (Err reason)
+    → one_of probe_writer_refusals (reason_number reason) ≡ true
+probe_writer list p entry exit reason w = probe_writer_told list p (length entry) (reason_number reason) (sym w.answer)
+
+pub value_writer : (t : ℕ) (f : Form) (b entry exit : List ℕ) (reason : Reason) → Writes (variant_output t f b) entry exit (Err reason)
+    → one_of value_writer_refusals (reason_number reason) ≡ true
+value_writer t f b entry exit reason w = value_writer_told t f b (length entry) (reason_number reason) (sym w.answer)
+
+pub name_writer : (t number : ℕ) (locale text entry exit : List ℕ) (reason : Reason) → Writes (name_output t number locale text) entry exit (Err reason)
+    → one_of value_writer_refusals (reason_number reason) ≡ true
+name_writer t number locale text entry exit reason w = name_writer_told t number locale text (length entry) (reason_number reason) (sym w.answer)
+
+pub matrix_writer : (t : ℕ) (sizes b entry exit : List ℕ) (reason : Reason) → Writes (matrix_output t sizes b) entry exit (Err reason)
+    → one_of matrix_writer_refusals (reason_number reason) ≡ true
+matrix_writer t sizes b entry exit reason w = matrix_writer_told t sizes b (length entry) (reason_number reason) (sym w.answer)
+
+pub datagram_again_lem : (sizes s entry exit : List ℕ) (reason : Reason) → Writes (datagram_same sizes s) entry exit (Err reason)
+    → one_of datagram_again_refusals (reason_number reason) ≡ true
+datagram_again_lem sizes s entry exit reason w = datagram_again_told sizes s (length entry) (reason_number reason) (sym w.answer)
+
+pub message_again_lem : (types s entry exit : List ℕ) (reason : Reason) → Writes (message_same types s) entry exit (Err reason)
+    → one_of message_again_refusals (reason_number reason) ≡ true
+message_again_lem types s entry exit reason w = message_again_told types s (length entry) (reason_number reason) (sym w.answer)

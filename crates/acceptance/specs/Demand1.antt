@@ -8,7 +8,7 @@ use Rattle.wire.specs.declared.refusal.Reason.{Reason}
 use Rattle.std.specs.Prelude.{ℕ, ◌≤◌, ◌%◌, ◌≡◌, true, List, [], ◌∷◌, length}
 use Rattle.wire.specs.Constants.{BAD_LINE, CUT_SHORT, NO_ROOM, OVER_LIMIT}
 use Rattle.wire.specs.Answer.{Answer, refused}
-use Rattle.wire_writer.specs.Writing.{Output, written_of, buffer_after, answer_written}
+use Rattle.wire_writer.specs.Writing.{Output, Writes, written_of, buffer_after, answer_written}
 use Rattle.value.specs.Value.{variant_at, data_value_at, raw_at}
 use Rattle.config_text.specs.Config.{config_of, lines_of, config_number, place_in}
 use Rattle.network_message.specs.Payload.{place_step_at, PlaceStepped}
@@ -96,32 +96,54 @@ pub record Demand1 : Type 0 where
   pub probe_step : (p : Probe) (c : ProbeCursor) (s : List ℕ) (n place : ℕ) → item_step_at p c s ≡ refused n place
       → StepRefusal probe_step_refusals n place (length s) c.at
   -- ---- "Every refusal leaves all lent bytes and records unchanged"; "a writer's [place] is 0".
-  -- Both writers and both rewritings, whatever is to be written; cutting; a listing.
-  pub writer : (output : Output) (entry : List ℕ) (n place : ℕ) → written_of (length entry) output ≡ refused n place
-      → (buffer_after entry output ≡ entry) × (place ≡ 0)
+  -- Both writers and both rewritings, whatever is to be written, by the contract of every writer (`entry` and `exit` are the buffer before
+  -- and after, `reason` is what the code answered); cutting; a listing.
+  pub writer : (output : Output) (entry exit : List ℕ) (reason : Reason) → Writes output entry exit (Err reason)
+      → (exit ≡ entry) × (written_of (length entry) output ≡ refused (reason_number reason) 0)
   -- The numbers of each: reading's as document 01 names them for writers, 3 for picoseconds of 10,000 and up, 6, 10, 11; of rewriting
   -- reading's own, 10, 11, and 6 for a message that is not valid.
-  pub datagram_writer : (g : N.GivenDatagram) (x : Envelope) (sizes configured : List ℕ) (room n : ℕ)
-      → written_of room (N.datagram_output g x sizes configured) ≡ refused n 0
-      → one_of datagram_writer_refusals n ≡ true
-  pub message_writer : (types : List ℕ) (m : M.GivenMessage) (room n : ℕ)
-      → written_of room (M.message_output types m) ≡ refused n 0 → one_of message_writer_refusals n ≡ true
-  pub probe_writer : (list : List ℕ) (p : Probe) (room n : ℕ)
-      → written_of room (probe_output list p) ≡ refused n 0 → one_of probe_writer_refusals n ≡ true
-  pub value_writer : (t : ℕ) (f : Form) (b : List ℕ) (room n : ℕ) → written_of room (variant_output t f b) ≡ refused n 0
-      → one_of value_writer_refusals n ≡ true
-  pub name_writer : (t number : ℕ) (locale text : List ℕ) (room n : ℕ)
-      → written_of room (name_output t number locale text) ≡ refused n 0 → one_of value_writer_refusals n ≡ true
-  pub matrix_writer : (t : ℕ) (sizes b : List ℕ) (room n : ℕ) → written_of room (matrix_output t sizes b) ≡ refused n 0
-      → one_of matrix_writer_refusals n ≡ true
-  pub datagram_again_lem : (sizes s : List ℕ) (room n : ℕ) → written_of room (datagram_same sizes s) ≡ refused n 0
-      → one_of datagram_again_refusals n ≡ true
-  pub message_again_lem : (types s : List ℕ) (room n : ℕ) → written_of room (message_same types s) ≡ refused n 0
-      → one_of message_again_refusals n ≡ true
+  pub datagram_writer : (g : N.GivenDatagram) (x : Envelope) (sizes configured entry exit : List ℕ) (reason : Reason)
+      → Writes (N.datagram_output g x sizes configured) entry exit (Err reason)
+      → one_of datagram_writer_refusals (reason_number reason) ≡ true
+  pub message_writer : (types : List ℕ) (m : M.GivenMessage) (entry exit : List ℕ) (reason : Reason)
+      → Writes (M.message_output types m) entry exit (Err reason) → one_of message_writer_refusals (reason_number reason) ≡ true
+  pub probe_writer : (list : List ℕ) (p : Probe) (entry exit : List ℕ) (reason : Reason)
+      → Writes (probe_output list p) entry exit (Err reason) → one_of probe_writer_refusals (reason_number reason) ≡ true
+  pub value_writer : (t : ℕ) (f : Form) (b entry exit : List ℕ) (reason : Reason) → Writes (variant_output t f b) entry exit (Err reason)
+      → one_of value_writer_refusals (reason_number reason) ≡ true
+  pub name_writer : (t number : ℕ) (locale text entry exit : List ℕ) (reason : Reason)
+      → Writes (name_output t number locale text) entry exit (Err reason) → one_of value_writer_refusals (reason_number reason) ≡ true
+  pub matrix_writer : (t : ℕ) (sizes b entry exit : List ℕ) (reason : Reason) → Writes (matrix_output t sizes b) entry exit (Err reason)
+      → one_of matrix_writer_refusals (reason_number reason) ≡ true
+  pub datagram_again_lem : (sizes s entry exit : List ℕ) (reason : Reason) → Writes (datagram_same sizes s) entry exit (Err reason)
+      → one_of datagram_again_refusals (reason_number reason) ≡ true
+  pub message_again_lem : (types s entry exit : List ℕ) (reason : Reason) → Writes (message_same types s) entry exit (Err reason)
+      → one_of message_again_refusals (reason_number reason) ≡ true
   pub cut : (p : List ℕ) (number size k : ℕ) (out : List ℕ) (n place : ℕ) → cut_answer p number size k (length out) ≡ refused n place
       → (one_of cut_refusals n ≡ true) × (cut_buffer p number size k out ≡ out)
   pub listing : (out text : List ℕ) (reason : Reason) → text_written out text ≡ Err reason
       → (reason_number reason ≡ NO_ROOM) × (text_after out text ≡ out)
+  -- The same of the writers' definitions alone, whatever the code answers: of any number that a definition refuses with, a reason's or not,
+  -- and of the buffer that it leaves.
+  pub writer_told : (output : Output) (entry : List ℕ) (n place : ℕ) → written_of (length entry) output ≡ refused n place
+      → (buffer_after entry output ≡ entry) × (place ≡ 0)
+  pub datagram_writer_told : (g : N.GivenDatagram) (x : Envelope) (sizes configured : List ℕ) (room n : ℕ)
+      → written_of room (N.datagram_output g x sizes configured) ≡ refused n 0
+      → one_of datagram_writer_refusals n ≡ true
+  pub message_writer_told : (types : List ℕ) (m : M.GivenMessage) (room n : ℕ)
+      → written_of room (M.message_output types m) ≡ refused n 0 → one_of message_writer_refusals n ≡ true
+  pub probe_writer_told : (list : List ℕ) (p : Probe) (room n : ℕ)
+      → written_of room (probe_output list p) ≡ refused n 0 → one_of probe_writer_refusals n ≡ true
+  pub value_writer_told : (t : ℕ) (f : Form) (b : List ℕ) (room n : ℕ) → written_of room (variant_output t f b) ≡ refused n 0
+      → one_of value_writer_refusals n ≡ true
+  pub name_writer_told : (t number : ℕ) (locale text : List ℕ) (room n : ℕ)
+      → written_of room (name_output t number locale text) ≡ refused n 0 → one_of value_writer_refusals n ≡ true
+  pub matrix_writer_told : (t : ℕ) (sizes b : List ℕ) (room n : ℕ) → written_of room (matrix_output t sizes b) ≡ refused n 0
+      → one_of matrix_writer_refusals n ≡ true
+  pub datagram_again_told : (sizes s : List ℕ) (room n : ℕ) → written_of room (datagram_same sizes s) ≡ refused n 0
+      → one_of datagram_again_refusals n ≡ true
+  pub message_again_told : (types s : List ℕ) (room n : ℕ) → written_of room (message_same types s) ≡ refused n 0
+      → one_of message_again_refusals n ≡ true
   -- A walk: its refusal is the datagram's.
   pub walk : (w : Writers) (d out : List ℕ) (n place : ℕ) → walk_of w d ≡ refused n place
       → Refusal datagram_refusals n place (length d) × (records_put 0 (walk_records w d) out ≡ out)
