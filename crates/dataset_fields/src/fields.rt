@@ -116,7 +116,7 @@ impl Cursor {
         if self.count <= self.next {
             return Err(Reason::OverLimit.at(0));
         }
-        let (field, end) = read_field(s, self.encoding, self.delta, types, self.next, self.at)?;
+        let (field, end) = read_field(&*s, self.encoding, self.delta, &*types, self.next, self.at)?;
         let after = Cursor {
             next: self.next + 1,
             at: end,
@@ -139,7 +139,7 @@ pub fn pass_each(
 {
     let mut p = at;
     for k in 0..count {
-        let (_, end) = read_field(s, encoding, delta, types, k, p)?;
+        let (_, end) = read_field(&*s, encoding, delta, &*types, k, p)?;
         p = end;
     }
     Ok(p)
@@ -161,7 +161,7 @@ fn start(s: &[u8], delta: bool, count: usize, at: usize) -> Run
         ≡ fields_at delta Encoding.Variant types (count - result.count) result.count s.now result.end }
 {
     if !delta & (MANY <= count) {
-        return leading(s, at, count);
+        return leading(&*s, at, count);
     }
     Run { count: 0, end: at }
 }

@@ -96,21 +96,21 @@ pub fn read_up_to(s: &[u8], types: &[u8], end: usize, whole: bool) -> MessageRea
 pub fn read(s: &[u8], types: &[u8]) -> MessageRead
     ensures { answer_message result ≡ message_at types.now s.now }
 {
-    read_up_to(s, types, s.len(), true)
+    read_up_to(&*s, &*types, s.len(), true)
 }
 
 // The front of a message: its header and the cursor before its first field, which starts at the last number. No field is read yet.
 pub fn front(s: &[u8], types: &[u8]) -> MessageRead
     ensures { answer_message result ≡ front_at types.now s.now }
 {
-    read_up_to(s, types, s.len(), false)
+    read_up_to(&*s, &*types, s.len(), false)
 }
 
 // The same of a message that ends at `end`, of which only these bytes came.
 pub fn front_to(s: &[u8], types: &[u8], end: usize) -> MessageRead
     ensures { answer_message result ≡ front_to end types.now s.now }
 {
-    read_up_to(s, types, end, false)
+    read_up_to(&*s, &*types, end, false)
 }
 
 // The end of a message whose fields were stepped over, by the cursor after the last of them: only padding may follow. 6 where a field is
@@ -136,15 +136,15 @@ fn nth(s: &[u8], cursor: Cursor, types: &[u8], k: usize) -> Read<Field>
         return Err(Reason::OverLimit.at(0));
     }
     let encoding = cursor.encoding;
-    let at = pass_each(s, encoding, cursor.delta, types, k, cursor.at)?;
-    read_field(s, encoding, cursor.delta, types, k, at)
+    let at = pass_each(&*s, encoding, cursor.delta, &*types, k, cursor.at)?;
+    read_field(&*s, encoding, cursor.delta, &*types, k, at)
 }
 
 // What field k of a message is: the message's fault first; 10 for a k past the last.
 pub fn field_place(s: &[u8], types: &[u8], k: usize) -> Read<Field>
     ensures { answer result ≡ field_place_at types.now k s.now }
 {
-    let Some((_, cursor, _)) = read(s, types)? else {
+    let Some((_, cursor, _)) = read(&*s, &*types)? else {
         return Err(Reason::OverLimit.at(0));
     };
     nth(s, cursor, types, k)

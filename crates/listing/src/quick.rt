@@ -61,7 +61,7 @@ fn put_fields(
         if out.len() - end < MOST_LINE {
             return (end, Ok(Cursor { next: i, at, ..c }));
         }
-        match read_field(message, c.encoding, c.delta, types, i, at) {
+        match read_field(&*message, c.encoding, c.delta, &*types, i, at) {
             Err(r) => return (end, Err(r)),
             Ok((f, next)) => {
                 end = put_field(out, end, p, f);

@@ -165,7 +165,9 @@ fn look(s: &[u8], n: u64, at: usize) -> Option<(Measured, usize)>
     None
 }
 
-// Stores the field that a cursor stands before, by its value's type, shape and end, and the cursor after it.
+// Stores the field that a cursor stands before, by its value's type, shape and end, and the cursor after it. In line in each of its three
+// places: where one of them calls it, the cursor is stored for that call on every way.
+#[inline(always)]
 fn put_told(
     head: &mut [u8],
     field: &mut [u8],

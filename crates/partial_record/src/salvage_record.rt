@@ -133,7 +133,7 @@ fn put_next(
         put_scalar(out, k, front[at], i, at, end - at);
         return end;
     }
-    match read_field(front, encoding, delta, types, i, at) {
+    match read_field(&*front, encoding, delta, &*types, i, at) {
         Err(_) => at,
         Ok((f, end)) => {
             put_field(out, k, f);

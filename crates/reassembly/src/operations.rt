@@ -119,7 +119,7 @@ fn taken(
     if !is_sound(rec, payload.len(), marks.len()) {
         return Err(Reason::Unsound.at(0));
     }
-    let (c, _) = chunk::datagram::read(datagram, sizes)?;
+    let (c, _) = chunk::datagram::read(&*datagram, &*sizes)?;
     let bytes = part(datagram, c.payload.first, c.payload.length);
     let message = message_of(datagram, c);
     take_chunk(rec, payload, marks, message, c.payload.offset, bytes)

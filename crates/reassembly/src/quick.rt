@@ -170,6 +170,6 @@ pub fn take_more(
     if !is_sound(without_text(held), payload.len(), marks.len()) {
         return Err(Reason::Unsound.at(0));
     }
-    let (c, _) = chunk::datagram::read(datagram, sizes)?;
+    let (c, _) = chunk::datagram::read(&*datagram, &*sizes)?;
     add_chunk(held, text, payload, marks, datagram, c)
 }

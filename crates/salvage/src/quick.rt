@@ -41,7 +41,7 @@ pub(crate) fn field_end(
     if at < end {
         return end;
     }
-    match read_field(front, encoding, delta, types, k, at) {
+    match read_field(&*front, encoding, delta, &*types, k, at) {
         Err(_) => at,
         Ok((_, end)) => end,
     }
@@ -62,7 +62,7 @@ pub(crate) fn alike(front: &[u8], c: Cursor) -> Run
         return none;
     }
     match c.encoding {
-        Encoding::Variant => leading(front, c.at, n),
+        Encoding::Variant => leading(&*front, c.at, n),
         Encoding::RawData | Encoding::DataValue => none,
     }
 }

@@ -4,3 +4,4 @@ pub mod FirstByte
 pub mod Runs
 pub mod Values
 pub mod Looks
+pub mod SizeTable

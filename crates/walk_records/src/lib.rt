@@ -269,7 +269,7 @@ pub fn walk(out: &mut [u8], s: &[u8], w: WriterLists<'_>) -> Result<usize, Refus
     ensures { let said = lists_in w.entry in
         (answer_walked result ≡ walk_of said s.now) × (out.new ≡ records_put 0 (walk_records said s.now) out.old) }
 {
-    let (envelope, places, payload) = network_message::envelope::read(s, w.sizes)?;
+    let (envelope, places, payload) = network_message::envelope::read(&*s, &*w.sizes)?;
     let header = envelope.payload_header;
     Ok(walk_messages(out, s, w, header, places.payload_header_end, payload))
 }
