@@ -64,7 +64,7 @@ fn place_line(out: &mut [u8], at: usize, s: &[u8], line: Line) -> Option<usize>
 }
 
 // Puts the lines from a cursor on at the start of a buffer, as many as fit one after the other. No line is longer than 256 bytes: where the
-// buffer is not shorter, an empty block is the end. It stays out of line: in line its lines would stand on the stack while they are counted.
+// buffer is not shorter, an empty block is the end. It is not put in line: its buffers would be on the stack while lines are counted.
 #[inline(never)]
 pub fn put_block(out: &mut [u8], s: &[u8], w: WriterLists<'_>, first: LineCursor) -> Block
     ensures { let said = lists_in w.entry in
